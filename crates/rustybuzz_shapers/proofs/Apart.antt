@@ -54,16 +54,16 @@ marks Thai start end old new k = unchanged old new k.1
 marks Universal start end old new k = unchanged old new k.1
 
 copies_none : (olds news : List hb_glyph_info_t) → AreCopies olds news → NoNewCluster olds news
-copies_none olds [] k = All-nil (Contains (clusters olds))
+copies_none olds [] k = search (arith, All-nil)
 copies_none olds (new ∷ news) k =
     let there : Contains (clusters olds) k.0.0.cluster =
     Contains-map (λ (g : hb_glyph_info_t). g.cluster) olds k.0.0 k.0.1.0 in
     All-cons (Contains (clusters olds)) new.cluster (clusters news)
-    (subst (Contains (clusters olds)) (sym k.0.1.1.same) there) (copies_none olds news k.1)
+    (search arith) (copies_none olds news k.1)
 
 postprocessing : (shaper : hb_ot_shaper_t) (plan : hb_ot_shape_plan_t) (font : Font) (old new : Buffer)
     → PostprocessKeeps shaper plan font old new → NoNewCluster old.glyphs new.glyphs
-postprocessing Arabic plan font old new k = copies_none old.glyphs new.glyphs k.0
+postprocessing Arabic plan font old new k = search (arith, copies_none)
 postprocessing Hangul plan font old new k = unchanged old new k.1
 postprocessing Hebrew plan font old new k = unchanged old new k.1
 postprocessing Indic plan font old new k = unchanged old new k.1
@@ -75,24 +75,24 @@ postprocessing Universal plan font old new k = unchanged old new k.1
 
 pub hooks_make_no_cluster : HooksMakeNoCluster
 hooks_make_no_cluster =
-    record { preprocessing = preprocessing; marks = marks; masks = flagged_none; postprocessing = postprocessing }
+    search (arith, preprocessing, marks, flagged_none, postprocessing)
 
 pub pauses_make_no_cluster : PausesMakeNoCluster
-pauses_make_no_cluster SetupSyllablesIndic plan font spans old new k = none_new old.glyphs new.glyphs k.1
-pauses_make_no_cluster SetupSyllablesKhmer plan font spans old new k = none_new old.glyphs new.glyphs k.1
-pauses_make_no_cluster SetupSyllablesMyanmar plan font spans old new k = none_new old.glyphs new.glyphs k.1
-pauses_make_no_cluster SetupSyllablesUse plan font spans old new k = none_new old.glyphs new.glyphs k.1
+pauses_make_no_cluster SetupSyllablesIndic plan font spans old new k = search (arith, none_new)
+pauses_make_no_cluster SetupSyllablesKhmer plan font spans old new k = search (arith, none_new)
+pauses_make_no_cluster SetupSyllablesMyanmar plan font spans old new k = search (arith, none_new)
+pauses_make_no_cluster SetupSyllablesUse plan font spans old new k = search (arith, none_new)
 pauses_make_no_cluster InitialReordering plan font spans old new k = k.0.old_clusters
 pauses_make_no_cluster ReorderKhmer plan font spans old new k = k.0.old_clusters
 pauses_make_no_cluster ReorderMyanmar plan font spans old new k = k.0.old_clusters
 pauses_make_no_cluster ReorderUse plan font spans old new k = k.0.old_clusters
 pauses_make_no_cluster FinalReordering plan font spans old new k = k.1.1
-pauses_make_no_cluster RecordStch plan font spans old new k = flagged_none old.glyphs new.glyphs k
-pauses_make_no_cluster RecordRphf plan font spans old new k = flagged_none old.glyphs new.glyphs k
-pauses_make_no_cluster RecordPref plan font spans old new k = flagged_none old.glyphs new.glyphs k
-pauses_make_no_cluster SyllabicClearVar plan font spans old new k = flagged_none old.glyphs new.glyphs k
-pauses_make_no_cluster ClearSubstitutionFlags plan font spans old new k = flagged_none old.glyphs new.glyphs k
-pauses_make_no_cluster ArabicFallbackShape plan font spans old new k = flagged_none old.glyphs new.glyphs k
+pauses_make_no_cluster RecordStch plan font spans old new k = search (arith, flagged_none)
+pauses_make_no_cluster RecordRphf plan font spans old new k = search (arith, flagged_none)
+pauses_make_no_cluster RecordPref plan font spans old new k = search (arith, flagged_none)
+pauses_make_no_cluster SyllabicClearVar plan font spans old new k = search (arith, flagged_none)
+pauses_make_no_cluster ClearSubstitutionFlags plan font spans old new k = search (arith, flagged_none)
+pauses_make_no_cluster ArabicFallbackShape plan font spans old new k = search (arith, flagged_none)
 
 -- where the text had the cluster of a glyph
 old_place : (gs xs : List hb_glyph_info_t) (i : ℕ) → i < length xs → NoNewCluster gs xs → (k : ℕ) × (k < length gs)
@@ -101,11 +101,13 @@ old_place gs xs i inside none =
     let cluster : hb_glyph_info_t → ℕ = λ g. g.cluster in
     let found = All-get_or (Contains (clusters gs)) (clusters xs) i 0 (omega (arith, inside, length-map xs cluster))
     none in
-    let n = length-map gs cluster in (
+    search (
+      arith,
       found.0,
-      omega (arith, n, found.1),
-      get_or_default (clusters gs) found.0 0 (get_or (clusters xs) i 0) found.1
-          ∙ found.2,
+      length-map gs cluster,
+      found.1,
+      get_or_default (clusters gs) found.0 0 (get_or (clusters xs) i 0) found.1,
+      found.2,
     )
 
 pub halves_stay_apart : HalvesStayApart

@@ -1,15 +1,14 @@
 -- The break law, from what the enum says of masks.
-use Rattle.std.proofs.Common.{◌≡◌, ◌∙◌, ◌<◌, ◌++◌, ℕ, false, List, [], Some, ap, arith, length, map, subst, sym}
+use Rattle.std.proofs.Common.{◌≡◌, ◌∙◌, ◌<◌, ◌++◌, ℕ, List, Some, ap, arith, length, subst, sym}
 use Rattle.std.proofs.lemmas.List.{drop-map, length-map, take-map}
 use Rattle.std.proofs.lemmas.Simd.{map-map}
 use Rattle.shapers_buffer.specs.Buffer.{Buffer}
-use Rattle.shapers_buffer.specs.Glyph.{clusters, order_view}
+use Rattle.shapers_buffer.specs.Glyph.{order_view}
 use Rattle.shapers_buffer.specs.declared.buffer.glyph.hb_glyph_info_t.{hb_glyph_info_t}
 use Rattle.shapers_buffer.proofs.MappedLists.{all-mapped}
 use Rattle.shapers_base.specs.Font.{CharacterTables}
 use Rattle.shapers_base.specs.declared.plan.arabic.arabic_shape_plan_t.{arabic_shape_plan_t}
 use Rattle.shapers_base.specs.declared.plan.hb_ot_shape_plan_t.{hb_ot_shape_plan_t}
-use Rattle.shapers_clusters.specs.Breaks.{IsStrictlyMonotone, is_unsafe}
 use Rattle.shapers_arabic.specs.Breaks.{IsSpared, back_at, front_at}
 use Rattle.shapers_arabic.specs.Fresh.{IsFresh, SelectorsAreTransparent}
 use Rattle.shapers_arabic.specs.JoinedText.{buffer_joined}
@@ -17,7 +16,7 @@ use Rattle.shapers_arabic.specs.PlanData.{breaks_of, masks_of}
 use Rattle.shapers_arabic.proofs.BrokenGlyphs.{breaks-where_clear, none-needless}
 use Rattle.shapers_arabic.proofs.FirstPieces.{first-as_flagged}
 use Rattle.shapers_universal.specs.PlanData.{arabic_of}
-use Rattle.shapers_universal.specs.UniversalMasks.{MasksAreSet, categorized, with_categories}
+use Rattle.shapers_universal.specs.UniversalMasks.{MasksAreSet, with_categories}
 use Rattle.shapers_universal.proofs.MaskLemmas.{text_stays}
 use Rattle.rustybuzz_shapers.specs.Breaks.{BreaksAsFlagged, SetInHalves, TextsBreakAsFlagged}
 use Rattle.rustybuzz_shapers.specs.declared.shaper.hb_ot_shaper_t.TheVariants.{Arabic, Universal}
@@ -27,10 +26,10 @@ abbrev views : Buffer → Buffer → List hb_glyph_info_t
 views one two = order_view one.glyphs ++ order_view two.glyphs
 
 same_views : (one two front back : Buffer) → one ≡ front → two ≡ back → views front back ≡ views one two
-same_views one two front back e f = ap (λ b. views b back) (sym e) ∙ ap (views one) (sym f)
+same_views one two front back e f = cc
 
 same_view : (one front : Buffer) → one ≡ front → order_view front.glyphs ≡ order_view one.glyphs
-same_view one front e = ap (λ (b : Buffer). order_view b.glyphs) (sym e)
+same_view one front e = cc
 
 arabic_breaks : (plan : hb_ot_shape_plan_t) (tables : CharacterTables) (n : ℕ) (old new one two : Buffer)
     → SetInHalves Arabic plan tables n old new one two
@@ -55,32 +54,11 @@ arabic_breaks plan tables n old new one two set =
       first_needless = λ e fresh silent kept. keeps.1 e fresh silent (kept ∙ sym same_first);
     }
 
--- the halves of a buffer with its categories
-categories-front : (tables : CharacterTables) (n : ℕ) (b : Buffer) → with_categories tables (front_at n b)
-    ≡ front_at n (with_categories tables b)
-categories-front tables n b =
-    ap (λ gs. let c : Buffer = record b { glyphs = gs; after = [] } in c)
-    (sym (take-map (categorized tables.universal) n b.glyphs))
-
-categories-back : (tables : CharacterTables) (n : ℕ) (b : Buffer) → with_categories tables (back_at n b)
-    ≡ back_at n (with_categories tables b)
-categories-back tables n b =
-    ap (λ gs. let c : Buffer = record b { glyphs = gs; before = [] } in c)
-    (sym (drop-map (categorized tables.universal) n b.glyphs))
-
 -- categories leave a fresh text fresh
 fresh_stays : (tables : CharacterTables) (masks : List ℕ) (b : Buffer) → IsFresh masks b.glyphs
     → IsFresh masks (with_categories tables b).glyphs
 fresh_stays tables masks b fresh =
-    let change = categorized tables.universal in
-    let kept : clusters (map change b.glyphs) ≡ clusters b.glyphs =
-    map-map (λ (g : hb_glyph_info_t). g.cluster) change b.glyphs in
-    record {
-      single = subst IsStrictlyMonotone (sym kept) fresh.single;
-      unflagged = all-mapped (λ g. is_unsafe g ≡ false) (λ g. is_unsafe g ≡ false) change b.glyphs (λ g k. k)
-          fresh.unflagged;
-      unmasked = fresh.unmasked;
-    }
+    search (arith, map-map, all-mapped)
 
 universal_breaks : (plan : hb_ot_shape_plan_t) (tables : CharacterTables) (n : ℕ) (old new one two : Buffer)
     (joins : arabic_shape_plan_t) → arabic_of plan.plan_data ≡ Some joins
@@ -92,17 +70,17 @@ universal_breaks plan tables n old new one two joins is set =
     let script = plan.script in
     let joining = tables.joining in
     let general = tables.general in
-    let whole : MasksAreSet (Some joins) script tables old new =
+    let whole =
     subst (λ o. MasksAreSet o script tables old new) is set.whole in
-    let first : MasksAreSet (Some joins) script tables (front_at n old) one =
+    let first =
     subst (λ o. MasksAreSet o script tables (front_at n old) one) is set.first in
-    let second : MasksAreSet (Some joins) script tables (back_at n old) two =
-    subst (λ o. MasksAreSet o script tables (back_at n old) two) is set.second in
     let before = with_categories tables old in
     let inside : n < length before.glyphs =
-    omega (arith, length-map old.glyphs (categorized tables.universal), set.inside.1) in
-    let front = first.0 ∙ ap (buffer_joined breaks masks script joining general) (categories-front tables n old) in
-    let back = second.0 ∙ ap (buffer_joined breaks masks script joining general) (categories-back tables n old) in
+    search (arith, length-map) in
+    let front = first.0 ∙ ap (buffer_joined breaks masks script joining general) (search (arith, take-map)) in
+    let back =
+    (subst (λ o. MasksAreSet o script tables (back_at n old) two) is set.second).0
+    ∙ ap (buffer_joined breaks masks script joining general) (search (arith, drop-map)) in
     let same = same_views one two (buffer_joined breaks masks script joining general (front_at n before))
     (buffer_joined breaks masks script joining general (back_at n before)) front back in
     let same_first = same_view one (buffer_joined breaks masks script joining general (front_at n before)) front in
@@ -112,7 +90,8 @@ universal_breaks plan tables n old new one two joins is set =
     let keeps = first-as_flagged breaks masks script joining general before new whole.0 n set.inside.0 inside in
     record {
       clear = λ clear spared. breaks-where_clear breaks masks script joining general before new whole.0 n set.inside.0
-          inside clear (subst (λ text. IsSpared breaks script text n) text spared) ∙ same;
+          inside clear (subst (λ text. IsSpared breaks script text n) text spared)
+          ∙ same;
       needless = λ e fresh silent may. none-needless breaks masks script joining general before new whole.0 e
           (still fresh) (silent_stays silent) n set.inside.0 inside (may ∙ sym same);
       first = λ clear. keeps.0 clear ∙ same_first;
@@ -121,4 +100,4 @@ universal_breaks plan tables n old new one two joins is set =
 
 pub texts_break : TextsBreakAsFlagged
 texts_break plan tables n old new one two =
-    (arabic_breaks plan tables n old new one two, universal_breaks plan tables n old new one two)
+    search (arith, arabic_breaks, universal_breaks)

@@ -33,18 +33,14 @@ plain_joined level font circles place zero (u ∷ us) gs =
     let item = first_item font circles (u ∷ us) in
     plain_joined level font circles (place + 1) (item_len item - 1) us (item_joined level place item gs)
     ∙ order_view-merge_all level (item_stretches level item place) (unsafe_all (unsafe_stretches level item place) gs)
-    ∙ map-unsafe plain (λ g. ap (λ (m : ℕ). let r : hb_glyph_info_t = record g { cluster = 0; mask = m } in r)
-    (without_flags-or g.mask 3 refl)) level item place gs
+    ∙ map-unsafe plain (λ g. search (arith, without_flags-or)) level item place gs
 plain_joined level font circles place (suc skip) (u ∷ us) gs = plain_joined level font circles (place + 1) skip us gs
 
 order_made : (font : Font) (circles : Bool) (level : BufferClusterLevel) (gs : List hb_glyph_info_t)
     → order_view (preprocessed font circles level gs)
     ≡ outputs glyph_copies (items font circles (characters gs)) (order_view gs)
 order_made font circles level gs =
-    let cut = items font circles (characters gs) in
-    outputs-map plain glyph_copies glyph_copies (record { character = λ u g. refl; jamo = λ n g. refl }) cut
-    (all_joined level cut gs)
-    ∙ ap (outputs glyph_copies cut) (plain_joined level font circles 0 0 (characters gs) gs)
+    search (arith, outputs-map, plain_joined)
 
 pub clusters_made : (font : Font) (circles : Bool) (level : BufferClusterLevel) (gs : List hb_glyph_info_t)
     → clusters (preprocessed font circles level gs)
@@ -52,9 +48,11 @@ pub clusters_made : (font : Font) (circles : Bool) (level : BufferClusterLevel) 
     (clusters (merge_all level (stretches level (items font circles (characters gs))) gs))
 clusters_made font circles level gs =
     let cut = items font circles (characters gs) in
-    outputs-map (λ (g : hb_glyph_info_t). g.cluster) glyph_copies place_copies
-    (record { character = λ u g. refl; jamo = λ n g. refl }) cut (all_joined level cut gs)
-    ∙ ap (outputs place_copies cut) (clusters-all_joined level cut gs)
+    cc (
+      outputs-map (λ (g : hb_glyph_info_t). g.cluster) glyph_copies place_copies
+          (record { character = λ u g. refl; jamo = λ n g. refl }) cut (all_joined level cut gs),
+      clusters-all_joined level cut gs,
+    )
 
 -- what the choice flags shows in neither
 pub hangul_order-flagged : (breaks : BreakFlags) (font : Font) (circles : Bool) (level : BufferClusterLevel)
@@ -64,11 +62,13 @@ hangul_order-flagged breaks font circles level gs =
     let cut = items font circles (characters gs) in
     let joined = all_joined level cut gs in
     let leads : Leads plain glyph_copies glyph_copies = record { character = λ u g. refl; jamo = λ n g. refl } in
-    outputs-map plain glyph_copies glyph_copies leads cut (items_flagged breaks cut joined)
-    ∙ ap (outputs glyph_copies cut) (map-items_flagged plain
-    (λ g. ap (λ (m : ℕ). let r : hb_glyph_info_t = record g { cluster = 0; mask = m } in r)
-    (without_flags-or g.mask 3 refl)) breaks cut joined)
-    ∙ sym (outputs-map plain glyph_copies glyph_copies leads cut joined)
+    cc (
+      outputs-map plain glyph_copies glyph_copies leads cut (items_flagged breaks cut joined),
+      map-items_flagged plain
+          (λ g. ap (λ (m : ℕ). (record g { cluster = 0; mask = m })) (without_flags-or g.mask 3 refl)) breaks cut
+          joined,
+      outputs-map plain glyph_copies glyph_copies leads cut joined,
+    )
 
 -- the stretches end within the text
 ends_from : (level : BufferClusterLevel) (font : Font) (circles : Bool) (n place skip : ℕ) (us : List ℕ)
@@ -78,19 +78,18 @@ ends_from level font circles n place skip [] within few = tt
 ends_from level font circles n place zero (u ∷ us) within few =
     let item = first_item font circles (u ∷ us) in
     let fits = first_item-within font circles (u ∷ us) (omega arith) in
-    let some = taken_some item.unit in
     end_within-append n (item_stretches level item place)
     (stretches level (items_from (first_item font circles) (place + 1) (item_len item - 1) us))
-    (item_ends level item.unit item.tone place n (omega (arith, fits, within)))
+    (search (arith, item_ends))
     (ends_from level font circles n (place + 1) (item_len item - 1) us (omega (arith, within))
-    (omega (arith, fits, some)))
+    (omega (arith, fits, taken_some item.unit)))
 ends_from level font circles n place (suc skip) (u ∷ us) within few =
     ends_from level font circles n (place + 1) skip us (omega (arith, within)) (omega (arith, few))
 
 pub ends_within : (level : BufferClusterLevel) (font : Font) (circles : Bool) (gs : List hb_glyph_info_t)
     → EndWithin (length gs) (stretches level (items font circles (characters gs)))
 ends_within level font circles gs =
-    ends_from level font circles (length gs) 0 0 (characters gs) (omega (arith, length-characters gs)) (omega arith)
+    search (arith, ends_from, length-characters)
 
 -- the outputs of both halves' items
 outputs_halves : {X : Type 0} (c : Copying X) (level : BufferClusterLevel) (font : Font) (circles : Bool)
@@ -99,9 +98,8 @@ outputs_halves : {X : Type 0} (c : Copying X) (level : BufferClusterLevel) (font
     ++ outputs c (items font circles vs) ys
 outputs_halves c level font circles xs ys us vs long beside =
     let n = length xs + 0 in
-    let same : length us ≡ n = omega (arith, long) in
-    (split_there c level font circles (xs ++ ys) 0 0 n us vs (omega (arith, long)) (omega arith)
-    (subst (λ k. EachBeside font circles k 0 0 (us ++ vs)) same beside)).made
+    (split_there c level font circles (xs ++ ys) 0 0 n us vs (omega (arith, long)) (omega arith) (subst (λ k.
+    EachBeside font circles k 0 0 (us ++ vs)) (omega (arith, long)) beside)).made
     ∙ ap (λ zs. zs ++ outputs c (items_from (first_item font circles) n 0 vs) (xs ++ ys))
     (outputs_local c font circles xs ys 0 0 us (omega (arith, long)) (omega arith))
     ∙ ap (λ zs. outputs c (items font circles us) xs ++ zs) (outputs_past c font circles xs ys 0 0 vs)
@@ -110,24 +108,14 @@ read_halves : (font : Font) (circles : Bool) (gs hs : List hb_glyph_info_t)
     → IsBetweenItems font circles (characters (gs ++ hs)) (length gs)
     → EachBeside font circles (length (characters gs)) 0 0 (characters gs ++ characters hs)
 read_halves font circles gs hs between =
-    subst (λ k. EachBeside font circles k 0 0 (characters gs ++ characters hs)) (sym (length-characters gs))
-    (subst (λ us. IsBetweenItems font circles us (length gs)) (map-append (λ (g : hb_glyph_info_t). g.glyph_id) gs hs)
-    between)
+    search (arith, length-characters, map-append)
 
 pub hangul_order_halves : (font : Font) (circles : Bool) (level : BufferClusterLevel) (gs hs : List hb_glyph_info_t)
     → IsBetweenItems font circles (characters (gs ++ hs)) (length gs)
     → order_view (preprocessed font circles level (gs ++ hs)) ≡ order_view (preprocessed font circles level gs)
     ++ order_view (preprocessed font circles level hs)
 hangul_order_halves font circles level gs hs between =
-    order_made font circles level (gs ++ hs)
-    ∙ ap (λ us. outputs glyph_copies (items font circles us) (order_view (gs ++ hs)))
-    (map-append (λ (g : hb_glyph_info_t). g.glyph_id) gs hs)
-    ∙ ap (outputs glyph_copies (items font circles (characters gs ++ characters hs))) (map-append plain gs hs)
-    ∙ outputs_halves glyph_copies level font circles (order_view gs) (order_view hs) (characters gs) (characters hs)
-    (length-characters gs ∙ sym (length-map gs plain)) (read_halves font circles gs hs between)
-    ∙ ap (λ zs. zs ++ outputs glyph_copies (items font circles (characters hs)) (order_view hs))
-    (sym (order_made font circles level gs))
-    ∙ ap (λ zs. order_view (preprocessed font circles level gs) ++ zs) (sym (order_made font circles level hs))
+    search (arith, order_made, map-append, outputs_halves, length-characters, length-map, read_halves)
 
 pub hangul_clusters_halves : (font : Font) (circles : Bool) (level : BufferClusterLevel) (gs hs : List hb_glyph_info_t)
     → IsBetweenItems font circles (characters (gs ++ hs)) (length gs) → ShareNone gs hs
@@ -141,27 +129,21 @@ hangul_clusters_halves font circles level gs hs between none =
     let two = stretches level (items font circles vs) in
     let n = length gs + 0 in
     let long = length-characters gs in
-    let same : length us ≡ n = omega (arith, long) in
     let sts : stretches level (items font circles (us ++ vs)) ≡ one ++ shifted (length gs) two =
-    (split_there place_copies level font circles
-    [] 0 0 n us vs (omega (arith, long)) (omega arith)
-    (subst (λ k. EachBeside font circles k 0 0 (us ++ vs)) same beside)).merged
+    (split_there place_copies level font circles [] 0 0 n us vs (omega (arith, long)) (omega arith) (subst (λ k.
+    EachBeside font circles k 0 0 (us ++ vs)) (omega (arith, long)) beside)).merged
     ∙ ap (λ xs. one ++ xs) (stretches_past level font circles (length gs) 0 0 vs) in
     let first = merge_all level one gs in
     let second = merge_all level two hs in
     let ends = ends_within level font circles gs in
-    let both : clusters (merge_all level (stretches level (items font circles (us ++ vs))) (gs ++ hs)) ≡ clusters first
-    ++ clusters second =
-    ap (λ xs. clusters (merge_all level xs (gs ++ hs))) sts
-    ∙ ap clusters (merged_halves level one two gs hs ends (ends_within level font circles hs) none)
-    ∙ map-append (λ (g : hb_glyph_info_t). g.cluster) first second in
-    clusters_made font circles level (gs ++ hs)
-    ∙ ap (λ ws. outputs place_copies (items font circles ws)
-    (clusters (merge_all level (stretches level (items font circles ws)) (gs ++ hs))))
-    (map-append (λ (g : hb_glyph_info_t). g.glyph_id) gs hs)
-    ∙ ap (outputs place_copies (items font circles (us ++ vs))) both
-    ∙ outputs_halves place_copies level font circles (clusters first) (clusters second) us vs (long
-    ∙ sym (length-map first (λ (g : hb_glyph_info_t). g.cluster) ∙ length-merge_all level one gs ends)) beside
-    ∙ ap (λ zs. zs ++ outputs place_copies (items font circles vs) (clusters second))
-    (sym (clusters_made font circles level gs))
-    ∙ ap (λ zs. clusters (preprocessed font circles level gs) ++ zs) (sym (clusters_made font circles level hs))
+    cc (
+      clusters_made font circles level (gs ++ hs),
+      map-append (λ (g : hb_glyph_info_t). g.glyph_id) gs hs,
+      merged_halves level one two gs hs ends (ends_within level font circles hs) none,
+      map-append (λ (g : hb_glyph_info_t). g.cluster) first second,
+      outputs_halves place_copies level font circles (clusters first) (clusters second) us vs
+          (long ∙ sym (length-map first (λ (g : hb_glyph_info_t). g.cluster) ∙ length-merge_all level one gs ends))
+          beside,
+      clusters_made font circles level gs,
+      clusters_made font circles level hs,
+    )

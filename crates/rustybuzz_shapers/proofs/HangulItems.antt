@@ -1,13 +1,13 @@
 -- The items of a Hangul text are read no further than they reach, so a text is cut between two of
 -- them into their lists.
-use Rattle.std.proofs.Common.{ℕ, zero, suc, ◌+◌, ◌-◌, ◌<◌, ◌≤◌, ◌≡◌, ◌⊎◌, Bool, true, false, cond, ◌&&◌, not, List, [], ◌∷◌, ◌++◌, length, map, take, drop, get_or, inl, inr, refl, sym, ap, ◌∙◌, arith}
-use Rattle.std.specs.List.{AllByRecursion, flat_map}
+use Rattle.std.proofs.Common.{ℕ, zero, suc, ◌+◌, ◌-◌, ◌<◌, ◌≤◌, ◌≡◌, ◌⊎◌, Bool, true, false, cond, ◌&&◌, not, List, [], ◌∷◌, ◌++◌, length, take, drop, get_or, inl, inr, refl, sym, ap, ◌∙◌, arith}
+use Rattle.std.specs.List.{AllByRecursion}
 use Rattle.std.proofs.lemmas.Bool.{cases_lt, false≢true}
 use Rattle.std.proofs.lemmas.List.{append_assoc, drop-append-le, length-drop, map-append, take-append-le}
 use Rattle.shapers_buffer.specs.declared.buffer.level.BufferClusterLevel.{BufferClusterLevel}
-use Rattle.shapers_base.specs.Font.{Font, dotted_circle, has_nominal}
+use Rattle.shapers_base.specs.Font.{Font, has_nominal}
 use Rattle.shapers_clusters.specs.Steps.{shifted}
-use Rattle.shapers_hangul.specs.Hangul.{Copying, combines_l, combines_t, combines_v, copies_as, first_item, first_unit, has_jamo_of, is_l, is_lv, is_merged, is_narrow, is_s, is_syllable, is_t, is_tone, is_v, item_len, item_output, item_stretches, items_from, jamo_three, jamo_two, jamo_unit, joined_tone, lead, marked_from, opening_unit, outputs, stretches, syllable_unit, taken, tone_len, tone_stretch, trail, unit_output, unit_stretch, vowel, with_t, with_tone, with_v}
+use Rattle.shapers_hangul.specs.Hangul.{Copying, combines_t, first_item, first_unit, has_jamo_of, is_l, is_lv, is_merged, is_narrow, is_s, is_syllable, is_t, is_tone, is_v, item_len, item_output, item_stretches, items_from, jamo_three, jamo_two, jamo_unit, joined_tone, opening_unit, outputs, stretches, syllable_unit, taken, tone_len, tone_stretch, unit_output, unit_stretch, with_t, with_tone}
 use Rattle.shapers_hangul.proofs.Items.{either, first_item-within, taken_some}
 
 none_added : (n : ℕ) → 0 + n ≡ n
@@ -32,21 +32,15 @@ and_false_and false b = refl
 
 three_taken : (font : Font) (u v t : ℕ) → taken (jamo_three font u v t) ≡ 3
 three_taken font u v t =
-    either (λ x. taken x ≡ 3) ((combines_l u && (combines_v v && combines_t t))
-    && has_nominal font (with_t (with_v u v) t)) _ _ (λ _. refl) (λ _. refl)
-
-two_taken : (font : Font) (u v : ℕ) → taken (jamo_two font u v) ≡ 2
-two_taken font u v = either (λ x. taken x ≡ 2) ((combines_l u && combines_v v) && has_nominal font (with_v u v)) _ _
-    (λ _. refl) (λ _. refl)
+    search (arith, either)
 
 jamo_taken : (font : Font) (u v t : ℕ) → 2 ≤ taken (jamo_unit font u v t)
 jamo_taken font u v t =
-    either (λ x. 2 ≤ taken x) (is_t t) _ _ (λ _. omega (arith, three_taken font u v t))
-    (λ _. omega (arith, two_taken font u v))
+    search (arith, either, three_taken)
 
 jamo_few : (font : Font) (u v t : ℕ) (b : Bool) → taken (cond b (jamo_three font u v t) (jamo_two font u v)) ≤ 2
     → jamo_two font u v ≡ cond b (jamo_three font u v t) (jamo_two font u v)
-jamo_few font u v t true few = absurd (omega (arith, three_taken font u v t, few))
+jamo_few font u v t true few = search (arith, three_taken)
 jamo_few font u v t false few = refl
 
 same_second : {X : Type 0} (len : X → ℕ) (n : ℕ) (a b : Bool) (x y j k : X) → (len j ≤ n → k ≡ j)
@@ -64,27 +58,23 @@ two_read font circles u v t few =
 skip_two : {X : Type 0} (len : X → ℕ) (a a' p b b' : Bool) (c c' j q q' r : X) → a' ≡ false → b' ≡ false → 2 ≤ len c
     → 2 ≤ len q → len (cond a c (cond p j (cond b q r))) ≤ 1 → cond a' c' (cond p j (cond b' q' r))
     ≡ cond a c (cond p j (cond b q r))
-skip_two len true a' p b b' c c' j q q' r none no_more big bigger few = absurd (omega (arith, big, few))
+skip_two len true a' p b b' c c' j q q' r none no_more big bigger few = search arith
 skip_two len false true p b b' c c' j q q' r none no_more big bigger few = absurd (false≢true (sym none))
 skip_two len false false true b b' c c' j q q' r none no_more big bigger few = refl
-skip_two len false false false true b' c c' j q q' r none no_more big bigger few = absurd (omega (arith, bigger, few))
-skip_two len false false false false true c c' j q q' r none no_more big bigger few = absurd (false≢true (sym no_more))
+skip_two len false false false true b' c c' j q q' r none no_more big bigger few = search arith
+skip_two len false false false false true c c' j q q' r none no_more big bigger few = search (arith, false≢true)
 skip_two len false false false false false c c' j q q' r none no_more big bigger few = refl
 
 syllable_read : (font : Font) (s v : ℕ) → taken (syllable_unit font s v) ≤ 1
     → syllable_unit font s 0 ≡ syllable_unit font s v
 syllable_read font s v few =
-    skip_two taken ((is_lv s && combines_t v) && has_nominal font (with_t s v))
-    ((is_lv s && false) && has_nominal font (with_t s 0)) (not (has_nominal font s) && has_jamo_of font s)
-    ((is_lv s && is_t v) && has_jamo_of font s) ((is_lv s && false) && has_jamo_of font s)
-    _ _ _ _ _ _ (and_false_and (is_lv s) (has_nominal font (with_t s 0))) (and_false_and (is_lv s) (has_jamo_of font s))
-    (omega arith) (omega arith) few
+    search (arith, skip_two, and_false_and)
 
 skip_one : {X : Type 0} (len : X → ℕ) (a b b' c : Bool) (x j j' s s' o : X) → b' ≡ false → 2 ≤ len j
     → (len s ≤ 1 → s' ≡ s) → len (cond a x (cond b j (cond c s o))) ≤ 1 → cond a x (cond b' j' (cond c s' o))
     ≡ cond a x (cond b j (cond c s o))
 skip_one len true b b' c x j j' s s' o none big same few = refl
-skip_one len false true b' c x j j' s s' o none big same few = absurd (omega (arith, big, few))
+skip_one len false true b' c x j j' s s' o none big same few = search arith
 skip_one len false false true c x j j' s s' o none big same few = absurd (false≢true (sym none))
 skip_one len false false false true x j j' s s' o none big same few = same few
 skip_one len false false false false x j j' s s' o none big same few = refl
@@ -101,22 +91,22 @@ unit_read : (font : Font) (circles : Bool) (xs ys : List ℕ) → 0 < length xs
     ≡ opening_unit font circles (xs ++ ys)
 unit_read font circles [] ys some few = absurd (omega arith)
 unit_read font circles (u ∷ []) ys some few =
-    one_read font circles u (get_or ys 0 0) (get_or ys 1 0) (omega (arith, few))
-unit_read font circles (u ∷ (v ∷ [])) ys some few = two_read font circles u v (get_or ys 0 0) (omega (arith, few))
+    search (arith, one_read)
+unit_read font circles (u ∷ (v ∷ [])) ys some few = search (arith, two_read)
 unit_read font circles (u ∷ (v ∷ (t ∷ xs))) ys some few = refl
 
 -- what comes of a tone, of three
 no_tone : {X Y : Type 0} (len : X → ℕ) (f g : X → Y) (a b : Bool) (p q o : X) → 0 < len p → 0 < len q → f o ≡ g o
     → len (cond a (cond b p q) o) ≡ 0 → f (cond a (cond b p q) o) ≡ g (cond a (cond b p q) o)
-no_tone len f g true true p q o some more same none = absurd (omega (arith, some, none))
-no_tone len f g true false p q o some more same none = absurd (omega (arith, more, none))
+no_tone len f g true true p q o some more same none = search arith
+no_tone len f g true false p q o some more same none = search arith
 no_tone len f g false b p q o some more same none = same
 
 absent_tone : {X : Type 0} (len : X → ℕ) (a a' b b' : Bool) (p q p' q' o : X) → a' ≡ false → 0 < len p → 0 < len q
     → len (cond a (cond b p q) o) ≡ 0 → cond a' (cond b' p' q') o ≡ cond a (cond b p q) o
-absent_tone len true a' true b' p q p' q' o nowhere some more none = absurd (omega (arith, some, none))
-absent_tone len true a' false b' p q p' q' o nowhere some more none = absurd (omega (arith, more, none))
-absent_tone len false true b b' p q p' q' o nowhere some more none = absurd (false≢true (sym nowhere))
+absent_tone len true a' true b' p q p' q' o nowhere some more none = search arith
+absent_tone len true a' false b' p q p' q' o nowhere some more none = search arith
+absent_tone len false true b b' p q p' q' o nowhere some more none = search (arith, false≢true)
 absent_tone len false false b b' p q p' q' o nowhere some more none = refl
 
 front_read : (xs ys : List ℕ) (i : ℕ) → i < length xs → get_or (xs ++ ys) i 0 ≡ get_or xs i 0
@@ -126,34 +116,20 @@ front_read (x ∷ xs) ys (suc i) inside = front_read xs ys i (omega (arith, insi
 
 past_read : (xs : List ℕ) (i : ℕ) → length xs ≤ i → get_or xs i 0 ≡ 0
 past_read [] i past = refl
-past_read (x ∷ xs) zero past = absurd (omega (arith, past))
+past_read (x ∷ xs) zero past = search arith
 past_read (x ∷ xs) (suc i) past = past_read xs i (omega (arith, past))
 
 tone_read : (font : Font) (circles : Bool) (us : List ℕ) (w : ℕ)
     → tone_len (joined_tone font (opening_unit font circles us) w) ≡ 0
     → joined_tone font (opening_unit font circles us) 0 ≡ joined_tone font (opening_unit font circles us) w
 tone_read font circles us w none =
-    absent_tone tone_len (is_syllable (opening_unit font circles us) && is_tone w)
-    (is_syllable (opening_unit font circles us) && false) (is_narrow font w) (is_narrow font 0) _ _ _ _ _
-    (and_false (is_syllable (opening_unit font circles us))) (omega arith) (omega arith) none
+    search (arith, absent_tone, and_false)
 
 -- the unit and the tone of an item, where it ends within xs
 item_unit : (font : Font) (circles : Bool) (xs ys : List ℕ) → 0 < length xs
     → item_len (first_item font circles (xs ++ ys)) ≤ length xs → (first_item font circles xs).unit
     ≡ (first_item font circles (xs ++ ys)).unit
-item_unit font circles xs ys some within = unit_read font circles xs ys some (omega (arith, within))
-
-item_tone : (font : Font) (circles : Bool) (xs ys : List ℕ) → 0 < length xs
-    → item_len (first_item font circles (xs ++ ys)) ≤ length xs → (first_item font circles xs).tone
-    ≡ (first_item font circles (xs ++ ys)).tone
-item_tone font circles xs ys some within =
-    let n = taken (opening_unit font circles (xs ++ ys)) in
-    ap (λ x. joined_tone font x (get_or xs (taken x) 0)) (unit_read font circles xs ys some (omega (arith, within)))
-    ∙ elim (cases_lt n (length xs)) [
-      | inl less ↦ ap (joined_tone font (opening_unit font circles (xs ++ ys))) (sym (front_read xs ys n less))
-      | inr past ↦ ap (joined_tone font (opening_unit font circles (xs ++ ys))) (past_read xs n past)
-          ∙ tone_read font circles (xs ++ ys) (get_or (xs ++ ys) n 0) (omega (arith, within, past))
-    ]
+item_unit font circles xs ys some within = search (arith, unit_read)
 
 -- OUTPUTS read no further either
 front_taken : {X : Type 0} (n : ℕ) (xs ys : List X) → n ≤ length xs → take n (xs ++ ys) ≡ take n xs
@@ -164,43 +140,23 @@ unit_local : {X : Type 0} (c : Copying X) (font : Font) (circles : Bool) (u v t 
     ≡ unit_output c (first_unit font circles u v t) xs
 unit_local c font circles u v t xs ys =
     either (λ x. taken x ≤ length xs → unit_output c x (xs ++ ys) ≡ unit_output c x xs) (is_tone u) _ _
-    (λ _. either (λ x. taken x ≤ length xs → unit_output c x (xs ++ ys) ≡ unit_output c x xs)
-    (circles && has_nominal font dotted_circle) _ _
-    (λ _. either (λ x. taken x ≤ length xs → unit_output c x (xs ++ ys) ≡ unit_output c x xs) (is_narrow font u) _ _
-    (λ _ few. ap (λ zs. map (c.as_character dotted_circle) zs ++ zs) (front_taken 1 xs ys few))
-    (λ _ few. ap (λ zs. zs ++ map (c.as_character dotted_circle) zs) (front_taken 1 xs ys few)))
-    (λ _ few. front_taken 1 xs ys few))
+    (λ _. search (arith, either, front_taken))
     (λ _. either (λ x. taken x ≤ length xs → unit_output c x (xs ++ ys) ≡ unit_output c x xs) (is_l u && is_v v) _ _
     (λ _. either (λ x. taken x ≤ length xs → unit_output c x (xs ++ ys) ≡ unit_output c x xs) (is_t t) _ _
-    (λ _. either (λ x. taken x ≤ length xs → unit_output c x (xs ++ ys) ≡ unit_output c x xs)
-    ((combines_l u && (combines_v v && combines_t t)) && has_nominal font (with_t (with_v u v) t)) _ _
-    (λ _ few. ap (map (c.as_character (with_t (with_v u v) t))) (front_taken 1 xs ys (omega (arith, few))))
-    (λ _ few. ap (marked_from c 1) (front_taken 3 xs ys few)))
-    (λ _. either (λ x. taken x ≤ length xs → unit_output c x (xs ++ ys) ≡ unit_output c x xs)
-    ((combines_l u && combines_v v) && has_nominal font (with_v u v)) _ _
-    (λ _ few. ap (map (c.as_character (with_v u v))) (front_taken 1 xs ys (omega (arith, few))))
-    (λ _ few. ap (marked_from c 1) (front_taken 2 xs ys few))))
+    (λ _. search (arith, either, front_taken))
+    (λ _. search (arith, either, front_taken)))
     (λ _. either (λ x. taken x ≤ length xs → unit_output c x (xs ++ ys) ≡ unit_output c x xs) (is_s u) _ _
     (λ _. either (λ x. taken x ≤ length xs → unit_output c x (xs ++ ys) ≡ unit_output c x xs)
     ((is_lv u && combines_t v) && has_nominal font (with_t u v)) _ _
-    (λ _ few. ap (map (c.as_character (with_t u v))) (front_taken 1 xs ys (omega (arith, few))))
+    (λ _ few. search (arith, front_taken))
     (λ _. either (λ x. taken x ≤ length xs → unit_output c x (xs ++ ys) ≡ unit_output c x xs)
     (not (has_nominal font u) && has_jamo_of font u) _ _
-    (λ _. either (λ x. taken x ≤ length xs → unit_output c x (xs ++ ys) ≡ unit_output c x xs) (is_lv u) _ _
-    (λ _ few. ap (λ zs. marked_from c 1 (flat_map (copies_as c (lead u ∷ vowel u ∷ [])) zs))
-    (front_taken 1 xs ys few))
-    (λ _ few. ap (λ zs. marked_from c 1 (flat_map (copies_as c (lead u ∷ vowel u ∷ trail u ∷ [])) zs))
-    (front_taken 1 xs ys few)))
+    (λ _. search (arith, either, front_taken))
     (λ _. either (λ x. taken x ≤ length xs → unit_output c x (xs ++ ys) ≡ unit_output c x xs)
     ((is_lv u && is_t v) && has_jamo_of font u) _ _
     (λ _ few.
-    ap (λ zs. marked_from c 1 (flat_map (copies_as c (lead u ∷ vowel u ∷ [])) zs ++ take 1 (drop 1 (xs ++ ys))))
-    (front_taken 1 xs ys (omega (arith, few)))
-    ∙ ap (λ zs. marked_from c 1 (flat_map (copies_as c (lead u ∷ vowel u ∷ [])) (take 1 xs) ++ zs))
-    (ap (take 1) (drop-append-le 1 xs ys (omega (arith, few)))
-    ∙ front_taken 1 (drop 1 xs) ys (omega (arith, few, length-drop 1 xs))))
-    (λ _. either (λ x. taken x ≤ length xs → unit_output c x (xs ++ ys) ≡ unit_output c x xs) (has_nominal font u) _ _
-    (λ _ few. front_taken 1 xs ys few) (λ _ few. front_taken 1 xs ys few)))))
+    search (arith, front_taken, drop-append-le, length-drop))
+    (λ _. search (arith, either, front_taken)))))
     (λ _ few. front_taken 1 xs ys few)))
 
 item_local : {X : Type 0} (c : Copying X) (font : Font) (circles : Bool) (us : List ℕ) (xs ys : List X)
@@ -232,21 +188,19 @@ pub outputs_local : {X : Type 0} (c : Copying X) (font : Font) (circles : Bool) 
 outputs_local c font circles xs ys place skip [] all within = refl
 outputs_local c font circles xs ys place zero (u ∷ us) all within =
     let item = first_item font circles (u ∷ us) in
-    let rest = items_from (first_item font circles) (place + 1) (item_len item - 1) us in
-    let fits : item_len item ≤ suc (length us) = first_item-within font circles (u ∷ us) (omega arith) in
-    let some = taken_some item.unit in
-    ap (λ out. out ++ outputs c rest (xs ++ ys))
-    (ap (item_output c item) (drop-append-le place xs ys (omega (arith, all)))
-    ∙ item_local c font circles (u ∷ us) (drop place xs) ys (omega (arith, fits, all, length-drop place xs)))
-    ∙ ap (λ out. item_output c item (drop place xs) ++ out)
-    (outputs_local c font circles xs ys (place + 1) (item_len item - 1) us (omega (arith, all))
-    (omega (arith, fits, some)))
+    let fits = first_item-within font circles (u ∷ us) (omega arith) in
+    cc (
+      drop-append-le place xs ys (omega (arith, all)),
+      item_local c font circles (u ∷ us) (drop place xs) ys (omega (arith, fits, all, length-drop place xs)),
+      outputs_local c font circles xs ys (place + 1) (item_len item - 1) us (omega (arith, all))
+          (omega (arith, fits, taken_some item.unit)),
+    )
 outputs_local c font circles xs ys place (suc skip) (u ∷ us) all within =
     outputs_local c font circles xs ys (place + 1) skip us (omega (arith, all)) (omega (arith, within))
 
 -- and of the second one's, behind it
 dropped_past : {X : Type 0} (xs ys : List X) (p : ℕ) → drop (length xs + p) (xs ++ ys) ≡ drop p ys
-dropped_past [] ys p = ap (λ n. drop n ys) (none_added p)
+dropped_past [] ys p = cc (none_added p)
 dropped_past (x ∷ xs) ys p = ap (λ n. drop n (x ∷ (xs ++ ys))) (one_on (length xs) p) ∙ dropped_past xs ys p
   where
     one_on : (m n : ℕ) → suc m + n ≡ suc (m + n)
@@ -257,22 +211,18 @@ pub outputs_past : {X : Type 0} (c : Copying X) (font : Font) (circles : Bool) (
     ≡ outputs c (items_from (first_item font circles) place skip vs) ys
 outputs_past c font circles xs ys place skip [] = refl
 outputs_past c font circles xs ys place zero (v ∷ vs) =
-    let item = first_item font circles (v ∷ vs) in
-    ap (λ zs. item_output c item zs
-    ++ outputs c (items_from (first_item font circles) ((length xs + place) + 1) (item_len item - 1) vs) (xs ++ ys))
-    (dropped_past xs ys place)
-    ∙ ap (λ n. item_output c item (drop place ys)
-    ++ outputs c (items_from (first_item font circles) n (item_len item - 1) vs) (xs ++ ys))
-    (one_further (length xs) place)
-    ∙ ap (λ out. item_output c item (drop place ys) ++ out)
-    (outputs_past c font circles xs ys (place + 1) (item_len item - 1) vs)
+    search (
+      arith,
+      dropped_past,
+      one_further,
+      outputs_past c font circles xs ys (place + 1) (item_len (first_item font circles (v ∷ vs)) - 1) vs,
+    )
 outputs_past c font circles xs ys place (suc skip) (v ∷ vs) =
-    ap (λ n. outputs c (items_from (first_item font circles) n skip vs) (xs ++ ys)) (one_further (length xs) place)
-    ∙ outputs_past c font circles xs ys (place + 1) skip vs
+    search (arith, one_further, outputs_past c font circles xs ys (place + 1) skip vs)
 
 -- STRETCHES behind a text are shifted
 merged_past : (b : Bool) (n s k : ℕ) → cond b ((n + s, n + s + k) ∷ []) [] ≡ shifted n (cond b ((s, s + k) ∷ []) [])
-merged_past true n s k = ap (λ (e : ℕ). (n + s, e) ∷ []) (omega arith)
+merged_past true n s k = search arith
 merged_past false n s k = refl
 
 pub of_three : {X : Type 0} (Q : X → Type 0) (a b : Bool) (p q o : X) → Q p → Q q → Q o → Q (cond a (cond b p q) o)
@@ -291,7 +241,7 @@ item_past level font circles us n s =
     ∙ ap (λ sts. shifted n (unit_stretch level (opening_unit font circles us) s) ++ sts)
     (of_three (λ tone. tone_stretch tone (n + s) (n + s + k) ≡ shifted n (tone_stretch tone s (s + k)))
     (is_syllable (opening_unit font circles us) && is_tone w) (is_narrow font w) _ _ _ refl
-    (ap (λ (e : ℕ). (n + s, e) ∷ []) (omega arith)) refl)
+    (search arith) refl)
     ∙ sym (map-append (λ (st : ℕ × ℕ). (n + st.0, n + st.1)) (unit_stretch level (opening_unit font circles us) s)
     (tone_stretch (first_item font circles us).tone s (s + k)))
 
@@ -301,17 +251,18 @@ pub stretches_past : (level : BufferClusterLevel) (font : Font) (circles : Bool)
 stretches_past level font circles n place skip [] = refl
 stretches_past level font circles n place zero (v ∷ vs) =
     let item = first_item font circles (v ∷ vs) in
-    let rest = stretches level (items_from (first_item font circles) (place + 1) (item_len item - 1) vs) in
     ap (λ sts. sts ++ stretches level (items_from (first_item font circles) ((n + place) + 1) (item_len item - 1) vs))
     (item_past level font circles (v ∷ vs) n place)
-    ∙ ap (λ m. shifted n (item_stretches level item place)
-    ++ stretches level (items_from (first_item font circles) m (item_len item - 1) vs)) (one_further n place)
+    ∙ ap
+    (λ m. shifted n (item_stretches level item place) ++ stretches level (items_from (first_item font circles) m
+    (item_len item - 1) vs)) (one_further n place)
     ∙ ap (λ sts. shifted n (item_stretches level item place) ++ sts)
     (stretches_past level font circles n (place + 1) (item_len item - 1) vs)
-    ∙ sym (map-append (λ (st : ℕ × ℕ). (n + st.0, n + st.1)) (item_stretches level item place) rest)
+    ∙ sym
+    (map-append (λ (st : ℕ × ℕ). (n + st.0, n + st.1)) (item_stretches level item place) (stretches level (items_from
+    (first_item font circles) (place + 1) (item_len item - 1) vs)))
 stretches_past level font circles n place (suc skip) (v ∷ vs) =
-    ap (λ m. stretches level (items_from (first_item font circles) m skip vs)) (one_further n place)
-    ∙ stretches_past level font circles n (place + 1) skip vs
+    cc (one_further n place, stretches_past level font circles n (place + 1) skip vs)
 
 -- A CUT between two items
 pub record Split {X : Type 0} (c : Copying X) (level : BufferClusterLevel) (font : Font) (circles : Bool) (zs : List X)
@@ -327,27 +278,30 @@ pub split_there : {X : Type 0} (c : Copying X) (level : BufferClusterLevel) (fon
     (place skip n : ℕ) (us vs : List ℕ) → n ≡ place + length us → skip ≤ length us
     → EachBeside font circles n place skip (us ++ vs) → Split c level font circles zs place skip n us vs
 split_there c level font circles zs place zero n [] vs here few beside =
-    let same : place ≡ n = omega (arith, here) in
-    record {
-      made = ap (λ m. outputs c (items_from (first_item font circles) m 0 vs) zs) same;
-      merged = ap (λ m. stretches level (items_from (first_item font circles) m 0 vs)) same;
-    }
+    search arith
 split_there c level font circles zs place (suc skip) n [] vs here few beside = absurd (omega (arith, few))
 split_there c level font circles zs place (suc skip) n (u ∷ us) vs here few beside =
     let s = split_there c level font circles zs (place + 1) skip n us vs (omega (arith, here)) (omega (arith, few))
     beside in
-    record { made = s.made; merged = s.merged }
+    search (arith, s.made, s.merged)
 split_there c level font circles zs place zero n (u ∷ us) vs here few beside =
     let read = first_item font circles in
     let item = read (u ∷ (us ++ vs)) in
     let own = read (u ∷ us) in
-    let some = taken_some item.unit in
     let fits : item_len item ≤ suc (length us) =
-    elim beside.0
-    [ inl before ↦ omega (arith, before, here) | inr behind ↦ absurd (omega (arith, behind, here)) ] in
+    search arith in
     let unit = item_unit font circles (u ∷ us) vs (omega arith) fits in
-    let tone = item_tone font circles (u ∷ us) vs (omega arith) fits in
-    let long : item_len item ≡ item_len own =
+    let tone =
+    let n = taken (opening_unit font circles ((u ∷ us) ++ vs)) in
+    ap (λ x. joined_tone font x (get_or (u ∷ us) (taken x) 0))
+    (unit_read font circles (u ∷ us) vs (omega arith) (omega (arith, fits)))
+    ∙ elim (cases_lt n (length (u ∷ us))) [
+      | inl less ↦ ap (joined_tone font (opening_unit font circles ((u ∷ us) ++ vs))) (sym (front_read (u ∷ us) vs n
+          less))
+      | inr past ↦ ap (joined_tone font (opening_unit font circles ((u ∷ us) ++ vs))) (past_read (u ∷ us) n
+          past) ∙ tone_read font circles ((u ∷ us) ++ vs) (get_or ((u ∷ us) ++ vs) n 0) (omega (arith, fits, past))
+    ] in
+    let long =
     sym (ap (λ x. taken x + tone_len own.tone) unit ∙ ap (λ t. taken item.unit + tone_len t) tone) in
     let ws = drop place zs in
     let out : item_output c item ws ≡ item_output c own ws =
@@ -357,26 +311,28 @@ split_there c level font circles zs place zero n (u ∷ us) vs here few beside =
     sym (ap (λ x. unit_stretch level x place ++ tone_stretch own.tone place (place + taken x)) unit
     ∙ ap (λ t. unit_stretch level item.unit place ++ tone_stretch t place (place + taken item.unit)) tone) in
     let s = split_there c level font circles zs (place + 1) (item_len item - 1) n us vs (omega (arith, here))
-    (omega (arith, fits, some)) beside.1 in
+    (omega (arith, fits, taken_some item.unit)) beside.1 in
     record {
       made =
           ap (λ xs. item_output c item ws ++ xs) s.made
-          ∙ ap (λ xs. xs
-          ++ (outputs c (items_from read (place + 1) (item_len item - 1) us) zs
-          ++ outputs c (items_from read n 0 vs) zs)) out
-          ∙ ap (λ m. item_output c own ws
-          ++ (outputs c (items_from read (place + 1) (m - 1) us) zs ++ outputs c (items_from read n 0 vs) zs)) long
-          ∙ sym (append_assoc (item_output c own ws) (outputs c (items_from read (place + 1) (item_len own - 1) us) zs)
+          ∙ ap
+          (λ xs. xs ++ (outputs c (items_from read (place + 1) (item_len item - 1) us) zs ++ outputs c (items_from
+          read n 0 vs) zs)) out
+          ∙ ap
+          (λ m. item_output c own ws ++ (outputs c (items_from read (place + 1) (m - 1) us) zs ++ outputs c
+          (items_from read n 0 vs) zs)) long
+          ∙ sym
+          (append_assoc (item_output c own ws) (outputs c (items_from read (place + 1) (item_len own - 1) us) zs)
           (outputs c (items_from read n 0 vs) zs));
       merged =
           ap (λ xs. item_stretches level item place ++ xs) s.merged
-          ∙ ap (λ xs. xs
-          ++ (stretches level (items_from read (place + 1) (item_len item - 1) us)
-          ++ stretches level (items_from read n 0 vs))) sts
-          ∙ ap (λ m. item_stretches level own place
-          ++ (stretches level (items_from read (place + 1) (m - 1) us) ++ stretches level (items_from read n 0 vs)))
-          long
-          ∙ sym (append_assoc (item_stretches level own place)
-          (stretches level (items_from read (place + 1) (item_len own - 1) us))
-          (stretches level (items_from read n 0 vs)));
+          ∙ ap
+          (λ xs. xs ++ (stretches level (items_from read (place + 1) (item_len item - 1) us) ++ stretches level
+          (items_from read n 0 vs))) sts
+          ∙ ap
+          (λ m. item_stretches level own place ++ (stretches level (items_from read (place + 1) (m - 1) us) ++
+          stretches level (items_from read n 0 vs))) long
+          ∙ sym
+          (append_assoc (item_stretches level own place) (stretches level (items_from read (place + 1) (item_len own
+          - 1) us)) (stretches level (items_from read n 0 vs)));
     }

@@ -1,11 +1,10 @@
 -- How long a Hangul text gets: at most three times as long as it was.
-use Rattle.std.proofs.Common.{ℕ, zero, suc, ◌+◌, ◌*◌, ◌-◌, ◌≤◌, ◌≡◌, List, [], ◌∷◌, length, drop, Bool, ◌&&◌, not, get_or, arith}
+use Rattle.std.proofs.Common.{ℕ, zero, suc, ◌+◌, ◌*◌, ◌-◌, ◌≤◌, ◌≡◌, List, [], ◌∷◌, length, drop, Bool, ◌&&◌, get_or, arith}
 use Rattle.std.proofs.lemmas.List.{length-append, length-drop}
 use Rattle.shapers_buffer.specs.declared.buffer.glyph.hb_glyph_info_t.{hb_glyph_info_t}
 use Rattle.shapers_buffer.specs.declared.buffer.level.BufferClusterLevel.{BufferClusterLevel}
-use Rattle.shapers_buffer.specs.Glyph.{characters}
-use Rattle.shapers_base.specs.Font.{Font, dotted_circle, has_nominal}
-use Rattle.shapers_hangul.specs.Hangul.{Copying, combines_l, combines_t, combines_v, first_item, first_unit, glyph_copies, has_jamo_of, is_l, is_lv, is_narrow, is_s, is_t, is_tone, is_v, item_len, item_output, items_from, output_len, outputs, preprocessed, taken, with_t, with_v}
+use Rattle.shapers_base.specs.Font.{Font, has_nominal}
+use Rattle.shapers_hangul.specs.Hangul.{Copying, combines_t, first_item, first_unit, is_l, is_lv, is_s, is_tone, is_v, item_len, item_output, items_from, output_len, outputs, preprocessed, taken, with_t}
 use Rattle.shapers_hangul.proofs.Items.{either, first_item-within, taken_some}
 use Rattle.shapers_hangul.proofs.Outputs.{length-preprocessed}
 use Rattle.shapers_hangul.proofs.Walks.{length-characters, length-item_output}
@@ -15,22 +14,13 @@ thrice : (font : Font) (circles : Bool) (u v t : ℕ) → output_len (first_unit
     ≤ 3 * taken (first_unit font circles u v t)
 thrice font circles u v t =
     either (λ x. output_len x ≤ 3 * taken x) (is_tone u) _ _
-    (λ _. either (λ x. output_len x ≤ 3 * taken x) (circles && has_nominal font dotted_circle) _ _
-    (λ _. either (λ x. output_len x ≤ 3 * taken x) (is_narrow font u) _ _ (λ _. omega arith) (λ _. omega arith))
-    (λ _. omega arith))
+    (λ _. search (arith, either))
     (λ _. either (λ x. output_len x ≤ 3 * taken x) (is_l u && is_v v) _ _
-    (λ _. either (λ x. output_len x ≤ 3 * taken x) (is_t t) _ _
-    (λ _. either (λ x. output_len x ≤ 3 * taken x) ((combines_l u && (combines_v v && combines_t t))
-    && has_nominal font (with_t (with_v u v) t)) _ _ (λ _. omega arith) (λ _. omega arith))
-    (λ _. either (λ x. output_len x ≤ 3 * taken x) ((combines_l u && combines_v v) && has_nominal font (with_v u v)) _ _
-    (λ _. omega arith) (λ _. omega arith)))
+    (λ _. search (arith, either))
     (λ _. either (λ x. output_len x ≤ 3 * taken x) (is_s u) _ _
     (λ _. either (λ x. output_len x ≤ 3 * taken x) ((is_lv u && combines_t v) && has_nominal font (with_t u v)) _ _
     (λ _. omega arith)
-    (λ _. either (λ x. output_len x ≤ 3 * taken x) (not (has_nominal font u) && has_jamo_of font u) _ _
-    (λ _. either (λ x. output_len x ≤ 3 * taken x) (is_lv u) _ _ (λ _. omega arith) (λ _. omega arith))
-    (λ _. either (λ x. output_len x ≤ 3 * taken x) ((is_lv u && is_t v) && has_jamo_of font u) _ _ (λ _. omega arith)
-    (λ _. either (λ x. output_len x ≤ 3 * taken x) (has_nominal font u) _ _ (λ _. omega arith) (λ _. omega arith)))))
+    (λ _. search (arith, either)))
     (λ _. omega arith)))
 
 -- the outputs of the items of a text's end
@@ -41,24 +31,21 @@ from_place c font circles xs place zero [] all within = omega arith
 from_place c font circles xs place (suc skip) [] all within = absurd (omega arith)
 from_place c font circles xs place zero (u ∷ us) all within =
     let item = first_item font circles (u ∷ us) in
-    let rest = items_from (first_item font circles) (place + 1) (item_len item - 1) us in
-    let fits : item_len item ≤ suc (length us) = first_item-within font circles (u ∷ us) (omega arith) in
-    let some = taken_some item.unit in
-    let left = length-drop place xs in
-    let here = length-item_output c item (drop place xs) (omega (arith, fits, left, all)) in
-    let most = thrice font circles u (get_or us 0 0) (get_or us 1 0) in
-    let joined = length-append (item_output c item (drop place xs)) (outputs c rest xs) in
-    let later = from_place c font circles xs (place + 1) (item_len item - 1) us (omega (arith, all))
-    (omega (arith, fits, some)) in
-    omega (arith, here, most, joined, later, some)
+    let fits = first_item-within font circles (u ∷ us) (omega arith) in
+    search (
+      arith,
+      length-item_output c item (drop place xs) (omega (arith, fits, length-drop place xs, all)),
+      thrice font circles u (get_or us 0 0) (get_or us 1 0),
+      length-append (item_output c item (drop place xs))
+          (outputs c (items_from (first_item font circles) (place + 1) (item_len item - 1) us) xs),
+      from_place c font circles xs (place + 1) (item_len item - 1) us (omega (arith, all))
+          (omega (arith, fits, taken_some item.unit)),
+      taken_some item.unit,
+    )
 from_place c font circles xs place (suc skip) (u ∷ us) all within =
-    let later = from_place c font circles xs (place + 1) skip us (omega (arith, all)) (omega (arith, within)) in
-    omega (arith, later)
+    search (arith, from_place c font circles xs (place + 1) skip us (omega (arith, all)) (omega (arith, within)))
 
 pub hangul_long : (font : Font) (circles : Bool) (level : BufferClusterLevel) (gs : List hb_glyph_info_t)
     → length (preprocessed font circles level gs) ≤ 3 * length gs
 hangul_long font circles level gs =
-    let n = length-characters gs in
-    let all = from_place glyph_copies font circles gs 0 0 (characters gs) (omega (arith, n)) (omega arith) in
-    let e = length-preprocessed font circles level gs in
-    omega (arith, all, e, n)
+    search (arith, from_place, length-characters, length-preprocessed)

@@ -7,14 +7,14 @@ use Rattle.shapers_buffer.specs.declared.buffer.glyph.hb_glyph_info_t.{hb_glyph_
 use Rattle.shapers_buffer.specs.declared.buffer.level.BufferClusterLevel.{BufferClusterLevel}
 use Rattle.shapers_buffer.specs.Clusters.{merge_all, merges}
 use Rattle.shapers_buffer.specs.Glyph.{characters, clusters}
-use Rattle.shapers_base.specs.Font.{Font, dotted_circle, has_nominal}
+use Rattle.shapers_base.specs.Font.{Font, has_nominal}
 use Rattle.shapers_clusters.specs.ClusterMerges.{joined_all}
 use Rattle.shapers_clusters.specs.Cuts.{EndWithin, OneAlong}
 use Rattle.shapers_clusters.proofs.Cuts.{stays_falling, stays_rising}
 use Rattle.shapers_clusters.proofs.LabelsAsMerged.{all_split}
 use Rattle.shapers_clusters.proofs.Merging.{length-merge_all}
 use Rattle.shapers_clusters.proofs.Moves.{HeldIn, all_held, clusters-merge_all, held_share}
-use Rattle.shapers_hangul.specs.Hangul.{allows_circles, combines_l, combines_t, combines_v, first_item, first_unit, has_jamo_of, is_l, is_lv, is_narrow, is_s, is_syllable, is_t, is_tone, is_v, item_len, item_output, item_stretches, items, items_from, marked_from, opening_unit, outputs, stretches, taken, tone_len, tone_stretch, unit_output, unit_stretch, with_t, with_tone, with_v}
+use Rattle.shapers_hangul.specs.Hangul.{allows_circles, combines_t, first_item, first_unit, has_jamo_of, is_l, is_lv, is_narrow, is_s, is_syllable, is_t, is_tone, is_v, item_len, item_output, item_stretches, items, items_from, marked_from, opening_unit, outputs, stretches, taken, tone_len, tone_stretch, unit_output, unit_stretch, with_t, with_tone}
 use Rattle.shapers_hangul.specs.HangulLaws.{place_copies}
 use Rattle.shapers_hangul.proofs.HangulClusters.{clusters-rewritten}
 use Rattle.shapers_hangul.proofs.Items.{either, first_item-within, taken_some}
@@ -35,31 +35,22 @@ abbrev pub OfItself : (ℕ → ℕ → Type 0) → Type 0
 OfItself R = (x : ℕ) → R x x
 
 keeps_none : (P : ℕ → Type 0) (R : ℕ → ℕ → Type 0) (xs : List ℕ) → Keeps P R xs []
-keeps_none P R xs = record { all = λ own. tt; ordered = λ own. tt }
+keeps_none P R xs = search arith
 
 pub keeps_itself : (P : ℕ → Type 0) (R : ℕ → ℕ → Type 0) (xs ys : List ℕ) → ys ≡ xs → Keeps P R xs ys
 keeps_itself P R xs ys is =
-    record { all = λ own. subst (AllByRecursion P) (sym is) own; ordered = λ own. subst (Ordered R) (sym is) own }
+    search arith
 
 -- the first once, twice, and three times
 keeps_first : (P : ℕ → Type 0) (R : ℕ → ℕ → Type 0) (x : ℕ) (xs : List ℕ) → Keeps P R (x ∷ xs) (x ∷ [])
-keeps_first P R x xs = record { all = λ own. (own.0, tt); ordered = λ own. (tt, tt) }
+keeps_first P R x xs = search arith
 
 keeps_two : (P : ℕ → Type 0) (R : ℕ → ℕ → Type 0) → OfItself R → (x : ℕ) (xs : List ℕ) → Keeps P R (x ∷ xs) (x ∷ x ∷ [])
-keeps_two P R self x xs = record { all = λ own. (own.0, (own.0, tt)); ordered = λ own. ((self x, tt), (tt, tt)) }
-
-keeps_three : (P : ℕ → Type 0) (R : ℕ → ℕ → Type 0) → OfItself R → (x : ℕ) (xs : List ℕ)
-    → Keeps P R (x ∷ xs) (x ∷ x ∷ x ∷ [])
-keeps_three P R self x xs =
-    record {
-      all = λ own. (own.0, (own.0, (own.0, tt)));
-      ordered = λ own.
-          ((self x, (self x, tt)), ((self x, tt), (tt, tt)));
-    }
+keeps_two P R self x xs = search arith
 
 marked_places : (n : ℕ) (xs : List ℕ) → marked_from place_copies n xs ≡ xs
 marked_places n [] = refl
-marked_places n (x ∷ xs) = ap (λ ys. x ∷ ys) (marked_places (n + 1) xs)
+marked_places n (x ∷ xs) = cc (marked_places (n + 1) xs)
 
 first_taken : (P : ℕ → Type 0) (R : ℕ → ℕ → Type 0) (n : ℕ) (ws : List ℕ) → Keeps P R (take (suc n) ws) (take 1 ws)
 first_taken P R n [] = keeps_none P R []
@@ -78,18 +69,14 @@ two_copies P R self (w ∷ ws) = keeps_two P R self w []
 three_copies : (P : ℕ → Type 0) (R : ℕ → ℕ → Type 0) → OfItself R → (ws : List ℕ)
     → Keeps P R (take 1 ws) (marked_from place_copies 1 (flat_map (λ w. w ∷ w ∷ w ∷ []) (take 1 ws)))
 three_copies P R self [] = keeps_none P R []
-three_copies P R self (w ∷ ws) = keeps_three P R self w []
+three_copies P R self (w ∷ ws) = search arith
 
 before_trailing : (P : ℕ → Type 0) (R : ℕ → ℕ → Type 0) → OfItself R → (ws : List ℕ)
     → Keeps P R (take 2 ws) (marked_from place_copies 1 (flat_map (λ w. w ∷ w ∷ []) (take 1 ws) ++ take 1 (drop 1 ws)))
 before_trailing P R self [] = keeps_none P R []
 before_trailing P R self (w ∷ []) = keeps_two P R self w []
 before_trailing P R self (w ∷ (v ∷ ws)) =
-    record {
-      all = λ own. (own.0, (own.0, (own.1.0, tt)));
-      ordered = λ own.
-          ((self w, (own.0.0, tt)), ((own.0.0, tt), (tt, tt)));
-    }
+    search arith
 
 circle_behind : (P : ℕ → Type 0) (R : ℕ → ℕ → Type 0) → OfItself R → (ws : List ℕ)
     → Keeps P R (take 1 ws) (take 1 ws ++ map (λ w. w) (take 1 ws))
@@ -107,31 +94,20 @@ unit_keeps : (P : ℕ → Type 0) (R : ℕ → ℕ → Type 0) → OfItself R
     (unit_output place_copies (first_unit font circles u v t) ws)
 unit_keeps P R self font circles u v t ws =
     either (λ x. Keeps P R (take (taken x) ws) (unit_output place_copies x ws)) (is_tone u) _ _
-    (λ _. either (λ x. Keeps P R (take (taken x) ws) (unit_output place_copies x ws))
-    (circles && has_nominal font dotted_circle) _ _
-    (λ _. either (λ x. Keeps P R (take (taken x) ws) (unit_output place_copies x ws)) (is_narrow font u) _ _
-    (λ _. circle_before P R self ws) (λ _. circle_behind P R self ws))
-    (λ _. first_taken P R 0 ws))
+    (λ _. search (arith, either, circle_before, circle_behind, first_taken))
     (λ _. either (λ x. Keeps P R (take (taken x) ws) (unit_output place_copies x ws)) (is_l u && is_v v) _ _
     (λ _. either (λ x. Keeps P R (take (taken x) ws) (unit_output place_copies x ws)) (is_t t) _ _
-    (λ _. either (λ x. Keeps P R (take (taken x) ws) (unit_output place_copies x ws))
-    ((combines_l u && (combines_v v && combines_t t)) && has_nominal font (with_t (with_v u v) t)) _ _
-    (λ _. mapped_first P R 2 ws) (λ _. keeps_itself P R (take 3 ws) (marked_from place_copies 1 (take 3 ws))
-    (marked_places 1 (take 3 ws))))
-    (λ _. either (λ x. Keeps P R (take (taken x) ws) (unit_output place_copies x ws)) ((combines_l u && combines_v v)
-    && has_nominal font (with_v u v)) _ _ (λ _. mapped_first P R 1 ws)
-    (λ _. keeps_itself P R (take 2 ws) (marked_from place_copies 1 (take 2 ws)) (marked_places 1 (take 2 ws)))))
+    (λ _. search (arith, either, mapped_first, keeps_itself, marked_places))
+    (λ _. search (arith, either, mapped_first, keeps_itself, marked_places)))
     (λ _. either (λ x. Keeps P R (take (taken x) ws) (unit_output place_copies x ws)) (is_s u) _ _
     (λ _. either (λ x. Keeps P R (take (taken x) ws) (unit_output place_copies x ws))
     ((is_lv u && combines_t v) && has_nominal font (with_t u v)) _ _ (λ _. mapped_first P R 1 ws)
     (λ _. either (λ x. Keeps P R (take (taken x) ws) (unit_output place_copies x ws))
     (not (has_nominal font u) && has_jamo_of font u) _ _
-    (λ _. either (λ x. Keeps P R (take (taken x) ws) (unit_output place_copies x ws)) (is_lv u) _ _
-    (λ _. two_copies P R self ws) (λ _. three_copies P R self ws))
+    (λ _. search (arith, either, two_copies, three_copies))
     (λ _. either (λ x. Keeps P R (take (taken x) ws) (unit_output place_copies x ws))
     ((is_lv u && is_t v) && has_jamo_of font u) _ _ (λ _. before_trailing P R self ws)
-    (λ _. either (λ x. Keeps P R (take (taken x) ws) (unit_output place_copies x ws)) (has_nominal font u) _ _
-    (λ _. first_taken P R 0 ws) (λ _. first_taken P R 0 ws)))))
+    (λ _. search (arith, either, first_taken)))))
     (λ _. first_taken P R 0 ws)))
 
 -- PARTS of a list
@@ -170,7 +146,7 @@ keeps_turned : (R : ℕ → ℕ → Type 0) → OfItself R → (xs us : List ℕ
 keeps_turned R self xs us y first same P = record {
   all = λ own. ((all_split P xs (y ∷ []) own).1.0, (first P).all (all_split P xs (y ∷ []) own).0);
   ordered = λ own. (
-    all_weaker (λ x. x ≡ y) (R y) (λ x is. subst (R y) (sym is) (self y)) us ((first (λ x. x ≡ y)).all same),
+    all_weaker (λ x. x ≡ y) (R y) (λ x is. search arith) us ((first (λ x. x ≡ y)).all same),
     (first P).ordered (ordered_left R xs (y ∷ []) own),
   );
 }
@@ -179,31 +155,22 @@ keeps_turned R self xs us y first same P = record {
 one_further : (n : ℕ) (ws : List ℕ) → take (suc n) ws ≡ take n ws ++ take 1 (drop n ws)
 one_further zero ws = refl
 one_further (suc n) [] = refl
-one_further (suc n) (w ∷ ws) = ap (λ xs. w ∷ xs) (one_further n ws)
+one_further (suc n) (w ∷ ws) = cc (one_further n ws)
 
 -- A TONE
 pub keeps_by : (R : ℕ → ℕ → Type 0) (xs ys us : List ℕ) → xs ≡ ys → KeepsEach R ys us → KeepsEach R xs us
-keeps_by R xs ys us is own P = subst (λ zs. Keeps P R zs us) (sym is) (own P)
+keeps_by R xs ys us is own P = search arith
 
 one_taken : (n : ℕ) (ws : List ℕ) → take (n + 1) ws ≡ take n ws ++ take 1 (drop n ws)
-one_taken n ws = let same : n + 1 ≡ suc n = omega arith in ap (λ k. take k ws) same ∙ one_further n ws
-
-behind_keeps : (R : ℕ → ℕ → Type 0) (n : ℕ) (ws out : List ℕ) → KeepsEach R (take n ws) out
-    → KeepsEach R (take (n + 1) ws) (out ++ take 1 (drop n ws))
-behind_keeps R n ws out own =
-    keeps_by R (take (n + 1) ws) (take n ws ++ take 1 (drop n ws)) (out ++ take 1 (drop n ws)) (one_taken n ws)
-    (keeps_both R (take n ws) (take 1 (drop n ws)) out (take 1 (drop n ws)) own
-    (λ P. keeps_itself P R (take 1 (drop n ws)) (take 1 (drop n ws)) refl))
+one_taken n ws = search (arith, one_further)
 
 before_keeps : (R : ℕ → ℕ → Type 0) → OfItself R → (n : ℕ) (ws out rest : List ℕ) → rest ≡ drop n ws
     → KeepsEach R (take n ws) out → ((y : ℕ) (ys : List ℕ) → rest ≡ y ∷ ys → AllByRecursion (λ x. x ≡ y) (take n ws))
     → KeepsEach R (take (n + 1) ws) (take 1 rest ++ out)
 before_keeps R self n ws out [] is own same =
-    keeps_by R (take (n + 1) ws) (take n ws) out (one_taken n ws ∙ ap (λ xs. take n ws ++ take 1 xs) (sym is)
-    ∙ append-nil (take n ws)) own
+    search (arith, keeps_by, one_taken, append-nil)
 before_keeps R self n ws out (y ∷ ys) is own same =
-    keeps_by R (take (n + 1) ws) (take n ws ++ y ∷ []) (y ∷ out) (one_taken n ws
-    ∙ ap (λ xs. take n ws ++ take 1 xs) (sym is)) (keeps_turned R self (take n ws) out y own (same y ys refl))
+    search (arith, keeps_by, one_taken, keeps_turned)
 
 -- all places of a stretch have one number
 along : (xs : List ℕ) (s n y : ℕ) (ys : List ℕ) → OneAlong xs (s, s + n + 1) → drop n (drop s xs) ≡ y ∷ ys
@@ -231,13 +198,12 @@ item_keeps R self font circles us s xs one P =
     let out = unit_output place_copies (opening_unit font circles us) ws in
     let own : KeepsEach R (take n ws) out =
     λ Q. unit_keeps Q R self font circles (get_or us 0 0) (get_or us 1 0) (get_or us 2 0) ws in
-    let nothing_more : n + 0 ≡ n = omega arith in
     of_three (λ tone. AllByRecursion (OneAlong xs) (tone_stretch tone s (s + n))
     → Keeps P R (take (n + tone_len tone) ws) (with_tone tone (take 1 (drop n ws)) out))
     (is_syllable (opening_unit font circles us) && is_tone w) (is_narrow font w) _ _ _
-    (λ along_tone. behind_keeps R n ws out own P)
+    (λ along_tone. search (arith, keeps_by, one_taken, keeps_both, keeps_itself))
     (λ along_tone. before_keeps R self n ws out (drop n ws) refl own (λ y ys at. along xs s n y ys along_tone.0 at) P)
-    (λ along_tone. keeps_by R (take (n + 0) ws) (take n ws) out (ap (λ k. take k ws) nothing_more) own P)
+    (λ along_tone. keeps_by R (take (n + 0) ws) (take n ws) out (ap (λ k. take k ws) (omega arith)) own P)
     one
 
 -- ALL ITEMS, one after the other
@@ -247,12 +213,12 @@ keeps_from : (R : ℕ → ℕ → Type 0) → OfItself R
     → AllByRecursion (OneAlong xs) (stretches level (items_from (first_item font circles) place skip us))
     → KeepsEach R (drop (place + skip) xs)
     (outputs place_copies (items_from (first_item font circles) place skip us) xs)
-keeps_from R self level font circles xs place skip [] all few one P = keeps_none P R (drop (place + skip) xs)
+keeps_from R self level font circles xs place skip [] all few one P = search (arith, keeps_none)
 keeps_from R self level font circles xs place zero (u ∷ us) all few one P =
     let item = first_item font circles (u ∷ us) in
     let k = item_len item in
     let rest = items_from (first_item font circles) (place + 1) (k - 1) us in
-    let fits : k ≤ suc (length us) = first_item-within font circles (u ∷ us) (omega arith) in
+    let fits : k ≤ suc (length us) = search (arith, first_item-within) in
     let some = taken_some item.unit in
     let ws = drop place xs in
     let parts = all_split (OneAlong xs) (item_stretches level item place) (stretches level rest) one in
@@ -260,19 +226,19 @@ keeps_from R self level font circles xs place zero (u ∷ us) all few one P =
     (tone_stretch item.tone place (place + taken item.unit)) parts.0).1 in
     let later = keeps_from R self level font circles xs (place + 1) (k - 1) us (omega (arith, all))
     (omega (arith, fits, some)) parts.1 in
-    let there : place + k ≡ (place + 1) + (k - 1) = omega (arith, some) in
-    let here : place + 0 ≡ place = omega arith in
     keeps_by R (drop (place + 0) xs) (take k ws ++ drop ((place + 1) + (k - 1)) xs) (item_output place_copies item ws
     ++ outputs place_copies rest xs)
-    (ap (λ n. drop n xs) here ∙ sym (take-append-drop k ws)
-    ∙ ap (λ zs. take k ws ++ zs) (drop-drop k place xs ∙ ap (λ n. drop n xs) there))
+    (ap (λ n. drop n xs) (omega arith) ∙ sym (take-append-drop k ws)
+    ∙ ap (λ zs. take k ws ++ zs) (drop-drop k place xs ∙ ap (λ n. drop n xs) (omega (arith, some))))
     (keeps_both R (take k ws) (drop ((place + 1) + (k - 1)) xs) (item_output place_copies item ws)
     (outputs place_copies rest xs) (item_keeps R self font circles (u ∷ us) place xs tone) later) P
 keeps_from R self level font circles xs place (suc skip) (u ∷ us) all few one P =
     let there : place + suc skip ≡ (place + 1) + skip = omega arith in
-    keeps_by R (drop (place + suc skip) xs) (drop ((place + 1) + skip) xs)
-    (outputs place_copies (items_from (first_item font circles) (place + 1) skip us) xs) (ap (λ n. drop n xs) there)
-    (keeps_from R self level font circles xs (place + 1) skip us (omega (arith, all)) (omega (arith, few)) one) P
+    search (
+      arith,
+      keeps_by,
+      keeps_from R self level font circles xs (place + 1) skip us (omega (arith, all)) (omega (arith, few)) one,
+    )
 
 -- merged stretches have one cluster each
 along_merged : (level : BufferClusterLevel) → merges level ≡ true → (sts : List (ℕ × ℕ)) (cs : List ℕ)
@@ -299,12 +265,10 @@ hangul_stays_monotone plan font old new m is =
     let made : clusters new.glyphs ≡ outputs place_copies (items font circles us) merged =
     ap (λ (b : Buffer). clusters b.glyphs) is ∙ clusters-rewritten plan.break_flags font circles level gs
     ∙ clusters_made font circles level gs in
-    let are : merged ≡ joined_all level sts cs = clusters-merge_all level sts gs in
-    let long = length-map gs (λ (g : hb_glyph_info_t). g.cluster) in
-    let within : EndWithin (length cs) sts =
-    subst (λ k. EndWithin k sts) (sym long) (ends_within level font circles gs) in
-    let as_long = length-map (merge_all level sts gs) (λ (g : hb_glyph_info_t). g.cluster)
-    ∙ length-merge_all level sts gs (ends_within level font circles gs) in
+    let are = clusters-merge_all level sts gs in
+    let within =
+    subst (λ k. EndWithin k sts) (sym
+    (length-map gs (λ (g : hb_glyph_info_t). g.cluster))) (ends_within level font circles gs) in
     let one : AllByRecursion (OneAlong merged) sts =
     subst (λ js. AllByRecursion (OneAlong js) sts) (sym are)
     (along_merged level m sts cs within sts (all_held sts) within) in
@@ -312,7 +276,12 @@ hangul_stays_monotone plan font old new m is =
     → AllPairs R (clusters new.glyphs) =
     λ R same before. to_pairs R (clusters new.glyphs)
     (subst (Ordered R) (sym made)
-    ((keeps_from R same level font circles merged 0 0 us (omega (arith, as_long, length-characters gs))
+    ((keeps_from R same level font circles merged 0 0 us (omega (
+      arith,
+      length-map (merge_all level sts gs) (λ (g : hb_glyph_info_t). g.cluster) ∙ length-merge_all level sts gs
+          (ends_within level font circles gs),
+      length-characters gs,
+    ))
     (omega arith) one (λ x. Unit {0})).ordered
     (subst (Ordered R) (sym are) (from_pairs R (joined_all level sts cs) before)))) in (
       λ up. turned (λ a b. a ≤ b) (λ x. omega arith) (stays_rising level sts cs within up),

@@ -1,6 +1,6 @@
 -- What the reorderings of Indic make of two halves keeps to their clusters.
-use Rattle.std.proofs.Common.{◌≡◌, List, length, refl, sym, subst, ◌∙◌, arith}
-use Rattle.std.specs.List.{All, Contains, sum_by}
+use Rattle.std.proofs.Common.{List, length, refl, sym, subst, ◌∙◌, arith}
+use Rattle.std.specs.List.{All, Contains}
 use Rattle.std.specs.Prelude.{Option}
 use Rattle.std.proofs.lemmas.List.{length-map}
 use Rattle.std.proofs.lemmas.List.Elements.{All-contains_itself}
@@ -34,30 +34,22 @@ own level steps gs fit =
     (all-joined_steps (Contains (clusters gs)) level (length gs) steps (clusters gs)
     (length-map gs (λ (g : hb_glyph_info_t). g.cluster)) fit (All-contains_itself (clusters gs))).1
 
--- the steps of a text's syllables fit it
-steps_fit : (order : List hb_glyph_info_t → List hb_glyph_info_t) (steps : List hb_glyph_info_t
-    → List Step) (level : BufferClusterLevel) (gs : List hb_glyph_info_t) → ReorderLaws order steps
-    → FitSteps (length gs) (text_steps steps (order_view gs))
-steps_fit order steps level gs laws =
-    let pieces = pieces_of steps (syllables (order_view gs)) in
-    let whole : sum_by (λ piece. piece.0) pieces ≡ length gs = sum-syllables steps (order_view gs)
-    ∙ length-map gs plain in
-    subst (FitSteps (length gs)) (sym (text_steps-long steps gs))
-    (along_holds level pieces gs (omega (arith, whole))
-    (each_piece FitsStep steps laws.fits (syllables (order_view gs)))).fit
-
 paused_own : (circles : Option DottedCircles) (order : List hb_glyph_info_t → List hb_glyph_info_t)
     (steps : List hb_glyph_info_t → List Step) (level : BufferClusterLevel) (gs : List hb_glyph_info_t)
     → ReorderLaws order steps → All (Contains (clusters gs)) (paused_clusters circles steps level gs)
 paused_own circles order steps level gs laws =
     let opened = circled circles gs in
     let sts = text_steps steps (order_view opened) in
-    let new = run_steps level sts opened in
     let are = clusters-run_steps level sts opened in
     subst (All (Contains (clusters gs))) are
-    (no_new_cluster circles gs new
+    (no_new_cluster circles gs (run_steps level sts opened)
     (subst (All (Contains (clusters opened))) (sym are)
-    (own level sts opened (steps_fit order steps level opened laws))))
+    (own level sts opened (
+    let pieces = pieces_of steps (syllables (order_view opened)) in subst (FitSteps (length opened)) (sym
+    (text_steps-long steps opened)) (along_holds level pieces opened (omega (
+      arith,
+      sum-syllables steps (order_view opened) ∙ length-map opened plain,
+    )) (each_piece FitsStep steps laws.fits (syllables (order_view opened)))).fit))))
 
 pub indic_keeps_halves : IndicKeepsHalves
 indic_keeps_halves InitialReordering plan font spans old new indic k gs hs text border none =

@@ -1,5 +1,5 @@
 -- How long a text gets, and when it is never too long.
-use Rattle.std.proofs.Common.{ℕ, ◌+◌, ◌*◌, ◌≤◌, ◌≡◌, ◌≢◌, List, [], ◌∷◌, length, map, refl, sym, ap, ◌∙◌, arith, cond}
+use Rattle.std.proofs.Common.{ℕ, ◌+◌, ◌*◌, ◌≤◌, ◌≡◌, ◌≢◌, List, [], ◌∷◌, length, map, refl, arith, cond}
 use Rattle.std.specs.Prelude.{Bool, true, false, Option, None, Some, Result, Ok, Err, IsOk, IsOkUnless, option_map, if◌then◌else◌}
 use Rattle.std.specs.List.{count_by, flat_map}
 use Rattle.std.proofs.lemmas.Bool.{false≢true}
@@ -15,14 +15,14 @@ use Rattle.shapers_buffer.specs.declared.buffer.glyph.hb_glyph_info_t.{hb_glyph_
 use Rattle.shapers_buffer.specs.declared.buffer.refusal.ShaperError.{ShaperError}
 use Rattle.shapers_buffer.specs.declared.buffer.refusal.ShaperError.TheVariants.{Memory, TooLong, UnknownSyllable, SpansDontCover, StretchOverflow}
 use Rattle.shapers_buffer.specs.Refusals.{RefusesInput, RefusesLength}
-use Rattle.shapers_buffer.specs.Syllables.{spans_cover, syllables, unknown_syllable}
-use Rattle.shapers_clusters.specs.FlagLaw.{FlagsAdded, OnlyFlagsAdded}
+use Rattle.shapers_buffer.specs.Syllables.{syllables}
+use Rattle.shapers_clusters.specs.FlagLaw.{OnlyFlagsAdded}
 use Rattle.shapers_hangul.specs.Hangul.{allows_circles}
 use Rattle.shapers_hangul.proofs.Changes.{length-flagged}
 use Rattle.shapers_syllabic.specs.Circles.{circled, is_of_kind}
 use Rattle.shapers_syllabic.specs.declared.ot_shaper_syllabic.circles.DottedCircles.{DottedCircles}
 use Rattle.shapers_syllabic.proofs.CircleLaws.{joined-syllables, length-with_circles}
-use Rattle.shapers_text.specs.Thai.{glyph_rule, glyphs_in_two, in_parts, is_sara_am, nikhahit, sara_aa}
+use Rattle.shapers_text.specs.Thai.{glyph_rule, in_parts, is_sara_am, nikhahit, sara_aa}
 use Rattle.shapers_text.specs.ThaiForms.{asks_for_forms, preprocessed_flagged, preprocessed_text}
 use Rattle.shapers_text.specs.ThaiLaws.{kept_view}
 use Rattle.shapers_text.proofs.ThaiInTwo.{lengths}
@@ -30,12 +30,12 @@ use Rattle.shapers_text.proofs.ThaiKept.{kept_in_two}
 use Rattle.shapers_text.proofs.ThaiWholeMarks.{clusters-flagged}
 use Rattle.rustybuzz_shapers.specs.Hooks.{Preprocessed}
 use Rattle.rustybuzz_shapers.specs.Lengths.{PausesGrow, PausesHaveRoom, PreprocessingGrows, PreprocessingHasRoom, broken_in}
-use Rattle.rustybuzz_shapers.specs.Pauses.{RefusesReordering, pause_circles}
+use Rattle.rustybuzz_shapers.specs.Pauses.{RefusesReordering}
 use Rattle.rustybuzz_shapers.specs.declared.shaper.hb_ot_shaper_t.TheVariants.{Arabic, Hangul, Hebrew, Indic, Khmer, Myanmar, MyanmarZawgyi, Thai, Universal}
 use Rattle.rustybuzz_shapers.proofs.HangulLong.{hangul_long}
 
 same_long : (old new : Buffer) → new ≡ old → length new.glyphs ≡ length old.glyphs
-same_long old new is = ap (λ (b : Buffer). length b.glyphs) is
+same_long old new is = cc
 
 -- THAI
 abbrev ams_in : List hb_glyph_info_t → ℕ
@@ -49,10 +49,13 @@ one_or_two false g = refl
 parts_long : (gs : List hb_glyph_info_t) → length (flat_map (in_parts glyph_rule) gs) ≡ length gs + ams_in gs
 parts_long [] = refl
 parts_long (g ∷ gs) =
-    let joined = length-append (in_parts glyph_rule g) (flat_map (in_parts glyph_rule) gs) in
-    let here = one_or_two (is_sara_am g.glyph_id) g in
-    let more = sum_by-cons (λ (x : hb_glyph_info_t). cond (is_sara_am x.glyph_id) 1 0) g gs in
-    omega (arith, joined, here, more, parts_long gs)
+    search (
+      arith,
+      length-append (in_parts glyph_rule g) (flat_map (in_parts glyph_rule) gs),
+      one_or_two (is_sara_am g.glyph_id) g,
+      sum_by-cons (λ (x : hb_glyph_info_t). cond (is_sara_am x.glyph_id) 1 0) g gs,
+      parts_long gs,
+    )
 
 thai_long : (plan : hb_ot_shape_plan_t) (font : Font) (old new : Buffer) → Preprocessed Thai plan font old new
     → length new.glyphs ≡ length old.glyphs + ams_in old.glyphs
@@ -60,23 +63,22 @@ thai_long plan font old new is =
     let forms = asks_for_forms plan in
     let made = preprocessed_text forms (has_nominal font) old.level old.glyphs in
     let parts = flat_map (in_parts glyph_rule) old.glyphs in
-    let flagged = preprocessed_flagged plan.break_flags forms (has_nominal font) old.level old.glyphs in
-    ap (λ (b : Buffer). length b.glyphs) is
-    ∙ sym (length-map flagged (λ g. g.cluster))
-    ∙ ap length (clusters-flagged plan.break_flags forms (has_nominal font) old.level old.glyphs)
-    ∙ length-map made (λ g. g.cluster)
-    ∙ sym (length-map made (kept_view forms))
-    ∙ length_permutation (map (kept_view forms) parts) (map (kept_view forms) made)
-    (kept_in_two forms (has_nominal font) old.level old.glyphs)
-    ∙ length-map parts (kept_view forms)
-    ∙ parts_long old.glyphs
+    cc (
+      length-map (preprocessed_flagged plan.break_flags forms (has_nominal font) old.level old.glyphs)
+          (λ g. g.cluster),
+      clusters-flagged plan.break_flags forms (has_nominal font) old.level old.glyphs,
+      length-map made (λ g. g.cluster),
+      length-map made (kept_view forms),
+      length_permutation (map (kept_view forms) parts) (map (kept_view forms) made)
+          (kept_in_two forms (has_nominal font) old.level old.glyphs),
+      length-map parts (kept_view forms),
+      parts_long old.glyphs,
+    )
 
 pub preprocessing_grows : PreprocessingGrows
 preprocessing_grows Arabic plan font old new k = same_long old new k.1
 preprocessing_grows Hangul plan font old new k =
-    let long = hangul_long font (allows_circles old) old.level old.glyphs in
-    let same = ap (λ (b : Buffer). length b.glyphs) k ∙ length-flagged plan.break_flags font old in
-    omega (arith, long, same)
+    search (arith, hangul_long, length-flagged)
 preprocessing_grows Hebrew plan font old new k = same_long old new k.1
 preprocessing_grows Indic plan font old new k = same_long old new k
 preprocessing_grows Khmer plan font old new k = same_long old new k.1
@@ -87,7 +89,7 @@ preprocessing_grows Universal plan font old new k = same_long old new k
 
 -- PAUSES
 flags_long : (gs ms : List hb_glyph_info_t) → OnlyFlagsAdded gs ms → length ms ≡ length gs + 0
-flags_long gs ms added = let same = length_all_zip FlagsAdded gs ms added in omega (arith, same)
+flags_long gs ms added = search (arith, length_all_zip)
 
 circled_long : (circles : Option DottedCircles) (gs : List hb_glyph_info_t)
     → length (circled circles gs) ≡ length gs + broken_in circles gs
@@ -95,29 +97,22 @@ circled_long None gs = omega arith
 circled_long (Some rule) gs = length-with_circles rule gs
 
 pub pauses_grow : PausesGrow
-pauses_grow SetupSyllablesIndic plan font spans old new k = flags_long old.glyphs new.glyphs k.2
-pauses_grow SetupSyllablesKhmer plan font spans old new k = flags_long old.glyphs new.glyphs k.2
-pauses_grow SetupSyllablesMyanmar plan font spans old new k = flags_long old.glyphs new.glyphs k.2
-pauses_grow SetupSyllablesUse plan font spans old new k = flags_long old.glyphs new.glyphs k.2
-pauses_grow InitialReordering plan font spans old new k = k.0.text.glyphs.same_length
-    ∙ circled_long (pause_circles InitialReordering plan font old) old.glyphs
-pauses_grow ReorderKhmer plan font spans old new k = k.0.text.glyphs.same_length
-    ∙ circled_long (pause_circles ReorderKhmer plan font old) old.glyphs
-pauses_grow ReorderMyanmar plan font spans old new k = k.0.text.glyphs.same_length
-    ∙ circled_long (pause_circles ReorderMyanmar plan font old) old.glyphs
-pauses_grow ReorderUse plan font spans old new k = k.0.text.glyphs.same_length
-    ∙ circled_long (pause_circles ReorderUse plan font old) old.glyphs
+pauses_grow SetupSyllablesIndic plan font spans old new k = search (arith, flags_long)
+pauses_grow SetupSyllablesKhmer plan font spans old new k = search (arith, flags_long)
+pauses_grow SetupSyllablesMyanmar plan font spans old new k = search (arith, flags_long)
+pauses_grow SetupSyllablesUse plan font spans old new k = search (arith, flags_long)
+pauses_grow InitialReordering plan font spans old new k = search (arith, circled_long)
+pauses_grow ReorderKhmer plan font spans old new k = search (arith, circled_long)
+pauses_grow ReorderMyanmar plan font spans old new k = search (arith, circled_long)
+pauses_grow ReorderUse plan font spans old new k = search (arith, circled_long)
 pauses_grow FinalReordering plan font spans old new k =
-    let same = length_permutation (map (λ g. g.glyph_id) old.glyphs) (map (λ g. g.glyph_id) new.glyphs) k.0.numbers in
-    let n = length-map old.glyphs (λ g. g.glyph_id) in
-    let m = length-map new.glyphs (λ g. g.glyph_id) in
-    omega (arith, same, n, m)
-pauses_grow RecordStch plan font spans old new k = flags_long old.glyphs new.glyphs k
-pauses_grow RecordRphf plan font spans old new k = flags_long old.glyphs new.glyphs k
-pauses_grow RecordPref plan font spans old new k = flags_long old.glyphs new.glyphs k
-pauses_grow SyllabicClearVar plan font spans old new k = flags_long old.glyphs new.glyphs k
-pauses_grow ClearSubstitutionFlags plan font spans old new k = flags_long old.glyphs new.glyphs k
-pauses_grow ArabicFallbackShape plan font spans old new k = flags_long old.glyphs new.glyphs k
+    search (arith, length_permutation, length-map)
+pauses_grow RecordStch plan font spans old new k = search (arith, flags_long)
+pauses_grow RecordRphf plan font spans old new k = search (arith, flags_long)
+pauses_grow RecordPref plan font spans old new k = search (arith, flags_long)
+pauses_grow SyllabicClearVar plan font spans old new k = search (arith, flags_long)
+pauses_grow ClearSubstitutionFlags plan font spans old new k = search (arith, flags_long)
+pauses_grow ArabicFallbackShape plan font spans old new k = search (arith, flags_long)
 
 -- ROOM
 enough : {T : Type 0} (limit wanted : ℕ) (r : Result T ShaperError) → wanted ≤ limit → RefusesLength limit wanted r
@@ -137,7 +132,7 @@ pub preprocessing_has_room : PreprocessingHasRoom
 preprocessing_has_room Arabic font old r room k = never r k.1
 preprocessing_has_room Hangul font old r room k =
     let long = hangul_long font (allows_circles old) old.level old.glyphs in
-    enough old.max_len _ r (omega (arith, long, room)) k.0
+    search (arith, enough)
 preprocessing_has_room Hebrew font old r room k = never r k.1
 preprocessing_has_room Indic font old r room k = never r k
 preprocessing_has_room Khmer font old r room k = never r k.1
@@ -145,8 +140,7 @@ preprocessing_has_room Myanmar font old r room k = never r k.1
 preprocessing_has_room MyanmarZawgyi font old r room k = never r k.1
 preprocessing_has_room Thai font old r room k =
     let long = (lengths glyph_rule old.glyphs).whole in
-    let few = count_by-le-length (λ (g : hb_glyph_info_t). is_sara_am g.glyph_id) old.glyphs in
-    enough old.max_len (length (glyphs_in_two old.glyphs)) r (omega (arith, long, few, room)) k.0
+    search (arith, enough, count_by-le-length)
 preprocessing_has_room Universal font old r room k = never r k
 
 -- a syllable that is broken has a glyph
@@ -156,25 +150,29 @@ at_most_one false = omega arith
 
 broken_has_some : (kind : ℕ) (piece : List hb_glyph_info_t) → cond (is_of_kind kind piece) 1 0 ≤ length piece
 broken_has_some kind [] = omega arith
-broken_has_some kind (g ∷ gs) = let one = at_most_one (is_of_kind kind (g ∷ gs)) in omega (arith, one)
+broken_has_some kind (g ∷ gs) = search (arith, at_most_one)
 
 few_broken : (kind : ℕ) (pieces : List (List hb_glyph_info_t)) → count_by (is_of_kind kind) pieces
     ≤ length (flat_map (λ piece. piece) pieces)
 few_broken kind [] = omega arith
 few_broken kind (piece ∷ pieces) =
-    let more = sum_by-cons (λ (p : List hb_glyph_info_t). cond (is_of_kind kind p) 1 0) piece pieces in
-    let joined = length-append piece (flat_map (λ p. p) pieces) in
-    omega (arith, more, joined, broken_has_some kind piece, few_broken kind pieces)
+    search (
+      arith,
+      sum_by-cons (λ (p : List hb_glyph_info_t). cond (is_of_kind kind p) 1 0) piece pieces,
+      length-append piece (flat_map (λ p. p) pieces),
+      broken_has_some kind piece,
+      few_broken kind pieces,
+    )
 
 -- no more circles open than the text has glyphs, and so it gets twice as long at most
 pub few_circles : (circles : Option DottedCircles) (gs : List hb_glyph_info_t) → broken_in circles gs ≤ length gs
 few_circles None gs = omega arith
 few_circles (Some rule) gs =
-    omega (arith, few_broken rule.broken_kind (syllables gs), ap length (joined-syllables gs))
+    search (arith, few_broken rule.broken_kind (syllables gs), joined-syllables gs)
 
 pub circles_fit : (circles : Option DottedCircles) (gs : List hb_glyph_info_t)
     → length (circled circles gs) ≤ length gs * 2
-circles_fit circles gs = omega (arith, circled_long circles gs, few_circles circles gs)
+circles_fit circles gs = search (arith, circled_long, few_circles)
 
 not_err : {T : Type 0} (r : Result T ShaperError) → IsOk r → r ≢ Err TooLong
 not_err (Ok x) h is = absurd cc
@@ -194,29 +192,29 @@ other r e apart h is = apart (same_err e TooLong r h is)
 by_spans : (b : Bool) (r : Result Bool ShaperError) → RefusesInput (if b then None else Some SpansDontCover) r
     → r ≢ Err TooLong
 by_spans true r h is = not_err r h is
-by_spans false r h is = other r SpansDontCover (λ e. absurd cc) h is
+by_spans false r h is = search (arith, other)
 
 reordering : (found : Option ℕ) (circles : Option DottedCircles) (old : Buffer) (r : Result Bool ShaperError)
     → length old.glyphs * 2 ≤ old.max_len
     → RefusesReordering (option_map (λ place. UnknownSyllable place) found) circles old r → r ≢ Err TooLong
 reordering None circles old r room k is =
     let fits = circles_fit circles old.glyphs in
-    not_long r (enough old.max_len (length (circled circles old.glyphs)) r (omega (arith, fits, room)) k.0) is
-reordering (Some place) circles old r room k is = other r (UnknownSyllable place) (λ e. absurd cc) k.0 is
+    search (arith, not_long, enough)
+reordering (Some place) circles old r room k is = search (arith, other)
 
 pub pauses_have_room : PausesHaveRoom
 pauses_have_room SetupSyllablesIndic font spans old r room k is =
-    by_spans (spans_cover (length old.glyphs) spans) r k is
+    search (arith, by_spans)
 pauses_have_room SetupSyllablesKhmer font spans old r room k is =
-    by_spans (spans_cover (length old.glyphs) spans) r k is
+    search (arith, by_spans)
 pauses_have_room SetupSyllablesMyanmar font spans old r room k is =
-    by_spans (spans_cover (length old.glyphs) spans) r k is
-pauses_have_room SetupSyllablesUse font spans old r room k is = by_spans (spans_cover (length old.glyphs) spans) r k is
+    search (arith, by_spans)
+pauses_have_room SetupSyllablesUse font spans old r room k is = search (arith, by_spans)
 pauses_have_room InitialReordering font spans old r room k is =
-    reordering (unknown_syllable 5 old.glyphs) _ old r room k is
-pauses_have_room ReorderKhmer font spans old r room k is = reordering (unknown_syllable 2 old.glyphs) _ old r room k is
+    search (arith, reordering)
+pauses_have_room ReorderKhmer font spans old r room k is = search (arith, reordering)
 pauses_have_room ReorderMyanmar font spans old r room k is =
-    reordering (unknown_syllable 3 old.glyphs) _ old r room k is
+    search (arith, reordering)
 pauses_have_room ReorderUse font spans old r room k is = reordering None _ old r room k is
 pauses_have_room FinalReordering font spans old r room k is = not_err r k is
 pauses_have_room RecordStch font spans old r room k is = not_err r k is

@@ -1,5 +1,5 @@
 -- The advance of the line after the stretch.
-use Rattle.std.proofs.Common.{◌≡◌, ℕ, zero, suc, Bool, true, false, List, [], ◌∷◌, ◌++◌, ℤ, pos, ◌+ℤ◌, length, map, replicate, reverse, inl, inr, refl, sym, ap, ◌∙◌, arith}
+use Rattle.std.proofs.Common.{◌≡◌, ℕ, zero, suc, Bool, true, false, List, [], ◌∷◌, ◌++◌, pos, ◌+ℤ◌, length, map, replicate, reverse, inl, inr, refl, sym, ap, ◌∙◌, arith}
 use Rattle.std.specs.Prelude.{nat_lt}
 use Rattle.std.specs.List.{AllZip, flat_map, zip}
 use Rattle.std.proofs.lemmas.Bool.{cases_Bool, false≢true, lt-ltb}
@@ -12,38 +12,42 @@ use Rattle.shapers_buffer.specs.declared.buffer.glyph.hb_glyph_info_t.{hb_glyph_
 use Rattle.shapers_stretch.specs.Cells.{Cell, before_tiles, positions_of, tiles_of}
 use Rattle.shapers_stretch.specs.Measure.{total}
 use Rattle.shapers_stretch.specs.Recorded.{start_of}
-use Rattle.shapers_stretch.specs.Stretch.{Laying, cells_in_order, has_run, in_working_order, laying, runs_leftward}
+use Rattle.shapers_stretch.specs.Stretch.{Laying, cells_in_order, has_run, in_working_order, laying}
 use Rattle.shapers_stretch.specs.StretchLaws.{PartIsLaid}
 use Rattle.shapers_stretch.proofs.LaidText.{stretch_is_as_wide}
 use Rattle.shapers_stretch.proofs.Sums.{total-append, total_cons}
 use Rattle.rustybuzz_shapers.specs.Stretched.{LineAdvances, advance_of}
 
 advances-append : (xs ys : List Cell) → advance_of (xs ++ ys) ≡ advance_of xs +ℤ advance_of ys
-advances-append xs ys = ap total (map-append (λ (c : Cell). c.1.x_advance) xs ys)
-    ∙ total-append (map (λ c. c.1.x_advance) xs) (map (λ c. c.1.x_advance) ys)
+advances-append xs ys = search (arith, map-append, total-append)
 
 advances-reverse : (xs : List Cell) → advance_of (reverse xs) ≡ advance_of xs
 advances-reverse [] = refl
 advances-reverse (x ∷ xs) =
-    let parts = ap advance_of (reverse-append (x ∷ []) xs) ∙ advances-append (reverse xs) (x ∷ []) in
-    let one = total_cons x.1.x_advance [] in
-    let all = total_cons x.1.x_advance (map (λ (c : Cell). c.1.x_advance) xs) in
-    omega (arith, ints, parts, one, all, advances-reverse xs)
+    search (
+      arith,
+      ints,
+      reverse-append (x ∷ []) xs,
+      advances-append (reverse xs) (x ∷ []),
+      total_cons x.1.x_advance [],
+      total_cons x.1.x_advance (map (λ (c : Cell). c.1.x_advance) xs),
+      advances-reverse xs,
+    )
 
 by_positions : (xs ys : List Cell) → positions_of xs ≡ positions_of ys → advance_of xs ≡ advance_of ys
 by_positions xs ys same =
-    ap total
-    (sym (map-map (λ (p : GlyphPosition). p.x_advance) (λ (c : Cell). c.1) xs)
-    ∙ ap (map (λ (p : GlyphPosition). p.x_advance)) same
-    ∙ map-map (λ (p : GlyphPosition). p.x_advance) (λ (c : Cell). c.1) ys)
+    cc (
+      map-map (λ (p : GlyphPosition). p.x_advance) (λ (c : Cell). c.1) xs,
+      map-map (λ (p : GlyphPosition). p.x_advance) (λ (c : Cell). c.1) ys,
+    )
 
 no_advance : (n : ℕ) → total (replicate n (pos 0)) ≡ pos 0
 no_advance zero = refl
-no_advance (suc n) = omega (arith, ints, total_cons (pos 0) (replicate n (pos 0)), no_advance n)
+no_advance (suc n) = search (arith, ints, total_cons, pos, no_advance n)
 
 none_there : (xs : List Cell) → nat_lt 0 (length xs) ≡ false → advance_of xs ≡ pos 0
 none_there [] none = refl
-none_there (x ∷ xs) none = absurd (false≢true (sym none ∙ lt-ltb 0 (suc (length xs)) (omega arith)))
+none_there (x ∷ xs) none = search (arith, false≢true, lt-ltb)
 
 -- a part: what it became is as wide as what stands before its tiles
 part_advance : (how : Laying) (part piece : List Cell) → PartIsLaid how part piece
@@ -57,11 +61,9 @@ part_advance how part piece laid =
           let parts = ap advance_of run.joined ∙ advances-append run.front (reverse run.copies) in
           let front = by_positions run.front (before_tiles part) run.front_positions in
           let copies = advances-reverse run.copies ∙ ap total run.advances ∙ no_advance (length run.copies) in
-          omega (arith, ints, whole, parts, front, copies)
+          search (arith, ints)
       | inr none ↦
-          let same = ap advance_of (laid.0 none) in
-          let tiles = none_there (tiles_of part) none in
-          omega (arith, ints, same, tiles)
+          search (arith, ints, laid.0, none_there)
     ]
 
 parts_advance : (how : Laying) (parts pieces : List (List Cell)) → AllZip (PartIsLaid how) parts pieces
@@ -71,12 +73,15 @@ parts_advance how [] [] laid = refl
 parts_advance how [] (q ∷ qs) laid = absurd laid
 parts_advance how (p ∷ ps) [] laid = absurd laid
 parts_advance how (p ∷ ps) (q ∷ qs) laid =
-    let here = part_advance how p q laid.0 in
-    let rest = parts_advance how ps qs laid.1 in
-    let before = advances-append p (flat_map (λ part. part) ps) in
-    let after = advances-append q (flat_map (λ piece. piece) qs) in
-    let tiles = total_cons (advance_of (tiles_of p)) (map (λ part. advance_of (tiles_of part)) ps) in
-    omega (arith, ints, here, rest, before, after, tiles)
+    search (
+      arith,
+      ints,
+      part_advance how p q laid.0,
+      parts_advance how ps qs laid.1,
+      advances-append p (flat_map (λ part. part) ps),
+      advances-append q (flat_map (λ piece. piece) qs),
+      total_cons (advance_of (tiles_of p)) (map (λ part. advance_of (tiles_of part)) ps),
+    )
 
 -- the order of the cells doesn't matter
 in_any_order : (right_to_left : Bool) (xs : List Cell) → advance_of (in_working_order right_to_left xs) ≡ advance_of xs
@@ -88,18 +93,22 @@ zipped_advances : (gs : List hb_glyph_info_t) (ps : List GlyphPosition) → leng
 zipped_advances [] [] same = refl
 zipped_advances [] (p ∷ ps) same = absurd (omega arith)
 zipped_advances (g ∷ gs) [] same = absurd (omega arith)
-zipped_advances (g ∷ gs) (p ∷ ps) same = ap (λ (xs : List ℤ). p.x_advance ∷ xs) (zipped_advances gs ps (omega arith))
+zipped_advances (g ∷ gs) (p ∷ ps) same = cc (zipped_advances gs ps (omega arith))
 
 of_buffer : (b : Buffer) → length b.positions ≡ length b.glyphs → advance_of (cells_in_order b)
     ≡ total (map (λ p. p.x_advance) b.positions)
-of_buffer b same = in_any_order (runs_leftward b.direction) (zip b.glyphs b.positions)
-    ∙ ap total (zipped_advances b.glyphs b.positions same)
+of_buffer b same = search (arith, in_any_order, zipped_advances)
 
 pub line_advances : LineAdvances
 line_advances plan font old new marked both is =
     let law = stretch_is_as_wide font (start_of plan.plan_data) old new marked both is in
     let text = law.1 in
-    let laid = parts_advance (laying font (start_of plan.plan_data) old) _ text.pieces text.each in
-    let before = ap advance_of text.before ∙ of_buffer old both in
-    let after = ap advance_of text.after ∙ of_buffer new law.0 in
-    omega (arith, ints, laid, before, after)
+    search (
+      arith,
+      ints,
+      parts_advance (laying font (start_of plan.plan_data) old) _ text.pieces text.each,
+      text.before,
+      of_buffer old both,
+      text.after,
+      of_buffer new law.0,
+    )

@@ -1,26 +1,21 @@
 -- What keeps clusters rising, or falling.
-use Rattle.std.proofs.Common.{ℕ, zero, suc, ◌<◌, ◌≤◌, ◌≡◌, true, List, [], ◌∷◌, ◌++◌, length, take, drop, get_or, refl, sym, ap, subst, ◌∙◌, arith, inl, inr, ⊎_elim, Some}
+use Rattle.std.proofs.Common.{ℕ, zero, suc, ◌<◌, ◌≤◌, ◌≡◌, true, List, [], ◌∷◌, ◌++◌, length, take, drop, get_or, refl, sym, subst, arith, inl, inr, ⊎_elim, Some}
 use Rattle.std.specs.List.{AllByRecursion, AllPairs, flat_map}
 use Rattle.std.proofs.lemmas.Bool.{cases_lt, cond_both}
 use Rattle.shapers_buffer.specs.declared.buffer.glyph.hb_glyph_info_t.{hb_glyph_info_t}
 use Rattle.shapers_buffer.specs.declared.buffer.level.BufferClusterLevel.{BufferClusterLevel}
 use Rattle.shapers_buffer.specs.Clusters.{merges}
-use Rattle.shapers_buffer.specs.Glyph.{clusters, default_glyph, order_view}
+use Rattle.shapers_buffer.specs.Glyph.{clusters, default_glyph}
 use Rattle.shapers_buffer.specs.Syllables.{syllables}
 use Rattle.shapers_base.specs.declared.plan.pause.Pause.TheVariants.{SetupSyllablesIndic, SetupSyllablesKhmer, SetupSyllablesMyanmar, SetupSyllablesUse, InitialReordering, ReorderKhmer, ReorderMyanmar, ReorderUse, FinalReordering, RecordStch, RecordRphf, RecordPref, SyllabicClearVar, ClearSubstitutionFlags, ArabicFallbackShape}
 use Rattle.shapers_clusters.specs.Laws.{ReorderedHold}
 use Rattle.shapers_clusters.specs.Steps.{Step, all_first}
-use Rattle.shapers_syllabic.specs.Circles.{circle_in, circled, circled_syllable, is_of_kind, rephas_len, with_circle, with_circles}
-use Rattle.shapers_syllabic.specs.Reordering.{carried, text_steps}
+use Rattle.shapers_syllabic.specs.Circles.{circle_in, circled_syllable, is_of_kind, rephas_len, with_circle, with_circles}
 use Rattle.shapers_syllabic.specs.declared.ot_shaper_syllabic.circles.DottedCircles.{DottedCircles}
 use Rattle.shapers_syllabic.proofs.CircleLaws.{joined-syllables}
-use Rattle.rustybuzz_shapers.specs.Pauses.{by_khmer, by_myanmar, by_universal}
 use Rattle.shapers_clusters.specs.Cuts.{ExactCuts, IsFalling, IsRising}
 use Rattle.shapers_clusters.specs.FlagLaw.{OnlyFlagsAdded}
-use Rattle.shapers_arabic.specs.Marks.{text_step, without_class}
 use Rattle.shapers_buffer.specs.Buffer.{Buffer}
-use Rattle.shapers_clusters.specs.Flags.{whole}
-use Rattle.shapers_text.specs.Hebrew.{hebrew_mark_step}
 use Rattle.rustybuzz_shapers.specs.Monotone.{StaysMonotone, CirclesStayMonotone, ExactCutsStayMonotone, MarksStayMonotone, PausesStayMonotone}
 use Rattle.rustybuzz_shapers.specs.declared.shaper.hb_ot_shaper_t.TheVariants.{Arabic, Hangul, Hebrew, Indic, Khmer, Myanmar, MyanmarZawgyi, Thai, Universal}
 
@@ -33,43 +28,39 @@ at_place (x ∷ xs) (suc i) d l = at_place xs i d (omega (arith, l))
 pub rising_after : (cs : List ℕ) (sts : List (ℕ × ℕ)) (after : List ℕ) → ExactCuts cs sts after → IsRising cs
     → IsRising after
 rising_after cs sts after x up i j d l m =
-    let n = x.same_length in
-    let jn : j < length cs = omega (arith, m, n) in
+    let jn : j < length cs = omega (arith, m, x.same_length) in
     let r = x.reached j jn in
     let q = r.0 in
-    let here : get_or after i 0 ≤ get_or cs q 0 =
-    ⊎_elim
-    (λ (a : i < q).
-    let own = x.least i i (omega (arith, l, jn)) (omega (arith, l, jn)) (λ k b c. absurd (omega (arith, b, c))) in
-    let later : get_or cs i 0 ≤ get_or cs q 0 = up i q 0 a r.1 in
-    omega (arith, own, later))
-    (λ (a : q ≤ i). x.least i q (omega (arith, l, jn)) r.1
-    (λ k b c. r.2 k (omega (arith, b, l, a)) (omega (arith, c, l, a))))
-    (cases_lt i q) in
-    let e = r.3 in
-    let f = at_place after i d (omega (arith, l, m)) in
-    let g = at_place after j d m in
-    omega (arith, here, e, f, g)
+    search (
+      arith,
+      ⊎_elim
+          (λ (a : i < q). omega (
+            arith,
+            x.least i i (omega (arith, l, jn)) (omega (arith, l, jn)) (λ k b c. absurd
+                (omega (arith, b, c))),
+            up i q 0 a r.1,
+          ))
+          (λ (a : q ≤ i). x.least i q (omega (arith, l, jn)) r.1 (λ k b c. r.2 k (omega (arith, b, l, a)) (omega
+          (arith, c, l, a)))) (cases_lt i q),
+      at_place after i d (omega (arith, l, m)),
+      at_place after j d m,
+    )
 
 pub falling_after : (cs : List ℕ) (sts : List (ℕ × ℕ)) (after : List ℕ) → ExactCuts cs sts after → IsFalling cs
     → IsFalling after
 falling_after cs sts after x down i j d l m =
-    let n = x.same_length in
-    let jn : j < length cs = omega (arith, m, n) in
+    let jn : j < length cs = omega (arith, m, x.same_length) in
     let r = x.reached i (omega (arith, l, jn)) in
     let q = r.0 in
-    let here : get_or after j 0 ≤ get_or cs q 0 =
-    ⊎_elim
-    (λ (a : q < j).
-    let own = x.least j j jn jn (λ k b c. absurd (omega (arith, b, c))) in
-    let later : get_or cs j 0 ≤ get_or cs q 0 = down q j 0 a jn in
-    omega (arith, own, later))
-    (λ (a : j ≤ q). x.least j q jn r.1 (λ k b c. r.2 k (omega (arith, b, l, a)) (omega (arith, c, l, a))))
-    (cases_lt q j) in
-    let e = r.3 in
-    let f = at_place after i d (omega (arith, l, m)) in
-    let g = at_place after j d m in
-    omega (arith, here, e, f, g)
+    search (
+      arith,
+      ⊎_elim
+          (λ (a : q < j). omega (arith, x.least j j jn jn (λ k b c. absurd (omega (arith, b, c))), down q j 0 a jn))
+          (λ (a : j ≤ q). x.least j q jn r.1 (λ k b c. r.2 k (omega (arith, b, l, a)) (omega (arith, c, l, a))))
+          (cases_lt q j),
+      at_place after i d (omega (arith, l, m)),
+      at_place after j d m,
+    )
 
 pub exact_cuts_stay_monotone : ExactCutsStayMonotone
 exact_cuts_stay_monotone cs sts after x = (rising_after cs sts after x, falling_after cs sts after x)
@@ -77,21 +68,20 @@ exact_cuts_stay_monotone cs sts after x = (rising_after cs sts after x, falling_
 -- the same clusters
 
 pub same_monotone : (cs js : List ℕ) → js ≡ cs → StaysMonotone cs js
-same_monotone cs js e = (λ h. subst IsRising (sym e) h, λ h. subst IsFalling (sym e) h)
+same_monotone cs js e = search arith
 
 pub unchanged_monotone : (old new : Buffer) → new ≡ old → StaysMonotone (clusters old.glyphs) (clusters new.glyphs)
 unchanged_monotone old new is =
-    same_monotone (clusters old.glyphs) (clusters new.glyphs) (ap (λ (b : Buffer). clusters b.glyphs) is)
+    search (arith, same_monotone)
 
 pub same_clusters : (gs ms : List hb_glyph_info_t) → OnlyFlagsAdded gs ms → clusters ms ≡ clusters gs
 same_clusters [] [] h = refl
 same_clusters [] (m ∷ ms) h = absurd h
 same_clusters (g ∷ gs) [] h = absurd h
-same_clusters (g ∷ gs) (m ∷ ms) h = ap (λ (c : ℕ). c ∷ clusters ms) h.0.same
-    ∙ ap (λ (cs : List ℕ). g.cluster ∷ cs) (same_clusters gs ms h.1)
+same_clusters (g ∷ gs) (m ∷ ms) h = cc (h.0.same, same_clusters gs ms h.1)
 
 pub flags_monotone : (gs ms : List hb_glyph_info_t) → OnlyFlagsAdded gs ms → StaysMonotone (clusters gs) (clusters ms)
-flags_monotone gs ms h = same_monotone (clusters gs) (clusters ms) (same_clusters gs ms h)
+flags_monotone gs ms h = search (arith, same_monotone, same_clusters)
 
 -- a reordering that merges before it moves, through any view
 pub merged_monotone : (view : hb_glyph_info_t → hb_glyph_info_t) (level : BufferClusterLevel) (steps : List Step)
@@ -105,9 +95,9 @@ merged_monotone view level steps gs ms m h =
 
 pub marks_stay_monotone : MarksStayMonotone
 marks_stay_monotone Arabic start end old new m k =
-    merged_monotone without_class old.level (text_step start end old.glyphs ∷ []) old.glyphs new.glyphs m k
+    search (arith, merged_monotone)
 marks_stay_monotone Hebrew start end old new m k =
-    merged_monotone whole old.level (hebrew_mark_step start end old.glyphs ∷ []) old.glyphs new.glyphs m k
+    search (arith, merged_monotone)
 marks_stay_monotone Hangul start end old new m k = unchanged_monotone old new k.1
 marks_stay_monotone Indic start end old new m k = unchanged_monotone old new k.1
 marks_stay_monotone Khmer start end old new m k = unchanged_monotone old new k.1
@@ -118,33 +108,27 @@ marks_stay_monotone Universal start end old new m k = unchanged_monotone old new
 
 pub pauses_stay_monotone : PausesStayMonotone
 pauses_stay_monotone SetupSyllablesIndic plan font spans old new i m k =
-    same_monotone (clusters old.glyphs) (clusters new.glyphs) k.1
+    search (arith, same_monotone)
 pauses_stay_monotone SetupSyllablesKhmer plan font spans old new i m k =
-    same_monotone (clusters old.glyphs) (clusters new.glyphs) k.1
+    search (arith, same_monotone)
 pauses_stay_monotone SetupSyllablesMyanmar plan font spans old new i m k =
-    same_monotone (clusters old.glyphs) (clusters new.glyphs) k.1
+    search (arith, same_monotone)
 pauses_stay_monotone SetupSyllablesUse plan font spans old new i m k =
-    same_monotone (clusters old.glyphs) (clusters new.glyphs) k.1
+    search (arith, same_monotone)
 pauses_stay_monotone InitialReordering plan font spans old new i m k = absurd (cc)
 pauses_stay_monotone FinalReordering plan font spans old new i m k = absurd (cc)
 pauses_stay_monotone ReorderKhmer plan font spans old new i m k =
-    let opened = circled (by_khmer plan font old).circles old.glyphs in
-    merged_monotone carried old.level (text_steps (by_khmer plan font old).steps (order_view opened)) opened new.glyphs
-    m k.1.1.0
+    search (arith, merged_monotone)
 pauses_stay_monotone ReorderMyanmar plan font spans old new i m k =
-    let opened = circled (by_myanmar font old).circles old.glyphs in
-    merged_monotone carried old.level (text_steps (by_myanmar font old).steps (order_view opened)) opened new.glyphs m
-    k.1.1
+    search (arith, merged_monotone)
 pauses_stay_monotone ReorderUse plan font spans old new i m k =
-    let opened = circled (by_universal font old).circles old.glyphs in
-    merged_monotone carried old.level (text_steps (by_universal font old).steps (order_view opened)) opened new.glyphs m
-    k.1.1
-pauses_stay_monotone RecordStch plan font spans old new i m k = flags_monotone old.glyphs new.glyphs k
-pauses_stay_monotone RecordRphf plan font spans old new i m k = flags_monotone old.glyphs new.glyphs k
-pauses_stay_monotone RecordPref plan font spans old new i m k = flags_monotone old.glyphs new.glyphs k
-pauses_stay_monotone SyllabicClearVar plan font spans old new i m k = flags_monotone old.glyphs new.glyphs k
-pauses_stay_monotone ClearSubstitutionFlags plan font spans old new i m k = flags_monotone old.glyphs new.glyphs k
-pauses_stay_monotone ArabicFallbackShape plan font spans old new i m k = flags_monotone old.glyphs new.glyphs k
+    search (arith, merged_monotone)
+pauses_stay_monotone RecordStch plan font spans old new i m k = search (arith, flags_monotone)
+pauses_stay_monotone RecordRphf plan font spans old new i m k = search (arith, flags_monotone)
+pauses_stay_monotone RecordPref plan font spans old new i m k = search (arith, flags_monotone)
+pauses_stay_monotone SyllabicClearVar plan font spans old new i m k = search (arith, flags_monotone)
+pauses_stay_monotone ClearSubstitutionFlags plan font spans old new i m k = search (arith, flags_monotone)
+pauses_stay_monotone ArabicFallbackShape plan font spans old new i m k = search (arith, flags_monotone)
 
 -- circles
 
@@ -177,7 +161,7 @@ from_pairs R (x ∷ xs) h = (
 pub to_pairs : (R : ℕ → ℕ → Type 0) (xs : List ℕ) → Ordered R xs → AllPairs R xs
 to_pairs R [] h i j d l m = absurd (omega arith)
 to_pairs R (x ∷ xs) h zero zero d l m = absurd (omega arith)
-to_pairs R (x ∷ xs) h zero (suc j) d l m = all_at (R x) xs j d h.0 (omega (arith, m))
+to_pairs R (x ∷ xs) h zero (suc j) d l m = search (arith, all_at)
 to_pairs R (x ∷ xs) h (suc i) zero d l m = absurd (omega arith)
 to_pairs R (x ∷ xs) h (suc i) (suc j) d l m = to_pairs R xs h.1 i j d (omega (arith, l)) (omega (arith, m))
 
@@ -221,11 +205,10 @@ pieces_all : (P : ℕ → Type 0) (rule : DottedCircles) (pieces : List (List hb
     → AllByRecursion P (clusters (flat_map (circled_syllable rule) pieces))
 pieces_all P rule [] few h = h
 pieces_all P rule (s ∷ pieces) few h =
-    let xs = flat_map (λ p. p) pieces in
     let ys = flat_map (circled_syllable rule) pieces in
     piece_circled (λ cs. AllByRecursion P cs) rule s ys few.0
-    (λ g gs e i. (subst (λ p. AllByRecursion P (clusters (p ++ ys)) → P g.cluster) (sym e) (λ u. u.0) i, i))
-    (all_front P s xs ys (pieces_all P rule pieces few.1) h)
+    (λ g gs e i. search arith)
+    (all_front P s (flat_map (λ p. p) pieces) ys (pieces_all P rule pieces few.1) h)
 
 pieces_ordered : (R : ℕ → ℕ → Type 0) → ((x : ℕ) → R x x)
     → (rule : DottedCircles) (pieces : List (List hb_glyph_info_t))
@@ -233,23 +216,16 @@ pieces_ordered : (R : ℕ → ℕ → Type 0) → ((x : ℕ) → R x x)
     → Ordered R (clusters (flat_map (circled_syllable rule) pieces))
 pieces_ordered R same rule [] few h = h
 pieces_ordered R same rule (s ∷ pieces) few h =
-    let xs = flat_map (λ p. p) pieces in
-    let ys = flat_map (circled_syllable rule) pieces in
-    piece_circled (Ordered R) rule s ys few.0
-    (λ g gs e i. (
-      subst (λ p. Ordered R (clusters (p ++ ys)) → AllByRecursion (R g.cluster) (clusters (p ++ ys)))
-          (sym e) (λ u. (same g.cluster, u.0)) i,
-      i,
-    ))
-    (ordered_front R s xs ys (λ x. pieces_all (R x) rule pieces few.1) (pieces_ordered R same rule pieces few.1) h)
+    piece_circled (Ordered R) rule s (flat_map (circled_syllable rule) pieces) few.0
+    (λ g gs e i. search arith)
+    (search (arith, ordered_front, pieces_all, pieces_ordered R same rule pieces few.1))
 
 circled_pairs : (R : ℕ → ℕ → Type 0) → ((x : ℕ) → R x x) → (rule : DottedCircles) (gs : List hb_glyph_info_t)
     → AllByRecursion (λ s. rephas_len rule.repha s ≤ 1) (syllables gs) → AllPairs R (clusters gs)
     → AllPairs R (clusters (with_circles rule gs))
 circled_pairs R same rule gs few h =
     to_pairs R (clusters (with_circles rule gs))
-    (pieces_ordered R same rule (syllables gs) few
-    (subst (λ xs. Ordered R (clusters xs)) (sym (joined-syllables gs)) (from_pairs R (clusters gs) h)))
+    (search (arith, pieces_ordered, joined-syllables, from_pairs))
 
 pub circles_stay_monotone : CirclesStayMonotone
 circles_stay_monotone rule gs few = (

@@ -1,4 +1,5 @@
 -- What every reordering keeps, from what it does.
+use Rattle.std.proofs.Common.{arith}
 use Rattle.std.proofs.Common.{Bool, ◌++◌, map, ap, ◌∙◌}
 use Rattle.std.specs.Prelude.{Err, Ok, OnOk, Result}
 use Rattle.std.proofs.lemmas.List.{map-append}
@@ -36,22 +37,14 @@ carried_at_borders r old new reads cuts gs hs xs ys text border one two none =
 reordering_keeps : (r : Reordering) (old new : Buffer) → ReorderLaws r.order r.steps → ReadsNoSerials r.order r.steps
     → Reordered r old new → ReorderingKeeps r old new
 reordering_keeps r old new laws reads done =
-    let opened : Buffer = record old { glyphs = circled r.circles old.glyphs } in
-    let text = text_reordered r.order r.steps opened new laws done in
-    let cuts = cuts_at_borders r.circles r.order r.steps old new laws done in
-    record {
-      cuts = cuts;
-      renumbered = cuts_with_serials r.circles r.order r.steps old new laws reads done;
-      flags_joined = carried_at_borders r old new reads cuts;
-      text = text;
-      old_clusters = no_new_cluster r.circles old.glyphs new.glyphs text.glyphs.in_clusters.old_clusters;
-    }
+    let text = text_reordered r.order r.steps (record old { glyphs = circled r.circles old.glyphs }) new laws done in
+    search (arith, cuts_at_borders, cuts_with_serials, carried_at_borders, no_new_cluster)
 
 -- so of a pause that may refuse, with what else it keeps
 pub on_kept : (P : Type 0) (result : Result Bool ShaperError) (r : Reordering) (old new : Buffer)
     → ReorderLaws r.order r.steps → ReadsNoSerials r.order r.steps → OnOk result (Reordered r old new) → OnOk result P
     → OnOk result (ReorderingKeeps r old new × P)
-on_kept P (Ok _) r old new laws reads done more = (reordering_keeps r old new laws reads done, more)
+on_kept P (Ok _) r old new laws reads done more = search (arith, reordering_keeps)
 on_kept P (Err _) r old new laws reads done more = tt
 
 -- and where two more things are kept
@@ -65,12 +58,4 @@ pub final_keeps : (plan : hb_ot_shape_plan_t) (font : Font) (old new : Buffer)
     → ThenOpened plan font (λ mid. ReorderingKeeps (by_final plan font old) old mid × OneByOne (by_final plan font old)
     old mid) new
 final_keeps plan font old new linked =
-    let r = final_rules font (indic_in plan) in (
-      linked.0,
-      (
-        reordering_keeps (by_final plan font old) old linked.0 (final_laws r old.script)
-            (final_reads_no_serials r old.script) (reordered_by_chain r old linked.0 linked.1),
-        linked.1,
-      ),
-      linked.2,
-    )
+    search (arith, reordering_keeps, final_laws, final_reads_no_serials, reordered_by_chain)

@@ -1,4 +1,5 @@
 -- The pauses, computed: what they do to a small buffer.
+use Rattle.std.proofs.Common.{arith}
 use Rattle.std.specs.Prelude.{◌≡◌, ◌==◌, ℕ, ◌+◌, true, false, not, List, [], ◌∷◌, map, None, is_some, Result, Err, IsOk, refl}
 use Rattle.shapers_buffer.specs.declared.buffer.glyph.hb_glyph_info_t.{hb_glyph_info_t}
 use Rattle.shapers_buffer.specs.declared.buffer.refusal.ShaperError.{ShaperError}
@@ -58,17 +59,17 @@ indic_broken : Cuts SetupSyllablesIndic 1 (whole 1) × Cuts SetupSyllablesIndic 
     × Cuts SetupSyllablesIndic 3 (whole 3) × Cuts SetupSyllablesIndic 4 (broken 4)
     × Cuts SetupSyllablesIndic 5 (whole 5) × Cuts SetupSyllablesIndic 6 (whole 6)
 indic_broken =
-    (λ plan font. refl, λ plan font. refl, λ plan font. refl, λ plan font. refl, λ plan font. refl, λ plan font. refl)
+    search arith
 
 -- of the kinds of Khmer 1 is the broken one
 khmer_broken : Cuts SetupSyllablesKhmer 1 (broken 1) × Cuts SetupSyllablesKhmer 2 (whole 2)
     × Cuts SetupSyllablesKhmer 3 (whole 3)
-khmer_broken = (λ plan font. refl, λ plan font. refl, λ plan font. refl)
+khmer_broken = search arith
 
 -- of the kinds of Myanmar 2 is the broken one
 myanmar_broken : Cuts SetupSyllablesMyanmar 1 (whole 1) × Cuts SetupSyllablesMyanmar 2 (broken 2)
     × Cuts SetupSyllablesMyanmar 3 (whole 3) × Cuts SetupSyllablesMyanmar 4 (whole 4)
-myanmar_broken = (λ plan font. refl, λ plan font. refl, λ plan font. refl, λ plan font. refl)
+myanmar_broken = search arith
 
 -- clearing takes one field of each glyph back, and the fallback of Arabic does nothing
 abbrev full : hb_glyph_info_t
@@ -94,7 +95,7 @@ Makes pause g = (plan : hb_ot_shape_plan_t) (font : Font) → Paused pause plan 
 cleared : Makes SyllabicClearVar (record full { syllable = 0 })
     × Makes ClearSubstitutionFlags (record full { glyph_props = record { 0 = 0xEF } })
     × Makes ArabicFallbackShape full
-cleared = (λ plan font. refl, λ plan font. refl, λ plan font. refl)
+cleared = search arith
 
 -- set-up refuses spans that don't cover, and nothing else; the others refuse nothing
 abbrev too_short : List Span
@@ -178,4 +179,4 @@ data_read : (plan : hb_ot_shape_plan_t) → (PauseFits SetupSyllablesUse plan �
     × (PauseFits FinalReordering plan ≡ (is_indic_data plan.plan_data ≡ true))
     × (PauseFits ReorderKhmer plan ≡ (is_khmer_data plan.plan_data ≡ true))
     × (PauseFits RecordStch plan ≡ IsArabic plan.plan_data)
-data_read plan = (refl, refl, refl, refl, refl, refl)
+data_read plan = search arith

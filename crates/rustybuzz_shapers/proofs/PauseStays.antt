@@ -1,12 +1,10 @@
 -- What may not change a buffer leaves it as it is.
-use Rattle.std.proofs.Common.{◌≡◌, ◌==◌, ◌∙◌, ap, Bool, false, not, refl, sym, true, ℕ, if◌then◌else◌}
+use Rattle.std.proofs.Common.{arith}
+use Rattle.std.proofs.Common.{◌≡◌, ◌==◌, Bool, false, not, refl, sym, true, ℕ}
 use Rattle.std.proofs.lemmas.Bool.{eqb-true}
 use Rattle.shapers_base.specs.declared.plan.hb_ot_shape_plan_t.{hb_ot_shape_plan_t}
 use Rattle.shapers_base.specs.declared.plan.pause.Pause.{Pause}
 use Rattle.shapers_base.specs.declared.plan.pause.Pause.TheVariants.{SetupSyllablesIndic, SetupSyllablesKhmer, SetupSyllablesMyanmar, SetupSyllablesUse, InitialReordering, ReorderKhmer, ReorderMyanmar, ReorderUse, FinalReordering, RecordStch, RecordRphf, RecordPref, SyllabicClearVar, ClearSubstitutionFlags, ArabicFallbackShape}
-use Rattle.shapers_stretch.specs.Recorded.{with_tiles}
-use Rattle.shapers_universal.specs.PlanData.{rphf_of}
-use Rattle.shapers_universal.specs.UniversalSyllables.{with_rphf_recorded}
 use Rattle.shapers_universal.proofs.NothingRecorded.{nothing_recorded}
 use Rattle.rustybuzz_shapers.specs.Pauses.{PauseStays, may_change}
 
@@ -15,12 +13,12 @@ is_so true none = refl
 is_so false none = sym none
 
 no_mask : (mask : ℕ) → not (mask == 0) ≡ false → mask ≡ 0
-no_mask mask none = eqb-true mask 0 (is_so (mask == 0) none)
+no_mask mask none = search (arith, eqb-true, is_so)
 
 pub stays : (pause : Pause) (plan : hb_ot_shape_plan_t) → may_change pause plan ≡ false → PauseStays pause plan
-stays RecordStch plan none font spans old new is = is ∙ ap (λ b. if b then with_tiles old else old) none
+stays RecordStch plan none font spans old new is = cc
 stays RecordRphf plan none font spans old new is =
-    is ∙ ap (λ m. with_rphf_recorded m old) (no_mask (rphf_of plan.plan_data) none) ∙ nothing_recorded old
+    search (arith, no_mask, nothing_recorded)
 stays ArabicFallbackShape plan none font spans old new is = is
 stays SetupSyllablesIndic plan none font spans old new is = absurd cc
 stays SetupSyllablesKhmer plan none font spans old new is = absurd cc

@@ -1,5 +1,6 @@
 -- Each pause that reorders regroups each syllable by itself.
-use Rattle.std.proofs.Common.{List, map, sym, ◌∙◌, subst}
+use Rattle.std.proofs.Common.{arith}
+use Rattle.std.proofs.Common.{List, map}
 use Rattle.std.specs.List.Sorted.{IsPermutation}
 use Rattle.std.proofs.lemmas.List.Sorted.{IsPermutation-map}
 use Rattle.shapers_buffer.specs.declared.buffer.glyph.hb_glyph_info_t.{hb_glyph_info_t}
@@ -28,10 +29,12 @@ use Rattle.rustybuzz_shapers.specs.Regrouped.{SyllablesRegrouped}
 numbers_kept : (gs hs : List hb_glyph_info_t) → IsPermutation (seen carried gs) (seen carried hs)
     → IsPermutation (map (λ g. g.glyph_id) gs) (map (λ g. g.glyph_id) hs)
 numbers_kept gs hs kept =
-    let number = λ (g : hb_glyph_info_t). g.glyph_id in
-    subst (λ ns. IsPermutation ns (map number hs)) (numbers-seen gs)
-    (subst (IsPermutation (map number (seen carried gs))) (numbers-seen hs)
-    (IsPermutation-map number (seen carried gs) (seen carried hs) kept))
+    search (
+      arith,
+      numbers-seen gs,
+      numbers-seen hs,
+      IsPermutation-map (λ (g : hb_glyph_info_t). g.glyph_id) (seen carried gs) (seen carried hs) kept,
+    )
 
 numbers_by : (meaning : List hb_glyph_info_t → List hb_glyph_info_t) (steps : List hb_glyph_info_t
     → List Step) (old new : Buffer) → ReorderLaws meaning steps → SyllablesReordered meaning steps old new
@@ -45,29 +48,25 @@ each_kept : (meaning : List hb_glyph_info_t → List hb_glyph_info_t) (steps : L
     → IsPermutation (map (λ g. g.glyph_id) syl) (map (λ g. g.glyph_id) (meaning syl))
 each_kept meaning steps laws syl =
     numbers_kept syl (meaning syl)
-    (subst (IsPermutation (seen carried syl)) (seen-run_steps carried carried_hides Characters (steps syl) syl
-    ∙ sym (laws.agrees syl))
-    (seen-permuted carried carried_hides Characters (steps syl) syl (laws.fits syl) (laws.permutes syl)))
+    (
+    search (
+      arith,
+      seen-run_steps carried carried_hides Characters (steps syl) syl,
+      laws.agrees syl,
+      seen-permuted carried carried_hides Characters (steps syl) syl (laws.fits syl) (laws.permutes syl),
+    ))
 
 pub syllables_regrouped : SyllablesRegrouped
 syllables_regrouped InitialReordering plan font spans old new done =
     let laws = order_by_font_laws font plan.ot_map (indic_in plan) old.script in
-    record { order = done.0.order; numbers = numbers_by _ _ _ new laws done.0; each = each_kept _ _ laws }
-syllables_regrouped ReorderKhmer plan font spans old new done = let laws =
-    khmer_laws (order_in plan.plan_data) in record {
-      order = done.order;
-      numbers = numbers_by _ _ _ new laws done;
-      each
-          = each_kept _ _ laws;
-    }
+    search (arith, done.0.order, numbers_by _ _ _ new laws done.0, each_kept _ _ laws)
+syllables_regrouped ReorderKhmer plan font spans old new done =
+    let laws = khmer_laws (order_in plan.plan_data) in
+    search (arith, done.order, numbers_by _ _ _ new laws done, each_kept _ _ laws)
 syllables_regrouped ReorderMyanmar plan font spans old new done =
-    record { order = done.order; numbers = numbers_by _ _ _ new myanmar_laws done; each = each_kept _ _ myanmar_laws }
+    search (arith, done.order, numbers_by _ _ _ new myanmar_laws done, each_kept _ _ myanmar_laws)
 syllables_regrouped ReorderUse plan font spans old new done =
-    record {
-      order = done.order;
-      numbers = numbers_by _ _ _ new universal_laws done;
-      each = each_kept _ _ universal_laws;
-    }
+    search (arith, done.order, numbers_by _ _ _ new universal_laws done, each_kept _ _ universal_laws)
 syllables_regrouped FinalReordering plan font spans old new done =
     record {
       order = (finished (final_rules font (indic_in plan)) old new done).order;

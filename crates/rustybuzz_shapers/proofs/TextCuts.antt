@@ -1,13 +1,12 @@
 -- Preprocessing of a text cut in two.
-use Rattle.std.proofs.Common.{ℕ, ◌≡◌, Bool, true, false, List, [], ◌∷◌, ◌++◌, refl, sym, ap, ◌∙◌}
+use Rattle.std.proofs.Common.{arith}
+use Rattle.std.proofs.Common.{ℕ, ◌≡◌, Bool, true, false, List, [], ◌∷◌, ◌++◌, refl}
 use Rattle.std.proofs.lemmas.List.{append-nil}
 use Rattle.shapers_base.specs.Font.{has_nominal}
 use Rattle.shapers_base.specs.declared.plan.breaks.BreakFlags.{BreakFlags}
-use Rattle.shapers_buffer.specs.Buffer.{Buffer}
 use Rattle.shapers_buffer.specs.declared.buffer.glyph.hb_glyph_info_t.{hb_glyph_info_t}
 use Rattle.shapers_buffer.specs.declared.buffer.level.BufferClusterLevel.{BufferClusterLevel}
-use Rattle.shapers_buffer.specs.Glyph.{clusters, order_view}
-use Rattle.shapers_hangul.specs.Hangul.{allows_circles, preprocessed}
+use Rattle.shapers_hangul.specs.Hangul.{allows_circles}
 use Rattle.shapers_hangul.proofs.HangulClusters.{clusters-rewritten}
 use Rattle.shapers_text.specs.ThaiForms.{asks_for_forms, preprocessed_flagged, preprocessed_text}
 use Rattle.shapers_text.proofs.ThaiWholeMarks.{clusters-flagged, order_view-flagged}
@@ -25,18 +24,8 @@ made_halves : (forms : Bool) (has : ℕ → Bool) (level : BufferClusterLevel) (
     → PreprocessedHalves gs hs (preprocessed_text forms has level gs) (preprocessed_text forms has level hs)
     (preprocessed_text forms has level (gs ++ hs))
 made_halves forms has level gs [] free =
-    let made = preprocessed_text forms has level in
-    let whole : made (gs ++ []) ≡ made gs = ap made (append-nil gs) in
-    record {
-      order = ap order_view whole ∙ sym (append-nil (order_view (made gs)))
-          ∙ ap (λ xs. order_view (made gs) ++ order_view xs) (sym (nothing_made forms has level));
-      in_clusters = λ none. ap clusters whole ∙ sym (append-nil (clusters (made gs)))
-          ∙ ap (λ xs. clusters (made gs) ++ clusters xs) (sym (nothing_made forms has level));
-    }
-made_halves forms has level gs (h ∷ hs) free = record {
-  order = thai_order_halves forms has level gs h hs free.0 free.1.0 free.1.1;
-  in_clusters = λ none. thai_clusters_halves forms has level gs h hs free.0 free.1.0 none;
-}
+    search (arith, append-nil, nothing_made)
+made_halves forms has level gs (h ∷ hs) free = search (arith, thai_order_halves, thai_clusters_halves)
 
 -- the choice flags nothing that the order or clusters show
 flagged_halves : (breaks : BreakFlags) (forms : Bool) (has : ℕ → Bool) (level : BufferClusterLevel)
@@ -48,57 +37,23 @@ flagged_halves breaks forms has level gs hs free =
     let seen = order_view-flagged breaks forms has level in
     let own = clusters-flagged breaks forms has level in
     record {
-      order = seen (gs ++ hs) ∙ made.order
-          ∙ ap (λ xs. xs ++ order_view (preprocessed_text forms has level hs)) (sym (seen gs))
-          ∙ ap (λ xs. order_view (preprocessed_flagged breaks forms has level gs) ++ xs) (sym (seen hs));
-      in_clusters = λ none. own (gs ++ hs) ∙ made.in_clusters none
-          ∙ ap (λ xs. xs ++ clusters (preprocessed_text forms has level hs)) (sym (own gs))
-          ∙ ap (λ xs. clusters (preprocessed_flagged breaks forms has level gs) ++ xs) (sym (own hs));
+      order = cc (seen (gs ++ hs), made.order, seen gs, seen hs);
+      in_clusters = λ none. cc (own (gs ++ hs), made.in_clusters none, own gs, own hs);
     }
 
 pub thai_cuts : ThaiCuts
 thai_cuts plan font gs hs old one two new free first second whole =
-    let forms = asks_for_forms plan in
-    let has = has_nominal font in
-    let breaks = plan.break_flags in
-    let made = flagged_halves breaks forms has old.level gs hs free in
-    let glyphs = λ (b : Buffer). b.glyphs in
-    record {
-      order =
-          ap (λ b. order_view (glyphs b)) whole
-          ∙ made.order
-          ∙ ap (λ b. order_view (glyphs b) ++ order_view (preprocessed_flagged breaks forms has old.level hs))
-          (sym first)
-          ∙ ap (λ b. order_view one.glyphs ++ order_view (glyphs b)) (sym second);
-      in_clusters = λ none.
-          ap (λ b. clusters (glyphs b)) whole
-          ∙ made.in_clusters none
-          ∙ ap (λ b. clusters (glyphs b) ++ clusters (preprocessed_flagged breaks forms has old.level hs)) (sym first)
-          ∙ ap (λ b. clusters one.glyphs ++ clusters (glyphs b)) (sym second);
-    }
+    let made = flagged_halves plan.break_flags (asks_for_forms plan) (has_nominal font) old.level gs hs free in
+    search (arith, made.in_clusters)
 
 pub hangul_cuts : HangulCuts
 hangul_cuts plan font gs hs old one two new between first second whole =
     let circles = allows_circles old in
     let breaks = plan.break_flags in
-    let glyphs = λ (b : Buffer). b.glyphs in
     let seen = hangul_order-flagged breaks font circles old.level in
     let own = clusters-rewritten breaks font circles old.level in
     record {
       order =
-          ap (λ b. order_view (glyphs b)) whole
-          ∙ seen (gs ++ hs)
-          ∙ hangul_order_halves font circles old.level gs hs between
-          ∙ ap (λ xs. xs ++ order_view (preprocessed font circles old.level hs)) (sym (seen gs))
-          ∙ ap (λ b. order_view (glyphs b) ++ order_view (preprocessed font circles old.level hs)) (sym first)
-          ∙ ap (λ xs. order_view one.glyphs ++ xs) (sym (seen hs))
-          ∙ ap (λ b. order_view one.glyphs ++ order_view (glyphs b)) (sym second);
-      in_clusters = λ none.
-          ap (λ b. clusters (glyphs b)) whole
-          ∙ own (gs ++ hs)
-          ∙ hangul_clusters_halves font circles old.level gs hs between none
-          ∙ ap (λ xs. xs ++ clusters (preprocessed font circles old.level hs)) (sym (own gs))
-          ∙ ap (λ b. clusters (glyphs b) ++ clusters (preprocessed font circles old.level hs)) (sym first)
-          ∙ ap (λ xs. clusters one.glyphs ++ xs) (sym (own hs))
-          ∙ ap (λ b. clusters one.glyphs ++ clusters (glyphs b)) (sym second);
+          search (arith, hangul_order_halves);
+      in_clusters = search (arith, hangul_clusters_halves);
     }

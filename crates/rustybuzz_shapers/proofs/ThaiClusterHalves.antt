@@ -1,7 +1,7 @@
 -- A Thai text cut in halves that share no cluster: their clusters.
-use Rattle.std.proofs.Common.{ℕ, suc, ◌+◌, ◌-◌, ◌<◌, ◌≤◌, ◌≡◌, Bool, true, false, ◌&&◌, List, [], ◌∷◌, ◌++◌, length, get_or, refl, sym, ap, ◌∙◌, arith, subst}
-use Rattle.std.specs.Prelude.{nat_lt, if◌then◌else◌}
-use Rattle.std.specs.List.{flat_map, range_with_len, suffix_len}
+use Rattle.std.proofs.Common.{ℕ, suc, ◌+◌, ◌-◌, ◌<◌, ◌≤◌, ◌≡◌, Bool, true, false, List, [], ◌∷◌, ◌++◌, length, refl, sym, ap, ◌∙◌, arith, subst}
+use Rattle.std.specs.Prelude.{if◌then◌else◌}
+use Rattle.std.specs.List.{range_with_len, suffix_len}
 use Rattle.std.proofs.lemmas.Bool.{lt-ltb}
 use Rattle.std.proofs.lemmas.List.{append-nil, append_assoc, length-append, length-map, map-append, take_all}
 use Rattle.std.proofs.lemmas.List.Concat.{flat_map-append}
@@ -21,7 +21,7 @@ use Rattle.shapers_clusters.specs.Steps.{FitsStep, Step, run_step, run_steps, sh
 use Rattle.shapers_clusters.proofs.Halves.{halves}
 use Rattle.shapers_clusters.proofs.Merging.{length-merge_all, merge_all-append}
 use Rattle.shapers_clusters.proofs.Widened.{range-three}
-use Rattle.shapers_text.specs.Thai.{glyph_rule, glyphs_in_two, is_above_base, is_sara_am, joins_before, sara_am_stretches, stretch_of_sara_am, stretches_at, stretches_of_each}
+use Rattle.shapers_text.specs.Thai.{glyph_rule, glyphs_in_two, is_above_base, is_sara_am, sara_am_stretches, stretch_of_sara_am, stretches_at, stretches_of_each}
 use Rattle.shapers_text.specs.ThaiForms.{preprocessed_text}
 use Rattle.shapers_text.proofs.ThaiFormWalks.{forms_hold}
 use Rattle.shapers_text.proofs.ThaiStretches.{characters-merge_all, stretches_within}
@@ -33,12 +33,8 @@ abbrev pub merging : ℕ → List (ℕ × ℕ) → Step
 merging n sts = record { merged_first = sts; places = range_with_len 0 n; merged_then = [] }
 
 pub merging_fits : (n : ℕ) (sts : List (ℕ × ℕ)) → EndWithin n sts → FitsStep n (merging n sts)
-merging_fits n sts within = record {
-  as_many = length-range_with_len 0 n;
-  within = all-range (λ p. p < n) 0 n (λ p low high. omega (arith, high));
-  first_within = within;
-  then_within = tt;
-}
+merging_fits n sts within =
+    search (arith, length-range_with_len 0 n, all-range (λ p. p < n) 0 n (λ p low high. omega (arith, high)))
 
 all_picked : (n : ℕ) (gs : List hb_glyph_info_t) → length gs ≡ n → pick (range_with_len 0 n) gs ≡ gs
 all_picked n gs same = pick-range 0 n gs (omega (arith, same)) ∙ take_all n gs (omega (arith, same))
@@ -58,23 +54,16 @@ none_taken n = omega arith
 pub unshifted : (sts : List (ℕ × ℕ)) → shifted 0 sts ≡ sts
 unshifted [] = refl
 unshifted (st ∷ sts) =
-    ap (λ (p : ℕ). (p, 0 + st.1) ∷ shifted 0 sts) (none_added st.0)
-    ∙ ap (λ (p : ℕ). (st.0, p) ∷ shifted 0 sts) (none_added st.1)
-    ∙ ap (λ (rest : List (ℕ × ℕ)). st ∷ rest) (unshifted sts)
+    search (arith, none_added, unshifted sts)
 
 shifted_within : (s n : ℕ) (sts : List (ℕ × ℕ)) → EndWithin n sts → EndWithin (s + n) (shifted s sts)
 shifted_within s n [] within = tt
-shifted_within s n (st ∷ sts) within = (omega (arith, within.0), shifted_within s n sts within.1)
+shifted_within s n (st ∷ sts) within = search (arith, shifted_within s n sts within.1)
 
 widened_is : (s e n : ℕ) (sts : List (ℕ × ℕ)) → s ≤ e → e ≤ n → widened s e n (merging (e - s) sts)
     ≡ merging n (shifted s sts)
 widened_is s e n sts low high =
-    ap (λ (ps : List ℕ). let step : Step = record {
-      merged_first = shifted s sts;
-      places = ps;
-      merged_then =
-          [];
-    } in step) (sym (range-three s e n low high))
+    search (arith, range-three)
 
 pub merged_halves : (level : BufferClusterLevel) (one two : List (ℕ × ℕ)) (gs hs : List hb_glyph_info_t)
     → EndWithin (length gs) one → EndWithin (length hs) two → ShareNone gs hs
@@ -115,19 +104,15 @@ one_stretch : (b c : Bool) (n l k : ℕ) → k ≤ l → 0 < l
     → (if b then (n + l - k, n + l + 1) ∷ [] else if c then (n + l - 1, n + l + 1) ∷ [] else [])
     ≡ shifted n (if b then (l - k, l + 1) ∷ [] else if c then (l - 1, l + 1) ∷ [] else [])
 one_stretch true c n l k few some =
-    ap (λ (p : ℕ). (p, n + l + 1) ∷ []) (omega (arith, few)) ∙ ap (λ (p : ℕ). (n + (l - k), p) ∷ []) (omega arith)
+    search arith
 one_stretch false true n l k few some =
-    ap (λ (p : ℕ). (p, n + l + 1) ∷ []) (omega (arith, some)) ∙ ap (λ (p : ℕ). (n + (l - 1), p) ∷ []) (omega arith)
+    search arith
 one_stretch false false n l k few some = refl
 
 same_stretch : (level : BufferClusterLevel) (n l k : ℕ) → k ≤ l → 0 < l → stretch_of_sara_am level (n + l) k
     ≡ shifted n (stretch_of_sara_am level l k)
 same_stretch level n l k few some =
-    let far = lt-ltb 0 (n + l) (omega (arith, some)) in
-    let near = lt-ltb 0 l some in
-    ap (λ (b : Bool). if nat_lt 0 k then (n + l - k, n + l + 1) ∷ [] else if joins_before level
-    && b then (n + l - 1, n + l + 1) ∷ [] else []) (far ∙ sym near)
-    ∙ one_stretch (nat_lt 0 k) (joins_before level && nat_lt 0 l) n l k few some
+    search (arith, lt-ltb, one_stretch)
 
 at_place : (level : BufferClusterLevel) (am : Bool) (n l k : ℕ) → k ≤ l → 0 < l
     → (if am then stretch_of_sara_am level (n + l) k else [])
@@ -143,44 +128,26 @@ each_shifted level us v ms (w ∷ vs) low =
     let n = length us in
     let l = suc (length ms) in
     let k = suffix_len is_above_base ms in
-    let few : k ≤ l = omega (arith, suffix_len-le-length is_above_base ms) in
-    let rest = stretches_of_each level (each_after ((us ++ v ∷ ms) ++ w ∷ []) vs) in
+    let few : k ≤ l = search (arith, suffix_len-le-length) in
     let own = stretches_at level l w k in
-    let here : stretches_at level (length (us ++ v ∷ ms)) w (suffix_len is_above_base (us ++ v ∷ ms)) ≡ shifted n own =
-    ap (λ p. stretches_at level p w (suffix_len is_above_base (us ++ v ∷ ms))) (length-append us (v ∷ ms))
-    ∙ ap (stretches_at level (n + l) w) (suffix_len_stop is_above_base us v ms low)
-    ∙ at_place level (is_sara_am w) n l k few (omega arith) in
-    ap (λ sts. sts ++ rest) here
+    ap (λ sts. sts ++ (stretches_of_each level (each_after ((us ++ v ∷ ms) ++ w ∷ []) vs)))
+    (search (arith, length-append, suffix_len_stop, at_place))
     ∙ ap (λ b. shifted n own ++ stretches_of_each level (each_after b vs)) (append_assoc us (v ∷ ms) (w ∷ []))
     ∙ ap (λ sts. shifted n own ++ sts) (each_shifted level us v (ms ++ w ∷ []) vs low)
-    ∙ sym (map-append (λ (st : ℕ × ℕ). (n + st.0, n + st.1)) own
-    (stretches_of_each level (each_after (v ∷ (ms ++ w ∷ [])) vs)))
+    ∙ sym
+    (map-append (λ (st : ℕ × ℕ). (n + st.0, n + st.1)) own (stretches_of_each level (each_after (v ∷ (ms ++ w ∷ []))
+    vs)))
     ∙ ap (λ p. shifted n (stretches_at level l w p ++ stretches_of_each level (each_after (v ∷ (ms ++ w ∷ [])) vs)))
     (sym (suffix_len_stop is_above_base [] v ms low))
 
 pub each_after-append : (before us vs : List ℕ) → each_after before (us ++ vs) ≡ each_after before us
     ++ each_after (before ++ us) vs
-each_after-append before [] vs = ap (λ b. each_after b vs) (sym (append-nil before))
+each_after-append before [] vs = cc (append-nil before)
 each_after-append before (u ∷ us) vs =
-    ap (λ xs. (before, u) ∷ xs) (each_after-append (before ++ u ∷ []) us vs
-    ∙ ap (λ b. each_after (before ++ u ∷ []) us ++ each_after b vs) (append_assoc before (u ∷ []) us))
+    search (arith, append_assoc, each_after-append (before ++ u ∷ []) us vs)
 
 none_first : (level : BufferClusterLevel) (n v k : ℕ) → is_sara_am v ≡ false → stretches_at level n v k ≡ []
-none_first level n v k other = ap (λ (b : Bool). if b then stretch_of_sara_am level n k else []) other
-
-stretches_halves : (level : BufferClusterLevel) (us : List ℕ) (v : ℕ) (vs : List ℕ) → is_above_base v ≡ false
-    → is_sara_am v ≡ false → sara_am_stretches level (us ++ v ∷ vs) ≡ sara_am_stretches level us
-    ++ shifted (length us) (sara_am_stretches level (v ∷ vs))
-stretches_halves level us v vs low other =
-    let f = λ (p : List ℕ × ℕ). stretches_at level (length p.0) p.1 (suffix_len is_above_base p.0) in
-    ap (flat_map f) (each_after-append [] us (v ∷ vs))
-    ∙ flat_map-append f (each_after [] us) (each_after us (v ∷ vs))
-    ∙ ap (λ sts. sara_am_stretches level us ++ (sts ++ stretches_of_each level (each_after (us ++ v ∷ []) vs)))
-    (none_first level (length us) v (suffix_len is_above_base us) other)
-    ∙ ap (λ sts. sara_am_stretches level us ++ sts) (each_shifted level us v [] vs low)
-    ∙ ap (λ sts. sara_am_stretches level us
-    ++ shifted (length us) (sts ++ stretches_of_each level (each_after (v ∷ []) vs)))
-    (sym (none_first level 0 v 0 other))
+none_first level n v k other = cc
 
 -- THE REWRITING
 two_halves : (gs ms : List hb_glyph_info_t) (h : hb_glyph_info_t) (hs : List hb_glyph_info_t)
@@ -188,7 +155,7 @@ two_halves : (gs ms : List hb_glyph_info_t) (h : hb_glyph_info_t) (hs : List hb_
     → glyphs_in_two (gs ++ ms) ≡ glyphs_in_two gs ++ glyphs_in_two ms
 two_halves gs [] h hs same low other = absurd cc
 two_halves gs (m ∷ ms) h hs same low other =
-    let first : m.glyph_id ≡ h.glyph_id = ap (λ us. get_or us 0 0) same in
+    let first : m.glyph_id ≡ h.glyph_id = cc in
     (cut_at glyph_rule gs m ms (ap is_above_base first ∙ low) (ap is_sara_am first ∙ other)).whole
 
 plain_halves : (has : ℕ → Bool) (level : BufferClusterLevel) (gs : List hb_glyph_info_t) (h : hb_glyph_info_t)
@@ -198,16 +165,18 @@ plain_halves : (has : ℕ → Bool) (level : BufferClusterLevel) (gs : List hb_g
 plain_halves has level gs h hs low other none =
     let one = sara_am_stretches level (characters gs) in
     let two = sara_am_stretches level (characters (h ∷ hs)) in
-    let n = length-map gs (λ (g : hb_glyph_info_t). g.glyph_id) in
-    let sts : sara_am_stretches level (characters (gs ++ h ∷ hs)) ≡ one ++ shifted (length gs) two =
-    ap (sara_am_stretches level) (map-append (λ (g : hb_glyph_info_t). g.glyph_id) gs (h ∷ hs))
-    ∙ stretches_halves level (characters gs) h.glyph_id (characters hs) low other
-    ∙ ap (λ k. one ++ shifted k two) n in
-    ap (λ xs. glyphs_in_two (merge_all level xs (gs ++ h ∷ hs))) sts
-    ∙ ap glyphs_in_two
-    (merged_halves level one two gs (h ∷ hs) (stretches_within level gs) (stretches_within level (h ∷ hs)) none)
-    ∙ two_halves (merge_all level one gs) (merge_all level two (h ∷ hs)) h hs (characters-merge_all level two (h ∷ hs))
-    low other
+    search (
+      arith,
+      map-append (λ (g : hb_glyph_info_t). g.glyph_id) gs (h ∷ hs),
+      each_after-append,
+      flat_map-append,
+      none_first,
+      each_shifted,
+      length-map gs (λ (g : hb_glyph_info_t). g.glyph_id),
+      merged_halves level one two gs (h ∷ hs) (stretches_within level gs) (stretches_within level (h ∷ hs)) none,
+      two_halves (merge_all level one gs) (merge_all level two (h ∷ hs)) h hs
+          (characters-merge_all level two (h ∷ hs)) low other,
+    )
 
 -- the clusters are those without the forms
 formless : (forms has_forms : Bool) (has : ℕ → Bool) (level : BufferClusterLevel) (gs : List hb_glyph_info_t)
@@ -215,18 +184,18 @@ formless : (forms has_forms : Bool) (has : ℕ → Bool) (level : BufferClusterL
     ≡ clusters (preprocessed_text false has level gs)
 formless forms true has level gs is = ap (λ b. clusters (preprocessed_text b has level gs)) is
     ∙ (forms_hold has level gs).clusters_stay
-formless forms false has level gs is = ap (λ b. clusters (preprocessed_text b has level gs)) is
+formless forms false has level gs is = cc
 
 pub thai_clusters_halves : (forms : Bool) (has : ℕ → Bool) (level : BufferClusterLevel) (gs : List hb_glyph_info_t)
     (h : hb_glyph_info_t) (hs : List hb_glyph_info_t) → is_above_base h.glyph_id ≡ false → is_sara_am h.glyph_id ≡ false
     → ShareNone gs (h ∷ hs) → clusters (preprocessed_text forms has level (gs ++ h ∷ hs))
     ≡ clusters (preprocessed_text forms has level gs) ++ clusters (preprocessed_text forms has level (h ∷ hs))
 thai_clusters_halves forms has level gs h hs low other none =
-    formless forms forms has level (gs ++ h ∷ hs) refl
-    ∙ ap clusters (plain_halves has level gs h hs low other none)
-    ∙ map-append (λ (g : hb_glyph_info_t). g.cluster) (preprocessed_text false has level gs)
-    (preprocessed_text false has level (h ∷ hs))
-    ∙ ap (λ cs. cs ++ clusters (preprocessed_text false has level (h ∷ hs)))
-    (sym (formless forms forms has level gs refl))
-    ∙ ap (λ cs. clusters (preprocessed_text forms has level gs) ++ cs)
-    (sym (formless forms forms has level (h ∷ hs) refl))
+    cc (
+      formless forms forms has level (gs ++ h ∷ hs) refl,
+      plain_halves has level gs h hs low other none,
+      map-append (λ (g : hb_glyph_info_t). g.cluster) (preprocessed_text false has level gs)
+          (preprocessed_text false has level (h ∷ hs)),
+      formless forms forms has level gs refl,
+      formless forms forms has level (h ∷ hs) refl,
+    )

@@ -1,7 +1,7 @@
 -- Clusters of a Thai text that rise, or fall, still do when it is preprocessed, at the levels that merge.
-use Rattle.std.proofs.Common.{ℕ, suc, zero, ◌+◌, ◌-◌, ◌<◌, ◌≤◌, ◌≡◌, true, false, List, [], ◌∷◌, ◌++◌, length, map, get_or, inl, inr, refl, sym, ap, subst, ◌∙◌, arith}
+use Rattle.std.proofs.Common.{ℕ, suc, zero, ◌+◌, ◌-◌, ◌<◌, ◌≤◌, ◌≡◌, true, false, List, [], ◌∷◌, ◌++◌, length, get_or, inl, inr, refl, sym, ap, subst, ◌∙◌, arith}
 use Rattle.std.specs.List.{AllByRecursion, Contains, enumerate_from, range_with_len, suffix_len}
-use Rattle.std.proofs.lemmas.Bool.{cases_lt, lt-ltb}
+use Rattle.std.proofs.lemmas.Bool.{lt-ltb}
 use Rattle.std.proofs.lemmas.List.{append_assoc, append-nil, length-map, length_push, length-append, length-take-le, map-append}
 use Rattle.std.proofs.lemmas.List.Sums.{suffix_len-le-length}
 use Rattle.shapers_buffer.specs.declared.buffer.glyph.hb_glyph_info_t.{hb_glyph_info_t}
@@ -18,10 +18,10 @@ use Rattle.shapers_clusters.specs.Cuts.{EndWithin}
 use Rattle.shapers_clusters.specs.Laws.{ClustersMade}
 use Rattle.shapers_clusters.proofs.Cuts.{exact_cuts, stays_falling, stays_rising}
 use Rattle.shapers_clusters.proofs.Moves.{held_by, held_share}
-use Rattle.shapers_text.specs.Thai.{is_above_base, is_sara_am, place_rule, in_two, sara_am_sources, sara_am_stretches, stretches_at}
+use Rattle.shapers_text.specs.Thai.{is_above_base, is_sara_am, place_rule, sara_am_sources, sara_am_stretches, stretches_at}
 use Rattle.shapers_text.proofs.ThaiInTwo.{in_two_at, in_two_push}
 use Rattle.shapers_text.proofs.ThaiStretches.{stretches_within}
-use Rattle.rustybuzz_shapers.specs.Monotone.{StaysMonotone, ThaiStaysMonotone}
+use Rattle.rustybuzz_shapers.specs.Monotone.{StaysMonotone}
 use Rattle.rustybuzz_shapers.proofs.Monotone.{Ordered, all_weaker, to_pairs}
 
 -- lists of places in an order R, one after the other
@@ -34,7 +34,7 @@ pub ordered_append : (R : ℕ → ℕ → Type 0) (xs ys : List ℕ) → Ordered
     → AllByRecursion (λ x. AllByRecursion (R x) ys) xs → Ordered R (xs ++ ys)
 ordered_append R [] ys first second across = second
 ordered_append R (x ∷ xs) ys first second across =
-    (all_append (R x) xs ys first.0 across.0, ordered_append R xs ys first.1 second across.1)
+    search (arith, all_append, ordered_append R xs ys first.1 second across.1)
 
 -- an order of n places that climbs with them
 abbrev Climbs : (ℕ → ℕ → Type 0) → ℕ → Type 0
@@ -51,20 +51,7 @@ ordered_range R n climbs a (suc k) within = (
 sources_push : (us : List ℕ) (u : ℕ) → is_sara_am u ≡ false → sara_am_sources (us ++ u ∷ []) ≡ sara_am_sources us
     ++ length us ∷ []
 sources_push us u other =
-    let first : ℕ × ℕ → ℕ = λ p. p.0 in
-    ap (λ ps. map first (in_two place_rule ps)) (enumerate-append us (u ∷ []))
-    ∙ ap (map first) (in_two_push place_rule (enumerate_from 0 us) (length us, u) other)
-    ∙ map-append first (in_two place_rule (enumerate_from 0 us)) ((length us, u) ∷ [])
-
-sources_push_am : (us : List ℕ) (u : ℕ) → is_sara_am u ≡ true → sara_am_sources (us ++ u ∷ [])
-    ≡ sara_am_sources (before_last_run is_above_base us)
-    ++ ((length us ∷ range_with_len (length us - suffix_len is_above_base us) (suffix_len is_above_base us))
-    ++ length us ∷ [])
-sources_push_am us u am =
-    let first : ℕ × ℕ → ℕ = λ p. p.0 in
-    ap (λ ps. map first (in_two place_rule ps)) (enumerate-append us (u ∷ []))
-    ∙ ap (map first) (in_two_at place_rule (enumerate_from 0 us) (length us, u) [] am)
-    ∙ simp (map-append, before_last_run-enumerate_from is_above_base 0 us, places-last_run is_above_base us)
+    search (arith, enumerate-append, in_two_push, map-append)
 
 -- the sources of a text's front are in order, and are places of it
 record Fronted (R : ℕ → ℕ → Type 0) (us : List ℕ) : Type 0 where
@@ -81,23 +68,6 @@ abbrev Together : (ℕ → ℕ → Type 0) → List ℕ → Type 0
 Together R all = (xs : List ℕ) (u : ℕ) (ys : List ℕ) → all ≡ xs ++ u ∷ ys → is_sara_am u ≡ true → (q : ℕ)
     → length xs - suffix_len is_above_base xs ≤ q → q < length xs → R (length xs) q
 
-fronted_push : (R : ℕ → ℕ → Type 0) (n : ℕ) → Climbs R n → (us : List ℕ) (u : ℕ) → length us < n → is_sara_am u ≡ false
-    → Fronted R us → Fronted R (us ++ u ∷ [])
-fronted_push R n climbs us u inside other f =
-    let k = length us in
-    let more = length_push us u in
-    let src = sara_am_sources us in
-    subst (λ ps. Ordered R ps × AllByRecursion (λ p. p < length (us ++ u ∷ [])) ps → Fronted R (us ++ u ∷ []))
-    (sources_push us u other)
-    (λ both. record { ordered = both.0; below = both.1 }) (
-      ordered_append R src (k ∷ []) f.ordered (tt, tt)
-          (all_weaker (λ p. p < k) (λ p. AllByRecursion (R p) (k ∷ []))
-          (λ p low. (climbs p k (omega (arith, low)) inside, tt)) src f.below),
-      all_append (λ p. p < length (us ++ u ∷ [])) src (k ∷ [])
-          (all_weaker (λ p. p < k) (λ p. p < length (us ++ u ∷ [])) (λ p low. omega (arith, low, more)) src f.below)
-          (omega (arith, more), tt),
-    )
-
 fronted_am : (R : ℕ → ℕ → Type 0) (n : ℕ) → Climbs R n → (us : List ℕ) (u : ℕ) → length us < n → is_sara_am u ≡ true
     → ((q : ℕ) → length us - suffix_len is_above_base us ≤ q → q < length us → R (length us) q)
     → Fronted R (before_last_run is_above_base us) → Fronted R (us ++ u ∷ [])
@@ -107,19 +77,25 @@ fronted_am R n climbs us u inside am near f =
     let few = suffix_len-le-length is_above_base us in
     let more = length_push us u in
     let b = before_last_run is_above_base us in
-    let short : length b ≡ k - w = length-take-le (k - w) us (omega arith) in
+    let short : length b ≡ k - w = search (arith, length-take-le) in
     let run = range_with_len (k - w) w in
     let src = sara_am_sources b in
     let last = (k ∷ run) ++ k ∷ [] in
-    let at_end : R k k = climbs k k (omega arith) inside in
-    let tail : Ordered R (run ++ k ∷ []) =
-    ordered_append R run (k ∷ []) (ordered_range R n climbs (k - w) w (omega (arith, few, inside))) (tt, tt)
-    (all-range (λ p. AllByRecursion (R p) (k ∷ [])) (k - w) w
-    (λ p low high. (climbs p k (omega (arith, high, few)) inside, tt))) in
     let front : AllByRecursion (R k) (run ++ k ∷ []) =
     all_append (R k) run (k ∷ [])
-    (all-range (R k) (k - w) w (λ p low high. near p low (omega (arith, high, few)))) (at_end, tt) in
-    let here : Ordered R last = (front, tail) in
+    (all-range (R k) (k - w) w (λ p low high. near p low (omega (arith, high, few)))) (
+      climbs k k (omega arith) inside,
+      tt,
+    ) in
+    let here : Ordered R last = (
+      front,
+      ordered_append R run (k ∷ []) (ordered_range R n climbs (k - w) w (omega (arith, few, inside))) (tt, tt)
+          (all-range (λ p. AllByRecursion (R p) (k ∷ [])) (k - w) w (λ p low high. (
+            climbs p k (omega (arith, high, few))
+                inside,
+            tt,
+          ))),
+    ) in
     let places : (P : ℕ → Type 0) → ((p : ℕ) → k - w ≤ p → p ≤ k → P p) → AllByRecursion P last =
     λ P each. (
       each k (omega arith) (omega arith),
@@ -128,7 +104,15 @@ fronted_am R n climbs us u inside am near f =
           (each k (omega arith) (omega arith), tt),
     ) in
     subst (λ ps. Ordered R ps × AllByRecursion (λ p. p < length (us ++ u ∷ [])) ps → Fronted R (us ++ u ∷ []))
-    (sources_push_am us u am)
+    (
+    search (
+      arith,
+      enumerate-append us (u ∷ []),
+      in_two_at place_rule (enumerate_from 0 us) (length us, u) [] am,
+      map-append,
+      before_last_run-enumerate_from is_above_base 0 us,
+      places-last_run is_above_base us,
+    ))
     (λ both. record { ordered = both.0; below = both.1 }) (
       ordered_append R src last f.ordered here
           (all_weaker (λ p. p < length b) (λ p. AllByRecursion (R p) last)
@@ -139,25 +123,17 @@ fronted_am R n climbs us u inside am near f =
           src f.below) (places (λ p. p < length (us ++ u ∷ [])) (λ p least most. omega (arith, most, more))),
     )
 
--- it climbs if it holds of each place and itself, and of each place and a later one
-climbing : (R : ℕ → ℕ → Type 0) → ((p : ℕ) → R p p) → (n : ℕ) → ((p q : ℕ) → p < q → q < n → R p q) → Climbs R n
-climbing R same n climbs p q low most =
-    elim (cases_lt p q) [
-      | inl less ↦ climbs p q less most
-      | inr least ↦ subst (R p) (omega (arith, low, least)) (same p)
-    ]
-
 fronts_push : (R : ℕ → ℕ → Type 0) (all : List ℕ) → Climbs R (length all) → Together R all → (us : List ℕ) (u : ℕ)
     → ((ys : List ℕ) → all ≡ us ++ ys → Fronts R us) → (ys : List ℕ) → all ≡ (us ++ u ∷ []) ++ ys
     → Fronts R (us ++ u ∷ [])
 fronts_push R all climbs near us u earlier ys split =
     let text = split ∙ append_assoc us (u ∷ []) ys in
     let f = earlier (u ∷ ys) text in
-    let inside : length us < length all = omega (arith, ap length text, length-append us (u ∷ ys)) in
-    let whole : Fronted R (us ++ u ∷ []) =
+    let inside : length us < length all = search (arith, length-append) in
+    let whole =
     elim (is_sara_am u) as (λ b. is_sara_am u ≡ b → Fronted R (us ++ u ∷ [])) [
       | true ↦ λ am. fronted_am R (length all) climbs us u inside am (near us u ys text am) f.before
-      | false ↦ λ other. fronted_push R (length all) climbs us u inside other f.whole
+      | false ↦ λ other. search (arith, sources_push, ordered_append, all_weaker, all_append, length_push)
     ] refl in
     record {
       whole = whole;
@@ -176,26 +152,30 @@ sources_ordered R all climbs near =
     let f = from_end (λ us. (ys : List ℕ) → all ≡ us ++ ys
     → Fronts R us) (λ ys split. record { whole = nothing; before = nothing }) (fronts_push R all climbs near)
     all [] (sym (append-nil all)) in
-    (f.whole.ordered, f.whole.below)
+    search arith
 
 -- the clusters at those places
 all_picked : (P : ℕ → Type 0) (ps cs : List ℕ) → AllByRecursion (λ p. P (get_or cs p 0)) ps
     → AllByRecursion (λ p. p < length cs) ps → AllByRecursion P (pick ps cs)
 all_picked P [] cs own below = tt
 all_picked P (p ∷ ps) cs own below =
-    subst (AllByRecursion P) (sym (pick-within 0 p ps cs below.0)) (own.0, all_picked P ps cs own.1 below.1)
+    search (arith, pick-within 0 p ps cs below.0, own.0, all_picked P ps cs own.1 below.1)
 
 picked : (S : ℕ → ℕ → Type 0) (ps cs : List ℕ) → Ordered (λ p q. S (get_or cs p 0) (get_or cs q 0)) ps
     → AllByRecursion (λ p. p < length cs) ps → Ordered S (pick ps cs)
 picked S [] cs ordered below = tt
 picked S (p ∷ ps) cs ordered below =
-    subst (Ordered S) (sym (pick-within 0 p ps cs below.0))
-    (all_picked (S (get_or cs p 0)) ps cs ordered.0 below.1, picked S ps cs ordered.1 below.1)
+    search (
+      arith,
+      pick-within 0 p ps cs below.0,
+      all_picked (S (get_or cs p 0)) ps cs ordered.0 below.1,
+      picked S ps cs ordered.1 below.1,
+    )
 
 -- a SARA AM and the marks that its NIKHAHIT passes share a cluster
 ends : (sts : List (ℕ × ℕ)) (k : ℕ) (st : ℕ × ℕ) → get_or sts k st ≡ st → ((get_or sts k st).0 ≡ st.0)
     × ((get_or sts k st).1 ≡ st.1)
-ends sts k st at = (ap (λ (p : ℕ × ℕ). p.0) at, ap (λ (p : ℕ × ℕ). p.1) at)
+ends sts k st at = search arith
 
 passed_share : (level : BufferClusterLevel) → merges level ≡ true
     → (gs : List hb_glyph_info_t) (xs : List ℕ) (u : ℕ) (ys : List ℕ) → characters gs ≡ xs ++ u ∷ ys
@@ -207,10 +187,9 @@ passed_share level m gs xs u ys split am q low high =
     let w = suffix_len is_above_base xs in
     let st : ℕ × ℕ = (n - w, n + 1) in
     let sts = sara_am_stretches level (characters gs) in
-    let some : 0 < w = omega (arith, low, high) in
     let merged : Contains (stretches_at level n u w) st = let test =
-    lt-ltb 0 w some in rw (am, test) (0, omega arith, refl) in
-    let there : Contains sts st =
+    lt-ltb 0 w (omega (arith, low, high)) in rw (am, test) (0, omega arith, refl) in
+    let there =
     subst (λ vs. Contains (sara_am_stretches level vs) st) (sym split)
     (Contains-flat_map _ (each_after [] (xs ++ u ∷ ys)) (xs, u) st (Contains-each_after [] xs u ys) merged) in
     let (first, second) = ends sts there.0 st there.2 in
@@ -219,8 +198,7 @@ passed_share level m gs xs u ys split am q low high =
     omega (
       arith,
       long,
-      sym (length-map gs (λ (g : hb_glyph_info_t). g.glyph_id))
-          ∙ ap length split,
+      sym (length-map gs (λ (g : hb_glyph_info_t). g.glyph_id)) ∙ ap length split,
       length-append xs (u ∷ ys),
     ) in
     let held = held_by sts there.0 st there.1 n q (omega (arith, first)) (omega (arith, second))
@@ -238,14 +216,13 @@ thai_monotone level m gs js made =
     let M = joined_all level sts cs in
     let long = length-map gs (λ (g : hb_glyph_info_t). g.cluster) in
     let chars = length-map gs (λ (g : hb_glyph_info_t). g.glyph_id) in
-    let within : EndWithin (length cs) sts = subst (λ k. EndWithin k sts) (sym long) (stretches_within level gs) in
+    let within = subst (λ k. EndWithin k sts) (sym long) (stretches_within level gs) in
     let ordered : (S : ℕ → ℕ → Type 0) → ((a : ℕ) → S a a)
     → ((p q : ℕ) → p < q → q < length M → S (get_or M p 0) (get_or M q 0)) → length M ≡ length cs
     → Ordered S js = λ S same climbs as_long.
     let R : ℕ → ℕ → Type 0 = λ p q. S (get_or M p 0) (get_or M q 0) in
     let all = sources_ordered R us
-    (climbing R (λ p. same (get_or M p 0)) (length us)
-    (λ p q less most. climbs p q less (omega (arith, most, long, chars, as_long))))
+    (search arith)
     (λ xs u ys split am q low high. subst (λ c. S (get_or M (length xs) 0) c)
     (sym (passed_share level m gs xs u ys split am q low high)) (same (get_or M (length xs) 0))) in
     subst (Ordered S) (sym made.clusters_are)
@@ -253,14 +230,11 @@ thai_monotone level m gs js made =
     (all_weaker (λ p. p < length us) (λ p. p < length M) (λ p low. omega (arith, low, long, chars, as_long))
     (sara_am_sources us) all.1)) in (
       λ up.
-          let upM = stays_rising level sts cs within up in
-          to_pairs (λ a b. a ≤ b) js (ordered (λ a b. a ≤ b) (λ a. omega arith) (λ p q less most. upM p q 0 less most)
+          to_pairs (λ a b. a ≤ b) js (ordered (λ a b. a ≤ b) (λ a. omega arith) (λ p q less most.
+          (stays_rising level sts cs within up) p q 0 less most)
           (exact_cuts level m sts cs within (inl up)).same_length),
       λ down.
-          let downM = stays_falling level sts cs within down in
-          to_pairs (λ a b. b ≤ a) js (ordered (λ a b. b ≤ a) (λ a. omega arith) (λ p q less most. downM p q 0 less most)
+          to_pairs (λ a b. b ≤ a) js (ordered (λ a b. b ≤ a) (λ a. omega arith) (λ p q less most.
+          (stays_falling level sts cs within down) p q 0 less most)
           (exact_cuts level m sts cs within (inr down)).same_length),
     )
-
-pub thai_stays_monotone : ThaiStaysMonotone
-thai_stays_monotone plan font old new m k = thai_monotone old.level m old.glyphs (clusters new.glyphs) k.0.made

@@ -1,4 +1,5 @@
 -- For which shapers, with which plans, letters join.
+use Rattle.std.proofs.Common.{arith}
 use Rattle.std.proofs.Common.{None, Some, refl}
 use Rattle.std.proofs.lemmas.Bool.{false≢true}
 use Rattle.shapers_base.specs.declared.plan.PlanData.{PlanData}
@@ -23,4 +24,4 @@ row_no_data joins = false≢true joins
 row_others : (kept : PlanData) → (LettersJoin Hangul kept → ⊥) × (LettersJoin Hebrew kept → ⊥)
     × (LettersJoin Indic kept → ⊥) × (LettersJoin Khmer kept → ⊥) × (LettersJoin Myanmar kept → ⊥)
     × (LettersJoin MyanmarZawgyi kept → ⊥) × (LettersJoin Thai kept → ⊥)
-row_others kept = (λ h. h, λ h. h, λ h. h, λ h. h, λ h. h, λ h. h, λ h. h)
+row_others kept = search arith

@@ -11,7 +11,6 @@ use Rattle.std.proofs.lemmas.Simd.{map-map}
 use Rattle.std.proofs.lemmas.Slice.Zip.{length-zip}
 use Rattle.shapers_buffer.specs.Buffer.{Buffer, flags_concat, flags_tatweel, has_flag}
 use Rattle.shapers_buffer.specs.Glyph.{clusters, plain, order_view}
-use Rattle.shapers_buffer.specs.Properties.{general_category}
 use Rattle.shapers_buffer.specs.declared.buffer.category.hb_unicode_general_category_t.{hb_unicode_general_category_t}
 use Rattle.shapers_buffer.specs.declared.buffer.flags.BufferFlags.{BufferFlags}
 use Rattle.shapers_buffer.specs.declared.buffer.glyph.hb_glyph_info_t.{hb_glyph_info_t}
@@ -19,17 +18,15 @@ use Rattle.shapers_buffer.specs.declared.buffer.tag.Script.{Script}
 use Rattle.shapers_base.specs.declared.plan.breaks.BreakFlags.{BreakFlags}
 use Rattle.shapers_base.specs.declared.plan.breaks.BreakFlags.TheVariants.{AsCode, Sound}
 use Rattle.shapers_base.specs.declared.plan.joining.hb_arabic_joining_type_t.{hb_arabic_joining_type_t}
-use Rattle.shapers_clusters.specs.Breaks.{forbids, IsFree, IsClear, IsStrictlyMonotone, is_unsafe}
-use Rattle.shapers_clusters.specs.Flags.{bit_at}
+use Rattle.shapers_clusters.specs.Breaks.{forbids, IsFree, IsClear, is_unsafe}
 use Rattle.shapers_clusters.proofs.ClearPlaces.{held_by_calls, clear-places}
 use Rattle.shapers_clusters.proofs.FlagCalls.{map-flags_called, plain-with_bits}
-use Rattle.shapers_clusters.proofs.Needless.{needless, none-unsafe, unsafe-none}
+use Rattle.shapers_clusters.proofs.Needless.{needless, unsafe-none}
 use Rattle.shapers_arabic.specs.Breaks.{sound_flags, front_at, back_at, IsSpared, BreaksWhereClear, NoneNeedless}
 use Rattle.shapers_arabic.specs.Fresh.{IsFresh, SelectorsAreTransparent}
-use Rattle.shapers_arabic.specs.Joining.{resolved, forms, selected}
-use Rattle.shapers_arabic.specs.JoiningFlags.{joining_flags}
-use Rattle.shapers_arabic.specs.JoinedText.{Text, is_mongolian, added_calls, flag_calls, forms_of, first_half, second_half, with_form, with_joining_forms, joined_glyphs, buffer_joined, text_of, stored_types, context_types}
-use Rattle.shapers_arabic.specs.SoundFlags.{form_flags_along, selector_flags}
+use Rattle.shapers_arabic.specs.Joining.{forms, selected}
+use Rattle.shapers_arabic.specs.JoinedText.{Text, is_mongolian, flag_calls, forms_of, first_half, second_half, with_joining_forms, joined_glyphs, buffer_joined, text_of, stored_types}
+use Rattle.shapers_arabic.specs.SoundFlags.{selector_flags}
 use Rattle.shapers_arabic.proofs.BreakLists.{exact}
 use Rattle.shapers_arabic.proofs.FreePlaces.{free-halves}
 use Rattle.shapers_arabic.proofs.JoinedGlyphs.{forms-joined}
@@ -43,9 +40,7 @@ pub view-joined : (breaks : BreakFlags) (masks : List ℕ) (flags : BufferFlags)
     (gs : List hb_glyph_info_t) → order_view (joined_glyphs breaks masks flags script text gs)
     ≡ order_view (with_joining_forms masks (forms_of script text) gs)
 view-joined breaks masks flags script text gs =
-    map-flags_called plain (λ bits g low. plain-with_bits bits g low) (has_flag flags_concat flags)
-    (has_flag flags_tatweel flags) (flag_calls breaks script text)
-    (with_joining_forms masks (forms_of script text) gs) (calls-in_order breaks script text)
+    search (arith, map-flags_called, plain-with_bits, calls-in_order)
 
 pub with_forms-parts : (masks fs hs : List ℕ) (xs ys : List hb_glyph_info_t) → length fs ≡ length xs
     → with_joining_forms masks (fs ++ hs) (xs ++ ys) ≡ with_joining_forms masks fs xs ++ with_joining_forms masks hs ys
@@ -53,7 +48,7 @@ with_forms-parts masks [] hs [] ys e = refl
 with_forms-parts masks [] hs (x ∷ xs) ys e = absurd (omega arith)
 with_forms-parts masks (f ∷ fs) hs [] ys e = absurd (omega arith)
 with_forms-parts masks (f ∷ fs) hs (x ∷ xs) ys e =
-    ap (λ gs. with_form masks f x ∷ gs) (with_forms-parts masks fs hs xs ys (omega arith))
+    cc (with_forms-parts masks fs hs xs ys (omega arith))
 
 -- where no call of Sound forbids a break: the forms are those of the halves
 pub forms-break : (script : Option Script) (text : Text) (n : ℕ) → length text.characters ≡ length text.types → 0 < n
@@ -67,27 +62,29 @@ forms-break script text n same pos within free =
     let rule = forms text.before text.types text.after in
     let fs = forms text.before ts [] in
     let hs = forms [] us text.after in
-    let whole : ts ++ us ≡ text.types = take-append-drop n text.types in
-    let at : length ts ≡ n = length-take-le n text.types (omega arith) in
-    let c_at : length cs ≡ n = length-take-le n text.characters (omega arith) in
+    let whole = take-append-drop n text.types in
+    let at : length ts ≡ n = search (arith, length-take-le) in
+    let c_at : length cs ≡ n = search (arith, length-take-le) in
     let first = sound_flags text.before text.types text.after in
     let rest = λ (b : Bool) (xs : List ℕ) (ys : List ℕ). cond b (selector_flags [] (zip xs ys)) [] in
     let split = or_parts (held_by_calls n first) (held_by_calls n (rest (is_mongolian script) text.characters rule))
-    (sym (ap (held_by_calls n)
-    (sym (append_assoc (joining_flags text.before text.types text.after) (form_flags_along text.before
-    [] text.types text.after) (rest (is_mongolian script) text.characters rule)))
-    ∙ list_any-append (forbids n) first (rest (is_mongolian script) text.characters rule)) ∙ free) in
-    let Q : ℕ → Type 0 = λ m. IsFree first m in
-    let R : List hb_arabic_joining_type_t → Type 0 = λ xs. IsFree (sound_flags text.before xs text.after) (length ts) in
+    (
+    search (
+      arith,
+      append_assoc,
+      list_any-append (forbids n) first (rest (is_mongolian script) text.characters rule),
+    )) in
     let may = (exact text.before ts us text.after (omega arith) (omega (arith, length-drop n text.types))).0
-    (subst R (sym whole) (subst Q (sym at) split.0)) in
-    let by_rule : rule ≡ fs ++ hs = ap (λ xs. forms text.before xs text.after) (sym whole) ∙ may in
+    (subst
+    (λ xs. IsFree (sound_flags text.before xs text.after) (length ts)) (sym whole) (subst
+    (λ m. IsFree first m) (sym at) split.0)) in
+    let by_rule : rule ≡ fs ++ hs = cc in
     elim (is_mongolian script) as (λ b. held_by_calls n (rest b text.characters rule) ≡ false
     → cond b (selected [] (zip text.characters rule)) rule ≡ cond b (selected [] (zip cs fs)) fs
     ++ cond b (selected [] (zip ds hs)) hs) [
       | false ↦ λ f. by_rule
       | true ↦ λ f.
-          let parts : zip text.characters rule ≡ zip (cs ++ ds) (fs ++ hs) =
+          let parts =
           ap (λ xs. zip xs rule) (sym (take-append-drop n text.characters)) ∙ ap (zip (cs ++ ds)) by_rule in
           ap (selected []) parts
           ∙ selected-halves cs ds fs hs (length-forms text.before ts [] ∙ at ∙ sym c_at) (omega arith)
@@ -105,23 +102,20 @@ halves-free : (breaks : BreakFlags) (masks : List ℕ) (flags : BufferFlags) (sc
 halves-free breaks masks flags script text gs n characters long pos within free =
     let one = first_half n [] text in
     let two = second_half n [] text in
-    let same : length text.characters ≡ length text.types = characters ∙ sym long in
-    let halves = forms-break script text n same pos (omega arith) free in
-    let half : length one.characters ≡ length one.types = length-take-le n text.characters (omega arith)
-    ∙ sym (length-take-le n text.types (omega arith)) in
-    let first : length (forms_of script one) ≡ length (take n gs) = length-forms_of script one half
+    let first =
+    length-forms_of script one
+    (length-take-le n text.characters (omega arith) ∙ sym (length-take-le n text.types (omega arith)))
     ∙ length-take-le n text.types (omega arith) ∙ sym (length-take-le n gs (omega arith)) in
-    view-joined breaks masks flags script text gs
-    ∙ ap (λ xs. order_view (with_joining_forms masks xs gs)) halves
-    ∙ ap (λ xs. order_view (with_joining_forms masks (forms_of script one ++ forms_of script two) xs))
-    (sym (take-append-drop n gs))
-    ∙ ap order_view (with_forms-parts masks (forms_of script one) (forms_of script two) (take n gs) (drop n gs) first)
-    ∙ map-append plain (with_joining_forms masks (forms_of script one) (take n gs))
-    (with_joining_forms masks (forms_of script two) (drop n gs))
-    ∙ ap (λ xs. xs ++ order_view (with_joining_forms masks (forms_of script two) (drop n gs)))
-    (sym (view-joined breaks masks flags script one (take n gs)))
-    ∙ ap (λ xs. order_view (joined_glyphs breaks masks flags script one (take n gs)) ++ xs)
-    (sym (view-joined breaks masks flags script two (drop n gs)))
+    search (
+      arith,
+      view-joined breaks masks flags script text gs,
+      forms-break script text n (characters ∙ sym long) pos (omega arith) free,
+      take-append-drop n gs,
+      with_forms-parts masks (forms_of script one) (forms_of script two) (take n gs) (drop n gs) first,
+      map-append,
+      view-joined breaks masks flags script one (take n gs),
+      view-joined breaks masks flags script two (drop n gs),
+    )
 
 -- a clear place that is spared is free
 pub free-clear : (breaks : BreakFlags) (masks : List ℕ) (flags : BufferFlags) (script : Option Script) (text : Text)
@@ -129,66 +123,27 @@ pub free-clear : (breaks : BreakFlags) (masks : List ℕ) (flags : BufferFlags) 
     → n < length gs → IsClear (joined_glyphs breaks masks flags script text gs) n
     → IsFree (flag_calls breaks script text) n
 free-clear breaks masks flags script text gs n characters long pos within clear =
-    let formed = with_joining_forms masks (forms_of script text) gs in
     let all_long : length (forms_of script text) ≡ length text.types =
-    length-forms_of script text (characters ∙ sym long) in
-    let formed_long : length formed ≡ length gs =
-    length-map (zip (forms_of script text) gs) (λ p. with_form masks p.0 p.1)
-    ∙ omega (arith, length-zip (forms_of script text) gs) in
-    clear-places (has_flag flags_concat flags) (has_flag flags_tatweel flags) (flag_calls breaks script text) formed n
-    (calls-in_order breaks script text) pos (omega arith) clear
+    search (arith, length-forms_of) in
+    let formed_long : length (with_joining_forms masks (forms_of script text) gs) ≡ length gs =
+    search (arith, length-map, length-zip) in
+    search (arith, clear-places, calls-in_order)
 
 spared-free : (breaks : BreakFlags) (script : Option Script) (text : Text) (n : ℕ)
     → IsFree (flag_calls breaks script text) n → IsSpared breaks script text n → IsFree (flag_calls Sound script text) n
 spared-free AsCode script text n free spared =
-    list_any-append (forbids n) (joining_flags text.before text.types text.after) (added_calls script text)
-    ∙ or_from (held_by_calls n (joining_flags text.before text.types text.after))
-    (held_by_calls n (added_calls script text)) free spared
+    search (arith, list_any-append, or_from)
 spared-free Sound script text n free spared = free
 
 -- the texts of the halves of a buffer
 pub text-front : (joining : ℕ → hb_arabic_joining_type_t) (general : ℕ → hb_unicode_general_category_t) (n : ℕ)
     (b : Buffer) → text_of joining general (front_at n b) ≡ first_half n [] (text_of joining general b)
 text-front joining general n b =
-    let before = context_types joining general b.before in
-    ap (λ cs. let t : Text = record {
-      before = before;
-      characters = cs;
-      types = stored_types joining (take n b.glyphs);
-      after = [];
-    } in t) (sym (take-map (λ g. g.glyph_id) n b.glyphs))
-    ∙ ap (λ ts. let t : Text = record {
-      before = before;
-      characters = take n (map (λ g. g.glyph_id) b.glyphs);
-      types =
-          ts;
-      after = [];
-    } in t) (sym (take-map (λ g. resolved (joining g.glyph_id) (general_category g.unicode_props)) n b.glyphs))
-
-text-back : (joining : ℕ → hb_arabic_joining_type_t) (general : ℕ → hb_unicode_general_category_t) (n : ℕ) (b : Buffer)
-    → text_of joining general (back_at n b) ≡ second_half n [] (text_of joining general b)
-text-back joining general n b =
-    let after = context_types joining general b.after in
-    ap (λ cs. let t : Text = record {
-      before =
-          [];
-      characters = cs;
-      types = stored_types joining (drop n b.glyphs);
-      after = after;
-    } in t)
-    (sym (drop-map (λ g. g.glyph_id) n b.glyphs))
-    ∙ ap (λ ts. let t : Text = record {
-      before =
-          [];
-      characters = drop n (map (λ g. g.glyph_id) b.glyphs);
-      types = ts;
-      after = after;
-    } in t)
-    (sym (drop-map (λ g. resolved (joining g.glyph_id) (general_category g.unicode_props)) n b.glyphs))
+    search (arith, take-map)
 
 pub types_long : (joining : ℕ → hb_arabic_joining_type_t) (gs : List hb_glyph_info_t) → length (stored_types joining gs)
     ≡ length gs
-types_long joining gs = length-map gs (λ g. resolved (joining g.glyph_id) (general_category g.unicode_props))
+types_long joining gs = search (arith, length-map)
 
 -- the halves of a buffer, joined by themselves
 halves-are : (breaks : BreakFlags) (masks : List ℕ) (script : Option Script) (joining : ℕ → hb_arabic_joining_type_t)
@@ -198,12 +153,7 @@ halves-are : (breaks : BreakFlags) (masks : List ℕ) (script : Option Script) (
     ≡ order_view (joined_glyphs breaks masks b.flags script (first_half n [] text) (take n b.glyphs))
     ++ order_view (joined_glyphs breaks masks b.flags script (second_half n [] text) (drop n b.glyphs))
 halves-are breaks masks script joining general n b =
-    ap (λ t. order_view (joined_glyphs breaks masks b.flags script t (take n b.glyphs))
-    ++ order_view (buffer_joined breaks masks script joining general (back_at n b)).glyphs)
-    (text-front joining general n b)
-    ∙ ap (λ t. order_view (joined_glyphs breaks masks b.flags script (first_half n [] (text_of joining general b))
-    (take n b.glyphs)) ++ order_view (joined_glyphs breaks masks b.flags script t (drop n b.glyphs)))
-    (text-back joining general n b)
+    search (arith, text-front, drop-map)
 
 pub breaks-where_clear : (breaks : BreakFlags) (masks : List ℕ) (script : Option Script) (joining : ℕ
     → hb_arabic_joining_type_t) (general : ℕ → hb_unicode_general_category_t) (old new : Buffer)
@@ -214,13 +164,14 @@ breaks-where_clear breaks masks script joining general old new is n pos within c
     let gs = old.glyphs in
     let characters = length-map gs (λ g. g.glyph_id) in
     let long = types_long joining gs in
-    let whole : new.glyphs ≡ joined_glyphs breaks masks old.flags script text gs = ap (λ (b : Buffer). b.glyphs) is in
-    let free = free-clear breaks masks old.flags script text gs n characters long pos within
-    (subst (λ hs. IsClear hs n) whole clear) in
-    ap order_view whole
-    ∙ halves-free breaks masks old.flags script text gs n characters long pos within
-    (spared-free breaks script text n free spared)
-    ∙ sym (halves-are breaks masks script joining general n old)
+    let free = free-clear breaks masks old.flags script text gs n characters long pos within (subst (λ hs. IsClear hs
+    n) (ap (λ (b : Buffer). b.glyphs) is) clear) in
+    search (
+      arith,
+      halves-free breaks masks old.flags script text gs n characters long pos within
+          (spared-free breaks script text n free spared),
+      halves-are,
+    )
 
 -- forms and their masks leave clusters, and set no bit of a break where no mask has a glyph flag bit
 clusters-formed : (masks fs : List ℕ) (gs : List hb_glyph_info_t) → length fs ≡ length gs
@@ -228,7 +179,7 @@ clusters-formed : (masks fs : List ℕ) (gs : List hb_glyph_info_t) → length f
 clusters-formed masks [] [] e = refl
 clusters-formed masks [] (g ∷ gs) e = absurd (omega arith)
 clusters-formed masks (f ∷ fs) [] e = absurd (omega arith)
-clusters-formed masks (f ∷ fs) (g ∷ gs) e = ap (λ cs. g.cluster ∷ cs) (clusters-formed masks fs gs (omega arith))
+clusters-formed masks (f ∷ fs) (g ∷ gs) e = cc (clusters-formed masks fs gs (omega arith))
 
 mask-at : (masks : List ℕ) (i : ℕ) → AllByRecursion (λ m. m % 8 ≡ 0) masks → get_or masks i 0 % 8 ≡ 0
 mask-at [] i all = refl
@@ -238,11 +189,8 @@ mask-at (m ∷ ms) (suc i) all = mask-at ms i all.1
 unflagged-one : (g : hb_glyph_info_t) (form m : ℕ) → is_unsafe g ≡ false → m % 8 ≡ 0
     → is_unsafe (record g { auxiliary = form; mask = bit_or g.mask m }) ≡ false
 unflagged-one g form m e low =
-    let before = none-unsafe g e in
-    let first : bit_at 0 m ≡ 0 = omega arith in
-    let third : bit_at 2 m ≡ 0 = omega arith in
     unsafe-none (record g { auxiliary = form; mask = bit_or g.mask m })
-    (omega (arith, bit_at_or g.mask m 0, bit_at_or g.mask m 2, first, third, before))
+    (search (arith, bit_at_or g.mask m 0, bit_at_or g.mask m 2))
 
 unflagged-formed : (masks fs : List ℕ) (gs : List hb_glyph_info_t) → AllByRecursion (λ m. m % 8 ≡ 0) masks
     → AllByRecursion (λ g. is_unsafe g ≡ false) gs
@@ -250,7 +198,7 @@ unflagged-formed : (masks fs : List ℕ) (gs : List hb_glyph_info_t) → AllByRe
 unflagged-formed masks [] gs m all = tt
 unflagged-formed masks (f ∷ fs) [] m all = tt
 unflagged-formed masks (f ∷ fs) (g ∷ gs) m all =
-    (unflagged-one g f (get_or masks f 0) all.0 (mask-at masks f m), unflagged-formed masks fs gs m all.1)
+    search (arith, unflagged-one, mask-at, unflagged-formed masks fs gs m all.1)
 
 -- the forms are shown in the order view
 pub forms-shown : (breaks : BreakFlags) (masks : List ℕ) (flags : BufferFlags) (script : Option Script) (text : Text)
@@ -259,7 +207,7 @@ pub forms-shown : (breaks : BreakFlags) (masks : List ℕ) (flags : BufferFlags)
 forms-shown breaks masks flags script text gs characters long =
     map-map (λ (g : hb_glyph_info_t). g.auxiliary) plain (joined_glyphs breaks masks flags script text gs)
     ∙ forms-joined masks (forms_of script text) flags (flag_calls breaks script text) gs
-    (sym (length-forms_of script text (characters ∙ sym long) ∙ long)) (calls-in_order breaks script text)
+    (search (arith, length-forms_of)) (calls-in_order breaks script text)
 
 -- a free place of a fresh text is clear
 pub clear-fresh : (breaks : BreakFlags) (masks : List ℕ) (flags : BufferFlags) (script : Option Script) (text : Text)
@@ -269,13 +217,11 @@ pub clear-fresh : (breaks : BreakFlags) (masks : List ℕ) (flags : BufferFlags)
 clear-fresh breaks masks flags script text gs n characters long fresh pos within free =
     let all = forms_of script text in
     let formed = with_joining_forms masks all gs in
-    let all_long : length all ≡ length gs = length-forms_of script text (characters ∙ sym long) ∙ long in
-    let same = clusters-formed masks all gs all_long in
-    let formed_long : length formed ≡ length gs = sym (length-map formed (λ (g : hb_glyph_info_t). g.cluster))
-    ∙ ap length same ∙ length-map gs (λ (g : hb_glyph_info_t). g.cluster) in
+    let same = clusters-formed masks all gs (search (arith, length-forms_of)) in
+    let formed_long : length formed ≡ length gs = search (arith, length-map) in
     needless (has_flag flags_concat flags) (has_flag flags_tatweel flags) (flag_calls breaks script text) formed n
-    (calls-in_order breaks script text) (subst IsStrictlyMonotone (sym same) fresh.single)
-    (unflagged-formed masks all gs fresh.unmasked fresh.unflagged) pos (omega arith) free
+    (calls-in_order breaks script text) (search arith)
+    (search (arith, unflagged-formed)) pos (omega arith) free
 
 -- so where the halves are the whole the place is clear
 clear-broken : (masks : List ℕ) (flags : BufferFlags) (script : Option Script) (text : Text) (gs : List hb_glyph_info_t)
@@ -289,21 +235,22 @@ clear-broken masks flags script text gs n characters long fresh silent pos withi
     let one = first_half n [] text in
     let two = second_half n [] text in
     let aux = λ (g : hb_glyph_info_t). g.auxiliary in
-    let front = order_view (joined_glyphs Sound masks flags script one (take n gs)) in
     let back = order_view (joined_glyphs Sound masks flags script two (drop n gs)) in
-    let one_long : length one.types ≡ length (take n gs) = length-take-le n text.types (omega arith)
-    ∙ sym (length-take-le n gs (omega arith)) in
-    let one_same : length one.characters ≡ length (take n gs) = length-take-le n text.characters (omega arith)
-    ∙ sym (length-take-le n gs (omega arith)) in
-    let two_long : length two.types ≡ length (drop n gs) = omega (arith, length-drop n gs, length-drop n text.types) in
-    let two_same : length two.characters ≡ length (drop n gs) =
-    omega (arith, length-drop n gs, length-drop n text.characters) in
-    let forms_fall : forms_of script text ≡ forms_of script one ++ forms_of script two =
-    sym (forms-shown Sound masks flags script text gs characters long)
-    ∙ ap (map aux) may
-    ∙ map-append aux front back
-    ∙ ap (λ xs. xs ++ map aux back) (forms-shown Sound masks flags script one (take n gs) one_same one_long)
-    ∙ ap (λ xs. forms_of script one ++ xs) (forms-shown Sound masks flags script two (drop n gs) two_same two_long) in
+    let forms_fall =
+    sym (forms-shown Sound masks flags script text gs characters long) ∙ ap (map aux) may
+    ∙ map-append aux (order_view (joined_glyphs Sound masks flags script one (take n gs))) back
+    ∙ ap (λ xs. xs ++ map aux back)
+    (forms-shown Sound masks flags script one (take n gs) (search (arith, length-take-le)) (search (
+      arith,
+      length-take-le,
+    )))
+    ∙ ap (λ xs. forms_of script one ++ xs)
+    (forms-shown Sound masks flags script two (drop n gs) (omega (
+      arith,
+      length-drop n gs,
+      length-drop n
+          text.characters,
+    )) (search (arith, length-drop))) in
     clear-fresh Sound masks flags script text gs n characters long fresh pos within
     (free-halves script text n (characters ∙ sym long) pos (omega arith) silent forms_fall)
 
@@ -315,7 +262,10 @@ none-needless AsCode masks script joining general old new is e fresh silent n po
 none-needless Sound masks script joining general old new is e fresh silent n pos within may =
     let text = text_of joining general old in
     let gs = old.glyphs in
-    let whole : new.glyphs ≡ joined_glyphs Sound masks old.flags script text gs = ap (λ (b : Buffer). b.glyphs) is in
-    subst (λ hs. IsClear hs n) (sym whole)
-    (clear-broken masks old.flags script text gs n (length-map gs (λ g. g.glyph_id)) (types_long joining gs) fresh
-    silent pos within (sym (ap order_view whole) ∙ may ∙ halves-are Sound masks script joining general n old))
+    search (
+      arith,
+      clear-broken masks old.flags script text gs n (length-map gs (λ g. g.glyph_id)) (types_long joining gs) fresh
+          silent pos within
+          (sym (ap order_view (ap (λ (b : Buffer). b.glyphs) is)) ∙ may ∙ halves-are Sound masks script joining
+          general n old),
+    )

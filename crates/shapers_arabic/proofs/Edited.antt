@@ -1,6 +1,6 @@
 -- Edits of buffers: of each part beside the edit only one letter changes its form, and the
 -- selectors behind it take it over.
-use Rattle.std.proofs.Common.{◌≡◌, ℕ, zero, suc, ◌+◌, ◌-◌, ◌≤◌, Bool, true, false, cond, List, [], ◌∷◌, ◌++◌, length, map, take, drop, replicate, reverse, Option, None, refl, sym, ap, ◌∙◌, subst, arith, append_assoc}
+use Rattle.std.proofs.Common.{◌≡◌, ℕ, zero, suc, ◌+◌, ◌-◌, ◌≤◌, Bool, true, false, cond, List, [], ◌∷◌, ◌++◌, length, map, take, drop, replicate, reverse, Option, refl, sym, ap, ◌∙◌, subst, arith, append_assoc}
 use Rattle.std.specs.List.{prefix_len, zip}
 use Rattle.std.proofs.lemmas.List.{length-append, length-map, length-take-le, take-append-drop, take_at, drop_at, drop-drop}
 use Rattle.shapers_buffer.specs.Buffer.{Buffer}
@@ -12,12 +12,12 @@ use Rattle.shapers_base.specs.declared.plan.breaks.BreakFlags.{BreakFlags}
 use Rattle.shapers_base.specs.declared.plan.joining.hb_arabic_joining_type_t.{hb_arabic_joining_type_t}
 use Rattle.shapers_arabic.specs.declared.ot_shaper_arabic.arabic_action_t.TheConstants.{NONE}
 use Rattle.shapers_arabic.specs.Edited.{GlyphsStayNear, SameBut, StayBefore, StayBehind, edited}
-use Rattle.shapers_arabic.specs.Joining.{act, form_behind, forms, is_selector, is_transparent, nearest, selected}
+use Rattle.shapers_arabic.specs.Joining.{act, forms, is_selector, nearest, selected}
 use Rattle.shapers_arabic.specs.JoinedText.{context_types, forms_of, is_mongolian, joined_glyphs, opening, stored_types, text_of, with_joining_forms}
 use Rattle.shapers_arabic.proofs.BrokenGlyphs.{types_long}
 use Rattle.shapers_arabic.proofs.FormedParts.{drop-shown, drop-view, take-shown, take-view, text-parts}
 use Rattle.shapers_arabic.proofs.JoiningLaws.{in-parts, selected-opening}
-use Rattle.shapers_arabic.proofs.JoiningLists.{forms-append, forms-contexts, forms-parts, forms-transparent, length-forms, nearest-letter}
+use Rattle.shapers_arabic.proofs.JoiningLists.{forms-append, forms-contexts, forms-parts, forms-transparent, length-forms}
 
 -- forms by the rule, or with the selectors
 abbrev chosen : Bool → List ℕ → List ℕ → List ℕ
@@ -34,14 +34,14 @@ selected-front : (before : List (ℕ × ℕ)) (cs fs hs : List ℕ) (x y : ℕ)
 selected-front before cs [] hs x y = refl
 selected-front before [] (f ∷ fs) hs x y = refl
 selected-front before (c ∷ cs) (f ∷ fs) hs x y =
-    ap (λ ws. (cond (is_selector c) (form_behind before f) f) ∷ ws) (selected-front ((c, f) ∷ before) cs fs hs x y)
+    cc (selected-front ((c, f) ∷ before) cs fs hs x y)
 
 selected-back : (before : List (ℕ × ℕ)) (cs fs hs : List ℕ) (x y : ℕ) → let k =
     prefix_len is_selector (drop (suc (length fs)) cs) in drop k
     (drop (suc (length fs)) (selected before (zip cs (fs ++ x ∷ hs))))
     ≡ drop k (drop (suc (length fs)) (selected before (zip cs (fs ++ y ∷ hs))))
 selected-back before [] [] hs x y = refl
-selected-back before (c ∷ cs) [] hs x y = selected-opening ((c, x) ∷ before) ((c, y) ∷ before) cs hs
+selected-back before (c ∷ cs) [] hs x y = search (arith, selected-opening)
 selected-back before [] (f ∷ fs) hs x y = refl
 selected-back before (c ∷ cs) (f ∷ fs) hs x y = selected-back ((c, f) ∷ before) cs fs hs x y
 
@@ -50,11 +50,7 @@ but-by : (b : Bool) (cs fs hs : List ℕ) (x y : ℕ) → let l =
     0 in (take (length fs) (chosen b cs (fs ++ x ∷ hs)) ≡ take (length fs) (chosen b cs (fs ++ y ∷ hs)))
     × (drop l (chosen b cs (fs ++ x ∷ hs)) ≡ drop l (chosen b cs (fs ++ y ∷ hs)))
 but-by false cs fs hs x y =
-    let none : suc (length fs) + 0 ≡ suc (length fs) = omega arith in (
-      take_at fs (x ∷ hs) (length fs) refl ∙ sym (take_at fs (y ∷ hs) (length fs) refl),
-      ap (λ n. drop n (fs ++ x ∷ hs)) none ∙ behind-one fs hs x
-          ∙ sym (ap (λ n. drop n (fs ++ y ∷ hs)) none ∙ behind-one fs hs y),
-    )
+    let none : suc (length fs) + 0 ≡ suc (length fs) = omega arith in search (arith, take_at, behind-one)
 but-by true cs fs hs x y =
     let k = prefix_len is_selector (drop (suc (length fs)) cs) in (
       selected-front [] cs fs hs x y,
@@ -68,60 +64,7 @@ of_script script cs fs = chosen (is_mongolian script) cs fs
 but-one : (script : Option Script) (cs fs hs : List ℕ) (x y j : ℕ) → length fs ≡ j
     → SameBut script 0 j cs (of_script script cs (fs ++ x ∷ hs)) (of_script script cs (fs ++ y ∷ hs))
 but-one script cs fs hs x y j e =
-    subst (λ i. SameBut script 0 i cs (of_script script cs (fs ++ x ∷ hs)) (of_script script cs (fs ++ y ∷ hs))) e
-    (but-by (is_mongolian script) cs fs hs x y)
-
--- before an edit: what follows changes the last letter's form alone
-before-none : (script : Option Script) (cs : List ℕ) (before ts near other : List hb_arabic_joining_type_t)
-    → nearest ts ≡ None → of_script script cs (forms before ts near) ≡ of_script script cs (forms before ts other)
-before-none script cs before ts near other e =
-    ap (of_script script cs) (forms-transparent before ts near e ∙ sym (forms-transparent before ts other e))
-
-before-last : (script : Option Script) (cs : List ℕ) (before front tail near other : List hb_arabic_joining_type_t)
-    (t : hb_arabic_joining_type_t) → is_transparent t ≡ false → nearest tail ≡ None
-    → SameBut script 0 (length front) cs (of_script script cs (forms before (front ++ t ∷ tail) near))
-    (of_script script cs (forms before (front ++ t ∷ tail) other))
-before-last script cs before front tail near other t letter rest =
-    let fs = forms before front (t ∷ []) in
-    let hs = replicate (length tail) NONE in
-    let seen = nearest (reverse front ++ before) in
-    let j = length front in
-    let one = forms-parts before front t tail near letter rest in
-    let two = forms-parts before front t tail other letter rest in
-    let now = but-one script cs fs hs (act seen t (nearest near)) (act seen t (nearest other)) j
-    (length-forms before front (t ∷ [])) in
-    subst (λ xs. SameBut script 0 j cs (of_script script cs xs)
-    (of_script script cs (forms before (front ++ t ∷ tail) other))) (sym one)
-    (subst (λ ys. SameBut script 0 j cs (of_script script cs (fs ++ act seen t (nearest near) ∷ hs))
-    (of_script script cs ys)) (sym two) now)
-
--- behind an edit: what stands before changes the first letter's form alone
-behind-first : (script : Option Script) (cs : List ℕ) (seen other front tail after : List hb_arabic_joining_type_t)
-    (t : hb_arabic_joining_type_t) → nearest front ≡ None → is_transparent t ≡ false
-    → SameBut script 0 (length front) cs (of_script script cs (forms seen (front ++ t ∷ tail) after))
-    (of_script script cs (forms other (front ++ t ∷ tail) after))
-behind-first script cs seen other front tail after t none letter =
-    let fs = replicate (length front) NONE in
-    let j = length front in
-    let near = nearest (tail ++ after) in
-    let x = act (nearest (reverse front ++ seen)) t near in
-    let y = act (nearest (reverse front ++ other)) t near in
-    let hs = forms (t ∷ (reverse front ++ seen)) tail after in
-    let ks = forms (t ∷ (reverse front ++ other)) tail after in
-    let same : ks ≡ hs = forms-contexts (t ∷ (reverse front ++ other)) (t ∷ (reverse front ++ seen)) tail after after
-    (nearest-letter t (reverse front ++ other) letter ∙ sym (nearest-letter t (reverse front ++ seen) letter))
-    refl in
-    let one : forms seen (front ++ t ∷ tail) after ≡ fs ++ x ∷ hs = forms-append seen front (t ∷ tail) after
-    ∙ ap (λ zs. zs ++ x ∷ hs) (forms-transparent seen front (t ∷ (tail ++ after)) none) in
-    let two : forms other (front ++ t ∷ tail) after ≡ fs ++ y ∷ hs = forms-append other front (t ∷ tail) after
-    ∙ ap (λ zs. zs ++ y ∷ ks) (forms-transparent other front (t ∷ (tail ++ after)) none)
-    ∙ ap (λ zs. fs ++ y ∷ zs) same in
-    let long : length fs ≡ j = sym (ap length (forms-transparent seen front (t ∷ (tail ++ after)) none))
-    ∙ length-forms seen front (t ∷ (tail ++ after)) in
-    let now = but-one script cs fs hs x y j long in
-    subst (λ xs. SameBut script 0 j cs (of_script script cs xs)
-    (of_script script cs (forms other (front ++ t ∷ tail) after))) (sym one)
-    (subst (λ ys. SameBut script 0 j cs (of_script script cs (fs ++ x ∷ hs)) (of_script script cs ys)) (sym two) now)
+    search (arith, but-by (is_mongolian script) cs fs hs x y)
 
 -- lists that are the same from a place on, cut at another
 take-nothing : {X : Type 0} (n : ℕ) → let none : List X = [] in take n none ≡ none
@@ -129,42 +72,21 @@ take-nothing zero = refl
 take-nothing (suc n) = refl
 
 cut-within : {X : Type 0} (k j : ℕ) (xs : List X) → drop k (take j xs) ≡ take (j - k) (drop k xs)
-cut-within zero j xs = let same : j - 0 ≡ j = omega arith in sym (ap (λ n. take n xs) same)
-cut-within (suc k) zero xs = let none : 0 - suc k ≡ 0 = omega arith in sym (ap (λ n. take n (drop (suc k) xs)) none)
-cut-within (suc k) (suc j) [] = sym (take-nothing (suc j - suc k))
-cut-within (suc k) (suc j) (x ∷ xs) = let same : suc j - suc k ≡ j - k = omega arith in cut-within k j xs
-    ∙ sym (ap (λ n. take n (drop k xs)) same)
+cut-within zero j xs = search arith
+cut-within (suc k) zero xs = search arith
+cut-within (suc k) (suc j) [] = search (arith, take-nothing)
+cut-within (suc k) (suc j) (x ∷ xs) = search (arith, cut-within k j xs)
 
 opens-within : (n : ℕ) (cs : List ℕ) → prefix_len is_selector cs ≤ n + prefix_len is_selector (drop n cs)
 opens-within zero cs = omega arith
 opens-within (suc n) [] = omega arith
 opens-within (suc n) (c ∷ cs) =
-    elim (is_selector c) as (λ b. cond b (1 + prefix_len is_selector cs) 0
-    ≤ suc n + prefix_len is_selector (drop n cs)) [
-      | true ↦ omega (arith, opens-within n cs)
-      | false ↦ omega arith
-    ]
+    search (arith, opens-within n cs)
 
 opening-within : (b : Bool) (n : ℕ) (cs : List ℕ) → cond b (prefix_len is_selector cs) 0
     ≤ n + cond b (prefix_len is_selector (drop n cs)) 0
 opening-within true n cs = opens-within n cs
 opening-within false n cs = omega arith
-
--- the same behind the opening selectors, so the same but for one place there
-but-behind : (script : Option Script) (j : ℕ) (cs fs hs us vs : List ℕ) → let k = opening script cs in drop k fs
-    ≡ drop k us → drop k hs ≡ drop k vs → SameBut script 0 j cs us vs → SameBut script k j cs fs hs
-but-behind script j cs fs hs us vs f h same =
-    let k = opening script cs in
-    let l = suc j + opening script (drop (suc j) cs) in
-    let more = l - k in
-    let low = opening-within (is_mongolian script) (suc j) cs in
-    let whole : k + more ≡ l = omega arith in
-    let past = λ (xs ys : List ℕ) (e : drop k xs ≡ drop k ys). (
-    sym (ap (λ n. drop n xs) whole) ∙ sym (drop-drop more k xs) ∙ ap (drop more) e ∙ drop-drop more k ys
-    ∙ ap (λ n. drop n ys) whole) in
-    let within = λ (xs ys : List ℕ) (e : drop k xs ≡ drop k ys). cut-within k j xs ∙ ap (take (j - k)) e
-    ∙ sym (cut-within k j ys) in
-    (within fs us f ∙ ap (drop k) same.0 ∙ sym (within hs vs h), past fs us f ∙ same.1 ∙ sym (past hs vs h))
 
 -- glyphs in such forms
 but-shown : (script : Option Script) (k j : ℕ) (cs masks fs hs : List ℕ) (gs : List hb_glyph_info_t)
@@ -172,12 +94,9 @@ but-shown : (script : Option Script) (k j : ℕ) (cs masks fs hs : List ℕ) (gs
     → SameBut script k j cs (order_view (with_joining_forms masks fs gs)) (order_view (with_joining_forms masks hs gs))
 but-shown script k j cs masks fs hs gs same =
     let l = suc j + opening script (drop (suc j) cs) in
-    let inner = λ (xs : List ℕ). ap (drop k) (take-shown masks j xs gs)
-    ∙ drop-shown masks k (take j xs) (take j gs) in (
-      inner fs ∙ ap (λ xs. order_view (with_joining_forms masks xs (drop k (take j gs)))) same.0 ∙ sym (inner hs),
-      drop-shown masks l fs gs ∙ ap (λ xs. order_view (with_joining_forms masks xs (drop l gs))) same.1
-          ∙ sym (drop-shown masks l hs gs),
-    )
+    let inner = λ (xs : List ℕ). ap (drop k) (take-shown masks j xs gs) ∙ drop-shown masks k (take j xs) (take j gs)
+    in
+    search (arith, inner fs, same.0, inner hs, drop-shown, same.1)
 
 -- the forms of a buffer of two parts
 record OfParts (script : Option Script) (joining : ℕ → hb_arabic_joining_type_t) (general : ℕ
@@ -201,18 +120,13 @@ of-parts script joining general b xs ys e =
     let after = context_types joining general b.after in
     let ts = stored_types joining xs in
     let us = stored_types joining ys in
-    let n = length xs in
-    let k = opening script (map id ys) in
-    let is = text-parts joining general b xs ys e in
-    let fs = forms before ts (us ++ after) in
-    let hs = forms (reverse ts ++ before) us after in
-    let parts = in-parts (is_mongolian script) n (map id xs ++ map id ys) (forms before (ts ++ us) after) (map id xs) fs
-    (map id ys) hs refl (forms-append before ts us after) (length-map xs id)
-    (length-forms before ts (us ++ after) ∙ types_long joining xs) in
-    record {
-      first = ap (λ t. take n (forms_of script t)) is ∙ parts.first;
-      second = ap (λ t. drop (n + k) (forms_of script t)) is ∙ parts.second;
-    }
+    let parts = in-parts (is_mongolian script)
+    (length xs) (map id xs ++ map id ys) (forms before (ts ++ us) after) (map id xs)
+    (forms before ts (us ++ after)) (map id ys)
+    (forms (reverse ts ++ before) us after) refl (forms-append before ts us after) (length-map xs id) (length-forms
+    before ts (us ++ after)
+    ∙ types_long joining xs) in
+    search (arith, text-parts, parts.first, parts.second)
 
 -- the part before an edit
 stay-before : (breaks : BreakFlags) (masks : List ℕ) (script : Option Script) (joining : ℕ → hb_arabic_joining_type_t)
@@ -232,33 +146,33 @@ stay-before breaks masks script joining general one two xs ys zs n long e f fron
     let second_text = text_of joining general two in
     let fs = of_script script cs (forms before ts near) in
     let hs = of_script script cs (forms before ts other) in
-    let first_forms : take n (forms_of script first_text) ≡ fs =
-    ap (λ i. take i (forms_of script first_text)) (sym long)
-    ∙ (of-parts script joining general one xs ys e).first
-    ∙ ap (λ c. of_script script cs (forms (context_types joining general c) ts near)) fronts in
-    let second_forms : take n (forms_of script second_text) ≡ hs =
-    ap (λ i. take i (forms_of script second_text)) (sym long)
-    ∙ (of-parts script joining general two xs zs f).first in
-    let first_view : order_view (take n (joined_glyphs breaks masks one.flags script first_text one.glyphs))
-    ≡ shown fs =
+    let first_view =
     take-view breaks masks one.flags script first_text one.glyphs n
-    ∙ ap (λ us. order_view (with_joining_forms masks us (take n one.glyphs))) first_forms
+    ∙ ap (λ us. order_view (with_joining_forms masks us (take n one.glyphs)))
+    (ap (λ i. take i (forms_of script first_text)) (sym long) ∙ (of-parts script joining general one xs ys e).first ∙
+    ap (λ c. of_script script cs (forms (context_types joining general c) ts near)) fronts)
     ∙ ap (λ gs. order_view (with_joining_forms masks fs gs)) (ap (take n) e ∙ take_at xs ys n long) in
-    let second_view : order_view (take n (joined_glyphs breaks masks two.flags script second_text two.glyphs))
-    ≡ shown hs =
+    let second_view =
     take-view breaks masks two.flags script second_text two.glyphs n
-    ∙ ap (λ us. order_view (with_joining_forms masks us (take n two.glyphs))) second_forms
+    ∙ ap (λ us. order_view (with_joining_forms masks us (take n two.glyphs)))
+    (ap (λ i. take i (forms_of script second_text)) (sym long) ∙ (of-parts script joining general two xs zs f).first)
     ∙ ap (λ gs. order_view (with_joining_forms masks hs gs)) (ap (take n) f ∙ take_at xs zs n long) in
-    let now : StayBefore script ts cs (shown fs) (shown hs) = record {
-      none = λ none. ap shown (before-none script cs before ts near other none);
-      last = λ front tail t is letter rest. but-shown script 0 (length front) cs masks fs hs xs
-          (subst (λ us. SameBut script 0 (length front) cs (of_script script cs (forms before us near))
-          (of_script script cs (forms before us other))) (sym is)
-          (before-last script cs before front tail near other t letter rest));
-    } in
     subst (λ gs. StayBefore script ts cs gs
     (order_view (take n (joined_glyphs breaks masks two.flags script second_text two.glyphs)))) (sym first_view)
-    (subst (λ gs. StayBefore script ts cs (shown fs) gs) (sym second_view) now)
+    (subst (λ gs. StayBefore script ts cs (shown fs) gs) (sym second_view)
+    (record {
+      none = λ none. ap shown (search (arith, forms-transparent));
+      last = λ front tail t is
+          letter rest. but-shown script 0 (length front) cs masks fs hs xs (subst (λ us. SameBut script 0 (length front) cs
+          (of_script script cs (forms before us near)) (of_script script cs (forms before us other))) (sym is) (
+          let seen = nearest (reverse front ++ before) in
+          search (
+            arith,
+            forms-parts,
+            but-one script cs (forms before front (t ∷ [])) (replicate (length tail) NONE) (act seen t (nearest near))
+                (act seen t (nearest other)) (length front) (length-forms before front (t ∷ [])),
+          )));
+    }))
 
 -- and the part behind it
 stay-behind : (breaks : BreakFlags) (masks : List ℕ) (script : Option Script) (joining : ℕ → hb_arabic_joining_type_t)
@@ -281,49 +195,68 @@ stay-behind breaks masks script joining general one two xs ys zs n m long more e
     let us = of_script script cs (forms seen ts after) in
     let vs = of_script script cs (forms other ts after) in
     let shown = λ (ws : List ℕ). order_view (with_joining_forms masks ws zs) in
-    let first_forms : drop k fs ≡ drop k us = drop-drop k n (forms_of script first_text)
+    let first_forms = drop-drop k n (forms_of script first_text)
     ∙ ap (λ i. drop (i + k) (forms_of script first_text)) (sym long)
     ∙ (of-parts script joining general one xs zs e).second
     ∙ ap (λ c. drop k (of_script script cs (forms seen ts (context_types joining general c)))) ends in
-    let second_forms : drop k hs ≡ drop k vs = drop-drop k m (forms_of script second_text)
+    let second_forms = drop-drop k m (forms_of script second_text)
     ∙ ap (λ i. drop (i + k) (forms_of script second_text)) (sym more)
     ∙ (of-parts script joining general two ys zs f).second in
-    let first_view : order_view (drop n (joined_glyphs breaks masks one.flags script first_text one.glyphs))
-    ≡ shown fs =
-    drop-view breaks masks one.flags script first_text one.glyphs n
-    ∙ ap (λ gs. order_view (with_joining_forms masks fs gs)) (ap (drop n) e ∙ drop_at xs zs n long) in
-    let second_view : order_view (drop m (joined_glyphs breaks masks two.flags script second_text two.glyphs))
-    ≡ shown hs =
-    drop-view breaks masks two.flags script second_text two.glyphs m
-    ∙ ap (λ gs. order_view (with_joining_forms masks hs gs)) (ap (drop m) f ∙ drop_at ys zs m more) in
-    let now : StayBehind script ts cs (shown fs) (shown hs) = record {
-      none = λ none.
-          let same = first_forms ∙ ap (λ ws. drop k (of_script script cs ws)) (forms-transparent seen ts after none
-          ∙ sym (forms-transparent other ts after none)) ∙ sym second_forms in
-          drop-shown masks k fs zs ∙ ap (λ ws. order_view (with_joining_forms masks ws (drop k zs))) same
-          ∙ sym (drop-shown masks k hs zs);
-      first = λ front tail t is none letter.
-          let j = length front in
-          let same = subst (λ rs. SameBut script 0 j cs (of_script script cs (forms seen rs after))
-          (of_script script cs (forms other rs after))) (sym is)
-          (behind-first script cs seen other front tail after t none letter) in
-          but-shown script k j cs masks fs hs zs (but-behind script j cs fs hs us vs first_forms second_forms same);
-    } in
     subst (λ gs. StayBehind script ts cs gs
-    (order_view (drop m (joined_glyphs breaks masks two.flags script second_text two.glyphs)))) (sym first_view)
-    (subst (λ gs. StayBehind script ts cs (shown fs) gs) (sym second_view) now)
+    (order_view (drop m (joined_glyphs breaks masks two.flags script second_text two.glyphs)))) (sym
+    (drop-view breaks masks one.flags script first_text one.glyphs n
+    ∙ ap (λ gs. order_view (with_joining_forms masks fs gs)) (ap (drop n) e ∙ drop_at xs zs n long)))
+    (subst (λ gs. StayBehind script ts cs (shown fs) gs) (sym
+    (drop-view breaks masks two.flags script second_text two.glyphs m
+    ∙ ap (λ gs. order_view (with_joining_forms masks hs gs)) (ap (drop m) f ∙ drop_at ys zs m more)))
+    (record {
+      none = λ none. let same = first_forms
+          ∙ ap (λ ws. drop k (of_script script cs ws))
+          (forms-transparent seen ts after none ∙ sym (forms-transparent other ts after none))
+          ∙ sym second_forms in drop-shown masks k fs zs
+          ∙ ap (λ ws. order_view (with_joining_forms masks ws (drop k zs))) same ∙ sym (drop-shown masks k hs zs);
+      first = λ
+          front tail t is none letter. let j = length front in
+          let same = subst (λ rs. SameBut script 0 j cs (of_script script cs (forms seen rs after)) (of_script script cs
+          (forms other rs after))) (sym is) (
+          let fs = replicate (length front) NONE in
+          let j = length front in
+          let near = nearest (tail ++ after) in
+          search (
+            arith,
+            forms-append,
+            forms-transparent,
+            forms-contexts,
+            but-one script cs fs (forms (t ∷ (reverse front ++ seen)) tail after)
+                (act (nearest (reverse front ++ seen)) t near) (act (nearest (reverse front ++ other)) t near) j
+                (sym (ap length (forms-transparent seen front (t ∷ (tail ++ after)) none)) ∙ length-forms seen front
+                (t ∷ (tail ++ after))),
+          )) in but-shown
+          script k j cs masks fs hs zs (
+          let k = opening script cs in
+          let l = suc j + opening script (drop (suc j) cs) in
+          let more = l - k in
+          let low = opening-within (is_mongolian script) (suc j) cs in
+          let whole : k + more ≡ l = omega arith in
+          let past = λ (xs ys : List ℕ) (e : drop k xs ≡ drop k ys).
+          sym (ap (λ n. drop n xs) whole) ∙ sym (drop-drop more k xs) ∙ ap (drop more) e ∙ drop-drop more k ys
+          ∙ ap (λ n. drop n ys) whole in
+          let within = λ (xs ys : List ℕ) (e : drop k xs ≡ drop k ys). cut-within k j xs ∙ ap (take (j - k)) e ∙ sym
+          (cut-within k j ys) in
+          search (arith, same.0, within hs vs second_forms, past fs us first_forms, same.1, past hs vs second_forms));
+    }))
 
 pub glyphs-stay_near : GlyphsStayNear
 glyphs-stay_near breaks masks script joining general s e gs b order within =
     let two = edited s e gs b in
     let front = take s b.glyphs in
     let back = drop e b.glyphs in
-    let long : length front ≡ s = length-take-le s b.glyphs (omega arith) in
-    let ended : length (take e b.glyphs) ≡ e = length-take-le e b.glyphs within in
-    let more : length (front ++ gs) ≡ s + length gs = omega (arith, length-append front gs) in
-    record {
-      before = stay-before breaks masks script joining general b two front (drop s b.glyphs) (gs ++ back) s long
-          (sym (take-append-drop s b.glyphs)) refl refl;
-      behind = stay-behind breaks masks script joining general b two (take e b.glyphs) (front ++ gs) back e
-          (s + length gs) ended more (sym (take-append-drop e b.glyphs)) (sym (append_assoc front gs back)) refl;
-    }
+    let long = length-take-le s b.glyphs (omega arith) in
+    search (
+      arith,
+      stay-before breaks masks script joining general b two front (drop s b.glyphs) (gs ++ back) s long
+          (sym (take-append-drop s b.glyphs)) refl refl,
+      stay-behind breaks masks script joining general b two (take e b.glyphs) (front ++ gs) back e (s + length gs)
+          (length-take-le e b.glyphs within) (omega (arith, length-append front gs))
+          (sym (take-append-drop e b.glyphs)) (sym (append_assoc front gs back)) refl,
+    )

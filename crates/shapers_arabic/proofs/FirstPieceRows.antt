@@ -1,7 +1,7 @@
 -- What joining leaves of small texts and of their first letter alone, written out from the rule;
 -- fresh texts and transparent selectors.
-use Rattle.std.specs.Prelude.{◌≡◌, ◌==◌, ℕ, List, [], ◌∷◌, map, Option, None, Some, codes, if◌then◌else◌, refl, true, false}
-use Rattle.std.proofs.Common.{arith, zero, suc, ◌<◌, inl, inr, ap}
+use Rattle.std.specs.Prelude.{◌≡◌, ◌==◌, ℕ, List, [], ◌∷◌, map, Option, None, Some, codes, if◌then◌else◌, refl}
+use Rattle.std.proofs.Common.{arith, zero, suc, ◌<◌, inr}
 use Rattle.std.specs.List.{slice_index_or}
 use Rattle.shapers_buffer.specs.Buffer.{Buffer, new_buffer}
 use Rattle.shapers_buffer.specs.Glyph.{default_glyph}
@@ -64,7 +64,7 @@ sound_alaph : left Sound None (rising 0x715 0x710) ≡ 8 ∷ 67 ∷ []
 sound_alaph = refl
 
 clear_alaph : IsClear (after AsCode None (rising 0x715 0x710)).glyphs 1
-clear_alaph = record { differ = λ e. absurd (omega (arith, e)); unflagged = refl }
+clear_alaph = search arith
 
 first_alaph : FirstKeepsAt AsCode masks None type_of letter (rising 0x715 0x710)
     (after AsCode None (rising 0x715 0x710)) 1
@@ -78,13 +78,13 @@ code_falling : left AsCode None (falling 1 1) ≡ 515 ∷ 16 ∷ []
 code_falling = refl
 
 not_clear_joined : IsClear (after AsCode None (rising 1 1)).glyphs 1 → ⊥
-not_clear_joined clear = absurd (let e : true ≡ false = clear.unflagged in cc)
+not_clear_joined clear = cc
 
 not_clear_falling : IsClear (after AsCode None (falling 1 1)).glyphs 1 → ⊥
-not_clear_falling clear = absurd (let e : true ≡ false = clear.unflagged in cc)
+not_clear_falling clear = cc
 
 not_first_falling : FirstKeepsAt AsCode masks None type_of letter (falling 1 1) (after AsCode None (falling 1 1)) 1 → ⊥
-not_first_falling kept = absurd (let e : (6 ∷ []) ≡ 0 ∷ [] = ap (map (λ (g : hb_glyph_info_t). g.auxiliary)) kept in cc)
+not_first_falling kept = search arith
 
 -- 0715 0710 where clusters fall: flagged with Sound in the first glyph
 sound_falling : left Sound None (falling 0x715 0x710) ≡ 11 ∷ 64 ∷ []
@@ -119,7 +119,7 @@ transparent : SelectorsAreTransparent mong (text 0x180B T)
 transparent e = (λ s. cc, (λ s. refl, tt))
 
 not_transparent : SelectorsAreTransparent mong (text 0x180B GroupAlaph) → ⊥
-not_transparent all = absurd (let e : false ≡ true = (all refl).1.0 refl in cc)
+not_transparent all = search arith
 
 letters_too : SelectorsAreTransparent mong (text 0x1821 D)
 letters_too e = (λ s. cc, (λ s. cc, tt))
@@ -139,17 +139,14 @@ fresh = record {
   single = inr ones;
   unflagged = (refl, (refl, tt));
   unmasked =
-      (refl, (refl, (refl, (refl, (refl, (refl, (refl, (refl, tt))))))));
+      search arith;
 }
 
 not_single : IsFresh masks (glyph 1 0 ∷ glyph 1 0 ∷ []) → ⊥
-not_single f = elim f.single [
-  | inl up ↦ let e : 0 < 0 = up 0 1 0 (omega arith) (omega arith) in absurd (omega (arith, e))
-  | inr down ↦ let e : 0 < 0 = down 0 1 0 (omega arith) (omega arith) in absurd (omega (arith, e))
-]
+not_single f = search arith
 
 not_unflagged : IsFresh masks (record (glyph 1 0) { mask = 4 } ∷ []) → ⊥
-not_unflagged f = absurd (let e : true ≡ false = f.unflagged.0 in cc)
+not_unflagged f = cc
 
 not_unmasked : IsFresh (8 ∷ 17 ∷ []) (glyph 1 0 ∷ []) → ⊥
-not_unmasked f = let e : 1 ≡ 0 = f.unmasked.1.0 in absurd (omega (arith, e))
+not_unmasked f = search arith

@@ -1,6 +1,6 @@
 -- Where the first half of a text that joins keeps its forms: at each clear place, and with the
 -- code's flags in a fresh text at no other.
-use Rattle.std.proofs.Common.{◌≡◌, ℕ, ◌<◌, List, [], ◌++◌, length, map, take, drop, Option, sym, ap, ◌∙◌, subst, arith}
+use Rattle.std.proofs.Common.{◌≡◌, ℕ, ◌<◌, List, [], length, take, drop, Option, sym, ap, ◌∙◌, subst, arith}
 use Rattle.std.proofs.lemmas.Bool.{or_parts}
 use Rattle.std.proofs.lemmas.List.{length-map, length-take-le, take-append-drop, take-map, take_at}
 use Rattle.std.proofs.lemmas.List.Folds.{list_any-append}
@@ -42,14 +42,16 @@ take-formed : (masks fs : List ℕ) (gs : List hb_glyph_info_t) (n : ℕ) → le
 take-formed masks fs gs n same within =
     let xs = take n fs in
     let ys = take n gs in
-    let x_long : length xs ≡ n = length-take-le n fs (omega arith) in
-    let y_long : length ys ≡ n = length-take-le n gs (omega arith) in
-    let long : length (with_joining_forms masks xs ys) ≡ n = length-map (zip xs ys) (λ p. with_form masks p.0 p.1)
-    ∙ omega (arith, length-zip xs ys) in
-    ap (λ ps. take n (with_joining_forms masks ps gs)) (sym (take-append-drop n fs))
-    ∙ ap (λ ps. take n (with_joining_forms masks (xs ++ drop n fs) ps)) (sym (take-append-drop n gs))
-    ∙ ap (take n) (with_forms-parts masks xs (drop n fs) ys (drop n gs) (x_long ∙ sym y_long))
-    ∙ take_at (with_joining_forms masks xs ys) (with_joining_forms masks (drop n fs) (drop n gs)) n long
+    let x_long = length-take-le n fs (omega arith) in
+    let y_long = length-take-le n gs (omega arith) in
+    search (
+      arith,
+      take-append-drop n fs,
+      take-append-drop n gs,
+      with_forms-parts,
+      take_at (with_joining_forms masks xs ys) (with_joining_forms masks (drop n fs) (drop n gs)) n
+          (length-map (zip xs ys) (λ p. with_form masks p.0 p.1) ∙ omega (arith, length-zip xs ys)),
+    )
 
 -- the first half in the order view
 front-joined : (breaks : BreakFlags) (masks : List ℕ) (flags : BufferFlags) (script : Option Script) (text : Text)
@@ -58,17 +60,17 @@ front-joined : (breaks : BreakFlags) (masks : List ℕ) (flags : BufferFlags) (s
     → order_view (take n (joined_glyphs breaks masks flags script text gs))
     ≡ order_view (joined_glyphs breaks masks flags script (first_half n [] text) (take n gs))
 front-joined breaks masks flags script text gs n characters long within free =
-    let same : length text.characters ≡ length text.types = characters ∙ sym long in
+    let same = characters ∙ sym long in
     let all = forms_of script text in
-    let one = first_half n [] text in
-    let formed = with_joining_forms masks all gs in
-    sym (take-map plain n (joined_glyphs breaks masks flags script text gs))
-    ∙ ap (take n) (view-joined breaks masks flags script text gs)
-    ∙ take-map plain n formed
-    ∙ ap order_view (take-formed masks all gs n (length-forms_of script text same ∙ long) within)
-    ∙ ap (λ fs. order_view (with_joining_forms masks fs (take n gs)))
-    (first-free script text n same (omega arith) (joining-free breaks script text n free))
-    ∙ sym (view-joined breaks masks flags script one (take n gs))
+    search (
+      arith,
+      take-map,
+      view-joined breaks masks flags script text gs,
+      take-map plain n (with_joining_forms masks all gs),
+      take-formed masks all gs n (length-forms_of script text same ∙ long) within,
+      first-free script text n same (omega arith) (joining-free breaks script text n free),
+      view-joined breaks masks flags script (first_half n [] text) (take n gs),
+    )
 
 -- and the forms in it
 front-forms : (masks : List ℕ) (flags : BufferFlags) (script : Option Script) (text : Text) (gs : List hb_glyph_info_t)
@@ -77,17 +79,15 @@ front-forms : (masks : List ℕ) (flags : BufferFlags) (script : Option Script) 
     ≡ order_view (joined_glyphs AsCode masks flags script (first_half n [] text) (take n gs))
     → take n (forms_of script text) ≡ forms_of script (first_half n [] text)
 front-forms masks flags script text gs n characters long within kept =
-    let aux = λ (g : hb_glyph_info_t). g.auxiliary in
     let one = first_half n [] text in
-    let view = order_view (joined_glyphs AsCode masks flags script text gs) in
-    let one_long : length one.types ≡ length (take n gs) = length-take-le n text.types (omega arith)
-    ∙ sym (length-take-le n gs (omega arith)) in
-    let one_same : length one.characters ≡ length (take n gs) = length-take-le n text.characters (omega arith)
-    ∙ sym (length-take-le n gs (omega arith)) in
-    ap (take n) (sym (forms-shown AsCode masks flags script text gs characters long))
-    ∙ take-map aux n view
-    ∙ ap (map aux) (take-map plain n (joined_glyphs AsCode masks flags script text gs) ∙ kept)
-    ∙ forms-shown AsCode masks flags script one (take n gs) one_same one_long
+    search (
+      arith,
+      forms-shown AsCode masks flags script text gs characters long,
+      take-map,
+      forms-shown AsCode masks flags script one (take n gs)
+          (length-take-le n text.characters (omega arith) ∙ sym (length-take-le n gs (omega arith)))
+          (length-take-le n text.types (omega arith) ∙ sym (length-take-le n gs (omega arith))),
+    )
 
 -- the front of a buffer, joined by itself
 front-is : (breaks : BreakFlags) (masks : List ℕ) (script : Option Script) (joining : ℕ → hb_arabic_joining_type_t)
@@ -96,8 +96,7 @@ front-is : (breaks : BreakFlags) (masks : List ℕ) (script : Option Script) (jo
     ≡ order_view (joined_glyphs breaks masks b.flags script (first_half n [] (text_of joining general b))
     (take n b.glyphs))
 front-is breaks masks script joining general n b =
-    ap (λ t. order_view (joined_glyphs breaks masks b.flags script t (take n b.glyphs)))
-    (text-front joining general n b)
+    search (arith, text-front)
 
 first-kept_where : (breaks : BreakFlags) (masks : List ℕ) (script : Option Script) (joining : ℕ
     → hb_arabic_joining_type_t) (general : ℕ → hb_unicode_general_category_t) (old new : Buffer) (n : ℕ)
@@ -108,12 +107,9 @@ first-kept_where breaks masks script joining general old new n is pos within cle
     let gs = old.glyphs in
     let characters = length-map gs (λ g. g.glyph_id) in
     let long = types_long joining gs in
-    let whole : new.glyphs ≡ joined_glyphs breaks masks old.flags script text gs = ap (λ (b : Buffer). b.glyphs) is in
-    let free = free-clear breaks masks old.flags script text gs n characters long pos within
-    (subst (λ hs. IsClear hs n) whole clear) in
-    ap (λ hs. order_view (take n hs)) whole
-    ∙ front-joined breaks masks old.flags script text gs n characters long within free
-    ∙ sym (front-is breaks masks script joining general n old)
+    let free = free-clear breaks masks old.flags script text gs n characters long pos within (subst (λ hs. IsClear hs
+    n) (ap (λ (b : Buffer). b.glyphs) is) clear) in
+    search (arith, front-joined breaks masks old.flags script text gs n characters long within free, front-is)
 
 clear-kept : (breaks : BreakFlags) (masks : List ℕ) (script : Option Script) (joining : ℕ → hb_arabic_joining_type_t)
     (general : ℕ → hb_unicode_general_category_t) (old new : Buffer) (n : ℕ)
@@ -126,21 +122,18 @@ clear-kept AsCode masks script joining general old new n is pos within e fresh s
     let gs = old.glyphs in
     let characters = length-map gs (λ g. g.glyph_id) in
     let long = types_long joining gs in
-    let whole : new.glyphs ≡ joined_glyphs AsCode masks old.flags script text gs = ap (λ (b : Buffer). b.glyphs) is in
-    let forms_kept =
-    front-forms masks old.flags script text gs n characters long within
-    (ap (λ hs. order_view (take n hs)) (sym whole) ∙ kept
-    ∙ front-is AsCode masks script joining general n old) in
-    subst (λ hs. IsClear hs n) (sym whole)
-    (clear-fresh AsCode masks old.flags script text gs n characters long fresh pos within
-    (free-first script text n (characters ∙ sym long) (omega arith) silent forms_kept))
+    let forms_kept = front-forms masks old.flags script text gs n characters long within (ap
+    (λ hs. order_view (take n hs)) (sym (ap (λ (b : Buffer). b.glyphs) is))
+    ∙ kept ∙ front-is AsCode masks script joining general n old) in
+    search (
+      arith,
+      clear-fresh AsCode masks old.flags script text gs n characters long fresh pos within
+          (free-first script text n (characters ∙ sym long) (omega arith) silent forms_kept),
+    )
 
 pub first-as_flagged : (breaks : BreakFlags) (masks : List ℕ) (script : Option Script) (joining : ℕ
     → hb_arabic_joining_type_t) (general : ℕ → hb_unicode_general_category_t) (old new : Buffer)
     → new ≡ buffer_joined breaks masks script joining general old
     → FirstKeepsAsFlagged breaks masks script joining general old new
-first-as_flagged breaks masks script joining general old new is n pos within = (
-  first-kept_where breaks masks script joining general old new n is pos within,
-  clear-kept breaks masks script
-      joining general old new n is pos within,
-)
+first-as_flagged breaks masks script joining general old new is n pos within =
+    search (arith, first-kept_where, clear-kept)

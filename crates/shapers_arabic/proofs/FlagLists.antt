@@ -1,14 +1,13 @@
 -- The flags of joining over lists of types: a text falls into parts, and each call's stretch is in order.
-use Rattle.std.proofs.Common.{◌≡◌, ℕ, suc, ◌≤◌, Bool, true, false, cond, ◌||◌, List, [], ◌∷◌, ◌++◌, length, reverse, Option, None, Some, refl, sym, ap, ◌∙◌, arith, append_assoc}
+use Rattle.std.proofs.Common.{◌≡◌, ℕ, suc, ◌≤◌, Bool, true, false, cond, List, [], ◌∷◌, ◌++◌, length, reverse, Option, None, Some, refl, arith, append_assoc}
 use Rattle.std.specs.List.{AllByRecursion}
 use Rattle.std.proofs.lemmas.List.{append-nil, length-reverse, reverse-append}
 use Rattle.shapers_buffer.specs.GlyphFlags.{UnsafeToConcat, SafeToInsertTatweel}
 use Rattle.shapers_buffer.proofs.MappedLists.{all-append}
 use Rattle.shapers_clusters.specs.Flags.{InOrder}
 use Rattle.shapers_base.specs.declared.plan.joining.hb_arabic_joining_type_t.{hb_arabic_joining_type_t}
-use Rattle.shapers_base.specs.declared.plan.joining.hb_arabic_joining_type_t.TheVariants.{T}
-use Rattle.shapers_arabic.specs.Joining.{is_transparent, nearest, joins_back}
-use Rattle.shapers_arabic.specs.JoiningFlags.{Letter, nearest_letter, changes_form, can_change, letter_flags, end_flags, flags_along, joining_flags}
+use Rattle.shapers_arabic.specs.Joining.{is_transparent, nearest}
+use Rattle.shapers_arabic.specs.JoiningFlags.{Letter, nearest_letter, letter_flags, end_flags, flags_along, joining_flags}
 use Rattle.shapers_arabic.proofs.JoiningLists.{transparent}
 
 -- behind transparent types the nearest letter is that of the rest
@@ -16,43 +15,24 @@ pub letter-transparent : (ts us : List hb_arabic_joining_type_t) → nearest ts 
     → nearest_letter (ts ++ us) ≡ nearest_letter us
 letter-transparent [] us e = refl
 letter-transparent (t ∷ ts) us e =
-    let (first, rest) = transparent t ts e in
-    ap (λ x. cond (is_transparent x) (nearest_letter (ts ++ us)) (Some (record { own = x; before = ts ++ us }))) first
-    ∙ letter-transparent ts us rest
+    let (first, rest) = transparent t ts e in cc (letter-transparent ts us rest)
 
 pub no_letter : (ts : List hb_arabic_joining_type_t) → nearest ts ≡ None → nearest_letter ts ≡ None
-no_letter ts e = ap nearest_letter (sym (append-nil ts)) ∙ letter-transparent ts [] e
+no_letter ts e = cc (append-nil ts, letter-transparent ts [] e)
 
 -- a text in two parts
 pub flags_along-append : (context passed xs ys : List hb_arabic_joining_type_t) → flags_along context passed (xs ++ ys)
     ≡ flags_along context passed xs ++ flags_along context (reverse xs ++ passed) ys
 flags_along-append context passed [] ys = refl
 flags_along-append context passed (x ∷ xs) ys =
-    let here = cond (is_transparent x) [] (letter_flags context (nearest_letter passed) x (suc (length passed))) in
-    let seen : reverse xs ++ (x ∷ passed) ≡ reverse (x ∷ xs) ++ passed =
-    sym (ap (λ r. r ++ passed) (reverse-append (x ∷ []) xs) ∙ append_assoc (reverse xs) (x ∷ []) passed) in
-    ap (λ calls. here ++ calls) (flags_along-append context (x ∷ passed) xs ys
-    ∙ ap (λ us. flags_along context (x ∷ passed) xs ++ flags_along context us ys) seen)
-    ∙ sym (append_assoc here (flags_along context (x ∷ passed) xs)
-    (flags_along context (reverse (x ∷ xs) ++ passed) ys))
+    search (arith, flags_along-append context (x ∷ passed) xs ys, reverse-append (x ∷ []) xs, append_assoc)
 
 -- one more place: a transparent one flags nothing, a letter with the nearest one before it
-pub flags-transparent : (context ts : List hb_arabic_joining_type_t) → flags_along context [] (ts ++ T ∷ [])
-    ≡ flags_along context [] ts
-flags-transparent context ts = flags_along-append context [] ts (T ∷ []) ∙ append-nil (flags_along context [] ts)
-
 pub flags-letter : (context ts : List hb_arabic_joining_type_t) (t : hb_arabic_joining_type_t) (end : ℕ)
     → is_transparent t ≡ false → end ≡ suc (length ts) → flags_along context [] (ts ++ t ∷ []) ≡ flags_along context
     [] ts ++ letter_flags context (nearest_letter (reverse ts)) t end
 flags-letter context ts t end letter at =
-    let passed = reverse ts in
-    let place : suc (length passed) ≡ end = ap suc (length-reverse ts) ∙ sym at in
-    flags_along-append context [] ts (t ∷ [])
-    ∙ ap (λ us. flags_along context [] ts ++ flags_along context us (t ∷ [])) (append-nil passed)
-    ∙ ap (λ calls. flags_along context [] ts ++ calls)
-    (append-nil (cond (is_transparent t) [] (letter_flags context (nearest_letter passed) t (suc (length passed))))
-    ∙ ap (λ b. cond b [] (letter_flags context (nearest_letter passed) t (suc (length passed)))) letter
-    ∙ ap (letter_flags context (nearest_letter passed) t) place)
+    search (arith, flags_along-append, append-nil, length-reverse)
 
 -- nothing behind the text flags nothing
 pub end-nothing : (context : List hb_arabic_joining_type_t) (k : Option Letter) (end : ℕ) → end_flags context k None end
@@ -80,16 +60,16 @@ one_or-in_order false false s e h = tt
 
 letter-in_order : (context : List hb_arabic_joining_type_t) (k : Option Letter) (t : hb_arabic_joining_type_t) (end : ℕ)
     → Before k end → AllByRecursion InOrder (letter_flags context k t end)
-letter-in_order context None t end h = one_or-in_order false (joins_back (Some t)) 0 end (omega arith)
+letter-in_order context None t end h = search (arith, one_or-in_order)
 letter-in_order context (Some k) t end h =
-    one_or-in_order (changes_form context k t) (joins_back (Some t) || can_change context k) (length k.before) end h
+    search (arith, one_or-in_order)
 
 end-in_order : (context : List hb_arabic_joining_type_t) (k : Option Letter) (o : Option hb_arabic_joining_type_t)
     (end : ℕ) → Before k end → AllByRecursion InOrder (end_flags context k o end)
 end-in_order context None o end h = tt
 end-in_order context (Some k) None end h = tt
 end-in_order context (Some k) (Some t) end h =
-    one_or-in_order (changes_form context k t) (can_change context k) (length k.before) end h
+    search (arith, one_or-in_order)
 
 along-in_order : (context passed ts : List hb_arabic_joining_type_t)
     → AllByRecursion InOrder (flags_along context passed ts)
@@ -103,8 +83,7 @@ along-in_order context passed (t ∷ ts) =
       | false ↦ letter-in_order context (nearest_letter passed) t end
           (letter-before passed end (omega arith))
     ] in
-    all-append InOrder (cond (is_transparent t) [] calls) (flags_along context (t ∷ passed) ts) here
-    (along-in_order context (t ∷ passed) ts)
+    search (arith, all-append, along-in_order context (t ∷ passed) ts)
 
 pub joining-in_order : (context types after : List hb_arabic_joining_type_t)
     → AllByRecursion InOrder (joining_flags context types after)

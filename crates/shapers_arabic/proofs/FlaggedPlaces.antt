@@ -1,9 +1,9 @@
 -- Where joining's own calls, and those of Sound, forbid a break: told by the nearest letters on both sides of a place.
-use Rattle.std.proofs.Common.{◌≡◌, ℕ, suc, ◌+◌, ◌<◌, ◌≤◌, Bool, true, false, cond, ltb, ◌&&◌, ◌||◌, List, [], ◌∷◌, ◌++◌, length, reverse, Option, None, Some, refl, sym, ap, ◌∙◌, arith, append_assoc, length-append}
+use Rattle.std.proofs.Common.{◌≡◌, ℕ, suc, ◌+◌, ◌<◌, ◌≤◌, Bool, true, false, cond, ltb, ◌&&◌, ◌||◌, List, [], ◌∷◌, ◌++◌, length, reverse, Option, None, Some, refl, ◌∙◌, arith, append_assoc, length-append}
 use Rattle.std.proofs.lemmas.Bool.{lt-ltb, le-ltb, and_from, and_left, and_right}
 use Rattle.std.proofs.lemmas.List.{append-nil, length-reverse, reverse-append}
 use Rattle.std.proofs.lemmas.List.Folds.{list_any-append}
-use Rattle.shapers_buffer.specs.GlyphFlags.{FlagCall, UnsafeToBreak, UnsafeToConcat, SafeToInsertTatweel}
+use Rattle.shapers_buffer.specs.GlyphFlags.{UnsafeToBreak, UnsafeToConcat, SafeToInsertTatweel}
 use Rattle.shapers_base.specs.declared.plan.joining.hb_arabic_joining_type_t.{hb_arabic_joining_type_t}
 use Rattle.shapers_base.specs.declared.plan.joining.hb_arabic_joining_type_t.TheVariants.{T}
 use Rattle.shapers_arabic.specs.Joining.{is_transparent, nearest, joins_back, act}
@@ -18,16 +18,16 @@ or_none true = refl
 or_none false = refl
 
 pub or_with : (x y z : Bool) → x ≡ z → y ≡ false → (x || y) ≡ z
-or_with x y z e f = ap (λ b. b || y) e ∙ ap (λ b. z || b) f ∙ or_none z
+or_with x y z e f = cc (or_none z)
 
 pub inside : (s p e : ℕ) → s < p → p < e → (ltb s p && ltb p e) ≡ true
-inside s p e h i = and_from (ltb s p) (ltb p e) (lt-ltb s p h) (lt-ltb p e i)
+inside s p e h i = search (arith, and_from, lt-ltb)
 
 pub past : (s p e : ℕ) → e ≤ p → (ltb s p && ltb p e) ≡ false
-past s p e h = and_right (ltb s p) (ltb p e) (le-ltb p e h)
+past s p e h = search (arith, and_right, le-ltb)
 
 pub ahead : (s p e : ℕ) → p ≤ s → (ltb s p && ltb p e) ≡ false
-ahead s p e h = and_left (ltb s p) (ltb p e) (le-ltb s p h)
+ahead s p e h = search (arith, and_left, le-ltb)
 
 pub and_true : (b x : Bool) → x ≡ true → (b && x) ≡ b
 and_true true x e = e
@@ -77,24 +77,24 @@ changed context (Some k) (Some t) = changes_form context k t
 
 letter-past : (context : List hb_arabic_joining_type_t) (o : Option Letter) (t : hb_arabic_joining_type_t) (e p : ℕ)
     → e ≤ p → held_by_calls p (letter_flags context o t e) ≡ false
-letter-past context None t e p h = one_held false (joins_back (Some t)) 0 e p
+letter-past context None t e p h = search (arith, one_held)
 letter-past context (Some k) t e p h =
     one_held (changes_form context k t) (joins_back (Some t) || can_change context k) (length k.before) e p
-    ∙ and_false (changes_form context k t) _ (past (length k.before) p e h)
+    ∙ and_false (changes_form context k t) _ (search (arith, past))
 
 letter-from : (context : List hb_arabic_joining_type_t) (o : Option Letter) (t : hb_arabic_joining_type_t) (e p : ℕ)
     → StandsFrom o p → held_by_calls p (letter_flags context o t e) ≡ false
 letter-from context None t e p h = absurd h
 letter-from context (Some k) t e p h =
     one_held (changes_form context k t) (joins_back (Some t) || can_change context k) (length k.before) e p
-    ∙ and_false (changes_form context k t) _ (ahead (length k.before) p e h)
+    ∙ and_false (changes_form context k t) _ (search (arith, ahead))
 
 letter-here : (context : List hb_arabic_joining_type_t) (o : Option Letter) (t : hb_arabic_joining_type_t) (e p : ℕ)
     → StandsBefore o p → p < e → held_by_calls p (letter_flags context o t e) ≡ changed context o (Some t)
-letter-here context None t e p h i = one_held false (joins_back (Some t)) 0 e p
+letter-here context None t e p h i = search (arith, one_held)
 letter-here context (Some k) t e p h i =
     one_held (changes_form context k t) (joins_back (Some t) || can_change context k) (length k.before) e p
-    ∙ and_true (changes_form context k t) _ (inside (length k.before) p e h i)
+    ∙ and_true (changes_form context k t) _ (search (arith, inside))
 
 end-from : (context : List hb_arabic_joining_type_t) (o : Option Letter) (t : Option hb_arabic_joining_type_t) (e p : ℕ)
     → StandsFrom o p → held_by_calls p (end_flags context o t e) ≡ false
@@ -102,7 +102,7 @@ end-from context None t e p h = absurd h
 end-from context (Some k) None e p h = refl
 end-from context (Some k) (Some t) e p h =
     one_held (changes_form context k t) (can_change context k) (length k.before) e p
-    ∙ and_false (changes_form context k t) _ (ahead (length k.before) p e h)
+    ∙ and_false (changes_form context k t) _ (search (arith, ahead))
 
 end-here : (context : List hb_arabic_joining_type_t) (o : Option Letter) (t : Option hb_arabic_joining_type_t) (e p : ℕ)
     → StandsBefore o p → p < e → held_by_calls p (end_flags context o t e) ≡ changed context o t
@@ -110,7 +110,7 @@ end-here context None t e p h i = refl
 end-here context (Some k) None e p h i = refl
 end-here context (Some k) (Some t) e p h i =
     one_held (changes_form context k t) (can_change context k) (length k.before) e p
-    ∙ and_true (changes_form context k t) _ (inside (length k.before) p e h i)
+    ∙ and_true (changes_form context k t) _ (search (arith, inside))
 
 -- the calls along a text: before place p, behind its next letter, and there
 along-past : (context passed ts : List hb_arabic_joining_type_t) (p : ℕ) → length passed + length ts ≤ p
@@ -121,23 +121,18 @@ along-past context passed (t ∷ ts) p h =
     let calls = letter_flags context (nearest_letter passed) t (suc (length passed)) in
     list_any-append (forbids p) calls (flags_along context (t ∷ passed) ts)
     ∙ or_with (held_by_calls p calls) (held_by_calls p (flags_along context (t ∷ passed) ts)) false
-    (letter-past context (nearest_letter passed) t (suc (length passed)) p (omega arith))
-    (along-past context (t ∷ passed) ts p (omega arith))
+    (search (arith, letter-past)) (along-past context (t ∷ passed) ts p (omega arith))
 
 along-from : (context passed ts : List hb_arabic_joining_type_t) (p : ℕ) → p ≤ length passed
     → StandsFrom (nearest_letter passed) p → held_by_calls p (flags_along context passed ts) ≡ false
 along-from context passed [] p h f = refl
 along-from context passed (T ∷ ts) p h f = along-from context (T ∷ passed) ts p (omega arith) f
 along-from context passed (t ∷ ts) p h f =
-    let calls = letter_flags context (nearest_letter passed) t (suc (length passed)) in
-    list_any-append (forbids p) calls (flags_along context (t ∷ passed) ts)
-    ∙ or_with (held_by_calls p calls) (held_by_calls p (flags_along context (t ∷ passed) ts)) false
-    (letter-from context (nearest_letter passed) t (suc (length passed)) p f)
-    (along-from context (t ∷ passed) ts p (omega arith) h)
+    search (arith, list_any-append, or_with, letter-from, along-from context (t ∷ passed) ts p (omega arith) h)
 
 pub turned : (t : hb_arabic_joining_type_t) (ts passed : List hb_arabic_joining_type_t)
     → reverse (t ∷ ts) ++ passed ≡ reverse ts ++ (t ∷ passed)
-turned t ts passed = ap (λ r. r ++ passed) (reverse-append (t ∷ []) ts) ∙ append_assoc (reverse ts) (t ∷ []) passed
+turned t ts passed = search (arith, reverse-append (t ∷ []) ts, append_assoc)
 
 -- with those at the text's end
 along-here : (context passed ts after : List hb_arabic_joining_type_t) (e p : ℕ) → p ≤ length passed → p < e
@@ -145,27 +140,24 @@ along-here : (context passed ts after : List hb_arabic_joining_type_t) (e p : �
     → (held_by_calls p (flags_along context passed ts)
     || held_by_calls p (end_flags context (nearest_letter (reverse ts ++ passed)) (nearest after) e))
     ≡ changed context (nearest_letter passed) (nearest (ts ++ after))
-along-here context passed [] after e p h i b = end-here context (nearest_letter passed) (nearest after) e p b i
+along-here context passed [] after e p h i b = search (arith, end-here)
 along-here context passed (T ∷ ts) after e p h i b =
-    ap (λ us. held_by_calls p (flags_along context (T ∷ passed) ts)
-    || held_by_calls p (end_flags context (nearest_letter us) (nearest after) e)) (turned T ts passed)
-    ∙ along-here context (T ∷ passed) ts after e p (omega arith) i b
+    search (arith, turned, along-here context (T ∷ passed) ts after e p (omega arith) i b)
 along-here context passed (t ∷ ts) after e p h i b =
     let calls = letter_flags context (nearest_letter passed) t (suc (length passed)) in
     let rest = flags_along context (t ∷ passed) ts in
-    let last = reverse (t ∷ ts) ++ passed in
     let here : held_by_calls p (calls ++ rest) ≡ changed context (nearest_letter passed) (Some t) =
     list_any-append (forbids p) calls rest
     ∙ or_with (held_by_calls p calls) (held_by_calls p rest) (changed context (nearest_letter passed) (Some t))
-    (letter-here context (nearest_letter passed) t (suc (length passed)) p b (omega arith))
-    (along-from context (t ∷ passed) ts p (omega arith) h) in
-    let behind : held_by_calls p (end_flags context (nearest_letter last) (nearest after) e) ≡ false =
-    ap (λ us. held_by_calls p (end_flags context (nearest_letter us) (nearest after) e)) (turned t ts passed)
-    ∙ end-from context (nearest_letter (reverse ts ++ (t ∷ passed))) (nearest after) e p
-    (stands-from (reverse ts) (t ∷ passed) p (omega arith) h) in
-    or_with (held_by_calls p (calls ++ rest))
-    (held_by_calls p (end_flags context (nearest_letter last) (nearest after) e))
-    (changed context (nearest_letter passed) (Some t)) here behind
+    (search (arith, letter-here)) (along-from context (t ∷ passed) ts p (omega arith) h) in
+    let behind : held_by_calls p (end_flags context (nearest_letter
+    (reverse (t ∷ ts) ++ passed)) (nearest after) e) ≡ false =
+    cc (
+      turned t ts passed,
+      end-from context (nearest_letter (reverse ts ++ (t ∷ passed))) (nearest after) e p
+          (stands-from (reverse ts) (t ∷ passed) p (omega arith) h),
+    ) in
+    search (arith, or_with)
 
 -- joining's own calls, at the border of two parts of a text
 pub joining-held : (context ts us after : List hb_arabic_joining_type_t) → 0 < length us
@@ -175,19 +167,17 @@ joining-held context ts us after some =
     let p = length ts in
     let e = length (ts ++ us) in
     let passed = reverse ts in
-    let first = flags_along context [] ts in
-    let last = end_flags context (nearest_letter (reverse (ts ++ us))) (nearest after) e in
-    let parts : flags_along context [] (ts ++ us) ≡ first ++ flags_along context passed us = flags_along-append context
-    [] ts us ∙ ap (λ r. first ++ flags_along context r us) (append-nil passed) in
-    let along : held_by_calls p (flags_along context [] (ts ++ us)) ≡ held_by_calls p (flags_along context passed us) =
-    ap (held_by_calls p) parts ∙ list_any-append (forbids p) first (flags_along context passed us)
-    ∙ ap (λ b. b || held_by_calls p (flags_along context passed us)) (along-past context [] ts p (omega arith)) in
-    list_any-append (forbids p) (flags_along context [] (ts ++ us)) last
-    ∙ ap (λ b. b || held_by_calls p last) along
-    ∙ ap (λ r. held_by_calls p (flags_along context passed us)
-    || held_by_calls p (end_flags context (nearest_letter r) (nearest after) e)) (reverse-append ts us)
-    ∙ along-here context passed us after e p (omega (arith, length-reverse ts)) (omega (arith, length-append ts us))
-    (stands-before passed p (omega (arith, length-reverse ts)))
+    search (
+      arith,
+      list_any-append,
+      flags_along-append context [] ts us,
+      append-nil passed,
+      list_any-append (forbids p) (flags_along context [] ts) (flags_along context passed us),
+      along-past context [] ts p (omega arith),
+      reverse-append ts us,
+      along-here context passed us after e p (omega (arith, length-reverse ts)) (omega (arith, length-append ts us))
+          (stands-before passed p (omega (arith, length-reverse ts))),
+    )
 
 -- the calls of Sound at a letter in this form
 abbrev pub takes : Option Letter → ℕ → Bool
@@ -195,44 +185,35 @@ takes None form = is_taken form
 takes (Some k) form = is_second_or_third form
 
 form-past : (o : Option Letter) (form e p : ℕ) → e ≤ p → held_by_calls p (form_flags o form e) ≡ false
-form-past None form e p h = break_held (is_taken form) 0 e p ∙ and_false (is_taken form) _ (past 0 p e h)
-form-past (Some k) form e p h = break_held (is_second_or_third form) (length k.before) e p
-    ∙ and_false (is_second_or_third form) _ (past (length k.before) p e h)
+form-past None form e p h = search arith
+form-past (Some k) form e p h = search arith
 
 form-from : (o : Option Letter) (form e p : ℕ) → StandsFrom o p → held_by_calls p (form_flags o form e) ≡ false
 form-from None form e p h = absurd h
-form-from (Some k) form e p h = break_held (is_second_or_third form) (length k.before) e p
-    ∙ and_false (is_second_or_third form) _ (ahead (length k.before) p e h)
+form-from (Some k) form e p h = search arith
 
 form-here : (o : Option Letter) (form e p : ℕ) → 0 < p → StandsBefore o p → p < e
     → held_by_calls p (form_flags o form e) ≡ takes o form
-form-here None form e p z h i = break_held (is_taken form) 0 e p ∙ and_true (is_taken form) _ (inside 0 p e z i)
-form-here (Some k) form e p z h i = break_held (is_second_or_third form) (length k.before) e p
-    ∙ and_true (is_second_or_third form) _ (inside (length k.before) p e h i)
+form-here None form e p z h i = search arith
+form-here (Some k) form e p z h i = search arith
 
 forms-past : (context passed ts after : List hb_arabic_joining_type_t) (p : ℕ) → length passed + length ts ≤ p
     → held_by_calls p (form_flags_along context passed ts after) ≡ false
 forms-past context passed [] after p h = refl
 forms-past context passed (T ∷ ts) after p h = forms-past context (T ∷ passed) ts after p (omega arith)
 forms-past context passed (t ∷ ts) after p h =
-    let form = act (nearest (passed ++ context)) t (nearest (ts ++ after)) in
-    let calls = form_flags (nearest_letter passed) form (suc (length passed)) in
+    let calls = form_flags (nearest_letter passed)
+    (act (nearest (passed ++ context)) t (nearest (ts ++ after))) (suc (length passed)) in
     list_any-append (forbids p) calls (form_flags_along context (t ∷ passed) ts after)
     ∙ or_with (held_by_calls p calls) (held_by_calls p (form_flags_along context (t ∷ passed) ts after)) false
-    (form-past (nearest_letter passed) form (suc (length passed)) p (omega arith))
-    (forms-past context (t ∷ passed) ts after p (omega arith))
+    (search (arith, form-past)) (forms-past context (t ∷ passed) ts after p (omega arith))
 
 forms-from : (context passed ts after : List hb_arabic_joining_type_t) (p : ℕ) → p ≤ length passed
     → StandsFrom (nearest_letter passed) p → held_by_calls p (form_flags_along context passed ts after) ≡ false
 forms-from context passed [] after p h f = refl
 forms-from context passed (T ∷ ts) after p h f = forms-from context (T ∷ passed) ts after p (omega arith) f
 forms-from context passed (t ∷ ts) after p h f =
-    let form = act (nearest (passed ++ context)) t (nearest (ts ++ after)) in
-    let calls = form_flags (nearest_letter passed) form (suc (length passed)) in
-    list_any-append (forbids p) calls (form_flags_along context (t ∷ passed) ts after)
-    ∙ or_with (held_by_calls p calls) (held_by_calls p (form_flags_along context (t ∷ passed) ts after)) false
-    (form-from (nearest_letter passed) form (suc (length passed)) p f)
-    (forms-from context (t ∷ passed) ts after p (omega arith) h)
+    search (arith, list_any-append, or_with, form-from, forms-from context (t ∷ passed) ts after p (omega arith) h)
 
 -- whether Sound's calls reach the first letter of a text from the letter before it
 abbrev pub first_takes : Option Letter → Option hb_arabic_joining_type_t → List hb_arabic_joining_type_t
@@ -260,16 +241,7 @@ forms-append : (context passed xs ys after : List hb_arabic_joining_type_t)
     ++ form_flags_along context (reverse xs ++ passed) ys after
 forms-append context passed [] ys after = refl
 forms-append context passed (x ∷ xs) ys after =
-    let here : List hb_arabic_joining_type_t → List FlagCall = λ us. cond (is_transparent x)
-    [] (form_flags (nearest_letter passed) (act (nearest (passed ++ context)) x (nearest us))
-    (suc (length passed))) in
-    let first = here (xs ++ (ys ++ after)) in
-    ap (λ us. here us ++ form_flags_along context (x ∷ passed) (xs ++ ys) after) (append_assoc xs ys after)
-    ∙ ap (λ calls. first ++ calls) (forms-append context (x ∷ passed) xs ys after
-    ∙ ap (λ us. form_flags_along context (x ∷ passed) xs (ys ++ after) ++ form_flags_along context us ys after)
-    (sym (turned x xs passed)))
-    ∙ sym (append_assoc first (form_flags_along context (x ∷ passed) xs (ys ++ after))
-    (form_flags_along context (reverse (x ∷ xs) ++ passed) ys after))
+    search (arith, append_assoc, turned, forms-append context (x ∷ passed) xs ys after)
 
 -- those calls, at the border of two parts of a text
 pub forms-held : (context ts us after : List hb_arabic_joining_type_t) → 0 < length ts
@@ -278,11 +250,12 @@ pub forms-held : (context ts us after : List hb_arabic_joining_type_t) → 0 < l
 forms-held context ts us after some =
     let p = length ts in
     let passed = reverse ts in
-    let first = form_flags_along context [] ts (us ++ after) in
-    ap (held_by_calls p) (forms-append context [] ts us after
-    ∙ ap (λ r. first ++ form_flags_along context r us after) (append-nil passed))
-    ∙ list_any-append (forbids p) first (form_flags_along context passed us after)
-    ∙ ap (λ b. b || held_by_calls p (form_flags_along context passed us after)) (forms-past context
-    [] ts (us ++ after) p (omega arith))
-    ∙ forms-here context passed us after p some (omega (arith, length-reverse ts))
-    (stands-before passed p (omega (arith, length-reverse ts)))
+    search (
+      arith,
+      forms-append,
+      append-nil passed,
+      list_any-append,
+      forms-past,
+      forms-here context passed us after p some (omega (arith, length-reverse ts))
+          (stands-before passed p (omega (arith, length-reverse ts))),
+    )

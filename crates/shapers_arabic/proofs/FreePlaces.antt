@@ -2,14 +2,11 @@
 -- and where both do, none of Sound.
 use Rattle.std.proofs.Common.{◌≡◌, ℕ, ◌<◌, true, cond, List, [], ◌++◌, length, take, drop, reverse, Option, refl, sym, ap, ◌∙◌, subst, arith, append_assoc}
 use Rattle.std.specs.List.{zip}
-use Rattle.std.proofs.lemmas.Bool.{or_from}
 use Rattle.std.proofs.lemmas.List.{length-take-le, take-append-drop, length-drop}
 use Rattle.std.proofs.lemmas.List.Folds.{list_any-append}
 use Rattle.shapers_buffer.specs.declared.buffer.tag.Script.{Script}
 use Rattle.shapers_base.specs.declared.plan.breaks.BreakFlags.TheVariants.{Sound}
-use Rattle.shapers_base.specs.declared.plan.joining.hb_arabic_joining_type_t.{hb_arabic_joining_type_t}
 use Rattle.shapers_clusters.specs.Breaks.{forbids, IsFree}
-use Rattle.shapers_clusters.proofs.ClearPlaces.{held_by_calls}
 use Rattle.shapers_arabic.specs.Breaks.{sound_flags}
 use Rattle.shapers_arabic.specs.Fresh.{SelectorsAreTransparent}
 use Rattle.shapers_arabic.specs.Joining.{forms, selected}
@@ -23,7 +20,7 @@ use Rattle.shapers_arabic.proofs.OwnForms.{Silent, silent-halves, first-own, hal
 
 -- the types of a text in two halves
 types-at : (n : ℕ) (text : Text) → n < length text.types → length (take n text.types) ≡ n
-types-at n text within = length-take-le n text.types (omega arith)
+types-at n text within = search (arith, length-take-le)
 
 -- the forms of the first half where it sees what follows
 seen-front : (script : Option Script) (text : Text) (n : ℕ) → length text.characters ≡ length text.types
@@ -39,15 +36,11 @@ pub first-free : (script : Option Script) (text : Text) (n : ℕ) → length tex
     ≡ forms_of script (first_half n [] text)
 first-free script text n same within free =
     let ts = take n text.types in
-    let us = drop n text.types in
-    let cs = take n text.characters in
-    let R : List hb_arabic_joining_type_t → Type 0 =
-    λ xs. IsFree (joining_flags text.before xs text.after) (length ts) in
-    let Q : ℕ → Type 0 = λ m. IsFree (joining_flags text.before text.types text.after) m in
-    let kept = (as-code text.before ts us text.after (omega (arith, length-drop n text.types))).0
-    (subst R (sym (take-append-drop n text.types)) (subst Q (sym (types-at n text within)) free)) in
-    seen-front script text n same within
-    ∙ ap (λ fs. cond (is_mongolian script) (selected [] (zip cs fs)) fs) kept
+    let kept = (as-code text.before ts (drop n text.types) text.after (omega (arith, length-drop n text.types))).0
+    (subst
+    (λ xs. IsFree (joining_flags text.before xs text.after) (length ts)) (sym (take-append-drop n text.types)) (subst
+    (λ m. IsFree (joining_flags text.before text.types text.after) m) (sym (types-at n text within)) free)) in
+    search (arith, seen-front)
 
 -- and the other way round, where selectors are transparent
 pub free-first : (script : Option Script) (text : Text) (n : ℕ) → length text.characters ≡ length text.types
@@ -57,20 +50,15 @@ free-first script text n same within silent kept =
     let ts = take n text.types in
     let us = drop n text.types in
     let cs = take n text.characters in
-    let ds = drop n text.characters in
-    let long : length ts ≡ length cs = types-at n text within ∙ sym (length-take-le n text.characters (omega arith)) in
+    let long : length ts ≡ length cs = search (arith, length-take-le) in
     let front : is_mongolian script ≡ true → Silent cs ts =
-    λ e. (silent-halves cs ds ts us long
+    λ e. (silent-halves cs (drop n text.characters) ts us long
     (subst (λ xs. Silent xs (ts ++ us)) (sym (take-append-drop n text.characters))
     (subst (Silent text.characters) (sym (take-append-drop n text.types)) (silent e)))).0 in
-    let own = first-own (is_mongolian script) cs text.before ts (us ++ text.after)
-    [] long front (sym (seen-front script text n same within) ∙ kept) in
-    let R : List hb_arabic_joining_type_t → Type 0 =
-    λ xs. IsFree (joining_flags text.before xs text.after) (length ts) in
-    let Q : ℕ → Type 0 = λ m. IsFree (joining_flags text.before text.types text.after) m in
-    subst Q (types-at n text within)
-    (subst R (take-append-drop n text.types)
-    ((as-code text.before ts us text.after (omega (arith, length-drop n text.types))).1 own))
+    subst (λ m. IsFree (joining_flags text.before text.types text.after) m) (types-at n text within)
+    (subst (λ xs. IsFree (joining_flags text.before xs text.after) (length ts)) (take-append-drop n text.types)
+    ((as-code text.before ts us text.after (omega (arith, length-drop n text.types))).1
+    (first-own (is_mongolian script) cs text.before ts (us ++ text.after) [] long front (search (arith, seen-front)))))
 
 -- where both halves keep their forms no call of Sound forbids a break, with transparent selectors
 pub free-halves : (script : Option Script) (text : Text) (n : ℕ) → length text.characters ≡ length text.types → 0 < n
@@ -84,39 +72,29 @@ free-halves script text n same pos within silent kept =
     let cs = take n text.characters in
     let ds = drop n text.characters in
     let rule = forms text.before text.types text.after in
-    let fs = forms text.before ts (us ++ text.after) in
     let gs = forms (reverse ts ++ text.before) us text.after in
     let at = types-at n text within in
-    let c_at : length cs ≡ n = length-take-le n text.characters (omega arith) in
-    let chars : cs ++ ds ≡ text.characters = take-append-drop n text.characters in
-    let types : ts ++ us ≡ text.types = take-append-drop n text.types in
-    let by_rule : rule ≡ fs ++ gs = ap (λ xs. forms text.before xs text.after) (sym types)
-    ∙ forms-append text.before ts us text.after in
-    let long : length ts ≡ length cs = at ∙ sym c_at in
-    let more : length us ≡ length ds = omega (arith, length-drop n text.types, length-drop n text.characters) in
-    let both : b ≡ true → Silent (cs ++ ds) (ts ++ us) =
-    λ e. subst (λ xs. Silent xs (ts ++ us)) (sym chars)
-    (subst (Silent text.characters) (sym types) (silent e)) in
+    let c_at = length-take-le n text.characters (omega arith) in
+    let chars = take-append-drop n text.characters in
+    let types = take-append-drop n text.types in
+    let by_rule : rule ≡ (forms text.before ts (us ++ text.after)) ++ gs =
+    ap (λ xs. forms text.before xs text.after) (sym types) ∙ forms-append text.before ts us text.after in
     let W : List ℕ → List ℕ → List ℕ = λ xs ys. cond b (selected [] (zip xs ys)) ys in
-    let own = halves-own b cs ds text.before ts us text.after (us ++ text.after) (reverse ts ++ text.before)
-    (omega arith) long more both (ap (W (cs ++ ds)) (sym by_rule) ∙ ap (λ xs. W xs rule) chars ∙ kept) in
-    let may : forms text.before (ts ++ us) text.after ≡ forms text.before ts [] ++ forms [] us text.after =
-    forms-append text.before ts us text.after ∙ ap (λ xs. xs ++ gs) own.first
-    ∙ ap (λ xs. forms text.before ts [] ++ xs) own.second in
+    let own = halves-own b cs ds text.before ts us text.after (us ++ text.after) (reverse ts ++ text.before) (omega
+    arith) (at ∙ sym c_at)
+    (omega (arith, length-drop n text.types, length-drop n text.characters))
+    (λ e. subst (λ xs. Silent xs (ts ++ us)) (sym chars) (subst (Silent text.characters) (sym types) (silent e))) (ap
+    (W (cs ++ ds)) (sym by_rule)
+    ∙ ap (λ xs. W xs rule) chars ∙ kept) in
     let first = sound_flags text.before text.types text.after in
-    let R : List hb_arabic_joining_type_t → Type 0 = λ xs. IsFree (sound_flags text.before xs text.after) (length ts) in
-    let Q : ℕ → Type 0 = λ m. IsFree first m in
-    let free_first : IsFree first n =
-    subst Q at (subst R types
-    ((exact text.before ts us text.after (omega arith) (omega (arith, length-drop n text.types))).1 may)) in
+    let free_first = subst (λ m. IsFree first m) at (subst
+    (λ xs. IsFree (sound_flags text.before xs text.after) (length ts)) types ((exact text.before ts us text.after (omega arith)
+    (omega (arith, length-drop n text.types))).1
+    (forms-append text.before ts us text.after ∙ ap (λ xs. xs ++ gs) own.first
+    ∙ ap (λ xs. forms text.before ts [] ++ xs) own.second))) in
     let rest = cond b (selector_flags [] (zip text.characters rule)) [] in
-    let free_rest : IsFree rest n =
-    ap (λ m. held_by_calls m rest) (sym c_at)
-    ∙ ap (λ xs. held_by_calls (length cs) (cond b (selector_flags [] (zip xs rule)) [])) (sym chars)
-    ∙ ap (λ ys. held_by_calls (length cs) (cond b (selector_flags [] (zip (cs ++ ds) ys)) [])) by_rule
-    ∙ own.free in
-    ap (held_by_calls n)
-    (sym (append_assoc (joining_flags text.before text.types text.after) (form_flags_along text.before
-    [] text.types text.after) rest))
-    ∙ list_any-append (forbids n) first rest
-    ∙ or_from (held_by_calls n first) (held_by_calls n rest) free_first free_rest
+    cc (
+      append_assoc (joining_flags text.before text.types text.after)
+          (form_flags_along text.before [] text.types text.after) rest,
+      list_any-append (forbids n) first rest,
+    )

@@ -1,6 +1,5 @@
 -- Joining only adds glyph flags.
-use Rattle.std.proofs.Common.{◌≡◌, ℕ, List, [], ◌∷◌, Option, length, refl, sym, ◌∙◌, subst, arith}
-use Rattle.std.specs.Prelude.{slice_index}
+use Rattle.std.proofs.Common.{◌≡◌, ℕ, List, [], ◌∷◌, Option, length, ◌∙◌, arith}
 use Rattle.std.proofs.lemmas.List.{length-map}
 use Rattle.shapers_buffer.specs.Buffer.{Buffer, flags_concat, flags_tatweel, has_flag}
 use Rattle.shapers_buffer.specs.GlyphFlags.{flags_called}
@@ -23,11 +22,7 @@ formed_added : (masks fs : List ℕ) (gs : List hb_glyph_info_t) → length fs �
 formed_added masks [] [] long = tt
 formed_added masks [] (g ∷ gs) long = absurd (omega arith)
 formed_added masks (f ∷ fs) [] long = absurd (omega arith)
-formed_added masks (f ∷ fs) (g ∷ gs) long = (
-  record { same = refl; kept = λ k _. keeps-with_bits (slice_index masks f) g k },
-  formed_added masks fs gs
-      (omega arith),
-)
+formed_added masks (f ∷ fs) (g ∷ gs) long = search (arith, keeps-with_bits, formed_added masks fs gs (omega arith))
 
 pub joined_added : (breaks : BreakFlags) (masks : List ℕ) (script : Option Script) (joining : ℕ
     → hb_arabic_joining_type_t) (general : ℕ → hb_unicode_general_category_t) (old new : Buffer)
@@ -37,12 +32,14 @@ joined_added breaks masks script joining general old new is =
     let fs = forms_of script text in
     let calls = flag_calls breaks script text in
     let formed = with_joining_forms masks fs old.glyphs in
-    let long = length-forms_of script text (text_long joining general old)
-    ∙ length-map old.glyphs (λ g. resolved (joining g.glyph_id) (general_category g.unicode_props)) in
     let concat = has_flag flags_concat old.flags in
     let tatweel = has_flag flags_tatweel old.flags in
     let flagged = flags_called concat tatweel calls formed in
-    subst (λ (b : Buffer). OnlyFlagsAdded old.glyphs b.glyphs) (sym is)
-    (all_added_on old.glyphs formed flagged (formed_added masks fs old.glyphs long)
-    (alone_added formed flagged
-    (flags_called-alone concat tatweel calls formed (calls-in_order breaks script text))))
+    search (
+      arith,
+      all_added_on old.glyphs formed flagged
+          (formed_added masks fs old.glyphs (length-forms_of script text (text_long joining general old) ∙ length-map
+          old.glyphs (λ g. resolved (joining g.glyph_id) (general_category g.unicode_props))))
+          (alone_added formed flagged (flags_called-alone concat tatweel calls formed (calls-in_order breaks script
+          text))),
+    )

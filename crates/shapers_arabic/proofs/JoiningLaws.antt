@@ -1,5 +1,5 @@
 -- The law of the cut.
-use Rattle.std.proofs.Common.{◌≡◌, ℕ, zero, suc, ◌+◌, ◌≤◌, Bool, true, false, cond, List, [], ◌∷◌, ◌++◌, length, map, take, drop, reverse, Option, Some, refl, sym, ap, ◌∙◌, subst, arith, inl, inr}
+use Rattle.std.proofs.Common.{◌≡◌, ℕ, zero, suc, ◌+◌, Bool, true, false, cond, List, [], ◌∷◌, ◌++◌, length, map, take, drop, reverse, Option, Some, refl, sym, ap, ◌∙◌, subst, arith, inl, inr}
 use Rattle.std.specs.List.{prefix_len, zip}
 use Rattle.std.proofs.lemmas.List.{length-map, length-take-le, take-append-drop, take-map, drop-map, take_all, take_at, drop_at, drop-drop, map-append}
 use Rattle.std.proofs.lemmas.Slice.Zip.{length-zip}
@@ -12,7 +12,7 @@ use Rattle.shapers_buffer.specs.declared.buffer.glyph.hb_glyph_info_t.{hb_glyph_
 use Rattle.shapers_buffer.specs.declared.buffer.tag.Script.{Script}
 use Rattle.shapers_base.specs.declared.plan.joining.hb_arabic_joining_type_t.{hb_arabic_joining_type_t}
 use Rattle.shapers_arabic.specs.Joining.{resolved, nearest, is_transparent, forms, is_selector, form_behind, selected}
-use Rattle.shapers_arabic.specs.JoinedText.{Text, flag_calls, is_mongolian, forms_of, first_half, second_half, opening, HoldsCut, stored_types, context_types, text_of, buffer_joined, CutsAsHalves, Shows, AgreesWithTable, first_of, second_of, CopiedContextsShow, CopiedContextsCut}
+use Rattle.shapers_arabic.specs.JoinedText.{Text, flag_calls, is_mongolian, forms_of, HoldsCut, stored_types, context_types, text_of, buffer_joined, Shows, AgreesWithTable, CopiedContextsShow, CopiedContextsCut}
 use Rattle.shapers_base.specs.declared.plan.breaks.BreakFlags.{BreakFlags}
 use Rattle.shapers_arabic.proofs.SoundOrder.{calls-in_order}
 use Rattle.shapers_arabic.proofs.JoinedGlyphs.{forms-joined}
@@ -50,24 +50,20 @@ pub record InParts (b : Bool) (n : ℕ) (characters whole cs fs ds gs : List ℕ
 pub in-parts : (b : Bool) (n : ℕ) (characters whole cs fs ds gs : List ℕ) → characters ≡ cs ++ ds → whole ≡ fs ++ gs
     → length cs ≡ n → length fs ≡ n → InParts b n characters whole cs fs ds gs
 in-parts false n characters whole cs fs ds gs c w l m =
-    let none : n + 0 ≡ n = omega arith in
-    record {
-      first = ap (take n) w ∙ take_at fs gs n m;
-      second = ap (λ k. drop k whole) none ∙ ap (drop n) w ∙ drop_at fs gs n m;
-    }
+    search (arith, take_at, drop_at)
 in-parts true n characters whole cs fs ds gs c w l m =
     let front = selected [] (zip cs fs) in
     let back = selected (reverse (zip cs fs) ++ []) (zip ds gs) in
-    let k = prefix_len is_selector ds in
-    let both : selected [] (zip characters whole) ≡ front ++ back = ap (λ xs. selected [] (zip xs whole)) c
-    ∙ ap (λ xs. selected [] (zip (cs ++ ds) xs)) w ∙ ap (selected []) (zip-append cs ds fs gs (m ∙ sym l))
-    ∙ selected-append [] (zip cs fs) (zip ds gs) in
-    let long : length front ≡ n = length-selected [] (zip cs fs) ∙ omega (arith, length-zip cs fs) in
-    record {
-      first = ap (take n) both ∙ take_at front back n long;
-      second = sym (drop-drop k n (selected [] (zip characters whole))) ∙ ap (λ xs. drop k (drop n xs)) both
-          ∙ ap (drop k) (drop_at front back n long) ∙ selected-opening (reverse (zip cs fs) ++ []) [] ds gs;
-    }
+    let long = length-selected [] (zip cs fs) ∙ omega (arith, length-zip cs fs) in
+    search (
+      arith,
+      zip-append cs ds fs gs (m ∙ sym l),
+      selected-append [] (zip cs fs) (zip ds gs),
+      take_at front back n long,
+      drop-drop,
+      drop_at front back n long,
+      selected-opening (reverse (zip cs fs) ++ []) [] ds gs,
+    )
 
 -- the law
 pub holds-cut : (script : Option Script) (text : Text) → length text.characters ≡ length text.types
@@ -77,35 +73,26 @@ holds-cut script text long n inner_after inner_before h s =
     let us = drop n text.types in
     let fs = forms text.before ts inner_after in
     let gs = forms inner_before us text.after in
-    let whole : forms text.before text.types text.after ≡ fs ++ gs =
-    ap (λ xs. forms text.before xs text.after) (sym (take-append-drop n text.types))
+    let parts = in-parts (is_mongolian script) n text.characters (forms text.before text.types text.after) (take n
+    text.characters) fs (drop n text.characters) gs (sym (take-append-drop n text.characters))
+    (ap (λ xs. forms text.before xs text.after) (sym (take-append-drop n text.types))
     ∙ forms-append text.before ts us text.after
     ∙ ap (λ xs. xs ++ forms (reverse ts ++ text.before) us text.after)
     (forms-contexts text.before text.before ts (us ++ text.after) inner_after refl (sym s.onward))
-    ∙ ap (λ xs. fs ++ xs) (forms-contexts (reverse ts ++ text.before) inner_before us text.after text.after
-    (sym s.backward) refl) in
-    let parts = in-parts (is_mongolian script) n text.characters (forms text.before text.types text.after)
-    (take n text.characters) fs (drop n text.characters) gs (sym (take-append-drop n text.characters)) whole
-    (length-take-le n text.characters (omega arith)) (length-forms text.before ts inner_after
-    ∙ length-take-le n text.types h) in
-    record { first = parts.first; second = parts.second }
+    ∙ ap (λ xs. fs ++ xs)
+    (forms-contexts (reverse ts ++ text.before) inner_before us text.after text.after (sym s.backward) refl)) (length-take-le n
+    text.characters (omega arith)) (length-forms text.before ts inner_after ∙ length-take-le n text.types h) in
+    search arith
 
 pub length-forms_of : (script : Option Script) (text : Text) → length text.characters ≡ length text.types
     → length (forms_of script text) ≡ length text.types
 length-forms_of script text long =
-    let by_rule = forms text.before text.types text.after in
-    let all : length by_rule ≡ length text.types = length-forms text.before text.types text.after in
-    elim (is_mongolian script) as (λ b. length (cond b (selected [] (zip text.characters by_rule)) by_rule)
-    ≡ length text.types) [
-      | true ↦ length-selected [] (zip text.characters by_rule) ∙ omega (arith, length-zip text.characters by_rule)
-      | false ↦ all
-    ]
+    search (arith, length-selected, length-zip, length-forms)
 
 -- the auxiliary bytes that joining left are the forms of the text
 pub text_long : (joining : ℕ → hb_arabic_joining_type_t) (general : ℕ → hb_unicode_general_category_t) (old : Buffer)
     → let text = text_of joining general old in length text.characters ≡ length text.types
-text_long joining general old = length-map old.glyphs (λ g. g.glyph_id)
-    ∙ sym (length-map old.glyphs (λ g. resolved (joining g.glyph_id) (general_category g.unicode_props)))
+text_long joining general old = search (arith, length-map)
 
 pub forms_left : (breaks : BreakFlags) (masks : List ℕ) (script : Option Script) (joining : ℕ
     → hb_arabic_joining_type_t) (general : ℕ → hb_unicode_general_category_t) (old new : Buffer)
@@ -113,23 +100,12 @@ pub forms_left : (breaks : BreakFlags) (masks : List ℕ) (script : Option Scrip
     ≡ forms_of script (text_of joining general old)
 forms_left breaks masks script joining general old new is =
     let text = text_of joining general old in
-    let calls = flag_calls breaks script text in
-    let types_long : length text.types ≡ length old.glyphs =
-    length-map old.glyphs (λ g. resolved (joining g.glyph_id) (general_category g.unicode_props)) in
-    let fs_long : length old.glyphs ≡ length (forms_of script text) = sym types_long
+    let fs_long =
+    sym (length-map old.glyphs (λ g. resolved (joining g.glyph_id) (general_category g.unicode_props)))
     ∙ sym (length-forms_of script text (text_long joining general old)) in
-    ap (λ (b : Buffer). map (λ g. g.auxiliary) b.glyphs) is
-    ∙ forms-joined masks (forms_of script text) old.flags calls old.glyphs fs_long
-    (calls-in_order breaks script text)
-
--- what joining left is cut as the forms are
-pub cut-joined : (breaks : BreakFlags) (masks : List ℕ) (script : Option Script) (joining : ℕ
-    → hb_arabic_joining_type_t) (general : ℕ → hb_unicode_general_category_t) (old new : Buffer)
-    → new ≡ buffer_joined breaks masks script joining general old → CutsAsHalves script joining general old new
-cut-joined breaks masks script joining general old new is =
-    let text = text_of joining general old in
-    subst (λ fs. HoldsCut script text fs) (sym (forms_left breaks masks script joining general old new is))
-    (holds-cut script text (text_long joining general old))
+    cc (forms-joined masks (forms_of script text) old.flags
+    (flag_calls breaks script text) old.glyphs fs_long (calls-in_order breaks script
+    text))
 
 -- a front that shows a type shows the nearest
 pub nearest-of_front : (ts us : List hb_arabic_joining_type_t) → is_some (nearest ts) ≡ true
@@ -143,14 +119,11 @@ nearest-of_front (t ∷ ts) us e =
     ] e
 
 nearest-of_five : (ts : List hb_arabic_joining_type_t) → Shows ts → nearest (take 5 ts) ≡ nearest ts
-nearest-of_five ts (inl e) = sym (nearest-of_front (take 5 ts) (drop 5 ts) e) ∙ ap nearest (take-append-drop 5 ts)
-nearest-of_five ts (inr h) = ap nearest (take_all 5 ts h)
+nearest-of_five ts (inl e) = search (arith, nearest-of_front, take-append-drop 5 ts)
+nearest-of_five ts (inr h) = cc (take_all 5 ts h)
 
 pub copied-show : CopiedContextsShow
-copied-show n text onward backward = record {
-  onward = nearest-of_five (drop n text.types ++ text.after) onward;
-  backward = nearest-of_five (reverse (take n text.types) ++ text.before) backward;
-}
+copied-show n text onward backward = search (arith, nearest-of_five)
 
 -- the table's types of glyphs that agree with it are the stored ones
 types-agree : (joining : ℕ → hb_arabic_joining_type_t) (general : ℕ → hb_unicode_general_category_t)
@@ -158,9 +131,7 @@ types-agree : (joining : ℕ → hb_arabic_joining_type_t) (general : ℕ → hb
     ≡ stored_types joining gs
 types-agree joining general [] all = refl
 types-agree joining general (g ∷ gs) all =
-    ap (λ category. resolved (joining g.glyph_id) category ∷ context_types joining general (map (λ h. h.glyph_id) gs))
-    (sym all.0) ∙ ap (λ ts. resolved (joining g.glyph_id) (general_category g.unicode_props) ∷ ts)
-    (types-agree joining general gs all.1)
+    cc (all.0, types-agree joining general gs all.1)
 
 agrees-take : (general : ℕ → hb_unicode_general_category_t) (n : ℕ) (gs : List hb_glyph_info_t)
     → AgreesWithTable general gs → AgreesWithTable general (take n gs)
@@ -181,9 +152,7 @@ copied-after : (joining : ℕ → hb_arabic_joining_type_t) (general : ℕ → h
     ≡ take 5 (stored_types joining gs ++ context_types joining general cs)
 copied-after joining general gs cs all =
     let type_of = λ (c : ℕ). resolved (joining c) (general c) in
-    sym (take-map type_of 5 (map (λ g. g.glyph_id) gs ++ cs))
-    ∙ ap (take 5) (map-append type_of (map (λ g. g.glyph_id) gs) cs
-    ∙ ap (λ ts. ts ++ context_types joining general cs) (types-agree joining general gs all))
+    search (arith, take-map, map-append type_of (map (λ g. g.glyph_id) gs) cs, types-agree joining general gs all)
 
 copied-before : (joining : ℕ → hb_arabic_joining_type_t) (general : ℕ → hb_unicode_general_category_t)
     (gs : List hb_glyph_info_t) (cs : List ℕ) → AgreesWithTable general gs
@@ -191,10 +160,13 @@ copied-before : (joining : ℕ → hb_arabic_joining_type_t) (general : ℕ → 
     ≡ take 5 (reverse (stored_types joining gs) ++ context_types joining general cs)
 copied-before joining general gs cs all =
     let type_of = λ (c : ℕ). resolved (joining c) (general c) in
-    sym (take-map type_of 5 (reverse (map (λ g. g.glyph_id) gs) ++ cs))
-    ∙ ap (take 5) (map-append type_of (reverse (map (λ g. g.glyph_id) gs)) cs
-    ∙ ap (λ ts. ts ++ context_types joining general cs) (map-reverse type_of (map (λ g. g.glyph_id) gs)
-    ∙ ap reverse (types-agree joining general gs all)))
+    search (
+      arith,
+      take-map,
+      map-append type_of (reverse (map (λ g. g.glyph_id) gs)) cs,
+      map-reverse type_of (map (λ g. g.glyph_id) gs),
+      types-agree joining general gs all,
+    )
 
 -- the forms of a text by its parts
 abbrev forms_by : Option Script → List hb_arabic_joining_type_t → List ℕ → List hb_arabic_joining_type_t
@@ -208,34 +180,17 @@ copied-cut script joining general b n h all onward backward =
     let text = text_of joining general b in
     let ids = λ (g : hb_glyph_info_t). g.glyph_id in
     let type_of = λ (g : hb_glyph_info_t). resolved (joining g.glyph_id) (general_category g.unicode_props) in
-    let front : take n text.types ≡ stored_types joining (take n gs) = take-map type_of n gs in
-    let back : drop n text.types ≡ stored_types joining (drop n gs) = drop-map type_of n gs in
-    let inner_after = take 5 (drop n text.types ++ text.after) in
-    let inner_before = take 5 (reverse (take n text.types) ++ text.before) in
-    let shown = copied-show n text (subst (λ ts. Shows (ts ++ text.after)) (sym back) onward)
-    (subst (λ ts. Shows (reverse ts ++ text.before)) (sym front) backward) in
-    let long : length text.characters ≡ length text.types = length-map gs ids ∙ sym (length-map gs type_of) in
-    let within : n ≤ length text.types = omega (arith, length-map gs type_of) in
-    let cut = holds-cut script text long n inner_after inner_before within shown in
-    let after_is : inner_after ≡ context_types joining general (take 5 (map ids (drop n gs) ++ b.after)) =
-    ap (λ ts. take 5 (ts ++ text.after)) back
-    ∙ sym (copied-after joining general (drop n gs) b.after (agrees-drop general n gs all)) in
-    let before_is : inner_before ≡ context_types joining general (take 5 (reverse (map ids (take n gs)) ++ b.before)) =
-    ap (λ ts. take 5 (reverse ts ++ text.before)) front
-    ∙ sym (copied-before joining general (take n gs) b.before (agrees-take general n gs all)) in
-    let first_is : forms_of script (first_half n inner_after text)
-    ≡ forms_of script (text_of joining general (first_of n b)) =
-    ap (λ cs. forms_by script text.before cs (take n text.types) inner_after) (take-map ids n gs)
-    ∙ ap (λ ts. forms_by script text.before (map ids (take n gs)) ts inner_after) front
-    ∙ ap (forms_by script text.before (map ids (take n gs)) (stored_types joining (take n gs))) after_is in
-    let second_is : forms_of script (second_half n inner_before text)
-    ≡ forms_of script (text_of joining general (second_of n b)) =
-    ap (λ cs. forms_by script inner_before cs (drop n text.types) text.after) (drop-map ids n gs)
-    ∙ ap (λ ts. forms_by script inner_before (map ids (drop n gs)) ts text.after) back
-    ∙ ap (λ ts. forms_by script ts (map ids (drop n gs)) (stored_types joining (drop n gs)) text.after) before_is in
-    let Q : List ℕ → Type 0 = λ cs. drop (n + opening script cs) (forms_of script text)
-    ≡ drop (opening script cs) (forms_of script (second_half n inner_before text)) in
-    record {
-      first = cut.first ∙ first_is;
-      second = subst Q (drop-map ids n gs) cut.second ∙ ap (drop (opening script (map ids (drop n gs)))) second_is;
-    }
+    let shown = copied-show n text (subst (λ ts. Shows (ts ++ text.after)) (sym
+    (drop-map type_of n gs)) onward) (subst (λ ts. Shows
+    (reverse ts ++ text.before)) (sym (take-map type_of n gs)) backward) in
+    let cut = holds-cut script text
+    (length-map gs ids ∙ sym (length-map gs type_of)) n
+    (take 5 (drop n text.types ++ text.after)) (take 5 (reverse (take n text.types) ++ text.before))
+    (omega (arith, length-map gs type_of)) shown in
+    search (
+      arith,
+      take-map,
+      drop-map,
+      copied-after joining general (drop n gs) b.after (agrees-drop general n gs all),
+      copied-before joining general (take n gs) b.before (agrees-take general n gs all),
+    )

@@ -1,5 +1,6 @@
 -- The joining rule over lists of types: only the nearest types of a context matter, and a text falls into parts.
-use Rattle.std.proofs.Common.{◌≡◌, ℕ, suc, false, cond, List, [], ◌∷◌, ◌++◌, length, reverse, replicate, Option, None, Some, refl, sym, ap, ◌∙◌, append_assoc}
+use Rattle.std.proofs.Common.{arith}
+use Rattle.std.proofs.Common.{◌≡◌, ℕ, suc, false, cond, List, [], ◌∷◌, ◌++◌, length, reverse, replicate, Option, None, Some, refl, ap, append_assoc}
 use Rattle.std.proofs.lemmas.List.{reverse-append}
 use Rattle.shapers_base.specs.declared.plan.joining.hb_arabic_joining_type_t.{hb_arabic_joining_type_t}
 use Rattle.shapers_base.specs.declared.plan.joining.hb_arabic_joining_type_t.TheVariants.{U, T}
@@ -10,7 +11,7 @@ use Rattle.shapers_arabic.specs.Joining.{is_transparent, nearest, act, forms}
 pub nearest-behind : (ts us vs : List hb_arabic_joining_type_t) → nearest us ≡ nearest vs
     → nearest (ts ++ us) ≡ nearest (ts ++ vs)
 nearest-behind [] us vs e = e
-nearest-behind (t ∷ ts) us vs e = ap (λ o. cond (is_transparent t) o (Some t)) (nearest-behind ts us vs e)
+nearest-behind (t ∷ ts) us vs e = cc (nearest-behind ts us vs e)
 
 -- a text whose nearest is none is transparent throughout
 pub transparent : (t : hb_arabic_joining_type_t) (ts : List hb_arabic_joining_type_t) → nearest (t ∷ ts) ≡ None
@@ -22,25 +23,18 @@ transparent _ ts e = cc
 pub nearest-transparent : (ts us : List hb_arabic_joining_type_t) → nearest ts ≡ None → nearest (ts ++ us) ≡ nearest us
 nearest-transparent [] us e = refl
 nearest-transparent (t ∷ ts) us e =
-    let (first, rest) = transparent t ts e in
-    ap (λ x. cond (is_transparent x) (nearest (ts ++ us)) (Some x)) first ∙ nearest-transparent ts us rest
-
--- a letter is the nearest of what begins with it
-pub nearest-letter : (t : hb_arabic_joining_type_t) (ts : List hb_arabic_joining_type_t) → is_transparent t ≡ false
-    → nearest (t ∷ ts) ≡ Some t
-nearest-letter t ts e = ap (λ b. cond b (nearest ts) (Some t)) e
+    let (first, rest) = transparent t ts e in cc (nearest-transparent ts us rest)
 
 -- the forms depend on the contexts through their nearest types alone
 pub forms-contexts : (before others ts after behind : List hb_arabic_joining_type_t) → nearest before ≡ nearest others
     → nearest after ≡ nearest behind → forms before ts after ≡ forms others ts behind
 forms-contexts before others [] after behind b a = refl
 forms-contexts before others (t ∷ ts) after behind b a =
-    let head : act (nearest before) t (nearest (ts ++ after)) ≡ act (nearest others) t (nearest (ts ++ behind)) =
-    ap (λ o. act o t (nearest (ts ++ after))) b ∙ ap (act (nearest others) t) (nearest-behind ts after behind a) in
-    let rest = forms-contexts (t ∷ before) (t ∷ others) ts after behind (ap (λ o. cond (is_transparent t) o (Some t)) b)
-    a in
-    ap (λ x. x ∷ forms (t ∷ before) ts after) head
-    ∙ ap (λ xs. act (nearest others) t (nearest (ts ++ behind)) ∷ xs) rest
+    search (
+      arith,
+      nearest-behind,
+      forms-contexts (t ∷ before) (t ∷ others) ts after behind (ap (λ o. cond (is_transparent t) o (Some t)) b) a,
+    )
 
 pub length-forms : (before ts after : List hb_arabic_joining_type_t) → length (forms before ts after) ≡ length ts
 length-forms before [] after = refl
@@ -51,20 +45,20 @@ pub forms-append : (before xs ys after : List hb_arabic_joining_type_t) → form
     ≡ forms before xs (ys ++ after) ++ forms (reverse xs ++ before) ys after
 forms-append before [] ys after = refl
 forms-append before (x ∷ xs) ys after =
-    let seen : reverse xs ++ (x ∷ before) ≡ reverse (x ∷ xs) ++ before =
-    sym (ap (λ r. r ++ before) (reverse-append (x ∷ []) xs) ∙ append_assoc (reverse xs) (x ∷ []) before) in
-    ap (λ us. act (nearest before) x (nearest us) ∷ forms (x ∷ before) (xs ++ ys) after) (append_assoc xs ys after)
-    ∙ ap (λ fs. act (nearest before) x (nearest (xs ++ (ys ++ after))) ∷ fs) (forms-append (x ∷ before) xs ys after
-    ∙ ap (λ us. forms (x ∷ before) xs (ys ++ after) ++ forms us ys after) seen)
+    search (
+      arith,
+      append_assoc xs ys after,
+      forms-append (x ∷ before) xs ys after,
+      reverse-append (x ∷ []) xs,
+      append_assoc,
+    )
 
 -- transparent places have no form
 pub forms-transparent : (before ts after : List hb_arabic_joining_type_t) → nearest ts ≡ None
     → forms before ts after ≡ replicate (length ts) NONE
 forms-transparent before [] after e = refl
 forms-transparent before (t ∷ ts) after e =
-    let (first, rest) = transparent t ts e in
-    ap (λ x. act (nearest before) x (nearest (ts ++ after)) ∷ forms (t ∷ before) ts after) first
-    ∙ ap (λ fs. NONE ∷ fs) (forms-transparent (t ∷ before) ts after rest)
+    let (first, rest) = transparent t ts e in cc (forms-transparent (t ∷ before) ts after rest)
 
 -- a text up to its last letter, that letter, and what is transparent behind it: only the letter's
 -- form depends on what follows
@@ -77,12 +71,4 @@ pub forms-parts : (before front : List hb_arabic_joining_type_t) (own : hb_arabi
     (tail after : List hb_arabic_joining_type_t) → is_transparent own ≡ false → nearest tail ≡ None
     → forms before (front ++ own ∷ tail) after ≡ forms_in_parts before front own tail (nearest after)
 forms-parts before front own tail after letter rest =
-    let seen = reverse front ++ before in
-    forms-append before front (own ∷ tail) after
-    ∙ ap (λ fs. fs ++ forms seen (own ∷ tail) after)
-    (forms-contexts before before front (own ∷ (tail ++ after)) (own ∷ []) refl
-    (nearest-letter own (tail ++ after) letter ∙ sym (nearest-letter own [] letter)))
-    ∙ ap (λ o. forms before front (own ∷ []) ++ act (nearest seen) own o ∷ forms (own ∷ seen) tail after)
-    (nearest-transparent tail after rest)
-    ∙ ap (λ fs. forms before front (own ∷ []) ++ act (nearest seen) own (nearest after) ∷ fs)
-    (forms-transparent (own ∷ seen) tail after rest)
+    search (arith, forms-append, forms-contexts, nearest-transparent, forms-transparent)

@@ -1,11 +1,12 @@
 -- Which forms the halves of a text lose: the last letter's of the first half, and the first letter's of the second.
+use Rattle.std.proofs.Common.{arith}
 use Rattle.std.proofs.Common.{◌≡◌, ℕ, Bool, true, false, cond, eqb, not, ◌||◌, List, [], ◌∷◌, ◌++◌, length, reverse, replicate, Option, None, Some, refl, sym, ap, ◌∙◌, append_assoc, inl, inr, ◌⊎◌}
 use Rattle.std.proofs.lemmas.Bool.{eqb-true, eq-eqb, not-false, not_from_true}
 use Rattle.std.proofs.lemmas.List.{reverse-append}
 use Rattle.shapers_base.specs.declared.plan.joining.hb_arabic_joining_type_t.{hb_arabic_joining_type_t}
 use Rattle.shapers_base.specs.declared.plan.joining.hb_arabic_joining_type_t.TheVariants.{U, L, R, D, GroupAlaph, T, X}
-use Rattle.shapers_arabic.specs.declared.ot_shaper_arabic.arabic_action_t.TheConstants.{ISOL, MED2, NONE}
-use Rattle.shapers_arabic.specs.Joining.{is_transparent, nearest, joins_on, joins_back, form, alaph_after, alaph_inside, act, forms}
+use Rattle.shapers_arabic.specs.declared.ot_shaper_arabic.arabic_action_t.TheConstants.{ISOL, NONE}
+use Rattle.shapers_arabic.specs.Joining.{is_transparent, nearest, joins_back, alaph_after, act, forms}
 use Rattle.shapers_arabic.specs.JoiningFlags.{Letter, nearest_letter}
 use Rattle.shapers_arabic.proofs.JoiningLists.{forms-contexts, forms-parts}
 use Rattle.shapers_arabic.proofs.JoiningWalk.{nearest-reverse}
@@ -59,12 +60,14 @@ last_letter (t ∷ ts) = elim (last_letter ts) [
 last-seen : (ts : List hb_arabic_joining_type_t) (l : LastLetter ts)
     → nearest_letter (reverse ts) ≡ Some (record { own = l.own; before = reverse l.front })
 last-seen ts l =
-    ap nearest_letter (ap reverse l.split ∙ reverse-append l.front (l.own ∷ l.tail)
-    ∙ ap (λ us. us ++ reverse l.front) (reverse-append (l.own ∷ []) l.tail)
-    ∙ append_assoc (reverse l.tail) (l.own ∷ []) (reverse l.front))
-    ∙ letter-transparent (reverse l.tail) (l.own ∷ reverse l.front) (nearest-reverse l.tail l.rest)
-    ∙ ap (λ b. cond b (nearest_letter (reverse l.front)) (Some (record { own = l.own; before = reverse l.front })))
-    l.letter
+    search (
+      arith,
+      l.split,
+      reverse-append,
+      reverse-append (l.own ∷ []) l.tail,
+      append_assoc,
+      letter-transparent (reverse l.tail) (l.own ∷ reverse l.front) (nearest-reverse l.tail l.rest),
+    )
 
 -- the first half: it keeps its forms without what follows exactly where its last letter does
 middle : (xs zs : List ℕ) (a b : ℕ) → xs ++ a ∷ zs ≡ xs ++ b ∷ zs → a ≡ b
@@ -88,38 +91,36 @@ changed-to context front own (Some t) e = not_apart _ _ e
 no-forms : (context ts after : List hb_arabic_joining_type_t) → nearest ts ≡ None
     → forms context ts after ≡ forms context ts []
 no-forms context [] after e = refl
-no-forms context (T ∷ ts) after e = ap (λ fs. NONE ∷ fs) (no-forms (T ∷ context) ts after e)
+no-forms context (T ∷ ts) after e = cc (no-forms (T ∷ context) ts after e)
 no-forms context (t ∷ ts) after e = cc
 
 pub first-keeps : (context ts after : List hb_arabic_joining_type_t)
     → changed context (nearest_letter (reverse ts)) (nearest after) ≡ false → forms context ts after ≡ forms context ts
     []
 first-keeps context ts after e = elim (last_letter ts) [
-  | inl none ↦ no-forms context ts after none
+  | inl none ↦ search (arith, no-forms)
   | inr l ↦
-      let at = changed-from context l.front l.own (nearest after)
-      (sym (ap (λ o. changed context o (nearest after)) (last-seen ts l)) ∙ e) in
-      ap (λ us. forms context us after) l.split
-      ∙ forms-parts context l.front l.own l.tail after l.letter l.rest
-      ∙ ap (λ a. forms context l.front (l.own ∷ []) ++ a ∷ replicate (length l.tail) NONE) at
-      ∙ sym (forms-parts context l.front l.own l.tail [] l.letter l.rest)
-      ∙ sym (ap (λ us. forms context us []) l.split)
+      search (
+        arith,
+        l.split,
+        forms-parts,
+        changed-from context l.front l.own (nearest after)
+            (sym (ap (λ o. changed context o (nearest after)) (last-seen ts l)) ∙ e),
+      )
 ]
 
 pub first-kept : (context ts after : List hb_arabic_joining_type_t) → forms context ts after ≡ forms context ts []
     → changed context (nearest_letter (reverse ts)) (nearest after) ≡ false
 first-kept context ts after e = elim (last_letter ts) [
-  | inl none ↦ ap (λ o. changed context o (nearest after)) (no_letter (reverse ts) (nearest-reverse ts none))
+  | inl none ↦ search (arith, no_letter, nearest-reverse)
   | inr l ↦
-      let parts : forms context l.front (l.own ∷ []) ++ act (nearest (reverse l.front ++ context)) l.own (nearest after)
-      ∷ replicate (length l.tail) NONE ≡ forms context l.front (l.own ∷ [])
-      ++ act (nearest (reverse l.front ++ context)) l.own None ∷ replicate (length l.tail) NONE =
-      sym (ap (λ us. forms context us after) l.split ∙ forms-parts context l.front l.own l.tail after l.letter l.rest)
-      ∙ e
-      ∙ (ap (λ us. forms context us []) l.split ∙ forms-parts context l.front l.own l.tail [] l.letter l.rest) in
-      ap (λ o. changed context o (nearest after)) (last-seen ts l)
-      ∙ changed-to context l.front l.own (nearest after)
-      (middle (forms context l.front (l.own ∷ [])) (replicate (length l.tail) NONE) _ _ parts)
+      cc (
+        last-seen ts l,
+        changed-to context l.front l.own (nearest after)
+            (middle (forms context l.front (l.own ∷ [])) (replicate (length l.tail) NONE) _ _ (sym (ap (λ us. forms
+            context us after) l.split ∙ forms-parts context l.front l.own l.tail after l.letter l.rest) ∙ e ∙ (ap (λ
+            us. forms context us []) l.split ∙ forms-parts context l.front l.own l.tail [] l.letter l.rest))),
+      )
 ]
 
 -- the second half: whether its first letter has another form without what stands before
@@ -132,19 +133,16 @@ lost before (t ∷ ts) after =
 pub second-keeps : (seen others us after : List hb_arabic_joining_type_t) → nearest others ≡ None
     → lost (nearest seen) us after ≡ false → forms seen us after ≡ forms others us after
 second-keeps seen others [] after n e = refl
-second-keeps seen others (T ∷ us) after n e = ap (λ fs. NONE ∷ fs) (second-keeps (T ∷ seen) (T ∷ others) us after n e)
+second-keeps seen others (T ∷ us) after n e = cc (second-keeps (T ∷ seen) (T ∷ others) us after n e)
 second-keeps seen others (t ∷ us) after n e =
-    ap (λ a. a ∷ forms (t ∷ seen) us after) (same _ _ e ∙ sym (ap (λ o. act o t (nearest (us ++ after))) n))
-    ∙ ap (λ fs. act (nearest others) t (nearest (us ++ after)) ∷ fs)
-    (forms-contexts (t ∷ seen) (t ∷ others) us after after refl refl)
+    search (arith, same, forms-contexts)
 
 pub second-kept : (seen others us after : List hb_arabic_joining_type_t) → nearest others ≡ None
     → forms seen us after ≡ forms others us after → lost (nearest seen) us after ≡ false
 second-kept seen others [] after n e = refl
 second-kept seen others (T ∷ us) after n e = second-kept (T ∷ seen) (T ∷ others) us after n (cc)
 second-kept seen others (t ∷ us) after n e =
-    let head : act (nearest seen) t (nearest (us ++ after)) ≡ act (nearest others) t (nearest (us ++ after)) = cc in
-    not_apart _ _ (head ∙ ap (λ o. act o t (nearest (us ++ after))) n)
+    search (arith, not_apart)
 
 -- of what follows only whether it joins back matters
 abbrev pub act_by : Option hb_arabic_joining_type_t → hb_arabic_joining_type_t → Bool → ℕ
@@ -153,15 +151,11 @@ act_by before t false = act before t None
 
 pub act-by : (before : Option hb_arabic_joining_type_t) (t : hb_arabic_joining_type_t)
     (after : Option hb_arabic_joining_type_t) → act before t after ≡ act_by before t (joins_back after)
-act-by before L after = elim (joins_back after) as (λ b. form false b ≡ act_by before L b)
-    [ true ↦ refl | false ↦ refl ]
-act-by before D after = elim (joins_back after) as (λ b. form (joins_on before) b ≡ act_by before D b)
-    [ true ↦ refl | false ↦ refl ]
+act-by before L after = search arith
+act-by before D after = search arith
 act-by before GroupAlaph after =
-    elim (joins_back after) as (λ b. cond b (alaph_inside before) (alaph_after before) ≡ act_by before GroupAlaph b)
-    [ true ↦ refl | false ↦ refl ]
-act-by before t after = elim (joins_back after) as (λ b. act before t None ≡ act_by before t b)
-    [ true ↦ refl | false ↦ refl ]
+    search arith
+act-by before t after = search arith
 
 -- the first letter of the text: the forms that it can take from the context
 alaph-takes : (b : Option hb_arabic_joining_type_t) → is_taken (alaph_after b) ≡ not (eqb (alaph_after b) ISOL)
@@ -176,20 +170,16 @@ first-takes b L true = refl
 first-takes b T true = refl
 first-takes b X true = refl
 first-takes b GroupAlaph true =
-    elim (joins_on b) as (λ j. is_taken (cond j MED2 ISOL) ≡ not (eqb (cond j MED2 ISOL) ISOL))
-    [ true ↦ refl | false ↦ refl ]
-first-takes b D true = elim (joins_on b) as (λ j. is_taken (form j true) ≡ not (eqb (form j true) (form false true)))
-    [ true ↦ refl | false ↦ refl ]
-first-takes b t true = elim (joins_on b) as (λ j. is_taken (form j false) ≡ not (eqb (form j false) (form false false)))
-    [ true ↦ refl | false ↦ refl ]
+    search arith
+first-takes b D true = search arith
+first-takes b t true = search arith
 first-takes b U false = refl
 first-takes b L false = refl
 first-takes b T false = refl
 first-takes b X false = refl
 first-takes b GroupAlaph false = alaph-takes b
 first-takes b t false =
-    elim (joins_on b) as (λ j. is_taken (form j false) ≡ not (eqb (form j false) (form false false)))
-    [ true ↦ refl | false ↦ refl ]
+    search arith
 
 -- two letters: where the second leaves the form of the first as it is, it takes one from it as FIN2 or FIN3 alone
 abbrev change : Option hb_arabic_joining_type_t → hb_arabic_joining_type_t → hb_arabic_joining_type_t → Bool
@@ -208,9 +198,7 @@ pair-takes b own X false = refl
 pair-takes b own L false = refl
 pair-takes b L t joins = refl
 pair-takes b D t joins =
-    elim (joins_on b) as (λ j. (not (eqb (form j true) (form j false)) || is_second_or_third (act_by (Some D) t joins))
-    ≡ (not (eqb (form j true) (form j false)) || not (eqb (act_by (Some D) t joins) (act_by None t joins))))
-    [ true ↦ refl | false ↦ refl ]
+    search arith
 pair-takes b own t true = refl
 pair-takes b own t false = refl
 
@@ -233,17 +221,7 @@ pub takes-lost : (context : List hb_arabic_joining_type_t) (o : Option Letter)
 takes-lost context o before [] after f = refl
 takes-lost context o before (T ∷ us) after f = takes-lost context o before us after f
 takes-lost context None before (t ∷ us) after f =
-    let n = nearest (us ++ after) in
-    ap is_taken (act-by before t n) ∙ first-takes before t (joins_back n)
-    ∙ ap (λ a. not (eqb a (act_by None t (joins_back n)))) (sym (act-by before t n))
-    ∙ ap (λ a. not (eqb (act before t n) a)) (sym (act-by None t n))
+    let n = nearest (us ++ after) in search (arith, act-by before t n, first-takes, act-by None t n)
 takes-lost context (Some k) before (t ∷ us) after f =
     let n = nearest (us ++ after) in
-    let b = nearest (k.before ++ context) in
-    let c = change b k.own t in
-    ap (λ o. c || is_second_or_third (act o t n)) f
-    ∙ ap (λ a. c || is_second_or_third a) (act-by (Some k.own) t n)
-    ∙ pair-takes b k.own t (joins_back n)
-    ∙ ap (λ a. c || not (eqb a (act_by None t (joins_back n)))) (sym (act-by (Some k.own) t n))
-    ∙ ap (λ a. c || not (eqb (act (Some k.own) t n) a)) (sym (act-by None t n))
-    ∙ sym (ap (λ o. c || not (eqb (act o t n) (act None t n))) f)
+    search (arith, act-by (Some k.own) t n, pair-takes, act-by None t n)

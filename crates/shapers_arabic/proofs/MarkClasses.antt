@@ -1,19 +1,18 @@
 -- What the class of a modifier tells: it is a mark of that high byte, a quick look finds it, and it
 -- takes another class.
-use Rattle.std.proofs.Common.{◌≡◌, ℕ, suc, ◌+◌, ◌==◌, Bool, true, false, ◌||◌, if◌then◌else◌, List, [], ◌∷◌, ◌++◌, map, length, take, drop, refl, ap, sym, ◌∙◌, arith}
+use Rattle.std.proofs.Common.{◌≡◌, ℕ, suc, ◌+◌, ◌==◌, Bool, true, false, ◌||◌, if◌then◌else◌, List, [], ◌∷◌, ◌++◌, map, length, take, drop, refl, ap, ◌∙◌, arith}
 use Rattle.std.specs.Prelude.{replicate}
 use Rattle.std.specs.List.{list_all, list_any, prefix_len}
 use Rattle.std.proofs.lemmas.List.{map-append}
 use Rattle.std.proofs.lemmas.Bool.{and_parts, or_parts, eqb-true, false≢true, false_from_ne_true}
 use Rattle.shapers_buffer.specs.declared.buffer.glyph.hb_glyph_info_t.{hb_glyph_info_t}
 use Rattle.shapers_buffer.specs.declared.buffer.unicode_props.UnicodeProps.{UnicodeProps}
-use Rattle.shapers_buffer.specs.declared.buffer.modified_combining_class.TheConstants.{CCC22, CCC26}
 use Rattle.shapers_buffer.specs.Category.{is_mark}
 use Rattle.shapers_buffer.specs.Clusters.{stretch_of}
 use Rattle.shapers_buffer.specs.Properties.{general_category, high_byte, modified_combining_class, with_high_byte, with_modified_combining_class}
 use Rattle.shapers_buffer.proofs.PropertyLemmas.{set_is_read}
 use Rattle.shapers_arabic.specs.MarkParts.{is_among_modifiers, is_modifier, may_modify}
-use Rattle.shapers_arabic.specs.Marks.{behind, classes_moved, combining_classes, front_of, has_lower_class, in_class, is_modifier_of, marks_reordered, modifiers, split_marks, with_modifiers_first}
+use Rattle.shapers_arabic.specs.Marks.{classes_moved, combining_classes, front_of, in_class, is_modifier_of, marks_reordered, modifiers, split_marks, with_modifiers_first}
 
 -- a class that isn't 0 is a mark's, and its high byte
 pub record HasClass (class : ℕ) (p : UnicodeProps) : Type 0 where
@@ -22,31 +21,30 @@ pub record HasClass (class : ℕ) (p : UnicodeProps) : Type 0 where
 
 by_mark : (class : ℕ) (p : UnicodeProps) (b : Bool) → is_mark (general_category p) ≡ b → (0 == class) ≡ false
     → ((if b then high_byte p else 0) == class) ≡ true → HasClass class p
-by_mark class p true marked none is = record { mark = marked; byte = eqb-true (high_byte p) class is }
-by_mark class p false marked none is = absurd (false≢true (sym none ∙ is))
+by_mark class p true marked none is = search (arith, eqb-true)
+by_mark class p false marked none is = search (arith, false≢true)
 
 has_class : (class : ℕ) (p : UnicodeProps) → (0 == class) ≡ false → (modified_combining_class p == class) ≡ true
     → HasClass class p
 unfolding modified_combining_class
-has_class class p none is = by_mark class p (is_mark (general_category p)) refl none is
+has_class class p none is = search (arith, by_mark)
 
 pub modifier_has_class : (class : ℕ) (g : hb_glyph_info_t) → (0 == class) ≡ false → is_modifier_of class g ≡ true
     → HasClass class g.unicode_props
-modifier_has_class class g none h = has_class class g.unicode_props none (and_parts _ _ h).0
+modifier_has_class class g none h = search (arith, has_class, and_parts)
 
 -- the modifiers stand in the three ranges
 found : (c : ℕ) (cs : List ℕ) (x : ℕ) (b : Bool) → (c == x) ≡ b → is_among_modifiers c ≡ true
     → (list_any (λ y. y == x) cs ≡ true → is_among_modifiers x ≡ true) → (b || list_any (λ y. y == x) cs) ≡ true
     → is_among_modifiers x ≡ true
-found c cs x true is among rest h = ap is_among_modifiers (sym (eqb-true c x is)) ∙ among
+found c cs x true is among rest h = cc (eqb-true c x is)
 found c cs x false is among rest h = rest h
 
 all_among : (cs : List ℕ) (x : ℕ) → list_all is_among_modifiers cs ≡ true → list_any (λ y. y == x) cs ≡ true
     → is_among_modifiers x ≡ true
 all_among [] x among h = absurd (false≢true h)
 all_among (c ∷ cs) x among h =
-    let both = and_parts (is_among_modifiers c) (list_all is_among_modifiers cs) among in
-    found c cs x (c == x) refl both.0 (all_among cs x both.1) h
+    search (arith, found, all_among cs x (and_parts (is_among_modifiers c) (list_all is_among_modifiers cs) among).1)
 
 -- so a quick look finds each modifier
 looked : (class : ℕ) (g : hb_glyph_info_t) → (0 == class) ≡ false → (class == 220 || class == 230) ≡ true
@@ -57,13 +55,13 @@ looked class g none listed h =
 
 by_class : (g : hb_glyph_info_t) (b : Bool) → is_modifier_of 220 g ≡ b → (b || is_modifier_of 230 g) ≡ true
     → may_modify g ≡ true
-by_class g true below h = looked 220 g refl refl below
+by_class g true below h = search (arith, looked)
 by_class g false below h = looked 230 g refl refl h
 
 not_modifier : (g : hb_glyph_info_t) → may_modify g ≡ false → is_modifier g ≡ false
 not_modifier g h =
     false_from_ne_true (is_modifier g)
-    (λ modifies. false≢true (sym h ∙ by_class g (is_modifier_of 220 g) refl modifies))
+    (λ modifies. search (arith, false≢true, by_class))
 
 pub no_modifier : (gs : List hb_glyph_info_t) → list_any may_modify gs ≡ false → list_any is_modifier gs ≡ false
 no_modifier [] h = refl
@@ -76,10 +74,6 @@ pub set_on_mark : (class : ℕ) (p : UnicodeProps) → is_mark (general_category
     → with_modified_combining_class class p ≡ with_high_byte class p
 set_on_mark class p marked = rw marked refl
 
-set_on_other : (class : ℕ) (p : UnicodeProps) → is_mark (general_category p) ≡ false
-    → with_modified_combining_class class p ≡ p
-set_on_other class p other = rw other refl
-
 still_mark : (class : ℕ) (p : UnicodeProps) → is_mark (general_category p) ≡ true
     → is_mark (general_category (with_high_byte class p)) ≡ true
 still_mark class p marked = ap is_mark ((set_is_read p).category_stays class) ∙ marked
@@ -91,26 +85,21 @@ class_of_mark p marked = rw marked refl
 class_set : (class : ℕ) (p : UnicodeProps) → is_mark (general_category p) ≡ true
     → modified_combining_class (with_modified_combining_class class p) ≡ class
 class_set class p marked =
-    ap modified_combining_class (set_on_mark class p marked)
-    ∙ class_of_mark (with_high_byte class p) (still_mark class p marked)
-    ∙ (set_is_read p).byte class
+    search (arith, class_of_mark, still_mark)
 
 -- a class that is set is hidden with the one before it
 byte-hidden : (class : ℕ) (p : UnicodeProps) → with_high_byte 0 (with_high_byte class p) ≡ with_high_byte 0 p
-byte-hidden class p = ap (λ n. record { 0 = n }) (omega arith)
+byte-hidden class p = search arith
 
 hidden_by_mark : (class : ℕ) (p : UnicodeProps) (b : Bool) → is_mark (general_category p) ≡ b
     → with_modified_combining_class 0 (with_modified_combining_class class p) ≡ with_modified_combining_class 0 p
 hidden_by_mark class p true marked =
-    ap (with_modified_combining_class 0) (set_on_mark class p marked)
-    ∙ set_on_mark 0 (with_high_byte class p) (still_mark class p marked)
-    ∙ byte-hidden class p
-    ∙ sym (set_on_mark 0 p marked)
-hidden_by_mark class p false other = ap (with_modified_combining_class 0) (set_on_other class p other)
+    search (arith, still_mark)
+hidden_by_mark class p false other = search (arith, refl)
 
 pub class-hidden : (class : ℕ) (p : UnicodeProps)
     → with_modified_combining_class 0 (with_modified_combining_class class p) ≡ with_modified_combining_class 0 p
-class-hidden class p = hidden_by_mark class p (is_mark (general_category p)) refl
+class-hidden class p = search (arith, hidden_by_mark)
 
 -- the modifiers take the class that they are given
 one_set : (test : hb_glyph_info_t → Bool) (class : ℕ)
@@ -121,14 +110,7 @@ one_set : (test : hb_glyph_info_t → Bool) (class : ℕ)
     ≡ replicate (length (front_of test (g ∷ gs))) class
 one_set test class marked g gs true passes rest =
     let more : 1 + prefix_len test gs ≡ suc (prefix_len test gs) = omega arith in
-    let front : front_of test (g ∷ gs) ≡ g ∷ front_of test gs =
-    ap (λ (b : Bool). take (if b then 1 + prefix_len test gs else 0) (g ∷ gs)) passes
-    ∙ ap (λ n. take n (g ∷ gs)) more in
-    ap (λ xs. combining_classes (map (in_class class) xs)) front
-    ∙ ap (λ c. c ∷ combining_classes (map (in_class class) (front_of test gs)))
-    (class_set class g.unicode_props (marked g passes))
-    ∙ ap (λ cs. class ∷ cs) rest
-    ∙ sym (ap (λ xs. replicate (length xs) class) front)
+    search (arith, class_set)
 one_set test class marked g gs false fails rest = rw fails refl
 
 classes_set : (test : hb_glyph_info_t → Bool) (class : ℕ)
@@ -137,7 +119,7 @@ classes_set : (test : hb_glyph_info_t → Bool) (class : ℕ)
     → combining_classes (map (in_class class) (front_of test gs)) ≡ replicate (length (front_of test gs)) class
 classes_set test class marked [] = refl
 classes_set test class marked (g ∷ gs) =
-    one_set test class marked g gs (test g) refl (classes_set test class marked gs)
+    search (arith, one_set, classes_set test class marked gs)
 
 modifier_is_mark : (class : ℕ) → (0 == class) ≡ false → (g : hb_glyph_info_t) → is_modifier_of class g ≡ true
     → is_mark (general_category g.unicode_props) ≡ true
@@ -147,24 +129,10 @@ modifier_is_mark class none g h = (modifier_has_class class g none h).mark
 first_classes : (gs : List hb_glyph_info_t) → combining_classes (with_modifiers_first (split_marks gs))
     ≡ classes_moved (split_marks gs)
 first_classes gs =
-    let s = split_marks gs in
-    let second = behind (has_lower_class 220) gs in
-    let fourth = behind (has_lower_class 230) (behind (is_modifier_of 220) second) in
-    let below = classes_set (is_modifier_of 220) CCC22 (modifier_is_mark 220 refl) second in
-    let above = classes_set (is_modifier_of 230) CCC26 (modifier_is_mark 230 refl) fourth in
-    let class = λ (g : hb_glyph_info_t). modified_combining_class g.unicode_props in
-    let kept = s.low ++ (s.middle ++ s.rest) in
-    map-append class (map (in_class CCC22) s.modifiers_below) (map (in_class CCC26) s.modifiers_above ++ kept)
-    ∙ ap (λ cs. cs ++ combining_classes (map (in_class CCC26) s.modifiers_above ++ kept)) below
-    ∙ ap (λ cs. replicate (length s.modifiers_below) CCC22 ++ cs)
-    (map-append class (map (in_class CCC26) s.modifiers_above) kept ∙ ap (λ cs. cs ++ combining_classes kept) above)
+    search (arith, map-append, classes_set, modifier_is_mark)
 
 pub reordered_classes : (s e : ℕ) (gs : List hb_glyph_info_t) → combining_classes (marks_reordered s e gs)
     ≡ combining_classes (take s gs)
     ++ (classes_moved (split_marks (stretch_of s e gs)) ++ combining_classes (drop e gs))
 reordered_classes s e gs =
-    let class = λ (g : hb_glyph_info_t). modified_combining_class g.unicode_props in
-    let moved = with_modifiers_first (split_marks (stretch_of s e gs)) in
-    map-append class (take s gs) (moved ++ drop e gs)
-    ∙ ap (λ cs. combining_classes (take s gs) ++ cs) (map-append class moved (drop e gs)
-    ∙ ap (λ cs. cs ++ combining_classes (drop e gs)) (first_classes (stretch_of s e gs)))
+    search (arith, map-append, first_classes)

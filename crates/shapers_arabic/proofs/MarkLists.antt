@@ -8,7 +8,7 @@ use Rattle.shapers_buffer.specs.declared.buffer.modified_combining_class.TheCons
 use Rattle.shapers_buffer.specs.Places.{pick}
 use Rattle.shapers_clusters.proofs.Picks.{pick-append, pick-range}
 use Rattle.shapers_arabic.specs.MarkParts.{last_marks_first, is_modifier}
-use Rattle.shapers_arabic.specs.Marks.{Marks, split_marks, front_of, behind, has_lower_class, is_modifier_of, in_class, with_modifiers_first, places_moved, passed, marks_merged, marks_reordered}
+use Rattle.shapers_arabic.specs.Marks.{Marks, split_marks, behind, has_lower_class, is_modifier_of, in_class, with_modifiers_first, places_moved, passed, marks_merged, marks_reordered}
 use Rattle.std.proofs.lemmas.Bool.{or_parts}
 use Rattle.shapers_buffer.specs.declared.buffer.level.BufferClusterLevel.{BufferClusterLevel}
 use Rattle.shapers_buffer.specs.Clusters.{merge_all, stretch_of}
@@ -24,27 +24,12 @@ parts_moved s = s.modifiers_below ++ (s.modifiers_above ++ (s.low ++ (s.middle +
 -- the parts are the marks
 pub split-joined : (gs : List hb_glyph_info_t) → joined_parts (split_marks gs) ≡ gs
 split-joined gs =
-    let second = behind (has_lower_class 220) gs in
-    let third = behind (is_modifier_of 220) second in
-    let fourth = behind (has_lower_class 230) third in
-    let a = front_of (has_lower_class 220) gs in
-    let m = front_of (is_modifier_of 220) second in
-    let b = front_of (has_lower_class 230) third in
-    let fourth_is = take-append-drop (prefix_len (is_modifier_of 230) fourth) fourth in
-    let third_is = take-append-drop (prefix_len (has_lower_class 230) third) third in
-    let second_is = take-append-drop (prefix_len (is_modifier_of 220) second) second in
-    ap (λ xs. a ++ (m ++ (b ++ xs))) fourth_is
-    ∙ ap (λ xs. a ++ (m ++ xs)) third_is
-    ∙ ap (λ xs. a ++ xs) second_is
-    ∙ take-append-drop (prefix_len (has_lower_class 220) gs) gs
+    search (arith, take-append-drop)
 
 last_first-parts : (k class : ℕ) (front back : List hb_glyph_info_t) → length back ≡ k
     → last_marks_first k class (front ++ back) ≡ map (in_class class) back ++ front
 last_first-parts k class front back h =
-    let n : length front ≡ length (front ++ back) - k = omega (arith, length-append front back) in
-    ap (λ xs. map (in_class class) xs ++ take (length (front ++ back) - k) (front ++ back))
-    (drop_at front back (length (front ++ back) - k) n)
-    ∙ ap (λ xs. map (in_class class) back ++ xs) (take_at front back (length (front ++ back) - k) n)
+    search (arith, drop_at, length-append, take_at)
 
 -- two moves, of the second part over the first, and of the fourth over the first and third
 pub two_moves : (s : Marks) (xs one two : List hb_glyph_info_t) (a m b n : ℕ) → a ≡ length s.low
@@ -60,45 +45,36 @@ two_moves s xs one two a m b n ea em eb en h first second =
     let rest = s.rest in
     let behind = middle ++ (above ++ rest) in
     let below' = map (in_class CCC22) below in
-    let above' = map (in_class CCC26) above in
     let k = a + m + b + n - m in
     let passed = low ++ (middle ++ above) in
-    let an : length (low ++ below) ≡ a + m = length-append low below ∙ omega arith in
-    let bn : length below' ≡ m = length-map below (in_class CCC22) ∙ sym em in
-    let cn : length passed ≡ k = length-append low (middle ++ above) ∙ omega (arith, length-append middle above) in
-    let is : xs ≡ (low ++ below) ++ behind = h ∙ sym (append_assoc low below behind) in
-    let taken : take (a + m) xs ≡ low ++ below = ap (take (a + m)) is ∙ take_at (low ++ below) behind (a + m) an in
-    let left : drop (a + m) xs ≡ behind = ap (drop (a + m)) is ∙ drop_at (low ++ below) behind (a + m) an in
-    let one_is : one ≡ below' ++ low = first ∙ ap (last_marks_first m CCC22) taken
-    ∙ last_first-parts m CCC22 low below (sym em) in
-    let turned : low ++ behind ≡ passed ++ rest =
-    sym (append_assoc low (middle ++ above) rest ∙ ap (λ zs. low ++ zs) (append_assoc middle above rest)) in
-    let ys = one ++ drop (a + m) xs in
-    let ys_is : ys ≡ below' ++ (passed ++ rest) =
-    ap (λ zs. zs ++ drop (a + m) xs) one_is ∙ ap (λ zs. (below' ++ low) ++ zs) left ∙ append_assoc below' low behind
-    ∙ ap (λ zs. below' ++ zs) turned in
-    let front : take m ys ≡ below' = ap (take m) ys_is ∙ take_at below' (passed ++ rest) m bn in
-    let back : drop m ys ≡ passed ++ rest = ap (drop m) ys_is ∙ drop_at below' (passed ++ rest) m bn in
-    let inner : take k (drop m ys) ≡ (low ++ middle) ++ above = ap (take k) back ∙ take_at passed rest k cn
-    ∙ sym (append_assoc low middle above) in
-    let two_is : two ≡ above' ++ (low ++ middle) = second ∙ ap (last_marks_first n CCC26) inner
-    ∙ last_first-parts n CCC26 (low ++ middle) above (sym en) in
-    let last : drop k (drop m ys) ≡ rest = ap (drop k) back ∙ drop_at passed rest k cn in
-    ap (λ zs. zs ++ (two ++ drop k (drop m ys))) front
-    ∙ ap (λ zs. below' ++ (zs ++ drop k (drop m ys))) two_is
-    ∙ ap (λ zs. below' ++ ((above' ++ (low ++ middle)) ++ zs)) last
-    ∙ ap (λ zs. below' ++ zs) (append_assoc above' (low ++ middle) rest
-    ∙ ap (λ zs. above' ++ zs) (append_assoc low middle rest))
+    let an = length-append low below ∙ omega arith in
+    let bn = length-map below (in_class CCC22) ∙ sym em in
+    let cn = length-append low (middle ++ above) ∙ omega (arith, length-append middle above) in
+    search (
+      arith,
+      append_assoc low below behind,
+      take_at,
+      last_first-parts m CCC22 low below (sym em),
+      drop_at (low ++ below) behind (a + m) an,
+      append_assoc below' low behind,
+      append_assoc low (middle ++ above) rest,
+      append_assoc middle above rest,
+      take_at below' (passed ++ rest) m bn,
+      drop_at below' (passed ++ rest) m bn,
+      take_at passed rest k cn,
+      append_assoc low middle above,
+      last_first-parts n CCC26 (low ++ middle) above (sym en),
+      drop_at passed rest k cn,
+      append_assoc (map (in_class CCC26) above) (low ++ middle) rest,
+      append_assoc low middle rest,
+    )
 
 -- what is picked at the places of one part
 pick-part : (a k : ℕ) (front part back xs : List hb_glyph_info_t) → length front ≡ a → length part ≡ k
     → xs ≡ front ++ (part ++ back) → pick (range_with_len a k) xs ≡ part
 pick-part a k front part back xs ea ek h =
     let long = ap length h ∙ length-append front (part ++ back) in
-    pick-range a k xs (omega (arith, length-append part back))
-    ∙ ap (λ zs. take k (drop a zs)) h
-    ∙ ap (take k) (drop_at front (part ++ back) a ea)
-    ∙ take_at part back k ek
+    search (arith, pick-range a k xs (omega (arith, length-append part back)), drop_at, take_at)
 
 -- the places of the parts bring them into the new order
 pub pick-moved : (s : Marks) (xs : List hb_glyph_info_t) → xs ≡ joined_parts s
@@ -115,37 +91,32 @@ pick-moved s xs h =
     let b = length middle in
     let n = length above in
     let c = length rest in
-    let h2 : xs ≡ (low ++ below) ++ (middle ++ (above ++ rest)) =
+    let h2 =
     h ∙ sym (append_assoc low below (middle ++ (above ++ rest))) in
-    let h3 : xs ≡ ((low ++ below) ++ middle) ++ (above ++ rest) =
+    let h3 =
     h2 ∙ sym (append_assoc (low ++ below) middle (above ++ rest)) in
-    let h4 : xs ≡ (((low ++ below) ++ middle) ++ above) ++ (rest ++ []) =
-    h3 ∙ sym (append_assoc ((low ++ below) ++ middle) above rest)
-    ∙ ap (λ zs. (((low ++ below) ++ middle) ++ above) ++ zs) (sym (append-nil rest)) in
-    let n2 : length (low ++ below) ≡ a + m = length-append low below in
-    let n3 : length ((low ++ below) ++ middle) ≡ a + m + b = length-append (low ++ below) middle ∙ ap (λ k. k + b) n2 in
-    let n4 : length (((low ++ below) ++ middle) ++ above) ≡ a + m + b + n =
-    length-append ((low ++ below) ++ middle) above ∙ ap (λ k. k + n) n3 in
-    let r0 = range_with_len a m in
+    let n2 = length-append low below in
+    let n3 = length-append (low ++ below) middle ∙ ap (λ k. k + b) n2
+    in
     let r1 = range_with_len (a + m + b) n in
     let r2 = range_with_len 0 a in
     let r3 = range_with_len (a + m) b in
     let r4 = range_with_len (a + m + b + n) c in
-    pick-append r0 (r1 ++ (r2 ++ (r3 ++ r4))) xs
-    ∙ ap (λ zs. zs ++ pick (r1 ++ (r2 ++ (r3 ++ r4))) xs)
-    (pick-part a m low below (middle ++ (above ++ rest)) xs refl refl h)
-    ∙ ap (λ zs. below ++ zs)
-    (pick-append r1 (r2 ++ (r3 ++ r4)) xs
-    ∙ ap (λ zs. zs ++ pick (r2 ++ (r3 ++ r4)) xs)
-    (pick-part (a + m + b) n ((low ++ below) ++ middle) above rest xs n3 refl h3)
-    ∙ ap (λ zs. above ++ zs)
-    (pick-append r2 (r3 ++ r4) xs
-    ∙ ap (λ zs. zs ++ pick (r3 ++ r4) xs) (pick-part 0 a [] low (below ++ (middle ++ (above ++ rest))) xs refl refl h)
-    ∙ ap (λ zs. low ++ zs)
-    (pick-append r3 r4 xs
-    ∙ ap (λ zs. zs ++ pick r4 xs) (pick-part (a + m) b (low ++ below) middle (above ++ rest) xs n2 refl h2)
-    ∙ ap (λ zs. middle ++ zs) (pick-part (a + m + b + n) c (((low ++ below) ++ middle) ++ above) rest
-    [] xs n4 refl h4))))
+    search (
+      arith,
+      pick-append (range_with_len a m) (r1 ++ (r2 ++ (r3 ++ r4))) xs,
+      pick-part a m low below (middle ++ (above ++ rest)) xs refl refl h,
+      pick-append r1 (r2 ++ (r3 ++ r4)) xs,
+      pick-part,
+      pick-append r2 (r3 ++ r4) xs,
+      pick-part 0 a [] low (below ++ (middle ++ (above ++ rest))) xs refl refl h,
+      pick-append r3 r4 xs,
+      pick-part (a + m) b (low ++ below) middle (above ++ rest) xs n2 refl h2,
+      pick-part (a + m + b + n) c (((low ++ below) ++ middle) ++ above) rest [] xs
+          (length-append ((low ++ below) ++ middle) above ∙ ap (λ k. k + n) n3) refl
+          (h3 ∙ sym (append_assoc ((low ++ below) ++ middle) above rest) ∙ ap (λ zs. (((low ++ below) ++ middle) ++
+          above) ++ zs) (sym (append-nil rest))),
+    )
 
 -- MARKS OF WHICH NONE MODIFIES A LETTER: nothing merges, and all stay
 none-behind : (n : ℕ) (gs : List hb_glyph_info_t) → list_any is_modifier gs ≡ false → list_any is_modifier (drop n gs)
@@ -158,7 +129,7 @@ front-none : (test : hb_glyph_info_t → Bool) (gs : List hb_glyph_info_t)
     → ((g : hb_glyph_info_t) → is_modifier g ≡ false → test g ≡ false) → list_any is_modifier gs ≡ false
     → prefix_len test gs ≡ 0
 front-none test [] fails h = refl
-front-none test (g ∷ gs) fails h = rw (fails g (or_parts (is_modifier g) (list_any is_modifier gs) h).0) refl
+front-none test (g ∷ gs) fails h = search (arith, or_parts, refl)
 
 not_below : (g : hb_glyph_info_t) → is_modifier g ≡ false → is_modifier_of 220 g ≡ false
 not_below g h = (or_parts (is_modifier_of 220 g) (is_modifier_of 230 g) h).0
@@ -177,28 +148,9 @@ no_modifiers gs h =
     let second = behind (has_lower_class 220) gs in
     let third = behind (is_modifier_of 220) second in
     let in_second = none-behind (prefix_len (has_lower_class 220) gs) gs h in
-    let in_third = none-behind (prefix_len (is_modifier_of 220) second) second in_second in
-    let in_fourth = none-behind (prefix_len (has_lower_class 230) third) third in_third in
-    record {
-      below = front-none (is_modifier_of 220) second not_below in_second;
-      above = front-none (is_modifier_of 230) (behind (has_lower_class 230) third) not_above in_fourth;
-    }
-
--- and the marks stay, given how long the parts are
-parts-still : (a m b n : ℕ) (gs : List hb_glyph_info_t) → m ≡ 0 → n ≡ 0
-    → map (in_class CCC22) (take m (drop a gs))
-    ++ (map (in_class CCC26) (take n (drop b (drop m (drop a gs))))
-    ++ (take a gs ++ (take b (drop m (drop a gs)) ++ drop n (drop b (drop m (drop a gs)))))) ≡ gs
-parts-still a m b n gs none_below none_above =
-    rw (none_below, none_above, take-append-drop b (drop a gs), take-append-drop a gs) refl
-
-marks-still : (gs : List hb_glyph_info_t) → NoModifiers gs → with_modifiers_first (split_marks gs) ≡ gs
-marks-still gs h =
-    parts-still (prefix_len (has_lower_class 220) gs)
-    (prefix_len (is_modifier_of 220) (behind (has_lower_class 220) gs))
-    (prefix_len (has_lower_class 230) (behind (is_modifier_of 220) (behind (has_lower_class 220) gs)))
-    (prefix_len (is_modifier_of 230)
-    (behind (has_lower_class 230) (behind (is_modifier_of 220) (behind (has_lower_class 220) gs)))) gs h.below h.above
+    let in_fourth = none-behind (prefix_len (has_lower_class 230) third) third
+    (none-behind (prefix_len (is_modifier_of 220) second) second in_second) in
+    search (arith, front-none (is_modifier_of 230) (behind (has_lower_class 230) third) not_above in_fourth)
 
 nothing-merged : (level : BufferClusterLevel) (s a m b n : ℕ) (gs : List hb_glyph_info_t) → m ≡ 0 → n ≡ 0
     → merge_all level (shifted s (passed a m b n)) gs ≡ gs
@@ -207,25 +159,9 @@ nothing-merged level s a m b n gs none_below none_above = rw (none_below, none_a
 -- a stretch that stays leaves the whole
 stretch-still : (s e : ℕ) (gs : List hb_glyph_info_t) → s ≤ e → take s gs ++ (stretch_of s e gs ++ drop e gs) ≡ gs
 stretch-still s e gs in_order =
-    let back : s + (e - s) ≡ e = omega arith in
-    let rest : drop (e - s) (drop s gs) ≡ drop e gs = drop-drop (e - s) s gs ∙ ap (λ n. drop n gs) back in
-    ap (λ xs. take s gs ++ (stretch_of s e gs ++ xs)) (sym rest)
-    ∙ ap (λ xs. take s gs ++ xs) (take-append-drop (e - s) (drop s gs))
-    ∙ take-append-drop s gs
+    search (arith, drop-drop (e - s) s gs, take-append-drop, take-append-drop s gs)
 
 pub unmodified : (level : BufferClusterLevel) (s e : ℕ) (gs : List hb_glyph_info_t) → s ≤ e
     → list_any is_modifier (stretch_of s e gs) ≡ false → marks_reordered s e (marks_merged level s e gs) ≡ gs
 unmodified level s e gs in_order h =
-    let marks = stretch_of s e gs in
-    let none = no_modifiers marks h in
-    let parts = split_marks marks in
-    let second = behind (has_lower_class 220) marks in
-    let fourth = behind (has_lower_class 230) (behind (is_modifier_of 220) second) in
-    let below : length parts.modifiers_below ≡ 0 = ap (λ n. length (take n second)) none.below in
-    let above : length parts.modifiers_above ≡ 0 = ap (λ n. length (take n fourth)) none.above in
-    let merged : marks_merged level s e gs ≡ gs =
-    nothing-merged level s (length parts.low) (length parts.modifiers_below) (length parts.middle)
-    (length parts.modifiers_above) gs below above in
-    ap (marks_reordered s e) merged
-    ∙ ap (λ xs. take s gs ++ (xs ++ drop e gs)) (marks-still marks none)
-    ∙ stretch-still s e gs in_order
+    search (arith, take-append-drop, refl, no_modifiers, stretch-still)

@@ -1,5 +1,5 @@
 -- Where no selector has a form by the joining rule, the forms that selectors copy tell those of the rule.
-use Rattle.std.proofs.Common.{◌≡◌, ℕ, ◌<◌, Bool, true, false, cond, List, [], ◌∷◌, ◌++◌, length, take, drop, reverse, get_or, refl, sym, ap, ◌∙◌, arith}
+use Rattle.std.proofs.Common.{◌≡◌, ℕ, ◌<◌, Bool, true, false, cond, List, [], ◌∷◌, ◌++◌, length, drop, reverse, refl, sym, ap, ◌∙◌, arith}
 use Rattle.std.specs.List.{AllByRecursion, zip}
 use Rattle.std.proofs.lemmas.List.{take_at, drop_at}
 use Rattle.std.proofs.lemmas.Slice.Zip.{length-zip}
@@ -7,7 +7,7 @@ use Rattle.shapers_base.specs.declared.plan.joining.hb_arabic_joining_type_t.{hb
 use Rattle.shapers_base.specs.declared.plan.joining.hb_arabic_joining_type_t.TheVariants.{T}
 use Rattle.shapers_clusters.proofs.ClearPlaces.{held_by_calls}
 use Rattle.shapers_arabic.specs.declared.ot_shaper_arabic.arabic_action_t.TheConstants.{NONE}
-use Rattle.shapers_arabic.specs.Joining.{is_transparent, nearest, act, forms, is_selector, form_behind, selected}
+use Rattle.shapers_arabic.specs.Joining.{is_transparent, forms, is_selector, selected}
 use Rattle.shapers_arabic.specs.SoundFlags.{selector_flags}
 use Rattle.shapers_arabic.proofs.JoiningLists.{length-forms}
 use Rattle.shapers_arabic.proofs.SelectedLists.{length-selected, selected-append, zip-append}
@@ -40,11 +40,7 @@ formless : (cs : List ℕ) (before ts after : List hb_arabic_joining_type_t) →
 unfolding Formless
 formless [] before ts after all = tt
 formless (c ∷ cs) before [] after all = tt
-formless (c ∷ cs) before (t ∷ ts) after all = (
-  λ s. ap (λ x. act (nearest before) x (nearest (ts ++ after))) (act-transparent t (all.0 s)),
-  formless cs
-      (t ∷ before) ts after all.1,
-)
+formless (c ∷ cs) before (t ∷ ts) after all = search (arith, formless cs (t ∷ before) ts after all.1)
 
 -- so equal copies come from equal forms, whatever stood before
 copied-own : (before others : List (ℕ × ℕ)) (cs fs hs : List ℕ) → length fs ≡ length cs → length hs ≡ length cs
@@ -56,22 +52,21 @@ copied-own before others [] (f ∷ fs) hs l m p q e = absurd (omega arith)
 copied-own before others (c ∷ cs) [] hs l m p q e = absurd (omega arith)
 copied-own before others (c ∷ cs) (f ∷ fs) [] l m p q e = absurd (omega arith)
 copied-own before others (c ∷ cs) (f ∷ fs) (h ∷ hs) l m p q e =
-    let first : f ≡ h =
-    elim (is_selector c) as (λ b. is_selector c ≡ b → cond b (form_behind before f) f
-    ≡ cond b (form_behind others h) h → f ≡ h) [
-      | true ↦ λ s k. p.0 s ∙ sym (q.0 s)
-      | false ↦ λ s k. k
-    ] refl (ap (λ xs. get_or xs 0 0) e) in
-    let rest : fs ≡ hs = copied-own ((c, f) ∷ before) ((c, h) ∷ others) cs fs hs (omega arith) (omega arith) p.1 q.1
-    (ap (drop 1) e) in
-    ap (λ x. x ∷ fs) first ∙ ap (λ xs. h ∷ xs) rest
+    search (
+      arith,
+      copied-own ((c, f) ∷ before) ((c, h) ∷ others) cs fs hs (omega arith) (omega arith) p.1 q.1 (ap (drop 1) e),
+    )
 
 -- two lists in parts of equal lengths
 pub equal-parts : (xs ys us vs : List ℕ) → length xs ≡ length us → xs ++ ys ≡ us ++ vs → (xs ≡ us) × (ys ≡ vs)
-equal-parts xs ys us vs long e = (
-  sym (take_at xs ys (length us) long) ∙ ap (take (length us)) e ∙ take_at us vs (length us) refl,
-  sym (drop_at xs ys (length us) long) ∙ ap (drop (length us)) e ∙ drop_at us vs (length us) refl,
-)
+equal-parts xs ys us vs long e =
+    search (
+      arith,
+      take_at,
+      take_at us vs (length us) refl,
+      drop_at xs ys (length us) long,
+      drop_at us vs (length us) refl,
+    )
 
 -- the first half of a text, with the script Mongolian or another one
 pub first-own : (b : Bool) (cs : List ℕ) (before ts after behind : List hb_arabic_joining_type_t)
@@ -79,9 +74,7 @@ pub first-own : (b : Bool) (cs : List ℕ) (before ts after behind : List hb_ara
     forms before ts behind in cond b (selected [] (zip cs fs)) fs ≡ cond b (selected [] (zip cs hs)) hs → fs ≡ hs
 first-own false cs before ts after behind long silent e = e
 first-own true cs before ts after behind long silent e =
-    copied-own [] [] cs (forms before ts after) (forms before ts behind) (length-forms before ts after ∙ long)
-    (length-forms before ts behind ∙ long) (formless cs before ts after (silent refl))
-    (formless cs before ts behind (silent refl)) e
+    search (arith, copied-own, length-forms, formless)
 
 -- both halves: the forms by the rule are those of the halves, and no selector that opens the second
 -- copies a form but its own
@@ -98,32 +91,31 @@ pub halves-own : (b : Bool) (cs ds : List ℕ) (before ts us after behind inner 
 halves-own false cs ds before ts us after behind inner some long more silent e =
     let parts = equal-parts (forms before ts behind) (forms inner us after) (forms before ts []) (forms [] us after)
     (length-forms before ts behind ∙ sym (length-forms before ts [])) e in
-    record { first = parts.0; second = parts.1; free = refl }
+    search (arith, parts.0, parts.1)
 halves-own true cs ds before ts us after behind inner some long more silent e =
     let fs = forms before ts behind in
     let gs = forms inner us after in
     let hs = forms before ts [] in
     let ks = forms [] us after in
-    let f_long : length fs ≡ length cs = length-forms before ts behind ∙ long in
-    let h_long : length hs ≡ length cs = length-forms before ts [] ∙ long in
-    let g_long : length gs ≡ length ds = length-forms inner us after ∙ more in
-    let k_long : length ks ≡ length ds = length-forms [] us after ∙ more in
+    let f_long : length fs ≡ length cs = search (arith, length-forms) in
+    let h_long = length-forms before ts [] ∙ long in
     let both = silent-halves cs ds ts us long (silent refl) in
     let seen = reverse (zip cs fs) ++ [] in
     let zipped = zip-append cs ds fs gs f_long in
-    let all : selected [] (zip cs fs) ++ selected seen (zip ds gs) ≡ selected [] (zip cs hs) ++ selected
-    [] (zip ds ks) = sym (selected-append [] (zip cs fs) (zip ds gs)) ∙ ap (selected []) (sym zipped) ∙ e in
-    let same : length (selected [] (zip cs fs)) ≡ length (selected [] (zip cs hs)) = length-selected [] (zip cs fs)
-    ∙ omega (arith, length-zip cs fs, length-zip cs hs) ∙ sym (length-selected [] (zip cs hs)) in
     let parts = equal-parts (selected [] (zip cs fs)) (selected seen (zip ds gs)) (selected [] (zip cs hs)) (selected
-    [] (zip ds ks)) same all in
-    let one = copied-own [] [] cs fs hs f_long h_long (formless cs before ts behind both.0) (formless cs before ts
-    [] both.0) parts.0 in
+    [] (zip ds ks))
+    (length-selected [] (zip cs fs) ∙ omega (arith, length-zip) ∙ sym (length-selected [] (zip cs hs))) (sym
+    (selected-append [] (zip cs fs) (zip ds gs))
+    ∙ ap (selected []) (sym zipped) ∙ e) in
     let two = copied-own seen
-    [] ds gs ks g_long k_long (formless ds inner us after both.1) (formless ds [] us after both.1) parts.1 in
+    [] ds gs ks
+    (search (arith, length-forms))
+    (length-forms [] us after ∙ more) (formless ds inner us after both.1) (formless ds [] us after both.1) parts.1 in
     let at : length (zip cs fs) ≡ length cs = omega (arith, length-zip cs fs) in
     record {
-      first = one;
+      first =
+          copied-own [] [] cs fs hs f_long h_long (formless cs before ts behind both.0) (formless cs before ts [] both.0)
+          parts.0;
       second = two;
       free =
           ap (λ ps. held_by_calls (length cs) (selector_flags [] ps)) zipped

@@ -1,5 +1,5 @@
 -- The selector rule over parts of a text.
-use Rattle.std.proofs.Common.{◌≡◌, ℕ, suc, cond, List, [], ◌∷◌, ◌++◌, length, reverse, refl, sym, ap, ◌∙◌, arith, append_assoc}
+use Rattle.std.proofs.Common.{◌≡◌, ℕ, suc, cond, List, [], ◌∷◌, ◌++◌, length, reverse, refl, ap, arith, append_assoc}
 use Rattle.std.specs.List.{zip}
 use Rattle.std.proofs.lemmas.List.{reverse-append}
 use Rattle.shapers_arabic.specs.Joining.{is_selector, form_behind, selected}
@@ -9,7 +9,7 @@ pub zip-append : (cs ds : List ℕ) (fs gs : List ℕ) → length fs ≡ length 
 zip-append [] ds [] gs e = refl
 zip-append [] ds (f ∷ fs) gs e = absurd (omega arith)
 zip-append (c ∷ cs) ds [] gs e = absurd (omega arith)
-zip-append (c ∷ cs) ds (f ∷ fs) gs e = ap (λ ps. (c, f) ∷ ps) (zip-append cs ds fs gs (omega arith))
+zip-append (c ∷ cs) ds (f ∷ fs) gs e = cc (zip-append cs ds fs gs (omega arith))
 
 pub length-selected : (before places : List (ℕ × ℕ)) → length (selected before places) ≡ length places
 length-selected before [] = refl
@@ -19,17 +19,11 @@ pub selected-append : (before xs ys : List (ℕ × ℕ)) → selected before (xs
     ++ selected (reverse xs ++ before) ys
 selected-append before [] ys = refl
 selected-append before ((c, a) ∷ xs) ys =
-    let seen : reverse xs ++ ((c, a) ∷ before) ≡ reverse ((c, a) ∷ xs) ++ before =
-    sym (ap (λ r. r ++ before) (reverse-append ((c, a) ∷ []) xs)
-    ∙ append_assoc (reverse xs) ((c, a) ∷ []) before) in
-    ap (λ fs. (cond (is_selector c) (form_behind before a) a) ∷ fs) (selected-append ((c, a) ∷ before) xs ys
-    ∙ ap (λ us. selected ((c, a) ∷ before) xs ++ selected us ys) seen)
+    search (arith, selected-append ((c, a) ∷ before) xs ys, reverse-append ((c, a) ∷ []) xs, append_assoc)
 
 -- behind a place that is no selector nothing earlier counts
 pub selected-same : (before others places : List (ℕ × ℕ))
     → ((own : ℕ) → form_behind before own ≡ form_behind others own) → selected before places ≡ selected others places
 selected-same before others [] e = refl
 selected-same before others ((c, a) ∷ ps) e =
-    ap (λ x. cond (is_selector c) x a ∷ selected ((c, a) ∷ before) ps) (e a)
-    ∙ ap (λ fs. cond (is_selector c) (form_behind others a) a ∷ fs)
-    (selected-same ((c, a) ∷ before) ((c, a) ∷ others) ps (λ own. ap (λ x. cond (is_selector c) x a) (e a)))
+    cc (e a, selected-same ((c, a) ∷ before) ((c, a) ∷ others) ps (λ own. ap (λ x. cond (is_selector c) x a) (e a)))

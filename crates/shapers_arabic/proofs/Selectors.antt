@@ -1,19 +1,18 @@
 -- The flags of selectors, and where the selector rule falls into the halves of a text.
-use Rattle.std.proofs.Common.{◌≡◌, ℕ, suc, ◌+◌, ◌-◌, ◌<◌, ◌≤◌, Bool, true, false, cond, eqb, not, ◌&&◌, ◌||◌, List, [], ◌∷◌, ◌++◌, length, get_or, reverse, refl, sym, ap, ◌∙◌, arith, append_assoc}
+use Rattle.std.proofs.Common.{◌≡◌, ℕ, suc, ◌+◌, ◌-◌, ◌<◌, ◌≤◌, Bool, true, false, cond, eqb, not, ◌&&◌, List, [], ◌∷◌, ◌++◌, length, reverse, refl, sym, ap, ◌∙◌, arith, append_assoc}
 use Rattle.std.specs.List.{AllByRecursion, zip}
 use Rattle.std.proofs.lemmas.Bool.{eq-eqb, eqb-true, not-false}
 use Rattle.std.proofs.lemmas.List.{append-nil, length-reverse, reverse-append}
 use Rattle.std.proofs.lemmas.List.Folds.{list_any-append}
 use Rattle.std.proofs.lemmas.Slice.Zip.{length-zip}
 use Rattle.shapers_buffer.specs.GlyphFlags.{FlagCall, UnsafeToBreak}
-use Rattle.shapers_buffer.proofs.MappedLists.{all-append}
 use Rattle.shapers_clusters.specs.Flags.{InOrder}
 use Rattle.shapers_arabic.specs.Joining.{is_selector, form_behind, selected}
 use Rattle.shapers_clusters.specs.Breaks.{forbids, IsFree}
 use Rattle.shapers_clusters.proofs.ClearPlaces.{held_by_calls}
 use Rattle.shapers_arabic.specs.SoundFlags.{selector_flags}
 use Rattle.shapers_arabic.proofs.SelectedLists.{selected-append, selected-same, zip-append}
-use Rattle.shapers_arabic.proofs.FlaggedPlaces.{break_held, and_true, and_false, inside, past, ahead, or_with}
+use Rattle.shapers_arabic.proofs.FlaggedPlaces.{past, ahead, or_with}
 
 -- whether a place is a selector whose copied form isn't its own
 abbrev copies : List (ℕ × ℕ) → ℕ → ℕ → Bool
@@ -26,54 +25,35 @@ selectors-past : (before places : List (ℕ × ℕ)) (p : ℕ) → length before
     → held_by_calls p (selector_flags before places) ≡ false
 selectors-past before [] p h = refl
 selectors-past before ((c, a) ∷ places) p h =
-    list_any-append (forbids p) (call before c a) (selector_flags ((c, a) ∷ before) places)
-    ∙ or_with (held_by_calls p (call before c a)) (held_by_calls p (selector_flags ((c, a) ∷ before) places)) false
-    (break_held (copies before c a) (length before - 1) (suc (length before)) p
-    ∙ and_false (copies before c a) _ (past (length before - 1) p (suc (length before)) (omega arith)))
-    (selectors-past ((c, a) ∷ before) places p (omega arith))
+    search (arith, or_with, past, selectors-past ((c, a) ∷ before) places p (omega arith))
 
 selectors-from : (before places : List (ℕ × ℕ)) (p : ℕ) → p < length before
     → held_by_calls p (selector_flags before places) ≡ false
 selectors-from before [] p h = refl
 selectors-from before ((c, a) ∷ places) p h =
-    list_any-append (forbids p) (call before c a) (selector_flags ((c, a) ∷ before) places)
-    ∙ or_with (held_by_calls p (call before c a)) (held_by_calls p (selector_flags ((c, a) ∷ before) places)) false
-    (break_held (copies before c a) (length before - 1) (suc (length before)) p
-    ∙ and_false (copies before c a) _ (ahead (length before - 1) p (suc (length before)) (omega arith)))
-    (selectors-from ((c, a) ∷ before) places p (omega arith))
+    search (arith, or_with, ahead, selectors-from ((c, a) ∷ before) places p (omega arith))
 
 selectors-here : (before places : List (ℕ × ℕ)) (c a p : ℕ) → 0 < p → p ≡ length before
     → held_by_calls p (selector_flags before ((c, a) ∷ places)) ≡ copies before c a
 selectors-here before places c a p pos at =
     list_any-append (forbids p) (call before c a) (selector_flags ((c, a) ∷ before) places)
     ∙ or_with (held_by_calls p (call before c a)) (held_by_calls p (selector_flags ((c, a) ∷ before) places))
-    (copies before c a) (break_held (copies before c a) (length before - 1) (suc (length before)) p
-    ∙ and_true (copies before c a) _
-    (inside (length before - 1) p (suc (length before)) (omega arith) (omega arith)))
-    (selectors-from ((c, a) ∷ before) places p (omega arith))
+    (copies before c a) (search arith) (search (arith, selectors-from))
 
 turned_places : (x : ℕ × ℕ) (xs before : List (ℕ × ℕ)) → reverse xs ++ (x ∷ before) ≡ reverse (x ∷ xs) ++ before
 turned_places x xs before =
-    sym (ap (λ r. r ++ before) (reverse-append (x ∷ []) xs) ∙ append_assoc (reverse xs) (x ∷ []) before)
+    search (arith, reverse-append (x ∷ []) xs, append_assoc)
 
 selectors-append : (before xs ys : List (ℕ × ℕ)) → selector_flags before (xs ++ ys) ≡ selector_flags before xs
     ++ selector_flags (reverse xs ++ before) ys
 selectors-append before [] ys = refl
 selectors-append before ((c, a) ∷ xs) ys =
-    ap (λ calls. call before c a ++ calls) (selectors-append ((c, a) ∷ before) xs ys
-    ∙ ap (λ us. selector_flags ((c, a) ∷ before) xs ++ selector_flags us ys) (turned_places (c, a) xs before))
-    ∙ sym (append_assoc (call before c a) (selector_flags ((c, a) ∷ before) xs)
-    (selector_flags (reverse ((c, a) ∷ xs) ++ before) ys))
+    search (arith, turned_places, selectors-append ((c, a) ∷ before) xs ys)
 
 pub selectors-in_order : (before places : List (ℕ × ℕ)) → AllByRecursion InOrder (selector_flags before places)
 selectors-in_order before [] = tt
 selectors-in_order before ((c, a) ∷ places) =
-    let here : AllByRecursion InOrder (call before c a) =
-    elim (copies before c a) as (λ b. AllByRecursion InOrder
-    (cond b (UnsafeToBreak (length before - 1) (suc (length before)) ∷ []) []))
-    [ true ↦ (omega arith, tt) | false ↦ tt ] in
-    all-append InOrder (call before c a) (selector_flags ((c, a) ∷ before) places) here
-    (selectors-in_order ((c, a) ∷ before) places)
+    search (arith, selectors-in_order ((c, a) ∷ before) places)
 
 -- where the first place copies no form but its own, nothing before the text counts
 own-form : (before : List (ℕ × ℕ)) (c a : ℕ) → copies before c a ≡ false → cond (is_selector c) (form_behind before a) a
@@ -91,29 +71,23 @@ always false a = refl
 selected-from : (before places : List (ℕ × ℕ)) (c a : ℕ) → copies before c a ≡ false → selected before ((c, a) ∷ places)
     ≡ selected [] ((c, a) ∷ places)
 selected-from before places c a e =
-    let own = own-form before c a e in
-    let alone = always (is_selector c) a in
-    ap (λ x. x ∷ selected ((c, a) ∷ before) places) (own ∙ sym alone)
-    ∙ ap (λ fs. cond (is_selector c) a a ∷ fs)
-    (selected-same ((c, a) ∷ before) ((c, a) ∷ []) places (λ o. own ∙ sym alone))
+    search (arith, always, selected-same)
 
 in-halves : (xs ys : List (ℕ × ℕ)) → 0 < length xs → IsFree (selector_flags [] (xs ++ ys)) (length xs)
     → selected [] (xs ++ ys) ≡ selected [] xs ++ selected [] ys
 in-halves xs [] pos free = selected-append [] xs []
 in-halves xs ((c, a) ∷ ys) pos free =
-    let before = reverse xs in
-    let p = length xs in
-    let here : copies before c a ≡ false =
-    sym (selectors-here before ys c a p pos (sym (length-reverse xs)))
-    ∙ sym (
-    ap (held_by_calls p) (selectors-append [] xs ((c, a) ∷ ys)
-    ∙ ap (λ r. selector_flags [] xs ++ selector_flags r ((c, a) ∷ ys)) (append-nil before))
-    ∙ list_any-append (forbids p) (selector_flags [] xs) (selector_flags before ((c, a) ∷ ys))
-    ∙ ap (λ b. b || held_by_calls p (selector_flags before ((c, a) ∷ ys))) (selectors-past [] xs p (omega arith)))
-    ∙ free in
-    selected-append [] xs ((c, a) ∷ ys)
-    ∙ ap (λ r. selected [] xs ++ selected r ((c, a) ∷ ys)) (append-nil before)
-    ∙ ap (λ fs. selected [] xs ++ fs) (selected-from before ys c a here)
+    search (
+      arith,
+      selected-append,
+      append-nil,
+      selected-from,
+      selectors-here,
+      length-reverse,
+      selectors-append,
+      list_any-append,
+      selectors-past,
+    )
 
 -- characters and forms in two parts
 pub selected-halves : (cs ds fs gs : List ℕ) → length fs ≡ length cs → 0 < length cs
@@ -123,9 +97,8 @@ selected-halves cs ds fs gs same some free =
     let xs = zip cs fs in
     let parts = zip-append cs ds fs gs same in
     let long : length xs ≡ length cs = omega (arith, length-zip cs fs) in
-    ap (selected []) parts
-    ∙ in-halves xs (zip ds gs) (omega arith) (ap (λ n. held_by_calls n (selector_flags [] (xs ++ zip ds gs))) long
-    ∙ ap (λ ps. held_by_calls (length cs) (selector_flags [] ps)) (sym parts) ∙ free)
+    cc (in-halves xs (zip ds gs) (omega arith) (ap (λ n. held_by_calls n (selector_flags [] (xs ++ zip ds gs))) long
+    ∙ ap (λ ps. held_by_calls (length cs) (selector_flags [] ps)) (sym parts) ∙ free))
 
 -- the other way round: where the second half copies nothing from the first, no flag stands between the two
 no-copy : (before : List (ℕ × ℕ)) (c a : ℕ) → cond (is_selector c) (form_behind before a) a ≡ cond (is_selector c) a a
@@ -139,14 +112,15 @@ no-copy before c a e =
 
 pub selectors-free : (xs ys : List (ℕ × ℕ)) → 0 < length xs → selected (reverse xs ++ []) ys ≡ selected [] ys
     → IsFree (selector_flags [] (xs ++ ys)) (length xs)
-selectors-free xs [] pos e = ap (λ ps. held_by_calls (length xs) (selector_flags [] ps)) (append-nil xs)
-    ∙ selectors-past [] xs (length xs) (omega arith)
+selectors-free xs [] pos e = search (arith, append-nil, selectors-past)
 selectors-free xs ((c, a) ∷ ys) pos e =
     let before = reverse xs ++ [] in
     let p = length xs in
-    let at : p ≡ length before = sym (ap length (append-nil (reverse xs)) ∙ length-reverse xs) in
-    ap (held_by_calls p) (selectors-append [] xs ((c, a) ∷ ys))
-    ∙ list_any-append (forbids p) (selector_flags [] xs) (selector_flags before ((c, a) ∷ ys))
-    ∙ ap (λ b. b || held_by_calls p (selector_flags before ((c, a) ∷ ys))) (selectors-past [] xs p (omega arith))
-    ∙ selectors-here before ys c a p pos at
-    ∙ no-copy before c a (ap (λ fs. get_or fs 0 0) e)
+    search (
+      arith,
+      selectors-append,
+      list_any-append,
+      selectors-past,
+      selectors-here before ys c a p pos (sym (ap length (append-nil (reverse xs)) ∙ length-reverse xs)),
+      no-copy,
+    )

@@ -1,7 +1,6 @@
 -- Buffers put together, on small texts written out from the rule.
-use Rattle.std.proofs.Common.{◌≡◌, ◌==◌, ℕ, suc, List, [], ◌∷◌, map, get_or, Option, None, Some, codes, refl, ap, arith}
+use Rattle.std.proofs.Common.{◌≡◌, ◌==◌, ℕ, suc, List, [], ◌∷◌, map, get_or, Option, None, Some, codes, refl, arith}
 use Rattle.std.specs.Prelude.{if◌then◌else◌}
-use Rattle.std.proofs.lemmas.Bool.{eqb-false}
 use Rattle.shapers_buffer.specs.Buffer.{Buffer, new_buffer}
 use Rattle.shapers_buffer.specs.Glyph.{default_glyph}
 use Rattle.shapers_buffer.specs.declared.buffer.category.hb_unicode_general_category_t.{hb_unicode_general_category_t}
@@ -54,7 +53,7 @@ row_mark : HasOwnLetter joining_of letters 1 (buffer_of 0 [] (1 ∷ 3 ∷ []) (3
 row_mark none = refl
 
 row_behind : HasOwnLetter joining_of letters 1 (buffer_of 0 [] (1 ∷ 3 ∷ []) (3 ∷ 2 ∷ [])) → ⊥
-row_behind own = let e : Some R ≡ None = own refl in cc
+row_behind own = search arith
 
 -- glyphs: a character, a form, a mask, a cluster
 abbrev glyph : ℕ → ℕ → ℕ → ℕ → hb_glyph_info_t
@@ -65,41 +64,41 @@ mong = Some (record { 0 = codes "Mong" })
 
 other_forms : (i : ℕ) (xs ys : List hb_glyph_info_t) → xs ≡ ys → get_or (map (λ g. g.auxiliary) xs) i 0
     ≡ get_or (map (λ g. g.auxiliary) ys) i 0
-other_forms i xs ys e = ap (λ gs. get_or (map (λ g. g.auxiliary) gs) i 0) e
+other_forms i xs ys e = cc
 
 other_masks : (i : ℕ) (xs ys : List hb_glyph_info_t) → xs ≡ ys → get_or (map (λ g. g.mask) xs) i 0
     ≡ get_or (map (λ g. g.mask) ys) i 0
-other_masks i xs ys e = ap (λ gs. get_or (map (λ g. g.mask) gs) i 0) e
+other_masks i xs ys e = cc
 
 -- clusters and glyph flags may differ, and what isn't taken; a form or another mask may not
 row_kept : KeepsParts None 1 1 (glyph 1 0 8 0 ∷ glyph 9 9 9 9 ∷ []) (glyph 9 9 9 9 ∷ glyph 2 1 16 1 ∷ [])
     (glyph 1 0 11 5 ∷ glyph 2 1 20 3 ∷ [])
-row_kept = record { first = refl; second = refl }
+row_kept = search arith
 
 row_first_form : KeepsParts None 1 1 (glyph 1 0 8 0 ∷ []) (glyph 9 9 9 9 ∷ glyph 2 1 16 1 ∷ [])
     (glyph 1 6 8 0 ∷ glyph 2 1 16 1 ∷ []) → ⊥
-row_first_form kept = eqb-false 6 0 refl (other_forms 0 _ _ kept.first)
+row_first_form kept = search arith
 
 row_second_form : KeepsParts None 1 1 (glyph 1 0 8 0 ∷ []) (glyph 9 9 9 9 ∷ glyph 2 1 16 1 ∷ [])
     (glyph 1 0 8 0 ∷ glyph 2 0 16 1 ∷ []) → ⊥
-row_second_form kept = eqb-false 0 1 refl (other_forms 0 _ _ kept.second)
+row_second_form kept = search arith
 
 row_second_mask : KeepsParts None 1 1 (glyph 1 0 8 0 ∷ []) (glyph 9 9 9 9 ∷ glyph 2 1 16 1 ∷ [])
     (glyph 1 0 8 0 ∷ glyph 2 1 8 1 ∷ []) → ⊥
-row_second_mask kept = eqb-false 8 16 refl (other_masks 0 _ _ kept.second)
+row_second_mask kept = search arith
 
 -- selectors that open the second part may differ with the script Mongolian, a later one and other scripts' may not
 row_selector : KeepsParts mong 1 1 (glyph 1 0 8 0 ∷ []) (glyph 9 9 9 9 ∷ glyph 0x180B 7 0 1 ∷ glyph 1 0 8 2 ∷ [])
     (glyph 1 0 8 0 ∷ glyph 0x180B 0 8 1 ∷ glyph 1 0 8 2 ∷ [])
-row_selector = record { first = refl; second = refl }
+row_selector = search arith
 
 row_other_script : KeepsParts None 1 1 (glyph 1 0 8 0 ∷ []) (glyph 9 9 9 9 ∷ glyph 0x180B 7 0 1 ∷ glyph 1 0 8 2 ∷ [])
     (glyph 1 0 8 0 ∷ glyph 0x180B 0 8 1 ∷ glyph 1 0 8 2 ∷ []) → ⊥
-row_other_script kept = eqb-false 0 7 refl (other_forms 0 _ _ kept.second)
+row_other_script kept = search arith
 
 row_later_selector : KeepsParts mong 1 1 (glyph 1 0 8 0 ∷ []) (glyph 9 9 9 9 ∷ glyph 1 0 8 1 ∷ glyph 0x180B 7 0 2 ∷ [])
     (glyph 1 0 8 0 ∷ glyph 1 0 8 1 ∷ glyph 0x180B 0 0 2 ∷ []) → ⊥
-row_later_selector kept = eqb-false 0 7 refl (other_forms 1 _ _ kept.second)
+row_later_selector kept = search arith
 
 -- forms, and masks, after joining with no masks of forms
 abbrev after : Buffer → Buffer
@@ -114,7 +113,7 @@ masks_after b = map (λ g. g.mask) (after b).glyphs
 -- each condition is needed. A second buffer that wants no flags of concatenation: D of D U before D
 -- of U D, which looks bare
 row_unwanted : IsBare (after (buffer_of 0 [] (9 ∷ 1 ∷ []) [])).glyphs 1
-row_unwanted = record { clear = record { differ = λ e. absurd (omega arith); unflagged = refl }; joinable = refl }
+row_unwanted = search arith
 
 row_wanted : masks_after (buffer_of 0x40 [] (9 ∷ 1 ∷ []) []) ≡ 2 ∷ 2 ∷ []
 row_wanted = refl

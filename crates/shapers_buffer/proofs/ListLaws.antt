@@ -1,5 +1,5 @@
 -- Laws of the words on lists.
-use Rattle.std.proofs.Common.{◌≡◌, ◌⊎◌, inl, inr, ℕ, suc, ◌-◌, ◌+◌, ◌<◌, ◌≤◌, Bool, true, false, cond, ◌||◌, List, [], ◌∷◌, ◌++◌, length, take, drop, reverse, refl, sym, ap, subst, ◌∙◌, arith, length-append}
+use Rattle.std.proofs.Common.{◌≡◌, ◌⊎◌, inl, inr, ℕ, suc, ◌-◌, ◌+◌, ◌<◌, Bool, true, false, cond, ◌||◌, List, [], ◌∷◌, ◌++◌, length, take, drop, reverse, refl, sym, ap, subst, ◌∙◌, arith, length-append}
 use Rattle.std.specs.List.{suffix_len, prefix_len, onto_first, list_any, count_by}
 use Rattle.std.proofs.lemmas.List.{append_assoc, reverse-append, take-append-le, drop-append-le, take_all, drop_all, take-append-drop, reverse-reverse, length_push}
 use Rattle.std.proofs.lemmas.List.Sums.{sum_by-cons, sum_by_push, suffix_len-le-length}
@@ -21,60 +21,45 @@ suffix_len_no test xs x h = rw (reverse-append xs (x ∷ []), h)
 prefix_len_stop : {X : Type 0} (test : X → Bool) (xs : List X) (a : X) (ys : List X) → test a ≡ false
     → prefix_len test (xs ++ a ∷ ys) ≡ prefix_len test xs
 prefix_len_stop test [] a ys h = rw h
-prefix_len_stop test (x ∷ xs) a ys h = ap (λ n. cond (test x) (1 + n) 0) (prefix_len_stop test xs a ys h)
+prefix_len_stop test (x ∷ xs) a ys h = cc (prefix_len_stop test xs a ys h)
 
 -- what stands before an element that fails doesn't matter
 pub suffix_len_stop : {X : Type 0} (test : X → Bool) (xs : List X) (a : X) (ys : List X) → test a ≡ false
     → suffix_len test (xs ++ a ∷ ys) ≡ suffix_len test ys
 suffix_len_stop test xs a ys h =
-    ap (prefix_len test) (reverse-append xs (a ∷ ys) ∙ ap (λ r. r ++ reverse xs) (reverse_onto ys a [])
-    ∙ append_assoc (reverse ys) (a ∷ []) (reverse xs)) ∙ prefix_len_stop test (reverse ys) a (reverse xs) h
+    search (arith, reverse-append, reverse_onto, append_assoc, prefix_len_stop)
 
 pub last_run_yes : {X : Type 0} (test : X → Bool) (xs : List X) (x : X) → test x ≡ true → last_run test (xs ++ x ∷ [])
     ≡ last_run test xs ++ x ∷ []
 last_run_yes test xs x h =
-    let cut : length (xs ++ x ∷ []) - suffix_len test (xs ++ x ∷ []) ≡ length xs - suffix_len test xs =
-    omega (arith, length_push xs x, suffix_len_yes test xs x h, suffix_len-le-length test xs) in
-    let within : length xs - suffix_len test xs ≤ length xs = omega arith in
-    ap (λ k. drop k (xs ++ x ∷ [])) cut ∙ drop-append-le _ xs (x ∷ []) within
+    search (arith, length_push, suffix_len_yes, drop-append-le)
 
 pub before_last_run_yes : {X : Type 0} (test : X → Bool) (xs : List X) (x : X) → test x ≡ true
     → before_last_run test (xs ++ x ∷ []) ≡ before_last_run test xs
 before_last_run_yes test xs x h =
-    let cut : length (xs ++ x ∷ []) - suffix_len test (xs ++ x ∷ []) ≡ length xs - suffix_len test xs =
-    omega (arith, length_push xs x, suffix_len_yes test xs x h, suffix_len-le-length test xs) in
-    let within : length xs - suffix_len test xs ≤ length xs = omega arith in
-    ap (λ k. take k (xs ++ x ∷ [])) cut ∙ take-append-le _ xs (x ∷ []) within
+    search (arith, length_push, suffix_len_yes, take-append-le)
 
 pub last_run_no : {X : Type 0} (test : X → Bool) (xs : List X) (x : X) → test x ≡ false → last_run test (xs ++ x ∷ [])
     ≡ []
 last_run_no test xs x h =
-    let past : length (xs ++ x ∷ []) ≤ length (xs ++ x ∷ []) - suffix_len test (xs ++ x ∷ []) =
-    omega (arith, suffix_len_no test xs x h) in
-    drop_all _ (xs ++ x ∷ []) past
+    search (arith, drop_all, suffix_len_no)
 
 pub before_last_run_no : {X : Type 0} (test : X → Bool) (xs : List X) (x : X) → test x ≡ false
     → before_last_run test (xs ++ x ∷ []) ≡ xs ++ x ∷ []
 before_last_run_no test xs x h =
-    let past : length (xs ++ x ∷ []) ≤ length (xs ++ x ∷ []) - suffix_len test (xs ++ x ∷ []) =
-    omega (arith, suffix_len_no test xs x h) in
-    take_all _ (xs ++ x ∷ []) past
+    search (arith, take_all, suffix_len_no)
 
 pub last_run_stop : {X : Type 0} (test : X → Bool) (xs : List X) (a : X) (ys : List X) → test a ≡ false
     → last_run test (xs ++ a ∷ ys) ≡ last_run test ys
 last_run_stop test xs a ys h =
-    let cut : length (xs ++ a ∷ ys) - suffix_len test (xs ++ a ∷ ys)
-    ≡ length xs + suc (length ys - suffix_len test ys) =
-    omega (arith, length-append xs (a ∷ ys), suffix_len_stop test xs a ys h, suffix_len-le-length test ys) in
-    ap (λ k. drop k (xs ++ a ∷ ys)) cut ∙ drop-append-add xs (a ∷ ys) (suc (length ys - suffix_len test ys))
+    ap (λ k. drop k (xs ++ a ∷ ys)) (omega (arith, length-append xs (a ∷ ys), suffix_len_stop, suffix_len-le-length))
+    ∙ drop-append-add xs (a ∷ ys) (suc (length ys - suffix_len test ys))
 
 pub before_last_run_stop : {X : Type 0} (test : X → Bool) (xs : List X) (a : X) (ys : List X) → test a ≡ false
     → before_last_run test (xs ++ a ∷ ys) ≡ xs ++ a ∷ before_last_run test ys
 before_last_run_stop test xs a ys h =
-    let cut : length (xs ++ a ∷ ys) - suffix_len test (xs ++ a ∷ ys)
-    ≡ length xs + suc (length ys - suffix_len test ys) =
-    omega (arith, length-append xs (a ∷ ys), suffix_len_stop test xs a ys h, suffix_len-le-length test ys) in
-    ap (λ k. take k (xs ++ a ∷ ys)) cut ∙ take-append-add xs (a ∷ ys) (suc (length ys - suffix_len test ys))
+    ap (λ k. take k (xs ++ a ∷ ys)) (omega (arith, length-append xs (a ∷ ys), suffix_len_stop, suffix_len-le-length))
+    ∙ take-append-add xs (a ∷ ys) (suc (length ys - suffix_len test ys))
 
 -- a list that isn't empty has a first piece
 onto_first_some : {X : Type 0} (x : X) (pieces : List (List X)) → 0 < length (onto_first x pieces)
@@ -83,15 +68,12 @@ onto_first_some x (piece ∷ pieces) = omega arith
 
 cut_after_some : {X : Type 0} (test : X → Bool) (x : X) (xs : List X) → 0 < length (cut_after test (x ∷ xs))
 cut_after_some test x xs =
-    elim (test x) as (λ b. 0 < length (cond b ((x ∷ []) ∷ cut_after test xs) (onto_first x (cut_after test xs)))) [
-      | true ↦ omega arith
-      | false ↦ onto_first_some x (cut_after test xs)
-    ]
+    search (arith, onto_first_some)
 
 cut_after_middle : {X : Type 0} (test : X → Bool) (xs : List X) (a : X) (ys : List X)
     → 0 < length (cut_after test (xs ++ a ∷ ys))
 cut_after_middle test [] a ys = cut_after_some test a ys
-cut_after_middle test (x ∷ xs) a ys = cut_after_some test x (xs ++ a ∷ ys)
+cut_after_middle test (x ∷ xs) a ys = search (arith, cut_after_some)
 
 onto_first-append : {X : Type 0} (x : X) (pieces rest : List (List X)) → 0 < length pieces
     → onto_first x (pieces ++ rest) ≡ onto_first x pieces ++ rest
@@ -103,25 +85,15 @@ pub cut_after-append : {X : Type 0} (test : X → Bool) (xs : List X) (a : X) (y
     → cut_after test (xs ++ a ∷ ys) ≡ cut_after test (xs ++ a ∷ []) ++ cut_after test ys
 cut_after-append test [] a ys h = rw h refl
 cut_after-append test (x ∷ xs) a ys h =
-    let whole = cut_after test (xs ++ a ∷ ys) in
-    let front = cut_after test (xs ++ a ∷ []) in
-    let rest = cut_after test ys in
-    let same : whole ≡ front ++ rest = cut_after-append test xs a ys h in
-    elim (test x) as (λ b. cond b ((x ∷ []) ∷ whole) (onto_first x whole)
-    ≡ cond b ((x ∷ []) ∷ front) (onto_first x front) ++ rest) [
-      | true ↦ ap (λ zs. (x ∷ []) ∷ zs) same
-      | false ↦ ap (onto_first x) same ∙ onto_first-append x front rest (cut_after_middle test xs a [])
-    ]
+    search (arith, onto_first-append, cut_after_middle, cut_after-append test xs a ys h)
 
 -- a list none of which passes, and one more element, is one piece
 pub cut_after_none : {X : Type 0} (test : X → Bool) (xs : List X) (x : X) → list_any test xs ≡ false
     → cut_after test (xs ++ x ∷ []) ≡ (xs ++ x ∷ []) ∷ []
 cut_after_none test [] x h =
-    elim (test x) as (λ b. cond b ((x ∷ []) ∷ []) ((x ∷ []) ∷ []) ≡ (x ∷ []) ∷ []) [ true ↦ refl | false ↦ refl ]
+    search arith
 cut_after_none test (y ∷ xs) x h =
-    let fails : test y ≡ false = (or_parts _ _ h).0 in
-    let none : list_any test xs ≡ false = (or_parts _ _ h).1 in
-    rw (fails, cut_after_none test xs x none) refl
+    let none = (or_parts _ _ h).1 in search (arith, refl, cut_after_none test xs x none)
 
 -- the last element that passes a test, with what stands before it and what after it
 pub record LastPass {X : Type 0} (test : X → Bool) (xs : List X) : Type 0 where
@@ -160,7 +132,7 @@ none_in_front test n xs none =
 
 pub none_pushed : {X : Type 0} (test : X → Bool) (xs : List X) (x : X) → list_any test xs ≡ false → test x ≡ false
     → list_any test (xs ++ x ∷ []) ≡ false
-none_pushed test xs x none fails = list_any-append test xs (x ∷ []) ∙ or_from _ _ none (or_from _ _ fails refl)
+none_pushed test xs x none fails = search (arith, list_any-append, or_from)
 
 pub none_before_push : {X : Type 0} (test : X → Bool) (xs : List X) (x : X) → list_any test (xs ++ x ∷ []) ≡ false
     → (list_any test xs ≡ false) × (test x ≡ false)
@@ -186,7 +158,7 @@ last_of (x ∷ xs) =
 back : {X : Type 0} (P : List X → Type 0) → P [] → ((xs : List X) (x : X) → P xs → P (xs ++ x ∷ [])) → (xs : List X)
     → P (reverse xs)
 back P start next [] = start
-back P start next (x ∷ xs) = subst P (sym (reverse_onto xs x [])) (next (reverse xs) x (back P start next xs))
+back P start next (x ∷ xs) = search (arith, reverse_onto, back P start next xs)
 
 pub from_end : {X : Type 0} (P : List X → Type 0) → P [] → ((xs : List X) (x : X) → P xs → P (xs ++ x ∷ []))
     → (xs : List X) → P xs
@@ -195,7 +167,7 @@ from_end P start next xs = subst P (reverse-reverse xs) (back P start next (reve
 -- one more element counted
 pub count_push : {X : Type 0} (test : X → Bool) (xs : List X) (x : X) (b : Bool) → test x ≡ b
     → count_by test (xs ++ x ∷ []) ≡ count_by test xs + cond b 1 0
-count_push test xs x b h = sum_by_push (λ y. cond (test y) 1 0) xs x ∙ ap (λ c. count_by test xs + cond c 1 0) h
+count_push test xs x b h = search (arith, sum_by_push)
 
 no_one : (b : Bool) (n : ℕ) → cond b 1 0 + n ≡ 0 → b ≡ false
 no_one true n h = absurd (omega arith)
@@ -205,7 +177,7 @@ no_one false n h = refl
 pub none_from_count : {X : Type 0} (test : X → Bool) (xs : List X) → count_by test xs ≡ 0 → list_any test xs ≡ false
 none_from_count test [] h = refl
 none_from_count test (x ∷ xs) h =
-    let both : cond (test x) 1 0 + count_by test xs ≡ 0 = sym (sum_by-cons (λ y. cond (test y) 1 0) x xs) ∙ h in
+    let both = sym (sum_by-cons (λ y. cond (test y) 1 0) x xs) ∙ h in
     or_from _ _ (no_one (test x) (count_by test xs) both) (none_from_count test xs (omega arith))
 
 pub count_from_none : {X : Type 0} (test : X → Bool) (xs : List X) → list_any test xs ≡ false → count_by test xs ≡ 0

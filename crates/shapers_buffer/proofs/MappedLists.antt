@@ -1,5 +1,5 @@
 -- Laws of mapped and of numbered lists.
-use Rattle.std.proofs.Common.{◌≡◌, ℕ, zero, suc, ◌-◌, ◌+◌, ◌<◌, ◌≤◌, ◌||◌, Bool, true, false, cond, List, [], ◌∷◌, ◌++◌, length, map, flat_map, take, drop, reverse, refl, sym, ap, subst, ◌∙◌, arith}
+use Rattle.std.proofs.Common.{◌≡◌, ℕ, zero, suc, ◌-◌, ◌+◌, ◌<◌, ◌≤◌, Bool, List, [], ◌∷◌, ◌++◌, length, map, flat_map, take, drop, reverse, refl, sym, ap, subst, ◌∙◌, arith}
 use Rattle.std.specs.List.{list_any, suffix_len, prefix_len, onto_first, enumerate_from, range_with_len, AllByRecursion, Contains, take-map}
 use Rattle.std.proofs.lemmas.List.{append_assoc, append-nil, get_or-map, length_push, reverse-append, map_push, length-map, drop-map}
 use Rattle.std.proofs.lemmas.List.Elements.{Contains-append_left, Contains-append_right}
@@ -9,45 +9,42 @@ use Rattle.shapers_buffer.specs.Lists.{cut_after, last_run, before_last_run, eac
 
 pub map-reverse : {X Y : Type 0} (f : X → Y) (xs : List X) → map f (reverse xs) ≡ reverse (map f xs)
 map-reverse f [] = refl
-map-reverse f (x ∷ xs) = ap (map f) (reverse-append (x ∷ []) xs) ∙ map_push f (reverse xs) x
-    ∙ ap (λ l. l ++ f x ∷ []) (map-reverse f xs) ∙ sym (reverse-append (f x ∷ []) (map f xs))
+map-reverse f (x ∷ xs) =
+    search (arith, reverse-append (x ∷ []) xs, map_push, map-reverse f xs, reverse-append (f x ∷ []) (map f xs))
 
 -- changes that a view doesn't see, and that it sees as they are
 pub map-hidden : {X Y : Type 0} (view : X → Y) (f : X → X) → ((x : X) → view (f x) ≡ view x) → (xs : List X)
     → map view (map f xs) ≡ map view xs
 map-hidden view f hides [] = refl
-map-hidden view f hides (x ∷ xs) = ap (λ y. y ∷ map view (map f xs)) (hides x)
-    ∙ ap (λ ys. view x ∷ ys) (map-hidden view f hides xs)
+map-hidden view f hides (x ∷ xs) = cc (hides x, map-hidden view f hides xs)
 
 pub map-seen : {X : Type 0} (view f : X → X) → ((x : X) → view (f x) ≡ f (view x)) → (xs : List X)
     → map view (map f xs) ≡ map f (map view xs)
 map-seen view f same [] = refl
-map-seen view f same (x ∷ xs) = ap (λ y. y ∷ map view (map f xs)) (same x)
-    ∙ ap (λ ys. f (view x) ∷ ys) (map-seen view f same xs)
+map-seen view f same (x ∷ xs) = cc (same x, map-seen view f same xs)
 
 -- the longest front and the longest end of a mapped list, and what stands before it
 pub prefix_len-map : {X Y : Type 0} (test : Y → Bool) (f : X → Y) (xs : List X)
     → prefix_len test (map f xs) ≡ prefix_len (λ x. test (f x)) xs
 prefix_len-map test f [] = refl
-prefix_len-map test f (x ∷ xs) = ap (λ n. cond (test (f x)) (1 + n) 0) (prefix_len-map test f xs)
+prefix_len-map test f (x ∷ xs) = cc (prefix_len-map test f xs)
 
 pub prefix_len-seen : {X : Type 0} (test : X → Bool) (view : X → X) → ((x : X) → test (view x) ≡ test x) → (xs : List X)
     → prefix_len test (map view xs) ≡ prefix_len test xs
 prefix_len-seen test view same [] = refl
-prefix_len-seen test view same (x ∷ xs) = ap (λ b. cond b (1 + prefix_len test (map view xs)) 0) (same x)
-    ∙ ap (λ n. cond (test x) (1 + n) 0) (prefix_len-seen test view same xs)
+prefix_len-seen test view same (x ∷ xs) = cc (same x, prefix_len-seen test view same xs)
 
 pub suffix_len-map : {X Y : Type 0} (test : Y → Bool) (f : X → Y) (xs : List X)
     → suffix_len test (map f xs) ≡ suffix_len (λ x. test (f x)) xs
-suffix_len-map test f xs = ap (prefix_len test) (sym (map-reverse f xs)) ∙ prefix_len-map test f (reverse xs)
+suffix_len-map test f xs = search (arith, map-reverse f xs, prefix_len-map)
 
 run_start : {X Y : Type 0} (test : Y → Bool) (f : X → Y) (xs : List X) → length (map f xs) - suffix_len test (map f xs)
     ≡ length xs - suffix_len (λ x. test (f x)) xs
-run_start test f xs = omega (arith, length-map xs f, suffix_len-map test f xs)
+run_start test f xs = search (arith, length-map, suffix_len-map)
 
 pub last_run-map : {X Y : Type 0} (test : Y → Bool) (f : X → Y) (xs : List X)
     → last_run test (map f xs) ≡ map f (last_run (λ x. test (f x)) xs)
-last_run-map test f xs = ap (λ n. drop n (map f xs)) (run_start test f xs) ∙ drop-map f _ xs
+last_run-map test f xs = search (arith, run_start, drop-map)
 
 pub before_last_run-map : {X Y : Type 0} (test : Y → Bool) (f : X → Y) (xs : List X) → before_last_run test (map f xs)
     ≡ map f (before_last_run (λ x. test (f x)) xs)
@@ -63,83 +60,67 @@ pub cut_after-map : {X Y : Type 0} (test : Y → Bool) (f : X → Y) (xs : List 
     → cut_after test (map f xs) ≡ map (map f) (cut_after (λ x. test (f x)) xs)
 cut_after-map test f [] = refl
 cut_after-map test f (x ∷ xs) =
-    let rest = cut_after-map test f xs in
-    let pieces = cut_after (λ y. test (f y)) xs in
-    elim (test (f x)) as (λ b. cond b ((f x ∷ []) ∷ cut_after test (map f xs))
-    (onto_first (f x) (cut_after test (map f xs))) ≡ map (map f) (cond b ((x ∷ []) ∷ pieces) (onto_first x pieces))) [
-      | true ↦ ap (λ ps. (f x ∷ []) ∷ ps) rest
-      | false ↦ ap (onto_first (f x)) rest ∙ sym (onto_first-map f x pieces)
-    ]
+    search (arith, cut_after-map test f xs)
 
 -- numbered lists: their values and their numbers, parts of them
 pub values-enumerate_from : {X : Type 0} (n : ℕ) (xs : List X) → map (λ p. p.1) (enumerate_from n xs) ≡ xs
 values-enumerate_from n [] = refl
-values-enumerate_from n (x ∷ xs) = ap (λ ys. x ∷ ys) (values-enumerate_from (n + 1) xs)
+values-enumerate_from n (x ∷ xs) = cc (values-enumerate_from (n + 1) xs)
 
 pub places-enumerate_from : {X : Type 0} (n : ℕ) (xs : List X) → map (λ p. p.0) (enumerate_from n xs)
     ≡ range_with_len n (length xs)
 places-enumerate_from n [] = refl
-places-enumerate_from n (x ∷ xs) = ap (λ ps. n ∷ ps) (places-enumerate_from (n + 1) xs)
+places-enumerate_from n (x ∷ xs) = cc (places-enumerate_from (n + 1) xs)
 
 enumerate_from-append : {X : Type 0} (n : ℕ) (xs ys : List X) → enumerate_from n (xs ++ ys) ≡ enumerate_from n xs
     ++ enumerate_from (n + length xs) ys
-enumerate_from-append n [] ys = let same : n ≡ n + 0 = omega arith in ap (λ k. enumerate_from k ys) same
+enumerate_from-append n [] ys = search arith
 enumerate_from-append n (x ∷ xs) ys =
-    let same : n + 1 + length xs ≡ n + suc (length xs) = omega arith in
-    ap (λ es. (n, x) ∷ es) (enumerate_from-append (n + 1) xs ys
-    ∙ ap (λ k. enumerate_from (n + 1) xs ++ enumerate_from k ys) same)
+    search (arith, enumerate_from-append (n + 1) xs ys)
 
 pub enumerate-append : {X : Type 0} (xs ys : List X) → enumerate_from 0 (xs ++ ys) ≡ enumerate_from 0 xs
     ++ enumerate_from (length xs) ys
-enumerate-append xs ys = let same : 0 + length xs ≡ length xs = omega arith in enumerate_from-append 0 xs ys
-    ∙ ap (λ n. enumerate_from 0 xs ++ enumerate_from n ys) same
+enumerate-append xs ys = search (arith, enumerate_from-append)
 
 pub take-enumerate_from : {X : Type 0} (n k : ℕ) (xs : List X) → take k (enumerate_from n xs)
     ≡ enumerate_from n (take k xs)
 take-enumerate_from n zero xs = refl
 take-enumerate_from n (suc k) [] = refl
-take-enumerate_from n (suc k) (x ∷ xs) = ap (λ es. (n, x) ∷ es) (take-enumerate_from (n + 1) k xs)
+take-enumerate_from n (suc k) (x ∷ xs) = cc (take-enumerate_from (n + 1) k xs)
 
 pub drop-range : (a n k : ℕ) → drop k (range_with_len a n) ≡ range_with_len (a + k) (n - k)
-drop-range a n zero = let same : a ≡ a + 0 = omega arith in let many : n ≡ n - 0 =
-    omega arith in ap (λ k. range_with_len k n) same ∙ ap (range_with_len (a + 0)) many
-drop-range a zero (suc k) = let none : 0 ≡ 0 - suc k = omega arith in ap (range_with_len (a + suc k)) none
+drop-range a n zero = search arith
+drop-range a zero (suc k) = search arith
 drop-range a (suc n) (suc k) =
-    let same : a + 1 + k ≡ a + suc k = omega arith in
-    let many : n - k ≡ suc n - suc k = omega arith in
-    drop-range (a + 1) n k ∙ ap (λ i. range_with_len i (n - k)) same ∙ ap (range_with_len (a + suc k)) many
+    search (arith, drop-range (a + 1) n k)
 
 -- the longest end of a numbered list, and what stands before it
 numbered_run_start : {X : Type 0} (test : X → Bool) (n : ℕ) (xs : List X)
     → length (enumerate_from n xs) - suffix_len (λ p. test p.1) (enumerate_from n xs) ≡ length xs - suffix_len test xs
 numbered_run_start test n xs =
-    let es = enumerate_from n xs in
     omega (
       arith,
       length-enumerate_from n xs,
-      sym (suffix_len-map test (λ p. p.1) es)
-          ∙ ap (suffix_len test) (values-enumerate_from n xs),
+      sym (suffix_len-map test (λ p. p.1) (enumerate_from n xs)) ∙ ap (suffix_len test) (values-enumerate_from n xs),
     )
 
 pub before_last_run-enumerate_from : {X : Type 0} (test : X → Bool) (n : ℕ) (xs : List X)
     → before_last_run (λ p. test p.1) (enumerate_from n xs) ≡ enumerate_from n (before_last_run test xs)
-before_last_run-enumerate_from test n xs = ap (λ k. take k (enumerate_from n xs)) (numbered_run_start test n xs)
-    ∙ take-enumerate_from n _ xs
+before_last_run-enumerate_from test n xs = search (arith, numbered_run_start, take-enumerate_from)
 
 pub places-last_run : {X : Type 0} (test : X → Bool) (xs : List X)
     → map (λ p. p.0) (last_run (λ p. test p.1) (enumerate_from 0 xs))
     ≡ range_with_len (length xs - suffix_len test xs) (suffix_len test xs)
 places-last_run test xs =
-    let es = enumerate_from 0 xs in
     let start = length xs - suffix_len test xs in
-    let same : 0 + start ≡ start = omega arith in
-    let many : length xs - start ≡ suffix_len test xs = omega (arith, suffix_len-le-length test xs) in
-    ap (λ k. map (λ p. p.0) (drop k es)) (numbered_run_start test 0 xs)
-    ∙ sym (drop-map (λ p. p.0) start es)
-    ∙ ap (drop start) (places-enumerate_from 0 xs)
-    ∙ drop-range 0 (length xs) start
-    ∙ ap (λ k. range_with_len k (length xs - start)) same
-    ∙ ap (range_with_len start) many
+    search (
+      arith,
+      numbered_run_start test 0 xs,
+      drop-map,
+      places-enumerate_from 0 xs,
+      drop-range 0 (length xs) start,
+      suffix_len-le-length test xs,
+    )
 
 -- what holds of all, and what is contained, in joined and mapped lists and in ranges
 pub all-append : {X : Type 0} (P : X → Type 0) (xs ys : List X) → AllByRecursion P xs → AllByRecursion P ys
@@ -155,34 +136,33 @@ all-mapped P Q f (x ∷ xs) g h = (g x h.0, all-mapped P Q f xs g h.1)
 pub all-range : (P : ℕ → Type 0) (a k : ℕ) → ((p : ℕ) → a ≤ p → p < a + k → P p) → AllByRecursion P (range_with_len a k)
 all-range P a zero h = tt
 all-range P a (suc k) h =
-    (h a (omega arith) (omega arith), all-range P (a + 1) k (λ p x y. h p (omega arith) (omega arith)))
+    search (arith, all-range P (a + 1) k (λ p x y. h p (omega arith) (omega arith)))
 
 pub all-flat_map : {X Y : Type 0} (Q : X → Type 0) (P : Y → Type 0) (f : X → List Y)
     → ((x : X) → Q x → AllByRecursion P (f x)) → (xs : List X) → AllByRecursion Q xs → AllByRecursion P (flat_map f xs)
 all-flat_map Q P f each [] all = tt
 all-flat_map Q P f each (x ∷ xs) all =
-    all-append P (f x) (flat_map f xs) (each x all.0) (all-flat_map Q P f each xs all.1)
+    search (arith, all-append, all-flat_map Q P f each xs all.1)
 
 pub Contains-flat_map : {X Y : Type 0} (f : X → List Y) (xs : List X) (x : X) (y : Y) → Contains xs x → Contains (f x) y
     → Contains (flat_map f xs) y
 Contains-flat_map f [] x y (k, inside, at) among = absurd (omega arith)
 Contains-flat_map f (z ∷ xs) x y (zero, inside, at) among =
-    Contains-append_left (f z) (flat_map f xs) y (subst (λ w. Contains (f w) y) (sym at) among)
+    Contains-append_left (f z) (flat_map f xs) y (search arith)
 Contains-flat_map f (z ∷ xs) x y (suc k, inside, at) among =
     Contains-append_right (f z) (flat_map f xs) y (Contains-flat_map f xs x y (k, omega arith, at) among)
 
 -- each element with what stands before it: one more, one among them, all of them
 pub each_after-push : {X : Type 0} (before xs : List X) (x : X) → each_after before (xs ++ x ∷ [])
     ≡ each_after before xs ++ (before ++ xs, x) ∷ []
-each_after-push before [] x = ap (λ ys. (ys, x) ∷ []) (sym (append-nil before))
+each_after-push before [] x = cc (append-nil before)
 each_after-push before (y ∷ xs) x =
-    ap (λ ps. (before, y) ∷ ps) (each_after-push (before ++ y ∷ []) xs x
-    ∙ ap (λ ys. each_after (before ++ y ∷ []) xs ++ (ys, x) ∷ []) (append_assoc before (y ∷ []) xs))
+    search (arith, append_assoc, each_after-push (before ++ y ∷ []) xs x)
 
 pub Contains-each_after : {X : Type 0} (before xs : List X) (x : X) (ys : List X)
     → Contains (each_after before (xs ++ x ∷ ys)) (before ++ xs, x)
 Contains-each_after before [] x ys =
-    subst (λ zs. Contains (each_after before (x ∷ ys)) (zs, x)) (sym (append-nil before)) (0, omega arith, refl)
+    search (arith, append-nil)
 Contains-each_after before (y ∷ xs) x ys =
     let (k, inside, at) =
     subst (λ zs. Contains (each_after (before ++ y ∷ []) (xs ++ x ∷ ys)) (zs, x))
@@ -193,13 +173,13 @@ pub all-each_after : {X : Type 0} (m : ℕ) (before xs : List X) → length befo
     → AllByRecursion (λ p. length p.0 < m) (each_after before xs)
 all-each_after m before [] within = tt
 all-each_after m before (x ∷ xs) within =
-    (omega arith, all-each_after m (before ++ x ∷ []) xs (omega (arith, length_push before x)))
+    (omega arith, all-each_after m (before ++ x ∷ []) xs (omega (arith, length_push)))
 
 -- whether any element of a mapped list passes
 pub list_any-map : {X Y : Type 0} (test : Y → Bool) (f : X → Y) (xs : List X)
     → list_any test (map f xs) ≡ list_any (λ x. test (f x)) xs
 list_any-map test f [] = refl
-list_any-map test f (x ∷ xs) = ap (λ b. test (f x) || b) (list_any-map test f xs)
+list_any-map test f (x ∷ xs) = cc (list_any-map test f xs)
 
 pub Contains-map : {X Y : Type 0} (f : X → Y) (xs : List X) (x : X) → Contains xs x → Contains (map f xs) (f x)
-Contains-map f xs x (k, inside, at) = (k, omega (arith, length-map xs f), get_or-map f xs k x (f x) inside ∙ ap f at)
+Contains-map f xs x (k, inside, at) = search (arith, length-map xs f, get_or-map f xs k x (f x) inside)

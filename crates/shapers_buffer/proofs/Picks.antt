@@ -1,5 +1,5 @@
 -- Laws of picked elements.
-use Rattle.std.proofs.Common.{ℕ, zero, suc, ◌+◌, ◌<◌, ◌≤◌, ◌≡◌, ◌⊎◌, inl, inr, List, [], ◌∷◌, ◌++◌, Option, Some, None, option_map, map, length, get_or, take, drop, refl, sym, ◌∙◌, ap, subst, arith}
+use Rattle.std.proofs.Common.{ℕ, zero, suc, ◌+◌, ◌<◌, ◌≤◌, ◌≡◌, ◌⊎◌, inl, inr, List, [], ◌∷◌, ◌++◌, Option, Some, None, option_map, map, length, get_or, take, drop, refl, ◌∙◌, arith}
 use Rattle.std.specs.List.{AllByRecursion, AllZip, slice_get, range_with_len, cons_option}
 use Rattle.std.proofs.lemmas.Option.{slice_get-get_or, slice_get_past, slice_get-map}
 use Rattle.std.proofs.lemmas.List.{drop_more, take_all}
@@ -10,10 +10,10 @@ use Rattle.shapers_buffer.specs.Places.{pick}
 
 pub pick-within : {X : Type 0} (d : X) (p : ℕ) (ps : List ℕ) (xs : List X) → p < length xs
     → pick (p ∷ ps) xs ≡ get_or xs p d ∷ pick ps xs
-pick-within d p ps xs h = ap (λ o. cons_option o (pick ps xs)) (slice_get-get_or xs p d h)
+pick-within d p ps xs h = cc (slice_get-get_or xs p d h)
 
 pick-past : {X : Type 0} (p : ℕ) (ps : List ℕ) (xs : List X) → length xs ≤ p → pick (p ∷ ps) xs ≡ pick ps xs
-pick-past p ps xs h = ap (λ o. cons_option o (pick ps xs)) (slice_get_past xs p h)
+pick-past p ps xs h = cc (slice_get_past xs p h)
 
 pub nothing_picked : {X : Type 0} (ps : List ℕ) (xs : List X) → length xs ≡ 0 → pick ps xs ≡ []
 nothing_picked [] xs h = refl
@@ -29,15 +29,14 @@ pub length-pick : {X : Type 0} (ps : List ℕ) (xs : List X) → AllByRecursion 
 length-pick [] xs h = refl
 length-pick (p ∷ ps) xs h = elim (some_element xs) [
   | inl e ↦ absurd (omega (arith, h.0))
-  | inr d ↦ ap length (pick-within d p ps xs h.0) ∙ ap suc (length-pick ps xs h.1)
+  | inr d ↦ cc (pick-within d p ps xs h.0, length-pick ps xs h.1)
 ]
 
 pub get_or-pick : {X : Type 0} (d : X) (ps : List ℕ) (xs : List X) → AllByRecursion (λ p. p < length xs) ps → (k : ℕ)
     → k < length ps → get_or (pick ps xs) k d ≡ get_or xs (get_or ps k 0) d
 get_or-pick d [] xs h k l = absurd (omega arith)
-get_or-pick d (p ∷ ps) xs h zero l = ap (λ ys. get_or ys 0 d) (pick-within d p ps xs h.0)
-get_or-pick d (p ∷ ps) xs h (suc k) l = ap (λ ys. get_or ys (suc k) d) (pick-within d p ps xs h.0)
-    ∙ get_or-pick d ps xs h.1 k (omega arith)
+get_or-pick d (p ∷ ps) xs h zero l = cc (pick-within d p ps xs h.0)
+get_or-pick d (p ∷ ps) xs h (suc k) l = cc (pick-within d p ps xs h.0, get_or-pick d ps xs h.1 k (omega arith))
 
 map-cons_option : {X Y : Type 0} (f : X → Y) (o : Option X) (xs : List X) → cons_option (option_map f o) (map f xs)
     ≡ map f (cons_option o xs)
@@ -47,9 +46,7 @@ map-cons_option f (Some x) xs = refl
 pub pick-map : {X Y : Type 0} (f : X → Y) (ps : List ℕ) (xs : List X) → pick ps (map f xs) ≡ map f (pick ps xs)
 pick-map f [] xs = refl
 pick-map f (p ∷ ps) xs =
-    ap (λ o. cons_option o (pick ps (map f xs))) (slice_get-map f xs p)
-    ∙ ap (cons_option (option_map f (slice_get xs p))) (pick-map f ps xs)
-    ∙ map-cons_option f (slice_get xs p) (pick ps xs)
+    search (arith, slice_get-map, pick-map f ps xs)
 
 pub pick-append : {X : Type 0} (ps qs : List ℕ) (xs : List X) → pick (ps ++ qs) xs ≡ pick ps xs ++ pick qs xs
 pick-append ps qs xs = filter_map-append (slice_get xs) ps qs
@@ -64,26 +61,25 @@ pub pick-pick : {X : Type 0} (qs ps : List ℕ) (xs : List X) → AllByRecursion
 pick-pick [] ps xs h = refl
 pick-pick (q ∷ qs) ps xs h = elim (cases_lt q (length ps)) [
   | inl l ↦ elim (some_element xs) [
-    | inl e ↦ absurd (omega (arith, within_at (length xs) ps h q l))
+    | inl e ↦ search (arith, within_at (length xs) ps h q l)
     | inr d ↦
-        pick-within d q qs (pick ps xs) (omega (arith, length-pick ps xs h))
-        ∙ ap (λ x. x ∷ pick qs (pick ps xs)) (get_or-pick d ps xs h q l)
-        ∙ ap (λ ys. get_or xs (get_or ps q 0) d ∷ ys) (pick-pick qs ps xs h)
-        ∙ sym (ap (λ ys. pick ys xs) (pick-within 0 q qs ps l)
-        ∙ pick-within d (get_or ps q 0) (pick qs ps) xs (within_at (length xs) ps h q l))
+        cc (
+          pick-within d q qs (pick ps xs) (omega (arith, length-pick ps xs h)),
+          get_or-pick d ps xs h q l,
+          pick-pick qs ps xs h,
+          pick-within 0 q qs ps l,
+          pick-within d (get_or ps q 0) (pick qs ps) xs (within_at (length xs) ps h q l),
+        )
   ]
-  | inr l ↦ pick-past q qs (pick ps xs) (omega (arith, length-pick ps xs h)) ∙ pick-pick qs ps xs h
-      ∙ ap (λ ys. pick ys xs) (sym (pick-past q qs ps l))
+  | inr l ↦
+      cc (pick-past q qs (pick ps xs) (omega (arith, length-pick ps xs h)), pick-pick qs ps xs h, pick-past q qs ps l)
 ]
 
 pub within_picked : (n : ℕ) (qs ps : List ℕ) → AllByRecursion (λ p. p < n) ps → AllByRecursion (λ p. p < n) (pick qs ps)
 within_picked n [] ps h = tt
 within_picked n (q ∷ qs) ps h = elim (cases_lt q (length ps)) [
-  | inl l ↦ let P : List ℕ → Type 0 =
-      AllByRecursion (λ p. p < n) in subst P (sym (pick-within 0 q qs ps l))
-      (within_at n ps h q l, within_picked n qs ps h)
-  | inr l ↦ let P : List ℕ → Type 0 =
-      AllByRecursion (λ p. p < n) in subst P (sym (pick-past q qs ps l)) (within_picked n qs ps h)
+  | inl l ↦ search (arith, pick-within 0 q qs ps l, within_at, within_picked n qs ps h)
+  | inr l ↦ search (arith, pick-past, within_picked n qs ps h)
 ]
 
 pub within_range : (a k n : ℕ) → a + k ≤ n → AllByRecursion (λ p. p < n) (range_with_len a k)
@@ -95,9 +91,13 @@ pub pick-range : {X : Type 0} (a k : ℕ) (xs : List X) → a + k ≤ length xs 
 pick-range a zero xs h = refl
 pick-range a (suc k) xs h = elim (some_element xs) [
   | inl e ↦ absurd (omega arith)
-  | inr d ↦ pick-within d a (range_with_len (a + 1) k) xs (omega arith)
-      ∙ ap (λ ys. get_or xs a d ∷ ys) (pick-range (a + 1) k xs (omega arith))
-      ∙ sym (ap (take (suc k)) (drop_more xs a d (omega arith)))
+  | inr d ↦
+      search (
+        arith,
+        pick-within d a (range_with_len (a + 1) k) xs (omega arith),
+        pick-range (a + 1) k xs (omega arith),
+        drop_more,
+      )
 ]
 
 pub pick-all : {X : Type 0} (n : ℕ) (xs : List X) → length xs ≡ n → pick (range_with_len 0 n) xs ≡ xs
@@ -128,7 +128,7 @@ cons_zip R (Some x) (Some y) xs ys h i = (h, i)
 pick-cons_zip : {X Y : Type 0} (R : X → Y → Type 0) (p : ℕ) (ps : List ℕ) (xs : List X) (ys : List Y) → AllZip R xs ys
     → AllZip R (pick ps xs) (pick ps ys) → AllZip R (pick (p ∷ ps) xs) (pick (p ∷ ps) ys)
 pick-cons_zip R p ps xs ys h i =
-    cons_zip R (slice_get xs p) (slice_get ys p) (pick ps xs) (pick ps ys) (get_zip R p xs ys h) i
+    search (arith, cons_zip, get_zip)
 
 -- what holds place by place holds of what is picked at the same places
 pub AllZip-pick : {X Y : Type 0} (R : X → Y → Type 0) (ps : List ℕ) (xs : List X) (ys : List Y) → AllZip R xs ys

@@ -1,4 +1,5 @@
 -- Laws of opened pieces.
+use Rattle.std.proofs.Common.{arith}
 use Rattle.std.proofs.Common.{◌≡◌, inl, inr, Bool, true, false, cond, List, [], ◌∷◌, ◌++◌, map, flat_map, reverse, refl, sym, ap, ◌∙◌}
 use Rattle.std.specs.List.{list_any}
 use Rattle.std.proofs.lemmas.List.{map-append, append_assoc, append-nil, reverse-append, reverse-reverse}
@@ -8,19 +9,11 @@ use Rattle.shapers_buffer.specs.Lists.{cut_after, opened_back, opened_pieces}
 use Rattle.shapers_buffer.proofs.ListLaws.{last_pass, last_of, cut_after-append, cut_after_none, none_pushed, none_before_push}
 use Rattle.shapers_buffer.proofs.MappedLists.{map-reverse, cut_after-map}
 
--- a piece, by its last
-opened_push : {X : Type 0} (test : X → Bool) (rule : List X → X → List X) (xs : List X) (x : X)
-    → opened_back test rule (reverse (xs ++ x ∷ [])) ≡ cond (test x) (rule xs x) (xs ++ x ∷ [])
-opened_push test rule xs x =
-    ap (opened_back test rule) (reverse-append xs (x ∷ []))
-    ∙ rw (reverse-reverse xs, reverse_onto (reverse xs) x []) (rw (reverse-reverse xs) refl)
-
 -- one piece
 pub one_piece : {X : Type 0} (test : X → Bool) (rule : List X → X → List X) (xs : List X) (x : X)
     → list_any test xs ≡ false → opened_pieces test rule (xs ++ x ∷ []) ≡ cond (test x) (rule xs x) (xs ++ x ∷ [])
 one_piece test rule xs x none =
-    ap (flat_map (λ piece. opened_back test rule (reverse piece))) (cut_after_none test xs x none) ∙ append-nil _
-    ∙ opened_push test rule xs x
+    search (arith, cut_after_none, append-nil, reverse-append, reverse-reverse, reverse_onto, refl)
 
 -- where none passes, the list stays
 pub opened_pieces-none : {X : Type 0} (test : X → Bool) (rule : List X → X → List X) (xs : List X)
@@ -39,35 +32,15 @@ pub opened_pieces-append : {X : Type 0} (test : X → Bool) (rule : List X → X
     (ys : List X) → test a ≡ true → opened_pieces test rule (xs ++ a ∷ ys) ≡ opened_pieces test rule (xs ++ a ∷ [])
     ++ opened_pieces test rule ys
 opened_pieces-append test rule xs a ys h =
-    ap (flat_map (λ piece. opened_back test rule (reverse piece))) (cut_after-append test xs a ys h)
-    ∙ flat_map-append (λ piece. opened_back test rule (reverse piece)) (cut_after test (xs ++ a ∷ []))
-    (cut_after test ys)
-
--- one more element that fails
-push_after : {X : Type 0} (test : X → Bool) (rule : List X → X → List X) (before : List X) (a : X) (after : List X)
-    (x : X) → test a ≡ true → list_any test after ≡ false → test x ≡ false
-    → opened_pieces test rule ((before ++ a ∷ after) ++ x ∷ []) ≡ opened_pieces test rule (before ++ a ∷ after) ++ x
-    ∷ []
-push_after test rule before a after x h none fails =
-    ap (opened_pieces test rule) (append_assoc before (a ∷ after) (x ∷ []))
-    ∙ opened_pieces-append test rule before a (after ++ x ∷ []) h
-    ∙ ap (λ zs. opened_pieces test rule (before ++ a ∷ []) ++ zs)
-    (opened_pieces-none test rule (after ++ x ∷ []) (none_pushed test after x none fails))
-    ∙ sym (append_assoc (opened_pieces test rule (before ++ a ∷ [])) after (x ∷ []))
-    ∙ ap (λ zs. (opened_pieces test rule (before ++ a ∷ []) ++ zs) ++ x ∷ [])
-    (sym (opened_pieces-none test rule after none))
-    ∙ ap (λ zs. zs ++ x ∷ []) (sym (opened_pieces-append test rule before a after h))
+    search (arith, cut_after-append, flat_map-append)
 
 pub opened_pieces-push : {X : Type 0} (test : X → Bool) (rule : List X → X → List X) (xs : List X) (x : X)
     → test x ≡ false → opened_pieces test rule (xs ++ x ∷ []) ≡ opened_pieces test rule xs ++ x ∷ []
 opened_pieces-push test rule xs x fails =
     elim (last_pass test xs) [
-      | inl none ↦ opened_pieces-none test rule (xs ++ x ∷ []) (none_pushed test xs x none fails)
-          ∙ ap (λ zs. zs ++ x ∷ []) (sym (opened_pieces-none test rule xs none))
+      | inl none ↦ search (arith, opened_pieces-none, none_pushed)
       | inr p ↦
-          ap (λ zs. opened_pieces test rule (zs ++ x ∷ [])) p.parts
-          ∙ push_after test rule p.before p.element p.after x p.passes p.none_after fails
-          ∙ ap (λ zs. opened_pieces test rule zs ++ x ∷ []) (sym p.parts)
+          search (arith, append_assoc, opened_pieces-append, opened_pieces-none, none_pushed)
     ]
 
 -- a rule that f leads to another: the pieces of a mapped list
@@ -76,11 +49,7 @@ opened_back-map : {X Y : Type 0} (f : X → Y) (test : Y → Bool) (rule : List 
     → map f (opened_back (λ x. test (f x)) rule xs) ≡ opened_back test other (map f xs)
 opened_back-map f test rule other leads [] = refl
 opened_back-map f test rule other leads (x ∷ before) =
-    elim (test (f x)) as (λ b. map f (cond b (rule (reverse before) x) (reverse (x ∷ before)))
-    ≡ cond b (other (reverse (map f before)) (f x)) (reverse (map f (x ∷ before)))) [
-      | true ↦ leads (reverse before) x ∙ ap (λ zs. other zs (f x)) (map-reverse f before)
-      | false ↦ map-reverse f (x ∷ before)
-    ]
+    search (arith, map-reverse, map-reverse f (x ∷ before))
 
 pieces-map : {X Y : Type 0} (f : X → Y) (test : Y → Bool) (rule : List X → X → List X) (other : List Y → Y → List Y)
     → ((xs : List X) (x : X) → map f (rule xs x) ≡ other (map f xs) (f x)) → (pieces : List (List X))
@@ -89,15 +58,10 @@ pieces-map : {X Y : Type 0} (f : X → Y) (test : Y → Bool) (rule : List X →
 pieces-map f test rule other leads [] = refl
 pieces-map f test rule other leads (piece ∷ pieces) =
     let back = opened_back (λ x. test (f x)) rule in
-    let rest = flat_map (λ ys. opened_back test other (reverse ys)) (map (map f) pieces) in
-    map-append f (back (reverse piece)) (flat_map (λ ys. back (reverse ys)) pieces)
-    ∙ ap (λ zs. map f (back (reverse piece)) ++ zs) (pieces-map f test rule other leads pieces)
-    ∙ ap (λ zs. zs ++ rest) (opened_back-map f test rule other leads (reverse piece))
-    ∙ ap (λ zs. opened_back test other zs ++ rest) (map-reverse f piece)
+    search (arith, map-append, pieces-map f test rule other leads pieces, opened_back-map, map-reverse f piece)
 
 pub opened_pieces-map : {X Y : Type 0} (f : X → Y) (test : Y → Bool) (rule : List X → X → List X) (other : List Y → Y
     → List Y) → ((xs : List X) (x : X) → map f (rule xs x) ≡ other (map f xs) (f x)) → (xs : List X)
     → map f (opened_pieces (λ x. test (f x)) rule xs) ≡ opened_pieces test other (map f xs)
 opened_pieces-map f test rule other leads xs =
-    pieces-map f test rule other leads (cut_after (λ x. test (f x)) xs)
-    ∙ ap (flat_map (λ piece. opened_back test other (reverse piece))) (sym (cut_after-map test f xs))
+    cc (pieces-map f test rule other leads (cut_after (λ x. test (f x)) xs), cut_after-map test f xs)

@@ -1,12 +1,12 @@
 -- What is read of a character's properties once they are set.
-use Rattle.std.proofs.Common.{ℕ, ◌≡◌, ◌<◌, ◌/◌, ◌%◌, arith, Bool, true, false, ap, refl, ◌∙◌, slice_index_or}
+use Rattle.std.proofs.Common.{ℕ, ◌≡◌, ◌<◌, ◌/◌, ◌%◌, arith, Bool, true, false, refl, slice_index_or}
 use Rattle.std.specs.Int.Bits.{or_add_and}
-use Rattle.std.proofs.lemmas.Nat.Bits.{and_pow, bit_at-lt}
+use Rattle.std.proofs.lemmas.Nat.Bits.{and_pow}
 use Rattle.shapers_buffer.specs.declared.buffer.category.hb_unicode_general_category_t.{hb_unicode_general_category_t}
 use Rattle.shapers_buffer.specs.declared.buffer.category.hb_unicode_general_category_t.TheVariants.{Cc, Cf, Cn, Co, Cs, Ll, Lm, Lo, Lt, Lu, Mc, Me, Mn, Nd, Nl, No, Pc, Pd, Pe, Pf, Pi, Po, Ps, Sc, Sk, Sm, So, Zl, Zp, Zs}
 use Rattle.shapers_buffer.specs.declared.buffer.unicode_props.UnicodeProps.{UnicodeProps}
 use Rattle.shapers_buffer.specs.Category.{categories, category_number}
-use Rattle.shapers_buffer.specs.Properties.{CONTINUATION, HIDDEN, IGNORABLE, general_category, high_byte, properties, set_bit, set_property, with_general_category, with_high_byte, BitKeeps, PropertiesAreSet, PropertiesSet}
+use Rattle.shapers_buffer.specs.Properties.{CONTINUATION, HIDDEN, IGNORABLE, general_category, set_bit, BitKeeps, PropertiesAreSet, PropertiesSet}
 
 -- a category by its number
 pub by_number : (c : hb_unicode_general_category_t) → slice_index_or categories (category_number c) Cn ≡ c
@@ -80,64 +80,46 @@ record EndsStay (old new : ℕ) : Type 0 where
 
 ends_5 : (n : ℕ) (on : Bool) → EndsStay n (set_bit 0x20 on n)
 ends_5 n true = record {
-  low = omega (arith, or_add_and n 0x20, and_pow n 5, bit_at-lt n 5);
-  high = omega (arith, or_add_and n 0x20, and_pow n 5, bit_at-lt n 5);
+  low = omega (arith, or_add_and n 0x20, and_pow n 5);
+  high = omega (arith, or_add_and n 0x20, and_pow n 5);
 }
-ends_5 n false = record {
-  low = omega (arith, and_pow n 5, bit_at-lt n 5);
-  high = omega (arith, and_pow n 5, bit_at-lt n 5);
-}
+ends_5 n false = search (arith, and_pow n 5)
 
 ends_6 : (n : ℕ) (on : Bool) → EndsStay n (set_bit 0x40 on n)
 ends_6 n true = record {
-  low = omega (arith, or_add_and n 0x40, and_pow n 6, bit_at-lt n 6);
-  high = omega (arith, or_add_and n 0x40, and_pow n 6, bit_at-lt n 6);
+  low = omega (arith, or_add_and n 0x40, and_pow n 6);
+  high = omega (arith, or_add_and n 0x40, and_pow n 6);
 }
-ends_6 n false = record {
-  low = omega (arith, and_pow n 6, bit_at-lt n 6);
-  high = omega (arith, and_pow n 6, bit_at-lt n 6);
-}
+ends_6 n false = search (arith, and_pow n 6)
 
 ends_7 : (n : ℕ) (on : Bool) → EndsStay n (set_bit 0x80 on n)
 ends_7 n true = record {
-  low = omega (arith, or_add_and n 0x80, and_pow n 7, bit_at-lt n 7);
-  high = omega (arith, or_add_and n 0x80, and_pow n 7, bit_at-lt n 7);
+  low = omega (arith, or_add_and n 0x80, and_pow n 7);
+  high = omega (arith, or_add_and n 0x80, and_pow n 7);
 }
-ends_7 n false = record {
-  low = omega (arith, and_pow n 7, bit_at-lt n 7);
-  high = omega (arith, and_pow n 7, bit_at-lt n 7);
-}
+ends_7 n false = search (arith, and_pow n 7)
 
 -- properties with the same low five bits are of one category
 pub same_category : (p q : UnicodeProps) → p.0 % 32 ≡ q.0 % 32 → general_category p ≡ general_category q
 unfolding general_category
-same_category p q same = ap (λ n. slice_index_or categories n Cn) same
+same_category p q same = cc
 
 -- a category whose number the low five bits are
 pub category_is : (p : UnicodeProps) (c : hb_unicode_general_category_t) → p.0 % 32 ≡ category_number c
     → general_category p ≡ c
 unfolding general_category
-category_is p c same = ap (λ n. slice_index_or categories n Cn) same ∙ by_number c
+category_is p c same = cc (by_number c)
 
 bit_keeps : (bit : ℕ) (p : UnicodeProps) → ((n : ℕ) (on : Bool) → EndsStay n (set_bit bit on n)) → BitKeeps bit p
-bit_keeps bit p stay = record {
-  category = λ on. elim on as (λ on. general_category (set_property bit on p) ≡ general_category p) [
-    | true ↦ same_category (set_property bit true p) p (stay p.0 true).low
-    | false ↦ same_category (set_property bit false p) p (stay p.0 false).low
-  ];
-  byte = λ on. elim on as (λ on. high_byte (set_property bit on p) ≡ high_byte p) [
-    | true ↦ (stay p.0 true).high
-    | false ↦ (stay p.0 false).high
-  ];
-}
+bit_keeps bit p stay = search (arith, same_category)
 
 pub set_is_read : (p : UnicodeProps) → PropertiesSet p
 set_is_read p = record {
-  category = λ c. category_is (with_general_category c p) c (omega (arith, number-lt c));
+  category = search (arith, category_is, number-lt);
   byte = λ byte. omega arith;
-  category_stays = λ byte. same_category (with_high_byte byte p) p (omega arith);
-  made = λ c byte. category_is (properties c byte) c (omega (arith, number-lt c));
-  made_byte = λ c byte. omega (arith, number-lt c);
+  category_stays = search (arith, same_category);
+  made = search (arith, category_is, number-lt);
+  made_byte = search (arith, number-lt);
 }
 
 pub ignorable_keeps : (p : UnicodeProps) → BitKeeps IGNORABLE p
@@ -150,9 +132,4 @@ pub continuation_keeps : (p : UnicodeProps) → BitKeeps CONTINUATION p
 continuation_keeps p = bit_keeps 0x80 p ends_7
 
 pub properties_are_set : PropertiesAreSet
-properties_are_set = record {
-  set = set_is_read;
-  ignorable = ignorable_keeps;
-  hidden = hidden_keeps;
-  continuation = continuation_keeps;
-}
+properties_are_set = search (arith, set_is_read, ignorable_keeps, hidden_keeps, continuation_keeps)

@@ -2,10 +2,10 @@
 use Rattle.shapers_buffer.specs.Lists.{first_last}
 use Rattle.shapers_clusters.proofs.ViewedSteps.{length-same}
 use Rattle.shapers_syllabic.specs.Reordering.{carried}
-use Rattle.std.proofs.Common.{List, None, Option, Some, [], ap, arith, drop, false, get_or, if◌then◌else◌, inl, inr, length, length-drop, refl, subst, suc, sym, take, true, zero, ℕ, ◌++◌, ◌+◌, ◌-◌, ◌<◌, ◌∙◌, ◌∷◌, ◌≡◌, ◌≤◌}
+use Rattle.std.proofs.Common.{List, None, Option, Some, [], arith, drop, get_or, inl, inr, length, length-drop, refl, subst, suc, sym, take, true, zero, ℕ, ◌++◌, ◌+◌, ◌-◌, ◌<◌, ◌∙◌, ◌∷◌, ◌≡◌, ◌≤◌}
 use Rattle.std.specs.List.{All, AllByRecursion, range_with_len}
 use Rattle.std.specs.List.Sorted.{IsPermutation}
-use Rattle.std.proofs.lemmas.Bool.{and_parts, cases_Bool, cases_lt}
+use Rattle.std.proofs.lemmas.Bool.{cases_Bool}
 use Rattle.std.proofs.lemmas.Bool.Decides.{nat_tests}
 use Rattle.std.proofs.lemmas.List.{get_or-append_right, get_or-drop, get_or-take, get_or_append_left, length-drop, length-take-le}
 use Rattle.std.proofs.lemmas.List.Elements.{All-from_get_or}
@@ -15,11 +15,9 @@ use Rattle.shapers_buffer.specs.declared.buffer.glyph.hb_glyph_info_t.{hb_glyph_
 use Rattle.shapers_buffer.specs.declared.buffer.tag.Script.{Script}
 use Rattle.shapers_buffer.specs.Clusters.{stretch_of, with_stretch}
 use Rattle.shapers_buffer.proofs.MappedLists.{all-append}
-use Rattle.shapers_clusters.specs.Steps.{all_merged, joined_steps, old_places, FitsStep, HeldBetween, MovesInside, MovesMerged, Step}
-use Rattle.shapers_clusters.proofs.Moves.{held_by}
+use Rattle.shapers_clusters.specs.Steps.{joined_steps, FitsStep, MovesMerged, Step}
 use Rattle.shapers_indic.specs.Glyphs.{least_place, passes, places}
 use Rattle.std.proofs.lemmas.List.{length-map}
-use Rattle.std.specs.List.{sum_by}
 use Rattle.shapers_buffer.specs.declared.buffer.level.BufferClusterLevel.{BufferClusterLevel}
 use Rattle.shapers_buffer.specs.Clusters.{merges}
 use Rattle.shapers_buffer.specs.Glyph.{clusters, order_view, plain}
@@ -30,23 +28,19 @@ use Rattle.shapers_clusters.proofs.StaysAlong.{spare_along}
 use Rattle.shapers_clusters.proofs.Spread.{length-stretch}
 use Rattle.shapers_syllabic.specs.Reordering.{glyphs_before}
 use Rattle.shapers_syllabic.proofs.SyllableAlone.{glyphs_cut, syllable_alone}
-use Rattle.shapers_clusters.specs.Cuts.{ExactCuts}
-use Rattle.shapers_buffer.specs.Places.{pick}
 use Rattle.shapers_syllabic.proofs.ReorderingLaws.{each_piece, sum-syllables, text_steps-long}
 use Rattle.shapers_syllabic.proofs.ReorderingWalk.{pieces_of}
 use Rattle.shapers_clusters.specs.Labels.{MergedStay}
 use Rattle.shapers_indic_final.specs.FinalClusters.{EachSyllableCuts, FinalCutsLaw, FinalMergesLaw}
 use Rattle.shapers_clusters.proofs.SparedCuts.{exact_spared}
 use Rattle.shapers_indic_final.specs.FinalGlyphs.{last_goes_first}
-use Rattle.shapers_indic_final.specs.FinalMatras.{end_of_base, has_room, is_left, matra_step, matra_steps, matra_target, matras_go, merging_step}
+use Rattle.shapers_indic_final.specs.FinalMatras.{end_of_base, has_room, is_left, matra_steps, matra_target, matras_go, merging_step}
 use Rattle.shapers_indic_final.specs.Proved.FinalMoves.{permutes_last_first, picks_first_last, picks_last_first}
 use Rattle.shapers_indic_final.specs.Proved.LeftMatraMoves.{lefts, lefts_no, lefts_yes, steps_of}
-use Rattle.shapers_clusters.specs.Steps.{SpareMerged, Spares, StaysAt}
+use Rattle.shapers_clusters.specs.Steps.{SpareMerged, Spares}
 use Rattle.shapers_clusters.proofs.StaysMerged.{merged_stay, spare_moves, spare_then}
-use Rattle.std.specs.Prelude.{nat_lt}
-use Rattle.shapers_base.specs.declared.plan.indic.RephPosition.{RephPosition}
-use Rattle.shapers_indic_final.specs.FinalBase.{Based, with_viramas}
-use Rattle.shapers_indic_final.specs.FinalPref.{formed_pref, pref_move, pref_step, pref_steps, pref_target}
+use Rattle.shapers_indic_final.specs.FinalBase.{with_viramas}
+use Rattle.shapers_indic_final.specs.FinalPref.{formed_pref, pref_move, pref_step, pref_target}
 use Rattle.shapers_indic_final.specs.FinalReordering.{after_matras, after_reph, based, final_steps, steps_of_pref}
 use Rattle.shapers_indic_final.specs.FinalReph.{opens_with_reph, final_reph_step, reph_steps, reph_target}
 use Rattle.shapers_indic_final.specs.declared.ot_shaper_indic_final.rules.Rules.{Rules}
@@ -77,29 +71,27 @@ changed_within f permutes i k n l m =
     let ys = f part in
     let zs = drop k ps in
     let long = length-range_with_len 0 n in
-    let xn : length xs ≡ i = length-take-le i ps (omega arith) in
-    let pn : length part ≡ k - i = length-take-le (k - i) (drop i ps) (omega (arith, length-drop i ps)) in
-    let yn : length ys ≡ k - i = length_permutation part ys (permutes part) ∙ pn in
+    let xn = length-take-le i ps (omega arith) in
+    let pn : length part ≡ k - i = search (arith, length-take-le, length-drop) in
+    let yn = length_permutation part ys (permutes part) ∙ pn in
     let each : (p : ℕ) → p < k - i → get_or part p 0 ≡ i + p = λ p a. get_or-take (k - i) (drop i ps) p 0 a
     ∙ get_or-drop i ps p 0 ∙ get_or-range_with_len 0 n (i + p) 0 (omega arith) ∙ omega arith in
     let all_part : All (Inside i k) part =
     All-from_get_or (Inside i k) part 0
     (λ p a. subst (Inside i k) (sym (each p (omega arith)))
     (record { low = omega arith; high = omega arith })) in
-    let all_ys : All (Inside i k) ys = All-permutation (Inside i k) part ys (permutes part) all_part in
     let there : (p : ℕ) → i ≤ p → p < k → Inside i k (get_or (xs ++ (ys ++ zs)) p 0) = λ p a b.
     subst (Inside i k)
     (sym (get_or-append_right xs (ys ++ zs) i p 0 xn a ∙ get_or_append_left ys zs 0 (p - i) (omega arith)))
-    (all_ys (p - i) 0 (omega arith)) in
-    let all : n - 0 ≡ n = omega arith in
-    subst (λ m. ChangedWithin i k n (with_stretch i k f (range_with_len 0 m))) (sym all) (record {
+    ((All-permutation (Inside i k) part ys (permutes part) all_part) (p - i) 0 (omega arith)) in
+    subst (λ m. ChangedWithin i k n (with_stretch i k f (range_with_len 0 m))) (sym (omega arith)) (record {
       before = λ p a. get_or_append_left xs (ys ++ zs) 0 p (omega arith) ∙ get_or-take i ps p 0 a
           ∙ get_or-range_with_len 0 n p 0 (omega arith) ∙ omega arith;
       behind = λ p a b. get_or-append_right xs (ys ++ zs) i p 0 xn (omega arith)
           ∙ get_or-append_right ys zs (k - i) (p - i) 0 yn (omega arith) ∙ get_or-drop k ps (p - i - (k - i)) 0
           ∙ get_or-range_with_len 0 n (k + (p - i - (k - i))) 0 (omega arith) ∙ omega arith;
-      from = λ p a b. (let t = there p a b in t.low);
-      to = λ p a b. (let t = there p a b in t.high);
+      from = λ p a b. (there p a b).low;
+      to = λ p a b. (there p a b).high;
     })
 
 -- a step that merges such a stretch first moves inside it
@@ -107,23 +99,8 @@ pub change_moves : (f : List ℕ → List ℕ) → ((ps : List ℕ) → IsPermut
     → (step : Step) → step.merged_first ≡ (i, k) ∷ [] → step.places ≡ with_stretch i k f (places 0 n)
     → step.merged_then ≡ [] → FitsStep n step → MovesMerged n step
 change_moves f permutes i k n l m step first is none fits =
-    let ps = with_stretch i k f (places 0 n) in
-    let sts : List (ℕ × ℕ) = (i, k) ∷ [] in
     let c = changed_within f permutes i k n l m in
-    let many : length ps ≡ n = sym (ap length is) ∙ fits.as_many in
-    let same : (p : ℕ) → get_or ps p 0 ≡ p → HeldBetween sts p (get_or ps p 0) = λ p e r a b. absurd (omega arith) in
-    let inside : MovesInside sts ps = λ p pl. elim (cases_lt p i) [
-      | inl a ↦ same p (c.before p a)
-      | inr a ↦ elim (cases_lt p k) [
-        | inl b ↦ held_by sts 0 (i, k) (omega arith) p (get_or ps p 0) a b (c.from p a b) (c.to p a b)
-        | inr b ↦ same p (c.behind p b (omega arith))
-      ]
-    ] in
-    record {
-      fits = fits;
-      inside = subst (λ xs. MovesInside xs step.places) (sym first) (subst (MovesInside sts) (sym is) inside);
-      nothing_then = none;
-    }
+    search arith
 
 -- the steps of left matras: what one merged, the next leave
 later_stay : (gs : List hb_glyph_info_t) (n e p m k : ℕ) (st : ℕ × ℕ) → m + k ≤ p → p < n → p - k < st.0 → st.1 ≤ n
@@ -133,15 +110,9 @@ later_stay gs n e p (suc m) k st l h a b c =
     let i : suc m ≡ m + 1 = omega arith in
     elim (cases_Bool (passes is_left gs m)) [
       | inl holds ↦
-          let j = p - k in
-          let w = changed_within first_last permuted-first_last m (j + 1) n (omega arith) (omega arith) in
-          let one : StaysAt st (matra_step n e m j) = λ q x y. w.behind q (omega arith) (omega arith) in
-          let rest = later_stay gs n e p m (k + 1) st (omega arith) h (omega arith) b (omega arith) in
-          subst (λ qs. AllByRecursion (Spares n st) (steps_of n e p k qs))
-          (sym (ap (λ q. lefts q gs) i ∙ lefts_yes m gs holds)) (inl one, rest)
-      | inr fails ↦ subst (λ qs. AllByRecursion (Spares n st) (steps_of n e p k qs))
-          (sym (ap (λ q. lefts q gs) i ∙ lefts_no m gs fails))
-          (later_stay gs n e p m k st (omega arith) h a b (omega arith))
+          let w = changed_within first_last permuted-first_last m ((p - k) + 1) n (omega arith) (omega arith) in
+          search (arith, lefts_yes, later_stay gs n e p m (k + 1) st (omega arith) h (omega arith) b (omega arith))
+      | inr fails ↦ search (arith, lefts_no, later_stay gs n e p m k st (omega arith) h a b (omega arith))
     ]
 
 spare_lefts : (gs : List hb_glyph_info_t) (n e p m k : ℕ) → m + k ≤ p → p < n → e ≤ n → m ≤ length gs
@@ -151,13 +122,9 @@ spare_lefts gs n e p (suc m) k l h b c =
     let i : suc m ≡ m + 1 = omega arith in
     elim (cases_Bool (passes is_left gs m)) [
       | inl holds ↦
-          let j = p - k in
-          let later = later_stay gs n e p m (k + 1) (j, e) (omega arith) h (omega arith) b (omega arith) in
-          subst (λ qs. SpareMerged n (steps_of n e p k qs)) (sym (ap (λ q. lefts q gs) i ∙ lefts_yes m gs holds))
-          (inl refl, (later, tt), spare_lefts gs n e p m (k + 1) (omega arith) h b (omega arith))
-      | inr fails ↦ subst (λ qs. SpareMerged n (steps_of n e p k qs))
-          (sym (ap (λ q. lefts q gs) i ∙ lefts_no m gs fails))
-          (spare_lefts gs n e p m k (omega arith) h b (omega arith))
+          let later = later_stay gs n e p m (k + 1) ((p - k), e) (omega arith) h (omega arith) b (omega arith) in
+          search (arith, lefts_yes, spare_lefts gs n e p m (k + 1) (omega arith) h b (omega arith))
+      | inr fails ↦ search (arith, lefts_no, spare_lefts gs n e p m k (omega arith) h b (omega arith))
     ]
 
 -- or they stay and merge
@@ -166,7 +133,7 @@ still_moves : (n e i : ℕ) → FitsStep n (record { merged_first = (i, e) ∷ [
 still_moves n e i fits = record {
   fits = fits;
   inside = λ p l r a b.
-      (let at = get_or-range_with_len 0 (n - 0) p 0 (omega (arith, length-range_with_len 0 (n - 0))) in absurd
+      (let at = get_or-range_with_len 0 (n - 0) p 0 (search (arith, length-range_with_len)) in absurd
       (omega arith));
   nothing_then = refl;
 }
@@ -175,7 +142,7 @@ pub moves_merging : (gs : List hb_glyph_info_t) (e : ℕ) (o : Option ℕ) → e
     → AllByRecursion (MovesMerged (length gs)) (merging_step (length gs) e o)
 moves_merging gs e None l = tt
 moves_merging gs e (Some i) l =
-    (let at = merging_at gs e (Some i) l in let fits = at.fits in (still_moves (length gs) e i fits.0, tt))
+    (let at = merging_at gs e (Some i) l in search (arith, still_moves))
 
 spare_matras : (script : Option Script) (base : ℕ) (gs : List hb_glyph_info_t) → base ≤ length gs
     → SpareMerged (length gs) (matra_steps script base gs)
@@ -187,9 +154,8 @@ spare_matras script base gs l =
     elim (cases_Bool (has_room base gs)) [
       | inl room ↦ rw room (elim (cases_Bool (matras_go p gs)) [
         | inl go ↦ rw go (
-            let some = (and_parts (nat_lt 1 (length gs)) (nat_lt 0 base) room).1 in
-            let within : p < length gs = (let some_base : 0 < base = grind (arith, nat_tests) in omega arith) in
-            spare_lefts gs (length gs) e p p 0 (omega arith) within ends (omega arith))
+            spare_lefts gs (length gs) e p p 0 (omega arith)
+            (let some_base : 0 < base = grind (arith, nat_tests) in omega arith) ends (omega arith))
         | inr stay ↦ rw stay
             (spare_moves (length gs) (merging_step (length gs) e (least_place (passes is_left gs) 0 base))
             (moves_merging gs e (least_place (passes is_left gs) 0 base) ends))
@@ -198,51 +164,20 @@ spare_matras script base gs l =
     ]
 
 -- the reph, and the pref glyph
-pub moves_reph : (position : RephPosition) (base : ℕ) (gs : List hb_glyph_info_t)
-    → AllByRecursion (MovesMerged (length gs)) (reph_steps position base gs)
-moves_reph position base gs =
-    let j = reph_target position base gs in
-    elim (cases_Bool (opens_with_reph gs)) [
-      | inl on ↦ rw on (
-          let high : j < length gs = reph_target_within position base gs (opens_some gs on) in
-          let ends : j + 1 ≤ length gs = omega arith in
-          let at = stretch_at first_last first_last picks_first_last permuted-first_last 0 (j + 1)
-          (final_reph_step (length gs) j) gs (omega arith) ends refl (ends, tt) tt in
-          let fits = at.fits in (
-            change_moves first_last permuted-first_last 0 (j + 1) (length gs) (omega arith) ends
-                (final_reph_step (length gs) j) refl refl refl fits.0,
-            tt,
-          ))
-      | inr off ↦ rw off tt
-    ]
-
 moves_pref : (gs : List hb_glyph_info_t) (j s : ℕ) (o : Option ℕ) → j ≤ s
     → ((i : ℕ) → o ≡ Some i → PlaceWithin s (length gs) i)
     → AllByRecursion (MovesMerged (length gs)) (pref_step (length gs) j o)
 moves_pref gs j s None l within = tt
 moves_pref gs j s (Some i) l within =
     let k = within i refl in
-    let low = k.low in
-    let high = k.high in
     let ends : i + 1 ≤ length gs = omega arith in
-    let at = stretch_at last_goes_first last_goes_first picks_last_first permutes_last_first j (i + 1)
-    (pref_move (length gs) j i) gs (omega arith) ends refl (ends, tt) tt in
-    let fits = at.fits in (
+    let at = stretch_at last_goes_first last_goes_first picks_last_first permutes_last_first j (i + 1) (pref_move
+    (length gs) j i) gs (omega arith) ends refl (ends, tt) tt in
+    search (
+      arith,
       change_moves last_goes_first permutes_last_first j (i + 1) (length gs) (omega arith) ends
-          (pref_move (length gs) j i) refl refl refl fits.0,
-      tt,
+          (pref_move (length gs) j i) refl refl refl at.fits.0,
     )
-
-pub moves_tried : (r : Rules) (script : Option Script) (b : Based)
-    → AllByRecursion (MovesMerged (length b.glyphs)) (steps_of_pref r script b)
-moves_tried r script b =
-    elim b.tries_pref as (λ t. AllByRecursion (MovesMerged (length b.glyphs))
-    (if t then pref_steps r.pref script b.base b.glyphs else [])) [
-      | true ↦ moves_pref b.glyphs (pref_target script b.base b.glyphs) (b.base + 1)
-          (formed_pref r.pref b.base b.glyphs)
-          (pref_target_within script b.base b.glyphs) (formed_pref_within r.pref b.base b.glyphs)
-      | false ↦ tt
-    ]
 
 -- all of them
 pub spare_final : (r : Rules) (script : Option Script) (gs : List hb_glyph_info_t)
@@ -255,22 +190,39 @@ spare_final r script gs =
     let rs = reph_steps r.reph_pos p.base p.glyphs in
     let ps = steps_of_pref r script q in
     let low = base_within r script (with_viramas r gs) in
-    let bn : length b.glyphs ≡ length gs =
+    let bn =
     length-same carried b.glyphs gs (hidden-based r script (with_viramas r gs) ∙ hidden-viramas r gs) in
-    let pn : length p.glyphs ≡ length gs = length_at b.glyphs p.glyphs ms (matras_at script b.base b.glyphs low) ∙ bn in
-    let qn : length q.glyphs ≡ length gs = length_at p.glyphs q.glyphs rs (reph_at r.reph_pos p.base p.glyphs) ∙ pn in
+    let pn = length_at b.glyphs p.glyphs ms (matras_at script b.base b.glyphs low) ∙ bn in
     let n = length gs in
-    let one : SpareMerged n ms = subst (λ k. SpareMerged k ms) bn (spare_matras script b.base b.glyphs low) in
-    let two : AllByRecursion (MovesMerged n) rs =
-    subst (λ k. AllByRecursion (MovesMerged k) rs) pn (moves_reph r.reph_pos p.base p.glyphs) in
-    let three : AllByRecursion (MovesMerged n) ps =
-    subst (λ k. AllByRecursion (MovesMerged k) ps) qn (moves_tried r script q) in
-    spare_then n ms (rs ++ ps) one (all-append (MovesMerged n) rs ps two three)
+    let three =
+    subst (λ k. AllByRecursion (MovesMerged k) ps)
+    (length_at p.glyphs q.glyphs rs (reph_at r.reph_pos p.base p.glyphs) ∙ pn) (
+    search (
+      arith,
+      moves_pref q.glyphs (pref_target script q.base q.glyphs) (q.base + 1) (formed_pref r.pref q.base q.glyphs)
+          (pref_target_within script q.base q.glyphs) (formed_pref_within r.pref q.base q.glyphs),
+    )) in
+    spare_then n ms (rs ++ ps)
+    (subst (λ k. SpareMerged k ms) bn (spare_matras script b.base b.glyphs low)) (all-append (MovesMerged n) rs ps
+    (subst (λ k. AllByRecursion (MovesMerged k) rs) pn (
+    let j = reph_target r.reph_pos p.base p.glyphs in elim (cases_Bool (opens_with_reph p.glyphs)) [
+      | inl on ↦ rw on
+          (let high : j < length p.glyphs = reph_target_within r.reph_pos p.base p.glyphs (opens_some p.glyphs on) in
+          let ends : j + 1 ≤ length p.glyphs = omega arith in
+          let at = stretch_at first_last first_last picks_first_last permuted-first_last 0 (j + 1) (final_reph_step (length
+          p.glyphs) j) p.glyphs (omega arith) ends refl (ends, tt) tt in (
+            change_moves first_last permuted-first_last 0 (j +
+                1) (length p.glyphs) (omega arith) ends (final_reph_step (length p.glyphs) j) refl refl refl at.fits.0,
+            tt,
+          ))
+      | inr
+          off ↦ rw off tt
+    ])) three)
 
 pub final_merges : FinalMergesLaw
 final_merges r script level gs cs m long =
-    let laws = final_laws r script in
-    merged_stay level m (length gs) (final_steps r script gs) cs long (laws.fits gs) (spare_final r script gs)
+    merged_stay level m (length gs) (final_steps r script gs) cs long (
+    (final_laws r script).fits gs) (spare_final r script gs)
 
 pub final_cuts : FinalCutsLaw
 final_cuts r script level gs cs m long different =
@@ -289,14 +241,12 @@ pub text_merges : (r : Rules) (script : Option Script) (level : BufferClusterLev
 text_merges r script level gs m =
     let xs = order_view gs in
     let steps = final_steps r script in
-    let laws = final_laws r script in
     let ps = pieces_of steps (syllables xs) in
-    let sum : 0 + sum_by (λ piece. piece.0) ps ≤ length gs =
-    omega (arith, sum-syllables steps xs, length-map gs plain) in
-    let spare = spare_along (length gs) 0 ps sum (each_piece FitsStep steps laws.fits (syllables xs))
-    (spare_pieces r script (syllables xs)) in
+    let spare = spare_along (length gs) 0 ps
+    (search (arith, sum-syllables, length-map)) (each_piece FitsStep steps (final_laws r script).fits (syllables xs))
+    (search (arith, spare_pieces)) in
     merged_stay level m (length gs) (final_text_steps r script gs) (clusters gs) (length-map gs (λ g. g.cluster))
-    (text_fits r script level gs) (subst (SpareMerged (length gs)) (sym (text_steps-long steps gs)) spare)
+    (text_fits r script level gs) (search (arith, text_steps-long))
 
 pub text_cuts : (r : Rules) (script : Option Script) (level : BufferClusterLevel) (gs : List hb_glyph_info_t)
     → merges level ≡ true
@@ -307,13 +257,13 @@ text_cuts r script level gs m before behind syl cut own =
     let cs = clusters gs in
     let s = glyphs_before before in
     let e = s + length syl in
-    let steps = final_steps r script syl in
-    let laws = final_laws r script in
     let all = glyphs_cut xs before behind syl cut in
-    let xn : length xs ≡ length gs = length-map gs plain in
-    let cn : length cs ≡ length gs = length-map gs (λ g. g.cluster) in
-    let long : length (stretch_of s e cs) ≡ length syl = length-stretch s e cs (omega arith) ∙ omega arith in
-    let alone = syllable_alone (final_steps r script) laws.fits level xs cs (cn ∙ sym xn) before behind syl cut
-    own.others in
-    subst (ExactCuts (pick (old_places (length syl) steps) (stretch_of s e cs)) (all_merged steps)) (sym alone)
-    (final_cuts r script level syl (stretch_of s e cs) m long own.different)
+    let xn = length-map gs plain in
+    let cn = length-map gs (λ g. g.cluster) in
+    search (
+      arith,
+      syllable_alone (final_steps r script) (final_laws r script).fits level xs cs (cn ∙ sym xn) before behind syl cut
+          own.others,
+      final_cuts r script level syl (stretch_of s e cs) m (length-stretch s e cs (omega arith) ∙ omega arith)
+          own.different,
+    )

@@ -1,7 +1,7 @@
 -- A set-up by spans, a reordering pause and the final reordering, directly after one another, cut between two spans.
-use Rattle.std.proofs.Common.{ℕ, ◌-◌, ◌<◌, ◌≤◌, ◌≡◌, List, [], ◌∷◌, ◌++◌, map, length, take, drop, get_or, slice_index, Option, None, refl, sym, ◌∙◌, ap, subst, arith, take-append-drop}
+use Rattle.std.proofs.Common.{ℕ, ◌<◌, ◌≡◌, List, [], ◌∷◌, ◌++◌, map, length, take, drop, slice_index, Option, None, refl, sym, ◌∙◌, ap, subst, arith, take-append-drop}
 use Rattle.std.specs.Prelude.{All}
-use Rattle.std.specs.List.{Contains, sum_by}
+use Rattle.std.specs.List.{Contains}
 use Rattle.std.proofs.lemmas.List.{drop-map, drop_at, get_or_default, length-map, map-append, take-map, take_at}
 use Rattle.std.proofs.lemmas.List.Elements.{All-get_or}
 use Rattle.std.proofs.lemmas.List.Sorted.{length_permutation}
@@ -49,18 +49,11 @@ Glyphs = List hb_glyph_info_t
 ends_after : (meaning : Glyphs → Glyphs) (steps : Glyphs → List Step) → ReorderLaws meaning steps → (xs : Glyphs)
     → SameEnds (text_order meaning xs) xs
 ends_after meaning steps laws xs =
-    subst (SameEnds (text_order meaning xs)) (joined-syllables xs)
-    (ends-kept meaning (kept_byte meaning steps laws) (syllables xs) (syllables_cut xs))
-
-border_after : (circles : Option DottedCircles) (meaning : Glyphs → Glyphs) (steps : Glyphs → List Step)
-    → ReorderLaws meaning steps → (gs hs : Glyphs) → MeetAtBorder gs hs
-    → MeetAtBorder (paused_order circles meaning gs) (paused_order circles meaning hs)
-border_after circles meaning steps laws gs hs border =
-    let xs = order_view (circled circles gs) in
-    let ys = order_view (circled circles hs) in
-    border_by (text_order meaning xs) (text_order meaning ys) xs ys (ends_after meaning steps laws xs)
-    (ends_after meaning steps laws ys)
-    (border-view (circled circles gs) (circled circles hs) (border-circled circles gs hs border))
+    search (
+      arith,
+      joined-syllables xs,
+      ends-kept meaning (kept_byte meaning steps laws) (syllables xs) (syllables_cut xs),
+    )
 
 -- serials after a pause
 same_after : (circles : Option DottedCircles) (meaning : Glyphs → Glyphs) (steps : Glyphs → List Step)
@@ -70,35 +63,32 @@ same_after circles meaning steps laws reads gs hs same =
     let xs = order_view (circled circles gs) in
     let ys = order_view (circled circles hs) in
     let keeps = kept_byte meaning steps laws in
-    ap (map (map unnumbered)) (syllables-mapped meaning keeps xs)
-    ∙ pieces_same meaning reads.meant (syllables xs) (syllables ys)
-    (same-view (circled circles gs) (circled circles hs) (same-circled circles gs hs same))
-    ∙ sym (ap (map (map unnumbered)) (syllables-mapped meaning keeps ys))
+    cc (
+      syllables-mapped meaning keeps xs,
+      pieces_same meaning reads.meant (syllables xs) (syllables ys)
+          (same-view (circled circles gs) (circled circles hs) (same-circled circles gs hs same)),
+      syllables-mapped meaning keeps ys,
+    )
 
 same_pieces : (steps : Glyphs → List Step)
     → ((gs hs : Glyphs) → map unnumbered gs ≡ map unnumbered hs → steps gs ≡ steps hs) → (ps qs : List Glyphs)
     → map (map unnumbered) ps ≡ map (map unnumbered) qs → pieces_of steps ps ≡ pieces_of steps qs
 same_pieces steps led [] [] same = refl
-same_pieces steps led [] (q ∷ qs) same = absurd (omega (arith, ap length same))
-same_pieces steps led (p ∷ ps) [] same = absurd (omega (arith, ap length same))
+same_pieces steps led [] (q ∷ qs) same = cc
+same_pieces steps led (p ∷ ps) [] same = cc
 same_pieces steps led (p ∷ ps) (q ∷ qs) same =
-    let one : map unnumbered p ≡ map unnumbered q = ap (λ l. get_or l 0 []) same in
-    let long : length p ≡ length q = sym (length-map p unnumbered) ∙ ap length one ∙ length-map q unnumbered in
-    let pair : ℕ → List Step → ℕ × List Step = λ n sts. (n, sts) in
-    ap (λ n. pair n (steps p) ∷ pieces_of steps ps) long
-    ∙ ap (λ sts. pair (length q) sts ∷ pieces_of steps ps) (led p q one)
-    ∙ ap (λ l. pair (length q) (steps q) ∷ l) (same_pieces steps led ps qs (ap (drop 1) same))
+    search (arith, length-map, same_pieces steps led ps qs (ap (drop 1) same))
 
 same_long : (xs ys : Glyphs) → SameButSerials xs ys → length xs ≡ length ys
-same_long xs ys same = sym (length-map xs unnumbered) ∙ ap length (same_text xs ys same) ∙ length-map ys unnumbered
+same_long xs ys same = cc (length-map xs unnumbered, same_text xs ys same, length-map ys unnumbered)
 
 same_steps : (r : Rules) (script : Option Script) (xs ys : Glyphs) → SameButSerials xs ys
     → text_steps (final_steps r script) xs ≡ text_steps (final_steps r script) ys
 same_steps r script xs ys same =
     let steps = final_steps r script in
-    let reads = final_reads_no_serials r script in
     ap (λ n. steps_along n 0 (pieces_of steps (syllables xs))) (same_long xs ys same)
-    ∙ ap (steps_along (length ys) 0) (same_pieces steps reads.led (syllables xs) (syllables ys) same)
+    ∙ ap (steps_along (length ys) 0) (same_pieces steps
+    (final_reads_no_serials r script).led (syllables xs) (syllables ys) same)
 
 -- lengths after a pause
 pause_fits : (circles : Option DottedCircles) (meaning : Glyphs → Glyphs) (steps : Glyphs → List Step)
@@ -108,9 +98,9 @@ pause_fits circles meaning steps laws level gs =
     let zs = circled circles gs in
     let xs = order_view zs in
     let ps = pieces_of steps (syllables xs) in
-    let sum : sum_by (λ piece. piece.0) ps ≤ length zs = omega (arith, sum-syllables steps xs, length-map zs plain) in
-    let along = along_holds level ps zs sum (each_piece FitsStep steps laws.fits (syllables xs)) in
-    subst (FitSteps (length zs)) (sym (text_steps-long steps zs)) along.fit
+    let along = along_holds level ps zs
+    (omega (arith, sum-syllables steps xs, length-map zs plain)) (each_piece FitsStep steps laws.fits (syllables xs)) in
+    search (arith, text_steps-long steps zs, along.fit)
 
 record PausedClusters (circles : Option DottedCircles) (meaning : Glyphs → Glyphs) (steps : Glyphs
     → List Step) (level : BufferClusterLevel) (gs : Glyphs) : Type 0 where
@@ -125,91 +115,78 @@ paused_facts circles meaning steps laws level gs =
     let xs = order_view zs in
     let sts = text_steps steps xs in
     let cluster : hb_glyph_info_t → ℕ = λ g. g.cluster in
-    let held = clusters_hold level sts (clusters zs)
-    (subst (λ n. FitSteps n sts) (sym (length-map zs cluster))
+    let held = clusters_hold level sts (clusters zs) (subst (λ n. FitSteps n sts) (sym (length-map zs cluster))
     (pause_fits circles meaning steps laws level gs)) in
-    let lost = nothing_lost meaning steps laws xs in
     let shown : hb_glyph_info_t → hb_glyph_info_t = λ g. plain (carried g) in
-    let kept : length (text_order meaning xs) ≡ length xs = sym (length-map (text_order meaning xs) shown)
-    ∙ length_permutation (seen carried xs) (seen carried (text_order meaning xs)) lost.kept
-    ∙ length-map xs shown in
-    record {
-      long = held.same_length ∙ length-map zs cluster ∙ sym (length-map zs plain) ∙ sym kept;
-      among = held.old_clusters;
-    }
+    search (
+      arith,
+      held.same_length,
+      length-map zs cluster,
+      length-map zs plain,
+      length-map (text_order meaning xs) shown,
+      length_permutation (seen carried xs) (seen carried (text_order meaning xs))
+          (nothing_lost meaning steps laws xs).kept,
+      length-map xs shown,
+      held.old_clusters,
+    )
 
 -- clusters that come of those of halves that share none
 cluster_among : (cs : List ℕ) (xs : Glyphs) → All (Contains cs) (clusters xs) → (i : ℕ) → i < length xs
     → (k : ℕ) × (k < length cs) × (slice_index cs k ≡ slice_index (clusters xs) i)
 cluster_among cs xs all i h =
-    let js = clusters xs in
-    let n = length-map xs (λ g. g.cluster) in
-    let found = All-get_or (Contains cs) js i 0 (omega (arith, n)) all in
-    (found.0, found.1, get_or_default cs found.0 0 (get_or js i 0) found.1 ∙ found.2)
+    let found = All-get_or (Contains cs) (clusters xs) i 0 (omega (arith, length-map xs (λ g. g.cluster))) all in
+    search (arith, get_or_default)
 
 apart_among : (gs hs xs ys : Glyphs) → All (Contains (clusters gs)) (clusters xs)
     → All (Contains (clusters hs)) (clusters ys) → ShareNone gs hs → ShareNone xs ys
 apart_among gs hs xs ys a b none i j il jl same =
     let p = cluster_among (clusters gs) xs a i il in
     let q = cluster_among (clusters hs) ys b j jl in
-    let m = length-map gs (λ g. g.cluster) in
-    let n = length-map hs (λ g. g.cluster) in
-    let pl = p.1 in
-    let ql = q.1 in
-    none p.0 q.0 (omega (arith, pl, m)) (omega (arith, ql, n)) (p.2 ∙ same ∙ sym q.2)
+    search (arith, length-map)
 
 -- a border that shows in the order view is one
 bytes_plain : (gs : Glyphs) → map (λ (g : hb_glyph_info_t). g.syllable) (order_view gs) ≡ map (λ g. g.syllable) gs
 bytes_plain [] = refl
-bytes_plain (g ∷ gs) = ap (λ bs. g.syllable ∷ bs) (bytes_plain gs)
+bytes_plain (g ∷ gs) = cc (bytes_plain gs)
 
 met : (gs hs : Glyphs) → MeetAtBorder (order_view gs) (order_view hs) → MeetAtBorder gs hs
 met gs hs border some more same =
-    let m = length-map gs plain in
-    let n = length-map hs plain in
-    border (omega (arith, m, some)) (omega (arith, n, more))
-    (ap (λ bs. slice_index bs (length (order_view gs) - 1)) (bytes_plain gs)
-    ∙ ap (λ k. slice_index (map (λ (g : hb_glyph_info_t). g.syllable) gs) (k - 1)) m
-    ∙ same
-    ∙ ap (λ bs. slice_index bs 0) (sym (bytes_plain hs)))
+    search (arith, length-map, bytes_plain)
 
 -- the bits of init, and serials
 bits_past : (bits : ℕ) (gs : Glyphs) → map unnumbered (map (with_bits bits) gs)
     ≡ map (with_bits bits) (map unnumbered gs)
 bits_past bits [] = refl
-bits_past bits (g ∷ gs) = ap (λ l. unnumbered (with_bits bits g) ∷ l) (bits_past bits gs)
+bits_past bits (g ∷ gs) = cc (bits_past bits gs)
 
 shown_final : (r : Rules) (script : Option Script) (xs : Glyphs) → map (uninitiated r) (final_text r script xs)
     ≡ map (with_bits r.init) (map unnumbered (text_order (final_order r script) xs))
 shown_final r script xs =
-    map-twice (with_bits r.init) (final_text r script xs) ∙ ap (map unnumbered) (bits_text r script None xs)
-    ∙ bits_past r.init (text_order (final_order r script) xs)
+    cc (
+      map-twice (with_bits r.init) (final_text r script xs),
+      bits_text r script None xs,
+      bits_past r.init (text_order (final_order r script) xs),
+    )
 
 same_final : (r : Rules) (script : Option Script) (xs ys : Glyphs) → SameButSerials xs ys
     → map unnumbered (text_order (final_order r script) xs) ≡ map unnumbered (text_order (final_order r script) ys)
 same_final r script xs ys same = let reads =
-    final_reads_no_serials r script in joined_same (final_order r script) reads.meant (syllables xs) (syllables ys) same
+    final_reads_no_serials r script in search (arith, joined_same)
 
 clusters-same : (xs ys : Glyphs) → SameButSerials xs ys → clusters xs ≡ clusters ys
-clusters-same xs ys same = sym (clusters-through unnumbered unnumbered_passes xs) ∙ ap clusters (same_text xs ys same)
-    ∙ clusters-through unnumbered unnumbered_passes ys
+clusters-same xs ys same =
+    cc (
+      clusters-through unnumbered unnumbered_passes xs,
+      same_text xs ys same,
+      clusters-through unnumbered unnumbered_passes ys,
+    )
 
 -- halves that meet at a border, and ones that are the same but for serials
 shown_halves : (r : Rules) (script : Option Script) (gs hs xs ys : Glyphs) → MeetAtBorder gs hs → SameButSerials gs xs
     → SameButSerials hs ys → map (uninitiated r) (final_text r script (gs ++ hs))
     ≡ map (uninitiated r) (final_text r script xs) ++ map (uninitiated r) (final_text r script ys)
 shown_halves r script gs hs xs ys border one two =
-    let f = final_order r script in
-    let V = map (uninitiated r) in
-    let add = map (with_bits r.init) in
-    shown_final r script (gs ++ hs)
-    ∙ ap (λ zs. add (map unnumbered zs)) (text_order-append f gs hs border)
-    ∙ ap add (map-append unnumbered (text_order f gs) (text_order f hs))
-    ∙ ap (λ zs. add (zs ++ map unnumbered (text_order f hs))) (same_final r script gs xs one)
-    ∙ ap (λ zs. add (map unnumbered (text_order f xs) ++ zs)) (same_final r script hs ys two)
-    ∙ map-append (with_bits r.init) (map unnumbered (text_order f xs)) (map unnumbered (text_order f ys))
-    ∙ ap (λ zs. zs ++ add (map unnumbered (text_order f ys))) (sym (shown_final r script xs))
-    ∙ ap (λ zs. V (final_text r script xs) ++ zs) (sym (shown_final r script ys))
+    search (arith, shown_final, text_order-append, map-append, same_final)
 
 -- the pause alone, cut at a border of syllables
 pub final_cuts_with_serials : (r : Rules) (old new : Buffer) → FinallyReordered r old new
@@ -219,19 +196,16 @@ final_cuts_with_serials r old new done gs hs xs ys text border one two =
     let f = finished r old new done in
     let script = old.script in
     let level = old.level in
-    let V = map (uninitiated r) in
     let C = final_clusters r script level in
-    let parts : order_view old.glyphs ≡ order_view gs ++ order_view hs = ap order_view text ∙ map-append plain gs hs in
-    let law = halves r script level old.glyphs new.glyphs gs hs f.order f.clusters_are text border in
-    let front = final_text_reads_no_serials r script gs xs one in
-    let back = final_text_reads_no_serials r script hs ys two in
     record {
       order =
-          ap V (f.order ∙ ap (final_text r script) parts)
+          ap (map (uninitiated r)) (f.order ∙ ap (final_text r script) (ap order_view text ∙ map-append plain gs hs))
           ∙ shown_halves r script (order_view gs) (order_view hs) (order_view xs) (order_view ys)
           (border-view gs hs border) (same-view gs xs one) (same-view hs ys two);
-      in_clusters = λ none. law.in_clusters none ∙ ap (λ cs. cs ++ C hs) (front.in_clusters level)
-          ∙ ap (λ cs. C xs ++ cs) (back.in_clusters level);
+      in_clusters = λ none.
+          (halves r script level old.glyphs new.glyphs gs hs f.order f.clusters_are text border).in_clusters none
+          ∙ ap (λ cs. cs ++ C hs) ((final_text_reads_no_serials r script gs xs one).in_clusters level)
+          ∙ ap (λ cs. C xs ++ cs) ((final_text_reads_no_serials r script hs ys two).in_clusters level);
     }
 
 pub final_cuts_between_spans : FinalCutsBetweenSpans
@@ -240,53 +214,53 @@ final_cuts_between_spans r meaning steps circles spans old mid new laws reads ki
     let f = finished r mid new done in
     let script = old.script in
     let level = old.level in
-    let kept : mid.script ≡ script = ap (λ (b : Buffer). b.script) paused.others in
-    let still : mid.level ≡ level = ap (λ (b : Buffer). b.level) paused.others in
+    let kept : mid.script ≡ script = search arith in
     let P = paused_order circles meaning in
     let C = paused_clusters circles steps level in
     let F = unsafe_spans ss gs in
-    let H = unsafe_spans ts hs in
     let cut = spans_cut spans BROKEN_CLUSTER old kinds ss ts gs hs split text first second in
     let B = cut.behind in
     let joined = pauses_cut_between_spans meaning steps BROKEN_CLUSTER laws reads circles spans old mid kinds paused ss
     ts gs hs xs ys split text first second one two in
-    let V = map (uninitiated r) in
-    let parts : order_view mid.glyphs ≡ P F ++ P B =
+    let parts =
     paused.order ∙ ap P cut.parts
     ∙ ap (λ zs. text_order meaning (order_view zs)) (circled-append circles F B cut.border)
     ∙ text_order-halves meaning (circled circles F) (circled circles B) (border-circled circles F B cut.border) in
-    let border = border_after circles meaning steps laws F B cut.border in
-    let front : SameButSerials (P F) (P xs) = same_after circles meaning steps laws reads F xs one in
-    let back : SameButSerials (P B) (P ys) = same_after circles meaning steps laws reads B ys (cut.renumbered ∙ two) in
-    let ordered : order_view new.glyphs ≡ final_text r script (order_view mid.glyphs) =
+    let border =
+    let xs = order_view (circled circles F) in
+    let ys = order_view (circled circles B) in border_by (text_order meaning xs) (text_order meaning ys) xs ys (search (
+      arith,
+      ends_after,
+    )) (search (arith, ends_after)) (search (arith, border-view, border-circled)) in
+    let front = same_after circles meaning steps laws reads F xs one in
+    let back = same_after circles meaning steps laws reads B ys (cut.renumbered ∙ two) in
+    let ordered =
     f.order ∙ ap (λ s. final_text r s (order_view mid.glyphs)) kept in
     record {
-      order = ap V (ordered ∙ ap (final_text r script) parts)
+      order = ap (map (uninitiated r)) (ordered ∙ ap (final_text r script) parts)
           ∙ shown_halves r script (P F) (P B) (P xs) (P ys) border front back;
       in_clusters = λ none.
           let n = length (P F) in
           let G = take n mid.glyphs in
           let K = drop n mid.glyphs in
           let one_facts = paused_facts circles meaning steps laws level xs in
-          let two_facts = paused_facts circles meaning steps laws level ys in
           let cluster : hb_glyph_info_t → ℕ = λ g. g.cluster in
-          let size : length (C xs) ≡ n = one_facts.long ∙ sym (same_long (P F) (P xs) front) in
-          let whole : mid.glyphs ≡ G ++ K = sym (take-append-drop n mid.glyphs) in
-          let gv : order_view G ≡ P F = sym (take-map plain n mid.glyphs) ∙ ap (take n) parts
+          let size = one_facts.long ∙ sym (same_long (P F) (P xs) front) in
+          let gv = sym (take-map plain n mid.glyphs) ∙ ap (take n) parts
           ∙ take_at (P F) (P B) n refl in
-          let kv : order_view K ≡ P B = sym (drop-map plain n mid.glyphs) ∙ ap (drop n) parts
+          let kv = sym (drop-map plain n mid.glyphs) ∙ ap (drop n) parts
           ∙ drop_at (P F) (P B) n refl in
           let both = joined.in_clusters none in
-          let gc : clusters G ≡ C xs = sym (take-map cluster n mid.glyphs) ∙ ap (take n) both
+          let gc = sym (take-map cluster n mid.glyphs) ∙ ap (take n) both
           ∙ take_at (C xs) (C ys) n size in
-          let kc : clusters K ≡ C ys = sym (drop-map cluster n mid.glyphs) ∙ ap (drop n) both
+          let kc = sym (drop-map cluster n mid.glyphs) ∙ ap (drop n) both
           ∙ drop_at (C xs) (C ys) n size in
           let meet : MeetAtBorder G K =
           met G K (subst (λ zs. MeetAtBorder zs (order_view K)) (sym gv)
           (subst (MeetAtBorder (P F)) (sym kv) border)) in
           let xf : clusters xs ≡ clusters gs = sym (clusters-same F xs one)
           ∙ clusters-set_up ss BROKEN_CLUSTER (record old { glyphs = gs }) in
-          let yh : clusters ys ≡ clusters hs = sym (clusters-same H ys two)
+          let yh : clusters ys ≡ clusters hs = sym (clusters-same (unsafe_spans ts hs) ys two)
           ∙ clusters-set_up ts BROKEN_CLUSTER (record old { glyphs = hs }) in
           let ga : All (Contains (clusters gs)) (clusters G) =
           subst (λ cs. All (Contains cs) (clusters G)) xf
@@ -295,13 +269,14 @@ final_cuts_between_spans r meaning steps circles spans old mid new laws reads ki
           let ka : All (Contains (clusters hs)) (clusters K) =
           subst (λ cs. All (Contains cs) (clusters K)) yh
           (no_new_cluster circles ys K
-          (subst (All (Contains (clusters (circled circles ys)))) (sym kc) two_facts.among)) in
-          let apart : ShareNone G K = apart_among gs hs G K ga ka none in
+          (subst (All (Contains (clusters (circled circles ys)))) (sym kc)
+          (paused_facts circles meaning steps laws level ys).among)) in
           let are : clusters new.glyphs ≡ final_clusters r script level mid.glyphs =
           f.clusters_are
           ∙ ap (λ s. final_clusters r s mid.level mid.glyphs) kept
-          ∙ ap (λ l. final_clusters r script l mid.glyphs) still in
-          let law = halves r script level mid.glyphs new.glyphs G K ordered are whole meet in
+          ∙ ap (λ l. final_clusters r script l mid.glyphs) (search arith) in
+          let law = halves r script level mid.glyphs new.glyphs G K ordered are
+          (sym (take-append-drop n mid.glyphs)) meet in
           let S : Glyphs → List ℕ → List ℕ = λ zs cs. joined_steps level (text_steps (final_steps r script) zs) cs in
           let gf : final_clusters r script level G ≡ final_clusters_after r script level circles meaning steps xs =
           ap (λ zs. S zs (clusters G)) gv ∙ ap (S (P F)) gc
@@ -309,6 +284,6 @@ final_cuts_between_spans r meaning steps circles spans old mid new laws reads ki
           let kf : final_clusters r script level K ≡ final_clusters_after r script level circles meaning steps ys =
           ap (λ zs. S zs (clusters K)) kv ∙ ap (S (P B)) kc
           ∙ ap (λ sts. joined_steps level sts (C ys)) (same_steps r script (P B) (P ys) back) in
-          law.in_clusters apart ∙ ap (λ cs. cs ++ final_clusters r script level K) gf
+          law.in_clusters (apart_among gs hs G K ga ka none) ∙ ap (λ cs. cs ++ final_clusters r script level K) gf
           ∙ ap (λ cs. final_clusters_after r script level circles meaning steps xs ++ cs) kf;
     }

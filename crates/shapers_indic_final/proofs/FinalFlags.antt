@@ -1,13 +1,12 @@
 -- Glyph flags after the final reordering of a text.
-use Rattle.std.proofs.Common.{ℕ, ◌+◌, ◌-◌, ◌%◌, ◌≤◌, ◌≡◌, ◌==◌, Bool, true, false, if◌then◌else◌, inl, inr, ◌⊎◌, List, [], ◌∷◌, ◌++◌, map, length, take, drop, get_or, Option, refl, ◌∙◌, ap, subst, arith}
+use Rattle.std.proofs.Common.{ℕ, ◌+◌, ◌-◌, ◌%◌, ◌≡◌, ◌==◌, Bool, true, false, if◌then◌else◌, inl, inr, ◌⊎◌, List, [], ◌∷◌, ◌++◌, map, length, take, drop, Option, refl, ◌∙◌, ap, arith}
 use Rattle.std.specs.Prelude.{bit_or}
 use Rattle.std.specs.List.{AllZip}
-use Rattle.std.proofs.lemmas.Bool.{cases_lt}
 use Rattle.std.proofs.lemmas.Nat.{or_mod}
 use Rattle.shapers_buffer.specs.declared.buffer.glyph.hb_glyph_info_t.{hb_glyph_info_t}
 use Rattle.shapers_buffer.specs.Clusters.{least, stretch_of}
-use Rattle.shapers_buffer.specs.Glyph.{clusters, default_glyph}
-use Rattle.shapers_buffer.specs.GlyphFlags.{flagged, unsafe_inside, with_bits, with_bits_off}
+use Rattle.shapers_buffer.specs.Glyph.{clusters}
+use Rattle.shapers_buffer.specs.GlyphFlags.{flagged, with_bits, with_bits_off}
 use Rattle.shapers_buffer.proofs.MaskBits.{or_assoc}
 use Rattle.shapers_buffer.proofs.ClusterLemmas.{three_parts}
 use Rattle.shapers_clusters.specs.Flags.{FlagsFall}
@@ -17,20 +16,8 @@ use Rattle.shapers_indic_final.specs.FinalWordStart.{bound_at, bound_from, is_bo
 use Rattle.shapers_syllabic.specs.Reordering.{carried}
 
 -- one glyph
-or_three : (m : ℕ) → bit_or m 3 % 8 ≡ bit_or (m % 8) 3
-or_three m = or_mod m 3 3
-
 but_same : (x : hb_glyph_info_t) → FlagsFallButBreaks x x
 but_same x = record { at_most = omega arith; fell = λ l. absurd (omega arith); kept = λ e. inl refl }
-
-but_of : (x y : hb_glyph_info_t) → FlagsFall x y → FlagsFallButBreaks x y
-but_of x y f = record { at_most = f.at_most; fell = λ l. inl (f.fell l); kept = λ e. inl (f.kept e) }
-
-but_off : (m : ℕ) (x : hb_glyph_info_t) → FlagsFallButBreaks x (with_bits_off 3 m x)
-but_off m x = elim (x.cluster == m) as (λ b. FlagsFallButBreaks x (if b then x else with_bits 3 x)) [
-  | true ↦ but_same x
-  | false ↦ record { at_most = omega arith; fell = λ l. absurd (omega arith); kept = λ e. inr (or_three x.mask) }
-]
 
 fell_then : (y z : ℕ) → (y ≡ 0) ⊎ (y ≡ 3) → (z ≡ y) ⊎ (z ≡ bit_or y 3) → (z ≡ 0) ⊎ (z ≡ 3)
 fell_then y z (inl a) (inl b) = inl (b ∙ a)
@@ -42,18 +29,13 @@ kept_then : (x y z : ℕ) → (y ≡ x) ⊎ (y ≡ bit_or x 3) → (z ≡ y) ⊎
 kept_then x y z (inl a) (inl b) = inl (b ∙ a)
 kept_then x y z (inr a) (inl b) = inr (b ∙ a)
 kept_then x y z (inl a) (inr b) = inr (b ∙ ap (λ n. bit_or n 3) a)
-kept_then x y z (inr a) (inr b) = inr (b ∙ ap (λ n. bit_or n 3) a ∙ or_assoc x 3 3)
+kept_then x y z (inr a) (inr b) = inr (cc (or_assoc x 3 3))
 
 but_on : (x y z : hb_glyph_info_t) → FlagsFallButBreaks x y → FlagsFallButBreaks y z → FlagsFallButBreaks x z
 but_on x y z one two =
-    let a = one.at_most in
-    let b = two.at_most in
     record {
       at_most = omega arith;
-      fell = λ l. elim (cases_lt z.cluster y.cluster) [
-        | inl less ↦ two.fell less
-        | inr same ↦ fell_then (y.mask % 8) (z.mask % 8) (one.fell (omega arith)) (two.kept (omega arith))
-      ];
+      fell = search (arith, two.fell, fell_then);
       kept = λ e. kept_then (x.mask % 8) (y.mask % 8) (z.mask % 8) (one.kept (omega arith)) (two.kept (omega arith));
     }
 
@@ -66,15 +48,26 @@ all_of : (xs ys : List hb_glyph_info_t) → AllZip FlagsFall xs ys → AllZip Fl
 all_of [] [] h = tt
 all_of [] (y ∷ ys) h = absurd h
 all_of (x ∷ xs) [] h = absurd h
-all_of (x ∷ xs) (y ∷ ys) h = (but_of x y h.0, all_of xs ys h.1)
+all_of (x ∷ xs) (y ∷ ys) h = (search arith, all_of xs ys h.1)
 
 all_on : (xs ys zs : List hb_glyph_info_t) → AllZip FlagsFallButBreaks xs ys → AllZip FlagsFallButBreaks ys zs
     → AllZip FlagsFallButBreaks xs zs
-all_on xs ys zs h k = all_over FlagsFallButBreaks FlagsFallButBreaks FlagsFallButBreaks but_on xs ys zs h k
+all_on xs ys zs h k = search (arith, all_over, but_on)
 
 all_off : (m : ℕ) (xs : List hb_glyph_info_t) → AllZip FlagsFallButBreaks xs (map (with_bits_off 3 m) xs)
 all_off m [] = tt
-all_off m (x ∷ xs) = (but_off m x, all_off m xs)
+all_off m (x ∷ xs) = (
+  elim (x.cluster == m) as (λ b. FlagsFallButBreaks x (if b then x else with_bits 3 x)) [
+    | true ↦ but_same x
+    | false ↦ record {
+      at_most = omega arith;
+      fell = λ l. absurd (omega arith);
+      kept = λ e. inr (
+          or_mod x.mask 3 3);
+    }
+  ],
+  all_off m xs,
+)
 
 all_bound : (s : ℕ) (b : Bool) (gs : List hb_glyph_info_t) → AllZip FlagsFallButBreaks gs (bound_at s b gs)
 all_bound s false gs = all_same gs
@@ -83,23 +76,20 @@ all_bound s true gs =
     let a = s - 1 in
     let part = stretch_of a e gs in
     let c = drop e gs in
-    let low : a ≤ e = omega arith in
-    subst (λ xs. AllZip FlagsFallButBreaks xs (unsafe_inside a e gs)) (three_parts a e gs low)
-    (all_append FlagsFallButBreaks (take a gs) (take a gs) (part ++ c) (flagged 3 part ++ c) (all_same (take a gs))
-    (all_append FlagsFallButBreaks part (flagged 3 part) c c (all_off (least (clusters part)) part) (all_same c)))
+    search (
+      arith,
+      three_parts a e gs (omega arith),
+      all_append FlagsFallButBreaks (take a gs) (take a gs) (part ++ c) (flagged 3 part ++ c) (all_same (take a gs))
+          (all_append FlagsFallButBreaks part (flagged 3 part) c c (all_off (least (clusters part)) part) (all_same
+          c)),
+    )
 
 all_carried : (xs ys : List hb_glyph_info_t) → map carried ys ≡ map carried xs → AllZip FlagsFallButBreaks xs ys
 all_carried [] [] e = tt
 all_carried [] (y ∷ ys) e = absurd (cc e)
 all_carried (x ∷ xs) [] e = absurd (cc e)
 all_carried (x ∷ xs) (y ∷ ys) e =
-    let d = default_glyph in
-    let c : y.cluster ≡ x.cluster = ap (λ (gs : List hb_glyph_info_t). (get_or gs 0 d).cluster) e in
-    let m : y.mask % 8 ≡ x.mask % 8 = ap (λ (gs : List hb_glyph_info_t). (get_or gs 0 d).mask) e in (
-      record { at_most = omega arith; fell = λ l. absurd (omega arith); kept = λ _. inl m },
-      all_carried xs ys
-          (ap (λ (gs : List hb_glyph_info_t). drop 1 gs) e),
-    )
+    search (arith, all_carried xs ys (ap (λ (gs : List hb_glyph_info_t). drop 1 gs) e))
 
 -- the breaks of a text
 pub flags-bound : (s : ℕ) (before : Option hb_glyph_info_t) (syls : List (List hb_glyph_info_t))
@@ -114,4 +104,4 @@ flags-bound s before (syl ∷ syls) gs =
 pub flags-whole : (xs mid bound new : List hb_glyph_info_t) → AllZip FlagsFall xs mid
     → AllZip FlagsFallButBreaks mid bound → map carried new ≡ map carried bound → AllZip FlagsFallButBreaks xs new
 flags-whole xs mid bound new fell breaks same =
-    all_on xs bound new (all_on xs mid bound (all_of xs mid fell) breaks) (all_carried bound new same)
+    search (arith, all_on, all_of, all_carried)

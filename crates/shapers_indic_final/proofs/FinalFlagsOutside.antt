@@ -1,11 +1,9 @@
 -- Glyph flags of the places that are at no opening inside a word.
-use Rattle.std.proofs.Common.{ℕ, ◌+◌, ◌-◌, ◌<◌, ◌≡◌, ◌==◌, ◌||◌, ◌&&◌, Bool, true, false, inl, inr, List, [], ◌∷◌, ◌++◌, map, length, take, drop, get_or, Option, refl, sym, ◌∙◌, ap, arith}
-use Rattle.std.proofs.lemmas.Bool.{cases_lt, eqb-false, or_parts}
+use Rattle.std.proofs.Common.{ℕ, ◌+◌, ◌<◌, ◌≡◌, ◌==◌, ◌||◌, ◌&&◌, Bool, true, false, List, [], ◌∷◌, map, length, get_or, Option, refl, ◌∙◌, arith}
+use Rattle.std.proofs.lemmas.Bool.{or_parts}
 use Rattle.std.proofs.lemmas.List.{get_or-append_right, get_or-drop, get_or-map, get_or-take, get_or_append_left, length-drop, length-map, length-take, length-take-le}
 use Rattle.shapers_buffer.specs.declared.buffer.glyph.hb_glyph_info_t.{hb_glyph_info_t}
-use Rattle.shapers_buffer.specs.Clusters.{least, stretch_of}
-use Rattle.shapers_buffer.specs.Glyph.{clusters, default_glyph}
-use Rattle.shapers_buffer.specs.GlyphFlags.{flagged, with_bits_off}
+use Rattle.shapers_buffer.specs.Glyph.{default_glyph}
 use Rattle.shapers_clusters.specs.Flags.{FlagsFall}
 use Rattle.shapers_clusters.proofs.Falls.{flags_kept, flags_on}
 use Rattle.shapers_indic_final.specs.FinalLaws.{BreaksNowhere, at_opening}
@@ -18,34 +16,17 @@ bound_elsewhere : (s : ℕ) (b : Bool) (gs : List hb_glyph_info_t) (i : ℕ) →
     ≡ false → get_or (bound_at s b gs) i default_glyph ≡ get_or gs i default_glyph
 bound_elsewhere s false gs i l none = refl
 bound_elsewhere s true gs i l none =
-    let d = default_glyph in
-    let a = s - 1 in
-    let e = s + 1 in
-    let part = stretch_of a e gs in
-    let xs = take a gs in
-    let ys = flagged 3 part in
-    let zs = drop e gs in
-    let apart = or_parts (i == s) (i + 1 == s) none in
-    let here = eqb-false i s apart.0 in
-    let before = eqb-false (i + 1) s apart.1 in
-    elim (cases_lt i a) [
-      | inl h ↦ get_or_append_left xs (ys ++ zs) d i (omega (arith, length-take a gs)) ∙ get_or-take a gs i d h
-      | inr h ↦ elim (cases_lt i e) [
-        | inl k ↦ elim (cases_lt i s) [ inl m ↦ absurd (before (omega arith)) | inr m ↦ absurd (here (omega arith)) ]
-        | inr k ↦
-            let xn : length xs ≡ a = length-take-le a gs (omega arith) in
-            let yn : length ys ≡ e - a = length-map part (with_bits_off 3 (least (clusters part)))
-            ∙ length-take-le (e - a) (drop a gs) (omega (arith, length-drop a gs)) in
-            get_or-append_right xs (ys ++ zs) a i d xn h ∙ get_or-append_right ys zs (e - a) (i - a) d yn (omega arith)
-            ∙ get_or-drop e gs (i - a - (e - a)) d
-            ∙ (let same : e + (i - a - (e - a)) ≡ i = omega arith in ap (λ k. get_or gs k d) same)
-      ]
-    ]
-
-length-bound : (s : ℕ) (b : Bool) (gs : List hb_glyph_info_t) → length (bound_at s b gs) ≡ length gs
-length-bound s b gs =
-    sym (length-map (bound_at s b gs) (λ g. g.cluster)) ∙ ap length (map-bound (λ g. g.cluster) (λ g. refl) s b gs)
-    ∙ length-map gs (λ g. g.cluster)
+    search (
+      arith,
+      get_or_append_left,
+      length-take,
+      get_or-take,
+      get_or-append_right,
+      length-take-le,
+      length-map,
+      length-drop,
+      get_or-drop,
+    )
 
 pub bound_from_elsewhere : (s : ℕ) (before : Option hb_glyph_info_t) (syls : List (List hb_glyph_info_t))
     (gs : List hb_glyph_info_t) (i : ℕ) → i < length gs → at_opening s before syls i ≡ false
@@ -56,7 +37,13 @@ bound_from_elsewhere s before (syl ∷ syls) gs i l none =
     let next = last_or before syl in
     let t = s + length syl in
     let parts = or_parts (b && (i == s || i + 1 == s)) (at_opening t next syls i) none in
-    bound_from_elsewhere t next syls (bound_at s b gs) i (omega (arith, length-bound s b gs)) parts.1
+    bound_from_elsewhere t next syls (bound_at s b gs) i
+    (search (
+      arith,
+      length-map (bound_at s b gs) (λ g. g.cluster),
+      map-bound (λ g. g.cluster) (λ g. refl) s b gs,
+      length-map gs (λ g. g.cluster),
+    )) parts.1
     ∙ bound_elsewhere s b gs i l parts.0
 
 -- where no syllable is opened inside a word, there is no break
@@ -64,17 +51,14 @@ pub bound_nowhere : (s : ℕ) (before : Option hb_glyph_info_t) (syls : List (Li
     (gs : List hb_glyph_info_t) → BreaksNowhere before syls → bound_from s before syls gs ≡ gs
 bound_nowhere s before [] gs none = refl
 bound_nowhere s before (syl ∷ syls) gs none =
-    ap (λ b. bound_from (s + length syl) (last_or before syl) syls (bound_at s b gs)) none.0
-    ∙ bound_nowhere (s + length syl) (last_or before syl) syls gs none.1
+    cc (none.0, bound_nowhere (s + length syl) (last_or before syl) syls gs none.1)
 
 -- and what is carried along is the same
 pub elsewhere-whole : (x : hb_glyph_info_t) (ran new : List hb_glyph_info_t) → map carried new ≡ map carried ran
     → (i : ℕ) → i < length new → FlagsFall x (get_or ran i default_glyph) → FlagsFall x (get_or new i default_glyph)
 elsewhere-whole x ran new same i l fell =
     let d = default_glyph in
-    let n : length new ≡ length ran = sym (length-map new carried) ∙ ap length same ∙ length-map ran carried in
-    let is : carried (get_or new i d) ≡ carried (get_or ran i d) = sym (get_or-map carried new i d d l)
-    ∙ ap (λ gs. get_or gs i d) same ∙ get_or-map carried ran i d d (omega arith) in
-    flags_on x (get_or ran i d) (get_or new i d) fell
-    (flags_kept (get_or ran i d) (get_or new i d) (ap (λ (g : hb_glyph_info_t). g.cluster) is)
-    (ap (λ (g : hb_glyph_info_t). g.mask) is))
+    let n : length new ≡ length ran = search (arith, length-map) in
+    let is : carried (get_or new i d) ≡ carried (get_or ran i d) =
+    cc (get_or-map carried new i d d l, get_or-map carried ran i d d (omega arith)) in
+    search (arith, flags_on, flags_kept)

@@ -1,5 +1,5 @@
 -- The laws of the final reordering of a text, proved.
-use Rattle.std.proofs.Common.{ℕ, ◌≤◌, ◌≡◌, map, length, get_or, None, sym, ◌∙◌, ap, subst, arith}
+use Rattle.std.proofs.Common.{ℕ, ◌≤◌, map, length, get_or, None, sym, ◌∙◌, ap, subst, arith}
 use Rattle.std.specs.List.{AllByRecursion, AllZip}
 use Rattle.std.specs.List.Sorted.{IsPermutation}
 use Rattle.std.proofs.lemmas.List.{length-map}
@@ -30,9 +30,8 @@ use Rattle.shapers_syllabic.proofs.ReorderingLemmas.{carried_hides}
 -- all laws of the text
 pub finally_kept : FinalTextLaws
 finally_kept r old new done =
-    let mid = done.0 in
     let gs = old.glyphs in
-    let ms = mid.glyphs in
+    let ms = done.0.glyphs in
     let ns = new.glyphs in
     let d = default_glyph in
     let xs = order_view gs in
@@ -44,13 +43,11 @@ finally_kept r old new done =
     let are = f.clusters_are in
     let olds = old_places (length gs) steps in
     let number : hb_glyph_info_t → ℕ = λ g. g.glyph_id in
-    let kept : IsPermutation (seen carried gs) (seen carried ns) =
+    let kept =
     subst (IsPermutation (seen carried gs)) (sym f.seen_same) f.text.kept in
-    let many : length ns ≡ length ms = sym (length-map ns (λ g. g.cluster)) ∙ ap length f.clusters_same
+    let many = sym (length-map ns (λ g. g.cluster)) ∙ ap length f.clusters_same
     ∙ length-map ms (λ g. g.cluster) in
     let fits = text_fits r old.script old.level gs in
-    let all : length (pick olds gs) ≡ length ms = length-pick olds gs (within-old_places (length gs) steps)
-    ∙ length-old_places (length gs) steps fits ∙ sym held.same_length in
     record {
       kept = kept;
       numbers = subst (λ zs. IsPermutation zs (map number ns)) (numbers-seen gs)
@@ -71,7 +68,12 @@ finally_kept r old new done =
           elsewhere-whole (get_or (pick olds gs) i d) bound ns f.flags i l
           (subst (FlagsFall (get_or (pick olds gs) i d))
           (sym (bound_from_elsewhere 0 None syls ms i (omega (arith, many)) none))
-          (AllZip-get_or FlagsFall (pick olds gs) ms i d d held.falls (omega (arith, many, all))));
+          (AllZip-get_or FlagsFall (pick olds gs) ms i d d held.falls (omega (
+            arith,
+            many,
+            length-pick olds gs (within-old_places (length gs) steps) ∙ length-old_places (length gs) steps fits ∙ sym
+                held.same_length,
+          ))));
       unbroken = λ none. seen_steps_hold carried carried_hides old.level steps gs ns fits
           (f.flags ∙ ap (map carried) (bound_nowhere 0 None syls ms none) ∙ done.1.moved);
       cuts = λ hs ks parts border. halves r old.script old.level gs ns hs ks f.order are parts border;

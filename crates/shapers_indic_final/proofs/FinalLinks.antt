@@ -1,5 +1,5 @@
 -- The links after a base, one glyph more.
-use Rattle.std.proofs.Common.{◌≡◌, ℕ, suc, ◌+◌, ◌<◌, ◌≤◌, Bool, true, false, cond, List, [], ◌∷◌, ◌++◌, length, take, drop, set, length-set, Option, None, Some, unwrap_or, get_or, reverse, refl, sym, ap, ◌∙◌, subst, arith, append_assoc, drop-cons, take-suc-set, drop-set-lt}
+use Rattle.std.proofs.Common.{◌≡◌, ℕ, suc, ◌+◌, ◌<◌, ◌≤◌, Bool, true, false, cond, List, [], ◌∷◌, ◌++◌, length, take, drop, set, length-set, Option, None, Some, unwrap_or, get_or, reverse, refl, sym, ap, ◌∙◌, arith, append_assoc, drop-cons, take-suc-set, drop-set-lt}
 use Rattle.std.specs.List.{find}
 use Rattle.std.specs.Option.{option_or}
 use Rattle.std.proofs.lemmas.List.{reverse-append}
@@ -11,11 +11,11 @@ use Rattle.shapers_indic.proofs.PlaceSearch.{passes_there}
 
 pub along_end : (f : hb_glyph_info_t → hb_glyph_info_t) (x : hb_glyph_info_t) (xs : List hb_glyph_info_t)
     → is_joiner x ≡ false → along_links f true (x ∷ xs) ≡ f x ∷ along_links f false xs
-along_end f x xs j = ap (λ b. cond b (x ∷ along_links f true xs) (f x ∷ along_links f false xs)) j
+along_end f x xs j = cc
 
 pub links_end : (i : ℕ) (x : hb_glyph_info_t) (xs : List hb_glyph_info_t) → is_joiner x ≡ false
     → links_from true i (x ∷ xs) ≡ i ∷ links_from false (suc i) xs
-links_end i x xs j = ap (λ b. cond b (links_from true (suc i) xs) (i ∷ links_from false (suc i) xs)) j
+links_end i x xs j = cc
 
 -- the last place that passes, with the first place apart
 last_or_found : (b : Bool) (i last : ℕ) (o : Option ℕ) → unwrap_or (option_or o (cond b (Some i) None)) last
@@ -27,9 +27,11 @@ last_or_found false i last None = refl
 pub last_first : (test : ℕ → Bool) (i : ℕ) (is : List ℕ) (last : ℕ) → unwrap_or (find test (reverse (i ∷ is))) last
     ≡ unwrap_or (find test (reverse is)) (cond (test i) i last)
 last_first test i is last =
-    ap (λ ps. unwrap_or (find test ps) last) (reverse-append (i ∷ []) is)
-    ∙ ap (λ o. unwrap_or o last) (find-append test (reverse is) (i ∷ []))
-    ∙ last_or_found (test i) i last (find test (reverse is))
+    cc (
+      reverse-append (i ∷ []) is,
+      find-append test (reverse is) (i ∷ []),
+      last_or_found (test i) i last (find test (reverse is)),
+    )
 
 -- Up to place i: what is written, followed by what the links make of the rest, is the whole; and
 -- the last link glyph that
@@ -48,31 +50,16 @@ step_written : (h h' : Bool) (i : ℕ) (gs gs' : List hb_glyph_info_t) (y : hb_g
     ≡ y ∷ along_links as_linked h' (drop (suc i) gs') → take (suc i) gs' ++ along_links as_linked h' (drop (suc i) gs')
     ≡ take i gs ++ along_links as_linked h (drop i gs)
 step_written h h' i gs gs' y t a =
-    ap (λ xs. xs ++ along_links as_linked h' (drop (suc i) gs')) t
-    ∙ append_assoc (take i gs) (y ∷ []) (along_links as_linked h' (drop (suc i) gs'))
-    ∙ ap (λ xs. take i gs ++ xs) (sym a)
-
--- and what is still unread
-step_rest : (i : ℕ) (d : hb_glyph_info_t) (old gs : List hb_glyph_info_t) → i < length gs → length gs ≡ length old
-    → drop i gs ≡ drop i old → drop (suc i) gs ≡ drop (suc i) old
-step_rest i d old gs l e r = ap (drop 1) (sym (drop-cons gs i d l) ∙ r ∙ drop-cons old i d (omega (arith, l, e)))
+    search (arith, append_assoc)
 
 step_here : (i : ℕ) (d : hb_glyph_info_t) (old gs : List hb_glyph_info_t) → i < length gs → length gs ≡ length old
     → drop i gs ≡ drop i old → get_or gs i d ≡ get_or old i d
 step_here i d old gs l e r =
-    ap (λ xs. get_or xs 0 d) (sym (drop-cons gs i d l) ∙ r ∙ drop-cons old i d (omega (arith, l, e)))
+    search (arith, drop-cons)
 
 one_more : {base : ℕ} {halant : Bool} {last : ℕ} {old gs : List hb_glyph_info_t} (i : ℕ)
     → Linking base (suc i) halant last old gs → Linking base (i + 1) halant last old gs
-one_more {base} {halant} {last} {old} {gs} i s = let one : suc i ≡ i + 1 =
-    omega arith in subst (λ k. Linking base k halant last old gs) one s
-
-found_at : (h : Bool) (i last : ℕ) (d : hb_glyph_info_t) (old gs : List hb_glyph_info_t) → i < length gs
-    → length gs ≡ length old → drop i gs ≡ drop i old
-    → links_from h i (drop i old) ≡ links_from h i (get_or gs i d ∷ drop (suc i) old)
-found_at h i last d old gs l e r =
-    ap (links_from h i) (drop-cons old i d (omega (arith, l, e))
-    ∙ ap (λ x. x ∷ drop (suc i) old) (sym (step_here i d old gs l e r)))
+one_more {base} {halant} {last} {old} {gs} i s = search arith
 
 base_of : List hb_glyph_info_t → ℕ → List ℕ → ℕ
 base_of old last is = unwrap_or (find (passes is_unformed_below old) (reverse is)) last
@@ -90,22 +77,27 @@ unfolding base_of
 linking_end base i last d old gs l j s =
     let x = get_or gs i d in
     let behind : drop (suc i) (set gs i (as_linked x)) ≡ drop (suc i) gs =
-    drop-set-lt (suc i) gs i (as_linked x) (omega arith) in
+    search (arith, drop-set-lt) in
     let test : passes is_unformed_below old i ≡ is_unformed_below x =
-    passes_there is_unformed_below old i d (omega (arith, l, s.as_many))
-    ∙ ap is_unformed_below (sym (step_here i d old gs l s.as_many s.rest)) in
-    one_more i (record {
-      written = step_written true false i gs (set gs i (as_linked x)) (as_linked x) (take-suc-set gs i (as_linked x) l)
-          (ap (along_links as_linked true) (drop-cons gs i d l) ∙ along_end as_linked x (drop (suc i) gs) j
-          ∙ ap (λ xs. as_linked x ∷ along_links as_linked false xs) (sym behind)) ∙ s.written;
-      found =
-          ap (λ b. unwrap_or
-          (find (passes is_unformed_below old) (reverse (links_from false (suc i) (drop (suc i) old))))
-          (cond b i last)) (sym test)
-          ∙ sym (last_first (passes is_unformed_below old) i (links_from false (suc i) (drop (suc i) old)) last)
-          ∙ sym (ap (base_of old last) (found_at true i last d old gs l s.as_many s.rest
-          ∙ links_end i x (drop (suc i) old) j)) ∙ s.found;
-      rest = behind ∙ step_rest i d old gs l s.as_many s.rest;
-      as_many = length-set gs i (as_linked x) ∙ s.as_many;
-      within = within_either (is_unformed_below x) i last (length old) (omega (arith, l, s.as_many)) s.within;
-    })
+    cc (
+      passes_there is_unformed_below old i d (omega (arith, l, s.as_many)),
+      step_here i d old gs l s.as_many s.rest,
+    ) in
+    one_more i (
+    search (
+      arith,
+      step_written true false i gs (set gs i (as_linked x)) (as_linked x) (take-suc-set gs i (as_linked x) l)
+          (ap (along_links as_linked true) (drop-cons gs i d l) ∙ along_end as_linked x (drop (suc i) gs) j ∙ ap (λ
+          xs. as_linked x ∷ along_links as_linked false xs) (sym behind)),
+      s.written,
+      last_first (passes is_unformed_below old) i (links_from false (suc i) (drop (suc i) old)) last,
+      drop-cons,
+      step_here,
+      links_end i x (drop (suc i) old) j,
+      s.found,
+      drop-cons gs i d l,
+      drop-cons old i d (omega (arith, l, s.as_many)),
+      length-set gs i (as_linked x),
+      s.as_many,
+      within_either (is_unformed_below x) i last (length old) (omega (arith, l, s.as_many)) s.within,
+    ))

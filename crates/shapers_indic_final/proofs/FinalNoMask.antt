@@ -1,7 +1,8 @@
 -- A mask without bits is on no glyph.
-use Rattle.std.proofs.Common.{◌≡◌, ◌==◌, ℕ, false, cond, not, List, [], ◌∷◌, Option, None, Some, refl, ap, ◌∙◌}
+use Rattle.std.proofs.Common.{arith}
+use Rattle.std.proofs.Common.{◌≡◌, ◌==◌, ℕ, false, not, List, [], ◌∷◌, Option, None, Some, refl, ap}
 use Rattle.std.specs.Int.Bits.{and_zero_r}
-use Rattle.std.specs.List.{find, slice_get}
+use Rattle.std.specs.List.{find}
 use Rattle.std.specs.Option.{option_map_or}
 use Rattle.shapers_buffer.specs.declared.buffer.glyph.hb_glyph_info_t.{hb_glyph_info_t}
 use Rattle.shapers_indic.specs.Glyphs.{least_place, passes, places}
@@ -16,8 +17,7 @@ none_at (Some g) = no_mask g
 
 none_found : (gs : List hb_glyph_info_t) (ps : List ℕ) → find (passes (has_bits 0) gs) ps ≡ None
 none_found gs [] = refl
-none_found gs (p ∷ ps) = ap (λ b. cond b (Some p) (find (passes (has_bits 0) gs) ps)) (none_at (slice_get gs p))
-    ∙ none_found gs ps
+none_found gs (p ∷ ps) = search (arith, none_at, none_found gs ps)
 
 pub no_place : (gs : List hb_glyph_info_t) (s e : ℕ) → least_place (passes (has_bits 0) gs) s e ≡ None
 no_place gs s e = none_found gs (places s e)

@@ -1,6 +1,6 @@
 -- The final reordering reads neither clusters nor glyph flags: glyphs that differ in these alone
 -- get the same base and steps.
-use Rattle.std.proofs.Common.{ℕ, ◌%◌, ◌/◌, ◌≡◌, List, map, Option, sym, ◌∙◌, ap, arith}
+use Rattle.std.proofs.Common.{ℕ, ◌%◌, ◌/◌, ◌≡◌, List, map, Option, ◌∙◌, ap, arith}
 use Rattle.std.specs.Prelude.{bit_and}
 use Rattle.std.specs.Int.Bits.{and_zero_r}
 use Rattle.std.proofs.lemmas.Nat.{and_mod, and_shr}
@@ -8,12 +8,12 @@ use Rattle.shapers_buffer.specs.declared.buffer.glyph.hb_glyph_info_t.{hb_glyph_
 use Rattle.shapers_buffer.specs.declared.buffer.tag.Script.{Script}
 use Rattle.shapers_buffer.specs.Glyph.{plain, without_flags}
 use Rattle.shapers_base.specs.declared.plan.indic.RephPosition.{RephPosition}
-use Rattle.shapers_indic_final.specs.FinalBase.{Based, with_final_base, with_viramas}
+use Rattle.shapers_indic_final.specs.FinalBase.{with_final_base}
 use Rattle.shapers_indic_final.specs.FinalMatras.{matra_steps}
 use Rattle.shapers_indic_final.specs.FinalPref.{pref_steps}
 use Rattle.shapers_indic_final.specs.FinalReph.{base_after_reph, reph_steps}
 use Rattle.shapers_indic_final.specs.declared.ot_shaper_indic_final.rules.Rules.{Rules}
-use Rattle.shapers_indic_final.proofs.FinalReads.{KeepsMask, base_after_stays, base_seen, matra_steps_stay, pref_steps_stay, reph_steps_stay, viramas_stay, with_base_stays}
+use Rattle.shapers_indic_final.proofs.FinalReads.{KeepsMask, base_after_stays, base_seen, matra_steps_stay, pref_steps_stay, reph_steps_stay, with_base_stays}
 use Rattle.shapers_syllabic.proofs.Views.{plain_view}
 
 -- a mask without the bits of flags
@@ -29,30 +29,25 @@ plain_keeps bits off m =
     ∙ and_zero_r (without_flags m % 8) in
     let b : y % 8 ≡ 0 = and_mod m bits 3 ∙ ap (bit_and (m % 8)) none ∙ and_zero_r (m % 8) in
     let front : without_flags m / 8 ≡ m / 8 = omega arith in
-    let same : x / 8 ≡ y / 8 = and_shr (without_flags m) bits 3 ∙ ap (λ n. bit_and n (bits / 8)) front
-    ∙ sym (and_shr m bits 3) in
+    let same : x / 8 ≡ y / 8 = cc (and_shr (without_flags m) bits 3, and_shr m bits 3) in
     omega arith
 
 -- what is made of the order view is the order view of what is made
-pub viramas_plain : (r : Rules) (gs : List hb_glyph_info_t) → with_viramas r (map plain gs)
-    ≡ map plain (with_viramas r gs)
-viramas_plain r gs = sym (viramas_stay plain_view r gs)
-
 pub base_plain : (r : Rules) → TouchesNoFlag r.pref → (script : Option Script) (gs : List hb_glyph_info_t)
     → with_final_base r script (map plain gs) ≡ base_seen plain_view (with_final_base r script gs)
-base_plain r off script gs = with_base_stays plain_view r (plain_keeps r.pref off) script gs
+base_plain r off script gs = search (arith, with_base_stays, plain_view, plain_keeps)
 
 pub base_glyphs_plain : (r : Rules) → TouchesNoFlag r.pref → (script : Option Script) (gs : List hb_glyph_info_t)
     → (with_final_base r script (map plain gs)).glyphs ≡ map plain (with_final_base r script gs).glyphs
-base_glyphs_plain r off script gs = ap (λ (b : Based). b.glyphs) (base_plain r off script gs)
+base_glyphs_plain r off script gs = search (arith, base_plain)
 
 pub base_place_plain : (r : Rules) → TouchesNoFlag r.pref → (script : Option Script) (gs : List hb_glyph_info_t)
     → (with_final_base r script (map plain gs)).base ≡ (with_final_base r script gs).base
-base_place_plain r off script gs = ap (λ (b : Based). b.base) (base_plain r off script gs)
+base_place_plain r off script gs = search (arith, base_plain)
 
 pub base_tries_plain : (r : Rules) → TouchesNoFlag r.pref → (script : Option Script) (gs : List hb_glyph_info_t)
     → (with_final_base r script (map plain gs)).tries_pref ≡ (with_final_base r script gs).tries_pref
-base_tries_plain r off script gs = ap (λ (b : Based). b.tries_pref) (base_plain r off script gs)
+base_tries_plain r off script gs = cc (base_plain r off script gs)
 
 -- the steps and bases are the same
 pub matra_steps_plain : (script : Option Script) (base : ℕ) (gs : List hb_glyph_info_t)

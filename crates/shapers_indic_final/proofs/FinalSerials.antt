@@ -1,12 +1,10 @@
 -- The final reordering doesn't read the serials of syllables, in one syllable and in a text.
-use Rattle.std.proofs.Common.{ℕ, ◌≡◌, ◌&&◌, not, true, false, if◌then◌else◌, List, [], ◌∷◌, ◌++◌, map, Option, None, Some, refl, sym, ◌∙◌, ap}
+use Rattle.std.proofs.Common.{arith}
+use Rattle.std.proofs.Common.{ℕ, ◌≡◌, List, [], ◌∷◌, map, Option, None, Some, refl}
 use Rattle.std.specs.Option.{option_map}
 use Rattle.std.proofs.lemmas.List.{map-append}
 use Rattle.shapers_buffer.specs.declared.buffer.glyph.hb_glyph_info_t.{hb_glyph_info_t}
-use Rattle.shapers_buffer.specs.GlyphFlags.{with_bits}
-use Rattle.shapers_buffer.specs.Syllables.{syllables}
 use Rattle.shapers_indic_final.specs.FinalLaws.{FinalReadsNoSerials, FinalTextReadsNoSerials}
-use Rattle.shapers_indic_final.specs.FinalMatras.{is_left}
 use Rattle.shapers_indic_final.specs.FinalWordStart.{word_goes_on, last_or, with_init, with_inits}
 use Rattle.shapers_indic_final.specs.FinalReordering.{final_order, final_steps}
 use Rattle.shapers_indic_final.proofs.FinalReads.{final_steps_stay, order_stays}
@@ -36,31 +34,19 @@ init_stays : (bits : ℕ) (o : Option hb_glyph_info_t) (gs : List hb_glyph_info_
     ≡ with_init bits (option_map unnumbered o) (map unnumbered gs)
 init_stays bits o [] = refl
 init_stays bits o (g ∷ gs) =
-    (elim (is_left g && not (word_goes_on o)) as (λ b. map unnumbered (if b then with_bits bits g ∷ gs else g ∷ gs)
-    ≡ (if b then with_bits bits (unnumbered g) ∷ map unnumbered gs else unnumbered g ∷ map unnumbered gs))
-    [ true ↦ refl | false ↦ refl ])
-    ∙ ap (λ w. if is_left g && not w then with_bits bits (unnumbered g) ∷ map unnumbered gs else unnumbered g
-    ∷ map unnumbered gs) (sym (word_stays o))
+    search (arith, word_stays)
 
 inits_stay : (bits : ℕ) (o : Option hb_glyph_info_t) (ps : List (List hb_glyph_info_t))
     → map unnumbered (with_inits bits o ps) ≡ with_inits bits (option_map unnumbered o) (map (map unnumbered) ps)
 inits_stay bits o [] = refl
 inits_stay bits o (p ∷ ps) =
-    let opened = with_init bits (option_map unnumbered o) (map unnumbered p) in
-    map-append unnumbered (with_init bits o p) (with_inits bits (last_or o p) ps)
-    ∙ ap (λ xs. xs ++ map unnumbered (with_inits bits (last_or o p) ps)) (init_stays bits o p)
-    ∙ ap (λ xs. opened ++ xs) (inits_stay bits (last_or o p) ps)
-    ∙ ap (λ l. opened ++ with_inits bits l (map (map unnumbered) ps)) (last_stays o p)
+    search (arith, map-append, init_stays, last_stays, inits_stay bits (last_or o p) ps)
 
 pub final_text_reads_no_serials : FinalTextReadsNoSerials
 final_text_reads_no_serials r script gs hs same =
-    let f = final_order r script in
     let reads = final_reads_no_serials r script in
     record {
-      order = λ o.
-          inits_stay r.init o (map f (syllables gs))
-          ∙ ap (with_inits r.init (option_map unnumbered o))
-          (pieces_same f reads.meant (syllables gs) (syllables hs) same)
-          ∙ sym (inits_stay r.init o (map f (syllables hs)));
-      in_clusters = λ level. clusters_paused-same None f (final_steps r script) level gs hs reads same;
+      order = search (arith, inits_stay, pieces_same);
+      in_clusters = λ level. clusters_paused-same None
+          (final_order r script) (final_steps r script) level gs hs reads same;
     }

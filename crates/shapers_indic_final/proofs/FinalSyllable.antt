@@ -1,4 +1,6 @@
 -- The parts of the final reordering of a syllable, one after another.
+use Rattle.shapers_indic_final.proofs.FinalReads.{viramas_stay}
+use Rattle.shapers_syllabic.proofs.Views.{plain_view}
 use Rattle.std.proofs.Common.{◌≡◌, ℕ, ◌-◌, ◌%◌, ◌≤◌, Bool, true, false, if◌then◌else◌, List, [], ◌++◌, length, map, take, drop, refl, sym, ap, subst, ◌∙◌, arith, Option, None, Some, length-take-le, length-drop}
 use Rattle.std.proofs.lemmas.List.{length-map}
 use Rattle.shapers_base.specs.declared.font.GlyphId.{GlyphId}
@@ -8,13 +10,12 @@ use Rattle.shapers_buffer.specs.Buffer.{Buffer, but_places}
 use Rattle.shapers_buffer.specs.Clusters.{stretch_of, with_stretch}
 use Rattle.shapers_buffer.specs.Glyph.{order_view, plain}
 use Rattle.shapers_buffer.specs.Properties.{LIGATED, MULTIPLIED, without_mark}
-use Rattle.shapers_buffer.specs.Places.{pick}
 use Rattle.shapers_buffer.proofs.ClusterLemmas.{length-stretch, map-stretch}
 use Rattle.shapers_base.specs.declared.plan.ot_category_t.TheConstants.{OT_H}
-use Rattle.shapers_clusters.specs.Steps.{FitSteps, Step, old_places, run_steps, widened}
+use Rattle.shapers_clusters.specs.Steps.{Step, run_steps, widened}
 use Rattle.shapers_clusters.proofs.ViewedSteps.{length-same}
 use Rattle.shapers_clusters.proofs.Widened.{order_view-widened}
-use Rattle.shapers_indic_final.specs.FinalBase.{Based, with_final_base, with_viramas}
+use Rattle.shapers_indic_final.specs.FinalBase.{with_final_base, with_viramas}
 use Rattle.shapers_indic_final.specs.FinalGlyphs.{is_lost_virama, recovered}
 use Rattle.shapers_indic_final.specs.FinalMatras.{matra_steps, with_matras}
 use Rattle.shapers_indic_final.specs.FinalPref.{pref_steps, with_pref}
@@ -25,44 +26,14 @@ use Rattle.shapers_indic_final.specs.declared.ot_shaper_indic_final.rules.Rules.
 use Rattle.shapers_indic_final.specs.Proved.FinalHidden.{base_within, hidden-based, hidden-viramas}
 use Rattle.shapers_indic_final.specs.Proved.FinalLaws.{matras_at, pref_at, reph_at}
 use Rattle.shapers_indic_final.specs.Proved.FinalLawsAt.{LawsAt, length_at}
-use Rattle.shapers_indic_final.proofs.FinalPlain.{TouchesNoFlag, base_after_reph_plain, base_glyphs_plain, base_place_plain, base_tries_plain, matra_steps_plain, pref_steps_plain, reph_steps_plain, viramas_plain}
+use Rattle.shapers_indic_final.proofs.FinalPlain.{TouchesNoFlag, base_after_reph_plain, base_glyphs_plain, base_place_plain, base_tries_plain, matra_steps_plain, pref_steps_plain, reph_steps_plain}
 use Rattle.shapers_syllabic.specs.Reordering.{SyllableReordered, carried}
 use Rattle.shapers_syllabic.proofs.SyllableThen.{changed_parts, syllable_as, syllable_changed, syllable_mapped, syllable_still, syllable_then}
 use Rattle.shapers_syllabic.proofs.PartAfter.{part_after}
 
 -- how long a syllable of the order view is
 length-view : (s e : ℕ) (gs : List hb_glyph_info_t) → e ≤ length gs → length (stretch_of s e (order_view gs)) ≡ e - s
-length-view s e gs l = length-stretch s e (order_view gs) (omega (arith, length-map gs plain))
-
--- a part that its steps make, by the syllable of the order view
-pub moved_part : (meaning : List hb_glyph_info_t → List hb_glyph_info_t) (steps : List hb_glyph_info_t
-    → List Step) (s e : ℕ) (old new : Buffer) → s ≤ e → e ≤ length old.glyphs
-    → LawsAt (stretch_of s e (order_view old.glyphs)) (meaning (stretch_of s e (order_view old.glyphs)))
-    (steps (stretch_of s e (order_view old.glyphs)))
-    → new ≡ record old {
-      glyphs = run_steps old.level
-          (map (widened s e (length old.glyphs)) (steps (stretch_of s e (order_view old.glyphs)))) old.glyphs;
-      places =
-          new.places;
-    } → SyllableReordered meaning steps s e old new
-moved_part meaning steps s e old new h l laws is =
-    let gs = old.glyphs in
-    let xs = order_view gs in
-    let syl = stretch_of s e xs in
-    let sts = steps syl in
-    let ran = run_steps old.level (map (widened s e (length gs)) sts) gs in
-    let k : length syl ≡ e - s = length-view s e gs l in
-    let glyphs_are : new.glyphs ≡ ran = ap (λ (b : Buffer). b.glyphs) is in
-    record {
-      others = ap but_places is
-          ∙ sym (ap (λ (zs : List hb_glyph_info_t). let b : Buffer = record (but_places old) { glyphs = zs } in b)
-          glyphs_are);
-      order = ap order_view glyphs_are
-          ∙ order_view-widened old.level s e sts gs h l (subst (λ n. FitSteps n sts) k laws.fits)
-          ∙ ap (λ n. take s xs ++ (pick (old_places n sts) syl ++ drop e xs)) (sym k)
-          ∙ ap (λ ys. take s xs ++ (ys ++ drop e xs)) (sym laws.moved);
-      moved = ap (map carried) glyphs_are;
-    }
+length-view s e gs l = search (arith, length-stretch, length-map)
 
 -- the same by steps of the syllable as it is, where these are the same
 pub part_by_steps : (meaning : List hb_glyph_info_t → List hb_glyph_info_t) (steps : List hb_glyph_info_t
@@ -77,12 +48,8 @@ pub part_by_steps : (meaning : List hb_glyph_info_t → List hb_glyph_info_t) (s
     } → SyllableReordered meaning steps s e old new
 part_by_steps meaning steps s e old new h l laws same is =
     let both : steps (stretch_of s e old.glyphs) ≡ steps (stretch_of s e (order_view old.glyphs)) =
-    sym same ∙ ap steps (map-stretch plain s e old.glyphs) in
-    moved_part meaning steps s e old new h l laws (is
-    ∙ ap (λ (sts : List Step). let b : Buffer = record old {
-      glyphs = run_steps old.level (map (widened s e (length old.glyphs)) sts) old.glyphs;
-      places = new.places;
-    } in b) both)
+    search (arith, map-stretch) in
+    search (arith, order_view-widened, length-view)
 
 -- What the parts read of a syllable shows in its order view.
 pub record Viewed (r : Rules) (script : Option Script) (gs : List hb_glyph_info_t) : Type 0 where
@@ -97,15 +64,16 @@ pub record Viewed (r : Rules) (script : Option Script) (gs : List hb_glyph_info_
 pub viewed_in : (r : Rules) (script : Option Script) → r.pref % 8 ≡ 0 → (gs : List hb_glyph_info_t) → Viewed r script gs
 viewed_in r script off gs =
     let low : TouchesNoFlag r.pref = omega arith in
-    record {
-      glyphs = base_glyphs_plain r low script gs;
-      base = base_place_plain r low script gs;
-      tries = base_tries_plain r low script gs;
-      by_matras = λ base. matra_steps_plain script base gs;
-      by_reph = λ base. reph_steps_plain r.reph_pos base gs;
-      base_then = λ base. base_after_reph_plain r.reph_pos base gs;
-      by_pref = λ base. pref_steps_plain r.pref low script base gs;
-    }
+    search (
+      arith,
+      base_glyphs_plain,
+      base_place_plain,
+      base_tries_plain,
+      matra_steps_plain,
+      reph_steps_plain,
+      base_after_reph_plain,
+      pref_steps_plain,
+    )
 
 -- the viramas
 abbrev recovered_one : hb_glyph_info_t → hb_glyph_info_t
@@ -117,8 +85,7 @@ recovered_one g =
 
 recovered-carried : (virama : Option GlyphId) (g : hb_glyph_info_t) → carried (recovered virama g) ≡ carried g
 recovered-carried virama g =
-    elim (is_lost_virama virama g) as (λ b. carried (if b then recovered_one g else g) ≡ carried g)
-    [ true ↦ refl | false ↦ refl ]
+    search arith
 
 lost-plain : (virama : Option GlyphId) (g : hb_glyph_info_t) → is_lost_virama virama (plain g) ≡ is_lost_virama virama g
 lost-plain None g = refl
@@ -127,9 +94,7 @@ lost-plain (Some virama) g = refl
 recovered-plain : (virama : Option GlyphId) (g : hb_glyph_info_t)
     → plain (recovered virama g) ≡ recovered virama (plain g)
 recovered-plain virama g =
-    (elim (is_lost_virama virama g) as (λ b. plain (if b then recovered_one g else g)
-    ≡ (if b then recovered_one (plain g) else plain g)) [ true ↦ refl | false ↦ refl ])
-    ∙ ap (λ b. if b then recovered_one (plain g) else plain g) (sym (lost-plain virama g))
+    search (arith, lost-plain)
 
 -- a syllable of the order view with its viramas
 recovered-stretch : (r : Rules) (s e : ℕ) (gs : List hb_glyph_info_t) → s ≤ e → e ≤ length gs
@@ -137,11 +102,10 @@ recovered-stretch : (r : Rules) (s e : ℕ) (gs : List hb_glyph_info_t) → s �
     ≡ with_viramas r (stretch_of s e (order_view gs))
 recovered-stretch r s e gs h l =
     let part = stretch_of s e gs in
-    let k : length part ≡ e - s = length-take-le (e - s) (drop s gs) (omega (arith, length-drop s gs)) in
-    let parts = changed_parts s e (take s gs) (map (recovered r.virama) part) (drop e gs)
-    (with_stretch s e (map (recovered r.virama)) gs) h (length-take-le s gs (omega arith))
-    (length-map part (recovered r.virama) ∙ k) refl in
-    ap order_view parts.stretch ∙ sym (viramas_plain r part) ∙ ap (with_viramas r) (map-stretch plain s e gs)
+    let parts = changed_parts s e (take s gs) (map (recovered r.virama) part) (drop e gs) (with_stretch s e (map
+    (recovered r.virama)) gs) h (length-take-le s gs (omega arith)) (length-map part (recovered r.virama)
+    ∙ length-take-le (e - s) (drop s gs) (omega (arith, length-drop s gs))) refl in
+    search (arith, parts.stretch, viramas_stay plain_view r part, map-stretch plain s e gs)
 
 -- where the base settles
 pub settled_part : (r : Rules) (script : Option Script) (s e : ℕ) (b0 b1 b2 : Buffer)
@@ -150,21 +114,16 @@ pub settled_part : (r : Rules) (script : Option Script) (s e : ℕ) (b0 b1 b2 : 
     → b2 ≡ record b1 { glyphs = with_stretch s e (settled r script) b1.glyphs }
     → SyllableReordered (λ gs. (based r script gs).glyphs) (λ _. []) s e b0 b2
 settled_part r script s e b0 b1 b2 viewed h l one two =
-    let x0 = stretch_of s e (order_view b0.glyphs) in
-    let g1 : b1.glyphs ≡ with_stretch s e (map (recovered r.virama)) b0.glyphs = ap (λ (b : Buffer). b.glyphs) one in
-    let g2 : b2.glyphs ≡ with_stretch s e (settled r script) b1.glyphs = ap (λ (b : Buffer). b.glyphs) two in
-    let k1 : but_places b1 ≡ record (but_places b0) { glyphs = b1.glyphs } = ap but_places one
-    ∙ sym (ap (λ (zs : List hb_glyph_info_t). let b : Buffer = record (but_places b0) { glyphs = zs } in b)
-    g1) in
-    let k2 : but_places b2 ≡ record (but_places b1) { glyphs = b2.glyphs } = ap but_places two
-    ∙ sym (ap (λ (zs : List hb_glyph_info_t). let b : Buffer = record (but_places b1) { glyphs = zs } in b)
-    g2) in
-    let v = viewed (stretch_of s e b1.glyphs) in
-    let n0 : length (with_viramas r x0) ≡ e - s = length-map x0 (recovered r.virama) ∙ length-view s e b0.glyphs l in
+    let g1 : b1.glyphs ≡ with_stretch s e (map (recovered r.virama)) b0.glyphs = cc in
+    let g2 : b2.glyphs ≡ with_stretch s e (settled r script) b1.glyphs = cc in
+    let k1 : but_places b1 ≡ record (but_places b0) { glyphs = b1.glyphs } = cc in
+    let k2 : but_places b2 ≡ record (but_places b1) { glyphs = b2.glyphs } = cc in
+    let n0 : length (with_viramas r
+    (stretch_of s e (order_view b0.glyphs))) ≡ e - s = search (arith, length-map, length-view) in
     syllable_then (with_viramas r) (settled r script) (λ _. []) (λ _. []) s e b0 b1 b2 h l n0
-    (syllable_mapped (recovered r.virama) s e b0 b1 h k1 g1 (recovered-carried r.virama) (recovered-plain r.virama))
+    (search (arith, syllable_mapped, recovered-carried, recovered-plain))
     (syllable_changed (settled r script) (settled r script) s e b1 b2 h k2 g2
-    (hidden-based r script (stretch_of s e b1.glyphs)) (sym v.glyphs))
+    (hidden-based r script (stretch_of s e b1.glyphs)) (sym (viewed (stretch_of s e b1.glyphs)).glyphs))
 
 -- What the parts behind it make of a syllable with its base, by where the base stands before and
 -- after the reph, and by whether a pref glyph is tried.
@@ -223,17 +182,16 @@ pub last_tried : (r : Rules) (script : Option Script) (s e next : ℕ) (tries : 
           = b5.places;
     } → LastPart r script s e next tries b4 b5
 last_tried r script s e next tries b4 b5 viewed h tried is =
-    let v = viewed (stretch_of s e b4.glyphs) in
     subst (λ t. LastPart r script s e next t b4 b5) (sym tried) (record {
       reordered = λ l. part_by_steps (with_pref r.pref script next) (pref_steps r.pref script next) s e b4 b5 h l
-          (pref_at r.pref script next (stretch_of s e (order_view b4.glyphs))) (v.by_pref next) is;
+          (pref_at r.pref script next (stretch_of s e (order_view b4.glyphs))) (
+          (viewed (stretch_of s e b4.glyphs)).by_pref next) is;
     })
 
 pub last_none : (r : Rules) (script : Option Script) (s e next : ℕ) (tries : Bool) (b4 : Buffer) → s ≤ e → tries ≡ false
     → LastPart r script s e next tries b4 b4
 last_none r script s e next tries b4 h none =
-    subst (λ t. LastPart r script s e next t b4 b4) (sym none)
-    (record { reordered = λ l. syllable_still s e b4 b4 h refl refl })
+    search (arith, syllable_still)
 
 -- all of them
 pub final_syllable : (r : Rules) (script : Option Script) (s e base next : ℕ) (tries : Bool)
@@ -244,50 +202,44 @@ final_syllable r script s e base next tries b0 b1 b2 b3 b4 b5 viewed c last =
     let h = c.in_order in
     let l = c.in_range in
     let x0 = stretch_of s e (order_view b0.glyphs) in
-    let x1 = stretch_of s e (order_view b1.glyphs) in
     let B = based r script x0 in
-    let opening : SyllableReordered (λ gs. (based r script gs).glyphs) (λ _. []) s e b0 b2 =
+    let opening =
     settled_part r script s e b0 b1 b2 viewed h l c.viramas c.based_are in
     let k0 : length x0 ≡ e - s = length-view s e b0.glyphs l in
     let kb : length B.glyphs ≡ e - s =
-    length-same carried B.glyphs x0 (hidden-based r script (with_viramas r x0) ∙ hidden-viramas r x0) ∙ k0 in
+    search (arith, length-same, hidden-based, hidden-viramas) in
     let a2 = part_after (λ gs. (based r script gs).glyphs) (λ _. []) s e b0 b2 h l kb opening in
     let l2 : e ≤ length b2.glyphs = omega (arith, a2.long) in
     let x2 = stretch_of s e (order_view b2.glyphs) in
-    let k2 : length x2 ≡ e - s = length-view s e b2.glyphs l2 in
-    let virama_view : x1 ≡ with_viramas r x0 =
-    sym (map-stretch plain s e b1.glyphs)
-    ∙ ap (λ zs. order_view (stretch_of s e zs)) (ap (λ (b : Buffer). b.glyphs) c.viramas)
-    ∙ recovered-stretch r s e b0.glyphs h l in
-    let v1 = viewed (stretch_of s e b1.glyphs) in
+    let virama_view : (stretch_of s e (order_view b1.glyphs)) ≡ with_viramas r x0 =
+    cc (map-stretch plain s e b1.glyphs, c.viramas, recovered-stretch r s e b0.glyphs h l) in
     let same1 : with_final_base r script (order_view (stretch_of s e b1.glyphs)) ≡ B =
-    ap (with_final_base r script) (map-stretch plain s e b1.glyphs ∙ virama_view) in
-    let base_at : base ≡ B.base = c.base_is ∙ sym v1.base ∙ ap (λ (b : Based). b.base) same1 in
-    let tries_at : tries ≡ B.tries_pref = c.tries_is ∙ sym v1.tries ∙ ap (λ (b : Based). b.tries_pref) same1 in
-    let base_low : base ≤ length x2 =
-    subst (λ n. n ≤ length x2) (sym base_at)
-    (subst (λ ys. B.base ≤ length ys) (sym a2.syllable) (base_within r script (with_viramas r x0))) in
-    let v2 = viewed (stretch_of s e b2.glyphs) in
-    let m_laws = matras_at script base x2 base_low in
-    let matras_done : SyllableReordered (with_matras script base) (matra_steps script base) s e b2 b3 =
-    part_by_steps (with_matras script base) (matra_steps script base) s e b2 b3 h l2 m_laws (v2.by_matras base)
+    cc (map-stretch plain s e b1.glyphs) in
+    let base_at : base ≡ B.base = cc (c.base_is, (viewed (stretch_of s e b1.glyphs)).base) in
+    let tries_at : tries ≡ B.tries_pref = search arith in
+    let m_laws = matras_at script base x2 (search (arith, a2.syllable, base_within r script (with_viramas r x0))) in
+    let matras_done =
+    part_by_steps (with_matras script base) (matra_steps script base) s e b2 b3 h l2 m_laws (
+    (viewed (stretch_of s e b2.glyphs)).by_matras base)
     c.matras in
-    let k3 : length (with_matras script base x2) ≡ e - s =
-    length_at x2 (with_matras script base x2) (matra_steps script base x2) m_laws ∙ k2 in
+    let k3 =
+    length_at x2 (with_matras script base x2) (matra_steps script base x2) m_laws ∙ (length-view s e b2.glyphs l2) in
     let a3 = part_after (with_matras script base) (matra_steps script base) s e b2 b3 h l2 k3 matras_done in
     let l3 : e ≤ length b3.glyphs = omega (arith, a3.long) in
     let x3 = stretch_of s e (order_view b3.glyphs) in
     let v3 = viewed (stretch_of s e b3.glyphs) in
     let r_laws = reph_at r.reph_pos base x3 in
-    let reph_done : SyllableReordered (with_reph r.reph_pos base) (reph_steps r.reph_pos base) s e b3 b4 =
+    let reph_done =
     part_by_steps (with_reph r.reph_pos base) (reph_steps r.reph_pos base) s e b3 b4 h l3 r_laws (v3.by_reph base)
     c.reph in
-    let k4 : length (with_reph r.reph_pos base x3) ≡ e - s =
+    let k4 =
     length_at x3 (with_reph r.reph_pos base x3) (reph_steps r.reph_pos base x3) r_laws
     ∙ length-view s e b3.glyphs l3 in
-    let a4 = part_after (with_reph r.reph_pos base) (reph_steps r.reph_pos base) s e b3 b4 h l3 k4 reph_done in
-    let l4 : e ≤ length b4.glyphs = omega (arith, a4.long) in
-    let next_at : next ≡ base_after_reph r.reph_pos base (with_matras script base B.glyphs) =
+    let l4 : e ≤ length b4.glyphs = omega (
+      arith,
+      (part_after (with_reph r.reph_pos base) (reph_steps r.reph_pos base) s e b3 b4 h l3 k4 reph_done).long,
+    ) in
+    let next_at =
     c.next_is ∙ sym (v3.base_then base)
     ∙ ap (base_after_reph r.reph_pos base) (map-stretch plain s e b3.glyphs ∙ a3.syllable
     ∙ ap (with_matras script base) a2.syllable) in

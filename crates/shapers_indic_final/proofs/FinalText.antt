@@ -1,7 +1,7 @@
 -- What the final reordering makes of a text, and of a text cut.
-use Rattle.std.proofs.Common.{ℕ, ◌%◌, ◌≤◌, ◌≡◌, ◌&&◌, not, Bool, true, false, if◌then◌else◌, List, [], ◌∷◌, ◌++◌, map, length, append_assoc, Option, None, Some, refl, sym, ◌∙◌, ap, subst, arith}
-use Rattle.std.specs.Prelude.{All, bit_or}
-use Rattle.std.specs.List.{AllZip, flat_map, sum_by}
+use Rattle.std.proofs.Common.{ℕ, ◌≤◌, ◌≡◌, Bool, if◌then◌else◌, List, [], ◌∷◌, ◌++◌, map, length, append_assoc, Option, None, Some, refl, sym, ◌∙◌, ap, subst, arith}
+use Rattle.std.specs.Prelude.{All}
+use Rattle.std.specs.List.{AllZip, flat_map}
 use Rattle.std.specs.List.Sorted.{IsPermutation}
 use Rattle.std.proofs.lemmas.List.{append-nil, length-map, map-append}
 use Rattle.std.proofs.lemmas.List.Elements.{All-cons, All-head, All-map, All-nil, All-tail}
@@ -11,7 +11,7 @@ use Rattle.shapers_buffer.specs.declared.buffer.glyph.hb_glyph_info_t.{hb_glyph_
 use Rattle.shapers_buffer.specs.declared.buffer.level.BufferClusterLevel.{BufferClusterLevel}
 use Rattle.shapers_buffer.specs.declared.buffer.tag.Script.{Script}
 use Rattle.shapers_buffer.specs.Buffer.{Buffer}
-use Rattle.shapers_buffer.specs.Glyph.{clusters, order_view, plain, without_flags}
+use Rattle.shapers_buffer.specs.Glyph.{clusters, order_view, plain}
 use Rattle.shapers_buffer.specs.GlyphFlags.{with_bits}
 use Rattle.shapers_buffer.specs.Syllables.{syllables}
 use Rattle.shapers_buffer.proofs.MaskBits.{or_twice}
@@ -21,12 +21,11 @@ use Rattle.shapers_clusters.proofs.Moves.{clusters-run_steps}
 use Rattle.shapers_clusters.proofs.Proved.{along_holds}
 use Rattle.shapers_clusters.proofs.Views.{seen-same}
 use Rattle.shapers_indic_final.specs.FinalLaws.{FinallyOfHalves, SameButFirstBits, final_clusters, final_text_behind, final_text_steps, with_first_bits}
-use Rattle.shapers_indic_final.specs.FinalMatras.{is_left}
-use Rattle.shapers_indic_final.specs.FinalWordStart.{FinallyLinked, FinallyReordered, bound_from, final_syllables, final_text, word_goes_on, last_or, with_init, with_inits}
+use Rattle.shapers_indic_final.specs.FinalWordStart.{FinallyLinked, FinallyReordered, bound_from, final_syllables, final_text, last_or, with_init, with_inits}
 use Rattle.shapers_indic_final.specs.FinalReordering.{final_order, final_steps}
 use Rattle.shapers_indic_final.specs.declared.ot_shaper_indic_final.rules.Rules.{Rules}
 use Rattle.shapers_indic_final.specs.Proved.FinalLaws.{final_laws}
-use Rattle.shapers_indic_final.proofs.FinalWordStartViews.{HidesBits, map-bound_from}
+use Rattle.shapers_indic_final.proofs.FinalWordStartViews.{map-bound_from}
 use Rattle.shapers_syllabic.specs.Borders.{MeetAtBorder}
 use Rattle.shapers_syllabic.specs.Reordering.{SyllableReordered, SyllablesLinked, SyllablesReordered, carried, text_order}
 use Rattle.shapers_syllabic.specs.ReorderingLaws.{ReorderLaws, TextReordered}
@@ -40,38 +39,35 @@ use Rattle.shapers_syllabic.proofs.ReorderingWalk.{length-meaning, pieces_of}
 -- a reordering keeps the bytes of syllables
 bytes-seen : (gs : List hb_glyph_info_t) → map (λ (g : hb_glyph_info_t). g.syllable) (seen carried gs) ≡ map (λ g. g.syllable) gs
 bytes-seen [] = refl
-bytes-seen (g ∷ gs) = ap (λ bs. g.syllable ∷ bs) (bytes-seen gs)
+bytes-seen (g ∷ gs) = cc (bytes-seen gs)
 
 unmapped : (byte : ℕ) (gs : List hb_glyph_info_t) → All (λ b. b ≡ byte) (map (λ g. g.syllable) gs) → All (λ g. g.syllable ≡ byte) gs
-unmapped byte [] h = All-nil (λ (g : hb_glyph_info_t). g.syllable ≡ byte)
+unmapped byte [] h = search (arith, All-nil)
 unmapped byte (g ∷ gs) h =
-    let P : ℕ → Type 0 = λ b. b ≡ byte in
-    let rest = map (λ (x : hb_glyph_info_t). x.syllable) gs in
-    All-cons (λ (x : hb_glyph_info_t). x.syllable ≡ byte) g gs (All-head P g.syllable rest h)
-    (unmapped byte gs (All-tail P g.syllable rest h))
+    search (
+      arith,
+      All-cons,
+      All-head,
+      unmapped byte gs (All-tail (λ b. b ≡ byte) g.syllable (map (λ (x : hb_glyph_info_t). x.syllable) gs) h),
+    )
 
 pub kept_byte : (meaning : List hb_glyph_info_t → List hb_glyph_info_t) (steps : List hb_glyph_info_t → List Step) → ReorderLaws meaning steps
     → (byte : ℕ) (gs : List hb_glyph_info_t) → OfByte byte gs → OfByte byte (meaning gs)
 kept_byte meaning steps laws byte gs u =
     let P : ℕ → Type 0 = λ b. b ≡ byte in
     let read : hb_glyph_info_t → ℕ = λ g. g.syllable in
-    let lost = nothing_lost meaning steps laws gs in
-    let whole : text_order meaning gs ≡ meaning gs = ap (flat_map meaning) (one_run byte gs u)
-    ∙ append-nil (meaning gs) in
-    let kept : IsPermutation (seen carried gs) (seen carried (meaning gs)) =
-    subst (λ xs. IsPermutation (seen carried gs) (seen carried xs)) whole lost.kept in
-    let all : All P (map read gs) = All-map P read gs u.all in
-    let before : All P (map read (seen carried gs)) = subst (All P) (sym (bytes-seen gs)) all in
-    let after : All P (map read (seen carried (meaning gs))) =
-    All-permutation P (map read (seen carried gs)) (map read (seen carried (meaning gs)))
-    (IsPermutation-map read (seen carried gs) (seen carried (meaning gs)) kept) before in
-    let many = length-meaning meaning steps laws gs in
-    let some = u.some in
-    record {
-      some = omega (arith, many, some);
-      all = unmapped byte (meaning gs)
-          (subst (All P) (bytes-seen (meaning gs)) after);
-    }
+    let kept = subst (λ xs. IsPermutation (seen carried
+    gs) (seen carried xs)) (ap (flat_map meaning) (one_run byte gs u) ∙ append-nil (meaning gs))
+    (nothing_lost meaning steps laws gs).kept in
+    let before = subst (All P) (sym (bytes-seen gs)) (All-map P read gs u.all) in
+    let after : All P (map read (seen carried (meaning gs))) = All-permutation P (map read (seen carried gs)) (map
+    read (seen carried (meaning gs))) (IsPermutation-map read (seen carried gs) (seen carried (meaning gs)) kept)
+    before in
+    search (
+      arith,
+      length-meaning meaning steps laws gs,
+      unmapped byte (meaning gs) (subst (All P) (bytes-seen (meaning gs)) after),
+    )
 
 -- the whole text
 pub text_fits : (r : Rules) (script : Option Script) (level : BufferClusterLevel) (gs : List hb_glyph_info_t)
@@ -79,18 +75,11 @@ pub text_fits : (r : Rules) (script : Option Script) (level : BufferClusterLevel
 text_fits r script level gs =
     let xs = order_view gs in
     let steps = final_steps r script in
-    let laws = final_laws r script in
     let ps = pieces_of steps (syllables xs) in
-    let sum : sum_by (λ piece. piece.0) ps ≤ length gs = omega (arith, sum-syllables steps xs, length-map gs plain) in
-    let along = along_holds level ps gs sum (each_piece FitsStep steps laws.fits (syllables xs)) in
-    subst (FitSteps (length gs)) (sym (text_steps-long steps gs)) along.fit
-
--- an unsafe break isn't seen
-hidden-break : HidesBits (λ g. plain (carried g)) 3
-hidden-break g =
-    let no_flags : (m : ℕ) → without_flags (m % 8) ≡ 0 = λ m. omega arith in
-    ap (λ (m : ℕ). record g { cluster = 0; mask = m; category = 0; auxiliary = 0; glyph_props = record { 0 = 0 } })
-    (no_flags (bit_or g.mask 3) ∙ sym (no_flags g.mask))
+    let along = along_holds level ps gs
+    (omega (arith, sum-syllables steps xs, length-map gs plain)) (each_piece FitsStep steps
+    (final_laws r script).fits (syllables xs)) in
+    search (arith, text_steps-long steps gs, along.fit)
 
 -- What the pause comes to: the order view, what is carried along, and clusters.
 pub record Finished (r : Rules) (old mid new : Buffer) : Type 0 where
@@ -109,19 +98,19 @@ finished r old new done =
     let steps = final_steps r old.script in
     let laws = final_laws r old.script in
     let xs = order_view old.glyphs in
-    let ps : syllables (order_view mid.glyphs) ≡ final_syllables r old.script xs = ap syllables done.1.order
-    ∙ syllables-mapped f (kept_byte f steps laws) xs in
+    let ps : syllables (order_view mid.glyphs) ≡ final_syllables r old.script xs =
+    cc (done.1.order, syllables-mapped f (kept_byte f steps laws) xs) in
     let bound = bound_from 0 None (final_syllables r old.script xs) mid.glyphs in
-    let flags : map carried new.glyphs ≡ map carried bound = done.2.flags
-    ∙ ap (λ qs. map carried (bound_from 0 None qs mid.glyphs)) ps in
-    let stay : clusters new.glyphs ≡ clusters mid.glyphs = sym (clusters-carried new.glyphs) ∙ ap clusters flags
+    let flags : map carried new.glyphs ≡ map carried bound = search arith in
+    let stay = sym (clusters-carried new.glyphs) ∙ ap clusters flags
     ∙ clusters-carried bound
     ∙ map-bound_from (λ g. g.cluster) (λ g. refl) 0 None (final_syllables r old.script xs) mid.glyphs in
     let text = text_reordered f steps old mid laws done.1 in
     record {
       order = done.2.order ∙ ap (with_inits r.init None) ps;
       flags = flags;
-      seen_same = seen-same carried new.glyphs bound flags ∙ map-bound_from (λ g. plain (carried g)) hidden-break 0 None
+      seen_same = seen-same carried new.glyphs bound flags ∙ map-bound_from (λ g. plain (carried g))
+          (search arith) 0 None
           (final_syllables r old.script xs) mid.glyphs;
       clusters_same = stay;
       text = text;
@@ -146,91 +135,66 @@ pub inits-append : (bits : ℕ) (f : List hb_glyph_info_t → List hb_glyph_info
     ≡ with_inits bits before (map f ps) ++ with_inits bits (last_or before (flat_map f ps)) (map f qs)
 inits-append bits f before [] qs = refl
 inits-append bits f before (p ∷ ps) qs =
-    let opened = with_init bits before (f p) in
-    let next = last_or before (f p) in
-    let rest = with_inits bits next (map f ps) in
-    ap (λ xs. opened ++ xs) (inits-append bits f next ps qs)
-    ∙ sym (append_assoc opened rest (with_inits bits (last_or next (flat_map f ps)) (map f qs)))
-    ∙ ap (λ l. (opened ++ rest) ++ with_inits bits l (map f qs)) (sym (last_or-append before (f p) (flat_map f ps)))
+    search (arith, append_assoc, last_or-append, inits-append bits f (last_or before (f p)) ps qs)
 
 pub text-append : (r : Rules) (script : Option Script) (gs hs : List hb_glyph_info_t) → MeetAtBorder gs hs
     → final_text r script (gs ++ hs) ≡ final_text r script gs
     ++ final_text_behind r script (last_or None (text_order (final_order r script) gs)) hs
 text-append r script gs hs border =
-    let f = final_order r script in
-    ap (λ ps. with_inits r.init None (map f ps)) (syllables-append gs hs border)
-    ∙ inits-append r.init f None (syllables gs) (syllables hs)
+    search (arith, syllables-append, inits-append, None)
 
 -- a glyph before it counts for the bits of init of the first glyph alone
 bits_twice : (bits : ℕ) (g : hb_glyph_info_t) → with_bits bits (with_bits bits g) ≡ with_bits bits g
-bits_twice bits g = ap (λ (m : ℕ). record g { mask = m }) (or_twice g.mask bits)
+bits_twice bits g = search (arith, or_twice)
 
 pub but_first : (bits : ℕ) (one two : Option hb_glyph_info_t) (ps : List (List hb_glyph_info_t))
     → SameButFirstBits bits (with_inits bits one ps) (with_inits bits two ps)
 but_first bits one two [] = refl
 but_first bits one two ([] ∷ ps) = but_first bits one two ps
 but_first bits one two ((g ∷ gs) ∷ ps) =
-    let more = gs ++ with_inits bits (last_or (Some g) gs) ps in
     let F : Bool → List hb_glyph_info_t = λ b. (if b then with_bits bits g ∷ gs else g ∷ gs)
     ++ with_inits bits (last_or (Some g) gs) ps in
-    let given : (b : Bool) → with_first_bits bits (F b) ≡ with_bits bits g ∷ more =
-    λ b. elim b as (λ b. with_first_bits bits (F b) ≡ with_bits bits g ∷ more)
-    [ true ↦ ap (λ x. x ∷ more) (bits_twice bits g) | false ↦ refl ] in
-    given (is_left g && not (word_goes_on one)) ∙ sym (given (is_left g && not (word_goes_on two)))
+    let given : (b : Bool) → with_first_bits bits (F b) ≡ with_bits bits g ∷
+    (gs ++ with_inits bits (last_or (Some g) gs) ps) =
+    search (arith, bits_twice) in
+    search arith
 
 -- with the bits of init on all glyphs, it is the text order
 bits_init : (bits : ℕ) (before : Option hb_glyph_info_t) (gs : List hb_glyph_info_t)
     → map (with_bits bits) (with_init bits before gs) ≡ map (with_bits bits) gs
 bits_init bits before [] = refl
 bits_init bits before (g ∷ gs) =
-    elim (is_left g && not (word_goes_on before)) as (λ b. map (with_bits bits) (if b then with_bits bits g ∷ gs else g
-    ∷ gs) ≡ map (with_bits bits) (g ∷ gs)) [
-      | true ↦ ap (λ x. x ∷ map (with_bits bits) gs) (bits_twice bits g)
-      | false ↦ refl
-    ]
+    search (arith, bits_twice)
 
 bits_inits : (bits : ℕ) (before : Option hb_glyph_info_t) (ps : List (List hb_glyph_info_t))
     → map (with_bits bits) (with_inits bits before ps) ≡ map (with_bits bits) (flat_map (λ p. p) ps)
 bits_inits bits before [] = refl
 bits_inits bits before (p ∷ ps) =
-    let add = with_bits bits in
-    let rest = with_inits bits (last_or before p) ps in
-    map-append add (with_init bits before p) rest
-    ∙ ap (λ xs. xs ++ map add rest) (bits_init bits before p)
-    ∙ ap (λ xs. map add p ++ xs) (bits_inits bits (last_or before p) ps)
-    ∙ sym (map-append add p (flat_map (λ p. p) ps))
+    search (arith, map-append, bits_init, bits_inits bits (last_or before p) ps)
 
 pub bits_text : (r : Rules) (script : Option Script) (before : Option hb_glyph_info_t) (gs : List hb_glyph_info_t)
     → map (with_bits r.init) (final_text_behind r script before gs)
     ≡ map (with_bits r.init) (text_order (final_order r script) gs)
 bits_text r script before gs =
-    let f = final_order r script in
-    bits_inits r.init before (map f (syllables gs))
-    ∙ ap (map (with_bits r.init)) (flat_map-map (λ p. p) f (syllables gs))
+    search (arith, bits_inits, flat_map-map)
 
 pub halves : (r : Rules) (script : Option Script) (level : BufferClusterLevel) (all new gs hs : List hb_glyph_info_t)
     → order_view new ≡ final_text r script (order_view all) → clusters new ≡ final_clusters r script level all
     → all ≡ gs ++ hs → MeetAtBorder gs hs → FinallyOfHalves r script level gs hs new
 halves r script level all new gs hs order in_clusters is border =
-    let steps = final_steps r script in
-    let one = run_steps level (final_text_steps r script gs) gs in
-    let two = run_steps level (final_text_steps r script hs) hs in
     let both = gs ++ hs in
     record {
-      order = order ∙ ap (λ xs. final_text r script (order_view xs)) is
-          ∙ ap (final_text r script) (map-append plain gs hs)
-          ∙ text-append r script (order_view gs) (order_view hs) (border-view gs hs border);
-      alone = but_first r.init (last_or None (text_order (final_order r script) (order_view gs))) None
-          (map (final_order r script) (syllables (order_view hs)));
+      order = search (arith, map-append, text-append, border-view);
+      alone = search (arith, but_first, None);
       in_clusters = λ none.
-          in_clusters
-          ∙ ap (final_clusters r script level) is
-          ∙ sym (clusters-run_steps level (final_text_steps r script both) both)
-          ∙ ap clusters (steps-halves (final_order r script) steps level gs hs (final_laws r script) border none)
-          ∙ map-append (λ g. g.cluster) one two
-          ∙ ap (λ cs. cs ++ clusters two) (clusters-run_steps level (final_text_steps r script gs) gs)
-          ∙ ap (λ cs. final_clusters r script level gs ++ cs)
-          (clusters-run_steps level (final_text_steps r script hs) hs);
+          cc (
+            clusters-run_steps level (final_text_steps r script both) both,
+            steps-halves (final_order r script) (final_steps r script) level gs hs (final_laws r script) border none,
+            map-append (λ g. g.cluster) (run_steps level (final_text_steps r script gs) gs)
+                (run_steps level (final_text_steps r script hs) hs),
+            clusters-run_steps level (final_text_steps r script gs) gs,
+            clusters-run_steps level (final_text_steps r script hs) hs,
+          );
     }
 
 -- a chain leads there
@@ -244,4 +208,4 @@ reordered_by_chain r old mid =
     (λ _. numbers_kept f steps (final_laws r old.script)) (λ s e b c done. done)
 
 pub reordered_by_links : (r : Rules) (old new : Buffer) → FinallyLinked r old new → FinallyReordered r old new
-reordered_by_links r old new linked = (linked.0, reordered_by_chain r old linked.0 linked.1, linked.2)
+reordered_by_links r old new linked = search (arith, reordered_by_chain)

@@ -1,15 +1,14 @@
 -- What shows of the opening of syllables through views, and what the opening reads.
-use Rattle.std.proofs.Common.{ℕ, ◌+◌, ◌-◌, ◌%◌, ◌<◌, ◌≡◌, ◌==◌, ◌&&◌, not, Bool, true, false, if◌then◌else◌, List, [], ◌∷◌, ◌++◌, map, length, take, drop, refl, sym, ◌∙◌, ap, arith, Option, None, Some, take-append-drop}
+use Rattle.std.proofs.Common.{ℕ, ◌+◌, ◌-◌, ◌%◌, ◌<◌, ◌≡◌, Bool, true, false, List, [], ◌∷◌, ◌++◌, map, length, take, drop, refl, ap, arith, Option, None, Some, take-append-drop}
 use Rattle.std.proofs.lemmas.Nat.{or_mod}
 use Rattle.std.proofs.lemmas.List.{drop-map, map-append, take-map}
 use Rattle.shapers_buffer.specs.declared.buffer.category.hb_unicode_general_category_t.{hb_unicode_general_category_t}
 use Rattle.shapers_buffer.specs.declared.buffer.glyph.hb_glyph_info_t.{hb_glyph_info_t}
-use Rattle.shapers_buffer.specs.Clusters.{least, stretch_of}
-use Rattle.shapers_buffer.specs.Glyph.{clusters, order_view, plain}
+use Rattle.shapers_buffer.specs.Clusters.{stretch_of}
+use Rattle.shapers_buffer.specs.Glyph.{order_view, plain}
 use Rattle.shapers_buffer.specs.GlyphFlags.{flagged, unsafe_inside, with_bits, with_bits_off}
 use Rattle.shapers_buffer.specs.Properties.{general_category}
-use Rattle.shapers_clusters.proofs.FlagCalls.{flags-or, map-unsafe_inside, plain-or, plain-with_bits}
-use Rattle.shapers_indic_final.specs.FinalMatras.{is_left}
+use Rattle.shapers_clusters.proofs.FlagCalls.{map-unsafe_inside, plain-or, plain-with_bits}
 use Rattle.shapers_indic_final.specs.FinalWordStart.{before_place, bound_at, bound_from, continues_word, is_bound, last_or, opened, with_init, word_goes_on}
 use Rattle.shapers_syllabic.specs.Reordering.{carried}
 use Rattle.shapers_syllabic.proofs.HiddenCuts.{clusters-carried}
@@ -23,31 +22,19 @@ pub map-init : {X : Type 0} (f : hb_glyph_info_t → X) (bits : ℕ) → HidesBi
     (gs : List hb_glyph_info_t) → map f (with_init bits before gs) ≡ map f gs
 map-init f bits hides before [] = refl
 map-init f bits hides before (g ∷ gs) =
-    elim (is_left g && not (word_goes_on before)) as (λ b. map f (if b then with_bits bits g ∷ gs else g ∷ gs)
-    ≡ map f (g ∷ gs)) [ true ↦ ap (λ x. x ∷ map f gs) (hides g) | false ↦ refl ]
-
-pub carried-init : (bits : ℕ) → bits % 8 ≡ 0 → (before : Option hb_glyph_info_t) (gs : List hb_glyph_info_t)
-    → map carried (with_init bits before gs) ≡ map carried gs
-carried-init bits off = map-init carried bits
-    (λ g. ap (λ m. record g { mask = m; category = 0; auxiliary = 0; glyph_props = record { 0 = 0 } })
-    (flags-or g.mask bits off))
+    search arith
 
 pub init-plain : (bits : ℕ) → bits % 8 ≡ 0 → (before : Option hb_glyph_info_t) (gs : List hb_glyph_info_t)
     → order_view (with_init bits before gs) ≡ with_init bits before (order_view gs)
 init-plain bits off before [] = refl
 init-plain bits off before (g ∷ gs) =
-    elim (is_left g && not (word_goes_on before)) as (λ b. order_view (if b then with_bits bits g ∷ gs else g ∷ gs)
-    ≡ (if b then with_bits bits (plain g) ∷ order_view gs else order_view (g ∷ gs))) [
-      | true ↦ ap (λ m. record g { cluster = 0; mask = m } ∷ order_view gs) (plain-or g.mask bits off)
-      | false ↦ refl
-    ]
+    search (arith, plain-or)
 
 pub length-init : (bits : ℕ) (before : Option hb_glyph_info_t) (gs : List hb_glyph_info_t)
     → length (with_init bits before gs) ≡ length gs
 length-init bits before [] = refl
 length-init bits before (g ∷ gs) =
-    elim (is_left g && not (word_goes_on before)) as (λ b. length (if b then with_bits bits g ∷ gs else g ∷ gs)
-    ≡ length (g ∷ gs)) [ true ↦ refl | false ↦ refl ]
+    search arith
 
 -- unsafe breaks
 pub map-bound : {X : Type 0} (f : hb_glyph_info_t → X) → HidesBits f 3 → (s : ℕ) (b : Bool) (gs : List hb_glyph_info_t)
@@ -59,8 +46,11 @@ pub map-bound_from : {X : Type 0} (f : hb_glyph_info_t → X) → HidesBits f 3 
     (syls : List (List hb_glyph_info_t)) (gs : List hb_glyph_info_t) → map f (bound_from s before syls gs) ≡ map f gs
 map-bound_from f hides s before [] gs = refl
 map-bound_from f hides s before (syl ∷ syls) gs =
-    map-bound_from f hides (s + length syl) (last_or before syl) syls (bound_at s (is_bound before syl) gs)
-    ∙ map-bound f hides s (is_bound before syl) gs
+    search (
+      arith,
+      map-bound,
+      map-bound_from f hides (s + length syl) (last_or before syl) syls (bound_at s (is_bound before syl) gs),
+    )
 
 pub bound-view : (s : ℕ) (b : Bool) (gs : List hb_glyph_info_t) → order_view (bound_at s b gs) ≡ order_view gs
 bound-view = map-bound plain (λ g. plain-with_bits 3 g refl)
@@ -70,8 +60,7 @@ pub init-long : (bits : ℕ) (before : Option hb_glyph_info_t) (gs hs : List hb_
     → with_init bits before (gs ++ hs) ≡ with_init bits before gs ++ hs
 init-long bits before [] hs some = absurd (omega arith)
 init-long bits before (g ∷ gs) hs some =
-    elim (is_left g && not (word_goes_on before)) as (λ b. (if b then with_bits bits g ∷ (gs ++ hs) else g ∷ (gs ++ hs))
-    ≡ (if b then with_bits bits g ∷ gs else g ∷ gs) ++ hs) [ true ↦ refl | false ↦ refl ]
+    search arith
 
 pub bound-long : (before : Option hb_glyph_info_t) (gs hs : List hb_glyph_info_t) → 0 < length gs
     → is_bound before (gs ++ hs) ≡ is_bound before gs
@@ -87,12 +76,12 @@ bound-plain before (g ∷ gs) = refl
 pub init-word : (bits : ℕ) (a b : Option hb_glyph_info_t) (gs : List hb_glyph_info_t) → word_goes_on a ≡ word_goes_on b
     → with_init bits a gs ≡ with_init bits b gs
 init-word bits a b [] same = refl
-init-word bits a b (g ∷ gs) same = ap (λ w. if is_left g && not w then with_bits bits g ∷ gs else g ∷ gs) same
+init-word bits a b (g ∷ gs) same = cc
 
 pub bound-word : (a b : Option hb_glyph_info_t) (gs : List hb_glyph_info_t) → word_goes_on a ≡ word_goes_on b
     → is_bound a gs ≡ is_bound b gs
 bound-word a b [] same = refl
-bound-word a b (g ∷ gs) same = ap (λ w. is_left g && w) same
+bound-word a b (g ∷ gs) same = cc
 
 -- which general categories tell
 abbrev pub general : hb_glyph_info_t → hb_unicode_general_category_t
@@ -104,67 +93,56 @@ word-by a b [] [] word same = word
 word-by a b [] (h ∷ hs) word same = absurd (cc same)
 word-by a b (g ∷ gs) [] word same = absurd (cc same)
 word-by a b (g ∷ gs) (h ∷ hs) word same =
-    let first : general g ≡ general h = cc same in
-    word-by (Some g) (Some h) gs hs (ap continues_word first) (ap (drop 1) same)
+    word-by (Some g) (Some h) gs hs (ap continues_word (cc same)) (ap (drop 1) same)
 
 pub same_word : (s : ℕ) (gs hs : List hb_glyph_info_t) → map general gs ≡ map general hs
     → word_goes_on (before_place s gs) ≡ word_goes_on (before_place s hs)
 same_word s gs hs same =
     word-by None None (take s gs) (take s hs) refl
-    (sym (take-map general s gs) ∙ ap (take s) same ∙ take-map general s hs)
+    (cc (take-map general s gs, take-map general s hs))
 
 pub general-view : (gs : List hb_glyph_info_t) → map general (order_view gs) ≡ map general gs
 general-view [] = refl
-general-view (g ∷ gs) = ap (λ cs. general g ∷ cs) (general-view gs)
+general-view (g ∷ gs) = cc (general-view gs)
 
 pub map-opened : {X : Type 0} (f : hb_glyph_info_t → X) (bits s : ℕ) → HidesBits f 3 → HidesBits f bits
     → (gs : List hb_glyph_info_t) → map f (opened bits s gs) ≡ map f gs
 map-opened f bits s flags inits gs =
     let before = before_place s gs in
     let rest = drop s gs in
-    map-bound f flags s (is_bound before rest) (take s gs ++ with_init bits before rest)
-    ∙ map-append f (take s gs) (with_init bits before rest)
-    ∙ ap (λ cs. map f (take s gs) ++ cs) (map-init f bits inits before rest)
-    ∙ sym (map-append f (take s gs) rest)
-    ∙ ap (map f) (take-append-drop s gs)
+    cc (
+      map-bound f flags s (is_bound before rest) (take s gs ++ with_init bits before rest),
+      map-append f (take s gs) (with_init bits before rest),
+      map-init f bits inits before rest,
+      map-append f (take s gs) rest,
+      take-append-drop s gs,
+    )
 
 -- an unsafe break through the view of what is carried along
-carried-off : (m : ℕ) (g : hb_glyph_info_t) → carried (with_bits_off 3 m g) ≡ with_bits_off 3 m (carried g)
-carried-off m g =
-    elim (g.cluster == m) as (λ b. carried (if b then g else with_bits 3 g)
-    ≡ (if b then carried g else with_bits 3 (carried g))) [
-      | true ↦ refl
-      | false ↦ ap (λ k. record g { mask = k; category = 0; auxiliary = 0; glyph_props = record { 0 = 0 } })
-          (or_mod g.mask 3 3)
-    ]
-
 carried-flagged_by : (m : ℕ) (gs : List hb_glyph_info_t) → map carried (map (with_bits_off 3 m) gs)
     ≡ map (with_bits_off 3 m) (map carried gs)
 carried-flagged_by m [] = refl
-carried-flagged_by m (g ∷ gs) = ap (λ x. x ∷ map carried (map (with_bits_off 3 m) gs)) (carried-off m g)
-    ∙ ap (λ xs. with_bits_off 3 m (carried g) ∷ xs) (carried-flagged_by m gs)
+carried-flagged_by m (g ∷ gs) = search (arith, or_mod g.mask 3 3, carried-flagged_by m gs)
 
 carried-flagged : (gs : List hb_glyph_info_t) → map carried (flagged 3 gs) ≡ flagged 3 (map carried gs)
-carried-flagged gs = carried-flagged_by (least (clusters gs)) gs
-    ∙ ap (λ cs. map (with_bits_off 3 (least cs)) (map carried gs)) (sym (clusters-carried gs))
+carried-flagged gs = search (arith, carried-flagged_by, clusters-carried)
 
 carried-unsafe : (s e : ℕ) (gs : List hb_glyph_info_t) → map carried (unsafe_inside s e gs)
     ≡ unsafe_inside s e (map carried gs)
 carried-unsafe s e gs =
-    map-append carried (take s gs) (flagged 3 (stretch_of s e gs) ++ drop e gs)
-    ∙ ap (λ xs. map carried (take s gs) ++ xs) (map-append carried (flagged 3 (stretch_of s e gs)) (drop e gs)
-    ∙ ap (λ xs. xs ++ map carried (drop e gs)) (carried-flagged (stretch_of s e gs)))
-    ∙ ap (λ xs. xs ++ (flagged 3 (map carried (stretch_of s e gs)) ++ map carried (drop e gs)))
-    (sym (take-map carried s gs))
-    ∙ ap (λ xs. take s (map carried gs) ++ (flagged 3 xs ++ map carried (drop e gs)))
-    (sym (ap (take (e - s)) (drop-map carried s gs) ∙ take-map carried (e - s) (drop s gs)))
-    ∙ ap (λ xs. take s (map carried gs) ++ (flagged 3 (stretch_of s e (map carried gs)) ++ xs))
-    (sym (drop-map carried e gs))
+    cc (
+      map-append carried (take s gs) (flagged 3 (stretch_of s e gs) ++ drop e gs),
+      map-append carried (flagged 3 (stretch_of s e gs)) (drop e gs),
+      carried-flagged (stretch_of s e gs),
+      take-map carried s gs,
+      drop-map carried s gs,
+      take-map carried (e - s) (drop s gs),
+      drop-map carried e gs,
+    )
 
 pub carried-bound : (s : ℕ) (b : Bool) (xs ys : List hb_glyph_info_t) → map carried xs ≡ map carried ys
     → map carried (bound_at s b xs) ≡ map carried (bound_at s b ys)
-carried-bound s true xs ys same = carried-unsafe (s - 1) (s + 1) xs ∙ ap (unsafe_inside (s - 1) (s + 1)) same
-    ∙ sym (carried-unsafe (s - 1) (s + 1) ys)
+carried-bound s true xs ys same = search (arith, carried-unsafe)
 carried-bound s false xs ys same = same
 
 pub carried-bound_from : (s : ℕ) (before : Option hb_glyph_info_t) (syls : List (List hb_glyph_info_t))

@@ -1,7 +1,8 @@
 -- The pass that opens syllable by syllable: what it still has to do.
-use Rattle.std.proofs.Common.{inl, inr, ◌==◌, ◌||◌, not, Bool, true, false, ℕ, suc, ◌+◌, ◌-◌, ◌%◌, ◌<◌, ◌≤◌, ◌≡◌, List, [], ◌∷◌, ◌++◌, map, length, take, drop, get_or, None, refl, sym, subst, take-append-drop, ◌∙◌, ap, arith, append-nil, append_assoc, length-append, length-take-le, length-drop}
+use Rattle.shapers_clusters.proofs.FlagCalls.{flags-or}
+use Rattle.std.proofs.Common.{inl, inr, ◌==◌, ◌||◌, not, Bool, true, false, ℕ, suc, ◌+◌, ◌-◌, ◌%◌, ◌<◌, ◌≤◌, ◌≡◌, List, [], ◌∷◌, ◌++◌, map, length, take, drop, get_or, None, refl, sym, take-append-drop, ◌∙◌, ap, arith, append-nil, append_assoc, length-append, length-take-le, length-drop}
 use Rattle.std.specs.List.{prefix_len}
-use Rattle.std.proofs.lemmas.Bool.{cases_Bool, eq-eqb, eqb-true, true≢false}
+use Rattle.std.proofs.lemmas.Bool.{eq-eqb, eqb-true}
 use Rattle.std.proofs.Math.Nat.{eq-or-lt_of_le}
 use Rattle.std.proofs.lemmas.List.Sums.{prefix_len_passes, prefix_len_stops}
 use Rattle.std.proofs.lemmas.List.{get_or-drop, get_or-map}
@@ -11,9 +12,9 @@ use Rattle.shapers_buffer.specs.declared.buffer.glyph.hb_glyph_info_t.{hb_glyph_
 use Rattle.shapers_buffer.specs.Buffer.{Buffer}
 use Rattle.shapers_buffer.specs.Glyph.{default_glyph, order_view, plain}
 use Rattle.shapers_buffer.specs.Syllables.{first_syllable_len, has_byte, syllables}
-use Rattle.shapers_indic_final.specs.FinalWordStart.{WordsOpened, before_place, bound_at, bound_from, is_bound, last_or, opened, starts_syllable, with_init, with_inits, word_goes_on}
+use Rattle.shapers_indic_final.specs.FinalWordStart.{WordsOpened, before_place, bound_at, bound_from, is_bound, last_or, opened, starts_syllable, with_init, with_inits}
 use Rattle.shapers_indic_final.proofs.FinalText.{last_or-append}
-use Rattle.shapers_indic_final.proofs.FinalWordStartViews.{bound-long, bound-plain, bound-view, bound-word, carried-bound, carried-bound_from, carried-init, general, general-view, map-opened, init-long, init-plain, init-word, length-init, same_word}
+use Rattle.shapers_indic_final.proofs.FinalWordStartViews.{map-init, bound-long, bound-plain, bound-view, bound-word, carried-bound, carried-bound_from, general, general-view, map-opened, init-long, init-plain, init-word, length-init, same_word}
 use Rattle.shapers_syllabic.specs.Reordering.{carried}
 use Rattle.shapers_syllabic.proofs.LinkedSyllables.{next_syllable}
 
@@ -55,48 +56,45 @@ opened_next bits old now new start end off to some end_is opens_it =
     let vn : length vs ≡ length gs = length-map gs plain in
     let rn : length rest ≡ length gs - start = omega (arith, length-drop start vs) in
     let fn : length front ≡ start = length-take-le start vs (omega arith) in
-    let within = next.within in
     let end_at = next.end_is in
     let one = first_some (drop start gs) (omega (arith, length-drop start gs)) in
     let syl_some : 0 < length syl = omega (arith, next.count) in
-    let parts : rest ≡ syl ++ back = sym (take-append-drop k rest) in
-    let here : order_view (drop start gs) ≡ syl ++ back = sym (drop-map plain start gs) ∙ parts in
+    let here = sym (drop-map plain start gs) ∙ (sym (take-append-drop k rest)) in
     let bn = before_place start gs in
     let bx = before_place start xs in
-    let word : word_goes_on bn ≡ word_goes_on bx = same_word start gs xs
+    let word = same_word start gs xs
     (to.words ∙ sym (general-view old.glyphs)) in
     let bound : is_bound bn (drop start gs) ≡ is_bound bx syl = sym (bound-plain bn (drop start gs))
     ∙ ap (is_bound bn) here ∙ bound-long bn syl back syl_some ∙ bound-word bn bx syl word in
     let B = is_bound bx syl in
     let inited = take start gs ++ with_init bits bn (drop start gs) in
-    let glyphs : new.glyphs ≡ bound_at start B inited = ap (λ (b : Buffer). b.glyphs) opens_it
+    let glyphs = ap (λ (b : Buffer). b.glyphs) opens_it
     ∙ ap (λ c. bound_at start c inited) bound in
     let opening = with_init bits bx syl in
-    let view : order_view new.glyphs ≡ (front ++ opening) ++ back =
+    let view =
     ap order_view glyphs ∙ bound-view start B inited
     ∙ map-append plain (take start gs) (with_init bits bn (drop start gs))
     ∙ ap (λ ys. ys ++ order_view (with_init bits bn (drop start gs))) (sym (take-map plain start gs))
     ∙ ap (λ ys. front ++ ys) (init-plain bits off bn (drop start gs) ∙ ap (with_init bits bn) here
     ∙ init-long bits bn syl back syl_some ∙ ap (λ ys. ys ++ back) (init-word bits bn bx syl word))
     ∙ sym (append_assoc front opening back) in
-    let both : length (front ++ opening) ≡ end = length-append front opening
-    ∙ omega (arith, length-init bits bx syl, next.count) in
+    let both : length (front ++ opening) ≡ end =
+    length-append front opening ∙ omega (arith, length-init bits bx syl, next.count) in
     let same : length new.glyphs ≡ length gs = sym (length-map new.glyphs plain) ∙ ap length view
     ∙ length-append (front ++ opening) back ∙ omega (arith, length-drop k rest) in
-    let old_rest : drop start xs ≡ rest = sym to.behind in
-    let old_back : drop end xs ≡ back = ap (λ j. drop j xs) (end_at ∙ omega arith) ∙ sym (drop-drop k start xs)
+    let old_rest = sym to.behind in
+    let old_back = ap (λ j. drop j xs) (end_at ∙ omega arith) ∙ sym (drop-drop k start xs)
     ∙ ap (drop k) old_rest in
-    let before : before_place end xs ≡ last_or bx syl = ap (last_or None) (ap (λ j. take j xs) end_at
+    let before = ap (last_or None) (ap (λ j. take j xs) end_at
     ∙ take-add start k xs ∙ ap (λ ys. take start xs ++ take k ys) old_rest) ∙ last_or-append None (take start xs) syl in
-    let later : start + length syl ≡ end = omega (arith, next.count) in
-    let cut : syllables (drop start xs) ≡ syl ∷ syllables back = ap syllables old_rest ∙ next.cut in
+    let cut = ap syllables old_rest ∙ next.cut in
     let F : ℕ → List (List hb_glyph_info_t) → List hb_glyph_info_t → List hb_glyph_info_t =
     λ j syls ys. map carried (bound_from j (last_or bx syl) syls ys) in
     record {
       same_length = same;
       to = record {
         others = opens_it ∙ ap (λ (b : Buffer). record b { glyphs = opened bits start gs }) to.others
-            ∙ sym (ap (λ (zs : List hb_glyph_info_t). let b : Buffer = record old { glyphs = zs } in b)
+            ∙ sym (ap (λ (zs : List hb_glyph_info_t). (record old { glyphs = zs }))
             (ap (λ (b : Buffer). b.glyphs) opens_it));
         inside = omega arith;
         words = ap (map general) (ap (λ (b : Buffer). b.glyphs) opens_it)
@@ -114,26 +112,17 @@ opened_next bits old now new start end off to some end_is opens_it =
             ap (λ ys. map carried (bound_from end (before_place end xs) (syllables ys) new.glyphs)) old_back
             ∙ ap (λ b. map carried (bound_from end b (syllables back) new.glyphs)) before
             ∙ carried-bound_from end (last_or bx syl) (syllables back) new.glyphs (bound_at start B gs)
-            (ap (map carried) glyphs ∙ carried-bound start B inited gs (map-append carried (take start gs)
-            (with_init bits bn (drop start gs)) ∙ ap (λ ys. map carried (take start gs) ++ ys)
-            (carried-init bits off bn (drop start gs)) ∙ sym (map-append carried (take start gs) (drop start gs))
-            ∙ ap (map carried) (take-append-drop start gs)))
-            ∙ sym (ap (λ j. F j (syllables back) (bound_at start B gs)) later)
-            ∙ sym (ap (λ ps. map carried (bound_from start bx ps gs)) cut)
-            ∙ to.flags;
+            (ap (map carried) glyphs ∙ carried-bound start B inited gs (map-append carried (take start gs) (with_init
+            bits bn (drop start gs)) ∙ ap (λ ys. map carried (take start gs) ++ ys) (search (
+              arith,
+              map-init,
+              flags-or,
+            )) ∙ sym (map-append carried (take start gs) (drop start gs)) ∙ ap (map carried)
+            (take-append-drop start gs)))
+            ∙ sym (ap (λ j. F j (syllables back) (bound_at start B gs)) (omega (arith, next.count)))
+            ∙ sym (ap (λ ps. map carried (bound_from start bx ps gs)) cut) ∙ to.flags;
       };
     }
-
--- before the first syllable
-pub to_open_all : (bits : ℕ) (old : Buffer) → ToOpen bits old old 0
-to_open_all bits old = record {
-  others = refl;
-  inside = omega arith;
-  words = refl;
-  behind = refl;
-  order = refl;
-  flags = refl;
-}
 
 -- The pass at a place: the text is opened up to the next start of a syllable.
 pub record Opening (bits : ℕ) (old now : Buffer) (place : ℕ) : Type 0 where
@@ -153,29 +142,27 @@ run_byte gs i j l low high =
     let x = get_or gs i default_glyph in
     let rest = drop (i + 1) gs in
     let first : first_syllable_len (drop i gs) ≡ suc (prefix_len (has_byte x.syllable) rest) =
-    ap first_syllable_len (drop_more gs i default_glyph l) in
+    search (arith, drop_more) in
     elim (eq-or-lt_of_le {n = i} {m = j} low) [
-      | inl is ↦ ap (λ k. (get_or gs k default_glyph).syllable) (sym is)
-      | inr more ↦ (let m = j - (i + 1) in
-          let same = prefix_len_passes (has_byte x.syllable) rest m default_glyph (omega arith) in
-          let at : get_or rest m default_glyph ≡ get_or gs j default_glyph = get_or-drop (i + 1) gs m default_glyph
-          ∙ ap (λ k. get_or gs k default_glyph) (omega arith) in
-          ap (λ (g : hb_glyph_info_t). g.syllable) (sym at) ∙ eqb-true (get_or rest m default_glyph).syllable x.syllable same)
+      | inl is ↦ cc
+      | inr more ↦ (
+          let m = j - (i + 1) in
+          search (
+            arith,
+            get_or-drop (i + 1) gs m default_glyph,
+            eqb-true (get_or rest m default_glyph).syllable x.syllable
+                (prefix_len_passes (has_byte x.syllable) rest m default_glyph (omega arith)),
+          ))
     ]
 
 behind_first : (k : ℕ) (b : Bool) → 0 < k → (k == 0 || b) ≡ b
-behind_first k b some = elim (cases_Bool (k == 0)) [
-  | inl first ↦ (let is = eqb-true k 0 first in absurd (omega arith))
-  | inr other ↦ ap (λ c. c || b) other
-]
+behind_first k b some = search arith
 
 starts_not : (k : ℕ) (gs : List hb_glyph_info_t) → 0 < k
     → (get_or gs k default_glyph).syllable ≡ (get_or gs (k - 1) default_glyph).syllable
     → starts_syllable k gs ≡ false
 starts_not k gs some same =
-    let here = (get_or gs k default_glyph).syllable in
-    let there = (get_or gs (k - 1) default_glyph).syllable in
-    behind_first k (not (here == there)) some ∙ ap not (eq-eqb here there same)
+    search (arith, behind_first, eq-eqb)
 
 starts_behind : (gs : List hb_glyph_info_t) (i e : ℕ) → i < e → e ≡ i + first_syllable_len (drop i gs) → e < length gs
     → starts_syllable e gs ≡ true
@@ -183,46 +170,27 @@ starts_behind gs i e l is more =
     let x = get_or gs i default_glyph in
     let rest = drop (i + 1) gs in
     let first : first_syllable_len (drop i gs) ≡ suc (prefix_len (has_byte x.syllable) rest) =
-    ap first_syllable_len (drop_more gs i default_glyph (omega arith)) in
-    let n = prefix_len (has_byte x.syllable) rest in
+    search (arith, drop_more) in
     let other = prefix_len_stops (has_byte x.syllable) rest default_glyph (omega (arith, length-drop (i + 1) gs)) in
-    let at : get_or rest n default_glyph ≡ get_or gs e default_glyph = get_or-drop (i + 1) gs n default_glyph
-    ∙ ap (λ j. get_or gs j default_glyph) (omega arith) in
-    let last = run_byte gs i (e - 1) (omega arith) (omega arith) (omega arith) in
-    behind_first e (not ((get_or gs e default_glyph).syllable == (get_or gs (e - 1) default_glyph).syllable)) (omega arith)
-    ∙ ap not (ap (λ b. (get_or gs e default_glyph).syllable == b) last
-    ∙ ap (λ (g : hb_glyph_info_t). g.syllable == x.syllable) (sym at) ∙ other)
+    search (
+      arith,
+      behind_first e (not ((get_or gs e default_glyph).syllable == (get_or gs (e - 1) default_glyph).syllable))
+          (omega arith),
+      run_byte gs i (e - 1) (omega arith) (omega arith) (omega arith),
+      get_or-drop (i + 1) gs (prefix_len (has_byte x.syllable) rest) default_glyph,
+    )
 
 -- opening keeps where syllables start
 starts-same : (k : ℕ) (gs hs : List hb_glyph_info_t) → map byte hs ≡ map byte gs → k < length gs
     → length hs ≡ length gs → starts_syllable k hs ≡ starts_syllable k gs
 unfolding byte
 starts-same k gs hs same l long =
-    let at : (j : ℕ) → j < length gs → (get_or hs j default_glyph).syllable ≡ (get_or gs j default_glyph).syllable =
-    λ j less. sym (get_or-map byte hs j default_glyph 0 (omega arith)) ∙ ap (λ bs. get_or bs j 0) same
+    let at : (j : ℕ) → j < length gs → (get_or hs j default_glyph).syllable ≡ (get_or gs j default_glyph).syllable = λ
+    j less. sym (get_or-map byte hs j default_glyph 0 (omega arith)) ∙ ap (λ bs. get_or bs j 0) same
     ∙ get_or-map byte gs j default_glyph 0 less in
-    ap (λ b. k == 0 || not (b == (get_or hs (k - 1) default_glyph).syllable)) (at k l)
-    ∙ ap (λ b. k == 0 || not ((get_or gs k default_glyph).syllable == b)) (at (k - 1) (omega arith))
+    cc (at k l, at (k - 1) (omega arith))
 
 -- a place where none starts, and one where one does
-pub opening_on : (bits : ℕ) (old now : Buffer) (i : ℕ) → i < length now.glyphs
-    → starts_syllable i now.glyphs ≡ false → Opening bits old now i → Opening bits old now (i + 1)
-opening_on bits old now i l not_here at =
-    let border = at.border in
-    let low = at.low in
-    let further : i < border = elim (eq-or-lt_of_le {n = i} {m = border} low) [
-      | inl is ↦ absurd (true≢false (sym (at.starts (omega arith))
-          ∙ ap (λ k. starts_syllable k now.glyphs) (sym is) ∙ not_here))
-      | inr more ↦ more
-    ] in
-    record {
-      border = border;
-      low = omega arith;
-      to = at.to;
-      none_before = λ k from up. at.none_before k (omega arith) up;
-      starts = at.starts;
-    }
-
 pub opening_starts : (bits : ℕ) (old now new : Buffer) (i : ℕ) → bits % 8 ≡ 0 → i < length now.glyphs
     → starts_syllable i now.glyphs ≡ true → new ≡ record now { glyphs = opened bits i now.glyphs }
     → Opening bits old now i → Opening bits old new (i + 1)
@@ -231,17 +199,11 @@ opening_starts bits old now new i off l here opens_it at =
     let gs = now.glyphs in
     let border = at.border in
     let low = at.low in
-    let is : border ≡ i = elim (eq-or-lt_of_le {n = i} {m = border} low) [
-      | inl is ↦ sym is
-      | inr more ↦ absurd (true≢false (sym here ∙ at.none_before i (omega arith) more))
-    ] in
     let end = i + first_syllable_len (drop i gs) in
     let one = first_some (drop i gs) (omega (arith, length-drop i gs)) in
-    let next = opened_next bits old now new i end off (subst (ToOpen bits old now) is at.to) l refl opens_it in
-    let same : map byte new.glyphs ≡ map byte gs = ap (λ (b : Buffer). map byte b.glyphs) opens_it
-    ∙ map-opened byte bits i (λ g. refl) (λ g. refl) gs in
+    let next = opened_next bits old now new i end off (search arith) l refl opens_it in
+    let same : map byte new.glyphs ≡ map byte gs = search (arith, map-opened) in
     let long = next.same_length in
-    let inside = next.to.inside in
     record {
       border = end;
       low = omega arith;
@@ -253,39 +215,17 @@ opening_starts bits old now new i off l here opens_it at =
           ∙ starts_behind gs i end (omega arith) refl (omega arith);
     }
 
-pub opening_first : (bits : ℕ) (old : Buffer) → Opening bits old old 0
-opening_first bits old = record {
-  border = 0;
-  low = omega arith;
-  to = to_open_all bits old;
-  none_before = λ k from up. absurd (omega arith);
-  starts = λ more. refl;
-}
-
 -- at the end all are open
 pub all_opened : (bits : ℕ) (old now : Buffer) → ToOpen bits old now (length now.glyphs) → WordsOpened bits old now
 all_opened bits old now to =
-    let n = length now.glyphs in
-    let vs = order_view now.glyphs in
-    let xs = order_view old.glyphs in
-    let none : drop n xs ≡ [] = sym to.behind ∙ drop_all n vs (omega (arith, length-map now.glyphs plain)) in
-    record {
-      others = to.others;
-      order = sym (append-nil vs) ∙ ap (λ ys. ys ++ []) (sym (take_all n vs
-          (omega (arith, length-map now.glyphs plain))))
-          ∙ ap (λ ys. take n vs ++ with_inits bits (before_place n xs) (syllables ys)) (sym none) ∙ to.order;
-      flags = ap (λ ys. map carried (bound_from n (before_place n xs) (syllables ys) now.glyphs)) (sym none)
-          ∙ to.flags;
-    }
+    search (arith, append-nil, take_all, length-map, drop_all)
 
 pub as_long : (bits : ℕ) (old now : Buffer) (i : ℕ) → Opening bits old now i → length now.glyphs ≡ length old.glyphs
-as_long bits old now i at = sym (length-map now.glyphs general) ∙ ap length at.to.words ∙ length-map old.glyphs general
+as_long bits old now i at = search (arith, length-map)
 
 pub opened_whole : (bits : ℕ) (old now : Buffer) (i : ℕ) → length old.glyphs ≤ i → Opening bits old now i
     → WordsOpened bits old now
 opened_whole bits old now i past at =
-    let low = at.low in
-    let inside = at.to.inside in
     let long = as_long bits old now i at in
     let is : at.border ≡ length now.glyphs = omega arith in
-    all_opened bits old now (subst (ToOpen bits old now) is at.to)
+    search (arith, all_opened)

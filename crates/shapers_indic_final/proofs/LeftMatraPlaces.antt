@@ -1,7 +1,6 @@
 -- Which left matras have gone and what has stayed, place by place.
-use Rattle.std.proofs.Common.{◌≡◌, ◌≢◌, ℕ, zero, suc, ◌+◌, ◌-◌, ◌<◌, ◌≤◌, ◌&&◌, Bool, true, false, cond, nat_le, nat_lt, List, [], ◌∷◌, ◌++◌, length, length-append, append-nil, get_or, filter, refl, sym, ap, ◌∙◌, arith, inl, inr}
+use Rattle.std.proofs.Common.{◌≡◌, ◌≢◌, ℕ, zero, suc, ◌+◌, ◌-◌, ◌<◌, ◌≤◌, Bool, true, false, cond, List, [], ◌∷◌, ◌++◌, length, length-append, append-nil, get_or, filter, refl, arith}
 use Rattle.std.specs.List.{range_with_len}
-use Rattle.std.proofs.lemmas.Bool.{cases_eq}
 use Rattle.std.proofs.lemmas.Bool.Decides.{nat_tests}
 use Rattle.std.proofs.lemmas.List.Elements.{filter-append}
 use Rattle.shapers_buffer.specs.declared.buffer.glyph.hb_glyph_info_t.{hb_glyph_info_t}
@@ -22,109 +21,85 @@ pub same_filter : (t u : ℕ → Bool) (a n : ℕ) → ((j : ℕ) → a ≤ j �
     ≡ filter u (range_with_len a n)
 same_filter t u a zero h = refl
 same_filter t u a (suc n) h =
-    let rest = same_filter t u (a + 1) n (λ j l m. h j (omega arith) (omega arith)) in
-    ap (λ b. cond b (a ∷ filter t (range_with_len (a + 1) n)) (filter t (range_with_len (a + 1) n)))
-    (h a (omega arith) (omega arith))
-    ∙ ap (λ xs. cond (u a) (a ∷ xs) xs) rest
+    search (arith, same_filter t u (a + 1) n (λ j l m. h j (omega arith) (omega arith)))
 
 pub chosen-same : (t u : ℕ → Bool) (gs : List hb_glyph_info_t) (a b : ℕ) → ((j : ℕ) → a ≤ j → j < b → t j ≡ u j)
     → chosen t gs a b ≡ chosen u gs a b
-chosen-same t u gs a b h = ap (λ ps. pick ps gs) (same_filter t u a (b - a) (λ j l m. h j l (omega arith)))
+chosen-same t u gs a b h = search (arith, same_filter)
 
 filter_all : (t : ℕ → Bool) (a n : ℕ) → ((j : ℕ) → a ≤ j → j < a + n → t j ≡ true) → filter t (range_with_len a n)
     ≡ range_with_len a n
 filter_all t a zero h = refl
 filter_all t a (suc n) h =
-    ap (λ b. cond b (a ∷ filter t (range_with_len (a + 1) n)) (filter t (range_with_len (a + 1) n)))
-    (h a (omega arith) (omega arith))
-    ∙ ap (λ xs. a ∷ xs) (filter_all t (a + 1) n (λ j l m. h j (omega arith) (omega arith)))
+    search (arith, filter_all t (a + 1) n (λ j l m. h j (omega arith) (omega arith)))
 
 pub filter_none : (t : ℕ → Bool) (a n : ℕ) → ((j : ℕ) → a ≤ j → j < a + n → t j ≡ false) → filter t (range_with_len a n)
     ≡ []
 filter_none t a zero h = refl
 filter_none t a (suc n) h =
-    ap (λ b. cond b (a ∷ filter t (range_with_len (a + 1) n)) (filter t (range_with_len (a + 1) n)))
-    (h a (omega arith) (omega arith))
-    ∙ filter_none t (a + 1) n (λ j l m. h j (omega arith) (omega arith))
+    search (arith, filter_none t (a + 1) n (λ j l m. h j (omega arith) (omega arith)))
 
 pub chosen-all : (t : ℕ → Bool) (gs : List hb_glyph_info_t) (a b : ℕ) → a ≤ b → b ≤ length gs
     → ((j : ℕ) → a ≤ j → j < b → t j ≡ true) → chosen t gs a b ≡ stretch_of a b gs
-chosen-all t gs a b h w all = ap (λ ps. pick ps gs) (filter_all t a (b - a) (λ j l m. all j l (omega arith)))
-    ∙ pick-range a (b - a) gs (omega arith)
+chosen-all t gs a b h w all = search (arith, filter_all, pick-range)
 
 pub chosen-none : (t : ℕ → Bool) (gs : List hb_glyph_info_t) (a b : ℕ) → ((j : ℕ) → a ≤ j → j < b → t j ≡ false)
     → chosen t gs a b ≡ []
-chosen-none t gs a b none = ap (λ ps. pick ps gs) (filter_none t a (b - a) (λ j l m. none j l (omega arith)))
+chosen-none t gs a b none = search (arith, filter_none)
 
 pub filter-split : (t : ℕ → Bool) (a m b : ℕ) → a ≤ m → m ≤ b → filter t (places a b) ≡ filter t (places a m)
     ++ filter t (places m b)
 filter-split t a m b h l =
-    let n : b - a ≡ (m - a) + (b - m) = omega arith in
-    let up : a + (m - a) ≡ m = omega arith in
-    ap (λ k. filter t (range_with_len a k)) n
-    ∙ ap (filter t) (range-append a (m - a) (b - m) ∙ ap (λ k. range_with_len a (m - a) ++ range_with_len k (b - m)) up)
-    ∙ filter-append t (range_with_len a (m - a)) (range_with_len m (b - m))
+    search (
+      arith,
+      range-append a (m - a) (b - m),
+      filter-append t (range_with_len a (m - a)) (range_with_len m (b - m)),
+    )
 
 pub chosen-split : (t : ℕ → Bool) (gs : List hb_glyph_info_t) (a m b : ℕ) → a ≤ m → m ≤ b
     → chosen t gs a b ≡ chosen t gs a m ++ chosen t gs m b
-chosen-split t gs a m b h l = ap (λ ps. pick ps gs) (filter-split t a m b h l)
-    ∙ pick-append (filter t (places a m)) (filter t (places m b)) gs
+chosen-split t gs a m b h l =
+    cc (filter-split t a m b h l, pick-append (filter t (places a m)) (filter t (places m b)) gs)
 
 pub filter-one : (t : ℕ → Bool) (k : ℕ) → filter t (places k (k + 1)) ≡ cond (t k) (k ∷ []) []
-filter-one t k = let n : k + 1 - k ≡ 1 = omega arith in ap (λ m. filter t (range_with_len k m)) n
+filter-one t k = search arith
 
 pub chosen-one : (t : ℕ → Bool) (gs : List hb_glyph_info_t) (k : ℕ) → k < length gs
     → chosen t gs k (k + 1) ≡ cond (t k) (get_or gs k default_glyph ∷ []) []
 chosen-one t gs k h =
-    ap (λ ps. pick ps gs) (filter-one t k)
-    ∙ elim (t k) as (λ b. pick (cond b (k ∷ []) []) gs ≡ cond b (get_or gs k default_glyph ∷ []) []) [
-      | true ↦ pick-within default_glyph k [] gs h
-      | false ↦ refl
-    ]
-
-pub chosen-empty : (t : ℕ → Bool) (gs : List hb_glyph_info_t) (a : ℕ) → chosen t gs a a ≡ []
-chosen-empty t gs a = chosen-none t gs a a (λ j l m. absurd (omega arith))
+    search (arith, filter-one t k, pick-within default_glyph k [] gs h)
 
 -- the place before, which goes or stays
 pub one_before : (t : ℕ → Bool) (gs : List hb_glyph_info_t) (a k b : ℕ) → a ≤ k → k < b → k < length gs
     → chosen t gs a b ≡ chosen t gs a k ++ (cond (t k) (get_or gs k default_glyph ∷ []) [] ++ chosen t gs (k + 1) b)
 one_before t gs a k b h l w =
-    chosen-split t gs a k b h (omega arith)
-    ∙ ap (λ xs. chosen t gs a k ++ xs) (chosen-split t gs k (k + 1) b (omega arith) (omega arith)
-    ∙ ap (λ xs. xs ++ chosen t gs (k + 1) b) (chosen-one t gs k w))
+    cc (
+      chosen-split t gs a k b h (omega arith),
+      chosen-split t gs k (k + 1) b (omega arith) (omega arith),
+      chosen-one t gs k w,
+    )
 
 -- has_gone from k + 1 on, and from k on
 pub gone_elsewhere : (k top j : ℕ) (gs : List hb_glyph_info_t) → j ≢ k → has_gone (k + 1) top gs j ≡ has_gone k top gs j
 gone_elsewhere k top j gs other =
-    let same : nat_le (k + 1) j ≡ nat_le k j = grind (arith, nat_tests) in
-    ap (λ b. b && (nat_lt j top && passes is_left gs j)) same
+    search (arith, nat_tests)
 
 pub gone_before : (i top j : ℕ) (gs : List hb_glyph_info_t) → j < i → has_gone i top gs j ≡ false
 gone_before i top j gs h =
-    let no : nat_le i j ≡ false = grind (arith, nat_tests) in
-    ap (λ b. b && (nat_lt j top && passes is_left gs j)) no
+    search (arith, nat_tests)
 
 pub gone_behind : (i top j : ℕ) (gs : List hb_glyph_info_t) → top ≤ j → has_gone i top gs j ≡ false
 gone_behind i top j gs h =
-    let no : nat_lt j top ≡ false = grind (arith, nat_tests) in
-    ap (λ b. nat_le i j && (b && passes is_left gs j)) no ∙ elim (nat_le i j) as (λ b. (b && false) ≡ false)
-    [ true ↦ refl | false ↦ refl ]
+    search (arith, nat_tests)
 
 pub gone_here : (k top : ℕ) (gs : List hb_glyph_info_t) → k < top → has_gone k top gs k ≡ passes is_left gs k
 gone_here k top gs h =
-    let one : nat_le k k ≡ true = grind (arith, nat_tests) in
-    let two : nat_lt k top ≡ true = grind (arith, nat_tests) in
-    ap (λ b. b && (nat_lt k top && passes is_left gs k)) one ∙ ap (λ b. b && passes is_left gs k) two
+    search (arith, nat_tests)
 
 -- what is no left matra stays
 pub gone_same : (k top j : ℕ) (gs : List hb_glyph_info_t) → k < top → passes is_left gs k ≡ false
     → has_gone (k + 1) top gs j ≡ has_gone k top gs j
-gone_same k top j gs h fails = elim (cases_eq j k) [
-  | inl same ↦
-      ap (has_gone (k + 1) top gs) same ∙ gone_before (k + 1) top k gs (omega arith)
-      ∙ sym (ap (has_gone k top gs) same ∙ gone_here k top gs h ∙ fails)
-  | inr other ↦ gone_elsewhere k top j gs other
-]
+gone_same k top j gs h fails = search (arith, gone_before, gone_here, gone_elsewhere)
 
 -- how many places from s to j pass
 pub record Counted (t : ℕ → Bool) (s j len : ℕ) : Type 0 where
@@ -133,22 +108,14 @@ pub record Counted (t : ℕ → Bool) (s j len : ℕ) : Type 0 where
 
 pub counted_yes : (t : ℕ → Bool) (s j len : ℕ) → s ≤ j → t j ≡ true → Counted t s j len → Counted t s (j + 1) (len + 1)
 counted_yes t s j len h holds c =
-    let few = c.few in
-    record {
-      is = ap (λ k. k + 1) c.is
-          ∙ sym (ap length (filter-split t s j (j + 1) h (omega arith)
-          ∙ ap (λ xs. filter t (places s j) ++ xs) (filter-one t j ∙ ap (λ b. cond b (j ∷ []) []) holds))
-          ∙ length-append (filter t (places s j)) (j ∷ []));
-      few = omega arith;
-    }
+    search (
+      arith,
+      c.is,
+      filter-split t s j (j + 1) h (omega arith),
+      filter-one t j,
+      length-append (filter t (places s j)) (j ∷ []),
+    )
 
 pub counted_no : (t : ℕ → Bool) (s j len : ℕ) → s ≤ j → t j ≡ false → Counted t s j len → Counted t s (j + 1) len
 counted_no t s j len h fails c =
-    let few = c.few in
-    record {
-      is = c.is ∙ sym
-          (ap length (filter-split t s j (j + 1) h (omega arith)
-          ∙ ap (λ xs. filter t (places s j) ++ xs) (filter-one t j ∙ ap (λ b. cond b (j ∷ []) []) fails)
-          ∙ append-nil (filter t (places s j))));
-      few = omega arith;
-    }
+    search (arith, c.is, filter-split t s j (j + 1) h (omega arith), filter-one t j, append-nil (filter t (places s j)))

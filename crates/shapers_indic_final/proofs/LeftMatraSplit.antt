@@ -1,5 +1,5 @@
 -- The glyphs as they stand when a left matra is met, in parts: what stands before it, and what from it to its place.
-use Rattle.std.proofs.Common.{◌≡◌, ◌≢◌, ℕ, zero, suc, ◌+◌, ◌-◌, ◌<◌, ◌≤◌, inl, inr, Bool, true, false, cond, not, nat_le, nat_lt, List, [], ◌∷◌, ◌++◌, map, length, get_or, slice_index, refl, sym, ap, ◌∙◌, append_assoc, arith, length-append, if◌then◌else◌}
+use Rattle.std.proofs.Common.{◌≡◌, ◌≢◌, ℕ, zero, suc, ◌+◌, ◌-◌, ◌<◌, ◌≤◌, inl, inr, Bool, true, false, not, nat_le, nat_lt, List, ◌∷◌, ◌++◌, map, length, get_or, slice_index, refl, ap, ◌∙◌, append_assoc, arith, length-append, if◌then◌else◌}
 use Rattle.std.proofs.lemmas.List.{length-map, map-append}
 use Rattle.std.proofs.lemmas.List.Folds.{list_all-append}
 use Rattle.std.proofs.lemmas.Bool.{and_parts, cases_lt, leb-true}
@@ -20,26 +20,19 @@ use Rattle.shapers_indic_final.proofs.LeftMatraPlaces.{chosen, chosen-all, chose
 -- glyphs put into a cluster
 pub put_on : (level : BufferClusterLevel) (m : ℕ) (gs : List hb_glyph_info_t) → merges level ≡ true
     → put level m gs ≡ map (in_cluster m) gs
-put_on level m gs on = ap (λ b. if b then map (in_cluster m) gs else gs) on
+put_on level m gs on = cc
 
 pub put_off : (level : BufferClusterLevel) (m : ℕ) (gs : List hb_glyph_info_t) → merges level ≡ false
     → put level m gs ≡ gs
-put_off level m gs off = ap (λ b. if b then map (in_cluster m) gs else gs) off
+put_off level m gs off = cc
 
 pub put-append : (level : BufferClusterLevel) (m : ℕ) (xs ys : List hb_glyph_info_t)
     → put level m (xs ++ ys) ≡ put level m xs ++ put level m ys
 put-append level m xs ys =
-    elim (merges level) as (λ b. (if b then map (in_cluster m) (xs ++ ys) else xs ++ ys)
-    ≡ (if b then map (in_cluster m) xs else xs) ++ (if b then map (in_cluster m) ys else ys)) [
-      | true ↦ map-append (in_cluster m) xs ys
-      | false ↦ refl
-    ]
+    search (arith, map-append)
 
 pub length-put : (level : BufferClusterLevel) (m : ℕ) (gs : List hb_glyph_info_t) → length (put level m gs) ≡ length gs
-length-put level m gs = elim (merges level) as (λ b. length (if b then map (in_cluster m) gs else gs) ≡ length gs) [
-  | true ↦ length-map gs (in_cluster m)
-  | false ↦ refl
-]
+length-put level m gs = search (arith, length-map)
 
 abbrev pub put_one : BufferClusterLevel → ℕ → hb_glyph_info_t → hb_glyph_info_t
 put_one level m g = if merges level then in_cluster m g else g
@@ -47,11 +40,7 @@ put_one level m g = if merges level then in_cluster m g else g
 put-cons : (level : BufferClusterLevel) (m : ℕ) (g : hb_glyph_info_t) (gs : List hb_glyph_info_t)
     → put level m (g ∷ gs) ≡ put_one level m g ∷ put level m gs
 put-cons level m g gs =
-    elim (merges level) as (λ b. (if b then map (in_cluster m) (g ∷ gs) else g ∷ gs) ≡ (if b then in_cluster m g else g)
-    ∷ (if b then map (in_cluster m) gs else gs)) [
-      | true ↦ refl
-      | false ↦ refl
-    ]
+    search arith
 
 cluster_put : (m : ℕ) (g : hb_glyph_info_t) → (in_cluster m g).cluster ≡ m
 cluster_put m g = grind (arith, nat_tests)
@@ -62,17 +51,14 @@ pub gone_more : (k top p : ℕ) (gs : List hb_glyph_info_t) → k < top → top 
 gone_more k top p gs h l w left =
     let v = has_gone (k + 1) top gs in
     let u = has_gone k top gs in
-    let g = get_or gs k default_glyph in
-    let none : gone k top gs 0 k ≡ [] = chosen-none u gs 0 k (λ j a b. gone_before k top j gs b) in
-    let rest : gone (k + 1) top gs 0 p ≡ gone k top gs (k + 1) p =
-    chosen-split v gs 0 (k + 1) p (omega arith) (omega arith)
-    ∙ ap (λ xs. xs ++ gone (k + 1) top gs (k + 1) p)
-    (chosen-none v gs 0 (k + 1) (λ j a b. gone_before (k + 1) top j gs b))
-    ∙ chosen-same v u gs (k + 1) p (λ j a b. gone_elsewhere k top j gs (λ e. absurd (omega arith))) in
-    one_before u gs 0 k p (omega arith) (omega arith) (omega arith)
-    ∙ ap (λ xs. xs ++ (cond (u k) (g ∷ []) [] ++ gone k top gs (k + 1) p)) none
-    ∙ ap (λ b. cond b (g ∷ []) [] ++ gone k top gs (k + 1) p) (gone_here k top gs h ∙ left)
-    ∙ ap (λ xs. g ∷ xs) (sym rest)
+    cc (
+      one_before u gs 0 k p (omega arith) (omega arith) (omega arith),
+      chosen-none u gs 0 k (λ j a b. gone_before k top j gs b),
+      gone_here k top gs h,
+      chosen-split v gs 0 (k + 1) p (omega arith) (omega arith),
+      chosen-none v gs 0 (k + 1) (λ j a b. gone_before (k + 1) top j gs b),
+      chosen-same v u gs (k + 1) p (λ j a b. gone_elsewhere k top j gs (λ e. absurd (omega arith))),
+    )
 
 -- how many stay and go
 pub both_long : (t : ℕ → Bool) (gs : List hb_glyph_info_t) (b : ℕ) → b ≤ length gs
@@ -80,22 +66,16 @@ pub both_long : (t : ℕ → Bool) (gs : List hb_glyph_info_t) (b : ℕ) → b �
 both_long t gs zero w = refl
 both_long t gs (suc b) w =
     let u : ℕ → Bool = λ j. not (t j) in
-    let g = get_or gs b default_glyph in
-    let up : suc b ≡ b + 1 = omega arith in
-    let one : length (chosen t gs 0 (suc b)) ≡ length (chosen t gs 0 b) + length (cond (t b) (g ∷ []) []) =
-    ap (λ k. length (chosen t gs 0 k)) up ∙ ap length (chosen-split t gs 0 b (b + 1) (omega arith) (omega arith))
-    ∙ length-append (chosen t gs 0 b) (chosen t gs b (b + 1))
-    ∙ ap (λ xs. length (chosen t gs 0 b) + length xs) (chosen-one t gs b (omega arith)) in
-    let two : length (chosen (λ j. not (t j)) gs 0 (suc b)) ≡ length (chosen (λ j. not (t j)) gs 0 b)
-    + length (cond (not (t b)) (g ∷ []) []) =
-    ap (λ k. length (chosen u gs 0 k)) up ∙ ap length (chosen-split u gs 0 b (b + 1) (omega arith) (omega arith))
-    ∙ length-append (chosen u gs 0 b) (chosen u gs b (b + 1))
-    ∙ ap (λ xs. length (chosen u gs 0 b) + length xs) (chosen-one u gs b (omega arith)) in
-    let rest = both_long t gs b (omega arith) in
-    let sum : length (cond (t b) (g ∷ []) []) + length (cond (not (t b)) (g ∷ []) []) ≡ 1 =
-    elim (t b) as (λ c. length (cond c (g ∷ []) []) + length (cond (not c) (g ∷ []) []) ≡ 1)
-    [ true ↦ refl | false ↦ refl ] in
-    omega (arith, one, two, rest, sum)
+    search (
+      arith,
+      chosen-split t gs 0 b (b + 1) (omega arith) (omega arith),
+      length-append (chosen t gs 0 b) (chosen t gs b (b + 1)),
+      chosen-one t gs b (omega arith),
+      chosen-split u gs 0 b (b + 1) (omega arith) (omega arith),
+      length-append (chosen u gs 0 b) (chosen u gs b (b + 1)),
+      chosen-one u gs b (omega arith),
+      both_long t gs b (omega arith),
+    )
 
 pub record Split (level : BufferClusterLevel) (k top p q c : ℕ) (gs : List hb_glyph_info_t) : Type 0 where
   pub front : List hb_glyph_info_t
@@ -117,90 +97,80 @@ split level k top p q c gs h l w within left none =
     let t = has_stayed (k + 1) top gs in
     let u = has_stayed k top gs in
     let g = get_or gs k default_glyph in
-    let at : has_gone k top gs k ≡ true = gone_here k top gs h ∙ left in
-    let tk : has_stayed (k + 1) top gs k ≡ true = ap not (gone_before (k + 1) top k gs (omega arith)) in
-    let uk : has_stayed k top gs k ≡ false = ap not at in
+    let tk : has_stayed (k + 1) top gs k ≡ true = search (arith, gone_before) in
+    let uk : has_stayed k top gs k ≡ false = ap not (gone_here k top gs h ∙ left) in
     let same : (a b : ℕ) → ((j : ℕ) → a ≤ j → j < b → j ≢ k) → staying (k + 1) top gs a b ≡ staying k top gs a b =
-    λ a b other. chosen-same t u gs a b (λ j m n. ap not (gone_elsewhere k top j gs (other j m n))) in
+    λ a b other. chosen-same t u gs a b (λ j m n. search (arith, gone_elsewhere)) in
     let old : (a b : ℕ) → a ≤ k → k < b → staying (k + 1) top gs a b ≡ staying k top gs a k
     ++ (g ∷ staying k top gs (k + 1) b) = λ a b m n.
-    one_before t gs a k b m n (omega arith)
-    ∙ ap (λ v. staying (k + 1) top gs a k ++ (cond v (g ∷ []) [] ++ staying (k + 1) top gs (k + 1) b)) tk
-    ∙ ap (λ xs. xs ++ (g ∷ staying (k + 1) top gs (k + 1) b)) (same a k (λ j x z e. absurd (omega arith)))
-    ∙ ap (λ xs. staying k top gs a k ++ (g ∷ xs)) (same (k + 1) b (λ j x z e. absurd (omega arith))) in
+    cc (
+      one_before t gs a k b m n (omega arith),
+      same a k (λ j x z e. absurd (omega arith)),
+      same (k + 1) b (λ j x z e. absurd (omega arith)),
+    ) in
     let new : (a b : ℕ) → a ≤ k → k < b → staying k top gs a b ≡ staying k top gs a k ++ staying k top gs (k + 1) b =
     λ a b m n.
-    one_before u gs a k b m n (omega arith)
-    ∙ ap (λ v. staying k top gs a k ++ (cond v (g ∷ []) [] ++ staying k top gs (k + 1) b)) uk in
-    let many : (a b : ℕ) → a ≤ b → b ≤ k → length (staying k top gs a b) ≡ b - a = λ a b m n.
-    ap length (chosen-all u gs a b m (omega arith) (λ j x z. ap not (gone_before k top j gs (omega arith))))
-    ∙ length-stretch a b gs (omega arith) in
+    cc (one_before u gs a k b m n (omega arith)) in
+    let many : (a b : ℕ) → a ≤ b → b ≤ k → length (staying k top gs a b) ≡ b - a =
+    search (arith, chosen-all, gone_before, length-stretch) in
     elim (cases_lt k q) [
       | inl less ↦
-          let yes : nat_lt k q ≡ true = grind (arith, nat_tests) in
           record {
             front = staying k top gs 0 k;
             back = staying k top gs (k + 1) q ++ put level c (staying k top gs q p);
             y = g;
-            before = ap (λ xs. xs ++ put level c (staying (k + 1) top gs q p)) (old 0 q (omega arith) less)
-                ∙ ap (λ xs. (staying k top gs 0 k ++ (g ∷ staying k top gs (k + 1) q)) ++ put level c xs)
-                (same q p (λ j x z e. absurd (omega arith)))
-                ∙ append_assoc (staying k top gs 0 k) (g ∷ staying k top gs (k + 1) q)
-                (put level c (staying k top gs q p));
-            after = ap (λ xs. xs ++ put level c (staying k top gs q p)) (new 0 q (omega arith) less)
-                ∙ append_assoc (staying k top gs 0 k) (staying k top gs (k + 1) q) (put level c (staying k top gs q p));
-            long = many 0 k (omega arith) (omega arith) ∙ omega arith;
-            own = λ on. cluster_read gs k (omega arith)
-                ∙ sym (ap (λ b. if b then slice_index (clusters gs) k else c) yes);
+            before = search (arith, append_assoc);
+            after = search (arith, append_assoc);
+            long = search arith;
+            own = search (arith, cluster_read);
             same = λ on m z. refl;
             above = λ on. omega arith;
             plain = λ off. refl;
-            kept = λ on. sym (ap (none_below c) (same q p (λ j x z e. absurd (omega arith)))) ∙ none on;
+            kept = search arith;
           }
       | inr more ↦
-          let no : nat_lt k q ≡ false = grind (arith, nat_tests) in
           let A = staying k top gs q k in
           let B = staying k top gs (k + 1) p in
           let parts : merges level ≡ true → (none_below c (staying k top gs q k) ≡ true)
           × (none_below c (g ∷ staying k top gs (k + 1) p) ≡ true) =
-          λ on. and_parts (none_below c (staying k top gs q k)) (none_below c (g ∷ staying k top gs (k + 1) p))
-          (sym (list_all-append (λ x. nat_le c x.cluster) (staying k top gs q k)
-          (g ∷ staying k top gs (k + 1) p)) ∙ sym (ap (none_below c) (old q p (omega arith) (omega arith)))
-          ∙ none on) in
+          search (arith, and_parts, list_all-append) in
           let high : merges level ≡ true → c ≤ g.cluster =
-          λ on. leb-true c g.cluster (and_parts (nat_le c g.cluster) (none_below c B) (parts on).1).0 in
+          search (arith, leb-true, and_parts) in
           let is : merges level ≡ true → put_one level c g ≡ in_cluster c g =
-          λ on. ap (λ b. if b then in_cluster c g else g) on in
+          search arith in
           record {
             front = staying k top gs 0 q ++ put level c (staying k top gs q k);
             back = put level c (staying k top gs (k + 1) p);
             y = put_one level c g;
-            before = ap (λ xs. xs ++ put level c (staying (k + 1) top gs q p))
-                (same 0 q (λ j x z e. absurd (omega arith)))
-                ∙ ap (λ xs. staying k top gs 0 q ++ xs) (ap (put level c) (old q p (omega arith) (omega arith))
-                ∙ put-append level c A (g ∷ B) ∙ ap (λ xs. put level c A ++ xs) (put-cons level c g B))
-                ∙ sym (append_assoc (staying k top gs 0 q) (put level c A) (put_one level c g ∷ put level c B));
-            after = ap (λ xs. staying k top gs 0 q ++ xs) (ap (put level c) (new q p (omega arith) (omega arith))
-                ∙ put-append level c A B) ∙ sym (append_assoc (staying k top gs 0 q) (put level c A) (put level c B));
+            before =
+                cc (
+                  same 0 q (λ j x z e. absurd (omega arith)),
+                  old q p (omega arith) (omega arith),
+                  put-append level c A (g ∷ B),
+                  put-cons level c g B,
+                  append_assoc (staying k top gs 0 q) (put level c A) (put_one level c g ∷ put level c B),
+                );
+            after =
+                cc (
+                  new q p (omega arith) (omega arith),
+                  put-append level c A B,
+                  append_assoc (staying k top gs 0 q) (put level c A) (put level c B),
+                );
             long = length-append (staying k top gs 0 q) (put level c A)
                 ∙ omega (
                   arith,
                   many 0 q (omega arith) (omega arith),
                   length-put level c A,
-                  many q k (omega arith)
-                      (omega arith),
+                  many q k (omega arith) (omega arith),
                 );
-            own = λ on. ap (λ (x : hb_glyph_info_t). x.cluster) (is on) ∙ cluster_put c g
-                ∙ sym (ap (λ b. if b then slice_index (clusters gs) k else c) no);
+            own = search (arith, cluster_put);
             same = λ on m z. ap (in_cluster m) (is on)
-                ∙ put_twice m c g (let e = ap (λ (x : hb_glyph_info_t). x.cluster) (is on)
-                ∙ cluster_put c g in omega (arith, e, z)) (high on);
-            above = λ on. let e = ap (λ (x : hb_glyph_info_t). x.cluster) (is on)
-                ∙ cluster_put c g in omega (arith, e, high on);
-            plain = λ off. ap (λ b. if b then in_cluster c g else g) off;
+                ∙ put_twice m c g (omega (arith, ap (λ (x : hb_glyph_info_t). x.cluster) (is on) ∙ cluster_put c g, z))
+                (high on);
+            above = search (arith, cluster_put);
+            plain = search arith;
             kept = λ on. ap (none_below c) (new q p (omega arith) (omega arith))
                 ∙ list_all-append (λ x. nat_le c x.cluster) A B
-                ∙ (let one = (parts on).0 in let two =
-                (and_parts (nat_le c g.cluster) (none_below c B) (parts on).1).1 in rw (one, two) refl);
+                ∙ (rw ((parts on).0, (and_parts (nat_le c g.cluster) (none_below c B) (parts on).1).1) refl);
           }
     ]

@@ -1,5 +1,5 @@
 -- One left matra more goes to its place and merges: what becomes of the two runs.
-use Rattle.std.proofs.Common.{◌≡◌, ◌≢◌, ℕ, ◌+◌, ◌-◌, ◌<◌, ◌≤◌, inl, inr, true, false, cond, not, nat_le, nat_lt, List, [], ◌∷◌, ◌++◌, min, map, length, take, drop, get_or, reverse, refl, sym, ap, ◌∙◌, append_assoc, arith, length-append, length-drop}
+use Rattle.std.proofs.Common.{◌≡◌, ℕ, ◌+◌, ◌-◌, ◌<◌, ◌≤◌, inl, inr, true, false, List, [], ◌∷◌, ◌++◌, min, map, length, take, drop, get_or, reverse, refl, sym, ap, ◌∙◌, append_assoc, arith, length-append, length-drop}
 use Rattle.std.specs.List.{prefix_len}
 use Rattle.std.proofs.lemmas.List.{drop-drop, length-map, map-append, reverse-reverse, take-append-drop}
 use Rattle.std.proofs.lemmas.List.Folds.{list_all-append}
@@ -16,7 +16,7 @@ use Rattle.shapers_buffer.proofs.OneCluster.{all_in_cluster, stretch_in_two}
 use Rattle.shapers_indic.specs.Glyphs.{passes}
 use Rattle.shapers_indic_final.specs.declared.ot_shaper_indic_final.left_matras.Runs.{Runs}
 use Rattle.shapers_indic_final.specs.FinalMatras.{is_left}
-use Rattle.shapers_indic_final.specs.LeftMatraWalk.{Merged, Reaches, as_parted, gone, has_gone, has_stayed, own_cluster, put, staying}
+use Rattle.shapers_indic_final.specs.LeftMatraWalk.{Merged, Reaches, as_parted, gone, has_gone, has_stayed, put, staying}
 use Rattle.shapers_indic_final.specs.Proved.LeftMatraMoves.{stretch_between}
 use Rattle.shapers_buffer.proofs.RunLemmas.{ended_all, first_run_passes, none_lower, none_of_cluster, puts_twice}
 use Rattle.shapers_indic_final.proofs.LeftMatraFloods.{back_none, flooded_all, merged_before}
@@ -35,98 +35,76 @@ pub record Fits (i top p : ℕ) (runs : Runs) (gs : List hb_glyph_info_t) : Type
 
 none-append : (m : ℕ) (xs ys : List hb_glyph_info_t) → none_below m xs ≡ true → none_below m ys ≡ true
     → none_below m (xs ++ ys) ≡ true
-none-append m xs ys one two = list_all-append (λ g. nat_le m g.cluster) xs ys ∙ rw (one, two) refl
+none-append m xs ys one two = search (arith, list_all-append, refl)
 
 none-parts : (m : ℕ) (xs ys : List hb_glyph_info_t) → none_below m (xs ++ ys) ≡ true → (none_below m xs ≡ true)
     × (none_below m ys ≡ true)
 none-parts m xs ys none =
-    and_parts (none_below m xs) (none_below m ys) (sym (list_all-append (λ g. nat_le m g.cluster) xs ys) ∙ none)
+    search (arith, and_parts, list_all-append)
 
 -- what stays before a run ends with the glyph before the place
 stays_some : (i top p q : ℕ) (gs : List hb_glyph_info_t) → top < p → q < p → p ≤ length gs
     → 0 < length (staying i top gs q p)
 stays_some i top p q gs h l w =
     let k = p - 1 in
-    let g = get_or gs k default_glyph in
-    let up : p - 1 + 1 ≡ p = omega arith in
     let t = has_stayed i top gs in
-    let one : staying i top gs k (k + 1) ≡ g ∷ [] = chosen-one t gs k (omega arith)
-    ∙ ap (λ b. cond (not b) (g ∷ []) []) (gone_behind i top k gs (omega arith)) in
-    let is : staying i top gs q p ≡ staying i top gs q k ++ g ∷ [] = ap (staying i top gs q) (sym up)
-    ∙ chosen-split t gs q k (k + 1) (omega arith) (omega arith) ∙ ap (λ xs. staying i top gs q k ++ xs) one in
-    let n = ap length is ∙ length-append (staying i top gs q k) (g ∷ []) in
-    omega (arith, n)
+    search (
+      arith,
+      chosen-split t gs q k (k + 1) (omega arith) (omega arith),
+      chosen-one t gs k (omega arith),
+      gone_behind i top k gs (omega arith),
+      length-append (staying i top gs q k) ((get_or gs k default_glyph) ∷ []),
+    )
 
 -- how many glyphs stand before the matras
 pub length-front : (level : BufferClusterLevel) (i top p q c : ℕ) (gs : List hb_glyph_info_t) → q ≤ p → p ≤ length gs
     → length (staying i top gs 0 q ++ put level c (staying i top gs q p)) + length (gone i top gs 0 p) ≡ p
 length-front level i top p q c gs h w =
-    let one = length-append (staying i top gs 0 q) (put level c (staying i top gs q p)) in
-    let two = length-put level c (staying i top gs q p) in
-    let three = ap length (chosen-split (has_stayed i top gs) gs 0 q p (omega arith) h)
-    ∙ length-append (staying i top gs 0 q) (staying i top gs q p) in
-    let four = both_long (has_gone i top gs) gs p w in
-    omega (arith, one, two, three, four)
+    search (
+      arith,
+      length-append (staying i top gs 0 q) (put level c (staying i top gs q p)),
+      length-put level c (staying i top gs q p),
+      chosen-split (has_stayed i top gs) gs 0 q p (omega arith) h,
+      length-append (staying i top gs 0 q) (staying i top gs q p),
+      both_long (has_gone i top gs) gs p w,
+    )
 
 pub length-parted : (level : BufferClusterLevel) (i top p b : ℕ) (runs : Runs) (gs : List hb_glyph_info_t) → p ≤ b
     → Lies p b runs gs → length (as_parted level i top p runs gs) ≡ length gs
 length-parted level i top p b runs gs h lies =
-    let front = staying i top gs 0 runs.start ++ put level runs.before (staying i top gs runs.start p) in
-    let zs = gone i top gs 0 p ++ stretch_of p runs.end gs in
-    let s = lies.start in
-    let f = lies.from in
-    let e = lies.end in
-    let one = length-front level i top p runs.start runs.before gs (omega arith) (omega arith) in
-    let two = length-append front (put level runs.cluster zs ++ drop runs.end gs) in
-    let three = length-append (put level runs.cluster zs) (drop runs.end gs) in
-    let four = length-put level runs.cluster zs in
-    let five = length-append (gone i top gs 0 p) (stretch_of p runs.end gs) in
-    let six = length-stretch p runs.end gs e in
-    let seven = length-drop runs.end gs in
-    omega (arith, one, two, three, four, five, six, seven)
+    search (arith, length-front, length-append, length-put, length-stretch, length-drop)
 
 -- the matra goes behind what stood between
 rotated : (k at : ℕ) (front back c : List hb_glyph_info_t) (y : hb_glyph_info_t) → length front ≡ k
     → at ≡ k + length back → with_stretch k (at + 1) first_last ((front ++ (y ∷ back)) ++ c) ≡ (front ++ back)
     ++ (y ∷ c)
 rotated k at front back c y long to =
-    let n : k + length (y ∷ back) ≡ at + 1 = omega arith in
-    ap (with_stretch k (at + 1) first_last) (append_assoc front (y ∷ back) c)
-    ∙ stretch_between first_last k (at + 1) front (y ∷ back) c long n
-    ∙ ap (λ xs. front ++ xs) (append_assoc back (y ∷ []) c)
-    ∙ sym (append_assoc front back (y ∷ c))
+    cc (
+      append_assoc front (y ∷ back) c,
+      stretch_between first_last k (at + 1) front (y ∷ back) c long (omega arith),
+      append_assoc back (y ∷ []) c,
+      append_assoc front back (y ∷ c),
+    )
 
 merge_on : (level : BufferClusterLevel) (at b : ℕ) (gs : List hb_glyph_info_t) → merges level ≡ true → at + 1 < b
     → merge level at b gs ≡ merged at b gs
 merge_on level at b gs on two =
-    let few : nat_lt (b - at) 2 ≡ false = grind (arith, nat_tests) in
-    rw (on, few) refl
-
-merge_off : (level : BufferClusterLevel) (at b : ℕ) (gs : List hb_glyph_info_t) → merges level ≡ false
-    → merge level at b gs ≡ gs
-merge_off level at b gs off = rw off refl
+    search (arith, nat_tests, refl)
 
 -- at a level that doesn't merge, the runs mean nothing
 pub parted_off : (level : BufferClusterLevel) (i top p b : ℕ) (runs : Runs) (gs : List hb_glyph_info_t) → p ≤ b
     → Lies p b runs gs → merges level ≡ false → as_parted level i top p runs gs ≡ staying i top gs 0 p
     ++ (gone i top gs 0 p ++ drop p gs)
 parted_off level i top p b runs gs h lies off =
-    let s = lies.start in
-    let f = lies.from in
-    let zs = gone i top gs 0 p ++ stretch_of p runs.end gs in
-    let up : p + (runs.end - p) ≡ runs.end = omega arith in
-    let rest : stretch_of p runs.end gs ++ drop runs.end gs ≡ drop p gs =
-    ap (λ n. stretch_of p runs.end gs ++ drop n gs) (sym up)
-    ∙ ap (λ xs. stretch_of p runs.end gs ++ xs) (sym (drop-drop (runs.end - p) p gs))
-    ∙ take-append-drop (runs.end - p) (drop p gs) in
-    ap (λ xs. (staying i top gs 0 runs.start ++ xs) ++ (put level runs.cluster zs ++ drop runs.end gs))
-    (put_off level runs.before (staying i top gs runs.start p) off)
-    ∙ ap (λ xs. xs ++ (put level runs.cluster zs ++ drop runs.end gs))
-    (sym (chosen-split (has_stayed i top gs) gs 0 runs.start p (omega arith) (omega arith)))
-    ∙ ap (λ xs. staying i top gs 0 p ++ (xs ++ drop runs.end gs)) (put_off level runs.cluster zs off)
-    ∙ ap (λ xs. staying i top gs 0 p ++ xs)
-    (append_assoc (gone i top gs 0 p) (stretch_of p runs.end gs) (drop runs.end gs)
-    ∙ ap (λ xs. gone i top gs 0 p ++ xs) rest)
+    search (
+      arith,
+      put_off level runs.before (staying i top gs runs.start p) off,
+      chosen-split (has_stayed i top gs) gs 0 runs.start p (omega arith) (omega arith),
+      put_off level runs.cluster (gone i top gs 0 p ++ stretch_of p runs.end gs) off,
+      append_assoc (gone i top gs 0 p) (stretch_of p runs.end gs) (drop runs.end gs),
+      drop-drop (runs.end - p) p gs,
+      take-append-drop (runs.end - p) (drop p gs),
+    )
 
 -- What the merge makes of what stands before the matra.
 pub record Fronted (level : BufferClusterLevel) (k top p m : ℕ) (y : hb_glyph_info_t) (front : List hb_glyph_info_t)
@@ -143,59 +121,26 @@ fronted_floods : (level : BufferClusterLevel) (k top p m : ℕ) (y : hb_glyph_in
     new gs
 fronted_floods level k top p m y old new gs on within own low r to kept =
     let c = old.before in
-    let q = old.start in
     let U = staying k top gs 0 new.start in
     let W = staying k top gs new.start old.start in
     let R = staying k top gs old.start p in
     let lower = r.within in
     let t = has_stayed k top gs in
-    let u : staying k top gs 0 old.start ≡ U ++ W = chosen-split t gs 0 new.start old.start (omega arith) lower in
-    let v : staying k top gs new.start p ≡ W ++ R = chosen-split t gs new.start old.start p lower within in
-    record {
-      is =
-          ap (λ n. reverse (flooded n m (reverse (staying k top gs 0 q ++ put level c R)))) own
-          ∙ ap (λ xs. reverse (flooded c m (reverse (staying k top gs 0 q ++ xs)))) (put_on level c R on)
-          ∙ ended_all c m (staying k top gs 0 q) (map (in_cluster c) R) (all_in_cluster c R)
-          ∙ ap (λ xs. reverse (flooded c m (reverse xs)) ++ map (in_cluster m) (map (in_cluster c) R)) u
-          ∙ ap (λ xs. xs ++ map (in_cluster m) (map (in_cluster c) R)) (ended_all c m U W r.equal)
-          ∙ ap (λ xs. (reverse xs ++ map (in_cluster m) W) ++ map (in_cluster m) (map (in_cluster c) R)) (r.stops m)
-          ∙ ap (λ xs. (xs ++ map (in_cluster m) W) ++ map (in_cluster m) (map (in_cluster c) R)) (reverse-reverse U)
-          ∙ ap (λ xs. (U ++ map (in_cluster m) W) ++ xs) (puts_twice m c R low kept)
-          ∙ append_assoc U (map (in_cluster m) W) (map (in_cluster m) R)
-          ∙ ap (λ xs. U ++ xs) (sym (map-append (in_cluster m) W R) ∙ ap (map (in_cluster m)) (sym v)
-          ∙ sym (put_on level m (staying k top gs new.start p) on)
-          ∙ ap (λ n. put level n (staying k top gs new.start p)) (sym to));
-      none =
-          ap (λ n. none_below n (staying k top gs new.start p)) to ∙ ap (none_below m) v
-          ∙ none-append m W R (none_of_cluster m c W low r.equal) (none_lower m c R low kept);
-    }
-
-fronted_spares : (level : BufferClusterLevel) (k top p m : ℕ) (y : hb_glyph_info_t) (old new : Runs)
-    (gs : List hb_glyph_info_t) → merges level ≡ true → top < p → old.start < p → p ≤ length gs → y.cluster ≢ old.before
-    → new.start ≡ old.start → new.before ≡ old.before → none_below old.before (staying k top gs old.start p) ≡ true
-    → Fronted level k top p m y (staying k top gs 0 old.start ++ put level old.before (staying k top gs old.start p))
-    new gs
-fronted_spares level k top p m y old new gs on h within w other start before kept =
-    let c = old.before in
-    let q = old.start in
-    let R = staying k top gs old.start p in
-    let some : 0 < length (map (in_cluster c) R) =
-    omega (arith, length-map R (in_cluster c), stays_some k top p q gs h within w) in
-    let same : staying k top gs 0 q ++ put level c R ≡ staying k top gs 0 new.start
-    ++ put level new.before (staying k top gs new.start p) =
-    sym (ap (λ n. staying k top gs 0 n ++ put level new.before (staying k top gs n p)) start
-    ∙ ap (λ n. staying k top gs 0 q ++ put level n R) before) in
-    let on_it = put_on level c R on in
-    record {
-      is =
-          ap (λ xs. reverse (flooded y.cluster m (reverse (staying k top gs 0 q ++ xs)))) on_it
-          ∙ ap reverse (back_none y.cluster c m (staying k top gs 0 q) (map (in_cluster c) R) other some
-          (all_in_cluster c R))
-          ∙ reverse-reverse (staying k top gs 0 q ++ map (in_cluster c) R)
-          ∙ ap (λ xs. staying k top gs 0 q ++ xs) (sym on_it)
-          ∙ same;
-      none = ap (λ n. none_below new.before (staying k top gs n p)) start ∙ ap (λ n. none_below n R) before ∙ kept;
-    }
+    search (
+      arith,
+      put_on level c R on,
+      ended_all c m (staying k top gs 0 old.start) (map (in_cluster c) R) (all_in_cluster c R),
+      chosen-split t gs 0 new.start old.start (omega arith) lower,
+      ended_all c m U W r.equal,
+      r.stops m,
+      reverse-reverse U,
+      puts_twice m c R low kept,
+      append_assoc U (map (in_cluster m) W) (map (in_cluster m) R),
+      map-append (in_cluster m) W R,
+      chosen-split t gs new.start old.start p lower within,
+      put_on level m (staying k top gs new.start p) on,
+      none-append m W R (none_of_cluster m c W low r.equal) (none_lower m c R low kept),
+    )
 
 -- what it makes of the matra and what follows it
 behind_is : (level : BufferClusterLevel) (p b e n m l : ℕ) (y g : hb_glyph_info_t) (go gs : List hb_glyph_info_t)
@@ -206,34 +151,29 @@ behind_is : (level : BufferClusterLevel) (p b e n m l : ℕ) (y g : hb_glyph_inf
 behind_is level p b e n m l y g go gs h to low same none is =
     let A = go ++ stretch_of p b gs in
     let B = stretch_of b e gs in
-    let f : List hb_glyph_info_t → List hb_glyph_info_t = map (in_cluster l) in
+    let f = map (in_cluster l) in
     let D = take n (drop e gs) in
     let E = drop n (drop e gs) in
-    let ab : go ++ stretch_of p e gs ≡ A ++ B = ap (λ xs. go ++ xs) (stretch_in_two p b e gs h to)
-    ∙ sym (append_assoc go (stretch_of p b gs) B) in
+    let ab : go ++ stretch_of p e gs ≡ A ++ B =
+    ap (λ xs. go ++ xs) (stretch_in_two p b e gs h to) ∙ sym (append_assoc go (stretch_of p b gs) B) in
     let parts = none-parts m A B (sym (ap (none_below m) ab) ∙ none) in
-    let flood : flooded m l (map (in_cluster m) B ++ drop e gs) ≡ map (in_cluster l) (map (in_cluster m) B)
-    ++ (map (in_cluster l) D ++ E) =
-    flooded_all m l (map (in_cluster m) B) (drop e gs) (all_in_cluster m B)
-    ∙ ap (λ xs. map (in_cluster l) (map (in_cluster m) B) ++ xs) (flooded-parts m l (drop e gs)
-    ∙ ap (λ k. map (in_cluster l) (take k (drop e gs)) ++ drop k (drop e gs)) (sym is)) in
-    let many : e + n - e ≡ n = omega arith in
-    let long : stretch_of p (e + n) gs ≡ stretch_of p e gs ++ D =
-    stretch_in_two p e (e + n) gs (omega arith) (omega arith)
-    ∙ ap (λ k. stretch_of p e gs ++ take k (drop e gs)) many in
-    let whole : (g ∷ go) ++ stretch_of p (e + n) gs ≡ g ∷ (A ++ (B ++ D)) = ap (λ xs. g ∷ (go ++ xs)) long
-    ∙ ap (λ xs. g ∷ xs) (sym (append_assoc go (stretch_of p e gs) D) ∙ ap (λ xs. xs ++ D) ab
-    ∙ append_assoc A B D) in
-    ap (λ xs. f (y ∷ map (in_cluster m) A) ++ xs) flood
-    ∙ ap (λ x. (x ∷ f (map (in_cluster m) A)) ++ (f (map (in_cluster m) B) ++ (f D ++ E))) same
-    ∙ ap (λ xs. (in_cluster l g ∷ xs) ++ (f (map (in_cluster m) B) ++ (f D ++ E))) (puts_twice l m A low parts.0)
-    ∙ ap (λ xs. (in_cluster l g ∷ f A) ++ (xs ++ (f D ++ E))) (puts_twice l m B low parts.1)
-    ∙ ap (λ xs. (in_cluster l g ∷ f A) ++ xs) (sym (append_assoc (f B) (f D) E))
-    ∙ sym (append_assoc (in_cluster l g ∷ f A) (f B ++ f D) E)
-    ∙ ap (λ xs. (in_cluster l g ∷ xs) ++ E) (ap (λ xs. f A ++ xs) (sym (map-append (in_cluster l) B D))
-    ∙ sym (map-append (in_cluster l) A (B ++ D)))
-    ∙ ap (λ xs. f xs ++ E) (sym whole)
-    ∙ ap (λ xs. f ((g ∷ go) ++ stretch_of p (e + n) gs) ++ xs) (drop-drop n e gs)
+    search (
+      arith,
+      flooded_all m l (map (in_cluster m) B) (drop e gs) (all_in_cluster m B),
+      flooded-parts m l (drop e gs),
+      puts_twice l m A low parts.0,
+      puts_twice l m B low parts.1,
+      append_assoc (f B) (f D) E,
+      append_assoc (in_cluster l g ∷ f A) (f B ++ f D) E,
+      map-append (in_cluster l) B D,
+      map-append (in_cluster l) A (B ++ D),
+      stretch_in_two p e (e + n) gs (omega arith) (omega arith),
+      append_assoc go (stretch_of p e gs) D,
+      stretch_in_two p b e gs h to,
+      append_assoc go (stretch_of p b gs) B,
+      append_assoc A B D,
+      drop-drop n e gs,
+    )
 
 -- One more: the matra at place k goes to `at`, and merges up to b.
 pub one_more : (level : BufferClusterLevel) (k top p b at : ℕ) (old new : Runs) (gs : List hb_glyph_info_t) → k < top
@@ -250,17 +190,18 @@ one_more level k top p b at old new gs h behind before lies left r count fits li
     let g = get_or gs k default_glyph in
     let G = gone (k + 1) top gs 0 p in
     let Z = gone (k + 1) top gs 0 p ++ stretch_of p old.end gs in
-    let s0 = lies.start in
     let f0 = lies.from in
-    let e0 = lies.end in
     let sp = split level k top p q c gs h (omega arith) (omega arith) (omega arith) left (λ on. (fits on).before) in
-    let front_long = length-front level (k + 1) top p q c gs (omega arith) (omega arith) in
-    let sum = ap length sp.before ∙ length-append sp.front (sp.y ∷ sp.back) in
-    let more : gone k top gs 0 p ≡ g ∷ G = gone_more k top p gs h (omega arith) (omega arith) left in
-    let to : at ≡ k + length sp.back = omega (arith, sp.long, sum, front_long, count) in
+    let more = gone_more k top p gs h (omega arith) (omega arith) left in
+    let to : at ≡ k + length sp.back = omega (
+      arith,
+      sp.long,
+      ap length sp.before ∙ length-append sp.front (sp.y ∷ sp.back),
+      length-front level (k + 1) top p q c gs (omega arith) (omega arith),
+      count,
+    ) in
     let C = put level m Z ++ drop e gs in
-    let moved : with_stretch k (at + 1) first_last (as_parted level (k + 1) top p old gs) ≡ (sp.front ++ sp.back)
-    ++ (sp.y ∷ (put level m Z ++ drop e gs)) =
+    let moved =
     ap (λ xs. with_stretch k (at + 1) first_last (xs ++ C)) sp.before
     ∙ rotated k at sp.front sp.back C sp.y sp.long to in
     elim (cases_Bool (merges level)) [
@@ -273,7 +214,7 @@ one_more level k top p b at old new gs h behind before lies left r count fits li
           (ap (λ x. x ∷ C) (sp.plain off) ∙ ap (λ xs. g ∷ (xs ++ drop e gs)) (put_off level m Z off)
           ∙ sym (ap (λ xs. xs ++ drop e gs) (put_off level m (gone k top gs 0 p ++ stretch_of p e gs) off
           ∙ ap (λ xs. xs ++ stretch_of p e gs) more))) in (
-            merge_off level at b (with_stretch k (at + 1) first_last (as_parted level (k + 1) top p old gs)) off
+            (rw off refl)
                 ∙ same ∙ parted_off level k top p b old gs (omega arith) lies off
                 ∙ sym (parted_off level k top p b new gs (omega arith) lies_new off),
             λ on. absurd (false≢true (sym off ∙ on)),
@@ -281,8 +222,8 @@ one_more level k top p b at old new gs h behind before lies left r count fits li
       | inl on ↦
           let ft = fits on in
           let l = min sp.y.cluster m in
-          let own : sp.y.cluster ≡ own_cluster k old gs = sp.own on in
-          let new_is : new.cluster ≡ min sp.y.cluster m = r.cluster ∙ ap (λ n. min n m) (sym own) in
+          let own = sp.own on in
+          let new_is = r.cluster ∙ ap (λ n. min n m) (sym own) in
           let A = G ++ stretch_of p b gs in
           let B = stretch_of b e gs in
           let zs = map (in_cluster m) (G ++ stretch_of p b gs) in
@@ -295,11 +236,10 @@ one_more level k top p b at old new gs h behind before lies left r count fits li
           let zs_long : length zs ≡ length G + (b - p) = length-map A (in_cluster m)
           ∙ length-append G (stretch_of p b gs)
           ∙ ap (λ n. length G + n) (length-stretch p b gs (omega arith)) in
-          let some : 0 < length zs = omega arith in
-          let end : b ≡ at + 1 + length zs = omega (arith, count) in
-          let fl : length (sp.front ++ sp.back) ≡ at = length-append sp.front sp.back ∙ omega (arith, sp.long, to) in
           let merged_it =
-          merged_before at b m (sp.front ++ sp.back) sp.y zs behind_zs fl end some (all_in_cluster m A) in
+          merged_before at b m (sp.front ++ sp.back) sp.y zs behind_zs
+          (length-append sp.front sp.back ∙ omega (arith, sp.long, to))
+          (omega (arith, count)) (omega arith) (all_in_cluster m A) in
           let fr : Fronted level k top p (min sp.y.cluster m) sp.y
           (staying k top gs 0 old.start ++ put level old.before (staying k top gs old.start p)) new gs =
           elim (cases_eq sp.y.cluster c) [
@@ -309,8 +249,21 @@ one_more level k top p b at old new gs h behind before lies left r count fits li
                 fl2.0 (fl2.1 ∙ new_is) (sp.kept on)
             | inr other ↦
                 let st = r.spares (λ e2. other (own ∙ e2)) in
-                fronted_spares level k top p (min sp.y.cluster m) sp.y old new gs on behind s0 (omega arith) other st.0
-                st.1 (sp.kept on)
+                let c = old.before in
+                let q = old.start in
+                let R = staying k top gs old.start p in
+                search (
+                  arith,
+                  put_on level c R on,
+                  back_none sp.y.cluster c (min sp.y.cluster m) (staying k top gs 0 q) (map (in_cluster c) R) other
+                      (omega (
+                        arith,
+                        length-map R (in_cluster c),
+                        stays_some k top p q gs behind lies.start (omega
+                            arith),
+                      )) (all_in_cluster c R),
+                  reverse-reverse (staying k top gs 0 q ++ map (in_cluster c) R),
+                )
           ] in
           let n = prefix_len (has_cluster m) (drop e gs) in
           let bh = behind_is level p b e n m l sp.y g G gs (omega arith) f0 (omega arith) (sp.same on l (omega arith))
@@ -321,48 +274,38 @@ one_more level k top p b at old new gs h behind before lies left r count fits li
           ∙ ap (λ xs. map (in_cluster l) (xs ++ stretch_of p new.end gs) ++ drop new.end gs) (sym more)
           ∙ ap (λ xs. xs ++ drop new.end gs)
           (ap (λ k2. map (in_cluster k2) (gone k top gs 0 p ++ stretch_of p new.end gs)) (sym new_is)
-          ∙ sym (put_on level new.cluster (gone k top gs 0 p ++ stretch_of p new.end gs) on)) in
-          let F = reverse (flooded sp.y.cluster l (reverse (sp.front ++ sp.back))) in (
+          ∙ sym (put_on level new.cluster (gone k top gs 0 p ++ stretch_of p new.end gs) on)) in (
             ap (merge level at b) (moved ∙ ap (λ xs. (sp.front ++ sp.back) ++ (sp.y ∷ xs)) c_is)
-                ∙ merge_on level at b ((sp.front ++ sp.back) ++ (sp.y ∷ (zs ++ behind_zs))) on (omega arith)
-                ∙ merged_it
-                ∙ ap (λ xs. F ++ xs) (bh ∙ whole)
-                ∙ ap (λ xs. reverse (flooded sp.y.cluster l (reverse xs))
-                ++ (put level new.cluster (gone k top gs 0 p ++ stretch_of p new.end gs) ++ drop new.end gs))
-                (sym sp.after)
-                ∙ ap (λ xs. xs
-                ++ (put level new.cluster (gone k top gs 0 p ++ stretch_of p new.end gs) ++ drop new.end gs)) fr.is,
+                ∙ merge_on level at b ((sp.front ++ sp.back) ++ (sp.y ∷ (zs ++ behind_zs))) on (omega arith) ∙ merged_it
+                ∙ ap (λ xs. (reverse (flooded sp.y.cluster l (reverse (sp.front ++ sp.back)))) ++ xs) (bh ∙ whole)
+                ∙ ap
+                (λ xs. reverse (flooded sp.y.cluster l (reverse xs)) ++ (put level new.cluster (gone k top gs 0 p ++
+                stretch_of p new.end gs) ++ drop new.end gs)) (sym sp.after)
+                ∙ ap
+                (λ xs. xs ++ (put level new.cluster (gone k top gs 0 p ++ stretch_of p new.end gs) ++ drop new.end gs))
+                fr.is,
             λ on2. record {
               before = fr.none;
               least =
                   let low : l ≤ m = omega arith in
-                  let one : nat_le (min sp.y.cluster m) g.cluster ≡ true =
-                  le-leb (min sp.y.cluster m) g.cluster (omega (arith, sp.above on)) in
-                  let many : e + n - e ≡ n = omega arith in
                   let long : stretch_of p (e + n) gs ≡ stretch_of p e gs ++ take n (drop e gs) =
                   stretch_in_two p e (e + n) gs (omega arith) (omega arith)
-                  ∙ ap (λ k2. stretch_of p e gs ++ take k2 (drop e gs)) many in
-                  let rest : none_below (min sp.y.cluster m) (Z ++ take n (drop e gs)) ≡ true =
-                  none-append (min sp.y.cluster m) Z (take n (drop e gs)) (none_lower l m Z low ft.least)
-                  (none_of_cluster l m (take n (drop e gs)) low
-                  (first_run_passes (has_cluster m) (drop e gs))) in
+                  ∙ ap (λ k2. stretch_of p e gs ++ take k2 (drop e gs)) (omega arith) in
                   ap (λ k2. none_below k2 (gone k top gs 0 p ++ stretch_of p new.end gs)) new_is
                   ∙ ap (λ xs. none_below l (xs ++ stretch_of p new.end gs)) more
                   ∙ ap (λ k2. none_below l (g ∷ (G ++ stretch_of p k2 gs))) r.end
-                  ∙ ap (λ xs. none_below l (g ∷ xs)) (ap (λ xs. G ++ xs) long
-                  ∙ sym (append_assoc G (stretch_of p e gs) (take n (drop e gs))))
-                  ∙ rw (one, rest) refl;
+                  ∙ ap (λ xs. none_below l (g ∷ xs))
+                  (ap (λ xs. G ++ xs) long ∙ sym (append_assoc G (stretch_of p e gs) (take n (drop e gs))))
+                  ∙ rw (
+                    le-leb (min sp.y.cluster m) g.cluster (omega (arith, sp.above on)),
+                    none-append (min sp.y.cluster
+                        m) Z (take n (drop e gs)) (none_lower l m Z low ft.least) (none_of_cluster l m (take n (drop e gs))
+                        low (first_run_passes (has_cluster m) (drop e gs))),
+                  ) refl;
             },
           )
     ]
 
 pub lies_on : (k top p b : ℕ) (old new : Runs) (gs : List hb_glyph_info_t) → Merged k top old new gs
     → new.end ≤ length gs → Lies p b old gs → Lies p b new gs
-lies_on k top p b old new gs r within lies = record {
-  start = elim (cases_eq (own_cluster k old gs) old.before) [
-    | inl same ↦ omega (arith, (r.floods same).0.within, lies.start)
-    | inr other ↦ omega (arith, (r.spares other).0, lies.start)
-  ];
-  from = omega (arith, r.end, lies.from);
-  end = within;
-}
+lies_on k top p b old new gs r within lies = search arith

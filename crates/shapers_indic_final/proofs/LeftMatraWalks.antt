@@ -1,7 +1,7 @@
 -- The walk over the left matras of a syllable, step by step.
-use Rattle.std.proofs.Common.{◌≡◌, ℕ, ◌+◌, ◌-◌, ◌<◌, ◌≤◌, ◌==◌, inl, inr, true, false, cond, not, List, [], ◌∷◌, ◌++◌, map, filter, length, take, drop, get_or, reverse, refl, sym, ap, subst, ◌∙◌, arith, length-append, eq-eqb}
+use Rattle.shapers_buffer.proofs.MappedLists.{enumerate-append}
+use Rattle.std.proofs.Common.{◌≡◌, ℕ, ◌+◌, ◌-◌, ◌<◌, ◌≤◌, true, false, not, List, [], ◌∷◌, ◌++◌, map, filter, length, take, drop, get_or, reverse, refl, sym, ap, subst, ◌∙◌, arith, length-append, eq-eqb}
 use Rattle.std.specs.List.{list_all}
-use Rattle.std.proofs.lemmas.Bool.{cases_lt, cases_Bool}
 use Rattle.std.proofs.lemmas.List.{map-append}
 use Rattle.std.proofs.lemmas.List.Sums.{fold-append}
 use Rattle.shapers_buffer.specs.declared.buffer.glyph.hb_glyph_info_t.{hb_glyph_info_t}
@@ -17,7 +17,7 @@ use Rattle.shapers_indic.specs.Glyphs.{passes}
 use Rattle.shapers_indic_final.specs.declared.ot_shaper_indic_final.left_matras.Runs.{Runs}
 use Rattle.shapers_indic_final.specs.FinalMatras.{is_left, matra_step}
 use Rattle.shapers_indic_final.specs.LeftMatraWalk.{Merged, as_parted, gone, has_gone, has_stayed, put, staying, steps_to}
-use Rattle.shapers_indic_final.proofs.FinalPlacing.{lefts_from, lefts_no, lefts_yes, numbered_more, numbered_steps}
+use Rattle.shapers_indic_final.proofs.FinalPlacing.{lefts_from, lefts_no, lefts_yes, numbered_steps}
 use Rattle.shapers_indic_final.specs.Proved.FinalSteps.{matra_stepped}
 use Rattle.shapers_buffer.proofs.RunLemmas.{none_of_cluster}
 use Rattle.shapers_indic_final.proofs.LeftMatraPlaces.{chosen-all, chosen-none, chosen-one, chosen-same, chosen-split, gone_before, gone_behind, gone_same}
@@ -44,20 +44,14 @@ pub record Walk (s i top p b : ℕ) (runs : Runs) (gs : List hb_glyph_info_t) : 
       → Walked level e s i top p b runs gs
 
 none_gone : (top j : ℕ) (gs : List hb_glyph_info_t) → has_gone top top gs j ≡ false
-none_gone top j gs = elim (cases_lt j top) [
-  | inl less ↦ gone_before top top j gs less
-  | inr more ↦ gone_behind top top j gs more
-]
+none_gone top j gs = search (arith, gone_before, gone_behind)
 
 own_stays : (level : BufferClusterLevel) (m : ℕ) (gs : List hb_glyph_info_t)
     → (merges level ≡ true → list_all (has_cluster m) gs ≡ true) → put level m gs ≡ gs
-own_stays level m gs all = elim (cases_Bool (merges level)) [
-  | inl on ↦ put_on level m gs on ∙ in_cluster_stays m gs (all on)
-  | inr off ↦ put_off level m gs off
-]
+own_stays level m gs all = search (arith, put_on, in_cluster_stays, put_off)
 
 one_of : (g : hb_glyph_info_t) → list_all (has_cluster g.cluster) (g ∷ []) ≡ true
-one_of g = let is : (g.cluster == g.cluster) ≡ true = eq-eqb g.cluster g.cluster refl in rw is refl
+one_of g = search (arith, eq-eqb, refl)
 
 -- in places of the whole buffer
 start_as : (level : BufferClusterLevel) (top p b : ℕ) (runs : Runs) (gs : List hb_glyph_info_t) → top < p → p < b
@@ -67,17 +61,13 @@ start_as : (level : BufferClusterLevel) (top p b : ℕ) (runs : Runs) (gs : List
     → (as_parted level top top p runs gs ≡ gs) × (gone top top gs 0 p ≡ [])
     × (merges level ≡ true → Fits top top p runs gs)
 start_as level top p b runs gs h l w start before end cluster one =
-    let k = p - 1 in
-    let g = get_or gs k default_glyph in
+    let g = get_or gs (p - 1) default_glyph in
     let t = has_stayed top top gs in
-    let up : p - 1 + 1 ≡ p = omega arith in
-    let yes : (j : ℕ) → has_stayed top top gs j ≡ true = λ j. ap not (none_gone top j gs) in
-    let none : gone top top gs 0 p ≡ [] = chosen-none (has_gone top top gs) gs 0 p (λ j a z. none_gone top j gs) in
-    let last : staying top top gs runs.start p ≡ g ∷ [] = ap (λ q. staying top top gs q p) start
-    ∙ ap (staying top top gs k) (sym up) ∙ chosen-one t gs k (omega arith)
-    ∙ ap (λ v. cond v (g ∷ []) []) (yes k) in
+    let yes : (j : ℕ) → has_stayed top top gs j ≡ true = search (arith, none_gone) in
+    let none : gone top top gs 0 p ≡ [] = search (arith, chosen-none, none_gone) in
+    let last : staying top top gs runs.start p ≡ g ∷ [] = search (arith, chosen-one) in
     let all : merges level ≡ true → list_all (has_cluster runs.cluster) (stretch_of p b gs) ≡ true =
-    λ on. ap (λ m. list_all (has_cluster m) (stretch_of p b gs)) (cluster ∙ cluster_at p b gs l) ∙ one on in
+    search (arith, cluster_at) in
     let same : staying top top gs 0 runs.start ++ put level runs.before (staying top top gs runs.start p) ≡ take p gs =
     ap (λ xs. staying top top gs 0 runs.start ++ xs)
     (own_stays level runs.before (staying top top gs runs.start p)
@@ -85,14 +75,15 @@ start_as level top p b runs gs h l w start before end cluster one =
     ∙ ap (list_all (has_cluster g.cluster)) last ∙ one_of g))
     ∙ sym (chosen-split t gs 0 runs.start p (omega arith) (omega arith))
     ∙ chosen-all t gs 0 p (omega arith) (omega arith) (λ j a z. yes j)
-    ∙ (let n : p - 0 ≡ p = omega arith in ap (λ m. take m gs) n) in
+    ∙ (ap (λ m. take m gs) (omega arith)) in
     let rest : put level runs.cluster (gone top top gs 0 p ++ stretch_of p runs.end gs) ++ drop runs.end gs
     ≡ stretch_of p b gs ++ drop b gs =
     ap (λ xs. put level runs.cluster (xs ++ stretch_of p runs.end gs) ++ drop runs.end gs) none
     ∙ ap (λ n. put level runs.cluster (stretch_of p n gs) ++ drop n gs) end
     ∙ ap (λ xs. xs ++ drop b gs) (own_stays level runs.cluster (stretch_of p b gs) all) in (
       ap (λ xs. xs ++ (put level runs.cluster (gone top top gs 0 p ++ stretch_of p runs.end gs) ++ drop runs.end gs))
-          same ∙ ap (λ xs. take p gs ++ xs) rest ∙ three_parts p b gs (omega arith),
+          same
+          ∙ ap (λ xs. take p gs ++ xs) rest ∙ three_parts p b gs (omega arith),
       none,
       λ on. record {
         before = ap (λ m. none_below m (staying top top gs runs.start p)) before ∙ ap (none_below g.cluster) last
@@ -112,14 +103,14 @@ walk_start s top p b runs gs h l w start before end cluster = record {
       let part = stretch_of s e gs in
       let st = start_as level (s + top) (s + p) (s + b) runs gs (omega arith) (omega arith) w start before end cluster
       one in
-      let none : lefts_from top top part ≡ [] =
+      let none =
       ap (λ qs. reverse (filter (passes is_left part) qs)) (places_none top top (omega arith)) in
       record {
         target = p - 1;
         parted = st.0
-            ∙ sym (ap (λ qs. run_steps level (map (widened s e (length gs)) (numbered_steps (e - s) b (p - 1) qs)) gs)
-            none);
-        goes = (let i : p - 1 ≡ p - 1 - 0 = omega arith in i) ∙ sym (ap (λ qs. p - 1 - length qs) none);
+            ∙ sym
+            (ap (λ qs. run_steps level (map (widened s e (length gs)) (numbered_steps (e - s) b (p - 1) qs)) gs) none);
+        goes = ((omega arith)) ∙ sym (ap (λ qs. p - 1 - length qs) none);
         behind = omega arith;
         count = ap (λ xs. s + (p - 1) + 1 + length xs) st.1 ∙ omega arith;
         fits = st.2;
@@ -131,22 +122,20 @@ read_at : (s e k : ℕ) (gs : List hb_glyph_info_t) → s + k < e → e ≤ leng
     ≡ is_left (get_or gs (s + k) default_glyph)
 read_at s e k gs h w =
     let n = length-stretch s e gs w in
-    passes_there is_left (stretch_of s e gs) k default_glyph (omega arith)
-    ∙ ap is_left (get_or-stretch s e k default_glyph gs (omega arith))
+    search (arith, passes_there, get_or-stretch)
 
 pub walk_no : (s i k top p b : ℕ) (runs : Runs) (gs : List hb_glyph_info_t) → k + 1 ≡ i → i ≤ top → top < p → p < b
     → s + b ≤ length gs → is_left (get_or gs (s + k) default_glyph) ≡ false → Walk s i top p b runs gs
     → Walk s k top p b runs gs
 walk_no s i k top p b runs gs one h l m w fails so =
-    let fails_at : passes is_left gs (s + k) ≡ false = passes_there is_left gs (s + k) default_glyph (omega arith)
-    ∙ fails in
-    let up : s + i ≡ s + k + 1 = omega arith in
     let same : (j : ℕ) → has_gone (s + i) (s + top) gs j ≡ has_gone (s + k) (s + top) gs j =
-    λ j. ap (λ n. has_gone n (s + top) gs j) up ∙ gone_same (s + k) (s + top) j gs (omega arith) fails_at in
+    λ j. ap (λ n. has_gone n (s + top) gs j)
+    (omega arith) ∙ gone_same (s + k) (s + top) j gs (omega arith)
+    (passes_there is_left gs (s + k) default_glyph (omega arith) ∙ fails) in
     let st : (a z : ℕ) → staying (s + i) (s + top) gs a z ≡ staying (s + k) (s + top) gs a z =
     λ a z. chosen-same (has_stayed (s + i) (s + top) gs) (has_stayed (s + k) (s + top) gs) gs a z
     (λ j x y. ap not (same j)) in
-    let go : gone (s + i) (s + top) gs 0 (s + p) ≡ gone (s + k) (s + top) gs 0 (s + p) =
+    let go =
     chosen-same (has_gone (s + i) (s + top) gs) (has_gone (s + k) (s + top) gs) gs 0 (s + p)
     (λ j x y. same j) in
     record {
@@ -159,20 +148,20 @@ walk_no s i k top p b runs gs one h l m w fails so =
           ++ drop runs.end gs in
           let kept : as_parted level (s + i) (s + top) (s + p) runs gs
           ≡ as_parted level (s + k) (s + top) (s + p) runs gs =
-          ap (λ xs. (staying (s + i) (s + top) gs 0 runs.start
-          ++ put level runs.before (staying (s + i) (s + top) gs runs.start (s + p)))
-          ++ (put level runs.cluster (xs ++ stretch_of (s + p) runs.end gs) ++ drop runs.end gs)) go
+          ap
+          (λ xs. (staying (s + i) (s + top) gs 0 runs.start ++ put level runs.before (staying (s + i) (s + top) gs
+          runs.start (s + p))) ++ (put level runs.cluster (xs ++ stretch_of (s + p) runs.end gs) ++ drop runs.end gs))
+          go
           ∙ ap (λ xs. (xs ++ put level runs.before (staying (s + i) (s + top) gs runs.start (s + p))) ++ rest)
           (st 0 runs.start)
           ∙ ap (λ xs. (staying (s + k) (s + top) gs 0 runs.start ++ put level runs.before xs) ++ rest)
           (st runs.start (s + p)) in
-          let lf : lefts_from i top part ≡ lefts_from k top part = ap (λ j. lefts_from j top part) (sym one)
+          let lf = ap (λ j. lefts_from j top part) (sym one)
           ∙ sym (lefts_no k top part (omega arith) (read_at s e k gs (omega arith) z ∙ fails)) in
           record {
             target = wd.target;
             parted = sym kept ∙ wd.parted
-                ∙ ap (λ qs. run_steps level (map (widened s e (length gs)) (numbered_steps (e - s) b (p - 1) qs)) gs)
-                lf;
+                ∙ ap (λ qs. run_steps level (map (widened s e (length gs)) (numbered_steps (e - s) b (p - 1) qs)) gs) lf;
             goes = wd.goes ∙ ap (λ qs. p - 1 - length qs) lf;
             behind = omega arith;
             count = sym (ap (λ xs. s + wd.target + 1 + length xs) go) ∙ wd.count;
@@ -187,34 +176,28 @@ pub walk_yes : (s i k top p b : ℕ) (old new : Runs) (gs : List hb_glyph_info_t
     → s + b ≤ length gs → is_left (get_or gs (s + k) default_glyph) ≡ true → Merged (s + k) (s + top) old new gs
     → new.end ≤ length gs → Lies (s + p) (s + b) new gs → Walk s i top p b old gs → Walk s k top p b new gs
 walk_yes s i k top p b old new gs one h l m w holds r within lies so =
-    let left : passes is_left gs (s + k) ≡ true = passes_there is_left gs (s + k) default_glyph (omega arith) ∙ holds in
+    let left = passes_there is_left gs (s + k) default_glyph (omega arith) ∙ holds in
     let up : s + i ≡ s + k + 1 = omega arith in
     record {
       lies = lies;
       walked = λ level e v z all.
           let part = stretch_of s e gs in
           let wd = so.walked level e v z all in
-          let T = wd.target in
-          let before = wd.behind in
           let V = as_parted level (s + k + 1) (s + top) (s + p) old gs in
-          let moved : as_parted level (s + i) (s + top) (s + p) old gs
-          ≡ as_parted level (s + k + 1) (s + top) (s + p) old gs =
-          ap (λ n. as_parted level n (s + top) (s + p) old gs) up in
-          let count : s + wd.target + 1 + length (gone (s + k + 1) (s + top) gs 0 (s + p)) ≡ s + p =
+          let count =
           sym (ap (λ n. s + wd.target + 1 + length (gone n (s + top) gs 0 (s + p))) up) ∙ wd.count in
           let on = one_more level (s + k) (s + top) (s + p) (s + b) (s + wd.target) old new gs (omega arith)
           (omega arith) (omega arith) so.lies left r count
           (λ y. subst (λ n. Fits n (s + top) (s + p) old gs) up (wd.fits y)) lies in
           let qs = lefts_from i top part in
-          let more : qs ++ k ∷ [] ≡ lefts_from k top part = ap (λ j. lefts_from j top part ++ k ∷ []) (sym one)
+          let more = ap (λ j. lefts_from j top part ++ k ∷ []) (sym one)
           ∙ sym (lefts_yes k top part (omega arith) (read_at s e k gs (omega arith) z ∙ holds)) in
-          let long : length (as_parted level (s + k + 1) (s + top) (s + p) old gs) ≡ length gs =
+          let long =
           length-parted level (s + k + 1) (s + top) (s + p) (s + b) old gs (omega arith) so.lies in
           let W : Step → Step = λ t. widened s e (length gs) t in
           let step = matra_step (e - s) b k wd.target in
           let steps = numbered_steps (e - s) b (p - 1) qs in
           let many : length (qs ++ k ∷ []) ≡ length qs + 1 = length-append qs (k ∷ []) in
-          let gm = ap length (gone_more (s + k) (s + top) (s + p) gs (omega arith) (omega arith) (omega arith) left) in
           let goes = wd.goes in
           let stepped : merge level (s + wd.target) (s + b) (with_stretch (s + k) (s + wd.target + 1) first_last V)
           ≡ run_step level (widened s e (length V) (matra_step (e - s) b k wd.target)) V =
@@ -222,17 +205,25 @@ walk_yes s i k top p b old new gs one h l m w holds r within lies so =
           record {
             target = wd.target - 1;
             parted =
-                sym on.0 ∙ stepped
-                ∙ ap (λ n. run_step level (widened s e n step) V) long
-                ∙ ap (run_step level (W step)) (sym moved ∙ wd.parted)
+                sym on.0 ∙ stepped ∙ ap (λ n. run_step level (widened s e n step) V) long
+                ∙ ap (run_step level (W step))
+                (sym (ap (λ n. as_parted level n (s + top) (s + p) old gs) up) ∙ wd.parted)
                 ∙ sym (fold-append (λ gs step. run_step level step gs) gs (map W steps) (W step ∷ []))
                 ∙ sym (ap (λ sts. run_steps level sts gs) (map-append W steps (step ∷ [])))
-                ∙ ap (λ sts. run_steps level (map W sts) gs) (ap (λ j. steps ++ matra_step (e - s) b k j ∷ []) goes
-                ∙ sym (numbered_more (e - s) b (p - 1) k qs) ∙ ap (numbered_steps (e - s) b (p - 1)) more);
-            goes = (let i2 : wd.target - 1 ≡ p - 1 - length (qs ++ k ∷ []) = omega arith in i2)
+                ∙ ap (λ sts. run_steps level (map W sts) gs)
+                (ap (λ j. steps ++ matra_step (e - s) b k j ∷ []) goes ∙ sym (search (
+                  arith,
+                  enumerate-append,
+                  map-append,
+                )) ∙ ap (numbered_steps (e - s) b (p - 1)) more);
+            goes = ((omega arith))
                 ∙ ap (λ qs. p - 1 - length qs) more;
             behind = omega arith;
-            count = omega (arith, gm, count);
+            count = omega (
+              arith,
+              ap length (gone_more (s + k) (s + top) (s + p) gs (omega arith) (omega arith) (omega arith) left),
+              count,
+            );
             fits = on.1;
           };
     }
@@ -243,13 +234,5 @@ pub walk_end : (s i top p b : ℕ) (runs : Runs) (gs : List hb_glyph_info_t) →
     → as_parted level s (s + top) (s + p) runs gs
     ≡ run_steps level (map (widened s e (length gs)) (steps_to top (p - 1) b (stretch_of s e gs))) gs
 walk_end s i top p b runs gs none so level e v z all =
-    let wd = so.walked level e v z all in
     let at : s + i ≡ s = omega arith in
-    sym (ap (λ n. as_parted level n (s + top) (s + p) runs gs) at)
-    ∙ wd.parted
-    ∙ ap (λ j. run_steps level
-    (map (widened s e (length gs)) (numbered_steps (e - s) b (p - 1) (lefts_from j top (stretch_of s e gs)))) gs)
-    none
-    ∙ ap (λ n. run_steps level
-    (map (widened s e (length gs)) (numbered_steps n b (p - 1) (lefts_from 0 top (stretch_of s e gs)))) gs)
-    (sym (length-stretch s e gs z))
+    search (arith, (so.walked level e v z all).parted, length-stretch s e gs z)

@@ -1,12 +1,12 @@
 -- The search for the base, from the right.
-use Rattle.std.proofs.Common.{◌≡◌, ℕ, suc, ◌+◌, ◌<◌, ◌≤◌, Bool, true, false, cond, not, ◌&&◌, ◌||◌, get_or, List, length, Option, None, Some, refl, sym, ap, ◌∙◌, arith}
+use Rattle.std.proofs.Common.{◌≡◌, ℕ, suc, ◌+◌, ◌<◌, ◌≤◌, Bool, true, false, cond, not, ◌&&◌, ◌||◌, get_or, List, length, Option, None, Some, sym, ap, ◌∙◌, arith}
 use Rattle.std.specs.Option.{option_map_or, option_or}
 use Rattle.shapers_buffer.specs.declared.buffer.glyph.hb_glyph_info_t.{hb_glyph_info_t}
 use Rattle.shapers_base.specs.declared.plan.indic.BaseSearch.{BaseSearch}
-use Rattle.shapers_indic.specs.Glyphs.{greatest_place, has_position, passes, some_place}
+use Rattle.shapers_indic.specs.Glyphs.{greatest_place, has_position, some_place}
 use Rattle.shapers_indic.proofs.PlaceSearch.{greatest_last, greatest_none, passes_there}
 use Rattle.shapers_indic_initial.specs.InitialBase.{is_base, is_base_candidate, has_below_form, search_from, stops_search}
-use Rattle.shapers_indic_initial.proofs.PlaceSearch.{greatest_back, greatest_here, greatest_before, greatest_first, greatest_further, some_first, some_none}
+use Rattle.shapers_indic_initial.proofs.PlaceSearch.{greatest_before, greatest_first, greatest_further, some_first}
 
 -- the places from i on are searched: nothing there stops the search, no base stands there, and this
 -- says whether a consonant with a below-base form does
@@ -17,16 +17,6 @@ pub record Searching (search : BaseSearch) (lo i : ℕ) (below : Bool) (gs : Lis
   pub no_base : greatest_place (is_base search gs) i (length gs) ≡ None
   pub below_seen : below ≡ some_place (has_below_form search gs) i (length gs)
 
-pub searching_start : (search : BaseSearch) (lo : ℕ) (gs : List hb_glyph_info_t) → lo ≤ length gs
-    → Searching search lo (length gs) false gs
-searching_start search lo gs l = record {
-  from = l;
-  within = omega arith;
-  still_open = refl;
-  no_base = greatest_none _ (length gs) _ (omega arith);
-  below_seen = sym (some_none _ (length gs) _ (omega arith));
-}
-
 -- a glyph that doesn't stop the search and isn't the base
 pub searching_next : (search : BaseSearch) (lo i : ℕ) (below after : Bool) (gs : List hb_glyph_info_t) → lo ≤ i
     → Searching search lo (i + 1) below gs → stops_search gs i ≡ false → is_base search gs i ≡ false
@@ -36,13 +26,9 @@ searching_next search lo i below after gs l s going not_base is =
     record {
       from = l;
       within = omega arith;
-      still_open = sym (ap (λ b. cond b (Some i) (greatest_place (stops_search gs) lo i)) going)
-          ∙ sym (greatest_last _ lo i l) ∙ s.still_open;
-      no_base = greatest_first _ i _ inside
-          ∙ ap (λ o. option_or o (cond (is_base search gs i) (Some i) None)) s.no_base
-          ∙ ap (λ b. cond b (Some i) None) not_base;
-      below_seen = is ∙ ap (λ b. has_below_form search gs i || b) s.below_seen
-          ∙ sym (some_first _ i _ inside);
+      still_open = cc (greatest_last _ lo i l, s.still_open);
+      no_base = cc (greatest_first _ i _ inside, s.no_base);
+      below_seen = cc (s.below_seen, some_first _ i _ inside);
     }
 
 -- one that stops it
@@ -54,28 +40,27 @@ stopped search lo i below gs l s stops =
     ∙ greatest_last _ lo i l
     ∙ ap (λ b. cond b (Some i) (greatest_place (stops_search gs) lo i)) stops in
     let one : i + 1 ≡ suc i = omega arith in
-    sym s.no_base
-    ∙ ap (λ k. greatest_place (is_base search gs) k (length gs)) (one
-    ∙ sym (ap (λ o. option_map_or suc o lo) there))
+    cc s.no_base
 
 -- the base
 search_before : (lo i : ℕ) (o : Option ℕ) → lo ≤ i → ((k : ℕ) → o ≡ Some k → k < i) → option_map_or suc o lo ≤ i
 search_before lo i None l before = l
-search_before lo i (Some k) l before = let u = before k refl in omega arith
+search_before lo i (Some k) l before = search arith
 
 pub found : (search : BaseSearch) (lo i : ℕ) (below : Bool) (gs : List hb_glyph_info_t) → lo ≤ i
     → Searching search lo (i + 1) below gs → stops_search gs i ≡ false → is_base search gs i ≡ true
     → Some i ≡ greatest_place (is_base search gs) (search_from lo gs) (length gs)
 found search lo i below gs l s going here =
-    let inside : i < length gs = omega arith in
     let G = greatest_place _ lo i in
-    let opened = sym (ap (λ b. cond b (Some i) G) going)
-    ∙ sym (greatest_last _ lo i l) ∙ s.still_open in
     let before =
     search_before lo i G l (λ k is. greatest_before _ lo i k is) in
-    let at : search_from lo gs ≤ i = omega (arith, ap (λ o. option_map_or suc o lo) opened) in
+    let at : search_from lo gs ≤ i = omega (
+      arith,
+      ap (λ o. option_map_or suc o lo)
+          (sym (ap (λ b. cond b (Some i) G) going) ∙ sym (greatest_last _ lo i l) ∙ s.still_open),
+    ) in
     let found_here =
-    greatest_first _ i _ inside
+    greatest_first _ i _ (omega arith)
     ∙ ap (λ o. option_or o (cond (is_base search gs i) (Some i) None)) s.no_base
     ∙ ap (λ b. cond b (Some i) None) here in
     sym (greatest_further _ _ i _ i at (omega arith) found_here)
@@ -84,17 +69,13 @@ found search lo i below gs l s going here =
 pub none_found : (search : BaseSearch) (lo : ℕ) (below : Bool) (gs : List hb_glyph_info_t)
     → Searching search lo lo below gs → None ≡ greatest_place (is_base search gs) (search_from lo gs) (length gs)
 none_found search lo below gs s =
-    sym s.no_base
-    ∙ ap (λ k. greatest_place (is_base search gs) k (length gs))
-    (sym (ap (λ o. option_map_or suc o lo) (sym s.still_open
-    ∙ greatest_none _ lo lo (omega arith))))
+    cc (s.no_base, s.still_open, greatest_none _ lo lo (omega arith))
 
 -- what is said of a place by the glyph there
 pub below_there : (search : BaseSearch) (gs : List hb_glyph_info_t) (i : ℕ) (d : hb_glyph_info_t) → i < length gs
     → has_below_form search gs i ≡ is_base_candidate search (get_or gs i d) && has_position 8 (get_or gs i d)
 below_there search gs i d l =
-    ap (λ a. a && passes (has_position 8) gs i) (passes_there _ gs i d l)
-    ∙ ap (λ b. is_base_candidate search (get_or gs i d) && b) (passes_there _ gs i d l)
+    cc (passes_there _ gs i d l)
 
 pub base_there : (search : BaseSearch) (gs : List hb_glyph_info_t) (i : ℕ) (below : Bool) (d : hb_glyph_info_t)
     → i < length gs → below ≡ some_place (has_below_form search gs) (i + 1) (length gs)
@@ -102,34 +83,4 @@ pub base_there : (search : BaseSearch) (gs : List hb_glyph_info_t) (i : ℕ) (be
     && not (is_base_candidate search (get_or gs i d) && has_position 8 (get_or gs i d))
     && (not (has_position 11 (get_or gs i d)) || below)
 base_there search gs i below d l seen =
-    let g = get_or gs i d in
-    ap (λ a. a && not (has_below_form search gs i)
-    && (not (passes (has_position 11) gs i) || some_place (has_below_form search gs) (i + 1) (length gs)))
-    (passes_there _ gs i d l)
-    ∙ ap (λ b. is_base_candidate search g && not b
-    && (not (passes (has_position 11) gs i) || some_place (has_below_form search gs) (i + 1) (length gs)))
-    (below_there search gs i d l)
-    ∙ ap (λ b. is_base_candidate search g && not (is_base_candidate search g && has_position 8 g)
-    && (not b || some_place (has_below_form search gs) (i + 1) (length gs)))
-    (passes_there _ gs i d l)
-    ∙ ap (λ b. is_base_candidate search g && not (is_base_candidate search g && has_position 8 g)
-    && (not (has_position 11 g) || b)) (sym seen)
-
--- where the search ends, one place more, back
-pub ends_behind : (lo i j : ℕ) (gs : List hb_glyph_info_t) → lo ≤ i → j ≡ i + 1 → stops_search gs i ≡ true
-    → greatest_place (stops_search gs) lo j ≡ greatest_place (stops_search gs) lo (length gs)
-    → i + 1 ≡ search_from lo gs
-ends_behind lo i j gs l e stops same =
-    let one : i + 1 ≡ suc i = omega arith in
-    one ∙ ap (λ o. option_map_or suc o lo) (sym (greatest_here _ lo i l stops)
-    ∙ sym (ap (greatest_place _ lo) e) ∙ same)
-
-pub ends_further : (lo i j : ℕ) (gs : List hb_glyph_info_t) → lo ≤ i → j ≡ i + 1 → stops_search gs i ≡ false
-    → greatest_place (stops_search gs) lo j ≡ greatest_place (stops_search gs) lo (length gs)
-    → greatest_place (stops_search gs) lo i ≡ greatest_place (stops_search gs) lo (length gs)
-ends_further lo i j gs l e going same = sym (greatest_back _ lo i l going)
-    ∙ sym (ap (greatest_place _ lo) e) ∙ same
-
-pub ends_nowhere : (lo i : ℕ) (gs : List hb_glyph_info_t) → i ≤ lo → greatest_place (stops_search gs) lo i
-    ≡ greatest_place (stops_search gs) lo (length gs) → lo ≡ search_from lo gs
-ends_nowhere lo i gs l same = ap (λ o. option_map_or suc o lo) (sym (greatest_none _ lo i l) ∙ same)
+    cc (passes_there _ gs i d l, below_there search gs i d l)

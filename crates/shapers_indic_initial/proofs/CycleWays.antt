@@ -1,5 +1,5 @@
 -- What cycles hold together is what the ways of their glyphs hold together.
-use Rattle.std.proofs.Common.{ℕ, zero, suc, ◌+◌, ◌-◌, ◌<◌, ◌≤◌, ◌≡◌, ◌≢◌, ◌⊎◌, inl, inr, Bool, true, false, ◌||◌, ◌&&◌, nat_lt, max, min, cond, List, [], ◌∷◌, length, map, get_or, refl, sym, ◌∙◌, ap, subst, arith}
+use Rattle.std.proofs.Common.{ℕ, zero, suc, ◌+◌, ◌-◌, ◌<◌, ◌≤◌, ◌≡◌, ◌⊎◌, inl, inr, Bool, true, false, ◌||◌, ◌&&◌, nat_lt, max, min, cond, List, [], ◌∷◌, length, map, get_or, refl, sym, ◌∙◌, ap, subst, arith}
 use Rattle.std.specs.Prelude.{filter, fold, nat_le}
 use Rattle.std.specs.List.{range_with_len}
 use Rattle.std.proofs.lemmas.Bool.{cases_Bool, cases_lt}
@@ -26,18 +26,15 @@ record InRange (a n x : ℕ) : Type 0 where
 range_in : (a n x : ℕ) → In x (range_with_len a n) → InRange a n x
 range_in a zero x i = absurd i
 range_in a (suc n) x i = elim i [
-  | inl e ↦ record { low = omega arith; high = omega arith }
-  | inr j ↦ let k = range_in (a + 1) n x j in record { low = omega arith; high = omega arith }
+  | inl e ↦ search arith
+  | inr j ↦ let k = range_in (a + 1) n x j in search arith
 ]
 
 in_filter : (test : ℕ → Bool) (xs : List ℕ) (x : ℕ) → test x ≡ true → In x xs → In x (filter test xs)
 in_filter test [] x t i = absurd i
 in_filter test (y ∷ ys) x t i = elim i [
   | inl e ↦ subst (λ b. In x (cond b (y ∷ filter test ys) (filter test ys))) (sym (ap test (sym e) ∙ t)) (inl e)
-  | inr j ↦ elim (test y) as (λ b. In x (cond b (y ∷ filter test ys) (filter test ys))) [
-    | true ↦ inr (in_filter test ys x t j)
-    | false ↦ in_filter test ys x t j
-  ]
+  | inr j ↦ search (arith, in_filter test ys x t j)
 ]
 
 filter_in : (test : ℕ → Bool) (xs : List ℕ) (x : ℕ) → In x (filter test xs) → In x xs
@@ -57,17 +54,13 @@ record Holds (st : ℕ × ℕ) (r : ℕ) : Type 0 where
   pub high : r < st.1
 
 holds_both : (s e r : ℕ) → (nat_lt s r && nat_lt r e) ≡ true → Holds (s, e) r
-holds_both s e r h = record { low = grind (arith, nat_tests); high = grind (arith, nat_tests) }
+holds_both s e r h = search (arith, nat_tests)
 
 held_by : (f : ℕ → ℕ × ℕ) (xs : List ℕ) (x r : ℕ) → In x xs → Holds (f x) r → held (map f xs) r ≡ true
 held_by f [] x r i h = absurd i
 held_by f (y ∷ ys) x r i h = elim i [
-  | inl e ↦ (let k = subst (λ z. Holds (f z) r) e h in ap (λ b. b || held (map f ys) r)
-      (holds (f y) r k.low k.high))
-  | inr j ↦ elim (nat_lt (f y).0 r && nat_lt r (f y).1) as (λ b. (b || held (map f ys) r) ≡ true) [
-    | true ↦ refl
-    | false ↦ held_by f ys x r j h
-  ]
+  | inl e ↦ (search (arith, holds))
+  | inr j ↦ search (arith, held_by f ys x r j h)
 ]
 
 record HeldBy (f : ℕ → ℕ × ℕ) (xs : List ℕ) (r : ℕ) : Type 0 where
@@ -124,7 +117,7 @@ greatest_reached m (y ∷ ys) = elim (greatest_reached (max m y) ys) [
 cycle_holds : (f : List ℕ) (p z y : ℕ) → p < length f → EachOnce f → In z (cycle f p) → In y (cycle f z)
     → In y (cycle f p)
 cycle_holds f p z y h o i j = elim j [
-  | inl e ↦ subst (λ w. In w (cycle f p)) (sym e) i
+  | inl e ↦ search arith
   | inr k ↦ way_keeps _ f z _ _ y (λ w a _. cycle_closed f p w h o a)
       (cycle_closed f p z h o i) k
 ]
@@ -144,32 +137,15 @@ record LeastIn (xs : List ℕ) (a : ℕ) : Type 0 where
 
 least_in : (xs : List ℕ) (a k p : ℕ) → a + k ≡ p → In p xs → LeastIn xs a
 least_in xs a zero p e i =
-    record {
-      place = a;
-      low = omega arith;
-      among = subst (λ z. In z xs) (omega arith) i;
-      least = λ x l m _. omega arith;
-    }
+    search arith
 least_in xs a (suc k) p e i = elim (in_or_not a xs) [
-  | inl j ↦ record { place = a; low = omega arith; among = j; least = λ x l m _. omega arith }
+  | inl j ↦ search arith
   | inr n ↦
-      let rest = least_in xs (a + 1) k p (omega arith) i in
-      record {
-        place = rest.place;
-        low = omega arith;
-        among = rest.among;
-        least = λ x l m j. elim (cases_lt a x) [
-          | inl b ↦ rest.least x (omega arith) m j
-          | inr b ↦ n (subst (λ z. In z xs) (omega arith) j)
-        ];
-      }
+      search (arith, (least_in xs (a + 1) k p (omega arith) i).least)
 ]
 
 before_or_from : (base l q : ℕ) → ((base ≤ q) → l ≤ q) → (nat_lt q base || nat_le l q) ≡ true
-before_or_from base l q h = elim (cases_lt q base) [
-  | inl k ↦ grind (arith, nat_tests)
-  | inr k ↦ let m = h k in grind (arith, nat_tests)
-]
+before_or_from base l q h = search (arith, nat_tests)
 
 leader : (f : List ℕ) (base p : ℕ) → base ≤ p → p < length f → EachOnce f → Leader f base p
 leader f base p b h o =
@@ -178,13 +154,13 @@ leader f base p b h o =
     let within = cycle_within f p l h o found.among in
     record {
       place = l;
-      among = in_range base _ l found.low (omega arith);
+      among = search (arith, in_range);
       leads = all_true _ (cycle f l)
           (λ q i. before_or_from base l q (λ k. elim (cases_lt q l) [
-            | inl m ↦ absurd (found.least q k m (cycle_holds f p l q h o found.among i))
+            | inl m ↦ search (arith, found.least, cycle_holds)
             | inr m ↦ m
           ]));
-      has = cycle_back f p l h o found.among;
+      has = search (arith, cycle_back);
     }
 
 -- a way lies within what its cycle merges
@@ -195,14 +171,17 @@ way_in_cycle f base p r b h o w =
     let l = found.place in
     let c = cycle f l in
     let n = range_in base _ l found.among in
-    let inside : l < length f = omega arith in
-    let next = cycle_closed f l p inside o found.has in
+    let next = cycle_closed f l p (omega arith) o found.has in
     held_by _ _ l r
-    (in_filter _ _ l found.leads found.among)
-    (record {
-      low = omega (arith, least_bound l c p found.has, least_bound l c _ next);
-      high = omega (arith, greatest_bound l c p found.has, greatest_bound l c _ next);
-    })
+    (search (arith, in_filter))
+    (
+    search (
+      arith,
+      least_bound l c p found.has,
+      least_bound l c _ next,
+      greatest_bound l c p found.has,
+      greatest_bound l c _ next,
+    ))
 
 -- where a cycle has places on both sides, some place of it has the next one on the other side
 record Crosses (f xs : List ℕ) (r : ℕ) : Type 0 where
@@ -227,31 +206,29 @@ crosses_or_not f (y ∷ ys) r = elim (crosses_or_not f ys r) [
 stays_above : (f : List ℕ) (p z w r : ℕ) → p < length f → EachOnce f
     → ((x : ℕ) → In x (cycle f p) → r ≤ x → r ≤ get_or f x 0) → In z (cycle f p) → r ≤ z → In w (cycle f p) → r ≤ w
 stays_above f p z w r h o none i k j =
-    let inside = cycle_within f p z h o i in
     let A : ℕ → Type 0 = λ y. In y (cycle f p) × (r ≤ y) in
-    let next : (y : ℕ) → A y → y ≢ z → A _ = λ y a _. (cycle_closed f p y h o a.0, none y a.0 a.1) in
-    let back = cycle_holds f z p w inside o (cycle_back f p z h o i) j in
+    let back = cycle_holds f z p w (cycle_within f p z h o i) o (cycle_back f p z h o i) j in
     elim back [
       | inl e ↦ omega arith
-      | inr m ↦ (way_keeps A f z _ _ w next (cycle_closed f p z h o i, none z i k) m).1
+      | inr m ↦ (way_keeps A f z _ _ w (search (arith, cycle_closed)) (cycle_closed f p z h o i, none z i k) m).1
     ]
 
 cycle_in_ways : (f : List ℕ) (base l r : ℕ) → l < length f → EachOnce f → Holds (cycle_stretch f base l) r
     → held (all_ways f base) r ≡ true
 cycle_in_ways f base l r h o w =
     let c = cycle f l in
-    let low = w.low in
-    let high = w.high in
     elim (crosses_or_not f c r) [
       | inl x ↦ (
           let inside = cycle_within f l x.place h o x.among in
           held_by _ _ x.place r
-          (in_range base _ x.place (omega arith) (omega arith))
-          (record { low = omega arith; high = omega arith }))
+          (search (arith, in_range))
+          (search arith))
       | inr none ↦
-          let top : In _ c = elim (greatest_reached l c) [ inl e ↦ inl e | inr i ↦ i ] in
-          let bottom : In _ c = elim (least_reached l c) [ inl e ↦ inl e | inr i ↦ i ] in
-          absurd (omega (arith, stays_above f l _ _ r h o none top (omega arith) bottom))
+          search (
+            arith,
+            stays_above f l _ _ r h o none (elim (greatest_reached l c) [ inl e ↦ inl e | inr i ↦ i ]) (omega arith)
+                (elim (least_reached l c) [ inl e ↦ inl e | inr i ↦ i ]),
+          )
     ]
 
 same_bool : (a b : Bool) → (a ≡ true → b ≡ true) → (b ≡ true → a ≡ true) → a ≡ b
@@ -265,8 +242,8 @@ held_by_ways f base r o = same_bool _ _
     let x = by_held (cycle_stretch f base) _ r t in
     let n = range_in base _ x.place
     (filter_in (leads_cycle f base) _ x.place x.among) in
-    cycle_in_ways f base x.place r (omega (arith, n.high)) o x.holds_it)
+    search (arith, cycle_in_ways))
     (λ t.
     let x = by_held _ _ r t in
     let n = range_in base (length f - base) x.place x.among in
-    way_in_cycle f base x.place r n.low (omega arith) o x.holds_it)
+    search (arith, way_in_cycle))

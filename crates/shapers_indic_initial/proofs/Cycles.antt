@@ -1,5 +1,5 @@
 -- Cycles of a list that has each of its places once.
-use Rattle.std.proofs.Common.{◌≡◌, ◌≢◌, ◌⊎◌, inl, inr, ℕ, zero, suc, ◌<◌, ◌==◌, eqb, true, false, ◌||◌, List, [], ◌∷◌, length, get_or, set, refl, sym, ap, ◌∙◌, subst, arith, length-set, get_or-set_same, get_or-set_other, if◌then◌else◌, Bool, fold, min, max, ◌≤◌, ◌&&◌}
+use Rattle.std.proofs.Common.{◌≡◌, ◌≢◌, ◌⊎◌, inl, inr, ℕ, zero, suc, ◌<◌, ◌==◌, eqb, true, false, ◌||◌, List, [], ◌∷◌, length, get_or, set, refl, sym, ap, ◌∙◌, subst, arith, length-set, get_or-set_same, get_or-set_other, if◌then◌else◌, Bool, fold, min, max, ◌≤◌}
 use Rattle.std.specs.Prelude.{swap}
 use Rattle.std.specs.List.{AllByRecursion, IsDistinct, list_any, list_all}
 use Rattle.std.proofs.lemmas.Bool.{cases_eq}
@@ -28,8 +28,7 @@ in_or_not x (y ∷ ys) = elim (cases_eq x y) [
 -- a test that all of some numbers pass, and their least and greatest with another
 pub all_true : (test : ℕ → Bool) (xs : List ℕ) → ((x : ℕ) → In x xs → test x ≡ true) → list_all test xs ≡ true
 all_true test [] each = refl
-all_true test (y ∷ ys) each = ap (λ b. b && list_all test ys) (each y (inl refl))
-    ∙ all_true test ys (λ x i. each x (inr i))
+all_true test (y ∷ ys) each = search (arith, all_true test ys (λ x i. each x (inr i)))
 
 pub fold_min-le : (x : ℕ) (xs : List ℕ) → fold min x xs ≤ x
 fold_min-le x [] = omega arith
@@ -63,58 +62,56 @@ pub swap_at : (xs : List ℕ) (p q i : ℕ) → p < length xs → q < length xs
 swap_at xs p q i h k =
     let a = get_or xs q 0 in
     let b = get_or xs p 0 in
-    let long : q < length _ = omega (arith, length-set xs p a) in
-    ap (λ ys. get_or ys i 0) (sym (swap_is xs p q 0 h k)) ∙ elim (cases_eq i q) [
-      | inl e ↦ ap (λ m. get_or (set (set xs p a) q b) m 0) e ∙ get_or-set_same _ q b 0 long
-          ∙ sym (ap (λ m. get_or xs m 0) (turned_second p q i e))
-      | inr n ↦ get_or-set_other _ q i b 0 n ∙ elim (cases_eq i p) [
-        | inl e ↦ ap (λ m. get_or (set xs p a) m 0) e ∙ get_or-set_same xs p a 0 h
-            ∙ sym (ap (λ m. get_or xs m 0) (turned_first p q i n e))
-        | inr m ↦ get_or-set_other xs p i a 0 m ∙ sym (ap (λ m. get_or xs m 0) (turned_other p q i n m))
-      ]
+    ap (λ ys. get_or ys i 0) (sym (swap_is xs p q 0 h k))
+    ∙ elim (cases_eq i q) [
+      | inl e ↦ ap (λ m. get_or (set (set xs p a) q b) m 0) e ∙ get_or-set_same _ q b 0 (omega (
+        arith,
+        length-set xs
+            p a,
+      )) ∙ sym (ap (λ m. get_or xs m 0) (turned_second p q i e))
+      | inr n ↦ get_or-set_other _ q i b 0 n ∙ elim
+          (cases_eq i p) [
+            | inl e ↦ ap (λ m. get_or (set xs p a) m 0) e ∙ get_or-set_same xs p a 0 h ∙ sym (ap (λ m.
+                get_or xs m 0) (turned_first p q i n e))
+            | inr m ↦ get_or-set_other xs p i a 0 m ∙ sym (ap (λ m. get_or xs m 0)
+                (turned_other p q i n m))
+          ]
     ]
 
 pub once-swap : (f : List ℕ) (p q : ℕ) → p < length f → q < length f → EachOnce f → EachOnce (swap f p q)
 once-swap f p q h k o =
     let n = length-swap f p q in
     record {
-      within = λ i l. (let t = turned_within _ p q i h k (omega arith) in omega
-          (arith, swap_at f p q i h k));
-      once = λ i j l m e. (
-          let t = turned_within _ p q i h k (omega arith) in
-          let u = turned_within _ p q j h k (omega arith) in
-          turned_once p q i j
-          (o.once _ _ t u (sym (swap_at f p q i h k) ∙ e ∙ swap_at f p q j h k)));
+      within = search (arith, swap_at);
+      once = λ i j l m e. turned_once p q i j
+          (o.once _ _
+          (turned_within _ p q i h k (omega arith))
+          (turned_within _ p q j h k (omega arith)) (sym (swap_at f p q i h k) ∙ e ∙ swap_at f p q j h k));
     }
 
 -- the way to p, place by place
 pub way_at : (f : List ℕ) (p m q : ℕ) → q ≡ p → way_to f p m q ≡ []
 way_at f p zero q e = refl
-way_at f p (suc m) q e = let t : (q == p) ≡ true =
-    grind (arith, nat_tests) in ap (λ b. if b then [] else q ∷ way_to f p m (get_or f q 0)) t
+way_at f p (suc m) q e = search (arith, nat_tests)
 
 pub way_next : (f : List ℕ) (p m q : ℕ) → q ≢ p → way_to f p (suc m) q ≡ q ∷ way_to f p m (get_or f q 0)
-way_next f p m q n = let t : (q == p) ≡ false =
-    grind (arith, nat_tests) in ap (λ b. if b then [] else q ∷ way_to f p m (get_or f q 0)) t
+way_next f p m q n = search (arith, nat_tests)
 
 -- two lists that agree on a set of places that the way keeps to
 pub way_agrees : (A : ℕ → Type 0) (f g : List ℕ) (p m x : ℕ)
     → ((y : ℕ) → A y → y ≢ p → (get_or f y 0 ≡ get_or g y 0) × A (get_or f y 0)) → A x → way_to f p m x ≡ way_to g p m x
 way_agrees A f g p zero x step a = refl
 way_agrees A f g p (suc m) x step a = elim (cases_eq x p) [
-  | inl e ↦ way_at f p (suc m) x e ∙ sym (way_at g p (suc m) x e)
+  | inl e ↦ search (arith, way_at)
   | inr n ↦
-      let both = step x a n in
-      way_next f p m x n
-      ∙ ap (λ ys. x ∷ ys) (way_agrees A f g p m _ step both.1 ∙ ap (way_to g p m) both.0)
-      ∙ sym (way_next g p m x n)
+      search (arith, way_next, way_agrees A f g p m _ step (step x a n).1)
 ]
 
 pub way_keeps : (A : ℕ → Type 0) (f : List ℕ) (p m x y : ℕ) → ((z : ℕ) → A z → z ≢ p → A (get_or f z 0)) → A x
     → In y (way_to f p m x) → A y
 way_keeps A f p zero x y step a i = absurd i
 way_keeps A f p (suc m) x y step a i = elim (cases_eq x p) [
-  | inl e ↦ absurd (subst (In y) (way_at f p (suc m) x e) i)
+  | inl e ↦ search (arith, way_at)
   | inr n ↦ elim (subst (In y) (way_next f p m x n) i) [
     | inl e ↦ subst A (sym e) a
     | inr i ↦ way_keeps A f p m _ y step (step x a n) i
@@ -124,7 +121,7 @@ way_keeps A f p (suc m) x y step a i = elim (cases_eq x p) [
 way_apart : (f : List ℕ) (p m x y : ℕ) → In y (way_to f p m x) → y ≢ p
 way_apart f p zero x y i = absurd i
 way_apart f p (suc m) x y i = elim (cases_eq x p) [
-  | inl e ↦ absurd (subst (In y) (way_at f p (suc m) x e) i)
+  | inl e ↦ search (arith, way_at)
   | inr n ↦ elim (subst (In y) (way_next f p m x n) i) [
     | inl e ↦ λ s. n (sym e ∙ s)
     | inr i ↦ way_apart f p m _ y i
@@ -138,19 +135,17 @@ ends_at f p (suc m) q = if q == p then p else ends_at f p m (get_or f q 0)
 
 ends_there : (f : List ℕ) (p m q : ℕ) → q ≡ p → ends_at f p m q ≡ p
 ends_there f p zero q e = e
-ends_there f p (suc m) q e = let t : (q == p) ≡ true =
-    grind (arith, nat_tests) in ap (λ b. if b then p else ends_at f p m (get_or f q 0)) t
+ends_there f p (suc m) q e = search (arith, nat_tests)
 
 ends_next : (f : List ℕ) (p m q : ℕ) → q ≢ p → ends_at f p (suc m) q ≡ ends_at f p m (get_or f q 0)
-ends_next f p m q n = let t : (q == p) ≡ false =
-    grind (arith, nat_tests) in ap (λ b. if b then p else ends_at f p m (get_or f q 0)) t
+ends_next f p m q n = search (arith, nat_tests)
 
 -- a way that hasn't come back is as long as may be
 length-way : (f : List ℕ) (p m q : ℕ) → ends_at f p m q ≢ p → length (way_to f p m q) ≡ m
 length-way f p zero q n = refl
 length-way f p (suc m) q n = elim (cases_eq q p) [
-  | inl e ↦ absurd (n (ends_there f p (suc m) q e))
-  | inr o ↦ ap length (way_next f p m q o) ∙ ap suc (length-way f p m _ (λ e. n (ends_next f p m q o ∙ e)))
+  | inl e ↦ search (arith, ends_there)
+  | inr o ↦ cc (way_next f p m q o, length-way f p m _ (λ e. n (ends_next f p m q o ∙ e)))
 ]
 
 -- what leads back to p, but for its first place: with that one spent the rest of the way is the same
@@ -160,28 +155,27 @@ pub record OnTheWay (f : List ℕ) (q y : ℕ) : Type 0 where
 
 pub keeps_off : (f : List ℕ) (p : ℕ) → p < length f → EachOnce f → (y : ℕ) → OnTheWay f (get_or f p 0) y → y ≢ p
     → OnTheWay f (get_or f p 0) (get_or f y 0)
-keeps_off f p h o y a n = record { inside = o.within y a.inside; other = λ e. n (o.once y p a.inside h e) }
+keeps_off f p h o y a n = search (arith, o.within)
 
 pub second_off : (f : List ℕ) (p : ℕ) → p < length f → EachOnce f → get_or f p 0 ≢ p
     → OnTheWay f (get_or f p 0) (get_or f (get_or f p 0) 0)
-second_off f p h o n = let q =
-    get_or f p 0 in record { inside = o.within q (o.within p h); other = λ e. n (o.once q p (o.within p h) h e) }
+second_off f p h o n = search (arith, o.within)
 
 pub way_spent : (f : List ℕ) (p m : ℕ) → p < length f → EachOnce f → get_or f p 0 ≢ p → let q = get_or f p 0 in
     way_to f p m (get_or f q 0) ≡ way_to (swap f p q) p m (get_or (swap f p q) p 0)
 way_spent f p m h o n =
     let q = get_or f p 0 in
     let k = o.within p h in
-    let first = swap_at f p q p h k
-    ∙ ap (λ i. get_or f i 0) (turned_first p q p (λ e. n (sym e)) refl) in
-    way_agrees _ f _ p m _
-    (λ y a t. (
-      sym (swap_at f p q y h k ∙ ap (λ i. get_or f i 0) (turned_other p q y a.other t)),
-      keeps_off f p h o y a
-          t,
-    ))
-    (second_off f p h o n)
-    ∙ ap (way_to _ p m) (sym first)
+    cc (
+      way_agrees _ f _ p m _
+          (λ y a t. (
+            sym (swap_at f p q y h k ∙ ap (λ i. get_or f i 0) (turned_other p q y a.other t)),
+            keeps_off f p
+                h o y a t,
+          )) (second_off f p h o n),
+      swap_at f p q p h k,
+      turned_first p q p (λ e. n (sym e)) refl,
+    )
 
 -- no place is on it twice
 apart_all : (x : ℕ) (ys : List ℕ) → ((y : ℕ) → In y ys → y ≢ x) → AllByRecursion (λ y. eqb x y ≡ false) ys
@@ -196,19 +190,19 @@ distinct_way f p (suc m) h o = elim (cases_eq _ p) [
   | inl e ↦ subst (IsDistinct eqb) (sym (way_at f p (suc m) _ e)) tt
   | inr n ↦
       let q = get_or f p 0 in
-      let g = swap f p q in
-      let k = o.within p h in
-      let rest = subst (IsDistinct eqb) (sym (way_spent f p m h o n))
-      (distinct_way g p m (omega (arith, length-swap f p q)) (once-swap f p q h k o)) in
-      let off = λ (y : ℕ) (i : In y (way_to f p m (get_or f q 0))).
-      (way_keeps _ f p m _ y (λ z a t. keeps_off f p h o z a t) (second_off f p h o n)
-      i).other in
-      subst (IsDistinct eqb) (sym (way_next f p m q n))
-      (IsDistinct-cons eqb q _ (apart_all q _ off) rest)
+      let rest = subst (IsDistinct eqb) (sym (way_spent f p m h o n)) (distinct_way
+      (swap f p q) p m (omega (arith, length-swap f p q)) (once-swap f p q h (o.within p h) o)) in
+      search (
+        arith,
+        way_next f p m q n,
+        IsDistinct-cons eqb q _
+            (apart_all q _ (λ (y : ℕ) (i : In y (way_to f p m (get_or f q 0))). (way_keeps _ f p m _ y (λ z a t.
+            keeps_off f p h o z a t) (second_off f p h o n) i).other)) rest,
+      )
 ]
 
 any_is_in : (q : ℕ) (xs : List ℕ) → list_any (eqb q) xs ≡ true → In q xs
-any_is_in q [] e = absurd (let x = e in cc)
+any_is_in q [] e = absurd (cc)
 any_is_in q (x ∷ xs) e = elim (cases_eq q x) [
   | inl s ↦ inl s
   | inr n ↦ let t : eqb q x ≡ false =
@@ -229,11 +223,10 @@ comes_back f p h o = elim (cases_eq _ p) [
   | inr n ↦
       let way = way_to f p (length f) _ in
       let long = length-way f p _ (get_or f p 0) n in
-      let distinct = IsDistinct-cons eqb p way (apart_all p way (λ y i. way_apart f p _ _ y i))
-      (distinct_way f p (length f) h o) in
-      let short = length-le_from_distinct_below _ _ distinct
+      let short = length-le_from_distinct_below _ _
+      (IsDistinct-cons eqb p way (search (arith, apart_all, way_apart)) (distinct_way f p (length f) h o))
       (λ q e. cycle_within f p q h o (any_is_in q (p ∷ way) e)) in
-      absurd (omega (arith, long))
+      search arith
 ]
 
 -- the place behind one of the cycle is in it
@@ -248,7 +241,7 @@ way_closed : (f : List ℕ) (p m q x : ℕ) → ends_at f p m q ≡ p → In x (
     → In (get_or f x 0) (p ∷ way_to f p m q)
 way_closed f p zero q x e i = absurd i
 way_closed f p (suc m) q x e i = elim (cases_eq q p) [
-  | inl s ↦ absurd (subst (In x) (way_at f p (suc m) q s) i)
+  | inl s ↦ search (arith, way_at)
   | inr n ↦
       let rest = way_to f p m _ in
       let back = sym (ends_next f p m q n) ∙ e in
@@ -262,11 +255,7 @@ way_closed f p (suc m) q x e i = elim (cases_eq q p) [
 ]
 
 pub cycle_closed : (f : List ℕ) (p x : ℕ) → p < length f → EachOnce f → In x (cycle f p) → In (get_or f x 0) (cycle f p)
-cycle_closed f p x h o i = elim i [
-  | inl s ↦ subst (λ z. In (get_or f z 0) (cycle f p)) (sym s)
-      (head_in f p _ _ (comes_back f p h o))
-  | inr j ↦ way_closed f p _ _ x (comes_back f p h o) j
-]
+cycle_closed f p x h o i = search (arith, head_in, comes_back, way_closed)
 
 -- the place before one of the cycle is in it
 record CameFrom (f : List ℕ) (p m z y : ℕ) : Type 0 where
@@ -277,16 +266,7 @@ record CameFrom (f : List ℕ) (p m z y : ℕ) : Type 0 where
 came_further : (f : List ℕ) (p m z y : ℕ) → get_or f z 0 ≢ p → CameFrom f p m (get_or f z 0) y
     → CameFrom f p (suc m) z y
 came_further f p m z y n c =
-    let q = get_or f z 0 in
-    let next = way_next f p m q n in
-    record {
-      place = c.place;
-      among = elim c.among [
-        | inl s ↦ inr (subst (In c.place) (sym next) (inl s))
-        | inr j ↦ inr (subst (In c.place) (sym next) (inr j))
-      ];
-      leads = c.leads;
-    }
+    search arith
 
 came_from : (f : List ℕ) (p m z y : ℕ) → In y (way_to f p m (get_or f z 0)) → CameFrom f p m z y
 came_from f p zero z y i = absurd i
@@ -306,25 +286,21 @@ came_back f p (suc m) z e = elim (cases_eq _ p) [
 ]
 
 from_cycle : (f : List ℕ) (p y : ℕ) → p < length f → EachOnce f → In y (cycle f p) → CameFrom f p (length f) p y
-from_cycle f p y h o i = elim i [
-  | inl s ↦ subst (CameFrom f p _ p) (sym s) (came_back f p _ p (comes_back f p h o))
-  | inr j ↦ came_from f p _ p y j
-]
+from_cycle f p y h o i = search (arith, came_back, comes_back, came_from)
 
 pub cycle_closed_back : (f : List ℕ) (p x : ℕ) → p < length f → x < length f → EachOnce f
     → In (get_or f x 0) (cycle f p) → In x (cycle f p)
 cycle_closed_back f p x h l o i =
     let c = from_cycle f p _ h o i in
-    let there = c.among in
-    let same = o.once c.place x (cycle_within f p c.place h o there) l c.leads in
-    subst (λ z. In z (cycle f p)) same there
+    let same = o.once c.place x (cycle_within f p c.place h o c.among) l c.leads in
+    search arith
 
 -- what p leads to leads to p
 leads_back : (f : List ℕ) (p m q r : ℕ) → q < length f → r < length f → EachOnce f → In r (way_to f p m q)
     → In q (cycle f r)
 leads_back f p zero q r h k o i = absurd i
 leads_back f p (suc m) q r h k o i = elim (cases_eq q p) [
-  | inl s ↦ absurd (subst (In r) (way_at f p (suc m) q s) i)
+  | inl s ↦ search (arith, way_at)
   | inr n ↦ elim (subst (In r) (way_next f p m q n) i) [
     | inl s ↦ inl (sym s)
     | inr j ↦ cycle_closed_back f r q k h o (leads_back f p m _ r (o.within q h) k o j)
@@ -336,5 +312,5 @@ cycle_back f p r h o i = elim i [
   | inl s ↦ inl (sym s)
   | inr j ↦
       let k = cycle_within f p r h o (inr j) in
-      cycle_closed_back f r p k h o (leads_back f p _ _ r (o.within p h) k o j)
+      search (arith, cycle_closed_back, leads_back)
 ]

@@ -15,26 +15,20 @@ use Rattle.shapers_indic_initial.specs.Proved.InitialLaws.{halant_laws, joiner_l
 use Rattle.shapers_indic_initial.specs.Proved.InitialSteps.{order_fits}
 use Rattle.shapers_indic_initial.proofs.Prepared.{seen_long}
 use Rattle.shapers_syllabic.specs.Reordering.{SyllableReordered}
-use Rattle.shapers_syllabic.specs.ReorderingLaws.{ReorderLaws}
 use Rattle.shapers_syllabic.proofs.LawsThen.{laws_then}
 use Rattle.shapers_syllabic.proofs.ReorderingWalk.{length-meaning}
 use Rattle.shapers_syllabic.proofs.SyllableThen.{changed_parts, syllable_as, syllable_then}
 
 -- each part keeps the length
-positioned_laws : (r : Rules) (script : Option Script) → ReorderLaws (positioned r script) (opening_steps r script)
-positioned_laws r script =
-    laws_then _ _ _
-    _ (joiner_laws script) (halant_laws r script)
-
 length-positioned : (r : Rules) (script : Option Script) (gs : List hb_glyph_info_t) → length (positioned r script gs)
     ≡ length gs
 length-positioned r script gs =
-    length-meaning _ _ (positioned_laws r script) gs
+    length-meaning _ _ (laws_then _ _ _ _ (joiner_laws script) (halant_laws r script)) gs
 
 length-in_order : (r : Rules) (gs : List hb_glyph_info_t) → length (in_indic_order gs) ≡ length gs
 length-in_order r gs =
     let f = order_fits r gs in
-    length-pick _ gs f.within ∙ f.as_many
+    search (arith, length-pick)
 
 -- a syllable of the order view
 
@@ -44,7 +38,7 @@ kind-viewed (g ∷ gs) = refl
 
 kind-stretch : (s e : ℕ) (gs : List hb_glyph_info_t) → is_reordered_in_indic (stretch_of s e (order_view gs))
     ≡ is_reordered_in_indic (stretch_of s e gs)
-kind-stretch s e gs = ap is_reordered_in_indic (sym (map-stretch plain s e gs)) ∙ kind-viewed (stretch_of s e gs)
+kind-stretch s e gs = cc (map-stretch plain s e gs, kind-viewed (stretch_of s e gs))
 
 -- what a part leaves: as many glyphs, and its syllable
 record After (meaning : List hb_glyph_info_t → List hb_glyph_info_t) (s e : ℕ) (old new : Buffer) : Type 0 where
@@ -57,39 +51,17 @@ after : (meaning : List hb_glyph_info_t → List hb_glyph_info_t) (steps : List 
 after meaning steps s e old new h l k done =
     let xs = order_view old.glyphs in
     let n : length xs ≡ length old.glyphs = length-map old.glyphs plain in
-    let front : length (take s xs) ≡ s = length-take-le s xs (omega arith) in
-    let parts = changed_parts s e (take s xs) (meaning (stretch_of s e xs)) (drop e xs) (order_view new.glyphs) h front
-    k done.order in
-    record {
-      long = sym (length-map new.glyphs plain) ∙ ap length done.order
-          ∙ omega (
-            arith,
-            length-append (take s xs) (meaning (stretch_of s e xs) ++ drop e xs),
-            length-append
-                (meaning (stretch_of s e xs)) (drop e xs),
-            length-drop e xs,
-          );
-      syllable = parts.stretch;
-    }
-
--- positions, order and masks
-ordered_and_masked : (r : Rules) (script : Option Script) (s e : ℕ) (b1 b2 b3 b4 : Buffer) → s ≤ e
-    → e ≤ length b1.glyphs → SyllableReordered (positioned r script) (opening_steps r script) s e b1 b2
-    → SyllableReordered in_indic_order (λ gs. indic_order_step r gs ∷ []) s e b2 b3
-    → SyllableReordered (masked_in_order r script) (λ _. []) s e b3 b4
-    → SyllableReordered (λ gs. masked_in_order r script (in_indic_order (positioned r script gs)))
-    (λ gs. opening_steps r script gs ++ ((indic_order_step r (positioned r script gs) ∷ []) ++ [])) s e b1 b4
-ordered_and_masked r script s e b1 b2 b3 b4 h l p o m =
-    let x1 = stretch_of s e _ in
-    let n1 = length-positioned r script x1 ∙ seen_long s e _ h l in
-    let a = after _ _ s e b1 b2 h l n1 p in
-    let l2 : e ≤ length _ = omega arith in
-    let x2 = stretch_of s e _ in
-    let n2 = length-in_order r x2 ∙ seen_long s e _ h l2 in
-    syllable_then _ _ _
-    _ s e b1 b2 b4 h l n1 p
-    (syllable_then _ _ _ _ s e b2 b3 b4 h
-    l2 n2 o m)
+    let front = length-take-le s xs (omega arith) in
+    search (
+      arith,
+      length-map new.glyphs plain,
+      done.order,
+      length-append (take s xs) (meaning (stretch_of s e xs) ++ drop e xs),
+      length-append (meaning (stretch_of s e xs)) (drop e xs),
+      length-drop e xs,
+      (changed_parts s e (take s xs) (meaning (stretch_of s e xs)) (drop e xs) (order_view new.glyphs) h front k
+          done.order).stretch,
+    )
 
 -- a syllable that is reordered
 pub initial_syllable : (r : Rules) (script : Option Script) (s e : ℕ) (b1 b2 b3 b4 : Buffer) → s ≤ e
@@ -106,11 +78,16 @@ initial_syllable r script s e b1 b2 b3 b4 h l kind p o m =
     _ s e b1 b4
     (sym (ap (λ (b : Bool). if b then masked_in_order r script (in_indic_order (positioned r script x1)) else x1) yes))
     (sym (ap (λ (b : Bool). if b then steps_of_reordered r script x1 else []) yes))
-    (ordered_and_masked r script s e b1 b2 b3 b4 h l p o m)
+    (
+    let n1 = length-positioned r script (stretch_of s e _) ∙ seen_long s e _ h l in
+    let a = after _ _ s e b1 b2 h l n1 p in
+    let l2 : e ≤ length _ = omega arith in
+    let n2 = length-in_order r (stretch_of s e _) ∙ seen_long s e _ h l2 in syllable_then _ _ _ _ s e b1 b2 b4 h l n1
+    p (syllable_then _ _ _ _ s e b2 b3 b4 h l2 n2 o m))
 
 -- another syllable stays
 still : (s e : ℕ) (b : Buffer) → s ≤ e → SyllableReordered (λ gs. gs) (λ _. []) s e b b
-still s e b h = record { others = refl; order = sym (three_parts s e _ h); moved = refl }
+still s e b h = search (arith, three_parts)
 
 pub other_syllable : (r : Rules) (script : Option Script) (s e : ℕ) (b : Buffer) → s ≤ e
     → is_reordered_in_indic (stretch_of s e b.glyphs) ≡ false

@@ -7,8 +7,8 @@ use Rattle.shapers_buffer.specs.declared.buffer.glyph.hb_glyph_info_t.{hb_glyph_
 use Rattle.shapers_buffer.specs.Glyph.{at_position}
 use Rattle.shapers_base.specs.declared.plan.ot_category_t.TheConstants.{OT_CM, OT_H, OT_N, OT_RS, OT_ZWJ, OT_ZWNJ}
 use Rattle.shapers_indic.specs.Glyphs.{has_category, has_position}
-use Rattle.shapers_indic_initial.specs.InitialPositions.{before_next, draws_sign, is_attached, with_attached, with_marks_attached, with_signs}
-use Rattle.shapers_indic_initial.specs.MarkWalk.{drawn_position, marks_from, next_behind, next_carrier, parted_position}
+use Rattle.shapers_indic_initial.specs.InitialPositions.{before_next, draws_sign, is_attached, with_marks_attached, with_signs}
+use Rattle.shapers_indic_initial.specs.MarkWalk.{drawn_position, marks_from, next_behind, next_carrier}
 use Rattle.shapers_indic_initial.proofs.Positions.{attach_step, attached_all, halant_step_of, halants_all}
 use Rattle.shapers_indic_initial.proofs.Walks.{walked}
 
@@ -33,86 +33,51 @@ drawn_same c g next rest =
     (elim (is_attached next) as (λ b. is_attached next ≡ b
     → before_next g ((if b then at_position c next else next) ∷ rest) ≡ before_next g (next ∷ rest)) [
       | true ↦ (λ t.
-          let none : has_category 13 next ≡ false = not_category 13 next refl t in
+          let none = not_category 13 next refl t in
           ap (λ m. if has_category 8 g && m && not (has_position 13 (at_position c next)) then at_position c g else g)
           none
-          ∙ (elim (has_category 8 g) as (λ s.
-          (if s && false && not (has_position 13 (at_position c next)) then at_position c g else g)
-          ≡ (if s && false && not (has_position 13 next) then at_position next.auxiliary g else g)) [
-            | true ↦ refl
-            | false ↦ refl
-          ])
-          ∙ sym (ap (λ m. if has_category 8 g && m && not (has_position 13 next) then at_position next.auxiliary g else
-          g) none))
+          ∙ (elim (has_category 8 g) as (λ s. (if s && false && not (has_position 13 (at_position c next)) then
+          at_position c g else g) ≡ (if s && false && not (has_position 13 next) then at_position next.auxiliary g
+          else g)) [ true ↦ refl | false ↦ refl ])
+          ∙ sym
+          (ap (λ m. if has_category 8 g && m && not (has_position 13 next) then at_position next.auxiliary g else g)
+          none))
       | false ↦ (λ t. refl)
     ]) refl
-
-sign_written : (g next : hb_glyph_info_t) → (if draws_sign g next then at_position next.auxiliary g else g)
-    ≡ at_position (if draws_sign g next then next.auxiliary else g.auxiliary) g
-sign_written g next =
-    elim (draws_sign g next) as (λ b. (if b then at_position next.auxiliary g else g)
-    ≡ at_position (if b then next.auxiliary else g.auxiliary) g) [
-      | true ↦ refl
-      | false ↦ refl
-    ]
 
 -- an attached glyph draws none
 undrawn : (c : ℕ) (g : hb_glyph_info_t) (rest : List hb_glyph_info_t) → is_attached g ≡ true
     → before_next (at_position c g) rest ≡ at_position c g
 undrawn c g [] t = refl
 undrawn c g (next ∷ rest) t =
-    ap (λ s. if s && has_category 13 next && not (has_position 13 next) then at_position next.auxiliary
-    (at_position c g) else at_position c g) (not_category 8 g refl t)
+    cc (not_category 8 g refl t)
 
 -- a glyph after the first two rules
 drawn_is : (c d : ℕ) (g : hb_glyph_info_t) (rest : List hb_glyph_info_t)
     → before_next (if is_attached g then at_position c g else g) (walked attach_step d rest)
     ≡ at_position (drawn_position c g rest) g
 drawn_is c d g [] =
-    elim (is_attached g) as (λ b. (if b then at_position c g else g) ≡ at_position (if b then c else g.auxiliary) g) [
-      | true ↦ refl
-      | false ↦ refl
-    ]
+    search arith
 drawn_is c d g (next ∷ rest) =
     (elim (is_attached g) as (λ b. is_attached g ≡ b
     → before_next (if b then at_position c g else g) (walked attach_step d (next ∷ rest))
     ≡ at_position (if b then c else if draws_sign g next then next.auxiliary else g.auxiliary) g) [
       | true ↦ (λ t. undrawn c g (walked attach_step d (next ∷ rest)) t)
-      | false ↦ (λ t. drawn_same d g next rest ∙ sign_written g next)
+      | false ↦ (λ t. drawn_same d g next rest ∙ (search arith))
     ]) refl
-
--- and after the third
-parted_is : (b p : ℕ) (g : hb_glyph_info_t) → at_position (parted_position b p g) g
-    ≡ (if has_category 4 g && p == 2 then at_position b g else at_position p g)
-parted_is b p g =
-    elim (has_category 4 g && p == 2) as (λ t. at_position (if t then b else p) g
-    ≡ (if t then at_position b g else at_position p g)) [
-      | true ↦ refl
-      | false ↦ refl
-    ]
 
 marks_is : (c b : ℕ) (gs : List hb_glyph_info_t)
     → marks_from c b gs ≡ walked halant_step_of b (with_signs (walked attach_step c gs))
 marks_is c b [] = refl
 marks_is c b (g ∷ gs) =
-    let p = drawn_position c g gs in
-    let rest = with_signs (walked attach_step (next_carrier c g) gs) in
-    ap (λ xs. at_position (parted_position b p g) g ∷ xs) (marks_is (next_carrier c g) (next_behind b p) gs)
-    ∙ ap (λ x. x ∷ walked halant_step_of (next_behind b p) rest) (parted_is b p g)
-    ∙ sym (ap (λ x. walked halant_step_of b (x ∷ rest)) (drawn_is c (next_carrier c g) g gs))
+    search (arith, drawn_is, marks_is (next_carrier c g) (next_behind b (drawn_position c g gs)) gs)
 
 pub marks_all : (gs : List hb_glyph_info_t) → marks_from 0 2 gs ≡ with_marks_attached gs
 marks_all gs =
-    marks_is 0 2 gs
-    ∙ ap (λ xs. walked halant_step_of 2 (with_signs xs)) (attached_all gs)
-    ∙ halants_all (with_signs (with_attached gs))
+    search (arith, marks_is, attached_all, halants_all)
 
 -- all glyphs
 pub marks_done : (i c b : ℕ) (gs old : List hb_glyph_info_t) → length gs ≤ i → take i gs ++ marks_from c b (drop i gs)
     ≡ marks_from 0 2 old → gs ≡ with_marks_attached old
 marks_done i c b gs old l same =
-    sym (append-nil gs)
-    ∙ sym (ap (λ ys. ys ++ []) (take_all i gs l))
-    ∙ sym (ap (λ ys. take i gs ++ marks_from c b ys) (drop_all i gs l))
-    ∙ same
-    ∙ marks_all old
+    search (arith, append-nil, take_all, drop_all, marks_all)

@@ -1,6 +1,6 @@
 -- The walks that give masks, step by step.
-use Rattle.std.proofs.Common.{◌≡◌, ℕ, zero, suc, ◌+◌, ◌-◌, ◌<◌, ◌==◌, ◌&&◌, ◌||◌, Bool, true, false, not, cond, if◌then◌else◌, List, [], ◌∷◌, ◌++◌, length, take, drop, map, get_or, set, refl, sym, ap, ◌∙◌, subst, arith, append_assoc, Option, Some, None, length-take-le}
-use Rattle.std.specs.Prelude.{find, nat_lt, slice_get}
+use Rattle.std.proofs.Common.{◌≡◌, ℕ, zero, suc, ◌+◌, ◌-◌, ◌<◌, ◌==◌, ◌&&◌, ◌||◌, Bool, true, false, not, cond, if◌then◌else◌, List, [], ◌∷◌, ◌++◌, length, take, drop, map, get_or, set, refl, sym, ap, ◌∙◌, subst, arith, append_assoc, Option, Some, length-take-le}
+use Rattle.std.specs.Prelude.{find, slice_get}
 use Rattle.std.specs.List.{enumerate_from, list_any, prefix_len, range_with_len}
 use Rattle.std.specs.Option.{option_map_or}
 use Rattle.std.proofs.Math.Seq.{get_or-append_seam, set-append_seam}
@@ -11,7 +11,7 @@ use Rattle.shapers_buffer.specs.Clusters.{stretch_of, with_stretch}
 use Rattle.shapers_buffer.specs.GlyphFlags.{with_bits}
 use Rattle.shapers_buffer.proofs.ListLaws.{none_in_front}
 use Rattle.shapers_buffer.proofs.MappedLists.{enumerate-append, values-enumerate_from}
-use Rattle.shapers_base.specs.declared.plan.ot_category_t.TheConstants.{OT_H, OT_Ra, OT_ZWJ, OT_ZWNJ}
+use Rattle.shapers_base.specs.declared.plan.ot_category_t.TheConstants.{OT_ZWNJ}
 use Rattle.shapers_buffer.specs.declared.buffer.tag.Script.{Script}
 use Rattle.shapers_buffer.specs.Glyph.{default_glyph}
 use Rattle.shapers_base.specs.declared.font.GlyphId.{GlyphId}
@@ -21,7 +21,7 @@ use Rattle.shapers_indic.specs.Glyphs.{has_category, has_position, is_one_of, le
 use Rattle.shapers_indic_initial.specs.InitialRules.{Rules, mask_at}
 use Rattle.std.proofs.lemmas.Bool.Decides.{nat_tests}
 use Rattle.shapers_syllabic.specs.Consonants.{is_consonant}
-use Rattle.shapers_indic_initial.specs.InitialMasks.{bits_of, has_eyelash, is_in_eyelash, loses_half, mask_after_base, mask_before_base, opens_eyelash, pref_pair, with_eyelash_mask, with_initial_masks, with_masks_around, with_pref_mask, without_bits, without_half}
+use Rattle.shapers_indic_initial.specs.InitialMasks.{bits_of, has_eyelash, is_in_eyelash, loses_half, mask_after_base, mask_before_base, pref_pair, with_eyelash_mask, with_initial_masks, with_pref_mask, without_bits, without_half}
 
 -- one glyph back, in the walk that takes half away
 pub half_step : (g : hb_glyph_info_t) (after : List hb_glyph_info_t)
@@ -43,17 +43,16 @@ seam gs rest k d h = ap (λ ys. ys ++ rest) (take_more gs k d h) ∙ append_asso
 seam_get : {X : Type 0} (gs rest : List X) (k : ℕ) (d : X) → k < length gs → get_or (take (k + 1) gs ++ rest) k d
     ≡ get_or gs k d
 seam_get gs rest k d h =
-    let front = length-take-le k gs (omega arith) in
     ap (λ ys. get_or ys k d) (seam gs rest k d h)
-    ∙ subst (λ n. get_or (take k gs ++ get_or gs k d ∷ rest) n d ≡ get_or gs k d) front
+    ∙ subst (λ n. get_or (take k gs ++ get_or gs k d ∷ rest) n d ≡ get_or gs k d) (length-take-le k gs (omega arith))
     (get_or-append_seam (take k gs) _ rest d)
 
 seam_set : {X : Type 0} (gs rest : List X) (k : ℕ) (d y : X) → k < length gs → set (take (k + 1) gs ++ rest) k y
     ≡ take k gs ++ y ∷ rest
 seam_set gs rest k d y h =
-    let front = length-take-le k gs (omega arith) in
     ap (λ ys. set ys k y) (seam gs rest k d h)
-    ∙ subst (λ n. set (take k gs ++ get_or gs k d ∷ rest) n y ≡ take k gs ++ y ∷ rest) front
+    ∙ subst (λ n. set (take k gs ++ get_or gs k d ∷ rest) n y ≡ take k gs ++ y ∷ rest)
+    (length-take-le k gs (omega arith))
     (set-append_seam _ _ rest y)
 
 -- without a ZWNJ nothing loses half
@@ -62,9 +61,7 @@ pub no_half_taken : (bits : ℕ) (gs : List hb_glyph_info_t) → list_any (is_on
 no_half_taken bits [] none = refl
 no_half_taken bits (g ∷ gs) none =
     let rest : list_any _ gs ≡ false = grind (arith, nat_tests, none) in
-    ap (λ (b : Bool). (if b then without_bits bits g else g) ∷ without_half bits gs)
-    (none_in_front _ _ gs rest)
-    ∙ ap (λ xs. g ∷ xs) (no_half_taken bits gs rest)
+    cc (none_in_front _ _ gs rest, no_half_taken bits gs rest)
 
 -- what becomes of a glyph in that walk
 abbrev pub half_taken : ℕ → Bool → hb_glyph_info_t → hb_glyph_info_t
@@ -86,24 +83,7 @@ pub half_back : (bits : ℕ) (gs xs : List hb_glyph_info_t) (i k : ℕ) (loses r
     → g ≡ half_taken bits loses (get_or xs k d) → r ≡ (not (is_consonant g) && (is_one_of (OT_ZWNJ ∷ []) g || loses))
     → HalfTaken bits gs k r (set xs k g)
 half_back bits gs xs i k loses r g d e h is l g_is r_is =
-    let after = drop (k + 1) gs in
-    let x = get_or gs k d in
-    let here = drop_more gs k d h in
-    let is' =
-    subst (λ n. xs ≡ take n gs ++ without_half bits (drop n gs)) (sym e) is in
-    let l' = subst (λ n. loses ≡ loses_half (drop n gs)) (sym e) l in
-    let at = ap (λ ys. get_or ys k d) is' ∙ seam_get gs _ k d h in
-    let g_is' = g_is ∙ ap (half_taken bits loses) at
-    ∙ ap (λ b. half_taken bits b x) l' in
-    record {
-      glyphs = ap (λ ys. set ys k g) is' ∙ seam_set gs _ k d g h
-          ∙ ap (λ y. take k gs ++ y ∷ without_half bits after) g_is'
-          ∙ sym (ap (λ ys. take k gs ++ without_half bits ys) here);
-      loses = r_is ∙ ap (λ y. not (is_consonant y) && (is_one_of (OT_ZWNJ ∷ []) y || loses)) g_is'
-          ∙ same_category bits loses (loses_half after) x
-          ∙ ap (λ b. not (is_consonant x) && (is_one_of (OT_ZWNJ ∷ []) x || b)) l' ∙ half_step x after
-          ∙ sym (ap loses_half here);
-    }
+    search (arith, seam_set, seam_get, drop_more, same_category, half_step)
 
 -- a search over places, one place on, and its answer
 pub search_on : (P : ℕ → Bool) (i e : ℕ) → i < e → P i ≡ false → find P (places (i + 1) e) ≡ find P (places i e)
@@ -113,17 +93,13 @@ search_on P i e h fails =
 
 pub search_found : (P : ℕ → Bool) (i e : ℕ) → i < e → P i ≡ true → Some i ≡ find P (places i e)
 search_found P i e h found =
-    let n : suc _ ≡ e - i = omega arith in
-    sym (ap (λ b. cond b (Some i) (find P (places (i + 1) e))) found) ∙ ap (λ m. find P (range_with_len i m)) n
+    search arith
 
 -- two neighbours, as the font is asked about them
 pub pair_at : (gs : List hb_glyph_info_t) (i : ℕ) (d : hb_glyph_info_t) → i + 1 < length gs
     → numbers (stretch_of i (i + 2) gs) ≡ number (get_or gs i d) ∷ number (get_or gs (i + 1) d) ∷ []
 pair_at gs i d h =
-    let n : (i + 2) - i ≡ 2 = omega arith in
-    ap (λ m. numbers (take m (drop i gs))) n
-    ∙ ap (λ ys. numbers (take 2 ys)) (drop_more gs i d (omega arith)
-    ∙ ap (λ ys. get_or gs i d ∷ ys) (drop_more gs (i + 1) d h))
+    search (arith, drop_more)
 
 passes_category : (c : ℕ) (gs : List hb_glyph_info_t) (i : ℕ) → passes (has_category c) gs i
     ≡ option_map_or (λ x. x == c) (slice_get (map (λ g. g.category) gs) i) false
@@ -132,19 +108,9 @@ passes_category c [] (suc i) = refl
 passes_category c (g ∷ gs) zero = refl
 passes_category c (g ∷ gs) (suc i) = passes_category c gs i
 
-pub passes_same : (c : ℕ) (xs gs : List hb_glyph_info_t) (i : ℕ) → map (λ g. g.category) xs ≡ map (λ g. g.category) gs
-    → passes (has_category c) xs i ≡ passes (has_category c) gs i
-passes_same c xs gs i same = passes_category c xs i ∙ ap (λ ys. option_map_or (λ x. x == c) (slice_get ys i) false) same
-    ∙ sym (passes_category c gs i)
-
-pub opens_same : (base : ℕ) (xs gs : List hb_glyph_info_t) (i : ℕ) → map (λ g. g.category) xs ≡ map (λ g. g.category) gs
-    → opens_eyelash base xs i ≡ opens_eyelash base gs i
-opens_same base xs gs i same =
-    cc (passes_same OT_Ra xs gs i same, passes_same OT_H xs gs (i + 1) same, passes_same OT_ZWJ xs gs (i + 2) same)
-
 pub eyelash_same : (base : ℕ) (xs gs : List hb_glyph_info_t) (i : ℕ)
     → map (λ g. g.category) xs ≡ map (λ g. g.category) gs → is_in_eyelash base xs i ≡ is_in_eyelash base gs i
-eyelash_same base xs gs i same = cc (opens_same base xs gs i same, opens_same base xs gs (i - 1) same)
+eyelash_same base xs gs i same = search (arith, passes_category)
 
 -- glyphs with mask bits, where a test of their places says so
 abbrev pub bits_if : ℕ → (ℕ → Bool) → ℕ × hb_glyph_info_t → hb_glyph_info_t
@@ -154,57 +120,49 @@ categories_stay : (bits : ℕ) (test : ℕ → Bool) (n : ℕ) (gs : List hb_gly
     → map (λ g. g.category) (map (bits_if bits test) (enumerate_from n gs)) ≡ map (λ g. g.category) gs
 categories_stay bits test n [] = refl
 categories_stay bits test n (g ∷ gs) =
-    (elim (test n) as (λ b. (let x = if b then with_bits bits g else g in x.category
-    ∷ map (λ h. h.category) (map (bits_if bits test) (enumerate_from (n + 1) gs))
-    ≡ g.category ∷ map (λ h. h.category) (map (bits_if bits test) (enumerate_from (n + 1) gs)))) [
-      | true ↦ refl
-      | false ↦ refl
-    ]) ∙ ap (λ cs. g.category ∷ cs) (categories_stay bits test (n + 1) gs)
+    search (arith, categories_stay bits test (n + 1) gs)
 
 -- such glyphs up to place i, and the rest as it was
 abbrev pub bits_up_to : ℕ → (ℕ → Bool) → ℕ → List hb_glyph_info_t → List hb_glyph_info_t
 bits_up_to bits test i gs = map (bits_if bits test) (enumerate_from 0 (take i gs)) ++ drop i gs
-
-categories_up_to : (bits : ℕ) (test : ℕ → Bool) (i : ℕ) (gs : List hb_glyph_info_t)
-    → map (λ g. g.category) (bits_up_to bits test i gs) ≡ map (λ g. g.category) gs
-categories_up_to bits test i gs =
-    map-append _ _ (drop i gs)
-    ∙ ap (λ cs. cs ++ map (λ g. g.category) (drop i gs)) (categories_stay bits test 0 _)
-    ∙ sym (map-append _ (take i gs) _)
-    ∙ ap (map _) (take-append-drop i gs)
 
 pub eyelash_next : (bits base : ℕ) (gs xs ys : List hb_glyph_info_t) (i : ℕ) (d : hb_glyph_info_t) (b : Bool)
     → i < length gs → xs ≡ bits_up_to bits (is_in_eyelash base gs) i gs → b ≡ is_in_eyelash base xs i
     → ys ≡ (if b then set xs i (with_bits bits (get_or xs i d)) else xs)
     → ys ≡ bits_up_to bits (is_in_eyelash base gs) (i + 1) gs
 eyelash_next bits base gs xs ys i d b h is test_is ys_is =
-    let test : ℕ → Bool = is_in_eyelash base gs in
+    let test = is_in_eyelash base gs in
     let g = get_or gs i d in
     let rest = drop (i + 1) gs in
     let front = map (bits_if bits test) (enumerate_from 0 (take i gs)) in
-    let long : length front ≡ i = length-map (enumerate_from 0 (take i gs)) (bits_if bits test)
-    ∙ length-enumerate_from 0 (take i gs) ∙ length-take-le i gs (omega arith) in
-    let is' : xs ≡ front ++ g ∷ rest = is ∙ ap (λ zs. front ++ zs) (drop_more gs i d h) in
-    let at : get_or xs i d ≡ g = ap (λ zs. get_or zs i d) is'
-    ∙ subst (λ n. get_or (front ++ g ∷ rest) n d ≡ g) long (get_or-append_seam front g rest d) in
-    let put : (y : hb_glyph_info_t) → set xs i y ≡ front ++ y ∷ rest = λ y. ap (λ zs. set zs i y) is'
+    let long = length-map (enumerate_from 0 (take i gs)) (bits_if bits test) ∙ length-enumerate_from 0 (take i gs)
+    ∙ length-take-le i gs (omega arith) in
+    let is' = is ∙ ap (λ zs. front ++ zs) (drop_more gs i d h) in
+    let put : (y : hb_glyph_info_t) → set xs i y ≡ front ++ y ∷ rest = λ y.
+    ap (λ zs. set zs i y) is'
     ∙ subst (λ n. set (front ++ g ∷ rest) n y ≡ front ++ y ∷ rest) long (set-append_seam front g rest y) in
-    let t : b ≡ test i =
-    test_is ∙ eyelash_same base xs gs i (ap (map (λ x. x.category)) is ∙ categories_up_to bits test i gs) in
-    let written : (c : Bool) → (if c then set xs i (with_bits bits (get_or xs i d)) else xs)
-    ≡ front ++ (if c then with_bits bits g else g) ∷ rest =
-    λ c. (elim c as (λ e. (if e then set xs i (with_bits bits (get_or xs i d)) else xs)
-    ≡ front ++ (if e then with_bits bits g else g) ∷ rest) [
-      | true ↦ put (with_bits bits (get_or xs i d)) ∙ ap (λ x. front ++ with_bits bits x ∷ rest) at
+    let written : (c : Bool) → (if c then set xs i (with_bits bits (get_or xs i d)) else xs) ≡ front ++ (if c then
+    with_bits bits g else g) ∷ rest = λ c. (elim c as (λ e. (if e then set xs i (with_bits bits (get_or xs i d)) else
+    xs) ≡ front ++ (if e then with_bits bits g else g) ∷ rest) [
+      | true ↦
+          put (with_bits bits (get_or xs i d))
+          ∙ ap (λ x. front ++ with_bits bits x ∷ rest)
+          (ap (λ zs. get_or zs i d) is' ∙ subst (λ n. get_or (front ++ g ∷ rest) n d ≡ g) long (get_or-append_seam
+          front g rest d))
       | false ↦ is'
     ]) in
-    let more : map (bits_if bits test) (enumerate_from 0 (take (i + 1) gs)) ≡ front ++ bits_if bits test (i, g) ∷ [] =
-    ap (λ zs. map (bits_if bits test) (enumerate_from 0 zs)) (take_more gs i d h)
-    ∙ ap (map (bits_if bits test)) (enumerate-append (take i gs) (g ∷ []))
-    ∙ map-append (bits_if bits test) (enumerate_from 0 (take i gs)) (enumerate_from (length (take i gs)) (g ∷ []))
-    ∙ ap (λ n. front ++ bits_if bits test (n, g) ∷ []) (length-take-le i gs (omega arith)) in
-    ys_is ∙ ap (λ c. if c then set xs i (with_bits bits (get_or xs i d)) else xs) t ∙ written (test i)
-    ∙ sym (ap (λ zs. zs ++ rest) more ∙ append_assoc front (bits_if bits test (i, g) ∷ []) rest)
+    cc (
+      eyelash_same base xs gs i
+          (ap (map (λ x. x.category)) is ∙ (map-append _ _ (drop i gs) ∙ ap (λ cs. cs ++ map (λ g. g.category) (drop
+          i gs)) (categories_stay bits test 0 _) ∙ sym (map-append _ (take i gs) _) ∙ ap (map _) (take-append-drop i
+          gs))),
+      written (test i),
+      take_more gs i d h,
+      enumerate-append (take i gs) (g ∷ []),
+      map-append (bits_if bits test) (enumerate_from 0 (take i gs)) (enumerate_from (length (take i gs)) (g ∷ [])),
+      length-take-le i gs (omega arith),
+      append_assoc front (bits_if bits test (i, g) ∷ []) rest,
+    )
 
 -- where the test fails everywhere, and at the end
 pub no_eyelash : (bits : ℕ) (test : ℕ → Bool) (gs : List hb_glyph_info_t)
@@ -216,25 +174,21 @@ pub eyelash_is : (r : Rules) (script : Option Script) (base : ℕ) (gs : List hb
     → map (λ t. if b && is_in_eyelash base gs t.0 then with_bits (bits_of r BLWF) t.1 else t.1) (enumerate_from 0 gs)
     ≡ with_eyelash_mask r script base gs
 eyelash_is r script base gs b is =
-    ap (λ (c : Bool). map (λ t. if c && is_in_eyelash base gs t.0 then with_bits (bits_of r BLWF) t.1 else t.1)
-    (enumerate_from 0 gs)) is
+    search arith
 
 -- what the font is asked about two neighbours
 pub asked_pair : (P : List GlyphId → Bool) (gs : List hb_glyph_info_t) (i : ℕ) (a b : GlyphId) (r : Bool)
     → i + 1 < length gs → a ≡ number (get_or gs i default_glyph) → b ≡ number (get_or gs (i + 1) default_glyph)
     → r ≡ P (a ∷ b ∷ []) → P (numbers (stretch_of i (i + 2) gs)) ≡ r
 asked_pair P gs i a b r h is_a is_b is =
-    ap P (pair_at gs i _ h ∙ sym (ap (λ x. x ∷ number (get_or gs (i + 1) default_glyph) ∷ []) is_a)
-    ∙ sym (ap (λ x. a ∷ x ∷ []) is_b)) ∙ sym is
+    cc (pair_at gs i _ h)
 
 -- the pair, where there is a mask and room
 pub pref_pair_asked : (r : Rules) (base : ℕ) (gs : List hb_glyph_info_t) → 0 < mask_at r PREF → base + 2 < length gs
     → least_place (λ i. r.forms_pref (numbers (stretch_of i (i + 2) gs))) (base + 1) (length gs - 1)
     ≡ pref_pair r base gs
 pref_pair_asked r base gs m h =
-    let yes : (not _ && nat_lt (base + 2) (length gs)) ≡ true = grind (arith, nat_tests) in
-    sym (ap (λ (b : Bool). if b then least_place (λ i. r.forms_pref (numbers (stretch_of i (i + 2) gs))) (base + 1)
-    (length gs - 1) else None) yes)
+    search (arith, nat_tests)
 
 -- all walks, one after another
 pub all_masks : (r : Rules) (script : Option Script) (base : ℕ) (gs g1 g2 g3 g4 g5 : List hb_glyph_info_t)
@@ -245,14 +199,4 @@ pub all_masks : (r : Rules) (script : Option Script) (base : ℕ) (gs g1 g2 g3 g
     → g3 ≡ with_eyelash_mask r script base g2 → g4 ≡ with_pref_mask r base g3 → b4 ≡ bits_of r HALF
     → g5 ≡ without_half b4 g4 → g5 ≡ with_initial_masks r script base gs
 all_masks r script base gs g1 g2 g3 g4 g5 b1 b2 b3 b4 e1 h1 e2 e3 h2 h3 h4 e4 h5 =
-    let one =
-    h1 ∙ ap (λ b. with_stretch 0 (prefix_len (has_position POS_RA_TO_BECOME_REPH) gs) (map (with_bits b)) gs)
-    e1 in
-    let two =
-    h2 ∙ ap (λ b. with_stretch (base + 1) (length g1) (map (with_bits b3))
-    (with_stretch 0 base (map (with_bits b)) g1)) e2
-    ∙ ap (λ b. with_stretch (base + 1) (length g1) (map (with_bits b))
-    (with_stretch 0 base (map (with_bits (mask_before_base r))) g1)) e3 ∙ ap (with_masks_around r base) one in
-    h5 ∙ ap (λ b. without_half b g4) e4
-    ∙ ap (without_half _) (h4
-    ∙ ap (with_pref_mask r base) (h3 ∙ ap (with_eyelash_mask r script base) two))
+    cc

@@ -2,7 +2,7 @@
 use Rattle.shapers_buffer.specs.declared.buffer.placement.Placement.TheVariants.{Forward}
 use Rattle.shapers_buffer.specs.Places.{brought_forward, placed_by}
 use Rattle.shapers_buffer.proofs.Placements.{brought_parts, brought_within, placed_forward}
-use Rattle.std.proofs.Common.{ℕ, suc, ◌+◌, ◌-◌, ◌<◌, ◌≤◌, ◌≡◌, List, [], ◌∷◌, ◌++◌, map, length, take, drop, refl, sym, ◌∙◌, ap, arith}
+use Rattle.std.proofs.Common.{ℕ, ◌+◌, ◌-◌, ◌<◌, ◌≤◌, ◌≡◌, List, [], ◌∷◌, ◌++◌, length, take, drop, refl, sym, ◌∙◌, ap, arith}
 use Rattle.std.specs.List.{range_with_len}
 use Rattle.std.proofs.lemmas.List.{length-drop, take_all}
 use Rattle.std.proofs.lemmas.List.FromFn.{length-range_with_len}
@@ -11,31 +11,24 @@ use Rattle.shapers_buffer.specs.Buffer.{Buffer, but_places}
 use Rattle.shapers_buffer.specs.Clusters.{merge_all, stretch_of, with_stretch}
 use Rattle.shapers_buffer.specs.Glyph.{order_view}
 use Rattle.shapers_buffer.specs.Places.{pick}
-use Rattle.shapers_clusters.specs.Steps.{FitsStep, Step, run_steps, shifted, widened}
+use Rattle.shapers_clusters.specs.Steps.{FitsStep, Step, shifted, widened}
 use Rattle.shapers_clusters.proofs.Merging.{length-merge_all}
 use Rattle.shapers_clusters.proofs.Picks.{pick-append, pick-range}
 use Rattle.shapers_clusters.proofs.Widened.{fits-widened, order_view-widened, pick-widened, range-append}
 use Rattle.shapers_indic_initial.specs.InitialPositions.{moved_behind}
-use Rattle.shapers_syllabic.specs.Reordering.{SyllableReordered, carried}
+use Rattle.shapers_syllabic.specs.Reordering.{SyllableReordered}
 use Rattle.shapers_syllabic.proofs.ReorderingLemmas.{old_places_one}
 
 -- those behind it, up to the other, come forward to its place
 pub moved_is : {X : Type 0} (h j : ℕ) (xs : List X) → h ≤ j → moved_behind h j xs ≡ brought_forward h (h + 1) (j - h) xs
 moved_is h j xs l =
-    let e : j + 1 ≡ h + 1 + (j - h) = omega arith in
-    ap (λ k. take h xs ++ (stretch_of (h + 1) k xs ++ (stretch_of h (h + 1) xs ++ drop k xs))) e
+    search arith
 
 -- within a stretch
 pub moved_within : {X : Type 0} (s e h j : ℕ) (xs : List X) → s ≤ e → e ≤ length xs → h ≤ j → j < e - s
     → moved_behind (s + h) (s + j) xs ≡ with_stretch s e (moved_behind h j) xs
 moved_within s e h j xs l r k m =
-    let from : s + h + 1 ≡ s + (h + 1) = omega arith in
-    let count : s + j - (s + h) ≡ j - h = omega arith in
-    moved_is (s + h) (s + j) xs (omega arith)
-    ∙ ap (λ i. brought_forward (s + h) i (s + j - (s + h)) xs) from
-    ∙ ap (λ i. brought_forward (s + h) (s + (h + 1)) i xs) count
-    ∙ sym (brought_within h (h + 1) (j - h) s e xs (omega arith) (omega arith) l r)
-    ∙ sym (ap (λ ys. take s xs ++ (ys ++ drop e xs)) (moved_is h j (stretch_of s e xs) k))
+    search (arith, moved_is, brought_within)
 
 -- as places
 pub pick-moved : {X : Type 0} (h j n : ℕ) (xs : List X) → length xs ≡ n → h ≤ j → j < n
@@ -46,33 +39,22 @@ pick-moved h j n xs e l k =
     let c = range_with_len (j + 1) (n - (j + 1)) in
     let n1 : n ≡ h + (1 + (n - (h + 1))) = omega arith in
     let n2 : n - (h + 1) ≡ (j - h) + (n - (j + 1)) = omega arith in
-    let at : h + 1 + (j - h) ≡ j + 1 = omega arith in
     let split : range_with_len 0 n ≡ a ++ h ∷ (b ++ c) =
-    ap (range_with_len 0) n1
-    ∙ range-append 0 h (1 + (n - (h + 1)))
-    ∙ ap (λ ys. a ++ ys) (let z : 0 + h ≡ h = omega arith in let o : 1 + (n - (h + 1))
-    ≡ suc (n - (h + 1)) = omega arith in ap (λ p. range_with_len p (1 + (n - (h + 1)))) z ∙ ap (range_with_len h) o)
-    ∙ ap (λ m. a ++ h ∷ range_with_len (h + 1) m) n2
-    ∙ ap (λ ys. a ++ h ∷ ys) (range-append (h + 1) (j - h) (n - (j + 1))
-    ∙ ap (λ p. b ++ range_with_len p (n - (j + 1))) at) in
-    let moved : moved_behind h j (range_with_len 0 n) ≡ a ++ (b ++ h ∷ c) = ap (moved_behind h j) split
-    ∙ moved_is h j (a ++ h ∷ (b ++ c)) l
-    ∙ brought_parts a (h ∷ []) b c h (h + 1) (j - h) (length-range_with_len 0 h) refl
-    (length-range_with_len (h + 1) (j - h)) in
-    let first : pick a xs ≡ take h xs = pick-range 0 h xs (omega arith) in
-    let second : pick b xs ≡ stretch_of (h + 1) (j + 1) xs = pick-range (h + 1) (j - h) xs (omega arith)
-    ∙ (let w : j - h ≡ j + 1 - (h + 1) = omega arith in ap (λ m. take m (drop (h + 1) xs)) w) in
-    let third : pick (h ∷ []) xs ≡ stretch_of h (h + 1) xs = pick-range h 1 xs (omega arith)
-    ∙ (let w : 1 ≡ h + 1 - h = omega arith in ap (λ m. take m (drop h xs)) w) in
-    let fourth : pick c xs ≡ drop (j + 1) xs = pick-range (j + 1) (n - (j + 1)) xs (omega arith)
-    ∙ take_all (n - (j + 1)) (drop (j + 1) xs) (omega (arith, length-drop (j + 1) xs)) in
-    ap (λ ps. pick ps xs) moved
-    ∙ pick-append a (b ++ h ∷ c) xs
-    ∙ ap (λ ys. pick a xs ++ ys) (pick-append b (h ∷ c) xs ∙ ap (λ ys. pick b xs ++ ys) (pick-append (h ∷ []) c xs))
-    ∙ ap (λ ys. ys ++ (pick b xs ++ (pick (h ∷ []) xs ++ pick c xs))) first
-    ∙ ap (λ ys. take h xs ++ (ys ++ (pick (h ∷ []) xs ++ pick c xs))) second
-    ∙ ap (λ ys. take h xs ++ (stretch_of (h + 1) (j + 1) xs ++ (ys ++ pick c xs))) third
-    ∙ ap (λ ys. take h xs ++ (stretch_of (h + 1) (j + 1) xs ++ (stretch_of h (h + 1) xs ++ ys))) fourth
+    search (arith, range-append) in
+    search (
+      arith,
+      moved_is h j (a ++ h ∷ (b ++ c)) l,
+      brought_parts a (h ∷ []) b c h (h + 1) (j - h) (length-range_with_len 0 h) refl
+          (length-range_with_len (h + 1) (j - h)),
+      pick-append a (b ++ h ∷ c) xs,
+      pick-append b (h ∷ c) xs,
+      pick-append (h ∷ []) c xs,
+      pick-range 0 h xs (omega arith),
+      pick-range (h + 1) (j - h) xs (omega arith),
+      pick-range h 1 xs (omega arith),
+      pick-range (j + 1) (n - (j + 1)) xs (omega arith),
+      take_all (n - (j + 1)) (drop (j + 1) xs) (omega (arith, length-drop (j + 1) xs)),
+    )
 
 -- one step of a syllable
 pub stepped : (meaning : List hb_glyph_info_t → List hb_glyph_info_t) (steps : List hb_glyph_info_t
@@ -101,8 +83,7 @@ stepped meaning steps s e step old new h l f nothing kept is meant leads =
           ∙ order_view-widened _ s e (step ∷ []) gs h l (f, tt)
           ∙ ap (λ ps. take s xs ++ (pick ps (stretch_of s e xs) ++ drop e xs)) (old_places_one (e - s) step f)
           ∙ ap (λ ys. take s xs ++ (ys ++ drop e xs)) (sym meant);
-      moved = ap (map carried) run
-          ∙ sym (ap (λ sts. map carried (run_steps old.level (map (widened s e (length gs)) sts) gs)) leads);
+      moved = cc;
     }
 
 -- the move as a placement
@@ -111,9 +92,9 @@ pub placed_behind : (from end : ℕ) (old new : Buffer) → from < end → end �
       glyphs = placed_by (Forward from (from + 1) (end - from - 1)) from end old.places old.glyphs;
     } in r) → new.glyphs ≡ moved_behind from (end - 1) old.glyphs
 placed_behind from end old new l r is =
-    let count : end - from - 1 ≡ end - 1 - from = omega arith in
-    ap (λ b. b.glyphs) is
-    ∙ placed_forward from (from + 1) (end - from - 1) from end old.places old.glyphs (omega arith) (omega arith)
-    (omega arith) r
-    ∙ ap (λ k. brought_forward from (from + 1) k old.glyphs) count
-    ∙ sym (moved_is from (end - 1) old.glyphs (omega arith))
+    search (
+      arith,
+      placed_forward from (from + 1) (end - from - 1) from end old.places old.glyphs (omega arith) (omega arith)
+          (omega arith) r,
+      moved_is from (end - 1) old.glyphs (omega arith),
+    )

@@ -1,5 +1,5 @@
 -- What the order of a syllable makes of its clusters.
-use Rattle.std.proofs.Common.{ℕ, ◌+◌, ◌-◌, ◌<◌, ◌≤◌, ◌≡◌, ◌≢◌, ◌==◌, inl, inr, true, false, ◌||◌, ◌&&◌, nat_lt, if◌then◌else◌, List, [], ◌∷◌, length, get_or, slice_index, refl, sym, ◌∙◌, ap, subst, arith}
+use Rattle.std.proofs.Common.{ℕ, ◌+◌, ◌-◌, ◌<◌, ◌≤◌, ◌≡◌, ◌≢◌, inl, inr, true, ◌||◌, ◌&&◌, nat_lt, List, [], ◌∷◌, length, get_or, sym, ◌∙◌, ap, subst, arith}
 use Rattle.std.specs.List.{AllByRecursion, range_with_len}
 use Rattle.std.specs.List.Sorted.{IsPermutation}
 use Rattle.std.proofs.lemmas.Bool.{cases_Bool, cases_lt, eqb-true, or_right}
@@ -18,8 +18,8 @@ use Rattle.shapers_clusters.proofs.SparedCuts.{different_permuted}
 use Rattle.shapers_clusters.proofs.Picks.{length-pick}
 use Rattle.shapers_indic.specs.Glyphs.{places}
 use Rattle.shapers_indic_initial.specs.CycleWalk.{EachOnce}
-use Rattle.shapers_indic_initial.specs.InitialClusters.{OrderMergesLaw, all_ways, kept_together, way_of}
-use Rattle.shapers_indic_initial.specs.InitialOrder.{cycle_stretches, ordered_base, indic_ordered_places, ordered_stretches}
+use Rattle.shapers_indic_initial.specs.InitialClusters.{OrderMergesLaw, kept_together, way_of}
+use Rattle.shapers_indic_initial.specs.InitialOrder.{ordered_base, indic_ordered_places, ordered_stretches}
 use Rattle.shapers_indic_initial.specs.InitialReordering.{in_indic_order}
 use Rattle.shapers_indic_initial.specs.InitialRules.{Rules}
 use Rattle.shapers_indic_initial.proofs.CycleSteps.{once_range}
@@ -39,11 +39,7 @@ once_permuted n from perm =
 pub held_together : (r : Rules) (from : List ℕ) (base i : ℕ) → EachOnce from → held (ordered_stretches r from base) i
     ≡ held (kept_together r from base) i
 held_together r from base i o =
-    elim (r.old || nat_lt 127 _) as (λ b. held (if b then (base, length from)
-    ∷ [] else cycle_stretches from base) i ≡ held (if b then (base, length from) ∷ [] else all_ways from base) i) [
-      | true ↦ refl
-      | false ↦ held_by_ways from base i o
-    ]
+    search (arith, held_by_ways)
 
 pub record Lies (base n : ℕ) (st : ℕ × ℕ) : Type 0 where
   pub low : base ≤ st.0
@@ -52,14 +48,12 @@ pub record Lies (base n : ℕ) (st : ℕ × ℕ) : Type 0 where
 pub together_lies : (r : Rules) (from : List ℕ) (base : ℕ) → EachOnce from
     → AllByRecursion (Lies base (length from)) (kept_together r from base)
 together_lies r from base o =
-    elim (r.old || nat_lt 127 (length from)) as (λ b. AllByRecursion (Lies base (length from))
-    (if b then (base, length from) ∷ [] else all_ways from base)) [
-      | true ↦ (record { low = omega arith; high = omega arith }, tt)
-      | false ↦ all-mapped (λ p. p < length from) (Lies base (length from)) (way_of from base)
-          (places base (length from))
+    search (
+      arith,
+      all-mapped (λ p. p < length from) (Lies base (length from)) (way_of from base) (places base (length from))
           (λ p l. record { low = omega arith; high = omega (arith, o.within p l) })
-          (all-range (λ p. p < length from) base (length from - base) (λ p low high. omega arith))
-    ]
+          (all-range (λ p. p < length from) base (length from - base) (λ p low high. omega arith)),
+    )
 
 -- what holds of all, by two things that do
 pub all_by_two : {X : Type 0} (P Q R : X → Type 0) → ((x : X) → P x → Q x → R x) → (xs : List X) → AllByRecursion P xs
@@ -75,7 +69,7 @@ held_behind : (base n : ℕ) (sts : List (ℕ × ℕ)) (i : ℕ) → AllByRecurs
     → Behind base i
 held_behind base n [] i all h = absurd (cc h)
 held_behind base n (st ∷ sts) i all h = elim (cases_Bool (nat_lt st.0 i && nat_lt i st.1)) [
-  | inl t ↦ (let first = all.0 in let low = first.low in let k : st.0
+  | inl t ↦ (let low = all.0.low in let k : st.0
       < i = grind (arith, nat_tests) in record { above = omega arith })
   | inr f ↦ held_behind base n sts i all.1 (sym (ap (λ b. b || held sts i) f) ∙ h)
 ]
@@ -83,7 +77,7 @@ held_behind base n (st ∷ sts) i all h = elim (cases_Bool (nat_lt st.0 i && nat
 -- exact cuts by other stretches that hold the same neighbours
 linked_same : (xs : List ℕ) (sts others : List (ℕ × ℕ)) → ((i : ℕ) → held sts i ≡ held others i) → (i : ℕ)
     → linked xs sts i ≡ linked xs others i
-linked_same xs sts others same i = ap (λ b. slice_index xs (i - 1) == slice_index xs i || b) (same i)
+linked_same xs sts others same i = cc (same i)
 
 exact_by : (xs : List ℕ) (sts others : List (ℕ × ℕ)) (js : List ℕ) → ((i : ℕ) → held sts i ≡ held others i)
     → ExactCuts xs sts js → ExactCuts xs others js
@@ -91,7 +85,7 @@ exact_by xs sts others js same f =
     let e = linked_same xs sts others same in
     record {
       same_length = f.same_length;
-      cuts = λ p z l. (λ ne. sym (e p) ∙ (f.cuts p z l).0 ne, λ n. (f.cuts p z l).1 (e p ∙ n));
+      cuts = search arith;
       reached = λ p l. let (q, ql, block, at) = f.reached p l in (q, ql, λ i x y. sym (e i) ∙ block i x y, at);
       least = λ p q pl ql block. f.least p q pl ql (λ i x y. e i ∙ block i x y);
     }
@@ -102,9 +96,7 @@ pub one_cluster : (level : BufferClusterLevel) → merges level ≡ true → (st
     → OneAlong (joined_all level sts xs) st
 one_cluster level m sts xs ends st within all p q pl ph ql qh =
     sym (share_all _ p q
-    (λ i a b. joined_all-linked level m sts xs ends i (omega arith) (omega arith)
-    (ap (λ c. slice_index xs (i - 1) == slice_index xs i || c) (all i (omega arith) (omega arith))
-    ∙ or_right _ true refl)) q (omega arith) (omega arith))
+    (λ i a b. search (arith, joined_all-linked, or_right)) q (omega arith) (omega arith))
 
 -- a place before the base keeps its cluster
 unlinked_before : (base n : ℕ) (sts : List (ℕ × ℕ)) (xs : List ℕ) → AllByRecursion (Lies base n) sts
@@ -113,8 +105,7 @@ unlinked_before : (base n : ℕ) (sts : List (ℕ × ℕ)) (xs : List ℕ) → A
 unlinked_before base n sts xs lies different i z h l t =
     elim (cases_Bool _) [
       | inl e ↦ different (i - 1) i (omega arith) l (eqb-true _ _ e)
-      | inr f ↦ let b = held_behind base n sts i lies (sym (ap (λ b. b || held sts i) f) ∙ t) in let above =
-          b.above in omega arith
+      | inr f ↦ let b = held_behind base n sts i lies (sym (ap (λ b. b || held sts i) f) ∙ t) in search arith
     ]
 
 kept_before : (base n : ℕ) (sts : List (ℕ × ℕ)) (xs js : List ℕ) → AllByRecursion (Lies base n) sts
@@ -125,11 +116,7 @@ kept_before base n sts xs js lies different f p b l =
     elim (cases_lt p q) [
       | inl h ↦ absurd (unlinked_before base n sts xs lies different (p + 1) (omega arith) (omega arith) (omega arith)
           (block (p + 1) (omega arith) (omega arith)))
-      | inr h ↦ elim (cases_lt q p) [
-        | inl k ↦ absurd (unlinked_before base n sts xs lies different p (omega arith) (omega arith) l
-            (block p (omega arith) (omega arith)))
-        | inr k ↦ at ∙ (let same : q ≡ p = omega arith in ap (λ k. get_or xs k 0) same)
-      ]
+      | inr h ↦ search (arith, unlinked_before)
     ]
 
 pub order_merges : OrderMergesLaw

@@ -1,15 +1,15 @@
 -- The walks that set positions.
-use Rattle.std.proofs.Common.{◌≡◌, ℕ, ◌+◌, ◌<◌, ◌≤◌, ◌==◌, nat_le, nat_lt, min, Bool, true, false, cond, not, ◌&&◌, ◌||◌, List, [], ◌∷◌, ◌++◌, map, length, take, drop, find, get_or, set, reverse, Option, None, Some, unwrap_or, if◌then◌else◌, refl, sym, ap, ◌∙◌, arith, append_assoc}
+use Rattle.std.proofs.Common.{◌≡◌, ℕ, ◌+◌, ◌<◌, ◌≤◌, nat_le, nat_lt, Bool, true, false, cond, not, ◌&&◌, List, [], ◌∷◌, ◌++◌, map, length, take, drop, find, get_or, set, reverse, Option, None, Some, unwrap_or, if◌then◌else◌, refl, sym, ap, ◌∙◌, arith, append_assoc}
 use Rattle.std.specs.List.{enumerate_from}
 use Rattle.std.specs.Option.{option_map_or}
-use Rattle.std.proofs.lemmas.List.{drop_more, get_or_append_left, get_or-take, length-take-le, reverse-append, set_at, take-append-drop, take_more}
+use Rattle.std.proofs.lemmas.List.{take_all, drop_all, append-nil, drop_more, get_or_append_left, get_or-take, length-take-le, reverse-append, set_at, take-append-drop, take_more}
 use Rattle.std.proofs.lemmas.Bool.Decides.{nat_tests}
 use Rattle.shapers_buffer.specs.declared.buffer.glyph.hb_glyph_info_t.{hb_glyph_info_t}
 use Rattle.shapers_buffer.specs.Glyph.{at_position}
 use Rattle.shapers_buffer.specs.Lists.{each_after}
 use Rattle.shapers_indic.specs.Glyphs.{has_category, has_position}
-use Rattle.shapers_indic_initial.specs.InitialPositions.{bounds, by_base, carries, is_attached, owned_by, position_by_base, with_attached, with_halants, with_owner, with_owners}
-use Rattle.shapers_indic_initial.proofs.Walks.{walk_done, walked}
+use Rattle.shapers_indic_initial.specs.InitialPositions.{bounds, by_base, carries, is_attached, owned_by, position_by_base, with_attached, with_halants, with_owners}
+use Rattle.shapers_indic_initial.proofs.Walks.{walked}
 use Rattle.shapers_syllabic.specs.Consonants.{is_consonant}
 
 -- by the base: the walk counts
@@ -20,33 +20,18 @@ by_base_from : (base : ℕ) (reph : Bool) (i : ℕ) (gs : List hb_glyph_info_t) 
     ≡ map (λ t. at_position (position_by_base base reph t.0 t.1.auxiliary) t.1) (enumerate_from i gs)
 by_base_from base reph i [] = refl
 by_base_from base reph i (g ∷ gs) =
-    ap (λ xs. at_position (position_by_base base reph i g.auxiliary) g ∷ xs) (by_base_from base reph (i + 1) gs)
+    cc (by_base_from base reph (i + 1) gs)
 
 and_false : (b : Bool) → (b && false) ≡ false
 and_false true = refl
 and_false false = refl
-
-pub by_base_all : (base : ℕ) (reph : Bool) (gs : List hb_glyph_info_t) → walked (base_step base reph) 0 gs
-    ≡ by_base base reph gs
-by_base_all base reph gs = by_base_from base reph 0 gs
 
 -- behind the base each glyph keeps its position
 walked_behind_base : (base : ℕ) (reph : Bool) (i : ℕ) (gs : List hb_glyph_info_t) → base < i
     → walked (base_step base reph) i gs ≡ gs
 walked_behind_base base reph i [] h = refl
 walked_behind_base base reph i (g ∷ gs) h =
-    let first : (i == 0) ≡ false = grind (arith, nat_tests) in
-    let before : nat_lt i base ≡ false = grind (arith, nat_tests) in
-    let here : (i == base) ≡ false = grind (arith, nat_tests) in
-    let stays =
-    ap (λ b. if reph && b then 1 else if nat_lt i base then min 3 g.auxiliary else if i == base then 4 else g.auxiliary)
-    first
-    ∙ ap (λ b. if b then 1 else if nat_lt i base then min 3 g.auxiliary else if i == base then 4 else g.auxiliary)
-    (and_false reph)
-    ∙ ap (λ b. if b then min 3 g.auxiliary else if i == base then 4 else g.auxiliary) before
-    ∙ ap (λ b. if b then 4 else g.auxiliary) here in
-    ap (λ p. at_position p g ∷ walked _ (i + 1) gs) stays
-    ∙ ap (λ xs. g ∷ xs) (walked_behind_base base reph (i + 1) gs (omega arith))
+    search (arith, nat_tests, and_false, walked_behind_base base reph (i + 1) gs (omega arith))
 
 pub based_all : (base : ℕ) (reph : Bool) (i : ℕ) (gs old : List hb_glyph_info_t) → (i < length gs → base < i)
     → take i gs ++ walked (base_step base reph) i (drop i gs) ≡ walked (base_step base reph) 0 old
@@ -54,14 +39,11 @@ pub based_all : (base : ℕ) (reph : Bool) (i : ℕ) (gs old : List hb_glyph_inf
 based_all base reph i gs old far same =
     (elim (nat_lt i _) as (λ b. nat_lt i (length gs) ≡ b → gs ≡ walked (base_step base reph) 0 old) [
       | true ↦ (λ t.
-          let inside : i < length gs = grind (arith, nat_tests) in
-          sym (take-append-drop i gs)
-          ∙ sym (ap (λ xs. take i gs ++ xs) (walked_behind_base base reph i _ (far inside))) ∙ same)
-      | false ↦ (λ t.
-          let done : length gs ≤ i = grind (arith, nat_tests) in
-          walk_done _ i gs _ i done same)
+          sym (take-append-drop i gs) ∙ sym (ap (λ xs. take i gs ++ xs) (walked_behind_base base reph i _ (far (grind
+          (arith, nat_tests))))) ∙ same)
+      | false ↦ (λ t. search (arith, append-nil, take_all, drop_all))
     ]) refl
-    ∙ by_base_all base reph old
+    ∙ (by_base_from base reph 0 old)
 
 -- by the nearest glyph before that passes a test: the walk carries its position
 abbrev pub nearest_place : (hb_glyph_info_t → Bool) → ℕ → List hb_glyph_info_t → ℕ
@@ -74,21 +56,14 @@ carry_step test change c g = (cond (test g) g.auxiliary c, change c g)
 nearest_next : (test : hb_glyph_info_t → Bool) (d : ℕ) (before : List hb_glyph_info_t) (g : hb_glyph_info_t)
     → cond (test g) g.auxiliary (nearest_place test d before) ≡ nearest_place test d (before ++ g ∷ [])
 nearest_next test d before g =
-    (elim (test g) as (λ b. cond b g.auxiliary (nearest_place test d before)
-    ≡ option_map_or (λ h. h.auxiliary) (cond b (Some g) (find test (reverse before))) d) [
-      | true ↦ refl
-      | false ↦ refl
-    ])
-    ∙ sym (ap (λ xs. option_map_or (λ h. h.auxiliary) (find test xs) d) (reverse-append before _))
+    search (arith, reverse-append)
 
 pub carried_on : (test : hb_glyph_info_t → Bool) (change : ℕ → hb_glyph_info_t → hb_glyph_info_t) (d c : ℕ)
     (before gs : List hb_glyph_info_t) → c ≡ nearest_place test d before → walked (carry_step test change) c gs
     ≡ map (λ t. change (nearest_place test d t.0) t.1) (each_after before gs)
 carried_on test change d c before [] e = refl
 carried_on test change d c before (g ∷ gs) e =
-    ap (λ p. change p g ∷ walked (carry_step test change) (cond (test g) g.auxiliary c) gs) e
-    ∙ ap (λ xs. change (nearest_place test d before) g ∷ xs)
-    (carried_on test change d (cond (test g) g.auxiliary c) (before ++ g ∷ []) gs (ap (cond (test g) g.auxiliary) e
+    cc (carried_on test change d (cond (test g) g.auxiliary c) (before ++ g ∷ []) gs (ap (cond (test g) g.auxiliary) e
     ∙ nearest_next test d before g))
 
 abbrev pub attach_step : ℕ → hb_glyph_info_t → ℕ × hb_glyph_info_t
@@ -122,63 +97,32 @@ pub owning_here : (k : ℕ) (owner : Option ℕ) (old gs : List hb_glyph_info_t)
     → Owning (k + 1) owner old gs → get_or gs k d ≡ get_or old k d
 owning_here k owner old gs d s =
     let long = length-take-le (k + 1) old s.within in
-    ap (λ xs. get_or xs k d) s.owned ∙ get_or_append_left _ _ d k
-    (omega arith) ∙ get_or-take (k + 1) old k d (omega arith)
+    search (arith, get_or_append_left, get_or-take)
 
 owned_is : (g : hb_glyph_info_t) (o : Option hb_glyph_info_t)
     → at_position (if nat_le 13 g.auxiliary then g.auxiliary else unwrap_or (owner_position o) g.auxiliary) g
     ≡ (if nat_le 13 g.auxiliary then g else owned_by o g)
 owned_is g None =
-    elim (nat_le 13 _) as (λ b. at_position (if b then g.auxiliary else g.auxiliary) g
-    ≡ (if b then g else g)) [
-      | true ↦ refl
-      | false ↦ refl
-    ]
+    search arith
 owned_is g (Some h) =
-    (elim (is_consonant h) as (λ a. at_position
-    (if nat_le 13 g.auxiliary then g.auxiliary else unwrap_or (if a then Some h.auxiliary else None) g.auxiliary) g
-    ≡ (if nat_le 13 g.auxiliary then g else (if a then at_position h.auxiliary g else g))) [
-      | true ↦ (elim (nat_le 13 _) as (λ b. at_position (if b then g.auxiliary else h.auxiliary) g
-          ≡ (if b then g else at_position h.auxiliary g)) [
-            | true ↦ refl
-            | false ↦ refl
-          ])
-      | false ↦ (elim (nat_le 13 _) as (λ b. at_position (if b then g.auxiliary else g.auxiliary) g
-          ≡ (if b then g else g)) [
-            | true ↦ refl
-            | false ↦ refl
-          ])
-    ])
+    search arith
 
 pub owning_next : (k p : ℕ) (owner : Option ℕ) (old gs : List hb_glyph_info_t) (d : hb_glyph_info_t)
     → Owning (k + 1) owner old gs → bounds (get_or gs k d) ≡ false
     → p ≡ (if nat_le 13 (get_or gs k d).auxiliary then (get_or gs k d).auxiliary else unwrap_or owner
     (get_or gs k d).auxiliary) → Owning k owner old (set gs k (at_position p (get_or gs k d)))
 owning_next k p owner old gs d s unbound is =
-    let same = owning_here k owner old gs d s in
     let g = get_or old k d in
     let rest = drop (k + 1) old in
-    let unbound_g : bounds g ≡ false = sym (ap bounds same) ∙ unbound in
     let inside : k < length old = omega (arith, s.within) in
-    let there : drop k old ≡ g ∷ rest = drop_more old k d inside in
-    let front : length (take k old) ≡ k = length-take-le k old (omega arith) in
-    let whole : gs ≡ take k old ++ g ∷ with_owners rest =
-    s.owned ∙ ap (λ xs. xs ++ with_owners rest) (take_more old k d inside)
-    ∙ append_assoc (take k old) (g ∷ []) (with_owners rest) in
-    let written : at_position p (get_or gs k d) ≡ with_owner rest g =
-    ap (λ x. at_position p x) same
-    ∙ ap (λ q. at_position q g) (is
-    ∙ ap (λ x. if nat_le 13 x.auxiliary then x.auxiliary else unwrap_or owner x.auxiliary) same
-    ∙ ap (λ o. if nat_le 13 g.auxiliary then g.auxiliary else unwrap_or o g.auxiliary) s.next_owner)
-    ∙ owned_is g (find bounds rest)
-    ∙ sym (ap (λ b. if b || nat_le 13 g.auxiliary then g else owned_by (find bounds rest) g) unbound_g) in
-    record {
-      within = omega arith;
-      owned =
-          ap (λ xs. set xs k (at_position p (get_or gs k d))) whole
-          ∙ set_at (take k old) g (with_owners rest) (at_position p (get_or gs k d)) k front
-          ∙ ap (λ x. take k old ++ x ∷ with_owners rest) written
-          ∙ sym (ap (λ xs. take k old ++ with_owners xs) there);
-      next_owner = s.next_owner
-          ∙ sym (ap owner_position (ap (find bounds) there ∙ ap (λ b. cond b (Some g) (find bounds rest)) unbound_g));
-    }
+    search (
+      arith,
+      s.owned,
+      take_more old k d inside,
+      append_assoc (take k old) (g ∷ []) (with_owners rest),
+      set_at (take k old) g (with_owners rest) (at_position p (get_or gs k d)) k (length-take-le k old (omega arith)),
+      owning_here k owner old gs d s,
+      s.next_owner,
+      owned_is g (find bounds rest),
+      drop_more old k d inside,
+    )

@@ -10,13 +10,13 @@ use Rattle.shapers_buffer.specs.Clusters.{merge, merge_all, stretch_of, with_str
 use Rattle.shapers_buffer.specs.Glyph.{order_view, plain}
 use Rattle.shapers_buffer.specs.Places.{pick}
 use Rattle.shapers_buffer.proofs.ClusterLemmas.{three_parts, length-stretch, map-stretch}
-use Rattle.shapers_clusters.specs.Steps.{FitsStep, Step, shifted, still_step, swap_step}
+use Rattle.shapers_clusters.specs.Steps.{FitsStep, Step, shifted, swap_step}
 use Rattle.shapers_clusters.proofs.EqualArguments.{same_two}
 use Rattle.shapers_clusters.proofs.Merging.{length-merge}
 use Rattle.shapers_clusters.proofs.Picks.{length-pick, pick-all}
 use Rattle.shapers_indic.specs.Glyphs.{places}
 use Rattle.shapers_indic_initial.specs.InitialBase.{base_place, has_indic_reph, joiner_comes_first}
-use Rattle.shapers_indic_initial.specs.InitialPositions.{by_base, halant_after, halant_from, halant_places, moved_behind, with_marks_attached, with_owners_after}
+use Rattle.shapers_indic_initial.specs.InitialPositions.{by_base, halant_after, halant_from, halant_places, moved_behind, with_marks_attached}
 use Rattle.shapers_indic_initial.specs.InitialReordering.{halant_step, halant_steps, joiner_step, joiner_steps, opening_steps, positioned, with_base_positions, with_halant_moved, with_joiner_first, with_marks_and_owners}
 use Rattle.shapers_indic_initial.specs.InitialRules.{Rules}
 use Rattle.shapers_indic_initial.proofs.InitialReads.{plain_view, base_stays, joiner_first_stays}
@@ -26,29 +26,29 @@ use Rattle.shapers_indic_initial.proofs.InitialWrites.{halant_places_stay, with_
 use Rattle.shapers_indic_initial.proofs.Moves.{moved_within, pick-moved, stepped}
 use Rattle.shapers_indic_initial.specs.Proved.OrderedPlaces.{places_all}
 use Rattle.shapers_indic_initial.specs.Proved.InitialLaws.{length-with_base}
-use Rattle.shapers_syllabic.specs.Reordering.{SyllableReordered, carried}
+use Rattle.shapers_syllabic.specs.Reordering.{SyllableReordered}
 use Rattle.shapers_syllabic.proofs.SyllableThen.{changed_parts, syllable_as, syllable_changed, syllable_then}
 
 -- a syllable in the order view, and how long it is
 
 pub seen_long : (s e : ℕ) (gs : List hb_glyph_info_t) → s ≤ e → e ≤ length gs → length (stretch_of s e (order_view gs))
     ≡ e - s
-seen_long s e gs h l = length-stretch s e _ (omega (arith, length-map gs plain))
+seen_long s e gs h l = search (arith, length-stretch, length-map)
 
 -- a stretch picked in its own order stays
 picked_still : (s e n : ℕ) (gs : List hb_glyph_info_t) → s ≤ e → e ≤ length gs → n ≡ e - s
     → gs ≡ with_stretch s e (pick (range_with_len 0 n)) gs
 picked_still s e n gs h l k =
-    sym (three_parts s e gs h)
-    ∙ sym (ap (λ ys. take s gs ++ (ys ++ drop e gs)) (pick-all n _ (length-stretch s e gs l ∙ sym k)))
+    cc (three_parts s e gs h, pick-all n _ (length-stretch s e gs l ∙ sym k))
 
 -- a stretch picked by a move
 picked_moved : (s e n h j : ℕ) (gs : List hb_glyph_info_t) → s ≤ e → e ≤ length gs → n ≡ e - s → h ≤ j → j < n
     → moved_behind (s + h) (s + j) gs ≡ with_stretch s e (pick (moved_behind h j (range_with_len 0 n))) gs
 picked_moved s e n h j gs l r k a b =
-    moved_within s e h j gs l r a (omega arith)
-    ∙ sym (ap (λ ys. take s gs ++ (ys ++ drop e gs))
-    (pick-moved h j n (stretch_of s e gs) (length-stretch s e gs r ∙ sym k) a b))
+    cc (
+      moved_within s e h j gs l r a (omega arith),
+      pick-moved h j n (stretch_of s e gs) (length-stretch s e gs r ∙ sym k) a b,
+    )
 
 -- a swap of the second and the third is a move
 swap_moved : (n : ℕ) → 2 < n → swap (range_with_len 0 n) 1 2 ≡ moved_behind 1 2 (range_with_len 0 n)
@@ -68,26 +68,24 @@ joiner_moves script s e old mid new h l first is kept moved =
     let gs = old.glyphs in
     let X = stretch_of s e (order_view gs) in
     let n = length X in
-    let long : n ≡ e - s = seen_long s e gs h l in
-    let on : joiner_comes_first script X ≡ true = ap (joiner_comes_first script) (sym (map-stretch plain s e gs))
-    ∙ joiner_first_stays plain_view script (stretch_of s e gs) ∙ first in
+    let long = seen_long s e gs h l in
+    let on : joiner_comes_first script X ≡ true =
+    cc (map-stretch plain s e gs, joiner_first_stays plain_view script (stretch_of s e gs)) in
     let step = joiner_step script X in
-    let swaps : step ≡ swap_step n 1 = ap (λ b. if b then swap_step n 1 else still_step n) on in
-    let two : 2 < n = joiner_long script X on in
+    let swaps : step ≡ swap_step n 1 = cc in
+    let two = joiner_long script X on in
     let ms = merge old.level (s + 1) (s + 3) gs in
     let firsts : merge_all old.level (shifted s step.merged_first) gs ≡ ms =
-    ap (λ t. merge_all old.level (shifted s t.merged_first) gs) swaps in
-    let there : step.places ≡ moved_behind 1 2 (range_with_len 0 n) = ap (λ t. t.places) swaps ∙ swap_moved n two in
-    let room : s + 3 ≤ length gs = omega (arith, two, long) in
-    let same : length ms ≡ length gs = length-merge old.level (s + 1) (s + 3) gs room in
-    let last : s + 3 - 1 ≡ s + 2 = omega arith in
+    cc in
+    let same = length-merge old.level (s + 1) (s + 3) gs (omega (arith, two, long)) in
     stepped (with_joiner_first script) (joiner_steps script) s e step old new h l
     (subst (λ m. FitsStep m step) long (joiner_fits script X))
     (ap (λ t. t.merged_then) swaps)
-    (kept ∙ ap (λ b. (let r : Buffer = record (but_places b) { glyphs = new.glyphs } in r)) is)
-    (moved ∙ ap (moved_behind (s + 1) (s + 3 - 1)) (ap (λ b. b.glyphs) is) ∙ ap (λ j. moved_behind (s + 1) j ms) last
+    (kept ∙ ap (λ b. ((record (but_places b) { glyphs = new.glyphs }))) is)
+    (moved ∙ ap (moved_behind (s + 1) (s + 3 - 1)) (ap (λ b. b.glyphs) is)
+    ∙ ap (λ j. moved_behind (s + 1) j ms) (omega arith)
     ∙ picked_moved s e n 1 2 ms h (omega (arith, same)) long (omega arith) two
-    ∙ sym (ap (λ ps. with_stretch s e (pick ps) ms) there)
+    ∙ sym (ap (λ ps. with_stretch s e (pick ps) ms) (cc (swap_moved n two)))
     ∙ sym (ap (with_stretch s e (pick step.places)) firsts))
     refl refl
 
@@ -99,16 +97,14 @@ joiner_stays_put script s e b h l first =
     let X = stretch_of s e (order_view gs) in
     let n = length X in
     let long : n ≡ e - s = seen_long s e gs h l in
-    let off : joiner_comes_first script X ≡ false = ap (joiner_comes_first script) (sym (map-stretch plain s e gs))
-    ∙ joiner_first_stays plain_view script (stretch_of s e gs) ∙ first in
+    let off : joiner_comes_first script X ≡ false =
+    cc (map-stretch plain s e gs, joiner_first_stays plain_view script (stretch_of s e gs)) in
     let step = joiner_step script X in
-    let still : step ≡ still_step n = ap (λ c. if c then swap_step n 1 else still_step n) off in
     stepped (with_joiner_first script) (joiner_steps script) s e step b b h l
-    (subst (λ m. FitsStep m step) long (joiner_fits script X))
-    (ap (λ t. t.merged_then) still)
+    (search (arith, joiner_fits script X))
+    (cc)
     refl
-    (picked_still s e n gs h l long
-    ∙ sym (ap (λ t. with_stretch s e (pick t.places) (merge_all b.level (shifted s t.merged_first) gs)) still))
+    (search (arith, picked_still))
     refl refl
 
 -- the older specification's H
@@ -126,17 +122,12 @@ halant_moves r script base s e a j old new h l up within there kept moved =
     let long : n ≡ e - s = length-stretch s e gs l in
     let step = halant_step r script base X in
     let moves : step.places ≡ moved_behind a j (range_with_len 0 n) =
-    ap (halant_places r script base) (sym (map-stretch plain s e gs))
-    ∙ halant_places_stay plain_view r script base (stretch_of s e gs) ∙ there
-    ∙ ap (moved_behind a j) (places_all n) in
-    let last : s + j + 1 - 1 ≡ s + j = omega arith in
+    cc (map-stretch plain s e gs, halant_places_stay plain_view r script base (stretch_of s e gs), places_all n) in
     stepped (with_halant_moved r script base) (halant_steps r script base) s e step old new h l
-    (subst (λ m. FitsStep m step) (seen_long s e gs h l) (halant_fits r script base X))
+    (search (arith, seen_long s e gs h l, halant_fits r script base X))
     refl
     kept
-    (moved ∙ ap (λ k. moved_behind (s + a) k gs) last
-    ∙ picked_moved s e n a j gs h l long (omega arith) within
-    ∙ sym (ap (λ ps. with_stretch s e (pick ps) gs) moves))
+    (search (arith, picked_moved))
     refl refl
 
 pub halant_stays_put : (r : Rules) (script : Option Script) (base s e : ℕ) (b : Buffer) → s ≤ e → e ≤ length b.glyphs
@@ -149,13 +140,12 @@ halant_stays_put r script base s e b h l there =
     let long : n ≡ e - s = length-stretch s e gs l in
     let step = halant_step r script base X in
     let stays : step.places ≡ range_with_len 0 n =
-    ap (halant_places r script base) (sym (map-stretch plain s e gs))
-    ∙ halant_places_stay plain_view r script base (stretch_of s e gs) ∙ there ∙ places_all n in
+    cc (map-stretch plain s e gs, halant_places_stay plain_view r script base (stretch_of s e gs), places_all n) in
     stepped (with_halant_moved r script base) (halant_steps r script base) s e step b b h l
-    (subst (λ m. FitsStep m step) (seen_long s e gs h l) (halant_fits r script base X))
+    (search (arith, seen_long s e gs h l, halant_fits r script base X))
     refl
     refl
-    (picked_still s e n gs h l long ∙ sym (ap (λ ps. with_stretch s e (pick ps) gs) stays))
+    (search (arith, picked_still))
     refl refl
 
 pub halant_off : (r : Rules) (script : Option Script) (base s e : ℕ) (b : Buffer) → s ≤ e → e ≤ length b.glyphs
@@ -188,48 +178,12 @@ pub halant_done : (r : Rules) (script : Option Script) (base s e a j : ℕ) (old
 halant_done r script base s e a j old new hs h l same on up within there kept moved =
     let syl = stretch_of s e _ in
     halant_moves r script base s e a j old new h l up
-    (subst (λ gs. j < length (stretch_of s e gs)) same within)
+    (search arith)
     (ap (λ c. if c then halant_from script syl (halant_after base syl) else places 0 (length syl)) on
-    ∙ subst (λ gs. halant_from script (stretch_of s e gs) (halant_after base (stretch_of s e gs))
-    ≡ moved_behind a j (places 0 (length (stretch_of s e gs)))) same there)
+    ∙ subst
+    (λ gs. halant_from script (stretch_of s e gs) (halant_after base (stretch_of s e gs)) ≡ moved_behind a j (places
+    0 (length (stretch_of s e gs)))) same there)
     kept moved
-
--- positions by the base, and by what marks go with
-by_base_changed : (r : Rules) (s e base : ℕ) (reph : Bool) (old new : Buffer) → s ≤ e
-    → base ≡ base_place r (stretch_of s e old.glyphs) → reph ≡ has_indic_reph r (stretch_of s e old.glyphs)
-    → new ≡ (let b : Buffer = record old { glyphs = new.glyphs } in b)
-    → new.glyphs ≡ with_stretch s e (by_base base reph) old.glyphs
-    → SyllableReordered (with_base_positions r) (λ _. []) s e old new
-by_base_changed r s e base reph old new h base_is reph_is is walked =
-    let gs = old.glyphs in
-    let syl = stretch_of s e gs in
-    syllable_changed (with_base_positions r) (with_base_positions r) s e old new h (ap but_places is)
-    (walked ∙ same_two (λ b c. take s gs ++ (by_base b c syl ++ drop e gs)) base_is reph_is)
-    (hidden-by_base carried carried_hides_positions (base_place r syl) (has_indic_reph r syl) syl)
-    (sym (with_base_stays plain_view r syl))
-
-marks_changed : (s e base : ℕ) (old new : Buffer) → s ≤ e
-    → new ≡ (let b : Buffer = record old { glyphs = new.glyphs } in b)
-    → new.glyphs ≡ with_stretch s e (with_marks_and_owners base) old.glyphs
-    → SyllableReordered (with_marks_and_owners base) (λ _. []) s e old new
-marks_changed s e base old new h is walked =
-    let syl = stretch_of s e old.glyphs in
-    syllable_changed (with_marks_and_owners base) (with_marks_and_owners base) s e old new h (ap but_places is) walked
-    (hidden-with_owners_after carried carried_hides_positions base (with_marks_attached syl)
-    ∙ hidden-with_marks_attached carried carried_hides_positions syl)
-    (sym (ap (with_owners_after base) (with_marks_stays plain_view syl)
-    ∙ with_owners_after_stays plain_view base (with_marks_attached syl)))
-
--- how long the syllable stays
-joiner_keeps_length : (script : Option Script) (gs : List hb_glyph_info_t) → length (with_joiner_first script gs)
-    ≡ length gs
-joiner_keeps_length script gs = let f = joiner_fits script gs in length-pick _ gs f.within
-    ∙ f.as_many
-
-halant_keeps_length : (r : Rules) (script : Option Script) (base : ℕ) (gs : List hb_glyph_info_t)
-    → length (with_halant_moved r script base gs) ≡ length gs
-halant_keeps_length r script base gs = let f =
-    halant_fits r script base gs in length-pick _ gs f.within ∙ f.as_many
 
 -- all of it
 pub syllable_opened : (r : Rules) (script : Option Script) (s e base : ℕ) (reph : Bool) (b0 b1 b2 b3 b4 : Buffer)
@@ -247,29 +201,35 @@ syllable_opened r script s e base reph b0 b1 b2 b3 b4 h l long1 one base_is reph
     =
     let xs = order_view b0.glyphs in
     let X = stretch_of s e xs in
-    let kX : length X ≡ e - s = seen_long s e b0.glyphs h l in
     let Y = with_joiner_first script X in
-    let kY : length Y ≡ e - s = joiner_keeps_length script X ∙ kX in
+    let kY = (let f = joiner_fits script X in search (arith, length-pick)) ∙ (seen_long s e b0.glyphs h l) in
     let Z = with_base_positions r Y in
-    let kZ : length Z ≡ e - s = length-with_base r Y ∙ kY in
-    let front : length (take s xs) ≡ s = length-take-le s xs (omega (arith, length-map b0.glyphs plain)) in
-    let parts = changed_parts s e (take s xs) Y (drop e xs) (order_view b1.glyphs) h front kY one.order in
-    let there : order_view (stretch_of s e b1.glyphs) ≡ Y = map-stretch plain s e b1.glyphs ∙ parts.stretch in
-    let base_eq : base ≡ base_place r Y = base_is ∙ sym (base_stays plain_view r (stretch_of s e b1.glyphs))
-    ∙ ap (base_place r) there in
-    let two = by_base_changed r s e base reph b1 b2 h base_is reph_is is2 walked2 in
-    let four = marks_changed s e base b3 b4 h is4 walked4 in
+    let kZ = length-with_base r Y ∙ kY in
+    let parts = changed_parts s e (take s xs) Y (drop e xs) (order_view b1.glyphs) h
+    (search (arith, length-take-le, length-map)) kY one.order in
+    let base_eq = base_is ∙ sym (base_stays plain_view r (stretch_of s e b1.glyphs))
+    ∙ ap (base_place r) (map-stretch plain s e b1.glyphs ∙ parts.stretch) in
     let one_two = syllable_then (with_joiner_first script) (with_base_positions r) (joiner_steps script) (λ _. []) s e
-    b0 b1 b2 h l kY one two in
+    b0 b1 b2 h l kY one (
+    let syl = stretch_of s e b1.glyphs in syllable_changed (with_base_positions r) (with_base_positions r) s e b1 b2 h
+    (ap but_places is2) (search (arith, same_two)) (search (arith, hidden-by_base, carried_hides_positions)) (sym
+    (with_base_stays plain_view r syl))) in
     let first : List hb_glyph_info_t → List hb_glyph_info_t =
     λ gs. with_base_positions r (with_joiner_first script gs) in
-    let one_three = syllable_then first (with_halant_moved r script base) (λ gs. joiner_steps script gs ++ [])
-    (halant_steps r script base) s e b0 b2 b3 h l kZ one_two three in
     let second : List hb_glyph_info_t → List hb_glyph_info_t = λ gs. with_halant_moved r script base (first gs) in
     let steps : List hb_glyph_info_t → List Step =
     λ gs. (joiner_steps script gs ++ []) ++ halant_steps r script base (first gs) in
     let all = syllable_then second (with_marks_and_owners base) steps (λ _. []) s e b0 b3 b4 h l
-    (halant_keeps_length r script base Z ∙ kZ) one_three four in
+    ((let f = halant_fits r script base Z in search (arith, length-pick)) ∙ kZ)
+    (syllable_then first (with_halant_moved r script base) (λ gs. joiner_steps script gs ++ []) (halant_steps r script
+    base) s e b0 b2 b3 h l kZ one_two three) (
+    let syl = stretch_of s e b3.glyphs in syllable_changed (with_marks_and_owners base) (with_marks_and_owners base) s
+    e b3 b4 h (ap but_places is4) walked4 (search (
+      arith,
+      hidden-with_owners_after,
+      carried_hides_positions,
+      hidden-with_marks_attached,
+    )) (cc (with_marks_stays plain_view syl, with_owners_after_stays plain_view base (with_marks_attached syl)))) in
     syllable_as (λ gs. with_marks_and_owners base (second gs)) (positioned r script) (λ gs. steps gs ++ [])
     (opening_steps r script) s e b0 b4
     (ap (λ b. with_marks_and_owners b (with_halant_moved r script b Z)) base_eq)

@@ -1,5 +1,5 @@
 -- What the order of a syllable makes of its clusters, in a whole text.
-use Rattle.std.proofs.Common.{ℕ, suc, ◌+◌, ◌-◌, ◌≤◌, ◌≡◌, inr, true, List, [], ◌∷◌, ◌++◌, length, map, take, get_or, Option, sym, ◌∙◌, ap, subst, arith, append_assoc, if◌then◌else◌}
+use Rattle.std.proofs.Common.{ℕ, suc, ◌+◌, ◌-◌, ◌≤◌, ◌≡◌, inr, true, List, [], ◌∷◌, ◌++◌, length, map, take, Option, sym, ◌∙◌, ap, subst, arith, append_assoc, if◌then◌else◌}
 use Rattle.std.specs.List.{AllByRecursion, sum_by}
 use Rattle.std.proofs.lemmas.List.{length-map}
 use Rattle.std.proofs.lemmas.List.Sums.{fold-append}
@@ -9,19 +9,17 @@ use Rattle.shapers_buffer.specs.declared.buffer.tag.Script.{Script}
 use Rattle.shapers_buffer.specs.Clusters.{merges, stretch_of}
 use Rattle.shapers_buffer.specs.Glyph.{plain}
 use Rattle.shapers_buffer.specs.Places.{pick}
-use Rattle.shapers_buffer.specs.Syllables.{syllables}
 use Rattle.shapers_buffer.proofs.MappedLists.{all-append, all-mapped}
-use Rattle.shapers_clusters.specs.Cuts.{EndWithin, OneAlong, held}
+use Rattle.shapers_clusters.specs.Cuts.{EndWithin, OneAlong}
 use Rattle.shapers_clusters.specs.ClusterMerges.{joined_all}
 use Rattle.shapers_clusters.specs.Steps.{FitSteps, FitsStep, joined_step, joined_steps, shifted, steps_along, widened}
 use Rattle.shapers_clusters.proofs.Halves.{along-append}
 use Rattle.shapers_clusters.proofs.Neighbours.{share_all}
-use Rattle.shapers_clusters.proofs.Permuted.{length_permuted}
 use Rattle.shapers_clusters.proofs.Picks.{length-pick}
 use Rattle.shapers_clusters.proofs.Proved.{clusters_hold}
 use Rattle.shapers_clusters.proofs.Widened.{all_along, fits-widened, held-shifted}
 use Rattle.shapers_indic_initial.specs.InitialBase.{base_place}
-use Rattle.shapers_indic_initial.specs.InitialClusters.{EachSyllableMerges, InitialClustersLaw, OrderMerges, SyllableMerges, as_order_begins, kept_together}
+use Rattle.shapers_indic_initial.specs.InitialClusters.{EachSyllableMerges, InitialClustersLaw, OrderMerges, SyllableMerges, kept_together}
 use Rattle.shapers_indic_initial.specs.InitialLaws.{InitialTextMerges}
 use Rattle.shapers_indic_initial.specs.InitialPause.{with_positions_and_circles}
 use Rattle.shapers_indic_initial.specs.InitialOrder.{ordered_base, indic_ordered_places, ordered_stretches}
@@ -46,15 +44,13 @@ one_cluster_left : (s e : ℕ) (cs js : List ℕ) → Leaves s e cs js → (st :
 one_cluster_left s e cs js f st low within one p q pl ph ql qh =
     sym (share_all js p q (λ i a b.
     let same : suc (i - 1) ≡ i = omega arith in
-    f.shared (i - 1) (omega arith) (omega arith)
-    (one (i - 1) _ (omega arith) (omega arith) (omega arith) (omega arith))
-    ∙ ap (λ k. get_or js k 0) same) q (omega arith) (omega arith))
+    cc (f.shared (i - 1) (omega arith) (omega arith) (one (i - 1) _ (omega arith) (omega arith) (omega arith) (omega
+    arith)))) q (omega arith) (omega arith))
 
 -- stretches of the syllable, as stretches of the text
 held_in_text : (s : ℕ) (sts : List (ℕ × ℕ)) (st : ℕ × ℕ) → HeldIn sts st → HeldIn (shifted s sts) (s + st.0, s + st.1)
 held_in_text s sts st h i a b =
-    let same : s + (i - s) ≡ i = omega arith in
-    ap (held _) (sym same) ∙ held-shifted s (i - s) sts ∙ h (i - s) (omega arith) (omega arith)
+    search (arith, held-shifted s (i - s) sts, h (i - s) (omega arith) (omega arith))
 
 -- the order step of a syllable in its text
 record OrderInText (r : Rules) (s e : ℕ) (xs : List hb_glyph_info_t) (cs ms : List ℕ) : Type 0 where
@@ -72,7 +68,6 @@ order_in_text r level s e xs cs m h l size =
     let base = ordered_base (in_indic_order xs) in
     let perm = ordered_permutes xs in
     let o = once_permuted _ from perm in
-    let fl = length_permuted _ from perm in
     let sts = ordered_stretches r from base in
     let ways = kept_together r from base in
     let f =
@@ -110,23 +105,18 @@ syllable_merges r level s e xs cs js m h l size left =
     let ms = joined_step level (widened s e _ step) cs in
     let done = order_in_text r level s e xs cs m h l size in
     let f = subst (λ k. FitsStep k step) size (order_fits r xs) in
-    let both = all_by_two _ _
-    _
-    (λ st a b. one_cluster_left s e ms js left _ (omega arith) b a) ways done.together
-    done.lies in
     record {
       together = all-mapped _ _
-          _ ways (λ st k. k) both;
+          _ ways (λ st k. k)
+          (all_by_two _ _ _ (λ st a b. one_cluster_left s e ms js left _ (omega arith) b a) ways done.together
+          done.lies);
       own = λ own.
           let apart = own.others in
           let seg = stretch_of s e cs in
-          let long = length-stretch s e cs l ∙ sym size in
-          let law = order_merges r level xs seg m long in
-          let stays = apart_own level s e (step ∷ []) cs h l (f, tt) apart in
-          let ml = done.same_length in
-          let jl = left.same_length in
+          let law = order_merges r level xs seg m (length-stretch s e cs l ∙ sym size) in
           let same =
-          same_stretch s e js ms (omega arith) (omega arith) (λ p x y. left.own stays p x y)
+          same_stretch s e js ms (omega arith) (omega arith) (λ p x y. left.own
+          (apart_own level s e (step ∷ []) cs h l (f, tt) apart) p x y)
           ∙ stretch_own level s e (step ∷ []) cs h l (f, tt) apart in
           subst (OrderMerges base ways from seg) (sym same) law;
     }
@@ -160,54 +150,50 @@ initial_clusters r script level gs cs m long before behind syl cut on =
     let later = steps_along n e b in
     let two = map (widened s e n) (first ∷ (second ∷ [])) in
     let last = widened s e n third in
-    let is_on : initial_steps r script syl ≡ steps_of_reordered r script syl =
+    let is_on =
     ap (λ t. if t then steps_of_reordered r script syl else []) on in
-    let pieces : pieces_of steps (syllables gs) ≡ a ++ (length syl, steps syl) ∷ b =
-    pieces_cut steps gs before behind syl cut in
-    let from : 0 + sum_by (λ piece. piece.0) a ≡ s = omega arith in
-    let whole : text_steps steps gs ≡ front ++ (map (widened s e n) (steps syl) ++ later) =
-    ap (steps_along n 0) pieces ∙ along-append n 0 a ((length syl, steps syl) ∷ b)
-    ∙ ap (λ z. front ++ steps_along n z ((length syl, steps syl) ∷ b)) from in
-    let whole_on : text_steps steps gs ≡ (front ++ two) ++ (last ∷ later) =
-    whole ∙ ap (λ sts. front ++ (map (widened s e n) sts ++ later)) is_on
-    ∙ sym (append_assoc front two (last ∷ later)) in
+    let whole =
+    ap (steps_along n 0)
+    (pieces_cut steps gs before behind syl cut) ∙ along-append n 0 a ((length syl, steps syl) ∷ b)
+    ∙ ap (λ z. front ++ steps_along n z ((length syl, steps syl) ∷ b)) (omega arith) in
     let c2 = joined_steps level (front ++ two) cs in
-    let begins : as_order_begins r script level n before syl cs ≡ c2 =
-    ap (λ sts. joined_steps level (front ++ map (widened s e n) (take 2 sts)) cs) is_on in
-    let ends : joined_steps level (text_steps steps gs) cs ≡ joined_steps level later (joined_step level last c2) =
-    ap (λ sts. joined_steps level sts cs) whole_on
+    let ends =
+    ap (λ sts. joined_steps level sts cs)
+    (whole ∙ ap (λ sts. front ++ (map (widened s e n) sts ++ later)) is_on ∙ sym (append_assoc front two (last ∷
+    later)))
     ∙ fold-append (λ cs step. joined_step level step cs) cs (front ++ two) (last ∷ later) in
     let size : length syl ≡ e - s = omega arith in
-    let fit3 : FitSteps (e - s) (first ∷ (second ∷ (third ∷ []))) =
-    (let all = three_laws r script in subst (λ k. FitSteps k (first ∷ (second ∷ (third ∷ [])))) size
-    (all.fits syl)) in
-    let fit_front : FitSteps n front =
-    all_along FitsStep fits-widened n 0 a (omega arith) (each_piece FitsStep steps laws.fits before) in
-    let fit_two : FitSteps n two = (
+    let fit3 =
+    subst (λ k. FitSteps k (first ∷ (second ∷ (third ∷ [])))) size
+    ((three_laws r script).fits syl) in
+    let fit_begin = all-append (FitsStep n) front two
+    (all_along FitsStep fits-widened n 0 a (omega arith) (each_piece FitsStep steps laws.fits before)) (
       fits-widened s e n first (omega arith) (omega arith) fit3.0,
-      (fits-widened s e n second (omega arith) (omega arith) fit3.1.0, tt),
+      (
+        fits-widened s e n second (omega arith) (omega
+            arith) fit3.1.0,
+        tt,
+      ),
     ) in
-    let fit_begin = all-append (FitsStep n) front two fit_front fit_two in
-    let held_begin =
-    clusters_hold level (front ++ two) cs (subst (λ k. FitSteps k (front ++ two)) (sym long) fit_begin) in
-    let c2l : length c2 ≡ n = held_begin.same_length ∙ long in
-    let fit_last : FitsStep n last = fits-widened s e n third (omega arith) (omega arith) fit3.1.1.0 in
-    let held_last = clusters_hold level (last ∷ []) c2 (subst (λ k. FitSteps k (last ∷ [])) (sym c2l) (fit_last, tt)) in
+    let c2l =
+    (clusters_hold level (front ++ two) cs (subst (λ k. FitSteps k (front ++ two)) (sym long) fit_begin)).same_length
+    ∙ long in
+    let held_last = clusters_hold level (last ∷ []) c2 (subst (λ k. FitSteps k (last ∷ [])) (sym c2l) (
+      fits-widened s e n third (omega arith) (omega arith) fit3.1.1.0,
+      tt,
+    )) in
     let ms = joined_step level last c2 in
-    let ml : length ms ≡ n = held_last.same_length ∙ c2l in
     let js = joined_steps level later ms in
-    let left : Leaves s e ms js =
-    leaves_elsewhere s e level n later ms ml (omega arith)
+    let left =
+    leaves_elsewhere s e level n later ms (held_last.same_length ∙ c2l) (omega arith)
     (along_elsewhere s e n e b (omega arith) (omega arith) (each_piece FitsStep steps laws.fits behind)
     (inr (omega arith))) in
-    let left_too : Leaves s e (joined_step level (widened s e (length c2) third) c2) js =
-    subst (λ z. Leaves s e (joined_step level (widened s e z third) c2) js) (sym c2l) left in
     let result = syllable_merges r level s e xs c2 js m (omega arith) (omega arith) (length-positioned r script syl
-    ∙ size) left_too in
+    ∙ size) (subst (λ z. Leaves s e (joined_step level (widened s e z third) c2) js) (sym c2l) left) in
     let base = ordered_base (in_indic_order xs) in
     let ways = kept_together r (indic_ordered_places xs) base in
     subst (λ z. SyllableMerges s e base ways (indic_ordered_places xs) z (joined_steps level (text_steps steps gs) cs))
-    (sym begins)
+    (sym (ap (λ sts. joined_steps level (front ++ map (widened s e n) (take 2 sts)) cs) is_on))
     (subst (λ z. SyllableMerges s e base ways (indic_ordered_places xs) c2 z) (sym ends) result)
 
 -- the clusters of a text after the pause
@@ -215,8 +201,6 @@ pub initial_text_merges : InitialTextMerges
 initial_text_merges font m p old new done merging =
     let r = initial_rules font m p in
     let gs = (with_positions_and_circles font m p old).glyphs in
-    let text = initial_text_reordered font m p old new done in
-    let long = length-map gs _
-    ∙ sym (length-map gs plain) in
-    subst (EachSyllableMerges r old.script _ _ _) (sym text.glyphs.clusters_are)
-    (initial_clusters r old.script _ _ _ merging long)
+    subst (EachSyllableMerges r old.script _ _ _) (sym
+    (initial_text_reordered font m p old new done).glyphs.clusters_are)
+    (initial_clusters r old.script _ _ _ merging (length-map gs _ ∙ sym (length-map gs plain)))

@@ -12,7 +12,7 @@ use Rattle.std.proofs.lemmas.List.FromFn.{get_or-enumerate_from, length-enumerat
 use Rattle.std.proofs.lemmas.Bool.{and_parts}
 use Rattle.shapers_buffer.specs.Glyph.{default_glyph}
 use Rattle.shapers_buffer.specs.Lists.{each_after}
-use Rattle.shapers_khmer.specs.Khmer.{Pair, brought, is_coeng, is_left_vowel, is_ro, khmer_masked, khmer_moves, masked, masked_all, masked_for, merged_by_move, moves_by_cases, categories_of, with_mask}
+use Rattle.shapers_khmer.specs.Khmer.{is_coeng, is_left_vowel, is_ro, khmer_masked, khmer_moves, masked, masked_all, merged_by_move, moves_by_cases, categories_of}
 use Rattle.shapers_khmer.specs.Proved.KhmerCases.{brought_parts}
 use Rattle.shapers_khmer.proofs.KhmerMaskPlaces.{join_if, masked_before, masked_behind, masked_there, swap_if}
 use Rattle.shapers_khmer.specs.Proved.KhmerMasks.{length-masked, length-categories}
@@ -20,7 +20,7 @@ use Rattle.shapers_khmer.specs.KhmerWalk.{paired}
 use Rattle.shapers_khmer.specs.Proved.KhmerLaws.{hidden-masked_all, khmer_ends}
 use Rattle.shapers_clusters.specs.Cuts.{EndWithin}
 use Rattle.shapers_khmer.specs.KhmerMovers.{Alone, Coeng, KhmerMoversMasksLaw, Part, behind_coengs, coeng_place, is_coeng_or_left_vowel, is_mover, masked_at, moving_coengs, parts_from, with_mask_if}
-use Rattle.shapers_khmer.proofs.KhmerMovers.{count_alone, count_coeng, counted, counted_on, first_looked, first_part, inner_behind, inner_tail, is_inner, longer, looked, looked_coeng, looked_other, looked_pair, looked_vowel, moves_by_count, neither, range_behind}
+use Rattle.shapers_khmer.proofs.KhmerMovers.{count_alone, count_coeng, counted, counted_on, first_looked, first_part, inner_behind, inner_tail, is_inner, longer, looked, looked_coeng, looked_other, looked_pair, looked_vowel, moves_by_count, neither}
 
 -- the masks of one pair, and of pairs one after another, for a glyph at a place
 abbrev pub pair_at : KhmerOrder → ℕ → ℕ → hb_glyph_info_t → hb_glyph_info_t
@@ -35,77 +35,17 @@ pub pairs_once : (r : KhmerOrder) (ps : List ℕ) (i : ℕ) (g : hb_glyph_info_t
     (with_mask_if (list_any (λ p. i == p || i == p + 1) ps) r.pref g)
 pairs_once r [] i g = refl
 pairs_once r (p ∷ ps) i g =
-    let c = nat_lt (p + 1) i in
-    let f = i == p || i == p + 1 in
-    let cs = list_any (λ p. nat_lt (p + 1) i) ps in
-    let fs = list_any (λ p. i == p || i == p + 1) ps in
-    pairs_once r ps i (pair_at r p i g)
-    ∙ ap (with_mask_if cs r.cfar) (swap_if fs c r.pref r.cfar (with_mask_if f r.pref g))
-    ∙ join_if c cs r.cfar (with_mask_if fs r.pref (with_mask_if f r.pref g))
-    ∙ ap (with_mask_if (c || cs) r.cfar) (join_if f fs r.pref g)
+    search (arith, swap_if, nat_lt, join_if, pairs_once r ps i (pair_at r p i g))
 
 -- the masks of a pair, for each glyph
 pair_masked : (r : KhmerOrder) (p : ℕ) (gs : List hb_glyph_info_t) (i : ℕ) (d : hb_glyph_info_t) → p + 2 ≤ length gs
     → i < length gs → get_or (paired r p (p + 1) (p + 2) (length gs) gs) i d ≡ pair_at r p i (get_or gs i d)
 pair_masked r p gs i d l h =
-    let g = get_or gs i d in
     let n = length gs in
     let first = masked r.pref p (p + 1) gs in
-    let second = masked r.pref (p + 1) (p + 1 + 1) first in
-    let len1 : length first ≡ n = length-masked r.pref p (p + 1) gs (omega arith) in
-    let len2 : length second ≡ n = length-masked r.pref (p + 1) (p + 1 + 1) first (omega arith) ∙ len1 in
-    elim (cases_lt (p + 1) i) [
-      | inl over ↦
-          let t1 : nat_lt (p + 1) i ≡ true = lt-ltb (p + 1) i over in
-          let t2 : (i == p) ≡ false = ne_eqb i p (λ e. absurd (omega arith)) in
-          let t3 : (i == p + 1) ≡ false = ne_eqb i (p + 1) (λ e. absurd (omega arith)) in
-          let right : pair_at r p i g ≡ with_mask r.cfar g = rw (t1, t2, t3) refl in
-          masked_there r.cfar (p + 2) n second i d (omega arith) (omega arith) h
-          ∙ ap (with_mask r.cfar) (masked_behind r.pref (p + 1) (p + 1 + 1) first i d (omega arith) (omega arith)
-          (omega arith) ∙ masked_behind r.pref p (p + 1) gs i d (omega arith) (omega arith) (omega arith))
-          ∙ sym right
-      | inr within ↦
-          let t1 : nat_lt (p + 1) i ≡ false = le-ltb (p + 1) i within in
-          masked_before r.cfar (p + 2) n second i d (omega arith) (omega arith) (omega arith)
-          ∙ elim (cases_lt p i) [
-            | inl ro ↦
-                let t2 : (i == p) ≡ false = ne_eqb i p (λ e. absurd (omega arith)) in
-                let t3 : (i == p + 1) ≡ true = eq-eqb i (p + 1) (omega arith) in
-                let right : pair_at r p i g ≡ with_mask r.pref g = rw (t1, t2, t3) refl in
-                masked_there r.pref (p + 1) (p + 1 + 1) first i d (omega arith) (omega arith) (omega arith)
-                ∙ ap (with_mask r.pref)
-                (masked_behind r.pref p (p + 1) gs i d (omega arith) (omega arith) (omega arith))
-                ∙ sym right
-            | inr not_ro ↦
-                masked_before r.pref (p + 1) (p + 1 + 1) first i d (omega arith) (omega arith) (omega arith)
-                ∙ elim (cases_lt i p) [
-                  | inl before ↦
-                      let t2 : (i == p) ≡ false = ne_eqb i p (λ e. absurd (omega arith)) in
-                      let t3 : (i == p + 1) ≡ false = ne_eqb i (p + 1) (λ e. absurd (omega arith)) in
-                      let right : pair_at r p i g ≡ g = rw (t1, t2, t3) refl in
-                      masked_before r.pref p (p + 1) gs i d (omega arith) (omega arith) before ∙ sym right
-                  | inr coeng ↦
-                      let t2 : (i == p) ≡ true = eq-eqb i p (omega arith) in
-                      let right : pair_at r p i g ≡ with_mask r.pref g = rw (t1, t2) refl in
-                      masked_there r.pref p (p + 1) gs i d (omega arith) coeng (omega arith) ∙ sym right
-                ]
-          ]
-    ]
-
-others_masked : (m : ℕ) (gs : List hb_glyph_info_t) (i : ℕ) (d : hb_glyph_info_t) → i < length gs
-    → get_or (masked m 1 (length gs) gs) i d ≡ with_mask_if (nat_lt 0 i) m (get_or gs i d)
-others_masked m gs i d h =
-    let g = get_or gs i d in
-    elim (cases_lt 0 i) [
-      | inl behind ↦
-          let t : nat_lt 0 i ≡ true = lt-ltb 0 i behind in
-          let right : with_mask_if (nat_lt 0 i) m g ≡ with_mask m g = rw t refl in
-          masked_there m 1 (length gs) gs i d (omega arith) behind h ∙ sym right
-      | inr first ↦
-          let t : nat_lt 0 i ≡ false = le-ltb 0 i first in
-          let right : with_mask_if (nat_lt 0 i) m g ≡ g = rw t refl in
-          masked_before m 1 (length gs) gs i d (omega arith) (omega arith) (omega arith) ∙ sym right
-    ]
+    let len1 : length first ≡ n = search (arith, length-masked) in
+    let len2 : length (masked r.pref (p + 1) (p + 1 + 1) first) ≡ n = search (arith, length-masked) in
+    search (arith, masked_there, masked_behind, lt-ltb, ne_eqb, refl, masked_before, le-ltb, eq-eqb)
 
 -- THE COENGS THAT MOVE, one part more
 abbrev coengs : List (List Part × Part) → List ℕ
@@ -113,15 +53,12 @@ coengs es = flat_map (λ e. coeng_place e.1) (filter is_mover es)
 
 coengs_alone : (before : List Part) (p z : ℕ) (es : List (List Part × Part)) → coengs ((before, Alone p z) ∷ es)
     ≡ coengs es
-coengs_alone before p z es = elim (cases_Bool (is_left_vowel z)) [
-  | inl on ↦ rw on (flat_map-cons (λ (e : List Part × Part). coeng_place e.1) (before, Alone p z) (filter is_mover es))
-  | inr off ↦ rw off refl
-]
+coengs_alone before p z es = search (arith, flat_map-cons, refl)
 
 coengs_moves : (before : List Part) (p y : ℕ) (es : List (List Part × Part)) → is_mover (before, Coeng p y) ≡ true
     → coengs ((before, Coeng p y) ∷ es) ≡ p ∷ coengs es
 coengs_moves before p y es on =
-    rw on (flat_map-cons (λ (e : List Part × Part). coeng_place e.1) (before, Coeng p y) (filter is_mover es))
+    search (arith, flat_map-cons)
 
 coengs_stays : (before : List Part) (p y : ℕ) (es : List (List Part × Part)) → is_mover (before, Coeng p y) ≡ false
     → coengs ((before, Coeng p y) ∷ es) ≡ coengs es
@@ -140,16 +77,7 @@ vowel_masks : (r : KhmerOrder) (gs : List hb_glyph_info_t) (i : ℕ) (d : hb_gly
     → Masks r gs i d (before ++ Alone p z ∷ []) (p + 1) rest c (z ∷ front) (p ∷ places)
     → Masks r gs i d before p (z ∷ rest) c front places
 vowel_masks r gs i d before p z rest c front places len vowel parts further =
-    let range = range_with_len (p + 1) (length rest) in
-    let all = places ++ p ∷ range in
-    let moves = looked (z ∷ front) rest c in
-    let es = each_after (before ++ Alone p z ∷ []) (parts_from (p + 1) rest) in
-    ap (λ ms. get_or (masked_all r ms all gs) i d) (looked_vowel front z rest c vowel)
-    ∙ ap (λ n. get_or (masked_all r moves (brought n 1 all) gs) i d) (sym len)
-    ∙ ap (λ o. get_or (masked_all r moves o gs) i d) (brought_parts 1 places (p ∷ []) range refl)
-    ∙ further
-    ∙ ap (λ ps. pairs_at r ps i (get_or gs i d)) (sym (coengs_alone before p z es)
-    ∙ ap (λ ps. coengs (each_after before ps)) (sym parts))
+    search (arith, looked_vowel, brought_parts 1 places (p ∷ []) (range_with_len (p + 1) (length rest)) refl)
 
 other_masks : (r : KhmerOrder) (gs : List hb_glyph_info_t) (i : ℕ) (d : hb_glyph_info_t) (before : List Part) (p z : ℕ)
     (rest : List ℕ) (c : ℕ) (front places : List ℕ) → parts_from p (z ∷ rest) ≡ Alone p z ∷ parts_from (p + 1) rest
@@ -157,14 +85,7 @@ other_masks : (r : KhmerOrder) (gs : List hb_glyph_info_t) (i : ℕ) (d : hb_gly
     → Masks r gs i d (before ++ Alone p z ∷ []) (p + 1) rest c (front ++ z ∷ []) (places ++ p ∷ [])
     → Masks r gs i d before p (z ∷ rest) c front places
 other_masks r gs i d before p z rest c front places parts passes further =
-    let range = range_with_len (p + 1) (length rest) in
-    let es = each_after (before ++ Alone p z ∷ []) (parts_from (p + 1) rest) in
-    ap (λ ms. get_or (masked_all r ms (places ++ p ∷ range) gs) i d) passes
-    ∙ ap (λ o. get_or (masked_all r (looked (front ++ z ∷ []) rest c) o gs) i d)
-    (sym (append_assoc places (p ∷ []) range))
-    ∙ further
-    ∙ ap (λ ps. pairs_at r ps i (get_or gs i d)) (sym (coengs_alone before p z es)
-    ∙ ap (λ ps. coengs (each_after before ps)) (sym parts))
+    search (arith, append_assoc)
 
 coeng_masks : (r : KhmerOrder) (gs : List hb_glyph_info_t) (i : ℕ) (d : hb_glyph_info_t) (before : List Part)
     (p z y : ℕ) (rest : List ℕ) (c : ℕ) (front places : List ℕ) → is_coeng y ≡ false → is_left_vowel y ≡ false
@@ -172,40 +93,12 @@ coeng_masks : (r : KhmerOrder) (gs : List hb_glyph_info_t) (i : ℕ) (d : hb_gly
     → Masks r gs i d (before ++ Coeng p y ∷ []) (p + 2) rest (counted_on c y) ((front ++ z ∷ []) ++ y ∷ [])
     (places ++ p ∷ ((p + 1) ∷ [])) → Masks r gs i d before p (z ∷ (y ∷ rest)) c front places
 coeng_masks r gs i d before p z y rest c front places no_coeng no_vowel is stays no_mover further =
-    let n = length rest in
-    let range = range_with_len (p + 1 + 1) n in
-    let ms = looked ((front ++ z ∷ []) ++ y ∷ []) rest (counted_on c y) in
-    let es = each_after (before ++ Coeng p y ∷ []) (parts_from (p + 2) rest) in
-    let parts : parts_from p (z ∷ (y ∷ rest)) ≡ Coeng p y ∷ parts_from (p + 2) rest = rw is refl in
-    ap (λ ms. get_or (masked_all r ms (places ++ p ∷ ((p + 1) ∷ range)) gs) i d)
-    (looked_coeng front z y rest c no_coeng no_vowel is stays)
-    ∙ ap (λ o. get_or (masked_all r ms (places ++ p ∷ ((p + 1) ∷ o)) gs) i d) (range_behind p n)
-    ∙ ap (λ o. get_or (masked_all r ms o gs) i d)
-    (sym (append_assoc places (p ∷ ((p + 1) ∷ [])) (range_with_len (p + 2) n)))
-    ∙ further
-    ∙ ap (λ ps. pairs_at r ps i (get_or gs i d)) (sym (coengs_stays before p y es no_mover)
-    ∙ ap (λ ps. coengs (each_after before ps)) (sym parts))
-
--- the places of a pair, behind what stands before it
-pair_places : (r : KhmerOrder) (gs : List hb_glyph_info_t) (p n : ℕ) (places range : List ℕ) → length places ≡ n → n ≡ p
-    → masked_for r (Pair n) (places ++ p ∷ ((p + 1) ∷ range)) gs ≡ paired r p (p + 1) (p + 2) (length gs) gs
-pair_places r gs p n places range len at =
-    let all = places ++ p ∷ ((p + 1) ∷ range) in
-    let coeng : get_or all n 0 ≡ p = ap (λ k. get_or all k 0) (sym len)
-    ∙ get_or-append_seam places p ((p + 1) ∷ range) 0 in
-    let ro : get_or all (n + 1) 0 ≡ p + 1 = ap (λ k. get_or all (k + 1) 0) (sym len)
-    ∙ get_or-append-add places (p ∷ ((p + 1) ∷ range)) 1 0 in
-    ap (λ q. paired r q (get_or all (n + 1) 0) (n + 2) (length gs) gs) coeng
-    ∙ ap (λ q. paired r p q (n + 2) (length gs) gs) ro
-    ∙ ap (λ q. paired r p (p + 1) (q + 2) (length gs) gs) at
+    search (arith, looked_coeng, append_assoc, refl)
 
 length-paired : (r : KhmerOrder) (p : ℕ) (gs : List hb_glyph_info_t) → p + 2 ≤ length gs
     → length (paired r p (p + 1) (p + 2) (length gs) gs) ≡ length gs
 length-paired r p gs l =
-    let first = masked r.pref p (p + 1) gs in
-    let second = masked r.pref (p + 1) (p + 1 + 1) first in
-    length-masked r.cfar (p + 2) (length gs) second l ∙ length-masked r.pref (p + 1) (p + 1 + 1) first (omega arith)
-    ∙ length-masked r.pref p (p + 1) gs (omega arith)
+    search (arith, length-masked)
 
 pair_masks : (r : KhmerOrder) (gs : List hb_glyph_info_t) (i : ℕ) (d : hb_glyph_info_t) (before : List Part) (p z y : ℕ)
     (rest : List ℕ) (c : ℕ) (front : List ℕ) (x : ℕ) (places : List ℕ) → length places ≡ length (front ++ x ∷ [])
@@ -217,22 +110,15 @@ pair_masks : (r : KhmerOrder) (gs : List hb_glyph_info_t) (i : ℕ) (d : hb_glyp
 pair_masks r gs i d before p z y rest c front x places len at l h no_coeng no_vowel is few ro moves further =
     let n = length rest in
     let range = range_with_len (p + 1 + 1) n in
-    let all = places ++ p ∷ ((p + 1) ∷ range) in
-    let over = length (front ++ x ∷ []) in
-    let ms = looked (z ∷ (y ∷ (front ++ x ∷ []))) rest 2 in
-    let es = each_after (before ++ Coeng p y ∷ []) (parts_from (p + 2) rest) in
-    let hs = paired r p (p + 1) (p + 2) (length gs) gs in
-    let parts : parts_from p (z ∷ (y ∷ rest)) ≡ Coeng p y ∷ parts_from (p + 2) rest = rw is refl in
-    ap (λ ms. get_or (masked_all r ms all gs) i d) (looked_pair front x z y rest c no_coeng no_vowel is few ro)
-    ∙ ap (λ ks. get_or (masked_all r ms (brought over 2 all) ks) i d)
-    (pair_places r gs p over places range len (sym len ∙ at))
-    ∙ ap (λ n. get_or (masked_all r ms (brought n 2 all) hs) i d) (sym len)
-    ∙ ap (λ o. get_or (masked_all r ms o hs) i d) (brought_parts 2 places (p ∷ ((p + 1) ∷ [])) range refl)
-    ∙ ap (λ o. get_or (masked_all r ms (p ∷ ((p + 1) ∷ (places ++ o))) hs) i d) (range_behind p n)
-    ∙ further
-    ∙ ap (pairs_at r (coengs es) i) (pair_masked r p gs i d l h)
-    ∙ ap (λ ps. pairs_at r ps i (get_or gs i d)) (sym (coengs_moves before p y es moves)
-    ∙ ap (λ ps. coengs (each_after before ps)) (sym parts))
+    search (
+      arith,
+      looked_pair,
+      get_or-append_seam,
+      get_or-append-add,
+      brought_parts 2 places (p ∷ ((p + 1) ∷ [])) range refl,
+      pair_masked,
+      refl,
+    )
 
 given : (r : KhmerOrder) (gs : List hb_glyph_info_t) (i : ℕ) (d : hb_glyph_info_t) (before : List Part) (p : ℕ)
     (categories : List ℕ) (c : ℕ) (front : List ℕ) (x : ℕ) (places : List ℕ) → length places ≡ length (front ++ x ∷ [])
@@ -241,28 +127,20 @@ given : (r : KhmerOrder) (gs : List hb_glyph_info_t) (i : ℕ) (d : hb_glyph_inf
     → Masks r gs i d before p categories c (front ++ x ∷ []) places
 given r gs i d before p [] c front x places len at size h no_coeng no_vowel inner count = refl
 given r gs i d before p (z ∷ []) c front x places len at size h no_coeng no_vowel inner count =
-    let all = front ++ x ∷ [] in
-    elim (cases_Bool (is_left_vowel z)) [
-      | inl vowel ↦ vowel_masks r gs i d before p z [] c all places len vowel refl refl
-      | inr other ↦ other_masks r gs i d before p z [] c all places refl (rw other refl) refl
-    ]
+    search arith
 given r gs i d before p (z ∷ (y ∷ rest)) c front x places len at size h no_coeng no_vowel inner count =
     let all = front ++ x ∷ [] in
     let categories = y ∷ rest in
-    let both_places : length (places ++ p ∷ ((p + 1) ∷ [])) ≡ p + 2 = length-append places (p ∷ ((p + 1) ∷ []))
-    ∙ ap (λ n. n + 2) at in
-    let one_place : length (places ++ p ∷ []) ≡ p + 1 = length-append places (p ∷ []) ∙ ap (λ n. n + 1) at in
     elim (cases_Bool (is_coeng z)) [
       | inl is ↦
           let behind = inner_behind z y rest inner is in
           let tail = inner_tail y rest (inner_tail z categories inner) in
           let counts = count_coeng before p y c count in
-          let test : is_mover (before, Coeng p y) ≡ (is_ro y && nat_le c 2) =
+          let test =
           ap (λ b. is_ro y && b) (moves_by_count (behind_coengs before) ∙ ap (λ n. nat_le n 2) count) in
           elim (cases_Bool (is_ro y && nat_le c 2)) [
             | inl on ↦
                 let both = and_parts (is_ro y) (nat_le c 2) on in
-                let two : counted_on c y ≡ 2 = rw (both.1, both.0) refl in
                 let room : p + 2 ≤ length gs = omega arith in
                 let hs = paired r p (p + 1) (p + 2) (length gs) gs in
                 let same : length hs ≡ length gs = length-paired r p gs room in
@@ -270,13 +148,14 @@ given r gs i d before p (z ∷ (y ∷ rest)) c front x places len at size h no_c
                 (test ∙ on)
                 (given r hs i d (before ++ Coeng p y ∷ []) (p + 2) rest 2 (z ∷ (y ∷ front)) x (p ∷ ((p + 1) ∷ places))
                 (ap (λ n. suc (suc n)) len) (omega arith) (omega arith) (omega arith) no_coeng no_vowel tail (counts
-                ∙ two))
+                ∙ rw (both.1, both.0) refl))
             | inr off ↦
                 coeng_masks r gs i d before p z y rest c all places behind.0 behind.1 is off (test ∙ off)
                 (given r gs i d (before ++ Coeng p y ∷ []) (p + 2) rest (counted_on c y) (all ++ z ∷ []) y
                 (places ++ p ∷ ((p + 1) ∷ []))
                 (ap length (sym (append_assoc places (p ∷ []) ((p + 1) ∷ [])))
-                ∙ longer (places ++ p ∷ []) (all ++ z ∷ []) (p + 1) y (longer places all p z len)) both_places
+                ∙ longer (places ++ p ∷ []) (all ++ z ∷ []) (p + 1) y (longer places all p z len))
+                (search (arith, length-append))
                 (omega arith) h behind.0 behind.1 tail counts)
           ]
       | inr off ↦
@@ -290,7 +169,7 @@ given r gs i d before p (z ∷ (y ∷ rest)) c front x places len at size h no_c
             | inr other ↦ other_masks r gs i d before p z categories c all places parts
                 (looked_other all z categories c off other)
                 (given r gs i d (before ++ Alone p z ∷ []) (p + 1) (y ∷ rest) c all z (places ++ p ∷ [])
-                (longer places all p z len) one_place (omega arith) h off other tail counts)
+                (longer places all p z len) (search (arith, length-append)) (omega arith) h off other tail counts)
           ]
     ]
 
@@ -305,17 +184,25 @@ masks_at r g gs i d no_coeng no_vowel inner h =
     let all = g ∷ gs in
     let first = masked r.others 1 (length all) all in
     let one = Alone 0 x ∷ [] in
-    let es = each_after one (parts_from 1 categories) in
-    let moving : coengs es ≡ moving_coengs (x ∷ categories) = sym (coengs_alone [] 0 x es)
-    ∙ ap (λ ps. coengs (each_after [] ps)) (sym (first_part x categories no_coeng)) in
+    let moving : coengs
+    (each_after one (parts_from 1 categories)) ≡ moving_coengs (x ∷ categories) = search (arith, first_part) in
     let len : length first ≡ length all = length-masked r.others 1 (length all) all (omega arith) in
-    let size : length first ≡ 1 + length categories = let same = length-categories gs in omega arith in
     ap (λ ms. get_or (masked_all r ms (0 ∷ range_with_len 1 (length gs)) first) i d) (first_looked g gs)
     ∙ ap (λ n. get_or (masked_all r (looked (x ∷ []) categories 0) (0 ∷ range_with_len 1 n) first) i d)
     (sym (length-categories gs))
-    ∙ given r first i d one 1 categories 0 [] x (0 ∷ []) refl refl size (omega arith) no_coeng no_vowel inner refl
+    ∙ given r first i d one 1 categories 0 [] x (0 ∷ []) refl refl (let same = length-categories gs in omega arith)
+    (omega arith) no_coeng no_vowel inner refl
     ∙ ap (λ ps. pairs_at r ps i (get_or first i d)) moving
-    ∙ ap (pairs_at r (moving_coengs (x ∷ categories)) i) (others_masked r.others all i d h)
+    ∙ ap (pairs_at r (moving_coengs (x ∷ categories)) i)
+    (elim (cases_lt 0 i) [
+      | inl behind ↦ search (
+        arith,
+        masked_there r.others 1 (length all) all i d (omega arith)
+            behind h,
+        refl,
+      )
+      | inr first ↦ search arith
+    ])
     ∙ pairs_once r (moving_coengs (x ∷ categories)) i (with_mask_if (nat_lt 0 i) r.others (get_or all i d))
 
 length-khmer_masked : (r : KhmerOrder) (g : hb_glyph_info_t) (gs : List hb_glyph_info_t)
@@ -323,12 +210,14 @@ length-khmer_masked : (r : KhmerOrder) (g : hb_glyph_info_t) (gs : List hb_glyph
 length-khmer_masked r g gs =
     let all = g ∷ gs in
     let first = masked r.others 1 (length all) all in
-    let len : length first ≡ length all = length-masked r.others 1 (length all) all (omega arith) in
-    sym (length-categories (khmer_masked r all))
-    ∙ ap length (hidden-masked_all (λ g. g.category) (λ m g. refl) r (khmer_moves all) (range_with_len 0 (length all))
-    first (subst (λ n. EndWithin n (map merged_by_move (khmer_moves all))) (sym len) (khmer_ends all)))
-    ∙ length-categories first
-    ∙ len
+    let len = length-masked r.others 1 (length all) all (omega arith) in
+    search (
+      arith,
+      length-categories,
+      hidden-masked_all (λ g. g.category) (λ m g. refl) r (khmer_moves all) (range_with_len 0 (length all)) first
+          (subst (λ n. EndWithin n (map merged_by_move (khmer_moves all))) (sym len) (khmer_ends all)),
+      length-categories first,
+    )
 
 pub khmer_masks_by_movers : KhmerMoversMasksLaw
 khmer_masks_by_movers r [] regular = refl
@@ -340,14 +229,12 @@ khmer_masks_by_movers r (g ∷ gs) regular =
     let ps = moving_coengs (categories_of all) in
     let f : ℕ × hb_glyph_info_t → hb_glyph_info_t = λ e. masked_at r ps e.0 e.1 in
     let es = enumerate_from 0 all in
-    let left : length (khmer_masked r all) ≡ length all = length-khmer_masked r g gs in
-    let el : length es ≡ length all = length-enumerate_from 0 all in
-    let right : length (map f es) ≡ length all = length-map es f ∙ el in
+    let left = length-khmer_masked r g gs in
+    let el = length-enumerate_from 0 all in
     let d = default_glyph in
-    ext_get_or d (khmer_masked r all) (map f es) (left ∙ sym right) (λ i h.
+    ext_get_or d (khmer_masked r all) (map f es) (left ∙ sym (length-map es f ∙ el)) (λ i h.
     let inside : i < length all = omega arith in
-    let zero_on : 0 + i ≡ i = omega arith in
     let at : get_or (map f es) i d ≡ masked_at r ps i (get_or all i d) =
     get_or-map f es i (0, d) d (omega arith) ∙ ap f (get_or-enumerate_from 0 all i (0, d) inside)
-    ∙ ap (λ k. masked_at r ps k (get_or all i d)) zero_on in
+    ∙ ap (λ k. masked_at r ps k (get_or all i d)) (omega arith) in
     masks_at r g gs i d first.0 first.1 (inner_tail x (categories_of gs) both.1) inside ∙ sym at)

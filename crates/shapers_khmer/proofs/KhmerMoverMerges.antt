@@ -18,7 +18,7 @@ merges_same : (e : List Part × Part) (es : List (List Part × Part)) → is_mov
 merges_same e es off = rw off refl
 
 front_grown : (front : List ℕ) (z p : ℕ) → length front ≡ p → length (front ++ z ∷ []) ≡ p + 1
-front_grown front z p at = length-append front (z ∷ []) ∙ ap (λ n. n + 1) at
+front_grown front z p at = search (arith, length-append)
 
 -- those of what is looked at, behind a front whose last is neither Coeng nor a left vowel
 movers_merged : (before : List Part) (p : ℕ) (categories : List ℕ) (c : ℕ) (front : List ℕ) (x : ℕ)
@@ -27,12 +27,7 @@ movers_merged : (before : List Part) (p : ℕ) (categories : List ℕ) (c : ℕ)
     ≡ merges (each_after before (parts_from p categories))
 movers_merged before p [] c front x at no_coeng no_vowel inner count = refl
 movers_merged before p (z ∷ []) c front x at no_coeng no_vowel inner count =
-    let all = front ++ x ∷ [] in
-    elim (cases_Bool (is_left_vowel z)) [
-      | inl vowel ↦ ap (map merged_by_move) (looked_vowel all z [] c vowel) ∙ ap (λ n. (0, n + 1) ∷ []) at
-          ∙ sym (merges_more (before, Alone p z) [] vowel)
-      | inr other ↦ rw other refl
-    ]
+    search arith
 movers_merged before p (z ∷ (y ∷ rest)) c front x at no_coeng no_vowel inner count =
     let all = front ++ x ∷ [] in
     let categories = y ∷ rest in
@@ -43,25 +38,24 @@ movers_merged before p (z ∷ (y ∷ rest)) c front x at no_coeng no_vowel inner
           let counts = count_coeng before p y c count in
           let es = each_after (before ++ Coeng p y ∷ []) (parts_from (p + 2) rest) in
           let parts : parts_from p (z ∷ categories) ≡ Coeng p y ∷ parts_from (p + 2) rest = rw is refl in
-          let test : is_mover (before, Coeng p y) ≡ (is_ro y && nat_le c 2) =
+          let test =
           ap (λ b. is_ro y && b) (moves_by_count (behind_coengs before) ∙ ap (λ n. nat_le n 2) count) in
           elim (cases_Bool (is_ro y && nat_le c 2)) [
             | inl on ↦
                 let both = and_parts (is_ro y) (nat_le c 2) on in
-                let two : counted_on c y ≡ 2 = rw (both.1, both.0) refl in
                 let ms = map merged_by_move (looked (z ∷ (y ∷ all)) rest 2) in
                 ap (map merged_by_move) (looked_pair front x z y rest c no_coeng no_vowel is both.1 both.0)
                 ∙ ap (λ n. (0, n + 2) ∷ ms) at
                 ∙ ap (λ ms. (0, p + 2) ∷ ms)
                 (movers_merged (before ++ Coeng p y ∷ []) (p + 2) rest 2 (z ∷ (y ∷ front)) x
-                (ap (λ n. suc (suc n)) at ∙ omega arith) no_coeng no_vowel tail (counts ∙ two))
+                (ap (λ n. suc (suc n)) at ∙ omega arith) no_coeng no_vowel tail (counts ∙ rw (both.1, both.0) refl))
                 ∙ sym (merges_more (before, Coeng p y) es (test ∙ on))
                 ∙ ap (λ ps. merges (each_after before ps)) (sym parts)
             | inr off ↦
                 ap (map merged_by_move) (looked_coeng all z y rest c behind.0 behind.1 is off)
                 ∙ movers_merged (before ++ Coeng p y ∷ []) (p + 2) rest (counted_on c y) (all ++ z ∷ []) y
-                (front_grown (all ++ z ∷ []) y (p + 1) (front_grown all z p at) ∙ omega arith) behind.0 behind.1
-                tail counts
+                (front_grown (all ++ z ∷ []) y (p + 1) (front_grown all z p at) ∙ omega arith) behind.0 behind.1 tail
+                counts
                 ∙ sym (merges_same (before, Coeng p y) es (test ∙ off))
                 ∙ ap (λ ps. merges (each_after before ps)) (sym parts)
           ]
@@ -82,8 +76,8 @@ movers_merged before p (z ∷ (y ∷ rest)) c front x at no_coeng no_vowel inner
                 ∙ ap (λ ps. merges (each_after before ps)) (sym parts)
             | inr other ↦
                 ap (map merged_by_move) (looked_other all z categories c off other)
-                ∙ movers_merged (before ++ Alone p z ∷ []) (p + 1) (y ∷ rest) c all z (front_grown all z p at) off other
-                tail counts
+                ∙ movers_merged (before ++ Alone p z ∷ []) (p + 1) (y ∷ rest) c all z (front_grown all z p at) off
+                other tail counts
                 ∙ sym (merges_same (before, Alone p z) es other)
                 ∙ ap (λ ps. merges (each_after before ps)) (sym parts)
           ]
@@ -96,8 +90,9 @@ khmer_merges_by_movers (g ∷ gs) regular =
     let categories = categories_of gs in
     let both = and_parts (not (is_coeng_or_left_vowel x)) (is_inner (x ∷ categories)) regular in
     let first = neither (is_coeng x) (is_left_vowel x) both.0 in
-    let es = each_after (Alone 0 x ∷ []) (parts_from 1 categories) in
-    ap (map merged_by_move) (first_looked g gs)
-    ∙ movers_merged (Alone 0 x ∷ []) 1 categories 0 [] x refl first.0 first.1 (inner_tail x categories both.1) refl
-    ∙ sym (merges_same ([], Alone 0 x) es first.1)
-    ∙ ap (λ ps. merges (each_after [] ps)) (sym (first_part x categories first.0))
+    search (
+      arith,
+      first_looked g gs,
+      movers_merged (Alone 0 x ∷ []) 1 categories 0 [] x refl first.0 first.1 (inner_tail x categories both.1) refl,
+      first_part,
+    )

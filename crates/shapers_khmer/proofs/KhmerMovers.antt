@@ -1,17 +1,16 @@
 -- The order by cases of a regular syllable is that by its movers.
-use Rattle.std.proofs.Common.{ℕ, suc, ◌+◌, ◌-◌, ◌<◌, ◌≤◌, ◌≡◌, Bool, true, false, not, inl, inr, nat_le, nat_lt, ◌&&◌, ◌||◌, List, [], ◌∷◌, ◌++◌, length, take, drop, get_or, filter, flat_map, reverse, refl, sym, ◌∙◌, ap, arith, append_assoc, append-nil, length-append}
+use Rattle.std.proofs.Common.{ℕ, suc, ◌+◌, ◌<◌, ◌≤◌, ◌≡◌, Bool, true, false, not, inl, inr, nat_le, nat_lt, ◌&&◌, ◌||◌, List, [], ◌∷◌, ◌++◌, length, drop, filter, flat_map, reverse, refl, sym, ◌∙◌, ap, arith, append_assoc, length-append}
 use Rattle.std.specs.Prelude.{if◌then◌else◌}
 use Rattle.std.specs.List.{list_all, prefix_len, range_with_len, zip}
 use Rattle.std.proofs.Math.Seq.{get_or-append_seam, take-append_seam}
-use Rattle.std.proofs.lemmas.Bool.{and_parts, cases_Bool, eqb-true, le-leb, le-ltb, leb-false, leb-true, lt-leb, lt-ltb, ne_eqb, true≢false}
+use Rattle.std.proofs.lemmas.Bool.{and_parts, cases_Bool, le-leb, le-ltb, leb-true, lt-leb, lt-ltb, ne_eqb, true≢false}
 use Rattle.std.proofs.lemmas.Grind.{flat_map-append, reverse_onto}
-use Rattle.std.proofs.lemmas.List.Concat.{flat_map-cons}
 use Rattle.shapers_buffer.specs.Lists.{each_after}
 use Rattle.shapers_buffer.specs.declared.buffer.glyph.hb_glyph_info_t.{hb_glyph_info_t}
-use Rattle.shapers_khmer.specs.Khmer.{Move, Pair, Vowel, brought, is_coeng, is_left_vowel, is_ro, khmer_moves, moved_all, moves_by_cases, categories_of}
+use Rattle.shapers_khmer.specs.Khmer.{Move, Pair, Vowel, is_coeng, is_left_vowel, is_ro, khmer_moves, moved_all, moves_by_cases, categories_of}
 use Rattle.shapers_khmer.specs.Proved.KhmerCases.{brought_parts}
 use Rattle.shapers_khmer.specs.Proved.KhmerMasks.{length-categories}
-use Rattle.shapers_khmer.specs.KhmerMovers.{Alone, Coeng, KhmerMoversLaw, Part, behind_coengs, is_coeng_or_left_vowel, is_mover, moves_behind, order_by_movers, parts_from, part_places}
+use Rattle.shapers_khmer.specs.KhmerMovers.{Alone, Coeng, KhmerMoversLaw, Part, behind_coengs, is_coeng_or_left_vowel, is_mover, moves_behind, parts_from, part_places}
 
 -- THE COUNT. How many Coengs are counted, by what stands behind them: with more than two counted no Ro moves
 abbrev pub counted : ℕ → List ℕ → ℕ
@@ -30,59 +29,44 @@ many c (y ∷ ys) h = rw (lt-leb c 2 h) (many c ys h)
 
 behind_pair : (ys : List ℕ) → nat_le (counted 2 ys) 2 ≡ list_all is_ro ys
 behind_pair [] = refl
-behind_pair (y ∷ ys) = elim (cases_Bool (is_ro y)) [
-  | inl on ↦ rw on (behind_pair ys)
-  | inr off ↦ rw off (many 3 ys (omega arith))
-]
+behind_pair (y ∷ ys) = search (arith, many, behind_pair ys)
 
 behind_others : (c : ℕ) (ys : List ℕ) → c ≤ 2
     → nat_le (counted c ys) 2 ≡ (nat_lt (c + others_before ys) 3 && list_all is_ro (drop (others_before ys) ys))
-behind_others c [] h = let few : nat_lt (c + 0) 3 ≡ true = lt-ltb (c + 0) 3 (omega arith) in rw few (le-leb c 2 h)
+behind_others c [] h = search (arith, lt-ltb, le-leb)
 behind_others c (y ∷ ys) h =
     let n = others_before ys in
     elim (cases_Bool (is_ro y)) [
-      | inl on ↦ let few : nat_lt (c + 0) 3 ≡ true =
-          lt-ltb (c + 0) 3 (omega arith) in rw (le-leb c 2 h, on, few) (rw on (behind_pair ys))
+      | inl on ↦ search (arith, le-leb, lt-ltb, behind_pair)
       | inr off ↦ elim (cases_Bool (nat_le (c + 1) 2)) [
         | inl more ↦
-            let sum : c + 1 + n ≡ c + (1 + n) = omega arith in
             let one : suc n ≡ 1 + n = omega arith in
             rw (le-leb c 2 h, off) (behind_others (c + 1) ys (leb-true (c + 1) 2 more)
-            ∙ ap (λ k. nat_lt k 3 && list_all is_ro (drop n ys)) sum
+            ∙ ap (λ k. nat_lt k 3 && list_all is_ro (drop n ys)) (omega arith)
             ∙ ap (λ k. nat_lt (c + (1 + n)) 3 && list_all is_ro (drop k (y ∷ ys))) one)
         | inr full ↦
-            let over : 2 < c + 1 = leb-false (c + 1) 2 full in
-            let none : nat_lt (c + (1 + n)) 3 ≡ false = le-ltb (c + (1 + n)) 3 (omega arith) in
-            rw (le-leb c 2 h, off, none) (many (c + 1) ys over)
+            search (arith, le-leb, le-ltb, many)
       ]
     ]
 
 -- a Ro moves with its Coeng exactly if at most two are counted
 pub moves_by_count : (ys : List ℕ) → moves_behind ys ≡ nat_le (counted 0 ys) 2
 moves_by_count ys =
-    let n = others_before ys in
-    let same : n ≡ 0 + n = omega arith in
-    ap (λ k. nat_lt k 3 && list_all is_ro (drop n ys)) same ∙ sym (behind_others 0 ys (omega arith))
+    search (arith, behind_others)
 
 counted_more : (c : ℕ) (ys : List ℕ) (y : ℕ) → counted c (ys ++ y ∷ []) ≡ counted_on (counted c ys) y
 counted_more c [] y = refl
-counted_more c (x ∷ xs) y = elim (cases_Bool (nat_le c 2)) [
-  | inl few ↦ elim (cases_Bool (is_ro x)) [
-    | inl on ↦ rw (few, on) (counted_more 2 xs y)
-    | inr off ↦ rw (few, off) (counted_more (c + 1) xs y)
-  ]
-  | inr full ↦ rw full (counted_more c xs y)
-]
+counted_more c (x ∷ xs) y = search (arith, counted_more 2 xs y, counted_more (c + 1) xs y, counted_more c xs y)
 
 behind_coeng : (before : List Part) (p y : ℕ) → behind_coengs (before ++ Coeng p y ∷ []) ≡ behind_coengs before ++ y
     ∷ []
 behind_coeng [] p y = refl
-behind_coeng (Coeng q x ∷ before) p y = ap (λ xs. x ∷ xs) (behind_coeng before p y)
+behind_coeng (Coeng q x ∷ before) p y = cc (behind_coeng before p y)
 behind_coeng (Alone q x ∷ before) p y = behind_coeng before p y
 
 behind_alone : (before : List Part) (p y : ℕ) → behind_coengs (before ++ Alone p y ∷ []) ≡ behind_coengs before
 behind_alone [] p y = refl
-behind_alone (Coeng q x ∷ before) p y = ap (λ xs. x ∷ xs) (behind_alone before p y)
+behind_alone (Coeng q x ∷ before) p y = cc (behind_alone before p y)
 behind_alone (Alone q x ∷ before) p y = behind_alone before p y
 
 -- THE RESULT. What stands in front of and behind the front, one part more
@@ -98,21 +82,15 @@ result front es = flat (reverse (filter is_mover es)) ++ (front ++ flat (filter 
 result_stays : (front : List ℕ) (e : List Part × Part) (es : List (List Part × Part)) → is_mover e ≡ false
     → result (front ++ part_places e.1) es ≡ result front (e ∷ es)
 result_stays front e es off =
-    let ms = flat (reverse (filter is_mover es)) in
-    rw off (ap (λ xs. ms ++ xs) (append_assoc front (part_places e.1) (flat (filter is_stayer es))
-    ∙ ap (λ xs. front ++ xs)
-    (sym (flat_map-cons (λ (e : List Part × Part). part_places e.1) e (filter is_stayer es)))))
+    search (arith, append_assoc)
 
 result_moves : (front : List ℕ) (e : List Part × Part) (es : List (List Part × Part)) → is_mover e ≡ true
     → result (part_places e.1 ++ front) es ≡ result front (e ∷ es)
 result_moves front e es on =
     let ms = reverse (filter is_mover es) in
     let ss = flat (filter is_stayer es) in
-    let f : List Part × Part → List ℕ = λ e. part_places e.1 in
-    let one : flat (e ∷ []) ≡ part_places e.1 = flat_map-cons f e [] ∙ append-nil (part_places e.1) in
     let more : flat (reverse (e ∷ filter is_mover es)) ≡ flat ms ++ part_places e.1 =
-    ap flat (reverse_onto (filter is_mover es) e []) ∙ flat_map-append f ms (e ∷ [])
-    ∙ ap (λ xs. flat ms ++ xs) one in
+    search (arith, reverse_onto, flat_map-append) in
     rw on (ap (λ xs. flat ms ++ xs) (append_assoc (part_places e.1) front ss)
     ∙ sym (append_assoc (flat ms) (part_places e.1) (front ++ ss)) ∙ ap (λ xs. xs ++ (front ++ ss)) (sym more))
 
@@ -130,38 +108,19 @@ pub looked_vowel : (front : List ℕ) (z : ℕ) (rest : List ℕ) (c : ℕ) → 
     → moves_by_cases front z rest c ≡ Vowel (length front) ∷ looked (z ∷ front) rest c
 looked_vowel front z [] c vowel = rw vowel refl
 looked_vowel front z (y ∷ rest) c vowel =
-    let is = eqb-true z 22 vowel in
-    let no_coeng : is_coeng z ≡ false = ne_eqb z 4 (λ e. absurd (omega arith)) in
-    rw (no_coeng, vowel) refl
+    search (arith, ne_eqb, refl)
 
 pub looked_pair : (front : List ℕ) (x z y : ℕ) (rest : List ℕ) (c : ℕ) → is_coeng x ≡ false → is_left_vowel x ≡ false
     → is_coeng z ≡ true → nat_le c 2 ≡ true → is_ro y ≡ true → moves_by_cases (front ++ x ∷ []) z (y ∷ rest) c
     ≡ Pair (length (front ++ x ∷ [])) ∷ looked (z ∷ (y ∷ (front ++ x ∷ []))) rest 2
 looked_pair front x z y rest c no_coeng no_vowel is few ro =
-    let all = front ++ x ∷ [] in
-    let n : length all - 1 ≡ length front = omega (arith, length-append front (x ∷ [])) in
-    let before : take (length all - 1) all ≡ front = ap (λ k. take k all) n ∙ take-append_seam front (x ∷ []) in
-    let last : get_or all (length all - 1) 0 ≡ x = ap (λ k. get_or all k 0) n ∙ get_or-append_seam front x [] 0 in
-    let further : moves_by_cases (z ∷ (y ∷ take (length all - 1) all)) (get_or all (length all - 1) 0) rest 2
-    ≡ looked (z ∷ (y ∷ all)) rest 2 =
-    ap (λ xs. moves_by_cases (z ∷ (y ∷ xs)) (get_or all (length all - 1) 0) rest 2) before
-    ∙ ap (λ w. moves_by_cases (z ∷ (y ∷ front)) w rest 2) last
-    ∙ looked_other (z ∷ (y ∷ front)) x rest 2 no_coeng no_vowel in
-    rw (is, few, ro) (ap (λ ms. Pair (length all) ∷ ms) further)
+    search (arith, length-append front (x ∷ []), take-append_seam front (x ∷ []), get_or-append_seam front x [] 0)
 
 pub looked_coeng : (front : List ℕ) (z y : ℕ) (rest : List ℕ) (c : ℕ) → is_coeng y ≡ false → is_left_vowel y ≡ false
     → is_coeng z ≡ true → (is_ro y && nat_le c 2) ≡ false → moves_by_cases front z (y ∷ rest) c
     ≡ looked ((front ++ z ∷ []) ++ y ∷ []) rest (counted_on c y)
 looked_coeng front z y rest c no_coeng no_vowel is stays =
-    let here = eqb-true z 4 is in
-    let no_left : is_left_vowel z ≡ false = ne_eqb z 22 (λ e. absurd (omega arith)) in
-    elim (cases_Bool (nat_le c 2)) [
-      | inl few ↦ elim (cases_Bool (is_ro y)) [
-        | inl ro ↦ absurd (let bad : true ≡ false = sym (rw (ro, few) refl) ∙ stays in grind (arith, bad))
-        | inr off ↦ rw (is, few, off) (looked_other (front ++ z ∷ []) y rest (c + 1) no_coeng no_vowel)
-      ]
-      | inr full ↦ rw (is, full, no_left) (looked_other (front ++ z ∷ []) y rest c no_coeng no_vowel)
-    ]
+    search arith
 
 -- REGULAR SYLLABLES. What of them holds of their ends
 abbrev pub is_inner : List ℕ → Bool
@@ -180,8 +139,7 @@ neither false false h = (refl, refl)
 pub inner_behind : (z y : ℕ) (rest : List ℕ) → is_inner (z ∷ (y ∷ rest)) ≡ true → is_coeng z ≡ true
     → (is_coeng y ≡ false) × (is_left_vowel y ≡ false)
 inner_behind z y rest inner is =
-    let first = (and_parts (not (is_coeng z && is_coeng_or_left_vowel y)) (is_inner (y ∷ rest)) inner).0 in
-    neither (is_coeng y) (is_left_vowel y) (ap (λ b. not (b && is_coeng_or_left_vowel y)) (sym is) ∙ first)
+    search (arith, neither)
 
 -- THE WALK. What the moves make of the front and of what is still to be looked at
 abbrev Moved : List Part → ℕ → List ℕ → ℕ → List ℕ → List ℕ → Type 0
@@ -195,15 +153,12 @@ alone_moves : (before : List Part) (p z : ℕ) (rest : List ℕ) (c : ℕ) (fron
     → Moved (before ++ Alone p z ∷ []) (p + 1) rest c (z ∷ front) (p ∷ places)
     → Moved before p (z ∷ rest) c front places
 alone_moves before p z rest c front places len vowel parts further =
-    let range = range_with_len (p + 1) (length rest) in
-    let all = places ++ p ∷ range in
-    let moves = looked (z ∷ front) rest c in
-    ap (λ ms. moved_all ms all) (looked_vowel front z rest c vowel)
-    ∙ ap (λ n. moved_all moves (brought n 1 all)) (sym len)
-    ∙ ap (moved_all moves) (brought_parts 1 places (p ∷ []) range refl)
-    ∙ further
-    ∙ result_moves places (before, Alone p z) (each_after (before ++ Alone p z ∷ []) (parts_from (p + 1) rest)) vowel
-    ∙ ap (λ ps. result places (each_after before ps)) (sym parts)
+    search (
+      arith,
+      looked_vowel front z rest c vowel,
+      brought_parts 1 places (p ∷ []) (range_with_len (p + 1) (length rest)) refl,
+      result_moves,
+    )
 
 alone_stays : (before : List Part) (p z : ℕ) (rest : List ℕ) (c : ℕ) (front places : List ℕ) → is_left_vowel z ≡ false
     → parts_from p (z ∷ rest) ≡ Alone p z ∷ parts_from (p + 1) rest → moves_by_cases front z rest c
@@ -211,16 +166,7 @@ alone_stays : (before : List Part) (p z : ℕ) (rest : List ℕ) (c : ℕ) (fron
     → Moved (before ++ Alone p z ∷ []) (p + 1) rest c (front ++ z ∷ []) (places ++ p ∷ [])
     → Moved before p (z ∷ rest) c front places
 alone_stays before p z rest c front places other parts passes further =
-    let range = range_with_len (p + 1) (length rest) in
-    ap (λ ms. moved_all ms (places ++ p ∷ range)) passes
-    ∙ ap (moved_all (looked (front ++ z ∷ []) rest c)) (sym (append_assoc places (p ∷ []) range))
-    ∙ further
-    ∙ result_stays places (before, Alone p z) (each_after (before ++ Alone p z ∷ []) (parts_from (p + 1) rest)) other
-    ∙ ap (λ ps. result places (each_after before ps)) (sym parts)
-
--- where the places behind a Coeng and its glyph begin
-pub range_behind : (p n : ℕ) → range_with_len (p + 1 + 1) n ≡ range_with_len (p + 2) n
-range_behind p n = let same : p + 1 + 1 ≡ p + 2 = omega arith in ap (λ q. range_with_len q n) same
+    search (arith, append_assoc)
 
 pair_moves : (before : List Part) (p z y : ℕ) (rest : List ℕ) (c : ℕ) (front : List ℕ) (x : ℕ) (places : List ℕ)
     → length places ≡ length (front ++ x ∷ []) → is_coeng x ≡ false → is_left_vowel x ≡ false → is_coeng z ≡ true
@@ -229,48 +175,32 @@ pair_moves : (before : List Part) (p z y : ℕ) (rest : List ℕ) (c : ℕ) (fro
     → Moved before p (z ∷ (y ∷ rest)) c (front ++ x ∷ []) places
 pair_moves before p z y rest c front x places len no_coeng no_vowel is few ro moves further =
     let n = length rest in
-    let range = range_with_len (p + 1 + 1) n in
-    let all = places ++ p ∷ ((p + 1) ∷ range) in
-    let ms = looked (z ∷ (y ∷ (front ++ x ∷ []))) rest 2 in
-    let es = each_after (before ++ Coeng p y ∷ []) (parts_from (p + 2) rest) in
-    let parts : parts_from p (z ∷ (y ∷ rest)) ≡ Coeng p y ∷ parts_from (p + 2) rest = rw is refl in
-    ap (λ ms. moved_all ms all) (looked_pair front x z y rest c no_coeng no_vowel is few ro)
-    ∙ ap (λ n. moved_all ms (brought n 2 all)) (sym len)
-    ∙ ap (moved_all ms) (brought_parts 2 places (p ∷ ((p + 1) ∷ [])) range refl)
-    ∙ ap (λ r. moved_all ms (p ∷ ((p + 1) ∷ (places ++ r)))) (range_behind p n)
-    ∙ further
-    ∙ result_moves places (before, Coeng p y) es moves
-    ∙ ap (λ ps. result places (each_after before ps)) (sym parts)
+    search (
+      arith,
+      looked_pair front x z y rest c no_coeng no_vowel is few ro,
+      brought_parts 2 places (p ∷ ((p + 1) ∷ [])) (range_with_len (p + 1 + 1) n) refl,
+      result_moves,
+      refl,
+    )
 
 coeng_stays : (before : List Part) (p z y : ℕ) (rest : List ℕ) (c : ℕ) (front places : List ℕ) → is_coeng y ≡ false
     → is_left_vowel y ≡ false → is_coeng z ≡ true → (is_ro y && nat_le c 2) ≡ false → is_mover (before, Coeng p y)
     ≡ false → Moved (before ++ Coeng p y ∷ []) (p + 2) rest (counted_on c y) ((front ++ z ∷ []) ++ y ∷ [])
     (places ++ p ∷ ((p + 1) ∷ [])) → Moved before p (z ∷ (y ∷ rest)) c front places
 coeng_stays before p z y rest c front places no_coeng no_vowel is stays no_mover further =
-    let n = length rest in
-    let range = range_with_len (p + 1 + 1) n in
-    let ms = looked ((front ++ z ∷ []) ++ y ∷ []) rest (counted_on c y) in
-    let es = each_after (before ++ Coeng p y ∷ []) (parts_from (p + 2) rest) in
-    let parts : parts_from p (z ∷ (y ∷ rest)) ≡ Coeng p y ∷ parts_from (p + 2) rest = rw is refl in
-    ap (λ ms. moved_all ms (places ++ p ∷ ((p + 1) ∷ range))) (looked_coeng front z y rest c no_coeng no_vowel is stays)
-    ∙ ap (λ r. moved_all ms (places ++ p ∷ ((p + 1) ∷ r))) (range_behind p n)
-    ∙ ap (moved_all ms) (sym (append_assoc places (p ∷ ((p + 1) ∷ [])) (range_with_len (p + 2) n)))
-    ∙ further
-    ∙ result_stays places (before, Coeng p y) es no_mover
-    ∙ ap (λ ps. result places (each_after before ps)) (sym parts)
+    search (arith, looked_coeng, append_assoc, refl)
 
 -- the count behind one part more
 pub count_alone : (before : List Part) (p z c : ℕ) → counted 0 (behind_coengs before) ≡ c
     → counted 0 (behind_coengs (before ++ Alone p z ∷ [])) ≡ c
-count_alone before p z c is = ap (counted 0) (behind_alone before p z) ∙ is
+count_alone before p z c is = cc (behind_alone before p z)
 
 pub count_coeng : (before : List Part) (p y c : ℕ) → counted 0 (behind_coengs before) ≡ c
     → counted 0 (behind_coengs (before ++ Coeng p y ∷ [])) ≡ counted_on c y
-count_coeng before p y c is = ap (counted 0) (behind_coeng before p y) ∙ counted_more 0 (behind_coengs before) y
-    ∙ ap (λ n. counted_on n y) is
+count_coeng before p y c is = search (arith, behind_coeng, counted_more)
 
 pub longer : (a b : List ℕ) (x y : ℕ) → length a ≡ length b → length (a ++ x ∷ []) ≡ length (b ++ y ∷ [])
-longer a b x y same = length-append a (x ∷ []) ∙ ap (λ n. n + 1) same ∙ sym (length-append b (y ∷ []))
+longer a b x y same = search (arith, length-append)
 
 -- what is looked at, behind a front whose last is neither Coeng nor a left vowel
 movers_moved : (before : List Part) (p : ℕ) (categories : List ℕ) (c : ℕ) (front : List ℕ) (x : ℕ) (places : List ℕ)
@@ -279,10 +209,9 @@ movers_moved : (before : List Part) (p : ℕ) (categories : List ℕ) (c : ℕ) 
     → Moved before p categories c (front ++ x ∷ []) places
 movers_moved before p [] c front x places len no_coeng no_vowel inner count = refl
 movers_moved before p (z ∷ []) c front x places len no_coeng no_vowel inner count =
-    let all = front ++ x ∷ [] in
     elim (cases_Bool (is_left_vowel z)) [
-      | inl vowel ↦ alone_moves before p z [] c all places len vowel refl refl
-      | inr other ↦ alone_stays before p z [] c all places other refl (rw other refl) refl
+      | inl vowel ↦ search (arith, alone_moves)
+      | inr other ↦ search (arith, alone_stays, refl)
     ]
 movers_moved before p (z ∷ (y ∷ rest)) c front x places len no_coeng no_vowel inner count =
     let all = front ++ x ∷ [] in
@@ -293,14 +222,13 @@ movers_moved before p (z ∷ (y ∷ rest)) c front x places len no_coeng no_vowe
           let tail = inner_tail y rest (inner_tail z categories inner) in
           let counts = count_coeng before p y c count in
           let test : is_mover (before, Coeng p y) ≡ (is_ro y && nat_le c 2) =
-          ap (λ b. is_ro y && b) (moves_by_count (behind_coengs before) ∙ ap (λ n. nat_le n 2) count) in
+          search (arith, moves_by_count) in
           elim (cases_Bool (is_ro y && nat_le c 2)) [
             | inl on ↦
                 let both = and_parts (is_ro y) (nat_le c 2) on in
-                let two : counted_on c y ≡ 2 = rw (both.1, both.0) refl in
                 pair_moves before p z y rest c front x places len no_coeng no_vowel is both.1 both.0 (test ∙ on)
                 (movers_moved (before ++ Coeng p y ∷ []) (p + 2) rest 2 (z ∷ (y ∷ front)) x (p ∷ ((p + 1) ∷ places))
-                (ap (λ n. suc (suc n)) len) no_coeng no_vowel tail (counts ∙ two))
+                (ap (λ n. suc (suc n)) len) no_coeng no_vowel tail (counts ∙ rw (both.1, both.0) refl))
             | inr off ↦
                 coeng_stays before p z y rest c all places behind.0 behind.1 is off (test ∙ off)
                 (movers_moved (before ++ Coeng p y ∷ []) (p + 2) rest (counted_on c y) (all ++ z ∷ []) y
@@ -314,13 +242,21 @@ movers_moved before p (z ∷ (y ∷ rest)) c front x places len no_coeng no_vowe
           let counts = count_alone before p z c count in
           let parts : parts_from p (z ∷ categories) ≡ Alone p z ∷ parts_from (p + 1) categories = rw off refl in
           elim (cases_Bool (is_left_vowel z)) [
-            | inl vowel ↦ alone_moves before p z categories c all places len vowel parts
-                (movers_moved (before ++ Alone p z ∷ []) (p + 1) (y ∷ rest) c (z ∷ front) x (p ∷ places) (ap suc len)
-                no_coeng no_vowel tail counts)
-            | inr other ↦ alone_stays before p z categories c all places other parts
-                (looked_other all z categories c off other)
-                (movers_moved (before ++ Alone p z ∷ []) (p + 1) (y ∷ rest) c all z (places ++ p ∷ [])
-                (longer places all p z len) off other tail counts)
+            | inl vowel ↦
+                search (
+                  arith,
+                  alone_moves,
+                  movers_moved (before ++ Alone p z ∷ []) (p + 1) (y ∷ rest) c (z ∷ front) x (p ∷ places) (ap suc len)
+                      no_coeng no_vowel tail counts,
+                )
+            | inr other ↦
+                search (
+                  arith,
+                  alone_stays,
+                  looked_other,
+                  movers_moved (before ++ Alone p z ∷ []) (p + 1) (y ∷ rest) c all z (places ++ p ∷ [])
+                      (longer places all p z len) off other tail counts,
+                )
           ]
     ]
 
@@ -335,12 +271,6 @@ pub first_part : (x : ℕ) (categories : List ℕ) → is_coeng x ≡ false → 
 first_part x [] off = refl
 first_part x (y ∷ categories) off = rw off refl
 
-by_result : (categories : List ℕ) → result [] (each_after [] (parts_from 0 categories)) ≡ order_by_movers categories
-by_result categories =
-    let es = each_after [] (parts_from 0 categories) in
-    sym (flat_map-append (λ (e : List Part × Part). part_places e.1) (reverse (filter is_mover es))
-    (filter is_stayer es))
-
 pub khmer_order_by_movers : KhmerMoversLaw
 khmer_order_by_movers [] regular = refl
 khmer_order_by_movers (g ∷ gs) regular =
@@ -348,11 +278,11 @@ khmer_order_by_movers (g ∷ gs) regular =
     let categories = categories_of gs in
     let both = and_parts (not (is_coeng_or_left_vowel x)) (is_inner (x ∷ categories)) regular in
     let first = neither (is_coeng x) (is_left_vowel x) both.0 in
-    let es = each_after (Alone 0 x ∷ []) (parts_from 1 categories) in
-    ap (λ ms. moved_all ms (0 ∷ range_with_len 1 (length gs))) (first_looked g gs)
-    ∙ ap (λ n. moved_all (looked (x ∷ []) categories 0) (0 ∷ range_with_len 1 n)) (sym (length-categories gs))
-    ∙ movers_moved (Alone 0 x ∷ []) 1 categories 0
-    [] x (0 ∷ []) refl first.0 first.1 (inner_tail x categories both.1) refl
-    ∙ result_stays [] ([], Alone 0 x) es first.1
-    ∙ ap (λ ps. result [] (each_after [] ps)) (sym (first_part x categories first.0))
-    ∙ by_result (x ∷ categories)
+    search (
+      arith,
+      length-categories gs,
+      movers_moved (Alone 0 x ∷ []) 1 categories 0 [] x (0 ∷ []) refl first.0 first.1 (inner_tail x categories both.1)
+          refl,
+      first_part,
+      flat_map-append,
+    )

@@ -6,32 +6,25 @@ use Rattle.std.proofs.lemmas.List.{drop_more, drop-set-lt, take_more_set}
 use Rattle.shapers_base.specs.declared.plan.ot_category_t.TheConstants.{OT_VBlw}
 use Rattle.shapers_buffer.specs.declared.buffer.glyph.hb_glyph_info_t.{hb_glyph_info_t}
 use Rattle.shapers_buffer.specs.Glyph.{at_position}
-use Rattle.shapers_myanmar.specs.Myanmar.{below_parts, carries_on_below, in_below_part, parts_positioned, main_len, main_part, own_position, with_own_positions}
+use Rattle.shapers_myanmar.specs.Myanmar.{below_parts, carries_on_below, parts_positioned, main_len, main_part, own_position, with_own_positions}
 use Rattle.shapers_myanmar.specs.MyanmarWalk.{behind_part, in_part, part_of}
 
 -- the parts, one after another
 last_part : (gs : List hb_glyph_info_t) → behind_part 9 gs ≡ map (at_position 9) gs
 last_part [] = refl
-last_part (g ∷ gs) = ap (λ xs. at_position 9 g ∷ xs) (last_part gs)
+last_part (g ∷ gs) = cc (last_part gs)
 
 below_part : (gs : List hb_glyph_info_t) → behind_part 8 gs ≡ below_parts gs
 below_part [] = refl
 below_part (g ∷ gs) =
-    let after : Bool → ℕ = λ b. if b then 8 else 9 in
-    let m : ℕ = prefix_len carries_on_below gs in
+    let m = prefix_len carries_on_below gs in
     let one : suc m ≡ 1 + m = omega arith in
-    let parts : ℕ → List hb_glyph_info_t =
-    λ n. map in_below_part (take n (g ∷ gs)) ++ map (at_position 9) (drop n (g ∷ gs)) in
-    elim (carries_on_below g) as (λ b. in_part (after b) g ∷ behind_part (after b) gs ≡ parts (cond b (1 + m) 0)) [
-      | true ↦ ap (λ xs. in_below_part g ∷ xs) (below_part gs) ∙ ap parts one
-      | false ↦ ap (λ xs. at_position 9 g ∷ xs) (last_part gs)
-    ]
+    search (arith, last_part, below_part gs)
 
 opens_below : (g : hb_glyph_info_t) (gs : List hb_glyph_info_t) → (g.category == OT_VBlw) ≡ true
     → behind_part 8 (g ∷ gs) ≡ in_part 8 g ∷ behind_part 8 gs
 opens_below g gs is =
-    let carries : carries_on_below g ≡ true = grind (arith, nat_tests, is) in
-    ap (λ b. (let n : ℕ = if b then 8 else 9 in in_part n g ∷ behind_part n gs)) carries
+    search (arith, nat_tests)
 
 pub parts_behind : (gs : List hb_glyph_info_t) → behind_part 5 gs ≡ parts_positioned gs
 parts_behind [] = refl
@@ -49,11 +42,7 @@ parts_behind (g ∷ gs) =
 over_part : (before r : ℕ) (g : hb_glyph_info_t) → at_position (own_position before (in_part r g)) (in_part r g)
     ≡ at_position (own_position before (in_part r g)) g
 over_part before r g =
-    elim (r == 8) as (λ b. (let x : hb_glyph_info_t = if b then in_below_part g else at_position r g in at_position
-    (own_position before x) x ≡ at_position (own_position before x) g)) [
-      | true ↦ refl
-      | false ↦ refl
-    ]
+    search arith
 
 -- one more glyph
 pub own_next : (before part : ℕ) (gs total : List hb_glyph_info_t) (i : ℕ) (d : hb_glyph_info_t) (q p : ℕ)

@@ -1,9 +1,8 @@
 -- What the first pass finds: of copies at equal distances the ends tell, and a run's moves are those of its tiles.
-use Rattle.std.proofs.Common.{◌≡◌, ℕ, zero, suc, ◌+◌, ◌*◌, ◌^◌, ◌<◌, ◌≤◌, FitsSigned, ℤ, pos, negsuc, neg_ℤ, ◌+ℤ◌, ◌-ℤ◌, ◌*ℤ◌, ◌≤ℤ◌, Bool, true, false, cond, ◌&&◌, List, [], ◌∷◌, ◌++◌, length, replicate, flat_map, Option, None, Some, take, get_or, refl, subst, sym, ◌∙◌, ap, arith}
+use Rattle.std.proofs.Common.{◌≡◌, ℕ, zero, suc, ◌+◌, ◌*◌, ◌^◌, ◌<◌, ◌≤◌, FitsSigned, ℤ, pos, negsuc, neg_ℤ, ◌+ℤ◌, ◌-ℤ◌, ◌*ℤ◌, ◌≤ℤ◌, Bool, true, false, cond, ◌&&◌, List, [], ◌∷◌, ◌++◌, length, replicate, Option, None, Some, take, get_or, refl, arith}
 use Rattle.std.proofs.lemmas.Int.{ints}
 use mir.Syntax.{w32}
 use Rattle.std.proofs.lemmas.List.{reverse-append, take_more}
-use Rattle.std.specs.List.{list_all}
 use borrow.Author.Tests.{clash}
 use Rattle.shapers_buffer.specs.declared.buffer.glyph.hb_glyph_info_t.{hb_glyph_info_t}
 use Rattle.shapers_base.specs.Font.{Font}
@@ -13,17 +12,16 @@ use Rattle.shapers_stretch.specs.declared.ot_shaper_arabic_stretch.measuring.Lay
 use Rattle.shapers_stretch.specs.CountingWalk.{IsNumber, WalksPen, last_at, moves_of, offsets_fit, offsets_on, pen_behind, run_moves, stands_at}
 use Rattle.shapers_stretch.specs.Measure.{fits_i32, total}
 use Rattle.std.proofs.lemmas.List.Folds.{list_all-append}
-use Rattle.std.proofs.lemmas.Bool.{and_parts}
-use Rattle.shapers_stretch.proofs.Steps.{stepping, stepping_fits, fits_bounds, times_up}
+use Rattle.shapers_stretch.proofs.Steps.{stepping, stepping_fits}
 use Rattle.shapers_stretch.proofs.Sums.{times_suc, times_sum, times_zero, total_cons, total-append, total-replicate, times_neg}
 
 leftward : (pen step : ℤ) (n : ℕ) → offsets_on true pen (replicate (suc n) step) ≡ stepping (pen -ℤ step) (neg_ℤ step) n
 leftward pen step zero = refl
-leftward pen step (suc n) = ap (λ xs. (pen -ℤ step) ∷ xs) (leftward (pen -ℤ step) step n)
+leftward pen step (suc n) = cc (leftward (pen -ℤ step) step n)
 
 rightward : (pen step : ℤ) (n : ℕ) → offsets_on false pen (replicate (suc n) step) ≡ stepping pen step n
 rightward pen step zero = refl
-rightward pen step (suc n) = ap (λ xs. pen ∷ xs) (rightward (pen +ℤ step) step n)
+rightward pen step (suc n) = cc (rightward (pen +ℤ step) step n)
 
 -- the offsets of equal copies fit exactly if those of the first and the last do
 ends_tell : (right_to_left : Bool) (pen step : ℤ) (n : ℕ) → offsets_fit right_to_left pen (replicate (suc n) step)
@@ -32,87 +30,61 @@ ends_tell : (right_to_left : Bool) (pen step : ℤ) (n : ℕ) → offsets_fit ri
 ends_tell true pen step n =
     let last : (pen -ℤ step) +ℤ pos n *ℤ neg_ℤ step ≡ pen -ℤ pos (suc n) *ℤ step =
     omega (arith, ints, times_suc n step, times_neg n step) in
-    ap (list_all fits_i32) (leftward pen step n) ∙ stepping_fits (pen -ℤ step) (neg_ℤ step) n
-    ∙ ap (λ x. fits_i32 (pen -ℤ step) && fits_i32 x) last
+    cc (leftward pen step n, stepping_fits (pen -ℤ step) (neg_ℤ step) n)
 ends_tell false pen step n =
     let last : pen +ℤ pos n *ℤ step ≡ (pen +ℤ pos (suc n) *ℤ step) -ℤ step = omega (arith, ints, times_suc n step) in
-    ap (list_all fits_i32) (rightward pen step n) ∙ stepping_fits pen step n ∙ ap (λ x. fits_i32 pen && fits_i32 x) last
+    cc (rightward pen step n, stepping_fits pen step n)
 
 -- a pen behind copies of which the last one fits
 number_behind : (right_to_left : Bool) (behind step : ℤ) → fits_i32 (last_at right_to_left behind step) ≡ true
     → negsuc (2 ^ 36) ≤ℤ step → step ≤ℤ pos (2 ^ 36) → IsNumber behind
-number_behind true behind step e low high = let near =
-    fits_bounds behind e in record { low = omega (arith, ints); high = omega (arith, ints) }
-number_behind false behind step e low high = let near =
-    fits_bounds (behind -ℤ step) e in record { low = omega (arith, ints); high = omega (arith, ints) }
+number_behind true behind step e low high = search (arith, ints)
+number_behind false behind step e low high = search (arith, ints)
 
 tells : (right_to_left : Bool) (pen step behind : ℤ) (count : ℕ) → 0 < count
     → behind ≡ pen_behind right_to_left pen (pos count *ℤ step) → offsets_fit right_to_left pen (replicate count step)
     ≡ (fits_i32 (stands_at right_to_left pen step) && fits_i32 (last_at right_to_left behind step))
 tells right_to_left pen step behind zero p e = absurd (omega arith)
-tells right_to_left pen step behind (suc n) p e = ends_tell right_to_left pen step n
-    ∙ ap (λ b. fits_i32 (stands_at right_to_left pen step) && fits_i32 (last_at right_to_left b step)) (sym e)
+tells right_to_left pen step behind (suc n) p e = search (arith, ends_tell)
 
 pub copies_walked : (right_to_left : Bool) (pen step behind : ℤ) (count : ℕ) → 0 < count
     → behind ≡ pen_behind right_to_left pen (pos count *ℤ step)
     → (fits_i32 (stands_at right_to_left pen step) && fits_i32 (last_at right_to_left behind step)) ≡ true
     → negsuc (2 ^ 36) ≤ℤ step → step ≤ℤ pos (2 ^ 36) → WalksPen right_to_left pen (replicate count step) (Some behind)
 copies_walked right_to_left pen step behind count p e fits low high =
-    let both = and_parts (fits_i32 (stands_at right_to_left pen step)) (fits_i32 (last_at right_to_left behind step))
-    fits in (
-      tells right_to_left pen step behind count p e ∙ fits,
-      e
-          ∙ ap (pen_behind right_to_left pen) (sym (total-replicate count step)),
-      number_behind right_to_left behind step
-          both.1 low high,
-    )
+    search (arith, tells, total-replicate, number_behind)
 
 pub copies_stopped : (right_to_left : Bool) (pen step behind : ℤ) (count : ℕ) → 0 < count
     → behind ≡ pen_behind right_to_left pen (pos count *ℤ step)
     → (fits_i32 (stands_at right_to_left pen step) && fits_i32 (last_at right_to_left behind step)) ≡ false
     → WalksPen right_to_left pen (replicate count step) None
-copies_stopped right_to_left pen step behind count p e fails = tells right_to_left pen step behind count p e ∙ fails
+copies_stopped right_to_left pen step behind count p e fails = search (arith, tells)
 
 -- how far copies that each move the pen by a width less an overlap move it together
 pub widths_within : (n : ℕ) (w : ℤ) → FitsSigned w32 w → (neg_ℤ (pos (2147483648 * n)) ≤ℤ (pos n *ℤ w))
     × ((pos n *ℤ w) ≤ℤ pos (2147483648 * n))
-widths_within zero w f = (omega (arith, ints, times_zero w), omega (arith, ints, times_zero w))
-widths_within (suc n) w f = let before =
-    widths_within n w
-    f in (omega (arith, ints, times_suc n w, before.0, f), omega (arith, ints, times_suc n w, before.1, f))
+widths_within zero w f = search (arith, ints, times_zero)
+widths_within (suc n) w f =
+    let before = widths_within n w f in search (arith, ints, times_suc n w, before.0, before.1)
 
 pub far_moves : (n : ℕ) (w o step : ℤ) → n ≤ 2 ^ 31 → FitsSigned w32 w → pos 0 ≤ℤ o → (pos n *ℤ o) ≤ℤ pos (2 ^ 34)
     → step ≡ w -ℤ o → (negsuc (3 * 2 ^ 61) ≤ℤ (pos n *ℤ step)) × ((pos n *ℤ step) ≤ℤ pos (3 * 2 ^ 61))
 far_moves n w o step few f up most e =
-    let apart : step ≡ w +ℤ neg_ℤ o = omega (arith, ints, e) in
-    let sum : pos n *ℤ step ≡ pos n *ℤ w +ℤ neg_ℤ (pos n *ℤ o) = ap (λ x. pos n *ℤ x) apart ∙ times_sum n w (neg_ℤ o)
-    ∙ ap (λ x. pos n *ℤ w +ℤ x) (times_neg n o) in
+    let sum : pos n *ℤ step ≡ pos n *ℤ w +ℤ neg_ℤ (pos n *ℤ o) = search (arith, times_sum, times_neg) in
     let width = widths_within n w f in
-    (omega (arith, ints, sum, width.0, most, few), omega (arith, ints, sum, width.1, times_up n o up, few))
+    (search (arith, ints), search (arith, ints))
 
 -- the same of one copy
 number_after : (right_to_left : Bool) (pen step : ℤ) → fits_i32 (stands_at right_to_left pen step) ≡ true
     → negsuc (2 ^ 36) ≤ℤ step → step ≤ℤ pos (2 ^ 36) → IsNumber (pen_behind right_to_left pen step)
-number_after true pen step e low high = let near =
-    fits_bounds (pen -ℤ step) e in record { low = omega (arith, ints); high = omega (arith, ints) }
-number_after false pen step e low high = let near =
-    fits_bounds pen e in record { low = omega (arith, ints); high = omega (arith, ints) }
+number_after true pen step e low high = search (arith, ints)
+number_after false pen step e low high = search (arith, ints)
 
 pub copy_walked : (right_to_left : Bool) (pen step behind : ℤ) → behind ≡ pen_behind right_to_left pen step
     → fits_i32 (stands_at right_to_left pen step) ≡ true → negsuc (2 ^ 36) ≤ℤ step → step ≤ℤ pos (2 ^ 36)
     → WalksPen right_to_left pen (step ∷ []) (Some behind)
 copy_walked right_to_left pen step behind e fits low high =
-    let sum : total (step ∷ []) ≡ step = omega (arith, ints, total_cons step []) in (
-      ap (λ b. b && true) fits,
-      e
-          ∙ ap (pen_behind right_to_left pen) (sym sum),
-      subst IsNumber (sym e)
-          (number_after right_to_left pen step fits low high),
-    )
-
-pub copy_stopped : (right_to_left : Bool) (pen step : ℤ) → fits_i32 (stands_at right_to_left pen step) ≡ false
-    → WalksPen right_to_left pen (step ∷ []) None
-copy_stopped right_to_left pen step fails = ap (λ b. b && true) fails
+    search (arith, ints, total_cons, number_after)
 
 no_move : (right_to_left : Bool) (pen : ℤ) → pen_behind right_to_left pen (pos 0) ≡ pen
 no_move true pen = omega (arith, ints)
@@ -125,42 +97,22 @@ then_move false pen a b = omega (arith, ints)
 
 offsets_on-append : (right_to_left : Bool) (pen : ℤ) (xs ys : List ℤ) → offsets_on right_to_left pen (xs ++ ys)
     ≡ offsets_on right_to_left pen xs ++ offsets_on right_to_left (pen_behind right_to_left pen (total xs)) ys
-offsets_on-append right_to_left pen [] ys = ap (λ p. offsets_on right_to_left p ys) (sym (no_move right_to_left pen))
+offsets_on-append right_to_left pen [] ys = search (arith, no_move)
 offsets_on-append right_to_left pen (x ∷ xs) ys =
-    let behind : pen_behind right_to_left (pen_behind right_to_left pen x) (total xs)
-    ≡ pen_behind right_to_left pen (total (x ∷ xs)) = then_move right_to_left pen x (total xs)
-    ∙ ap (pen_behind right_to_left pen) (sym (total_cons x xs)) in
-    ap (λ zs. stands_at right_to_left pen x ∷ zs)
-    (offsets_on-append right_to_left (pen_behind right_to_left pen x) xs ys
-    ∙ ap (λ p. offsets_on right_to_left (pen_behind right_to_left pen x) xs ++ offsets_on right_to_left p ys)
-    behind)
+    search (arith, then_move, total_cons, offsets_on-append right_to_left (pen_behind right_to_left pen x) xs ys)
 
 offsets_fit-append : (right_to_left : Bool) (pen : ℤ) (xs ys : List ℤ) → offsets_fit right_to_left pen (xs ++ ys)
     ≡ (offsets_fit right_to_left pen xs && offsets_fit right_to_left (pen_behind right_to_left pen (total xs)) ys)
-offsets_fit-append right_to_left pen xs ys = ap (list_all fits_i32) (offsets_on-append right_to_left pen xs ys)
-    ∙ list_all-append fits_i32 (offsets_on right_to_left pen xs) _
+offsets_fit-append right_to_left pen xs ys = search (arith, offsets_on-append, list_all-append)
 
 -- moves and then others
 pub walks_then : (right_to_left : Bool) (pen : ℤ) (xs ys : List ℤ) (behind : ℤ) (r : Option ℤ)
     → WalksPen right_to_left pen xs (Some behind) → WalksPen right_to_left behind ys r
     → WalksPen right_to_left pen (xs ++ ys) r
 walks_then right_to_left pen xs ys behind None first rest =
-    offsets_fit-append right_to_left pen xs ys
-    ∙ ap (λ b. b && offsets_fit right_to_left (pen_behind right_to_left pen (total xs)) ys) first.0
-    ∙ ap (λ p. offsets_fit right_to_left p ys) (sym first.1) ∙ rest
+    search (arith, offsets_fit-append)
 walks_then right_to_left pen xs ys behind (Some last) first rest =
-    let fits = offsets_fit-append right_to_left pen xs ys
-    ∙ ap (λ b. b && offsets_fit right_to_left (pen_behind right_to_left pen (total xs)) ys) first.0
-    ∙ ap (λ p. offsets_fit right_to_left p ys) (sym first.1) ∙ rest.0 in
-    let at = rest.1 ∙ ap (λ p. pen_behind right_to_left p (total ys)) first.1
-    ∙ then_move right_to_left pen (total xs) (total ys)
-    ∙ ap (pen_behind right_to_left pen) (sym (total-append xs ys)) in
-    (fits, at, rest.2)
-
-pub walks_stop : (right_to_left : Bool) (pen : ℤ) (xs ys : List ℤ) → offsets_fit right_to_left pen xs ≡ false
-    → offsets_fit right_to_left pen (xs ++ ys) ≡ false
-walks_stop right_to_left pen xs ys fails = offsets_fit-append right_to_left pen xs ys
-    ∙ ap (λ b. b && offsets_fit right_to_left (pen_behind right_to_left pen (total xs)) ys) fails
+    search (arith, offsets_fit-append, then_move, total-append)
 
 -- the copies of one tile, the first and then the added ones
 tile_if : (b : Bool) (right_to_left : Bool) (pen width step behind : ℤ) (n : ℕ) (r : Option ℤ) → b ≡ true
@@ -175,22 +127,14 @@ pub tile_walked : (font : Font) (lay : Lay) (g : hb_glyph_info_t) (right_to_left
     → WalksPen right_to_left pen (width ∷ []) (Some behind) → WalksPen right_to_left behind (replicate lay.added step) r
     → WalksPen right_to_left pen (moves_of font lay g) r
 tile_walked font lay g right_to_left pen width step behind r e w s first rest =
-    let P : ℤ → Type 0 = λ width. step ≡ width -ℤ lay.overlap → WalksPen right_to_left pen (width ∷ []) (Some behind)
-    → WalksPen right_to_left pen (moves_of font lay g) r in
-    let Q : ℤ → Type 0 = λ step. WalksPen right_to_left behind (replicate lay.added step) r in
-    subst P (sym w) (λ s first. tile_if (repeats g) right_to_left pen (width_of font g) (width_of font g -ℤ lay.overlap)
-    behind lay.added r e first (subst Q s rest)) s first
+    search (arith, tile_if)
 
 -- the last tile of a run is laid first
-run_moves_push : (font : Font) (lay : Lay) (tiles : List hb_glyph_info_t) (g : hb_glyph_info_t)
-    → run_moves font lay (tiles ++ g ∷ []) ≡ moves_of font lay g ++ run_moves font lay tiles
-run_moves_push font lay tiles g = ap (flat_map (moves_of font lay)) (reverse-append tiles (g ∷ []))
-
 run_moves_more : (font : Font) (lay : Lay) (tiles : List hb_glyph_info_t) (i : ℕ) (d : hb_glyph_info_t)
     → i < length tiles → run_moves font lay (take (i + 1) tiles) ≡ moves_of font lay (get_or tiles i d)
     ++ run_moves font lay (take i tiles)
-run_moves_more font lay tiles i d p = ap (run_moves font lay) (take_more tiles i d p)
-    ∙ run_moves_push font lay (take i tiles) (get_or tiles i d)
+run_moves_more font lay tiles i d p =
+    search (arith, take_more tiles i d p, reverse-append)
 
 pub fits_next : (font : Font) (lay : Lay) (right_to_left : Bool) (pen behind : ℤ) (tiles : List hb_glyph_info_t) (i : ℕ)
     (d : hb_glyph_info_t) → i < length tiles
@@ -198,16 +142,15 @@ pub fits_next : (font : Font) (lay : Lay) (right_to_left : Bool) (pen behind : �
     → offsets_fit right_to_left behind (run_moves font lay (take i tiles))
     ≡ offsets_fit right_to_left pen (run_moves font lay (take (i + 1) tiles))
 fits_next font lay right_to_left pen behind tiles i d p w =
-    let first = moves_of font lay (get_or tiles i d) in
-    let rest = run_moves font lay (take i tiles) in
-    sym (ap (offsets_fit right_to_left pen) (run_moves_more font lay tiles i d p)
-    ∙ offsets_fit-append right_to_left pen first rest
-    ∙ ap (λ b. b && offsets_fit right_to_left (pen_behind right_to_left pen (total first)) rest) w.0
-    ∙ ap (λ p. offsets_fit right_to_left p rest) (sym w.1))
+    cc (
+      run_moves_more font lay tiles i d p,
+      offsets_fit-append right_to_left pen (moves_of font lay (get_or tiles i d)) (run_moves font lay (take i tiles)),
+      w.0,
+      w.1,
+    )
 
 pub fits_not : (font : Font) (lay : Lay) (right_to_left : Bool) (pen : ℤ) (tiles : List hb_glyph_info_t) (i : ℕ)
     (d : hb_glyph_info_t) → i < length tiles → offsets_fit right_to_left pen (moves_of font lay (get_or tiles i d))
     ≡ false → offsets_fit right_to_left pen (run_moves font lay (take (i + 1) tiles)) ≡ false
 fits_not font lay right_to_left pen tiles i d p fails =
-    ap (offsets_fit right_to_left pen) (run_moves_more font lay tiles i d p)
-    ∙ walks_stop right_to_left pen (moves_of font lay (get_or tiles i d)) (run_moves font lay (take i tiles)) fails
+    search (arith, run_moves_more font lay tiles i d p, offsets_fit-append)

@@ -1,5 +1,5 @@
 -- A word and its run, flagged together: nothing that is measured or laid changes but the masks.
-use Rattle.std.proofs.Common.{◌≡◌, ◌≤◌, ◌+◌, ◌-◌, ◌==◌, ℕ, zero, suc, ℤ, ◌-ℤ◌, Bool, true, false, cond, List, [], ◌∷◌, ◌++◌, length, map, take, drop, replicate, refl, sym, ◌∙◌, ap, arith, subst}
+use Rattle.std.proofs.Common.{◌≡◌, ◌≤◌, ◌+◌, ◌-◌, ℕ, zero, suc, ℤ, Bool, true, false, cond, List, [], ◌∷◌, ◌++◌, length, map, take, drop, replicate, refl, sym, ◌∙◌, ap, arith}
 use Rattle.std.specs.List.{zip, AllByRecursion}
 use Rattle.std.proofs.lemmas.List.{drop-take, append_assoc, length-append, length-drop, length-map, length-take-le, map-append, take-append-drop, take-map, take_at, drop_at, drop-drop, take-take}
 use Rattle.std.proofs.lemmas.Slice.Zip.{firsts-zip, seconds-zip}
@@ -7,15 +7,14 @@ use Rattle.shapers_buffer.specs.declared.buffer.glyph.GlyphPosition.{GlyphPositi
 use Rattle.shapers_buffer.specs.declared.buffer.glyph.hb_glyph_info_t.{hb_glyph_info_t}
 use Rattle.shapers_buffer.specs.Clusters.{least, stretch_of}
 use Rattle.shapers_buffer.specs.Glyph.{clusters}
-use Rattle.shapers_buffer.specs.GlyphFlags.{flagged, unsafe_inside, with_bits, with_bits_off}
+use Rattle.shapers_buffer.specs.GlyphFlags.{flagged, unsafe_inside, with_bits_off}
 use Rattle.shapers_buffer.proofs.ClusterLemmas.{length-stretch}
 use Rattle.shapers_base.specs.Font.{Font}
 use Rattle.shapers_stretch.specs.declared.ot_shaper_arabic_stretch.measuring.Run.{Run}
 use Rattle.shapers_stretch.specs.Cells.{Cell, glyphs_of, positions_of, repeats}
-use Rattle.shapers_stretch.specs.CountingWalk.{pen_behind, stands_at}
+use Rattle.shapers_stretch.specs.CountingWalk.{pen_behind}
 use Rattle.shapers_stretch.specs.LayingWalk.{laid_on, offsets}
-use Rattle.shapers_stretch.specs.Measure.{times_added, overlap}
-use Rattle.shapers_stretch.specs.Stretch.{Copy, copies, copies_of, unbroken, width_of}
+use Rattle.shapers_stretch.specs.Stretch.{Copy, copies, unbroken}
 use Rattle.shapers_stretch.proofs.TileWalk.{copies-push}
 use Rattle.shapers_stretch.proofs.Zips.{length-zipped, stretch_then, zip-append, zip-drop, zip-stretch, zip-take}
 use Rattle.shapers_stretch.proofs.Moves.{map-replicate}
@@ -26,26 +25,22 @@ pub stretch_join : {X : Type 0} (s m e : ℕ) (xs : List X) → s ≤ m → m �
     ≡ stretch_of s e xs
 stretch_join s m e xs p q =
     let n = m - s in
-    let same : s + n ≡ m = omega arith in
     let rest : stretch_of m e xs ≡ drop n (take (n + (e - m)) (drop s xs)) =
-    ap (λ k. take (e - m) (drop k xs)) (sym same) ∙ ap (take (e - m)) (sym (drop-drop n s xs))
+    ap (λ k. take (e - m) (drop k xs)) (sym (omega arith)) ∙ ap (take (e - m)) (sym (drop-drop n s xs))
     ∙ sym (drop-take n (e - m) (drop s xs)) in
-    let first : stretch_of s m xs ≡ take n (take (n + (e - m)) (drop s xs)) =
-    sym (take-take n (n + (e - m)) (drop s xs) (omega arith)) in
-    ap (λ z. z ++ stretch_of m e xs) first ∙ ap (λ z. take n (take (n + (e - m)) (drop s xs)) ++ z) rest
-    ∙ take-append-drop n (take (n + (e - m)) (drop s xs)) ∙ ap (λ k. take k (drop s xs)) (omega arith)
+    search (
+      arith,
+      take-take n (n + (e - m)) (drop s xs) (omega arith),
+      take-append-drop n (take (n + (e - m)) (drop s xs)),
+    )
 
 pub stretch_glyphs : (s e : ℕ) (gs : List hb_glyph_info_t) (ps : List GlyphPosition) → length gs ≡ length ps
     → e ≤ length gs → glyphs_of (stretch_of s e (zip gs ps)) ≡ stretch_of s e gs
-stretch_glyphs s e gs ps both q = ap glyphs_of (zip-stretch s e gs ps)
-    ∙ firsts-zip (stretch_of s e gs) (stretch_of s e ps)
-    (omega (arith, length-stretch s e gs q, length-stretch s e ps (omega arith)))
+stretch_glyphs s e gs ps both q = search (arith, zip-stretch, firsts-zip, length-stretch)
 
 pub stretch_positions : (s e : ℕ) (gs : List hb_glyph_info_t) (ps : List GlyphPosition) → length gs ≡ length ps
     → e ≤ length gs → positions_of (stretch_of s e (zip gs ps)) ≡ stretch_of s e ps
-stretch_positions s e gs ps both q = ap positions_of (zip-stretch s e gs ps)
-    ∙ seconds-zip (stretch_of s e gs) (stretch_of s e ps)
-    (omega (arith, length-stretch s e gs q, length-stretch s e ps (omega arith)))
+stretch_positions s e gs ps both q = search (arith, zip-stretch, seconds-zip, length-stretch)
 
 -- what the flags make of slices
 pub record Flagged (w t e : ℕ) (gs fs : List hb_glyph_info_t) (ps : List GlyphPosition) : Type 0 where
@@ -63,29 +58,24 @@ pub whole_cells : (w t e : ℕ) (gs : List hb_glyph_info_t) (ps : List GlyphPosi
     ++ (unbroken (stretch_of w t (zip gs ps) ++ stretch_of t e (zip gs ps)) ++ drop e (zip gs ps))
 whole_cells w t e gs ps p q r both =
     let fs = flagged 3 (stretch_of w e gs) in
-    let cells = zip gs ps in
-    let split : ps ≡ take w ps ++ (stretch_of w e ps ++ drop e ps) = sym (take-append-drop w ps)
-    ∙ ap (λ z. take w ps ++ z) (stretch_then w e ps (omega arith)) in
-    let flagged_length : length fs ≡ length (stretch_of w e ps) =
-    omega (
+    let flagged_length : length fs ≡ length (stretch_of w e ps) = omega (
       arith,
       length-map (stretch_of w e gs) (with_bits_off 3 (least (clusters (stretch_of w e gs)))),
       length-stretch w e gs r,
       length-stretch w e ps (omega arith),
     ) in
-    let middle : zip fs (stretch_of w e ps) ≡ unbroken (stretch_of w e cells) =
-    ap (λ g. zip (flagged 3 g) (stretch_of w e ps)) (sym (stretch_glyphs w e gs ps both r))
-    ∙ ap (λ z. zip (flagged 3 (glyphs_of (stretch_of w e cells))) z)
-    (sym (stretch_positions w e gs ps both r)) in
-    ap (λ z. zip (unsafe_inside w e gs) z) split
-    ∙ zip-append (take w gs) (take w ps) (fs ++ drop e gs) (stretch_of w e ps ++ drop e ps)
-    (omega (arith, length-take-le w gs (omega arith), length-take-le w ps (omega arith)))
-    ∙ ap (λ z. zip (take w gs) (take w ps) ++ z)
-    (zip-append fs (stretch_of w e ps) (drop e gs) (drop e ps) flagged_length)
-    ∙ ap (λ z. z ++ (zip fs (stretch_of w e ps) ++ zip (drop e gs) (drop e ps))) (sym (zip-take w gs ps))
-    ∙ ap (λ z. take w cells ++ (zip fs (stretch_of w e ps) ++ z)) (sym (zip-drop e gs ps))
-    ∙ ap (λ z. take w cells ++ (z ++ drop e cells)) middle
-    ∙ ap (λ z. take w cells ++ (unbroken z ++ drop e cells)) (sym (stretch_join w t e cells p q))
+    cc (
+      take-append-drop w ps,
+      stretch_then w e ps (omega arith),
+      zip-append (take w gs) (take w ps) (fs ++ drop e gs) (stretch_of w e ps ++ drop e ps)
+          (omega (arith, length-take-le w gs (omega arith), length-take-le w ps (omega arith))),
+      zip-append fs (stretch_of w e ps) (drop e gs) (drop e ps) flagged_length,
+      zip-take w gs ps,
+      zip-drop e gs ps,
+      stretch_glyphs w e gs ps both r,
+      stretch_positions w e gs ps both r,
+      stretch_join w t e (zip gs ps) p q,
+    )
 
 -- the flags, cell by cell
 abbrev pub flag_cell : ℕ → Cell → Cell
@@ -94,25 +84,10 @@ flag_cell m c = (with_bits_off 3 m c.0, c.1)
 zip_mapped : (f : hb_glyph_info_t → hb_glyph_info_t) (cs : List Cell) → zip (map f (glyphs_of cs)) (positions_of cs)
     ≡ map (λ (c : Cell). let d : Cell = (f c.0, c.1) in d) cs
 zip_mapped f [] = refl
-zip_mapped f (c ∷ cs) = ap (λ (ds : List Cell). (f c.0, c.1) ∷ ds) (zip_mapped f cs)
+zip_mapped f (c ∷ cs) = cc (zip_mapped f cs)
 
 pub unbroken_is : (cs : List Cell) → unbroken cs ≡ map (flag_cell (least (clusters (glyphs_of cs)))) cs
-unbroken_is cs = zip_mapped (with_bits_off 3 (least (clusters (glyphs_of cs)))) cs
-
-length-unsafe : (w e : ℕ) (gs : List hb_glyph_info_t) → w ≤ e → e ≤ length gs → length (unsafe_inside w e gs)
-    ≡ length gs
-length-unsafe w e gs p q =
-    omega (
-      arith,
-      length-append (take w gs) (flagged 3 (stretch_of w e gs) ++ drop e gs),
-      length-append
-          (flagged 3 (stretch_of w e gs)) (drop e gs),
-      length-take-le w gs (omega arith),
-      length-map (stretch_of w e gs)
-          (with_bits_off 3 (least (clusters (stretch_of w e gs)))),
-      length-stretch w e gs q,
-      length-drop e gs,
-    )
+unbroken_is cs = search (arith, zip_mapped)
 
 join : (e k : ℕ) → e ≤ k → k ≡ e + (k - e)
 join e k h = omega arith
@@ -126,15 +101,15 @@ flags_made w t e gs fs ps p q r both is =
     let all = unbroken (word ++ tiles) in
     let F = zip fs ps in
     let long : length cells ≡ length gs = length-zipped gs ps both in
-    let whole : F ≡ take w cells ++ (all ++ drop e cells) = ap (λ z. zip z ps) is
-    ∙ whole_cells w t e gs ps p q r both in
-    let same_length : length fs ≡ length gs = ap length is ∙ length-unsafe w e gs (omega arith) r in
+    let whole : F ≡ take w cells ++ (all ++ drop e cells) = search (arith, whole_cells) in
+    let same_length : length fs ≡ length gs =
+    search (arith, length-append, length-take-le, length-map, length-stretch, length-drop) in
     let before : length (take w cells) ≡ w = length-take-le w cells (omega arith) in
     let word_length : length word ≡ t - w = length-stretch w t cells (omega arith) in
     let tiles_length : length tiles ≡ e - t = length-stretch t e cells (omega arith) in
     let all_length : length all ≡ (t - w) + (e - t) =
     omega (arith, length-unbroken (word ++ tiles), length-append word tiles) in
-    let split : F ≡ (take w cells ++ take (length word) all) ++ (drop (length word) all ++ drop e cells) =
+    let split =
     whole ∙ ap (λ z. take w cells ++ (z ++ drop e cells)) (sym (take-append-drop (length word) all))
     ∙ ap (λ z. take w cells ++ z) (append_assoc (take (length word) all) (drop (length word) all) (drop e cells))
     ∙ sym (append_assoc (take w cells) (take (length word) all) (drop (length word) all ++ drop e cells)) in
@@ -142,13 +117,11 @@ flags_made w t e gs fs ps p q r both is =
     omega (
       arith,
       length-append (take w cells) (take (length word) all),
-      length-take-le (length word) all
-          (omega arith),
+      length-take-le (length word) all (omega arith),
     ) in
     let run_length : length (drop (length word) all) ≡ e - t = omega (arith, length-drop (length word) all) in
-    let dropped_front : drop t F ≡ drop (length word) all ++ drop e cells = ap (drop t) split
-    ∙ drop_at (take w cells ++ take (length word) all) (drop (length word) all ++ drop e cells) t
-    front_length in
+    let dropped_front = ap (drop t) split
+    ∙ drop_at (take w cells ++ take (length word) all) (drop (length word) all ++ drop e cells) t front_length in
     let at_end : drop e F ≡ drop e cells = ap (λ n. drop n F) (join t e q) ∙ sym (drop-drop (e - t) t F)
     ∙ ap (drop (e - t)) dropped_front ∙ drop_at (drop (length word) all) (drop e cells) (e - t) run_length in
     record {
@@ -167,14 +140,11 @@ id_if true g h e = refl
 id_if false g h e = e
 
 pub same_id : (m : ℕ) (g : hb_glyph_info_t) → (with_bits_off 3 m g).glyph_id ≡ g.glyph_id
-same_id m g = id_if (g.cluster == m) g (with_bits 3 g) refl
+same_id m g = search (arith, id_if)
 
 repeats_if : (b : Bool) (g h : hb_glyph_info_t) → repeats h ≡ repeats g → repeats (cond b g h) ≡ repeats g
 repeats_if true g h e = refl
 repeats_if false g h e = e
-
-same_repeats : (m : ℕ) (g : hb_glyph_info_t) → repeats (with_bits_off 3 m g) ≡ repeats g
-same_repeats m g = repeats_if (g.cluster == m) g (with_bits 3 g) refl
 
 -- so the copies of flagged tiles are the copies, flagged
 abbrev pub flag_copy : ℕ → Copy → Copy
@@ -185,44 +155,26 @@ copies_at w v n b c = record { tile = c; move = w } ∷ cond b (replicate n (rec
 
 flag_copies_at : (m : ℕ) (w v : ℤ) (n : ℕ) (b : Bool) (c : Cell) → copies_at w v n b (flag_cell m c)
     ≡ map (flag_copy m) (copies_at w v n b c)
-flag_copies_at m w v n true c = let copy : Copy = record { tile = c; move = v } in let first : Copy =
-    record { tile = flag_cell m c; move = w } in ap (λ xs. first ∷ xs) (sym (map-replicate (flag_copy m) n copy))
+flag_copies_at m w v n true c = search (arith, map-replicate)
 flag_copies_at m w v n false c = refl
-
-flag_copies_of : (font : Font) (z : Run) (m : ℕ) (c : Cell) → copies_of font z (flag_cell m c)
-    ≡ map (flag_copy m) (copies_of font z c)
-flag_copies_of font z m c =
-    let width : width_of font (with_bits_off 3 m c.0) ≡ width_of font c.0 =
-    ap (λ n. font.advance (record { 0 = n })) (same_id m c.0) in
-    ap (λ w. copies_at w (w -ℤ overlap z) (times_added z) (repeats (with_bits_off 3 m c.0)) (flag_cell m c)) width
-    ∙ ap (λ b. copies_at (width_of font c.0) (width_of font c.0 -ℤ overlap z) (times_added z) b (flag_cell m c))
-    (same_repeats m c.0)
-    ∙ flag_copies_at m (width_of font c.0) (width_of font c.0 -ℤ overlap z) (times_added z) (repeats c.0) c
 
 pub flag_copies : (font : Font) (z : Run) (m : ℕ) (cs : List Cell) → copies font z (map (flag_cell m) cs)
     ≡ map (flag_copy m) (copies font z cs)
 flag_copies font z m [] = refl
 flag_copies font z m (c ∷ cs) =
-    copies-push font z (flag_cell m c) (map (flag_cell m) cs)
-    ∙ ap (λ xs. xs ++ copies_of font z (flag_cell m c)) (flag_copies font z m cs)
-    ∙ ap (λ xs. map (flag_copy m) (copies font z cs) ++ xs) (flag_copies_of font z m c)
-    ∙ sym (map-append (flag_copy m) (copies font z cs) (copies_of font z c))
-    ∙ ap (map (flag_copy m)) (sym (copies-push font z c cs))
+    search (arith, copies-push, same_id, repeats_if, flag_copies_at, map-append, flag_copies font z m cs)
 
 pub flag_offsets : (right_to_left : Bool) (m : ℕ) (at : ℤ) (xs : List Copy)
     → offsets (laid_on right_to_left at (map (flag_copy m) xs)) ≡ offsets (laid_on right_to_left at xs)
 flag_offsets right_to_left m at [] = refl
 flag_offsets right_to_left m at (x ∷ xs) =
-    ap (λ ys. stands_at right_to_left at x.move ∷ ys)
-    (flag_offsets right_to_left m (pen_behind right_to_left at x.move) xs)
+    cc (flag_offsets right_to_left m (pen_behind right_to_left at x.move) xs)
 
 -- the flagged tiles of a part
 pub tiles_are : (word tiles : List Cell) → drop (length word) (unbroken (word ++ tiles))
     ≡ map (flag_cell (least (clusters (glyphs_of (word ++ tiles))))) tiles
 tiles_are word tiles =
-    let f = flag_cell (least (clusters (glyphs_of (word ++ tiles)))) in
-    ap (drop (length word)) (unbroken_is (word ++ tiles) ∙ map-append f word tiles)
-    ∙ drop_at (map f word) (map f tiles) (length word) (length-map word f)
+    search (arith, unbroken_is, map-append, drop_at, length-map)
 
 take_none : {X : Type 0} (m : ℕ) → take {A = X} m [] ≡ []
 take_none zero = refl
@@ -231,13 +183,10 @@ take_none (suc m) = refl
 -- glyph numbers in a stretch, and of flagged glyphs
 pub all_stretch : (P : hb_glyph_info_t → Type 0) (t e : ℕ) (gs : List hb_glyph_info_t) → AllByRecursion P (take e gs)
     → AllByRecursion P (take (e - t) (drop t gs))
-all_stretch P zero e gs all = let same : e ≡ e - zero =
-    omega arith in subst (λ n. AllByRecursion P (take n gs)) same all
-all_stretch P (suc t) zero gs all = let same : 0 ≡ zero - suc t =
-    omega arith in subst (λ n. AllByRecursion P (take n (drop (suc t) gs))) same tt
-all_stretch P (suc t) (suc e) [] all = subst (λ xs. AllByRecursion P xs) (sym (take_none (suc e - suc t))) tt
-all_stretch P (suc t) (suc e) (g ∷ gs) all = let same : e - t ≡ suc e - suc t =
-    omega arith in subst (λ n. AllByRecursion P (take n (drop t gs))) same (all_stretch P t e gs all.1)
+all_stretch P zero e gs all = search arith
+all_stretch P (suc t) zero gs all = search arith
+all_stretch P (suc t) (suc e) [] all = search (arith, take_none)
+all_stretch P (suc t) (suc e) (g ∷ gs) all = search (arith, all_stretch P t e gs all.1)
 
 all_mapped : {X Y : Type 0} (f : X → Y) (P : Y → Type 0) (xs : List X) → AllByRecursion (λ x. P (f x)) xs
     → AllByRecursion P (map f xs)
@@ -254,25 +203,27 @@ ids_flagged : (m : ℕ) (gs : List hb_glyph_info_t)
     ≡ map (λ (g : hb_glyph_info_t). g.glyph_id) gs
 ids_flagged m [] = refl
 ids_flagged m (g ∷ gs) =
-    ap (λ n. n ∷ map (λ (g : hb_glyph_info_t). g.glyph_id) (map (with_bits_off 3 m) gs)) (same_id m g)
-    ∙ ap (λ ns. g.glyph_id ∷ ns) (ids_flagged m gs)
+    cc (same_id m g, ids_flagged m gs)
 
 ids_unsafe : (w e : ℕ) (gs : List hb_glyph_info_t) → w ≤ e
     → map (λ (g : hb_glyph_info_t). g.glyph_id) (unsafe_inside w e gs) ≡ map (λ (g : hb_glyph_info_t). g.glyph_id) gs
 ids_unsafe w e gs p =
     let id : hb_glyph_info_t → ℕ = λ g. g.glyph_id in
     let s = stretch_of w e gs in
-    map-append id (take w gs) (flagged 3 s ++ drop e gs)
-    ∙ ap (λ z. map id (take w gs) ++ z) (map-append id (flagged 3 s) (drop e gs)
-    ∙ ap (λ z. z ++ map id (drop e gs)) (ids_flagged (least (clusters s)) s) ∙ sym (map-append id s (drop e gs)))
-    ∙ sym (map-append id (take w gs) (s ++ drop e gs))
-    ∙ ap (λ z. map id (take w gs ++ z)) (sym (stretch_then w e gs p))
-    ∙ ap (map id) (take-append-drop w gs)
+    cc (
+      map-append id (take w gs) (flagged 3 s ++ drop e gs),
+      map-append id (flagged 3 s) (drop e gs),
+      ids_flagged (least (clusters s)) s,
+      map-append id s (drop e gs),
+      map-append id (take w gs) (s ++ drop e gs),
+      stretch_then w e gs p,
+      take-append-drop w gs,
+    )
 
 pub numbers_stay : (P : ℕ → Type 0) (w e : ℕ) (gs fs : List hb_glyph_info_t) → w ≤ e → fs ≡ unsafe_inside w e gs
     → AllByRecursion (λ g. P g.glyph_id) (take e gs) → AllByRecursion (λ g. P g.glyph_id) (take e fs)
 numbers_stay P w e gs fs p is all =
     let id : hb_glyph_info_t → ℕ = λ g. g.glyph_id in
-    let same : map id (take e gs) ≡ map id (take e fs) = sym (take-map id e gs)
-    ∙ ap (take e) (sym (ap (map id) is ∙ ids_unsafe w e gs p)) ∙ take-map id e fs in
-    all_unmapped id P (take e fs) (subst (AllByRecursion P) same (all_mapped id P (take e gs) all))
+    let same : map id (take e gs) ≡ map id (take e fs) =
+    cc (take-map id e gs, ids_unsafe w e gs p, take-map id e fs) in
+    all_unmapped id P (take e fs) (search (arith, all_mapped))

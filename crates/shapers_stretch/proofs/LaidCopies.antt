@@ -1,5 +1,5 @@
 -- Copies laid one after another.
-use Rattle.std.proofs.Common.{cond, ◌-ℤ◌, subst, ◌≡◌, ◌≤◌, ◌<◌, ◌+◌, ◌-◌, ℕ, suc, ℤ, pos, negsuc, Bool, true, false, ◌&&◌, List, [], ◌∷◌, ◌++◌, length, take, drop, set, reverse, replicate, refl, sym, ◌∙◌, ap, arith, FitsSigned}
+use Rattle.std.proofs.Common.{◌-ℤ◌, ◌≡◌, ◌≤◌, ◌<◌, ◌+◌, ◌-◌, ℕ, suc, ℤ, pos, negsuc, Bool, true, false, ◌&&◌, List, [], ◌∷◌, ◌++◌, length, drop, set, reverse, replicate, sym, ◌∙◌, ap, arith, FitsSigned}
 use mir.Syntax.{w64}
 use Rattle.std.specs.List.{zip, list_all}
 use Rattle.std.proofs.lemmas.Int.{ints}
@@ -17,13 +17,13 @@ use Rattle.shapers_stretch.specs.LayingWalk.{CanLay, Lays, copies_by, laid_on, o
 use Rattle.shapers_stretch.specs.Measure.{fits_i32}
 use Rattle.shapers_stretch.specs.Stretch.{Copy, moves, width_of}
 use Rattle.shapers_stretch.proofs.Moves.{moves-append}
-use Rattle.shapers_stretch.proofs.Pen.{laid_on-append, no_move}
+use Rattle.shapers_stretch.proofs.Pen.{laid_on-append}
 use Rattle.shapers_stretch.proofs.Sums.{total_cons}
 use Rattle.shapers_stretch.proofs.Zips.{zip-set, length-zipped}
 
 one_move : (right_to_left : Bool) (at : ℤ) (c : Copy) → pen_behind right_to_left at (moves (c ∷ []))
     ≡ pen_behind right_to_left at c.move
-one_move right_to_left at c = ap (pen_behind right_to_left at) (total_cons c.move [] ∙ omega (arith, ints))
+one_move right_to_left at c = search (arith, total_cons, ints)
 
 -- one copy
 pub one_laid : (right_to_left : Bool) (copy : Copy) (pen : Pen) (gs : List hb_glyph_info_t) (ps : List GlyphPosition)
@@ -37,14 +37,13 @@ one_laid right_to_left copy pen gs ps at x can is_at is_x =
     let i = pen.place - 1 in
     let standing : ℤ → GlyphPosition = λ x. record copy.tile.1 { x_advance = pos 0; x_offset = x } in
     let y : Cell = (copy.tile.0, standing x) in
-    let within : i < length cells = omega (arith, length-zipped gs ps can.both, can.room, can.within) in
     let next : i + 1 ≡ pen.place = omega (arith, can.room) in
     let now = zip-set gs ps i copy.tile.0 (standing x) in
     record {
-      pen = is_at ∙ sym (one_move right_to_left pen.at copy);
+      pen = search (arith, one_move);
       place = next;
-      kept = ap (take i) now ∙ take-set cells i y;
-      behind = ap (drop i) now ∙ drop-set cells i y within ∙ ap (λ n. y ∷ drop n cells) next
+      kept = cc (take-set cells i y);
+      behind = ap (drop i) now ∙ drop-set cells i y (search (arith, length-zipped)) ∙ ap (λ n. y ∷ drop n cells) next
           ∙ ap (λ x. (copy.tile.0, standing x) ∷ drop pen.place cells) is_x;
     }
 
@@ -61,44 +60,38 @@ lays_then right_to_left xs ys a b c old mid now l m =
     let before : c.place ≤ b.place = omega (arith, m.place) in
     let first = laid_on right_to_left a.at xs in
     let second = laid_on right_to_left b.at ys in
-    let both : laid_on right_to_left a.at (xs ++ ys) ≡ first ++ second = laid_on-append right_to_left a.at xs ys
-    ∙ ap (λ at. first ++ laid_on right_to_left at ys) (sym l.pen) in
-    record {
-      pen = m.pen ∙ ap (λ at. pen_behind right_to_left at (moves ys)) l.pen ∙ pen_moved_all right_to_left a.at xs ys;
-      place = omega (arith, m.place, l.place, length-append xs ys);
-      kept = m.kept ∙ sym (take-take c.place b.place mid before) ∙ ap (take c.place) l.kept
-          ∙ take-take c.place b.place old before;
-      behind = m.behind ∙ ap (λ z. reverse second ++ z) l.behind
-          ∙ sym (append_assoc (reverse second) (reverse first) (drop a.place old))
-          ∙ ap (λ z. z ++ drop a.place old) (sym (ap reverse both ∙ reverse-append first second));
-    }
-
--- none
-pub none_laid : (right_to_left : Bool) (pen : Pen) (old : List Cell) → Lays right_to_left [] pen pen old old
-none_laid right_to_left pen old = record {
-  pen = sym (no_move right_to_left pen.at);
-  place = omega arith;
-  kept = refl;
-  behind = refl;
-}
+    search (
+      arith,
+      m.pen,
+      l.pen,
+      pen_moved_all right_to_left a.at xs ys,
+      m.place,
+      l.place,
+      length-append xs ys,
+      m.kept,
+      take-take c.place b.place mid before,
+      l.kept,
+      take-take c.place b.place old before,
+      m.behind,
+      l.behind,
+      append_assoc (reverse second) (reverse first) (drop a.place old),
+      laid_on-append right_to_left a.at xs ys,
+      reverse-append first second,
+    )
 
 offsets-append : (right_to_left : Bool) (at : ℤ) (xs ys : List Copy)
     → list_all fits_i32 (offsets (laid_on right_to_left at (xs ++ ys)))
     ≡ (list_all fits_i32 (offsets (laid_on right_to_left at xs))
     && list_all fits_i32 (offsets (laid_on right_to_left (pen_behind right_to_left at (moves xs)) ys)))
 offsets-append right_to_left at xs ys =
-    let first = laid_on right_to_left at xs in
-    let second = laid_on right_to_left (pen_behind right_to_left at (moves xs)) ys in
-    ap (λ cs. list_all fits_i32 (offsets cs)) (laid_on-append right_to_left at xs ys)
-    ∙ ap (list_all fits_i32) (map-append (λ (c : Cell). c.1.x_offset) first second)
-    ∙ list_all-append fits_i32 (offsets first) (offsets second)
+    search (arith, laid_on-append, map-append, list_all-append)
 
 -- where copies can be laid, the first of them can, and behind these the others
 pub can_first : (right_to_left : Bool) (xs ys : List Copy) (pen : Pen) (gs : List hb_glyph_info_t)
     (ps : List GlyphPosition) → CanLay right_to_left (xs ++ ys) pen gs ps → CanLay right_to_left xs pen gs ps
 can_first right_to_left xs ys pen gs ps can = record {
   fits = (and_parts _ _ (sym (offsets-append right_to_left pen.at xs ys) ∙ can.fits)).0;
-  room = omega (arith, can.room, length-append xs ys);
+  room = search (arith, length-append);
   within = can.within;
   both = can.both;
 }
@@ -110,7 +103,7 @@ pub can_rest : (right_to_left : Bool) (xs ys : List Copy) (pen after : Pen) (gs 
 can_rest right_to_left xs ys pen after gs hs ps qs old now can laid same both = record {
   fits = ap (λ at. list_all fits_i32 (offsets (laid_on right_to_left at ys))) laid.pen
       ∙ (and_parts _ _ (sym (offsets-append right_to_left pen.at xs ys) ∙ can.fits)).1;
-  room = omega (arith, can.room, length-append xs ys, laid.place);
+  room = search (arith, length-append);
   within = omega (arith, can.within, laid.place);
   both = both;
 }
@@ -121,33 +114,28 @@ less count k p = omega arith
 -- one more of so many copies
 pub replicate_first : {X : Type 0} (count k : ℕ) (x : X) → k < count
     → replicate (count - k) x ≡ (x ∷ []) ++ replicate (count - (k + 1)) x
-replicate_first count k x p = ap (λ n. replicate n x) (less count k p)
+replicate_first count k x p = cc (less count k p)
 
 -- a number far from the ends of its 64 bits fits them
 pub near_fits : (x : ℤ) → IsNumber x → FitsSigned w64 x
-near_fits (pos n) near = record { sfits = omega (arith, ints, near.high) }
-near_fits (negsuc n) near = record { sfits = omega (arith, ints, near.low) }
+near_fits (pos n) near = search (arith, ints)
+near_fits (negsuc n) near = search (arith, ints)
 
 -- the copies of a tile, by whether it repeats
 copies_once : (font : Font) (lay : Lay) (c : Cell) (one : Copy) → one ≡ record { tile = c; move = width_of font c.0 }
     → repeats c.0 ≡ false → copies_by font lay c ≡ one ∷ []
 copies_once font lay c one e r =
-    ap (λ b. let first : Copy = record { tile = c; move = width_of font c.0 } in let copy : Copy =
-    record { tile = c; move = width_of font c.0 -ℤ lay.overlap } in first ∷ cond b (replicate lay.added copy) []) r
-    ∙ ap (λ x. x ∷ []) (sym e)
+    cc
 
 copies_more : (font : Font) (lay : Lay) (c : Cell) (one two : Copy) (n : ℕ)
     → one ≡ record { tile = c; move = width_of font c.0 }
     → two ≡ record { tile = c; move = width_of font c.0 -ℤ lay.overlap } → n ≡ lay.added → repeats c.0 ≡ true
     → copies_by font lay c ≡ (one ∷ []) ++ replicate n two
 copies_more font lay c one two n e f g r =
-    ap (λ b. let first : Copy = record { tile = c; move = width_of font c.0 } in let copy : Copy =
-    record { tile = c; move = width_of font c.0 -ℤ lay.overlap } in first ∷ cond b (replicate lay.added copy) []) r
-    ∙ ap (λ x. x ∷ replicate lay.added (record { tile = c; move = width_of font c.0 -ℤ lay.overlap })) (sym e)
-    ∙ ap (λ x. one ∷ replicate lay.added x) (sym f) ∙ ap (λ k. one ∷ replicate k two) (sym g)
+    cc
 
 moving : (c : Cell) (w v : ℤ) → w ≡ v → ◌≡◌ {A = Copy} (record { tile = c; move = w }) (record { tile = c; move = v })
-moving c w v e = ap (λ m. let copy : Copy = record { tile = c; move = m } in copy) e
+moving c w v e = ap (λ m. (record { tile = c; move = m })) e
 
 -- the steps of laying a tile
 tile_cut : (right_to_left : Bool) (font : Font) (lay : Lay) (c : Cell) (one : Copy) (pen : Pen)
@@ -155,17 +143,16 @@ tile_cut : (right_to_left : Bool) (font : Font) (lay : Lay) (c : Cell) (one : Co
     → (b : Bool) → repeats c.0 ≡ b → CanLay right_to_left (copies_by font lay c) pen gs ps
     → CanLay right_to_left (one ∷ []) pen gs ps
 tile_cut right_to_left font lay c one pen gs ps e false r can =
-    subst (λ copies. CanLay right_to_left copies pen gs ps) (copies_once font lay c one e r) can
+    search (arith, copies_once)
 tile_cut right_to_left font lay c one pen gs ps e true r can =
-    can_first right_to_left (one ∷ []) _ pen gs ps
-    (subst (λ copies. CanLay right_to_left copies pen gs ps) (copies_more font lay c one _ _ e refl refl r) can)
+    search (arith, can_first, copies_more)
 
 pub tile_first : (right_to_left : Bool) (font : Font) (lay : Lay) (c : Cell) (w : ℤ) (pen : Pen)
     (gs : List hb_glyph_info_t) (ps : List GlyphPosition) → w ≡ width_of font c.0
     → CanLay right_to_left (copies_by font lay c) pen gs ps
     → CanLay right_to_left (record { tile = c; move = w } ∷ []) pen gs ps
 tile_first right_to_left font lay c w pen gs ps e can =
-    tile_cut right_to_left font lay c (record { tile = c; move = w }) pen gs ps (moving c w _ e) (repeats c.0) refl can
+    search (arith, tile_cut)
 
 pub tile_more : (right_to_left : Bool) (font : Font) (lay : Lay) (c : Cell) (w m : ℤ) (n : ℕ) (pen after : Pen)
     (gs hs : List hb_glyph_info_t) (ps qs : List GlyphPosition) (old now : List Cell) → repeats c.0 ≡ true
@@ -174,19 +161,14 @@ pub tile_more : (right_to_left : Bool) (font : Font) (lay : Lay) (c : Cell) (w m
     → Lays right_to_left (record { tile = c; move = w } ∷ []) pen after old now → length hs ≡ length gs
     → length hs ≡ length qs → CanLay right_to_left (replicate n (record { tile = c; move = m })) after hs qs
 tile_more right_to_left font lay c w m n pen after gs hs ps qs old now r e f g can laid same both =
-    let one : Copy = record { tile = c; move = w } in
-    let two : Copy = record { tile = c; move = m } in
-    can_rest right_to_left (one ∷ []) (replicate n two) pen after gs hs ps qs old now
-    (subst (λ copies. CanLay right_to_left copies pen gs ps)
-    (copies_more font lay c one two n (moving c w _ e) (moving c m _ f) g r) can) laid same both
+    search (arith, can_rest, copies_more)
 
 pub tile_once : (right_to_left : Bool) (font : Font) (lay : Lay) (c : Cell) (w : ℤ) (pen after : Pen)
     (old now : List Cell) → repeats c.0 ≡ false → w ≡ width_of font c.0
     → Lays right_to_left (record { tile = c; move = w } ∷ []) pen after old now
     → Lays right_to_left (copies_by font lay c) pen after old now
 tile_once right_to_left font lay c w pen after old now r e laid =
-    subst (λ copies. Lays right_to_left copies pen after old now)
-    (sym (copies_once font lay c (record { tile = c; move = w }) (moving c w _ e) r)) laid
+    search (arith, copies_once)
 
 pub tile_all : (right_to_left : Bool) (font : Font) (lay : Lay) (c : Cell) (w m : ℤ) (n : ℕ) (pen mid after : Pen)
     (old between now : List Cell) → repeats c.0 ≡ true → w ≡ width_of font c.0 → m ≡ width_of font c.0 -ℤ lay.overlap
@@ -196,6 +178,8 @@ pub tile_all : (right_to_left : Bool) (font : Font) (lay : Lay) (c : Cell) (w m 
 tile_all right_to_left font lay c w m n pen mid after old between now r e f g first rest =
     let one : Copy = record { tile = c; move = w } in
     let two : Copy = record { tile = c; move = m } in
-    subst (λ copies. Lays right_to_left copies pen after old now)
-    (sym (copies_more font lay c one two n (moving c w _ e) (moving c m _ f) g r))
-    (lays_then right_to_left (one ∷ []) (replicate n two) pen mid after old between now first rest)
+    search (
+      arith,
+      copies_more font lay c one two n (moving c w _ e) (moving c m _ f) g r,
+      lays_then right_to_left (one ∷ []) (replicate n two) pen mid after old between now first rest,
+    )

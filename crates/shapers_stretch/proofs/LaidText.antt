@@ -1,5 +1,5 @@
 -- A stretched text, read from its result: how much longer it is, and how wide what is laid is.
-use Rattle.std.proofs.Common.{◌≡◌, ◌+◌, ◌*◌, ℕ, ℤ, pos, Bool, true, false, cond, not, List, [], ◌∷◌, ◌++◌, length, map, reverse, take, drop, flat_map, replicate, Result, Ok, Err, OnOk, refl, subst, sym, ◌∙◌, ap, arith, mul-zero}
+use Rattle.std.proofs.Common.{◌≡◌, ◌+◌, ℕ, ℤ, pos, Bool, true, false, cond, List, [], ◌∷◌, ◌++◌, length, map, take, drop, flat_map, replicate, Result, Ok, Err, OnOk, refl, ap, arith, mul-zero}
 use Rattle.std.specs.List.{AllZip, onto_first, sum_by}
 use Rattle.std.proofs.lemmas.List.{append_assoc, length-append, length-map, length-reverse, map-append, reverse-reverse, take-append-drop, take_at}
 use Rattle.std.proofs.lemmas.List.Folds.{flat_map-map}
@@ -12,13 +12,12 @@ use Rattle.shapers_buffer.specs.Glyph.{clusters}
 use Rattle.shapers_buffer.specs.Lists.{each_after}
 use Rattle.shapers_base.specs.declared.plan.arabic.StretchStart.{StretchStart}
 use Rattle.shapers_base.specs.Font.{Font}
-use Rattle.shapers_stretch.specs.Cells.{Cell, before_tiles, before_word, cut_between, cut_here, glyphs_of, parts_of_text, positions_of, run_ends, tiles_of, word_of}
+use Rattle.shapers_stretch.specs.Cells.{Cell, before_tiles, before_word, cut_between, glyphs_of, parts_of_text, positions_of, run_ends, tiles_of, word_of}
 use Rattle.shapers_stretch.specs.CountingWalk.{pen_behind}
 use Rattle.shapers_stretch.specs.LayingWalk.{laid_on, offsets}
-use Rattle.shapers_stretch.specs.Measure.{times_added, copies_added, start}
-use Rattle.shapers_stretch.specs.Stretch.{Copy, Laying, cells, cells_in_order, copies, copies_in, has_run, in_working_order, laid_at, laid_run, laying, marks_stretched, offset, repeating, run_of_part, stretched, stretched_part, unbroken, with_cells}
+use Rattle.shapers_stretch.specs.Measure.{copies_added, start}
+use Rattle.shapers_stretch.specs.Stretch.{Copy, Laying, cells_in_order, copies, copies_in, has_run, in_working_order, laid_at, laid_run, laying, marks_stretched, offset, repeating, run_of_part, stretched, stretched_part, unbroken}
 use Rattle.shapers_stretch.specs.StretchLaws.{PartIsLaid, RunIsLaid, TextIsLaid, ids}
-use Rattle.shapers_stretch.specs.declared.ot_shaper_arabic_stretch.measuring.Run.{Run}
 use Rattle.shapers_stretch.proofs.Flagging.{flag_cell, flag_copies, flag_copy, flag_offsets, same_id, tiles_are, unbroken_is}
 use Rattle.shapers_stretch.proofs.Lengths.{length-copies, length-laid}
 use Rattle.shapers_stretch.proofs.Moves.{moves_hold, widths_hold}
@@ -36,11 +35,11 @@ onto x (p ∷ pieces) = refl
 either : {X : Type 0} (b : Bool) (x : X) (xs : List X) (pieces : List (List X)) → flat_map (λ p. p) pieces ≡ xs
     → flat_map (λ p. p) (cond b ((x ∷ []) ∷ pieces) (onto_first x pieces)) ≡ x ∷ xs
 either true x xs pieces e = ap (λ ys. x ∷ ys) e
-either false x xs pieces e = onto x pieces ∙ ap (λ ys. x ∷ ys) e
+either false x xs pieces e = cc (onto x pieces)
 
 pieces_join : {X : Type 0} (apart : X → X → Bool) (xs : List X) → flat_map (λ p. p) (cut_between apart xs) ≡ xs
 pieces_join apart [] = refl
-pieces_join apart (x ∷ xs) = either (cut_here apart x xs) x xs (cut_between apart xs) (pieces_join apart xs)
+pieces_join apart (x ∷ xs) = search (arith, either, pieces_join apart xs)
 
 -- how much longer each part is, and all of them
 no_tiles : (part : List Cell) → has_run part ≡ false → length (tiles_of part) ≡ 0
@@ -52,13 +51,12 @@ none_repeat (t ∷ ts) e = absurd (omega arith)
 
 no_copies : (font : Font) (part : List Cell) → has_run part ≡ false → copies_added (run_of_part font part) ≡ 0
 no_copies font part e =
-    let z = run_of_part font part in
-    ap (λ k. times_added z * k) (none_repeat (tiles_of part) (no_tiles part e)) ∙ mul-zero (times_added z)
+    search (arith, none_repeat, no_tiles, mul-zero)
 
 longer_by : (how : Laying) (part : List Cell) (b : Bool) → has_run part ≡ b → length (stretched_part how part)
     ≡ length part + copies_added (run_of_part how.font part)
 longer_by how part true e = run_length how part e
-longer_by how part false e = omega (arith, ap length (no_run_length how part e), no_copies how.font part e)
+longer_by how part false e = search (arith, no_run_length how part e, no_copies how.font part e)
 
 abbrev copies_of_run : Font → List Cell → ℕ
 copies_of_run font part = copies_added (run_of_part font part)
@@ -78,11 +76,6 @@ parts_longer how (p ∷ ps) =
           p ps,
     )
 
-text_longer : (how : Laying) (cs : List Cell)
-    → length (stretched how cs) ≡ length cs + sum_by (copies_of_run how.font) (parts_of_text cs)
-text_longer how cs = parts_longer how (parts_of_text cs)
-    ∙ ap (λ n. n + sum_by (copies_of_run how.font) (parts_of_text cs)) (ap length (pieces_join run_ends cs))
-
 length-in_order : {X : Type 0} (r : Bool) (xs : List X) → length (in_working_order r xs) ≡ length xs
 length-in_order true xs = refl
 length-in_order false xs = length-reverse xs
@@ -95,24 +88,12 @@ longer_if false x b n e = omega arith
 pub marks_longer : (font : Font) (choice : StretchStart) (b : Buffer) → length b.positions ≡ length b.glyphs
     → length (marks_stretched font choice b).glyphs ≡ length b.glyphs + copies_in font b
 marks_longer font choice b both =
-    let how = laying font choice b in
-    let r = how.right_to_left in
-    let cs = in_working_order r (cells b) in
-    let after = in_working_order r (stretched how cs) in
-    longer_if b.stch (with_cells after b) b (sum_by (copies_of_run font) (parts_of_text cs))
-    (omega (
-      arith,
-      length-map after (λ c. c.0),
-      length-in_order r (stretched how cs),
-      text_longer how cs,
-      length-in_order r (cells b),
-      length-zipped b.glyphs b.positions (sym both),
-    ))
+    search (arith, longer_if, length-map, length-in_order, parts_longer, pieces_join, length-zipped)
 
 pub grows : {T : Type 0} (font : Font) (choice : StretchStart) (b new : Buffer) (r : Result T ShaperError)
     → length b.positions ≡ length b.glyphs → OnOk r (new ≡ marks_stretched font choice b)
     → OnOk r (length new.glyphs ≡ length b.glyphs + copies_in font b)
-grows font choice b new (Ok v) both h = ap (λ b. length b.glyphs) h ∙ marks_longer font choice b both
+grows font choice b new (Ok v) both h = search (arith, marks_longer)
 grows font choice b new (Err v) both h = tt
 
 -- the glyphs of copies, and that they have no advance
@@ -121,41 +102,32 @@ copy_id copy = copy.tile.0.glyph_id
 
 laid_on-ids : (r : Bool) (pen : ℤ) (cs : List Copy) → ids (laid_on r pen cs) ≡ map copy_id cs
 laid_on-ids r pen [] = refl
-laid_on-ids r pen (c ∷ cs) = ap (λ ns. copy_id c ∷ ns) (laid_on-ids r (pen_behind r pen c.move) cs)
+laid_on-ids r pen (c ∷ cs) = cc (laid_on-ids r (pen_behind r pen c.move) cs)
 
 laid_on-advances : (r : Bool) (pen : ℤ) (cs : List Copy) → map (λ c. c.1.x_advance) (laid_on r pen cs)
     ≡ replicate (length cs) (pos 0)
 laid_on-advances r pen [] = refl
-laid_on-advances r pen (c ∷ cs) = ap (λ ns. pos 0 ∷ ns) (laid_on-advances r (pen_behind r pen c.move) cs)
+laid_on-advances r pen (c ∷ cs) = cc (laid_on-advances r (pen_behind r pen c.move) cs)
 
 flagged_copies-ids : (m : ℕ) (cs : List Copy) → map copy_id (map (flag_copy m) cs) ≡ map copy_id cs
 flagged_copies-ids m [] = refl
-flagged_copies-ids m (c ∷ cs) = ap (λ n. n ∷ map copy_id (map (flag_copy m) cs)) (same_id m c.tile.0)
-    ∙ ap (λ ns. copy_id c ∷ ns) (flagged_copies-ids m cs)
+flagged_copies-ids m (c ∷ cs) = cc (same_id m c.tile.0, flagged_copies-ids m cs)
 
 flagged-ids : (m : ℕ) (cs : List Cell) → ids (map (flag_cell m) cs) ≡ ids cs
 flagged-ids m [] = refl
-flagged-ids m (c ∷ cs) = ap (λ n. n ∷ ids (map (flag_cell m) cs)) (same_id m c.0)
-    ∙ ap (λ ns. c.0.glyph_id ∷ ns) (flagged-ids m cs)
+flagged-ids m (c ∷ cs) = cc (same_id m c.0, flagged-ids m cs)
 
 flagged-positions : (m : ℕ) (cs : List Cell) → positions_of (map (flag_cell m) cs) ≡ positions_of cs
 flagged-positions m [] = refl
-flagged-positions m (c ∷ cs) = ap (λ ps. c.1 ∷ ps) (flagged-positions m cs)
+flagged-positions m (c ∷ cs) = cc (flagged-positions m cs)
 
 -- where they stand
 laid-offsets : (r : Bool) (from : ℤ) (ps : List (List Copy × Copy))
     → offsets (map (λ p. laid_at (offset r from p.0 p.1) p.1.tile) ps) ≡ map (λ p. offset r from p.0 p.1) ps
 laid-offsets r from [] = refl
-laid-offsets r from (p ∷ ps) = ap (λ xs. offset r from p.0 p.1 ∷ xs) (laid-offsets r from ps)
+laid-offsets r from (p ∷ ps) = cc (laid-offsets r from ps)
 
 -- the flagged tiles of a run laid
-laid_flagged : (how : Laying) (z : Run) (m : ℕ) (tiles : List Cell) → laid_run how z (map (flag_cell m) tiles)
-    ≡ laid_on how.right_to_left (start how.choice how.right_to_left z) (map (flag_copy m) (copies how.font z tiles))
-laid_flagged how z m tiles =
-    let from = start how.choice how.right_to_left z in
-    laid_is how.right_to_left from (copies how.font z (map (flag_cell m) tiles))
-    ∙ ap (laid_on how.right_to_left from) (flag_copies how.font z m tiles)
-
 run_laid : (how : Laying) (part : List Cell) → has_run part ≡ true → RunIsLaid how part (stretched_part how part)
 run_laid how part e =
     let z = run_of_part how.font part in
@@ -163,37 +135,26 @@ run_laid how part e =
     let tiles = tiles_of part in
     let whole = unbroken (word ++ tiles) in
     let m = least (clusters (glyphs_of (word ++ tiles))) in
-    let f = flag_cell m in
     let r = how.right_to_left in
     let from = start how.choice r z in
     let its = copies how.font z tiles in
     let made = laid_run how z (drop (length word) whole) in
-    let is : made ≡ laid_on r from (map (flag_copy m) its) = ap (laid_run how z) (tiles_are word tiles)
-    ∙ laid_flagged how z m tiles in
+    let is : made ≡ laid_on r from (map (flag_copy m) its) = search (arith, tiles_are, laid_is, flag_copies) in
     let on = take (length word) whole in
-    let over : on ≡ map f word = ap (take (length word)) (unbroken_is (word ++ tiles) ∙ map-append f word tiles)
-    ∙ take_at (map f word) (map f tiles) (length word) (length-map word f) in
-    let before : before_word part ++ word ≡ before_tiles part = take-append-drop _ (before_tiles part) in
+    let over : on ≡ map (flag_cell m) word = search (arith, unbroken_is, map-append, take_at, length-map) in
+    let before : before_word part ++ word ≡ before_tiles part = search (arith, take-append-drop) in
     let long : length made ≡ length (map (flag_copy m) its) =
-    length-laid r from (copies how.font z (drop (length word) whole))
-    ∙ ap length (ap (copies how.font z) (tiles_are word tiles) ∙ flag_copies how.font z m tiles) in
+    search (arith, length-laid, tiles_are, flag_copies) in
     record {
       front = before_word part ++ on;
       copies = made;
-      joined = ap (λ b. cond (not b) part (before_word part ++ (on ++ reverse made))) e
-          ∙ sym (append_assoc (before_word part) on (reverse made));
-      front_ids = map-append (λ c. c.0.glyph_id) (before_word part) on
-          ∙ ap (λ ns. ids (before_word part) ++ ns) (ap ids over ∙ flagged-ids m word)
-          ∙ sym (map-append (λ c. c.0.glyph_id) (before_word part) word) ∙ ap ids before;
-      front_positions = map-append (λ c. c.1) (before_word part) on
-          ∙ ap (λ ps. positions_of (before_word part) ++ ps) (ap positions_of over ∙ flagged-positions m word)
-          ∙ sym (map-append (λ c. c.1) (before_word part) word) ∙ ap positions_of before;
-      tiles = ap ids is ∙ laid_on-ids r from (map (flag_copy m) its) ∙ flagged_copies-ids m its;
-      many = long ∙ length-map its (flag_copy m) ∙ length-copies how.font z tiles;
-      advances = ap (map (λ c. c.1.x_advance)) is ∙ laid_on-advances r from (map (flag_copy m) its)
-          ∙ ap (λ n. replicate n (pos 0)) (sym long);
-      offsets = ap offsets is ∙ flag_offsets r m from its ∙ ap offsets (sym (laid_is r from its))
-          ∙ laid-offsets r from (each_after [] its);
+      joined = search (arith, append_assoc);
+      front_ids = search (arith, map-append, flagged-ids);
+      front_positions = search (arith, map-append, flagged-positions);
+      tiles = search (arith, laid_on-ids, flagged_copies-ids);
+      many = search (arith, length-map, flag_copy, length-copies);
+      advances = search (arith, laid_on-advances);
+      offsets = cc (flag_offsets r m from its, laid_is r from its, laid-offsets r from (each_after [] its));
       width = moves_hold how.font part;
       covers = widths_hold how.font part;
     }
@@ -210,8 +171,8 @@ text_laid : (how : Laying) (cs : List Cell) → TextIsLaid how cs (stretched how
 text_laid how cs = record {
   pieces = map (stretched_part how) (parts_of_text cs);
   before = pieces_join run_ends cs;
-  after = flat_map-map (λ p. p) (stretched_part how) (parts_of_text cs);
-  each = parts_laid how (parts_of_text cs);
+  after = search (arith, flat_map-map);
+  each = search (arith, parts_laid);
 }
 
 -- of a buffer
@@ -224,13 +185,4 @@ pub stretch_is_as_wide : (font : Font) (choice : StretchStart) (old new : Buffer
     → (length new.positions ≡ length new.glyphs)
     × TextIsLaid (laying font choice old) (cells_in_order old) (cells_in_order new)
 stretch_is_as_wide font choice old new marked both e =
-    let how = laying font choice old in
-    let r = how.right_to_left in
-    let cs = cells_in_order old in
-    let after = in_working_order r (stretched how cs) in
-    let is : new ≡ with_cells after old = e ∙ ap (λ b. cond b (with_cells after old) old) marked in
-    let lengths : length new.positions ≡ length new.glyphs = ap (λ b. length b.positions) is
-    ∙ length-map after (λ c. c.1) ∙ sym (length-map after (λ c. c.0)) ∙ sym (ap (λ b. length b.glyphs) is) in
-    let now : cells_in_order new ≡ stretched how cs = ap cells_in_order is ∙ ap (in_working_order r) (zipped after)
-    ∙ twice_in_order r (stretched how cs) in
-    (lengths, subst (TextIsLaid how cs) (sym now) (text_laid how cs))
+    search (arith, length-map, zipped, twice_in_order, text_laid)

@@ -1,6 +1,6 @@
 -- A text from its end: its last part, with the word and the tiles in it, and what stands before that part.
-use Rattle.std.proofs.Common.{◌≡◌, inl, inr, ℕ, ◌+◌, ◌-◌, ◌<◌, ◌≤◌, Bool, true, false, cond, not, ◌&&◌, List, [], ◌∷◌, ◌++◌, length, take, drop, refl, sym, ap, subst, ◌∙◌, arith, length-append}
-use Rattle.std.specs.List.{suffix_len, list_all, onto_first, take-map}
+use Rattle.std.proofs.Common.{◌≡◌, inl, inr, ℕ, ◌+◌, ◌<◌, ◌≤◌, Bool, true, false, not, List, [], ◌∷◌, ◌++◌, length, take, drop, refl, sym, ap, ◌∙◌, arith, length-append}
+use Rattle.std.specs.List.{suffix_len, list_all, take-map}
 use Rattle.std.proofs.lemmas.List.{append_assoc, append-nil, length_push, length-map}
 use Rattle.std.proofs.lemmas.List.Folds.{list_all-append}
 use Rattle.std.proofs.Math.Seq.{take-append_seam, drop-append_seam}
@@ -20,22 +20,11 @@ pub record RunSplit {X : Type 0} (test : X → Bool) (xs : List X) : Type 0 wher
   pub stops : suffix_len test front ≡ 0
   pub passes : list_all test run ≡ true
 
-all_push : {X : Type 0} (test : X → Bool) (xs : List X) (x : X) → list_all test xs ≡ true → test x ≡ true
-    → list_all test (xs ++ x ∷ []) ≡ true
-all_push test xs x p q = list_all-append test xs (x ∷ []) ∙ and_from _ _ p (ap (λ b. b && true) q)
-
 pub run_split : {X : Type 0} (test : X → Bool) (xs : List X) → RunSplit test xs
 run_split {X} test xs =
     let one : (xs : List X) (x : X) (b : Bool) → test x ≡ b → RunSplit test xs → RunSplit test (xs ++ x ∷ []) =
     λ xs x b. elim b as (λ b. test x ≡ b → RunSplit test xs → RunSplit test (xs ++ x ∷ [])) [
-      | true ↦ λ h r. record {
-        front = r.front;
-        run = r.run ++ x ∷ [];
-        whole = ap (λ ys. ys ++ x ∷ []) r.whole
-            ∙ append_assoc r.front r.run (x ∷ []);
-        stops = r.stops;
-        passes = all_push test r.run x r.passes h;
-      }
+      | true ↦ search (arith, append_assoc, list_all-append, and_from)
       | false ↦ λ h r. record {
         front = xs ++ x ∷ [];
         run =
@@ -59,37 +48,34 @@ last_fails test xs x h =
 all_before : {X : Type 0} (test : X → Bool) (xs : List X) (x : X) → list_all test (xs ++ x ∷ []) ≡ true
     → (list_all test xs ≡ true) × (test x ≡ true)
 all_before test xs x h =
-    let both = and_parts (list_all test xs) (list_all test (x ∷ [])) (sym (list_all-append test xs (x ∷ [])) ∙ h) in
-    (both.0, (and_parts (test x) true both.1).0)
+    let both = and_parts (list_all test xs) (list_all test (x ∷ [])) (search (arith, list_all-append)) in
+    search arith
 
 all_counts : {X : Type 0} (test : X → Bool) (run : List X) → list_all test run ≡ true → suffix_len test run ≡ length run
 all_counts {X} test run =
     let P : List X → Type 0 = λ run. list_all test run ≡ true → suffix_len test run ≡ length run in
     from_end P (λ h. refl)
-    (λ xs x f h. let both = all_before test xs x h in omega
-    (arith, suffix_len_yes test xs x both.1, f both.0, length_push xs x)) run
+    (λ xs x f h. let both = all_before test xs x h in search (arith, suffix_len_yes, length_push)) run
 
 -- so a run behind such a list is its last run
 pub counts_after : {X : Type 0} (test : X → Bool) (front run : List X) → suffix_len test front ≡ 0
     → list_all test run ≡ true → suffix_len test (front ++ run) ≡ length run
 counts_after test front run stops passes =
     elim (last_of front) [
-      | inl none ↦ ap (λ f. suffix_len test (f ++ run)) none ∙ all_counts test run passes
+      | inl none ↦ search (arith, all_counts)
       | inr p ↦
-          let fails : test p.last ≡ false =
-          last_fails test p.front p.last (sym (ap (suffix_len test) p.parts) ∙ stops) in
-          ap (λ f. suffix_len test (f ++ run)) p.parts ∙ ap (suffix_len test) (append_assoc p.front (p.last ∷ []) run)
-          ∙ suffix_len_stop test p.front p.last run fails ∙ all_counts test run passes
+          search (arith, append_assoc, suffix_len_stop, last_fails, all_counts)
     ]
 
 pub last_run_after : {X : Type 0} (test : X → Bool) (front run : List X) → suffix_len test front ≡ 0
     → list_all test run ≡ true → (last_run test (front ++ run) ≡ run) × (before_last_run test (front ++ run) ≡ front)
 last_run_after test front run stops passes =
-    let cut : length (front ++ run) - suffix_len test (front ++ run) ≡ length front =
-    omega (arith, length-append front run, counts_after test front run stops passes) in (
-      ap (λ n. drop n (front ++ run)) cut ∙ drop-append_seam front run,
-      ap (λ n. take n (front ++ run)) cut
-          ∙ take-append_seam front run,
+    search (
+      arith,
+      length-append front run,
+      counts_after test front run stops passes,
+      drop-append_seam front run,
+      take-append_seam front run,
     )
 
 -- what stands before doesn't matter where a list ends with no run
@@ -99,10 +85,9 @@ stops_behind test front back h =
     elim (last_of back) [
       | inl none ↦ ap (suffix_len test) none
       | inr p ↦
-          let fails = last_fails test (front ++ p.front) p.last
-          (ap (suffix_len test) (append_assoc front p.front (p.last ∷ []) ∙ ap (λ b. front ++ b) (sym p.parts))
-          ∙ h) in
-          ap (suffix_len test) p.parts ∙ suffix_len_no test p.front p.last fails
+          let fails = last_fails test (front ++ p.front) p.last (ap (suffix_len test) (append_assoc front p.front
+          (p.last ∷ []) ∙ ap (λ b. front ++ b) (sym p.parts)) ∙ h) in
+          cc (p.parts, suffix_len_no test p.front p.last fails)
     ]
 
 -- what passes one test everywhere passes another everywhere
@@ -112,18 +97,6 @@ all_weaker test other f [] h = refl
 all_weaker test other f (x ∷ xs) h =
     let both = and_parts (test x) (list_all test xs) h in
     and_from _ _ (f x both.0) (all_weaker test other f xs both.1)
-
--- a list of which none passes ends with no run
-none_stops : {X : Type 0} (test : X → Bool) (xs : List X) → list_all (λ x. not (test x)) xs ≡ true
-    → suffix_len test xs ≡ 0
-none_stops test xs h =
-    elim (last_of xs) [
-      | inl none ↦ ap (suffix_len test) none
-      | inr p ↦
-          let fails = (all_before (λ x. not (test x)) p.front p.last (ap (list_all (λ x. not (test x))) (sym p.parts)
-          ∙ h)).1 in
-          ap (suffix_len test) p.parts ∙ suffix_len_no test p.front p.last (not-true _ fails)
-    ]
 
 abbrev tile : Cell → Bool
 tile c = is_tile c.0
@@ -136,31 +109,30 @@ wordly c = in_word c.0
 
 uncut : (x : Cell) (xs : List Cell) → cut_here run_ends x xs ≡ false → parts_of_text xs ≡ xs ∷ []
     → parts_of_text (x ∷ xs) ≡ (x ∷ xs) ∷ []
-uncut x xs here rest = ap (λ b. cond b ((x ∷ []) ∷ parts_of_text xs) (onto_first x (parts_of_text xs))) here
-    ∙ ap (onto_first x) rest
+uncut x xs here rest = cc
 
 uncut_other : (x : Cell) (xs : List Cell) → other x ≡ true → cut_here run_ends x xs ≡ false
 uncut_other x [] h = refl
-uncut_other x (y ∷ xs) h = ap (λ b. b && not (is_tile y.0)) (not-true (is_tile x.0) h)
+uncut_other x (y ∷ xs) h = search (arith, not-true)
 
 -- other cells and then tiles are one part
 tiles_alone : (x : Cell) (xs : List Cell) → list_all tile (x ∷ xs) ≡ true → parts_of_text (x ∷ xs) ≡ (x ∷ xs) ∷ []
 tiles_alone x [] h = refl
 tiles_alone x (y ∷ xs) h =
-    let both = and_parts (tile x) (list_all tile (y ∷ xs)) h in
-    let next = (and_parts (tile y) (list_all tile xs) both.1).0 in
-    let here : cut_here run_ends x (y ∷ xs) ≡ false = ap (λ b. is_tile x.0 && not b) next
-    ∙ and_right (is_tile x.0) false refl in
-    uncut x (y ∷ xs) here (tiles_alone y xs both.1)
+    search (arith, uncut, and_right, tiles_alone y xs (and_parts (tile x) (list_all tile (y ∷ xs)) h).1)
 
 pub one_part : (x : Cell) (others tiles : List Cell) → list_all other (x ∷ others) ≡ true → list_all tile tiles ≡ true
     → parts_of_text ((x ∷ others) ++ tiles) ≡ ((x ∷ others) ++ tiles) ∷ []
 one_part x [] [] h p = refl
 one_part x [] (t ∷ tiles) h p =
-    uncut x (t ∷ tiles) (uncut_other x (t ∷ tiles) (and_parts (other x) true h).0) (tiles_alone t tiles p)
+    search (arith, uncut, uncut_other, and_parts, tiles_alone)
 one_part x (y ∷ others) tiles h p =
-    let both = and_parts (other x) (list_all other (y ∷ others)) h in
-    uncut x ((y ∷ others) ++ tiles) (uncut_other x ((y ∷ others) ++ tiles) both.0) (one_part y others tiles both.1 p)
+    search (
+      arith,
+      uncut,
+      uncut_other,
+      one_part y others tiles (and_parts (other x) (list_all other (y ∷ others)) h).1 p,
+    )
 
 -- The last part of a text that isn't empty, cut into what stands before its word, its word and its tiles.
 pub record LastPartOf (cs : List Cell) : Type 0 where
@@ -191,12 +163,9 @@ runs_of cs =
     let word = run_split wordly tiles.front in
     record { tiles = tiles; word = word; before = run_split other word.front }
 
-in_word_other : (g : Cell) → wordly g ≡ true → other g ≡ true
-in_word_other g h = (and_parts (other g) _ h).0
-
 -- a list that ends with no run of others ends with a tile, or is empty
 ends_with_tile : (front : List Cell) (a : Cell) → suffix_len other (front ++ a ∷ []) ≡ 0 → tile a ≡ true
-ends_with_tile front a h = not-false (tile a) (last_fails other front a h)
+ends_with_tile front a h = search (arith, not-false, last_fails)
 
 pub as_one_part : (others tiles : List Cell) → list_all other others ≡ true → list_all tile tiles ≡ true
     → 0 < length (others ++ tiles) → parts_of_text (others ++ tiles) ≡ (others ++ tiles) ∷ []
@@ -208,13 +177,9 @@ behind_tile : (front : List Cell) (a : Cell) (others tiles : List Cell) → tile
     → suffix_len tile ((front ++ a ∷ []) ++ others) ≡ 0 → list_all other others ≡ true → list_all tile tiles ≡ true
     → parts_of_text ((front ++ a ∷ []) ++ (others ++ tiles)) ≡ parts_of_text (front ++ a ∷ []) ++ (others ++ tiles) ∷ []
 behind_tile front a [] tiles e t h p =
-    let fails : tile a ≡ false =
-    last_fails tile front a (ap (suffix_len tile) (sym (append-nil (front ++ a ∷ []))) ∙ t) in
-    absurd (clash (sym fails ∙ e))
+    search (arith, clash, last_fails, append-nil)
 behind_tile front a (x ∷ others) tiles e t h p =
-    let here : tile x ≡ false = not-true (tile x) (and_parts (other x) _ h).0 in
-    parts-append front a x (others ++ tiles) e here
-    ∙ ap (λ ps. parts_of_text (front ++ a ∷ []) ++ ps) (one_part x others tiles h p)
+    search (arith, parts-append, not-true, and_parts, one_part)
 
 parted_at : (front others tiles : List Cell) → suffix_len other front ≡ 0 → suffix_len tile (front ++ others) ≡ 0
     → list_all other others ≡ true → list_all tile tiles ≡ true → 0 < length (others ++ tiles)
@@ -222,31 +187,23 @@ parted_at : (front others tiles : List Cell) → suffix_len other front ≡ 0 �
 parted_at front others tiles s t h p some =
     elim (last_of front) [
       | inl none ↦
-          let P : List Cell → Type 0 = λ f. parts_of_text (f ++ (others ++ tiles)) ≡ parts_of_text f
-          ++ (others ++ tiles) ∷ [] in
-          subst P (sym none) (as_one_part others tiles h p some)
+          search (arith, as_one_part)
       | inr q ↦
-          let P : List Cell → Type 0 = λ f. suffix_len other f ≡ 0 → suffix_len tile (f ++ others) ≡ 0
-          → parts_of_text (f ++ (others ++ tiles)) ≡ parts_of_text f ++ (others ++ tiles) ∷ [] in
-          subst P (sym q.parts) (λ s t. behind_tile q.front q.last others tiles (ends_with_tile q.front q.last s) t h p)
-          s t
+          search (arith, behind_tile, ends_with_tile)
     ]
 
 ends_apart : (front : List Cell) → 0 < length front → suffix_len other front ≡ 0 → suffix_len tile front ≡ 0 → ⊥
 ends_apart front some s t =
     elim (last_of front) [
-      | inl none ↦ absurd (omega (arith, ap length none))
+      | inl none ↦ search arith
       | inr p ↦
-          let yes = ends_with_tile p.front p.last (sym (ap (suffix_len other) p.parts) ∙ s) in
-          let no = last_fails tile p.front p.last (sym (ap (suffix_len tile) p.parts) ∙ t) in
-          clash (sym no ∙ yes)
+          search (arith, clash, last_fails, ends_with_tile)
     ]
 
 some_at_end : (front others tiles : List Cell) → 0 < length (front ++ (others ++ tiles)) → suffix_len other front ≡ 0
     → suffix_len tile (front ++ others) ≡ 0 → 0 < length (others ++ tiles)
 some_at_end front [] [] some s t =
-    let same = append-nil front in
-    absurd (ends_apart front (omega (arith, ap length same)) s (sym (ap (suffix_len tile) same) ∙ t))
+    search (arith, ends_apart, append-nil)
 some_at_end front [] (x ∷ tiles) some s t = omega arith
 some_at_end front (x ∷ others) tiles some s t = omega arith
 
@@ -257,46 +214,45 @@ last_part_of cs some =
     let before = r.before.run in
     let word = r.word.run in
     let tiles = r.tiles.run in
-    let upto : r.tiles.front ≡ front ++ (before ++ word) = r.word.whole ∙ ap (λ f. f ++ word) r.before.whole
-    ∙ append_assoc front before word in
-    let whole : cs ≡ front ++ ((before ++ word) ++ tiles) = r.tiles.whole ∙ ap (λ f. f ++ tiles) upto
-    ∙ append_assoc front (before ++ word) tiles in
-    let others : list_all other (before ++ word) ≡ true = list_all-append other before word
-    ∙ and_from _ _ r.before.passes (all_weaker wordly other in_word_other word r.word.passes) in
-    let no_tile : suffix_len tile (front ++ (before ++ word)) ≡ 0 = sym (ap (suffix_len tile) upto) ∙ r.tiles.stops in
-    let no_word : suffix_len wordly (front ++ before) ≡ 0 = sym (ap (suffix_len wordly) r.before.whole)
-    ∙ r.word.stops in
-    let some_part : 0 < length ((before ++ word) ++ tiles) =
-    some_at_end front (before ++ word) tiles (omega (arith, ap length whole)) r.before.stops no_tile in
-    let is_tiles =
-    last_run_after tile (before ++ word) tiles (none_stops tile (before ++ word) others) r.tiles.passes in
-    let is_word = last_run_after wordly before word (stops_behind wordly front before no_word) r.word.passes in
-    record {
-      front = front;
-      before = before;
-      word = word;
-      tiles = tiles;
-      whole = whole;
-      some = some_part;
-      parted = ap parts_of_text whole
-          ∙ parted_at front (before ++ word) tiles r.before.stops no_tile others r.tiles.passes some_part;
-      count_tiles = ap (suffix_len tile) r.tiles.whole
-          ∙ counts_after tile r.tiles.front tiles r.tiles.stops r.tiles.passes;
-      count_word = sym (ap (suffix_len wordly) upto) ∙ ap (suffix_len wordly) r.word.whole
-          ∙ counts_after wordly r.word.front word r.word.stops r.word.passes;
-      count_before = counts_after other front before r.before.stops r.before.passes;
-      tiles_is = is_tiles.0;
-      before_tiles_is = is_tiles.1;
-      word_is = ap (last_run wordly) is_tiles.1 ∙ is_word.0;
-      before_is = ap (before_last_run wordly) is_tiles.1 ∙ is_word.1;
-    }
+    let upto = r.word.whole ∙ ap (λ f. f ++ word) r.before.whole ∙ append_assoc front before word in
+    let whole = r.tiles.whole ∙ ap (λ f. f ++ tiles) upto ∙ append_assoc front (before ++ word) tiles in
+    let others = list_all-append other before word
+    ∙ and_from _ _ r.before.passes (all_weaker wordly other (search arith) word r.word.passes) in
+    let no_tile = sym (ap (suffix_len tile) upto) ∙ r.tiles.stops in
+    let some_part : 0 < length ((before ++ word) ++ tiles) = some_at_end front (before ++ word) tiles (omega (
+      arith,
+      ap length whole,
+    )) r.before.stops no_tile in
+    let is_tiles = last_run_after tile (before ++ word) tiles (
+    elim (last_of (before ++ word)) [
+      | inl none ↦ ap (suffix_len tile) none
+      | inr p ↦ let fails = (all_before (λ x.
+          not (tile x)) p.front p.last (ap (list_all (λ x. not (tile x))) (sym p.parts) ∙ others)).1 in
+          cc (p.parts, suffix_len_no tile p.front p.last (not-true _ fails))
+    ]) r.tiles.passes
+    in
+    let is_word = last_run_after wordly before word (stops_behind wordly front before
+    (sym (ap (suffix_len wordly) r.before.whole) ∙ r.word.stops)) r.word.passes in
+    search (
+      arith,
+      r.tiles.whole,
+      r.word.whole,
+      r.before.whole,
+      append_assoc front before word,
+      append_assoc front (before ++ word) tiles,
+      some_at_end front (before ++ word) tiles (omega (arith, ap length whole)) r.before.stops no_tile,
+      parted_at front (before ++ word) tiles r.before.stops no_tile others r.tiles.passes some_part,
+      counts_after tile r.tiles.front tiles r.tiles.stops r.tiles.passes,
+      counts_after wordly r.word.front word r.word.stops r.word.passes,
+      counts_after other front before r.before.stops r.before.passes,
+      is_tiles.0,
+      is_tiles.1,
+      is_word.0,
+      is_word.1,
+    )
 
 pub cut_at : {X : Type 0} (xs a b : List X) (n : ℕ) → xs ≡ a ++ b → n ≡ length a → (take n xs ≡ a) × (drop n xs ≡ b)
-cut_at xs a b n e f = (
-  ap (λ n. take n xs) f ∙ ap (take (length a)) e ∙ take-append_seam a b,
-  ap (λ n. drop n xs) f
-      ∙ ap (drop (length a)) e ∙ drop-append_seam a b,
-)
+cut_at xs a b n e f = search (arith, take-append_seam, drop-append_seam)
 
 -- the same by places: where the last part begins, and in it the word and the tiles
 pub record LastPartAt (cs : List Cell) (s w t : ℕ) : Type 0 where
@@ -315,27 +271,20 @@ pub last_part_at : (cs : List Cell) (s w t : ℕ) → 0 < length cs → t + suff
 last_part_at cs s w t some ends word start =
     let p = last_part_of cs some in
     let part = (p.before ++ p.word) ++ p.tiles in
-    let upto_t : cs ≡ (p.front ++ (p.before ++ p.word)) ++ p.tiles =
-    p.whole ∙ sym (append_assoc p.front (p.before ++ p.word) p.tiles) in
-    let upto_w : cs ≡ (p.front ++ p.before) ++ (p.word ++ p.tiles) =
-    upto_t ∙ ap (λ f. f ++ p.tiles) (sym (append_assoc p.front p.before p.word))
-    ∙ append_assoc (p.front ++ p.before) p.word p.tiles in
     let many : length (glyphs_of cs) ≡ length cs = length-map cs (λ c. c.0) in
-    let all_t : length cs ≡ length (p.front ++ (p.before ++ p.word)) + length p.tiles = ap length upto_t
-    ∙ length-append (p.front ++ (p.before ++ p.word)) p.tiles in
-    let tiles_count : suffix_len is_tile (glyphs_of cs) ≡ length p.tiles = suffix_len-map is_tile (λ c. c.0) cs
-    ∙ p.count_tiles in
-    let at_t : t ≡ length (p.front ++ (p.before ++ p.word)) = omega arith in
-    let cut_t = cut_at cs (p.front ++ (p.before ++ p.word)) p.tiles t upto_t at_t in
+    let all_t : length cs ≡ length (p.front ++ (p.before ++ p.word)) + length p.tiles =
+    search (arith, length-append) in
+    let tiles_count : suffix_len is_tile (glyphs_of cs) ≡ length p.tiles = search (arith, suffix_len-map) in
+    let cut_t = cut_at cs (p.front ++ (p.before ++ p.word)) p.tiles t (search (arith, append_assoc)) (omega arith) in
     let word_count : suffix_len in_word (take t (glyphs_of cs)) ≡ length p.word =
     ap (suffix_len in_word) (take-map (λ c. c.0) t cs) ∙ suffix_len-map in_word (λ c. c.0) (take t cs)
     ∙ ap (suffix_len wordly) cut_t.0 ∙ p.count_word in
-    let pre : p.front ++ (p.before ++ p.word) ≡ (p.front ++ p.before) ++ p.word =
+    let pre =
     sym (append_assoc p.front p.before p.word) in
     let all_w : length (p.front ++ (p.before ++ p.word)) ≡ length (p.front ++ p.before) + length p.word =
     ap length pre ∙ length-append (p.front ++ p.before) p.word in
     let at_w : w ≡ length (p.front ++ p.before) = omega arith in
-    let cut_w = cut_at cs (p.front ++ p.before) (p.word ++ p.tiles) w upto_w at_w in
+    let cut_w = cut_at cs (p.front ++ p.before) (p.word ++ p.tiles) w (search (arith, append_assoc)) at_w in
     let start_count : suffix_len (λ g. not (is_tile g)) (take w (glyphs_of cs)) ≡ length p.before =
     ap (suffix_len (λ g. not (is_tile g))) (take-map (λ c. c.0) w cs)
     ∙ suffix_len-map (λ g. not (is_tile g)) (λ c. c.0) (take w cs) ∙ ap (suffix_len other) cut_w.0
@@ -343,8 +292,6 @@ last_part_at cs s w t some ends word start =
     let all_s : length (p.front ++ p.before) ≡ length p.front + length p.before = length-append p.front p.before in
     let at_s : s ≡ length p.front = omega arith in
     let cut_s = cut_at cs p.front part s p.whole at_s in
-    let in_t = cut_at (take t cs) (p.front ++ p.before) p.word w (cut_t.0 ∙ pre) at_w in
-    let in_w = cut_at (take w cs) p.front p.before s cut_w.0 at_s in
     let all : length cs ≡ length p.front + length part = ap length p.whole ∙ length-append p.front part in
     record {
       less = omega (arith, p.some);
@@ -354,6 +301,7 @@ last_part_at cs s w t some ends word start =
       parted = p.parted ∙ ap (λ f. parts_of_text f ++ part ∷ []) (sym cut_s.0)
           ∙ ap (λ q. parts_of_text (take s cs) ++ q ∷ []) (sym cut_s.1);
       tiles_is = ap tiles_of cut_s.1 ∙ p.tiles_is ∙ sym cut_t.1;
-      word_is = ap word_of cut_s.1 ∙ p.word_is ∙ sym in_t.1;
-      before_is = ap before_word cut_s.1 ∙ p.before_is ∙ sym in_w.1;
+      word_is = ap word_of cut_s.1 ∙ p.word_is ∙ sym
+          (cut_at (take t cs) (p.front ++ p.before) p.word w (cut_t.0 ∙ pre) at_w).1;
+      before_is = ap before_word cut_s.1 ∙ p.before_is ∙ sym (cut_at (take w cs) p.front p.before s cut_w.0 at_s).1;
     }

@@ -1,5 +1,5 @@
 -- The numbers by which a run is laid are small where all that must fit 32 bits does.
-use Rattle.std.proofs.Common.{◌≡◌, ◌*◌, ◌^◌, ◌<◌, ◌≤◌, ℕ, zero, suc, ◌*ℤ◌, ℤ, pos, negsuc, neg_ℤ, ◌-ℤ◌, ◌≤ℤ◌, ◌<ℤ◌, unsigned_abs, int_div, Bool, true, false, cond, ◌&&◌, FitsSigned, List, [], ◌∷◌, Option, None, Some, refl, subst, sym, ◌∙◌, ap, arith, div-le_self, mul-suc}
+use Rattle.std.proofs.Common.{◌≡◌, ◌*◌, ◌^◌, ◌<◌, ◌≤◌, ℕ, zero, suc, ◌*ℤ◌, ℤ, pos, negsuc, neg_ℤ, ◌-ℤ◌, ◌≤ℤ◌, unsigned_abs, int_div, Bool, true, false, cond, FitsSigned, [], ◌∷◌, Option, None, Some, refl, subst, sym, ◌∙◌, ap, arith, div-le_self, mul-suc}
 use Rattle.std.specs.List.{list_all}
 use Rattle.std.proofs.lemmas.Int.{ints, by_lt_z}
 use Rattle.std.proofs.lemmas.List.Folds.{list_all-append}
@@ -9,14 +9,12 @@ use borrow.Author.Tests.{ltb-true}
 use mir.Syntax.{w32}
 use Rattle.shapers_base.specs.declared.plan.arabic.StretchStart.{StretchStart}
 use Rattle.shapers_base.specs.declared.plan.arabic.StretchStart.TheVariants.{AsCode, Centred}
-use Rattle.shapers_buffer.specs.declared.buffer.glyph.hb_glyph_info_t.{hb_glyph_info_t}
-use Rattle.shapers_base.specs.Font.{Font}
-use Rattle.shapers_stretch.specs.CountingWalk.{IsLay, IsNumber, offsets_fit, run_added, run_moves}
+use Rattle.shapers_stretch.specs.CountingWalk.{IsLay, IsNumber}
 use Rattle.shapers_stretch.specs.declared.ot_shaper_arabic_stretch.measuring.Lay.{Lay}
 use Rattle.shapers_stretch.specs.declared.ot_shaper_arabic_stretch.measuring.Run.{Run}
 use Rattle.shapers_stretch.specs.Lays.{lay_if_fits, lay_of}
-use Rattle.shapers_stretch.specs.Measure.{times_added, copies_added, falls_short, fit, fits_i32, fitting, laid_width, left, numbers_to_fit, overlap, reach, run_numbers, squeezes, start}
-use Rattle.shapers_stretch.proofs.Numbers.{fit_room, fit_width, fit_yes, fits_from, numbers_apart, overlap_bounds, overlap_no, quotient_abs, shared_bounds, squeezed_tile}
+use Rattle.shapers_stretch.specs.Measure.{times_added, copies_added, fit, fits_i32, laid_width, left, numbers_to_fit, overlap, reach, run_numbers, squeezes, start}
+use Rattle.shapers_stretch.proofs.Numbers.{fit_room, fit_width, fit_yes, fits_from, overlap_bounds, overlap_no, quotient_abs, shared_bounds}
 use Rattle.shapers_stretch.proofs.Steps.{times_up}
 use Rattle.shapers_stretch.proofs.Sums.{times_add}
 use lib.IntN.{*ℤ-zero}
@@ -29,18 +27,7 @@ pub record SmallRun (z : Run) : Type 0 where
 
 small_from : (z : Run) → list_all fits_i32 (run_numbers z) ≡ true → SmallRun z
 small_from z e =
-    let a = and_parts (fits_i32 z.word) _ e in
-    let b = and_parts (fits_i32 z.fixed) _ a.1 in
-    let c = and_parts (fits_i32 z.repeating) _ b.1 in
-    let d = and_parts (fits_i32 (left z)) _ c.1 in
-    let f = and_parts (fits_i32 (reach z (times_added z))) _ d.1 in
-    let h = and_parts (fits_i32 (pos (copies_added z))) _ f.1 in
-    record {
-      left = fits_from (left z) d.0;
-      reach = fits_from (reach z (times_added z)) f.0;
-      copies = ltb-true
-          (copies_added z) (2 ^ 31) h.0;
-    }
+    search (arith, fits_from, ltb-true)
 
 numbers_small : (choice : StretchStart) (z : Run) → list_all fits_i32 (numbers_to_fit choice z) ≡ true → SmallRun z
 numbers_small AsCode z e = small_from z e
@@ -54,19 +41,7 @@ magnitude (negsuc n) fits = omega (arith, ints)
 
 fit_small : (r m : ℤ) → FitsSigned w32 m → fit r m < 2 ^ 31
 fit_small r m fits =
-    by_lt_z {P = fit r m < 2 ^ 31} r m
-    (λ h. by_lt_z {P = fit r m < 2 ^ 31} (pos 0) r
-    (λ p. let above : pos 0 <ℤ m = omega (arith, ints) in
-    omega (
-      arith,
-      fit_yes r m h p,
-      quotient_abs m r above p,
-      div-le_self (unsigned_abs m) (unsigned_abs r),
-      magnitude m
-          fits,
-    ))
-    (λ p. omega (arith, fit_width r m p)))
-    (λ h. omega (arith, fit_room r m h))
+    search (arith, by_lt_z, pos, fit_yes, quotient_abs, div-le_self, unsigned_abs, magnitude, fit_width, fit_room)
 
 added_if : (b : Bool) (n : ℕ) → n < 2 ^ 31 → cond b (suc n) n ≤ 2 ^ 31
 added_if true n h = omega arith
@@ -74,8 +49,8 @@ added_if false n h = omega arith
 
 overlap_small : (z : Run) (b : Bool) → squeezes z ≡ b → SmallRun z → (pos 0 ≤ℤ overlap z) × (overlap z ≤ℤ pos (2 ^ 34))
 overlap_small z true e s = let bounds =
-    overlap_bounds z e in (omega (arith, ints), omega (arith, ints, s.left, s.reach))
-overlap_small z false e s = let none = overlap_no z e in (omega (arith, ints), omega (arith, ints))
+    overlap_bounds z e in search (arith, ints)
+overlap_small z false e s = search (arith, ints)
 
 times_more : (n k : ℕ) (o : ℤ) → 0 < k → pos 0 ≤ℤ o → (pos n *ℤ o) ≤ℤ (pos (n * k) *ℤ o)
 times_more n zero o p h = absurd (omega arith)
@@ -87,7 +62,7 @@ shared_small z true e s =
     omega (
       arith,
       ints,
-      times_more (times_added z) z.repeaters (overlap z) (squeezed_tile z e) (overlap_bounds z e).0,
+      times_more (times_added z) z.repeaters (overlap z) (search (arith, ltb-true)) (overlap_bounds z e).0,
       (shared_bounds z e).1,
       s.left,
       s.reach,
@@ -97,22 +72,22 @@ shared_small z false e s =
 
 half_small : (x : ℤ) → FitsSigned w32 x → IsNumber (int_div x (pos 2))
 half_small (pos n) fits =
-    record { low = omega (arith, ints, div-le_self n 2); high = omega (arith, ints, div-le_self n 2) }
+    search (arith, ints, div-le_self)
 half_small (negsuc n) fits =
-    record { low = omega (arith, ints, div-le_self (suc n) 2); high = omega (arith, ints, div-le_self (suc n) 2) }
+    search (arith, ints, div-le_self)
 
 number_if : (b : Bool) (x y : ℤ) → IsNumber x → IsNumber y → IsNumber (cond b x y)
 number_if true x y p q = p
 number_if false x y p q = q
 
 number_zero : IsNumber (pos 0)
-number_zero = record { low = omega (arith, ints); high = omega (arith, ints) }
+number_zero = search (arith, ints)
 
 number_neg : (x : ℤ) → FitsSigned w32 x → IsNumber (neg_ℤ (int_div x (pos 2)))
 number_neg (pos n) fits =
-    record { low = omega (arith, ints, div-le_self n 2); high = omega (arith, ints, div-le_self n 2) }
+    search (arith, ints, div-le_self)
 number_neg (negsuc n) fits =
-    record { low = omega (arith, ints, div-le_self (suc n) 2); high = omega (arith, ints, div-le_self (suc n) 2) }
+    search (arith, ints, div-le_self)
 
 start_small : (choice : StretchStart) (right_to_left : Bool) (z : Run) → list_all fits_i32 (numbers_to_fit choice z)
     ≡ true → IsNumber (start choice right_to_left z)
@@ -122,7 +97,7 @@ start_small Centred right_to_left z e =
     let both = and_parts _ _
     (sym (list_all-append fits_i32 (run_numbers z) (laid_width z ∷ (z.word -ℤ laid_width z) ∷ [])) ∙ e) in
     let gap = fits_from (z.word -ℤ laid_width z) (and_parts _ _ (and_parts (fits_i32 (laid_width z)) _ both.1).1).0 in
-    number_if right_to_left _ _ (number_neg (z.word -ℤ laid_width z) gap) (half_small (z.word -ℤ laid_width z) gap)
+    search (arith, number_if, number_neg, half_small)
 
 -- a lay that was found
 pub record FoundLay (choice : StretchStart) (right_to_left : Bool) (z : Run) (lay : Lay) : Type 0 where
@@ -136,18 +111,17 @@ found_here : (choice : StretchStart) (right_to_left : Bool) (z : Run) → list_a
 found_here choice right_to_left z e =
     let s = numbers_small choice z e in
     let over = overlap_small z (squeezes z) refl s in
-    let few : times_added z ≤ 2 ^ 31 = added_if (falls_short z) (fitting z) (fit_small z.repeating (left z) s.left) in
     record {
       fits = e;
       is = refl;
       small =
           record {
-            added = few;
+            added = search (arith, added_if, fit_small);
             low = over.0;
             high = over.1;
             shared = shared_small z (squeezes z) refl s;
             start =
-                start_small choice right_to_left z e;
+                search (arith, start_small);
           };
       copies = s.copies;
     }
@@ -173,13 +147,3 @@ no_lay choice right_to_left z e =
       | true ↦ λ f e. absurd (none-some (lay_of choice right_to_left z) (sym e))
       | false ↦ λ f e. refl
     ] refl e
-
--- a run of which a number doesn't fit adds nothing
-pub unmeasured : (choice : StretchStart) (right_to_left : Bool) (font : Font) (z : Run) (tiles : List hb_glyph_info_t)
-    → list_all fits_i32 (z.word ∷ z.fixed ∷ z.repeating ∷ left z ∷ []) ≡ false
-    → None ≡ run_added choice right_to_left font z tiles
-unmeasured choice right_to_left font z tiles e =
-    sym (ap (λ b. cond
-    (b && offsets_fit right_to_left (start choice right_to_left z)
-    (run_moves font (lay_of choice right_to_left z) tiles)) (Some (copies_added z)) None)
-    (numbers_apart choice z e))

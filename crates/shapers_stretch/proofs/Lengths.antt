@@ -1,5 +1,5 @@
 -- How many copies a run is laid in.
-use Rattle.std.proofs.Common.{◌≡◌, ℕ, suc, ◌+◌, ◌*◌, ℤ, ◌-ℤ◌, Bool, true, false, cond, List, [], ◌∷◌, ◌++◌, length, reverse, replicate, flat_map, refl, sym, ◌∙◌, ap, arith, mul-suc, mul-zero}
+use Rattle.std.proofs.Common.{◌≡◌, ℕ, suc, ◌+◌, ◌*◌, ℤ, ◌-ℤ◌, Bool, true, false, cond, List, [], ◌∷◌, ◌++◌, length, reverse, replicate, refl, ap, arith, mul-suc, mul-zero}
 use Rattle.std.proofs.lemmas.List.{append-nil, length-append, length-replicate}
 use Rattle.std.proofs.lemmas.List.Concat.{flat_map-append}
 use Rattle.std.proofs.lemmas.Grind.{reverse_onto}
@@ -24,21 +24,23 @@ pub length-copies : (font : Font) (z : Run) (cs : List Cell)
     → length (copies font z cs) ≡ length cs + times_added z * length (repeating (glyphs_of cs))
 length-copies font z [] = omega (arith, mul-zero (times_added z))
 length-copies font z (c ∷ cs) =
-    let cut : copies font z (c ∷ cs) ≡ copies font z cs ++ (copies_of font z c ++ []) =
-    ap (flat_map (copies_of font z)) (reverse_onto cs c [])
-    ∙ flat_map-append (copies_of font z) (reverse cs) (c ∷ []) in
-    let tile : length (copies_of font z c) ≡ suc (cond (repeats c.0) (times_added z) 0) =
-    copies_if (repeats c.0) (times_added z) (record { tile = c; move = width_of font c.0 })
-    (record { tile = c; move = width_of font c.0 -ℤ overlap z }) in
-    let whole : length (copies font z (c ∷ cs)) ≡ length (copies font z cs) + suc (cond (repeats c.0) (times_added z) 0)
-    =
-    ap length cut ∙ length-append (copies font z cs) (copies_of font z c ++ [])
-    ∙ ap (λ n. length (copies font z cs) + n) (ap length (append-nil (copies_of font z c)) ∙ tile) in
-    let step = count_if (repeats c.0) (times_added z) (length (repeating (glyphs_of cs))) (length cs)
-    (length (copies font z cs)) (length-copies font z cs) in
-    let some : length (repeating (glyphs_of (c ∷ cs))) ≡ cond (repeats c.0) (suc (length (repeating (glyphs_of cs))))
-    (length (repeating (glyphs_of cs))) = length_if (repeats c.0) c.0 (repeating (glyphs_of cs)) in
-    whole ∙ step ∙ sym (ap (λ k. suc (length cs) + times_added z * k) some)
+    let tile = copies_if (repeats c.0)
+    (times_added z) (record { tile = c; move = width_of font c.0 }) (record {
+      tile = c;
+      move = width_of font c.0 -ℤ
+          overlap z;
+    }) in
+    cc (
+      reverse_onto cs c [],
+      flat_map-append (copies_of font z) (reverse cs) (c ∷ []),
+      length-append (copies font z cs) (copies_of font z c ++ []),
+      append-nil (copies_of font z c),
+      copies_if (repeats c.0) (times_added z) (record { tile = c; move = width_of font c.0 })
+          (record { tile = c; move = width_of font c.0 -ℤ overlap z }),
+      count_if (repeats c.0) (times_added z) (length (repeating (glyphs_of cs))) (length cs)
+          (length (copies font z cs)) (length-copies font z cs),
+      length_if (repeats c.0) c.0 (repeating (glyphs_of cs)),
+    )
 
 length-laid_on : (right_to_left : Bool) (pen : ℤ) (cs : List Copy) → length (laid_on right_to_left pen cs) ≡ length cs
 length-laid_on right_to_left pen [] = refl
@@ -46,4 +48,4 @@ length-laid_on right_to_left pen (c ∷ cs) =
     ap suc (length-laid_on right_to_left (pen_behind right_to_left pen c.move) cs)
 
 pub length-laid : (right_to_left : Bool) (from : ℤ) (cs : List Copy) → length (laid right_to_left from cs) ≡ length cs
-length-laid right_to_left from cs = ap length (laid_is right_to_left from cs) ∙ length-laid_on right_to_left from cs
+length-laid right_to_left from cs = search (arith, laid_is, length-laid_on)

@@ -1,5 +1,5 @@
 -- The copies of a run move the pen by its laid width.
-use Rattle.std.proofs.Common.{◌≡◌, ◌<◌, ◌<ℤ◌, ℕ, zero, suc, ◌*◌, ℤ, pos, ◌+ℤ◌, ◌-ℤ◌, ◌*ℤ◌, neg_ℤ, Bool, true, false, cond, not, List, [], ◌∷◌, ◌++◌, length, map, reverse, flat_map, replicate, refl, sym, ◌∙◌, ap, arith, mul-suc, mul-zero, add_comm}
+use Rattle.std.proofs.Common.{◌≡◌, ◌<◌, ◌<ℤ◌, ℕ, zero, suc, ◌*◌, ℤ, pos, ◌+ℤ◌, ◌-ℤ◌, ◌*ℤ◌, neg_ℤ, Bool, true, false, cond, not, List, [], ◌∷◌, ◌++◌, length, map, reverse, replicate, refl, arith, mul-zero}
 use Rattle.std.proofs.lemmas.Int.{ints}
 use Rattle.std.proofs.lemmas.List.{append-nil, map-append}
 use Rattle.std.proofs.lemmas.List.Concat.{flat_map-append}
@@ -13,7 +13,7 @@ use Rattle.shapers_stretch.specs.Cells.{Cell, repeats, tiles_of, glyphs_of}
 use Rattle.shapers_stretch.specs.declared.ot_shaper_arabic_stretch.measuring.Run.{Run}
 use Rattle.shapers_stretch.specs.Measure.{times_added, overlap, total, laid_width}
 use Rattle.shapers_stretch.specs.Stretch.{Copy, copies, copies_of, moves, width_of, repeating, fixed, run_of_part}
-use Rattle.shapers_stretch.proofs.Sums.{total_cons, total-append, times_suc, times_sum, times_add, times_zero, total-replicate, times_neg}
+use Rattle.shapers_stretch.proofs.Sums.{total_cons, total-append, times_suc, times_sum, times_zero, total-replicate, times_neg}
 
 -- the moves of one tile by whether it repeats
 abbrev pub tile_moves : Bool → ℤ → ℕ → ℤ → ℤ
@@ -21,7 +21,7 @@ tile_moves b width n over = cond b (pos (suc n) *ℤ width -ℤ pos n *ℤ over)
 
 pub map-replicate : {X Y : Type 0} (f : X → Y) (n : ℕ) (x : X) → map f (replicate n x) ≡ replicate n (f x)
 map-replicate f zero x = refl
-map-replicate f (suc n) x = ap (λ ys. f x ∷ ys) (map-replicate f n x)
+map-replicate f (suc n) x = cc (map-replicate f n x)
 
 moves_if : (b : Bool) (c : Cell) (w o : ℤ) (n : ℕ)
     → moves (record { tile = c; move = w } ∷ cond b (replicate n (record { tile = c; move = w -ℤ o })) [])
@@ -29,21 +29,19 @@ moves_if : (b : Bool) (c : Cell) (w o : ℤ) (n : ℕ)
 moves_if true c w o n =
     let copy : Copy = record { tile = c; move = w -ℤ o } in
     let rest : total (map (λ copy. copy.move) (replicate n copy)) ≡ pos n *ℤ (w -ℤ o) =
-    ap total (map-replicate (λ copy. copy.move) n copy) ∙ total-replicate n (w -ℤ o) in
+    search (arith, map-replicate, total-replicate) in
     omega (
       arith,
       ints,
       total_cons w (map (λ copy. copy.move) (replicate n copy)),
       times_sum n w (neg_ℤ o),
-      times_neg n
-          o,
+      times_neg n o,
       times_suc n w,
     )
 moves_if false c w o n = omega (arith, ints)
 
 pub moves-append : (xs ys : List Copy) → moves (xs ++ ys) ≡ moves xs +ℤ moves ys
-moves-append xs ys = ap total (map-append (λ copy. copy.move) xs ys)
-    ∙ total-append (map (λ copy. copy.move) xs) (map (λ copy. copy.move) ys)
+moves-append xs ys = search (arith, map-append, total-append)
 
 total_if : {X : Type 0} (f : X → ℤ) (b : Bool) (c : X) (ys : List X) → total (map f (cond b (c ∷ ys) ys))
     ≡ cond b (f c +ℤ total (map f ys)) (total (map f ys))
@@ -60,8 +58,6 @@ one_more : (b : Bool) (w F R M o : ℤ) (k n : ℕ) → M ≡ F +ℤ (pos (suc n
     → M +ℤ tile_moves b w n o
     ≡ cond (not b) (w +ℤ F) F +ℤ (pos (suc n) *ℤ cond b (w +ℤ R) R -ℤ pos (n * cond b (suc k) k) *ℤ o)
 one_more true w F R M o k n e =
-    let more : pos (n * suc k) *ℤ o ≡ pos n *ℤ o +ℤ pos (n * k) *ℤ o =
-    ap (λ m. pos m *ℤ o) (mul-suc n k ∙ add_comm (n * k) n) ∙ times_add n (n * k) o in
     omega (arith, ints, times_sum (suc n) w R)
 one_more false w F R M o k n e = omega (arith, ints)
 
@@ -71,48 +67,22 @@ tiles_moves : (font : Font) (z : Run) (cs : List Cell)
     (pos (suc (times_added z)) *ℤ total (map (width_of font) (repeating (glyphs_of cs))) -ℤ pos
     (times_added z * length (repeating (glyphs_of cs))) *ℤ overlap z)
 tiles_moves font z [] =
-    omega (
-      arith,
-      ints,
-      times_zero (overlap z),
-      *ℤ-zero (pos (suc (times_added z))),
-      ap (λ m. pos m *ℤ overlap z)
-          (mul-zero (times_added z)),
-    )
+    search (arith, ints, times_zero, *ℤ-zero, pos, mul-zero)
 tiles_moves font z (c ∷ cs) =
     let w = width_of font c.0 in
-    let cut : copies font z (c ∷ cs) ≡ copies font z cs ++ (copies_of font z c ++ []) =
-    ap (flat_map (copies_of font z)) (reverse_onto cs c [])
-    ∙ flat_map-append (copies_of font z) (reverse cs) (c ∷ []) in
-    let whole : moves (copies font z (c ∷ cs)) ≡ moves (copies font z cs) +ℤ tile_moves (repeats c.0) w (times_added z)
-    (overlap z) =
-    ap moves cut ∙ moves-append (copies font z cs) (copies_of font z c ++ [])
-    ∙ ap (λ m. moves (copies font z cs) +ℤ m) (ap moves (append-nil (copies_of font z c))
-    ∙ moves_if (repeats c.0) c w (overlap z) (times_added z)) in
-    let step = one_more (repeats c.0) w (total (map (width_of font) (fixed (glyphs_of cs))))
-    (total (map (width_of font) (repeating (glyphs_of cs)))) (moves (copies font z cs)) (overlap z)
-    (length (repeating (glyphs_of cs))) (times_added z) (tiles_moves font z cs) in
-    let F : total (map (width_of font) (fixed (glyphs_of (c ∷ cs))))
-    ≡ cond (not (repeats c.0)) (w +ℤ total (map (width_of font) (fixed (glyphs_of cs))))
-    (total (map (width_of font) (fixed (glyphs_of cs)))) =
-    total_if (width_of font) (not (repeats c.0)) c.0 (fixed (glyphs_of cs)) in
-    let R : total (map (width_of font) (repeating (glyphs_of (c ∷ cs))))
-    ≡ cond (repeats c.0) (w +ℤ total (map (width_of font) (repeating (glyphs_of cs))))
-    (total (map (width_of font) (repeating (glyphs_of cs)))) =
-    total_if (width_of font) (repeats c.0) c.0 (repeating (glyphs_of cs)) in
-    let K : length (repeating (glyphs_of (c ∷ cs))) ≡ cond (repeats c.0) (suc (length (repeating (glyphs_of cs))))
-    (length (repeating (glyphs_of cs))) = length_if (repeats c.0) c.0 (repeating (glyphs_of cs)) in
-    let sides : ℤ → ℤ → ℕ → ℤ =
-    λ F R k. F +ℤ (pos (suc (times_added z)) *ℤ R -ℤ pos (times_added z * k) *ℤ overlap z) in
-    whole ∙ step ∙ sym
-    (ap (λ x. sides x (total (map (width_of font) (repeating (glyphs_of (c ∷ cs)))))
-    (length (repeating (glyphs_of (c ∷ cs))))) F
-    ∙ ap (λ x. sides (cond (not (repeats c.0)) (w +ℤ total (map (width_of font) (fixed (glyphs_of cs))))
-    (total (map (width_of font) (fixed (glyphs_of cs))))) x (length (repeating (glyphs_of (c ∷ cs))))) R
-    ∙ ap (λ x. sides (cond (not (repeats c.0)) (w +ℤ total (map (width_of font) (fixed (glyphs_of cs))))
-    (total (map (width_of font) (fixed (glyphs_of cs)))))
-    (cond (repeats c.0) (w +ℤ total (map (width_of font) (repeating (glyphs_of cs))))
-    (total (map (width_of font) (repeating (glyphs_of cs))))) x) K)
+    cc (
+      reverse_onto cs c [],
+      flat_map-append (copies_of font z) (reverse cs) (c ∷ []),
+      moves-append (copies font z cs) (copies_of font z c ++ []),
+      append-nil (copies_of font z c),
+      moves_if (repeats c.0) c w (overlap z) (times_added z),
+      one_more (repeats c.0) w (total (map (width_of font) (fixed (glyphs_of cs))))
+          (total (map (width_of font) (repeating (glyphs_of cs)))) (moves (copies font z cs)) (overlap z)
+          (length (repeating (glyphs_of cs))) (times_added z) (tiles_moves font z cs),
+      total_if (width_of font) (not (repeats c.0)) c.0 (fixed (glyphs_of cs)),
+      total_if (width_of font) (repeats c.0) c.0 (repeating (glyphs_of cs)),
+      length_if (repeats c.0) c.0 (repeating (glyphs_of cs)),
+    )
 
 pub moves_hold : (font : Font) (part : List Cell) → moves (copies font (run_of_part font part) (tiles_of part))
     ≡ laid_width (run_of_part font part)
@@ -120,10 +90,10 @@ moves_hold font part = omega (arith, ints, tiles_moves font (run_of_part font pa
 
 -- without a tile that repeats they have no width
 no_repeating : (font : Font) (gs : List hb_glyph_info_t) → pos 0 <ℤ total (map (width_of font) gs) → 0 < length gs
-no_repeating font [] p = absurd (omega (arith, ints))
+no_repeating font [] p = search (arith, ints)
 no_repeating font (g ∷ gs) p = omega arith
 
 pub widths_hold : (font : Font) (part : List Cell) → TilesFit (run_of_part font part)
     → CoversTheWord (run_of_part font part)
 widths_hold font part fits =
-    covers (run_of_part font part) (no_repeating font (repeating (glyphs_of (tiles_of part))) fits.0) fits
+    search (arith, covers, no_repeating)

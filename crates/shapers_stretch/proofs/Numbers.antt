@@ -1,24 +1,23 @@
 -- What the code computes of the numbers of a run.
-use Rattle.std.proofs.Common.{◌≡◌, ◌^◌, ℕ, zero, suc, ◌*◌, ◌*ℤ◌, ◌-◌, ◌/◌, ◌<◌, ◌≤◌, ◌+◌, ℤ, pos, negsuc, ◌-ℤ◌, ◌≤ℤ◌, ◌<ℤ◌, nat_abs, unsigned_abs, int_lt, int_div, Bool, true, false, cond, ◌&&◌, IsTrue, nat_lt, FitsSigned, [], ◌∷◌, Option, None, Some, refl, sym, subst, ◌∙◌, ap, arith, mul-pos, div-le_self}
+use Rattle.std.proofs.Common.{◌≡◌, ◌^◌, ℕ, zero, suc, ◌*ℤ◌, ◌-◌, ◌/◌, ◌<◌, ◌≤◌, ◌+◌, ℤ, pos, negsuc, ◌-ℤ◌, ◌≤ℤ◌, ◌<ℤ◌, nat_abs, unsigned_abs, int_lt, int_div, Bool, true, false, cond, ◌&&◌, IsTrue, FitsSigned, [], ◌∷◌, Option, None, Some, refl, sym, ◌∙◌, ap, arith, mul-pos, div-le_self}
 use Rattle.std.specs.List.{list_all}
 use Rattle.std.proofs.lemmas.Int.{ints, fits_signed_mul}
 use borrow.Author.Tests.{ltb-true, clash}
 use Rattle.std.proofs.lemmas.Option.{none-some}
 use Rattle.std.proofs.lemmas.Bool.Decides.{nat_tests}
-use Rattle.std.proofs.lemmas.Bool.{and_right, and_parts}
+use Rattle.std.proofs.lemmas.Bool.{and_right}
 use lib.IntN.{pos-*ℤ-pos, *ℤ-zero}
 use mir.Syntax.{w32, w64}
 use Rattle.shapers_stretch.specs.declared.ot_shaper_arabic_stretch.measuring.Run.{Run}
 use Rattle.shapers_base.specs.declared.plan.arabic.StretchStart.{StretchStart}
 use Rattle.shapers_base.specs.declared.plan.arabic.StretchStart.TheVariants.{AsCode, Centred}
-use Rattle.shapers_stretch.specs.declared.ot_shaper_arabic_stretch.measuring.Lay.{Lay}
 use Rattle.shapers_stretch.specs.Lays.{TileRunFits, lay_if_fits, lay_of, start_if_fits}
 use Rattle.shapers_stretch.specs.Measure.{times_added, copies_added, excess, falls_short, fit, fits_i32, fitting, left, numbers_to_fit, overlap, laid_width, reach, squeezes, start}
 
 -- a number that passes the test fits, and each of a list that does
 pub fits_from : (x : ℤ) → fits_i32 x ≡ true → FitsSigned w32 x
-fits_from (pos n) e = record { sfits = ltb-true n (2 ^ 31) e }
-fits_from (negsuc n) e = record { sfits = ltb-true n (2 ^ 31) e }
+fits_from (pos n) e = search (arith, ltb-true)
+fits_from (negsuc n) e = search (arith, ltb-true)
 
 -- what a number that fits 32 bits measures, and how many bits hold the reach of at most 2 ^ 31 rounds
 abs_within : (x : ℤ) → FitsSigned w32 x → unsigned_abs x ≤ 2 ^ 31
@@ -28,12 +27,12 @@ abs_within (negsuc n) f = omega (arith, f.sfits)
 pub reach_fits : (z : Run) (n : ℕ) → TileRunFits z → n ≤ 2 ^ 31 → FitsSigned w64 (reach z n)
 reach_fits z n fits few =
     fits_signed_mul w64 (pos (suc n)) z.repeating (2 ^ 31 + 1) (2 ^ 31) (omega arith)
-    (abs_within z.repeating fits.repeating) (omega arith)
+    (search (arith, abs_within)) (omega arith)
 
 -- what fits 32 bits fits 64
 pub wide : (x : ℤ) → FitsSigned w32 x → FitsSigned w64 x
-wide (pos n) f = record { sfits = omega (arith, f.sfits) }
-wide (negsuc n) f = record { sfits = omega (arith, f.sfits) }
+wide (pos n) f = search arith
+wide (negsuc n) f = search arith
 
 -- what IsTrue says
 pub is_true_from : (b : Bool) → IsTrue b → b ≡ true
@@ -42,28 +41,18 @@ is_true_from b t = t
 pub run_fits_from : (z : Run) → IsTrue (list_all fits_i32 (z.word ∷ z.fixed ∷ z.repeating ∷ left z ∷ []))
     → TileRunFits z
 run_fits_from z t =
-    let first = and_parts (fits_i32 z.word) _ (is_true_from _ t) in
-    let second = and_parts (fits_i32 z.fixed) _ first.1 in
-    let third = and_parts (fits_i32 z.repeating) _ second.1 in
-    let fourth = and_parts (fits_i32 (left z)) _ third.1 in
-    record {
-      word = fits_from z.word first.0;
-      fixed = fits_from z.fixed second.0;
-      repeating = fits_from z.repeating
-          third.0;
-      left = fits_from (left z) fourth.0;
-    }
+    search (arith, fits_from)
 
 pub quotient_abs : (a b : ℤ) → pos 0 <ℤ a → pos 0 <ℤ b → nat_abs (int_div a b) ≡ unsigned_abs a / unsigned_abs b
 quotient_abs (pos a) (pos b) p q = refl
-quotient_abs (pos a) (negsuc b) p q = absurd (omega (arith, ints))
-quotient_abs (negsuc a) b p q = absurd (omega (arith, ints))
+quotient_abs (pos a) (negsuc b) p q = search (arith, ints)
+quotient_abs (negsuc a) b p q = search (arith, ints)
 
 if_both : {X : Type 0} (a b : Bool) (x y : X) → a ≡ true → b ≡ true → cond (a && b) x y ≡ x
-if_both a b x y e f = ap (λ v. cond (v && b) x y) e ∙ ap (λ v. cond v x y) f
+if_both a b x y e f = cc
 
 if_first : {X : Type 0} (a b : Bool) (x y : X) → a ≡ false → cond (a && b) x y ≡ y
-if_first a b x y e = ap (λ v. cond (v && b) x y) e
+if_first a b x y e = cc
 
 if_second : {X : Type 0} (a b : Bool) (x y : X) → b ≡ false → cond (a && b) x y ≡ y
 if_second true b x y f = ap (λ v. cond v x y) f
@@ -76,7 +65,7 @@ pub lt_not : (a b : ℤ) → b ≤ℤ a → int_lt a b ≡ false
 lt_not a b h = grind (arith, ints)
 
 pub fit_yes : (r m : ℤ) → r <ℤ m → pos 0 <ℤ r → fit r m ≡ nat_abs (int_div m r) - 1
-fit_yes r m h p = if_both _ _ _ _ (lt_yes r m h) (lt_yes (pos 0) r p)
+fit_yes r m h p = search (arith, if_both, lt_yes, pos)
 
 pub fit_room : (r m : ℤ) → m ≤ℤ r → fit r m ≡ 0
 fit_room r m h = if_first _ _ _ _ (lt_not r m h)
@@ -85,117 +74,84 @@ pub fit_width : (r m : ℤ) → r ≤ℤ pos 0 → fit r m ≡ 0
 fit_width r m h = if_second (int_lt r m) _ _ _ (lt_not (pos 0) r h)
 
 pub added_yes : (z : Run) → pos 0 <ℤ (left z -ℤ reach z (fitting z)) → 0 < z.repeaters → times_added z ≡ suc (fitting z)
-added_yes z h p = if_both _ _ _ _ (lt_yes (pos 0) (left z -ℤ reach z (fitting z)) h) (grind (arith, nat_tests))
+added_yes z h p = search (arith, if_both, lt_yes, pos, nat_tests)
 
 pub added_full : (z : Run) → (left z -ℤ reach z (fitting z)) ≤ℤ pos 0 → times_added z ≡ fitting z
-added_full z h = if_first _ _ _ _ (lt_not (pos 0) (left z -ℤ reach z (fitting z)) h)
+added_full z h = search (arith, if_first, lt_not, pos)
 
 pub added_none : (z : Run) → z.repeaters ≡ 0 → times_added z ≡ fitting z
-added_none z h = if_second (int_lt (pos 0) (left z -ℤ reach z (fitting z))) _ _ _ (grind (arith, nat_tests))
+added_none z h = search (arith, if_second, int_lt, pos, nat_tests)
 
 -- the reach of as many times as fit, by a number that equals them
 pub rest_at : (z : Run) (n : ℕ) → n ≡ fitting z → reach z n ≡ reach z (fitting z)
 rest_at z n e = ap (reach z) e
 
--- where tiles fall short, there is one to be copied
-short_is : (z : Run) → pos 0 <ℤ (left z -ℤ reach z (fitting z)) → 0 < z.repeaters → falls_short z ≡ true
-short_is z h p = ap (λ v. v && nat_lt 0 z.repeaters) (lt_yes (pos 0) (left z -ℤ reach z (fitting z)) h)
-    ∙ grind (arith, nat_tests)
-
 full_is : (z : Run) → (left z -ℤ reach z (fitting z)) ≤ℤ pos 0 → falls_short z ≡ false
-full_is z h = ap (λ v. v && nat_lt 0 z.repeaters) (lt_not (pos 0) (left z -ℤ reach z (fitting z)) h)
-
-none_is : (z : Run) → z.repeaters ≡ 0 → falls_short z ≡ false
-none_is z h = and_right (int_lt (pos 0) (left z -ℤ reach z (fitting z))) _ (grind (arith, nat_tests))
+full_is z h = search (arith, lt_not, pos)
 
 pub squeezes_full : (z : Run) → (left z -ℤ reach z (fitting z)) ≤ℤ pos 0 → squeezes z ≡ false
-squeezes_full z h = ap (λ v. v && int_lt (pos 0) (excess z)) (full_is z h)
-
-pub squeezes_none : (z : Run) → z.repeaters ≡ 0 → squeezes z ≡ false
-squeezes_none z h = ap (λ v. v && int_lt (pos 0) (excess z)) (none_is z h)
+squeezes_full z h = cc (full_is z h)
 
 pub squeezes_short : (z : Run) → pos 0 <ℤ (left z -ℤ reach z (fitting z)) → 0 < z.repeaters
     → squeezes z ≡ int_lt (pos 0) (excess z)
-squeezes_short z h p = ap (λ v. v && int_lt (pos 0) (excess z)) (short_is z h p)
+squeezes_short z h p = search (arith, lt_yes, pos, nat_tests)
 
 -- where copies overlap, there are some, and they reach too far
 pub squeezed_some : (z : Run) → squeezes z ≡ true → (0 < copies_added z) × (pos 0 <ℤ excess z)
 squeezed_some z e =
-    let both = and_parts (falls_short z) _ e in
-    let short = and_parts (int_lt (pos 0) (left z -ℤ reach z (fitting z))) (nat_lt 0 z.repeaters) both.0 in
-    let some : 0 < z.repeaters = ltb-true 0 z.repeaters short.1 in
-    let one_more : times_added z ≡ suc (fitting z) = ap (λ v. cond v (suc (fitting z)) (fitting z)) both.0 in
-    let many : 0 < times_added z = omega arith in
-    (mul-pos many some, grind (arith, ints))
+    search (arith, mul-pos, ltb-true, ints)
 
 pub overlap_yes : (z : Run) → squeezes z ≡ true → overlap z ≡ int_div (excess z) (pos (copies_added z))
-overlap_yes z e = ap (λ v. cond v (int_div (excess z) (pos (copies_added z))) (pos 0)) e
+overlap_yes z e = cc
 
 pub overlap_no : (z : Run) → squeezes z ≡ false → overlap z ≡ pos 0
-overlap_no z e = ap (λ v. cond v (int_div (excess z) (pos (copies_added z))) (pos 0)) e
+overlap_no z e = cc
 
 pub quotient_bounds : (a : ℤ) (n : ℕ) → pos 0 ≤ℤ a → 0 < n → (pos 0 ≤ℤ int_div a (pos n)) × (int_div a (pos n) ≤ℤ a)
-quotient_bounds (pos a) n h p = (omega (arith, ints), omega (arith, ints, div-le_self a n))
-quotient_bounds (negsuc a) n h p = absurd (omega (arith, ints))
+quotient_bounds (pos a) n h p = search (arith, ints, div-le_self)
+quotient_bounds (negsuc a) n h p = search (arith, ints)
 
 -- what copies that overlap share together: no more than they reach too far
 quotient_times : (a : ℤ) (n : ℕ) → pos 0 ≤ℤ a → 0 < n → (pos 0 ≤ℤ (pos n *ℤ int_div a (pos n)))
     × ((pos n *ℤ int_div a (pos n)) ≤ℤ a)
 quotient_times a zero h p = absurd (omega arith)
 quotient_times (pos a) (suc n) h p =
-    let product : pos (suc n) *ℤ int_div (pos a) (pos (suc n)) ≡ pos (suc n * (a / suc n)) =
-    pos-*ℤ-pos (suc n) (a / suc n) in
-    (omega (arith, ints, product), omega (arith, ints, product))
-quotient_times (negsuc a) (suc n) h p = absurd (omega (arith, ints))
-
-pub squeezed_tile : (z : Run) → squeezes z ≡ true → 0 < z.repeaters
-squeezed_tile z e =
-    let both = and_parts (falls_short z) _ e in
-    let short = and_parts (int_lt (pos 0) (left z -ℤ reach z (fitting z))) (nat_lt 0 z.repeaters) both.0 in
-    ltb-true 0 z.repeaters short.1
+    search (arith, ints, pos-*ℤ-pos)
+quotient_times (negsuc a) (suc n) h p = search (arith, ints)
 
 pub shared_bounds : (z : Run) → squeezes z ≡ true → (pos 0 ≤ℤ (pos (copies_added z) *ℤ overlap z))
     × ((pos (copies_added z) *ℤ overlap z) ≤ℤ excess z)
 shared_bounds z e =
     let some = squeezed_some z e in
-    let P : ℤ → Type 0 = λ o. (pos 0 ≤ℤ (pos (copies_added z) *ℤ o)) × ((pos (copies_added z) *ℤ o) ≤ℤ excess z) in
-    subst P (sym (overlap_yes z e)) (quotient_times (excess z) (copies_added z) (omega (arith, ints)) some.0)
+    search (arith, overlap_yes z e, quotient_times (excess z) (copies_added z) (omega (arith, ints)) some.0)
 
 share_nothing : (n : ℕ) (o : ℤ) → o ≡ pos 0 → pos n *ℤ o ≡ pos 0
-share_nothing n o e = ap (λ o. pos n *ℤ o) e ∙ *ℤ-zero (pos n)
+share_nothing n o e = cc (*ℤ-zero (pos n))
 
 shared_if : (z : Run) (b : Bool) → squeezes z ≡ b → FitsSigned w32 (left z) → FitsSigned w32 (reach z (times_added z))
     → (pos 0 ≤ℤ (pos (copies_added z) *ℤ overlap z)) × ((pos (copies_added z) *ℤ overlap z) ≤ℤ pos (2 ^ 34))
-shared_if z true e l r = let bounds = shared_bounds z e in (bounds.0, omega (arith, ints, bounds.1, l, r))
-shared_if z false e l r = let none =
-    share_nothing (copies_added z) (overlap z)
-    (overlap_no z e) in (omega (arith, ints, none), omega (arith, ints, none))
+shared_if z true e l r = let bounds = shared_bounds z e in search (arith, bounds.0, ints, bounds.1)
+shared_if z false e l r = search (arith, ints, share_nothing (copies_added z) (overlap z) (overlap_no z e))
 
 pub shared_within : (z : Run) → FitsSigned w32 (left z) → FitsSigned w32 (reach z (times_added z))
     → (pos 0 ≤ℤ (pos (copies_added z) *ℤ overlap z)) × ((pos (copies_added z) *ℤ overlap z) ≤ℤ pos (2 ^ 34))
 shared_within z l r = shared_if z (squeezes z) refl l r
 
 -- the quotient that overlap is, and its bounds
-pub overlap_at : (z : Run) (q ex n : ℤ) → squeezes z ≡ true → q ≡ int_div ex n → ex ≡ excess z
-    → n ≡ pos (copies_added z) → q ≡ overlap z
-overlap_at z q ex n e d f h = d ∙ ap (λ x. int_div x n) f ∙ ap (λ m. int_div (excess z) m) h ∙ sym (overlap_yes z e)
-
 pub overlap_bounds : (z : Run) → squeezes z ≡ true → (pos 0 ≤ℤ overlap z) × (overlap z ≤ℤ excess z)
 overlap_bounds z e =
     let some = squeezed_some z e in
-    let P : ℤ → Type 0 = λ o. (pos 0 ≤ℤ o) × (o ≤ℤ excess z) in
-    subst P (sym (overlap_yes z e)) (quotient_bounds (excess z) (copies_added z) (omega (arith, ints)) some.0)
+    search (arith, overlap_yes z e, quotient_bounds (excess z) (copies_added z) (omega (arith, ints)) some.0)
 
 pub centred_apart : (right_to_left : Bool) (z : Run) (w : ℤ) → w ≡ laid_width z → fits_i32 (z.word -ℤ w) ≡ false
     → None ≡ start_if_fits Centred right_to_left z
 centred_apart right_to_left z w e f =
-    sym (if_second (fits_i32 (laid_width z)) _ _ _ (ap (λ b. b && true) (sym (ap (λ w. fits_i32 (z.word -ℤ w)) e) ∙ f)))
+    search (arith, if_second)
 
 pub centred_fits : (right_to_left : Bool) (z : Run) (w : ℤ) → w ≡ laid_width z → fits_i32 w ≡ true
     → fits_i32 (z.word -ℤ w) ≡ true → Some (start Centred right_to_left z) ≡ start_if_fits Centred right_to_left z
 centred_fits right_to_left z w e f h =
-    sym (if_both (fits_i32 (laid_width z)) _ _ _ (sym (ap fits_i32 e) ∙ f)
-    (ap (λ b. b && true) (sym (ap (λ w. fits_i32 (z.word -ℤ w)) e) ∙ h)))
+    search (arith, if_both)
 
 -- how a run is laid, by the tests in turn
 four_true : (a b c d : Bool) (rest : Bool) → (a && (b && (c && (d && true)))) ≡ true → (a && (b && (c && (d && rest))))
@@ -218,11 +174,6 @@ number_or None = pos 0
 some_same : {x y : ℤ} → Some x ≡ Some y → x ≡ y
 some_same e = ap number_or e
 
-as_code_found : (right_to_left : Bool) (z : Run) (b : Bool) (s : ℤ) → b ≡ true → start AsCode right_to_left z ≡ s
-    → cond b (Some (lay_of AsCode right_to_left z)) None ≡ Some (record (lay_of AsCode right_to_left z) { start = s })
-as_code_found right_to_left z b s e f = ap (λ b. cond b (Some (lay_of AsCode right_to_left z)) None) e
-    ∙ ap (λ s. let r : Lay = record (lay_of AsCode right_to_left z) { start = s } in Some r) f
-
 pub four_and_two : (z : Run) (rest : Bool) → list_all fits_i32 (z.word ∷ z.fixed ∷ z.repeating ∷ left z ∷ []) ≡ true
     → list_all fits_i32 (reach z (times_added z) ∷ pos (copies_added z) ∷ []) ≡ true
     → (fits_i32 z.word
@@ -230,14 +181,13 @@ pub four_and_two : (z : Run) (rest : Bool) → list_all fits_i32 (z.word ∷ z.f
     && (fits_i32 z.repeating
     && (fits_i32 (left z) && (fits_i32 (reach z (times_added z)) && (fits_i32 (pos (copies_added z)) && rest))))))
     ≡ rest
-four_and_two z rest e f = four_true (fits_i32 z.word) (fits_i32 z.fixed) (fits_i32 z.repeating) (fits_i32 (left z)) _ e
-    ∙ two_true (fits_i32 (reach z (times_added z))) (fits_i32 (pos (copies_added z))) rest f
+four_and_two z rest e f = search (arith, four_true, two_true)
 
 centred_found : (right_to_left : Bool) (z : Run) (b : Bool) (s : ℤ) → cond b (Some (start Centred right_to_left z)) None
     ≡ Some s → cond b (Some (lay_of Centred right_to_left z)) None
     ≡ Some (record (lay_of Centred right_to_left z) { start = s })
 centred_found right_to_left z true s e =
-    ap (λ s. let r : Lay = record (lay_of Centred right_to_left z) { start = s } in Some r) (some_same e)
+    search (arith, some_same)
 centred_found right_to_left z false s e = absurd (none-some s e)
 
 pub lay_found : (choice : StretchStart) (right_to_left : Bool) (z : Run) (s : ℤ)
@@ -245,11 +195,10 @@ pub lay_found : (choice : StretchStart) (right_to_left : Bool) (z : Run) (s : �
     → list_all fits_i32 (reach z (times_added z) ∷ pos (copies_added z) ∷ []) ≡ true
     → start_if_fits choice right_to_left z ≡ Some s → lay_if_fits choice right_to_left z
     ≡ Some (record (lay_of choice right_to_left z) { start = s })
-lay_found AsCode right_to_left z s e f h = as_code_found right_to_left z _ s (four_and_two z true e f) (some_same h)
+lay_found AsCode right_to_left z s e f h = search (arith, four_and_two, some_same)
 lay_found Centred right_to_left z s e f h =
     let rest = list_all fits_i32 (laid_width z ∷ (z.word -ℤ laid_width z) ∷ []) in
-    ap (λ b. cond b (Some (lay_of Centred right_to_left z)) None) (four_and_two z rest e f)
-    ∙ centred_found right_to_left z rest s h
+    cc (four_and_two z rest e f, centred_found right_to_left z rest s h)
 
 -- where a number doesn't fit, there is no way to lay it
 four_false : (a b c d rest : Bool) → (a && (b && (c && (d && true)))) ≡ false → (a && (b && (c && (d && rest)))) ≡ false
@@ -266,7 +215,7 @@ two_false false b rest e = refl
 
 run_apart : (z : Run) (rest : Bool) → list_all fits_i32 (z.word ∷ z.fixed ∷ z.repeating ∷ left z ∷ []) ≡ false
     → (fits_i32 z.word && (fits_i32 z.fixed && (fits_i32 z.repeating && (fits_i32 (left z) && rest)))) ≡ false
-run_apart z rest e = four_false (fits_i32 z.word) (fits_i32 z.fixed) (fits_i32 z.repeating) (fits_i32 (left z)) rest e
+run_apart z rest e = search (arith, four_false)
 
 added_apart : (z : Run) (rest : Bool) → list_all fits_i32 (z.word ∷ z.fixed ∷ z.repeating ∷ left z ∷ []) ≡ true
     → list_all fits_i32 (reach z (times_added z) ∷ pos (copies_added z) ∷ []) ≡ false
@@ -275,13 +224,12 @@ added_apart : (z : Run) (rest : Bool) → list_all fits_i32 (z.word ∷ z.fixed 
     && (fits_i32 z.repeating
     && (fits_i32 (left z) && (fits_i32 (reach z (times_added z)) && (fits_i32 (pos (copies_added z)) && rest))))))
     ≡ false
-added_apart z rest e f = four_true (fits_i32 z.word) (fits_i32 z.fixed) (fits_i32 z.repeating) (fits_i32 (left z)) _ e
-    ∙ two_false (fits_i32 (reach z (times_added z))) (fits_i32 (pos (copies_added z))) rest f
+added_apart z rest e f = search (arith, four_true, two_false)
 
 pub repeating_apart : (z : Run) → fits_i32 z.repeating ≡ false
     → list_all fits_i32 (z.word ∷ z.fixed ∷ z.repeating ∷ left z ∷ []) ≡ false
 repeating_apart z e =
-    and_right (fits_i32 z.word) _ (and_right (fits_i32 z.fixed) _ (ap (λ b. b && (fits_i32 (left z) && true)) e))
+    search (arith, and_right)
 
 -- a run by its numbers
 pub same_run : (w v f h r s : ℤ) (n m : ℕ) → w ≡ v → f ≡ h → r ≡ s → n ≡ m
@@ -300,18 +248,18 @@ pub no_lay_run : (choice : StretchStart) (right_to_left : Bool) (z : Run)
     → list_all fits_i32 (z.word ∷ z.fixed ∷ z.repeating ∷ left z ∷ []) ≡ false
     → None ≡ lay_if_fits choice right_to_left z
 no_lay_run AsCode right_to_left z e =
-    sym (ap (λ b. cond b (Some (lay_of AsCode right_to_left z)) None) (run_apart z _ e))
+    search (arith, run_apart)
 no_lay_run Centred right_to_left z e =
-    sym (ap (λ b. cond b (Some (lay_of Centred right_to_left z)) None) (run_apart z _ e))
+    search (arith, run_apart)
 
 pub no_lay_added : (choice : StretchStart) (right_to_left : Bool) (z : Run)
     → list_all fits_i32 (z.word ∷ z.fixed ∷ z.repeating ∷ left z ∷ []) ≡ true
     → list_all fits_i32 (reach z (times_added z) ∷ pos (copies_added z) ∷ []) ≡ false
     → None ≡ lay_if_fits choice right_to_left z
 no_lay_added AsCode right_to_left z e f =
-    sym (ap (λ b. cond b (Some (lay_of AsCode right_to_left z)) None) (added_apart z _ e f))
+    search (arith, added_apart)
 no_lay_added Centred right_to_left z e f =
-    sym (ap (λ b. cond b (Some (lay_of Centred right_to_left z)) None) (added_apart z _ e f))
+    search (arith, added_apart)
 
 no_start : (right_to_left : Bool) (z : Run) (b : Bool) → cond b (Some (start Centred right_to_left z)) None ≡ None
     → cond b (Some (lay_of Centred right_to_left z)) None ≡ None
@@ -324,6 +272,4 @@ pub no_lay_start : (choice : StretchStart) (right_to_left : Bool) (z : Run)
     → start_if_fits choice right_to_left z ≡ None → None ≡ lay_if_fits choice right_to_left z
 no_lay_start AsCode right_to_left z e f h = absurd (none-some _ (sym h))
 no_lay_start Centred right_to_left z e f h =
-    let rest = list_all fits_i32 (laid_width z ∷ (z.word -ℤ laid_width z) ∷ []) in
-    sym (ap (λ b. cond b (Some (lay_of Centred right_to_left z)) None) (four_and_two z rest e f)
-    ∙ no_start right_to_left z rest h)
+    search (arith, four_and_two, no_start)

@@ -1,6 +1,6 @@
 -- How much longer a stretched part is, and when a number of it doesn't fit.
-use Rattle.std.proofs.Common.{◌≡◌, ◌<◌, ◌≤◌, ◌+◌, ◌-◌, ◌*◌, ℕ, suc, ℤ, ◌-ℤ◌, Bool, true, false, cond, not, nat_lt, ◌&&◌, ◌||◌, List, [], ◌∷◌, ◌++◌, length, map, reverse, take, drop, flat_map, replicate, Option, None, Some, refl, subst, sym, ◌∙◌, ap, arith, length-append, length-drop, length-take-le}
-use Rattle.std.specs.List.{list_all, list_any, suffix_len, zip, take-map}
+use Rattle.std.proofs.Common.{◌≡◌, ◌<◌, ◌≤◌, ◌+◌, ◌-◌, ◌*◌, ℕ, suc, ℤ, Bool, true, false, cond, not, ◌&&◌, ◌||◌, List, [], ◌∷◌, ◌++◌, length, map, take, drop, flat_map, replicate, None, Some, refl, sym, ◌∙◌, ap, arith, length-append, length-drop, length-take-le}
+use Rattle.std.specs.List.{list_all, suffix_len, zip, take-map}
 use Rattle.std.proofs.lemmas.List.{append-nil, length-map, map-append, drop-map, take-append-drop, take_all, drop-take, length-reverse, take-take}
 use Rattle.std.proofs.lemmas.List.Concat.{flat_map-append}
 use Rattle.std.proofs.lemmas.List.Folds.{list_all-append, list_any-append}
@@ -18,11 +18,11 @@ use Rattle.shapers_buffer.proofs.MappedLists.{map-reverse}
 use Rattle.shapers_base.specs.declared.plan.arabic.StretchStart.{StretchStart}
 use Rattle.shapers_base.specs.Font.{Font}
 use Rattle.shapers_stretch.specs.Cells.{Cell, before_tiles, before_word, glyphs_of, in_word, is_tile, parts_of_text, positions_of, repeats, tiles_of, word_of}
-use Rattle.shapers_stretch.specs.CountingWalk.{IsCounted, moves_of, offsets_fit, offsets_on, pen_behind, run_added, run_moves, stands_at}
+use Rattle.shapers_stretch.specs.CountingWalk.{IsCounted, moves_of, offsets_fit, offsets_on, pen_behind, run_added, run_moves}
 use Rattle.shapers_stretch.specs.declared.ot_shaper_arabic_stretch.measuring.Run.{Run}
 use Rattle.shapers_stretch.specs.Lays.{lay_of}
-use Rattle.shapers_stretch.specs.Measure.{times_added, copies_added, fits_i32, numbers_to_fit, overlap, start}
-use Rattle.shapers_stretch.specs.Stretch.{Copy, Laying, copies, copies_of, has_run, laid_run, measured, overflows, part_overflows, repeating, run_of_part, stretched, stretched_over, stretched_part, unbroken, width_of}
+use Rattle.shapers_stretch.specs.Measure.{times_added, copies_added, fits_i32, numbers_to_fit, start}
+use Rattle.shapers_stretch.specs.Stretch.{Copy, Laying, copies, copies_of, has_run, measured, overflows, part_overflows, repeating, run_of_part, stretched, stretched_over, stretched_part, unbroken}
 use Rattle.shapers_stretch.proofs.LastParts.{LastPartAt, last_part_at}
 use Rattle.shapers_stretch.proofs.Lengths.{length-copies, length-laid}
 use Rattle.shapers_stretch.proofs.Zips.{length-zipped, zip-take}
@@ -35,14 +35,14 @@ pub glyphs_zip : (gs : List hb_glyph_info_t) (ps : List GlyphPosition) → lengt
     → glyphs_of (zip gs ps) ≡ gs
 glyphs_zip [] ps e = refl
 glyphs_zip (g ∷ gs) [] e = absurd (omega arith)
-glyphs_zip (g ∷ gs) (p ∷ ps) e = ap (λ hs. g ∷ hs) (glyphs_zip gs ps (omega arith))
+glyphs_zip (g ∷ gs) (p ∷ ps) e = cc (glyphs_zip gs ps (omega arith))
 
 pub positions_zip : (gs : List hb_glyph_info_t) (ps : List GlyphPosition) → length gs ≡ length ps
     → positions_of (zip gs ps) ≡ ps
 positions_zip [] [] e = refl
 positions_zip [] (p ∷ ps) e = absurd (omega arith)
 positions_zip (g ∷ gs) [] e = absurd (omega arith)
-positions_zip (g ∷ gs) (p ∷ ps) e = ap (λ qs. p ∷ qs) (positions_zip gs ps (omega arith))
+positions_zip (g ∷ gs) (p ∷ ps) e = cc (positions_zip gs ps (omega arith))
 
 -- flags change no tile
 flag_if : (b : Bool) (bits : ℕ) (g : hb_glyph_info_t) → repeats (cond b g (with_bits bits g)) ≡ repeats g
@@ -60,118 +60,92 @@ as_many_repeat : (bits m : ℕ) (gs : List hb_glyph_info_t) → length (repeatin
     ≡ length (repeating gs)
 as_many_repeat bits m [] = refl
 as_many_repeat bits m (g ∷ gs) =
-    filter_if (repeats (with_bits_off bits m g)) (repeats g) (with_bits_off bits m g) g
-    (repeating (map (with_bits_off bits m) gs)) (repeating gs) (flag_if _ bits g) (as_many_repeat bits m gs)
+    search (arith, filter_if, flag_if, as_many_repeat bits m gs)
 
 unbroken_glyphs : (cs : List Cell) → glyphs_of (unbroken cs) ≡ flagged 3 (glyphs_of cs)
 unbroken_glyphs cs =
-    glyphs_zip (flagged 3 (glyphs_of cs)) (positions_of cs)
-    (length-map (glyphs_of cs) (with_bits_off 3 (least (clusters (glyphs_of cs)))) ∙ length-map cs (λ c. c.0)
-    ∙ sym (length-map cs (λ c. c.1)))
+    search (arith, glyphs_zip, length-map)
 
 pub length-unbroken : (cs : List Cell) → length (unbroken cs) ≡ length cs
-length-unbroken cs = sym (length-map (unbroken cs) (λ c. c.0)) ∙ ap length (unbroken_glyphs cs)
-    ∙ length-map (glyphs_of cs) (with_bits_off 3 (least (clusters (glyphs_of cs)))) ∙ length-map cs (λ c. c.0)
+length-unbroken cs = search (arith, length-map, unbroken_glyphs)
 
 run_repeats : (word tiles : List Cell) → length (repeating (glyphs_of (drop (length word) (unbroken (word ++ tiles)))))
     ≡ length (repeating (glyphs_of tiles))
 run_repeats word tiles =
     let all = glyphs_of (word ++ tiles) in
     let m = least (clusters all) in
-    let behind : drop (length word) all ≡ glyphs_of tiles = drop-map (λ c. c.0) (length word) (word ++ tiles)
-    ∙ ap glyphs_of (drop-append_seam word tiles) in
-    let same : glyphs_of (drop (length word) (unbroken (word ++ tiles))) ≡ map (with_bits_off 3 m) (glyphs_of tiles) =
-    sym (drop-map (λ c. c.0) (length word) (unbroken (word ++ tiles)))
-    ∙ ap (drop (length word)) (unbroken_glyphs (word ++ tiles)) ∙ drop-map (with_bits_off 3 m) (length word) all
-    ∙ ap (map (with_bits_off 3 m)) behind in
-    ap (λ gs. length (repeating gs)) same ∙ as_many_repeat 3 m (glyphs_of tiles)
+    cc (
+      drop-map (λ c. c.0) (length word) (unbroken (word ++ tiles)),
+      unbroken_glyphs (word ++ tiles),
+      drop-map (with_bits_off 3 m) (length word) all,
+      drop-map (λ c. c.0) (length word) (word ++ tiles),
+      drop-append_seam word tiles,
+      as_many_repeat 3 m (glyphs_of tiles),
+    )
 
 -- the word as long as before, and the run longer by its added copies
 over_length : (how : Laying) (z : Run) (word tiles : List Cell) → length (stretched_over how z word tiles)
     ≡ length word + (length tiles + times_added z * length (repeating (glyphs_of tiles)))
 over_length how z word tiles =
     let whole = unbroken (word ++ tiles) in
-    let run = drop (length word) whole in
-    let long : length whole ≡ length word + length tiles = length-unbroken (word ++ tiles) ∙ length-append word tiles in
-    let first : length (take (length word) whole) ≡ length word = length-take-le (length word) whole (omega arith) in
-    let rest : length run ≡ length tiles = omega (arith, length-drop (length word) whole) in
-    let copied : length (reverse (laid_run how z run)) ≡ length run + times_added z * length (repeating (glyphs_of run))
-    = length-reverse (laid_run how z run)
-    ∙ length-laid how.right_to_left (start how.choice how.right_to_left z) (copies how.font z run)
-    ∙ length-copies how.font z run in
-    let many : length run + times_added z * length (repeating (glyphs_of run)) ≡ length tiles + times_added z
-    * length (repeating (glyphs_of tiles)) =
-    ap (λ n. n + times_added z * length (repeating (glyphs_of run))) rest
-    ∙ ap (λ n. length tiles + times_added z * n) (run_repeats word tiles) in
-    length-append (take (length word) whole) (reverse (laid_run how z run))
-    ∙ ap (λ n. n + length (reverse (laid_run how z run))) first ∙ ap (λ n. length word + n) (copied ∙ many)
+    let long : length whole ≡ length word + length tiles = search (arith, length-unbroken, length-append) in
+    search (arith, length-append, length-take-le, length-reverse, length-laid, length-copies, length-drop, run_repeats)
 
 part_length : (part : List Cell)
     → length part ≡ length (before_word part) + (length (word_of part) + length (tiles_of part))
 part_length part =
     let whole : length (before_tiles part) + length (tiles_of part) ≡ length part =
-    sym (length-append (before_tiles part) (tiles_of part)) ∙ ap length (take-append-drop _ part) in
+    cc (length-append (before_tiles part) (tiles_of part), take-append-drop _ part) in
     let front : length (before_word part) + length (word_of part) ≡ length (before_tiles part) =
-    sym (length-append (before_word part) (word_of part))
-    ∙ ap length (take-append-drop _ (before_tiles part)) in
+    cc (length-append (before_word part) (word_of part), take-append-drop _ (before_tiles part)) in
     omega arith
 
 pub run_length : (how : Laying) (part : List Cell) → has_run part ≡ true → length (stretched_part how part)
     ≡ length part + copies_added (run_of_part how.font part)
 run_length how part e =
     let z = run_of_part how.font part in
-    let over = stretched_over how z (word_of part) (tiles_of part) in
-    ap (λ b. length (cond (not b) part (before_word part ++ over))) e ∙ length-append (before_word part) over
-    ∙ omega (arith, over_length how z (word_of part) (tiles_of part), part_length part)
+    search (
+      arith,
+      length-append (before_word part) (stretched_over how z (word_of part) (tiles_of part)),
+      over_length how z (word_of part) (tiles_of part),
+      part_length part,
+    )
 
 pub no_run_length : (how : Laying) (part : List Cell) → has_run part ≡ false → stretched_part how part ≡ part
 no_run_length how part e =
-    ap (λ b. cond (not b) part (before_word part ++ stretched_over how (run_of_part how.font part) (word_of part)
-    (tiles_of part))) e
+    cc
 
 -- the offsets of a laid list, from the moves of its copies alone
 on_offsets : (right_to_left : Bool) (pen : ℤ) (cs : List Copy) → map (λ c. c.1.x_offset) (laid_on right_to_left pen cs)
     ≡ offsets_on right_to_left pen (map (λ copy. copy.move) cs)
 on_offsets right_to_left pen [] = refl
 on_offsets right_to_left pen (c ∷ cs) =
-    ap (λ xs. stands_at right_to_left pen c.move ∷ xs)
-    (on_offsets right_to_left (pen_behind right_to_left pen c.move) cs)
+    cc (on_offsets right_to_left (pen_behind right_to_left pen c.move) cs)
 
 moves_if : (b : Bool) (n : ℕ) (copy : Copy) → map (λ copy. copy.move) (cond b (replicate n copy) [])
     ≡ cond b (replicate n copy.move) []
-moves_if true n copy = map-replicate (λ copy. copy.move) n copy
+moves_if true n copy = search (arith, map-replicate)
 moves_if false n copy = refl
 
 tile_moves : (choice : StretchStart) (right_to_left : Bool) (font : Font) (z : Run) (c : Cell)
     → map (λ copy. copy.move) (copies_of font z c) ≡ moves_of font (lay_of choice right_to_left z) c.0
 tile_moves choice right_to_left font z c =
-    ap (λ ms. width_of font c.0 ∷ ms)
-    (moves_if (repeats c.0) (times_added z) (record { tile = c; move = width_of font c.0 -ℤ overlap z }))
+    search (arith, moves_if)
 
 flat_moves : (choice : StretchStart) (right_to_left : Bool) (font : Font) (z : Run) (cs : List Cell)
     → map (λ copy. copy.move) (flat_map (copies_of font z) cs)
     ≡ flat_map (moves_of font (lay_of choice right_to_left z)) (glyphs_of cs)
 flat_moves choice right_to_left font z [] = refl
 flat_moves choice right_to_left font z (c ∷ cs) =
-    let lay = lay_of choice right_to_left z in
-    map-append (λ copy. copy.move) (copies_of font z c) (flat_map (copies_of font z) cs)
-    ∙ ap (λ ms. ms ++ map (λ copy. copy.move) (flat_map (copies_of font z) cs))
-    (tile_moves choice right_to_left font z c)
-    ∙ ap (λ ms. moves_of font lay c.0 ++ ms) (flat_moves choice right_to_left font z cs)
+    cc (
+      map-append (λ copy. copy.move) (copies_of font z c) (flat_map (copies_of font z) cs),
+      tile_moves choice right_to_left font z c,
+      flat_moves choice right_to_left font z cs,
+    )
 
 pub moved_copies : (how : Laying) (z : Run) (tiles : List Cell) → map (λ copy. copy.move) (copies how.font z tiles)
     ≡ run_moves how.font (lay_of how.choice how.right_to_left z) (glyphs_of tiles)
-moved_copies how z tiles = flat_moves how.choice how.right_to_left how.font z (reverse tiles)
-    ∙ ap (flat_map (moves_of how.font (lay_of how.choice how.right_to_left z))) (map-reverse (λ c. c.0) tiles)
-
-pub run_offsets : (how : Laying) (z : Run) (tiles : List Cell) → map (λ c. c.1.x_offset) (laid_run how z tiles)
-    ≡ offsets_on how.right_to_left (start how.choice how.right_to_left z)
-    (run_moves how.font (lay_of how.choice how.right_to_left z) (glyphs_of tiles))
-run_offsets how z tiles =
-    let from = start how.choice how.right_to_left z in
-    ap (map (λ c. c.1.x_offset)) (laid_is how.right_to_left from (copies how.font z tiles))
-    ∙ on_offsets how.right_to_left from (copies how.font z tiles)
-    ∙ ap (offsets_on how.right_to_left from) (moved_copies how z tiles)
+moved_copies how z tiles = search (arith, flat_moves, map-reverse)
 
 -- whether all numbers of a part's run fit
 abbrev all_fit : Laying → Run → List hb_glyph_info_t → Bool
@@ -179,18 +153,8 @@ all_fit how z tiles = list_all fits_i32 (numbers_to_fit how.choice z)
     && offsets_fit how.right_to_left (start how.choice how.right_to_left z)
     (run_moves how.font (lay_of how.choice how.right_to_left z) tiles)
 
-fit_same : (how : Laying) (part : List Cell) → has_run part ≡ true
-    → part_overflows how part ≡ not (all_fit how (run_of_part how.font part) (glyphs_of (tiles_of part)))
-fit_same how part e =
-    let z = run_of_part how.font part in
-    let offsets = map (λ c. c.1.x_offset) (laid_run how z (tiles_of part)) in
-    ap (λ b. b && not (list_all fits_i32 (numbers_to_fit how.choice z ++ offsets))) e
-    ∙ ap not (list_all-append fits_i32 (numbers_to_fit how.choice z) offsets
-    ∙ ap (λ xs. list_all fits_i32 (numbers_to_fit how.choice z) && list_all fits_i32 xs)
-    (run_offsets how z (tiles_of part)))
-
 found_if : (b : Bool) (m n : ℕ) → cond b (Some m) None ≡ Some n → (b ≡ true) × (m ≡ n)
-found_if true m n e = (refl, ap (λ o. elim o [ Some x ↦ x | None ↦ n ]) e)
+found_if true m n e = search arith
 found_if false m n e = absurd (none-some n e)
 
 lost_if : (b : Bool) (m : ℕ) → cond b (Some m) None ≡ None → b ≡ false
@@ -204,14 +168,7 @@ no_or false = refl
 
 last_overflows : (how : Laying) (cs front part : List Cell) → parts_of_text cs ≡ parts_of_text front ++ part ∷ []
     → overflows how cs ≡ (overflows how front || (part_overflows how part || false))
-last_overflows how cs front part e = ap (list_any (part_overflows how)) e
-    ∙ list_any-append (part_overflows how) (parts_of_text front) (part ∷ [])
-
-last_stretched : (how : Laying) (cs front part : List Cell) → parts_of_text cs ≡ parts_of_text front ++ part ∷ []
-    → stretched how cs ≡ stretched how front ++ stretched_part how part
-last_stretched how cs front part e = ap (flat_map (stretched_part how)) e
-    ∙ flat_map-append (stretched_part how) (parts_of_text front) (part ∷ [])
-    ∙ ap (λ ys. stretched how front ++ ys) (append-nil (stretched_part how part))
+last_overflows how cs front part e = search (arith, list_any-append)
 
 counted_by : (how : Laying) (cs : List Cell) (s n : ℕ) → s ≤ length cs → parts_of_text cs ≡ parts_of_text (take s cs)
     ++ drop s cs ∷ [] → part_overflows how (drop s cs) ≡ false → length (stretched_part how (drop s cs))
@@ -219,52 +176,38 @@ counted_by : (how : Laying) (cs : List Cell) (s n : ℕ) → s ≤ length cs →
 counted_by how cs s n p e fits long =
     let front = stretched how (take s cs) in
     let whole : length (stretched how cs) ≡ length front + length (stretched_part how (drop s cs)) =
-    ap length (last_stretched how cs (take s cs) (drop s cs) e)
-    ∙ length-append front (stretched_part how (drop s cs)) in
-    record {
-      within = p;
-      fits = last_overflows how cs (take s cs) (drop s cs) e ∙ ap (λ b. overflows how (take s cs) || (b || false)) fits
-          ∙ no_or (overflows how (take s cs));
-      longer = omega (arith, length-drop s cs);
-    }
+    search (arith, flat_map-append, append-nil, length-append front (stretched_part how (drop s cs))) in
+    search (arith, last_overflows how cs (take s cs) (drop s cs) e, no_or (overflows how (take s cs)), length-drop s cs)
 
 has_tiles : (part tiles : List Cell) → tiles_of part ≡ tiles → 0 < length tiles → has_run part ≡ true
-has_tiles part tiles e some = ap (λ ts. nat_lt 0 (length ts)) e ∙ grind (arith, nat_tests)
+has_tiles part tiles e some = search (arith, nat_tests)
 
 no_tiles : (part tiles : List Cell) → tiles_of part ≡ tiles → length tiles ≡ 0 → has_run part ≡ false
-no_tiles part tiles e none = ap (λ ts. nat_lt 0 (length ts)) e ∙ grind (arith, nat_tests)
+no_tiles part tiles e none = search (arith, nat_tests)
 
 -- a last part without tiles
 pub counted_plain : (how : Laying) (cs : List Cell) (s w t : ℕ) → LastPartAt cs s w t → length cs ≤ t
     → IsCounted how cs s 0
 counted_plain how cs s w t at most =
     let part = drop s cs in
-    let without : has_run part ≡ false = no_tiles part (drop t cs) at.tiles_is (omega (arith, length-drop t cs)) in
-    let z = run_of_part how.font part in
+    let without : has_run part ≡ false = search (arith, no_tiles, length-drop) in
     let fits : part_overflows how part ≡ false =
-    ap (λ b. b && not
-    (list_all fits_i32
-    (numbers_to_fit how.choice z ++ map (λ c. c.1.x_offset) (laid_run how z (tiles_of part))))) without in
+    cc in
     counted_by how cs s 0 (omega (arith, at.less)) at.parted fits
-    (omega (arith, ap length (no_run_length how part without)))
+    (search (arith, no_run_length))
 
 -- the run of a last part, by what the slices give of it
 run_at : (how : Laying) (cs : List Cell) (s w t : ℕ) → LastPartAt cs s w t → run_of_part how.font (drop s cs)
     ≡ measured how.font (positions_of (drop w (take t cs))) (glyphs_of (drop t cs))
 run_at how cs s w t at =
-    ap (λ word. measured how.font (positions_of word) (glyphs_of (tiles_of (drop s cs)))) at.word_is
-    ∙ ap (λ tiles. measured how.font (positions_of (drop w (take t cs))) (glyphs_of tiles)) at.tiles_is
+    search arith
 
 fit_at : (how : Laying) (cs : List Cell) (s w t : ℕ) → LastPartAt cs s w t → t < length cs
     → part_overflows how (drop s cs)
     ≡ not (all_fit how (measured how.font (positions_of (drop w (take t cs))) (glyphs_of (drop t cs)))
     (glyphs_of (drop t cs)))
 fit_at how cs s w t at less =
-    let part = drop s cs in
-    let has : has_run part ≡ true = has_tiles part (drop t cs) at.tiles_is (omega (arith, length-drop t cs)) in
-    fit_same how part has ∙ ap (λ z. not (all_fit how z (glyphs_of (tiles_of part)))) (run_at how cs s w t at)
-    ∙ ap (λ ts. not (all_fit how (measured how.font (positions_of (drop w (take t cs))) (glyphs_of (drop t cs)))
-    (glyphs_of ts))) at.tiles_is
+    search (arith, list_all-append, laid_is, on_offsets, moved_copies, has_tiles, length-drop, run_at)
 
 pub counted_run : (how : Laying) (cs : List Cell) (s w t n : ℕ) → LastPartAt cs s w t → t < length cs
     → run_added how.choice how.right_to_left how.font
@@ -273,54 +216,42 @@ pub counted_run : (how : Laying) (cs : List Cell) (s w t n : ℕ) → LastPartAt
 counted_run how cs s w t n at less e =
     let part = drop s cs in
     let z = measured how.font (positions_of (drop w (take t cs))) (glyphs_of (drop t cs)) in
-    let has : has_run part ≡ true = has_tiles part (drop t cs) at.tiles_is (omega (arith, length-drop t cs)) in
-    let found = found_if (all_fit how z (glyphs_of (drop t cs))) (copies_added z) n e in
-    let fits : part_overflows how part ≡ false = fit_at how cs s w t at less ∙ ap not found.0 in
-    let many : copies_added (run_of_part how.font part) ≡ n = ap copies_added (run_at how cs s w t at) ∙ found.1 in
-    counted_by how cs s n (omega (arith, at.less)) at.parted fits (omega (arith, run_length how part has))
+    let many : copies_added (run_of_part how.font part) ≡ n = search (arith, run_at) in
+    counted_by how cs s n (omega (arith, at.less)) at.parted
+    (search (arith, fit_at)) (omega (arith, run_length how part (search (arith, has_tiles, length-drop))))
 
 pub uncounted_run : (how : Laying) (cs : List Cell) (s w t : ℕ) → LastPartAt cs s w t → t < length cs
     → run_added how.choice how.right_to_left how.font
     (measured how.font (positions_of (drop w (take t cs))) (glyphs_of (drop t cs))) (glyphs_of (drop t cs)) ≡ None
     → overflows how cs ≡ true
 uncounted_run how cs s w t at less e =
-    let part = drop s cs in
     let z = measured how.font (positions_of (drop w (take t cs))) (glyphs_of (drop t cs)) in
-    let over : part_overflows how part ≡ true = fit_at how cs s w t at less
-    ∙ ap not (lost_if (all_fit how z (glyphs_of (drop t cs))) (copies_added z) e) in
-    last_overflows how cs (take s cs) part at.parted ∙ ap (λ b. overflows how (take s cs) || (b || false)) over
-    ∙ or_right (overflows how (take s cs)) true refl
+    search (
+      arith,
+      last_overflows how cs (take s cs) (drop s cs) at.parted,
+      fit_at how cs s w t at less,
+      lost_if (all_fit how z (glyphs_of (drop t cs))) (copies_added z) e,
+      or_right (overflows how (take s cs)) true refl,
+    )
 
 -- the same of a list of glyphs and one of positions
 pub last_part_zipped : (gs : List hb_glyph_info_t) (ps : List GlyphPosition) (s w t : ℕ) → length gs ≡ length ps
     → 0 < length gs → t + suffix_len is_tile gs ≡ length gs → w + suffix_len in_word (take t gs) ≡ t
     → s + suffix_len (λ g. not (is_tile g)) (take w gs) ≡ w → LastPartAt (zip gs ps) s w t
 last_part_zipped gs ps s w t both some ends word start =
-    let P : List hb_glyph_info_t → Type 0 = λ gs'. t + suffix_len is_tile gs' ≡ length gs'
-    → w + suffix_len in_word (take t gs') ≡ t → s + suffix_len (λ g. not (is_tile g)) (take w gs') ≡ w
-    → LastPartAt (zip gs ps) s w t in
-    subst P (glyphs_zip gs ps both) (last_part_at (zip gs ps) s w t (omega (arith, length-zipped gs ps both))) ends word
-    start
+    search (arith, glyphs_zip, last_part_at, length-zipped)
 
 pub tiles_zipped : (gs : List hb_glyph_info_t) (ps : List GlyphPosition) (t : ℕ) → length gs ≡ length ps
     → glyphs_of (drop t (zip gs ps)) ≡ drop t gs
-tiles_zipped gs ps t both = sym (drop-map (λ c. c.0) t (zip gs ps)) ∙ ap (drop t) (glyphs_zip gs ps both)
-
-pub word_zipped : (gs : List hb_glyph_info_t) (ps : List GlyphPosition) (w t : ℕ) → length gs ≡ length ps
-    → positions_of (drop w (take t (zip gs ps))) ≡ drop w (take t ps)
-word_zipped gs ps w t both = sym (drop-map (λ c. c.1) w (take t (zip gs ps)))
-    ∙ ap (drop w) (sym (take-map (λ c. c.1) t (zip gs ps)) ∙ ap (take t) (positions_zip gs ps both))
+tiles_zipped gs ps t both = cc (drop-map (λ c. c.0) t (zip gs ps), glyphs_zip gs ps both)
 
 -- and as the code cuts them
-sliced_tiles : (gs : List hb_glyph_info_t) (ps : List GlyphPosition) (t : ℕ) → length gs ≡ length ps
-    → take (length gs - t) (drop t gs) ≡ glyphs_of (drop t (zip gs ps))
-sliced_tiles gs ps t both = take_all (length gs - t) (drop t gs) (omega (arith, length-drop t gs))
-    ∙ sym (tiles_zipped gs ps t both)
-
 sliced_word : (gs : List hb_glyph_info_t) (ps : List GlyphPosition) (w t : ℕ) → length gs ≡ length ps → w ≤ t
     → take (t - w) (drop w ps) ≡ positions_of (drop w (take t (zip gs ps)))
 sliced_word gs ps w t both h = sym (drop-take w (t - w) ps) ∙ ap (λ n. drop w (take n ps)) (omega arith)
-    ∙ sym (word_zipped gs ps w t both)
+    ∙ sym
+    (sym (drop-map (λ c. c.1) w (take t (zip gs ps))) ∙ ap (drop w) (sym (take-map (λ c. c.1) t (zip gs ps)) ∙ ap
+    (take t) (positions_zip gs ps both)))
 
 pub run_sliced : (how : Laying) (gs : List hb_glyph_info_t) (ps : List GlyphPosition) (w t : ℕ) → length gs ≡ length ps
     → w ≤ t → run_added how.choice how.right_to_left how.font
@@ -329,45 +260,23 @@ pub run_sliced : (how : Laying) (gs : List hb_glyph_info_t) (ps : List GlyphPosi
     ≡ run_added how.choice how.right_to_left how.font
     (measured how.font (take (t - w) (drop w ps)) (take (length gs - t) (drop t gs))) (take (length gs - t) (drop t gs))
 run_sliced how gs ps w t both h =
-    let added_by : List GlyphPosition → List hb_glyph_info_t → Option ℕ =
-    λ word tiles. run_added how.choice how.right_to_left how.font (measured how.font word tiles) tiles in
-    sym (ap (λ tiles. added_by (take (t - w) (drop w ps)) tiles) (sliced_tiles gs ps t both)
-    ∙ ap (λ word. added_by word (glyphs_of (drop t (zip gs ps)))) (sliced_word gs ps w t both h))
+    search (arith, take_all, length-drop, tiles_zipped, sliced_word)
 
 -- nothing counted yet, one part more, and all
 pub counted_start : (how : Laying) (gs : List hb_glyph_info_t) (ps : List GlyphPosition) → length gs ≡ length ps
     → IsCounted how (zip gs ps) (length gs) 0
 counted_start how gs ps both =
-    let cs = zip gs ps in
     let long = length-zipped gs ps both in
-    let whole : take (length gs) cs ≡ cs = take_all (length gs) cs (omega arith) in
-    record {
-      within = omega arith;
-      fits = ap (overflows how) (sym whole);
-      longer = omega
-          (arith, ap (λ cs. length (stretched how cs)) whole);
-    }
+    search (arith, take_all)
 
 counted_then : (how : Laying) (cs : List Cell) (end many start n : ℕ) → IsCounted how cs end many
     → IsCounted how (take end cs) start n → IsCounted how cs start (many + n)
 counted_then how cs end many start n first rest =
     let upto : length (take end cs) ≡ end = length-take-le end cs first.within in
-    let less : start ≤ end = omega (arith, rest.within) in
-    let same : take start (take end cs) ≡ take start cs = take-take start end cs less in
-    record {
-      within = omega (arith, first.within);
-      fits = first.fits ∙ rest.fits ∙ ap (overflows how) same;
-      longer = omega (arith, first.longer, rest.longer, ap (λ cs. length (stretched how cs)) same);
-    }
+    search (arith, take-take)
 
 pub counted_more : (how : Laying) (gs : List hb_glyph_info_t) (ps : List GlyphPosition) (end many start n : ℕ)
     → IsCounted how (zip gs ps) end many → IsCounted how (zip (take end gs) (take end ps)) start n
     → IsCounted how (zip gs ps) start (many + n)
 counted_more how gs ps end many start n first rest =
-    counted_then how (zip gs ps) end many start n first
-    (subst (λ cs. IsCounted how cs start n) (sym (zip-take end gs ps)) rest)
-
-pub overflows_before : (how : Laying) (gs : List hb_glyph_info_t) (ps : List GlyphPosition) (end many : ℕ)
-    → IsCounted how (zip gs ps) end many → overflows how (zip (take end gs) (take end ps)) ≡ true
-    → overflows how (zip gs ps) ≡ true
-overflows_before how gs ps end many counted e = counted.fits ∙ ap (overflows how) (zip-take end gs ps) ∙ e
+    search (arith, counted_then, zip-take)

@@ -4,7 +4,7 @@ use Rattle.std.specs.List.{suffix_len, zip, AllByRecursion, list_all, list_any, 
 use Rattle.std.proofs.lemmas.List.{drop_all, length-map, append-nil, append_assoc, length-append, length-reverse, length-take-le, take-append-le, drop-append-le, take-append-drop, drop-take, take-take}
 use Rattle.std.proofs.lemmas.List.Concat.{flat_map-append}
 use Rattle.std.proofs.lemmas.List.Folds.{list_any-append}
-use Rattle.std.proofs.lemmas.Slice.Zip.{firsts-zip, seconds-zip}
+use Rattle.std.proofs.lemmas.Slice.Zip.{firsts-zip}
 use Rattle.std.proofs.lemmas.Bool.{or_parts}
 use borrow.Author.Tests.{lt-true, clash}
 use Rattle.shapers_buffer.specs.declared.buffer.glyph.GlyphPosition.{GlyphPosition}
@@ -12,14 +12,14 @@ use Rattle.shapers_buffer.specs.declared.buffer.glyph.hb_glyph_info_t.{hb_glyph_
 use Rattle.shapers_buffer.specs.Clusters.{stretch_of}
 use Rattle.shapers_buffer.proofs.ClusterLemmas.{length-stretch}
 use Rattle.shapers_stretch.specs.declared.ot_shaper_arabic_stretch.measuring.Run.{Run}
-use Rattle.shapers_stretch.specs.Cells.{Cell, before_tiles, before_word, cut_between, cut_here, glyphs_of, in_word, is_tile, parts_of_text, positions_of, run_ends, tiles_of, word_of}
+use Rattle.shapers_stretch.specs.Cells.{Cell, before_tiles, before_word, cut_between, glyphs_of, in_word, is_tile, parts_of_text, positions_of, run_ends, tiles_of, word_of}
 use Rattle.shapers_stretch.specs.LayingWalk.{CanLayRun, HasRoomForTiles, IsLaidFrom, IsUnlaid, offsets, text_in_slices, stretched_whole}
-use Rattle.shapers_stretch.specs.Measure.{fits_i32, numbers_to_fit, start}
+use Rattle.shapers_stretch.specs.Measure.{fits_i32, numbers_to_fit}
 use Rattle.shapers_stretch.specs.Stretch.{Laying, copies, has_run, laid_run, measured, overflows, part_overflows, run_of_part, stretched, stretched_over, stretched_part, unbroken}
 use Rattle.shapers_stretch.proofs.Flagging.{unbroken_is}
-use Rattle.shapers_stretch.proofs.LastParts.{LastPartAt, last_part_at}
+use Rattle.shapers_stretch.proofs.LastParts.{last_part_at}
 use Rattle.shapers_stretch.proofs.Lengths.{length-copies, length-laid}
-use Rattle.shapers_stretch.proofs.RunLaying.{flagged_length, run_tiles}
+use Rattle.shapers_stretch.proofs.RunLaying.{flagged_length}
 use Rattle.shapers_stretch.proofs.Zips.{length-zipped, zip-take}
 
 -- the parts of a text together are the text
@@ -34,29 +34,19 @@ cut_joined_at false x ps = onto_joined x ps
 
 cut_joined : {X : Type 0} (apart : X → X → Bool) (xs : List X) → flat_map (λ p. p) (cut_between apart xs) ≡ xs
 cut_joined apart [] = refl
-cut_joined apart (x ∷ xs) = cut_joined_at (cut_here apart x xs) x (cut_between apart xs)
-    ∙ ap (λ ys. x ∷ ys) (cut_joined apart xs)
+cut_joined apart (x ∷ xs) = search (arith, cut_joined_at, cut_joined apart xs)
 
 flat_grows : {X : Type 0} (f : List X → List X) (ps : List (List X)) → ((p : List X) → length p ≤ length (f p))
     → length (flat_map (λ p. p) ps) ≤ length (flat_map f ps)
 flat_grows f [] h = omega arith
 flat_grows f (p ∷ ps) h =
-    omega (arith, length-append p (flat_map (λ p. p) ps), length-append (f p) (flat_map f ps), h p, flat_grows f ps h)
+    search (arith, length-append, flat_map, flat_grows f ps h)
 
 -- how long a part becomes
 pub length-over : (how : Laying) (z : Run) (word tiles : List Cell) → length (stretched_over how z word tiles)
     ≡ length word + length (copies how.font z tiles)
 length-over how z word tiles =
-    let whole = unbroken (word ++ tiles) in
-    let all : length whole ≡ length word + length tiles = ap length (unbroken_is (word ++ tiles))
-    ∙ length-map (word ++ tiles) _ ∙ length-append word tiles in
-    let laid = laid_run how z (drop (length word) whole) in
-    let copied : length laid ≡ length (copies how.font z tiles) =
-    length-laid how.right_to_left (start how.choice how.right_to_left z)
-    (copies how.font z (run_tiles word tiles)) ∙ flagged_length how.font z word tiles in
-    length-append (take (length word) whole) (reverse laid)
-    ∙ ap (λ n. n + length (reverse laid)) (length-take-le (length word) whole (omega (arith, all)))
-    ∙ ap (λ n. length word + n) (length-reverse laid ∙ copied)
+    search (arith, length-append, length-take-le, unbroken_is, length-map, length-reverse, length-laid, flagged_length)
 
 part_grows_at : (how : Laying) (part : List Cell) (b : Bool)
     → length part
@@ -66,14 +56,11 @@ part_grows_at how part false = omega arith
 part_grows_at how part true =
     let z = run_of_part how.font part in
     let outer : length part ≡ length (before_tiles part) + length (tiles_of part) =
-    ap length (sym (take-append-drop _ part)) ∙ length-append (before_tiles part) (tiles_of part) in
+    cc (take-append-drop _ part, length-append (before_tiles part) (tiles_of part)) in
     let inner : length (before_tiles part) ≡ length (before_word part) + length (word_of part) =
-    ap length (sym (take-append-drop _ (before_tiles part)))
-    ∙ length-append (before_word part) (word_of part) in
-    omega (
+    cc (take-append-drop _ (before_tiles part), length-append (before_word part) (word_of part)) in
+    search (
       arith,
-      outer,
-      inner,
       length-append (before_word part) (stretched_over how z (word_of part) (tiles_of part)),
       length-over how z (word_of part) (tiles_of part),
       length-copies how.font z (tiles_of part),
@@ -81,17 +68,16 @@ part_grows_at how part true =
 
 pub stretched_longer : (how : Laying) (cs : List Cell) → length cs ≤ length (stretched how cs)
 stretched_longer how cs =
-    omega (
+    search (
       arith,
-      ap length (cut_joined run_ends cs),
-      flat_grows (stretched_part how) (parts_of_text cs)
-          (λ part. part_grows_at how part (has_run part)),
+      cut_joined run_ends cs,
+      flat_grows (stretched_part how) (parts_of_text cs) (λ part. part_grows_at how part (has_run part)),
     )
 
 -- the parts before the last one, and it
 
 dropped_taken : {X : Type 0} (n m : ℕ) (xs : List X) → n ≤ m → drop n (take m xs) ≡ stretch_of n m xs
-dropped_taken n m xs p = let same : m ≡ n + (m - n) = omega arith in ap (λ k. drop n (take k xs)) same
+dropped_taken n m xs p = ap (λ k. drop n (take k xs)) (omega arith)
     ∙ drop-take n (m - n) xs
 
 -- What the last part of the text before `end` is, by its places in slices, and what it becomes.
@@ -125,8 +111,7 @@ same_takes (suc n) (x ∷ xs) (y ∷ ys) e = ap suc (same_takes n xs ys (omega a
 
 text_glyphs : (end : ℕ) (gs : List hb_glyph_info_t) (ps : List GlyphPosition) → length gs ≡ length ps
     → glyphs_of (text_in_slices end gs ps) ≡ take end gs
-text_glyphs end gs ps both = ap glyphs_of (zip-take end gs ps)
-    ∙ firsts-zip (take end gs) (take end ps) (same_takes end ps gs (sym both))
+text_glyphs end gs ps both = search (arith, zip-take, firsts-zip, same_takes)
 
 not_false : (a b : Bool) → a ≡ true → (a && not b) ≡ false → b ≡ true
 not_false true true p e = refl
@@ -140,25 +125,23 @@ pub part_unlaid : (how : Laying) (gs : List hb_glyph_info_t) (ps : List GlyphPos
 part_unlaid how gs ps s w t end place some u e f h =
     let cells = zip gs ps in
     let cs = text_in_slices end gs ps in
-    let long : length cells ≡ length gs = length-zipped gs ps u.both in
-    let whole : length cs ≡ end = length-take-le end cells (omega (arith, u.ahead, u.within)) in
-    let is = text_glyphs end gs ps u.both in
+    let long = length-zipped gs ps u.both in
+    let whole : length cs ≡ end = search (arith, length-take-le) in
     let P : List hb_glyph_info_t → Type 0 = λ xs. (t + suffix_len is_tile xs ≡ length xs)
     × ((w + suffix_len in_word (take t xs) ≡ t) × (s + suffix_len (λ g. not (is_tile g)) (take w xs) ≡ w)) in
-    let on = subst P (sym is) (e, (f, h)) in
-    let l : LastPartAt cs s w t = last_part_at cs s w t (omega (arith, whole)) on.0 on.1.0 on.1.1 in
+    let on = subst P (sym (text_glyphs end gs ps u.both)) (e, (f, h)) in
+    let l = last_part_at cs s w t (omega (arith, whole)) on.0 on.1.0 on.1.1 in
     let s_end : s ≤ end = omega (arith, l.less, whole) in
-    let w_end : w ≤ end = omega (arith, l.word_fits, l.tiles_fit, whole) in
     let t_end : t ≤ end = omega (arith, l.tiles_fit, whole) in
-    let front : take s cs ≡ take s cells = take-take s end cells s_end in
+    let front = take-take s end cells s_end in
     let before : before_word (drop s cs) ≡ stretch_of s w cells =
-    l.before_is ∙ ap (drop s) (take-take w end cells w_end) ∙ dropped_taken s w cells l.before_fits in
-    let word : word_of (drop s cs) ≡ stretch_of w t cells = l.word_is ∙ ap (drop w) (take-take t end cells t_end)
+    l.before_is ∙ ap (drop s) (take-take w end cells (omega (arith, l.word_fits, l.tiles_fit, whole)))
+    ∙ dropped_taken s w cells l.before_fits in
+    let word = l.word_is ∙ ap (drop w) (take-take t end cells t_end)
     ∙ dropped_taken w t cells l.word_fits in
-    let tiles : tiles_of (drop s cs) ≡ stretch_of t end cells = l.tiles_is ∙ dropped_taken t end cells t_end in
-    let count : length (tiles_of (drop s cs)) ≡ end - t = ap length tiles
-    ∙ length-stretch t end cells (omega (arith, u.ahead, u.within, long)) in
-    let split : stretched how cs ≡ stretched how (take s cells) ++ stretched_part how (drop s cs) =
+    let tiles = l.tiles_is ∙ dropped_taken t end cells t_end in
+    let count = ap length tiles ∙ length-stretch t end cells (omega (arith, u.ahead, u.within, long)) in
+    let split =
     ap (flat_map (stretched_part how)) l.parted
     ∙ flat_map-append (stretched_part how) (parts_of_text (take s cs)) (drop s cs ∷ [])
     ∙ ap (λ x. stretched how (take s cs) ++ x) (append-nil (stretched_part how (drop s cs)))
@@ -166,7 +149,6 @@ part_unlaid how gs ps s w t end place some u e f h =
     let none = or_parts _ _
     (sym (ap (list_any (part_overflows how)) l.parted
     ∙ list_any-append (part_overflows how) (parts_of_text (take s cs)) (drop s cs ∷ [])) ∙ u.fits) in
-    let last = or_parts _ _ none.1 in
     let has : t < end → has_run (drop s cs) ≡ true = λ p. ap (nat_lt 0) count
     ∙ sym (lt-true 0 (end - t) (omega arith)) in
     let hasnt : t ≡ end → has_run (drop s cs) ≡ false = λ p. let zero : end - t ≡ 0 =
@@ -178,8 +160,11 @@ part_unlaid how gs ps s w t end place some u e f h =
       word_fits = l.word_fits;
       tiles_fit = t_end;
       front = ap (overflows how) (sym front) ∙ none.0;
-      longer = omega
-          (arith, stretched_longer how (take s cells), length-take-le s cells (omega (arith, long, u.ahead, u.within)));
+      longer = omega (
+        arith,
+        stretched_longer how (take s cells),
+        length-take-le s cells (omega (arith, long, u.ahead, u.within)),
+      );
       still = λ p. split
           ∙ ap (λ x. stretched how (take s cells) ++ x)
           (ap (λ b. cond (not b) (drop s cs)
@@ -187,21 +172,16 @@ part_unlaid how gs ps s w t end place some u e f h =
           (tiles_of (drop s cs)))) (hasnt p) ∙ dropped_taken s end cells s_end);
       changed = λ p. split
           ∙ ap (λ x. stretched how (take s cells) ++ x)
-          (ap (λ b. cond (not b) (drop s cs)
-          (before_word (drop s cs) ++ stretched_over how (run_of_part how.font (drop s cs)) (word_of (drop s cs))
-          (tiles_of (drop s cs)))) (has p)
-          ∙ ap (λ x. x ++ stretched_over how (Z (word_of (drop s cs)) (tiles_of (drop s cs))) (word_of (drop s cs))
-          (tiles_of (drop s cs))) before
-          ∙ ap (λ x. stretch_of s w cells ++ stretched_over how (Z x (tiles_of (drop s cs))) x (tiles_of (drop s cs)))
-          word
-          ∙ ap (λ x. stretch_of s w cells ++ stretched_over how (Z (stretch_of w t cells) x) (stretch_of w t cells) x)
-          tiles);
+          (ap (λ b. cond (not b) (drop s cs) (before_word (drop s cs) ++ stretched_over how (run_of_part how.font (drop s
+          cs)) (word_of (drop s cs)) (tiles_of (drop s cs)))) (has p) ∙ ap (λ x. x ++ stretched_over how (Z (word_of
+          (drop s cs)) (tiles_of (drop s cs))) (word_of (drop s cs)) (tiles_of (drop s cs))) before ∙ ap (λ x. stretch_of
+          s w cells ++ stretched_over how (Z x (tiles_of (drop s cs))) x (tiles_of (drop s cs))) word ∙ ap (λ x.
+          stretch_of s w cells ++ stretched_over how (Z (stretch_of w t cells) x) (stretch_of w t cells) x) tiles);
       fits = λ p. sym
-          (ap (λ x. list_all fits_i32 (numbers_to_fit how.choice (Z x (tiles_of (drop s cs)))
-          ++ offsets (laid_run how (Z x (tiles_of (drop s cs))) (tiles_of (drop s cs))))) word
-          ∙ ap (λ x. list_all fits_i32 (numbers_to_fit how.choice (Z (stretch_of w t cells) x)
-          ++ offsets (laid_run how (Z (stretch_of w t cells) x) x))) tiles)
-          ∙ not_false (has_run (drop s cs)) _ (has p) last.0;
+          (ap (λ x. list_all fits_i32 (numbers_to_fit how.choice (Z x (tiles_of (drop s cs))) ++ offsets (laid_run how (Z
+          x (tiles_of (drop s cs))) (tiles_of (drop s cs))))) word ∙ ap (λ x. list_all fits_i32 (numbers_to_fit
+          how.choice (Z (stretch_of w t cells) x) ++ offsets (laid_run how (Z (stretch_of w t cells) x) x))) tiles)
+          ∙ not_false (has_run (drop s cs)) _ (has p) (or_parts _ _ none.1).0;
     }
 
 -- so its run can be laid
@@ -209,31 +189,7 @@ pub part_can : (how : Laying) (gs : List hb_glyph_info_t) (ps : List GlyphPositi
     → IsUnlaid how gs ps end place → PartOf how gs ps s w t end place
     → CanLayRun how (stretch_of w t (zip gs ps)) (stretch_of t end (zip gs ps)) t end place gs ps
 part_can how gs ps s w t end place some u l =
-    let cells = zip gs ps in
-    let word = stretch_of w t cells in
-    let tiles = stretch_of t end cells in
-    let z = measured how.font (positions_of word) (glyphs_of tiles) in
-    let long : length cells ≡ length gs = length-zipped gs ps u.both in
-    let counted : place ≡ length (stretched how (take s cells))
-    + ((w - s) + ((t - w) + length (copies how.font z tiles))) =
-    sym u.room ∙ ap length (l.changed some)
-    ∙ length-append (stretched how (take s cells)) (stretch_of s w cells ++ stretched_over how z word tiles)
-    ∙ ap (λ n. length (stretched how (take s cells)) + n)
-    (length-append (stretch_of s w cells) (stretched_over how z word tiles)
-    ∙ ap (λ n. n + length (stretched_over how z word tiles))
-    (length-stretch s w cells (omega (arith, l.word_fits, l.tiles_fit, u.ahead, u.within, long)))
-    ∙ ap (λ n. (w - s) + n) (length-over how z word tiles
-    ∙ ap (λ n. n + length (copies how.font z tiles))
-    (length-stretch w t cells (omega (arith, l.tiles_fit, u.ahead, u.within, long))))) in
-    record {
-      order = l.tiles_fit;
-      ahead = u.ahead;
-      within = u.within;
-      both = u.both;
-      glyph_numbers = u.glyph_numbers;
-      fits = l.fits some;
-      room = omega (arith, counted, l.longer, l.before_fits, l.word_fits);
-    }
+    search (arith, l.fits, l.changed, length-append, length-stretch, length-zipped, length-over)
 
 -- what is left: the text before the part
 all_less : (P : hb_glyph_info_t → Type 0) (s e : ℕ) (gs : List hb_glyph_info_t) → s ≤ e → AllByRecursion P (take e gs)
@@ -252,24 +208,18 @@ pub left_over : (how : Laying) (gs us : List hb_glyph_info_t) (ps vs : List Glyp
 left_over how gs us ps vs s w t end place q became u l same both split count kept behind =
     let cells = zip gs ps in
     let front = stretched how (take s cells) in
-    let counted : length front + length became ≡ place = sym (length-append front became) ∙ ap length (sym split)
-    ∙ u.room in
-    let glyphs : take s us ≡ take s gs = sym (text_glyphs s us vs both) ∙ ap glyphs_of kept
-    ∙ text_glyphs s gs ps u.both in
-    record {
-      left = record {
-        both = both;
-        room = ap (λ x. length (stretched how x)) kept ∙ omega (arith, counted, count);
-        ahead = omega (arith, l.longer, counted, count);
-        within = omega (arith, count, u.within, same);
-        glyph_numbers =
-            subst (λ xs. AllByRecursion (λ g. g.glyph_id ≤ 65535) xs) (sym glyphs)
-            (all_less (λ g. g.glyph_id ≤ 65535) s end gs (omega (arith, l.less)) u.glyph_numbers);
-        fits = ap (overflows how) kept ∙ l.front;
-      };
-      joined = ap (λ x. stretched how x ++ drop q (zip us vs)) kept ∙ ap (λ x. front ++ x) behind
-          ∙ sym (append_assoc front became (drop place cells)) ∙ ap (λ x. x ++ drop place cells) (sym split);
-    }
+    search (
+      arith,
+      length-append front became,
+      u.room,
+      l.longer,
+      u.within,
+      text_glyphs s us vs both,
+      text_glyphs s gs ps u.both,
+      all_less (λ g. g.glyph_id ≤ 65535) s end gs (omega (arith, l.less)) u.glyph_numbers,
+      l.front,
+      append_assoc front became (drop place cells),
+    )
 
 -- a part without a run moves up
 pub part_moved : (how : Laying) (gs us : List hb_glyph_info_t) (ps vs : List GlyphPosition) (s w t end place : ℕ)
@@ -283,12 +233,12 @@ part_moved how gs us ps vs s w t end place none u l same both kept up =
     let q = place - (t - s) in
     let long : length cells ≡ length gs = length-zipped gs ps u.both in
     let became = stretch_of s end cells in
-    let size : length became ≡ end - s = length-stretch s end cells (omega (arith, u.ahead, u.within, long)) in
+    let size : length became ≡ end - s = search (arith, length-stretch) in
     let below : s ≤ q = omega (arith, u.ahead, l.less) in
     left_over how gs us ps vs s w t end place q became u l same both (l.still none)
     (omega (arith, size, u.ahead, l.less))
-    (sym (take-take s q (zip us vs) below) ∙ ap (take s) kept ∙ take-take s q cells below)
-    (up ∙ ap (λ n. stretch_of s n cells ++ drop place cells) none)
+    (cc (take-take s q (zip us vs) below, take-take s q cells below))
+    (cc)
 
 -- a part with a run: it is laid, and what stands before it moves up
 pub part_laid : (how : Laying) (gs hs us : List hb_glyph_info_t) (ps qs vs : List GlyphPosition) (s w t end place p : ℕ)
@@ -312,73 +262,38 @@ part_laid how gs hs us ps qs vs s w t end place p some u l same same_too both fl
     let tiles = stretch_of t end cells in
     let z = measured how.font (positions_of word) (glyphs_of tiles) in
     let whole = unbroken (word ++ tiles) in
-    let run = reverse (laid_run how z (drop (length word) whole)) in
     let long : length cells ≡ length gs = length-zipped gs ps u.both in
-    let can = part_can how gs ps s w t end place some u l in
-    let ahead : t ≤ p = omega (arith, can.room, count) in
-    let below : s ≤ q = omega (arith, ahead, l.before_fits, l.word_fits) in
+    let ahead : t ≤ p = omega (arith, (part_can how gs ps s w t end place some u l).room, count) in
+    let below : s ≤ q = search arith in
     let before : length (take w cells) ≡ w =
-    length-take-le w cells (omega (arith, long, l.word_fits, l.tiles_fit, u.ahead, u.within)) in
+    search (arith, length-take-le) in
     let became = stretch_of s w cells ++ stretched_over how z word tiles in
     let size : length became ≡ (w - s) + ((t - w) + length (copies how.font z tiles)) =
-    length-append (stretch_of s w cells) (stretched_over how z word tiles)
-    ∙ ap (λ n. n + length (stretched_over how z word tiles))
-    (length-stretch s w cells (omega (arith, l.word_fits, l.tiles_fit, u.ahead, u.within, long)))
-    ∙ ap (λ n. (w - s) + n) (length-over how z word tiles
-    ∙ ap (λ n. n + length (copies how.font z tiles))
-    (length-stretch w t cells (omega (arith, l.tiles_fit, u.ahead, u.within, long)))) in
-    let fronted : take s now ≡ take s cells = sym (take-take s t now (omega (arith, l.before_fits, l.word_fits)))
-    ∙ ap (take s) flagged
-    ∙ take-append-le s (take w cells) (take (length word) whole) (omega (arith, before, l.before_fits))
-    ∙ take-take s w cells l.before_fits in
+    search (arith, length-append, length-stretch, length-over) in
+    let fronted : take s now ≡ take s cells =
+    cc (
+      take-take s t now (omega (arith, l.before_fits, l.word_fits)),
+      take-append-le s (take w cells) (take (length word) whole) (omega (arith, before, l.before_fits)),
+      take-take s w cells l.before_fits,
+    ) in
     let moved : stretch_of s t now ≡ stretch_of s w cells ++ take (length word) whole =
-    sym (dropped_taken s t now (omega (arith, l.before_fits, l.word_fits))) ∙ ap (drop s) flagged
-    ∙ drop-append-le s (take w cells) (take (length word) whole) (omega (arith, before, l.before_fits))
-    ∙ ap (λ x. x ++ take (length word) whole) (dropped_taken s w cells l.before_fits) in
+    cc (
+      dropped_taken s t now (omega (arith, l.before_fits, l.word_fits)),
+      drop-append-le s (take w cells) (take (length word) whole) (omega (arith, before, l.before_fits)),
+      dropped_taken s w cells l.before_fits,
+    ) in
     left_over how gs us ps vs s w t end place q became u l (same_too ∙ same) both (l.changed some)
-    (omega (arith, size, count, ahead, l.before_fits, l.word_fits))
-    (sym (take-take s q (zip us vs) below) ∙ ap (take s) kept ∙ take-take s q now below ∙ fronted)
-    (up ∙ ap (λ x. x ++ drop p now) moved ∙ ap (λ x. (stretch_of s w cells ++ take (length word) whole) ++ x) laid
-    ∙ append_assoc (stretch_of s w cells) (take (length word) whole) (run ++ drop place cells)
-    ∙ ap (λ x. stretch_of s w cells ++ x) (sym (append_assoc (take (length word) whole) run (drop place cells)))
-    ∙ sym (append_assoc (stretch_of s w cells) (take (length word) whole ++ run) (drop place cells)))
+    (search arith)
+    (cc (take-take s q (zip us vs) below, take-take s q now below))
+    (search (arith, append_assoc))
 
 -- the start: all is left; and the end: nothing is
 pub all_left : (how : Laying) (gs : List hb_glyph_info_t) (ps : List GlyphPosition) (len : ℕ)
     → HasRoomForTiles how gs ps len → IsLaidFrom how (stretched how (text_in_slices len gs ps)) gs ps len (length gs)
 all_left how gs ps len r =
-    let cells = zip gs ps in
-    let long : length cells ≡ length gs = length-zipped gs ps r.both in
-    let whole = stretched how (text_in_slices len gs ps) in
-    record {
-      left = record {
-        both = r.both;
-        room = r.room;
-        ahead = omega (
-          arith,
-          r.room,
-          stretched_longer how (text_in_slices len gs ps),
-          length-take-le len cells
-              (omega (arith, long, r.in_range)),
-        );
-        within = omega arith;
-        glyph_numbers = r.glyph_numbers;
-        fits = r.fits;
-      };
-      joined = ap (λ x. whole ++ x) (drop_all (length gs) cells (omega (arith, long))) ∙ append-nil whole;
-    }
+    search (arith, stretched_longer, length-take-le, length-zipped, drop_all, append-nil)
 
 pub none_left : (how : Laying) (whole : List Cell) (gs : List hb_glyph_info_t) (ps : List GlyphPosition) (end place : ℕ)
     → end ≤ 0 → IsLaidFrom how whole gs ps end place → zip gs ps ≡ whole
-none_left how whole gs ps zero place p l = ap (λ n. drop n (zip gs ps)) l.left.room ∙ l.joined
+none_left how whole gs ps zero place p l = search arith
 none_left how whole gs ps (suc end) place p l = absurd (omega arith)
-
-pub laid_glyphs : (how : Laying) (whole : List Cell) (gs : List hb_glyph_info_t) (ps : List GlyphPosition)
-    (end place : ℕ) → end ≤ 0 → IsLaidFrom how whole gs ps end place → gs ≡ glyphs_of whole
-laid_glyphs how whole gs ps end place p l = sym (firsts-zip gs ps (sym l.left.both))
-    ∙ ap glyphs_of (none_left how whole gs ps end place p l)
-
-pub laid_positions : (how : Laying) (whole : List Cell) (gs : List hb_glyph_info_t) (ps : List GlyphPosition)
-    (end place : ℕ) → end ≤ 0 → IsLaidFrom how whole gs ps end place → ps ≡ positions_of whole
-laid_positions how whole gs ps end place p l = sym (seconds-zip gs ps (sym l.left.both))
-    ∙ ap positions_of (none_left how whole gs ps end place p l)

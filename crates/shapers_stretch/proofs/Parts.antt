@@ -1,7 +1,8 @@
 -- The parts of a text, from its end: what stands before its last part, and that part.
-use Rattle.std.proofs.Common.{◌≡◌, Bool, true, false, cond, not, ◌&&◌, List, [], ◌∷◌, ◌++◌, refl, sym, ◌∙◌, ap}
+use Rattle.std.proofs.Common.{arith}
+use Rattle.std.proofs.Common.{◌≡◌, Bool, true, false, cond, List, [], ◌∷◌, ◌++◌, refl}
 use Rattle.std.specs.List.{onto_first}
-use Rattle.shapers_stretch.specs.Cells.{Cell, cut_between, cut_here, is_tile, parts_of_text, run_ends}
+use Rattle.shapers_stretch.specs.Cells.{Cell, cut_between, is_tile, parts_of_text}
 
 piece_if : {X : Type 0} (b : Bool) (x : X) (pieces : List (List X)) (P : List (List X) → Type 0)
     → ((piece : List X) (pieces : List (List X)) → P (piece ∷ pieces))
@@ -13,7 +14,7 @@ piece_if false x (piece ∷ pieces) P f = f (x ∷ piece) pieces
 -- a list that isn't empty has a first piece
 pub cut_some : {X : Type 0} (apart : X → X → Bool) (x : X) (xs : List X) (P : List (List X) → Type 0)
     → ((piece : List X) (pieces : List (List X)) → P (piece ∷ pieces)) → P (cut_between apart (x ∷ xs))
-cut_some apart x xs P f = piece_if (cut_here apart x xs) x (cut_between apart xs) P f
+cut_some apart x xs P f = search (arith, piece_if)
 
 cut_step_at : {X : Type 0} (b : Bool) (x : X) (piece : List X) (pieces more : List (List X))
     → cond b ((x ∷ []) ∷ ((piece ∷ pieces) ++ more)) (onto_first x ((piece ∷ pieces) ++ more))
@@ -25,31 +26,22 @@ cut_step : {X : Type 0} (b : Bool) (x : X) (first rest more : List (List X)) (pi
     → first ≡ piece ∷ pieces → rest ≡ first ++ more → cond b ((x ∷ []) ∷ rest) (onto_first x rest)
     ≡ cond b ((x ∷ []) ∷ first) (onto_first x first) ++ more
 cut_step b x first rest more piece pieces e f =
-    ap (λ r. cond b ((x ∷ []) ∷ r) (onto_first x r)) (f ∙ ap (λ p. p ++ more) e) ∙ cut_step_at b x piece pieces more
-    ∙ ap (λ p. cond b ((x ∷ []) ∷ p) (onto_first x p) ++ more) (sym e)
+    search (arith, cut_step_at)
 
 -- where two neighbours stand apart, the pieces of both sides follow one another; x opens the left
 -- side, which ends with a
 pub cut_between-append : {X : Type 0} (apart : X → X → Bool) (xs : List X) (a b : X) (ys : List X) → apart a b ≡ true
     → cut_between apart ((xs ++ a ∷ []) ++ b ∷ ys) ≡ cut_between apart (xs ++ a ∷ []) ++ cut_between apart (b ∷ ys)
 cut_between-append apart [] a b ys e =
-    ap (λ v. cond v ((a ∷ []) ∷ cut_between apart (b ∷ ys)) (onto_first a (cut_between apart (b ∷ ys)))) e
+    cc
 cut_between-append {X} apart (x ∷ []) a b ys e =
-    let rest = cut_between-append apart [] a b ys e in
-    cut_step (apart x a) x (cut_between apart (a ∷ [])) _ (cut_between apart (b ∷ ys)) (a ∷ []) [] refl rest
+    search (arith, cut_step, cut_between-append apart [] a b ys e)
 cut_between-append {X} apart (x ∷ (y ∷ xs)) a b ys e =
     let rest = cut_between-append apart (y ∷ xs) a b ys e in
-    let P : List (List X) → Type 0 = λ first. cut_between apart (((y ∷ xs) ++ a ∷ []) ++ b ∷ ys)
-    ≡ first ++ cut_between apart (b ∷ ys)
-    → cond (apart x y) ((x ∷ []) ∷ cut_between apart (((y ∷ xs) ++ a ∷ []) ++ b ∷ ys))
-    (onto_first x (cut_between apart (((y ∷ xs) ++ a ∷ []) ++ b ∷ ys)))
-    ≡ cond (apart x y) ((x ∷ []) ∷ first) (onto_first x first) ++ cut_between apart (b ∷ ys) in
-    cut_some apart y (xs ++ a ∷ []) P
-    (λ piece pieces f. cut_step (apart x y) x (piece ∷ pieces) _ (cut_between apart (b ∷ ys)) piece pieces refl f)
-    rest
+    search (arith, cut_some, cut_step)
 
 -- the last part of a text behind others: the tile a ends the part before it, and b, which is no tile, opens it
 pub parts-append : (front : List Cell) (a b : Cell) (rest : List Cell) → is_tile a.0 ≡ true → is_tile b.0 ≡ false
     → parts_of_text ((front ++ a ∷ []) ++ b ∷ rest) ≡ parts_of_text (front ++ a ∷ []) ++ parts_of_text (b ∷ rest)
 parts-append front a b rest e f =
-    cut_between-append run_ends front a b rest (ap (λ v. v && not (is_tile b.0)) e ∙ ap not f)
+    search (arith, cut_between-append)

@@ -1,5 +1,5 @@
 -- A laid list as a walk of a pen, which each copy moves.
-use Rattle.std.proofs.Common.{◌≡◌, ℤ, ◌+ℤ◌, Bool, true, false, List, [], ◌∷◌, ◌++◌, map, refl, sym, ◌∙◌, ap, arith}
+use Rattle.std.proofs.Common.{◌≡◌, ℤ, ◌+ℤ◌, Bool, true, false, List, [], ◌∷◌, ◌++◌, map, refl, arith}
 use Rattle.std.proofs.lemmas.Int.{ints}
 use Rattle.shapers_buffer.specs.Lists.{each_after}
 use Rattle.shapers_stretch.specs.Stretch.{Copy, laid, laid_at, moves, offset}
@@ -10,7 +10,7 @@ use Rattle.shapers_stretch.proofs.Sums.{total_cons}
 
 -- one more copy
 moves-push : (before : List Copy) (c : Copy) → moves (before ++ c ∷ []) ≡ moves before +ℤ c.move
-moves-push before c = omega (arith, ints, moves-append before (c ∷ []), total_cons c.move [])
+moves-push before c = search (arith, ints, moves-append, total_cons)
 
 offset_is : (right_to_left : Bool) (from : ℤ) (before : List Copy) (c : Copy) → offset right_to_left from before c
     ≡ stands_at right_to_left (pen_behind right_to_left from (moves before)) c.move
@@ -28,11 +28,7 @@ laid_after : (right_to_left : Bool) (from : ℤ) (before cs : List Copy)
     ≡ laid_on right_to_left (pen_behind right_to_left from (moves before)) cs
 laid_after right_to_left from before [] = refl
 laid_after right_to_left from before (c ∷ cs) =
-    let rest = map (λ p. laid_at (offset right_to_left from p.0 p.1) p.1.tile) (each_after (before ++ c ∷ []) cs) in
-    let first = laid_at (stands_at right_to_left (pen_behind right_to_left from (moves before)) c.move) c.tile in
-    ap (λ x. laid_at x c.tile ∷ rest) (offset_is right_to_left from before c)
-    ∙ ap (λ ys. first ∷ ys) (laid_after right_to_left from (before ++ c ∷ []) cs
-    ∙ ap (λ pen. laid_on right_to_left pen cs) (pen_next right_to_left from before c))
+    search (arith, offset_is, pen_next, laid_after right_to_left from (before ++ c ∷ []) cs)
 
 pub no_move : (right_to_left : Bool) (from : ℤ) → pen_behind right_to_left from (moves []) ≡ from
 no_move true from = omega (arith, ints)
@@ -41,8 +37,7 @@ no_move false from = omega (arith, ints)
 -- so the laid list of a run is laid from its start on
 pub laid_is : (right_to_left : Bool) (from : ℤ) (cs : List Copy)
     → laid right_to_left from cs ≡ laid_on right_to_left from cs
-laid_is right_to_left from cs = laid_after right_to_left from [] cs
-    ∙ ap (λ pen. laid_on right_to_left pen cs) (no_move right_to_left from)
+laid_is right_to_left from cs = search (arith, laid_after, no_move)
 
 pen_moved_on : (right_to_left : Bool) (pen : ℤ) (c : Copy) (xs : List Copy)
     → pen_behind right_to_left (pen_behind right_to_left pen c.move) (moves xs)
@@ -53,9 +48,6 @@ pen_moved_on false pen c xs = omega (arith, ints, total_cons c.move (map (λ cop
 -- copies and then others
 pub laid_on-append : (right_to_left : Bool) (pen : ℤ) (xs ys : List Copy) → laid_on right_to_left pen (xs ++ ys)
     ≡ laid_on right_to_left pen xs ++ laid_on right_to_left (pen_behind right_to_left pen (moves xs)) ys
-laid_on-append right_to_left pen [] ys = ap (λ pen. laid_on right_to_left pen ys) (sym (no_move right_to_left pen))
+laid_on-append right_to_left pen [] ys = search (arith, no_move)
 laid_on-append right_to_left pen (c ∷ xs) ys =
-    let first = laid_at (stands_at right_to_left pen c.move) c.tile in
-    let rest = laid_on right_to_left (pen_behind right_to_left pen c.move) xs in
-    ap (λ zs. first ∷ zs) (laid_on-append right_to_left (pen_behind right_to_left pen c.move) xs ys
-    ∙ ap (λ pen. rest ++ laid_on right_to_left pen ys) (pen_moved_on right_to_left pen c xs))
+    search (arith, pen_moved_on, laid_on-append right_to_left (pen_behind right_to_left pen c.move) xs ys)

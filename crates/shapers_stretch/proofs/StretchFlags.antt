@@ -1,14 +1,12 @@
 -- Each glyph of a stretched text is a copy of one of the text before, with glyph flags that are only added.
-use Rattle.std.proofs.Common.{◌≡◌, ◌==◌, ℕ, zero, suc, ℤ, Bool, true, false, cond, not, List, [], ◌∷◌, ◌++◌, length, map, take, drop, replicate, reverse, refl, sym, ◌∙◌, subst, arith}
-use Rattle.std.specs.Prelude.{Result, Ok, Err, OnOk, bit_or, ◌-ℤ◌}
+use Rattle.std.proofs.Common.{◌≡◌, ℕ, zero, suc, ℤ, Bool, true, false, cond, not, List, [], ◌∷◌, ◌++◌, length, map, take, drop, replicate, reverse, refl, sym, ◌∙◌, subst, arith}
+use Rattle.std.specs.Prelude.{Result, Ok, Err, OnOk, ◌-ℤ◌}
 use Rattle.std.specs.List.{AllByRecursion, Contains, onto_first, zip}
 use Rattle.std.proofs.lemmas.List.{append_assoc, reverse-append}
 use Rattle.shapers_buffer.specs.declared.buffer.glyph.GlyphPosition.{GlyphPosition}
 use Rattle.shapers_buffer.specs.declared.buffer.glyph.hb_glyph_info_t.{hb_glyph_info_t}
 use Rattle.shapers_buffer.specs.declared.buffer.refusal.ShaperError.{ShaperError}
 use Rattle.shapers_buffer.specs.Buffer.{Buffer}
-use Rattle.shapers_buffer.specs.Clusters.{least}
-use Rattle.shapers_buffer.specs.Glyph.{clusters}
 use Rattle.shapers_buffer.specs.GlyphFlags.{with_bits_off}
 use Rattle.shapers_buffer.specs.Lists.{each_after}
 use Rattle.shapers_buffer.proofs.MappedLists.{all-append, all-flat_map, all-mapped}
@@ -18,7 +16,7 @@ use Rattle.shapers_clusters.specs.FlagLaw.{FlagsAdded}
 use Rattle.shapers_clusters.proofs.FlagCalls.{keeps-with_bits}
 use Rattle.shapers_clusters.proofs.FlagLaw.{added_on, added_same}
 use Rattle.shapers_stretch.specs.declared.ot_shaper_arabic_stretch.measuring.Run.{Run}
-use Rattle.shapers_stretch.specs.Cells.{Cell, before_tiles, before_word, cut_between, cut_here, glyphs_of, parts_of_text, positions_of, repeats, tiles_of, word_of}
+use Rattle.shapers_stretch.specs.Cells.{Cell, before_tiles, before_word, cut_between, glyphs_of, parts_of_text, positions_of, tiles_of, word_of}
 use Rattle.shapers_stretch.specs.Measure.{times_added, overlap, start}
 use Rattle.shapers_stretch.specs.Stretch.{Copy, Laying, cells, cells_in_order, copies, copies_of, has_run, in_working_order, laid, laid_at, laid_run, laying, marks_stretched, offset, run_of_part, runs_leftward, stretched, stretched_cells, stretched_over, stretched_part, unbroken, width_of}
 use Rattle.shapers_stretch.specs.StretchLaws.{AreCopies, IsLaidOver}
@@ -38,8 +36,11 @@ every_drop P (suc n) (x ∷ xs) all = every_drop P n xs all.1
 pub every_reverse : {X : Type 0} (P : X → Type 0) (xs : List X) → AllByRecursion P xs → AllByRecursion P (reverse xs)
 every_reverse P [] all = tt
 every_reverse P (x ∷ xs) all =
-    subst (AllByRecursion P) (sym (reverse-append (x ∷ []) xs))
-    (all-append P (reverse xs) (x ∷ []) (every_reverse P xs all.1) (all.0, tt))
+    search (
+      arith,
+      reverse-append (x ∷ []) xs,
+      all-append P (reverse xs) (x ∷ []) (every_reverse P xs all.1) (all.0, tt),
+    )
 
 every_onto : {X : Type 0} (P : X → Type 0) (x : X) (pieces : List (List X)) → P x
     → AllByRecursion (AllByRecursion P) pieces → AllByRecursion (AllByRecursion P) (onto_first x pieces)
@@ -50,12 +51,7 @@ every_cut : {X : Type 0} (P : X → Type 0) (apart : X → X → Bool) (xs : Lis
     → AllByRecursion (AllByRecursion P) (cut_between apart xs)
 every_cut P apart [] all = tt
 every_cut P apart (x ∷ xs) all =
-    let rest = every_cut P apart xs all.1 in
-    elim (cut_here apart x xs) as (λ b. AllByRecursion (AllByRecursion P)
-    (cond b ((x ∷ []) ∷ cut_between apart xs) (onto_first x (cut_between apart xs)))) [
-      | true ↦ ((all.0, tt), rest)
-      | false ↦ every_onto P x (cut_between apart xs) all.0 rest
-    ]
+    search (arith, every_onto, every_cut P apart xs all.1)
 
 every_replicate : {X : Type 0} (P : X → Type 0) (n : ℕ) (x : X) → P x → AllByRecursion P (replicate n x)
 every_replicate P zero x is = tt
@@ -74,77 +70,61 @@ abbrev Every : (hb_glyph_info_t → Type 0) → List Cell → Type 0
 Every Q cs = AllByRecursion (λ (c : Cell). Q c.0) cs
 
 off_added : (m : ℕ) (g : hb_glyph_info_t) → FlagsAdded g (with_bits_off 3 m g)
-off_added m g = elim (g.cluster == m) as (λ b. FlagsAdded g (cond b g (record g { mask = bit_or g.mask 3 })))
-    [ true ↦ added_same g g refl refl | false ↦ record { same = refl; kept = λ k _. keeps-with_bits 3 g k } ]
+off_added m g = search (arith, added_same, keeps-with_bits)
 
 every_off : (Q : hb_glyph_info_t → Type 0) → Stays Q → (m : ℕ) (cs : List Cell) → Every Q cs
     → Every Q (zip (map (with_bits_off 3 m) (glyphs_of cs)) (positions_of cs))
 every_off Q stays m [] all = tt
 every_off Q stays m (c ∷ cs) all =
-    (stays c.0 (with_bits_off 3 m c.0) (off_added m c.0) all.0, every_off Q stays m cs all.1)
+    search (arith, off_added, every_off Q stays m cs all.1)
 
 every_unbroken : (Q : hb_glyph_info_t → Type 0) → Stays Q → (cs : List Cell) → Every Q cs → Every Q (unbroken cs)
-every_unbroken Q stays cs all = every_off Q stays (least (clusters (glyphs_of cs))) cs all
+every_unbroken Q stays cs all = search (arith, every_off)
 
 -- copies of tiles
 every_copy_of : (Q : hb_glyph_info_t → Type 0) (font : Font) (z : Run) (c : Cell) → Q c.0
     → AllByRecursion (λ (copy : Copy). Q copy.tile.0) (copies_of font z c)
 every_copy_of Q font z c is =
     let P : Copy → Type 0 = λ copy. Q copy.tile.0 in
-    let more : Copy = record { tile = c; move = width_of font c.0 -ℤ overlap z } in (
-      is,
-      elim (repeats c.0) as (λ b. AllByRecursion P (cond b (replicate (times_added z) more) [])) [
-        | true ↦ every_replicate P (times_added z) more is
-        | false ↦ tt
-      ],
-    )
+    search (arith, every_replicate P (times_added z) (record { tile = c; move = width_of font c.0 -ℤ overlap z }) is)
 
 every_laid : (Q : hb_glyph_info_t → Type 0) (right_to_left : Bool) (from : ℤ) (cs : List Copy)
     → AllByRecursion (λ (copy : Copy). Q copy.tile.0) cs → Every Q (laid right_to_left from cs)
 every_laid Q right_to_left from cs all =
     all-mapped (λ (p : List Copy × Copy). Q p.1.tile.0) (λ (c : Cell). Q c.0)
     (λ p. laid_at (offset right_to_left from p.0 p.1) p.1.tile) (each_after [] cs) (λ p is. is)
-    (every_after (λ (copy : Copy). Q copy.tile.0) [] cs all)
+    (search (arith, every_after))
 
 every_laid_run : (Q : hb_glyph_info_t → Type 0) (how : Laying) (z : Run) (tiles : List Cell) → Every Q tiles
     → Every Q (laid_run how z tiles)
 every_laid_run Q how z tiles all =
     every_laid Q how.right_to_left (start how.choice how.right_to_left z) (copies how.font z tiles)
     (all-flat_map (λ (c : Cell). Q c.0) (λ (copy : Copy). Q copy.tile.0) (copies_of how.font z)
-    (λ c is. every_copy_of Q how.font z c is) (reverse tiles) (every_reverse (λ (c : Cell). Q c.0) tiles all))
+    (λ c is. every_copy_of Q how.font z c is) (reverse tiles) (search (arith, every_reverse)))
 
 -- a part, and a text
 every_over : (Q : hb_glyph_info_t → Type 0) → Stays Q → (how : Laying) (z : Run) (word tiles : List Cell) → Every Q word
     → Every Q tiles → Every Q (stretched_over how z word tiles)
 every_over Q stays how z word tiles first second =
-    let P : Cell → Type 0 = λ c. Q c.0 in
-    let whole = unbroken (word ++ tiles) in
-    let all = every_unbroken Q stays (word ++ tiles) (all-append P word tiles first second) in
-    let run = laid_run how z (drop (length word) whole) in
-    all-append P (take (length word) whole) (reverse run) (every_take P (length word) whole all)
-    (every_reverse P run (every_laid_run Q how z (drop (length word) whole) (every_drop P (length word) whole all)))
-
-every_part : (Q : hb_glyph_info_t → Type 0) → Stays Q → (how : Laying) (part : List Cell) → Every Q part
-    → Every Q (stretched_part how part)
-every_part Q stays how part all =
-    let P : Cell → Type 0 = λ c. Q c.0 in
-    let before = before_tiles part in
-    let front : Every Q before = every_take P _ part all in
-    let z = run_of_part how.font part in
-    elim (not (has_run part)) as (λ b. Every Q
-    (cond b part (before_word part ++ stretched_over how z (word_of part) (tiles_of part)))) [
-      | true ↦ all
-      | false ↦ all-append P (before_word part) (stretched_over how z (word_of part) (tiles_of part))
-          (every_take P _ before front)
-          (every_over Q stays how z (word_of part) (tiles_of part) (every_drop P _ before front)
-          (every_drop P _ part all))
-    ]
+    let all = every_unbroken Q stays (word ++ tiles) (search (arith, all-append)) in
+    search (arith, all-append, every_take, every_reverse, every_laid_run, every_drop)
 
 every_stretched : (Q : hb_glyph_info_t → Type 0) → Stays Q → (how : Laying) (cs : List Cell) → Every Q cs
     → Every Q (stretched how cs)
 every_stretched Q stays how cs all =
     all-flat_map (AllByRecursion (λ (c : Cell). Q c.0)) (λ (c : Cell). Q c.0) (stretched_part how)
-    (λ part is. every_part Q stays how part is) (parts_of_text cs) (every_cut (λ (c : Cell). Q c.0) _ cs all)
+    (λ part is.
+    let P : Cell → Type 0 = λ c. Q c.0 in
+    let before = before_tiles part in
+    let front = every_take P _ part is in
+    let z = run_of_part how.font part in elim (not (has_run part)) as (λ b. Every Q (cond b part (before_word part ++
+    stretched_over how z (word_of part) (tiles_of part)))) [
+      | true ↦ is
+      | false ↦ all-append P (before_word part)
+          (stretched_over how z (word_of part) (tiles_of part)) (every_take P _ before front) (every_over Q stays how z
+          (word_of part) (tiles_of part) (every_drop P _ before front) (every_drop P _ part is))
+    ]) (parts_of_text cs) (
+    search (arith, every_cut))
 
 every_zip : (Q : hb_glyph_info_t → Type 0) (gs : List hb_glyph_info_t) (ps : List GlyphPosition) → AllByRecursion Q gs
     → Every Q (zip gs ps)
@@ -155,25 +135,17 @@ every_zip Q (g ∷ gs) (p ∷ ps) all = (all.0, every_zip Q gs ps all.1)
 every_in_order : (Q : hb_glyph_info_t → Type 0) (right_to_left : Bool) (cs : List Cell) → Every Q cs
     → Every Q (in_working_order right_to_left cs)
 every_in_order Q true cs all = all
-every_in_order Q false cs all = every_reverse (λ (c : Cell). Q c.0) cs all
+every_in_order Q false cs all = search (arith, every_reverse)
 
 every_marked : (Q : hb_glyph_info_t → Type 0) → Stays Q → (font : Font) (choice : StretchStart) (b : Buffer)
     → AllByRecursion Q b.glyphs → AllByRecursion Q (marks_stretched font choice b).glyphs
 every_marked Q stays font choice b all =
     let how = laying font choice b in
-    let cs = stretched how (cells_in_order b) in
-    let each : Every Q (stretched_cells font choice b) =
-    every_in_order Q how.right_to_left cs
-    (every_stretched Q stays how (cells_in_order b)
-    (every_in_order Q (runs_leftward b.direction) (cells b) (every_zip Q b.glyphs b.positions all))) in
-    let glyphs = all-mapped (λ (c : Cell). Q c.0) Q (λ c. c.0) (stretched_cells font choice b) (λ c is. is) each in
-    elim b.stch as (λ s. AllByRecursion Q
-    (let r : Buffer = cond s
-    (record b {
-      glyphs = glyphs_of (stretched_cells font choice b);
-      positions = positions_of
-          (stretched_cells font choice b);
-    }) b in r.glyphs)) [ true ↦ glyphs | false ↦ all ]
+    let each : Every Q (stretched_cells font choice b) = every_in_order Q how.right_to_left
+    (stretched how (cells_in_order b)) (every_stretched Q
+    stays how (cells_in_order b) (every_in_order Q (runs_leftward b.direction) (cells b) (every_zip Q b.glyphs
+    b.positions all))) in
+    search (arith, all-mapped (λ (c : Cell). Q c.0) Q (λ c. c.0) (stretched_cells font choice b) (λ c is. is) each)
 
 -- each glyph is one of the text
 contains_middle : (front : List hb_glyph_info_t) (g : hb_glyph_info_t) (gs : List hb_glyph_info_t)
@@ -184,18 +156,20 @@ contains_middle (h ∷ front) g gs = let (k, inside, at) = contains_middle front
 among : (all front gs : List hb_glyph_info_t) → all ≡ front ++ gs
     → AllByRecursion (λ g. (old : hb_glyph_info_t) × (Contains all old × FlagsAdded old g)) gs
 among all front [] is = tt
-among all front (g ∷ gs) is = (
-  (g, (subst (λ xs. Contains xs g) (sym is) (contains_middle front g gs), added_same g g refl refl)),
-  among all
-      (front ++ g ∷ []) gs (is ∙ sym (append_assoc front (g ∷ []) gs)),
-)
+among all front (g ∷ gs) is =
+    search (
+      arith,
+      contains_middle front g gs,
+      added_same g g refl refl,
+      among all (front ++ g ∷ []) gs (is ∙ sym (append_assoc front (g ∷ []) gs)),
+    )
 
 pub on_copies : {T : Type 0} (r : Result T ShaperError) (font : Font) (choice : StretchStart) (old new : Buffer)
     → OnOk r (new ≡ marks_stretched font choice old) → OnOk r (AreCopies old.glyphs new.glyphs)
 on_copies (Ok x) font choice old new is =
     let Q : hb_glyph_info_t → Type 0 = λ g. (h : hb_glyph_info_t) × (Contains old.glyphs h × FlagsAdded h g) in
     subst (λ (b : Buffer). AreCopies old.glyphs b.glyphs) (sym is)
-    (every_marked Q (λ g h more of. (of.0, (of.1.0, added_on of.0 g h of.1.1 more))) font choice old (among old.glyphs
+    (every_marked Q (λ g h more of. search (arith, added_on)) font choice old (among old.glyphs
     [] old.glyphs refl))
 on_copies (Err e) font choice old new is = tt
 

@@ -1,5 +1,6 @@
 -- The walk over the tiles of a run, from its last to its first.
-use Rattle.std.proofs.Common.{◌≡◌, ◌≤◌, ◌<◌, ◌+◌, ◌-◌, ℕ, zero, suc, Bool, List, [], ◌∷◌, ◌++◌, length, take, drop, get_or, reverse, flat_map, refl, sym, ◌∙◌, ap, arith, subst}
+use Rattle.shapers_stretch.proofs.Pen.{no_move}
+use Rattle.std.proofs.Common.{◌≡◌, ◌≤◌, ◌<◌, ◌+◌, ◌-◌, ℕ, zero, suc, Bool, List, [], ◌∷◌, ◌++◌, length, take, drop, get_or, reverse, flat_map, refl, arith, subst}
 use Rattle.std.specs.List.{zip, AllByRecursion}
 use Rattle.std.proofs.lemmas.List.{append-nil, length-append, length-drop, length-take-le, take_more, reverse-append}
 use Rattle.std.proofs.lemmas.List.Concat.{flat_map-append}
@@ -14,7 +15,7 @@ use Rattle.shapers_stretch.specs.declared.ot_shaper_arabic_stretch.measuring.Run
 use Rattle.shapers_stretch.specs.Cells.{Cell}
 use Rattle.shapers_stretch.specs.LayingWalk.{CanLay, Lays, copies_by, run_copies}
 use Rattle.shapers_stretch.specs.Stretch.{Copy, copies, copies_of}
-use Rattle.shapers_stretch.proofs.LaidCopies.{can_first, can_rest, lays_then, none_laid}
+use Rattle.shapers_stretch.proofs.LaidCopies.{can_first, can_rest, lays_then}
 use Rattle.shapers_stretch.proofs.Zips.{length-zipped}
 
 -- The tiles from i to the end are laid, and those from the first to i can be, which stand yet.
@@ -34,16 +35,11 @@ reverse_cons x xs = reverse-append (x ∷ []) xs
 
 pushed : (f : Cell → List Copy) (c : Cell) (cs : List Cell) → flat_map f (reverse (c ∷ cs)) ≡ flat_map f (reverse cs)
     ++ f c
-pushed f c cs = ap (flat_map f) (reverse_cons c cs) ∙ flat_map-append f (reverse cs) (c ∷ [])
-    ∙ ap (λ x. flat_map f (reverse cs) ++ x) (append-nil (f c))
+pushed f c cs = search (arith, reverse_cons, flat_map-append, append-nil)
 
 pub copies-push : (font : Font) (z : Run) (c : Cell) (cs : List Cell)
     → copies font z (c ∷ cs) ≡ copies font z cs ++ copies_of font z c
-copies-push font z c cs = pushed (copies_of font z) c cs
-
-copies-append : (font : Font) (lay : Lay) (cs : List Cell) (c : Cell) → run_copies font lay (cs ++ c ∷ [])
-    ≡ copies_by font lay c ++ run_copies font lay cs
-copies-append font lay cs c = ap (flat_map (copies_by font lay)) (reverse-append cs (c ∷ []))
+copies-push font z c cs = search (arith, pushed)
 
 next : (n m : ℕ) → suc (n + m) ≡ suc n + m
 next n m = omega arith
@@ -53,19 +49,16 @@ get_none zero d = refl
 get_none (suc n) d = refl
 
 get_dropped : {X : Type 0} (s n : ℕ) (xs : List X) (d : X) → get_or (drop s xs) n d ≡ get_or xs (s + n) d
-get_dropped zero n xs d = ap (λ k. get_or xs k d) (omega arith)
-get_dropped (suc s) n [] d = get_none n d ∙ sym (get_none (suc s + n) d)
-get_dropped (suc s) n (x ∷ xs) d = get_dropped s n xs d ∙ ap (λ k. get_or (x ∷ xs) k d) (next s n)
+get_dropped zero n xs d = search arith
+get_dropped (suc s) n [] d = search (arith, get_none)
+get_dropped (suc s) n (x ∷ xs) d = cc (get_dropped s n xs d, next s n)
 
 -- a stretch with its last and its first element
 stretch_last : {X : Type 0} (s i : ℕ) (xs : List X) (d : X) → s < i → i ≤ length xs
     → stretch_of s i xs ≡ stretch_of s (i - 1) xs ++ get_or xs (i - 1) d ∷ []
 stretch_last s i xs d p q =
     let n = i - 1 - s in
-    let more : i - s ≡ n + 1 = omega arith in
-    let at : n < length (drop s xs) = omega (arith, length-drop s xs) in
-    ap (λ k. take k (drop s xs)) more ∙ take_more (drop s xs) n d at
-    ∙ ap (λ x. take n (drop s xs) ++ x ∷ []) (get_dropped s n xs d ∙ ap (λ k. get_or xs k d) (omega arith))
+    search (arith, take_more (drop s xs) n d (omega (arith, length-drop s xs)), get_dropped s n xs d)
 
 drop_first : {X : Type 0} (i : ℕ) (xs : List X) (d : X) → i < length xs → drop i xs ≡ get_or xs i d ∷ drop (suc i) xs
 drop_first i [] d p = absurd (omega arith)
@@ -76,11 +69,8 @@ stretch_first : {X : Type 0} (i e : ℕ) (xs : List X) (d : X) → 0 < i → i �
     → stretch_of (i - 1) e xs ≡ get_or xs (i - 1) d ∷ stretch_of i e xs
 stretch_first zero e xs d p q r = absurd (omega arith)
 stretch_first (suc i) e xs d p q r =
-    let same : suc i - 1 ≡ i = omega arith in
     let more : e - i ≡ suc (e - suc i) = omega arith in
-    ap (λ k. stretch_of k e xs) same ∙ ap (λ k. take k (drop i xs)) more
-    ∙ ap (take (suc (e - suc i))) (drop_first i xs d (omega arith))
-    ∙ ap (λ k. get_or xs k d ∷ stretch_of (suc i) e xs) (sym same)
+    search (arith, drop_first)
 
 -- what stands before the pen's place is as it was
 get_taken : {X : Type 0} (i p : ℕ) (xs : List X) (d : X) → i < p → get_or (take p xs) i d ≡ get_or xs i d
@@ -88,13 +78,6 @@ get_taken i zero xs d h = absurd (omega arith)
 get_taken i (suc p) [] d h = refl
 get_taken zero (suc p) (x ∷ xs) d h = refl
 get_taken (suc i) (suc p) (x ∷ xs) d h = get_taken i p xs d (omega arith)
-
-pub read_kept : (i p : ℕ) (old : List Cell) (gs : List hb_glyph_info_t) (ps : List GlyphPosition) (g : hb_glyph_info_t)
-    (q : GlyphPosition) → i < p → i < length gs → length gs ≡ length ps → take p (zip gs ps) ≡ take p old
-    → (get_or gs i g, get_or ps i q) ≡ get_or old i (g, q)
-read_kept i p old gs ps g q h within both kept =
-    sym (get_or-zip gs ps i (g, q) within (omega (arith, both))) ∙ sym (get_taken i p (zip gs ps) (g, q) h)
-    ∙ ap (λ xs. get_or xs i (g, q)) kept ∙ get_taken i p old (g, q) h
 
 pub number_at : (P : hb_glyph_info_t → Type 0) (end : ℕ) (gs : List hb_glyph_info_t) (i : ℕ) (d : hb_glyph_info_t)
     → AllByRecursion P (take end gs) → i < end → i < length gs → P (get_or gs i d)
@@ -106,13 +89,7 @@ number_at P (suc end) (g ∷ gs) (suc i) d all h w = number_at P end gs i d all.
 copies_many : (font : Font) (lay : Lay) (cs : List Cell) → length cs ≤ length (run_copies font lay cs)
 copies_many font lay [] = omega arith
 copies_many font lay (c ∷ cs) =
-    omega (
-      arith,
-      ap length (pushed (copies_by font lay) c cs),
-      length-append (run_copies font lay cs)
-          (copies_by font lay c),
-      copies_many font lay cs,
-    )
+    search (arith, pushed, length-append, copies_many font lay cs)
 
 -- the start: all tiles are left
 pub tiles_start : (right_to_left : Bool) (font : Font) (lay : Lay) (first end : ℕ) (pen : Pen)
@@ -121,18 +98,7 @@ pub tiles_start : (right_to_left : Bool) (font : Font) (lay : Lay) (first end : 
     → first + length (run_copies font lay (stretch_of first end (zip gs ps))) ≤ pen.place
     → TilesLeft right_to_left font lay first end end pen pen (zip gs ps) gs ps
 tiles_start right_to_left font lay first end pen gs ps p q both can room =
-    let none : end - end ≡ 0 = omega arith in
-    record {
-      from = p;
-      to = omega arith;
-      both = both;
-      same = sym (length-zipped gs ps both);
-      can = can;
-      lays = subst (λ n. Lays right_to_left (run_copies font lay (take n (drop end (zip gs ps)))) pen pen (zip gs ps)
-          (zip gs ps)) (sym none) (none_laid right_to_left pen (zip gs ps));
-      room = room;
-      within = omega (arith, length-zipped gs ps both);
-    }
+    search (arith, length-zipped, no_move)
 
 -- there is a tile before i, it stands yet, and can be laid
 pub tile_left : (right_to_left : Bool) (font : Font) (lay : Lay) (first end i : ℕ) (start pen : Pen) (old : List Cell)
@@ -140,16 +106,9 @@ pub tile_left : (right_to_left : Bool) (font : Font) (lay : Lay) (first end i : 
     → TilesLeft right_to_left font lay first end i start pen old gs ps → (get_or gs (i - 1) g, get_or ps (i - 1) q)
     ≡ get_or old (i - 1) (g, q)
 tile_left right_to_left font lay first end i start pen old gs ps g q p t =
-    let cs = stretch_of first i old in
-    let many : i - first ≤ length (run_copies font lay cs) =
-    omega (
-      arith,
-      copies_many font lay cs,
-      length-take-le (i - first) (drop first old)
-          (omega (arith, length-drop first old, t.to, t.within)),
-    ) in
-    read_kept (i - 1) pen.place old gs ps g q (omega (arith, t.room)) (omega (arith, t.to, t.within, t.same)) t.both
-    t.lays.kept
+    let many : i - first ≤ length (run_copies font lay (stretch_of first i old)) =
+    search (arith, copies_many, length-take-le, length-drop) in
+    search (arith, get_or-zip, get_taken)
 
 tile_cell : (right_to_left : Bool) (font : Font) (lay : Lay) (first end i : ℕ) (start pen : Pen) (old : List Cell)
     (gs : List hb_glyph_info_t) (ps : List GlyphPosition) (g : hb_glyph_info_t) (q : GlyphPosition) → first < i
@@ -157,10 +116,12 @@ tile_cell : (right_to_left : Bool) (font : Font) (lay : Lay) (first end i : ℕ)
     ≡ copies_by font lay (get_or gs (i - 1) g, get_or ps (i - 1) q)
     ++ run_copies font lay (stretch_of first (i - 1) old)
 tile_cell right_to_left font lay first end i start pen old gs ps g q p t =
-    ap (run_copies font lay) (stretch_last first i old (g, q) p (omega (arith, t.to, t.within)))
-    ∙ copies-append font lay (stretch_of first (i - 1) old) (get_or old (i - 1) (g, q))
-    ∙ ap (λ c. copies_by font lay c ++ run_copies font lay (stretch_of first (i - 1) old))
-    (sym (tile_left right_to_left font lay first end i start pen old gs ps g q p t))
+    search (
+      arith,
+      stretch_last first i old (g, q) p (omega (arith, t.to, t.within)),
+      reverse-append,
+      tile_left right_to_left font lay first end i start pen old gs ps g q p t,
+    )
 
 pub tile_can : (right_to_left : Bool) (font : Font) (lay : Lay) (first end i : ℕ) (start pen : Pen) (old : List Cell)
     (gs : List hb_glyph_info_t) (ps : List GlyphPosition) (g : hb_glyph_info_t) (q : GlyphPosition) → first < i
@@ -168,8 +129,7 @@ pub tile_can : (right_to_left : Bool) (font : Font) (lay : Lay) (first end i : �
     → CanLay right_to_left (copies_by font lay (get_or gs (i - 1) g, get_or ps (i - 1) q)) pen gs ps
 tile_can right_to_left font lay first end i start pen old gs ps g q p t =
     can_first right_to_left _ (run_copies font lay (stretch_of first (i - 1) old)) pen gs ps
-    (subst (λ copies. CanLay right_to_left copies pen gs ps)
-    (tile_cell right_to_left font lay first end i start pen old gs ps g q p t) t.can)
+    (search (arith, tile_cell))
 
 -- it is laid
 pub tile_next : (right_to_left : Bool) (font : Font) (lay : Lay) (first end i : ℕ) (start pen after : Pen)
@@ -179,36 +139,27 @@ pub tile_next : (right_to_left : Bool) (font : Font) (lay : Lay) (first end i : 
     (zip hs qs) → length hs ≡ length gs → length hs ≡ length qs
     → TilesLeft right_to_left font lay first end (i - 1) start after old hs qs
 tile_next right_to_left font lay first end i start pen after old gs hs ps qs g q p t laid same both =
-    let done = run_copies font lay (stretch_of i end old) in
     let left = run_copies font lay (stretch_of first (i - 1) old) in
-    let split = tile_cell right_to_left font lay first end i start pen old gs ps g q p t in
-    let more : run_copies font lay (stretch_of (i - 1) end old)
-    ≡ done ++ copies_by font lay (get_or gs (i - 1) g, get_or ps (i - 1) q) =
-    ap (run_copies font lay) (stretch_first i end old (g, q) (omega arith) t.to t.within)
-    ∙ pushed (copies_by font lay) (get_or old (i - 1) (g, q)) (stretch_of i end old)
-    ∙ ap (λ c. done ++ copies_by font lay c)
-    (sym (tile_left right_to_left font lay first end i start pen old gs ps g q p t)) in
-    record {
-      from = omega arith;
-      to = omega (arith, t.to);
-      both = both;
-      same = same ∙ t.same;
-      can = can_rest right_to_left (copies_by font lay (get_or gs (i - 1) g, get_or ps (i - 1) q)) left pen after gs hs
-          ps qs (zip gs ps) (zip hs qs) (subst (λ copies. CanLay right_to_left copies pen gs ps) split t.can) laid same
-          both;
-      lays = subst (λ copies. Lays right_to_left copies start after old (zip hs qs)) (sym more)
-          (lays_then right_to_left done (copies_by font lay (get_or gs (i - 1) g, get_or ps (i - 1) q)) start pen after
-          old (zip gs ps) (zip hs qs) t.lays laid);
-      room = omega (
-        arith,
-        t.room,
-        laid.place,
-        ap length split,
-        length-append
-            (copies_by font lay (get_or gs (i - 1) g, get_or ps (i - 1) q)) left,
-      );
-      within = t.within;
-    }
+    search (
+      arith,
+      t.to,
+      t.same,
+      can_rest right_to_left (copies_by font lay (get_or gs (i - 1) g, get_or ps (i - 1) q)) left pen after gs hs ps
+          qs (zip gs ps) (zip hs qs)
+          (subst (λ copies. CanLay right_to_left copies pen gs ps) (tile_cell right_to_left font lay first end i
+          start pen old gs ps g q p t) t.can) laid same both,
+      stretch_first i end old (g, q) (omega arith) t.to t.within,
+      pushed (copies_by font lay) (get_or old (i - 1) (g, q)) (stretch_of i end old),
+      tile_left right_to_left font lay first end i start pen old gs ps g q p t,
+      lays_then right_to_left (run_copies font lay (stretch_of i end old))
+          (copies_by font lay (get_or gs (i - 1) g, get_or ps (i - 1) q)) start pen after old (zip gs ps) (zip hs qs)
+          t.lays laid,
+      t.room,
+      laid.place,
+      tile_cell right_to_left font lay first end i start pen old gs ps g q p t,
+      length-append (copies_by font lay (get_or gs (i - 1) g, get_or ps (i - 1) q)) left,
+      t.within,
+    )
 
 -- its glyph number is in range
 pub tile_number : (right_to_left : Bool) (font : Font) (lay : Lay) (first end i : ℕ) (start pen : Pen)
@@ -218,8 +169,9 @@ pub tile_number : (right_to_left : Bool) (font : Font) (lay : Lay) (first end i 
     → (get_or gs (i - 1) g).glyph_id ≤ 65535
 tile_number right_to_left font lay first end i start pen was gs before ps g q p t both all =
     let within : i - 1 < length was = omega (arith, t.to, t.within, length-zipped was before both) in
-    let same : get_or gs (i - 1) g ≡ get_or was (i - 1) g =
-    ap (λ (c : Cell). c.0) (tile_left right_to_left font lay first end i start pen (zip was before) gs ps g q p
-    t ∙ get_or-zip was before (i - 1) (g, q) within (omega (arith, both))) in
-    subst (λ (x : hb_glyph_info_t). x.glyph_id ≤ 65535) (sym same)
-    (number_at (λ g. g.glyph_id ≤ 65535) end was (i - 1) g all (omega (arith, t.to)) within)
+    search (
+      arith,
+      tile_left right_to_left font lay first end i start pen (zip was before) gs ps g q p t,
+      get_or-zip was before (i - 1) (g, q) within (omega (arith, both)),
+      number_at (λ g. g.glyph_id ≤ 65535) end was (i - 1) g all (omega (arith, t.to)) within,
+    )

@@ -66,7 +66,7 @@ seven_rightward = refl
 
 seven_fit : TilesFit (run_of_part (font widths) seven)
 unfolding general_category
-seven_fit = (omega (arith, ints), omega (arith, ints))
+seven_fit = search (arith, ints)
 
 -- a tile of 300 over 1000: wider by two units, with three copies more
 abbrev of_300 : ℕ → ℤ

@@ -1,21 +1,18 @@
 -- The law of widths.
-use Rattle.std.proofs.Common.{◌≡◌, ℕ, zero, suc, ◌+◌, ◌-◌, ◌*◌, ◌/◌, ◌%◌, ◌<◌, ◌≤◌, ℤ, pos, negsuc, ◌+ℤ◌, ◌-ℤ◌, ◌*ℤ◌, ◌≤ℤ◌, ◌<ℤ◌, nat_abs, int_lt, int_div, Bool, true, false, cond, ◌&&◌, nat_lt, ◌⊎◌, inl, inr, subst, refl, sym, ◌∙◌, ap, arith, mul_comm, suc-mul, mul-zero, mul-pos}
+use Rattle.std.proofs.Common.{◌≡◌, ℕ, zero, suc, ◌+◌, ◌-◌, ◌*◌, ◌/◌, ◌%◌, ◌<◌, ◌≤◌, ℤ, pos, negsuc, ◌+ℤ◌, ◌-ℤ◌, ◌*ℤ◌, ◌≤ℤ◌, ◌<ℤ◌, nat_abs, int_lt, int_div, Bool, true, false, cond, ◌&&◌, nat_lt, ◌⊎◌, inl, inr, subst, refl, sym, ◌∙◌, ap, arith, suc-mul, mul-zero, mul-pos}
 use Rattle.std.proofs.lemmas.Int.{ints}
 use borrow.Author.Tests.{ltb-true, ltb-false, lt-true}
 use Rattle.shapers_stretch.specs.declared.ot_shaper_arabic_stretch.measuring.Run.{Run}
-use Rattle.shapers_stretch.specs.Measure.{fit, left, falls_short, laid_width, copies_added}
+use Rattle.shapers_stretch.specs.Measure.{fit, left, falls_short}
 use Rattle.shapers_stretch.specs.StretchLaws.{TilesFit, CoversTheWord}
-use Rattle.shapers_stretch.proofs.Sums.{times_suc}
 use lib.IntN.{pos-*ℤ-pos, *ℤ-zero}
 
 -- the quotient x of M by R, of which at least one fits
 fits_times : (R M x rem : ℕ) → suc R * x + rem ≡ M → rem < suc R → suc R ≤ M → (suc (x - 1) * suc R ≤ M)
     × (M < suc (x - 1) * suc R + suc R)
-fits_times R M zero rem e l h = absurd (omega (arith, mul-zero (suc R)))
+fits_times R M zero rem e l h = search (arith, mul-zero)
 fits_times R M (suc y) rem e l h =
-    let same : suc (suc y - 1) ≡ suc y = omega arith in
-    let at : suc (suc y - 1) * suc R ≡ suc R * suc y = ap (λ n. n * suc R) same ∙ mul_comm (suc y) (suc R) in
-    (omega arith, omega arith)
+    search arith
 
 abbrev fit_if : Bool → ℕ → ℕ → ℕ
 fit_if b R M = cond (b && true) (M / suc R - 1) 0
@@ -23,22 +20,19 @@ fit_if b R M = cond (b && true) (M / suc R - 1) 0
 fit_if_bounds : (b : Bool) (R M : ℕ) → (b ≡ true → suc R < M) → (b ≡ false → M ≤ suc R) → suc R ≤ M
     → (suc (fit_if b R M) * suc R ≤ M) × (M < suc (fit_if b R M) * suc R + suc R)
 fit_if_bounds true R M above most h = fits_times R M (M / suc R) (M % suc R) (omega arith) (omega arith) h
-fit_if_bounds false R M above most h = let at : M ≤ suc R =
-    most refl in (omega (arith, suc-mul 0 (suc R)), omega (arith, suc-mul 0 (suc R)))
+fit_if_bounds false R M above most h = search (arith, suc-mul)
 
 pub fit_bounds : (r m : ℤ) → pos 0 <ℤ r → r ≤ℤ m → ((pos (suc (fit r m)) *ℤ r) ≤ℤ m)
     × (m <ℤ (pos (suc (fit r m)) *ℤ r +ℤ r))
-fit_bounds (pos zero) m p h = absurd (omega (arith, ints))
-fit_bounds (negsuc n) m p h = absurd (omega (arith, ints))
-fit_bounds (pos (suc R)) (negsuc n) p h = absurd (omega (arith, ints))
+fit_bounds (pos zero) m p h = search (arith, ints)
+fit_bounds (negsuc n) m p h = search (arith, ints)
+fit_bounds (pos (suc R)) (negsuc n) p h = search (arith, ints)
 fit_bounds (pos (suc R)) (pos M) p h =
-    let within : suc R ≤ M = omega (arith, ints) in
-    let b = fit_if_bounds (nat_lt (suc R) M) R M (λ e. ltb-true (suc R) M e) (λ e. ltb-false (suc R) M e) within in
+    let b = fit_if_bounds (nat_lt (suc R) M) R M (λ e. ltb-true (suc R) M e) (λ e. ltb-false (suc R) M e)
+    (omega (arith, ints)) in
     let same : fit (pos (suc R)) (pos M) ≡ fit_if (nat_lt (suc R) M) R M =
-    ap (λ c. cond (nat_lt (suc R) M && c) (M / suc R - 1) 0) (sym (lt-true 0 (suc R) (omega arith))) in
-    let at : pos (suc (fit (pos (suc R)) (pos M))) *ℤ pos (suc R) ≡ pos (suc (fit_if (nat_lt (suc R) M) R M) * suc R) =
-    ap (λ n. pos (suc n) *ℤ pos (suc R)) same ∙ pos-*ℤ-pos _ _ in
-    (omega (arith, ints), omega (arith, ints))
+    search (arith, lt-true) in
+    search (arith, ints)
 
 -- a run whose added copies reach too far by a number E above 0
 abbrev overlap_if : Bool → ℤ → ℕ → ℤ
@@ -48,7 +42,7 @@ abbrev Covers : ℤ → ℤ → ℕ → Type 0
 Covers word w n = (word ≤ℤ w) × ((w ≡ word) ⊎ (w <ℤ (word +ℤ pos n)))
 
 over_is : (E N : ℕ) → overlap_if true (pos (suc E)) N ≡ pos (suc E / N)
-over_is E N = ap (λ b. cond b (pos (suc E / N)) (pos 0)) (sym (lt-true 0 (suc E) (omega arith)))
+over_is E N = search (arith, lt-true)
 
 squeezed : (f left ex reach : ℤ) (E N : ℕ) → 0 < N → ex ≡ pos (suc E) → reach ≡ left +ℤ ex
     → Covers (left +ℤ f) ((f +ℤ reach) -ℤ pos N *ℤ overlap_if true ex N) N
@@ -61,8 +55,8 @@ squeezed f left ex reach E N p e h =
     subst P (sym e) at h
 
 above_zero : (x : ℤ) → pos 0 <ℤ x → x ≡ pos (suc (nat_abs x - 1))
-above_zero (pos n) p = ap pos (omega (arith, ints))
-above_zero (negsuc n) p = absurd (omega (arith, ints))
+above_zero (pos n) p = search (arith, ints)
+above_zero (negsuc n) p = search (arith, ints)
 
 -- the copies that fit leave less than one more: where that is something and there is a tile, one
 -- more round reaches over it
@@ -72,12 +66,13 @@ covered : (f left r : ℤ) (q k : ℕ) (short : Bool) → 0 < k → (pos (suc q)
     let reached = pos (suc n) *ℤ r in
     Covers (left +ℤ f) ((f +ℤ reached) -ℤ pos (n * k) *ℤ overlap_if short (reached -ℤ left) (n * k)) (n * k)
 covered f left r q k true p low high more none =
-    let step : pos (suc (suc q)) *ℤ r ≡ pos (suc q) *ℤ r +ℤ r = times_suc (suc q) r in
-    let over : pos 0 <ℤ ((pos (suc (suc q)) *ℤ r) -ℤ left) = omega (arith, ints) in
-    let E : ℕ = nat_abs (pos (suc (suc q)) *ℤ r -ℤ left) - 1 in
-    let is : pos (suc (suc q)) *ℤ r -ℤ left ≡ pos (suc E) = above_zero _ over in
-    squeezed f left (pos (suc (suc q)) *ℤ r -ℤ left) (pos (suc (suc q)) *ℤ r) E (suc q * k) (mul-pos (omega arith) p) is
-    (omega (arith, ints))
+    let E = nat_abs (pos (suc (suc q)) *ℤ r -ℤ left) - 1 in
+    let is : pos (suc (suc q)) *ℤ r -ℤ left ≡ pos (suc E) = above_zero _ (omega (arith, ints)) in
+    search (
+      arith,
+      squeezed f left (pos (suc (suc q)) *ℤ r -ℤ left) (pos (suc (suc q)) *ℤ r) E (suc q * k)
+          (mul-pos (omega arith) p) is (omega (arith, ints)),
+    )
 covered f left r q k false p low high more none =
     let exactly : left ≤ℤ (pos (suc q) *ℤ r) = none refl in
     let nothing : pos (q * k) *ℤ overlap_if false (pos (suc q) *ℤ r -ℤ left) (q * k) ≡ pos 0 = *ℤ-zero (pos (q * k)) in
@@ -102,5 +97,4 @@ covers z some fits =
     λ e. short_most rest z.repeaters some e (λ p. omega (arith, ints)) in
     let all = covered z.fixed (left z) z.repeating q z.repeaters (falls_short z) some bounds.0 bounds.1 above most in
     let word : left z +ℤ z.fixed ≡ z.word = omega (arith, ints) in
-    let P : ℤ → Type 0 = λ t. Covers t (laid_width z) (copies_added z) in
-    subst P word all
+    search arith

@@ -20,7 +20,7 @@ use Rattle.shapers_clusters.proofs.Proved.{made_hold_by, part_shares}
 use Rattle.shapers_text.specs.Thai.{is_sara_am, is_above_base, SaraAmRule, in_two, glyph_rule, place_rule, glyphs_in_two, sara_am_sources, sara_am_stretches, stretches_at}
 use Rattle.shapers_text.specs.ThaiLaws.{without_form, without_name, new_place, ClustersInTwo, InTwoLaw}
 use Rattle.shapers_text.specs.ThaiForms.{marks_flagged, preprocessed_text, pua_shaped}
-use Rattle.shapers_text.proofs.ThaiGuarded.{guarded, guarded_alike, guarded_nikhahit, guarded_sara_aa, name_shows, placed_nikhahit, placed_sara_aa}
+use Rattle.shapers_text.proofs.ThaiGuarded.{guarded, guarded_alike, guarded_nikhahit, guarded_sara_aa}
 use Rattle.shapers_text.proofs.ThaiInTwo.{kept, none_lost, read_by, in_two-map, sources_at}
 use Rattle.shapers_text.proofs.ThaiStretches.{characters-merge_all, stretches_within}
 use Rattle.shapers_text.proofs.ThaiFormWalks.{without_form-pua}
@@ -46,8 +46,10 @@ shares level us cs js made m xs u ys split is_am =
     let P : ℕ → Type 0 = λ p. (n - w ≤ p) × (p < n + 1) in
     let (behind, parts) = sources_at xs u ys is_am in
     let long = length-range_with_len (n - w) w in
-    let merged : 0 < w → Contains (stretches_at level n u w) st = λ some. let test =
-    lt-ltb 0 w some in rw (is_am, test) (0, omega arith, refl) in
+    let merged : 0 < w → Contains (stretches_at level n u w) st = λ some. rw (
+      is_am,
+      lt-ltb 0 w some,
+    ) (0, omega arith, refl) in
     part_shares made m st (sara_am_sources (before_last_run is_above_base xs)) (n ∷ range_with_len (n - w) w) behind
     (λ some. subst (λ vs. Contains (sara_am_stretches level vs) st) (sym split)
     (Contains-flat_map _ (each_after [] (xs ++ u ∷ ys)) (xs, u) st (Contains-each_after [] xs u ys)
@@ -66,19 +68,18 @@ in_two_holds level gs =
     let ms = merge_all level sts gs in
     let standing = all_standing without_name ms in
     let made = in_two (made_in_two ms) standing in
-    let glyphs : map (λ m. m.glyph) made ≡ glyphs_in_two ms =
-    in_two-map (λ m. m.glyph) _ _ (guarded glyph_rule) (λ m. refl) (λ m. refl) standing
-    ∙ ap (in_two (guarded glyph_rule)) (glyphs-standing without_name ms) ∙ guarded_alike glyph_rule ms in
-    let numbered = numbered-standing (λ g. g.glyph_id) without_name ms
-    ∙ ap (enumerate_from 0) (characters-merge_all level sts gs) in
-    let pairs : map (λ m. (m.place, m.glyph.glyph_id)) made ≡ in_two place_rule (enumerate_from 0 us) =
-    in_two-map (λ m. (m.place, m.glyph.glyph_id)) _ _ (guarded place_rule) (λ m. placed_nikhahit m.place m.glyph)
-    (λ m. placed_sara_aa m.place m.glyph) standing
-    ∙ ap (in_two (guarded place_rule)) numbered ∙ guarded_alike place_rule (enumerate_from 0 us) in
-    let places = sym (map-map (λ p. p.0) (λ m. (m.place, m.glyph.glyph_id)) made) ∙ ap (map (λ p. p.0)) pairs in
+    let pairs =
+    in_two-map (λ m. (m.place, m.glyph.glyph_id)) _ _ (guarded place_rule) (λ m. search arith) (λ m. search arith)
+    standing
+    ∙ ap (in_two (guarded place_rule))
+    (numbered-standing (λ g. g.glyph_id) without_name ms ∙ ap (enumerate_from 0) (characters-merge_all level sts gs))
+    ∙ guarded_alike place_rule (enumerate_from 0 us) in
     let (same, h) =
-    made_hold_by without_name name_shows level sts (sara_am_sources us) gs (glyphs_in_two ms)
-    (stretches_within level gs) made places glyphs in
+    made_hold_by without_name (search arith) level sts (sara_am_sources us) gs (glyphs_in_two ms)
+    (stretches_within level gs) made
+    (sym (map-map (λ p. p.0) (λ m. (m.place, m.glyph.glyph_id)) made) ∙ ap (map (λ p. p.0)) pairs)
+    (in_two-map (λ m. m.glyph) _ _ (guarded glyph_rule) (λ m. refl) (λ m. refl) standing
+    ∙ ap (in_two (guarded glyph_rule)) (glyphs-standing without_name ms) ∙ guarded_alike glyph_rule ms) in
     record {
       made = same;
       kept = (kept glyph_rule ms).whole;
@@ -108,10 +109,7 @@ shaped_in_two breaks has level gs text shaped is forms =
     let whole = preprocessed_text false has level gs in
     let cluster : hb_glyph_info_t → ℕ = λ g. g.cluster in
     let flagged = marks_flagged breaks whole in
-    let same : clusters shaped ≡ clusters whole =
-    ap clusters (forms ∙ ap (λ xs. pua_shaped has (marks_flagged breaks xs)) is)
-    ∙ sym (map-map cluster without_form (pua_shaped has flagged))
-    ∙ ap clusters (without_form-pua has flagged)
-    ∙ map-map cluster without_form flagged
-    ∙ map-marks_flagged cluster (λ g. refl) breaks whole in
-    subst (ClustersInTwo level (characters gs) (clusters gs)) (sym same) (in_two_holds level gs).in_clusters
+    subst (ClustersInTwo level (characters gs) (clusters gs)) (sym
+    (ap clusters (forms ∙ ap (λ xs. pua_shaped has (marks_flagged breaks xs)) is)
+    ∙ sym (map-map cluster without_form (pua_shaped has flagged)) ∙ ap clusters (without_form-pua has flagged)
+    ∙ map-map cluster without_form flagged ∙ map-marks_flagged cluster (λ g. refl) breaks whole)) (in_two_holds level gs).in_clusters

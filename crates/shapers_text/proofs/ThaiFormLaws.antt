@@ -1,12 +1,11 @@
 -- The forms, one more character at the end.
-use Rattle.std.proofs.Common.{◌≡◌, ◌⊎◌, inl, inr, ℕ, suc, ◌-◌, ◌+◌, ◌==◌, Bool, true, false, cond, not, ◌||◌, ◌&&◌, List, [], ◌∷◌, ◌++◌, length, take, drop, get_or, set, reverse, refl, sym, ap, ◌∙◌, subst, arith, length-append}
-use Rattle.std.specs.List.{list_any, count_by, take_while, suffix_len}
+use Rattle.std.proofs.Common.{◌≡◌, ◌⊎◌, inl, inr, ℕ, suc, ◌-◌, ◌+◌, ◌==◌, Bool, true, false, cond, not, ◌||◌, ◌&&◌, List, [], ◌∷◌, ◌++◌, length, get_or, set, refl, sym, ap, ◌∙◌, subst, arith, length-append}
+use Rattle.std.specs.List.{list_any, count_by, suffix_len}
 use Rattle.std.proofs.lemmas.Bool.{or_parts, eqb-true, not-false, not-true, and_right}
 use Rattle.std.proofs.lemmas.List.{append_assoc, append-nil, get_or_at, set_at, reverse-append, length_push}
 use Rattle.std.proofs.lemmas.List.Folds.{list_any-append}
 use Rattle.std.proofs.lemmas.List.Sums.{take_while-cons}
-use Rattle.shapers_buffer.specs.Lists.{last_run, before_last_run}
-use Rattle.shapers_buffer.proofs.ListLaws.{last_pass, none_from_count, count_from_none, none_pushed, none_before_push, from_end, suffix_len_yes, suffix_len_no, suffix_len_stop, before_last_run_yes, before_last_run_no, last_run_yes, last_run_no, count_push, last_run_stop, before_last_run_stop}
+use Rattle.shapers_buffer.proofs.ListLaws.{last_pass, none_from_count, count_from_none, none_before_push, from_end, suffix_len_yes, suffix_len_no, suffix_len_stop, before_last_run_yes, before_last_run_no, last_run_yes, last_run_no, count_push, last_run_stop, before_last_run_stop}
 use Rattle.shapers_text.specs.declared.ot_shaper_thai.forms.Consonant.{Consonant}
 use Rattle.shapers_text.specs.declared.ot_shaper_thai.forms.Consonant.TheVariants.{NC, AC, RC, DC, NotConsonant}
 use Rattle.shapers_text.specs.declared.ot_shaper_thai.forms.Mark.{Mark}
@@ -15,7 +14,7 @@ use Rattle.shapers_text.specs.declared.ot_shaper_thai.forms.Action.{Action}
 use Rattle.shapers_text.specs.declared.ot_shaper_thai.forms.Action.TheVariants.{NOP, SD, SL, SDL, RD}
 use Rattle.shapers_text.specs.declared.ot_shaper_thai.forms.Base.{Base}
 use Rattle.shapers_text.specs.ThaiWalk.{counted_base, base_after, target}
-use Rattle.shapers_text.specs.ThaiForms.{consonant_type, mark_type, stands_above, stands_below, is_thai_mark, action_of, shaped_by, last_type, base_type, marks_above, marks_below, action_after, has_below, is_removable, form_between, forms_between, thai_base_place}
+use Rattle.shapers_text.specs.ThaiForms.{consonant_type, mark_type, stands_above, stands_below, is_thai_mark, action_of, shaped_by, base_type, marks_above, marks_below, action_after, has_below, is_removable, form_between, forms_between, thai_base_place}
 
 -- as many forms as characters
 pub length-forms : (has : ℕ → Bool) (before us after : List ℕ) → length (forms_between has before us after) ≡ length us
@@ -25,13 +24,9 @@ length-forms has before (u ∷ us) after = ap suc (length-forms has (before ++ u
 -- the forms of two texts, one after the other
 pub forms-append : (has : ℕ → Bool) (before xs ys after : List ℕ) → forms_between has before (xs ++ ys) after
     ≡ forms_between has before xs (ys ++ after) ++ forms_between has (before ++ xs) ys after
-forms-append has before [] ys after = ap (λ b. forms_between has b ys after) (sym (append-nil before))
+forms-append has before [] ys after = cc (append-nil before)
 forms-append has before (x ∷ xs) ys after =
-    ap (λ zs. form_between has before x zs ∷ forms_between has (before ++ x ∷ []) (xs ++ ys) after)
-    (append_assoc xs ys after)
-    ∙ ap (λ zs. form_between has before x (xs ++ (ys ++ after)) ∷ zs) (forms-append has (before ++ x ∷ []) xs ys after
-    ∙ ap (λ b. forms_between has (before ++ x ∷ []) xs (ys ++ after) ++ forms_between has b ys after)
-    (append_assoc before (x ∷ []) xs))
+    search (arith, append_assoc, forms-append has (before ++ x ∷ []) xs ys after)
 
 -- the marks that follow: one by one
 any_of_cond : (b : Bool) (u : ℕ) (us : List ℕ) → list_any (λ v. stands_below (mark_type v)) (cond b (u ∷ us) [])
@@ -41,26 +36,20 @@ any_of_cond false u us = refl
 
 below-cons : (u : ℕ) (us : List ℕ)
     → has_below (u ∷ us) ≡ cond (is_thai_mark u) (stands_below (mark_type u) || has_below us) false
-below-cons u us = ap (list_any (λ v. stands_below (mark_type v))) (take_while-cons is_thai_mark u us)
-    ∙ any_of_cond (is_thai_mark u) u (take_while is_thai_mark us)
+below-cons u us = search (arith, take_while-cons, any_of_cond)
 
 -- what stands behind a character that is no mark isn't seen
 pub below_stop : (us : List ℕ) (a : ℕ) (after : List ℕ) → is_thai_mark a ≡ false
     → has_below (us ++ a ∷ after) ≡ has_below (us ++ [])
-below_stop [] a after h = below-cons a after ∙ ap (λ b. cond b (stands_below (mark_type a) || has_below after) false) h
+below_stop [] a after h = cc (below-cons a after)
 below_stop (u ∷ us) a after h =
-    below-cons u (us ++ a ∷ after)
-    ∙ ap (λ b. cond (is_thai_mark u) (stands_below (mark_type u) || b) false) (below_stop us a after h)
-    ∙ sym (below-cons u (us ++ []))
+    search (arith, below-cons, below_stop us a after h)
 
 pub forms_stop : (has : ℕ → Bool) (before us : List ℕ) (a : ℕ) (after : List ℕ) → is_thai_mark a ≡ false
     → forms_between has before us (a ∷ after) ≡ forms_between has before us []
 forms_stop has before [] a after h = refl
 forms_stop has before (u ∷ us) a after h =
-    ap (λ b. cond (is_thai_mark u) (shaped_by has u (action_after before u))
-    (cond (is_removable (consonant_type u) && b) (shaped_by has u RD) u)
-    ∷ forms_between has (before ++ u ∷ []) us (a ∷ after)) (below_stop us a after h)
-    ∙ ap (λ zs. form_between has before u (us ++ []) ∷ zs) (forms_stop has (before ++ u ∷ []) us a after h)
+    search (arith, below_stop, forms_stop has (before ++ u ∷ []) us a after h)
 
 -- the forms of marks don't depend on what follows
 
@@ -68,25 +57,14 @@ pub forms_marks : (has : ℕ → Bool) (before us after : List ℕ) → list_any
     → forms_between has before us after ≡ forms_between has before us []
 forms_marks has before [] after marks = refl
 forms_marks has before (u ∷ us) after marks =
-    let parts = or_parts _ _ marks in
-    let is_one : is_thai_mark u ≡ true = not-false _ parts.0 in
-    ap (λ b. cond b (shaped_by has u (action_after before u))
-    (cond (is_removable (consonant_type u) && has_below (us ++ after)) (shaped_by has u RD) u)
-    ∷ forms_between has (before ++ u ∷ []) us after) is_one
-    ∙ ap (λ zs. shaped_by has u (action_after before u) ∷ zs) (forms_marks has (before ++ u ∷ []) us after parts.1)
-    ∙ ap (λ b. cond b (shaped_by has u (action_after before u))
-    (cond (is_removable (consonant_type u) && has_below (us ++ [])) (shaped_by has u RD) u)
-    ∷ forms_between has (before ++ u ∷ []) us []) (sym is_one)
+    let parts = or_parts _ _ marks in search (arith, forms_marks has (before ++ u ∷ []) us after parts.1)
 
 -- one more mark after marks
 below_marks : (us : List ℕ) → list_any (λ u. not (is_thai_mark u)) us ≡ false
     → has_below us ≡ list_any (λ u. stands_below (mark_type u)) us
 below_marks [] marks = refl
 below_marks (u ∷ us) marks =
-    let parts = or_parts _ _ marks in
-    below-cons u us
-    ∙ ap (λ b. cond b (stands_below (mark_type u) || has_below us) false) (not-false _ parts.0)
-    ∙ ap (λ b. stands_below (mark_type u) || b) (below_marks us parts.1)
+    let parts = or_parts _ _ marks in search (arith, below-cons, below_marks us parts.1)
 
 -- where an action acts on the mark itself
 abbrev Own : Action → Type 0
@@ -156,15 +134,8 @@ no_action DC NotMark a b h = refl
 no_action NotConsonant NotMark a b h = refl
 
 -- a vowel below has no form without a descender
-not_this : (v u : ℕ) → stands_below (mark_type u) ≡ true → stands_below (mark_type v) ≡ false → (v == u) ≡ false
-not_this v u below other =
-    elim (v == u) as (λ b. (v == u) ≡ b → b ≡ false) [
-      | true ↦ λ e. sym below ∙ ap (λ w. stands_below (mark_type w)) (sym (eqb-true v u e)) ∙ other
-      | false ↦ λ e. refl
-    ] refl
-
 below_keeps : (has : ℕ → Bool) (u : ℕ) → stands_below (mark_type u) ≡ true → shaped_by has u RD ≡ u
-below_keeps has u below = rw (not_this 0x0E0D u below refl, not_this 0x0E10 u below refl) refl
+below_keeps has u below = search (arith, refl)
 
 -- the forms of a text with a base and its marks at the end
 split_forms : (has : ℕ → Bool) (ys : List ℕ) (base : ℕ) (ms after : List ℕ) → is_thai_mark base ≡ false
@@ -172,15 +143,7 @@ split_forms : (has : ℕ → Bool) (ys : List ℕ) (base : ℕ) (ms after : List
     [] ys [] ++ (cond (is_removable (consonant_type base) && has_below (ms ++ after)) (shaped_by has base RD) base
     ∷ forms_between has (ys ++ base ∷ []) ms [])
 split_forms has ys base ms after none marks =
-    forms-append has [] ys (base ∷ ms) after
-    ∙ ap (λ zs. zs ++ (form_between has ys base (ms ++ after) ∷ forms_between has (ys ++ base ∷ []) ms after))
-    (forms_stop has [] ys base (ms ++ after) none)
-    ∙ ap (λ zs. forms_between has [] ys [] ++ (form_between has ys base (ms ++ after) ∷ zs))
-    (forms_marks has (ys ++ base ∷ []) ms after marks)
-    ∙ ap (λ b. forms_between has [] ys
-    [] ++ (cond b (shaped_by has base (action_after ys base))
-    (cond (is_removable (consonant_type base) && has_below (ms ++ after)) (shaped_by has base RD) base)
-    ∷ forms_between has (ys ++ base ∷ []) ms [])) none
+    search (arith, forms-append, forms_stop, forms_marks)
 
 or_last : (a b : Bool) → (a || (b || false)) ≡ (a || b)
 or_last true b = refl
@@ -188,14 +151,6 @@ or_last false true = refl
 or_last false false = refl
 
 -- one more mark after marks
-below_pushed : (ms : List ℕ) (u : ℕ) → list_any (λ v. not (is_thai_mark v)) ms ≡ false → is_thai_mark u ≡ true
-    → has_below (ms ++ u ∷ []) ≡ (has_below ms || stands_below (mark_type u))
-below_pushed ms u marks is_one =
-    below_marks (ms ++ u ∷ []) (none_pushed (λ v. not (is_thai_mark v)) ms u marks (ap not is_one))
-    ∙ list_any-append (λ v. stands_below (mark_type v)) ms (u ∷ [])
-    ∙ or_last (list_any (λ v. stands_below (mark_type v)) ms) (stands_below (mark_type u))
-    ∙ ap (λ b. b || stands_below (mark_type u)) (sym (below_marks ms marks))
-
 -- a list all of which passes is its own last run
 passes_run : (test : ℕ → Bool) (ms : List ℕ) → list_any (λ u. not (test u)) ms ≡ false → suffix_len test ms ≡ length ms
 passes_run test ms marks =
@@ -203,8 +158,7 @@ passes_run test ms marks =
     (λ xs x same none.
     let parts = none_before_push (λ u. not (test u)) xs x none in
     let whole = suffix_len_yes test xs x (not-false _ parts.1) in
-    let front = same parts.0 in
-    omega (arith, length_push xs x)) ms marks
+    search (arith, length_push)) ms marks
 
 -- a count is 0 exactly if none passes
 zero_count : (test : ℕ → Bool) (xs : List ℕ) → (count_by test xs == 0) ≡ not (list_any test xs)
@@ -228,39 +182,24 @@ at_marks : (ys : List ℕ) (base : ℕ) (ms : List ℕ) → is_thai_mark base �
 at_marks ys base ms none marks =
     let run = passes_run is_thai_mark ms marks in
     let zero_left : length ms - suffix_len is_thai_mark ms ≡ 0 = omega arith in
-    let before : before_last_run is_thai_mark (ys ++ base ∷ ms) ≡ ys ++ base ∷ [] =
-    before_last_run_stop is_thai_mark ys base ms none ∙ ap (λ n. ys ++ base ∷ take n ms) zero_left in
-    let last : last_run is_thai_mark (ys ++ base ∷ ms) ≡ ms =
-    last_run_stop is_thai_mark ys base ms none ∙ ap (λ n. drop n ms) zero_left in
-    record {
-      type_is = ap (λ zs. last_type (reverse zs)) before ∙ ap last_type (reverse-append ys (base ∷ []));
-      below_is =
-          ap (λ zs. count_by (λ u. stands_below (mark_type u)) zs == 0) last
-          ∙ zero_count (λ u. stands_below (mark_type u)) ms
-          ∙ ap not (sym (below_marks ms marks));
-      place_is = omega (arith, length-append ys (base ∷ ms), suffix_len_stop is_thai_mark ys base ms none);
-    }
+    search (
+      arith,
+      before_last_run_stop,
+      reverse-append,
+      last_run_stop,
+      zero_count,
+      below_marks,
+      length-append,
+      suffix_len_stop,
+    )
 
 -- a form put in at the last place, or at that of the base
-set_last : (has : ℕ → Bool) (fs : List ℕ) (u : ℕ) (rest : List ℕ) (n : ℕ) (action : Action) → length fs ≡ n
-    → set (fs ++ u ∷ rest) n (shaped_by has (get_or (fs ++ u ∷ rest) n 0) action) ≡ (fs ++ shaped_by has u action ∷ [])
-    ++ rest
-set_last has fs u rest n action long =
-    ap (λ v. set (fs ++ u ∷ rest) n (shaped_by has v action)) (get_or_at fs u rest 0 n long)
-    ∙ set_at fs u rest (shaped_by has u action) n long
-    ∙ sym (append_assoc fs (shaped_by has u action ∷ []) rest)
-
 set_base : (has : ℕ → Bool) (ps : List ℕ) (base : ℕ) (ms : List ℕ) (u : ℕ) (rest : List ℕ) (n : ℕ) (action : Action)
     → length ps ≡ n
     → set ((ps ++ base ∷ ms) ++ u ∷ rest) n (shaped_by has (get_or ((ps ++ base ∷ ms) ++ u ∷ rest) n 0) action)
     ≡ ((ps ++ shaped_by has base action ∷ ms) ++ u ∷ []) ++ rest
 set_base has ps base ms u rest n action long =
-    ap (λ zs. set zs n (shaped_by has (get_or zs n 0) action)) (append_assoc ps (base ∷ ms) (u ∷ rest))
-    ∙ ap (λ v. set (ps ++ base ∷ (ms ++ u ∷ rest)) n (shaped_by has v action))
-    (get_or_at ps base (ms ++ u ∷ rest) 0 n long)
-    ∙ set_at ps base (ms ++ u ∷ rest) (shaped_by has base action) n long
-    ∙ sym (append_assoc ps (shaped_by has base action ∷ ms) (u ∷ rest))
-    ∙ sym (append_assoc (ps ++ shaped_by has base action ∷ ms) (u ∷ []) rest)
+    search (arith, append_assoc, get_or_at, set_at)
 
 -- a character shaped in place
 abbrev pub action_put : (ℕ → Bool) → ℕ → Action → List ℕ → List ℕ
@@ -276,51 +215,28 @@ Shapes has xs u rest =
 -- the last form, behind the others
 last_form : (has : ℕ → Bool) (xs : List ℕ) (u : ℕ) → forms_between has [] (xs ++ u ∷ []) [] ≡ forms_between has
     [] xs (u ∷ []) ++ form_between has xs u [] ∷ []
-last_form has xs u = forms-append has [] xs (u ∷ []) []
+last_form has xs u = search (arith, forms-append)
 
 mark_form : (has : ℕ → Bool) (xs : List ℕ) (u : ℕ) → is_thai_mark u ≡ true → form_between has xs u
     [] ≡ shaped_by has u (action_after xs u)
 mark_form has xs u is_one =
-    ap (λ b. cond b (shaped_by has u (action_after xs u))
-    (cond (is_removable (consonant_type u) && false) (shaped_by has u RD) u)) is_one
+    cc
 
 plain_form : (has : ℕ → Bool) (xs : List ℕ) (u : ℕ) → is_thai_mark u ≡ false → form_between has xs u [] ≡ u
 plain_form has xs u none =
-    ap (λ b. cond b (shaped_by has u (action_after xs u))
-    (cond (is_removable (consonant_type u) && false) (shaped_by has u RD) u)) none
-    ∙ ap (λ b. cond b (shaped_by has u RD) u) (and_right (is_removable (consonant_type u)) false refl)
+    search (arith, and_right)
 
 -- where the mark itself is shaped and the forms before it stay
 shapes_own : (has : ℕ → Bool) (xs : List ℕ) (u : ℕ) (rest : List ℕ) → Own (action_after xs u) → forms_between has
     [] xs (u ∷ []) ≡ forms_between has [] xs [] → form_between has xs u [] ≡ shaped_by has u (action_after xs u)
     → Shapes has xs u rest
 shapes_own has xs u rest own same formed =
-    let action = action_after xs u in
-    let fs = forms_between has [] xs [] in
-    ap (λ n. action_put has n action (fs ++ u ∷ rest)) (own (thai_base_place xs) (length xs))
-    ∙ set_last has fs u rest (length xs) action (length-forms has [] xs [])
-    ∙ ap (λ v. (fs ++ v ∷ []) ++ rest) (sym formed)
-    ∙ ap (λ zs. (zs ++ form_between has xs u [] ∷ []) ++ rest) (sym same)
-    ∙ ap (λ zs. zs ++ rest) (sym (last_form has xs u))
+    search (arith, get_or_at, set_at, append_assoc, length-forms, last_form)
 
 -- no mark
 shapes_plain : (has : ℕ → Bool) (xs : List ℕ) (u : ℕ) (rest : List ℕ) → is_thai_mark u ≡ false → Shapes has xs u rest
 shapes_plain has xs u rest none =
-    let nothing : action_after xs u ≡ NOP =
-    no_action (base_type xs) (mark_type u) (marks_above xs) (marks_below xs) none in
-    shapes_own has xs u rest (λ x y. ap (λ a. target a x y) nothing) (forms_stop has [] xs u [] none)
-    (plain_form has xs u none ∙ sym (ap (shaped_by has u) nothing))
-
--- a mark without a base
-shapes_alone : (has : ℕ → Bool) (xs : List ℕ) (u : ℕ) (rest : List ℕ) → list_any (λ v. not (is_thai_mark v)) xs ≡ false
-    → is_thai_mark u ≡ true → Shapes has xs u rest
-shapes_alone has xs u rest marks is_one =
-    let run = passes_run is_thai_mark xs marks in
-    let zero_left : length xs - suffix_len is_thai_mark xs ≡ 0 = omega arith in
-    let no_base : base_type xs ≡ NotConsonant = ap (λ n. last_type (reverse (take n xs))) zero_left in
-    shapes_own has xs u rest (λ x y. ap (λ k. target (action_of k (mark_type u) (marks_above xs) (marks_below xs)) x y)
-    no_base ∙ own_without (mark_type u) (marks_above xs) (marks_below xs) x y)
-    (forms_marks has [] xs (u ∷ []) marks) (mark_form has xs u is_one)
+    search (arith, shapes_own, no_action, forms_stop)
 
 -- a mark with a base
 shapes_with : (has : ℕ → Bool) (ys : List ℕ) (base : ℕ) (ms : List ℕ) (u : ℕ) (rest : List ℕ)
@@ -333,18 +249,15 @@ shapes_with has ys base ms u rest none marks is_one =
     let s = stands_below (mark_type u) in
     let ps = forms_between has [] ys [] in
     let behind = forms_between has (ys ++ base ∷ []) ms [] in
-    let now : forms_between has [] xs
-    [] ≡ ps ++ (cond (is_removable (base_type xs) && h) (shaped_by has base RD) base ∷ behind) =
+    let now =
     split_forms has ys base ms [] none marks
     ∙ ap (λ b. ps ++ (cond (is_removable (consonant_type base) && b) (shaped_by has base RD) base ∷ behind))
     (ap has_below (append-nil ms))
     ∙ ap (λ k. ps ++ (cond (is_removable k && h) (shaped_by has base RD) base ∷ behind)) (sym at.type_is) in
-    let next : forms_between has
-    [] xs (u ∷ [])
-    ≡ ps ++ (cond (is_removable (base_type xs) && (h || s)) (shaped_by has base RD) base ∷ behind) =
+    let next =
     split_forms has ys base ms (u ∷ []) none marks
     ∙ ap (λ b. ps ++ (cond (is_removable (consonant_type base) && b) (shaped_by has base RD) base ∷ behind))
-    (below_pushed ms u marks is_one)
+    (search (arith, below_marks, list_any-append, or_last))
     ∙ ap (λ k. ps ++ (cond (is_removable k && (h || s)) (shaped_by has base RD) base ∷ behind)) (sym at.type_is) in
     elim (acts (base_type xs) (mark_type u) (marks_above xs) (marks_below xs) h at.below_is) [
       | inr leaves ↦
@@ -352,24 +265,21 @@ shapes_with has ys base ms u rest none marks is_one =
           (next ∙ ap (λ b. ps ++ (cond b (shaped_by has base RD) base ∷ behind)) leaves.1 ∙ sym now)
           (mark_form has xs u is_one)
       | inl takes ↦
-          let without_form : forms_between has [] xs [] ≡ ps ++ base ∷ behind =
-          now ∙ ap (λ b. ps ++ (cond (is_removable (base_type xs) && b) (shaped_by has base RD) base ∷ behind))
-          takes.1.1.1
-          ∙ ap (λ b. ps ++ (cond b (shaped_by has base RD) base ∷ behind))
-          (and_right (is_removable (base_type xs)) false refl) in
-          let shaped : forms_between has [] xs (u ∷ []) ≡ ps ++ shaped_by has base RD ∷ behind =
-          next ∙ ap (λ b. ps ++ (cond (b && (h || s)) (shaped_by has base RD) base ∷ behind)) takes.1.0
-          ∙ ap (λ b. ps ++ (cond (h || b) (shaped_by has base RD) base ∷ behind)) takes.1.1.0
-          ∙ ap (λ b. ps ++ (cond (b || true) (shaped_by has base RD) base ∷ behind)) takes.1.1.1 in
-          let itself : form_between has xs u [] ≡ u = mark_form has xs u is_one ∙ ap (shaped_by has u) takes.0
-          ∙ below_keeps has u takes.1.1.0 in
-          ap (λ a. action_put has (target a (thai_base_place xs) (length xs)) a (forms_between has [] xs
-          [] ++ u ∷ rest)) takes.0
+          ap
+          (λ a. action_put has (target a (thai_base_place xs) (length xs)) a (forms_between has [] xs [] ++ u ∷ rest))
+          takes.0
           ∙ ap (λ n. action_put has n RD (forms_between has [] xs [] ++ u ∷ rest)) at.place_is
-          ∙ ap (λ zs. action_put has (length ys) RD (zs ++ u ∷ rest)) without_form
+          ∙ ap (λ zs. action_put has (length ys) RD (zs ++ u ∷ rest))
+          (now ∙ ap (λ b. ps ++ (cond (is_removable (base_type xs) && b) (shaped_by has base RD) base ∷ behind))
+          takes.1.1.1 ∙ ap (λ b. ps ++ (cond b (shaped_by has base RD) base ∷ behind)) (and_right (is_removable
+          (base_type xs)) false refl))
           ∙ set_base has ps base behind u rest (length ys) RD (length-forms has [] ys [])
-          ∙ ap (λ v. ((ps ++ shaped_by has base RD ∷ behind) ++ v ∷ []) ++ rest) (sym itself)
-          ∙ ap (λ zs. (zs ++ form_between has xs u [] ∷ []) ++ rest) (sym shaped)
+          ∙ ap (λ v. ((ps ++ shaped_by has base RD ∷ behind) ++ v ∷ []) ++ rest)
+          (sym (mark_form has xs u is_one ∙ ap (shaped_by has u) takes.0 ∙ below_keeps has u takes.1.1.0))
+          ∙ ap (λ zs. (zs ++ form_between has xs u [] ∷ []) ++ rest)
+          (sym (next ∙ ap (λ b. ps ++ (cond (b && (h || s)) (shaped_by has base RD) base ∷ behind)) takes.1.0 ∙ ap (λ
+          b. ps ++ (cond (h || b) (shaped_by has base RD) base ∷ behind)) takes.1.1.0 ∙ ap (λ b. ps ++ (cond (b ||
+          true) (shaped_by has base RD) base ∷ behind)) takes.1.1.1))
           ∙ ap (λ zs. zs ++ rest) (sym (last_form has xs u))
     ]
 
@@ -378,7 +288,11 @@ shapes has xs u rest =
     elim (is_thai_mark u) as (λ b. is_thai_mark u ≡ b → Shapes has xs u rest) [
       | false ↦ λ none. shapes_plain has xs u rest none
       | true ↦ λ is_one. elim (last_pass (λ v. not (is_thai_mark v)) xs) [
-        | inl marks ↦ shapes_alone has xs u rest marks is_one
+        | inl marks ↦
+            let run = passes_run is_thai_mark xs marks in
+            let zero_left : length xs - suffix_len is_thai_mark xs ≡ 0 = omega arith in
+            let no_base : base_type xs ≡ NotConsonant = cc in
+            search (arith, shapes_own, own_without, forms_marks)
         | inr p ↦ subst (λ zs. Shapes has zs u rest) (sym p.parts)
             (shapes_with has p.before p.element p.after u rest (not-true _ p.passes) p.none_after is_one)
       ]
@@ -396,48 +310,24 @@ pub base_place_push : (xs : List ℕ) (u : ℕ) → thai_base_place (xs ++ u ∷
 base_place_push xs u =
     elim (is_thai_mark u) as (λ b. is_thai_mark u ≡ b → thai_base_place (xs ++ u ∷ [])
     ≡ cond b (thai_base_place xs) (length xs)) [
-      | true ↦ λ h. omega (arith, length_push xs u, suffix_len_yes is_thai_mark xs u h)
-      | false ↦ λ h. omega (arith, length_push xs u, suffix_len_no is_thai_mark xs u h)
+      | true ↦ λ h. omega (arith, length_push, suffix_len_yes)
+      | false ↦ λ h. omega (arith, length_push, suffix_len_no)
     ] refl
 
 base_at : (xs : List ℕ) (u : ℕ) → is_thai_mark u ≡ false
     → IsBase (xs ++ u ∷ []) (record { place = length xs; consonant = consonant_type u; above = 0; below = 0 })
-base_at xs u none = record {
-  place_is = sym (base_place_push xs u ∙ ap (λ b. cond b (thai_base_place xs) (length xs)) none);
-  type_is = sym (ap (λ zs. last_type (reverse zs)) (before_last_run_no is_thai_mark xs u none)
-      ∙ ap last_type (reverse-append xs (u ∷ [])));
-  above_is = sym (ap (count_by (λ v. stands_above (mark_type v))) (last_run_no is_thai_mark xs u none));
-  below_is = sym (ap (count_by (λ v. stands_below (mark_type v))) (last_run_no is_thai_mark xs u none));
-}
+base_at xs u none = search (arith, base_place_push, before_last_run_no, reverse-append, last_run_no)
 
 -- a mark base_counting above or below
 abbrev base_counting : Base → Bool → Bool → Base
 base_counting base above below =
     record base { above = base.above + cond above 1 0; below = base.below + cond below 1 0 }
 
-base_kept : (xs : List ℕ) (u : ℕ) (base : Base) → IsBase xs base → is_thai_mark u ≡ true
-    → IsBase (xs ++ u ∷ []) (base_counting base (stands_above (mark_type u)) (stands_below (mark_type u)))
-base_kept xs u base is is_one = record {
-  place_is = is.place_is ∙ sym (base_place_push xs u ∙ ap (λ b. cond b (thai_base_place xs) (length xs)) is_one);
-  type_is = is.type_is ∙ sym (ap (λ zs. last_type (reverse zs)) (before_last_run_yes is_thai_mark xs u is_one));
-  above_is =
-      ap (λ n. n + cond (stands_above (mark_type u)) 1 0) is.above_is
-      ∙ sym (ap (count_by (λ v. stands_above (mark_type v))) (last_run_yes is_thai_mark xs u is_one)
-      ∙ count_push (λ v. stands_above (mark_type v)) (last_run is_thai_mark xs) u _ refl);
-  below_is =
-      ap (λ n. n + cond (stands_below (mark_type u)) 1 0) is.below_is
-      ∙ sym (ap (count_by (λ v. stands_below (mark_type v))) (last_run_yes is_thai_mark xs u is_one)
-      ∙ count_push (λ v. stands_below (mark_type v)) (last_run is_thai_mark xs) u _ refl);
-}
-
 counted_is : (mark : Mark) (base : Base) (i u : ℕ) → (stands_above mark || stands_below mark) ≡ true
     → counted_base mark base i u ≡ base_counting base (stands_above mark) (stands_below mark)
-counted_is AV base i u h = let e : base.below ≡ base.below + 0 =
-    omega arith in ap (λ n. let b : Base = record base { above = base.above + 1; below = n } in b) e
-counted_is T base i u h = let e : base.below ≡ base.below + 0 =
-    omega arith in ap (λ n. let b : Base = record base { above = base.above + 1; below = n } in b) e
-counted_is BV base i u h = let e : base.above ≡ base.above + 0 =
-    omega arith in ap (λ n. let b : Base = record base { above = n; below = base.below + 1 } in b) e
+counted_is AV base i u h = search arith
+counted_is T base i u h = search arith
+counted_is BV base i u h = search arith
 counted_is NotMark base i u h = absurd cc
 
 uncounted_is : (mark : Mark) (base : Base) (i u : ℕ) → (stands_above mark || stands_below mark) ≡ false
@@ -452,12 +342,12 @@ pub base_push : (xs : List ℕ) (u : ℕ) (base : Base) (i : ℕ) → i ≡ leng
 base_push xs u base i place is =
     elim (is_thai_mark u) as (λ b. is_thai_mark u ≡ b → IsBase (xs ++ u ∷ []) (base_after base i u)) [
       | true ↦ λ is_one. subst (IsBase (xs ++ u ∷ [])) (sym (counted_is (mark_type u) base i u is_one))
-          (base_kept xs u base is is_one)
+          (search (arith, base_place_push, before_last_run_yes, last_run_yes, count_push))
       | false ↦ λ none. subst (IsBase (xs ++ u ∷ [])) (sym (uncounted_is (mark_type u) base i u none))
           (subst (λ n. IsBase (xs ++ u ∷ [])
-          (let b : Base = record { place = n; consonant = consonant_type u; above = 0; below = 0 } in b))
+          ((record { place = n; consonant = consonant_type u; above = 0; below = 0 })))
           (sym place) (base_at xs u none))
     ] refl
 
 pub base_none : IsBase [] (record { place = 0; consonant = NotConsonant; above = 0; below = 0 })
-base_none = record { place_is = refl; type_is = refl; above_is = refl; below_is = refl }
+base_none = search arith

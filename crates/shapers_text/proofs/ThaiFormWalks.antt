@@ -1,12 +1,12 @@
 -- The two walks: the flags, and the forms.
-use Rattle.std.proofs.Common.{◌≡◌, ℕ, zero, suc, ◌-◌, ◌+◌, ◌<◌, ◌≤◌, Bool, true, false, cond, ◌||◌, eqb, List, [], ◌∷◌, ◌++◌, length, take, drop, get_or, map, refl, sym, ap, ◌∙◌, subst, arith}
+use Rattle.std.proofs.Common.{◌≡◌, ℕ, zero, suc, ◌-◌, ◌+◌, ◌<◌, ◌≤◌, Bool, true, false, cond, ◌||◌, List, [], ◌∷◌, ◌++◌, length, take, drop, get_or, map, refl, sym, ap, ◌∙◌, subst, arith}
 use Rattle.std.specs.List.{AllByRecursion, take-map}
 use Rattle.std.proofs.lemmas.List.{append-nil, length-map, length-take-le, take_more, drop_more, take_all, drop_all, drop-map, map-append, get_or_at}
 use Rattle.std.proofs.lemmas.Simd.{map-map}
 use Rattle.shapers_buffer.specs.declared.buffer.glyph.hb_glyph_info_t.{hb_glyph_info_t}
 use Rattle.shapers_buffer.specs.Clusters.{least, stretch_of}
 use Rattle.shapers_buffer.specs.Glyph.{clusters, characters}
-use Rattle.shapers_buffer.specs.GlyphFlags.{with_bits, with_bits_off, flagged, unsafe_inside, unsafe_all}
+use Rattle.shapers_buffer.specs.GlyphFlags.{with_bits_off, flagged, unsafe_inside, unsafe_all}
 use Rattle.shapers_buffer.specs.Lists.{each_after}
 use Rattle.shapers_clusters.proofs.FlagCalls.{map-unsafe_inside, map-unsafe_all, without_flags-or}
 use Rattle.shapers_clusters.proofs.Flagging.{unsafe_nothing, unsafe_longer, unsafe_all-append}
@@ -16,23 +16,19 @@ use Rattle.shapers_text.specs.declared.ot_shaper_thai.forms.Base.{Base}
 use Rattle.shapers_text.specs.declared.ot_shaper_thai.forms.Consonant.TheVariants.{NotConsonant}
 use Rattle.shapers_text.specs.declared.ot_shaper_thai.forms.Mark.{Mark}
 use Rattle.shapers_text.specs.declared.ot_shaper_thai.forms.Mark.TheVariants.{AV, BV, T, NotMark}
-use Rattle.shapers_text.specs.ThaiForms.{mark_type, stands_above, stands_below, is_thai_mark, base_type, marks_above, action_of, action_after, forms_between, with_character, with_characters, thai_base_place, stretch_of_mark, mark_stretches_of_each, mark_stretches, pua_shaped, preprocessed_text}
+use Rattle.shapers_text.specs.ThaiForms.{mark_type, stands_above, stands_below, is_thai_mark, action_of, forms_between, with_character, with_characters, thai_base_place, stretch_of_mark, mark_stretches_of_each, mark_stretches, pua_shaped, preprocessed_text}
 use Rattle.shapers_text.specs.ThaiWalk.{target, form_set, counted_base, base_after, after_action, after_character}
 use Rattle.shapers_text.specs.ThaiLaws.{without_form, FormsLaw}
-use Rattle.shapers_text.proofs.ThaiFormLaws.{IsBase, base_none, base_push, base_place_push, length-forms, no_action, action_put, shapes}
+use Rattle.shapers_text.proofs.ThaiFormLaws.{IsBase, base_push, base_place_push, length-forms, no_action, action_put, shapes}
 
 in_order_at : (before : List ℕ) (u : ℕ) (rest : List (ℕ × ℕ)) → AllByRecursion (λ st. st.0 ≤ st.1) rest
     → AllByRecursion (λ st. st.0 ≤ st.1) (stretch_of_mark (thai_base_place before) (length before) u ++ rest)
 in_order_at before u rest all =
-    elim (is_thai_mark u) as (λ b. AllByRecursion (λ st. st.0 ≤ st.1)
-    (cond b ((thai_base_place before, length before) ∷ []) [] ++ rest)) [
-      | true ↦ (omega arith, all)
-      | false ↦ all
-    ]
+    search arith
 
 pub in_order : (each : List (List ℕ × ℕ)) → AllByRecursion (λ st. st.0 ≤ st.1) (mark_stretches_of_each each)
 in_order [] = tt
-in_order (p ∷ each) = in_order_at p.0 p.1 (mark_stretches_of_each each) (in_order each)
+in_order (p ∷ each) = search (arith, in_order each)
 
 -- the walk of the flags: those of the last base go to the place before this one
 pub record Flagging (start now : List hb_glyph_info_t) (i base : ℕ) : Type 0 where
@@ -43,12 +39,7 @@ pub record Flagging (start now : List hb_glyph_info_t) (i base : ℕ) : Type 0 w
 
 flagging_none : (start : List hb_glyph_info_t) → Flagging start start 0 0
 flagging_none start =
-    record {
-      same_text = refl;
-      base_is = refl;
-      rest = ap (unsafe_all (mark_stretches (characters start)))
-          (unsafe_nothing 0 start);
-    }
+    search (arith, unsafe_nothing)
 
 -- the text splits at place i
 pub record Splits (us : List ℕ) (i u : ℕ) : Type 0 where
@@ -57,21 +48,16 @@ pub record Splits (us : List ℕ) (i u : ℕ) : Type 0 where
   pub length_is : length (take i us) ≡ i
 
 pub splits : (us : List ℕ) (i u : ℕ) → i < length us → u ≡ get_or us i 0 → Splits us i u
-splits us i u inside at = record {
-  rest_is = drop_more us i 0 inside ∙ ap (λ v. v ∷ drop (i + 1) us) (sym at);
-  front_is = take_more us i 0 inside ∙ ap (λ v. take i us ++ v ∷ []) (sym at);
-  length_is = length-take-le i us (omega arith);
-}
+splits us i u inside at = search (arith, drop_more, take_more, length-take-le)
 
 flagging_base : (start now : List hb_glyph_info_t) (i base : ℕ) → i ≤ length start → Flagging start now i base
     → base ≤ i - 1
 flagging_base start now i base within f =
-    omega (arith, f.base_is, length-take-le i (characters start) (omega (arith, length-map start (λ g. g.glyph_id))))
+    search (arith, length-take-le, length-map)
 
 flagging_length : (start now : List hb_glyph_info_t) (i base : ℕ) → Flagging start now i base
     → length now ≡ length start
-flagging_length start now i base f = sym (length-map now (λ g. g.glyph_id)) ∙ ap length f.same_text
-    ∙ length-map start (λ g. g.glyph_id)
+flagging_length start now i base f = search (arith, length-map)
 
 -- the flags set at place i: those of the base before it, where its character u is no mark
 abbrev pub flags_at : ℕ → ℕ → ℕ → List hb_glyph_info_t → List hb_glyph_info_t
@@ -83,39 +69,25 @@ still : (u base last i : ℕ) (gs : List hb_glyph_info_t) → base ≤ last → 
 still u base last i gs low high within =
     elim (is_thai_mark u) as (λ b. unsafe_all (cond b ((base, i) ∷ []) []) (unsafe_inside base last gs)
     ≡ unsafe_inside (cond b base i) i (cond b gs (unsafe_inside base last gs))) [
-      | true ↦ unsafe_longer base last i gs low high within
-      | false ↦ sym (unsafe_nothing i (unsafe_inside base last gs))
+      | true ↦ search (arith, unsafe_longer)
+      | false ↦ search (arith, unsafe_nothing)
     ]
 
 characters-flags_at : (u base i : ℕ) (gs : List hb_glyph_info_t) → base ≤ i - 1 → characters (flags_at u base i gs)
     ≡ characters gs
 characters-flags_at u base i gs h =
-    elim (is_thai_mark u) as (λ b. characters (cond b gs (unsafe_inside base (i - 1) gs)) ≡ characters gs) [
-      | true ↦ refl
-      | false ↦ map-unsafe_inside (λ g. g.glyph_id) (λ g. refl) base (i - 1) gs h
-    ]
+    search (arith, map-unsafe_inside (λ g. g.glyph_id) (λ g. refl) base (i - 1) gs h)
 
 flagging_next : (start now : List hb_glyph_info_t) (i base u : ℕ) → i < length start → Flagging start now i base
     → u ≡ get_or (characters start) i 0 → Flagging start (flags_at u base i now) (i + 1) (cond (is_thai_mark u) base i)
 flagging_next start now i base u inside f read =
     let us = characters start in
-    let long : length us ≡ length start = length-map start (λ x. x.glyph_id) in
+    let long : length us ≡ length start = search (arith, length-map) in
     let now_long = flagging_length start now i base f in
     let s = splits us i u (omega arith) read in
     let low = flagging_base start now i base (omega arith) f in
     let before = take i us in
-    let after = flags_at u base i now in
-    let base' = cond (is_thai_mark u) base i in
     let to_come = mark_stretches_of_each (each_after (take (i + 1) us) (drop (i + 1) us)) in
-    let back : i + 1 - 1 ≡ i = omega arith in
-    let stretches : mark_stretches_of_each (each_after before (drop i us)) ≡ stretch_of_mark base i u ++ to_come =
-    ap (λ vs. mark_stretches_of_each (each_after before vs)) s.rest_is
-    ∙ ap (λ n. stretch_of_mark (thai_base_place before) n u
-    ++ mark_stretches_of_each (each_after (before ++ u ∷ []) (drop (i + 1) us))) s.length_is
-    ∙ ap (λ n. stretch_of_mark n i u ++ mark_stretches_of_each (each_after (before ++ u ∷ []) (drop (i + 1) us)))
-    (sym f.base_is)
-    ∙ ap (λ vs. stretch_of_mark base i u ++ mark_stretches_of_each (each_after vs (drop (i + 1) us)))
-    (sym s.front_is) in
     record {
       same_text = characters-flags_at u base i now low ∙ f.same_text;
       base_is =
@@ -124,19 +96,23 @@ flagging_next start now i base u inside f read =
           ∙ sym (base_place_push before u)
           ∙ ap thai_base_place (sym s.front_is);
       rest =
-          ap (λ n. unsafe_all to_come (unsafe_inside base' n after)) back
+          ap (λ n. unsafe_all to_come (unsafe_inside (cond (is_thai_mark u) base i) n (flags_at u base i now)))
+          (omega arith)
           ∙ ap (unsafe_all to_come) (sym (still u base (i - 1) i now low (omega arith) (omega arith)))
           ∙ sym (unsafe_all-append (stretch_of_mark base i u) to_come (unsafe_inside base (i - 1) now))
-          ∙ ap (λ sts. unsafe_all sts (unsafe_inside base (i - 1) now)) (sym stretches)
+          ∙ ap (λ sts. unsafe_all sts (unsafe_inside base (i - 1) now))
+          (sym (ap (λ vs. mark_stretches_of_each (each_after before vs)) s.rest_is ∙ ap (λ n. stretch_of_mark
+          (thai_base_place before) n u ++ mark_stretches_of_each (each_after (before ++ u ∷ []) (drop (i + 1) us)))
+          s.length_is ∙ ap (λ n. stretch_of_mark n i u ++ mark_stretches_of_each (each_after (before ++ u ∷ []) (drop
+          (i + 1) us))) (sym f.base_is) ∙ ap (λ vs. stretch_of_mark base i u ++ mark_stretches_of_each (each_after vs
+          (drop (i + 1) us))) (sym s.front_is)))
           ∙ f.rest;
     }
 
 flagging_all : (start now : List hb_glyph_info_t) (i base : ℕ) → length start ≤ i → Flagging start now i base
     → unsafe_inside base (i - 1) now ≡ unsafe_all (mark_stretches (characters start)) start
 flagging_all start now i base end f =
-    let past : length (characters start) ≤ i = omega (arith, length-map start (λ g. g.glyph_id)) in
-    sym (ap (λ vs. unsafe_all (mark_stretches_of_each (each_after (take i (characters start)) vs))
-    (unsafe_inside base (i - 1) now)) (drop_all i (characters start) past)) ∙ f.rest
+    search (arith, drop_all, length-map)
 
 -- glyphs without their characters
 abbrev blank : List hb_glyph_info_t → List hb_glyph_info_t
@@ -146,14 +122,14 @@ blank-form_set : (has : ℕ → Bool) (gs : List hb_glyph_info_t) (place : ℕ) 
     → blank (form_set has place action gs) ≡ blank gs
 blank-form_set has [] place action = refl
 blank-form_set has (g ∷ gs) zero action = refl
-blank-form_set has (g ∷ gs) (suc place) action = ap (λ hs. with_character g 0 ∷ hs) (blank-form_set has gs place action)
+blank-form_set has (g ∷ gs) (suc place) action = cc (blank-form_set has gs place action)
 
 characters-form_set : (has : ℕ → Bool) (gs : List hb_glyph_info_t) (place : ℕ) (action : Action)
     → characters (form_set has place action gs) ≡ action_put has place action (characters gs)
 characters-form_set has [] place action = refl
 characters-form_set has (g ∷ gs) zero action = refl
 characters-form_set has (g ∷ gs) (suc place) action =
-    ap (λ us. g.glyph_id ∷ us) (characters-form_set has gs place action)
+    cc (characters-form_set has gs place action)
 
 -- a list of glyphs is its characters on any list that is the same without them
 rebuilt : (gs hs : List hb_glyph_info_t) → blank gs ≡ blank hs → gs ≡ with_characters (characters gs) hs
@@ -161,42 +137,29 @@ rebuilt [] [] same = refl
 rebuilt [] (h ∷ hs) same = absurd cc
 rebuilt (g ∷ gs) [] same = absurd cc
 rebuilt (g ∷ gs) (h ∷ hs) same =
-    let head : with_character g 0 ≡ with_character h 0 = cc in
-    let tail : blank gs ≡ blank hs = cc in
-    ap (λ x. with_character x g.glyph_id ∷ gs) head ∙ ap (λ xs. with_character h g.glyph_id ∷ xs) (rebuilt gs hs tail)
+    search (arith, rebuilt gs hs cc)
 
 map_same : (f g : hb_glyph_info_t → hb_glyph_info_t) → ((x : hb_glyph_info_t) → f x ≡ g x) → (xs : List hb_glyph_info_t)
     → map f xs ≡ map g xs
 map_same f g same [] = refl
-map_same f g same (x ∷ xs) = ap (λ y. y ∷ map f xs) (same x) ∙ ap (λ ys. g x ∷ ys) (map_same f g same xs)
+map_same f g same (x ∷ xs) = search arith
 
 -- flags don't look at characters
-blank_off : (low : ℕ) (g : hb_glyph_info_t) → with_bits_off 3 low (with_character g 0)
-    ≡ with_character (with_bits_off 3 low g) 0
-blank_off low g =
-    elim (eqb g.cluster low) as (λ b. cond b (with_character g 0) (with_bits 3 (with_character g 0))
-    ≡ with_character (cond b g (with_bits 3 g)) 0) [
-      | true ↦ refl
-      | false ↦ refl
-    ]
-
-blank-flagged : (gs : List hb_glyph_info_t) → blank (flagged 3 gs) ≡ flagged 3 (blank gs)
-blank-flagged gs =
-    let low = least (clusters gs) in
-    map-map (λ g. with_character g 0) (with_bits_off 3 low) gs
-    ∙ map_same (λ g. with_character (with_bits_off 3 low g) 0) (λ g. with_bits_off 3 low (with_character g 0))
-    (λ g. sym (blank_off low g)) gs
-    ∙ sym (map-map (with_bits_off 3 low) (λ g. with_character g 0) gs)
-    ∙ ap (λ cs. map (with_bits_off 3 (least cs)) (blank gs))
-    (sym (map-map (λ g. g.cluster) (λ g. with_character g 0) gs))
-
 blank-unsafe_inside : (s e : ℕ) (gs : List hb_glyph_info_t) → blank (unsafe_inside s e gs)
     ≡ unsafe_inside s e (blank gs)
 blank-unsafe_inside s e gs =
     let f : hb_glyph_info_t → hb_glyph_info_t = λ g. with_character g 0 in
     map-append f (take s gs) (flagged 3 (stretch_of s e gs) ++ drop e gs)
     ∙ ap (λ xs. blank (take s gs) ++ xs) (map-append f (flagged 3 (stretch_of s e gs)) (drop e gs))
-    ∙ ap (λ xs. blank (take s gs) ++ (xs ++ blank (drop e gs))) (blank-flagged (stretch_of s e gs))
+    ∙ ap (λ xs. blank (take s gs) ++ (xs ++ blank (drop e gs)))
+    (let low = least (clusters (stretch_of s e gs)) in search (
+      arith,
+      map-map,
+      map_same (λ g. with_character
+          (with_bits_off 3 low g) 0) (λ g. with_bits_off 3 low (with_character g 0)) (λ g. sym (search arith)) (stretch_of
+          s e gs),
+      map-map (with_bits_off 3 low) (λ g. with_character g 0) (stretch_of s e gs),
+    ))
     ∙ ap (λ xs. blank (take s gs) ++ (flagged 3 xs ++ blank (drop e gs))) (sym (take-map f (e - s) (drop s gs)))
     ∙ ap (λ xs. blank (take s gs) ++ (flagged 3 (take (e - s) xs) ++ blank (drop e gs))) (sym (drop-map f s gs))
     ∙ ap (λ xs. xs ++ (flagged 3 (stretch_of s e (blank gs)) ++ blank (drop e gs))) (sym (take-map f s gs))
@@ -210,12 +173,7 @@ pub record Shaping (has : ℕ → Bool) (us now : List ℕ) (i : ℕ) (base : Ba
 shaping_read : (has : ℕ → Bool) (us now : List ℕ) (i : ℕ) (base : Base) → i < length us → Shaping has us now i base
     → get_or now i 0 ≡ get_or us i 0
 shaping_read has us now i base inside s =
-    let front = take i us in
-    let fs = forms_between has [] front [] in
-    let as_long : length fs ≡ i = length-forms has [] front [] ∙ length-take-le i us (omega arith) in
-    ap (λ vs. get_or vs i 0) s.text_is
-    ∙ ap (λ vs. get_or (fs ++ vs) i 0) (drop_more us i 0 inside)
-    ∙ get_or_at fs (get_or us i 0) (drop (i + 1) us) 0 i as_long
+    search (arith, drop_more, get_or_at, length-forms, length-take-le)
 
 -- what the code's action does to the characters
 abbrev after_mark : (ℕ → Bool) → Base → ℕ → ℕ → List ℕ → List ℕ
@@ -227,34 +185,9 @@ shaping_next : (has : ℕ → Bool) (us now : List ℕ) (i u : ℕ) (base : Base
     → u ≡ get_or us i 0 → Shaping has us (after_mark has base i u now) (i + 1) (base_after base i u)
 shaping_next has us now i u base inside s read =
     let front = take i us in
-    let fs = forms_between has [] front [] in
     let p = splits us i u inside read in
     let b = s.base_is in
-    let action : action_of base.consonant (mark_type u) base.above base.below ≡ action_after front u =
-    ap (λ k. action_of k (mark_type u) base.above base.below) b.type_is
-    ∙ ap (λ n. action_of (base_type front) (mark_type u) n base.below) b.above_is
-    ∙ ap (λ n. action_of (base_type front) (mark_type u) (marks_above front) n) b.below_is in
-    record {
-      text_is =
-          ap (λ a. action_put has (target a base.place i) a now) action
-          ∙ ap (λ n. action_put has (target (action_after front u) n i) (action_after front u) now) b.place_is
-          ∙ ap (λ n. action_put has (target (action_after front u) (thai_base_place front) n) (action_after front u)
-          now) (sym p.length_is)
-          ∙ ap (action_put has (target (action_after front u) (thai_base_place front) (length front))
-          (action_after front u)) (s.text_is ∙ ap (λ vs. fs ++ vs) p.rest_is)
-          ∙ shapes has front u (drop (i + 1) us)
-          ∙ ap (λ vs. forms_between has [] vs [] ++ drop (i + 1) us) (sym p.front_is);
-      base_is = subst (λ vs. IsBase vs (base_after base i u)) (sym p.front_is)
-          (base_push front u base i (sym p.length_is) b);
-    }
-
-shaping_all : (has : ℕ → Bool) (us now : List ℕ) (i : ℕ) (base : Base) → length us ≤ i → Shaping has us now i base
-    → now ≡ forms_between has [] us []
-shaping_all has us now i base past s =
-    s.text_is
-    ∙ ap (λ vs. forms_between has [] vs [] ++ drop i us) (take_all i us past)
-    ∙ ap (λ vs. forms_between has [] us [] ++ vs) (drop_all i us past)
-    ∙ append-nil _
+    search (arith, shapes, base_push front u base i (sym p.length_is) b)
 
 -- the walk of both: but for their characters the glyphs are those of the walk of the flags
 pub record Walking (has : ℕ → Bool) (start now : List hb_glyph_info_t) (i : ℕ) (base : Base) : Type 0 where
@@ -265,22 +198,16 @@ pub record Walking (has : ℕ → Bool) (start now : List hb_glyph_info_t) (i : 
 
 pub walking_none : (has : ℕ → Bool) (start : List hb_glyph_info_t) (base : Base)
     → base ≡ record { place = 0; consonant = NotConsonant; above = 0; below = 0 } → Walking has start start 0 base
-walking_none has start base none = subst (Walking has start start 0) (sym none) (record {
-  flags = start;
-  flagging = flagging_none start;
-  shaping = record { text_is = refl; base_is = base_none };
-  same_rest = refl;
-})
+walking_none has start base none = search (arith, flagging_none start)
 
 pub walking_length : (has : ℕ → Bool) (start now : List hb_glyph_info_t) (i : ℕ) (base : Base)
     → Walking has start now i base → length now ≡ length start
 walking_length has start now i base w =
-    sym (length-map now (λ g. with_character g 0)) ∙ ap length w.same_rest
-    ∙ length-map w.flags (λ g. with_character g 0) ∙ flagging_length start w.flags i base.place w.flagging
+    search (arith, length-map)
 
 pub walking_base : (has : ℕ → Bool) (start now : List hb_glyph_info_t) (i : ℕ) (base : Base) → i ≤ length start
     → Walking has start now i base → base.place ≤ i - 1
-walking_base has start now i base within w = flagging_base start w.flags i base.place within w.flagging
+walking_base has start now i base within w = search (arith, flagging_base)
 
 -- marks do nothing to flags, and other characters nothing to forms
 place_after : (mark : Mark) (base : Base) (i u : ℕ) → (counted_base mark base i u).place
@@ -293,50 +220,38 @@ place_after NotMark base i u = refl
 put_nop : (has : ℕ → Bool) (us : List ℕ) (i : ℕ) → action_put has i NOP us ≡ us
 put_nop has [] i = refl
 put_nop has (u ∷ us) zero = refl
-put_nop has (u ∷ us) (suc i) = ap (λ vs. u ∷ vs) (put_nop has us i)
-
-characters-after : (has : ℕ → Bool) (base : Base) (i u : ℕ) (gs : List hb_glyph_info_t) → base.place ≤ i - 1
-    → characters (after_character has base i u gs) ≡ after_mark has base i u (characters gs)
-characters-after has base i u gs low =
-    elim (is_thai_mark u) as (λ b. is_thai_mark u ≡ b
-    → characters (cond b (after_action has base i (mark_type u) gs) (unsafe_inside base.place (i - 1) gs))
-    ≡ after_mark has base i u (characters gs)) [
-      | true ↦ λ _. characters-form_set has gs _ _
-      | false ↦ λ none.
-          map-unsafe_inside (λ g. g.glyph_id) (λ g. refl) base.place (i - 1) gs low
-          ∙ sym (put_nop has (characters gs) i)
-          ∙ ap (λ a. action_put has (target a base.place i) a (characters gs))
-          (sym (no_action base.consonant (mark_type u) base.above base.below none))
-    ] refl
+put_nop has (u ∷ us) (suc i) = cc (put_nop has us i)
 
 blank-after : (has : ℕ → Bool) (base : Base) (i u : ℕ) (gs hs : List hb_glyph_info_t) → blank gs ≡ blank hs
     → blank (after_character has base i u gs) ≡ blank (flags_at u base.place i hs)
 blank-after has base i u gs hs same =
-    elim (is_thai_mark u) as (λ b. blank
-    (cond b (after_action has base i (mark_type u) gs) (unsafe_inside base.place (i - 1) gs))
-    ≡ blank (cond b hs (unsafe_inside base.place (i - 1) hs))) [
-      | true ↦ blank-form_set has gs _ _ ∙ same
-      | false ↦ blank-unsafe_inside base.place (i - 1) gs ∙ ap (unsafe_inside base.place (i - 1)) same
-          ∙ sym (blank-unsafe_inside base.place (i - 1) hs)
-    ]
+    search (arith, blank-form_set, blank-unsafe_inside)
 
 pub walking_next : (has : ℕ → Bool) (start now after : List hb_glyph_info_t) (i u : ℕ) (base base' : Base)
     → i < length start → Walking has start now i base → u ≡ get_or (characters now) i 0
     → after ≡ after_character has base i u now → base' ≡ base_after base i u → Walking has start after (i + 1) base'
 walking_next has start now after i u base base' inside w at changed counted =
     let us = characters start in
-    let long : length us ≡ length start = length-map start (λ x. x.glyph_id) in
-    let read : u ≡ get_or us i 0 = at ∙ shaping_read has us (characters now) i base (omega arith) w.shaping in
-    let low = walking_base has start now i base (omega arith) w in
+    let long : length us ≡ length start = search (arith, length-map) in
+    let read = at ∙ shaping_read has us (characters now) i base (omega arith) w.shaping in
     let flagging = flagging_next start w.flags i base.place u inside w.flagging read in
     let shaping = shaping_next has us (characters now) i u base (omega arith) w.shaping read in
-    let hs = after_character has base i u now in
-    let next : Walking has start hs (i + 1) (base_after base i u) = record {
+    let next : Walking has start (after_character has base i u now) (i + 1) (base_after base i u) = record {
       flags = flags_at u base.place i w.flags;
       flagging = subst (λ n. Flagging start (flags_at u base.place i w.flags) (i + 1) n)
           (sym (place_after (mark_type u) base i u)) flagging;
       shaping = subst (λ vs. Shaping has us vs (i + 1) (base_after base i u))
-          (sym (characters-after has base i u now low)) shaping;
+          (sym (
+          elim (is_thai_mark u) as (λ b. is_thai_mark u ≡ b → characters (cond b (after_action has base i (mark_type
+          u) now) (unsafe_inside base.place (i - 1) now)) ≡ after_mark has base i u (characters now)) [
+            | true ↦ λ _.
+                characters-form_set has now _ _
+            | false ↦ λ none. map-unsafe_inside (λ g. g.glyph_id) (λ g. refl) base.place
+                (i - 1) now (walking_base has start now i base (omega arith) w)
+                ∙ sym (put_nop has (characters now) i)
+                ∙ ap (λ a. action_put has (target a base.place i) a (characters now))
+                (sym (no_action base.consonant (mark_type u) base.above base.below none))
+          ] refl)) shaping;
       same_rest = blank-after has base i u now w.flags w.same_rest;
     } in
     subst (λ b. Walking has start after (i + 1) b) (sym counted)
@@ -346,25 +261,22 @@ pub walking_all : (has : ℕ → Bool) (start now : List hb_glyph_info_t) (i : �
     → Walking has start now i base → unsafe_inside base.place (i - 1) now ≡ pua_shaped has start
 walking_all has start now i base end w =
     let us = characters start in
-    let long : length us ≡ length start = length-map start (λ x. x.glyph_id) in
-    let low = walking_base has start now i base (omega arith) w in
+    let long : length us ≡ length start = search (arith, length-map) in
     let whole = unsafe_inside base.place (i - 1) now in
     let flags = unsafe_all (mark_stretches us) start in
-    let done = flagging_all start w.flags i base.place (omega arith) w.flagging in
-    let rest : blank whole ≡ blank flags =
-    blank-unsafe_inside base.place (i - 1) now
-    ∙ ap (unsafe_inside base.place (i - 1)) w.same_rest
-    ∙ sym (blank-unsafe_inside base.place (i - 1) w.flags)
-    ∙ ap blank done in
-    let text : characters whole ≡ forms_between has [] us [] =
-    map-unsafe_inside (λ g. g.glyph_id) (λ g. refl) base.place (i - 1) now low
-    ∙ shaping_all has us (characters now) i base (omega arith) w.shaping in
-    let same : us ≡ characters flags =
-    sym (map-unsafe_all (λ g. g.glyph_id) (λ g. refl) (mark_stretches us) start
-    (in_order (each_after [] us))) in
-    rebuilt whole flags rest
-    ∙ ap (λ vs. with_characters vs flags) text
-    ∙ ap (λ vs. with_characters (forms_between has [] vs []) flags) same
+    let rest = blank-unsafe_inside base.place (i - 1) now ∙ ap (unsafe_inside base.place
+    (i - 1)) w.same_rest ∙ sym (blank-unsafe_inside base.place (i - 1) w.flags) ∙ ap blank
+    (flagging_all start w.flags i base.place (omega arith) w.flagging) in
+    search (
+      arith,
+      rebuilt,
+      map-unsafe_inside (λ g. g.glyph_id) (λ g. refl) base.place (i - 1) now
+          (walking_base has start now i base (omega arith) w),
+      take_all,
+      drop_all,
+      append-nil,
+      map-unsafe_all (λ g. g.glyph_id) (λ g. refl) (mark_stretches us) start (in_order (each_after [] us)),
+    )
 
 -- the forms change characters and masks alone
 pub without_form-with_characters : (us : List ℕ) (gs : List hb_glyph_info_t) → length us ≡ length gs
@@ -373,23 +285,19 @@ without_form-with_characters [] [] same = refl
 without_form-with_characters [] (g ∷ gs) same = absurd (omega arith)
 without_form-with_characters (u ∷ us) [] same = absurd (omega arith)
 without_form-with_characters (u ∷ us) (g ∷ gs) same =
-    ap (λ xs. without_form g ∷ xs) (without_form-with_characters us gs (omega arith))
+    cc (without_form-with_characters us gs (omega arith))
 
 pub without_form-pua : (has : ℕ → Bool) (gs : List hb_glyph_info_t) → map without_form (pua_shaped has gs)
     ≡ map without_form gs
 without_form-pua has gs =
-    let flags = unsafe_all (mark_stretches (characters gs)) gs in
-    without_form-with_characters (forms_between has [] (characters flags) []) flags (length-forms has
-    [] (characters flags) [] ∙ length-map flags (λ g. g.glyph_id))
-    ∙ map-unsafe_all without_form
-    (λ g. ap (λ (m : ℕ). let r : hb_glyph_info_t = record g { glyph_id = 0; mask = m } in r)
-    (without_flags-or g.mask 3 refl)) (mark_stretches (characters gs)) gs (in_order (each_after [] (characters gs)))
+    search (arith, without_form-with_characters, length-forms, length-map, map-unsafe_all, without_flags-or, in_order)
 
 pub forms_hold : FormsLaw
-forms_hold has level gs = record {
-  rest_stays = without_form-pua has (preprocessed_text false has level gs);
-  clusters_stay =
-      sym (map-map (λ g. g.cluster) without_form (preprocessed_text true has level gs))
-      ∙ ap clusters (without_form-pua has (preprocessed_text false has level gs))
-      ∙ map-map (λ g. g.cluster) without_form (preprocessed_text false has level gs);
-}
+forms_hold has level gs =
+    search (
+      arith,
+      without_form-pua,
+      map-map (λ g. g.cluster) without_form (preprocessed_text true has level gs),
+      without_form-pua has (preprocessed_text false has level gs),
+      map-map,
+    )

@@ -6,8 +6,8 @@ use Rattle.std.proofs.lemmas.List.Elements.{Contains-get_or}
 use Rattle.std.proofs.lemmas.List.Concat.{flat_map-append}
 use Rattle.std.proofs.lemmas.List.FromFn.{get_or-enumerate_from, length-enumerate_from}
 use Rattle.std.specs.List.{Contains, list_any, count_by, suffix_len, take-map, enumerate_from, range_with_len}
-use Rattle.std.proofs.lemmas.Bool.{or_cases, eqb-true}
-use Rattle.std.proofs.lemmas.List.{map-append, append_assoc, append-nil, length_push}
+use Rattle.std.proofs.lemmas.Bool.{eqb-true}
+use Rattle.std.proofs.lemmas.List.{map-append, append_assoc, length_push}
 use Rattle.shapers_buffer.specs.declared.buffer.glyph.hb_glyph_info_t.{hb_glyph_info_t}
 use Rattle.shapers_buffer.specs.Glyph.{characters}
 use Rattle.shapers_buffer.specs.Lists.{last_run, before_last_run}
@@ -20,94 +20,49 @@ use Rattle.shapers_text.specs.ThaiWalk.{above_marks_before, text_with_pending}
 -- a SARA AM is no above-base mark
 apart : (u : ℕ) → is_sara_am u ≡ true → is_above_base u ≡ false
 apart u h =
-    elim (or_cases _ _ h) [
-      | inl e ↦ ap is_above_base (eqb-true u 0x0E33 e)
-      | inr e ↦ ap is_above_base (eqb-true u 0x0EB3 e)
-    ]
+    search (arith, eqb-true)
 
 -- a text without SARA AM stays
 pub in_two_plain : {X : Type 0} (rule : SaraAmRule X) (xs : List X) → list_any (is_am rule) xs ≡ false
     → in_two rule xs ≡ xs
-in_two_plain rule xs none = opened_pieces-none (is_am rule) (piece_in_two rule) xs none
+in_two_plain rule xs none = search (arith, opened_pieces-none)
 
 -- what stands before and after a SARA AM is rewritten for itself
 pub in_two-append : {X : Type 0} (rule : SaraAmRule X) (xs : List X) (am : X) (ys : List X) → is_am rule am ≡ true
     → in_two rule (xs ++ am ∷ ys) ≡ in_two rule (xs ++ am ∷ []) ++ in_two rule ys
-in_two-append rule xs am ys h = opened_pieces-append (is_am rule) (piece_in_two rule) xs am ys h
+in_two-append rule xs am ys h = search (arith, opened_pieces-append)
 
 -- one more glyph that is no SARA AM
 pub in_two_push : {X : Type 0} (rule : SaraAmRule X) (xs : List X) (x : X) → is_am rule x ≡ false
     → in_two rule (xs ++ x ∷ []) ≡ in_two rule xs ++ x ∷ []
-in_two_push rule xs x fails = opened_pieces-push (is_am rule) (piece_in_two rule) xs x fails
-
--- where a NIKHAHIT is pending, what stands before an earlier SARA AM is rewritten for itself too
-pending_after : {X : Type 0} (rule : SaraAmRule X) (before : List X) (am : X) (after : List X) (nikhahit : X)
-    → is_am rule am ≡ true → is_above rule am ≡ false → text_with_pending rule (before ++ am ∷ after) nikhahit
-    ≡ in_two rule (before ++ am ∷ []) ++ text_with_pending rule after nikhahit
-pending_after rule before am after nikhahit h stops =
-    ap (λ zs. in_two rule zs ++ nikhahit ∷ last_run (is_above rule) (before ++ am ∷ after))
-    (before_last_run_stop (is_above rule) before am after stops)
-    ∙ ap (λ zs. in_two rule (before ++ am ∷ before_last_run (is_above rule) after) ++ nikhahit ∷ zs)
-    (last_run_stop (is_above rule) before am after stops)
-    ∙ ap (λ zs. zs ++ nikhahit ∷ last_run (is_above rule) after)
-    (in_two-append rule before am (before_last_run (is_above rule) after) h)
-    ∙ append_assoc (in_two rule (before ++ am ∷ [])) (in_two rule (before_last_run (is_above rule) after))
-    (nikhahit ∷ last_run (is_above rule) after)
+in_two_push rule xs x fails = search (arith, opened_pieces-push)
 
 in_two_push_am_first : {X : Type 0} (rule : SaraAmRule X) (xs : List X) (x : X) → list_any (is_am rule) xs ≡ false
     → is_am rule x ≡ true → in_two rule (xs ++ x ∷ []) ≡ text_with_pending rule xs (rule.nikhahit x) ++ rule.sara_aa x
     ∷ []
 in_two_push_am_first rule xs x none passes =
-    let before = before_last_run (is_above rule) xs in
-    let run = last_run (is_above rule) xs in
-    one_piece (is_am rule) (piece_in_two rule) xs x none
-    ∙ ap (λ b. cond b (piece_in_two rule xs x) (xs ++ x ∷ [])) passes
-    ∙ sym (append_assoc before (rule.nikhahit x ∷ run) (rule.sara_aa x ∷ []))
-    ∙ ap (λ zs. (zs ++ rule.nikhahit x ∷ run) ++ rule.sara_aa x ∷ [])
-    (sym (in_two_plain rule before
-    (none_in_front (is_am rule) (length xs - suffix_len (is_above rule) xs) xs none)))
-
-in_two_push_am_after : {X : Type 0} (rule : SaraAmRule X) (before : List X) (am : X) (after : List X) (x : X)
-    → is_am rule am ≡ true → is_above rule am ≡ false → list_any (is_am rule) after ≡ false → is_am rule x ≡ true
-    → in_two rule ((before ++ am ∷ after) ++ x ∷ []) ≡ text_with_pending rule (before ++ am ∷ after) (rule.nikhahit x)
-    ++ rule.sara_aa x ∷ []
-in_two_push_am_after rule before am after x h stops none passes =
-    ap (in_two rule) (append_assoc before (am ∷ after) (x ∷ []))
-    ∙ in_two-append rule before am (after ++ x ∷ []) h
-    ∙ ap (λ zs. in_two rule (before ++ am ∷ []) ++ zs) (in_two_push_am_first rule after x none passes)
-    ∙ sym (append_assoc (in_two rule (before ++ am ∷ [])) (text_with_pending rule after (rule.nikhahit x))
-    (rule.sara_aa x ∷ []))
-    ∙ ap (λ zs. zs ++ rule.sara_aa x ∷ []) (sym (pending_after rule before am after (rule.nikhahit x) h stops))
+    search (arith, one_piece, append_assoc, in_two_plain, none_in_front)
 
 -- one more glyph that is a SARA AM: its NIKHAHIT is pending
 pub in_two_push_am : {X : Type 0} (rule : SaraAmRule X) (xs : List X) (x : X) → is_am rule x ≡ true
     → in_two rule (xs ++ x ∷ []) ≡ text_with_pending rule xs (rule.nikhahit x) ++ rule.sara_aa x ∷ []
 in_two_push_am rule xs x passes =
     elim (last_pass (is_am rule) xs) [
-      | inl none ↦ in_two_push_am_first rule xs x none passes
+      | inl none ↦ search (arith, in_two_push_am_first)
       | inr p ↦
-          ap (λ zs. in_two rule (zs ++ x ∷ [])) p.parts
-          ∙ in_two_push_am_after rule p.before p.element p.after x p.passes (apart (rule.character p.element) p.passes)
-          p.none_after passes
-          ∙ ap (λ zs. text_with_pending rule zs (rule.nikhahit x) ++ rule.sara_aa x ∷ []) (sym p.parts)
+          search (arith, append_assoc, in_two-append, in_two_push_am_first, before_last_run_stop, last_run_stop, apart)
     ]
 
 -- one more above-base mark, or another glyph, where a NIKHAHIT is pending
 pub pending_push_mark : {X : Type 0} (rule : SaraAmRule X) (xs : List X) (x nikhahit : X) → is_above rule x ≡ true
     → text_with_pending rule (xs ++ x ∷ []) nikhahit ≡ text_with_pending rule xs nikhahit ++ x ∷ []
 pending_push_mark rule xs x nikhahit h =
-    ap (λ zs. in_two rule zs ++ nikhahit ∷ last_run (is_above rule) (xs ++ x ∷ []))
-    (before_last_run_yes (is_above rule) xs x h)
-    ∙ ap (λ zs. in_two rule (before_last_run (is_above rule) xs) ++ nikhahit ∷ zs) (last_run_yes (is_above rule) xs x h)
-    ∙ sym (append_assoc (in_two rule (before_last_run (is_above rule) xs)) (nikhahit ∷ last_run (is_above rule) xs)
-    (x ∷ []))
+    search (arith, before_last_run_yes, last_run_yes, append_assoc)
 
 pub held_push_other : {X : Type 0} (rule : SaraAmRule X) (xs : List X) (x nikhahit : X) → is_above rule x ≡ false
     → text_with_pending rule (xs ++ x ∷ []) nikhahit ≡ in_two rule (xs ++ x ∷ []) ++ nikhahit ∷ []
 held_push_other rule xs x nikhahit h =
-    ap (λ zs. in_two rule zs ++ nikhahit ∷ last_run (is_above rule) (xs ++ x ∷ []))
-    (before_last_run_no (is_above rule) xs x h)
-    ∙ ap (λ zs. in_two rule (xs ++ x ∷ []) ++ nikhahit ∷ zs) (last_run_no (is_above rule) xs x h)
+    search (arith, before_last_run_no, last_run_no)
 
 -- an above-base mark is no SARA AM
 pub no_am : {X : Type 0} (rule : SaraAmRule X) (x : X) → is_above rule x ≡ true → is_am rule x ≡ false
@@ -120,11 +75,7 @@ pub in_two_at : {X : Type 0} (rule : SaraAmRule X) (xs : List X) (am : X) (ys : 
     → in_two rule (xs ++ am ∷ ys) ≡ in_two rule (before_last_run (is_above rule) xs)
     ++ ((rule.nikhahit am ∷ last_run (is_above rule) xs) ++ (rule.sara_aa am ∷ in_two rule ys))
 in_two_at rule xs am ys passes =
-    in_two-append rule xs am ys passes
-    ∙ ap (λ zs. zs ++ in_two rule ys) (in_two_push_am rule xs am passes)
-    ∙ append_assoc (text_with_pending rule xs (rule.nikhahit am)) (rule.sara_aa am ∷ []) (in_two rule ys)
-    ∙ append_assoc (in_two rule (before_last_run (is_above rule) xs)) (rule.nikhahit am ∷ last_run (is_above rule) xs)
-    (rule.sara_aa am ∷ in_two rule ys)
+    search (arith, in_two-append, in_two_push_am, append_assoc)
 
 -- the rule on what f reads as the other reads its own: what it makes leads to what the other makes,
 -- if its parts of a SARA AM do
@@ -136,27 +87,24 @@ pub in_two-map : {X Y : Type 0} (f : X → Y) (nikhahit sara_aa : X → X) (rule
     → ((x : X) → f (nikhahit x) ≡ rule.nikhahit (f x)) → ((x : X) → f (sara_aa x) ≡ rule.sara_aa (f x)) → (xs : List X)
     → map f (in_two (read_by f nikhahit sara_aa rule) xs) ≡ in_two rule (map f xs)
 in_two-map f nikhahit sara_aa rule first second xs =
-    let a = read_by f nikhahit sara_aa rule in
-    opened_pieces-map f (is_am rule) (piece_in_two a) (piece_in_two rule)
-    (λ before x. simp (
-      map-append,
-      before_last_run-map (is_above rule) f before,
-      last_run-map (is_above rule) f before,
-      first x,
-      second x,
-    )) xs
+    opened_pieces-map f (is_am rule) (piece_in_two (read_by f nikhahit sara_aa rule)) (piece_in_two rule)
+    (λ before x. search (arith, map-append, before_last_run-map, last_run-map)) xs
 
 -- the sources at a SARA AM: those of the text before its marks, the SARA AM, its marks, the SARA AM again, and so on
 pub sources_at : (xs : List ℕ) (u : ℕ) (ys : List ℕ) → is_sara_am u ≡ true → (behind : List ℕ)
     × (sara_am_sources (xs ++ u ∷ ys) ≡ sara_am_sources (before_last_run is_above_base xs)
     ++ ((length xs ∷ range_with_len (length xs - suffix_len is_above_base xs) (suffix_len is_above_base xs)) ++ behind))
 sources_at xs u ys passes =
-    let place : ℕ × ℕ → ℕ = λ p. p.0 in
     let rest = enumerate_from (length xs + 1) ys in (
-      length xs ∷ map place (in_two place_rule rest),
-      ap (λ ps. map place (in_two place_rule ps)) (enumerate-append xs (u ∷ ys))
-          ∙ ap (map place) (in_two_at place_rule (enumerate_from 0 xs) (length xs, u) rest passes)
-          ∙ simp (map-append, before_last_run-enumerate_from is_above_base 0 xs, places-last_run is_above_base xs),
+      length xs ∷ map (λ p. p.0) (in_two place_rule rest),
+      search (
+        arith,
+        enumerate-append xs (u ∷ ys),
+        in_two_at,
+        map-append,
+        before_last_run-enumerate_from is_above_base 0 xs,
+        places-last_run is_above_base xs,
+      ),
     )
 
 pub above_marks_before-characters : (gs : List hb_glyph_info_t) (i : ℕ)
@@ -170,28 +118,26 @@ pub record Lengths {X : Type 0} (rule : SaraAmRule X) (xs : List X) : Type 0 whe
   pub pending : (nikhahit : X) → length (text_with_pending rule xs nikhahit) ≡ length xs + count_by (is_am rule) xs + 1
 
 longer : {X : Type 0} (xs ys : List X) (y : X) → xs ≡ ys ++ y ∷ [] → length xs ≡ length ys + 1
-longer xs ys y e = ap length e ∙ length_push ys y
+longer xs ys y e = cc (length_push ys y)
 
 lengths_push : {X : Type 0} (rule : SaraAmRule X) (xs : List X) (x : X) → Lengths rule xs
     → length (in_two rule (xs ++ x ∷ [])) ≡ length (xs ++ x ∷ []) + count_by (is_am rule) (xs ++ x ∷ [])
 lengths_push rule xs x p =
     elim (is_am rule x) as (λ b. is_am rule x ≡ b → length (in_two rule (xs ++ x ∷ []))
     ≡ length (xs ++ x ∷ []) + count_by (is_am rule) (xs ++ x ∷ [])) [
-      | true ↦ λ h. omega (
-        arith,
-        longer _ _ _ (in_two_push_am rule xs x h),
-        p.pending (rule.nikhahit x),
-        length_push xs
-            x,
-        count_push (is_am rule) xs x true h,
-      )
+      | true ↦ λ h.
+          omega (
+            arith,
+            longer _ _ _ (in_two_push_am rule xs x h),
+            length_push xs x,
+            count_push (is_am rule) xs x true h,
+          )
       | false ↦ λ h. omega (
         arith,
         longer _ _ _ (in_two_push rule xs x h),
         p.whole,
         length_push xs x,
-        count_push
-            (is_am rule) xs x false h,
+        count_push (is_am rule) xs x false h,
       )
     ] refl
 
@@ -201,21 +147,20 @@ lengths_push_held : {X : Type 0} (rule : SaraAmRule X) (xs : List X) (x nikhahit
 lengths_push_held rule xs x nikhahit p =
     elim (is_above rule x) as (λ b. is_above rule x ≡ b → length (text_with_pending rule (xs ++ x ∷ []) nikhahit)
     ≡ length (xs ++ x ∷ []) + count_by (is_am rule) (xs ++ x ∷ []) + 1) [
-      | true ↦ λ h. omega (
-        arith,
-        longer _ _ _ (pending_push_mark rule xs x nikhahit h),
-        p.pending nikhahit,
-        length_push
-            xs x,
-        count_push (is_am rule) xs x false (no_am rule x h),
-      )
-      | false ↦ λ h. omega (arith, longer _ _ _ (held_push_other rule xs x nikhahit h), lengths_push rule xs x p)
+      | true ↦ λ h.
+          omega (
+            arith,
+            longer _ _ _ (pending_push_mark rule xs x nikhahit h),
+            length_push xs x,
+            count_push (is_am rule) xs x false (no_am rule x h),
+          )
+      | false ↦ λ h. omega (arith, longer _ _ _ (held_push_other rule xs x nikhahit h), lengths_push)
     ] refl
 
 pub lengths : {X : Type 0} (rule : SaraAmRule X) (xs : List X) → Lengths rule xs
 lengths rule xs =
-    from_end (Lengths rule) (record { whole = refl; pending = λ n. refl })
-    (λ xs x p. record { whole = lengths_push rule xs x p; pending = λ n. lengths_push_held rule xs x n p }) xs
+    from_end (Lengths rule) (search arith)
+    (λ xs x p. search (arith, lengths_push, lengths_push_held)) xs
 
 -- Nothing is lost: the result is what comes of each element, in some order; so is a text with a NIKHAHIT pending.
 pub record Kept {X : Type 0} (rule : SaraAmRule X) (xs : List X) : Type 0 where
@@ -224,15 +169,13 @@ pub record Kept {X : Type 0} (rule : SaraAmRule X) (xs : List X) : Type 0 where
       → IsPermutation (nikhahit ∷ flat_map (in_parts rule) xs) (text_with_pending rule xs nikhahit)
 
 permutation_by : {X : Type 0} (xs us ys vs : List X) → xs ≡ us → ys ≡ vs → IsPermutation us vs → IsPermutation xs ys
-permutation_by xs us ys vs e f p = subst (λ zs. IsPermutation zs ys) (sym e) (subst (IsPermutation us) (sym f) p)
+permutation_by xs us ys vs e f p = search arith
 
 parts_push : {X : Type 0} (rule : SaraAmRule X) (xs : List X) (x : X) (b : Bool) → is_am rule x ≡ b
     → flat_map (in_parts rule) (xs ++ x ∷ []) ≡ flat_map (in_parts rule) xs
     ++ cond b (rule.nikhahit x ∷ (rule.sara_aa x ∷ [])) (x ∷ [])
 parts_push rule xs x b h =
-    flat_map-append (in_parts rule) xs (x ∷ [])
-    ∙ ap (λ ys. flat_map (in_parts rule) xs ++ ys) (append-nil (in_parts rule x)
-    ∙ ap (λ c. cond c (rule.nikhahit x ∷ (rule.sara_aa x ∷ [])) (x ∷ [])) h)
+    search (arith, flat_map-append)
 
 kept_push : {X : Type 0} (rule : SaraAmRule X) (xs : List X) (x : X) → Kept rule xs
     → IsPermutation (flat_map (in_parts rule) (xs ++ x ∷ [])) (in_two rule (xs ++ x ∷ []))
@@ -270,23 +213,22 @@ kept_push_held rule xs x n k =
 
 pub kept : {X : Type 0} (rule : SaraAmRule X) (xs : List X) → Kept rule xs
 kept rule xs =
-    from_end (Kept rule) (record { whole = IsPermutation-refl []; pending = λ n. IsPermutation-refl (n ∷ []) })
-    (λ xs x k. record { whole = kept_push rule xs x k; pending = λ n. kept_push_held rule xs x n k }) xs
+    from_end (Kept rule) (search (arith, IsPermutation-refl))
+    (λ xs x k. search (arith, kept_push, kept_push_held)) xs
 
 -- so each place has a glyph that comes of it
 pub none_lost : (us : List ℕ) (p : ℕ) → p < length us → Contains (sara_am_sources us) p
 none_lost us p inside =
     let es = enumerate_from 0 us in
     let u = get_or us p 0 in
-    let same : 0 + p ≡ p = omega arith in
     let among : Contains es (p, u) =
-    subst (Contains es) (get_or-enumerate_from 0 us p (0, 0) inside ∙ ap (λ k. (k, u)) same)
-    (Contains-get_or es p (0, 0) (omega (arith, length-enumerate_from 0 us))) in
+    subst (Contains es) (get_or-enumerate_from 0 us p (0, 0) inside ∙ ap (λ k. (k, u)) (omega arith))
+    (Contains-get_or es p (0, 0) (omega (arith, length-enumerate_from))) in
     let made : (y : ℕ × ℕ) → Contains (in_parts place_rule (p, u)) y
     → Contains (map (λ q. q.0) (in_two place_rule es)) y.0 =
     λ y part. Contains-map (λ q. q.0) (in_two place_rule es) y
     (Contains-permutation _ (in_two place_rule es) y (kept place_rule es).whole
-    (Contains-flat_map (in_parts place_rule) es (p, u) y among part)) in
+    (search (arith, Contains-flat_map))) in
     elim (is_sara_am u) as (λ b. ((y : ℕ × ℕ) → Contains (cond b ((p, u + 0x1A) ∷ ((p, u - 1) ∷ [])) ((p, u) ∷ [])) y
     → Contains (sara_am_sources us) y.0) → Contains (sara_am_sources us) p) [
       | true ↦ λ made. made (p, u + 0x1A) (0, omega arith, refl)

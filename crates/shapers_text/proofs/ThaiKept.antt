@@ -1,18 +1,18 @@
 -- No glyph is lost by the hook, and none made but the two parts of each SARA AM.
-use Rattle.std.proofs.Common.{◌≡◌, ℕ, Bool, true, false, if◌then◌else◌, List, [], ◌∷◌, ◌++◌, map, refl, sym, ap, subst, ◌∙◌}
+use Rattle.std.proofs.Common.{arith}
+use Rattle.std.proofs.Common.{◌≡◌, ℕ, Bool, true, false, List, [], ◌∷◌, map, refl, ap}
 use Rattle.std.specs.List.{flat_map}
-use Rattle.std.specs.List.Sorted.{IsPermutation}
 use Rattle.std.proofs.lemmas.List.{map-append}
 use Rattle.std.proofs.lemmas.List.Sorted.{IsPermutation-map}
 use Rattle.std.proofs.lemmas.Simd.{map-map}
 use Rattle.shapers_buffer.specs.declared.buffer.glyph.hb_glyph_info_t.{hb_glyph_info_t}
 use Rattle.shapers_buffer.specs.declared.buffer.level.BufferClusterLevel.{BufferClusterLevel}
-use Rattle.shapers_buffer.specs.Glyph.{order_view, plain, characters}
+use Rattle.shapers_buffer.specs.Glyph.{order_view, plain}
 use Rattle.shapers_buffer.specs.Clusters.{merge_all}
 use Rattle.shapers_base.specs.declared.plan.breaks.BreakFlags.{BreakFlags}
 use Rattle.shapers_clusters.proofs.FlagCalls.{without_flags-or}
-use Rattle.shapers_clusters.proofs.Merging.{order_view-merge_all, without_flags-twice}
-use Rattle.shapers_text.specs.Thai.{glyph_rule, in_parts, is_sara_am, nikhahit, sara_aa, glyphs_in_two, sara_am_stretches}
+use Rattle.shapers_clusters.proofs.Merging.{order_view-merge_all}
+use Rattle.shapers_text.specs.Thai.{glyph_rule, in_parts, glyphs_in_two}
 use Rattle.shapers_text.specs.ThaiForms.{marks_flagged, preprocessed_text, pua_shaped}
 use Rattle.shapers_text.specs.ThaiLaws.{kept_view, without_form, KeptInTwo}
 use Rattle.shapers_text.proofs.ThaiFormWalks.{without_form-pua}
@@ -31,64 +31,47 @@ parts g = in_parts glyph_rule g
 seen_parts : (forms : Bool) (g : hb_glyph_info_t) → map (kept_view forms) (parts g)
     ≡ map (kept_view forms) (parts (plain g))
 seen_parts false g =
-    elim (is_sara_am g.glyph_id) as (λ (b : Bool). map (kept_view false) (if b then nikhahit g ∷ (sara_aa g ∷ []) else g
-    ∷ []) ≡ map (kept_view false) (if b then nikhahit (plain g) ∷ (sara_aa (plain g) ∷ []) else plain g ∷ [])) [
-      | true ↦ ap (λ (m : ℕ). masked false (nikhahit g) m ∷ (masked false (sara_aa g) m ∷ []))
-          (sym (without_flags-twice g.mask))
-      | false ↦ ap (λ (m : ℕ). masked false g m ∷ []) (sym (without_flags-twice g.mask))
-    ]
+    search arith
 seen_parts true g =
-    elim (is_sara_am g.glyph_id) as (λ (b : Bool). map (kept_view true) (if b then nikhahit g ∷ (sara_aa g ∷ []) else g
-    ∷ []) ≡ map (kept_view true) (if b then nikhahit (plain g) ∷ (sara_aa (plain g) ∷ []) else plain g ∷ [])) [
-      | true ↦ ap (λ (m : ℕ). masked true (nikhahit g) m ∷ (masked true (sara_aa g) m ∷ []))
-          (sym (without_flags-twice g.mask))
-      | false ↦ ap (λ (m : ℕ). masked true g m ∷ []) (sym (without_flags-twice g.mask))
-    ]
+    search arith
 
 seen_all : (forms : Bool) (gs : List hb_glyph_info_t) → map (kept_view forms) (flat_map parts gs)
     ≡ map (kept_view forms) (flat_map parts (order_view gs))
 seen_all forms [] = refl
 seen_all forms (g ∷ gs) =
-    let v = kept_view forms in
-    map-append v (parts g) (flat_map parts gs)
-    ∙ ap (λ xs. xs ++ map v (flat_map parts gs)) (seen_parts forms g)
-    ∙ ap (λ xs. map v (parts (plain g)) ++ xs) (seen_all forms gs)
-    ∙ sym (map-append v (parts (plain g)) (flat_map parts (order_view gs)))
+    search (arith, map-append, seen_all forms gs)
 
 -- the rewriting of the merged text
 kept_merged : (forms : Bool) (level : BufferClusterLevel) (sts : List (ℕ × ℕ)) (gs : List hb_glyph_info_t)
     → KeptInTwo forms gs (glyphs_in_two (merge_all level sts gs))
 kept_merged forms level sts gs =
-    let v = kept_view forms in
     let ms = merge_all level sts gs in
-    let same : map v (flat_map parts ms) ≡ map v (flat_map parts gs) = seen_all forms ms
-    ∙ ap (λ xs. map v (flat_map parts xs)) (order_view-merge_all level sts gs) ∙ sym (seen_all forms gs) in
-    subst (λ xs. IsPermutation xs (map v (glyphs_in_two ms))) same
-    (IsPermutation-map v (flat_map parts ms) (glyphs_in_two ms) (kept glyph_rule ms).whole)
+    search (
+      arith,
+      seen_all,
+      order_view-merge_all,
+      seen_all forms gs,
+      IsPermutation-map (kept_view forms) (flat_map parts ms) (glyphs_in_two ms) (kept glyph_rule ms).whole,
+    )
 
 -- the forms change characters and flags alone
 formless : (has : ℕ → Bool) (text : List hb_glyph_info_t) → map (kept_view true) (pua_shaped has text)
     ≡ map (kept_view true) text
 formless has text =
-    let clear = λ (g : hb_glyph_info_t). let r : hb_glyph_info_t = record g { cluster = 0 } in r in
-    sym (map-map clear without_form (pua_shaped has text)) ∙ ap (map clear) (without_form-pua has text)
-    ∙ map-map clear without_form text
+    let clear = λ (g : hb_glyph_info_t). (record g { cluster = 0 }) in
+    search (arith, map-map, without_form-pua has text, map-map clear without_form text)
 
 pub kept_in_two : (forms : Bool) (has : ℕ → Bool) (level : BufferClusterLevel) (gs : List hb_glyph_info_t)
     → KeptInTwo forms gs (preprocessed_text forms has level gs)
-kept_in_two false has level gs = kept_merged false level (sara_am_stretches level (characters gs)) gs
+kept_in_two false has level gs = search (arith, kept_merged)
 kept_in_two true has level gs =
-    let sts = sara_am_stretches level (characters gs) in
-    let text = glyphs_in_two (merge_all level sts gs) in
-    subst (IsPermutation (map (kept_view true) (flat_map parts gs))) (sym (formless has text))
-    (kept_merged true level sts gs)
+    search (arith, formless, kept_merged)
 
 -- the whole hook
 pub plain_kept : (forms : Bool) → false ≡ forms → (level : BufferClusterLevel) (gs text : List hb_glyph_info_t)
     → text ≡ preprocessed_text false (λ _. false) level gs → KeptInTwo forms gs text
 plain_kept forms none level gs text is =
-    subst (λ b. KeptInTwo b gs text) none
-    (subst (KeptInTwo false gs) (sym is) (kept_in_two false (λ _. false) level gs))
+    search (arith, kept_in_two false (λ _. false) level gs)
 
 pub shaped_kept : (forms : Bool) → true ≡ forms
     → (breaks : BreakFlags) (has : ℕ → Bool) (level : BufferClusterLevel) (gs text shaped : List hb_glyph_info_t)
@@ -96,13 +79,11 @@ pub shaped_kept : (forms : Bool) → true ≡ forms
     → KeptInTwo forms gs shaped
 shaped_kept forms some breaks has level gs text shaped is forms_are =
     let whole = preprocessed_text false has level gs in
-    let view = kept_view true in
-    let same : map view shaped ≡ map view (pua_shaped has whole) =
-    ap (map view) (forms_are ∙ ap (λ xs. pua_shaped has (marks_flagged breaks xs)) is)
-    ∙ formless has (marks_flagged breaks whole)
-    ∙ map-marks_flagged view
-    (λ g. ap (λ n. let r : hb_glyph_info_t = record g { glyph_id = 0; cluster = 0; mask = n } in r)
-    (without_flags-or g.mask 3 refl)) breaks whole
-    ∙ sym (formless has whole) in
-    subst (λ b. KeptInTwo b gs shaped) some
-    (subst (IsPermutation (map view (flat_map parts gs))) (sym same) (kept_in_two true has level gs))
+    search (
+      arith,
+      formless,
+      map-marks_flagged (kept_view true)
+          (λ g. ap (λ n. (record g { glyph_id = 0; cluster = 0; mask = n })) (without_flags-or g.mask 3 refl)) breaks
+          whole,
+      kept_in_two true has level gs,
+    )

@@ -1,7 +1,7 @@
 -- The definitions, computed on small texts.
 use Prim.Native.String.{String}
 use Rattle.std.specs.Prelude.{◌≡◌, ◌==◌, ℕ, pos, true, false, None, Some, List, [], ◌∷◌, map, replicate, codes, refl}
-use Rattle.std.proofs.Common.{ap, arith}
+use Rattle.std.proofs.Common.{arith}
 use Rattle.std.specs.List.{list_any, enumerate_from}
 use Rattle.shapers_buffer.specs.declared.buffer.category.hb_unicode_general_category_t.TheVariants.{Cc, Mn}
 use Rattle.shapers_buffer.specs.declared.buffer.glyph.hb_glyph_info_t.{hb_glyph_info_t}
@@ -10,7 +10,7 @@ use Rattle.shapers_buffer.specs.declared.buffer.level.BufferClusterLevel.TheVari
 use Rattle.shapers_buffer.specs.Glyph.{default_glyph, clusters, characters}
 use Rattle.shapers_text.specs.Thai.{sara_am_sources, sara_am_stretches}
 use Rattle.shapers_buffer.specs.Buffer.{new_buffer}
-use Rattle.shapers_buffer.specs.Properties.{general_category, high_byte, is_continuation}
+use Rattle.shapers_buffer.specs.Properties.{general_category, is_continuation}
 use Rattle.shapers_base.specs.Font.{Font}
 use Rattle.shapers_base.specs.declared.plan.hb_ot_shape_plan_t.{hb_ot_shape_plan_t}
 use Rattle.shapers_base.specs.declared.plan.PlanData.TheVariants as data_of
@@ -171,16 +171,16 @@ kept_before_forms = refl
 
 -- so the two tell glyphs apart by any field that stays, and the last doesn't by the character
 told_by_number : kept_view false full ≡ kept_view false (record full { glyph_id = 0x915 }) → ⊥
-told_by_number same = let e : 0x916 ≡ 0x915 = ap (λ g. g.glyph_id) same in absurd (omega (arith, e))
+told_by_number same = search arith
 
 not_told_by_number : kept_view true full ≡ kept_view true (record full { glyph_id = 0x915 })
 not_told_by_number = refl
 
 told_by_mask : kept_view true full ≡ kept_view true (record full { mask = 0x27 }) → ⊥
-told_by_mask same = let e : 0x18 ≡ 0x20 = ap (λ g. g.mask) same in absurd (omega (arith, e))
+told_by_mask same = search arith
 
 told_by_class : without_name full ≡ without_name (record full { unicode_props = record { 0 = 0x08AC } }) → ⊥
-told_by_class same = let e : 9 ≡ 8 = ap (λ g. high_byte g.unicode_props) same in absurd (omega (arith, e))
+told_by_class same = search arith
 
 -- the forms hang on the script of the plan, not on that of the buffer
 abbrev plan_for : String → hb_ot_shape_plan_t

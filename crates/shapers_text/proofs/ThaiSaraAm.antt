@@ -1,11 +1,10 @@
 -- The steps of the rewriting, on glyphs.
-use Rattle.std.proofs.Common.{◌≡◌, Bool, ℕ, zero, suc, ◌-◌, ◌+◌, ◌<◌, ◌≤◌, true, false, List, [], ◌∷◌, ◌++◌, length, take, drop, get_or, set, Option, None, Some, refl, sym, ap, ◌∙◌, subst, arith}
+use Rattle.std.proofs.Common.{◌≡◌, Bool, ℕ, zero, suc, ◌-◌, ◌+◌, ◌<◌, ◌≤◌, true, false, List, [], ◌∷◌, ◌++◌, length, take, drop, get_or, set, Option, None, Some, refl, sym, ap, ◌∙◌, arith}
 use Rattle.std.proofs.lemmas.List.{append_assoc, append-nil, take_more, take-append-drop, take-set-le, drop-set, length-set, length-take-le, length_push, drop_all, take_all}
 use Rattle.std.proofs.lemmas.List.Sums.{suffix_len-le-length, suffix_len-take_yes, suffix_len-take_no}
-use Rattle.std.specs.List.{suffix_len}
 use Rattle.shapers_buffer.specs.declared.buffer.glyph.hb_glyph_info_t.{hb_glyph_info_t}
 use Rattle.shapers_buffer.proofs.ListLaws.{none_from_count}
-use Rattle.shapers_text.specs.Thai.{is_sara_am, is_above_base, in_two, nikhahit, sara_aa, glyph_rule, glyphs_in_two}
+use Rattle.shapers_text.specs.Thai.{is_sara_am, is_above_base, nikhahit, sara_aa, glyph_rule, glyphs_in_two}
 use Rattle.shapers_text.specs.ThaiWalk.{above_marks_before, IsUnwritten, Written, rewritten_whole, text_to_write}
 use Rattle.shapers_text.proofs.ThaiInTwo.{in_two_plain, in_two_push, in_two_push_am, pending_push_mark, lengths}
 
@@ -19,39 +18,13 @@ read_there (g ∷ gs) (suc i) none h = read_there gs i none (omega arith)
 pub take_pushed : (gs : List hb_glyph_info_t) (e : ℕ) (g : hb_glyph_info_t) → 0 < e → e ≤ length gs
     → g ≡ get_or gs (e - 1) g → take e gs ≡ take (e - 1) gs ++ g ∷ []
 take_pushed gs e g some within at =
-    let same : e - 1 + 1 ≡ e = omega arith in
-    let inside : e - 1 < length gs = omega arith in
-    ap (λ n. take n gs) (sym same) ∙ take_more gs (e - 1) g inside ∙ ap (λ x. take (e - 1) gs ++ x ∷ []) (sym at)
+    search (arith, take_more)
 
 -- what a text becomes is no shorter than it
 pub to_write_longer : (xs : List hb_glyph_info_t) (pending : Option hb_glyph_info_t)
     → length xs ≤ length (text_to_write xs pending)
 to_write_longer xs None = omega (arith, (lengths glyph_rule xs).whole)
 to_write_longer xs (Some nikhahit) = omega (arith, (lengths glyph_rule xs).pending nikhahit)
-
--- the mark that ends a text before some place
-pub last_mark : (gs : List hb_glyph_info_t) (end : ℕ) (g : hb_glyph_info_t) → 0 < above_marks_before gs end
-    → end ≤ length gs → g ≡ get_or gs (end - 1) g → (is_above_base g.glyph_id ≡ true)
-    × (above_marks_before gs end ≡ 1 + above_marks_before gs (end - 1))
-last_mark gs end g some within at =
-    let test : hb_glyph_info_t → Bool = λ x. is_above_base x.glyph_id in
-    let inside : 0 < end = omega (arith, suffix_len-le-length test (take end gs), length-take-le end gs within) in
-    let same : test g ≡ test (get_or gs (end - 1) g) = ap test at in
-    elim (test g) as (λ b. test g ≡ b → (b ≡ true)
-    × (above_marks_before gs end ≡ 1 + above_marks_before gs (end - 1))) [
-      | true ↦ λ e. (refl, suffix_len-take_yes test gs end g inside within (sym same ∙ e))
-      | false ↦ λ e. absurd (omega (arith, suffix_len-take_no test gs end g inside within (sym same ∙ e)))
-    ] refl
-
--- no mark ends the text: a NIKHAHIT stands at its end
-pub to_write_bare : (gs : List hb_glyph_info_t) (end : ℕ) (nikhahit : hb_glyph_info_t) → above_marks_before gs end ≡ 0
-    → text_to_write (take end gs) (Some nikhahit) ≡ text_to_write (take end gs) None ++ nikhahit ∷ []
-to_write_bare gs end nikhahit none =
-    let xs = take end gs in
-    let all : length xs - above_marks_before gs end ≡ length xs = omega arith in
-    ap (λ n. in_two glyph_rule (take n xs) ++ nikhahit ∷ drop n xs) all
-    ∙ ap (λ ys. in_two glyph_rule ys ++ nikhahit ∷ drop (length xs) xs) (take_all (length xs) xs (omega arith))
-    ∙ ap (λ ys. in_two glyph_rule xs ++ nikhahit ∷ ys) (drop_all (length xs) xs (omega arith))
 
 -- one more glyph written
 pub written_next : (whole gs : List hb_glyph_info_t) (end : ℕ) (pending : Option hb_glyph_info_t) (place end' : ℕ)
@@ -60,17 +33,14 @@ pub written_next : (whole gs : List hb_glyph_info_t) (end : ℕ) (pending : Opti
     → Written whole (set gs (place - 1) g) end' pending' (place - 1)
 written_next whole gs end pending place end' pending' g w last shorter =
     let after = text_to_write (take end' gs) pending' in
-    let behind = g ∷ drop place gs in
-    let count : length after + 1 ≡ place = sym (length_push after g) ∙ sym (ap length last) ∙ w.left.room in
-    let within : end' ≤ length gs = omega (arith, w.left.ahead, w.left.within) in
+    let count : length after + 1 ≡ place = search (arith, length_push) in
+    let within : end' ≤ length gs = search arith in
     let front : length (take end' gs) ≡ end' = length-take-le end' gs within in
     let longer = to_write_longer (take end' gs) pending' in
     let before : end' ≤ place - 1 = omega arith in
-    let inside : place - 1 < length gs = omega (arith, w.left.within) in
-    let next : place - 1 + 1 ≡ place = omega arith in
-    let kept : take end' (set gs (place - 1) g) ≡ take end' gs = take-set-le end' gs (place - 1) g before in
-    let written : drop (place - 1) (set gs (place - 1) g) ≡ behind = drop-set gs (place - 1) g inside
-    ∙ ap (λ n. g ∷ drop n gs) next in
+    let kept = take-set-le end' gs (place - 1) g before in
+    let written : drop (place - 1) (set gs (place - 1) g) ≡ (g ∷ drop place gs) =
+    drop-set gs (place - 1) g (omega (arith, w.left.within)) ∙ ap (λ n. g ∷ drop n gs) (omega arith) in
     record {
       left = record {
         room = ap (λ xs. length (text_to_write xs pending')) kept ∙ omega arith;
@@ -93,10 +63,8 @@ some_place_pending gs end place nikhahit u =
       arith,
       u.room,
       u.ahead,
-      u.within,
       (lengths glyph_rule (take end gs)).pending nikhahit,
-      length-take-le end gs
-          (omega (arith, u.ahead, u.within)),
+      length-take-le end gs (omega (arith, u.ahead, u.within)),
     )
 
 -- the last glyph is another than SARA AM
@@ -104,10 +72,8 @@ pub written_other : (gs : List hb_glyph_info_t) (end place : ℕ) (g : hb_glyph_
     → IsUnwritten gs end None place → g ≡ get_or gs (end - 1) g → is_sara_am g.glyph_id ≡ false
     → Written (rewritten_whole gs end None place) (set gs (place - 1) g) (end - 1) None (place - 1)
 written_other gs end place g some u at fails =
-    let within : end ≤ length gs = omega (arith, u.ahead, u.within) in
-    written_next _ gs end None place (end - 1) None g (record { left = u; joined = refl })
-    (ap (λ xs. text_to_write xs None) (take_pushed gs end g some within at)
-    ∙ in_two_push glyph_rule (take (end - 1) gs) g fails) (omega arith)
+    written_next _ gs end None place (end - 1) None g (search arith)
+    (search (arith, take_pushed, in_two_push glyph_rule (take (end - 1) gs) g fails)) (omega arith)
 
 -- it is a SARA AM: its SARA AA is written, and a NIKHAHIT pending
 pub written_am : (gs now : List hb_glyph_info_t) (end place : ℕ) (g first second : hb_glyph_info_t) → 0 < end
@@ -115,15 +81,15 @@ pub written_am : (gs now : List hb_glyph_info_t) (end place : ℕ) (g first seco
     → second ≡ sara_aa g → now ≡ set gs (place - 1) second
     → Written (rewritten_whole gs end None place) now (end - 1) (Some first) (place - 1)
 written_am gs now end place g first second some u at passes is_first is_second changed =
-    let within : end ≤ length gs = omega (arith, u.ahead, u.within) in
-    let last : text_to_write (take end gs) None ≡ text_to_write (take (end - 1) gs) (Some first) ++ second ∷ [] =
-    ap (λ xs. text_to_write xs None) (take_pushed gs end g some within at)
+    let last = ap (λ xs. text_to_write xs None) (take_pushed gs end g some (omega (arith, u.ahead, u.within)) at)
     ∙ in_two_push_am glyph_rule (take (end - 1) gs) g passes
     ∙ ap (λ n. text_to_write (take (end - 1) gs) (Some n) ++ sara_aa g ∷ []) (sym is_first)
     ∙ ap (λ n. text_to_write (take (end - 1) gs) (Some first) ++ n ∷ []) (sym is_second) in
-    subst (λ xs. Written (rewritten_whole gs end None place) xs (end - 1) (Some first) (place - 1)) (sym changed)
-    (written_next _ gs end None place (end - 1) (Some first) second (record { left = u; joined = refl }) last
-    (omega arith))
+    search (
+      arith,
+      written_next _ gs end None place (end - 1) (Some first) second (record { left = u; joined = refl }) last
+          (omega arith),
+    )
 
 -- the walk over the marks of a SARA AM: so many are left
 pub record MarksLeft (whole gs : List hb_glyph_info_t) (end place marks : ℕ) (nikhahit : hb_glyph_info_t) : Type 0 where
@@ -139,71 +105,62 @@ pub record SaraAmMarksFit (gs : List hb_glyph_info_t) (end place marks : ℕ) : 
 pub marks_fit : (whole gs : List hb_glyph_info_t) (end place marks : ℕ) (nikhahit : hb_glyph_info_t)
     → MarksLeft whole gs end place marks nikhahit → SaraAmMarksFit gs end place marks
 marks_fit whole gs end place marks nikhahit m =
-    let u = m.written.left in
-    record {
-      few = omega (
-        arith,
-        m.left,
-        suffix_len-le-length (λ (x : hb_glyph_info_t). is_above_base x.glyph_id)
-            (take end gs),
-        length-take-le end gs (omega (arith, u.ahead, u.within)),
-      );
-      ahead = some_place_pending gs end place nikhahit u;
-      within = u.within;
-    }
+    search (arith, suffix_len-le-length, length-take-le, some_place_pending)
 
 pub marks_next : (whole gs : List hb_glyph_info_t) (end place marks : ℕ) (nikhahit g : hb_glyph_info_t) → 0 < marks
     → MarksLeft whole gs end place marks nikhahit → g ≡ get_or gs (end - 1) g
     → MarksLeft whole (set gs (place - 1) g) (end - 1) (place - 1) (marks - 1) nikhahit
 marks_next whole gs end place marks nikhahit g some m at =
     let w = m.written in
-    let within : end ≤ length gs = omega (arith, w.left.ahead, w.left.within) in
-    let (mark, count) = last_mark gs end g (omega (arith, m.left)) within at in
-    let inside : 0 < end =
-    omega (
+    let within : end ≤ length gs = omega arith in
+    let (mark, count) =
+    let test : hb_glyph_info_t → Bool = λ x. is_above_base x.glyph_id in
+    let inside : 0 < end = search arith in
+    let same = ap test at in elim (test g) as (λ b. test g ≡ b → (b ≡ true) × (above_marks_before gs end ≡ 1 +
+    above_marks_before gs (end - 1))) [
+      | true ↦ λ e. (
+        refl,
+        suffix_len-take_yes test gs end g inside within (sym same
+            ∙ e),
+      )
+      | false ↦ λ e. absurd (omega (arith, suffix_len-take_no test gs end g inside within (sym same ∙ e)))
+    ] refl in
+    search (
       arith,
+      written_next whole gs end (Some nikhahit) place (end - 1) (Some nikhahit) g w
+          (ap (λ xs. text_to_write xs (Some nikhahit)) (take_pushed gs end g (omega (
+            arith,
+            m.left,
+            suffix_len-le-length (λ (x : hb_glyph_info_t). is_above_base x.glyph_id) (take end gs),
+            length-take-le end
+                gs within,
+          )) within at) ∙ pending_push_mark glyph_rule (take (end - 1) gs) g nikhahit mark) (omega arith),
       m.left,
-      suffix_len-le-length (λ (x : hb_glyph_info_t). is_above_base x.glyph_id)
-          (take end gs),
-      length-take-le end gs within,
-    ) in
-    let ahead = some_place_pending gs end place nikhahit w.left in
-    record {
-      written = written_next whole gs end (Some nikhahit) place (end - 1) (Some nikhahit) g w
-          (ap (λ xs. text_to_write xs (Some nikhahit)) (take_pushed gs end g inside within at)
-          ∙ pending_push_mark glyph_rule (take (end - 1) gs) g nikhahit mark) (omega arith);
-      left = omega (
-        arith,
-        m.left,
-        count,
-        ap (suffix_len (λ (x : hb_glyph_info_t). is_above_base x.glyph_id))
-            (take-set-le (end - 1) gs (place - 1) g (omega arith)),
-      );
-    }
+      take-set-le,
+    )
 
 pub marks_done : (whole gs : List hb_glyph_info_t) (end place marks : ℕ) (nikhahit : hb_glyph_info_t) → marks ≡ 0
     → MarksLeft whole gs end place marks nikhahit → Written whole (set gs (place - 1) nikhahit) end None (place - 1)
 marks_done whole gs end place marks nikhahit none m =
     written_next whole gs end (Some nikhahit) place end None nikhahit m.written
-    (to_write_bare gs end nikhahit (sym m.left ∙ none)) (omega arith)
+    (search (arith, take_all, drop_all)) (omega arith)
 
 -- where reading and writing meet all is written
 pub written_all : (whole gs : List hb_glyph_info_t) (end place : ℕ) → Written whole gs end None place → place ≤ end
     → gs ≡ whole
 written_all whole gs end place w met =
-    let within : end ≤ length gs = omega (arith, w.left.ahead, w.left.within) in
-    let front : length (take end gs) ≡ end = length-take-le end gs within in
-    let ends : place ≡ end = omega (arith, w.left.ahead) in
-    let same : text_to_write (take end gs) None ≡ take end gs =
-    in_two_plain glyph_rule (take end gs)
-    (none_from_count (λ (g : hb_glyph_info_t). is_sara_am g.glyph_id) (take end gs)
-    (omega (arith, w.left.room, (lengths glyph_rule (take end gs)).whole))) in
-    sym (take-append-drop end gs) ∙ ap (λ xs. xs ++ drop end gs) (sym same)
-    ∙ ap (λ n. text_to_write (take end gs) None ++ drop n gs) (sym ends) ∙ w.joined
+    let front : length (take end gs) ≡ end = length-take-le end gs (search arith) in
+    search (
+      arith,
+      take-append-drop,
+      in_two_plain glyph_rule (take end gs)
+          (none_from_count (λ (g : hb_glyph_info_t). is_sara_am g.glyph_id) (take end gs) (omega (
+            arith,
+            w.left.room,
+            (lengths glyph_rule (take end gs)).whole,
+          ))),
+    )
 
 pub written_none : (gs : List hb_glyph_info_t) (len : ℕ) → len ≤ length gs
     → length gs ≡ length (glyphs_in_two (take len gs)) → Written (glyphs_in_two (take len gs)) gs len None (length gs)
-written_none gs len within room = record {
-  left = record { room = sym room; ahead = within; within = omega arith };
-  joined = ap (λ xs. glyphs_in_two (take len gs) ++ xs) (drop_all (length gs) gs (omega arith)) ∙ append-nil _;
-}
+written_none gs len within room = search (arith, drop_all, append-nil)

@@ -1,12 +1,12 @@
 -- What Sound flags in a Thai text: the walk, and what it leaves.
-use Rattle.std.proofs.Common.{◌≡◌, ℕ, ◌+◌, ◌<◌, ◌≤◌, Bool, true, false, cond, List, [], ◌∷◌, ◌++◌, length, take, drop, get_or, map, refl, sym, ap, ◌∙◌, arith}
+use Rattle.std.proofs.Common.{◌≡◌, ℕ, ◌+◌, ◌<◌, ◌≤◌, Bool, true, false, cond, List, [], ◌∷◌, length, take, drop, get_or, map, refl, arith}
 use Rattle.std.specs.List.{AllByRecursion}
-use Rattle.std.proofs.lemmas.List.{drop_all, length-map, length-take-le, map-append}
+use Rattle.std.proofs.lemmas.List.{drop_all, length-map, length-take-le}
 use Rattle.std.proofs.lemmas.Simd.{map-map}
 use Rattle.shapers_buffer.specs.declared.buffer.glyph.hb_glyph_info_t.{hb_glyph_info_t}
 use Rattle.shapers_buffer.specs.declared.buffer.level.BufferClusterLevel.{BufferClusterLevel}
 use Rattle.shapers_buffer.specs.Clusters.{merge_all}
-use Rattle.shapers_buffer.specs.Glyph.{characters, clusters, order_view, plain}
+use Rattle.shapers_buffer.specs.Glyph.{characters, clusters, order_view}
 use Rattle.shapers_buffer.specs.GlyphFlags.{unsafe_all, unsafe_inside, with_bits}
 use Rattle.shapers_buffer.specs.Lists.{each_after}
 use Rattle.shapers_base.specs.declared.plan.breaks.BreakFlags.{BreakFlags}
@@ -14,9 +14,9 @@ use Rattle.shapers_base.specs.declared.plan.breaks.BreakFlags.TheVariants.{AsCod
 use Rattle.shapers_clusters.specs.FlagLaw.{AllFlagsStay}
 use Rattle.shapers_clusters.proofs.FlagCalls.{map-unsafe_all, map-unsafe_inside, without_flags-or}
 use Rattle.shapers_clusters.proofs.FlagLaw.{all_stay_same, unsafe_all_stays}
-use Rattle.shapers_clusters.proofs.Flagging.{unsafe_all-append, unsafe_few, unsafe_longer, unsafe_nothing}
+use Rattle.shapers_clusters.proofs.Flagging.{unsafe_few, unsafe_longer}
 use Rattle.shapers_text.specs.Thai.{glyphs_in_two, sara_am_stretches}
-use Rattle.shapers_text.specs.ThaiForms.{forms_between, is_thai_mark, mark_stretches, mark_stretches_of_each, marks_flagged, preprocessed_flagged, preprocessed_text, pua_shaped, stretch_of_mark, thai_base_place, whole_mark_stretches, with_character, with_characters}
+use Rattle.shapers_text.specs.ThaiForms.{is_thai_mark, mark_stretches_of_each, marks_flagged, preprocessed_flagged, preprocessed_text, pua_shaped, thai_base_place, whole_mark_stretches, with_characters}
 use Rattle.shapers_text.specs.ThaiLaws.{without_form}
 use Rattle.shapers_text.proofs.ThaiFormLaws.{base_place_push}
 use Rattle.shapers_text.proofs.ThaiFormWalks.{in_order, splits, without_form-pua}
@@ -32,23 +32,14 @@ pub record FlaggingWhole (start now : List hb_glyph_info_t) (i base : ℕ) : Typ
       (characters start)))))
       (unsafe_inside base i now) ≡ unsafe_all (whole_mark_stretches (characters start)) start
 
-pub whole_none : (start : List hb_glyph_info_t) → FlaggingWhole start start 0 0
-whole_none start =
-    record {
-      same_text = refl;
-      base_is = refl;
-      rest = ap (unsafe_all (whole_mark_stretches (characters start))) (unsafe_nothing 0 start);
-    }
-
 pub whole_base : (start now : List hb_glyph_info_t) (i base : ℕ) → i ≤ length start → FlaggingWhole start now i base
     → base ≤ i
 whole_base start now i base within f =
-    omega (arith, f.base_is, length-take-le i (characters start) (omega (arith, length-map start (λ g. g.glyph_id))))
+    search (arith, length-take-le, length-map)
 
 pub whole_length : (start now : List hb_glyph_info_t) (i base : ℕ) → FlaggingWhole start now i base
     → length now ≡ length start
-whole_length start now i base f = sym (length-map now (λ g. g.glyph_id)) ∙ ap length f.same_text
-    ∙ length-map start (λ g. g.glyph_id)
+whole_length start now i base f = search (arith, length-map)
 
 -- what is left after the character u at place i
 abbrev to_come : List ℕ → ℕ → List (ℕ × ℕ)
@@ -62,21 +53,8 @@ one_passed : (start now : List hb_glyph_info_t) (i base u : ℕ) (b : Bool) → 
 one_passed start now i base u b inside f read is =
     let us = characters start in
     let s = splits us i u (omega (arith, length-map start (λ x. x.glyph_id))) read in
-    let before = take i us in
     let behind = mark_stretches_of_each (each_after (take (i + 1) us) (drop (i + 1) us)) in
-    let stretches : mark_stretches_of_each (each_after before (drop i us)) ≡ cond b ((base, i) ∷ []) [] ++ behind =
-    ap (λ vs. mark_stretches_of_each (each_after before vs)) s.rest_is
-    ∙ ap (λ n. stretch_of_mark (thai_base_place before) n u
-    ++ mark_stretches_of_each (each_after (before ++ u ∷ []) (drop (i + 1) us))) s.length_is
-    ∙ ap (λ n. stretch_of_mark n i u ++ mark_stretches_of_each (each_after (before ++ u ∷ []) (drop (i + 1) us)))
-    (sym f.base_is)
-    ∙ ap (λ vs. stretch_of_mark base i u ++ mark_stretches_of_each (each_after vs (drop (i + 1) us))) (sym s.front_is)
-    ∙ ap (λ c. cond c ((base, i) ∷ []) [] ++ behind) is in
-    let whole = unsafe_inside base i now in
-    sym (unsafe_all-append (map with_mark (cond b ((base, i) ∷ []) [])) (map with_mark behind) whole)
-    ∙ ap (λ sts. unsafe_all sts whole) (sym (map-append with_mark (cond b ((base, i) ∷ []) []) behind))
-    ∙ ap (λ sts. unsafe_all (map with_mark sts) whole) (sym stretches)
-    ∙ f.rest
+    search arith
 
 next_place : (start : List hb_glyph_info_t) (i base u : ℕ) (b : Bool) → i < length start
     → base ≡ thai_base_place (take i (characters start)) → u ≡ get_or (characters start) i 0 → is_thai_mark u ≡ b
@@ -84,72 +62,57 @@ next_place : (start : List hb_glyph_info_t) (i base u : ℕ) (b : Bool) → i < 
 next_place start i base u b inside base_is read is =
     let us = characters start in
     let s = splits us i u (omega (arith, length-map start (λ x. x.glyph_id))) read in
-    let before = take i us in
-    ap (λ n. cond b n i) base_is
-    ∙ ap (λ n. cond b (thai_base_place before) n) (sym s.length_is)
-    ∙ ap (λ c. cond c (thai_base_place before) (length before)) (sym is)
-    ∙ sym (base_place_push before u)
-    ∙ ap thai_base_place (sym s.front_is)
+    cc (base_place_push (take i us) u)
 
 -- a mark
 pub whole_mark : (start now : List hb_glyph_info_t) (i base u : ℕ) → i < length start
     → FlaggingWhole start now i base → u ≡ get_or (characters start) i 0 → is_thai_mark u ≡ true
     → FlaggingWhole start now (i + 1) base
 whole_mark start now i base u inside f read is =
-    let low = whole_base start now i base (omega arith) f in
     let long = whole_length start now i base f in
-    record {
-      same_text = f.same_text;
-      base_is = next_place start i base u true inside f.base_is read is;
-      rest = sym (ap (unsafe_all (to_come (characters start) i)) (unsafe_longer base i (i + 1) now low (omega arith)
-          (omega arith))) ∙ one_passed start now i base u true inside f read is;
-    }
+    search (
+      arith,
+      next_place start i base u true inside f.base_is read is,
+      unsafe_longer base i (i + 1) now (whole_base start now i base (omega arith) f) (omega arith) (omega arith),
+      one_passed start now i base u true inside f read is,
+    )
 
 -- another character
 pub whole_other : (start now : List hb_glyph_info_t) (i base u : ℕ) → i < length start
     → FlaggingWhole start now i base → u ≡ get_or (characters start) i 0 → is_thai_mark u ≡ false
     → FlaggingWhole start (unsafe_inside base i now) (i + 1) i
 whole_other start now i base u inside f read is =
-    let low = whole_base start now i base (omega arith) f in
-    record {
-      same_text = map-unsafe_inside (λ g. g.glyph_id) (λ g. refl) base i now low ∙ f.same_text;
-      base_is = next_place start i base u false inside f.base_is read is;
-      rest = ap (unsafe_all (to_come (characters start) i)) (unsafe_few i (i + 1) (unsafe_inside base i now)
-          (omega arith)
-          (omega arith)) ∙ one_passed start now i base u false inside f read is;
-    }
+    search (
+      arith,
+      map-unsafe_inside (λ g. g.glyph_id) (λ g. refl) base i now (whole_base start now i base (omega arith) f),
+      next_place start i base u false inside f.base_is read is,
+      unsafe_few,
+      one_passed start now i base u false inside f read is,
+    )
 
 pub whole_all : (start now : List hb_glyph_info_t) (i base : ℕ) → length start ≤ i → FlaggingWhole start now i base
     → unsafe_inside base i now ≡ unsafe_all (whole_mark_stretches (characters start)) start
 whole_all start now i base end f =
-    let us = characters start in
-    let past : length us ≤ i = omega (arith, length-map start (λ g. g.glyph_id)) in
-    sym (ap (λ vs. unsafe_all (map with_mark (mark_stretches_of_each (each_after (take i us) vs)))
-    (unsafe_inside base i now)) (drop_all i us past)) ∙ f.rest
+    search (arith, drop_all, length-map)
 
 -- what the choice flags: flags alone, none lost
 with_marks_in_order : (sts : List (ℕ × ℕ)) → AllByRecursion (λ st. st.0 ≤ st.1) sts
     → AllByRecursion (λ st. st.0 ≤ st.1) (map with_mark sts)
 with_marks_in_order [] all = tt
-with_marks_in_order (st ∷ sts) all = (omega (arith, all.0), with_marks_in_order sts all.1)
+with_marks_in_order (st ∷ sts) all = search (arith, with_marks_in_order sts all.1)
 
 whole_in_order : (us : List ℕ) → AllByRecursion (λ st. st.0 ≤ st.1) (whole_mark_stretches us)
-whole_in_order us = with_marks_in_order (mark_stretches us) (in_order (each_after [] us))
+whole_in_order us = search (arith, with_marks_in_order, in_order)
 
 pub map-marks_flagged : {Y : Type 0} (f : hb_glyph_info_t → Y) → ((g : hb_glyph_info_t) → f (with_bits 3 g) ≡ f g)
     → (breaks : BreakFlags) (gs : List hb_glyph_info_t) → map f (marks_flagged breaks gs) ≡ map f gs
 map-marks_flagged f keeps AsCode gs = refl
 map-marks_flagged f keeps Sound gs =
-    map-unsafe_all f keeps (whole_mark_stretches (characters gs)) gs (whole_in_order (characters gs))
+    search (arith, map-unsafe_all, whole_in_order)
 
 pub marks_flagged_stay : (breaks : BreakFlags) (gs : List hb_glyph_info_t) → AllFlagsStay gs (marks_flagged breaks gs)
 marks_flagged_stay AsCode gs = all_stay_same gs
-marks_flagged_stay Sound gs = unsafe_all_stays (whole_mark_stretches (characters gs)) gs (whole_in_order
-    (characters gs))
-
-plain_flagged : (g : hb_glyph_info_t) → plain (with_bits 3 g) ≡ plain g
-plain_flagged g =
-    ap (λ n. let r : hb_glyph_info_t = record g { cluster = 0; mask = n } in r) (without_flags-or g.mask 3 refl)
+marks_flagged_stay Sound gs = search (arith, unsafe_all_stays, whole_in_order)
 
 -- so the forms are the same, and nothing else changes
 view-with_characters : (us : List ℕ) (gs : List hb_glyph_info_t) → order_view (with_characters us gs)
@@ -157,31 +120,14 @@ view-with_characters : (us : List ℕ) (gs : List hb_glyph_info_t) → order_vie
 view-with_characters [] gs = refl
 view-with_characters (u ∷ us) [] = refl
 view-with_characters (u ∷ us) (g ∷ gs) =
-    ap (λ hs. with_character (plain g) u ∷ hs) (view-with_characters us gs)
-
-shaped_view : (has : ℕ → Bool) (gs : List hb_glyph_info_t) → order_view (pua_shaped has gs)
-    ≡ with_characters (forms_between has [] (characters gs) []) (order_view gs)
-shaped_view has gs =
-    let sts = mark_stretches (characters gs) in
-    let flags = unsafe_all sts gs in
-    let sorted = in_order (each_after [] (characters gs)) in
-    view-with_characters (forms_between has [] (characters flags) []) flags
-    ∙ ap (λ us. with_characters (forms_between has [] us []) (order_view flags))
-    (map-unsafe_all (λ g. g.glyph_id) (λ g. refl) sts gs sorted)
-    ∙ ap (with_characters (forms_between has [] (characters gs) [])) (map-unsafe_all plain plain_flagged sts gs sorted)
+    cc (view-with_characters us gs)
 
 pub order_view-flagged : (breaks : BreakFlags) (forms : Bool) (has : ℕ → Bool) (level : BufferClusterLevel)
     (gs : List hb_glyph_info_t) → order_view (preprocessed_flagged breaks forms has level gs)
     ≡ order_view (preprocessed_text forms has level gs)
 order_view-flagged breaks false has level gs = refl
 order_view-flagged breaks true has level gs =
-    let text = glyphs_in_two (merge_all level (sara_am_stretches level (characters gs)) gs) in
-    shaped_view has (marks_flagged breaks text)
-    ∙ ap (λ us. with_characters (forms_between has [] us []) (order_view (marks_flagged breaks text)))
-    (map-marks_flagged (λ g. g.glyph_id) (λ g. refl) breaks text)
-    ∙ ap (with_characters (forms_between has [] (characters text) []))
-    (map-marks_flagged plain plain_flagged breaks text)
-    ∙ sym (shaped_view has text)
+    search (arith, view-with_characters, map-unsafe_all, in_order, map-marks_flagged, without_flags-or)
 
 pub clusters-flagged : (breaks : BreakFlags) (forms : Bool) (has : ℕ → Bool) (level : BufferClusterLevel)
     (gs : List hb_glyph_info_t) → clusters (preprocessed_flagged breaks forms has level gs)
@@ -191,10 +137,13 @@ clusters-flagged breaks true has level gs =
     let text = glyphs_in_two (merge_all level (sara_am_stretches level (characters gs)) gs) in
     let flagged = marks_flagged breaks text in
     let cluster : hb_glyph_info_t → ℕ = λ g. g.cluster in
-    sym (map-map cluster without_form (pua_shaped has flagged))
-    ∙ ap clusters (without_form-pua has flagged)
-    ∙ map-map cluster without_form flagged
-    ∙ map-marks_flagged cluster (λ g. refl) breaks text
-    ∙ sym (map-map cluster without_form text)
-    ∙ sym (ap clusters (without_form-pua has text))
-    ∙ map-map cluster without_form (pua_shaped has text)
+    search (
+      arith,
+      map-map,
+      without_form-pua has flagged,
+      map-map cluster without_form flagged,
+      map-marks_flagged cluster (λ g. refl) breaks text,
+      map-map cluster without_form text,
+      without_form-pua has text,
+      map-map cluster without_form (pua_shaped has text),
+    )

@@ -1,6 +1,6 @@
 -- A syllable in which one glyph alone goes to the front: its places in order.
-use Rattle.std.proofs.Common.{◌≡◌, ℕ, zero, suc, ◌+◌, ◌-◌, ◌<◌, ◌≤◌, inl, inr, Bool, true, false, not, if◌then◌else◌, List, [], ◌∷◌, ◌++◌, map, filter, reverse, length, take, drop, get_or, refl, ap, sym, ◌∙◌, arith, append_assoc, Some}
-use Rattle.std.specs.List.{flat_map, list_any, onto_first, range_with_len, slice_rotate_right}
+use Rattle.std.proofs.Common.{◌≡◌, ℕ, zero, suc, ◌+◌, ◌-◌, ◌<◌, ◌≤◌, inl, inr, Bool, true, false, if◌then◌else◌, List, [], ◌∷◌, ◌++◌, map, length, take, drop, get_or, refl, ap, sym, ◌∙◌, arith, append_assoc, Some}
+use Rattle.std.specs.List.{flat_map, list_any, range_with_len, slice_rotate_right}
 use Rattle.std.proofs.lemmas.Bool.{cases_Bool, or_parts}
 use Rattle.std.proofs.lemmas.Bool.Decides.{nat_tests}
 use Rattle.std.proofs.lemmas.List.{append-nil, drop-drop, drop-take, map-append, take-append-drop, take-take}
@@ -9,15 +9,13 @@ use Rattle.shapers_buffer.specs.declared.buffer.glyph.hb_glyph_info_t.{hb_glyph_
 use Rattle.shapers_buffer.specs.Buffer.{Buffer, but_places}
 use Rattle.shapers_buffer.specs.Clusters.{merge, merge_all, stretch_of, with_stretch}
 use Rattle.shapers_buffer.specs.Lists.{cut_after}
-use Rattle.shapers_buffer.specs.Places.{brought_forward, pick, placed_by}
-use Rattle.shapers_buffer.specs.declared.buffer.placement.Placement.TheVariants.{Forward}
-use Rattle.shapers_buffer.proofs.Placements.{placed_forward, rotated_stretch}
+use Rattle.shapers_buffer.specs.Places.{pick}
 use Rattle.shapers_buffer.proofs.ClusterLemmas.{length-stretch}
 use Rattle.shapers_clusters.proofs.Merging.{length-merge}
 use Rattle.shapers_clusters.proofs.Picks.{pick-append, pick-range}
 use Rattle.shapers_clusters.proofs.Widened.{stretch-rest}
 use Rattle.shapers_syllabic.specs.Reordering.{SyllableReordered}
-use Rattle.shapers_universal.specs.Universal.{goes_front, goes_front_at, is_universal_halant, is_reordered_in_universal, reph_run, reversed_first, universal_order, universal_steps}
+use Rattle.shapers_universal.specs.Universal.{goes_front, goes_front_at, is_universal_halant, is_reordered_in_universal, reversed_first, universal_order, universal_steps}
 use Rattle.shapers_universal.specs.UniversalWalk.{MergesFirst, fronts_from, has_universal_reph, is_halant_at, last_place_first, syllable_places_in_order, start_from}
 use Rattle.shapers_universal.specs.Proved.Reordered.{merge_nothing, no_reph, still_pieces, syllable_ran, syllable_reordered}
 use Rattle.shapers_universal.specs.Proved.UniversalFronts.{fronts_next}
@@ -31,76 +29,51 @@ cut_none : {X : Type 0} (cut : X → Bool) (xs : List X) (x : X) → list_any cu
     → cut_after cut (xs ++ x ∷ []) ≡ (xs ++ x ∷ []) ∷ []
 cut_none cut [] x none h = rw h refl
 cut_none cut (y ∷ ys) x none h =
-    let parts : (cut y ≡ false) × (list_any cut ys ≡ false) = or_parts (cut y) (list_any cut ys) none in
-    rw parts.0 (ap (onto_first y) (cut_none cut ys x parts.1 h))
+    search (arith, cut_none cut ys x (or_parts (cut y) (list_any cut ys) none).1 h)
 
 cut_there : {X : Type 0} (cut : X → Bool) (xs ys : List X) (y : X) → list_any cut xs ≡ false → cut y ≡ true
     → cut_after cut (xs ++ y ∷ ys) ≡ (xs ++ y ∷ []) ∷ cut_after cut ys
 cut_there cut [] ys y none h = rw h refl
 cut_there cut (x ∷ xs) ys y none h =
-    let parts : (cut x ≡ false) × (list_any cut xs ≡ false) = or_parts (cut x) (list_any cut xs) none in
-    rw parts.0 (ap (onto_first x) (cut_there cut xs ys y parts.1 h))
+    search (arith, cut_there cut xs ys y (or_parts (cut x) (list_any cut xs) none).1 h)
 
 -- the order of what is cut
 abbrev in_order : {X : Type 0} → (X → Bool) → (X → Bool) → List X → List X
 in_order cut t xs = flat_map (reversed_first t) (cut_after cut xs)
 
-in_order-still : {X : Type 0} (cut t : X → Bool) (xs : List X) → list_any t xs ≡ false → in_order cut t xs ≡ xs
-in_order-still cut t xs none = still_pieces t (cut_after cut xs) (ap (list_any t) (cut_after-concat cut xs) ∙ none)
-    ∙ cut_after-concat cut xs
-
 none_first : {X : Type 0} (t : X → Bool) (xs : List X) → list_any t xs ≡ false → reversed_first t xs ≡ xs
-none_first t xs none = ap (λ ys. reverse ys ++ filter (λ x. not (t x)) xs) (filter-none t xs none)
-    ∙ filter_not-none t xs none
+none_first t xs none = search (arith, filter-none, filter_not-none)
 
 -- behind a piece whose last may go to the front nothing does
 in_order-last : {X : Type 0} (cut t : X → Bool) (xs : List X) (x : X) (ys : List X) → list_any cut xs ≡ false
     → cut x ≡ false → list_any t ys ≡ false → in_order cut t ((xs ++ x ∷ []) ++ ys) ≡ reversed_first t (xs ++ x ∷ [])
     ++ ys
 in_order-last cut t xs x [] none h still =
-    ap (in_order cut t) (append-nil (xs ++ x ∷ [])) ∙ ap (flat_map (reversed_first t)) (cut_none cut xs x none h)
+    search (arith, append-nil, cut_none)
 in_order-last cut t xs x (y ∷ ys) none h still =
-    let parts : (t y ≡ false) × (list_any t ys ≡ false) = or_parts (t y) (list_any t ys) still in
-    let calm : list_any cut (xs ++ x ∷ []) ≡ false = list_any-append cut xs (x ∷ []) ∙ rw (none, h) refl in
-    let r = reversed_first t (xs ++ x ∷ []) in
+    let parts : (t y ≡ false) × (list_any t ys ≡ false) = search (arith, or_parts) in
+    let calm : list_any cut (xs ++ x ∷ []) ≡ false = search (arith, list_any-append, refl) in
     elim (cases_Bool (cut y)) [
       | inl holds ↦
-          ap (flat_map (reversed_first t)) (cut_there cut (xs ++ x ∷ []) ys y calm holds)
-          ∙ ap (λ zs. zs ++ in_order cut t ys) (reversed_first-no t (xs ++ x ∷ []) y parts.0)
-          ∙ ap (λ zs. (r ++ y ∷ []) ++ zs) (in_order-still cut t ys parts.1)
-          ∙ append_assoc r (y ∷ []) ys
+          search (arith, cut_there, reversed_first-no, still_pieces, cut_after-concat, append_assoc)
       | inr fails ↦
-          ap (in_order cut t) (sym (append_assoc (xs ++ x ∷ []) (y ∷ []) ys))
-          ∙ in_order-last cut t (xs ++ x ∷ []) y ys calm fails parts.1
-          ∙ ap (λ zs. zs ++ ys) (reversed_first-no t (xs ++ x ∷ []) y parts.0)
-          ∙ append_assoc r (y ∷ []) ys
+          search (arith, append_assoc, reversed_first-no, in_order-last cut t (xs ++ x ∷ []) y ys calm fails parts.1)
     ]
 
 in_order-cut : {X : Type 0} (cut t : X → Bool) (xs ys : List X) (y : X) → list_any cut xs ≡ false
     → list_any t xs ≡ false → cut y ≡ true → t y ≡ false → in_order cut t (xs ++ y ∷ ys) ≡ (xs ++ y ∷ [])
     ++ in_order cut t ys
 in_order-cut cut t xs ys y none still h i =
-    ap (flat_map (reversed_first t)) (cut_there cut xs ys y none h)
-    ∙ ap (λ zs. zs ++ in_order cut t ys)
-    (none_first t (xs ++ y ∷ []) (list_any-append t xs (y ∷ []) ∙ rw (still, i) refl))
+    search (arith, cut_there, none_first, list_any-append, refl)
 
 -- nothing merges where nothing goes to the front
 pub none_from : (a i : ℕ) (gs : List hb_glyph_info_t) → fronts_from a i gs ≡ [] → list_any goes_front gs ≡ false
 none_from a i [] h = refl
 none_from a i (g ∷ gs) h = elim (cases_Bool (goes_front g)) [
   | inl holds ↦
-      let some : (let k : ℕ = length ((a, suc i) ∷ fronts_from a (suc i) gs) in k) ≡ 0 =
-      ap (λ b. length
-      (if b then (a, suc i)
-      ∷ fronts_from a (suc i) gs else fronts_from (if is_universal_halant g then suc i else a) (suc i) gs))
-      (sym holds) ∙ ap length h in
-      absurd (omega arith)
+      cc
   | inr fails ↦
-      let on : fronts_from (if is_universal_halant g then suc i else a) (suc i) gs ≡ [] =
-      ap (λ b. if b then (a, suc i)
-      ∷ fronts_from a (suc i) gs else fronts_from (if is_universal_halant g then suc i else a) (suc i) gs)
-      (sym fails) ∙ h in
-      rw fails (none_from (if is_universal_halant g then suc i else a) (suc i) gs on)
+      rw fails (none_from (if is_universal_halant g then suc i else a) (suc i) gs cc)
 ]
 
 -- What one merge alone says: from `st` to `e` one glyph goes to the front, that before z, of the
@@ -115,15 +88,11 @@ pub record OneFront (gs : List hb_glyph_info_t) (st e a z : ℕ) : Type 0 where
 range_on : (st i : ℕ) → st ≤ i → range_with_len st (i + 1 - st) ≡ range_with_len st (i - st) ++ i ∷ []
 range_on st i h = sym (ranges-join st i (i - st) 1 (i + 1 - st) (omega arith) (omega arith))
 
-halt : (g : hb_glyph_info_t) → goes_front g ≡ true → is_universal_halant g ≡ false
-halt g h = grind (arith, nat_tests, h)
-
 pub one_front : (gs : List hb_glyph_info_t) (n i st e a z : ℕ) → st ≤ i → i + n ≡ e
     → list_any (is_halant_at gs) (range_with_len st (i - st)) ≡ false
     → list_any (goes_front_at gs) (range_with_len st (i - st)) ≡ false
     → fronts_from st i (map (at gs) (range_with_len i n)) ≡ (a, z) ∷ [] → OneFront gs st e a z
-one_front gs zero i st e a z h up calm still is = let none : zero ≡ suc zero =
-    ap (λ (ps : List (ℕ × ℕ)). length ps) is in absurd (omega arith)
+one_front gs zero i st e a z h up calm still is = cc
 one_front gs (suc n) i st e a z h up calm still is =
     let H = is_halant_at gs in
     let T = goes_front_at gs in
@@ -131,48 +100,43 @@ one_front gs (suc n) i st e a z h up calm still is =
     let ys = range_with_len (i + 1) n in
     let zs = map (at gs) ys in
     let next : suc i ≡ i + 1 = omega arith in
-    let on : i + 1 - st ≡ i + 1 - st = refl in
-    let whole : range_with_len st (e - st) ≡ pre ++ i ∷ ys = sym (ranges-join st i (i - st) (e - i) (e - st)
-    (omega (arith, h)) (omega (arith, h, up)))
+    let whole = sym (ranges-join st i (i - st) (e - i) (e - st) (omega (arith, h)) (omega (arith, h, up)))
     ∙ (let m : e - i ≡ suc n = omega arith in ap (λ k. pre ++ range_with_len i k) m) in
     elim (cases_Bool (goes_front (at gs i))) [
       | inl front ↦
-          let here : (st, suc i) ∷ fronts_from st (suc i) zs ≡ (a, z) ∷ [] =
-          ap (λ b. if b then (st, suc i)
-          ∷ fronts_from st (suc i) zs else fronts_from (if is_universal_halant (at gs i) then suc i else st)
-          (suc i) zs) (sym front) ∙ is in
-          let start : st ≡ a = ap (λ (ps : List (ℕ × ℕ)). (get_or ps 0 (0, 0)).0) here in
-          let place : suc i ≡ z = ap (λ (ps : List (ℕ × ℕ)). (get_or ps 0 (0, 0)).1) here in
-          let rest : fronts_from st (suc i) zs ≡ [] = ap (drop 1) here in
-          let behind : list_any T ys ≡ false = labels_any goes_front T gs (goes_front_is gs) ys
-          ∙ none_from st (suc i) zs rest in
+          let here =
+          ap
+          (λ b. if b then (st, suc i) ∷ fronts_from st (suc i) zs else fronts_from (if is_universal_halant (at gs i)
+          then suc i else st) (suc i) zs) (sym front)
+          ∙ is in
+          let start = ap (λ (ps : List (ℕ × ℕ)). (get_or ps 0 (0, 0)).0) here in
+          let place = ap (λ (ps : List (ℕ × ℕ)). (get_or ps 0 (0, 0)).1) here in
+          let behind = labels_any goes_front T gs (goes_front_is gs) ys
+          ∙ none_from st (suc i) zs (ap (drop 1) here) in
           let m : a - st ≡ 0 = omega arith in
-          let last : z - 1 ≡ i = omega arith in
-          let long : z - 1 - a ≡ i - st = omega arith in
-          let more : e - z ≡ n = omega arith in
           let from : z ≡ i + 1 = omega arith in
           record {
             order = ap (in_order H T) (whole ∙ sym (append_assoc pre (i ∷ []) ys))
-                ∙ in_order-last H T pre i ys calm (halant_at gs i ∙ halt (at gs i) front) behind
-                ∙ ap (λ xs. xs ++ ys) (reversed_first-yes T pre i (goes_front_is gs i ∙ front)
-                ∙ ap (λ xs. i ∷ xs) (none_first T pre still))
-                ∙ sym (ap (λ k. range_with_len st k
-                ++ (((z - 1) ∷ range_with_len a (z - 1 - a)) ++ range_with_len z (e - z))) m
-                ∙ ap (λ k. (k ∷ range_with_len a (z - 1 - a)) ++ range_with_len z (e - z)) last
-                ∙ ap (λ k. (i ∷ range_with_len a k) ++ range_with_len z (e - z)) long
-                ∙ ap (λ k. (i ∷ range_with_len k (i - st)) ++ range_with_len z (e - z)) (sym start)
-                ∙ ap (λ k. (i ∷ pre) ++ range_with_len z k) more
-                ∙ ap (λ k. (i ∷ pre) ++ range_with_len k n) from);
+                ∙ in_order-last H T pre i ys calm (halant_at gs i ∙ (grind (arith, nat_tests, front))) behind
+                ∙ ap (λ xs. xs ++ ys)
+                (reversed_first-yes T pre i (goes_front_is gs i ∙ front) ∙ ap (λ xs. i ∷ xs) (none_first T pre still))
+                ∙ sym
+                (ap (λ k. range_with_len st k ++ (((z - 1) ∷ range_with_len a (z - 1 - a)) ++ range_with_len z (e - z)))
+                m ∙ ap (λ k. (k ∷ range_with_len a (z - 1 - a)) ++ range_with_len z (e - z)) (omega arith) ∙ ap (λ k. (i
+                ∷ range_with_len a k) ++ range_with_len z (e - z)) (omega arith) ∙ ap (λ k. (i ∷ range_with_len k (i -
+                st)) ++ range_with_len z (e - z)) (sym start) ∙ ap (λ k. (i ∷ pre) ++ range_with_len z k) (omega arith) ∙
+                ap (λ k. (i ∷ pre) ++ range_with_len k n) from);
             from = omega (arith, start);
             some = omega (arith, start, place, h);
             within = omega (arith, place, up);
           }
       | inr other ↦
-          let here : fronts_from (if is_universal_halant (at gs i) then suc i else st) (suc i) zs ≡ (a, z) ∷ [] =
-          ap (λ b. if b then (st, suc i)
-          ∷ fronts_from st (suc i) zs else fronts_from (if is_universal_halant (at gs i) then suc i else st)
-          (suc i) zs) (sym other) ∙ is in
-          let stays : T i ≡ false = goes_front_is gs i ∙ other in
+          let here =
+          ap
+          (λ b. if b then (st, suc i) ∷ fronts_from st (suc i) zs else fronts_from (if is_universal_halant (at gs i)
+          then suc i else st) (suc i) zs) (sym other)
+          ∙ is in
+          let stays = goes_front_is gs i ∙ other in
           elim (cases_Bool (is_universal_halant (at gs i))) [
             | inl ends ↦
                 let there : fronts_from (i + 1) (i + 1) zs ≡ (a, z) ∷ [] = ap (λ k. fronts_from k k zs) (sym next)
@@ -181,17 +145,19 @@ one_front gs (suc n) i st e a z h up calm still is =
                 let one = one_front gs n (i + 1) (i + 1) e a z (omega arith) (omega (arith, up))
                 (ap (λ k. list_any H (range_with_len (i + 1) k)) none)
                 (ap (λ k. list_any T (range_with_len (i + 1) k)) none) there in
-                let left : e - (i + 1) ≡ n = omega (arith, up) in
                 let tail = ((z - 1) ∷ range_with_len a (z - 1 - a)) ++ range_with_len z (e - z) in
                 record {
-                  order = ap (in_order H T) whole
-                      ∙ in_order-cut H T pre ys i calm still (halant_at gs i ∙ ends) stays
-                      ∙ ap (λ k. (pre ++ i ∷ []) ++ in_order H T (range_with_len (i + 1) k)) (sym left)
+                  order = ap (in_order H T) whole ∙ in_order-cut H T pre ys i calm still (halant_at gs i ∙ ends) stays
+                      ∙ ap (λ k. (pre ++ i ∷ []) ++ in_order H T (range_with_len (i + 1) k)) (sym (omega (arith, up)))
                       ∙ ap (λ xs. (pre ++ i ∷ []) ++ xs) one.order
                       ∙ ap (λ xs. xs ++ (range_with_len (i + 1) (a - (i + 1)) ++ tail)) (sym (range_on st i h))
                       ∙ sym (append_assoc (range_with_len st (i + 1 - st)) (range_with_len (i + 1) (a - (i + 1))) tail)
-                      ∙ ap (λ xs. xs ++ tail) (ranges-join st (i + 1) (i + 1 - st) (a - (i + 1)) (a - st) (omega (arith, h))
-                      (omega (arith, h, one.from)));
+                      ∙ ap (λ xs. xs ++ tail)
+                      (ranges-join st (i + 1) (i + 1 - st) (a - (i + 1)) (a - st) (omega (arith, h)) (omega (
+                        arith,
+                        h,
+                        one.from,
+                      )));
                   from = omega (arith, h, one.from);
                   some = one.some;
                   within = one.within;
@@ -210,9 +176,8 @@ one_front gs (suc n) i st e a z h up calm still is =
 -- a move inside the syllable is all that is written
 take_on : {X : Type 0} (s a : ℕ) (xs : List X) → s ≤ a → take s xs ++ stretch_of s a xs ≡ take a xs
 take_on s a xs h =
-    let n : s + (a - s) ≡ a = omega arith in
     ap (λ ys. ys ++ stretch_of s a xs) (sym (take-take s a xs h))
-    ∙ ap (λ ys. take s (take a xs) ++ ys) (sym (drop-take s (a - s) xs) ∙ ap (λ k. drop s (take k xs)) n)
+    ∙ ap (λ ys. take s (take a xs) ++ ys) (sym (drop-take s (a - s) xs) ∙ ap (λ k. drop s (take k xs)) (omega arith))
     ∙ take-append-drop s (take a xs)
 
 one_written : (s e a z : ℕ) (gs ms : List hb_glyph_info_t) → e ≤ length ms → OneFront gs s e a z
@@ -220,26 +185,22 @@ one_written : (s e a z : ℕ) (gs ms : List hb_glyph_info_t) → e ≤ length ms
     ≡ with_stretch a z (λ _. pick (last_place_first a z) ms) ms
 one_written s e a z gs ms l one =
     let from = one.from in
-    let some = one.some in
     let within = one.within in
     let moved = last_place_first a z in
-    let first = range_with_len s (a - s) in
     let last = range_with_len z (e - z) in
-    let order : syllable_places_in_order s s e gs ≡ first ++ (moved ++ last) =
-    ap (in_order (is_halant_at gs) (goes_front_at gs)) (nothing_behind s e) ∙ one.order in
-    let picked : pick (syllable_places_in_order s s e gs) ms ≡ stretch_of s a ms
-    ++ (pick moved ms ++ stretch_of z e ms) =
-    ap (λ ps. pick ps ms) order
-    ∙ pick-append first (moved ++ last) ms
-    ∙ ap (λ xs. pick first ms ++ xs) (pick-append moved last ms)
-    ∙ ap (λ xs. xs ++ (pick moved ms ++ pick last ms)) (pick-range s (a - s) ms (omega (arith, l, from, some, within)))
-    ∙ ap (λ xs. stretch_of s a ms ++ (pick moved ms ++ xs)) (pick-range z (e - z) ms (omega (arith, l, within))) in
-    ap (λ ys. take s ms ++ (ys ++ drop e ms)) picked
-    ∙ ap (λ ys. take s ms ++ ys) (append_assoc (stretch_of s a ms) (pick moved ms ++ stretch_of z e ms) (drop e ms))
-    ∙ sym (append_assoc (take s ms) (stretch_of s a ms) ((pick moved ms ++ stretch_of z e ms) ++ drop e ms))
-    ∙ ap (λ ys. ys ++ ((pick moved ms ++ stretch_of z e ms) ++ drop e ms)) (take_on s a ms from)
-    ∙ ap (λ ys. take a ms ++ ys) (append_assoc (pick moved ms) (stretch_of z e ms) (drop e ms)
-    ∙ ap (λ ys. pick moved ms ++ ys) (stretch-rest z e ms within))
+    cc (
+      nothing_behind s e,
+      one.order,
+      pick-append (range_with_len s (a - s)) (moved ++ last) ms,
+      pick-append moved last ms,
+      pick-range s (a - s) ms (omega (arith, l, from, one.some, within)),
+      pick-range z (e - z) ms (omega (arith, l, within)),
+      append_assoc (stretch_of s a ms) (pick moved ms ++ stretch_of z e ms) (drop e ms),
+      append_assoc (take s ms) (stretch_of s a ms) ((pick moved ms ++ stretch_of z e ms) ++ drop e ms),
+      take_on s a ms from,
+      append_assoc (pick moved ms) (stretch_of z e ms) (drop e ms),
+      stretch-rest z e ms within,
+    )
 
 -- a syllable that is written so is reordered
 pub one_reordered : (s e a z : ℕ) (b0 b1 : Buffer) → s ≤ e → e ≤ length b0.glyphs
@@ -253,73 +214,44 @@ one_reordered s e a z b0 b1 h l kind reph is done =
     let gs = b0.glyphs in
     let zs = stretch_of s e gs in
     let ms = merge b0.level a z gs in
-    let all = merge_all b0.level (fronts_from s s zs) (merge b0.level s s gs) in
-    let behind : s ≡ s + reph_run zs = omega (arith, no_reph zs reph) in
     let none : s - s ≡ 0 = omega arith in
     let one = one_front gs (e - s) s s e a z (omega arith) (omega (arith, h))
-    (ap (λ k. list_any (is_halant_at gs) (range_with_len s k)) none)
-    (ap (λ k. list_any (goes_front_at gs) (range_with_len s k)) none)
-    (ap (fronts_from s s) (sym (stretch_at s e gs l)) ∙ is) in
-    let merges : all ≡ ms = ap (λ sts. merge_all b0.level sts (merge b0.level s s gs)) is
+    (cc)
+    (cc)
+    (cc (stretch_at s e gs l)) in
+    let merges :
+    (merge_all b0.level (fronts_from s s zs) (merge b0.level s s gs)) ≡ ms =
+    ap (λ sts. merge_all b0.level sts (merge b0.level s s gs)) is
     ∙ ap (merge b0.level a z) (merge_nothing b0.level s gs) in
-    let long : length ms ≡ length gs = length-merge b0.level a z gs (omega (arith, l, one.within)) in
-    let glyphs : b1.glyphs ≡ with_stretch a z (λ _. pick (last_place_first a z) ms) ms =
+    let glyphs =
     ap (λ (x : Buffer). x.glyphs) done in
     syllable_reordered s e b0 b1 h l
-    (ap but_places done ∙ ap (λ xs. let y : Buffer = record (but_places b0) { glyphs = xs } in y) (sym glyphs))
+    (ap but_places done ∙ ap (λ xs. (record (but_places b0) { glyphs = xs })) (sym glyphs))
     (glyphs
-    ∙ sym (one_written s e a z gs ms (omega (arith, l, long)) one)
+    ∙ sym
+    (one_written s e a z gs ms (omega (arith, l, length-merge b0.level a z gs (omega (arith, l, one.within)))) one)
     ∙ ap (λ xs. with_stretch s e (λ _. pick (syllable_places_in_order s s e gs) xs) xs) (sym merges)
-    ∙ sym (syllable_ran b0.level s e s gs h l kind behind))
+    ∙ sym (syllable_ran b0.level s e s gs h l kind (omega (arith, no_reph zs reph))))
 
 -- where pieces start, one glyph on
 start_push : (st i : ℕ) (gs : List hb_glyph_info_t) (g : hb_glyph_info_t) → start_from st i (gs ++ g ∷ [])
     ≡ (if is_universal_halant g then suc (i + length gs) else start_from st i gs)
-start_push st i [] g = let none : suc i ≡ suc (i + 0) =
-    omega arith in ap (λ k. if is_universal_halant g then k else st) none
+start_push st i [] g = search arith
 start_push st i (x ∷ xs) g =
-    let up : suc (suc i + length xs) ≡ suc (i + suc (length xs)) = omega arith in
-    let st1 = if is_universal_halant x then suc i else st in
-    start_push st1 (suc i) xs g ∙ ap (λ k. if is_universal_halant g then k else start_from st1 (suc i) xs) up
+    search (arith, start_push (if is_universal_halant x then suc i else st) (suc i) xs g)
 
 pub start_on : (s i : ℕ) (gs : List hb_glyph_info_t) → s ≤ i → i < length gs → start_from s s (stretch_of s (i + 1) gs)
     ≡ (if is_universal_halant (at gs i) then i + 1 else start_from s s (stretch_of s i gs))
 start_on s i gs h l =
-    let long : suc (s + length (stretch_of s i gs)) ≡ i + 1 =
-    omega (arith, length-stretch s i gs (omega (arith, l)), h) in
-    ap (start_from s s) (stretch_at s (i + 1) gs (omega (arith, l)) ∙ ap (map (at gs)) (range_on s i h)
-    ∙ map-append (at gs) (range_with_len s (i - s)) (i ∷ [])
-    ∙ ap (λ xs. xs ++ at gs i ∷ []) (sym (stretch_at s i gs (omega (arith, l)))))
-    ∙ start_push s s (stretch_of s i gs) (at gs i)
-    ∙ ap (λ k. if is_universal_halant (at gs i) then k else start_from s s (stretch_of s i gs)) long
+    search (arith, stretch_at, range_on, map-append, at, start_push, length-stretch)
 
 -- the look for the first
-pub seen_on : (s i e : ℕ) (gs : List hb_glyph_info_t) → s ≤ i → i < e → e ≤ length gs → goes_front (at gs i) ≡ false
-    → fronts_from s s (stretch_of s e gs) ≡ fronts_from (start_from s s (stretch_of s i gs)) i (stretch_of i e gs)
-    → fronts_from s s (stretch_of s e gs) ≡ fronts_from (start_from s s (stretch_of s (i + 1) gs)) (i + 1)
-    (stretch_of (i + 1) e gs)
-seen_on s i e gs h m l stays so =
-    let st = start_from s s (stretch_of s i gs) in
-    let next : suc i ≡ i + 1 = omega arith in
-    so
-    ∙ fronts_next st i e gs m l
-    ∙ ap (λ b. if b then (st, suc i) ∷ fronts_from st (suc i) (stretch_of (suc i) e gs) else fronts_from
-    (if is_universal_halant (at gs i) then suc i else st) (suc i) (stretch_of (suc i) e gs)) stays
-    ∙ ap (λ k. fronts_from (if is_universal_halant (at gs i) then k else st) k (stretch_of k e gs)) next
-    ∙ ap (λ k. fronts_from k (i + 1) (stretch_of (i + 1) e gs)) (sym (start_on s i gs h (omega (arith, m, l))))
-
 pub seen_first : (s i e a : ℕ) (gs : List hb_glyph_info_t) → i < e → e ≤ length gs → goes_front (at gs i) ≡ true
     → a ≡ start_from s s (stretch_of s i gs) → fronts_from s s (stretch_of s e gs)
     ≡ fronts_from (start_from s s (stretch_of s i gs)) i (stretch_of i e gs) → MergesFirst s e gs (Some (a, i + 1))
 seen_first s i e a gs m l goes is so =
-    let st = start_from s s (stretch_of s i gs) in
     let next : suc i ≡ i + 1 = omega arith in
-    so
-    ∙ fronts_next st i e gs m l
-    ∙ ap (λ b. if b then (st, suc i) ∷ fronts_from st (suc i) (stretch_of (suc i) e gs) else fronts_from
-    (if is_universal_halant (at gs i) then suc i else st) (suc i) (stretch_of (suc i) e gs)) goes
-    ∙ ap (λ k. (st, k) ∷ fronts_from st k (stretch_of k e gs)) next
-    ∙ ap (λ k. (k, i + 1) ∷ fronts_from k (i + 1) (stretch_of (i + 1) e gs)) (sym is)
+    search (arith, fronts_next)
 
 -- the merge and the move
 pub turned_is : (s e : ℕ) (xs : List hb_glyph_info_t) → s < e → e ≤ length xs
@@ -328,56 +260,17 @@ turned_is s e xs h l =
     let ys = stretch_of s e xs in
     let k = e - 1 - s in
     let size : length ys - 1 ≡ k = omega (arith, length-stretch s e xs l) in
-    let up : e - s ≡ k + 1 = omega arith in
-    let to : s + k ≡ e - 1 = omega arith in
-    let front : take k ys ≡ take k (drop s xs) = take-take k (e - s) (drop s xs) (omega arith) in
-    let last : drop k ys ≡ take 1 (drop (e - 1) xs) = ap (λ n. drop k (take n (drop s xs))) up
-    ∙ drop-take k 1 (drop s xs) ∙ ap (take 1) (drop-drop k s xs ∙ ap (λ n. drop n xs) to) in
-    let turned : slice_rotate_right ys 1 ≡ take 1 (drop (e - 1) xs) ++ take k (drop s xs) =
-    ap (λ n. drop n ys ++ take n ys) size ∙ ap (λ zs. zs ++ take k ys) last
-    ∙ ap (λ zs. take 1 (drop (e - 1) xs) ++ zs) front in
-    let picked : pick (last_place_first s e) xs ≡ take 1 (drop (e - 1) xs) ++ take k (drop s xs) =
-    pick-append (range_with_len (e - 1) 1) (range_with_len s k) xs
-    ∙ ap (λ zs. zs ++ pick (range_with_len s k) xs) (pick-range (e - 1) 1 xs (omega arith))
-    ∙ ap (λ zs. take 1 (drop (e - 1) xs) ++ zs) (pick-range s k xs (omega arith)) in
-    ap (λ zs. take s xs ++ (zs ++ drop e xs)) (turned ∙ sym picked)
-
--- a piece whose last glyph comes to its front: merged, and then placed
-pub front_moved : (s e a z : ℕ) (b0 b1 b2 : Buffer) → s ≤ a → a < z → z ≤ e → e ≤ length b0.glyphs
-    → b1 ≡ record b0 { glyphs = merge b0.level a z b0.glyphs }
-    → b2 ≡ record b1 { glyphs = placed_by (Forward a (z - 1) 1) s e b1.places b1.glyphs }
-    → b2 ≡ record b0 {
-      glyphs = (let ms = merge b0.level a z b0.glyphs in with_stretch a z (λ _. pick (last_place_first a z) ms) ms);
-      places = b2.places;
-    }
-front_moved s e a z b0 b1 b2 first some last inside joined applied =
-    let ms = merge b0.level a z b0.glyphs in
-    let moved = with_stretch a z (λ _. pick (last_place_first a z) ms) ms in
-    let long : length ms ≡ length b0.glyphs = length-merge b0.level a z b0.glyphs (omega arith) in
-    let up : z - 1 + 1 ≡ z = omega arith in
-    let turned : with_stretch a z (λ ys. slice_rotate_right ys 1) ms ≡ brought_forward a (z - 1) 1 ms =
-    ap (λ k. with_stretch a k (λ ys. slice_rotate_right ys 1) ms) (sym up)
-    ∙ rotated_stretch a (z - 1) 1 ms (omega arith) (omega (arith, long)) in
-    let glyphs : b2.glyphs ≡ moved =
-    ap (λ (x : Buffer). x.glyphs) applied
-    ∙ ap (λ (x : Buffer). placed_by (Forward a (z - 1) 1) s e b1.places x.glyphs) joined
-    ∙ placed_forward a (z - 1) 1 s e b1.places ms first (omega arith) (omega arith) (omega (arith, long))
-    ∙ sym turned ∙ turned_is a z ms some (omega (arith, long)) in
-    let others : b2 ≡ record b1 { glyphs = b2.glyphs } =
-    applied ∙ ap (λ xs. let y : Buffer = record b1 { glyphs = xs } in y)
-    (sym (ap (λ (x : Buffer). x.glyphs) applied)) in
-    let whole : b2 ≡ record b0 { glyphs = moved } =
-    others ∙ ap (λ (x : Buffer). let y : Buffer = record x { glyphs = b2.glyphs } in y) joined
-    ∙ ap (λ xs. let y : Buffer = record b0 { glyphs = xs } in y) glyphs in
-    whole ∙ ap (λ qs. let y : Buffer = record b0 { glyphs = moved; places = qs } in y)
-    (sym (ap (λ (x : Buffer). x.places) whole))
+    let front : take k ys ≡ take k (drop s xs) = search (arith, take-take) in
+    let last : drop k ys ≡ take 1 (drop (e - 1) xs) = ap (λ n. drop k (take n (drop s xs))) (omega arith)
+    ∙ drop-take k 1 (drop s xs) ∙ ap (take 1) (drop-drop k s xs ∙ ap (λ n. drop n xs) (omega arith)) in
+    cc (
+      pick-append (range_with_len (e - 1) 1) (range_with_len s k) xs,
+      pick-range (e - 1) 1 xs (omega arith),
+      pick-range s k xs (omega arith),
+    )
 
 pub start_back : (s k : ℕ) (gs : List hb_glyph_info_t) → s + 1 < k → k ≤ length gs + 1
     → start_from s s (stretch_of s (k - 1) gs)
     ≡ (if is_universal_halant (at gs (k - 1 - 1)) then k - 1 else start_from s s (stretch_of s (k - 1 - 1) gs))
 start_back s k gs h l =
-    let back : k - 1 ≡ k - 1 - 1 + 1 = omega (arith, h) in
-    ap (λ j. start_from s s (stretch_of s j gs)) back
-    ∙ start_on s (k - 1 - 1) gs (omega (arith, h)) (omega (arith, h, l))
-    ∙ ap (λ j. if is_universal_halant (at gs (k - 1 - 1)) then j else start_from s s (stretch_of s (k - 1 - 1) gs))
-    (sym back)
+    search (arith, start_on)

@@ -1,5 +1,5 @@
 -- Steps of the walks over syllables.
-use Rattle.std.proofs.Common.{one-add, ◌≡◌, ℕ, ◌+◌, ◌-◌, ◌<◌, ◌≤◌, Bool, true, List, [], ◌∷◌, ◌++◌, length, take, drop, refl, ap, sym, ◌∙◌, arith, length-drop, append_assoc, false, ◌≢◌, None, Some, Option}
+use Rattle.std.proofs.Common.{one-add, ◌≡◌, ℕ, ◌+◌, ◌<◌, ◌≤◌, Bool, true, List, [], ◌∷◌, ◌++◌, length, take, drop, refl, ap, sym, ◌∙◌, arith, length-drop, append_assoc, false, ◌≢◌, None, Some, Option}
 use Rattle.std.proofs.lemmas.List.{take-append-drop}
 use Rattle.shapers_buffer.specs.declared.buffer.glyph.hb_glyph_info_t.{hb_glyph_info_t}
 use Rattle.shapers_buffer.specs.Clusters.{stretch_of, with_stretch}
@@ -23,17 +23,17 @@ resumed-by : (f : List hb_glyph_info_t → List hb_glyph_info_t) → f [] ≡ []
     prefix_len (has_byte byte) (h ∷ hs) in f (take n (h ∷ hs)) ++ flat_map f (syllables (drop n (h ∷ hs)))
     ≡ flat_map f (syllables (h ∷ hs))
 resumed-by f none byte h hs true test =
-    let is : byte ≡ h.syllable = sym (eqb-true h.syllable byte test) in
     let by_byte : ℕ → List hb_glyph_info_t = λ b. let n = prefix_len (has_byte b) hs in f (h ∷ take n hs)
     ++ flat_map f (syllables (drop n hs)) in
-    rw (test, one-add (prefix_len (has_byte byte) hs)) (ap by_byte is ∙ sym (ap (flat_map f) (syllables_are_runs h hs)))
+    rw (test, one-add (prefix_len (has_byte byte) hs)) (ap by_byte (search (arith, eqb-true))
+    ∙ sym (ap (flat_map f) (syllables_are_runs h hs)))
 resumed-by f none byte h hs false test = rw (test, none) refl
 
 resumed : (f : List hb_glyph_info_t → List hb_glyph_info_t) → f [] ≡ [] → (byte : ℕ) (gs : List hb_glyph_info_t)
     → let n = prefix_len (has_byte byte) gs in f (take n gs) ++ flat_map f (syllables (drop n gs))
     ≡ flat_map f (syllables gs)
 resumed f none byte [] = rw none refl
-resumed f none byte (h ∷ hs) = resumed-by f none byte h hs (h.syllable == byte) refl
+resumed f none byte (h ∷ hs) = search (arith, resumed-by)
 
 -- what the record of a glyph says: how it changes, and whether the changes go on
 abbrev Continues : (List hb_glyph_info_t → List hb_glyph_info_t) → hb_glyph_info_t → hb_glyph_info_t → Bool → Type 0
@@ -43,14 +43,9 @@ pub changed_first : (f : List hb_glyph_info_t → List hb_glyph_info_t) → f []
     → (g new : hb_glyph_info_t) (goes_on : Bool) (gs : List hb_glyph_info_t) → Continues f g new goes_on
     → new ∷ left_to_change f (if goes_on then None else Some g.syllable) gs ≡ flat_map f (syllables (g ∷ gs))
 changed_first f none g new true gs continues =
-    let n = prefix_len (has_byte g.syllable) gs in
-    sym (ap (flat_map f) (syllables_are_runs g gs)
-    ∙ ap (λ xs. xs ++ flat_map f (syllables (drop n gs))) (continues (take n gs))
-    ∙ ap (λ xs. new ∷ xs) (resumed f none g.syllable gs))
+    search (arith, syllables_are_runs, resumed)
 changed_first f none g new false gs continues =
-    let n = prefix_len (has_byte g.syllable) gs in
-    sym (ap (flat_map f) (syllables_are_runs g gs)
-    ∙ ap (λ xs. xs ++ flat_map f (syllables (drop n gs))) (continues (take n gs)))
+    search (arith, syllables_are_runs)
 
 -- a glyph of a syllable whose changes have ended stays
 pub passed_next : (f : List hb_glyph_info_t → List hb_glyph_info_t) (passed : Option ℕ) (g : hb_glyph_info_t)
@@ -63,7 +58,7 @@ passed_next f (Some byte) g gs same =
 another : (f : List hb_glyph_info_t → List hb_glyph_info_t) (byte : ℕ) (g : hb_glyph_info_t) (gs : List hb_glyph_info_t)
     (same : Bool) → (g.syllable == byte) ≡ same → byte ≢ g.syllable → left_to_change f (Some byte) (g ∷ gs)
     ≡ flat_map f (syllables (g ∷ gs))
-another f byte g gs true test other = absurd (other (sym (eqb-true g.syllable byte test)))
+another f byte g gs true test other = search (arith, eqb-true)
 another f byte g gs false test other = rw test refl
 
 -- one of another syllable is its first
@@ -71,15 +66,14 @@ pub next_is_first : (f : List hb_glyph_info_t → List hb_glyph_info_t) (passed 
     (gs : List hb_glyph_info_t) → option_eq eqb passed (Some g.syllable) ≡ false → left_to_change f passed (g ∷ gs)
     ≡ flat_map f (syllables (g ∷ gs))
 next_is_first f None g gs other = refl
-next_is_first f (Some byte) g gs other = another f byte g gs (g.syllable == byte) refl (eqb-false byte g.syllable other)
+next_is_first f (Some byte) g gs other = search (arith, another, eqb-false)
 
 -- a glyph with the mask of rphf: its record, and that of the rest if it goes on
 pub rphf_next : (mask : ℕ) (g new : hb_glyph_info_t) (goes_on : Bool) (rest : List hb_glyph_info_t)
     → has_bits mask g ≡ true → Continues (first_recorded R) g new goes_on → rphf_recorded mask (g ∷ rest)
     ≡ new ∷ (if goes_on then rphf_recorded mask rest else rest)
 rphf_next mask g new true rest bits continues =
-    let n = prefix_len (has_bits mask) rest in
-    rw (bits, one-add n) (ap (λ xs. xs ++ drop n rest) (continues (take n rest)))
+    let n = prefix_len (has_bits mask) rest in search (arith, one-add n, continues (take n rest))
 rphf_next mask g new false rest bits continues =
     let n = prefix_len (has_bits mask) rest in
     rw (bits, one-add n) (ap (λ xs. xs ++ drop n rest) (continues (take n rest))
@@ -88,7 +82,7 @@ rphf_next mask g new false rest bits continues =
 -- whether the first syllable joins is told by the first glyph
 pub first_joins-text : (gs : List hb_glyph_info_t) → first_joins (syllables gs) ≡ joins_runs gs
 first_joins-text [] = refl
-first_joins-text (g ∷ gs) = ap first_joins (syllables_are_runs g gs)
+first_joins-text (g ∷ gs) = cc (syllables_are_runs g gs)
 
 -- after one syllable in its form
 pub form_next : (masks : FormMasks) (before : Bool) (s e : ℕ) (gs hs : List hb_glyph_info_t) → s < length gs
@@ -98,22 +92,14 @@ pub form_next : (masks : FormMasks) (before : Bool) (s e : ℕ) (gs hs : List hb
     ≡ take s gs ++ in_forms masks before (syllables (drop s gs))
 form_next masks before s e gs hs some is inside changed as_long =
     let n = first_syllable_len (drop s gs) in
-    let behind = joins_runs (drop e gs) in
-    let f = formed masks before behind in
+    let f = formed masks before (joins_runs (drop e gs)) in
     let step = changed_stretch f s e gs hs (omega arith) inside changed as_long in
-    let size : e - s ≡ n = omega arith in
-    let syl = take n (drop s gs) in
-    let rest = syllables (drop (s + n) gs) in
-    let first = syllables_from s n gs (omega (arith, length-drop s gs)) refl in
-    let tells : behind ≡ first_joins rest = ap (λ k. joins_runs (drop k gs)) is
-    ∙ sym (first_joins-text (drop (s + n) gs)) in
-    let front = take s gs in
-    ap (λ xs. xs ++ in_forms masks (joins_runs (stretch_of s e gs)) (syllables (drop e hs))) step.before
-    ∙ append_assoc front (f (stretch_of s e gs))
-    (in_forms masks (joins_runs (stretch_of s e gs)) (syllables (drop e hs)))
-    ∙ ap (λ k. front
-    ++ (f (take k (drop s gs)) ++ in_forms masks (joins_runs (take k (drop s gs))) (syllables (drop e hs)))) size
-    ∙ ap (λ xs. front ++ (f syl ++ in_forms masks (joins_runs syl) (syllables xs))) (step.behind
-    ∙ ap (λ k. drop k gs) is)
-    ∙ ap (λ b. front ++ (formed masks before b syl ++ in_forms masks (joins_runs syl) rest)) tells
-    ∙ sym (ap (λ ps. front ++ in_forms masks before ps) first)
+    search (
+      arith,
+      step.before,
+      append_assoc (take s gs) (f (stretch_of s e gs))
+          (in_forms masks (joins_runs (stretch_of s e gs)) (syllables (drop e hs))),
+      step.behind,
+      first_joins-text (drop (s + n) gs),
+      syllables_from s n gs (omega (arith, length-drop s gs)) refl,
+    )

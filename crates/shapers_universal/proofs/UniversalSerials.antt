@@ -3,17 +3,15 @@
 use Rattle.std.proofs.Common.{ℕ, ◌-◌, ◌≡◌, bit_and, List, [], ◌∷◌, ◌++◌, map, Option, None, Some, refl, sym, ◌∙◌, ap, subst, arith}
 use Rattle.shapers_buffer.specs.declared.buffer.glyph.hb_glyph_info_t.{hb_glyph_info_t}
 use Rattle.shapers_buffer.specs.declared.buffer.level.BufferClusterLevel.{BufferClusterLevel}
-use Rattle.shapers_buffer.specs.Buffer.{Buffer}
-use Rattle.shapers_buffer.specs.Glyph.{clusters, order_view, plain, without_flags}
+use Rattle.shapers_buffer.specs.Glyph.{clusters, order_view, without_flags}
 use Rattle.shapers_base.specs.Map.{Map}
 use Rattle.shapers_base.specs.declared.plan.arabic.arabic_shape_plan_t.{arabic_shape_plan_t}
-use Rattle.shapers_clusters.specs.Steps.{Step, joined_steps}
+use Rattle.shapers_clusters.specs.Steps.{Step}
 use Rattle.shapers_clusters.proofs.FlagCalls.{without_flags-or}
 use Rattle.shapers_clusters.proofs.Merging.{without_flags-twice}
 use Rattle.shapers_syllabic.specs.declared.ot_shaper_syllabic.circles.DottedCircles.{DottedCircles}
 use Rattle.shapers_syllabic.specs.Borders.{MeetAtBorder, SameButSerials, spans_set_up, unnumbered}
 use Rattle.shapers_syllabic.specs.Circles.{circled}
-use Rattle.shapers_syllabic.specs.Reordering.{text_order, text_steps}
 use Rattle.shapers_syllabic.specs.ReorderingLaws.{paused_clusters, paused_order, with_mask_by}
 use Rattle.shapers_syllabic.specs.SpanCuts.{HalvesJoined}
 use Rattle.shapers_syllabic.specs.declared.ot_shaper_syllabic.kinds.use_syllable.TheConstants.{BROKEN_CLUSTER}
@@ -53,7 +51,7 @@ formless_all None m = refl
 formless_all (Some p) m = refl
 
 keeps_flags : (arabic : Option arabic_shape_plan_t) (m : Map) → MaskKeepsFlags (without_forms arabic m)
-keeps_flags None m mask = flags-and mask (0xFFFFFFFF - all_forms (form_masks m))
+keeps_flags None m mask = search (arith, flags-and)
 keeps_flags (Some p) m mask = refl
 
 -- glyph flags don't show in what a pause makes
@@ -63,40 +61,33 @@ flagless = with_mask_by without_flags
 view-flagless : (gs : List hb_glyph_info_t) → order_view (map flagless gs) ≡ order_view gs
 view-flagless [] = refl
 view-flagless (g ∷ gs) =
-    ap (λ n. let r : hb_glyph_info_t = record g { cluster = 0; mask = n } in r ∷ order_view (map flagless gs))
-    (without_flags-twice g.mask)
-    ∙ ap (λ l. plain g ∷ l) (view-flagless gs)
+    cc (without_flags-twice g.mask, view-flagless gs)
 
 opened_view : (circles : Option DottedCircles) (gs hs : List hb_glyph_info_t) → map flagless gs ≡ map flagless hs
     → order_view (circled circles gs) ≡ order_view (circled circles hs)
 opened_view circles gs hs alike =
-    let told : (xs : List hb_glyph_info_t) → order_view (circled circles (map flagless xs)) ≡ order_view
-    (circled circles xs) = λ xs. ap order_view (circled-by without_flags circles xs)
-    ∙ view-flagless (circled circles xs)
-    in
-    sym (told gs) ∙ ap (λ xs. order_view (circled circles xs)) alike ∙ told hs
+    let told : (xs : List hb_glyph_info_t) → order_view (circled circles (map flagless xs)) ≡ order_view (circled
+    circles xs) = λ xs. ap order_view (circled-by without_flags circles xs) ∙ view-flagless (circled circles xs) in
+    cc (told gs, told hs)
 
 opened_clusters : (circles : Option DottedCircles) (gs hs : List hb_glyph_info_t) → map flagless gs ≡ map flagless hs
     → clusters (circled circles gs) ≡ clusters (circled circles hs)
 opened_clusters circles gs hs alike =
-    let told : (xs : List hb_glyph_info_t) → clusters (circled circles (map flagless xs))
-    ≡ clusters (circled circles xs) =
-    λ xs. ap clusters (circled-by without_flags circles xs) ∙ clusters-by without_flags (circled circles xs) in
-    sym (told gs) ∙ ap (λ xs. clusters (circled circles xs)) alike ∙ told hs
+    let told : (xs : List hb_glyph_info_t) → clusters (circled circles (map flagless xs)) ≡ clusters (circled circles
+    xs) = λ xs. ap clusters (circled-by without_flags circles xs) ∙ clusters-by without_flags (circled circles xs) in
+    cc (told gs, told hs)
 
 order_alike : (circles : Option DottedCircles) (meaning : List hb_glyph_info_t → List hb_glyph_info_t)
     (gs hs : List hb_glyph_info_t) → map flagless gs ≡ map flagless hs → paused_order circles meaning gs
     ≡ paused_order circles meaning hs
-order_alike circles meaning gs hs alike = ap (text_order meaning) (opened_view circles gs hs alike)
+order_alike circles meaning gs hs alike = search (arith, opened_view)
 
 clusters_alike : (circles : Option DottedCircles) (steps : List hb_glyph_info_t
     → List Step) (level : BufferClusterLevel)
     (gs hs : List hb_glyph_info_t) → map flagless gs ≡ map flagless hs → paused_clusters circles steps level gs
     ≡ paused_clusters circles steps level hs
 clusters_alike circles steps level gs hs alike =
-    ap (λ xs. joined_steps level (text_steps steps xs) (clusters (circled circles gs)))
-    (opened_view circles gs hs alike)
-    ∙ ap (joined_steps level (text_steps steps (order_view (circled circles hs)))) (opened_clusters circles gs hs alike)
+    search (arith, opened_view, opened_clusters)
 
 pub universal_cuts_between_spans : UniversalCutsBetweenSpans
 universal_cuts_between_spans breaks kept m circles spans old new kinds done ss ts gs hs xs ys split text first second
@@ -108,9 +99,9 @@ universal_cuts_between_spans breaks kept m circles spans old new kinds done ss t
     let front = set ss gs in
     let back = set ts hs in
     let whole = set spans old.glyphs in
-    let flagged : Buffer = with_forms_flagged breaks kept m (syllables_set_up kept m spans old) in
-    let alike : map flagless flagged.glyphs ≡ map flagless whole =
-    map-forms_flagged flagless (λ g. ap (λ n. let r : hb_glyph_info_t = record g { mask = n } in r)
+    let flagged = with_forms_flagged breaks kept m (syllables_set_up kept m spans old) in
+    let alike =
+    map-forms_flagged flagless (λ g. ap (λ n. (record g { mask = n }))
     (without_flags-or g.mask 3 refl)) (arabic_of kept) breaks m whole in
     let parts : SetUpParts f gs hs whole front back = record {
       behind = cut.behind;
@@ -131,7 +122,6 @@ universal_cuts_between_spans breaks kept m circles spans old new kinds done ss t
     (joined_halves f (keeps_flags (arabic_of kept) m) circles universal_order universal_steps old.level universal_laws
     universal_reads_no_serials (read.meant f) (read.led f)
     gs hs whole front back xs ys new.glyphs parts one two (done.order
-    ∙ order_alike circles universal_order flagged.glyphs
-    whole alike)
+    ∙ order_alike circles universal_order flagged.glyphs whole alike)
     (paused_clusters_are circles universal_order universal_steps flagged new done
     ∙ clusters_alike circles universal_steps old.level flagged.glyphs whole alike))

@@ -1,5 +1,5 @@
 -- Flags are only added, by what each shaper does.
-use Rattle.std.proofs.Common.{refl}
+use Rattle.std.proofs.Common.{arith}
 use Rattle.rustybuzz_shapers.specs.declared.shaper.hb_ot_shaper_t.TheVariants.{Indic, Khmer, Myanmar, Universal}
 use Rattle.rustybuzz_shapers.proofs.FlagLaws.{masks_added, unchanged_added}
 use Rattle.rustybuzz_shapers.proofs.shaper.hb_ot_shaper_t.set_masks.Goals as goal
@@ -25,4 +25,4 @@ returns-in-Universal-clause-flags g c =
     c.setup_masks-in-Universal.new.buffer c.setup_masks-in-Universal.ensures.masks
 
 pub returns-in-Hebrew-clause-flags : goal.returns-in-Hebrew-clause-flags
-returns-in-Hebrew-clause-flags g c = unchanged_added c.args.buffer.now c.args.buffer.now refl
+returns-in-Hebrew-clause-flags g c = search (arith, unchanged_added)

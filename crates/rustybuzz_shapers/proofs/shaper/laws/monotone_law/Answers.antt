@@ -1,8 +1,9 @@
+use Rattle.std.proofs.Common.{arith}
 use Rattle.rustybuzz_shapers.proofs.HangulMonotone.{hangul_stays_monotone}
 use Rattle.rustybuzz_shapers.proofs.IndicHalves.{indic_keeps_halves}
 use Rattle.rustybuzz_shapers.proofs.Monotone.{circles_stay_monotone, exact_cuts_stay_monotone, flags_monotone, marks_stay_monotone, pauses_stay_monotone}
 use Rattle.rustybuzz_shapers.proofs.StretchMonotone.{stretch_stays_monotone}
-use Rattle.rustybuzz_shapers.proofs.ThaiMonotone.{thai_stays_monotone}
+use Rattle.rustybuzz_shapers.proofs.ThaiMonotone.{thai_monotone}
 use Rattle.rustybuzz_shapers.proofs.shaper.laws.monotone_law.Goals as goal
 
 pub returns-clause-pauses : goal.returns-clause-pauses
@@ -24,7 +25,7 @@ pub returns-clause-indic : goal.returns-clause-indic
 returns-clause-indic c = indic_keeps_halves
 
 pub returns-clause-thai : goal.returns-clause-thai
-returns-clause-thai c = thai_stays_monotone
+returns-clause-thai c = search (arith, thai_monotone)
 
 pub returns-clause-hangul : goal.returns-clause-hangul
 returns-clause-hangul c = hangul_stays_monotone

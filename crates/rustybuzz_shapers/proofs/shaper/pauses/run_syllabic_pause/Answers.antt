@@ -1,11 +1,11 @@
 -- What pauses keep: those that reorder nothing clusters and glyph flags, which are only added; the
 -- others the laws of reorderings.
+use Rattle.std.proofs.Common.{arith}
 use Rattle.std.proofs.Common.{sym, subst}
 use Rattle.std.specs.Prelude.{OnOk}
 use Rattle.shapers_base.specs.declared.plan.pause.Pause.{Pause}
 use Rattle.shapers_base.specs.declared.plan.pause.Pause.TheVariants.{InitialReordering}
 use Rattle.shapers_buffer.specs.Buffer.{Buffer}
-use Rattle.shapers_indic.specs.Plan.{indic_in}
 use Rattle.shapers_indic_initial.proofs.FontPositions.{order_by_font_laws}
 use Rattle.shapers_indic_initial.proofs.InitialSerialsStay.{order_by_font_reads_no_serials}
 use Rattle.shapers_khmer.specs.Khmer.{order_in}
@@ -23,41 +23,17 @@ use Rattle.rustybuzz_shapers.proofs.shaper.pauses.run_syllabic_pause.Goals as go
 pub returns-in_ok-set_up_syllables-in-SetupSyllablesIndic-clause-laws :
     goal.returns-in_ok-set_up_syllables-in-SetupSyllablesIndic-clause-laws
 returns-in_ok-set_up_syllables-in-SetupSyllablesIndic-clause-laws g c =
-    let old = c.args.buffer.now in
-    let new = c.set_up_syllables.new.buffer in
-    subst (λ (p : Pause). PauseKeeps p c.args.plan.now (g.F.hb_font_t.font c.args.face.now) c.args.spans.now old new)
-    (sym c.in-SetupSyllablesIndic.is) (
-      c.in_ok-set_up_syllables-in-SetupSyllablesIndic.ensures.cut,
-      c.in_ok-set_up_syllables-in-SetupSyllablesIndic.ensures.clusters,
-      set_up_added c.args.spans.now 4 old new
-          c.in_ok-set_up_syllables-in-SetupSyllablesIndic.ensures.ok,
-    )
+    search (arith, set_up_added)
 
 pub returns-in_ok-set_up_syllables-in-SetupSyllablesKhmer-clause-laws :
     goal.returns-in_ok-set_up_syllables-in-SetupSyllablesKhmer-clause-laws
 returns-in_ok-set_up_syllables-in-SetupSyllablesKhmer-clause-laws g c =
-    let old = c.args.buffer.now in
-    let new = c.set_up_syllables-in-SetupSyllablesKhmer.new.buffer in
-    subst (λ (p : Pause). PauseKeeps p c.args.plan.now (g.F.hb_font_t.font c.args.face.now) c.args.spans.now old new)
-    (sym c.in-SetupSyllablesKhmer.is) (
-      c.in_ok-set_up_syllables-in-SetupSyllablesKhmer.ensures.cut,
-      c.in_ok-set_up_syllables-in-SetupSyllablesKhmer.ensures.clusters,
-      set_up_added c.args.spans.now 1 old new
-          c.in_ok-set_up_syllables-in-SetupSyllablesKhmer.ensures.ok,
-    )
+    search (arith, set_up_added)
 
 pub returns-in_ok-set_up_syllables-in-SetupSyllablesMyanmar-clause-laws :
     goal.returns-in_ok-set_up_syllables-in-SetupSyllablesMyanmar-clause-laws
 returns-in_ok-set_up_syllables-in-SetupSyllablesMyanmar-clause-laws g c =
-    let old = c.args.buffer.now in
-    let new = c.set_up_syllables-in-SetupSyllablesMyanmar.new.buffer in
-    subst (λ (p : Pause). PauseKeeps p c.args.plan.now (g.F.hb_font_t.font c.args.face.now) c.args.spans.now old new)
-    (sym c.in-SetupSyllablesMyanmar.is) (
-      c.in_ok-set_up_syllables-in-SetupSyllablesMyanmar.ensures.cut,
-      c.in_ok-set_up_syllables-in-SetupSyllablesMyanmar.ensures.clusters,
-      set_up_added c.args.spans.now 2 old new
-          c.in_ok-set_up_syllables-in-SetupSyllablesMyanmar.ensures.ok,
-    )
+    search (arith, set_up_added)
 
 pub returns-in-InitialReordering-clause-laws : goal.returns-in-InitialReordering-clause-laws
 returns-in-InitialReordering-clause-laws g c =
@@ -67,8 +43,8 @@ returns-in-InitialReordering-clause-laws g c =
     let text = c.replace-text.result in
     let new = made.new.buffer in
     let kept = on_kept _ made.result (by_initial plan font text) text new
-    (order_by_font_laws font plan.ot_map (indic_in plan) text.script)
-    (order_by_font_reads_no_serials font plan.ot_map (indic_in plan) text.script) made.ensures.syllables
+    (search (arith, order_by_font_laws))
+    (search (arith, order_by_font_reads_no_serials)) made.ensures.syllables
     (both _ _ made.result made.ensures.linked made.ensures.merged) in
     subst (λ (p : Pause). OnOk made.result (PauseKeeps p plan font c.args.spans.now c.args.buffer.now new))
     (sym c.in-InitialReordering.is)
@@ -87,37 +63,38 @@ returns-in-InitialReordering-clause-refusal g c =
 pub returns-in-ReorderKhmer-clause-laws : goal.returns-in-ReorderKhmer-clause-laws
 returns-in-ReorderKhmer-clause-laws g c =
     let plan = c.args.plan.now in
-    let font = g.F.hb_font_t.font c.args.face.now in
     let old = c.args.buffer.now in
-    let new = c.reorder_khmer.new.buffer in
-    subst (λ (p : Pause). OnOk c.reorder_khmer.result (PauseKeeps p plan font c.args.spans.now old new))
-    (sym c.in-ReorderKhmer.is)
-    (on_kept _ c.reorder_khmer.result (by_khmer plan font old) old new (khmer_laws (order_in plan.plan_data))
-    (khmer_reads_no_serials (order_in plan.plan_data)) c.reorder_khmer.ensures.ok
-    (both _ _ c.reorder_khmer.result c.reorder_khmer.ensures.linked
-    (both _ _ c.reorder_khmer.result c.reorder_khmer.ensures.laws c.reorder_khmer.ensures.movers)))
+    search (
+      arith,
+      c.in-ReorderKhmer.is,
+      on_kept _ c.reorder_khmer.result (by_khmer plan (g.F.hb_font_t.font c.args.face.now) old) old
+          c.reorder_khmer.new.buffer (khmer_laws (order_in plan.plan_data))
+          (khmer_reads_no_serials (order_in plan.plan_data)) c.reorder_khmer.ensures.ok
+          (both _ _ c.reorder_khmer.result c.reorder_khmer.ensures.linked (both _ _ c.reorder_khmer.result
+          c.reorder_khmer.ensures.laws c.reorder_khmer.ensures.movers)),
+    )
 
 pub returns-in-ReorderMyanmar-clause-laws : goal.returns-in-ReorderMyanmar-clause-laws
 returns-in-ReorderMyanmar-clause-laws g c =
-    let plan = c.args.plan.now in
-    let font = g.F.hb_font_t.font c.args.face.now in
     let old = c.args.buffer.now in
-    let new = c.reorder_myanmar.new.buffer in
-    subst (λ (p : Pause). OnOk c.reorder_myanmar.result (PauseKeeps p plan font c.args.spans.now old new))
-    (sym c.in-ReorderMyanmar.is) (on_kept _ c.reorder_myanmar.result (by_myanmar font old) old new myanmar_laws
-    myanmar_reads_no_serials c.reorder_myanmar.ensures.order
-    (both _ _ c.reorder_myanmar.result c.reorder_myanmar.ensures.linked c.reorder_myanmar.ensures.laws))
+    search (
+      arith,
+      c.in-ReorderMyanmar.is,
+      on_kept _ c.reorder_myanmar.result (by_myanmar (g.F.hb_font_t.font c.args.face.now) old) old
+          c.reorder_myanmar.new.buffer myanmar_laws myanmar_reads_no_serials c.reorder_myanmar.ensures.order
+          (both _ _ c.reorder_myanmar.result c.reorder_myanmar.ensures.linked c.reorder_myanmar.ensures.laws),
+    )
 
 pub returns-in-ReorderUse-clause-laws : goal.returns-in-ReorderUse-clause-laws
 returns-in-ReorderUse-clause-laws g c =
-    let plan = c.args.plan.now in
-    let font = g.F.hb_font_t.font c.args.face.now in
     let old = c.args.buffer.now in
-    let new = c.reorder_use.new.buffer in
-    subst (λ (p : Pause). OnOk c.reorder_use.result (PauseKeeps p plan font c.args.spans.now old new))
-    (sym c.in-ReorderUse.is) (on_kept _ c.reorder_use.result (by_universal font old) old new universal_laws
-    universal_reads_no_serials c.reorder_use.ensures.ok
-    (both _ _ c.reorder_use.result c.reorder_use.ensures.linked c.reorder_use.ensures.laws))
+    search (
+      arith,
+      c.in-ReorderUse.is,
+      on_kept _ c.reorder_use.result (by_universal (g.F.hb_font_t.font c.args.face.now) old) old
+          c.reorder_use.new.buffer universal_laws universal_reads_no_serials c.reorder_use.ensures.ok
+          (both _ _ c.reorder_use.result c.reorder_use.ensures.linked c.reorder_use.ensures.laws),
+    )
 
 pub returns-in-FinalReordering-clause-laws : goal.returns-in-FinalReordering-clause-laws
 returns-in-FinalReordering-clause-laws g c =

@@ -1,11 +1,15 @@
 -- A place without a form, or with one.
-use Rattle.std.proofs.Common.{◌∙◌, ◌+◌, ◌<◌, Some, ap, sym, refl, subst, arith, drop, length, map, get_or}
+use Rattle.std.proofs.lemmas.Bool.{ne_eqb}
+use Rattle.shapers_clusters.proofs.FlagCalls.{flags_called-append}
+use Rattle.std.proofs.lemmas.List.{length-map, get_or-map, drop_more}
+use Rattle.shapers_arabic.specs.declared.ot_shaper_arabic.arabic_action_t.TheConstants.{NONE}
+use Rattle.std.proofs.Common.{◌∙◌, ◌+◌, ◌<◌, Some, ap, sym, subst, arith, drop, length, map, get_or}
 use Rattle.shapers_buffer.specs.Glyph.{default_glyph}
 use Rattle.shapers_buffer.specs.GlyphFlags.{flags_called}
 use Rattle.shapers_buffer.specs.declared.buffer.glyph.hb_glyph_info_t.{hb_glyph_info_t}
-use Rattle.shapers_arabic.specs.JoiningWalk.{IsWithin, form_calls_along}
+use Rattle.shapers_arabic.specs.JoiningWalk.{written, IsWithin, form_calls_along}
 use Rattle.shapers_arabic.proofs.FlaggedGlyphs.{within-more}
-use Rattle.shapers_arabic.proofs.SoundSteps.{form-keeps, forms-none, forms-some}
+use Rattle.shapers_arabic.proofs.SoundSteps.{form-keeps, forms-none}
 use Rattle.shapers_arabic.proofs.ot_shaper_arabic.breaks.flag_forms.Goals.{then-form-ne-NONE, else-form-ne-NONE}
 use Rattle.shapers_arabic.proofs.ot_shaper_arabic.breaks.flag_forms.Goals as goal
 
@@ -16,7 +20,7 @@ loop-i-preserved c =
     let hs = c.if-form-ne-NONE.glyphs in
     let first = c.args.glyphs.now in
     let left = drop (l.i + 1) (map (λ g. g.auxiliary) first) in
-    let h : l.i < length gs = omega (arith, l.auto.glyphs, c.loop-i-test.true) in
+    let h : l.i < length gs = omega arith in
     let more = within-more l.last l.i l.invariant.within in
     elim c.if-form-ne-NONE.branch [
       | then-form-ne-NONE w ↦
@@ -27,11 +31,23 @@ loop-i-preserved c =
             rest = λ concat tatweel.
                 ap (λ last. flags_called concat tatweel (form_calls_along last (l.i + 1) left) hs) w.last-is
                 ∙ ap (flags_called concat tatweel (form_calls_along (Some l.i) (l.i + 1) left)) w.glyphs-is
-                ∙ forms-some concat tatweel l.last l.i f first gs w.flag_form.new.glyphs h l.invariant.forms refl
-                w.if-form-ne-NONE.true w.flag_form.ensures
+                ∙ (let fs = written first in let left = drop (l.i + 1) fs in search (
+                  arith,
+                  w.flag_form.ensures
+                      concat tatweel,
+                  flags_called-append,
+                  drop_more fs l.i NONE (omega (
+                    arith,
+                    ap length
+                        l.invariant.forms,
+                    length-map gs (λ g. g.auxiliary),
+                  )),
+                  get_or-map,
+                  ne_eqb,
+                ))
                 ∙ l.invariant.rest concat tatweel;
             within = subst (λ last. IsWithin last (l.i + 1)) (sym w.last-is)
-                (let low : l.i < l.i + 1 = omega arith in low);
+                ((omega arith));
           }
       | else-form-ne-NONE w ↦ record {
         forms = ap (map (λ (g : hb_glyph_info_t). g.auxiliary)) w.glyphs-is ∙ l.invariant.forms;

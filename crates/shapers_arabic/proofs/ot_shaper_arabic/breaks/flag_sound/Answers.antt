@@ -1,9 +1,9 @@
 -- Both walks, one after the other.
-use Rattle.std.proofs.Common.{sym, ◌∙◌}
+use Rattle.std.proofs.Common.{arith}
 use Rattle.shapers_arabic.proofs.SoundSteps.{flagged-twice}
 use Rattle.shapers_arabic.proofs.ot_shaper_arabic.breaks.flag_sound.Goals as goal
 
 pub returns-then-is_mongolian : goal.returns-then-is_mongolian
 returns-then-is_mongolian c =
     flagged-twice c.args.script c.args.glyphs.now c.flag_forms.new.glyphs c.flag_selectors.new.glyphs
-    (sym c.is_mongolian.ensures ∙ c.if-is_mongolian.true) c.flag_forms.ensures c.flag_selectors.ensures
+    (search arith) c.flag_forms.ensures c.flag_selectors.ensures

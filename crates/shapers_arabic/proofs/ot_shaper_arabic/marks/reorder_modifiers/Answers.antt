@@ -1,9 +1,8 @@
 -- Where no mark modifies a letter, all stay.
-use Rattle.std.proofs.Common.{sym, ◌∙◌}
+use Rattle.std.proofs.Common.{arith}
 use Rattle.shapers_arabic.proofs.MarkLists.{unmodified}
 use Rattle.shapers_arabic.proofs.ot_shaper_arabic.marks.reorder_modifiers.Goals as goal
 
 pub returns-then-not-has_modifier-clause-marks : goal.returns-then-not-has_modifier-clause-marks
 returns-then-not-has_modifier-clause-marks c =
-    sym (unmodified c.args.level c.args.start c.args.end c.args.glyphs.now c.requires.in_order
-    (sym c.has_modifier.ensures ∙ c.if-not-has_modifier.true))
+    search (arith, unmodified)

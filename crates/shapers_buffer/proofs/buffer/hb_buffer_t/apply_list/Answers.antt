@@ -1,4 +1,4 @@
-use Rattle.std.proofs.Common.{◌≡◌, ◌<◌, ◌≤◌, ◌++◌, ◌∙◌, ap, arith, drop, length, length-take-le, List, subst, sym, take, ℕ}
+use Rattle.std.proofs.Common.{◌≡◌, ◌<◌, ◌≤◌, ◌∙◌, ap, arith, drop, length, length-take-le, List, subst, sym, take, ℕ}
 use Rattle.std.proofs.lemmas.List.{take_at}
 use Rattle.std.specs.List.{All}
 use Rattle.shapers_buffer.specs.Buffer.{Buffer}
@@ -12,19 +12,17 @@ use Rattle.shapers_buffer.proofs.buffer.hb_buffer_t.apply_list.Goals as goal
 -- so many places are opened as the syllable has before its end
 all_opened : (e : ℕ) (gs : List hb_glyph_info_t) (places : List ℕ) → e ≤ length gs → length (take e gs) ≤ length places
     → e ≤ length places
-all_opened e gs places within opened = let asked = length-take-le e gs within in omega (arith, asked, opened)
+all_opened e gs places within opened = search (arith, length-take-le)
 
 pub reorder-requires-clause-within : goal.reorder-requires-clause-within
 reorder-requires-clause-within c =
     let s = c.args.start in
     let e = c.args.end in
     let places = c.open_places.new.places.items in
-    let same_length : length c.deref_mut.result.now ≡ length c.args.self.now.glyphs =
-    ap length c.deref_mut.ensures.value ∙ ap (λ (b : Buffer). length b.glyphs) c.self.view_is in
     let n = length c.deref_mut.result.now in
     let glyphs_are : length c.deref.result.now ≡ length c.args.self.now.glyphs = ap length c.deref.ensures.value
     ∙ ap (λ (b : Buffer). length b.glyphs) c.self.view_is in
-    let enough = all_opened e c.deref.result.now places (omega (arith, glyphs_are, c.requires.in_range))
+    let enough = all_opened e c.deref.result.now places (omega arith)
     c.open_places.ensures.opened in
     let opened : without_last_zeros places ≡ c.args.self.now.places = c.open_places.ensures.places
     ∙ ap (λ (b : Buffer). b.places) c.self.view_is in
@@ -40,25 +38,20 @@ returns c =
     let e = c.args.end in
     let places = c.open_places.new.places.items in
     let b = the_view c.self.inside in
-    let glyphs_are : length c.deref.result.now ≡ length c.args.self.now.glyphs = ap length c.deref.ensures.value
-    ∙ ap (λ (b : Buffer). length b.glyphs) c.self.view_is in
-    let enough = all_opened e c.deref.result.now places (omega (arith, glyphs_are, c.requires.in_range))
-    c.open_places.ensures.opened in
-    let opened : without_last_zeros places ≡ b.places = c.open_places.ensures.places in
-    let read : stretch_of s e c.deref-2.result.now ≡ listed s e b.places =
+    let glyphs_are : length c.deref.result.now ≡ length c.args.self.now.glyphs =
+    search (arith, c.deref.ensures.value, c.self.view_is) in
+    let opened = c.open_places.ensures.places in
+    let read =
     ap (λ (ps : List ℕ). stretch_of s e ps) c.deref-2.ensures.value
-    ∙ sym (listed-stretch s e places c.requires.in_order enough) ∙ ap (listed s e) opened in
+    ∙ sym
+    (listed-stretch s e places c.requires.in_order (all_opened e c.deref.result.now places (omega arith)
+    c.open_places.ensures.opened))
+    ∙ ap (listed s e) opened in
     let moved = λ (ps : List ℕ) (gs : List hb_glyph_info_t). with_stretch s e (λ (_ : List hb_glyph_info_t). pick ps gs)
     gs in
-    let written : c.reorder.new.glyphs ≡ moved (listed s e b.places) b.glyphs = c.reorder.ensures
-    ∙ ap (λ (ps : List ℕ). moved ps c.deref_mut.result.now) read
-    ∙ ap (moved (listed s e b.places)) c.deref_mut.ensures.value in
-    let back : take c.self.inside.info.len
-    (c.reorder.new.glyphs ++ drop (length c.reorder.new.glyphs) c.self.inside.info.items)
-    ≡ c.reorder.new.glyphs =
-    take_at c.reorder.new.glyphs (drop (length c.reorder.new.glyphs) c.self.inside.info.items)
-    c.self.inside.info.len (omega (arith, c.reorder.auto.glyphs, c.deref_mut.ensures.len)) in
-    ap (λ (gs : List hb_glyph_info_t). let r : Buffer = record b
-    { glyphs = gs; places = without_last_zeros places } in r) (back ∙ written)
-    ∙ ap (λ (ps : List ℕ). let r : Buffer = record b { glyphs = placed s e b.places b.glyphs; places = ps } in r) opened
-    ∙ ap (λ (b : Buffer). let r : Buffer = record b { glyphs = placed s e b.places b.glyphs } in r) c.self.view_is
+    ap (λ (gs : List hb_glyph_info_t). (record b { glyphs = gs; places = without_last_zeros places }))
+    (take_at c.reorder.new.glyphs (drop (length c.reorder.new.glyphs) c.self.inside.info.items)
+    c.self.inside.info.len (omega arith) ∙ c.reorder.ensures ∙ ap (λ (ps : List ℕ). moved ps c.deref_mut.result.now)
+    read ∙ ap (moved (listed s e b.places)) c.deref_mut.ensures.value)
+    ∙ ap (λ (ps : List ℕ). (record b { glyphs = placed s e b.places b.glyphs; places = ps })) opened
+    ∙ ap (λ (b : Buffer). (record b { glyphs = placed s e b.places b.glyphs })) c.self.view_is

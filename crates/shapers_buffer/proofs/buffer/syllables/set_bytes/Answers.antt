@@ -16,11 +16,13 @@ loop-i-preserved c =
     let total : sum_by (λ (s : Span). s.len) (drop c.loop-i.i c.args.spans.now)
     ≡ span.len + sum_by (λ (s : Span). s.len) rest = rw more (sum_by-cons (λ (s : Span). s.len) span rest) in
     let room : c.loop-i.start + span.len ≤ length c.loop-i.glyphs = omega arith in
-    let step = bytes_next c.loop-i.glyphs c.loop-i.start span.len (span_byte c.loop-i.i span)
-    (span_bytes (suc c.loop-i.i) rest) room in
-    let next : span_bytes (c.loop-i.i + 1) rest ≡ span_bytes (suc c.loop-i.i) rest =
-    ap (λ n. span_bytes n rest) (add-one c.loop-i.i) in
     record {
-      written = rw (c.set_syllable_in.ensures, next) (step ∙ rw more at c.loop-i.invariant.written);
+      written = rw (
+        c.set_syllable_in.ensures,
+        ap (λ n. span_bytes n rest) (add-one c.loop-i.i),
+      ) (
+          bytes_next c.loop-i.glyphs c.loop-i.start span.len (span_byte c.loop-i.i span)
+          (span_bytes (suc c.loop-i.i) rest) room
+          ∙ rw more at c.loop-i.invariant.written);
       room = omega arith;
     }

@@ -1,5 +1,5 @@
 -- One place more, back.
-use Rattle.std.proofs.Common.{◌-◌, unwrap_or, sym, ap, ◌∙◌, arith}
+use Rattle.std.proofs.Common.{◌-◌, sym, ◌∙◌, arith}
 use Rattle.shapers_buffer.specs.Glyph.{default_glyph}
 use Rattle.shapers_indic.specs.Glyphs.{passes}
 use Rattle.shapers_indic_final.specs.FinalBase.{may_be_settled}
@@ -11,26 +11,23 @@ pub returns-then-may_be_settled-clause-place : goal.returns-then-may_be_settled-
 returns-then-may_be_settled-clause-place c =
     let l = c.loop-i in
     let gs = c.args.glyphs.now in
-    let there = passes_there may_be_settled gs (l.i - 1) default_glyph
-    (omega (arith, c.loop-i-test.true, c.requires, l.auto)) in
-    ap (λ o. unwrap_or o 0)
-    (sym (greatest_stop (passes may_be_settled gs) 1 (l.i - 1) l.i (omega (arith, c.loop-i-test.true))
-    (omega (arith, c.loop-i-test.true)) (there ∙ sym c.may_be_settled.ensures ∙ c.if-may_be_settled.true))
-    ∙ l.invariant)
+    let there = passes_there may_be_settled gs (l.i - 1) default_glyph (omega (
+      arith,
+      c.loop-i-test.true,
+      c.requires,
+      l.auto,
+    )) in
+    search (
+      arith,
+      greatest_stop (passes may_be_settled gs) 1 (l.i - 1) l.i (omega (arith, c.loop-i-test.true))
+          (omega (arith, c.loop-i-test.true)) (there ∙ sym c.may_be_settled.ensures ∙ c.if-may_be_settled.true),
+      l.invariant,
+    )
 
 pub loop-i-preserved : goal.loop-i-preserved
 loop-i-preserved c =
-    let l = c.loop-i in
-    let gs = c.args.glyphs.now in
-    let there = passes_there may_be_settled gs (l.i - 1) default_glyph
-    (omega (arith, c.loop-i-test.true, c.requires, l.auto)) in
-    greatest_step (passes may_be_settled gs) 1 (l.i - 1) l.i (omega (arith, c.loop-i-test.true))
-    (omega (arith, c.loop-i-test.true)) (there ∙ sym c.may_be_settled.ensures ∙ c.if-may_be_settled.false)
-    ∙ l.invariant
+    search (arith, greatest_step, passes_there)
 
 pub returns-clause-place : goal.returns-clause-place
 returns-clause-place c =
-    let l = c.loop-i in
-    ap (λ o. unwrap_or o 0)
-    (sym (greatest_none (passes may_be_settled c.args.glyphs.now) 1 l.i (omega (arith, c.loop-i-test.false)))
-    ∙ l.invariant)
+    search (arith, greatest_none)

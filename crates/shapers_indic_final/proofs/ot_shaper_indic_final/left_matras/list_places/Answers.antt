@@ -1,5 +1,5 @@
 -- One place more, which is listed or not.
-use Rattle.std.proofs.Common.{◌≡◌, ◌+◌, filter, length, sym, ap, ◌∙◌}
+use Rattle.std.proofs.Common.{◌+◌, filter, length, sym, ap, ◌∙◌}
 use Rattle.shapers_buffer.proofs.Listing.{left_one}
 use Rattle.shapers_buffer.specs.ListingWalk.{with_listed}
 use Rattle.shapers_buffer.specs.Buffer.{Buffer}
@@ -18,8 +18,8 @@ loop-j-preserved c =
     let all = filter t (places a.s a.e) in
     let whole = with_listed a.at all a.buffer.now.places in
     let end = a.at + length all in
-    let same = c.glyphs.ensures ∙ ap (λ (b : Buffer). b.glyphs) l.invariant.others in
-    let read : c.is_listed.result ≡ t l.j = c.is_listed.ensures ∙ ap (λ gs. is_listed a.gone a.s a.top gs l.j) same in
+    let read = c.is_listed.ensures ∙ ap (λ gs. is_listed a.gone a.s a.top gs l.j)
+    (c.glyphs.ensures ∙ ap (λ (b : Buffer). b.glyphs) l.invariant.others) in
     elim c.if-is_listed.branch [
       | then-is_listed w ↦
           let left = left_here t l.j a.e l.at whole end a.buffer.now l.buffer c.loop-j-test.true (sym read

@@ -1,14 +1,12 @@
 -- One place back: a left matra goes, anything else stays.
-use Rattle.std.proofs.Common.{◌+◌, ◌-◌, sym, ◌∙◌, refl, arith}
+use Rattle.std.proofs.Common.{◌+◌, ◌-◌, sym, ◌∙◌, arith}
 use Rattle.shapers_indic_final.proofs.LeftMatraSteps.{lies_on}
 use Rattle.shapers_indic_final.proofs.LeftMatraWalks.{walk_end, walk_no, walk_start, walk_yes}
 use Rattle.shapers_indic_final.proofs.ot_shaper_indic_final.left_matras.merged_runs.Goals as goal
 
 pub loop-i-init : goal.loop-i-init
 loop-i-init c =
-    let a = c.args in
-    let r = c.requires in
-    (omega arith, walk_start a.s a.top a.p a.b _ a.glyphs.now r.behind r.before r.in_range refl refl refl refl)
+    search (arith, walk_start)
 
 pub loop-i-preserved-then-is_left : goal.loop-i-preserved-then-is_left
 loop-i-preserved-then-is_left c =

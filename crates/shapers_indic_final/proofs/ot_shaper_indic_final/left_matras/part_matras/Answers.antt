@@ -1,5 +1,5 @@
 -- The last left matra moves, and then those before it.
-use Rattle.std.proofs.Common.{get_or, length, ◌+◌, ◌-◌, ◌≡◌, sym, ap, ◌∙◌, arith}
+use Rattle.std.proofs.Common.{get_or, length, ◌-◌, sym, ap, ◌∙◌, arith}
 use Rattle.shapers_buffer.specs.Buffer.{Buffer}
 use Rattle.shapers_buffer.specs.Clusters.{stretch_of}
 use Rattle.shapers_buffer.specs.Glyph.{default_glyph}
@@ -12,22 +12,7 @@ use Rattle.shapers_indic.proofs.PlaceSearch.{passes_there}
 
 pub part_further-requires-clause-in_range : goal.part_further-requires-clause-in_range
 part_further-requires-clause-in_range c =
-    let a = c.args in
-    let r = c.requires in
-    let l = c.loop-i in
-    let k = l.i - 1 in
-    let old = a.buffer.now in
-    let mid = c.move_matra.new.buffer in
-    let is = first_moved old l.buffer mid a.s a.e a.b k a.p l.invariant.1.0
-    (c.move_matra.ensures a.e r.base_in_order
-    (omega (arith, r.in_range, ap (λ (x : Buffer). length x.glyphs) l.invariant.1.0))) in
-    omega (
-      arith,
-      r.base_in_order,
-      r.in_range,
-      moved_as_long old mid a.s a.e a.b k a.p (omega (arith, l.invariant.0))
-          r.before r.base_in_order r.in_range is,
-    )
+    search (arith, moved_as_long, first_moved)
 
 pub part_further-requires-clause-one : goal.part_further-requires-clause-one
 part_further-requires-clause-one c =
@@ -54,7 +39,6 @@ returns-then-is_left-clause-glyphs c =
     (c.move_matra.ensures a.e r.base_in_order
     (omega (arith, r.in_range, ap (λ (x : Buffer). length x.glyphs) l.invariant.1.0))) in
     let part = stretch_of a.s a.e old.glyphs in
-    let one : k + 1 ≡ l.i = omega (arith, c.loop-i-test.true) in
     let seen = ap (λ (x : Buffer). is_left (get_or (stretch_of a.s a.e x.glyphs) k default_glyph)) (sym l.invariant.1.0)
     ∙ ap (λ gs. is_left (get_or (stretch_of a.s a.e gs) k default_glyph)) (sym c.glyphs.ensures)
     ∙ sym c.is_left.ensures ∙ c.if-is_left.true in
@@ -65,18 +49,18 @@ returns-then-is_left-clause-glyphs c =
       c.loop-i-test.true,
       r.before,
       r.base_in_order,
-      length-stretch a.s a.e
-          old.glyphs r.in_range,
-    )) ∙ seen in
-    let none = ap (λ j. lefts_from j a.p part) one ∙ l.invariant.1.1 in
+      length-stretch a.s a.e old.glyphs
+          r.in_range,
+    ))
+    ∙ seen in
+    let none = ap (λ j. lefts_from j a.p part) (omega (arith, c.loop-i-test.true)) ∙ l.invariant.1.1 in
     both_moved old mid c.part_further.new.buffer a.s a.e a.b k a.p (omega (arith, l.invariant.0, c.loop-i-test.true))
     r.before r.base_in_order r.in_range holds none is
     (c.part_further.ensures.glyphs a.e r.base_in_order
     (omega (
       arith,
       r.in_range,
-      moved_as_long old mid a.s a.e a.b k a.p (omega (arith, l.invariant.0)) r.before
-          r.base_in_order r.in_range is,
+      moved_as_long old mid a.s a.e a.b k a.p (omega (arith, l.invariant.0)) r.before r.base_in_order r.in_range is,
     )))
 
 pub returns-then-is_left-clause-same_length : goal.returns-then-is_left-clause-same_length
@@ -84,41 +68,11 @@ returns-then-is_left-clause-same_length c =
     let a = c.args in
     let r = c.requires in
     let l = c.loop-i in
-    let k = l.i - 1 in
-    let old = a.buffer.now in
-    let mid = c.move_matra.new.buffer in
-    let is = first_moved old l.buffer mid a.s a.e a.b k a.p l.invariant.1.0
+    let is = first_moved a.buffer.now l.buffer c.move_matra.new.buffer a.s a.e a.b (l.i - 1) a.p l.invariant.1.0
     (c.move_matra.ensures a.e r.base_in_order
     (omega (arith, r.in_range, ap (λ (x : Buffer). length x.glyphs) l.invariant.1.0))) in
-    c.part_further.ensures.same_length ∙ moved_as_long old mid a.s a.e a.b k a.p (omega (arith, l.invariant.0)) r.before
-    r.base_in_order r.in_range is
+    search (arith, moved_as_long)
 
 pub loop-i-preserved : goal.loop-i-preserved
 loop-i-preserved c =
-    let a = c.args in
-    let r = c.requires in
-    let l = c.loop-i in
-    let k = l.i - 1 in
-    let old = a.buffer.now in
-    let part = stretch_of a.s a.e old.glyphs in
-    let one : k + 1 ≡ l.i = omega (arith, c.loop-i-test.true) in
-    let seen = ap (λ (x : Buffer). is_left (get_or (stretch_of a.s a.e x.glyphs) k default_glyph)) (sym l.invariant.1.0)
-    ∙ ap (λ gs. is_left (get_or (stretch_of a.s a.e gs) k default_glyph)) (sym c.glyphs.ensures)
-    ∙ sym c.is_left.ensures ∙ c.if-is_left.false in
-    let fails = passes_there is_left part k default_glyph
-    (omega (
-      arith,
-      l.invariant.0,
-      c.loop-i-test.true,
-      r.before,
-      r.base_in_order,
-      length-stretch a.s a.e
-          old.glyphs r.in_range,
-    )) ∙ seen in (
-      omega (arith, l.invariant.0),
-      (
-        l.invariant.1.0,
-        lefts_no k a.p part (omega (arith, l.invariant.0, c.loop-i-test.true)) fails
-            ∙ ap (λ j. lefts_from j a.p part) one ∙ l.invariant.1.1,
-      ),
-    )
+    search (arith, lefts_no, passes_there, length-stretch)

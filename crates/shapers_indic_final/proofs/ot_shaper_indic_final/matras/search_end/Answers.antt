@@ -1,5 +1,5 @@
 -- One place more, back.
-use Rattle.std.proofs.Common.{◌-◌, unwrap_or, sym, ap, ◌∙◌, arith}
+use Rattle.std.proofs.Common.{◌-◌, sym, ◌∙◌, arith}
 use Rattle.shapers_indic_final.specs.FinalMatras.{ends_search}
 use Rattle.shapers_indic_final.specs.Proved.FinalPlaces.{greatest_step, greatest_stop}
 use Rattle.shapers_indic_final.proofs.ot_shaper_indic_final.matras.search_end.Goals as goal
@@ -8,18 +8,17 @@ use Rattle.shapers_indic.proofs.PlaceSearch.{greatest_none}
 pub returns-then-ends_search-clause-end : goal.returns-then-ends_search-clause-end
 returns-then-ends_search-clause-end c =
     let l = c.loop-i in
-    ap (λ o. unwrap_or o 0)
-    (sym (greatest_stop (ends_search c.args.glyphs.now) 0 (l.i - 1) l.i (omega (arith, c.loop-i-test.true))
-    (omega arith) (sym c.ends_search.ensures ∙ c.if-ends_search.true)) ∙ l.invariant)
+    search (
+      arith,
+      greatest_stop (ends_search c.args.glyphs.now) 0 (l.i - 1) l.i (omega (arith, c.loop-i-test.true)) (omega arith)
+          (sym c.ends_search.ensures ∙ c.if-ends_search.true),
+      l.invariant,
+    )
 
 pub loop-i-preserved : goal.loop-i-preserved
 loop-i-preserved c =
-    let l = c.loop-i in
-    greatest_step (ends_search c.args.glyphs.now) 0 (l.i - 1) l.i (omega (arith, c.loop-i-test.true)) (omega arith)
-    (sym c.ends_search.ensures ∙ c.if-ends_search.false) ∙ l.invariant
+    search (arith, greatest_step)
 
 pub returns-clause-end : goal.returns-clause-end
 returns-clause-end c =
-    let l = c.loop-i in
-    ap (λ o. unwrap_or o 0)
-    (sym (greatest_none (ends_search c.args.glyphs.now) 0 l.i (omega (arith, c.loop-i-test.false))) ∙ l.invariant)
+    search (arith, greatest_none)

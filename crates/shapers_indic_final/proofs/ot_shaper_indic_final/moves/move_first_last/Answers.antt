@@ -10,5 +10,4 @@ apply-requires-clause-permutes c =
     (omega arith) (omega arith) (omega (arith, c.requires.in_order))
 
 pub returns : goal.returns
-returns c = placed_first_last c.args.s c.args.e c.args.buffer.now c.apply.new.self c.requires.in_order
-    c.requires.in_range c.apply.ensures
+returns c = search (arith, placed_first_last)

@@ -1,18 +1,13 @@
 -- One move and one merge are the step.
-use Rattle.std.proofs.Common.{length, ◌+◌, ap, ◌∙◌, arith}
+use Rattle.std.proofs.Common.{◌+◌, arith}
 use Rattle.shapers_buffer.specs.Lists.{first_last}
-use Rattle.shapers_buffer.specs.Buffer.{Buffer}
 use Rattle.shapers_buffer.specs.Clusters.{merge, with_stretch}
 use Rattle.shapers_indic_final.specs.Proved.FinalSteps.{length-moved, matra_stepped, moved_and_merged}
 use Rattle.shapers_indic_final.proofs.ot_shaper_indic_final.moves.move_matra.Goals as goal
 
 pub merge_clusters-requires-clause-in_range : goal.merge_clusters-requires-clause-in_range
 merge_clusters-requires-clause-in_range c =
-    let a = c.args in
-    let r = c.requires in
-    let long = ap (λ (b : Buffer). length b.glyphs) c.move_first_last.ensures
-    ∙ length-moved (a.s + a.i) (a.s + a.j + 1) a.buffer.now.glyphs (omega (arith, r.before)) in
-    omega (arith, long, r.in_range)
+    search (arith, length-moved)
 
 pub returns : goal.returns
 returns c = λ e order range.

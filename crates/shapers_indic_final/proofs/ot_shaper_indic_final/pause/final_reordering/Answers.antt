@@ -1,4 +1,5 @@
 -- The chain of the reordering, and what it comes to once its syllables are opened.
+use Rattle.std.proofs.Common.{arith}
 use Rattle.std.proofs.Common.{◌≡◌, ap, sym, subst, true, ◌∙◌}
 use Rattle.std.specs.Prelude.{Err, Ok, OnOk, Result, is_ok}
 use Rattle.shapers_indic_final.specs.FinalReordering.{final_order, final_steps}
@@ -18,10 +19,9 @@ pub returns-then-is_ok-clause-linked : goal.returns-then-is_ok-clause-linked
 returns-then-is_ok-clause-linked g c =
     let old = c.args.buffer.now in
     let mid = c.reorder_syllables.new.buffer in
-    let new = c.open_words.new.buffer in
     let r = c.new-rules.result in
     let same = c.new-rules.ensures ∙ ap (final_rules (g.F.hb_font_t.font c.args.face.now)) c.indic_in.ensures in
-    subst (λ (r : Rules). FinallyLinked r old new) same (
+    subst (λ (r : Rules). FinallyLinked r old c.open_words.new.buffer) same (
       mid,
       subst (λ script. SyllablesLinked (SyllableReordered (final_order r script) (final_steps r script)) old mid)
           c.script.ensures (on_ok c.reorder_syllables.result (sym c.is_ok.ensures.value ∙ c.if-is_ok.true)
@@ -30,8 +30,7 @@ returns-then-is_ok-clause-linked g c =
     )
 
 pub returns-then-is_ok-clause-reordered : goal.returns-then-is_ok-clause-reordered
-returns-then-is_ok-clause-reordered g c = reordered_by_links _ c.args.buffer.now c.open_words.new.buffer
-    (returns-then-is_ok-clause-linked g c)
+returns-then-is_ok-clause-reordered g c = search (arith, reordered_by_links, returns-then-is_ok-clause-linked)
 
 pub returns-then-is_ok-clause-laws : goal.returns-then-is_ok-clause-laws
 returns-then-is_ok-clause-laws g c = finally_kept _ c.args.buffer.now c.open_words.new.buffer
@@ -39,5 +38,4 @@ returns-then-is_ok-clause-laws g c = finally_kept _ c.args.buffer.now c.open_wor
 
 pub returns-then-is_ok-clause-clusters : goal.returns-then-is_ok-clause-clusters
 returns-then-is_ok-clause-clusters g c =
-    let laws = returns-then-is_ok-clause-laws g c in
-    laws.in_clusters.old_clusters
+    (returns-then-is_ok-clause-laws g c).in_clusters.old_clusters

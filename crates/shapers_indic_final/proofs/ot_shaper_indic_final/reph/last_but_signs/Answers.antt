@@ -1,5 +1,5 @@
 -- One place more, back.
-use Rattle.std.proofs.Common.{◌-◌, not, unwrap_or, sym, ap, ◌∙◌, arith}
+use Rattle.std.proofs.Common.{◌-◌, not, sym, ap, ◌∙◌, arith}
 use Rattle.shapers_buffer.specs.Glyph.{default_glyph}
 use Rattle.shapers_indic.specs.Glyphs.{has_position, passes}
 use Rattle.shapers_indic_final.specs.Proved.FinalPlaces.{greatest_step, greatest_stop}
@@ -10,26 +10,22 @@ pub returns-then-not-is_sign-clause-place : goal.returns-then-not-is_sign-clause
 returns-then-not-is_sign-clause-place c =
     let l = c.loop-i in
     let gs = c.args.glyphs.now in
-    let there = passes_there (has_position 13) gs (l.i - 1) default_glyph
-    (omega (arith, c.loop-i-test.true, l.auto.i)) in
-    let here = ap not (there ∙ sym c.is_sign.ensures ∙ c.if-not-is_sign.true) in
-    ap (λ o. unwrap_or o 0)
-    (sym (greatest_stop (λ i. not (passes (has_position 13) gs i)) 0 (l.i - 1) l.i
-    (omega (arith, c.loop-i-test.true)) (omega arith) here) ∙ l.invariant)
+    let there = passes_there (has_position 13) gs (l.i - 1) default_glyph (omega (
+      arith,
+      c.loop-i-test.true,
+      l.auto.i,
+    )) in
+    search (
+      arith,
+      greatest_stop (λ i. not (passes (has_position 13) gs i)) 0 (l.i - 1) l.i (omega (arith, c.loop-i-test.true))
+          (omega arith) (ap not (there ∙ sym c.is_sign.ensures ∙ c.if-not-is_sign.true)),
+      l.invariant,
+    )
 
 pub loop-i-preserved : goal.loop-i-preserved
 loop-i-preserved c =
-    let l = c.loop-i in
-    let gs = c.args.glyphs.now in
-    let there = passes_there (has_position 13) gs (l.i - 1) default_glyph
-    (omega (arith, c.loop-i-test.true, l.auto.i)) in
-    let here = ap not (there ∙ sym c.is_sign.ensures ∙ c.if-not-is_sign.false) in
-    greatest_step (λ i. not (passes (has_position 13) gs i)) 0 (l.i - 1) l.i (omega (arith, c.loop-i-test.true))
-    (omega arith) here ∙ l.invariant
+    search (arith, greatest_step, passes_there)
 
 pub returns-clause-place : goal.returns-clause-place
 returns-clause-place c =
-    let l = c.loop-i in
-    ap (λ o. unwrap_or o 0)
-    (sym (greatest_none (λ i. not (passes (has_position 13) c.args.glyphs.now i)) 0 l.i
-    (omega (arith, c.loop-i-test.false))) ∙ l.invariant)
+    search (arith, greatest_none)

@@ -1,9 +1,7 @@
 -- By whether a left matra opens it, and a word goes on.
-use Rattle.std.proofs.Common.{ℕ, List, ◌+◌, get_or, sym, ap, ◌∙◌}
-use Rattle.shapers_buffer.specs.declared.buffer.glyph.hb_glyph_info_t.{hb_glyph_info_t}
-use Rattle.shapers_buffer.specs.Buffer.{Buffer}
+use Rattle.std.proofs.Common.{arith}
+use Rattle.std.proofs.Common.{get_or, sym, ap, ◌∙◌}
 use Rattle.shapers_buffer.specs.Glyph.{default_glyph}
-use Rattle.shapers_buffer.specs.GlyphFlags.{unsafe_inside}
 use Rattle.shapers_indic_final.specs.FinalMatras.{is_left}
 use Rattle.shapers_indic_final.specs.FinalWordStart.{before_place, word_goes_on}
 use Rattle.shapers_indic_final.proofs.FinalWordStartCases.{opened_bound, opened_init, opened_other}
@@ -11,35 +9,17 @@ use Rattle.shapers_indic_final.proofs.ot_shaper_indic_final.word_start.open_syll
 
 pub returns-then-not-is_left : goal.returns-then-not-is_left
 returns-then-not-is_left c =
-    let old = c.args.buffer.now in
-    let s = c.args.s in
-    let left = sym (c.is_left.ensures ∙ ap (λ xs. is_left (get_or xs s default_glyph)) c.glyphs.ensures)
-    ∙ c.if-not-is_left.true in
-    ap (λ (hs : List hb_glyph_info_t). let b : Buffer = record old { glyphs = hs } in b)
-    (opened_other c.args.init s default_glyph old.glyphs c.requires left)
+    search (arith, opened_other)
 
 pub returns-then-goes_on : goal.returns-then-goes_on
 returns-then-goes_on c =
-    let old = c.args.buffer.now in
-    let s = c.args.s in
-    let left = sym (c.is_left.ensures ∙ ap (λ xs. is_left (get_or xs s default_glyph)) c.glyphs.ensures)
-    ∙ c.if-not-is_left.false in
-    let word = sym (c.goes_on.ensures ∙ ap (λ xs. word_goes_on (before_place s xs)) c.glyphs-2.ensures)
-    ∙ c.if-goes_on.true in
-    c.unsafe_to_break.ensures
-    ∙ ap (λ (k : ℕ). let b : Buffer = record old { glyphs = unsafe_inside k (s + 1) old.glyphs } in b)
-    c.saturating_sub.ensures
-    ∙ ap (λ (hs : List hb_glyph_info_t). let b : Buffer = record old { glyphs = hs } in b)
-    (opened_bound c.args.init s default_glyph old.glyphs c.requires left word)
+    search (arith, opened_bound)
 
 pub returns : goal.returns
 returns c =
-    let old = c.args.buffer.now in
     let s = c.args.s in
     let left = sym (c.is_left.ensures ∙ ap (λ xs. is_left (get_or xs s default_glyph)) c.glyphs.ensures)
     ∙ c.if-not-is_left.false in
-    let word = sym (c.goes_on.ensures ∙ ap (λ xs. word_goes_on (before_place s xs)) c.glyphs-2.ensures)
-    ∙ c.if-goes_on.false in
-    c.change_each.ensures
-    ∙ ap (λ (hs : List hb_glyph_info_t). let b : Buffer = record old { glyphs = hs } in b)
-    (opened_init c.args.init s default_glyph old.glyphs c.requires left word)
+    let word =
+    sym (c.goes_on.ensures ∙ ap (λ xs. word_goes_on (before_place s xs)) c.glyphs-2.ensures) ∙ c.if-goes_on.false in
+    cc (c.change_each.ensures, opened_init c.args.init s default_glyph c.args.buffer.now.glyphs c.requires left word)

@@ -1,19 +1,14 @@
 -- One more place: it is spent, or its cycle merges.
-use Rattle.std.proofs.Common.{◌≡◌, ◌+◌, max, ap, refl, sym, ◌∙◌, subst, arith}
+use Rattle.std.proofs.Common.{◌≡◌, ◌+◌, ap, sym, ◌∙◌, subst, arith}
 use Rattle.shapers_buffer.specs.Buffer.{Buffer}
 use Rattle.shapers_buffer.specs.Clusters.{merge}
-use Rattle.shapers_indic_initial.proofs.CycleSteps.{Merging, others_merged, merging_next, merging_stays, merging_start}
+use Rattle.shapers_indic_initial.proofs.CycleSteps.{length-places_from, Merging, merging_next, merging_stays}
 use Rattle.shapers_indic_initial.proofs.ot_shaper_indic_initial.cycles.merge_cycles.Goals.{then-old_place-place, else-old_place-place}
 use Rattle.shapers_indic_initial.proofs.ot_shaper_indic_initial.cycles.merge_cycles.Goals as goal
 
 pub loop-place-init : goal.loop-place-init
 loop-place-init c =
-    record {
-      from = omega arith;
-      others = refl;
-      merging = merging_start c.args.start c.args.end c.args.base
-          c.args.buffer.now c.requires.once;
-    }
+    search (arith, length-places_from)
 
 pub loop-place-preserved : goal.loop-place-preserved
 loop-place-preserved c =
@@ -21,24 +16,19 @@ loop-place-preserved c =
     let s = c.args.start in
     let e = c.args.end in
     let b0 = c.args.buffer.now in
-    let next = c.if-old_place-place in
-    let Others : Buffer → Type 0 =
-    λ b. b ≡ (let r : Buffer = record b0 { glyphs = b.glyphs; places = b.places } in r) in
-    elim next.branch [
+    elim c.if-old_place-place.branch [
       | then-old_place-place w ↦
           let b1 = w.spend_cycle-least.new.buffer in
           let b2 = w.merge_clusters.new.self in
           let least = w.spend_cycle-least.result.0 in
           let greatest = w.spend_cycle-least.result.1 in
           let is2 = w.merge_clusters.ensures
-          ∙ ap (λ m. (let r : Buffer = record b1
-          { glyphs = merge b1.level (s + m) (s + greatest + 1) b1.glyphs } in r)) w.max.ensures in
+          ∙ ap (λ m. ((record b1 { glyphs = merge b1.level (s + m) (s + greatest + 1) b1.glyphs }))) w.max.ensures in
           record {
             from = omega (arith, l.invariant.from);
-            others = subst Others (sym w.buffer-is)
-                (others_merged b0 l.buffer b1 b2
-                (merge b1.level (s + max c.args.base least) (s + greatest + 1) b1.glyphs) l.invariant.others
-                w.spend_cycle-least.ensures.others is2);
+            others = subst
+                (λ b. b ≡ (let r : Buffer = record b0 { glyphs = b.glyphs; places = b.places } in r)) (sym w.buffer-is)
+                (search arith);
             merging = subst (Merging s e c.args.base (l.place + 1) b0) (sym w.buffer-is)
                 (merging_next s e c.args.base l.place b0 l.buffer b1 b2 least greatest c.requires.in_order
                 c.requires.in_range l.invariant.from c.loop-place-test.true l.invariant.others
@@ -48,10 +38,7 @@ loop-place-preserved c =
       | else-old_place-place w ↦
           record {
             from = omega (arith, l.invariant.from);
-            others = subst Others (sym w.buffer-is) l.invariant.others;
-            merging = subst (Merging s e c.args.base (l.place + 1) b0) (sym w.buffer-is)
-                (merging_stays s e c.args.base l.place b0 l.buffer l.invariant.from c.loop-place-test.true
-                (sym (c.old_place.ensures e (omega (arith, c.loop-place-test.true))) ∙ w.if-old_place-place.false)
-                l.invariant.merging);
+            others = search arith;
+            merging = search (arith, merging_stays, c.old_place.ensures);
           }
     ]

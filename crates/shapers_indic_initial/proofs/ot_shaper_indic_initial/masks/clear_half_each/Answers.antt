@@ -9,15 +9,14 @@ pub loop-i-preserved : goal.loop-i-preserved
 loop-i-preserved c =
     let l = c.loop-i in
     let k = l.i - 1 in
-    let made : c.if-loses.glyph ≡ half_taken c.args.bits l.loses (get_or l.glyphs k default_glyph) =
-    elim c.if-loses.branch [
+    let made : c.if-loses.glyph ≡ half_taken c.args.bits l.loses (get_or l.glyphs k default_glyph) = elim
+    c.if-loses.branch [
       | then-loses w ↦ w.glyph-is
           ∙ sym (ap (λ b. half_taken c.args.bits b (get_or l.glyphs k default_glyph)) w.if-loses.true)
-      | else-loses w ↦ w.glyph-is
-          ∙ sym (ap (λ b. half_taken c.args.bits b (get_or l.glyphs k default_glyph)) w.if-loses.false)
+      | else-loses w ↦
+          w.glyph-is ∙ sym (ap (λ b. half_taken c.args.bits b (get_or l.glyphs k default_glyph)) w.if-loses.false)
     ] in
     let back = half_back c.args.bits c.args.glyphs.now l.glyphs l.i k l.loses c.keeps_losing-loses.result
-    c.if-loses.glyph default_glyph (omega (arith, c.loop-i-test.true))
-    (omega (arith, c.loop-i-test.true, l.auto.i)) l.invariant.glyphs l.invariant.loses made
-    c.keeps_losing-loses.ensures in
-    record { glyphs = back.glyphs; loses = back.loses }
+    c.if-loses.glyph default_glyph (omega (arith, c.loop-i-test.true)) (omega (arith, c.loop-i-test.true, l.auto.i))
+    l.invariant.glyphs l.invariant.loses made c.keeps_losing-loses.ensures in
+    search (arith, back.glyphs, back.loses)

@@ -12,11 +12,11 @@ returns-then-would_substitute-clause-pair g c =
     let gs = c.args.glyphs.now in
     let r = initial_rules (g.F.hb_font_t.font c.args.rules.now.face.now) c.args.rules.now.map.now
     c.args.rules.now.plan.now in
-    let e = length gs - 1 in
-    search_found (λ i. r.forms_pref (numbers (stretch_of i (i + 2) gs))) l.i e (omega (arith, c.loop-i-test.true))
-    (asked_pair r.forms_pref gs l.i c.number.result c.number-in-loop-i.result c.would_substitute.result
-    (omega (arith, c.loop-i-test.true)) c.number.ensures c.number-in-loop-i.ensures c.would_substitute.ensures
-    ∙ c.if-would_substitute.true)
+    search_found (λ i. r.forms_pref (numbers (stretch_of i (i + 2) gs))) l.i (length gs - 1)
+    (omega (arith, c.loop-i-test.true))
+    (asked_pair r.forms_pref gs l.i c.number.result c.number-in-loop-i.result c.would_substitute.result (omega
+    (arith, c.loop-i-test.true)) c.number.ensures c.number-in-loop-i.ensures c.would_substitute.ensures ∙
+    c.if-would_substitute.true)
     ∙ l.invariant.rest
     ∙ pref_pair_asked r c.args.base gs (omega (arith, c.if-plan-eq0.false)) (omega (arith, c.if-base-glyphs.false))
 
@@ -26,11 +26,13 @@ loop-i-preserved g c =
     let gs = c.args.glyphs.now in
     let r = initial_rules (g.F.hb_font_t.font c.args.rules.now.face.now) c.args.rules.now.map.now
     c.args.rules.now.plan.now in
-    record {
-      behind = omega (arith, l.invariant.behind);
-      rest = search_on (λ i. r.forms_pref (numbers (stretch_of i (i + 2) gs))) l.i (length gs - 1)
+    search (
+      arith,
+      l.invariant.behind,
+      search_on (λ i. r.forms_pref (numbers (stretch_of i (i + 2) gs))) l.i (length gs - 1)
           (omega (arith, c.loop-i-test.true))
-          (asked_pair r.forms_pref gs l.i c.number.result c.number-in-loop-i.result c.would_substitute.result
-          (omega (arith, c.loop-i-test.true)) c.number.ensures c.number-in-loop-i.ensures c.would_substitute.ensures
-          ∙ c.if-would_substitute.false) ∙ l.invariant.rest;
-    }
+          (asked_pair r.forms_pref gs l.i c.number.result c.number-in-loop-i.result c.would_substitute.result (omega
+          (arith, c.loop-i-test.true)) c.number.ensures c.number-in-loop-i.ensures c.would_substitute.ensures ∙
+          c.if-would_substitute.false),
+      l.invariant.rest,
+    )

@@ -1,7 +1,6 @@
 -- With an eyelash, and without.
-use Rattle.std.proofs.Common.{ap, sym, ◌∙◌, map, if◌then◌else◌, true, false}
-use Rattle.std.specs.List.{enumerate_from}
-use Rattle.shapers_buffer.specs.GlyphFlags.{with_bits}
+use Rattle.std.proofs.Common.{arith}
+use Rattle.std.proofs.Common.{sym, ◌∙◌, true, false}
 use Rattle.shapers_indic.specs.declared.ot_shaper_indic.indic_feature.TheConstants.{BLWF}
 use Rattle.shapers_indic_initial.specs.InitialMasks.{bits_of, is_in_eyelash}
 use Rattle.shapers_indic_initial.specs.InitialRules.{initial_rules}
@@ -10,12 +9,13 @@ use Rattle.shapers_indic_initial.proofs.ot_shaper_indic_initial.masks.set_eyelas
 
 pub returns-then-has_eyelash : goal.returns-then-has_eyelash
 returns-then-has_eyelash c = λ font m.
-    let r = initial_rules font m c.args.plan.now in
-    let gs = c.args.glyphs.now in
-    c.set_eyelash_bits.ensures
-    ∙ ap (λ bits. map (λ t. if is_in_eyelash c.args.base gs t.0 then with_bits bits t.1 else t.1) (enumerate_from 0 gs))
-    c.bits_of.ensures
-    ∙ eyelash_is r c.args.script c.args.base gs true (sym c.if-has_eyelash.true ∙ c.has_eyelash.ensures font m)
+    search (
+      arith,
+      c.set_eyelash_bits.ensures,
+      c.bits_of.ensures,
+      eyelash_is (initial_rules font m c.args.plan.now) c.args.script c.args.base c.args.glyphs.now true
+          (sym c.if-has_eyelash.true ∙ c.has_eyelash.ensures font m),
+    )
 
 pub returns-else-has_eyelash : goal.returns-else-has_eyelash
 returns-else-has_eyelash c = λ font m.

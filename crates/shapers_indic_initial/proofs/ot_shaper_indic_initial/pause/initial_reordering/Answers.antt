@@ -1,6 +1,6 @@
 -- What the pause promises, by the plan's data.
-use Rattle.shapers_buffer.specs.Buffer.{Buffer}
-use Rattle.shapers_indic.specs.Plan.{indic_in, virama_glyph}
+use Rattle.std.proofs.Common.{arith}
+use Rattle.shapers_indic.specs.Plan.{indic_in}
 use Rattle.shapers_indic_initial.specs.InitialPause.{initial_circles, order_by_font, steps_by_font}
 use Rattle.shapers_indic_initial.proofs.FontCircles.{initially_linked, linked_behind_circles, paused_by_font}
 use Rattle.shapers_indic_initial.proofs.FontPositions.{laws_by_font}
@@ -14,7 +14,7 @@ use Rattle.shapers_indic_initial.proofs.ot_shaper_indic_initial.pause.initial_re
 
 pub reorder_syllables-requires-clause-takes : goal.reorder_syllables-requires-clause-takes
 reorder_syllables-requires-clause-takes g c =
-    takes_any (λ _. Unit {0}) (λ _. tt) c.update_consonant_positions.new.buffer.glyphs
+    search (arith, takes_any)
 
 pub returns-clause-linked : goal.returns-clause-linked
 returns-clause-linked g c =
@@ -26,13 +26,11 @@ returns-clause-linked g c =
 
 pub returns-clause-ok : goal.returns-clause-ok
 returns-clause-ok g c =
-    initially_linked (g.F.hb_font_t.font c.args.face.now) c.args.plan.now.ot_map (indic_in c.args.plan.now)
-    c.args.buffer.now c.reorder_syllables.new.buffer (returns-clause-linked g c)
+    search (arith, initially_linked, returns-clause-linked)
 
 pub returns-clause-syllables : goal.returns-clause-syllables
 returns-clause-syllables g c =
-    paused_by_font (g.F.hb_font_t.font c.args.face.now) c.args.plan.now.ot_map (indic_in c.args.plan.now)
-    c.args.buffer.now c.reorder_syllables.new.buffer (returns-clause-ok g c)
+    search (arith, paused_by_font, returns-clause-ok)
 
 pub returns-clause-cut : goal.returns-clause-cut
 returns-clause-cut g c =
@@ -41,7 +39,7 @@ returns-clause-cut g c =
     let p = indic_in c.args.plan.now in
     let b = c.args.buffer.now in
     cuts_at_borders (initial_circles font b) (order_by_font font m p b.script) (steps_by_font font m p b.script) b
-    c.reorder_syllables.new.buffer (laws_by_font font m p (virama_glyph font p) b.script)
+    c.reorder_syllables.new.buffer (search (arith, laws_by_font))
     (returns-clause-syllables g c)
 
 pub returns-clause-laws : goal.returns-clause-laws
@@ -50,19 +48,16 @@ returns-clause-laws g c =
     let m = c.args.plan.now.ot_map in
     let p = indic_in c.args.plan.now in
     let b = c.args.buffer.now in
-    let opened : Buffer = record b { glyphs = circled (initial_circles font b) b.glyphs } in
-    text_reordered (order_by_font font m p b.script) (steps_by_font font m p b.script) opened
-    c.reorder_syllables.new.buffer (laws_by_font font m p (virama_glyph font p) b.script)
+    text_reordered (order_by_font font m p b.script) (steps_by_font font m p b.script)
+    (record b { glyphs = circled (initial_circles font b) b.glyphs })
+    c.reorder_syllables.new.buffer (search (arith, laws_by_font))
     (returns-clause-syllables g c)
 
 pub returns-clause-merged : goal.returns-clause-merged
 returns-clause-merged g c =
-    initial_text_merges (g.F.hb_font_t.font c.args.face.now) c.args.plan.now.ot_map (indic_in c.args.plan.now)
-    c.args.buffer.now c.reorder_syllables.new.buffer (returns-clause-ok g c)
+    search (arith, initial_text_merges, returns-clause-ok)
 
 pub returns-clause-clusters : goal.returns-clause-clusters
 returns-clause-clusters g c =
-    let b = c.args.buffer.now in
     let law = returns-clause-laws g c in
-    no_new_cluster (initial_circles (g.F.hb_font_t.font c.args.face.now) b) b.glyphs
-    c.reorder_syllables.new.buffer.glyphs law.glyphs.in_clusters.old_clusters
+    search (arith, no_new_cluster)

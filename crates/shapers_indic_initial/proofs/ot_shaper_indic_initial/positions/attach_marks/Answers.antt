@@ -5,6 +5,4 @@ use Rattle.shapers_indic_initial.proofs.ot_shaper_indic_initial.positions.attach
 
 pub returns : goal.returns
 returns c =
-    let l = c.loop-i in
-    marks_done l.i l.carrier l.behind l.glyphs c.args.glyphs.now (omega (arith, l.auto.glyphs, c.loop-i-test.false))
-    l.invariant
+    search (arith, marks_done)

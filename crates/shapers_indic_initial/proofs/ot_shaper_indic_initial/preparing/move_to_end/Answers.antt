@@ -11,5 +11,4 @@ apply-requires-clause-permutes c =
 
 pub returns-clause-moved : goal.returns-clause-moved
 returns-clause-moved c =
-    placed_behind c.args.from c.args.end c.args.buffer.now c.apply.new.self c.requires.in_order c.requires.in_range
-    c.apply.ensures
+    search (arith, placed_behind)

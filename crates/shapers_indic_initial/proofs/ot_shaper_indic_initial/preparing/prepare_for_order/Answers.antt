@@ -1,7 +1,6 @@
 -- All parts, one after another.
-use Rattle.std.proofs.Common.{refl, ap, ◌∙◌, subst}
-use Rattle.shapers_buffer.specs.Clusters.{stretch_of}
-use Rattle.shapers_indic_initial.specs.InitialBase.{base_place, has_indic_reph}
+use Rattle.std.proofs.Common.{arith}
+use Rattle.std.proofs.Common.{refl, subst}
 use Rattle.shapers_indic_initial.specs.InitialReordering.{opening_steps, positioned}
 use Rattle.shapers_indic_initial.specs.InitialRules.{initial_rules}
 use Rattle.shapers_indic_initial.proofs.Prepared.{syllable_opened}
@@ -21,8 +20,8 @@ returns-clause-reordered g c =
     c.args.buffer.now c.put_joiner_first.new.buffer c.walk.new.self c.move_halant.new.buffer b4
     c.requires.in_order c.requires.in_range
     c.put_joiner_first.ensures.same_length c.put_joiner_first.ensures.reordered
-    (c.find_base-base.ensures.place ∙ ap (λ gs. base_place r (stretch_of s e gs)) c.glyphs.ensures)
-    (c.find_base-base.ensures.reph ∙ ap (λ gs. has_indic_reph r (stretch_of s e gs)) c.glyphs.ensures)
+    (cc (c.find_base-base.ensures.place, c.glyphs.ensures))
+    (search arith)
     c.walk.ensures.others c.walk.ensures.walked c.walk.ensures.same_length
     (c.move_halant.ensures.reordered r refl)
     c.walk-2.ensures.others c.walk-2.ensures.walked)

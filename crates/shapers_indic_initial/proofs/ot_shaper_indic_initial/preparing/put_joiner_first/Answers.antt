@@ -1,7 +1,5 @@
 -- With the joiner, and without.
-use Rattle.std.proofs.Common.{sym, ap, ◌∙◌}
-use Rattle.shapers_buffer.specs.Clusters.{stretch_of}
-use Rattle.shapers_indic_initial.specs.InitialBase.{joiner_comes_first}
+use Rattle.std.proofs.Common.{arith}
 use Rattle.shapers_indic_initial.proofs.Prepared.{joiner_moves, joiner_stays_put}
 use Rattle.shapers_indic_initial.proofs.ot_shaper_indic_initial.preparing.put_joiner_first.Goals as goal
 
@@ -9,12 +7,10 @@ pub returns-then-joiner_comes_first-clause-reordered : goal.returns-then-joiner_
 returns-then-joiner_comes_first-clause-reordered c =
     joiner_moves c.args.script c.args.start c.args.end c.args.buffer.now c.merge_clusters.new.self
     c.move_to_end.new.buffer c.requires.in_order c.requires.in_range
-    (sym (ap (λ gs. joiner_comes_first c.args.script (stretch_of c.args.start c.args.end gs)) c.glyphs.ensures)
-    ∙ sym c.joiner_comes_first.ensures ∙ c.if-joiner_comes_first.true)
+    (search arith)
     c.merge_clusters.ensures c.move_to_end.ensures.others c.move_to_end.ensures.moved
 
 pub returns-else-joiner_comes_first-clause-reordered : goal.returns-else-joiner_comes_first-clause-reordered
 returns-else-joiner_comes_first-clause-reordered c =
     joiner_stays_put c.args.script c.args.start c.args.end c.args.buffer.now c.requires.in_order c.requires.in_range
-    (sym (ap (λ gs. joiner_comes_first c.args.script (stretch_of c.args.start c.args.end gs)) c.glyphs.ensures)
-    ∙ sym c.joiner_comes_first.ensures ∙ c.if-joiner_comes_first.false)
+    (search arith)

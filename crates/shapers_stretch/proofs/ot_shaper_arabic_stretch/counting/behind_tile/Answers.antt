@@ -1,3 +1,4 @@
+use Rattle.std.proofs.Common.{arith}
 use Rattle.std.proofs.Common.{◌≡◌, ◌≤◌, ℕ, ℤ, subst, sym, ap, ◌∙◌, rules, FitsSigned, to_z, of_z, ◌-ℤ◌, ◌*ℤ◌, ◌≤ℤ◌, ◌*◌, ◌^◌, pos, negsuc, Some, replicate, [], ◌∷◌}
 use Rattle.std.proofs.lemmas.Int.{to_z-of_z}
 use mir.Syntax.{w32, w64}
@@ -11,10 +12,11 @@ far : (n : ℕ) (advance overlap step : ℤ) → FitsSigned w32 advance → Fits
     → (negsuc (3 * 2 ^ 61) ≤ℤ (pos n *ℤ to_z w64 (of_z w64 step)))
     × ((pos n *ℤ to_z w64 (of_z w64 step)) ≤ℤ pos (3 * 2 ^ 61))
 far n advance overlap step fits fits_step e few low shared =
-    let both = far_moves n advance overlap step few fits low shared (e
-    ∙ ap (λ x. x -ℤ overlap) (to_z-of_z w32 advance fits)) in
-    subst (λ s. (negsuc (3 * 2 ^ 61) ≤ℤ (pos n *ℤ s)) × ((pos n *ℤ s) ≤ℤ pos (3 * 2 ^ 61)))
-    (sym (to_z-of_z w64 step fits_step)) both
+    search (
+      arith,
+      to_z-of_z w64 step fits_step,
+      far_moves n advance overlap step few fits low shared (e ∙ ap (λ x. x -ℤ overlap) (to_z-of_z w32 advance fits)),
+    )
 
 pub behind_copies-requires-clause-far_low : goal.behind_copies-requires-clause-far_low
 behind_copies-requires-clause-far_low g c =
@@ -30,27 +32,21 @@ behind_copies-requires-clause-far_high g c =
 
 pub returns : goal.returns
 returns g c =
-    let font = g.F.hb_font_t.font c.args.face.now in
     let rtl = c.args.right_to_left in
     let behind = c.in_ok-behind.behind in
-    let fits_advance : FitsSigned w32 c.advance_of-width.result = record { sfits = c.advance_of-width.type_inv } in
-    let fits_width : FitsSigned w64 c.from.result = record { sfits = c.from.type_inv } in
-    let fits_step : FitsSigned w64 c.step_of.result = record { sfits = c.step_of.type_inv } in
-    let fits_behind : FitsSigned w64 behind = search rules in
-    let pen = to_z-of_z w64 c.args.pen c.ranges.pen in
-    let advance = to_z-of_z w32 c.advance_of-width.result fits_advance in
-    let width : c.from.result ≡ c.advance_of-width.result = c.from.ensures ∙ advance in
-    let step : c.step_of.result ≡ c.from.result -ℤ c.args.lay.overlap = c.step_of.ensures.value
-    ∙ ap (λ x. x -ℤ c.args.lay.overlap) (sym c.from.ensures) in
+    let advance = to_z-of_z w32 c.advance_of-width.result (record { sfits = c.advance_of-width.type_inv }) in
     let first : WalksPen rtl c.args.pen (c.from.result ∷ []) (Some behind) =
-    subst (λ p. WalksPen rtl p (c.from.result ∷ []) (Some behind)) pen
+    subst (λ p. WalksPen rtl p (c.from.result ∷ []) (Some behind)) (to_z-of_z w64 c.args.pen c.ranges.pen)
     (subst (λ w. WalksPen rtl (to_z w64 (of_z w64 c.args.pen)) (w ∷ []) (Some behind))
-    (to_z-of_z w64 c.from.result fits_width) c.in_ok-behind.ensures) in
+    (to_z-of_z w64 c.from.result (record { sfits = c.from.type_inv })) c.in_ok-behind.ensures) in
     let rest : WalksPen rtl behind (replicate c.args.lay.added c.step_of.result) c.behind_copies.result =
     subst (λ p. WalksPen rtl p (replicate c.args.lay.added c.step_of.result) c.behind_copies.result)
-    (to_z-of_z w64 behind fits_behind)
+    (to_z-of_z w64 behind (search rules))
     (subst (λ s. WalksPen rtl (to_z w64 (of_z w64 behind)) (replicate c.args.lay.added s)
-    c.behind_copies.result) (to_z-of_z w64 c.step_of.result fits_step) c.behind_copies.ensures) in
-    tile_walked font c.args.lay c.args.tile.now rtl c.args.pen c.from.result c.step_of.result behind
-    c.behind_copies.result (sym c.repeats.ensures ∙ c.if-not-repeats.false) (width ∙ c.advance_of-width.ensures)
-    step first rest
+    c.behind_copies.result) (to_z-of_z w64 c.step_of.result
+    (record { sfits = c.step_of.type_inv })) c.behind_copies.ensures) in
+    tile_walked
+    (g.F.hb_font_t.font c.args.face.now) c.args.lay c.args.tile.now rtl c.args.pen c.from.result c.step_of.result behind
+    c.behind_copies.result (sym c.repeats.ensures ∙ c.if-not-repeats.false) (
+    (c.from.ensures ∙ advance) ∙ c.advance_of-width.ensures)
+    (c.step_of.ensures.value ∙ ap (λ x. x -ℤ c.args.lay.overlap) (sym c.from.ensures)) first rest

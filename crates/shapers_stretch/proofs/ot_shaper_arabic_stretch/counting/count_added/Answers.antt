@@ -1,40 +1,24 @@
-use Rattle.std.proofs.Common.{◌≡◌, ◌+◌, true, subst, sym, arith, length-take-le}
+use Rattle.shapers_stretch.proofs.Zips.{zip-take}
+use Rattle.std.proofs.Common.{◌+◌, arith, length-take-le}
 use Rattle.std.specs.List.{zip}
-use Rattle.shapers_stretch.specs.CountingWalk.{CountsAdded, IsCounted}
-use Rattle.shapers_stretch.specs.Stretch.{Laying, overflows}
-use Rattle.shapers_stretch.proofs.PartCounts.{counted_start, counted_more, overflows_before}
+use Rattle.shapers_stretch.specs.CountingWalk.{IsCounted}
+use Rattle.shapers_stretch.specs.Stretch.{Laying}
+use Rattle.shapers_stretch.proofs.PartCounts.{counted_start, counted_more}
 use Rattle.shapers_stretch.proofs.ot_shaper_arabic_stretch.counting.count_added.Goals as goal
 
 pub loop-end-init : goal.loop-end-init
 loop-end-init g c =
-    let how : Laying =
-    record {
-      font = g.F.hb_font_t.font c.args.face.now;
-      choice = c.args.choice;
-      right_to_left =
-          c.args.right_to_left;
-    } in
-    record {
-      within = omega arith;
-      counted = counted_start how c.args.glyphs.now c.args.positions.now c.requires.both;
-      few = omega arith;
-    }
+    search (arith, counted_start)
 
 pub returns-in_err-last : goal.returns-in_err-last
 returns-in_err-last g c =
-    let how : Laying =
-    record {
+    let how : Laying = record {
       font = g.F.hb_font_t.font c.args.face.now;
       choice = c.args.choice;
       right_to_left =
           c.args.right_to_left;
     } in
-    let gs = c.args.glyphs.now in
-    let ps = c.args.positions.now in
-    let lost : overflows how (zip gs ps) ≡ true =
-    overflows_before how gs ps c.loop-end.end c.loop-end.added c.loop-end.invariant.counted
-    c.in_err-last.ensures in
-    subst (CountsAdded how (zip gs ps)) (sym c.from_residual.ensures) lost
+    search (arith, c.from_residual.ensures, zip-take)
 
 pub loop-end-preserved : goal.loop-end-preserved
 loop-end-preserved g c =
@@ -52,9 +36,4 @@ loop-end-preserved g c =
     counted_more how gs ps c.loop-end.end c.loop-end.added last.start last.added c.loop-end.invariant.counted
     c.in_ok-last.ensures.0 in
     let upto = length-take-le c.loop-end.end gs c.loop-end.invariant.within in
-    record {
-      within = omega (arith, c.in_ok-last.ensures.1);
-      counted = counted;
-      few = omega
-          (arith, c.in_ok-last.ensures.1, c.in_ok-last.ensures.2);
-    }
+    search arith

@@ -1,29 +1,21 @@
-use Rattle.std.proofs.Common.{sym, ◌∙◌, arith}
-use Rattle.shapers_stretch.proofs.LayBounds.{FoundLay, found_lay, unmeasured}
+use Rattle.shapers_stretch.proofs.Numbers.{numbers_apart}
+use Rattle.std.proofs.Common.{arith}
+use Rattle.shapers_stretch.proofs.LayBounds.{FoundLay, found_lay}
 use Rattle.shapers_stretch.proofs.ot_shaper_arabic_stretch.counting.count_run.Goals as goal
 
 pub offsets_fit-requires-clause-lay : goal.offsets_fit-requires-clause-lay
 offsets_fit-requires-clause-lay g c =
     let found : FoundLay c.args.choice c.args.right_to_left c.in_ok-run.run' c.in_ok-lay.lay =
-    found_lay c.args.choice c.args.right_to_left c.in_ok-run.run' c.in_ok-lay.lay (sym c.lay_of.ensures
-    ∙ c.in_ok-lay.was) in
+    found_lay c.args.choice c.args.right_to_left c.in_ok-run.run' c.in_ok-lay.lay (search arith) in
     found.small
 
 pub returns-in_err-run-clause-added : goal.returns-in_err-run-clause-added
-returns-in_err-run-clause-added g c = c.from_residual.ensures
-    ∙ unmeasured c.args.choice c.args.right_to_left (g.F.hb_font_t.font c.args.face.now) _ c.args.tiles.now
-    c.in_err-run.ensures
+returns-in_err-run-clause-added g c = search (arith, numbers_apart)
 
 pub overflow_mul-result : goal.overflow_mul-result
 overflow_mul-result g c =
-    let found : FoundLay c.args.choice c.args.right_to_left c.in_ok-run.run' c.in_ok-lay.lay =
-    found_lay c.args.choice c.args.right_to_left c.in_ok-run.run' c.in_ok-lay.lay (sym c.lay_of.ensures
-    ∙ c.in_ok-lay.was) in
-    omega (arith, found.copies)
+    omega (arith, (found_lay c.args.choice c.args.right_to_left c.in_ok-run.run' c.in_ok-lay.lay (search arith)).copies)
 
 pub returns-then-offsets_fit-clause-bound : goal.returns-then-offsets_fit-clause-bound
 returns-then-offsets_fit-clause-bound g c =
-    let found : FoundLay c.args.choice c.args.right_to_left c.in_ok-run.run' c.in_ok-lay.lay =
-    found_lay c.args.choice c.args.right_to_left c.in_ok-run.run' c.in_ok-lay.lay (sym c.lay_of.ensures
-    ∙ c.in_ok-lay.was) in
-    omega (arith, found.copies)
+    omega (arith, (found_lay c.args.choice c.args.right_to_left c.in_ok-run.run' c.in_ok-lay.lay (search arith)).copies)

@@ -1,4 +1,4 @@
-use Rattle.std.proofs.Common.{◌≡◌, ◌-◌, ◌+◌, ℕ, take, sym, subst, ap, ◌∙◌, arith, rules, FitsSigned, to_z}
+use Rattle.std.proofs.Common.{◌-◌, take, sym, subst, ap, ◌∙◌, arith, rules, to_z}
 use Rattle.std.proofs.lemmas.Int.{to_z-of_z}
 use mir.Syntax.{w64}
 use Rattle.shapers_buffer.specs.Glyph.{default_glyph}
@@ -13,27 +13,18 @@ loop-left-preserved g c =
     let lay = c.args.lay in
     let tiles = c.args.tiles.now in
     let pen = to_z w64 c.loop-left.pen-bits in
-    let i : ℕ = c.loop-left.left - 1 in
+    let i = c.loop-left.left - 1 in
     let behind = c.in-Some.behind in
-    let fits_behind : FitsSigned w64 behind = search rules in
-    let same_behind = to_z-of_z w64 behind fits_behind in
-    let at : i + 1 ≡ c.loop-left.left = omega arith in
+    let same_behind = to_z-of_z w64 behind (search rules) in
     record {
       within = omega arith;
       pen = subst IsNumber (sym same_behind) c.in-Some.ensures.2;
       same = ap (λ p. offsets_fit rtl p (run_moves font lay (take i tiles))) same_behind
           ∙ fits_next font lay rtl pen behind tiles i default_glyph (omega arith) c.in-Some.ensures
-          ∙ ap (λ n. offsets_fit rtl pen (run_moves font lay (take n tiles))) at ∙ c.loop-left.invariant.same;
+          ∙ ap (λ n. offsets_fit rtl pen (run_moves font lay (take n tiles)))
+          (omega arith) ∙ c.loop-left.invariant.same;
     }
 
 pub returns-in-None : goal.returns-in-None
 returns-in-None g c =
-    let font = g.F.hb_font_t.font c.args.face.now in
-    let rtl = c.args.right_to_left in
-    let lay = c.args.lay in
-    let tiles = c.args.tiles.now in
-    let pen = to_z w64 c.loop-left.pen-bits in
-    let i : ℕ = c.loop-left.left - 1 in
-    let at : i + 1 ≡ c.loop-left.left = omega arith in
-    sym (fits_not font lay rtl pen tiles i default_glyph (omega arith) c.in-None.ensures)
-    ∙ ap (λ n. offsets_fit rtl pen (run_moves font lay (take n tiles))) at ∙ c.loop-left.invariant.same
+    search (arith, fits_not)

@@ -1,4 +1,4 @@
-use Rattle.std.proofs.Common.{◌≡◌, ◌&&◌, true, false, ◌<◌, ◌≤◌, ◌+ℤ◌, ◌≤ℤ◌, ◌*◌, ◌-◌, neg_ℤ, pos, not, length, map, sym, subst, ap, ◌∙◌, arith, rules, length-append, FitsSigned, to_z, of_z, [], ◌∷◌}
+use Rattle.std.proofs.Common.{◌≡◌, false, ◌<◌, ◌≤◌, ◌+ℤ◌, ◌≤ℤ◌, ◌*◌, ◌-◌, neg_ℤ, pos, not, length, map, sym, subst, ap, ◌∙◌, arith, rules, length-append, FitsSigned, to_z, of_z, [], ◌∷◌}
 use Rattle.std.specs.List.{AllByRecursion, list_all}
 use Rattle.std.proofs.lemmas.Bool.{and_right}
 use Rattle.std.proofs.lemmas.Int.{to_z-of_z}
@@ -6,24 +6,20 @@ use Rattle.std.specs.Slice.Iter.{chunks_rest}
 use mir.Syntax.{w64, w128}
 use Rattle.shapers_clusters.proofs.LabelsAsMerged.{all_split}
 use Rattle.shapers_stretch.specs.Cells.{repeats}
-use Rattle.shapers_stretch.specs.Lays.{MeasuresRun}
 use Rattle.shapers_stretch.specs.Measure.{fits_i32, left, total}
 use Rattle.shapers_stretch.specs.Stretch.{fixed, measured, repeating, width_of}
 use Rattle.shapers_stretch.specs.declared.ot_shaper_arabic_stretch.measuring.Run.{Run}
 use Rattle.shapers_stretch.proofs.Numbers.{repeating_apart, same_run}
-use Rattle.shapers_stretch.proofs.Sums.{PieceBounds, kept_counted, kept_piece_counted, kept_piece_summed, kept_summed, length_kept, piece_bounds}
+use Rattle.shapers_stretch.proofs.Sums.{kept_counted, kept_piece_counted, kept_piece_summed, kept_summed, length_kept, piece_bounds}
 use Rattle.shapers_stretch.proofs.ot_shaper_arabic_stretch.measuring.measure_long.Goals as goal
 
 pub overflow_add-repeaters : goal.overflow_add-repeaters
 overflow_add-repeaters g c =
-    let steps = c.in-Some.ensures.steps in
-    let inv = c.loop-piece.invariant in
-    let count : c.measure_short-run.result.repeaters ≡ length (repeating c.in-Some.piece.now) =
-    ap (λ (z : Run). z.repeaters) c.measure_short-run.ensures in
     let counted = kept_piece_counted repeats _ (chunks_rest c.loop-piece.piece-iterator) c.in-Some.piece.now
-    (chunks_rest c.next.new.self) c.loop-piece.repeaters c.measure_short-run.result.repeaters steps.1.0 inv.7
-    count in
-    let few : length (repeating c.args.tiles.now) ≤ length c.args.tiles.now = length_kept repeats c.args.tiles.now in
+    (chunks_rest c.next.new.self) c.loop-piece.repeaters c.measure_short-run.result.repeaters
+    c.in-Some.ensures.steps.1.0 c.loop-piece.invariant.7
+    (ap (λ (z : Run). z.repeaters) c.measure_short-run.ensures) in
+    let few : length (repeating c.args.tiles.now) ≤ length c.args.tiles.now = search (arith, length_kept) in
     let fits : length c.args.tiles.now ≤ 18446744073709551615 = omega arith in
     omega (arith, counted, few, fits)
 
@@ -43,32 +39,29 @@ loop-piece-preserved g c =
     let more_2 = c.from-in-loop-piece.result in
     let fits_part : FitsSigned w64 part.fixed = search rules in
     let fits_part_2 : FitsSigned w64 part.repeating = search rules in
-    let fits_more : FitsSigned w128 more = record { sfits = c.from.type_inv } in
-    let fits_more_2 : FitsSigned w128 more_2 = record { sfits = c.from-in-loop-piece.type_inv } in
-    let short : more ≡ part.fixed = c.from.ensures ∙ to_z-of_z w64 part.fixed fits_part in
-    let short_2 : more_2 ≡ part.repeating = c.from-in-loop-piece.ensures ∙ to_z-of_z w64 part.repeating fits_part_2 in
-    let is : part ≡ measured font [] piece = c.measure_short-run.ensures in
-    let long = ap length steps.1.0 ∙ length-append piece rest in
-    let less : length rest < length old = omega (arith, long, steps.1.1, steps.1.2, inv.2) in
+    let short = c.from.ensures ∙ to_z-of_z w64 part.fixed fits_part in
+    let short_2 = c.from-in-loop-piece.ensures ∙ to_z-of_z w64 part.repeating fits_part_2 in
+    let is = c.measure_short-run.ensures in
+    let less : length rest < length old =
+    omega (arith, ap length steps.1.0 ∙ length-append piece rest, steps.1.1, steps.1.2, inv.2) in
     let most : all ≤ 18446744073709551615 = omega arith in
-    let bounds : PieceBounds all (length rest) (first +ℤ more) =
+    let bounds =
     piece_bounds all (length old) (length rest) first more most less inv.3
     (subst (FitsSigned w64) (sym short) fits_part) inv.8 inv.9 in
-    let bounds_2 : PieceBounds all (length rest) (second +ℤ more_2) =
+    let bounds_2 =
     piece_bounds all (length old) (length rest) second more_2 most less inv.3
     (subst (FitsSigned w64) (sym short_2) fits_part_2) inv.10 inv.11 in
-    let same : to_z w128 (of_z w128 (first +ℤ to_z w128 (of_z w128 more))) ≡ first +ℤ more =
-    ap (λ x. to_z w128 (of_z w128 (first +ℤ x))) (to_z-of_z w128 more fits_more)
+    let same =
+    ap (λ x. to_z w128 (of_z w128 (first +ℤ x))) (to_z-of_z w128 more (record { sfits = c.from.type_inv }))
     ∙ to_z-of_z w128 (first +ℤ more) bounds.fits in
-    let same_2 : to_z w128 (of_z w128 (second +ℤ to_z w128 (of_z w128 more_2))) ≡ second +ℤ more_2 =
-    ap (λ x. to_z w128 (of_z w128 (second +ℤ x))) (to_z-of_z w128 more_2 fits_more_2)
+    let same_2 =
+    ap (λ x. to_z w128 (of_z w128 (second +ℤ x))) (to_z-of_z w128 more_2
+    (record { sfits = c.from-in-loop-piece.type_inv }))
     ∙ to_z-of_z w128 (second +ℤ more_2) bounds_2.fits in
     let summed = kept_piece_summed (width_of font) (λ g. not (repeats g)) _ old piece rest first more steps.1.0 inv.5
     (short ∙ ap (λ (z : Run). z.fixed) is) in
     let summed_2 = kept_piece_summed (width_of font) repeats _ old piece rest second more_2 steps.1.0 inv.6 (short_2
-    ∙ ap (λ (z : Run). z.repeating) is) in
-    let counted = kept_piece_counted repeats _ old piece rest c.loop-piece.repeaters part.repeaters steps.1.0 inv.7
-    (ap (λ (z : Run). z.repeaters) is) in (
+    ∙ ap (λ (z : Run). z.repeating) is) in (
       search rules,
       tt,
       steps.0 ∙ inv.2,
@@ -77,7 +70,8 @@ loop-piece-preserved g c =
           (subst (AllByRecursion (λ g. g.glyph_id ≤ 65535)) steps.1.0 inv.4)).1,
       ap (λ x. x +ℤ total (map (width_of font) (fixed rest))) same ∙ summed,
       ap (λ x. x +ℤ total (map (width_of font) (repeating rest))) same_2 ∙ summed_2,
-      counted,
+      kept_piece_counted repeats _ old piece rest c.loop-piece.repeaters part.repeaters steps.1.0 inv.7 (ap (λ (z :
+          Run). z.repeaters) is),
       subst (λ x. neg_ℤ (pos (9223372036854775808 * (all - length rest))) ≤ℤ x) (sym same) bounds.low,
       subst (λ x. x ≤ℤ pos (9223372036854775808 * (all - length rest))) (sym same) bounds.high,
       subst (λ x. neg_ℤ (pos (9223372036854775808 * (all - length rest))) ≤ℤ x) (sym same_2) bounds_2.low,
@@ -87,40 +81,41 @@ loop-piece-preserved g c =
 -- a sum that doesn't fit
 word_apart : (z : Run) → fits_i32 z.word ≡ false → list_all fits_i32 (z.word ∷ z.fixed ∷ z.repeating ∷ left z ∷ [])
     ≡ false
-word_apart z e = ap (λ b. b && (fits_i32 z.fixed && (fits_i32 z.repeating && (fits_i32 (left z) && true)))) e
+word_apart z e = cc
 
 fixed_apart : (z : Run) → fits_i32 z.fixed ≡ false → list_all fits_i32 (z.word ∷ z.fixed ∷ z.repeating ∷ left z ∷ [])
     ≡ false
-fixed_apart z e = and_right (fits_i32 z.word) _ (ap (λ b. b && (fits_i32 z.repeating && (fits_i32 (left z) && true))) e)
+fixed_apart z e = search (arith, and_right)
 
 pub returns-in_err-narrowed : goal.returns-in_err-narrowed
 returns-in_err-narrowed g c =
-    let z = measured (g.F.hb_font_t.font c.args.face.now) c.args.word.now c.args.tiles.now in
-    let fits_word : FitsSigned w128 c.total_advance-word.result = record { sfits = c.total_advance-word.type_inv } in
-    let done : to_z w128 (of_z w128 c.total_advance-word.result) ≡ z.word =
-    to_z-of_z w128 c.total_advance-word.result fits_word ∙ c.total_advance-word.ensures in
-    subst (MeasuresRun z) (sym c.from_residual.ensures)
-    (word_apart z (ap fits_i32 (sym done) ∙ c.in_err-narrowed.ensures))
+    search (arith, word_apart, to_z-of_z, w128)
 
 pub returns-in_err-narrowed-2 : goal.returns-in_err-narrowed-2
 returns-in_err-narrowed-2 g c =
     let font = g.F.hb_font_t.font c.args.face.now in
     let z = measured font c.args.word.now c.args.tiles.now in
-    let done : to_z w128 c.loop-piece.fixed-bits ≡ z.fixed =
-    kept_summed (width_of font) (λ g. not (repeats g)) _ (chunks_rest c.loop-piece.piece-iterator)
-    (to_z w128 c.loop-piece.fixed-bits) c.in-None.ensures.steps.1.0 c.loop-piece.invariant.5 in
-    subst (MeasuresRun z) (sym c.from_residual-in_err-narrowed-2.ensures)
-    (fixed_apart z (ap fits_i32 (sym done) ∙ c.in_err-narrowed-2.ensures))
+    let done : to_z w128 c.loop-piece.fixed-bits ≡ z.fixed = kept_summed (width_of font) (λ g. not (repeats g)) _
+    (chunks_rest c.loop-piece.piece-iterator) (to_z w128 c.loop-piece.fixed-bits) c.in-None.ensures.steps.1.0
+    c.loop-piece.invariant.5 in
+    search (
+      arith,
+      c.from_residual-in_err-narrowed-2.ensures,
+      fixed_apart z (ap fits_i32 (sym done) ∙ c.in_err-narrowed-2.ensures),
+    )
 
 pub returns-in_err-narrowed-3 : goal.returns-in_err-narrowed-3
 returns-in_err-narrowed-3 g c =
     let font = g.F.hb_font_t.font c.args.face.now in
     let z = measured font c.args.word.now c.args.tiles.now in
-    let done : to_z w128 c.loop-piece.repeating-bits ≡ z.repeating =
-    kept_summed (width_of font) repeats _ (chunks_rest c.loop-piece.piece-iterator)
-    (to_z w128 c.loop-piece.repeating-bits) c.in-None.ensures.steps.1.0 c.loop-piece.invariant.6 in
-    subst (MeasuresRun z) (sym c.from_residual-in_err-narrowed-3.ensures)
-    (repeating_apart z (ap fits_i32 (sym done) ∙ c.in_err-narrowed-3.ensures))
+    let done : to_z w128 c.loop-piece.repeating-bits ≡ z.repeating = kept_summed (width_of font) repeats _
+    (chunks_rest c.loop-piece.piece-iterator) (to_z w128 c.loop-piece.repeating-bits) c.in-None.ensures.steps.1.0
+    c.loop-piece.invariant.6 in
+    search (
+      arith,
+      c.from_residual-in_err-narrowed-3.ensures,
+      repeating_apart z (ap fits_i32 (sym done) ∙ c.in_err-narrowed-3.ensures),
+    )
 
 pub returns : goal.returns
 returns g c =
@@ -128,15 +123,11 @@ returns g c =
     let rest = chunks_rest c.loop-piece.piece-iterator in
     let none = c.in-None.ensures.steps.1.0 in
     let inv = c.loop-piece.invariant in
-    let fits : FitsSigned w64 c.in_ok-narrowed.field-0 = search rules in
-    let fits_2 : FitsSigned w64 c.in_ok-narrowed-2.field-0 = search rules in
-    let fits_3 : FitsSigned w64 c.in_ok-narrowed-3.field-0 = search rules in
-    let fits_word : FitsSigned w128 c.total_advance-word.result = record { sfits = c.total_advance-word.type_inv } in
-    let word = to_z-of_z w64 c.in_ok-narrowed.field-0 fits ∙ c.in_ok-narrowed.ensures
-    ∙ to_z-of_z w128 c.total_advance-word.result fits_word ∙ c.total_advance-word.ensures in
-    let first = to_z-of_z w64 c.in_ok-narrowed-2.field-0 fits_2 ∙ c.in_ok-narrowed-2.ensures
-    ∙ kept_summed (width_of font) (λ g. not (repeats g)) _ rest (to_z w128 c.loop-piece.fixed-bits) none
-    inv.5 in
-    let second = to_z-of_z w64 c.in_ok-narrowed-3.field-0 fits_3 ∙ c.in_ok-narrowed-3.ensures
+    let word = to_z-of_z w64 c.in_ok-narrowed.field-0 (search rules) ∙ c.in_ok-narrowed.ensures
+    ∙ to_z-of_z w128 c.total_advance-word.result
+    (record { sfits = c.total_advance-word.type_inv }) ∙ c.total_advance-word.ensures in
+    let first = to_z-of_z w64 c.in_ok-narrowed-2.field-0 (search rules) ∙ c.in_ok-narrowed-2.ensures
+    ∙ kept_summed (width_of font) (λ g. not (repeats g)) _ rest (to_z w128 c.loop-piece.fixed-bits) none inv.5 in
+    let second = to_z-of_z w64 c.in_ok-narrowed-3.field-0 (search rules) ∙ c.in_ok-narrowed-3.ensures
     ∙ kept_summed (width_of font) repeats _ rest (to_z w128 c.loop-piece.repeating-bits) none inv.6 in
     same_run _ _ _ _ _ _ _ _ word first second (kept_counted repeats _ rest c.loop-piece.repeaters none inv.7)

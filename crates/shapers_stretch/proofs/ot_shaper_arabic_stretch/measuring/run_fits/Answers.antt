@@ -1,4 +1,5 @@
-use Rattle.std.proofs.Common.{rules, IsTrue, subst}
+use Rattle.std.proofs.Common.{arith}
+use Rattle.std.proofs.Common.{rules}
 use Rattle.shapers_stretch.proofs.Numbers.{run_fits_from}
 use Rattle.shapers_stretch.proofs.ot_shaper_arabic_stretch.measuring.run_fits.Goals as goal
 
@@ -7,4 +8,4 @@ returns-then-fits_i32-3-clause-value c = search rules
 
 pub returns-then-fits_i32-3-clause-fits : goal.returns-then-fits_i32-3-clause-fits
 returns-then-fits_i32-3-clause-fits c =
-    λ t. run_fits_from c.args.run (subst IsTrue (returns-then-fits_i32-3-clause-value c) t)
+    search (arith, run_fits_from, returns-then-fits_i32-3-clause-value)

@@ -1,9 +1,9 @@
-use Rattle.std.proofs.Common.{◌≡◌, ◌<◌, ◌+ℤ◌, ◌≤ℤ◌, ◌*◌, ◌-◌, neg_ℤ, pos, length, map, sym, subst, ap, ◌∙◌, arith, rules, length-append, FitsSigned, to_z, of_z}
+use Rattle.std.proofs.Common.{◌<◌, ◌+ℤ◌, ◌≤ℤ◌, ◌*◌, ◌-◌, neg_ℤ, pos, length, map, sym, subst, ap, ◌∙◌, arith, rules, length-append, FitsSigned, to_z, of_z}
 use Rattle.std.proofs.lemmas.Int.{to_z-of_z}
 use Rattle.std.specs.Slice.Iter.{chunks_rest}
 use mir.Syntax.{w64, w128}
 use Rattle.shapers_stretch.specs.Measure.{total}
-use Rattle.shapers_stretch.proofs.Sums.{PieceBounds, piece_bounds, piece_summed}
+use Rattle.shapers_stretch.proofs.Sums.{piece_bounds, piece_summed}
 use Rattle.shapers_stretch.proofs.ot_shaper_arabic_stretch.measuring.total_advance.Goals as goal
 
 pub loop-piece-preserved : goal.loop-piece-preserved
@@ -16,15 +16,14 @@ loop-piece-preserved c =
     let sum = to_z w128 c.loop-piece.sum-bits in
     let more = c.from-sum.result in
     let fits_short : FitsSigned w64 c.short_advance.result = record { sfits = c.short_advance.type_inv } in
-    let fits_from : FitsSigned w128 more = record { sfits = c.from-sum.type_inv } in
-    let short : more ≡ c.short_advance.result = c.from-sum.ensures ∙ to_z-of_z w64 c.short_advance.result fits_short in
-    let long = ap length steps.1.0 ∙ length-append c.in-Some.piece.now rest in
-    let less : length rest < length old = omega (arith, long, steps.1.1, steps.1.2, inv.2) in
-    let bounds : PieceBounds all (length rest) (sum +ℤ more) =
+    let short = c.from-sum.ensures ∙ to_z-of_z w64 c.short_advance.result fits_short in
+    let less : length rest < length old =
+    omega (arith, ap length steps.1.0 ∙ length-append c.in-Some.piece.now rest, steps.1.1, steps.1.2, inv.2) in
+    let bounds =
     piece_bounds all (length old) (length rest) sum more (omega arith) less inv.3
     (subst (FitsSigned w64) (sym short) fits_short) inv.5 inv.6 in
-    let same : to_z w128 (of_z w128 (sum +ℤ to_z w128 (of_z w128 more))) ≡ sum +ℤ more =
-    ap (λ x. to_z w128 (of_z w128 (sum +ℤ x))) (to_z-of_z w128 more fits_from)
+    let same =
+    ap (λ x. to_z w128 (of_z w128 (sum +ℤ x))) (to_z-of_z w128 more (record { sfits = c.from-sum.type_inv }))
     ∙ to_z-of_z w128 (sum +ℤ more) bounds.fits in
     let summed = piece_summed (λ p. p.x_advance) _ old c.in-Some.piece.now rest sum more steps.1.0 inv.4 (short
     ∙ c.short_advance.ensures) in (

@@ -1,4 +1,4 @@
-use Rattle.std.proofs.Common.{◌≡◌, ℕ, ℤ, ◌*◌, ◌^◌, ◌*ℤ◌, ◌≤ℤ◌, pos, arith, ap, subst, sym, ◌∙◌, FitsSigned, to_z, of_z}
+use Rattle.std.proofs.Common.{◌≡◌, ℕ, ℤ, ◌*◌, ◌^◌, ◌*ℤ◌, ◌≤ℤ◌, pos, arith, subst, sym, ◌∙◌, FitsSigned, to_z, of_z}
 use Rattle.std.proofs.lemmas.Int.{ints, to_z-of_z}
 use mir.Syntax.{w32, w64}
 use Rattle.shapers_stretch.specs.Measure.{times_added, copies_added, left, overlap, reach}
@@ -11,12 +11,11 @@ product : (z : Run) (times : ℕ) (copies shared : ℤ) → FitsSigned w64 copie
     → copies ≡ pos (times * z.repeaters) → times ≡ times_added z → shared ≡ overlap z
     → to_z w64 (of_z w64 copies) *ℤ to_z w64 (of_z w64 shared) ≡ pos (copies_added z) *ℤ overlap z
 product z times copies shared fits fits_shared e f h =
-    ap (λ n. n *ℤ to_z w64 (of_z w64 shared)) (to_z-of_z w64 copies fits ∙ e ∙ ap (λ n. pos (n * z.repeaters)) f)
-    ∙ ap (λ o. pos (copies_added z) *ℤ o) (to_z-of_z w64 shared fits_shared ∙ h)
+    search (arith, to_z-of_z, w64)
 
 within : (z : Run) (times : ℕ) → FitsSigned w32 (left z) → times ≡ times_added z → FitsSigned w32 (reach z times)
     → (pos 0 ≤ℤ (pos (copies_added z) *ℤ overlap z)) × ((pos (copies_added z) *ℤ overlap z) ≤ℤ pos (2 ^ 34))
-within z times rest f fits = shared_within z rest (subst (λ n. FitsSigned w32 (reach z n)) f fits)
+within z times rest f fits = shared_within z rest (search arith)
 
 pub shared_by-requires-clause-low : goal.shared_by-requires-clause-low
 shared_by-requires-clause-low c =
@@ -34,63 +33,54 @@ shared_by-requires-clause-high c =
 
 pub overflow_sub-result : goal.overflow_sub-result
 overflow_sub-result c =
-    let near : FitsSigned w32 c.reach.result = subst (FitsSigned w32) (sym c.reach.ensures.value) c.requires.reach in
-    let shared = c.shared_by.ensures
-    ∙ (product c.args.run c.args.times c.copies.result c.args.shared (record { sfits = c.copies.type_inv })
-    c.ranges.shared c.copies.ensures c.requires.added c.requires.overlap) in
     omega (
       arith,
       ints,
-      near,
-      shared,
+      subst (FitsSigned w32) (sym c.reach.ensures.value) c.requires.reach,
+      c.shared_by.ensures
+          ∙ (product c.args.run c.args.times c.copies.result c.args.shared (record { sfits = c.copies.type_inv })
+          c.ranges.shared c.copies.ensures c.requires.added c.requires.overlap),
       (within c.args.run c.args.times c.requires.fits.left c.requires.added c.requires.reach).0,
       (within c.args.run c.args.times c.requires.fits.left c.requires.added c.requires.reach).1,
     )
 
 pub returns-clause-value : goal.returns-clause-value
 returns-clause-value c =
-    let near : FitsSigned w32 c.reach.result = subst (FitsSigned w32) (sym c.reach.ensures.value) c.requires.reach in
-    let reached : c.reach.result ≡ reach c.args.run (times_added c.args.run) = c.reach.ensures.value
-    ∙ ap (reach c.args.run) c.requires.added in
-    let shared = c.shared_by.ensures
-    ∙ (product c.args.run c.args.times c.copies.result c.args.shared (record { sfits = c.copies.type_inv })
-    c.ranges.shared c.copies.ensures c.requires.added c.requires.overlap) in
+    let reached : c.reach.result ≡ reach c.args.run (times_added c.args.run) = search arith in
     omega (
       arith,
       ints,
-      near,
+      subst (FitsSigned w32) (sym c.reach.ensures.value) c.requires.reach,
       reached,
-      shared,
+      c.shared_by.ensures
+          ∙ (product c.args.run c.args.times c.copies.result c.args.shared (record { sfits = c.copies.type_inv })
+          c.ranges.shared c.copies.ensures c.requires.added c.requires.overlap),
       (within c.args.run c.args.times c.requires.fits.left c.requires.added c.requires.reach).0,
       (within c.args.run c.args.times c.requires.fits.left c.requires.added c.requires.reach).1,
     )
 
 pub returns-clause-low : goal.returns-clause-low
 returns-clause-low c =
-    let near : FitsSigned w32 c.reach.result = subst (FitsSigned w32) (sym c.reach.ensures.value) c.requires.reach in
-    let shared = c.shared_by.ensures
-    ∙ (product c.args.run c.args.times c.copies.result c.args.shared (record { sfits = c.copies.type_inv })
-    c.ranges.shared c.copies.ensures c.requires.added c.requires.overlap) in
     omega (
       arith,
       ints,
-      near,
-      shared,
+      subst (FitsSigned w32) (sym c.reach.ensures.value) c.requires.reach,
+      c.shared_by.ensures
+          ∙ (product c.args.run c.args.times c.copies.result c.args.shared (record { sfits = c.copies.type_inv })
+          c.ranges.shared c.copies.ensures c.requires.added c.requires.overlap),
       (within c.args.run c.args.times c.requires.fits.left c.requires.added c.requires.reach).0,
       (within c.args.run c.args.times c.requires.fits.left c.requires.added c.requires.reach).1,
     )
 
 pub returns-clause-high : goal.returns-clause-high
 returns-clause-high c =
-    let near : FitsSigned w32 c.reach.result = subst (FitsSigned w32) (sym c.reach.ensures.value) c.requires.reach in
-    let shared = c.shared_by.ensures
-    ∙ (product c.args.run c.args.times c.copies.result c.args.shared (record { sfits = c.copies.type_inv })
-    c.ranges.shared c.copies.ensures c.requires.added c.requires.overlap) in
     omega (
       arith,
       ints,
-      near,
-      shared,
+      subst (FitsSigned w32) (sym c.reach.ensures.value) c.requires.reach,
+      c.shared_by.ensures
+          ∙ (product c.args.run c.args.times c.copies.result c.args.shared (record { sfits = c.copies.type_inv })
+          c.ranges.shared c.copies.ensures c.requires.added c.requires.overlap),
       (within c.args.run c.args.times c.requires.fits.left c.requires.added c.requires.reach).0,
       (within c.args.run c.args.times c.requires.fits.left c.requires.added c.requires.reach).1,
     )

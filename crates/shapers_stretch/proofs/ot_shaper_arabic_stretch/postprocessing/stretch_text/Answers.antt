@@ -1,9 +1,10 @@
-use Rattle.std.proofs.Common.{Some, length, sym}
+use Rattle.std.proofs.Common.{arith}
+use Rattle.std.proofs.Common.{Some, length}
 use Rattle.shapers_stretch.specs.CountingWalk.{CountsAdded}
 use Rattle.shapers_stretch.specs.LayingWalk.{laying_by}
 use Rattle.shapers_stretch.specs.Stretch.{cells}
 use Rattle.shapers_stretch.proofs.Zips.{length-zipped}
-use Rattle.shapers_stretch.proofs.Postprocessing.{counted_in, has_room_in, refuses_counted, stretched_in}
+use Rattle.shapers_stretch.proofs.Postprocessing.{stretched_buffer, counted_in, has_room_in, refuses_counted}
 use Rattle.shapers_stretch.proofs.ot_shaper_arabic_stretch.postprocessing.stretch_text.Goals as goal
 
 pub walk_positioned-requires : goal.walk_positioned-requires
@@ -23,9 +24,7 @@ returns-in-Ok-clause-ok g c =
     let counted : CountsAdded how (cells b) (Some c.in-Some.added) =
     counted_in b how c.glyphs-glyphs.result.now c.positions-positions.result.now (Some c.in-Some.added)
     c.glyphs-glyphs.ensures c.positions-positions.ensures c.in-Some.ensures in
-    stretched_in b c.make_room.new.buffer how c.in-Some.added c.len-len.result c.walk_positioned.new.self
-    c.in-Ok.ensures.ok c.len-len.ensures.length c.requires.positions counted c.walk_positioned.ensures.walked
-    c.walk_positioned.ensures.others
+    search (arith, stretched_buffer b how c.in-Some.added c.walk_positioned.new.self c.requires.positions counted)
 
 pub returns-in-Ok-clause-refusal : goal.returns-in-Ok-clause-refusal
 returns-in-Ok-clause-refusal g c =
@@ -35,7 +34,7 @@ returns-in-Ok-clause-refusal g c =
     counted_in b how c.glyphs-glyphs.result.now c.positions-positions.result.now (Some c.in-Some.added)
     c.glyphs-glyphs.ensures c.positions-positions.ensures c.in-Some.ensures in
     refuses_counted how (cells b) c.in-Some.added (length b.glyphs) b.max_len _ counted
-    (length-zipped b.glyphs b.positions (sym c.requires.positions)) c.in-Ok.ensures.length
+    (search (arith, length-zipped)) c.in-Ok.ensures.length
 
 pub returns-in-Err-clause-refusal : goal.returns-in-Err-clause-refusal
 returns-in-Err-clause-refusal g c =
@@ -45,4 +44,4 @@ returns-in-Err-clause-refusal g c =
     counted_in b how c.glyphs-glyphs.result.now c.positions-positions.result.now (Some c.in-Some.added)
     c.glyphs-glyphs.ensures c.positions-positions.ensures c.in-Some.ensures in
     refuses_counted how (cells b) c.in-Some.added (length b.glyphs) b.max_len _ counted
-    (length-zipped b.glyphs b.positions (sym c.requires.positions)) c.in-Err.ensures.length
+    (search (arith, length-zipped)) c.in-Err.ensures.length

@@ -1,3 +1,4 @@
+use Rattle.std.proofs.Common.{arith}
 use Rattle.std.proofs.Common.{◌∙◌, ◌-◌, ◌+◌, of_z, subst, to_z, replicate, ◌∷◌, []}
 use Rattle.std.specs.List.{zip}
 use Rattle.std.proofs.lemmas.List.{replicate_more}
@@ -9,13 +10,7 @@ use Rattle.shapers_stretch.proofs.ot_shaper_arabic_stretch.tiles.lay_copies.Goal
 
 pub lay_copy-pen-requires-clause-can : goal.lay_copy-pen-requires-clause-can
 lay_copy-pen-requires-clause-can c =
-    let copy : Copy =
-    record { tile = (c.args.tile.glyph, c.args.tile.position); move = to_z w64 (of_z w64 c.args.step) } in
-    let l = c.loop in
-    let rest = replicate (c.args.count - (l.counter + 1)) copy in
-    can_first c.args.right_to_left (copy ∷ []) rest l.pen l.glyphs l.positions
-    (subst (λ copies. CanLay c.args.right_to_left copies l.pen l.glyphs l.positions)
-    (replicate_first c.args.count l.counter copy c.loop-test.true) l.invariant.can)
+    search (arith, can_first, replicate_first)
 
 pub loop-preserved : goal.loop-preserved
 loop-preserved c =
@@ -24,7 +19,6 @@ loop-preserved c =
     let l = c.loop in
     let n = c.lay_copy-pen.new in
     let after = c.lay_copy-pen.result in
-    let rest = replicate (c.args.count - (l.counter + 1)) copy in
     let all = subst (λ copies. CanLay c.args.right_to_left copies l.pen l.glyphs l.positions)
     (replicate_first c.args.count l.counter copy c.loop-test.true) l.invariant.can in
     let old = zip c.args.glyphs.now c.args.positions.now in
@@ -33,7 +27,8 @@ loop-preserved c =
       both = c.lay_copy-pen.ensures.both;
       same_length = c.lay_copy-pen.ensures.same_length ∙ l.invariant.same_length;
       near = c.lay_copy-pen.ensures.near;
-      can = can_rest c.args.right_to_left (copy ∷ []) rest l.pen after l.glyphs n.glyphs l.positions n.positions
+      can = can_rest c.args.right_to_left (copy ∷ [])
+          (replicate (c.args.count - (l.counter + 1)) copy) l.pen after l.glyphs n.glyphs l.positions n.positions
           (zip l.glyphs l.positions) now all c.lay_copy-pen.ensures.lays c.lay_copy-pen.ensures.same_length
           c.lay_copy-pen.ensures.both;
       lays = subst (λ copies. Lays c.args.right_to_left copies c.args.pen after old now) (replicate_more l.counter copy)

@@ -7,7 +7,7 @@ use Rattle.shapers_buffer.specs.Clusters.{merge_all}
 use Rattle.shapers_buffer.specs.Glyph.{default_glyph}
 use Rattle.shapers_text.specs.Thai.{stretch_of_sara_am}
 use Rattle.shapers_text.specs.ThaiWalk.{above_marks_before}
-use Rattle.shapers_text.proofs.ThaiStretches.{merging_length, merging_turn}
+use Rattle.shapers_text.proofs.ThaiStretches.{merging_turn}
 use Rattle.shapers_text.proofs.ot_shaper_thai.sara_am.merge_all_sara_am.Goals as goal
 use Rattle.shapers_text.proofs.ot_shaper_thai.sara_am.merge_all_sara_am.Goals.{then-is_sara_am, else-is_sara_am}
 
@@ -18,11 +18,10 @@ loop-i-preserved c =
     let level = c.args.level in
     let start = c.args.glyphs.now in
     let whole = with_run l.run l.glyphs in
-    let u = (get_or l.glyphs l.i default_glyph).glyph_id in
     let sts = stretch_of_sara_am level l.i (above_marks_before l.glyphs l.i) in
-    let long = merging_length level start l.glyphs l.run c.args.len l.i l.invariant.fits l.invariant.merging in
-    let read = sym (get_or-map (λ x. x.glyph_id) l.glyphs l.i default_glyph 0 (omega (arith, long, c.requires))) in
-    let turn = λ (after : List hb_glyph_info_t). merging_turn level start l.glyphs after l.run c.args.len l.i u
+    let read = sym (get_or-map (λ x. x.glyph_id) l.glyphs l.i default_glyph 0 (omega arith)) in
+    let turn = λ (after : List hb_glyph_info_t). merging_turn level start l.glyphs after l.run c.args.len l.i
+    ((get_or l.glyphs l.i default_glyph).glyph_id)
     c.requires c.loop-i-test.true l.invariant.fits l.invariant.merging read in
     elim c.if-is_sara_am.branch [
       | then-is_sara_am w ↦ record {

@@ -1,4 +1,5 @@
 -- Joining sees the characters, which categories leave.
+use Rattle.std.proofs.Common.{arith}
 use Rattle.std.proofs.Common.{◌∙◌, ap, subst, map}
 use Rattle.shapers_arabic.specs.Breaks.{BreaksWhereClear, NoneNeedless}
 use Rattle.shapers_arabic.specs.FirstPiece.{FirstKeepsAsFlagged}
@@ -8,23 +9,22 @@ use Rattle.shapers_universal.proofs.ot_shaper_use.masks.setup_masks.Goals as goa
 
 pub setup_masks_inner-requires : goal.setup_masks_inner-requires
 setup_masks_inner-requires g c =
-    rw c.set_categories.ensures (characters_stay _ _ (rw (c.in-Universal.is, c.in-Some.is) at c.requires.characters))
+    search (arith, characters_stay)
 
 pub returns-in-Some-clause-masks : goal.returns-in-Some-clause-masks
 returns-in-Some-clause-masks g c =
     let t = g.T.Tables.tables c.args.tables.now in
     let script = c.args.plan.now.script in
     let new = c.setup_masks_inner.new.buffer in
-    let auxiliaries = map (λ h. h.auxiliary) new.glyphs in
-    let masks = c.in-Some.arabic_plan.mask_array in
     let equation = c.setup_masks_inner.ensures.joined
-    ∙ ap (buffer_joined c.in-Some.arabic_plan.break_flags masks script t.joining t.general)
+    ∙ ap (buffer_joined c.in-Some.arabic_plan.break_flags c.in-Some.arabic_plan.mask_array script t.joining t.general)
     c.set_categories.ensures in
     let cut = subst (λ b. CutsAsHalves script t.joining t.general b new) c.set_categories.ensures
     c.setup_masks_inner.ensures.cut in
     rw (c.in-Universal.is, c.in-Some.is) (
       equation,
-      subst (λ text. HoldsCut script text auxiliaries) (text_stays t t.joining t.general c.args.buffer.now)
+      subst (λ text. HoldsCut script text
+          (map (λ h. h.auxiliary) new.glyphs)) (text_stays t t.joining t.general c.args.buffer.now)
           cut,
     )
 
@@ -37,8 +37,10 @@ returns-in-Some-clause-breaks g c =
     let breaks = c.in-Some.arabic_plan.break_flags in
     let clear = subst (λ b. BreaksWhereClear breaks masks script t.joining t.general b new) c.set_categories.ensures
     c.setup_masks_inner.ensures.breaks in
-    let needless = subst (λ b. NoneNeedless breaks masks script t.joining t.general b new) c.set_categories.ensures
-    c.setup_masks_inner.ensures.needless in
-    let first = subst (λ b. FirstKeepsAsFlagged breaks masks script t.joining t.general b new) c.set_categories.ensures
-    c.setup_masks_inner.ensures.first in
-    rw (c.in-Universal.is, c.in-Some.is) (clear, needless, first)
+    rw (c.in-Universal.is, c.in-Some.is) (
+      clear,
+      subst (λ b. NoneNeedless breaks masks script t.joining t.general b new) c.set_categories.ensures
+          c.setup_masks_inner.ensures.needless,
+      subst (λ b. FirstKeepsAsFlagged breaks masks script t.joining t.general b new) c.set_categories.ensures
+          c.setup_masks_inner.ensures.first,
+    )

@@ -1,9 +1,7 @@
 -- The first piece, then the others.
-use Rattle.std.proofs.Common.{◌≡◌, ◌+◌, ◌≤◌, length, ap, arith, sym, ◌∙◌}
-use Rattle.shapers_buffer.specs.Buffer.{Buffer}
+use Rattle.std.proofs.Common.{◌≡◌, ◌+◌, ap, arith, ◌∙◌}
 use Rattle.shapers_buffer.specs.Clusters.{stretch_of}
 use Rattle.shapers_buffer.specs.ListingWalk.{with_listed}
-use Rattle.shapers_buffer.proofs.ClusterLemmas.{length-stretch}
 use Rattle.shapers_universal.specs.Universal.{is_universal_halant}
 use Rattle.shapers_universal.specs.UniversalWalk.{first_piece_len, piece_places, syllable_places_in_order}
 use Rattle.shapers_universal.proofs.UniversalListing.{listed_twice}
@@ -20,24 +18,22 @@ returns c =
     let b1 = c.list_piece.new.buffer in
     let end = behind + c.piece_len.result in
     let len : c.piece_len.result ≡ first_piece_len is_universal_halant (stretch_of behind e gs) =
-    c.piece_len.ensures.len
-    ∙ ap (λ xs. first_piece_len is_universal_halant (stretch_of behind e xs)) c.glyphs.ensures in
-    let within : end ≤ e =
-    omega (
-      arith,
-      c.piece_len.ensures.within,
-      ap (λ xs. length (stretch_of behind e xs)) c.glyphs.ensures,
-      length-stretch behind e gs c.requires.in_range,
-      c.requires.inside,
-    ) in
-    let first = order_first s behind e end gs (omega (arith, c.requires.reph)) c.requires.inside c.requires.in_order
-    c.requires.in_range (calm_places s e behind gs (omega (arith, c.requires.in_order)) c.requires.in_range
-    c.requires.reph) (ap (λ k. behind + k) len) in
-    let long = length-piece s behind end gs (omega (arith, c.requires.reph)) (omega arith) in
-    let same = ap (λ b. b.glyphs) c.list_piece.ensures in
-    listed_twice s (piece_places s behind end gs) (syllable_places_in_order end end e gs) end b0 b1
-    c.list_pieces.new.buffer c.list_piece.ensures (omega (arith, long, c.requires.reph))
-    (c.list_pieces.ensures
-    ∙ ap (λ xs. (let r : Buffer = record b1
-    { places = with_listed end (syllable_places_in_order end end e xs) b1.places } in r)) same)
-    ∙ ap (λ order. (let r : Buffer = record b0 { places = with_listed s order b0.places } in r)) (sym first)
+    c.piece_len.ensures.len ∙ ap (λ xs. first_piece_len is_universal_halant (stretch_of behind e xs)) c.glyphs.ensures
+    in
+    cc (
+      listed_twice s (piece_places s behind end gs) (syllable_places_in_order end end e gs) end b0 b1
+          c.list_pieces.new.buffer c.list_piece.ensures
+          (omega (
+            arith,
+            length-piece s behind end gs (omega (arith, c.requires.reph)) (omega arith),
+            c.requires.reph,
+          ))
+          (c.list_pieces.ensures ∙ ap (λ xs. ((record b1 {
+            places = with_listed end (syllable_places_in_order end end
+                e xs) b1.places;
+          }))) (ap (λ b. b.glyphs) c.list_piece.ensures)),
+      order_first s behind e end gs (omega (arith, c.requires.reph)) c.requires.inside c.requires.in_order
+          c.requires.in_range
+          (calm_places s e behind gs (omega (arith, c.requires.in_order)) c.requires.in_range c.requires.reph)
+          (ap (λ k. behind + k) len),
+    )

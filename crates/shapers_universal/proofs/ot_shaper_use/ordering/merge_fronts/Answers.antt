@@ -7,7 +7,7 @@ use Rattle.shapers_universal.proofs.ot_shaper_use.ordering.merge_fronts.Goals as
 use Rattle.shapers_universal.proofs.ot_shaper_use.ordering.merge_fronts.Goals.{then-goes_front, else-goes_front+then-is_halant, else-goes_front+else-is_halant}
 
 pub loop-i-init : goal.loop-i-init
-loop-i-init c = merging_starts c.args.s c.args.behind c.args.e c.args.buffer.now c.requires.in_order
+loop-i-init c = search (arith, merging_starts)
 
 pub loop-i-preserved : goal.loop-i-preserved
 loop-i-preserved c =
@@ -41,6 +41,4 @@ loop-i-preserved c =
 
 pub returns : goal.returns
 returns c =
-    let l = c.loop-i in
-    merging_ends c.args.s c.args.behind c.args.e l.start l.i l.run c.args.buffer.now l.buffer c.write_run.new.self
-    (omega (arith, c.loop-i-test.false)) l.invariant c.write_run.ensures
+    search (arith, merging_ends)

@@ -1,15 +1,24 @@
 -- The merge and the move.
+use Rattle.shapers_buffer.specs.Clusters.{merge}
+use Rattle.shapers_clusters.proofs.Merging.{length-merge}
 use Rattle.std.proofs.Common.{◌-◌, arith}
-use Rattle.shapers_buffer.proofs.Placements.{forward_permutes}
-use Rattle.shapers_universal.proofs.OneFront.{front_moved}
+use Rattle.shapers_buffer.proofs.Placements.{rotated_stretch, placed_forward, forward_permutes}
+use Rattle.shapers_universal.proofs.OneFront.{turned_is}
 use Rattle.shapers_universal.proofs.ot_shaper_use.ordering.move_to_front.Goals as goal
 
 pub apply-requires-clause-permutes : goal.apply-requires-clause-permutes
 apply-requires-clause-permutes c =
     forward_permutes c.args.start (c.args.end - 1) 1 c.args.s c.args.e c.merge_clusters.new.self.places c.requires.from
-    (omega (arith, c.requires.some)) (omega (arith, c.requires.some, c.requires.to))
+    (omega (arith, c.requires.some)) (search arith)
 
 pub returns : goal.returns
-returns c = front_moved c.args.s c.args.e c.args.start c.args.end c.args.buffer.now c.merge_clusters.new.self
-    c.apply.new.self c.requires.from c.requires.some c.requires.to c.requires.in_range c.merge_clusters.ensures
-    c.apply.ensures
+returns c =
+    let ms = merge c.args.buffer.now.level c.args.start c.args.end c.args.buffer.now.glyphs in
+    let long = length-merge c.args.buffer.now.level c.args.start c.args.end c.args.buffer.now.glyphs (omega arith) in
+    search (
+      arith,
+      placed_forward c.args.start (c.args.end - 1) 1 c.args.s c.args.e c.merge_clusters.new.self.places ms
+          c.requires.from (omega arith) (omega arith) (omega (arith, long)),
+      rotated_stretch c.args.start (c.args.end - 1) 1 ms (omega arith) (omega (arith, long)),
+      turned_is c.args.start c.args.end ms c.requires.some (omega (arith, long)),
+    )

@@ -1,5 +1,5 @@
 -- The places listed, the merges, and the syllable written.
-use Rattle.std.proofs.Common.{◌≡◌, ◌+◌, ap, arith, ◌∙◌}
+use Rattle.std.proofs.Common.{◌≡◌, ◌+◌, arith}
 use Rattle.shapers_buffer.specs.Clusters.{stretch_of}
 use Rattle.shapers_universal.specs.Universal.{reph_run}
 use Rattle.shapers_universal.specs.Proved.Reordered.{Parts, parts_make, parts_permute, parts_reordered}
@@ -21,14 +21,13 @@ apply-requires-clause-in_range c =
     } in
     let made = parts_make s e behind c.args.buffer.now c.list_order.new.buffer c.merge_clusters.new.self
     c.merge_fronts.new.buffer parts in
-    omega (arith, made.as_long, c.requires.in_range)
+    search arith
 
 pub apply-requires-clause-permutes : goal.apply-requires-clause-permutes
 apply-requires-clause-permutes c =
     let s = c.args.s in
-    let e = c.args.e in
-    let behind = s + c.reph_run.result in
-    let parts : Parts s e behind c.args.buffer.now c.list_order.new.buffer c.merge_clusters.new.self
+    let parts : Parts s c.args.e
+    (s + c.reph_run.result) c.args.buffer.now c.list_order.new.buffer c.merge_clusters.new.self
     c.merge_fronts.new.buffer =
     record {
       in_order = c.requires.in_order;
@@ -37,9 +36,7 @@ apply-requires-clause-permutes c =
       joined = c.merge_clusters.ensures;
       merged = c.merge_fronts.ensures;
     } in
-    let made = parts_make s e behind c.args.buffer.now c.list_order.new.buffer c.merge_clusters.new.self
-    c.merge_fronts.new.buffer parts in
-    parts_permute s e behind c.args.buffer.now c.merge_fronts.new.buffer made
+    search (arith, parts_permute, parts_make)
 
 pub returns : goal.returns
 returns c =
@@ -58,6 +55,5 @@ returns c =
     let made = parts_make s e behind c.args.buffer.now c.list_order.new.buffer c.merge_clusters.new.self
     c.merge_fronts.new.buffer parts in
     let run : behind ≡ s + reph_run (stretch_of s e c.args.buffer.now.glyphs) =
-    ap (λ k. s + k) (c.reph_run.ensures.len ∙ ap (λ xs. reph_run (stretch_of s e xs)) c.glyphs.ensures) in
-    parts_reordered s e behind c.args.buffer.now c.merge_fronts.new.buffer c.apply.new.self c.requires.in_order
-    c.requires.in_range c.requires.kind run made c.apply.ensures
+    search arith in
+    search (arith, parts_reordered)

@@ -1,17 +1,13 @@
 -- What the pause requires of numbers, and the laws of a hook that reorders, from its steps.
+use Rattle.std.proofs.Common.{arith}
 use Rattle.std.proofs.lemmas.Result.{on_ok_weaker}
-use Rattle.shapers_syllabic.specs.Circles.{circled}
-use Rattle.shapers_syllabic.specs.Reordering.{script_circles}
 use Rattle.shapers_syllabic.proofs.LinkedSyllables.{takes_any}
-use Rattle.shapers_universal.specs.UniversalText.{universal_circles}
 use Rattle.shapers_universal.specs.Proved.UniversalSteps.{universal_moves}
 use Rattle.shapers_universal.proofs.ot_shaper_use.reordering.reorder_use.Goals as goal
 
 pub reorder_pause-requires-clause-takes : goal.reorder_pause-requires-clause-takes
 reorder_pause-requires-clause-takes g c =
-    takes_any (λ _. Unit {0}) (λ _. tt)
-    (circled (script_circles universal_circles (g.F.hb_font_t.font c.args.face.now) c.args.buffer.now)
-    c.args.buffer.now.glyphs)
+    search (arith, takes_any)
 
 pub returns-clause-laws : goal.returns-clause-laws
 returns-clause-laws g c =

@@ -12,9 +12,9 @@ finish_forms-requires g c =
     let gs = c.args.glyphs.now in
     let hs = c.join.new.glyphs in
     let done = c.join.ensures.joined before.0 after.0 before.1 after.1 in
-    let same = joined-characters w.flags before.0 (stored_types joining gs) after.0 gs hs done.flagged in
     have-masks c.flag_breaks.new.glyphs before.0 (stored_types joining gs) after.0
-    (forms-kept w.breaks w.script (text_between before.0 joining gs after.0) hs c.flag_breaks.new.glyphs same
+    (forms-kept w.breaks w.script (text_between before.0 joining gs after.0) hs c.flag_breaks.new.glyphs
+    (joined-characters w.flags before.0 (stored_types joining gs) after.0 gs hs done.flagged)
     done.forms_are c.flag_breaks.ensures)
 
 pub returns : goal.returns

@@ -1,4 +1,4 @@
-use Rattle.std.proofs.Common.{arith, sym, ap, ◌∙◌, Some}
+use Rattle.std.proofs.Common.{arith}
 use Rattle.std.proofs.lemmas.Option.{slice_get-get_or, slice_get_past}
 use Rattle.shapers_buffer.specs.Category.{categories}
 use Rattle.shapers_buffer.specs.declared.buffer.category.hb_unicode_general_category_t.TheVariants.{Cn}
@@ -6,8 +6,7 @@ use Rattle.shapers_buffer.proofs.buffer.category.hb_unicode_general_category_t.f
 
 pub returns-then-number-lt30 : goal.returns-then-number-lt30
 returns-then-number-lt30 c =
-    ap Some c.from_number_or_unassigned.ensures
-    ∙ sym (slice_get-get_or categories c.args.number Cn (omega (arith, c.if-number-lt30.true)))
+    cc (c.from_number_or_unassigned.ensures, slice_get-get_or categories c.args.number Cn (omega arith))
 
 pub returns-else-number-lt30 : goal.returns-else-number-lt30
-returns-else-number-lt30 c = sym (slice_get_past categories c.args.number (omega (arith, c.if-number-lt30.false)))
+returns-else-number-lt30 c = search (arith, slice_get_past)

@@ -1,4 +1,5 @@
 -- The calls, one after another; a pref glyph is tried or not.
+use Rattle.std.proofs.Common.{arith}
 use Rattle.shapers_indic_final.proofs.FinalSyllable.{Calls, final_syllable, last_none, last_tried, viewed_in}
 use Rattle.shapers_indic_final.proofs.ot_shaper_indic_final.reordering.FinalOrderReorder.reorder.Goals.{After-place_reph-base}
 use Rattle.shapers_indic_final.proofs.ot_shaper_indic_final.reordering.FinalOrderReorder.reorder.Goals as goal
@@ -7,17 +8,7 @@ calls : (c : After-place_reph-base) → Calls c.args.self.now.rules.now c.args.s
     c.args.end c.settle_base-based.result.base c.place_reph-base.result c.settle_base-based.result.tries_pref
     c.args.buffer.now c.recover_viramas.new.buffer c.settle_base-based.new.buffer c.place_matras.new.buffer
     c.place_reph-base.new.buffer
-calls c = record {
-  in_order = c.requires.in_order;
-  in_range = c.requires.in_range;
-  viramas = c.recover_viramas.ensures;
-  based_are = c.settle_base-based.ensures.glyphs;
-  base_is = c.settle_base-based.ensures.base;
-  tries_is = c.settle_base-based.ensures.tries;
-  matras = c.place_matras.ensures.glyphs;
-  reph = c.place_reph-base.ensures.glyphs;
-  next_is = c.place_reph-base.ensures.place;
-}
+calls c = search arith
 
 pub returns-then-based-clause-related : goal.returns-then-based-clause-related
 returns-then-based-clause-related c =
@@ -43,7 +34,7 @@ returns-else-based-clause-related c =
     let next = c.place_reph-base.result in
     let tries = c.settle_base-based.result.tries_pref in
     let b4 = c.place_reph-base.new.buffer in
-    let viewed = viewed_in r script c.requires.takes in
     final_syllable r script s e c.settle_base-based.result.base next tries c.args.buffer.now
-    c.recover_viramas.new.buffer c.settle_base-based.new.buffer c.place_matras.new.buffer b4 b4 viewed (calls c.before)
+    c.recover_viramas.new.buffer c.settle_base-based.new.buffer c.place_matras.new.buffer b4 b4
+    (viewed_in r script c.requires.takes) (calls c.before)
     (last_none r script s e next tries b4 c.requires.in_order c.if-based.false)

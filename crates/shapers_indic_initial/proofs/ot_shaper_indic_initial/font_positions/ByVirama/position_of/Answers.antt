@@ -1,7 +1,6 @@
 -- What is kept is true.
-use Rattle.std.proofs.Common.{rules, ◌%◌, ◌<◌, length, ap, ◌∙◌, arith}
+use Rattle.std.proofs.Common.{rules, ◌%◌, ap, ◌∙◌, arith}
 use Rattle.std.proofs.lemmas.List.Elements.{All-get_or}
-use Rattle.shapers_base.specs.declared.font.GlyphId.{GlyphId}
 use Rattle.shapers_indic_initial.specs.InitialFont.{consonant_position}
 use Rattle.shapers_indic_initial.specs.KnownWalk.{IsKnown}
 use Rattle.shapers_indic_initial.proofs.ot_shaper_indic_initial.font_positions.ByVirama.position_of.Goals as goal
@@ -13,7 +12,6 @@ returns-then-kept-consonant-clause-position g c =
     let p = c.args.self.now.rules.now.plan.now in
     let v = c.args.self.now.virama in
     let i = c.from-slot.result % 32 in
-    let within : i < length c.args.known.now = search (rules, arith) in
-    All-get_or (IsKnown font m p v) c.args.known.now i (record { consonant = record { 0 = 0 }; position = 0 }) within
-    c.requires
-    ∙ ap (λ n. consonant_position font m p v (let q : GlyphId = record { 0 = n } in q)) c.if-kept-consonant.true
+    All-get_or (IsKnown font m p v) c.args.known.now i (record { consonant = record { 0 = 0 }; position = 0 })
+    (search (rules, arith)) c.requires
+    ∙ ap (λ n. consonant_position font m p v ((record { 0 = n }))) c.if-kept-consonant.true

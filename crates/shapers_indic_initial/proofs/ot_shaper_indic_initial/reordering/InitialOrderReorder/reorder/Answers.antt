@@ -1,10 +1,10 @@
 -- The parts of a syllable that is reordered, and another one.
-use Rattle.std.proofs.Common.{◌≡◌, ap, refl, sym, ◌∙◌, subst, []}
+use Rattle.std.proofs.Common.{arith}
+use Rattle.std.proofs.Common.{ap, refl, sym, ◌∙◌, subst, []}
 use Rattle.shapers_buffer.specs.Clusters.{stretch_of}
 use Rattle.shapers_indic_initial.specs.InitialReordering.{is_reordered_in_indic, masked_in_order}
 use Rattle.shapers_indic_initial.specs.InitialRules.{initial_rules}
 use Rattle.shapers_indic_initial.proofs.InitialSyllable.{initial_syllable, other_syllable}
-use Rattle.shapers_indic.specs.Glyphs.{is_plain_consonant}
 use Rattle.shapers_indic_initial.proofs.PlainConsonant.{plain_here}
 use Rattle.shapers_syllabic.specs.Reordering.{SyllableReordered}
 use Rattle.shapers_indic_initial.proofs.ot_shaper_indic_initial.reordering.InitialOrderReorder.reorder.Goals as goal
@@ -20,34 +20,31 @@ returns-then-is_reordered-clause-related g c =
     let b3 = c.order_syllable-base.new.buffer in
     let b4 = c.mask_syllable.new.buffer in
     let order = c.order_syllable-base.ensures.syllable r refl in
-    let script2 : b2.script ≡ b1.script = ap (λ b. b.script) c.prepare_for_order.ensures.reordered.others in
-    let script3 : b3.script ≡ b2.script = ap (λ b. b.script) order.others in
     initial_syllable r b1.script s e b1 b2 b3 b4 c.requires.in_order c.requires.in_range
     (ap (λ gs. is_reordered_in_indic (stretch_of s e gs)) (sym c.glyphs-2.ensures) ∙ sym c.is_reordered.ensures
     ∙ c.if-is_reordered.true)
     c.prepare_for_order.ensures.reordered
     order
-    (subst (λ script. SyllableReordered (masked_in_order r script) (λ _. []) s e b3 b4) (script3 ∙ script2)
+    (subst (λ script. SyllableReordered (masked_in_order r script) (λ _. []) s e b3 b4) (
+    ap (λ b. b.script) order.others ∙ ap (λ b. b.script) c.prepare_for_order.ensures.reordered.others)
     c.mask_syllable.ensures)
 
 pub returns-else-is_reordered-clause-related : goal.returns-else-is_reordered-clause-related
 returns-else-is_reordered-clause-related g c =
     let instance = c.args.self.now.rules.now in
-    let r = initial_rules (g.F.hb_font_t.font instance.face.now) instance.map.now instance.plan.now in
     let s = c.args.start in
     let e = c.args.end in
     let b = c.args.buffer.now in
-    other_syllable r b.script s e b c.requires.in_order
+    other_syllable
+    (initial_rules (g.F.hb_font_t.font instance.face.now) instance.map.now instance.plan.now) b.script s e b c.requires.in_order
     (ap (λ gs. is_reordered_in_indic (stretch_of s e gs)) (sym c.glyphs-2.ensures) ∙ sym c.is_reordered.ensures
     ∙ c.if-is_reordered.false)
 
 pub returns-then-is_plain_consonant-clause-related : goal.returns-then-is_plain_consonant-clause-related
 returns-then-is_plain_consonant-clause-related g c =
     let instance = c.args.self.now.rules.now in
-    let r = initial_rules (g.F.hb_font_t.font instance.face.now) instance.map.now instance.plan.now in
-    let s = c.args.start in
-    let e = c.args.end in
     let b = c.args.buffer.now in
-    plain_here r b.script s e b c.requires.in_order c.requires.in_range
-    (ap (λ gs. is_plain_consonant (stretch_of s e gs)) (sym c.glyphs.ensures) ∙ sym c.is_plain_consonant.ensures
-    ∙ c.if-is_plain_consonant.true)
+    plain_here
+    (initial_rules (g.F.hb_font_t.font instance.face.now) instance.map.now instance.plan.now) b.script
+    c.args.start c.args.end b c.requires.in_order c.requires.in_range
+    (search arith)

@@ -12,8 +12,8 @@ lay_run-place-requires-clause-run g c =
     let u = c.args.unlaid in
     let l = part_unlaid how c.args.glyphs.now c.args.positions.now p.start p.word p.tiles u.end u.place c.requires.some
     c.requires.unlaid e.tiles e.word e.start in
-    let some : p.tiles < u.end = omega (arith, l.tiles_fit, c.if-part-unlaid.false) in
-    part_can how c.args.glyphs.now c.args.positions.now p.start p.word p.tiles u.end u.place some c.requires.unlaid l
+    let some : p.tiles < u.end = search arith in
+    search (arith, part_can)
 
 pub returns-then-part-unlaid-clause-laid : goal.returns-then-part-unlaid-clause-laid
 returns-then-part-unlaid-clause-laid g c =
@@ -22,12 +22,9 @@ returns-then-part-unlaid-clause-laid g c =
     let p = c.last_part-part.result in
     let e = c.last_part-part.ensures in
     let u = c.args.unlaid in
-    let n = c.move_up.new in
     let l = part_unlaid how c.args.glyphs.now c.args.positions.now p.start p.word p.tiles u.end u.place c.requires.some
     c.requires.unlaid e.tiles e.word e.start in
-    part_moved how c.args.glyphs.now n.glyphs c.args.positions.now n.positions p.start p.word p.tiles u.end u.place
-    c.if-part-unlaid.true c.requires.unlaid l c.move_up.ensures.same_length c.move_up.ensures.both
-    c.move_up.ensures.kept c.move_up.ensures.up
+    search (arith, part_moved)
 
 pub returns-then-part-unlaid-clause-shorter : goal.returns-then-part-unlaid-clause-shorter
 returns-then-part-unlaid-clause-shorter g c =
@@ -48,10 +45,9 @@ move_up-requires-2-clause-ahead g c =
     let u = c.args.unlaid in
     let l = part_unlaid how c.args.glyphs.now c.args.positions.now p.start p.word p.tiles u.end u.place c.requires.some
     c.requires.unlaid e.tiles e.word e.start in
-    let some : p.tiles < u.end = omega (arith, l.tiles_fit, c.if-part-unlaid.false) in
-    let can = part_can how c.args.glyphs.now c.args.positions.now p.start p.word p.tiles u.end u.place some
+    let can = part_can how c.args.glyphs.now c.args.positions.now p.start p.word p.tiles u.end u.place (search arith)
     c.requires.unlaid l in
-    omega (arith, can.room, c.lay_run-place.ensures.place)
+    search arith
 
 pub overflow_sub-result-3 : goal.overflow_sub-result-3
 overflow_sub-result-3 g c =
@@ -62,8 +58,7 @@ overflow_sub-result-3 g c =
     let u = c.args.unlaid in
     let l = part_unlaid how c.args.glyphs.now c.args.positions.now p.start p.word p.tiles u.end u.place c.requires.some
     c.requires.unlaid e.tiles e.word e.start in
-    let some : p.tiles < u.end = omega (arith, l.tiles_fit, c.if-part-unlaid.false) in
-    let can = part_can how c.args.glyphs.now c.args.positions.now p.start p.word p.tiles u.end u.place some
+    let can = part_can how c.args.glyphs.now c.args.positions.now p.start p.word p.tiles u.end u.place (search arith)
     c.requires.unlaid l in
     omega (arith, can.room, c.lay_run-place.ensures.place)
 
@@ -79,8 +74,8 @@ returns-clause-laid g c =
     let n = c.move_up-2.new in
     let l = part_unlaid how c.args.glyphs.now c.args.positions.now p.start p.word p.tiles u.end u.place c.requires.some
     c.requires.unlaid e.tiles e.word e.start in
-    let some : p.tiles < u.end = omega (arith, l.tiles_fit, c.if-part-unlaid.false) in
     part_laid how c.args.glyphs.now h.glyphs n.glyphs c.args.positions.now h.positions n.positions p.start p.word
-    p.tiles u.end u.place c.lay_run-place.result some c.requires.unlaid l r.same_length
+    p.tiles u.end u.place c.lay_run-place.result
+    (omega (arith, l.tiles_fit, c.if-part-unlaid.false)) c.requires.unlaid l r.same_length
     c.move_up-2.ensures.same_length c.move_up-2.ensures.both r.flagged r.laid r.place c.move_up-2.ensures.kept
     c.move_up-2.ensures.up

@@ -1,3 +1,8 @@
+use Rattle.std.proofs.lemmas.List.{take-take}
+use Rattle.shapers_stretch.proofs.LayBounds.{no_lay}
+use Rattle.std.proofs.lemmas.List.Folds.{list_all-append}
+use borrow.Author.Tests.{clash}
+use Rattle.std.proofs.lemmas.Bool.{and_parts}
 use Rattle.std.proofs.Common.{◌≡◌, ◌∙◌, ap, sym, subst, arith, of_z, to_z, length, ◌+◌, ◌≤◌}
 use Rattle.std.specs.List.{zip}
 use mir.Syntax.{w64}
@@ -5,16 +10,15 @@ use Rattle.shapers_buffer.specs.Clusters.{stretch_of}
 use Rattle.shapers_stretch.specs.Cells.{glyphs_of, positions_of}
 use Rattle.shapers_stretch.specs.LayingWalk.{CanLay, Lays, laying_by, run_copies}
 use Rattle.shapers_stretch.specs.Lays.{lay_if_fits}
-use Rattle.shapers_stretch.specs.Measure.{start}
+use Rattle.shapers_stretch.specs.Measure.{numbers_to_fit, fits_i32, start}
 use Rattle.shapers_stretch.specs.Stretch.{copies, measured}
 use Rattle.shapers_stretch.proofs.Flagging.{all_stretch, flags_made, numbers_stay}
-use Rattle.shapers_stretch.proofs.RunLaying.{copies_same, lay_is, lay_some, measured_is, measured_slices, run_can, run_front, run_laid, run_place, run_room, start_is, start_read_near}
+use Rattle.shapers_stretch.proofs.RunLaying.{copies_same, lay_is, measured_is, measured_slices, run_can, run_laid, run_place, run_room, start_is, start_read_near}
 use Rattle.shapers_stretch.proofs.ot_shaper_arabic_stretch.tiles.TileLaying.lay_run.Goals as goal
 
 pub lay_of_run-found-requires : goal.lay_of_run-found-requires
 lay_of_run-found-requires g c =
-    all_stretch (λ g. g.glyph_id ≤ 65535) c.args.part.tiles c.args.unlaid.end c.args.glyphs.now
-    c.requires.run.glyph_numbers
+    search (arith, all_stretch)
 
 pub lay_tiles-requires-clause-overlap_low : goal.lay_tiles-requires-clause-overlap_low
 lay_tiles-requires-clause-overlap_low g c =
@@ -32,34 +36,34 @@ pub lay_tiles-requires-clause-near : goal.lay_tiles-requires-clause-near
 lay_tiles-requires-clause-near g c =
     start_read_near c.args.self.now.choice c.args.self.now.right_to_left
     (measured_slices (g.F.hb_font_t.font c.args.self.now.face.now) c.args.part.word c.args.part.tiles c.args.unlaid.end
-    c.args.glyphs.now c.args.positions.now) c.in-Some.lay (sym c.lay_of_run-found.ensures ∙ c.in-Some.is)
+    c.args.glyphs.now c.args.positions.now) c.in-Some.lay (search arith)
 
 pub lay_tiles-requires-clause-numbers : goal.lay_tiles-requires-clause-numbers
 lay_tiles-requires-clause-numbers g c =
     numbers_stay (λ n. n ≤ 65535) c.args.part.word c.args.unlaid.end c.args.glyphs.now c.unsafe_to_break_in.new.glyphs
-    (omega (arith, c.requires.word, c.requires.run.order)) c.unsafe_to_break_in.ensures c.requires.run.glyph_numbers
+    (search arith) c.unsafe_to_break_in.ensures c.requires.run.glyph_numbers
 
 pub lay_tiles-requires-clause-can : goal.lay_tiles-requires-clause-can
 lay_tiles-requires-clause-can g c =
     let font = g.F.hb_font_t.font c.args.self.now.face.now in
-    let how = laying_by font c.args.self.now.choice c.args.self.now.right_to_left in
     let p = c.args.part in
     let u = c.args.unlaid in
     let r = c.requires.run in
     let old = zip c.args.glyphs.now c.args.positions.now in
     let word = stretch_of p.word p.tiles old in
     let tiles = stretch_of p.tiles u.end old in
-    let z = measured font (positions_of word) (glyphs_of tiles) in
     let within : u.end ≤ length c.args.glyphs.now = omega (arith, r.ahead, r.within) in
     let is : (measured_slices (g.F.hb_font_t.font c.args.self.now.face.now) c.args.part.word c.args.part.tiles
     c.args.unlaid.end c.args.glyphs.now c.args.positions.now)
-    ≡ z = measured_is font p.word p.tiles u.end c.args.glyphs.now c.args.positions.now r.order within r.both in
+    ≡
+    (measured font (positions_of word) (glyphs_of tiles)) = measured_is font p.word p.tiles u.end c.args.glyphs.now c.args.positions.now r.order within r.both in
     let flags = flags_made p.word p.tiles u.end c.args.glyphs.now c.unsafe_to_break_in.new.glyphs c.args.positions.now
     c.requires.word r.order within r.both c.unsafe_to_break_in.ensures in
     let from = start_is c.args.self.now.choice c.args.self.now.right_to_left
     (measured_slices (g.F.hb_font_t.font c.args.self.now.face.now) c.args.part.word c.args.part.tiles
-    c.args.unlaid.end c.args.glyphs.now c.args.positions.now) c.in-Some.lay (sym c.lay_of_run-found.ensures
-    ∙ c.in-Some.is) ∙ ap (start c.args.self.now.choice c.args.self.now.right_to_left) is in
+    c.args.unlaid.end c.args.glyphs.now c.args.positions.now) c.in-Some.lay
+    (sym c.lay_of_run-found.ensures ∙ c.in-Some.is)
+    ∙ ap (start c.args.self.now.choice c.args.self.now.right_to_left) is in
     let cs = stretch_of p.tiles u.end (zip c.unsafe_to_break_in.new.glyphs c.args.positions.now) in
     let same : run_copies font c.in-Some.lay cs
     ≡ copies font (measured_slices (g.F.hb_font_t.font c.args.self.now.face.now) c.args.part.word
@@ -73,24 +77,24 @@ lay_tiles-requires-clause-can g c =
     subst (λ run. CanLay c.args.self.now.right_to_left run
     (record { at = to_z w64 (of_z w64 c.in-Some.lay.start); place = u.place }) c.unsafe_to_break_in.new.glyphs
     c.args.positions.now) (sym (same ∙ ap (λ run. copies font run cs) is))
-    (run_can how word tiles cs p.tiles u.end u.place c.args.glyphs.now c.unsafe_to_break_in.new.glyphs
+    (run_can
+    (laying_by font c.args.self.now.choice c.args.self.now.right_to_left) word tiles cs p.tiles u.end u.place c.args.glyphs.now c.unsafe_to_break_in.new.glyphs
     c.args.positions.now _ r flags.tiles flags.same_length from)
 
 pub lay_tiles-requires-clause-room : goal.lay_tiles-requires-clause-room
 lay_tiles-requires-clause-room g c =
     let font = g.F.hb_font_t.font c.args.self.now.face.now in
-    let how = laying_by font c.args.self.now.choice c.args.self.now.right_to_left in
     let p = c.args.part in
     let u = c.args.unlaid in
     let r = c.requires.run in
     let old = zip c.args.glyphs.now c.args.positions.now in
     let word = stretch_of p.word p.tiles old in
     let tiles = stretch_of p.tiles u.end old in
-    let z = measured font (positions_of word) (glyphs_of tiles) in
     let within : u.end ≤ length c.args.glyphs.now = omega (arith, r.ahead, r.within) in
     let is : (measured_slices (g.F.hb_font_t.font c.args.self.now.face.now) c.args.part.word c.args.part.tiles
     c.args.unlaid.end c.args.glyphs.now c.args.positions.now)
-    ≡ z = measured_is font p.word p.tiles u.end c.args.glyphs.now c.args.positions.now r.order within r.both in
+    ≡
+    (measured font (positions_of word) (glyphs_of tiles)) = measured_is font p.word p.tiles u.end c.args.glyphs.now c.args.positions.now r.order within r.both in
     let flags = flags_made p.word p.tiles u.end c.args.glyphs.now c.unsafe_to_break_in.new.glyphs c.args.positions.now
     c.requires.word r.order within r.both c.unsafe_to_break_in.ensures in
     let cs = stretch_of p.tiles u.end (zip c.unsafe_to_break_in.new.glyphs c.args.positions.now) in
@@ -104,7 +108,8 @@ lay_tiles-requires-clause-room g c =
     c.args.unlaid.end c.args.glyphs.now c.args.positions.now) c.in-Some.lay (sym c.lay_of_run-found.ensures
     ∙ c.in-Some.is)) in
     subst (λ run. p.tiles + length run ≤ u.place) (sym (same ∙ ap (λ run. copies font run cs) is))
-    (run_room how word tiles cs p.tiles u.end u.place c.args.glyphs.now c.args.positions.now r flags.tiles)
+    (run_room
+    (laying_by font c.args.self.now.choice c.args.self.now.right_to_left) word tiles cs p.tiles u.end u.place c.args.glyphs.now c.args.positions.now r flags.tiles)
 
 pub unreachable-requires : goal.unreachable-requires
 unreachable-requires g c =
@@ -113,30 +118,28 @@ unreachable-requires g c =
     let u = c.args.unlaid in
     let r = c.requires.run in
     let old = zip c.args.glyphs.now c.args.positions.now in
-    let word = stretch_of p.word p.tiles old in
-    let tiles = stretch_of p.tiles u.end old in
-    let z = measured font (positions_of word) (glyphs_of tiles) in
-    let within : u.end ≤ length c.args.glyphs.now = omega (arith, r.ahead, r.within) in
-    let is = measured_is font p.word p.tiles u.end c.args.glyphs.now c.args.positions.now r.order within r.both in
-    lay_some c.args.self.now.choice c.args.self.now.right_to_left z _ r.fits
-    (ap (lay_if_fits c.args.self.now.choice c.args.self.now.right_to_left) (sym is) ∙ sym c.lay_of_run-found.ensures
-    ∙ c.in-None.is)
+    let z = measured font (positions_of (stretch_of p.word p.tiles old)) (glyphs_of (stretch_of p.tiles u.end old)) in
+    let is = measured_is font p.word p.tiles u.end c.args.glyphs.now c.args.positions.now r.order
+    (omega (arith, r.ahead, r.within)) r.both in
+    absurd (clash (sym
+    (no_lay c.args.self.now.choice c.args.self.now.right_to_left z (ap (lay_if_fits c.args.self.now.choice
+    c.args.self.now.right_to_left) (sym is) ∙ sym c.lay_of_run-found.ensures ∙ c.in-None.is))
+    ∙ (and_parts _ _ (sym (list_all-append fits_i32 (numbers_to_fit c.args.self.now.choice z) _) ∙ r.fits)).0))
 
 pub returns-clause-flagged : goal.returns-clause-flagged
 returns-clause-flagged g c =
     let font = g.F.hb_font_t.font c.args.self.now.face.now in
-    let how = laying_by font c.args.self.now.choice c.args.self.now.right_to_left in
     let p = c.args.part in
     let u = c.args.unlaid in
     let r = c.requires.run in
     let old = zip c.args.glyphs.now c.args.positions.now in
     let word = stretch_of p.word p.tiles old in
     let tiles = stretch_of p.tiles u.end old in
-    let z = measured font (positions_of word) (glyphs_of tiles) in
     let within : u.end ≤ length c.args.glyphs.now = omega (arith, r.ahead, r.within) in
     let is : (measured_slices (g.F.hb_font_t.font c.args.self.now.face.now) c.args.part.word c.args.part.tiles
     c.args.unlaid.end c.args.glyphs.now c.args.positions.now)
-    ≡ z = measured_is font p.word p.tiles u.end c.args.glyphs.now c.args.positions.now r.order within r.both in
+    ≡
+    (measured font (positions_of word) (glyphs_of tiles)) = measured_is font p.word p.tiles u.end c.args.glyphs.now c.args.positions.now r.order within r.both in
     let flags = flags_made p.word p.tiles u.end c.args.glyphs.now c.unsafe_to_break_in.new.glyphs c.args.positions.now
     c.requires.word r.order within r.both c.unsafe_to_break_in.ensures in
     let cs = stretch_of p.tiles u.end (zip c.unsafe_to_break_in.new.glyphs c.args.positions.now) in
@@ -150,34 +153,37 @@ returns-clause-flagged g c =
     c.args.unlaid.end c.args.glyphs.now c.args.positions.now) c.in-Some.lay (sym c.lay_of_run-found.ensures
     ∙ c.in-Some.is)) in
     let room = subst (λ run. p.tiles + length run ≤ u.place) (sym (same ∙ ap (λ run. copies font run cs) is))
-    (run_room how word tiles cs p.tiles u.end u.place c.args.glyphs.now c.args.positions.now r flags.tiles) in
+    (run_room
+    (laying_by font c.args.self.now.choice c.args.self.now.right_to_left) word tiles cs p.tiles u.end u.place c.args.glyphs.now c.args.positions.now r flags.tiles) in
     let n = c.lay_tiles.new in
-    run_front c.args.self.now.right_to_left p.tiles
-    (record { at = to_z w64 (of_z w64 c.in-Some.lay.start); place = u.place }) c.lay_tiles.result
-    (run_copies font c.in-Some.lay cs) _ (zip c.unsafe_to_break_in.new.glyphs c.args.positions.now)
-    (zip n.glyphs n.positions) c.lay_tiles.ensures.lays room flags.front
+    let below : p.tiles ≤ c.lay_tiles.result.place = omega (arith, c.lay_tiles.ensures.lays.place) in
+    cc (
+      take-take p.tiles c.lay_tiles.result.place (zip n.glyphs n.positions) below,
+      c.lay_tiles.ensures.lays.kept,
+      take-take p.tiles c.lay_tiles.result.place (zip c.unsafe_to_break_in.new.glyphs c.args.positions.now) below,
+    )
 
 pub returns-clause-laid : goal.returns-clause-laid
 returns-clause-laid g c =
     let font = g.F.hb_font_t.font c.args.self.now.face.now in
-    let how = laying_by font c.args.self.now.choice c.args.self.now.right_to_left in
     let p = c.args.part in
     let u = c.args.unlaid in
     let r = c.requires.run in
     let old = zip c.args.glyphs.now c.args.positions.now in
     let word = stretch_of p.word p.tiles old in
     let tiles = stretch_of p.tiles u.end old in
-    let z = measured font (positions_of word) (glyphs_of tiles) in
     let within : u.end ≤ length c.args.glyphs.now = omega (arith, r.ahead, r.within) in
     let is : (measured_slices (g.F.hb_font_t.font c.args.self.now.face.now) c.args.part.word c.args.part.tiles
     c.args.unlaid.end c.args.glyphs.now c.args.positions.now)
-    ≡ z = measured_is font p.word p.tiles u.end c.args.glyphs.now c.args.positions.now r.order within r.both in
+    ≡
+    (measured font (positions_of word) (glyphs_of tiles)) = measured_is font p.word p.tiles u.end c.args.glyphs.now c.args.positions.now r.order within r.both in
     let flags = flags_made p.word p.tiles u.end c.args.glyphs.now c.unsafe_to_break_in.new.glyphs c.args.positions.now
     c.requires.word r.order within r.both c.unsafe_to_break_in.ensures in
     let from = start_is c.args.self.now.choice c.args.self.now.right_to_left
     (measured_slices (g.F.hb_font_t.font c.args.self.now.face.now) c.args.part.word c.args.part.tiles
-    c.args.unlaid.end c.args.glyphs.now c.args.positions.now) c.in-Some.lay (sym c.lay_of_run-found.ensures
-    ∙ c.in-Some.is) ∙ ap (start c.args.self.now.choice c.args.self.now.right_to_left) is in
+    c.args.unlaid.end c.args.glyphs.now c.args.positions.now) c.in-Some.lay
+    (sym c.lay_of_run-found.ensures ∙ c.in-Some.is)
+    ∙ ap (start c.args.self.now.choice c.args.self.now.right_to_left) is in
     let mid = zip c.unsafe_to_break_in.new.glyphs c.args.positions.now in
     let cs = stretch_of p.tiles u.end mid in
     let n = c.lay_tiles.new in
@@ -193,24 +199,24 @@ returns-clause-laid g c =
     let lays = subst (λ run. Lays c.args.self.now.right_to_left run
     (record { at = to_z w64 (of_z w64 c.in-Some.lay.start); place = u.place }) c.lay_tiles.result mid
     (zip n.glyphs n.positions)) (same ∙ ap (λ run. copies font run cs) is) c.lay_tiles.ensures.lays in
-    run_laid how word tiles cs _ u.place c.lay_tiles.result old mid (zip n.glyphs n.positions) flags.tiles from
+    run_laid
+    (laying_by font c.args.self.now.choice c.args.self.now.right_to_left) word tiles cs _ u.place c.lay_tiles.result old mid (zip n.glyphs n.positions) flags.tiles from
     (flags.behind u.place r.ahead) lays
 
 pub returns-clause-place : goal.returns-clause-place
 returns-clause-place g c =
     let font = g.F.hb_font_t.font c.args.self.now.face.now in
-    let how = laying_by font c.args.self.now.choice c.args.self.now.right_to_left in
     let p = c.args.part in
     let u = c.args.unlaid in
     let r = c.requires.run in
     let old = zip c.args.glyphs.now c.args.positions.now in
     let word = stretch_of p.word p.tiles old in
     let tiles = stretch_of p.tiles u.end old in
-    let z = measured font (positions_of word) (glyphs_of tiles) in
     let within : u.end ≤ length c.args.glyphs.now = omega (arith, r.ahead, r.within) in
     let is : (measured_slices (g.F.hb_font_t.font c.args.self.now.face.now) c.args.part.word c.args.part.tiles
     c.args.unlaid.end c.args.glyphs.now c.args.positions.now)
-    ≡ z = measured_is font p.word p.tiles u.end c.args.glyphs.now c.args.positions.now r.order within r.both in
+    ≡
+    (measured font (positions_of word) (glyphs_of tiles)) = measured_is font p.word p.tiles u.end c.args.glyphs.now c.args.positions.now r.order within r.both in
     let flags = flags_made p.word p.tiles u.end c.args.glyphs.now c.unsafe_to_break_in.new.glyphs c.args.positions.now
     c.requires.word r.order within r.both c.unsafe_to_break_in.ensures in
     let mid = zip c.unsafe_to_break_in.new.glyphs c.args.positions.now in
@@ -228,4 +234,5 @@ returns-clause-place g c =
     let lays = subst (λ run. Lays c.args.self.now.right_to_left run
     (record { at = to_z w64 (of_z w64 c.in-Some.lay.start); place = u.place }) c.lay_tiles.result mid
     (zip n.glyphs n.positions)) (same ∙ ap (λ run. copies font run cs) is) c.lay_tiles.ensures.lays in
-    run_place how word tiles cs _ u.place c.lay_tiles.result mid (zip n.glyphs n.positions) flags.tiles lays
+    run_place
+    (laying_by font c.args.self.now.choice c.args.self.now.right_to_left) word tiles cs _ u.place c.lay_tiles.result mid (zip n.glyphs n.positions) flags.tiles lays

@@ -1,4 +1,5 @@
 -- A glyph with the mask.
+use Rattle.std.proofs.Common.{arith}
 use Rattle.std.proofs.Common.{◌≡◌, true, rules}
 use Rattle.shapers_base.specs.Masks.{has_bits}
 use Rattle.shapers_universal.proofs.SyllableWalks.{rphf_next}
@@ -7,5 +8,4 @@ use Rattle.shapers_universal.proofs.ot_shaper_use.records.RecordRphfFrontChange.
 pub returns-then-glyph-self-ne0 : goal.returns-then-glyph-self-ne0
 returns-then-glyph-self-ne0 c rest =
     let bits : has_bits c.args.self.now.mask c.args.glyph.now ≡ true = search rules in
-    rphf_next c.args.self.now.mask c.args.glyph.now c.record_glyph.new.glyph c.record_glyph.result rest bits
-    c.record_glyph.ensures
+    search (arith, rphf_next)
