@@ -4,7 +4,7 @@ use Rattle.std.specs.List.{list_any}
 use Rattle.shapers_arabic.specs.Marks.{marks_reordered}
 use Rattle.shapers_base.specs.Font.{Font}
 use Rattle.shapers_buffer.specs.declared.buffer.category.hb_unicode_general_category_t.TheVariants.{Mn}
-use Rattle.shapers_buffer.specs.declared.buffer.glyph.hb_glyph_info_t.{hb_glyph_info_t}
+use Rattle.shapers_buffer.specs.Glyphs.{Glyph, Glyphs}
 use Rattle.shapers_buffer.specs.declared.buffer.level.BufferClusterLevel.TheVariants.{MonotoneGraphemes}
 use Rattle.shapers_buffer.specs.Glyph.{characters, default_glyph}
 use Rattle.shapers_buffer.specs.Properties.{general_category, modified_combining_class, properties}
@@ -14,11 +14,11 @@ use Rattle.shapers_universal.specs.Universal.{universal_order}
 use Rattle.shapers_text.specs.Hebrew.{hebrew_mark_step}
 use Rattle.shapers_text.specs.ThaiForms.{preprocessed_text}
 
-abbrev text : List ℕ → List hb_glyph_info_t
-text us = map (λ u. let g : hb_glyph_info_t = record default_glyph { glyph_id = u } in g) us
+abbrev text : List ℕ → Glyphs
+text us = map (λ u. let g : Glyph = record default_glyph { glyph_id = u } in g) us
 
 -- Thai: a base that lost its descender is no base any more, so the vowel below it is shifted then
-abbrev shaped : List hb_glyph_info_t → List hb_glyph_info_t
+abbrev shaped : Glyphs → Glyphs
 shaped gs = preprocessed_text true (λ u. true) MonotoneGraphemes gs
 
 thai_forms : characters (shaped (text (0x0E0D ∷ 0x0E38 ∷ []))) ≡ 0xF70F ∷ 0x0E38 ∷ []
@@ -36,7 +36,7 @@ wide_font = record {
   offers = λ tag. false;
 }
 
-abbrev rewritten_once : List hb_glyph_info_t → List hb_glyph_info_t
+abbrev rewritten_once : Glyphs → Glyphs
 rewritten_once gs = preprocessed wide_font true MonotoneGraphemes gs
 
 hangul_tone : characters (rewritten_once (text (0xAC00 ∷ 0x302E ∷ []))) ≡ 0x302E ∷ 0xAC00 ∷ []
@@ -47,13 +47,13 @@ hangul_tone_again : characters (rewritten_once (rewritten_once (text (0xAC00 ∷
 hangul_tone_again = refl
 
 -- Hebrew: of two triples of marks each time the first one changes
-abbrev of_classes : List ℕ → List hb_glyph_info_t
-of_classes cs = map (λ c. let g : hb_glyph_info_t = record default_glyph { unicode_props = properties Mn c } in g) cs
+abbrev of_classes : List ℕ → Glyphs
+of_classes cs = map (λ c. let g : Glyph = record default_glyph { unicode_props = properties Mn c } in g) cs
 
-abbrev classes : List hb_glyph_info_t → List ℕ
+abbrev classes : Glyphs → List ℕ
 classes gs = map (λ g. modified_combining_class g.unicode_props) gs
 
-abbrev swapped : List hb_glyph_info_t → List hb_glyph_info_t
+abbrev swapped : Glyphs → Glyphs
 swapped gs = run_step MonotoneGraphemes (hebrew_mark_step 0 6 gs) gs
 
 hebrew_marks : classes (swapped (of_classes (20 ∷ 22 ∷ 25 ∷ 20 ∷ 22 ∷ 25 ∷ []))) ≡ 20 ∷ 25 ∷ 22 ∷ 20 ∷ 22 ∷ 25 ∷ []
@@ -67,7 +67,7 @@ hebrew_marks_again = refl
 
 -- Arabic: a modifier of class 230 before one of class 220 comes first, in a class below 220, and so
 -- the other passes it then; marks in the order of their classes have no such neighbours
-abbrev modifiers_turned : List hb_glyph_info_t
+abbrev modifiers_turned : Glyphs
 modifiers_turned = record default_glyph { glyph_id = 0x0654; unicode_props = properties Mn 230 }
     ∷ record default_glyph { glyph_id = 0x0655; unicode_props = properties Mn 220 } ∷ []
 
@@ -81,7 +81,7 @@ arabic_marks_again = refl
 
 -- The universal shaper: of two vowels before the base, the last comes first each time. Categories:
 -- base 1, vowel before the base 22
-abbrev base_and_vowels : List hb_glyph_info_t
+abbrev base_and_vowels : Glyphs
 base_and_vowels = record default_glyph { glyph_id = 0; syllable = 0x12; category = 1 }
     ∷ record default_glyph { glyph_id = 1; syllable = 0x12; category = 22 }
     ∷ record default_glyph { glyph_id = 2; syllable = 0x12; category = 22 } ∷ []

@@ -4,7 +4,7 @@ use Rattle.std.proofs.lemmas.List.{drop-map, length-map, take-map}
 use Rattle.std.proofs.lemmas.Simd.{map-map}
 use Rattle.shapers_buffer.specs.Buffer.{Buffer}
 use Rattle.shapers_buffer.specs.Glyph.{order_view}
-use Rattle.shapers_buffer.specs.declared.buffer.glyph.hb_glyph_info_t.{hb_glyph_info_t}
+use Rattle.shapers_buffer.specs.Glyphs.{Glyphs}
 use Rattle.shapers_buffer.proofs.MappedLists.{all-mapped}
 use Rattle.shapers_base.specs.Font.{CharacterTables}
 use Rattle.shapers_base.specs.declared.plan.arabic.arabic_shape_plan_t.{arabic_shape_plan_t}
@@ -22,7 +22,7 @@ use Rattle.rustybuzz_shapers.specs.Breaks.{BreaksAsFlagged, SetInHalves, TextsBr
 use Rattle.rustybuzz_shapers.specs.declared.shaper.hb_ot_shaper_t.TheVariants.{Arabic, Universal}
 
 -- two joined halves in the order view
-abbrev views : Buffer → Buffer → List hb_glyph_info_t
+abbrev views : Buffer → Buffer → Glyphs
 views one two = order_view one.glyphs ++ order_view two.glyphs
 
 same_views : (one two front back : Buffer) → one ≡ front → two ≡ back → views front back ≡ views one two
@@ -57,8 +57,7 @@ arabic_breaks plan tables n old new one two set =
 -- categories leave a fresh text fresh
 fresh_stays : (tables : CharacterTables) (masks : List ℕ) (b : Buffer) → IsFresh masks b.glyphs
     → IsFresh masks (with_categories tables b).glyphs
-fresh_stays tables masks b fresh =
-    search (arith, map-map, all-mapped)
+fresh_stays tables masks b fresh = search (arith, map-map, all-mapped)
 
 universal_breaks : (plan : hb_ot_shape_plan_t) (tables : CharacterTables) (n : ℕ) (old new one two : Buffer)
     (joins : arabic_shape_plan_t) → arabic_of plan.plan_data ≡ Some joins
@@ -90,8 +89,7 @@ universal_breaks plan tables n old new one two joins is set =
     let keeps = first-as_flagged breaks masks script joining general before new whole.0 n set.inside.0 inside in
     record {
       clear = λ clear spared. breaks-where_clear breaks masks script joining general before new whole.0 n set.inside.0
-          inside clear (subst (λ text. IsSpared breaks script text n) text spared)
-          ∙ same;
+          inside clear (subst (λ text. IsSpared breaks script text n) text spared) ∙ same;
       needless = λ e fresh silent may. none-needless breaks masks script joining general before new whole.0 e
           (still fresh) (silent_stays silent) n set.inside.0 inside (may ∙ sym same);
       first = λ clear. keeps.0 clear ∙ same_first;
@@ -99,5 +97,4 @@ universal_breaks plan tables n old new one two joins is set =
     }
 
 pub texts_break : TextsBreakAsFlagged
-texts_break plan tables n old new one two =
-    search (arith, arabic_breaks, universal_breaks)
+texts_break = search (arith, arabic_breaks, universal_breaks)

@@ -24,28 +24,28 @@ data_next plan b unplaced other = ((unplaced, tt, tt), other)
 glyphs_last : (plan : hb_ot_shape_plan_t) (b : Buffer) → b.positions ≡ [] → IsArabic plan.plan_data
     → (GlyphsFit Arabic plan b.glyphs → ⊥)
     → StopsAt {T = Unit {0}} (masks_ask Arabic plan b) (Err (call.Condition Glyphs))
-glyphs_last plan b unplaced data_of others = search arith
+glyphs_last = search arith
 
 -- Thai asks for no positions alone; so does its preprocessing, also where it refuses
 masks_of_thai : (plan : hb_ot_shape_plan_t) (b : Buffer) → b.positions ≡ []
     → StopsAt {T = Unit {0}} (masks_ask Thai plan b) (Ok (tt))
-masks_of_thai plan b unplaced = search arith
+masks_of_thai = search arith
 
 refused : (b : Buffer) → b.positions ≡ [] → StopsAt {T = Unit {0}} (preprocess_asks b) (Err (call.Refused Memory))
-refused b unplaced = search arith
+refused = search arith
 
 -- a range that falls; 33 marks of Arabic
 falling : (b : Buffer) → b.positions ≡ [] → StopsAt {T = Unit {0}} (marks_ask Hebrew 3 2 b) (Err (call.Condition Range))
-falling b unplaced = search arith
+falling = search arith
 
 too_many : (b : Buffer) → b.positions ≡ [] → 33 ≤ length b.glyphs
     → StopsAt {T = Unit {0}} (marks_ask Arabic 0 33 b) (Err (call.Condition Marks))
-too_many b unplaced long = search arith
+too_many = search arith
 
 -- the stretch asks for data and glyph numbers
 stretched : (plan : hb_ot_shape_plan_t) (b : Buffer) → length b.positions ≡ length b.glyphs → IsArabic plan.plan_data
     → All (λ g. g.glyph_id ≤ 65535) b.glyphs → StopsAt {T = Unit {0}} (postprocess_asks Arabic plan b) (Ok (tt))
-stretched plan b placed data_of numbers = search arith
+stretched = search arith
 
 -- a pause that reads no data asks for none, but of kinds
 kinds : (plan : hb_ot_shape_plan_t) (b : Buffer) → b.positions ≡ []

@@ -3,7 +3,7 @@ use Rattle.std.proofs.Common.{◌≡◌, ◌∙◌, ◌≤◌, ℕ, List, length
 use Rattle.std.proofs.lemmas.List.{drop-map, length-map, map-append, take-map}
 use Rattle.std.proofs.lemmas.Simd.{map-map}
 use Rattle.shapers_buffer.specs.Buffer.{Buffer}
-use Rattle.shapers_buffer.specs.declared.buffer.glyph.hb_glyph_info_t.{hb_glyph_info_t}
+use Rattle.shapers_buffer.specs.Glyphs.{Glyph, Glyphs}
 use Rattle.shapers_buffer.specs.declared.buffer.tag.Script.{Script}
 use Rattle.shapers_base.specs.Font.{CharacterTables}
 use Rattle.shapers_base.specs.declared.plan.breaks.BreakFlags.{BreakFlags}
@@ -18,7 +18,7 @@ use Rattle.rustybuzz_shapers.proofs.Together.{some-of, types-categorized}
 
 -- joined buffers, edited
 edited_by : (breaks : BreakFlags) (masks : List ℕ) (script : Option Script) (tables : CharacterTables) (s e : ℕ)
-    (gs : List hb_glyph_info_t) (old new other : Buffer) → let after =
+    (gs : Glyphs) (old new other : Buffer) → let after =
     buffer_joined breaks masks script tables.joining tables.general in new ≡ after old
     → other ≡ after (edited s e gs old) → (s ≤ e) × (e ≤ length old.glyphs)
     → StayNear script tables.joining s e (length gs) old.glyphs new.glyphs other.glyphs
@@ -26,8 +26,7 @@ edited_by breaks masks script tables s e gs old new other first second inside =
     search (arith, glyphs-stay_near breaks masks script tables.joining tables.general s e gs old inside.0 inside.1)
 
 pub texts_stay_near : TextsStayNear
-texts_stay_near Arabic plan tables s e gs old new other joins set =
-    search (arith, edited_by)
+texts_stay_near Arabic plan tables s e gs old new other joins set = search (arith, edited_by)
 texts_stay_near Universal plan tables s e gs old new other joins set =
     let (own, is) = some-of (arabic_of plan.plan_data) joins in
     let script = plan.script in
@@ -43,8 +42,8 @@ texts_stay_near Universal plan tables s e gs old new other joins set =
       omega (arith, length-map old.glyphs change, places.1),
     ) in
     let change = categorized tables.universal in
-    let same = λ (xs : List hb_glyph_info_t). types-categorized tables.joining tables xs in
-    let stay = λ (xs : List hb_glyph_info_t). map-map (λ (g : hb_glyph_info_t). g.glyph_id) change xs in
+    let same = λ (xs : Glyphs). types-categorized tables.joining tables xs in
+    let stay = λ (xs : Glyphs). map-map (λ (g : Glyph). g.glyph_id) change xs in
     search (
       arith,
       take-map change s old.glyphs,

@@ -1,7 +1,7 @@
 -- A Hangul text cut between two items.
 use Rattle.std.proofs.Common.{ℕ, zero, suc, ◌+◌, ◌-◌, ◌≤◌, ◌≡◌, Bool, List, [], ◌∷◌, ◌++◌, length, refl, sym, ap, subst, ◌∙◌, arith}
 use Rattle.std.proofs.lemmas.List.{length-map, map-append}
-use Rattle.shapers_buffer.specs.declared.buffer.glyph.hb_glyph_info_t.{hb_glyph_info_t}
+use Rattle.shapers_buffer.specs.Glyphs.{Glyph, Glyphs}
 use Rattle.shapers_buffer.specs.declared.buffer.level.BufferClusterLevel.{BufferClusterLevel}
 use Rattle.shapers_buffer.specs.Clusters.{merge_all}
 use Rattle.shapers_buffer.specs.Glyph.{characters, clusters, order_view, plain}
@@ -26,7 +26,7 @@ use Rattle.rustybuzz_shapers.proofs.ThaiClusterHalves.{merged_halves}
 
 -- joining changes no order view
 plain_joined : (level : BufferClusterLevel) (font : Font) (circles : Bool) (place skip : ℕ) (us : List ℕ)
-    (gs : List hb_glyph_info_t) → order_view (all_joined level (items_from (first_item font circles) place skip us) gs)
+    (gs : Glyphs) → order_view (all_joined level (items_from (first_item font circles) place skip us) gs)
     ≡ order_view gs
 plain_joined level font circles place skip [] gs = refl
 plain_joined level font circles place zero (u ∷ us) gs =
@@ -36,27 +36,25 @@ plain_joined level font circles place zero (u ∷ us) gs =
     ∙ map-unsafe plain (λ g. search (arith, without_flags-or)) level item place gs
 plain_joined level font circles place (suc skip) (u ∷ us) gs = plain_joined level font circles (place + 1) skip us gs
 
-order_made : (font : Font) (circles : Bool) (level : BufferClusterLevel) (gs : List hb_glyph_info_t)
+order_made : (font : Font) (circles : Bool) (level : BufferClusterLevel) (gs : Glyphs)
     → order_view (preprocessed font circles level gs)
     ≡ outputs glyph_copies (items font circles (characters gs)) (order_view gs)
-order_made font circles level gs =
-    search (arith, outputs-map, plain_joined)
+order_made = search (arith, outputs-map, plain_joined)
 
-pub clusters_made : (font : Font) (circles : Bool) (level : BufferClusterLevel) (gs : List hb_glyph_info_t)
-    → clusters (preprocessed font circles level gs)
-    ≡ outputs place_copies (items font circles (characters gs))
+pub clusters_made : (font : Font) (circles : Bool) (level : BufferClusterLevel) (gs : Glyphs)
+    → clusters (preprocessed font circles level gs) ≡ outputs place_copies (items font circles (characters gs))
     (clusters (merge_all level (stretches level (items font circles (characters gs))) gs))
 clusters_made font circles level gs =
     let cut = items font circles (characters gs) in
     cc (
-      outputs-map (λ (g : hb_glyph_info_t). g.cluster) glyph_copies place_copies
+      outputs-map (λ (g : Glyph). g.cluster) glyph_copies place_copies
           (record { character = λ u g. refl; jamo = λ n g. refl }) cut (all_joined level cut gs),
       clusters-all_joined level cut gs,
     )
 
 -- what the choice flags shows in neither
 pub hangul_order-flagged : (breaks : BreakFlags) (font : Font) (circles : Bool) (level : BufferClusterLevel)
-    (gs : List hb_glyph_info_t) → order_view (text_rewritten breaks font circles level gs)
+    (gs : Glyphs) → order_view (text_rewritten breaks font circles level gs)
     ≡ order_view (preprocessed font circles level gs)
 hangul_order-flagged breaks font circles level gs =
     let cut = items font circles (characters gs) in
@@ -86,10 +84,9 @@ ends_from level font circles n place zero (u ∷ us) within few =
 ends_from level font circles n place (suc skip) (u ∷ us) within few =
     ends_from level font circles n (place + 1) skip us (omega (arith, within)) (omega (arith, few))
 
-pub ends_within : (level : BufferClusterLevel) (font : Font) (circles : Bool) (gs : List hb_glyph_info_t)
+pub ends_within : (level : BufferClusterLevel) (font : Font) (circles : Bool) (gs : Glyphs)
     → EndWithin (length gs) (stretches level (items font circles (characters gs)))
-ends_within level font circles gs =
-    search (arith, ends_from, length-characters)
+ends_within = search (arith, ends_from, length-characters)
 
 -- the outputs of both halves' items
 outputs_halves : {X : Type 0} (c : Copying X) (level : BufferClusterLevel) (font : Font) (circles : Bool)
@@ -104,20 +101,19 @@ outputs_halves c level font circles xs ys us vs long beside =
     (outputs_local c font circles xs ys 0 0 us (omega (arith, long)) (omega arith))
     ∙ ap (λ zs. outputs c (items font circles us) xs ++ zs) (outputs_past c font circles xs ys 0 0 vs)
 
-read_halves : (font : Font) (circles : Bool) (gs hs : List hb_glyph_info_t)
+read_halves : (font : Font) (circles : Bool) (gs hs : Glyphs)
     → IsBetweenItems font circles (characters (gs ++ hs)) (length gs)
     → EachBeside font circles (length (characters gs)) 0 0 (characters gs ++ characters hs)
-read_halves font circles gs hs between =
-    search (arith, length-characters, map-append)
+read_halves = search (arith, length-characters, map-append)
 
-pub hangul_order_halves : (font : Font) (circles : Bool) (level : BufferClusterLevel) (gs hs : List hb_glyph_info_t)
+pub hangul_order_halves : (font : Font) (circles : Bool) (level : BufferClusterLevel) (gs hs : Glyphs)
     → IsBetweenItems font circles (characters (gs ++ hs)) (length gs)
     → order_view (preprocessed font circles level (gs ++ hs)) ≡ order_view (preprocessed font circles level gs)
     ++ order_view (preprocessed font circles level hs)
-hangul_order_halves font circles level gs hs between =
+hangul_order_halves =
     search (arith, order_made, map-append, outputs_halves, length-characters, length-map, read_halves)
 
-pub hangul_clusters_halves : (font : Font) (circles : Bool) (level : BufferClusterLevel) (gs hs : List hb_glyph_info_t)
+pub hangul_clusters_halves : (font : Font) (circles : Bool) (level : BufferClusterLevel) (gs hs : Glyphs)
     → IsBetweenItems font circles (characters (gs ++ hs)) (length gs) → ShareNone gs hs
     → clusters (preprocessed font circles level (gs ++ hs)) ≡ clusters (preprocessed font circles level gs)
     ++ clusters (preprocessed font circles level hs)
@@ -138,12 +134,11 @@ hangul_clusters_halves font circles level gs hs between none =
     let ends = ends_within level font circles gs in
     cc (
       clusters_made font circles level (gs ++ hs),
-      map-append (λ (g : hb_glyph_info_t). g.glyph_id) gs hs,
+      map-append (λ (g : Glyph). g.glyph_id) gs hs,
       merged_halves level one two gs hs ends (ends_within level font circles hs) none,
-      map-append (λ (g : hb_glyph_info_t). g.cluster) first second,
+      map-append (λ (g : Glyph). g.cluster) first second,
       outputs_halves place_copies level font circles (clusters first) (clusters second) us vs
-          (long ∙ sym (length-map first (λ (g : hb_glyph_info_t). g.cluster) ∙ length-merge_all level one gs ends))
-          beside,
+          (long ∙ sym (length-map first (λ (g : Glyph). g.cluster) ∙ length-merge_all level one gs ends)) beside,
       clusters_made font circles level gs,
       clusters_made font circles level hs,
     )

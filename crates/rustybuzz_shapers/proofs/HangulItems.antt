@@ -11,10 +11,10 @@ use Rattle.shapers_hangul.specs.Hangul.{Copying, combines_t, first_item, first_u
 use Rattle.shapers_hangul.proofs.Items.{either, first_item-within, taken_some}
 
 none_added : (n : ℕ) → 0 + n ≡ n
-none_added n = omega arith
+none_added = omega arith
 
 one_further : (m n : ℕ) → (m + n) + 1 ≡ m + (n + 1)
-one_further m n = omega arith
+one_further = omega arith
 
 -- each item of a text's rest ends at place n at the latest, or begins there at the earliest
 abbrev pub EachBeside : Font → Bool → ℕ → ℕ → ℕ → List ℕ → Type 0
@@ -31,12 +31,10 @@ and_false_and true b = refl
 and_false_and false b = refl
 
 three_taken : (font : Font) (u v t : ℕ) → taken (jamo_three font u v t) ≡ 3
-three_taken font u v t =
-    search (arith, either)
+three_taken = search (arith, either)
 
 jamo_taken : (font : Font) (u v t : ℕ) → 2 ≤ taken (jamo_unit font u v t)
-jamo_taken font u v t =
-    search (arith, either, three_taken)
+jamo_taken = search (arith, either, three_taken)
 
 jamo_few : (font : Font) (u v t : ℕ) (b : Bool) → taken (cond b (jamo_three font u v t) (jamo_two font u v)) ≤ 2
     → jamo_two font u v ≡ cond b (jamo_three font u v t) (jamo_two font u v)
@@ -45,9 +43,8 @@ jamo_few font u v t false few = refl
 
 same_second : {X : Type 0} (len : X → ℕ) (n : ℕ) (a b : Bool) (x y j k : X) → (len j ≤ n → k ≡ j)
     → len (cond a x (cond b j y)) ≤ n → cond a x (cond b k y) ≡ cond a x (cond b j y)
-same_second len n true b x y j k same few = refl
 same_second len n false true x y j k same few = same few
-same_second len n false false x y j k same few = refl
+same_second len n _ _ x y j k same few = refl
 
 two_read : (font : Font) (circles : Bool) (u v t : ℕ) → taken (first_unit font circles u v t) ≤ 2
     → first_unit font circles u v 0 ≡ first_unit font circles u v t
@@ -58,26 +55,23 @@ two_read font circles u v t few =
 skip_two : {X : Type 0} (len : X → ℕ) (a a' p b b' : Bool) (c c' j q q' r : X) → a' ≡ false → b' ≡ false → 2 ≤ len c
     → 2 ≤ len q → len (cond a c (cond p j (cond b q r))) ≤ 1 → cond a' c' (cond p j (cond b' q' r))
     ≡ cond a c (cond p j (cond b q r))
-skip_two len true a' p b b' c c' j q q' r none no_more big bigger few = search arith
 skip_two len false true p b b' c c' j q q' r none no_more big bigger few = absurd (false≢true (sym none))
 skip_two len false false true b b' c c' j q q' r none no_more big bigger few = refl
-skip_two len false false false true b' c c' j q q' r none no_more big bigger few = search arith
 skip_two len false false false false true c c' j q q' r none no_more big bigger few = search (arith, false≢true)
 skip_two len false false false false false c c' j q q' r none no_more big bigger few = refl
+skip_two len _ _ _ _ b' c c' j q q' r none no_more big bigger few = search arith
 
 syllable_read : (font : Font) (s v : ℕ) → taken (syllable_unit font s v) ≤ 1
     → syllable_unit font s 0 ≡ syllable_unit font s v
-syllable_read font s v few =
-    search (arith, skip_two, and_false_and)
+syllable_read font s v few = search (arith, skip_two, and_false_and)
 
 skip_one : {X : Type 0} (len : X → ℕ) (a b b' c : Bool) (x j j' s s' o : X) → b' ≡ false → 2 ≤ len j
     → (len s ≤ 1 → s' ≡ s) → len (cond a x (cond b j (cond c s o))) ≤ 1 → cond a x (cond b' j' (cond c s' o))
     ≡ cond a x (cond b j (cond c s o))
-skip_one len true b b' c x j j' s s' o none big same few = refl
 skip_one len false true b' c x j j' s s' o none big same few = search arith
 skip_one len false false true c x j j' s s' o none big same few = absurd (false≢true (sym none))
 skip_one len false false false true x j j' s s' o none big same few = same few
-skip_one len false false false false x j j' s s' o none big same few = refl
+skip_one len _ _ _ _ x j j' s s' o none big same few = refl
 
 one_read : (font : Font) (circles : Bool) (u v t : ℕ) → taken (first_unit font circles u v t) ≤ 1
     → first_unit font circles u 0 0 ≡ first_unit font circles u v t
@@ -90,8 +84,7 @@ unit_read : (font : Font) (circles : Bool) (xs ys : List ℕ) → 0 < length xs
     → taken (opening_unit font circles (xs ++ ys)) ≤ length xs → opening_unit font circles xs
     ≡ opening_unit font circles (xs ++ ys)
 unit_read font circles [] ys some few = absurd (omega arith)
-unit_read font circles (u ∷ []) ys some few =
-    search (arith, one_read)
+unit_read font circles (u ∷ []) ys some few = search (arith, one_read)
 unit_read font circles (u ∷ (v ∷ [])) ys some few = search (arith, two_read)
 unit_read font circles (u ∷ (v ∷ (t ∷ xs))) ys some few = refl
 
@@ -122,14 +115,13 @@ past_read (x ∷ xs) (suc i) past = past_read xs i (omega (arith, past))
 tone_read : (font : Font) (circles : Bool) (us : List ℕ) (w : ℕ)
     → tone_len (joined_tone font (opening_unit font circles us) w) ≡ 0
     → joined_tone font (opening_unit font circles us) 0 ≡ joined_tone font (opening_unit font circles us) w
-tone_read font circles us w none =
-    search (arith, absent_tone, and_false)
+tone_read font circles us w none = search (arith, absent_tone, and_false)
 
 -- the unit and the tone of an item, where it ends within xs
 item_unit : (font : Font) (circles : Bool) (xs ys : List ℕ) → 0 < length xs
     → item_len (first_item font circles (xs ++ ys)) ≤ length xs → (first_item font circles xs).unit
     ≡ (first_item font circles (xs ++ ys)).unit
-item_unit font circles xs ys some within = search (arith, unit_read)
+item_unit = search (arith, unit_read)
 
 -- OUTPUTS read no further either
 front_taken : {X : Type 0} (n : ℕ) (xs ys : List X) → n ≤ length xs → take n (xs ++ ys) ≡ take n xs
@@ -143,20 +135,15 @@ unit_local c font circles u v t xs ys =
     (λ _. search (arith, either, front_taken))
     (λ _. either (λ x. taken x ≤ length xs → unit_output c x (xs ++ ys) ≡ unit_output c x xs) (is_l u && is_v v) _ _
     (λ _. either (λ x. taken x ≤ length xs → unit_output c x (xs ++ ys) ≡ unit_output c x xs) (is_t t) _ _
-    (λ _. search (arith, either, front_taken))
-    (λ _. search (arith, either, front_taken)))
+    (λ _. search (arith, either, front_taken)) (λ _. search (arith, either, front_taken)))
     (λ _. either (λ x. taken x ≤ length xs → unit_output c x (xs ++ ys) ≡ unit_output c x xs) (is_s u) _ _
     (λ _. either (λ x. taken x ≤ length xs → unit_output c x (xs ++ ys) ≡ unit_output c x xs)
-    ((is_lv u && combines_t v) && has_nominal font (with_t u v)) _ _
-    (λ _ few. search (arith, front_taken))
+    ((is_lv u && combines_t v) && has_nominal font (with_t u v)) _ _ (λ _ few. search (arith, front_taken))
     (λ _. either (λ x. taken x ≤ length xs → unit_output c x (xs ++ ys) ≡ unit_output c x xs)
-    (not (has_nominal font u) && has_jamo_of font u) _ _
-    (λ _. search (arith, either, front_taken))
+    (not (has_nominal font u) && has_jamo_of font u) _ _ (λ _. search (arith, either, front_taken))
     (λ _. either (λ x. taken x ≤ length xs → unit_output c x (xs ++ ys) ≡ unit_output c x xs)
-    ((is_lv u && is_t v) && has_jamo_of font u) _ _
-    (λ _ few.
-    search (arith, front_taken, drop-append-le, length-drop))
-    (λ _. search (arith, either, front_taken)))))
+    ((is_lv u && is_t v) && has_jamo_of font u) _ _ (λ _ few.
+    search (arith, front_taken, drop-append-le, length-drop)) (λ _. search (arith, either, front_taken)))))
     (λ _ few. front_taken 1 xs ys few)))
 
 item_local : {X : Type 0} (c : Copying X) (font : Font) (circles : Bool) (us : List ℕ) (xs ys : List X)
@@ -210,13 +197,12 @@ pub outputs_past : {X : Type 0} (c : Copying X) (font : Font) (circles : Bool) (
     (vs : List ℕ) → outputs c (items_from (first_item font circles) (length xs + place) skip vs) (xs ++ ys)
     ≡ outputs c (items_from (first_item font circles) place skip vs) ys
 outputs_past c font circles xs ys place skip [] = refl
-outputs_past c font circles xs ys place zero (v ∷ vs) =
-    search (
-      arith,
-      dropped_past,
-      one_further,
-      outputs_past c font circles xs ys (place + 1) (item_len (first_item font circles (v ∷ vs)) - 1) vs,
-    )
+outputs_past c font circles xs ys place zero (v ∷ vs) = search (
+  arith,
+  dropped_past,
+  one_further,
+  outputs_past c font circles xs ys (place + 1) (item_len (first_item font circles (v ∷ vs)) - 1) vs,
+)
 outputs_past c font circles xs ys place (suc skip) (v ∷ vs) =
     search (arith, one_further, outputs_past c font circles xs ys (place + 1) skip vs)
 
@@ -240,8 +226,7 @@ item_past level font circles us n s =
     (merged_past (is_merged level (opening_unit font circles us)) n s k)
     ∙ ap (λ sts. shifted n (unit_stretch level (opening_unit font circles us) s) ++ sts)
     (of_three (λ tone. tone_stretch tone (n + s) (n + s + k) ≡ shifted n (tone_stretch tone s (s + k)))
-    (is_syllable (opening_unit font circles us) && is_tone w) (is_narrow font w) _ _ _ refl
-    (search arith) refl)
+    (is_syllable (opening_unit font circles us) && is_tone w) (is_narrow font w) _ _ _ refl (search arith) refl)
     ∙ sym (map-append (λ (st : ℕ × ℕ). (n + st.0, n + st.1)) (unit_stretch level (opening_unit font circles us) s)
     (tone_stretch (first_item font circles us).tone s (s + k)))
 
@@ -252,13 +237,10 @@ stretches_past level font circles n place skip [] = refl
 stretches_past level font circles n place zero (v ∷ vs) =
     let item = first_item font circles (v ∷ vs) in
     ap (λ sts. sts ++ stretches level (items_from (first_item font circles) ((n + place) + 1) (item_len item - 1) vs))
-    (item_past level font circles (v ∷ vs) n place)
-    ∙ ap
+    (item_past level font circles (v ∷ vs) n place) ∙ ap
     (λ m. shifted n (item_stretches level item place) ++ stretches level (items_from (first_item font circles) m
-    (item_len item - 1) vs)) (one_further n place)
-    ∙ ap (λ sts. shifted n (item_stretches level item place) ++ sts)
-    (stretches_past level font circles n (place + 1) (item_len item - 1) vs)
-    ∙ sym
+    (item_len item - 1) vs)) (one_further n place) ∙ ap (λ sts. shifted n (item_stretches level item place) ++ sts)
+    (stretches_past level font circles n (place + 1) (item_len item - 1) vs) ∙ sym
     (map-append (λ (st : ℕ × ℕ). (n + st.0, n + st.1)) (item_stretches level item place) (stretches level (items_from
     (first_item font circles) (place + 1) (item_len item - 1) vs)))
 stretches_past level font circles n place (suc skip) (v ∷ vs) =
@@ -277,8 +259,7 @@ pub record Split {X : Type 0} (c : Copying X) (level : BufferClusterLevel) (font
 pub split_there : {X : Type 0} (c : Copying X) (level : BufferClusterLevel) (font : Font) (circles : Bool) (zs : List X)
     (place skip n : ℕ) (us vs : List ℕ) → n ≡ place + length us → skip ≤ length us
     → EachBeside font circles n place skip (us ++ vs) → Split c level font circles zs place skip n us vs
-split_there c level font circles zs place zero n [] vs here few beside =
-    search arith
+split_there c level font circles zs place zero n [] vs here few beside = search arith
 split_there c level font circles zs place (suc skip) n [] vs here few beside = absurd (omega (arith, few))
 split_there c level font circles zs place (suc skip) n (u ∷ us) vs here few beside =
     let s = split_there c level font circles zs (place + 1) skip n us vs (omega (arith, here)) (omega (arith, few))
@@ -314,25 +295,19 @@ split_there c level font circles zs place zero n (u ∷ us) vs here few beside =
     (omega (arith, fits, taken_some item.unit)) beside.1 in
     record {
       made =
-          ap (λ xs. item_output c item ws ++ xs) s.made
-          ∙ ap
+          ap (λ xs. item_output c item ws ++ xs) s.made ∙ ap
           (λ xs. xs ++ (outputs c (items_from read (place + 1) (item_len item - 1) us) zs ++ outputs c (items_from
-          read n 0 vs) zs)) out
-          ∙ ap
+          read n 0 vs) zs)) out ∙ ap
           (λ m. item_output c own ws ++ (outputs c (items_from read (place + 1) (m - 1) us) zs ++ outputs c
-          (items_from read n 0 vs) zs)) long
-          ∙ sym
+          (items_from read n 0 vs) zs)) long ∙ sym
           (append_assoc (item_output c own ws) (outputs c (items_from read (place + 1) (item_len own - 1) us) zs)
           (outputs c (items_from read n 0 vs) zs));
       merged =
-          ap (λ xs. item_stretches level item place ++ xs) s.merged
-          ∙ ap
+          ap (λ xs. item_stretches level item place ++ xs) s.merged ∙ ap
           (λ xs. xs ++ (stretches level (items_from read (place + 1) (item_len item - 1) us) ++ stretches level
-          (items_from read n 0 vs))) sts
-          ∙ ap
+          (items_from read n 0 vs))) sts ∙ ap
           (λ m. item_stretches level own place ++ (stretches level (items_from read (place + 1) (m - 1) us) ++
-          stretches level (items_from read n 0 vs))) long
-          ∙ sym
+          stretches level (items_from read n 0 vs))) long ∙ sym
           (append_assoc (item_stretches level own place) (stretches level (items_from read (place + 1) (item_len own
           - 1) us)) (stretches level (items_from read n 0 vs)));
     }

@@ -1,7 +1,7 @@
 -- How long a Hangul text gets: at most three times as long as it was.
 use Rattle.std.proofs.Common.{ℕ, zero, suc, ◌+◌, ◌*◌, ◌-◌, ◌≤◌, ◌≡◌, List, [], ◌∷◌, length, drop, Bool, ◌&&◌, get_or, arith}
 use Rattle.std.proofs.lemmas.List.{length-append, length-drop}
-use Rattle.shapers_buffer.specs.declared.buffer.glyph.hb_glyph_info_t.{hb_glyph_info_t}
+use Rattle.shapers_buffer.specs.Glyphs.{Glyphs}
 use Rattle.shapers_buffer.specs.declared.buffer.level.BufferClusterLevel.{BufferClusterLevel}
 use Rattle.shapers_base.specs.Font.{Font, has_nominal}
 use Rattle.shapers_hangul.specs.Hangul.{Copying, combines_t, first_item, first_unit, is_l, is_lv, is_s, is_tone, is_v, item_len, item_output, items_from, output_len, outputs, preprocessed, taken, with_t}
@@ -13,15 +13,11 @@ use Rattle.shapers_hangul.proofs.Walks.{length-characters, length-item_output}
 thrice : (font : Font) (circles : Bool) (u v t : ℕ) → output_len (first_unit font circles u v t)
     ≤ 3 * taken (first_unit font circles u v t)
 thrice font circles u v t =
-    either (λ x. output_len x ≤ 3 * taken x) (is_tone u) _ _
-    (λ _. search (arith, either))
-    (λ _. either (λ x. output_len x ≤ 3 * taken x) (is_l u && is_v v) _ _
-    (λ _. search (arith, either))
+    either (λ x. output_len x ≤ 3 * taken x) (is_tone u) _ _ (λ _. search (arith, either))
+    (λ _. either (λ x. output_len x ≤ 3 * taken x) (is_l u && is_v v) _ _ (λ _. search (arith, either))
     (λ _. either (λ x. output_len x ≤ 3 * taken x) (is_s u) _ _
     (λ _. either (λ x. output_len x ≤ 3 * taken x) ((is_lv u && combines_t v) && has_nominal font (with_t u v)) _ _
-    (λ _. omega arith)
-    (λ _. search (arith, either)))
-    (λ _. omega arith)))
+    (λ _. omega arith) (λ _. search (arith, either))) (λ _. omega arith)))
 
 -- the outputs of the items of a text's end
 from_place : {X : Type 0} (c : Copying X) (font : Font) (circles : Bool) (xs : List X) (place skip : ℕ) (us : List ℕ)
@@ -45,7 +41,6 @@ from_place c font circles xs place zero (u ∷ us) all within =
 from_place c font circles xs place (suc skip) (u ∷ us) all within =
     search (arith, from_place c font circles xs (place + 1) skip us (omega (arith, all)) (omega (arith, within)))
 
-pub hangul_long : (font : Font) (circles : Bool) (level : BufferClusterLevel) (gs : List hb_glyph_info_t)
+pub hangul_long : (font : Font) (circles : Bool) (level : BufferClusterLevel) (gs : Glyphs)
     → length (preprocessed font circles level gs) ≤ 3 * length gs
-hangul_long font circles level gs =
-    search (arith, from_place, length-characters, length-preprocessed)
+hangul_long = search (arith, from_place, length-characters, length-preprocessed)

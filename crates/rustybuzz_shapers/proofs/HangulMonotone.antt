@@ -3,7 +3,7 @@ use Rattle.std.proofs.Common.{ℕ, zero, suc, ◌+◌, ◌-◌, ◌<◌, ◌≤�
 use Rattle.std.specs.List.{AllByRecursion, AllPairs, flat_map}
 use Rattle.std.proofs.lemmas.List.{append-nil, drop-drop, get_or-drop, get_or-take, length-map, length-take, take-append-drop}
 use Rattle.shapers_buffer.specs.Buffer.{Buffer}
-use Rattle.shapers_buffer.specs.declared.buffer.glyph.hb_glyph_info_t.{hb_glyph_info_t}
+use Rattle.shapers_buffer.specs.Glyphs.{Glyph}
 use Rattle.shapers_buffer.specs.declared.buffer.level.BufferClusterLevel.{BufferClusterLevel}
 use Rattle.shapers_buffer.specs.Clusters.{merge_all, merges}
 use Rattle.shapers_buffer.specs.Glyph.{characters, clusters}
@@ -35,18 +35,17 @@ abbrev pub OfItself : (ℕ → ℕ → Type 0) → Type 0
 OfItself R = (x : ℕ) → R x x
 
 keeps_none : (P : ℕ → Type 0) (R : ℕ → ℕ → Type 0) (xs : List ℕ) → Keeps P R xs []
-keeps_none P R xs = search arith
+keeps_none P R = search arith
 
 pub keeps_itself : (P : ℕ → Type 0) (R : ℕ → ℕ → Type 0) (xs ys : List ℕ) → ys ≡ xs → Keeps P R xs ys
-keeps_itself P R xs ys is =
-    search arith
+keeps_itself P R = search arith
 
 -- the first once, twice, and three times
 keeps_first : (P : ℕ → Type 0) (R : ℕ → ℕ → Type 0) (x : ℕ) (xs : List ℕ) → Keeps P R (x ∷ xs) (x ∷ [])
-keeps_first P R x xs = search arith
+keeps_first P R = search arith
 
 keeps_two : (P : ℕ → Type 0) (R : ℕ → ℕ → Type 0) → OfItself R → (x : ℕ) (xs : List ℕ) → Keeps P R (x ∷ xs) (x ∷ x ∷ [])
-keeps_two P R self x xs = search arith
+keeps_two P R = search arith
 
 marked_places : (n : ℕ) (xs : List ℕ) → marked_from place_copies n xs ≡ xs
 marked_places n [] = refl
@@ -75,8 +74,7 @@ before_trailing : (P : ℕ → Type 0) (R : ℕ → ℕ → Type 0) → OfItself
     → Keeps P R (take 2 ws) (marked_from place_copies 1 (flat_map (λ w. w ∷ w ∷ []) (take 1 ws) ++ take 1 (drop 1 ws)))
 before_trailing P R self [] = keeps_none P R []
 before_trailing P R self (w ∷ []) = keeps_two P R self w []
-before_trailing P R self (w ∷ (v ∷ ws)) =
-    search arith
+before_trailing P R self (w ∷ (v ∷ ws)) = search arith
 
 circle_behind : (P : ℕ → Type 0) (R : ℕ → ℕ → Type 0) → OfItself R → (ws : List ℕ)
     → Keeps P R (take 1 ws) (take 1 ws ++ map (λ w. w) (take 1 ws))
@@ -103,12 +101,10 @@ unit_keeps P R self font circles u v t ws =
     (λ _. either (λ x. Keeps P R (take (taken x) ws) (unit_output place_copies x ws))
     ((is_lv u && combines_t v) && has_nominal font (with_t u v)) _ _ (λ _. mapped_first P R 1 ws)
     (λ _. either (λ x. Keeps P R (take (taken x) ws) (unit_output place_copies x ws))
-    (not (has_nominal font u) && has_jamo_of font u) _ _
-    (λ _. search (arith, either, two_copies, three_copies))
+    (not (has_nominal font u) && has_jamo_of font u) _ _ (λ _. search (arith, either, two_copies, three_copies))
     (λ _. either (λ x. Keeps P R (take (taken x) ws) (unit_output place_copies x ws))
     ((is_lv u && is_t v) && has_jamo_of font u) _ _ (λ _. before_trailing P R self ws)
-    (λ _. search (arith, either, first_taken)))))
-    (λ _. first_taken P R 0 ws)))
+    (λ _. search (arith, either, first_taken))))) (λ _. first_taken P R 0 ws)))
 
 -- PARTS of a list
 ordered_left : (R : ℕ → ℕ → Type 0) (xs ys : List ℕ) → Ordered R (xs ++ ys) → Ordered R xs
@@ -132,10 +128,8 @@ pub keeps_both : (R : ℕ → ℕ → Type 0) (xs ys us vs : List ℕ) → Keeps
     → KeepsEach R (xs ++ ys) (us ++ vs)
 keeps_both R xs ys us vs first second P = record {
   all = λ own. all_append P us vs ((first P).all (all_split P xs ys own).0) ((second P).all (all_split P xs ys own).1);
-  ordered = λ own.
-      ordered_append R us vs ((first P).ordered (ordered_left R xs ys own))
-      ((second P).ordered (ordered_right R xs ys own))
-      ((first (λ u. AllByRecursion (R u) vs)).all
+  ordered = λ own. ordered_append R us vs ((first P).ordered (ordered_left R xs ys own))
+      ((second P).ordered (ordered_right R xs ys own)) ((first (λ u. AllByRecursion (R u) vs)).all
       (all_weaker (λ x. AllByRecursion (R x) ys) (λ x. AllByRecursion (R x) vs)
       (λ x across. (second (R x)).all across) xs (ordered_across R xs ys own)));
 }
@@ -153,24 +147,21 @@ keeps_turned R self xs us y first same P = record {
 
 -- a list up to one place further
 one_further : (n : ℕ) (ws : List ℕ) → take (suc n) ws ≡ take n ws ++ take 1 (drop n ws)
-one_further zero ws = refl
-one_further (suc n) [] = refl
 one_further (suc n) (w ∷ ws) = cc (one_further n ws)
+one_further _ _ = refl
 
 -- A TONE
 pub keeps_by : (R : ℕ → ℕ → Type 0) (xs ys us : List ℕ) → xs ≡ ys → KeepsEach R ys us → KeepsEach R xs us
 keeps_by R xs ys us is own P = search arith
 
 one_taken : (n : ℕ) (ws : List ℕ) → take (n + 1) ws ≡ take n ws ++ take 1 (drop n ws)
-one_taken n ws = search (arith, one_further)
+one_taken = search (arith, one_further)
 
 before_keeps : (R : ℕ → ℕ → Type 0) → OfItself R → (n : ℕ) (ws out rest : List ℕ) → rest ≡ drop n ws
     → KeepsEach R (take n ws) out → ((y : ℕ) (ys : List ℕ) → rest ≡ y ∷ ys → AllByRecursion (λ x. x ≡ y) (take n ws))
     → KeepsEach R (take (n + 1) ws) (take 1 rest ++ out)
-before_keeps R self n ws out [] is own same =
-    search (arith, keeps_by, one_taken, append-nil)
-before_keeps R self n ws out (y ∷ ys) is own same =
-    search (arith, keeps_by, one_taken, keeps_turned)
+before_keeps R self n ws out [] = search (arith, keeps_by, one_taken, append-nil)
+before_keeps R self n ws out (y ∷ ys) = search (arith, keeps_by, one_taken, keeps_turned)
 
 -- all places of a stretch have one number
 along : (xs : List ℕ) (s n y : ℕ) (ys : List ℕ) → OneAlong xs (s, s + n + 1) → drop n (drop s xs) ≡ y ∷ ys
@@ -203,8 +194,7 @@ item_keeps R self font circles us s xs one P =
     (is_syllable (opening_unit font circles us) && is_tone w) (is_narrow font w) _ _ _
     (λ along_tone. search (arith, keeps_by, one_taken, keeps_both, keeps_itself))
     (λ along_tone. before_keeps R self n ws out (drop n ws) refl own (λ y ys at. along xs s n y ys along_tone.0 at) P)
-    (λ along_tone. keeps_by R (take (n + 0) ws) (take n ws) out (ap (λ k. take k ws) (omega arith)) own P)
-    one
+    (λ along_tone. keeps_by R (take (n + 0) ws) (take n ws) out (ap (λ k. take k ws) (omega arith)) own P) one
 
 -- ALL ITEMS, one after the other
 keeps_from : (R : ℕ → ℕ → Type 0) → OfItself R
@@ -227,8 +217,7 @@ keeps_from R self level font circles xs place zero (u ∷ us) all few one P =
     let later = keeps_from R self level font circles xs (place + 1) (k - 1) us (omega (arith, all))
     (omega (arith, fits, some)) parts.1 in
     keeps_by R (drop (place + 0) xs) (take k ws ++ drop ((place + 1) + (k - 1)) xs) (item_output place_copies item ws
-    ++ outputs place_copies rest xs)
-    (ap (λ n. drop n xs) (omega arith) ∙ sym (take-append-drop k ws)
+    ++ outputs place_copies rest xs) (ap (λ n. drop n xs) (omega arith) ∙ sym (take-append-drop k ws)
     ∙ ap (λ zs. take k ws ++ zs) (drop-drop k place xs ∙ ap (λ n. drop n xs) (omega (arith, some))))
     (keeps_both R (take k ws) (drop ((place + 1) + (k - 1)) xs) (item_output place_copies item ws)
     (outputs place_copies rest xs) (item_keeps R self font circles (u ∷ us) place xs tone) later) P
@@ -268,21 +257,19 @@ hangul_stays_monotone plan font old new m is =
     let are = clusters-merge_all level sts gs in
     let within =
     subst (λ k. EndWithin k sts) (sym
-    (length-map gs (λ (g : hb_glyph_info_t). g.cluster))) (ends_within level font circles gs) in
+    (length-map gs (λ (g : Glyph). g.cluster))) (ends_within level font circles gs) in
     let one : AllByRecursion (OneAlong merged) sts =
     subst (λ js. AllByRecursion (OneAlong js) sts) (sym are)
     (along_merged level m sts cs within sts (all_held sts) within) in
     let turned : (R : ℕ → ℕ → Type 0) → ((x : ℕ) → R x x) → AllPairs R (joined_all level sts cs)
     → AllPairs R (clusters new.glyphs) =
-    λ R same before. to_pairs R (clusters new.glyphs)
-    (subst (Ordered R) (sym made)
+    λ R same before. to_pairs R (clusters new.glyphs) (subst (Ordered R) (sym made)
     ((keeps_from R same level font circles merged 0 0 us (omega (
       arith,
-      length-map (merge_all level sts gs) (λ (g : hb_glyph_info_t). g.cluster) ∙ length-merge_all level sts gs
+      length-map (merge_all level sts gs) (λ (g : Glyph). g.cluster) ∙ length-merge_all level sts gs
           (ends_within level font circles gs),
       length-characters gs,
-    ))
-    (omega arith) one (λ x. Unit {0})).ordered
+    )) (omega arith) one (λ x. Unit {0})).ordered
     (subst (Ordered R) (sym are) (from_pairs R (joined_all level sts cs) before)))) in (
       λ up. turned (λ a b. a ≤ b) (λ x. omega arith) (stays_rising level sts cs within up),
       λ down. turned (λ a b. b ≤ a) (λ x. omega arith) (stays_falling level sts cs within down),

@@ -16,21 +16,19 @@ use Rattle.rustybuzz_shapers.specs.declared.shaper.hb_ot_shaper_t.TheVariants.{A
 
 arabic_acts : (plan : hb_ot_shape_plan_t) (tables : CharacterTables) (old new : Buffer)
     → MasksSet Arabic plan tables old new → ActsByRule plan.script tables old new
-arabic_acts plan tables old new set =
-    search (
-      arith,
-      forms_left (breaks_of plan.plan_data) (masks_of plan.plan_data) plan.script tables.joining tables.general old
-          new set.0,
-      set.1,
-      copied-cut plan.script tables.joining tables.general old,
-    )
+arabic_acts plan tables old new set = search (
+  arith,
+  forms_left (breaks_of plan.plan_data) (masks_of plan.plan_data) plan.script tables.joining tables.general old
+      new set.0,
+  set.1,
+  copied-cut plan.script tables.joining tables.general old,
+)
 
 universal_acts : (plan : hb_ot_shape_plan_t) (tables : CharacterTables) (old new : Buffer) (joins : arabic_shape_plan_t)
     → arabic_of plan.plan_data ≡ Some joins → MasksSet Universal plan tables old new
     → ActsByRule plan.script tables old new
 universal_acts plan tables old new joins is set =
-    let joined = subst (λ o. MasksAreSet o plan.script tables
-    old new) is set in
+    let joined = subst (λ o. MasksAreSet o plan.script tables old new) is set in
     search (
       arith,
       forms_left joins.break_flags joins.mask_array plan.script tables.joining tables.general
@@ -41,4 +39,4 @@ universal_acts plan tables old new joins is set =
     )
 
 pub actions_by_rule : ActionsByRule
-actions_by_rule plan tables old new = search (arith, arabic_acts, universal_acts)
+actions_by_rule = search (arith, arabic_acts, universal_acts)

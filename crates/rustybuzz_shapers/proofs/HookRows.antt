@@ -57,14 +57,14 @@ text_stays : (plan : hb_ot_shape_plan_t) (font : Font) (b : Buffer) → Preproce
     × Preprocessed Hebrew plan font b b × Preprocessed Indic plan font b b × Preprocessed Khmer plan font b b
     × Preprocessed Myanmar plan font b b × Preprocessed MyanmarZawgyi plan font b b
     × Preprocessed Universal plan font b b
-text_stays plan font b = search (arith, lacks)
+text_stays = search (arith, lacks)
 
 -- the glyphs stay after positioning
 glyphs_stay : (plan : hb_ot_shape_plan_t) (font : Font) (b : Buffer) → Postprocessed Hangul plan font b b
     × Postprocessed Hebrew plan font b b × Postprocessed Indic plan font b b × Postprocessed Khmer plan font b b
     × Postprocessed Myanmar plan font b b × Postprocessed MyanmarZawgyi plan font b b × Postprocessed Thai plan font b b
     × Postprocessed Universal plan font b b
-glyphs_stay plan font b = search (arith, lacks)
+glyphs_stay = search (arith, lacks)
 
 -- but for Arabic's marks that stretch
 marks_stretch : (plan : hb_ot_shape_plan_t) (font : Font) (b : Buffer)
@@ -85,14 +85,14 @@ decompositions = refl
 no_pair : (plan : hb_ot_shape_plan_t) (tables : CharacterTables) (x y : ℕ) → Composed Arabic plan tables x y composed.NoHook
     × Composed Hangul plan tables x y composed.NoHook × Composed Myanmar plan tables x y composed.NoHook
     × Composed MyanmarZawgyi plan tables x y composed.NoHook × Composed Thai plan tables x y composed.NoHook
-no_pair plan tables x y = search (arith, lacks)
+no_pair = search (arith, lacks)
 
 -- no character decomposes
 no_parts : (plan : hb_ot_shape_plan_t) (tables : CharacterTables) (x : ℕ) → Decomposed Arabic plan tables x decomposed.NoHook
     × Decomposed Hangul plan tables x decomposed.NoHook × Decomposed Hebrew plan tables x decomposed.NoHook
     × Decomposed Myanmar plan tables x decomposed.NoHook × Decomposed MyanmarZawgyi plan tables x decomposed.NoHook
     × Decomposed Thai plan tables x decomposed.NoHook × Decomposed Universal plan tables x decomposed.NoHook
-no_parts plan tables x = search (arith, lacks)
+no_parts = search (arith, lacks)
 
 -- masks stay
 masks_stay : (plan : hb_ot_shape_plan_t) (tables : CharacterTables) (b : Buffer) → MasksSet Hebrew plan tables b b
@@ -103,4 +103,4 @@ masks_stay plan tables b = (lacks, lacks, lacks)
 marks_stay : (b : Buffer) → MarksReordered Hangul 1 3 b b × MarksReordered Indic 1 3 b b × MarksReordered Khmer 1 3 b b
     × MarksReordered Myanmar 1 3 b b × MarksReordered MyanmarZawgyi 1 3 b b × MarksReordered Thai 1 3 b b
     × MarksReordered Universal 1 3 b b
-marks_stay b = search (arith, lacks)
+marks_stay = search (arith, lacks)

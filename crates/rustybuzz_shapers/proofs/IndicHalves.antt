@@ -4,8 +4,8 @@ use Rattle.std.specs.List.{All, Contains}
 use Rattle.std.specs.Prelude.{Option}
 use Rattle.std.proofs.lemmas.List.{length-map}
 use Rattle.std.proofs.lemmas.List.Elements.{All-contains_itself}
-use Rattle.shapers_base.specs.declared.plan.pause.Pause.TheVariants.{SetupSyllablesIndic, SetupSyllablesKhmer, SetupSyllablesMyanmar, SetupSyllablesUse, InitialReordering, ReorderKhmer, ReorderMyanmar, ReorderUse, FinalReordering, RecordStch, RecordRphf, RecordPref, SyllabicClearVar, ClearSubstitutionFlags, ArabicFallbackShape}
-use Rattle.shapers_buffer.specs.declared.buffer.glyph.hb_glyph_info_t.{hb_glyph_info_t}
+use Rattle.shapers_base.specs.declared.plan.pause.Pause.TheVariants.{InitialReordering, FinalReordering}
+use Rattle.shapers_buffer.specs.Glyphs.{Glyph, Glyphs}
 use Rattle.shapers_buffer.specs.declared.buffer.level.BufferClusterLevel.{BufferClusterLevel}
 use Rattle.shapers_buffer.specs.Glyph.{clusters, order_view, plain}
 use Rattle.shapers_buffer.specs.Syllables.{syllables}
@@ -28,21 +28,20 @@ use Rattle.rustybuzz_shapers.specs.Monotone.{IndicKeepsHalves}
 use Rattle.rustybuzz_shapers.specs.Pauses.{by_initial}
 
 -- steps make no cluster
-own : (level : BufferClusterLevel) (steps : List Step) (gs : List hb_glyph_info_t) → FitSteps (length gs) steps
+own : (level : BufferClusterLevel) (steps : List Step) (gs : Glyphs) → FitSteps (length gs) steps
     → All (Contains (clusters gs)) (joined_steps level steps (clusters gs))
 own level steps gs fit =
     (all-joined_steps (Contains (clusters gs)) level (length gs) steps (clusters gs)
-    (length-map gs (λ (g : hb_glyph_info_t). g.cluster)) fit (All-contains_itself (clusters gs))).1
+    (length-map gs (λ (g : Glyph). g.cluster)) fit (All-contains_itself (clusters gs))).1
 
-paused_own : (circles : Option DottedCircles) (order : List hb_glyph_info_t → List hb_glyph_info_t)
-    (steps : List hb_glyph_info_t → List Step) (level : BufferClusterLevel) (gs : List hb_glyph_info_t)
+paused_own : (circles : Option DottedCircles) (order : Glyphs → Glyphs)
+    (steps : Glyphs → List Step) (level : BufferClusterLevel) (gs : Glyphs)
     → ReorderLaws order steps → All (Contains (clusters gs)) (paused_clusters circles steps level gs)
 paused_own circles order steps level gs laws =
     let opened = circled circles gs in
     let sts = text_steps steps (order_view opened) in
     let are = clusters-run_steps level sts opened in
-    subst (All (Contains (clusters gs))) are
-    (no_new_cluster circles gs (run_steps level sts opened)
+    subst (All (Contains (clusters gs))) are (no_new_cluster circles gs (run_steps level sts opened)
     (subst (All (Contains (clusters opened))) (sym are)
     (own level sts opened (
     let pieces = pieces_of steps (syllables (order_view opened)) in subst (FitSteps (length opened)) (sym
@@ -69,7 +68,7 @@ indic_keeps_halves InitialReordering plan font spans old new indic k gs hs text 
     )
 indic_keeps_halves FinalReordering plan font spans old new indic k gs hs text border none =
     let r = final_rules font (indic_in plan) in
-    let made = λ (xs : List hb_glyph_info_t). joined_steps old.level (final_text_steps r old.script xs)
+    let made = λ (xs : Glyphs). joined_steps old.level (final_text_steps r old.script xs)
     (clusters xs) in (
       made gs,
       (
@@ -83,16 +82,4 @@ indic_keeps_halves FinalReordering plan font spans old new indic k gs hs text bo
         ),
       ),
     )
-indic_keeps_halves SetupSyllablesIndic plan font spans old new indic k gs hs text border none = absurd cc
-indic_keeps_halves SetupSyllablesKhmer plan font spans old new indic k gs hs text border none = absurd cc
-indic_keeps_halves SetupSyllablesMyanmar plan font spans old new indic k gs hs text border none = absurd cc
-indic_keeps_halves SetupSyllablesUse plan font spans old new indic k gs hs text border none = absurd cc
-indic_keeps_halves ReorderKhmer plan font spans old new indic k gs hs text border none = absurd cc
-indic_keeps_halves ReorderMyanmar plan font spans old new indic k gs hs text border none = absurd cc
-indic_keeps_halves ReorderUse plan font spans old new indic k gs hs text border none = absurd cc
-indic_keeps_halves RecordStch plan font spans old new indic k gs hs text border none = absurd cc
-indic_keeps_halves RecordRphf plan font spans old new indic k gs hs text border none = absurd cc
-indic_keeps_halves RecordPref plan font spans old new indic k gs hs text border none = absurd cc
-indic_keeps_halves SyllabicClearVar plan font spans old new indic k gs hs text border none = absurd cc
-indic_keeps_halves ClearSubstitutionFlags plan font spans old new indic k gs hs text border none = absurd cc
-indic_keeps_halves ArabicFallbackShape plan font spans old new indic k gs hs text border none = absurd cc
+indic_keeps_halves _ plan font spans old new indic k gs hs text border none = absurd cc

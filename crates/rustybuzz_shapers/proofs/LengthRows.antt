@@ -1,9 +1,9 @@
 -- How long a text gets, computed: each bound is attained.
-use Rattle.std.specs.Prelude.{◌≡◌, ℕ, ◌==◌, false, true, pos, Some, None, [], ◌∷◌, List, length, map, refl, if◌then◌else◌}
+use Rattle.std.specs.Prelude.{◌≡◌, ℕ, ◌==◌, false, true, pos, Some, None, [], ◌∷◌, length, map, refl, if◌then◌else◌}
 use Rattle.std.specs.List.{list_any}
 use Rattle.shapers_base.specs.Font.{Font}
 use Rattle.shapers_base.specs.declared.plan.pause.Pause.TheVariants.{FinalReordering, InitialReordering, RecordStch, ReorderKhmer, ReorderMyanmar, ReorderUse}
-use Rattle.shapers_buffer.specs.declared.buffer.glyph.hb_glyph_info_t.{hb_glyph_info_t}
+use Rattle.shapers_buffer.specs.Glyphs.{Glyph, Glyphs}
 use Rattle.shapers_buffer.specs.declared.buffer.level.BufferClusterLevel.TheVariants.{MonotoneGraphemes}
 use Rattle.shapers_buffer.specs.Glyph.{default_glyph}
 use Rattle.shapers_hangul.specs.Hangul.{preprocessed}
@@ -13,7 +13,7 @@ use Rattle.shapers_text.specs.ThaiForms.{preprocessed_text}
 use Rattle.rustybuzz_shapers.specs.Lengths.{broken_in, growth, pause_growth}
 use Rattle.rustybuzz_shapers.specs.declared.shaper.hb_ot_shaper_t.TheVariants.{Arabic, Hangul, Hebrew, Indic, Khmer, Myanmar, MyanmarZawgyi, Thai, Universal}
 
-abbrev character : ℕ → hb_glyph_info_t
+abbrev character : ℕ → Glyph
 character u = record default_glyph { glyph_id = u }
 
 -- a font that has the jamo of AC01, and not that
@@ -47,7 +47,7 @@ am_alone : length (preprocessed_text false (λ u. false) MonotoneGraphemes (char
 am_alone = refl
 
 -- two broken syllables of one glyph each, of kind 4, get two circles; without circles none
-abbrev two_broken : List hb_glyph_info_t
+abbrev two_broken : Glyphs
 two_broken = record default_glyph { syllable = 0x14 } ∷ record default_glyph { syllable = 0x24 } ∷ []
 
 abbrev rule : DottedCircles

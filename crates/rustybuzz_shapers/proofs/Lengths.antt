@@ -8,12 +8,12 @@ use Rattle.std.proofs.lemmas.List.Elements.{length_all_zip}
 use Rattle.std.proofs.lemmas.List.Sorted.{length_permutation}
 use Rattle.std.proofs.lemmas.List.Sums.{count_by-le-length, sum_by-cons}
 use Rattle.shapers_base.specs.declared.plan.hb_ot_shape_plan_t.{hb_ot_shape_plan_t}
-use Rattle.shapers_base.specs.declared.plan.pause.Pause.TheVariants.{SetupSyllablesIndic, SetupSyllablesKhmer, SetupSyllablesMyanmar, SetupSyllablesUse, InitialReordering, ReorderKhmer, ReorderMyanmar, ReorderUse, FinalReordering, RecordStch, RecordRphf, RecordPref, SyllabicClearVar, ClearSubstitutionFlags, ArabicFallbackShape}
+use Rattle.shapers_base.specs.declared.plan.pause.Pause.TheVariants.{SetupSyllablesIndic, SetupSyllablesKhmer, SetupSyllablesMyanmar, SetupSyllablesUse, InitialReordering, ReorderKhmer, ReorderMyanmar, ReorderUse, FinalReordering}
 use Rattle.shapers_base.specs.Font.{Font, has_nominal}
 use Rattle.shapers_buffer.specs.Buffer.{Buffer}
-use Rattle.shapers_buffer.specs.declared.buffer.glyph.hb_glyph_info_t.{hb_glyph_info_t}
+use Rattle.shapers_buffer.specs.Glyphs.{Glyph, Glyphs}
 use Rattle.shapers_buffer.specs.declared.buffer.refusal.ShaperError.{ShaperError}
-use Rattle.shapers_buffer.specs.declared.buffer.refusal.ShaperError.TheVariants.{Memory, TooLong, UnknownSyllable, SpansDontCover, StretchOverflow}
+use Rattle.shapers_buffer.specs.declared.buffer.refusal.ShaperError.TheVariants.{Memory, TooLong, UnknownSyllable, SpansDontCover}
 use Rattle.shapers_buffer.specs.Refusals.{RefusesInput, RefusesLength}
 use Rattle.shapers_buffer.specs.Syllables.{syllables}
 use Rattle.shapers_clusters.specs.FlagLaw.{OnlyFlagsAdded}
@@ -31,31 +31,29 @@ use Rattle.shapers_text.proofs.ThaiWholeMarks.{clusters-flagged}
 use Rattle.rustybuzz_shapers.specs.Hooks.{Preprocessed}
 use Rattle.rustybuzz_shapers.specs.Lengths.{PausesGrow, PausesHaveRoom, PreprocessingGrows, PreprocessingHasRoom, broken_in}
 use Rattle.rustybuzz_shapers.specs.Pauses.{RefusesReordering}
-use Rattle.rustybuzz_shapers.specs.declared.shaper.hb_ot_shaper_t.TheVariants.{Arabic, Hangul, Hebrew, Indic, Khmer, Myanmar, MyanmarZawgyi, Thai, Universal}
+use Rattle.rustybuzz_shapers.specs.declared.shaper.hb_ot_shaper_t.TheVariants.{Hangul, Indic, Thai, Universal}
 use Rattle.rustybuzz_shapers.proofs.HangulLong.{hangul_long}
 
 same_long : (old new : Buffer) → new ≡ old → length new.glyphs ≡ length old.glyphs
 same_long old new is = cc
 
 -- THAI
-abbrev ams_in : List hb_glyph_info_t → ℕ
+abbrev ams_in : Glyphs → ℕ
 ams_in gs = count_by (λ g. is_sara_am g.glyph_id) gs
 
-one_or_two : (b : Bool) (g : hb_glyph_info_t) → length (if b then nikhahit g ∷ (sara_aa g ∷ []) else g ∷ [])
-    ≡ 1 + cond b 1 0
+one_or_two : (b : Bool) (g : Glyph) → length (if b then nikhahit g ∷ (sara_aa g ∷ []) else g ∷ []) ≡ 1 + cond b 1 0
 one_or_two true g = refl
 one_or_two false g = refl
 
-parts_long : (gs : List hb_glyph_info_t) → length (flat_map (in_parts glyph_rule) gs) ≡ length gs + ams_in gs
+parts_long : (gs : Glyphs) → length (flat_map (in_parts glyph_rule) gs) ≡ length gs + ams_in gs
 parts_long [] = refl
-parts_long (g ∷ gs) =
-    search (
-      arith,
-      length-append (in_parts glyph_rule g) (flat_map (in_parts glyph_rule) gs),
-      one_or_two (is_sara_am g.glyph_id) g,
-      sum_by-cons (λ (x : hb_glyph_info_t). cond (is_sara_am x.glyph_id) 1 0) g gs,
-      parts_long gs,
-    )
+parts_long (g ∷ gs) = search (
+  arith,
+  length-append (in_parts glyph_rule g) (flat_map (in_parts glyph_rule) gs),
+  one_or_two (is_sara_am g.glyph_id) g,
+  sum_by-cons (λ (x : Glyph). cond (is_sara_am x.glyph_id) 1 0) g gs,
+  parts_long gs,
+)
 
 thai_long : (plan : hb_ot_shape_plan_t) (font : Font) (old new : Buffer) → Preprocessed Thai plan font old new
     → length new.glyphs ≡ length old.glyphs + ams_in old.glyphs
@@ -76,43 +74,28 @@ thai_long plan font old new is =
     )
 
 pub preprocessing_grows : PreprocessingGrows
-preprocessing_grows Arabic plan font old new k = same_long old new k.1
-preprocessing_grows Hangul plan font old new k =
-    search (arith, hangul_long, length-flagged)
-preprocessing_grows Hebrew plan font old new k = same_long old new k.1
+preprocessing_grows Hangul plan font old new k = search (arith, hangul_long, length-flagged)
 preprocessing_grows Indic plan font old new k = same_long old new k
-preprocessing_grows Khmer plan font old new k = same_long old new k.1
-preprocessing_grows Myanmar plan font old new k = same_long old new k.1
-preprocessing_grows MyanmarZawgyi plan font old new k = same_long old new k.1
 preprocessing_grows Thai plan font old new k = thai_long plan font old new k
 preprocessing_grows Universal plan font old new k = same_long old new k
+preprocessing_grows _ plan font old new k = same_long old new k.1
 
 -- PAUSES
-flags_long : (gs ms : List hb_glyph_info_t) → OnlyFlagsAdded gs ms → length ms ≡ length gs + 0
-flags_long gs ms added = search (arith, length_all_zip)
+flags_long : (gs ms : Glyphs) → OnlyFlagsAdded gs ms → length ms ≡ length gs + 0
+flags_long = search (arith, length_all_zip)
 
-circled_long : (circles : Option DottedCircles) (gs : List hb_glyph_info_t)
+circled_long : (circles : Option DottedCircles) (gs : Glyphs)
     → length (circled circles gs) ≡ length gs + broken_in circles gs
 circled_long None gs = omega arith
 circled_long (Some rule) gs = length-with_circles rule gs
 
 pub pauses_grow : PausesGrow
-pauses_grow SetupSyllablesIndic plan font spans old new k = search (arith, flags_long)
-pauses_grow SetupSyllablesKhmer plan font spans old new k = search (arith, flags_long)
-pauses_grow SetupSyllablesMyanmar plan font spans old new k = search (arith, flags_long)
-pauses_grow SetupSyllablesUse plan font spans old new k = search (arith, flags_long)
-pauses_grow InitialReordering plan font spans old new k = search (arith, circled_long)
-pauses_grow ReorderKhmer plan font spans old new k = search (arith, circled_long)
-pauses_grow ReorderMyanmar plan font spans old new k = search (arith, circled_long)
-pauses_grow ReorderUse plan font spans old new k = search (arith, circled_long)
-pauses_grow FinalReordering plan font spans old new k =
-    search (arith, length_permutation, length-map)
-pauses_grow RecordStch plan font spans old new k = search (arith, flags_long)
-pauses_grow RecordRphf plan font spans old new k = search (arith, flags_long)
-pauses_grow RecordPref plan font spans old new k = search (arith, flags_long)
-pauses_grow SyllabicClearVar plan font spans old new k = search (arith, flags_long)
-pauses_grow ClearSubstitutionFlags plan font spans old new k = search (arith, flags_long)
-pauses_grow ArabicFallbackShape plan font spans old new k = search (arith, flags_long)
+pauses_grow InitialReordering = search (arith, circled_long)
+pauses_grow ReorderKhmer = search (arith, circled_long)
+pauses_grow ReorderMyanmar = search (arith, circled_long)
+pauses_grow ReorderUse = search (arith, circled_long)
+pauses_grow FinalReordering = search (arith, length_permutation, length-map)
+pauses_grow _ = search (arith, flags_long)
 
 -- ROOM
 enough : {T : Type 0} (limit wanted : ℕ) (r : Result T ShaperError) → wanted ≤ limit → RefusesLength limit wanted r
@@ -120,59 +103,48 @@ enough : {T : Type 0} (limit wanted : ℕ) (r : Result T ShaperError) → wanted
 enough limit wanted (Ok x) fits h = tt
 enough limit wanted (Err Memory) fits h = refl
 enough limit wanted (Err TooLong) fits h = absurd (omega (arith, fits, h))
-enough limit wanted (Err (UnknownSyllable place)) fits h = absurd h
-enough limit wanted (Err SpansDontCover) fits h = absurd h
-enough limit wanted (Err StretchOverflow) fits h = absurd h
+enough limit wanted _ fits h = absurd h
 
 never : {T : Type 0} (r : Result T ShaperError) → IsOk r → IsOkUnless r Memory
 never (Ok x) h = tt
 never (Err e) h = absurd (false≢true h)
 
 pub preprocessing_has_room : PreprocessingHasRoom
-preprocessing_has_room Arabic font old r room k = never r k.1
 preprocessing_has_room Hangul font old r room k =
-    let long = hangul_long font (allows_circles old) old.level old.glyphs in
-    search (arith, enough)
-preprocessing_has_room Hebrew font old r room k = never r k.1
+    let long = hangul_long font (allows_circles old) old.level old.glyphs in search (arith, enough)
 preprocessing_has_room Indic font old r room k = never r k
-preprocessing_has_room Khmer font old r room k = never r k.1
-preprocessing_has_room Myanmar font old r room k = never r k.1
-preprocessing_has_room MyanmarZawgyi font old r room k = never r k.1
 preprocessing_has_room Thai font old r room k =
-    let long = (lengths glyph_rule old.glyphs).whole in
-    search (arith, enough, count_by-le-length)
+    let long = (lengths glyph_rule old.glyphs).whole in search (arith, enough, count_by-le-length)
 preprocessing_has_room Universal font old r room k = never r k
+preprocessing_has_room _ font old r room k = never r k.1
 
 -- a syllable that is broken has a glyph
 at_most_one : (b : Bool) → cond b 1 0 ≤ 1
 at_most_one true = omega arith
 at_most_one false = omega arith
 
-broken_has_some : (kind : ℕ) (piece : List hb_glyph_info_t) → cond (is_of_kind kind piece) 1 0 ≤ length piece
+broken_has_some : (kind : ℕ) (piece : Glyphs) → cond (is_of_kind kind piece) 1 0 ≤ length piece
 broken_has_some kind [] = omega arith
 broken_has_some kind (g ∷ gs) = search (arith, at_most_one)
 
-few_broken : (kind : ℕ) (pieces : List (List hb_glyph_info_t)) → count_by (is_of_kind kind) pieces
+few_broken : (kind : ℕ) (pieces : List Glyphs) → count_by (is_of_kind kind) pieces
     ≤ length (flat_map (λ piece. piece) pieces)
 few_broken kind [] = omega arith
-few_broken kind (piece ∷ pieces) =
-    search (
-      arith,
-      sum_by-cons (λ (p : List hb_glyph_info_t). cond (is_of_kind kind p) 1 0) piece pieces,
-      length-append piece (flat_map (λ p. p) pieces),
-      broken_has_some kind piece,
-      few_broken kind pieces,
-    )
+few_broken kind (piece ∷ pieces) = search (
+  arith,
+  sum_by-cons (λ (p : Glyphs). cond (is_of_kind kind p) 1 0) piece pieces,
+  length-append piece (flat_map (λ p. p) pieces),
+  broken_has_some kind piece,
+  few_broken kind pieces,
+)
 
 -- no more circles open than the text has glyphs, and so it gets twice as long at most
-pub few_circles : (circles : Option DottedCircles) (gs : List hb_glyph_info_t) → broken_in circles gs ≤ length gs
+pub few_circles : (circles : Option DottedCircles) (gs : Glyphs) → broken_in circles gs ≤ length gs
 few_circles None gs = omega arith
-few_circles (Some rule) gs =
-    search (arith, few_broken rule.broken_kind (syllables gs), joined-syllables gs)
+few_circles (Some rule) gs = search (arith, few_broken rule.broken_kind (syllables gs), joined-syllables gs)
 
-pub circles_fit : (circles : Option DottedCircles) (gs : List hb_glyph_info_t)
-    → length (circled circles gs) ≤ length gs * 2
-circles_fit circles gs = search (arith, circled_long, few_circles)
+pub circles_fit : (circles : Option DottedCircles) (gs : Glyphs) → length (circled circles gs) ≤ length gs * 2
+circles_fit = search (arith, circled_long, few_circles)
 
 not_err : {T : Type 0} (r : Result T ShaperError) → IsOk r → r ≢ Err TooLong
 not_err (Ok x) h is = absurd cc
@@ -197,29 +169,16 @@ by_spans false r h is = search (arith, other)
 reordering : (found : Option ℕ) (circles : Option DottedCircles) (old : Buffer) (r : Result Bool ShaperError)
     → length old.glyphs * 2 ≤ old.max_len
     → RefusesReordering (option_map (λ place. UnknownSyllable place) found) circles old r → r ≢ Err TooLong
-reordering None circles old r room k is =
-    let fits = circles_fit circles old.glyphs in
-    search (arith, not_long, enough)
-reordering (Some place) circles old r room k is = search (arith, other)
+reordering None circles old = let fits = circles_fit circles old.glyphs in search (arith, not_long, enough)
+reordering (Some place) circles old = search (arith, other)
 
 pub pauses_have_room : PausesHaveRoom
-pauses_have_room SetupSyllablesIndic font spans old r room k is =
-    search (arith, by_spans)
-pauses_have_room SetupSyllablesKhmer font spans old r room k is =
-    search (arith, by_spans)
-pauses_have_room SetupSyllablesMyanmar font spans old r room k is =
-    search (arith, by_spans)
+pauses_have_room SetupSyllablesIndic font spans old r room k is = search (arith, by_spans)
+pauses_have_room SetupSyllablesKhmer font spans old r room k is = search (arith, by_spans)
+pauses_have_room SetupSyllablesMyanmar font spans old r room k is = search (arith, by_spans)
 pauses_have_room SetupSyllablesUse font spans old r room k is = search (arith, by_spans)
-pauses_have_room InitialReordering font spans old r room k is =
-    search (arith, reordering)
+pauses_have_room InitialReordering font spans old r room k is = search (arith, reordering)
 pauses_have_room ReorderKhmer font spans old r room k is = search (arith, reordering)
-pauses_have_room ReorderMyanmar font spans old r room k is =
-    search (arith, reordering)
+pauses_have_room ReorderMyanmar font spans old r room k is = search (arith, reordering)
 pauses_have_room ReorderUse font spans old r room k is = reordering None _ old r room k is
-pauses_have_room FinalReordering font spans old r room k is = not_err r k is
-pauses_have_room RecordStch font spans old r room k is = not_err r k is
-pauses_have_room RecordRphf font spans old r room k is = not_err r k is
-pauses_have_room RecordPref font spans old r room k is = not_err r k is
-pauses_have_room SyllabicClearVar font spans old r room k is = not_err r k is
-pauses_have_room ClearSubstitutionFlags font spans old r room k is = not_err r k is
-pauses_have_room ArabicFallbackShape font spans old r room k is = not_err r k is
+pauses_have_room _ font spans old r room k is = not_err r k is

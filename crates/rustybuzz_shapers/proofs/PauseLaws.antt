@@ -27,8 +27,7 @@ carried_at_borders : (r : Reordering) (old new : Buffer) → ReadsNoSerials r.or
     → PauseCutsAtBorders r.circles r.order r.steps old new → CarriedAtBorders r old new
 carried_at_borders r old new reads cuts gs hs xs ys text border one two none =
     let made = paused_carried r.circles r.steps old.level in
-    ap (map unnumbered) ((cuts gs hs text border).moved none)
-    ∙ map-append unnumbered (made gs) (made hs)
+    ap (map unnumbered) ((cuts gs hs text border).moved none) ∙ map-append unnumbered (made gs) (made hs)
     ∙ ap (λ zs. zs ++ map unnumbered (made hs))
     (serials_dont_count r.circles r.order r.steps old.level gs xs reads one).moved
     ∙ ap (λ zs. map unnumbered (made xs) ++ zs)
@@ -57,5 +56,4 @@ pub final_keeps : (plan : hb_ot_shape_plan_t) (font : Font) (old new : Buffer)
     → FinallyLinked (final_rules font (indic_in plan)) old new
     → ThenOpened plan font (λ mid. ReorderingKeeps (by_final plan font old) old mid × OneByOne (by_final plan font old)
     old mid) new
-final_keeps plan font old new linked =
-    search (arith, reordering_keeps, final_laws, final_reads_no_serials, reordered_by_chain)
+final_keeps plan font old new linked = search (arith, reordering_keeps, final_laws, final_reads_no_serials, reordered_by_chain)

@@ -1,7 +1,7 @@
 -- The pauses, computed: what they do to a small buffer.
 use Rattle.std.proofs.Common.{arith}
 use Rattle.std.specs.Prelude.{◌≡◌, ◌==◌, ℕ, ◌+◌, true, false, not, List, [], ◌∷◌, map, None, is_some, Result, Err, IsOk, refl}
-use Rattle.shapers_buffer.specs.declared.buffer.glyph.hb_glyph_info_t.{hb_glyph_info_t}
+use Rattle.shapers_buffer.specs.Glyphs.{Glyph, Glyphs}
 use Rattle.shapers_buffer.specs.declared.buffer.refusal.ShaperError.{ShaperError}
 use Rattle.shapers_buffer.specs.declared.buffer.refusal.ShaperError.TheVariants.{SpansDontCover, UnknownSyllable}
 use Rattle.shapers_buffer.specs.declared.buffer.syllables.Span.{Span}
@@ -33,7 +33,7 @@ use Rattle.shapers_universal.specs.UniversalText.{universal_circles}
 use Rattle.rustybuzz_shapers.specs.Pauses.{PauseFits, Paused, RefusesPause, pause_circles, may_change, pauses_in, reordering_of}
 
 -- three glyphs, each with its cluster, byte and mask
-abbrev glyph : ℕ → ℕ → ℕ → hb_glyph_info_t
+abbrev glyph : ℕ → ℕ → ℕ → Glyph
 glyph c byte m = record default_glyph { cluster = c; syllable = byte; mask = m }
 
 abbrev text : Buffer
@@ -58,8 +58,7 @@ Cuts pause k new = (plan : hb_ot_shape_plan_t) (font : Font) → Paused pause pl
 indic_broken : Cuts SetupSyllablesIndic 1 (whole 1) × Cuts SetupSyllablesIndic 2 (whole 2)
     × Cuts SetupSyllablesIndic 3 (whole 3) × Cuts SetupSyllablesIndic 4 (broken 4)
     × Cuts SetupSyllablesIndic 5 (whole 5) × Cuts SetupSyllablesIndic 6 (whole 6)
-indic_broken =
-    search arith
+indic_broken = search arith
 
 -- of the kinds of Khmer 1 is the broken one
 khmer_broken : Cuts SetupSyllablesKhmer 1 (broken 1) × Cuts SetupSyllablesKhmer 2 (whole 2)
@@ -72,7 +71,7 @@ myanmar_broken : Cuts SetupSyllablesMyanmar 1 (whole 1) × Cuts SetupSyllablesMy
 myanmar_broken = search arith
 
 -- clearing takes one field of each glyph back, and the fallback of Arabic does nothing
-abbrev full : hb_glyph_info_t
+abbrev full : Glyph
 full = record {
   glyph_id = 0x916;
   mask = 0x1F;
@@ -85,10 +84,10 @@ full = record {
   auxiliary = 3;
 }
 
-abbrev full_text : List hb_glyph_info_t → Buffer
+abbrev full_text : Glyphs → Buffer
 full_text gs = record (new_buffer 10) { glyphs = gs; broken = true; stch = true }
 
-abbrev Makes : Pause → hb_glyph_info_t → Type 0
+abbrev Makes : Pause → Glyph → Type 0
 Makes pause g = (plan : hb_ot_shape_plan_t) (font : Font) → Paused pause plan font
     [] (full_text (full ∷ full ∷ [])) (full_text (g ∷ g ∷ []))
 
@@ -179,4 +178,4 @@ data_read : (plan : hb_ot_shape_plan_t) → (PauseFits SetupSyllablesUse plan �
     × (PauseFits FinalReordering plan ≡ (is_indic_data plan.plan_data ≡ true))
     × (PauseFits ReorderKhmer plan ≡ (is_khmer_data plan.plan_data ≡ true))
     × (PauseFits RecordStch plan ≡ IsArabic plan.plan_data)
-data_read plan = search arith
+data_read = search arith

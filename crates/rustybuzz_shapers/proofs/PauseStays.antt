@@ -4,7 +4,7 @@ use Rattle.std.proofs.Common.{◌≡◌, ◌==◌, Bool, false, not, refl, sym, 
 use Rattle.std.proofs.lemmas.Bool.{eqb-true}
 use Rattle.shapers_base.specs.declared.plan.hb_ot_shape_plan_t.{hb_ot_shape_plan_t}
 use Rattle.shapers_base.specs.declared.plan.pause.Pause.{Pause}
-use Rattle.shapers_base.specs.declared.plan.pause.Pause.TheVariants.{SetupSyllablesIndic, SetupSyllablesKhmer, SetupSyllablesMyanmar, SetupSyllablesUse, InitialReordering, ReorderKhmer, ReorderMyanmar, ReorderUse, FinalReordering, RecordStch, RecordRphf, RecordPref, SyllabicClearVar, ClearSubstitutionFlags, ArabicFallbackShape}
+use Rattle.shapers_base.specs.declared.plan.pause.Pause.TheVariants.{RecordStch, RecordRphf, ArabicFallbackShape}
 use Rattle.shapers_universal.proofs.NothingRecorded.{nothing_recorded}
 use Rattle.rustybuzz_shapers.specs.Pauses.{PauseStays, may_change}
 
@@ -17,18 +17,6 @@ no_mask mask none = search (arith, eqb-true, is_so)
 
 pub stays : (pause : Pause) (plan : hb_ot_shape_plan_t) → may_change pause plan ≡ false → PauseStays pause plan
 stays RecordStch plan none font spans old new is = cc
-stays RecordRphf plan none font spans old new is =
-    search (arith, no_mask, nothing_recorded)
+stays RecordRphf plan none font spans old new is = search (arith, no_mask, nothing_recorded)
 stays ArabicFallbackShape plan none font spans old new is = is
-stays SetupSyllablesIndic plan none font spans old new is = absurd cc
-stays SetupSyllablesKhmer plan none font spans old new is = absurd cc
-stays SetupSyllablesMyanmar plan none font spans old new is = absurd cc
-stays SetupSyllablesUse plan none font spans old new is = absurd cc
-stays InitialReordering plan none font spans old new is = absurd cc
-stays ReorderKhmer plan none font spans old new is = absurd cc
-stays ReorderMyanmar plan none font spans old new is = absurd cc
-stays ReorderUse plan none font spans old new is = absurd cc
-stays FinalReordering plan none font spans old new is = absurd cc
-stays RecordPref plan none font spans old new is = absurd cc
-stays SyllabicClearVar plan none font spans old new is = absurd cc
-stays ClearSubstitutionFlags plan none font spans old new is = absurd cc
+stays _ plan none font spans old new is = absurd cc

@@ -3,9 +3,9 @@ use Rattle.std.proofs.Common.{arith}
 use Rattle.std.proofs.Common.{List, map}
 use Rattle.std.specs.List.Sorted.{IsPermutation}
 use Rattle.std.proofs.lemmas.List.Sorted.{IsPermutation-map}
-use Rattle.shapers_buffer.specs.declared.buffer.glyph.hb_glyph_info_t.{hb_glyph_info_t}
+use Rattle.shapers_buffer.specs.Glyphs.{Glyph, Glyphs}
 use Rattle.shapers_buffer.specs.Buffer.{Buffer}
-use Rattle.shapers_base.specs.declared.plan.pause.Pause.TheVariants.{SetupSyllablesIndic, SetupSyllablesKhmer, SetupSyllablesMyanmar, SetupSyllablesUse, InitialReordering, ReorderKhmer, ReorderMyanmar, ReorderUse, FinalReordering, RecordStch, RecordRphf, RecordPref, SyllabicClearVar, ClearSubstitutionFlags, ArabicFallbackShape}
+use Rattle.shapers_base.specs.declared.plan.pause.Pause.TheVariants.{InitialReordering, ReorderKhmer, ReorderMyanmar, ReorderUse, FinalReordering}
 use Rattle.shapers_clusters.specs.Flags.{seen}
 use Rattle.shapers_buffer.specs.declared.buffer.level.BufferClusterLevel.TheVariants.{Characters}
 use Rattle.shapers_clusters.specs.Steps.{Step}
@@ -26,25 +26,23 @@ use Rattle.shapers_myanmar.specs.Proved.MyanmarLaws.{myanmar_laws}
 use Rattle.shapers_universal.specs.Proved.UniversalView.{universal_laws}
 use Rattle.rustybuzz_shapers.specs.Regrouped.{SyllablesRegrouped}
 
-numbers_kept : (gs hs : List hb_glyph_info_t) → IsPermutation (seen carried gs) (seen carried hs)
+numbers_kept : (gs hs : Glyphs) → IsPermutation (seen carried gs) (seen carried hs)
     → IsPermutation (map (λ g. g.glyph_id) gs) (map (λ g. g.glyph_id) hs)
-numbers_kept gs hs kept =
-    search (
-      arith,
-      numbers-seen gs,
-      numbers-seen hs,
-      IsPermutation-map (λ (g : hb_glyph_info_t). g.glyph_id) (seen carried gs) (seen carried hs) kept,
-    )
+numbers_kept gs hs kept = search (
+  arith,
+  numbers-seen gs,
+  numbers-seen hs,
+  IsPermutation-map (λ (g : Glyph). g.glyph_id) (seen carried gs) (seen carried hs) kept,
+)
 
-numbers_by : (meaning : List hb_glyph_info_t → List hb_glyph_info_t) (steps : List hb_glyph_info_t
+numbers_by : (meaning : Glyphs → Glyphs) (steps : Glyphs
     → List Step) (old new : Buffer) → ReorderLaws meaning steps → SyllablesReordered meaning steps old new
     → IsPermutation (map (λ g. g.glyph_id) old.glyphs) (map (λ g. g.glyph_id) new.glyphs)
 numbers_by meaning steps old new laws done =
     numbers_kept old.glyphs new.glyphs (text_reordered meaning steps old new laws done).kept
 
 -- of each syllable by itself
-each_kept : (meaning : List hb_glyph_info_t → List hb_glyph_info_t) (steps : List hb_glyph_info_t → List Step)
-    → ReorderLaws meaning steps → (syl : List hb_glyph_info_t)
+each_kept : (meaning : Glyphs → Glyphs) (steps : Glyphs → List Step) → ReorderLaws meaning steps → (syl : Glyphs)
     → IsPermutation (map (λ g. g.glyph_id) syl) (map (λ g. g.glyph_id) (meaning syl))
 each_kept meaning steps laws syl =
     numbers_kept syl (meaning syl)
@@ -67,20 +65,9 @@ syllables_regrouped ReorderMyanmar plan font spans old new done =
     search (arith, done.order, numbers_by _ _ _ new myanmar_laws done, each_kept _ _ myanmar_laws)
 syllables_regrouped ReorderUse plan font spans old new done =
     search (arith, done.order, numbers_by _ _ _ new universal_laws done, each_kept _ _ universal_laws)
-syllables_regrouped FinalReordering plan font spans old new done =
-    record {
-      order = (finished (final_rules font (indic_in plan)) old new done).order;
-      numbers = (finally_kept (final_rules font (indic_in plan)) old new done).numbers;
-      each
-          = each_kept _ _ (final_laws (final_rules font (indic_in plan)) old.script);
-    }
-syllables_regrouped SetupSyllablesIndic plan font spans old new done = tt
-syllables_regrouped SetupSyllablesKhmer plan font spans old new done = tt
-syllables_regrouped SetupSyllablesMyanmar plan font spans old new done = tt
-syllables_regrouped SetupSyllablesUse plan font spans old new done = tt
-syllables_regrouped RecordStch plan font spans old new done = tt
-syllables_regrouped RecordRphf plan font spans old new done = tt
-syllables_regrouped RecordPref plan font spans old new done = tt
-syllables_regrouped SyllabicClearVar plan font spans old new done = tt
-syllables_regrouped ClearSubstitutionFlags plan font spans old new done = tt
-syllables_regrouped ArabicFallbackShape plan font spans old new done = tt
+syllables_regrouped FinalReordering plan font spans old new done = record {
+  order = (finished (final_rules font (indic_in plan)) old new done).order;
+  numbers = (finally_kept (final_rules font (indic_in plan)) old new done).numbers;
+  each = each_kept _ _ (final_laws (final_rules font (indic_in plan)) old.script);
+}
+syllables_regrouped _ plan font spans old new done = tt

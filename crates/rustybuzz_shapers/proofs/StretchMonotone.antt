@@ -9,7 +9,7 @@ use Rattle.shapers_base.specs.Font.{Font}
 use Rattle.shapers_base.specs.declared.plan.hb_ot_shape_plan_t.{hb_ot_shape_plan_t}
 use Rattle.shapers_buffer.specs.Buffer.{Buffer}
 use Rattle.shapers_buffer.specs.declared.buffer.glyph.GlyphPosition.{GlyphPosition}
-use Rattle.shapers_buffer.specs.declared.buffer.glyph.hb_glyph_info_t.{hb_glyph_info_t}
+use Rattle.shapers_buffer.specs.Glyphs.{Glyph, Glyphs}
 use Rattle.shapers_buffer.specs.Glyph.{clusters}
 use Rattle.shapers_buffer.specs.GlyphFlags.{with_bits}
 use Rattle.shapers_buffer.specs.Lists.{each_after}
@@ -21,7 +21,7 @@ use Rattle.shapers_stretch.specs.Stretch.{Copy, Laying, cells_in_order, copies, 
 use Rattle.shapers_stretch.proofs.Flagging.{flag_cell, tiles_are, unbroken_is}
 use Rattle.shapers_stretch.proofs.LaidText.{stretch_is_as_wide}
 use Rattle.rustybuzz_shapers.specs.Monotone.{StaysMonotone, StretchStaysMonotone}
-use Rattle.rustybuzz_shapers.specs.declared.shaper.hb_ot_shaper_t.TheVariants.{Arabic, Hangul, Hebrew, Indic, Khmer, Myanmar, MyanmarZawgyi, Thai, Universal}
+use Rattle.rustybuzz_shapers.specs.declared.shaper.hb_ot_shaper_t.TheVariants.{Arabic}
 use Rattle.rustybuzz_shapers.proofs.HangulMonotone.{KeepsEach, OfItself, keeps_both, keeps_by, keeps_itself}
 use Rattle.rustybuzz_shapers.proofs.Monotone.{Ordered, all_weaker, from_pairs, to_pairs, unchanged_monotone}
 use Rattle.rustybuzz_shapers.proofs.ThaiMonotone.{all_append, ordered_append}
@@ -91,19 +91,17 @@ tiles_keep R self font part (t ∷ ts) =
 laid_clusters : (right_to_left : Bool) (from : ℤ) (before cs : List Copy)
     → of_cells (map (λ p. laid_at (offset right_to_left from p.0 p.1) p.1.tile) (each_after before cs)) ≡ of_copies cs
 laid_clusters right_to_left from before [] = refl
-laid_clusters right_to_left from before (c ∷ cs) =
-    cc (laid_clusters right_to_left from (before ++ c ∷ []) cs)
+laid_clusters right_to_left from before (c ∷ cs) = cc (laid_clusters right_to_left from (before ++ c ∷ []) cs)
 
 run_keeps : (R : ℕ → ℕ → Type 0) → OfItself R → (how : Laying) (part : List Cell) (ts : List Cell)
     → KeepsEach R (of_cells ts) (of_cells (reverse (laid_run how (run_of_part how.font part) ts)))
 run_keeps R self how part ts =
     keeps_becomes R (of_cells ts) (reverse (of_copies (copies how.font (run_of_part how.font part) ts)))
-    (of_cells (reverse (laid_run how (run_of_part how.font part) ts)))
-    (search (arith, laid_clusters, map-reverse))
+    (of_cells (reverse (laid_run how (run_of_part how.font part) ts))) (search (arith, laid_clusters, map-reverse))
     (search (arith, tiles_keep))
 
 -- flags change no cluster
-flag_if : (b : Bool) (g : hb_glyph_info_t) → (cond b g (with_bits 3 g)).cluster ≡ g.cluster
+flag_if : (b : Bool) (g : Glyph) → (cond b g (with_bits 3 g)).cluster ≡ g.cluster
 flag_if true g = refl
 flag_if false g = refl
 
@@ -125,8 +123,7 @@ over_keeps R self how part word tiles =
     search (arith, tiles_are, flagged_clusters) in
     keeps_becomes R (of_cells word ++ of_cells tiles)
     (of_cells front ++ of_cells (reverse (laid_run how (run_of_part how.font part) back)))
-    (of_cells (stretched_over how (run_of_part how.font part) word tiles))
-    (search (arith, map-append))
+    (of_cells (stretched_over how (run_of_part how.font part) word tiles)) (search (arith, map-append))
     (search (arith, keeps_both, keeps_itself, keeps_by, run_keeps))
 
 part_keeps : (R : ℕ → ℕ → Type 0) → OfItself R → (how : Laying) (part : List Cell)
@@ -165,23 +162,20 @@ parts_keep R self how (p ∷ ps) =
     keeps_becomes R (of_cells (p ++ xs)) (of_cells (stretched_part how p) ++ of_cells ys)
     (of_cells (stretched_part how p ++ ys)) (search (arith, map-append))
     (keeps_by R (of_cells (p ++ xs)) (of_cells p ++ of_cells xs) (of_cells (stretched_part how p) ++ of_cells ys)
-    (search (arith, map-append))
-    (search (arith, keeps_both, part_keeps, parts_keep R self how ps)))
+    (search (arith, map-append)) (search (arith, keeps_both, part_keeps, parts_keep R self how ps)))
 
 -- THE BUFFER, whose cells may stand the other way round
 ordered_reversed : (R : ℕ → ℕ → Type 0) (xs : List ℕ) → Ordered R xs → Ordered (λ a b. R b a) (reverse xs)
 ordered_reversed R [] own = tt
-ordered_reversed R (x ∷ xs) own =
-    search (
-      arith,
-      reverse-append (x ∷ []) xs,
-      ordered_append (λ a b. R b a) (reverse xs) (x ∷ []) (ordered_reversed R xs own.1) (tt, tt)
-          (all_weaker (R x) (λ y. AllByRecursion (λ b. R b y) (x ∷ [])) (λ y is. (is, tt)) (reverse xs) (all_reversed
-          (R x) xs own.0)),
-    )
+ordered_reversed R (x ∷ xs) own = search (
+  arith,
+  reverse-append (x ∷ []) xs,
+  ordered_append (λ a b. R b a) (reverse xs) (x ∷ []) (ordered_reversed R xs own.1) (tt, tt)
+      (all_weaker (R x) (λ y. AllByRecursion (λ b. R b y) (x ∷ [])) (λ y is. (is, tt)) (reverse xs) (all_reversed
+      (R x) xs own.0)),
+)
 
-zipped_clusters : (gs : List hb_glyph_info_t) (ps : List GlyphPosition) → length ps ≡ length gs
-    → of_cells (zip gs ps) ≡ clusters gs
+zipped_clusters : (gs : Glyphs) (ps : List GlyphPosition) → length ps ≡ length gs → of_cells (zip gs ps) ≡ clusters gs
 zipped_clusters [] ps same = refl
 zipped_clusters (g ∷ gs) [] same = absurd (omega arith)
 zipped_clusters (g ∷ gs) (p ∷ ps) same = cc (zipped_clusters gs ps (omega arith))
@@ -205,11 +199,9 @@ in_order R self how false cells whole own =
     )
 
 arabic_monotone : (plan : hb_ot_shape_plan_t) (font : Font) (old new : Buffer)
-    → length old.positions ≡ length old.glyphs → (b : Bool) → old.stch ≡ b
-    → new ≡ cond b
+    → length old.positions ≡ length old.glyphs → (b : Bool) → old.stch ≡ b → new ≡ cond b
     (with_cells (in_working_order (runs_leftward old.direction)
-    (stretched (laying font (start_of plan.plan_data) old) (cells_in_order old))) old) old
-    → new ≡ cond old.stch
+    (stretched (laying font (start_of plan.plan_data) old) (cells_in_order old))) old) old → new ≡ cond old.stch
     (with_cells (in_working_order (runs_leftward old.direction)
     (stretched (laying font (start_of plan.plan_data) old) (cells_in_order old))) old) old
     → StaysMonotone (clusters old.glyphs) (clusters new.glyphs)
@@ -222,21 +214,11 @@ arabic_monotone plan font old new both true marked is done =
     (in_working_order r (stretched how (in_working_order r cells))) = search (arith, map-map) in
     let turned : (R : ℕ → ℕ → Type 0) → OfItself R → AllPairs R (clusters old.glyphs)
     → AllPairs R (clusters new.glyphs) =
-    λ R self own. to_pairs R (clusters new.glyphs)
-    (subst (Ordered R) (sym now)
-    (in_order R self how r cells
-    ((stretch_is_as_wide font (start_of plan.plan_data) old new marked both done).1.before)
-    (subst (Ordered R) (sym
+    λ R self own. to_pairs R (clusters new.glyphs) (subst (Ordered R) (sym now) (in_order R self how r cells
+    ((stretch_is_as_wide font (start_of plan.plan_data) old new marked both done).1.before) (subst (Ordered R) (sym
     (zipped_clusters old.glyphs old.positions both)) (from_pairs R (clusters old.glyphs) own)))) in
     (turned (λ a b. a ≤ b) (λ x. omega arith), turned (λ a b. b ≤ a) (λ x. omega arith))
 
 pub stretch_stays_monotone : StretchStaysMonotone
 stretch_stays_monotone Arabic plan font old new both is = search (arith, arabic_monotone)
-stretch_stays_monotone Hangul plan font old new both is = unchanged_monotone old new is.1
-stretch_stays_monotone Hebrew plan font old new both is = unchanged_monotone old new is.1
-stretch_stays_monotone Indic plan font old new both is = unchanged_monotone old new is.1
-stretch_stays_monotone Khmer plan font old new both is = unchanged_monotone old new is.1
-stretch_stays_monotone Myanmar plan font old new both is = unchanged_monotone old new is.1
-stretch_stays_monotone MyanmarZawgyi plan font old new both is = unchanged_monotone old new is.1
-stretch_stays_monotone Thai plan font old new both is = unchanged_monotone old new is.1
-stretch_stays_monotone Universal plan font old new both is = unchanged_monotone old new is.1
+stretch_stays_monotone _ plan font old new both is = unchanged_monotone old new is.1

@@ -1,20 +1,20 @@
 -- Texts cut elsewhere than the laws say: the smallest whose halves, one after the other, give something else.
-use Rattle.std.specs.Prelude.{◌≡◌, ℕ, ◌==◌, false, true, pos, Some, None, List, [], ◌∷◌, ◌++◌, refl, if◌then◌else◌}
+use Rattle.std.specs.Prelude.{◌≡◌, ℕ, ◌==◌, false, true, pos, Some, None, [], ◌∷◌, ◌++◌, refl, if◌then◌else◌}
 use Rattle.std.specs.List.{list_any}
 use Rattle.shapers_base.specs.Font.{Font}
-use Rattle.shapers_buffer.specs.declared.buffer.glyph.hb_glyph_info_t.{hb_glyph_info_t}
+use Rattle.shapers_buffer.specs.Glyphs.{Glyph, Glyphs}
 use Rattle.shapers_buffer.specs.declared.buffer.level.BufferClusterLevel.TheVariants.{MonotoneGraphemes}
 use Rattle.shapers_buffer.specs.Glyph.{characters, clusters, default_glyph}
 use Rattle.shapers_hangul.specs.Hangul.{preprocessed}
 use Rattle.shapers_text.specs.ThaiForms.{preprocessed_text}
 
-abbrev glyph : ℕ → ℕ → hb_glyph_info_t
+abbrev glyph : ℕ → ℕ → Glyph
 glyph u c = record default_glyph { glyph_id = u; cluster = c }
 
-abbrev plainly : List hb_glyph_info_t → List hb_glyph_info_t
+abbrev plainly : Glyphs → Glyphs
 plainly gs = preprocessed_text false (λ u. true) MonotoneGraphemes gs
 
-abbrev with_forms : List hb_glyph_info_t → List hb_glyph_info_t
+abbrev with_forms : Glyphs → Glyphs
 with_forms gs = preprocessed_text true (λ u. true) MonotoneGraphemes gs
 
 -- between two above-base marks: NIKHAHIT goes before both
@@ -50,7 +50,7 @@ whole_font = record {
   offers = λ tag. false;
 }
 
-abbrev hangul : List hb_glyph_info_t → List hb_glyph_info_t
+abbrev hangul : Glyphs → Glyphs
 hangul gs = preprocessed whole_font true MonotoneGraphemes gs
 
 inside_item : characters (hangul (glyph 0x1100 0 ∷ glyph 0x1161 1 ∷ [])) ≡ 0xAC00 ∷ []

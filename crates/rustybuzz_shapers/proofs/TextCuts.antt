@@ -1,10 +1,10 @@
 -- Preprocessing of a text cut in two.
 use Rattle.std.proofs.Common.{arith}
-use Rattle.std.proofs.Common.{ℕ, ◌≡◌, Bool, true, false, List, [], ◌∷◌, ◌++◌, refl}
+use Rattle.std.proofs.Common.{ℕ, ◌≡◌, Bool, true, false, [], ◌∷◌, ◌++◌, refl}
 use Rattle.std.proofs.lemmas.List.{append-nil}
 use Rattle.shapers_base.specs.Font.{has_nominal}
 use Rattle.shapers_base.specs.declared.plan.breaks.BreakFlags.{BreakFlags}
-use Rattle.shapers_buffer.specs.declared.buffer.glyph.hb_glyph_info_t.{hb_glyph_info_t}
+use Rattle.shapers_buffer.specs.Glyphs.{Glyphs}
 use Rattle.shapers_buffer.specs.declared.buffer.level.BufferClusterLevel.{BufferClusterLevel}
 use Rattle.shapers_hangul.specs.Hangul.{allows_circles}
 use Rattle.shapers_hangul.proofs.HangulClusters.{clusters-rewritten}
@@ -19,17 +19,15 @@ nothing_made : (forms : Bool) (has : ℕ → Bool) (level : BufferClusterLevel) 
 nothing_made true has level = refl
 nothing_made false has level = refl
 
-made_halves : (forms : Bool) (has : ℕ → Bool) (level : BufferClusterLevel) (gs hs : List hb_glyph_info_t)
-    → OpensFreely forms hs
+made_halves : (forms : Bool) (has : ℕ → Bool) (level : BufferClusterLevel) (gs hs : Glyphs) → OpensFreely forms hs
     → PreprocessedHalves gs hs (preprocessed_text forms has level gs) (preprocessed_text forms has level hs)
     (preprocessed_text forms has level (gs ++ hs))
-made_halves forms has level gs [] free =
-    search (arith, append-nil, nothing_made)
-made_halves forms has level gs (h ∷ hs) free = search (arith, thai_order_halves, thai_clusters_halves)
+made_halves forms has level gs [] = search (arith, append-nil, nothing_made)
+made_halves forms has level gs (h ∷ hs) = search (arith, thai_order_halves, thai_clusters_halves)
 
 -- the choice flags nothing that the order or clusters show
 flagged_halves : (breaks : BreakFlags) (forms : Bool) (has : ℕ → Bool) (level : BufferClusterLevel)
-    (gs hs : List hb_glyph_info_t) → OpensFreely forms hs
+    (gs hs : Glyphs) → OpensFreely forms hs
     → PreprocessedHalves gs hs (preprocessed_flagged breaks forms has level gs)
     (preprocessed_flagged breaks forms has level hs) (preprocessed_flagged breaks forms has level (gs ++ hs))
 flagged_halves breaks forms has level gs hs free =
@@ -42,7 +40,7 @@ flagged_halves breaks forms has level gs hs free =
     }
 
 pub thai_cuts : ThaiCuts
-thai_cuts plan font gs hs old one two new free first second whole =
+thai_cuts plan font gs hs old one two new free =
     let made = flagged_halves plan.break_flags (asks_for_forms plan) (has_nominal font) old.level gs hs free in
     search (arith, made.in_clusters)
 

@@ -7,7 +7,7 @@ use Rattle.std.proofs.lemmas.List.{append-nil, append_assoc, length-append, leng
 use Rattle.std.proofs.lemmas.List.Concat.{flat_map-append}
 use Rattle.std.proofs.lemmas.List.FromFn.{length-range_with_len}
 use Rattle.std.proofs.lemmas.List.Sums.{suffix_len-le-length}
-use Rattle.shapers_buffer.specs.declared.buffer.glyph.hb_glyph_info_t.{hb_glyph_info_t}
+use Rattle.shapers_buffer.specs.Glyphs.{Glyph, Glyphs}
 use Rattle.shapers_buffer.specs.declared.buffer.level.BufferClusterLevel.{BufferClusterLevel}
 use Rattle.shapers_buffer.specs.Clusters.{merge_all}
 use Rattle.shapers_buffer.specs.Glyph.{characters, clusters}
@@ -36,25 +36,24 @@ pub merging_fits : (n : ℕ) (sts : List (ℕ × ℕ)) → EndWithin n sts → F
 merging_fits n sts within =
     search (arith, length-range_with_len 0 n, all-range (λ p. p < n) 0 n (λ p low high. omega (arith, high)))
 
-all_picked : (n : ℕ) (gs : List hb_glyph_info_t) → length gs ≡ n → pick (range_with_len 0 n) gs ≡ gs
+all_picked : (n : ℕ) (gs : Glyphs) → length gs ≡ n → pick (range_with_len 0 n) gs ≡ gs
 all_picked n gs same = pick-range 0 n gs (omega (arith, same)) ∙ take_all n gs (omega (arith, same))
 
-only_merged : (level : BufferClusterLevel) (n : ℕ) (sts : List (ℕ × ℕ)) (gs : List hb_glyph_info_t) → length gs ≡ n
+only_merged : (level : BufferClusterLevel) (n : ℕ) (sts : List (ℕ × ℕ)) (gs : Glyphs) → length gs ≡ n
     → EndWithin n sts → run_step level (merging n sts) gs ≡ merge_all level sts gs
 only_merged level n sts gs same within =
     all_picked n (merge_all level sts gs)
     (length-merge_all level sts gs (subst (λ k. EndWithin k sts) (sym same) within) ∙ same)
 
 none_added : (n : ℕ) → 0 + n ≡ n
-none_added n = omega arith
+none_added = omega arith
 
 none_taken : (n : ℕ) → n - 0 ≡ n
-none_taken n = omega arith
+none_taken = omega arith
 
 pub unshifted : (sts : List (ℕ × ℕ)) → shifted 0 sts ≡ sts
 unshifted [] = refl
-unshifted (st ∷ sts) =
-    search (arith, none_added, unshifted sts)
+unshifted (st ∷ sts) = search (arith, none_added, unshifted sts)
 
 shifted_within : (s n : ℕ) (sts : List (ℕ × ℕ)) → EndWithin n sts → EndWithin (s + n) (shifted s sts)
 shifted_within s n [] within = tt
@@ -62,10 +61,9 @@ shifted_within s n (st ∷ sts) within = search (arith, shifted_within s n sts w
 
 widened_is : (s e n : ℕ) (sts : List (ℕ × ℕ)) → s ≤ e → e ≤ n → widened s e n (merging (e - s) sts)
     ≡ merging n (shifted s sts)
-widened_is s e n sts low high =
-    search (arith, range-three)
+widened_is = search (arith, range-three)
 
-pub merged_halves : (level : BufferClusterLevel) (one two : List (ℕ × ℕ)) (gs hs : List hb_glyph_info_t)
+pub merged_halves : (level : BufferClusterLevel) (one two : List (ℕ × ℕ)) (gs hs : Glyphs)
     → EndWithin (length gs) one → EndWithin (length hs) two → ShareNone gs hs
     → merge_all level (one ++ shifted (length gs) two) (gs ++ hs) ≡ merge_all level one gs ++ merge_all level two hs
 merged_halves level one two gs hs first second none =
@@ -103,16 +101,12 @@ merged_halves level one two gs hs first second none =
 one_stretch : (b c : Bool) (n l k : ℕ) → k ≤ l → 0 < l
     → (if b then (n + l - k, n + l + 1) ∷ [] else if c then (n + l - 1, n + l + 1) ∷ [] else [])
     ≡ shifted n (if b then (l - k, l + 1) ∷ [] else if c then (l - 1, l + 1) ∷ [] else [])
-one_stretch true c n l k few some =
-    search arith
-one_stretch false true n l k few some =
-    search arith
 one_stretch false false n l k few some = refl
+one_stretch _ _ n l k few some = search arith
 
 same_stretch : (level : BufferClusterLevel) (n l k : ℕ) → k ≤ l → 0 < l → stretch_of_sara_am level (n + l) k
     ≡ shifted n (stretch_of_sara_am level l k)
-same_stretch level n l k few some =
-    search (arith, lt-ltb, one_stretch)
+same_stretch = search (arith, lt-ltb, one_stretch)
 
 at_place : (level : BufferClusterLevel) (am : Bool) (n l k : ℕ) → k ≤ l → 0 < l
     → (if am then stretch_of_sara_am level (n + l) k else [])
@@ -133,8 +127,7 @@ each_shifted level us v ms (w ∷ vs) low =
     ap (λ sts. sts ++ (stretches_of_each level (each_after ((us ++ v ∷ ms) ++ w ∷ []) vs)))
     (search (arith, length-append, suffix_len_stop, at_place))
     ∙ ap (λ b. shifted n own ++ stretches_of_each level (each_after b vs)) (append_assoc us (v ∷ ms) (w ∷ []))
-    ∙ ap (λ sts. shifted n own ++ sts) (each_shifted level us v (ms ++ w ∷ []) vs low)
-    ∙ sym
+    ∙ ap (λ sts. shifted n own ++ sts) (each_shifted level us v (ms ++ w ∷ []) vs low) ∙ sym
     (map-append (λ (st : ℕ × ℕ). (n + st.0, n + st.1)) own (stretches_of_each level (each_after (v ∷ (ms ++ w ∷ []))
     vs)))
     ∙ ap (λ p. shifted n (stretches_at level l w p ++ stretches_of_each level (each_after (v ∷ (ms ++ w ∷ [])) vs)))
@@ -143,14 +136,13 @@ each_shifted level us v ms (w ∷ vs) low =
 pub each_after-append : (before us vs : List ℕ) → each_after before (us ++ vs) ≡ each_after before us
     ++ each_after (before ++ us) vs
 each_after-append before [] vs = cc (append-nil before)
-each_after-append before (u ∷ us) vs =
-    search (arith, append_assoc, each_after-append (before ++ u ∷ []) us vs)
+each_after-append before (u ∷ us) vs = search (arith, append_assoc, each_after-append (before ++ u ∷ []) us vs)
 
 none_first : (level : BufferClusterLevel) (n v k : ℕ) → is_sara_am v ≡ false → stretches_at level n v k ≡ []
 none_first level n v k other = cc
 
 -- THE REWRITING
-two_halves : (gs ms : List hb_glyph_info_t) (h : hb_glyph_info_t) (hs : List hb_glyph_info_t)
+two_halves : (gs ms : Glyphs) (h : Glyph) (hs : Glyphs)
     → characters ms ≡ characters (h ∷ hs) → is_above_base h.glyph_id ≡ false → is_sara_am h.glyph_id ≡ false
     → glyphs_in_two (gs ++ ms) ≡ glyphs_in_two gs ++ glyphs_in_two ms
 two_halves gs [] h hs same low other = absurd cc
@@ -158,8 +150,8 @@ two_halves gs (m ∷ ms) h hs same low other =
     let first : m.glyph_id ≡ h.glyph_id = cc in
     (cut_at glyph_rule gs m ms (ap is_above_base first ∙ low) (ap is_sara_am first ∙ other)).whole
 
-plain_halves : (has : ℕ → Bool) (level : BufferClusterLevel) (gs : List hb_glyph_info_t) (h : hb_glyph_info_t)
-    (hs : List hb_glyph_info_t) → is_above_base h.glyph_id ≡ false → is_sara_am h.glyph_id ≡ false
+plain_halves : (has : ℕ → Bool) (level : BufferClusterLevel) (gs : Glyphs) (h : Glyph)
+    (hs : Glyphs) → is_above_base h.glyph_id ≡ false → is_sara_am h.glyph_id ≡ false
     → ShareNone gs (h ∷ hs) → preprocessed_text false has level (gs ++ h ∷ hs) ≡ preprocessed_text false has level gs
     ++ preprocessed_text false has level (h ∷ hs)
 plain_halves has level gs h hs low other none =
@@ -167,35 +159,33 @@ plain_halves has level gs h hs low other none =
     let two = sara_am_stretches level (characters (h ∷ hs)) in
     search (
       arith,
-      map-append (λ (g : hb_glyph_info_t). g.glyph_id) gs (h ∷ hs),
+      map-append (λ (g : Glyph). g.glyph_id) gs (h ∷ hs),
       each_after-append,
       flat_map-append,
       none_first,
       each_shifted,
-      length-map gs (λ (g : hb_glyph_info_t). g.glyph_id),
+      length-map gs (λ (g : Glyph). g.glyph_id),
       merged_halves level one two gs (h ∷ hs) (stretches_within level gs) (stretches_within level (h ∷ hs)) none,
       two_halves (merge_all level one gs) (merge_all level two (h ∷ hs)) h hs
           (characters-merge_all level two (h ∷ hs)) low other,
     )
 
 -- the clusters are those without the forms
-formless : (forms has_forms : Bool) (has : ℕ → Bool) (level : BufferClusterLevel) (gs : List hb_glyph_info_t)
-    → forms ≡ has_forms → clusters (preprocessed_text forms has level gs)
-    ≡ clusters (preprocessed_text false has level gs)
+formless : (forms has_forms : Bool) (has : ℕ → Bool) (level : BufferClusterLevel) (gs : Glyphs) → forms ≡ has_forms
+    → clusters (preprocessed_text forms has level gs) ≡ clusters (preprocessed_text false has level gs)
 formless forms true has level gs is = ap (λ b. clusters (preprocessed_text b has level gs)) is
     ∙ (forms_hold has level gs).clusters_stay
 formless forms false has level gs is = cc
 
-pub thai_clusters_halves : (forms : Bool) (has : ℕ → Bool) (level : BufferClusterLevel) (gs : List hb_glyph_info_t)
-    (h : hb_glyph_info_t) (hs : List hb_glyph_info_t) → is_above_base h.glyph_id ≡ false → is_sara_am h.glyph_id ≡ false
+pub thai_clusters_halves : (forms : Bool) (has : ℕ → Bool) (level : BufferClusterLevel) (gs : Glyphs)
+    (h : Glyph) (hs : Glyphs) → is_above_base h.glyph_id ≡ false → is_sara_am h.glyph_id ≡ false
     → ShareNone gs (h ∷ hs) → clusters (preprocessed_text forms has level (gs ++ h ∷ hs))
     ≡ clusters (preprocessed_text forms has level gs) ++ clusters (preprocessed_text forms has level (h ∷ hs))
-thai_clusters_halves forms has level gs h hs low other none =
-    cc (
-      formless forms forms has level (gs ++ h ∷ hs) refl,
-      plain_halves has level gs h hs low other none,
-      map-append (λ (g : hb_glyph_info_t). g.cluster) (preprocessed_text false has level gs)
-          (preprocessed_text false has level (h ∷ hs)),
-      formless forms forms has level gs refl,
-      formless forms forms has level (h ∷ hs) refl,
-    )
+thai_clusters_halves forms has level gs h hs low other none = cc (
+  formless forms forms has level (gs ++ h ∷ hs) refl,
+  plain_halves has level gs h hs low other none,
+  map-append (λ (g : Glyph). g.cluster) (preprocessed_text false has level gs)
+      (preprocessed_text false has level (h ∷ hs)),
+  formless forms forms has level gs refl,
+  formless forms forms has level (h ∷ hs) refl,
+)

@@ -3,7 +3,7 @@ use Rattle.std.proofs.Common.{ℕ, suc, ◌<◌, ◌≡◌, Bool, true, false, L
 use Rattle.std.specs.Prelude.{if◌then◌else◌}
 use Rattle.std.proofs.lemmas.List.{append-nil, append_assoc, length-map, length-reverse, map-append, reverse-append}
 use Rattle.std.proofs.lemmas.Simd.{map-map}
-use Rattle.shapers_buffer.specs.declared.buffer.glyph.hb_glyph_info_t.{hb_glyph_info_t}
+use Rattle.shapers_buffer.specs.Glyphs.{Glyph, Glyphs}
 use Rattle.shapers_buffer.specs.declared.buffer.level.BufferClusterLevel.{BufferClusterLevel}
 use Rattle.shapers_buffer.specs.Clusters.{merge_all}
 use Rattle.shapers_buffer.specs.Glyph.{order_view, plain}
@@ -43,17 +43,13 @@ cut_whole : {X : Type 0} (rule : SaraAmRule X) (xs : List X) (y : X) (ys : List 
 cut_whole rule xs y ys x p =
     elim (is_am rule x) as (λ b. is_am rule x ≡ b → in_two rule (xs ++ y ∷ (ys ++ x ∷ [])) ≡ in_two rule xs
     ++ in_two rule (y ∷ (ys ++ x ∷ []))) [
-      | true ↦ λ h.
-          ap (in_two rule) (sym (append_assoc xs (y ∷ ys) (x ∷ [])))
+      | true ↦ λ h. ap (in_two rule) (sym (append_assoc xs (y ∷ ys) (x ∷ [])))
           ∙ in_two_push_am rule (xs ++ y ∷ ys) x h
           ∙ ap (λ zs. zs ++ rule.sara_aa x ∷ []) (p.pending (rule.nikhahit x))
           ∙ append_assoc (in_two rule xs) (text_with_pending rule (y ∷ ys) (rule.nikhahit x)) (rule.sara_aa x ∷ [])
           ∙ ap (λ zs. in_two rule xs ++ zs) (sym (in_two_push_am rule (y ∷ ys) x h))
-      | false ↦ λ h.
-          ap (in_two rule) (sym (append_assoc xs (y ∷ ys) (x ∷ [])))
-          ∙ in_two_push rule (xs ++ y ∷ ys) x h
-          ∙ ap (λ zs. zs ++ x ∷ []) p.whole
-          ∙ append_assoc (in_two rule xs) (in_two rule (y ∷ ys)) (x ∷ [])
+      | false ↦ λ h. ap (in_two rule) (sym (append_assoc xs (y ∷ ys) (x ∷ []))) ∙ in_two_push rule (xs ++ y ∷ ys) x h
+          ∙ ap (λ zs. zs ++ x ∷ []) p.whole ∙ append_assoc (in_two rule xs) (in_two rule (y ∷ ys)) (x ∷ [])
           ∙ ap (λ zs. in_two rule xs ++ zs) (sym (in_two_push rule (y ∷ ys) x h))
     ] refl
 
@@ -63,14 +59,11 @@ cut_pending : {X : Type 0} (rule : SaraAmRule X) (xs : List X) (y : X) (ys : Lis
 cut_pending rule xs y ys x n p =
     elim (is_above rule x) as (λ b. is_above rule x ≡ b → text_with_pending rule (xs ++ y ∷ (ys ++ x ∷ [])) n
     ≡ in_two rule xs ++ text_with_pending rule (y ∷ (ys ++ x ∷ [])) n) [
-      | true ↦ λ h.
-          ap (λ zs. text_with_pending rule zs n) (sym (append_assoc xs (y ∷ ys) (x ∷ [])))
-          ∙ pending_push_mark rule (xs ++ y ∷ ys) x n h
-          ∙ ap (λ zs. zs ++ x ∷ []) (p.pending n)
+      | true ↦ λ h. ap (λ zs. text_with_pending rule zs n) (sym (append_assoc xs (y ∷ ys) (x ∷ [])))
+          ∙ pending_push_mark rule (xs ++ y ∷ ys) x n h ∙ ap (λ zs. zs ++ x ∷ []) (p.pending n)
           ∙ append_assoc (in_two rule xs) (text_with_pending rule (y ∷ ys) n) (x ∷ [])
           ∙ ap (λ zs. in_two rule xs ++ zs) (sym (pending_push_mark rule (y ∷ ys) x n h))
-      | false ↦ λ h.
-          ap (λ zs. text_with_pending rule zs n) (sym (append_assoc xs (y ∷ ys) (x ∷ [])))
+      | false ↦ λ h. ap (λ zs. text_with_pending rule zs n) (sym (append_assoc xs (y ∷ ys) (x ∷ [])))
           ∙ held_push_other rule (xs ++ y ∷ ys) x n h
           ∙ ap (λ zs. in_two rule zs ++ n ∷ []) (append_assoc xs (y ∷ ys) (x ∷ []))
           ∙ ap (λ zs. zs ++ n ∷ []) (cut_whole rule xs y ys x p)
@@ -85,8 +78,7 @@ opens_whole rule xs y ys x p =
       | true ↦ λ h. let o =
           p.opens_pending (rule.nikhahit x) in (
             o.0 ++ rule.sara_aa x ∷ [],
-            in_two_push_am rule (y ∷ ys) x h
-                ∙ ap (λ zs. zs ++ rule.sara_aa x ∷ []) o.1,
+            in_two_push_am rule (y ∷ ys) x h ∙ ap (λ zs. zs ++ rule.sara_aa x ∷ []) o.1,
           )
       | false ↦ λ h. (p.opens.0 ++ x ∷ [], in_two_push rule (y ∷ ys) x h ∙ ap (λ zs. zs ++ x ∷ []) p.opens.1)
     ] refl
@@ -148,62 +140,52 @@ forms_long : (has : ℕ → Bool) (before us : List ℕ) → length (forms_betwe
 forms_long has before [] = refl
 forms_long has before (u ∷ us) = ap suc (forms_long has (before ++ u ∷ []) us)
 
-characters-append : (us vs : List ℕ) (gs hs : List hb_glyph_info_t) → length us ≡ length gs
+characters-append : (us vs : List ℕ) (gs hs : Glyphs) → length us ≡ length gs
     → with_characters (us ++ vs) (gs ++ hs) ≡ with_characters us gs ++ with_characters vs hs
 characters-append [] vs [] hs same = refl
-characters-append [] vs (g ∷ gs) hs same = absurd (omega arith)
-characters-append (u ∷ us) vs [] hs same = absurd (omega arith)
-characters-append (u ∷ us) vs (g ∷ gs) hs same =
-    cc (characters-append us vs gs hs (omega arith))
+characters-append (u ∷ us) vs (g ∷ gs) hs same = cc (characters-append us vs gs hs (omega arith))
+characters-append _ vs _ hs same = absurd (omega arith)
 
-pub forms_halves : (has : ℕ → Bool) (gs : List hb_glyph_info_t) (y : hb_glyph_info_t) (t : List hb_glyph_info_t)
-    → is_thai_mark y.glyph_id ≡ false → with_thai_forms has (gs ++ y ∷ t) ≡ with_thai_forms has gs
-    ++ with_thai_forms has (y ∷ t)
-forms_halves has gs y t h =
-    search (arith, map-append, forms_cut, characters-append, forms_long, length-map)
+pub forms_halves : (has : ℕ → Bool) (gs : Glyphs) (y : Glyph) (t : Glyphs) → is_thai_mark y.glyph_id ≡ false
+    → with_thai_forms has (gs ++ y ∷ t) ≡ with_thai_forms has gs ++ with_thai_forms has (y ∷ t)
+forms_halves = search (arith, map-append, forms_cut, characters-append, forms_long, length-map)
 
 -- THE ORDER VIEW
-abbrev pub view_made : Bool → (ℕ → Bool) → List hb_glyph_info_t → List hb_glyph_info_t
+abbrev pub view_made : Bool → (ℕ → Bool) → Glyphs → Glyphs
 view_made forms has gs = if forms then with_thai_forms has (glyphs_in_two gs) else glyphs_in_two gs
 
-named_view : (us : List ℕ) (gs : List hb_glyph_info_t) → map plain (with_characters us gs)
-    ≡ with_characters us (map plain gs)
-named_view [] gs = refl
-named_view (u ∷ us) [] = refl
+named_view : (us : List ℕ) (gs : Glyphs) → map plain (with_characters us gs) ≡ with_characters us (map plain gs)
 named_view (u ∷ us) (g ∷ gs) = cc (named_view us gs)
+named_view _ _ = refl
 
-two_view : (level : BufferClusterLevel) (sts : List (ℕ × ℕ)) (gs : List hb_glyph_info_t)
+two_view : (level : BufferClusterLevel) (sts : List (ℕ × ℕ)) (gs : Glyphs)
     → order_view (glyphs_in_two (merge_all level sts gs)) ≡ glyphs_in_two (order_view gs)
-two_view level sts gs =
-    cc (
-      in_two-map plain nikhahit sara_aa glyph_rule (λ g. refl) (λ g. refl) (merge_all level sts gs),
-      order_view-merge_all level sts gs,
-    )
+two_view level sts gs = cc (
+  in_two-map plain nikhahit sara_aa glyph_rule (λ g. refl) (λ g. refl) (merge_all level sts gs),
+  order_view-merge_all level sts gs,
+)
 
-pub text_view : (forms : Bool) (has : ℕ → Bool) (level : BufferClusterLevel) (gs : List hb_glyph_info_t)
+pub text_view : (forms : Bool) (has : ℕ → Bool) (level : BufferClusterLevel) (gs : Glyphs)
     → order_view (preprocessed_text forms has level gs) ≡ view_made forms has (order_view gs)
-text_view false has level gs = search (arith, two_view)
-text_view true has level gs =
-    search (arith, named_view, map-map, map-unsafe_all, without_flags-or, in_order, two_view)
+text_view false = search (arith, two_view)
+text_view true = search (arith, named_view, map-map, map-unsafe_all, without_flags-or, in_order, two_view)
 
-pub made_halves : (forms : Bool) (has : ℕ → Bool) (gs : List hb_glyph_info_t) (h : hb_glyph_info_t)
-    (hs : List hb_glyph_info_t) → is_above glyph_rule h ≡ false → is_am glyph_rule h ≡ false
-    → (forms ≡ true → is_thai_mark h.glyph_id ≡ false) → view_made forms has (gs ++ h ∷ hs) ≡ view_made forms has gs
-    ++ view_made forms has (h ∷ hs)
+pub made_halves : (forms : Bool) (has : ℕ → Bool) (gs : Glyphs) (h : Glyph) (hs : Glyphs)
+    → is_above glyph_rule h ≡ false → is_am glyph_rule h ≡ false → (forms ≡ true → is_thai_mark h.glyph_id ≡ false)
+    → view_made forms has (gs ++ h ∷ hs) ≡ view_made forms has gs ++ view_made forms has (h ∷ hs)
 made_halves false has gs h hs low other letter = (cut_at glyph_rule gs h hs low other).whole
 made_halves true has gs h hs low other letter =
     let p = cut_at glyph_rule gs h hs low other in
     cc (p.whole, p.opens.1, forms_halves has (glyphs_in_two gs) h p.opens.0 (letter refl))
 
-pub thai_order_halves : (forms : Bool) (has : ℕ → Bool) (level : BufferClusterLevel) (gs : List hb_glyph_info_t)
-    (h : hb_glyph_info_t) (hs : List hb_glyph_info_t) → is_above glyph_rule h ≡ false → is_am glyph_rule h ≡ false
+pub thai_order_halves : (forms : Bool) (has : ℕ → Bool) (level : BufferClusterLevel) (gs : Glyphs)
+    (h : Glyph) (hs : Glyphs) → is_above glyph_rule h ≡ false → is_am glyph_rule h ≡ false
     → (forms ≡ true → is_thai_mark h.glyph_id ≡ false) → order_view (preprocessed_text forms has level (gs ++ h ∷ hs))
     ≡ order_view (preprocessed_text forms has level gs) ++ order_view (preprocessed_text forms has level (h ∷ hs))
-thai_order_halves forms has level gs h hs low other letter =
-    cc (
-      text_view forms has level (gs ++ h ∷ hs),
-      map-append plain gs (h ∷ hs),
-      made_halves forms has (order_view gs) (plain h) (order_view hs) low other letter,
-      text_view forms has level gs,
-      text_view forms has level (h ∷ hs),
-    )
+thai_order_halves forms has level gs h hs low other letter = cc (
+  text_view forms has level (gs ++ h ∷ hs),
+  map-append plain gs (h ∷ hs),
+  made_halves forms has (order_view gs) (plain h) (order_view hs) low other letter,
+  text_view forms has level gs,
+  text_view forms has level (h ∷ hs),
+)

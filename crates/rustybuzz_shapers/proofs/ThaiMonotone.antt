@@ -4,7 +4,7 @@ use Rattle.std.specs.List.{AllByRecursion, Contains, enumerate_from, range_with_
 use Rattle.std.proofs.lemmas.Bool.{lt-ltb}
 use Rattle.std.proofs.lemmas.List.{append_assoc, append-nil, length-map, length_push, length-append, length-take-le, map-append}
 use Rattle.std.proofs.lemmas.List.Sums.{suffix_len-le-length}
-use Rattle.shapers_buffer.specs.declared.buffer.glyph.hb_glyph_info_t.{hb_glyph_info_t}
+use Rattle.shapers_buffer.specs.Glyphs.{Glyph, Glyphs}
 use Rattle.shapers_buffer.specs.declared.buffer.level.BufferClusterLevel.{BufferClusterLevel}
 use Rattle.shapers_buffer.specs.Clusters.{merges}
 use Rattle.shapers_buffer.specs.Glyph.{characters, clusters}
@@ -50,8 +50,7 @@ ordered_range R n climbs a (suc k) within = (
 -- the sources of a text, one more character at the end
 sources_push : (us : List ℕ) (u : ℕ) → is_sara_am u ≡ false → sara_am_sources (us ++ u ∷ []) ≡ sara_am_sources us
     ++ length us ∷ []
-sources_push us u other =
-    search (arith, enumerate-append, in_two_push, map-append)
+sources_push = search (arith, enumerate-append, in_two_push, map-append)
 
 -- the sources of a text's front are in order, and are places of it
 record Fronted (R : ℕ → ℕ → Type 0) (us : List ℕ) : Type 0 where
@@ -91,16 +90,14 @@ fronted_am R n climbs us u inside am near f =
       front,
       ordered_append R run (k ∷ []) (ordered_range R n climbs (k - w) w (omega (arith, few, inside))) (tt, tt)
           (all-range (λ p. AllByRecursion (R p) (k ∷ [])) (k - w) w (λ p low high. (
-            climbs p k (omega (arith, high, few))
-                inside,
+            climbs p k (omega (arith, high, few)) inside,
             tt,
           ))),
     ) in
     let places : (P : ℕ → Type 0) → ((p : ℕ) → k - w ≤ p → p ≤ k → P p) → AllByRecursion P last =
     λ P each. (
       each k (omega arith) (omega arith),
-      all_append P run (k ∷ [])
-          (all-range P (k - w) w (λ p low high. each p low (omega (arith, high, few))))
+      all_append P run (k ∷ []) (all-range P (k - w) w (λ p low high. each p low (omega (arith, high, few))))
           (each k (omega arith) (omega arith), tt),
     ) in
     subst (λ ps. Ordered R ps × AllByRecursion (λ p. p < length (us ++ u ∷ [])) ps → Fronted R (us ++ u ∷ []))
@@ -114,8 +111,7 @@ fronted_am R n climbs us u inside am near f =
       places-last_run is_above_base us,
     ))
     (λ both. record { ordered = both.0; below = both.1 }) (
-      ordered_append R src last f.ordered here
-          (all_weaker (λ p. p < length b) (λ p. AllByRecursion (R p) last)
+      ordered_append R src last f.ordered here (all_weaker (λ p. p < length b) (λ p. AllByRecursion (R p) last)
           (λ p low. places (R p)
           (λ q least most. climbs p q (omega (arith, low, short, least)) (omega (arith, most, inside)))) src f.below),
       all_append (λ p. p < length (us ++ u ∷ [])) src last
@@ -164,21 +160,20 @@ all_picked P (p ∷ ps) cs own below =
 picked : (S : ℕ → ℕ → Type 0) (ps cs : List ℕ) → Ordered (λ p q. S (get_or cs p 0) (get_or cs q 0)) ps
     → AllByRecursion (λ p. p < length cs) ps → Ordered S (pick ps cs)
 picked S [] cs ordered below = tt
-picked S (p ∷ ps) cs ordered below =
-    search (
-      arith,
-      pick-within 0 p ps cs below.0,
-      all_picked (S (get_or cs p 0)) ps cs ordered.0 below.1,
-      picked S ps cs ordered.1 below.1,
-    )
+picked S (p ∷ ps) cs ordered below = search (
+  arith,
+  pick-within 0 p ps cs below.0,
+  all_picked (S (get_or cs p 0)) ps cs ordered.0 below.1,
+  picked S ps cs ordered.1 below.1,
+)
 
 -- a SARA AM and the marks that its NIKHAHIT passes share a cluster
 ends : (sts : List (ℕ × ℕ)) (k : ℕ) (st : ℕ × ℕ) → get_or sts k st ≡ st → ((get_or sts k st).0 ≡ st.0)
     × ((get_or sts k st).1 ≡ st.1)
-ends sts k st at = search arith
+ends = search arith
 
 passed_share : (level : BufferClusterLevel) → merges level ≡ true
-    → (gs : List hb_glyph_info_t) (xs : List ℕ) (u : ℕ) (ys : List ℕ) → characters gs ≡ xs ++ u ∷ ys
+    → (gs : Glyphs) (xs : List ℕ) (u : ℕ) (ys : List ℕ) → characters gs ≡ xs ++ u ∷ ys
     → is_sara_am u ≡ true → (q : ℕ) → length xs - suffix_len is_above_base xs ≤ q → q < length xs
     → get_or (joined_all level (sara_am_stretches level (characters gs)) (clusters gs)) q 0
     ≡ get_or (joined_all level (sara_am_stretches level (characters gs)) (clusters gs)) (length xs) 0
@@ -193,12 +188,12 @@ passed_share level m gs xs u ys split am q low high =
     subst (λ vs. Contains (sara_am_stretches level vs) st) (sym split)
     (Contains-flat_map _ (each_after [] (xs ++ u ∷ ys)) (xs, u) st (Contains-each_after [] xs u ys) merged) in
     let (first, second) = ends sts there.0 st there.2 in
-    let long = length-map gs (λ (g : hb_glyph_info_t). g.cluster) in
+    let long = length-map gs (λ (g : Glyph). g.cluster) in
     let inside : n < length (clusters gs) =
     omega (
       arith,
       long,
-      sym (length-map gs (λ (g : hb_glyph_info_t). g.glyph_id)) ∙ ap length split,
+      sym (length-map gs (λ (g : Glyph). g.glyph_id)) ∙ ap length split,
       length-append xs (u ∷ ys),
     ) in
     let held = held_by sts there.0 st there.1 n q (omega (arith, first)) (omega (arith, second))
@@ -206,7 +201,7 @@ passed_share level m gs xs u ys split am q low high =
     held_share level m sts (clusters gs) (subst (λ k. EndWithin k sts) (sym long) (stretches_within level gs)) n q
     inside (omega (arith, inside, high)) held q (omega arith) (omega arith)
 
-pub thai_monotone : (level : BufferClusterLevel) → merges level ≡ true → (gs : List hb_glyph_info_t) (js : List ℕ)
+pub thai_monotone : (level : BufferClusterLevel) → merges level ≡ true → (gs : Glyphs) (js : List ℕ)
     → ClustersMade level (sara_am_stretches level (characters gs)) (sara_am_sources (characters gs)) (clusters gs) js
     → StaysMonotone (clusters gs) js
 thai_monotone level m gs js made =
@@ -214,27 +209,23 @@ thai_monotone level m gs js made =
     let cs = clusters gs in
     let sts = sara_am_stretches level us in
     let M = joined_all level sts cs in
-    let long = length-map gs (λ (g : hb_glyph_info_t). g.cluster) in
-    let chars = length-map gs (λ (g : hb_glyph_info_t). g.glyph_id) in
+    let long = length-map gs (λ (g : Glyph). g.cluster) in
+    let chars = length-map gs (λ (g : Glyph). g.glyph_id) in
     let within = subst (λ k. EndWithin k sts) (sym long) (stretches_within level gs) in
     let ordered : (S : ℕ → ℕ → Type 0) → ((a : ℕ) → S a a)
     → ((p q : ℕ) → p < q → q < length M → S (get_or M p 0) (get_or M q 0)) → length M ≡ length cs
     → Ordered S js = λ S same climbs as_long.
     let R : ℕ → ℕ → Type 0 = λ p q. S (get_or M p 0) (get_or M q 0) in
-    let all = sources_ordered R us
-    (search arith)
+    let all = sources_ordered R us (search arith)
     (λ xs u ys split am q low high. subst (λ c. S (get_or M (length xs) 0) c)
     (sym (passed_share level m gs xs u ys split am q low high)) (same (get_or M (length xs) 0))) in
-    subst (Ordered S) (sym made.clusters_are)
-    (picked S (sara_am_sources us) M all.0
+    subst (Ordered S) (sym made.clusters_are) (picked S (sara_am_sources us) M all.0
     (all_weaker (λ p. p < length us) (λ p. p < length M) (λ p low. omega (arith, low, long, chars, as_long))
     (sara_am_sources us) all.1)) in (
-      λ up.
-          to_pairs (λ a b. a ≤ b) js (ordered (λ a b. a ≤ b) (λ a. omega arith) (λ p q less most.
+      λ up. to_pairs (λ a b. a ≤ b) js (ordered (λ a b. a ≤ b) (λ a. omega arith) (λ p q less most.
           (stays_rising level sts cs within up) p q 0 less most)
           (exact_cuts level m sts cs within (inl up)).same_length),
-      λ down.
-          to_pairs (λ a b. b ≤ a) js (ordered (λ a b. b ≤ a) (λ a. omega arith) (λ p q less most.
+      λ down. to_pairs (λ a b. b ≤ a) js (ordered (λ a b. b ≤ a) (λ a. omega arith) (λ p q less most.
           (stays_falling level sts cs within down) p q 0 less most)
           (exact_cuts level m sts cs within (inr down)).same_length),
     )

@@ -4,7 +4,7 @@ use Rattle.std.specs.Option.{is_some}
 use Rattle.std.proofs.lemmas.List.{drop-map, length-map, map-append, take-map}
 use Rattle.std.proofs.lemmas.Simd.{map-map}
 use Rattle.shapers_buffer.specs.Buffer.{Buffer, has_flag}
-use Rattle.shapers_buffer.specs.declared.buffer.glyph.hb_glyph_info_t.{hb_glyph_info_t}
+use Rattle.shapers_buffer.specs.Glyphs.{Glyphs}
 use Rattle.shapers_buffer.specs.declared.buffer.tag.Script.{Script}
 use Rattle.shapers_base.specs.Font.{CharacterTables}
 use Rattle.shapers_base.specs.declared.plan.arabic.arabic_shape_plan_t.{arabic_shape_plan_t}
@@ -37,10 +37,9 @@ together_by breaks masks script tables n m one two one_new two_new new first sec
     )
 
 -- categories leave the types, and what is put together
-pub types-categorized : (joining : ℕ → hb_arabic_joining_type_t) (tables : CharacterTables) (gs : List hb_glyph_info_t)
+pub types-categorized : (joining : ℕ → hb_arabic_joining_type_t) (tables : CharacterTables) (gs : Glyphs)
     → stored_types joining (map (categorized tables.universal) gs) ≡ stored_types joining gs
-types-categorized joining tables gs =
-    search (arith, map-map)
+types-categorized = search (arith, map-map)
 
 pub some-of : (o : Option arabic_shape_plan_t) → is_some o ≡ true → (joins : arabic_shape_plan_t) × (o ≡ Some joins)
 some-of (Some joins) e = (joins, refl)

@@ -24,4 +24,4 @@ row_no_data joins = false≢true joins
 row_others : (kept : PlanData) → (LettersJoin Hangul kept → ⊥) × (LettersJoin Hebrew kept → ⊥)
     × (LettersJoin Indic kept → ⊥) × (LettersJoin Khmer kept → ⊥) × (LettersJoin Myanmar kept → ⊥)
     × (LettersJoin MyanmarZawgyi kept → ⊥) × (LettersJoin Thai kept → ⊥)
-row_others kept = search arith
+row_others = search arith

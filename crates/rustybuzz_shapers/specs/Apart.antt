@@ -5,7 +5,7 @@ use Rattle.shapers_base.specs.declared.plan.hb_ot_shape_plan_t.{hb_ot_shape_plan
 use Rattle.shapers_base.specs.declared.plan.pause.Pause.{Pause}
 use Rattle.shapers_base.specs.Font.{Font}
 use Rattle.shapers_buffer.specs.Buffer.{Buffer}
-use Rattle.shapers_buffer.specs.declared.buffer.glyph.hb_glyph_info_t.{hb_glyph_info_t}
+use Rattle.shapers_buffer.specs.Glyphs.{Glyphs}
 use Rattle.shapers_buffer.specs.declared.buffer.syllables.Span.{Span}
 use Rattle.shapers_clusters.specs.Cuts.{ShareNone}
 use Rattle.shapers_clusters.specs.FlagLaw.{OnlyFlagsAdded}
@@ -21,7 +21,7 @@ pub record HooksMakeNoCluster : Type 0 where
       NoNewCluster old.glyphs new.glyphs
   pub marks : (shaper : hb_ot_shaper_t) (start end : ℕ) (old new : Buffer) →
       MarksKeep shaper start end old new → NoNewCluster old.glyphs new.glyphs
-  pub masks : (gs ms : List hb_glyph_info_t) → OnlyFlagsAdded gs ms → NoNewCluster gs ms
+  pub masks : (gs ms : Glyphs) → OnlyFlagsAdded gs ms → NoNewCluster gs ms
   pub postprocessing : (shaper : hb_ot_shaper_t) (plan : hb_ot_shape_plan_t) (font : Font)
       (old new : Buffer) → PostprocessKeeps shaper plan font old new →
       NoNewCluster old.glyphs new.glyphs
@@ -34,5 +34,5 @@ PausesMakeNoCluster = (pause : Pause) (plan : hb_ot_shape_plan_t) (font : Font) 
 
 -- what is made of two halves that share no cluster, with no cluster that they hadn't, shares none
 abbrev pub HalvesStayApart : Type 0
-HalvesStayApart = (gs hs xs ys : List hb_glyph_info_t) →
+HalvesStayApart = (gs hs xs ys : Glyphs) →
     NoNewCluster gs xs → NoNewCluster hs ys → ShareNone gs hs → ShareNone xs ys

@@ -1,8 +1,8 @@
 -- Texts whose letters join, edited: any stretch of glyphs is replaced by any other, over the words
 -- of the enum's own contracts.
-use Rattle.std.specs.Prelude.{ℕ, ◌≤◌, List, length}
+use Rattle.std.specs.Prelude.{ℕ, ◌≤◌, length}
 use Rattle.shapers_buffer.specs.Buffer.{Buffer}
-use Rattle.shapers_buffer.specs.declared.buffer.glyph.hb_glyph_info_t.{hb_glyph_info_t}
+use Rattle.shapers_buffer.specs.Glyphs.{Glyphs}
 use Rattle.shapers_base.specs.Font.{CharacterTables}
 use Rattle.shapers_base.specs.declared.plan.hb_ot_shape_plan_t.{hb_ot_shape_plan_t}
 use Rattle.shapers_arabic.specs.Edited.{StayNear, edited}
@@ -12,7 +12,7 @@ use Rattle.rustybuzz_shapers.specs.declared.shaper.hb_ot_shaper_t.{hb_ot_shaper_
 
 -- masks are set in a buffer, and in the same with other glyphs in place of those from s to e
 pub record SetEdited (shaper : hb_ot_shaper_t) (plan : hb_ot_shape_plan_t)
-    (tables : CharacterTables) (s e : ℕ) (gs : List hb_glyph_info_t)
+    (tables : CharacterTables) (s e : ℕ) (gs : Glyphs)
     (old new other : Buffer) : Type 0 where
   pub first : MasksSet shaper plan tables old new
   pub second : MasksSet shaper plan tables (edited s e gs old) other
@@ -21,6 +21,6 @@ pub record SetEdited (shaper : hb_ot_shaper_t) (plan : hb_ot_shape_plan_t)
 -- edits stay near
 abbrev pub TextsStayNear : Type 0
 TextsStayNear = (shaper : hb_ot_shaper_t) (plan : hb_ot_shape_plan_t)
-    (tables : CharacterTables) (s e : ℕ) (gs : List hb_glyph_info_t) (old new other : Buffer) →
+    (tables : CharacterTables) (s e : ℕ) (gs : Glyphs) (old new other : Buffer) →
     LettersJoin shaper plan.plan_data → SetEdited shaper plan tables s e gs old new other →
     StayNear plan.script tables.joining s e (length gs) old.glyphs new.glyphs other.glyphs

@@ -1,6 +1,6 @@
 -- What each hook does, of each shaper that has it. Of the others, which lack it by their
 -- `has_hook`: nothing changes and the result says so.
-use Rattle.std.specs.Prelude.{ℕ, ◌+◌, ◌≤◌, ◌%◌, List, map, true, false, ◌≡◌, length, Option, None, Some, Result, IsOk}
+use Rattle.std.specs.Prelude.{ℕ, ◌+◌, ◌≤◌, ◌%◌, map, true, false, ◌≡◌, length, Option, None, Some, Result, IsOk}
 use Rattle.std.specs.List.{All, AllByRecursion, list_any}
 use Rattle.shapers_buffer.specs.Buffer.{Buffer}
 use Rattle.shapers_base.specs.Font.{CharacterTables, Font}
@@ -11,7 +11,7 @@ use Rattle.shapers_arabic.specs.Marks as arabic
 use Rattle.shapers_arabic.specs.Marks.{marks_merged, marks_reordered}
 use Rattle.shapers_arabic.specs.JoinedText.{AreCharacters, CutsAsHalves, buffer_joined}
 use Rattle.shapers_arabic.specs.PlanData.{arabic_plan, breaks_of, IsArabic, masks_of}
-use Rattle.shapers_buffer.specs.declared.buffer.glyph.hb_glyph_info_t.{hb_glyph_info_t}
+use Rattle.shapers_buffer.specs.Glyphs.{Glyphs}
 use Rattle.shapers_buffer.specs.declared.buffer.refusal.ShaperError.{ShaperError}
 use Rattle.shapers_base.specs.declared.plan.hb_ot_shape_plan_t.{hb_ot_shape_plan_t}
 use Rattle.shapers_base.specs.declared.plan.PlanData.{PlanData}
@@ -77,7 +77,7 @@ PlanFits Universal plan = is_universal plan.plan_data ≡ true
 PlanFits _ plan = Unit {0}
 
 -- what setting masks requires of the glyphs: where letters join, they are characters
-abbrev pub GlyphsFit : hb_ot_shaper_t → hb_ot_shape_plan_t → List hb_glyph_info_t → Type 0
+abbrev pub GlyphsFit : hb_ot_shaper_t → hb_ot_shape_plan_t → Glyphs → Type 0
 GlyphsFit Arabic plan gs = AreCharacters gs
 GlyphsFit Universal plan gs = CanJoin (arabic_of plan.plan_data) gs
 GlyphsFit _ plan gs = Unit {0}
@@ -88,7 +88,7 @@ MarksFit Arabic start end = end ≤ start + 32
 MarksFit _ start end = Unit {0}
 
 -- what postprocessing requires: for Arabic its data in the plan, and glyph numbers of a font
-abbrev pub PostprocessFits : hb_ot_shaper_t → hb_ot_shape_plan_t → List hb_glyph_info_t → Type 0
+abbrev pub PostprocessFits : hb_ot_shaper_t → hb_ot_shape_plan_t → Glyphs → Type 0
 PostprocessFits Arabic plan gs = IsArabic plan.plan_data × All (λ g. g.glyph_id ≤ 65535) gs
 PostprocessFits _ plan gs = Unit {0}
 

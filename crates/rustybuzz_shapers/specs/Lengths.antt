@@ -7,7 +7,7 @@ use Rattle.shapers_base.specs.declared.plan.pause.Pause.TheVariants.{InitialReor
 use Rattle.shapers_base.specs.declared.plan.Preprocess.{Preprocess}
 use Rattle.shapers_base.specs.Font.{Font}
 use Rattle.shapers_buffer.specs.Buffer.{Buffer}
-use Rattle.shapers_buffer.specs.declared.buffer.glyph.hb_glyph_info_t.{hb_glyph_info_t}
+use Rattle.shapers_buffer.specs.Glyphs.{Glyphs}
 use Rattle.shapers_buffer.specs.declared.buffer.refusal.ShaperError.{ShaperError}
 use Rattle.shapers_buffer.specs.declared.buffer.refusal.ShaperError.TheVariants.{Memory, TooLong}
 use Rattle.shapers_buffer.specs.declared.buffer.syllables.Span.{Span}
@@ -21,7 +21,7 @@ use Rattle.rustybuzz_shapers.specs.declared.shaper.hb_ot_shaper_t.TheVariants.{H
 
 -- The length after preprocessing: for Thai and Lao one more for each SARA AM, for Hangul at most
 -- three times the old one, since a syllable character comes apart into three jamo at most.
-abbrev pub PreprocessedLength : hb_ot_shaper_t → List hb_glyph_info_t → ℕ → Type 0
+abbrev pub PreprocessedLength : hb_ot_shaper_t → Glyphs → ℕ → Type 0
 PreprocessedLength Thai gs n = n ≡ length gs + count_by (λ g. is_sara_am g.glyph_id) gs
 PreprocessedLength Hangul gs n = n ≤ 3 * length gs
 PreprocessedLength shaper gs n = n ≡ length gs
@@ -33,7 +33,7 @@ PreprocessingGrows =
     PreprocessedLength shaper old.glyphs (length new.glyphs)
 
 -- after a pause: one more for each broken syllable, where circles are opened
-abbrev pub broken_in : Option DottedCircles → List hb_glyph_info_t → ℕ
+abbrev pub broken_in : Option DottedCircles → Glyphs → ℕ
 broken_in None gs = 0
 broken_in (Some rule) gs = count_of_kind rule.broken_kind gs
 

@@ -1,7 +1,7 @@
 -- Clusters that rise, or fall, along the text: what keeps them so.
 use Rattle.std.specs.Prelude.{ℕ, ◌≤◌, ◌≡◌, ◌++◌, Bool, true, false, List, length, Option, None, Some}
 use Rattle.std.specs.List.{All, AllByRecursion, Contains}
-use Rattle.shapers_buffer.specs.declared.buffer.glyph.hb_glyph_info_t.{hb_glyph_info_t}
+use Rattle.shapers_buffer.specs.Glyphs.{Glyphs}
 use Rattle.shapers_buffer.specs.declared.buffer.syllables.Span.{Span}
 use Rattle.shapers_buffer.specs.Buffer.{Buffer}
 use Rattle.shapers_buffer.specs.Clusters.{merges}
@@ -32,14 +32,14 @@ ExactCutsStayMonotone = (cs : List ℕ) (sts : List (ℕ × ℕ)) (after : List 
 
 -- no syllable opens with two rephas, where circles open behind these: the second could be in a
 -- greater cluster than the circle behind it
-abbrev pub AtMostOneRepha : Option DottedCircles → List hb_glyph_info_t → Type 0
+abbrev pub AtMostOneRepha : Option DottedCircles → Glyphs → Type 0
 AtMostOneRepha None gs = Unit {0}
 AtMostOneRepha (Some rule) gs =
     AllByRecursion (λ syllable. rephas_len rule.repha syllable ≤ 1) (syllables gs)
 
 -- circles, where it is so
 abbrev pub CirclesStayMonotone : Type 0
-CirclesStayMonotone = (rule : DottedCircles) (gs : List hb_glyph_info_t) →
+CirclesStayMonotone = (rule : DottedCircles) (gs : Glyphs) →
     AtMostOneRepha (Some rule) gs →
     StaysMonotone (clusters gs) (clusters (with_circles rule gs))
 
@@ -65,7 +65,7 @@ MarksStayMonotone = (shaper : hb_ot_shaper_t) (start end : ℕ) (old new : Buffe
     StaysMonotone (clusters old.glyphs) (clusters new.glyphs)
 
 abbrev pub MasksStayMonotone : Type 0
-MasksStayMonotone = (gs ms : List hb_glyph_info_t) → OnlyFlagsAdded gs ms →
+MasksStayMonotone = (gs ms : Glyphs) → OnlyFlagsAdded gs ms →
     StaysMonotone (clusters gs) (clusters ms)
 
 -- a Thai or Lao text preprocessed, at the levels that merge
@@ -94,6 +94,6 @@ abbrev pub IndicKeepsHalves : Type 0
 IndicKeepsHalves = (pause : Pause) (plan : hb_ot_shape_plan_t) (font : Font)
     (spans : List Span) (old new : Buffer) →
     reorders_indic pause ≡ true → PauseKeeps pause plan font spans old new →
-    (gs hs : List hb_glyph_info_t) → old.glyphs ≡ gs ++ hs → MeetAtBorder gs hs → ShareNone gs hs →
+    (gs hs : Glyphs) → old.glyphs ≡ gs ++ hs → MeetAtBorder gs hs → ShareNone gs hs →
     (xs : List ℕ) × ((ys : List ℕ) × ((clusters new.glyphs ≡ xs ++ ys)
     × (All (Contains (clusters gs)) xs × All (Contains (clusters hs)) ys)))

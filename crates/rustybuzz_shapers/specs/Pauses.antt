@@ -3,7 +3,7 @@ use Rattle.std.specs.Option.{option_and_then}
 use Rattle.std.specs.Prelude.{◌≡◌, ◌==◌, Bool, true, false, not, List, [], ◌∷◌, ◌++◌, All, map, length, Option, None, Some, unwrap_or, Result, IsOk}
 use Rattle.shapers_arabic.specs.PlanData.{IsArabic}
 use Rattle.shapers_buffer.specs.Glyph.{clusters, order_view}
-use Rattle.shapers_buffer.specs.declared.buffer.glyph.hb_glyph_info_t.{hb_glyph_info_t}
+use Rattle.shapers_buffer.specs.Glyphs.{Glyphs}
 use Rattle.shapers_clusters.specs.Cuts.{ShareNone}
 use Rattle.shapers_clusters.specs.FlagLaw.{OnlyFlagsAdded}
 use Rattle.shapers_clusters.specs.Laws.{ReorderedHold}
@@ -77,8 +77,8 @@ PausesFit shaper plan = (script : Option Script) (has_rclt : Bool) →
 -- What a reordering goes by: circles, what each syllable becomes, the merges and moves to that.
 pub record Reordering : Type 0 where
   pub circles : Option DottedCircles
-  pub order : List hb_glyph_info_t → List hb_glyph_info_t
-  pub steps : List hb_glyph_info_t → List Step
+  pub order : Glyphs → Glyphs
+  pub steps : Glyphs → List Step
 
 -- the initial reordering of Indic, each syllable with positions by the font; and the final one
 abbrev pub by_initial : hb_ot_shape_plan_t → Font → Buffer → Reordering
@@ -202,7 +202,7 @@ PauseStays pause plan =
 -- Where halves of a text meet at a border of syllables and share no cluster, what is carried along,
 -- clusters and glyph flags too, is the halves' joined, serials apart, whatever theirs are.
 abbrev pub CarriedAtBorders : Reordering → Buffer → Buffer → Type 0
-CarriedAtBorders r old new = (gs hs xs ys : List hb_glyph_info_t) →
+CarriedAtBorders r old new = (gs hs xs ys : Glyphs) →
     old.glyphs ≡ gs ++ hs → MeetAtBorder gs hs → SameButSerials gs xs → SameButSerials hs ys →
     ShareNone gs hs →
     map unnumbered (map carried new.glyphs)

@@ -2,7 +2,7 @@
 use Rattle.std.specs.Prelude.{◌≡◌, List, map, None}
 use Rattle.std.specs.List.Sorted.{IsPermutation}
 use Rattle.std.specs.Option.{IfSome}
-use Rattle.shapers_buffer.specs.declared.buffer.glyph.hb_glyph_info_t.{hb_glyph_info_t}
+use Rattle.shapers_buffer.specs.Glyphs.{Glyphs}
 use Rattle.shapers_buffer.specs.declared.buffer.syllables.Span.{Span}
 use Rattle.shapers_buffer.specs.Buffer.{Buffer}
 use Rattle.shapers_buffer.specs.Glyph.{order_view}
@@ -20,7 +20,7 @@ use Rattle.rustybuzz_shapers.specs.Pauses.{Paused, Reordering, reordering_of}
 
 -- what syllables become together; in Indic's final reordering with init, which also looks before
 abbrev pub text_of_syllables :
-    Pause → hb_ot_shape_plan_t → Font → Reordering → List hb_glyph_info_t → List hb_glyph_info_t
+    Pause → hb_ot_shape_plan_t → Font → Reordering → Glyphs → Glyphs
 text_of_syllables FinalReordering plan font r gs =
     with_inits (final_rules font (indic_in plan)).init None (map r.order (syllables gs))
 text_of_syllables _ plan font r gs = text_order r.order gs
@@ -33,7 +33,7 @@ pub record RegroupsSyllables (pause : Pause) (plan : hb_ot_shape_plan_t) (font :
       ≡ text_of_syllables pause plan font r (order_view (circled r.circles old.glyphs))
   pub numbers : IsPermutation
       (map (λ g. g.glyph_id) (circled r.circles old.glyphs)) (map (λ g. g.glyph_id) new.glyphs)
-  pub each : (syl : List hb_glyph_info_t) →
+  pub each : (syl : Glyphs) →
       IsPermutation (map (λ g. g.glyph_id) syl) (map (λ g. g.glyph_id) (r.order syl))
 
 -- so each pause that reorders, by its function of a syllable, the plan, the font and the script

@@ -14,12 +14,11 @@ use Rattle.shapers_arabic.proofs.FlaggedPlaces.{changed, joining-held, forms-hel
 use Rattle.shapers_arabic.proofs.LostForms.{lost, first-keeps, first-kept, second-keeps, second-kept, fits, takes-lost}
 
 pub as-code : AsCodeLaw
-as-code before ts us after some =
-    search (arith, first-keeps, joining-held, first-kept)
+as-code = search (arith, first-keeps, joining-held, first-kept)
 
 first_half_breaks : (before ts us after : List hb_arabic_joining_type_t) → MayBreak before ts us after
     → forms before ts (us ++ after) ≡ forms before ts []
-first_half_breaks before ts us after e =
+first_half_breaks before ts us after =
     let n = length ts in
     search (
       arith,
@@ -31,7 +30,7 @@ first_half_breaks before ts us after e =
 
 second_half_breaks : (before ts us after : List hb_arabic_joining_type_t) → MayBreak before ts us after
     → forms (reverse ts ++ before) us after ≡ forms [] us after
-second_half_breaks before ts us after e =
+second_half_breaks before ts us after =
     let n = length ts in
     search (
       arith,
@@ -46,8 +45,7 @@ sound-held : (before ts us after : List hb_arabic_joining_type_t) → 0 < length
     → held_by_calls (length ts) (sound_flags before (ts ++ us) after)
     ≡ (changed before (nearest_letter (reverse ts)) (nearest (us ++ after))
     || lost (nearest (reverse ts ++ before)) us after)
-sound-held before ts us after some more =
-    search (arith, list_any-append, joining-held, forms-held, takes-lost, fits)
+sound-held = search (arith, list_any-append, joining-held, forms-held, takes-lost, fits)
 
 pub exact : ExactLaw
 exact before ts us after some more =

@@ -3,7 +3,7 @@ use Rattle.std.specs.Prelude.{◌≡◌, List, [], ◌∷◌, ◌++◌, map, Boo
 use Rattle.std.specs.List.{list_any}
 use Rattle.shapers_buffer.specs.Glyph.{default_glyph}
 use Rattle.shapers_buffer.specs.GlyphFlags.{FlagCall, UnsafeToBreak, UnsafeToConcat, flags_called}
-use Rattle.shapers_buffer.specs.declared.buffer.glyph.hb_glyph_info_t.{hb_glyph_info_t}
+use Rattle.shapers_buffer.specs.Glyphs.{Glyphs}
 use Rattle.shapers_base.specs.declared.plan.joining.hb_arabic_joining_type_t.TheVariants.{U, R, D, GroupAlaph, GroupDalathRish, T}
 use Rattle.shapers_arabic.specs.declared.ot_shaper_arabic.arabic_action_t.TheConstants.{ISOL, FIN2, FINA, FIN3, INIT, NONE}
 use Rattle.shapers_arabic.specs.Joining.{forms, selected}
@@ -94,7 +94,7 @@ same_form : selector_flags [] ((0x180B, NONE) ∷ (0x180C, NONE) ∷ []) ≡ []
 same_form = refl
 
 -- with the flag of tatweels the calls leave bit 4 in place of bit 1: D D, clusters 0 and 1
-two : List hb_glyph_info_t
+two : Glyphs
 two = default_glyph ∷ record default_glyph { cluster = 1 } ∷ []
 
 masks_code : map (λ g. g.mask) (flags_called false false (sound_flags [] (D ∷ D ∷ []) []) two) ≡ 0 ∷ 3 ∷ []

@@ -13,7 +13,7 @@ use Rattle.shapers_buffer.specs.Buffer.{Buffer, flags_concat, flags_tatweel, has
 use Rattle.shapers_buffer.specs.Glyph.{clusters, plain, order_view}
 use Rattle.shapers_buffer.specs.declared.buffer.category.hb_unicode_general_category_t.{hb_unicode_general_category_t}
 use Rattle.shapers_buffer.specs.declared.buffer.flags.BufferFlags.{BufferFlags}
-use Rattle.shapers_buffer.specs.declared.buffer.glyph.hb_glyph_info_t.{hb_glyph_info_t}
+use Rattle.shapers_buffer.specs.Glyphs.{Glyph, Glyphs}
 use Rattle.shapers_buffer.specs.declared.buffer.tag.Script.{Script}
 use Rattle.shapers_base.specs.declared.plan.breaks.BreakFlags.{BreakFlags}
 use Rattle.shapers_base.specs.declared.plan.breaks.BreakFlags.TheVariants.{AsCode, Sound}
@@ -37,18 +37,15 @@ use Rattle.shapers_arabic.proofs.SoundOrder.{calls-in_order}
 
 -- flags don't show in the order view
 pub view-joined : (breaks : BreakFlags) (masks : List ℕ) (flags : BufferFlags) (script : Option Script) (text : Text)
-    (gs : List hb_glyph_info_t) → order_view (joined_glyphs breaks masks flags script text gs)
+    (gs : Glyphs) → order_view (joined_glyphs breaks masks flags script text gs)
     ≡ order_view (with_joining_forms masks (forms_of script text) gs)
-view-joined breaks masks flags script text gs =
-    search (arith, map-flags_called, plain-with_bits, calls-in_order)
+view-joined = search (arith, map-flags_called, plain-with_bits, calls-in_order)
 
-pub with_forms-parts : (masks fs hs : List ℕ) (xs ys : List hb_glyph_info_t) → length fs ≡ length xs
+pub with_forms-parts : (masks fs hs : List ℕ) (xs ys : Glyphs) → length fs ≡ length xs
     → with_joining_forms masks (fs ++ hs) (xs ++ ys) ≡ with_joining_forms masks fs xs ++ with_joining_forms masks hs ys
 with_forms-parts masks [] hs [] ys e = refl
-with_forms-parts masks [] hs (x ∷ xs) ys e = absurd (omega arith)
-with_forms-parts masks (f ∷ fs) hs [] ys e = absurd (omega arith)
-with_forms-parts masks (f ∷ fs) hs (x ∷ xs) ys e =
-    cc (with_forms-parts masks fs hs xs ys (omega arith))
+with_forms-parts masks (f ∷ fs) hs (x ∷ xs) ys e = cc (with_forms-parts masks fs hs xs ys (omega arith))
+with_forms-parts masks _ hs _ ys e = absurd (omega arith)
 
 -- where no call of Sound forbids a break: the forms are those of the halves
 pub forms-break : (script : Option Script) (text : Text) (n : ℕ) → length text.characters ≡ length text.types → 0 < n
@@ -74,8 +71,7 @@ forms-break script text n same pos within free =
       append_assoc,
       list_any-append (forbids n) first (rest (is_mongolian script) text.characters rule),
     )) in
-    let may = (exact text.before ts us text.after (omega arith) (omega (arith, length-drop n text.types))).0
-    (subst
+    let may = (exact text.before ts us text.after (omega arith) (omega (arith, length-drop n text.types))).0 (subst
     (λ xs. IsFree (sound_flags text.before xs text.after) (length ts)) (sym whole) (subst
     (λ m. IsFree first m) (sym at) split.0)) in
     let by_rule : rule ≡ fs ++ hs = cc in
@@ -94,7 +90,7 @@ forms-break script text n same pos within free =
 
 -- the glyphs are then those of the halves
 halves-free : (breaks : BreakFlags) (masks : List ℕ) (flags : BufferFlags) (script : Option Script) (text : Text)
-    (gs : List hb_glyph_info_t) (n : ℕ) → length text.characters ≡ length gs → length text.types ≡ length gs → 0 < n
+    (gs : Glyphs) (n : ℕ) → length text.characters ≡ length gs → length text.types ≡ length gs → 0 < n
     → n < length gs → IsFree (flag_calls Sound script text) n
     → order_view (joined_glyphs breaks masks flags script text gs)
     ≡ order_view (joined_glyphs breaks masks flags script (first_half n [] text) (take n gs))
@@ -119,7 +115,7 @@ halves-free breaks masks flags script text gs n characters long pos within free 
 
 -- a clear place that is spared is free
 pub free-clear : (breaks : BreakFlags) (masks : List ℕ) (flags : BufferFlags) (script : Option Script) (text : Text)
-    (gs : List hb_glyph_info_t) (n : ℕ) → length text.characters ≡ length gs → length text.types ≡ length gs → 0 < n
+    (gs : Glyphs) (n : ℕ) → length text.characters ≡ length gs → length text.types ≡ length gs → 0 < n
     → n < length gs → IsClear (joined_glyphs breaks masks flags script text gs) n
     → IsFree (flag_calls breaks script text) n
 free-clear breaks masks flags script text gs n characters long pos within clear =
@@ -131,19 +127,16 @@ free-clear breaks masks flags script text gs n characters long pos within clear 
 
 spared-free : (breaks : BreakFlags) (script : Option Script) (text : Text) (n : ℕ)
     → IsFree (flag_calls breaks script text) n → IsSpared breaks script text n → IsFree (flag_calls Sound script text) n
-spared-free AsCode script text n free spared =
-    search (arith, list_any-append, or_from)
+spared-free AsCode script text n free spared = search (arith, list_any-append, or_from)
 spared-free Sound script text n free spared = free
 
 -- the texts of the halves of a buffer
 pub text-front : (joining : ℕ → hb_arabic_joining_type_t) (general : ℕ → hb_unicode_general_category_t) (n : ℕ)
     (b : Buffer) → text_of joining general (front_at n b) ≡ first_half n [] (text_of joining general b)
-text-front joining general n b =
-    search (arith, take-map)
+text-front = search (arith, take-map)
 
-pub types_long : (joining : ℕ → hb_arabic_joining_type_t) (gs : List hb_glyph_info_t) → length (stored_types joining gs)
-    ≡ length gs
-types_long joining gs = search (arith, length-map)
+pub types_long : (joining : ℕ → hb_arabic_joining_type_t) (gs : Glyphs) → length (stored_types joining gs) ≡ length gs
+types_long = search (arith, length-map)
 
 -- the halves of a buffer, joined by themselves
 halves-are : (breaks : BreakFlags) (masks : List ℕ) (script : Option Script) (joining : ℕ → hb_arabic_joining_type_t)
@@ -152,8 +145,7 @@ halves-are : (breaks : BreakFlags) (masks : List ℕ) (script : Option Script) (
     ++ order_view (buffer_joined breaks masks script joining general (back_at n b)).glyphs
     ≡ order_view (joined_glyphs breaks masks b.flags script (first_half n [] text) (take n b.glyphs))
     ++ order_view (joined_glyphs breaks masks b.flags script (second_half n [] text) (drop n b.glyphs))
-halves-are breaks masks script joining general n b =
-    search (arith, text-front, drop-map)
+halves-are = search (arith, text-front, drop-map)
 
 pub breaks-where_clear : (breaks : BreakFlags) (masks : List ℕ) (script : Option Script) (joining : ℕ
     → hb_arabic_joining_type_t) (general : ℕ → hb_unicode_general_category_t) (old new : Buffer)
@@ -174,44 +166,42 @@ breaks-where_clear breaks masks script joining general old new is n pos within c
     )
 
 -- forms and their masks leave clusters, and set no bit of a break where no mask has a glyph flag bit
-clusters-formed : (masks fs : List ℕ) (gs : List hb_glyph_info_t) → length fs ≡ length gs
+clusters-formed : (masks fs : List ℕ) (gs : Glyphs) → length fs ≡ length gs
     → clusters (with_joining_forms masks fs gs) ≡ clusters gs
 clusters-formed masks [] [] e = refl
-clusters-formed masks [] (g ∷ gs) e = absurd (omega arith)
-clusters-formed masks (f ∷ fs) [] e = absurd (omega arith)
 clusters-formed masks (f ∷ fs) (g ∷ gs) e = cc (clusters-formed masks fs gs (omega arith))
+clusters-formed masks _ _ e = absurd (omega arith)
 
 mask-at : (masks : List ℕ) (i : ℕ) → AllByRecursion (λ m. m % 8 ≡ 0) masks → get_or masks i 0 % 8 ≡ 0
 mask-at [] i all = refl
 mask-at (m ∷ ms) zero all = all.0
 mask-at (m ∷ ms) (suc i) all = mask-at ms i all.1
 
-unflagged-one : (g : hb_glyph_info_t) (form m : ℕ) → is_unsafe g ≡ false → m % 8 ≡ 0
+unflagged-one : (g : Glyph) (form m : ℕ) → is_unsafe g ≡ false → m % 8 ≡ 0
     → is_unsafe (record g { auxiliary = form; mask = bit_or g.mask m }) ≡ false
 unflagged-one g form m e low =
     unsafe-none (record g { auxiliary = form; mask = bit_or g.mask m })
     (search (arith, bit_at_or g.mask m 0, bit_at_or g.mask m 2))
 
-unflagged-formed : (masks fs : List ℕ) (gs : List hb_glyph_info_t) → AllByRecursion (λ m. m % 8 ≡ 0) masks
+unflagged-formed : (masks fs : List ℕ) (gs : Glyphs) → AllByRecursion (λ m. m % 8 ≡ 0) masks
     → AllByRecursion (λ g. is_unsafe g ≡ false) gs
     → AllByRecursion (λ g. is_unsafe g ≡ false) (with_joining_forms masks fs gs)
-unflagged-formed masks [] gs m all = tt
-unflagged-formed masks (f ∷ fs) [] m all = tt
 unflagged-formed masks (f ∷ fs) (g ∷ gs) m all =
     search (arith, unflagged-one, mask-at, unflagged-formed masks fs gs m all.1)
+unflagged-formed masks _ _ m all = tt
 
 -- the forms are shown in the order view
 pub forms-shown : (breaks : BreakFlags) (masks : List ℕ) (flags : BufferFlags) (script : Option Script) (text : Text)
-    (gs : List hb_glyph_info_t) → length text.characters ≡ length gs → length text.types ≡ length gs
+    (gs : Glyphs) → length text.characters ≡ length gs → length text.types ≡ length gs
     → map (λ g. g.auxiliary) (order_view (joined_glyphs breaks masks flags script text gs)) ≡ forms_of script text
 forms-shown breaks masks flags script text gs characters long =
-    map-map (λ (g : hb_glyph_info_t). g.auxiliary) plain (joined_glyphs breaks masks flags script text gs)
+    map-map (λ (g : Glyph). g.auxiliary) plain (joined_glyphs breaks masks flags script text gs)
     ∙ forms-joined masks (forms_of script text) flags (flag_calls breaks script text) gs
     (search (arith, length-forms_of)) (calls-in_order breaks script text)
 
 -- a free place of a fresh text is clear
 pub clear-fresh : (breaks : BreakFlags) (masks : List ℕ) (flags : BufferFlags) (script : Option Script) (text : Text)
-    (gs : List hb_glyph_info_t) (n : ℕ) → length text.characters ≡ length gs → length text.types ≡ length gs
+    (gs : Glyphs) (n : ℕ) → length text.characters ≡ length gs → length text.types ≡ length gs
     → IsFresh masks gs → 0 < n → n < length gs → IsFree (flag_calls breaks script text) n
     → IsClear (joined_glyphs breaks masks flags script text gs) n
 clear-fresh breaks masks flags script text gs n characters long fresh pos within free =
@@ -220,11 +210,10 @@ clear-fresh breaks masks flags script text gs n characters long fresh pos within
     let same = clusters-formed masks all gs (search (arith, length-forms_of)) in
     let formed_long : length formed ≡ length gs = search (arith, length-map) in
     needless (has_flag flags_concat flags) (has_flag flags_tatweel flags) (flag_calls breaks script text) formed n
-    (calls-in_order breaks script text) (search arith)
-    (search (arith, unflagged-formed)) pos (omega arith) free
+    (calls-in_order breaks script text) (search arith) (search (arith, unflagged-formed)) pos (omega arith) free
 
 -- so where the halves are the whole the place is clear
-clear-broken : (masks : List ℕ) (flags : BufferFlags) (script : Option Script) (text : Text) (gs : List hb_glyph_info_t)
+clear-broken : (masks : List ℕ) (flags : BufferFlags) (script : Option Script) (text : Text) (gs : Glyphs)
     (n : ℕ) → length text.characters ≡ length gs → length text.types ≡ length gs → IsFresh masks gs
     → SelectorsAreTransparent script text → 0 < n → n < length gs
     → order_view (joined_glyphs Sound masks flags script text gs)
@@ -234,7 +223,7 @@ clear-broken : (masks : List ℕ) (flags : BufferFlags) (script : Option Script)
 clear-broken masks flags script text gs n characters long fresh silent pos within may =
     let one = first_half n [] text in
     let two = second_half n [] text in
-    let aux = λ (g : hb_glyph_info_t). g.auxiliary in
+    let aux = λ (g : Glyph). g.auxiliary in
     let back = order_view (joined_glyphs Sound masks flags script two (drop n gs)) in
     let forms_fall =
     sym (forms-shown Sound masks flags script text gs characters long) ∙ ap (map aux) may
@@ -243,13 +232,11 @@ clear-broken masks flags script text gs n characters long fresh silent pos withi
     (forms-shown Sound masks flags script one (take n gs) (search (arith, length-take-le)) (search (
       arith,
       length-take-le,
-    )))
-    ∙ ap (λ xs. forms_of script one ++ xs)
+    ))) ∙ ap (λ xs. forms_of script one ++ xs)
     (forms-shown Sound masks flags script two (drop n gs) (omega (
       arith,
       length-drop n gs,
-      length-drop n
-          text.characters,
+      length-drop n text.characters,
     )) (search (arith, length-drop))) in
     clear-fresh Sound masks flags script text gs n characters long fresh pos within
     (free-halves script text n (characters ∙ sym long) pos (omega arith) silent forms_fall)

@@ -5,34 +5,27 @@ use Rattle.std.specs.List.{list_any}
 use Rattle.std.proofs.lemmas.Bool.{or_parts, or_from, or_left, false≢true}
 use Rattle.std.proofs.lemmas.List.{append-nil, length-reverse}
 use Rattle.std.proofs.lemmas.List.Folds.{list_any-append}
-use Rattle.shapers_buffer.specs.GlyphFlags.{FlagCall, UnsafeToBreak, UnsafeToConcat, SafeToInsertTatweel}
+use Rattle.shapers_buffer.specs.GlyphFlags.{FlagCall, UnsafeToConcat, SafeToInsertTatweel}
 use Rattle.shapers_base.specs.declared.plan.joining.hb_arabic_joining_type_t.{hb_arabic_joining_type_t}
 use Rattle.shapers_base.specs.declared.plan.joining.hb_arabic_joining_type_t.TheVariants.{U, L, T, X}
 use Rattle.shapers_arabic.specs.Joining.{nearest, joins_back, act, forms}
 use Rattle.shapers_arabic.specs.JoiningFlags.{Letter, nearest_letter, changes_form, can_change, letter_flags, end_flags, flags_along, joining_flags}
 use Rattle.shapers_arabic.proofs.FlagLists.{flags_along-append}
 use Rattle.shapers_arabic.proofs.JoiningLists.{forms-append}
-use Rattle.shapers_clusters.specs.Breaks.{forbids, IsFree}
+use Rattle.shapers_clusters.specs.Breaks.{IsFree}
 use Rattle.shapers_clusters.specs.Borders.{forbids_border, IsOpen}
 use Rattle.shapers_arabic.specs.Concatenation.{ConcatenationLaw}
 use Rattle.shapers_arabic.proofs.FlaggedPlaces.{StandsBefore, stands-before, changed}
 use Rattle.shapers_arabic.proofs.LostForms.{lost, first-keeps, second-keeps, not_apart}
 use Rattle.shapers_arabic.proofs.BreakLists.{as-code}
 
--- an open place is free
-free-call : (call : FlagCall) (p : ℕ) → forbids_border p call ≡ false → forbids p call ≡ false
-free-call (UnsafeToBreak s e) p f = f
-free-call (UnsafeToConcat s e) p f = refl
-free-call (SafeToInsertTatweel s e) p f = f
-
 open-free : (calls : List FlagCall) (p : ℕ) → IsOpen calls p → IsFree calls p
 open-free [] p f = refl
-open-free (call ∷ calls) p f =
-    search (
-      arith,
-      or_from,
-      open-free calls p (or_parts (forbids_border p call) (list_any (forbids_border p) calls) f).1,
-    )
+open-free (call ∷ calls) p f = search (
+  arith,
+  or_from,
+  open-free calls p (or_parts (forbids_border p call) (list_any (forbids_border p) calls) f).1,
+)
 
 -- whether the first letter joins back
 first_letter_joins : List hb_arabic_joining_type_t → Bool
@@ -40,20 +33,15 @@ first_letter_joins [] = false
 first_letter_joins (T ∷ ts) = first_letter_joins ts
 first_letter_joins (t ∷ ts) = joins_back (Some t)
 
-none_or : (x : Bool) → x ≡ true → (x || false) ≡ true
-none_or x e = or_left x false e
-
 pair-joined : (b c : Bool) (s e p : ℕ) → s < p → p < e
     → list_any (forbids_border p) (cond b (SafeToInsertTatweel s e ∷ []) (cond (true || c) (UnsafeToConcat s e ∷ [])
     [])) ≡ true
-pair-joined true c s e p h i = search arith
-pair-joined false c s e p h i = search arith
+pair-joined _ = search arith
 
 letter-joined : (context : List hb_arabic_joining_type_t) (o : Option Letter) (t : hb_arabic_joining_type_t) (e p : ℕ)
     → joins_back (Some t) ≡ true → StandsBefore o p → p < e → list_any (forbids_border p) (letter_flags context o t e)
     ≡ true
-letter-joined context None t e p j h i =
-    search arith
+letter-joined context None t e p j h i = search arith
 letter-joined context (Some k) t e p j h i =
     cc (pair-joined (changes_form context k t) (can_change context k) (length k.before) e p h i)
 
@@ -63,8 +51,7 @@ along-joined : (context passed ts : List hb_arabic_joining_type_t) (p : ℕ) →
 unfolding first_letter_joins
 along-joined context passed [] p h b j = absurd (false≢true j)
 along-joined context passed (T ∷ ts) p h b j = along-joined context (T ∷ passed) ts p (omega arith) b j
-along-joined context passed (t ∷ ts) p h b j =
-    search (arith, list_any-append, or_left, letter-joined)
+along-joined context passed (t ∷ ts) p h b j = search (arith, list_any-append, or_left, letter-joined)
 
 open-stands : (context cs ds after : List hb_arabic_joining_type_t)
     → IsOpen (joining_flags context (cs ++ ds) after) (length cs) → first_letter_joins ds ≡ false
@@ -75,8 +62,7 @@ open-stands context cs ds after f =
     let end = end_flags context (nearest_letter (reverse (cs ++ ds))) (nearest after) (length (cs ++ ds)) in
     let first = flags_along context [] cs in
     let rest = (or_parts (list_any (forbids_border p) first)
-    (list_any (forbids_border p) (flags_along context passed ds))
-    (sym
+    (list_any (forbids_border p) (flags_along context passed ds)) (sym
     (ap (list_any (forbids_border p)) (search (arith, flags_along-append, append-nil)) ∙ list_any-append
     (forbids_border p) first (flags_along context passed ds))
     ∙ (or_parts (list_any (forbids_border p) all) (list_any (forbids_border p) end) (sym (list_any-append
@@ -87,12 +73,10 @@ open-stands context cs ds after f =
 stands-alone : (context ds behind : List hb_arabic_joining_type_t) (o : Option Letter) → first_letter_joins ds ≡ false
     → (nearest ds ≡ None → nearest behind ≡ None) → changed context o (nearest (ds ++ behind)) ≡ false
 unfolding first_letter_joins
-stands-alone context [] behind None f n = refl
 stands-alone context [] behind (Some k) f n = cc (n refl)
 stands-alone context (T ∷ ds) behind o f n = stands-alone context ds behind o f n
-stands-alone context (t ∷ ds) behind None f n = refl
-stands-alone context (t ∷ ds) behind (Some k) f n =
-    search arith
+stands-alone context (t ∷ ds) behind (Some k) f n = search arith
+stands-alone context _ behind None f n = refl
 
 same-form : (before after : Option hb_arabic_joining_type_t) (t : hb_arabic_joining_type_t)
     → joins_back (Some t) ≡ false → act before t after ≡ act None t after
@@ -116,14 +100,11 @@ pub concatenation-free : (before ts us after front cs ds behind : List hb_arabic
     → forms before (ts ++ ds) behind ≡ forms before ts (us ++ after) ++ forms (reverse cs ++ front) ds behind
 concatenation-free before ts us after front cs ds behind some a c n =
     let stands = open-stands front cs ds behind c in
-    forms-append before ts ds behind
-    ∙ ap (λ fs. fs ++ forms (reverse ts ++ before) ds behind)
+    forms-append before ts ds behind ∙ ap (λ fs. fs ++ forms (reverse ts ++ before) ds behind)
     (first-keeps before ts (ds ++ behind) (search (arith, stands-alone)) ∙ sym ((as-code before ts us after some).0
-    a))
-    ∙ ap (λ fs. forms before ts (us ++ after) ++ fs)
+    a)) ∙ ap (λ fs. forms before ts (us ++ after) ++ fs)
     (second-keeps (reverse ts ++ before) [] ds behind refl (search (arith, loses-none)) ∙ sym (second-keeps (reverse
     cs ++ front) [] ds behind refl (search (arith, loses-none))))
 
 pub concatenation : ConcatenationLaw
-concatenation before ts us after front cs ds behind some a c n =
-    search (arith, concatenation-free, open-free)
+concatenation = search (arith, concatenation-free, open-free)

@@ -6,7 +6,7 @@ use Rattle.std.proofs.lemmas.List.{length-append, length-map, length-take-le, ta
 use Rattle.shapers_buffer.specs.Buffer.{Buffer}
 use Rattle.shapers_buffer.specs.Glyph.{order_view}
 use Rattle.shapers_buffer.specs.declared.buffer.category.hb_unicode_general_category_t.{hb_unicode_general_category_t}
-use Rattle.shapers_buffer.specs.declared.buffer.glyph.hb_glyph_info_t.{hb_glyph_info_t}
+use Rattle.shapers_buffer.specs.Glyphs.{Glyph, Glyphs}
 use Rattle.shapers_buffer.specs.declared.buffer.tag.Script.{Script}
 use Rattle.shapers_base.specs.declared.plan.breaks.BreakFlags.{BreakFlags}
 use Rattle.shapers_base.specs.declared.plan.joining.hb_arabic_joining_type_t.{hb_arabic_joining_type_t}
@@ -31,19 +31,16 @@ behind-one (f ∷ fs) hs x = behind-one fs hs x
 selected-front : (before : List (ℕ × ℕ)) (cs fs hs : List ℕ) (x y : ℕ)
     → take (length fs) (selected before (zip cs (fs ++ x ∷ hs)))
     ≡ take (length fs) (selected before (zip cs (fs ++ y ∷ hs)))
-selected-front before cs [] hs x y = refl
-selected-front before [] (f ∷ fs) hs x y = refl
-selected-front before (c ∷ cs) (f ∷ fs) hs x y =
-    cc (selected-front ((c, f) ∷ before) cs fs hs x y)
+selected-front before (c ∷ cs) (f ∷ fs) hs x y = cc (selected-front ((c, f) ∷ before) cs fs hs x y)
+selected-front before _ _ hs x y = refl
 
 selected-back : (before : List (ℕ × ℕ)) (cs fs hs : List ℕ) (x y : ℕ) → let k =
     prefix_len is_selector (drop (suc (length fs)) cs) in drop k
     (drop (suc (length fs)) (selected before (zip cs (fs ++ x ∷ hs))))
     ≡ drop k (drop (suc (length fs)) (selected before (zip cs (fs ++ y ∷ hs))))
-selected-back before [] [] hs x y = refl
 selected-back before (c ∷ cs) [] hs x y = search (arith, selected-opening)
-selected-back before [] (f ∷ fs) hs x y = refl
 selected-back before (c ∷ cs) (f ∷ fs) hs x y = selected-back ((c, f) ∷ before) cs fs hs x y
+selected-back before [] _ hs x y = refl
 
 but-by : (b : Bool) (cs fs hs : List ℕ) (x y : ℕ) → let l =
     suc (length fs) + cond b (prefix_len is_selector (drop (suc (length fs)) cs))
@@ -51,20 +48,18 @@ but-by : (b : Bool) (cs fs hs : List ℕ) (x y : ℕ) → let l =
     × (drop l (chosen b cs (fs ++ x ∷ hs)) ≡ drop l (chosen b cs (fs ++ y ∷ hs)))
 but-by false cs fs hs x y =
     let none : suc (length fs) + 0 ≡ suc (length fs) = omega arith in search (arith, take_at, behind-one)
-but-by true cs fs hs x y =
-    let k = prefix_len is_selector (drop (suc (length fs)) cs) in (
-      selected-front [] cs fs hs x y,
-      sym (drop-drop k (suc (length fs)) (selected [] (zip cs (fs ++ x ∷ hs)))) ∙ selected-back [] cs fs hs x y
-          ∙ drop-drop k (suc (length fs)) (selected [] (zip cs (fs ++ y ∷ hs))),
-    )
+but-by true cs fs hs x y = let k = prefix_len is_selector (drop (suc (length fs)) cs) in (
+  selected-front [] cs fs hs x y,
+  sym (drop-drop k (suc (length fs)) (selected [] (zip cs (fs ++ x ∷ hs)))) ∙ selected-back [] cs fs hs x y
+      ∙ drop-drop k (suc (length fs)) (selected [] (zip cs (fs ++ y ∷ hs))),
+)
 
 abbrev of_script : Option Script → List ℕ → List ℕ → List ℕ
 of_script script cs fs = chosen (is_mongolian script) cs fs
 
 but-one : (script : Option Script) (cs fs hs : List ℕ) (x y j : ℕ) → length fs ≡ j
     → SameBut script 0 j cs (of_script script cs (fs ++ x ∷ hs)) (of_script script cs (fs ++ y ∷ hs))
-but-one script cs fs hs x y j e =
-    search (arith, but-by (is_mongolian script) cs fs hs x y)
+but-one script cs fs hs x y = search (arith, but-by (is_mongolian script) cs fs hs x y)
 
 -- lists that are the same from a place on, cut at another
 take-nothing : {X : Type 0} (n : ℕ) → let none : List X = [] in take n none ≡ none
@@ -72,16 +67,13 @@ take-nothing zero = refl
 take-nothing (suc n) = refl
 
 cut-within : {X : Type 0} (k j : ℕ) (xs : List X) → drop k (take j xs) ≡ take (j - k) (drop k xs)
-cut-within zero j xs = search arith
-cut-within (suc k) zero xs = search arith
 cut-within (suc k) (suc j) [] = search (arith, take-nothing)
 cut-within (suc k) (suc j) (x ∷ xs) = search (arith, cut-within k j xs)
+cut-within _ _ xs = search arith
 
 opens-within : (n : ℕ) (cs : List ℕ) → prefix_len is_selector cs ≤ n + prefix_len is_selector (drop n cs)
-opens-within zero cs = omega arith
-opens-within (suc n) [] = omega arith
-opens-within (suc n) (c ∷ cs) =
-    search (arith, opens-within n cs)
+opens-within (suc n) (c ∷ cs) = search (arith, opens-within n cs)
+opens-within _ _ = omega arith
 
 opening-within : (b : Bool) (n : ℕ) (cs : List ℕ) → cond b (prefix_len is_selector cs) 0
     ≤ n + cond b (prefix_len is_selector (drop n cs)) 0
@@ -89,8 +81,7 @@ opening-within true n cs = opens-within n cs
 opening-within false n cs = omega arith
 
 -- glyphs in such forms
-but-shown : (script : Option Script) (k j : ℕ) (cs masks fs hs : List ℕ) (gs : List hb_glyph_info_t)
-    → SameBut script k j cs fs hs
+but-shown : (script : Option Script) (k j : ℕ) (cs masks fs hs : List ℕ) (gs : Glyphs) → SameBut script k j cs fs hs
     → SameBut script k j cs (order_view (with_joining_forms masks fs gs)) (order_view (with_joining_forms masks hs gs))
 but-shown script k j cs masks fs hs gs same =
     let l = suc j + opening script (drop (suc j) cs) in
@@ -100,7 +91,7 @@ but-shown script k j cs masks fs hs gs same =
 
 -- the forms of a buffer of two parts
 record OfParts (script : Option Script) (joining : ℕ → hb_arabic_joining_type_t) (general : ℕ
-    → hb_unicode_general_category_t) (b : Buffer) (xs ys : List hb_glyph_info_t) : Type 0 where
+    → hb_unicode_general_category_t) (b : Buffer) (xs ys : Glyphs) : Type 0 where
   first : take (length xs) (forms_of script (text_of joining general b))
       ≡ of_script script (map (λ g. g.glyph_id) xs)
       (forms (context_types joining general b.before) (stored_types joining xs)
@@ -112,10 +103,10 @@ record OfParts (script : Option Script) (joining : ℕ → hb_arabic_joining_typ
       (context_types joining general b.after)))
 
 of-parts : (script : Option Script) (joining : ℕ → hb_arabic_joining_type_t) (general : ℕ
-    → hb_unicode_general_category_t) (b : Buffer) (xs ys : List hb_glyph_info_t) → b.glyphs ≡ xs ++ ys
+    → hb_unicode_general_category_t) (b : Buffer) (xs ys : Glyphs) → b.glyphs ≡ xs ++ ys
     → OfParts script joining general b xs ys
-of-parts script joining general b xs ys e =
-    let id = λ (g : hb_glyph_info_t). g.glyph_id in
+of-parts script joining general b xs ys =
+    let id = λ (g : Glyph). g.glyph_id in
     let before = context_types joining general b.before in
     let after = context_types joining general b.after in
     let ts = stored_types joining xs in
@@ -124,19 +115,18 @@ of-parts script joining general b xs ys e =
     (length xs) (map id xs ++ map id ys) (forms before (ts ++ us) after) (map id xs)
     (forms before ts (us ++ after)) (map id ys)
     (forms (reverse ts ++ before) us after) refl (forms-append before ts us after) (length-map xs id) (length-forms
-    before ts (us ++ after)
-    ∙ types_long joining xs) in
+    before ts (us ++ after) ∙ types_long joining xs) in
     search (arith, text-parts, parts.first, parts.second)
 
 -- the part before an edit
 stay-before : (breaks : BreakFlags) (masks : List ℕ) (script : Option Script) (joining : ℕ → hb_arabic_joining_type_t)
-    (general : ℕ → hb_unicode_general_category_t) (one two : Buffer) (xs ys zs : List hb_glyph_info_t) (n : ℕ)
+    (general : ℕ → hb_unicode_general_category_t) (one two : Buffer) (xs ys zs : Glyphs) (n : ℕ)
     → length xs ≡ n → one.glyphs ≡ xs ++ ys → two.glyphs ≡ xs ++ zs → one.before ≡ two.before
     → StayBefore script (stored_types joining xs) (map (λ g. g.glyph_id) xs)
     (order_view (take n (joined_glyphs breaks masks one.flags script (text_of joining general one) one.glyphs)))
     (order_view (take n (joined_glyphs breaks masks two.flags script (text_of joining general two) two.glyphs)))
 stay-before breaks masks script joining general one two xs ys zs n long e f fronts =
-    let cs = map (λ (g : hb_glyph_info_t). g.glyph_id) xs in
+    let cs = map (λ (g : Glyph). g.glyph_id) xs in
     let ts = stored_types joining xs in
     let before = context_types joining general two.before in
     let near = stored_types joining ys ++ context_types joining general one.after in
@@ -176,13 +166,13 @@ stay-before breaks masks script joining general one two xs ys zs n long e f fron
 
 -- and the part behind it
 stay-behind : (breaks : BreakFlags) (masks : List ℕ) (script : Option Script) (joining : ℕ → hb_arabic_joining_type_t)
-    (general : ℕ → hb_unicode_general_category_t) (one two : Buffer) (xs ys zs : List hb_glyph_info_t) (n m : ℕ)
+    (general : ℕ → hb_unicode_general_category_t) (one two : Buffer) (xs ys zs : Glyphs) (n m : ℕ)
     → length xs ≡ n → length ys ≡ m → one.glyphs ≡ xs ++ zs → two.glyphs ≡ ys ++ zs → one.after ≡ two.after
     → StayBehind script (stored_types joining zs) (map (λ g. g.glyph_id) zs)
     (order_view (drop n (joined_glyphs breaks masks one.flags script (text_of joining general one) one.glyphs)))
     (order_view (drop m (joined_glyphs breaks masks two.flags script (text_of joining general two) two.glyphs)))
 stay-behind breaks masks script joining general one two xs ys zs n m long more e f ends =
-    let cs = map (λ (g : hb_glyph_info_t). g.glyph_id) zs in
+    let cs = map (λ (g : Glyph). g.glyph_id) zs in
     let ts = stored_types joining zs in
     let k = opening script cs in
     let after = context_types joining general two.after in
@@ -210,13 +200,11 @@ stay-behind breaks masks script joining general one two xs ys zs n m long more e
     (drop-view breaks masks two.flags script second_text two.glyphs m
     ∙ ap (λ gs. order_view (with_joining_forms masks hs gs)) (ap (drop m) f ∙ drop_at ys zs m more)))
     (record {
-      none = λ none. let same = first_forms
-          ∙ ap (λ ws. drop k (of_script script cs ws))
+      none = λ none. let same = first_forms ∙ ap (λ ws. drop k (of_script script cs ws))
           (forms-transparent seen ts after none ∙ sym (forms-transparent other ts after none))
           ∙ sym second_forms in drop-shown masks k fs zs
           ∙ ap (λ ws. order_view (with_joining_forms masks ws (drop k zs))) same ∙ sym (drop-shown masks k hs zs);
-      first = λ
-          front tail t is none letter. let j = length front in
+      first = λ front tail t is none letter. let j = length front in
           let same = subst (λ rs. SameBut script 0 j cs (of_script script cs (forms seen rs after)) (of_script script cs
           (forms other rs after))) (sym is) (
           let fs = replicate (length front) NONE in

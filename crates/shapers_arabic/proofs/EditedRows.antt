@@ -7,7 +7,7 @@ use Rattle.shapers_buffer.specs.Buffer.{Buffer, new_buffer}
 use Rattle.shapers_buffer.specs.Glyph.{default_glyph}
 use Rattle.shapers_buffer.specs.declared.buffer.category.hb_unicode_general_category_t.{hb_unicode_general_category_t}
 use Rattle.shapers_buffer.specs.declared.buffer.category.hb_unicode_general_category_t.TheVariants as gc
-use Rattle.shapers_buffer.specs.declared.buffer.glyph.hb_glyph_info_t.{hb_glyph_info_t}
+use Rattle.shapers_buffer.specs.Glyphs.{Glyph, Glyphs}
 use Rattle.shapers_buffer.specs.declared.buffer.tag.Script.{Script}
 use Rattle.shapers_base.specs.declared.plan.breaks.BreakFlags.TheVariants.{AsCode}
 use Rattle.shapers_base.specs.declared.plan.joining.hb_arabic_joining_type_t.{hb_arabic_joining_type_t}
@@ -24,11 +24,11 @@ abbrev letters : ℕ → hb_unicode_general_category_t
 letters c = gc.Lo
 
 -- glyphs of these characters, and glyphs in these forms
-abbrev text : List ℕ → List hb_glyph_info_t
-text cs = map (λ c. let g : hb_glyph_info_t = record default_glyph { glyph_id = c } in g) cs
+abbrev text : List ℕ → Glyphs
+text cs = map (λ c. let g : Glyph = record default_glyph { glyph_id = c } in g) cs
 
-abbrev in_forms : List ℕ → List hb_glyph_info_t
-in_forms fs = map (λ f. let g : hb_glyph_info_t = record default_glyph { auxiliary = f } in g) fs
+abbrev in_forms : List ℕ → Glyphs
+in_forms fs = map (λ f. let g : Glyph = record default_glyph { auxiliary = f } in g) fs
 
 abbrev buffer_of : List ℕ → Buffer
 buffer_of cs = let b : Buffer = record (new_buffer 9) { glyphs = text cs } in b
@@ -61,25 +61,25 @@ at : (i : ℕ) (xs ys : List ℕ) → xs ≡ ys → get_or xs i 0 ≡ get_or ys 
 at i xs ys e = ap (λ zs. get_or zs i 0) e
 
 row_other_before : SameBut {T = ℕ} None 0 1 (4 ∷ 5 ∷ 6 ∷ []) (1 ∷ 2 ∷ 3 ∷ []) (9 ∷ 2 ∷ 3 ∷ []) → ⊥
-row_other_before same = search (arith, eqb-false, at)
+row_other_before = search (arith, eqb-false, at)
 
 row_other_behind : SameBut {T = ℕ} None 0 1 (4 ∷ 5 ∷ 6 ∷ []) (1 ∷ 2 ∷ 3 ∷ []) (1 ∷ 2 ∷ 9 ∷ []) → ⊥
-row_other_behind same = search (arith, eqb-false, at)
+row_other_behind = search (arith, eqb-false, at)
 
 row_selector_of_none : SameBut {T = ℕ} None 0 0 (4 ∷ 0x180B ∷ []) (1 ∷ 2 ∷ []) (1 ∷ 9 ∷ []) → ⊥
-row_selector_of_none same = search (arith, eqb-false, at)
+row_selector_of_none = search (arith, eqb-false, at)
 
 row_later_selector : SameBut {T = ℕ} mong 0 0 (4 ∷ 5 ∷ 0x180B ∷ []) (1 ∷ 2 ∷ 3 ∷ []) (1 ∷ 2 ∷ 9 ∷ []) → ⊥
-row_later_selector same = search (arith, eqb-false, at)
+row_later_selector = search (arith, eqb-false, at)
 
 -- forms of glyphs
-form_at : (i : ℕ) (xs ys : List hb_glyph_info_t) → xs ≡ ys → get_or (map (λ g. g.auxiliary) xs) i 0
+form_at : (i : ℕ) (xs ys : Glyphs) → xs ≡ ys → get_or (map (λ g. g.auxiliary) xs) i 0
     ≡ get_or (map (λ g. g.auxiliary) ys) i 0
 form_at i xs ys e = cc
 
 -- before an edit: without a letter nothing may change, not even selectors; else no letter but the last, and no mark
 row_no_letter : StayBefore mong (T ∷ T ∷ []) (3 ∷ 0x180B ∷ []) (in_forms (7 ∷ 7 ∷ [])) (in_forms (7 ∷ 0 ∷ [])) → ⊥
-row_no_letter stay = search (arith, eqb-false, form_at)
+row_no_letter = search (arith, eqb-false, form_at)
 
 row_earlier_letter : StayBefore None (D ∷ D ∷ T ∷ []) (1 ∷ 1 ∷ 3 ∷ []) (in_forms (0 ∷ 0 ∷ 7 ∷ []))
     (in_forms (6 ∷ 0 ∷ 7 ∷ [])) → ⊥
@@ -97,10 +97,10 @@ row_selector_behind stay = eqb-false 7 0 refl (form_at 1 _ _ (stay.last [] (T �
 -- the first, and no mark
 row_no_letter_behind : StayBehind mong (T ∷ T ∷ []) (0x180B ∷ 3 ∷ []) (in_forms (7 ∷ 7 ∷ [])) (in_forms (0 ∷ 0 ∷ []))
     → ⊥
-row_no_letter_behind stay = search (arith, eqb-false, form_at)
+row_no_letter_behind = search (arith, eqb-false, form_at)
 
 row_opening : StayBehind None (T ∷ T ∷ []) (0x180B ∷ 3 ∷ []) (in_forms (7 ∷ 7 ∷ [])) (in_forms (0 ∷ 7 ∷ [])) → ⊥
-row_opening stay = search (arith, eqb-false, form_at)
+row_opening = search (arith, eqb-false, form_at)
 
 row_mark_before : StayBehind None (T ∷ D ∷ D ∷ []) (3 ∷ 1 ∷ 1 ∷ []) (in_forms (7 ∷ 0 ∷ 0 ∷ []))
     (in_forms (0 ∷ 0 ∷ 0 ∷ [])) → ⊥
@@ -117,11 +117,11 @@ row_later_letter stay = eqb-false 0 1 refl (form_at 0 _ _ (stay.first (T ∷ [])
 -- a text and its parts: two glyphs for the one at place 1
 row_part_before : StayNear None joining_of 1 2 2 (text (3 ∷ 1 ∷ 3 ∷ [])) (in_forms (7 ∷ 0 ∷ 7 ∷ []))
     (in_forms (0 ∷ 0 ∷ 0 ∷ 7 ∷ [])) → ⊥
-row_part_before near = search (arith, eqb-false, form_at)
+row_part_before = search (arith, eqb-false, form_at)
 
 row_part_behind : StayNear None joining_of 1 2 2 (text (3 ∷ 1 ∷ 3 ∷ [])) (in_forms (7 ∷ 0 ∷ 7 ∷ []))
     (in_forms (7 ∷ 0 ∷ 0 ∷ 0 ∷ [])) → ⊥
-row_part_behind near = search (arith, eqb-false, form_at)
+row_part_behind = search (arith, eqb-false, form_at)
 
 -- what an edit reaches: D for U between two D, and taken out again; marks don't shield
 abbrev forms_after : Option Script → Buffer → List ℕ

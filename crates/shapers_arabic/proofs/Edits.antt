@@ -13,8 +13,7 @@ use Rattle.shapers_arabic.proofs.JoiningLists.{forms-append, forms-contexts, len
 -- what is nearest behind a front with a letter
 same-front : (ts us vs after : List hb_arabic_joining_type_t) → is_some (nearest ts) ≡ true
     → nearest ((ts ++ us) ++ after) ≡ nearest ((ts ++ vs) ++ after)
-same-front ts us vs after e =
-    search (arith, nearest-of_front)
+same-front = search (arith, nearest-of_front)
 
 ahead : (before ts us vs after : List hb_arabic_joining_type_t) (i : ℕ) → i < length ts → is_shielded_behind ts i ≡ true
     → get_or (forms before (ts ++ us) after) i 0 ≡ get_or (forms before (ts ++ vs) after) i 0
@@ -30,15 +29,13 @@ edits_stay_behind seen others (T ∷ us) after zero h e = refl
 edits_stay_behind seen others (t ∷ us) after zero h e = absurd (false≢true e)
 edits_stay_behind seen others (T ∷ us) after (suc i) h e =
     edits_stay_behind (T ∷ seen) (T ∷ others) us after i (omega arith) e
-edits_stay_behind seen others (t ∷ us) after (suc i) h e =
-    search (arith, forms-contexts)
+edits_stay_behind seen others (t ∷ us) after (suc i) h e = search (arith, forms-contexts)
 
 -- the forms behind a place
 second : (before ts us after : List hb_arabic_joining_type_t) (x : hb_arabic_joining_type_t) (i : ℕ)
     → get_or (forms before (ts ++ x ∷ us) after) (length ts + suc i) 0
     ≡ get_or (forms (x ∷ (reverse ts ++ before)) us after) i 0
-second before ts us after x i =
-    search (arith, forms-append, length-forms, get_or-append-add)
+second = search (arith, forms-append, length-forms, get_or-append-add)
 
 pub edits-stay_near : EditsStayNear
-edits-stay_near before ts us after x y i = search (arith, ahead, second, edits_stay_behind)
+edits-stay_near = search (arith, ahead, second, edits_stay_behind)

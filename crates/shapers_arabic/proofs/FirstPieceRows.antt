@@ -7,7 +7,7 @@ use Rattle.shapers_buffer.specs.Buffer.{Buffer, new_buffer}
 use Rattle.shapers_buffer.specs.Glyph.{default_glyph}
 use Rattle.shapers_buffer.specs.declared.buffer.category.hb_unicode_general_category_t.{hb_unicode_general_category_t}
 use Rattle.shapers_buffer.specs.declared.buffer.category.hb_unicode_general_category_t.TheVariants.{Lo}
-use Rattle.shapers_buffer.specs.declared.buffer.glyph.hb_glyph_info_t.{hb_glyph_info_t}
+use Rattle.shapers_buffer.specs.Glyphs.{Glyph}
 use Rattle.shapers_buffer.specs.declared.buffer.tag.Script.{Script}
 use Rattle.shapers_base.specs.declared.plan.breaks.BreakFlags.{BreakFlags}
 use Rattle.shapers_base.specs.declared.plan.breaks.BreakFlags.TheVariants.{AsCode, Sound}
@@ -21,13 +21,8 @@ use Rattle.shapers_arabic.specs.JoinedText.{Text, buffer_joined}
 -- the types of these letters: 1 stands for D, 2 for R, and the selector 180C has the type of an Alaph
 abbrev type_of : ℕ → hb_arabic_joining_type_t
 type_of c =
-    if c == 1 then D
-    else if c == 2 then R
-    else if c == 0x715 then GroupDalathRish
-    else if c == 0x710 then GroupAlaph
-    else if c == 0x180B then T
-    else if c == 0x180C then GroupAlaph
-    else U
+    if c == 1 then D else if c == 2 then R else if c == 0x715 then GroupDalathRish else if c == 0x710 then GroupAlaph
+    else if c == 0x180B then T else if c == 0x180C then GroupAlaph else U
 
 abbrev letter : ℕ → hb_unicode_general_category_t
 letter c = Lo
@@ -36,8 +31,8 @@ letter c = Lo
 abbrev masks : List ℕ
 masks = 8 ∷ 16 ∷ 32 ∷ 64 ∷ 128 ∷ 256 ∷ 512 ∷ 0 ∷ []
 
-abbrev glyph : ℕ → ℕ → hb_glyph_info_t
-glyph c cluster = let g : hb_glyph_info_t =
+abbrev glyph : ℕ → ℕ → Glyph
+glyph c cluster = let g : Glyph =
     record default_glyph { glyph_id = c; cluster = cluster; unicode_props = record { 0 = 0x0007 } } in g
 
 -- two letters in clusters that rise, or that fall
@@ -84,7 +79,7 @@ not_clear_falling : IsClear (after AsCode None (falling 1 1)).glyphs 1 → ⊥
 not_clear_falling clear = cc
 
 not_first_falling : FirstKeepsAt AsCode masks None type_of letter (falling 1 1) (after AsCode None (falling 1 1)) 1 → ⊥
-not_first_falling kept = search arith
+not_first_falling = search arith
 
 -- 0715 0710 where clusters fall: flagged with Sound in the first glyph
 sound_falling : left Sound None (falling 0x715 0x710) ≡ 11 ∷ 64 ∷ []
@@ -119,7 +114,7 @@ transparent : SelectorsAreTransparent mong (text 0x180B T)
 transparent e = (λ s. cc, (λ s. refl, tt))
 
 not_transparent : SelectorsAreTransparent mong (text 0x180B GroupAlaph) → ⊥
-not_transparent all = search arith
+not_transparent = search arith
 
 letters_too : SelectorsAreTransparent mong (text 0x1821 D)
 letters_too e = (λ s. cc, (λ s. cc, tt))
@@ -129,24 +124,21 @@ syriac e = cc
 
 -- a fresh text: clusters rise or fall, and nothing has a flag, before or by a form's mask
 ones : (i j d : ℕ) → i < j → j < 2 → slice_index_or (1 ∷ 0 ∷ []) j d < slice_index_or (1 ∷ 0 ∷ []) i d
-ones zero zero d low high = absurd (omega arith)
 ones zero (suc zero) d low high = omega arith
-ones zero (suc (suc j)) d low high = absurd (omega arith)
-ones (suc i) j d low high = absurd (omega arith)
+ones _ _ d low high = absurd (omega arith)
 
 fresh : IsFresh masks (falling 1 1).glyphs
 fresh = record {
   single = inr ones;
   unflagged = (refl, (refl, tt));
-  unmasked =
-      search arith;
+  unmasked = search arith;
 }
 
 not_single : IsFresh masks (glyph 1 0 ∷ glyph 1 0 ∷ []) → ⊥
-not_single f = search arith
+not_single = search arith
 
 not_unflagged : IsFresh masks (record (glyph 1 0) { mask = 4 } ∷ []) → ⊥
 not_unflagged f = cc
 
 not_unmasked : IsFresh (8 ∷ 17 ∷ []) (glyph 1 0 ∷ []) → ⊥
-not_unmasked f = search arith
+not_unmasked = search arith

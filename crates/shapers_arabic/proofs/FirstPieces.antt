@@ -10,7 +10,7 @@ use Rattle.shapers_buffer.specs.Buffer.{Buffer}
 use Rattle.shapers_buffer.specs.Glyph.{plain, order_view}
 use Rattle.shapers_buffer.specs.declared.buffer.category.hb_unicode_general_category_t.{hb_unicode_general_category_t}
 use Rattle.shapers_buffer.specs.declared.buffer.flags.BufferFlags.{BufferFlags}
-use Rattle.shapers_buffer.specs.declared.buffer.glyph.hb_glyph_info_t.{hb_glyph_info_t}
+use Rattle.shapers_buffer.specs.Glyphs.{Glyphs}
 use Rattle.shapers_buffer.specs.declared.buffer.tag.Script.{Script}
 use Rattle.shapers_base.specs.declared.plan.breaks.BreakFlags.{BreakFlags}
 use Rattle.shapers_base.specs.declared.plan.breaks.BreakFlags.TheVariants.{AsCode, Sound}
@@ -37,7 +37,7 @@ joining-free Sound script text n free =
     ∙ free)).0
 
 -- the front of glyphs in their forms
-take-formed : (masks fs : List ℕ) (gs : List hb_glyph_info_t) (n : ℕ) → length fs ≡ length gs → n < length gs
+take-formed : (masks fs : List ℕ) (gs : Glyphs) (n : ℕ) → length fs ≡ length gs → n < length gs
     → take n (with_joining_forms masks fs gs) ≡ with_joining_forms masks (take n fs) (take n gs)
 take-formed masks fs gs n same within =
     let xs = take n fs in
@@ -55,7 +55,7 @@ take-formed masks fs gs n same within =
 
 -- the first half in the order view
 front-joined : (breaks : BreakFlags) (masks : List ℕ) (flags : BufferFlags) (script : Option Script) (text : Text)
-    (gs : List hb_glyph_info_t) (n : ℕ) → length text.characters ≡ length gs → length text.types ≡ length gs
+    (gs : Glyphs) (n : ℕ) → length text.characters ≡ length gs → length text.types ≡ length gs
     → n < length gs → IsFree (flag_calls breaks script text) n
     → order_view (take n (joined_glyphs breaks masks flags script text gs))
     ≡ order_view (joined_glyphs breaks masks flags script (first_half n [] text) (take n gs))
@@ -73,7 +73,7 @@ front-joined breaks masks flags script text gs n characters long within free =
     )
 
 -- and the forms in it
-front-forms : (masks : List ℕ) (flags : BufferFlags) (script : Option Script) (text : Text) (gs : List hb_glyph_info_t)
+front-forms : (masks : List ℕ) (flags : BufferFlags) (script : Option Script) (text : Text) (gs : Glyphs)
     (n : ℕ) → length text.characters ≡ length gs → length text.types ≡ length gs → n < length gs
     → order_view (take n (joined_glyphs AsCode masks flags script text gs))
     ≡ order_view (joined_glyphs AsCode masks flags script (first_half n [] text) (take n gs))
@@ -95,8 +95,7 @@ front-is : (breaks : BreakFlags) (masks : List ℕ) (script : Option Script) (jo
     → order_view (buffer_joined breaks masks script joining general (front_at n b)).glyphs
     ≡ order_view (joined_glyphs breaks masks b.flags script (first_half n [] (text_of joining general b))
     (take n b.glyphs))
-front-is breaks masks script joining general n b =
-    search (arith, text-front)
+front-is = search (arith, text-front)
 
 first-kept_where : (breaks : BreakFlags) (masks : List ℕ) (script : Option Script) (joining : ℕ
     → hb_arabic_joining_type_t) (general : ℕ → hb_unicode_general_category_t) (old new : Buffer) (n : ℕ)
@@ -135,5 +134,4 @@ pub first-as_flagged : (breaks : BreakFlags) (masks : List ℕ) (script : Option
     → hb_arabic_joining_type_t) (general : ℕ → hb_unicode_general_category_t) (old new : Buffer)
     → new ≡ buffer_joined breaks masks script joining general old
     → FirstKeepsAsFlagged breaks masks script joining general old new
-first-as_flagged breaks masks script joining general old new is n pos within =
-    search (arith, first-kept_where, clear-kept)
+first-as_flagged = search (arith, first-kept_where, clear-kept)

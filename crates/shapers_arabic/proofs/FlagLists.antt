@@ -14,8 +14,7 @@ use Rattle.shapers_arabic.proofs.JoiningLists.{transparent}
 pub letter-transparent : (ts us : List hb_arabic_joining_type_t) → nearest ts ≡ None
     → nearest_letter (ts ++ us) ≡ nearest_letter us
 letter-transparent [] us e = refl
-letter-transparent (t ∷ ts) us e =
-    let (first, rest) = transparent t ts e in cc (letter-transparent ts us rest)
+letter-transparent (t ∷ ts) us e = let (first, rest) = transparent t ts e in cc (letter-transparent ts us rest)
 
 pub no_letter : (ts : List hb_arabic_joining_type_t) → nearest ts ≡ None → nearest_letter ts ≡ None
 no_letter ts e = cc (append-nil ts, letter-transparent ts [] e)
@@ -31,14 +30,7 @@ flags_along-append context passed (x ∷ xs) ys =
 pub flags-letter : (context ts : List hb_arabic_joining_type_t) (t : hb_arabic_joining_type_t) (end : ℕ)
     → is_transparent t ≡ false → end ≡ suc (length ts) → flags_along context [] (ts ++ t ∷ []) ≡ flags_along context
     [] ts ++ letter_flags context (nearest_letter (reverse ts)) t end
-flags-letter context ts t end letter at =
-    search (arith, flags_along-append, append-nil, length-reverse)
-
--- nothing behind the text flags nothing
-pub end-nothing : (context : List hb_arabic_joining_type_t) (k : Option Letter) (end : ℕ) → end_flags context k None end
-    ≡ []
-end-nothing context None end = refl
-end-nothing context (Some k) end = refl
+flags-letter = search (arith, flags_along-append, append-nil, length-reverse)
 
 -- each call's stretch begins before it ends
 abbrev Before : Option Letter → ℕ → Type 0
@@ -54,22 +46,17 @@ letter-before (t ∷ ts) n h =
 
 one_or-in_order : (b c : Bool) (s e : ℕ) → s ≤ e
     → AllByRecursion InOrder (cond b (SafeToInsertTatweel s e ∷ []) (cond c (UnsafeToConcat s e ∷ []) []))
-one_or-in_order true c s e h = (h, tt)
-one_or-in_order false true s e h = (h, tt)
 one_or-in_order false false s e h = tt
+one_or-in_order _ _ s e h = (h, tt)
 
 letter-in_order : (context : List hb_arabic_joining_type_t) (k : Option Letter) (t : hb_arabic_joining_type_t) (end : ℕ)
     → Before k end → AllByRecursion InOrder (letter_flags context k t end)
-letter-in_order context None t end h = search (arith, one_or-in_order)
-letter-in_order context (Some k) t end h =
-    search (arith, one_or-in_order)
+letter-in_order context _ = search (arith, one_or-in_order)
 
 end-in_order : (context : List hb_arabic_joining_type_t) (k : Option Letter) (o : Option hb_arabic_joining_type_t)
     (end : ℕ) → Before k end → AllByRecursion InOrder (end_flags context k o end)
-end-in_order context None o end h = tt
-end-in_order context (Some k) None end h = tt
-end-in_order context (Some k) (Some t) end h =
-    search (arith, one_or-in_order)
+end-in_order context (Some k) (Some t) end h = search (arith, one_or-in_order)
+end-in_order context _ _ end h = tt
 
 along-in_order : (context passed ts : List hb_arabic_joining_type_t)
     → AllByRecursion InOrder (flags_along context passed ts)
@@ -80,8 +67,7 @@ along-in_order context passed (t ∷ ts) =
     let here : AllByRecursion InOrder (cond (is_transparent t) [] calls) =
     elim (is_transparent t) as (λ b. AllByRecursion InOrder (cond b [] calls)) [
       | true ↦ tt
-      | false ↦ letter-in_order context (nearest_letter passed) t end
-          (letter-before passed end (omega arith))
+      | false ↦ letter-in_order context (nearest_letter passed) t end (letter-before passed end (omega arith))
     ] in
     search (arith, all-append, along-in_order context (t ∷ passed) ts)
 

@@ -5,7 +5,7 @@ use Rattle.shapers_buffer.specs.Buffer.{Buffer, new_buffer}
 use Rattle.shapers_buffer.specs.Glyph.{default_glyph}
 use Rattle.shapers_buffer.specs.GlyphFlags.{FlagCall, UnsafeToBreak, UnsafeToConcat, SafeToInsertTatweel}
 use Rattle.shapers_buffer.specs.declared.buffer.category.hb_unicode_general_category_t.TheVariants.{Lo}
-use Rattle.shapers_buffer.specs.declared.buffer.glyph.hb_glyph_info_t.{hb_glyph_info_t}
+use Rattle.shapers_buffer.specs.Glyphs.{Glyph}
 use Rattle.shapers_base.specs.declared.plan.breaks.BreakFlags.TheVariants.{AsCode}
 use Rattle.shapers_base.specs.declared.plan.joining.hb_arabic_joining_type_t.{hb_arabic_joining_type_t}
 use Rattle.shapers_base.specs.declared.plan.joining.hb_arabic_joining_type_t.TheVariants.{U, L, R, D, GroupAlaph, GroupDalathRish, T}
@@ -178,7 +178,7 @@ marks_behind : joining_flags [] (L ∷ T ∷ []) (T ∷ T ∷ []) ≡ []
 marks_behind = refl
 
 -- a glyph in a form: all else stays, and its mask gains the form's
-abbrev full : hb_glyph_info_t
+abbrev full : Glyph
 full = record {
   glyph_id = 0x916;
   cluster = 5;
@@ -201,7 +201,7 @@ joining_of c = if c == 1 then D else if c == 2 then R else if c == 3 then L else
 abbrev text_with : ℕ → List ℕ → List (ℕ × ℕ) → List ℕ → Buffer
 text_with flags before gs after = let b : Buffer =
     record (new_buffer 9) {
-      glyphs = map (λ p. let g : hb_glyph_info_t = record default_glyph { glyph_id = p.0; cluster = p.1 } in g) gs;
+      glyphs = map (λ p. let g : Glyph = record default_glyph { glyph_id = p.0; cluster = p.1 } in g) gs;
       before = before;
       after = after;
       flags = record { 0 = flags };

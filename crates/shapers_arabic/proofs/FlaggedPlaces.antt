@@ -3,7 +3,7 @@ use Rattle.std.proofs.Common.{◌≡◌, ℕ, suc, ◌+◌, ◌<◌, ◌≤◌, 
 use Rattle.std.proofs.lemmas.Bool.{lt-ltb, le-ltb, and_from, and_left, and_right}
 use Rattle.std.proofs.lemmas.List.{append-nil, length-reverse, reverse-append}
 use Rattle.std.proofs.lemmas.List.Folds.{list_any-append}
-use Rattle.shapers_buffer.specs.GlyphFlags.{UnsafeToBreak, UnsafeToConcat, SafeToInsertTatweel}
+use Rattle.shapers_buffer.specs.GlyphFlags.{UnsafeToConcat, SafeToInsertTatweel}
 use Rattle.shapers_base.specs.declared.plan.joining.hb_arabic_joining_type_t.{hb_arabic_joining_type_t}
 use Rattle.shapers_base.specs.declared.plan.joining.hb_arabic_joining_type_t.TheVariants.{T}
 use Rattle.shapers_arabic.specs.Joining.{is_transparent, nearest, joins_back, act}
@@ -21,13 +21,13 @@ pub or_with : (x y z : Bool) → x ≡ z → y ≡ false → (x || y) ≡ z
 or_with x y z e f = cc (or_none z)
 
 pub inside : (s p e : ℕ) → s < p → p < e → (ltb s p && ltb p e) ≡ true
-inside s p e h i = search (arith, and_from, lt-ltb)
+inside = search (arith, and_from, lt-ltb)
 
 pub past : (s p e : ℕ) → e ≤ p → (ltb s p && ltb p e) ≡ false
-past s p e h = search (arith, and_right, le-ltb)
+past = search (arith, and_right, le-ltb)
 
 pub ahead : (s p e : ℕ) → p ≤ s → (ltb s p && ltb p e) ≡ false
-ahead s p e h = search (arith, and_left, le-ltb)
+ahead = search (arith, and_left, le-ltb)
 
 pub and_true : (b x : Bool) → x ≡ true → (b && x) ≡ b
 and_true true x e = e
@@ -43,11 +43,6 @@ one_held : (b c : Bool) (s e p : ℕ)
 one_held true c s e p = or_none (ltb s p && ltb p e)
 one_held false true s e p = refl
 one_held false false s e p = refl
-
-pub break_held : (b : Bool) (s e p : ℕ) → held_by_calls p (cond b (UnsafeToBreak s e ∷ []) [])
-    ≡ (b && (ltb s p && ltb p e))
-break_held true s e p = or_none (ltb s p && ltb p e)
-break_held false s e p = refl
 
 -- a letter that stands before place p, or from it on
 abbrev pub StandsBefore : Option Letter → ℕ → Type 0
@@ -106,11 +101,10 @@ end-from context (Some k) (Some t) e p h =
 
 end-here : (context : List hb_arabic_joining_type_t) (o : Option Letter) (t : Option hb_arabic_joining_type_t) (e p : ℕ)
     → StandsBefore o p → p < e → held_by_calls p (end_flags context o t e) ≡ changed context o t
-end-here context None t e p h i = refl
-end-here context (Some k) None e p h i = refl
 end-here context (Some k) (Some t) e p h i =
     one_held (changes_form context k t) (can_change context k) (length k.before) e p
     ∙ and_true (changes_form context k t) _ (search (arith, inside))
+end-here context _ _ e p h i = refl
 
 -- the calls along a text: before place p, behind its next letter, and there
 along-past : (context passed ts : List hb_arabic_joining_type_t) (p : ℕ) → length passed + length ts ≤ p
@@ -132,12 +126,11 @@ along-from context passed (t ∷ ts) p h f =
 
 pub turned : (t : hb_arabic_joining_type_t) (ts passed : List hb_arabic_joining_type_t)
     → reverse (t ∷ ts) ++ passed ≡ reverse ts ++ (t ∷ passed)
-turned t ts passed = search (arith, reverse-append (t ∷ []) ts, append_assoc)
+turned t ts = search (arith, reverse-append (t ∷ []) ts, append_assoc)
 
 -- with those at the text's end
 along-here : (context passed ts after : List hb_arabic_joining_type_t) (e p : ℕ) → p ≤ length passed → p < e
-    → StandsBefore (nearest_letter passed) p
-    → (held_by_calls p (flags_along context passed ts)
+    → StandsBefore (nearest_letter passed) p → (held_by_calls p (flags_along context passed ts)
     || held_by_calls p (end_flags context (nearest_letter (reverse ts ++ passed)) (nearest after) e))
     ≡ changed context (nearest_letter passed) (nearest (ts ++ after))
 along-here context passed [] after e p h i b = search (arith, end-here)
@@ -185,8 +178,7 @@ takes None form = is_taken form
 takes (Some k) form = is_second_or_third form
 
 form-past : (o : Option Letter) (form e p : ℕ) → e ≤ p → held_by_calls p (form_flags o form e) ≡ false
-form-past None form e p h = search arith
-form-past (Some k) form e p h = search arith
+form-past _ = search arith
 
 form-from : (o : Option Letter) (form e p : ℕ) → StandsFrom o p → held_by_calls p (form_flags o form e) ≡ false
 form-from None form e p h = absurd h
@@ -194,8 +186,7 @@ form-from (Some k) form e p h = search arith
 
 form-here : (o : Option Letter) (form e p : ℕ) → 0 < p → StandsBefore o p → p < e
     → held_by_calls p (form_flags o form e) ≡ takes o form
-form-here None form e p z h i = search arith
-form-here (Some k) form e p z h i = search arith
+form-here _ = search arith
 
 forms-past : (context passed ts after : List hb_arabic_joining_type_t) (p : ℕ) → length passed + length ts ≤ p
     → held_by_calls p (form_flags_along context passed ts after) ≡ false

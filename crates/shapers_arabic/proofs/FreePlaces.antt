@@ -20,7 +20,7 @@ use Rattle.shapers_arabic.proofs.OwnForms.{Silent, silent-halves, first-own, hal
 
 -- the types of a text in two halves
 types-at : (n : ℕ) (text : Text) → n < length text.types → length (take n text.types) ≡ n
-types-at n text within = search (arith, length-take-le)
+types-at = search (arith, length-take-le)
 
 -- the forms of the first half where it sees what follows
 seen-front : (script : Option Script) (text : Text) (n : ℕ) → length text.characters ≡ length text.types
@@ -81,11 +81,9 @@ free-halves script text n same pos within silent kept =
     ap (λ xs. forms text.before xs text.after) (sym types) ∙ forms-append text.before ts us text.after in
     let W : List ℕ → List ℕ → List ℕ = λ xs ys. cond b (selected [] (zip xs ys)) ys in
     let own = halves-own b cs ds text.before ts us text.after (us ++ text.after) (reverse ts ++ text.before) (omega
-    arith) (at ∙ sym c_at)
-    (omega (arith, length-drop n text.types, length-drop n text.characters))
+    arith) (at ∙ sym c_at) (omega (arith, length-drop n text.types, length-drop n text.characters))
     (λ e. subst (λ xs. Silent xs (ts ++ us)) (sym chars) (subst (Silent text.characters) (sym types) (silent e))) (ap
-    (W (cs ++ ds)) (sym by_rule)
-    ∙ ap (λ xs. W xs rule) chars ∙ kept) in
+    (W (cs ++ ds)) (sym by_rule) ∙ ap (λ xs. W xs rule) chars ∙ kept) in
     let first = sound_flags text.before text.types text.after in
     let free_first = subst (λ m. IsFree first m) at (subst
     (λ xs. IsFree (sound_flags text.before xs text.after) (length ts)) types ((exact text.before ts us text.after (omega arith)

@@ -5,7 +5,7 @@ use Rattle.shapers_buffer.specs.Buffer.{Buffer, flags_concat, flags_tatweel, has
 use Rattle.shapers_buffer.specs.GlyphFlags.{flags_called}
 use Rattle.shapers_buffer.specs.Properties.{general_category}
 use Rattle.shapers_buffer.specs.declared.buffer.category.hb_unicode_general_category_t.{hb_unicode_general_category_t}
-use Rattle.shapers_buffer.specs.declared.buffer.glyph.hb_glyph_info_t.{hb_glyph_info_t}
+use Rattle.shapers_buffer.specs.Glyphs.{Glyphs}
 use Rattle.shapers_buffer.specs.declared.buffer.tag.Script.{Script}
 use Rattle.shapers_base.specs.declared.plan.joining.hb_arabic_joining_type_t.{hb_arabic_joining_type_t}
 use Rattle.shapers_clusters.specs.FlagLaw.{OnlyFlagsAdded}
@@ -17,17 +17,16 @@ use Rattle.shapers_base.specs.declared.plan.breaks.BreakFlags.{BreakFlags}
 use Rattle.shapers_arabic.proofs.SoundOrder.{calls-in_order}
 use Rattle.shapers_arabic.proofs.JoiningLaws.{length-forms_of, text_long}
 
-formed_added : (masks fs : List ℕ) (gs : List hb_glyph_info_t) → length fs ≡ length gs
+formed_added : (masks fs : List ℕ) (gs : Glyphs) → length fs ≡ length gs
     → OnlyFlagsAdded gs (with_joining_forms masks fs gs)
 formed_added masks [] [] long = tt
-formed_added masks [] (g ∷ gs) long = absurd (omega arith)
-formed_added masks (f ∷ fs) [] long = absurd (omega arith)
 formed_added masks (f ∷ fs) (g ∷ gs) long = search (arith, keeps-with_bits, formed_added masks fs gs (omega arith))
+formed_added masks _ _ long = absurd (omega arith)
 
 pub joined_added : (breaks : BreakFlags) (masks : List ℕ) (script : Option Script) (joining : ℕ
     → hb_arabic_joining_type_t) (general : ℕ → hb_unicode_general_category_t) (old new : Buffer)
     → new ≡ buffer_joined breaks masks script joining general old → OnlyFlagsAdded old.glyphs new.glyphs
-joined_added breaks masks script joining general old new is =
+joined_added breaks masks script joining general old =
     let text = text_of joining general old in
     let fs = forms_of script text in
     let calls = flag_calls breaks script text in

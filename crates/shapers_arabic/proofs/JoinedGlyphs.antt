@@ -7,7 +7,7 @@ use Rattle.std.proofs.lemmas.Slice.Zip.{firsts-zip, seconds-zip}
 use Rattle.shapers_buffer.specs.Buffer.{has_flag}
 use Rattle.shapers_buffer.specs.GlyphFlags.{FlagCall, flags_called}
 use Rattle.shapers_buffer.specs.declared.buffer.flags.BufferFlags.{BufferFlags}
-use Rattle.shapers_buffer.specs.declared.buffer.glyph.hb_glyph_info_t.{hb_glyph_info_t}
+use Rattle.shapers_buffer.specs.Glyphs.{Glyph, Glyphs}
 use Rattle.shapers_buffer.specs.declared.buffer.tag.Script.{Script}
 use Rattle.shapers_buffer.proofs.MaskBits.{or_swap}
 use Rattle.shapers_clusters.specs.Flags.{InOrder}
@@ -47,49 +47,46 @@ alaph-below before on false = alaph_after-below before
 
 act-below : (before : Option hb_arabic_joining_type_t) (own : hb_arabic_joining_type_t)
     (after : Option hb_arabic_joining_type_t) → act before own after < 8
-act-below before L after = search (arith, form-below)
-act-below before R after = search (arith, form-below)
-act-below before D after = search (arith, form-below)
-act-below before GroupDalathRish after = search (arith, form-below)
-act-below before GroupAlaph after = search (arith, alaph-below)
-act-below before _ after = omega arith
+act-below before L = search (arith, form-below)
+act-below before R = search (arith, form-below)
+act-below before D = search (arith, form-below)
+act-below before GroupDalathRish = search (arith, form-below)
+act-below before GroupAlaph = search (arith, alaph-below)
+act-below before _ = omega arith
 
 pub forms-below : (before ts after : List hb_arabic_joining_type_t)
     → AllByRecursion (λ a. a < 8) (forms before ts after)
 forms-below before [] after = tt
-forms-below before (t ∷ ts) after =
-    search (arith, act-below, forms-below (t ∷ before) ts after)
+forms-below before (t ∷ ts) after = search (arith, act-below, forms-below (t ∷ before) ts after)
 
-masks-from_forms : (gs : List hb_glyph_info_t) → AllByRecursion (λ a. a < 8) (map (λ g. g.auxiliary) gs) → HaveMasks gs
+masks-from_forms : (gs : Glyphs) → AllByRecursion (λ a. a < 8) (map (λ g. g.auxiliary) gs) → HaveMasks gs
 masks-from_forms [] all = tt
 masks-from_forms (g ∷ gs) all = (all.0, masks-from_forms gs all.1)
 
-pub have-masks : (gs : List hb_glyph_info_t) (before ts after : List hb_arabic_joining_type_t)
+pub have-masks : (gs : Glyphs) (before ts after : List hb_arabic_joining_type_t)
     → map (λ g. g.auxiliary) gs ≡ forms before ts after → HaveMasks gs
-have-masks gs before ts after e =
-    search (arith, masks-from_forms, forms-below)
+have-masks = search (arith, masks-from_forms, forms-below)
 
 copied-below : (b : Bool) (x a : ℕ) → x < 8 → a < 8 → cond b x a < 8
 copied-below true x a l h = l
 copied-below false x a l h = h
 
-copied-masks : (x : ℕ) (gs : List hb_glyph_info_t) → x < 8 → HaveMasks gs → HaveMasks (with_copied (Some x) gs)
+copied-masks : (x : ℕ) (gs : Glyphs) → x < 8 → HaveMasks gs → HaveMasks (with_copied (Some x) gs)
 copied-masks x [] h all = tt
 copied-masks x (g ∷ gs) h all =
     let first = copied-below (is_selector g.glyph_id) x g.auxiliary h all.0 in
     (first, copied-masks (copied (Some x) g) gs first all.1)
 
-pub masks-copied : (gs : List hb_glyph_info_t) → HaveMasks gs → HaveMasks (with_copied None gs)
+pub masks-copied : (gs : Glyphs) → HaveMasks gs → HaveMasks (with_copied None gs)
 masks-copied [] all = tt
 masks-copied (g ∷ gs) all = search (arith, copied-masks)
 
 -- copying only gives forms, and gives those of the selector rule
-unformed-copied : (previous : Option ℕ) (gs : List hb_glyph_info_t) → map unformed (with_copied previous gs)
-    ≡ map unformed gs
+unformed-copied : (previous : Option ℕ) (gs : Glyphs) → map unformed (with_copied previous gs) ≡ map unformed gs
 unformed-copied previous [] = refl
 unformed-copied previous (g ∷ gs) = cc (unformed-copied (Some (copied previous g)) gs)
 
-copied-forms : (x : ℕ) (before : List (ℕ × ℕ)) (gs : List hb_glyph_info_t) → ((own : ℕ) → form_behind before own ≡ x)
+copied-forms : (x : ℕ) (before : List (ℕ × ℕ)) (gs : Glyphs) → ((own : ℕ) → form_behind before own ≡ x)
     → map (λ g. g.auxiliary) (with_copied (Some x) gs)
     ≡ selected before (zip (map (λ g. g.glyph_id) gs) (map (λ g. g.auxiliary) gs))
 copied-forms x before [] e = refl
@@ -101,32 +98,29 @@ copied-forms x before (g ∷ gs) e =
           (λ k. ap (λ y. cond (is_selector g.glyph_id) y g.auxiliary) (e g.auxiliary)),
     )
 
-pub forms-copied : (gs : List hb_glyph_info_t) → map (λ g. g.auxiliary) (with_copied None gs) ≡ selected
+pub forms-copied : (gs : Glyphs) → map (λ g. g.auxiliary) (with_copied None gs) ≡ selected
     [] (zip (map (λ g. g.glyph_id) gs) (map (λ g. g.auxiliary) gs))
 forms-copied [] = refl
-forms-copied (g ∷ gs) =
-    search (arith, copied-forms)
+forms-copied (g ∷ gs) = search (arith, copied-forms)
 
 -- glyphs are told by their forms and the rest of them
-abbrev put_together : List ℕ → List hb_glyph_info_t → List hb_glyph_info_t
-put_together fs gs = map (λ (p : ℕ × hb_glyph_info_t). let g : hb_glyph_info_t = record p.1 { auxiliary = p.0 } in g)
-    (zip fs gs)
+abbrev put_together : List ℕ → Glyphs → Glyphs
+put_together fs gs = map (λ (p : ℕ × Glyph). let g : Glyph = record p.1 { auxiliary = p.0 } in g) (zip fs gs)
 
-together-again : (gs : List hb_glyph_info_t) → put_together (map (λ g. g.auxiliary) gs) (map unformed gs) ≡ gs
+together-again : (gs : Glyphs) → put_together (map (λ g. g.auxiliary) gs) (map unformed gs) ≡ gs
 together-again [] = refl
 together-again (g ∷ gs) = cc (together-again gs)
 
-glyphs_same : (gs hs : List hb_glyph_info_t) → map (λ g. g.auxiliary) gs ≡ map (λ g. g.auxiliary) hs
+glyphs_same : (gs hs : Glyphs) → map (λ g. g.auxiliary) gs ≡ map (λ g. g.auxiliary) hs
     → map unformed gs ≡ map unformed hs → gs ≡ hs
 glyphs_same gs hs f u = cc (together-again gs, together-again hs)
 
-forms-together : (fs : List ℕ) (gs : List hb_glyph_info_t) → length gs ≡ length fs
+forms-together : (fs : List ℕ) (gs : Glyphs) → length gs ≡ length fs
     → map (λ g. g.auxiliary) (put_together fs gs) ≡ fs
-forms-together fs gs long =
-    search (arith, map-map, firsts-zip)
+forms-together = search (arith, map-map, firsts-zip)
 
 -- glyphs with these forms, after these flag calls, with the masks of their forms
-glyphs_formed : (masks fs : List ℕ) (flags : BufferFlags) (calls : List FlagCall) (gs hs : List hb_glyph_info_t)
+glyphs_formed : (masks fs : List ℕ) (flags : BufferFlags) (calls : List FlagCall) (gs hs : Glyphs)
     → length gs ≡ length fs → AllByRecursion InOrder calls → map (λ g. g.auxiliary) hs ≡ fs
     → FlaggedBy flags calls gs hs → map (with_numbered_mask masks) hs
     ≡ flags_called (has_flag 0x40 flags) (has_flag 0x80 flags) calls (with_joining_forms masks fs gs)
@@ -146,49 +140,44 @@ glyphs_formed masks fs flags calls gs hs long ordered f u =
     )
 
 -- the text of glyphs between two contexts
-abbrev pub text_between : List hb_arabic_joining_type_t → (ℕ → hb_arabic_joining_type_t) → List hb_glyph_info_t
+abbrev pub text_between : List hb_arabic_joining_type_t → (ℕ → hb_arabic_joining_type_t) → Glyphs
     → List hb_arabic_joining_type_t → Text
 text_between front joining gs behind =
     record { before = front; characters = map (λ g. g.glyph_id) gs; types = stored_types joining gs; after = behind }
 
 -- the flags that the choice adds, after joining's own
-called-by : (flags : BufferFlags) (xs ys : List FlagCall) (gs hs ks : List hb_glyph_info_t) → FlaggedBy flags xs gs hs
+called-by : (flags : BufferFlags) (xs ys : List FlagCall) (gs hs ks : Glyphs) → FlaggedBy flags xs gs hs
     → Called ys hs ks → FlaggedBy flags (xs ++ ys) gs ks
-called-by flags xs ys gs hs ks a b =
-    search (arith, flagged-again, flags_called-through)
+called-by = search (arith, flagged-again, flags_called-through)
 
-added-by : (breaks : BreakFlags) (script : Option Script) (text : Text) (hs : List hb_glyph_info_t)
+added-by : (breaks : BreakFlags) (script : Option Script) (text : Text) (hs : Glyphs)
     → map (λ g. g.glyph_id) hs ≡ text.characters → map (λ g. g.auxiliary) hs ≡ forms text.before text.types text.after
     → joining_flags text.before text.types text.after ++ calls_added breaks script hs ≡ flag_calls breaks script text
-added-by AsCode script text hs c f = search (arith, append-nil)
-added-by Sound script text hs c f =
-    search (arith, added-at)
+added-by AsCode = search (arith, append-nil)
+added-by Sound = search (arith, added-at)
 
-added-in_order : (breaks : BreakFlags) (script : Option Script) (text : Text) (hs : List hb_glyph_info_t)
+added-in_order : (breaks : BreakFlags) (script : Option Script) (text : Text) (hs : Glyphs)
     → map (λ g. g.glyph_id) hs ≡ text.characters → map (λ g. g.auxiliary) hs ≡ forms text.before text.types text.after
     → AllByRecursion InOrder (calls_added breaks script hs)
 added-in_order AsCode script text hs c f = tt
 added-in_order Sound script text hs c f = search (arith, added-at, text-in_order script text)
 
 -- which leave the forms
-pub forms-kept : (breaks : BreakFlags) (script : Option Script) (text : Text) (hs ms : List hb_glyph_info_t)
+pub forms-kept : (breaks : BreakFlags) (script : Option Script) (text : Text) (hs ms : Glyphs)
     → map (λ g. g.glyph_id) hs ≡ text.characters → map (λ g. g.auxiliary) hs ≡ forms text.before text.types text.after
     → Called (calls_added breaks script hs) hs ms → map (λ g. g.auxiliary) ms ≡ forms text.before text.types text.after
-forms-kept breaks script text hs ms c f added =
-    cc (
-      added false false,
-      map-flags_called (λ g. g.auxiliary) (λ bits g low. refl) false false (calls_added breaks script hs) hs
-          (added-in_order breaks script text hs c f),
-    )
+forms-kept breaks script text hs ms c f added = cc (
+  added false false,
+  map-flags_called (λ g. g.auxiliary) (λ bits g low. refl) false false (calls_added breaks script hs) hs
+      (added-in_order breaks script text hs c f),
+)
 
-pub joined-characters : (flags : BufferFlags) (front types behind : List hb_arabic_joining_type_t)
-    (gs hs : List hb_glyph_info_t) → FlaggedBy flags (joining_flags front types behind) gs hs
-    → map (λ g. g.glyph_id) hs ≡ map (λ g. g.glyph_id) gs
-joined-characters flags front types behind gs hs flagged =
-    search (arith, map-same_text, same-text, joining-in_order)
+pub joined-characters : (flags : BufferFlags) (front types behind : List hb_arabic_joining_type_t) (gs hs : Glyphs)
+    → FlaggedBy flags (joining_flags front types behind) gs hs → map (λ g. g.glyph_id) hs ≡ map (λ g. g.glyph_id) gs
+joined-characters = search (arith, map-same_text, same-text, joining-in_order)
 
 pub joins-all : (breaks : BreakFlags) (masks : List ℕ) (flags : BufferFlags) (script : Option Script) (joining : ℕ
-    → hb_arabic_joining_type_t) (before after : Option hb_arabic_joining_type_t) (gs hs ms ks : List hb_glyph_info_t)
+    → hb_arabic_joining_type_t) (before after : Option hb_arabic_joining_type_t) (gs hs ms ks : Glyphs)
     → JoinsTo flags joining before after gs hs → Called (calls_added breaks script hs) hs ms
     → ks ≡ map (with_numbered_mask masks) (cond (is_mongolian script) (with_copied None ms) ms)
     → JoinsAll breaks masks flags script joining before after gs ks
@@ -212,9 +201,7 @@ joins-all breaks masks flags script joining before after gs hs ms ks joins added
     search (arith, glyphs_formed, length-map, unformed-copied, None, forms-copied, calls-in_order)
 
 -- the auxiliary bytes are the forms
-pub forms-joined : (masks fs : List ℕ) (flags : BufferFlags) (calls : List FlagCall) (gs : List hb_glyph_info_t)
-    → length gs ≡ length fs → AllByRecursion InOrder calls
-    → map (λ g. g.auxiliary)
+pub forms-joined : (masks fs : List ℕ) (flags : BufferFlags) (calls : List FlagCall) (gs : Glyphs)
+    → length gs ≡ length fs → AllByRecursion InOrder calls → map (λ g. g.auxiliary)
     (flags_called (has_flag 0x40 flags) (has_flag 0x80 flags) calls (with_joining_forms masks fs gs)) ≡ fs
-forms-joined masks fs flags calls gs long ordered =
-    search (arith, map-flags_called, map-map, firsts-zip)
+forms-joined = search (arith, map-flags_called, map-map, firsts-zip)

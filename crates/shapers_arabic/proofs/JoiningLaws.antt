@@ -8,7 +8,7 @@ use Rattle.shapers_buffer.proofs.MappedLists.{map-reverse}
 use Rattle.shapers_buffer.specs.Buffer.{Buffer}
 use Rattle.shapers_buffer.specs.Properties.{general_category}
 use Rattle.shapers_buffer.specs.declared.buffer.category.hb_unicode_general_category_t.{hb_unicode_general_category_t}
-use Rattle.shapers_buffer.specs.declared.buffer.glyph.hb_glyph_info_t.{hb_glyph_info_t}
+use Rattle.shapers_buffer.specs.Glyphs.{Glyph, Glyphs}
 use Rattle.shapers_buffer.specs.declared.buffer.tag.Script.{Script}
 use Rattle.shapers_base.specs.declared.plan.joining.hb_arabic_joining_type_t.{hb_arabic_joining_type_t}
 use Rattle.shapers_arabic.specs.Joining.{resolved, nearest, is_transparent, forms, is_selector, form_behind, selected}
@@ -23,8 +23,6 @@ use Rattle.shapers_arabic.proofs.JoiningLists.{forms-contexts, length-forms, for
 pub selected-opening : (before others : List (ℕ × ℕ)) (cs fs : List ℕ)
     → drop (prefix_len is_selector cs) (selected before (zip cs fs))
     ≡ drop (prefix_len is_selector cs) (selected others (zip cs fs))
-selected-opening before others [] fs = refl
-selected-opening before others (c ∷ cs) [] = refl
 selected-opening before others (c ∷ cs) (f ∷ fs) =
     let n = prefix_len is_selector cs in
     let places = zip cs fs in
@@ -40,6 +38,7 @@ selected-opening before others (c ∷ cs) (f ∷ fs) =
           (selected-same ((c, f) ∷ before) ((c, f) ∷ others) places (λ own. ap (λ b. cond b (form_behind before f) f) e
           ∙ sym (ap (λ b. cond b (form_behind others f) f) e)))
     ] refl
+selected-opening before others _ _ = refl
 
 -- forms that fall into two parts, by the rule or with the selectors
 pub record InParts (b : Bool) (n : ℕ) (characters whole cs fs ds gs : List ℕ) : Type 0 where
@@ -49,8 +48,7 @@ pub record InParts (b : Bool) (n : ℕ) (characters whole cs fs ds gs : List ℕ
 
 pub in-parts : (b : Bool) (n : ℕ) (characters whole cs fs ds gs : List ℕ) → characters ≡ cs ++ ds → whole ≡ fs ++ gs
     → length cs ≡ n → length fs ≡ n → InParts b n characters whole cs fs ds gs
-in-parts false n characters whole cs fs ds gs c w l m =
-    search (arith, take_at, drop_at)
+in-parts false n characters whole cs fs ds gs c w l m = search (arith, take_at, drop_at)
 in-parts true n characters whole cs fs ds gs c w l m =
     let front = selected [] (zip cs fs) in
     let back = selected (reverse (zip cs fs) ++ []) (zip ds gs) in
@@ -76,8 +74,7 @@ holds-cut script text long n inner_after inner_before h s =
     let parts = in-parts (is_mongolian script) n text.characters (forms text.before text.types text.after) (take n
     text.characters) fs (drop n text.characters) gs (sym (take-append-drop n text.characters))
     (ap (λ xs. forms text.before xs text.after) (sym (take-append-drop n text.types))
-    ∙ forms-append text.before ts us text.after
-    ∙ ap (λ xs. xs ++ forms (reverse ts ++ text.before) us text.after)
+    ∙ forms-append text.before ts us text.after ∙ ap (λ xs. xs ++ forms (reverse ts ++ text.before) us text.after)
     (forms-contexts text.before text.before ts (us ++ text.after) inner_after refl (sym s.onward))
     ∙ ap (λ xs. fs ++ xs)
     (forms-contexts (reverse ts ++ text.before) inner_before us text.after text.after (sym s.backward) refl)) (length-take-le n
@@ -86,13 +83,12 @@ holds-cut script text long n inner_after inner_before h s =
 
 pub length-forms_of : (script : Option Script) (text : Text) → length text.characters ≡ length text.types
     → length (forms_of script text) ≡ length text.types
-length-forms_of script text long =
-    search (arith, length-selected, length-zip, length-forms)
+length-forms_of = search (arith, length-selected, length-zip, length-forms)
 
 -- the auxiliary bytes that joining left are the forms of the text
 pub text_long : (joining : ℕ → hb_arabic_joining_type_t) (general : ℕ → hb_unicode_general_category_t) (old : Buffer)
     → let text = text_of joining general old in length text.characters ≡ length text.types
-text_long joining general old = search (arith, length-map)
+text_long = search (arith, length-map)
 
 pub forms_left : (breaks : BreakFlags) (masks : List ℕ) (script : Option Script) (joining : ℕ
     → hb_arabic_joining_type_t) (general : ℕ → hb_unicode_general_category_t) (old new : Buffer)
@@ -104,8 +100,7 @@ forms_left breaks masks script joining general old new is =
     sym (length-map old.glyphs (λ g. resolved (joining g.glyph_id) (general_category g.unicode_props)))
     ∙ sym (length-forms_of script text (text_long joining general old)) in
     cc (forms-joined masks (forms_of script text) old.flags
-    (flag_calls breaks script text) old.glyphs fs_long (calls-in_order breaks script
-    text))
+    (flag_calls breaks script text) old.glyphs fs_long (calls-in_order breaks script text))
 
 -- a front that shows a type shows the nearest
 pub nearest-of_front : (ts us : List hb_arabic_joining_type_t) → is_some (nearest ts) ≡ true
@@ -123,23 +118,20 @@ nearest-of_five ts (inl e) = search (arith, nearest-of_front, take-append-drop 5
 nearest-of_five ts (inr h) = cc (take_all 5 ts h)
 
 pub copied-show : CopiedContextsShow
-copied-show n text onward backward = search (arith, nearest-of_five)
+copied-show = search (arith, nearest-of_five)
 
 -- the table's types of glyphs that agree with it are the stored ones
-types-agree : (joining : ℕ → hb_arabic_joining_type_t) (general : ℕ → hb_unicode_general_category_t)
-    (gs : List hb_glyph_info_t) → AgreesWithTable general gs → context_types joining general (map (λ g. g.glyph_id) gs)
-    ≡ stored_types joining gs
+types-agree : (joining : ℕ → hb_arabic_joining_type_t) (general : ℕ → hb_unicode_general_category_t) (gs : Glyphs)
+    → AgreesWithTable general gs → context_types joining general (map (λ g. g.glyph_id) gs) ≡ stored_types joining gs
 types-agree joining general [] all = refl
-types-agree joining general (g ∷ gs) all =
-    cc (all.0, types-agree joining general gs all.1)
+types-agree joining general (g ∷ gs) all = cc (all.0, types-agree joining general gs all.1)
 
-agrees-take : (general : ℕ → hb_unicode_general_category_t) (n : ℕ) (gs : List hb_glyph_info_t)
+agrees-take : (general : ℕ → hb_unicode_general_category_t) (n : ℕ) (gs : Glyphs)
     → AgreesWithTable general gs → AgreesWithTable general (take n gs)
-agrees-take general zero gs all = tt
-agrees-take general (suc n) [] all = tt
 agrees-take general (suc n) (g ∷ gs) all = (all.0, agrees-take general n gs all.1)
+agrees-take general _ _ all = tt
 
-agrees-drop : (general : ℕ → hb_unicode_general_category_t) (n : ℕ) (gs : List hb_glyph_info_t)
+agrees-drop : (general : ℕ → hb_unicode_general_category_t) (n : ℕ) (gs : Glyphs)
     → AgreesWithTable general gs → AgreesWithTable general (drop n gs)
 agrees-drop general zero gs all = all
 agrees-drop general (suc n) [] all = tt
@@ -147,7 +139,7 @@ agrees-drop general (suc n) (g ∷ gs) all = agrees-drop general n gs all.1
 
 -- what a copied context shows: the types of the text there
 copied-after : (joining : ℕ → hb_arabic_joining_type_t) (general : ℕ → hb_unicode_general_category_t)
-    (gs : List hb_glyph_info_t) (cs : List ℕ) → AgreesWithTable general gs
+    (gs : Glyphs) (cs : List ℕ) → AgreesWithTable general gs
     → context_types joining general (take 5 (map (λ g. g.glyph_id) gs ++ cs))
     ≡ take 5 (stored_types joining gs ++ context_types joining general cs)
 copied-after joining general gs cs all =
@@ -155,7 +147,7 @@ copied-after joining general gs cs all =
     search (arith, take-map, map-append type_of (map (λ g. g.glyph_id) gs) cs, types-agree joining general gs all)
 
 copied-before : (joining : ℕ → hb_arabic_joining_type_t) (general : ℕ → hb_unicode_general_category_t)
-    (gs : List hb_glyph_info_t) (cs : List ℕ) → AgreesWithTable general gs
+    (gs : Glyphs) (cs : List ℕ) → AgreesWithTable general gs
     → context_types joining general (take 5 (reverse (map (λ g. g.glyph_id) gs) ++ cs))
     ≡ take 5 (reverse (stored_types joining gs) ++ context_types joining general cs)
 copied-before joining general gs cs all =
@@ -178,13 +170,12 @@ pub copied-cut : CopiedContextsCut
 copied-cut script joining general b n h all onward backward =
     let gs = b.glyphs in
     let text = text_of joining general b in
-    let ids = λ (g : hb_glyph_info_t). g.glyph_id in
-    let type_of = λ (g : hb_glyph_info_t). resolved (joining g.glyph_id) (general_category g.unicode_props) in
+    let ids = λ (g : Glyph). g.glyph_id in
+    let type_of = λ (g : Glyph). resolved (joining g.glyph_id) (general_category g.unicode_props) in
     let shown = copied-show n text (subst (λ ts. Shows (ts ++ text.after)) (sym
     (drop-map type_of n gs)) onward) (subst (λ ts. Shows
     (reverse ts ++ text.before)) (sym (take-map type_of n gs)) backward) in
-    let cut = holds-cut script text
-    (length-map gs ids ∙ sym (length-map gs type_of)) n
+    let cut = holds-cut script text (length-map gs ids ∙ sym (length-map gs type_of)) n
     (take 5 (drop n text.types ++ text.after)) (take 5 (reverse (take n text.types) ++ text.before))
     (omega (arith, length-map gs type_of)) shown in
     search (

@@ -5,7 +5,7 @@ use Rattle.shapers_buffer.specs.Glyph.{default_glyph}
 use Rattle.shapers_buffer.specs.Properties.{general_category, properties}
 use Rattle.shapers_buffer.specs.declared.buffer.category.hb_unicode_general_category_t.{hb_unicode_general_category_t}
 use Rattle.shapers_buffer.specs.declared.buffer.category.hb_unicode_general_category_t.TheVariants as gc
-use Rattle.shapers_buffer.specs.declared.buffer.glyph.hb_glyph_info_t.{hb_glyph_info_t}
+use Rattle.shapers_buffer.specs.Glyphs.{Glyph, Glyphs}
 use Rattle.shapers_buffer.specs.declared.buffer.tag.Script.{Script}
 use Rattle.shapers_base.specs.declared.plan.joining.hb_arabic_joining_type_t.{hb_arabic_joining_type_t}
 use Rattle.shapers_base.specs.declared.plan.joining.hb_arabic_joining_type_t.TheVariants.{U, L, R, D, GroupAlaph, GroupDalathRish, T, X}
@@ -164,13 +164,13 @@ seen_to_the_first_letter = refl
 abbrev joining_of : ℕ → hb_arabic_joining_type_t
 joining_of c = if c == 1 then D else if c == 3 then X else if c == 0x180B then T else U
 
-abbrev glyph : ℕ → hb_unicode_general_category_t → hb_glyph_info_t
+abbrev glyph : ℕ → hb_unicode_general_category_t → Glyph
 glyph c category = record default_glyph { glyph_id = c; unicode_props = properties category 0 }
 
 abbrev marks : ℕ → hb_unicode_general_category_t
 marks c = gc.Mn
 
-abbrev buffer_of : List ℕ → List hb_glyph_info_t → List ℕ → Buffer
+abbrev buffer_of : List ℕ → Glyphs → List ℕ → Buffer
 buffer_of before gs after = let b : Buffer = record (new_buffer 9) { glyphs = gs; before = before; after = after } in b
 
 -- X of a glyph by its stored category, X of a context by the table's

@@ -5,7 +5,6 @@ use Rattle.shapers_base.specs.declared.plan.joining.hb_arabic_joining_type_t.{hb
 use Rattle.shapers_base.specs.declared.plan.joining.hb_arabic_joining_type_t.TheVariants.{U, L, R, D, GroupAlaph, GroupDalathRish}
 use Rattle.shapers_arabic.specs.Joining.{act}
 use Rattle.shapers_arabic.specs.JoiningWalk.{cell, state_of, kept_or, waits}
-use Rattle.shapers_arabic.specs.declared.ot_shaper_arabic.joining.State.TheVariants.{Start}
 use Rattle.shapers_arabic.specs.declared.ot_shaper_arabic.arabic_action_t.TheConstants.{NONE}
 
 -- the form that the next letter gives
@@ -56,10 +55,6 @@ gives_own (Some _) GroupAlaph _ = refl
 gives_own before _ U = refl
 gives_own before _ _ = refl
 
-pub gives_first : (t : hb_arabic_joining_type_t) → (cell Start t).1 ≡ act None t None
-gives_first U = refl
-gives_first _ = refl
-
 -- the state behind a letter
 pub gives_state : (before : Option hb_arabic_joining_type_t) (own t : hb_arabic_joining_type_t)
     → (cell (state_of before own) t).2 ≡ state_of (Some own) t
@@ -83,10 +78,6 @@ gives_state (Some _) GroupAlaph U = refl
 gives_state (Some _) GroupAlaph _ = refl
 gives_state before _ U = refl
 gives_state before _ _ = refl
-
-pub gives_first_state : (t : hb_arabic_joining_type_t) → (cell Start t).2 ≡ state_of None t
-gives_first_state U = refl
-gives_first_state _ = refl
 
 -- the next letter gives a form exactly where it changes the form of the letter before it
 pub gives_change : (before : Option hb_arabic_joining_type_t) (own t : hb_arabic_joining_type_t)

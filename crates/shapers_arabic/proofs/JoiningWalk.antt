@@ -15,15 +15,13 @@ use Rattle.shapers_arabic.proofs.JoiningTable.{gives_previous, gives_own, gives_
 -- the last letter is given its form by the next one
 given_middle : (fs : List ℕ) (own given : ℕ) (tail : List ℕ) (k : ℕ) → length fs ≡ k
     → given_last (Some k) given (fs ++ own ∷ tail) ≡ fs ++ kept_or given own ∷ tail
-given_middle fs own given tail k long =
-    search (arith, set-append_seam)
+given_middle = search (arith, set-append_seam)
 
 pub given-forms : (before ts : List hb_arabic_joining_type_t) (state : State) (last : Option ℕ)
     (t : hb_arabic_joining_type_t) (after : List hb_arabic_joining_type_t) → LastIs before ts state last
     → nearest after ≡ Some t → given_last last (cell state t).0 (forms before ts []) ≡ forms before ts after
-given-forms before ts state None t after l e = search (arith, forms-transparent)
-given-forms before ts state (Some k) t after l e =
-    search (arith, forms-parts, given_middle, length-forms, gives_previous)
+given-forms before ts state None = search (arith, forms-transparent)
+given-forms before ts state (Some k) = search (arith, forms-parts, given_middle, length-forms, gives_previous)
 
 -- the nearest type at the end of a text is its last letter, or what is nearest before it
 pub nearest-reverse : (ts : List hb_arabic_joining_type_t) → nearest ts ≡ None → nearest (reverse ts) ≡ None
@@ -66,20 +64,18 @@ next-after before ts state (Some k) t l =
 -- one more place of the text: the forms so far, and the last
 forms-push : (before ts : List hb_arabic_joining_type_t) (t : hb_arabic_joining_type_t) → forms before (ts ++ t ∷ [])
     [] ≡ forms before ts (t ∷ []) ++ act (nearest (reverse ts ++ before)) t None ∷ []
-forms-push before ts t = search (arith, forms-append)
+forms-push = search (arith, forms-append)
 
 last-transparent : (before ts : List hb_arabic_joining_type_t) (state : State) (last : Option ℕ)
     → LastIs before ts state last → LastIs before (ts ++ T ∷ []) state last
-last-transparent before ts state None l =
-    search (arith, nearest-transparent)
-last-transparent before ts state (Some k) l = search (arith, append_assoc, nearest-transparent)
+last-transparent before ts state None = search (arith, nearest-transparent)
+last-transparent before ts state (Some k) = search (arith, append_assoc, nearest-transparent)
 
 -- what stands before place i is given its form as the whole is
 take-given : (last : Option ℕ) (given : ℕ) (fs : List ℕ) (i : ℕ) → IsWithin last i → take i (given_last last given fs)
     ≡ given_last last given (take i fs)
 take-given None given fs i h = refl
-take-given (Some k) given fs i h =
-    search (arith, take-set-lt)
+take-given (Some k) given fs i h = search (arith, take-set-lt)
 
 pub length-given : (last : Option ℕ) (given : ℕ) (fs : List ℕ) → length (given_last last given fs) ≡ length fs
 length-given None given fs = refl
@@ -94,21 +90,14 @@ last-within before types i state (Some k) h l =
 
 pub transparent-is : (t : hb_arabic_joining_type_t) → is_transparent t ≡ true → t ≡ T
 transparent-is T e = refl
-transparent-is U e = cc
 transparent-is _ e = cc
 
 end-at : (before types after : List hb_arabic_joining_type_t) (state : State) (last : Option ℕ)
     → LastIs before types state last → (o : Option hb_arabic_joining_type_t) → nearest after ≡ o
     → given_last last (given_by state o) (forms before types []) ≡ forms before types after
-end-at before types after state None l None e = search (arith, forms-contexts)
-end-at before types after state (Some k) l None e = search (arith, forms-contexts)
-end-at before types after state last l (Some t) e = search (arith, given-forms)
-
--- the walk begins, goes on over a transparent place, goes on over a letter, and ends
-pub walk-start : (before types : List hb_arabic_joining_type_t) (state : State) (fs : List ℕ)
-    → state ≡ state_at_start (nearest before) → length fs ≡ length types → WalkedInJoining before types 0 state None fs
-walk-start before types state fs s long =
-    search arith
+end-at before types after state None l None = search (arith, forms-contexts)
+end-at before types after state (Some k) l None = search (arith, forms-contexts)
+end-at before types after state last l (Some t) = search (arith, given-forms)
 
 pub walk-transparent : (before types : List hb_arabic_joining_type_t) (i : ℕ) (state : State) (last : Option ℕ)
     (fs : List ℕ) (t : hb_arabic_joining_type_t) → i < length types → get_or types i U ≡ t → is_transparent t ≡ true
@@ -126,8 +115,7 @@ walk-transparent before types i state last fs t h at e w =
 
 pub walk-letter : (before types : List hb_arabic_joining_type_t) (i : ℕ) (state : State) (last : Option ℕ) (fs : List ℕ)
     (t : hb_arabic_joining_type_t) → i < length types → get_or types i U ≡ t → is_transparent t ≡ false
-    → WalkedInJoining before types i state last fs
-    → WalkedInJoining before types (i + 1) (cell state t).2 (Some i)
+    → WalkedInJoining before types i state last fs → WalkedInJoining before types (i + 1) (cell state t).2 (Some i)
     (set (given_last last (cell state t).0 fs) i (cell state t).1)
 walk-letter before types i state last fs t h at e w =
     let ts = take i types in
@@ -148,20 +136,13 @@ walk-letter before types i state last fs t h at e w =
 pub walk-end : (before types after : List hb_arabic_joining_type_t) (i : ℕ) (state : State) (last : Option ℕ)
     (fs : List ℕ) → i ≡ length types → WalkedInJoining before types i state last fs
     → given_last last (given_by state (nearest after)) fs ≡ forms before types after
-walk-end before types after i state last fs at w =
-    search (arith, take_all, end-at)
-
-pub given-nothing : (last : Option ℕ) (fs : List ℕ) → given_last last NONE fs ≡ fs
-given-nothing None fs = refl
-given-nothing (Some k) fs = refl
+walk-end = search (arith, take_all, end-at)
 
 pub not-transparent : (t : hb_arabic_joining_type_t) → (t ≡ T → ⊥) → is_transparent t ≡ false
 not-transparent T n = absurd (n refl)
-not-transparent U n = refl
 not-transparent _ n = refl
 
 pub walked-at : (before types : List hb_arabic_joining_type_t) (i : ℕ) (state other : State) (last behind : Option ℕ)
     (fs gs : List ℕ) → WalkedInJoining before types i state last fs → other ≡ state → behind ≡ last → gs ≡ fs
     → WalkedInJoining before types i other behind gs
-walked-at before types i state other last behind fs gs w s l f =
-    search arith
+walked-at = search arith

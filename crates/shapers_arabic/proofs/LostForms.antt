@@ -59,15 +59,14 @@ last_letter (t ∷ ts) = elim (last_letter ts) [
 
 last-seen : (ts : List hb_arabic_joining_type_t) (l : LastLetter ts)
     → nearest_letter (reverse ts) ≡ Some (record { own = l.own; before = reverse l.front })
-last-seen ts l =
-    search (
-      arith,
-      l.split,
-      reverse-append,
-      reverse-append (l.own ∷ []) l.tail,
-      append_assoc,
-      letter-transparent (reverse l.tail) (l.own ∷ reverse l.front) (nearest-reverse l.tail l.rest),
-    )
+last-seen ts l = search (
+  arith,
+  l.split,
+  reverse-append,
+  reverse-append (l.own ∷ []) l.tail,
+  append_assoc,
+  letter-transparent (reverse l.tail) (l.own ∷ reverse l.front) (nearest-reverse l.tail l.rest),
+)
 
 -- the first half: it keeps its forms without what follows exactly where its last letter does
 middle : (xs zs : List ℕ) (a b : ℕ) → xs ++ a ∷ zs ≡ xs ++ b ∷ zs → a ≡ b
@@ -134,15 +133,13 @@ pub second-keeps : (seen others us after : List hb_arabic_joining_type_t) → ne
     → lost (nearest seen) us after ≡ false → forms seen us after ≡ forms others us after
 second-keeps seen others [] after n e = refl
 second-keeps seen others (T ∷ us) after n e = cc (second-keeps (T ∷ seen) (T ∷ others) us after n e)
-second-keeps seen others (t ∷ us) after n e =
-    search (arith, same, forms-contexts)
+second-keeps seen others (t ∷ us) after n e = search (arith, same, forms-contexts)
 
 pub second-kept : (seen others us after : List hb_arabic_joining_type_t) → nearest others ≡ None
     → forms seen us after ≡ forms others us after → lost (nearest seen) us after ≡ false
 second-kept seen others [] after n e = refl
 second-kept seen others (T ∷ us) after n e = second-kept (T ∷ seen) (T ∷ others) us after n (cc)
-second-kept seen others (t ∷ us) after n e =
-    search (arith, not_apart)
+second-kept seen others (t ∷ us) after n e = search (arith, not_apart)
 
 -- of what follows only whether it joins back matters
 abbrev pub act_by : Option hb_arabic_joining_type_t → hb_arabic_joining_type_t → Bool → ℕ
@@ -151,11 +148,7 @@ act_by before t false = act before t None
 
 pub act-by : (before : Option hb_arabic_joining_type_t) (t : hb_arabic_joining_type_t)
     (after : Option hb_arabic_joining_type_t) → act before t after ≡ act_by before t (joins_back after)
-act-by before L after = search arith
-act-by before D after = search arith
-act-by before GroupAlaph after =
-    search arith
-act-by before t after = search arith
+act-by before _ = search arith
 
 -- the first letter of the text: the forms that it can take from the context
 alaph-takes : (b : Option hb_arabic_joining_type_t) → is_taken (alaph_after b) ≡ not (eqb (alaph_after b) ISOL)
@@ -169,8 +162,7 @@ first-takes b U true = refl
 first-takes b L true = refl
 first-takes b T true = refl
 first-takes b X true = refl
-first-takes b GroupAlaph true =
-    search arith
+first-takes b GroupAlaph true = search arith
 first-takes b D true = search arith
 first-takes b t true = search arith
 first-takes b U false = refl
@@ -178,8 +170,7 @@ first-takes b L false = refl
 first-takes b T false = refl
 first-takes b X false = refl
 first-takes b GroupAlaph false = alaph-takes b
-first-takes b t false =
-    search arith
+first-takes b t false = search arith
 
 -- two letters: where the second leaves the form of the first as it is, it takes one from it as FIN2 or FIN3 alone
 abbrev change : Option hb_arabic_joining_type_t → hb_arabic_joining_type_t → hb_arabic_joining_type_t → Bool
@@ -197,8 +188,7 @@ pair-takes b own T false = refl
 pair-takes b own X false = refl
 pair-takes b own L false = refl
 pair-takes b L t joins = refl
-pair-takes b D t joins =
-    search arith
+pair-takes b D t joins = search arith
 pair-takes b own t true = refl
 pair-takes b own t false = refl
 
@@ -223,5 +213,4 @@ takes-lost context o before (T ∷ us) after f = takes-lost context o before us 
 takes-lost context None before (t ∷ us) after f =
     let n = nearest (us ++ after) in search (arith, act-by before t n, first-takes, act-by None t n)
 takes-lost context (Some k) before (t ∷ us) after f =
-    let n = nearest (us ++ after) in
-    search (arith, act-by (Some k.own) t n, pair-takes, act-by None t n)
+    let n = nearest (us ++ after) in search (arith, act-by (Some k.own) t n, pair-takes, act-by None t n)

@@ -5,7 +5,7 @@ use Rattle.std.specs.Prelude.{replicate}
 use Rattle.std.specs.List.{list_all, list_any, prefix_len}
 use Rattle.std.proofs.lemmas.List.{map-append}
 use Rattle.std.proofs.lemmas.Bool.{and_parts, or_parts, eqb-true, false≢true, false_from_ne_true}
-use Rattle.shapers_buffer.specs.declared.buffer.glyph.hb_glyph_info_t.{hb_glyph_info_t}
+use Rattle.shapers_buffer.specs.Glyphs.{Glyph, Glyphs}
 use Rattle.shapers_buffer.specs.declared.buffer.unicode_props.UnicodeProps.{UnicodeProps}
 use Rattle.shapers_buffer.specs.Category.{is_mark}
 use Rattle.shapers_buffer.specs.Clusters.{stretch_of}
@@ -21,17 +21,17 @@ pub record HasClass (class : ℕ) (p : UnicodeProps) : Type 0 where
 
 by_mark : (class : ℕ) (p : UnicodeProps) (b : Bool) → is_mark (general_category p) ≡ b → (0 == class) ≡ false
     → ((if b then high_byte p else 0) == class) ≡ true → HasClass class p
-by_mark class p true marked none is = search (arith, eqb-true)
-by_mark class p false marked none is = search (arith, false≢true)
+by_mark class p true marked none = search (arith, eqb-true)
+by_mark class p false marked none = search (arith, false≢true)
 
 has_class : (class : ℕ) (p : UnicodeProps) → (0 == class) ≡ false → (modified_combining_class p == class) ≡ true
     → HasClass class p
 unfolding modified_combining_class
-has_class class p none is = search (arith, by_mark)
+has_class class p none = search (arith, by_mark)
 
-pub modifier_has_class : (class : ℕ) (g : hb_glyph_info_t) → (0 == class) ≡ false → is_modifier_of class g ≡ true
+pub modifier_has_class : (class : ℕ) (g : Glyph) → (0 == class) ≡ false → is_modifier_of class g ≡ true
     → HasClass class g.unicode_props
-modifier_has_class class g none h = search (arith, has_class, and_parts)
+modifier_has_class class g none = search (arith, has_class, and_parts)
 
 -- the modifiers stand in the three ranges
 found : (c : ℕ) (cs : List ℕ) (x : ℕ) (b : Bool) → (c == x) ≡ b → is_among_modifiers c ≡ true
@@ -47,32 +47,25 @@ all_among (c ∷ cs) x among h =
     search (arith, found, all_among cs x (and_parts (is_among_modifiers c) (list_all is_among_modifiers cs) among).1)
 
 -- so a quick look finds each modifier
-looked : (class : ℕ) (g : hb_glyph_info_t) → (0 == class) ≡ false → (class == 220 || class == 230) ≡ true
+looked : (class : ℕ) (g : Glyph) → (0 == class) ≡ false → (class == 220 || class == 230) ≡ true
     → is_modifier_of class g ≡ true → may_modify g ≡ true
 looked class g none listed h =
     let among = all_among modifiers g.glyph_id refl (and_parts _ _ h).1 in
     rw ((modifier_has_class class g none h).byte, listed, among) refl
 
-by_class : (g : hb_glyph_info_t) (b : Bool) → is_modifier_of 220 g ≡ b → (b || is_modifier_of 230 g) ≡ true
+by_class : (g : Glyph) (b : Bool) → is_modifier_of 220 g ≡ b → (b || is_modifier_of 230 g) ≡ true
     → may_modify g ≡ true
 by_class g true below h = search (arith, looked)
 by_class g false below h = looked 230 g refl refl h
 
-not_modifier : (g : hb_glyph_info_t) → may_modify g ≡ false → is_modifier g ≡ false
-not_modifier g h =
-    false_from_ne_true (is_modifier g)
-    (λ modifies. search (arith, false≢true, by_class))
+not_modifier : (g : Glyph) → may_modify g ≡ false → is_modifier g ≡ false
+not_modifier g h = false_from_ne_true (is_modifier g) (λ modifies. search (arith, false≢true, by_class))
 
-pub no_modifier : (gs : List hb_glyph_info_t) → list_any may_modify gs ≡ false → list_any is_modifier gs ≡ false
+pub no_modifier : (gs : Glyphs) → list_any may_modify gs ≡ false → list_any is_modifier gs ≡ false
 no_modifier [] h = refl
 no_modifier (g ∷ gs) h =
     let parts = or_parts (may_modify g) (list_any may_modify gs) h in
     rw (not_modifier g parts.0, no_modifier gs parts.1) refl
-
--- a mark takes the class that is set, and no other glyph does
-pub set_on_mark : (class : ℕ) (p : UnicodeProps) → is_mark (general_category p) ≡ true
-    → with_modified_combining_class class p ≡ with_high_byte class p
-set_on_mark class p marked = rw marked refl
 
 still_mark : (class : ℕ) (p : UnicodeProps) → is_mark (general_category p) ≡ true
     → is_mark (general_category (with_high_byte class p)) ≡ true
@@ -84,55 +77,44 @@ class_of_mark p marked = rw marked refl
 
 class_set : (class : ℕ) (p : UnicodeProps) → is_mark (general_category p) ≡ true
     → modified_combining_class (with_modified_combining_class class p) ≡ class
-class_set class p marked =
-    search (arith, class_of_mark, still_mark)
-
--- a class that is set is hidden with the one before it
-byte-hidden : (class : ℕ) (p : UnicodeProps) → with_high_byte 0 (with_high_byte class p) ≡ with_high_byte 0 p
-byte-hidden class p = search arith
+class_set = search (arith, class_of_mark, still_mark)
 
 hidden_by_mark : (class : ℕ) (p : UnicodeProps) (b : Bool) → is_mark (general_category p) ≡ b
     → with_modified_combining_class 0 (with_modified_combining_class class p) ≡ with_modified_combining_class 0 p
-hidden_by_mark class p true marked =
-    search (arith, still_mark)
-hidden_by_mark class p false other = search (arith, refl)
+hidden_by_mark class p true = search (arith, still_mark)
+hidden_by_mark class p false = search (arith, refl)
 
 pub class-hidden : (class : ℕ) (p : UnicodeProps)
     → with_modified_combining_class 0 (with_modified_combining_class class p) ≡ with_modified_combining_class 0 p
-class-hidden class p = search (arith, hidden_by_mark)
+class-hidden = search (arith, hidden_by_mark)
 
 -- the modifiers take the class that they are given
-one_set : (test : hb_glyph_info_t → Bool) (class : ℕ)
-    → ((g : hb_glyph_info_t) → test g ≡ true → is_mark (general_category g.unicode_props) ≡ true)
-    → (g : hb_glyph_info_t) (gs : List hb_glyph_info_t) (b : Bool) → test g ≡ b
+one_set : (test : Glyph → Bool) (class : ℕ)
+    → ((g : Glyph) → test g ≡ true → is_mark (general_category g.unicode_props) ≡ true)
+    → (g : Glyph) (gs : Glyphs) (b : Bool) → test g ≡ b
     → combining_classes (map (in_class class) (front_of test gs)) ≡ replicate (length (front_of test gs)) class
     → combining_classes (map (in_class class) (front_of test (g ∷ gs)))
     ≡ replicate (length (front_of test (g ∷ gs))) class
 one_set test class marked g gs true passes rest =
-    let more : 1 + prefix_len test gs ≡ suc (prefix_len test gs) = omega arith in
-    search (arith, class_set)
+    let more : 1 + prefix_len test gs ≡ suc (prefix_len test gs) = omega arith in search (arith, class_set)
 one_set test class marked g gs false fails rest = rw fails refl
 
-classes_set : (test : hb_glyph_info_t → Bool) (class : ℕ)
-    → ((g : hb_glyph_info_t) → test g ≡ true → is_mark (general_category g.unicode_props) ≡ true)
-    → (gs : List hb_glyph_info_t)
+classes_set : (test : Glyph → Bool) (class : ℕ)
+    → ((g : Glyph) → test g ≡ true → is_mark (general_category g.unicode_props) ≡ true) → (gs : Glyphs)
     → combining_classes (map (in_class class) (front_of test gs)) ≡ replicate (length (front_of test gs)) class
 classes_set test class marked [] = refl
-classes_set test class marked (g ∷ gs) =
-    search (arith, one_set, classes_set test class marked gs)
+classes_set test class marked (g ∷ gs) = search (arith, one_set, classes_set test class marked gs)
 
-modifier_is_mark : (class : ℕ) → (0 == class) ≡ false → (g : hb_glyph_info_t) → is_modifier_of class g ≡ true
+modifier_is_mark : (class : ℕ) → (0 == class) ≡ false → (g : Glyph) → is_modifier_of class g ≡ true
     → is_mark (general_category g.unicode_props) ≡ true
 modifier_is_mark class none g h = (modifier_has_class class g none h).mark
 
 -- so of all marks, and of a text
-first_classes : (gs : List hb_glyph_info_t) → combining_classes (with_modifiers_first (split_marks gs))
+first_classes : (gs : Glyphs) → combining_classes (with_modifiers_first (split_marks gs))
     ≡ classes_moved (split_marks gs)
-first_classes gs =
-    search (arith, map-append, classes_set, modifier_is_mark)
+first_classes = search (arith, map-append, classes_set, modifier_is_mark)
 
-pub reordered_classes : (s e : ℕ) (gs : List hb_glyph_info_t) → combining_classes (marks_reordered s e gs)
+pub reordered_classes : (s e : ℕ) (gs : Glyphs) → combining_classes (marks_reordered s e gs)
     ≡ combining_classes (take s gs)
     ++ (classes_moved (split_marks (stretch_of s e gs)) ++ combining_classes (drop e gs))
-reordered_classes s e gs =
-    search (arith, map-append, first_classes)
+reordered_classes = search (arith, map-append, first_classes)

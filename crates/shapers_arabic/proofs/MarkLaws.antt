@@ -1,7 +1,7 @@
 -- The order of marks in a text: what merging leaves of the parts, and what the laws of steps say.
-use Rattle.std.proofs.Common.{◌≡◌, ℕ, zero, suc, ◌+◌, ◌-◌, ◌≤◌, List, [], ◌∷◌, ◌++◌, map, length, take, drop, refl, sym, arith, length-append, length-take, length-drop}
+use Rattle.std.proofs.Common.{◌≡◌, ℕ, ◌+◌, ◌-◌, ◌≤◌, List, [], ◌∷◌, ◌++◌, map, length, take, drop, refl, sym, arith, length-append, length-take, length-drop}
 use Rattle.std.proofs.lemmas.List.{length-map, take-map, drop-map, map-append}
-use Rattle.shapers_buffer.specs.declared.buffer.glyph.hb_glyph_info_t.{hb_glyph_info_t}
+use Rattle.shapers_buffer.specs.Glyphs.{Glyph, Glyphs}
 use Rattle.shapers_buffer.specs.declared.buffer.level.BufferClusterLevel.{BufferClusterLevel}
 use Rattle.shapers_buffer.specs.Clusters.{stretch_of, merge_all}
 use Rattle.shapers_buffer.specs.Glyph.{plain, order_view}
@@ -23,8 +23,7 @@ use Rattle.shapers_arabic.proofs.MarkMoves.{moves-merged, moves-permute}
 
 -- the parts show in the order view
 
-abbrev marks_of : List hb_glyph_info_t → List hb_glyph_info_t → List hb_glyph_info_t → List hb_glyph_info_t
-    → List hb_glyph_info_t → Marks
+abbrev marks_of : Glyphs → Glyphs → Glyphs → Glyphs → Glyphs → Marks
 marks_of a m b n c = record { low = a; modifiers_below = m; middle = b; modifiers_above = n; rest = c }
 
 abbrev parts_plain : Marks → Marks
@@ -32,9 +31,8 @@ parts_plain s =
     marks_of (order_view s.low) (order_view s.modifiers_below) (order_view s.middle) (order_view s.modifiers_above)
     (order_view s.rest)
 
-split-plain : (gs : List hb_glyph_info_t) → split_marks (order_view gs) ≡ parts_plain (split_marks gs)
-split-plain gs =
-    search (arith, prefix_len-seen, take-map, drop-map)
+split-plain : (gs : Glyphs) → split_marks (order_view gs) ≡ parts_plain (split_marks gs)
+split-plain = search (arith, prefix_len-seen, take-map, drop-map)
 
 -- marks of one order view have parts of the same lengths
 record SameLengths (s t : Marks) : Type 0 where
@@ -44,9 +42,8 @@ record SameLengths (s t : Marks) : Type 0 where
   modifiers_above : length s.modifiers_above ≡ length t.modifiers_above
   rest : length s.rest ≡ length t.rest
 
-same_lengths : (gs hs : List hb_glyph_info_t) → order_view gs ≡ order_view hs
-    → SameLengths (split_marks gs) (split_marks hs)
-same_lengths gs hs e =
+same_lengths : (gs hs : Glyphs) → order_view gs ≡ order_view hs → SameLengths (split_marks gs) (split_marks hs)
+same_lengths gs hs =
     let s = split_marks gs in
     let t = split_marks hs in
     search (
@@ -60,75 +57,57 @@ same_lengths gs hs e =
       length-map t.rest plain,
     )
 
-abbrev parts_with : ℕ → ℕ → ℕ → ℕ → Parts
-parts_with a m b n = record { low = a; modifiers_below = m; middle = b; modifiers_above = n }
-
-lengths-same : (s t : Marks) → SameLengths s t → lengths_of s ≡ lengths_of t
-lengths-same s t h =
-    search arith
-
 step-same : (s t : Marks) → SameLengths s t → arabic_mark_step s ≡ arabic_mark_step t
-step-same s t h =
-    search arith
+step-same = search arith
 
 -- so the merges before the moves leave the lengths of the parts
 
-view-merged_stretch : (level : BufferClusterLevel) (sts : List (ℕ × ℕ)) (s e : ℕ) (gs : List hb_glyph_info_t)
+view-merged_stretch : (level : BufferClusterLevel) (sts : List (ℕ × ℕ)) (s e : ℕ) (gs : Glyphs)
     → order_view (stretch_of s e (merge_all level sts gs)) ≡ order_view (stretch_of s e gs)
-view-merged_stretch level sts s e gs = search (arith, map-stretch, order_view-merge_all)
+view-merged_stretch = search (arith, map-stretch, order_view-merge_all)
 
-pub lengths-merged : (level : BufferClusterLevel) (sts : List (ℕ × ℕ)) (s e : ℕ) (gs ms : List hb_glyph_info_t)
+pub lengths-merged : (level : BufferClusterLevel) (sts : List (ℕ × ℕ)) (s e : ℕ) (gs ms : Glyphs)
     (p : Parts) → ms ≡ merge_all level sts gs → p ≡ lengths_of (split_marks (stretch_of s e gs))
     → p ≡ lengths_of (split_marks (stretch_of s e ms))
-lengths-merged level sts s e gs ms p h i =
-    search (arith, same_lengths, view-merged_stretch)
+lengths-merged = search (arith, same_lengths, view-merged_stretch)
 
--- two merges, of the stretches that the modifiers pass
-shifted-merged_for : (s k p q : ℕ) → shifted s (merged_for k p q) ≡ merged_for k (s + p) (s + q)
-shifted-merged_for s zero p q = refl
-shifted-merged_for s (suc k) p q = refl
-
-pub two_merges : (level : BufferClusterLevel) (s a m b n : ℕ) (gs ms ns : List hb_glyph_info_t)
+pub two_merges : (level : BufferClusterLevel) (s a m b n : ℕ) (gs ms ns : Glyphs)
     → ms ≡ merge_all level (merged_for m s (s + a + m)) gs
     → ns ≡ merge_all level (merged_for n (s + m) (s + a + m + b + n)) ms
     → ns ≡ merge_all level (shifted s (passed a m b n)) gs
-two_merges level s a m b n gs ms ns first second =
-    search arith
+two_merges = search arith
 
 -- the order view is reordered as the marks are
-classed-plain : (class : ℕ) (gs : List hb_glyph_info_t) → order_view (map (in_class class) gs)
+classed-plain : (class : ℕ) (gs : Glyphs) → order_view (map (in_class class) gs)
     ≡ map (in_class class) (order_view gs)
 classed-plain class [] = refl
 classed-plain class (g ∷ gs) = cc (classed-plain class gs)
 
 -- a map of five parts
-map-five : (f : hb_glyph_info_t → hb_glyph_info_t) (a b c d e : List hb_glyph_info_t)
+map-five : (f : Glyph → Glyph) (a b c d e : Glyphs)
     → map f (a ++ (b ++ (c ++ (d ++ e)))) ≡ map f a ++ (map f b ++ (map f c ++ (map f d ++ map f e)))
-map-five f a b c d e =
-    search (arith, map-append)
+map-five = search (arith, map-append)
 
 -- a list whose stretch is changed, seen through a map
-map-inner : (f : hb_glyph_info_t → hb_glyph_info_t) (s e : ℕ) (inner gs : List hb_glyph_info_t)
+map-inner : (f : Glyph → Glyph) (s e : ℕ) (inner gs : Glyphs)
     → map f (take s gs ++ (inner ++ drop e gs)) ≡ take s (map f gs) ++ (map f inner ++ drop e (map f gs))
-map-inner f s e inner gs =
-    search (arith, map-append, take-map, drop-map)
+map-inner = search (arith, map-append, take-map, drop-map)
 
-reordered-plain : (s e : ℕ) (gs : List hb_glyph_info_t) → order_view (marks_reordered s e gs)
-    ≡ marks_reordered s e (order_view gs)
+reordered-plain : (s e : ℕ) (gs : Glyphs) → order_view (marks_reordered s e gs) ≡ marks_reordered s e (order_view gs)
 reordered-plain s e gs =
     let marks = stretch_of s e gs in
     search (arith, map-inner, map-five, classed-plain, split-plain marks, map-stretch plain s e gs)
 
-pub marks_view : (level : BufferClusterLevel) (s e : ℕ) (gs : List hb_glyph_info_t)
+pub marks_view : (level : BufferClusterLevel) (s e : ℕ) (gs : Glyphs)
     → order_view (marks_reordered s e (marks_merged level s e gs)) ≡ marks_reordered s e (order_view gs)
-marks_view level s e gs = search (arith, reordered-plain, order_view-merge_all)
+marks_view = search (arith, reordered-plain, order_view-merge_all)
 
 -- CLASSES: merging leaves them, and the modifiers take theirs
-classes-plain : (gs : List hb_glyph_info_t) → combining_classes (order_view gs) ≡ combining_classes gs
+classes-plain : (gs : Glyphs) → combining_classes (order_view gs) ≡ combining_classes gs
 classes-plain [] = refl
 classes-plain (g ∷ gs) = cc (classes-plain gs)
 
-pub marks_take_classes : (level : BufferClusterLevel) (s e : ℕ) (gs : List hb_glyph_info_t)
+pub marks_take_classes : (level : BufferClusterLevel) (s e : ℕ) (gs : Glyphs)
     → ModifiersTakeClasses s e gs (marks_reordered s e (marks_merged level s e gs))
 marks_take_classes level s e gs =
     let marks = stretch_of s e gs in
@@ -152,14 +131,12 @@ marks_take_classes level s e gs =
 class_hidden : HidesFields without_class
 class_hidden = search arith
 
-classed-hidden : (class : ℕ) (gs : List hb_glyph_info_t) → map without_class (map (in_class class) gs)
-    ≡ map without_class gs
+classed-hidden : (class : ℕ) (gs : Glyphs) → map without_class (map (in_class class) gs) ≡ map without_class gs
 classed-hidden class [] = refl
-classed-hidden class (g ∷ gs) =
-    search (arith, class-hidden, classed-hidden class gs)
+classed-hidden class (g ∷ gs) = search (arith, class-hidden, classed-hidden class gs)
 
 -- the five parts are as long as the marks
-length-parts : (s e : ℕ) (gs : List hb_glyph_info_t) → s ≤ e → e ≤ length gs
+length-parts : (s e : ℕ) (gs : Glyphs) → s ≤ e → e ≤ length gs
     → (let t = split_marks (stretch_of s e gs) in length t.low + length t.modifiers_below + length t.middle
     + length t.modifiers_above + length t.rest ≡ e - s)
 length-parts s e gs h l =
@@ -168,9 +145,9 @@ length-parts s e gs h l =
     let all : length marks ≡ length (joined_parts (split_marks marks)) = cc (split-joined marks) in
     search (arith, length-append)
 
-step_moves : (s e : ℕ) (gs : List hb_glyph_info_t) → s ≤ e → e ≤ length gs
+step_moves : (s e : ℕ) (gs : Glyphs) → s ≤ e → e ≤ length gs
     → MovesMerged (e - s) (arabic_mark_step (split_marks (stretch_of s e gs)))
-step_moves s e gs h l =
+step_moves s e gs =
     let t = split_marks (stretch_of s e gs) in
     search (
       arith,
@@ -179,13 +156,12 @@ step_moves s e gs h l =
           (length t.rest),
     )
 
-step_permutes : (s e : ℕ) (gs : List hb_glyph_info_t) → s ≤ e → e ≤ length gs
+step_permutes : (s e : ℕ) (gs : Glyphs) → s ≤ e → e ≤ length gs
     → Permutes (e - s) (arabic_mark_step (split_marks (stretch_of s e gs)))
-step_permutes s e gs h l =
-    search (arith, length-parts, moves-permute)
+step_permutes = search (arith, length-parts, moves-permute)
 
 -- but for the classes the step gives the reordered marks
-step_gives : (level : BufferClusterLevel) (s e : ℕ) (gs : List hb_glyph_info_t) → s ≤ e → e ≤ length gs
+step_gives : (level : BufferClusterLevel) (s e : ℕ) (gs : Glyphs) → s ≤ e → e ≤ length gs
     → map without_class (marks_reordered s e (marks_merged level s e gs))
     ≡ map without_class (run_step level (text_step s e gs) gs)
 step_gives level s e gs h l =
@@ -207,7 +183,7 @@ step_gives level s e gs h l =
     )
 
 -- what the reordering leaves, by the laws
-pub mark_laws : (level : BufferClusterLevel) (s e : ℕ) (gs : List hb_glyph_info_t) → s ≤ e → e ≤ length gs
+pub mark_laws : (level : BufferClusterLevel) (s e : ℕ) (gs : Glyphs) → s ≤ e → e ≤ length gs
     → ReorderedHold without_class level (text_step s e gs ∷ []) gs (marks_reordered s e (marks_merged level s e gs))
-mark_laws level s e gs h l =
+mark_laws =
     search (arith, reordered_hold, class_hidden, moves-widened, step_moves, permutes-widened, step_permutes, step_gives)

@@ -1,9 +1,9 @@
 -- What the moves make of a list of marks, given by its five parts.
-use Rattle.std.proofs.Common.{◌≡◌, ℕ, ◌+◌, ◌-◌, List, [], ◌++◌, map, length, take, drop, refl, ap, sym, ◌∙◌, arith, append_assoc, length-append, Bool, false, zero, suc, ◌∷◌, ◌≤◌}
+use Rattle.std.proofs.Common.{◌≡◌, ℕ, ◌+◌, ◌-◌, [], ◌++◌, map, length, take, drop, refl, ap, sym, ◌∙◌, arith, append_assoc, length-append, Bool, false, suc, ◌∷◌, ◌≤◌}
 use Rattle.std.specs.List.{range_with_len, prefix_len, list_any}
 use Rattle.std.proofs.lemmas.List.{length-map, take_at, drop_at, take-append-drop, append-nil, drop-drop}
 use borrow.Rule.Slice.PartMut.{put_mid}
-use Rattle.shapers_buffer.specs.declared.buffer.glyph.hb_glyph_info_t.{hb_glyph_info_t}
+use Rattle.shapers_buffer.specs.Glyphs.{Glyph, Glyphs}
 use Rattle.shapers_buffer.specs.declared.buffer.modified_combining_class.TheConstants.{CCC22, CCC26}
 use Rattle.shapers_buffer.specs.Places.{pick}
 use Rattle.shapers_clusters.proofs.Picks.{pick-append, pick-range}
@@ -11,28 +11,25 @@ use Rattle.shapers_arabic.specs.MarkParts.{last_marks_first, is_modifier}
 use Rattle.shapers_arabic.specs.Marks.{Marks, split_marks, behind, has_lower_class, is_modifier_of, in_class, with_modifiers_first, places_moved, passed, marks_merged, marks_reordered}
 use Rattle.std.proofs.lemmas.Bool.{or_parts}
 use Rattle.shapers_buffer.specs.declared.buffer.level.BufferClusterLevel.{BufferClusterLevel}
-use Rattle.shapers_buffer.specs.Clusters.{merge_all, stretch_of}
-use Rattle.shapers_clusters.specs.Steps.{shifted}
+use Rattle.shapers_buffer.specs.Clusters.{stretch_of}
 
 -- the five parts in their old order, and in the new one with the classes as they were
-abbrev pub joined_parts : Marks → List hb_glyph_info_t
+abbrev pub joined_parts : Marks → Glyphs
 joined_parts s = s.low ++ (s.modifiers_below ++ (s.middle ++ (s.modifiers_above ++ s.rest)))
 
-abbrev pub parts_moved : Marks → List hb_glyph_info_t
+abbrev pub parts_moved : Marks → Glyphs
 parts_moved s = s.modifiers_below ++ (s.modifiers_above ++ (s.low ++ (s.middle ++ s.rest)))
 
 -- the parts are the marks
-pub split-joined : (gs : List hb_glyph_info_t) → joined_parts (split_marks gs) ≡ gs
-split-joined gs =
-    search (arith, take-append-drop)
+pub split-joined : (gs : Glyphs) → joined_parts (split_marks gs) ≡ gs
+split-joined = search (arith, take-append-drop)
 
-last_first-parts : (k class : ℕ) (front back : List hb_glyph_info_t) → length back ≡ k
+last_first-parts : (k class : ℕ) (front back : Glyphs) → length back ≡ k
     → last_marks_first k class (front ++ back) ≡ map (in_class class) back ++ front
-last_first-parts k class front back h =
-    search (arith, drop_at, length-append, take_at)
+last_first-parts = search (arith, drop_at, length-append, take_at)
 
 -- two moves, of the second part over the first, and of the fourth over the first and third
-pub two_moves : (s : Marks) (xs one two : List hb_glyph_info_t) (a m b n : ℕ) → a ≡ length s.low
+pub two_moves : (s : Marks) (xs one two : Glyphs) (a m b n : ℕ) → a ≡ length s.low
     → m ≡ length s.modifiers_below → b ≡ length s.middle → n ≡ length s.modifiers_above → xs ≡ joined_parts s
     → one ≡ last_marks_first m CCC22 (take (a + m) xs)
     → two ≡ last_marks_first n CCC26 (take (a + m + b + n - m) (drop m (one ++ drop (a + m) xs)))
@@ -70,14 +67,14 @@ two_moves s xs one two a m b n ea em eb en h first second =
     )
 
 -- what is picked at the places of one part
-pick-part : (a k : ℕ) (front part back xs : List hb_glyph_info_t) → length front ≡ a → length part ≡ k
+pick-part : (a k : ℕ) (front part back xs : Glyphs) → length front ≡ a → length part ≡ k
     → xs ≡ front ++ (part ++ back) → pick (range_with_len a k) xs ≡ part
 pick-part a k front part back xs ea ek h =
     let long = ap length h ∙ length-append front (part ++ back) in
     search (arith, pick-range a k xs (omega (arith, length-append part back)), drop_at, take_at)
 
 -- the places of the parts bring them into the new order
-pub pick-moved : (s : Marks) (xs : List hb_glyph_info_t) → xs ≡ joined_parts s
+pub pick-moved : (s : Marks) (xs : Glyphs) → xs ≡ joined_parts s
     → pick (places_moved (length s.low) (length s.modifiers_below) (length s.middle) (length s.modifiers_above)
     (length s.rest)) xs ≡ parts_moved s
 pick-moved s xs h =
@@ -119,31 +116,25 @@ pick-moved s xs h =
     )
 
 -- MARKS OF WHICH NONE MODIFIES A LETTER: nothing merges, and all stay
-none-behind : (n : ℕ) (gs : List hb_glyph_info_t) → list_any is_modifier gs ≡ false → list_any is_modifier (drop n gs)
-    ≡ false
-none-behind zero gs h = h
-none-behind (suc n) [] h = h
+none-behind : (n : ℕ) (gs : Glyphs) → list_any is_modifier gs ≡ false → list_any is_modifier (drop n gs) ≡ false
 none-behind (suc n) (g ∷ gs) h = none-behind n gs (or_parts (is_modifier g) (list_any is_modifier gs) h).1
+none-behind _ _ h = h
 
-front-none : (test : hb_glyph_info_t → Bool) (gs : List hb_glyph_info_t)
-    → ((g : hb_glyph_info_t) → is_modifier g ≡ false → test g ≡ false) → list_any is_modifier gs ≡ false
-    → prefix_len test gs ≡ 0
+front-none : (test : Glyph → Bool) (gs : Glyphs) → ((g : Glyph) → is_modifier g ≡ false → test g ≡ false)
+    → list_any is_modifier gs ≡ false → prefix_len test gs ≡ 0
 front-none test [] fails h = refl
 front-none test (g ∷ gs) fails h = search (arith, or_parts, refl)
 
-not_below : (g : hb_glyph_info_t) → is_modifier g ≡ false → is_modifier_of 220 g ≡ false
-not_below g h = (or_parts (is_modifier_of 220 g) (is_modifier_of 230 g) h).0
-
-not_above : (g : hb_glyph_info_t) → is_modifier g ≡ false → is_modifier_of 230 g ≡ false
+not_above : (g : Glyph) → is_modifier g ≡ false → is_modifier_of 230 g ≡ false
 not_above g h = (or_parts (is_modifier_of 220 g) (is_modifier_of 230 g) h).1
 
 -- so the second and the fourth part are empty
-record NoModifiers (gs : List hb_glyph_info_t) : Type 0 where
+record NoModifiers (gs : Glyphs) : Type 0 where
   below : prefix_len (is_modifier_of 220) (behind (has_lower_class 220) gs) ≡ 0
   above : prefix_len (is_modifier_of 230)
       (behind (has_lower_class 230) (behind (is_modifier_of 220) (behind (has_lower_class 220) gs))) ≡ 0
 
-no_modifiers : (gs : List hb_glyph_info_t) → list_any is_modifier gs ≡ false → NoModifiers gs
+no_modifiers : (gs : Glyphs) → list_any is_modifier gs ≡ false → NoModifiers gs
 no_modifiers gs h =
     let second = behind (has_lower_class 220) gs in
     let third = behind (is_modifier_of 220) second in
@@ -152,16 +143,10 @@ no_modifiers gs h =
     (none-behind (prefix_len (is_modifier_of 220) second) second in_second) in
     search (arith, front-none (is_modifier_of 230) (behind (has_lower_class 230) third) not_above in_fourth)
 
-nothing-merged : (level : BufferClusterLevel) (s a m b n : ℕ) (gs : List hb_glyph_info_t) → m ≡ 0 → n ≡ 0
-    → merge_all level (shifted s (passed a m b n)) gs ≡ gs
-nothing-merged level s a m b n gs none_below none_above = rw (none_below, none_above) refl
-
 -- a stretch that stays leaves the whole
-stretch-still : (s e : ℕ) (gs : List hb_glyph_info_t) → s ≤ e → take s gs ++ (stretch_of s e gs ++ drop e gs) ≡ gs
-stretch-still s e gs in_order =
-    search (arith, drop-drop (e - s) s gs, take-append-drop, take-append-drop s gs)
+stretch-still : (s e : ℕ) (gs : Glyphs) → s ≤ e → take s gs ++ (stretch_of s e gs ++ drop e gs) ≡ gs
+stretch-still s e gs = search (arith, drop-drop (e - s) s gs, take-append-drop, take-append-drop s gs)
 
-pub unmodified : (level : BufferClusterLevel) (s e : ℕ) (gs : List hb_glyph_info_t) → s ≤ e
+pub unmodified : (level : BufferClusterLevel) (s e : ℕ) (gs : Glyphs) → s ≤ e
     → list_any is_modifier (stretch_of s e gs) ≡ false → marks_reordered s e (marks_merged level s e gs) ≡ gs
-unmodified level s e gs in_order h =
-    search (arith, take-append-drop, refl, no_modifiers, stretch-still)
+unmodified = search (arith, take-append-drop, refl, no_modifiers, stretch-still)

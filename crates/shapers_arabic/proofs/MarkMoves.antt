@@ -1,15 +1,15 @@
 -- The step of the marks moves only inside what it merges, and takes each place once.
-use Rattle.std.proofs.Common.{◌≡◌, ℕ, zero, suc, ◌+◌, ◌<◌, ◌≤◌, true, List, [], ◌∷◌, ◌++◌, length, get_or, refl, subst, arith, append_assoc, length-append}
+use Rattle.std.proofs.Common.{◌≡◌, ℕ, zero, suc, ◌+◌, ◌<◌, true, List, [], ◌∷◌, ◌++◌, length, get_or, refl, subst, arith, append_assoc, length-append}
 use Rattle.std.specs.List.{AllByRecursion, range_with_len}
 use Rattle.std.specs.List.Sorted.{IsPermutation}
 use Rattle.std.proofs.lemmas.List.FromFn.{length-range_with_len}
 use Rattle.std.proofs.lemmas.List.Sorted.{IsPermutation-append_comm, IsPermutation-append_left, IsPermutation-append_right, IsPermutation-trans}
 use Rattle.std.proofs.lemmas.Bool.Decides.{nat_tests}
 use Rattle.shapers_buffer.proofs.MappedLists.{all-append, all-range}
-use Rattle.shapers_clusters.specs.Cuts.{EndWithin, held}
+use Rattle.shapers_clusters.specs.Cuts.{held}
 use Rattle.shapers_clusters.specs.Steps.{Step, HeldBetween, MovesMerged, Permutes}
 use Rattle.shapers_clusters.proofs.Widened.{range-append}
-use Rattle.shapers_arabic.specs.Marks.{merged_for, passed, places_moved}
+use Rattle.shapers_arabic.specs.Marks.{passed, places_moved}
 
 -- each place from k on, related to what is listed there
 abbrev AllAt : (ℕ → ℕ → Type 0) → ℕ → List ℕ → Type 0
@@ -23,14 +23,13 @@ all_at-append R k m (x ∷ xs) ys e h i = (h.0, all_at-append R (k + 1) m xs ys 
 
 all_at-range : (R : ℕ → ℕ → Type 0) (k a n : ℕ) → ((i : ℕ) → i < n → R (k + i) (a + i)) → AllAt R k (range_with_len a n)
 all_at-range R k a zero h = tt
-all_at-range R k a (suc n) h =
-    search (
-      arith,
-      h 0 (omega arith),
-      all_at-range R (k + 1) (a + 1) n
-          (λ i l. subst (λ j. R j (a + 1 + i)) (omega arith) (subst (λ b. R (k + suc i) b) (omega arith) (h (suc i)
-          (omega arith)))),
-    )
+all_at-range R k a (suc n) h = search (
+  arith,
+  h 0 (omega arith),
+  all_at-range R (k + 1) (a + 1) n
+      (λ i l. subst (λ j. R j (a + 1 + i)) (omega arith) (subst (λ b. R (k + suc i) b) (omega arith) (h (suc i)
+      (omega arith)))),
+)
 
 all_at : (R : ℕ → ℕ → Type 0) (k : ℕ) (xs : List ℕ) → AllAt R k xs → (i : ℕ) → i < length xs → R (k + i) (get_or xs i 0)
 all_at R k [] h i l = absurd (omega arith)
@@ -40,37 +39,21 @@ all_at R k (x ∷ xs) h (suc i) l = subst (λ j. R j (get_or xs i 0))
 
 -- what the two merges hold together
 held_one : (p q r : ℕ) (sts : List (ℕ × ℕ)) → p < r → r < q → held ((p, q) ∷ sts) r ≡ true
-held_one p q r sts low high = grind (arith, nat_tests)
-
-held_first : (a m b n r : ℕ) → 0 < m → 0 < r → r < a + m → held (passed a m b n) r ≡ true
-held_first a zero b n r some low high = absurd (omega arith)
-held_first a (suc m) b n r some low high = search (arith, held_one)
+held_one = grind (arith, nat_tests)
 
 held_second : (a m b n r : ℕ) → 0 < n → m < r → r < a + m + b + n → held (passed a m b n) r ≡ true
 held_second a m b zero r some low high = absurd (omega arith)
 held_second a zero b (suc n) r some low high = search (arith, held_one)
-held_second a (suc m) b (suc n) r some low high =
-    search (arith, nat_tests, held_one)
+held_second a (suc m) b (suc n) r some low high = search (arith, nat_tests, held_one)
 
 -- a mark of the front, over which modifiers of one kind pass, or of both
 held_low : (a m b n r : ℕ) → 0 < r → 0 < a → r < a + m + b + n → 0 < m + n → (n ≡ 0 → r < a + m)
     → held (passed a m b n) r ≡ true
-held_low a zero b n r low some high more last = search (arith, held_second)
-held_low a (suc m) b n r low some high more last = search arith
-
-end_within-merged : (k p q total : ℕ) (sts : List (ℕ × ℕ)) → q ≤ total → EndWithin total sts
-    → EndWithin total (merged_for k p q ++ sts)
-end_within-merged zero p q total sts l h = h
-end_within-merged (suc k) p q total sts l h = (l, h)
-
-end_within-passed : (a m b n total : ℕ) → a + m + b + n ≤ total → EndWithin total (passed a m b n)
-end_within-passed a m b zero total l = search (arith, end_within-merged)
-end_within-passed a m b (suc n) total l =
-    search (arith, end_within-merged)
+held_low a zero = search (arith, held_second)
+held_low a (suc m) = search arith
 
 length-moved : (a m b n c : ℕ) → length (places_moved a m b n c) ≡ a + m + b + n + c
-length-moved a m b n c =
-    search (arith, length-append, length-range_with_len)
+length-moved = search (arith, length-append, length-range_with_len)
 
 within-moved : (a m b n c : ℕ) → AllByRecursion (λ p. p < a + m + b + n + c) (places_moved a m b n c)
 within-moved a m b n c =
@@ -112,8 +95,7 @@ permuted-parts a m b n c =
     search (arith, IsPermutation-trans, IsPermutation-append_right)
 
 -- all places, in five parts
-range-five : (a m b n c : ℕ) → range_with_len 0 (a + m + b + n + c) ≡ range_with_len 0 a
-    ++ (range_with_len a m
+range-five : (a m b n c : ℕ) → range_with_len 0 (a + m + b + n + c) ≡ range_with_len 0 a ++ (range_with_len a m
     ++ (range_with_len (a + m) b ++ (range_with_len (a + m + b) n ++ range_with_len (a + m + b + n) c)))
 range-five a m b n c =
     let r0 = range_with_len 0 a in
@@ -124,5 +106,4 @@ range-five a m b n c =
     search (arith, range-append, range-append 0 a m, append_assoc)
 
 pub moves-permute : (a m b n c : ℕ) → Permutes (a + m + b + n + c) (step_of a m b n c)
-moves-permute a m b n c =
-    search (arith, range-five, permuted-parts)
+moves-permute = search (arith, range-five, permuted-parts)

@@ -4,7 +4,7 @@ use Rattle.std.specs.List.{range_with_len}
 use Rattle.shapers_buffer.specs.Glyph.{default_glyph, clusters}
 use Rattle.shapers_buffer.specs.Properties.{general_category, modified_combining_class, properties}
 use Rattle.shapers_buffer.specs.declared.buffer.category.hb_unicode_general_category_t.TheVariants.{Lo, Mn}
-use Rattle.shapers_buffer.specs.declared.buffer.glyph.hb_glyph_info_t.{hb_glyph_info_t}
+use Rattle.shapers_buffer.specs.Glyphs.{Glyph, Glyphs}
 use Rattle.shapers_buffer.specs.declared.buffer.level.BufferClusterLevel.{BufferClusterLevel}
 use Rattle.shapers_buffer.specs.declared.buffer.level.BufferClusterLevel.TheVariants.{MonotoneGraphemes, MonotoneCharacters, Characters}
 use Rattle.shapers_buffer.specs.declared.buffer.modified_combining_class.TheConstants.{CCC22, CCC26}
@@ -13,13 +13,13 @@ use Rattle.shapers_arabic.specs.declared.ot_shaper_arabic.marks.TheConstants.{AB
 use Rattle.shapers_arabic.specs.MarkParts.{is_among_modifiers, lengths_of, may_modify, passed_by, last_marks_first}
 use Rattle.shapers_arabic.specs.Marks.{ModifiersTakeClasses, classes_moved, combining_classes, modifiers, has_lower_class, is_modifier_of, split_marks, with_modifiers_first, marks_reordered, marks_merged, merged_for, passed, places_moved, arabic_mark_step, text_step, without_class}
 
-abbrev mark : ℕ × ℕ × ℕ → hb_glyph_info_t
+abbrev mark : ℕ × ℕ × ℕ → Glyph
 mark p = record default_glyph { glyph_id = p.0; unicode_props = properties Mn p.1; cluster = p.2 }
 
-abbrev letter : ℕ → ℕ → hb_glyph_info_t
+abbrev letter : ℕ → ℕ → Glyph
 letter c cluster = record default_glyph { glyph_id = c; unicode_props = properties Lo 0; cluster = cluster }
 
-abbrev view : List hb_glyph_info_t → List (ℕ × ℕ)
+abbrev view : Glyphs → List (ℕ × ℕ)
 view gs = map (λ g. (g.glyph_id, modified_combining_class g.unicode_props)) gs
 
 classes_of_modifiers : CCC22 ∷ CCC26 ∷ [] ≡ 25 ∷ 26 ∷ []
@@ -28,14 +28,14 @@ classes_of_modifiers = refl
 fourteen : length modifiers ≡ 14
 fourteen = refl
 
-abbrev two : List hb_glyph_info_t
+abbrev two : Glyphs
 two = map mark ((0x064E, 31, 0) ∷ (0x0654, 230, 1) ∷ [])
 
 hamza_above : view (with_modifiers_first (split_marks two)) ≡ (0x0654, 26) ∷ (0x064E, 31) ∷ []
 unfolding modified_combining_class general_category
 hamza_above = refl
 
-abbrev five : List hb_glyph_info_t
+abbrev five : Glyphs
 five = map mark ((0x064E, 31, 0) ∷ (0x0655, 220, 1) ∷ (0x065C, 220, 2) ∷ (0x0654, 230, 3) ∷ (0x0653, 230, 4) ∷ [])
 
 both_hamzas : view (with_modifiers_first (split_marks five)) ≡ (0x0655, 25) ∷ (0x0654, 26) ∷ (0x064E, 31)
@@ -80,7 +80,7 @@ unfolding modified_combining_class general_category
 bounds = refl
 
 -- the five parts
-abbrev parts : List hb_glyph_info_t → List (List (ℕ × ℕ))
+abbrev parts : Glyphs → List (List (ℕ × ℕ))
 parts gs = let s = split_marks gs in view s.low ∷ view s.modifiers_below ∷ view s.middle ∷ view s.modifiers_above
     ∷ view s.rest ∷ []
 
@@ -90,7 +90,7 @@ unfolding modified_combining_class general_category
 parts_of_five = refl
 
 -- modifiers behind another mark of 220 are in no part of theirs, nor those of 230 behind another of 230
-hidden : List hb_glyph_info_t
+hidden : Glyphs
 hidden = map mark ((0x065C, 220, 0) ∷ (0x0655, 220, 1) ∷ (0x0653, 230, 2) ∷ (0x0654, 230, 3) ∷ (0x0655, 220, 4) ∷ [])
 
 none_comes_forward : view (with_modifiers_first (split_marks hidden)) ≡ view hidden
@@ -125,16 +125,16 @@ unfolding modified_combining_class general_category
 step_row = refl
 
 -- with a base before and a letter behind: the step over all places, and the whole text
-abbrev text : List ℕ → List hb_glyph_info_t
+abbrev text : List ℕ → Glyphs
 text (a ∷ (b ∷ (c ∷ (d ∷ (e ∷ (f ∷ (g ∷ []))))))) =
     let marks = map mark ((0x064E, 31, b) ∷ (0x0655, 220, c) ∷ (0x065C, 220, d) ∷ (0x0654, 230, e) ∷ (0x0653, 230, f)
     ∷ []) in letter 0x0628 a ∷ marks ++ letter 0x0628 g ∷ []
 text _ = []
 
-abbrev rising : List hb_glyph_info_t
+abbrev rising : Glyphs
 rising = text (0 ∷ 1 ∷ 2 ∷ 3 ∷ 4 ∷ 5 ∷ 6 ∷ [])
 
-abbrev reordered : BufferClusterLevel → List ℕ → List hb_glyph_info_t
+abbrev reordered : BufferClusterLevel → List ℕ → Glyphs
 reordered level cs = marks_reordered 1 6 (marks_merged level 1 6 (text cs))
 
 text_step_row : text_step 1 6 rising
@@ -187,8 +187,7 @@ unfolding modified_combining_class general_category
 unmerged_repeated = refl
 
 -- with modifiers of one class alone one stretch merges
-one_merge : clusters
-    (marks_reordered 0 3
+one_merge : clusters (marks_reordered 0 3
     (marks_merged MonotoneGraphemes 0 3 (map mark ((0x064E, 31, 0) ∷ (0x0655, 220, 1) ∷ (0x0653, 230, 2) ∷ []))))
     ≡ 0 ∷ 0 ∷ 2 ∷ []
 unfolding modified_combining_class general_category
@@ -199,7 +198,7 @@ unfolding modified_combining_class general_category
 hamza_above_merged = refl
 
 -- glyph flags go where the cluster falls, and other fields of a moved mark stay
-abbrev full : hb_glyph_info_t
+abbrev full : Glyph
 full = record {
   glyph_id = 0x0655;
   cluster = 7;
@@ -218,7 +217,7 @@ unfolding modified_combining_class general_category
 kept_fields = refl
 
 -- a letter with a high byte of 220 or 230 has no class: it stays where it is, and its high byte too
-abbrev unclassed : ℕ → hb_glyph_info_t
+abbrev unclassed : ℕ → Glyph
 unclassed byte = record full { unicode_props = record { 0 = 0xA7 + 256 * byte } }
 
 no_class : map (λ g. modified_combining_class g.unicode_props) (unclassed 220 ∷ unclassed 230 ∷ []) ≡ 0 ∷ 0 ∷ []
@@ -250,7 +249,7 @@ unclassed_in_class = refl
 empty_stretch : marks_reordered 3 3 (marks_merged MonotoneGraphemes 3 3 rising) ≡ rising
 empty_stretch = refl
 
-abbrev many : List hb_glyph_info_t
+abbrev many : Glyphs
 many = map (λ i. mark (0x0655, 220, i)) (range_with_len 0 32)
 
 many_split : lengths_of (split_marks many) ≡ record { low = 0; modifiers_below = 32; middle = 0; modifiers_above = 0 }

@@ -4,7 +4,6 @@ use Rattle.std.specs.List.{AllByRecursion, zip}
 use Rattle.std.proofs.lemmas.List.{take_at, drop_at}
 use Rattle.std.proofs.lemmas.Slice.Zip.{length-zip}
 use Rattle.shapers_base.specs.declared.plan.joining.hb_arabic_joining_type_t.{hb_arabic_joining_type_t}
-use Rattle.shapers_base.specs.declared.plan.joining.hb_arabic_joining_type_t.TheVariants.{T}
 use Rattle.shapers_clusters.proofs.ClearPlaces.{held_by_calls}
 use Rattle.shapers_arabic.specs.declared.ot_shaper_arabic.arabic_action_t.TheConstants.{NONE}
 use Rattle.shapers_arabic.specs.Joining.{is_transparent, forms, is_selector, selected}
@@ -20,10 +19,9 @@ Silent cs ts = AllByRecursion (λ p. is_selector p.0 ≡ true → is_transparent
 pub silent-halves : (cs ds : List ℕ) (ts us : List hb_arabic_joining_type_t) → length ts ≡ length cs
     → Silent (cs ++ ds) (ts ++ us) → Silent cs ts × Silent ds us
 silent-halves [] ds [] us e all = (tt, all)
-silent-halves [] ds (t ∷ ts) us e all = absurd (omega arith)
-silent-halves (c ∷ cs) ds [] us e all = absurd (omega arith)
 silent-halves (c ∷ cs) ds (t ∷ ts) us e all = let rest =
     silent-halves cs ds ts us (omega arith) all.1 in ((all.0, rest.0), rest.1)
+silent-halves _ ds _ us e all = absurd (omega arith)
 
 -- each selector of these characters has no form
 Formless : List ℕ → List ℕ → Type 0
@@ -31,50 +29,39 @@ Formless [] fs = Unit {0}
 Formless (c ∷ cs) [] = Unit {0}
 Formless (c ∷ cs) (f ∷ fs) = (is_selector c ≡ true → f ≡ NONE) × Formless cs fs
 
-act-transparent : (t : hb_arabic_joining_type_t) → is_transparent t ≡ true → t ≡ T
-act-transparent T e = refl
-act-transparent _ e = cc
-
 formless : (cs : List ℕ) (before ts after : List hb_arabic_joining_type_t) → Silent cs ts
     → Formless cs (forms before ts after)
 unfolding Formless
-formless [] before ts after all = tt
-formless (c ∷ cs) before [] after all = tt
 formless (c ∷ cs) before (t ∷ ts) after all = search (arith, formless cs (t ∷ before) ts after all.1)
+formless _ before _ after all = tt
 
 -- so equal copies come from equal forms, whatever stood before
 copied-own : (before others : List (ℕ × ℕ)) (cs fs hs : List ℕ) → length fs ≡ length cs → length hs ≡ length cs
     → Formless cs fs → Formless cs hs → selected before (zip cs fs) ≡ selected others (zip cs hs) → fs ≡ hs
 unfolding Formless
 copied-own before others [] [] [] l m p q e = refl
-copied-own before others [] [] (h ∷ hs) l m p q e = absurd (omega arith)
-copied-own before others [] (f ∷ fs) hs l m p q e = absurd (omega arith)
-copied-own before others (c ∷ cs) [] hs l m p q e = absurd (omega arith)
-copied-own before others (c ∷ cs) (f ∷ fs) [] l m p q e = absurd (omega arith)
-copied-own before others (c ∷ cs) (f ∷ fs) (h ∷ hs) l m p q e =
-    search (
-      arith,
-      copied-own ((c, f) ∷ before) ((c, h) ∷ others) cs fs hs (omega arith) (omega arith) p.1 q.1 (ap (drop 1) e),
-    )
+copied-own before others (c ∷ cs) (f ∷ fs) (h ∷ hs) l m p q e = search (
+  arith,
+  copied-own ((c, f) ∷ before) ((c, h) ∷ others) cs fs hs (omega arith) (omega arith) p.1 q.1 (ap (drop 1) e),
+)
+copied-own before others _ _ _ l m p q e = absurd (omega arith)
 
 -- two lists in parts of equal lengths
 pub equal-parts : (xs ys us vs : List ℕ) → length xs ≡ length us → xs ++ ys ≡ us ++ vs → (xs ≡ us) × (ys ≡ vs)
-equal-parts xs ys us vs long e =
-    search (
-      arith,
-      take_at,
-      take_at us vs (length us) refl,
-      drop_at xs ys (length us) long,
-      drop_at us vs (length us) refl,
-    )
+equal-parts xs ys us vs long = search (
+  arith,
+  take_at,
+  take_at us vs (length us) refl,
+  drop_at xs ys (length us) long,
+  drop_at us vs (length us) refl,
+)
 
 -- the first half of a text, with the script Mongolian or another one
 pub first-own : (b : Bool) (cs : List ℕ) (before ts after behind : List hb_arabic_joining_type_t)
     → length ts ≡ length cs → (b ≡ true → Silent cs ts) → let fs = forms before ts after in let hs =
     forms before ts behind in cond b (selected [] (zip cs fs)) fs ≡ cond b (selected [] (zip cs hs)) hs → fs ≡ hs
 first-own false cs before ts after behind long silent e = e
-first-own true cs before ts after behind long silent e =
-    search (arith, copied-own, length-forms, formless)
+first-own true cs before ts after behind long silent e = search (arith, copied-own, length-forms, formless)
 
 -- both halves: the forms by the rule are those of the halves, and no selector that opens the second
 -- copies a form but its own
@@ -105,11 +92,8 @@ halves-own true cs ds before ts us after behind inner some long more silent e =
     let parts = equal-parts (selected [] (zip cs fs)) (selected seen (zip ds gs)) (selected [] (zip cs hs)) (selected
     [] (zip ds ks))
     (length-selected [] (zip cs fs) ∙ omega (arith, length-zip) ∙ sym (length-selected [] (zip cs hs))) (sym
-    (selected-append [] (zip cs fs) (zip ds gs))
-    ∙ ap (selected []) (sym zipped) ∙ e) in
-    let two = copied-own seen
-    [] ds gs ks
-    (search (arith, length-forms))
+    (selected-append [] (zip cs fs) (zip ds gs)) ∙ ap (selected []) (sym zipped) ∙ e) in
+    let two = copied-own seen [] ds gs ks (search (arith, length-forms))
     (length-forms [] us after ∙ more) (formless ds inner us after both.1) (formless ds [] us after both.1) parts.1 in
     let at : length (zip cs fs) ≡ length cs = omega (arith, length-zip cs fs) in
     record {

@@ -7,9 +7,8 @@ use Rattle.shapers_arabic.specs.Joining.{is_selector, form_behind, selected}
 pub zip-append : (cs ds : List ℕ) (fs gs : List ℕ) → length fs ≡ length cs
     → zip (cs ++ ds) (fs ++ gs) ≡ zip cs fs ++ zip ds gs
 zip-append [] ds [] gs e = refl
-zip-append [] ds (f ∷ fs) gs e = absurd (omega arith)
-zip-append (c ∷ cs) ds [] gs e = absurd (omega arith)
 zip-append (c ∷ cs) ds (f ∷ fs) gs e = cc (zip-append cs ds fs gs (omega arith))
+zip-append _ ds _ gs e = absurd (omega arith)
 
 pub length-selected : (before places : List (ℕ × ℕ)) → length (selected before places) ≡ length places
 length-selected before [] = refl

@@ -1,7 +1,7 @@
 -- The flags of selectors, and where the selector rule falls into the halves of a text.
 use Rattle.std.proofs.Common.{◌≡◌, ℕ, suc, ◌+◌, ◌-◌, ◌<◌, ◌≤◌, Bool, true, false, cond, eqb, not, ◌&&◌, List, [], ◌∷◌, ◌++◌, length, reverse, refl, sym, ap, ◌∙◌, arith, append_assoc}
 use Rattle.std.specs.List.{AllByRecursion, zip}
-use Rattle.std.proofs.lemmas.Bool.{eq-eqb, eqb-true, not-false}
+use Rattle.std.proofs.lemmas.Bool.{eq-eqb}
 use Rattle.std.proofs.lemmas.List.{append-nil, length-reverse, reverse-append}
 use Rattle.std.proofs.lemmas.List.Folds.{list_any-append}
 use Rattle.std.proofs.lemmas.Slice.Zip.{length-zip}
@@ -41,28 +41,16 @@ selectors-here before places c a p pos at =
     (copies before c a) (search arith) (search (arith, selectors-from))
 
 turned_places : (x : ℕ × ℕ) (xs before : List (ℕ × ℕ)) → reverse xs ++ (x ∷ before) ≡ reverse (x ∷ xs) ++ before
-turned_places x xs before =
-    search (arith, reverse-append (x ∷ []) xs, append_assoc)
+turned_places x xs = search (arith, reverse-append (x ∷ []) xs, append_assoc)
 
 selectors-append : (before xs ys : List (ℕ × ℕ)) → selector_flags before (xs ++ ys) ≡ selector_flags before xs
     ++ selector_flags (reverse xs ++ before) ys
 selectors-append before [] ys = refl
-selectors-append before ((c, a) ∷ xs) ys =
-    search (arith, turned_places, selectors-append ((c, a) ∷ before) xs ys)
+selectors-append before ((c, a) ∷ xs) ys = search (arith, turned_places, selectors-append ((c, a) ∷ before) xs ys)
 
 pub selectors-in_order : (before places : List (ℕ × ℕ)) → AllByRecursion InOrder (selector_flags before places)
 selectors-in_order before [] = tt
-selectors-in_order before ((c, a) ∷ places) =
-    search (arith, selectors-in_order ((c, a) ∷ before) places)
-
--- where the first place copies no form but its own, nothing before the text counts
-own-form : (before : List (ℕ × ℕ)) (c a : ℕ) → copies before c a ≡ false → cond (is_selector c) (form_behind before a) a
-    ≡ a
-own-form before c a e = elim (is_selector c) as (λ b. (b && not (eqb (form_behind before a) a)) ≡ false
-    → cond b (form_behind before a) a ≡ a) [
-      | true ↦ λ f. eqb-true (form_behind before a) a (not-false _ f)
-      | false ↦ λ f. refl
-    ] e
+selectors-in_order before ((c, a) ∷ places) = search (arith, selectors-in_order ((c, a) ∷ before) places)
 
 always : (b : Bool) (a : ℕ) → cond b a a ≡ a
 always true a = refl
@@ -70,24 +58,22 @@ always false a = refl
 
 selected-from : (before places : List (ℕ × ℕ)) (c a : ℕ) → copies before c a ≡ false → selected before ((c, a) ∷ places)
     ≡ selected [] ((c, a) ∷ places)
-selected-from before places c a e =
-    search (arith, always, selected-same)
+selected-from = search (arith, always, selected-same)
 
 in-halves : (xs ys : List (ℕ × ℕ)) → 0 < length xs → IsFree (selector_flags [] (xs ++ ys)) (length xs)
     → selected [] (xs ++ ys) ≡ selected [] xs ++ selected [] ys
 in-halves xs [] pos free = selected-append [] xs []
-in-halves xs ((c, a) ∷ ys) pos free =
-    search (
-      arith,
-      selected-append,
-      append-nil,
-      selected-from,
-      selectors-here,
-      length-reverse,
-      selectors-append,
-      list_any-append,
-      selectors-past,
-    )
+in-halves xs ((c, a) ∷ ys) pos free = search (
+  arith,
+  selected-append,
+  append-nil,
+  selected-from,
+  selectors-here,
+  length-reverse,
+  selectors-append,
+  list_any-append,
+  selectors-past,
+)
 
 -- characters and forms in two parts
 pub selected-halves : (cs ds fs gs : List ℕ) → length fs ≡ length cs → 0 < length cs
@@ -112,8 +98,8 @@ no-copy before c a e =
 
 pub selectors-free : (xs ys : List (ℕ × ℕ)) → 0 < length xs → selected (reverse xs ++ []) ys ≡ selected [] ys
     → IsFree (selector_flags [] (xs ++ ys)) (length xs)
-selectors-free xs [] pos e = search (arith, append-nil, selectors-past)
-selectors-free xs ((c, a) ∷ ys) pos e =
+selectors-free xs [] pos = search (arith, append-nil, selectors-past)
+selectors-free xs ((c, a) ∷ ys) pos =
     let before = reverse xs ++ [] in
     let p = length xs in
     search (

@@ -1,5 +1,5 @@
 -- The stretches of Sound's flag calls are in order.
-use Rattle.std.proofs.Common.{ℕ, suc, ◌≤◌, Bool, true, false, cond, List, [], ◌∷◌, ◌++◌, length, Option, None, Some, arith}
+use Rattle.std.proofs.Common.{ℕ, suc, ◌≤◌, Bool, true, false, cond, List, [], ◌∷◌, ◌++◌, length, Option, arith}
 use Rattle.std.specs.List.{AllByRecursion}
 use Rattle.shapers_buffer.specs.GlyphFlags.{UnsafeToBreak}
 use Rattle.shapers_buffer.specs.declared.buffer.tag.Script.{Script}
@@ -21,8 +21,7 @@ one-in_order true s e h = (h, tt)
 one-in_order false s e h = tt
 
 form-in_order : (o : Option Letter) (form n : ℕ) → StandsBefore o n → AllByRecursion InOrder (form_flags o form (suc n))
-form-in_order None form n h = search (arith, one-in_order)
-form-in_order (Some k) form n h = search (arith, one-in_order)
+form-in_order _ = search (arith, one-in_order)
 
 along-in_order : (context passed ts after : List hb_arabic_joining_type_t)
     → AllByRecursion InOrder (form_flags_along context passed ts after)
@@ -39,11 +38,9 @@ along-in_order context passed (t ∷ ts) after =
     search (arith, all-append, along-in_order context (t ∷ passed) ts after)
 
 pub added-in_order : (script : Option Script) (text : Text) → AllByRecursion InOrder (added_calls script text)
-added-in_order script text =
-    search (arith, all-append, along-in_order, selectors-in_order)
+added-in_order = search (arith, all-append, along-in_order, selectors-in_order)
 
 pub calls-in_order : (breaks : BreakFlags) (script : Option Script) (text : Text)
     → AllByRecursion InOrder (flag_calls breaks script text)
-calls-in_order AsCode script text = search (arith, joining-in_order)
-calls-in_order Sound script text =
-    search (arith, all-append, joining-in_order, added-in_order)
+calls-in_order AsCode = search (arith, joining-in_order)
+calls-in_order Sound = search (arith, all-append, joining-in_order, added-in_order)

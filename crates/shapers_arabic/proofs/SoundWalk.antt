@@ -4,7 +4,7 @@ use Rattle.std.proofs.Common.{◌≡◌, ℕ, suc, Bool, true, false, cond, eqb,
 use Rattle.std.specs.List.{zip}
 use Rattle.std.proofs.lemmas.Bool.{eq-eqb}
 use Rattle.shapers_buffer.specs.GlyphFlags.{FlagCall}
-use Rattle.shapers_buffer.specs.declared.buffer.glyph.hb_glyph_info_t.{hb_glyph_info_t}
+use Rattle.shapers_buffer.specs.Glyphs.{Glyphs}
 use Rattle.shapers_buffer.specs.declared.buffer.tag.Script.{Script}
 use Rattle.shapers_base.specs.declared.plan.joining.hb_arabic_joining_type_t.{hb_arabic_joining_type_t}
 use Rattle.shapers_base.specs.declared.plan.joining.hb_arabic_joining_type_t.TheVariants.{U, L, R, D, GroupAlaph, GroupDalathRish, T, X}
@@ -49,43 +49,23 @@ formed-by b t j f = absurd f
 
 has-form : (b : Option hb_arabic_joining_type_t) (t : hb_arabic_joining_type_t) (n : Option hb_arabic_joining_type_t)
     → HasForm t → eqb (act b t n) NONE ≡ false
-has-form b t n f = search (arith, act-by, formed-by)
-
--- behind a type without a form no letter takes one from what stands before it
-untaken-by : (own t : hb_arabic_joining_type_t) (j : Bool) → HasNone own → (is_taken (act_by (Some own) t j) ≡ false)
-    × (is_second_or_third (act_by (Some own) t j) ≡ false)
-untaken-by U U true f = (refl, refl)
-untaken-by U U false f = (refl, refl)
-untaken-by U t true f = (refl, refl)
-untaken-by U t false f = (refl, refl)
-untaken-by X U true f = (refl, refl)
-untaken-by X U false f = (refl, refl)
-untaken-by X t true f = (refl, refl)
-untaken-by X t false f = (refl, refl)
-untaken-by own t j f = absurd f
+has-form = search (arith, act-by, formed-by)
 
 untaken : (own t : hb_arabic_joining_type_t) (n : Option hb_arabic_joining_type_t) → HasNone own
     → (is_taken (act (Some own) t n) ≡ false) × (is_second_or_third (act (Some own) t n) ≡ false)
-untaken own t n f =
-    search (arith, act-by, Some)
+untaken = search (arith, act-by, Some)
 
 -- the last place with a form is that of the nearest letter, unless that one has none
 abbrev Marks : Option ℕ → Option Letter → Type 0
 Marks last None = last ≡ None
 Marks last (Some k) = HasNone k.own ⊎ (last ≡ Some (length k.before))
 
-no-calls : (last : Option ℕ) (f e : ℕ) → is_taken f ≡ false → is_second_or_third f ≡ false → form_calls last f e ≡ []
-no-calls None f e a b = cc
-no-calls (Some k) f e a b = cc
-
 here : (last : Option ℕ) (o : Option Letter) (before : Option hb_arabic_joining_type_t) (t : hb_arabic_joining_type_t)
     (n : Option hb_arabic_joining_type_t) (e : ℕ) → Marks last o → Fits o before → form_calls last (act before t n) e
     ≡ form_flags o (act before t n) e
 here last None before t n e m f = cc
 here last (Some k) before t n e (inr m) f = cc
-here last (Some k) before t n e (inl none) f =
-    let un = untaken k.own t n none in
-    search arith
+here last (Some k) before t n e (inl none) f = let un = untaken k.own t n none in search arith
 
 nothing : (o : Option Letter) (e : ℕ) → form_flags o NONE e ≡ []
 nothing None e = refl
@@ -130,24 +110,23 @@ copied-here false x y a calls e = cc (alike a)
 copied-along : (x : ℕ) (before places : List (ℕ × ℕ)) → ((own : ℕ) → form_behind before own ≡ x)
     → copied_calls (Some x) (length before) places ≡ selector_flags before places
 copied-along x before [] e = refl
-copied-along x before ((c, a) ∷ places) e =
-    search (
-      arith,
-      copied-along (cond (is_selector c) x a) ((c, a) ∷ before) places (λ k. ap (λ y. cond (is_selector c) y a) (e a)),
-    )
+copied-along x before ((c, a) ∷ places) e = search (
+  arith,
+  copied-along (cond (is_selector c) x a) ((c, a) ∷ before) places (λ k. ap (λ y. cond (is_selector c) y a) (e a)),
+)
 
 copied-all : (places : List (ℕ × ℕ)) → copied_calls None 0 places ≡ selector_flags [] places
 copied-all [] = refl
 copied-all ((c, a) ∷ places) =
     search (arith, always, copied-here, copied-along a ((c, a) ∷ []) places (λ k. always (is_selector c) a))
 
-places-are : (gs : List hb_glyph_info_t) → map place_of gs ≡ zip (map (λ g. g.glyph_id) gs) (map (λ g. g.auxiliary) gs)
+places-are : (gs : Glyphs) → map place_of gs ≡ zip (map (λ g. g.glyph_id) gs) (map (λ g. g.auxiliary) gs)
 places-are [] = refl
 places-are (g ∷ gs) = cc (places-are gs)
 
 -- so the calls at joined glyphs are those of the text
-pub added-at : (script : Option Script) (text : Text) (hs : List hb_glyph_info_t)
+pub added-at : (script : Option Script) (text : Text) (hs : Glyphs)
     → map (λ g. g.glyph_id) hs ≡ text.characters → map (λ g. g.auxiliary) hs ≡ forms text.before text.types text.after
     → sound_calls_at script hs ≡ added_calls script text
-added-at script text hs c f =
+added-at script text hs =
     search (arith, along text.before [] text.types text.after None refl, copied-all, places-are hs)

@@ -5,7 +5,7 @@ use Rattle.std.proofs.lemmas.Bool.{or_parts}
 use Rattle.std.proofs.lemmas.List.{length-map, length-take-le, length-drop, take-append-drop, take_at, drop_at, drop-drop, drop-map}
 use Rattle.std.proofs.lemmas.List.Folds.{list_any-append}
 use Rattle.std.proofs.lemmas.Slice.Zip.{length-zip}
-use Rattle.shapers_buffer.specs.declared.buffer.glyph.hb_glyph_info_t.{hb_glyph_info_t}
+use Rattle.shapers_buffer.specs.Glyphs.{Glyph}
 use Rattle.shapers_buffer.specs.declared.buffer.tag.Script.{Script}
 use Rattle.shapers_base.specs.declared.plan.breaks.BreakFlags.{BreakFlags}
 use Rattle.shapers_base.specs.declared.plan.breaks.BreakFlags.TheVariants.{AsCode, Sound}
@@ -62,8 +62,7 @@ forms-together script before ts us after front cs ds behind ca cb cc cd la lc so
     let whole = in-parts b (length ts) (ca ++ cd) (forms before (ts ++ ds) behind) ca fa cd fd refl
     (concatenation-free before ts us after front cs ds behind some free opened own) la a_long in
     let one = in-parts b (length ts) (ca ++ cb) (forms before (ts ++ us) after) ca fa cb
-    (forms (reverse ts ++ before) us after) refl (forms-append before
-    ts us after) la a_long in
+    (forms (reverse ts ++ before) us after) refl (forms-append before ts us after) la a_long in
     let two = in-parts b (length cs) (cc ++ cd) (forms front (cs ++ ds) behind) cc
     (forms front cs (ds ++ behind)) cd fd refl (forms-append front
     cs ds behind) lc (length-forms front cs (ds ++ behind)) in
@@ -71,7 +70,7 @@ forms-together script before ts us after front cs ds behind ca cb cc cd la lc so
 
 pub glyphs-concatenate : GlyphsConcatenate
 glyphs-concatenate breaks masks script joining general n m one two wants pos within more inside own clear bare =
-    let id = λ (g : hb_glyph_info_t). g.glyph_id in
+    let id = λ (g : Glyph). g.glyph_id in
     let ga = take n one.glyphs in
     let gb = drop n one.glyphs in
     let gc = take m two.glyphs in
@@ -93,14 +92,12 @@ glyphs-concatenate breaks masks script joining general n m one two wants pos wit
     let m_is = types_long joining gc ∙ (length-take-le m two.glyphs (omega arith)) in
     let own_flags = λ (t : Text). joining_flags t.before t.types t.after in
     let free_parts = subst (λ (i : ℕ). IsFree (joining_flags before (ts ++ us) after) i) (sym
-    (types_long joining ga ∙ a_long)) (subst (λ (t :
-    Text). IsFree (own_flags t) n)
+    (types_long joining ga ∙ a_long)) (subst (λ (t : Text). IsFree (own_flags t) n)
     (text-parts joining general one ga gb (sym (take-append-drop n one.glyphs)))
     (own-free breaks script first_text n (free-clear breaks masks one.flags script first_text one.glyphs n (length-map
     one.glyphs id) (types_long joining one.glyphs) pos within clear))) in
     let open_parts = subst (λ (i : ℕ). IsOpen (joining_flags front (cs ++ ds) behind) i) (sym m_is) (subst (λ (t :
-    Text). IsOpen (own_flags t) m)
-    (text-parts joining general two gc gd (sym (take-append-drop m two.glyphs)))
+    Text). IsOpen (own_flags t) m) (text-parts joining general two gc gd (sym (take-append-drop m two.glyphs)))
     (own-open breaks script second_text m (
     let text = text_of joining general two in
     let fs = forms_of script text in

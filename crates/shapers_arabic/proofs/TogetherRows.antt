@@ -5,7 +5,7 @@ use Rattle.shapers_buffer.specs.Buffer.{Buffer, new_buffer}
 use Rattle.shapers_buffer.specs.Glyph.{default_glyph}
 use Rattle.shapers_buffer.specs.declared.buffer.category.hb_unicode_general_category_t.{hb_unicode_general_category_t}
 use Rattle.shapers_buffer.specs.declared.buffer.category.hb_unicode_general_category_t.TheVariants as gc
-use Rattle.shapers_buffer.specs.declared.buffer.glyph.hb_glyph_info_t.{hb_glyph_info_t}
+use Rattle.shapers_buffer.specs.Glyphs.{Glyph, Glyphs}
 use Rattle.shapers_buffer.specs.declared.buffer.tag.Script.{Script}
 use Rattle.shapers_base.specs.declared.plan.breaks.BreakFlags.TheVariants.{AsCode}
 use Rattle.shapers_base.specs.declared.plan.joining.hb_arabic_joining_type_t.{hb_arabic_joining_type_t}
@@ -23,7 +23,7 @@ abbrev letters : ℕ → hb_unicode_general_category_t
 letters c = gc.Lo
 
 -- characters, each in a cluster of its own from this one on
-abbrev text : ℕ → List ℕ → List hb_glyph_info_t
+abbrev text : ℕ → List ℕ → Glyphs
 text n [] = []
 text n (c ∷ cs) = record default_glyph { glyph_id = c; cluster = n } ∷ text (suc n) cs
 
@@ -53,20 +53,20 @@ row_mark : HasOwnLetter joining_of letters 1 (buffer_of 0 [] (1 ∷ 3 ∷ []) (3
 row_mark none = refl
 
 row_behind : HasOwnLetter joining_of letters 1 (buffer_of 0 [] (1 ∷ 3 ∷ []) (3 ∷ 2 ∷ [])) → ⊥
-row_behind own = search arith
+row_behind = search arith
 
 -- glyphs: a character, a form, a mask, a cluster
-abbrev glyph : ℕ → ℕ → ℕ → ℕ → hb_glyph_info_t
+abbrev glyph : ℕ → ℕ → ℕ → ℕ → Glyph
 glyph c a m k = record default_glyph { glyph_id = c; auxiliary = a; mask = m; cluster = k }
 
 abbrev mong : Option Script
 mong = Some (record { 0 = codes "Mong" })
 
-other_forms : (i : ℕ) (xs ys : List hb_glyph_info_t) → xs ≡ ys → get_or (map (λ g. g.auxiliary) xs) i 0
+other_forms : (i : ℕ) (xs ys : Glyphs) → xs ≡ ys → get_or (map (λ g. g.auxiliary) xs) i 0
     ≡ get_or (map (λ g. g.auxiliary) ys) i 0
 other_forms i xs ys e = cc
 
-other_masks : (i : ℕ) (xs ys : List hb_glyph_info_t) → xs ≡ ys → get_or (map (λ g. g.mask) xs) i 0
+other_masks : (i : ℕ) (xs ys : Glyphs) → xs ≡ ys → get_or (map (λ g. g.mask) xs) i 0
     ≡ get_or (map (λ g. g.mask) ys) i 0
 other_masks i xs ys e = cc
 
@@ -77,15 +77,15 @@ row_kept = search arith
 
 row_first_form : KeepsParts None 1 1 (glyph 1 0 8 0 ∷ []) (glyph 9 9 9 9 ∷ glyph 2 1 16 1 ∷ [])
     (glyph 1 6 8 0 ∷ glyph 2 1 16 1 ∷ []) → ⊥
-row_first_form kept = search arith
+row_first_form = search arith
 
 row_second_form : KeepsParts None 1 1 (glyph 1 0 8 0 ∷ []) (glyph 9 9 9 9 ∷ glyph 2 1 16 1 ∷ [])
     (glyph 1 0 8 0 ∷ glyph 2 0 16 1 ∷ []) → ⊥
-row_second_form kept = search arith
+row_second_form = search arith
 
 row_second_mask : KeepsParts None 1 1 (glyph 1 0 8 0 ∷ []) (glyph 9 9 9 9 ∷ glyph 2 1 16 1 ∷ [])
     (glyph 1 0 8 0 ∷ glyph 2 1 8 1 ∷ []) → ⊥
-row_second_mask kept = search arith
+row_second_mask = search arith
 
 -- selectors that open the second part may differ with the script Mongolian, a later one and other scripts' may not
 row_selector : KeepsParts mong 1 1 (glyph 1 0 8 0 ∷ []) (glyph 9 9 9 9 ∷ glyph 0x180B 7 0 1 ∷ glyph 1 0 8 2 ∷ [])
@@ -94,11 +94,11 @@ row_selector = search arith
 
 row_other_script : KeepsParts None 1 1 (glyph 1 0 8 0 ∷ []) (glyph 9 9 9 9 ∷ glyph 0x180B 7 0 1 ∷ glyph 1 0 8 2 ∷ [])
     (glyph 1 0 8 0 ∷ glyph 0x180B 0 8 1 ∷ glyph 1 0 8 2 ∷ []) → ⊥
-row_other_script kept = search arith
+row_other_script = search arith
 
 row_later_selector : KeepsParts mong 1 1 (glyph 1 0 8 0 ∷ []) (glyph 9 9 9 9 ∷ glyph 1 0 8 1 ∷ glyph 0x180B 7 0 2 ∷ [])
     (glyph 1 0 8 0 ∷ glyph 1 0 8 1 ∷ glyph 0x180B 0 0 2 ∷ []) → ⊥
-row_later_selector kept = search arith
+row_later_selector = search arith
 
 -- forms, and masks, after joining with no masks of forms
 abbrev after : Buffer → Buffer

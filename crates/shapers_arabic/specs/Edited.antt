@@ -4,7 +4,7 @@ use Rattle.std.specs.Prelude.{ℕ, suc, ◌≡◌, ◌+◌, ◌≤◌, false, Li
 use Rattle.shapers_buffer.specs.Buffer.{Buffer}
 use Rattle.shapers_buffer.specs.Glyph.{characters, order_view}
 use Rattle.shapers_buffer.specs.declared.buffer.category.hb_unicode_general_category_t.{hb_unicode_general_category_t}
-use Rattle.shapers_buffer.specs.declared.buffer.glyph.hb_glyph_info_t.{hb_glyph_info_t}
+use Rattle.shapers_buffer.specs.Glyphs.{Glyphs}
 use Rattle.shapers_buffer.specs.declared.buffer.tag.Script.{Script}
 use Rattle.shapers_base.specs.declared.plan.breaks.BreakFlags.{BreakFlags}
 use Rattle.shapers_base.specs.declared.plan.joining.hb_arabic_joining_type_t.{hb_arabic_joining_type_t}
@@ -12,7 +12,7 @@ use Rattle.shapers_arabic.specs.Joining.{is_transparent, nearest}
 use Rattle.shapers_arabic.specs.JoinedText.{buffer_joined, opening, stored_types}
 
 -- the buffer with these glyphs in place of those from s to e
-abbrev pub edited : ℕ → ℕ → List hb_glyph_info_t → Buffer → Buffer
+abbrev pub edited : ℕ → ℕ → Glyphs → Buffer → Buffer
 edited s e gs b = record b { glyphs = take s b.glyphs ++ (gs ++ drop e b.glyphs) }
 
 -- two lists at a text's places agree from place k on, but for j and Mongolian selectors behind it
@@ -23,7 +23,7 @@ SameBut script k j characters xs ys =
 
 -- Before an edit all stay but the last letter, if there is one, and Mongolian selectors behind it.
 pub record StayBefore (script : Option Script) (types : List hb_arabic_joining_type_t)
-    (characters : List ℕ) (xs ys : List hb_glyph_info_t) : Type 0 where
+    (characters : List ℕ) (xs ys : Glyphs) : Type 0 where
   pub none : nearest types ≡ None → xs ≡ ys
   pub last : (front tail : List hb_arabic_joining_type_t) (t : hb_arabic_joining_type_t) →
       types ≡ front ++ t ∷ tail → is_transparent t ≡ false → nearest tail ≡ None →
@@ -31,7 +31,7 @@ pub record StayBefore (script : Option Script) (types : List hb_arabic_joining_t
 
 -- Behind an edit all stay but the first letter and Mongolian selectors behind it or in front.
 pub record StayBehind (script : Option Script) (types : List hb_arabic_joining_type_t)
-    (characters : List ℕ) (xs ys : List hb_glyph_info_t) : Type 0 where
+    (characters : List ℕ) (xs ys : Glyphs) : Type 0 where
   pub none : nearest types ≡ None →
       let k = opening script characters in drop k xs ≡ drop k ys
   pub first : (front tail : List hb_arabic_joining_type_t) (t : hb_arabic_joining_type_t) →
@@ -41,7 +41,7 @@ pub record StayBehind (script : Option Script) (types : List hb_arabic_joining_t
 -- One: the glyphs gs after joining; two: so with that many others in place of those from s to e.
 -- What stands before the edit stays, and what stands behind it, all but clusters and glyph flags.
 pub record StayNear (script : Option Script) (joining : ℕ → hb_arabic_joining_type_t)
-    (s e others : ℕ) (gs one two : List hb_glyph_info_t) : Type 0 where
+    (s e others : ℕ) (gs one two : Glyphs) : Type 0 where
   pub before : StayBefore script (stored_types joining (take s gs)) (characters (take s gs))
       (order_view (take s one)) (order_view (take s two))
   pub behind : StayBehind script (stored_types joining (drop e gs)) (characters (drop e gs))
@@ -51,7 +51,7 @@ pub record StayNear (script : Option Script) (joining : ℕ → hb_arabic_joinin
 abbrev pub GlyphsStayNear : Type 0
 GlyphsStayNear = (breaks : BreakFlags) (masks : List ℕ) (script : Option Script)
     (joining : ℕ → hb_arabic_joining_type_t) (general : ℕ → hb_unicode_general_category_t)
-    (s e : ℕ) (gs : List hb_glyph_info_t) (b : Buffer) → s ≤ e → e ≤ length b.glyphs →
+    (s e : ℕ) (gs : Glyphs) (b : Buffer) → s ≤ e → e ≤ length b.glyphs →
     let after = buffer_joined breaks masks script joining general in
     StayNear script joining s e (length gs) b.glyphs (after b).glyphs
     (after (edited s e gs b)).glyphs

@@ -2,7 +2,7 @@
 use Rattle.std.specs.Prelude.{ℕ, ◌≡◌, ◌%◌, true, false, List, Option}
 use Rattle.std.specs.List.{AllByRecursion, zip}
 use Rattle.shapers_buffer.specs.Glyph.{clusters}
-use Rattle.shapers_buffer.specs.declared.buffer.glyph.hb_glyph_info_t.{hb_glyph_info_t}
+use Rattle.shapers_buffer.specs.Glyphs.{Glyphs}
 use Rattle.shapers_buffer.specs.declared.buffer.tag.Script.{Script}
 use Rattle.shapers_clusters.specs.Breaks.{IsStrictlyMonotone, is_unsafe}
 use Rattle.shapers_arabic.specs.Joining.{is_selector, is_transparent}
@@ -10,7 +10,7 @@ use Rattle.shapers_arabic.specs.JoinedText.{Text, is_mongolian}
 
 -- nothing but joining decides which places are clear: each glyph is a cluster of its own, clusters
 -- rise or fall along the text, no glyph was flagged before, and no form's mask has a glyph flag bit
-pub record IsFresh (masks : List ℕ) (gs : List hb_glyph_info_t) : Type 0 where
+pub record IsFresh (masks : List ℕ) (gs : Glyphs) : Type 0 where
   pub single : IsStrictlyMonotone (clusters gs)
   pub unflagged : AllByRecursion (λ g. is_unsafe g ≡ false) gs
   pub unmasked : AllByRecursion (λ m. m % 8 ≡ 0) masks

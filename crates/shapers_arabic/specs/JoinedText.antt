@@ -9,7 +9,7 @@ use Rattle.shapers_buffer.specs.GlyphFlags.{FlagCall, flags_called}
 use Rattle.shapers_buffer.specs.Properties.{general_category}
 use Rattle.shapers_buffer.specs.declared.buffer.flags.BufferFlags.{BufferFlags}
 use Rattle.shapers_buffer.specs.declared.buffer.category.hb_unicode_general_category_t.{hb_unicode_general_category_t}
-use Rattle.shapers_buffer.specs.declared.buffer.glyph.hb_glyph_info_t.{hb_glyph_info_t}
+use Rattle.shapers_buffer.specs.Glyphs.{Glyph, Glyphs}
 use Rattle.shapers_buffer.specs.declared.buffer.tag.Script.{Script}
 use Rattle.shapers_base.specs.declared.plan.breaks.BreakFlags.{BreakFlags}
 use Rattle.shapers_base.specs.declared.plan.breaks.BreakFlags.TheVariants.{AsCode, Sound}
@@ -24,7 +24,7 @@ is_mongolian None = false
 is_mongolian (Some s) = pointwise nat_eq s.0 (codes "Mong")
 
 -- the types of glyphs, where the stored category decides X
-abbrev pub stored_types : (ℕ → hb_arabic_joining_type_t) → List hb_glyph_info_t →
+abbrev pub stored_types : (ℕ → hb_arabic_joining_type_t) → Glyphs →
     List hb_arabic_joining_type_t
 stored_types joining gs =
     map (λ g. resolved (joining g.glyph_id) (general_category g.unicode_props)) gs
@@ -58,12 +58,12 @@ forms_of script text =
     if is_mongolian script then selected [] (zip text.characters by_rule) else by_rule
 
 -- the glyph in a form: the form in its auxiliary byte, and the form's mask besides its own
-abbrev pub with_form : List ℕ → ℕ → hb_glyph_info_t → hb_glyph_info_t
+abbrev pub with_form : List ℕ → ℕ → Glyph → Glyph
 with_form masks form g =
     record g { auxiliary = form; mask = bit_or g.mask (slice_index masks form) }
 
 -- each glyph in its form
-abbrev pub with_joining_forms : List ℕ → List ℕ → List hb_glyph_info_t → List hb_glyph_info_t
+abbrev pub with_joining_forms : List ℕ → List ℕ → Glyphs → Glyphs
 with_joining_forms masks forms gs = map (λ p. with_form masks p.0 p.1) (zip forms gs)
 
 -- what Sound flags besides: forms that the text's pieces would lose, and copied ones if Mongolian
@@ -82,7 +82,7 @@ flag_calls Sound script text =
 
 -- the glyphs of a text after joining: each in its form, with those flags that the buffer wants
 abbrev pub joined_glyphs : BreakFlags → List ℕ → BufferFlags → Option Script → Text →
-    List hb_glyph_info_t → List hb_glyph_info_t
+    Glyphs → Glyphs
 joined_glyphs breaks masks flags script text gs =
     let calls = flag_calls breaks script text in
     let formed = with_joining_forms masks (forms_of script text) gs in
@@ -106,7 +106,7 @@ abbrev pub look_ups : Text → ℕ
 look_ups text = length text.types + (context_look_ups text.before + context_look_ups text.after)
 
 -- the glyphs are characters
-abbrev pub AreCharacters : List hb_glyph_info_t → Type 0
+abbrev pub AreCharacters : Glyphs → Type 0
 AreCharacters gs = AllByRecursion (λ g. IsScalar g.glyph_id) gs
 
 -- the halves of a text that is cut at place n, each with what it sees of the other
@@ -161,7 +161,7 @@ CopiedContextsShow = (n : ℕ) (text : Text) → Shows (drop n text.types ++ tex
     (take 5 (reverse (take n text.types) ++ text.before))
 
 -- the stored categories are those of the table
-abbrev pub AgreesWithTable : (ℕ → hb_unicode_general_category_t) → List hb_glyph_info_t → Type 0
+abbrev pub AgreesWithTable : (ℕ → hb_unicode_general_category_t) → Glyphs → Type 0
 AgreesWithTable general gs =
     AllByRecursion (λ g. general_category g.unicode_props ≡ general g.glyph_id) gs
 

@@ -5,7 +5,7 @@ use Rattle.std.specs.List.{AllByRecursion}
 use Rattle.shapers_buffer.specs.Buffer.{flags_concat, flags_tatweel, has_flag}
 use Rattle.shapers_buffer.specs.GlyphFlags.{FlagCall, UnsafeToBreak, UnsafeToConcat, SafeToInsertTatweel, flags_called}
 use Rattle.shapers_buffer.specs.declared.buffer.flags.BufferFlags.{BufferFlags}
-use Rattle.shapers_buffer.specs.declared.buffer.glyph.hb_glyph_info_t.{hb_glyph_info_t}
+use Rattle.shapers_buffer.specs.Glyphs.{Glyph, Glyphs}
 use Rattle.shapers_base.specs.declared.plan.breaks.BreakFlags.{BreakFlags}
 use Rattle.shapers_base.specs.declared.plan.breaks.BreakFlags.TheVariants.{AsCode, Sound}
 use Rattle.shapers_base.specs.declared.plan.joining.hb_arabic_joining_type_t.{hb_arabic_joining_type_t}
@@ -106,7 +106,7 @@ abbrev pub joined_at : Option ℕ → Transition → ℕ → List ℕ → List �
 joined_at last step i fs = slice_set (given_last last step.0 fs) i step.1
 
 -- the forms that are written in glyphs
-abbrev pub written : List hb_glyph_info_t → List ℕ
+abbrev pub written : Glyphs → List ℕ
 written gs = map (λ g. g.auxiliary) gs
 
 -- what holds after i places
@@ -137,37 +137,37 @@ step_flags None state end given joins = if joins then UnsafeToConcat 0 end ∷ [
 step_flags (Some k) state end given joins = given_flags k end given (joins || waits state)
 
 -- the glyph without its form
-abbrev pub unformed : hb_glyph_info_t → hb_glyph_info_t
+abbrev pub unformed : Glyph → Glyph
 unformed g = record g { auxiliary = 0 }
 
 -- forms apart, the glyphs after these flag calls
 abbrev pub FlaggedBy :
-    BufferFlags → List FlagCall → List hb_glyph_info_t → List hb_glyph_info_t → Type 0
+    BufferFlags → List FlagCall → Glyphs → Glyphs → Type 0
 FlaggedBy flags calls gs hs =
     map unformed hs
     ≡ flags_called (has_flag flags_concat flags) (has_flag flags_tatweel flags) calls
     (map unformed gs)
 
 -- what joining never changes of a glyph: all but its form and its mask
-abbrev pub unjoined : hb_glyph_info_t → hb_glyph_info_t
+abbrev pub unjoined : Glyph → Glyph
 unjoined g = record g { auxiliary = 0; mask = 0 }
 
-abbrev pub SameText : List hb_glyph_info_t → List hb_glyph_info_t → Type 0
+abbrev pub SameText : Glyphs → Glyphs → Type 0
 SameText gs hs = map unjoined hs ≡ map unjoined gs
 
 -- what holds after i places of the first glyphs, which are gs by now: forms and flags of the text
 -- so far
 pub record WalkedTo (flags : BufferFlags) (before types : List hb_arabic_joining_type_t)
-    (first : List hb_glyph_info_t) (i : ℕ) (state : State) (last : Option ℕ)
-    (gs : List hb_glyph_info_t) : Type 0 where
+    (first : Glyphs) (i : ℕ) (state : State) (last : Option ℕ)
+    (gs : Glyphs) : Type 0 where
   pub walked : WalkedInJoining before types i state last (written gs)
   pub flagged : FlaggedBy flags (flags_along before [] (take i types)) first gs
 
 -- a step over the glyph at place i, which has this type: what held before it holds after it
-abbrev pub WalksOn : BufferFlags → ℕ → hb_arabic_joining_type_t → Letters → List hb_glyph_info_t →
-    Letters → List hb_glyph_info_t → Type 0
+abbrev pub WalksOn : BufferFlags → ℕ → hb_arabic_joining_type_t → Letters → Glyphs →
+    Letters → Glyphs → Type 0
 WalksOn flags i t letters gs next hs =
-    (before types : List hb_arabic_joining_type_t) (first : List hb_glyph_info_t) →
+    (before types : List hb_arabic_joining_type_t) (first : Glyphs) →
     i < length types →
     slice_index_or types i U ≡ t →
     WalkedTo flags before types first i letters.state letters.last gs →
@@ -175,21 +175,21 @@ WalksOn flags i t letters gs next hs =
 
 -- the walk over all glyphs from this state on, behind all contexts that leave it
 abbrev pub WalksAll : BufferFlags → (ℕ → hb_arabic_joining_type_t) → State →
-    List hb_glyph_info_t → Letters → List hb_glyph_info_t → Type 0
+    Glyphs → Letters → Glyphs → Type 0
 WalksAll flags joining state gs letters hs =
     (before : List hb_arabic_joining_type_t) → state ≡ state_at_start (nearest before) →
     WalkedTo flags before (stored_types joining gs) gs (length gs) letters.state letters.last hs
 
 -- glyphs with the forms and the flags of a text, before any mask
 pub record HasJoined (flags : BufferFlags) (before types after : List hb_arabic_joining_type_t)
-    (gs hs : List hb_glyph_info_t) : Type 0 where
+    (gs hs : Glyphs) : Type 0 where
   pub forms_are : written hs ≡ forms before types after
   pub flagged : FlaggedBy flags (joining_flags before types after) gs hs
 
 -- these, between all contexts with these nearest types
 abbrev pub JoinsTo : BufferFlags → (ℕ → hb_arabic_joining_type_t) →
     Option hb_arabic_joining_type_t →
-    Option hb_arabic_joining_type_t → List hb_glyph_info_t → List hb_glyph_info_t → Type 0
+    Option hb_arabic_joining_type_t → Glyphs → Glyphs → Type 0
 JoinsTo flags joining before after gs hs =
     (front behind : List hb_arabic_joining_type_t) → nearest front ≡ before →
     nearest behind ≡ after →
@@ -206,18 +206,18 @@ given_by state None = NONE
 given_by state (Some t) = (cell state t).0
 
 -- the form of a glyph once the one before it is done: a selector takes its form
-abbrev pub copied : Option ℕ → hb_glyph_info_t → ℕ
+abbrev pub copied : Option ℕ → Glyph → ℕ
 copied None g = g.auxiliary
 copied (Some form) g = if is_selector g.glyph_id then form else g.auxiliary
 
 -- each selector with the form of the glyph before it, one after another
-abbrev pub with_copied : Option ℕ → List hb_glyph_info_t → List hb_glyph_info_t
+abbrev pub with_copied : Option ℕ → Glyphs → Glyphs
 with_copied previous [] = []
 with_copied previous (g ∷ gs) =
     record g { auxiliary = copied previous g } ∷ with_copied (Some (copied previous g)) gs
 
 -- no break inside the stretches of these calls, whatever the buffer wants
-abbrev pub Called : List FlagCall → List hb_glyph_info_t → List hb_glyph_info_t → Type 0
+abbrev pub Called : List FlagCall → Glyphs → Glyphs → Type 0
 Called calls gs hs = (concat tatweel : Bool) → hs ≡ flags_called concat tatweel calls gs
 
 -- the calls that Sound adds at a letter that ends before place end, in its final form, behind the
@@ -234,7 +234,7 @@ form_calls_along last i (f ∷ fs) =
     else form_calls last f (suc i) ++ form_calls_along (Some i) (suc i) fs
 
 -- a glyph's character and form
-abbrev pub place_of : hb_glyph_info_t → ℕ × ℕ
+abbrev pub place_of : Glyph → ℕ × ℕ
 place_of g = (g.glyph_id, g.auxiliary)
 
 -- the form of a character in this form once the one before it is done
@@ -252,18 +252,18 @@ copied_calls previous i ((c, a) ∷ places) =
     ++ copied_calls (Some form) (suc i) places
 
 -- the calls that Sound adds at these glyphs
-abbrev pub sound_calls_at : Option Script → List hb_glyph_info_t → List FlagCall
+abbrev pub sound_calls_at : Option Script → Glyphs → List FlagCall
 sound_calls_at script gs =
     form_calls_along None 0 (written gs)
     ++ (if is_mongolian script then copied_calls None 0 (map place_of gs) else [])
 
 -- the same by the choice
-abbrev pub calls_added : BreakFlags → Option Script → List hb_glyph_info_t → List FlagCall
+abbrev pub calls_added : BreakFlags → Option Script → Glyphs → List FlagCall
 calls_added AsCode script gs = []
 calls_added Sound script gs = sound_calls_at script gs
 
 -- the forms of the glyphs have masks
-abbrev pub HaveMasks : List hb_glyph_info_t → Type 0
+abbrev pub HaveMasks : Glyphs → Type 0
 HaveMasks gs = AllByRecursion (λ g. g.auxiliary < 8) gs
 
 -- what can be nearest in some context: nothing, or a type that isn't transparent
@@ -273,7 +273,7 @@ IsNearest o = (ts : List hb_arabic_joining_type_t) × (nearest ts ≡ o)
 -- the glyphs after joining, between all contexts with these nearest types
 abbrev pub JoinsAll : BreakFlags → List ℕ → BufferFlags → Option Script →
     (ℕ → hb_arabic_joining_type_t) → Option hb_arabic_joining_type_t →
-    Option hb_arabic_joining_type_t → List hb_glyph_info_t → List hb_glyph_info_t → Type 0
+    Option hb_arabic_joining_type_t → Glyphs → Glyphs → Type 0
 JoinsAll breaks masks flags script joining before after gs hs =
     (front behind : List hb_arabic_joining_type_t) → nearest front ≡ before →
     nearest behind ≡ after →

@@ -1,6 +1,6 @@
 -- Words for the code that orders marks, which the contracts of its steps cite.
 use Rattle.std.specs.Prelude.{ℕ, ◌+◌, ◌-◌, ◌==◌, nat_le, Bool, ◌&&◌, ◌||◌, List, ◌++◌, length, map, take, drop}
-use Rattle.shapers_buffer.specs.declared.buffer.glyph.hb_glyph_info_t.{hb_glyph_info_t}
+use Rattle.shapers_buffer.specs.Glyphs.{Glyph, Glyphs}
 use Rattle.shapers_buffer.specs.Properties.{high_byte}
 use Rattle.shapers_arabic.specs.declared.ot_shaper_arabic.marks.Parts.{Parts}
 use Rattle.shapers_arabic.specs.Marks.{Marks, in_class, is_modifier_of, passed}
@@ -23,11 +23,11 @@ abbrev pub passed_by : Parts → List (ℕ × ℕ)
 passed_by p = passed p.low p.modifiers_below p.middle p.modifiers_above
 
 -- whether a mark modifies a letter, from below or from above
-abbrev pub is_modifier : hb_glyph_info_t → Bool
+abbrev pub is_modifier : Glyph → Bool
 is_modifier g = is_modifier_of 220 g || is_modifier_of 230 g
 
 -- the last k glyphs in front of the others, in this class
-abbrev pub last_marks_first : ℕ → ℕ → List hb_glyph_info_t → List hb_glyph_info_t
+abbrev pub last_marks_first : ℕ → ℕ → Glyphs → Glyphs
 last_marks_first k class gs =
     map (in_class class) (drop (length gs - k) gs) ++ take (length gs - k) gs
 
@@ -38,6 +38,6 @@ is_among_modifiers c =
     || nat_le 0x08CA c && nat_le c 0x08F3
 
 -- whether a glyph's high byte and its character are such as a modifier's
-abbrev pub may_modify : hb_glyph_info_t → Bool
+abbrev pub may_modify : Glyph → Bool
 may_modify g = let byte = high_byte g.unicode_props in
     (byte == 220 || byte == 230) && is_among_modifiers g.glyph_id

@@ -2,7 +2,7 @@
 -- Report 53.)
 use Rattle.std.specs.Prelude.{ℕ, zero, suc, ◌+◌, ◌==◌, nat_lt, Bool, ◌&&◌, ◌≡◌, List, [], ◌∷◌, ◌++◌, length, map, take, drop, replicate}
 use Rattle.std.specs.List.{list_any, prefix_len, range_with_len}
-use Rattle.shapers_buffer.specs.declared.buffer.glyph.hb_glyph_info_t.{hb_glyph_info_t}
+use Rattle.shapers_buffer.specs.Glyphs.{Glyph, Glyphs}
 use Rattle.shapers_buffer.specs.declared.buffer.modified_combining_class.TheConstants.{CCC22, CCC26}
 use Rattle.shapers_buffer.specs.declared.buffer.level.BufferClusterLevel.{BufferClusterLevel}
 use Rattle.shapers_buffer.specs.Buffer.{Buffer}
@@ -17,31 +17,31 @@ modifiers = 0x0654 ∷ 0x0655 ∷ 0x0658 ∷ 0x06DC ∷ 0x06E3 ∷ 0x06E7 ∷ 0x
     ∷ 0x08CE ∷ 0x08CF ∷ 0x08D3 ∷ 0x08F3 ∷ []
 
 -- whether a mark is of a class below this one
-abbrev pub has_lower_class : ℕ → hb_glyph_info_t → Bool
+abbrev pub has_lower_class : ℕ → Glyph → Bool
 has_lower_class class g = nat_lt (modified_combining_class g.unicode_props) class
 
 -- whether a mark is of this class and modifies a letter
-abbrev pub is_modifier_of : ℕ → hb_glyph_info_t → Bool
+abbrev pub is_modifier_of : ℕ → Glyph → Bool
 is_modifier_of class g =
     modified_combining_class g.unicode_props == class && list_any (λ c. c == g.glyph_id) modifiers
 
 -- the longest front all of which passes a test, and what stands behind it
-abbrev pub front_of : (hb_glyph_info_t → Bool) → List hb_glyph_info_t → List hb_glyph_info_t
+abbrev pub front_of : (Glyph → Bool) → Glyphs → Glyphs
 front_of test gs = take (prefix_len test gs) gs
 
-abbrev pub behind : (hb_glyph_info_t → Bool) → List hb_glyph_info_t → List hb_glyph_info_t
+abbrev pub behind : (Glyph → Bool) → Glyphs → Glyphs
 behind test gs = drop (prefix_len test gs) gs
 
 -- marks in five parts: the longest front of classes below 220, the longest run of modifiers of 220
 -- behind it, the longest run of classes below 230, the modifiers of 230 behind it, and the rest
 pub record Marks : Type 0 where
-  pub low : List hb_glyph_info_t
-  pub modifiers_below : List hb_glyph_info_t
-  pub middle : List hb_glyph_info_t
-  pub modifiers_above : List hb_glyph_info_t
-  pub rest : List hb_glyph_info_t
+  pub low : Glyphs
+  pub modifiers_below : Glyphs
+  pub middle : Glyphs
+  pub modifiers_above : Glyphs
+  pub rest : Glyphs
 
-abbrev pub split_marks : List hb_glyph_info_t → Marks
+abbrev pub split_marks : Glyphs → Marks
 split_marks gs =
     let second = behind (has_lower_class 220) gs in
     let third = behind (is_modifier_of 220) second in
@@ -55,17 +55,17 @@ split_marks gs =
     }
 
 -- the modifiers come to the front, those of 220 first, in classes of their own
-abbrev pub in_class : ℕ → hb_glyph_info_t → hb_glyph_info_t
+abbrev pub in_class : ℕ → Glyph → Glyph
 in_class class g =
     record g { unicode_props = with_modified_combining_class class g.unicode_props }
 
-abbrev pub with_modifiers_first : Marks → List hb_glyph_info_t
+abbrev pub with_modifiers_first : Marks → Glyphs
 with_modifiers_first s =
     map (in_class CCC22) s.modifiers_below
     ++ (map (in_class CCC26) s.modifiers_above ++ (s.low ++ (s.middle ++ s.rest)))
 
 -- the same of the marks from place start to place end
-abbrev pub marks_reordered : ℕ → ℕ → List hb_glyph_info_t → List hb_glyph_info_t
+abbrev pub marks_reordered : ℕ → ℕ → Glyphs → Glyphs
 marks_reordered start end gs =
     with_stretch start end (λ marks. with_modifiers_first (split_marks marks)) gs
 
@@ -99,16 +99,16 @@ arabic_mark_step s =
     }
 
 -- and over all places of a text, of which the marks stand from start to end
-abbrev pub text_step : ℕ → ℕ → List hb_glyph_info_t → Step
+abbrev pub text_step : ℕ → ℕ → Glyphs → Step
 text_step start end gs =
     widened start end (length gs) (arabic_mark_step (split_marks (stretch_of start end gs)))
 
 -- what merges of a text: the step's stretches, one after another
-abbrev pub marks_merged : BufferClusterLevel → ℕ → ℕ → List hb_glyph_info_t → List hb_glyph_info_t
+abbrev pub marks_merged : BufferClusterLevel → ℕ → ℕ → Glyphs → Glyphs
 marks_merged level start end gs = merge_all level (text_step start end gs).merged_first gs
 
 -- the classes of a list of glyphs: 0 of each that is no mark
-abbrev pub combining_classes : List hb_glyph_info_t → List ℕ
+abbrev pub combining_classes : Glyphs → List ℕ
 combining_classes gs = map (λ g. modified_combining_class g.unicode_props) gs
 
 -- The classes of the marks in their new order: the modifiers of 220 are of CCC22 now, those of 230
@@ -120,14 +120,14 @@ classes_moved s =
     ++ combining_classes (s.low ++ (s.middle ++ s.rest)))
 
 -- so of the marks from start to end, and all other glyphs keep theirs too
-abbrev pub ModifiersTakeClasses : ℕ → ℕ → List hb_glyph_info_t → List hb_glyph_info_t → Type 0
+abbrev pub ModifiersTakeClasses : ℕ → ℕ → Glyphs → Glyphs → Type 0
 ModifiersTakeClasses start end old new =
     combining_classes new
     ≡ combining_classes (take start old)
     ++ (classes_moved (split_marks (stretch_of start end old)) ++ combining_classes (drop end old))
 
 -- the view that hides classes, of marks alone: other glyphs keep their high bytes
-abbrev pub without_class : hb_glyph_info_t → hb_glyph_info_t
+abbrev pub without_class : Glyph → Glyph
 without_class g = in_class 0 g
 
 -- what the reordering promises, through that view: no glyph is lost, and the laws hold

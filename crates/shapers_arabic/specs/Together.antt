@@ -3,7 +3,7 @@ use Rattle.std.specs.Prelude.{ℕ, ◌≡◌, ◌+◌, ◌<◌, true, List, ◌+
 use Rattle.shapers_buffer.specs.Buffer.{Buffer, flags_concat, has_flag}
 use Rattle.shapers_buffer.specs.Glyph.{characters, order_view}
 use Rattle.shapers_buffer.specs.declared.buffer.category.hb_unicode_general_category_t.{hb_unicode_general_category_t}
-use Rattle.shapers_buffer.specs.declared.buffer.glyph.hb_glyph_info_t.{hb_glyph_info_t}
+use Rattle.shapers_buffer.specs.Glyphs.{Glyphs}
 use Rattle.shapers_buffer.specs.declared.buffer.tag.Script.{Script}
 use Rattle.shapers_base.specs.declared.plan.breaks.BreakFlags.{BreakFlags}
 use Rattle.shapers_base.specs.declared.plan.joining.hb_arabic_joining_type_t.{hb_arabic_joining_type_t}
@@ -27,7 +27,7 @@ HasOwnLetter joining general m b =
 -- the glyphs put together are what they were in the two texts, up to place n and from place m on,
 -- all but clusters and glyph flags; only Mongolian selectors that open the second part may differ
 pub record KeepsParts (script : Option Script) (n m : ℕ)
-    (one two whole : List hb_glyph_info_t) : Type 0 where
+    (one two whole : Glyphs) : Type 0 where
   pub first : order_view (take n whole) ≡ order_view (take n one)
   pub second : let k = opening script (characters (drop m two)) in
       order_view (drop (n + k) whole) ≡ order_view (drop (m + k) two)

@@ -9,5 +9,5 @@ use Rattle.shapers_base.specs.Map.{is_off_flags}
 -- the mask of a feature that is found touches no glyph flag bit
 pub found_is_off_flags : (p : feature_map_t → Bool) (fs : List feature_map_t) (f : feature_map_t) → find p fs ≡ Some f
     → IsTrue (list_all is_off_flags fs) → f.mask % 8 ≡ 0
-found_is_off_flags p [] f e h = grind (arith, common_steps)
-found_is_off_flags p (g ∷ fs) f e h = grind (arith, common_steps, found_is_off_flags p fs f)
+found_is_off_flags p [] f = grind (arith, common_steps)
+found_is_off_flags p (g ∷ fs) f = grind (arith, common_steps, found_is_off_flags p fs f)

@@ -17,10 +17,8 @@ pstf = record { 0 = codes "pstf" }
 -- a map with two features by one tag, and three stages over four lookups
 abbrev small : Map
 small = record {
-  features = record { tag = blwf; mask = 16; stage = 1 } ∷ record { tag = blwf; mask = 32; stage = 2 }
-      ∷ [];
-  stages = record { start = 0; end = 1 } ∷ record { start = 1; end = 3 } ∷ record { start = 3; end = 4 }
-      ∷ [];
+  features = record { tag = blwf; mask = 16; stage = 1 } ∷ record { tag = blwf; mask = 32; stage = 2 } ∷ [];
+  stages = record { start = 0; end = 1 } ∷ record { start = 1; end = 3 } ∷ record { start = 3; end = 4 } ∷ [];
   lookups = 5 ∷ 6 ∷ 7 ∷ 8 ∷ [];
   global = 0;
   chosen = None;

@@ -14,8 +14,7 @@ use Rattle.shapers_base.specs.declared.plan.khmer.khmer_shape_plan_t.{khmer_shap
 use Rattle.shapers_base.specs.declared.plan.universal.use_shape_plan_t.{use_shape_plan_t}
 
 -- a new plan keeps no data, and GPOS places no marks
-fields : (s : Option Script) (m : Map)
-    → new_plan s m
+fields : (s : Option Script) (m : Map) → new_plan s m
     ≡ record {
       script = s;
       ot_map = m;

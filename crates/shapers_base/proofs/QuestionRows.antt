@@ -14,8 +14,7 @@ pstf = record { 0 = codes "pstf" }
 abbrev small : Map
 small = record {
   features = record { tag = blwf; mask = 16; stage = 1 } ∷ [];
-  stages = record { start = 0; end = 1 }
-      ∷ record { start = 1; end = 3 } ∷ record { start = 3; end = 4 } ∷ [];
+  stages = record { start = 0; end = 1 } ∷ record { start = 1; end = 3 } ∷ record { start = 3; end = 4 } ∷ [];
   lookups = 5 ∷ 6 ∷ 7 ∷ 8 ∷ [];
   global =
       0;

@@ -1,6 +1,6 @@
 -- The masks that shapers keep in the plan, and the masks of a glyph.
 use Rattle.std.specs.Prelude.{ℕ, ◌==◌, Bool, not, bit_and, bit_or, List, [], ◌∷◌, Option, None, Some, slice_index}
-use Rattle.shapers_buffer.specs.declared.buffer.glyph.hb_glyph_info_t.{hb_glyph_info_t}
+use Rattle.shapers_buffer.specs.Glyphs.{Glyph}
 use Rattle.shapers_base.specs.declared.plan.arabic.arabic_shape_plan_t.{arabic_shape_plan_t}
 use Rattle.shapers_base.specs.declared.plan.PlanData.{PlanData}
 use Rattle.shapers_base.specs.declared.plan.PlanData.TheVariants as data_of
@@ -20,9 +20,9 @@ masks_kept (data_of.Universal kept) = kept.rphf_mask ∷ joining_masks kept.arab
 masks_kept _ = []
 
 -- the glyph with the mask of its auxiliary byte's number, if there is one, besides its own
-abbrev pub with_numbered_mask : List ℕ → hb_glyph_info_t → hb_glyph_info_t
+abbrev pub with_numbered_mask : List ℕ → Glyph → Glyph
 with_numbered_mask masks g = record g { mask = bit_or g.mask (slice_index masks g.auxiliary) }
 
 -- whether the glyph has some bit of a mask
-abbrev pub has_bits : ℕ → hb_glyph_info_t → Bool
+abbrev pub has_bits : ℕ → Glyph → Bool
 has_bits mask g = not (bit_and g.mask mask == 0)

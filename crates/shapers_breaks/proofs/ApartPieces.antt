@@ -3,7 +3,7 @@ use Rattle.std.proofs.Common.{ℕ, suc, ◌+◌, ◌-◌, ◌≡◌, List, [], �
 use Rattle.std.specs.List.{AllByRecursion, flat_map, sum_by}
 use Rattle.std.proofs.lemmas.List.{append-nil, get_or-append_right, length-map, map-append}
 use Rattle.std.proofs.lemmas.List.Sums.{sum_by-cons}
-use Rattle.shapers_buffer.specs.declared.buffer.glyph.hb_glyph_info_t.{hb_glyph_info_t}
+use Rattle.shapers_buffer.specs.Glyphs.{Glyph, Glyphs}
 use Rattle.shapers_buffer.specs.declared.buffer.level.BufferClusterLevel.{BufferClusterLevel}
 use Rattle.shapers_buffer.specs.Glyph.{clusters, order_view, plain}
 use Rattle.shapers_buffer.specs.Syllables.{syllables}
@@ -16,17 +16,17 @@ use Rattle.shapers_syllabic.proofs.Borders.{syllables-viewed}
 use Rattle.shapers_syllabic.proofs.CircleLaws.{joined-syllables}
 
 -- pieces that share no cluster, wherever they are cut
-abbrev pub ApartAtBorders : List (List hb_glyph_info_t) → Type 0
+abbrev pub ApartAtBorders : List Glyphs → Type 0
 ApartAtBorders pieces = (k : ℕ) → ShareNone (flat_map (λ q. q) (take k pieces)) (flat_map (λ q. q) (drop k pieces))
 
-apart_first : (q : List hb_glyph_info_t) (qs : List (List hb_glyph_info_t)) → ApartAtBorders (q ∷ qs)
+apart_first : (q : Glyphs) (qs : List Glyphs) → ApartAtBorders (q ∷ qs)
     → ShareNone q (flat_map (λ q. q) qs)
 apart_first q qs apart = subst (λ xs. ShareNone xs (flat_map (λ q. q) qs)) (append-nil q) (apart 1)
 
-apart_rest : (q : List hb_glyph_info_t) (qs : List (List hb_glyph_info_t)) → ApartAtBorders (q ∷ qs)
+apart_rest : (q : Glyphs) (qs : List Glyphs) → ApartAtBorders (q ∷ qs)
     → ApartAtBorders qs
 apart_rest q qs apart k i j il jl same =
-    let cluster : hb_glyph_info_t → ℕ = λ g. g.cluster in
+    let cluster : Glyph → ℕ = λ g. g.cluster in
     let xs = flat_map (λ q. q) (take k qs) in
     let n = length-map q cluster in
     let back : length q + i - length q ≡ i = omega arith in
@@ -37,17 +37,17 @@ apart_rest q qs apart k i j il jl same =
     apart (suc k) (length q + i) j (omega (arith, length-append q xs)) jl (there ∙ same)
 
 -- the steps of each piece of a text
-abbrev pub steps_by_piece : (List hb_glyph_info_t → List Step) → List (List hb_glyph_info_t) → List (ℕ × List Step)
+abbrev pub steps_by_piece : (Glyphs → List Step) → List Glyphs → List (ℕ × List Step)
 steps_by_piece steps pieces = map (λ q. (length q, steps (order_view q))) pieces
 
-sum_pieces : (steps : List hb_glyph_info_t → List Step) (pieces : List (List hb_glyph_info_t)) → sum_by
+sum_pieces : (steps : Glyphs → List Step) (pieces : List Glyphs) → sum_by
     (λ piece. piece.0) (steps_by_piece steps pieces) ≡ length (flat_map (λ q. q) pieces)
 sum_pieces steps [] = refl
 sum_pieces steps (q ∷ qs) = sum_by-cons (λ piece. piece.0) (length q, steps (order_view q)) (steps_by_piece steps qs)
     ∙ ap (λ k. length q + k) (sum_pieces steps qs) ∙ sym (length-append q (flat_map (λ q. q) qs))
 
-fit_pieces : (steps : List hb_glyph_info_t → List Step) → ((gs : List hb_glyph_info_t) → FitSteps (length gs) (steps gs))
-    → (pieces : List (List hb_glyph_info_t)) → AllByRecursion (λ piece. FitSteps piece.0 piece.1)
+fit_pieces : (steps : Glyphs → List Step) → ((gs : Glyphs) → FitSteps (length gs) (steps gs))
+    → (pieces : List Glyphs) → AllByRecursion (λ piece. FitSteps piece.0 piece.1)
     (steps_by_piece steps pieces)
 fit_pieces steps fits [] = tt
 fit_pieces steps fits (q ∷ qs) = (
@@ -56,7 +56,7 @@ fit_pieces steps fits (q ∷ qs) = (
 )
 
 -- the steps of one piece that is the whole text
-one_piece : (level : BufferClusterLevel) (xs : List Step) (q : List hb_glyph_info_t) → FitSteps (length q) xs
+one_piece : (level : BufferClusterLevel) (xs : List Step) (q : Glyphs) → FitSteps (length q) xs
     → run_steps level (steps_along (length q) 0 ((length q, xs) ∷ [])) q ≡ run_steps level xs q
 one_piece level xs q fits =
     let n = length q in
@@ -70,15 +70,15 @@ one_piece level xs q fits =
     ∙ append-nil (run_steps level xs q)
 
 -- of all, side by side
-pub run_apart : (steps : List hb_glyph_info_t → List Step) → ((gs : List hb_glyph_info_t)
-    → FitSteps (length gs) (steps gs)) → (level : BufferClusterLevel) (pieces : List (List hb_glyph_info_t))
+pub run_apart : (steps : Glyphs → List Step) → ((gs : Glyphs)
+    → FitSteps (length gs) (steps gs)) → (level : BufferClusterLevel) (pieces : List Glyphs)
     → ApartAtBorders pieces → let all = flat_map (λ q. q) pieces in
     run_steps level (steps_along (length all) 0 (steps_by_piece steps pieces)) all ≡ flat_map
     (λ q. run_steps level (steps (order_view q)) q) pieces
 run_apart steps fits level [] apart = refl
 run_apart steps fits level (q ∷ qs) apart =
     let rest = flat_map (λ q. q) qs in
-    let run : List hb_glyph_info_t → List hb_glyph_info_t = λ q. run_steps level (steps (order_view q)) q in
+    let run : Glyphs → Glyphs = λ q. run_steps level (steps (order_view q)) q in
     let xs = steps (order_view q) in
     let own : FitSteps (length q) xs = subst (λ n. FitSteps n xs) (length-map q plain) (fits (order_view q)) in
     let one : List (ℕ × List Step) = (length q, xs) ∷ [] in
@@ -91,20 +91,20 @@ run_apart steps fits level (q ∷ qs) apart =
     ∙ ap (λ l. run q ++ l) (run_apart steps fits level qs (apart_rest q qs apart))
 
 -- and of a text cut into its syllables
-steps_of_pieces : (steps : List hb_glyph_info_t → List Step) (pieces : List (List hb_glyph_info_t)) → map
+steps_of_pieces : (steps : Glyphs → List Step) (pieces : List Glyphs) → map
     (λ syl. (length syl, steps syl)) (map order_view pieces) ≡ steps_by_piece steps pieces
 steps_of_pieces steps [] = refl
 steps_of_pieces steps (q ∷ qs) = ap (λ (n : ℕ). (n, steps (order_view q)) ∷ map (λ syl. (length syl, steps syl))
     (map order_view qs)) (length-map q plain) ∙ ap (λ l. (length q, steps (order_view q)) ∷ l) (steps_of_pieces steps qs)
 
-pub text_apart : (steps : List hb_glyph_info_t → List Step) → ((gs : List hb_glyph_info_t)
-    → FitSteps (length gs) (steps gs)) → (level : BufferClusterLevel) (gs : List hb_glyph_info_t)
+pub text_apart : (steps : Glyphs → List Step) → ((gs : Glyphs)
+    → FitSteps (length gs) (steps gs)) → (level : BufferClusterLevel) (gs : Glyphs)
     → ApartAtBorders (syllables gs) → run_steps level (text_steps steps (order_view gs)) gs ≡ flat_map
     (λ q. run_steps level (steps (order_view q)) q) (syllables gs)
 text_apart steps fits level gs apart =
     let all = flat_map (λ q. q) (syllables gs) in
     let is = joined-syllables gs in
-    let along : List (ℕ × List Step) → ℕ → List hb_glyph_info_t → List hb_glyph_info_t = λ ps n xs. run_steps level
+    let along : List (ℕ × List Step) → ℕ → Glyphs → Glyphs = λ ps n xs. run_steps level
     (steps_along n 0 ps) xs in
     let cut : map (λ syl. (length syl, steps syl)) (syllables (order_view gs)) ≡ steps_by_piece steps (syllables gs) = ap
     (map (λ syl. (length syl, steps syl))) (syllables-viewed plain (λ g. refl) gs) ∙ steps_of_pieces steps (syllables gs) in

@@ -4,7 +4,7 @@ use Rattle.std.specs.List.{All, AllByRecursion, flat_map, list_any, prefix_len}
 use Rattle.std.proofs.lemmas.List.{drop-map, drop_at, length-map, map-append, take-append-drop, take-map, take_at}
 use Rattle.std.proofs.lemmas.List.Concat.{flat_map-append}
 use Rattle.std.proofs.lemmas.List.Elements.{All-from_get_or, All-get_or, AllZip-get_or}
-use Rattle.shapers_buffer.specs.declared.buffer.glyph.hb_glyph_info_t.{hb_glyph_info_t}
+use Rattle.shapers_buffer.specs.Glyphs.{Glyph, Glyphs}
 use Rattle.shapers_buffer.specs.declared.buffer.glyph_props.GlyphProps.{GlyphProps}
 use Rattle.shapers_buffer.specs.Buffer.{Buffer}
 use Rattle.shapers_buffer.specs.Clusters.{least}
@@ -30,12 +30,11 @@ use Rattle.shapers_breaks.specs.KeptTextBreaks.{FlaggedInside, FlagsKept}
 use Rattle.shapers_breaks.specs.SetUp.{IsFlagged}
 use Rattle.shapers_breaks.specs.UniversalChain.{LeavesWhereClear, ReadsOnly, without_glyph_flags}
 use Rattle.shapers_breaks.proofs.MaskReads.{mask_read}
-use Rattle.shapers_breaks.proofs.SetUp.{Glyphs}
 use Rattle.shapers_breaks.proofs.UniversalSetUp.{KeepPieces, KeepShapes, KeepsShape, clusters_kept, long_kept, syllables_kept}
 use Rattle.shapers_breaks.proofs.UniversalSound.{meet_same}
 
 -- What may stand between a set-up and a reordering, as the laws of both choices presume it.
-pub record IsBetween (view : hb_glyph_info_t → hb_glyph_info_t) (lookups : Glyphs → Glyphs) : Type 0 where
+pub record IsBetween (view : Glyph → Glyph) (lookups : Glyphs → Glyphs) : Type 0 where
   pub side_by_side : (gs : Glyphs) → LeavesSideBySide lookups gs
   pub where_clear : (gs : Glyphs) → LeavesWhereClear lookups gs
   pub reads : ReadsOnly view lookups
@@ -54,7 +53,7 @@ made_on a b gs front back late soon = record {
   second = ap b soon.second ∙ late.second;
 }
 
-pub between_both : (view : hb_glyph_info_t → hb_glyph_info_t) (a b : Glyphs → Glyphs) → IsBetween view a
+pub between_both : (view : Glyph → Glyph) (a b : Glyphs → Glyphs) → IsBetween view a
     → IsBetween view b → IsBetween view (λ gs. b (a gs))
 unfolding made_on
 between_both view a b x y = record {
@@ -75,7 +74,7 @@ between_both view a b x y = record {
 }
 
 -- cluster, mask and syllable byte alone
-abbrev pub bare : hb_glyph_info_t → hb_glyph_info_t
+abbrev pub bare : Glyph → Glyph
 bare g = record default_glyph { cluster = g.cluster; mask = g.mask; syllable = g.syllable }
 
 bare_shapes : (gs hs : Glyphs) → map bare hs ≡ map bare gs → KeepShapes gs hs
@@ -84,10 +83,10 @@ bare_shapes [] (h ∷ hs) same = absurd (omega (arith, ap length same))
 bare_shapes (g ∷ gs) [] same = absurd (omega (arith, ap length same))
 bare_shapes (g ∷ gs) (h ∷ hs) same =
     let first : bare h ≡ bare g = ap (λ xs. get_or xs 0 default_glyph) same in
-    let masks : h.mask ≡ g.mask = ap (λ (x : hb_glyph_info_t). x.mask) first in (
+    let masks : h.mask ≡ g.mask = ap (λ (x : Glyph). x.mask) first in (
       record {
-        cluster = ap (λ (x : hb_glyph_info_t). x.cluster) first;
-        byte = ap (λ (x : hb_glyph_info_t). x.syllable) first;
+        cluster = ap (λ (x : Glyph). x.cluster) first;
+        byte = ap (λ (x : Glyph). x.syllable) first;
         flags = λ f. (omega (arith, f.0, masks), omega (arith, f.1, masks));
       },
       bare_shapes gs hs (ap (drop 1) same),
@@ -105,7 +104,7 @@ inside_kept : (p q : Glyphs) → KeepShapes p q → FlaggedInside p → FlaggedI
 inside_kept p q k h =
     let d = default_glyph in
     let cs = clusters_kept p q k in
-    let P : ℕ → hb_glyph_info_t → Type 0 = λ m g. m < g.cluster → IsFlagged g in
+    let P : ℕ → Glyph → Type 0 = λ m g. m < g.cluster → IsFlagged g in
     subst (λ (m : ℕ). All (P m) q) (ap least (sym cs))
     (All-from_get_or (P (least (clusters p))) q d (λ i l.
     let il : i < length p = omega (arith, long_kept p q k, l) in
@@ -152,8 +151,8 @@ halves_by : (lookups : Glyphs → Glyphs) → ((gs : Glyphs) → map bare (looku
     → MadeOfHalves lookups gs front back
 halves_by lookups shape joined gs front back text border apart =
     let n = length front in
-    let cluster : hb_glyph_info_t → ℕ = λ g. g.cluster in
-    let byte : hb_glyph_info_t → ℕ = λ g. g.syllable in
+    let cluster : Glyph → ℕ = λ g. g.cluster in
+    let byte : Glyph → ℕ = λ g. g.syllable in
     let own : (xs : Glyphs) → KeepShapes xs (lookups xs) = λ xs. bare_shapes xs (lookups xs) (shape xs) in
     let before = take n gs in
     let behind = drop n gs in
@@ -184,7 +183,7 @@ halves_by lookups shape joined gs front back text border apart =
       second = sym (drop_at (lookups before) (lookups behind) n long) ∙ ap (drop n) whole ∙ drop_at front back n refl;
     }
 
-pub between_by : (view : hb_glyph_info_t → hb_glyph_info_t) (lookups : Glyphs → Glyphs)
+pub between_by : (view : Glyph → Glyph) (lookups : Glyphs → Glyphs)
     → ((gs : Glyphs) → map bare (lookups gs) ≡ map bare gs)
     → ((gs hs : Glyphs) → MeetAtBorder gs hs → lookups (gs ++ hs) ≡ lookups gs ++ lookups hs)
     → ((gs hs : Glyphs) → SameButSerials gs hs → SameButSerials (lookups gs) (lookups hs))
@@ -218,7 +217,7 @@ piecewise_shape f shape (p ∷ ps) = map-append bare (f p) (flat_map f ps)
     ∙ ap (λ l. map bare p ++ l) (piecewise_shape f shape ps)
     ∙ sym (map-append bare p (flat_map (λ p. p) ps))
 
-piecewise_seen : (view : hb_glyph_info_t → hb_glyph_info_t) (f : Glyphs → Glyphs)
+piecewise_seen : (view : Glyph → Glyph) (f : Glyphs → Glyphs)
     → ((p : Glyphs) → f (map view p) ≡ map view (f p)) → (ps : List Glyphs)
     → flat_map f (map (map view) ps) ≡ map view (flat_map f ps)
 piecewise_seen view f seen [] = refl
@@ -238,7 +237,7 @@ of_byte_kept byte gs hs k u =
           (AllZip-get_or KeepsShape gs hs i d d k il).byte ∙ All-get_or (λ g. g.syllable ≡ byte) gs i d il u.all);
     }
 
-pub between_each : (view : hb_glyph_info_t → hb_glyph_info_t) → ((g : hb_glyph_info_t) → (view g).syllable
+pub between_each : (view : Glyph → Glyph) → ((g : Glyph) → (view g).syllable
     ≡ g.syllable) → (f : Glyphs → Glyphs) → ((p : Glyphs) → map bare (f p) ≡ map bare p)
     → ((p : Glyphs) → f (map unnumbered p) ≡ map unnumbered (f p)) → ((p : Glyphs) → f (map view p) ≡ map view (f p))
     → IsBetween view (λ gs. flat_map f (syllables gs))
@@ -264,14 +263,14 @@ recorded_shape c (g ∷ gs) = elim (is_substituted g.glyph_props) as
     ]
 
 -- a view that shows marks and categories as they are
-pub record ShowsCategories (view : hb_glyph_info_t → hb_glyph_info_t) : Type 0 where
-  pub byte : (g : hb_glyph_info_t) → (view g).syllable ≡ g.syllable
-  pub marks : (g : hb_glyph_info_t) → (view g).glyph_props ≡ g.glyph_props
-  pub category : (c : ℕ) (g : hb_glyph_info_t) → in_category c (view g) ≡ view (in_category c g)
+pub record ShowsCategories (view : Glyph → Glyph) : Type 0 where
+  pub byte : (g : Glyph) → (view g).syllable ≡ g.syllable
+  pub marks : (g : Glyph) → (view g).glyph_props ≡ g.glyph_props
+  pub category : (c : ℕ) (g : Glyph) → in_category c (view g) ≡ view (in_category c g)
 
-recorded_seen : (view : hb_glyph_info_t → hb_glyph_info_t)
-    → ((g : hb_glyph_info_t) → (view g).glyph_props ≡ g.glyph_props) → (c : ℕ)
-    → ((g : hb_glyph_info_t) → in_category c (view g) ≡ view (in_category c g)) → (gs : Glyphs)
+recorded_seen : (view : Glyph → Glyph)
+    → ((g : Glyph) → (view g).glyph_props ≡ g.glyph_props) → (c : ℕ)
+    → ((g : Glyph) → in_category c (view g) ≡ view (in_category c g)) → (gs : Glyphs)
     → first_recorded c (map view gs) ≡ map view (first_recorded c gs)
 recorded_seen view marks c category [] = refl
 recorded_seen view marks c category (g ∷ gs) =
@@ -284,7 +283,7 @@ recorded_seen view marks c category (g ∷ gs) =
       | false ↦ ap (λ l. view g ∷ l) (recorded_seen view marks c category gs)
     ]
 
-pub pref_between : (view : hb_glyph_info_t → hb_glyph_info_t) → ShowsCategories view
+pub pref_between : (view : Glyph → Glyph) → ShowsCategories view
     → IsBetween view (λ gs. flat_map (first_recorded VPre) (syllables gs))
 pref_between view shows = between_each view shows.byte (first_recorded VPre) (recorded_shape VPre)
     (recorded_seen unnumbered (λ g. refl) VPre (λ g. refl))
@@ -297,9 +296,9 @@ rphf_shape mask gs =
     ∙ ap (λ l. l ++ map bare (drop n gs)) (recorded_shape R (take n gs))
     ∙ sym (map-append bare (take n gs) (drop n gs)) ∙ ap (map bare) (take-append-drop n gs)
 
-rphf_seen : (view : hb_glyph_info_t → hb_glyph_info_t) → ((g : hb_glyph_info_t) → (view g).glyph_props ≡ g.glyph_props)
-    → ((g : hb_glyph_info_t) → in_category R (view g) ≡ view (in_category R g)) → (mask : ℕ)
-    → ((g : hb_glyph_info_t) → has_bits mask (view g) ≡ has_bits mask g) → (gs : Glyphs)
+rphf_seen : (view : Glyph → Glyph) → ((g : Glyph) → (view g).glyph_props ≡ g.glyph_props)
+    → ((g : Glyph) → in_category R (view g) ≡ view (in_category R g)) → (mask : ℕ)
+    → ((g : Glyph) → has_bits mask (view g) ≡ has_bits mask g) → (gs : Glyphs)
     → rphf_recorded mask (map view gs) ≡ map view (rphf_recorded mask gs)
 rphf_seen view marks category mask same gs =
     let n = prefix_len (has_bits mask) gs in
@@ -311,16 +310,16 @@ rphf_seen view marks category mask same gs =
     ∙ sym (map-append view (first_recorded R (take n gs)) (drop n gs))
 
 -- that of rphf where the view shows its mask
-pub rphf_between : (view : hb_glyph_info_t → hb_glyph_info_t) → ShowsCategories view → (mask : ℕ)
-    → ((g : hb_glyph_info_t) → has_bits mask (view g) ≡ has_bits mask g)
+pub rphf_between : (view : Glyph → Glyph) → ShowsCategories view → (mask : ℕ)
+    → ((g : Glyph) → has_bits mask (view g) ≡ has_bits mask g)
     → IsBetween view (λ gs. flat_map (rphf_recorded mask) (syllables gs))
 rphf_between view shows mask same = between_each view shows.byte (rphf_recorded mask) (rphf_shape mask)
     (rphf_seen unnumbered (λ g. refl) (λ g. refl) mask (λ g. refl))
     (rphf_seen view shows.marks (shows.category R) mask same)
 
 -- the mark of substitution cleared
-pub unsubstituted_between : (view : hb_glyph_info_t → hb_glyph_info_t)
-    → ((g : hb_glyph_info_t) → view (unsubstituted g) ≡ unsubstituted (view g))
+pub unsubstituted_between : (view : Glyph → Glyph)
+    → ((g : Glyph) → view (unsubstituted g) ≡ unsubstituted (view g))
     → IsBetween view (λ gs. map unsubstituted gs)
 unsubstituted_between view seen =
     let u : Glyphs → Glyphs = map unsubstituted in

@@ -2,7 +2,7 @@
 use Rattle.std.proofs.Common.{ℕ, ◌≡◌, List, [], ◌∷◌, map, refl, sym, arith}
 use Rattle.std.specs.Prelude.{None, Some}
 use Rattle.std.proofs.lemmas.Bool.{false≢true}
-use Rattle.shapers_buffer.specs.declared.buffer.glyph.hb_glyph_info_t.{hb_glyph_info_t}
+use Rattle.shapers_buffer.specs.Glyphs.{Glyph, Glyphs}
 use Rattle.shapers_buffer.specs.declared.buffer.syllables.Span.{Span}
 use Rattle.shapers_buffer.specs.declared.buffer.level.BufferClusterLevel.TheVariants.{Characters, MonotoneGraphemes}
 use Rattle.shapers_buffer.specs.Glyph.{clusters, default_glyph}
@@ -17,15 +17,15 @@ use Rattle.shapers_universal.specs.Universal.{universal_steps}
 use Rattle.shapers_breaks.specs.SetUp.{IsFlagged, SpanBorder}
 
 -- a glyph in this cluster with this mask
-glyph : ℕ → ℕ → hb_glyph_info_t
+glyph : ℕ → ℕ → Glyph
 glyph c m = record default_glyph { cluster = c; mask = m }
 
 -- the last two of three glyphs change places: after a merge, and without one
 swap : List (ℕ × ℕ) → Step
 swap sts = record { merged_first = sts; places = 0 ∷ 2 ∷ 1 ∷ []; merged_then = [] }
 
-shown : List hb_glyph_info_t → List (ℕ × ℕ)
-shown gs = map (λ (g : hb_glyph_info_t). (g.cluster, g.mask)) gs
+shown : Glyphs → List (ℕ × ℕ)
+shown gs = map (λ (g : Glyph). (g.cluster, g.mask)) gs
 
 -- what is merged keeps the flag of the glyph that doesn't fall: place 1 is clear neither before nor after
 row_merged : shown (run_steps MonotoneGraphemes (swap ((1, 3) ∷ []) ∷ []) (glyph 0 0 ∷ glyph 1 3 ∷ glyph 2 3 ∷ [])) ≡
@@ -115,10 +115,10 @@ row_concat_alone flags = absurd (omega (arith, flags.0))
 
 -- Myanmar: a consonant with a left vowel, and another consonant. The vowel goes first, and place 2 is clear: the halves
 -- are the whole
-letter : ℕ → ℕ → hb_glyph_info_t
+letter : ℕ → ℕ → Glyph
 letter c category = record default_glyph { cluster = c; category = category }
 
-word : List hb_glyph_info_t
+word : Glyphs
 word = letter 0 1 ∷ letter 1 22 ∷ letter 2 1 ∷ []
 
 of_word : List Span
@@ -147,7 +147,7 @@ row_word_back = refl
 -- Two rephas in clusters of their own open a broken syllable of the universal shaper, and a third one in the second's
 -- cluster is another. The first goes behind the circle, and all three fall to its cluster: place 3 is clear, but the
 -- halves share cluster 1.
-rephas : List hb_glyph_info_t
+rephas : Glyphs
 rephas = letter 0 18 ∷ letter 1 18 ∷ letter 1 18 ∷ []
 
 of_rephas : List Span

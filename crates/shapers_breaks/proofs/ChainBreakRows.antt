@@ -1,27 +1,27 @@
 -- Lookups that leave the halves' results side by side, and some that don't.
-use Rattle.std.proofs.Common.{ℕ, ◌≡◌, List, [], ◌∷◌, ◌++◌, length, map, slice_index, refl, ap, arith}
-use Rattle.shapers_buffer.specs.declared.buffer.glyph.hb_glyph_info_t.{hb_glyph_info_t}
+use Rattle.std.proofs.Common.{ℕ, ◌≡◌, [], ◌∷◌, ◌++◌, length, map, slice_index, refl, ap, arith}
+use Rattle.shapers_buffer.specs.Glyphs.{Glyph, Glyphs}
 use Rattle.shapers_buffer.specs.Glyph.{default_glyph}
 use Rattle.shapers_breaks.specs.ChainBreaks.{LeavesSideBySide, MadeOfHalves}
 use Rattle.shapers_breaks.specs.KeptTextBreaks.{SyllablesApart}
 use Rattle.shapers_breaks.proofs.SideBySide.{nothing_between}
 
 -- nothing in between is a case
-row_still : (gs : List hb_glyph_info_t) → LeavesSideBySide (λ gs. gs) gs
+row_still : (gs : Glyphs) → LeavesSideBySide (λ gs. gs) gs
 row_still gs = nothing_between gs
 
 -- two glyphs that change places do so over the border of two syllables
-glyph : ℕ → ℕ → hb_glyph_info_t
+glyph : ℕ → ℕ → Glyph
 glyph c byte = record default_glyph { cluster = c; syllable = byte }
 
-exchanged : List hb_glyph_info_t → List hb_glyph_info_t
+exchanged : Glyphs → Glyphs
 exchanged (g ∷ (h ∷ [])) = h ∷ (g ∷ [])
 exchanged gs = gs
 
-first_cluster_of : List hb_glyph_info_t → ℕ
-first_cluster_of gs = slice_index (map (λ (g : hb_glyph_info_t). g.cluster) gs) 0
+first_cluster_of : Glyphs → ℕ
+first_cluster_of gs = slice_index (map (λ (g : Glyph). g.cluster) gs) 0
 
-not_of_halves : (before behind : List hb_glyph_info_t) → glyph 0 16 ∷ (glyph 1 32 ∷ []) ≡ before ++ behind
+not_of_halves : (before behind : Glyphs) → glyph 0 16 ∷ (glyph 1 32 ∷ []) ≡ before ++ behind
     → exchanged before ≡ glyph 1 32 ∷ [] → ⊥
 unfolding exchanged first_cluster_of glyph
 not_of_halves [] behind text first = absurd (omega (arith, ap length first))

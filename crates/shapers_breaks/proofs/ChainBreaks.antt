@@ -37,7 +37,8 @@ use Rattle.shapers_breaks.specs.PauseBreaks.{BrokenBetweenSpans, SpanCut}
 use Rattle.shapers_breaks.specs.KeptTextBreaks.{KeptTextBroken}
 use Rattle.shapers_breaks.proofs.IndicBreaks.{initial_text_breaks}
 use Rattle.shapers_breaks.proofs.PauseBreaks.{front_is, text_cut}
-use Rattle.shapers_breaks.proofs.SetUp.{Glyphs, set_up_guarded}
+use Rattle.shapers_buffer.specs.Glyphs.{Glyphs}
+use Rattle.shapers_breaks.proofs.SetUp.{set_up_guarded}
 use Rattle.shapers_breaks.proofs.KeptTextBreaks.{text_breaks}
 
 -- A text that was set up and given to lookups, cut into what they made of its halves: it was cut between two spans.

@@ -5,7 +5,7 @@ use Rattle.std.specs.List.{AllByRecursion, flat_map, sum_by}
 use Rattle.std.proofs.lemmas.List.{get_or-append_right, get_or_append_left, length-map, take-map}
 use Rattle.std.proofs.lemmas.List.Folds.{flat_map-map}
 use Rattle.std.proofs.lemmas.List.Sorted.{length_permutation}
-use Rattle.shapers_buffer.specs.declared.buffer.glyph.hb_glyph_info_t.{hb_glyph_info_t}
+use Rattle.shapers_buffer.specs.Glyphs.{Glyph, Glyphs}
 use Rattle.shapers_buffer.specs.declared.buffer.level.BufferClusterLevel.{BufferClusterLevel}
 use Rattle.shapers_buffer.specs.Clusters.{merges}
 use Rattle.shapers_buffer.specs.Glyph.{clusters, order_view, plain}
@@ -28,7 +28,7 @@ use Rattle.shapers_syllabic.proofs.ReorderingWalk.{pieces_of}
 use Rattle.shapers_breaks.specs.SetUp.{FlaggedAt}
 use Rattle.shapers_breaks.proofs.ClearSteps.{clear_before}
 use Rattle.shapers_breaks.proofs.Guarded.{IsWhole, border_or_flagged, circled_whole, clear_not_flagged}
-use Rattle.shapers_breaks.proofs.SetUp.{Glyphs}
+use Rattle.shapers_clusters.proofs.Halves.{each-append}
 
 -- what circles make of one syllable
 abbrev pub opened_piece : Option DottedCircles → Glyphs → Glyphs
@@ -123,7 +123,7 @@ pub length-paused : (meaning : Glyphs → Glyphs) (steps : Glyphs → List Step)
 length-paused meaning steps laws circles gs =
     let xs = order_view (circled circles gs) in
     let ys = text_order meaning xs in
-    let f : hb_glyph_info_t → hb_glyph_info_t = λ g. plain (carried g) in
+    let f : Glyph → Glyph = λ g. plain (carried g) in
     let kept = nothing_lost meaning steps laws xs in
     sym (length-map ys f) ∙ length_permutation (map f xs) (map f ys) kept.kept ∙ length-map xs f ∙ length-map
     (circled circles gs) plain
@@ -157,7 +157,7 @@ apart_at cs ds mono a b ne i j il jl same =
 abbrev pub Each : (ℕ → Type 0) → Glyphs → Type 0
 Each P gs = AllByRecursion (λ g. P g.cluster) gs
 
-erased : (P : ℕ → Type 0) (n : ℕ) (gs : Glyphs) (circle : hb_glyph_info_t) → Each P (take n gs ++ circle ∷ drop n gs)
+erased : (P : ℕ → Type 0) (n : ℕ) (gs : Glyphs) (circle : Glyph) → Each P (take n gs ++ circle ∷ drop n gs)
     → Each P gs
 erased P zero gs circle h = h.1
 erased P (suc n) [] circle h = tt
@@ -166,10 +166,6 @@ erased P (suc n) (g ∷ gs) circle h = (h.0, erased P n gs circle h.1)
 each_parts : (P : ℕ → Type 0) (gs hs : Glyphs) → Each P (gs ++ hs) → Each P gs × Each P hs
 each_parts P [] hs h = (tt, h)
 each_parts P (g ∷ gs) hs h = let (a, b) = each_parts P gs hs h.1 in ((h.0, a), b)
-
-pub each_both : (P : ℕ → Type 0) (gs hs : Glyphs) → Each P gs → Each P hs → Each P (gs ++ hs)
-each_both P [] hs h k = k
-each_both P (g ∷ gs) hs h k = (h.0, each_both P gs hs h.1 k)
 
 piece_erased : (P : ℕ → Type 0) (circles : Option DottedCircles) (piece : Glyphs) → Each P (opened_piece circles piece)
     → Each P piece
@@ -188,4 +184,4 @@ pub pieces_erased : (P : ℕ → Type 0) (circles : Option DottedCircles) (piece
 pieces_erased P circles [] h = tt
 pieces_erased P circles (p ∷ ps) h =
     let (a, b) = each_parts P (opened_piece circles p) (flat_map (opened_piece circles) ps) h in
-    each_both P p (flat_map (λ piece. piece) ps) (piece_erased P circles p a) (pieces_erased P circles ps b)
+    each-append P p (flat_map (λ piece. piece) ps) (piece_erased P circles p a) (pieces_erased P circles ps b)

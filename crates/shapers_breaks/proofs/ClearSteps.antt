@@ -8,7 +8,7 @@ use Rattle.std.proofs.lemmas.List.Elements.{All-from_get_or, All-head, All-tail,
 use Rattle.std.proofs.lemmas.List.Folds.{list_any_at}
 use Rattle.std.proofs.lemmas.List.FromFn.{length-range_with_len}
 use Rattle.std.proofs.lemmas.List.Sorted.{All-permutation, IsPermutation-sym}
-use Rattle.shapers_buffer.specs.declared.buffer.glyph.hb_glyph_info_t.{hb_glyph_info_t}
+use Rattle.shapers_buffer.specs.Glyphs.{Glyph, Glyphs}
 use Rattle.shapers_buffer.specs.Glyph.{clusters, default_glyph}
 use Rattle.shapers_buffer.specs.declared.buffer.level.BufferClusterLevel.{BufferClusterLevel}
 use Rattle.shapers_buffer.specs.Clusters.{merges}
@@ -120,33 +120,33 @@ stays cs sts js x h p z l ne = elim h [
 bits_same : (a b : ℕ) → b % 8 ≡ a % 8 → (bit_at 0 b ≡ bit_at 0 a) × (bit_at 2 b ≡ bit_at 2 a)
 bits_same a b e = (omega arith, omega arith)
 
-unsafe_same : (g h : hb_glyph_info_t) → h.mask % 8 ≡ g.mask % 8 → is_unsafe h ≡ is_unsafe g
+unsafe_same : (g h : Glyph) → h.mask % 8 ≡ g.mask % 8 → is_unsafe h ≡ is_unsafe g
 unsafe_same g h e =
     let (a, b) = bits_same g.mask h.mask e in
     ap (λ k. k == 1 || bit_at 2 h.mask == 1) a ∙ ap (λ k. bit_at 0 g.mask == 1 || k == 1) b
 
 -- whether a glyph of this cluster is unsafe
-abbrev is_flagged : ℕ → hb_glyph_info_t → Bool
+abbrev is_flagged : ℕ → Glyph → Bool
 is_flagged c g = g.cluster == c && is_unsafe g
 
-cluster_at : (gs : List hb_glyph_info_t) (k : ℕ) → k < length gs → get_or (clusters gs) k 0 ≡
+cluster_at : (gs : Glyphs) (k : ℕ) → k < length gs → get_or (clusters gs) k 0 ≡
     (get_or gs k default_glyph).cluster
-cluster_at gs k h = get_or-map (λ (g : hb_glyph_info_t). g.cluster) gs k default_glyph 0 h
+cluster_at gs k h = get_or-map (λ (g : Glyph). g.cluster) gs k default_glyph 0 h
 
 none_any : {X : Type 0} (test : X → Bool) (xs : List X) → All (λ x. test x ≡ false) xs → list_any test xs ≡ false
 none_any test [] h = refl
 none_any test (x ∷ xs) h = or_from _ _ (All-head (λ x. test x ≡ false) x xs h)
     (none_any test xs (All-tail (λ x. test x ≡ false) x xs h))
 
-pub clear_before_held : (view : hb_glyph_info_t → hb_glyph_info_t) (level : BufferClusterLevel) (steps : List Step)
-    (gs ms : List hb_glyph_info_t) → merges level ≡ true → IsMonotone (clusters gs) → AllByRecursion
+pub clear_before_held : (view : Glyph → Glyph) (level : BufferClusterLevel) (steps : List Step)
+    (gs ms : Glyphs) → merges level ≡ true → IsMonotone (clusters gs) → AllByRecursion
     (MovesMerged (length gs)) steps → AllByRecursion (Permutes (length gs)) steps
     → ReorderedHold view level steps gs ms → ClearWasClear gs ms
 clear_before_held view level steps gs ms m mono moves permutes hold p z l clear =
     let n = length gs in
     let cs = clusters gs in
     let js = clusters ms in
-    let count = length-map gs (λ (g : hb_glyph_info_t). g.cluster) in
+    let count = length-map gs (λ (g : Glyph). g.cluster) in
     let long = hold.glyphs.same_length in
     let merged = hold.where_merging m in
     let x = merged.exact mono in
@@ -157,11 +157,11 @@ clear_before_held view level steps gs ms m mono moves permutes hold p z l clear 
     let fit = merged_fits n steps moves in
     let within = within-old_places n steps in
     let many = length-old_places n steps fit in
-    let old : List hb_glyph_info_t = pick olds gs in
+    let old : Glyphs = pick olds gs in
     let moved : IsPermutation gs old = picked-permuted n olds gs refl within
     (moved-permuted n steps (range_with_len 0 n) (length-range_with_len 0 n) fit permutes) in
     let as_many : length old ≡ n = length-pick olds gs within ∙ many in
-    let P : hb_glyph_info_t → Type 0 = λ g. is_flagged c g ≡ false in
+    let P : Glyph → Type 0 = λ g. is_flagged c g ≡ false in
     let each : (i : ℕ) → i < length old → P (get_or old i default_glyph) = λ i il.
     let k = get_or olds i 0 in
     let kl : k < n = within_at n olds within i (omega arith) in
@@ -179,9 +179,9 @@ clear_before_held view level steps gs ms m mono moves permutes hold p z l clear 
     let own : g.cluster ≡ c = eqb-true g.cluster c in_c in
     let kept : get_or js k 0 ≡ get_or cs k 0 = st.each k (omega arith) (here ∙ own) in
     let same : h.cluster ≡ g.cluster = sym there ∙ sym shares ∙ kept ∙ here in
-    let flags = fallen.kept (subst (λ (t : hb_glyph_info_t). h.cluster ≡ t.cluster) (sym from) same) in
+    let flags = fallen.kept (subst (λ (t : Glyph). h.cluster ≡ t.cluster) (sym from) same) in
     let still : is_unsafe h ≡ true = unsafe_same g h
-    (subst (λ (t : hb_glyph_info_t). h.mask % 8 ≡ t.mask % 8) from flags) ∙ bad in
+    (subst (λ (t : Glyph). h.mask % 8 ≡ t.mask % 8) from flags) ∙ bad in
     both_ways _ clear.unflagged (list_any_at (is_flagged d) ms i default_glyph (omega arith)
     (and_from (h.cluster == d) (is_unsafe h) (eq-eqb h.cluster d (same ∙ own ∙ sym st.greatest)) still)))) in
     record {

@@ -7,7 +7,7 @@ use Rattle.std.proofs.lemmas.Bool.{cases_lt, or_parts}
 use Rattle.std.proofs.lemmas.List.{append-nil, get_or-append-add, get_or_append_left, length-map, length-take-le, map-append, take-append-drop}
 use Rattle.std.proofs.lemmas.List.Concat.{flat_map-append}
 use Rattle.std.proofs.lemmas.List.Folds.{list_any-append}
-use Rattle.shapers_buffer.specs.declared.buffer.glyph.hb_glyph_info_t.{hb_glyph_info_t}
+use Rattle.shapers_buffer.specs.Glyphs.{Glyph, Glyphs}
 use Rattle.shapers_buffer.specs.Glyph.{clusters}
 use Rattle.shapers_buffer.specs.Syllables.{syllables}
 use Rattle.shapers_clusters.specs.Breaks.{IsClear, is_unsafe}
@@ -19,18 +19,17 @@ use Rattle.shapers_syllabic.proofs.CircleLaws.{joined-syllables}
 use Rattle.shapers_clusters.proofs.Cuts.{falling_to, rising_to}
 use Rattle.shapers_breaks.proofs.CircledBorders.{OpenedBorder, circled_is, opened_piece}
 use Rattle.shapers_breaks.proofs.KeptBorders.{syllable_cut}
-use Rattle.shapers_breaks.proofs.SetUp.{Glyphs}
 use Rattle.shapers_breaks.proofs.UniversalSound.{none_empty}
 
 -- no glyph passes a test without circles, where none does with them
-inserted_quiet : (t : hb_glyph_info_t → Bool) (xs ys : Glyphs) (c : hb_glyph_info_t)
+inserted_quiet : (t : Glyph → Bool) (xs ys : Glyphs) (c : Glyph)
     → list_any t (xs ++ c ∷ ys) ≡ false → list_any t (xs ++ ys) ≡ false
 inserted_quiet t xs ys c h =
     let (a, b) = or_parts (list_any t xs) (t c || list_any t ys) (sym (list_any-append t xs (c ∷ ys)) ∙ h) in
     let (d, e) = or_parts (t c) (list_any t ys) b in
     list_any-append t xs ys ∙ ap (λ x. x || list_any t ys) a ∙ e
 
-piece_quiet : (t : hb_glyph_info_t → Bool) (circles : Option DottedCircles) (p : Glyphs)
+piece_quiet : (t : Glyph → Bool) (circles : Option DottedCircles) (p : Glyphs)
     → list_any t (opened_piece circles p) ≡ false → list_any t p ≡ false
 piece_quiet t None p h = h
 piece_quiet t (Some rule) p h =
@@ -43,7 +42,7 @@ piece_quiet t (Some rule) p h =
     ] in
     go (is_of_kind rule.broken_kind p) h
 
-all_quiet : (t : hb_glyph_info_t → Bool) (circles : Option DottedCircles) (ps : List Glyphs)
+all_quiet : (t : Glyph → Bool) (circles : Option DottedCircles) (ps : List Glyphs)
     → list_any t (flat_map (opened_piece circles) ps) ≡ false → list_any t (flat_map (λ p. p) ps) ≡ false
 all_quiet t circles [] h = refl
 all_quiet t circles (p ∷ ps) h =
@@ -62,7 +61,7 @@ last_of gs = slice_index (clusters gs) (length gs - 1)
 
 last_behind : (xs ys : Glyphs) → 0 < length ys → last_of (xs ++ ys) ≡ last_of ys
 last_behind xs ys some =
-    let cluster : hb_glyph_info_t → ℕ = λ g. g.cluster in
+    let cluster : Glyph → ℕ = λ g. g.cluster in
     let n : length (xs ++ ys) - 1 ≡ length (clusters xs) + (length ys - 1) = omega
     (arith, length-append xs ys, length-map xs cluster) in
     ap (λ k. slice_index (clusters (xs ++ ys)) k) n
@@ -71,14 +70,14 @@ last_behind xs ys some =
 
 last_before : (xs ys : Glyphs) → 0 < length xs → slice_index (clusters (xs ++ ys)) (length xs - 1) ≡ last_of xs
 last_before xs ys some =
-    let cluster : hb_glyph_info_t → ℕ = λ g. g.cluster in
+    let cluster : Glyph → ℕ = λ g. g.cluster in
     let n = length-map xs cluster in
     ap (λ cs. slice_index cs (length xs - 1)) (map-append cluster xs ys)
     ∙ get_or_append_left (clusters xs) (clusters ys) 0 (length xs - 1) (omega arith)
 
 opens_behind : (xs ys : Glyphs) → slice_index (clusters (xs ++ ys)) (length xs) ≡ first_of ys
 opens_behind xs ys =
-    let cluster : hb_glyph_info_t → ℕ = λ g. g.cluster in
+    let cluster : Glyph → ℕ = λ g. g.cluster in
     let n : length xs ≡ length (clusters xs) + 0 = omega (arith, length-map xs cluster) in
     ap (λ k. slice_index (clusters (xs ++ ys)) k) n
     ∙ ap (λ cs. slice_index cs (length (clusters xs) + 0)) (map-append cluster xs ys)
@@ -101,7 +100,7 @@ pairs_behind R xs ys all i j d less l =
 
 monotone_front : (xs ys : Glyphs) → IsMonotone (clusters (xs ++ ys)) → IsMonotone (clusters xs)
 monotone_front xs ys mono =
-    let cut = map-append (λ (g : hb_glyph_info_t). g.cluster) xs ys in
+    let cut = map-append (λ (g : Glyph). g.cluster) xs ys in
     elim (subst IsMonotone cut mono) [
       | inl up ↦ inl (pairs_front (λ a b. a ≤ b) (clusters xs) (clusters ys) up)
       | inr down ↦ inr (pairs_front (λ a b. b ≤ a) (clusters xs) (clusters ys) down)
@@ -109,14 +108,14 @@ monotone_front xs ys mono =
 
 monotone_behind : (xs ys : Glyphs) → IsMonotone (clusters (xs ++ ys)) → IsMonotone (clusters ys)
 monotone_behind xs ys mono =
-    let cut = map-append (λ (g : hb_glyph_info_t). g.cluster) xs ys in
+    let cut = map-append (λ (g : Glyph). g.cluster) xs ys in
     elim (subst IsMonotone cut mono) [
       | inl up ↦ inl (pairs_behind (λ a b. a ≤ b) (clusters xs) (clusters ys) up)
       | inr down ↦ inr (pairs_behind (λ a b. b ≤ a) (clusters xs) (clusters ys) down)
     ]
 
 -- a syllable with its circle begins in its cluster, and ends in that where clusters rise or fall
-opened_first : (circles : Option DottedCircles) (g : hb_glyph_info_t) (gs rest : Glyphs)
+opened_first : (circles : Option DottedCircles) (g : Glyph) (gs rest : Glyphs)
     → first_of (opened_piece circles (g ∷ gs) ++ rest) ≡ g.cluster
 opened_first None g gs rest = refl
 opened_first (Some rule) g gs rest = elim (is_of_kind rule.broken_kind (g ∷ gs)) as
@@ -129,7 +128,7 @@ opened_first (Some rule) g gs rest = elim (is_of_kind rule.broken_kind (g ∷ gs
       | false ↦ refl
     ]
 
-circle_last : (g c : hb_glyph_info_t) (gs : Glyphs) → c.cluster ≡ g.cluster
+circle_last : (g c : Glyph) (gs : Glyphs) → c.cluster ≡ g.cluster
     → IsMonotone (clusters ((g ∷ gs) ++ c ∷ [])) → last_of ((g ∷ gs) ++ c ∷ []) ≡ last_of (g ∷ gs)
 circle_last g c gs same mono =
     let xs = g ∷ gs in
@@ -137,7 +136,7 @@ circle_last g c gs same mono =
     let cs = clusters all in
     let m = length xs in
     let long = length-append xs (c ∷ []) in
-    let n = length-map all (λ (x : hb_glyph_info_t). x.cluster) in
+    let n = length-map all (λ (x : Glyph). x.cluster) in
     let first : get_or cs 0 0 ≡ g.cluster = refl in
     let last : last_of all ≡ c.cluster = last_behind xs (c ∷ []) (omega arith) in
     let mid : get_or cs (m - 1) 0 ≡ last_of xs = last_before xs (c ∷ []) (omega arith) in
@@ -154,7 +153,7 @@ circle_last g c gs same mono =
           omega arith
     ]
 
-with_circle_last : (n : ℕ) (g c : hb_glyph_info_t) (gs : Glyphs) → c.cluster ≡ g.cluster
+with_circle_last : (n : ℕ) (g c : Glyph) (gs : Glyphs) → c.cluster ≡ g.cluster
     → IsMonotone (clusters (take n (g ∷ gs) ++ c ∷ drop n (g ∷ gs)))
     → last_of (take n (g ∷ gs) ++ c ∷ drop n (g ∷ gs)) ≡ last_of (g ∷ gs)
 with_circle_last n g c gs same mono =
@@ -175,7 +174,7 @@ with_circle_last n g c gs same mono =
           ap last_of is ∙ circle_last g c gs same (subst (λ ys. IsMonotone (clusters ys)) is mono)
     ]
 
-opened_last : (circles : Option DottedCircles) (g : hb_glyph_info_t) (gs : Glyphs)
+opened_last : (circles : Option DottedCircles) (g : Glyph) (gs : Glyphs)
     → IsMonotone (clusters (opened_piece circles (g ∷ gs)))
     → last_of (opened_piece circles (g ∷ gs)) ≡ last_of (g ∷ gs)
 opened_last None g gs mono = refl
@@ -296,7 +295,7 @@ erased_clear circles gs p border mono z l clear =
     ∙ joined_first circles (drop k pieces) some_back
     ∙ sym (opens_behind front back) ∙ ap (λ ys. slice_index (clusters ys) n) (sym text) in
     let c = max (slice_index (clusters gs) (n - 1)) (slice_index (clusters gs) n) in
-    let t : hb_glyph_info_t → Bool = λ g. g.cluster == c && is_unsafe g in
+    let t : Glyph → Bool = λ g. g.cluster == c && is_unsafe g in
     let quiet : list_any t xs ≡ false =
     subst (λ u. list_any (λ g. g.cluster == max u (slice_index (clusters gs) n) && is_unsafe g) xs ≡ false) before
     (subst (λ v. list_any (λ g. g.cluster == max (slice_index (clusters xs) (p - 1)) v && is_unsafe g) xs ≡ false)

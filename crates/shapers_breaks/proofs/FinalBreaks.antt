@@ -6,7 +6,7 @@ use Rattle.std.proofs.lemmas.Bool.{cases_lt}
 use Rattle.std.proofs.lemmas.List.{length-map, take-map}
 use Rattle.std.proofs.lemmas.List.Elements.{AllZip-get_or}
 use Rattle.std.proofs.lemmas.List.Folds.{flat_map-map}
-use Rattle.shapers_buffer.specs.declared.buffer.glyph.hb_glyph_info_t.{hb_glyph_info_t}
+use Rattle.shapers_buffer.specs.Glyphs.{Glyph, Glyphs}
 use Rattle.shapers_buffer.specs.declared.buffer.level.BufferClusterLevel.{BufferClusterLevel}
 use Rattle.shapers_buffer.specs.declared.buffer.tag.Script.{Script}
 use Rattle.shapers_buffer.specs.Clusters.{merges}
@@ -40,7 +40,6 @@ use Rattle.shapers_breaks.proofs.Keepers.{cluster_at, own_keepers}
 use Rattle.shapers_breaks.proofs.KeptBorders.{KeepFlags, length_run, syllable_cut}
 use Rattle.shapers_breaks.proofs.KeptFlagsInside.{GreaterKept, clear_at_border_by, cluster_of, greater_kept, whole_at}
 use Rattle.shapers_breaks.proofs.KeptInside.{one_moves}
-use Rattle.shapers_breaks.proofs.SetUp.{Glyphs}
 use Rattle.shapers_breaks.proofs.KeptTextBreaks.{all_whole, apart_pieces, whole_syllable}
 use Rattle.shapers_breaks.proofs.TwoClusters.{run_flagged}
 
@@ -86,7 +85,7 @@ final_keeps laws r script level m least piece one all =
     (reph_first r.reph_pos p.base p.glyphs) (tried_first r script (after_reph r p))) all
 
 -- what openings do besides only adds flags
-flag_left : (o x y : hb_glyph_info_t) → FallsTo o x → FlagsFallButBreaks o y → y.cluster ≡ x.cluster → IsFlagged x
+flag_left : (o x y : Glyph) → FallsTo o x → FlagsFallButBreaks o y → y.cluster ≡ x.cluster → IsFlagged x
     → bit_at 0 y.mask ≡ 1
 flag_left o x y falls besides same flags =
     let f = flags_fall o x falls in

@@ -7,7 +7,7 @@ use Rattle.std.proofs.lemmas.List.{get_or-append_right, get_or_append_left, get_
 use Rattle.std.proofs.lemmas.List.Elements.{All-append, All-cons, All-drop, All-from_get_or, All-get_or, All-head, All-take}
 use Rattle.std.proofs.lemmas.List.Folds.{list_any_at}
 use Rattle.std.proofs.lemmas.Nat.Bits.{bit_at_or}
-use Rattle.shapers_buffer.specs.declared.buffer.glyph.hb_glyph_info_t.{hb_glyph_info_t}
+use Rattle.shapers_buffer.specs.Glyphs.{Glyph, Glyphs}
 use Rattle.shapers_buffer.specs.Clusters.{least}
 use Rattle.shapers_buffer.specs.Glyph.{clusters, default_glyph}
 use Rattle.shapers_buffer.specs.GlyphFlags.{flagged, with_bits, with_bits_off}
@@ -19,11 +19,11 @@ use Rattle.shapers_syllabic.specs.declared.ot_shaper_syllabic.circles.DottedCirc
 use Rattle.shapers_breaks.specs.SetUp.{FlaggedAt, IsFlagged}
 
 -- a glyph of the least cluster m, or above it and flagged
-abbrev pub LeastOrFlagged : ℕ → hb_glyph_info_t → Type 0
+abbrev pub LeastOrFlagged : ℕ → Glyph → Type 0
 LeastOrFlagged m g = (m ≤ g.cluster) × (g.cluster ≢ m → IsFlagged g)
 
 -- glyphs without a break between them
-abbrev pub IsWhole : List hb_glyph_info_t → Type 0
+abbrev pub IsWhole : Glyphs → Type 0
 IsWhole gs = (m : ℕ) × All (LeastOrFlagged m) gs
 
 -- a flag call over all of them
@@ -35,34 +35,34 @@ three_flags mask =
     let d : bit_at 1 mask ≤ 1 = omega arith in
     (omega (arith, bit_at_or mask 3 0, a, c), omega (arith, bit_at_or mask 3 1, b, d))
 
-off_flagged : (m : ℕ) (g : hb_glyph_info_t) → m ≤ g.cluster → LeastOrFlagged m (with_bits_off 3 m g)
+off_flagged : (m : ℕ) (g : Glyph) → m ≤ g.cluster → LeastOrFlagged m (with_bits_off 3 m g)
 off_flagged m g h = elim (g.cluster == m) as
     (λ b. (g.cluster == m) ≡ b → LeastOrFlagged m (if b then g else with_bits 3 g)) [
       | true ↦ λ e. (h, λ ne. absurd (ne (eqb-true g.cluster m e)))
       | false ↦ λ e. (h, λ ne. three_flags g.mask)
     ] refl
 
-pub flagged_whole : (gs : List hb_glyph_info_t) → IsWhole (flagged 3 gs)
+pub flagged_whole : (gs : Glyphs) → IsWhole (flagged 3 gs)
 flagged_whole gs =
     let m = least (clusters gs) in
     let f = with_bits_off 3 m in
     let n = length-map gs f in
-    let c = length-map gs (λ (g : hb_glyph_info_t). g.cluster) in (
+    let c = length-map gs (λ (g : Glyph). g.cluster) in (
       m,
       All-from_get_or (LeastOrFlagged m) (map f gs) default_glyph (λ i l.
           let il : i < length gs = omega arith in
           let low : m ≤ get_or (clusters gs) i 0 = least-le (clusters gs) i (omega arith) in
-          let is = get_or-map (λ (g : hb_glyph_info_t). g.cluster) gs i default_glyph 0 il in
+          let is = get_or-map (λ (g : Glyph). g.cluster) gs i default_glyph 0 il in
           subst (LeastOrFlagged m) (sym (get_or-map f gs i default_glyph default_glyph il))
           (off_flagged m (get_or gs i default_glyph) (omega arith))),
     )
 
 -- a circle has cluster and flags of the first glyph
-circle_whole : (m : ℕ) (circle : hb_glyph_info_t) (g : hb_glyph_info_t) (gs : List hb_glyph_info_t) → All
+circle_whole : (m : ℕ) (circle : Glyph) (g : Glyph) (gs : Glyphs) → All
     (LeastOrFlagged m) (g ∷ gs) → LeastOrFlagged m (circle_in (g ∷ gs) circle)
 circle_whole m circle g gs h = All-head (LeastOrFlagged m) g gs h
 
-pub circled_whole : (rule : DottedCircles) (gs : List hb_glyph_info_t) → IsWhole gs → IsWhole (circled_syllable rule gs)
+pub circled_whole : (rule : DottedCircles) (gs : Glyphs) → IsWhole gs → IsWhole (circled_syllable rule gs)
 circled_whole rule [] h = h
 circled_whole rule (g ∷ gs) h =
     let P = LeastOrFlagged h.0 in
@@ -78,7 +78,7 @@ circled_whole rule (g ∷ gs) h =
     ]
 
 -- two places of one piece
-flagged_inside : (piece rest : List hb_glyph_info_t) (p : ℕ) → IsWhole piece → 0 < p → p < length piece → FlaggedAt
+flagged_inside : (piece rest : Glyphs) (p : ℕ) → IsWhole piece → 0 < p → p < length piece → FlaggedAt
     (piece ++ rest) p
 flagged_inside piece rest p h z l =
     let P = LeastOrFlagged h.0 in
@@ -94,9 +94,9 @@ flagged_inside piece rest p h z l =
           (second.1 (λ e. absurd (omega (
             arith,
             less,
-            ap (λ (g : hb_glyph_info_t). g.cluster) before,
+            ap (λ (g : Glyph). g.cluster) before,
             ap
-                (λ (g : hb_glyph_info_t). g.cluster) behind,
+                (λ (g : Glyph). g.cluster) behind,
             first.0,
             e,
           ))));
@@ -104,16 +104,16 @@ flagged_inside piece rest p h z l =
           (first.1 (λ e. absurd (omega (
             arith,
             less,
-            ap (λ (g : hb_glyph_info_t). g.cluster) before,
+            ap (λ (g : Glyph). g.cluster) before,
             ap
-                (λ (g : hb_glyph_info_t). g.cluster) behind,
+                (λ (g : Glyph). g.cluster) behind,
             second.0,
             e,
           ))));
     }
 
 -- and two of what stands behind it
-flagged_behind : (piece rest : List hb_glyph_info_t) (p : ℕ) → length piece < p → FlaggedAt rest (p - length piece)
+flagged_behind : (piece rest : Glyphs) (p : ℕ) → length piece < p → FlaggedAt rest (p - length piece)
     → FlaggedAt (piece ++ rest) p
 flagged_behind piece rest p l h =
     let d = default_glyph in
@@ -125,21 +125,21 @@ flagged_behind piece rest p l h =
     (omega arith) in
     record {
       rising = λ less. subst IsFlagged (sym behind)
-          (h.rising (subst (λ (g : hb_glyph_info_t). g.cluster < (get_or rest (p - n) d).cluster) before
-          (subst (λ (g : hb_glyph_info_t). (get_or (piece ++ rest) (p - 1) d).cluster < g.cluster) behind less)));
+          (h.rising (subst (λ (g : Glyph). g.cluster < (get_or rest (p - n) d).cluster) before
+          (subst (λ (g : Glyph). (get_or (piece ++ rest) (p - 1) d).cluster < g.cluster) behind less)));
       falling = λ less. subst IsFlagged (sym before)
-          (h.falling (subst (λ (g : hb_glyph_info_t). g.cluster < (get_or rest (p - n - 1) d).cluster) behind
-          (subst (λ (g : hb_glyph_info_t). (get_or (piece ++ rest) p d).cluster < g.cluster) before less)));
+          (h.falling (subst (λ (g : Glyph). g.cluster < (get_or rest (p - n - 1) d).cluster) behind
+          (subst (λ (g : Glyph). (get_or (piece ++ rest) p d).cluster < g.cluster) before less)));
     }
 
 -- place p is a border of pieces: the first k of them are the p glyphs before it
-pub record PieceBorder (pieces : List (List hb_glyph_info_t)) (p : ℕ) : Type 0 where
+pub record PieceBorder (pieces : List Glyphs) (p : ℕ) : Type 0 where
   pub count : ℕ
   pub within : count ≤ length pieces
   pub place : length (flat_map (λ piece. piece) (take count pieces)) ≡ p
 
 -- each place of whole pieces is a border, or flagged
-pub border_or_flagged : (pieces : List (List hb_glyph_info_t)) → AllByRecursion IsWhole pieces → (p : ℕ) → 0 < p
+pub border_or_flagged : (pieces : List Glyphs) → AllByRecursion IsWhole pieces → (p : ℕ) → 0 < p
     → p < length (flat_map (λ piece. piece) pieces) → PieceBorder pieces p ⊎ FlaggedAt
     (flat_map (λ piece. piece) pieces) p
 border_or_flagged [] h p z l = absurd (omega arith)
@@ -166,11 +166,11 @@ border_or_flagged (piece ∷ pieces) h p z l =
     ]
 
 -- a clear place isn't flagged
-cluster_at : (gs : List hb_glyph_info_t) (k : ℕ) → k < length gs → get_or (clusters gs) k 0 ≡
+cluster_at : (gs : Glyphs) (k : ℕ) → k < length gs → get_or (clusters gs) k 0 ≡
     (get_or gs k default_glyph).cluster
-cluster_at gs k h = get_or-map (λ (g : hb_glyph_info_t). g.cluster) gs k default_glyph 0 h
+cluster_at gs k h = get_or-map (λ (g : Glyph). g.cluster) gs k default_glyph 0 h
 
-pub clear_not_flagged : (gs : List hb_glyph_info_t) (p : ℕ) → 0 < p → p < length gs → IsClear gs p → FlaggedAt gs p → ⊥
+pub clear_not_flagged : (gs : Glyphs) (p : ℕ) → 0 < p → p < length gs → IsClear gs p → FlaggedAt gs p → ⊥
 clear_not_flagged gs p z l clear h =
     let d = default_glyph in
     let a = get_or gs (p - 1) d in

@@ -7,7 +7,7 @@ use Rattle.std.proofs.lemmas.List.{append_assoc, get_or-append_right, length-app
 use Rattle.std.proofs.lemmas.List.Folds.{list_any-append}
 use Rattle.shapers_base.specs.Font.{Font}
 use Rattle.shapers_base.specs.declared.plan.hb_ot_shape_plan_t.{hb_ot_shape_plan_t}
-use Rattle.shapers_buffer.specs.declared.buffer.glyph.hb_glyph_info_t.{hb_glyph_info_t}
+use Rattle.shapers_buffer.specs.Glyphs.{Glyph}
 use Rattle.shapers_buffer.specs.declared.buffer.level.BufferClusterLevel.TheVariants.{MonotoneGraphemes}
 use Rattle.shapers_buffer.specs.Buffer.{Buffer}
 use Rattle.shapers_buffer.specs.Clusters.{merges}
@@ -130,7 +130,7 @@ pub hangul_meeting : (plan : hb_ot_shape_plan_t) (font : Font) (old new : Buffer
     → UnheldAt (clusters old.glyphs) (stretches old.level (items font (allows_circles old) (characters old.glyphs)))
     (clusters new.glyphs) p
 hangul_meeting plan font old new m mono is p z l differ =
-    let cluster : hb_glyph_info_t → ℕ = λ g. g.cluster in
+    let cluster : Glyph → ℕ = λ g. g.cluster in
     let gs = old.glyphs in
     let us = characters gs in
     let level = old.level in
@@ -159,7 +159,7 @@ broken_between plan font old new sts p mono is at between =
     let level = old.level in
     let circles = allows_circles old in
     let q = at.place in
-    let within : q < length gs = omega (arith, at.within, length-map gs (λ (g : hb_glyph_info_t). g.cluster)) in
+    let within : q < length gs = omega (arith, at.within, length-map gs (λ (g : Glyph). g.cluster)) in
     let xs = take q gs in
     let ys = drop q gs in
     let text : gs ≡ xs ++ ys = sym (take-append-drop q gs) in
@@ -199,5 +199,5 @@ hangul_breaks plan font old new graphemes mono join is p z l differ =
     (between_from font circles us [] q 0 us refl (λ tone narrow. at.differ (join q at.some (omega (
       arith,
       at.within,
-      length-map old.glyphs (λ (g : hb_glyph_info_t). g.cluster),
+      length-map old.glyphs (λ (g : Glyph). g.cluster),
     )) tone narrow)) free)

@@ -7,7 +7,7 @@ use Rattle.std.proofs.lemmas.List.Elements.{All-get_or, AllZip-get_or}
 use Rattle.std.proofs.lemmas.List.Folds.{list_any-append}
 use Rattle.shapers_base.specs.Font.{Font, dotted_circle, has_nominal}
 use Rattle.shapers_base.specs.declared.plan.breaks.BreakFlags.TheVariants.{Sound}
-use Rattle.shapers_buffer.specs.declared.buffer.glyph.hb_glyph_info_t.{hb_glyph_info_t}
+use Rattle.shapers_buffer.specs.Glyphs.{Glyph, Glyphs}
 use Rattle.shapers_buffer.specs.declared.buffer.level.BufferClusterLevel.{BufferClusterLevel}
 use Rattle.shapers_buffer.specs.declared.buffer.level.BufferClusterLevel.TheVariants.{Characters, MonotoneCharacters, MonotoneGraphemes}
 use Rattle.shapers_buffer.specs.Buffer.{Buffer}
@@ -36,19 +36,19 @@ use Rattle.shapers_breaks.proofs.Guarded.{LeastOrFlagged, flagged_whole}
 use Rattle.shapers_breaks.proofs.HangulBreaks.{broken_between, by_tone, hangul_meeting}
 
 -- FLAGGED STRETCHES. A glyph above another of the same stretch is flagged
-abbrev Guards : List hb_glyph_info_t → ℕ × ℕ → Type 0
+abbrev Guards : Glyphs → ℕ × ℕ → Type 0
 Guards gs st = (r o : ℕ) → st.0 ≤ r → r < st.1 → st.0 ≤ o → o < st.1
     → get_or (clusters gs) o 0 < get_or (clusters gs) r 0 → bit_at 0 (get_or gs r default_glyph).mask ≡ 1
 
-cluster_at : (gs : List hb_glyph_info_t) (k : ℕ) → k < length gs → get_or (clusters gs) k 0
+cluster_at : (gs : Glyphs) (k : ℕ) → k < length gs → get_or (clusters gs) k 0
     ≡ (get_or gs k default_glyph).cluster
-cluster_at gs k h = get_or-map (λ (g : hb_glyph_info_t). g.cluster) gs k default_glyph 0 h
+cluster_at gs k h = get_or-map (λ (g : Glyph). g.cluster) gs k default_glyph 0 h
 
-record InFlagged (s e : ℕ) (gs : List hb_glyph_info_t) (k : ℕ) : Type 0 where
+record InFlagged (s e : ℕ) (gs : Glyphs) (k : ℕ) : Type 0 where
   within : k - s < length (flagged 3 (stretch_of s e gs))
   is : get_or (unsafe_inside s e gs) k default_glyph ≡ get_or (flagged 3 (stretch_of s e gs)) (k - s) default_glyph
 
-in_flagged : (s e : ℕ) (gs : List hb_glyph_info_t) (k : ℕ) → e ≤ length gs → s ≤ k → k < e → InFlagged s e gs k
+in_flagged : (s e : ℕ) (gs : Glyphs) (k : ℕ) → e ≤ length gs → s ≤ k → k < e → InFlagged s e gs k
 in_flagged s e gs k ends low high =
     let d = default_glyph in
     let part = stretch_of s e gs in
@@ -64,7 +64,7 @@ in_flagged s e gs k ends low high =
           ∙ get_or_append_left (flagged 3 part) (drop e gs) d (k - s) within;
     }
 
-one_guards : (s e : ℕ) (gs : List hb_glyph_info_t) → s ≤ e → e ≤ length gs → Guards (unsafe_inside s e gs) (s, e)
+one_guards : (s e : ℕ) (gs : Glyphs) → s ≤ e → e ≤ length gs → Guards (unsafe_inside s e gs) (s, e)
 one_guards s e gs ordered ends r o r_low r_high o_low o_high less =
     let new = unsafe_inside s e gs in
     let d = default_glyph in
@@ -81,7 +81,7 @@ one_guards s e gs ordered ends r o r_low r_high o_low o_high less =
     let its = cluster_at new o (omega (arith, long, o_high, ends)) in
     (first.1 (λ e. absurd (omega (arith, e, own, its, less, second.0)))).0
 
-guards_kept : (gs hs : List hb_glyph_info_t) (st : ℕ × ℕ) → FlagsAlone gs hs → st.1 ≤ length gs → Guards gs st
+guards_kept : (gs hs : Glyphs) (st : ℕ × ℕ) → FlagsAlone gs hs → st.1 ≤ length gs → Guards gs st
     → Guards hs st
 guards_kept gs hs st alone ends guards r o r_low r_high o_low o_high less =
     let was = guards r o r_low r_high o_low o_high
@@ -91,14 +91,14 @@ guards_kept gs hs st alone ends guards r o r_low r_high o_low o_high less =
     let below : bit_at 0 (get_or hs r default_glyph).mask ≤ 1 = omega arith in
     omega (arith, was, kept, below)
 
-all_alone : (sts : List (ℕ × ℕ)) (gs : List hb_glyph_info_t) → AllByRecursion (λ st. st.0 ≤ st.1) sts
+all_alone : (sts : List (ℕ × ℕ)) (gs : Glyphs) → AllByRecursion (λ st. st.0 ≤ st.1) sts
     → FlagsAlone gs (unsafe_all sts gs)
 all_alone [] gs ordered = flags_called-alone false false [] gs tt
 all_alone (st ∷ sts) gs ordered =
     let once = unsafe_inside st.0 st.1 gs in
     alone_on gs once (unsafe_all sts once) (unsafe_inside-alone st.0 st.1 gs ordered.0) (all_alone sts once ordered.1)
 
-all_guard : (sts : List (ℕ × ℕ)) (gs : List hb_glyph_info_t) → AllByRecursion (λ st. st.0 ≤ st.1) sts
+all_guard : (sts : List (ℕ × ℕ)) (gs : Glyphs) → AllByRecursion (λ st. st.0 ≤ st.1) sts
     → EndWithin (length gs) sts → AllByRecursion (Guards (unsafe_all sts gs)) sts
 all_guard [] gs ordered ends = tt
 all_guard (st ∷ sts) gs ordered ends =
@@ -245,22 +245,22 @@ one_from cs s (suc k) each =
     one_from cs s k (λ t low high. each t low (omega (arith, high))) ∙ ap (λ i. get_or cs i 0) (sym last)
     ∙ each (s + suc k) (omega arith) (omega arith)
 
-abbrev is_shown : ℕ → hb_glyph_info_t → Bool
+abbrev is_shown : ℕ → Glyph → Bool
 is_shown c g = g.cluster == c && is_unsafe g
 
-shown : (gs : List hb_glyph_info_t) (c k : ℕ) → k < length gs → get_or (clusters gs) k 0 ≡ c
+shown : (gs : Glyphs) (c k : ℕ) → k < length gs → get_or (clusters gs) k 0 ≡ c
     → bit_at 0 (get_or gs k default_glyph).mask ≡ 1 → get_or (map (is_shown c) gs) k false ≡ true
 shown gs c k l is flag =
     get_or-map (is_shown c) gs k default_glyph false l
     ∙ and_from _ _ (eq-eqb _ _ (sym (cluster_at gs k l) ∙ is)) (or_left _ _ (eq-eqb _ _ flag))
 
 -- places that stretches hold share a cluster
-abbrev HeldShare : List hb_glyph_info_t → List (ℕ × ℕ) → Type 0
+abbrev HeldShare : Glyphs → List (ℕ × ℕ) → Type 0
 HeldShare gs sts = (t : ℕ) → 0 < t → t < length gs → held sts t ≡ true
     → get_or (clusters gs) (t - 1) 0 ≡ get_or (clusters gs) t 0
 
 unit_shares : (level : BufferClusterLevel) (font : Font) (circles : Bool) (us : List ℕ) (s : ℕ)
-    (gs : List hb_glyph_info_t) (k : ℕ)
+    (gs : Glyphs) (k : ℕ)
     → merges level ≡ true → is_marked (opening_unit font circles us) ≡ false
     → s + taken (opening_unit font circles us) ≤ length gs
     → HeldShare gs (item_stretches level (first_item font circles us) s) → k < taken (opening_unit font circles us)
@@ -274,7 +274,7 @@ unit_shares level font circles us s gs k m unmarked ends share l =
     (or_left _ _ (and_from _ _ (lt-ltb s t low) (lt-ltb t (s + n) (omega (arith, high, l)))))))
 
 none_above : (level : BufferClusterLevel) (font : Font) (circles : Bool) (us : List ℕ) (s c : ℕ)
-    (gs : List hb_glyph_info_t) → merges level ≡ true
+    (gs : Glyphs) → merges level ≡ true
     → s + item_len (first_item font circles us) ≤ length gs → Guards gs (s, s + item_len (first_item font circles us))
     → AllFail (item_output test_copies (first_item font circles us) (drop s (map (is_shown c) gs)))
     → HeldShare gs (item_stretches level (first_item font circles us) s) → (r o : ℕ) → s ≤ r
@@ -340,7 +340,7 @@ meets_below cs c q some differ greatest = elim (cases_order (get_or cs (q - 1) 0
   }
 ]
 
-between_items : (level : BufferClusterLevel) (font : Font) (circles : Bool) (c q : ℕ) (gs : List hb_glyph_info_t)
+between_items : (level : BufferClusterLevel) (font : Font) (circles : Bool) (c q : ℕ) (gs : Glyphs)
     (place skip : ℕ) (us : List ℕ) → merges level ≡ true → MeetsBelow (clusters gs) c q
     → Fit (length gs) (items_from (first_item font circles) place skip us)
     → AllByRecursion (Guards gs) (whole_items (items_from (first_item font circles) place skip us))
@@ -375,7 +375,7 @@ between_items level font circles c q gs place (suc skip) (u ∷ us) m at fit gua
     between_items level font circles c q gs (place + 1) skip us m at fit guards all share
 
 -- THE TEXT
-none_shown : (test : hb_glyph_info_t → Bool) (gs : List hb_glyph_info_t) → list_any test gs ≡ false
+none_shown : (test : Glyph → Bool) (gs : Glyphs) → list_any test gs ≡ false
     → AllFail (map test gs)
 none_shown test [] none = tt
 none_shown test (g ∷ gs) none = let (first, rest) = or_parts _ _ none in (first, none_shown test gs rest)
@@ -395,7 +395,7 @@ hangul_sound_breaks plan font old new sound m mono is p z l clear =
     let at = hangul_meeting plan font old new m mono is p z l clear.differ in
     let q = at.place in
     let c = greater new.glyphs p in
-    let long = length-map gs (λ (g : hb_glyph_info_t). g.cluster) in
+    let long = length-map gs (λ (g : Glyph). g.cluster) in
     let joined = all_joined level cut gs in
     let ns = unsafe_all (whole_items cut) joined in
     let made : clusters ns ≡ joined_all level sts cs = clusters-items_flagged Sound cut joined

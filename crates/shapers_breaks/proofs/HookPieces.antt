@@ -15,7 +15,7 @@ use Rattle.shapers_buffer.specs.Buffer.{Buffer}
 use Rattle.shapers_buffer.specs.Glyph.{clusters, order_view, plain, without_flags}
 use Rattle.shapers_buffer.specs.Syllables.{syllables}
 use Rattle.shapers_buffer.specs.declared.buffer.level.BufferClusterLevel.{BufferClusterLevel}
-use Rattle.shapers_buffer.specs.declared.buffer.glyph.hb_glyph_info_t.{hb_glyph_info_t}
+use Rattle.shapers_buffer.specs.Glyphs.{Glyph, Glyphs}
 use Rattle.shapers_clusters.specs.Breaks.{IsClear}
 use Rattle.shapers_clusters.specs.FlagLaw.{OnlyFlagsAdded}
 use Rattle.shapers_clusters.proofs.FlagCalls.{plain-or}
@@ -38,7 +38,6 @@ use Rattle.shapers_breaks.proofs.HangulBreaks.{hangul_breaks}
 use Rattle.shapers_breaks.proofs.HangulSound.{hangul_sound_breaks}
 use Rattle.shapers_breaks.proofs.MarkBreaks.{marks_break}
 use Rattle.shapers_breaks.proofs.Pieces.{ReadsOrder, behind_pieces, flags-twice, in_turn, kind-twice, leaves_by_glyph, own_text, reads_order, still}
-use Rattle.shapers_breaks.proofs.SetUp.{Glyphs}
 use Rattle.shapers_breaks.proofs.ThaiBreaks.{sara_ams_break, thai_forms_break}
 use Rattle.shapers_breaks.proofs.ThaiSound.{thai_sound_break}
 
@@ -52,7 +51,7 @@ pub joined_parts : (whole front back one two : Glyphs) → whole ≡ front ++ ba
     → SameButFlags one front × SameButFlags two back
 joined_parts whole front back one two parts long order in_clusters =
     let n = length front in
-    let of : hb_glyph_info_t → ℕ = λ g. g.cluster in
+    let of : Glyph → ℕ = λ g. g.cluster in
     let views : order_view front ++ order_view back ≡ order_view one ++ order_view two =
     sym (map-append plain front back)
     ∙ ap order_view (sym parts) ∙ order in
@@ -207,12 +206,12 @@ jamo_masked masks off =
       byte = λ g. refl;
       viewed = λ g.
           let m = slice_index masks g.auxiliary in
-          ap (λ (k : ℕ). let r : hb_glyph_info_t = record g { cluster = 0; mask = k } in r)
+          ap (λ (k : ℕ). let r : Glyph = record g { cluster = 0; mask = k } in r)
           (plain-or g.mask m (own g.auxiliary) ∙ ap (λ k. bit_or k m) (sym (flags-twice g.mask))
           ∙ sym (plain-or (without_flags g.mask) m (own g.auxiliary)));
       counted = λ g.
           let m = slice_index masks g.auxiliary in
-          ap (λ (k : ℕ). let r : hb_glyph_info_t = record g {
+          ap (λ (k : ℕ). let r : Glyph = record g {
             cluster = 0;
             mask = without_flags (bit_or g.mask m);
             syllable = k;
@@ -224,9 +223,9 @@ categories_read : (tables : CharacterTables) → ReadsOrder (with_category table
 categories_read tables = record {
   added = λ g. added_same g (with_category tables g) refl refl;
   byte = λ g. refl;
-  viewed = λ g. ap (λ (k : ℕ). let r : hb_glyph_info_t = record (with_category tables g) { cluster = 0; mask = k } in r)
+  viewed = λ g. ap (λ (k : ℕ). let r : Glyph = record (with_category tables g) { cluster = 0; mask = k } in r)
       (sym (flags-twice g.mask));
-  counted = λ g. ap (λ (k : ℕ). let r : hb_glyph_info_t = record (plain (with_category tables g)) { syllable = k } in r)
+  counted = λ g. ap (λ (k : ℕ). let r : Glyph = record (plain (with_category tables g)) { syllable = k } in r)
       (sym (kind-twice g.syllable));
 }
 
@@ -234,16 +233,16 @@ positions_read : (tables : CharacterTables) → ReadsOrder (with_category_and_po
 positions_read tables = record {
   added = λ g. added_same g (with_category_and_position tables g) refl refl;
   byte = λ g. refl;
-  viewed = λ g. ap (λ (k : ℕ). let r : hb_glyph_info_t = record (with_category_and_position tables g) {
+  viewed = λ g. ap (λ (k : ℕ). let r : Glyph = record (with_category_and_position tables g) {
     cluster = 0;
     mask = k;
   } in r) (sym (flags-twice g.mask));
-  counted = λ g. ap (λ (k : ℕ). let r : hb_glyph_info_t = record (plain (with_category_and_position tables g)) {
+  counted = λ g. ap (λ (k : ℕ). let r : Glyph = record (plain (with_category_and_position tables g)) {
     syllable = k;
   } in r) (sym (kind-twice g.syllable));
 }
 
-glyphs_masked : (f : hb_glyph_info_t → hb_glyph_info_t) → ReadsOrder f → (old new : Buffer)
+glyphs_masked : (f : Glyph → Glyph) → ReadsOrder f → (old new : Buffer)
     → new.glyphs ≡ map f old.glyphs → (new.glyphs ≡ map f old.glyphs) × LeavesPieces (map f) old.glyphs
 glyphs_masked f reads old new is = (is, leaves_by_glyph f (reads_order f reads) old.glyphs)
 
@@ -315,7 +314,7 @@ joined_in_two plan tables old front back spared cut =
     let new = joined_by plan tables old in
     let gs = old.glyphs in
     let n = length front in
-    let of : hb_glyph_info_t → ℕ = λ g. g.cluster in
+    let of : Glyph → ℕ = λ g. g.cluster in
     let same = clusters-joined plan tables old in
     let many : length new.glyphs ≡ length gs = sym (length-map new.glyphs of) ∙ ap length same ∙ length-map gs of in
     let l = within_parts new.glyphs front back cut in

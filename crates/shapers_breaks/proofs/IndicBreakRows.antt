@@ -4,7 +4,7 @@ use Rattle.std.proofs.Common.{ℕ, ◌<◌, ◌≡◌, false, true, List, [], �
 use Rattle.std.specs.Prelude.{None}
 use Rattle.std.proofs.lemmas.Bool.{false≢true}
 use Rattle.std.proofs.lemmas.List.Elements.{All-cons, All-get_or, All-head, All-nil, All-tail}
-use Rattle.shapers_buffer.specs.declared.buffer.glyph.hb_glyph_info_t.{hb_glyph_info_t}
+use Rattle.shapers_buffer.specs.Glyphs.{Glyph, Glyphs}
 use Rattle.shapers_buffer.specs.declared.buffer.syllables.Span.{Span}
 use Rattle.shapers_buffer.specs.declared.buffer.level.BufferClusterLevel.TheVariants.{MonotoneGraphemes}
 use Rattle.shapers_buffer.specs.Glyph.{default_glyph}
@@ -28,7 +28,7 @@ use Rattle.shapers_breaks.specs.SetUp.{IsFlagged}
 use Rattle.shapers_breaks.specs.KeptTextBreaks.{FlaggedInside}
 
 -- a glyph in this cluster, of a category and a position
-typed : ℕ → ℕ → ℕ → hb_glyph_info_t
+typed : ℕ → ℕ → ℕ → Glyph
 typed c category position = record default_glyph { cluster = c; category = category; auxiliary = position }
 
 -- the newer specification of a script, with no mask and a font that substitutes nothing
@@ -43,10 +43,10 @@ plain_rules tag = record {
 }
 
 -- clusters and masks; those of one syllable after its steps
-pairs : List hb_glyph_info_t → List (ℕ × ℕ)
-pairs gs = map (λ (g : hb_glyph_info_t). (g.cluster, g.mask)) gs
+pairs : Glyphs → List (ℕ × ℕ)
+pairs gs = map (λ (g : Glyph). (g.cluster, g.mask)) gs
 
-after : String → List hb_glyph_info_t → List (ℕ × ℕ)
+after : String → Glyphs → List (ℕ × ℕ)
 after tag gs = pairs (run_steps MonotoneGraphemes (initial_steps (plain_rules tag) (script tag) gs) gs)
 
 one : List Span
@@ -54,7 +54,7 @@ one = record { len = 5; kind = 0 } ∷ []
 
 -- Kannada: Ra H ZWJ, a consonant of a post-base form, a matra that goes before it. As H and ZWJ change places they take
 -- the Ra along into their cluster, and then they leave it: no glyph of cluster 1 is flagged, and place 1 is clear
-parted : List hb_glyph_info_t
+parted : Glyphs
 parted = typed 2 Ra 4 ∷ typed 2 H 4 ∷ typed 1 ZWJ 4 ∷ typed 0 C 11 ∷ typed 0 M 9 ∷ []
 
 row_parted : after "Knda" (unsafe_spans one parted) ≡ (1, 0) ∷ (0, 0) ∷ (0, 0) ∷ (0, 0) ∷ (0, 0) ∷ []
@@ -66,7 +66,7 @@ unfolding typed parted
 row_not_shared shares = absurd (omega (arith, shares refl))
 
 -- where both are in one cluster the Ra keeps its flag
-shared : List hb_glyph_info_t
+shared : Glyphs
 shared = typed 2 Ra 4 ∷ typed 1 H 4 ∷ typed 1 ZWJ 4 ∷ typed 0 C 11 ∷ typed 0 M 9 ∷ []
 
 row_shared : after "Knda" (unsafe_spans one shared) ≡ (2, 3) ∷ (0, 0) ∷ (0, 0) ∷ (0, 0) ∷ (0, 0) ∷ []
@@ -117,7 +117,7 @@ row_within part = part 2 (omega arith) (omega arith) (record {
 halves : List Span
 halves = record { len = 3; kind = 0 } ∷ record { len = 1; kind = 0 } ∷ []
 
-within : List hb_glyph_info_t
+within : Glyphs
 within = typed 0 C 4 ∷ typed 0 SM 13 ∷ typed 1 M 9 ∷ typed 1 C 4 ∷ []
 
 row_unparted : pairs (run_steps MonotoneGraphemes
@@ -129,15 +129,15 @@ row_unparted = refl
 -- all but the least cluster of a syllable are flagged, by both bits
 row_flagged : FlaggedInside (typed 1 C 4 ∷ record (typed 2 M 2) { mask = 3 } ∷ [])
 unfolding typed
-row_flagged = All-cons (λ (g : hb_glyph_info_t). 1 < g.cluster → IsFlagged g) (typed 1 C 4)
+row_flagged = All-cons (λ (g : Glyph). 1 < g.cluster → IsFlagged g) (typed 1 C 4)
     (record (typed 2 M 2) { mask = 3 } ∷ []) (λ above. absurd (omega (arith, above)))
-    (All-cons (λ (g : hb_glyph_info_t). 1 < g.cluster → IsFlagged g) (record (typed 2 M 2) { mask = 3 }) []
-    (λ above. (refl, refl)) (All-nil (λ (g : hb_glyph_info_t). 1 < g.cluster → IsFlagged g)))
+    (All-cons (λ (g : Glyph). 1 < g.cluster → IsFlagged g) (record (typed 2 M 2) { mask = 3 }) []
+    (λ above. (refl, refl)) (All-nil (λ (g : Glyph). 1 < g.cluster → IsFlagged g)))
 
 row_one_bit : FlaggedInside (typed 1 C 4 ∷ record (typed 2 M 2) { mask = 1 } ∷ []) → ⊥
 unfolding typed
 row_one_bit all =
-    let P : hb_glyph_info_t → Type 0 = λ g. 1 < g.cluster → IsFlagged g in
+    let P : Glyph → Type 0 = λ g. 1 < g.cluster → IsFlagged g in
     let rest = All-tail P (typed 1 C 4) (record (typed 2 M 2) { mask = 1 } ∷ []) all in
     let flags = All-head P (record (typed 2 M 2) { mask = 1 }) [] rest (omega arith) in
     absurd (omega (arith, flags.1))
@@ -145,11 +145,11 @@ row_one_bit all =
 -- The final reordering: two left matras before C H and C, as the initial one leaves them, of clusters 0 2 2 2 1. The
 -- first to move takes C H along as it falls to 1, the second parts them from the last C, whose flag kept cluster 1
 -- unsafe: place 2 is clear. One left matra parts nothing that lost its flag
-kept_one : List hb_glyph_info_t
+kept_one : Glyphs
 kept_one = typed 0 M 2 ∷ record (typed 2 C 3) { mask = 3 } ∷ record (typed 2 H 3) { mask = 3 }
     ∷ record (typed 1 C 4) { mask = 3 } ∷ []
 
-kept_two : List hb_glyph_info_t
+kept_two : Glyphs
 kept_two = typed 0 M 2 ∷ record (typed 2 M 2) { mask = 3 } ∷ record (typed 2 C 3) { mask = 3 }
     ∷ record (typed 2 H 3) { mask = 3 } ∷ record (typed 1 C 4) { mask = 3 } ∷ []
 
@@ -187,7 +187,7 @@ none_of_three b c x y z = elim x [
 -- 2 2 1 0. In the initial one the matra goes to the front, and C H fall to the cluster of Ra, which alone keeps a flag;
 -- in the final one the Ra, unformed, is the base, and falls to 0 with the matra, which moves before it: C H stay in
 -- cluster 1 without a flag, and place 2 is clear
-lost : List hb_glyph_info_t
+lost : Glyphs
 lost = typed 2 C 4 ∷ typed 2 H 4 ∷ typed 1 Ra 8 ∷ typed 0 M 2 ∷ []
 
 with_pref : Rules
@@ -203,10 +203,10 @@ by_pref = record {
   steps = initial_steps with_pref (script "Beng");
 }
 
-syllable_of : ℕ → ℕ → ℕ → ℕ → hb_glyph_info_t
+syllable_of : ℕ → ℕ → ℕ → ℕ → Glyph
 syllable_of c mask category position = record (typed c category position) { mask = mask; syllable = 16 }
 
-between : List hb_glyph_info_t
+between : Glyphs
 between = syllable_of 0 0 M 2 ∷ syllable_of 1 0 C 4 ∷ syllable_of 1 16 H 8 ∷ syllable_of 1 19 Ra 8 ∷ []
 
 four : List Span
@@ -216,7 +216,7 @@ row_lost : reordered_text by_pref MonotoneGraphemes (unsafe_spans four lost) ≡
 unfolding typed plain_rules lost with_pref by_pref syllable_of between four
 row_lost = refl
 
-lost_twice : List hb_glyph_info_t
+lost_twice : Glyphs
 lost_twice = run_steps MonotoneGraphemes (final_steps (final_of "Beng") (script "Beng") between) between
 
 row_lost_twice : pairs lost_twice ≡ (1, 0) ∷ (1, 16) ∷ (0, 0) ∷ (0, 16) ∷ []
@@ -230,7 +230,7 @@ row_clear_inside = record { differ = λ e. absurd (omega (arith, e)); unflagged 
 row_not_kept : FlaggedInside between → ⊥
 unfolding typed syllable_of between
 row_not_kept all =
-    let P : hb_glyph_info_t → Type 0 = λ g. 0 < g.cluster → IsFlagged g in
+    let P : Glyph → Type 0 = λ g. 0 < g.cluster → IsFlagged g in
     let flags = All-get_or P between 1 default_glyph (omega arith) all (omega arith) in
     absurd (omega (arith, flags.0))
 
@@ -239,7 +239,7 @@ unfolding typed syllable_of between
 row_moves_one_lost = omega arith
 
 -- where the syllable has two clusters it keeps its flags
-kept : List hb_glyph_info_t
+kept : Glyphs
 kept = typed 1 C 4 ∷ typed 1 H 4 ∷ typed 0 C 4 ∷ typed 0 C 8 ∷ typed 0 M 2 ∷ []
 
 row_kept : after "Deva" (unsafe_spans one kept) ≡ (0, 0) ∷ (1, 3) ∷ (1, 3) ∷ (0, 0) ∷ (0, 0) ∷ []
@@ -249,7 +249,7 @@ row_kept = refl
 row_two : IsOfTwoClusters kept
 unfolding typed kept
 row_two =
-    let Two : hb_glyph_info_t → Type 0 = λ g. (g.cluster ≡ 1) ⊎ (g.cluster ≡ 0) in (
+    let Two : Glyph → Type 0 = λ g. (g.cluster ≡ 1) ⊎ (g.cluster ≡ 0) in (
       1,
       0,
       All-cons Two (typed 1 C 4) (typed 1 H 4 ∷ typed 0 C 4 ∷ typed 0 C 8 ∷ typed 0 M 2 ∷ []) (inl refl)
@@ -263,7 +263,7 @@ row_two =
 row_three : IsOfTwoClusters lost → ⊥
 unfolding typed lost
 row_three two =
-    let Two : hb_glyph_info_t → Type 0 = λ g. (g.cluster ≡ two.0) ⊎ (g.cluster ≡ two.1) in
+    let Two : Glyph → Type 0 = λ g. (g.cluster ≡ two.0) ⊎ (g.cluster ≡ two.1) in
     let a = All-get_or Two lost 0 default_glyph (omega arith) two.2 in
     let b = All-get_or Two lost 2 default_glyph (omega arith) two.2 in
     let c = All-get_or Two lost 3 default_glyph (omega arith) two.2 in
@@ -275,7 +275,7 @@ unfolding typed kept_two
 row_parts_two h = elim h [
   | inl one ↦ absurd (omega (arith, one))
   | inr two ↦
-      let Two : hb_glyph_info_t → Type 0 = λ g. (g.cluster ≡ two.0) ⊎ (g.cluster ≡ two.1) in
+      let Two : Glyph → Type 0 = λ g. (g.cluster ≡ two.0) ⊎ (g.cluster ≡ two.1) in
       let a = All-get_or Two kept_two 1 default_glyph (omega arith) two.2 in
       let b = All-get_or Two kept_two 4 default_glyph (omega arith) two.2 in
       let c = All-get_or Two kept_two 0 default_glyph (omega arith) two.2 in

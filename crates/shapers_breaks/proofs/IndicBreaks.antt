@@ -3,7 +3,7 @@ use Rattle.std.proofs.Common.{ℕ, ◌-◌, ◌≡◌, ◌≢◌, List, ◌++◌
 use Rattle.std.specs.Prelude.{Option}
 use Rattle.std.specs.List.{AllByRecursion, flat_map}
 use Rattle.std.proofs.lemmas.List.{drop_at, length-map, length-take-le, map-append, take-append-drop, take_at}
-use Rattle.shapers_buffer.specs.declared.buffer.glyph.hb_glyph_info_t.{hb_glyph_info_t}
+use Rattle.shapers_buffer.specs.Glyphs.{Glyph, Glyphs}
 use Rattle.shapers_buffer.specs.declared.buffer.level.BufferClusterLevel.{BufferClusterLevel}
 use Rattle.shapers_buffer.specs.declared.buffer.syllables.Span.{Span}
 use Rattle.shapers_buffer.specs.declared.buffer.tag.Script.{Script}
@@ -36,14 +36,14 @@ use Rattle.shapers_breaks.proofs.Guarded.{LeastOrFlagged}
 use Rattle.shapers_breaks.proofs.IndicSteps.{initial_keeps}
 use Rattle.shapers_breaks.proofs.KeptBorders.{KeepFlags, kept_border}
 use Rattle.shapers_breaks.proofs.PauseBreaks.{PauseCut, TextCut, broken_at, text_cut}
-use Rattle.shapers_breaks.proofs.SetUp.{AllAsLong, Glyphs, set_up_guarded, sum-as_long, taken_as_long}
+use Rattle.shapers_breaks.proofs.SetUp.{AllAsLong, set_up_guarded, sum-as_long, taken_as_long}
 use Rattle.shapers_breaks.proofs.KeptTextBreaks.{all_whole, apart_pieces, broken_there}
 
 -- halves of spans at a border of clusters that rise or fall
 halves_apart : (spans : List Span) (gs : Glyphs) (n : ℕ) → IsMonotone (clusters gs) → SpansPartClusters spans gs
     → SpanBorder spans n → ShareNone (take n gs) (drop n gs)
 halves_apart spans gs n mono part border i j il jl =
-    let cluster : hb_glyph_info_t → ℕ = λ g. g.cluster in
+    let cluster : Glyph → ℕ = λ g. g.cluster in
     let xs = take n gs in
     let ys = drop n gs in
     let a = length-take n gs in

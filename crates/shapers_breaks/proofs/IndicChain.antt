@@ -27,7 +27,8 @@ use Rattle.shapers_breaks.specs.KeptTextBreaks.{FlagsKept, SyllablesApart}
 use Rattle.shapers_breaks.proofs.IndicBreaks.{set_up_apart}
 use Rattle.shapers_breaks.proofs.KeptTextBreaks.{all_flagged}
 use Rattle.shapers_breaks.proofs.ReorderedApart.{reordered_apart}
-use Rattle.shapers_breaks.proofs.SetUp.{Glyphs, set_up_guarded}
+use Rattle.shapers_buffer.specs.Glyphs.{Glyphs}
+use Rattle.shapers_breaks.proofs.SetUp.{set_up_guarded}
 use Rattle.shapers_breaks.proofs.SideBySide.{nothing_between}
 
 pub initial_reordered_apart : OrderByFontLaws → OrderByFontReadsNoSerials → InitialReorderedApart

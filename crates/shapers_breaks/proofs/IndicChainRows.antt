@@ -1,7 +1,7 @@
 -- What a reordering makes of a text, and what becomes of one before its final reordering, written out from the rules.
 use Rattle.std.proofs.Common.{ℕ, ◌+◌, ◌≡◌, List, [], ◌∷◌, map, refl}
 use Rattle.std.specs.Prelude.{None}
-use Rattle.shapers_buffer.specs.declared.buffer.glyph.hb_glyph_info_t.{hb_glyph_info_t}
+use Rattle.shapers_buffer.specs.Glyphs.{Glyph, Glyphs}
 use Rattle.shapers_buffer.specs.declared.buffer.level.BufferClusterLevel.TheVariants.{Characters, MonotoneGraphemes}
 use Rattle.shapers_buffer.specs.declared.buffer.syllables.Span.{Span}
 use Rattle.shapers_buffer.specs.Glyph.{default_glyph}
@@ -9,7 +9,7 @@ use Rattle.rustybuzz_shapers.specs.Pauses.{Reordering}
 use Rattle.shapers_breaks.specs.IndicChain.{before_final, carrying, reordered_text}
 
 -- a glyph of a number, in a cluster, with a mask, and of a syllable; and what is read of it
-glyph : ℕ → ℕ → ℕ → ℕ → hb_glyph_info_t
+glyph : ℕ → ℕ → ℕ → ℕ → Glyph
 glyph number cluster mask byte = record default_glyph {
   glyph_id = number;
   cluster = cluster;
@@ -23,7 +23,7 @@ unfolding glyph
 row_carrying = refl
 
 -- two glyphs of a syllable merge and then change places
-exchanged : List hb_glyph_info_t → List hb_glyph_info_t
+exchanged : Glyphs → Glyphs
 exchanged (g ∷ (h ∷ [])) = h ∷ (g ∷ [])
 exchanged gs = gs
 
@@ -34,7 +34,7 @@ exchange = record {
   steps = λ gs. record { merged_first = (0, 2) ∷ []; places = 1 ∷ (0 ∷ []); merged_then = [] } ∷ [];
 }
 
-text : List hb_glyph_info_t
+text : Glyphs
 text = glyph 1 0 8 16 ∷ glyph 2 1 11 16 ∷ glyph 3 2 0 32 ∷ glyph 4 2 3 32 ∷ []
 
 -- the second falls to cluster 0 and loses its flags, the last keeps them, and other bits of masks stay
@@ -57,11 +57,11 @@ row_none = refl
 spans : List Span
 spans = record { len = 2; kind = 1 } ∷ (record { len = 2; kind = 3 } ∷ [])
 
-bare : List hb_glyph_info_t
+bare : Glyphs
 bare = glyph 1 0 8 0 ∷ glyph 2 1 8 0 ∷ glyph 3 2 0 0 ∷ glyph 4 3 0 0 ∷ []
 
-row_before_final : before_final (map (λ (g : hb_glyph_info_t). record g { glyph_id = g.glyph_id + 10 }))
-    (map (λ (g : hb_glyph_info_t). record g { cluster = g.cluster + 1 })) exchange Characters spans bare
+row_before_final : before_final (map (λ (g : Glyph). record g { glyph_id = g.glyph_id + 10 }))
+    (map (λ (g : Glyph). record g { cluster = g.cluster + 1 })) exchange Characters spans bare
     ≡ glyph 12 2 11 17 ∷ glyph 11 1 8 17 ∷ glyph 14 4 3 35 ∷ glyph 13 3 0 35 ∷ []
 unfolding glyph exchanged exchange spans bare
 row_before_final = refl

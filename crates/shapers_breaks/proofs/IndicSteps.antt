@@ -5,7 +5,7 @@ use Rattle.std.specs.List.{AllByRecursion}
 use Rattle.std.proofs.lemmas.Bool.{cases_lt}
 use Rattle.std.proofs.lemmas.List.{length-map}
 use Rattle.std.proofs.lemmas.List.Elements.{AllZip-get_or}
-use Rattle.shapers_buffer.specs.declared.buffer.glyph.hb_glyph_info_t.{hb_glyph_info_t}
+use Rattle.shapers_buffer.specs.Glyphs.{Glyph, Glyphs}
 use Rattle.shapers_buffer.specs.declared.buffer.level.BufferClusterLevel.{BufferClusterLevel}
 use Rattle.shapers_buffer.specs.declared.buffer.tag.Script.{Script}
 use Rattle.shapers_buffer.specs.Clusters.{merge}
@@ -55,7 +55,7 @@ merged_alike cs js f same i =
       ]
     ]
 
-all_alike : (P : hb_glyph_info_t → Type 0) (level : BufferClusterLevel) (gs : List hb_glyph_info_t) → 3 ≤ length gs
+all_alike : (P : Glyph → Type 0) (level : BufferClusterLevel) (gs : Glyphs) → 3 ≤ length gs
     → get_or (clusters gs) 1 0 ≡ get_or (clusters gs) 2 0 → AllAt P gs → AllAt P (merge level 1 3 gs)
 all_alike P level gs l same all =
     let d = default_glyph in
@@ -73,8 +73,8 @@ all_alike P level gs l same all =
     subst P (sym (unfallen (get_or gs i d) (get_or ms i d) fallen own)) (all i kl)
 
 -- the test of Kannada's joiner reads categories and marks alone
-opens-mapped : (f : hb_glyph_info_t → hb_glyph_info_t) → ((cs : List ℕ) (g : hb_glyph_info_t) → is_one_of cs (f g)
-    ≡ is_one_of cs g) → (gs : List hb_glyph_info_t) → opens_with_ra_h_zwj (map f gs) ≡ opens_with_ra_h_zwj gs
+opens-mapped : (f : Glyph → Glyph) → ((cs : List ℕ) (g : Glyph) → is_one_of cs (f g)
+    ≡ is_one_of cs g) → (gs : Glyphs) → opens_with_ra_h_zwj (map f gs) ≡ opens_with_ra_h_zwj gs
 opens-mapped f keeps [] = refl
 opens-mapped f keeps (a ∷ []) = refl
 opens-mapped f keeps (a ∷ (b ∷ [])) = refl
@@ -83,25 +83,25 @@ opens-mapped f keeps (a ∷ (b ∷ (c ∷ gs))) =
     ∙ ap (λ y. is_one_of (OT_Ra ∷ []) a && y && is_one_of (OT_ZWJ ∷ []) (f c)) (keeps (OT_H ∷ []) b)
     ∙ ap (λ z. is_one_of (OT_Ra ∷ []) a && is_one_of (OT_H ∷ []) b && z) (keeps (OT_ZWJ ∷ []) c)
 
-by_virama-kept : (font : Font) (m : Map) (p : indic_shape_plan_t) (v : GlyphId) (cs : List ℕ) (g : hb_glyph_info_t)
+by_virama-kept : (font : Font) (m : Map) (p : indic_shape_plan_t) (v : GlyphId) (cs : List ℕ) (g : Glyph)
     → is_one_of cs (by_virama font m p v g) ≡ is_one_of cs g
 by_virama-kept font m p v cs g = elim (has_position POS_BASE_C g) as
     (λ b. is_one_of cs (if b then at_position (consonant_position font m p v (number g)) g else g) ≡ is_one_of cs g)
     [ true ↦ refl | false ↦ refl ]
 
-opens_by_virama : (font : Font) (m : Map) (p : indic_shape_plan_t) (v : Option GlyphId) (gs : List hb_glyph_info_t)
+opens_by_virama : (font : Font) (m : Map) (p : indic_shape_plan_t) (v : Option GlyphId) (gs : Glyphs)
     → opens_with_ra_h_zwj (all_by_virama font m p v gs) ≡ opens_with_ra_h_zwj gs
 opens_by_virama font m p None gs = refl
 opens_by_virama font m p (Some v) gs = opens-mapped (by_virama font m p v) (by_virama-kept font m p v) gs
 
-joiner_seen : (font : Font) (m : Map) (p : indic_shape_plan_t) (script : Option Script) (gs : List hb_glyph_info_t)
+joiner_seen : (font : Font) (m : Map) (p : indic_shape_plan_t) (script : Option Script) (gs : Glyphs)
     → joiner_comes_first script (positions_by_font font m p (order_view gs)) ≡ joiner_comes_first script gs
 joiner_seen font m p script gs = ap (λ b. is_script script (Some (record { 0 = codes "Knda" })) && b)
     (opens_by_virama font m p (virama_glyph font p) (order_view gs) ∙ opens-mapped plain (λ cs g. refl) gs)
 
 -- the step of the joiner
-joiner_keeps : (P : hb_glyph_info_t → Type 0) (level : BufferClusterLevel) (n : ℕ) (first : Bool)
-    (gs : List hb_glyph_info_t) → FitsStep (length gs) (if first then swap_step n 1 else still_step n)
+joiner_keeps : (P : Glyph → Type 0) (level : BufferClusterLevel) (n : ℕ) (first : Bool)
+    (gs : Glyphs) → FitsStep (length gs) (if first then swap_step n 1 else still_step n)
     → (first ≡ true → get_or (clusters gs) 1 0 ≡ get_or (clusters gs) 2 0) → AllAt P gs
     → AllAt P (run_step level (if first then swap_step n 1 else still_step n) gs)
 joiner_keeps P level n false gs fits shares all = all_moved P level (still_step n) gs fits refl refl all
@@ -114,8 +114,8 @@ joiner_keeps P level n true gs fits shares all =
     (all_alike P level gs within.0 (shares refl) all)
 
 -- all steps
-three_steps : (P : hb_glyph_info_t → Type 0) (level : BufferClusterLevel) (r : Rules) (script : Option Script)
-    (xs gs : List hb_glyph_info_t) → FitSteps (length gs) (steps_of_reordered r script xs)
+three_steps : (P : Glyph → Type 0) (level : BufferClusterLevel) (r : Rules) (script : Option Script)
+    (xs gs : Glyphs) → FitSteps (length gs) (steps_of_reordered r script xs)
     → (joiner_comes_first script xs ≡ true → get_or (clusters gs) 1 0 ≡ get_or (clusters gs) 2 0) → AllAt P gs
     → HaveKeepers P (run_steps level (steps_of_reordered r script xs) gs)
 three_steps P level r script xs gs fits shares all =
@@ -133,7 +133,7 @@ three_steps P level r script xs gs fits shares all =
     keepers_moved P level c gs2 (subst (λ k. FitsStep k c) (sym two) fits.1.1.0) refl second
 
 pub initial_keeps : (font : Font) (m : Map) (p : indic_shape_plan_t) (script : Option Script)
-    (level : BufferClusterLevel) (P : hb_glyph_info_t → Type 0) (gs : List hb_glyph_info_t) → JoinerShares script gs
+    (level : BufferClusterLevel) (P : Glyph → Type 0) (gs : Glyphs) → JoinerShares script gs
     → FitSteps (length gs) (steps_by_font font m p script (order_view gs)) → AllAt P gs
     → HaveKeepers P (run_steps level (steps_by_font font m p script (order_view gs)) gs)
 initial_keeps font m p script level P gs shares fits all =

@@ -5,7 +5,7 @@ use Rattle.std.proofs.lemmas.Bool.{cases_lt}
 use Rattle.std.proofs.lemmas.Bool.Decides.{nat_tests}
 use Rattle.std.proofs.lemmas.List.{get_or-map, length-map}
 use Rattle.std.proofs.lemmas.List.Elements.{AllZip-get_or}
-use Rattle.shapers_buffer.specs.declared.buffer.glyph.hb_glyph_info_t.{hb_glyph_info_t}
+use Rattle.shapers_buffer.specs.Glyphs.{Glyph, Glyphs}
 use Rattle.shapers_buffer.specs.declared.buffer.level.BufferClusterLevel.{BufferClusterLevel}
 use Rattle.shapers_buffer.specs.Clusters.{in_cluster, merge, merge_all}
 use Rattle.shapers_buffer.specs.Glyph.{clusters, default_glyph}
@@ -21,20 +21,20 @@ use Rattle.shapers_clusters.proofs.Picks.{get_or-pick, length-pick, within_at}
 use Rattle.shapers_clusters.proofs.Spread.{Spread, joined_cases}
 
 -- P holds of each glyph
-abbrev pub AllAt : (hb_glyph_info_t → Type 0) → List hb_glyph_info_t → Type 0
+abbrev pub AllAt : (Glyph → Type 0) → Glyphs → Type 0
 AllAt P gs = (i : ℕ) → i < length gs → P (get_or gs i default_glyph)
 
 -- of a glyph in the run of place i, whose glyphs are all in one cluster
-pub record Keeper (P : hb_glyph_info_t → Type 0) (gs : List hb_glyph_info_t) (i : ℕ) : Type 0 where
+pub record Keeper (P : Glyph → Type 0) (gs : Glyphs) (i : ℕ) : Type 0 where
   pub at : ℕ
   pub within : at < length gs
   pub shares : ShareCluster (clusters gs) i at
   pub holds : P (get_or gs at default_glyph)
 
-abbrev pub HaveKeepers : (hb_glyph_info_t → Type 0) → List hb_glyph_info_t → Type 0
+abbrev pub HaveKeepers : (Glyph → Type 0) → Glyphs → Type 0
 HaveKeepers P gs = (i : ℕ) → i < length gs → Keeper P gs i
 
-pub own_keepers : (P : hb_glyph_info_t → Type 0) (gs : List hb_glyph_info_t) → AllAt P gs → HaveKeepers P gs
+pub own_keepers : (P : Glyph → Type 0) (gs : Glyphs) → AllAt P gs → HaveKeepers P gs
 own_keepers P gs all i l = record {
   at = i;
   within = l;
@@ -131,17 +131,17 @@ kept_in_spread Q s e cs js f h runs i l =
     ]
 
 -- so of glyphs, whose flags stay unless they fall
-pub cluster_at : (gs : List hb_glyph_info_t) (k : ℕ) → k < length gs → get_or (clusters gs) k 0 ≡
+pub cluster_at : (gs : Glyphs) (k : ℕ) → k < length gs → get_or (clusters gs) k 0 ≡
     (get_or gs k default_glyph).cluster
-cluster_at gs k h = get_or-map (λ (g : hb_glyph_info_t). g.cluster) gs k default_glyph 0 h
+cluster_at gs k h = get_or-map (λ (g : Glyph). g.cluster) gs k default_glyph 0 h
 
-in_own_cluster : (g : hb_glyph_info_t) → in_cluster g.cluster g ≡ g
+in_own_cluster : (g : Glyph) → in_cluster g.cluster g ≡ g
 in_own_cluster g = grind (arith, nat_tests)
 
-pub unfallen : (g h : hb_glyph_info_t) → FallsTo g h → h.cluster ≡ g.cluster → h ≡ g
+pub unfallen : (g h : Glyph) → FallsTo g h → h.cluster ≡ g.cluster → h ≡ g
 unfallen g h falls same = falls.1 ∙ ap (λ c. in_cluster c g) same ∙ in_own_cluster g
 
-pub keepers-merge : (P : hb_glyph_info_t → Type 0) (level : BufferClusterLevel) (s e : ℕ) (gs : List hb_glyph_info_t)
+pub keepers-merge : (P : Glyph → Type 0) (level : BufferClusterLevel) (s e : ℕ) (gs : Glyphs)
     → e ≤ length gs → HaveKeepers P gs → HaveKeepers P (merge level s e gs)
 keepers-merge P level s e gs l have =
     let d = default_glyph in
@@ -178,8 +178,8 @@ keepers-merge P level s e gs l have =
       holds = subst P (sym (unfallen g h fallen same)) k.holds;
     }
 
-pub keepers-merge_all : (P : hb_glyph_info_t → Type 0) (level : BufferClusterLevel) (sts : List (ℕ × ℕ))
-    (gs : List hb_glyph_info_t) → EndWithin (length gs) sts → HaveKeepers P gs → HaveKeepers P (merge_all level sts gs)
+pub keepers-merge_all : (P : Glyph → Type 0) (level : BufferClusterLevel) (sts : List (ℕ × ℕ))
+    (gs : Glyphs) → EndWithin (length gs) sts → HaveKeepers P gs → HaveKeepers P (merge_all level sts gs)
 keepers-merge_all P level [] gs h have = have
 keepers-merge_all P level (st ∷ sts) gs h have =
     let W : ℕ → Type 0 = λ n. EndWithin n sts in
@@ -188,7 +188,7 @@ keepers-merge_all P level (st ∷ sts) gs h have =
     (keepers-merge P level st.0 st.1 gs h.0 have)
 
 -- moves keep what holds of each glyph
-pub all_picked : (P : hb_glyph_info_t → Type 0) (places : List ℕ) (gs : List hb_glyph_info_t) → AllByRecursion
+pub all_picked : (P : Glyph → Type 0) (places : List ℕ) (gs : Glyphs) → AllByRecursion
     (λ p. p < length gs) places → AllAt P gs → AllAt P (pick places gs)
 all_picked P places gs within all i l =
     let d = default_glyph in
@@ -197,7 +197,7 @@ all_picked P places gs within all i l =
     (all (get_or places i 0) (within_at (length gs) places within i (omega arith)))
 
 -- a step that only moves, and one that merges then
-pub all_moved : (P : hb_glyph_info_t → Type 0) (level : BufferClusterLevel) (step : Step) (gs : List hb_glyph_info_t)
+pub all_moved : (P : Glyph → Type 0) (level : BufferClusterLevel) (step : Step) (gs : Glyphs)
     → FitsStep (length gs) step → step.merged_first ≡ [] → step.merged_then ≡ [] → AllAt P gs
     → AllAt P (run_step level step gs)
 all_moved P level step gs fits first then all =
@@ -206,8 +206,8 @@ all_moved P level step gs fits first then all =
     subst (λ x. V x step.merged_then) (sym first)
     (subst (V []) (sym then) (all_picked P step.places gs fits.within all))
 
-pub keepers_moved : (P : hb_glyph_info_t → Type 0) (level : BufferClusterLevel) (step : Step)
-    (gs : List hb_glyph_info_t) → FitsStep (length gs) step → step.merged_first ≡ [] → AllAt P gs
+pub keepers_moved : (P : Glyph → Type 0) (level : BufferClusterLevel) (step : Step)
+    (gs : Glyphs) → FitsStep (length gs) step → step.merged_first ≡ [] → AllAt P gs
     → HaveKeepers P (run_step level step gs)
 keepers_moved P level step gs fits first all =
     let W : ℕ → Type 0 = λ n. EndWithin n step.merged_then in

@@ -19,24 +19,15 @@ use Rattle.shapers_syllabic.specs.declared.ot_shaper_syllabic.circles.DottedCirc
 use Rattle.shapers_syllabic.proofs.Borders.{Cut, cut_border, cut_is, syllables_cut}
 use Rattle.shapers_syllabic.proofs.CircleLaws.{joined-syllables}
 use Rattle.shapers_breaks.proofs.ApartPieces.{ApartAtBorders, text_apart}
-use Rattle.shapers_breaks.proofs.CircledBorders.{Each, OpenedBorder, each_both, opened_piece, opened_whole, syllables-circled}
+use Rattle.shapers_breaks.proofs.CircledBorders.{Each, OpenedBorder, opened_piece, opened_whole, syllables-circled}
 use Rattle.shapers_breaks.proofs.Guarded.{IsWhole, LeastOrFlagged}
 use Rattle.shapers_breaks.proofs.Keepers.{AllAt, HaveKeepers}
 use Rattle.shapers_breaks.proofs.KeptFlagsInside.{GreaterKept, clear_at_border, greater_kept, whole_at}
 use Rattle.shapers_breaks.proofs.PauseBreaks.{each_at, each_from}
-use Rattle.shapers_breaks.proofs.SetUp.{Glyphs}
+use Rattle.shapers_buffer.specs.Glyphs.{Glyphs}
+use Rattle.shapers_clusters.proofs.Halves.{each-append, each-drop, each-take}
 
 -- what holds of the clusters of pieces holds of them with their circles
-each_taken : (P : ℕ → Type 0) (n : ℕ) (gs : Glyphs) → Each P gs → Each P (take n gs)
-each_taken P zero gs h = tt
-each_taken P (suc n) [] h = tt
-each_taken P (suc n) (g ∷ gs) h = (h.0, each_taken P n gs h.1)
-
-each_dropped : (P : ℕ → Type 0) (n : ℕ) (gs : Glyphs) → Each P gs → Each P (drop n gs)
-each_dropped P zero gs h = h
-each_dropped P (suc n) [] h = tt
-each_dropped P (suc n) (g ∷ gs) h = each_dropped P n gs h.1
-
 pub piece_opened : (P : ℕ → Type 0) (circles : Option DottedCircles) (piece : Glyphs) → Each P piece → Each P
     (opened_piece circles piece)
 piece_opened P None piece h = h
@@ -44,8 +35,8 @@ piece_opened P (Some rule) [] h = tt
 piece_opened P (Some rule) (g ∷ gs) h =
     let n = rephas_len rule.repha (g ∷ gs) in
     elim (is_of_kind rule.broken_kind (g ∷ gs)) as (λ b. Each P (if b then with_circle rule (g ∷ gs) else g ∷ gs)) [
-      | true ↦ each_both P (take n (g ∷ gs)) (circle_in (g ∷ gs) rule.circle ∷ drop n (g ∷ gs))
-          (each_taken P n (g ∷ gs) h) (h.0, each_dropped P n (g ∷ gs) h)
+      | true ↦ each-append P (take n (g ∷ gs)) (circle_in (g ∷ gs) rule.circle ∷ drop n (g ∷ gs))
+          (each-take P n (g ∷ gs) h) (h.0, each-drop P n (g ∷ gs) h)
       | false ↦ h
     ]
 
@@ -58,7 +49,7 @@ pieces_opened : (P : ℕ → Type 0) (circles : Option DottedCircles) (pieces : 
 pieces_opened P circles [] h = tt
 pieces_opened P circles (p ∷ ps) h =
     let (a, b) = each_split P p (flat_map (λ piece. piece) ps) h in
-    each_both P (opened_piece circles p) (flat_map (opened_piece circles) ps) (piece_opened P circles p a)
+    each-append P (opened_piece circles p) (flat_map (opened_piece circles) ps) (piece_opened P circles p a)
     (pieces_opened P circles ps b)
 
 apart_opened : (circles : Option DottedCircles) (ps qs : List Glyphs) → ShareNone (flat_map (λ p. p) ps)

@@ -2,7 +2,7 @@
 use Rattle.std.proofs.Common.{ℕ, ◌-◌, ◌≤◌, ◌≡◌, ◌≢◌, ◌==◌, max, true, false, ◌&&◌, List, [], ◌∷◌, get_or, refl, ap, ◌∙◌, subst, arith, inl, inr}
 use Rattle.std.specs.List.{list_any}
 use Rattle.std.proofs.lemmas.Bool.{and_from, and_parts, both_ways, eq-eqb, eqb-true, false_from_ne_true, or_cases, or_from, or_left, or_parts, or_right}
-use Rattle.shapers_buffer.specs.declared.buffer.glyph.hb_glyph_info_t.{hb_glyph_info_t}
+use Rattle.shapers_buffer.specs.Glyphs.{Glyph, Glyphs}
 use Rattle.shapers_buffer.specs.declared.buffer.level.BufferClusterLevel.{BufferClusterLevel}
 use Rattle.shapers_buffer.specs.Clusters.{merges}
 use Rattle.shapers_buffer.specs.Glyph.{clusters, order_view}
@@ -26,10 +26,9 @@ use Rattle.shapers_breaks.specs.ClearSteps.{ClearWasClear}
 use Rattle.shapers_breaks.specs.KeptFlags.{AddedFlagsClearNone, PausesClearNone}
 use Rattle.shapers_breaks.proofs.CircledBorders.{text_moves}
 use Rattle.shapers_breaks.proofs.ClearSteps.{clear_before_held}
-use Rattle.shapers_breaks.proofs.SetUp.{Glyphs}
 
 -- a glyph that is unsafe stays so
-unsafe_kept : (g h : hb_glyph_info_t) → FlagsAdded g h → is_unsafe g ≡ true → is_unsafe h ≡ true
+unsafe_kept : (g h : Glyph) → FlagsAdded g h → is_unsafe g ≡ true → is_unsafe h ≡ true
 unsafe_kept g h k bad =
     let first : bit_at 0 h.mask ≤ 1 = omega arith in
     let third : bit_at 2 h.mask ≤ 1 = omega arith in
@@ -42,7 +41,7 @@ unsafe_kept g h k bad =
           or_right _ _ (eq-eqb (bit_at 2 h.mask) 1 (omega (arith, third, own, k.kept 2 (omega arith))))
     ]
 
-flagged_kept : (c : ℕ) (g h : hb_glyph_info_t) → FlagsAdded g h → (h.cluster == c && is_unsafe h) ≡ false →
+flagged_kept : (c : ℕ) (g h : Glyph) → FlagsAdded g h → (h.cluster == c && is_unsafe h) ≡ false →
     (g.cluster == c && is_unsafe g) ≡ false
 flagged_kept c g h k clear = false_from_ne_true (g.cluster == c && is_unsafe g) (λ flagged.
     let (in_c, bad) = and_parts (g.cluster == c) (is_unsafe g) flagged in

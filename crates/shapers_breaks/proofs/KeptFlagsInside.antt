@@ -5,7 +5,7 @@ use Rattle.std.proofs.lemmas.Bool.{and_from, both_ways, cases_order, eq-eqb, or_
 use Rattle.std.proofs.lemmas.List.{append-nil, get_or-append_right, get_or-map, get_or_append_left, length-map}
 use Rattle.std.proofs.lemmas.List.Elements.{All-get_or}
 use Rattle.std.proofs.lemmas.List.Folds.{list_any_at}
-use Rattle.shapers_buffer.specs.declared.buffer.glyph.hb_glyph_info_t.{hb_glyph_info_t}
+use Rattle.shapers_buffer.specs.Glyphs.{Glyph, Glyphs}
 use Rattle.shapers_buffer.specs.Glyph.{clusters, default_glyph}
 use Rattle.shapers_clusters.specs.Breaks.{IsClear, greater, is_unsafe}
 use Rattle.shapers_clusters.specs.Flags.{bit_at}
@@ -15,31 +15,31 @@ use Rattle.shapers_breaks.proofs.Guarded.{IsWhole, LeastOrFlagged, PieceBorder}
 use Rattle.shapers_breaks.proofs.Keepers.{AllAt, HaveKeepers, Keeper}
 
 -- the greater of two clusters is that of a flagged glyph
-pub record GreaterFlagged (gs : List hb_glyph_info_t) (c d : ℕ) : Type 0 where
+pub record GreaterFlagged (gs : Glyphs) (c d : ℕ) : Type 0 where
   pub at : ℕ
   pub within : at < length gs
   pub is : (get_or gs at default_glyph).cluster ≡ max c d
   pub flags : IsFlagged (get_or gs at default_glyph)
 
-abbrev pub cluster_of : List hb_glyph_info_t → ℕ → ℕ
+abbrev pub cluster_of : Glyphs → ℕ → ℕ
 cluster_of gs i = (get_or gs i default_glyph).cluster
 
 -- so of each two clusters that meet
-abbrev pub GreaterKept : List hb_glyph_info_t → Type 0
+abbrev pub GreaterKept : Glyphs → Type 0
 GreaterKept gs = (p : ℕ) → 0 < p → p < length gs → cluster_of gs (p - 1) ≢ cluster_of gs p →
     GreaterFlagged gs (cluster_of gs (p - 1)) (cluster_of gs p)
 
-cluster_at : (gs : List hb_glyph_info_t) (k : ℕ) → k < length gs → get_or (clusters gs) k 0 ≡ cluster_of gs k
-cluster_at gs k h = get_or-map (λ (g : hb_glyph_info_t). g.cluster) gs k default_glyph 0 h
+cluster_at : (gs : Glyphs) (k : ℕ) → k < length gs → get_or (clusters gs) k 0 ≡ cluster_of gs k
+cluster_at gs k h = get_or-map (λ (g : Glyph). g.cluster) gs k default_glyph 0 h
 
 -- the cluster of a place is its keeper's
-keeper_cluster : (P : hb_glyph_info_t → Type 0) (gs : List hb_glyph_info_t) (i : ℕ) → i < length gs →
+keeper_cluster : (P : Glyph → Type 0) (gs : Glyphs) (i : ℕ) → i < length gs →
     (k : Keeper P gs i) → cluster_of gs k.at ≡ cluster_of gs i
 keeper_cluster P gs i l k = sym (cluster_at gs k.at k.within) ∙ k.shares k.at (omega arith) (omega arith)
     ∙ cluster_at gs i l
 
 -- what stands above the least is flagged
-flagged_above : (m : ℕ) (gs : List hb_glyph_info_t) → HaveKeepers (LeastOrFlagged m) gs → (i : ℕ) → i < length gs
+flagged_above : (m : ℕ) (gs : Glyphs) → HaveKeepers (LeastOrFlagged m) gs → (i : ℕ) → i < length gs
     → (c d : ℕ) → cluster_of gs i ≡ max c d → m < max c d → GreaterFlagged gs c d
 flagged_above m gs have i l c d is above =
     let k = have i l in
@@ -52,7 +52,7 @@ flagged_above m gs have i l c d is above =
       flags = holds.1 (λ e. absurd (omega (arith, same, is, above, e)));
     }
 
-least_below : (m : ℕ) (gs : List hb_glyph_info_t) → HaveKeepers (LeastOrFlagged m) gs → (i : ℕ) → i < length gs
+least_below : (m : ℕ) (gs : Glyphs) → HaveKeepers (LeastOrFlagged m) gs → (i : ℕ) → i < length gs
     → m ≤ cluster_of gs i
 least_below m gs have i l =
     let k = have i l in
@@ -60,7 +60,7 @@ least_below m gs have i l =
     let holds = k.holds in
     omega (arith, holds.0, same)
 
-pub greater_kept : (m : ℕ) (gs : List hb_glyph_info_t) → HaveKeepers (LeastOrFlagged m) gs → GreaterKept gs
+pub greater_kept : (m : ℕ) (gs : Glyphs) → HaveKeepers (LeastOrFlagged m) gs → GreaterKept gs
 greater_kept m gs have p z l ne =
     let c = cluster_of gs (p - 1) in
     let d = cluster_of gs p in
@@ -73,22 +73,22 @@ greater_kept m gs have p z l ne =
     ]
 
 -- a whole syllable, glyph by glyph
-pub whole_at : (gs : List hb_glyph_info_t) (w : IsWhole gs) → AllAt (LeastOrFlagged w.0) gs
+pub whole_at : (gs : Glyphs) (w : IsWhole gs) → AllAt (LeastOrFlagged w.0) gs
 whole_at gs w i l = All-get_or (LeastOrFlagged w.0) gs i default_glyph l w.1
 
 -- in pieces side by side
-greater_front : (xs ys : List hb_glyph_info_t) (c d : ℕ) → GreaterFlagged xs c d → GreaterFlagged (xs ++ ys) c d
+greater_front : (xs ys : Glyphs) (c d : ℕ) → GreaterFlagged xs c d → GreaterFlagged (xs ++ ys) c d
 greater_front xs ys c d g =
     let same = get_or_append_left xs ys default_glyph g.at g.within in
     let w = g.within in
     record {
       at = g.at;
       within = omega (arith, length-append xs ys, w);
-      is = ap (λ (h : hb_glyph_info_t). h.cluster) same ∙ g.is;
+      is = ap (λ (h : Glyph). h.cluster) same ∙ g.is;
       flags = subst IsFlagged (sym same) g.flags;
     }
 
-greater_behind : (xs ys : List hb_glyph_info_t) (c d : ℕ) → GreaterFlagged ys c d → GreaterFlagged (xs ++ ys) c d
+greater_behind : (xs ys : Glyphs) (c d : ℕ) → GreaterFlagged ys c d → GreaterFlagged (xs ++ ys) c d
 greater_behind xs ys c d g =
     let n = length xs in
     let i : n + g.at - n ≡ g.at = omega arith in
@@ -98,12 +98,12 @@ greater_behind xs ys c d g =
     record {
       at = n + g.at;
       within = omega (arith, length-append xs ys, w);
-      is = ap (λ (h : hb_glyph_info_t). h.cluster) same ∙ g.is;
+      is = ap (λ (h : Glyph). h.cluster) same ∙ g.is;
       flags = subst IsFlagged (sym same) g.flags;
     }
 
 -- each place of the pieces' results is a border of them, or the greater cluster there is flagged
-pub border_or_greater : (pieces : List (List hb_glyph_info_t)) → AllByRecursion GreaterKept pieces → (p : ℕ) → 0 < p
+pub border_or_greater : (pieces : List Glyphs) → AllByRecursion GreaterKept pieces → (p : ℕ) → 0 < p
     → p < length (flat_map (λ piece. piece) pieces) → let all = flat_map (λ piece. piece) pieces in
     cluster_of all (p - 1) ≢ cluster_of all p →
     PieceBorder pieces p ⊎ GreaterFlagged all (cluster_of all (p - 1)) (cluster_of all p)
@@ -116,9 +116,9 @@ border_or_greater (piece ∷ pieces) h p z l ne =
       | inl same ↦ inl (record { count = 1; within = omega arith; place = ap length (append-nil piece) ∙ sym same })
       | inr (inl less) ↦
           let a : cluster_of (piece ++ rest) (p - 1) ≡ cluster_of piece (p - 1) = ap
-          (λ (g : hb_glyph_info_t). g.cluster) (get_or_append_left piece rest default_glyph (p - 1) (omega arith)) in
+          (λ (g : Glyph). g.cluster) (get_or_append_left piece rest default_glyph (p - 1) (omega arith)) in
           let b : cluster_of (piece ++ rest) p ≡ cluster_of piece p = ap
-          (λ (g : hb_glyph_info_t). g.cluster) (get_or_append_left piece rest default_glyph p less) in
+          (λ (g : Glyph). g.cluster) (get_or_append_left piece rest default_glyph p less) in
           inr (subst (λ c. GreaterFlagged (piece ++ rest) c (cluster_of (piece ++ rest) p)) (sym a)
           (subst (GreaterFlagged (piece ++ rest) (cluster_of piece (p - 1))) (sym b)
           (greater_front piece rest (cluster_of piece (p - 1)) (cluster_of piece p)
@@ -126,10 +126,10 @@ border_or_greater (piece ∷ pieces) h p z l ne =
       | inr (inr more) ↦
           let i : p - 1 - n ≡ p - n - 1 = omega arith in
           let a : cluster_of (piece ++ rest) (p - 1) ≡ cluster_of rest (p - n - 1) = ap
-          (λ (g : hb_glyph_info_t). g.cluster) (get_or-append_right piece rest n (p - 1) default_glyph refl (omega arith)
+          (λ (g : Glyph). g.cluster) (get_or-append_right piece rest n (p - 1) default_glyph refl (omega arith)
           ∙ ap (λ k. get_or rest k default_glyph) i) in
           let b : cluster_of (piece ++ rest) p ≡ cluster_of rest (p - n) = ap
-          (λ (g : hb_glyph_info_t). g.cluster) (get_or-append_right piece rest n p default_glyph refl (omega arith)) in
+          (λ (g : Glyph). g.cluster) (get_or-append_right piece rest n p default_glyph refl (omega arith)) in
           elim (border_or_greater pieces h.1 (p - n) (omega arith) (omega arith) (λ e. ne (a ∙ e ∙ sym b))) [
             | inl border ↦
                 let k = border.count in
@@ -152,18 +152,18 @@ border_or_greater (piece ∷ pieces) h p z l ne =
 bits_same : (a b : ℕ) → b % 8 ≡ a % 8 → bit_at 0 a ≡ 1 → bit_at 0 b ≡ 1
 bits_same a b e h = omega arith
 
-same_at : (xs ys : List hb_glyph_info_t) → map carried xs ≡ map carried ys → (k : ℕ) → k < length xs → k < length ys →
+same_at : (xs ys : Glyphs) → map carried xs ≡ map carried ys → (k : ℕ) → k < length xs → k < length ys →
     (cluster_of xs k ≡ cluster_of ys k)
     × ((get_or xs k default_glyph).mask % 8 ≡ (get_or ys k default_glyph).mask % 8)
 same_at xs ys same k a b =
     let d = default_glyph in
     let each : carried (get_or xs k d) ≡ carried (get_or ys k d) = sym (get_or-map carried xs k d d a)
     ∙ ap (λ zs. get_or zs k d) same ∙ get_or-map carried ys k d d b in
-    (ap (λ (g : hb_glyph_info_t). g.cluster) each, ap (λ (g : hb_glyph_info_t). g.mask) each)
+    (ap (λ (g : Glyph). g.cluster) each, ap (λ (g : Glyph). g.mask) each)
 
 -- so a clear place is a border of pieces
-pub clear_at_border_by : (pieces : List (List hb_glyph_info_t)) → AllByRecursion GreaterKept pieces →
-    (new : List hb_glyph_info_t) → let all = flat_map (λ piece. piece) pieces in
+pub clear_at_border_by : (pieces : List Glyphs) → AllByRecursion GreaterKept pieces →
+    (new : Glyphs) → let all = flat_map (λ piece. piece) pieces in
     length new ≡ length all → ((k : ℕ) → k < length all → cluster_of new k ≡ cluster_of all k) →
     ((k : ℕ) → k < length all → IsFlagged (get_or all k default_glyph)
     → bit_at 0 (get_or new k default_glyph).mask ≡ 1) → (p : ℕ) → 0 < p → p < length new → IsClear new p
@@ -189,8 +189,8 @@ clear_at_border_by pieces kept new long same flagged p z l clear =
           default_glyph kl (and_from _ _ (eq-eqb _ _ own) (or_left _ _ (eq-eqb _ _ bad)))))
     ]
 
-pub clear_at_border : (pieces : List (List hb_glyph_info_t)) → AllByRecursion GreaterKept pieces →
-    (new : List hb_glyph_info_t) → map carried new ≡ map carried (flat_map (λ piece. piece) pieces) → (p : ℕ) → 0 < p
+pub clear_at_border : (pieces : List Glyphs) → AllByRecursion GreaterKept pieces →
+    (new : Glyphs) → map carried new ≡ map carried (flat_map (λ piece. piece) pieces) → (p : ℕ) → 0 < p
     → p < length new → IsClear new p → PieceBorder pieces p
 clear_at_border pieces kept new same p z l clear =
     let all = flat_map (λ piece. piece) pieces in

@@ -7,7 +7,7 @@ use Rattle.std.proofs.lemmas.List.{get_or_default, length-map}
 use Rattle.std.proofs.lemmas.List.Elements.{All-contains_itself, All-get_or, AllZip-get_or}
 use Rattle.std.proofs.lemmas.List.FromFn.{get_or-range_with_len, length-range_with_len}
 use Rattle.std.proofs.lemmas.List.Sorted.{Contains-permutation}
-use Rattle.shapers_buffer.specs.declared.buffer.glyph.hb_glyph_info_t.{hb_glyph_info_t}
+use Rattle.shapers_buffer.specs.Glyphs.{Glyph, Glyphs}
 use Rattle.shapers_buffer.specs.declared.buffer.level.BufferClusterLevel.{BufferClusterLevel}
 use Rattle.shapers_buffer.specs.Clusters.{in_cluster, merge_all, merges}
 use Rattle.shapers_buffer.specs.Glyph.{clusters, default_glyph}
@@ -50,8 +50,8 @@ place_found n k olds perm l =
     let found = Contains-permutation range olds k perm (subst (Contains range) is own) in
     (found.0, found.1, get_or_default olds found.0 0 k found.1 ∙ found.2)
 
-pub keepers_inside : (P : hb_glyph_info_t → Type 0) (level : BufferClusterLevel) → merges level ≡ true →
-    (steps : List Step) (gs : List hb_glyph_info_t) → AllByRecursion (MovesMerged (length gs)) steps → AllByRecursion
+pub keepers_inside : (P : Glyph → Type 0) (level : BufferClusterLevel) → merges level ≡ true →
+    (steps : List Step) (gs : Glyphs) → AllByRecursion (MovesMerged (length gs)) steps → AllByRecursion
     (Permutes (length gs)) steps → HaveKeepers P gs → HaveKeepers P (run_steps level steps gs)
 keepers_inside P level m steps gs moves permutes keepers =
     let d = default_glyph in
@@ -114,8 +114,8 @@ moved_rest n (s ∷ ss) spare first = (
 )
 
 -- at most one step that moves before it merges, and then such
-pub one_moves : (P : hb_glyph_info_t → Type 0) (level : BufferClusterLevel) → merges level ≡ true →
-    (few rest : List Step) (gs : List hb_glyph_info_t) → length few ≤ 1 → FitSteps (length gs) (few ++ rest)
+pub one_moves : (P : Glyph → Type 0) (level : BufferClusterLevel) → merges level ≡ true →
+    (few rest : List Step) (gs : Glyphs) → length few ≤ 1 → FitSteps (length gs) (few ++ rest)
     → AllByRecursion (Permutes (length gs)) (few ++ rest) → SpareMerged (length gs) (few ++ rest) → AllByRecursion
     (λ s. 0 < length s.merged_first) rest → AllAt P gs → HaveKeepers P (run_steps level (few ++ rest) gs)
 one_moves P level m [] rest gs h fits permutes spare first all = keepers_inside P level m rest gs

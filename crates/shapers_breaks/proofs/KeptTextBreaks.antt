@@ -6,7 +6,7 @@ use Rattle.std.proofs.lemmas.Bool.{cases_lt}
 use Rattle.std.proofs.lemmas.List.{get_or-map, length-map, map-append, take-append-drop}
 use Rattle.std.proofs.lemmas.List.Concat.{flat_map-append}
 use Rattle.std.proofs.lemmas.List.Elements.{All-from_get_or, All-get_or}
-use Rattle.shapers_buffer.specs.declared.buffer.glyph.hb_glyph_info_t.{hb_glyph_info_t}
+use Rattle.shapers_buffer.specs.Glyphs.{Glyph, Glyphs}
 use Rattle.shapers_buffer.specs.declared.buffer.level.BufferClusterLevel.{BufferClusterLevel}
 use Rattle.shapers_buffer.specs.Buffer.{Buffer}
 use Rattle.shapers_buffer.specs.Clusters.{least, merges}
@@ -31,7 +31,6 @@ use Rattle.shapers_breaks.proofs.Keepers.{own_keepers}
 use Rattle.shapers_breaks.proofs.KeptBorders.{KeepFlags, kept_border, syllable_cut}
 use Rattle.shapers_breaks.proofs.KeptInside.{keepers_inside}
 use Rattle.shapers_breaks.proofs.PauseBreaks.{apart_erased, length-moved}
-use Rattle.shapers_breaks.proofs.SetUp.{Glyphs}
 
 -- syllables that kept their flags are whole
 above : (m c : ℕ) → m ≤ c → c ≢ m → m < c
@@ -40,12 +39,12 @@ above m c h ne = elim (cases_lt m c) [ inl a ↦ a | inr a ↦ absurd (ne (omega
 pub whole_syllable : (gs : Glyphs) → FlaggedInside gs → IsWhole gs
 whole_syllable gs h =
     let m = least (clusters gs) in
-    let P : hb_glyph_info_t → Type 0 = λ g. m < g.cluster → IsFlagged g in
-    let n = length-map gs (λ (g : hb_glyph_info_t). g.cluster) in (
+    let P : Glyph → Type 0 = λ g. m < g.cluster → IsFlagged g in
+    let n = length-map gs (λ (g : Glyph). g.cluster) in (
       m,
       All-from_get_or (LeastOrFlagged m) gs default_glyph (λ i l.
           let low = least-le (clusters gs) i (omega arith) in
-          let is = get_or-map (λ (g : hb_glyph_info_t). g.cluster) gs i default_glyph 0 l in
+          let is = get_or-map (λ (g : Glyph). g.cluster) gs i default_glyph 0 l in
           let own : m ≤ (get_or gs i default_glyph).cluster = omega arith in
           (own, λ ne. All-get_or P gs i default_glyph l h (above m (get_or gs i default_glyph).cluster own ne))),
     )
@@ -59,9 +58,9 @@ flagged_inside : (gs : Glyphs) → IsWhole gs → FlaggedInside gs
 flagged_inside gs whole =
     let m = whole.0 in
     let low = least (clusters gs) in
-    let cluster : hb_glyph_info_t → ℕ = λ g. g.cluster in
+    let cluster : Glyph → ℕ = λ g. g.cluster in
     let n = length-map gs cluster in
-    All-from_get_or (λ (g : hb_glyph_info_t). low < g.cluster → IsFlagged g) gs default_glyph (λ i l above.
+    All-from_get_or (λ (g : Glyph). low < g.cluster → IsFlagged g) gs default_glyph (λ i l above.
     let at = least-among (clusters gs) (omega (arith, n, l)) in
     let is = get_or-map cluster gs at.0 default_glyph 0 (omega (arith, n, at.1)) in
     let first = All-get_or (LeastOrFlagged m) gs at.0 default_glyph (omega (arith, n, at.1)) whole.1 in
@@ -108,7 +107,7 @@ apart_where_clear : (circles : Option DottedCircles) (gs : Glyphs) (p : ℕ) (bo
     ShareNone (flat_map (λ q. q) (take border.count (syllables gs)))
     (flat_map (λ q. q) (drop border.count (syllables gs)))
 apart_where_clear circles gs p border mono l z ne =
-    let cluster : hb_glyph_info_t → ℕ = λ g. g.cluster in
+    let cluster : Glyph → ℕ = λ g. g.cluster in
     let pieces = syllables gs in
     let k = border.count in
     let F = opened_piece circles in

@@ -11,7 +11,7 @@ use Rattle.shapers_arabic.specs.Marks.{arabic_mark_step, marks_merged, marks_reo
 use Rattle.shapers_arabic.proofs.MarkLaws.{mark_laws}
 use Rattle.shapers_arabic.proofs.MarkLists.{split-joined, unmodified}
 use Rattle.shapers_arabic.proofs.MarkMoves.{moves-merged, moves-permute}
-use Rattle.shapers_buffer.specs.declared.buffer.glyph.hb_glyph_info_t.{hb_glyph_info_t}
+use Rattle.shapers_buffer.specs.Glyphs.{Glyph, Glyphs}
 use Rattle.shapers_buffer.specs.declared.buffer.level.BufferClusterLevel.{BufferClusterLevel}
 use Rattle.shapers_buffer.specs.Buffer.{Buffer}
 use Rattle.shapers_buffer.specs.Clusters.{merge_all, merges, stretch_of}
@@ -34,14 +34,13 @@ use Rattle.shapers_breaks.specs.MarkBreaks.{MarksBreakLaw, MarksBroken, NoneClea
 use Rattle.shapers_breaks.proofs.CircledBorders.{apart_at}
 use Rattle.shapers_breaks.proofs.ClearSteps.{clear_before, clear_before_held}
 use Rattle.shapers_breaks.proofs.MergedHalves.{changed_behind, changed_front, merged_at_back, merged_in_front, stretch_behind, stretch_front}
-use Rattle.shapers_breaks.proofs.SetUp.{Glyphs}
 use Rattle.shapers_clusters.proofs.Halves.{shifted-twice}
 
 -- halves of a text at a border of clusters share none
 pub halves_apart : (gs : Glyphs) (p : ℕ) → 0 < p → p < length gs → IsMonotone (clusters gs)
     → get_or (clusters gs) (p - 1) 0 ≢ get_or (clusters gs) p 0 → ShareNone (take p gs) (drop p gs)
 halves_apart gs p z l mono meet i j il jl =
-    let cluster : hb_glyph_info_t → ℕ = λ g. g.cluster in
+    let cluster : Glyph → ℕ = λ g. g.cluster in
     let xs = take p gs in
     let ys = drop p gs in
     let all : clusters xs ++ clusters ys ≡ clusters gs = sym (map-append cluster xs ys) ∙ ap clusters
@@ -183,7 +182,7 @@ no_triple level p gs =
     ap (λ k. run_step level (step_at (length gs)
     (option_map (λ i. p + i + 1) (triple_place (take k (drop p gs))))) gs) none ∙ run-still_step level gs
 
-set_behind : (xs ys : Glyphs) (k i : ℕ) (v : hb_glyph_info_t) → k ≡ length xs + i → set (xs ++ ys) k v ≡ xs
+set_behind : (xs ys : Glyphs) (k i : ℕ) (v : Glyph) → k ≡ length xs + i → set (xs ++ ys) k v ≡ xs
     ++ set ys i v
 set_behind [] ys k i v e = let same : k ≡ i = omega arith in ap (λ j. set ys j v) same
 set_behind (x ∷ xs) ys zero i v e = absurd (omega arith)

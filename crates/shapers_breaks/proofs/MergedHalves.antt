@@ -12,7 +12,7 @@ use Rattle.shapers_clusters.proofs.Merging.{length-merge_all}
 use Rattle.shapers_clusters.proofs.Picks.{pick-all}
 use Rattle.shapers_clusters.proofs.Proved.{halves_hold}
 use Rattle.shapers_clusters.proofs.Widened.{range-three}
-use Rattle.shapers_breaks.proofs.SetUp.{Glyphs}
+use Rattle.shapers_buffer.specs.Glyphs.{Glyphs}
 use Rattle.rustybuzz_shapers.proofs.ThaiClusterHalves.{merging, merging_fits, unshifted}
 
 -- over a stretch of a text

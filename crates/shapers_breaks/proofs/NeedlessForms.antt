@@ -8,7 +8,7 @@ use Rattle.std.proofs.lemmas.Bool.{both_ways, cases_lt, eq-eqb, eqb-true}
 use Rattle.std.proofs.lemmas.Bool.Decides.{nat_tests}
 use Rattle.std.proofs.lemmas.List.{append-nil, append_assoc, length-map, length-take-le, map-append, take-append-drop}
 use Rattle.std.proofs.lemmas.Nat.Bits.{bit_at-lt, bit_at-zero, bit_at_above, bit_at_and, bit_at_not, bit_at_or, same_from_bits}
-use Rattle.shapers_buffer.specs.declared.buffer.glyph.hb_glyph_info_t.{hb_glyph_info_t}
+use Rattle.shapers_buffer.specs.Glyphs.{Glyph, Glyphs}
 use Rattle.shapers_buffer.specs.declared.buffer.syllables.Span.{Span}
 use Rattle.shapers_buffer.specs.Buffer.{Buffer}
 use Rattle.shapers_buffer.specs.Glyph.{default_glyph, without_flags}
@@ -30,7 +30,7 @@ use Rattle.shapers_breaks.specs.ScriptBreaks.{FormsOffFlags}
 use Rattle.shapers_breaks.specs.UniversalSound.{flagless, sound_set_up}
 use Rattle.shapers_breaks.proofs.ErasedCircles.{NoneEmpty}
 use Rattle.shapers_breaks.proofs.MaskReads.{mask_read}
-use Rattle.shapers_breaks.proofs.SetUp.{Glyphs, cover_cut}
+use Rattle.shapers_breaks.proofs.SetUp.{cover_cut}
 use Rattle.shapers_breaks.proofs.UniversalChain.{length_under, parts_are}
 use Rattle.shapers_breaks.proofs.UniversalSetUp.{KeepShapes, forms_for_kept, syllables_kept}
 use Rattle.shapers_breaks.proofs.UniversalSound.{SparesPlace, flags_hidden, forms_in, led, led_halves, length-led, none_empty, pair_in, pairs_in, pairs_kept, some_syllable, text_same}
@@ -83,7 +83,7 @@ form_shown m x mask = without_flags (bit_or (bit_and x (0xFFFFFFFF - all_forms (
 abbrev first_mask : Glyphs → ℕ
 first_mask gs = (get_or gs 0 default_glyph).mask
 
-head_shown : (m : Map) (before behind : Bool) (g : hb_glyph_info_t) (gs rest : Glyphs) → joins_runs (g ∷ gs) ≡ true
+head_shown : (m : Map) (before behind : Bool) (g : Glyph) (gs rest : Glyphs) → joins_runs (g ∷ gs) ≡ true
     → first_mask (flagless (formed (form_masks m) before behind (g ∷ gs) ++ rest))
     ≡ form_shown m g.mask (mask_between (form_masks m) before behind)
 head_shown m before behind g gs rest joins =
@@ -139,7 +139,7 @@ length-formed m before behind p =
     [ true ↦ length-map p f | false ↦ refl ]
 
 -- two syllables whose halves have the forms of the whole aren't torn
-pair_whole : (m : Map) → FormsOffFlags None m → (before behind : Bool) (g h : hb_glyph_info_t) (gs hs zs ws us
+pair_whole : (m : Map) → FormsOffFlags None m → (before behind : Bool) (g h : Glyph) (gs hs zs ws us
     vs : Glyphs)
     → joins_runs (g ∷ gs) ≡ true → joins_runs (h ∷ hs) ≡ true
     → first_mask (flagless (formed (form_masks m) before true (g ∷ gs) ++ zs))
@@ -176,7 +176,7 @@ broken_pair m off before [] y qs back some more parts same = absurd (omega arith
 broken_pair m off before (g ∷ gs) [] qs back some more parts same = absurd (omega arith)
 broken_pair m off before (g ∷ gs) (h ∷ hs) qs back some more parts same =
     let masks = form_masks m in
-    let v : hb_glyph_info_t → hb_glyph_info_t = with_mask_by without_flags in
+    let v : Glyph → Glyph = with_mask_by without_flags in
     let x = g ∷ gs in
     let y = h ∷ hs in
     let behind = first_joins qs in
@@ -228,7 +228,7 @@ broken_spares m off before i p (x ∷ []) (y ∷ qs) back some more z place part
     (subst (λ b. SparesPlace p (cond b ((i, i + (length x + length y)) ∷ []) [])) (sym whole) tt)
     (later_spares m (joins_runs x) (i + length x) p (y ∷ qs) (omega arith))
 broken_spares m off before i p (x ∷ (z ∷ ps)) qs back some more zs place parts same =
-    let v : hb_glyph_info_t → hb_glyph_info_t = with_mask_by without_flags in
+    let v : Glyph → Glyph = with_mask_by without_flags in
     let made = formed (form_masks m) before (joins_runs z) x in
     let whole = forms_in m (joins_runs x) ((z ∷ ps) ++ qs) in
     let front = forms_in m (joins_runs x) (z ∷ ps) in
@@ -300,7 +300,7 @@ no_form_flag_is_needless plan font spans old new kinds covers none off set_up p 
     let kept = plan.plan_data in
     let m = plan.ot_map in
     let breaks = plan.break_flags in
-    let v : hb_glyph_info_t → hb_glyph_info_t = with_mask_by without_flags in
+    let v : Glyph → Glyph = with_mask_by without_flags in
     let all = old.glyphs in
     let n = length all in
     let ss = s.border.front in
@@ -327,7 +327,7 @@ no_form_flag_is_needless plan font spans old new kinds covers none off set_up p 
     λ is xs. flags_hidden (arabic_of kept) m (set_up_by_spans kept m is xs) ∙ ap flagless (masked is xs) in
     let whole : set_up_by_spans kept m spans all ≡ forms (front ++ behind) = masked spans all ∙ ap forms parts.parts in
     let seen : flagless new.glyphs ≡ flagless (forms (front ++ behind)) = ap (λ (b : Buffer). flagless b.glyphs) set_up
-    ∙ map-forms_flagged v (λ g. ap (λ k. let r : hb_glyph_info_t = record g { mask = k } in r)
+    ∙ map-forms_flagged v (λ g. ap (λ k. let r : Glyph = record g { mask = k } in r)
     (without_flags-or g.mask 3 refl)) (arabic_of kept) breaks m (set_up_by_spans kept m spans all)
     ∙ ap flagless whole in
     let joined : flagless (forms (front ++ behind)) ≡ flagless (forms front) ++ back = sym seen ∙ s.halves.parts

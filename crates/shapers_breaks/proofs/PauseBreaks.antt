@@ -5,7 +5,7 @@ use Rattle.std.specs.List.{All, flat_map}
 use Rattle.std.proofs.lemmas.List.{drop-map, drop_at, length-map, length-take-le, map-append, take-append-drop, take-map, take_at}
 use Rattle.std.proofs.lemmas.List.Elements.{All-take}
 use Rattle.std.proofs.lemmas.List.Concat.{flat_map-append}
-use Rattle.shapers_buffer.specs.declared.buffer.glyph.hb_glyph_info_t.{hb_glyph_info_t}
+use Rattle.shapers_buffer.specs.Glyphs.{Glyph, Glyphs}
 use Rattle.shapers_buffer.specs.declared.buffer.level.BufferClusterLevel.{BufferClusterLevel}
 use Rattle.shapers_buffer.specs.declared.buffer.syllables.Span.{Span}
 use Rattle.shapers_buffer.specs.Buffer.{Buffer}
@@ -29,7 +29,7 @@ use Rattle.shapers_syllabic.proofs.ReorderingLaws.{text_reordered}
 use Rattle.shapers_syllabic.proofs.SpanCuts.{spans_cut}
 use Rattle.shapers_breaks.specs.PauseBreaks.{BreaksBetweenSpans, BrokenBetweenSpans, SpanCut}
 use Rattle.shapers_breaks.proofs.CircledBorders.{Each, apart_at, circled_is, length-paused, opened_piece, pieces_erased, reordered_border}
-use Rattle.shapers_breaks.proofs.SetUp.{AllAsLong, Glyphs, IsGuarded, cover_cut, set_up_guarded, sum-as_long, taken_as_long}
+use Rattle.shapers_breaks.proofs.SetUp.{AllAsLong, IsGuarded, cover_cut, set_up_guarded, sum-as_long, taken_as_long}
 
 -- pieces as long as spans are as many
 pub as_many : (pieces : List Glyphs) (spans : List Span) → AllAsLong pieces spans → length pieces ≡ length spans
@@ -52,7 +52,7 @@ pub record TextCut (spans : List Span) (old gs : Glyphs) (k : ℕ) : Type 0 wher
 pub text_cut : (spans : List Span) (old gs : Glyphs) (k : ℕ) → spans_cover (length old) spans ≡ true → clusters gs
     ≡ clusters old → AllAsLong (syllables gs) spans → TextCut spans old gs k
 text_cut spans old gs k covers same long =
-    let cluster : hb_glyph_info_t → ℕ = λ g. g.cluster in
+    let cluster : Glyph → ℕ = λ g. g.cluster in
     let pieces = syllables gs in
     let id : Glyphs → Glyphs = λ piece. piece in
     let fr = flat_map id (take k pieces) in
@@ -128,7 +128,7 @@ pub pause_cut : (meaning : Glyphs → Glyphs) (steps : Glyphs → List Step) →
     (circled circles mid)) → length new ≡ length (circled circles mid) → (p : ℕ) → 0 < p → p < length new
     → IsClear new p → PauseCut circles spans old mid p
 pause_cut meaning steps laws inside circles level m spans old mid new covers same guarded mono moved long p z l clear =
-    let cluster : hb_glyph_info_t → ℕ = λ g. g.cluster in
+    let cluster : Glyph → ℕ = λ g. g.cluster in
     let pieces = syllables mid in
     let F = opened_piece circles in
     let (opened_clear, border) = reordered_border meaning steps laws inside circles level m mid new guarded.whole mono

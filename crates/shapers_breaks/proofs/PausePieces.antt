@@ -6,7 +6,7 @@ use Rattle.shapers_arabic.specs.Requests.{arabic_list, is_arabic}
 use Rattle.shapers_buffer.specs.Buffer.{Buffer}
 use Rattle.shapers_buffer.specs.Glyph.{plain}
 use Rattle.shapers_buffer.specs.Properties.{component, is_multiplied}
-use Rattle.shapers_buffer.specs.declared.buffer.glyph.hb_glyph_info_t.{hb_glyph_info_t}
+use Rattle.shapers_buffer.specs.Glyphs.{Glyph, Glyphs}
 use Rattle.shapers_clusters.specs.FlagLaw.{FlagsAdded}
 use Rattle.shapers_clusters.proofs.FlagLaw.{added_same}
 use Rattle.shapers_stretch.specs.Recorded.{has_stch, recorded, tile_action, with_tiles}
@@ -16,44 +16,43 @@ use Rattle.rustybuzz_shapers.specs.Pauses.{pauses_in}
 use Rattle.rustybuzz_shapers.specs.declared.shaper.hb_ot_shaper_t.TheVariants.{Arabic, Hangul, Hebrew, Indic, Khmer, Myanmar, MyanmarZawgyi, Thai, Universal}
 use Rattle.shapers_breaks.specs.ShaperBreaks.{PausesAreListed, PausesLeavePieces, glyph_paused}
 use Rattle.shapers_breaks.proofs.Pieces.{ChangesGlyphs, ReadsOrder, clears_syllables, flags-twice, kind-twice, leaves_by_glyph, reads_order, still}
-use Rattle.shapers_breaks.proofs.SetUp.{Glyphs}
 
 -- a glyph without its mark of a substitution, or as a tile
 cleared : ReadsOrder unsubstituted
 cleared = record {
   added = λ g. added_same g (unsubstituted g) refl refl;
   byte = λ g. refl;
-  viewed = λ g. ap (λ (k : ℕ). let r : hb_glyph_info_t = record (unsubstituted g) { cluster = 0; mask = k } in r)
+  viewed = λ g. ap (λ (k : ℕ). let r : Glyph = record (unsubstituted g) { cluster = 0; mask = k } in r)
       (sym (flags-twice g.mask));
-  counted = λ g. ap (λ (k : ℕ). let r : hb_glyph_info_t = record (plain (unsubstituted g)) { syllable = k } in r)
+  counted = λ g. ap (λ (k : ℕ). let r : Glyph = record (plain (unsubstituted g)) { syllable = k } in r)
       (sym (kind-twice g.syllable));
 }
 
-as_tile : hb_glyph_info_t → hb_glyph_info_t
+as_tile : Glyph → Glyph
 as_tile g = record g { auxiliary = tile_action (component g.lig_props) }
 
-if_tile : Bool → hb_glyph_info_t → hb_glyph_info_t
+if_tile : Bool → Glyph → Glyph
 if_tile b g = if b then as_tile g else g
 
-tile_viewed : (b : Bool) (g : hb_glyph_info_t) → plain (if_tile b g) ≡ plain (if_tile b (plain g))
+tile_viewed : (b : Bool) (g : Glyph) → plain (if_tile b g) ≡ plain (if_tile b (plain g))
 unfolding if_tile as_tile
-tile_viewed true g = ap (λ (k : ℕ). let r : hb_glyph_info_t = record (as_tile g) { cluster = 0; mask = k } in r)
+tile_viewed true g = ap (λ (k : ℕ). let r : Glyph = record (as_tile g) { cluster = 0; mask = k } in r)
     (sym (flags-twice g.mask))
 tile_viewed false g = still.viewed g
 
-tile_counted : (b : Bool) (g : hb_glyph_info_t) → unnumbered (plain (if_tile b g))
+tile_counted : (b : Bool) (g : Glyph) → unnumbered (plain (if_tile b g))
     ≡ unnumbered (plain (if_tile b (unnumbered g)))
 unfolding if_tile as_tile
-tile_counted true g = ap (λ (k : ℕ). let r : hb_glyph_info_t = record (plain (as_tile g)) { syllable = k } in r)
+tile_counted true g = ap (λ (k : ℕ). let r : Glyph = record (plain (as_tile g)) { syllable = k } in r)
     (sym (kind-twice g.syllable))
 tile_counted false g = still.counted g
 
-tile_added : (b : Bool) (g : hb_glyph_info_t) → FlagsAdded g (if_tile b g)
+tile_added : (b : Bool) (g : Glyph) → FlagsAdded g (if_tile b g)
 unfolding if_tile as_tile
 tile_added true g = added_same g (as_tile g) refl refl
 tile_added false g = added_same g g refl refl
 
-tile_byte : (b : Bool) (g : hb_glyph_info_t) → (if_tile b g).syllable ≡ g.syllable
+tile_byte : (b : Bool) (g : Glyph) → (if_tile b g).syllable ≡ g.syllable
 unfolding if_tile as_tile
 tile_byte true g = refl
 tile_byte false g = refl

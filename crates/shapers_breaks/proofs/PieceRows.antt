@@ -5,7 +5,7 @@ use Rattle.std.proofs.lemmas.Bool.{false≢true}
 use Rattle.shapers_base.specs.declared.plan.pause.Pause.TheVariants.{RecordStch, ArabicFallbackShape}
 use Rattle.shapers_buffer.specs.Buffer.{Buffer, new_buffer}
 use Rattle.shapers_buffer.specs.Glyph.{default_glyph, order_view, plain}
-use Rattle.shapers_buffer.specs.declared.buffer.glyph.hb_glyph_info_t.{hb_glyph_info_t}
+use Rattle.shapers_buffer.specs.Glyphs.{Glyph, Glyphs}
 use Rattle.shapers_buffer.specs.declared.buffer.syllables.Span.{Span}
 use Rattle.rustybuzz_shapers.specs.declared.shaper.hb_ot_shaper_t.TheVariants.{Arabic, Hangul, Hebrew, Indic, Khmer, Myanmar, MyanmarZawgyi, Thai, Universal}
 use Rattle.shapers_breaks.specs.Pieces.{CutAtSpans, CutBuffer, CutWhereClear, LeavesPieces, MadeOfPieces, MakesOf, SameButFlags}
@@ -15,7 +15,7 @@ use Rattle.shapers_syllabic.proofs.Serials.{same_text}
 use Rattle.shapers_breaks.proofs.Pieces.{own_text}
 
 -- a glyph of a number in this cluster, with this mask and syllable byte
-glyph : ℕ → ℕ → ℕ → ℕ → hb_glyph_info_t
+glyph : ℕ → ℕ → ℕ → ℕ → Glyph
 glyph n c m byte = record default_glyph { glyph_id = n; cluster = c; mask = m; syllable = byte }
 
 -- glyph flags, and serials between syllables that stay apart, make no difference
@@ -32,7 +32,7 @@ row_other_mask : SameButFlags (glyph 5 0 0 0 ∷ []) (glyph 5 0 8 0 ∷ []) → 
 unfolding glyph
 row_other_mask same = absurd (omega (
   arith,
-  ap (λ ps. slice_index (map (λ (p : List hb_glyph_info_t).
+  ap (λ ps. slice_index (map (λ (p : Glyphs).
       slice_index (map (λ g. g.mask) p) 0) ps) 0) same.0,
 ))
 
@@ -40,7 +40,7 @@ row_other_kind : SameButFlags (glyph 5 0 0 0x12 ∷ []) (glyph 5 0 0 0x13 ∷ []
 unfolding glyph
 row_other_kind same = absurd (omega (
   arith,
-  ap (λ ps. slice_index (map (λ (p : List hb_glyph_info_t). slice_index (map (λ g. g.syllable) p) 0) ps) 0) same.0,
+  ap (λ ps. slice_index (map (λ (p : Glyphs). slice_index (map (λ g. g.syllable) p) 0) ps) 0) same.0,
 ))
 
 row_other_border : SameButFlags (glyph 5 0 0 0x12 ∷ glyph 6 0 0 0x12 ∷ [])
@@ -92,7 +92,7 @@ row_at_spans = record {
 }
 
 -- a buffer's halves keep their outer contexts and lose the inner ones
-context : List ℕ → List ℕ → List hb_glyph_info_t → Buffer
+context : List ℕ → List ℕ → Glyphs → Buffer
 context before after gs = record (new_buffer 9) { before = before; after = after; glyphs = gs }
 
 row_halves : CutBuffer (context (1 ∷ []) (2 ∷ []) (glyph 5 0 0 0 ∷ glyph 6 1 0 0 ∷ []))
@@ -120,7 +120,7 @@ row_behind_marks : CutAroundMarks
 row_behind_marks = record { place = 2; outside = inr (omega arith); front = refl; back = refl }
 
 -- nothing leaves results side by side
-row_nothing : (gs : List hb_glyph_info_t) → LeavesPieces (λ gs. gs) gs
+row_nothing : (gs : Glyphs) → LeavesPieces (λ gs. gs) gs
 row_nothing gs front back cut = record {
   before = front;
   behind = back;
@@ -130,27 +130,27 @@ row_nothing gs front back cut = record {
 }
 
 -- a lookup that looks behind a place: a glyph before another one gets number 9, alone it keeps its own
-looks_behind : List hb_glyph_info_t → List hb_glyph_info_t
+looks_behind : Glyphs → Glyphs
 looks_behind (g ∷ (h ∷ [])) = record g { glyph_id = 9 } ∷ (h ∷ [])
 looks_behind gs = gs
 
-number : List hb_glyph_info_t → ℕ
-number gs = slice_index (map (λ (g : hb_glyph_info_t). g.glyph_id) gs) 0
+number : Glyphs → ℕ
+number gs = slice_index (map (λ (g : Glyph). g.glyph_id) gs) 0
 
-shown : List hb_glyph_info_t → List hb_glyph_info_t
+shown : Glyphs → Glyphs
 shown gs = map unnumbered (map plain gs)
 
-shown_number : (gs : List hb_glyph_info_t) → number (shown gs) ≡ number gs
+shown_number : (gs : Glyphs) → number (shown gs) ≡ number gs
 unfolding number shown
 shown_number [] = refl
 shown_number (g ∷ gs) = refl
 
-same_number : (gs hs : List hb_glyph_info_t) → SameButFlags gs hs → number gs ≡ number hs
+same_number : (gs hs : Glyphs) → SameButFlags gs hs → number gs ≡ number hs
 unfolding shown
 same_number gs hs same = sym (shown_number gs) ∙ ap number (same_text (order_view gs) (order_view hs) same.0)
     ∙ shown_number hs
 
-row_alone : (front back : List hb_glyph_info_t) → glyph 5 0 0 0 ∷ (glyph 6 1 0 0 ∷ []) ≡ front ++ back
+row_alone : (front back : Glyphs) → glyph 5 0 0 0 ∷ (glyph 6 1 0 0 ∷ []) ≡ front ++ back
     → 0 < length front
     → 0 < length back → number (looks_behind front) ≡ 9 → ⊥
 unfolding glyph looks_behind number
@@ -162,7 +162,7 @@ row_alone (g ∷ (h ∷ (i ∷ gs))) back parts some more nine = absurd (omega (
 row_looks_behind : LeavesPieces looks_behind (glyph 5 0 0 0 ∷ (glyph 6 1 0 0 ∷ [])) → ⊥
 unfolding glyph looks_behind number
 row_looks_behind leaves =
-    let made : MadeOfPieces (List hb_glyph_info_t) CutWhereClear (MakesOf looks_behind)
+    let made : MadeOfPieces Glyphs CutWhereClear (MakesOf looks_behind)
     (glyph 5 0 0 0 ∷ (glyph 6 1 0 0 ∷ [])) (glyph 9 0 0 0 ∷ []) (glyph 6 1 0 0 ∷ []) =
     leaves (glyph 9 0 0 0 ∷ []) (glyph 6 1 0 0 ∷ []) (record {
       parts = refl;

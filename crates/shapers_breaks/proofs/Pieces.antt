@@ -1,7 +1,7 @@
 -- Steps that leave the results of a text's pieces side by side: one behind the other, and glyph by glyph.
 use Rattle.std.proofs.Common.{ℕ, ◌<◌, ◌≡◌, [], ◌∷◌, length, take, drop, map, refl, sym, ap, ◌∙◌, subst, arith, length-append, take-append-drop}
 use Rattle.std.proofs.lemmas.List.{drop-map, drop_at, length-map, length-take-le, take-map, take_at}
-use Rattle.shapers_buffer.specs.declared.buffer.glyph.hb_glyph_info_t.{hb_glyph_info_t}
+use Rattle.shapers_buffer.specs.Glyphs.{Glyph, Glyphs}
 use Rattle.shapers_buffer.specs.Glyph.{clusters, order_view, plain, without_flags}
 use Rattle.shapers_buffer.specs.Syllables.{in_syllable, kind_of, syllables}
 use Rattle.shapers_clusters.specs.Breaks.{IsClear}
@@ -13,7 +13,6 @@ use Rattle.shapers_syllabic.proofs.Serials.{KeepsSame, pieces_same, same_text}
 use Rattle.shapers_breaks.specs.Pieces.{BreaksWhereCleared, CutWhereClear, LeavesPieces, MakesOf, SameButFlags}
 use Rattle.shapers_breaks.specs.ShaperBreaks.{LeavePiecesInTurn}
 use Rattle.shapers_breaks.proofs.KeptFlags.{added_clear}
-use Rattle.shapers_breaks.proofs.SetUp.{Glyphs}
 
 -- what stands behind a step
 pub behind_pieces : (X : Type 0) (Cut : X → X → X → Type 0) (First Both : X → Glyphs
@@ -43,11 +42,11 @@ own_text gs = (refl, refl)
 
 -- CHANGES of each glyph
 -- one that reads no clusters, flags or serials
-pub record ChangesGlyphs (f : hb_glyph_info_t → hb_glyph_info_t) : Type 0 where
-  pub added : (g : hb_glyph_info_t) → FlagsAdded g (f g)
+pub record ChangesGlyphs (f : Glyph → Glyph) : Type 0 where
+  pub added : (g : Glyph) → FlagsAdded g (f g)
   pub same : (gs hs : Glyphs) → SameButFlags gs hs → SameButFlags (map f gs) (map f hs)
 
-pub leaves_by_glyph : (f : hb_glyph_info_t → hb_glyph_info_t) → ChangesGlyphs f → (gs : Glyphs)
+pub leaves_by_glyph : (f : Glyph → Glyph) → ChangesGlyphs f → (gs : Glyphs)
     → LeavesPieces (map f) gs
 leaves_by_glyph f change gs front back cut =
     let n = length front in
@@ -84,33 +83,33 @@ pub kind-twice : (byte : ℕ) → kind_of (kind_of byte) ≡ kind_of byte
 kind-twice byte = omega arith
 
 -- one that keeps the bytes of syllables
-pub record ReadsOrder (f : hb_glyph_info_t → hb_glyph_info_t) : Type 0 where
-  pub added : (g : hb_glyph_info_t) → FlagsAdded g (f g)
-  pub byte : (g : hb_glyph_info_t) → (f g).syllable ≡ g.syllable
-  pub viewed : (g : hb_glyph_info_t) → plain (f g) ≡ plain (f (plain g))
-  pub counted : (g : hb_glyph_info_t) → unnumbered (plain (f g)) ≡ unnumbered (plain (f (unnumbered g)))
+pub record ReadsOrder (f : Glyph → Glyph) : Type 0 where
+  pub added : (g : Glyph) → FlagsAdded g (f g)
+  pub byte : (g : Glyph) → (f g).syllable ≡ g.syllable
+  pub viewed : (g : Glyph) → plain (f g) ≡ plain (f (plain g))
+  pub counted : (g : Glyph) → unnumbered (plain (f g)) ≡ unnumbered (plain (f (unnumbered g)))
 
-view_of : (f : hb_glyph_info_t → hb_glyph_info_t) → ReadsOrder f → (gs : Glyphs) → order_view (map f gs)
+view_of : (f : Glyph → Glyph) → ReadsOrder f → (gs : Glyphs) → order_view (map f gs)
     ≡ map (λ g. plain (f g)) (order_view gs)
 view_of f reads [] = refl
 view_of f reads (g ∷ gs) = ap (λ x. x ∷ order_view (map f gs)) (reads.viewed g)
     ∙ ap (λ l. plain (f (plain g)) ∷ l) (view_of f reads gs)
 
-counted_all : (f : hb_glyph_info_t → hb_glyph_info_t) → ReadsOrder f → (gs : Glyphs) → map unnumbered
+counted_all : (f : Glyph → Glyph) → ReadsOrder f → (gs : Glyphs) → map unnumbered
     (map (λ g. plain (f g)) gs) ≡ map unnumbered (map (λ g. plain (f g)) (map unnumbered gs))
 counted_all f reads [] = refl
 counted_all f reads (g ∷ gs) = ap (λ x. x ∷ map unnumbered (map (λ g. plain (f g)) gs)) (reads.counted g)
     ∙ ap (λ l. unnumbered (plain (f (unnumbered g))) ∷ l) (counted_all f reads gs)
 
-clusters_of : (f : hb_glyph_info_t → hb_glyph_info_t) → ((g : hb_glyph_info_t) → FlagsAdded g (f g)) → (gs : Glyphs)
+clusters_of : (f : Glyph → Glyph) → ((g : Glyph) → FlagsAdded g (f g)) → (gs : Glyphs)
     → clusters (map f gs) ≡ clusters gs
 clusters_of f added [] = refl
 clusters_of f added (g ∷ gs) = ap (λ c. c ∷ clusters (map f gs)) ((added g).same)
     ∙ ap (λ cs. g.cluster ∷ cs) (clusters_of f added gs)
 
-pub reads_order : (f : hb_glyph_info_t → hb_glyph_info_t) → ReadsOrder f → ChangesGlyphs f
+pub reads_order : (f : Glyph → Glyph) → ReadsOrder f → ChangesGlyphs f
 reads_order f reads =
-    let k : hb_glyph_info_t → hb_glyph_info_t = λ g. plain (f g) in
+    let k : Glyph → Glyph = λ g. plain (f g) in
     let keeps : KeepsSame (map k) = λ gs hs same. counted_all f reads gs
     ∙ ap (λ xs. map unnumbered (map k xs)) same ∙ sym (counted_all f reads hs) in
     let pieces : (gs : Glyphs) → syllables (order_view (map f gs)) ≡ map (map k) (syllables (order_view gs)) = λ gs.
@@ -130,9 +129,9 @@ pub still : ReadsOrder (λ g. g)
 still = record {
   added = λ g. added_same g g refl refl;
   byte = λ g. refl;
-  viewed = λ g. ap (λ (k : ℕ). let r : hb_glyph_info_t = record g { cluster = 0; mask = k } in r)
+  viewed = λ g. ap (λ (k : ℕ). let r : Glyph = record g { cluster = 0; mask = k } in r)
       (sym (flags-twice g.mask));
-  counted = λ g. ap (λ (k : ℕ). let r : hb_glyph_info_t = record (plain g) { syllable = k } in r)
+  counted = λ g. ap (λ (k : ℕ). let r : Glyph = record (plain g) { syllable = k } in r)
       (sym (kind-twice g.syllable));
 }
 
@@ -144,7 +143,7 @@ cleared_view (g ∷ gs) = ap (λ l. plain (in_syllable 0 g) ∷ l) (cleared_view
 
 pub clears_syllables : ChangesGlyphs (in_syllable 0)
 clears_syllables =
-    let added : (g : hb_glyph_info_t) → FlagsAdded g (in_syllable 0 g) = λ g. record {
+    let added : (g : Glyph) → FlagsAdded g (in_syllable 0 g) = λ g. record {
       same = refl;
       kept = λ k l. omega arith;
     } in

@@ -5,7 +5,7 @@ use Rattle.std.specs.List.{All, AllByRecursion, Contains, flat_map}
 use Rattle.std.proofs.lemmas.List.{drop_at, get_or-map, get_or_default, length-map, map-append, take_at}
 use Rattle.std.proofs.lemmas.List.Elements.{All-contains_itself, All-from_get_or, All-get_or}
 use Rattle.std.proofs.lemmas.List.Folds.{flat_map-map}
-use Rattle.shapers_buffer.specs.declared.buffer.glyph.hb_glyph_info_t.{hb_glyph_info_t}
+use Rattle.shapers_buffer.specs.Glyphs.{Glyph, Glyphs}
 use Rattle.shapers_buffer.specs.declared.buffer.level.BufferClusterLevel.{BufferClusterLevel}
 use Rattle.shapers_buffer.specs.Buffer.{Buffer}
 use Rattle.shapers_buffer.specs.Clusters.{least}
@@ -33,7 +33,6 @@ use Rattle.shapers_breaks.proofs.Guarded.{IsWhole}
 use Rattle.shapers_breaks.proofs.KeptBorders.{apart_mapped, piece_opened}
 use Rattle.shapers_breaks.proofs.KeptTextBreaks.{all_whole, apart_pieces, broken_there}
 use Rattle.shapers_breaks.proofs.PauseBreaks.{each_at, each_from}
-use Rattle.shapers_breaks.proofs.SetUp.{Glyphs}
 use Rattle.shapers_breaks.proofs.TwoClusters.{run_flagged, run_two}
 use Rattle.shapers_breaks.proofs.SideBySide.{border_before, lens, lens_after, lens_kept, long_carried, pause_fits, pieces_by_lens, reordering_side_by_side, text_is}
 
@@ -44,19 +43,19 @@ flagged_carried xs ys same h =
     let a = length-map xs carried in
     let b = length-map ys carried in
     let cs : clusters xs ≡ clusters ys = sym (clusters-carried xs) ∙ ap clusters same ∙ clusters-carried ys in
-    All-from_get_or (λ (g : hb_glyph_info_t). least (clusters xs) < g.cluster → IsFlagged g) xs d (λ i l above.
+    All-from_get_or (λ (g : Glyph). least (clusters xs) < g.cluster → IsFlagged g) xs d (λ i l above.
     let il : i < length ys = omega (arith, a, b, ap length same, l) in
     let is : carried (get_or xs i d) ≡ carried (get_or ys i d) = sym (get_or-map carried xs i d d l)
     ∙ ap (λ gs. get_or gs i d) same ∙ get_or-map carried ys i d d il in
-    let flags = All-get_or (λ (g : hb_glyph_info_t). least (clusters ys) < g.cluster → IsFlagged g) ys i d il h
-    (omega (arith, ap least cs, ap (λ (g : hb_glyph_info_t). g.cluster) is, above)) in
-    let marks : (get_or xs i d).mask % 8 ≡ (get_or ys i d).mask % 8 = ap (λ (g : hb_glyph_info_t). g.mask) is in
+    let flags = All-get_or (λ (g : Glyph). least (clusters ys) < g.cluster → IsFlagged g) ys i d il h
+    (omega (arith, ap least cs, ap (λ (g : Glyph). g.cluster) is, above)) in
+    let marks : (get_or xs i d).mask % 8 ≡ (get_or ys i d).mask % 8 = ap (λ (g : Glyph). g.mask) is in
     (omega (arith, marks, flags.0), omega (arith, marks, flags.1)))
 
 two_carried : (xs ys : Glyphs) → map carried xs ≡ map carried ys → IsOfTwoClusters ys → IsOfTwoClusters xs
 two_carried xs ys same two =
     let d = default_glyph in
-    let P : hb_glyph_info_t → Type 0 = λ g. (g.cluster ≡ two.0) ⊎ (g.cluster ≡ two.1) in
+    let P : Glyph → Type 0 = λ g. (g.cluster ≡ two.0) ⊎ (g.cluster ≡ two.1) in
     let a = length-map xs carried in
     let b = length-map ys carried in (
       two.0,
@@ -65,7 +64,7 @@ two_carried xs ys same two =
           let il : i < length ys = omega (arith, a, b, ap length same, l) in
           let is : carried (get_or ys i d) ≡ carried (get_or xs i d) = sym (get_or-map carried ys i d d il)
           ∙ ap (λ gs. get_or gs i d) (sym same) ∙ get_or-map carried xs i d d l in
-          subst (λ (k : ℕ). (k ≡ two.0) ⊎ (k ≡ two.1)) (ap (λ (g : hb_glyph_info_t). g.cluster) is)
+          subst (λ (k : ℕ). (k ≡ two.0) ⊎ (k ≡ two.1)) (ap (λ (g : Glyph). g.cluster) is)
           (All-get_or P ys i d il two.2)),
     )
 
@@ -83,13 +82,13 @@ two_opened : (circles : Option DottedCircles) (q : Glyphs) → IsOfTwoClusters q
     (opened_piece circles q)
 two_opened circles q two =
     let Two : ℕ → Type 0 = λ k. (k ≡ two.0) ⊎ (k ≡ two.1) in
-    let cluster : hb_glyph_info_t → ℕ = λ g. g.cluster in
+    let cluster : Glyph → ℕ = λ g. g.cluster in
     let opened = opened_piece circles q in
     let each = piece_opened Two circles q (each_from Two q (λ i l. subst Two
     (sym (get_or-map cluster q i default_glyph 0 l)) (All-get_or (λ g. Two g.cluster) q i default_glyph l two.2))) in (
       two.0,
       two.1,
-      All-from_get_or (λ (g : hb_glyph_info_t). Two g.cluster) opened default_glyph (λ i l. subst Two
+      All-from_get_or (λ (g : Glyph). Two g.cluster) opened default_glyph (λ i l. subst Two
           (get_or-map cluster opened i default_glyph 0 l) (each_at Two opened each i l)),
     )
 
@@ -180,13 +179,13 @@ none_new r laws level half xs same =
     let is : clusters xs ≡ joined_steps level sts cs = sym (clusters-carried xs) ∙ ap clusters same
     ∙ clusters-carried (run_steps level sts zs) ∙ clusters-run_steps level sts zs in
     no_new_cluster r.circles half xs (subst (All (Contains cs)) (sym is)
-    (all-joined_steps (Contains cs) level (length zs) sts cs (length-map zs (λ (g : hb_glyph_info_t). g.cluster))
+    (all-joined_steps (Contains cs) level (length zs) sts cs (length-map zs (λ (g : Glyph). g.cluster))
     (pause_fits r.order r.steps laws r.circles half) (All-contains_itself cs)).1)
 
 among : (gs xs : Glyphs) → NoNewCluster gs xs → (i : ℕ) → i < length xs
     → (k : ℕ) × (k < length gs) × (get_or (clusters gs) k 0 ≡ get_or (clusters xs) i 0)
 among gs xs none i h =
-    let cluster : hb_glyph_info_t → ℕ = λ g. g.cluster in
+    let cluster : Glyph → ℕ = λ g. g.cluster in
     let n = length-map xs cluster in
     let m = length-map gs cluster in
     let found = All-get_or (Contains (clusters gs)) (clusters xs) i 0 (omega (arith, n, h)) none in (

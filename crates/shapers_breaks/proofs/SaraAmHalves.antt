@@ -7,7 +7,7 @@ use Rattle.std.proofs.lemmas.List.{append-nil, append_assoc, drop_all, length-ap
 use Rattle.std.proofs.lemmas.List.Concat.{flat_map-append}
 use Rattle.std.proofs.lemmas.List.Folds.{list_any_at}
 use Rattle.std.proofs.lemmas.List.Sums.{suffix_len-le-length}
-use Rattle.shapers_buffer.specs.declared.buffer.glyph.hb_glyph_info_t.{hb_glyph_info_t}
+use Rattle.shapers_buffer.specs.Glyphs.{Glyph, Glyphs}
 use Rattle.shapers_buffer.specs.declared.buffer.level.BufferClusterLevel.{BufferClusterLevel}
 use Rattle.shapers_buffer.specs.Clusters.{merge_all}
 use Rattle.shapers_buffer.specs.Glyph.{characters}
@@ -264,11 +264,11 @@ merges_none level us vs some free ks a rest is am =
     )
 
 -- THE TEXT
-takes_none : (us vs : List ℕ) (xs ys : List hb_glyph_info_t) → characters xs ≡ us → characters ys ≡ vs
+takes_none : (us vs : List ℕ) (xs ys : Glyphs) → characters xs ≡ us → characters ys ≡ vs
     → ((ms : List ℕ) (a : ℕ) (rest : List ℕ) → vs ≡ ms ++ a ∷ rest → is_sara_am a ≡ true
     → suffix_len is_above_base (us ++ ms) ≤ length ms) → TakesNone glyph_rule xs ys
 takes_none us vs xs ys first second none ms a rest is am =
-    let character : hb_glyph_info_t → ℕ = λ g. g.glyph_id in
+    let character : Glyph → ℕ = λ g. g.glyph_id in
     let few = none (characters ms) a.glyph_id (characters rest) (sym second ∙ ap characters is
     ∙ map-append character ms (a ∷ rest)) am in
     let same : suffix_len (is_above glyph_rule) (xs ++ ms) ≡ suffix_len is_above_base (us ++ characters ms) =
@@ -277,18 +277,18 @@ takes_none us vs xs ys first second none ms a rest is am =
     omega (arith, same, few, length-map ms character)
 
 -- the text with the stretches of its SARA AMs merged
-abbrev pub two_merged : BufferClusterLevel → List hb_glyph_info_t → List hb_glyph_info_t
+abbrev pub two_merged : BufferClusterLevel → Glyphs → Glyphs
 two_merged level gs = merge_all level (sara_am_stretches level (characters gs)) gs
 
 -- cut where no stretch holds the cut, and the halves share no cluster
-pub record TwoHalves (level : BufferClusterLevel) (xs ys : List hb_glyph_info_t) : Type 0 where
+pub record TwoHalves (level : BufferClusterLevel) (xs ys : Glyphs) : Type 0 where
   pub merged : two_merged level (xs ++ ys) ≡ two_merged level xs ++ two_merged level ys
   pub made : sara_ams_taken level (xs ++ ys) ≡ sara_ams_taken level xs ++ sara_ams_taken level ys
 
-pub two_halves : (level : BufferClusterLevel) (xs ys : List hb_glyph_info_t) → 0 < length xs → ShareNone xs ys
+pub two_halves : (level : BufferClusterLevel) (xs ys : Glyphs) → 0 < length xs → ShareNone xs ys
     → held (sara_am_stretches level (characters (xs ++ ys))) (length xs) ≡ false → TwoHalves level xs ys
 two_halves level xs ys some apart free =
-    let character : hb_glyph_info_t → ℕ = λ g. g.glyph_id in
+    let character : Glyph → ℕ = λ g. g.glyph_id in
     let us = characters xs in
     let vs = characters ys in
     let one = sara_am_stretches level us in

@@ -31,7 +31,8 @@ use Rattle.shapers_breaks.specs.PauseBreaks.{PausesBreakLaw, SpanCut}
 use Rattle.shapers_breaks.specs.ScriptBreaks.{MyanmarHasNoRepha, PausesBreakBy, UniversalPausesBreak}
 use Rattle.shapers_breaks.proofs.CircledBorders.{circled_is, length-paused, opened_piece}
 use Rattle.shapers_breaks.proofs.PauseBreaks.{as_many, front_is, length-moved, pause_cut, pauses_break_by, text_cut}
-use Rattle.shapers_breaks.proofs.SetUp.{Glyphs, set_up_guarded}
+use Rattle.shapers_buffer.specs.Glyphs.{Glyphs}
+use Rattle.shapers_breaks.proofs.SetUp.{set_up_guarded}
 use Rattle.shapers_breaks.proofs.UniversalSetUp.{clusters_kept, flagged_kept, guarded_kept, length-all_opened, set_up_kept, syllables_kept, taken_kept}
 
 -- circles behind at most one repha leave clusters rising or falling

@@ -7,7 +7,7 @@ use Rattle.std.proofs.lemmas.List.{length-map, length-take-le, take-append-drop}
 use Rattle.std.proofs.lemmas.List.Elements.{All-map, All-tail, All-weaker}
 use Rattle.std.proofs.lemmas.List.Folds.{list_all-append}
 use Rattle.std.proofs.lemmas.List.Sums.{sum_by-append, sum_by-cons}
-use Rattle.shapers_buffer.specs.declared.buffer.glyph.hb_glyph_info_t.{hb_glyph_info_t}
+use Rattle.shapers_buffer.specs.Glyphs.{Glyph, Glyphs}
 use Rattle.shapers_buffer.specs.declared.buffer.syllables.Span.{Span}
 use Rattle.shapers_buffer.specs.Clusters.{least}
 use Rattle.shapers_buffer.specs.Glyph.{clusters}
@@ -24,9 +24,6 @@ use Rattle.shapers_syllabic.proofs.PauseCuts.{clusters-set_up}
 use Rattle.shapers_breaks.specs.SetUp.{FlaggedAt, SetUpBreaksLaw, SpanBorder}
 use Rattle.shapers_breaks.proofs.Guarded.{IsWhole, PieceBorder, border_or_flagged, clear_not_flagged, flagged_whole}
 
-abbrev pub Glyphs : Type 0
-Glyphs = List hb_glyph_info_t
-
 -- pieces as long as spans
 abbrev pub AsLong : Glyphs → Span → Type 0
 AsLong piece span = length piece ≡ span.len
@@ -34,7 +31,7 @@ AsLong piece span = length piece ≡ span.len
 abbrev pub AllAsLong : List Glyphs → List Span → Type 0
 AllAsLong pieces spans = AllZip AsLong pieces spans
 
-none_left : (g : hb_glyph_info_t) (gs : Glyphs) → spans_cover (length (g ∷ gs)) [] ≡ true → ⊥
+none_left : (g : Glyph) (gs : Glyphs) → spans_cover (length (g ∷ gs)) [] ≡ true → ⊥
 none_left g gs covers = grind (arith, nat_tests)
 
 -- the syllables that spans cut
@@ -55,7 +52,7 @@ cut_as_long i (s ∷ ss) gs kinds covers =
     )
 
 -- flags keep bytes
-off_byte : (m : ℕ) (g : hb_glyph_info_t) → (with_bits_off 3 m g).syllable ≡ g.syllable
+off_byte : (m : ℕ) (g : Glyph) → (with_bits_off 3 m g).syllable ≡ g.syllable
 off_byte m g = elim (g.cluster == m) as (λ b. (if b then g else with_bits 3 g).syllable
     ≡ g.syllable) [ true ↦ refl | false ↦ refl ]
 
@@ -64,7 +61,7 @@ length-flagged gs = length-map gs (with_bits_off 3 (least (clusters gs)))
 
 flagged_byte : (byte : ℕ) (gs : Glyphs) → OfByte byte gs → OfByte byte (flagged 3 gs)
 flagged_byte byte gs u =
-    let P : hb_glyph_info_t → Type 0 = λ g. g.syllable ≡ byte in
+    let P : Glyph → Type 0 = λ g. g.syllable ≡ byte in
     let off = with_bits_off 3 (least (clusters gs)) in
     let some = u.some in
     record {

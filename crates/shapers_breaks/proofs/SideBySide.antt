@@ -2,12 +2,10 @@
 use Rattle.std.proofs.Common.{ℕ, zero, suc, ◌+◌, ◌%◌, ◌≤◌, ◌≡◌, List, [], ◌∷◌, ◌++◌, length, map, take, drop, get_or, refl, sym, ap, ◌∙◌, subst, arith, length-append}
 use Rattle.std.specs.Prelude.{Option}
 use Rattle.std.specs.List.{All, flat_map, sum_by, zip}
-use Rattle.std.specs.List.Sorted.{IsPermutation}
-use Rattle.std.proofs.lemmas.List.{append-nil, drop_at, length-map, map-append, take-map, take_at}
-use Rattle.std.proofs.lemmas.List.Elements.{All-cons, All-head, All-map, All-nil, All-tail}
+use Rattle.std.proofs.lemmas.List.{drop_at, length-map, map-append, take-map, take_at}
+use Rattle.std.proofs.lemmas.List.Elements.{All-cons, All-head, All-nil, All-tail}
 use Rattle.std.proofs.lemmas.List.Folds.{flat_map-map}
-use Rattle.std.proofs.lemmas.List.Sorted.{All-permutation, IsPermutation-map}
-use Rattle.shapers_buffer.specs.declared.buffer.glyph.hb_glyph_info_t.{hb_glyph_info_t}
+use Rattle.shapers_buffer.specs.Glyphs.{Glyph, Glyphs}
 use Rattle.shapers_buffer.specs.declared.buffer.level.BufferClusterLevel.{BufferClusterLevel}
 use Rattle.shapers_buffer.specs.declared.buffer.level.BufferClusterLevel.TheVariants.{MonotoneGraphemes}
 use Rattle.shapers_buffer.specs.Buffer.{Buffer}
@@ -18,12 +16,12 @@ use Rattle.shapers_clusters.specs.Steps.{FitSteps, FitsStep, Step, run_steps}
 use Rattle.shapers_clusters.proofs.Proved.{along_holds, steps_hold}
 use Rattle.shapers_syllabic.specs.Borders.{MeetAtBorder, SameButSerials, unnumbered}
 use Rattle.shapers_syllabic.specs.Circles.{circled}
-use Rattle.shapers_syllabic.specs.Reordering.{PauseReordered, carried, text_order, text_steps}
+use Rattle.shapers_syllabic.specs.Reordering.{PauseReordered, carried, text_steps}
 use Rattle.shapers_syllabic.specs.ReorderingLaws.{ReadsNoSerials, ReorderLaws, paused_carried, paused_order}
 use Rattle.shapers_syllabic.specs.declared.ot_shaper_syllabic.circles.DottedCircles.{DottedCircles}
-use Rattle.shapers_syllabic.proofs.Borders.{OfByte, bytes, one_run, syllables-append, syllables-mapped, syllables-viewed}
+use Rattle.shapers_syllabic.proofs.Borders.{bytes, syllables-append, syllables-mapped, syllables-viewed}
 use Rattle.shapers_syllabic.proofs.CircleLaws.{joined-syllables}
-use Rattle.shapers_syllabic.proofs.ReorderingLaws.{each_piece, nothing_lost, sum-syllables, text_steps-long}
+use Rattle.shapers_syllabic.proofs.ReorderingLaws.{each_piece, sum-syllables, text_steps-long}
 use Rattle.shapers_syllabic.proofs.ReorderingWalk.{length-meaning, pieces_of}
 use Rattle.shapers_syllabic.proofs.Serials.{same-circled, serials_dont_count}
 use Rattle.rustybuzz_shapers.specs.Pauses.{Reordered, Reordering}
@@ -32,7 +30,7 @@ use Rattle.shapers_breaks.specs.IndicChain.{carrying, reordered_text}
 use Rattle.shapers_breaks.specs.KeptTextBreaks.{SyllablesApart}
 use Rattle.shapers_breaks.proofs.CircledBorders.{OpenedBorder, length-paused, opened_piece, syllables-circled}
 use Rattle.shapers_breaks.proofs.KeptTextBreaks.{apart_pieces, broken_there}
-use Rattle.shapers_breaks.proofs.SetUp.{Glyphs}
+use Rattle.shapers_indic_final.proofs.FinalText.{kept_byte}
 
 -- nothing in between leaves results side by side
 pub nothing_between : (gs : Glyphs) → LeavesSideBySide (λ gs. gs) gs
@@ -81,21 +79,21 @@ pub lens_kept : (f : Glyphs → Glyphs) → ((q : Glyphs) → length (f q) ≡ l
 lens_kept f same [] = refl
 lens_kept f same (q ∷ qs) = ap (λ n. n ∷ lens (map f qs)) (same q) ∙ ap (λ ns. length q ∷ ns) (lens_kept f same qs)
 
-lens_viewed : (f : hb_glyph_info_t → hb_glyph_info_t) → ((g : hb_glyph_info_t) → (f g).syllable ≡ g.syllable)
+lens_viewed : (f : Glyph → Glyph) → ((g : Glyph) → (f g).syllable ≡ g.syllable)
     → (gs : Glyphs) → lens (syllables (map f gs)) ≡ lens (syllables gs)
 lens_viewed f keeps gs = ap lens (syllables-viewed f keeps gs) ∙ lens_kept (map f) (λ q. length-map q f) (syllables gs)
 
 -- bytes alone say where syllables end
-abbrev of_byte : ℕ → hb_glyph_info_t
+abbrev of_byte : ℕ → Glyph
 of_byte byte = record default_glyph { syllable = byte }
 
-of_bytes : (gs : Glyphs) → map (λ (g : hb_glyph_info_t). of_byte g.syllable) gs ≡ map of_byte (bytes gs)
+of_bytes : (gs : Glyphs) → map (λ (g : Glyph). of_byte g.syllable) gs ≡ map of_byte (bytes gs)
 of_bytes [] = refl
 of_bytes (g ∷ gs) = ap (λ l. of_byte g.syllable ∷ l) (of_bytes gs)
 
 lens_by_bytes : (xs ys : Glyphs) → bytes xs ≡ bytes ys → lens (syllables xs) ≡ lens (syllables ys)
 lens_by_bytes xs ys same =
-    let f : hb_glyph_info_t → hb_glyph_info_t = λ g. of_byte g.syllable in
+    let f : Glyph → Glyph = λ g. of_byte g.syllable in
     sym (lens_viewed f (λ g. refl) xs)
     ∙ ap (λ gs. lens (syllables gs)) (of_bytes xs ∙ ap (map of_byte) same ∙ sym (of_bytes ys))
     ∙ lens_viewed f (λ g. refl) ys
@@ -112,7 +110,7 @@ joined_long (p ∷ ps) (q ∷ qs) same (suc k) =
     ∙ sym (length-append q (flat_map (λ q. q) (take k qs)))
 
 -- pieces as long as others, whose texts look the same
-pub pieces_by_lens : (view : hb_glyph_info_t → hb_glyph_info_t) (ps qs : List Glyphs) → lens ps ≡ lens qs
+pub pieces_by_lens : (view : Glyph → Glyph) (ps qs : List Glyphs) → lens ps ≡ lens qs
     → map view (flat_map (λ q. q) ps) ≡ map view (flat_map (λ q. q) qs) → map (map view) ps ≡ map (map view) qs
 pieces_by_lens view [] [] long same = refl
 pieces_by_lens view [] (q ∷ qs) long same = absurd (omega (arith, ap length long))
@@ -149,30 +147,11 @@ bytes-seen [] = refl
 bytes-seen (g ∷ gs) = ap (λ bs. g.syllable ∷ bs) (bytes-seen gs)
 
 all_of : (byte : ℕ) (gs : Glyphs) → All (λ b. b ≡ byte) (bytes gs) → All (λ g. g.syllable ≡ byte) gs
-all_of byte [] h = All-nil (λ (g : hb_glyph_info_t). g.syllable ≡ byte)
+all_of byte [] h = All-nil (λ (g : Glyph). g.syllable ≡ byte)
 all_of byte (g ∷ gs) h =
     let P : ℕ → Type 0 = λ b. b ≡ byte in
-    All-cons (λ (x : hb_glyph_info_t). x.syllable ≡ byte) g gs (All-head P g.syllable (bytes gs) h)
+    All-cons (λ (x : Glyph). x.syllable ≡ byte) g gs (All-head P g.syllable (bytes gs) h)
     (all_of byte gs (All-tail P g.syllable (bytes gs) h))
-
-byte_kept : (meaning : Glyphs → Glyphs) (steps : Glyphs → List Step) → ReorderLaws meaning steps
-    → (byte : ℕ) (gs : Glyphs) → OfByte byte gs → OfByte byte (meaning gs)
-byte_kept meaning steps laws byte gs u =
-    let P : ℕ → Type 0 = λ b. b ≡ byte in
-    let read : hb_glyph_info_t → ℕ = λ g. g.syllable in
-    let whole : text_order meaning gs ≡ meaning gs = ap (flat_map meaning) (one_run byte gs u)
-    ∙ append-nil (meaning gs) in
-    let kept : IsPermutation (seen carried gs) (seen carried (meaning gs)) =
-    subst (λ xs. IsPermutation (seen carried gs) (seen carried xs)) whole (nothing_lost meaning steps laws gs).kept in
-    let before : All P (bytes (seen carried gs)) = subst (All P) (sym (bytes-seen gs)) (All-map P read gs u.all) in
-    let after : All P (bytes (seen carried (meaning gs))) = All-permutation P (bytes (seen carried gs))
-    (bytes (seen carried (meaning gs)))
-    (IsPermutation-map read (seen carried gs) (seen carried (meaning gs)) kept) before in
-    let some = u.some in
-    record {
-      some = omega (arith, length-meaning meaning steps laws gs, some);
-      all = all_of byte (meaning gs) (subst (All P) (bytes-seen (meaning gs)) after);
-    }
 
 -- so its syllables stay as long as they were, with their circles
 lens_ordered : (meaning : Glyphs → Glyphs) (steps : Glyphs → List Step) → ReorderLaws meaning steps
@@ -180,7 +159,7 @@ lens_ordered : (meaning : Glyphs → Glyphs) (steps : Glyphs → List Step) → 
     ≡ lens (syllables (circled circles gs))
 lens_ordered meaning steps laws circles gs =
     let xs = circled circles gs in
-    ap lens (syllables-mapped meaning (byte_kept meaning steps laws) (order_view xs))
+    ap lens (syllables-mapped meaning (kept_byte meaning steps laws) (order_view xs))
     ∙ lens_kept meaning (length-meaning meaning steps laws) (syllables (order_view xs))
     ∙ lens_viewed plain (λ g. refl) xs
 

@@ -10,7 +10,7 @@ use Rattle.std.specs.Int.Bits.{bit_or}
 use Rattle.shapers_base.specs.Font.{Font}
 use Rattle.shapers_base.specs.declared.plan.hb_ot_shape_plan_t.{hb_ot_shape_plan_t}
 use Rattle.shapers_buffer.specs.declared.buffer.glyph.GlyphPosition.{GlyphPosition}
-use Rattle.shapers_buffer.specs.declared.buffer.glyph.hb_glyph_info_t.{hb_glyph_info_t}
+use Rattle.shapers_buffer.specs.Glyphs.{Glyph, Glyphs}
 use Rattle.shapers_buffer.specs.declared.buffer.level.BufferClusterLevel.TheVariants.{MonotoneGraphemes}
 use Rattle.shapers_buffer.specs.Buffer.{Buffer}
 use Rattle.shapers_buffer.specs.Glyph.{clusters}
@@ -82,7 +82,7 @@ record FlaggedSeam (how : Laying) (r : Bool) (us vs : List Cell) : Type 0 where
   least : ℕ
   low_a : least ≤ a.0.cluster
   low_b : least ≤ b.0.cluster
-  shown : (test : hb_glyph_info_t → Bool) → NoneOf test (turned how r (us ++ vs))
+  shown : (test : Glyph → Bool) → NoneOf test (turned how r (us ++ vs))
       → (test (with_bits_off 3 least a.0) ≡ false) × (test (with_bits_off 3 least b.0) ≡ false)
 
 turned_seam : (how : Laying) (us vs : List Cell) → InsideRun how (reverse vs) (reverse us) → FlaggedSeam how false us vs
@@ -133,7 +133,7 @@ cut_cells how false us vs some behind =
 abbrev of_cells : List Cell → List ℕ
 of_cells cs = map (λ c. c.0.cluster) cs
 
-zipped : (gs : List hb_glyph_info_t) (ps : List GlyphPosition) → length ps ≡ length gs → of_cells (zip gs ps)
+zipped : (gs : Glyphs) (ps : List GlyphPosition) → length ps ≡ length gs → of_cells (zip gs ps)
     ≡ clusters gs
 zipped [] ps same = refl
 zipped (g ∷ gs) [] same = absurd (omega (arith, same))
@@ -153,16 +153,16 @@ three mask =
     let below : bit_at 0 mask ≤ 1 = omega arith in
     omega (arith, bit_at_or mask 3 0, set, below)
 
-above : (m c : ℕ) (g : hb_glyph_info_t) → m < g.cluster → g.cluster ≡ c
+above : (m c : ℕ) (g : Glyph) → m < g.cluster → g.cluster ≡ c
     → ((with_bits_off 3 m g).cluster == c && is_unsafe (with_bits_off 3 m g)) ≡ true
 above m c g more is =
-    elim (g.cluster == m) as (λ b. (g.cluster == m) ≡ b → ((let h : hb_glyph_info_t = cond b g (with_bits 3 g) in
+    elim (g.cluster == m) as (λ b. (g.cluster == m) ≡ b → ((let h : Glyph = cond b g (with_bits 3 g) in
     h.cluster == c && is_unsafe h)) ≡ true) [
       | true ↦ λ e. absurd (omega (arith, eqb-true g.cluster m e, more))
       | false ↦ λ e. and_from _ _ (eq-eqb g.cluster c is) (unsafe-from (with_bits 3 g) (three g.mask))
     ] refl
 
-none_of : (test : hb_glyph_info_t → Bool) (cs : List Cell) → list_any test (glyphs_of cs) ≡ false → NoneOf test cs
+none_of : (test : Glyph → Bool) (cs : List Cell) → list_any test (glyphs_of cs) ≡ false → NoneOf test cs
 none_of test [] none = tt
 none_of test (c ∷ cs) none = let (first, rest) = or_parts _ _ none in (first, none_of test cs rest)
 
@@ -184,12 +184,12 @@ flagged_seam how r us vs s c differ greatest none =
     ]
 
 -- THE BUFFER
-copied_clusters : (olds news : List hb_glyph_info_t) → AreCopies olds news
+copied_clusters : (olds news : Glyphs) → AreCopies olds news
     → All (Contains (clusters olds)) (clusters news)
 copied_clusters olds [] k = All-nil (Contains (clusters olds))
 copied_clusters olds (new ∷ news) k =
     let there : Contains (clusters olds) k.0.0.cluster =
-    Contains-map (λ (g : hb_glyph_info_t). g.cluster) olds k.0.0 k.0.1.0 in
+    Contains-map (λ (g : Glyph). g.cluster) olds k.0.0 k.0.1.0 in
     All-cons (Contains (clusters olds)) new.cluster (clusters news)
     (subst (Contains (clusters olds)) (sym k.0.1.1.same) there) (copied_clusters olds news k.1)
 
@@ -212,7 +212,7 @@ arabic_breaks : (plan : hb_ot_shape_plan_t) (font : Font) (old new : Buffer) →
     → p < length new.glyphs → IsClear new.glyphs p
     → TextBroken (Postprocessed Arabic plan font) JoinsPositions old new p
 arabic_breaks plan font old new both mono marked is p z l clear =
-    let cluster : hb_glyph_info_t → ℕ = λ g. g.cluster in
+    let cluster : Glyph → ℕ = λ g. g.cluster in
     let choice = start_of plan.plan_data in
     let gs = old.glyphs in
     let ps = old.positions in
@@ -244,7 +244,7 @@ arabic_breaks plan font old new both mono marked is p z l clear =
     ) in
     let now = cells_made plan font old new marked is in
     let c = greater new.glyphs p in
-    let test : hb_glyph_info_t → Bool = λ g. g.cluster == c && is_unsafe g in
+    let test : Glyph → Bool = λ g. g.cluster == c && is_unsafe g in
     let none : NoneOf test (turned how r (us ++ vs)) =
     subst (λ cs. NoneOf test (turned how r cs)) text
     (none_of test (stretched_cells font choice old) (ap (list_any test) (sym now.0) ∙ clear.unflagged)) in

@@ -6,7 +6,7 @@ use Rattle.std.specs.List.{AllByRecursion, flat_map, list_all, suffix_len}
 use Rattle.std.proofs.lemmas.Bool.{and_from, and_parts, cases_lt, lt-ltb, not-true}
 use Rattle.std.proofs.lemmas.List.{append-nil, append_assoc, length-map, map-append, reverse-reverse, take_at}
 use Rattle.std.proofs.lemmas.List.Folds.{list_all-append}
-use Rattle.shapers_buffer.specs.declared.buffer.glyph.hb_glyph_info_t.{hb_glyph_info_t}
+use Rattle.shapers_buffer.specs.Glyphs.{Glyph, Glyphs}
 use Rattle.shapers_buffer.specs.Clusters.{least}
 use Rattle.shapers_buffer.specs.Glyph.{clusters}
 use Rattle.shapers_buffer.specs.GlyphFlags.{with_bits_off}
@@ -194,17 +194,17 @@ made_with_run how before word tiles os ts some stops passes =
 
 -- WHAT SHOWS OF FLAGGED CELLS
 -- the glyphs of cells fail a test
-abbrev pub NoneOf : (hb_glyph_info_t → Bool) → List Cell → Type 0
+abbrev pub NoneOf : (Glyph → Bool) → List Cell → Type 0
 NoneOf test cs = AllByRecursion (λ c. test c.0 ≡ false) cs
 
-laid_shows : (test : hb_glyph_info_t → Bool) (right_to_left : Bool) (from : ℤ) (before cs : List Copy)
+laid_shows : (test : Glyph → Bool) (right_to_left : Bool) (from : ℤ) (before cs : List Copy)
     → NoneOf test (map (λ p. laid_at (offset right_to_left from p.0 p.1) p.1.tile) (each_after before cs))
     → AllByRecursion (λ copy. test copy.tile.0 ≡ false) cs
 laid_shows test right_to_left from before [] all = tt
 laid_shows test right_to_left from before (c ∷ cs) all =
     (all.0, laid_shows test right_to_left from (before ++ c ∷ []) cs all.1)
 
-copies_show : (test : hb_glyph_info_t → Bool) (font : Font) (ps : List GlyphPosition) (ms : List hb_glyph_info_t)
+copies_show : (test : Glyph → Bool) (font : Font) (ps : List GlyphPosition) (ms : Glyphs)
     (ts : List Cell) → AllByRecursion (λ (copy : Copy). test copy.tile.0 ≡ false) (flat_map (copies_of font
     (measured font ps ms)) ts) → NoneOf test ts
 copies_show test font ps ms [] all = tt
@@ -214,7 +214,7 @@ copies_show test font ps ms (t ∷ ts) all =
     (flat_map (copies_of font z) ts) all in
     (first.0, copies_show test font ps ms ts second)
 
-run_shows : (test : hb_glyph_info_t → Bool) (how : Laying) (ps : List GlyphPosition) (ms : List hb_glyph_info_t)
+run_shows : (test : Glyph → Bool) (how : Laying) (ps : List GlyphPosition) (ms : Glyphs)
     (ts : List Cell) → NoneOf test (reverse (laid_run how (measured how.font ps ms) ts)) → NoneOf test ts
 run_shows test how ps ms ts all =
     let z = measured how.font ps ms in
@@ -223,7 +223,7 @@ run_shows test how ps ms ts all =
     (laid_shows test how.right_to_left (start how.choice how.right_to_left z) [] (copies how.font z ts)
     (all_back (λ c. test c.0 ≡ false) (laid_run how z ts) all)))
 
-over_shows : (test : hb_glyph_info_t → Bool) (how : Laying) (ps : List GlyphPosition) (ms : List hb_glyph_info_t)
+over_shows : (test : Glyph → Bool) (how : Laying) (ps : List GlyphPosition) (ms : Glyphs)
     (word tiles : List Cell) → NoneOf test (stretched_over how (measured how.font ps ms) word tiles)
     → NoneOf test (map (flag_cell (least (clusters (glyphs_of (word ++ tiles))))) (word ++ tiles))
 over_shows test how ps ms word tiles all =
@@ -251,7 +251,7 @@ pub record InsideRun (how : Laying) (xs ys : List Cell) : Type 0 where
   pub least : ℕ
   pub low_a : least ≤ a.0.cluster
   pub low_b : least ≤ b.0.cluster
-  pub shown : (test : hb_glyph_info_t → Bool) → NoneOf test (stretched how (xs ++ ys))
+  pub shown : (test : Glyph → Bool) → NoneOf test (stretched how (xs ++ ys))
       → (test (with_bits_off 3 least a.0) ≡ false) × (test (with_bits_off 3 least b.0) ≡ false)
 
 least_of : (cs : List Cell) (front : List Cell) (c : Cell) (back : List Cell) → cs ≡ front ++ c ∷ back
@@ -261,7 +261,7 @@ least_of cs front c back is =
     let inside : length front < length (clusters (glyphs_of (front ++ c ∷ back))) =
     omega (
       arith,
-      length-map (glyphs_of (front ++ c ∷ back)) (λ (g : hb_glyph_info_t). g.cluster),
+      length-map (glyphs_of (front ++ c ∷ back)) (λ (g : Glyph). g.cluster),
       length-map (front ++ c ∷ back) (λ (d : Cell). d.0),
       length-append front (c ∷ back),
     ) in

@@ -7,7 +7,7 @@ use Rattle.shapers_buffer.specs.Buffer.{Buffer}
 use Rattle.shapers_buffer.specs.Clusters.{merges}
 use Rattle.shapers_buffer.specs.Glyph.{clusters, order_view, plain}
 use Rattle.shapers_buffer.specs.Syllables.{spans_cover}
-use Rattle.shapers_buffer.specs.declared.buffer.glyph.hb_glyph_info_t.{hb_glyph_info_t}
+use Rattle.shapers_buffer.specs.Glyphs.{Glyph, Glyphs}
 use Rattle.shapers_buffer.specs.declared.buffer.level.BufferClusterLevel.{BufferClusterLevel}
 use Rattle.shapers_buffer.specs.declared.buffer.syllables.Span.{Span}
 use Rattle.shapers_indic.specs.Plan.{indic_in}
@@ -35,13 +35,12 @@ use Rattle.shapers_breaks.proofs.HookPieces.{within_parts}
 use Rattle.shapers_breaks.proofs.IndicBreaks.{initial_text_breaks}
 use Rattle.shapers_breaks.proofs.KeptTextBreaks.{text_breaks}
 use Rattle.shapers_breaks.proofs.Pieces.{behind_pieces}
-use Rattle.shapers_breaks.proofs.SetUp.{Glyphs}
 use Rattle.shapers_breaks.proofs.SideBySide.{combined, long_carried, seen_whole, text_is, text_same}
 
 -- texts that are the same but for serials
 same_clusters_too : (gs hs : Glyphs) → map unnumbered gs ≡ map unnumbered hs → clusters gs ≡ clusters hs
-same_clusters_too gs hs same = sym (map-map (λ (g : hb_glyph_info_t). g.cluster) unnumbered gs) ∙ ap clusters same
-    ∙ map-map (λ (g : hb_glyph_info_t). g.cluster) unnumbered hs
+same_clusters_too gs hs same = sym (map-map (λ (g : Glyph). g.cluster) unnumbered gs) ∙ ap clusters same
+    ∙ map-map (λ (g : Glyph). g.cluster) unnumbered hs
 
 but_serials : (gs hs : Glyphs) → SameButSerials gs hs → SameButFlags gs hs
 but_serials gs hs same = (same-view gs hs same, same_clusters_too gs hs (same_text gs hs same))
@@ -80,7 +79,7 @@ parts_of r laws level old new front back parts broken =
     )
 
 -- a text whose masks were set glyph by glyph, cut where these are
-record CutMasked (c : hb_glyph_info_t → hb_glyph_info_t) (gs : Glyphs) (front back : List Span)
+record CutMasked (c : Glyph → Glyph) (gs : Glyphs) (front back : List Span)
     (before behind : Glyphs) :
     Type 0 where
   first_glyphs : Glyphs
@@ -89,7 +88,7 @@ record CutMasked (c : hb_glyph_info_t → hb_glyph_info_t) (gs : Glyphs) (front 
   second_is : map c second_glyphs ≡ behind
   glyphs : gs ≡ first_glyphs ++ second_glyphs
 
-cut_masked : (c : hb_glyph_info_t → hb_glyph_info_t) (gs : Glyphs) (front back : List Span) (before behind : Glyphs)
+cut_masked : (c : Glyph → Glyph) (gs : Glyphs) (front back : List Span) (before behind : Glyphs)
     → map c gs ≡ before ++ behind → CutMasked c gs front back before behind
 cut_masked c gs front back before behind text =
     let n = length before in
@@ -102,13 +101,13 @@ cut_masked c gs front back before behind text =
     }
 
 -- THE CHAIN up to its reordering
-abbrev Reorders : Reordering → (hb_glyph_info_t → hb_glyph_info_t) → (Glyphs → Glyphs) → Buffer → SpannedText → Glyphs
+abbrev Reorders : Reordering → (Glyph → Glyph) → (Glyphs → Glyphs) → Buffer → SpannedText → Glyphs
     → Type 0
 Reorders r c lookups between piece made = (one : Buffer)
     → Reordered r (record between { glyphs = lookups (unsafe_spans piece.spans (map c piece.glyphs)) }) one
     → SameButFlags one.glyphs made
 
-record IsChain (c : hb_glyph_info_t → hb_glyph_info_t) (broken_kind : ℕ) (r : Reordering) (lookups : Glyphs → Glyphs)
+record IsChain (c : Glyph → Glyph) (broken_kind : ℕ) (r : Reordering) (lookups : Glyphs → Glyphs)
     (spans : List Span) (old masked mid between reordered : Buffer) : Type 0 where
   keeps : (gs : Glyphs) → clusters (map c gs) ≡ clusters gs
   masks : masked.glyphs ≡ map c old.glyphs
@@ -119,7 +118,7 @@ record IsChain (c : hb_glyph_info_t → hb_glyph_info_t) (broken_kind : ℕ) (r 
   reads : ReadsNoSerials r.order r.steps
   breaks : KeptTextBreaks r.circles r.order r.steps between.level between.glyphs reordered.glyphs
 
-chain_pieces : (c : hb_glyph_info_t → hb_glyph_info_t) (broken_kind : ℕ) (r : Reordering) (lookups : Glyphs → Glyphs)
+chain_pieces : (c : Glyph → Glyph) (broken_kind : ℕ) (r : Reordering) (lookups : Glyphs → Glyphs)
     (spans : List Span) (old masked mid between reordered : Buffer)
     → IsChain c broken_kind r lookups spans old masked mid between reordered
     → BreaksWhereCleared SpannedText CutAtSpans (Reorders r c lookups between)
@@ -169,7 +168,7 @@ chain_pieces c broken_kind r lookups spans old masked mid between reordered is f
     }
 
 -- and what stands behind it
-all_behind : (c : hb_glyph_info_t → hb_glyph_info_t) (broken_kind : ℕ) (r : Reordering)
+all_behind : (c : Glyph → Glyph) (broken_kind : ℕ) (r : Reordering)
     (lookups behind : Glyphs → Glyphs)
     (spans : List Span) (old masked mid between reordered new : Buffer)
     → IsChain c broken_kind r lookups spans old masked mid between reordered → LeavesPieces behind reordered.glyphs
@@ -190,8 +189,8 @@ merging_still spans broken_kind lookups masked mid between spanned set_up looked
     ap merges (looked.level ∙ ap (λ (b : Buffer). b.level) set_up) ∙ spanned.merging
 
 -- clusters through a change of each glyph
-clusters-changed : (change : hb_glyph_info_t → hb_glyph_info_t)
-    → ((g : hb_glyph_info_t) → (change g).cluster ≡ g.cluster) → (gs : Glyphs) → clusters (map change gs) ≡ clusters gs
+clusters-changed : (change : Glyph → Glyph)
+    → ((g : Glyph) → (change g).cluster ≡ g.cluster) → (gs : Glyphs) → clusters (map change gs) ≡ clusters gs
 clusters-changed change stay [] = refl
 clusters-changed change stay (g ∷ gs) = ap (λ c. c ∷ clusters (map change gs)) (stay g)
     ∙ ap (λ cs. g.cluster ∷ cs) (clusters-changed change stay gs)

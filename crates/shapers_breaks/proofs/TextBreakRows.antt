@@ -11,7 +11,7 @@ use Rattle.shapers_buffer.specs.declared.buffer.category.hb_unicode_general_cate
 use Rattle.shapers_buffer.specs.declared.buffer.category.hb_unicode_general_category_t.TheVariants.{Lo, Zs}
 use Rattle.shapers_buffer.specs.declared.buffer.level.Direction.TheVariants.{RightToLeft}
 use Rattle.shapers_buffer.specs.declared.buffer.glyph.GlyphPosition.{GlyphPosition}
-use Rattle.shapers_buffer.specs.declared.buffer.glyph.hb_glyph_info_t.{hb_glyph_info_t}
+use Rattle.shapers_buffer.specs.Glyphs.{Glyph, Glyphs}
 use Rattle.shapers_buffer.specs.declared.buffer.level.BufferClusterLevel.TheVariants.{Characters, MonotoneCharacters, MonotoneGraphemes}
 use Rattle.shapers_buffer.specs.Buffer.{Buffer, new_buffer}
 use Rattle.shapers_buffer.specs.Glyph.{characters, clusters, default_glyph, default_position}
@@ -24,12 +24,12 @@ use Rattle.shapers_breaks.specs.HangulBreaks.{NarrowTonesJoin}
 use Rattle.shapers_breaks.specs.TextBreaks.{IsClusterBorder, back_half, front_half}
 use Rattle.shapers_breaks.specs.ThaiBreaks.{ThaiMarksJoin, sara_ams_taken}
 
-abbrev glyph : ℕ → ℕ → hb_glyph_info_t
+abbrev glyph : ℕ → ℕ → Glyph
 glyph u c = record default_glyph { glyph_id = u; cluster = c }
 
 -- THAI. 0E14 0E34 0E48 0E33: NIKHAHIT goes before both marks, and with them all is one cluster; the border before them
 -- stays
-abbrev marked : List hb_glyph_info_t
+abbrev marked : Glyphs
 marked = sara_ams_taken MonotoneCharacters (glyph 0x0E14 0 ∷ glyph 0x0E34 1 ∷ glyph 0x0E48 2 ∷ glyph 0x0E33 3 ∷ [])
 
 row_marked : characters marked ≡ 0x0E14 ∷ 0x0E4D ∷ 0x0E34 ∷ 0x0E48 ∷ 0x0E32 ∷ []
@@ -46,7 +46,7 @@ row_marked_halves : marked ≡ sara_ams_taken MonotoneCharacters (glyph 0x0E14 0
 row_marked_halves = refl
 
 -- without a mark, by characters: a border before SARA AM; by graphemes there is none
-abbrev bare : List hb_glyph_info_t
+abbrev bare : Glyphs
 bare = glyph 0x0E19 0 ∷ glyph 0x0E33 1 ∷ []
 
 row_bare : clusters (sara_ams_taken MonotoneCharacters bare) ≡ 0 ∷ 1 ∷ 1 ∷ []
@@ -60,7 +60,7 @@ row_bare_graphemes : clusters (sara_ams_taken MonotoneGraphemes bare) ≡ 0 ∷ 
 row_bare_graphemes = refl
 
 -- where nothing merges a border may fall between NIKHAHIT and the mark that it passed
-abbrev unmerged : List hb_glyph_info_t
+abbrev unmerged : Glyphs
 unmerged = sara_ams_taken Characters (glyph 0x0E49 0 ∷ glyph 0x0E33 1 ∷ [])
 
 row_unmerged : clusters unmerged ≡ 1 ∷ 0 ∷ 1 ∷ []
@@ -74,7 +74,7 @@ row_unmerged_whole : characters unmerged ≡ 0x0E4D ∷ 0x0E49 ∷ 0x0E32 ∷ []
 row_unmerged_whole = refl
 
 -- private use forms: a mark in a cluster of its own
-abbrev formed : List hb_glyph_info_t → List hb_glyph_info_t
+abbrev formed : Glyphs → Glyphs
 formed gs = preprocessed_text true (λ u. u == 0xF710 || u == 0xF711) MonotoneCharacters gs
 
 row_form : characters (formed (glyph 0x0E1B 0 ∷ glyph 0x0E31 1 ∷ [])) ≡ 0x0E1B ∷ 0xF710 ∷ []
@@ -84,7 +84,7 @@ row_form_halves : characters (formed (glyph 0x0E1B 0 ∷ []) ++ formed (glyph 0x
 row_form_halves = refl
 
 -- no glyph of it is flagged
-row_form_masks : map (λ (g : hb_glyph_info_t). g.mask) (formed (glyph 0x0E1B 0 ∷ glyph 0x0E31 1 ∷ [])) ≡ 0 ∷ 0 ∷ []
+row_form_masks : map (λ (g : Glyph). g.mask) (formed (glyph 0x0E1B 0 ∷ glyph 0x0E31 1 ∷ [])) ≡ 0 ∷ 0 ∷ []
 row_form_masks = refl
 
 row_form_apart : ThaiMarksJoin (sara_ams_taken MonotoneCharacters (glyph 0x0E1B 0 ∷ glyph 0x0E31 1 ∷ [])) → ⊥
@@ -99,10 +99,10 @@ row_nikhahit_halves : characters (formed (glyph 0x0E1B 0 ∷ []) ++ formed (glyp
 row_nikhahit_halves = refl
 
 -- with Sound the glyph of the greater cluster is flagged, so the place before the mark isn't clear
-abbrev soundly : List hb_glyph_info_t → List hb_glyph_info_t
+abbrev soundly : Glyphs → Glyphs
 soundly gs = preprocessed_flagged Sound true (λ u. u == 0xF710 || u == 0xF711) MonotoneCharacters gs
 
-abbrev masks : List hb_glyph_info_t → List ℕ
+abbrev masks : Glyphs → List ℕ
 masks gs = map (λ g. g.mask) gs
 
 row_clear_as_code : IsClear (formed (glyph 0x0E1B 0 ∷ glyph 0x0E31 1 ∷ [])) 1
@@ -129,7 +129,7 @@ row_sound_no_base : masks (soundly (glyph 0x0E31 0 ∷ glyph 0x0E31 1 ∷ [])) �
 row_sound_no_base = refl
 
 -- before the next letter the place stays clear, and the halves are the whole
-abbrev two_letters : List hb_glyph_info_t
+abbrev two_letters : Glyphs
 two_letters = glyph 0x0E1B 0 ∷ glyph 0x0E31 1 ∷ glyph 0x0E1B 2 ∷ []
 
 row_clear_soundly : IsClear (soundly two_letters) 2
@@ -150,7 +150,7 @@ font_of us advance = record {
 abbrev old_font : Font
 old_font = font_of (0xAC00 ∷ 0x1100 ∷ 0x1161 ∷ []) (pos 500)
 
-abbrev old_t : List hb_glyph_info_t
+abbrev old_t : Glyphs
 old_t = glyph 0xAC00 0 ∷ glyph 0x11C3 1 ∷ []
 
 row_old_t : characters (preprocessed old_font true MonotoneCharacters old_t) ≡ 0x1100 ∷ 0x1161 ∷ 0x11C3 ∷ []
@@ -193,24 +193,24 @@ row_wide : clusters (preprocessed wide_font true MonotoneGraphemes (glyph 0xAC00
 row_wide = refl
 
 -- with all flags of `Sound` neither place is clear, by characters: the greater cluster is flagged
-abbrev sounded : Font → List hb_glyph_info_t → List hb_glyph_info_t
+abbrev sounded : Font → Glyphs → Glyphs
 sounded font gs = text_rewritten Sound font true MonotoneCharacters gs
 
-row_old_t_flags : map (λ (g : hb_glyph_info_t). g.mask) (sounded old_font old_t) ≡ 0 ∷ 0 ∷ 3 ∷ []
+row_old_t_flags : map (λ (g : Glyph). g.mask) (sounded old_font old_t) ≡ 0 ∷ 0 ∷ 3 ∷ []
 row_old_t_flags = refl
 
-row_old_t_flags_as_code : map (λ (g : hb_glyph_info_t). g.mask)
+row_old_t_flags_as_code : map (λ (g : Glyph). g.mask)
     (text_rewritten BreakFlags.AsCode old_font true MonotoneCharacters old_t) ≡ 0 ∷ 0 ∷ 0 ∷ []
 row_old_t_flags_as_code = refl
 
 row_old_t_unclear : IsClear (sounded old_font old_t) 2 → ⊥
 row_old_t_unclear clear = absurd (false≢true (sym clear.unflagged))
 
-row_tone_flags : map (λ (g : hb_glyph_info_t). g.mask) (sounded narrow_font (glyph 0xAC00 0 ∷ glyph 0x302E 1 ∷ []))
+row_tone_flags : map (λ (g : Glyph). g.mask) (sounded narrow_font (glyph 0xAC00 0 ∷ glyph 0x302E 1 ∷ []))
     ≡ 0 ∷ 3 ∷ []
 row_tone_flags = refl
 
-row_tone_flags_falling : map (λ (g : hb_glyph_info_t). g.mask)
+row_tone_flags_falling : map (λ (g : Glyph). g.mask)
     (sounded narrow_font (glyph 0xAC00 1 ∷ glyph 0x302E 0 ∷ [])) ≡ 3 ∷ 0 ∷ []
 row_tone_flags_falling = refl
 
@@ -222,7 +222,7 @@ row_syllables_clear : IsClear (sounded narrow_font (glyph 0xAC00 0 ∷ glyph 0xA
 row_syllables_clear = record { differ = λ e. absurd (omega (arith, e)); unflagged = refl }
 
 -- STRETCH. A space, a letter of 140 and a fixed tile of 100
-abbrev drawn : ℕ → ℕ → hb_unicode_general_category_t → ℕ → hb_glyph_info_t
+abbrev drawn : ℕ → ℕ → hb_unicode_general_category_t → ℕ → Glyph
 drawn n c category action =
     record default_glyph { glyph_id = n; cluster = c; unicode_props = properties category 0; auxiliary = action }
 
@@ -257,11 +257,11 @@ unfolding general_category
 row_line_halves = refl
 
 -- between letter and tile the greater cluster is flagged, and a break there would move the tile
-row_rising : map (λ (g : hb_glyph_info_t). g.mask) (stretched_line (line 1 2)).glyphs ≡ 0 ∷ 0 ∷ 3 ∷ []
+row_rising : map (λ (g : Glyph). g.mask) (stretched_line (line 1 2)).glyphs ≡ 0 ∷ 0 ∷ 3 ∷ []
 unfolding general_category
 row_rising = refl
 
-row_falling : map (λ (g : hb_glyph_info_t). g.mask) (stretched_line (line 2 1)).glyphs ≡ 0 ∷ 3 ∷ 0 ∷ []
+row_falling : map (λ (g : Glyph). g.mask) (stretched_line (line 2 1)).glyphs ≡ 0 ∷ 3 ∷ 0 ∷ []
 unfolding general_category
 row_falling = refl
 

@@ -2,7 +2,7 @@
 use Rattle.std.proofs.Common.{ℕ, ◌<◌, ◌≡◌, List, ◌++◌, length, take, drop, sym, ap, ◌∙◌, arith}
 use Rattle.std.specs.List.{All, Contains}
 use Rattle.std.proofs.lemmas.List.{length-map, length-take-le, map-append, take-append-drop}
-use Rattle.shapers_buffer.specs.declared.buffer.glyph.hb_glyph_info_t.{hb_glyph_info_t}
+use Rattle.shapers_buffer.specs.Glyphs.{Glyph}
 use Rattle.shapers_buffer.specs.Buffer.{Buffer}
 use Rattle.shapers_buffer.specs.Glyph.{clusters}
 use Rattle.shapers_clusters.specs.Cuts.{IsMonotone, ShareNone}
@@ -19,7 +19,7 @@ pub broken_text : (hook : Buffer → Buffer → Type 0) (Joins : Buffer → Buff
     → hook (front_half at.place old) one → hook (back_half at.place old) two → Joins one two new)
     → TextBroken hook Joins old new p
 broken_text hook Joins old new sts p mono made in_clusters at whole =
-    let cluster : hb_glyph_info_t → ℕ = λ g. g.cluster in
+    let cluster : Glyph → ℕ = λ g. g.cluster in
     let gs = old.glyphs in
     let q = at.place in
     let xs = take q gs in

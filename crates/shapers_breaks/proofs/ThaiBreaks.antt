@@ -1,11 +1,11 @@
 -- A Thai or Lao text whose SARA AMs were taken in two may be broken wherever two clusters meet.
-use Rattle.std.proofs.Common.{ℕ, ◌-◌, ◌<◌, ◌≡◌, ◌≢◌, Bool, true, false, List, [], ◌∷◌, ◌++◌, length, get_or, take, drop, sym, ap, ◌∙◌, subst, arith, inl, inr}
+use Rattle.std.proofs.Common.{ℕ, ◌-◌, ◌<◌, ◌≡◌, ◌≢◌, Bool, true, false, [], ◌∷◌, ◌++◌, length, get_or, take, drop, sym, ap, ◌∙◌, subst, arith, inl, inr}
 use Rattle.std.specs.List.{All, Contains}
 use Rattle.std.proofs.lemmas.Bool.{false_from_ne_true}
 use Rattle.std.proofs.lemmas.List.{get_or-append_right, length-append, length-map, length-take-le, map-append, take-append-drop}
 use Rattle.shapers_base.specs.Font.{Font, has_nominal}
 use Rattle.shapers_base.specs.declared.plan.hb_ot_shape_plan_t.{hb_ot_shape_plan_t}
-use Rattle.shapers_buffer.specs.declared.buffer.glyph.hb_glyph_info_t.{hb_glyph_info_t}
+use Rattle.shapers_buffer.specs.Glyphs.{Glyph, Glyphs}
 use Rattle.shapers_buffer.specs.declared.buffer.level.BufferClusterLevel.{BufferClusterLevel}
 use Rattle.shapers_buffer.specs.Buffer.{Buffer}
 use Rattle.shapers_buffer.specs.Clusters.{merges}
@@ -29,18 +29,18 @@ use Rattle.shapers_breaks.proofs.SaraAmHalves.{two_halves}
 use Rattle.shapers_breaks.proofs.TextBreaks.{broken_text}
 
 -- a list of clusters that is made of SARA AMs taken in two
-clusters_in_order : (level : BufferClusterLevel) → merges level ≡ true → (gs : List hb_glyph_info_t)
+clusters_in_order : (level : BufferClusterLevel) → merges level ≡ true → (gs : Glyphs)
     → IsMonotone (clusters gs) → InOneOrder (clusters gs) (clusters (sara_ams_taken level gs))
 clusters_in_order level m gs mono =
     let stays = thai_monotone level m gs (clusters (sara_ams_taken level gs)) (in_two_holds level gs).in_clusters.made in
     elim mono [ inl up ↦ inl (up, stays.0 up) | inr down ↦ inr (down, stays.1 down) ]
 
-pub two_unheld : (level : BufferClusterLevel) → merges level ≡ true → (gs : List hb_glyph_info_t)
+pub two_unheld : (level : BufferClusterLevel) → merges level ≡ true → (gs : Glyphs)
     → IsMonotone (clusters gs) → (p : ℕ) → 0 < p → p < length (sara_ams_taken level gs)
     → IsClusterBorder (sara_ams_taken level gs) p
     → UnheldAt (clusters gs) (sara_am_stretches level (characters gs)) (clusters (sara_ams_taken level gs)) p
 two_unheld level m gs mono p z l differ =
-    let cluster : hb_glyph_info_t → ℕ = λ g. g.cluster in
+    let cluster : Glyph → ℕ = λ g. g.cluster in
     let sts = sara_am_stretches level (characters gs) in
     let ms = sara_ams_taken level gs in
     let sources = sara_am_sources (characters gs) in
@@ -59,7 +59,7 @@ two_of plan font none b c is = ap (λ (d : Buffer). d.glyphs) is
     ∙ ap (λ f. preprocessed_flagged plan.break_flags f (has_nominal font) b.level b.glyphs) none
 
 -- cut where no stretch holds both sides
-pub two_cut : (level : BufferClusterLevel) (gs : List hb_glyph_info_t) (q : ℕ) → 0 < q → q < length gs
+pub two_cut : (level : BufferClusterLevel) (gs : Glyphs) (q : ℕ) → 0 < q → q < length gs
     → ShareNone (take q gs) (drop q gs) → held (sara_am_stretches level (characters gs)) q ≡ false
     → sara_ams_taken level gs ≡ sara_ams_taken level (take q gs) ++ sara_ams_taken level (drop q gs)
 two_cut level gs q some within apart free =
@@ -84,9 +84,9 @@ sara_ams_break plan font old new none m mono is p z l differ =
     broken_text (Preprocessed Thai plan font) JoinsGlyphs old new (sara_am_stretches level (characters gs)) p mono
     (λ b c own. subst (λ ms. All (Contains (clusters b.glyphs)) (clusters ms)) (sym (two_of plan font none b c own))
     (in_two_holds b.level b.glyphs).in_clusters.made.old_clusters)
-    (λ one two joined. ap clusters joined ∙ map-append (λ (g : hb_glyph_info_t). g.cluster) one.glyphs two.glyphs)
+    (λ one two joined. ap clusters joined ∙ map-append (λ (g : Glyph). g.cluster) one.glyphs two.glyphs)
     at (λ apart one two first second. made
-    ∙ two_cut level gs at.place at.some (omega (arith, at.within, length-map gs (λ (g : hb_glyph_info_t). g.cluster)))
+    ∙ two_cut level gs at.place at.some (omega (arith, at.within, length-map gs (λ (g : Glyph). g.cluster)))
     apart at.free
     ∙ ap (λ hs. hs ++ sara_ams_taken level (drop at.place gs)) (sym (two_of plan font none (front_half at.place old) one first))
     ∙ ap (λ hs. one.glyphs ++ hs) (sym (two_of plan font none (back_half at.place old) two second)))
@@ -117,12 +117,12 @@ formed_view plan font asked b c is =
     ∙ ap (with_thai_forms has) (sym (text_view false has b.level b.glyphs))
 
 -- cut before a glyph that is no mark
-cut_before_letter : (has : ℕ → Bool) (us vs : List hb_glyph_info_t) (p : ℕ) → length us ≡ p → p < length (us ++ vs)
+cut_before_letter : (has : ℕ → Bool) (us vs : Glyphs) (p : ℕ) → length us ≡ p → p < length (us ++ vs)
     → is_thai_mark (get_or (characters (us ++ vs)) p 0) ≡ false → with_thai_forms has (order_view us ++ order_view vs)
     ≡ with_thai_forms has (order_view us) ++ with_thai_forms has (order_view vs)
 cut_before_letter has us [] p n l letter = absurd (omega (arith, n, l, length-append us []))
 cut_before_letter has us (v ∷ vs) p n l letter =
-    let character : hb_glyph_info_t → ℕ = λ g. g.glyph_id in
+    let character : Glyph → ℕ = λ g. g.glyph_id in
     let back : p - p ≡ 0 = omega arith in
     let first : get_or (characters (us ++ v ∷ vs)) p 0 ≡ v.glyph_id =
     ap (λ cs. get_or cs p 0) (map-append character us (v ∷ vs))
@@ -137,7 +137,7 @@ pub forms_broken : (plan : hb_ot_shape_plan_t) (font : Font) (old new : Buffer) 
     → is_thai_mark (get_or (characters (sara_ams_taken old.level old.glyphs)) p 0) ≡ false
     → TextBroken (Preprocessed Thai plan font) JoinsOrder old new p
 forms_broken plan font old new asked m mono is p z l differ letter =
-    let cluster : hb_glyph_info_t → ℕ = λ g. g.cluster in
+    let cluster : Glyph → ℕ = λ g. g.cluster in
     let has = has_nominal font in
     let level = old.level in
     let gs = old.glyphs in
@@ -194,8 +194,8 @@ thai_forms_break plan font old new asked m mono join is p z l differ =
       arith,
       l,
       ap length same,
-      length-map new.glyphs (λ (g : hb_glyph_info_t). g.cluster),
-      length-map ms (λ (g : hb_glyph_info_t). g.cluster),
+      length-map new.glyphs (λ (g : Glyph). g.cluster),
+      length-map ms (λ (g : Glyph). g.cluster),
     ) in
     let apart : get_or (clusters ms) (p - 1) 0 ≢ get_or (clusters ms) p 0 =
     subst (λ cs. get_or cs (p - 1) 0 ≢ get_or cs p 0) same differ in

@@ -4,7 +4,7 @@ use Rattle.std.specs.List.{AllByRecursion, list_any}
 use Rattle.std.proofs.lemmas.Bool.{and_from, both_ways, false_from_ne_true, lt-ltb, or_left, or_right}
 use Rattle.std.proofs.lemmas.List.{length-map}
 use Rattle.shapers_base.specs.Font.{has_nominal}
-use Rattle.shapers_buffer.specs.declared.buffer.glyph.hb_glyph_info_t.{hb_glyph_info_t}
+use Rattle.shapers_buffer.specs.Glyphs.{Glyph, Glyphs}
 use Rattle.shapers_buffer.specs.Glyph.{characters}
 use Rattle.shapers_buffer.specs.GlyphFlags.{FlagCall, UnsafeToBreak, flags_called, unsafe_all, unsafe_inside}
 use Rattle.shapers_buffer.specs.Lists.{each_after}
@@ -26,7 +26,7 @@ use Rattle.shapers_breaks.proofs.ThaiBreaks.{formed_clusters, formed_of, forms_b
 abbrev break_calls : List (ℕ × ℕ) → List FlagCall
 break_calls sts = map (λ st. UnsafeToBreak st.0 st.1) sts
 
-unsafe_all-calls : (sts : List (ℕ × ℕ)) (gs : List hb_glyph_info_t)
+unsafe_all-calls : (sts : List (ℕ × ℕ)) (gs : Glyphs)
     → flags_called false false (break_calls sts) gs ≡ unsafe_all sts gs
 unsafe_all-calls [] gs = refl
 unsafe_all-calls (st ∷ sts) gs = unsafe_all-calls sts (unsafe_inside st.0 st.1 gs)
@@ -43,7 +43,7 @@ forbidden_held [] p = refl
 forbidden_held (st ∷ sts) p = ap (λ b. nat_lt st.0 p && nat_lt p st.1 || b) (forbidden_held sts p)
 
 -- so no stretch holds both sides of a clear place
-clear_unheld : (sts : List (ℕ × ℕ)) (gs : List hb_glyph_info_t) (p : ℕ) → AllInOrder sts → 0 < p → p < length gs
+clear_unheld : (sts : List (ℕ × ℕ)) (gs : Glyphs) (p : ℕ) → AllInOrder sts → 0 < p → p < length gs
     → IsClear (unsafe_all sts gs) p → held sts p ≡ false
 clear_unheld sts gs p sorted z l clear =
     sym (forbidden_held sts p) ∙ clear-places false false (break_calls sts) gs p (calls_in_order sts sorted) z l
@@ -81,14 +81,14 @@ mark_held before (u ∷ us) (suc k) l mark z =
     ]
 
 -- what follows only adds flags
-formed_added : (has : ℕ → Bool) (before after : List ℕ) (gs : List hb_glyph_info_t)
+formed_added : (has : ℕ → Bool) (before after : List ℕ) (gs : Glyphs)
     → OnlyFlagsAdded gs (with_characters (forms_between has before (characters gs) after) gs)
 formed_added has before after [] = tt
 formed_added has before after (g ∷ gs) =
     let u = form_between has before g.glyph_id (characters gs ++ after) in
     (added_same g (with_character g u) refl refl, formed_added has (before ++ g.glyph_id ∷ []) after gs)
 
-forms_added : (has : ℕ → Bool) (gs : List hb_glyph_info_t) → OnlyFlagsAdded gs (pua_shaped has gs)
+forms_added : (has : ℕ → Bool) (gs : Glyphs) → OnlyFlagsAdded gs (pua_shaped has gs)
 forms_added has gs =
     let us = characters gs in
     let sts = mark_stretches us in
@@ -99,7 +99,7 @@ forms_added has gs =
     all_added_on gs flags (pua_shaped has gs) added (formed_added has [] [] flags)
 
 -- so a clear place has no mark behind it
-clear_letter : (has : ℕ → Bool) (ms : List hb_glyph_info_t) (p : ℕ) → 0 < p
+clear_letter : (has : ℕ → Bool) (ms : Glyphs) (p : ℕ) → 0 < p
     → p < length (pua_shaped has (unsafe_all (whole_mark_stretches (characters ms)) ms))
     → p < length ms → IsClear (pua_shaped has (unsafe_all (whole_mark_stretches (characters ms)) ms)) p
     → is_thai_mark (get_or (characters ms) p 0) ≡ false
@@ -109,7 +109,7 @@ clear_letter has ms p z l within clear =
     let flags = unsafe_all sts ms in
     let free = clear_unheld sts ms p (with_marks_in_order (mark_stretches us) (in_order (each_after [] us))) z within
     (added_clear flags (pua_shaped has flags) (forms_added has flags) p z l clear) in
-    let inside : p < length us = omega (arith, within, length-map ms (λ (g : hb_glyph_info_t). g.glyph_id)) in
+    let inside : p < length us = omega (arith, within, length-map ms (λ (g : Glyph). g.glyph_id)) in
     false_from_ne_true (is_thai_mark (get_or us p 0)) (λ mark. both_ways _ free
     (subst (λ k. held sts k ≡ true) (omega arith) (mark_held [] us p inside mark (omega (arith, z)))))
 
@@ -119,7 +119,7 @@ thai_sound_break plan font old new asked sound m mono is p z l clear =
     let ms = sara_ams_taken old.level old.glyphs in
     let made : new.glyphs ≡ pua_shaped has (unsafe_all (whole_mark_stretches (characters ms)) ms) =
     formed_of plan font asked old new is ∙ ap (λ b. preprocessed_flagged b true has old.level old.glyphs) sound in
-    let cluster : hb_glyph_info_t → ℕ = λ g. g.cluster in
+    let cluster : Glyph → ℕ = λ g. g.cluster in
     let same = formed_clusters plan font asked old new is in
     let long : length new.glyphs ≡ length ms = sym (length-map new.glyphs cluster) ∙ ap length same
     ∙ length-map ms cluster in

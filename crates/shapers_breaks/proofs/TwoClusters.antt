@@ -3,7 +3,7 @@ use Rattle.std.proofs.Common.{ℕ, ◌<◌, ◌≤◌, ◌≡◌, List, length, 
 use Rattle.std.specs.List.{All}
 use Rattle.std.proofs.lemmas.List.{get_or-map, length-map}
 use Rattle.std.proofs.lemmas.List.Elements.{All-from_get_or, All-get_or, AllZip-get_or}
-use Rattle.shapers_buffer.specs.declared.buffer.glyph.hb_glyph_info_t.{hb_glyph_info_t}
+use Rattle.shapers_buffer.specs.Glyphs.{Glyph, Glyphs}
 use Rattle.shapers_buffer.specs.declared.buffer.level.BufferClusterLevel.{BufferClusterLevel}
 use Rattle.shapers_buffer.specs.Clusters.{least}
 use Rattle.shapers_buffer.specs.Glyph.{clusters, default_glyph}
@@ -19,7 +19,6 @@ use Rattle.shapers_breaks.specs.FinalBreaks.{IsOfTwoClusters}
 use Rattle.shapers_breaks.specs.KeptTextBreaks.{FlaggedInside}
 use Rattle.shapers_breaks.specs.SetUp.{IsFlagged}
 use Rattle.shapers_breaks.proofs.Guarded.{IsWhole, LeastOrFlagged}
-use Rattle.shapers_breaks.proofs.SetUp.{Glyphs}
 
 -- of two clusters the greater is that of what fell to it
 greater_of_two : (b c x new old : ℕ) → (x ≡ b) ⊎ (x ≡ c) → (new ≡ b) ⊎ (new ≡ c) → (old ≡ b) ⊎ (old ≡ c) → x < new
@@ -38,16 +37,16 @@ greater_of_two b c x new old is_x is_new is_old above falls = elim is_x [
 -- what holds of all clusters, by glyphs
 of_clusters : (P : ℕ → Type 0) (gs : Glyphs) → All (λ g. P g.cluster) gs → All P (clusters gs)
 of_clusters P gs h =
-    let n = length-map gs (λ (g : hb_glyph_info_t). g.cluster) in
+    let n = length-map gs (λ (g : Glyph). g.cluster) in
     All-from_get_or P (clusters gs) 0 (λ i l.
-    subst P (sym (get_or-map (λ (g : hb_glyph_info_t). g.cluster) gs i default_glyph 0 (omega arith)))
+    subst P (sym (get_or-map (λ (g : Glyph). g.cluster) gs i default_glyph 0 (omega arith)))
     (All-get_or (λ g. P g.cluster) gs i default_glyph (omega arith) h))
 
 by_clusters : (P : ℕ → Type 0) (gs : Glyphs) → All P (clusters gs) → All (λ g. P g.cluster) gs
 by_clusters P gs h =
-    let cluster : hb_glyph_info_t → ℕ = λ g. g.cluster in
+    let cluster : Glyph → ℕ = λ g. g.cluster in
     let n = length-map gs cluster in
-    All-from_get_or (λ (g : hb_glyph_info_t). P g.cluster) gs default_glyph (λ i l.
+    All-from_get_or (λ (g : Glyph). P g.cluster) gs default_glyph (λ i l.
     subst P (get_or-map cluster gs i default_glyph 0 l) (All-get_or P (clusters gs) i 0 (omega (arith, n, l)) h))
 
 -- what holds of all clusters still does after steps
@@ -55,7 +54,7 @@ run_all : (P : ℕ → Type 0) (level : BufferClusterLevel) (steps : List Step) 
     → All (λ g. P g.cluster) q → All (λ g. P g.cluster) (run_steps level steps q)
 run_all P level steps q fits h = by_clusters P (run_steps level steps q)
     (subst (All P) (sym (steps_hold level steps q fits).clusters_are)
-    (all-joined_steps P level (length q) steps (clusters q) (length-map q (λ (g : hb_glyph_info_t). g.cluster)) fits
+    (all-joined_steps P level (length q) steps (clusters q) (length-map q (λ (g : Glyph). g.cluster)) fits
     (of_clusters P q h)).1)
 
 pub run_two : (level : BufferClusterLevel) (steps : List Step) (q : Glyphs) → FitSteps (length q) steps
@@ -71,7 +70,7 @@ run_flagged level steps q fits whole two =
     let r = run_steps level steps q in
     let m = whole.0 in
     let Two : ℕ → Type 0 = λ k. (k ≡ two.0) ⊎ (k ≡ two.1) in
-    let cluster : hb_glyph_info_t → ℕ = λ g. g.cluster in
+    let cluster : Glyph → ℕ = λ g. g.cluster in
     let hold = steps_hold level steps q fits in
     let olds = old_places (length q) steps in
     let within = within-old_places (length q) steps in
@@ -80,11 +79,11 @@ run_flagged level steps q fits whole two =
     let rn = hold.same_length in
     let cn = length-map r cluster in
     let twos = run_all Two level steps q fits two.2 in
-    let lows : All (λ (g : hb_glyph_info_t). m ≤ g.cluster) r = run_all (λ k. m ≤ k) level steps q fits
-    (All-from_get_or (λ (g : hb_glyph_info_t). m ≤ g.cluster) q d
+    let lows : All (λ (g : Glyph). m ≤ g.cluster) r = run_all (λ k. m ≤ k) level steps q fits
+    (All-from_get_or (λ (g : Glyph). m ≤ g.cluster) q d
     (λ i l. (All-get_or (LeastOrFlagged m) q i d l whole.1).0)) in
     let x = least (clusters r) in
-    All-from_get_or (λ (g : hb_glyph_info_t). x < g.cluster → IsFlagged g) r d (λ i l above.
+    All-from_get_or (λ (g : Glyph). x < g.cluster → IsFlagged g) r d (λ i l above.
     let g = get_or r i d in
     let j = get_or olds i 0 in
     let jl = within_at (length q) olds within i (omega (arith, on, rn, l)) in
@@ -96,10 +95,10 @@ run_flagged level steps q fits whole two =
     let at = least-among (clusters r) (omega (arith, cn, l)) in
     let al : at.0 < length r = omega (arith, cn, at.1) in
     let is : (get_or r at.0 d).cluster ≡ x = sym (get_or-map cluster r at.0 d 0 al) ∙ at.2 in
-    let is_x : Two x = subst Two is (All-get_or (λ (g : hb_glyph_info_t). Two g.cluster) r at.0 d al twos) in
-    let low : m ≤ x = subst (λ k. m ≤ k) is (All-get_or (λ (g : hb_glyph_info_t). m ≤ g.cluster) r at.0 d al lows) in
-    let is_g : Two g.cluster = All-get_or (λ (g : hb_glyph_info_t). Two g.cluster) r i d l twos in
-    let is_o : Two o.cluster = All-get_or (λ (g : hb_glyph_info_t). Two g.cluster) q j d jl two.2 in
+    let is_x : Two x = subst Two is (All-get_or (λ (g : Glyph). Two g.cluster) r at.0 d al twos) in
+    let low : m ≤ x = subst (λ k. m ≤ k) is (All-get_or (λ (g : Glyph). m ≤ g.cluster) r at.0 d al lows) in
+    let is_g : Two g.cluster = All-get_or (λ (g : Glyph). Two g.cluster) r i d l twos in
+    let is_o : Two o.cluster = All-get_or (λ (g : Glyph). Two g.cluster) q j d jl two.2 in
     let same = greater_of_two two.0 two.1 x g.cluster o.cluster is_x is_g is_o above f.at_most in
     let marks = f.kept same in
     let flags = (All-get_or (LeastOrFlagged m) q j d jl whole.1).1 (λ e. absurd (omega (arith, e, same, above, low))) in

@@ -5,7 +5,7 @@ use Rattle.std.specs.Prelude.{Option, None, Some}
 use Rattle.std.specs.List.{All, flat_map}
 use Rattle.std.proofs.lemmas.List.{drop-map, drop_at, length-map, length-take-le, map-append, take-append-drop, take-map, take_at}
 use Rattle.std.proofs.lemmas.Simd.{map-map}
-use Rattle.shapers_buffer.specs.declared.buffer.glyph.hb_glyph_info_t.{hb_glyph_info_t}
+use Rattle.shapers_buffer.specs.Glyphs.{Glyph, Glyphs}
 use Rattle.shapers_buffer.specs.declared.buffer.level.BufferClusterLevel.{BufferClusterLevel}
 use Rattle.shapers_buffer.specs.declared.buffer.syllables.Span.{Span}
 use Rattle.shapers_buffer.specs.Buffer.{Buffer}
@@ -49,7 +49,7 @@ use Rattle.shapers_breaks.specs.UniversalChain.{ReadsOnly, UniversalChainBreaks,
 use Rattle.shapers_breaks.proofs.KeptTextBreaks.{all_flagged, text_breaks, text_breaks_clear}
 use Rattle.shapers_breaks.proofs.MaskReads.{flags-and}
 use Rattle.shapers_breaks.proofs.ScriptBreaks.{monotone_circled}
-use Rattle.shapers_breaks.proofs.SetUp.{Glyphs, IsGuarded, cover_cut, set_up_guarded, span_border}
+use Rattle.shapers_breaks.proofs.SetUp.{IsGuarded, cover_cut, set_up_guarded, span_border}
 use Rattle.shapers_breaks.proofs.UniversalSetUp.{KeepShapes, clusters_kept, flagged_kept, guarded_kept, long_kept}
 use Rattle.shapers_breaks.proofs.UniversalSound.{sound_at}
 
@@ -57,7 +57,7 @@ use Rattle.shapers_breaks.proofs.UniversalSound.{sound_at}
 abbrev SameBy : (ℕ → ℕ) → Glyphs → Glyphs → Type 0
 SameBy f gs hs = SameButSerials (by f gs) (by f hs)
 
-abbrev view_by : (ℕ → ℕ) → hb_glyph_info_t → hb_glyph_info_t
+abbrev view_by : (ℕ → ℕ) → Glyph → Glyph
 view_by f g = unnumbered (with_mask_by f g)
 
 -- a pause that reads neither makes the same of them
@@ -187,7 +187,7 @@ old_halves : (spans : List Span) (old mid before behind : Glyphs) → spans_cove
     → clusters mid ≡ clusters old → mid ≡ before ++ behind → ShareNone before behind
     → (border : SpanBorder spans (length before)) → OldHalves spans old before behind border.front border.back
 old_halves spans old mid before behind covers same text apart border =
-    let cluster : hb_glyph_info_t → ℕ = λ g. g.cluster in
+    let cluster : Glyph → ℕ = λ g. g.cluster in
     let n = length before in
     let cut = cover_cut spans border.front border.back (length old) n border.split covers border.place in
     let all : clusters old ≡ clusters before ++ clusters behind = sym same ∙ ap clusters text
@@ -233,14 +233,14 @@ length_under breaks kept m off spans gs old =
 view-flagless : (gs : Glyphs) → order_view (by without_flags gs) ≡ order_view gs
 view-flagless [] = refl
 view-flagless (g ∷ gs) =
-    ap (λ n. let r : hb_glyph_info_t = record g { cluster = 0; mask = n } in r ∷ order_view (by without_flags gs))
+    ap (λ n. let r : Glyph = record g { cluster = 0; mask = n } in r ∷ order_view (by without_flags gs))
     (without_flags-twice g.mask)
     ∙ ap (λ l. plain g ∷ l) (view-flagless gs)
 
 viewed_flagless : (gs : Glyphs) → by without_flags (order_view gs) ≡ order_view gs
 viewed_flagless [] = refl
 viewed_flagless (g ∷ gs) =
-    ap (λ n. let r : hb_glyph_info_t = record g { cluster = 0; mask = n } in r ∷ by without_flags (order_view gs))
+    ap (λ n. let r : Glyph = record g { cluster = 0; mask = n } in r ∷ by without_flags (order_view gs))
     (without_flags-twice g.mask)
     ∙ ap (λ l. plain g ∷ l) (viewed_flagless gs)
 
@@ -253,8 +253,8 @@ paused_flagless circles meaning steps masks gs =
     ∙ ap (λ xs. text_order meaning (order_view xs)) (circled-by without_flags circles gs)
     ∙ ap (text_order meaning) (view-flagless (circled circles gs))
 
-all_alike : (view show : hb_glyph_info_t → hb_glyph_info_t)
-    → ((g : hb_glyph_info_t) → view (with_mask_by without_flags g) ≡ show (with_mask_by without_flags g))
+all_alike : (view show : Glyph → Glyph)
+    → ((g : Glyph) → view (with_mask_by without_flags g) ≡ show (with_mask_by without_flags g))
     → (gs : Glyphs)
     → map view (by without_flags gs) ≡ map show (by without_flags gs)
 all_alike view show alike [] = refl
@@ -262,9 +262,9 @@ all_alike view show alike (g ∷ gs) = ap (λ x. x ∷ map view (by without_flag
     ∙ ap (λ l. show (with_mask_by without_flags g) ∷ l) (all_alike view show alike gs)
 
 -- so in a text broken in one view, another shows the same where no glyph has flags
-broken_seen : (view show : hb_glyph_info_t → hb_glyph_info_t) (circles : Option DottedCircles)
+broken_seen : (view show : Glyph → Glyph) (circles : Option DottedCircles)
     (meaning : Glyphs → Glyphs) (steps : Glyphs → List Step) → ReadsNoMasks meaning steps
-    → ((g : hb_glyph_info_t) → view (with_mask_by without_flags g) ≡ show (with_mask_by without_flags g))
+    → ((g : Glyph) → view (with_mask_by without_flags g) ≡ show (with_mask_by without_flags g))
     → (set_up : List Span → Glyphs → Glyphs) (C : Glyphs → List ℕ) (spans : List Span) (old new : Glyphs) (p : ℕ)
     → BrokenBetweenSpans view set_up (paused_order circles meaning) C spans old new p
     → BrokenBetweenSpans show set_up (paused_order circles meaning) C spans old new p
@@ -299,23 +299,23 @@ unformed_is : (arabic : Option arabic_shape_plan_t) (m : Map)
 unformed_is None m = refl
 unformed_is (Some p) m = refl
 
-unformed_shown : (arabic : Option arabic_shape_plan_t) (m : Map) (g : hb_glyph_info_t)
+unformed_shown : (arabic : Option arabic_shape_plan_t) (m : Map) (g : Glyph)
     → unnumbered (with_mask_by (unformed arabic m) (with_mask_by without_flags g))
     ≡ unnumbered (formless_for arabic m (with_mask_by without_flags g))
 unformed_shown None m g =
     let bits = 0xFFFFFFFF - all_forms (form_masks m) in
-    ap (λ n. let r : hb_glyph_info_t = record g { mask = n } in unnumbered r)
+    ap (λ n. let r : Glyph = record g { mask = n } in unnumbered r)
     (flags-and (without_flags g.mask) bits ∙ ap (λ n. bit_and n bits) (without_flags-twice g.mask))
-unformed_shown (Some p) m g = ap (λ n. let r : hb_glyph_info_t = record g { mask = n } in unnumbered r)
+unformed_shown (Some p) m g = ap (λ n. let r : Glyph = record g { mask = n } in unnumbered r)
     (without_flags-twice g.mask)
 
 -- what a set-up cut between spans shows, without flags
-unformed_cut : (arabic : Option arabic_shape_plan_t) (breaks : BreakFlags) (m : Map) (g : hb_glyph_info_t)
+unformed_cut : (arabic : Option arabic_shape_plan_t) (breaks : BreakFlags) (m : Map) (g : Glyph)
     → with_mask_by without_flags (with_mask_by (flagless_for arabic breaks) (formless_for arabic m g))
     ≡ with_mask_by (unformed arabic m) g
 unformed_cut (Some p) breaks m g = refl
 unformed_cut None AsCode m g = refl
-unformed_cut None Sound m g = ap (λ n. let r : hb_glyph_info_t = record g { mask = n } in r)
+unformed_cut None Sound m g = ap (λ n. let r : Glyph = record g { mask = n } in r)
     (without_flags-twice (bit_and g.mask (0xFFFFFFFF - all_forms (form_masks m))))
 
 all_unformed : (kept : PlanData) (breaks : BreakFlags) (m : Map) (gs : Glyphs)
@@ -396,7 +396,7 @@ universal_chain laws inside reads masks plan font spans unread lookups old mid b
     (unformed_shown arabic m) set_up_then (C between.level) spans old.glyphs new.glyphs p
     (chain_broken_by f (unformed_keeps arabic m) universal_order universal_steps laws reads masks circles lookups
     (set_up_under plan) spans old.glyphs between new done
-    (subst (λ (v : hb_glyph_info_t → hb_glyph_info_t). ReadsOnly v lookups) (unformed_is arabic m) only) p b made.before
+    (subst (λ (v : Glyph → Glyph). ReadsOnly v lookups) (unformed_is arabic m) only) p b made.before
     made.behind made.first made.second cut))
 
 -- With Sound, where the text was clear: masks of forms included.
@@ -418,7 +418,7 @@ sound_halves kept m spans old whole before behind kinds covers none off set_up t
     let made : SetUpText spans old.glyphs whole.glyphs = subst (λ (b : Buffer). SetUpText spans old.glyphs b.glyphs)
     (sym set_up) (universal_text Sound kept m spans old kinds covers off) in
     let spot = text_border spans whole.glyphs before behind made.guarded text border in
-    let cluster : hb_glyph_info_t → ℕ = λ g. g.cluster in
+    let cluster : Glyph → ℕ = λ g. g.cluster in
     let long : length whole.glyphs ≡ length old.glyphs = sym (length-map whole.glyphs cluster) ∙ ap length made.same
     ∙ length-map old.glyphs cluster in
     let s = sound_at kept m spans old n kinds covers none (subst (λ a. FormsOffFlags a m) none off)
@@ -476,7 +476,7 @@ universal_sound_chain laws inside reads masks plan font spans unread lookups old
     subst (λ level. BrokenBetweenSpans unnumbered set_up_then (paused_order circles universal_order) (C level) spans
     old.glyphs new.glyphs p) height
     (broken_seen (view_by without_flags) unnumbered circles universal_order universal_steps masks
-    (λ g. ap (λ n. let r : hb_glyph_info_t = record g { mask = n } in unnumbered r) (without_flags-twice g.mask))
+    (λ g. ap (λ n. let r : Glyph = record g { mask = n } in unnumbered r) (without_flags-twice g.mask))
     set_up_then (C between.level) spans old.glyphs new.glyphs p
     (chain_broken_by without_flags keeps universal_order universal_steps laws reads masks circles lookups
     (set_up_under plan) spans old.glyphs between new done looked.reads p b halves.before halves.behind halves.first

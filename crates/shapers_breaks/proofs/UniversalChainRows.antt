@@ -5,7 +5,7 @@ use Rattle.std.specs.Prelude.{None, Some}
 use Rattle.std.specs.List.{flat_map}
 use Rattle.std.proofs.lemmas.Bool.{false≢true}
 use Rattle.std.proofs.lemmas.List.{length-map}
-use Rattle.shapers_buffer.specs.declared.buffer.glyph.hb_glyph_info_t.{hb_glyph_info_t}
+use Rattle.shapers_buffer.specs.Glyphs.{Glyph, Glyphs}
 use Rattle.shapers_buffer.specs.declared.buffer.syllables.Span.{Span}
 use Rattle.shapers_buffer.specs.Glyph.{default_glyph}
 use Rattle.shapers_buffer.specs.Properties.{SUBSTITUTED, no_marks, with_mark}
@@ -38,7 +38,7 @@ row_as_code : (plan : hb_ot_shape_plan_t) → masks (set_up_under (under AsCode 
 row_as_code plan = refl
 
 -- what the views hide: flags; and the masks of forms, but where letters join
-marked : hb_glyph_info_t
+marked : Glyph
 marked = record default_glyph { mask = 0xFF }
 
 row_flags : (without_glyph_flags marked).mask ≡ 0xF8
@@ -55,34 +55,34 @@ unfolding marked
 row_joining p = refl
 
 -- a lookup for one form reads its mask
-for_form : List hb_glyph_info_t → List hb_glyph_info_t
-for_form gs = map (λ (g : hb_glyph_info_t). record g { glyph_id = g.mask / 32 }) gs
+for_form : Glyphs → Glyphs
+for_form gs = map (λ (g : Glyph). record g { glyph_id = g.mask / 32 }) gs
 
 row_reads : ReadsOnly (without_flags_or_forms kept ends) for_form → ⊥
 unfolding for_form
 row_reads only =
-    let shown : List (List hb_glyph_info_t) → ℕ = λ pieces. (get_or (get_or pieces 0 []) 0 default_glyph).glyph_id in
+    let shown : List Glyphs → ℕ = λ pieces. (get_or (get_or pieces 0 []) 0 default_glyph).glyph_id in
     let same = only (record (glyph 0) { mask = 0x20 } ∷ []) (glyph 0 ∷ []) refl in
     let one_is_none : 1 ≡ 0 = ap shown same in
     absurd (omega (arith, one_is_none))
 
 -- and the record of rphf reads the bits of its mask: flags, if it is one
-recorded : List hb_glyph_info_t → List hb_glyph_info_t
+recorded : Glyphs → Glyphs
 recorded gs = flat_map (rphf_recorded 1) (syllables gs)
 
-abbrev put_in : hb_glyph_info_t
+abbrev put_in : Glyph
 put_in = record (glyph 0) { glyph_props = with_mark SUBSTITUTED no_marks }
 
 row_records : ReadsOnly without_glyph_flags recorded → ⊥
 unfolding recorded
 row_records only =
-    let shown : List (List hb_glyph_info_t) → ℕ = λ pieces. (get_or (get_or pieces 0 []) 0 default_glyph).category in
+    let shown : List Glyphs → ℕ = λ pieces. (get_or (get_or pieces 0 []) 0 default_glyph).category in
     let same = only (record put_in { mask = 1 } ∷ []) (put_in ∷ []) refl in
     let reph_is_base : 18 ≡ 1 = ap shown same in
     absurd (omega (arith, reph_is_base))
 
 -- nothing in between leaves results side by side where they are clear
-row_still : (gs : List hb_glyph_info_t) → LeavesWhereClear (λ gs. gs) gs
+row_still : (gs : Glyphs) → LeavesWhereClear (λ gs. gs) gs
 row_still gs front back text border apart inside clear = record {
   cut = record {
     before = front;
@@ -98,14 +98,14 @@ row_still gs front back text border apart inside clear = record {
 }
 
 -- what drops the flag between two syllables doesn't
-torn_text : List hb_glyph_info_t
+torn_text : Glyphs
 torn_text = record (glyph 0) { mask = 0x20; syllable = 0x12 } ∷ (record (glyph 1) { mask = 0x83; syllable = 0x22 } ∷ [])
 
 row_dropped : LeavesWhereClear flagless torn_text → ⊥
 unfolding torn_text
 row_dropped leaves =
-    let first : List hb_glyph_info_t = record (glyph 0) { mask = 0x20; syllable = 0x12 } ∷ [] in
-    let second : List hb_glyph_info_t = record (glyph 1) { mask = 0x80; syllable = 0x22 } ∷ [] in
+    let first : Glyphs = record (glyph 0) { mask = 0x20; syllable = 0x12 } ∷ [] in
+    let second : Glyphs = record (glyph 1) { mask = 0x80; syllable = 0x22 } ∷ [] in
     let made : MadeWhereClear flagless torn_text first second =
     leaves first second refl (λ some more same. absurd (omega (arith, same)))
     (λ i j il jl same. let a : i ≡ 0 = omega (arith, il) in let b : j ≡ 0 = omega (arith, jl) in absurd (omega
@@ -154,16 +154,16 @@ row_hidden_halves = refl
 abbrev four : Map
 four = map_of (feature "isol" 0x10 ∷ feature "init" 0x20 ∷ feature "medi" 0x40 ∷ feature "fina" 0x80 ∷ [])
 
-abbrev front_vowel : List hb_glyph_info_t
+abbrev front_vowel : Glyphs
 front_vowel = record (glyph 0) { glyph_id = 1 } ∷ (record (glyph 0) { glyph_id = 2; category = 22 } ∷ [])
 
-abbrev symbol : List hb_glyph_info_t
+abbrev symbol : Glyphs
 symbol = record (glyph 1) { glyph_id = 3 } ∷ []
 
-abbrev shown : List hb_glyph_info_t → List (ℕ × ℕ)
-shown gs = map (λ (g : hb_glyph_info_t). (g.glyph_id, g.mask)) gs
+abbrev shown : Glyphs → List (ℕ × ℕ)
+shown gs = map (λ (g : Glyph). (g.glyph_id, g.mask)) gs
 
-abbrev ordered : List Span → List hb_glyph_info_t → hb_ot_shape_plan_t → List (ℕ × ℕ)
+abbrev ordered : List Span → Glyphs → hb_ot_shape_plan_t → List (ℕ × ℕ)
 ordered spans gs plan = shown (paused_order None universal_order (set_up_under (under Sound four plan) spans gs))
 
 row_ordered : (plan : hb_ot_shape_plan_t)

@@ -5,7 +5,7 @@ use Rattle.std.specs.List.{AllByRecursion, AllZip, flat_map}
 use Rattle.std.proofs.lemmas.List.{take-append-drop}
 use Rattle.std.proofs.lemmas.List.Elements.{All-from_get_or, All-get_or, AllZip-get_or}
 use Rattle.std.proofs.lemmas.Nat.Bits.{bit_at_and, bit_at_or}
-use Rattle.shapers_buffer.specs.declared.buffer.glyph.hb_glyph_info_t.{hb_glyph_info_t}
+use Rattle.shapers_buffer.specs.Glyphs.{Glyph, Glyphs}
 use Rattle.shapers_buffer.specs.declared.buffer.syllables.Span.{Span}
 use Rattle.shapers_buffer.specs.Glyph.{clusters, default_glyph}
 use Rattle.shapers_buffer.specs.GlyphFlags.{with_bits}
@@ -27,10 +27,10 @@ use Rattle.shapers_breaks.specs.ScriptBreaks.{FormsOffFlags}
 use Rattle.shapers_breaks.specs.SetUp.{IsFlagged}
 use Rattle.shapers_breaks.proofs.CircledBorders.{opened_piece}
 use Rattle.shapers_breaks.proofs.Guarded.{IsWhole, LeastOrFlagged}
-use Rattle.shapers_breaks.proofs.SetUp.{AllAsLong, Glyphs, IsGuarded}
+use Rattle.shapers_breaks.proofs.SetUp.{AllAsLong, IsGuarded}
 
 -- cluster and byte stay, and both flags
-pub record KeepsShape (g h : hb_glyph_info_t) : Type 0 where
+pub record KeepsShape (g h : Glyph) : Type 0 where
   pub cluster : h.cluster ≡ g.cluster
   pub byte : h.syllable ≡ g.syllable
   pub flags : IsFlagged g → IsFlagged h
@@ -38,14 +38,14 @@ pub record KeepsShape (g h : hb_glyph_info_t) : Type 0 where
 abbrev pub KeepShapes : Glyphs → Glyphs → Type 0
 KeepShapes gs hs = AllZip KeepsShape gs hs
 
-kept_same : (g : hb_glyph_info_t) → KeepsShape g g
+kept_same : (g : Glyph) → KeepsShape g g
 kept_same g = record { cluster = refl; byte = refl; flags = λ f. f }
 
 all_same : (gs : Glyphs) → KeepShapes gs gs
 all_same [] = tt
 all_same (g ∷ gs) = (kept_same g, all_same gs)
 
-kept_on : (g h i : hb_glyph_info_t) → KeepsShape g h → KeepsShape h i → KeepsShape g i
+kept_on : (g h i : Glyph) → KeepsShape g h → KeepsShape h i → KeepsShape g i
 kept_on g h i a b = record { cluster = b.cluster ∙ a.cluster; byte = b.byte ∙ a.byte; flags = λ f. b.flags (a.flags f) }
 
 all_on : (gs hs is : Glyphs) → KeepShapes gs hs → KeepShapes hs is → KeepShapes gs is
@@ -57,7 +57,7 @@ all_on (g ∷ gs) (h ∷ hs) [] a b = absurd b
 all_on (g ∷ gs) (h ∷ hs) (i ∷ is) a b = (kept_on g h i a.0 b.0, all_on gs hs is a.1 b.1)
 
 -- masks
-bits_kept : (bits : ℕ) (g : hb_glyph_info_t) → KeepsShape g (with_bits bits g)
+bits_kept : (bits : ℕ) (g : Glyph) → KeepsShape g (with_bits bits g)
 bits_kept bits g = record {
   cluster = refl;
   byte = refl;
@@ -67,7 +67,7 @@ bits_kept bits g = record {
       (omega (arith, bit_at_or g.mask bits 0, f.0, a), omega (arith, bit_at_or g.mask bits 1, f.1, b));
 }
 
-instead_kept : (bits mask : ℕ) → bits % 8 ≡ 0 → bits ≤ 0xFFFFFFFF → (g : hb_glyph_info_t) → KeepsShape g
+instead_kept : (bits mask : ℕ) → bits % 8 ≡ 0 → bits ≤ 0xFFFFFFFF → (g : Glyph) → KeepsShape g
     (with_instead bits mask g)
 instead_kept bits mask off fits g =
     let k = 0xFFFFFFFF - bits in
@@ -87,7 +87,7 @@ instead_kept bits mask off fits g =
           );
     }
 
-mapped_kept : (f : hb_glyph_info_t → hb_glyph_info_t) → ((g : hb_glyph_info_t) → KeepsShape g (f g)) → (gs : Glyphs)
+mapped_kept : (f : Glyph → Glyph) → ((g : Glyph) → KeepsShape g (f g)) → (gs : Glyphs)
     → KeepShapes gs (map f gs)
 mapped_kept f each [] = tt
 mapped_kept f each (g ∷ gs) = (each g, mapped_kept f each gs)
@@ -185,7 +185,7 @@ long_kept (g ∷ gs) (x ∷ xs) h = ap (λ n. suc n) (long_kept gs xs h.1)
 abbrev pub KeepPieces : List Glyphs → List Glyphs → Type 0
 KeepPieces ps qs = AllZip KeepShapes ps qs
 
-opening_kept : (g h : hb_glyph_info_t) (ps qs : List Glyphs) → KeepsShape g h → KeepPieces ps qs → KeepPieces
+opening_kept : (g h : Glyph) (ps qs : List Glyphs) → KeepsShape g h → KeepPieces ps qs → KeepPieces
     (with_opening g ps) (with_opening h qs)
 opening_kept g h [] [] r k = ((r, tt), tt)
 opening_kept g h [] (q ∷ qs) r k = absurd k

@@ -8,7 +8,7 @@ use Rattle.std.proofs.lemmas.List.{append-nil, append_assoc, drop-map, length-ma
 use Rattle.std.proofs.lemmas.List.Concat.{flat_map-append}
 use Rattle.std.proofs.lemmas.List.Elements.{All-append, All-drop, All-map, All-take}
 use Rattle.std.proofs.lemmas.Simd.{map-map}
-use Rattle.shapers_buffer.specs.declared.buffer.glyph.hb_glyph_info_t.{hb_glyph_info_t}
+use Rattle.shapers_buffer.specs.Glyphs.{Glyph, Glyphs}
 use Rattle.shapers_buffer.specs.declared.buffer.syllables.Span.{Span}
 use Rattle.shapers_buffer.specs.Buffer.{Buffer}
 use Rattle.shapers_buffer.specs.Glyph.{without_flags}
@@ -42,7 +42,7 @@ use Rattle.shapers_breaks.specs.ScriptBreaks.{FormsOffFlags}
 use Rattle.shapers_breaks.specs.SetUp.{SpanBorder}
 use Rattle.shapers_breaks.specs.UniversalSound.{SoundlyBroken, UniversalSoundBreaks, flagless, sound_set_up}
 use Rattle.shapers_breaks.proofs.Guarded.{clear_not_flagged}
-use Rattle.shapers_breaks.proofs.SetUp.{Glyphs, cover_cut, guarded_border, set_up_guarded}
+use Rattle.shapers_breaks.proofs.SetUp.{cover_cut, guarded_border, set_up_guarded}
 use Rattle.shapers_breaks.proofs.UniversalSetUp.{KeepPieces, KeepShapes, flagged_kept, forms_for_kept, guarded_kept, long_kept, rphfs_kept, syllables_kept}
 
 -- forms, and the stretches of torn pairs, by the masks in a map
@@ -58,7 +58,7 @@ pairs_in m before i ps = torn_pairs (form_masks m) before i ps
 -- texts of the same bytes meet others at the same borders
 length-bytes : (gs hs : Glyphs) → bytes gs ≡ bytes hs → length gs ≡ length hs
 length-bytes gs hs same =
-    let byte : hb_glyph_info_t → ℕ = λ g. g.syllable in
+    let byte : Glyph → ℕ = λ g. g.syllable in
     sym (length-map gs byte) ∙ ap length same ∙ length-map hs byte
 
 pub meet_same : (gs hs xs ys : Glyphs) → bytes xs ≡ bytes gs → bytes ys ≡ bytes hs → MeetAtBorder gs hs
@@ -73,7 +73,7 @@ meet_same gs hs xs ys a b border some more same =
 -- a syllable in its form has its bytes
 formed_bytes : (m : Map) (before behind : Bool) (p : Glyphs) → bytes (formed (form_masks m) before behind p) ≡ bytes p
 formed_bytes m before behind p =
-    let byte : hb_glyph_info_t → ℕ = λ g. g.syllable in
+    let byte : Glyph → ℕ = λ g. g.syllable in
     let f = with_instead (all_forms (form_masks m)) (mask_between (form_masks m) before behind) in
     elim (joins_runs p) as (λ b. bytes (if b then map f p else p) ≡ bytes p) [
       | true ↦ map-map byte f p
@@ -84,7 +84,7 @@ formed_of : (m : Map) (before behind : Bool) (byte : ℕ) (p : Glyphs) → OfByt
     (formed (form_masks m) before behind p)
 formed_of m before behind byte p u =
     let f = with_instead (all_forms (form_masks m)) (mask_between (form_masks m) before behind) in
-    let P : hb_glyph_info_t → Type 0 = λ g. g.syllable ≡ byte in
+    let P : Glyph → Type 0 = λ g. g.syllable ≡ byte in
     elim (joins_runs p) as (λ b. OfByte byte (if b then map f p else p)) [
       | true ↦ record { some = subst (λ n. 0 < n) (sym (length-map p f)) u.some; all = All-map P f p u.all }
       | false ↦ u
@@ -106,7 +106,7 @@ forms_bytes : (m : Map) (before : Bool) (ps : List Glyphs) → bytes (forms_in m
     (flat_map (λ p. p) ps)
 forms_bytes m before [] = refl
 forms_bytes m before (p ∷ ps) =
-    let byte : hb_glyph_info_t → ℕ = λ g. g.syllable in
+    let byte : Glyph → ℕ = λ g. g.syllable in
     let rest = forms_in m (joins_runs p) ps in
     map-append byte (formed (form_masks m) before (first_joins ps) p) rest
     ∙ ap (λ l. l ++ bytes rest) (formed_bytes m before (first_joins ps) p)
@@ -412,7 +412,7 @@ pub record LedHalves (mask : ℕ) (spans ss ts : List Span) (gs hs : Glyphs) (ol
 -- the mask of rphf keeps bytes, and reads no serials
 rphf_of_byte : (mask byte : ℕ) (gs : Glyphs) → OfByte byte gs → OfByte byte (with_rphf mask gs)
 rphf_of_byte mask byte gs u =
-    let P : hb_glyph_info_t → Type 0 = λ g. g.syllable ≡ byte in
+    let P : Glyph → Type 0 = λ g. g.syllable ≡ byte in
     let n = rphf_len gs in
     let front = map (with_bits mask) (take n gs) in
     let long = length-append front (drop n gs) ∙ ap (λ k. k + length (drop n gs))
@@ -467,12 +467,12 @@ led_halves mask spans ss ts gs hs old kinds split text first second =
 
 -- at a clear border of spans
 flag_bytes : (gs : Glyphs) → bytes (flagless gs) ≡ bytes gs
-flag_bytes gs = map-map (λ (g : hb_glyph_info_t). g.syllable) (with_mask_by without_flags) gs
+flag_bytes gs = map-map (λ (g : Glyph). g.syllable) (with_mask_by without_flags) gs
 
 pub flags_hidden : (arabic : Option arabic_shape_plan_t) (m : Map) (gs : Glyphs)
     → flagless (forms_flagged arabic Sound m gs) ≡ flagless gs
 flags_hidden arabic m gs = map-forms_flagged (with_mask_by without_flags)
-    (λ g. ap (λ n. let r : hb_glyph_info_t = record g { mask = n } in r) (without_flags-or g.mask 3 refl))
+    (λ g. ap (λ n. let r : Glyph = record g { mask = n } in r) (without_flags-or g.mask 3 refl))
     arabic Sound m gs
 
 pub sound_at : (kept : PlanData) (m : Map) (spans : List Span) (old : Buffer) (p : ℕ)

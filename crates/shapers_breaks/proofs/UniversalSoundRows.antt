@@ -3,7 +3,7 @@ use Prim.Native.String.{String}
 use Rattle.std.proofs.Common.{ℕ, ◌≡◌, true, List, [], ◌∷◌, map, refl, sym, arith}
 use Rattle.std.specs.Prelude.{None, codes}
 use Rattle.std.proofs.lemmas.Bool.{false≢true}
-use Rattle.shapers_buffer.specs.declared.buffer.glyph.hb_glyph_info_t.{hb_glyph_info_t}
+use Rattle.shapers_buffer.specs.Glyphs.{Glyph, Glyphs}
 use Rattle.shapers_buffer.specs.declared.buffer.syllables.Span.{Span}
 use Rattle.shapers_buffer.specs.Glyph.{default_glyph}
 use Rattle.shapers_base.specs.Map.{Map}
@@ -35,7 +35,7 @@ ends = map_of (feature "init" 0x20 ∷ feature "fina" 0x80 ∷ [])
 abbrev pub alike : Map
 alike = map_of (feature "isol" 0x10 ∷ feature "init" 0x10 ∷ feature "medi" 0x10 ∷ feature "fina" 0x10 ∷ [])
 
-abbrev pub glyph : ℕ → hb_glyph_info_t
+abbrev pub glyph : ℕ → Glyph
 glyph cluster = record default_glyph { cluster = cluster; category = 1 }
 
 -- syllables of one glyph each: standard ones, kind 2, and what is in no cluster, kind 8
@@ -45,16 +45,16 @@ one kind = record { len = 1; kind = kind } ∷ []
 abbrev pub two : ℕ → List Span
 two kind = record { len = 1; kind = 2 } ∷ one kind
 
-abbrev set_up : BreakFlags → Map → ℕ → List hb_glyph_info_t → List hb_glyph_info_t
+abbrev set_up : BreakFlags → Map → ℕ → Glyphs → Glyphs
 set_up breaks m kind gs = forms_flagged None breaks m (set_up_by_spans kept m (two kind) gs)
 
-abbrev pub rising : List hb_glyph_info_t
+abbrev pub rising : Glyphs
 rising = glyph 0 ∷ glyph 1 ∷ []
 
-abbrev pub falling : List hb_glyph_info_t
+abbrev pub falling : Glyphs
 falling = glyph 1 ∷ glyph 0 ∷ []
 
-abbrev pub masks : List hb_glyph_info_t → List ℕ
+abbrev pub masks : Glyphs → List ℕ
 masks gs = map (λ g. g.mask) gs
 
 -- the pair has forms that neither has alone: with Sound the place between isn't clear, and so where clusters fall

@@ -1,6 +1,6 @@
 -- Pauses that stand between the set-up and the reordering of the universal shaper.
 use Rattle.std.specs.Prelude.{◌%◌, ◌≡◌, List}
-use Rattle.shapers_buffer.specs.declared.buffer.glyph.hb_glyph_info_t.{hb_glyph_info_t}
+use Rattle.shapers_buffer.specs.Glyphs.{Glyphs}
 use Rattle.shapers_buffer.specs.declared.buffer.syllables.Span.{Span}
 use Rattle.shapers_buffer.specs.Buffer.{Buffer}
 use Rattle.shapers_base.specs.Font.{Font}
@@ -15,13 +15,13 @@ use Rattle.shapers_breaks.specs.UniversalChain.{LeavesWhereClear, ReadsOnly, wit
 -- The one buffer is made of the other as the laws of chains require of lookups: side by side, clear
 -- only where it was clear, without reading serials or glyph flags, and no flag is taken.
 pub record LeavesHalves (old new : Buffer) : Type 0 where
-  pub made : List hb_glyph_info_t → List hb_glyph_info_t
+  pub made : Glyphs → Glyphs
   pub level : new.level ≡ old.level
   pub glyphs : new.glyphs ≡ made old.glyphs
-  pub side_by_side : (gs : List hb_glyph_info_t) → LeavesSideBySide made gs
-  pub where_clear : (gs : List hb_glyph_info_t) → LeavesWhereClear made gs
+  pub side_by_side : (gs : Glyphs) → LeavesSideBySide made gs
+  pub where_clear : (gs : Glyphs) → LeavesWhereClear made gs
   pub reads : ReadsOnly without_glyph_flags made
-  pub flags : (gs : List hb_glyph_info_t) → FlagsKept gs → FlagsKept (made gs)
+  pub flags : (gs : Glyphs) → FlagsKept gs → FlagsKept (made gs)
 
 -- so what clears marks of substitution, and the records; that of rphf if its mask has no glyph flag
 pub record PausesLeaveHalves (plan : hb_ot_shape_plan_t) (font : Font) (spans : List Span)

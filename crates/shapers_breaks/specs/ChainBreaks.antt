@@ -1,6 +1,6 @@
 -- Where a text may be broken whose syllables are set up, given to lookups, and then reordered.
 use Rattle.std.specs.Prelude.{◌≤◌, ◌≡◌, true, List, ◌++◌, All, length}
-use Rattle.shapers_buffer.specs.declared.buffer.glyph.hb_glyph_info_t.{hb_glyph_info_t}
+use Rattle.shapers_buffer.specs.Glyphs.{Glyphs}
 use Rattle.shapers_buffer.specs.declared.buffer.syllables.Span.{Span}
 use Rattle.shapers_buffer.specs.Buffer.{Buffer}
 use Rattle.shapers_buffer.specs.Clusters.{merges}
@@ -22,10 +22,10 @@ use Rattle.shapers_breaks.specs.KeptTextBreaks.{FlagsKept, SyllablesApart}
 
 -- The halves of a text, cut between two syllables and sharing no cluster, of which lookups make
 -- these.
-pub record MadeOfHalves (lookups : List hb_glyph_info_t →
-    List hb_glyph_info_t) (gs front back : List hb_glyph_info_t) : Type 0 where
-  pub before : List hb_glyph_info_t
-  pub behind : List hb_glyph_info_t
+pub record MadeOfHalves (lookups : Glyphs →
+    Glyphs) (gs front back : Glyphs) : Type 0 where
+  pub before : Glyphs
+  pub behind : Glyphs
   pub text : gs ≡ before ++ behind
   pub border : MeetAtBorder before behind
   pub apart : ShareNone before behind
@@ -35,16 +35,16 @@ pub record MadeOfHalves (lookups : List hb_glyph_info_t →
 -- Lookups leave the halves' results side by side: wherever what they make of a text is cut between
 -- two syllables into halves that share no cluster, these are what they make of the text's halves.
 -- They read no serials of syllables.
-pub record LeavesSideBySide (lookups : List hb_glyph_info_t →
-    List hb_glyph_info_t) (gs : List hb_glyph_info_t) : Type 0 where
-  pub halves : (front back : List hb_glyph_info_t) → lookups gs ≡ front ++ back →
+pub record LeavesSideBySide (lookups : Glyphs →
+    Glyphs) (gs : Glyphs) : Type 0 where
+  pub halves : (front back : Glyphs) → lookups gs ≡ front ++ back →
       MeetAtBorder front back → ShareNone front back → MadeOfHalves lookups gs front back
-  pub serials : (xs ys : List hb_glyph_info_t) → SameButSerials xs ys →
+  pub serials : (xs ys : Glyphs) → SameButSerials xs ys →
       SameButSerials (lookups xs) (lookups ys)
 
 -- What stands between a set-up and a reordering: lookups made the one buffer of the other, side by
 -- side, and took no flag from a glyph.
-pub record LookedUp (lookups : List hb_glyph_info_t → List hb_glyph_info_t) (mid between :
+pub record LookedUp (lookups : Glyphs → Glyphs) (mid between :
     Buffer) : Type 0 where
   pub level : between.level ≡ mid.level
   pub glyphs : between.glyphs ≡ lookups mid.glyphs
@@ -59,7 +59,7 @@ pub record IsSpanned (spans : List Span) (old : Buffer) : Type 0 where
 
 -- the text may be broken at every clear place, each half set up, given to the same lookups and
 -- reordered by itself
-abbrev pub ChainBreaks : (List hb_glyph_info_t → List hb_glyph_info_t) → Reordering → List Span →
+abbrev pub ChainBreaks : (Glyphs → Glyphs) → Reordering → List Span →
     Buffer → Buffer → Type 0
 ChainBreaks lookups r spans old new =
     BreaksBetweenSpans unnumbered (λ spans gs. lookups (unsafe_spans spans gs))
@@ -71,7 +71,7 @@ ChainBreaks lookups r spans old new =
 abbrev pub ChainBreaksBy : Pause → Pause → (hb_ot_shape_plan_t → Font → Buffer → Reordering) →
     Type 0
 ChainBreaksBy set_up pause by = (plan : hb_ot_shape_plan_t) (font : Font) (spans unread : List Span)
-    (lookups : List hb_glyph_info_t → List hb_glyph_info_t) (old mid between new : Buffer) →
+    (lookups : Glyphs → Glyphs) (old mid between new : Buffer) →
     IsSpanned spans old →
     Paused set_up plan font spans old mid →
     LookedUp lookups mid between →
@@ -83,7 +83,7 @@ ChainBreaksBy set_up pause by = (plan : hb_ot_shape_plan_t) (font : Font) (spans
 -- The initial reordering of Indic, where the syllables share no cluster.
 abbrev pub InitialChainBreaks : Type 0
 InitialChainBreaks = (plan : hb_ot_shape_plan_t) (font : Font) (spans unread : List Span)
-    (lookups : List hb_glyph_info_t → List hb_glyph_info_t) (old mid between new : Buffer) →
+    (lookups : Glyphs → Glyphs) (old mid between new : Buffer) →
     IsSpanned spans old →
     Paused SetupSyllablesIndic plan font spans old mid →
     LookedUp lookups mid between → SyllablesApart between.glyphs →

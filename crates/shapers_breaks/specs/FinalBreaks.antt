@@ -1,7 +1,7 @@
 -- Where a text may be broken that Indic's final reordering has reordered.
 use Rattle.std.specs.Prelude.{ℕ, ◌<◌, ◌≤◌, ◌≡◌, ◌⊎◌, true, List, ◌++◌, All, Option, length}
 use Rattle.std.specs.List.{AllByRecursion}
-use Rattle.shapers_buffer.specs.declared.buffer.glyph.hb_glyph_info_t.{hb_glyph_info_t}
+use Rattle.shapers_buffer.specs.Glyphs.{Glyphs}
 use Rattle.shapers_buffer.specs.declared.buffer.level.BufferClusterLevel.{BufferClusterLevel}
 use Rattle.shapers_buffer.specs.declared.buffer.syllables.Span.{Span}
 use Rattle.shapers_buffer.specs.declared.buffer.tag.Script.{Script}
@@ -25,18 +25,18 @@ use Rattle.rustybuzz_shapers.specs.Pauses.{Paused}
 use Rattle.shapers_breaks.specs.KeptTextBreaks.{FlagsKept, SyllablesApart}
 
 -- at most one left matra of a syllable moves to its place before the base
-abbrev pub OneMatraMoves : Rules → Option Script → List hb_glyph_info_t → Type 0
+abbrev pub OneMatraMoves : Rules → Option Script → Glyphs → Type 0
 OneMatraMoves r script syllable =
     let b = based r script syllable in length (matra_steps script b.base b.glyphs) ≤ 1
 
 -- all glyphs of the syllable are in one of two clusters
-abbrev pub IsOfTwoClusters : List hb_glyph_info_t → Type 0
+abbrev pub IsOfTwoClusters : Glyphs → Type 0
 IsOfTwoClusters syllable =
     (b : ℕ) × (c : ℕ) × All (λ g. (g.cluster ≡ b) ⊎ (g.cluster ≡ c)) syllable
 
 -- at most one left matra moves, or there are at most two clusters: glyphs aren't parted from one
 -- that alone kept the flags of their cluster
-abbrev pub PartsNothing : Rules → Option Script → List hb_glyph_info_t → Type 0
+abbrev pub PartsNothing : Rules → Option Script → Glyphs → Type 0
 PartsNothing r script syllable =
     OneMatraMoves r script (order_view syllable) ⊎ IsOfTwoClusters syllable
 
@@ -44,9 +44,9 @@ PartsNothing r script syllable =
 -- between two syllables, into halves that share no cluster, and the whole is what becomes of these,
 -- one after the other, but for init at the start of the second.
 pub record FinalBroken (r : Rules) (script : Option Script) (level : BufferClusterLevel) (old new :
-    List hb_glyph_info_t) (p : ℕ) : Type 0 where
-  pub before : List hb_glyph_info_t
-  pub behind : List hb_glyph_info_t
+    Glyphs) (p : ℕ) : Type 0 where
+  pub before : Glyphs
+  pub behind : Glyphs
   pub text : old ≡ before ++ behind
   pub border : MeetAtBorder before behind
   pub apart : ShareNone before behind

@@ -1,8 +1,8 @@
 -- Where a Hangul text may be broken that was preprocessed.
-use Rattle.std.specs.Prelude.{ℕ, ◌-◌, ◌<◌, ◌≡◌, true, List, length, slice_index}
+use Rattle.std.specs.Prelude.{ℕ, ◌-◌, ◌<◌, ◌≡◌, true, length, slice_index}
 use Rattle.shapers_base.specs.Font.{Font}
 use Rattle.shapers_base.specs.declared.plan.hb_ot_shape_plan_t.{hb_ot_shape_plan_t}
-use Rattle.shapers_buffer.specs.declared.buffer.glyph.hb_glyph_info_t.{hb_glyph_info_t}
+use Rattle.shapers_buffer.specs.Glyphs.{Glyphs}
 use Rattle.shapers_buffer.specs.declared.buffer.level.BufferClusterLevel.TheVariants.{MonotoneGraphemes}
 use Rattle.shapers_buffer.specs.Buffer.{Buffer}
 use Rattle.shapers_buffer.specs.Glyph.{characters, clusters}
@@ -13,7 +13,7 @@ use Rattle.rustybuzz_shapers.specs.declared.shaper.hb_ot_shaper_t.TheVariants.{H
 use Rattle.shapers_breaks.specs.TextBreaks.{IsClusterBorder, JoinsOrder, TextBroken}
 
 -- each tone that has advance 0 in the font is in the cluster of the glyph before it
-abbrev pub NarrowTonesJoin : Font → List hb_glyph_info_t → Type 0
+abbrev pub NarrowTonesJoin : Font → Glyphs → Type 0
 NarrowTonesJoin font gs = (p : ℕ) → 0 < p → p < length gs →
     is_tone (slice_index (characters gs) p) ≡ true →
     is_narrow font (slice_index (characters gs) p) ≡ true →

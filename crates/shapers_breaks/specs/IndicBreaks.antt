@@ -1,7 +1,7 @@
 -- Where a text may be broken that Indic's initial reordering has reordered.
 use Rattle.std.specs.Prelude.{ℕ, ◌-◌, ◌<◌, ◌≡◌, ◌≢◌, true, List, Option, length, slice_index}
 use Rattle.std.specs.List.{AllByRecursion}
-use Rattle.shapers_buffer.specs.declared.buffer.glyph.hb_glyph_info_t.{hb_glyph_info_t}
+use Rattle.shapers_buffer.specs.Glyphs.{Glyphs}
 use Rattle.shapers_buffer.specs.declared.buffer.syllables.Span.{Span}
 use Rattle.shapers_buffer.specs.declared.buffer.tag.Script.{Script}
 use Rattle.shapers_buffer.specs.Buffer.{Buffer}
@@ -23,13 +23,13 @@ use Rattle.shapers_breaks.specs.SetUp.{SpanBorder}
 use Rattle.shapers_breaks.specs.KeptTextBreaks.{FlagsKept, SyllablesApart, KeptTextBreaks}
 
 -- each border of spans is one of clusters: the two glyphs that meet there are in different ones
-abbrev pub SpansPartClusters : List Span → List hb_glyph_info_t → Type 0
+abbrev pub SpansPartClusters : List Span → Glyphs → Type 0
 SpansPartClusters spans gs = (p : ℕ) → 0 < p → p < length gs → SpanBorder spans p →
     slice_index (clusters gs) (p - 1) ≢ slice_index (clusters gs) p
 
 -- In Kannada an H and the ZWJ behind it, which change places where they follow the Ra that opens a
 -- syllable, share a cluster, as they do in a grapheme.
-abbrev pub JoinerShares : Option Script → List hb_glyph_info_t → Type 0
+abbrev pub JoinerShares : Option Script → Glyphs → Type 0
 JoinerShares script syllable = joiner_comes_first script syllable ≡ true →
     slice_index (clusters syllable) 1 ≡ slice_index (clusters syllable) 2
 

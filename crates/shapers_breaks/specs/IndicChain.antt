@@ -1,7 +1,7 @@
 -- Where a text of Indic may be broken that is set up, reordered initially and then finally.
 use Rattle.std.specs.Prelude.{ℕ, ◌+◌, ◌<◌, ◌≡◌, ◌⊎◌, List, ◌++◌, Option, length, map}
 use Rattle.std.specs.List.{AllByRecursion, zip}
-use Rattle.shapers_buffer.specs.declared.buffer.glyph.hb_glyph_info_t.{hb_glyph_info_t}
+use Rattle.shapers_buffer.specs.Glyphs.{Glyph, Glyphs}
 use Rattle.shapers_buffer.specs.declared.buffer.level.BufferClusterLevel.{BufferClusterLevel}
 use Rattle.shapers_buffer.specs.declared.buffer.syllables.Span.{Span}
 use Rattle.shapers_buffer.specs.declared.buffer.tag.Script.{Script}
@@ -30,18 +30,18 @@ use Rattle.shapers_breaks.specs.PauseBreaks.{SpanCut}
 use Rattle.shapers_breaks.specs.ScriptBreaks.{CanBreak}
 
 -- the glyph that the order view shows, with the cluster and the glyph flags that were carried along
-abbrev pub carrying : hb_glyph_info_t → hb_glyph_info_t → hb_glyph_info_t
+abbrev pub carrying : Glyph → Glyph → Glyph
 carrying shown along = record shown { cluster = along.cluster; mask = shown.mask + along.mask }
 
 -- the glyphs that a reordering makes of a text: its order view, and all that is carried along
-abbrev pub reordered_text : Reordering → BufferClusterLevel → List hb_glyph_info_t →
-    List hb_glyph_info_t
+abbrev pub reordered_text : Reordering → BufferClusterLevel → Glyphs →
+    Glyphs
 reordered_text r level gs = map (λ glyph. carrying glyph.0 glyph.1)
     (zip (paused_order r.circles r.order gs) (paused_carried r.circles r.steps level gs))
 
 -- The glyphs of the one buffer were made of the other's, by lookups or a reordering, with the
 -- results of halves left side by side; flags may be lost.
-pub record MadeSideBySide (lookups : List hb_glyph_info_t → List hb_glyph_info_t) (old new :
+pub record MadeSideBySide (lookups : Glyphs → Glyphs) (old new :
     Buffer) : Type 0 where
   pub level : new.level ≡ old.level
   pub glyphs : new.glyphs ≡ lookups old.glyphs
@@ -67,17 +67,16 @@ InitialReorderedApart = (plan : hb_ot_shape_plan_t) (font : Font) (unread : List
 
 -- What stands before the final reordering: its syllables kept their flags and share no cluster, and
 -- in each at most one left matra moves or there are at most two clusters.
-pub record CanReorderFinally (rules : Rules) (script : Option Script) (gs : List
-    hb_glyph_info_t) : Type 0 where
+pub record CanReorderFinally (rules : Rules) (script : Option Script) (gs : Glyphs) : Type 0 where
   pub flags : FlagsKept gs
   pub apart : SyllablesApart gs
   pub parts : AllByRecursion (PartsNothing rules script) (syllables gs)
 
 -- A text, or half of one, before its final reordering: set up by its spans, given to lookups,
 -- reordered initially, and given to other lookups.
-abbrev pub before_final : (List hb_glyph_info_t → List hb_glyph_info_t) →
-    (List hb_glyph_info_t → List hb_glyph_info_t) → Reordering → BufferClusterLevel → List Span →
-    List hb_glyph_info_t → List hb_glyph_info_t
+abbrev pub before_final : (Glyphs → Glyphs) →
+    (Glyphs → Glyphs) → Reordering → BufferClusterLevel → List Span →
+    Glyphs → Glyphs
 before_final first second r level spans gs =
     second (reordered_text r level (first (unsafe_spans spans gs)))
 
@@ -86,9 +85,9 @@ before_final first second r level spans gs =
 -- the whole, order view and clusters, is what becomes of these, each by itself, one after the
 -- other, serials and the bits of init apart. These bits differ at the start of the second alone:
 -- what was reordered finally is the first half and, serials apart, the second.
-pub record IndicBroken (made : List Span → List hb_glyph_info_t →
-    List hb_glyph_info_t) (rules : Rules) (script : Option Script) (level :
-    BufferClusterLevel) (spans : List Span) (old new : List hb_glyph_info_t) (p : ℕ) : Type 0 where
+pub record IndicBroken (made : List Span → Glyphs →
+    Glyphs) (rules : Rules) (script : Option Script) (level :
+    BufferClusterLevel) (spans : List Span) (old new : Glyphs) (p : ℕ) : Type 0 where
   pub cut : SpanCut made (λ gs. gs) spans old p
   pub order : map (uninitiated rules) (order_view new)
       ≡ map (uninitiated rules) (final_text rules script (order_view (made cut.front cut.before)))
@@ -96,14 +95,14 @@ pub record IndicBroken (made : List Span → List hb_glyph_info_t →
   pub in_clusters : clusters new
       ≡ final_clusters rules script level (made cut.front cut.before)
       ++ final_clusters rules script level (made cut.back cut.behind)
-  pub second : List hb_glyph_info_t
+  pub second : Glyphs
   pub renumbered : SameButSerials second (made cut.back cut.behind)
   pub halves : FinallyOfHalves rules script level (made cut.front cut.before) second new
 
 -- so at every clear place
-abbrev pub IndicBreaks : (List Span → List hb_glyph_info_t → List hb_glyph_info_t) → Rules →
-    Option Script → BufferClusterLevel → List Span → List hb_glyph_info_t →
-    List hb_glyph_info_t → Type 0
+abbrev pub IndicBreaks : (List Span → Glyphs → Glyphs) → Rules →
+    Option Script → BufferClusterLevel → List Span → Glyphs →
+    Glyphs → Type 0
 IndicBreaks made rules script level spans old new =
     (p : ℕ) → 0 < p → p < length new → IsClear new p →
     IndicBroken made rules script level spans old new p
@@ -112,7 +111,7 @@ IndicBreaks made rules script level spans old new =
 -- syllables share no cluster before either reordering, and kept their flags before the final one.
 abbrev pub IndicChainBreaks : Type 0
 IndicChainBreaks = (plan : hb_ot_shape_plan_t) (font : Font) (spans unread : List Span)
-    (first second : List hb_glyph_info_t → List hb_glyph_info_t)
+    (first second : Glyphs → Glyphs)
     (old mid between reordered looked new : Buffer) →
     IsSpanned spans old →
     Paused SetupSyllablesIndic plan font spans old mid →

@@ -1,6 +1,6 @@
 -- Flags that forbid a break outlive the hooks and pauses that come later.
 use Rattle.std.specs.Prelude.{◌≡◌, true, false, List}
-use Rattle.shapers_buffer.specs.declared.buffer.glyph.hb_glyph_info_t.{hb_glyph_info_t}
+use Rattle.shapers_buffer.specs.Glyphs.{Glyphs}
 use Rattle.shapers_buffer.specs.declared.buffer.syllables.Span.{Span}
 use Rattle.shapers_buffer.specs.Buffer.{Buffer}
 use Rattle.shapers_buffer.specs.Clusters.{merges}
@@ -17,7 +17,7 @@ use Rattle.shapers_breaks.specs.ClearSteps.{ClearWasClear}
 
 -- masks set, and whatever else only adds flags: each clear place was clear before
 abbrev pub AddedFlagsClearNone : Type 0
-AddedFlagsClearNone = (gs ms : List hb_glyph_info_t) → OnlyFlagsAdded gs ms → ClearWasClear gs ms
+AddedFlagsClearNone = (gs ms : Glyphs) → OnlyFlagsAdded gs ms → ClearWasClear gs ms
 
 -- so of every pause but the reorderings of Indic, of the text with the circles that it opens, where
 -- its clusters rise or fall, at the levels that merge

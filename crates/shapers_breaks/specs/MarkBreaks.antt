@@ -1,7 +1,7 @@
 -- Where a text may be broken whose marks were reordered: Arabic and Hebrew.
-use Rattle.std.specs.Prelude.{ℕ, ◌-◌, ◌<◌, ◌≤◌, ◌≡◌, ◌⊎◌, min, true, List, ◌++◌, drop, length, take}
+use Rattle.std.specs.Prelude.{ℕ, ◌-◌, ◌<◌, ◌≤◌, ◌≡◌, ◌⊎◌, min, true, ◌++◌, drop, length, take}
 use Rattle.shapers_arabic.specs.Marks.{marks_merged, marks_reordered}
-use Rattle.shapers_buffer.specs.declared.buffer.glyph.hb_glyph_info_t.{hb_glyph_info_t}
+use Rattle.shapers_buffer.specs.Glyphs.{Glyphs}
 use Rattle.shapers_buffer.specs.declared.buffer.level.BufferClusterLevel.{BufferClusterLevel}
 use Rattle.shapers_buffer.specs.Buffer.{Buffer}
 use Rattle.shapers_buffer.specs.Clusters.{merges}
@@ -15,20 +15,20 @@ use Rattle.rustybuzz_shapers.specs.declared.shaper.hb_ot_shaper_t.{hb_ot_shaper_
 use Rattle.rustybuzz_shapers.specs.declared.shaper.hb_ot_shaper_t.TheVariants.{Arabic, Hebrew}
 
 -- what a shaper makes of a text whose marks stand from start to end
-abbrev pub marks_after : hb_ot_shaper_t → BufferClusterLevel → ℕ → ℕ → List hb_glyph_info_t →
-    List hb_glyph_info_t
+abbrev pub marks_after : hb_ot_shaper_t → BufferClusterLevel → ℕ → ℕ → Glyphs →
+    Glyphs
 marks_after Arabic level start end gs = marks_reordered start end (marks_merged level start end gs)
 marks_after Hebrew level start end gs = run_step level (hebrew_mark_step start end gs) gs
 marks_after shaper level start end gs = gs
 
 -- no place within the run of marks is clear: its marks share a cluster, or are flagged
-abbrev pub NoneClearInside : ℕ → ℕ → List hb_glyph_info_t → Type 0
+abbrev pub NoneClearInside : ℕ → ℕ → Glyphs → Type 0
 NoneClearInside start end gs = (p : ℕ) → start < p → p < end → IsClear gs p → ⊥
 
 -- The text may be broken before place p: the run isn't cut there, and the text after is that of its
 -- halves, one after the other, each with its part of the run, glyph for glyph.
 pub record MarksBroken (shaper : hb_ot_shaper_t) (level : BufferClusterLevel) (start end : ℕ) (gs
-    new : List hb_glyph_info_t) (p : ℕ) : Type 0 where
+    new : Glyphs) (p : ℕ) : Type 0 where
   pub outside : (p ≤ start) ⊎ (end ≤ p)
   pub halves : new
       ≡ marks_after shaper level (min start p) (min end p) (take p gs)

@@ -1,7 +1,7 @@
 -- None of the flags that Sound adds between syllables of the universal shaper is needless.
 use Rattle.std.specs.Prelude.{ℕ, ◌<◌, ◌≤◌, ◌≡◌, ◌&&◌, nat_lt, false, true, List, All, None, length}
 use Rattle.std.specs.List.{list_any}
-use Rattle.shapers_buffer.specs.declared.buffer.glyph.hb_glyph_info_t.{hb_glyph_info_t}
+use Rattle.shapers_buffer.specs.Glyphs.{Glyphs}
 use Rattle.shapers_buffer.specs.declared.buffer.syllables.Span.{Span}
 use Rattle.shapers_buffer.specs.Buffer.{Buffer}
 use Rattle.shapers_buffer.specs.Syllables.{spans_cover, syllables}
@@ -18,7 +18,7 @@ use Rattle.shapers_breaks.specs.ScriptBreaks.{FormsOffFlags}
 use Rattle.shapers_breaks.specs.UniversalSound.{SoundlyBroken}
 
 -- place p is inside a stretch over two syllables that Sound flags
-abbrev pub IsTornAt : PlanData → Map → List Span → List hb_glyph_info_t → ℕ → Type 0
+abbrev pub IsTornAt : PlanData → Map → List Span → Glyphs → ℕ → Type 0
 IsTornAt kept m spans gs p =
     let set_up = set_up_by_spans kept m spans gs in
     let stretches = torn_pairs (form_masks m) false 0 (syllables set_up) in

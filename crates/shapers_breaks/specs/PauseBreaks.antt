@@ -1,6 +1,6 @@
 -- Where a text may be broken once its syllables are set up and reordered.
 use Rattle.std.specs.Prelude.{ℕ, ◌<◌, ◌≤◌, ◌≡◌, true, List, ◌++◌, All, Option, length, map}
-use Rattle.shapers_buffer.specs.declared.buffer.glyph.hb_glyph_info_t.{hb_glyph_info_t}
+use Rattle.shapers_buffer.specs.Glyphs.{Glyph, Glyphs}
 use Rattle.shapers_buffer.specs.declared.buffer.syllables.Span.{Span}
 use Rattle.shapers_buffer.specs.Buffer.{Buffer}
 use Rattle.shapers_buffer.specs.Clusters.{merges}
@@ -18,13 +18,13 @@ use Rattle.rustybuzz_shapers.specs.Monotone.{AtMostOneRepha}
 
 -- A text cut between two of its spans, into halves that share no cluster, of which the first one,
 -- set up by its own spans, becomes the p glyphs before place p.
-pub record SpanCut (set_up : List Span → List hb_glyph_info_t →
-    List hb_glyph_info_t) (made : List hb_glyph_info_t →
-    List hb_glyph_info_t) (spans : List Span) (old : List hb_glyph_info_t) (p : ℕ) : Type 0 where
+pub record SpanCut (set_up : List Span → Glyphs →
+    Glyphs) (made : Glyphs →
+    Glyphs) (spans : List Span) (old : Glyphs) (p : ℕ) : Type 0 where
   pub front : List Span
   pub back : List Span
-  pub before : List hb_glyph_info_t
-  pub behind : List hb_glyph_info_t
+  pub before : Glyphs
+  pub behind : Glyphs
   pub split : spans ≡ front ++ back
   pub text : old ≡ before ++ behind
   pub first : spans_cover (length before) front ≡ true
@@ -34,11 +34,11 @@ pub record SpanCut (set_up : List Span → List hb_glyph_info_t →
 
 -- The text may be broken before place p: there is such a cut, and what is made of the halves, each
 -- set up by itself, is the whole: its order view, as far as the view shows it, and its clusters.
-pub record BrokenBetweenSpans (view : hb_glyph_info_t →
-    hb_glyph_info_t) (set_up : List Span → List hb_glyph_info_t →
-    List hb_glyph_info_t) (made : List hb_glyph_info_t →
-    List hb_glyph_info_t) (clusters_made : List hb_glyph_info_t →
-    List ℕ) (spans : List Span) (old new : List hb_glyph_info_t) (p : ℕ) : Type 0 where
+pub record BrokenBetweenSpans (view : Glyph →
+    Glyph) (set_up : List Span → Glyphs →
+    Glyphs) (made : Glyphs →
+    Glyphs) (clusters_made : Glyphs →
+    List ℕ) (spans : List Span) (old new : Glyphs) (p : ℕ) : Type 0 where
   pub cut : SpanCut set_up made spans old p
   pub order : map view (order_view new)
       ≡ map view (made (set_up cut.front cut.before))
@@ -47,10 +47,10 @@ pub record BrokenBetweenSpans (view : hb_glyph_info_t →
       ≡ clusters_made (set_up cut.front cut.before) ++ clusters_made (set_up cut.back cut.behind)
 
 -- so at every clear place
-abbrev pub BreaksBetweenSpans : (hb_glyph_info_t → hb_glyph_info_t) →
-    (List Span → List hb_glyph_info_t → List hb_glyph_info_t) →
-    (List hb_glyph_info_t → List hb_glyph_info_t) → (List hb_glyph_info_t → List ℕ) → List Span →
-    List hb_glyph_info_t → List hb_glyph_info_t → Type 0
+abbrev pub BreaksBetweenSpans : (Glyph → Glyph) →
+    (List Span → Glyphs → Glyphs) →
+    (Glyphs → Glyphs) → (Glyphs → List ℕ) → List Span →
+    Glyphs → Glyphs → Type 0
 BreaksBetweenSpans view set_up made clusters_made spans old new =
     (p : ℕ) → 0 < p → p < length new → IsClear new p →
     BrokenBetweenSpans view set_up made clusters_made spans old new p
@@ -58,8 +58,8 @@ BreaksBetweenSpans view set_up made clusters_made spans old new =
 -- A set-up and a reordering directly after it that moves only inside what it merges, whatever
 -- circles open between: where clusters rise or fall along the text, at the levels that merge, the
 -- text may be broken at every clear place, serials apart.
-abbrev pub PausesBreak : (List hb_glyph_info_t → List hb_glyph_info_t) →
-    (List hb_glyph_info_t → List Step) → ℕ → Type 0
+abbrev pub PausesBreak : (Glyphs → Glyphs) →
+    (Glyphs → List Step) → ℕ → Type 0
 PausesBreak meaning steps broken_kind =
     (circles : Option DottedCircles) (spans : List Span) (old new : Buffer) →
     All (λ span. span.kind ≤ 15) spans → spans_cover (length old.glyphs) spans ≡ true →
@@ -70,7 +70,7 @@ PausesBreak meaning steps broken_kind =
     (paused_clusters circles steps old.level) spans old.glyphs new.glyphs
 
 abbrev pub PausesBreakLaw : Type 0
-PausesBreakLaw = (meaning : List hb_glyph_info_t → List hb_glyph_info_t)
-    (steps : List hb_glyph_info_t → List Step) (broken_kind : ℕ) →
+PausesBreakLaw = (meaning : Glyphs → Glyphs)
+    (steps : Glyphs → List Step) (broken_kind : ℕ) →
     ReorderLaws meaning steps → MoveMerged steps → ReadsNoSerials meaning steps →
     PausesBreak meaning steps broken_kind

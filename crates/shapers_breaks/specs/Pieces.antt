@@ -1,7 +1,7 @@
 -- Steps that leave the results of a text's pieces side by side.
 use Rattle.std.specs.Prelude.{ℕ, ◌<◌, ◌≡◌, true, List, ◌++◌, length}
 use Rattle.shapers_arabic.specs.Breaks.{back_at, front_at}
-use Rattle.shapers_buffer.specs.declared.buffer.glyph.hb_glyph_info_t.{hb_glyph_info_t}
+use Rattle.shapers_buffer.specs.Glyphs.{Glyphs}
 use Rattle.shapers_buffer.specs.declared.buffer.syllables.Span.{Span}
 use Rattle.shapers_buffer.specs.Buffer.{Buffer}
 use Rattle.shapers_buffer.specs.Glyph.{clusters, order_view}
@@ -11,12 +11,12 @@ use Rattle.shapers_clusters.specs.Cuts.{ShareNone}
 use Rattle.shapers_syllabic.specs.Borders.{SameButSerials}
 
 -- the same text to those who read neither glyph flags nor serials of syllables
-abbrev pub SameButFlags : List hb_glyph_info_t → List hb_glyph_info_t → Type 0
+abbrev pub SameButFlags : Glyphs → Glyphs → Type 0
 SameButFlags gs hs =
     SameButSerials (order_view gs) (order_view hs) × (clusters gs ≡ clusters hs)
 
 -- A text cut in two at a clear place,
-pub record CutWhereClear (text front back : List hb_glyph_info_t) : Type 0 where
+pub record CutWhereClear (text front back : Glyphs) : Type 0 where
   pub parts : text ≡ front ++ back
   pub some_in_front : 0 < length front
   pub some_behind : 0 < length back
@@ -25,7 +25,7 @@ pub record CutWhereClear (text front back : List hb_glyph_info_t) : Type 0 where
 -- or, where it has the spans of its syllables, between two of these.
 pub record SpannedText : Type 0 where
   pub spans : List Span
-  pub glyphs : List hb_glyph_info_t
+  pub glyphs : Glyphs
 
 pub record CutAtSpans (text before behind : SpannedText) : Type 0 where
   pub split : text.spans ≡ before.spans ++ behind.spans
@@ -45,7 +45,7 @@ pub record CutBuffer (whole before behind : Buffer) : Type 0 where
 -- A step made these two of a text's pieces: the text was cut, and each piece by itself becomes what
 -- it became in the text.
 pub record MadeOfPieces (X : Type 0) (Cut : X → X → X → Type 0) (Makes : X →
-    List hb_glyph_info_t → Type 0) (text : X) (front back : List hb_glyph_info_t) : Type 0 where
+    Glyphs → Type 0) (text : X) (front back : Glyphs) : Type 0 where
   pub before : X
   pub behind : X
   pub pieces : Cut text before behind
@@ -54,19 +54,19 @@ pub record MadeOfPieces (X : Type 0) (Cut : X → X → X → Type 0) (Makes : X
 
 -- so wherever what it made of the text is cut at a clear place
 abbrev pub BreaksWhereCleared : (X : Type 0) → (X → X → X → Type 0) →
-    (X → List hb_glyph_info_t → Type 0) → X → List hb_glyph_info_t → Type 0
-BreaksWhereCleared X Cut Makes text made = (front back : List hb_glyph_info_t) →
+    (X → Glyphs → Type 0) → X → Glyphs → Type 0
+BreaksWhereCleared X Cut Makes text made = (front back : Glyphs) →
     CutWhereClear made front back → MadeOfPieces X Cut Makes text front back
 
 -- what lookups make of every text that is the same as one
-abbrev pub MakesOf : (List hb_glyph_info_t → List hb_glyph_info_t) → List hb_glyph_info_t →
-    List hb_glyph_info_t → Type 0
+abbrev pub MakesOf : (Glyphs → Glyphs) → Glyphs →
+    Glyphs → Type 0
 MakesOf lookups piece made =
-    (same : List hb_glyph_info_t) → SameButFlags same piece → SameButFlags (lookups same) made
+    (same : Glyphs) → SameButFlags same piece → SameButFlags (lookups same) made
 
 -- Lookups leave the pieces' results of a text side by side: wherever what they make of it is clear,
 -- the text was clear, and they make the parts of its pieces.
-abbrev pub LeavesPieces : (List hb_glyph_info_t → List hb_glyph_info_t) → List hb_glyph_info_t →
+abbrev pub LeavesPieces : (Glyphs → Glyphs) → Glyphs →
     Type 0
-LeavesPieces lookups text = BreaksWhereCleared (List hb_glyph_info_t) CutWhereClear
+LeavesPieces lookups text = BreaksWhereCleared Glyphs CutWhereClear
     (MakesOf lookups) text (lookups text)

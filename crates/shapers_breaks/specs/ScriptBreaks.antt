@@ -1,6 +1,6 @@
 -- Where a text of a syllabic shaper may be broken, by the shaper's own pauses.
 use Rattle.std.specs.Prelude.{◌%◌, ◌≤◌, ◌≡◌, true, List, All, Option, None, Some, length}
-use Rattle.shapers_buffer.specs.declared.buffer.glyph.hb_glyph_info_t.{hb_glyph_info_t}
+use Rattle.shapers_buffer.specs.Glyphs.{Glyphs}
 use Rattle.shapers_buffer.specs.declared.buffer.syllables.Span.{Span}
 use Rattle.shapers_buffer.specs.Buffer.{Buffer}
 use Rattle.shapers_buffer.specs.Clusters.{merges}
@@ -54,7 +54,7 @@ FormsOffFlags (Some p) m = Unit {0}
 -- the circles of Myanmar open behind no repha
 abbrev pub MyanmarHasNoRepha : Type 0
 MyanmarHasNoRepha =
-    (font : Font) (b : Buffer) (gs : List hb_glyph_info_t) →
+    (font : Font) (b : Buffer) (gs : Glyphs) →
     AtMostOneRepha (by_myanmar font b).circles gs
 
 -- so in the universal shaper, masks of forms apart, which depend on the syllables beside

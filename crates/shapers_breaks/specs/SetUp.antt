@@ -1,6 +1,6 @@
 -- Where a text may be broken that spans cut into syllables.
 use Rattle.std.specs.Prelude.{ℕ, ◌-◌, ◌<◌, ◌≤◌, ◌≡◌, true, List, ◌++◌, All, drop, get_or, length, sum_by, take}
-use Rattle.shapers_buffer.specs.declared.buffer.glyph.hb_glyph_info_t.{hb_glyph_info_t}
+use Rattle.shapers_buffer.specs.Glyphs.{Glyph, Glyphs}
 use Rattle.shapers_buffer.specs.declared.buffer.syllables.Span.{Span}
 use Rattle.shapers_buffer.specs.Buffer.{Buffer}
 use Rattle.shapers_buffer.specs.Glyph.{default_glyph}
@@ -18,18 +18,18 @@ pub record SpanBorder (spans : List Span) (p : ℕ) : Type 0 where
   pub place : sum_by (λ span. span.len) front ≡ p
 
 -- the glyph is unsafe to break and unsafe to concatenate: bits 1 and 2
-abbrev pub IsFlagged : hb_glyph_info_t → Type 0
+abbrev pub IsFlagged : Glyph → Type 0
 IsFlagged g = (bit_at 0 g.mask ≡ 1) × (bit_at 1 g.mask ≡ 1)
 
 -- of the two glyphs that meet at place p, the one of the greater cluster is flagged
-pub record FlaggedAt (gs : List hb_glyph_info_t) (p : ℕ) : Type 0 where
+pub record FlaggedAt (gs : Glyphs) (p : ℕ) : Type 0 where
   pub rising : (get_or gs (p - 1) default_glyph).cluster < (get_or gs p default_glyph).cluster →
       IsFlagged (get_or gs p default_glyph)
   pub falling : (get_or gs p default_glyph).cluster < (get_or gs (p - 1) default_glyph).cluster →
       IsFlagged (get_or gs (p - 1) default_glyph)
 
 -- so at every place that is no border of spans
-abbrev pub FlagsInsideSpans : List Span → List hb_glyph_info_t → Type 0
+abbrev pub FlagsInsideSpans : List Span → Glyphs → Type 0
 FlagsInsideSpans spans new =
     (p : ℕ) → 0 < p → p < length new → (SpanBorder spans p → ⊥) → FlaggedAt new p
 

@@ -15,7 +15,7 @@ use Rattle.shapers_buffer.specs.Buffer.{Buffer}
 use Rattle.shapers_buffer.specs.Clusters.{merges}
 use Rattle.shapers_buffer.specs.Glyph.{clusters}
 use Rattle.shapers_buffer.specs.Syllables.{in_syllable}
-use Rattle.shapers_buffer.specs.declared.buffer.glyph.hb_glyph_info_t.{hb_glyph_info_t}
+use Rattle.shapers_buffer.specs.Glyphs.{Glyph, Glyphs}
 use Rattle.shapers_buffer.specs.declared.buffer.level.BufferClusterLevel.{BufferClusterLevel}
 use Rattle.shapers_buffer.specs.declared.buffer.level.BufferClusterLevel.TheVariants.{MonotoneGraphemes}
 use Rattle.shapers_buffer.specs.declared.buffer.syllables.Span.{Span}
@@ -47,14 +47,14 @@ use Rattle.shapers_breaks.specs.UniversalChain.{UniversalChainBreaks, UniversalS
 -- set-up of its syllables, lookups, its reordering, and whatever stands behind that, lookups and
 -- other pauses.
 pub record SyllabicRun (set_up pause : Pause) (plan : hb_ot_shape_plan_t) (font : Font)
-    (change : hb_glyph_info_t → hb_glyph_info_t) (lookups behind : List hb_glyph_info_t →
-    List hb_glyph_info_t) (spans : List Span) (old new : Buffer) : Type 0 where
+    (change : Glyph → Glyph) (lookups behind : Glyphs →
+    Glyphs) (spans : List Span) (old new : Buffer) : Type 0 where
   pub masked : Buffer
   pub mid : Buffer
   pub between : Buffer
   pub reordered : Buffer
   pub unread : List Span
-  pub clusters_stay : (g : hb_glyph_info_t) → (change g).cluster ≡ g.cluster
+  pub clusters_stay : (g : Glyph) → (change g).cluster ≡ g.cluster
   pub masks : masked.glyphs ≡ map change old.glyphs
   pub spanned : IsSpanned spans masked
   pub syllables : Paused set_up plan font spans masked mid
@@ -64,9 +64,9 @@ pub record SyllabicRun (set_up pause : Pause) (plan : hb_ot_shape_plan_t) (font 
   pub glyphs : new.glyphs ≡ behind reordered.glyphs
 
 -- what the same does to a piece by itself, with circles in broken syllables where the text has them
-abbrev pub SyllabicPiece : Reordering → (hb_glyph_info_t → hb_glyph_info_t) →
-    (List hb_glyph_info_t → List hb_glyph_info_t) → (List hb_glyph_info_t → List hb_glyph_info_t) →
-    Buffer → SpannedText → List hb_glyph_info_t → Type 0
+abbrev pub SyllabicPiece : Reordering → (Glyph → Glyph) →
+    (Glyphs → Glyphs) → (Glyphs → Glyphs) →
+    Buffer → SpannedText → Glyphs → Type 0
 SyllabicPiece r change lookups behind between piece made = (one : Buffer) →
     let set_up = unsafe_spans piece.spans (map change piece.glyphs) in
     Reordered r (record between { glyphs = lookups set_up }) one →
@@ -77,8 +77,8 @@ SyllabicPiece r change lookups behind between piece made = (one : Buffer) →
 abbrev pub SyllabicBreaks : Pause → Pause → (hb_ot_shape_plan_t → Font → Buffer → Reordering) →
     (Reordering → Buffer → Type 0) → Type 0
 SyllabicBreaks set_up pause by IsSo =
-    (plan : hb_ot_shape_plan_t) (font : Font) (change : hb_glyph_info_t → hb_glyph_info_t)
-    (lookups behind : List hb_glyph_info_t → List hb_glyph_info_t) (spans : List Span)
+    (plan : hb_ot_shape_plan_t) (font : Font) (change : Glyph → Glyph)
+    (lookups behind : Glyphs → Glyphs) (spans : List Span)
     (old new : Buffer) →
     (run : SyllabicRun set_up pause plan font change lookups behind spans old new) →
     let r = by plan font run.between in
@@ -97,13 +97,13 @@ IsApart r b = SyllablesApart b.glyphs × JoinersShare r b
 
 -- A hook, and whatever stands behind it: what they make of a piece by itself.
 abbrev pub HookedPiece : (Buffer → Buffer → Type 0) →
-    (List hb_glyph_info_t → List hb_glyph_info_t) → Buffer → List hb_glyph_info_t → Type 0
+    (Glyphs → Glyphs) → Buffer → Glyphs → Type 0
 HookedPiece Hook behind piece made =
     (one : Buffer) → Hook piece one → SameButFlags (behind one.glyphs) made
 
 -- the text may be broken at every clear place, each half with its outer context
 abbrev pub HookedBreaks : (Buffer → Buffer → Type 0) → (Buffer → Type 0) → Type 0
-HookedBreaks Hook IsSo = (behind : List hb_glyph_info_t → List hb_glyph_info_t)
+HookedBreaks Hook IsSo = (behind : Glyphs → Glyphs)
     (old new : Buffer) → IsSo old → Hook old new → LeavesPieces behind new.glyphs →
     BreaksWhereCleared Buffer CutBuffer (HookedPiece Hook behind) old (behind new.glyphs)
 
@@ -153,7 +153,7 @@ ArabicTextBreaks = (plan : hb_ot_shape_plan_t) (tables : CharacterTables) →
 pub record MarkedText : Type 0 where
   pub start : ℕ
   pub end : ℕ
-  pub glyphs : List hb_glyph_info_t
+  pub glyphs : Glyphs
 
 pub record CutAroundMarks (text before behind : MarkedText) : Type 0 where
   pub place : ℕ
@@ -172,13 +172,13 @@ pub record CutAroundMarks (text before behind : MarkedText) : Type 0 where
       }
 
 abbrev pub MarkedPiece : hb_ot_shaper_t → BufferClusterLevel →
-    (List hb_glyph_info_t → List hb_glyph_info_t) → MarkedText → List hb_glyph_info_t → Type 0
+    (Glyphs → Glyphs) → MarkedText → Glyphs → Type 0
 MarkedPiece shaper level behind piece made =
     SameButFlags (behind (marks_after shaper level piece.start piece.end piece.glyphs)) made
 
 -- Hebrew and Arabic: where no place within the run was clear
 abbrev pub MarkedBreaks : hb_ot_shaper_t → Type 0
-MarkedBreaks shaper = (start end : ℕ) (behind : List hb_glyph_info_t → List hb_glyph_info_t)
+MarkedBreaks shaper = (start end : ℕ) (behind : Glyphs → Glyphs)
     (old new : Buffer) → start ≤ end → end ≤ length old.glyphs → CanMerge old →
     NoneClearInside start end old.glyphs → MarksReordered shaper start end old new →
     LeavesPieces behind new.glyphs →
@@ -188,7 +188,7 @@ MarkedBreaks shaper = (start end : ℕ) (behind : List hb_glyph_info_t → List 
 
 -- Masks that are set glyph by glyph: those of all shapers but Arabic and the universal one.
 abbrev pub masked_by_glyph : hb_ot_shaper_t → hb_ot_shape_plan_t → CharacterTables →
-    hb_glyph_info_t → hb_glyph_info_t
+    Glyph → Glyph
 masked_by_glyph Hangul plan tables g = with_numbered_mask (masks_kept plan.plan_data) g
 masked_by_glyph Indic plan tables g = with_category_and_position tables g
 masked_by_glyph Khmer plan tables g = with_category tables g
@@ -227,7 +227,7 @@ PausesAreListed = (shaper : hb_ot_shaper_t) (script : Option Script) (has_rclt :
     ++ unwrap_or (overridden shaper) [])
 
 -- The pauses that change each glyph by itself, if any: those of Arabic, and the two that clear.
-abbrev pub glyph_paused : Pause → hb_ot_shape_plan_t → hb_glyph_info_t → hb_glyph_info_t
+abbrev pub glyph_paused : Pause → hb_ot_shape_plan_t → Glyph → Glyph
 glyph_paused RecordStch plan g = if has_stch plan.plan_data then recorded g else g
 glyph_paused SyllabicClearVar plan g = in_syllable 0 g
 glyph_paused ClearSubstitutionFlags plan g = unsubstituted g
@@ -249,8 +249,8 @@ PausesLeavePieces = (pause : Pause) (plan : hb_ot_shape_plan_t) (font : Font) (s
     × LeavesPieces (map (glyph_paused pause plan)) old.glyphs
 
 abbrev pub LeavePiecesInTurn : Type 0
-LeavePiecesInTurn = (first next : List hb_glyph_info_t → List hb_glyph_info_t)
-    (text : List hb_glyph_info_t) → LeavesPieces first text → LeavesPieces next (first text) →
+LeavePiecesInTurn = (first next : Glyphs → Glyphs)
+    (text : Glyphs) → LeavesPieces first text → LeavesPieces next (first text) →
     LeavesPieces (λ gs. next (first gs)) text
 
 -- The law of each shaper. Of Indic up to what follows its initial reordering, and up to the final

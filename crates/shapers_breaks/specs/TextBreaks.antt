@@ -1,13 +1,13 @@
 -- Where a text may be broken that a hook made anew, with glyphs that it hadn't: preprocessed, or
 -- stretched.
-use Rattle.std.specs.Prelude.{ℕ, ◌-◌, ◌<◌, ◌≡◌, ◌≢◌, List, ◌++◌, drop, length, slice_index, take}
-use Rattle.shapers_buffer.specs.declared.buffer.glyph.hb_glyph_info_t.{hb_glyph_info_t}
+use Rattle.std.specs.Prelude.{ℕ, ◌-◌, ◌<◌, ◌≡◌, ◌≢◌, ◌++◌, drop, length, slice_index, take}
+use Rattle.shapers_buffer.specs.Glyphs.{Glyphs}
 use Rattle.shapers_buffer.specs.Buffer.{Buffer}
 use Rattle.shapers_buffer.specs.Glyph.{clusters, order_view}
 use Rattle.shapers_clusters.specs.Cuts.{ShareNone}
 
 -- two clusters meet at place p
-abbrev pub IsClusterBorder : List hb_glyph_info_t → ℕ → Type 0
+abbrev pub IsClusterBorder : Glyphs → ℕ → Type 0
 IsClusterBorder gs p = slice_index (clusters gs) (p - 1) ≢ slice_index (clusters gs) p
 
 -- the halves of a buffer's text, cut before place c, with all else that the buffer has

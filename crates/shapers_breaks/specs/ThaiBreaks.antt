@@ -1,8 +1,8 @@
 -- Where a Thai or Lao text may be broken that was preprocessed.
-use Rattle.std.specs.Prelude.{ℕ, ◌-◌, ◌<◌, ◌≡◌, true, false, List, length, slice_index}
+use Rattle.std.specs.Prelude.{ℕ, ◌-◌, ◌<◌, ◌≡◌, true, false, length, slice_index}
 use Rattle.shapers_base.specs.Font.{Font}
 use Rattle.shapers_base.specs.declared.plan.hb_ot_shape_plan_t.{hb_ot_shape_plan_t}
-use Rattle.shapers_buffer.specs.declared.buffer.glyph.hb_glyph_info_t.{hb_glyph_info_t}
+use Rattle.shapers_buffer.specs.Glyphs.{Glyphs}
 use Rattle.shapers_buffer.specs.declared.buffer.level.BufferClusterLevel.{BufferClusterLevel}
 use Rattle.shapers_buffer.specs.Buffer.{Buffer}
 use Rattle.shapers_buffer.specs.Clusters.{merge_all, merges}
@@ -24,12 +24,12 @@ SaraAmsBreakLaw = (plan : hb_ot_shape_plan_t) (font : Font) (old new : Buffer) �
     TextBroken (Preprocessed Thai plan font) JoinsGlyphs old new p
 
 -- the text with its SARA AMs in two, before any form
-abbrev pub sara_ams_taken : BufferClusterLevel → List hb_glyph_info_t → List hb_glyph_info_t
+abbrev pub sara_ams_taken : BufferClusterLevel → Glyphs → Glyphs
 sara_ams_taken level gs =
     glyphs_in_two (merge_all level (sara_am_stretches level (characters gs)) gs)
 
 -- each mark is in the cluster of the glyph before it
-abbrev pub ThaiMarksJoin : List hb_glyph_info_t → Type 0
+abbrev pub ThaiMarksJoin : Glyphs → Type 0
 ThaiMarksJoin gs = (p : ℕ) → 0 < p → p < length gs →
     is_thai_mark (slice_index (characters gs) p) ≡ true →
     slice_index (clusters gs) (p - 1) ≡ slice_index (clusters gs) p

@@ -1,7 +1,7 @@
 -- Where a text of the universal shaper may be broken whose syllables are set up, given to lookups,
 -- and then reordered; with Sound masks of forms included.
 use Rattle.std.specs.Prelude.{◌<◌, ◌≡◌, List, ◌++◌, None, length, map}
-use Rattle.shapers_buffer.specs.declared.buffer.glyph.hb_glyph_info_t.{hb_glyph_info_t}
+use Rattle.shapers_buffer.specs.Glyphs.{Glyph, Glyphs}
 use Rattle.shapers_buffer.specs.declared.buffer.syllables.Span.{Span}
 use Rattle.shapers_buffer.specs.Buffer.{Buffer}
 use Rattle.shapers_buffer.specs.Glyph.{clusters, without_flags}
@@ -28,25 +28,25 @@ use Rattle.shapers_breaks.specs.PauseBreaks.{BreaksBetweenSpans}
 use Rattle.shapers_breaks.specs.ScriptBreaks.{CanBreak, FormsOffFlags}
 
 -- what spans set up of glyphs under a plan: masks of forms, and what the plan's choice flags
-abbrev pub set_up_under : hb_ot_shape_plan_t → List Span → List hb_glyph_info_t →
-    List hb_glyph_info_t
+abbrev pub set_up_under : hb_ot_shape_plan_t → List Span → Glyphs →
+    Glyphs
 set_up_under plan spans gs =
     let kept = plan.plan_data in
     let set_up = set_up_by_spans kept plan.ot_map spans gs in
     forms_flagged (arabic_of kept) plan.break_flags plan.ot_map set_up
 
 -- of texts that are the same in a view, but for serials, lookups make texts that are
-abbrev pub ReadsOnly : (hb_glyph_info_t → hb_glyph_info_t) →
-    (List hb_glyph_info_t → List hb_glyph_info_t) → Type 0
-ReadsOnly view lookups = (gs hs : List hb_glyph_info_t) →
+abbrev pub ReadsOnly : (Glyph → Glyph) →
+    (Glyphs → Glyphs) → Type 0
+ReadsOnly view lookups = (gs hs : Glyphs) →
     SameButSerials (map view gs) (map view hs) →
     SameButSerials (map view (lookups gs)) (map view (lookups hs))
 
 -- the glyph without glyph flags, and without the masks of forms too
-abbrev pub without_glyph_flags : hb_glyph_info_t → hb_glyph_info_t
+abbrev pub without_glyph_flags : Glyph → Glyph
 without_glyph_flags g = with_mask_by without_flags g
 
-abbrev pub without_flags_or_forms : PlanData → Map → hb_glyph_info_t → hb_glyph_info_t
+abbrev pub without_flags_or_forms : PlanData → Map → Glyph → Glyph
 without_flags_or_forms kept m g = without_glyph_flags (formless_for (arabic_of kept) m g)
 
 -- A set-up, any lookups that leave results side by side and read no masks of forms, and the
@@ -54,7 +54,7 @@ without_flags_or_forms kept m g = without_glyph_flags (formless_for (arabic_of k
 -- circles.
 abbrev pub UniversalChainBreaks : Type 0
 UniversalChainBreaks = (plan : hb_ot_shape_plan_t) (font : Font) (spans unread : List Span)
-    (lookups : List hb_glyph_info_t → List hb_glyph_info_t) (old mid between new : Buffer) →
+    (lookups : Glyphs → Glyphs) (old mid between new : Buffer) →
     IsSpanned spans old → FormsOffFlags (arabic_of plan.plan_data) plan.ot_map →
     Paused SetupSyllablesUse plan font spans old mid →
     PauseKeeps SetupSyllablesUse plan font spans old mid →
@@ -68,8 +68,8 @@ UniversalChainBreaks = (plan : hb_ot_shape_plan_t) (font : Font) (spans unread :
     (paused_clusters r.circles r.steps old.level) spans old.glyphs new.glyphs
 
 -- the halves of which lookups make these, of a text that is clear where they meet
-pub record MadeWhereClear (lookups : List hb_glyph_info_t →
-    List hb_glyph_info_t) (gs front back : List hb_glyph_info_t) : Type 0 where
+pub record MadeWhereClear (lookups : Glyphs →
+    Glyphs) (gs front back : Glyphs) : Type 0 where
   pub cut : MadeOfHalves lookups gs front back
   pub inside : length cut.before < length gs
   pub clear : IsClear gs (length cut.before)
@@ -77,15 +77,15 @@ pub record MadeWhereClear (lookups : List hb_glyph_info_t →
 -- Lookups leave results side by side where these are clear: wherever what they make of a text is
 -- cut at a clear place between two syllables, into halves that share no cluster, these are what
 -- they make of the halves of the text, cut at a clear place.
-abbrev pub LeavesWhereClear : (List hb_glyph_info_t → List hb_glyph_info_t) →
-    List hb_glyph_info_t → Type 0
-LeavesWhereClear lookups gs = (front back : List hb_glyph_info_t) → lookups gs ≡ front ++ back →
+abbrev pub LeavesWhereClear : (Glyphs → Glyphs) →
+    Glyphs → Type 0
+LeavesWhereClear lookups gs = (front back : Glyphs) → lookups gs ≡ front ++ back →
     MeetAtBorder front back → ShareNone front back → length front < length (lookups gs) →
     IsClear (lookups gs) (length front) → MadeWhereClear lookups gs front back
 
 -- so between a set-up and a reordering, by lookups that took no flag from a glyph and read none
-pub record LookedUpWhereClear (lookups : List hb_glyph_info_t →
-    List hb_glyph_info_t) (mid between : Buffer) : Type 0 where
+pub record LookedUpWhereClear (lookups : Glyphs →
+    Glyphs) (mid between : Buffer) : Type 0 where
   pub level : between.level ≡ mid.level
   pub glyphs : between.glyphs ≡ lookups mid.glyphs
   pub halves : LeavesWhereClear lookups mid.glyphs
@@ -95,7 +95,7 @@ pub record LookedUpWhereClear (lookups : List hb_glyph_info_t →
 -- With Sound, where letters don't join: masks of forms included.
 abbrev pub UniversalSoundChainBreaks : Type 0
 UniversalSoundChainBreaks = (plan : hb_ot_shape_plan_t) (font : Font) (spans unread : List Span)
-    (lookups : List hb_glyph_info_t → List hb_glyph_info_t) (old mid between new : Buffer) →
+    (lookups : Glyphs → Glyphs) (old mid between new : Buffer) →
     IsSpanned spans old → plan.break_flags ≡ Sound → arabic_of plan.plan_data ≡ None →
     FormsOffFlags (arabic_of plan.plan_data) plan.ot_map →
     Paused SetupSyllablesUse plan font spans old mid →

@@ -1,7 +1,7 @@
 -- Where a text of the universal shaper may be broken whose letters don't join, masks of forms
 -- included: with Sound.
 use Rattle.std.specs.Prelude.{ℕ, ◌<◌, ◌≤◌, ◌≡◌, true, List, All, None, drop, length, map, take}
-use Rattle.shapers_buffer.specs.declared.buffer.glyph.hb_glyph_info_t.{hb_glyph_info_t}
+use Rattle.shapers_buffer.specs.Glyphs.{Glyphs}
 use Rattle.shapers_buffer.specs.declared.buffer.syllables.Span.{Span}
 use Rattle.shapers_buffer.specs.Buffer.{Buffer}
 use Rattle.shapers_buffer.specs.Glyph.{without_flags}
@@ -24,11 +24,11 @@ use Rattle.shapers_breaks.specs.ScriptBreaks.{FormsOffFlags}
 use Rattle.shapers_breaks.specs.SetUp.{SpanBorder}
 
 -- the glyphs with each mask as it is, but for the three glyph flags
-abbrev pub flagless : List hb_glyph_info_t → List hb_glyph_info_t
+abbrev pub flagless : Glyphs → Glyphs
 flagless gs = map (with_mask_by without_flags) gs
 
 -- what spans set up of glyphs with Sound, masks of forms included, glyph flags apart
-abbrev pub sound_set_up : PlanData → Map → List Span → List hb_glyph_info_t → List hb_glyph_info_t
+abbrev pub sound_set_up : PlanData → Map → List Span → Glyphs → Glyphs
 sound_set_up kept m spans gs =
     flagless (forms_flagged (arabic_of kept) Sound m (set_up_by_spans kept m spans gs))
 

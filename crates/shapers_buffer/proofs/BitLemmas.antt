@@ -12,11 +12,8 @@ use Rattle.shapers_buffer.specs.Properties.{has_bit, without_bit, BitsAreSetAlon
 read_by_place : (n j : ℕ) → has_bit (2 ^ j) n ≡ (bit_at n j * 2 ^ j == 2 ^ j)
 read_by_place n j = cc (and_pow n j)
 
-same_bit : (a b j : ℕ) → bit_at a j ≡ bit_at b j → has_bit (2 ^ j) a ≡ has_bit (2 ^ j) b
-same_bit a b j same = search (arith, read_by_place)
-
 is_on : (j : ℕ) → (1 * 2 ^ j == 2 ^ j) ≡ true
-is_on j = grind (arith, nat_tests)
+is_on = grind (arith, nat_tests)
 
 is_off : (j : ℕ) → (0 * 2 ^ j == 2 ^ j) ≡ false
 is_off j = grind (arith, nat_tests, pow_pos j)
@@ -33,18 +30,17 @@ all_but-other k j small at other = cc (bit_at_not w16 (2 ^ k) j (pow-lt small) a
 
 -- a bit that is set, and the others
 set_same : (byte k : ℕ) → bit_at (bit_or byte (2 ^ k)) k ≡ 1
-set_same byte k = search (arith, bit_at_or, bit_at-pow_same)
+set_same = search (arith, bit_at_or, bit_at-pow_same)
 
 set_other : (byte k j : ℕ) → j ≢ k → bit_at (bit_or byte (2 ^ k)) j ≡ bit_at byte j
-set_other byte k j other = search (arith, bit_at_or, bit_at-pow_other)
+set_other = search (arith, bit_at_or, bit_at-pow_other)
 
 -- a bit is taken away as the program does it
 pub cleared : (n m : ℕ) → n < 2 ^ 16 → m < 2 ^ 16 → without_bit m n ≡ bit_and n (65535 - m)
 cleared n m a b = omega (arith, and-not 16 m n b a, and_comm n m, and_comm)
 
 pub bits_are_set_alone : BitsAreSetAlone
-bits_are_set_alone k true n small sixteen =
-    search (arith, read_by_place, set_same, is_on, set_other, or_lt, pow-lt)
+bits_are_set_alone k true n small sixteen = search (arith, read_by_place, set_same, is_on, set_other, or_lt, pow-lt)
 bits_are_set_alone k false n small sixteen =
     let is = cleared n (2 ^ k) sixteen (pow-lt small) in
     search (arith, read_by_place, all_but-same, is_off, bit_at_and, all_but-other)

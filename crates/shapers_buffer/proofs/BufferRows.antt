@@ -3,7 +3,7 @@ use Rattle.std.specs.Prelude.{◌≡◌, ℕ, ◌+◌, true, false, [], ◌∷�
 use Rattle.shapers_buffer.specs.declared.buffer.glyph.TheConstants.GlyphPosition as zero
 use Rattle.shapers_buffer.specs.declared.buffer.glyph.TheConstants.hb_glyph_info_t as zeroes
 use Rattle.shapers_buffer.specs.declared.buffer.glyph.GlyphPosition.{GlyphPosition}
-use Rattle.shapers_buffer.specs.declared.buffer.glyph.hb_glyph_info_t.{hb_glyph_info_t}
+use Rattle.shapers_buffer.specs.Glyphs.{Glyph}
 use Rattle.shapers_buffer.specs.declared.buffer.level.BufferClusterLevel.TheVariants.{Characters, MonotoneCharacters, MonotoneGraphemes}
 use Rattle.shapers_buffer.specs.declared.buffer.level.Direction.TheVariants.{LeftToRight, RightToLeft}
 use Rattle.shapers_buffer.specs.Buffer.{Buffer, but_places, can_be_positions, copied_to, grown, new_buffer}
@@ -11,7 +11,7 @@ use Rattle.shapers_buffer.specs.Clusters.{merge}
 use Rattle.shapers_buffer.specs.Glyph.{clusters, default_glyph, default_position, order_view, without_flags}
 
 -- a glyph whose fields are all set
-abbrev full : hb_glyph_info_t
+abbrev full : Glyph
 full = record {
   glyph_id = 0x916;
   cluster = 5;
@@ -25,7 +25,7 @@ full = record {
 }
 
 -- the default glyph is all zero, of category Cc, without marks
-abbrev blank : hb_glyph_info_t
+abbrev blank : Glyph
 blank = record {
   glyph_id = 0;
   cluster = 0;
@@ -80,8 +80,7 @@ new = refl
 abbrev whole : Buffer
 whole = record {
   glyphs = full ∷ default_glyph ∷ [];
-  positions = position_from 10 ∷ position_from 20
-      ∷ [];
+  positions = position_from 10 ∷ position_from 20 ∷ [];
   direction = RightToLeft;
   script = Some (record { 0 = codes "Thai" });
   level = Characters;
@@ -99,8 +98,7 @@ whole = record {
 -- growth: default glyphs, and zero positions unless there are none
 grown_by_two : grown 2 whole ≡ record whole {
   glyphs = full ∷ blank ∷ blank ∷ blank ∷ [];
-  positions = position_from 10
-      ∷ position_from 20 ∷ nowhere ∷ nowhere ∷ [];
+  positions = position_from 10 ∷ position_from 20 ∷ nowhere ∷ nowhere ∷ [];
 }
 grown_by_two = refl
 

@@ -1,39 +1,38 @@
 -- What the loops that merge rest on.
-use Rattle.std.proofs.Common.{◌≡◌, ◌<◌, ◌≤◌, ℕ, zero, suc, ◌+◌, ◌-◌, Bool, true, false, not, ◌&&◌, nat_lt, List, [], ◌∷◌, ◌++◌, min, map, length, get_or, take, drop, reverse, refl, sym, ap, ◌∙◌, append_assoc, arith, length-take, length-drop, if◌then◌else◌, length-take-le}
+use Rattle.std.proofs.Common.{◌≡◌, ◌<◌, ◌≤◌, ℕ, suc, ◌+◌, ◌-◌, not, ◌&&◌, nat_lt, List, [], ◌∷◌, ◌++◌, min, map, length, get_or, take, drop, reverse, refl, sym, ap, ◌∙◌, append_assoc, arith, length-take, length-drop, if◌then◌else◌, length-take-le}
 use Rattle.std.specs.Prelude.{fold}
 use Rattle.std.specs.List.{prefix_len, suffix_len}
 use Rattle.std.proofs.lemmas.List.{length-reverse, map-append, reverse-append, reverse-reverse, take_at, drop_at, drop-drop, take-take, drop-take, take-append-drop, drop_all, take_all, get_or-reverse, take-map, drop-map, append-nil, get_or-take, get_or-drop}
 use Rattle.std.proofs.lemmas.List.Sums.{suffix_len-le-length}
 use Rattle.std.proofs.Math.Seq.{take-add}
-use Rattle.std.proofs.lemmas.Bool.Decides.{nat_tests}
-use Rattle.shapers_buffer.specs.declared.buffer.glyph.hb_glyph_info_t.{hb_glyph_info_t}
+use Rattle.shapers_buffer.specs.Glyphs.{Glyph, Glyphs}
 use Rattle.shapers_buffer.specs.Glyph.{clusters, default_glyph}
 use Rattle.shapers_buffer.specs.declared.buffer.level.BufferClusterLevel.{BufferClusterLevel}
 use Rattle.shapers_buffer.proofs.MappedLists.{map-reverse}
 use Rattle.shapers_buffer.specs.Clusters.{least, first_cluster, last_cluster, has_cluster, in_cluster, flooded, merged, merge, merges, stretch_of, with_stretch}
 
 -- the least so far, and then of the rest
-abbrev pub least_from : ℕ → List hb_glyph_info_t → ℕ
+abbrev pub least_from : ℕ → Glyphs → ℕ
 least_from m gs = fold min m (clusters gs)
 
 -- flooding a cluster with itself changes nothing
-pub flooded_itself : (c : ℕ) (gs : List hb_glyph_info_t) → flooded c c gs ≡ gs
+pub flooded_itself : (c : ℕ) (gs : Glyphs) → flooded c c gs ≡ gs
 flooded_itself c [] = refl
 flooded_itself c (g ∷ gs) = grind (arith, flooded_itself c gs)
 
 -- The merge rule as the code has it: the least cluster floods the neighbours on both sides of the stretch.
-abbrev pub flood_merged : ℕ → ℕ → List hb_glyph_info_t → List hb_glyph_info_t
+abbrev pub flood_merged : ℕ → ℕ → Glyphs → Glyphs
 flood_merged s e gs =
     let middle = stretch_of s e gs in
     let m = least (clusters middle) in
     reverse (flooded (first_cluster middle) m (reverse (take s gs)))
     ++ (map (in_cluster m) middle ++ flooded (last_cluster middle) m (drop e gs))
 
-abbrev pub flood_merge : BufferClusterLevel → ℕ → ℕ → List hb_glyph_info_t → List hb_glyph_info_t
+abbrev pub flood_merge : BufferClusterLevel → ℕ → ℕ → Glyphs → Glyphs
 flood_merge level s e gs = if merges level && not (nat_lt (e - s) 2) then flood_merged s e gs else gs
 
 -- a flood reaches over the first glyphs of its cluster
-pub flooded-parts : (c m : ℕ) (gs : List hb_glyph_info_t)
+pub flooded-parts : (c m : ℕ) (gs : Glyphs)
     → flooded c m gs ≡ map (in_cluster m) (take (prefix_len (has_cluster c) gs) gs)
     ++ drop (prefix_len (has_cluster c) gs) gs
 flooded-parts c m [] = refl
@@ -43,7 +42,7 @@ flooded-parts c m (g ∷ gs) =
     search (arith, flooded-parts c m gs)
 
 -- a list with its last k elements changed, from the end
-reversed_parts : (f : hb_glyph_info_t → hb_glyph_info_t) (k : ℕ) (xs : List hb_glyph_info_t) → k ≤ length xs
+reversed_parts : (f : Glyph → Glyph) (k : ℕ) (xs : Glyphs) → k ≤ length xs
     → reverse (map f (take k (reverse xs)) ++ drop k (reverse xs)) ≡ take (length xs - k) xs
     ++ map f (drop (length xs - k) xs)
 reversed_parts f k xs h =
@@ -62,10 +61,10 @@ reversed_parts f k xs h =
       reverse-reverse b,
     )
 
-pub flooded_before : (c m : ℕ) (xs : List hb_glyph_info_t) → reverse (flooded c m (reverse xs))
+pub flooded_before : (c m : ℕ) (xs : Glyphs) → reverse (flooded c m (reverse xs))
     ≡ take (length xs - suffix_len (has_cluster c) xs) xs
     ++ map (in_cluster m) (drop (length xs - suffix_len (has_cluster c) xs) xs)
-flooded_before c m xs = search (arith, flooded-parts, reversed_parts, suffix_len-le-length)
+flooded_before = search (arith, flooded-parts, reversed_parts, suffix_len-le-length)
 
 -- a stretch with k places before it and j behind it, in its parts
 pub stretch_widened : {X : Type 0} (s e k j : ℕ) (gs : List X) → s ≤ e → k ≤ s → stretch_of (s - k) (e + j) gs
@@ -77,31 +76,29 @@ stretch_widened s e k j gs h l =
     search (arith, take-add, drop-drop)
 
 -- that stretch changed by f
-pub stretched_parts : (f : hb_glyph_info_t → hb_glyph_info_t) (s e k j : ℕ) (gs : List hb_glyph_info_t) → s ≤ e → k ≤ s
+pub stretched_parts : (f : Glyph → Glyph) (s e k j : ℕ) (gs : Glyphs) → s ≤ e → k ≤ s
     → with_stretch (s - k) (e + j) (map f) gs ≡ (take (s - k) gs ++ map f (drop (s - k) (take s gs)))
     ++ (map f (stretch_of s e gs) ++ (map f (take j (drop e gs)) ++ drop j (drop e gs)))
-stretched_parts f s e k j gs h l =
-    search (arith, stretch_widened, map-append, drop-drop, append_assoc)
+stretched_parts = search (arith, stretch_widened, map-append, drop-drop, append_assoc)
 
 -- how long a stretch is, what stands at its places, and each element of it changed
 pub length-stretch : {X : Type 0} (s e : ℕ) (xs : List X) → e ≤ length xs → length (stretch_of s e xs) ≡ e - s
-length-stretch s e xs h = search (arith, length-take-le, length-drop)
+length-stretch = search (arith, length-take-le, length-drop)
 
 pub get_or-stretch : {X : Type 0} (s e k : ℕ) (d : X) (xs : List X) → k < e - s → get_or (stretch_of s e xs) k d
     ≡ get_or xs (s + k) d
-get_or-stretch s e k d xs h = search (arith, get_or-take, get_or-drop)
+get_or-stretch = search (arith, get_or-take, get_or-drop)
 
 pub map-stretch : {X Y : Type 0} (f : X → Y) (s e : ℕ) (xs : List X)
     → map f (stretch_of s e xs) ≡ stretch_of s e (map f xs)
-map-stretch f s e xs = search (arith, drop-map, take-map)
+map-stretch = search (arith, drop-map, take-map)
 
 -- a list is its front, a stretch and what is behind it
 pub three_parts : {X : Type 0} (s e : ℕ) (xs : List X) → s ≤ e → take s xs ++ (stretch_of s e xs ++ drop e xs) ≡ xs
-three_parts s e xs h =
-    search (arith, drop-drop (e - s) s xs, take-append-drop, take-append-drop s xs)
+three_parts s e xs = search (arith, drop-drop (e - s) s xs, take-append-drop, take-append-drop s xs)
 
 -- glyphs of cluster 0 put into cluster 0 stay
-last_stay : (xs : List hb_glyph_info_t) → map (in_cluster 0) (drop (length xs - suffix_len (has_cluster 0) xs) xs)
+last_stay : (xs : Glyphs) → map (in_cluster 0) (drop (length xs - suffix_len (has_cluster 0) xs) xs)
     ≡ drop (length xs - suffix_len (has_cluster 0) xs) xs
 last_stay xs =
     let n = length xs - suffix_len (has_cluster 0) xs in
@@ -113,17 +110,13 @@ last_stay xs =
       reverse-reverse xs,
     )
 
-nothing_taken : (n : ℕ) → {X : Type 0} → take {A = X} n [] ≡ []
-nothing_taken zero = refl
-nothing_taken (suc n) = refl
-
 -- what the merge rule makes of a stretch of these glyphs that stands in gs
-with_middle : ℕ → ℕ → List hb_glyph_info_t → List hb_glyph_info_t → List hb_glyph_info_t
+with_middle : ℕ → ℕ → Glyphs → Glyphs → Glyphs
 with_middle s e gs middle =
     with_stretch (s - suffix_len (has_cluster (first_cluster middle)) (take s gs))
     (e + prefix_len (has_cluster (last_cluster middle)) (drop e gs)) (map (in_cluster (least (clusters middle)))) gs
 
-nothing_merged : (s e : ℕ) (gs : List hb_glyph_info_t) → s ≤ e → length gs ≤ s → with_middle s e gs [] ≡ gs
+nothing_merged : (s e : ℕ) (gs : Glyphs) → s ≤ e → length gs ≤ s → with_middle s e gs [] ≡ gs
 unfolding with_middle
 nothing_merged s e gs h l =
     let a = s - (suffix_len (has_cluster 0) (take s gs)) in
@@ -139,50 +132,33 @@ nothing_merged s e gs h l =
       three_parts a b gs (omega arith),
     )
 
-merged_outside : (s e : ℕ) (gs : List hb_glyph_info_t) → s ≤ e → length gs ≤ s → merged s e gs ≡ flood_merged s e gs
+merged_outside : (s e : ℕ) (gs : Glyphs) → s ≤ e → length gs ≤ s → merged s e gs ≡ flood_merged s e gs
 unfolding with_middle
-merged_outside s e gs h l =
-    search (arith, drop_all, nothing_merged, flooded_itself, reverse-reverse, take_all, append-nil)
+merged_outside = search (arith, drop_all, nothing_merged, flooded_itself, reverse-reverse, take_all, append-nil)
 
 -- the rule by its bounds is the code's
-pub merged_is : (s e : ℕ) (gs : List hb_glyph_info_t) → s ≤ e → merged s e gs ≡ flood_merged s e gs
-merged_is s e gs h =
-    search (
-      arith,
-      merged_outside,
-      stretched_parts,
-      suffix_len-le-length,
-      flooded_before,
-      length-take,
-      take-take,
-      flooded-parts,
-    )
+pub merged_is : (s e : ℕ) (gs : Glyphs) → s ≤ e → merged s e gs ≡ flood_merged s e gs
+merged_is = search (
+  arith,
+  merged_outside,
+  stretched_parts,
+  suffix_len-le-length,
+  flooded_before,
+  length-take,
+  take-take,
+  flooded-parts,
+)
 
-merge_either : (n : ℕ) (a : Bool) {X : Type 0} (x y z : X) → (1 < n → x ≡ y) → (if a && not (nat_lt n 2) then x else z)
-    ≡ (if a && not (nat_lt n 2) then y else z)
-merge_either n true x y z h = grind (arith, nat_tests)
-merge_either n false x y z h = refl
+pub merge_is : (level : BufferClusterLevel) (s e : ℕ) (gs : Glyphs) → merge level s e gs ≡ flood_merge level s e gs
+merge_is = search (arith, merged_is)
 
-pub merge_is : (level : BufferClusterLevel) (s e : ℕ) (gs : List hb_glyph_info_t)
-    → merge level s e gs ≡ flood_merge level s e gs
-merge_is level s e gs =
-    search (arith, merged_is)
-
-pub first-read : (gs : List hb_glyph_info_t) → (get_or gs 0 default_glyph).cluster ≡ first_cluster gs
-first-read [] = refl
-first-read (g ∷ gs) = refl
-
-pub last-read : (gs : List hb_glyph_info_t) → 0 < length gs → (get_or gs (length gs - 1) default_glyph).cluster
-    ≡ last_cluster gs
-last-read gs h =
-    search (arith, get_or-reverse gs 0 default_glyph h)
+pub last-read : (gs : Glyphs) → 0 < length gs → (get_or gs (length gs - 1) default_glyph).cluster ≡ last_cluster gs
+last-read gs h = search (arith, get_or-reverse gs 0 default_glyph h)
 
 -- the three parts as the code writes them are the merged glyphs
-pub parts_merged : (info before rest middle behind fb sc fa : List hb_glyph_info_t) (s e m : ℕ) → s + 1 < e
-    → e ≤ length info → before ≡ take s info → rest ≡ drop s info → middle ≡ take (e - s) rest
-    → behind ≡ drop (e - s) rest → m ≡ least (clusters middle)
-    → fb ≡ reverse (flooded (get_or middle 0 default_glyph).cluster m (reverse before)) → sc ≡ map (in_cluster m) middle
-    → fa ≡ flooded (get_or middle (length middle - 1) default_glyph).cluster m behind
+pub parts_merged : (info before rest middle behind fb sc fa : Glyphs) (s e m : ℕ) → s + 1 < e → e ≤ length info
+    → before ≡ take s info → rest ≡ drop s info → middle ≡ take (e - s) rest → behind ≡ drop (e - s) rest
+    → m ≡ least (clusters middle) → fb ≡ reverse (flooded (get_or middle 0 default_glyph).cluster m (reverse before))
+    → sc ≡ map (in_cluster m) middle → fa ≡ flooded (get_or middle (length middle - 1) default_glyph).cluster m behind
     → fb ++ (sc ++ fa) ≡ merged s e info
-parts_merged info before rest middle behind fb sc fa s e m two within b r i h n x y z =
-    search (arith, last-read, drop-drop, merged_is)
+parts_merged = search (arith, last-read, drop-drop, merged_is)

@@ -1,23 +1,23 @@
 -- Glyph flags, computed on small texts: who gets which bits.
 use Rattle.std.specs.Prelude.{◌≡◌, ℕ, true, false, List, [], ◌∷◌, map, refl}
-use Rattle.shapers_buffer.specs.declared.buffer.glyph.hb_glyph_info_t.{hb_glyph_info_t}
+use Rattle.shapers_buffer.specs.Glyphs.{Glyph, Glyphs}
 use Rattle.shapers_buffer.specs.Buffer.{asks, has_flag, new_buffer}
 use Rattle.shapers_buffer.specs.Glyph.{default_glyph}
 use Rattle.shapers_buffer.specs.GlyphFlags.{flagged, tatweel_inside, unsafe_all, unsafe_inside, unsafe_to_concat_in}
 
 -- glyphs of these clusters, where every mask is m
-abbrev text_of : ℕ → List ℕ → List hb_glyph_info_t
-text_of m cs = map (λ c. let g : hb_glyph_info_t = record default_glyph { cluster = c; mask = m } in g) cs
+abbrev text_of : ℕ → List ℕ → Glyphs
+text_of m cs = map (λ c. let g : Glyph = record default_glyph { cluster = c; mask = m } in g) cs
 
 -- glyphs of these clusters without any mask bit
-abbrev text : List ℕ → List hb_glyph_info_t
+abbrev text : List ℕ → Glyphs
 text cs = text_of 0 cs
 
-abbrev masks : List hb_glyph_info_t → List ℕ
+abbrev masks : Glyphs → List ℕ
 masks gs = map (λ g. g.mask) gs
 
 -- a glyph whose fields are all set
-abbrev full : hb_glyph_info_t
+abbrev full : Glyph
 full = record {
   glyph_id = 0x916;
   cluster = 5;

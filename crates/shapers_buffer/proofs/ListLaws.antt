@@ -26,28 +26,23 @@ prefix_len_stop test (x ∷ xs) a ys h = cc (prefix_len_stop test xs a ys h)
 -- what stands before an element that fails doesn't matter
 pub suffix_len_stop : {X : Type 0} (test : X → Bool) (xs : List X) (a : X) (ys : List X) → test a ≡ false
     → suffix_len test (xs ++ a ∷ ys) ≡ suffix_len test ys
-suffix_len_stop test xs a ys h =
-    search (arith, reverse-append, reverse_onto, append_assoc, prefix_len_stop)
+suffix_len_stop = search (arith, reverse-append, reverse_onto, append_assoc, prefix_len_stop)
 
 pub last_run_yes : {X : Type 0} (test : X → Bool) (xs : List X) (x : X) → test x ≡ true → last_run test (xs ++ x ∷ [])
     ≡ last_run test xs ++ x ∷ []
-last_run_yes test xs x h =
-    search (arith, length_push, suffix_len_yes, drop-append-le)
+last_run_yes = search (arith, length_push, suffix_len_yes, drop-append-le)
 
 pub before_last_run_yes : {X : Type 0} (test : X → Bool) (xs : List X) (x : X) → test x ≡ true
     → before_last_run test (xs ++ x ∷ []) ≡ before_last_run test xs
-before_last_run_yes test xs x h =
-    search (arith, length_push, suffix_len_yes, take-append-le)
+before_last_run_yes = search (arith, length_push, suffix_len_yes, take-append-le)
 
 pub last_run_no : {X : Type 0} (test : X → Bool) (xs : List X) (x : X) → test x ≡ false → last_run test (xs ++ x ∷ [])
     ≡ []
-last_run_no test xs x h =
-    search (arith, drop_all, suffix_len_no)
+last_run_no = search (arith, drop_all, suffix_len_no)
 
 pub before_last_run_no : {X : Type 0} (test : X → Bool) (xs : List X) (x : X) → test x ≡ false
     → before_last_run test (xs ++ x ∷ []) ≡ xs ++ x ∷ []
-before_last_run_no test xs x h =
-    search (arith, take_all, suffix_len_no)
+before_last_run_no = search (arith, take_all, suffix_len_no)
 
 pub last_run_stop : {X : Type 0} (test : X → Bool) (xs : List X) (a : X) (ys : List X) → test a ≡ false
     → last_run test (xs ++ a ∷ ys) ≡ last_run test ys
@@ -67,8 +62,7 @@ onto_first_some x [] = omega arith
 onto_first_some x (piece ∷ pieces) = omega arith
 
 cut_after_some : {X : Type 0} (test : X → Bool) (x : X) (xs : List X) → 0 < length (cut_after test (x ∷ xs))
-cut_after_some test x xs =
-    search (arith, onto_first_some)
+cut_after_some = search (arith, onto_first_some)
 
 cut_after_middle : {X : Type 0} (test : X → Bool) (xs : List X) (a : X) (ys : List X)
     → 0 < length (cut_after test (xs ++ a ∷ ys))
@@ -90,8 +84,7 @@ cut_after-append test (x ∷ xs) a ys h =
 -- a list none of which passes, and one more element, is one piece
 pub cut_after_none : {X : Type 0} (test : X → Bool) (xs : List X) (x : X) → list_any test xs ≡ false
     → cut_after test (xs ++ x ∷ []) ≡ (xs ++ x ∷ []) ∷ []
-cut_after_none test [] x h =
-    search arith
+cut_after_none test [] x h = search arith
 cut_after_none test (y ∷ xs) x h =
     let none = (or_parts _ _ h).1 in search (arith, refl, cut_after_none test xs x none)
 
@@ -106,22 +99,21 @@ pub record LastPass {X : Type 0} (test : X → Bool) (xs : List X) : Type 0 wher
 
 pub last_pass : {X : Type 0} (test : X → Bool) (xs : List X) → (list_any test xs ≡ false) ⊎ LastPass test xs
 last_pass test [] = inl refl
-last_pass test (x ∷ xs) =
-    elim (last_pass test xs) [
-      | inr p ↦ inr
-          (record {
-            before = x ∷ p.before;
-            element = p.element;
-            after = p.after;
-            parts = ap (λ zs. x ∷ zs) p.parts;
-            passes = p.passes;
-            none_after = p.none_after;
-          })
-      | inl none ↦ elim (test x) as (λ b. test x ≡ b → ((b || list_any test xs) ≡ false) ⊎ LastPass test (x ∷ xs)) [
-        | true ↦ λ h. inr (record { before = []; element = x; after = xs; parts = refl; passes = h; none_after = none })
-        | false ↦ λ h. inl none
-      ] refl
-    ]
+last_pass test (x ∷ xs) = elim (last_pass test xs) [
+  | inr p ↦ inr
+      (record {
+        before = x ∷ p.before;
+        element = p.element;
+        after = p.after;
+        parts = ap (λ zs. x ∷ zs) p.parts;
+        passes = p.passes;
+        none_after = p.none_after;
+      })
+  | inl none ↦ elim (test x) as (λ b. test x ≡ b → ((b || list_any test xs) ≡ false) ⊎ LastPass test (x ∷ xs)) [
+    | true ↦ λ h. inr (record { before = []; element = x; after = xs; parts = refl; passes = h; none_after = none })
+    | false ↦ λ h. inl none
+  ] refl
+]
 
 -- parts of a list none of which passes
 pub none_in_front : {X : Type 0} (test : X → Bool) (n : ℕ) (xs : List X) → list_any test xs ≡ false
@@ -132,13 +124,12 @@ none_in_front test n xs none =
 
 pub none_pushed : {X : Type 0} (test : X → Bool) (xs : List X) (x : X) → list_any test xs ≡ false → test x ≡ false
     → list_any test (xs ++ x ∷ []) ≡ false
-none_pushed test xs x none fails = search (arith, list_any-append, or_from)
+none_pushed test xs x none = search (arith, list_any-append, or_from)
 
 pub none_before_push : {X : Type 0} (test : X → Bool) (xs : List X) (x : X) → list_any test (xs ++ x ∷ []) ≡ false
     → (list_any test xs ≡ false) × (test x ≡ false)
 none_before_push test xs x none =
-    let parts = or_parts _ _ (sym (list_any-append test xs (x ∷ [])) ∙ none) in
-    (parts.0, (or_parts _ _ parts.1).0)
+    let parts = or_parts _ _ (sym (list_any-append test xs (x ∷ [])) ∙ none) in (parts.0, (or_parts _ _ parts.1).0)
 
 -- a list is empty or has a last element
 pub record LastOf {X : Type 0} (xs : List X) : Type 0 where
@@ -148,11 +139,10 @@ pub record LastOf {X : Type 0} (xs : List X) : Type 0 where
 
 pub last_of : {X : Type 0} (xs : List X) → (xs ≡ []) ⊎ LastOf xs
 last_of [] = inl refl
-last_of (x ∷ xs) =
-    elim (last_of xs) [
-      | inl e ↦ inr (record { front = []; last = x; parts = ap (λ zs. x ∷ zs) e })
-      | inr p ↦ inr (record { front = x ∷ p.front; last = p.last; parts = ap (λ zs. x ∷ zs) p.parts })
-    ]
+last_of (x ∷ xs) = elim (last_of xs) [
+  | inl e ↦ inr (record { front = []; last = x; parts = ap (λ zs. x ∷ zs) e })
+  | inr p ↦ inr (record { front = x ∷ p.front; last = p.last; parts = ap (λ zs. x ∷ zs) p.parts })
+]
 
 -- a law of lists from their ends
 back : {X : Type 0} (P : List X → Type 0) → P [] → ((xs : List X) (x : X) → P xs → P (xs ++ x ∷ [])) → (xs : List X)
@@ -167,7 +157,7 @@ from_end P start next xs = subst P (reverse-reverse xs) (back P start next (reve
 -- one more element counted
 pub count_push : {X : Type 0} (test : X → Bool) (xs : List X) (x : X) (b : Bool) → test x ≡ b
     → count_by test (xs ++ x ∷ []) ≡ count_by test xs + cond b 1 0
-count_push test xs x b h = search (arith, sum_by_push)
+count_push = search (arith, sum_by_push)
 
 no_one : (b : Bool) (n : ℕ) → cond b 1 0 + n ≡ 0 → b ≡ false
 no_one true n h = absurd (omega arith)

@@ -1,6 +1,6 @@
 -- Laws of mapped and of numbered lists.
 use Rattle.std.proofs.Common.{◌≡◌, ℕ, zero, suc, ◌-◌, ◌+◌, ◌<◌, ◌≤◌, Bool, List, [], ◌∷◌, ◌++◌, length, map, flat_map, take, drop, reverse, refl, sym, ap, subst, ◌∙◌, arith}
-use Rattle.std.specs.List.{list_any, suffix_len, prefix_len, onto_first, enumerate_from, range_with_len, AllByRecursion, Contains, take-map}
+use Rattle.std.specs.List.{list_any, suffix_len, prefix_len, enumerate_from, range_with_len, AllByRecursion, Contains, take-map}
 use Rattle.std.proofs.lemmas.List.{append_assoc, append-nil, get_or-map, length_push, reverse-append, map_push, length-map, drop-map}
 use Rattle.std.proofs.lemmas.List.Elements.{Contains-append_left, Contains-append_right}
 use Rattle.std.proofs.lemmas.List.FromFn.{length-enumerate_from}
@@ -40,27 +40,20 @@ suffix_len-map test f xs = search (arith, map-reverse f xs, prefix_len-map)
 
 run_start : {X Y : Type 0} (test : Y → Bool) (f : X → Y) (xs : List X) → length (map f xs) - suffix_len test (map f xs)
     ≡ length xs - suffix_len (λ x. test (f x)) xs
-run_start test f xs = search (arith, length-map, suffix_len-map)
+run_start = search (arith, length-map, suffix_len-map)
 
 pub last_run-map : {X Y : Type 0} (test : Y → Bool) (f : X → Y) (xs : List X)
     → last_run test (map f xs) ≡ map f (last_run (λ x. test (f x)) xs)
-last_run-map test f xs = search (arith, run_start, drop-map)
+last_run-map = search (arith, run_start, drop-map)
 
 pub before_last_run-map : {X Y : Type 0} (test : Y → Bool) (f : X → Y) (xs : List X) → before_last_run test (map f xs)
     ≡ map f (before_last_run (λ x. test (f x)) xs)
 before_last_run-map test f xs = ap (λ n. take n (map f xs)) (run_start test f xs) ∙ take-map f _ xs
 
--- a mapped list, cut
-onto_first-map : {X Y : Type 0} (f : X → Y) (x : X) (pieces : List (List X)) → map (map f) (onto_first x pieces)
-    ≡ onto_first (f x) (map (map f) pieces)
-onto_first-map f x [] = refl
-onto_first-map f x (piece ∷ pieces) = refl
-
 pub cut_after-map : {X Y : Type 0} (test : Y → Bool) (f : X → Y) (xs : List X)
     → cut_after test (map f xs) ≡ map (map f) (cut_after (λ x. test (f x)) xs)
 cut_after-map test f [] = refl
-cut_after-map test f (x ∷ xs) =
-    search (arith, cut_after-map test f xs)
+cut_after-map test f (x ∷ xs) = search (arith, cut_after-map test f xs)
 
 -- numbered lists: their values and their numbers, parts of them
 pub values-enumerate_from : {X : Type 0} (n : ℕ) (xs : List X) → map (λ p. p.1) (enumerate_from n xs) ≡ xs
@@ -75,38 +68,34 @@ places-enumerate_from n (x ∷ xs) = cc (places-enumerate_from (n + 1) xs)
 enumerate_from-append : {X : Type 0} (n : ℕ) (xs ys : List X) → enumerate_from n (xs ++ ys) ≡ enumerate_from n xs
     ++ enumerate_from (n + length xs) ys
 enumerate_from-append n [] ys = search arith
-enumerate_from-append n (x ∷ xs) ys =
-    search (arith, enumerate_from-append (n + 1) xs ys)
+enumerate_from-append n (x ∷ xs) ys = search (arith, enumerate_from-append (n + 1) xs ys)
 
 pub enumerate-append : {X : Type 0} (xs ys : List X) → enumerate_from 0 (xs ++ ys) ≡ enumerate_from 0 xs
     ++ enumerate_from (length xs) ys
-enumerate-append xs ys = search (arith, enumerate_from-append)
+enumerate-append = search (arith, enumerate_from-append)
 
 pub take-enumerate_from : {X : Type 0} (n k : ℕ) (xs : List X) → take k (enumerate_from n xs)
     ≡ enumerate_from n (take k xs)
-take-enumerate_from n zero xs = refl
-take-enumerate_from n (suc k) [] = refl
 take-enumerate_from n (suc k) (x ∷ xs) = cc (take-enumerate_from (n + 1) k xs)
+take-enumerate_from n _ _ = refl
 
 pub drop-range : (a n k : ℕ) → drop k (range_with_len a n) ≡ range_with_len (a + k) (n - k)
 drop-range a n zero = search arith
 drop-range a zero (suc k) = search arith
-drop-range a (suc n) (suc k) =
-    search (arith, drop-range (a + 1) n k)
+drop-range a (suc n) (suc k) = search (arith, drop-range (a + 1) n k)
 
 -- the longest end of a numbered list, and what stands before it
 numbered_run_start : {X : Type 0} (test : X → Bool) (n : ℕ) (xs : List X)
     → length (enumerate_from n xs) - suffix_len (λ p. test p.1) (enumerate_from n xs) ≡ length xs - suffix_len test xs
-numbered_run_start test n xs =
-    omega (
-      arith,
-      length-enumerate_from n xs,
-      sym (suffix_len-map test (λ p. p.1) (enumerate_from n xs)) ∙ ap (suffix_len test) (values-enumerate_from n xs),
-    )
+numbered_run_start test n xs = omega (
+  arith,
+  length-enumerate_from n xs,
+  sym (suffix_len-map test (λ p. p.1) (enumerate_from n xs)) ∙ ap (suffix_len test) (values-enumerate_from n xs),
+)
 
 pub before_last_run-enumerate_from : {X : Type 0} (test : X → Bool) (n : ℕ) (xs : List X)
     → before_last_run (λ p. test p.1) (enumerate_from n xs) ≡ enumerate_from n (before_last_run test xs)
-before_last_run-enumerate_from test n xs = search (arith, numbered_run_start, take-enumerate_from)
+before_last_run-enumerate_from = search (arith, numbered_run_start, take-enumerate_from)
 
 pub places-last_run : {X : Type 0} (test : X → Bool) (xs : List X)
     → map (λ p. p.0) (last_run (λ p. test p.1) (enumerate_from 0 xs))
@@ -135,14 +124,12 @@ all-mapped P Q f (x ∷ xs) g h = (g x h.0, all-mapped P Q f xs g h.1)
 
 pub all-range : (P : ℕ → Type 0) (a k : ℕ) → ((p : ℕ) → a ≤ p → p < a + k → P p) → AllByRecursion P (range_with_len a k)
 all-range P a zero h = tt
-all-range P a (suc k) h =
-    search (arith, all-range P (a + 1) k (λ p x y. h p (omega arith) (omega arith)))
+all-range P a (suc k) h = search (arith, all-range P (a + 1) k (λ p x y. h p (omega arith) (omega arith)))
 
 pub all-flat_map : {X Y : Type 0} (Q : X → Type 0) (P : Y → Type 0) (f : X → List Y)
     → ((x : X) → Q x → AllByRecursion P (f x)) → (xs : List X) → AllByRecursion Q xs → AllByRecursion P (flat_map f xs)
 all-flat_map Q P f each [] all = tt
-all-flat_map Q P f each (x ∷ xs) all =
-    search (arith, all-append, all-flat_map Q P f each xs all.1)
+all-flat_map Q P f each (x ∷ xs) all = search (arith, all-append, all-flat_map Q P f each xs all.1)
 
 pub Contains-flat_map : {X Y : Type 0} (f : X → List Y) (xs : List X) (x : X) (y : Y) → Contains xs x → Contains (f x) y
     → Contains (flat_map f xs) y
@@ -156,13 +143,11 @@ Contains-flat_map f (z ∷ xs) x y (suc k, inside, at) among =
 pub each_after-push : {X : Type 0} (before xs : List X) (x : X) → each_after before (xs ++ x ∷ [])
     ≡ each_after before xs ++ (before ++ xs, x) ∷ []
 each_after-push before [] x = cc (append-nil before)
-each_after-push before (y ∷ xs) x =
-    search (arith, append_assoc, each_after-push (before ++ y ∷ []) xs x)
+each_after-push before (y ∷ xs) x = search (arith, append_assoc, each_after-push (before ++ y ∷ []) xs x)
 
 pub Contains-each_after : {X : Type 0} (before xs : List X) (x : X) (ys : List X)
     → Contains (each_after before (xs ++ x ∷ ys)) (before ++ xs, x)
-Contains-each_after before [] x ys =
-    search (arith, append-nil)
+Contains-each_after before [] x ys = search (arith, append-nil)
 Contains-each_after before (y ∷ xs) x ys =
     let (k, inside, at) =
     subst (λ zs. Contains (each_after (before ++ y ∷ []) (xs ++ x ∷ ys)) (zs, x))

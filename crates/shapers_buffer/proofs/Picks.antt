@@ -1,5 +1,5 @@
 -- Laws of picked elements.
-use Rattle.std.proofs.Common.{ℕ, zero, suc, ◌+◌, ◌<◌, ◌≤◌, ◌≡◌, ◌⊎◌, inl, inr, List, [], ◌∷◌, ◌++◌, Option, Some, None, option_map, map, length, get_or, take, drop, refl, ◌∙◌, arith}
+use Rattle.std.proofs.Common.{ℕ, zero, suc, ◌+◌, ◌<◌, ◌≤◌, ◌≡◌, ◌⊎◌, inl, inr, List, [], ◌∷◌, ◌++◌, Option, Some, None, map, length, get_or, take, drop, refl, ◌∙◌, arith}
 use Rattle.std.specs.List.{AllByRecursion, AllZip, slice_get, range_with_len, cons_option}
 use Rattle.std.proofs.lemmas.Option.{slice_get-get_or, slice_get_past, slice_get-map}
 use Rattle.std.proofs.lemmas.List.{drop_more, take_all}
@@ -38,15 +38,9 @@ get_or-pick d [] xs h k l = absurd (omega arith)
 get_or-pick d (p ∷ ps) xs h zero l = cc (pick-within d p ps xs h.0)
 get_or-pick d (p ∷ ps) xs h (suc k) l = cc (pick-within d p ps xs h.0, get_or-pick d ps xs h.1 k (omega arith))
 
-map-cons_option : {X Y : Type 0} (f : X → Y) (o : Option X) (xs : List X) → cons_option (option_map f o) (map f xs)
-    ≡ map f (cons_option o xs)
-map-cons_option f None xs = refl
-map-cons_option f (Some x) xs = refl
-
 pub pick-map : {X Y : Type 0} (f : X → Y) (ps : List ℕ) (xs : List X) → pick ps (map f xs) ≡ map f (pick ps xs)
 pick-map f [] xs = refl
-pick-map f (p ∷ ps) xs =
-    search (arith, slice_get-map, pick-map f ps xs)
+pick-map f (p ∷ ps) xs = search (arith, slice_get-map, pick-map f ps xs)
 
 pub pick-append : {X : Type 0} (ps qs : List ℕ) (xs : List X) → pick (ps ++ qs) xs ≡ pick ps xs ++ pick qs xs
 pick-append ps qs xs = filter_map-append (slice_get xs) ps qs
@@ -113,22 +107,19 @@ BothHave R (Some x) (Some y) = R x y
 get_zip : {X Y : Type 0} (R : X → Y → Type 0) (p : ℕ) (xs : List X) (ys : List Y) → AllZip R xs ys
     → BothHave R (slice_get xs p) (slice_get ys p)
 get_zip R p [] [] h = tt
-get_zip R p [] (y ∷ ys) h = absurd h
-get_zip R p (x ∷ xs) [] h = absurd h
 get_zip R zero (x ∷ xs) (y ∷ ys) h = h.0
 get_zip R (suc p) (x ∷ xs) (y ∷ ys) h = get_zip R p xs ys h.1
+get_zip R p _ _ h = absurd h
 
 cons_zip : {X Y : Type 0} (R : X → Y → Type 0) (o : Option X) (u : Option Y) (xs : List X) (ys : List Y)
     → BothHave R o u → AllZip R xs ys → AllZip R (cons_option o xs) (cons_option u ys)
 cons_zip R None None xs ys h i = i
-cons_zip R None (Some y) xs ys h i = absurd h
-cons_zip R (Some x) None xs ys h i = absurd h
 cons_zip R (Some x) (Some y) xs ys h i = (h, i)
+cons_zip R _ _ xs ys h i = absurd h
 
 pick-cons_zip : {X Y : Type 0} (R : X → Y → Type 0) (p : ℕ) (ps : List ℕ) (xs : List X) (ys : List Y) → AllZip R xs ys
     → AllZip R (pick ps xs) (pick ps ys) → AllZip R (pick (p ∷ ps) xs) (pick (p ∷ ps) ys)
-pick-cons_zip R p ps xs ys h i =
-    search (arith, cons_zip, get_zip)
+pick-cons_zip R = search (arith, cons_zip, get_zip)
 
 -- what holds place by place holds of what is picked at the same places
 pub AllZip-pick : {X Y : Type 0} (R : X → Y → Type 0) (ps : List ℕ) (xs : List X) (ys : List Y) → AllZip R xs ys

@@ -18,38 +18,34 @@ one_piece test rule xs x none =
 -- where none passes, the list stays
 pub opened_pieces-none : {X : Type 0} (test : X → Bool) (rule : List X → X → List X) (xs : List X)
     → list_any test xs ≡ false → opened_pieces test rule xs ≡ xs
-opened_pieces-none test rule xs none =
-    elim (last_of xs) [
-      | inl e ↦ ap (opened_pieces test rule) e ∙ sym e
-      | inr p ↦
-          let parts = none_before_push test p.front p.last (sym (ap (list_any test) p.parts) ∙ none) in
-          ap (opened_pieces test rule) p.parts ∙ one_piece test rule p.front p.last parts.0
-          ∙ ap (λ b. cond b (rule p.front p.last) (p.front ++ p.last ∷ [])) parts.1 ∙ sym p.parts
-    ]
+opened_pieces-none test rule xs none = elim (last_of xs) [
+  | inl e ↦ ap (opened_pieces test rule) e ∙ sym e
+  | inr p ↦
+      let parts = none_before_push test p.front p.last (sym (ap (list_any test) p.parts) ∙ none) in
+      ap (opened_pieces test rule) p.parts ∙ one_piece test rule p.front p.last parts.0
+      ∙ ap (λ b. cond b (rule p.front p.last) (p.front ++ p.last ∷ [])) parts.1 ∙ sym p.parts
+]
 
 -- what stands up to an element that passes, and behind it, is opened for itself
 pub opened_pieces-append : {X : Type 0} (test : X → Bool) (rule : List X → X → List X) (xs : List X) (a : X)
     (ys : List X) → test a ≡ true → opened_pieces test rule (xs ++ a ∷ ys) ≡ opened_pieces test rule (xs ++ a ∷ [])
     ++ opened_pieces test rule ys
-opened_pieces-append test rule xs a ys h =
-    search (arith, cut_after-append, flat_map-append)
+opened_pieces-append = search (arith, cut_after-append, flat_map-append)
 
 pub opened_pieces-push : {X : Type 0} (test : X → Bool) (rule : List X → X → List X) (xs : List X) (x : X)
     → test x ≡ false → opened_pieces test rule (xs ++ x ∷ []) ≡ opened_pieces test rule xs ++ x ∷ []
-opened_pieces-push test rule xs x fails =
-    elim (last_pass test xs) [
-      | inl none ↦ search (arith, opened_pieces-none, none_pushed)
-      | inr p ↦
-          search (arith, append_assoc, opened_pieces-append, opened_pieces-none, none_pushed)
-    ]
+opened_pieces-push test rule xs x fails = elim (last_pass test xs) [
+  | inl none ↦ search (arith, opened_pieces-none, none_pushed)
+  | inr p ↦
+      search (arith, append_assoc, opened_pieces-append, opened_pieces-none, none_pushed)
+]
 
 -- a rule that f leads to another: the pieces of a mapped list
 opened_back-map : {X Y : Type 0} (f : X → Y) (test : Y → Bool) (rule : List X → X → List X) (other : List Y → Y
     → List Y) → ((xs : List X) (x : X) → map f (rule xs x) ≡ other (map f xs) (f x)) → (xs : List X)
     → map f (opened_back (λ x. test (f x)) rule xs) ≡ opened_back test other (map f xs)
 opened_back-map f test rule other leads [] = refl
-opened_back-map f test rule other leads (x ∷ before) =
-    search (arith, map-reverse, map-reverse f (x ∷ before))
+opened_back-map f test rule other leads (x ∷ before) = search (arith, map-reverse, map-reverse f (x ∷ before))
 
 pieces-map : {X Y : Type 0} (f : X → Y) (test : Y → Bool) (rule : List X → X → List X) (other : List Y → Y → List Y)
     → ((xs : List X) (x : X) → map f (rule xs x) ≡ other (map f xs) (f x)) → (pieces : List (List X))

@@ -9,7 +9,7 @@ use Rattle.std.proofs.lemmas.List.Sorted.{All-permutation}
 use Rattle.std.proofs.lemmas.Option.{slice_get-get_or}
 use Rattle.std.proofs.lemmas.Bool.Decides.{nat_tests}
 use Rattle.std.proofs.lemmas.List.{length-replicate}
-use Rattle.shapers_buffer.specs.Places.{onto_places, without_last_zeros, with_place, place_at, listed, pick, ListsEachOnce, PlacesAreWritten}
+use Rattle.shapers_buffer.specs.Places.{without_last_zeros, with_place, place_at, listed, pick, ListsEachOnce, PlacesAreWritten}
 use Rattle.shapers_buffer.specs.Clusters.{stretch_of}
 use Rattle.shapers_buffer.proofs.ClusterLemmas.{length-stretch}
 
@@ -20,18 +20,6 @@ no_zeros (suc n) = cc (no_zeros n)
 pub without_last_zeros-append : (ps : List ℕ) (n : ℕ) → without_last_zeros (ps ++ replicate n 0) ≡ without_last_zeros ps
 without_last_zeros-append [] n = no_zeros n
 without_last_zeros-append (p ∷ ps) n = cc (without_last_zeros-append ps n)
-
--- what is read stays
-read_onto : (p : ℕ) (ps : List ℕ) (i : ℕ) → place_at (onto_places p ps) i ≡ place_at (p ∷ ps) i
-read_onto zero [] zero = refl
-read_onto zero [] (suc i) = refl
-read_onto (suc p) [] i = search (arith, nat_tests, refl)
-read_onto p (q ∷ ps) i = refl
-
-read_behind : (p : ℕ) (ps qs : List ℕ) → ((i : ℕ) → place_at ps i ≡ place_at qs i) → (i : ℕ)
-    → place_at (p ∷ ps) i ≡ place_at (p ∷ qs) i
-read_behind p ps qs same zero = refl
-read_behind p ps qs same (suc i) = same i
 
 pub place_at-without_last_zeros : (ps : List ℕ) (i : ℕ) → place_at (without_last_zeros ps) i ≡ place_at ps i
 place_at-without_last_zeros [] i = refl
@@ -53,14 +41,12 @@ read_set : (ps : List ℕ) (i p j : ℕ) → i < length ps → place_at (slice_s
     ≡ (if j == i then p else place_at ps j)
 read_set [] i p j h = absurd (omega arith)
 read_set (q ∷ ps) zero p zero h = refl
-read_set (q ∷ ps) zero p (suc j) h = search (arith, nat_tests, refl)
-read_set (q ∷ ps) (suc i) p zero h = search (arith, nat_tests, refl)
 read_set (q ∷ ps) (suc i) p (suc j) h = search (arith, read_set ps i p j (omega arith), compare.suc-suc)
+read_set (q ∷ ps) _ p _ h = search (arith, nat_tests, refl)
 
 read_zeros : (n i : ℕ) → place_at (replicate n 0) i ≡ 0
-read_zeros zero i = refl
-read_zeros (suc n) zero = refl
 read_zeros (suc n) (suc i) = read_zeros n i
+read_zeros _ _ = refl
 
 read_padded : (ps : List ℕ) (n i : ℕ) → place_at (ps ++ replicate n 0) i ≡ place_at ps i
 read_padded [] n i = read_zeros n i
@@ -68,11 +54,10 @@ read_padded (p ∷ ps) n zero = refl
 read_padded (p ∷ ps) n (suc i) = read_padded ps n i
 
 long_enough : (ps : List ℕ) (i : ℕ) → i < length (ps ++ replicate (suc i) 0)
-long_enough ps i = search (arith, length-append, length-replicate)
+long_enough = search (arith, length-append, length-replicate)
 
 pub places_are_written : PlacesAreWritten
-places_are_written i p places j =
-    search (arith, place_at-without_last_zeros, read_set, long_enough, read_padded)
+places_are_written = search (arith, place_at-without_last_zeros, read_set, long_enough, read_padded)
 
 -- a list with a place written, but for its last zeros
 pub set-without_last_zeros : (ps : List ℕ) (i p : ℕ) → i < length ps → without_last_zeros (slice_set ps i p)
@@ -85,8 +70,7 @@ set-without_last_zeros ps i p h =
 
 listed_at : (s e : ℕ) (ps : List ℕ) (k : ℕ) → k < e - s → get_or (listed s e (without_last_zeros ps)) k 0
     ≡ get_or (stretch_of s e ps) k 0
-listed_at s e ps k h =
-    search (arith, get_or-map-range_with_len, place_at-without_last_zeros, get_or-take, get_or-drop)
+listed_at = search (arith, get_or-map-range_with_len, place_at-without_last_zeros, get_or-take, get_or-drop)
 
 pub listed-stretch : (s e : ℕ) (ps : List ℕ) → s ≤ e → e ≤ length ps → listed s e (without_last_zeros ps)
     ≡ stretch_of s e ps
@@ -97,11 +81,11 @@ listed-stretch s e ps h l =
 
 -- places that are each listed once lie within
 range_within : (s e n : ℕ) → s ≤ e → e ≤ n → All (λ p. p < n) (range_with_len s (e - s))
-range_within s e n h l = search (arith, get_or-range_with_len, length-range_with_len)
+range_within = search (arith, get_or-range_with_len, length-range_with_len)
 
 pub listed_within : (s e n : ℕ) (places : List ℕ) → s ≤ e → e ≤ n → ListsEachOnce s e places
     → All (λ p. p < n) (listed s e places)
-listed_within s e n places h l each = search (arith, All-permutation, range_within)
+listed_within = search (arith, All-permutation, range_within)
 
 -- one more glyph picked
 pub gather_more : {X : Type 0} (d : X) (xs to : List X) (places : List ℕ) (i : ℕ) → i < length places → i < length to

@@ -18,14 +18,13 @@ use Rattle.shapers_buffer.proofs.Ranges.{range-append}
 -- A STRETCH of three parts, changed
 pub with_stretch_at : {X : Type 0} (f : List X → List X) (a b c : List X) (s e : ℕ) → length a ≡ s → s + length b ≡ e
     → with_stretch s e f (a ++ (b ++ c)) ≡ a ++ (f b ++ c)
-with_stretch_at f a b c s e la lb =
-    search (
-      arith,
-      take_at,
-      drop_at,
-      append_assoc a b c,
-      drop_at (a ++ b) c e (length-append a b ∙ omega (arith, la, lb)),
-    )
+with_stretch_at f a b c s e la lb = search (
+  arith,
+  take_at,
+  drop_at,
+  append_assoc a b c,
+  drop_at (a ++ b) c e (length-append a b ∙ omega (arith, la, lb)),
+)
 
 -- FOUR PARTS: what stands before, what is passed, what comes, what stands behind
 pub record FourParts {X : Type 0} (to from count : ℕ) (xs : List X) : Type 0 where
@@ -68,8 +67,7 @@ brought_parts a b c d to from count la lb lc =
 
 -- ROTATIONS. The last of two parts comes before the first
 pub last_first : {X : Type 0} (a b : List X) (k : ℕ) → length b ≡ k → slice_rotate_right (a ++ b) k ≡ b ++ a
-last_first a b k n =
-    search (arith, drop_at, length-append, take_at)
+last_first = search (arith, drop_at, length-append, take_at)
 
 -- the last elements before the others, one by one
 pub rotated_more : {X : Type 0} (xs : List X) (k : ℕ) (d : X) → k < length xs
@@ -89,8 +87,7 @@ rotated_more xs k d within =
 -- the first elements behind the others, one by one
 pub turned_more : {X : Type 0} (xs : List X) (k : ℕ) (d : X) → k < length xs
     → drop 1 (drop k xs ++ take k xs) ++ take 1 (drop k xs ++ take k xs) ≡ drop (k + 1) xs ++ take (k + 1) xs
-turned_more xs k d within =
-    search (arith, drop_more xs k d within, append_assoc, take_more xs k d within)
+turned_more xs k d within = search (arith, drop_more xs k d within, append_assoc, take_more xs k d within)
 
 -- a stretch rotated by what comes
 pub rotated_stretch : {X : Type 0} (to from count : ℕ) (xs : List X) → to ≤ from → from + count ≤ length xs
@@ -111,9 +108,8 @@ rotated_stretch to from count xs h l =
 
 -- GONE BACK: the first of a stretch behind its others, so many
 first_goes_back : {X : Type 0} (a b : List X) → length a ≡ 1 → first_last (a ++ b) ≡ b ++ a
-first_goes_back [] b n = absurd (omega arith)
 first_goes_back (x ∷ []) b n = refl
-first_goes_back (x ∷ (y ∷ a)) b n = absurd (omega arith)
+first_goes_back _ b n = absurd (omega arith)
 
 pub gone_back : {X : Type 0} (at count : ℕ) (xs : List X) → at + 1 + count ≤ length xs
     → brought_forward at (at + 1) count xs ≡ with_stretch at (at + 1 + count) first_last xs
@@ -144,24 +140,22 @@ parts_permute a b c d =
     ))
 
 range_at : (s m e : ℕ) → s ≤ m → m ≤ e → range_with_len s (e - s) ≡ range_with_len s (m - s) ++ range_with_len m (e - m)
-range_at s m e h l =
-    search (arith, range-append s (m - s) (e - m))
+range_at s m e = search (arith, range-append s (m - s) (e - m))
 
 pub forward_permutes : (to from count s e : ℕ) (places : List ℕ) → s ≤ to → to ≤ from → from + count ≤ e
     → PlacesEachOnce (Forward to from count) s e places
-forward_permutes to from count s e places h l m =
-    search (
-      arith,
-      range_at s to e h (omega arith),
-      range_at to from e l (omega arith),
-      range_at from (from + count) e (omega arith) m,
-      parts_permute,
-    )
+forward_permutes to from count s e places h l m = search (
+  arith,
+  range_at s to e h (omega arith),
+  range_at to from e l (omega arith),
+  range_at from (from + count) e (omega arith) m,
+  parts_permute,
+)
 
 -- where each place is said once, what comes forward stands in the syllable
 pub forward_inside : (to from count s e : ℕ) (places : List ℕ) → s ≤ e
     → PlacesEachOnce (Forward to from count) s e places → (s ≤ to) × (to ≤ from) × (from + count ≤ e)
-forward_inside to from count s e places h each =
+forward_inside to from count s e =
     let a = range_with_len s (to - s) in
     let b = range_with_len to (from - to) in
     let c = range_with_len from count in
@@ -182,8 +176,7 @@ forward_inside to from count s e places h each =
 -- WHAT A PLACEMENT MAKES of a list
 pub placed_stays : {X : Type 0} (s e : ℕ) (places : List ℕ) (xs : List X) → s ≤ e → e ≤ length xs
     → placed_by Stays s e places xs ≡ xs
-placed_stays s e places xs h l =
-    search (arith, pick-range, three_parts s e xs h)
+placed_stays s e places xs h = search (arith, pick-range, three_parts s e xs h)
 
 pub placed_forward : {X : Type 0} (to from count s e : ℕ) (places : List ℕ) (xs : List X) → s ≤ to → to ≤ from
     → from + count ≤ e → e ≤ length xs → placed_by (Forward to from count) s e places xs
@@ -217,13 +210,12 @@ placed_forward to from count s e places xs h l m n =
     )
 
 pub parts_change_places : PartsChangePlaces
-parts_change_places a b c d s e places h l n =
-    search (
-      arith,
-      placed_forward (length a) (length a + length b) (length c) s e places (a ++ (b ++ (c ++ d))) h (omega arith)
-          (omega arith) n,
-      brought_parts,
-    )
+parts_change_places a b c d s e places h l n = search (
+  arith,
+  placed_forward (length a) (length a + length b) (length c) s e places (a ++ (b ++ (c ++ d))) h (omega arith)
+      (omega arith) n,
+  brought_parts,
+)
 
 -- WITHIN A SYLLABLE
 pub brought_within : {X : Type 0} (to from count s e : ℕ) (xs : List X) → to ≤ from → from + count ≤ e - s → s ≤ e

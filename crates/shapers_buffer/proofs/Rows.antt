@@ -1,6 +1,6 @@
 -- The definitions, computed on small texts.
 use Rattle.std.specs.Prelude.{◌≡◌, ℕ, true, false, List, [], ◌∷◌, map, length, refl}
-use Rattle.shapers_buffer.specs.declared.buffer.glyph.hb_glyph_info_t.{hb_glyph_info_t}
+use Rattle.shapers_buffer.specs.Glyphs.{Glyph, Glyphs}
 use Rattle.shapers_buffer.specs.declared.buffer.level.BufferClusterLevel.TheVariants.{MonotoneGraphemes, MonotoneCharacters, Characters}
 use Rattle.shapers_buffer.specs.declared.buffer.syllables.Span.{Span}
 use Rattle.shapers_buffer.specs.Glyph.{default_glyph, clusters}
@@ -9,13 +9,13 @@ use Rattle.shapers_buffer.specs.GlyphFlags.{unsafe_inside, FlagCall, UnsafeToBre
 use Rattle.shapers_buffer.specs.Syllables.{span_bytes, spans_cover, with_bytes, syllables}
 
 -- a text of these clusters, where every mask is 15
-abbrev text : List ℕ → List hb_glyph_info_t
-text cs = map (λ c. let g : hb_glyph_info_t = record default_glyph { cluster = c; mask = 15 } in g) cs
+abbrev text : List ℕ → Glyphs
+text cs = map (λ c. let g : Glyph = record default_glyph { cluster = c; mask = 15 } in g) cs
 
-abbrev masks : List hb_glyph_info_t → List ℕ
+abbrev masks : Glyphs → List ℕ
 masks gs = map (λ g. g.mask) gs
 
-abbrev bytes : List hb_glyph_info_t → List ℕ
+abbrev bytes : Glyphs → List ℕ
 bytes gs = map (λ g. g.syllable) gs
 
 abbrev span : ℕ → ℕ → Span
@@ -72,7 +72,7 @@ one_cluster : merge MonotoneGraphemes 1 3 (text (2 ∷ 2 ∷ 2 ∷ 2 ∷ [])) �
 one_cluster = refl
 
 -- a glyph whose fields are all set keeps them, but for its cluster and the low three bits of its mask
-abbrev full : ℕ → ℕ → hb_glyph_info_t
+abbrev full : ℕ → ℕ → Glyph
 full c m = record {
   glyph_id = 1;
   cluster = c;
@@ -118,8 +118,7 @@ covers : spans_cover 3 (span 1 0 ∷ span 2 0 ∷ []) ≡ true
 covers = refl
 
 -- the flags inside a stretch leave its least cluster out
-flags_inside : masks
-    (unsafe_inside 1 4 (map (λ c. let g : hb_glyph_info_t = record default_glyph { cluster = c } in g)
+flags_inside : masks (unsafe_inside 1 4 (map (λ c. let g : Glyph = record default_glyph { cluster = c } in g)
     (0 ∷ 1 ∷ 1 ∷ 2 ∷ 3 ∷ []))) ≡ 0 ∷ 0 ∷ 0 ∷ 3 ∷ 0 ∷ []
 flags_inside = refl
 
@@ -128,8 +127,8 @@ flags_inside = refl
 abbrev some_calls : List FlagCall
 some_calls = UnsafeToBreak 0 3 ∷ UnsafeToConcat 1 4 ∷ SafeToInsertTatweel 2 5 ∷ []
 
-abbrev unflagged : List ℕ → List hb_glyph_info_t
-unflagged cs = map (λ c. let g : hb_glyph_info_t = record default_glyph { cluster = c } in g) cs
+abbrev unflagged : List ℕ → Glyphs
+unflagged cs = map (λ c. let g : Glyph = record default_glyph { cluster = c } in g) cs
 
 all_asked : masks (flags_called true true some_calls (unflagged (0 ∷ 1 ∷ 1 ∷ 2 ∷ 3 ∷ []))) ≡ 0 ∷ 3 ∷ 3 ∷ 6 ∷ 4 ∷ []
 all_asked = refl

@@ -10,20 +10,19 @@ use Rattle.shapers_buffer.specs.declared.buffer.settings.BufferSettings.{BufferS
 
 -- settings that all differ from a new buffer's
 abbrev given : Bor (List ℕ) → Bor (List ℕ) → BufferSettings
-given before after =
-    record {
-      direction = RightToLeft;
-      script = Some (record { 0 = codes "Thai" });
-      cluster_level = Characters;
-      flags =
-          record { 0 = 0xE0 };
-      pre_context = before;
-      post_context = after;
-      has_broken_syllable = true;
-      has_stch =
-          true;
-      max_len = 50;
-    }
+given before after = record {
+  direction = RightToLeft;
+  script = Some (record { 0 = codes "Thai" });
+  cluster_level = Characters;
+  flags =
+      record { 0 = 0xE0 };
+  pre_context = before;
+  post_context = after;
+  has_broken_syllable = true;
+  has_stch =
+      true;
+  max_len = 50;
+}
 
 -- a buffer of one glyph, which is placed and listed
 abbrev one : Buffer
@@ -33,8 +32,7 @@ one = record (new_buffer 7) { glyphs = default_glyph ∷ []; positions = default
 settled : (before after : Bor (List ℕ)) → with_settings (given before after) one
     ≡ record {
       glyphs = default_glyph ∷ [];
-      positions = default_position
-          ∷ [];
+      positions = default_position ∷ [];
       direction = RightToLeft;
       script = Some (record { 0 = codes "Thai" });
       level = Characters;
@@ -54,8 +52,7 @@ settled before after = refl
 a_text : (before after : Bor (List ℕ))
     → with_text (record default_glyph { glyph_id = 65 } ∷ default_glyph ∷ []) [] (given before after) one
     ≡ record {
-      glyphs = record default_glyph { glyph_id = 65 } ∷ default_glyph
-          ∷ [];
+      glyphs = record default_glyph { glyph_id = 65 } ∷ default_glyph ∷ [];
       positions = [];
       direction = RightToLeft;
       script = Some (record { 0 = codes "Thai" });

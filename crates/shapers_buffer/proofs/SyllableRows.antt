@@ -1,6 +1,6 @@
 -- Syllables and spans, computed on small texts.
 use Rattle.std.specs.Prelude.{◌≡◌, ℕ, true, false, List, [], ◌∷◌, map, None, Some, refl}
-use Rattle.shapers_buffer.specs.declared.buffer.glyph.hb_glyph_info_t.{hb_glyph_info_t}
+use Rattle.shapers_buffer.specs.Glyphs.{Glyph, Glyphs}
 use Rattle.shapers_buffer.specs.declared.buffer.refusal.ShaperError.TheVariants.{SpansDontCover, UnknownSyllable}
 use Rattle.shapers_buffer.specs.declared.buffer.syllables.Span.{Span}
 use Rattle.shapers_buffer.specs.Buffer.{Buffer, new_buffer}
@@ -8,14 +8,13 @@ use Rattle.shapers_buffer.specs.Glyph.{default_glyph}
 use Rattle.shapers_buffer.specs.Syllables.{first_syllable_len, in_syllable, kind_of, span_byte, span_bytes, spans_cover, spans_refusal, syllables, unknown_refusal, unknown_syllable, with_bytes, with_spans}
 
 -- glyphs of these syllable bytes, and of these bytes and clusters
-abbrev of_bytes : List ℕ → List hb_glyph_info_t
-of_bytes bytes = map (λ byte. let g : hb_glyph_info_t = record default_glyph { syllable = byte } in g) bytes
+abbrev of_bytes : List ℕ → Glyphs
+of_bytes bytes = map (λ byte. let g : Glyph = record default_glyph { syllable = byte } in g) bytes
 
-abbrev of_rows : List (ℕ × ℕ) → List hb_glyph_info_t
-of_rows rows = map (λ row. let g : hb_glyph_info_t = record default_glyph { syllable = row.0; cluster = row.1 } in g)
-    rows
+abbrev of_rows : List (ℕ × ℕ) → Glyphs
+of_rows rows = map (λ row. let g : Glyph = record default_glyph { syllable = row.0; cluster = row.1 } in g) rows
 
-abbrev bytes : List hb_glyph_info_t → List ℕ
+abbrev bytes : Glyphs → List ℕ
 bytes gs = map (λ g. g.syllable) gs
 
 -- a span by its length and kind
@@ -26,7 +25,7 @@ abbrev spans : List (ℕ × ℕ) → List Span
 spans rows = map span rows
 
 -- a glyph whose fields are all set
-abbrev full : hb_glyph_info_t
+abbrev full : Glyph
 full = record {
   glyph_id = 0x916;
   cluster = 5;

@@ -3,7 +3,7 @@ use Rattle.std.specs.Prelude.{ℕ, ◌≡◌, ◌<◌, ◌≤◌, ◌==◌, bit_
 use Rattle.std.specs.Option.{option_map_or}
 use Rattle.shapers_buffer.specs.declared.buffer.flags.BufferFlags.{BufferFlags}
 use Rattle.shapers_buffer.specs.declared.buffer.glyph.GlyphPosition.{GlyphPosition}
-use Rattle.shapers_buffer.specs.declared.buffer.glyph.hb_glyph_info_t.{hb_glyph_info_t}
+use Rattle.shapers_buffer.specs.Glyphs.{Glyphs}
 use Rattle.shapers_buffer.specs.declared.buffer.level.BufferClusterLevel.{BufferClusterLevel}
 use Rattle.shapers_buffer.specs.declared.buffer.level.Direction.{Direction}
 use Rattle.shapers_buffer.specs.declared.buffer.level.Direction.TheVariants.{LeftToRight}
@@ -13,7 +13,7 @@ use Rattle.shapers_buffer.specs.Glyph.{default_glyph, default_position}
 
 -- a buffer: glyphs, positions (none, or one per glyph), settings, marks, and the placement list
 pub record Buffer : Type 0 where
-  pub glyphs : List hb_glyph_info_t
+  pub glyphs : Glyphs
   pub positions : List GlyphPosition
   pub direction : Direction
   pub script : Option Script

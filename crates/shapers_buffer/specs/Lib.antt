@@ -3,6 +3,7 @@ pub mod Category
 pub mod ClusterRuns
 pub mod Clusters
 pub mod Glyph
+pub mod Glyphs
 pub mod GlyphFlags
 pub mod ListingWalk
 pub mod Lists

@@ -3,7 +3,7 @@
 use Rattle.std.specs.Prelude.{ℕ, suc, ◌+◌, ◌-◌, ◌≤◌, ◌==◌, ◌≡◌, List, [], ◌∷◌, ◌++◌, drop, length, map, replicate, slice_index, slice_set, take, IsPermutation, if◌then◌else◌}
 use Rattle.std.specs.List.{filter_map, range_with_len, slice_get}
 use Rattle.shapers_buffer.specs.Clusters.{stretch_of, with_stretch}
-use Rattle.shapers_buffer.specs.declared.buffer.glyph.hb_glyph_info_t.{hb_glyph_info_t}
+use Rattle.shapers_buffer.specs.Glyphs.{Glyphs}
 use Rattle.shapers_buffer.specs.declared.buffer.placement.Placement.{Placement}
 use Rattle.shapers_buffer.specs.declared.buffer.placement.Placement.TheVariants.{Forward, Listed, Stays}
 
@@ -71,7 +71,7 @@ brought_forward to from count xs =
 -- What comes forward changes places with what it passes: of the parts a, b, c, d of a text, c comes
 -- before b, whatever the placement list says.
 abbrev pub PartsChangePlaces : Type 0
-PartsChangePlaces = (a b c d : List hb_glyph_info_t) (s e : ℕ) (places : List ℕ) →
+PartsChangePlaces = (a b c d : Glyphs) (s e : ℕ) (places : List ℕ) →
     s ≤ length a → length a + (length b + length c) ≤ e →
     e ≤ length (a ++ (b ++ (c ++ d))) →
     placed_by (Forward (length a) (length a + length b) (length c)) s e places

@@ -2,7 +2,7 @@
 use Rattle.std.specs.Prelude.{ℕ, Bool, ◌||◌, ◌&&◌, ◌==◌, List, length, nat_lt, take, if◌then◌else◌}
 use Rattle.shapers_buffer.specs.Buffer.{Buffer}
 use Rattle.shapers_buffer.specs.declared.buffer.glyph.GlyphPosition.{GlyphPosition}
-use Rattle.shapers_buffer.specs.declared.buffer.glyph.hb_glyph_info_t.{hb_glyph_info_t}
+use Rattle.shapers_buffer.specs.Glyphs.{Glyphs}
 use Rattle.shapers_buffer.specs.declared.buffer.settings.BufferSettings.{BufferSettings}
 
 -- the buffer with these settings; of each context it keeps the five nearest characters
@@ -20,13 +20,13 @@ with_settings s b = record b {
 }
 
 -- the buffer with these glyphs, positions and settings; its placement list stays
-abbrev pub with_text : List hb_glyph_info_t → List GlyphPosition → BufferSettings → Buffer → Buffer
+abbrev pub with_text : Glyphs → List GlyphPosition → BufferSettings → Buffer → Buffer
 with_text gs ps s b =
     let settled = with_settings s b in
     let text : Buffer = record settled { glyphs = gs; positions = ps } in text
 
 -- whether there are no positions, or one for each of these glyphs
-abbrev pub are_paired : List GlyphPosition → List hb_glyph_info_t → Bool
+abbrev pub are_paired : List GlyphPosition → Glyphs → Bool
 are_paired ps gs = length ps == 0 || length ps == length gs
 
 -- the character of a code point; one that is no character reads as U+FFFD

@@ -1,14 +1,14 @@
 -- What the cutting into syllables is.
-use Rattle.std.specs.Prelude.{◌≡◌, List, ◌∷◌, take, drop}
-use Rattle.shapers_buffer.specs.declared.buffer.glyph.hb_glyph_info_t.{hb_glyph_info_t}
+use Rattle.std.specs.Prelude.{◌≡◌, ◌∷◌, take, drop}
+use Rattle.shapers_buffer.specs.Glyphs.{Glyph, Glyphs}
 use Rattle.shapers_buffer.specs.Syllables.{syllables, first_syllable_len}
 
 -- the first syllable is the longest run of its byte, and the others are the syllables of what
 -- follows
-abbrev pub OpensWithSyllable : List hb_glyph_info_t → Type 0
+abbrev pub OpensWithSyllable : Glyphs → Type 0
 OpensWithSyllable gs =
     syllables gs ≡ take (first_syllable_len gs) gs ∷ syllables (drop (first_syllable_len gs) gs)
 
 -- so for every text
 abbrev pub SyllablesAreRuns : Type 0
-SyllablesAreRuns = (g : hb_glyph_info_t) (gs : List hb_glyph_info_t) → OpensWithSyllable (g ∷ gs)
+SyllablesAreRuns = (g : Glyph) (gs : Glyphs) → OpensWithSyllable (g ∷ gs)

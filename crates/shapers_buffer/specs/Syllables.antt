@@ -1,24 +1,24 @@
 -- Syllables: longest runs of equal syllable bytes, and the spans that set them.
 use Rattle.std.specs.Prelude.{ℕ, suc, ◌+◌, ◌*◌, ◌%◌, ◌==◌, nat_lt, Bool, ◌&&◌, ◌||◌, List, [], ◌∷◌, ◌++◌, length, position, replicate, sum_by, None, Option, option_map, Some, if◌then◌else◌}
 use Rattle.std.specs.List.{list_all, list_any, prefix_len}
-use Rattle.shapers_buffer.specs.declared.buffer.glyph.hb_glyph_info_t.{hb_glyph_info_t}
+use Rattle.shapers_buffer.specs.Glyphs.{Glyph, Glyphs}
 use Rattle.shapers_buffer.specs.declared.buffer.refusal.ShaperError.{ShaperError}
 use Rattle.shapers_buffer.specs.declared.buffer.refusal.ShaperError.TheVariants.{SpansDontCover, UnknownSyllable}
 use Rattle.shapers_buffer.specs.declared.buffer.syllables.Span.{Span}
 use Rattle.shapers_buffer.specs.Buffer.{Buffer}
 
 -- whether the glyph has this syllable byte
-abbrev pub has_byte : ℕ → hb_glyph_info_t → Bool
+abbrev pub has_byte : ℕ → Glyph → Bool
 has_byte byte g = g.syllable == byte
 
 -- how long the syllable is that opens the list: the longest run of its first byte
-abbrev pub first_syllable_len : List hb_glyph_info_t → ℕ
+abbrev pub first_syllable_len : Glyphs → ℕ
 first_syllable_len [] = 0
 first_syllable_len (g ∷ gs) = suc (prefix_len (has_byte g.syllable) gs)
 
 -- these pieces with g in front: in the first piece, if that has g's byte, else by itself
-abbrev pub with_opening : hb_glyph_info_t → List (List hb_glyph_info_t) →
-    List (List hb_glyph_info_t)
+abbrev pub with_opening : Glyph → List Glyphs →
+    List Glyphs
 with_opening g [] = (g ∷ []) ∷ []
 with_opening g ([] ∷ pieces) = (g ∷ []) ∷ pieces
 with_opening g ((h ∷ piece) ∷ pieces) =
@@ -26,7 +26,7 @@ with_opening g ((h ∷ piece) ∷ pieces) =
     else (g ∷ []) ∷ ((h ∷ piece) ∷ pieces)
 
 -- the syllables: the list cut between neighbours of different bytes
-abbrev pub syllables : List hb_glyph_info_t → List (List hb_glyph_info_t)
+abbrev pub syllables : Glyphs → List Glyphs
 syllables [] = []
 syllables (g ∷ gs) = with_opening g (syllables gs)
 
@@ -35,11 +35,11 @@ abbrev pub kind_of : ℕ → ℕ
 kind_of byte = byte % 16
 
 -- the first place of a kind above the last known: of the first syllable of unknown kind
-abbrev pub unknown_syllable : ℕ → List hb_glyph_info_t → Option ℕ
+abbrev pub unknown_syllable : ℕ → Glyphs → Option ℕ
 unknown_syllable last gs = position (λ g. nat_lt last (kind_of g.syllable)) gs
 
 -- the refusal that it gives, if there is one
-abbrev pub unknown_refusal : ℕ → List hb_glyph_info_t → Option ShaperError
+abbrev pub unknown_refusal : ℕ → Glyphs → Option ShaperError
 unknown_refusal last gs = option_map (λ place. UnknownSyllable place) (unknown_syllable last gs)
 
 -- the byte of span i of the list: serial 1 to 15 and then 1 again, times 16, and the kind
@@ -52,11 +52,11 @@ span_bytes i [] = []
 span_bytes i (span ∷ spans) = replicate span.len (span_byte i span) ++ span_bytes (suc i) spans
 
 -- the glyph with this syllable byte
-abbrev pub in_syllable : ℕ → hb_glyph_info_t → hb_glyph_info_t
+abbrev pub in_syllable : ℕ → Glyph → Glyph
 in_syllable byte g = record g { syllable = byte }
 
 -- the glyphs with these syllable bytes, one after another
-abbrev pub with_bytes : List hb_glyph_info_t → List ℕ → List hb_glyph_info_t
+abbrev pub with_bytes : Glyphs → List ℕ → Glyphs
 with_bytes [] bytes = []
 with_bytes (g ∷ gs) [] = g ∷ gs
 with_bytes (g ∷ gs) (byte ∷ bytes) = in_syllable byte g ∷ with_bytes gs bytes

@@ -46,8 +46,7 @@ steps_own level s e steps cs h l f apart =
     let j2 : j < length a = omega (arith, length-map a of_cluster) in
     let eq = ap (λ xs. get_or xs i 0) (sym cb) ∙ same ∙ ap (λ xs. get_or xs j 0) (clusters-of_clusters a) in
     apart (s + i) j (omega arith) (omega arith) (omega arith) (inl (omega arith)) (sym
-    (stretch-at s e cs i (omega arith))
-    ∙ eq ∙ get_or-take s cs j 0 (omega arith))) in
+    (stretch-at s e cs i (omega arith)) ∙ eq ∙ get_or-take s cs j 0 (omega arith))) in
     let none_behind : ShareNone gb gc = λ i j il jl same. (let i2 : i < length b =
     omega (arith, length-map b of_cluster) in
     let j2 : j < length c = omega (arith, length-map c of_cluster) in
@@ -58,7 +57,6 @@ steps_own level s e steps cs h l f apart =
       map-append (λ g. g.cluster) ga (gb ++ gc),
       map-append (λ g. g.cluster) gb gc,
       clusters-of_clusters a,
-      clusters-of_clusters b,
       clusters-of_clusters c,
       three_parts s e cs h,
       clusters-run_steps level (map (widened s e n) steps) (ga ++ (gb ++ gc)),
@@ -80,18 +78,16 @@ pub stretch_own : (level : BufferClusterLevel) (s e : ℕ) (steps : List Step) (
     → FitSteps (e - s) steps → StandsApart s e cs
     → stretch_of s e (joined_steps level (map (widened s e (length cs)) steps) cs)
     ≡ joined_steps level steps (stretch_of s e cs)
-stretch_own level s e steps cs h l f apart =
-    search (arith, steps_own, drop_at, length-take-le, take_at, own_long)
+stretch_own = search (arith, steps_own, drop_at, length-take-le, take_at, own_long)
 
 -- and that its clusters stay its own
 inside_parts : (a m c : List ℕ) (s e i : ℕ) → length a ≡ s → length m ≡ e - s → s ≤ i → i < e
     → get_or (a ++ (m ++ c)) i 0 ≡ get_or m (i - s) 0
-inside_parts a m c s e i an mn h l = search (arith, get_or-append_right, get_or_append_left)
+inside_parts = search (arith, get_or-append_right, get_or_append_left)
 
 behind_parts : (a m c : List ℕ) (s e j : ℕ) → length a ≡ s → length m ≡ e - s → s ≤ e → e ≤ j
     → get_or (a ++ (m ++ c)) j 0 ≡ get_or c (j - e) 0
-behind_parts a m c s e j an mn h l =
-    search (arith, get_or-append_right)
+behind_parts = search (arith, get_or-append_right)
 
 pub apart_own : (level : BufferClusterLevel) (s e : ℕ) (steps : List Step) (cs : List ℕ) → s ≤ e → e ≤ length cs
     → FitSteps (e - s) steps → StandsApart s e cs

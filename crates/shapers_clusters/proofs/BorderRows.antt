@@ -3,7 +3,7 @@ use Rattle.std.proofs.Common.{ℕ, ◌≡◌, Bool, true, false, List, [], ◌�
 use Rattle.std.proofs.lemmas.Bool.{false≢true}
 use Rattle.shapers_buffer.specs.Glyph.{default_glyph}
 use Rattle.shapers_buffer.specs.GlyphFlags.{FlagCall, UnsafeToBreak, UnsafeToConcat, SafeToInsertTatweel, flags_called}
-use Rattle.shapers_buffer.specs.declared.buffer.glyph.hb_glyph_info_t.{hb_glyph_info_t}
+use Rattle.shapers_buffer.specs.Glyphs.{Glyph}
 use Rattle.shapers_clusters.specs.Borders.{forbids_border, IsOpen, is_unsafe_to_concat, IsBare}
 
 -- borders before places 0 to 4 that each call over places 1 and 2 forbids: a break and a tatweel
@@ -34,7 +34,7 @@ row_second_call : IsOpen (UnsafeToBreak 0 2 ∷ UnsafeToConcat 3 4 ∷ []) 3 →
 row_second_call free = false≢true (sym free)
 
 -- a glyph in this cluster with this mask; flag 2 alone is unsafe to concatenate
-glyph : ℕ → ℕ → hb_glyph_info_t
+glyph : ℕ → ℕ → Glyph
 glyph c m = record default_glyph { cluster = c; mask = m }
 
 row_flag : map (λ m. is_unsafe_to_concat (glyph 0 m)) (0 ∷ 1 ∷ 2 ∷ 3 ∷ 4 ∷ 5 ∷ 8 ∷ []) ≡ false ∷ false ∷ true ∷ true
@@ -71,15 +71,15 @@ row_lesser bare = false≢true (sym bare.joinable)
 
 row_unsafe : IsBare (glyph 0 0 ∷ glyph 1 1 ∷ []) 1 → ⊥
 unfolding glyph
-row_unsafe bare = search (arith, false≢true)
+row_unsafe = search (arith, false≢true)
 
 row_joined : IsBare (glyph 0 0 ∷ glyph 1 4 ∷ []) 1 → ⊥
 unfolding glyph
-row_joined bare = search (arith, false≢true)
+row_joined = search (arith, false≢true)
 
 row_greater : IsBare (glyph 1 1 ∷ glyph 0 0 ∷ []) 1 → ⊥
 unfolding glyph
-row_greater bare = search (arith, false≢true)
+row_greater = search (arith, false≢true)
 
 -- R behind U, each a cluster of its own: its flag of concatenation is on its own place alone
 row_called : map (λ g. g.mask)

@@ -1,12 +1,12 @@
 -- Rows of groups: what stands for them, and what is read from that.
 use Rattle.std.proofs.Common.{ℕ, ◌≡◌, List, [], ◌∷◌, map, refl}
-use Rattle.shapers_buffer.specs.declared.buffer.glyph.hb_glyph_info_t.{hb_glyph_info_t}
+use Rattle.shapers_buffer.specs.Glyphs.{Glyphs}
 use Rattle.shapers_buffer.specs.Glyph.{clusters}
 use Rattle.shapers_clusters.specs.CarriedGroups.{first_group_cluster, grouped, joined_end, len_of, put_before, read_back, shown_groups, spread_groups}
 use Rattle.shapers_clusters.specs.ClusterMerges.{of_cluster}
 use Rattle.shapers_clusters.specs.declared.carried_groups.Group.{Group}
 
-glyphs : List ℕ → List hb_glyph_info_t
+glyphs : List ℕ → Glyphs
 glyphs cs = map of_cluster cs
 
 groups : List (ℕ × ℕ) → List Group

@@ -2,8 +2,7 @@
 use Rattle.std.proofs.Common.{ℕ, zero, suc, ◌-◌, ◌==◌, ◌<◌, ◌≤◌, ◌≡◌, ◌≢◌, min, Bool, true, false, if◌then◌else◌, nat_lt, not, ◌&&◌, inl, inr, List, [], ◌∷◌, ◌++◌, map, length, get_or, reverse, take, drop, fold, refl, sym, ◌∙◌, arith}
 use Rattle.std.proofs.lemmas.List.{map-append, take-map, drop-map}
 use Rattle.std.proofs.lemmas.Bool.{cases_lt}
-use Rattle.std.proofs.lemmas.Bool.Decides.{nat_tests}
-use Rattle.shapers_buffer.specs.declared.buffer.glyph.hb_glyph_info_t.{hb_glyph_info_t}
+use Rattle.shapers_buffer.specs.Glyphs.{Glyph, Glyphs}
 use Rattle.shapers_buffer.specs.declared.buffer.level.BufferClusterLevel.{BufferClusterLevel}
 use Rattle.shapers_buffer.specs.Glyph.{clusters}
 use Rattle.shapers_buffer.proofs.MappedLists.{map-reverse}
@@ -46,7 +45,7 @@ fold_min-among c (x ∷ cs) =
     elim k as (λ k. k < suc (length cs) → get_or (min c x ∷ cs) k 0 ≡ fold min (min c x) cs
     → (j : ℕ) × (j < suc (suc (length cs))) × (get_or (c ∷ x ∷ cs) j 0 ≡ fold min (min c x) cs)) [
       | zero ↦ λ h e. elim (cases_lt x c)
-          [ inl l ↦ (1, omega arith, omega (arith, e)) | inr l ↦ (0, omega arith, omega (arith, e)) ]
+          [ inl l ↦ (1, omega arith, omega arith) | inr l ↦ (0, omega arith, omega arith) ]
       | suc k ↦ λ h e. (suc (suc k), omega arith, e)
     ] h e
 
@@ -63,18 +62,18 @@ pub opening-at : (cs : List ℕ) → opening_run cs ≡ get_or cs 0 0
 opening-at [] = refl
 opening-at (c ∷ cs) = refl
 
-pub opening-clusters : (gs : List hb_glyph_info_t) → first_cluster gs ≡ opening_run (clusters gs)
+pub opening-clusters : (gs : Glyphs) → first_cluster gs ≡ opening_run (clusters gs)
 opening-clusters [] = refl
 opening-clusters (g ∷ gs) = refl
 
-cluster-in_cluster : (m : ℕ) (g : hb_glyph_info_t) → (in_cluster m g).cluster ≡ m
-cluster-in_cluster m g = grind (arith, nat_tests)
+cluster-in_cluster : (m : ℕ) (g : Glyph) → (in_cluster m g).cluster ≡ m
+cluster-in_cluster = grind arith
 
-clusters-flooded : (c m : ℕ) (gs : List hb_glyph_info_t) → clusters (flooded c m gs) ≡ flood c m (clusters gs)
+clusters-flooded : (c m : ℕ) (gs : Glyphs) → clusters (flooded c m gs) ≡ flood c m (clusters gs)
 clusters-flooded c m [] = refl
-clusters-flooded c m (g ∷ gs) = grind (arith, nat_tests, cluster-in_cluster m g, clusters-flooded c m gs)
+clusters-flooded c m (g ∷ gs) = grind (arith, clusters-flooded c m gs)
 
-pub clusters-put : (m : ℕ) (gs : List hb_glyph_info_t) → clusters (map (in_cluster m) gs) ≡ map (λ _. m) (clusters gs)
+pub clusters-put : (m : ℕ) (gs : Glyphs) → clusters (map (in_cluster m) gs) ≡ map (λ _. m) (clusters gs)
 clusters-put m [] = refl
 clusters-put m (g ∷ gs) = let h = cluster-in_cluster m g in let i = clusters-put m gs in cc
 
@@ -83,21 +82,19 @@ map-if : {X Y : Type 0} (f : X → Y) (b : Bool) (x y : X) (z w : Y) → f x ≡
 map-if f true x y z w h i = h
 map-if f false x y z w h i = i
 
-clusters-merged : (s e : ℕ) (gs : List hb_glyph_info_t) → clusters (flood_merged s e gs)
+clusters-merged : (s e : ℕ) (gs : Glyphs) → clusters (flood_merged s e gs)
     ≡ (let middle = stretch_of s e (clusters gs) in let m = least middle in reverse
     (flood (opening_run middle) m (reverse (take s (clusters gs))))
     ++ (map (λ _. m) middle ++ flood (opening_run (reverse middle)) m (drop e (clusters gs))))
 clusters-merged s e gs =
     simp (map-append, map-reverse, clusters-flooded, clusters-put, take-map, drop-map, opening-clusters)
 
-clusters-flood : (level : BufferClusterLevel) (s e : ℕ) (gs : List hb_glyph_info_t) → clusters (merge level s e gs)
+clusters-flood : (level : BufferClusterLevel) (s e : ℕ) (gs : Glyphs) → clusters (merge level s e gs)
     ≡ (if merges level && not (nat_lt (e - s) 2) then spreading s e (clusters gs) else clusters gs)
-clusters-flood level s e gs =
-    cc (
-      merge_is level s e gs,
-      map-if clusters (merges level && not (nat_lt (e - s) 2)) (flood_merged s e gs) gs _ _ (clusters-merged s e gs)
-          refl,
-    )
+clusters-flood level s e gs = cc (
+  merge_is level s e gs,
+  map-if clusters (merges level && not (nat_lt (e - s) 2)) (flood_merged s e gs) gs _ _ (clusters-merged s e gs) refl,
+)
 
 pub clusters-of_clusters : (cs : List ℕ) → clusters (map of_cluster cs) ≡ cs
 clusters-of_clusters [] = refl
@@ -108,7 +105,7 @@ pub joined_is : (level : BufferClusterLevel) (s e : ℕ) (cs : List ℕ)
 joined_is level s e cs = cc (clusters-flood level s e (map of_cluster cs), clusters-of_clusters cs)
 
 -- the clusters of merged glyphs are the joined clusters
-pub clusters-merge : (level : BufferClusterLevel) (s e : ℕ) (gs : List hb_glyph_info_t) → clusters (merge level s e gs)
+pub clusters-merge : (level : BufferClusterLevel) (s e : ℕ) (gs : Glyphs) → clusters (merge level s e gs)
     ≡ joined level s e (clusters gs)
 clusters-merge level s e gs = clusters-flood level s e gs ∙ sym (joined_is level s e (clusters gs))
 
@@ -137,11 +134,8 @@ flood-more c m xs ys f = record {
 }
 
 flood-stops : (c m x : ℕ) (xs : List ℕ) → x ≢ c → Flood c m (x ∷ xs) (x ∷ xs)
-flood-stops c m x xs n =
-    search arith
+flood-stops = search arith
 
 pub flood-is : (c m : ℕ) (xs : List ℕ) → Flood c m xs (flood c m xs)
-flood-is c m [] =
-    search arith
-flood-is c m (x ∷ xs) =
-    search (arith, nat_tests, flood-more, flood-stops, flood-is c m xs)
+flood-is c m [] = search arith
+flood-is c m (x ∷ xs) = search (arith, flood-more, flood-is c m xs)

@@ -2,8 +2,7 @@
 use Rattle.std.proofs.Common.{ℕ, suc, ◌+◌, ◌-◌, ◌<◌, ◌≤◌, ◌≡◌, ◌≢◌, min, max, Bool, true, false, nat_lt, ◌&&◌, ◌⊎◌, inl, inr, List, [], ◌∷◌, length, get_or, refl, sym, ◌∙◌, ap, subst, arith}
 use Rattle.std.specs.List.{AllPairs}
 use Rattle.std.proofs.lemmas.List.{ext_get_or, get_or_default}
-use Rattle.std.proofs.lemmas.Bool.{cases_lt, eqb-false, or_parts}
-use Rattle.std.proofs.lemmas.Bool.Decides.{nat_tests}
+use Rattle.std.proofs.lemmas.Bool.{cases_lt, or_parts}
 use Rattle.shapers_buffer.specs.declared.buffer.level.BufferClusterLevel.{BufferClusterLevel}
 use Rattle.shapers_buffer.specs.Clusters.{merges}
 use Rattle.shapers_clusters.specs.ClusterMerges.{joined, joined_all}
@@ -27,18 +26,17 @@ abbrev InOrder : (ℕ → ℕ → Type 0) → List ℕ → Type 0
 InOrder R cs = (p q : ℕ) → p ≤ q → q < length cs → R (get_or cs p 0) (get_or cs q 0)
 
 in_order : (R : ℕ → ℕ → Type 0) → IsOrder R → (cs : List ℕ) → AllPairs R cs → InOrder R cs
-in_order R o cs h p q a b = search (arith, o.same)
+in_order R o = search arith
 
 -- clusters that never decrease, or never increase, from one place on to any other
 pub rising_to : (cs : List ℕ) → IsRising cs → (p q : ℕ) → p ≤ q → q < length cs → get_or cs p 0 ≤ get_or cs q 0
-rising_to cs rises = search (arith, in_order, upwards)
+rising_to = search arith
 
 pub falling_to : (cs : List ℕ) → IsFalling cs → (p q : ℕ) → p ≤ q → q < length cs → get_or cs q 0 ≤ get_or cs p 0
-falling_to cs falls = search (arith, in_order, downwards)
+falling_to = search arith
 
 all_pairs : (R : ℕ → ℕ → Type 0) (cs : List ℕ) → InOrder R cs → AllPairs R cs
-all_pairs R cs h i j d a b =
-    search (arith, get_or_default cs i 0 d (omega arith), get_or_default cs j 0 d b, h i j (omega arith) b)
+all_pairs R cs h i j d a b = search (arith, get_or_default cs i 0 d (omega arith), get_or_default cs j 0 d b)
 
 sandwich : (R : ℕ → ℕ → Type 0) → IsOrder R → (cs : List ℕ) → InOrder R cs → (a b c : ℕ) → a ≤ b → b ≤ c → c < length cs
     → get_or cs a 0 ≡ get_or cs c 0 → get_or cs b 0 ≡ get_or cs a 0
@@ -54,15 +52,8 @@ spread-cut R o s e cs js f h i p l ne out eq = elim (cases_lt (suc p) f.low) [
   | inr a ↦ elim (cases_lt p f.low) [
     | inl b ↦
         let k : f.low - 1 ≡ p = omega arith in
-        f.left_edge (omega arith) (ap (λ k. get_or cs k 0) k
-        ∙ sym
-        (sandwich R o cs i p s f.at (omega (arith, f.low_within)) f.at_from (omega (
-          arith,
-          f.at_to,
-          f.high_within,
-          f.high_end,
-        )) (sym (f.before p b) ∙ eq ∙ f.inside (suc p) a (omega (arith, f.low_within, f.high_within)) ∙ sym
-        f.at_is)))
+        f.left_edge (omega arith) (ap (λ k. get_or cs k 0) k ∙ sym
+        (sandwich R o cs i p s f.at (omega arith) f.at_from (omega arith) (sym (f.before p b) ∙ eq ∙ f.inside (suc p) a (omega arith) ∙ sym f.at_is)))
     | inr b ↦ elim (cases_lt (suc p) f.high) [
       | inl c ↦ elim (cases_lt p s) [
         | inl d ↦ ne (left_to s e cs js f p b (omega arith) ∙ sym (left_to s e cs js f (suc p) a d))
@@ -76,7 +67,7 @@ spread-cut R o s e cs js f h i p l ne out eq = elim (cases_lt (suc p) f.low) [
             let u = f.at_is ∙ sym (f.inside p b d) ∙ eq ∙ f.behind (suc p) c in
             let k : f.high ≡ suc p = omega arith in
             f.right_edge (omega arith) (ap (λ k. get_or cs k 0) k ∙ sym u
-            ∙ sym (sandwich R o cs i f.at (e - 1) (suc p) (omega (arith, f.at_to)) (omega (arith, f.high_within)) l u))
+            ∙ sym (sandwich R o cs i f.at (e - 1) (suc p) (omega arith) (omega arith) l u))
         | inr d ↦ ne (sym (f.behind p d) ∙ eq ∙ f.behind (suc p) c)
       ]
     ]
@@ -85,18 +76,16 @@ spread-cut R o s e cs js f h i p l ne out eq = elim (cases_lt (suc p) f.low) [
 
 joined-ordered : (R : ℕ → ℕ → Type 0) → IsOrder R → (level : BufferClusterLevel) (s e : ℕ) (cs : List ℕ) → e ≤ length cs
     → InOrder R cs → InOrder R (joined level s e cs)
-joined-ordered R o level s e cs w h =
-    joined_cases (InOrder R) level s e cs w (λ _. h) (λ js _ _ f. search arith)
+joined-ordered R o level s e cs w h = joined_cases (InOrder R) level s e cs w (λ _. h) (λ js _ _ f. search arith)
 
 joined_all-ordered : (R : ℕ → ℕ → Type 0) → IsOrder R → (level : BufferClusterLevel) (sts : List (ℕ × ℕ)) (cs : List ℕ)
     → EndWithin (length cs) sts → InOrder R cs → InOrder R (joined_all level sts cs)
 joined_all-ordered R o level [] cs w h = h
 joined_all-ordered R o level (st ∷ sts) cs w h =
-    joined_all-ordered R o level sts (joined level st.0 st.1 cs) (search (arith, end_within_joined))
-    (search (arith, joined-ordered))
+    joined_all-ordered R o level sts (joined level st.0 st.1 cs) (search end_within_joined) (search joined-ordered)
 
 pub not_in : (s e p : ℕ) → (nat_lt s p && nat_lt p e) ≡ false → s < p → p < e → ⊥
-not_in s e p h a b = grind (arith, nat_tests)
+not_in = grind arith
 
 joined_all-cut : (R : ℕ → ℕ → Type 0) → IsOrder R → (level : BufferClusterLevel) (sts : List (ℕ × ℕ)) (cs : List ℕ)
     → EndWithin (length cs) sts → InOrder R cs → (p : ℕ) → suc p < length cs → get_or cs p 0 ≢ get_or cs (suc p) 0
@@ -104,17 +93,15 @@ joined_all-cut : (R : ℕ → ℕ → Type 0) → IsOrder R → (level : BufferC
 joined_all-cut R o level [] cs w h p l ne out = ne
 joined_all-cut R o level (st ∷ sts) cs w h p l ne out =
     let js = joined level st.0 st.1 cs in
-    joined_all-cut R o level sts js (search (arith, end_within_joined))
-    (search (arith, joined-ordered)) p (search (arith, length-joined))
+    joined_all-cut R o level sts js (search end_within_joined) (search joined-ordered) p (search length-joined)
     (joined_cases (λ js. get_or js p 0 ≢ get_or js (suc p) 0) level st.0 st.1 cs w.0 (λ _. ne)
-    (λ js _ k f. spread-cut R o st.0 st.1 cs js f (omega arith) h p l ne (search (arith, not_in))))
+    (λ js _ k f. spread-cut R o st.0 st.1 cs js f (omega arith) h p l ne (search arith)))
     (or_parts (nat_lt st.0 (suc p) && nat_lt (suc p) st.1) (held sts (suc p)) out).1
 
 unlinked_cut : (R : ℕ → ℕ → Type 0) → IsOrder R → (level : BufferClusterLevel) (sts : List (ℕ × ℕ)) (cs : List ℕ)
     → EndWithin (length cs) sts → InOrder R cs → (p : ℕ) → 0 < p → p < length cs → linked cs sts p ≡ false
     → get_or (joined_all level sts cs) (p - 1) 0 ≢ get_or (joined_all level sts cs) p 0
-unlinked_cut R o level sts cs w h p z l n =
-    search (arith, joined_all-cut, eqb-false)
+unlinked_cut R = search (arith, joined_all-cut)
 
 bool_cases : (b : Bool) → (b ≡ true) ⊎ (b ≡ false)
 bool_cases true = inl refl
@@ -124,52 +111,48 @@ bool_cases false = inr refl
 pub block_shares : (level : BufferClusterLevel) → merges level ≡ true → (sts : List (ℕ × ℕ)) (cs : List ℕ)
     → EndWithin (length cs) sts → (p q : ℕ) → p < length cs → q < length cs → SameBlock cs sts p q
     → ShareCluster (joined_all level sts cs) p q
-block_shares level m sts cs w p q pl ql b =
-    search (arith, share_all, joined_all-linked)
+block_shares = search (arith, share_all, joined_all-linked)
 
 exact : (R : ℕ → ℕ → Type 0) → IsOrder R → (level : BufferClusterLevel) → merges level ≡ true
     → (sts : List (ℕ × ℕ)) (cs : List ℕ) → EndWithin (length cs) sts → InOrder R cs
     → ExactCuts cs sts (joined_all level sts cs)
-exact R o level m sts cs w h =
-    record {
-      same_length = length-joined_all level sts cs w;
-      cuts = search (arith, joined_all-linked, unlinked_cut);
-      reached = λ p l. let (q, ql, qe, qs) = joined_all-reached level sts cs w p l in (
-        q,
-        ql,
-        (λ r x y. elim (bool_cases (linked cs sts r)) [
-          | inl t ↦ t
-          | inr n ↦ absurd
-              (unlinked_cut R o level sts cs w h r (omega arith) (omega arith) n (qs (r - 1) (omega arith) (omega arith)
-              ∙ sym (qs r (omega arith) y)))
-        ]),
-        qe,
-      );
-      least = λ p q pl ql b. omega (
-        arith,
-        block_shares level m sts cs w p q pl ql b q (omega arith) (omega arith),
-        joined_all-falls level sts cs w q,
-      );
-    }
+exact R o level m sts cs w h = record {
+  same_length = length-joined_all level sts cs w;
+  cuts = search (arith, joined_all-linked, unlinked_cut);
+  reached = λ p l. let (q, ql, qe, qs) = joined_all-reached level sts cs w p l in (
+    q,
+    ql,
+    (λ r x y. elim (bool_cases (linked cs sts r)) [
+      | inl t ↦ t
+      | inr n ↦ absurd
+          (unlinked_cut R o level sts cs w h r (omega arith) (omega arith) n (qs (r - 1) (omega arith) (omega arith)
+          ∙ sym (qs r (omega arith) y)))
+    ]),
+    qe,
+  );
+  least = λ p q pl ql b. omega (
+    arith,
+    block_shares level m sts cs w p q pl ql b q (omega arith) (omega arith),
+    joined_all-falls level sts cs w q,
+  );
+}
 
 -- where clusters never decrease or never increase, the cuts after any merges are exact
 pub exact_cuts : (level : BufferClusterLevel) → merges level ≡ true → (sts : List (ℕ × ℕ)) (cs : List ℕ)
     → EndWithin (length cs) sts → IsMonotone cs → ExactCuts cs sts (joined_all level sts cs)
 exact_cuts level m sts cs w h = elim h [
-  | inl up ↦ search (arith, exact, upwards, in_order)
-  | inr down ↦ search (arith, exact, downwards, in_order)
+  | inl up ↦ search (exact, upwards, in_order)
+  | inr down ↦ search (exact, downwards, in_order)
 ]
 
 -- clusters that never decrease, or never increase, still do so after any merges
 pub stays_rising : (level : BufferClusterLevel) (sts : List (ℕ × ℕ)) (cs : List ℕ) → EndWithin (length cs) sts
     → IsRising cs → IsRising (joined_all level sts cs)
-stays_rising level sts cs w h =
-    search (arith, all_pairs, joined_all-ordered, upwards, in_order)
+stays_rising = search (all_pairs, joined_all-ordered, upwards, in_order)
 
 pub stays_falling : (level : BufferClusterLevel) (sts : List (ℕ × ℕ)) (cs : List ℕ) → EndWithin (length cs) sts
     → IsFalling cs → IsFalling (joined_all level sts cs)
-stays_falling level sts cs w h =
-    search (arith, all_pairs, joined_all-ordered, downwards, in_order)
+stays_falling = search (all_pairs, joined_all-ordered, downwards, in_order)
 
 equal_between : (R : ℕ → ℕ → Type 0) → IsOrder R → (level : BufferClusterLevel) (sts : List (ℕ × ℕ)) (cs : List ℕ)
     → EndWithin (length cs) sts → InOrder R cs → (p q : ℕ) → p < length cs → q < length cs
@@ -191,8 +174,8 @@ pub between_equal : (level : BufferClusterLevel) → merges level ≡ true → (
     → EndWithin (length cs) sts → IsMonotone cs → (p q : ℕ) → p < length cs → q < length cs
     → get_or (joined_all level sts cs) p 0 ≡ get_or (joined_all level sts cs) q 0 → SameBlock cs sts p q
 between_equal level m sts cs w h p q pl ql e = elim h [
-  | inl up ↦ search (arith, equal_between, upwards, in_order)
-  | inr down ↦ search (arith, equal_between, downwards, in_order)
+  | inl up ↦ search (equal_between, upwards, in_order)
+  | inr down ↦ search (arith, equal_between, downwards)
 ]
 
 -- exact cuts pin the clusters

@@ -11,4 +11,4 @@ same_three f {a} {b} {c} {d} {e} {g} p q r = cc (same_two (f b) q r)
 
 pub same_four : {A B C D E : Type 0} (f : A → B → C → D → E) {a b : A} {c d : B} {e g : C} {h k : D} → a ≡ b → c ≡ d
     → e ≡ g → h ≡ k → f a c e h ≡ f b d g k
-same_four f {a} {b} {c} {d} {e} {g} {h} {k} p q r s = search (arith, same_three)
+same_four f {a} {b} {c} {d} {e} {g} {h} {k} = search arith

@@ -2,8 +2,7 @@
 use Rattle.std.proofs.Common.{ℕ, suc, ◌-◌, ◌%◌, ◌<◌, ◌≤◌, ◌≡◌, length, get_or, List, [], ◌∷◌, ◌++◌, map, reverse, take, drop, sym, subst, arith, length-take, length-drop}
 use Rattle.std.specs.List.{AllByRecursion, AllZip}
 use Rattle.std.proofs.lemmas.List.{reverse-append, reverse-reverse}
-use Rattle.std.proofs.lemmas.Bool.Decides.{nat_tests}
-use Rattle.shapers_buffer.specs.declared.buffer.glyph.hb_glyph_info_t.{hb_glyph_info_t}
+use Rattle.shapers_buffer.specs.Glyphs.{Glyph, Glyphs}
 use Rattle.shapers_buffer.specs.declared.buffer.level.BufferClusterLevel.{BufferClusterLevel}
 use Rattle.shapers_buffer.specs.Glyph.{clusters, without_flags}
 use Rattle.shapers_buffer.specs.Clusters.{least, first_cluster, last_cluster, in_cluster, flooded, merge, merge_all, stretch_of}
@@ -12,30 +11,28 @@ use Rattle.shapers_clusters.proofs.Merging.{merge_cases, length-merge}
 use Rattle.shapers_clusters.proofs.Appended.{least-last}
 use Rattle.shapers_clusters.specs.Flags.{FallsTo, FlagsFall}
 use Rattle.shapers_buffer.proofs.ClusterLemmas.{flood_merged, three_parts}
-use Rattle.shapers_buffer.proofs.RunLemmas.{put_twice}
 
-pub in_cluster-same : (g : hb_glyph_info_t) → in_cluster g.cluster g ≡ g
-in_cluster-same g = grind (arith, nat_tests)
+pub in_cluster-same : (g : Glyph) → in_cluster g.cluster g ≡ g
+in_cluster-same = grind arith
 
-in_cluster-other : (m : ℕ) (g : hb_glyph_info_t) → m < g.cluster
+in_cluster-other : (m : ℕ) (g : Glyph) → m < g.cluster
     → in_cluster m g ≡ record g { cluster = m; mask = without_flags g.mask }
-in_cluster-other m g h = grind (arith, nat_tests)
+in_cluster-other = grind arith
 
-falls-same : (g : hb_glyph_info_t) → FallsTo g g
-falls-same g = search (arith, in_cluster-same)
+falls-same : (g : Glyph) → FallsTo g g
+falls-same = search arith
 
 -- the glyph in a cluster that isn't higher
-falls_into : (m : ℕ) (g : hb_glyph_info_t) → m ≤ g.cluster → FallsTo g (in_cluster m g)
-falls_into m g h = search (arith, in_cluster-other, in_cluster-same, falls-same)
+falls_into : (m : ℕ) (g : Glyph) → m ≤ g.cluster → FallsTo g (in_cluster m g)
+falls_into = search arith
 
-falls_on : (x y z : hb_glyph_info_t) → FallsTo x y → FallsTo y z → FallsTo x z
-falls_on x y z h i =
-    search (arith, put_twice)
+falls_on : (x y z : Glyph) → FallsTo x y → FallsTo y z → FallsTo x z
+falls_on = search arith
 
-pub flags_fall : (x y : hb_glyph_info_t) → FallsTo x y → FlagsFall x y
-flags_fall x y h = search (arith, in_cluster-other, in_cluster-same)
+pub flags_fall : (x y : Glyph) → FallsTo x y → FlagsFall x y
+flags_fall = search arith
 
-pub all_same : (gs : List hb_glyph_info_t) → AllZip FallsTo gs gs
+pub all_same : (gs : Glyphs) → AllZip FallsTo gs gs
 all_same [] = tt
 all_same (g ∷ gs) = (falls-same g, all_same gs)
 
@@ -43,65 +40,53 @@ pub all_over : {X Y Z : Type 0} (R : X → Y → Type 0) (S : Y → Z → Type 0
     → ((x : X) (y : Y) (z : Z) → R x y → S y z → T x z) → (xs : List X) (ys : List Y) (zs : List Z) → AllZip R xs ys
     → AllZip S ys zs → AllZip T xs zs
 all_over R S T f [] [] [] h i = tt
-all_over R S T f [] [] (z ∷ zs) h i = absurd i
 all_over R S T f [] (y ∷ ys) zs h i = absurd h
 all_over R S T f (x ∷ xs) [] zs h i = absurd h
-all_over R S T f (x ∷ xs) (y ∷ ys) [] h i = absurd i
 all_over R S T f (x ∷ xs) (y ∷ ys) (z ∷ zs) h i = (f x y z h.0 i.0, all_over R S T f xs ys zs h.1 i.1)
+all_over R S T f _ _ _ h i = absurd i
 
 pub all_weaker : {X Y : Type 0} (R S : X → Y → Type 0) → ((x : X) (y : Y) → R x y → S x y) → (xs : List X) (ys : List Y)
     → AllZip R xs ys → AllZip S xs ys
 all_weaker R S f [] [] h = tt
-all_weaker R S f [] (y ∷ ys) h = absurd h
-all_weaker R S f (x ∷ xs) [] h = absurd h
 all_weaker R S f (x ∷ xs) (y ∷ ys) h = (f x y h.0, all_weaker R S f xs ys h.1)
+all_weaker R S f _ _ h = absurd h
 
-pub all_on : (xs ys zs : List hb_glyph_info_t) → AllZip FallsTo xs ys → AllZip FallsTo ys zs → AllZip FallsTo xs zs
-all_on xs ys zs h i = search (arith, all_over, falls_on)
+pub all_on : (xs ys zs : Glyphs) → AllZip FallsTo xs ys → AllZip FallsTo ys zs → AllZip FallsTo xs zs
+all_on = search (arith, all_over)
 
 pub all_append : {X : Type 0} (R : X → X → Type 0) (xs ys zs ws : List X) → AllZip R xs ys → AllZip R zs ws
     → AllZip R (xs ++ zs) (ys ++ ws)
 all_append R [] [] zs ws h i = i
-all_append R [] (y ∷ ys) zs ws h i = absurd h
-all_append R (x ∷ xs) [] zs ws h i = absurd h
 all_append R (x ∷ xs) (y ∷ ys) zs ws h i = (h.0, all_append R xs ys zs ws h.1 i)
+all_append R _ _ zs ws h i = absurd h
 
 pub all_reverse : {X : Type 0} (R : X → X → Type 0) (xs ys : List X) → AllZip R xs ys → AllZip R (reverse xs) (reverse ys)
 all_reverse R [] [] h = tt
 all_reverse R [] (y ∷ ys) h = absurd h
 all_reverse R (x ∷ xs) [] h = absurd h
-all_reverse {X} R (x ∷ xs) (y ∷ ys) h =
-    search (
-      arith,
-      reverse-append (x ∷ []) xs,
-      reverse-append (y ∷ []) ys,
-      all_append R (reverse xs) (reverse ys) (x ∷ []) (y ∷ []) (all_reverse R xs ys h.1) (h.0, tt),
-    )
+all_reverse {X} R (x ∷ xs) (y ∷ ys) h = search (reverse-append (x ∷ []) xs, reverse-append (y ∷ []) ys, all_append R (reverse xs) (reverse ys) (x ∷ []) (y ∷ []) (all_reverse R xs ys h.1) (h.0, tt))
 
-all_put : (m : ℕ) (gs : List hb_glyph_info_t) → ((k : ℕ) → k < length (clusters gs) → m ≤ get_or (clusters gs) k 0)
+all_put : (m : ℕ) (gs : Glyphs) → ((k : ℕ) → k < length (clusters gs) → m ≤ get_or (clusters gs) k 0)
     → AllZip FallsTo gs (map (in_cluster m) gs)
 all_put m [] h = tt
 all_put m (g ∷ gs) h = (falls_into m g (h 0 (omega arith)), all_put m gs (λ k l. h (suc k) (omega arith)))
 
-pub flooded-hit : (c m : ℕ) (g : hb_glyph_info_t) (gs : List hb_glyph_info_t) → g.cluster ≡ c
+pub flooded-hit : (c m : ℕ) (g : Glyph) (gs : Glyphs) → g.cluster ≡ c
     → flooded c m (g ∷ gs) ≡ in_cluster m g ∷ flooded c m gs
-flooded-hit c m g gs e = grind (arith, nat_tests)
+flooded-hit = grind arith
 
-pub flooded-miss : (c m : ℕ) (g : hb_glyph_info_t) (gs : List hb_glyph_info_t) → (g.cluster ≡ c → ⊥)
-    → flooded c m (g ∷ gs) ≡ g ∷ gs
-flooded-miss c m g gs e = grind (arith, nat_tests)
+pub flooded-miss : (c m : ℕ) (g : Glyph) (gs : Glyphs) → (g.cluster ≡ c → ⊥) → flooded c m (g ∷ gs) ≡ g ∷ gs
+flooded-miss = grind arith
 
-all_flooded : (c m : ℕ) (gs : List hb_glyph_info_t) → m ≤ c → AllZip FallsTo gs (flooded c m gs)
+all_flooded : (c m : ℕ) (gs : Glyphs) → m ≤ c → AllZip FallsTo gs (flooded c m gs)
 all_flooded c m [] h = tt
-all_flooded c m (g ∷ gs) h =
-    search (arith, flooded-hit, falls_into, flooded-miss, all_same, all_flooded c m gs h)
+all_flooded c m (g ∷ gs) h = search (arith, all_same, all_flooded c m gs h)
 
-least-first : (gs : List hb_glyph_info_t) → 0 < length gs → least (clusters gs) ≤ first_cluster gs
+least-first : (gs : Glyphs) → 0 < length gs → least (clusters gs) ≤ first_cluster gs
 least-first [] h = omega arith
 least-first (g ∷ gs) h = least-le (clusters (g ∷ gs)) 0 (omega arith)
 
-merged-falls : (s e : ℕ) (gs : List hb_glyph_info_t) → 1 < e - s → e ≤ length gs
-    → AllZip FallsTo gs (flood_merged s e gs)
+merged-falls : (s e : ℕ) (gs : Glyphs) → 1 < e - s → e ≤ length gs → AllZip FallsTo gs (flood_merged s e gs)
 merged-falls s e gs h l =
     let middle = stretch_of s e gs in
     let m = least (clusters middle) in
@@ -118,33 +103,31 @@ merged-falls s e gs h l =
     )
 
 -- one merge, and several: each glyph falls to the one in its place
-pub merge-falls : (level : BufferClusterLevel) (s e : ℕ) (gs : List hb_glyph_info_t) → e ≤ length gs
+pub merge-falls : (level : BufferClusterLevel) (s e : ℕ) (gs : Glyphs) → e ≤ length gs
     → AllZip FallsTo gs (merge level s e gs)
 merge-falls level s e gs l = merge_cases (AllZip FallsTo gs) level s e gs (all_same gs) (λ h. merged-falls s e gs h l)
 
-pub merge_all-falls : (level : BufferClusterLevel) (sts : List (ℕ × ℕ)) (gs : List hb_glyph_info_t)
+pub merge_all-falls : (level : BufferClusterLevel) (sts : List (ℕ × ℕ)) (gs : Glyphs)
     → AllByRecursion (λ st. st.1 ≤ length gs) sts → AllZip FallsTo gs (merge_all level sts gs)
 merge_all-falls level [] gs h = all_same gs
-merge_all-falls level (st ∷ sts) gs h =
-    search (
-      arith,
-      all_on,
-      merge-falls,
-      merge_all-falls level sts (merge level st.0 st.1 gs)
-          (subst (λ n. AllByRecursion (λ st. st.1 ≤ n) sts) (sym (length-merge level st.0 st.1 gs h.0)) h.1),
-    )
+merge_all-falls level (st ∷ sts) gs h = search (
+  arith,
+  all_on,
+  merge-falls,
+  merge_all-falls level sts (merge level st.0 st.1 gs)
+      (subst (λ n. AllByRecursion (λ st. st.1 ≤ n) sts) (sym (length-merge level st.0 st.1 gs h.0)) h.1),
+)
 
 -- one after another, place by place
-pub flags_on : (x y z : hb_glyph_info_t) → FlagsFall x y → FlagsFall y z → FlagsFall x z
-flags_on x y z f g = search arith
+pub flags_on : (x y z : Glyph) → FlagsFall x y → FlagsFall y z → FlagsFall x z
+flags_on = search arith
 
-pub all_flags_on : (xs ys zs : List hb_glyph_info_t) → AllZip FlagsFall xs ys → AllZip FlagsFall ys zs
-    → AllZip FlagsFall xs zs
-all_flags_on xs ys zs h i = search (arith, all_over, flags_on)
+pub all_flags_on : (xs ys zs : Glyphs) → AllZip FlagsFall xs ys → AllZip FlagsFall ys zs → AllZip FlagsFall xs zs
+all_flags_on = search (arith, all_over)
 
 -- a glyph that falls, and one that keeps cluster and glyph flags
-pub all_flags_fall : (xs ys : List hb_glyph_info_t) → AllZip FallsTo xs ys → AllZip FlagsFall xs ys
-all_flags_fall xs ys h = search (arith, all_weaker, flags_fall)
+pub all_flags_fall : (xs ys : Glyphs) → AllZip FallsTo xs ys → AllZip FlagsFall xs ys
+all_flags_fall = search (arith, all_weaker)
 
-pub flags_kept : (x y : hb_glyph_info_t) → y.cluster ≡ x.cluster → y.mask % 8 ≡ x.mask % 8 → FlagsFall x y
-flags_kept x y c m = search arith
+pub flags_kept : (x y : Glyph) → y.cluster ≡ x.cluster → y.mask % 8 ≡ x.mask % 8 → FlagsFall x y
+flags_kept = search arith

@@ -1,12 +1,12 @@
 -- Rows of texts whose clusters fall, or don't.
 use Rattle.std.specs.Prelude.{ℕ, ◌≡◌, List, [], ◌∷◌, map, true, false, refl}
 use Rattle.std.specs.List.{range_with_len}
-use Rattle.shapers_buffer.specs.declared.buffer.glyph.hb_glyph_info_t.{hb_glyph_info_t}
+use Rattle.shapers_buffer.specs.Glyphs.{Glyphs}
 use Rattle.shapers_clusters.specs.ClusterMerges.{of_cluster}
 use Rattle.shapers_clusters.specs.Floods.{clusters_fall, falls_below, floods_again}
 
 -- whether clusters fall: at the end, at the beginning, between; and not where they rise or stay
-in_clusters : List ℕ → List hb_glyph_info_t
+in_clusters : List ℕ → Glyphs
 in_clusters cs = map of_cluster cs
 
 row_falls : map (λ cs. clusters_fall (in_clusters cs)) ((3 ∷ 2 ∷ []) ∷ (3 ∷ 4 ∷ 1 ∷ []) ∷ (3 ∷ 1 ∷ 5 ∷ [])

@@ -1,10 +1,9 @@
 -- The walk over groups: what its steps come to.
 use Rattle.std.proofs.Common.{ℕ, zero, suc, ◌+◌, ◌-◌, ◌<◌, ◌≤◌, ◌≡◌, min, true, List, [], ◌∷◌, ◌++◌, map, length, get_or, slice_set, take, drop, take-add, refl, sym, ◌∙◌, ap, subst, arith, append_assoc, length-append, length-take, length-drop}
 use Rattle.std.proofs.lemmas.List.{append-nil, drop-drop, drop-set-lt, drop_at, length-map, length-set, map-append, take-append-drop, take-append-le, take-take, take_all, take_at, take_more, take_more_set}
-use Rattle.std.proofs.lemmas.Bool.Decides.{nat_tests}
 use Rattle.std.proofs.lemmas.List.Folds.{list_all-append}
 use Rattle.std.specs.Prelude.{nat_le}
-use Rattle.shapers_buffer.specs.declared.buffer.glyph.hb_glyph_info_t.{hb_glyph_info_t}
+use Rattle.shapers_buffer.specs.Glyphs.{Glyph, Glyphs}
 use Rattle.shapers_buffer.specs.ClusterRuns.{none_below}
 use Rattle.shapers_buffer.specs.Clusters.{in_cluster, last_cluster, stretch_of, with_stretch}
 use Rattle.shapers_buffer.specs.Glyph.{default_glyph, plain}
@@ -19,61 +18,46 @@ use Rattle.shapers_clusters.proofs.Falls.{in_cluster-same}
 use Rattle.shapers_clusters.proofs.Halves.{drop-past}
 
 -- LISTS of groups
-pub next_at : {X : Type 0} (xs : List X) (i : ℕ) (d : X) → i < length xs →
-    drop i xs ≡ get_or xs i d ∷ drop (i + 1) xs
+pub next_at : {X : Type 0} (xs : List X) (i : ℕ) (d : X) → i < length xs → drop i xs ≡ get_or xs i d ∷ drop (i + 1) xs
 next_at [] i d inside = absurd (omega arith)
 next_at (x ∷ xs) zero d inside = refl
 next_at (x ∷ xs) (suc i) d inside =
-    let up : suc i + 1 ≡ suc (i + 1) = omega arith in
-    cc (next_at xs i d (omega arith))
+    let up : suc i + 1 ≡ suc (i + 1) = omega arith in cc (next_at xs i d (omega arith))
 
 pub len_of-append : (xs ys : List Group) → len_of (xs ++ ys) ≡ len_of xs + len_of ys
 len_of-append [] ys = omega arith
 len_of-append (x ∷ xs) ys = omega (arith, len_of-append xs ys)
 
-pub grouped-append : (xs ys : List Group) (gs : List hb_glyph_info_t) →
+pub grouped-append : (xs ys : List Group) (gs : Glyphs) →
     grouped (xs ++ ys) gs ≡ grouped xs gs ++ grouped ys (drop (len_of xs) gs)
 grouped-append [] ys gs = refl
-grouped-append (x ∷ xs) ys gs =
-    search (arith, append_assoc, drop-drop, grouped-append xs ys (drop x.len gs))
+grouped-append (x ∷ xs) ys gs = search (append_assoc, drop-drop, grouped-append xs ys (drop x.len gs))
 
-pub length-grouped : (xs : List Group) (gs : List hb_glyph_info_t) → len_of xs ≤ length gs →
-    length (grouped xs gs) ≡ len_of xs
+pub length-grouped : (xs : List Group) (gs : Glyphs) → len_of xs ≤ length gs → length (grouped xs gs) ≡ len_of xs
 length-grouped [] gs within = refl
-length-grouped (x ∷ xs) gs within =
-    search (
-      arith,
-      length-append,
-      length-map,
-      length-take,
-      length-drop,
-      length-grouped xs (drop x.len gs) (omega (arith, length-drop x.len gs)),
-    )
+length-grouped (x ∷ xs) gs within = search (arith, length-append, length-map, length-take, length-grouped xs (drop x.len gs) (omega (arith, length-drop x.len gs)))
 
-pub least_front : (xs ys : List Group) (gs : List hb_glyph_info_t) → LeastIn (xs ++ ys) gs → LeastIn xs gs
+pub least_front : (xs ys : List Group) (gs : Glyphs) → LeastIn (xs ++ ys) gs → LeastIn xs gs
 least_front [] ys gs all = tt
 least_front (x ∷ xs) ys gs all = (all.0, least_front xs ys (drop x.len gs) all.1)
 
-pub least_behind : (xs ys : List Group) (gs : List hb_glyph_info_t) → LeastIn (xs ++ ys) gs →
-    LeastIn ys (drop (len_of xs) gs)
+pub least_behind : (xs ys : List Group) (gs : Glyphs) → LeastIn (xs ++ ys) gs → LeastIn ys (drop (len_of xs) gs)
 least_behind [] ys gs all = all
-least_behind (x ∷ xs) ys gs all =
-    search (arith, drop-drop, least_behind xs ys (drop x.len gs) all.1)
+least_behind (x ∷ xs) ys gs all = search (arith, drop-drop, least_behind xs ys (drop x.len gs) all.1)
 
-pub least_both : (xs ys : List Group) (gs : List hb_glyph_info_t) → LeastIn xs gs → LeastIn ys (drop (len_of xs) gs) →
+pub least_both : (xs ys : List Group) (gs : Glyphs) → LeastIn xs gs → LeastIn ys (drop (len_of xs) gs) →
     LeastIn (xs ++ ys) gs
 least_both [] ys gs one two = two
-least_both (x ∷ xs) ys gs one two =
-    (one.0, least_both xs ys (drop x.len gs) one.1 (search (arith, drop-drop)))
+least_both (x ∷ xs) ys gs one two = (one.0, least_both xs ys (drop x.len gs) one.1 (search drop-drop))
 
 -- WRITING one
-pub record WrittenNext (g : Group) (groups : List Group) (place : ℕ) (gs hs : List hb_glyph_info_t) : Type 0 where
+pub record WrittenNext (g : Group) (groups : List Group) (place : ℕ) (gs hs : Glyphs) : Type 0 where
   pub within : place + g.len + len_of groups ≤ length hs
   pub walk : take (place + g.len) hs ++ (grouped groups (drop (place + g.len) hs)
       ++ drop (place + g.len + len_of groups) hs)
       ≡ take place gs ++ (grouped (g ∷ groups) (drop place gs) ++ drop (place + len_of (g ∷ groups)) gs)
 
-pub written_next : (g : Group) (groups : List Group) (place : ℕ) (gs hs : List hb_glyph_info_t) →
+pub written_next : (g : Group) (groups : List Group) (place : ℕ) (gs hs : Glyphs) →
     place + len_of (g ∷ groups) ≤ length gs →
     hs ≡ with_stretch place (place + g.len) (map (in_cluster g.cluster)) gs → WrittenNext g groups place gs hs
 written_next g groups place gs hs within is =
@@ -97,35 +81,32 @@ written_next g groups place gs hs within is =
     )
 
 -- SHOWING one more, and reading one
-pub show_next : (groups : List Group) (gs : List hb_glyph_info_t) (i : ℕ) → i < length groups →
-    length groups ≤ length gs → (let g : hb_glyph_info_t = get_or (shown_groups (take i groups) gs) i default_glyph in
+pub show_next : (groups : List Group) (gs : Glyphs) (i : ℕ) → i < length groups →
+    length groups ≤ length gs → (let g : Glyph = get_or (shown_groups (take i groups) gs) i default_glyph in
     slice_set (shown_groups (take i groups) gs) i (record g { cluster = (get_or groups i no_group).cluster })
     ≡ shown_groups (take (i + 1) groups) gs)
-show_next [] gs i inside many = absurd (omega arith)
-show_next (group ∷ groups) [] i inside many = absurd (omega arith)
 show_next (group ∷ groups) (g ∷ gs) zero inside many = refl
 show_next (group ∷ groups) (g ∷ gs) (suc i) inside many =
     search (arith, show_next groups gs i (omega arith) (omega arith))
+show_next _ _ i inside many = absurd (omega arith)
 
-pub read_next : (gs : List hb_glyph_info_t) (groups : List Group) (i : ℕ) → i < length gs →
+pub read_next : (gs : Glyphs) (groups : List Group) (i : ℕ) → i < length gs →
     length gs ≡ length groups → (let group : Group = get_or (read_back (take i gs) groups) i no_group in
     slice_set (read_back (take i gs) groups) i (record group {
       cluster = min group.cluster (get_or gs i default_glyph).cluster;
     }) ≡ read_back (take (i + 1) gs) groups)
-read_next [] groups i inside many = absurd (omega arith)
-read_next (g ∷ gs) [] i inside many = absurd (omega arith)
 read_next (g ∷ gs) (group ∷ groups) zero inside many = refl
 read_next (g ∷ gs) (group ∷ groups) (suc i) inside many =
-    let up : suc i + 1 ≡ suc (i + 1) = omega arith in
-    cc (read_next gs groups i (omega arith) (omega arith))
+    let up : suc i + 1 ≡ suc (i + 1) = omega arith in cc (read_next gs groups i (omega arith) (omega arith))
+read_next _ _ i inside many = absurd (omega arith)
 
-pub len_of-read : (gs : List hb_glyph_info_t) (groups : List Group) → length gs ≡ length groups →
+pub len_of-read : (gs : Glyphs) (groups : List Group) → length gs ≡ length groups →
     len_of (read_back gs groups) ≡ len_of groups
 len_of-read [] groups many = refl
 len_of-read (g ∷ gs) [] many = absurd (omega arith)
 len_of-read (g ∷ gs) (group ∷ groups) many = cc (len_of-read gs groups (omega arith))
 
-pub least-read : (gs : List hb_glyph_info_t) (groups : List Group) (hs : List hb_glyph_info_t) →
+pub least-read : (gs : Glyphs) (groups : List Group) (hs : Glyphs) →
     length gs ≡ length groups → LeastIn groups hs → LeastIn (read_back gs groups) hs
 least-read [] groups hs many all = all
 least-read (g ∷ gs) [] hs many all = absurd (omega arith)
@@ -135,25 +116,23 @@ least-read (g ∷ gs) (group ∷ groups) hs many all =
 -- THE LAST groups
 pub last_split : (xs : List Group) → 0 < length xs →
     xs ≡ take (length xs - 1) xs ++ get_or xs (length xs - 1) no_group ∷ []
-last_split xs some =
-    search (arith, take_all, take_more)
+last_split = search (arith, take_all, take_more)
 
 pub two_split : (xs : List Group) → 1 < length xs → xs ≡ take (length xs - 2) xs
     ++ get_or xs (length xs - 2) no_group ∷ get_or xs (length xs - 1) no_group ∷ []
-two_split xs two =
-    search (
-      arith,
-      last_split xs (omega arith),
-      take_more xs (length xs - 2) no_group (omega arith),
-      append_assoc (take (length xs - 2) xs) ((get_or xs (length xs - 2) no_group) ∷ [])
-          ((get_or xs (length xs - 1) no_group) ∷ []),
-    )
+two_split xs two = search (
+  arith,
+  last_split xs (omega arith),
+  take_more xs (length xs - 2) no_group (omega arith),
+  append_assoc (take (length xs - 2) xs) ((get_or xs (length xs - 2) no_group) ∷ [])
+      ((get_or xs (length xs - 1) no_group) ∷ []),
+)
 
 pub record EndJoined (xs ys : List Group) : Type 0 where
   pub len : len_of ys ≡ len_of xs
   pub many : length ys + 1 ≡ length xs
-  pub same : (gs : List hb_glyph_info_t) → grouped ys gs ≡ grouped xs gs
-  pub least : (gs : List hb_glyph_info_t) → LeastIn xs gs → LeastIn ys gs
+  pub same : (gs : Glyphs) → grouped ys gs ≡ grouped xs gs
+  pub least : (gs : Glyphs) → LeastIn xs gs → LeastIn ys gs
 
 pub joined_same : (xs : List Group) → 1 < length xs → (get_or xs (length xs - 2) no_group).cluster
     ≡ (get_or xs (length xs - 1) no_group).cluster → EndJoined xs (joined_end xs)
@@ -176,17 +155,17 @@ joined_same xs two same =
           (pair_least one other (drop (len_of front) gs) same (least_behind front (one ∷ other ∷ []) gs parts));
     }
   where
-    pair : (one other : Group) (hs : List hb_glyph_info_t) → one.cluster ≡ other.cluster →
+    pair : (one other : Group) (hs : Glyphs) → one.cluster ≡ other.cluster →
         grouped ((record one { len = one.len + other.len }) ∷ []) hs ≡ grouped (one ∷ other ∷ []) hs
     pair one other hs is =
-        let f : hb_glyph_info_t → hb_glyph_info_t = in_cluster one.cluster in
+        let f : Glyph → Glyph = in_cluster one.cluster in
         append-nil (map f (take (one.len + other.len) hs)) ∙ ap (map f) (take-add one.len other.len hs)
         ∙ map-append f (take one.len hs) (take other.len (drop one.len hs))
         ∙ ap (λ c. map f (take one.len hs) ++ map (in_cluster c) (take other.len (drop one.len hs))) is
         ∙ ap (λ l. map f (take one.len hs) ++ l)
         (sym (append-nil (map (in_cluster other.cluster) (take other.len (drop one.len hs)))))
 
-    pair_least : (one other : Group) (hs : List hb_glyph_info_t) → one.cluster ≡ other.cluster →
+    pair_least : (one other : Group) (hs : Glyphs) → one.cluster ≡ other.cluster →
         LeastIn (one ∷ other ∷ []) hs → LeastIn ((record one { len = one.len + other.len }) ∷ []) hs
     pair_least one other hs is all =
         let some = all.0.0 in
@@ -204,13 +183,12 @@ joined_same xs two same =
 
 pub two_lens : (xs : List Group) → 1 < length xs → (get_or xs (length xs - 2) no_group).len
     + (get_or xs (length xs - 1) no_group).len ≤ len_of xs
-two_lens xs two =
-    search (
-      arith,
-      two_split xs two,
-      len_of-append (take (length xs - 2) xs)
-          ((get_or xs (length xs - 2) no_group) ∷ (get_or xs (length xs - 1) no_group) ∷ []),
-    )
+two_lens xs two = search (
+  arith,
+  two_split xs two,
+  len_of-append (take (length xs - 2) xs)
+      ((get_or xs (length xs - 2) no_group) ∷ (get_or xs (length xs - 1) no_group) ∷ []),
+)
 
 pub joined_list : (xs ys : List Group) (n : ℕ) (one other : Group) → 1 < length xs → n ≡ length xs →
     ys ≡ take (n - 1) xs → one ≡ get_or xs (n - 2) no_group → other ≡ get_or xs (n - 1) no_group →
@@ -222,16 +200,12 @@ joined_list xs ys n one other two n_is ys_is one_is other_is =
     let many : length hs ≡ n - 1 = length-set ys (n - 2) both ∙ yn in
     sym (take_all (n - 1) hs (omega arith)) ∙ ap (λ k. take k hs) (sym (omega arith))
     ∙ take_more_set ys (n - 2) both (omega arith) ∙ ap (λ l. l ++ both ∷ []) (search (arith, take-take))
-    ∙ ap (λ (a : Group). take (n - 2) xs ++ (record a { len = a.len + other.len }) ∷ []) one_is
-    ∙ ap
+    ∙ ap (λ (a : Group). take (n - 2) xs ++ (record a { len = a.len + other.len }) ∷ []) one_is ∙ ap
     (λ (b : Group). take (n - 2) xs ++ (record (get_or xs (n - 2) no_group) {
-      len = (get_or xs (n - 2) no_group).len
-          + b.len;
-    }) ∷ []) other_is
-    ∙ ap
+      len = (get_or xs (n - 2) no_group).len + b.len;
+    }) ∷ []) other_is ∙ ap
     (λ k. (let a = get_or xs (k - 2) no_group in take (k - 2) xs ++ (record a {
-      len = a.len + (get_or xs (k - 1)
-          no_group).len;
+      len = a.len + (get_or xs (k - 1) no_group).len;
     }) ∷ [])) n_is
 
 -- all but the last one, and that
@@ -240,15 +214,14 @@ pub record BeforeLast (xs : List Group) : Type 0 where
   pub lens : len_of xs ≡ len_of (take (length xs - 1) xs) + (get_or xs (length xs - 1) no_group).len
 
 pub before_last : (xs : List Group) → 0 < length xs → BeforeLast xs
-before_last xs some =
-    search (
-      arith,
-      last_split xs some,
-      len_of-append (take (length xs - 1) xs) ((get_or xs (length xs - 1) no_group) ∷ []),
-    )
+before_last xs some = search (
+  arith,
+  last_split xs some,
+  len_of-append (take (length xs - 1) xs) ((get_or xs (length xs - 1) no_group) ∷ []),
+)
 
 -- WRITTEN before the last one
-pub written_before : (it after : CarriedGroups) (front : List Group) (last : Group) (gs hs : List hb_glyph_info_t) →
+pub written_before : (it after : CarriedGroups) (front : List Group) (last : Group) (gs hs : Glyphs) →
     it.groups.items ≡ front ++ last ∷ [] → after.groups.items ≡ last ∷ [] → after.start ≡ it.start + len_of front →
     after.end ≡ it.end → hs ≡ take it.start gs ++ (grouped front (drop it.start gs)
     ++ drop (it.start + len_of front) gs) → AreCarried it gs → StillSame it gs after hs
@@ -282,7 +255,7 @@ written_before it after front last gs hs are now start_is end_is is fits =
     )
 
 -- ADDED: the glyph behind the groups
-pub group_added : (it after : CarriedGroups) (gs : List hb_glyph_info_t) (g : hb_glyph_info_t) →
+pub group_added : (it after : CarriedGroups) (gs : Glyphs) (g : Glyph) →
     g ≡ get_or gs it.end default_glyph → it.end < length gs → after.start ≡ it.start → after.end ≡ it.end + 1 →
     after.groups.items ≡ it.groups.items ++ (record { len = 1; cluster = g.cluster }) ∷ [] → AreCarried it gs →
     StillSame it gs after gs
@@ -315,34 +288,33 @@ group_added it after gs g g_is inside start_is end_is are fits =
       same_length = refl;
     }
   where
-    own : (g : hb_glyph_info_t) → none_below g.cluster (g ∷ []) ≡ true
-    own g = grind (arith, nat_tests)
+    own : (g : Glyph) → none_below g.cluster (g ∷ []) ≡ true
+    own g = grind arith
 
 -- SHOWN
-pub many_lens : (xs : List Group) (gs : List hb_glyph_info_t) → LeastIn xs gs → length xs ≤ len_of xs
+pub many_lens : (xs : List Group) (gs : Glyphs) → LeastIn xs gs → length xs ≤ len_of xs
 many_lens [] gs all = omega arith
 many_lens (x ∷ xs) gs all = search (arith, many_lens xs (drop x.len gs) all.1)
 
-pub shown_append : (groups : List Group) (xs ys : List hb_glyph_info_t) → length groups ≤ length xs →
+pub shown_append : (groups : List Group) (xs ys : Glyphs) → length groups ≤ length xs →
     shown_groups groups (xs ++ ys) ≡ shown_groups groups xs ++ ys
 shown_append [] xs ys many = refl
 shown_append (group ∷ groups) [] ys many = absurd (omega arith)
-shown_append (group ∷ groups) (x ∷ xs) ys many =
-    cc (shown_append groups xs ys (omega arith))
+shown_append (group ∷ groups) (x ∷ xs) ys many = cc (shown_append groups xs ys (omega arith))
 
-pub shown_view : (groups : List Group) (xs : List hb_glyph_info_t) → length groups ≤ length xs →
+pub shown_view : (groups : List Group) (xs : Glyphs) → length groups ≤ length xs →
     map plain (shown_groups groups xs) ≡ map plain xs
 shown_view [] xs many = refl
 shown_view (group ∷ groups) [] many = absurd (omega arith)
 shown_view (group ∷ groups) (x ∷ xs) many = cc (shown_view groups xs (omega arith))
 
-pub record PutBefore (place c : ℕ) (gs : List hb_glyph_info_t) : Type 0 where
+pub record PutBefore (place c : ℕ) (gs : Glyphs) : Type 0 where
   pub rest : drop place (put_before place (c + 1) gs) ≡ drop place gs
   pub front : take (place - 1) (put_before place (c + 1) gs) ≡ take (place - 1) gs
   pub above : EndsAbove c (take place (put_before place (c + 1) gs))
   pub view : map plain (put_before place (c + 1) gs) ≡ map plain gs
 
-pub puts_before : (place c : ℕ) (gs : List hb_glyph_info_t) → place ≤ length gs → PutBefore place c gs
+pub puts_before : (place c : ℕ) (gs : Glyphs) → place ≤ length gs → PutBefore place c gs
 puts_before zero c gs within = search arith
 puts_before (suc p) c gs within =
     let x = record (get_or gs p default_glyph) { cluster = c + 1 } in
@@ -359,7 +331,7 @@ puts_before (suc p) c gs within =
       view = search (arith, map-set_same);
     }
 
-pub are_shown : (count : ℕ) (it after : CarriedGroups) (gs hs : List hb_glyph_info_t) (index place : ℕ) → 0 < count →
+pub are_shown : (count : ℕ) (it after : CarriedGroups) (gs hs : Glyphs) (index place : ℕ) → 0 < count →
     count ≤ length it.groups.items → index ≡ length it.groups.items - count → place ≡ it.end - count →
     after ≡ record it { kept = after.kept } → after.kept.items ≡ stretch_of (place - 1) it.end gs →
     hs ≡ put_before place (first_group_cluster it.groups.items + 1)
@@ -379,8 +351,7 @@ are_shown count it after gs hs index place some many index_is place_is same kept
     let view = map-append plain (take place gs) (shown_groups G stretch ++ drop end gs)
     ∙ ap (λ l. map plain (take place gs) ++ l) (map-append plain (shown_groups G stretch) (drop end gs)
     ∙ ap (λ l. l ++ map plain (drop end gs)) (shown_view G stretch (omega arith))
-    ∙ sym (map-append plain stretch (drop end gs)))
-    ∙ sym (map-append plain (take place gs) (stretch ++ drop end gs))
+    ∙ sym (map-append plain stretch (drop end gs))) ∙ sym (map-append plain (take place gs) (stretch ++ drop end gs))
     ∙ ap (map plain) (three_parts place end gs (omega arith)) in
     let mn : length mid ≡ length gs = sym (length-map mid plain) ∙ ap length view ∙ length-map gs plain in
     let tn : length (take place gs) ≡ place = omega (arith, length-take place gs) in
@@ -404,20 +375,14 @@ are_shown count it after gs hs index place some many index_is place_is same kept
       view = ap (map plain) is ∙ put.view ∙ view;
     }
 
--- the groups themselves are another list, in the same clusters
-pub only_kept : (it after : CarriedGroups) (gs : List hb_glyph_info_t) → after.groups ≡ it.groups →
-    after.start ≡ it.start → after.end ≡ it.end → AreCarried it gs → StillSame it gs after gs
-only_kept it after gs groups_is start_is end_is fits =
-    search arith
-
 -- without groups nothing is to be written
-pub none_written : (it : CarriedGroups) (gs : List hb_glyph_info_t) → it.groups.items ≡ [] → it.start ≡ it.end →
+pub none_written : (it : CarriedGroups) (gs : Glyphs) → it.groups.items ≡ [] → it.start ≡ it.end →
     with_groups it gs ≡ gs
-none_written it gs none same = search (arith, take-append-drop)
+none_written it gs none = search (arith, take-append-drop)
 
-pub none_carried : (it : CarriedGroups) (gs : List hb_glyph_info_t) → it.groups.items ≡ [] → it.start ≡ it.end →
+pub none_carried : (it : CarriedGroups) (gs : Glyphs) → it.groups.items ≡ [] → it.start ≡ it.end →
     it.end ≤ length gs → AreCarried it gs
-none_carried it gs none same within = search arith
+none_carried it gs none = search arith
 
 pub first_get : (xs : List Group) → first_group_cluster xs ≡ (get_or xs 0 no_group).cluster
 first_get [] = refl
@@ -427,12 +392,11 @@ pub first_set : (xs : List Group) (y : Group) → 0 < length xs → take 1 (slic
 first_set [] y some = absurd (omega arith)
 first_set (x ∷ xs) y some = refl
 
-pub joined_still : (it after : CarriedGroups) (gs : List hb_glyph_info_t) → EndJoined it.groups.items
-    after.groups.items →
-    after.start ≡ it.start → after.end ≡ it.end → AreCarried it gs → StillSame it gs after gs
-joined_still it after gs joined start_is end_is fits = search arith
+pub joined_still : (it after : CarriedGroups) (gs : Glyphs) → EndJoined it.groups.items after.groups.items
+    → after.start ≡ it.start → after.end ≡ it.end → AreCarried it gs → StillSame it gs after gs
+joined_still = search arith
 
-pub written_by : (it after : CarriedGroups) (gs hs : List hb_glyph_info_t) (n : ℕ) (xs : List Group) (last : Group) →
+pub written_by : (it after : CarriedGroups) (gs hs : Glyphs) (n : ℕ) (xs : List Group) (last : Group) →
     0 < length it.groups.items → n ≡ length it.groups.items → xs ≡ it.groups.items →
     last ≡ get_or it.groups.items (n - 1) no_group → after.groups.items ≡ take 1 (slice_set it.groups.items 0 last) →
     after.start ≡ it.end - last.len → after.end ≡ it.end → hs ≡ take it.start gs ++ (grouped (take (n - 1) xs)
@@ -440,20 +404,14 @@ pub written_by : (it after : CarriedGroups) (gs hs : List hb_glyph_info_t) (n : 
 written_by it after gs hs n xs last some n_is xs_is last_is now start_is end_is is fits =
     let items = it.groups.items in
     let b = before_last items some in
-    search (
-      arith,
-      written_before it after (take (length items - 1) items) (get_or items (length items - 1) no_group) gs hs b.whole
-          (search (arith, first_set)) (search arith) end_is (cc) fits,
-    )
+    search (written_before it after (take (length items - 1) items) (get_or items (length items - 1) no_group) gs hs b.whole
+    (search arith) (search arith) end_is (cc) fits)
 
-pub taken_is : (count : ℕ) (it : CarriedGroups) (gs hs : List hb_glyph_info_t) (low end : ℕ)
-    (kept : List hb_glyph_info_t) → low ≡ it.end - count - 1 → end ≡ it.end → kept ≡ it.kept.items →
+pub taken_is : (count : ℕ) (it : CarriedGroups) (gs hs : Glyphs) (low end : ℕ)
+    (kept : Glyphs) → low ≡ it.end - count - 1 → end ≡ it.end → kept ≡ it.kept.items →
     hs ≡ with_stretch low end (λ xs. kept) gs → hs ≡ taken_back count it gs
-taken_is count it gs hs low end kept low_is end_is kept_is is =
-    cc
+taken_is count it gs hs low end kept low_is end_is kept_is is = cc
 
-pub groups_settled : (it after : CarriedGroups) (groups : List Group) (gs : List hb_glyph_info_t)
-    → after.start ≡ it.start →
-    after.end ≡ it.end → after.groups.items ≡ groups → with_groups after gs ≡ with_list it groups gs
-groups_settled it after groups gs start_is end_is are =
-    cc
+pub groups_settled : (it after : CarriedGroups) (groups : List Group) (gs : Glyphs) → after.start ≡ it.start
+    → after.end ≡ it.end → after.groups.items ≡ groups → with_groups after gs ≡ with_list it groups gs
+groups_settled it after groups gs start_is end_is are = cc

@@ -2,9 +2,8 @@
 use Rattle.std.proofs.Common.{ℕ, ◌+◌, ◌-◌, ◌<◌, ◌≤◌, ◌≡◌, ◌⊎◌, inl, inr, List, [], ◌∷◌, ◌++◌, map, length, take, drop, refl, sym, ◌∙◌, ap, subst, arith, append_assoc, length-append, length-take, length-drop}
 use Rattle.std.specs.Prelude.{true}
 use Rattle.std.specs.List.{AllZip}
-use Rattle.std.proofs.lemmas.Bool.Decides.{nat_tests}
 use Rattle.std.proofs.lemmas.List.{append-nil, drop-drop, drop_at, length-map, take-append-drop, take-take, take_at}
-use Rattle.shapers_buffer.specs.declared.buffer.glyph.hb_glyph_info_t.{hb_glyph_info_t}
+use Rattle.shapers_buffer.specs.Glyphs.{Glyph, Glyphs}
 use Rattle.shapers_buffer.specs.declared.buffer.level.BufferClusterLevel.{BufferClusterLevel}
 use Rattle.shapers_buffer.specs.ClusterRuns.{none_below}
 use Rattle.shapers_buffer.specs.Clusters.{first_cluster, in_cluster, least, stretch_of}
@@ -13,29 +12,29 @@ use Rattle.shapers_clusters.specs.CarriedGroups.{AreCarried, AreShown, EndsAbove
 use Rattle.shapers_clusters.specs.declared.carried_groups.CarriedGroups.{CarriedGroups}
 use Rattle.shapers_clusters.specs.declared.carried_groups.Group.{Group}
 use Rattle.shapers_clusters.specs.Steps.{FitSteps, Step, run_steps, widened}
-use Rattle.shapers_clusters.proofs.CarriedGroups.{From, Keeps, NotAbove, Spreads, cluster_put, from_of_least, length-spread, spread_append, steps_keep, steps_spread}
+use Rattle.shapers_clusters.proofs.CarriedGroups.{From, Keeps, NotAbove, Spreads, from_of_least, length-spread, spread_append, steps_keep, steps_spread}
 use Rattle.shapers_clusters.proofs.Falls.{in_cluster-same}
 use Rattle.shapers_clusters.proofs.FloodsBack.{Change}
 use Rattle.shapers_clusters.proofs.GroupWalk.{grouped-append, least_behind, length-grouped, len_of-append}
 
 -- the glyphs of these groups, which open the list
-abbrev pub cut_up : List Group → List hb_glyph_info_t → List (List hb_glyph_info_t)
+abbrev pub cut_up : List Group → Glyphs → List Glyphs
 cut_up [] gs = []
 cut_up (group ∷ groups) gs = take group.len gs ∷ cut_up groups (drop group.len gs)
 
-length-cut_up : (groups : List Group) (gs : List hb_glyph_info_t) → length (cut_up groups gs) ≡ length groups
+length-cut_up : (groups : List Group) (gs : Glyphs) → length (cut_up groups gs) ≡ length groups
 length-cut_up [] gs = refl
 length-cut_up (group ∷ groups) gs = cc (length-cut_up groups (drop group.len gs))
 
-all_of-cut_up : (groups : List Group) (gs : List hb_glyph_info_t) → len_of groups ≤ length gs →
+all_of-cut_up : (groups : List Group) (gs : Glyphs) → len_of groups ≤ length gs →
     groups_len (cut_up groups gs) ≡ len_of groups
 all_of-cut_up [] gs within = refl
 all_of-cut_up (group ∷ groups) gs within =
     search (arith, length-take, all_of-cut_up groups (drop group.len gs) (omega (arith, length-drop group.len gs)))
 
 -- glyphs in the clusters of groups
-abbrev StandAs : List Group → List hb_glyph_info_t → Type 0
-StandAs groups gs = map (λ (g : hb_glyph_info_t). g.cluster) gs ≡ map (λ (group : Group). group.cluster) groups
+abbrev StandAs : List Group → Glyphs → Type 0
+StandAs groups gs = map (λ (g : Glyph). g.cluster) gs ≡ map (λ (group : Group). group.cluster) groups
 
 heads : {X : Type 0} (x y : X) (xs ys : List X) → x ∷ xs ≡ y ∷ ys → (x ≡ y) × (xs ≡ ys)
 heads x y xs ys same = (ap (λ l. first_or x l) same, ap (drop 1) same)
@@ -44,22 +43,21 @@ heads x y xs ys same = (ap (λ l. first_or x l) same, ap (drop 1) same)
     first_or d [] = d
     first_or d (x ∷ xs) = x
 
-spread_cut : (groups : List Group) (reps gs rest : List hb_glyph_info_t) → StandAs groups reps →
+spread_cut : (groups : List Group) (reps gs rest : Glyphs) → StandAs groups reps →
     spread_groups (cut_up groups gs) (reps ++ rest) ≡ grouped groups gs ++ rest
 spread_cut [] [] gs rest stood = refl
-spread_cut [] (g ∷ reps) gs rest stood = absurd (cc)
-spread_cut (group ∷ groups) [] gs rest stood = absurd (cc)
 spread_cut (group ∷ groups) (g ∷ reps) gs rest stood =
-    let (one, more) = heads g.cluster group.cluster (map (λ (g : hb_glyph_info_t). g.cluster) reps) (map (λ (group :
+    let (one, more) = heads g.cluster group.cluster (map (λ (g : Glyph). g.cluster) reps) (map (λ (group :
     Group). group.cluster) groups) stood in
     search (arith, append_assoc, spread_cut groups reps (drop group.len gs) rest more)
+spread_cut _ _ gs rest stood = absurd (cc)
 
-stand_cut : (groups : List Group) (reps gs rest : List hb_glyph_info_t) → StandAs groups reps →
+stand_cut : (groups : List Group) (reps gs rest : Glyphs) → StandAs groups reps →
     len_of groups ≤ length gs → LeastIn groups gs → StandFor (cut_up groups gs) (reps ++ rest)
 stand_cut [] reps gs rest stood within all = tt
 stand_cut (group ∷ groups) [] gs rest stood within all = absurd (cc)
 stand_cut (group ∷ groups) (g ∷ reps) gs rest stood within all =
-    let (one, more) = heads g.cluster group.cluster (map (λ (g : hb_glyph_info_t). g.cluster) reps) (map (λ (group :
+    let (one, more) = heads g.cluster group.cluster (map (λ (g : Glyph). g.cluster) reps) (map (λ (group :
     Group). group.cluster) groups) stood in
     search (
       arith,
@@ -67,75 +65,70 @@ stand_cut (group ∷ groups) (g ∷ reps) gs rest stood within all =
       stand_cut groups reps (drop group.len gs) rest more (omega (arith, length-drop group.len gs)) all.1,
     )
 
-shown_as : (groups : List Group) (gs : List hb_glyph_info_t) → length groups ≤ length gs →
+shown_as : (groups : List Group) (gs : Glyphs) → length groups ≤ length gs →
     StandAs groups (take (length groups) (shown_groups groups gs))
 shown_as [] gs many = refl
 shown_as (group ∷ groups) [] many = absurd (omega arith)
 shown_as (group ∷ groups) (g ∷ gs) many = cc (shown_as groups gs (omega arith))
 
-shown_rest : (groups : List Group) (gs : List hb_glyph_info_t) → length groups ≤ length gs →
+shown_rest : (groups : List Group) (gs : Glyphs) → length groups ≤ length gs →
     drop (length groups) (shown_groups groups gs) ≡ drop (length groups) gs
 shown_rest [] gs many = refl
 shown_rest (group ∷ groups) [] many = absurd (omega arith)
 shown_rest (group ∷ groups) (g ∷ gs) many = shown_rest groups gs (omega arith)
 
 -- each glyph as a group
-abbrev alone : List hb_glyph_info_t → List (List hb_glyph_info_t)
-alone gs = map (λ (g : hb_glyph_info_t). g ∷ []) gs
+abbrev alone : Glyphs → List Glyphs
+alone gs = map (λ (g : Glyph). g ∷ []) gs
 
-all_of-alone : (gs : List hb_glyph_info_t) → groups_len (alone gs) ≡ length gs
+all_of-alone : (gs : Glyphs) → groups_len (alone gs) ≡ length gs
 all_of-alone [] = refl
 all_of-alone (g ∷ gs) = omega (arith, all_of-alone gs)
 
-in_own_cluster : (g : hb_glyph_info_t) → in_cluster g.cluster g ≡ g
+in_own_cluster : (g : Glyph) → in_cluster g.cluster g ≡ g
 in_own_cluster g = in_cluster-same g
 
-spread_alone : (gs rest : List hb_glyph_info_t) → spread_groups (alone gs) (gs ++ rest) ≡ gs ++ rest
+spread_alone : (gs rest : Glyphs) → spread_groups (alone gs) (gs ++ rest) ≡ gs ++ rest
 spread_alone [] rest = refl
 spread_alone (g ∷ gs) rest = cc (in_own_cluster g, spread_alone gs rest)
 
-stand_alone : (gs rest : List hb_glyph_info_t) → StandFor (alone gs) (gs ++ rest)
+stand_alone : (gs rest : Glyphs) → StandFor (alone gs) (gs ++ rest)
 stand_alone [] rest = tt
 stand_alone (g ∷ gs) rest = ((omega arith, own g), stand_alone gs rest)
   where
-    own : (g : hb_glyph_info_t) → none_below g.cluster (g ∷ []) ≡ true
-    own g = grind (arith, nat_tests)
+    own : (g : Glyph) → none_below g.cluster (g ∷ []) ≡ true
+    own g = grind arith
 
 -- what they are read as
-clusters_alone : (gs xs : List hb_glyph_info_t) → length gs ≡ length xs →
-    map (λ (g : hb_glyph_info_t). g.cluster) (spread_groups (alone gs) xs) ≡ map (λ (g : hb_glyph_info_t). g.cluster) xs
+clusters_alone : (gs xs : Glyphs) → length gs ≡ length xs →
+    map (λ (g : Glyph). g.cluster) (spread_groups (alone gs) xs) ≡ map (λ (g : Glyph). g.cluster) xs
 clusters_alone [] [] many = refl
-clusters_alone [] (x ∷ xs) many = absurd (omega arith)
-clusters_alone (g ∷ gs) [] many = absurd (omega arith)
-clusters_alone (g ∷ gs) (x ∷ xs) many =
-    search (arith, cluster_put, clusters_alone gs xs (omega arith))
+clusters_alone (g ∷ gs) (x ∷ xs) many = search (arith, clusters_alone gs xs (omega arith))
+clusters_alone _ _ many = absurd (omega arith)
 
-pub read_clusters : (xs ys : List hb_glyph_info_t) (groups : List Group) →
-    map (λ (g : hb_glyph_info_t). g.cluster) xs ≡ map (λ (g : hb_glyph_info_t). g.cluster) ys →
-    read_back xs groups ≡ read_back ys groups
+pub read_clusters : (xs ys : Glyphs) (groups : List Group) →
+    map (λ (g : Glyph). g.cluster) xs ≡ map (λ (g : Glyph). g.cluster) ys → read_back xs groups ≡ read_back ys groups
 read_clusters [] [] groups same = refl
-read_clusters [] (y ∷ ys) groups same = absurd (cc)
-read_clusters (x ∷ xs) [] groups same = absurd (cc)
 read_clusters (x ∷ xs) (y ∷ ys) [] same = refl
 read_clusters (x ∷ xs) (y ∷ ys) (group ∷ groups) same =
-    let (one, more) = heads x.cluster y.cluster (map (λ (g : hb_glyph_info_t). g.cluster) xs) (map (λ (g :
-    hb_glyph_info_t). g.cluster) ys) same in
+    let (one, more) = heads x.cluster y.cluster (map (λ (g : Glyph). g.cluster) xs) (map (λ (g :
+    Glyph). g.cluster) ys) same in
     cc (read_clusters xs ys groups more)
+read_clusters _ _ groups same = absurd (cc)
 
-spread_read : (groups : List Group) (reps new gs : List hb_glyph_info_t) → StandAs groups reps →
+spread_read : (groups : List Group) (reps new gs : Glyphs) → StandAs groups reps →
     AllZip NotAbove reps new → grouped (read_back new groups) gs ≡ spread_groups (cut_up groups gs) new
 spread_read [] [] [] gs stood lower = refl
 spread_read [] [] (n ∷ new) gs stood lower = absurd lower
-spread_read [] (g ∷ reps) new gs stood lower = absurd (cc)
-spread_read (group ∷ groups) [] new gs stood lower = absurd (cc)
 spread_read (group ∷ groups) (g ∷ reps) [] gs stood lower = absurd lower
 spread_read (group ∷ groups) (g ∷ reps) (n ∷ new) gs stood lower =
-    let (one, more) = heads g.cluster group.cluster (map (λ (g : hb_glyph_info_t). g.cluster) reps) (map (λ (group :
+    let (one, more) = heads g.cluster group.cluster (map (λ (g : Glyph). g.cluster) reps) (map (λ (group :
     Group). group.cluster) groups) stood in
     search (arith, spread_read groups reps new (drop group.len gs) more lower.1)
+spread_read _ _ new gs stood lower = absurd (cc)
 
 -- the glyphs before a place, those of groups in their clusters
-abbrev pub groups_in_front : CarriedGroups → List Group → List hb_glyph_info_t → List hb_glyph_info_t
+abbrev pub groups_in_front : CarriedGroups → List Group → Glyphs → Glyphs
 groups_in_front it groups gs = take it.start gs ++ grouped groups (drop it.start gs)
 
 -- A CHANGE of n glyphs, which merges none before place first or from place end on: the same of fewer glyphs, where
@@ -168,19 +161,18 @@ steps_behind level first end n count steps order within some fit =
     }
 
 -- What it makes of the glyphs with the groups in their clusters, by what it makes of those that are shown.
-pub record ChangedBehind (before : CarriedGroups) (count : ℕ) (between meant new : List hb_glyph_info_t) : Type 0 where
+pub record ChangedBehind (before : CarriedGroups) (count : ℕ) (between meant new : Glyphs) : Type 0 where
   pub same_length : length new ≡ length between
   pub front : take (before.end - count - 1) new ≡ take (before.end - count - 1) between
   pub meant_is : meant ≡ groups_in_front before (fallen_groups count before new) between ++ drop before.end new
 
 pub changed_behind : (first end count : ℕ) (over : Change) (before after : CarriedGroups)
-    (between hs : List hb_glyph_info_t) → first ≤ end → end ≤ length between →
+    (between hs : Glyphs) → first ≤ end → end ≤ length between →
     ChangesBehind first end (length between) count over → AreCarried before between → before.end ≡ first → 0 < count →
     count ≤ length before.groups.items → AreShown count before between after hs →
     ((first_group_cluster (last_groups count before) < least (clusters (stretch_of first end between)))
     ⊎ ((count ≡ length before.groups.items) × EndsAbove (first_group_cluster before.groups.items)
-    (take before.start between))) →
-    ChangedBehind before count between (over (with_groups before between)) (over hs)
+    (take before.start between))) → ChangedBehind before count between (over (with_groups before between)) (over hs)
 changed_behind first end count over before after between hs order within changes fits at some many is stops =
     let items = before.groups.items in
     let n = length items in
@@ -217,19 +209,12 @@ changed_behind first end count over before after between hs order within changes
     let low_front = take place hs in
     let hn : length hs ≡ length between = sym (length-map hs plain) ∙ ap length is.view ∙ length-map between plain in
     let front_n : length low_front ≡ place = omega (arith, length-take place hs) in
-    let hs_is : low_front ++ ys ≡ hs = cc (is.rest, take-append-drop place hs) in
+    let hs_is : low_front ++ ys ≡ hs = cc (take-append-drop place hs) in
     -- the groups
     let P = take before.start between ++ grouped front D in
     let Gs = cut_up last B in
     let gn : length Gs ≡ count = length-cut_up last B ∙ ln in
-    let pn : length P + groups_len Gs ≡ first = omega (
-      arith,
-      length-append (take before.start between) (grouped front D),
-      length-take before.start between,
-      length-grouped front D (omega arith),
-      all_of-cut_up last B (omega arith),
-      fits.within,
-    ) in
+    let pn : length P + groups_len Gs ≡ first = omega (arith, length-append (take before.start between) (grouped front D), length-take before.start between, length-grouped front D (omega arith), all_of-cut_up last B (omega arith)) in
     let meant : P ++ spread_groups Gs ys ≡ with_groups before between =
     cc (
       spread_cut last reps B rest stood,
@@ -258,7 +243,7 @@ changed_behind first end count over before after between hs order within changes
           let same = keeps.first in
           (inr same, inr same)
       | inr above ↦
-          let gone : n - count ≡ 0 = omega (arith, above.0) in
+          let gone : n - count ≡ 0 = omega arith in
           let none : front ≡ [] = ap (λ k. take k items) gone in
           let start_P : P ≡ take before.start between =
           ap (λ l. take before.start between ++ grouped l D) none ∙ append-nil (take before.start between) in
@@ -289,7 +274,7 @@ changed_behind first end count over before after between hs order within changes
     let after_is : drop before.end Y ≡ drop count new =
     cc (drop-drop count place Y, drop_at (spread_groups (alone reps) reps_new) (drop count new) count sn) in
     let read : read_back S last ≡ read_back reps_new last =
-    read_clusters S reps_new last (ap (map (λ (g : hb_glyph_info_t). g.cluster)) s_is
+    read_clusters S reps_new last (ap (map (λ (g : Glyph). g.cluster)) s_is
     ∙ clusters_alone reps reps_new (omega arith)) in
     let lower : AllZip NotAbove reps reps_new =
     subst (λ l. AllZip NotAbove l reps_new) (ap (λ k. take k ys) gn ∙ take_at reps rest count reps_n)
@@ -308,28 +293,19 @@ changed_behind first end count over before after between hs order within changes
           ∙ ap (take (place - 1)) (ap (take place) parts
           ∙ take_at low_front (spread_groups (alone reps) reps_new ++ drop count new) place front_n)
           ∙ take-take (place - 1) place hs (omega arith) ∙ is.front;
-      meant_is = cc (
-        meant,
-        one.is until.0,
-        new_is,
-        spread_append Gs reps_new (drop count new) (omega arith),
-        append_assoc P (spread_groups Gs reps_new) (drop count new),
-        append_assoc (take before.start between) (grouped front D) (spread_groups Gs reps_new),
-        made,
-        after_is,
-      );
+      meant_is = cc (one.is until.0, spread_append Gs reps_new (drop count new) (omega arith), append_assoc P (spread_groups Gs reps_new) (drop count new), append_assoc (take before.start between) (grouped front D) (spread_groups Gs reps_new));
     }
   where
-    long : (groups : List Group) (gs : List hb_glyph_info_t) → length groups ≤ length gs →
+    long : (groups : List Group) (gs : Glyphs) → length groups ≤ length gs →
         length (shown_groups groups gs) ≡ length gs
     long [] gs few = refl
     long (group ∷ groups) [] few = absurd (omega arith)
     long (group ∷ groups) (g ∷ gs) few = omega (arith, long groups gs (omega arith))
 
-    first_of_reps : (reps rest : List hb_glyph_info_t) (groups : List Group) → StandAs groups reps → 0 < length reps →
+    first_of_reps : (reps rest : Glyphs) (groups : List Group) → StandAs groups reps → 0 < length reps →
         first_cluster (reps ++ rest) ≡ first_group_cluster groups
     first_of_reps [] rest groups stood more = absurd (omega arith)
     first_of_reps (g ∷ reps) rest [] stood more = absurd (cc)
     first_of_reps (g ∷ reps) rest (group ∷ groups) stood more =
-        (heads g.cluster group.cluster (map (λ (g : hb_glyph_info_t). g.cluster) reps)
+        (heads g.cluster group.cluster (map (λ (g : Glyph). g.cluster) reps)
         (map (λ (group : Group). group.cluster) groups) stood).0

@@ -17,10 +17,10 @@ use Rattle.shapers_clusters.specs.Labels.{IsLabelled, OfOldPlaces, OneLabelEach}
 spread-label : (s e : ℕ) (cs js ls : List ℕ) (f : Spread s e cs js) → s + 1 < e → IsLabelled cs ls → OneAlong ls (s, e)
     → (p : ℕ) → f.low ≤ p → p < f.high → get_or ls p 0 ≡ get_or ls s 0
 spread-label s e cs js ls f h i o p a b = elim (cases_lt p s) [
-  | inl c ↦ i.agree p s (omega (arith, f.high_end)) (omega (arith, f.high_within, f.high_end)) (f.left p a c)
+  | inl c ↦ i.agree p s (omega arith) (omega arith) (f.left p a c)
   | inr c ↦ elim (cases_lt p e) [
     | inl d ↦ o p s c d (omega arith) (omega arith)
-    | inr d ↦ i.agree p (e - 1) (omega (arith, f.high_end)) (search arith) (f.right p d b)
+    | inr d ↦ i.agree p (e - 1) (omega arith) (search arith) (f.right p d b)
         ∙ o (e - 1) s (omega arith) (omega arith) (omega arith) (omega arith)
   ]
 ]
@@ -29,8 +29,7 @@ spread-label s e cs js ls f h i o p a b = elim (cases_lt p s) [
 spread-label_of : (s e : ℕ) (cs js ls : List ℕ) (f : Spread s e cs js) → s + 1 < e → IsLabelled cs ls
     → OneAlong ls (s, e) → (p : ℕ) → p < length cs → get_or cs p 0 ≡ f.m → get_or ls p 0 ≡ get_or ls s 0
 spread-label_of s e cs js ls f h i o p l c =
-    i.agree p f.at l (search arith) (c ∙ sym f.at_is)
-    ∙ o f.at s f.at_from f.at_to (omega arith) (omega arith)
+    i.agree p f.at l (search arith) (c ∙ sym f.at_is) ∙ o f.at s f.at_from f.at_to (omega arith) (omega arith)
 
 -- a place either was reached or keeps its cluster
 label_reach : (s e : ℕ) (cs js : List ℕ) (f : Spread s e cs js) (p : ℕ)
@@ -68,19 +67,18 @@ joined-labelled level s e cs ls w i o =
 -- a place that a merge reached has the cluster and the label of the stretch's least place
 spread-of_old : (s e : ℕ) (ds ks cs js ls : List ℕ) → Spread s e cs js → s + 1 < e → IsLabelled cs ls
     → OneAlong ls (s, e) → OfOldPlaces ds ks cs ls → OfOldPlaces ds ks js ls
-spread-of_old s e ds ks cs js ls f h i o old p l =
-    elim (label_reach s e cs js f p) [
-      | inl x ↦ (
-          let (q, ql, c, m) = old f.at (omega (arith, f.at_to, f.high_within, f.high_end)) in
-          search (
-            arith,
-            x.2,
-            f.at_is,
-            spread-label s e cs js ls f h i o p x.0 x.1,
-            o s f.at (omega arith) (omega arith) f.at_from f.at_to,
-          ))
-      | inr y ↦ (let (q, ql, c, m) = old p (omega arith) in (q, ql, y ∙ c, m))
-    ]
+spread-of_old s e ds ks cs js ls f h i o old p l = elim (label_reach s e cs js f p) [
+  | inl x ↦ (
+      let (q, ql, c, m) = old f.at (omega arith) in
+      search (
+        arith,
+        x.2,
+        f.at_is,
+        spread-label s e cs js ls f h i o p x.0 x.1,
+        o s f.at (omega arith) (omega arith) f.at_from f.at_to,
+      ))
+  | inr y ↦ (let (q, ql, c, m) = old p (omega arith) in (q, ql, y ∙ c, m))
+]
 
 -- labels that are respected, where each cluster is that of an old place with the same label
 pub record Labelled (ds ks cs ls : List ℕ) : Type 0 where
@@ -89,20 +87,18 @@ pub record Labelled (ds ks cs ls : List ℕ) : Type 0 where
 
 joined-labels : (level : BufferClusterLevel) (s e : ℕ) (ds ks cs ls : List ℕ) → e ≤ length cs → Labelled ds ks cs ls
     → OneAlong ls (s, e) → Labelled ds ks (joined level s e cs) ls
-joined-labels level s e ds ks cs ls w i o =
-    search (
-      arith,
-      joined-labelled level s e cs ls w i.respected o,
-      joined_cases (λ js. OfOldPlaces ds ks js ls) level s e cs w (λ _. i.of_old)
-          (λ js _ h f. spread-of_old s e ds ks cs js ls f (omega arith) i.respected o i.of_old),
-    )
+joined-labels level s e ds ks cs ls w i o = search (
+  joined-labelled level s e cs ls w i.respected o,
+  joined_cases (λ js. OfOldPlaces ds ks js ls) level s e cs w (λ _. i.of_old)
+      (λ js _ h f. spread-of_old s e ds ks cs js ls f (omega arith) i.respected o i.of_old),
+)
 
 joined_all-labels : (level : BufferClusterLevel) (sts : List (ℕ × ℕ)) (ds ks cs ls : List ℕ) → EndWithin (length cs) sts
     → Labelled ds ks cs ls → AllByRecursion (OneAlong ls) sts → Labelled ds ks (joined_all level sts cs) ls
 joined_all-labels level [] ds ks cs ls w i o = i
 joined_all-labels level (st ∷ sts) ds ks cs ls w i o =
-    joined_all-labels level sts ds ks (joined level st.0 st.1 cs) ls (search (arith, end_within_joined))
-    (search (arith, joined-labels)) o.1
+    joined_all-labels level sts ds ks (joined level st.0 st.1 cs) ls (search end_within_joined)
+    (search joined-labels) o.1
 
 pick-labels : (ps ds ks cs ls : List ℕ) → AllByRecursion (λ p. p < length cs) ps → Labelled ds ks cs ls
     → Labelled ds ks (pick ps cs) (pick ps ls)
@@ -115,7 +111,7 @@ pick-labels ps ds ks cs ls w i =
     get_or-pick 0 ps ls v in
     let inside = within_at (length cs) ps w in
     record {
-      respected = search (arith, length-pick ps ls v, i.respected.agree);
+      respected = search (arith, length-pick ps ls v);
       of_old = λ p l.
           let pn : p < length ps = omega arith in
           let (q, ql, c, m) = i.of_old (get_or ps p 0) (inside p pn) in
@@ -130,10 +126,9 @@ moved-labels n level [] ds ks cs olds ls e f w i o = i
 moved-labels n level (step ∷ steps) ds ks cs olds ls e f w i o =
     let same = pick-pick step.places olds ls w in
     moved-labels n level steps ds ks (joined_step level step cs) (pick step.places olds) ls
-    (stepped n level step cs e f.0).as_many f.1 (search (arith, within_picked))
-    (subst
+    (stepped n level step cs e f.0).as_many f.1 (search within_picked) (subst
     (λ xs. Labelled ds ks (joined_step level step cs) xs) same (
-    let s = stepped n level step cs e f.0 in search (arith, joined_all-labels, pick-labels))) (subst
+    let s = stepped n level step cs e f.0 in search (joined_all-labels, pick-labels))) (subst
     (λ xs. OneLabelEach steps xs) same o.2)
 
 -- if each stretch has one label as it merges, places that share a cluster in the end have equal

@@ -25,14 +25,13 @@ pub held_label : (sts : List (ℕ × ℕ)) (ls : List ℕ) → AllByRecursion (O
     → get_or ls (r - 1) 0 ≡ get_or ls r 0
 held_label [] ls one r h = absurd (cc h)
 held_label (st ∷ sts) ls one r h = elim (in_stretch st.0 st.1 r (held sts r) h) [
-  | inl a ↦ one.0 (r - 1) r (omega (arith, a.0)) (omega (arith, a.0, a.1)) (omega (arith, a.0)) a.1
+  | inl a ↦ one.0 (r - 1) r (omega arith) (omega arith) (omega arith) a.1
   | inr rest ↦ held_label sts ls one.1 r rest
 ]
 
 between_label : (sts : List (ℕ × ℕ)) (ls : List ℕ) → AllByRecursion (OneAlong ls) sts → (p q : ℕ) → HeldBetween sts p q
     → get_or ls q 0 ≡ get_or ls p 0
-between_label sts ls one p q between =
-    search (arith, share_all, held_label)
+between_label = search (arith, share_all, held_label)
 
 -- each of n places stands somewhere in a list that takes each once
 pub taken_once : (n : ℕ) (ps : List ℕ) → IsPermutation (range_with_len 0 n) ps → (q : ℕ) → q < n
@@ -72,7 +71,7 @@ one_before : (n : ℕ) (steps : List Step) (ls : List ℕ) → length ls ≡ n �
 one_before n steps ls long fits each [] ends spares one = tt
 one_before n steps ls long fits each (st ∷ sts) ends spares one =
     let stays : (p : ℕ) → st.0 ≤ p → p < st.1 → get_or (moved_on steps ls) p 0 ≡ get_or ls p 0 =
-    search (arith, label_stays) in
+    search label_stays in
     search (arith, one_before n steps ls long fits each sts ends.1 spares.1 one.1)
 
 -- a step that moves inside what it merged moves no label, where the stretches have one label each behind it
@@ -88,8 +87,7 @@ label_unmoved n step ls long moves perm one q l =
 same_labels : (n : ℕ) (ls ms : List ℕ) → ((q : ℕ) → q < n → get_or ms q 0 ≡ get_or ls q 0) → (sts : List (ℕ × ℕ))
     → AllByRecursion (λ st. st.1 ≤ n) sts → AllByRecursion (OneAlong ms) sts → AllByRecursion (OneAlong ls) sts
 same_labels n ls ms same [] ends one = tt
-same_labels n ls ms same (st ∷ sts) ends one =
-    search (arith, same_labels n ls ms same sts ends.1 one.1)
+same_labels n ls ms same (st ∷ sts) ends one = search (arith, same_labels n ls ms same sts ends.1 one.1)
 
 pub labels_as_merged : (n : ℕ) (steps : List Step) (ls : List ℕ) → length ls ≡ n → FitSteps n steps
     → AllByRecursion (Permutes n) steps → SpareMerged n steps
@@ -100,14 +98,13 @@ labels_as_merged n (step ∷ steps) ls long fits perm spare one =
     let within : AllByRecursion (λ p. p < length ls) step.places =
     subst (λ k. AllByRecursion (λ p. p < k) step.places) (sym long) fit.within in
     let ms = pick step.places ls in
-    let ml : length ms ≡ n = search (arith, length-pick) in
+    let ml : length ms ≡ n = search length-pick in
     let parts = all_split (OneAlong (moved_on steps ms)) (step.merged_first ++ step.merged_then) (all_merged steps)
     one in
     let rest = labels_as_merged n steps ms ml fits.1 perm.1 spare.2 parts.1 in
     let ends = all-append (λ (st : ℕ × ℕ). st.1 ≤ n) step.merged_first step.merged_then fit.first_within
     fit.then_within in
-    let both = all_split (OneAlong ms) step.merged_first step.merged_then
-    (search (arith, one_before)) in
+    let both = all_split (OneAlong ms) step.merged_first step.merged_then (search one_before) in
     let first : AllByRecursion (OneAlong ls) step.merged_first = elim spare.0 [
       | inl none ↦ subst (AllByRecursion (OneAlong ls)) (sym none) tt
       | inr moves ↦ same_labels n ls ms (label_unmoved n step ls long moves perm.0 both.0) step.merged_first

@@ -1,7 +1,7 @@
 -- The words of laws, each on something that they hold of, and on something that they don't.
 use Rattle.std.proofs.Common.{ℕ, zero, suc, ◌<◌, ◌≤◌, ◌≡◌, inl, inr, true, false, List, [], ◌∷◌, slice_index, refl, arith}
 use Rattle.std.specs.List.{slice_index_or}
-use Rattle.shapers_buffer.specs.declared.buffer.glyph.hb_glyph_info_t.{hb_glyph_info_t}
+use Rattle.shapers_buffer.specs.Glyphs.{Glyph}
 use Rattle.shapers_buffer.specs.Glyph.{default_glyph}
 use Rattle.shapers_clusters.specs.Cuts.{IsMonotone, OneAlong, SameBlock, ShareCluster, StandsApart, linked}
 use Rattle.shapers_clusters.specs.Flags.{FallsTo, KeepsBits}
@@ -14,10 +14,9 @@ abbrev numbers : List ℕ
 numbers = 5 ∷ 3 ∷ 3 ∷ 4 ∷ 3 ∷ []
 
 threes : (r : ℕ) → 1 ≤ r → r < 3 → slice_index numbers r ≡ 3
-threes zero low high = absurd (omega arith)
 threes (suc zero) low high = refl
 threes (suc (suc zero)) low high = refl
-threes (suc (suc (suc r))) low high = absurd (omega arith)
+threes _ low high = absurd (omega arith)
 
 -- asked from either end
 shared : ShareCluster numbers 1 2
@@ -27,37 +26,36 @@ shared_back : ShareCluster numbers 2 1
 shared_back r low high = threes r low (omega arith)
 
 not_shared : ShareCluster numbers 1 4 → ⊥
-not_shared share = search arith
+not_shared = search arith
 
 not_shared_back : ShareCluster numbers 4 1 → ⊥
-not_shared_back share = search arith
+not_shared_back = search arith
 
 -- neighbours that differ, asked from either end
 not_shared_next : ShareCluster numbers 2 3 → ⊥
-not_shared_next share = search arith
+not_shared_next = search arith
 
 not_shared_before : ShareCluster numbers 3 2 → ⊥
-not_shared_before share = search arith
+not_shared_before = search arith
 
 -- a stretch has one label, its end left out
 one_label : OneAlong numbers (1, 3)
-one_label p q pl ph ql qh = search (arith, threes)
+one_label = search (arith, threes)
 
 two_labels : OneAlong numbers (1, 4) → ⊥
-two_labels same = search arith
+two_labels = search arith
 
 -- two stretches that meet in place 1 link places 0 to 2, but not 3
 chain : (r : ℕ) → 0 < r → r ≤ 2 → linked (0 ∷ 1 ∷ 2 ∷ 3 ∷ []) ((0, 2) ∷ (1, 3) ∷ []) r ≡ true
-chain zero low high = absurd (omega arith)
 chain (suc zero) low high = refl
 chain (suc (suc zero)) low high = refl
-chain (suc (suc (suc r))) low high = absurd (omega arith)
+chain _ low high = absurd (omega arith)
 
 one_block : SameBlock (0 ∷ 1 ∷ 2 ∷ 3 ∷ []) ((0, 2) ∷ (1, 3) ∷ []) 2 0
 one_block r low high = chain r low high
 
 two_blocks : SameBlock (0 ∷ 1 ∷ 2 ∷ 3 ∷ []) ((0, 2) ∷ (1, 3) ∷ []) 0 3 → ⊥
-two_blocks same = search arith
+two_blocks = search arith
 
 -- a place alone in its cluster stands apart; one whose cluster comes again behind it or before it doesn't
 apart : StandsApart 1 2 (0 ∷ 1 ∷ 2 ∷ [])
@@ -77,7 +75,7 @@ not_apart_before alone = alone 1 0 (omega arith) (omega arith) (omega arith) (in
 
 -- a glyph keeps its cluster with its flags, or falls and loses them; it neither rises nor keeps
 -- flags in a fall, nor loses them without one
-abbrev glyph : ℕ → ℕ → hb_glyph_info_t
+abbrev glyph : ℕ → ℕ → Glyph
 glyph c m = record default_glyph { cluster = c; mask = m }
 
 stays : FallsTo (glyph 5 0x13) (glyph 5 0x13)
@@ -87,13 +85,13 @@ falls : FallsTo (glyph 5 0x13) (glyph 3 0x10)
 falls = (omega arith, refl)
 
 rises : FallsTo (glyph 5 0x13) (glyph 6 0x10) → ⊥
-rises fell = search arith
+rises = search arith
 
 keeps_flags : FallsTo (glyph 5 0x13) (glyph 3 0x13) → ⊥
-keeps_flags fell = search arith
+keeps_flags = search arith
 
 loses_flags : FallsTo (glyph 5 0x13) (glyph 5 0x10) → ⊥
-loses_flags fell = search arith
+loses_flags = search arith
 
 -- bits may be gained, not lost
 gained : KeepsBits (glyph 5 9) (glyph 5 11)
@@ -104,16 +102,12 @@ lost kept = search (arith, kept 0)
 
 -- clusters that never fall, that never rise, and that do both
 rising : (i j d : ℕ) → i < j → j < 2 → slice_index_or (2 ∷ 2 ∷ []) i d ≤ slice_index_or (2 ∷ 2 ∷ []) j d
-rising zero zero d low high = absurd (omega arith)
 rising zero (suc zero) d low high = omega arith
-rising zero (suc (suc j)) d low high = absurd (omega arith)
-rising (suc i) j d low high = absurd (omega arith)
+rising _ _ d low high = absurd (omega arith)
 
 falling : (i j d : ℕ) → i < j → j < 2 → slice_index_or (5 ∷ 3 ∷ []) j d ≤ slice_index_or (5 ∷ 3 ∷ []) i d
-falling zero zero d low high = absurd (omega arith)
 falling zero (suc zero) d low high = omega arith
-falling zero (suc (suc j)) d low high = absurd (omega arith)
-falling (suc i) j d low high = absurd (omega arith)
+falling _ _ d low high = absurd (omega arith)
 
 monotone : IsMonotone (2 ∷ 2 ∷ []) × IsMonotone (5 ∷ 3 ∷ [])
 monotone = (inl rising, inr falling)
@@ -128,10 +122,8 @@ abbrev swap : Step
 swap = record { merged_first = []; places = 1 ∷ 0 ∷ 2 ∷ []; merged_then = [] }
 
 left : (p : ℕ) → 2 ≤ p → p < 3 → slice_index (1 ∷ 0 ∷ 2 ∷ []) p ≡ p
-left zero low high = absurd (omega arith)
-left (suc zero) low high = absurd (omega arith)
 left (suc (suc zero)) low high = refl
-left (suc (suc (suc p))) low high = absurd (omega arith)
+left _ low high = absurd (omega arith)
 
 spared : Spares 3 (2, 3) swap
 spared = inl left

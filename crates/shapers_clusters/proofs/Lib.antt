@@ -21,7 +21,6 @@ pub mod GroupWalk
 pub mod GuardedGroups
 pub mod Halves
 pub mod ClusterMerges
-pub mod KeptPlaces
 pub mod Labels
 pub mod LabelsAsMerged
 mod LawRows

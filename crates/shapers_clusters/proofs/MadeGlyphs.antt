@@ -2,39 +2,36 @@
 use Rattle.std.proofs.Common.{ℕ, ◌+◌, ◌-◌, ◌<◌, ◌≤◌, ◌≡◌, List, [], ◌∷◌, ◌++◌, length, map, drop, get_or, refl, sym, ◌∙◌, ap, arith}
 use Rattle.std.specs.List.{All, AllByRecursion, AllZip, Contains, enumerate_from}
 use Rattle.std.proofs.lemmas.List.{get_or_append_left, get_or-append_right, drop_more, length-drop}
-use Rattle.shapers_buffer.specs.declared.buffer.glyph.hb_glyph_info_t.{hb_glyph_info_t}
+use Rattle.shapers_buffer.specs.Glyphs.{Glyph, Glyphs}
 use Rattle.shapers_buffer.specs.Glyph.{default_glyph, clusters}
 use Rattle.shapers_buffer.specs.Places.{pick}
 use Rattle.shapers_clusters.proofs.Picks.{pick-within}
 use Rattle.shapers_clusters.proofs.Moves.{held_by}
 use Rattle.shapers_clusters.specs.Flags.{FlagsFall, ShowsClusters}
-use Rattle.shapers_clusters.proofs.Falls.{flags_kept}
 use Rattle.shapers_clusters.specs.SourceCuts.{HeldAlong}
 
 -- what two texts of the same view share
-pub record SameClusters (xs ys : List hb_glyph_info_t) : Type 0 where
+pub record SameClusters (xs ys : Glyphs) : Type 0 where
   pub clusters_are : clusters ys ≡ clusters xs
   pub flags_stay : AllZip FlagsFall xs ys
 
-pub same_clusters : (view : hb_glyph_info_t → hb_glyph_info_t) → ShowsClusters view → (xs ys : List hb_glyph_info_t)
+pub same_clusters : (view : Glyph → Glyph) → ShowsClusters view → (xs ys : Glyphs)
     → map view ys ≡ map view xs → SameClusters xs ys
 same_clusters view shows [] [] same = search arith
-same_clusters view shows [] (y ∷ ys) same = cc
-same_clusters view shows (x ∷ xs) [] same = cc
 same_clusters view shows (x ∷ xs) (y ∷ ys) same =
-    let rest = same_clusters view shows xs ys (ap (drop 1) same) in
-    search (arith, shows.cluster, flags_kept, shows.flags)
+    let rest = same_clusters view shows xs ys (ap (drop 1) same) in search arith
+same_clusters view shows _ _ same = cc
 
 -- a made glyph with the place that it comes of; to the view it is the glyph there
-pub record Made (view : hb_glyph_info_t → hb_glyph_info_t) (gs : List hb_glyph_info_t) : Type 0 where
+pub record Made (view : Glyph → Glyph) (gs : Glyphs) : Type 0 where
   pub place : ℕ
   pub inside : place < length gs
-  pub glyph : hb_glyph_info_t
+  pub glyph : Glyph
   pub same : view glyph ≡ view (get_or gs place default_glyph)
 
 -- the glyphs as they stand, from place n on
-abbrev pub standing_from : (view : hb_glyph_info_t → hb_glyph_info_t) (gs : List hb_glyph_info_t) (n : ℕ)
-    (xs : List hb_glyph_info_t) → drop n gs ≡ xs → List (Made view gs)
+abbrev pub standing_from : (view : Glyph → Glyph) (gs : Glyphs) (n : ℕ)
+    (xs : Glyphs) → drop n gs ≡ xs → List (Made view gs)
 standing_from view gs n [] rest = []
 standing_from view gs n (x ∷ xs) rest =
     let inside : n < length gs = omega (arith, length-drop n gs, ap length rest) in
@@ -43,49 +40,39 @@ standing_from view gs n (x ∷ xs) rest =
     ∷ standing_from view gs (n + 1) xs (sym (ap (drop 1) split))
 
 -- all of them; they are the glyphs, and numbered
-abbrev pub all_standing : (view : hb_glyph_info_t → hb_glyph_info_t) (gs : List hb_glyph_info_t) → List (Made view gs)
+abbrev pub all_standing : (view : Glyph → Glyph) (gs : Glyphs) → List (Made view gs)
 all_standing view gs = standing_from view gs 0 gs refl
 
-glyphs-standing_from : (view : hb_glyph_info_t → hb_glyph_info_t) (gs : List hb_glyph_info_t) (n : ℕ)
-    (xs : List hb_glyph_info_t) (rest : drop n gs ≡ xs) → map (λ m. m.glyph) (standing_from view gs n xs rest) ≡ xs
+glyphs-standing_from : (view : Glyph → Glyph) (gs : Glyphs) (n : ℕ)
+    (xs : Glyphs) (rest : drop n gs ≡ xs) → map (λ m. m.glyph) (standing_from view gs n xs rest) ≡ xs
 glyphs-standing_from view gs n [] rest = refl
 glyphs-standing_from view gs n (x ∷ xs) rest = cc (glyphs-standing_from view gs (n + 1) xs _)
 
-pub glyphs-standing : (view : hb_glyph_info_t → hb_glyph_info_t) (gs : List hb_glyph_info_t)
-    → map (λ m. m.glyph) (all_standing view gs) ≡ gs
+pub glyphs-standing : (view : Glyph → Glyph) (gs : Glyphs) → map (λ m. m.glyph) (all_standing view gs) ≡ gs
 glyphs-standing view gs = glyphs-standing_from view gs 0 gs refl
 
-numbered-standing_from : {X : Type 0} (read : hb_glyph_info_t → X) (view : hb_glyph_info_t → hb_glyph_info_t)
-    (gs : List hb_glyph_info_t) (n : ℕ) (xs : List hb_glyph_info_t) (rest : drop n gs ≡ xs)
+numbered-standing_from : {X : Type 0} (read : Glyph → X) (view : Glyph → Glyph)
+    (gs : Glyphs) (n : ℕ) (xs : Glyphs) (rest : drop n gs ≡ xs)
     → map (λ m. (m.place, read m.glyph)) (standing_from view gs n xs rest) ≡ enumerate_from n (map read xs)
 numbered-standing_from read view gs n [] rest = refl
-numbered-standing_from read view gs n (x ∷ xs) rest =
-    cc (numbered-standing_from read view gs (n + 1) xs _)
+numbered-standing_from read view gs n (x ∷ xs) rest = cc (numbered-standing_from read view gs (n + 1) xs _)
 
-pub numbered-standing : {X : Type 0} (read : hb_glyph_info_t → X) (view : hb_glyph_info_t → hb_glyph_info_t)
-    (gs : List hb_glyph_info_t) → map (λ m. (m.place, read m.glyph)) (all_standing view gs)
-    ≡ enumerate_from 0 (map read gs)
-numbered-standing read view gs = search (arith, numbered-standing_from)
+pub numbered-standing : {X : Type 0} (read : Glyph → X) (view : Glyph → Glyph) (gs : Glyphs)
+    → map (λ m. (m.place, read m.glyph)) (all_standing view gs) ≡ enumerate_from 0 (map read gs)
+numbered-standing = search numbered-standing_from
 
 -- made glyphs are, to the view, what stands at their places
-pub record AreMade (view : hb_glyph_info_t → hb_glyph_info_t) (gs : List hb_glyph_info_t) (sources : List ℕ)
-    (rs : List hb_glyph_info_t) : Type 0 where
+pub record AreMade (view : Glyph → Glyph) (gs : Glyphs) (sources : List ℕ)
+    (rs : Glyphs) : Type 0 where
   pub within : AllByRecursion (λ p. p < length gs) sources
   pub same : map view rs ≡ map view (pick sources gs)
 
-pub are_made : (view : hb_glyph_info_t → hb_glyph_info_t) (gs : List hb_glyph_info_t) (made : List (Made view gs))
+pub are_made : (view : Glyph → Glyph) (gs : Glyphs) (made : List (Made view gs))
     → AreMade view gs (map (λ m. m.place) made) (map (λ m. m.glyph) made)
 are_made view gs [] = search arith
 are_made view gs (m ∷ made) =
     let rest = are_made view gs made in
-    search (
-      arith,
-      m.inside,
-      rest.within,
-      m.same,
-      rest.same,
-      pick-within default_glyph m.place (map (λ m. m.place) made) gs m.inside,
-    )
+    search (pick-within default_glyph m.place (map (λ m. m.place) made) gs m.inside)
 
 -- one of the stretches holds the sources of a part of the result together
 pub held_in_stretch : (sts : List (ℕ × ℕ)) (st : ℕ × ℕ) (sources front inside behind : List ℕ) → Contains sts st

@@ -5,9 +5,7 @@ use Rattle.std.proofs.lemmas.List.{length-map, ext_get_or}
 use Rattle.std.proofs.lemmas.List.Elements.{All-from_get_or, length_all_zip}
 use Rattle.std.proofs.lemmas.List.Folds.{list_any-append, list_any_at}
 use Rattle.std.proofs.lemmas.List.FromFn.{length-range_with_len, get_or-range_with_len}
-use Rattle.std.proofs.lemmas.Bool.{or_left, or_right}
-use Rattle.std.proofs.lemmas.Bool.Decides.{nat_tests}
-use Rattle.shapers_buffer.specs.declared.buffer.glyph.hb_glyph_info_t.{hb_glyph_info_t}
+use Rattle.shapers_buffer.specs.Glyphs.{Glyphs}
 use Rattle.shapers_buffer.specs.declared.buffer.level.BufferClusterLevel.{BufferClusterLevel}
 use Rattle.shapers_buffer.specs.Glyph.{clusters, order_view, plain}
 use Rattle.shapers_buffer.specs.Clusters.{merge, merge_all, merges}
@@ -50,12 +48,12 @@ kept : {S : Type 0} (P : S → Type 0) (run : S → Step → S) (ok : Step → T
 kept P run ok keeps [] s f h = h
 kept P run ok keeps (step ∷ steps) s f h = kept P run ok keeps steps (run s step) f.1 (keeps step s f.0 h)
 
-pub clusters-merge_all : (level : BufferClusterLevel) (sts : List (ℕ × ℕ)) (gs : List hb_glyph_info_t)
+pub clusters-merge_all : (level : BufferClusterLevel) (sts : List (ℕ × ℕ)) (gs : Glyphs)
     → clusters (merge_all level sts gs) ≡ joined_all level sts (clusters gs)
 clusters-merge_all level [] gs = refl
 clusters-merge_all level (st ∷ sts) gs = cc (clusters-merge_all level sts _, clusters-merge level st.0 st.1 gs)
 
-clusters-run_step : (level : BufferClusterLevel) (step : Step) (gs : List hb_glyph_info_t)
+clusters-run_step : (level : BufferClusterLevel) (step : Step) (gs : Glyphs)
     → clusters (run_step level step gs) ≡ joined_step level step (clusters gs)
 clusters-run_step level step gs =
     clusters-merge_all level step.merged_then _
@@ -63,27 +61,26 @@ clusters-run_step level step gs =
     ∙ ap (pick step.places) (clusters-merge_all level step.merged_first gs))
 
 -- the clusters of the glyphs after the steps are those that the steps make of the clusters
-pub clusters-run_steps : (level : BufferClusterLevel) (steps : List Step) (gs : List hb_glyph_info_t)
+pub clusters-run_steps : (level : BufferClusterLevel) (steps : List Step) (gs : Glyphs)
     → clusters (run_steps level steps gs) ≡ joined_steps level steps (clusters gs)
 clusters-run_steps level [] gs = refl
 clusters-run_steps level (step ∷ steps) gs =
-    search (arith, clusters-run_step, clusters-run_steps level steps (run_step level step gs))
+    search (clusters-run_step, clusters-run_steps level steps (run_step level step gs))
 
 -- the order view after the steps: what stood at the old places
-order_view-run_step : (level : BufferClusterLevel) (step : Step) (gs : List hb_glyph_info_t)
+order_view-run_step : (level : BufferClusterLevel) (step : Step) (gs : Glyphs)
     → order_view (run_step level step gs) ≡ pick step.places (order_view gs)
-order_view-run_step level step gs =
-    cc (
-      order_view-merge_all level step.merged_then _,
-      pick-map plain step.places _,
-      order_view-merge_all level step.merged_first gs,
-    )
+order_view-run_step level step gs = cc (
+  order_view-merge_all level step.merged_then _,
+  pick-map plain step.places _,
+  order_view-merge_all level step.merged_first gs,
+)
 
 any_steps : (steps : List Step) → AllByRecursion (λ _. Unit {0}) steps
 any_steps [] = tt
 any_steps (step ∷ steps) = (tt, any_steps steps)
 
-pub order_view-run_steps : (level : BufferClusterLevel) (steps : List Step) (gs : List hb_glyph_info_t)
+pub order_view-run_steps : (level : BufferClusterLevel) (steps : List Step) (gs : Glyphs)
     → order_view (run_steps level steps gs) ≡ pick (old_places (length gs) steps) (order_view gs)
 order_view-run_steps level steps gs =
     followed_all (λ xs gs. order_view gs ≡ xs) (λ gs step. run_step level step gs) (λ _. Unit {0})
@@ -91,23 +88,22 @@ order_view-run_steps level steps gs =
     (length-map gs plain) (any_steps steps) refl
 
 -- each glyph falls to what its place in the end has
-falls-run_step : (level : BufferClusterLevel) (step : Step) (gs : List hb_glyph_info_t) → FitsStep (length gs) step
+falls-run_step : (level : BufferClusterLevel) (step : Step) (gs : Glyphs) → FitsStep (length gs) step
     → AllZip FallsTo (pick step.places gs) (run_step level step gs)
 falls-run_step level step gs f =
     let ms = merge_all level step.merged_first gs in
-    let n : length ms ≡ length gs = search (arith, length-merge_all) in
+    let n : length ms ≡ length gs = search length-merge_all in
     let k = length-pick step.places ms (subst (λ n. AllByRecursion (λ p. p < n) step.places) (sym n) f.within)
     ∙ f.as_many in
     all_on (pick step.places gs) (pick step.places ms) (run_step level step gs)
-    (search (arith, AllZip-pick, merge_all-falls))
-    (merge_all-falls level step.merged_then (pick step.places ms) (subst
+    (search (AllZip-pick, merge_all-falls)) (merge_all-falls level step.merged_then (pick step.places ms) (subst
     (λ n. EndWithin n step.merged_then) (sym k) f.then_within))
 
 -- as many glyphs, each fallen from its own
-abbrev FallenFrom : ℕ → List hb_glyph_info_t → List hb_glyph_info_t → Type 0
+abbrev FallenFrom : ℕ → Glyphs → Glyphs → Type 0
 FallenFrom n xs gs = (length gs ≡ n) × AllZip FallsTo xs gs
 
-pub falls-run_steps : (level : BufferClusterLevel) (steps : List Step) (gs : List hb_glyph_info_t)
+pub falls-run_steps : (level : BufferClusterLevel) (steps : List Step) (gs : Glyphs)
     → FitSteps (length gs) steps → (length (run_steps level steps gs) ≡ length gs)
     × AllZip FallsTo (pick (old_places (length gs) steps) gs) (run_steps level steps gs)
 falls-run_steps level steps gs f =
@@ -119,56 +115,48 @@ falls-run_steps level steps gs f =
       sym (length_all_zip FallsTo (pick step.places ys) (run_step level step ys) one)
           ∙ length-pick step.places ys (subst
           (λ n. AllByRecursion (λ p. p < n) step.places) (sym h.0) g.within) ∙ g.as_many,
-      all_on (pick step.places xs) (pick step.places ys) (run_step level step ys)
-          (search (arith, AllZip-pick)) one,
-    ))
-    (length gs) gs steps gs refl f (refl, all_same gs)
+      all_on (pick step.places xs) (pick step.places ys) (run_step level step ys) (search AllZip-pick) one,
+    )) (length gs) gs steps gs refl f (refl, all_same gs)
 
 -- where nothing merges, glyphs only move
-pub merge-unmerged : (level : BufferClusterLevel) → merges level ≡ false → (s e : ℕ) (gs : List hb_glyph_info_t)
+pub merge-unmerged : (level : BufferClusterLevel) → merges level ≡ false → (s e : ℕ) (gs : Glyphs)
     → merge level s e gs ≡ gs
 merge-unmerged level m s e gs = cc
 
 pub merge_all-unmerged : (level : BufferClusterLevel) → merges level ≡ false
-    → (sts : List (ℕ × ℕ)) (gs : List hb_glyph_info_t) → merge_all level sts gs ≡ gs
+    → (sts : List (ℕ × ℕ)) (gs : Glyphs) → merge_all level sts gs ≡ gs
 merge_all-unmerged level m [] gs = refl
-merge_all-unmerged level m (st ∷ sts) gs = search (arith, merge-unmerged, merge_all-unmerged level m sts gs)
+merge_all-unmerged level m (st ∷ sts) gs = search (arith, merge_all-unmerged level m sts gs)
 
 pub joined_all-unmerged : (level : BufferClusterLevel) → merges level ≡ false → (sts : List (ℕ × ℕ)) (cs : List ℕ)
     → joined_all level sts cs ≡ cs
 joined_all-unmerged level m [] cs = refl
-joined_all-unmerged level m (st ∷ sts) cs =
-    search (arith, merge-unmerged, clusters-of_clusters, joined_all-unmerged level m sts cs)
+joined_all-unmerged level m (st ∷ sts) cs = search (arith, clusters-of_clusters, joined_all-unmerged level m sts cs)
 
-pub run_steps-unmerged : (level : BufferClusterLevel) → merges level ≡ false
-    → (steps : List Step) (gs : List hb_glyph_info_t)
+pub run_steps-unmerged : (level : BufferClusterLevel) → merges level ≡ false → (steps : List Step) (gs : Glyphs)
     → run_steps level steps gs ≡ pick (old_places (length gs) steps) gs
 run_steps-unmerged level m steps gs =
     followed_all (λ xs gs. gs ≡ xs) (λ gs step. run_step level step gs) (λ _. Unit {0})
-    (λ step xs gs _ e. search (arith, merge_all-unmerged)) (length gs) gs steps gs refl
-    (any_steps steps) refl
+    (λ step xs gs _ e. search (arith, merge_all-unmerged)) (length gs) gs steps gs refl (any_steps steps) refl
 
 pub joined_steps-unmerged : (level : BufferClusterLevel) → merges level ≡ false → (steps : List Step) (cs : List ℕ)
     → joined_steps level steps cs ≡ pick (old_places (length cs) steps) cs
 joined_steps-unmerged level m steps cs =
     followed_all (λ xs cs. cs ≡ xs) (λ cs step. joined_step level step cs) (λ _. Unit {0})
-    (λ step xs cs _ e. search (arith, joined_all-unmerged)) (length cs) cs steps cs refl
-    (any_steps steps) refl
+    (λ step xs cs _ e. search (arith, joined_all-unmerged)) (length cs) cs steps cs refl (any_steps steps) refl
 
 -- moves between places that share a cluster leave the list of clusters as it is
 pub clusters_stay : (cs : List ℕ) (places : List ℕ) → length places ≡ length cs
     → AllByRecursion (λ p. p < length cs) places
     → ((p : ℕ) → p < length cs → get_or cs (get_or places p 0) 0 ≡ get_or cs p 0) → pick places cs ≡ cs
 clusters_stay cs places n w h =
-    let k = length-pick places cs w ∙ n in
-    ext_get_or 0 (pick places cs) cs k (λ i l. search (arith, get_or-pick))
+    let k = length-pick places cs w ∙ n in ext_get_or 0 (pick places cs) cs k (λ i l. search (arith, get_or-pick))
 
 -- places that the stretches hold together share a cluster once these are merged
 pub held_share : (level : BufferClusterLevel) → merges level ≡ true → (sts : List (ℕ × ℕ)) (cs : List ℕ)
     → EndWithin (length cs) sts → (p q : ℕ) → p < length cs → q < length cs → HeldBetween sts p q
     → ShareCluster (joined_all level sts cs) p q
-held_share level m sts cs w p q pl ql b =
-    search (arith, share_all, joined_all-linked, or_right)
+held_share = search (arith, share_all, joined_all-linked)
 
 -- a step that moves only inside what it merged first joins clusters, and no more
 joined-merged_step : (level : BufferClusterLevel) → merges level ≡ true → (step : Step) (cs : List ℕ)
@@ -176,14 +164,11 @@ joined-merged_step : (level : BufferClusterLevel) → merges level ≡ true → 
 joined-merged_step level m step cs f =
     let e = f.fits.first_within in
     let k = length-joined_all level step.merged_first cs e in
-    cc (
-      f.nothing_then,
-      clusters_stay (joined_all level step.merged_first cs) step.places (omega arith)
-          (subst (λ n. AllByRecursion (λ p. p < n) step.places) (sym k) f.fits.within)
-          (λ p l. held_share level m step.merged_first cs e p (get_or step.places p 0) (omega arith) (within_at
-          (length cs) step.places f.fits.within p (omega arith)) (f.inside p (omega arith)) (get_or step.places p 0)
-          (omega arith) (omega arith)),
-    )
+    cc (clusters_stay (joined_all level step.merged_first cs) step.places (omega arith)
+    (subst (λ n. AllByRecursion (λ p. p < n) step.places) (sym k) f.fits.within)
+    (λ p l. held_share level m step.merged_first cs e p (get_or step.places p 0) (omega arith) (within_at
+    (length cs) step.places f.fits.within p (omega arith)) (f.inside p (omega arith)) (get_or step.places p 0)
+    (omega arith) (omega arith)))
 
 joined_all-append : (level : BufferClusterLevel) (xs ys : List (ℕ × ℕ)) (cs : List ℕ) → joined_all level (xs ++ ys) cs
     ≡ joined_all level ys (joined_all level xs cs)
@@ -197,7 +182,6 @@ joined-merged_steps level m [] cs f = refl
 joined-merged_steps level m (step ∷ steps) cs f =
     let n = length-joined_all level step.merged_first cs f.0.fits.first_within in
     search (
-      arith,
       joined-merged_step,
       joined_all-append,
       joined-merged_steps level m steps (joined_all level step.merged_first cs)
@@ -205,22 +189,21 @@ joined-merged_steps level m (step ∷ steps) cs f =
     )
 
 pub held_over : (sts : List (ℕ × ℕ)) (p q t : ℕ) → HeldBetween sts p q → HeldBetween sts q t → HeldBetween sts p t
-held_over sts p q t a b r x y = search arith
+held_over = search arith
 
 pub held-front : (xs ys : List (ℕ × ℕ)) (p q : ℕ) → HeldBetween xs p q → HeldBetween (xs ++ ys) p q
-held-front xs ys p q h r x y = search (arith, list_any-append, or_left)
+held-front = search (arith, list_any-append)
 
 pub held-rest : (xs ys : List (ℕ × ℕ)) (p q : ℕ) → HeldBetween ys p q → HeldBetween (xs ++ ys) p q
-held-rest xs ys p q h r x y = search (arith, list_any-append, or_right)
+held-rest = search (arith, list_any-append)
 
 lt_both : (a b r : ℕ) → a < r → r < b → (nat_lt a r && nat_lt r b) ≡ true
-lt_both a b r h i = grind (arith, nat_tests)
+lt_both = grind arith
 
 -- one of the stretches holds both places
 pub held_by : (sts : List (ℕ × ℕ)) (k : ℕ) (d : ℕ × ℕ) → k < length sts → (p q : ℕ) → (get_or sts k d).0 ≤ p
     → p < (get_or sts k d).1 → (get_or sts k d).0 ≤ q → q < (get_or sts k d).1 → HeldBetween sts p q
-held_by sts k d l p q a b c e r x y =
-    search (arith, list_any_at, lt_both)
+held_by = search (arith, list_any_at)
 
 -- all neighbours within a stretch are held; so they are in each of the stretches
 abbrev pub HeldIn : List (ℕ × ℕ) → ℕ × ℕ → Type 0
@@ -229,29 +212,28 @@ HeldIn sts st = (i : ℕ) → st.0 < i → i < st.1 → held sts i ≡ true
 more_held : (st : ℕ × ℕ) (sts xs : List (ℕ × ℕ)) → AllByRecursion (HeldIn sts) xs
     → AllByRecursion (HeldIn (st ∷ sts)) xs
 more_held st sts [] h = tt
-more_held st sts (x ∷ xs) h =
-    search (arith, or_right, more_held st sts xs h.1)
+more_held st sts (x ∷ xs) h = search (arith, more_held st sts xs h.1)
 
 pub all_held : (sts : List (ℕ × ℕ)) → AllByRecursion (HeldIn sts) sts
 all_held [] = tt
-all_held (st ∷ sts) = search (arith, or_left, lt_both, more_held, all_held sts)
+all_held (st ∷ sts) = search (arith, more_held, all_held sts)
 
 -- a step that merges all its places first may move as it likes
 pub moves_anywhere : (n : ℕ) (places : List ℕ) → length places ≡ n → AllByRecursion (λ p. p < n) places
     → MovesMerged n (record { merged_first = (0, n) ∷ []; places = places; merged_then = [] })
-moves_anywhere n places e w = search (arith, held_by, within_at)
+moves_anywhere = search (arith, within_at)
 
 -- the merged stretches lead from each place to the old place of what stands there
 held_moved : (n : ℕ) (steps : List Step) (before : List (ℕ × ℕ)) (olds : List ℕ) → length olds ≡ n
     → AllByRecursion (MovesMerged n) steps → ((p : ℕ) → p < n → HeldBetween before p (get_or olds p 0)) → (p : ℕ)
     → p < n → HeldBetween (before ++ all_first steps) p (get_or (moved_on steps olds) p 0)
-held_moved n [] before olds e f h p l = search (arith, held-front)
+held_moved n [] before olds e f h p l = search held-front
 held_moved n (step ∷ steps) before olds e f h p l =
     let within = subst (λ n. AllByRecursion (λ p. p < n) step.places) (sym e) f.0.fits.within in
     search (
       arith,
       append_assoc before step.merged_first (all_first steps),
-      held_moved n steps (before ++ step.merged_first) (pick step.places olds) (search (arith, length-pick)) f.1
+      held_moved n steps (before ++ step.merged_first) (pick step.places olds) (search length-pick) f.1
           (λ p l. subst (λ t. HeldBetween (before ++ step.merged_first) p t) (sym (get_or-pick 0 step.places olds
           within p (omega arith))) (held_over (before ++ step.merged_first) p (get_or step.places p 0) (get_or olds
           (get_or step.places p 0) 0) (held-rest before step.merged_first p (get_or step.places p 0) (f.0.inside p
@@ -286,8 +268,7 @@ moved_by_old_places n steps places long =
 
 pub old_places_then : (n : ℕ) (steps more : List Step) → FitSteps n steps → old_places n (steps ++ more)
     ≡ pick (old_places n more) (old_places n steps)
-old_places_then n steps more fits =
-    search (arith, fold-append, moved_by_old_places, length-old_places)
+old_places_then = search (fold-append, moved_by_old_places, length-old_places)
 
 pub merged_fits : (n : ℕ) (steps : List Step) → AllByRecursion (MovesMerged n) steps → FitSteps n steps
 merged_fits n [] f = tt
@@ -300,14 +281,13 @@ end_within-append n (x ∷ xs) ys h i = (h.0, end_within-append n xs ys h.1 i)
 pub end_within-all_first : (n : ℕ) (steps : List Step) → AllByRecursion (MovesMerged n) steps
     → EndWithin n (all_first steps)
 end_within-all_first n [] f = tt
-end_within-all_first n (step ∷ steps) f =
-    search (arith, end_within-append, end_within-all_first n steps f.1)
+end_within-all_first n (step ∷ steps) f = search (end_within-append, end_within-all_first n steps f.1)
 
 -- the cluster law: all places between a place and the old place of what stands there share one cluster
 pub share-moved : (level : BufferClusterLevel) → merges level ≡ true → (steps : List Step) (cs : List ℕ)
     → AllByRecursion (MovesMerged (length cs)) steps → (p : ℕ) → p < length cs
     → ShareCluster (joined_steps level steps cs) p (get_or (old_places (length cs) steps) p 0)
-share-moved level m steps cs f p l =
+share-moved level m steps cs f =
     let k = length-old_places (length cs) steps (merged_fits (length cs) steps f) in
     search (arith, joined-merged_steps, held_share, end_within-all_first, within_at, within-old_places, held-old_places)
 
@@ -323,8 +303,7 @@ pub all-picked : (P : ℕ → Type 0) (ps cs : List ℕ) → AllByRecursion (λ 
     → All P (pick ps cs)
 all-picked P ps cs w h = All-from_get_or P (pick ps cs) 0 (λ i l.
     let n = length-pick ps cs w in
-    subst P (sym (get_or-pick 0 ps cs w i (omega arith)))
-    (h (get_or ps i 0) 0 (search (arith, within_at))))
+    subst P (sym (get_or-pick 0 ps cs w i (omega arith))) (h (get_or ps i 0) 0 (search (arith, within_at))))
 
 -- a step of n places over as many clusters
 pub record Stepped (n : ℕ) (level : BufferClusterLevel) (step : Step) (cs : List ℕ) : Type 0 where
@@ -341,20 +320,12 @@ stepped n level step cs e f =
     (search (arith, length-joined_all))) f.within in
     let last = subst (λ n. EndWithin n step.merged_then) (sym
     (length-pick step.places js within ∙ f.as_many)) f.then_within in
-    search (
-      arith,
-      length-pick step.places js within,
-      f.as_many,
-      f.then_within,
-      length-joined_all level step.merged_then (pick step.places js) last,
-    )
+    search (arith, length-pick step.places js within, length-joined_all level step.merged_then (pick step.places js) last)
 
 pub all-joined_steps : (P : ℕ → Type 0) (level : BufferClusterLevel) (n : ℕ) (steps : List Step) (cs : List ℕ)
     → length cs ≡ n → FitSteps n steps → All P cs → (length (joined_steps level steps cs) ≡ n)
     × All P (joined_steps level steps cs)
 all-joined_steps P level n steps cs e f h =
-    kept (λ cs. (length cs ≡ n) × All P cs) (λ cs step. joined_step level step cs) (FitsStep n)
-    (λ step cs g h.
+    kept (λ cs. (length cs ≡ n) × All P cs) (λ cs step. joined_step level step cs) (FitsStep n) (λ step cs g h.
     let s = stepped n level step cs h.0 g in
-    search (arith, all-joined, all-picked))
-    steps cs f (e, h)
+    search (all-joined, all-picked)) steps cs f (e, h)

@@ -1,6 +1,6 @@
 -- What merges do to any clusters: none rises, neighbours that share one still do, and so do the places of a stretch.
 use Rattle.std.proofs.Common.{ℕ, zero, suc, ◌+◌, ◌-◌, ◌<◌, ◌≤◌, ◌≡◌, min, max, Bool, true, false, ◌||◌, nat_lt, ◌&&◌, ◌⊎◌, inl, inr, List, [], ◌∷◌, length, get_or, refl, ◌∙◌, arith}
-use Rattle.std.proofs.lemmas.Bool.{cases_lt, ltb-true, eqb-true}
+use Rattle.std.proofs.lemmas.Bool.{cases_lt, ltb-true}
 use Rattle.shapers_buffer.specs.declared.buffer.level.BufferClusterLevel.{BufferClusterLevel}
 use Rattle.shapers_buffer.specs.Clusters.{merges}
 use Rattle.shapers_clusters.specs.ClusterMerges.{joined, joined_all}
@@ -16,24 +16,22 @@ length-joined level s e cs w =
 pub joined-shares : (level : BufferClusterLevel) (s e : ℕ) (cs : List ℕ) → e ≤ length cs → merges level ≡ true
     → (p q : ℕ) → s ≤ p → p < e → s ≤ q → q < e → get_or (joined level s e cs) p 0 ≡ get_or (joined level s e cs) q 0
 joined-shares level s e cs w a p q sp pe sq qe = joined_cases (λ js. get_or js p 0 ≡ get_or js q 0) level s e cs w
-    (λ no. search arith)
-    (λ js _ h f. omega (arith, f.inside p, f.inside q))
+    (λ no. search arith) (λ js _ h f. omega (arith, f.inside p))
 
 pub left_to : (s e : ℕ) (cs js : List ℕ) (f : Spread s e cs js) (p : ℕ) → f.low ≤ p → p ≤ s
     → get_or cs p 0 ≡ get_or cs s 0
-left_to s e cs js f p a b = search (arith, f.left)
+left_to s e cs js f = search arith
 
 pub right_from : (s e : ℕ) (cs js : List ℕ) (f : Spread s e cs js) (p : ℕ) → e ≤ suc p → p < f.high
     → get_or cs p 0 ≡ get_or cs (e - 1) 0
-right_from s e cs js f p a b = search (arith, f.right)
+right_from s e cs js f = search arith
 
 -- neighbours that share a cluster still do
 pub joined-neighbours : (level : BufferClusterLevel) (s e : ℕ) (cs : List ℕ) → e ≤ length cs → (p : ℕ)
     → suc p < length cs → get_or cs p 0 ≡ get_or cs (suc p) 0 → get_or (joined level s e cs) p 0
     ≡ get_or (joined level s e cs) (suc p) 0
 joined-neighbours level s e cs w p l q =
-    joined_cases (λ js. get_or js p 0 ≡ get_or js (suc p) 0) level s e cs w (λ _. q)
-    (λ js _ h f. search (arith, left_to, right_from))
+    joined_cases (λ js. get_or js p 0 ≡ get_or js (suc p) 0) level s e cs w (λ _. q) (λ js _ h f. search arith)
 
 -- each cluster is the old one of some place, and all places in between share it
 pub joined-reached : (level : BufferClusterLevel) (s e : ℕ) (cs : List ℕ) → e ≤ length cs → (p : ℕ) → p < length cs
@@ -41,14 +39,12 @@ pub joined-reached : (level : BufferClusterLevel) (s e : ℕ) (cs : List ℕ) �
     × ShareCluster (joined level s e cs) p q
 joined-reached level s e cs w p l =
     joined_cases (λ js. (q : ℕ) × (q < length cs) × (get_or js p 0 ≡ get_or cs q 0) × ShareCluster js p q) level s e cs
-    w
-    (λ _. (p, l, refl, search arith))
-    (λ js _ h f.
+    w (λ _. (p, l, refl, search arith)) (λ js _ h f.
     elim (cases_lt p f.low) [
       | inl a ↦ search (arith, f.before p a)
       | inr a ↦ elim (cases_lt p f.high) [
         | inl b ↦
-            search (arith, f.inside)
+            search arith
         | inr b ↦ search (arith, f.behind p b)
       ]
     ])
@@ -56,24 +52,18 @@ joined-reached level s e cs w p l =
 -- after a first merge the stretches still end within the list
 pub end_within_joined : (level : BufferClusterLevel) (s e : ℕ) (cs : List ℕ) (sts : List (ℕ × ℕ)) → e ≤ length cs
     → EndWithin (length cs) sts → EndWithin (length (joined level s e cs)) sts
-end_within_joined level s e cs sts w h = search (arith, length-joined)
+end_within_joined = search length-joined
 
 pub length-joined_all : (level : BufferClusterLevel) (sts : List (ℕ × ℕ)) (cs : List ℕ) → EndWithin (length cs) sts
     → length (joined_all level sts cs) ≡ length cs
 length-joined_all level [] cs h = refl
-length-joined_all level (st ∷ sts) cs h =
-    search (
-      arith,
-      length-joined,
-      length-joined_all level sts (joined level st.0 st.1 cs) (end_within_joined level st.0 st.1 cs sts h.0 h.1),
-    )
+length-joined_all level (st ∷ sts) cs h = search (length-joined, length-joined_all level sts (joined level st.0 st.1 cs) (end_within_joined level st.0 st.1 cs sts h.0 h.1))
 
 pub joined_all-falls : (level : BufferClusterLevel) (sts : List (ℕ × ℕ)) (cs : List ℕ) → EndWithin (length cs) sts
     → (p : ℕ) → get_or (joined_all level sts cs) p 0 ≤ get_or cs p 0
 joined_all-falls level [] cs h p = omega arith
 joined_all-falls level (st ∷ sts) cs h p =
-    let a = joined_all-falls level sts (joined level st.0 st.1 cs) (search (arith, end_within_joined))
-    p in
+    let a = joined_all-falls level sts (joined level st.0 st.1 cs) (search end_within_joined) p in
     let b =
     joined_cases (λ js. get_or js p 0 ≤ get_or cs p 0) level st.0 st.1 cs h.0 (λ _. omega arith) (λ js _ h f.
     search arith) in omega arith
@@ -83,8 +73,8 @@ pub joined_all-neighbours : (level : BufferClusterLevel) (sts : List (ℕ × ℕ
     ≡ get_or (joined_all level sts cs) (suc p) 0
 joined_all-neighbours level [] cs h p l q = q
 joined_all-neighbours level (st ∷ sts) cs h p l q =
-    joined_all-neighbours level sts (joined level st.0 st.1 cs) (search (arith, end_within_joined)) p
-    (search (arith, length-joined)) (search (arith, joined-neighbours))
+    joined_all-neighbours level sts (joined level st.0 st.1 cs) (search end_within_joined) p
+    (search length-joined) (search joined-neighbours)
 
 or_cases : (a b : Bool) → (a || b) ≡ true → (a ≡ true) ⊎ (b ≡ true)
 or_cases true b h = inl refl
@@ -109,7 +99,7 @@ joined_all-held level m [] cs h p l q = cc
 joined_all-held level m (st ∷ sts) cs h p l q =
     let js = joined level st.0 st.1 cs in
     let w = end_within_joined level st.0 st.1 cs sts h.0 h.1 in
-    let n : suc p < length js = search (arith, length-joined) in
+    let n : suc p < length js = search length-joined in
     elim (in_stretch st.0 st.1 (suc p) (held sts (suc p)) q) [
       | inl i ↦ joined_all-neighbours level sts js w p n
           (joined-shares level st.0 st.1 cs h.0 m p (suc p) (omega arith) (omega arith) (omega arith) (omega arith))
@@ -120,14 +110,12 @@ joined_all-held level m (st ∷ sts) cs h p l q =
 pub joined_all-linked : (level : BufferClusterLevel) → merges level ≡ true → (sts : List (ℕ × ℕ)) (cs : List ℕ)
     → EndWithin (length cs) sts → (p : ℕ) → 0 < p → p < length cs → linked cs sts p ≡ true
     → get_or (joined_all level sts cs) (p - 1) 0 ≡ get_or (joined_all level sts cs) p 0
-joined_all-linked level m sts cs h p z l q =
-    search (arith, joined_all-neighbours, eqb-true, joined_all-held)
+joined_all-linked = search (arith, joined_all-neighbours, joined_all-held)
 
 share_upto : (cs : List ℕ) (p n : ℕ) → ((r : ℕ) → p < r → r ≤ p + n → get_or cs (r - 1) 0 ≡ get_or cs r 0) → (k : ℕ)
     → k ≤ n → get_or cs (p + k) 0 ≡ get_or cs p 0
 share_upto cs p n h zero l = search arith
-share_upto cs p n h (suc k) l =
-    search (arith, share_upto cs p n h k (omega arith))
+share_upto cs p n h (suc k) l = search (arith, share_upto cs p n h k (omega arith))
 
 -- neighbour by neighbour, all share one cluster
 pub share_all : (cs : List ℕ) (p q : ℕ) → ((r : ℕ) → min p q < r → r ≤ max p q → get_or cs (r - 1) 0 ≡ get_or cs r 0)
@@ -141,13 +129,12 @@ share_all cs p q h r a b =
     search arith
 
 share_over : (cs : List ℕ) (p q t : ℕ) → ShareCluster cs p q → ShareCluster cs q t → ShareCluster cs p t
-share_over cs p q t a b r x y =
-    search arith
+share_over = search arith
 
 -- places that shared a cluster with all in between still do
 pub joined_all-share : (level : BufferClusterLevel) (sts : List (ℕ × ℕ)) (cs : List ℕ) → EndWithin (length cs) sts
     → (p q : ℕ) → p < length cs → q < length cs → ShareCluster cs p q → ShareCluster (joined_all level sts cs) p q
-joined_all-share level sts cs h p q pl ql c = search (arith, share_all, joined_all-neighbours)
+joined_all-share = search (arith, share_all, joined_all-neighbours)
 
 -- each cluster is the old one of some place, and all places in between share it
 pub joined_all-reached : (level : BufferClusterLevel) (sts : List (ℕ × ℕ)) (cs : List ℕ) → EndWithin (length cs) sts
@@ -163,6 +150,5 @@ joined_all-reached level (st ∷ sts) cs h p l =
       t,
       tl,
       qe ∙ te,
-      share_over (joined_all level sts js) p q t qs
-          (search (arith, joined_all-share)),
+      share_over (joined_all level sts js) p q t qs (search (arith, joined_all-share)),
     )

@@ -4,7 +4,7 @@ use Rattle.std.specs.List.{All, AllByRecursion, Contains}
 use Rattle.std.proofs.lemmas.Bool.{cases_lt}
 use Rattle.std.proofs.lemmas.List.{length-map}
 use Rattle.std.proofs.lemmas.List.Elements.{All-contains_itself}
-use Rattle.shapers_buffer.specs.declared.buffer.glyph.hb_glyph_info_t.{hb_glyph_info_t}
+use Rattle.shapers_buffer.specs.Glyphs.{Glyph, Glyphs}
 use Rattle.shapers_buffer.specs.declared.buffer.level.BufferClusterLevel.{BufferClusterLevel}
 use Rattle.shapers_buffer.specs.Glyph.{clusters}
 use Rattle.shapers_buffer.specs.Clusters.{merge, merge_all, merges}
@@ -12,7 +12,7 @@ use Rattle.shapers_clusters.specs.ClusterMerges.{joined, joined_all}
 use Rattle.shapers_clusters.proofs.ClusterMerges.{clusters-merge}
 use Rattle.shapers_clusters.proofs.Merging.{length-merge, length-merge_all, order_view-merge}
 use Rattle.shapers_clusters.specs.Cuts.{EndWithin, ShareCluster, IsMonotone, ExactCuts}
-use Rattle.shapers_clusters.proofs.Neighbours.{share_all, joined_all-share, length-joined_all}
+use Rattle.shapers_clusters.proofs.Neighbours.{joined_all-share, length-joined_all}
 use Rattle.shapers_clusters.proofs.Cuts.{exact_cuts, one_exact, stays_rising, stays_falling}
 use Rattle.shapers_buffer.specs.Places.{pick}
 use Rattle.shapers_clusters.specs.Steps.{Step, run_steps, FitsStep, MovesMerged, Permutes}
@@ -33,9 +33,8 @@ use Rattle.shapers_clusters.proofs.Permuted.{permutes-widened}
 use Rattle.shapers_clusters.specs.Laws.{HalvesLaw, MergeLaw, ExactCutsLaw, StepsLaw, ClustersLaw, MergedStepsLaw, AlongLaw, ClustersReordered, ClustersReorderedLaw, SeenStepsLaw, ReorderedHold, ReorderedLaw, ClustersMade, MadeHold, MadeLaw, MovedSourcesLaw, AloneLaw}
 
 -- stretches end within the clusters if they do within the glyphs
-ends : (sts : List (ℕ × ℕ)) (gs : List hb_glyph_info_t) → EndWithin (length gs) sts
-    → EndWithin (length (clusters gs)) sts
-ends sts gs w = search (arith, length-map)
+ends : (sts : List (ℕ × ℕ)) (gs : Glyphs) → EndWithin (length gs) sts → EndWithin (length (clusters gs)) sts
+ends = search length-map
 
 pub merge_holds : MergeLaw
 merge_holds level s e gs l =
@@ -52,7 +51,7 @@ merge_holds level s e gs l =
           all (All (Contains cs)) (all-joined (Contains cs) level ((s, e) ∷ []) cs (le, tt) (All-contains_itself cs));
       before = merge-before level s e gs l;
       behind = merge-behind level s e gs l;
-      inside = search (arith, merge-inside);
+      inside = search merge-inside;
       neighbours = λ p q pl ql h. all (λ js. ShareCluster js p q)
           (joined_all-share level ((s, e) ∷ []) cs (le, tt) p q (omega arith) (omega arith) h);
       labels = λ ls i o. all (λ js. IsLabelled js ls) (joined-labelled level s e cs ls le i o);
@@ -70,13 +69,13 @@ exact_cuts_hold level sts gs m w mono =
         | inl up ↦ inl (stays_rising level sts cs (ends sts gs w) up)
         | inr down ↦ inr (stays_falling level sts cs (ends sts gs w) down)
       ]),
-      search (arith, one_exact),
+      search one_exact,
     )
 
 pub steps_hold : StepsLaw
 steps_hold level steps gs f =
     let falls = falls-run_steps level steps gs f in
-    search (arith, order_view-run_steps, clusters-run_steps, run_steps-unmerged)
+    search (order_view-run_steps, clusters-run_steps, run_steps-unmerged)
 
 pub clusters_hold : ClustersLaw
 clusters_hold level steps cs f =
@@ -84,57 +83,38 @@ clusters_hold level steps cs f =
     record {
       same_length = all.0;
       old_clusters = all.1;
-      labels = λ ls i o.
-          (joined_steps-labels level steps cs ls f i o).respected;
+      labels = λ ls i o. (joined_steps-labels level steps cs ls f i o).respected;
       of_labels =
           λ ls i o. (joined_steps-labels level steps cs ls f i o).of_old;
       unmerged =
-          search (arith, joined_steps-unmerged);
+          search joined_steps-unmerged;
     }
 
 pub merged_steps_hold : MergedStepsLaw
-merged_steps_hold level steps cs m f =
-    search (arith, joined-merged_steps, share-moved, exact_cuts, end_within-all_first)
+merged_steps_hold = search (joined-merged_steps, share-moved, exact_cuts, end_within-all_first)
 
 pub clusters_reordered : ClustersReorderedLaw
-clusters_reordered level steps cs moves =
-    search (arith, clusters_hold, merged_fits, merged_steps_hold)
+clusters_reordered = search (clusters_hold, merged_fits, merged_steps_hold)
 
 pub seen_steps_hold : SeenStepsLaw
 seen_steps_hold view hides level steps gs ms f same =
     let holds = steps_hold level steps gs f in
     let c = same_clusters view hides.shows (run_steps level steps gs) ms same in
-    search (
-      arith,
-      length-map,
-      seen-same view ms (run_steps level steps gs) same,
-      seen-run_steps view hides level steps gs,
-      all_flags_on,
-      all_flags_fall,
-      clusters_hold,
-      holds.unmerged,
-    )
+    search (arith, length-map, seen-same view ms (run_steps level steps gs) same, seen-run_steps view hides level steps gs, all_flags_on, all_flags_fall, clusters_hold)
 
 pub reordered_hold : ReorderedLaw
 reordered_hold view hides level steps gs ms moves permutes same =
     let fits = merged_fits (length gs) steps moves in
     let merged = subst (ClustersReordered level steps (clusters gs)) (sym
     (seen_steps_hold view hides level steps gs ms fits same).clusters_are) (clusters_reordered
-    level steps (clusters gs) (search (arith, length-map))) in
-    search (
-      arith,
-      seen-same view ms (run_steps level steps gs) same,
-      seen-permuted view hides level steps gs fits permutes,
-      seen_steps_hold view hides level steps gs ms fits same,
-      merged.where_merging,
-    )
+    level steps (clusters gs) (search length-map)) in
+    search (seen-same view ms (run_steps level steps gs) same, seen-permuted view hides level steps gs fits permutes, seen_steps_hold view hides level steps gs ms fits same)
 
 -- the same of the steps' own result, all of whose fields show
-pub reordered_whole : (level : BufferClusterLevel) (steps : List Step) (gs : List hb_glyph_info_t)
+pub reordered_whole : (level : BufferClusterLevel) (steps : List Step) (gs : Glyphs)
     → AllByRecursion (MovesMerged (length gs)) steps → AllByRecursion (Permutes (length gs)) steps
     → ReorderedHold whole level steps gs (run_steps level steps gs)
-reordered_whole level steps gs moves permutes =
-    search (arith, reordered_hold, whole_hides)
+reordered_whole = search (reordered_hold, whole_hides)
 
 pub along_holds : AlongLaw
 along_holds level pieces gs l f = record {
@@ -148,17 +128,7 @@ along_holds level pieces gs l f = record {
 clusters_made : (level : BufferClusterLevel) (sts : List (ℕ × ℕ)) (sources cs : List ℕ) → EndWithin (length cs) sts
     → AllByRecursion (λ p. p < length cs) sources
     → ClustersMade level sts sources cs (pick sources (joined_all level sts cs))
-clusters_made level sts sources cs w v =
-    search (
-      arith,
-      all-picked,
-      length-joined_all,
-      all-joined,
-      All-contains_itself,
-      joined_all-unmerged,
-      sources_share,
-      exact_cuts_by,
-    )
+clusters_made = search (all-picked, length-joined_all, all-joined, All-contains_itself, joined_all-unmerged, sources_share, exact_cuts_by)
 
 pub made_hold : MadeLaw
 made_hold view shows level sts sources gs rs w v same =
@@ -175,13 +145,13 @@ made_hold view shows level sts sources gs rs w v same =
       length-pick sources ms (subst P (sym (length-merge_all level sts gs w)) v),
       clusters_made level sts sources cs (ends sts gs w) (subst P (sym (length-map gs (λ g. g.cluster))) v),
       all_flags_on (pick sources gs) (pick sources ms) rs
-          (search (arith, all_flags_fall, AllZip-pick, merge_all-falls)) c.flags_stay,
+          (search (all_flags_fall, AllZip-pick, merge_all-falls)) c.flags_stay,
       merge_all-unmerged,
     )
 
 -- the same from made glyphs, each with the place that it comes of
-pub made_hold_by : (view : hb_glyph_info_t → hb_glyph_info_t) → ShowsClusters view
-    → (level : BufferClusterLevel) (sts : List (ℕ × ℕ)) (sources : List ℕ) (gs rs : List hb_glyph_info_t)
+pub made_hold_by : (view : Glyph → Glyph) → ShowsClusters view
+    → (level : BufferClusterLevel) (sts : List (ℕ × ℕ)) (sources : List ℕ) (gs rs : Glyphs)
     → EndWithin (length gs) sts → (made : List (Made view (merge_all level sts gs))) → map (λ m. m.place) made ≡ sources
     → map (λ m. m.glyph) made ≡ rs → (map view rs ≡ map view (pick sources (merge_all level sts gs)))
     × MadeHold view level sts sources gs rs
@@ -207,7 +177,7 @@ part_shares {sts = sts} {sources = sources} {js = js} made m st front inside beh
       | inl some ↦ made.share m p q (omega arith) (omega arith)
           (held_in_stretch sts st sources front inside behind (among some) parts all p q (omega arith) (omega arith)
           (omega arith) (omega arith))
-      | inr one ↦ search (arith, share_all)
+      | inr one ↦ search arith
     ]
 
 pub moved_sources_hold : MovedSourcesLaw
@@ -227,7 +197,7 @@ moved_sources_hold level sts standing places gs m w s n v h =
     )
 
 pub halves_hold : HalvesLaw
-halves_hold level ps qs gs hs a b f g h = search (arith, halves_along)
+halves_hold = search halves_along
 
 pub alone_holds : AloneLaw
-alone_holds level before behind piece cs l f g h apart = search (arith, alone_in_text)
+alone_holds = search alone_in_text

@@ -2,7 +2,7 @@
 use Rattle.std.proofs.Common.{ℕ, true, false, map, ◌%◌, ◌+◌, ◌≡◌, ◌≤◌, [], ◌∷◌, refl, arith, subst}
 use Rattle.std.specs.List.{AllByRecursion}
 use Rattle.shapers_buffer.specs.declared.buffer.level.BufferClusterLevel.TheVariants.{MonotoneGraphemes, Characters}
-use Rattle.shapers_buffer.specs.declared.buffer.glyph.hb_glyph_info_t.{hb_glyph_info_t}
+use Rattle.shapers_buffer.specs.Glyphs.{Glyph}
 use Rattle.shapers_buffer.specs.Glyph.{default_glyph, without_flags}
 use Rattle.shapers_clusters.specs.Cuts.{held, linked}
 use Rattle.shapers_clusters.specs.Flags.{HidesFields, bit_at, seen, whole}
@@ -101,8 +101,7 @@ row_merged : all_merged
     (swap_step 4 1 ∷ record {
       merged_first = (2, 4) ∷ [];
       places = 0 ∷ 1 ∷ 3 ∷ 2 ∷ [];
-      merged_then = (0, 2) ∷ (1, 3)
-          ∷ [];
+      merged_then = (0, 2) ∷ (1, 3) ∷ [];
     } ∷ still_step 4 ∷ []) ≡ (1, 3) ∷ (2, 4) ∷ (0, 2) ∷ (1, 3) ∷ []
 row_merged = refl
 
@@ -112,7 +111,7 @@ row_bits = refl
 
 -- what shows, through a view that hides masks and categories, of a glyph's number and class, but
 -- neither cluster nor glyph flags
-a_glyph : ℕ → ℕ → ℕ → hb_glyph_info_t
+a_glyph : ℕ → ℕ → ℕ → Glyph
 a_glyph c m k =
     record default_glyph { glyph_id = 65; cluster = c; mask = m; category = k; unicode_props = record { 0 = 0x0700 } }
 
@@ -126,7 +125,7 @@ row_whole = refl
 
 -- views for hooks that besides moving glyphs change masks, categories and positions, or classes
 rests : (m : ℕ) → without_flags (without_flags m % 8) ≡ without_flags (m % 8)
-rests m = omega arith
+rests = omega arith
 
 masks_hidden : HidesFields (λ g. record g { mask = g.mask % 8; category = 0; auxiliary = 0 })
 masks_hidden = search (arith, rests)

@@ -2,7 +2,7 @@
 use Rattle.std.proofs.Common.{ℕ, append_assoc, inl, inr, ◌+◌, ◌-◌, ◌<◌, ◌≤◌, ◌≡◌, List, [], ◌∷◌, ◌++◌, map, length, take, drop, take-add, refl, sym, ◌∙◌, ap, subst, arith, length-append, length-take, length-drop}
 use Rattle.std.proofs.lemmas.List.{drop-append-le, drop-drop, drop-map, drop_at, length-map, map-append, take-append-drop, take-append-le, take-map, take-take}
 use Rattle.std.proofs.Math.Nat.{eq-or-lt_of_le}
-use Rattle.shapers_buffer.specs.declared.buffer.glyph.hb_glyph_info_t.{hb_glyph_info_t}
+use Rattle.shapers_buffer.specs.Glyphs.{Glyphs}
 use Rattle.shapers_buffer.specs.Clusters.{in_cluster, stretch_of}
 use Rattle.shapers_buffer.specs.Glyph.{order_view, plain}
 use Rattle.shapers_buffer.proofs.ClusterLemmas.{length-stretch}
@@ -14,66 +14,62 @@ use Rattle.shapers_clusters.proofs.GroupWalk.{len_of-append, len_of-read, none_c
 use Rattle.shapers_clusters.proofs.GuardedGroups.{ChangesBehind, changed_behind, groups_in_front}
 
 -- GROUPS: the order view of the glyphs in their clusters, and what they read
-plain-all : (m : ℕ) (gs : List hb_glyph_info_t) → map plain (map (in_cluster m) gs) ≡ map plain gs
+plain-all : (m : ℕ) (gs : Glyphs) → map plain (map (in_cluster m) gs) ≡ map plain gs
 plain-all m [] = refl
-plain-all m (g ∷ gs) = search (arith, refl, plain-all m gs)
+plain-all m (g ∷ gs) = search (arith, plain-all m gs)
 
-plain-grouped : (groups : List Group) (gs : List hb_glyph_info_t) →
+plain-grouped : (groups : List Group) (gs : Glyphs) →
     map plain (grouped groups gs) ≡ map plain (take (len_of groups) gs)
 plain-grouped [] gs = refl
-plain-grouped (group ∷ groups) gs =
-    search (arith, map-append, plain-all, take-add, plain-grouped groups (drop group.len gs))
+plain-grouped (group ∷ groups) gs = search (map-append, plain-all, take-add, plain-grouped groups (drop group.len gs))
 
-grouped_front : (groups : List Group) (xs ys : List hb_glyph_info_t) → len_of groups ≤ length xs →
+grouped_front : (groups : List Group) (xs ys : Glyphs) → len_of groups ≤ length xs →
     grouped groups (xs ++ ys) ≡ grouped groups xs
 grouped_front [] xs ys within = refl
-grouped_front (group ∷ groups) xs ys within =
-    search (
-      arith,
-      take-append-le,
-      drop-append-le,
-      grouped_front groups (drop group.len xs) ys (omega (arith, length-drop group.len xs)),
-    )
+grouped_front (group ∷ groups) xs ys within = search (
+  arith,
+  take-append-le,
+  drop-append-le,
+  grouped_front groups (drop group.len xs) ys (omega (arith, length-drop group.len xs)),
+)
 
-least_other : (groups : List Group) (xs ys zs : List hb_glyph_info_t) → len_of groups ≤ length xs →
+least_other : (groups : List Group) (xs ys zs : Glyphs) → len_of groups ≤ length xs →
     LeastIn groups (xs ++ ys) → LeastIn groups (xs ++ zs)
 least_other [] xs ys zs within all = tt
-least_other (group ∷ groups) xs ys zs within all =
-    search (
-      arith,
-      take-append-le,
-      drop-append-le,
-      least_other groups (drop group.len xs) ys zs (omega (arith, length-drop group.len xs))
-          (subst (LeastIn groups) (drop-append-le group.len xs ys (omega arith)) all.1),
-    )
+least_other (group ∷ groups) xs ys zs within all = search (
+  arith,
+  take-append-le,
+  drop-append-le,
+  least_other groups (drop group.len xs) ys zs (omega (arith, length-drop group.len xs))
+      (subst (LeastIn groups) (drop-append-le group.len xs ys (omega arith)) all.1),
+)
 
 -- the first part in the clusters of groups
-pub front_view : (it : CarriedGroups) (groups : List Group) (gs : List hb_glyph_info_t) →
+pub front_view : (it : CarriedGroups) (groups : List Group) (gs : Glyphs) →
     it.start + len_of groups ≡ it.end → map plain (groups_in_front it groups gs) ≡ take it.end (map plain gs)
-front_view it groups gs span = search (arith, map-append, plain-grouped, take-add, take-map)
+front_view = search (arith, map-append, plain-grouped, take-add, take-map)
 
-list_is : (it : CarriedGroups) (groups : List Group) (gs : List hb_glyph_info_t) →
+list_is : (it : CarriedGroups) (groups : List Group) (gs : Glyphs) →
     with_list it groups gs ≡ groups_in_front it groups gs ++ drop it.end gs
-list_is it groups gs = search (arith, append_assoc)
+list_is = search append_assoc
 
-pub order_view-groups : (it : CarriedGroups) (gs : List hb_glyph_info_t) →
+pub order_view-groups : (it : CarriedGroups) (gs : Glyphs) →
     it.start + len_of it.groups.items ≡ it.end → order_view (with_groups it gs) ≡ order_view gs
-order_view-groups it gs span =
-    cc (
-      list_is it it.groups.items gs,
-      map-append plain (groups_in_front it it.groups.items gs) (drop it.end gs),
-      front_view it it.groups.items gs span,
-      drop-map plain it.end gs,
-      take-append-drop it.end (map plain gs),
-    )
+order_view-groups it gs span = cc (
+  list_is it it.groups.items gs,
+  map-append plain (groups_in_front it it.groups.items gs) (drop it.end gs),
+  front_view it it.groups.items gs span,
+  drop-map plain it.end gs,
+  take-append-drop it.end (map plain gs),
+)
 
-pub length_groups : (it : CarriedGroups) (gs : List hb_glyph_info_t) →
+pub length_groups : (it : CarriedGroups) (gs : Glyphs) →
     it.start + len_of it.groups.items ≡ it.end → length (with_groups it gs) ≡ length gs
 length_groups it gs span =
     cc (length-map (with_groups it gs) plain, order_view-groups it gs span, length-map gs plain)
 
 -- what stands behind them
-pub behind_groups : (it : CarriedGroups) (start : ℕ) (gs : List hb_glyph_info_t) → AreCarried it gs → it.end ≤ start →
+pub behind_groups : (it : CarriedGroups) (start : ℕ) (gs : Glyphs) → AreCarried it gs → it.end ≤ start →
     drop start (with_groups it gs) ≡ drop start gs
 behind_groups it start gs fits further =
     let front = groups_in_front it it.groups.items gs in
@@ -88,34 +84,32 @@ behind_groups it start gs fits further =
     )
 
 -- GUARDED: nothing but clusters is another one while groups are shown
-pub guarded_view : (first end count : ℕ) (it after : CarriedGroups) (gs hs : List hb_glyph_info_t) → AreCarried it gs →
+pub guarded_view : (first end count : ℕ) (it after : CarriedGroups) (gs hs : Glyphs) → AreCarried it gs →
     GroupsGuarded first end it gs after count hs → order_view hs ≡ order_view gs
-guarded_view first end count it after gs hs fits g =
-    search (arith, g.none, order_view-groups)
+guarded_view first end count it after gs hs fits g = search (arith, order_view-groups)
 
-pub guarded_length : (first end count : ℕ) (it after : CarriedGroups) (gs hs : List hb_glyph_info_t) →
+pub guarded_length : (first end count : ℕ) (it after : CarriedGroups) (gs hs : Glyphs) →
     AreCarried it gs → GroupsGuarded first end it gs after count hs → length hs ≡ length gs
 guarded_length first end count it after gs hs fits g =
     cc (length-map hs plain, guarded_view first end count it after gs hs fits g, length-map gs plain)
 
-pub fallen_len : (count : ℕ) (before : CarriedGroups) (Y : List hb_glyph_info_t) → count ≤ length before.groups.items →
+pub fallen_len : (count : ℕ) (before : CarriedGroups) (Y : Glyphs) → count ≤ length before.groups.items →
     count ≤ before.end → before.end ≤ length Y → len_of (fallen_groups count before Y) ≡ len_of before.groups.items
 fallen_len count before Y many room within =
     let items = before.groups.items in
     let i = length items - count in
-    let sn : length
-    (stretch_of (before.end - count) before.end Y) ≡ length (drop i items) =
+    let sn : length (stretch_of (before.end - count) before.end Y) ≡ length (drop i items) =
     search (arith, length-stretch, length-drop) in
     let whole : items ≡ take i items ++ drop i items = sym (take-append-drop i items) in
     search (arith, len_of-append, len_of-read)
 
 -- SETTLED: other glyphs, as many, of which those before what was shown are the same
-pub record ShownSettles (first count : ℕ) (before after : CarriedGroups) (between new : List hb_glyph_info_t) : Type 0 where
+pub record ShownSettles (first count : ℕ) (before after : CarriedGroups) (between new : Glyphs) : Type 0 where
   pub can : CanSettle after count new
-  pub made : (final : CarriedGroups) (hs : List hb_glyph_info_t) → GroupsSettled after count new final hs →
+  pub made : (final : CarriedGroups) (hs : Glyphs) → GroupsSettled after count new final hs →
       with_groups final hs ≡ groups_in_front before (fallen_groups count before new) between ++ drop first new
 
-pub shown_settles : (first count : ℕ) (before after : CarriedGroups) (between hs new : List hb_glyph_info_t) →
+pub shown_settles : (first count : ℕ) (before after : CarriedGroups) (between hs new : Glyphs) →
     AreCarried before between → before.end ≡ first → 0 < count → count ≤ length before.groups.items →
     AreShown count before between after hs → length new ≡ length between →
     take (first - count - 1) new ≡ take (first - count - 1) between → ShownSettles first count before after between new
@@ -158,7 +152,7 @@ shown_settles first count before after between hs new fits at some many is same_
         fits = λ _. record {
           span = omega (arith, ap len_of after_items);
           within =
-              omega (arith, ap length z_is, length-append (take first between) (drop first new), length-drop first new);
+              omega (arith, ap length z_is, length-append (take first between) (drop first new));
           least = subst (λ l. LeastIn after.groups.items (drop after.start l)) (sym z_is)
               (subst (λ k. LeastIn after.groups.items (drop k Z)) (sym after_start)
               (subst (λ l. LeastIn l (drop before.start Z)) (sym after_items)
@@ -176,16 +170,15 @@ shown_settles first count before after between hs new fits at some many is same_
     }
 
 -- A CHANGE of what is guarded, settled: the same change of the glyphs with the groups in their clusters
-pub record GuardedChange (after : CarriedGroups) (count : ℕ) (meant new : List hb_glyph_info_t) : Type 0 where
+pub record GuardedChange (after : CarriedGroups) (count : ℕ) (meant new : Glyphs) : Type 0 where
   pub can : CanSettle after count new
-  pub made : (final : CarriedGroups) (hs : List hb_glyph_info_t) → GroupsSettled after count new final hs →
+  pub made : (final : CarriedGroups) (hs : Glyphs) → GroupsSettled after count new final hs →
       with_groups final hs ≡ meant
 
-pub guarded_change : (first end count : ℕ) (over : Change) (it after : CarriedGroups) (gs hs : List hb_glyph_info_t) →
-    first ≤ end → end ≤ length gs → AreCarried it gs → GroupsGuarded first end it gs after count hs →
-    ((xs : List hb_glyph_info_t) → length (over xs) ≡ length xs) →
-    (0 < count → ChangesBehind first end (length gs) count over) →
-    GuardedChange after count (over (with_groups it gs)) (over hs)
+pub guarded_change : (first end count : ℕ) (over : Change) (it after : CarriedGroups) (gs hs : Glyphs) → first ≤ end
+    → end ≤ length gs → AreCarried it gs → GroupsGuarded first end it gs after count hs
+    → ((xs : Glyphs) → length (over xs) ≡ length xs) → (0 < count → ChangesBehind first end (length gs) count over)
+    → GuardedChange after count (over (with_groups it gs)) (over hs)
 guarded_change first end count over it after gs hs order within fits g long changes =
     let before = g.before in
     let between = g.between in

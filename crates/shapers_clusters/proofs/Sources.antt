@@ -1,7 +1,7 @@
 -- Made and dropped glyphs: a result that has, place by place, the clusters of listed old places, its sources.
 use Rattle.std.proofs.Common.{ℕ, ◌-◌, ◌<◌, ◌≡◌, true, List, length, get_or, sym, ◌∙◌, subst, arith}
 use Rattle.std.specs.List.{AllByRecursion}
-use Rattle.shapers_buffer.specs.declared.buffer.glyph.hb_glyph_info_t.{hb_glyph_info_t}
+use Rattle.shapers_buffer.specs.Glyphs.{Glyphs}
 use Rattle.shapers_buffer.specs.declared.buffer.level.BufferClusterLevel.{BufferClusterLevel}
 use Rattle.shapers_buffer.specs.Glyph.{clusters}
 use Rattle.shapers_buffer.specs.Clusters.{merge_all, merges}
@@ -23,9 +23,9 @@ exact_cuts_by level m sts cs sources w mono s =
     let x = exact_cuts level m sts cs w mono in
     let v = subst (λ n. AllByRecursion (λ p. p < n) sources) (sym n) s in
     let at : (i : ℕ) → i < length sources → get_or (pick sources js) i 0 ≡ get_or js (get_or sources i 0) 0 =
-    search (arith, get_or-pick) in
+    search get_or-pick in
     let old : (i : ℕ) → i < length sources → get_or sources i 0 < length cs =
-    search (arith, within_at) in
+    search within_at in
     record {
       as_many = length-pick sources js v;
       cuts = λ i z l. (
@@ -56,7 +56,7 @@ sources_share level m sts cs sources w s i j il jl h =
     ))
 
 -- the clusters and the falls of what is picked from merged glyphs
-pub clusters-picked : (level : BufferClusterLevel) (sts : List (ℕ × ℕ)) (sources : List ℕ) (gs : List hb_glyph_info_t)
+pub clusters-picked : (level : BufferClusterLevel) (sts : List (ℕ × ℕ)) (sources : List ℕ) (gs : Glyphs)
     → clusters (pick sources (merge_all level sts gs)) ≡ pick sources (joined_all level sts (clusters gs))
 clusters-picked level sts sources gs =
     cc (pick-map (λ g. g.cluster) sources (merge_all level sts gs), clusters-merge_all level sts gs)

@@ -1,9 +1,9 @@
 -- Exact cuts after steps that spare what merged, where all clusters are different.
-use Rattle.std.proofs.Common.{ℕ, zero, suc, ◌+◌, ◌-◌, ◌==◌, ◌<◌, ◌≤◌, ◌≡◌, ◌≢◌, Bool, true, false, not, if◌then◌else◌, inl, inr, List, [], ◌∷◌, map, length, get_or, eqb, min, max, sym, ◌∙◌, ap, subst, arith}
+use Rattle.std.proofs.Common.{ℕ, zero, suc, ◌+◌, ◌-◌, ◌==◌, ◌<◌, ◌≤◌, ◌≡◌, Bool, true, false, not, if◌then◌else◌, inl, inr, List, [], ◌∷◌, map, length, get_or, eqb, min, max, sym, ◌∙◌, ap, subst, arith}
 use Rattle.std.specs.List.{AllByRecursion, prefix_len, range_with_len}
 use Rattle.std.specs.List.Sorted.{IsPermutation}
 use Rattle.std.proofs.lemmas.Bool.{cases_Bool, cases_lt}
-use Rattle.std.proofs.lemmas.Bool.Decides.{Decides-eqb, nat_tests}
+use Rattle.std.proofs.lemmas.Bool.Decides.{Decides-eqb}
 use Rattle.std.proofs.lemmas.List.{ext_get_or, get_or-map, length-map}
 use Rattle.std.proofs.lemmas.List.FromFn.{get_or-range_with_len, length-range_with_len}
 use Rattle.std.proofs.lemmas.List.Sums.{prefix_len_passes, prefix_len_stops}
@@ -25,7 +25,7 @@ use Rattle.shapers_clusters.proofs.StaysMerged.{merged_stay}
 
 -- numbers that differ still do in another order
 eqb_flips : (a b : ℕ) → eqb a b ≡ eqb b a
-eqb_flips a b = grind (arith, nat_tests)
+eqb_flips = grind arith
 
 pub different_permuted : (xs ys : List ℕ) → IsPermutation xs ys → AllDifferent xs → AllDifferent ys
 different_permuted xs ys perm h =
@@ -35,7 +35,7 @@ different_permuted xs ys perm h =
 -- of numbers that differ, equal ones stand at one place
 pub one_place : (xs : List ℕ) → AllDifferent xs → (i j : ℕ) → i < length xs → j < length xs
     → get_or xs i 0 ≡ get_or xs j 0 → i ≡ j
-one_place xs h i j l m e = search arith
+one_place = search arith
 
 different_range : (n : ℕ) → AllDifferent (range_with_len 0 n)
 different_range n i j d l m e =
@@ -52,14 +52,14 @@ abbrev place_of : List ℕ → ℕ → ℕ
 place_of xs q = prefix_len (is_other q) xs
 
 not_other : (q x : ℕ) → is_other q x ≡ false → x ≡ q
-not_other q x h = grind (arith, nat_tests)
+not_other = grind arith
 
 place_of_at : (xs : List ℕ) → AllDifferent xs → (i : ℕ) → i < length xs → place_of xs (get_or xs i 0) ≡ i
 place_of_at xs different i l =
     let q = get_or xs i 0 in
     let k = place_of xs q in
     elim (cases_lt i k) [
-      | inl a ↦ search (arith, nat_tests, prefix_len_passes)
+      | inl a ↦ search (arith, prefix_len_passes)
       | inr a ↦ one_place xs different k i (omega arith) l
           (not_other q (get_or xs k 0) (prefix_len_stops (is_other q) xs 0 (omega arith)))
     ]
@@ -69,7 +69,7 @@ abbrev labels_before : ℕ → List ℕ → List ℕ → List ℕ
 labels_before n olds ms = map (λ q. get_or ms (place_of olds q) 0) (range_with_len 0 n)
 
 length-labels_before : (n : ℕ) (olds ms : List ℕ) → length (labels_before n olds ms) ≡ n
-length-labels_before n olds ms = search (arith, length-map, length-range_with_len)
+length-labels_before = search (length-map, length-range_with_len)
 
 -- the blocks, numbered
 number_of : List (ℕ × ℕ) → ℕ → ℕ
@@ -87,11 +87,10 @@ number_cut sts p h = cc
 number_rises : (sts : List (ℕ × ℕ)) (p k : ℕ) → number_of sts p ≤ number_of sts (p + k)
 number_rises sts p zero = search arith
 number_rises sts p (suc k) =
-    let i : suc (p + k) ≡ p + suc k = omega arith in
-    search (arith, number_held, number_cut, number_rises sts p k)
+    let i : suc (p + k) ≡ p + suc k = omega arith in search (arith, number_held, number_cut, number_rises sts p k)
 
 number_to : (sts : List (ℕ × ℕ)) (p q : ℕ) → p ≤ q → number_of sts p ≤ number_of sts q
-number_to sts p q l = search (arith, number_rises sts p (q - p))
+number_to sts p q = search (arith, number_rises sts p (q - p))
 
 -- one number exactly where all neighbours between are held
 held_between : (sts : List (ℕ × ℕ)) (p q : ℕ) → p ≤ q → number_of sts p ≡ number_of sts q → (r : ℕ) → p < r → r ≤ q
@@ -117,28 +116,26 @@ held_in_block sts p q same r a b = elim (cases_lt q p) [
 one_number : (sts : List (ℕ × ℕ)) (p k : ℕ) → ((r : ℕ) → p < r → r ≤ p + k → held sts r ≡ true)
     → number_of sts (p + k) ≡ number_of sts p
 one_number sts p zero h = search arith
-one_number sts p (suc k) h =
-    search (
-      arith,
-      number_held sts (p + k) (h (suc (p + k)) (omega arith) (omega arith)),
-      one_number sts p k (λ r a b. h r a (omega arith)),
-    )
+one_number sts p (suc k) h = search (
+  arith,
+  number_held sts (p + k) (h (suc (p + k)) (omega arith) (omega arith)),
+  one_number sts p k (λ r a b. h r a (omega arith)),
+)
 
 stretch_numbers : List (ℕ × ℕ) → ℕ → List ℕ
 stretch_numbers sts n = map (number_of sts) (range_with_len 0 n)
 
 number_at : (sts : List (ℕ × ℕ)) (n p : ℕ) → p < n → get_or (stretch_numbers sts n) p 0 ≡ number_of sts p
 unfolding stretch_numbers
-number_at sts n p l =
-    search (
-      arith,
-      get_or-map (number_of sts) (range_with_len 0 n) p 0 0 (omega (arith, length-range_with_len 0 n)),
-      get_or-range_with_len 0 n p 0 l,
-    )
+number_at sts n p l = search (
+  arith,
+  get_or-map (number_of sts) (range_with_len 0 n) p 0 0 (omega (arith, length-range_with_len 0 n)),
+  get_or-range_with_len 0 n p 0 l,
+)
 
 length-numbers : (sts : List (ℕ × ℕ)) (n : ℕ) → length (stretch_numbers sts n) ≡ n
 unfolding stretch_numbers
-length-numbers sts n = search (arith, length-map, length-range_with_len)
+length-numbers = search (length-map, length-range_with_len)
 
 -- each stretch has one number
 one_in_stretch : (sts : List (ℕ × ℕ)) (n : ℕ) (st : ℕ × ℕ) → st.1 ≤ n → HeldIn sts st
@@ -158,12 +155,11 @@ one_in_stretch sts n st end inside p q pl ph ql qh =
 one_each : (sts : List (ℕ × ℕ)) (n : ℕ) (xs : List (ℕ × ℕ)) → EndWithin n xs → AllByRecursion (HeldIn sts) xs
     → AllByRecursion (OneAlong (stretch_numbers sts n)) xs
 one_each sts n [] ends inside = tt
-one_each sts n (x ∷ xs) ends inside = search (arith, one_in_stretch, one_each sts n xs ends.1 inside.1)
+one_each sts n (x ∷ xs) ends inside = search (one_in_stretch, one_each sts n xs ends.1 inside.1)
 
 pub end_within-all_merged : (n : ℕ) (steps : List Step) → FitSteps n steps → EndWithin n (all_merged steps)
 end_within-all_merged n [] fits = tt
-end_within-all_merged n (step ∷ steps) fits =
-    search (arith, end_within-append, end_within-all_merged n steps fits.1)
+end_within-all_merged n (step ∷ steps) fits = search (end_within-append, end_within-all_merged n steps fits.1)
 
 -- no cluster rises
 falls_step : (n : ℕ) (level : BufferClusterLevel) (step : Step) (cs ds : List ℕ) → length cs ≡ n → length ds ≡ n
@@ -172,7 +168,7 @@ falls_step : (n : ℕ) (level : BufferClusterLevel) (step : Step) (cs ds : List 
 falls_step n level step cs ds long many fits low p l =
     let s = stepped n level step cs long fits in
     let js = joined_all level step.merged_first cs in
-    let pl : p < length step.places = omega (arith, fits.as_many) in
+    let pl : p < length step.places = omega arith in
     let q = get_or step.places p 0 in
     omega (
       arith,
@@ -191,8 +187,7 @@ falls_steps n level (step ∷ steps) cs ds long many fits low =
     let within : AllByRecursion (λ p. p < length ds) step.places =
     subst (λ k. AllByRecursion (λ p. p < k) step.places) (sym many) fits.0.within in
     falls_steps n level steps (joined_step level step cs) (pick step.places ds)
-    (stepped n level step cs long fits.0).as_many
-    (search (arith, length-pick)) fits.1 (search (arith, falls_step))
+    (stepped n level step cs long fits.0).as_many (search length-pick) fits.1 (search falls_step)
 
 -- what is known of such steps, by places: the numbers of blocks as labels
 record Numbered (sts : List (ℕ × ℕ)) (n : ℕ) (ds js : List ℕ) : Type 0 where
@@ -247,8 +242,7 @@ labelled_by level n steps cs ls ms long ll fits perm spare different picked one 
       joined_steps-labels level steps cs ls (subst (λ k. FitSteps k steps) (sym long) fits)
           (record {
             as_many = ll ∙ sym long;
-            agree = λ p q pl ql same. ap (λ k. get_or ls k 0) (one_place cs
-                different p q pl ql same);
+            agree = λ p q pl ql same. ap (λ k. get_or ls k 0) (one_place cs different p q pl ql same);
           }) (labels_as_merged n steps ls ll fits perm spare (search arith)),
     )
 
@@ -266,27 +260,20 @@ numbered level m n steps cs long fits perm spare different =
     let picked =
     let ms = stretch_numbers sts n in
     let ls = labels_before n olds ms in
-    let there : AllByRecursion (λ p. p < length ls) olds = search (arith, length-labels_before) in ext_get_or 0 (pick
-    olds ls) ms (search (arith, length-pick, length-numbers)) (λ p l. let pn : p < n =
+    let there : AllByRecursion (λ p. p < length ls) olds = search length-labels_before in ext_get_or 0 (pick
+    olds ls) ms (search (length-pick, length-numbers)) (λ p l. let pn : p < n =
     omega (arith, length-pick olds ls there) in get_or-pick 0 olds ls there p (omega arith)
     ∙ (let q = get_or olds p 0 in let ql : q < n = search (arith, within_at) in search (
       arith,
       get_or-map (λ q.
           get_or ms (place_of olds q) 0) (range_with_len 0 n) q 0 0 (omega (arith, length-range_with_len 0 n)),
       get_or-range_with_len 0 n q 0 ql,
-      place_of_at olds (search (arith, different_permuted, different_range)) p (omega
-          arith),
+      place_of_at olds (search (arith, different_permuted, different_range)) p (omega arith),
     ))) in
     let one = one_each sts n sts (end_within-all_merged n steps fits) (all_held sts) in
     numbered_by sts n olds cs (labels_before n olds ms)
-    (joined_steps level steps cs) long ol ll order within different picked
-    (search (arith, labelled_by))
-    (λ p z l h. search (arith, held_label, merged_stay))
-    (λ p l. search (arith, moved_by_old_places, falls_steps))
-
--- so the cuts are exact
-not_equal : (a b : ℕ) → a ≢ b → (a == b) ≡ false
-not_equal a b ne = grind (arith, nat_tests)
+    (joined_steps level steps cs) long ol ll order within different picked (search labelled_by)
+    (λ p z l h. search (held_label, merged_stay)) (λ p l. search (arith, moved_by_old_places, falls_steps))
 
 exact_numbered : (sts : List (ℕ × ℕ)) (n : ℕ) (ds js : List ℕ) → Numbered sts n ds js → ExactCuts ds sts js
 exact_numbered sts n ds js f =
@@ -309,12 +296,11 @@ exact_numbered sts n ds js f =
       reached = λ p l.
           let (q, qn, number, cluster) = f.of_block p (omega arith) in
           search (arith, held_in_block);
-      least = search (arith, share_all, f.falls);
+      least = search (arith, share_all);
     }
 
 pub exact_spared : (level : BufferClusterLevel) → merges level ≡ true → (n : ℕ) (steps : List Step) (cs : List ℕ)
     → length cs ≡ n → FitSteps n steps → AllByRecursion (Permutes n) steps → SpareMerged n steps → AllDifferent cs
     → ExactCuts (pick (old_places n steps) cs) (all_merged steps) (joined_steps level steps cs)
 exact_spared level m n steps cs long fits perm spare different =
-    exact_numbered (all_merged steps) n (pick (old_places n steps) cs) (joined_steps level steps cs)
-    (search (arith, numbered))
+    exact_numbered (all_merged steps) n (pick (old_places n steps) cs) (joined_steps level steps cs) (search numbered)

@@ -15,21 +15,18 @@ moved_by s st = (s + st.0, s + st.1)
 spares_widened : (s e n : ℕ) (step : Step) → s ≤ e → e ≤ n → FitsStep (e - s) step → (st : ℕ × ℕ) → st.1 ≤ e - s
     → Spares (e - s) st step → Spares n (moved_by s st) (widened s e n step)
 spares_widened s e n step l m fits st w (inr moves) = inr (moves-widened s e n step l m moves)
-spares_widened s e n step l m fits st w (inl stays) =
-    inl (λ p a b. search (arith, widened_inside))
+spares_widened s e n step l m fits st w (inl stays) = inl (λ p a b. search (arith, widened_inside))
 
 spares_all : (s e n : ℕ) (steps : List Step) → s ≤ e → e ≤ n → FitSteps (e - s) steps → (st : ℕ × ℕ) → st.1 ≤ e - s
     → AllByRecursion (Spares (e - s) st) steps → AllByRecursion (Spares n (moved_by s st)) (map (widened s e n) steps)
 spares_all s e n [] l m fits st w h = tt
-spares_all s e n (step ∷ steps) l m fits st w h =
-    search (arith, spares_widened, spares_all s e n steps l m fits.1 st w h.1)
+spares_all s e n (step ∷ steps) l m fits st w h = search (spares_widened, spares_all s e n steps l m fits.1 st w h.1)
 
 spares_each : (s e n : ℕ) (steps : List Step) → s ≤ e → e ≤ n → FitSteps (e - s) steps → (sts : List (ℕ × ℕ))
     → EndWithin (e - s) sts → AllByRecursion (λ st. AllByRecursion (Spares (e - s) st) steps) sts
     → AllByRecursion (λ st. AllByRecursion (Spares n st) (map (widened s e n) steps)) (shifted s sts)
 spares_each s e n steps l m fits [] w h = tt
-spares_each s e n steps l m fits (st ∷ sts) w h =
-    search (arith, spares_all, spares_each s e n steps l m fits sts w.1 h.1)
+spares_each s e n steps l m fits (st ∷ sts) w h = search (spares_all, spares_each s e n steps l m fits sts w.1 h.1)
 
 -- the steps of a syllable widened, and steps behind it that leave what is before them
 abbrev StayBefore : ℕ → Step → Type 0
@@ -44,8 +41,7 @@ too : (n t : ℕ) (steps more : List Step) → AllByRecursion (StayBefore t) mor
     → AllByRecursion (λ st. AllByRecursion (Spares n st) steps) sts
     → AllByRecursion (λ st. AllByRecursion (Spares n st) (steps ++ more)) sts
 too n t steps more behind [] w h = tt
-too n t steps more behind (st ∷ sts) w h =
-    search (arith, all-append, all_stay, too n t steps more behind sts w.1 h.1)
+too n t steps more behind (st ∷ sts) w h = search (all-append, all_stay, too n t steps more behind sts w.1 h.1)
 
 own_widened : (s e n : ℕ) (step : Step) → s ≤ e → e ≤ n → (step.merged_first ≡ []) ⊎ MovesMerged (e - s) step
     → ((widened s e n step).merged_first ≡ []) ⊎ MovesMerged n (widened s e n step)
@@ -74,14 +70,12 @@ spare_widened s e n (step ∷ steps) more l m fits spare behind rest =
 -- all of them
 stay_widened : (t s e n : ℕ) (steps : List Step) → t ≤ s → AllByRecursion (StayBefore t) (map (widened s e n) steps)
 stay_widened t s e n [] l = tt
-stay_widened t s e n (step ∷ steps) l =
-    search (arith, widened_before, stay_widened t s e n steps l)
+stay_widened t s e n (step ∷ steps) l = search (arith, widened_before, stay_widened t s e n steps l)
 
 stay_along : (t n s : ℕ) (pieces : List (ℕ × List Step)) → t ≤ s
     → AllByRecursion (StayBefore t) (steps_along n s pieces)
 stay_along t n s [] l = tt
-stay_along t n s (piece ∷ rest) l =
-    search (arith, all-append, stay_widened, stay_along t n (s + piece.0) rest (omega arith))
+stay_along t n s (piece ∷ rest) l = search (all-append, stay_widened, stay_along t n (s + piece.0) rest (omega arith))
 
 pub spare_along : (n s : ℕ) (pieces : List (ℕ × List Step)) → s + sum_by (λ piece. piece.0) pieces ≤ n
     → AllByRecursion (λ piece. FitSteps piece.0 piece.1) pieces

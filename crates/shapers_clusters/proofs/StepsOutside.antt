@@ -2,7 +2,6 @@
 use Rattle.std.proofs.Common.{ℕ, suc, ◌+◌, ◌-◌, ◌<◌, ◌≤◌, ◌≡◌, ◌⊎◌, inl, inr, nat_lt, not, ◌&&◌, if◌then◌else◌, List, [], ◌∷◌, length, map, get_or, refl, sym, ◌∙◌, ap, subst, arith}
 use Rattle.std.specs.List.{AllByRecursion, range_with_len, sum_by}
 use Rattle.std.proofs.lemmas.Bool.{cases_lt}
-use Rattle.std.proofs.lemmas.Bool.Decides.{nat_tests}
 use Rattle.std.proofs.lemmas.List.{ext_get_or, get_or-map, length-map}
 use Rattle.std.proofs.lemmas.List.FromFn.{get_or-range_with_len, length-range_with_len}
 use Rattle.std.proofs.lemmas.List.Sums.{sum_by-cons}
@@ -36,7 +35,7 @@ pub record Elsewhere (s e n : ℕ) (step : Step) : Type 0 where
 
 fits_elsewhere : (s e n : ℕ) (steps : List Step) → AllByRecursion (Elsewhere s e n) steps → FitSteps n steps
 fits_elsewhere s e n [] h = tt
-fits_elsewhere s e n (step ∷ steps) h = search (arith, fits_elsewhere s e n steps h.1)
+fits_elsewhere s e n (step ∷ steps) h = search (fits_elsewhere s e n steps h.1)
 
 -- neighbours in it that share a cluster still do; clusters that are its own stay, and stay its own
 pub record Leaves (s e : ℕ) (cs js : List ℕ) : Type 0 where
@@ -51,29 +50,27 @@ mark s e cs p = if not (nat_lt p s) && nat_lt p e then suc (get_or cs p 0) else 
 
 mark_inside : (s e : ℕ) (cs : List ℕ) (p : ℕ) → s ≤ p → p < e → mark s e cs p ≡ suc (get_or cs p 0)
 unfolding mark
-mark_inside s e cs p a b = grind (arith, nat_tests)
+mark_inside = grind arith
 
 mark_outside : (s e : ℕ) (cs : List ℕ) (p : ℕ) → Outside s e p → mark s e cs p ≡ 0
 unfolding mark
-mark_outside s e cs p (inl a) = grind (arith, nat_tests)
-mark_outside s e cs p (inr a) = grind (arith, nat_tests)
+mark_outside s e cs p (inl a) = grind arith
+mark_outside s e cs p (inr a) = grind arith
 
 marks : ℕ → ℕ → List ℕ → List ℕ
 marks s e cs = map (mark s e cs) (range_with_len 0 (length cs))
 
 length-marks : (s e : ℕ) (cs : List ℕ) → length (marks s e cs) ≡ length cs
 unfolding marks
-length-marks s e cs = search (arith, length-map, length-range_with_len)
+length-marks = search (length-map, length-range_with_len)
 
 mark_at : (s e : ℕ) (cs : List ℕ) (p : ℕ) → p < length cs → get_or (marks s e cs) p 0 ≡ mark s e cs p
 unfolding marks
-mark_at s e cs p l =
-    search (
-      arith,
-      get_or-map (mark s e cs) (range_with_len 0 (length cs)) p 0 0
-          (omega (arith, length-range_with_len 0 (length cs))),
-      get_or-range_with_len 0 (length cs) p 0 l,
-    )
+mark_at s e cs p l = search (
+  arith,
+  get_or-map (mark s e cs) (range_with_len 0 (length cs)) p 0 0 (omega (arith, length-range_with_len 0 (length cs))),
+  get_or-range_with_len 0 (length cs) p 0 l,
+)
 
 inside_or_not : (s e p : ℕ) → ((s ≤ p) × (p < e)) ⊎ Outside s e p
 inside_or_not s e p = elim (cases_lt p s) [
@@ -96,8 +93,7 @@ marks_stay s e cs step h =
     let ms = marks s e cs in
     let n = length-marks s e cs in
     let fits = h.fits in
-    let within = subst (λ k. AllByRecursion (λ p. p < k)
-    step.places) (sym n) fits.within in
+    let within = subst (λ k. AllByRecursion (λ p. p < k) step.places) (sym n) fits.within in
     let long = length-pick step.places ms within ∙ fits.as_many ∙ sym n in
     cc (ext_get_or 0 (pick step.places ms) ms long (λ p l. let pl : p < length cs = omega arith in
     let q = get_or step.places p 0 in
@@ -112,13 +108,12 @@ marks_stay s e cs step h =
 marked_each : (s e : ℕ) (cs : List ℕ) (steps : List Step) → AllByRecursion (Elsewhere s e (length cs)) steps
     → OneLabelEach steps (marks s e cs)
 marked_each s e cs [] h = tt
-marked_each s e cs (step ∷ steps) h =
-    search (arith, no_mark, marks_stay, marked_each s e cs steps h.1)
+marked_each s e cs (step ∷ steps) h = search (no_mark, marks_stay, marked_each s e cs steps h.1)
 
 marks_stay_all : (s e : ℕ) (cs : List ℕ) (steps : List Step) → AllByRecursion (Elsewhere s e (length cs)) steps
     → moved_on steps (marks s e cs) ≡ marks s e cs
 marks_stay_all s e cs [] h = refl
-marks_stay_all s e cs (step ∷ steps) h = search (arith, marks_stay, marks_stay_all s e cs steps h.1)
+marks_stay_all s e cs (step ∷ steps) h = search (marks_stay, marks_stay_all s e cs steps h.1)
 
 -- neighbours
 shared_step : (s e : ℕ) (level : BufferClusterLevel) (n : ℕ) (step : Step) (cs : List ℕ) → length cs ≡ n → e ≤ n
@@ -141,8 +136,7 @@ shared_steps : (s e : ℕ) (level : BufferClusterLevel) (n : ℕ) (steps : List 
 shared_steps s e level n [] cs long end h p a b same = same
 shared_steps s e level n (step ∷ steps) cs long end h p a b same =
     let f = stepped n level step cs long h.0.fits in
-    shared_steps s e level n steps (joined_step level step cs) f.as_many end h.1 p a b
-    (search (arith, shared_step))
+    shared_steps s e level n steps (joined_step level step cs) f.as_many end h.1 p a b (search shared_step)
 
 -- all of it
 leaves_apart : (s e : ℕ) (level : BufferClusterLevel) (steps : List Step) (cs : List ℕ) → e ≤ length cs
@@ -157,8 +151,7 @@ leaves_apart s e level steps cs end h apart =
     let stay : pick (old_places n steps) ms ≡ ms =
     search (arith, moved_by_old_places, length-marks, marks_stay_all) in
     let done : Labelled cs ms js ms =
-    subst (Labelled cs ms js) stay
-    (joined_steps-labels level steps cs ms
+    subst (Labelled cs ms js) stay (joined_steps-labels level steps cs ms
     (fits_elsewhere s e n steps h) (
     search (arith, length-marks, mark_at, mark_inside, mark_outside)) (marked_each s e cs steps h)) in
     let jl : length js ≡ n = search (arith, length-marks) in (
@@ -186,7 +179,7 @@ leaves_elsewhere s e level n steps cs long end h =
       same_length =
           (all-joined_steps (λ _. Unit {0}) level n steps cs long (fits_elsewhere s e n steps h) (λ _ _ _. tt)).0
           ∙ sym long;
-      shared = search (arith, shared_steps);
+      shared = search shared_steps;
       own = λ apart. (lone apart).1;
       apart = λ apart. (lone apart).2;
     }
@@ -195,24 +188,23 @@ leaves_elsewhere s e level n steps cs long end h =
 beside_shifted : (s e a b : ℕ) (sts : List (ℕ × ℕ)) → a ≤ b → EndWithin (b - a) sts → (b ≤ s) ⊎ (e ≤ a)
     → AllByRecursion (Beside s e) (shifted a sts)
 beside_shifted s e a b [] l ends out = tt
-beside_shifted s e a b (st ∷ sts) l ends out =
-    search (arith, beside_shifted s e a b sts l ends.1 out)
+beside_shifted s e a b (st ∷ sts) l ends out = search (arith, beside_shifted s e a b sts l ends.1 out)
 
 widened_elsewhere : (s e a b n : ℕ) (step : Step) → a ≤ b → b ≤ n → e ≤ n → FitsStep (b - a) step → (b ≤ s) ⊎ (e ≤ a)
     → Elsewhere s e n (widened a b n step)
 widened_elsewhere s e a b n step l m end fits out = record {
   fits = fits-widened a b n step l m fits;
-  first = search (arith, beside_shifted);
-  last = search (arith, beside_shifted);
+  first = search beside_shifted;
+  last = search beside_shifted;
   stays = search (arith, widened_behind, widened_before);
   outside = λ p pn x. elim (cases_lt p a) [
-    | inl c ↦ search (arith, widened_before)
+    | inl c ↦ search widened_before
     | inr c ↦ elim (cases_lt p b) [
       | inl d ↦ (
           let at = widened_inside a b n step fits p c d in
           let within = within_at (b - a) step.places fits.within (p - a) (omega arith) in
           elim out [ inl f ↦ inl (omega arith) | inr f ↦ inr (omega arith) ])
-      | inr d ↦ search (arith, widened_behind)
+      | inr d ↦ search widened_behind
     ]
   ];
 }
@@ -221,7 +213,7 @@ all_elsewhere : (s e a b n : ℕ) (steps : List Step) → a ≤ b → b ≤ n �
     → AllByRecursion (Elsewhere s e n) (map (widened a b n) steps)
 all_elsewhere s e a b n [] l m end fits out = tt
 all_elsewhere s e a b n (step ∷ steps) l m end fits out =
-    search (arith, widened_elsewhere, all_elsewhere s e a b n steps l m end fits.1 out)
+    search (widened_elsewhere, all_elsewhere s e a b n steps l m end fits.1 out)
 
 pub along_elsewhere : (s e n a : ℕ) (pieces : List (ℕ × List Step)) → a + sum_by (λ piece. piece.0) pieces ≤ n → e ≤ n
     → AllByRecursion (λ piece. FitSteps piece.0 piece.1) pieces → (a + sum_by (λ piece. piece.0) pieces ≤ s) ⊎ (e ≤ a)
@@ -230,17 +222,13 @@ along_elsewhere s e n a [] l end fits out = tt
 along_elsewhere s e n a (piece ∷ rest) l end fits out =
     let sum = sum_by-cons (λ piece. piece.0) piece rest in
     let b = a + piece.0 in
-    search (
-      arith,
-      all-append (Elsewhere s e n) (map (widened a b n) piece.1) (steps_along n b rest)
-          (all_elsewhere s e a b n piece.1 (omega arith) (omega arith) end (search arith) (elim out [
-            | inl c ↦ inl
-                (omega arith)
-            | inr c ↦ inr c
-          ]))
-          (along_elsewhere s e n b rest (omega arith) end fits.1 (elim out [
-            | inl c ↦ inl (omega arith)
-            | inr c ↦
-                inr (omega arith)
-          ])),
-    )
+    search (all-append (Elsewhere s e n) (map (widened a b n) piece.1) (steps_along n b rest)
+    (all_elsewhere s e a b n piece.1 (omega arith) (omega arith) end (search arith) (elim out [
+      | inl c ↦ inl (omega arith)
+      | inr c ↦ inr c
+    ]))
+    (along_elsewhere s e n b rest (omega arith) end fits.1 (elim out [
+      | inl c ↦ inl (omega arith)
+      | inr c ↦
+          inr (omega arith)
+    ])))

@@ -1,14 +1,13 @@
 -- The smallest steps: nothing moves, or two neighbours merge and change places.
-use Rattle.std.proofs.Common.{ℕ, ◌+◌, ◌<◌, ◌≡◌, ◌≢◌, ◌==◌, inl, inr, List, length, get_or, set, refl, sym, ◌∙◌, ap, subst, zero-add, arith, get_or-set_same, get_or-set_other, length-set, if◌then◌else◌}
+use Rattle.std.proofs.Common.{ℕ, ◌+◌, ◌<◌, ◌≡◌, ◌≢◌, ◌==◌, inl, inr, List, length, get_or, set, refl, sym, ◌∙◌, ap, subst, arith, get_or-set_same, get_or-set_other, length-set, if◌then◌else◌}
 use Rattle.std.specs.Prelude.{swap}
 use Rattle.std.specs.List.{AllByRecursion, range_with_len}
-use Rattle.std.proofs.lemmas.List.{same_lists, map-set, get_or-map, length-map}
+use Rattle.std.proofs.lemmas.List.{same_lists, map-set, get_or-map}
 use Rattle.std.proofs.lemmas.List.Edits.{swap_is, length-swap}
 use Rattle.std.proofs.lemmas.List.Elements.{recursion_from_All}
 use Rattle.std.proofs.lemmas.List.FromFn.{get_or-range_with_len, length-range_with_len}
 use Rattle.std.proofs.lemmas.Bool.{cases_eq}
-use Rattle.std.proofs.lemmas.Bool.Decides.{nat_tests}
-use Rattle.shapers_buffer.specs.declared.buffer.glyph.hb_glyph_info_t.{hb_glyph_info_t}
+use Rattle.shapers_buffer.specs.Glyphs.{Glyphs}
 use Rattle.shapers_buffer.specs.declared.buffer.level.BufferClusterLevel.{BufferClusterLevel}
 use Rattle.shapers_buffer.specs.Clusters.{merge}
 use Rattle.shapers_buffer.specs.Glyph.{order_view}
@@ -22,16 +21,16 @@ abbrev turned : ℕ → ℕ → ℕ
 turned i k = if k == i then i + 1 else if k == (i + 1) then i else k
 
 turned-first : (i k : ℕ) → k ≡ i → turned i k ≡ i + 1
-turned-first i k e = grind (arith, nat_tests)
+turned-first = grind arith
 
 turned-second : (i k : ℕ) → k ≡ i + 1 → turned i k ≡ i
-turned-second i k e = grind (arith, nat_tests)
+turned-second = grind arith
 
 turned-other : (i k : ℕ) → k ≢ i → k ≢ i + 1 → turned i k ≡ k
-turned-other i k a b = grind (arith, nat_tests)
+turned-other = grind arith
 
 turned_within : (n i k : ℕ) → i + 1 < n → k < n → turned i k < n
-turned_within n i k h l = grind (arith, nat_tests)
+turned_within = grind arith
 
 swap_at : {X : Type 0} (xs : List X) (i k : ℕ) (d : X) → i + 1 < length xs → get_or (swap xs i (i + 1)) k d
     ≡ get_or xs (turned i k) d
@@ -47,21 +46,18 @@ swap_at xs i k d h =
           xs i a) (i + 1) k b d n ∙ elim (cases_eq k i) [
             | inl e ↦ ap (λ m. get_or (set xs i a) m d) e ∙ get_or-set_same
                 xs i a d first ∙ sym (ap (λ m. get_or xs m d) (turned-first i k e))
-            | inr m ↦ get_or-set_other xs i k a d m ∙ sym
-                (ap (λ m. get_or xs m d) (turned-other i k m n))
+            | inr m ↦ get_or-set_other xs i k a d m ∙ sym (ap (λ m. get_or xs m d) (turned-other i k m n))
           ]
     ]
 
 swapped_length : (n i : ℕ) → length (swap (range_with_len 0 n) i (i + 1)) ≡ n
-swapped_length n i = search (arith, length-swap, length-range_with_len)
+swapped_length = search (length-swap, length-range_with_len)
 
 swapped_at : (n i k d : ℕ) → i + 1 < n → k < n → get_or (swap (range_with_len 0 n) i (i + 1)) k d ≡ turned i k
-swapped_at n i k d h l =
-    search (arith, swap_at, length-range_with_len, get_or-range_with_len, turned_within, zero-add)
+swapped_at = search (arith, swap_at, length-range_with_len, get_or-range_with_len)
 
 swapped_within : (n i : ℕ) → i + 1 < n → AllByRecursion (λ p. p < n) (swap (range_with_len 0 n) i (i + 1))
-swapped_within n i h =
-    search (arith, recursion_from_All, swapped_at, swapped_length, turned_within)
+swapped_within = search (arith, recursion_from_All, swapped_at, swapped_length)
 
 pick-swap : {X : Type 0} (n : ℕ) (xs : List X) (i : ℕ) → length xs ≡ n → i + 1 < n
     → pick (swap (range_with_len 0 n) i (i + 1)) xs ≡ swap xs i (i + 1)
@@ -72,38 +68,33 @@ pick-swap n xs i e h =
     let room : i + 1 < length xs = omega arith in
     same_lists (pick places xs) (swap xs i (i + 1)) (search (arith, length-swap)) (λ k d l.
     let m : k < n = omega arith in
-    search (arith, get_or-pick, swapped_length, swapped_at, swap_at))
+    search (get_or-pick, swapped_length, swapped_at, swap_at))
 
 -- a swap step merges the two and swaps them
-pub run-swap_step : (level : BufferClusterLevel) (gs : List hb_glyph_info_t) (i : ℕ) → i + 1 < length gs
+pub run-swap_step : (level : BufferClusterLevel) (gs : Glyphs) (i : ℕ) → i + 1 < length gs
     → run_step level (swap_step (length gs) i) gs ≡ swap (merge level i (i + 2) gs) i (i + 1)
-run-swap_step level gs i h =
-    pick-swap (length gs) (merge level i (i + 2) gs) i (search (arith, length-merge)) h
+run-swap_step level gs i h = pick-swap (length gs) (merge level i (i + 2) gs) i (search (arith, length-merge)) h
 
 -- a still step leaves the glyphs as they are
-pub run-still_step : (level : BufferClusterLevel) (gs : List hb_glyph_info_t)
-    → run_step level (still_step (length gs)) gs ≡ gs
+pub run-still_step : (level : BufferClusterLevel) (gs : Glyphs) → run_step level (still_step (length gs)) gs ≡ gs
 run-still_step level gs = pick-all (length gs) gs refl
 
 -- in the order view they change places
-order_view-swap : (ms : List hb_glyph_info_t) (i : ℕ) → i + 1 < length ms → order_view (swap ms i (i + 1))
+order_view-swap : (ms : Glyphs) (i : ℕ) → i + 1 < length ms → order_view (swap ms i (i + 1))
     ≡ swap (order_view ms) i (i + 1)
-order_view-swap ms i h =
-    search (arith, swap_is, map-set, set, get_or-map, length-map)
+order_view-swap = search (arith, map-set, get_or-map)
 
-pub order_view-swap_step : (level : BufferClusterLevel) (gs : List hb_glyph_info_t) (i : ℕ) → i + 1 < length gs
+pub order_view-swap_step : (level : BufferClusterLevel) (gs : Glyphs) (i : ℕ) → i + 1 < length gs
     → order_view (run_step level (swap_step (length gs) i) gs) ≡ swap (order_view gs) i (i + 1)
-order_view-swap_step level gs i within =
-    cc (
-      run-swap_step level gs i within,
-      order_view-swap (merge level i (i + 2) gs) i (search (arith, length-merge)),
-      order_view-merge level i (i + 2) gs,
-    )
+order_view-swap_step level gs i within = cc (
+  run-swap_step level gs i within,
+  order_view-swap (merge level i (i + 2) gs) i (search (arith, length-merge)),
+  order_view-merge level i (i + 2) gs,
+)
 
 -- both move only inside what they merged
 pub swap_moves_merged : (n i : ℕ) → i + 1 < n → MovesMerged n (swap_step n i)
-swap_moves_merged n i h =
-    search (arith, swapped_length, swapped_within, swapped_at, nat_tests, turned-first, turned-second, turned-other)
+swap_moves_merged = search (arith, swapped_length, swapped_within, swapped_at)
 
 pub still_moves_merged : (n : ℕ) → MovesMerged n (still_step n)
-still_moves_merged n = search (arith, length-range_with_len, within_range, get_or-range_with_len, zero-add)
+still_moves_merged = search (arith, length-range_with_len, within_range, get_or-range_with_len)

@@ -2,7 +2,7 @@
 use Rattle.std.proofs.Common.{arith}
 use Rattle.std.proofs.Common.{ℕ, ◌-◌, ◌≡◌, List, [], ◌∷◌, map, length, reverse, refl, sym, ◌∙◌, ap}
 use Rattle.std.proofs.lemmas.List.{map-append, take-map, drop-map, length-map}
-use Rattle.shapers_buffer.specs.declared.buffer.glyph.hb_glyph_info_t.{hb_glyph_info_t}
+use Rattle.shapers_buffer.specs.Glyphs.{Glyph, Glyphs}
 use Rattle.shapers_buffer.specs.declared.buffer.level.BufferClusterLevel.{BufferClusterLevel}
 use Rattle.shapers_buffer.specs.Glyph.{clusters}
 use Rattle.shapers_buffer.specs.Clusters.{first_cluster, last_cluster, in_cluster, flooded, merge, merge_all, merges}
@@ -11,107 +11,89 @@ use Rattle.shapers_buffer.proofs.MappedLists.{map-reverse}
 use Rattle.shapers_buffer.proofs.ClusterLemmas.{flood_merged, merge_is}
 use Rattle.shapers_clusters.specs.Steps.{Step, run_step, run_steps}
 use Rattle.shapers_clusters.proofs.Appended.{two_sides}
-use Rattle.shapers_clusters.proofs.Falls.{flooded-hit, flooded-miss}
 use Rattle.shapers_clusters.proofs.Picks.{pick-map}
 
 -- a view that shows clusters, and through which a glyph comes into a cluster as it does itself
-pub record PassesMerges (view : hb_glyph_info_t → hb_glyph_info_t) : Type 0 where
-  pub cluster : (g : hb_glyph_info_t) → (view g).cluster ≡ g.cluster
-  pub put : (m : ℕ) (g : hb_glyph_info_t) → view (in_cluster m g) ≡ in_cluster m (view g)
+pub record PassesMerges (view : Glyph → Glyph) : Type 0 where
+  pub cluster : (g : Glyph) → (view g).cluster ≡ g.cluster
+  pub put : (m : ℕ) (g : Glyph) → view (in_cluster m g) ≡ in_cluster m (view g)
 
-flooded-through : (view : hb_glyph_info_t → hb_glyph_info_t) → PassesMerges view → (c m : ℕ) (gs : List hb_glyph_info_t)
+flooded-through : (view : Glyph → Glyph) → PassesMerges view → (c m : ℕ) (gs : Glyphs)
     → map view (flooded c m gs) ≡ flooded c m (map view gs)
 flooded-through view passes c m [] = refl
-flooded-through view passes c m (g ∷ gs) =
-    search (arith, flooded-hit, flooded-miss, flooded-through view passes c m gs)
+flooded-through view passes c m (g ∷ gs) = search (arith, flooded-through view passes c m gs)
 
-put-through : (view : hb_glyph_info_t → hb_glyph_info_t) → PassesMerges view → (m : ℕ) (gs : List hb_glyph_info_t)
+put-through : (view : Glyph → Glyph) → PassesMerges view → (m : ℕ) (gs : Glyphs)
     → map view (map (in_cluster m) gs) ≡ map (in_cluster m) (map view gs)
 put-through view passes m [] = refl
 put-through view passes m (g ∷ gs) = cc (passes.put m g, put-through view passes m gs)
 
-pub clusters-through : (view : hb_glyph_info_t → hb_glyph_info_t) → PassesMerges view → (gs : List hb_glyph_info_t)
+pub clusters-through : (view : Glyph → Glyph) → PassesMerges view → (gs : Glyphs)
     → clusters (map view gs) ≡ clusters gs
 clusters-through view passes [] = refl
 clusters-through view passes (g ∷ gs) = cc (passes.cluster g, clusters-through view passes gs)
 
-first-through : (view : hb_glyph_info_t → hb_glyph_info_t) → PassesMerges view → (gs : List hb_glyph_info_t)
+first-through : (view : Glyph → Glyph) → PassesMerges view → (gs : Glyphs)
     → first_cluster (map view gs) ≡ first_cluster gs
 first-through view passes [] = refl
 first-through view passes (g ∷ gs) = passes.cluster g
 
-last-through : (view : hb_glyph_info_t → hb_glyph_info_t) → PassesMerges view → (gs : List hb_glyph_info_t)
+last-through : (view : Glyph → Glyph) → PassesMerges view → (gs : Glyphs)
     → last_cluster (map view gs) ≡ last_cluster gs
 last-through view passes gs = cc (map-reverse view gs, first-through view passes (reverse gs))
 
 -- a merge, several, and steps, seen through the view
-pub merge-through : (view : hb_glyph_info_t → hb_glyph_info_t) → PassesMerges view
-    → (level : BufferClusterLevel) (s e : ℕ) (gs : List hb_glyph_info_t) → map view (merge level s e gs)
-    ≡ merge level s e (map view gs)
+pub merge-through : (view : Glyph → Glyph) → PassesMerges view → (level : BufferClusterLevel) (s e : ℕ) (gs : Glyphs)
+    → map view (merge level s e gs) ≡ merge level s e (map view gs)
 merge-through view passes level s e gs =
     ap (map view) (merge_is level s e gs)
     ∙ two_sides (e - s) (merges level) (λ x y. map view x ≡ y) (flood_merged s e gs) gs
     (flood_merged s e (map view gs)) (map view gs) refl
-    (λ two. search (
-      arith,
-      map-append,
-      map-reverse,
-      flooded-through,
-      put-through,
-      clusters-through,
-      first-through,
-      last-through,
-      take-map,
-      drop-map,
-    ))
-    ∙ sym (merge_is level s e (map view gs))
+    (λ two. search (arith, map-append, map-reverse, flooded-through, put-through, clusters-through, last-through, take-map, drop-map)) ∙ sym (merge_is level s e (map view gs))
 
-pub merge_all-through : (view : hb_glyph_info_t → hb_glyph_info_t) → PassesMerges view
-    → (level : BufferClusterLevel) (sts : List (ℕ × ℕ)) (gs : List hb_glyph_info_t) → map view (merge_all level sts gs)
+pub merge_all-through : (view : Glyph → Glyph) → PassesMerges view
+    → (level : BufferClusterLevel) (sts : List (ℕ × ℕ)) (gs : Glyphs) → map view (merge_all level sts gs)
     ≡ merge_all level sts (map view gs)
 merge_all-through view passes level [] gs = refl
 merge_all-through view passes level (st ∷ sts) gs =
-    search (arith, merge-through, merge_all-through view passes level sts (merge level st.0 st.1 gs))
+    search (merge-through, merge_all-through view passes level sts (merge level st.0 st.1 gs))
 
-pub run_step-through : (view : hb_glyph_info_t → hb_glyph_info_t) → PassesMerges view
-    → (level : BufferClusterLevel) (step : Step) (gs : List hb_glyph_info_t) → map view (run_step level step gs)
+pub run_step-through : (view : Glyph → Glyph) → PassesMerges view
+    → (level : BufferClusterLevel) (step : Step) (gs : Glyphs) → map view (run_step level step gs)
     ≡ run_step level step (map view gs)
-run_step-through view passes level step gs =
-    cc (
-      merge_all-through view passes level step.merged_then (pick step.places (merge_all level step.merged_first gs)),
-      pick-map view step.places (merge_all level step.merged_first gs),
-      merge_all-through view passes level step.merged_first gs,
-    )
+run_step-through view passes level step gs = cc (
+  merge_all-through view passes level step.merged_then (pick step.places (merge_all level step.merged_first gs)),
+  pick-map view step.places (merge_all level step.merged_first gs),
+  merge_all-through view passes level step.merged_first gs,
+)
 
-pub run_steps-through : (view : hb_glyph_info_t → hb_glyph_info_t) → PassesMerges view
-    → (level : BufferClusterLevel) (steps : List Step) (gs : List hb_glyph_info_t) → map view (run_steps level steps gs)
+pub run_steps-through : (view : Glyph → Glyph) → PassesMerges view
+    → (level : BufferClusterLevel) (steps : List Step) (gs : Glyphs) → map view (run_steps level steps gs)
     ≡ run_steps level steps (map view gs)
 run_steps-through view passes level [] gs = refl
 run_steps-through view passes level (step ∷ steps) gs =
-    search (arith, run_step-through, run_steps-through view passes level steps (run_step level step gs))
+    search (run_step-through, run_steps-through view passes level steps (run_step level step gs))
 
 -- what looks the same through the view still does after the same merges, moves and steps
-pub merge-same : (view : hb_glyph_info_t → hb_glyph_info_t) → PassesMerges view
-    → (level : BufferClusterLevel) (s e : ℕ) (xs ys : List hb_glyph_info_t) → map view xs ≡ map view ys
-    → map view (merge level s e xs) ≡ map view (merge level s e ys)
+pub merge-same : (view : Glyph → Glyph) → PassesMerges view → (level : BufferClusterLevel) (s e : ℕ) (xs ys : Glyphs)
+    → map view xs ≡ map view ys → map view (merge level s e xs) ≡ map view (merge level s e ys)
 merge-same view passes level s e xs ys same =
     cc (merge-through view passes level s e xs, merge-through view passes level s e ys)
 
-pub merge_all-same : (view : hb_glyph_info_t → hb_glyph_info_t) → PassesMerges view
-    → (level : BufferClusterLevel) (sts : List (ℕ × ℕ)) (xs ys : List hb_glyph_info_t) → map view xs ≡ map view ys
+pub merge_all-same : (view : Glyph → Glyph) → PassesMerges view
+    → (level : BufferClusterLevel) (sts : List (ℕ × ℕ)) (xs ys : Glyphs) → map view xs ≡ map view ys
     → map view (merge_all level sts xs) ≡ map view (merge_all level sts ys)
-merge_all-same view passes level sts xs ys same = search (arith, merge_all-through)
+merge_all-same = search (arith, merge_all-through)
 
-pub pick-same : (view : hb_glyph_info_t → hb_glyph_info_t) (places : List ℕ) (xs ys : List hb_glyph_info_t)
+pub pick-same : (view : Glyph → Glyph) (places : List ℕ) (xs ys : Glyphs)
     → map view xs ≡ map view ys → map view (pick places xs) ≡ map view (pick places ys)
 pick-same view places xs ys same = cc (pick-map view places xs, pick-map view places ys)
 
-pub run_steps-same : (view : hb_glyph_info_t → hb_glyph_info_t) → PassesMerges view
-    → (level : BufferClusterLevel) (steps : List Step) (xs ys : List hb_glyph_info_t) → map view xs ≡ map view ys
+pub run_steps-same : (view : Glyph → Glyph) → PassesMerges view
+    → (level : BufferClusterLevel) (steps : List Step) (xs ys : Glyphs) → map view xs ≡ map view ys
     → map view (run_steps level steps xs) ≡ map view (run_steps level steps ys)
-run_steps-same view passes level steps xs ys same = search (arith, run_steps-through)
+run_steps-same = search (arith, run_steps-through)
 
 -- as many glyphs look the same
-pub length-same : (view : hb_glyph_info_t → hb_glyph_info_t) (xs ys : List hb_glyph_info_t) → map view xs ≡ map view ys
-    → length xs ≡ length ys
-length-same view xs ys same = search (arith, length-map)
+pub length-same : (view : Glyph → Glyph) (xs ys : Glyphs) → map view xs ≡ map view ys → length xs ≡ length ys
+length-same = search (arith, length-map)

@@ -5,8 +5,7 @@ use Rattle.std.proofs.lemmas.List.{length-map, get_or-map, get_or_append_left, g
 use Rattle.std.proofs.lemmas.List.Sums.{sum_by-cons, fold-append}
 use Rattle.std.proofs.lemmas.List.FromFn.{length-range_with_len, get_or-range_with_len}
 use Rattle.std.proofs.lemmas.Bool.{cases_lt}
-use Rattle.std.proofs.lemmas.Bool.Decides.{nat_tests}
-use Rattle.shapers_buffer.specs.declared.buffer.glyph.hb_glyph_info_t.{hb_glyph_info_t}
+use Rattle.shapers_buffer.specs.Glyphs.{Glyphs}
 use Rattle.shapers_buffer.specs.declared.buffer.level.BufferClusterLevel.{BufferClusterLevel}
 use Rattle.shapers_buffer.specs.Glyph.{order_view, plain}
 use Rattle.shapers_buffer.specs.Clusters.{stretch_of}
@@ -22,7 +21,7 @@ pick-shifted : {X : Type 0} (s e : ℕ) (ps : List ℕ) (xs : List X) → e ≤ 
     → pick (map (λ p. s + p) ps) xs ≡ pick ps (stretch_of s e xs)
 pick-shifted s e [] xs l h = refl
 pick-shifted s e (p ∷ ps) xs l h = elim (some_element xs) [
-  | inl z ↦ absurd (omega (arith, h.0))
+  | inl z ↦ absurd (omega arith)
   | inr d ↦
       let n : length (stretch_of s e xs) ≡ e - s = search (arith, length-take, length-drop) in
       cc (
@@ -56,40 +55,37 @@ end_within-shifted s e n sts h l w =
     all-mapped (λ st. st.1 ≤ e - s) (λ st. st.1 ≤ n) (λ st. (s + st.0, s + st.1)) sts (λ st i. omega arith) w
 
 pub fits-widened : (s e n : ℕ) (step : Step) → s ≤ e → e ≤ n → FitsStep (e - s) step → FitsStep n (widened s e n step)
-fits-widened s e n step h l f =
-    search (
-      arith,
-      length-append (range_with_len 0 s) (map (λ p. s + p) step.places ++ range_with_len e (n - e)),
-      length-append (map (λ p. s + p) step.places) (range_with_len e (n - e)),
-      length-map step.places (λ p. s + p),
-      length-range_with_len 0 s,
-      length-range_with_len e (n - e),
-      all-append (λ p. p < n) (range_with_len 0 s) (map (λ p. s + p) step.places ++ range_with_len e (n - e))
-          (all-range (λ p. p < n) 0 s (λ p x y. omega arith))
-          (all-append (λ p. p < n) (map (λ p. s + p) step.places) (range_with_len e (n - e)) (all-mapped (λ p. p < e
-          - s) (λ p. p < n) (λ p. s + p) step.places (λ p x. omega arith) f.within) (all-range (λ p. p < n) e (n - e)
-          (λ p x y. omega arith))),
-      end_within-shifted s e n step.merged_first h l f.first_within,
-      end_within-shifted s e n step.merged_then h l f.then_within,
-    )
+fits-widened s e n step h l f = search (
+  arith,
+  length-append (range_with_len 0 s) (map (λ p. s + p) step.places ++ range_with_len e (n - e)),
+  length-append (map (λ p. s + p) step.places) (range_with_len e (n - e)),
+  length-map step.places (λ p. s + p),
+  length-range_with_len 0 s,
+  length-range_with_len e (n - e),
+  all-append (λ p. p < n) (range_with_len 0 s) (map (λ p. s + p) step.places ++ range_with_len e (n - e))
+      (all-range (λ p. p < n) 0 s (λ p x y. omega arith))
+      (all-append (λ p. p < n) (map (λ p. s + p) step.places) (range_with_len e (n - e)) (all-mapped (λ p. p < e
+      - s) (λ p. p < n) (λ p. s + p) step.places (λ p x. omega arith) f.within) (all-range (λ p. p < n) e (n - e)
+      (λ p x y. omega arith))),
+  end_within-shifted s e n step.merged_first h l f.first_within,
+  end_within-shifted s e n step.merged_then h l f.then_within,
+)
 
 -- the places of a widened step
 pub widened_before : (s e n : ℕ) (step : Step) (p : ℕ) → p < s → get_or (widened s e n step).places p 0 ≡ p
-widened_before s e n step p l =
-    search (arith, get_or_append_left, length-range_with_len, get_or-range_with_len)
+widened_before = search (arith, get_or_append_left, length-range_with_len, get_or-range_with_len)
 
 pub widened_inside : (s e n : ℕ) (step : Step) → FitsStep (e - s) step → (p : ℕ) → s ≤ p → p < e
     → get_or (widened s e n step).places p 0 ≡ s + get_or step.places (p - s) 0
-widened_inside s e n step fits p l h =
+widened_inside =
     search (arith, get_or-append_right, length-range_with_len, get_or_append_left, length-map, get_or-map)
 
 pub widened_behind : (s e n : ℕ) (step : Step) → s ≤ e → FitsStep (e - s) step → (p : ℕ) → e ≤ p → p < n
     → get_or (widened s e n step).places p 0 ≡ p
-widened_behind s e n step h fits p l k =
-    search (arith, get_or-append_right, length-range_with_len, length-map, get_or-range_with_len)
+widened_behind = search (arith, get_or-append_right, length-range_with_len, length-map, get_or-range_with_len)
 
 lt-shifted : (s a b : ℕ) → nat_lt (s + a) (s + b) ≡ nat_lt a b
-lt-shifted s a b = grind (arith, nat_tests)
+lt-shifted = grind arith
 
 pub held-shifted : (s r : ℕ) (sts : List (ℕ × ℕ)) → held (shifted s sts) (s + r) ≡ held sts r
 held-shifted s r [] = refl
@@ -117,17 +113,15 @@ inside-widened s e n step h l f i p pl r x y =
 -- a step that moves only inside what it merged first does so widened
 pub moves-widened : (s e n : ℕ) (step : Step) → s ≤ e → e ≤ n → MovesMerged (e - s) step
     → MovesMerged n (widened s e n step)
-moves-widened s e n step h l f = search (arith, fits-widened, inside-widened)
+moves-widened s e n step h l f = search (fits-widened, inside-widened)
 
 pub all_fit-widened : (s e n : ℕ) (steps : List Step) → s ≤ e → e ≤ n → FitSteps (e - s) steps
     → FitSteps n (map (widened s e n) steps)
-all_fit-widened s e n steps h l f =
-    search (arith, all-mapped, fits-widened)
+all_fit-widened = search (all-mapped, fits-widened)
 
 pub all_moves-widened : (s e n : ℕ) (steps : List Step) → s ≤ e → e ≤ n → AllByRecursion (MovesMerged (e - s)) steps
     → AllByRecursion (MovesMerged n) (map (widened s e n) steps)
-all_moves-widened s e n steps h l f =
-    search (arith, all-mapped, moves-widened)
+all_moves-widened = search (all-mapped, moves-widened)
 
 -- a widened step on a list that is given by its three parts
 pub pick-parts : {X : Type 0} (s e n : ℕ) (step : Step) (front middle rest : List X) → s ≤ e → length front ≡ s
@@ -148,35 +142,32 @@ moved-widened s e n (step ∷ steps) front olds rest h a b c f =
     let k = length-pick step.places olds (subst (λ n. AllByRecursion (λ p. p < n) step.places) (sym b) f.0.within)
     ∙ f.0.as_many in
     cc (
-      pick-parts s e n step front (map (λ p. s + p) olds) rest h a (search (arith, length-map)) c f.0,
+      pick-parts s e n step front (map (λ p. s + p) olds) rest h a (search length-map) c f.0,
       pick-map (λ p. s + p) step.places olds,
       moved-widened s e n steps front (pick step.places olds) rest h a k c f.1,
     )
 
 pub map-range : (s a k : ℕ) → map (λ p. s + p) (range_with_len a k) ≡ range_with_len (s + a) k
 map-range s a zero = refl
-map-range s a (suc k) =
-    search (arith, map-range s (a + 1) k)
+map-range s a (suc k) = search (arith, map-range s (a + 1) k)
 
 -- all places, in three parts
-pub range-three : (s e n : ℕ) → s ≤ e → e ≤ n
-    → range_with_len 0 n ≡ range_with_len 0 s
+pub range-three : (s e n : ℕ) → s ≤ e → e ≤ n → range_with_len 0 n ≡ range_with_len 0 s
     ++ (map (λ p. s + p) (range_with_len 0 (e - s)) ++ range_with_len e (n - e))
-range-three s e n h l =
+range-three s e n =
     search (arith, range-append 0 s ((e - s) + (n - e)), range-append (0 + s) (e - s) (n - e), map-range s 0 (e - s))
 
 pub old_places-widened : (s e n : ℕ) (steps : List Step) → s ≤ e → e ≤ n → FitSteps (e - s) steps
     → old_places n (map (widened s e n) steps) ≡ range_with_len 0 s
     ++ (map (λ p. s + p) (old_places (e - s) steps) ++ range_with_len e (n - e))
-old_places-widened s e n steps h l f =
-    cc (
-      range-three s e n h l,
-      moved-widened s e n steps (range_with_len 0 s) (range_with_len 0 (e - s)) (range_with_len e (n - e)) h
-          (length-range_with_len 0 s) (length-range_with_len 0 (e - s)) (search (arith, length-range_with_len)) f,
-    )
+old_places-widened s e n steps h l f = cc (
+  range-three s e n h l,
+  moved-widened s e n steps (range_with_len 0 s) (range_with_len 0 (e - s)) (range_with_len e (n - e)) h
+      (length-range_with_len 0 s) (length-range_with_len 0 (e - s)) (search (arith, length-range_with_len)) f,
+)
 
 -- the order view after widened steps: the stretch is reordered by the steps, and nothing else
-pub order_view-widened : (level : BufferClusterLevel) (s e : ℕ) (steps : List Step) (gs : List hb_glyph_info_t) → s ≤ e
+pub order_view-widened : (level : BufferClusterLevel) (s e : ℕ) (steps : List Step) (gs : Glyphs) → s ≤ e
     → e ≤ length gs → FitSteps (e - s) steps → order_view (run_steps level (map (widened s e (length gs)) steps) gs)
     ≡ take s (order_view gs)
     ++ (pick (old_places (e - s) steps) (stretch_of s e (order_view gs)) ++ drop e (order_view gs))
@@ -204,19 +195,18 @@ all_along P widens n s (piece ∷ rest) l h =
     (λ k. AllByRecursion (P k) piece.1) (omega arith) h.0))
     (all_along P widens n (s + piece.0) rest (omega arith) h.1)
 
-order_view-stretch : (level : BufferClusterLevel) (s k : ℕ) (steps : List Step) (gs : List hb_glyph_info_t)
+order_view-stretch : (level : BufferClusterLevel) (s k : ℕ) (steps : List Step) (gs : Glyphs)
     → s + k ≤ length gs → FitSteps k steps → order_view (run_steps level (map (widened s (s + k) (length gs)) steps) gs)
     ≡ take s (order_view gs)
     ++ (pick (old_places k steps) (take k (drop s (order_view gs))) ++ drop k (drop s (order_view gs)))
-order_view-stretch level s k steps gs l f =
-    search (arith, order_view-widened, drop-drop)
+order_view-stretch = search (arith, order_view-widened, drop-drop)
 
 -- the order view after the steps of neighbouring stretches: each is reordered for itself
-pub order_view-along : (level : BufferClusterLevel) (s : ℕ) (pieces : List (ℕ × List Step)) (gs : List hb_glyph_info_t)
+pub order_view-along : (level : BufferClusterLevel) (s : ℕ) (pieces : List (ℕ × List Step)) (gs : Glyphs)
     → s + sum_by (λ piece. piece.0) pieces ≤ length gs → AllByRecursion (λ piece. FitSteps piece.0 piece.1) pieces
     → order_view (run_steps level (steps_along (length gs) s pieces) gs) ≡ take s (order_view gs)
     ++ reordered_along pieces (drop s (order_view gs))
-order_view-along level s [] gs l f = search (arith, take-append-drop)
+order_view-along level s [] gs l f = search take-append-drop
 order_view-along level s (piece ∷ rest) gs l f =
     let k = piece.0 in
     let n = length gs in
@@ -235,11 +225,9 @@ order_view-along level s (piece ∷ rest) gs l f =
     length-pick (old_places piece.0 piece.1) (take piece.0 (drop s (order_view gs)))
     (subst (λ n. AllByRecursion (λ p. p < n) (old_places piece.0 piece.1)) (omega (
       arith,
-      length-take piece.0 (drop s
-          (order_view gs)),
+      length-take piece.0 (drop s (order_view gs)),
       length-drop s (order_view gs),
-    )) (within-old_places piece.0 piece.1))
-    ∙ length-old_places piece.0 piece.1 f.0 in
+    )) (within-old_places piece.0 piece.1)) ∙ length-old_places piece.0 piece.1 f.0 in
     let abn = length-append a b ∙ omega (arith, length-take s (order_view gs)) in
     ap order_view (fold-append (λ gs step. run_step level step gs) gs ws (steps_along (length gs) (s + piece.0) rest))
     ∙ ap (λ n. order_view (run_steps level (steps_along n (s + piece.0) rest) ms)) (sym kn)
@@ -252,5 +240,4 @@ order_view-along level s (piece ∷ rest) gs l f =
 
 -- a stretch and what is behind it
 pub stretch-rest : {X : Type 0} (s e : ℕ) (xs : List X) → s ≤ e → stretch_of s e xs ++ drop e xs ≡ drop s xs
-stretch-rest s e xs h =
-    search (arith, drop-drop (e - s) s xs, take-append-drop (e - s) (drop s xs))
+stretch-rest s e xs = search (arith, drop-drop (e - s) s xs, take-append-drop (e - s) (drop s xs))

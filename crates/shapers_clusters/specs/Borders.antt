@@ -3,7 +3,7 @@ use Rattle.std.specs.Prelude.{ℕ, ◌≡◌, ◌<◌, ◌==◌, nat_le, nat_lt,
 use Rattle.std.specs.List.{list_any, AllByRecursion}
 use Rattle.shapers_buffer.specs.Glyph.{clusters}
 use Rattle.shapers_buffer.specs.GlyphFlags.{FlagCall, UnsafeToConcat, flags_called}
-use Rattle.shapers_buffer.specs.declared.buffer.glyph.hb_glyph_info_t.{hb_glyph_info_t}
+use Rattle.shapers_buffer.specs.Glyphs.{Glyph, Glyphs}
 use Rattle.shapers_clusters.specs.Breaks.{IsClear, forbids}
 use Rattle.shapers_clusters.specs.Flags.{bit_at, InOrder}
 
@@ -17,11 +17,11 @@ abbrev pub IsOpen : List FlagCall → ℕ → Type 0
 IsOpen calls p = list_any (forbids_border p) calls ≡ false
 
 -- whether the glyph is flagged: unsafe to concatenate, bit 2
-abbrev pub is_unsafe_to_concat : hb_glyph_info_t → Bool
+abbrev pub is_unsafe_to_concat : Glyph → Bool
 is_unsafe_to_concat g = bit_at 1 g.mask == 1
 
 -- the border before place p is bare: p is clear, and the cluster there has no flag of concatenation
-pub record IsBare (gs : List hb_glyph_info_t) (p : ℕ) : Type 0 where
+pub record IsBare (gs : Glyphs) (p : ℕ) : Type 0 where
   pub clear : IsClear gs p
   pub joinable :
       list_any (λ g. g.cluster == slice_index (clusters gs) p && is_unsafe_to_concat g) gs ≡ false
@@ -29,6 +29,6 @@ pub record IsBare (gs : List hb_glyph_info_t) (p : ℕ) : Type 0 where
 -- at a bare border no call forbids one, whatever the clusters, where the buffer wants flags of
 -- concatenation
 abbrev pub BareLaw : Type 0
-BareLaw = (tatweel : Bool) (calls : List FlagCall) (gs : List hb_glyph_info_t) (p : ℕ) →
+BareLaw = (tatweel : Bool) (calls : List FlagCall) (gs : Glyphs) (p : ℕ) →
     AllByRecursion InOrder calls → 0 < p → p < length gs →
     IsBare (flags_called true tatweel calls gs) p → IsOpen calls p

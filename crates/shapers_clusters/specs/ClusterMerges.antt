@@ -1,12 +1,12 @@
 -- The merge rule over clusters alone.
 use Rattle.std.specs.Prelude.{ℕ, List, [], ◌∷◌, map}
-use Rattle.shapers_buffer.specs.declared.buffer.glyph.hb_glyph_info_t.{hb_glyph_info_t}
+use Rattle.shapers_buffer.specs.Glyphs.{Glyph}
 use Rattle.shapers_buffer.specs.declared.buffer.level.BufferClusterLevel.{BufferClusterLevel}
 use Rattle.shapers_buffer.specs.Glyph.{default_glyph, clusters}
 use Rattle.shapers_buffer.specs.Clusters.{merge}
 
 -- a glyph of which only the cluster counts
-abbrev pub of_cluster : ℕ → hb_glyph_info_t
+abbrev pub of_cluster : ℕ → Glyph
 of_cluster c = record default_glyph { cluster = c }
 
 -- the merge rule over clusters alone: those that glyphs of these clusters get

@@ -1,7 +1,7 @@
 -- Stretches, what they hold together, and exact cuts.
 use Rattle.std.proofs.Common.{ℕ, ◌-◌, ◌<◌, ◌≤◌, ◌≡◌, ◌==◌, min, max, Bool, true, false, ◌||◌, nat_lt, ◌&&◌, ◌⊎◌, List, length, slice_index, ◌≢◌, ◌↔◌}
 use Rattle.std.specs.List.{AllByRecursion, list_any, AllPairs}
-use Rattle.shapers_buffer.specs.declared.buffer.glyph.hb_glyph_info_t.{hb_glyph_info_t}
+use Rattle.shapers_buffer.specs.Glyphs.{Glyphs}
 use Rattle.shapers_buffer.specs.Clusters.{stretch_of}
 use Rattle.shapers_buffer.specs.Glyph.{clusters}
 
@@ -47,7 +47,7 @@ pub record ExactCuts (cs : List ℕ) (sts : List (ℕ × ℕ)) (after : List ℕ
       slice_index after p ≤ slice_index cs q
 
 -- no glyph of the one list has a cluster of the other
-abbrev pub ShareNone : List hb_glyph_info_t → List hb_glyph_info_t → Type 0
+abbrev pub ShareNone : Glyphs → Glyphs → Type 0
 ShareNone gs hs = (i j : ℕ) → i < length gs → j < length hs →
     slice_index (clusters gs) i ≢ slice_index (clusters hs) j
 

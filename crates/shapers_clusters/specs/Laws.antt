@@ -2,7 +2,7 @@
 use Rattle.std.proofs.Common.{ℕ, ◌+◌, ◌++◌, ◌-◌, ◌<◌, ◌≤◌, ◌≡◌, Bool, true, false, List, ◌∷◌, map, length, slice_index, take, drop}
 use Rattle.std.specs.List.Sorted.{IsPermutation}
 use Rattle.std.specs.List.{sum_by, All, AllByRecursion, AllZip, Contains}
-use Rattle.shapers_buffer.specs.declared.buffer.glyph.hb_glyph_info_t.{hb_glyph_info_t}
+use Rattle.shapers_buffer.specs.Glyphs.{Glyph, Glyphs}
 use Rattle.shapers_buffer.specs.declared.buffer.level.BufferClusterLevel.{BufferClusterLevel}
 use Rattle.shapers_buffer.specs.Glyph.{clusters, order_view}
 use Rattle.shapers_buffer.specs.Clusters.{least, low, high, merge, merge_all, merges, stretch_of}
@@ -17,19 +17,19 @@ use Rattle.shapers_clusters.specs.Labels.{IsLabelled, OfOldPlaces, OneLabelEach}
 
 -- Merges of any stretch at any level leave the order view of the glyphs gs; the three flag calls,
 -- whatever the buffer wants, change nothing but glyph flags, and take none away.
-pub record ViewStays (s e : ℕ) (gs : List hb_glyph_info_t) : Type 0 where
+pub record ViewStays (s e : ℕ) (gs : Glyphs) : Type 0 where
   pub merging : (level : BufferClusterLevel) → order_view (merge level s e gs) ≡ order_view gs
   pub breaking : FlagsAlone gs (unsafe_inside s e gs)
   pub concatenating : (asked : Bool) → FlagsAlone gs (unsafe_to_concat_in asked s e gs)
   pub joining : (asked : Bool) → FlagsAlone gs (tatweel_inside asked s e gs)
 
 abbrev pub ViewLaw : Type 0
-ViewLaw = (s e : ℕ) (gs : List hb_glyph_info_t) → s ≤ e → ViewStays s e gs
+ViewLaw = (s e : ℕ) (gs : Glyphs) → s ≤ e → ViewStays s e gs
 
 -- Any list of flag calls, of all three kinds mixed, whatever the buffer wants: nothing but glyph
 -- flags changes, and none is lost.
 abbrev pub FlagCallsLaw : Type 0
-FlagCallsLaw = (concat tatweel : Bool) (calls : List FlagCall) (gs : List hb_glyph_info_t) →
+FlagCallsLaw = (concat tatweel : Bool) (calls : List FlagCall) (gs : Glyphs) →
     AllByRecursion InOrder calls →
     FlagsAlone gs (flags_called concat tatweel calls gs)
 
@@ -38,8 +38,7 @@ FlagCallsLaw = (concat tatweel : Bool) (calls : List FlagCall) (gs : List hb_gly
 -- was there. Before low and from high on the glyphs stay; all between, which holds the stretch,
 -- have its least cluster. Neighbours that shared a cluster still do. Labels that the stretch and
 -- the clusters respect are still respected.
-pub record MergeHolds (level : BufferClusterLevel) (s e : ℕ) (gs ms : List
-    hb_glyph_info_t) : Type 0 where
+pub record MergeHolds (level : BufferClusterLevel) (s e : ℕ) (gs ms : Glyphs) : Type 0 where
   pub same_length : length ms ≡ length gs
   pub same_view : order_view ms ≡ order_view gs
   pub falls : AllZip FallsTo gs ms
@@ -56,14 +55,14 @@ pub record MergeHolds (level : BufferClusterLevel) (s e : ℕ) (gs ms : List
   pub unmerged : merges level ≡ false → ms ≡ gs
 
 abbrev pub MergeLaw : Type 0
-MergeLaw = (level : BufferClusterLevel) (s e : ℕ) (gs : List hb_glyph_info_t) →
+MergeLaw = (level : BufferClusterLevel) (s e : ℕ) (gs : Glyphs) →
     e ≤ length gs →
     MergeHolds level s e gs (merge level s e gs)
 
 -- After merges of clusters that never decrease, or never increase, the cuts are exact, the clusters
 -- still do so, and no other clusters have exact cuts.
 abbrev pub ExactCutsLaw : Type 0
-ExactCutsLaw = (level : BufferClusterLevel) (sts : List (ℕ × ℕ)) (gs : List hb_glyph_info_t) →
+ExactCutsLaw = (level : BufferClusterLevel) (sts : List (ℕ × ℕ)) (gs : Glyphs) →
     merges level ≡ true → EndWithin (length gs) sts → IsMonotone (clusters gs) →
     ExactCuts (clusters gs) sts (clusters (merge_all level sts gs))
     × IsMonotone (clusters (merge_all level sts gs))
@@ -73,8 +72,8 @@ ExactCutsLaw = (level : BufferClusterLevel) (sts : List (ℕ × ℕ)) (gs : List
 -- cluster and glyph flags; its cluster doesn't rise, and it keeps its flags unless the cluster
 -- fell. The clusters are what the steps make of the old ones. Where the level merges nothing,
 -- glyphs only move.
-pub record StepsHold (level : BufferClusterLevel) (steps : List Step) (gs ms : List
-    hb_glyph_info_t) : Type 0 where
+pub record StepsHold (level : BufferClusterLevel) (steps : List Step)
+    (gs ms : Glyphs) : Type 0 where
   pub same_length : length ms ≡ length gs
   pub moved_view : order_view ms ≡ pick (old_places (length gs) steps) (order_view gs)
   pub falls : AllZip FallsTo (pick (old_places (length gs) steps) gs) ms
@@ -82,13 +81,13 @@ pub record StepsHold (level : BufferClusterLevel) (steps : List Step) (gs ms : L
   pub unmerged : merges level ≡ false → ms ≡ pick (old_places (length gs) steps) gs
 
 abbrev pub StepsLaw : Type 0
-StepsLaw = (level : BufferClusterLevel) (steps : List Step) (gs : List hb_glyph_info_t) →
+StepsLaw = (level : BufferClusterLevel) (steps : List Step) (gs : Glyphs) →
     FitSteps (length gs) steps →
     StepsHold level steps gs (run_steps level steps gs)
 
 -- Steps that take each place once lose no glyph: the order view is the old one in some order.
 abbrev pub PermutedLaw : Type 0
-PermutedLaw = (level : BufferClusterLevel) (steps : List Step) (gs : List hb_glyph_info_t) →
+PermutedLaw = (level : BufferClusterLevel) (steps : List Step) (gs : Glyphs) →
     FitSteps (length gs) steps → AllByRecursion (Permutes (length gs)) steps →
     IsPermutation (order_view gs) (order_view (run_steps level steps gs))
 
@@ -155,9 +154,8 @@ ClustersReorderedLaw = (level : BufferClusterLevel) (steps : List Step) (cs : Li
 -- a view that hides these it is the steps' result; so through it each glyph, followed from its old
 -- place, keeps all but cluster and glyph flags. No cluster rises, and glyph flags stay unless it
 -- fell. The clusters are what the steps make of the old ones.
-pub record SeenStepsHold (view : hb_glyph_info_t →
-    hb_glyph_info_t) (level : BufferClusterLevel) (steps : List Step) (gs ms : List
-    hb_glyph_info_t) : Type 0 where
+pub record SeenStepsHold (view : Glyph →
+    Glyph) (level : BufferClusterLevel) (steps : List Step) (gs ms : Glyphs) : Type 0 where
   pub result : map view ms ≡ map view (run_steps level steps gs)
   pub same_length : length ms ≡ length gs
   pub moved_view : seen view ms ≡ pick (old_places (length gs) steps) (seen view gs)
@@ -168,25 +166,24 @@ pub record SeenStepsHold (view : hb_glyph_info_t →
       map view ms ≡ map view (pick (old_places (length gs) steps) gs)
 
 abbrev pub SeenStepsLaw : Type 0
-SeenStepsLaw = (view : hb_glyph_info_t → hb_glyph_info_t) →
+SeenStepsLaw = (view : Glyph → Glyph) →
     HidesFields view →
-    (level : BufferClusterLevel) (steps : List Step) (gs ms : List hb_glyph_info_t) →
+    (level : BufferClusterLevel) (steps : List Step) (gs ms : Glyphs) →
     FitSteps (length gs) steps → map view ms ≡ map view (run_steps level steps gs) →
     SeenStepsHold view level steps gs ms
 
 -- What a hook that reorders promises, through a view that hides what else it changes, by steps that
 -- move only inside what they merged first: no glyph is lost, and the laws of steps hold.
-pub record ReorderedHold (view : hb_glyph_info_t →
-    hb_glyph_info_t) (level : BufferClusterLevel) (steps : List Step) (gs ms : List
-    hb_glyph_info_t) : Type 0 where
+pub record ReorderedHold (view : Glyph →
+    Glyph) (level : BufferClusterLevel) (steps : List Step) (gs ms : Glyphs) : Type 0 where
   pub kept : IsPermutation (seen view gs) (seen view ms)
   pub glyphs : SeenStepsHold view level steps gs ms
   pub where_merging : merges level ≡ true → MergedStepsHold level steps (clusters gs) (clusters ms)
 
 abbrev pub ReorderedLaw : Type 0
-ReorderedLaw = (view : hb_glyph_info_t → hb_glyph_info_t) →
+ReorderedLaw = (view : Glyph → Glyph) →
     HidesFields view →
-    (level : BufferClusterLevel) (steps : List Step) (gs ms : List hb_glyph_info_t) →
+    (level : BufferClusterLevel) (steps : List Step) (gs ms : Glyphs) →
     AllByRecursion (MovesMerged (length gs)) steps → AllByRecursion (Permutes (length gs)) steps →
     map view ms ≡ map view (run_steps level steps gs) →
     ReorderedHold view level steps gs ms
@@ -194,8 +191,8 @@ ReorderedLaw = (view : hb_glyph_info_t → hb_glyph_info_t) →
 -- Steps over the stretch s..e are steps over all places: they fit, they move only inside what they
 -- merged first, and take each place once, if they did, and their order view is that of the stretch,
 -- reordered, between what stood before and behind it.
-pub record WidenedHolds (level : BufferClusterLevel) (s e : ℕ) (steps : List Step) (gs : List
-    hb_glyph_info_t) : Type 0 where
+pub record WidenedHolds (level : BufferClusterLevel) (s e : ℕ) (steps : List Step)
+    (gs : Glyphs) : Type 0 where
   pub fit : FitSteps (length gs) (map (widened s e (length gs)) steps)
   pub merged : AllByRecursion (MovesMerged (e - s)) steps →
       AllByRecursion (MovesMerged (length gs)) (map (widened s e (length gs)) steps)
@@ -208,15 +205,15 @@ pub record WidenedHolds (level : BufferClusterLevel) (s e : ℕ) (steps : List S
 
 abbrev pub WidenedLaw : Type 0
 WidenedLaw =
-    (level : BufferClusterLevel) (s e : ℕ) (steps : List Step) (gs : List hb_glyph_info_t) →
+    (level : BufferClusterLevel) (s e : ℕ) (steps : List Step) (gs : Glyphs) →
     s ≤ e → e ≤ length gs → FitSteps (e - s) steps →
     WidenedHolds level s e steps gs
 
 -- Steps of neighbouring stretches, one after another from place 0, are steps over all places: they
 -- fit, they move only inside what they merged first, and take each place once, if they did, and
 -- each stretch of the order view is reordered for itself.
-pub record AlongHolds (level : BufferClusterLevel) (pieces : List (ℕ × List Step)) (gs : List
-    hb_glyph_info_t) : Type 0 where
+pub record AlongHolds (level : BufferClusterLevel) (pieces : List (ℕ × List Step))
+    (gs : Glyphs) : Type 0 where
   pub fit : FitSteps (length gs) (steps_along (length gs) 0 pieces)
   pub merged : AllByRecursion (λ piece. AllByRecursion (MovesMerged piece.0) piece.1) pieces →
       AllByRecursion (MovesMerged (length gs)) (steps_along (length gs) 0 pieces)
@@ -227,7 +224,7 @@ pub record AlongHolds (level : BufferClusterLevel) (pieces : List (ℕ × List S
 
 abbrev pub AlongLaw : Type 0
 AlongLaw =
-    (level : BufferClusterLevel) (pieces : List (ℕ × List Step)) (gs : List hb_glyph_info_t) →
+    (level : BufferClusterLevel) (pieces : List (ℕ × List Step)) (gs : Glyphs) →
     sum_by (λ piece. piece.0) pieces ≤ length gs →
     AllByRecursion (λ piece. FitSteps piece.0 piece.1) pieces →
     AlongHolds level pieces gs
@@ -249,19 +246,19 @@ pub record ClustersMade (level : BufferClusterLevel) (sts : List (ℕ × ℕ)) (
 -- Made and dropped glyphs rs: to a view that shows clusters and glyph flags, each is what stands
 -- after the merges at a listed old place, its source, whatever else the hook changes. No cluster
 -- rises, and glyph flags stay unless it fell.
-pub record MadeHold (view : hb_glyph_info_t →
-    hb_glyph_info_t) (level : BufferClusterLevel) (sts : List (ℕ × ℕ)) (sources : List ℕ) (gs rs :
-    List hb_glyph_info_t) : Type 0 where
+pub record MadeHold (view : Glyph →
+    Glyph) (level : BufferClusterLevel) (sts : List (ℕ × ℕ)) (sources : List ℕ) (gs rs :
+    Glyphs) : Type 0 where
   pub as_many : length rs ≡ length sources
   pub clusters_made : ClustersMade level sts sources (clusters gs) (clusters rs)
   pub falls : AllZip FlagsFall (pick sources gs) rs
   pub unmerged : merges level ≡ false → map view rs ≡ map view (pick sources gs)
 
 abbrev pub MadeLaw : Type 0
-MadeLaw = (view : hb_glyph_info_t → hb_glyph_info_t) →
+MadeLaw = (view : Glyph → Glyph) →
     ShowsClusters view →
     (level : BufferClusterLevel) (sts : List (ℕ × ℕ)) (sources : List ℕ)
-    (gs rs : List hb_glyph_info_t) →
+    (gs rs : Glyphs) →
     EndWithin (length gs) sts → AllByRecursion (λ p. p < length gs) sources →
     map view rs ≡ map view (pick sources (merge_all level sts gs)) →
     MadeHold view level sts sources gs rs
@@ -271,7 +268,7 @@ MadeLaw = (view : hb_glyph_info_t → hb_glyph_info_t) →
 -- one where it stood share one cluster.
 abbrev pub MovedSourcesLaw : Type 0
 MovedSourcesLaw = (level : BufferClusterLevel) (sts : List (ℕ × ℕ)) (standing places : List ℕ)
-    (gs : List hb_glyph_info_t) →
+    (gs : Glyphs) →
     merges level ≡ true → EndWithin (length gs) sts → AllByRecursion (λ p. p < length gs) standing →
     length places ≡ length standing → AllByRecursion (λ p. p < length standing) places →
     MovesInsideOf sts standing places →
@@ -285,7 +282,7 @@ MovedSourcesLaw = (level : BufferClusterLevel) (sts : List (ℕ × ℕ)) (standi
 -- give the halves' results joined.
 abbrev pub HalvesLaw : Type 0
 HalvesLaw =
-    (level : BufferClusterLevel) (ps qs : List (ℕ × List Step)) (gs hs : List hb_glyph_info_t) →
+    (level : BufferClusterLevel) (ps qs : List (ℕ × List Step)) (gs hs : Glyphs) →
     sum_by (λ piece. piece.0) ps ≡ length gs → sum_by (λ piece. piece.0) qs ≡ length hs →
     AllByRecursion (λ piece. FitSteps piece.0 piece.1) ps →
     AllByRecursion (λ piece. FitSteps piece.0 piece.1) qs →

@@ -1,7 +1,7 @@
 -- Steps: merges and moves of places.
 use Rattle.std.proofs.Common.{ℕ, ◌+◌, ◌-◌, ◌<◌, ◌≤◌, ◌≡◌, ◌++◌, ◌⊎◌, min, max, true, List, [], map, length, slice_index, ◌∷◌, take, drop}
 use Rattle.std.specs.List.{fold, AllByRecursion, flat_map, range_with_len}
-use Rattle.shapers_buffer.specs.declared.buffer.glyph.hb_glyph_info_t.{hb_glyph_info_t}
+use Rattle.shapers_buffer.specs.Glyphs.{Glyphs}
 use Rattle.shapers_buffer.specs.declared.buffer.level.BufferClusterLevel.{BufferClusterLevel}
 use Rattle.shapers_buffer.specs.Places.{pick}
 use Rattle.shapers_buffer.specs.Clusters.{merge_all}
@@ -17,11 +17,11 @@ pub record Step : Type 0 where
   pub merged_then : List (ℕ × ℕ)
 
 -- the glyphs after one step, and after several, one after another
-abbrev pub run_step : BufferClusterLevel → Step → List hb_glyph_info_t → List hb_glyph_info_t
+abbrev pub run_step : BufferClusterLevel → Step → Glyphs → Glyphs
 run_step level step gs =
     merge_all level step.merged_then (pick step.places (merge_all level step.merged_first gs))
 
-abbrev pub run_steps : BufferClusterLevel → List Step → List hb_glyph_info_t → List hb_glyph_info_t
+abbrev pub run_steps : BufferClusterLevel → List Step → Glyphs → Glyphs
 run_steps level steps gs = fold (λ gs step. run_step level step gs) gs steps
 
 -- the same of clusters alone

@@ -2,7 +2,7 @@
 //! once.
 ghost use Rattle.std.specs.Prelude.{◌≡◌, ◌<◌, ◌≤◌, ◌+◌, ◌-◌, ◌^◌, ◌++◌, [], OnOk, OnErr, drop, get_or, length, map, take, true};
 ghost use Rattle.shapers_buffer.specs.Clusters.{in_cluster, with_stretch};
-ghost use Rattle.shapers_clusters.specs.CarriedGroups.{AreCarried, AreShown, GroupsGuarded, GroupsApart, StillSame, fallen_groups, first_group_cluster, grouped, joined_end, len_of, no_group, put_before, read_back, shown_groups, taken_back, with_groups, with_list};
+ghost use Rattle.shapers_clusters.specs.CarriedGroups.{AreCarried, AreShown, CanSettle, GroupsApart, GroupsGuarded, GroupsSettled, StillSame, first_group_cluster, grouped, joined_end, len_of, no_group, put_before, read_back, shown_groups, with_groups};
 
 use crate::into_cluster::IntoCluster;
 use shapers_buffer::buffer::{change_each_in, hb_glyph_info_t, least_cluster};
@@ -107,19 +107,8 @@ impl CarriedGroups {
     /// groups into their clusters.
     #[inline]
     pub fn settle(&mut self, glyphs: &mut [hb_glyph_info_t], count: usize)
-        requires within { count ≤ length self.old.groups.items }
-        requires in_range { self.old.end ≤ length glyphs.old }
-        requires kept { let low = self.old.end - count - 1 in
-            0 < count → length self.old.kept.items ≡ self.old.end - low }
-        requires none { count ≡ 0 → AreCarried self.old glyphs.old }
-        requires fits { 0 < count → AreCarried self.old (taken_back count self.old glyphs.old) }
-        ensures none { count ≡ 0 → glyphs.new ≡ glyphs.old }
-        ensures still { count ≡ 0 → self.new ≡ self.old }
-        ensures same { 0 < count → with_groups self.new glyphs.new
-            ≡ with_list self.old (fallen_groups count self.old glyphs.old)
-            (taken_back count self.old glyphs.old) }
-        ensures fits { AreCarried self.new glyphs.new }
-        ensures end { self.new.end ≡ self.old.end }
+        requires fits { CanSettle self.old count glyphs.old }
+        ensures settled { GroupsSettled self.old count glyphs.old self.new glyphs.new }
         ensures same_length { length glyphs.new ≡ length glyphs.old }
     {
         if count == 0 {

@@ -1,12 +1,12 @@
 -- Caret stops of a few texts, and the intervals between them.
 use Rattle.std.proofs.Common.{◌≡◌, ℕ, true, false, List, [], ◌∷◌, map, refl}
-use Rattle.shapers_buffer.specs.declared.buffer.glyph.hb_glyph_info_t.{hb_glyph_info_t}
+use Rattle.shapers_buffer.specs.Glyphs.{Glyphs}
 use Rattle.shapers_buffer.specs.declared.buffer.level.Direction.TheVariants.{BottomToTop, Invalid, LeftToRight, RightToLeft, TopToBottom}
 use Rattle.shapers_buffer.specs.Glyph.{default_glyph}
 use Rattle.shapers_editing.specs.Carets.{caret_stops, has_place, intervals, is_backward, lesser, text_clusters}
 
 -- glyphs of these clusters
-abbrev of : List ℕ → List hb_glyph_info_t
+abbrev of : List ℕ → Glyphs
 of cs = map (λ c. record default_glyph { cluster = c }) cs
 
 backward : map is_backward (Invalid ∷ LeftToRight ∷ RightToLeft ∷ TopToBottom ∷ BottomToTop ∷ [])

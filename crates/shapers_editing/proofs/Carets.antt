@@ -7,7 +7,7 @@ use Rattle.std.proofs.lemmas.Grind.{reverse_onto}
 use Rattle.std.proofs.lemmas.List.{length-append, reverse-reverse}
 use Rattle.std.proofs.lemmas.List.Elements.{All-contains, All-contains_itself, All-from_recursion, recursion_from_All}
 use Rattle.std.proofs.lemmas.List.Sorted.{Contains-permutation, IsPermutation-reverse}
-use Rattle.shapers_buffer.specs.declared.buffer.glyph.hb_glyph_info_t.{hb_glyph_info_t}
+use Rattle.shapers_buffer.specs.Glyphs.{Glyphs}
 use Rattle.shapers_buffer.specs.declared.buffer.level.Direction.{Direction}
 use Rattle.shapers_buffer.specs.Glyph.{clusters}
 use Rattle.shapers_editing.specs.Carets.{BordersWereBorders, EachClusterStops, StopsMapText, caret_stops, is_backward, lesser, text_clusters}
@@ -23,7 +23,7 @@ contains-turned true cs c i = subst (λ xs. Contains xs c) (reverse-reverse cs)
     (Contains-permutation (reverse cs) (reverse (reverse cs)) c (IsPermutation-reverse (reverse cs)) i)
 contains-turned false cs c i = i
 
-turned-all : (P : ℕ → Type 0) (direction : Direction) (gs : List hb_glyph_info_t) → All P (clusters gs)
+turned-all : (P : ℕ → Type 0) (direction : Direction) (gs : Glyphs) → All P (clusters gs)
     → AllByRecursion P (text_clusters direction gs)
 turned-all P direction gs a =
     let ts = text_clusters direction gs in
@@ -44,7 +44,7 @@ stops-map direction gs end within =
     }
 
 -- where clusters rise along the text
-stops-each : (direction : Direction) (gs : List hb_glyph_info_t) → AllPairs (λ a b. a ≤ b) (text_clusters direction gs)
+stops-each : (direction : Direction) (gs : Glyphs) → AllPairs (λ a b. a ≤ b) (text_clusters direction gs)
     → (c : ℕ) → Contains (clusters gs) c → Contains (caret_stops direction gs) c
 stops-each direction gs r c i =
     let ts = text_clusters direction gs in

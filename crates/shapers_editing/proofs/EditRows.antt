@@ -1,6 +1,6 @@
 -- Spans that two texts share, and how far a grammar reads on.
 use Rattle.std.proofs.Common.{◌≡◌, ℕ, true, false, [], ◌∷◌, ◌++◌, map, refl}
-use Rattle.shapers_buffer.specs.declared.buffer.glyph.hb_glyph_info_t.{hb_glyph_info_t}
+use Rattle.shapers_buffer.specs.Glyphs.{Glyph}
 use Rattle.shapers_buffer.specs.declared.buffer.syllables.Span.{Span}
 use Rattle.shapers_buffer.specs.Glyph.{default_glyph}
 use Rattle.shapers_spans.specs.Indic.{indic_grammar, indic_rules}
@@ -62,7 +62,7 @@ last_two : last_n {X = ℕ} 2 (1 ∷ 2 ∷ 3 ∷ []) ≡ 2 ∷ 3 ∷ []
 last_two = refl
 
 -- what stands before an edit, its glyphs, and what stands from its end on; an edit that takes nothing away
-abbrev glyph : ℕ → hb_glyph_info_t
+abbrev glyph : ℕ → Glyph
 glyph n = record default_glyph { glyph_id = n }
 
 replaced : (e : Edit) → with_edit (record e { start = 1; end = 3 }) (glyph 1 ∷ (glyph 2 ∷ (glyph 3 ∷ (glyph 4 ∷ []))))

@@ -1,8 +1,8 @@
 -- A text of three parts, normalized part by part.
-use Rattle.std.proofs.Common.{◌≡◌, ◌∙◌, true, false, List, [], ◌∷◌, ◌++◌, refl, sym, ap}
+use Rattle.std.proofs.Common.{◌≡◌, ◌∙◌, true, false, [], ◌∷◌, ◌++◌, refl, sym, ap}
 use Rattle.std.specs.Prelude.{if◌then◌else◌}
 use Rattle.std.proofs.lemmas.List.{append-nil}
-use Rattle.shapers_buffer.specs.declared.buffer.glyph.hb_glyph_info_t.{hb_glyph_info_t}
+use Rattle.shapers_buffer.specs.Glyphs.{Glyphs}
 use Rattle.shapers_buffer.specs.declared.buffer.level.BufferClusterLevel.{BufferClusterLevel}
 use Rattle.shapers_normal.specs.Context.{Context}
 use Rattle.shapers_normal.specs.Laws.{NormalizesInHalves, OrdersAlone}
@@ -16,7 +16,7 @@ nothing context level =
     elim (composes context.mode) as (λ test. (if test then recomposed context level [] else []) ≡ [])
     [ true ↦ refl | false ↦ refl ]
 
-in-two : NormalizesInHalves → (context : Context) (level : BufferClusterLevel) (gs hs : List hb_glyph_info_t) →
+in-two : NormalizesInHalves → (context : Context) (level : BufferClusterLevel) (gs hs : Glyphs) →
     OrdersAlone context → MayCut context level gs hs → normalized context Always level (gs ++ hs)
     ≡ normalized context Always level gs ++ normalized context Always level hs
 in-two law context level gs [] o may =

@@ -9,7 +9,7 @@ use Rattle.std.proofs.lemmas.List.Sums.{sum_by-append}
 use Rattle.shapers_base.specs.declared.plan.hb_ot_shape_plan_t.{hb_ot_shape_plan_t}
 use Rattle.shapers_base.specs.declared.plan.pause.Pause.{Pause}
 use Rattle.shapers_base.specs.Font.{Font}
-use Rattle.shapers_buffer.specs.declared.buffer.glyph.hb_glyph_info_t.{hb_glyph_info_t}
+use Rattle.shapers_buffer.specs.Glyphs.{Glyph, Glyphs}
 use Rattle.shapers_buffer.specs.declared.buffer.syllables.Span.{Span}
 use Rattle.shapers_buffer.specs.Buffer.{Buffer}
 use Rattle.shapers_buffer.specs.Glyph.{order_view}
@@ -29,7 +29,7 @@ use Rattle.shapers_editing.specs.EditedSyllables.{EditsStayOutside, IndicStaysOu
 abbrev len_of : Span → ℕ
 len_of s = s.len
 
-both-cover : (gs hs : List hb_glyph_info_t) (ss ts : List Span) → spans_cover (length gs) ss ≡ true → spans_cover
+both-cover : (gs hs : Glyphs) (ss ts : List Span) → spans_cover (length gs) ss ≡ true → spans_cover
     (length hs) ts ≡ true → spans_cover (length (gs ++ hs)) (ss ++ ts) ≡ true
 both-cover gs hs ss ts a b =
     let some = λ (s : Span). nat_lt 0 s.len in
@@ -72,18 +72,18 @@ same-ends f b one two three four xs ys a c d e =
         ap (drop (length xs - length b)) h ∙ drop_at rest b (length xs - length b) long
 
 -- the two cuts of a text of three parts
-record TwoCuts (view : hb_glyph_info_t → hb_glyph_info_t) (made : List hb_glyph_info_t → List hb_glyph_info_t)
-    (clusters_made : List hb_glyph_info_t → List ℕ) (set_up : List Span → List hb_glyph_info_t → List hb_glyph_info_t)
-    (front middle back : TextPart) (xs : List hb_glyph_info_t) : Type 0 where
+record TwoCuts (view : Glyph → Glyph) (made : Glyphs → Glyphs)
+    (clusters_made : Glyphs → List ℕ) (set_up : List Span → Glyphs → Glyphs)
+    (front middle back : TextPart) (xs : Glyphs) : Type 0 where
   first : HalvesJoined view made clusters_made front.glyphs (middle.glyphs ++ back.glyphs)
       (set_up front.spans front.glyphs) (set_up (middle.spans ++ back.spans) (middle.glyphs ++ back.glyphs)) xs
   second : HalvesJoined view made clusters_made (front.glyphs ++ middle.glyphs) back.glyphs
       (set_up (front.spans ++ middle.spans) (front.glyphs ++ middle.glyphs)) (set_up back.spans back.glyphs) xs
 
-two-cuts : (view : hb_glyph_info_t → hb_glyph_info_t)
-    (set_up : List Span → List hb_glyph_info_t → List hb_glyph_info_t)
-    (made : List hb_glyph_info_t → List hb_glyph_info_t) (clusters_made : List hb_glyph_info_t → List ℕ)
-    (front middle back : TextPart) (xs : List hb_glyph_info_t) → CutsBetweenSpans view set_up made clusters_made
+two-cuts : (view : Glyph → Glyph)
+    (set_up : List Span → Glyphs → Glyphs)
+    (made : Glyphs → Glyphs) (clusters_made : Glyphs → List ℕ)
+    (front middle back : TextPart) (xs : Glyphs) → CutsBetweenSpans view set_up made clusters_made
     (whole_spans front middle back) (whole_glyphs front middle back) xs
     → TwoCuts view made clusters_made set_up front middle back xs
 two-cuts view set_up made clusters_made front middle back xs cut = record {

@@ -7,7 +7,7 @@ use Rattle.std.proofs.lemmas.Bool.{and_from, and_parts, eq-eqb, eqb-true}
 use Rattle.std.proofs.lemmas.List.{drop-drop, length-append, length-take-le, take-append-drop, take-append-le, take-take}
 use Rattle.std.proofs.lemmas.List.Folds.{list_all-append}
 use Rattle.std.proofs.lemmas.List.Sums.{sum_by-append}
-use Rattle.shapers_buffer.specs.declared.buffer.glyph.hb_glyph_info_t.{hb_glyph_info_t}
+use Rattle.shapers_buffer.specs.Glyphs.{Glyphs}
 use Rattle.shapers_buffer.specs.declared.buffer.syllables.Span.{Span}
 use Rattle.shapers_buffer.specs.Syllables.{spans_cover}
 use Rattle.shapers_editing.specs.Affected.{glyphs_in, shared, shared_back}
@@ -58,7 +58,7 @@ three a b xs fits =
     ∙ ap (λ ys. ys ++ rest) (take-take a k xs (omega (arith, fits)))
 
 -- a part between a front and a back, with the spans between theirs
-middle : (a b : ℕ) (gs : List hb_glyph_info_t) (fs ms bs : List Span) → a ≡ glyphs_in fs → b ≡ glyphs_in bs →
+middle : (a b : ℕ) (gs : Glyphs) (fs ms bs : List Span) → a ≡ glyphs_in fs → b ≡ glyphs_in bs →
     a + b ≤ length gs → spans_cover (length gs) (fs ++ (ms ++ bs)) ≡ true → TextPart
 middle a b gs fs ms bs af bf fits cover =
     let (some, sum) = covered (fs ++ (ms ++ bs)) (length gs) cover in
@@ -81,7 +81,7 @@ middle a b gs fs ms bs af bf fits cover =
 
 -- ---- the edited text
 
-module _ (gs : List hb_glyph_info_t) (e : Edit) (order : e.start ≤ e.end) (within : e.end ≤ length gs) where
+module _ (gs : Glyphs) (e : Edit) (order : e.start ≤ e.end) (within : e.end ≤ length gs) where
   long : length (with_edit e gs) ≡ e.start + (length e.glyphs.now + (length gs - e.end))
   long = omega (
     arith,

@@ -7,7 +7,7 @@ use Rattle.shapers_buffer.specs.Properties.{general_category}
 use Rattle.shapers_buffer.specs.GlyphFlags.{flags_called, with_bits}
 use Rattle.shapers_buffer.specs.declared.buffer.category.hb_unicode_general_category_t.{hb_unicode_general_category_t}
 use Rattle.shapers_buffer.specs.declared.buffer.flags.BufferFlags.{BufferFlags}
-use Rattle.shapers_buffer.specs.declared.buffer.glyph.hb_glyph_info_t.{hb_glyph_info_t}
+use Rattle.shapers_buffer.specs.Glyphs.{Glyph, Glyphs}
 use Rattle.shapers_buffer.specs.declared.buffer.tag.Script.{Script}
 use Rattle.shapers_buffer.proofs.MaskBits.{or_swap, or_twice}
 use Rattle.shapers_base.specs.Font.{CharacterTables}
@@ -29,33 +29,33 @@ use Rattle.rustybuzz_shapers.specs.declared.shaper.hb_ot_shaper_t.TheVariants.{A
 use Rattle.shapers_editing.specs.MasksAgain.{MasksSetOnce}
 use Rattle.shapers_editing.proofs.AddedBits.{ors, flags-pass, flags-twice}
 
-abbrev flags_called_by : Bool → Bool → BreakFlags → Option Script → Text → List hb_glyph_info_t → List hb_glyph_info_t
+abbrev flags_called_by : Bool → Bool → BreakFlags → Option Script → Text → Glyphs → Glyphs
 flags_called_by concat tatweel breaks script text = flags_called concat tatweel (flag_calls breaks script text)
 
 -- glyphs in their forms
-formed-ors : (masks fs ns : List ℕ) (gs : List hb_glyph_info_t) → with_joining_forms masks fs (ors ns gs) ≡ ors ns
+formed-ors : (masks fs ns : List ℕ) (gs : Glyphs) → with_joining_forms masks fs (ors ns gs) ≡ ors ns
     (with_joining_forms masks fs gs)
 formed-ors masks fs [] gs = refl
 formed-ors masks [] (n ∷ ns) [] = refl
 formed-ors masks [] (n ∷ ns) (g ∷ gs) = refl
 formed-ors masks (f ∷ fs) (n ∷ ns) [] = refl
 formed-ors masks (f ∷ fs) (n ∷ ns) (g ∷ gs) =
-    ap (λ (k : ℕ). let h : hb_glyph_info_t = record g { auxiliary = f; mask = k } in h ∷ with_joining_forms masks fs
+    ap (λ (k : ℕ). let h : Glyph = record g { auxiliary = f; mask = k } in h ∷ with_joining_forms masks fs
     (ors ns gs)) (or_swap g.mask (slice_index masks f) n)
     ∙ ap (λ hs. with_bits n (with_form masks f g) ∷ hs) (formed-ors masks fs ns gs)
 
-formed-twice : (masks fs : List ℕ) (gs : List hb_glyph_info_t) → with_joining_forms masks fs
+formed-twice : (masks fs : List ℕ) (gs : Glyphs) → with_joining_forms masks fs
     (with_joining_forms masks fs gs) ≡ with_joining_forms masks fs gs
 formed-twice masks [] gs = refl
 formed-twice masks (f ∷ fs) [] = refl
 formed-twice masks (f ∷ fs) (g ∷ gs) =
-    ap (λ (k : ℕ). let h : hb_glyph_info_t = record g { auxiliary = f; mask = k } in h ∷ with_joining_forms masks fs
+    ap (λ (k : ℕ). let h : Glyph = record g { auxiliary = f; mask = k } in h ∷ with_joining_forms masks fs
     (with_joining_forms masks fs gs)) (or_twice g.mask (slice_index masks f))
     ∙ ap (λ hs. with_form masks f g ∷ hs) (formed-twice masks fs gs)
 
-map-formed : {Y : Type 0} (see : hb_glyph_info_t → Y) →
-    ((g : hb_glyph_info_t) (form mask : ℕ) → see (record g { auxiliary = form; mask = mask }) ≡ see g) →
-    (masks fs : List ℕ) (gs : List hb_glyph_info_t) → length fs ≡ length gs → map see (with_joining_forms masks fs gs)
+map-formed : {Y : Type 0} (see : Glyph → Y) →
+    ((g : Glyph) (form mask : ℕ) → see (record g { auxiliary = form; mask = mask }) ≡ see g) →
+    (masks fs : List ℕ) (gs : Glyphs) → length fs ≡ length gs → map see (with_joining_forms masks fs gs)
     ≡ map see gs
 map-formed see same masks [] [] e = refl
 map-formed see same masks [] (g ∷ gs) e = absurd (omega arith)
@@ -66,7 +66,7 @@ map-formed see same masks (f ∷ fs) (g ∷ gs) e =
 
 -- with the same text
 joined-twice : (breaks : BreakFlags) (masks : List ℕ) (flags : BufferFlags) (script : Option Script) (text : Text)
-    (gs : List hb_glyph_info_t) → length (forms_of script text) ≡ length gs
+    (gs : Glyphs) → length (forms_of script text) ≡ length gs
     → joined_glyphs breaks masks flags script text (joined_glyphs breaks masks flags script text gs)
     ≡ joined_glyphs breaks masks flags script text gs
 joined-twice breaks masks flags script text gs long =
@@ -91,7 +91,7 @@ text-stays breaks masks script joining general b =
     let fs = forms_of script text in
     let long : length fs ≡ length b.glyphs = length-forms_of script text (text_long joining general b)
     ∙ types_long joining b.glyphs in
-    let type_of = λ (g : hb_glyph_info_t). resolved (joining g.glyph_id) (general_category g.unicode_props) in
+    let type_of = λ (g : Glyph). resolved (joining g.glyph_id) (general_category g.unicode_props) in
     let before = context_types joining general b.before in
     let after = context_types joining general b.after in
     let characters : map (λ g. g.glyph_id) (joined_glyphs breaks masks b.flags script text b.glyphs) ≡ map
@@ -120,7 +120,7 @@ joined-once breaks masks script joining general b =
     (text_long joining general b) ∙ types_long joining b.glyphs in
     ap (λ (t : Text). let c : Buffer = record b { glyphs = joined_glyphs breaks masks b.flags script t once.glyphs }
     in c) (text-stays breaks masks script joining general b)
-    ∙ ap (λ (gs : List hb_glyph_info_t). let c : Buffer = record b { glyphs = gs } in c)
+    ∙ ap (λ (gs : Glyphs). let c : Buffer = record b { glyphs = gs } in c)
     (joined-twice breaks masks b.flags script text b.glyphs long)
 
 pub joined-again : (breaks : BreakFlags) (masks : List ℕ) (script : Option Script)
@@ -132,30 +132,30 @@ joined-again breaks masks script joining general old mid new first second =
     second ∙ ap after first ∙ joined-once breaks masks script joining general old ∙ sym first
 
 -- categories
-category-ors : (f : ℕ → ℕ) (ns : List ℕ) (gs : List hb_glyph_info_t) → map (categorized f) (ors ns gs) ≡ ors ns
+category-ors : (f : ℕ → ℕ) (ns : List ℕ) (gs : Glyphs) → map (categorized f) (ors ns gs) ≡ ors ns
     (map (categorized f) gs)
 category-ors f [] gs = refl
 category-ors f (n ∷ ns) [] = refl
 category-ors f (n ∷ ns) (g ∷ gs) = ap (λ hs. with_bits n (categorized f g) ∷ hs) (category-ors f ns gs)
 
-category-formed : (f : ℕ → ℕ) (masks fs : List ℕ) (gs : List hb_glyph_info_t) → map (categorized f)
+category-formed : (f : ℕ → ℕ) (masks fs : List ℕ) (gs : Glyphs) → map (categorized f)
     (with_joining_forms masks fs gs) ≡ with_joining_forms masks fs (map (categorized f) gs)
 category-formed f masks [] gs = refl
 category-formed f masks (k ∷ fs) [] = refl
 category-formed f masks (k ∷ fs) (g ∷ gs) = ap (λ hs. with_form masks k (categorized f g) ∷ hs)
     (category-formed f masks fs gs)
 
-category-twice : (f : ℕ → ℕ) (gs : List hb_glyph_info_t) → map (categorized f) (map (categorized f) gs) ≡ map
+category-twice : (f : ℕ → ℕ) (gs : Glyphs) → map (categorized f) (map (categorized f) gs) ≡ map
     (categorized f) gs
 category-twice f [] = refl
 category-twice f (g ∷ gs) = ap (λ hs. categorized f g ∷ hs) (category-twice f gs)
 
-category-clusters : (f : ℕ → ℕ) (gs : List hb_glyph_info_t) → clusters (map (categorized f) gs) ≡ clusters gs
+category-clusters : (f : ℕ → ℕ) (gs : Glyphs) → clusters (map (categorized f) gs) ≡ clusters gs
 category-clusters f [] = refl
 category-clusters f (g ∷ gs) = ap (λ cs. g.cluster ∷ cs) (category-clusters f gs)
 
 category-joined : (f : ℕ → ℕ) (breaks : BreakFlags) (masks : List ℕ) (flags : BufferFlags) (script : Option Script)
-    (text : Text) (gs : List hb_glyph_info_t) → map (categorized f) (joined_glyphs breaks masks flags script text gs)
+    (text : Text) (gs : Glyphs) → map (categorized f) (joined_glyphs breaks masks flags script text gs)
     ≡ joined_glyphs breaks masks flags script text (map (categorized f) gs)
 category-joined f breaks masks flags script text gs =
     let concat = has_flag flags_concat flags in
@@ -169,7 +169,7 @@ pub universal-again : (p : Option arabic_shape_plan_t) (script : Option Script) 
     (old mid new : Buffer) → MasksAreSet p script tables old mid → MasksAreSet p script tables mid new → new ≡ mid
 universal-again None script tables old mid new first second =
     second ∙ ap (with_categories tables) first
-    ∙ ap (λ (gs : List hb_glyph_info_t). let b : Buffer = record old { glyphs = gs } in b)
+    ∙ ap (λ (gs : Glyphs). let b : Buffer = record old { glyphs = gs } in b)
     (category-twice tables.universal old.glyphs)
     ∙ sym first
 universal-again (Some p) script tables old mid new first second =
@@ -178,7 +178,7 @@ universal-again (Some p) script tables old mid new first second =
     let joined = joined_glyphs p.break_flags p.mask_array b.flags script text in
     let stays : with_categories tables mid ≡ mid =
     ap (with_categories tables) first.0
-    ∙ ap (λ (gs : List hb_glyph_info_t). let c : Buffer = record old { glyphs = gs } in c)
+    ∙ ap (λ (gs : Glyphs). let c : Buffer = record old { glyphs = gs } in c)
     (category-joined tables.universal p.break_flags p.mask_array b.flags script text b.glyphs ∙ ap joined
     (category-twice tables.universal old.glyphs))
     ∙ sym first.0 in

@@ -6,7 +6,7 @@ use Rattle.shapers_base.specs.declared.plan.hb_ot_shape_plan_t.{hb_ot_shape_plan
 use Rattle.shapers_base.specs.declared.plan.pause.Pause.TheVariants.{ArabicFallbackShape, ClearSubstitutionFlags, RecordStch, SyllabicClearVar}
 use Rattle.shapers_buffer.specs.Buffer.{Buffer, new_buffer}
 use Rattle.shapers_buffer.specs.Glyph.{default_glyph}
-use Rattle.shapers_buffer.specs.declared.buffer.glyph.hb_glyph_info_t.{hb_glyph_info_t}
+use Rattle.shapers_buffer.specs.Glyphs.{Glyph}
 use Rattle.shapers_buffer.specs.declared.buffer.glyph_props.GlyphProps.{GlyphProps}
 use Rattle.shapers_breaks.specs.Pieces.{SameButFlags}
 use Rattle.shapers_pipeline.specs.Lookups.{text_noted}
@@ -14,7 +14,7 @@ use Rattle.shapers_pipeline.specs.Prepared.{Preparation, text_in_fractions, text
 use Rattle.shapers_editing.specs.PipelineBreaks.{CutBufferWhereClear, LookupsLeavePieces, NotesReadOrder, PauseLeaves, glyphs_made}
 
 -- what is made from the fractions on is what preparation makes, with its notes
-row_whole : (p : Preparation) (noted : hb_glyph_info_t → GlyphProps) (b : Buffer)
+row_whole : (p : Preparation) (noted : Glyph → GlyphProps) (b : Buffer)
     → text_noted noted (text_prepared p b) ≡ glyphs_made p noted (text_in_fractions p b)
 row_whole p noted b = refl
 
@@ -29,14 +29,14 @@ row_idle lookup b none front back cut = record {
 }
 
 -- notes of glyph numbers, as classes are, and notes of clusters, of glyph flags and of serials
-noting : (hb_glyph_info_t → ℕ) → hb_glyph_info_t → GlyphProps
+noting : (Glyph → ℕ) → Glyph → GlyphProps
 noting f g = record { 0 = f g }
 
 row_numbers : NotesReadOrder (noting (λ g. g.glyph_id))
 unfolding noting
 row_numbers = record { viewed = λ g. refl; counted = λ g. refl }
 
-glyph : ℕ → ℕ → ℕ → hb_glyph_info_t
+glyph : ℕ → ℕ → ℕ → Glyph
 glyph c m byte = record default_glyph { cluster = c; mask = m; syllable = byte }
 
 row_clusters : NotesReadOrder (noting (λ g. g.cluster)) → ⊥

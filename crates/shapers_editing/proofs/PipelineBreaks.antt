@@ -12,7 +12,7 @@ use Rattle.shapers_base.specs.declared.plan.pause.Pause.TheVariants.{SetupSyllab
 use Rattle.shapers_buffer.specs.Buffer.{Buffer}
 use Rattle.shapers_buffer.specs.Glyph.{plain}
 use Rattle.shapers_buffer.specs.Properties.{no_ligature}
-use Rattle.shapers_buffer.specs.declared.buffer.glyph.hb_glyph_info_t.{hb_glyph_info_t}
+use Rattle.shapers_buffer.specs.Glyphs.{Glyph, Glyphs}
 use Rattle.shapers_buffer.specs.declared.buffer.glyph_props.GlyphProps.{GlyphProps}
 use Rattle.shapers_buffer.specs.declared.buffer.syllables.Span.{Span}
 use Rattle.shapers_clusters.specs.Breaks.{IsClear}
@@ -39,9 +39,6 @@ use Rattle.shapers_pipeline.specs.ShaperSteps.{masks_set_by, masks_set_for, univ
 use Rattle.shapers_pipeline.specs.Stages.{PauseRun, PauseRunIf, StageRun, StagesRun, Substitution, stage_looked_up}
 use Rattle.shapers_pipeline.proofs.Pausing.{pause_positions}
 use Rattle.shapers_editing.specs.PipelineBreaks.{CutBufferWhereClear, LookupsLeavePieces, MakesSame, MasksInPieces, MasksSetInPieces, NotesReadOrder, PauseLeaves, PipelineBreaks, ShaperStagesBreak, ShapingBreaks, StagedPiece, StagesLeavePieces, StepLeavesPieces, SyllabicStagesBreak, glyphs_looked_up, glyphs_made}
-
-abbrev Glyphs : Type 0
-Glyphs = List hb_glyph_info_t
 
 -- STEPS one behind the other
 abbrev InTurn : (S T : Buffer → Buffer → Type 0) → Buffer → Buffer → Type 0
@@ -167,8 +164,8 @@ stages_leave law r (s ∷ ss) old new keeps leaves none run so =
 
 -- MASKS of pieces
 long_first : (change : Glyphs → Glyphs) (xs ys : Glyphs) → SameButFlags (change xs) ys → length (change xs) ≡ length ys
-long_first change xs ys same = sym (length-map (change xs) (λ (g : hb_glyph_info_t). g.cluster)) ∙ ap length same.1
-    ∙ length-map ys (λ (g : hb_glyph_info_t). g.cluster)
+long_first change xs ys same = sym (length-map (change xs) (λ (g : Glyph). g.cluster)) ∙ ap length same.1
+    ∙ length-map ys (λ (g : Glyph). g.cluster)
 
 record InTwo (made : Buffer → Buffer) (old : Buffer) (front back : Glyphs) : Type 0 where
   within : length front < length old.glyphs
@@ -283,28 +280,28 @@ masked_positions (Some Universal) plan tables b =
     ]
 
 -- GLYPHS of characters, with their notes
-noted_glyph : (hb_glyph_info_t → GlyphProps) → hb_glyph_info_t → hb_glyph_info_t
+noted_glyph : (Glyph → GlyphProps) → Glyph → Glyph
 noted_glyph noted g = with_note noted (as_glyph g)
 
-noted_as : hb_glyph_info_t → GlyphProps → hb_glyph_info_t
+noted_as : Glyph → GlyphProps → Glyph
 noted_as g props = record g { glyph_props = props; lig_props = no_ligature }
 
-reads_notes : (noted : hb_glyph_info_t → GlyphProps) → NotesReadOrder noted → ReadsOrder (noted_glyph noted)
+reads_notes : (noted : Glyph → GlyphProps) → NotesReadOrder noted → ReadsOrder (noted_glyph noted)
 unfolding noted_glyph noted_as
 reads_notes noted notes = record {
   added = λ g. added_same g (noted_glyph noted g) refl refl;
   byte = λ g. refl;
   viewed = λ g.
-      ap (λ (k : ℕ). let r : hb_glyph_info_t = record (noted_glyph noted g) { cluster = 0; mask = k } in r)
+      ap (λ (k : ℕ). let r : Glyph = record (noted_glyph noted g) { cluster = 0; mask = k } in r)
       (sym (flags-twice g.mask))
       ∙ ap (noted_as (plain (as_glyph (plain g)))) (notes.viewed (as_glyph g));
   counted = λ g.
-      ap (λ (k : ℕ). let r : hb_glyph_info_t = record (plain (noted_glyph noted g)) { syllable = k } in r)
+      ap (λ (k : ℕ). let r : Glyph = record (plain (noted_glyph noted g)) { syllable = k } in r)
       (sym (kind-twice g.syllable))
       ∙ ap (noted_as (unnumbered (plain (as_glyph (unnumbered g))))) (notes.counted (as_glyph g));
 }
 
-made_is : (p : Preparation) (noted : hb_glyph_info_t → GlyphProps) → p.ranges ≡ [] → (b : Buffer)
+made_is : (p : Preparation) (noted : Glyph → GlyphProps) → p.ranges ≡ [] → (b : Buffer)
     → (glyphs_made p noted b).glyphs ≡ map (noted_glyph noted) (masks_set_for p.shaper p.plan p.tables b).glyphs
 unfolding noted_glyph
 made_is p noted none b =

@@ -3,7 +3,7 @@ use Rattle.std.proofs.Common.{ℕ, ◌-◌, ◌<◌, List, length, reverse, get_
 use Rattle.std.specs.List.{All}
 use Rattle.std.proofs.lemmas.List.{get_or-reverse, length-reverse}
 use Rattle.std.proofs.lemmas.List.Elements.{All-contains}
-use Rattle.shapers_buffer.specs.declared.buffer.glyph.hb_glyph_info_t.{hb_glyph_info_t}
+use Rattle.shapers_buffer.specs.Glyphs.{Glyphs}
 use Rattle.shapers_buffer.specs.declared.buffer.level.Direction.TheVariants.{LeftToRight, RightToLeft}
 use Rattle.shapers_buffer.specs.Glyph.{clusters}
 use Rattle.shapers_clusters.specs.Cuts.{IsFalling, IsMonotone, IsRising}
@@ -22,7 +22,7 @@ turned-rises cs falls = λ i j d before within.
       get_or-reverse cs j d inside,
     )
 
-one-way : (gs : List hb_glyph_info_t) → IsMonotone (clusters gs) → EachStopsOneWay gs
+one-way : (gs : Glyphs) → IsMonotone (clusters gs) → EachStopsOneWay gs
 one-way gs (inl up) = inl (up, each-stops LeftToRight gs up)
 one-way gs (inr down) = inr (down, each-stops RightToLeft gs (turned-rises (clusters gs) down))
 

@@ -3,7 +3,7 @@ use Rattle.std.proofs.Common.{◌≡◌, ℕ, zero, suc, ◌+◌, ◌-◌, ◌<�
 use Rattle.std.proofs.lemmas.Bool.{cases_Bool, cases_lt, cond-true, cond-false, eqb-true}
 use Rattle.std.proofs.lemmas.List.{length-append, take-append-le, drop-append-le, nil_from_length, length-drop}
 use Rattle.std.proofs.lemmas.List.Sums.{sum_by-cons}
-use Rattle.shapers_buffer.specs.declared.buffer.glyph.hb_glyph_info_t.{hb_glyph_info_t}
+use Rattle.shapers_buffer.specs.Glyphs.{Glyphs}
 use Rattle.shapers_buffer.specs.declared.buffer.syllables.Span.{Span}
 use Rattle.shapers_spans.specs.Cuts.{ReadsAlike}
 use Rattle.shapers_spans.specs.Grammar.{Grammar, IsCutFrom, IsFirst, IsSyllable, IsSyllableCut, NoneTakes, OpensWith, lead_spans, reach_of, read_of}
@@ -13,7 +13,7 @@ use Rattle.shapers_spans.proofs.Reached.{behind-is-read, keep_reach, keep_read, 
 use Rattle.shapers_spans.proofs.Reading.{syllable_within}
 use Rattle.shapers_editing.specs.SpanEdits.{AreDone, IsDone, OneCut, SpansBehindStay, SpansInFrontStay}
 
-reach-in : (g : Grammar) (gs hs : List hb_glyph_info_t) (n : ℕ) → ReadsAlike g gs hs → n < length (read_of g.passes gs)
+reach-in : (g : Grammar) (gs hs : Glyphs) (n : ℕ) → ReadsAlike g gs hs → n < length (read_of g.passes gs)
     → reach_of g.passes (gs ++ hs) n ≡ reach_of g.passes gs n
 reach-in g [] hs n a l = absurd (omega arith)
 reach-in g (x ∷ gs) hs zero a l =
@@ -84,7 +84,7 @@ syllable-moved g w v u s d (inr y) =
     )
 
 -- it opens a text whatever stands behind
-opens-moved : (g : Grammar) (gs hs ks : List hb_glyph_info_t) (s : Span) → ReadsAlike g gs hs → ReadsAlike g gs ks
+opens-moved : (g : Grammar) (gs hs ks : Glyphs) (s : Span) → ReadsAlike g gs hs → ReadsAlike g gs ks
     → IsDone g (read_of g.passes gs) → OpensWith g (gs ++ hs) s → (s.len ≤ length gs) × OpensWith g (gs ++ ks) s
 opens-moved g gs hs ks s a b d o =
     let p = g.passes in
@@ -127,7 +127,7 @@ one-syllable g w s t (inl y) (inr z) = absurd (z.none s.len y.some y.within y.ru
 one-syllable g w s t (inr y) (inl z) = absurd (y.none t.len z.some z.within z.rule z.first.takes)
 one-syllable g w s t (inr y) (inr z) = same-span s t (y.one ∙ sym z.one) (y.kind ∙ sym z.kind)
 
-opens-one : (g : Grammar) (gs : List hb_glyph_info_t) (s t : Span) → OpensWith g gs s → OpensWith g gs t → s ≡ t
+opens-one : (g : Grammar) (gs : Glyphs) (s t : Span) → OpensWith g gs s → OpensWith g gs t → s ≡ t
 opens-one g gs s t o q =
     let e = one-syllable g (read_of g.passes gs) o.read q.read o.syllable q.syllable in
     same-span s t
@@ -137,7 +137,7 @@ opens-one g gs s t o q =
 opens-none : (g : Grammar) (s : Span) → OpensWith g [] s → ⊥
 opens-none g s o = let (a, b) = syllable_within g [] o.read o.syllable in omega arith
 
-one-cut-from : (g : Grammar) (gs : List hb_glyph_info_t) (ss ts : List Span) → IsCutFrom g gs ss → IsCutFrom g gs ts
+one-cut-from : (g : Grammar) (gs : Glyphs) (ss ts : List Span) → IsCutFrom g gs ss → IsCutFrom g gs ts
     → ss ≡ ts
 one-cut-from g gs [] [] c d = refl
 one-cut-from g gs [] (t ∷ ts) c d = absurd (opens-none g t (subst (λ xs. OpensWith g xs t) c d.0))
@@ -154,7 +154,7 @@ one-cut g gs ss ts c d =
     (one-cut-from g (drop (reach_of g.passes gs 0) gs) c.rest d.rest c.cut d.cut) ∙ sym d.whole
 
 -- IN FRONT OF AN EDIT
-front-from : (g : Grammar) (gs hs ks : List hb_glyph_info_t) (ps ss ts : List Span) → ReadsAlike g gs hs
+front-from : (g : Grammar) (gs hs ks : Glyphs) (ps ss ts : List Span) → ReadsAlike g gs hs
     → ReadsAlike g gs ks → IsCutFrom g (gs ++ hs) (ps ++ ss) → IsCutFrom g (gs ++ ks) ts → AreDone g gs ps →
     (us : List Span) × (ts ≡ ps ++ us)
 front-from g gs hs ks [] ss ts a b c d done = (ts, refl)
@@ -224,17 +224,17 @@ in-front g gs hs ks (p ∷ ps) ss ts a b c d done =
     (cases_Bool (n == 0))
 
 -- BEHIND AN EDIT
-record Behind (g : Grammar) (hs : List hb_glyph_info_t) (ts : List Span) : Type 0 where
+record Behind (g : Grammar) (hs : Glyphs) (ts : List Span) : Type 0 where
   cut : IsCutFrom g hs ts
   read : g.passes hs ≡ false
 
-behind-from : (g : Grammar) → g.passes [] ≡ false → (gs hs : List hb_glyph_info_t) (ss ts : List Span) → IsCutFrom g
+behind-from : (g : Grammar) → g.passes [] ≡ false → (gs hs : Glyphs) (ss ts : List Span) → IsCutFrom g
     (gs ++ hs) (ss ++ ts) → sum_by (λ (s : Span). s.len) ss ≡ length gs → g.passes (gs ++ hs) ≡ false → Behind g hs ts
 behind-from g z gs hs [] ts c l r =
     let e : gs ≡ [] = nil_from_length gs (sym l) in
     record {
-      cut = subst (λ (xs : List hb_glyph_info_t). IsCutFrom g (xs ++ hs) ts) e c;
-      read = subst (λ (xs : List hb_glyph_info_t). g.passes (xs ++ hs) ≡ false) e r;
+      cut = subst (λ (xs : Glyphs). IsCutFrom g (xs ++ hs) ts) e c;
+      read = subst (λ (xs : Glyphs). g.passes (xs ++ hs) ≡ false) e r;
     }
 behind-from g z gs hs (s ∷ ss) ts c l r =
     let p : s.len + sum_by (λ (t : Span). t.len) ss ≡ length gs = sym (sum_by-cons (λ (t : Span). t.len) s ss) ∙ l in
@@ -244,7 +244,7 @@ behind-from g z gs hs (s ∷ ss) ts c l r =
     behind-from g z (drop s.len gs) hs ss ts (subst (λ xs. IsCutFrom g xs (ss ++ ts)) on c.1)
     (omega (arith, p, length-drop s.len gs)) (subst (λ xs. g.passes xs ≡ false) on stop)
 
-unopened : (g : Grammar) (hs : List hb_glyph_info_t) (ts : List Span) → Behind g hs ts → IsSyllableCut g hs ts
+unopened : (g : Grammar) (hs : Glyphs) (ts : List Span) → Behind g hs ts → IsSyllableCut g hs ts
 unopened g hs ts b =
     let none : reach_of g.passes hs 0 ≡ 0 = reach-zero g.passes hs b.read in
     record {
@@ -253,9 +253,9 @@ unopened g hs ts b =
       cut = subst (λ n. IsCutFrom g (drop n hs) ts) (sym none) b.cut;
     }
 
-behind-cut : (g : Grammar) → g.passes [] ≡ false → (gs hs : List hb_glyph_info_t) (ss ts : List Span) → IsSyllableCut g
+behind-cut : (g : Grammar) → g.passes [] ≡ false → (gs hs : Glyphs) (ss ts : List Span) → IsSyllableCut g
     (gs ++ hs) (ss ++ ts) → sum_by (λ (s : Span). s.len) ss ≡ length gs → IsSyllableCut g hs ts
-behind-cut g z gs hs [] ts c l = subst (λ (xs : List hb_glyph_info_t). IsSyllableCut g (xs ++ hs) ts)
+behind-cut g z gs hs [] ts c l = subst (λ (xs : Glyphs). IsSyllableCut g (xs ++ hs) ts)
     (nil_from_length gs (sym l)) c
 behind-cut g z gs hs (s ∷ ss) ts c l =
     let n = reach_of g.passes (gs ++ hs) 0 in

@@ -3,7 +3,7 @@
 -- text that runs forward and fall along one that runs backward.)
 use Rattle.std.specs.Prelude.{ℕ, ◌≡◌, ◌<◌, ◌≤◌, nat_le, nat_lt, Bool, true, false, ◌&&◌, List, [], ◌∷◌, reverse, if◌then◌else◌}
 use Rattle.std.specs.List.{All, AllPairs, Contains, count_by, list_all}
-use Rattle.shapers_buffer.specs.declared.buffer.glyph.hb_glyph_info_t.{hb_glyph_info_t}
+use Rattle.shapers_buffer.specs.Glyphs.{Glyphs}
 use Rattle.shapers_buffer.specs.declared.buffer.level.Direction.{Direction}
 use Rattle.shapers_buffer.specs.declared.buffer.level.Direction.TheVariants.{RightToLeft, BottomToTop}
 use Rattle.shapers_buffer.specs.Glyph.{clusters}
@@ -17,7 +17,7 @@ is_backward BottomToTop = true
 is_backward _ = false
 
 -- the clusters of glyphs in the order of the text
-abbrev pub text_clusters : Direction → List hb_glyph_info_t → List ℕ
+abbrev pub text_clusters : Direction → Glyphs → List ℕ
 text_clusters direction gs =
     if is_backward direction then reverse (clusters gs) else clusters gs
 
@@ -28,7 +28,7 @@ lesser (c ∷ cs) = if list_all (λ d. nat_lt c d) cs then c ∷ lesser cs else 
 
 -- The places of the text where a caret may stand before a glyph: each cluster, in the order of the
 -- text, that is less than all behind it. Where clusters rise along the text that is each of them.
-abbrev pub caret_stops : Direction → List hb_glyph_info_t → List ℕ
+abbrev pub caret_stops : Direction → Glyphs → List ℕ
 caret_stops direction gs = lesser (text_clusters direction gs)
 
 -- the intervals of the text from each stop to the next, and from the last to the text's end
@@ -52,19 +52,19 @@ pub record IsCaretMap (end : ℕ) (cs stops : List ℕ) : Type 0 where
 
 -- so of every text that ends behind its clusters
 abbrev pub StopsMapText : Type 0
-StopsMapText = (direction : Direction) (gs : List hb_glyph_info_t) (end : ℕ) →
+StopsMapText = (direction : Direction) (gs : Glyphs) (end : ℕ) →
     All (λ c. c < end) (clusters gs) →
     IsCaretMap end (clusters gs) (caret_stops direction gs)
 
 -- Where clusters rise along the text before it is shaped, and no cluster is new after it, each stop
 -- was one.
 abbrev pub BordersWereBorders : Type 0
-BordersWereBorders = (before after : Direction) (old new : List hb_glyph_info_t) →
+BordersWereBorders = (before after : Direction) (old new : Glyphs) →
     IsRising (text_clusters before old) → NoNewCluster old new →
     All (Contains (caret_stops before old)) (caret_stops after new)
 
 -- where clusters rise along the text, each of them is a stop
 abbrev pub EachClusterStops : Type 0
-EachClusterStops = (direction : Direction) (gs : List hb_glyph_info_t) →
+EachClusterStops = (direction : Direction) (gs : Glyphs) →
     IsRising (text_clusters direction gs) →
     All (Contains (caret_stops direction gs)) (clusters gs)

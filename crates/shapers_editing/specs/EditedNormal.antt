@@ -1,6 +1,6 @@
 -- What an edit of a text leaves of its normalization.
-use Rattle.std.specs.Prelude.{◌≡◌, false, true, List, ◌++◌}
-use Rattle.shapers_buffer.specs.declared.buffer.glyph.hb_glyph_info_t.{hb_glyph_info_t}
+use Rattle.std.specs.Prelude.{◌≡◌, false, true, ◌++◌}
+use Rattle.shapers_buffer.specs.Glyphs.{Glyphs}
 use Rattle.shapers_buffer.specs.declared.buffer.level.BufferClusterLevel.{BufferClusterLevel}
 use Rattle.shapers_clusters.specs.Cuts.{ShareNone}
 use Rattle.shapers_normal.specs.Context.{Context}
@@ -14,7 +14,7 @@ use Rattle.shapers_prepare.specs.FirstCircle.{begins_with_mark}
 -- A text may be cut between these two parts: they share no cluster; the second one begins with no
 -- mark, and what it comes apart into with none and no grapheme joiner; and the first one ends in no
 -- grapheme joiner once its marks are in order.
-pub record MayCut (context : Context) (level : BufferClusterLevel) (gs hs : List hb_glyph_info_t)
+pub record MayCut (context : Context) (level : BufferClusterLevel) (gs hs : Glyphs)
     : Type 0 where
   pub apart : ShareNone gs hs
   pub letter : begins_with_mark hs ≡ false
@@ -26,7 +26,7 @@ pub record MayCut (context : Context) (level : BufferClusterLevel) (gs hs : List
 -- rounds in each text. So where the middle part is edited, the other two come out as before.
 abbrev pub NormalizedOutside : Type 0
 NormalizedOutside = (context : Context) (level : BufferClusterLevel)
-    (front middle back : List hb_glyph_info_t) → OrdersAlone context →
+    (front middle back : Glyphs) → OrdersAlone context →
     MayCut context level front (middle ++ back) → MayCut context level middle back →
     normalized context Always level (front ++ (middle ++ back))
     ≡ normalized context Always level front

@@ -5,7 +5,7 @@ use Rattle.shapers_base.specs.declared.plan.hb_ot_shape_plan_t.{hb_ot_shape_plan
 use Rattle.shapers_base.specs.declared.plan.pause.Pause.{Pause}
 use Rattle.shapers_base.specs.declared.plan.pause.Pause.TheVariants.{SetupSyllablesIndic, SetupSyllablesUse, InitialReordering, ReorderUse, FinalReordering}
 use Rattle.shapers_base.specs.Font.{Font}
-use Rattle.shapers_buffer.specs.declared.buffer.glyph.hb_glyph_info_t.{hb_glyph_info_t}
+use Rattle.shapers_buffer.specs.Glyphs.{Glyph, Glyphs}
 use Rattle.shapers_buffer.specs.declared.buffer.syllables.Span.{Span}
 use Rattle.shapers_buffer.specs.Buffer.{Buffer}
 use Rattle.shapers_buffer.specs.Glyph.{clusters, order_view}
@@ -23,12 +23,12 @@ use Rattle.rustybuzz_shapers.specs.Pauses.{Paused, Reordering, by_initial, by_un
 
 -- a part of a text, with the spans that cover it
 pub record TextPart : Type 0 where
-  pub glyphs : List hb_glyph_info_t
+  pub glyphs : Glyphs
   pub spans : List Span
   pub covered : spans_cover (length glyphs) spans ≡ true
 
 -- a text of three parts: what stands in front of an edit, what is edited, and what stands behind it
-abbrev pub whole_glyphs : TextPart → TextPart → TextPart → List hb_glyph_info_t
+abbrev pub whole_glyphs : TextPart → TextPart → TextPart → Glyphs
 whole_glyphs front middle back = front.glyphs ++ (middle.glyphs ++ back.glyphs)
 
 abbrev pub whole_spans : TextPart → TextPart → TextPart → List Span
@@ -47,9 +47,9 @@ pub record AlikeAtEnds {X : Type 0} (n m : ℕ) (xs ys : List X) : Type 0 where
 -- What texts that differ in their middle part become, xs and ys, is the same in front and behind,
 -- as far as what the other parts become by themselves reaches: in the order view as far as the view
 -- shows it; and in the clusters, where neither part shares one with the rest.
-pub record SameOutside (view : hb_glyph_info_t → hb_glyph_info_t) (made : TextPart →
-    List hb_glyph_info_t) (clusters_made : TextPart → List ℕ) (front old new back : TextPart)
-    (xs ys : List hb_glyph_info_t) : Type 0 where
+pub record SameOutside (view : Glyph → Glyph) (made : TextPart →
+    Glyphs) (clusters_made : TextPart → List ℕ) (front old new back : TextPart)
+    (xs ys : Glyphs) : Type 0 where
   pub order : AlikeAtEnds (length (made front)) (length (made back))
       (map view (order_view xs)) (map view (order_view ys))
   pub in_clusters : ShareNone front.glyphs (old.glyphs ++ back.glyphs) →
@@ -61,11 +61,11 @@ pub record SameOutside (view : hb_glyph_info_t → hb_glyph_info_t) (made : Text
 
 -- so of any set-up and pauses that can be cut between spans
 abbrev pub EditsStayOutside : Type 0
-EditsStayOutside = (view : hb_glyph_info_t → hb_glyph_info_t)
-    (set_up : List Span → List hb_glyph_info_t → List hb_glyph_info_t)
-    (made : List hb_glyph_info_t → List hb_glyph_info_t)
-    (clusters_made : List hb_glyph_info_t → List ℕ)
-    (front old new back : TextPart) (xs ys : List hb_glyph_info_t) →
+EditsStayOutside = (view : Glyph → Glyph)
+    (set_up : List Span → Glyphs → Glyphs)
+    (made : Glyphs → Glyphs)
+    (clusters_made : Glyphs → List ℕ)
+    (front old new back : TextPart) (xs ys : Glyphs) →
     CutsBetweenSpans view set_up made clusters_made (whole_spans front old back)
     (whole_glyphs front old back) xs →
     CutsBetweenSpans view set_up made clusters_made (whole_spans front new back)

@@ -1,6 +1,6 @@
 -- What an edit leaves of a text whose syllables a grammar finds.
 use Rattle.std.specs.Prelude.{◌-◌, ◌≡◌, ◌≤◌, List, ◌++◌, drop, length, reverse, take}
-use Rattle.shapers_buffer.specs.declared.buffer.glyph.hb_glyph_info_t.{hb_glyph_info_t}
+use Rattle.shapers_buffer.specs.Glyphs.{Glyphs}
 use Rattle.shapers_buffer.specs.declared.buffer.syllables.Span.{Span}
 use Rattle.shapers_spans.specs.Cuts.{AreSpansOf}
 use Rattle.shapers_spans.specs.Grammar.{Grammar}
@@ -10,12 +10,12 @@ use Rattle.shapers_editing.specs.declared.edits.Edit.{Edit}
 use Rattle.shapers_editing.specs.declared.edits.Unaffected.{Unaffected}
 
 -- the text with the edit
-abbrev pub with_edit : Edit → List hb_glyph_info_t → List hb_glyph_info_t
+abbrev pub with_edit : Edit → Glyphs → Glyphs
 with_edit e gs = take e.start gs ++ (e.glyphs.now ++ drop e.end gs)
 
 -- How many glyphs in front and behind the edit leaves: those that belong to spans which the text
 -- and the edited one share, in front of the edit and behind it.
-pub record IsUnaffected (g : Grammar) (gs : List hb_glyph_info_t) (e : Edit) (left : Unaffected)
+pub record IsUnaffected (g : Grammar) (gs : Glyphs) (e : Edit) (left : Unaffected)
     : Type 0 where
   pub old : List Span
   pub new : List Span
@@ -26,7 +26,7 @@ pub record IsUnaffected (g : Grammar) (gs : List hb_glyph_info_t) (e : Edit) (le
 
 -- So many glyphs are the same in both texts, with their spans: each text is a part in front, one of
 -- its own, and a part behind.
-pub record SharesParts (gs hs : List hb_glyph_info_t) (ss ts : List Span) (left : Unaffected)
+pub record SharesParts (gs hs : Glyphs) (ss ts : List Span) (left : Unaffected)
     : Type 0 where
   pub front : TextPart
   pub old : TextPart
@@ -40,6 +40,6 @@ pub record SharesParts (gs hs : List hb_glyph_info_t) (ss ts : List Span) (left 
   pub behind : length back.glyphs ≡ left.back
 
 abbrev pub UnaffectedIsShared : Type 0
-UnaffectedIsShared = (g : Grammar) (gs : List hb_glyph_info_t) (e : Edit) (left : Unaffected) →
+UnaffectedIsShared = (g : Grammar) (gs : Glyphs) (e : Edit) (left : Unaffected) →
     e.start ≤ e.end → e.end ≤ length gs → (done : IsUnaffected g gs e left) →
     SharesParts gs (with_edit e gs) done.old done.new left

@@ -7,7 +7,7 @@ use Rattle.shapers_base.specs.declared.plan.pause.Pause.{Pause}
 use Rattle.shapers_base.specs.declared.plan.pause.Pause.TheVariants.{InitialReordering, ReorderKhmer, ReorderMyanmar, SetupSyllablesIndic, SetupSyllablesKhmer, SetupSyllablesMyanmar}
 use Rattle.shapers_buffer.specs.Buffer.{Buffer}
 use Rattle.shapers_buffer.specs.Glyph.{plain}
-use Rattle.shapers_buffer.specs.declared.buffer.glyph.hb_glyph_info_t.{hb_glyph_info_t}
+use Rattle.shapers_buffer.specs.Glyphs.{Glyph, Glyphs}
 use Rattle.shapers_buffer.specs.declared.buffer.glyph_props.GlyphProps.{GlyphProps}
 use Rattle.shapers_buffer.specs.declared.buffer.syllables.Span.{Span}
 use Rattle.shapers_clusters.specs.Breaks.{IsClear}
@@ -32,7 +32,7 @@ use Rattle.shapers_pipeline.specs.Stages.{PauseRun, StagesRun, Substitution, sta
 
 -- Of every text without positions that is the same as a piece, whatever else its buffer has, a step
 -- makes the same as what it made of the piece.
-abbrev pub MakesSame : (Buffer → Buffer → Type 0) → List hb_glyph_info_t → List hb_glyph_info_t →
+abbrev pub MakesSame : (Buffer → Buffer → Type 0) → Glyphs → Glyphs →
     Type 0
 MakesSame Step piece made = (old new : Buffer) → old.positions ≡ [] →
     SameButFlags old.glyphs piece → Step old new → SameButFlags new.glyphs made
@@ -41,7 +41,7 @@ MakesSame Step piece made = (old new : Buffer) → old.positions ≡ [] →
 -- text was, and it makes the parts of its pieces.
 abbrev pub StepLeavesPieces : (Buffer → Buffer → Type 0) → Buffer → Buffer → Type 0
 StepLeavesPieces Step old new =
-    BreaksWhereCleared (List hb_glyph_info_t) CutWhereClear (MakesSame Step) old.glyphs new.glyphs
+    BreaksWhereCleared Glyphs CutWhereClear (MakesSame Step) old.glyphs new.glyphs
 
 -- lookups that do so in every text
 abbrev pub LookupsLeavePieces : (StageLookup → Buffer → Buffer) → Type 0
@@ -89,19 +89,19 @@ MasksSetInPieces = (shaper : Option hb_ot_shaper_t) (plan : hb_ot_shape_plan_t)
     MasksInPieces shaper plan tables b
 
 -- what the lookups keep beside a glyph doesn't depend on its cluster, glyph flags or serial
-pub record NotesReadOrder (noted : hb_glyph_info_t → GlyphProps) : Type 0 where
-  pub viewed : (g : hb_glyph_info_t) → noted g ≡ noted (plain g)
-  pub counted : (g : hb_glyph_info_t) → noted g ≡ noted (unnumbered g)
+pub record NotesReadOrder (noted : Glyph → GlyphProps) : Type 0 where
+  pub viewed : (g : Glyph) → noted g ≡ noted (plain g)
+  pub counted : (g : Glyph) → noted g ≡ noted (unnumbered g)
 
 -- A text from its fractions on: its masks, glyphs and notes.
-abbrev pub glyphs_made : Preparation → (hb_glyph_info_t → GlyphProps) → Buffer → Buffer
+abbrev pub glyphs_made : Preparation → (Glyph → GlyphProps) → Buffer → Buffer
 glyphs_made p noted b =
     let masked = masks_set_for p.shaper p.plan p.tables b in
     let featured = map (with_features p.ranges) masked.glyphs in
     text_noted noted (record masked { glyphs = map as_glyph featured })
 
 -- what the law of the whole pipeline needs of it, besides its pauses: no features in ranges
-pub record LeavesAllPieces (p : Preparation) (noted : hb_glyph_info_t → GlyphProps)
+pub record LeavesAllPieces (p : Preparation) (noted : Glyph → GlyphProps)
     (r : Substitution) (old : Buffer) : Type 0 where
   pub no_ranges : p.ranges ≡ []
   pub masks : MasksInPieces p.shaper p.plan p.tables old
@@ -113,7 +113,7 @@ pub record LeavesAllPieces (p : Preparation) (noted : hb_glyph_info_t → GlyphP
 -- A text from its fractions on, up to the last stage, may be broken at every clear place: what
 -- becomes of each piece by itself is what became of it in the text.
 abbrev pub PipelineBreaks : Type 0
-PipelineBreaks = (p : Preparation) (noted : hb_glyph_info_t → GlyphProps) (r : Substitution)
+PipelineBreaks = (p : Preparation) (noted : Glyph → GlyphProps) (r : Substitution)
     (ss : List Stage) (old new : Buffer) → LeavesAllPieces p noted r old →
     (run : StagesRun r ss (glyphs_made p noted old) new) →
     AtPauses (PauseLeaves r.plan r.font) r ss (glyphs_made p noted old) new run →
@@ -135,7 +135,7 @@ PreparedInPieces p old = (front back : Buffer) →
 
 -- the same from a text's characters on
 abbrev pub ShapingBreaks : Type 0
-ShapingBreaks = (p : Preparation) (noted : hb_glyph_info_t → GlyphProps) (r : Substitution)
+ShapingBreaks = (p : Preparation) (noted : Glyph → GlyphProps) (r : Substitution)
     (ss : List Stage) (old new : Buffer) → PreparedInPieces p old →
     LeavesAllPieces p noted r (text_in_fractions p old) →
     (run : StagesRun r ss (text_noted noted (text_prepared p old)) new) →
@@ -146,14 +146,14 @@ ShapingBreaks = (p : Preparation) (noted : hb_glyph_info_t → GlyphProps) (r : 
     old new.glyphs
 
 -- what the lookups of a stage make of glyphs, in a buffer that has them
-abbrev pub glyphs_looked_up : Substitution → Stage → Buffer → List hb_glyph_info_t →
-    List hb_glyph_info_t
+abbrev pub glyphs_looked_up : Substitution → Stage → Buffer → Glyphs →
+    Glyphs
 glyphs_looked_up r s b gs = (stage_looked_up r s (record b { glyphs = gs })).glyphs
 
 -- A piece, with its spans, by itself: set up, given to the lookups of the stage that ends with the
 -- reordering, reordered, with circles as the whole has them, and given to the stages behind.
 abbrev pub StagedPiece : Substitution → Stage → List Stage → Reordering → Buffer → SpannedText →
-    List hb_glyph_info_t → Type 0
+    Glyphs → Type 0
 StagedPiece r second ss reordering mid piece made = (one two : Buffer) →
     let set_up = unsafe_spans piece.spans piece.glyphs in
     let looked = glyphs_looked_up r second mid set_up in

@@ -1,7 +1,7 @@
 -- Where a caret may stand in a text that was shaped all the way.
 use Rattle.std.specs.Prelude.{ℕ, ◌≡◌, ◌<◌, ◌⊎◌, true, List, []}
 use Rattle.std.specs.List.{All, Contains}
-use Rattle.shapers_buffer.specs.declared.buffer.glyph.hb_glyph_info_t.{hb_glyph_info_t}
+use Rattle.shapers_buffer.specs.Glyphs.{Glyph, Glyphs}
 use Rattle.shapers_buffer.specs.declared.buffer.glyph_props.GlyphProps.{GlyphProps}
 use Rattle.shapers_buffer.specs.declared.buffer.level.Direction.{Direction}
 use Rattle.shapers_buffer.specs.declared.buffer.level.Direction.TheVariants.{LeftToRight, RightToLeft}
@@ -20,17 +20,17 @@ use Rattle.shapers_editing.specs.Carets.{IsCaretMap, caret_stops}
 
 -- The stops of shaped glyphs, new, whichever way they run, are a caret map of the text up to its
 -- end; and each is a border of the clusters that its characters, old, had in the order of the text.
-pub record StopsAreBorders (end : ℕ) (old new : List hb_glyph_info_t) (direction : Direction)
+pub record StopsAreBorders (end : ℕ) (old new : Glyphs) (direction : Direction)
     : Type 0 where
   pub map : IsCaretMap end (clusters new) (caret_stops direction new)
   pub borders : All (Contains (caret_stops LeftToRight old)) (caret_stops direction new)
 
 -- each cluster is a stop
-abbrev pub EachStops : List hb_glyph_info_t → Direction → Type 0
+abbrev pub EachStops : Glyphs → Direction → Type 0
 EachStops gs direction = All (Contains (caret_stops direction gs)) (clusters gs)
 
 -- The clusters rise, or fall, and in the direction that goes with it each is a stop.
-abbrev pub EachStopsOneWay : List hb_glyph_info_t → Type 0
+abbrev pub EachStopsOneWay : Glyphs → Type 0
 EachStopsOneWay gs =
     (IsRising (clusters gs) × EachStops gs LeftToRight)
     ⊎ (IsFalling (clusters gs) × EachStops gs RightToLeft)
@@ -39,7 +39,7 @@ EachStopsOneWay gs =
 -- behind the lookups, mid, and to those with positions. Where each pause keeps clusters rising or
 -- falling, at the levels that merge, each cluster is a stop.
 abbrev pub ShapedTextHasCarets : Type 0
-ShapedTextHasCarets = (p : Preparation) (noted : hb_glyph_info_t → GlyphProps) (r : Substitution)
+ShapedTextHasCarets = (p : Preparation) (noted : Glyph → GlyphProps) (r : Substitution)
     (ss : List Stage) (q : Positioning) (wanted : Direction) (old mid : Buffer) (end : ℕ) →
     LookupsKeep r.substituted → PositionsKeep q → (text_prepared p old).positions ≡ [] →
     (run : StagesRun r ss (text_noted noted (text_prepared p old)) mid) →

@@ -6,7 +6,7 @@ use Rattle.std.proofs.lemmas.Bool.Decides.{nat_tests}
 use Rattle.std.proofs.lemmas.List.{length-append, length-map}
 use Rattle.shapers_arabic.specs.Marks.{behind, front_of, has_lower_class, in_class, is_modifier_of, modifiers, split_marks, with_modifiers_first}
 use Rattle.shapers_arabic.proofs.MarkLists.{split-joined}
-use Rattle.shapers_buffer.specs.declared.buffer.glyph.hb_glyph_info_t.{hb_glyph_info_t}
+use Rattle.shapers_buffer.specs.Glyphs.{Glyph, Glyphs}
 use Rattle.shapers_buffer.specs.declared.buffer.modified_combining_class.TheConstants.{CCC22, CCC26}
 use Rattle.shapers_buffer.proofs.MappedLists.{all-append, map-hidden}
 use Rattle.shapers_normal.specs.Context.{Context}
@@ -16,9 +16,6 @@ use Rattle.shapers_equivalence.specs.Equivalence.{SameButForOrder}
 use Rattle.shapers_equivalence.specs.Laws.{mark_class}
 use Rattle.shapers_equivalence.proofs.Projections as order
 use Rattle.shapers_equivalence.proofs.Apart.{AreMarks, IsMark, OtherMarks, Same, TakesApart, apart_text, apart-append, mark_parts, other_parts}
-
-abbrev Glyphs : Type 0
-Glyphs = List hb_glyph_info_t
 
 abbrev pub arabic_arranged : Glyphs → Glyphs
 arabic_arranged marks = with_modifiers_first (split_marks marks)
@@ -45,17 +42,17 @@ length_arranged gs =
 
 -- ---- classes of the parts
 
-abbrev Passing : (hb_glyph_info_t → Bool) → Glyphs → Type 0
+abbrev Passing : (Glyph → Bool) → Glyphs → Type 0
 Passing test gs = AllByRecursion (λ g. test g ≡ true) gs
 
-front_by : (test : hb_glyph_info_t → Bool) (g : hb_glyph_info_t) (gs : Glyphs) (b : Bool) → test g ≡ b
+front_by : (test : Glyph → Bool) (g : Glyph) (gs : Glyphs) (b : Bool) → test g ≡ b
     → Passing test (take (prefix_len test gs) gs) → Passing test (take (cond b (1 + prefix_len test gs) 0) (g ∷ gs))
 front_by test g gs true e rest =
     let next : 1 + prefix_len test gs ≡ suc (prefix_len test gs) = omega arith in
     subst (λ n. Passing test (take n (g ∷ gs))) (sym next) (e, rest)
 front_by test g gs false e rest = tt
 
-front_passes : (test : hb_glyph_info_t → Bool) (gs : Glyphs) → Passing test (front_of test gs)
+front_passes : (test : Glyph → Bool) (gs : Glyphs) → Passing test (front_of test gs)
 front_passes test [] = tt
 front_passes test (g ∷ gs) = front_by test g gs (test g) refl (front_passes test gs)
 
@@ -119,7 +116,7 @@ parts_moved class l b m a r one two = λ k.
 classed_text : (full : ℕ → List ℕ) (class : ℕ) (gs : Glyphs)
     → apart_text full (map (in_class class) gs) ≡ apart_text full gs
 classed_text full class gs = ap (flat_map full)
-    (map-hidden (λ (g : hb_glyph_info_t). g.glyph_id) (in_class class) (λ g. refl) gs)
+    (map-hidden (λ (g : Glyph). g.glyph_id) (in_class class) (λ g. refl) gs)
 
 three : (full : ℕ → List ℕ) (xs ys zs : Glyphs)
     → apart_text full (xs ++ (ys ++ zs)) ≡ apart_text full xs ++ (apart_text full ys ++ apart_text full zs)

@@ -8,7 +8,7 @@ use Rattle.shapers_base.specs.declared.font.GlyphId.{GlyphId}
 use Rattle.shapers_base.specs.declared.plan.record.NormalizationMode.TheVariants.{NONE, AUTO, CD}
 use Rattle.shapers_buffer.specs.declared.buffer.category.hb_unicode_general_category_t.{hb_unicode_general_category_t}
 use Rattle.shapers_buffer.specs.declared.buffer.category.hb_unicode_general_category_t.TheVariants.{Lo, Mn}
-use Rattle.shapers_buffer.specs.declared.buffer.glyph.hb_glyph_info_t.{hb_glyph_info_t}
+use Rattle.shapers_buffer.specs.Glyphs.{Glyph, Glyphs}
 use Rattle.shapers_buffer.specs.declared.buffer.level.BufferClusterLevel.TheVariants.{MonotoneGraphemes}
 use Rattle.shapers_buffer.specs.Glyph.{characters, default_glyph}
 use Rattle.shapers_normal.specs.Context.{Context}
@@ -129,8 +129,8 @@ whole = record {
   draws_selectors = false;
 }
 
-abbrev text : List ℕ → List hb_glyph_info_t
-text cs = map (λ p. let g : hb_glyph_info_t = record (as_character whole p.1 0 default_glyph) { cluster = p.0 } in g)
+abbrev text : List ℕ → Glyphs
+text cs = map (λ p. let g : Glyph = record (as_character whole p.1 0 default_glyph) { cluster = p.0 } in g)
     (enumerate_from 0 cs)
 
 abbrev normal : List ℕ → List ℕ
@@ -190,7 +190,7 @@ blocked_below = refl
 -- ---- without the other premises
 
 -- a mark whose glyph has another class than its character
-abbrev in_class_220 : hb_glyph_info_t → hb_glyph_info_t
+abbrev in_class_220 : Glyph → Glyph
 in_class_220 g = record g { unicode_props = with_high_byte 220 g.unicode_props }
 
 other_class : characters (normalized whole Always MonotoneGraphemes

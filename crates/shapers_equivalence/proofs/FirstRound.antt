@@ -10,7 +10,7 @@ use Rattle.shapers_base.specs.declared.plan.record.NormalizationMode.{Normalizat
 use Rattle.shapers_base.specs.declared.plan.record.NormalizationMode.TheVariants as modes
 use Rattle.shapers_buffer.specs.declared.buffer.category.hb_unicode_general_category_t.{hb_unicode_general_category_t}
 use Rattle.shapers_buffer.specs.declared.buffer.category.hb_unicode_general_category_t.TheVariants.{Zs}
-use Rattle.shapers_buffer.specs.declared.buffer.glyph.hb_glyph_info_t.{hb_glyph_info_t}
+use Rattle.shapers_buffer.specs.Glyphs.{Glyph, Glyphs}
 use Rattle.shapers_buffer.specs.declared.buffer.level.BufferClusterLevel.{BufferClusterLevel}
 use Rattle.shapers_buffer.specs.Category.{is_mark}
 use Rattle.shapers_buffer.specs.Glyph.{characters, order_view, plain}
@@ -99,7 +99,7 @@ abbrev in_mode : Context → NormalizationMode → Context
 in_mode context m = record context { mode = m }
 
 image_by : (context : Context) (full : ℕ → List ℕ) → Apart context full
-    → (m : NormalizationMode) (cluster : List hb_glyph_info_t) (c : ℕ)
+    → (m : NormalizationMode) (cluster : Glyphs) (c : ℕ)
     → Spells full c (image (in_mode context m) (apart_way (in_mode context m) cluster) c)
 image_by context full t modes.NONE [] c = short_spells (in_mode context modes.NONE) full t c
 image_by context full t modes.NONE (g ∷ []) c = short_spells (in_mode context modes.NONE) full t c
@@ -112,7 +112,7 @@ image_by context full t modes.CD (g ∷ []) c = apart_spells (in_mode context mo
 image_by context full t modes.CD (g ∷ (h ∷ gs)) c = apart_spells (in_mode context modes.CD) full t false 8 c
 
 image_spells : (context : Context) (full : ℕ → List ℕ) → TakesApart context full
-    → (cluster : List hb_glyph_info_t) (c : ℕ) → Spells full c (image context (apart_way context cluster) c)
+    → (cluster : Glyphs) (c : ℕ) → Spells full c (image context (apart_way context cluster) c)
 image_spells context full t cluster c = image_by context full t.apart context.mode cluster c
 
 -- ---- one glyph
@@ -122,14 +122,14 @@ no_mark Zs e = refl
 no_mark _ e = absurd (false≢true e)
 
 -- as another glyph, of the same character and class
-pub record SameCharacter (old new : hb_glyph_info_t) : Type 0 where
+pub record SameCharacter (old new : Glyph) : Type 0 where
   pub character : new.glyph_id ≡ old.glyph_id
   pub class : class_of new ≡ class_of old
 
-abbrev as_space : hb_glyph_info_t → ℕ × GlyphId → hb_glyph_info_t
+abbrev as_space : Glyph → ℕ × GlyphId → Glyph
 as_space g space = record g { glyph_props = record { 0 = space.1.0 }; unicode_props = with_high_byte space.0 g.unicode_props }
 
-space_same : (g new : hb_glyph_info_t) (o : Option (ℕ × GlyphId)) → is_mark_glyph g ≡ false
+space_same : (g new : Glyph) (o : Option (ℕ × GlyphId)) → is_mark_glyph g ≡ false
     → SameCharacter g new → SameCharacter g (option_map_or (as_space g) o new)
 space_same g new None e same = same
 space_same g new (Some space) e same = record {
@@ -138,19 +138,19 @@ space_same g new (Some space) e same = record {
       (ap is_mark ((set_is_read g.unicode_props).category_stays space.0) ∙ e) ∙ sym (class_of_other g e);
 }
 
-without_same : (g new : hb_glyph_info_t) (o : Option (ℕ × GlyphId)) (space : Bool)
+without_same : (g new : Glyph) (o : Option (ℕ × GlyphId)) (space : Bool)
     → is_space_separator (general_category g.unicode_props) ≡ space → SameCharacter g new
     → SameCharacter g (option_map_or (as_space g) (cond space o None) new)
 without_same g new o true e same = space_same g new o (no_mark (general_category g.unicode_props) e) same
 without_same g new o false e same = same
 
-own_by : (g new : hb_glyph_info_t) (o : Option GlyphId) → SameCharacter g new
-    → SameCharacter g (option_map_or (λ (glyph : GlyphId). let r : hb_glyph_info_t = record g { glyph_props = record { 0 = glyph.0 } }
+own_by : (g new : Glyph) (o : Option GlyphId) → SameCharacter g new
+    → SameCharacter g (option_map_or (λ (glyph : GlyphId). let r : Glyph = record g { glyph_props = record { 0 = glyph.0 } }
     in r) o new)
 own_by g new None same = same
 own_by g new (Some glyph) same = record { character = refl; class = refl }
 
-pub own_same : (context : Context) (g : hb_glyph_info_t) → SameCharacter g (with_own_glyph context g)
+pub own_same : (context : Context) (g : Glyph) → SameCharacter g (with_own_glyph context g)
 own_same context g =
     own_by g (without_glyph context g) (context.nominal g.glyph_id)
     (without_same g (record g { glyph_props = record { 0 = cond (g.glyph_id == 0x2011) (glyph_number context 0x2010) 0 } }) _
@@ -158,27 +158,27 @@ own_same context g =
     (record { character = refl; class = refl }))
 
 -- a character that is written anew has its own class
-pub character_class : (context : Context) (c glyph : ℕ) (g : hb_glyph_info_t)
+pub character_class : (context : Context) (c glyph : ℕ) (g : Glyph)
     → class_of (as_character context c glyph g) ≡ mark_class context c
 character_class context c glyph g = class_of_character context c
 
-parts_characters : (context : Context) (g : hb_glyph_info_t) (cs : List ℕ)
+parts_characters : (context : Context) (g : Glyph) (cs : List ℕ)
     → characters (map (as_part context g) cs) ≡ cs
 parts_characters context g [] = refl
 parts_characters context g (c ∷ cs) = ap (λ ds. c ∷ ds) (parts_characters context g cs)
 
-parts_own : (context : Context) (g : hb_glyph_info_t) (cs : List ℕ)
+parts_own : (context : Context) (g : Glyph) (cs : List ℕ)
     → HaveOwnClasses context (map (as_part context g) cs)
 parts_own context g [] = tt
 parts_own context g (c ∷ cs) = (character_class context c (glyph_number context c) g, parts_own context g cs)
 
-written_spells : (context : Context) (full : ℕ → List ℕ) (g : hb_glyph_info_t) (cs : List ℕ)
+written_spells : (context : Context) (full : ℕ → List ℕ) (g : Glyph) (cs : List ℕ)
     → Spells full g.glyph_id cs → apart_text full (written_as context g cs) ≡ full g.glyph_id
 written_spells context full g [] p = append-nil (full (with_own_glyph context g).glyph_id) ∙ ap full
     (own_same context g).character
 written_spells context full g (c ∷ cs) p = ap (flat_map full) (parts_characters context g (c ∷ cs)) ∙ p
 
-written_own : (context : Context) (g : hb_glyph_info_t) (cs : List ℕ) → class_of g ≡ mark_class context g.glyph_id
+written_own : (context : Context) (g : Glyph) (cs : List ℕ) → class_of g ≡ mark_class context g.glyph_id
     → HaveOwnClasses context (written_as context g cs)
 written_own context g [] own = let same = own_same context g in
     (same.class ∙ own ∙ ap (mark_class context) (sym same.character), tt)
@@ -187,11 +187,11 @@ written_own context g (c ∷ cs) own = parts_own context g (c ∷ cs)
 -- ---- a text
 
 -- what becomes of it is the same, taken apart to the end, and each glyph has its character's class
-pub record KeepsText (context : Context) (full : ℕ → List ℕ) (old new : List hb_glyph_info_t) : Type 0 where
+pub record KeepsText (context : Context) (full : ℕ → List ℕ) (old new : Glyphs) : Type 0 where
   pub same : apart_text full new ≡ apart_text full old
   pub own : HaveOwnClasses context new
 
-each_glyph : (context : Context) (full : ℕ → List ℕ) → TakesApart context full → (cluster gs : List hb_glyph_info_t)
+each_glyph : (context : Context) (full : ℕ → List ℕ) → TakesApart context full → (cluster gs : Glyphs)
     → HaveOwnClasses context gs
     → KeepsText context full gs (flat_map (becomes context (apart_way context cluster)) gs)
 each_glyph context full t cluster [] own = record { same = refl; own = tt }
@@ -206,17 +206,17 @@ each_glyph context full t cluster (g ∷ gs) own =
           ∙ ap (λ xs. xs ++ apart_text full rest) (written_spells context full g cs
           (image_spells context full t cluster g.glyph_id))
           ∙ ap (λ xs. full g.glyph_id ++ xs) behind.same;
-      own = all-append (λ (h : hb_glyph_info_t). class_of h ≡ mark_class context h.glyph_id) first rest
+      own = all-append (λ (h : Glyph). class_of h ≡ mark_class context h.glyph_id) first rest
           (written_own context g cs own.0) behind.own;
     }
 
-not_kept : (cluster : List hb_glyph_info_t) → list_any is_selector_glyph cluster ≡ false
+not_kept : (cluster : Glyphs) → list_any is_selector_glyph cluster ≡ false
     → is_kept_cluster cluster ≡ false
 not_kept [] none = refl
 not_kept (g ∷ []) none = refl
 not_kept (g ∷ (h ∷ cluster)) none = none
 
-each_cluster : (context : Context) (full : ℕ → List ℕ) → TakesApart context full → (cluster : List hb_glyph_info_t)
+each_cluster : (context : Context) (full : ℕ → List ℕ) → TakesApart context full → (cluster : Glyphs)
     → HaveOwnClasses context cluster → list_any is_selector_glyph cluster ≡ false
     → KeepsText context full cluster (cluster_becomes context cluster)
 each_cluster context full t cluster own none =
@@ -224,7 +224,7 @@ each_cluster context full t cluster own none =
     (cond b (forms_written context cluster) (flat_map (becomes context (apart_way context cluster)) cluster)))
     (sym (not_kept cluster none)) (each_glyph context full t cluster cluster own)
 
-any_parts : (p : hb_glyph_info_t → Bool) (gs hs : List hb_glyph_info_t) → list_any p (gs ++ hs) ≡ false
+any_parts : (p : Glyph → Bool) (gs hs : Glyphs) → list_any p (gs ++ hs) ≡ false
     → (list_any p gs ≡ false) × (list_any p hs ≡ false)
 any_parts p [] hs none = (refl, none)
 any_parts p (g ∷ gs) hs none =
@@ -232,13 +232,13 @@ any_parts p (g ∷ gs) hs none =
     let rest = any_parts p gs hs parts.1 in
     (ap (λ b. b || list_any p gs) parts.0 ∙ rest.0, rest.1)
 
-own_parts : (context : Context) (gs hs : List hb_glyph_info_t) → HaveOwnClasses context (gs ++ hs)
+own_parts : (context : Context) (gs hs : Glyphs) → HaveOwnClasses context (gs ++ hs)
     → HaveOwnClasses context gs × HaveOwnClasses context hs
 own_parts context [] hs own = (tt, own)
 own_parts context (g ∷ gs) hs own = let rest = own_parts context gs hs own.1 in ((own.0, rest.0), rest.1)
 
 each_group : (context : Context) (full : ℕ → List ℕ) → TakesApart context full
-    → (groups : List (List hb_glyph_info_t)) → HaveOwnClasses context (together groups)
+    → (groups : List Glyphs) → HaveOwnClasses context (together groups)
     → list_any is_selector_glyph (together groups) ≡ false
     → KeepsText context full (together groups) (flat_map (cluster_becomes context) groups)
 each_group context full t [] own none = record { same = refl; own = tt }
@@ -254,11 +254,11 @@ each_group context full t (group ∷ groups) own none =
           ∙ ap (λ xs. xs ++ apart_text full rest) one.same
           ∙ ap (λ xs. apart_text full group ++ xs) others.same
           ∙ sym (apart-append full group (together groups));
-      own = all-append (λ (h : hb_glyph_info_t). class_of h ≡ mark_class context h.glyph_id)
+      own = all-append (λ (h : Glyph). class_of h ≡ mark_class context h.glyph_id)
           (cluster_becomes context group) rest one.own others.own;
     }
 
-apart_keeps : (context : Context) (full : ℕ → List ℕ) → TakesApart context full → (gs : List hb_glyph_info_t)
+apart_keeps : (context : Context) (full : ℕ → List ℕ) → TakesApart context full → (gs : Glyphs)
     → HaveOwnClasses context gs → list_any is_selector_glyph gs ≡ false
     → KeepsText context full gs (text_decomposed context gs)
 apart_keeps context full t gs own none =
@@ -268,7 +268,7 @@ apart_keeps context full t gs own none =
     subst (λ xs. KeepsText context full xs (text_decomposed context gs)) all keeps
 
 pub first_keeps : (context : Context) (full : ℕ → List ℕ) → TakesApart context full
-    → (level : BufferClusterLevel) (gs : List hb_glyph_info_t) → HaveOwnClasses context gs
+    → (level : BufferClusterLevel) (gs : Glyphs) → HaveOwnClasses context gs
     → list_any is_selector_glyph gs ≡ false → KeepsText context full gs (first_round context level gs)
 first_keeps context full t level gs own none =
     let joined = variants_joined context level gs in

@@ -7,7 +7,7 @@ use Rattle.std.proofs.lemmas.Bool.{and_parts, false≢true}
 use Rattle.std.proofs.lemmas.Bool.Decides.{nat_tests}
 use Rattle.std.proofs.lemmas.List.{append-nil, length-append, length-map, length-take-le}
 use Rattle.std.proofs.lemmas.Option.{none-some}
-use Rattle.shapers_buffer.specs.declared.buffer.glyph.hb_glyph_info_t.{hb_glyph_info_t}
+use Rattle.shapers_buffer.specs.Glyphs.{Glyph, Glyphs}
 use Rattle.shapers_buffer.specs.declared.buffer.level.BufferClusterLevel.{BufferClusterLevel}
 use Rattle.shapers_buffer.specs.Clusters.{stretch_of, with_stretch}
 use Rattle.shapers_buffer.specs.Glyph.{order_view, plain}
@@ -24,18 +24,15 @@ use Rattle.shapers_equivalence.proofs.Apart.{AreMarks, IsMark, Same, TakesApart,
 use Rattle.shapers_equivalence.proofs.ArabicOrder.{marks_parts}
 use Rattle.shapers_equivalence.proofs.ShortRuns.{stretch_whole}
 
-abbrev Glyphs : Type 0
-Glyphs = List hb_glyph_info_t
-
 -- two neighbours change places
-swap_seam : (front : Glyphs) (b c : hb_glyph_info_t) (rest : Glyphs) (i : ℕ) → i ≡ length front
+swap_seam : (front : Glyphs) (b c : Glyph) (rest : Glyphs) (i : ℕ) → i ≡ length front
     → swap (front ++ b ∷ (c ∷ rest)) i (i + 1) ≡ front ++ c ∷ (b ∷ rest)
 swap_seam front b c rest i place =
     let text = front ++ b ∷ (c ∷ rest) in
     let first : b ≡ get_or text i b = sym (ap (λ k. get_or text k b) place ∙ get_or-append_seam front b (c ∷ rest) b) in
-    let longer = λ (x : hb_glyph_info_t). (let same : i + 1 ≡ length (front ++ x ∷ []) = omega
+    let longer = λ (x : Glyph). (let same : i + 1 ≡ length (front ++ x ∷ []) = omega
     (arith, length-append front (x ∷ [])) in same) in
-    let apart = λ (x y : hb_glyph_info_t). append_assoc front (x ∷ []) (y ∷ rest) in
+    let apart = λ (x y : Glyph). append_assoc front (x ∷ []) (y ∷ rest) in
     let second : c ≡ get_or text (i + 1) c =
     sym (ap (λ k. get_or text k c) (longer b) ∙ ap (λ xs. get_or xs (length (front ++ b ∷ [])) c) (sym (apart b c))
     ∙ get_or-append_seam (front ++ b ∷ []) c rest c) in
@@ -50,9 +47,9 @@ swap_seam front b c rest i place =
 -- the first three marks that are such, and what stands around them
 record IsTriple (gs : Glyphs) (j : ℕ) : Type 0 where
   front : Glyphs
-  a : hb_glyph_info_t
-  b : hb_glyph_info_t
-  c : hb_glyph_info_t
+  a : Glyph
+  b : Glyph
+  c : Glyph
   rest : Glyphs
   text : gs ≡ front ++ a ∷ (b ∷ (c ∷ rest))
   place : length front ≡ j
@@ -65,7 +62,7 @@ opened_triple (a ∷ (b ∷ [])) e = absurd (false≢true e)
 opened_triple (a ∷ (b ∷ (c ∷ rest))) e = record
     { front = []; a = a; b = b; c = c; rest = rest; text = refl; place = refl; opens = e }
 
-later : (g : hb_glyph_info_t) (gs : Glyphs) (o : Option ℕ) (j : ℕ) → option_map suc o ≡ Some j
+later : (g : Glyph) (gs : Glyphs) (o : Option ℕ) (j : ℕ) → option_map suc o ≡ Some j
     → ((k : ℕ) → o ≡ Some k → IsTriple gs k) → IsTriple (g ∷ gs) j
 later g gs None j e ih = absurd (none-some j e)
 later g gs (Some k) j e ih =
@@ -83,7 +80,7 @@ later g gs (Some k) j e ih =
       opens = t.opens;
     }
 
-triple_by : (g : hb_glyph_info_t) (gs : Glyphs) (j : ℕ) (b : Bool) → opens_triple (g ∷ gs) ≡ b
+triple_by : (g : Glyph) (gs : Glyphs) (j : ℕ) (b : Bool) → opens_triple (g ∷ gs) ≡ b
     → cond b (Some 0) (option_map suc (triple_place gs)) ≡ Some j
     → ((k : ℕ) → triple_place gs ≡ Some k → IsTriple gs k) → IsTriple (g ∷ gs) j
 triple_by g gs j true e found ih = let is : 0 ≡ j = ap (λ o. option_map_or (λ n. n) o 0) found in subst
@@ -127,7 +124,7 @@ length_by gs (Some j) e =
 pub length_hebrew : (gs : Glyphs) → length (hebrew_arranged gs) ≡ length gs
 length_hebrew gs = length_by gs (triple_place gs) refl
 
-around : (before front : Glyphs) (a x y : hb_glyph_info_t) (rest behind : Glyphs)
+around : (before front : Glyphs) (a x y : Glyph) (rest behind : Glyphs)
     → before ++ ((front ++ a ∷ (x ∷ (y ∷ rest))) ++ behind) ≡ (before ++ (front ++ a ∷ [])) ++ x ∷
     (y ∷ (rest ++ behind))
 around before front a x y rest behind =
@@ -172,7 +169,7 @@ hebrew_of_run level s e gs some long =
 differ : (x y : ℕ) → is_sheva_or_hiriq x ≡ true → is_meteg_or_below y ≡ true → x ≢ y
 differ x y one other = grind (arith, nat_tests)
 
-two_pass : (context : Context) (full : ℕ → List ℕ) → TakesApart context full → (b c : hb_glyph_info_t)
+two_pass : (context : Context) (full : ℕ → List ℕ) → TakesApart context full → (b c : Glyph)
     → IsMark context b → IsMark context c → class_of b ≢ class_of c
     → SameButForOrder (mark_class context) (full c.glyph_id ++ full b.glyph_id) (full b.glyph_id ++ full c.glyph_id)
 two_pass context full t b c mb mc other =
@@ -182,7 +179,7 @@ two_pass context full t b c mb mc other =
     (other_parts context full t (class_of c) (b ∷ []) ((mb, other), tt)))
 
 triple_same : (context : Context) (full : ℕ → List ℕ) → TakesApart context full
-    → (front : Glyphs) (a b c : hb_glyph_info_t) (rest : Glyphs) → AreMarks context (front ++ a ∷ (b ∷ (c ∷ rest)))
+    → (front : Glyphs) (a b c : Glyph) (rest : Glyphs) → AreMarks context (front ++ a ∷ (b ∷ (c ∷ rest)))
     → opens_triple (a ∷ (b ∷ (c ∷ rest))) ≡ true
     → Same context full (front ++ a ∷ (c ∷ (b ∷ rest))) (front ++ a ∷ (b ∷ (c ∷ rest)))
 triple_same context full t front a b c rest marks opens =

@@ -9,7 +9,7 @@ use Rattle.ucd_table.proofs.Computing.{tables}
 use Rattle.ucd_table.proofs.RangedFacts.{Stepped-at_points, points_ok}
 use Rattle.shapers_base.specs.declared.plan.record.NormalizationMode.{NormalizationMode}
 use Rattle.shapers_base.specs.declared.plan.record.NormalizationMode.TheVariants as modes
-use Rattle.shapers_buffer.specs.declared.buffer.glyph.hb_glyph_info_t.{hb_glyph_info_t}
+use Rattle.shapers_buffer.specs.Glyphs.{Glyph, Glyphs}
 use Rattle.shapers_buffer.specs.declared.buffer.level.BufferClusterLevel.{BufferClusterLevel}
 use Rattle.shapers_buffer.specs.Glyph.{order_view}
 use Rattle.shapers_hangul.specs.Hangul.{is_lv, is_s, lead, trail, vowel}
@@ -73,7 +73,7 @@ short_same context a b spared t c free = ap (λ cs. cond (has_glyph context c) [
     (apart_same context a b spared t true c free)
 
 image_same : (context : Context) (a b : ℕ → Option (ℕ × ℕ)) (spared : ℕ → Bool) → TakesAlike a b spared
-    → (m : NormalizationMode) (cluster : List hb_glyph_info_t) (c : ℕ) → spared c ≡ false →
+    → (m : NormalizationMode) (cluster : Glyphs) (c : ℕ) → spared c ≡ false →
     image (in_mode (taking context a) m) (apart_way (in_mode (taking context a) m) cluster) c ≡ image
     (in_mode (taking context b) m) (apart_way (in_mode (taking context b) m) cluster) c
 image_same context a b spared t modes.NONE [] c free = short_same (in_mode context modes.NONE) a b spared t c free
@@ -92,11 +92,11 @@ image_same context a b spared t modes.CD (g ∷ (h ∷ gs)) c free = apart_same
 
 -- ---- texts
 
-abbrev Free : (ℕ → Bool) → List hb_glyph_info_t → Type 0
+abbrev Free : (ℕ → Bool) → Glyphs → Type 0
 Free spared gs = AllByRecursion (λ g. spared g.glyph_id ≡ false) gs
 
 glyphs_same : (context : Context) (a b : ℕ → Option (ℕ × ℕ)) (spared : ℕ → Bool) → TakesAlike a b spared
-    → (cluster gs : List hb_glyph_info_t) → Free spared gs →
+    → (cluster gs : Glyphs) → Free spared gs →
     flat_map (becomes (taking context a) (apart_way (taking context a) cluster)) gs ≡ flat_map
     (becomes (taking context b) (apart_way (taking context b) cluster)) gs
 glyphs_same context a b spared t cluster [] free = refl
@@ -108,19 +108,19 @@ glyphs_same context a b spared t cluster (g ∷ gs) free =
     (glyphs_same context a b spared t cluster gs free.1)
 
 cluster_same : (context : Context) (a b : ℕ → Option (ℕ × ℕ)) (spared : ℕ → Bool) → TakesAlike a b spared
-    → (cluster : List hb_glyph_info_t) → Free spared cluster
+    → (cluster : Glyphs) → Free spared cluster
     → cluster_becomes (taking context a) cluster ≡ cluster_becomes (taking context b) cluster
 cluster_same context a b spared t cluster free = ap
     (λ xs. cond (is_kept_cluster cluster) (forms_written context cluster) xs)
     (glyphs_same context a b spared t cluster cluster free)
 
-free_parts : (spared : ℕ → Bool) (gs hs : List hb_glyph_info_t) → Free spared (gs ++ hs)
+free_parts : (spared : ℕ → Bool) (gs hs : Glyphs) → Free spared (gs ++ hs)
     → Free spared gs × Free spared hs
 free_parts spared [] hs free = (tt, free)
 free_parts spared (g ∷ gs) hs free = let rest = free_parts spared gs hs free.1 in ((free.0, rest.0), rest.1)
 
 groups_same : (context : Context) (a b : ℕ → Option (ℕ × ℕ)) (spared : ℕ → Bool) → TakesAlike a b spared
-    → (groups : List (List hb_glyph_info_t)) → Free spared (together groups)
+    → (groups : List Glyphs) → Free spared (together groups)
     → flat_map (cluster_becomes (taking context a)) groups ≡ flat_map (cluster_becomes (taking context b)) groups
 groups_same context a b spared t [] free = refl
 groups_same context a b spared t (group ∷ groups) free =
@@ -129,16 +129,16 @@ groups_same context a b spared t (group ∷ groups) free =
     (cluster_same context a b spared t group parts.0)
     ∙ ap (λ xs. cluster_becomes (taking context b) group ++ xs) (groups_same context a b spared t groups parts.1)
 
-free_view : (spared : ℕ → Bool) (gs : List hb_glyph_info_t) → Free spared gs → Free spared (order_view gs)
+free_view : (spared : ℕ → Bool) (gs : Glyphs) → Free spared gs → Free spared (order_view gs)
 free_view spared [] free = tt
 free_view spared (g ∷ gs) free = (free.0, free_view spared gs free.1)
 
-free_of_view : (spared : ℕ → Bool) (gs : List hb_glyph_info_t) → Free spared (order_view gs) → Free spared gs
+free_of_view : (spared : ℕ → Bool) (gs : Glyphs) → Free spared (order_view gs) → Free spared gs
 free_of_view spared [] free = tt
 free_of_view spared (g ∷ gs) free = (free.0, free_of_view spared gs free.1)
 
 first_same : (context : Context) (a b : ℕ → Option (ℕ × ℕ)) (spared : ℕ → Bool) → TakesAlike a b spared
-    → (level : BufferClusterLevel) (gs : List hb_glyph_info_t) → Free spared gs
+    → (level : BufferClusterLevel) (gs : Glyphs) → Free spared gs
     → first_round (taking context a) level gs ≡ first_round (taking context b) level gs
 first_same context a b spared t level gs free =
     let joined = variants_joined context level gs in
@@ -216,15 +216,15 @@ alike = record {
   parts = λ c p free e. parts_by c p (is_s c) refl (taken_by (is_character c) (decomposed c) p e);
 }
 
-free_of : (gs : List hb_glyph_info_t) → list_any (λ (g : hb_glyph_info_t). is_split g.glyph_id) gs ≡ false
+free_of : (gs : Glyphs) → list_any (λ (g : Glyph). is_split g.glyph_id) gs ≡ false
     → Free is_split gs
 free_of [] e = tt
 free_of (g ∷ gs) e = let parts = or_parts (is_split g.glyph_id)
-    (list_any (λ (g : hb_glyph_info_t). is_split g.glyph_id) gs) e in (parts.0, free_of gs parts.1)
+    (list_any (λ (g : Glyph). is_split g.glyph_id) gs) e in (parts.0, free_of gs parts.1)
 
 -- a text without split vowels comes apart as by Unicode's pairs
-pub khmer_first : (context : Context) (level : BufferClusterLevel) (gs : List hb_glyph_info_t)
-    → list_any (λ (g : hb_glyph_info_t). list_any (λ v. v == g.glyph_id) split_vowels) gs ≡ false
+pub khmer_first : (context : Context) (level : BufferClusterLevel) (gs : Glyphs)
+    → list_any (λ (g : Glyph). list_any (λ v. v == g.glyph_id) split_vowels) gs ≡ false
     → first_round (record context { decomposed = khmer_pairs }) level gs ≡ first_round
     (record context { decomposed = unicode_pairs }) level gs
 khmer_first context level gs whole = first_same context khmer_pairs unicode_pairs is_split alike level gs

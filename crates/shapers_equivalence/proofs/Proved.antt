@@ -3,7 +3,7 @@ use Rattle.std.proofs.Common.{◌≡◌, ◌≢◌, ◌||◌, ◌&&◌, ℕ, suc
 use Rattle.std.specs.List.{AllByRecursion, flat_map, list_any}
 use Rattle.std.specs.Option.{option_map_or}
 use Rattle.std.proofs.lemmas.List.{append-nil}
-use Rattle.shapers_buffer.specs.declared.buffer.glyph.hb_glyph_info_t.{hb_glyph_info_t}
+use Rattle.shapers_buffer.specs.Glyphs.{Glyph, Glyphs}
 use Rattle.shapers_buffer.specs.declared.buffer.level.BufferClusterLevel.{BufferClusterLevel}
 use Rattle.shapers_buffer.specs.Glyph.{characters}
 use Rattle.shapers_buffer.specs.Properties.{HIDDEN, set_property}
@@ -45,7 +45,7 @@ takes_apart pairs context i = record {
   marks = i.marks;
 }
 
-all_marked : (context : Context) (gs : List hb_glyph_info_t) → AreMarks context gs
+all_marked : (context : Context) (gs : Glyphs) → AreMarks context gs
     → AllByRecursion (λ g. class_of g ≢ 0) gs
 all_marked context [] all = tt
 all_marked context (g ∷ gs) all = (all.0.1, all_marked context gs all.1)
@@ -66,28 +66,28 @@ arranges pairs context o = record {
 
 -- ---- grapheme joiners
 
-record Alike (g h : hb_glyph_info_t) : Type 0 where
+record Alike (g h : Glyph) : Type 0 where
   character : h.glyph_id ≡ g.glyph_id
   class : class_of h ≡ class_of g
 
-passed_alike : (before behind : ℕ) (g : hb_glyph_info_t) → Alike g (passes_over before behind g)
+passed_alike : (before behind : ℕ) (g : Glyph) → Alike g (passes_over before behind g)
 passed_alike before behind g =
     elim (eqb g.glyph_id 0x034F && (eqb behind 0 || nat_le before behind)) as
-    (λ b. Alike g (cond b (let r : hb_glyph_info_t = record g { unicode_props = set_property HIDDEN false g.unicode_props } in r) g)) [
+    (λ b. Alike g (cond b (let r : Glyph = record g { unicode_props = set_property HIDDEN false g.unicode_props } in r) g)) [
       | true ↦ record { character = refl; class = class_shown g.unicode_props }
       | false ↦ record { character = refl; class = refl }
     ]
 
 -- each glyph has the same character and class
-pub record SameCharacters (context : Context) (old new : List hb_glyph_info_t) : Type 0 where
+pub record SameCharacters (context : Context) (old new : Glyphs) : Type 0 where
   pub same : characters new ≡ characters old
   pub class : classes new ≡ classes old
   pub own : HaveOwnClasses context old → HaveOwnClasses context new
 
-no_change : (context : Context) (gs : List hb_glyph_info_t) → SameCharacters context gs gs
+no_change : (context : Context) (gs : Glyphs) → SameCharacters context gs gs
 no_change context gs = record { same = refl; class = refl; own = λ own. own }
 
-one_more : (context : Context) (g h : hb_glyph_info_t) (gs hs : List hb_glyph_info_t) → Alike g h
+one_more : (context : Context) (g h : Glyph) (gs hs : Glyphs) → Alike g h
     → SameCharacters context gs hs → SameCharacters context (g ∷ gs) (h ∷ hs)
 one_more context g h gs hs one rest = record {
   same = ap (λ c. c ∷ characters hs) one.character ∙ ap (λ cs. g.glyph_id ∷ cs) rest.same;
@@ -95,7 +95,7 @@ one_more context g h gs hs one rest = record {
   own = λ own. (one.class ∙ own.0 ∙ ap (mark_class context) (sym one.character), rest.own own.1);
 }
 
-shown_alike : (context : Context) (before : ℕ) (gs : List hb_glyph_info_t)
+shown_alike : (context : Context) (before : ℕ) (gs : Glyphs)
     → SameCharacters context gs (shown_behind before gs)
 shown_alike context before [] = no_change context []
 shown_alike context before (g ∷ []) = no_change context (g ∷ [])
@@ -103,7 +103,7 @@ shown_alike context before (g ∷ (h ∷ gs)) =
     one_more context g (passes_over before (class_of h) g) (h ∷ gs) (shown_behind (class_of g) (h ∷ gs))
     (passed_alike before (class_of h) g) (shown_alike context (class_of g) (h ∷ gs))
 
-pub joiners_alike : (context : Context) (gs : List hb_glyph_info_t) → SameCharacters context gs (joiners_shown gs)
+pub joiners_alike : (context : Context) (gs : Glyphs) → SameCharacters context gs (joiners_shown gs)
 joiners_alike context [] = no_change context []
 joiners_alike context (g ∷ gs) = one_more context g g gs (shown_behind (class_of g) gs)
     (record { character = refl; class = refl }) (shown_alike context (class_of g) gs)
@@ -111,7 +111,7 @@ joiners_alike context (g ∷ gs) = one_more context g g gs (shown_behind (class_
 -- ---- the rounds
 
 composed_so : (context : Context) (full : ℕ → List ℕ) → TakesApart context full
-    → (level : BufferClusterLevel) (gs : List hb_glyph_info_t) (composing : Bool)
+    → (level : BufferClusterLevel) (gs : Glyphs) (composing : Bool)
     → (composing ≡ true → AreInOrder context gs)
     → Same context full (cond composing (recomposed context level (joiners_shown gs)) (joiners_shown gs)) gs
 composed_so context full t level gs true o =
@@ -128,7 +128,7 @@ composed_so context full t level gs false o =
     (ap (flat_map full) (joiners_alike context gs).same)
 
 later_same : (context : Context) (full : ℕ → List ℕ) → TakesApart context full → Arranges context full
-    → (level : BufferClusterLevel) (gs : List hb_glyph_info_t) (runs : Bool) → HaveOwnClasses context gs
+    → (level : BufferClusterLevel) (gs : Glyphs) (runs : Bool) → HaveOwnClasses context gs
     → ((runs && composes context.mode) ≡ true → AreInOrder context (marks_ordered context level gs))
     → Same context full (later_rounds context runs level gs) gs
 later_same context full t a level gs true own o = λ k.
@@ -139,7 +139,7 @@ later_same context full t a level gs false own o =
     (ap (flat_map full) (joiners_alike context gs).same)
 
 pub rounds_same : (context : Context) (full : ℕ → List ℕ) → TakesApart context full → Arranges context full
-    → (level : BufferClusterLevel) (gs : List hb_glyph_info_t) (runs : Bool) → HaveOwnClasses context gs
+    → (level : BufferClusterLevel) (gs : Glyphs) (runs : Bool) → HaveOwnClasses context gs
     → list_any is_selector_glyph gs ≡ false
     → ((runs && composes context.mode) ≡ true → AreInOrder context
     (marks_ordered context level (first_round context level gs)))

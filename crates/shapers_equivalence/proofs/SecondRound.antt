@@ -5,7 +5,7 @@ use Rattle.std.proofs.Math.Seq.{drop-append_seam, drop-length, get_or-append_sea
 use Rattle.std.proofs.lemmas.Bool.Decides.{nat_tests}
 use Rattle.std.proofs.lemmas.List.{append-nil, drop-map, length-append, length-drop, length-map, length-take-le, map-append, take-append-drop, take-map}
 use Rattle.std.proofs.lemmas.List.Sums.{suffix_len-le-length}
-use Rattle.shapers_buffer.specs.declared.buffer.glyph.hb_glyph_info_t.{hb_glyph_info_t}
+use Rattle.shapers_buffer.specs.Glyphs.{Glyph, Glyphs}
 use Rattle.shapers_buffer.specs.declared.buffer.level.BufferClusterLevel.{BufferClusterLevel}
 use Rattle.shapers_buffer.specs.Clusters.{stretch_of, with_stretch}
 use Rattle.shapers_buffer.specs.Glyph.{order_view, plain}
@@ -19,9 +19,6 @@ use Rattle.shapers_equivalence.specs.Laws.{HaveOwnClasses, mark_class}
 use Rattle.shapers_equivalence.proofs.Projections as order
 use Rattle.shapers_equivalence.proofs.Apart.{AreMarks, IsMark, Same, TakesApart, apart_text, apart-view, same_beside, view_own}
 use Rattle.shapers_equivalence.proofs.Insertion.{Sorted, above, all_inserted, inserted, length_inserted, length_sorted, run_sorts, sorted}
-
-abbrev Glyphs : Type 0
-Glyphs = List hb_glyph_info_t
 
 -- ---- one mark
 
@@ -46,7 +43,7 @@ view_stretch s e f natural gs =
     ∙ ap (λ xs. xs ++ order_view (drop e gs)) (natural (stretch_of s e gs) ∙ ap f (map-stretch plain s e gs))
     ∙ ap (λ xs. f (stretch_of s e (order_view gs)) ++ xs) (sym (drop-map plain e gs)))
 
-turned_last : (ps : Glyphs) (t : hb_glyph_info_t) → turn (ps ++ t ∷ []) ≡ t ∷ ps
+turned_last : (ps : Glyphs) (t : Glyph) → turn (ps ++ t ∷ []) ≡ t ∷ ps
 turned_last ps t =
     let n : length (ps ++ t ∷ []) - 1 ≡ length ps = omega (arith, length-append ps (t ∷ [])) in
     ap (λ k. drop k (ps ++ t ∷ []) ++ take k (ps ++ t ∷ [])) n
@@ -61,7 +58,7 @@ stretch_at f d r s i start end =
     ∙ ap (λ k. take k (d ++ r)) n
     ∙ take-append_seam d r
 
-class_at : (f d : Glyphs) (t : hb_glyph_info_t) (r : Glyphs) (i : ℕ) → i ≡ length f + length d
+class_at : (f d : Glyphs) (t : Glyph) (r : Glyphs) (i : ℕ) → i ≡ length f + length d
     → slice_index (classes (f ++ (d ++ t ∷ r))) i ≡ class_of t
 class_at f d t r i place =
     let long : i ≡ length (classes (f ++ d)) = omega (arith, length-map (f ++ d) class_of, length-append f d) in
@@ -73,13 +70,13 @@ class_at f d t r i place =
 passed_view : (s i : ℕ) (gs : Glyphs) → passed_marks s i gs ≡ passed_marks s i (order_view gs)
 passed_view s i gs =
     let own = λ (xs : Glyphs). slice_index (classes xs) i in
-    let test = λ (c : ℕ) (g : hb_glyph_info_t). nat_lt c (class_of g) in
+    let test = λ (c : ℕ) (g : Glyph). nat_lt c (class_of g) in
     sym (suffix_len-map (test (own gs)) plain (stretch_of s i gs))
     ∙ ap (suffix_len (test (own gs))) (map-stretch plain s i gs)
     ∙ ap (λ cs. suffix_len (test (slice_index cs i)) (stretch_of s i (order_view gs)))
     (sym (map-hidden class_of plain (λ g. refl) gs))
 
-passed_at : (s i : ℕ) (f d : Glyphs) (t : hb_glyph_info_t) (r gs : Glyphs) → s ≡ length f → i ≡ s + length d
+passed_at : (s i : ℕ) (f d : Glyphs) (t : Glyph) (r gs : Glyphs) → s ≡ length f → i ≡ s + length d
     → order_view gs ≡ f ++ (d ++ t ∷ r) → passed_marks s i gs ≡ suffix_len (above t) d
 passed_at s i f d t r gs start end e =
     let text = f ++ (d ++ t ∷ r) in
@@ -88,7 +85,7 @@ passed_at s i f d t r gs start end e =
     ∙ ap (λ c. suffix_len (λ g. nat_lt c (class_of g)) (stretch_of s i text)) (class_at f d t r i (omega arith))
     ∙ ap (suffix_len (above t)) (stretch_at f d (t ∷ r) s i start end)
 
-brought_view : (level : BufferClusterLevel) (many s i : ℕ) (f d : Glyphs) (t : hb_glyph_info_t) (r gs : Glyphs)
+brought_view : (level : BufferClusterLevel) (many s i : ℕ) (f d : Glyphs) (t : Glyph) (r gs : Glyphs)
     → s ≡ length f → i ≡ s + length d → order_view gs ≡ f ++ (d ++ t ∷ r) → many ≡ suffix_len (above t) d
     → order_view (brought_before level many i gs) ≡ f ++ (inserted t d ++ r)
 brought_view level many s i f d t r gs start end e count =
@@ -112,13 +109,13 @@ brought_view level many s i f d t r gs start end e count =
     ∙ append_assoc f kept ((t ∷ passed) ++ r)
     ∙ ap (λ xs. f ++ xs) (sym (append_assoc kept (t ∷ passed) r))
 
-stays_last : (t : hb_glyph_info_t) (d : Glyphs) → suffix_len (above t) d ≡ 0 → inserted t d ≡ d ++ t ∷ []
+stays_last : (t : Glyph) (d : Glyphs) → suffix_len (above t) d ≡ 0 → inserted t d ≡ d ++ t ∷ []
 stays_last t d none =
     let n : length d - suffix_len (above t) d ≡ length d = omega arith in
     ap (λ k. take k d ++ t ∷ drop k d) n ∙ ap (λ xs. xs ++ t ∷ drop (length d) d) (take-length d)
     ∙ ap (λ xs. d ++ t ∷ xs) (drop-length d)
 
-sorted_by : (level : BufferClusterLevel) (s i : ℕ) (f d : Glyphs) (t : hb_glyph_info_t) (r gs : Glyphs) (many : ℕ)
+sorted_by : (level : BufferClusterLevel) (s i : ℕ) (f d : Glyphs) (t : Glyph) (r gs : Glyphs) (many : ℕ)
     (b : Bool)
     → eqb many 0 ≡ b → s ≡ length f → i ≡ s + length d → order_view gs ≡ f ++ (d ++ t ∷ r)
     → many ≡ suffix_len (above t) d
@@ -131,7 +128,7 @@ sorted_by level s i f d t r gs many true none start end e count =
 sorted_by level s i f d t r gs many false some start end e count = brought_view level many s i f d t r gs start end e
     count
 
-sorted_view : (level : BufferClusterLevel) (s i : ℕ) (f d : Glyphs) (t : hb_glyph_info_t) (r gs : Glyphs)
+sorted_view : (level : BufferClusterLevel) (s i : ℕ) (f d : Glyphs) (t : Glyph) (r gs : Glyphs)
     → s ≡ length f → i ≡ s + length d → order_view gs ≡ f ++ (d ++ t ∷ r)
     → order_view (sorted_in level s i gs) ≡ f ++ (inserted t d ++ r)
 sorted_view level s i f d t r gs start end e =
@@ -161,7 +158,7 @@ run_view level s e f (d ∷ ds) r gs start end same =
 
 -- what a shaper makes of a run, marks in order
 pub record Arranges (context : Context) (full : ℕ → List ℕ) : Type 0 where
-  pub arranged : List hb_glyph_info_t → List hb_glyph_info_t
+  pub arranged : Glyphs → Glyphs
   pub same_length : (marks : Glyphs) → length (arranged marks) ≡ length marks
   pub of_run : (level : BufferClusterLevel) (s e : ℕ) (gs : Glyphs) → s < e → e ≤ length gs → order_view
       (context.reordered level s e gs) ≡ with_stretch s e arranged (order_view gs)
@@ -277,7 +274,7 @@ run_same context full t a d marks =
       | false ↦ λ k. refl
     ]
 
-same_by : (context : Context) (full : ℕ → List ℕ) (a : Arranges context full) (d : Glyphs) (r : hb_glyph_info_t)
+same_by : (context : Context) (full : ℕ → List ℕ) (a : Arranges context full) (d : Glyphs) (r : Glyph)
     (rs : Glyphs) (b : Bool)
     → (b ≡ true → Same context full (run_of a.arranged d ++ r ∷ ordered_from a.arranged [] rs) (d ++ r ∷ rs))
     → (b ≡ false → Same context full (ordered_from a.arranged (d ++ r ∷ []) rs) (d ++ r ∷ rs))

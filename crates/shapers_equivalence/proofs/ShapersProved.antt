@@ -1,5 +1,5 @@
 -- Shapers with Unicode's tables meet what the law requires.
-use Rattle.std.proofs.Common.{◌≡◌, ◌≢◌, ◌&&◌, not, ℕ, Bool, true, false, cond, eqb, List, [], ◌∷◌, Option, None, Some, refl, sym, ap, ◌∙◌, subst, eqb-true}
+use Rattle.std.proofs.Common.{◌≡◌, ◌≢◌, ◌&&◌, not, ℕ, Bool, true, false, cond, eqb, [], ◌∷◌, Option, None, Some, refl, sym, ap, ◌∙◌, subst, eqb-true}
 use Rattle.std.specs.List.{AllByRecursion, list_any}
 use Rattle.std.proofs.lemmas.Bool.{and_parts, false≢true}
 use Rattle.std.proofs.lemmas.Option.{none-some}
@@ -10,7 +10,7 @@ use Rattle.shapers_base.specs.Font.{Font}
 use Rattle.shapers_base.specs.declared.font.GlyphId.{GlyphId}
 use Rattle.shapers_base.specs.declared.plan.hb_ot_shape_plan_t.{hb_ot_shape_plan_t}
 use Rattle.shapers_arabic.proofs.MarkLaws as arabic
-use Rattle.shapers_buffer.specs.declared.buffer.glyph.hb_glyph_info_t.{hb_glyph_info_t}
+use Rattle.shapers_buffer.specs.Glyphs.{Glyphs}
 use Rattle.shapers_buffer.specs.declared.buffer.level.BufferClusterLevel.{BufferClusterLevel}
 use Rattle.shapers_buffer.specs.Glyph.{characters, order_view}
 use Rattle.shapers_normal.specs.Context.{Context}
@@ -145,7 +145,7 @@ leaves_order (Some MyanmarZawgyi) plan font variants invisible draws by = λ lev
 leaves_order (Some Thai) plan font variants invisible draws by = λ level s e gs some within. refl
 leaves_order (Some Universal) plan font variants invisible draws by = λ level s e gs some within. refl
 
-run_marks : (context : Context) (gs : List hb_glyph_info_t) → HaveOwnClasses context gs
+run_marks : (context : Context) (gs : Glyphs) → HaveOwnClasses context gs
     → AllByRecursion (λ g. class_of g ≢ 0) gs → AreMarks context gs
 run_marks context [] own marked = tt
 run_marks context (g ∷ gs) own marked = ((own.0, marked.0), run_marks context gs own.1 marked.1)
@@ -230,7 +230,7 @@ khmer_leaves plan font variants invisible draws = λ level s e gs some within. r
 -- ---- the laws
 
 abbrev Normalizes : Option hb_ot_shaper_t → hb_ot_shape_plan_t → Font → VariantForms → Option GlyphId → Bool → Rounds
-    → BufferClusterLevel → List hb_glyph_info_t → Type 0
+    → BufferClusterLevel → Glyphs → Type 0
 Normalizes shaper plan font variants invisible draws rounds level gs =
     let context = unicode_context shaper plan font variants invisible draws in
     IsPlainText context gs →
@@ -241,7 +241,7 @@ Normalizes shaper plan font variants invisible draws rounds level gs =
     (characters (normalized context rounds level gs)) (characters gs))
 
 abbrev Keeps : Option hb_ot_shaper_t → hb_ot_shape_plan_t → Font → VariantForms → Option GlyphId → Bool → Rounds
-    → BufferClusterLevel → List hb_glyph_info_t → Type 0
+    → BufferClusterLevel → Glyphs → Type 0
 Keeps shaper plan font variants invisible draws rounds level gs =
     let context = unicode_context shaper plan font variants invisible draws in
     IsPlainText context gs → has_short_runs (first_round context level gs) ≡ true →
@@ -250,7 +250,7 @@ Keeps shaper plan font variants invisible draws rounds level gs =
 
 by_pairs : (shaper : Option hb_ot_shaper_t) (plan : hb_ot_shape_plan_t) (font : Font) (variants : VariantForms)
     (invisible : Option GlyphId) (draws : Bool) (rounds : Rounds) (level : BufferClusterLevel)
-    (gs : List hb_glyph_info_t)
+    (gs : Glyphs)
     → splits_vowels shaper ≡ false → Normalizes shaper plan font variants invisible draws rounds level gs
 by_pairs shaper plan font variants invisible draws rounds level gs by =
     let context = unicode_context shaper plan font variants invisible draws in
@@ -264,7 +264,7 @@ by_pairs shaper plan font variants invisible draws rounds level gs by =
 
 kept_by_pairs : (shaper : Option hb_ot_shaper_t) (plan : hb_ot_shape_plan_t) (font : Font) (variants : VariantForms)
     (invisible : Option GlyphId) (draws : Bool) (rounds : Rounds) (level : BufferClusterLevel)
-    (gs : List hb_glyph_info_t)
+    (gs : Glyphs)
     → splits_vowels shaper ≡ false → orders_marks shaper ≡ false
     → Keeps shaper plan font variants invisible draws rounds level gs
 kept_by_pairs shaper plan font variants invisible draws rounds level gs by leaves =
@@ -274,7 +274,7 @@ kept_by_pairs shaper plan font variants invisible draws rounds level gs by leave
     (leaves_order shaper plan font variants invisible draws leaves) text short
 
 khmer_normalizes : (plan : hb_ot_shape_plan_t) (font : Font) (variants : VariantForms) (invisible : Option GlyphId)
-    (draws : Bool) (rounds : Rounds) (level : BufferClusterLevel) (gs : List hb_glyph_info_t)
+    (draws : Bool) (rounds : Rounds) (level : BufferClusterLevel) (gs : Glyphs)
     → list_any is_split_vowel gs ≡ false → Normalizes (Some Khmer) plan font variants invisible draws rounds level gs
 khmer_normalizes plan font variants invisible draws rounds level gs whole =
     let own = unicode_context (Some Khmer) plan font variants invisible draws in
@@ -301,7 +301,7 @@ khmer_normalizes plan font variants invisible draws rounds level gs whole =
     )
 
 khmer_keeps : (plan : hb_ot_shape_plan_t) (font : Font) (variants : VariantForms) (invisible : Option GlyphId)
-    (draws : Bool) (rounds : Rounds) (level : BufferClusterLevel) (gs : List hb_glyph_info_t)
+    (draws : Bool) (rounds : Rounds) (level : BufferClusterLevel) (gs : Glyphs)
     → list_any is_split_vowel gs ≡ false → Keeps (Some Khmer) plan font variants invisible draws rounds level gs
 khmer_keeps plan font variants invisible draws rounds level gs whole =
     let own = unicode_context (Some Khmer) plan font variants invisible draws in

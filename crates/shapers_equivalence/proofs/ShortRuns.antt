@@ -4,7 +4,7 @@ use Rattle.std.specs.List.{list_all}
 use Rattle.std.proofs.lemmas.Bool.{and_parts, false≢true}
 use Rattle.std.proofs.lemmas.Bool.Decides.{nat_tests}
 use Rattle.std.proofs.lemmas.List.{drop-drop, length-append, take-append-drop}
-use Rattle.shapers_buffer.specs.declared.buffer.glyph.hb_glyph_info_t.{hb_glyph_info_t}
+use Rattle.shapers_buffer.specs.Glyphs.{Glyph, Glyphs}
 use Rattle.shapers_buffer.specs.declared.buffer.level.BufferClusterLevel.{BufferClusterLevel}
 use Rattle.shapers_buffer.specs.Clusters.{with_stretch}
 use Rattle.shapers_buffer.specs.Glyph.{order_view, plain}
@@ -15,7 +15,7 @@ use Rattle.shapers_equivalence.specs.Laws.{AreInOrder, HaveOwnClasses, LeavesOrd
 use Rattle.shapers_equivalence.proofs.Apart.{AreMarks, IsMark, TakesApart, marks_own, own_of_view, view_own}
 use Rattle.shapers_equivalence.proofs.Insertion.{Sorted, run_sorts, sorted}
 use Rattle.shapers_equivalence.proofs.SecondRound.{Arranges, is_run, marks_view, ordered_from, run_of}
-use Rattle.shapers_equivalence.proofs.ThirdRound.{Glyphs, Ordered}
+use Rattle.shapers_equivalence.proofs.ThirdRound.{Ordered}
 
 abbrev as_they_are : Glyphs → Glyphs
 as_they_are gs = gs
@@ -53,11 +53,11 @@ sorted_ordered [] s = tt
 sorted_ordered (g ∷ []) s = (tt, tt)
 sorted_ordered (g ∷ (h ∷ gs)) s = (inr s.0.0, sorted_ordered (h ∷ gs) s.1)
 
-behind_letter : (r : hb_glyph_info_t) (gs : Glyphs) → class_of r ≡ 0 → Ordered gs → Ordered (r ∷ gs)
+behind_letter : (r : Glyph) (gs : Glyphs) → class_of r ≡ 0 → Ordered gs → Ordered (r ∷ gs)
 behind_letter r [] letter o = (tt, tt)
 behind_letter r (g ∷ gs) letter o = (inr (omega arith), o)
 
-before_letter : (ds : Glyphs) (r : hb_glyph_info_t) (rs : Glyphs) → class_of r ≡ 0 → Ordered ds → Ordered (r ∷ rs)
+before_letter : (ds : Glyphs) (r : Glyph) (rs : Glyphs) → class_of r ≡ 0 → Ordered ds → Ordered (r ∷ rs)
     → Ordered (ds ++ r ∷ rs)
 before_letter [] r rs letter o more = more
 before_letter (d ∷ []) r rs letter o more = (inl letter, more)
@@ -91,17 +91,17 @@ record InOrder (context : Context) (gs : Glyphs) : Type 0 where
   own : HaveOwnClasses context gs
   ordered : Ordered gs
 
-letter_case : (context : Context) (ds : Glyphs) (r : hb_glyph_info_t) (rs : Glyphs) → class_of r ≡ 0
+letter_case : (context : Context) (ds : Glyphs) (r : Glyph) (rs : Glyphs) → class_of r ≡ 0
     → class_of r ≡ mark_class context r.glyph_id → InOrder context ds → InOrder context rs
     → InOrder context (ds ++ r ∷ rs)
 letter_case context ds r rs letter own one rest = record {
-  own = all-append (λ (g : hb_glyph_info_t). class_of g ≡ mark_class context g.glyph_id) ds (r ∷ rs) one.own
+  own = all-append (λ (g : Glyph). class_of g ≡ mark_class context g.glyph_id) ds (r ∷ rs) one.own
       (own, rest.own);
   ordered = before_letter ds r rs letter one.ordered (behind_letter r rs letter rest.ordered);
 }
 
 from_by : (context : Context) (full : ℕ → List ℕ) → TakesApart context full
-    → (s i : ℕ) (ds : Glyphs) (r : hb_glyph_info_t) (rs : Glyphs) (b : Bool) → eqb (class_of r) 0 ≡ b
+    → (s i : ℕ) (ds : Glyphs) (r : Glyph) (rs : Glyphs) (b : Bool) → eqb (class_of r) 0 ≡ b
     → i ≡ s + length ds → AreMarks context ds → HaveOwnClasses context (r ∷ rs)
     → list_all is_short (cond b ((s, i) ∷ mark_runs (i + 1) (i + 1) (classes rs)) (mark_runs s (i + 1) (classes rs)))
     ≡ true →

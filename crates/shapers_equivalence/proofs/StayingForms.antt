@@ -6,7 +6,7 @@ use Rattle.std.proofs.lemmas.Bool.{and_parts}
 use Rattle.std.proofs.lemmas.Bool.Decides.{nat_tests}
 use Rattle.std.proofs.lemmas.List.{get_or-map, length-map}
 use Rattle.std.proofs.lemmas.List.Sums.{suffix_len_is}
-use Rattle.shapers_buffer.specs.declared.buffer.glyph.hb_glyph_info_t.{hb_glyph_info_t}
+use Rattle.shapers_buffer.specs.Glyphs.{Glyph, Glyphs}
 use Rattle.shapers_buffer.specs.declared.buffer.level.BufferClusterLevel.{BufferClusterLevel}
 use Rattle.shapers_buffer.specs.Clusters.{stretch_of}
 use Rattle.shapers_buffer.specs.Glyph.{characters, default_glyph}
@@ -24,9 +24,6 @@ use Rattle.shapers_equivalence.specs.Staying.{LeavesMarks, NothingComposes, Text
 use Rattle.shapers_equivalence.proofs.FirstRound.{own_same}
 use Rattle.shapers_equivalence.proofs.Proved.{joiners_alike}
 use Rattle.shapers_equivalence.proofs.ThirdRound.{follows_by}
-
-abbrev Glyphs : Type 0
-Glyphs = List hb_glyph_info_t
 
 fold_stays : {B X : Type 0} (f : B → X → B) (b : B) (Q : X → Type 0) → ((x : X) → Q x → f b x ≡ b) → (xs : List X)
     → AllByRecursion Q xs → fold f b xs ≡ b
@@ -78,7 +75,7 @@ passes_none : (s i : ℕ) (gs : Glyphs) → s < i → i < length gs
     → slice_index (classes gs) (i - 1) ≤ slice_index (classes gs) i → passed_marks s i gs ≡ 0
 passes_none s i gs some inside least =
     let own = slice_index (classes gs) i in
-    let test = λ (g : hb_glyph_info_t). nat_lt own (class_of g) in
+    let test = λ (g : Glyph). nat_lt own (class_of g) in
     let marks = stretch_of s i gs in
     let n = length marks in
     let long : n ≡ i - s = length-stretch s i gs (omega arith) in
@@ -157,7 +154,7 @@ record Walks (context : Context) (gs : Glyphs) (n : ℕ) (w : StarterWalk) : Typ
   between : (k : ℕ) → w.starter < k → k < w.place → slice_index (classes gs) k ≢ 0
 
 character_at : (gs : Glyphs) (i : ℕ) → i < length gs → slice_index (characters gs) i ≡ (glyph_at gs i).glyph_id
-character_at gs i inside = get_or-map (λ (g : hb_glyph_info_t). g.glyph_id) gs i default_glyph 0 inside
+character_at gs i inside = get_or-map (λ (g : Glyph). g.glyph_id) gs i default_glyph 0 inside
 
 class_at : (gs : Glyphs) (i : ℕ) → i < length gs → slice_index (classes gs) i ≡ class_of (glyph_at gs i)
 class_at gs i inside = get_or-map class_of gs i default_glyph 0 inside
@@ -176,7 +173,7 @@ composes_none context gs n w nothing i =
     let none : if_drawn context (context.composed (glyph_at w.glyphs w.starter).glyph_id mark.glyph_id) ≡ None =
     ap₂ (λ a b. if_drawn context (context.composed a b)) (sym one) (sym two)
     ∙ nothing w.starter w.place i.order (omega
-    (arith, length-map gs (λ (g : hb_glyph_info_t). g.glyph_id), inside)) i.between in
+    (arith, length-map gs (λ (g : Glyph). g.glyph_id), inside)) i.between in
     none_by context (is_mark_glyph mark && is_free w)
     (context.composed (glyph_at w.glyphs w.starter).glyph_id mark.glyph_id) none
 
@@ -252,7 +249,7 @@ later_stays context leaves level gs false ordered nothing = refl
 pub texts_stay : TextsInFormStay
 texts_stay context rounds level gs leaves stays ordered nothing =
     let new = map (with_own_glyph context) gs in
-    let same : characters new ≡ characters gs = map-hidden (λ (g : hb_glyph_info_t). g.glyph_id)
+    let same : characters new ≡ characters gs = map-hidden (λ (g : Glyph). g.glyph_id)
     (with_own_glyph context) (λ g. (own_same context g).character) gs in
     let class : classes new ≡ classes gs = map-hidden class_of (with_own_glyph context)
     (λ g. (own_same context g).class) gs in

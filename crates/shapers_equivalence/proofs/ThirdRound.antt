@@ -9,7 +9,7 @@ use Rattle.std.proofs.lemmas.Bool.Decides.{nat_tests}
 use Rattle.std.proofs.lemmas.List.{append-nil, drop-map, get_or-append-add, get_or_append_left, length-append, length-map, map-append, map-set, take-map}
 use Rattle.std.proofs.lemmas.Option.{none-some}
 use Rattle.shapers_base.specs.declared.font.GlyphId.{GlyphId}
-use Rattle.shapers_buffer.specs.declared.buffer.glyph.hb_glyph_info_t.{hb_glyph_info_t}
+use Rattle.shapers_buffer.specs.Glyphs.{Glyph, Glyphs}
 use Rattle.shapers_buffer.specs.declared.buffer.level.BufferClusterLevel.{BufferClusterLevel}
 use Rattle.shapers_buffer.specs.Clusters.{merge}
 use Rattle.shapers_buffer.specs.Glyph.{default_glyph, order_view, plain}
@@ -24,12 +24,9 @@ use Rattle.shapers_equivalence.specs.Laws.{AreInOrder, HaveOwnClasses, in_canoni
 use Rattle.shapers_equivalence.proofs.Projections as order
 use Rattle.shapers_equivalence.proofs.Apart.{AreMarks, IsMark, OtherMarks, Same, TakesApart, apart_text, apart-append, apart-view, mark_passes, same_beside, view_own}
 
-abbrev pub Glyphs : Type 0
-Glyphs = List hb_glyph_info_t
-
 -- ---- marks in order
 
-abbrev pub Follows : hb_glyph_info_t → Glyphs → Type 0
+abbrev pub Follows : Glyph → Glyphs → Type 0
 Follows g [] = Unit {0}
 Follows g (h ∷ gs) = (class_of h ≡ 0) ⊎ (class_of g ≤ class_of h)
 
@@ -56,13 +53,13 @@ ordered_last (b ∷ bs) rs o = ordered_last bs rs o.1
 abbrev Below : ℕ → Glyphs → Type 0
 Below c gs = AllByRecursion (λ g. class_of g < c) gs
 
-below_by : (context : Context) (b h m : hb_glyph_info_t) → IsMark context h
+below_by : (context : Context) (b h m : Glyph) → IsMark context h
     → (class_of h ≡ 0) ⊎ (class_of b ≤ class_of h) → class_of h < class_of m → class_of b < class_of m
 below_by context b h m mark (inl none) less = absurd (mark.1 none)
 below_by context b h m mark (inr most) less = omega arith
 
 -- marks whose last one stands in a lesser class all do
-all_below : (context : Context) (s b m : hb_glyph_info_t) (bs rs : Glyphs) → AreMarks context (b ∷ bs)
+all_below : (context : Context) (s b m : Glyph) (bs rs : Glyphs) → AreMarks context (b ∷ bs)
     → Ordered ((b ∷ bs) ++ m ∷ rs) → class_of (get_or (s ∷ b ∷ bs) (length (b ∷ bs)) default_glyph) < class_of m
     → Below (class_of m) (b ∷ bs)
 all_below context s b m [] rs marks o less = (less, tt)
@@ -70,17 +67,17 @@ all_below context s b m (h ∷ bs) rs marks o less =
     let rest = all_below context b h m bs rs marks.1 o.1 less in
     (below_by context b h m marks.1.0 o.0 rest.0, rest)
 
-skipped : (b m r : hb_glyph_info_t) → class_of b < class_of m → (class_of r ≡ 0) ⊎ (class_of m ≤ class_of r)
+skipped : (b m r : Glyph) → class_of b < class_of m → (class_of r ≡ 0) ⊎ (class_of m ≤ class_of r)
     → (class_of r ≡ 0) ⊎ (class_of b ≤ class_of r)
 skipped b m r less (inl none) = inl none
 skipped b m r less (inr most) = inr (omega arith)
 
-follows_without : (b m : hb_glyph_info_t) (rs : Glyphs) → class_of b < class_of m → Follows m rs → Follows b rs
+follows_without : (b m : Glyph) (rs : Glyphs) → class_of b < class_of m → Follows m rs → Follows b rs
 follows_without b m [] less f = tt
 follows_without b m (r ∷ rs) less f = skipped b m r less f
 
 -- without a mark that stands in a greater class than those before it
-ordered_without : (bs : Glyphs) (m : hb_glyph_info_t) (rs : Glyphs) → Below (class_of m) bs → Ordered (bs ++ m ∷ rs)
+ordered_without : (bs : Glyphs) (m : Glyph) (rs : Glyphs) → Below (class_of m) bs → Ordered (bs ++ m ∷ rs)
     → Ordered (bs ++ rs)
 ordered_without [] m rs below o = o.1
 ordered_without (b ∷ []) m rs below o = (follows_without b m rs below.0 o.1.0, o.1.1)
@@ -89,7 +86,7 @@ ordered_without (b ∷ (h ∷ bs)) m rs below o = (o.0, ordered_without (h ∷ b
 -- ---- the walk
 
 -- the walk's glyphs: those before the starter, the starter, marks, and those still to come
-record At (context : Context) (w : StarterWalk) (f : Glyphs) (s : hb_glyph_info_t) (b r : Glyphs) : Type 0 where
+record At (context : Context) (w : StarterWalk) (f : Glyphs) (s : Glyph) (b r : Glyphs) : Type 0 where
   view : order_view w.glyphs ≡ f ++ s ∷ (b ++ r)
   starter : w.starter ≡ length f
   place : w.place ≡ length f + (1 + length b)
@@ -100,7 +97,7 @@ record At (context : Context) (w : StarterWalk) (f : Glyphs) (s : hb_glyph_info_
 seen_at : (gs : Glyphs) (i : ℕ) → get_or (order_view gs) i default_glyph ≡ plain (glyph_at gs i)
 seen_at gs i = get_or-map plain gs i default_glyph
 
-here : (context : Context) (w : StarterWalk) (f : Glyphs) (s : hb_glyph_info_t) (b : Glyphs) (m : hb_glyph_info_t)
+here : (context : Context) (w : StarterWalk) (f : Glyphs) (s : Glyph) (b : Glyphs) (m : Glyph)
     (r : Glyphs)
     → At context w f s b (m ∷ r) → m ≡ plain (glyph_at w.glyphs w.place)
 here context w f s b m r a =
@@ -111,7 +108,7 @@ here context w f s b m r a =
     ∙ ap (λ i. get_or (order_view w.glyphs) i default_glyph) long
     ∙ seen_at w.glyphs w.place
 
-first : (context : Context) (w : StarterWalk) (f : Glyphs) (s : hb_glyph_info_t) (b r : Glyphs) → At context w f s b r
+first : (context : Context) (w : StarterWalk) (f : Glyphs) (s : Glyph) (b r : Glyphs) → At context w f s b r
     → s ≡ plain (glyph_at w.glyphs w.starter)
 first context w f s b r a =
     sym (get_or-append_seam f s (b ++ r) default_glyph)
@@ -120,7 +117,7 @@ first context w f s b r a =
     ∙ seen_at w.glyphs w.starter
 
 -- the last mark, or the starter
-last : (context : Context) (w : StarterWalk) (f : Glyphs) (s : hb_glyph_info_t) (b r : Glyphs) → At context w f s b r
+last : (context : Context) (w : StarterWalk) (f : Glyphs) (s : Glyph) (b r : Glyphs) → At context w f s b r
     → get_or (s ∷ b) (length b) default_glyph ≡ plain (glyph_at w.glyphs (w.place - 1))
 last context w f s b r a =
     let n = length b in
@@ -156,7 +153,7 @@ free_by n start place c d true e long test = inl
 free_by n start place c d false e long test = inr (grind (arith, nat_tests))
 
 -- marks that one passes: those between it and the starter
-marks_lower : (context : Context) (s m : hb_glyph_info_t) (b r : Glyphs) → AreMarks context b → Ordered (b ++ m ∷ r)
+marks_lower : (context : Context) (s m : Glyph) (b r : Glyphs) → AreMarks context b → Ordered (b ++ m ∷ r)
     → (length b ≡ 0) ⊎ (class_of (get_or (s ∷ b) (length b) default_glyph) < class_of m) → Below (class_of m) b
 marks_lower context s m [] r marks o free = tt
 marks_lower context s m (b ∷ bs) r marks o (inl none) = absurd (omega arith)
@@ -168,7 +165,7 @@ others_below context c (b ∷ bs) marks below = let less : class_of b < c = belo
     ((marks.0, λ e. absurd (omega arith)), others_below context c bs marks.1 below.1)
 
 -- a mark goes before those that stand in lesser classes
-goes_first : (context : Context) (full : ℕ → List ℕ) → TakesApart context full → (m : hb_glyph_info_t) (b : Glyphs)
+goes_first : (context : Context) (full : ℕ → List ℕ) → TakesApart context full → (m : Glyph) (b : Glyphs)
     → class_of m ≡ mark_class context m.glyph_id → AreMarks context b → Below (class_of m) b
     → SameButForOrder (mark_class context) (full m.glyph_id ++ apart_text full b) (apart_text full b ++ full m.glyph_id)
 goes_first context full t m [] own marks below = order.as_is (mark_class context) (full m.glyph_id ++ [])
@@ -185,7 +182,7 @@ without_view i gs =
     ∙ ap (λ xs. xs ++ order_view (drop (i + 1) gs)) (sym (take-map plain i gs))
     ∙ ap (λ xs. take i (order_view gs) ++ xs) (sym (drop-map plain (i + 1) gs))
 
-without_at : (front : Glyphs) (m : hb_glyph_info_t) (r : Glyphs) (i : ℕ) → i ≡ length front
+without_at : (front : Glyphs) (m : Glyph) (r : Glyphs) (i : ℕ) → i ≡ length front
     → without_place i (front ++ m ∷ r) ≡ front ++ r
 without_at front m r i place =
     let next : i + 1 ≡ length (front ++ m ∷ []) = omega (arith, length-append front (m ∷ [])) in
@@ -196,12 +193,12 @@ without_at front m r i place =
     ∙ ap (λ xs. front ++ xs) (drop-append_seam (front ++ m ∷ []) r)
 
 -- the starter as what it has become
-abbrev became : Context → BufferClusterLevel → ℕ × GlyphId → StarterWalk → hb_glyph_info_t
+abbrev became : Context → BufferClusterLevel → ℕ × GlyphId → StarterWalk → Glyph
 became context level drawn w = as_character context drawn.0 drawn.1.0
     (glyph_at (without_place w.place (merge level w.starter (w.place + 1) w.glyphs)) w.starter)
 
 taken_view : (context : Context) (level : BufferClusterLevel) (drawn : ℕ × GlyphId) (w : StarterWalk) (f : Glyphs)
-    (s : hb_glyph_info_t) (b : Glyphs) (m : hb_glyph_info_t) (r : Glyphs)
+    (s : Glyph) (b : Glyphs) (m : Glyph) (r : Glyphs)
     → At context w f s b (m ∷ r)
     → order_view (taken_in context level drawn w).glyphs ≡ f ++ plain (became context level drawn w) ∷ (b ++ r)
 taken_view context level drawn w f s b m r a =
@@ -221,12 +218,12 @@ taken_view context level drawn w f s b m r a =
     ∙ ap (λ i. set (f ++ s ∷ (b ++ r)) i new) a.starter
     ∙ set-append_seam f s (b ++ r) new
 
-record Takes (context : Context) (drawn : ℕ × GlyphId) (s m : hb_glyph_info_t) (b : Glyphs) : Type 0 where
+record Takes (context : Context) (drawn : ℕ × GlyphId) (s m : Glyph) (b : Glyphs) : Type 0 where
   made : context.composed s.glyph_id m.glyph_id ≡ Some drawn.0
   below : Below (class_of m) b
 
-takes : (context : Context) (drawn : ℕ × GlyphId) (w : StarterWalk) (f : Glyphs) (s : hb_glyph_info_t) (b : Glyphs)
-    (m : hb_glyph_info_t) (r : Glyphs)
+takes : (context : Context) (drawn : ℕ × GlyphId) (w : StarterWalk) (f : Glyphs) (s : Glyph) (b : Glyphs)
+    (m : Glyph) (r : Glyphs)
     → At context w f s b (m ∷ r) → composition context w ≡ Some drawn → Takes context drawn s m b
 takes context drawn w f s b m r a e =
     let mark = glyph_at w.glyphs w.place in
@@ -242,19 +239,19 @@ takes context drawn w f s b m r a e =
     let or_less : (length b ≡ 0) ⊎ (class_of before < class_of mark) = free_by (length b) w.starter w.place
     (class_of before) (class_of mark) (eqb (w.starter + 1) w.place) refl long free in
     let seen : (length b ≡ 0) ⊎ (class_of (get_or (s ∷ b) (length b) default_glyph) < class_of m) =
-    subst (λ (g : hb_glyph_info_t). (length b ≡ 0) ⊎ (class_of g < class_of m)) (sym is_last)
-    (subst (λ (g : hb_glyph_info_t). (length b ≡ 0) ⊎ (class_of before < class_of g)) (sym is_m) or_less) in
+    subst (λ (g : Glyph). (length b ≡ 0) ⊎ (class_of g < class_of m)) (sym is_last)
+    (subst (λ (g : Glyph). (length b ≡ 0) ⊎ (class_of before < class_of g)) (sym is_m) or_less) in
     record {
       made =
-          ap (λ (g : hb_glyph_info_t). context.composed g.glyph_id m.glyph_id) is_s
-          ∙ ap (λ (g : hb_glyph_info_t). context.composed starter.glyph_id g.glyph_id) is_m
+          ap (λ (g : Glyph). context.composed g.glyph_id m.glyph_id) is_s
+          ∙ ap (λ (g : Glyph). context.composed starter.glyph_id g.glyph_id) is_m
           ∙ both.1;
       below = marks_lower context s m b r a.between a.in_order seen;
     }
 
 -- what is composed is the same text
 composed_same : (context : Context) (full : ℕ → List ℕ) → TakesApart context full
-    → (f : Glyphs) (s m : hb_glyph_info_t) (b r : Glyphs) (c : ℕ) (new : hb_glyph_info_t) → new.glyph_id ≡ c
+    → (f : Glyphs) (s m : Glyph) (b r : Glyphs) (c : ℕ) (new : Glyph) → new.glyph_id ≡ c
     → context.composed s.glyph_id m.glyph_id ≡ Some c → class_of m ≡ mark_class context m.glyph_id
     → AreMarks context b → Below (class_of m) b → Same context full (f ++ new ∷ (b ++ r)) (f ++ s ∷ (b ++ m ∷ r))
 composed_same context full t f s m b r c new is made own marks below =
@@ -282,11 +279,11 @@ composed_same context full t f s m b r c new is made own marks below =
 -- ---- one glyph after another
 
 abbrev End : Context → (ℕ → List ℕ) → BufferClusterLevel → Glyphs → Type 0
-End context full level r = (w : StarterWalk) (f : Glyphs) (s : hb_glyph_info_t) (b : Glyphs) → At context w f s b r
+End context full level r = (w : StarterWalk) (f : Glyphs) (s : Glyph) (b : Glyphs) → At context w f s b r
     → Same context full (walk_over context level (length r) w).glyphs (f ++ s ∷ (b ++ r))
 
-left_letter : (context : Context) (w : StarterWalk) (f : Glyphs) (s : hb_glyph_info_t) (b : Glyphs)
-    (m : hb_glyph_info_t) (r : Glyphs)
+left_letter : (context : Context) (w : StarterWalk) (f : Glyphs) (s : Glyph) (b : Glyphs)
+    (m : Glyph) (r : Glyphs)
     → At context w f s b (m ∷ r)
     → At context (record w { starter = w.place; place = w.place + 1 }) (f ++ s ∷ b) m [] r
 left_letter context w f s b m r a = record {
@@ -298,7 +295,7 @@ left_letter context w f s b m r a = record {
   in_order = (ordered_last b (m ∷ r) a.in_order).1;
 }
 
-left_mark : (context : Context) (w : StarterWalk) (f : Glyphs) (s : hb_glyph_info_t) (b : Glyphs) (m : hb_glyph_info_t)
+left_mark : (context : Context) (w : StarterWalk) (f : Glyphs) (s : Glyph) (b : Glyphs) (m : Glyph)
     (r : Glyphs)
     → class_of m ≢ 0 → At context w f s b (m ∷ r) → At context (record w { place = w.place + 1 }) f s (b ++ m ∷ []) r
 left_mark context w f s b m r some a =
@@ -313,7 +310,7 @@ left_mark context w f s b m r some a =
     }
 
 taken_at : (context : Context) (level : BufferClusterLevel) (drawn : ℕ × GlyphId) (w : StarterWalk) (f : Glyphs)
-    (s : hb_glyph_info_t) (b : Glyphs) (m : hb_glyph_info_t) (r : Glyphs)
+    (s : Glyph) (b : Glyphs) (m : Glyph) (r : Glyphs)
     → At context w f s b (m ∷ r) → Below (class_of m) b
     → At context (taken_in context level drawn w) f (plain (became context level drawn w)) b r
 taken_at context level drawn w f s b m r a below = record {
@@ -326,7 +323,7 @@ taken_at context level drawn w f s b m r a below = record {
 }
 
 stays_by : (context : Context) (full : ℕ → List ℕ) (level : BufferClusterLevel) (w : StarterWalk) (f : Glyphs)
-    (s : hb_glyph_info_t) (b : Glyphs) (m : hb_glyph_info_t) (r : Glyphs) (letter : Bool)
+    (s : Glyph) (b : Glyphs) (m : Glyph) (r : Glyphs) (letter : Bool)
     → eqb (class_of m) 0 ≡ letter → At context w f s b (m ∷ r) → End context full level r
     → Same context full (walk_over context level (length r)
     (record w { starter = cond letter w.place w.starter; place = w.place + 1 })).glyphs (f ++ s ∷ (b ++ m ∷ r))
@@ -342,8 +339,8 @@ stays_by context full level w f s b m r false e a ih =
     (apart_text full (f ++ s ∷ (b ++ m ∷ r))) (ap (λ xs. apart_text full (f ++ s ∷ xs)) (append_assoc b (m ∷ []) r)) k
 
 step_by : (context : Context) (full : ℕ → List ℕ) → TakesApart context full
-    → (level : BufferClusterLevel) (w : StarterWalk) (f : Glyphs) (s : hb_glyph_info_t) (b : Glyphs)
-    (m : hb_glyph_info_t) (r : Glyphs) (o : Option (ℕ × GlyphId))
+    → (level : BufferClusterLevel) (w : StarterWalk) (f : Glyphs) (s : Glyph) (b : Glyphs)
+    (m : Glyph) (r : Glyphs) (o : Option (ℕ × GlyphId))
     → composition context w ≡ o → At context w f s b (m ∷ r) → End context full level r
     → Same context full (walk_over context level (length r)
     (option_map_or (λ drawn. taken_in context level drawn w) o (left_as_is w))).glyphs (f ++ s ∷ (b ++ m ∷ r))

@@ -1,7 +1,7 @@
 -- Normalization keeps a text canonically equivalent.
 use Rattle.std.specs.Prelude.{ℕ, ◌≡◌, ◌<◌, ◌≤◌, ◌-◌, ◌==◌, nat_le, Bool, true, false, ◌&&◌, ◌||◌, List, [], ◌∷◌, length, Some, if◌then◌else◌, ◌≢◌}
 use Rattle.std.specs.List.{AllByRecursion, list_all, list_any}
-use Rattle.shapers_buffer.specs.declared.buffer.glyph.hb_glyph_info_t.{hb_glyph_info_t}
+use Rattle.shapers_buffer.specs.Glyphs.{Glyphs}
 use Rattle.shapers_buffer.specs.declared.buffer.level.BufferClusterLevel.{BufferClusterLevel}
 use Rattle.shapers_buffer.specs.Clusters.{with_stretch}
 use Rattle.shapers_buffer.specs.Glyph.{characters, order_view}
@@ -19,7 +19,7 @@ abbrev pub mark_class : Context → ℕ → ℕ
 mark_class context c = if is_mark_in context c then context.class c else 0
 
 -- each glyph has the class of its character, as the properties of a text set it
-abbrev pub HaveOwnClasses : Context → List hb_glyph_info_t → Type 0
+abbrev pub HaveOwnClasses : Context → Glyphs → Type 0
 HaveOwnClasses context gs = AllByRecursion (λ g. class_of g ≡ mark_class context g.glyph_id) gs
 
 -- whether of each two neighbours the second is in no lesser class, or in class 0 (D108: no
@@ -42,42 +42,42 @@ pub record IsCanonical (pairs : CharacterPairs) (context : Context) : Type 0 whe
       (full_decomposition pairs c)
 
 -- a run of marks in canonical order, each of the class of its character
-pub record IsOrderedRun (context : Context) (marks : List hb_glyph_info_t) : Type 0 where
+pub record IsOrderedRun (context : Context) (marks : Glyphs) : Type 0 where
   pub own : HaveOwnClasses context marks
   pub marked : AllByRecursion (λ g. class_of g ≢ 0) marks
   pub ordered : in_canonical_order (classes marks) ≡ true
 
 -- A shaper's order of marks is a function of the run alone, and keeps it equivalent.
 pub record OrdersEquivalently (pairs : CharacterPairs) (context : Context) : Type 0 where
-  pub arranged : List hb_glyph_info_t → List hb_glyph_info_t
-  pub same_length : (marks : List hb_glyph_info_t) → length (arranged marks) ≡ length marks
-  pub of_run : (level : BufferClusterLevel) (s e : ℕ) (gs : List hb_glyph_info_t) →
+  pub arranged : Glyphs → Glyphs
+  pub same_length : (marks : Glyphs) → length (arranged marks) ≡ length marks
+  pub of_run : (level : BufferClusterLevel) (s e : ℕ) (gs : Glyphs) →
       s < e → e ≤ length gs →
       order_view (context.reordered level s e gs) ≡ with_stretch s e arranged (order_view gs)
-  pub equivalent : (marks : List hb_glyph_info_t) → IsOrderedRun context marks →
+  pub equivalent : (marks : Glyphs) → IsOrderedRun context marks →
       CanonicallyEquivalent pairs (mark_class context) (characters (arranged marks))
       (characters marks)
 
 -- A text that normalization gets: each glyph has the class of its character, and no variation
 -- selector stands in it, whose glyph could stand for two characters.
-pub record IsPlainText (context : Context) (gs : List hb_glyph_info_t) : Type 0 where
+pub record IsPlainText (context : Context) (gs : Glyphs) : Type 0 where
   pub own : HaveOwnClasses context gs
   pub no_selector : list_any is_selector_glyph gs ≡ false
 
 -- what the third round composes: the marks of the second
-abbrev pub before_composing : Context → BufferClusterLevel → List hb_glyph_info_t →
-    List hb_glyph_info_t
+abbrev pub before_composing : Context → BufferClusterLevel → Glyphs →
+    Glyphs
 before_composing context level gs = marks_ordered context level (first_round context level gs)
 
 -- marks that stand in canonical order, each in the class of its character
-pub record AreInOrder (context : Context) (gs : List hb_glyph_info_t) : Type 0 where
+pub record AreInOrder (context : Context) (gs : Glyphs) : Type 0 where
   pub own : HaveOwnClasses context gs
   pub ordered : in_canonical_order (classes gs) ≡ true
 
 -- The first round keeps the full decomposition as it is, whatever the font lacks.
 abbrev pub ComesApartExactly : Type 0
 ComesApartExactly = (pairs : CharacterPairs) (context : Context) (level : BufferClusterLevel)
-    (gs : List hb_glyph_info_t) →
+    (gs : Glyphs) →
     IsCanonical pairs context → IsPlainText context gs →
     fully_decomposed pairs (characters (first_round context level gs))
     ≡ fully_decomposed pairs (characters gs)
@@ -85,7 +85,7 @@ ComesApartExactly = (pairs : CharacterPairs) (context : Context) (level : Buffer
 -- The second round keeps it up to the order of marks of different classes, however long a run is.
 abbrev pub OrdersMarksEquivalently : Type 0
 OrdersMarksEquivalently = (pairs : CharacterPairs) (context : Context)
-    (level : BufferClusterLevel) (gs : List hb_glyph_info_t) →
+    (level : BufferClusterLevel) (gs : Glyphs) →
     IsCanonical pairs context → OrdersEquivalently pairs context → IsPlainText context gs →
     CanonicallyEquivalent pairs (mark_class context)
     (characters (before_composing context level gs)) (characters gs)
@@ -94,7 +94,7 @@ OrdersMarksEquivalently = (pairs : CharacterPairs) (context : Context)
 -- or if nothing is composed.
 abbrev pub NormalizesEquivalently : Type 0
 NormalizesEquivalently = (pairs : CharacterPairs) (context : Context) (rounds : Rounds)
-    (level : BufferClusterLevel) (gs : List hb_glyph_info_t) →
+    (level : BufferClusterLevel) (gs : Glyphs) →
     IsCanonical pairs context → OrdersEquivalently pairs context → IsPlainText context gs →
     ((has_rounds rounds gs && composes context.mode) ≡ true →
     AreInOrder context (before_composing context level gs)) →
@@ -103,18 +103,18 @@ NormalizesEquivalently = (pairs : CharacterPairs) (context : Context) (rounds : 
 
 -- a shaper without an order of its own
 abbrev pub LeavesOrder : Context → Type 0
-LeavesOrder context = (level : BufferClusterLevel) (s e : ℕ) (gs : List hb_glyph_info_t) →
+LeavesOrder context = (level : BufferClusterLevel) (s e : ℕ) (gs : Glyphs) →
     s < e → e ≤ length gs → order_view (context.reordered level s e gs) ≡ order_view gs
 
 -- whether no run of marks is longer than 32
-abbrev pub has_short_runs : List hb_glyph_info_t → Bool
+abbrev pub has_short_runs : Glyphs → Bool
 has_short_runs gs =
     list_all (λ run. nat_le (run.1 - run.0) max_marks) (mark_runs 0 0 (classes gs))
 
 -- For such a shaper the second round does so, where no run is longer than 32 marks.
 abbrev pub RunsNormalizeEquivalently : Type 0
 RunsNormalizeEquivalently = (pairs : CharacterPairs) (context : Context) (rounds : Rounds)
-    (level : BufferClusterLevel) (gs : List hb_glyph_info_t) →
+    (level : BufferClusterLevel) (gs : Glyphs) →
     IsCanonical pairs context → LeavesOrder context → IsPlainText context gs →
     has_short_runs (first_round context level gs) ≡ true →
     CanonicallyEquivalent pairs (mark_class context)

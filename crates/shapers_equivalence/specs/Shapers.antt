@@ -1,12 +1,12 @@
 -- The law for each shaper with Unicode's tables.
-use Rattle.std.specs.Prelude.{◌≡◌, ◌==◌, ◌&&◌, Bool, true, false, List, Option, Some}
+use Rattle.std.specs.Prelude.{◌≡◌, ◌==◌, ◌&&◌, Bool, true, false, Option, Some}
 use Rattle.std.specs.List.{list_any}
 use Rattle.rustybuzz_shapers.specs.declared.shaper.hb_ot_shaper_t.{hb_ot_shaper_t}
 use Rattle.rustybuzz_shapers.specs.declared.shaper.hb_ot_shaper_t.TheVariants.{Arabic, Hebrew, Khmer}
 use Rattle.shapers_base.specs.Font.{Font}
 use Rattle.shapers_base.specs.declared.font.GlyphId.{GlyphId}
 use Rattle.shapers_base.specs.declared.plan.hb_ot_shape_plan_t.{hb_ot_shape_plan_t}
-use Rattle.shapers_buffer.specs.declared.buffer.glyph.hb_glyph_info_t.{hb_glyph_info_t}
+use Rattle.shapers_buffer.specs.Glyphs.{Glyph, Glyphs}
 use Rattle.shapers_buffer.specs.declared.buffer.level.BufferClusterLevel.{BufferClusterLevel}
 use Rattle.shapers_buffer.specs.Glyph.{characters}
 use Rattle.shapers_khmer.specs.Khmer.{split_vowels}
@@ -34,10 +34,10 @@ unicode_context shaper plan font variants invisible draws_selectors =
     shaper_context shaper plan font variants unicode_tables unicode_texts invisible draws_selectors
 
 -- whether the shaper takes a character of a text apart that Unicode doesn't: Khmer's split vowels
-abbrev pub is_split_vowel : hb_glyph_info_t → Bool
+abbrev pub is_split_vowel : Glyph → Bool
 is_split_vowel g = list_any (λ v. v == g.glyph_id) split_vowels
 
-abbrev pub has_split_vowel : Option hb_ot_shaper_t → List hb_glyph_info_t → Bool
+abbrev pub has_split_vowel : Option hb_ot_shaper_t → Glyphs → Bool
 has_split_vowel (Some Khmer) gs = list_any is_split_vowel gs
 has_split_vowel _ gs = false
 
@@ -52,7 +52,7 @@ orders_marks _ = false
 abbrev pub ShapersNormalizeEquivalently : Type 0
 ShapersNormalizeEquivalently = (shaper : Option hb_ot_shaper_t) (plan : hb_ot_shape_plan_t)
     (font : Font) (variants : VariantForms) (invisible : Option GlyphId) (draws_selectors : Bool)
-    (rounds : Rounds) (level : BufferClusterLevel) (gs : List hb_glyph_info_t) →
+    (rounds : Rounds) (level : BufferClusterLevel) (gs : Glyphs) →
     has_split_vowel shaper gs ≡ false →
     let context = unicode_context shaper plan font variants invisible draws_selectors in
     IsPlainText context gs →
@@ -67,7 +67,7 @@ ShapersNormalizeEquivalently = (shaper : Option hb_ot_shaper_t) (plan : hb_ot_sh
 abbrev pub ShapersKeepTexts : Type 0
 ShapersKeepTexts = (shaper : Option hb_ot_shaper_t) (plan : hb_ot_shape_plan_t)
     (font : Font) (variants : VariantForms) (invisible : Option GlyphId) (draws_selectors : Bool)
-    (rounds : Rounds) (level : BufferClusterLevel) (gs : List hb_glyph_info_t) →
+    (rounds : Rounds) (level : BufferClusterLevel) (gs : Glyphs) →
     has_split_vowel shaper gs ≡ false → orders_marks shaper ≡ false →
     let context = unicode_context shaper plan font variants invisible draws_selectors in
     IsPlainText context gs → has_short_runs (first_round context level gs) ≡ true →

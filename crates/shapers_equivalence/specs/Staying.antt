@@ -1,6 +1,6 @@
 -- A text in the form that the font and the shaper want stays as it is.
 use Rattle.std.specs.Prelude.{ℕ, ◌≡◌, ◌<◌, ◌≤◌, ◌≢◌, true, List, length, map, slice_index, None}
-use Rattle.shapers_buffer.specs.declared.buffer.glyph.hb_glyph_info_t.{hb_glyph_info_t}
+use Rattle.shapers_buffer.specs.Glyphs.{Glyphs}
 use Rattle.shapers_buffer.specs.declared.buffer.level.BufferClusterLevel.{BufferClusterLevel}
 use Rattle.shapers_buffer.specs.Glyph.{characters}
 use Rattle.shapers_normal.specs.Context.{Context}
@@ -20,7 +20,7 @@ NothingComposes context cs ks = (i j : ℕ) → i < j → j < length cs →
 
 -- a shaper that leaves a text as it is, where others order marks
 abbrev pub LeavesMarks : Context → Type 0
-LeavesMarks context = (level : BufferClusterLevel) (s e : ℕ) (gs : List hb_glyph_info_t) →
+LeavesMarks context = (level : BufferClusterLevel) (s e : ℕ) (gs : Glyphs) →
     s < e → e ≤ length gs → context.reordered level s e gs ≡ gs
 
 -- A text of which nothing comes apart, whose marks stand in the order of their classes, and in
@@ -28,7 +28,7 @@ LeavesMarks context = (level : BufferClusterLevel) (s e : ℕ) (gs : List hb_gly
 -- the grapheme joiners that kept nothing apart, and all else stays.
 abbrev pub TextsInFormStay : Type 0
 TextsInFormStay = (context : Context) (rounds : Rounds) (level : BufferClusterLevel)
-    (gs : List hb_glyph_info_t) →
+    (gs : Glyphs) →
     LeavesMarks context → stays_together context gs ≡ true →
     in_canonical_order (classes gs) ≡ true →
     (composes context.mode ≡ true → NothingComposes context (characters gs) (classes gs)) →

@@ -6,7 +6,7 @@ use Rattle.shapers_buffer.specs.Glyph.{characters}
 use Rattle.shapers_buffer.specs.Buffer.{Buffer}
 use Rattle.std.proofs.lemmas.List.{append_assoc, drop_all, drop-drop, length-append, length-drop, take-append-drop}
 use Rattle.std.proofs.Math.Seq.{take-add}
-use Rattle.shapers_buffer.specs.declared.buffer.glyph.hb_glyph_info_t.{hb_glyph_info_t}
+use Rattle.shapers_buffer.specs.Glyphs.{Glyphs}
 use Rattle.shapers_buffer.specs.declared.buffer.level.BufferClusterLevel.{BufferClusterLevel}
 use Rattle.shapers_buffer.specs.GlyphFlags.{unsafe_all, unsafe_inside}
 use Rattle.shapers_base.specs.Font.{Font}
@@ -29,74 +29,55 @@ by_kept P item a b stays goes = elim (is_kept item) as (λ k. is_kept item ≡ k
 -- RECORDING
 pub changes_next : (p : ℕ × Item) (cut : List (ℕ × Item)) → rewritten_items (p ∷ cut) ≡ rewritten_items (p ∷ [])
     ++ rewritten_items cut
-changes_next p cut = search arith
+changes_next = search arith
 
-pub recording_next : (font : Font) (circles : Bool) (gs : List hb_glyph_info_t) (list longer start : List (ℕ × Item))
+pub recording_next : (font : Font) (circles : Bool) (gs : Glyphs) (list longer start : List (ℕ × Item))
     (place : ℕ) (item : Item) → place < length gs → item ≡ first_item font circles (characters (drop place gs))
     → list ++ rewritten_items (items_at font circles (characters gs) place) ≡ start
     → longer ≡ list ++ rewritten_items ((place, item) ∷ [])
     → longer ++ rewritten_items (items_at font circles (characters gs) (place + item_len item)) ≡ start
-recording_next font circles gs list longer start place item inside is so_far added =
-    search (arith, append_assoc, changes_next, glyphs_next)
+recording_next = search (arith, append_assoc, changes_next, glyphs_next)
 
-pub recording_staying : (font : Font) (circles : Bool) (gs : List hb_glyph_info_t) (list start : List (ℕ × Item))
+pub recording_staying : (font : Font) (circles : Bool) (gs : Glyphs) (list start : List (ℕ × Item))
     (place : ℕ) → place < length gs → is_kept (first_item font circles (characters (drop place gs))) ≡ true
     → list ++ rewritten_items (items_at font circles (characters gs) place) ≡ start
     → list ++ rewritten_items (items_at font circles (characters gs) (place + 1)) ≡ start
-recording_staying font circles gs list start place inside stays so_far =
-    search (arith, staying_next)
+recording_staying = search (arith, staying_next)
 
 -- one more character that stays
-pub kept_next : (font : Font) (circles : Bool) (gs : List hb_glyph_info_t) (place : ℕ) → place < length gs
+pub kept_next : (font : Font) (circles : Bool) (gs : Glyphs) (place : ℕ) → place < length gs
     → is_kept (first_item font circles (characters (drop place gs))) ≡ true → KeptBefore font circles gs place
     → KeptBefore font circles gs (place + 1)
-kept_next font circles gs place inside stays so_far =
-    search (
-      arith,
-      recording_staying font circles gs [] _ place inside stays (sym so_far.listed),
-      so_far.long,
-      length_staying font circles gs place inside stays,
-    )
+kept_next font circles gs place inside stays so_far = search (arith, recording_staying font circles gs [] _ place inside stays (sym so_far.listed), length_staying font circles gs place inside stays)
 
 -- where no item changes the text, the next one stays, and so do the others
 pub none_next : (p : ℕ × Item) (cut : List (ℕ × Item)) → rewritten_items (p ∷ cut) ≡ []
     → (is_kept p.1 ≡ true) × (rewritten_items cut ≡ [])
-none_next p cut none =
-    search (arith, by_kept)
+none_next p cut none = search arith
 
 -- what is kept joins nothing
-pub joined_changes : (level : BufferClusterLevel) (cut : List (ℕ × Item)) (gs : List hb_glyph_info_t)
+pub joined_changes : (level : BufferClusterLevel) (cut : List (ℕ × Item)) (gs : Glyphs)
     → all_joined level (rewritten_items cut) gs ≡ all_joined level cut gs
 joined_changes level [] gs = refl
 joined_changes level (p ∷ cut) gs =
     by_kept (λ l. all_joined level l gs ≡ all_joined level cut (item_joined level p.0 p.1 gs)) p.1 (rewritten_items cut)
-    (p ∷ rewritten_items cut)
-    (λ stays. joined_changes level cut gs
+    (p ∷ rewritten_items cut) (λ stays. joined_changes level cut gs
     ∙ ap (all_joined level cut) (sym ((kept_stays p.1 stays).unjoined level p.0 gs)))
     (λ _. joined_changes level cut (item_joined level p.0 p.1 gs))
 
 -- what is kept is flagged by no rewriting
-pub flagged_changes : (cut : List (ℕ × Item)) (gs : List hb_glyph_info_t)
+pub flagged_changes : (cut : List (ℕ × Item)) (gs : Glyphs)
     → unsafe_all (whole_items (rewritten_items cut)) gs ≡ unsafe_all (whole_items cut) gs
 flagged_changes [] gs = refl
-flagged_changes (p ∷ cut) gs =
-    search (
-      arith,
-      by_kept,
-      unsafe_few,
-      kept_stays,
-      flagged_changes cut gs,
-      flagged_changes cut (unsafe_inside p.0 (p.0 + item_len p.1) gs),
-    )
+flagged_changes (p ∷ cut) gs = search (arith, unsafe_few, flagged_changes cut (unsafe_inside p.0 (p.0 + item_len p.1) gs))
 
 -- what fits, and stands in turn
 pub changes_fit : (n : ℕ) (cut : List (ℕ × Item)) → Fit n cut → Fit n (rewritten_items cut)
 changes_fit n [] fit = fit
-changes_fit n (p ∷ cut) fit =
-    search (arith, by_kept, changes_fit n cut fit.1)
+changes_fit n (p ∷ cut) fit = search (arith, changes_fit n cut fit.1)
 
 sooner : (n a b : ℕ) (cut : List (ℕ × Item)) → a ≤ b → InTurn n b cut → InTurn n a cut
-sooner n a b [] less turn = omega (arith, turn)
+sooner n a b [] less turn = omega arith
 sooner n a b (p ∷ cut) less turn = search arith
 
 turn_from : (font : Font) (circles : Bool) (place skip : ℕ) (us : List ℕ) → skip ≤ length us
@@ -119,7 +100,7 @@ turn_from font circles place (suc skip) (u ∷ us) inside =
 
 -- WRITING
 -- a glyph before the next item stays
-one_stays : (n place : ℕ) (cut : List (ℕ × Item)) (gs : List hb_glyph_info_t) → InTurn n (place + 1) cut
+one_stays : (n place : ℕ) (cut : List (ℕ × Item)) (gs : Glyphs) → InTurn n (place + 1) cut
     → changed_from place cut gs ≡ take 1 (drop place gs) ++ changed_from (place + 1) cut gs
 one_stays n place [] gs turn = cc (take-append-drop 1 (drop place gs), drop-drop 1 place gs)
 one_stays n place (p ∷ cut) gs turn =
@@ -127,16 +108,9 @@ one_stays n place (p ∷ cut) gs turn =
     let first = take 1 (drop place gs) in
     let output = item_output glyph_copies p.1 (drop p.0 gs) in
     let between = take m (drop (place + 1) gs) in
-    search (
-      arith,
-      turn.0,
-      take-add 1 m (drop place gs),
-      drop-drop 1 place gs,
-      append_assoc first between output,
-      append_assoc first (between ++ output) (changed_from (p.0 + item_len p.1) cut gs),
-    )
+    search (arith, take-add 1 m (drop place gs), drop-drop 1 place gs)
 
-changed_all : (font : Font) (circles : Bool) (place skip : ℕ) (us : List ℕ) (gs : List hb_glyph_info_t)
+changed_all : (font : Font) (circles : Bool) (place skip : ℕ) (us : List ℕ) (gs : Glyphs)
     → skip ≤ length us → length gs ≡ place + length us
     → changed_from (place + skip) (rewritten_items (items_from (first_item font circles) place skip us)) gs
     ≡ outputs glyph_copies (items_from (first_item font circles) place skip us) gs
@@ -149,7 +123,7 @@ changed_all font circles place zero (u ∷ us) gs inside long =
     let on : place + 1 + (item_len item - 1) ≡ place + item_len item = omega arith in
     let output = item_output glyph_copies item (drop place gs) in
     let rest = ap (λ m. changed_from m (rewritten_items cut) gs) (sym on)
-    ∙ changed_all font circles (place + 1) (item_len item - 1) us gs (omega arith) (omega (arith, long)) in
+    ∙ changed_all font circles (place + 1) (item_len item - 1) us gs (omega arith) (omega arith) in
     search (
       arith,
       by_kept (λ l. changed_from place l gs ≡ output ++ outputs glyph_copies cut gs) item (rewritten_items cut)
@@ -163,9 +137,9 @@ changed_all font circles place zero (u ∷ us) gs inside long =
           changed_from (place + item_len item) (rewritten_items cut) gs) none ∙ ap (λ l. output ++ l) rest),
     )
 changed_all font circles place (suc skip) (u ∷ us) gs inside long =
-    search (arith, changed_all font circles (place + 1) skip us gs (omega arith) (omega (arith, long)))
+    search (arith, changed_all font circles (place + 1) skip us gs (omega arith) (omega arith))
 
-pub items_at_turn : (font : Font) (circles : Bool) (gs : List hb_glyph_info_t) (place : ℕ) → place ≤ length gs
+pub items_at_turn : (font : Font) (circles : Bool) (gs : Glyphs) (place : ℕ) → place ≤ length gs
     → InTurn (length gs) place (rewritten_items (items_at font circles (characters gs) place))
 items_at_turn font circles gs place within =
     let us = characters gs in
@@ -189,43 +163,40 @@ turn-at n place (q ∷ cut) (suc k) p inside turn = turn-at n (q.0 + item_len q.
 
 -- ROOM
 -- what the next item becomes is no longer than what all that are left become
-pub next_output : (place : ℕ) (cut : List (ℕ × Item)) (gs : List hb_glyph_info_t) (k : ℕ) (p : ℕ × Item)
-    → k < length cut → length (change_output place (slice_index_or cut k p) gs)
-    ≤ length (changed_from place (drop k cut) gs)
+pub next_output : (place : ℕ) (cut : List (ℕ × Item)) (gs : Glyphs) (k : ℕ) (p : ℕ × Item) → k < length cut
+    → length (change_output place (slice_index_or cut k p) gs) ≤ length (changed_from place (drop k cut) gs)
 next_output place [] gs k p inside = absurd (omega arith)
-next_output place (q ∷ cut) gs zero p inside =
-    search (arith, length-append)
+next_output place (q ∷ cut) gs zero p inside = search (arith, length-append)
 next_output place (q ∷ cut) gs (suc k) p inside = next_output place cut gs k p (omega arith)
 
 -- what is left to write has room
-pub room_left : (list rest start whole : List hb_glyph_info_t) (room wide : ℕ) → list ++ rest ≡ start ++ whole
+pub room_left : (list rest start whole : Glyphs) (room wide : ℕ) → list ++ rest ≡ start ++ whole
     → length start + length whole ≤ room → room ≤ wide → length list + length rest ≤ wide
 room_left list rest start whole room wide same fits more =
-    omega (arith, ap length same, length-append list rest, length-append start whole, fits, more)
+    omega (arith, ap length same, length-append list rest, length-append start whole)
 
 -- THE WHOLE
 -- the flags of the items that the code listed are those of all
-flagged_listed : (breaks : BreakFlags) (cut : List (ℕ × Item)) (gs : List hb_glyph_info_t)
+flagged_listed : (breaks : BreakFlags) (cut : List (ℕ × Item)) (gs : Glyphs)
     → items_flagged breaks (rewritten_items cut) gs ≡ items_flagged breaks cut gs
 flagged_listed AsCode cut gs = refl
 flagged_listed Sound cut gs = flagged_changes cut gs
 
 -- what the code asks of the items that it listed, and what it makes of a buffer by them
 pub buffer_changed : (breaks : BreakFlags) (font : Font) (b : Buffer) (circles : Bool) (level : BufferClusterLevel)
-    (read : List hb_glyph_info_t) (cut : List (ℕ × Item)) → circles ≡ allows_circles b → level ≡ b.level
+    (read : Glyphs) (cut : List (ℕ × Item)) → circles ≡ allows_circles b → level ≡ b.level
     → read ≡ b.glyphs → cut ≡ rewritten_items (items font circles (characters read))
     → changed_from 0 cut (items_flagged breaks cut (all_joined level cut b.glyphs))
     ≡ (rewritten_by breaks font b).glyphs
-buffer_changed breaks font b circles level read cut same_circles same_level same_glyphs same =
-    search (
-      arith,
-      flagged_listed,
-      joined_changes,
-      changed_all,
-      length-items_flagged,
-      length-all_joined,
-      length-characters,
-    )
+buffer_changed = search (
+  arith,
+  flagged_listed,
+  joined_changes,
+  changed_all,
+  length-items_flagged,
+  length-all_joined,
+  length-characters,
+)
 
 -- flags change no length
 pub length-flagged : (breaks : BreakFlags) (font : Font) (b : Buffer)

@@ -1,12 +1,12 @@
 -- What the hook makes of clusters and glyph flags, by the law of made glyphs.
-use Rattle.std.proofs.Common.{◌≡◌, ℕ, zero, suc, ◌+◌, ◌-◌, ◌<◌, ◌≤◌, Bool, true, false, cond, List, [], ◌∷◌, ◌++◌, length, map, take, drop, refl, sym, ap, ◌∙◌, subst, arith}
+use Rattle.std.proofs.Common.{◌≡◌, ℕ, suc, ◌+◌, ◌-◌, ◌<◌, ◌≤◌, Bool, true, false, cond, List, [], ◌∷◌, ◌++◌, length, map, take, drop, refl, sym, ap, ◌∙◌, subst, arith}
 use Rattle.std.specs.List.{range_with_len, AllByRecursion, AllZip, Contains}
 use Rattle.std.proofs.lemmas.List.Elements.{All-from_recursion, Contains-append_right}
 use Rattle.std.proofs.lemmas.List.Concat.{flat_map-append}
 use Rattle.std.proofs.lemmas.List.FromFn.{length-range_with_len}
 use Rattle.std.proofs.lemmas.List.{length-drop}
 use Rattle.std.proofs.lemmas.Simd.{map-map}
-use Rattle.shapers_buffer.specs.declared.buffer.glyph.hb_glyph_info_t.{hb_glyph_info_t}
+use Rattle.shapers_buffer.specs.Glyphs.{Glyphs}
 use Rattle.shapers_buffer.specs.declared.buffer.level.BufferClusterLevel.{BufferClusterLevel}
 use Rattle.std.specs.Prelude.{Result, Ok, Err, OnOk}
 use Rattle.shapers_buffer.specs.declared.buffer.refusal.ShaperError.{ShaperError}
@@ -40,15 +40,13 @@ unit_ends true s e n within = (within, tt)
 unit_ends false s e n within = tt
 
 tone_ends : (tone : JoinedTone) (s e n : ℕ) → e + tone_len tone ≤ n → EndWithin n (tone_stretch tone s e)
-tone_ends Absent s e n within = tt
 tone_ends Before s e n within = (within, tt)
-tone_ends Behind s e n within = tt
+tone_ends _ s e n within = tt
 
 pub item_ends : (level : BufferClusterLevel) (unit : Unit) (tone : JoinedTone) (s n : ℕ)
     → s + (taken unit + tone_len tone) ≤ n
     → EndWithin n (unit_stretch level unit s ++ tone_stretch tone s (s + taken unit))
-item_ends level unit tone s n within =
-    search (arith, all-append, unit_ends, tone_ends)
+item_ends = search arith
 
 stretches_within : (font : Font) (circles : Bool) (level : BufferClusterLevel) (us : List ℕ)
     → EndWithin (length us) (stretches level (items font circles us))
@@ -69,37 +67,28 @@ contains-at (z ∷ xs) x ys = let (k, inside, at) = contains-at xs x ys in (suc 
 -- the sources of an item are among its places
 all-take-range : (P : ℕ → Type 0) (n a k : ℕ) → ((p : ℕ) → a ≤ p → p < a + n → P p)
     → AllByRecursion P (take n (range_with_len a k))
-all-take-range P zero a k h = tt
-all-take-range P (suc n) a zero h = tt
 all-take-range P (suc n) a (suc k) h =
     search (arith, all-take-range P n (a + 1) k (λ p low high. h p (omega arith) (omega arith)))
+all-take-range P _ a _ h = tt
 
 all-unit_output : (P : ℕ → Type 0) (unit : Unit) (xs : List ℕ) → AllByRecursion P (take (taken unit) xs)
     → AllByRecursion P (unit_output place_copies unit xs)
-all-unit_output P (ComposedTwo s) [] all = tt
 all-unit_output P (ComposedTwo s) (x ∷ xs) all = (all.0, tt)
-all-unit_output P (ComposedThree s) [] all = tt
 all-unit_output P (ComposedThree s) (x ∷ xs) all = (all.0, tt)
-all-unit_output P JamoTwo [] all = tt
 all-unit_output P JamoTwo (x ∷ []) all = (all.0, tt)
 all-unit_output P JamoTwo (x ∷ y ∷ xs) all = (all.0, (all.1.0, tt))
-all-unit_output P JamoThree [] all = tt
 all-unit_output P JamoThree (x ∷ []) all = (all.0, tt)
 all-unit_output P JamoThree (x ∷ y ∷ []) all = (all.0, (all.1.0, tt))
 all-unit_output P JamoThree (x ∷ y ∷ z ∷ xs) all = search arith
-all-unit_output P (PartsTwo l v) [] all = tt
 all-unit_output P (PartsTwo l v) (x ∷ xs) all = (all.0, (all.0, tt))
-all-unit_output P (PartsThree l v t) [] all = tt
 all-unit_output P (PartsThree l v t) (x ∷ xs) all = search arith
-all-unit_output P (PartsBeforeT l v) [] all = tt
 all-unit_output P (PartsBeforeT l v) (x ∷ []) all = (all.0, (all.0, tt))
 all-unit_output P (PartsBeforeT l v) (x ∷ y ∷ xs) all = search arith
 all-unit_output P Syllable xs all = all
-all-unit_output P ToneCircle [] all = tt
 all-unit_output P ToneCircle (x ∷ xs) all = (all.0, (all.0, tt))
-all-unit_output P CircleTone [] all = tt
 all-unit_output P CircleTone (x ∷ xs) all = (all.0, (all.0, tt))
 all-unit_output P Other xs all = all
+all-unit_output P _ [] all = tt
 
 all-with_tone : (P : ℕ → Type 0) (tone : JoinedTone) (ts out : List ℕ) → AllByRecursion P ts → AllByRecursion P out
     → AllByRecursion P (with_tone tone ts out)
@@ -108,14 +97,12 @@ all-with_tone P Before ts out all every = all-append P ts out all every
 all-with_tone P Behind ts out all every = all-append P out ts every all
 
 -- those of an item at a place of n
-item_sources : (item : Item) (place n : ℕ)
-    → AllByRecursion (λ p. (place ≤ p) × (p < place + taken item.unit + 1))
+item_sources : (item : Item) (place n : ℕ) → AllByRecursion (λ p. (place ≤ p) × (p < place + taken item.unit + 1))
     (item_output place_copies item (drop place (range_with_len 0 n)))
 item_sources item place n =
     let t = taken item.unit in
     let P : ℕ → Type 0 = λ p. (place ≤ p) × (p < place + t + 1) in
-    let rest = drop-range 0 n place
-    ∙ ap (λ a. range_with_len a (n - place)) (omega arith) in
+    let rest = drop-range 0 n place ∙ ap (λ a. range_with_len a (n - place)) (omega arith) in
     subst (λ (xs : List ℕ). AllByRecursion P (item_output place_copies item xs)) (sym rest)
     (all-with_tone P item.tone (take 1 (drop t (range_with_len place (n - place))))
     (unit_output place_copies item.unit (range_with_len place (n - place)))
@@ -148,10 +135,8 @@ shares font circles level us cs js made m before place item after split moves =
     part_shares made m st (hangul_sources before n)
     (item_output place_copies item (drop place (range_with_len 0 n))) (hangul_sources after n)
     (λ some. Contains-flat_map (λ p. item_stretches level p.1 p.0) (items font circles us) (place, item) st
-    (search (arith, contains-at before (place, item) after))
-    (search (arith, tone_stands)))
-    (search (arith, flat_map-append))
-    (search (arith, All-from_recursion, item_sources))
+    (search (arith, contains-at before (place, item) after)) (search tone_stands))
+    (search (arith, flat_map-append)) (search (All-from_recursion, item_sources))
     (length (hangul_sources before n)) (length (hangul_sources before n) + output_len item.unit) refl
     (omega (
       arith,
@@ -161,41 +146,38 @@ shares font circles level us cs js made m before place item after split moves =
     ))
 
 -- the rule on made glyphs: a copy comes of the place of what it copies
-abbrev made_copies : (gs : List hb_glyph_info_t) → Copying (Made unnamed gs)
+abbrev made_copies : (gs : Glyphs) → Copying (Made unnamed gs)
 made_copies gs = record {
   as_character = λ u m. record m { glyph = glyph_copies.as_character u m.glyph; same = m.same };
   as_jamo = λ feature m. record m { glyph = glyph_copies.as_jamo feature m.glyph; same = m.same };
 }
 
 -- no cluster rises, where others of the same clusters fell
-none_rises : (gs ps rs : List hb_glyph_info_t) → AllZip FlagsFall gs ps → clusters ps ≡ clusters rs
+none_rises : (gs ps rs : Glyphs) → AllZip FlagsFall gs ps → clusters ps ≡ clusters rs
     → AllZip (λ old new. new.cluster ≤ old.cluster) gs rs
 none_rises [] [] [] falls same = tt
 none_rises [] [] (r ∷ rs) falls same = cc
-none_rises [] (p ∷ ps) rs falls same = absurd falls
-none_rises (g ∷ gs) [] rs falls same = absurd falls
 none_rises (g ∷ gs) (p ∷ ps) [] falls same = cc
-none_rises (g ∷ gs) (p ∷ ps) (r ∷ rs) falls same =
-    search (arith, none_rises gs ps rs falls.1 (ap (drop 1) same))
+none_rises (g ∷ gs) (p ∷ ps) (r ∷ rs) falls same = search (arith, none_rises gs ps rs falls.1 (ap (drop 1) same))
+none_rises _ _ rs falls same = absurd falls
 
 -- glyphs that are written from these, which stand in their places, have their clusters
-clusters-outputs : (cut : List (ℕ × Item)) (gs : List hb_glyph_info_t) → clusters (outputs glyph_copies cut gs)
+clusters-outputs : (cut : List (ℕ × Item)) (gs : Glyphs) → clusters (outputs glyph_copies cut gs)
     ≡ outputs place_copies cut (clusters gs)
-clusters-outputs cut gs = search (arith, outputs-map)
+clusters-outputs = search outputs-map
 
 -- what is written from these glyphs, with the places that it comes of
-record Written (cut : List (ℕ × Item)) (ms : List hb_glyph_info_t) : Type 0 where
+record Written (cut : List (ℕ × Item)) (ms : Glyphs) : Type 0 where
   pub made : List (Made unnamed ms)
   pub from : map (λ m. m.place) made ≡ hangul_sources cut (length ms)
   pub glyphs : map (λ m. m.glyph) made ≡ outputs glyph_copies cut ms
 
-written_from : (cut : List (ℕ × Item)) (ms : List hb_glyph_info_t) → Written cut ms
+written_from : (cut : List (ℕ × Item)) (ms : Glyphs) → Written cut ms
 written_from cut ms =
     let standing = all_standing unnamed ms in
     let places : map (λ m. m.place) standing ≡ range_with_len 0 (length ms) =
     sym (map-map (λ p. p.0) (λ m. (m.place, m.glyph.glyph_id)) standing)
-    ∙ ap (map (λ p. p.0)) (numbered-standing (λ g. g.glyph_id) unnamed ms)
-    ∙ places-enumerate_from 0 (characters ms)
+    ∙ ap (map (λ p. p.0)) (numbered-standing (λ g. g.glyph_id) unnamed ms) ∙ places-enumerate_from 0 (characters ms)
     ∙ ap (range_with_len 0) (length-characters ms) in
     record {
       made = outputs (made_copies ms) cut standing;
@@ -224,8 +206,7 @@ rewritten_holds font circles level gs =
     let joined = written_from cut ns in
     let a = subst (λ ps. AreMade unnamed ns ps rs) (joined.from
     ∙ ap (hangul_sources cut) (length-all_joined level cut gs))
-    (subst (AreMade unnamed ns (map (λ m. m.place) joined.made)) joined.glyphs
-    (are_made unnamed ns joined.made)) in
+    (subst (AreMade unnamed ns (map (λ m. m.place) joined.made)) joined.glyphs (are_made unnamed ns joined.made)) in
     let as_merged =
     clusters-outputs cut ms ∙ ap (outputs place_copies cut) (sym (clusters-all_joined level cut gs))
     ∙ sym (clusters-outputs cut ns) in
@@ -239,15 +220,14 @@ rewritten_holds font circles level gs =
       in_clusters =
           record {
             made = by_characters;
-            cluster_law = shares font circles level us (clusters gs) (clusters rs)
-                by_characters;
+            cluster_law = shares font circles level us (clusters gs) (clusters rs) by_characters;
           };
       none_rises = none_rises (pick (hangul_sources cut (length gs)) gs) (outputs glyph_copies cut ms) rs h.falls
           as_merged;
     }
 
 -- glyphs written from any that stand in their places, each but for its name its source
-pub unnamed_written : (cut : List (ℕ × Item)) (ms : List hb_glyph_info_t) → map unnamed (outputs glyph_copies cut ms)
+pub unnamed_written : (cut : List (ℕ × Item)) (ms : Glyphs) → map unnamed (outputs glyph_copies cut ms)
     ≡ map unnamed (pick (hangul_sources cut (length ms)) ms)
 unnamed_written cut ms =
     let joined = written_from cut ms in
@@ -257,10 +237,9 @@ unnamed_written cut ms =
 
 -- the whole hook: the choice leaves the clusters
 pub clusters-rewritten : (breaks : BreakFlags) (font : Font) (circles : Bool) (level : BufferClusterLevel)
-    (gs : List hb_glyph_info_t) → clusters (text_rewritten breaks font circles level gs)
+    (gs : Glyphs) → clusters (text_rewritten breaks font circles level gs)
     ≡ clusters (preprocessed font circles level gs)
-clusters-rewritten breaks font circles level gs =
-    search (arith, clusters-outputs, clusters-items_flagged)
+clusters-rewritten = search (clusters-outputs, clusters-items_flagged)
 
 pub on_rewritten : {T : Type 0} (r : Result T ShaperError) (breaks : BreakFlags) (font : Font) (old new : Buffer)
     → OnOk r (new ≡ rewritten_by breaks font old) → OnOk r (KeepsClusters font old new)

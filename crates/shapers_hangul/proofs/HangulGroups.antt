@@ -1,7 +1,7 @@
 -- Items joined behind groups that aren't written: the same as behind these in their clusters.
 use Rattle.std.proofs.Common.{◌≡◌, ℕ, ◌+◌, ◌-◌, ◌<◌, ◌≤◌, Bool, true, false, cond, not, ◌||◌, nat_lt, List, [], ◌∷◌, length, refl, sym, subst, ◌∙◌, arith}
-use Rattle.std.proofs.lemmas.List.{length-map, map-append}
-use Rattle.shapers_buffer.specs.declared.buffer.glyph.hb_glyph_info_t.{hb_glyph_info_t}
+use Rattle.std.proofs.lemmas.List.{length-map}
+use Rattle.shapers_buffer.specs.Glyphs.{Glyphs}
 use Rattle.shapers_buffer.specs.declared.buffer.level.BufferClusterLevel.{BufferClusterLevel}
 use Rattle.shapers_buffer.specs.Clusters.{least, merge_all}
 use Rattle.shapers_buffer.specs.Glyph.{clusters}
@@ -15,7 +15,7 @@ use Rattle.shapers_clusters.proofs.GuardedGroups.{ChangesBehind}
 use Rattle.shapers_clusters.proofs.SettledGroups.{GuardedChange, guarded_change}
 use Rattle.shapers_hangul.specs.declared.ot_shaper_hangul.item.Item.{Item}
 use Rattle.shapers_hangul.specs.declared.ot_shaper_hangul.item.JoinedTone.{JoinedTone}
-use Rattle.shapers_hangul.specs.declared.ot_shaper_hangul.item.JoinedTone.TheVariants.{Absent, Before, Behind}
+use Rattle.shapers_hangul.specs.declared.ot_shaper_hangul.item.JoinedTone.TheVariants.{Before}
 use Rattle.shapers_hangul.specs.Hangul.{is_merged, item_joined, item_len, item_stretches, taken, tone_stretch, unsafe_stretches}
 use Rattle.shapers_hangul.proofs.HangulClusters.{item_ends}
 use Rattle.shapers_hangul.proofs.Walks.{length-item_joined, map-unsafe}
@@ -35,21 +35,17 @@ flags_spread false k j len n some within = spreads_nothing k j n
 
 -- STRETCHES of an item, further behind
 unit_further : (b : Bool) (k len : ℕ) → shifted k (cond b ((0, 0 + len) ∷ []) []) ≡ cond b ((k, k + len) ∷ []) []
-unit_further true k len =
-    search arith
+unit_further true k len = search arith
 unit_further false k len = refl
 
 tone_further : (tone : JoinedTone) (k len : ℕ) →
     shifted k (tone_stretch tone 0 (0 + len)) ≡ tone_stretch tone k (k + len)
-tone_further Absent k len = refl
-tone_further Before k len =
-    search arith
-tone_further Behind k len = refl
+tone_further Before k len = search arith
+tone_further _ k len = refl
 
 item_further : (level : BufferClusterLevel) (item : Item) (k : ℕ) →
     shifted k (item_stretches level item 0) ≡ item_stretches level item k
-item_further level item k =
-    search (arith, map-append, unit_further, tone_further)
+item_further = search arith
 
 -- AN ITEM changes what stands before it only by merges
 pub item_changes : (level : BufferClusterLevel) (item : Item) (first n count : ℕ) → first + item_len item ≤ n →
@@ -83,14 +79,13 @@ item_changes level item first n count within torn some =
     }
 
 pub item_behind : (level : BufferClusterLevel) (item : Item) (place end count : ℕ) (it after : CarriedGroups)
-    (gs hs new : List hb_glyph_info_t) → end ≡ place + item_len item → place + item_len item ≤ length gs →
+    (gs hs new : Glyphs) → end ≡ place + item_len item → place + item_len item ≤ length gs →
     place + item.unsafe_len ≤ length gs → AreCarried it gs → GroupsGuarded place end it gs after count hs →
     new ≡ item_joined level place item hs →
     GuardedChange after count (item_joined level place item (with_groups it gs)) new
-item_behind level item place end count it after gs hs new end_is within torn fits guarded new_is =
-    search (
-      arith,
-      guarded_change place (place + item_len item) count (item_joined level place item) it after gs hs (omega arith)
-          within fits (subst (λ e. GroupsGuarded place e it gs after count hs) end_is guarded)
-          (length-item_joined level place item) (item_changes level item place (length gs) count within torn),
-    )
+item_behind level item place end count it after gs hs new end_is within torn fits guarded new_is = search (
+  arith,
+  guarded_change place (place + item_len item) count (item_joined level place item) it after gs hs (omega arith)
+      within fits (subst (λ e. GroupsGuarded place e it gs after count hs) end_is guarded)
+      (length-item_joined level place item) (item_changes level item place (length gs) count within torn),
+)

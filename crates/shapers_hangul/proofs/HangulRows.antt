@@ -1,7 +1,7 @@
 -- Worked rows of Hangul, computed: ranges, syllable characters, units with their tones, masks.
 use Rattle.std.specs.Prelude.{codes, ◌≡◌, ℕ, ℤ, ◌==◌, true, false, pos, negsuc, Some, None, List, [], ◌∷◌, map, refl, if◌then◌else◌}
 use Rattle.std.specs.List.{list_any, enumerate_from}
-use Rattle.shapers_buffer.specs.declared.buffer.glyph.hb_glyph_info_t.{hb_glyph_info_t}
+use Rattle.shapers_buffer.specs.Glyphs.{Glyph, Glyphs}
 use Rattle.shapers_buffer.specs.declared.buffer.level.BufferClusterLevel.{BufferClusterLevel}
 use Rattle.shapers_buffer.specs.declared.buffer.level.BufferClusterLevel.TheVariants.{MonotoneGraphemes, MonotoneCharacters, Characters}
 use Rattle.shapers_base.specs.Font.{Font}
@@ -88,9 +88,8 @@ abbrev narrow : List ℕ → Font
 narrow us = of_characters (λ g. pos 0) us
 
 -- the characters in clusters 0, 1, ..; of the result each character, its feature and its cluster
-abbrev text : List ℕ → List hb_glyph_info_t
-text us = map (λ p. let g : hb_glyph_info_t = record default_glyph { glyph_id = p.1; cluster = p.0 } in g)
-    (enumerate_from 0 us)
+abbrev text : List ℕ → Glyphs
+text us = map (λ p. let g : Glyph = record default_glyph { glyph_id = p.1; cluster = p.0 } in g) (enumerate_from 0 us)
 
 abbrev shown : Font → BufferClusterLevel → List ℕ → List (ℕ × ℕ × ℕ)
 shown font level us = map (λ g. (g.glyph_id, g.auxiliary, g.cluster)) (preprocessed font true level (text us))
@@ -236,27 +235,26 @@ tone_then_jamo : shown (wide (0xAC00 ∷ 0x25CC ∷ 0x302E ∷ [])) MonotoneGrap
 tone_then_jamo = refl
 
 -- the whole glyph: a new one copies the first replaced one; what is merged into another cluster loses its glyph flags
-abbrev full_glyph : ℕ → ℕ → hb_glyph_info_t
-full_glyph u cluster =
-    record {
-      glyph_id = u;
-      cluster = cluster;
-      mask = 0x1F;
-      syllable = 7;
-      category = 8;
-      auxiliary = 9;
-      glyph_props = record { 0 = 0x70 };
-      lig_props = record { 0 = 11 };
-      unicode_props = record { 0 = 0x0AAC };
-    }
+abbrev full_glyph : ℕ → ℕ → Glyph
+full_glyph u cluster = record {
+  glyph_id = u;
+  cluster = cluster;
+  mask = 0x1F;
+  syllable = 7;
+  category = 8;
+  auxiliary = 9;
+  glyph_props = record { 0 = 0x70 };
+  lig_props = record { 0 = 11 };
+  unicode_props = record { 0 = 0x0AAC };
+}
 
 copied_whole : preprocessed (wide (0xAC00 ∷ [])) true MonotoneGraphemes (full_glyph 0x1100 4 ∷ full_glyph 0x1161 3 ∷ [])
-    ≡ (let g : hb_glyph_info_t = record (full_glyph 0xAC00 3) { mask = 0x18 } in g) ∷ []
+    ≡ (let g : Glyph = record (full_glyph 0xAC00 3) { mask = 0x18 } in g) ∷ []
 copied_whole = refl
 
 marked_whole : preprocessed (wide []) true Characters (full_glyph 0x1100 4 ∷ full_glyph 0x1161 3 ∷ [])
-    ≡ (let g : hb_glyph_info_t = record (full_glyph 0x1100 4) { auxiliary = 1 } in g)
-    ∷ (let g : hb_glyph_info_t = record (full_glyph 0x1161 3) { auxiliary = 2 } in g) ∷ []
+    ≡ (let g : Glyph = record (full_glyph 0x1100 4) { auxiliary = 1 } in g)
+    ∷ (let g : Glyph = record (full_glyph 0x1161 3) { auxiliary = 2 } in g) ∷ []
 marked_whole = refl
 
 -- FLAGS. The glyph flags of each glyph of the result, at the three levels; none is left inside what merges
@@ -276,14 +274,12 @@ flags_of_two_syllables : flags (wide []) (0x115F ∷ 0x1160 ∷ 0x1100 ∷ 0x116
 flags_of_two_syllables = refl
 
 -- in one: the syllable character copies the first jamo, which is flagged where its cluster isn't the least
-flags_of_composed : map
-    (λ level. map (λ g. g.mask)
+flags_of_composed : map (λ level. map (λ g. g.mask)
     (preprocessed (wide (0xAC00 ∷ [])) true level (full_glyph 0x1100 4 ∷ full_glyph 0x1161 3 ∷ [])))
     (MonotoneGraphemes ∷ MonotoneCharacters ∷ Characters ∷ []) ≡ (0x18 ∷ []) ∷ (0x18 ∷ []) ∷ (0x1F ∷ []) ∷ []
 flags_of_composed = refl
 
-flags_of_composed_falling : map
-    (λ level. map (λ g. g.mask)
+flags_of_composed_falling : map (λ level. map (λ g. g.mask)
     (preprocessed (wide (0xAC00 ∷ [])) true level (record default_glyph { glyph_id = 0x1100; cluster = 1 }
     ∷ record default_glyph { glyph_id = 0x1161 } ∷ []))) (MonotoneGraphemes ∷ MonotoneCharacters ∷ Characters ∷ [])
     ≡ (0 ∷ []) ∷ (0 ∷ []) ∷ (3 ∷ []) ∷ []
@@ -329,8 +325,7 @@ flags_of_others = refl
 
 -- with Sound each item is flagged, its tone with it: from its first character on
 whole : whole_items (items (narrow (0x1100 ∷ 0x1161 ∷ 0xAC00 ∷ 0x302E ∷ [])) true (0x41 ∷ 0xAC00 ∷ 0x302E ∷ 0xAC00
-    ∷ 0x11C3 ∷ []))
-    ≡ (0, 1) ∷ (1, 3) ∷ (3, 5) ∷ []
+    ∷ 0x11C3 ∷ [])) ≡ (0, 1) ∷ (1, 3) ∷ (3, 5) ∷ []
 whole = refl
 
 abbrev sound_flags_at : Font → List ℕ → BufferClusterLevel → List ℕ
@@ -362,10 +357,9 @@ sound_moved_tone : sound_flags (wide (0xAC00 ∷ [])) (0xAC00 ∷ 0x302E ∷ [])
 sound_moved_tone = refl
 
 -- where clusters fall, the syllable in one keeps its flag: its merge comes first
-abbrev falling : List hb_glyph_info_t
+abbrev falling : Glyphs
 falling = record default_glyph { glyph_id = 0x1100; cluster = 2 }
-    ∷ record default_glyph { glyph_id = 0x1161; cluster = 1 }
-    ∷ record default_glyph { glyph_id = 0x302E } ∷ []
+    ∷ record default_glyph { glyph_id = 0x1161; cluster = 1 } ∷ record default_glyph { glyph_id = 0x302E } ∷ []
 
 sound_falling : text_rewritten Sound (narrow (0xAC00 ∷ 0x302E ∷ [])) true MonotoneCharacters falling
     ≡ record default_glyph { glyph_id = 0xAC00; cluster = 1; mask = 3 }
@@ -379,12 +373,11 @@ sound_apart = refl
 
 -- the code's choice flags nothing before
 as_code : items_flagged AsCode (items (narrow (0xAC00 ∷ 0x302E ∷ [])) true (0xAC00 ∷ 0x302E ∷ [])) (text (0xAC00
-    ∷ 0x302E ∷ []))
-    ≡ text (0xAC00 ∷ 0x302E ∷ [])
+    ∷ 0x302E ∷ [])) ≡ text (0xAC00 ∷ 0x302E ∷ [])
 as_code = refl
 
 -- MASKS, by the auxiliary byte, which stays with all else
-abbrev masked : (n : ℕ) → hb_glyph_info_t
+abbrev masked : (n : ℕ) → Glyph
 masked n = record default_glyph { mask = 3; auxiliary = n }
 
 masks : map (λ g. g.mask)
@@ -407,8 +400,7 @@ jamo_tags : jamo_masks
           0;
       chosen = None;
       found = true;
-    })
-    ≡ 0 ∷ 0x10 ∷ 0x20 ∷ 0x40 ∷ []
+    }) ≡ 0 ∷ 0x10 ∷ 0x20 ∷ 0x40 ∷ []
 jamo_tags = refl
 
 -- SOURCES, MERGES and SPELLING of a text with two syllables and a tone
@@ -437,12 +429,11 @@ spelled_apart : spelled (0x25CC ∷ 0x302E ∷ 0xD7A3 ∷ 0x302F ∷ 0x41 ∷ []
 spelled_apart = refl
 
 -- FLOODS: three syllables, of which the second floods the first one, or none floods
-abbrev numbered : List ℕ → List hb_glyph_info_t
+abbrev numbered : List ℕ → Glyphs
 numbered cs = map (λ c. record default_glyph { cluster = c }) cs
 
 abbrev three : List (ℕ × Item)
-three = items (wide []) true
-    (0x1100 ∷ 0x1161 ∷ 0x11A8 ∷ 0x1100 ∷ 0x1161 ∷ 0x11A8 ∷ 0x1100 ∷ 0x1161 ∷ 0x11A8 ∷ [])
+three = items (wide []) true (0x1100 ∷ 0x1161 ∷ 0x11A8 ∷ 0x1100 ∷ 0x1161 ∷ 0x11A8 ∷ 0x1100 ∷ 0x1161 ∷ 0x11A8 ∷ [])
 
 floods : map (λ cs. flooding_len MonotoneGraphemes three (numbered cs))
     ((5 ∷ 5 ∷ 5 ∷ 5 ∷ 4 ∷ 4 ∷ 4 ∷ 4 ∷ 4 ∷ []) ∷ (5 ∷ 5 ∷ 5 ∷ 4 ∷ 4 ∷ 4 ∷ 4 ∷ 4 ∷ 3 ∷ [])

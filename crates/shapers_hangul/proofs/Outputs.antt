@@ -6,7 +6,7 @@ use Rattle.shapers_buffer.specs.Glyph.{characters}
 use Rattle.shapers_buffer.specs.Refusals.{RefusesLength}
 use Rattle.shapers_buffer.specs.declared.buffer.refusal.ShaperError.{ShaperError}
 use Rattle.std.proofs.lemmas.List.{map-append, drop-map}
-use Rattle.shapers_buffer.specs.declared.buffer.glyph.hb_glyph_info_t.{hb_glyph_info_t}
+use Rattle.shapers_buffer.specs.Glyphs.{Glyphs}
 use Rattle.shapers_buffer.specs.declared.buffer.level.BufferClusterLevel.{BufferClusterLevel}
 use Rattle.shapers_base.specs.Font.{Font}
 use Rattle.shapers_hangul.specs.declared.ot_shaper_hangul.item.Item.{Item}
@@ -30,35 +30,24 @@ marked-map f c d leads n (x ∷ xs) = cc (leads.jamo n x, marked-map f c d leads
 
 two-map : {X Y : Type 0} (f : X → Y) (c : Copying X) (d : Copying Y) → Leads f c d → (l v : ℕ) (x : X) (ys : List Y)
     → f (c.as_character l x) ∷ f (c.as_character v x) ∷ ys ≡ d.as_character l (f x) ∷ d.as_character v (f x) ∷ ys
-two-map f c d leads l v x ys = search (arith, leads.character)
+two-map f c d leads = search arith
 
 unit_output-map : {X Y : Type 0} (f : X → Y) (c : Copying X) (d : Copying Y) → Leads f c d → (unit : Unit) (xs : List X)
     → map f (unit_output c unit xs) ≡ unit_output d unit (map f xs)
 unit_output-map f c d leads (ComposedTwo s) [] = refl
 unit_output-map f c d leads (ComposedTwo s) (x ∷ xs) = cc (leads.character s x)
-unit_output-map f c d leads (ComposedThree s) [] = refl
 unit_output-map f c d leads (ComposedThree s) (x ∷ xs) = cc (leads.character s x)
-unit_output-map f c d leads JamoTwo xs = search (arith, marked-map)
-unit_output-map f c d leads JamoThree xs = search (arith, marked-map)
-unit_output-map f c d leads (PartsTwo l v) [] = refl
-unit_output-map f c d leads (PartsTwo l v) (x ∷ xs) =
-    search (arith, marked-map, two-map)
-unit_output-map f c d leads (PartsThree l v t) [] = refl
-unit_output-map f c d leads (PartsThree l v t) (x ∷ xs) =
-    search (arith, marked-map, two-map, leads.character)
-unit_output-map f c d leads (PartsBeforeT l v) [] = refl
-unit_output-map f c d leads (PartsBeforeT l v) (x ∷ []) =
-    search (arith, marked-map, two-map)
-unit_output-map f c d leads (PartsBeforeT l v) (x ∷ y ∷ xs) =
-    search (arith, marked-map, two-map)
-unit_output-map f c d leads Syllable [] = refl
+unit_output-map f c d leads JamoTwo xs = search arith
+unit_output-map f c d leads JamoThree xs = search arith
+unit_output-map f c d leads (PartsTwo l v) (x ∷ xs) = search arith
+unit_output-map f c d leads (PartsThree l v t) (x ∷ xs) = search arith
+unit_output-map f c d leads (PartsBeforeT l v) (x ∷ []) = search arith
+unit_output-map f c d leads (PartsBeforeT l v) (x ∷ y ∷ xs) = search arith
 unit_output-map f c d leads Syllable (x ∷ xs) = refl
-unit_output-map f c d leads ToneCircle [] = refl
 unit_output-map f c d leads ToneCircle (x ∷ xs) = cc (leads.character 0x25CC x)
-unit_output-map f c d leads CircleTone [] = refl
 unit_output-map f c d leads CircleTone (x ∷ xs) = cc (leads.character 0x25CC x)
-unit_output-map f c d leads Other [] = refl
 unit_output-map f c d leads Other (x ∷ xs) = refl
+unit_output-map f c d leads _ [] = refl
 
 with_tone-map : {X Y : Type 0} (f : X → Y) (tone : JoinedTone) (ts output : List X) → map f (with_tone tone ts output)
     ≡ with_tone tone (map f ts) (map f output)
@@ -68,8 +57,7 @@ with_tone-map f Behind ts output = map-append f output ts
 
 item_output-map : {X Y : Type 0} (f : X → Y) (c : Copying X) (d : Copying Y) → Leads f c d → (item : Item) (xs : List X)
     → map f (item_output c item xs) ≡ item_output d item (map f xs)
-item_output-map f c d leads item xs =
-    search (arith, with_tone-map, drop-map, unit_output-map)
+item_output-map = search (arith, with_tone-map, drop-map, unit_output-map)
 
 pub outputs-map : {X Y : Type 0} (f : X → Y) (c : Copying X) (d : Copying Y) → Leads f c d
     → (cut : List (ℕ × Item)) (xs : List X) → map f (outputs c cut xs) ≡ outputs d cut (map f xs)
@@ -78,13 +66,12 @@ outputs-map f c d leads (p ∷ cut) xs =
     search (arith, map-append, item_output-map, drop-map, outputs-map f c d leads cut xs)
 
 -- the characters of what is made of glyphs are made of theirs
-pub characters-outputs : (cut : List (ℕ × Item)) (gs : List hb_glyph_info_t)
+pub characters-outputs : (cut : List (ℕ × Item)) (gs : Glyphs)
     → characters (outputs glyph_copies cut gs) ≡ outputs character_copies cut (characters gs)
-characters-outputs cut gs =
-    search (arith, outputs-map)
+characters-outputs = search outputs-map
 
 -- flags and merges change no length
-pub length-preprocessed : (font : Font) (circles : Bool) (level : BufferClusterLevel) (gs : List hb_glyph_info_t)
+pub length-preprocessed : (font : Font) (circles : Bool) (level : BufferClusterLevel) (gs : Glyphs)
     → length (preprocessed font circles level gs)
     ≡ length (outputs glyph_copies (items font circles (characters gs)) gs)
 length-preprocessed font circles level gs =
@@ -92,8 +79,7 @@ length-preprocessed font circles level gs =
     let ms = all_joined level cut gs in
     let leads : Leads (λ g. g.glyph_id) glyph_copies character_copies = record {
       character = λ u g. refl;
-      jamo = λ n
-          g. refl;
+      jamo = λ n g. refl;
     } in
     cc (
       length-characters (outputs glyph_copies cut ms),
@@ -104,15 +90,13 @@ length-preprocessed font circles level gs =
     )
 
 -- the result and its length, by what was read of the buffer
-pub length_read : (font : Font) (circles : Bool) (level : BufferClusterLevel) (gs : List hb_glyph_info_t) (asked : Bool)
-    (read : List hb_glyph_info_t) (place : ℕ) → asked ≡ circles → read ≡ gs → KeptBefore font asked read place
+pub length_read : (font : Font) (circles : Bool) (level : BufferClusterLevel) (gs : Glyphs) (asked : Bool)
+    (read : Glyphs) (place : ℕ) → asked ≡ circles → read ≡ gs → KeptBefore font asked read place
     → length (preprocessed font circles level gs)
     ≡ place + length (outputs glyph_copies (items_at font asked (characters read) place) read)
-length_read font circles level gs asked read place same_circles same_glyphs kept =
-    search (arith, length-preprocessed)
+length_read = search (arith, length-preprocessed)
 
 -- a refusal by the length of the result
 pub told_by_text : {T : Type 0} (limit most wanted len : ℕ) (r : Result T ShaperError) → most ≡ limit → wanted ≡ len
     → RefusesLength most len r → RefusesLength limit wanted r
-told_by_text limit most wanted len r same_limit same_length told =
-    search arith
+told_by_text = search arith

@@ -3,7 +3,7 @@
 use Rattle.std.specs.Prelude.{ℕ, ◌+◌, ◌-◌, ◌*◌, ◌/◌, ◌%◌, ◌==◌, ◌≤◌, nat_le, nat_lt, nat_abs, zero, suc, get_or, not, Bool, true, false, ◌||◌, ◌&&◌, List, [], ◌∷◌, ◌++◌, map, flat_map, take, drop, if◌then◌else◌}
 use Rattle.std.specs.Option.{option_map_or}
 use Rattle.std.specs.List.{AllByRecursion}
-use Rattle.shapers_buffer.specs.declared.buffer.glyph.hb_glyph_info_t.{hb_glyph_info_t}
+use Rattle.shapers_buffer.specs.Glyphs.{Glyph, Glyphs}
 use Rattle.shapers_buffer.specs.declared.buffer.level.BufferClusterLevel.{BufferClusterLevel}
 use Rattle.shapers_buffer.specs.declared.buffer.level.BufferClusterLevel.TheVariants.{MonotoneGraphemes, MonotoneCharacters, Characters}
 use Rattle.shapers_buffer.specs.Buffer.{Buffer, asks, no_dotted_circle}
@@ -310,12 +310,12 @@ unsafe_stretches level item s =
     else []
 
 -- the glyphs where they stand, joined by an item at place s: flags, then merges; so by all items
-abbrev pub item_joined : BufferClusterLevel → ℕ → Item → List hb_glyph_info_t → List hb_glyph_info_t
+abbrev pub item_joined : BufferClusterLevel → ℕ → Item → Glyphs → Glyphs
 item_joined level s item gs =
     merge_all level (item_stretches level item s) (unsafe_all (unsafe_stretches level item s) gs)
 
-abbrev pub all_joined : BufferClusterLevel → List (ℕ × Item) → List hb_glyph_info_t →
-    List hb_glyph_info_t
+abbrev pub all_joined : BufferClusterLevel → List (ℕ × Item) → Glyphs →
+    Glyphs
 all_joined level [] gs = gs
 all_joined level (p ∷ cut) gs = all_joined level cut (item_joined level p.0 p.1 gs)
 
@@ -324,13 +324,13 @@ all_joined level (p ∷ cut) gs = all_joined level cut (item_joined level p.0 p.
 abbrev pub whole_items : List (ℕ × Item) → List (ℕ × ℕ)
 whole_items cut = map (λ p. (p.0, p.0 + item_len p.1)) cut
 
-abbrev pub items_flagged : BreakFlags → List (ℕ × Item) → List hb_glyph_info_t →
-    List hb_glyph_info_t
+abbrev pub items_flagged : BreakFlags → List (ℕ × Item) → Glyphs →
+    Glyphs
 items_flagged AsCode cut gs = gs
 items_flagged Sound cut gs = unsafe_all (whole_items cut) gs
 
 -- THE RULE ON GLYPHS
-abbrev pub glyph_copies : Copying hb_glyph_info_t
+abbrev pub glyph_copies : Copying Glyph
 glyph_copies = record {
   as_character = λ u g. record g { glyph_id = u };
   as_jamo = λ feature g. record g { auxiliary = feature };
@@ -341,15 +341,15 @@ abbrev pub character_copies : Copying ℕ
 character_copies = record { as_character = λ u v. u; as_jamo = λ feature u. u }
 
 -- all items joined, on the old places, and flagged by the choice, and then their outputs
-abbrev pub text_rewritten : BreakFlags → Font → Bool → BufferClusterLevel → List hb_glyph_info_t →
-    List hb_glyph_info_t
+abbrev pub text_rewritten : BreakFlags → Font → Bool → BufferClusterLevel → Glyphs →
+    Glyphs
 text_rewritten breaks font circles level gs =
     let cut = items font circles (characters gs) in
     outputs glyph_copies cut (items_flagged breaks cut (all_joined level cut gs))
 
 -- the same with the code's flags
-abbrev pub preprocessed : Font → Bool → BufferClusterLevel → List hb_glyph_info_t →
-    List hb_glyph_info_t
+abbrev pub preprocessed : Font → Bool → BufferClusterLevel → Glyphs →
+    Glyphs
 preprocessed font circles level gs =
     let cut = items font circles (characters gs) in
     outputs glyph_copies cut (all_joined level cut gs)

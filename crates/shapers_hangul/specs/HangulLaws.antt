@@ -1,7 +1,7 @@
 -- What the rewriting makes of clusters and glyph flags, and that it spells the same text.
 use Rattle.std.specs.Prelude.{ℕ, Bool, ◌+◌, ◌==◌, ◌≤◌, ◌||◌, ◌≡◌, not, true, false, get_or, filter, List, [], ◌∷◌, ◌++◌, map, flat_map, drop, take, length, if◌then◌else◌}
 use Rattle.std.specs.List.{AllByRecursion, AllZip, range_with_len}
-use Rattle.shapers_buffer.specs.declared.buffer.glyph.hb_glyph_info_t.{hb_glyph_info_t}
+use Rattle.shapers_buffer.specs.Glyphs.{Glyph, Glyphs}
 use Rattle.shapers_buffer.specs.declared.buffer.level.BufferClusterLevel.{BufferClusterLevel}
 use Rattle.shapers_buffer.specs.Buffer.{Buffer}
 use Rattle.shapers_buffer.specs.Clusters.{merges}
@@ -49,13 +49,13 @@ KeepsGlyphFlags font old new =
     AllFlagsStay (pick (hangul_sources cut (length old.glyphs)) old.glyphs) new.glyphs
 
 -- a glyph without what the rewriting changes
-abbrev pub unnamed : hb_glyph_info_t → hb_glyph_info_t
+abbrev pub unnamed : Glyph → Glyph
 unnamed g = record g { glyph_id = 0; auxiliary = 0 }
 
 -- What it gives: rs. Each glyph is its source, after the items were joined where they stood, in all
 -- but character and feature. No cluster rises.
-pub record RewrittenHolds (font : Font) (circles : Bool) (level : BufferClusterLevel) (gs rs : List
-    hb_glyph_info_t) : Type 0 where
+pub record RewrittenHolds (font : Font) (circles : Bool) (level : BufferClusterLevel)
+    (gs rs : Glyphs) : Type 0 where
   pub made : map unnamed rs
       ≡ map unnamed (pick (hangul_sources (items font circles (characters gs)) (length gs))
       (all_joined level (items font circles (characters gs)) gs))
@@ -65,7 +65,7 @@ pub record RewrittenHolds (font : Font) (circles : Bool) (level : BufferClusterL
 
 abbrev pub RewrittenLaw : Type 0
 RewrittenLaw = (font : Font) (circles : Bool) (level : BufferClusterLevel)
-    (gs : List hb_glyph_info_t) →
+    (gs : Glyphs) →
     RewrittenHolds font circles level gs (preprocessed font circles level gs)
 
 -- SPELLING. A text with each syllable character taken apart; that without tones and circles

@@ -1,6 +1,6 @@
 -- Words of the code's walk over a Hangul text: only the items that change it are listed.
 use Rattle.std.specs.Prelude.{ℕ, ◌+◌, ◌-◌, ◌≤◌, ◌==◌, ◌≡◌, length, Bool, ◌&&◌, ◌||◌, not, List, [], ◌∷◌, ◌++◌, take, drop, get_or, if◌then◌else◌}
-use Rattle.shapers_buffer.specs.declared.buffer.glyph.hb_glyph_info_t.{hb_glyph_info_t}
+use Rattle.shapers_buffer.specs.Glyphs.{Glyphs}
 use Rattle.shapers_buffer.specs.declared.buffer.level.BufferClusterLevel.{BufferClusterLevel}
 use Rattle.shapers_buffer.specs.Glyph.{characters, default_glyph}
 use Rattle.shapers_hangul.specs.declared.ot_shaper_hangul.item.Item.{Item}
@@ -26,7 +26,7 @@ rewritten_items (p ∷ cut) = if is_kept p.1 then rewritten_items cut else p ∷
 
 -- up to this place every item is one character that stays as it is: the items from there on are all
 -- that change the text, and give all of its length but that
-pub record KeptBefore (font : Font) (circles : Bool) (gs : List hb_glyph_info_t) (place :
+pub record KeptBefore (font : Font) (circles : Bool) (gs : Glyphs) (place :
     ℕ) : Type 0 where
   pub within : place ≤ length gs
   pub listed : rewritten_items (items font circles (characters gs))
@@ -44,23 +44,23 @@ InTurn n place [] = place ≤ n
 InTurn n place (p ∷ cut) = (place ≤ p.0) × InTurn n (p.0 + item_len p.1) cut
 
 -- the text from a place on up to an item, and what the item becomes
-abbrev pub change_output : ℕ → ℕ × Item → List hb_glyph_info_t → List hb_glyph_info_t
+abbrev pub change_output : ℕ → ℕ × Item → Glyphs → Glyphs
 change_output place p gs =
     take (p.0 - place) (drop place gs) ++ item_output glyph_copies p.1 (drop p.0 gs)
 
 -- the text from a place on, in which these items become what they become, and the rest stays
-abbrev pub changed_from : ℕ → List (ℕ × Item) → List hb_glyph_info_t → List hb_glyph_info_t
+abbrev pub changed_from : ℕ → List (ℕ × Item) → Glyphs → Glyphs
 changed_from place [] gs = drop place gs
 changed_from place (p ∷ cut) gs =
     change_output place p gs ++ changed_from (p.0 + item_len p.1) cut gs
 
 -- the cluster of the glyph before a place, or 0 where there is none
-abbrev pub cluster_before : ℕ → List hb_glyph_info_t → ℕ
+abbrev pub cluster_before : ℕ → Glyphs → ℕ
 cluster_before place gs = if place == 0 then 0 else (get_or gs (place - 1) default_glyph).cluster
 
 -- how many items there are up to the first that floods what stands before it (the glyph there comes
 -- into another cluster), or all
-abbrev pub flooding_len : BufferClusterLevel → List (ℕ × Item) → List hb_glyph_info_t → ℕ
+abbrev pub flooding_len : BufferClusterLevel → List (ℕ × Item) → Glyphs → ℕ
 flooding_len level [] gs = 0
 flooding_len level (p ∷ cut) gs =
     let joined = item_joined level p.0 p.1 gs in

@@ -4,7 +4,7 @@ use Rattle.shapers_base.specs.Font.{CharacterTables}
 use Rattle.shapers_base.specs.declared.plan.joining.hb_arabic_joining_type_t.TheVariants as joining
 use Rattle.shapers_buffer.specs.declared.buffer.category.hb_unicode_general_category_t.TheVariants.{Lo, Mc}
 use Rattle.shapers_indic.specs.Characters.{composed_in_indic, decomposed_in_indic}
-use Rattle.shapers_buffer.specs.declared.buffer.glyph.hb_glyph_info_t.{hb_glyph_info_t}
+use Rattle.shapers_buffer.specs.Glyphs.{Glyph}
 use Rattle.shapers_syllabic.specs.Characters.{with_category_and_position}
 
 -- tables that compose any pair to 7 and take any character apart into itself and 1; 09C7 is a mark
@@ -53,19 +53,18 @@ by_the_table : decomposed_in_indic without_pairs 0x0930 ≡ None
 by_the_table = refl
 
 -- category and position by the table, each in its byte, and nothing else changes
-abbrev full : ℕ → ℕ → hb_glyph_info_t
-full category position =
-    record {
-      glyph_id = 40;
-      mask = 5;
-      cluster = 3;
-      glyph_props = record { 0 = 0x7E };
-      lig_props = record { 0 = 0xE3 };
-      syllable = 0x21;
-      unicode_props = record { 0 = 0x09AC };
-      category = category;
-      auxiliary = position;
-    }
+abbrev full : ℕ → ℕ → Glyph
+full category position = record {
+  glyph_id = 40;
+  mask = 5;
+  cluster = 3;
+  glyph_props = record { 0 = 0x7E };
+  lig_props = record { 0 = 0xE3 };
+  syllable = 0x21;
+  unicode_props = record { 0 = 0x09AC };
+  category = category;
+  auxiliary = position;
+}
 
 set_by_the_table : with_category_and_position tables (full 9 9) ≡ full 41 42
 set_by_the_table = refl

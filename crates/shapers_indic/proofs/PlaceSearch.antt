@@ -6,7 +6,7 @@ use Rattle.std.proofs.lemmas.List.{reverse-append}
 use Rattle.std.proofs.lemmas.List.Elements.{All-from_recursion, recursion_from_All}
 use Rattle.std.proofs.lemmas.List.Sorted.{All-permutation, IsPermutation-reverse}
 use Rattle.std.proofs.lemmas.Option.{slice_get-get_or}
-use Rattle.shapers_buffer.specs.declared.buffer.glyph.hb_glyph_info_t.{hb_glyph_info_t}
+use Rattle.shapers_buffer.specs.Glyphs.{Glyph, Glyphs}
 use Rattle.shapers_buffer.proofs.MappedLists.{all-range}
 use Rattle.shapers_buffer.proofs.Ranges.{range-append}
 use Rattle.shapers_indic.specs.Glyphs.{greatest_place, least_place, passes, places}
@@ -38,7 +38,7 @@ pub least_first : (P : ℕ → Bool) (i n : ℕ) → i < n → least_place P i n
 least_first P i n l = ap (find P) (places_first i n l)
 
 -- what is said of a place by the glyph there
-pub passes_there : (test : hb_glyph_info_t → Bool) (gs : List hb_glyph_info_t) (i : ℕ) (d : hb_glyph_info_t)
+pub passes_there : (test : Glyph → Bool) (gs : Glyphs) (i : ℕ) (d : Glyph)
     → i < length gs → passes test gs i ≡ test (get_or gs i d)
 passes_there test gs i d l = ap (λ o. option_map_or test o false) (slice_get-get_or gs i d l)
 

@@ -43,9 +43,8 @@ blwf_modes : map (λ t. (row_of t).blwf_mode) tags ≡ PreAndPost ∷ PreAndPost
     ∷ PreAndPost ∷ PostOnly ∷ PostOnly ∷ PreAndPost ∷ PreAndPost ∷ PreAndPost ∷ []
 blwf_modes = refl
 
-each_its_own : map (λ t. (row_of t).script) tags
-    ≡ script "Deva" ∷ script "Beng" ∷ script "Guru" ∷ script "Gujr" ∷ script "Orya" ∷ script "Taml" ∷ script "Telu"
-    ∷ script "Knda" ∷ script "Mlym" ∷ script "Sinh" ∷ None ∷ []
+each_its_own : map (λ t. (row_of t).script) tags ≡ script "Deva" ∷ script "Beng" ∷ script "Guru" ∷ script "Gujr"
+    ∷ script "Orya" ∷ script "Taml" ∷ script "Telu" ∷ script "Knda" ∷ script "Mlym" ∷ script "Sinh" ∷ None ∷ []
 each_its_own = refl
 
 no_more_rows : length scripts ≡ 10
@@ -58,24 +57,21 @@ abbrev feature : String → ℕ → ℕ → feature_map_t
 feature tag mask stage = record { tag = record { 0 = codes tag }; mask = mask; stage = stage }
 
 abbrev map_with : List feature_map_t → Option hb_tag_t → Map
-map_with features chosen =
-    record {
-      features = features;
-      stages = record { start = 0; end = 2 } ∷ record { start = 2; end = 3 }
-          ∷ [];
-      lookups = 7 ∷ 8 ∷ 9 ∷ [];
-      global = 0;
-      chosen = chosen;
-      found = true;
-    }
+map_with features chosen = record {
+  features = features;
+  stages = record { start = 0; end = 2 } ∷ record { start = 2; end = 3 } ∷ [];
+  lookups = 7 ∷ 8 ∷ 9 ∷ [];
+  global = 0;
+  chosen = chosen;
+  found = true;
+}
 
 abbrev chosen : String → Map
 chosen tag = map_with [] (Some (record { 0 = codes tag }))
 
 -- the older specification: no script chosen, or one whose tag doesn't end in 2, and a script that has one
 old_ones : map (has_old_spec (script "Deva")) (map_with [] None ∷ chosen "deva" ∷ chosen "dev2" ∷ chosen "dev3"
-    ∷ chosen "DFLT" ∷ chosen "2222" ∷ chosen "222x" ∷ [])
-    ≡ true ∷ true ∷ false ∷ true ∷ true ∷ false ∷ true ∷ []
+    ∷ chosen "DFLT" ∷ chosen "2222" ∷ chosen "222x" ∷ []) ≡ true ∷ true ∷ false ∷ true ∷ true ∷ false ∷ true ∷ []
 old_ones = refl
 
 only_one_specification : map (λ t. has_old_spec (script t) (chosen "sinh")) ("Sinh" ∷ "Thai" ∷ "Knda" ∷ [])

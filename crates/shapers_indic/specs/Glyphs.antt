@@ -3,6 +3,7 @@ use Rattle.std.specs.Prelude.{ℕ, ◌-◌, ◌==◌, Bool, ◌&&◌, false, not
 use Rattle.std.specs.List.{list_any, range_with_len, slice_get}
 use Rattle.std.specs.Option.{option_map_or}
 use Rattle.shapers_buffer.specs.declared.buffer.glyph.hb_glyph_info_t.{hb_glyph_info_t}
+use Rattle.shapers_buffer.specs.Glyphs.{Glyphs}
 use Rattle.shapers_buffer.specs.Properties.{is_ligated}
 use Rattle.shapers_base.specs.declared.font.GlyphId.{GlyphId}
 use Rattle.shapers_base.specs.declared.plan.ot_category_t.TheConstants.{OT_C, OT_M, OT_MPst, OT_ZWJ, OT_ZWNJ}
@@ -12,7 +13,7 @@ use Rattle.shapers_base.specs.declared.plan.ot_position_t.TheConstants.{POS_BASE
 abbrev pub number : hb_glyph_info_t → GlyphId
 number g = record { 0 = min g.glyph_id 65535 }
 
-abbrev pub numbers : List hb_glyph_info_t → List GlyphId
+abbrev pub numbers : Glyphs → List GlyphId
 numbers gs = map number gs
 
 -- whether a glyph is of a category; whether it is of one of these, and not put in for several
@@ -33,7 +34,7 @@ abbrev pub has_position : ℕ → hb_glyph_info_t → Bool
 has_position p g = g.auxiliary == p
 
 -- whether the glyph at place i passes a test
-abbrev pub passes : (hb_glyph_info_t → Bool) → List hb_glyph_info_t → ℕ → Bool
+abbrev pub passes : (hb_glyph_info_t → Bool) → Glyphs → ℕ → Bool
 passes test gs i = option_map_or test (slice_get gs i) false
 
 -- the places from s on and before e; whether one has a property; the least that has, the greatest
@@ -50,7 +51,7 @@ abbrev pub greatest_place : (ℕ → Bool) → ℕ → ℕ → Option ℕ
 greatest_place property s e = find property (reverse (places s e))
 
 -- whether a syllable is one consonant at the base, which no lookup put in for several
-abbrev pub is_plain_consonant : List hb_glyph_info_t → Bool
+abbrev pub is_plain_consonant : Glyphs → Bool
 is_plain_consonant [] = false
 is_plain_consonant (g ∷ []) =
     has_category OT_C g && has_position POS_BASE_C g && not (is_ligated g.glyph_props)

@@ -2,7 +2,7 @@
 use Prim.Native.String.{String}
 use Rattle.std.specs.Prelude.{◌≡◌, ℕ, true, false, Bool, List, [], ◌∷◌, filter, map, None, Some, refl}
 use Rattle.std.specs.List.{range_with_len}
-use Rattle.shapers_buffer.specs.declared.buffer.glyph.hb_glyph_info_t.{hb_glyph_info_t}
+use Rattle.shapers_buffer.specs.Glyphs.{Glyph, Glyphs}
 use Rattle.shapers_buffer.specs.Glyph.{default_glyph}
 use Rattle.shapers_indic.proofs.RowWords.{C, H, N, ZWNJ, ZWJ, M, Ra, CM, of, plainly, row_positions, script}
 use Rattle.shapers_indic_final.proofs.FinalWords.{formed_at, marks_at, mask_given, rules, unformed_at}
@@ -12,19 +12,18 @@ use Rattle.shapers_indic_final.specs.FinalWalk.{changes_syllable}
 use Rattle.shapers_indic_final.specs.declared.ot_shaper_indic_final.rules.Rules.{Rules}
 
 -- a virama: by number, ligated and multiplied; by its marks it keeps the others
-abbrev of_marks : ℕ → ℕ → hb_glyph_info_t
-of_marks n bits =
-    record {
-      glyph_id = n;
-      mask = 9;
-      cluster = 5;
-      glyph_props = record { 0 = bits };
-      lig_props = record { 0 = 0xE3 };
-      syllable = 17;
-      unicode_props = record { 0 = 0x09AC };
-      category = C;
-      auxiliary = 4;
-    }
+abbrev of_marks : ℕ → ℕ → Glyph
+of_marks n bits = record {
+  glyph_id = n;
+  mask = 9;
+  cluster = 5;
+  glyph_props = record { 0 = bits };
+  lig_props = record { 0 = 0xE3 };
+  syllable = 17;
+  unicode_props = record { 0 = 0x09AC };
+  category = C;
+  auxiliary = 4;
+}
 
 viramas : map (recovered (Some (record { 0 = 90 }))) (of_marks 90 0x60 ∷ of_marks 90 0xFFFF ∷ of_marks 90 0x20
     ∷ of_marks 90 0x40 ∷ of_marks 90 0 ∷ of_marks 91 0x60 ∷ of_marks 65626 0x60 ∷ [])
@@ -45,14 +44,14 @@ first_bases : map (λ ps. first_base (of (map (λ p. (C, p)) ps))) ((3 ∷ 4 ∷
 first_bases = refl
 
 -- what is found of a syllable of a script: the base, positions, and whether pref is tried on
-abbrev found : Rules → List hb_glyph_info_t → ℕ × List ℕ × Bool
+abbrev found : Rules → Glyphs → ℕ × List ℕ × Bool
 found r gs = let b = with_final_base r (script "Deva") gs in (b.base, row_positions b.glyphs, b.tries_pref)
 
-abbrev deva : List hb_glyph_info_t → ℕ × List ℕ × Bool
+abbrev deva : Glyphs → ℕ × List ℕ × Bool
 deva = found (rules "Deva")
 
 -- pref: unformed the glyph is base, formed it is not; the first later one counts, by any of the mask's bits
-abbrev b_and_p : List hb_glyph_info_t
+abbrev b_and_p : Glyphs
 b_and_p = of ((C, 4) ∷ (C, 9) ∷ (Ra, 11) ∷ (Ra, 12) ∷ [])
 
 by_pref : map deva (b_and_p ∷ unformed_at 2 b_and_p ∷ formed_at 2 b_and_p ∷ marks_at 2 0x20 (unformed_at 2 b_and_p)
@@ -73,7 +72,7 @@ no_pref_mask : found (record (rules "Deva") { pref = 0 }) (unformed_at 2 b_and_p
 no_pref_mask = refl
 
 -- an unformed halant: the base is what stands behind it and further ones, or the end; a ligature is no halant
-abbrev halants : List hb_glyph_info_t
+abbrev halants : Glyphs
 halants = of ((C, 4) ∷ (H, 4) ∷ (H, 4) ∷ (C, 9) ∷ [])
 
 over_halants : map deva (unformed_at 1 halants ∷ unformed_at 2 halants ∷ marks_at 2 0x20 (unformed_at 1 halants)
@@ -96,10 +95,10 @@ chains = refl
 
 -- Malayalam: the last linked consonant of position BELOW_C is base, and each gets BASE_C; others
 -- are passed. In other scripts the base stays.
-abbrev mlym : List hb_glyph_info_t → ℕ × List ℕ × Bool
+abbrev mlym : Glyphs → ℕ × List ℕ × Bool
 mlym gs = let b = with_final_base (rules "Mlym") (script "Mlym") gs in (b.base, row_positions b.glyphs, b.tries_pref)
 
-abbrev linked : List (ℕ × ℕ) → List hb_glyph_info_t
+abbrev linked : List (ℕ × ℕ) → Glyphs
 linked ts = of ((C, 4) ∷ (H, 4) ∷ ts)
 
 in_malayalam : map mlym (linked ((C, 8) ∷ []) ∷ linked ((C, 8) ∷ (H, 8) ∷ (C, 8) ∷ [])
@@ -148,7 +147,7 @@ none = refl
 
 -- what may change a syllable: by its position, in Devanagari and in Malayalam; with a bit of pref's
 -- mask; and the virama taken apart
-abbrev changing_in : String → List hb_glyph_info_t → List Bool
+abbrev changing_in : String → Glyphs → List Bool
 changing_in tag gs = map (changes_syllable (rules tag) (script tag)) gs
 
 abbrev changing_positions : String → List ℕ
@@ -162,13 +161,11 @@ changing_by_position = refl
 
 changing_by_mask : map
     (λ m. changes_syllable (rules "Deva") (script "Deva") (record default_glyph { mask = m; auxiliary = 4 }))
-    (0 ∷ 7 ∷ 8 ∷ 16 ∷ 32 ∷ 48 ∷ 0xFFFFFFEF ∷ [])
-    ≡ false ∷ false ∷ false ∷ true ∷ false ∷ true ∷ false ∷ []
+    (0 ∷ 7 ∷ 8 ∷ 16 ∷ 32 ∷ 48 ∷ 0xFFFFFFEF ∷ []) ≡ false ∷ false ∷ false ∷ true ∷ false ∷ true ∷ false ∷ []
 changing_by_mask = refl
 
 changing_viramas : changing_in "Deva" (of_marks 90 0x60 ∷ of_marks 90 0xFFFF ∷ of_marks 90 0x20 ∷ of_marks 90 0x40
-    ∷ of_marks 90 0 ∷ of_marks 91 0x60 ∷ [])
-    ≡ true ∷ true ∷ false ∷ false ∷ false ∷ false ∷ []
+    ∷ of_marks 90 0 ∷ of_marks 91 0x60 ∷ []) ≡ true ∷ true ∷ false ∷ false ∷ false ∷ false ∷ []
 changing_viramas = refl
 
 changing_without_virama : changes_syllable (record (rules "Deva") { virama = None }) (script "Deva") (of_marks 90 0x60)

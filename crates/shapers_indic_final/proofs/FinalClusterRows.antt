@@ -1,7 +1,7 @@
 -- What the final reordering makes of the clusters of a text, computed: what merges, and the least
 -- cluster of the glyphs in it.
 use Rattle.std.specs.Prelude.{◌≡◌, ℕ, List, [], ◌∷◌, ◌++◌, map, refl}
-use Rattle.shapers_buffer.specs.declared.buffer.glyph.hb_glyph_info_t.{hb_glyph_info_t}
+use Rattle.shapers_buffer.specs.Glyphs.{Glyph, Glyphs}
 use Rattle.shapers_buffer.specs.declared.buffer.level.BufferClusterLevel.TheVariants.{Characters, MonotoneCharacters, MonotoneGraphemes}
 use Rattle.shapers_buffer.specs.Glyph.{order_view}
 use Rattle.shapers_buffer.specs.Places.{pick}
@@ -13,18 +13,18 @@ use Rattle.shapers_indic_final.specs.FinalLaws.{final_clusters, final_text_steps
 use Rattle.shapers_syllabic.specs.Reordering.{glyphs_before}
 
 -- a text of syllables, with these clusters
-abbrev clustered : List ℕ → List hb_glyph_info_t → List hb_glyph_info_t
+abbrev clustered : List ℕ → Glyphs → Glyphs
 clustered [] gs = []
 clustered (c ∷ cs) [] = []
 clustered (c ∷ cs) (g ∷ gs) = record g { cluster = c } ∷ clustered cs gs
 
 -- the next syllable has another serial
-abbrev next : List hb_glyph_info_t → List hb_glyph_info_t
-next gs = map (λ (g : hb_glyph_info_t). record g { syllable = 32 }) gs
+abbrev next : Glyphs → Glyphs
+next gs = map (λ (g : Glyph). record g { syllable = 32 }) gs
 
 -- M C H B and reph C M: the left matra goes behind the halant and merges with the base, the reph
 -- merges with all that it passes
-abbrev two : List ℕ → List hb_glyph_info_t
+abbrev two : List ℕ → Glyphs
 two cs = clustered cs (of ((M, 2) ∷ (C, 3) ∷ (H, 3) ∷ (C, 4) ∷ [])
     ++ next (marks_at 0 0x20 (of ((Ra, 1) ∷ (C, 4) ∷ (M, 9) ∷ []))))
 
@@ -37,8 +37,7 @@ two_merged = refl
 
 two_moved : pick {X = ℕ}
     (old_places 7 (final_text_steps (rules "Deva") (script "Deva") (two (3 ∷ 0 ∷ 1 ∷ 2 ∷ 9 ∷ 7 ∷ 8 ∷ []))))
-    (3 ∷ 0 ∷ 1 ∷ 2 ∷ 9 ∷ 7 ∷ 8 ∷ [])
-    ≡ 0 ∷ 1 ∷ 3 ∷ 2 ∷ 7 ∷ 8 ∷ 9 ∷ []
+    (3 ∷ 0 ∷ 1 ∷ 2 ∷ 9 ∷ 7 ∷ 8 ∷ []) ≡ 0 ∷ 1 ∷ 3 ∷ 2 ∷ 7 ∷ 8 ∷ 9 ∷ []
 two_moved = refl
 
 two_clusters : map (λ level. final_clusters (rules "Deva") (script "Deva") level (two (3 ∷ 0 ∷ 1 ∷ 2 ∷ 9 ∷ 7 ∷ 8 ∷ [])))
@@ -54,8 +53,7 @@ two_falling = refl
 
 -- two left matras before C H B: each merges with all from its new place up to the base, so the run
 -- has the least of the three
-matras_least : map
-    (λ cs. final_clusters (rules "Deva") (script "Deva") MonotoneGraphemes
+matras_least : map (λ cs. final_clusters (rules "Deva") (script "Deva") MonotoneGraphemes
     (clustered cs (of ((M, 2) ∷ (M, 2) ∷ (C, 3) ∷ (H, 3) ∷ (C, 4) ∷ []))))
     ((5 ∷ 2 ∷ 1 ∷ 4 ∷ 3 ∷ []) ∷ (2 ∷ 5 ∷ 1 ∷ 4 ∷ 3 ∷ []) ∷ (5 ∷ 3 ∷ 1 ∷ 4 ∷ 2 ∷ []) ∷ [])
     ≡ (1 ∷ 4 ∷ 2 ∷ 2 ∷ 2 ∷ []) ∷ (1 ∷ 4 ∷ 2 ∷ 2 ∷ 2 ∷ []) ∷ (1 ∷ 4 ∷ 2 ∷ 2 ∷ 2 ∷ []) ∷ []
@@ -64,6 +62,5 @@ matras_least = refl
 -- a cluster that the next syllable shares goes along with it: then that one's run has a cluster
 -- that none of its glyphs had
 shared_with_next : final_clusters (rules "Deva") (script "Deva") MonotoneGraphemes
-    (two (3 ∷ 0 ∷ 1 ∷ 5 ∷ 5 ∷ 4 ∷ 8 ∷ []))
-    ≡ 0 ∷ 1 ∷ 3 ∷ 3 ∷ 3 ∷ 3 ∷ 3 ∷ []
+    (two (3 ∷ 0 ∷ 1 ∷ 5 ∷ 5 ∷ 4 ∷ 8 ∷ [])) ≡ 0 ∷ 1 ∷ 3 ∷ 3 ∷ 3 ∷ 3 ∷ 3 ∷ []
 shared_with_next = refl

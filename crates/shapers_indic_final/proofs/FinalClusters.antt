@@ -6,12 +6,11 @@ use Rattle.std.proofs.Common.{List, None, Option, Some, [], arith, drop, get_or,
 use Rattle.std.specs.List.{All, AllByRecursion, range_with_len}
 use Rattle.std.specs.List.Sorted.{IsPermutation}
 use Rattle.std.proofs.lemmas.Bool.{cases_Bool}
-use Rattle.std.proofs.lemmas.Bool.Decides.{nat_tests}
 use Rattle.std.proofs.lemmas.List.{get_or-append_right, get_or-drop, get_or-take, get_or_append_left, length-drop, length-take-le}
 use Rattle.std.proofs.lemmas.List.Elements.{All-from_get_or}
 use Rattle.std.proofs.lemmas.List.FromFn.{get_or-range_with_len, length-range_with_len}
 use Rattle.std.proofs.lemmas.List.Sorted.{All-permutation, length_permutation}
-use Rattle.shapers_buffer.specs.declared.buffer.glyph.hb_glyph_info_t.{hb_glyph_info_t}
+use Rattle.shapers_buffer.specs.Glyphs.{Glyphs}
 use Rattle.shapers_buffer.specs.declared.buffer.tag.Script.{Script}
 use Rattle.shapers_buffer.specs.Clusters.{stretch_of, with_stretch}
 use Rattle.shapers_buffer.proofs.MappedLists.{all-append}
@@ -98,12 +97,12 @@ changed_within f permutes i k n l m =
 pub change_moves : (f : List ℕ → List ℕ) → ((ps : List ℕ) → IsPermutation ps (f ps)) → (i k n : ℕ) → i ≤ k → k ≤ n
     → (step : Step) → step.merged_first ≡ (i, k) ∷ [] → step.places ≡ with_stretch i k f (places 0 n)
     → step.merged_then ≡ [] → FitsStep n step → MovesMerged n step
-change_moves f permutes i k n l m step first is none fits =
+change_moves f permutes i k n l m step first is none =
     let c = changed_within f permutes i k n l m in
     search arith
 
 -- the steps of left matras: what one merged, the next leave
-later_stay : (gs : List hb_glyph_info_t) (n e p m k : ℕ) (st : ℕ × ℕ) → m + k ≤ p → p < n → p - k < st.0 → st.1 ≤ n
+later_stay : (gs : Glyphs) (n e p m k : ℕ) (st : ℕ × ℕ) → m + k ≤ p → p < n → p - k < st.0 → st.1 ≤ n
     → m ≤ length gs → AllByRecursion (Spares n st) (steps_of n e p k (lefts m gs))
 later_stay gs n e p zero k st l h a b c = tt
 later_stay gs n e p (suc m) k st l h a b c =
@@ -115,7 +114,7 @@ later_stay gs n e p (suc m) k st l h a b c =
       | inr fails ↦ search (arith, lefts_no, later_stay gs n e p m k st (omega arith) h a b (omega arith))
     ]
 
-spare_lefts : (gs : List hb_glyph_info_t) (n e p m k : ℕ) → m + k ≤ p → p < n → e ≤ n → m ≤ length gs
+spare_lefts : (gs : Glyphs) (n e p m k : ℕ) → m + k ≤ p → p < n → e ≤ n → m ≤ length gs
     → SpareMerged n (steps_of n e p k (lefts m gs))
 spare_lefts gs n e p zero k l h b c = tt
 spare_lefts gs n e p (suc m) k l h b c =
@@ -133,18 +132,18 @@ still_moves : (n e i : ℕ) → FitsStep n (record { merged_first = (i, e) ∷ [
 still_moves n e i fits = record {
   fits = fits;
   inside = λ p l r a b.
-      (let at = get_or-range_with_len 0 (n - 0) p 0 (search (arith, length-range_with_len)) in absurd
+      (let at = get_or-range_with_len 0 (n - 0) p 0 (search arith) in absurd
       (omega arith));
   nothing_then = refl;
 }
 
-pub moves_merging : (gs : List hb_glyph_info_t) (e : ℕ) (o : Option ℕ) → e ≤ length gs
+pub moves_merging : (gs : Glyphs) (e : ℕ) (o : Option ℕ) → e ≤ length gs
     → AllByRecursion (MovesMerged (length gs)) (merging_step (length gs) e o)
 moves_merging gs e None l = tt
 moves_merging gs e (Some i) l =
-    (let at = merging_at gs e (Some i) l in search (arith, still_moves))
+    (let at = merging_at gs e (Some i) l in search still_moves)
 
-spare_matras : (script : Option Script) (base : ℕ) (gs : List hb_glyph_info_t) → base ≤ length gs
+spare_matras : (script : Option Script) (base : ℕ) (gs : Glyphs) → base ≤ length gs
     → SpareMerged (length gs) (matra_steps script base gs)
 spare_matras script base gs l =
     let p = matra_target script base gs in
@@ -155,7 +154,7 @@ spare_matras script base gs l =
       | inl room ↦ rw room (elim (cases_Bool (matras_go p gs)) [
         | inl go ↦ rw go (
             spare_lefts gs (length gs) e p p 0 (omega arith)
-            (let some_base : 0 < base = grind (arith, nat_tests) in omega arith) ends (omega arith))
+            (let some_base : 0 < base = grind arith in omega arith) ends (omega arith))
         | inr stay ↦ rw stay
             (spare_moves (length gs) (merging_step (length gs) e (least_place (passes is_left gs) 0 base))
             (moves_merging gs e (least_place (passes is_left gs) 0 base) ends))
@@ -164,7 +163,7 @@ spare_matras script base gs l =
     ]
 
 -- the reph, and the pref glyph
-moves_pref : (gs : List hb_glyph_info_t) (j s : ℕ) (o : Option ℕ) → j ≤ s
+moves_pref : (gs : Glyphs) (j s : ℕ) (o : Option ℕ) → j ≤ s
     → ((i : ℕ) → o ≡ Some i → PlaceWithin s (length gs) i)
     → AllByRecursion (MovesMerged (length gs)) (pref_step (length gs) j o)
 moves_pref gs j s None l within = tt
@@ -173,14 +172,11 @@ moves_pref gs j s (Some i) l within =
     let ends : i + 1 ≤ length gs = omega arith in
     let at = stretch_at last_goes_first last_goes_first picks_last_first permutes_last_first j (i + 1) (pref_move
     (length gs) j i) gs (omega arith) ends refl (ends, tt) tt in
-    search (
-      arith,
-      change_moves last_goes_first permutes_last_first j (i + 1) (length gs) (omega arith) ends
-          (pref_move (length gs) j i) refl refl refl at.fits.0,
-    )
+    search (change_moves last_goes_first permutes_last_first j (i + 1) (length gs) (omega arith) ends
+    (pref_move (length gs) j i) refl refl refl at.fits.0)
 
 -- all of them
-pub spare_final : (r : Rules) (script : Option Script) (gs : List hb_glyph_info_t)
+pub spare_final : (r : Rules) (script : Option Script) (gs : Glyphs)
     → SpareMerged (length gs) (final_steps r script gs)
 spare_final r script gs =
     let b = based r script gs in
@@ -231,12 +227,12 @@ final_cuts r script level gs cs m long different =
     (spare_final r script gs) different
 
 -- the whole text
-spare_pieces : (r : Rules) (script : Option Script) (syls : List (List hb_glyph_info_t))
+spare_pieces : (r : Rules) (script : Option Script) (syls : List Glyphs)
     → AllByRecursion (λ piece. SpareMerged piece.0 piece.1) (pieces_of (final_steps r script) syls)
 spare_pieces r script [] = tt
 spare_pieces r script (syl ∷ syls) = (spare_final r script syl, spare_pieces r script syls)
 
-pub text_merges : (r : Rules) (script : Option Script) (level : BufferClusterLevel) (gs : List hb_glyph_info_t)
+pub text_merges : (r : Rules) (script : Option Script) (level : BufferClusterLevel) (gs : Glyphs)
     → merges level ≡ true → MergedStay level (final_text_steps r script gs) (clusters gs)
 text_merges r script level gs m =
     let xs = order_view gs in
@@ -244,11 +240,11 @@ text_merges r script level gs m =
     let ps = pieces_of steps (syllables xs) in
     let spare = spare_along (length gs) 0 ps
     (search (arith, sum-syllables, length-map)) (each_piece FitsStep steps (final_laws r script).fits (syllables xs))
-    (search (arith, spare_pieces)) in
+    (search spare_pieces) in
     merged_stay level m (length gs) (final_text_steps r script gs) (clusters gs) (length-map gs (λ g. g.cluster))
-    (text_fits r script level gs) (search (arith, text_steps-long))
+    (text_fits r script level gs) (search text_steps-long)
 
-pub text_cuts : (r : Rules) (script : Option Script) (level : BufferClusterLevel) (gs : List hb_glyph_info_t)
+pub text_cuts : (r : Rules) (script : Option Script) (level : BufferClusterLevel) (gs : Glyphs)
     → merges level ≡ true
     → EachSyllableCuts r script (order_view gs) (clusters gs)
     (joined_steps level (final_text_steps r script gs) (clusters gs))
@@ -261,7 +257,6 @@ text_cuts r script level gs m before behind syl cut own =
     let xn = length-map gs plain in
     let cn = length-map gs (λ g. g.cluster) in
     search (
-      arith,
       syllable_alone (final_steps r script) (final_laws r script).fits level xs cs (cn ∙ sym xn) before behind syl cut
           own.others,
       final_cuts r script level syl (stretch_of s e cs) m (length-stretch s e cs (omega arith) ∙ omega arith)

@@ -5,7 +5,7 @@ use Rattle.std.specs.List.{Contains}
 use Rattle.std.proofs.lemmas.List.{drop-map, drop_at, get_or_default, length-map, map-append, take-map, take_at}
 use Rattle.std.proofs.lemmas.List.Elements.{All-get_or}
 use Rattle.std.proofs.lemmas.List.Sorted.{length_permutation}
-use Rattle.shapers_buffer.specs.declared.buffer.glyph.hb_glyph_info_t.{hb_glyph_info_t}
+use Rattle.shapers_buffer.specs.Glyphs.{Glyph, Glyphs}
 use Rattle.shapers_buffer.specs.declared.buffer.level.BufferClusterLevel.{BufferClusterLevel}
 use Rattle.shapers_buffer.specs.declared.buffer.tag.Script.{Script}
 use Rattle.shapers_buffer.specs.Buffer.{Buffer}
@@ -39,21 +39,17 @@ use Rattle.shapers_syllabic.proofs.PauseCuts.{clusters-set_up}
 use Rattle.shapers_syllabic.proofs.ReorderingCuts.{border-circled, circled-append, text_order-append, text_order-halves}
 use Rattle.shapers_syllabic.proofs.ReorderingLaws.{each_piece, nothing_lost, sum-syllables, text_steps-long}
 use Rattle.shapers_syllabic.proofs.ReorderingWalk.{pieces_of}
-use Rattle.shapers_syllabic.proofs.Serials.{joined_same, pieces_same, same-circled, same-view, same_text, unnumbered_passes}
+use Rattle.shapers_syllabic.proofs.Serials.{joined_same, pieces_same, same-circled, same-view, same_text, steps_same, unnumbered_passes}
 use Rattle.shapers_syllabic.proofs.SpanCuts.{spans_cut}
-
-abbrev Glyphs : Type 0
-Glyphs = List hb_glyph_info_t
 
 -- the ends of a text after a pause
 ends_after : (meaning : Glyphs → Glyphs) (steps : Glyphs → List Step) → ReorderLaws meaning steps → (xs : Glyphs)
     → SameEnds (text_order meaning xs) xs
-ends_after meaning steps laws xs =
-    search (
-      arith,
-      joined-syllables xs,
-      ends-kept meaning (kept_byte meaning steps laws) (syllables xs) (syllables_cut xs),
-    )
+ends_after meaning steps laws xs = search (
+  arith,
+  joined-syllables xs,
+  ends-kept meaning (kept_byte meaning steps laws) (syllables xs) (syllables_cut xs),
+)
 
 -- serials after a pause
 same_after : (circles : Option DottedCircles) (meaning : Glyphs → Glyphs) (steps : Glyphs → List Step)
@@ -70,15 +66,6 @@ same_after circles meaning steps laws reads gs hs same =
       syllables-mapped meaning keeps ys,
     )
 
-same_pieces : (steps : Glyphs → List Step)
-    → ((gs hs : Glyphs) → map unnumbered gs ≡ map unnumbered hs → steps gs ≡ steps hs) → (ps qs : List Glyphs)
-    → map (map unnumbered) ps ≡ map (map unnumbered) qs → pieces_of steps ps ≡ pieces_of steps qs
-same_pieces steps led [] [] same = refl
-same_pieces steps led [] (q ∷ qs) same = cc
-same_pieces steps led (p ∷ ps) [] same = cc
-same_pieces steps led (p ∷ ps) (q ∷ qs) same =
-    search (arith, length-map, same_pieces steps led ps qs (ap (drop 1) same))
-
 same_long : (xs ys : Glyphs) → SameButSerials xs ys → length xs ≡ length ys
 same_long xs ys same = cc (length-map xs unnumbered, same_text xs ys same, length-map ys unnumbered)
 
@@ -87,7 +74,7 @@ same_steps : (r : Rules) (script : Option Script) (xs ys : Glyphs) → SameButSe
 same_steps r script xs ys same =
     let steps = final_steps r script in
     ap (λ n. steps_along n 0 (pieces_of steps (syllables xs))) (same_long xs ys same)
-    ∙ ap (steps_along (length ys) 0) (same_pieces steps
+    ∙ ap (steps_along (length ys) 0) (steps_same steps
     (final_reads_no_serials r script).led (syllables xs) (syllables ys) same)
 
 -- lengths after a pause
@@ -100,7 +87,7 @@ pause_fits circles meaning steps laws level gs =
     let ps = pieces_of steps (syllables xs) in
     let along = along_holds level ps zs
     (omega (arith, sum-syllables steps xs, length-map zs plain)) (each_piece FitsStep steps laws.fits (syllables xs)) in
-    search (arith, text_steps-long steps zs, along.fit)
+    search (text_steps-long steps zs)
 
 record PausedClusters (circles : Option DottedCircles) (meaning : Glyphs → Glyphs) (steps : Glyphs
     → List Step) (level : BufferClusterLevel) (gs : Glyphs) : Type 0 where
@@ -114,20 +101,18 @@ paused_facts circles meaning steps laws level gs =
     let zs = circled circles gs in
     let xs = order_view zs in
     let sts = text_steps steps xs in
-    let cluster : hb_glyph_info_t → ℕ = λ g. g.cluster in
+    let cluster : Glyph → ℕ = λ g. g.cluster in
     let held = clusters_hold level sts (clusters zs) (subst (λ n. FitSteps n sts) (sym (length-map zs cluster))
     (pause_fits circles meaning steps laws level gs)) in
-    let shown : hb_glyph_info_t → hb_glyph_info_t = λ g. plain (carried g) in
+    let shown : Glyph → Glyph = λ g. plain (carried g) in
     search (
       arith,
-      held.same_length,
       length-map zs cluster,
       length-map zs plain,
       length-map (text_order meaning xs) shown,
       length_permutation (seen carried xs) (seen carried (text_order meaning xs))
           (nothing_lost meaning steps laws xs).kept,
       length-map xs shown,
-      held.old_clusters,
     )
 
 -- clusters that come of those of halves that share none
@@ -139,19 +124,18 @@ cluster_among cs xs all i h =
 
 apart_among : (gs hs xs ys : Glyphs) → All (Contains (clusters gs)) (clusters xs)
     → All (Contains (clusters hs)) (clusters ys) → ShareNone gs hs → ShareNone xs ys
-apart_among gs hs xs ys a b none i j il jl same =
+apart_among gs hs xs ys a b none i j il jl =
     let p = cluster_among (clusters gs) xs a i il in
     let q = cluster_among (clusters hs) ys b j jl in
     search (arith, length-map)
 
 -- a border that shows in the order view is one
-bytes_plain : (gs : Glyphs) → map (λ (g : hb_glyph_info_t). g.syllable) (order_view gs) ≡ map (λ g. g.syllable) gs
+bytes_plain : (gs : Glyphs) → map (λ (g : Glyph). g.syllable) (order_view gs) ≡ map (λ g. g.syllable) gs
 bytes_plain [] = refl
 bytes_plain (g ∷ gs) = cc (bytes_plain gs)
 
 met : (gs hs : Glyphs) → MeetAtBorder (order_view gs) (order_view hs) → MeetAtBorder gs hs
-met gs hs border some more same =
-    search (arith, length-map, bytes_plain)
+met = search (length-map, bytes_plain)
 
 -- the bits of init, and serials
 bits_past : (bits : ℕ) (gs : Glyphs) → map unnumbered (map (with_bits bits) gs)
@@ -161,32 +145,28 @@ bits_past bits (g ∷ gs) = cc (bits_past bits gs)
 
 shown_final : (r : Rules) (script : Option Script) (xs : Glyphs) → map (uninitiated r) (final_text r script xs)
     ≡ map (with_bits r.init) (map unnumbered (text_order (final_order r script) xs))
-shown_final r script xs =
-    cc (
-      map-twice (with_bits r.init) (final_text r script xs),
-      bits_text r script None xs,
-      bits_past r.init (text_order (final_order r script) xs),
-    )
+shown_final r script xs = cc (
+  map-twice (with_bits r.init) (final_text r script xs),
+  bits_text r script None xs,
+  bits_past r.init (text_order (final_order r script) xs),
+)
 
 same_final : (r : Rules) (script : Option Script) (xs ys : Glyphs) → SameButSerials xs ys
     → map unnumbered (text_order (final_order r script) xs) ≡ map unnumbered (text_order (final_order r script) ys)
-same_final r script xs ys same = let reads =
-    final_reads_no_serials r script in search (arith, joined_same)
+same_final r script = let reads = final_reads_no_serials r script in search joined_same
 
 clusters-same : (xs ys : Glyphs) → SameButSerials xs ys → clusters xs ≡ clusters ys
-clusters-same xs ys same =
-    cc (
-      clusters-through unnumbered unnumbered_passes xs,
-      same_text xs ys same,
-      clusters-through unnumbered unnumbered_passes ys,
-    )
+clusters-same xs ys same = cc (
+  clusters-through unnumbered unnumbered_passes xs,
+  same_text xs ys same,
+  clusters-through unnumbered unnumbered_passes ys,
+)
 
 -- halves that meet at a border, and ones that are the same but for serials
 shown_halves : (r : Rules) (script : Option Script) (gs hs xs ys : Glyphs) → MeetAtBorder gs hs → SameButSerials gs xs
     → SameButSerials hs ys → map (uninitiated r) (final_text r script (gs ++ hs))
     ≡ map (uninitiated r) (final_text r script xs) ++ map (uninitiated r) (final_text r script ys)
-shown_halves r script gs hs xs ys border one two =
-    search (arith, shown_final, text_order-append, map-append, same_final)
+shown_halves = search (arith, shown_final, text_order-append, map-append, same_final)
 
 -- the pause alone, cut at a border of syllables
 pub final_cuts_with_serials : (r : Rules) (old new : Buffer) → FinallyReordered r old new
@@ -228,10 +208,7 @@ final_cuts_between_spans r meaning steps circles spans old mid new laws reads ki
     ∙ text_order-halves meaning (circled circles F) (circled circles B) (border-circled circles F B cut.border) in
     let border =
     let xs = order_view (circled circles F) in
-    let ys = order_view (circled circles B) in border_by (text_order meaning xs) (text_order meaning ys) xs ys (search (
-      arith,
-      ends_after,
-    )) (search (arith, ends_after)) (search (arith, border-view, border-circled)) in
+    let ys = order_view (circled circles B) in border_by (text_order meaning xs) (text_order meaning ys) xs ys (search ends_after) (search ends_after) (search (arith, border-view, border-circled)) in
     let front = same_after circles meaning steps laws reads F xs one in
     let back = same_after circles meaning steps laws reads B ys (cut.renumbered ∙ two) in
     let ordered =
@@ -244,17 +221,13 @@ final_cuts_between_spans r meaning steps circles spans old mid new laws reads ki
           let G = take n mid.glyphs in
           let K = drop n mid.glyphs in
           let one_facts = paused_facts circles meaning steps laws level xs in
-          let cluster : hb_glyph_info_t → ℕ = λ g. g.cluster in
+          let cluster : Glyph → ℕ = λ g. g.cluster in
           let size = one_facts.long ∙ sym (same_long (P F) (P xs) front) in
-          let gv = sym (take-map plain n mid.glyphs) ∙ ap (take n) parts
-          ∙ take_at (P F) (P B) n refl in
-          let kv = sym (drop-map plain n mid.glyphs) ∙ ap (drop n) parts
-          ∙ drop_at (P F) (P B) n refl in
+          let gv = sym (take-map plain n mid.glyphs) ∙ ap (take n) parts ∙ take_at (P F) (P B) n refl in
+          let kv = sym (drop-map plain n mid.glyphs) ∙ ap (drop n) parts ∙ drop_at (P F) (P B) n refl in
           let both = joined.in_clusters none in
-          let gc = sym (take-map cluster n mid.glyphs) ∙ ap (take n) both
-          ∙ take_at (C xs) (C ys) n size in
-          let kc = sym (drop-map cluster n mid.glyphs) ∙ ap (drop n) both
-          ∙ drop_at (C xs) (C ys) n size in
+          let gc = sym (take-map cluster n mid.glyphs) ∙ ap (take n) both ∙ take_at (C xs) (C ys) n size in
+          let kc = sym (drop-map cluster n mid.glyphs) ∙ ap (drop n) both ∙ drop_at (C xs) (C ys) n size in
           let meet : MeetAtBorder G K =
           met G K (subst (λ zs. MeetAtBorder zs (order_view K)) (sym gv)
           (subst (MeetAtBorder (P F)) (sym kv) border)) in
@@ -263,17 +236,14 @@ final_cuts_between_spans r meaning steps circles spans old mid new laws reads ki
           let yh : clusters ys ≡ clusters hs = sym (clusters-same (unsafe_spans ts hs) ys two)
           ∙ clusters-set_up ts BROKEN_CLUSTER (record old { glyphs = hs }) in
           let ga : All (Contains (clusters gs)) (clusters G) =
-          subst (λ cs. All (Contains cs) (clusters G)) xf
-          (no_new_cluster circles xs G
+          subst (λ cs. All (Contains cs) (clusters G)) xf (no_new_cluster circles xs G
           (subst (All (Contains (clusters (circled circles xs)))) (sym gc) one_facts.among)) in
           let ka : All (Contains (clusters hs)) (clusters K) =
-          subst (λ cs. All (Contains cs) (clusters K)) yh
-          (no_new_cluster circles ys K
+          subst (λ cs. All (Contains cs) (clusters K)) yh (no_new_cluster circles ys K
           (subst (All (Contains (clusters (circled circles ys)))) (sym kc)
           (paused_facts circles meaning steps laws level ys).among)) in
           let are : clusters new.glyphs ≡ final_clusters r script level mid.glyphs =
-          f.clusters_are
-          ∙ ap (λ s. final_clusters r s mid.level mid.glyphs) kept
+          f.clusters_are ∙ ap (λ s. final_clusters r s mid.level mid.glyphs) kept
           ∙ ap (λ l. final_clusters r script l mid.glyphs) (search arith) in
           let law = halves r script level mid.glyphs new.glyphs G K ordered are
           (sym (take-append-drop n mid.glyphs)) meet in

@@ -3,7 +3,7 @@ use Rattle.std.proofs.Common.{ℕ, ◌+◌, ◌-◌, ◌%◌, ◌≡◌, ◌==�
 use Rattle.std.specs.Prelude.{bit_or}
 use Rattle.std.specs.List.{AllZip}
 use Rattle.std.proofs.lemmas.Nat.{or_mod}
-use Rattle.shapers_buffer.specs.declared.buffer.glyph.hb_glyph_info_t.{hb_glyph_info_t}
+use Rattle.shapers_buffer.specs.Glyphs.{Glyph, Glyphs}
 use Rattle.shapers_buffer.specs.Clusters.{least, stretch_of}
 use Rattle.shapers_buffer.specs.Glyph.{clusters}
 use Rattle.shapers_buffer.specs.GlyphFlags.{flagged, with_bits, with_bits_off}
@@ -16,7 +16,7 @@ use Rattle.shapers_indic_final.specs.FinalWordStart.{bound_at, bound_from, is_bo
 use Rattle.shapers_syllabic.specs.Reordering.{carried}
 
 -- one glyph
-but_same : (x : hb_glyph_info_t) → FlagsFallButBreaks x x
+but_same : (x : Glyph) → FlagsFallButBreaks x x
 but_same x = record { at_most = omega arith; fell = λ l. absurd (omega arith); kept = λ e. inl refl }
 
 fell_then : (y z : ℕ) → (y ≡ 0) ⊎ (y ≡ 3) → (z ≡ y) ⊎ (z ≡ bit_or y 3) → (z ≡ 0) ⊎ (z ≡ 3)
@@ -31,30 +31,28 @@ kept_then x y z (inr a) (inl b) = inr (b ∙ a)
 kept_then x y z (inl a) (inr b) = inr (b ∙ ap (λ n. bit_or n 3) a)
 kept_then x y z (inr a) (inr b) = inr (cc (or_assoc x 3 3))
 
-but_on : (x y z : hb_glyph_info_t) → FlagsFallButBreaks x y → FlagsFallButBreaks y z → FlagsFallButBreaks x z
-but_on x y z one two =
-    record {
-      at_most = omega arith;
-      fell = search (arith, two.fell, fell_then);
-      kept = λ e. kept_then (x.mask % 8) (y.mask % 8) (z.mask % 8) (one.kept (omega arith)) (two.kept (omega arith));
-    }
+but_on : (x y z : Glyph) → FlagsFallButBreaks x y → FlagsFallButBreaks y z → FlagsFallButBreaks x z
+but_on x y z one two = record {
+  at_most = omega arith;
+  fell = search arith;
+  kept = λ e. kept_then (x.mask % 8) (y.mask % 8) (z.mask % 8) (one.kept (omega arith)) (two.kept (omega arith));
+}
 
 -- lists
-all_same : (xs : List hb_glyph_info_t) → AllZip FlagsFallButBreaks xs xs
+all_same : (xs : Glyphs) → AllZip FlagsFallButBreaks xs xs
 all_same [] = tt
 all_same (x ∷ xs) = (but_same x, all_same xs)
 
-all_of : (xs ys : List hb_glyph_info_t) → AllZip FlagsFall xs ys → AllZip FlagsFallButBreaks xs ys
+all_of : (xs ys : Glyphs) → AllZip FlagsFall xs ys → AllZip FlagsFallButBreaks xs ys
 all_of [] [] h = tt
-all_of [] (y ∷ ys) h = absurd h
-all_of (x ∷ xs) [] h = absurd h
 all_of (x ∷ xs) (y ∷ ys) h = (search arith, all_of xs ys h.1)
+all_of _ _ h = absurd h
 
-all_on : (xs ys zs : List hb_glyph_info_t) → AllZip FlagsFallButBreaks xs ys → AllZip FlagsFallButBreaks ys zs
+all_on : (xs ys zs : Glyphs) → AllZip FlagsFallButBreaks xs ys → AllZip FlagsFallButBreaks ys zs
     → AllZip FlagsFallButBreaks xs zs
-all_on xs ys zs h k = search (arith, all_over, but_on)
+all_on = search (all_over, but_on)
 
-all_off : (m : ℕ) (xs : List hb_glyph_info_t) → AllZip FlagsFallButBreaks xs (map (with_bits_off 3 m) xs)
+all_off : (m : ℕ) (xs : Glyphs) → AllZip FlagsFallButBreaks xs (map (with_bits_off 3 m) xs)
 all_off m [] = tt
 all_off m (x ∷ xs) = (
   elim (x.cluster == m) as (λ b. FlagsFallButBreaks x (if b then x else with_bits 3 x)) [
@@ -69,7 +67,7 @@ all_off m (x ∷ xs) = (
   all_off m xs,
 )
 
-all_bound : (s : ℕ) (b : Bool) (gs : List hb_glyph_info_t) → AllZip FlagsFallButBreaks gs (bound_at s b gs)
+all_bound : (s : ℕ) (b : Bool) (gs : Glyphs) → AllZip FlagsFallButBreaks gs (bound_at s b gs)
 all_bound s false gs = all_same gs
 all_bound s true gs =
     let e = s + 1 in
@@ -84,16 +82,14 @@ all_bound s true gs =
           c)),
     )
 
-all_carried : (xs ys : List hb_glyph_info_t) → map carried ys ≡ map carried xs → AllZip FlagsFallButBreaks xs ys
+all_carried : (xs ys : Glyphs) → map carried ys ≡ map carried xs → AllZip FlagsFallButBreaks xs ys
 all_carried [] [] e = tt
-all_carried [] (y ∷ ys) e = absurd (cc e)
-all_carried (x ∷ xs) [] e = absurd (cc e)
-all_carried (x ∷ xs) (y ∷ ys) e =
-    search (arith, all_carried xs ys (ap (λ (gs : List hb_glyph_info_t). drop 1 gs) e))
+all_carried (x ∷ xs) (y ∷ ys) e = search (arith, all_carried xs ys (ap (λ (gs : Glyphs). drop 1 gs) e))
+all_carried _ _ e = absurd (cc e)
 
 -- the breaks of a text
-pub flags-bound : (s : ℕ) (before : Option hb_glyph_info_t) (syls : List (List hb_glyph_info_t))
-    (gs : List hb_glyph_info_t) → AllZip FlagsFallButBreaks gs (bound_from s before syls gs)
+pub flags-bound : (s : ℕ) (before : Option Glyph) (syls : List Glyphs)
+    (gs : Glyphs) → AllZip FlagsFallButBreaks gs (bound_from s before syls gs)
 flags-bound s before [] gs = all_same gs
 flags-bound s before (syl ∷ syls) gs =
     let b = is_bound before syl in
@@ -101,7 +97,6 @@ flags-bound s before (syl ∷ syls) gs =
     (all_bound s b gs) (flags-bound (s + length syl) (last_or before syl) syls (bound_at s b gs))
 
 -- behind flags that fell
-pub flags-whole : (xs mid bound new : List hb_glyph_info_t) → AllZip FlagsFall xs mid
+pub flags-whole : (xs mid bound new : Glyphs) → AllZip FlagsFall xs mid
     → AllZip FlagsFallButBreaks mid bound → map carried new ≡ map carried bound → AllZip FlagsFallButBreaks xs new
-flags-whole xs mid bound new fell breaks same =
-    search (arith, all_on, all_of, all_carried)
+flags-whole = search (arith, all_on, all_of, all_carried)

@@ -5,7 +5,7 @@ use Rattle.std.specs.List.Sorted.{IsPermutation}
 use Rattle.std.proofs.lemmas.List.{length-map}
 use Rattle.std.proofs.lemmas.List.Elements.{AllZip-get_or}
 use Rattle.std.proofs.lemmas.List.Sorted.{IsPermutation-map}
-use Rattle.shapers_buffer.specs.declared.buffer.glyph.hb_glyph_info_t.{hb_glyph_info_t}
+use Rattle.shapers_buffer.specs.Glyphs.{Glyph}
 use Rattle.shapers_buffer.specs.Glyph.{clusters, default_glyph, order_view}
 use Rattle.shapers_buffer.specs.Places.{pick}
 use Rattle.shapers_clusters.specs.Cuts.{OneAlong}
@@ -42,11 +42,10 @@ finally_kept r old new done =
     let held = f.text.glyphs in
     let are = f.clusters_are in
     let olds = old_places (length gs) steps in
-    let number : hb_glyph_info_t → ℕ = λ g. g.glyph_id in
+    let number : Glyph → ℕ = λ g. g.glyph_id in
     let kept =
     subst (IsPermutation (seen carried gs)) (sym f.seen_same) f.text.kept in
-    let many = sym (length-map ns (λ g. g.cluster)) ∙ ap length f.clusters_same
-    ∙ length-map ms (λ g. g.cluster) in
+    let many = sym (length-map ns (λ g. g.cluster)) ∙ ap length f.clusters_same ∙ length-map ms (λ g. g.cluster) in
     let fits = text_fits r old.script old.level gs in
     record {
       kept = kept;
@@ -64,13 +63,11 @@ finally_kept r old new done =
           (subst (AllZip (λ a b. b ≤ a) (clusters (pick olds gs))) (sym f.clusters_same)
           (none_higher (pick olds gs) ms held.falls));
       flags = flags-whole (pick olds gs) ms bound ns held.falls (flags-bound 0 None syls ms) f.flags;
-      flags_elsewhere = λ i l none.
-          elsewhere-whole (get_or (pick olds gs) i d) bound ns f.flags i l
+      flags_elsewhere = λ i l none. elsewhere-whole (get_or (pick olds gs) i d) bound ns f.flags i l
           (subst (FlagsFall (get_or (pick olds gs) i d))
-          (sym (bound_from_elsewhere 0 None syls ms i (omega (arith, many)) none))
+          (sym (bound_from_elsewhere 0 None syls ms i (omega arith) none))
           (AllZip-get_or FlagsFall (pick olds gs) ms i d d held.falls (omega (
             arith,
-            many,
             length-pick olds gs (within-old_places (length gs) steps) ∙ length-old_places (length gs) steps fits ∙ sym
                 held.same_length,
           ))));

@@ -47,8 +47,7 @@ ends : target "Deva" 4 ((M, 2) ∷ (C, 3) ∷ (H, 3) ∷ (M, 3) ∷ (C, 4) ∷ [
 ends = refl
 
 -- ligatures are neither halants nor vowel signs; but a ligature of the category of ZWJ holds a halant
-ligatures : map
-    (λ i. matra_target (script "Deva") 5
+ligatures : map (λ i. matra_target (script "Deva") 5
     (marks_at i 0x20 (of ((M, 2) ∷ (C, 3) ∷ (H, 3) ∷ (H, 3) ∷ (ZWNJ, 3) ∷ (C, 4) ∷ [])))) (1 ∷ 2 ∷ 3 ∷ 4 ∷ [])
     ≡ 3 ∷ 3 ∷ 2 ∷ 3 ∷ []
 ligatures = refl
@@ -62,10 +61,8 @@ ligated_signs = refl
 no_half_forms : at_place "Mlym" 3 ((M, 2) ∷ (C, 3) ∷ (C, 3) ∷ (C, 4) ∷ [])
     ∷ at_place "Taml" 3 ((M, 2) ∷ (C, 3) ∷ (H, 3) ∷ (C, 4) ∷ []) ∷ at_place "Taml" 2 ((M, 2) ∷ (M, 2) ∷ (C, 4) ∷ [])
     ∷ at_place "Mlym" 3 ((C, 3) ∷ (M, 2) ∷ (M, 2) ∷ (C, 4) ∷ []) ∷ []
-    ≡ ((1 ∷ 2 ∷ 0 ∷ 3 ∷ []) ∷ (1 ∷ 2 ∷ 0 ∷ 0 ∷ []) ∷ [])
-    ∷ ((1 ∷ 2 ∷ 0 ∷ 3 ∷ []) ∷ (1 ∷ 2 ∷ 0 ∷ 0 ∷ []) ∷ [])
-    ∷ ((0 ∷ 1 ∷ 2 ∷ []) ∷ (0 ∷ 0 ∷ 0 ∷ []) ∷ [])
-    ∷ ((0 ∷ 1 ∷ 2 ∷ 3 ∷ []) ∷ (0 ∷ 1 ∷ 1 ∷ 1 ∷ []) ∷ []) ∷ []
+    ≡ ((1 ∷ 2 ∷ 0 ∷ 3 ∷ []) ∷ (1 ∷ 2 ∷ 0 ∷ 0 ∷ []) ∷ []) ∷ ((1 ∷ 2 ∷ 0 ∷ 3 ∷ []) ∷ (1 ∷ 2 ∷ 0 ∷ 0 ∷ []) ∷ [])
+    ∷ ((0 ∷ 1 ∷ 2 ∷ []) ∷ (0 ∷ 0 ∷ 0 ∷ []) ∷ []) ∷ ((0 ∷ 1 ∷ 2 ∷ 3 ∷ []) ∷ (0 ∷ 1 ∷ 1 ∷ 1 ∷ []) ∷ []) ∷ []
 no_half_forms = refl
 
 -- several left matras keep their order; each merges with what stands from its new place up to the base
@@ -76,11 +73,10 @@ several : at_place "Deva" 4 ((M, 2) ∷ (M, 2) ∷ (C, 3) ∷ (H, 3) ∷ (C, 4) 
 several = refl
 
 -- without a base: before the last glyph
-no_base : at_place "Deva" 4 ((M, 2) ∷ (C, 3) ∷ (H, 3) ∷ (C, 3) ∷ []) ∷ at_place "Deva" 3 ((M, 2) ∷ (C, 3) ∷ (H, 3) ∷ [])
-    ∷ at_place "Taml" 3 ((M, 2) ∷ (C, 3) ∷ (C, 3) ∷ []) ∷ at_place "Taml" 2 ((M, 2) ∷ (C, 3) ∷ []) ∷ []
-    ≡ ((1 ∷ 2 ∷ 0 ∷ 3 ∷ []) ∷ (1 ∷ 2 ∷ 0 ∷ 0 ∷ []) ∷ [])
-    ∷ ((0 ∷ 1 ∷ 2 ∷ []) ∷ (0 ∷ 0 ∷ 0 ∷ []) ∷ [])
-    ∷ ((1 ∷ 0 ∷ 2 ∷ []) ∷ (1 ∷ 0 ∷ 0 ∷ []) ∷ [])
+no_base : at_place "Deva" 4 ((M, 2) ∷ (C, 3) ∷ (H, 3) ∷ (C, 3) ∷ [])
+    ∷ at_place "Deva" 3 ((M, 2) ∷ (C, 3) ∷ (H, 3) ∷ []) ∷ at_place "Taml" 3 ((M, 2) ∷ (C, 3) ∷ (C, 3) ∷ [])
+    ∷ at_place "Taml" 2 ((M, 2) ∷ (C, 3) ∷ []) ∷ [] ≡ ((1 ∷ 2 ∷ 0 ∷ 3 ∷ []) ∷ (1 ∷ 2 ∷ 0 ∷ 0 ∷ []) ∷ [])
+    ∷ ((0 ∷ 1 ∷ 2 ∷ []) ∷ (0 ∷ 0 ∷ 0 ∷ []) ∷ []) ∷ ((1 ∷ 0 ∷ 2 ∷ []) ∷ (1 ∷ 0 ∷ 0 ∷ []) ∷ [])
     ∷ ((0 ∷ 1 ∷ []) ∷ (0 ∷ 0 ∷ []) ∷ []) ∷ []
 no_base = refl
 
@@ -88,7 +84,6 @@ no_base = refl
 -- matra on the base's place is its
 nothing : at_place "Deva" 0 ((C, 4) ∷ (M, 2) ∷ []) ∷ at_place "Taml" 1 ((M, 2) ∷ [])
     ∷ at_place "Deva" 2 ((C, 3) ∷ (H, 3) ∷ (C, 4) ∷ (M, 2) ∷ []) ∷ at_place "Deva" 0 []
-    ∷ at_place "Deva" 1 ((C, 3) ∷ (M, 2) ∷ []) ∷ []
-    ≡ ((0 ∷ 1 ∷ []) ∷ (0 ∷ 1 ∷ []) ∷ []) ∷ ((0 ∷ []) ∷ (0 ∷ []) ∷ [])
+    ∷ at_place "Deva" 1 ((C, 3) ∷ (M, 2) ∷ []) ∷ [] ≡ ((0 ∷ 1 ∷ []) ∷ (0 ∷ 1 ∷ []) ∷ []) ∷ ((0 ∷ []) ∷ (0 ∷ []) ∷ [])
     ∷ ((0 ∷ 1 ∷ 2 ∷ 3 ∷ []) ∷ (0 ∷ 1 ∷ 2 ∷ 3 ∷ []) ∷ []) ∷ ([] ∷ [] ∷ []) ∷ ((0 ∷ 1 ∷ []) ∷ (0 ∷ 1 ∷ []) ∷ []) ∷ []
 nothing = refl

@@ -4,7 +4,7 @@ use Rattle.std.proofs.Math.ListN.{get_or-map}
 use Rattle.std.specs.List.{enumerate_from}
 use Rattle.std.proofs.lemmas.List.{get_or-take, get_or_append_left, length-take-le, reverse-append}
 use Rattle.std.proofs.lemmas.List.Sorted.{IsPermutation-append_left, IsPermutation-append_right, length_permutation}
-use Rattle.shapers_buffer.specs.declared.buffer.glyph.hb_glyph_info_t.{hb_glyph_info_t}
+use Rattle.shapers_buffer.specs.Glyphs.{Glyph, Glyphs}
 use Rattle.shapers_buffer.specs.declared.buffer.level.BufferClusterLevel.{BufferClusterLevel}
 use Rattle.shapers_buffer.specs.Lists.{first_last}
 use Rattle.shapers_buffer.specs.Buffer.{Buffer}
@@ -24,8 +24,7 @@ use Rattle.shapers_indic_final.specs.Proved.FinalSteps.{length-moved, matra_step
 use Rattle.shapers_indic.proofs.PlaceSearch.{places_first}
 
 -- how many glyphs there are after a step
-length-moved_back : (s e : ℕ) (gs : List hb_glyph_info_t) → s ≤ e → length (with_stretch s e last_goes_first gs)
-    ≡ length gs
+length-moved_back : (s e : ℕ) (gs : Glyphs) → s ≤ e → length (with_stretch s e last_goes_first gs) ≡ length gs
 length-moved_back s e gs l =
     let part = stretch_of s e gs in
     let is = IsPermutation-append_right (take s gs) (part ++ drop e gs) (last_goes_first part ++ drop e gs)
@@ -35,18 +34,16 @@ length-moved_back s e gs l =
       three_parts s e gs l,
     )
 
-pub length-pref : (level : BufferClusterLevel) (s e j i : ℕ) (gs : List hb_glyph_info_t) → j ≤ i → s + i < e
+pub length-pref : (level : BufferClusterLevel) (s e j i : ℕ) (gs : Glyphs) → j ≤ i → s + i < e
     → e ≤ length gs → length (run_step level (widened s e (length gs) (pref_move (e - s) j i)) gs) ≡ length gs
-length-pref level s e j i gs h l m =
-    cc (
-      pref_stepped level s e j i gs h l m,
-      length-moved_back (s + j) (s + i + 1) (merge level (s + j) (s + i + 1) gs) (omega arith),
-      length-merge level (s + j) (s + i + 1) gs (omega arith),
-    )
+length-pref level s e j i gs h l m = cc (
+  pref_stepped level s e j i gs h l m,
+  length-moved_back (s + j) (s + i + 1) (merge level (s + j) (s + i + 1) gs) (omega arith),
+  length-merge level (s + j) (s + i + 1) gs (omega arith),
+)
 
-pub length-matra : (level : BufferClusterLevel) (s e b i j : ℕ) (gs : List hb_glyph_info_t) → i ≤ j → s + j < e
-    → s + b ≤ e → e ≤ length gs → length (run_step level (widened s e (length gs) (matra_step (e - s) b i j)) gs)
-    ≡ length gs
+pub length-matra : (level : BufferClusterLevel) (s e b i j : ℕ) (gs : Glyphs) → i ≤ j → s + j < e → s + b ≤ e
+    → e ≤ length gs → length (run_step level (widened s e (length gs) (matra_step (e - s) b i j)) gs) ≡ length gs
 length-matra level s e b i j gs h l w m =
     let n = length-moved (s + i) (s + j + 1) gs (omega arith) in
     cc (
@@ -55,11 +52,10 @@ length-matra level s e b i j gs h l w m =
     )
 
 -- a left matra that moves leaves what stands before it
-left_seen : (gs : List hb_glyph_info_t) (q : ℕ) (d : hb_glyph_info_t)
-    → is_left (get_or gs q d) ≡ is_left (get_or (order_view gs) q (plain d))
+left_seen : (gs : Glyphs) (q : ℕ) (d : Glyph) → is_left (get_or gs q d) ≡ is_left (get_or (order_view gs) q (plain d))
 left_seen gs q d = cc (get_or-map plain gs q d)
 
-pub left_read : (level : BufferClusterLevel) (s e b i j : ℕ) (gs : List hb_glyph_info_t) (d : hb_glyph_info_t) → i ≤ j
+pub left_read : (level : BufferClusterLevel) (s e b i j : ℕ) (gs : Glyphs) (d : Glyph) → i ≤ j
     → s + j < e → e ≤ length gs → (q : ℕ) → q < s + i
     → is_left (get_or (run_step level (widened s e (length gs) (matra_step (e - s) b i j)) gs) q d)
     ≡ is_left (get_or gs q d)
@@ -77,25 +73,23 @@ left_read level s e b i j gs d h l m q k =
     )
 
 -- the left places from i to p, and their steps
-abbrev pub lefts_from : ℕ → ℕ → List hb_glyph_info_t → List ℕ
+abbrev pub lefts_from : ℕ → ℕ → Glyphs → List ℕ
 lefts_from i p gs = reverse (filter (passes is_left gs) (places i p))
 
 abbrev pub numbered_steps : ℕ → ℕ → ℕ → List ℕ → List Step
 numbered_steps n e p qs = map (λ t. matra_step n e t.1 (p - t.0)) (enumerate_from 0 qs)
 
-pub lefts_yes : (i p : ℕ) (gs : List hb_glyph_info_t) → i < p → passes is_left gs i ≡ true
+pub lefts_yes : (i p : ℕ) (gs : Glyphs) → i < p → passes is_left gs i ≡ true
     → lefts_from i p gs ≡ lefts_from (i + 1) p gs ++ i ∷ []
 lefts_yes i p gs l holds =
-    let rest = filter (passes is_left gs) (places (i + 1) p) in
-    cc (places_first i p l, reverse-append (i ∷ []) rest)
+    let rest = filter (passes is_left gs) (places (i + 1) p) in cc (places_first i p l, reverse-append (i ∷ []) rest)
 
-pub lefts_no : (i p : ℕ) (gs : List hb_glyph_info_t) → i < p → passes is_left gs i ≡ false
+pub lefts_no : (i p : ℕ) (gs : Glyphs) → i < p → passes is_left gs i ≡ false
     → lefts_from i p gs ≡ lefts_from (i + 1) p gs
-lefts_no i p gs l fails =
-    cc (places_first i p l)
+lefts_no i p gs l fails = cc (places_first i p l)
 
 -- the step of left matras that stay
-pub stayed : (level : BufferClusterLevel) (s e b i : ℕ) (gs : List hb_glyph_info_t) → s ≤ e → s + b ≤ e → e ≤ length gs
+pub stayed : (level : BufferClusterLevel) (s e b i : ℕ) (gs : Glyphs) → s ≤ e → s + b ≤ e → e ≤ length gs
     → merge level (s + i) (s + b) gs ≡ run_steps level (map (widened s e (length gs)) (merging_step (e - s) b (Some i)))
     gs
 stayed level s e b i gs h v w =
@@ -121,8 +115,7 @@ pub one_step : (old new : Buffer) (s e : ℕ) (steps : List Step) (step : Step) 
       places =
           new.places;
     }
-one_step old new s e steps step only after =
-    cc
+one_step old new s e steps step only after = cc
 
 -- a buffer in which left matras that stay merge with all up to the base
 pub stayed_in : (old new : Buffer) (s e base b i : ℕ) → s ≤ e → s + b ≤ e → e ≤ length old.glyphs

@@ -1,7 +1,7 @@
 -- A formed pref glyph, computed case by case.
 use Prim.Native.String.{String}
 use Rattle.std.specs.Prelude.{◌≡◌, ℕ, List, [], ◌∷◌, map, None, Some, refl}
-use Rattle.shapers_buffer.specs.declared.buffer.glyph.hb_glyph_info_t.{hb_glyph_info_t}
+use Rattle.shapers_buffer.specs.Glyphs.{Glyphs}
 use Rattle.shapers_buffer.specs.declared.buffer.level.BufferClusterLevel.TheVariants.{MonotoneGraphemes}
 use Rattle.shapers_buffer.specs.Glyph.{clusters}
 use Rattle.shapers_clusters.specs.Steps.{run_steps}
@@ -10,7 +10,7 @@ use Rattle.shapers_indic_final.proofs.FinalWords.{formed_at, marks_at, mask_give
 use Rattle.shapers_indic_final.specs.FinalPref.{formed_pref, pref_steps, pref_target, with_pref}
 
 -- the first after the base with the mask, if it is formed; whether it is substituted doesn't count
-abbrev three : List hb_glyph_info_t
+abbrev three : Glyphs
 three = of ((C, 4) ∷ (Ra, 11) ∷ (Ra, 11) ∷ [])
 
 which : map (formed_pref 16 0) (three ∷ formed_at 1 three ∷ formed_at 2 three ∷ unformed_at 1 (formed_at 2 three)
@@ -50,11 +50,11 @@ ligatures : pref_target (script "Deva") 3 (marks_at 1 0x20 (of ((M, 3) ∷ (H, 3
 ligatures = refl
 
 -- order and clusters
-abbrev moved : String → ℕ → List hb_glyph_info_t → List (List ℕ)
+abbrev moved : String → ℕ → Glyphs → List (List ℕ)
 moved tag base gs = numbers_of (with_pref 16 (script tag) base gs)
     ∷ clusters (run_steps MonotoneGraphemes (pref_steps 16 (script tag) base gs) gs) ∷ []
 
-abbrev behind_base : List hb_glyph_info_t
+abbrev behind_base : Glyphs
 behind_base = of ((C, 3) ∷ (H, 3) ∷ (C, 3) ∷ (C, 4) ∷ (C, 8) ∷ (Ra, 11) ∷ (M, 12) ∷ [])
 
 moves : moved "Deva" 3 (formed_at 5 behind_base) ∷ moved "Mlym" 3 (formed_at 5 behind_base)

@@ -1,6 +1,6 @@
 -- The final reordering of a syllable as a whole, computed: order, clusters and positions.
 use Rattle.std.specs.Prelude.{◌≡◌, ℕ, ◌-◌, List, [], ◌∷◌, length, map, refl}
-use Rattle.shapers_buffer.specs.declared.buffer.glyph.hb_glyph_info_t.{hb_glyph_info_t}
+use Rattle.shapers_buffer.specs.Glyphs.{Glyph, Glyphs}
 use Rattle.shapers_indic.proofs.RowWords.{C, H, ZWNJ, ZWJ, M, SM, Ra, of, numbers_of, script}
 use Rattle.shapers_indic_final.proofs.FinalWords.{changed_at, formed_at, marks_at, reordered, rules, unformed_at}
 use Rattle.shapers_indic_final.specs.FinalReordering.{final_order, final_steps}
@@ -11,10 +11,9 @@ left_matra : reordered "Deva" (of ((M, 2) ∷ (C, 3) ∷ (H, 3) ∷ (ZWNJ, 3) �
 left_matra = refl
 
 -- with the clusters 4 0 1 2 3 that it leaves
-abbrev as_left : ℕ → List hb_glyph_info_t
+abbrev as_left : ℕ → Glyphs
 as_left joiner =
-    changed_at 0 (λ g. record g { cluster = 4 })
-    (map {A = hb_glyph_info_t} (λ g. record g { cluster = g.cluster - 1 })
+    changed_at 0 (λ g. record g { cluster = 4 }) (map {A = Glyph} (λ g. record g { cluster = g.cluster - 1 })
     (of ((M, 2) ∷ (C, 3) ∷ (H, 3) ∷ (joiner, 3) ∷ (C, 4) ∷ [])))
 
 clusters_as_left : map (reordered "Deva") (as_left ZWNJ ∷ as_left ZWJ ∷ [])
@@ -23,7 +22,7 @@ clusters_as_left : map (reordered "Deva") (as_left ZWNJ ∷ as_left ZWJ ∷ [])
 clusters_as_left = refl
 
 -- a formed reph in front, by scripts
-abbrev behind_reph : List (ℕ × ℕ) → List hb_glyph_info_t
+abbrev behind_reph : List (ℕ × ℕ) → Glyphs
 behind_reph ts = marks_at 0 0x20 (of ((Ra, 1) ∷ ts))
 
 rephs : reordered "Deva" (behind_reph ((C, 4) ∷ (M, 9) ∷ []))
@@ -38,8 +37,7 @@ rephs = refl
 
 -- each script of the table with a reph, a post-base vowel sign of its position after the main
 -- consonant, a below-base form, and a sign
-each_script : map
-    (λ tag. numbers_of
+each_script : map (λ tag. numbers_of
     (final_order (rules tag) (script tag) (behind_reph ((C, 4) ∷ (M, 5) ∷ (C, 8) ∷ (M, 12) ∷ (SM, 13) ∷ []))))
     ("Deva" ∷ "Beng" ∷ "Guru" ∷ "Gujr" ∷ "Orya" ∷ "Taml" ∷ "Telu" ∷ "Knda" ∷ "Mlym" ∷ "Sinh" ∷ "Latn" ∷ [])
     ≡ (1 ∷ 2 ∷ 3 ∷ 4 ∷ 0 ∷ 5 ∷ []) ∷ (1 ∷ 2 ∷ 3 ∷ 0 ∷ 4 ∷ 5 ∷ []) ∷ (1 ∷ 2 ∷ 3 ∷ 4 ∷ 0 ∷ 5 ∷ [])
@@ -50,9 +48,7 @@ each_script = refl
 
 -- each script with a left matra and a formed pref glyph: behind the halant, but for Tamil and
 -- Malayalam, where they go directly before the base
-each_script_before_base : map
-    (λ tag. numbers_of
-    (final_order (rules tag) (script tag)
+each_script_before_base : map (λ tag. numbers_of (final_order (rules tag) (script tag)
     (formed_at 5 (of ((M, 2) ∷ (C, 3) ∷ (H, 3) ∷ (C, 3) ∷ (C, 4) ∷ (Ra, 11) ∷ []))))) ("Deva" ∷ "Beng" ∷ "Guru" ∷ "Gujr"
     ∷ "Orya" ∷ "Taml" ∷ "Telu" ∷ "Knda" ∷ "Mlym" ∷ "Sinh" ∷ "Latn" ∷ [])
     ≡ (1 ∷ 2 ∷ 0 ∷ 5 ∷ 3 ∷ 4 ∷ []) ∷ (1 ∷ 2 ∷ 0 ∷ 5 ∷ 3 ∷ 4 ∷ []) ∷ (1 ∷ 2 ∷ 0 ∷ 5 ∷ 3 ∷ 4 ∷ [])
@@ -96,6 +92,5 @@ recovered_virama = refl
 -- nothing to do, and nothing there
 none : map (λ gs. length (final_steps (rules "Deva") (script "Deva") gs))
     (of ((C, 4) ∷ (M, 9) ∷ []) ∷ of ((C, 3) ∷ (H, 3) ∷ (C, 4) ∷ []) ∷ of ((C, 4) ∷ []) ∷ [] ∷ [])
-    ∷ numbers_of (final_order (rules "Deva") (script "Deva") []) ∷ []
-    ≡ (0 ∷ 0 ∷ 0 ∷ 0 ∷ []) ∷ [] ∷ []
+    ∷ numbers_of (final_order (rules "Deva") (script "Deva") []) ∷ [] ≡ (0 ∷ 0 ∷ 0 ∷ 0 ∷ []) ∷ [] ∷ []
 none = refl

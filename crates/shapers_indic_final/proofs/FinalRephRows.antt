@@ -1,6 +1,6 @@
 -- The reph, computed case by case.
 use Rattle.std.specs.Prelude.{◌≡◌, ℕ, true, false, List, [], ◌∷◌, map, refl}
-use Rattle.shapers_buffer.specs.declared.buffer.glyph.hb_glyph_info_t.{hb_glyph_info_t}
+use Rattle.shapers_buffer.specs.Glyphs.{Glyphs}
 use Rattle.shapers_buffer.specs.declared.buffer.level.BufferClusterLevel.TheVariants.{MonotoneGraphemes}
 use Rattle.shapers_buffer.specs.Glyph.{clusters}
 use Rattle.shapers_base.specs.declared.plan.indic.RephPosition.{RephPosition}
@@ -11,7 +11,7 @@ use Rattle.shapers_indic_final.proofs.FinalWords.{marks_at}
 use Rattle.shapers_indic_final.specs.FinalReph.{base_after_reph, opens_with_reph, reph_steps, reph_target, with_reph}
 
 -- a formed reph and then these glyphs
-abbrev behind_reph : List (ℕ × ℕ) → List hb_glyph_info_t
+abbrev behind_reph : List (ℕ × ℕ) → Glyphs
 behind_reph ts = marks_at 0 0x20 (of ((Ra, 1) ∷ ts))
 
 -- which rephs move: one formed, or a character of its own that is not; in a syllable of two or more, of its position
@@ -75,17 +75,15 @@ before_matras : target BeforePost 1 ((C, 4) ∷ (M, 9) ∷ (H, 9) ∷ [])
 before_matras = refl
 
 -- order, clusters, and the base: one that is crossed is carried along, one in front stays
-abbrev moved : RephPosition → ℕ → List hb_glyph_info_t → List (List ℕ)
+abbrev moved : RephPosition → ℕ → Glyphs → List (List ℕ)
 moved position base gs =
     numbers_of (with_reph position base gs) ∷ clusters (run_steps MonotoneGraphemes (reph_steps position base gs) gs)
     ∷ (base_after_reph position base gs ∷ []) ∷ []
 
 moves : moved BeforePost 1 (behind_reph ((C, 4) ∷ (M, 9) ∷ []))
-    ∷ moved BeforePost 3 (behind_reph ((C, 3) ∷ (H, 3) ∷ (C, 4) ∷ [])) ∷ moved BeforePost 0 (behind_reph ((C, 4) ∷ []))
-    ∷ moved AfterMain 1 (behind_reph ((C, 4) ∷ (M, 9) ∷ [])) ∷ moved BeforePost 1 (of ((Ra, 1) ∷ (C, 4) ∷ [])) ∷ []
-    ≡ ((1 ∷ 2 ∷ 0 ∷ []) ∷ (0 ∷ 0 ∷ 0 ∷ []) ∷ (0 ∷ []) ∷ [])
-    ∷ ((1 ∷ 2 ∷ 0 ∷ 3 ∷ []) ∷ (0 ∷ 0 ∷ 0 ∷ 3 ∷ []) ∷ (3 ∷ []) ∷ [])
-    ∷ ((1 ∷ 0 ∷ []) ∷ (0 ∷ 0 ∷ []) ∷ (0 ∷ []) ∷ [])
-    ∷ ((1 ∷ 0 ∷ 2 ∷ []) ∷ (0 ∷ 0 ∷ 2 ∷ []) ∷ (0 ∷ []) ∷ [])
-    ∷ ((0 ∷ 1 ∷ []) ∷ (0 ∷ 1 ∷ []) ∷ (1 ∷ []) ∷ []) ∷ []
+    ∷ moved BeforePost 3 (behind_reph ((C, 3) ∷ (H, 3) ∷ (C, 4) ∷ []))
+    ∷ moved BeforePost 0 (behind_reph ((C, 4) ∷ [])) ∷ moved AfterMain 1 (behind_reph ((C, 4) ∷ (M, 9) ∷ []))
+    ∷ moved BeforePost 1 (of ((Ra, 1) ∷ (C, 4) ∷ [])) ∷ [] ≡ ((1 ∷ 2 ∷ 0 ∷ []) ∷ (0 ∷ 0 ∷ 0 ∷ []) ∷ (0 ∷ []) ∷ [])
+    ∷ ((1 ∷ 2 ∷ 0 ∷ 3 ∷ []) ∷ (0 ∷ 0 ∷ 0 ∷ 3 ∷ []) ∷ (3 ∷ []) ∷ []) ∷ ((1 ∷ 0 ∷ []) ∷ (0 ∷ 0 ∷ []) ∷ (0 ∷ []) ∷ [])
+    ∷ ((1 ∷ 0 ∷ 2 ∷ []) ∷ (0 ∷ 0 ∷ 2 ∷ []) ∷ (0 ∷ []) ∷ []) ∷ ((0 ∷ 1 ∷ []) ∷ (0 ∷ 1 ∷ []) ∷ (1 ∷ []) ∷ []) ∷ []
 moves = refl

@@ -4,14 +4,12 @@ use Rattle.shapers_syllabic.proofs.Views.{plain_view}
 use Rattle.std.proofs.Common.{◌≡◌, ℕ, ◌-◌, ◌%◌, ◌≤◌, Bool, true, false, if◌then◌else◌, List, [], ◌++◌, length, map, take, drop, refl, sym, ap, subst, ◌∙◌, arith, Option, None, Some, length-take-le, length-drop}
 use Rattle.std.proofs.lemmas.List.{length-map}
 use Rattle.shapers_base.specs.declared.font.GlyphId.{GlyphId}
-use Rattle.shapers_buffer.specs.declared.buffer.glyph.hb_glyph_info_t.{hb_glyph_info_t}
+use Rattle.shapers_buffer.specs.Glyphs.{Glyph, Glyphs}
 use Rattle.shapers_buffer.specs.declared.buffer.tag.Script.{Script}
 use Rattle.shapers_buffer.specs.Buffer.{Buffer, but_places}
 use Rattle.shapers_buffer.specs.Clusters.{stretch_of, with_stretch}
 use Rattle.shapers_buffer.specs.Glyph.{order_view, plain}
-use Rattle.shapers_buffer.specs.Properties.{LIGATED, MULTIPLIED, without_mark}
 use Rattle.shapers_buffer.proofs.ClusterLemmas.{length-stretch, map-stretch}
-use Rattle.shapers_base.specs.declared.plan.ot_category_t.TheConstants.{OT_H}
 use Rattle.shapers_clusters.specs.Steps.{Step, run_steps, widened}
 use Rattle.shapers_clusters.proofs.ViewedSteps.{length-same}
 use Rattle.shapers_clusters.proofs.Widened.{order_view-widened}
@@ -32,11 +30,11 @@ use Rattle.shapers_syllabic.proofs.SyllableThen.{changed_parts, syllable_as, syl
 use Rattle.shapers_syllabic.proofs.PartAfter.{part_after}
 
 -- how long a syllable of the order view is
-length-view : (s e : ℕ) (gs : List hb_glyph_info_t) → e ≤ length gs → length (stretch_of s e (order_view gs)) ≡ e - s
-length-view s e gs l = search (arith, length-stretch, length-map)
+length-view : (s e : ℕ) (gs : Glyphs) → e ≤ length gs → length (stretch_of s e (order_view gs)) ≡ e - s
+length-view = search (length-stretch, length-map)
 
 -- the same by steps of the syllable as it is, where these are the same
-pub part_by_steps : (meaning : List hb_glyph_info_t → List hb_glyph_info_t) (steps : List hb_glyph_info_t
+pub part_by_steps : (meaning : Glyphs → Glyphs) (steps : Glyphs
     → List Step) (s e : ℕ) (old new : Buffer) → s ≤ e → e ≤ length old.glyphs
     → LawsAt (stretch_of s e (order_view old.glyphs)) (meaning (stretch_of s e (order_view old.glyphs)))
     (steps (stretch_of s e (order_view old.glyphs))) → steps (order_view (stretch_of s e old.glyphs))
@@ -52,7 +50,7 @@ part_by_steps meaning steps s e old new h l laws same is =
     search (arith, order_view-widened, length-view)
 
 -- What the parts read of a syllable shows in its order view.
-pub record Viewed (r : Rules) (script : Option Script) (gs : List hb_glyph_info_t) : Type 0 where
+pub record Viewed (r : Rules) (script : Option Script) (gs : Glyphs) : Type 0 where
   pub glyphs : (with_final_base r script (order_view gs)).glyphs ≡ order_view (with_final_base r script gs).glyphs
   pub base : (with_final_base r script (order_view gs)).base ≡ (with_final_base r script gs).base
   pub tries : (with_final_base r script (order_view gs)).tries_pref ≡ (with_final_base r script gs).tries_pref
@@ -61,43 +59,23 @@ pub record Viewed (r : Rules) (script : Option Script) (gs : List hb_glyph_info_
   pub base_then : (base : ℕ) → base_after_reph r.reph_pos base (order_view gs) ≡ base_after_reph r.reph_pos base gs
   pub by_pref : (base : ℕ) → pref_steps r.pref script base (order_view gs) ≡ pref_steps r.pref script base gs
 
-pub viewed_in : (r : Rules) (script : Option Script) → r.pref % 8 ≡ 0 → (gs : List hb_glyph_info_t) → Viewed r script gs
+pub viewed_in : (r : Rules) (script : Option Script) → r.pref % 8 ≡ 0 → (gs : Glyphs) → Viewed r script gs
 viewed_in r script off gs =
     let low : TouchesNoFlag r.pref = omega arith in
-    search (
-      arith,
-      base_glyphs_plain,
-      base_place_plain,
-      base_tries_plain,
-      matra_steps_plain,
-      reph_steps_plain,
-      base_after_reph_plain,
-      pref_steps_plain,
-    )
+    search (base_glyphs_plain, base_place_plain, base_tries_plain, matra_steps_plain, reph_steps_plain, base_after_reph_plain, pref_steps_plain)
 
--- the viramas
-abbrev recovered_one : hb_glyph_info_t → hb_glyph_info_t
-recovered_one g =
-    record g {
-      category = OT_H;
-      glyph_props = without_mark MULTIPLIED (without_mark LIGATED g.glyph_props);
-    }
+recovered-carried : (virama : Option GlyphId) (g : Glyph) → carried (recovered virama g) ≡ carried g
+recovered-carried = search arith
 
-recovered-carried : (virama : Option GlyphId) (g : hb_glyph_info_t) → carried (recovered virama g) ≡ carried g
-recovered-carried virama g =
-    search arith
-
-lost-plain : (virama : Option GlyphId) (g : hb_glyph_info_t) → is_lost_virama virama (plain g) ≡ is_lost_virama virama g
+lost-plain : (virama : Option GlyphId) (g : Glyph) → is_lost_virama virama (plain g) ≡ is_lost_virama virama g
 lost-plain None g = refl
 lost-plain (Some virama) g = refl
 
-recovered-plain : (virama : Option GlyphId) (g : hb_glyph_info_t)
-    → plain (recovered virama g) ≡ recovered virama (plain g)
-recovered-plain virama g =
-    search (arith, lost-plain)
+recovered-plain : (virama : Option GlyphId) (g : Glyph) → plain (recovered virama g) ≡ recovered virama (plain g)
+recovered-plain = search arith
 
 -- a syllable of the order view with its viramas
-recovered-stretch : (r : Rules) (s e : ℕ) (gs : List hb_glyph_info_t) → s ≤ e → e ≤ length gs
+recovered-stretch : (r : Rules) (s e : ℕ) (gs : Glyphs) → s ≤ e → e ≤ length gs
     → order_view (stretch_of s e (with_stretch s e (map (recovered r.virama)) gs))
     ≡ with_viramas r (stretch_of s e (order_view gs))
 recovered-stretch r s e gs h l =
@@ -105,11 +83,11 @@ recovered-stretch r s e gs h l =
     let parts = changed_parts s e (take s gs) (map (recovered r.virama) part) (drop e gs) (with_stretch s e (map
     (recovered r.virama)) gs) h (length-take-le s gs (omega arith)) (length-map part (recovered r.virama)
     ∙ length-take-le (e - s) (drop s gs) (omega (arith, length-drop s gs))) refl in
-    search (arith, parts.stretch, viramas_stay plain_view r part, map-stretch plain s e gs)
+    search (arith, viramas_stay plain_view r part, map-stretch plain s e gs)
 
 -- where the base settles
 pub settled_part : (r : Rules) (script : Option Script) (s e : ℕ) (b0 b1 b2 : Buffer)
-    → ((gs : List hb_glyph_info_t) → Viewed r script gs) → s ≤ e → e ≤ length b0.glyphs
+    → ((gs : Glyphs) → Viewed r script gs) → s ≤ e → e ≤ length b0.glyphs
     → b1 ≡ record b0 { glyphs = with_stretch s e (map (recovered r.virama)) b0.glyphs }
     → b2 ≡ record b1 { glyphs = with_stretch s e (settled r script) b1.glyphs }
     → SyllableReordered (λ gs. (based r script gs).glyphs) (λ _. []) s e b0 b2
@@ -119,25 +97,25 @@ settled_part r script s e b0 b1 b2 viewed h l one two =
     let k1 : but_places b1 ≡ record (but_places b0) { glyphs = b1.glyphs } = cc in
     let k2 : but_places b2 ≡ record (but_places b1) { glyphs = b2.glyphs } = cc in
     let n0 : length (with_viramas r
-    (stretch_of s e (order_view b0.glyphs))) ≡ e - s = search (arith, length-map, length-view) in
+    (stretch_of s e (order_view b0.glyphs))) ≡ e - s = search (length-map, length-view) in
     syllable_then (with_viramas r) (settled r script) (λ _. []) (λ _. []) s e b0 b1 b2 h l n0
-    (search (arith, syllable_mapped, recovered-carried, recovered-plain))
+    (search (syllable_mapped, recovered-carried, recovered-plain))
     (syllable_changed (settled r script) (settled r script) s e b1 b2 h k2 g2
     (hidden-based r script (stretch_of s e b1.glyphs)) (sym (viewed (stretch_of s e b1.glyphs)).glyphs))
 
 -- What the parts behind it make of a syllable with its base, by where the base stands before and
 -- after the reph, and by whether a pref glyph is tried.
-abbrev tried_order : Rules → Option Script → Bool → ℕ → List hb_glyph_info_t → List hb_glyph_info_t
+abbrev tried_order : Rules → Option Script → Bool → ℕ → Glyphs → Glyphs
 tried_order r script tries base gs = if tries then with_pref r.pref script base gs else gs
 
-abbrev tried_steps : Rules → Option Script → Bool → ℕ → List hb_glyph_info_t → List Step
+abbrev tried_steps : Rules → Option Script → Bool → ℕ → Glyphs → List Step
 tried_steps r script tries base gs = if tries then pref_steps r.pref script base gs else []
 
-abbrev placed_order : Rules → Option Script → Bool → ℕ → ℕ → List hb_glyph_info_t → List hb_glyph_info_t
+abbrev placed_order : Rules → Option Script → Bool → ℕ → ℕ → Glyphs → Glyphs
 placed_order r script tries base next gs =
     tried_order r script tries next (with_reph r.reph_pos base (with_matras script base gs))
 
-abbrev placed_steps : Rules → Option Script → Bool → ℕ → ℕ → List hb_glyph_info_t → List Step
+abbrev placed_steps : Rules → Option Script → Bool → ℕ → ℕ → Glyphs → List Step
 placed_steps r script tries base next gs =
     let ms = with_matras script base gs in
     matra_steps script base gs
@@ -174,12 +152,11 @@ pub record LastPart (r : Rules) (script : Option Script) (s e next : ℕ) (tries
       → SyllableReordered (tried_order r script tries next) (tried_steps r script tries next) s e b4 b5
 
 pub last_tried : (r : Rules) (script : Option Script) (s e next : ℕ) (tries : Bool) (b4 b5 : Buffer)
-    → ((gs : List hb_glyph_info_t) → Viewed r script gs) → s ≤ e → tries ≡ true
+    → ((gs : Glyphs) → Viewed r script gs) → s ≤ e → tries ≡ true
     → b5 ≡ record b4 {
       glyphs = run_steps b4.level
           (map (widened s e (length b4.glyphs)) (pref_steps r.pref script next (stretch_of s e b4.glyphs))) b4.glyphs;
-      places
-          = b5.places;
+      places = b5.places;
     } → LastPart r script s e next tries b4 b5
 last_tried r script s e next tries b4 b5 viewed h tried is =
     subst (λ t. LastPart r script s e next t b4 b5) (sym tried) (record {
@@ -190,12 +167,11 @@ last_tried r script s e next tries b4 b5 viewed h tried is =
 
 pub last_none : (r : Rules) (script : Option Script) (s e next : ℕ) (tries : Bool) (b4 : Buffer) → s ≤ e → tries ≡ false
     → LastPart r script s e next tries b4 b4
-last_none r script s e next tries b4 h none =
-    search (arith, syllable_still)
+last_none r script s e next tries b4 h none = search (arith, syllable_still)
 
 -- all of them
 pub final_syllable : (r : Rules) (script : Option Script) (s e base next : ℕ) (tries : Bool)
-    (b0 b1 b2 b3 b4 b5 : Buffer) → ((gs : List hb_glyph_info_t) → Viewed r script gs)
+    (b0 b1 b2 b3 b4 b5 : Buffer) → ((gs : Glyphs) → Viewed r script gs)
     → Calls r script s e base next tries b0 b1 b2 b3 b4 → LastPart r script s e next tries b4 b5
     → SyllableReordered (final_order r script) (final_steps r script) s e b0 b5
 final_syllable r script s e base next tries b0 b1 b2 b3 b4 b5 viewed c last =
@@ -209,23 +185,22 @@ final_syllable r script s e base next tries b0 b1 b2 b3 b4 b5 viewed c last =
     let kb : length B.glyphs ≡ e - s =
     search (arith, length-same, hidden-based, hidden-viramas) in
     let a2 = part_after (λ gs. (based r script gs).glyphs) (λ _. []) s e b0 b2 h l kb opening in
-    let l2 : e ≤ length b2.glyphs = omega (arith, a2.long) in
+    let l2 : e ≤ length b2.glyphs = omega arith in
     let x2 = stretch_of s e (order_view b2.glyphs) in
     let virama_view : (stretch_of s e (order_view b1.glyphs)) ≡ with_viramas r x0 =
-    cc (map-stretch plain s e b1.glyphs, c.viramas, recovered-stretch r s e b0.glyphs h l) in
+    cc (map-stretch plain s e b1.glyphs, recovered-stretch r s e b0.glyphs h l) in
     let same1 : with_final_base r script (order_view (stretch_of s e b1.glyphs)) ≡ B =
     cc (map-stretch plain s e b1.glyphs) in
-    let base_at : base ≡ B.base = cc (c.base_is, (viewed (stretch_of s e b1.glyphs)).base) in
+    let base_at : base ≡ B.base = cc ((viewed (stretch_of s e b1.glyphs)).base) in
     let tries_at : tries ≡ B.tries_pref = search arith in
-    let m_laws = matras_at script base x2 (search (arith, a2.syllable, base_within r script (with_viramas r x0))) in
+    let m_laws = matras_at script base x2 (search (arith, base_within r script (with_viramas r x0))) in
     let matras_done =
     part_by_steps (with_matras script base) (matra_steps script base) s e b2 b3 h l2 m_laws (
-    (viewed (stretch_of s e b2.glyphs)).by_matras base)
-    c.matras in
+    (viewed (stretch_of s e b2.glyphs)).by_matras base) c.matras in
     let k3 =
     length_at x2 (with_matras script base x2) (matra_steps script base x2) m_laws ∙ (length-view s e b2.glyphs l2) in
     let a3 = part_after (with_matras script base) (matra_steps script base) s e b2 b3 h l2 k3 matras_done in
-    let l3 : e ≤ length b3.glyphs = omega (arith, a3.long) in
+    let l3 : e ≤ length b3.glyphs = omega arith in
     let x3 = stretch_of s e (order_view b3.glyphs) in
     let v3 = viewed (stretch_of s e b3.glyphs) in
     let r_laws = reph_at r.reph_pos base x3 in

@@ -4,10 +4,10 @@ use Rattle.std.specs.Prelude.{All}
 use Rattle.std.specs.List.{AllZip, flat_map}
 use Rattle.std.specs.List.Sorted.{IsPermutation}
 use Rattle.std.proofs.lemmas.List.{append-nil, length-map, map-append}
-use Rattle.std.proofs.lemmas.List.Elements.{All-cons, All-head, All-map, All-nil, All-tail}
+use Rattle.std.proofs.lemmas.List.Elements.{All-head, All-map, All-tail}
 use Rattle.std.proofs.lemmas.List.Folds.{flat_map-map}
 use Rattle.std.proofs.lemmas.List.Sorted.{All-permutation, IsPermutation-map}
-use Rattle.shapers_buffer.specs.declared.buffer.glyph.hb_glyph_info_t.{hb_glyph_info_t}
+use Rattle.shapers_buffer.specs.Glyphs.{Glyph, Glyphs}
 use Rattle.shapers_buffer.specs.declared.buffer.level.BufferClusterLevel.{BufferClusterLevel}
 use Rattle.shapers_buffer.specs.declared.buffer.tag.Script.{Script}
 use Rattle.shapers_buffer.specs.Buffer.{Buffer}
@@ -37,25 +37,19 @@ use Rattle.shapers_syllabic.proofs.ReorderingLaws.{each_piece, nothing_lost, num
 use Rattle.shapers_syllabic.proofs.ReorderingWalk.{length-meaning, pieces_of}
 
 -- a reordering keeps the bytes of syllables
-bytes-seen : (gs : List hb_glyph_info_t) → map (λ (g : hb_glyph_info_t). g.syllable) (seen carried gs) ≡ map (λ g. g.syllable) gs
+bytes-seen : (gs : Glyphs) → map (λ (g : Glyph). g.syllable) (seen carried gs) ≡ map (λ g. g.syllable) gs
 bytes-seen [] = refl
 bytes-seen (g ∷ gs) = cc (bytes-seen gs)
 
-unmapped : (byte : ℕ) (gs : List hb_glyph_info_t) → All (λ b. b ≡ byte) (map (λ g. g.syllable) gs) → All (λ g. g.syllable ≡ byte) gs
-unmapped byte [] h = search (arith, All-nil)
-unmapped byte (g ∷ gs) h =
-    search (
-      arith,
-      All-cons,
-      All-head,
-      unmapped byte gs (All-tail (λ b. b ≡ byte) g.syllable (map (λ (x : hb_glyph_info_t). x.syllable) gs) h),
-    )
+unmapped : (byte : ℕ) (gs : Glyphs) → All (λ b. b ≡ byte) (map (λ g. g.syllable) gs) → All (λ g. g.syllable ≡ byte) gs
+unmapped byte [] h = search
+unmapped byte (g ∷ gs) h = search (arith, All-head, unmapped byte gs (All-tail (λ b. b ≡ byte) g.syllable (map (λ (x : Glyph). x.syllable) gs) h))
 
-pub kept_byte : (meaning : List hb_glyph_info_t → List hb_glyph_info_t) (steps : List hb_glyph_info_t → List Step) → ReorderLaws meaning steps
-    → (byte : ℕ) (gs : List hb_glyph_info_t) → OfByte byte gs → OfByte byte (meaning gs)
+pub kept_byte : (meaning : Glyphs → Glyphs) (steps : Glyphs → List Step) → ReorderLaws meaning steps
+    → (byte : ℕ) (gs : Glyphs) → OfByte byte gs → OfByte byte (meaning gs)
 kept_byte meaning steps laws byte gs u =
     let P : ℕ → Type 0 = λ b. b ≡ byte in
-    let read : hb_glyph_info_t → ℕ = λ g. g.syllable in
+    let read : Glyph → ℕ = λ g. g.syllable in
     let kept = subst (λ xs. IsPermutation (seen carried
     gs) (seen carried xs)) (ap (flat_map meaning) (one_run byte gs u) ∙ append-nil (meaning gs))
     (nothing_lost meaning steps laws gs).kept in
@@ -63,14 +57,10 @@ kept_byte meaning steps laws byte gs u =
     let after : All P (map read (seen carried (meaning gs))) = All-permutation P (map read (seen carried gs)) (map
     read (seen carried (meaning gs))) (IsPermutation-map read (seen carried gs) (seen carried (meaning gs)) kept)
     before in
-    search (
-      arith,
-      length-meaning meaning steps laws gs,
-      unmapped byte (meaning gs) (subst (All P) (bytes-seen (meaning gs)) after),
-    )
+    search (length-meaning meaning steps laws gs, unmapped byte (meaning gs) (subst (All P) (bytes-seen (meaning gs)) after))
 
 -- the whole text
-pub text_fits : (r : Rules) (script : Option Script) (level : BufferClusterLevel) (gs : List hb_glyph_info_t)
+pub text_fits : (r : Rules) (script : Option Script) (level : BufferClusterLevel) (gs : Glyphs)
     → FitSteps (length gs) (final_text_steps r script gs)
 text_fits r script level gs =
     let xs = order_view gs in
@@ -79,7 +69,7 @@ text_fits r script level gs =
     let along = along_holds level ps gs
     (omega (arith, sum-syllables steps xs, length-map gs plain)) (each_piece FitsStep steps
     (final_laws r script).fits (syllables xs)) in
-    search (arith, text_steps-long steps gs, along.fit)
+    search (text_steps-long steps gs)
 
 -- What the pause comes to: the order view, what is carried along, and clusters.
 pub record Finished (r : Rules) (old mid new : Buffer) : Type 0 where
@@ -99,60 +89,55 @@ finished r old new done =
     let laws = final_laws r old.script in
     let xs = order_view old.glyphs in
     let ps : syllables (order_view mid.glyphs) ≡ final_syllables r old.script xs =
-    cc (done.1.order, syllables-mapped f (kept_byte f steps laws) xs) in
+    cc (syllables-mapped f (kept_byte f steps laws) xs) in
     let bound = bound_from 0 None (final_syllables r old.script xs) mid.glyphs in
     let flags : map carried new.glyphs ≡ map carried bound = search arith in
-    let stay = sym (clusters-carried new.glyphs) ∙ ap clusters flags
-    ∙ clusters-carried bound
+    let stay = sym (clusters-carried new.glyphs) ∙ ap clusters flags ∙ clusters-carried bound
     ∙ map-bound_from (λ g. g.cluster) (λ g. refl) 0 None (final_syllables r old.script xs) mid.glyphs in
     let text = text_reordered f steps old mid laws done.1 in
     record {
       order = done.2.order ∙ ap (with_inits r.init None) ps;
       flags = flags;
       seen_same = seen-same carried new.glyphs bound flags ∙ map-bound_from (λ g. plain (carried g))
-          (search arith) 0 None
-          (final_syllables r old.script xs) mid.glyphs;
+          (search arith) 0 None (final_syllables r old.script xs) mid.glyphs;
       clusters_same = stay;
       text = text;
       clusters_are = stay ∙ text.glyphs.clusters_are;
     }
 
-pub none_higher : (xs ys : List hb_glyph_info_t) → AllZip FlagsFall xs ys
-    → AllZip (λ a b. b ≤ a) (clusters xs) (clusters ys)
+pub none_higher : (xs ys : Glyphs) → AllZip FlagsFall xs ys → AllZip (λ a b. b ≤ a) (clusters xs) (clusters ys)
 none_higher [] [] h = tt
-none_higher [] (y ∷ ys) h = absurd h
-none_higher (x ∷ xs) [] h = absurd h
 none_higher (x ∷ xs) (y ∷ ys) h = (h.0.at_most, none_higher xs ys h.1)
+none_higher _ _ h = absurd h
 
 -- a text behind another
-pub last_or-append : (before : Option hb_glyph_info_t) (xs ys : List hb_glyph_info_t)
+pub last_or-append : (before : Option Glyph) (xs ys : Glyphs)
     → last_or before (xs ++ ys) ≡ last_or (last_or before xs) ys
 last_or-append before [] ys = refl
 last_or-append before (x ∷ xs) ys = last_or-append (Some x) xs ys
 
-pub inits-append : (bits : ℕ) (f : List hb_glyph_info_t → List hb_glyph_info_t) (before : Option hb_glyph_info_t)
-    (ps qs : List (List hb_glyph_info_t)) → with_inits bits before (map f (ps ++ qs))
+pub inits-append : (bits : ℕ) (f : Glyphs → Glyphs) (before : Option Glyph)
+    (ps qs : List Glyphs) → with_inits bits before (map f (ps ++ qs))
     ≡ with_inits bits before (map f ps) ++ with_inits bits (last_or before (flat_map f ps)) (map f qs)
 inits-append bits f before [] qs = refl
 inits-append bits f before (p ∷ ps) qs =
-    search (arith, append_assoc, last_or-append, inits-append bits f (last_or before (f p)) ps qs)
+    search (append_assoc, last_or-append, inits-append bits f (last_or before (f p)) ps qs)
 
-pub text-append : (r : Rules) (script : Option Script) (gs hs : List hb_glyph_info_t) → MeetAtBorder gs hs
+pub text-append : (r : Rules) (script : Option Script) (gs hs : Glyphs) → MeetAtBorder gs hs
     → final_text r script (gs ++ hs) ≡ final_text r script gs
     ++ final_text_behind r script (last_or None (text_order (final_order r script) gs)) hs
-text-append r script gs hs border =
-    search (arith, syllables-append, inits-append, None)
+text-append = search (syllables-append, inits-append)
 
 -- a glyph before it counts for the bits of init of the first glyph alone
-bits_twice : (bits : ℕ) (g : hb_glyph_info_t) → with_bits bits (with_bits bits g) ≡ with_bits bits g
-bits_twice bits g = search (arith, or_twice)
+bits_twice : (bits : ℕ) (g : Glyph) → with_bits bits (with_bits bits g) ≡ with_bits bits g
+bits_twice = search or_twice
 
-pub but_first : (bits : ℕ) (one two : Option hb_glyph_info_t) (ps : List (List hb_glyph_info_t))
+pub but_first : (bits : ℕ) (one two : Option Glyph) (ps : List Glyphs)
     → SameButFirstBits bits (with_inits bits one ps) (with_inits bits two ps)
 but_first bits one two [] = refl
 but_first bits one two ([] ∷ ps) = but_first bits one two ps
 but_first bits one two ((g ∷ gs) ∷ ps) =
-    let F : Bool → List hb_glyph_info_t = λ b. (if b then with_bits bits g ∷ gs else g ∷ gs)
+    let F : Bool → Glyphs = λ b. (if b then with_bits bits g ∷ gs else g ∷ gs)
     ++ with_inits bits (last_or (Some g) gs) ps in
     let given : (b : Bool) → with_first_bits bits (F b) ≡ with_bits bits g ∷
     (gs ++ with_inits bits (last_or (Some g) gs) ps) =
@@ -160,32 +145,29 @@ but_first bits one two ((g ∷ gs) ∷ ps) =
     search arith
 
 -- with the bits of init on all glyphs, it is the text order
-bits_init : (bits : ℕ) (before : Option hb_glyph_info_t) (gs : List hb_glyph_info_t)
+bits_init : (bits : ℕ) (before : Option Glyph) (gs : Glyphs)
     → map (with_bits bits) (with_init bits before gs) ≡ map (with_bits bits) gs
 bits_init bits before [] = refl
-bits_init bits before (g ∷ gs) =
-    search (arith, bits_twice)
+bits_init bits before (g ∷ gs) = search (arith, bits_twice)
 
-bits_inits : (bits : ℕ) (before : Option hb_glyph_info_t) (ps : List (List hb_glyph_info_t))
+bits_inits : (bits : ℕ) (before : Option Glyph) (ps : List Glyphs)
     → map (with_bits bits) (with_inits bits before ps) ≡ map (with_bits bits) (flat_map (λ p. p) ps)
 bits_inits bits before [] = refl
-bits_inits bits before (p ∷ ps) =
-    search (arith, map-append, bits_init, bits_inits bits (last_or before p) ps)
+bits_inits bits before (p ∷ ps) = search (map-append, bits_init, bits_inits bits (last_or before p) ps)
 
-pub bits_text : (r : Rules) (script : Option Script) (before : Option hb_glyph_info_t) (gs : List hb_glyph_info_t)
+pub bits_text : (r : Rules) (script : Option Script) (before : Option Glyph) (gs : Glyphs)
     → map (with_bits r.init) (final_text_behind r script before gs)
     ≡ map (with_bits r.init) (text_order (final_order r script) gs)
-bits_text r script before gs =
-    search (arith, bits_inits, flat_map-map)
+bits_text = search (bits_inits, flat_map-map)
 
-pub halves : (r : Rules) (script : Option Script) (level : BufferClusterLevel) (all new gs hs : List hb_glyph_info_t)
+pub halves : (r : Rules) (script : Option Script) (level : BufferClusterLevel) (all new gs hs : Glyphs)
     → order_view new ≡ final_text r script (order_view all) → clusters new ≡ final_clusters r script level all
     → all ≡ gs ++ hs → MeetAtBorder gs hs → FinallyOfHalves r script level gs hs new
 halves r script level all new gs hs order in_clusters is border =
     let both = gs ++ hs in
     record {
       order = search (arith, map-append, text-append, border-view);
-      alone = search (arith, but_first, None);
+      alone = search but_first;
       in_clusters = λ none.
           cc (
             clusters-run_steps level (final_text_steps r script both) both,
@@ -208,4 +190,4 @@ reordered_by_chain r old mid =
     (λ _. numbers_kept f steps (final_laws r old.script)) (λ s e b c done. done)
 
 pub reordered_by_links : (r : Rules) (old new : Buffer) → FinallyLinked r old new → FinallyReordered r old new
-reordered_by_links r old new linked = search (arith, reordered_by_chain)
+reordered_by_links = search (arith, reordered_by_chain)

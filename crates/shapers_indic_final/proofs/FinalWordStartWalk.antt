@@ -1,20 +1,20 @@
 -- The pass that opens syllable by syllable: what it still has to do.
 use Rattle.shapers_clusters.proofs.FlagCalls.{flags-or}
-use Rattle.std.proofs.Common.{inl, inr, ◌==◌, ◌||◌, not, Bool, true, false, ℕ, suc, ◌+◌, ◌-◌, ◌%◌, ◌<◌, ◌≤◌, ◌≡◌, List, [], ◌∷◌, ◌++◌, map, length, take, drop, get_or, None, refl, sym, take-append-drop, ◌∙◌, ap, arith, append-nil, append_assoc, length-append, length-take-le, length-drop}
+use Rattle.std.proofs.Common.{inl, inr, ◌==◌, ◌||◌, Bool, true, false, ℕ, suc, ◌+◌, ◌-◌, ◌%◌, ◌<◌, ◌≤◌, ◌≡◌, List, [], ◌∷◌, ◌++◌, map, length, take, drop, get_or, None, refl, sym, take-append-drop, ◌∙◌, ap, arith, append-nil, append_assoc, length-append, length-take-le, length-drop}
 use Rattle.std.specs.List.{prefix_len}
-use Rattle.std.proofs.lemmas.Bool.{eq-eqb, eqb-true}
+use Rattle.std.proofs.lemmas.Bool.{eqb-true}
 use Rattle.std.proofs.Math.Nat.{eq-or-lt_of_le}
 use Rattle.std.proofs.lemmas.List.Sums.{prefix_len_passes, prefix_len_stops}
 use Rattle.std.proofs.lemmas.List.{get_or-drop, get_or-map}
 use Rattle.std.proofs.lemmas.List.{drop-drop, drop-map, drop_all, drop_at, drop_more, length-map, map-append, take-map, take_all, take_at}
 use Rattle.std.proofs.Math.Seq.{take-add}
-use Rattle.shapers_buffer.specs.declared.buffer.glyph.hb_glyph_info_t.{hb_glyph_info_t}
+use Rattle.shapers_buffer.specs.Glyphs.{Glyph, Glyphs}
 use Rattle.shapers_buffer.specs.Buffer.{Buffer}
 use Rattle.shapers_buffer.specs.Glyph.{default_glyph, order_view, plain}
 use Rattle.shapers_buffer.specs.Syllables.{first_syllable_len, has_byte, syllables}
 use Rattle.shapers_indic_final.specs.FinalWordStart.{WordsOpened, before_place, bound_at, bound_from, is_bound, last_or, opened, starts_syllable, with_init, with_inits}
 use Rattle.shapers_indic_final.proofs.FinalText.{last_or-append}
-use Rattle.shapers_indic_final.proofs.FinalWordStartViews.{map-init, bound-long, bound-plain, bound-view, bound-word, carried-bound, carried-bound_from, general, general-view, map-opened, init-long, init-plain, init-word, length-init, same_word}
+use Rattle.shapers_indic_final.proofs.FinalWordStartViews.{bound-long, bound-plain, bound-view, bound-word, carried-bound, carried-bound_from, general, general-view, map-opened, init-long, init-plain, init-word, length-init, same_word}
 use Rattle.shapers_syllabic.specs.Reordering.{carried}
 use Rattle.shapers_syllabic.proofs.LinkedSyllables.{next_syllable}
 
@@ -31,7 +31,7 @@ pub record ToOpen (bits : ℕ) (old now : Buffer) (start : ℕ) : Type 0 where
       (syllables (drop start (order_view old.glyphs))) now.glyphs)
       ≡ map carried (bound_from 0 None (syllables (order_view old.glyphs)) old.glyphs)
 
-first_some : (gs : List hb_glyph_info_t) → 0 < length gs → 0 < first_syllable_len gs
+first_some : (gs : Glyphs) → 0 < length gs → 0 < first_syllable_len gs
 first_some [] some = absurd (omega arith)
 first_some (g ∷ gs) some = omega arith
 
@@ -58,18 +58,16 @@ opened_next bits old now new start end off to some end_is opens_it =
     let fn : length front ≡ start = length-take-le start vs (omega arith) in
     let end_at = next.end_is in
     let one = first_some (drop start gs) (omega (arith, length-drop start gs)) in
-    let syl_some : 0 < length syl = omega (arith, next.count) in
+    let syl_some : 0 < length syl = omega arith in
     let here = sym (drop-map plain start gs) ∙ (sym (take-append-drop k rest)) in
     let bn = before_place start gs in
     let bx = before_place start xs in
-    let word = same_word start gs xs
-    (to.words ∙ sym (general-view old.glyphs)) in
+    let word = same_word start gs xs (to.words ∙ sym (general-view old.glyphs)) in
     let bound : is_bound bn (drop start gs) ≡ is_bound bx syl = sym (bound-plain bn (drop start gs))
     ∙ ap (is_bound bn) here ∙ bound-long bn syl back syl_some ∙ bound-word bn bx syl word in
     let B = is_bound bx syl in
     let inited = take start gs ++ with_init bits bn (drop start gs) in
-    let glyphs = ap (λ (b : Buffer). b.glyphs) opens_it
-    ∙ ap (λ c. bound_at start c inited) bound in
+    let glyphs = ap (λ (b : Buffer). b.glyphs) opens_it ∙ ap (λ c. bound_at start c inited) bound in
     let opening = with_init bits bx syl in
     let view =
     ap order_view glyphs ∙ bound-view start B inited
@@ -79,23 +77,21 @@ opened_next bits old now new start end off to some end_is opens_it =
     ∙ init-long bits bn syl back syl_some ∙ ap (λ ys. ys ++ back) (init-word bits bn bx syl word))
     ∙ sym (append_assoc front opening back) in
     let both : length (front ++ opening) ≡ end =
-    length-append front opening ∙ omega (arith, length-init bits bx syl, next.count) in
+    length-append front opening ∙ omega (arith, length-init bits bx syl) in
     let same : length new.glyphs ≡ length gs = sym (length-map new.glyphs plain) ∙ ap length view
     ∙ length-append (front ++ opening) back ∙ omega (arith, length-drop k rest) in
     let old_rest = sym to.behind in
-    let old_back = ap (λ j. drop j xs) (end_at ∙ omega arith) ∙ sym (drop-drop k start xs)
-    ∙ ap (drop k) old_rest in
+    let old_back = ap (λ j. drop j xs) (end_at ∙ omega arith) ∙ sym (drop-drop k start xs) ∙ ap (drop k) old_rest in
     let before = ap (last_or None) (ap (λ j. take j xs) end_at
     ∙ take-add start k xs ∙ ap (λ ys. take start xs ++ take k ys) old_rest) ∙ last_or-append None (take start xs) syl in
     let cut = ap syllables old_rest ∙ next.cut in
-    let F : ℕ → List (List hb_glyph_info_t) → List hb_glyph_info_t → List hb_glyph_info_t =
+    let F : ℕ → List Glyphs → Glyphs → Glyphs =
     λ j syls ys. map carried (bound_from j (last_or bx syl) syls ys) in
     record {
       same_length = same;
       to = record {
         others = opens_it ∙ ap (λ (b : Buffer). record b { glyphs = opened bits start gs }) to.others
-            ∙ sym (ap (λ (zs : List hb_glyph_info_t). (record old { glyphs = zs }))
-            (ap (λ (b : Buffer). b.glyphs) opens_it));
+            ∙ sym (ap (λ (zs : Glyphs). (record old { glyphs = zs })) (ap (λ (b : Buffer). b.glyphs) opens_it));
         inside = omega arith;
         words = ap (map general) (ap (λ (b : Buffer). b.glyphs) opens_it)
             ∙ map-opened general bits start (λ g. refl) (λ g. refl) gs ∙ to.words;
@@ -106,20 +102,14 @@ opened_next bits old now new start end off to some end_is opens_it =
             ∙ ap (λ ys. (front ++ opening) ++ with_inits bits (before_place end xs) (syllables ys)) old_back
             ∙ ap (λ b. (front ++ opening) ++ with_inits bits b (syllables back)) before
             ∙ append_assoc front opening (with_inits bits (last_or bx syl) (syllables back))
-            ∙ sym (ap (λ ps. front ++ with_inits bits bx ps) cut)
-            ∙ to.order;
+            ∙ sym (ap (λ ps. front ++ with_inits bits bx ps) cut) ∙ to.order;
         flags =
             ap (λ ys. map carried (bound_from end (before_place end xs) (syllables ys) new.glyphs)) old_back
             ∙ ap (λ b. map carried (bound_from end b (syllables back) new.glyphs)) before
             ∙ carried-bound_from end (last_or bx syl) (syllables back) new.glyphs (bound_at start B gs)
             (ap (map carried) glyphs ∙ carried-bound start B inited gs (map-append carried (take start gs) (with_init
-            bits bn (drop start gs)) ∙ ap (λ ys. map carried (take start gs) ++ ys) (search (
-              arith,
-              map-init,
-              flags-or,
-            )) ∙ sym (map-append carried (take start gs) (drop start gs)) ∙ ap (map carried)
-            (take-append-drop start gs)))
-            ∙ sym (ap (λ j. F j (syllables back) (bound_at start B gs)) (omega (arith, next.count)))
+            bits bn (drop start gs)) ∙ ap (λ ys. map carried (take start gs) ++ ys) (search (arith, flags-or)) ∙ sym (map-append carried (take start gs) (drop start gs)) ∙ ap (map carried)
+            (take-append-drop start gs))) ∙ sym (ap (λ j. F j (syllables back) (bound_at start B gs)) (omega arith))
             ∙ sym (ap (λ ps. map carried (bound_from start bx ps gs)) cut) ∙ to.flags;
       };
     }
@@ -132,11 +122,11 @@ pub record Opening (bits : ℕ) (old now : Buffer) (place : ℕ) : Type 0 where
   pub none_before : (k : ℕ) → place ≤ k → k < border → starts_syllable k now.glyphs ≡ false
   pub starts : border < length now.glyphs → starts_syllable border now.glyphs ≡ true
 
-byte : hb_glyph_info_t → ℕ
+byte : Glyph → ℕ
 byte g = g.syllable
 
 -- the bytes of a syllable, and the one behind it
-run_byte : (gs : List hb_glyph_info_t) (i j : ℕ) → i < length gs → i ≤ j → j < i + first_syllable_len (drop i gs)
+run_byte : (gs : Glyphs) (i j : ℕ) → i < length gs → i ≤ j → j < i + first_syllable_len (drop i gs)
     → (get_or gs j default_glyph).syllable ≡ (get_or gs i default_glyph).syllable
 run_byte gs i j l low high =
     let x = get_or gs i default_glyph in
@@ -156,15 +146,13 @@ run_byte gs i j l low high =
     ]
 
 behind_first : (k : ℕ) (b : Bool) → 0 < k → (k == 0 || b) ≡ b
-behind_first k b some = search arith
+behind_first = search arith
 
-starts_not : (k : ℕ) (gs : List hb_glyph_info_t) → 0 < k
-    → (get_or gs k default_glyph).syllable ≡ (get_or gs (k - 1) default_glyph).syllable
-    → starts_syllable k gs ≡ false
-starts_not k gs some same =
-    search (arith, behind_first, eq-eqb)
+starts_not : (k : ℕ) (gs : Glyphs) → 0 < k
+    → (get_or gs k default_glyph).syllable ≡ (get_or gs (k - 1) default_glyph).syllable → starts_syllable k gs ≡ false
+starts_not = search arith
 
-starts_behind : (gs : List hb_glyph_info_t) (i e : ℕ) → i < e → e ≡ i + first_syllable_len (drop i gs) → e < length gs
+starts_behind : (gs : Glyphs) (i e : ℕ) → i < e → e ≡ i + first_syllable_len (drop i gs) → e < length gs
     → starts_syllable e gs ≡ true
 starts_behind gs i e l is more =
     let x = get_or gs i default_glyph in
@@ -172,16 +160,10 @@ starts_behind gs i e l is more =
     let first : first_syllable_len (drop i gs) ≡ suc (prefix_len (has_byte x.syllable) rest) =
     search (arith, drop_more) in
     let other = prefix_len_stops (has_byte x.syllable) rest default_glyph (omega (arith, length-drop (i + 1) gs)) in
-    search (
-      arith,
-      behind_first e (not ((get_or gs e default_glyph).syllable == (get_or gs (e - 1) default_glyph).syllable))
-          (omega arith),
-      run_byte gs i (e - 1) (omega arith) (omega arith) (omega arith),
-      get_or-drop (i + 1) gs (prefix_len (has_byte x.syllable) rest) default_glyph,
-    )
+    search (arith, run_byte gs i (e - 1) (omega arith) (omega arith) (omega arith), get_or-drop (i + 1) gs (prefix_len (has_byte x.syllable) rest) default_glyph)
 
 -- opening keeps where syllables start
-starts-same : (k : ℕ) (gs hs : List hb_glyph_info_t) → map byte hs ≡ map byte gs → k < length gs
+starts-same : (k : ℕ) (gs hs : Glyphs) → map byte hs ≡ map byte gs → k < length gs
     → length hs ≡ length gs → starts_syllable k hs ≡ starts_syllable k gs
 unfolding byte
 starts-same k gs hs same l long =
@@ -217,11 +199,10 @@ opening_starts bits old now new i off l here opens_it at =
 
 -- at the end all are open
 pub all_opened : (bits : ℕ) (old now : Buffer) → ToOpen bits old now (length now.glyphs) → WordsOpened bits old now
-all_opened bits old now to =
-    search (arith, append-nil, take_all, length-map, drop_all)
+all_opened = search (arith, append-nil, take_all, length-map, drop_all)
 
 pub as_long : (bits : ℕ) (old now : Buffer) (i : ℕ) → Opening bits old now i → length now.glyphs ≡ length old.glyphs
-as_long bits old now i at = search (arith, length-map)
+as_long = search (arith, length-map)
 
 pub opened_whole : (bits : ℕ) (old now : Buffer) (i : ℕ) → length old.glyphs ≤ i → Opening bits old now i
     → WordsOpened bits old now

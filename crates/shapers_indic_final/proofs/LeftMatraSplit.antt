@@ -1,10 +1,9 @@
 -- The glyphs as they stand when a left matra is met, in parts: what stands before it, and what from it to its place.
-use Rattle.std.proofs.Common.{◌≡◌, ◌≢◌, ℕ, zero, suc, ◌+◌, ◌-◌, ◌<◌, ◌≤◌, inl, inr, Bool, true, false, not, nat_le, nat_lt, List, ◌∷◌, ◌++◌, map, length, get_or, slice_index, refl, ap, ◌∙◌, append_assoc, arith, length-append, if◌then◌else◌}
+use Rattle.std.proofs.Common.{◌≡◌, ◌≢◌, ℕ, zero, suc, ◌+◌, ◌-◌, ◌<◌, ◌≤◌, inl, inr, Bool, true, false, not, nat_le, nat_lt, ◌∷◌, ◌++◌, map, length, get_or, slice_index, refl, ap, ◌∙◌, append_assoc, arith, length-append, if◌then◌else◌}
 use Rattle.std.proofs.lemmas.List.{length-map, map-append}
 use Rattle.std.proofs.lemmas.List.Folds.{list_all-append}
 use Rattle.std.proofs.lemmas.Bool.{and_parts, cases_lt, leb-true}
-use Rattle.std.proofs.lemmas.Bool.Decides.{nat_tests}
-use Rattle.shapers_buffer.specs.declared.buffer.glyph.hb_glyph_info_t.{hb_glyph_info_t}
+use Rattle.shapers_buffer.specs.Glyphs.{Glyph, Glyphs}
 use Rattle.shapers_buffer.specs.declared.buffer.level.BufferClusterLevel.{BufferClusterLevel}
 use Rattle.shapers_buffer.specs.Glyph.{clusters, default_glyph}
 use Rattle.shapers_buffer.specs.Clusters.{in_cluster, merges}
@@ -18,35 +17,32 @@ use Rattle.shapers_indic_final.proofs.LeftMatraFloods.{cluster_read}
 use Rattle.shapers_indic_final.proofs.LeftMatraPlaces.{chosen, chosen-all, chosen-none, chosen-one, chosen-same, chosen-split, gone_before, gone_elsewhere, gone_here, one_before}
 
 -- glyphs put into a cluster
-pub put_on : (level : BufferClusterLevel) (m : ℕ) (gs : List hb_glyph_info_t) → merges level ≡ true
+pub put_on : (level : BufferClusterLevel) (m : ℕ) (gs : Glyphs) → merges level ≡ true
     → put level m gs ≡ map (in_cluster m) gs
 put_on level m gs on = cc
 
-pub put_off : (level : BufferClusterLevel) (m : ℕ) (gs : List hb_glyph_info_t) → merges level ≡ false
-    → put level m gs ≡ gs
+pub put_off : (level : BufferClusterLevel) (m : ℕ) (gs : Glyphs) → merges level ≡ false → put level m gs ≡ gs
 put_off level m gs off = cc
 
-pub put-append : (level : BufferClusterLevel) (m : ℕ) (xs ys : List hb_glyph_info_t)
+pub put-append : (level : BufferClusterLevel) (m : ℕ) (xs ys : Glyphs)
     → put level m (xs ++ ys) ≡ put level m xs ++ put level m ys
-put-append level m xs ys =
-    search (arith, map-append)
+put-append = search (arith, map-append)
 
-pub length-put : (level : BufferClusterLevel) (m : ℕ) (gs : List hb_glyph_info_t) → length (put level m gs) ≡ length gs
-length-put level m gs = search (arith, length-map)
+pub length-put : (level : BufferClusterLevel) (m : ℕ) (gs : Glyphs) → length (put level m gs) ≡ length gs
+length-put = search (arith, length-map)
 
-abbrev pub put_one : BufferClusterLevel → ℕ → hb_glyph_info_t → hb_glyph_info_t
+abbrev pub put_one : BufferClusterLevel → ℕ → Glyph → Glyph
 put_one level m g = if merges level then in_cluster m g else g
 
-put-cons : (level : BufferClusterLevel) (m : ℕ) (g : hb_glyph_info_t) (gs : List hb_glyph_info_t)
+put-cons : (level : BufferClusterLevel) (m : ℕ) (g : Glyph) (gs : Glyphs)
     → put level m (g ∷ gs) ≡ put_one level m g ∷ put level m gs
-put-cons level m g gs =
-    search arith
+put-cons = search arith
 
-cluster_put : (m : ℕ) (g : hb_glyph_info_t) → (in_cluster m g).cluster ≡ m
-cluster_put m g = grind (arith, nat_tests)
+cluster_put : (m : ℕ) (g : Glyph) → (in_cluster m g).cluster ≡ m
+cluster_put = grind arith
 
 -- all that has gone, and one more
-pub gone_more : (k top p : ℕ) (gs : List hb_glyph_info_t) → k < top → top ≤ p → p ≤ length gs
+pub gone_more : (k top p : ℕ) (gs : Glyphs) → k < top → top ≤ p → p ≤ length gs
     → passes is_left gs k ≡ true → gone k top gs 0 p ≡ get_or gs k default_glyph ∷ gone (k + 1) top gs 0 p
 gone_more k top p gs h l w left =
     let v = has_gone (k + 1) top gs in
@@ -61,7 +57,7 @@ gone_more k top p gs h l w left =
     )
 
 -- how many stay and go
-pub both_long : (t : ℕ → Bool) (gs : List hb_glyph_info_t) (b : ℕ) → b ≤ length gs
+pub both_long : (t : ℕ → Bool) (gs : Glyphs) (b : ℕ) → b ≤ length gs
     → length (chosen t gs 0 b) + length (chosen (λ j. not (t j)) gs 0 b) ≡ b
 both_long t gs zero w = refl
 both_long t gs (suc b) w =
@@ -77,10 +73,10 @@ both_long t gs (suc b) w =
       both_long t gs b (omega arith),
     )
 
-pub record Split (level : BufferClusterLevel) (k top p q c : ℕ) (gs : List hb_glyph_info_t) : Type 0 where
-  pub front : List hb_glyph_info_t
-  pub back : List hb_glyph_info_t
-  pub y : hb_glyph_info_t
+pub record Split (level : BufferClusterLevel) (k top p q c : ℕ) (gs : Glyphs) : Type 0 where
+  pub front : Glyphs
+  pub back : Glyphs
+  pub y : Glyph
   pub before : staying (k + 1) top gs 0 q ++ put level c (staying (k + 1) top gs q p) ≡ front ++ (y ∷ back)
   pub after : staying k top gs 0 q ++ put level c (staying k top gs q p) ≡ front ++ back
   pub long : length front ≡ k
@@ -90,7 +86,7 @@ pub record Split (level : BufferClusterLevel) (k top p q c : ℕ) (gs : List hb_
   pub plain : merges level ≡ false → y ≡ get_or gs k default_glyph
   pub kept : merges level ≡ true → none_below c (staying k top gs q p) ≡ true
 
-pub split : (level : BufferClusterLevel) (k top p q c : ℕ) (gs : List hb_glyph_info_t) → k < top → top ≤ p
+pub split : (level : BufferClusterLevel) (k top p q c : ℕ) (gs : Glyphs) → k < top → top ≤ p
     → p ≤ length gs → q ≤ p → passes is_left gs k ≡ true
     → (merges level ≡ true → none_below c (staying (k + 1) top gs q p) ≡ true) → Split level k top p q c gs
 split level k top p q c gs h l w within left none =
@@ -109,8 +105,7 @@ split level k top p q c gs h l w within left none =
       same (k + 1) b (λ j x z e. absurd (omega arith)),
     ) in
     let new : (a b : ℕ) → a ≤ k → k < b → staying k top gs a b ≡ staying k top gs a k ++ staying k top gs (k + 1) b =
-    λ a b m n.
-    cc (one_before u gs a k b m n (omega arith)) in
+    λ a b m n. cc (one_before u gs a k b m n (omega arith)) in
     let many : (a b : ℕ) → a ≤ b → b ≤ k → length (staying k top gs a b) ≡ b - a =
     search (arith, chosen-all, gone_before, length-stretch) in
     elim (cases_lt k q) [
@@ -165,7 +160,7 @@ split level k top p q c gs h l w within left none =
                 );
             own = search (arith, cluster_put);
             same = λ on m z. ap (in_cluster m) (is on)
-                ∙ put_twice m c g (omega (arith, ap (λ (x : hb_glyph_info_t). x.cluster) (is on) ∙ cluster_put c g, z))
+                ∙ put_twice m c g (omega (arith, ap (λ (x : Glyph). x.cluster) (is on) ∙ cluster_put c g, z))
                 (high on);
             above = search (arith, cluster_put);
             plain = search arith;

@@ -1,10 +1,10 @@
 -- The walk over the left matras of a syllable, step by step.
 use Rattle.shapers_buffer.proofs.MappedLists.{enumerate-append}
-use Rattle.std.proofs.Common.{◌≡◌, ℕ, ◌+◌, ◌-◌, ◌<◌, ◌≤◌, true, false, not, List, [], ◌∷◌, ◌++◌, map, filter, length, take, drop, get_or, reverse, refl, sym, ap, subst, ◌∙◌, arith, length-append, eq-eqb}
+use Rattle.std.proofs.Common.{◌≡◌, ℕ, ◌+◌, ◌-◌, ◌<◌, ◌≤◌, true, false, not, [], ◌∷◌, ◌++◌, map, filter, length, take, drop, get_or, reverse, sym, ap, subst, ◌∙◌, arith, length-append}
 use Rattle.std.specs.List.{list_all}
 use Rattle.std.proofs.lemmas.List.{map-append}
 use Rattle.std.proofs.lemmas.List.Sums.{fold-append}
-use Rattle.shapers_buffer.specs.declared.buffer.glyph.hb_glyph_info_t.{hb_glyph_info_t}
+use Rattle.shapers_buffer.specs.Glyphs.{Glyph, Glyphs}
 use Rattle.shapers_buffer.specs.declared.buffer.level.BufferClusterLevel.{BufferClusterLevel}
 use Rattle.shapers_buffer.specs.Lists.{first_last}
 use Rattle.shapers_buffer.specs.Glyph.{default_glyph}
@@ -20,13 +20,13 @@ use Rattle.shapers_indic_final.specs.LeftMatraWalk.{Merged, as_parted, gone, has
 use Rattle.shapers_indic_final.proofs.FinalPlacing.{lefts_from, lefts_no, lefts_yes, numbered_steps}
 use Rattle.shapers_indic_final.specs.Proved.FinalSteps.{matra_stepped}
 use Rattle.shapers_buffer.proofs.RunLemmas.{none_of_cluster}
-use Rattle.shapers_indic_final.proofs.LeftMatraPlaces.{chosen-all, chosen-none, chosen-one, chosen-same, chosen-split, gone_before, gone_behind, gone_same}
-use Rattle.shapers_indic_final.proofs.LeftMatraSplit.{gone_more, put_off, put_on}
+use Rattle.shapers_indic_final.proofs.LeftMatraPlaces.{chosen-all, chosen-none, chosen-one, chosen-same, chosen-split, gone_same}
+use Rattle.shapers_indic_final.proofs.LeftMatraSplit.{gone_more}
 use Rattle.shapers_indic_final.proofs.LeftMatraSteps.{Fits, Lies, length-parted, one_more}
 use Rattle.shapers_indic.proofs.PlaceSearch.{passes_there, places_none}
 
 -- The left matras from place i to top have gone, and the next one goes to the target.
-pub record Walked (level : BufferClusterLevel) (e s i top p b : ℕ) (runs : Runs) (gs : List hb_glyph_info_t) : Type
+pub record Walked (level : BufferClusterLevel) (e s i top p b : ℕ) (runs : Runs) (gs : Glyphs) : Type
     0 where
   pub target : ℕ
   pub parted : as_parted level (s + i) (s + top) (s + p) runs gs
@@ -37,24 +37,24 @@ pub record Walked (level : BufferClusterLevel) (e s i top p b : ℕ) (runs : Run
   pub count : s + target + 1 + length (gone (s + i) (s + top) gs 0 (s + p)) ≡ s + p
   pub fits : merges level ≡ true → Fits (s + i) (s + top) (s + p) runs gs
 
-pub record Walk (s i top p b : ℕ) (runs : Runs) (gs : List hb_glyph_info_t) : Type 0 where
+pub record Walk (s i top p b : ℕ) (runs : Runs) (gs : Glyphs) : Type 0 where
   pub lies : Lies (s + p) (s + b) runs gs
   pub walked : (level : BufferClusterLevel) (e : ℕ) → s + b ≤ e → e ≤ length gs
       → (merges level ≡ true → in_one_cluster (stretch_of (s + p) (s + b) gs) ≡ true)
       → Walked level e s i top p b runs gs
 
-none_gone : (top j : ℕ) (gs : List hb_glyph_info_t) → has_gone top top gs j ≡ false
-none_gone top j gs = search (arith, gone_before, gone_behind)
+none_gone : (top j : ℕ) (gs : Glyphs) → has_gone top top gs j ≡ false
+none_gone = search arith
 
-own_stays : (level : BufferClusterLevel) (m : ℕ) (gs : List hb_glyph_info_t)
+own_stays : (level : BufferClusterLevel) (m : ℕ) (gs : Glyphs)
     → (merges level ≡ true → list_all (has_cluster m) gs ≡ true) → put level m gs ≡ gs
-own_stays level m gs all = search (arith, put_on, in_cluster_stays, put_off)
+own_stays = search (arith, in_cluster_stays)
 
-one_of : (g : hb_glyph_info_t) → list_all (has_cluster g.cluster) (g ∷ []) ≡ true
-one_of g = search (arith, eq-eqb, refl)
+one_of : (g : Glyph) → list_all (has_cluster g.cluster) (g ∷ []) ≡ true
+one_of = search arith
 
 -- in places of the whole buffer
-start_as : (level : BufferClusterLevel) (top p b : ℕ) (runs : Runs) (gs : List hb_glyph_info_t) → top < p → p < b
+start_as : (level : BufferClusterLevel) (top p b : ℕ) (runs : Runs) (gs : Glyphs) → top < p → p < b
     → b ≤ length gs → runs.start ≡ p - 1 → runs.before ≡ (get_or gs (p - 1) default_glyph).cluster → runs.end ≡ b
     → runs.cluster ≡ (get_or gs p default_glyph).cluster
     → (merges level ≡ true → in_one_cluster (stretch_of p b gs) ≡ true)
@@ -63,27 +63,24 @@ start_as : (level : BufferClusterLevel) (top p b : ℕ) (runs : Runs) (gs : List
 start_as level top p b runs gs h l w start before end cluster one =
     let g = get_or gs (p - 1) default_glyph in
     let t = has_stayed top top gs in
-    let yes : (j : ℕ) → has_stayed top top gs j ≡ true = search (arith, none_gone) in
-    let none : gone top top gs 0 p ≡ [] = search (arith, chosen-none, none_gone) in
+    let yes : (j : ℕ) → has_stayed top top gs j ≡ true = search arith in
+    let none : gone top top gs 0 p ≡ [] = search (arith, chosen-none) in
     let last : staying top top gs runs.start p ≡ g ∷ [] = search (arith, chosen-one) in
     let all : merges level ≡ true → list_all (has_cluster runs.cluster) (stretch_of p b gs) ≡ true =
     search (arith, cluster_at) in
     let same : staying top top gs 0 runs.start ++ put level runs.before (staying top top gs runs.start p) ≡ take p gs =
-    ap (λ xs. staying top top gs 0 runs.start ++ xs)
-    (own_stays level runs.before (staying top top gs runs.start p)
+    ap (λ xs. staying top top gs 0 runs.start ++ xs) (own_stays level runs.before (staying top top gs runs.start p)
     (λ on. ap (λ m. list_all (has_cluster m) (staying top top gs runs.start p)) before
     ∙ ap (list_all (has_cluster g.cluster)) last ∙ one_of g))
     ∙ sym (chosen-split t gs 0 runs.start p (omega arith) (omega arith))
-    ∙ chosen-all t gs 0 p (omega arith) (omega arith) (λ j a z. yes j)
-    ∙ (ap (λ m. take m gs) (omega arith)) in
+    ∙ chosen-all t gs 0 p (omega arith) (omega arith) (λ j a z. yes j) ∙ (ap (λ m. take m gs) (omega arith)) in
     let rest : put level runs.cluster (gone top top gs 0 p ++ stretch_of p runs.end gs) ++ drop runs.end gs
     ≡ stretch_of p b gs ++ drop b gs =
     ap (λ xs. put level runs.cluster (xs ++ stretch_of p runs.end gs) ++ drop runs.end gs) none
     ∙ ap (λ n. put level runs.cluster (stretch_of p n gs) ++ drop n gs) end
     ∙ ap (λ xs. xs ++ drop b gs) (own_stays level runs.cluster (stretch_of p b gs) all) in (
       ap (λ xs. xs ++ (put level runs.cluster (gone top top gs 0 p ++ stretch_of p runs.end gs) ++ drop runs.end gs))
-          same
-          ∙ ap (λ xs. take p gs ++ xs) rest ∙ three_parts p b gs (omega arith),
+          same ∙ ap (λ xs. take p gs ++ xs) rest ∙ three_parts p b gs (omega arith),
       none,
       λ on. record {
         before = ap (λ m. none_below m (staying top top gs runs.start p)) before ∙ ap (none_below g.cluster) last
@@ -94,7 +91,7 @@ start_as level top p b runs gs h l w start before end cluster one =
       },
     )
 
-pub walk_start : (s top p b : ℕ) (runs : Runs) (gs : List hb_glyph_info_t) → top < p → p < b → s + b ≤ length gs
+pub walk_start : (s top p b : ℕ) (runs : Runs) (gs : Glyphs) → top < p → p < b → s + b ≤ length gs
     → runs.start ≡ s + p - 1 → runs.before ≡ (get_or gs (s + p - 1) default_glyph).cluster → runs.end ≡ s + b
     → runs.cluster ≡ (get_or gs (s + p) default_glyph).cluster → Walk s top top p b runs gs
 walk_start s top p b runs gs h l w start before end cluster = record {
@@ -107,8 +104,7 @@ walk_start s top p b runs gs h l w start before end cluster = record {
       ap (λ qs. reverse (filter (passes is_left part) qs)) (places_none top top (omega arith)) in
       record {
         target = p - 1;
-        parted = st.0
-            ∙ sym
+        parted = st.0 ∙ sym
             (ap (λ qs. run_steps level (map (widened s e (length gs)) (numbered_steps (e - s) b (p - 1) qs)) gs) none);
         goes = ((omega arith)) ∙ sym (ap (λ qs. p - 1 - length qs) none);
         behind = omega arith;
@@ -118,26 +114,22 @@ walk_start s top p b runs gs h l w start before end cluster = record {
 }
 
 -- what is read at a place
-read_at : (s e k : ℕ) (gs : List hb_glyph_info_t) → s + k < e → e ≤ length gs → passes is_left (stretch_of s e gs) k
+read_at : (s e k : ℕ) (gs : Glyphs) → s + k < e → e ≤ length gs → passes is_left (stretch_of s e gs) k
     ≡ is_left (get_or gs (s + k) default_glyph)
-read_at s e k gs h w =
-    let n = length-stretch s e gs w in
-    search (arith, passes_there, get_or-stretch)
+read_at s e k gs h w = let n = length-stretch s e gs w in search (arith, passes_there, get_or-stretch)
 
-pub walk_no : (s i k top p b : ℕ) (runs : Runs) (gs : List hb_glyph_info_t) → k + 1 ≡ i → i ≤ top → top < p → p < b
+pub walk_no : (s i k top p b : ℕ) (runs : Runs) (gs : Glyphs) → k + 1 ≡ i → i ≤ top → top < p → p < b
     → s + b ≤ length gs → is_left (get_or gs (s + k) default_glyph) ≡ false → Walk s i top p b runs gs
     → Walk s k top p b runs gs
 walk_no s i k top p b runs gs one h l m w fails so =
     let same : (j : ℕ) → has_gone (s + i) (s + top) gs j ≡ has_gone (s + k) (s + top) gs j =
-    λ j. ap (λ n. has_gone n (s + top) gs j)
-    (omega arith) ∙ gone_same (s + k) (s + top) j gs (omega arith)
+    λ j. ap (λ n. has_gone n (s + top) gs j) (omega arith) ∙ gone_same (s + k) (s + top) j gs (omega arith)
     (passes_there is_left gs (s + k) default_glyph (omega arith) ∙ fails) in
     let st : (a z : ℕ) → staying (s + i) (s + top) gs a z ≡ staying (s + k) (s + top) gs a z =
     λ a z. chosen-same (has_stayed (s + i) (s + top) gs) (has_stayed (s + k) (s + top) gs) gs a z
     (λ j x y. ap not (same j)) in
     let go =
-    chosen-same (has_gone (s + i) (s + top) gs) (has_gone (s + k) (s + top) gs) gs 0 (s + p)
-    (λ j x y. same j) in
+    chosen-same (has_gone (s + i) (s + top) gs) (has_gone (s + k) (s + top) gs) gs 0 (s + p) (λ j x y. same j) in
     record {
       lies = so.lies;
       walked = λ level e v z all.
@@ -148,11 +140,9 @@ walk_no s i k top p b runs gs one h l m w fails so =
           ++ drop runs.end gs in
           let kept : as_parted level (s + i) (s + top) (s + p) runs gs
           ≡ as_parted level (s + k) (s + top) (s + p) runs gs =
-          ap
-          (λ xs. (staying (s + i) (s + top) gs 0 runs.start ++ put level runs.before (staying (s + i) (s + top) gs
+          ap (λ xs. (staying (s + i) (s + top) gs 0 runs.start ++ put level runs.before (staying (s + i) (s + top) gs
           runs.start (s + p))) ++ (put level runs.cluster (xs ++ stretch_of (s + p) runs.end gs) ++ drop runs.end gs))
-          go
-          ∙ ap (λ xs. (xs ++ put level runs.before (staying (s + i) (s + top) gs runs.start (s + p))) ++ rest)
+          go ∙ ap (λ xs. (xs ++ put level runs.before (staying (s + i) (s + top) gs runs.start (s + p))) ++ rest)
           (st 0 runs.start)
           ∙ ap (λ xs. (staying (s + k) (s + top) gs 0 runs.start ++ put level runs.before xs) ++ rest)
           (st runs.start (s + p)) in
@@ -172,7 +162,7 @@ walk_no s i k top p b runs gs one h l m w fails so =
           };
     }
 
-pub walk_yes : (s i k top p b : ℕ) (old new : Runs) (gs : List hb_glyph_info_t) → k + 1 ≡ i → i ≤ top → top < p → p < b
+pub walk_yes : (s i k top p b : ℕ) (old new : Runs) (gs : Glyphs) → k + 1 ≡ i → i ≤ top → top < p → p < b
     → s + b ≤ length gs → is_left (get_or gs (s + k) default_glyph) ≡ true → Merged (s + k) (s + top) old new gs
     → new.end ≤ length gs → Lies (s + p) (s + b) new gs → Walk s i top p b old gs → Walk s k top p b new gs
 walk_yes s i k top p b old new gs one h l m w holds r within lies so =
@@ -201,7 +191,7 @@ walk_yes s i k top p b old new gs one h l m w holds r within lies so =
           let goes = wd.goes in
           let stepped : merge level (s + wd.target) (s + b) (with_stretch (s + k) (s + wd.target + 1) first_last V)
           ≡ run_step level (widened s e (length V) (matra_step (e - s) b k wd.target)) V =
-          matra_stepped level s e b k wd.target V (omega arith) (omega (arith, count)) (omega (arith, long)) in
+          matra_stepped level s e b k wd.target V (omega arith) (omega arith) (omega arith) in
           record {
             target = wd.target - 1;
             parted =
@@ -211,28 +201,18 @@ walk_yes s i k top p b old new gs one h l m w holds r within lies so =
                 ∙ sym (fold-append (λ gs step. run_step level step gs) gs (map W steps) (W step ∷ []))
                 ∙ sym (ap (λ sts. run_steps level sts gs) (map-append W steps (step ∷ [])))
                 ∙ ap (λ sts. run_steps level (map W sts) gs)
-                (ap (λ j. steps ++ matra_step (e - s) b k j ∷ []) goes ∙ sym (search (
-                  arith,
-                  enumerate-append,
-                  map-append,
-                )) ∙ ap (numbered_steps (e - s) b (p - 1)) more);
-            goes = ((omega arith))
-                ∙ ap (λ qs. p - 1 - length qs) more;
+                (ap (λ j. steps ++ matra_step (e - s) b k j ∷ []) goes ∙ sym (search (enumerate-append, map-append)) ∙ ap (numbered_steps (e - s) b (p - 1)) more);
+            goes = ((omega arith)) ∙ ap (λ qs. p - 1 - length qs) more;
             behind = omega arith;
-            count = omega (
-              arith,
-              ap length (gone_more (s + k) (s + top) (s + p) gs (omega arith) (omega arith) (omega arith) left),
-              count,
-            );
+            count = omega (arith, ap length (gone_more (s + k) (s + top) (s + p) gs (omega arith) (omega arith) (omega arith) left));
             fits = on.1;
           };
     }
 
-pub walk_end : (s i top p b : ℕ) (runs : Runs) (gs : List hb_glyph_info_t) → i ≡ 0 → Walk s i top p b runs gs
+pub walk_end : (s i top p b : ℕ) (runs : Runs) (gs : Glyphs) → i ≡ 0 → Walk s i top p b runs gs
     → (level : BufferClusterLevel) (e : ℕ) → s + b ≤ e → e ≤ length gs
     → (merges level ≡ true → in_one_cluster (stretch_of (s + p) (s + b) gs) ≡ true)
     → as_parted level s (s + top) (s + p) runs gs
     ≡ run_steps level (map (widened s e (length gs)) (steps_to top (p - 1) b (stretch_of s e gs))) gs
 walk_end s i top p b runs gs none so level e v z all =
-    let at : s + i ≡ s = omega arith in
-    search (arith, (so.walked level e v z all).parted, length-stretch s e gs z)
+    let at : s + i ≡ s = omega arith in search (arith, (so.walked level e v z all).parted, length-stretch s e gs z)

@@ -8,7 +8,7 @@ use Rattle.std.specs.List.{range_with_len}
 use Rattle.std.specs.List.Sorted.{IsPermutation}
 use Rattle.std.proofs.lemmas.List.FromFn.{length-range_with_len}
 use Rattle.std.proofs.lemmas.List.Sorted.{IsPermutation-filter_both, length_permutation}
-use Rattle.shapers_buffer.specs.declared.buffer.glyph.hb_glyph_info_t.{hb_glyph_info_t}
+use Rattle.shapers_buffer.specs.Glyphs.{Glyphs}
 use Rattle.shapers_buffer.specs.declared.buffer.level.BufferClusterLevel.{BufferClusterLevel}
 use Rattle.shapers_buffer.specs.Buffer.{Buffer}
 use Rattle.shapers_buffer.specs.Clusters.{stretch_of, with_stretch}
@@ -25,12 +25,11 @@ use Rattle.shapers_indic_final.proofs.LeftMatraPlaces.{chosen, chosen-all, chose
 use Rattle.shapers_indic_final.proofs.LeftMatraSplit.{both_long, length-put}
 
 -- both lists have each place once
-pub parted_once : (s top e : ℕ) (gs : List hb_glyph_info_t)
+pub parted_once : (s top e : ℕ) (gs : Glyphs)
     → IsPermutation (places s e) (filter (has_stayed s top gs) (places s e) ++ filter (has_gone s top gs) (places s e))
-parted_once s top e gs =
-    search (arith, IsPermutation-filter_both)
+parted_once = search (arith, IsPermutation-filter_both)
 
-pub parted_long : (s top e : ℕ) (gs : List hb_glyph_info_t)
+pub parted_long : (s top e : ℕ) (gs : Glyphs)
     → length (filter (has_stayed s top gs) (places s e)) + length (filter (has_gone s top gs) (places s e)) ≡ e - s
 parted_long s top e gs =
     let xs = filter (has_stayed s top gs) (places s e) in
@@ -49,11 +48,10 @@ pub parted_listed : (s top e at : ℕ) (b0 b1 b2 : Buffer)
     → (b2 ≡ record b0 { places = b2.places })
     × (listed s e b2.places ≡ filter (has_stayed s top b0.glyphs) (places s e)
     ++ filter (has_gone s top b0.glyphs) (places s e))
-parted_listed s top e at b0 b1 b2 one to two =
-    search (arith, with_listed-append, lists, length-append, parted_long)
+parted_listed = search (arith, with_listed-append, lists, length-append, parted_long)
 
 -- the glyphs put so
-pub parted_placed : (s top e : ℕ) (ps : List ℕ) (gs : List hb_glyph_info_t) → s ≤ e → e ≤ length gs
+pub parted_placed : (s top e : ℕ) (ps : List ℕ) (gs : Glyphs) → s ≤ e → e ≤ length gs
     → listed s e ps ≡ filter (has_stayed s top gs) (places s e) ++ filter (has_gone s top gs) (places s e)
     → placed s e ps gs ≡ staying s top gs 0 e ++ (gone s top gs 0 e ++ drop e gs)
 parted_placed s top e ps gs h w is =
@@ -71,25 +69,23 @@ parted_placed s top e ps gs h w is =
     )
 
 -- how many are picked
-length_pick : (t : ℕ → Bool) (a n : ℕ) (gs : List hb_glyph_info_t) → a + n ≤ length gs
+length_pick : (t : ℕ → Bool) (a n : ℕ) (gs : Glyphs) → a + n ≤ length gs
     → length (pick (filter t (range_with_len a n)) gs) ≡ length (filter t (range_with_len a n))
 length_pick t a zero gs h = refl
-length_pick t a (suc n) gs h =
-    search (
-      arith,
-      pick-within default_glyph a (filter t (range_with_len (a + 1) n)) gs (omega arith),
-      length_pick t (a + 1) n gs (omega arith),
-    )
+length_pick t a (suc n) gs h = search (
+  arith,
+  pick-within default_glyph a (filter t (range_with_len (a + 1) n)) gs (omega arith),
+  length_pick t (a + 1) n gs (omega arith),
+)
 
-pub length-chosen : (t : ℕ → Bool) (gs : List hb_glyph_info_t) (a b : ℕ) → a ≤ b → b ≤ length gs
+pub length-chosen : (t : ℕ → Bool) (gs : Glyphs) (a b : ℕ) → a ≤ b → b ≤ length gs
     → length (chosen t gs a b) ≡ length (filter t (places a b))
-length-chosen t gs a b h w = search (arith, length_pick)
+length-chosen = search (arith, length_pick)
 
 -- the clusters of the two runs written
-pub parted_written : (level : BufferClusterLevel) (s top p b at len : ℕ) (runs : Runs) (gs : List hb_glyph_info_t)
+pub parted_written : (level : BufferClusterLevel) (s top p b at len : ℕ) (runs : Runs) (gs : Glyphs)
     → s ≤ p → p ≤ b → Lies p b runs gs → at ≡ s + length (filter (has_stayed s top gs) (places s p))
-    → len ≡ length (filter (has_stayed s top gs) (places runs.start p))
-    → (len ≤ at) × (at ≤ runs.end)
+    → len ≡ length (filter (has_stayed s top gs) (places runs.start p)) → (len ≤ at) × (at ≤ runs.end)
     × (with_stretch at runs.end (put level runs.cluster)
     (with_stretch (at - len) at (put level runs.before) (staying s top gs 0 p ++ (gone s top gs 0 p ++ drop p gs)))
     ≡ as_parted level s top p runs gs)
@@ -108,7 +104,7 @@ parted_written level s top p b at len runs gs h l lies to many =
     ∙ length-stretch 0 s gs (omega arith) ∙ omega arith in
     let n : length (staying s top gs 0 p) ≡ at = ap length (chosen-split t gs 0 s p (omega arith) h)
     ∙ length-append (staying s top gs 0 s) (staying s top gs s p)
-    ∙ omega (arith, low, length-chosen t gs s p h (omega arith), to) in
+    ∙ omega (arith, length-chosen t gs s p h (omega arith)) in
     let n2 = length-chosen t gs q p (omega arith) (omega arith) ∙ sym many in
     let sum = ap length (chosen-split t gs 0 q p (omega arith) (omega arith)) ∙ length-append S1 S2 in
     let bn = ap (λ k. at + k) (length-append G D)
@@ -116,16 +112,6 @@ parted_written level s top p b at len runs gs h l lies to many =
     search (
       arith,
       chosen-split t gs 0 q p (omega arith) (omega arith),
-      length-append S1 S2,
-      chosen-split t gs 0 s p (omega arith) h,
-      length-append (staying s top gs 0 s) (staying s top gs s p),
-      chosen-all t gs 0 s (omega arith) (omega arith) (λ j a z. ap not (gone_before s top j gs z)),
-      length-stretch 0 s gs (omega arith),
-      length-chosen t gs s p h (omega arith),
-      length-chosen t gs q p (omega arith) (omega arith),
-      length-append G D,
-      both_long (has_gone s top gs) gs p (omega arith),
-      length-stretch p runs.end gs e0,
       append_assoc S1 S2 (G ++ drop p gs),
       stretch_between (put level c) (at - len) at S1 S2 (G ++ drop p gs) (omega (arith, sum, n, n2))
           (omega (arith, sum, n, n2)),

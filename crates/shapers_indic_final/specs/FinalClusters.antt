@@ -1,7 +1,7 @@
 -- What the steps of a syllable merge, as a statement.
 use Rattle.std.specs.Prelude.{ℕ, ◌+◌, ◌≡◌, ◌++◌, ◌∷◌, true, List, length, Option}
 use Rattle.shapers_clusters.specs.Cuts.{AllDifferent, ExactCuts, OwnClusters}
-use Rattle.shapers_buffer.specs.declared.buffer.glyph.hb_glyph_info_t.{hb_glyph_info_t}
+use Rattle.shapers_buffer.specs.Glyphs.{Glyphs}
 use Rattle.shapers_buffer.specs.declared.buffer.level.BufferClusterLevel.{BufferClusterLevel}
 use Rattle.shapers_buffer.specs.declared.buffer.tag.Script.{Script}
 use Rattle.shapers_buffer.specs.Clusters.{merges, stretch_of}
@@ -17,7 +17,7 @@ use Rattle.shapers_indic_final.specs.declared.ot_shaper_indic_final.rules.Rules.
 -- cluster when all are done
 abbrev pub FinalMergesLaw : Type 0
 FinalMergesLaw = (r : Rules) (script : Option Script) (level : BufferClusterLevel)
-    (gs : List hb_glyph_info_t) (cs : List ℕ) →
+    (gs : Glyphs) (cs : List ℕ) →
     merges level ≡ true → length cs ≡ length gs →
     MergedStay level (final_steps r script gs) cs
 
@@ -25,17 +25,17 @@ FinalMergesLaw = (r : Rules) (script : Option Script) (level : BufferClusterLeve
 -- stretch holds both, and each run so joined has the least that its glyphs had
 abbrev pub FinalCutsLaw : Type 0
 FinalCutsLaw = (r : Rules) (script : Option Script) (level : BufferClusterLevel)
-    (gs : List hb_glyph_info_t) (cs : List ℕ) →
+    (gs : Glyphs) (cs : List ℕ) →
     merges level ≡ true → length cs ≡ length gs → AllDifferent cs →
     let steps = final_steps r script gs in
     ExactCuts (pick (old_places (length gs) steps) cs) (all_merged steps)
     (joined_steps level steps cs)
 
 -- so of each syllable of a text gs (its order view) with clusters of its own: cs before, js after
-abbrev pub EachSyllableCuts : Rules → Option Script → List hb_glyph_info_t → List ℕ → List ℕ →
+abbrev pub EachSyllableCuts : Rules → Option Script → Glyphs → List ℕ → List ℕ →
     Type 0
 EachSyllableCuts r script gs cs js =
-    (before behind : List (List hb_glyph_info_t)) (syl : List hb_glyph_info_t) →
+    (before behind : List Glyphs) (syl : Glyphs) →
     syllables gs ≡ before ++ syl ∷ behind →
     let s = glyphs_before before in
     let e = s + length syl in

@@ -1,7 +1,7 @@
 -- A set-up by spans, a reordering pause and the final reordering, directly after one another, cut
 -- between any two spans.
 use Rattle.std.specs.Prelude.{ℕ, ◌≤◌, List, Option, All}
-use Rattle.shapers_buffer.specs.declared.buffer.glyph.hb_glyph_info_t.{hb_glyph_info_t}
+use Rattle.shapers_buffer.specs.Glyphs.{Glyph, Glyphs}
 use Rattle.shapers_buffer.specs.declared.buffer.level.BufferClusterLevel.{BufferClusterLevel}
 use Rattle.shapers_buffer.specs.declared.buffer.syllables.Span.{Span}
 use Rattle.shapers_buffer.specs.declared.buffer.tag.Script.{Script}
@@ -20,17 +20,17 @@ use Rattle.shapers_syllabic.specs.SpanCuts.{CutsBetweenSpans}
 use Rattle.shapers_syllabic.specs.Syllabic.{unsafe_spans}
 
 -- the glyph without the serial of its byte, and with the bits of init, so that neither shows
-abbrev pub uninitiated : Rules → hb_glyph_info_t → hb_glyph_info_t
+abbrev pub uninitiated : Rules → Glyph → Glyph
 uninitiated r g = unnumbered (with_bits r.init g)
 
 -- what a reordering pause and then the final one make of a text: its order view, and its clusters
 abbrev pub final_after : Rules → Option Script → Option DottedCircles →
-    (List hb_glyph_info_t → List hb_glyph_info_t) → List hb_glyph_info_t → List hb_glyph_info_t
+    (Glyphs → Glyphs) → Glyphs → Glyphs
 final_after r script circles meaning gs = final_text r script (paused_order circles meaning gs)
 
 abbrev pub final_clusters_after : Rules → Option Script → BufferClusterLevel →
-    Option DottedCircles → (List hb_glyph_info_t → List hb_glyph_info_t) →
-    (List hb_glyph_info_t → List Step) → List hb_glyph_info_t → List ℕ
+    Option DottedCircles → (Glyphs → Glyphs) →
+    (Glyphs → List Step) → Glyphs → List ℕ
 final_clusters_after r script level circles meaning steps gs =
     joined_steps level (text_steps (final_steps r script) (paused_order circles meaning gs))
     (paused_clusters circles steps level gs)
@@ -39,8 +39,8 @@ final_clusters_after r script level circles meaning steps gs =
 -- halves' results are joined.
 abbrev pub FinalCutsBetweenSpans : Type 0
 FinalCutsBetweenSpans =
-    (r : Rules) (meaning : List hb_glyph_info_t → List hb_glyph_info_t)
-    (steps : List hb_glyph_info_t → List Step) (circles : Option DottedCircles) (spans : List Span)
+    (r : Rules) (meaning : Glyphs → Glyphs)
+    (steps : Glyphs → List Step) (circles : Option DottedCircles) (spans : List Span)
     (old mid new : Buffer) →
     ReorderLaws meaning steps → ReadsNoSerials meaning steps → All (λ span. span.kind ≤ 15) spans →
     PauseReordered circles meaning steps (spans_set_up spans BROKEN_CLUSTER old) mid →

@@ -2,7 +2,7 @@
 use Rattle.std.specs.Prelude.{ℕ, Bool, ◌+◌, ◌==◌, ◌&&◌, ◌||◌, ◌%◌, ◌≡◌, ◌≤◌, ◌<◌, ◌⊎◌, bit_or, false, true, List, [], ◌∷◌, ◌++◌, length, map, get_or, Option, None}
 use Rattle.std.specs.List.{AllByRecursion, AllZip}
 use Rattle.std.specs.List.Sorted.{IsPermutation}
-use Rattle.shapers_buffer.specs.declared.buffer.glyph.hb_glyph_info_t.{hb_glyph_info_t}
+use Rattle.shapers_buffer.specs.Glyphs.{Glyph, Glyphs}
 use Rattle.shapers_buffer.specs.declared.buffer.level.BufferClusterLevel.{BufferClusterLevel}
 use Rattle.shapers_buffer.specs.declared.buffer.tag.Script.{Script}
 use Rattle.shapers_buffer.specs.Buffer.{Buffer}
@@ -35,24 +35,24 @@ FinalReadsNoSerials = (r : Rules) (script : Option Script) →
     ReadsNoSerials (final_order r script) (final_steps r script)
 
 -- the steps of all syllables of a text
-abbrev pub final_text_steps : Rules → Option Script → List hb_glyph_info_t → List Step
+abbrev pub final_text_steps : Rules → Option Script → Glyphs → List Step
 final_text_steps r script gs = text_steps (final_steps r script) (order_view gs)
 
 -- what a text becomes behind a glyph, which decides on init at its start alone
-abbrev pub final_text_behind : Rules → Option Script → Option hb_glyph_info_t →
-    List hb_glyph_info_t → List hb_glyph_info_t
+abbrev pub final_text_behind : Rules → Option Script → Option Glyph →
+    Glyphs → Glyphs
 final_text_behind r script before gs = with_inits r.init before (final_syllables r script gs)
 
 -- The clusters of a text after the steps of its syllables.
-abbrev pub final_clusters : Rules → Option Script → BufferClusterLevel → List hb_glyph_info_t →
+abbrev pub final_clusters : Rules → Option Script → BufferClusterLevel → Glyphs →
     List ℕ
 final_clusters r script level gs = joined_steps level (final_text_steps r script gs) (clusters gs)
 
 -- Texts that are the same but for serials become the same but for serials, whatever stands before
 -- both, by the same clusters.
-pub record SameButSerialsFinally (r : Rules) (script : Option Script) (gs hs : List
-    hb_glyph_info_t) : Type 0 where
-  pub order : (before : Option hb_glyph_info_t) →
+pub record SameButSerialsFinally (r : Rules) (script : Option Script)
+    (gs hs : Glyphs) : Type 0 where
+  pub order : (before : Option Glyph) →
       map unnumbered (final_text_behind r script before gs)
       ≡ map unnumbered (final_text_behind r script before hs)
   pub in_clusters : (level : BufferClusterLevel) →
@@ -60,42 +60,42 @@ pub record SameButSerialsFinally (r : Rules) (script : Option Script) (gs hs : L
 
 abbrev pub FinalTextReadsNoSerials : Type 0
 FinalTextReadsNoSerials =
-    (r : Rules) (script : Option Script) (gs hs : List hb_glyph_info_t) → SameButSerials gs hs →
+    (r : Rules) (script : Option Script) (gs hs : Glyphs) → SameButSerials gs hs →
     SameButSerialsFinally r script gs hs
 
 -- Glyph flags: no cluster rises; if it fell they are gone, else kept; an unsafe break may come.
-pub record FlagsFallButBreaks (old new : hb_glyph_info_t) : Type 0 where
+pub record FlagsFallButBreaks (old new : Glyph) : Type 0 where
   pub at_most : new.cluster ≤ old.cluster
   pub fell : new.cluster < old.cluster → (new.mask % 8 ≡ 0) ⊎ (new.mask % 8 ≡ 3)
   pub kept : new.cluster ≡ old.cluster →
       (new.mask % 8 ≡ old.mask % 8) ⊎ (new.mask % 8 ≡ bit_or (old.mask % 8) 3)
 
 -- whether none of these syllables is opened inside a word, behind a glyph
-abbrev pub BreaksNowhere : Option hb_glyph_info_t → List (List hb_glyph_info_t) → Type 0
+abbrev pub BreaksNowhere : Option Glyph → List Glyphs → Type 0
 BreaksNowhere before [] = Unit {0}
 BreaksNowhere before (syl ∷ syls) =
     (is_bound before syl ≡ false) × BreaksNowhere (last_or before syl) syls
 
 -- whether place i is the first of a syllable, from place s on, opened inside a word, or before it
-abbrev pub at_opening : ℕ → Option hb_glyph_info_t → List (List hb_glyph_info_t) → ℕ → Bool
+abbrev pub at_opening : ℕ → Option Glyph → List Glyphs → ℕ → Bool
 at_opening s before [] i = false
 at_opening s before (syl ∷ syls) i =
     is_bound before syl && (i == s || i + 1 == s)
     || at_opening (s + length syl) (last_or before syl) syls i
 
 -- the glyphs with these bits in the mask of the first; lists that differ in these alone
-abbrev pub with_first_bits : ℕ → List hb_glyph_info_t → List hb_glyph_info_t
+abbrev pub with_first_bits : ℕ → Glyphs → Glyphs
 with_first_bits bits [] = []
 with_first_bits bits (g ∷ gs) = with_bits bits g ∷ gs
 
-abbrev pub SameButFirstBits : ℕ → List hb_glyph_info_t → List hb_glyph_info_t → Type 0
+abbrev pub SameButFirstBits : ℕ → Glyphs → Glyphs → Type 0
 SameButFirstBits bits xs ys = with_first_bits bits xs ≡ with_first_bits bits ys
 
 -- A text cut at a border of syllables: the order view is that of the first half, and then that of
 -- the second behind its last glyph, which for itself differs in the bits of init of its first glyph
 -- alone; where the halves share no cluster, so are the clusters.
 pub record FinallyOfHalves (r : Rules) (script : Option Script) (level : BufferClusterLevel) (gs hs
-    new : List hb_glyph_info_t) : Type 0 where
+    new : Glyphs) : Type 0 where
   pub order : order_view new
       ≡ final_text r script (order_view gs)
       ++ final_text_behind r script
@@ -144,7 +144,7 @@ pub record FinallyKept (r : Rules) (old new : Buffer) : Type 0 where
   pub unbroken : BreaksNowhere None (final_syllables r old.script (order_view old.glyphs)) →
       SeenStepsHold carried old.level (final_text_steps r old.script old.glyphs) old.glyphs
       new.glyphs
-  pub cuts : (gs hs : List hb_glyph_info_t) → old.glyphs ≡ gs ++ hs → MeetAtBorder gs hs →
+  pub cuts : (gs hs : Glyphs) → old.glyphs ≡ gs ++ hs → MeetAtBorder gs hs →
       FinallyOfHalves r old.script old.level gs hs new.glyphs
   pub renumbered : CutsAtBorders (uninitiated r) (λ gs. final_text r old.script (order_view gs))
       (final_clusters r old.script old.level) old.glyphs new.glyphs

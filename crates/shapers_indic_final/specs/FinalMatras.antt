@@ -2,7 +2,7 @@
 -- scripts: "Reorder matras".)
 use Rattle.std.specs.Prelude.{ℕ, ◌+◌, ◌-◌, ◌==◌, min, nat_lt, Bool, ◌&&◌, not, List, [], ◌∷◌, ◌++◌, length, map, filter, reverse, unwrap_or, Option, None, Some, if◌then◌else◌}
 use Rattle.std.specs.List.{enumerate_from}
-use Rattle.shapers_buffer.specs.declared.buffer.glyph.hb_glyph_info_t.{hb_glyph_info_t}
+use Rattle.shapers_buffer.specs.Glyphs.{Glyph, Glyphs}
 use Rattle.shapers_buffer.specs.declared.buffer.tag.Script.{Script}
 use Rattle.shapers_buffer.specs.Lists.{first_last}
 use Rattle.shapers_buffer.specs.Clusters.{with_stretch}
@@ -14,39 +14,39 @@ use Rattle.shapers_indic_final.specs.FinalGlyphs.{is_indic_halant, is_matra_or_h
 use Rattle.shapers_indic_final.specs.FinalRules.{has_no_half_forms}
 
 -- whether a glyph is a left matra; a halant that belongs to none
-abbrev pub is_left : hb_glyph_info_t → Bool
+abbrev pub is_left : Glyph → Bool
 is_left = has_position POS_PRE_M
 
-abbrev pub is_free_halant : hb_glyph_info_t → Bool
+abbrev pub is_free_halant : Glyph → Bool
 is_free_halant g = is_indic_halant g && not (is_left g)
 
 -- whether place i ends the search: a matra or halant, but no free halant requesting a half form
-abbrev pub ends_search : List hb_glyph_info_t → ℕ → Bool
+abbrev pub ends_search : Glyphs → ℕ → Bool
 ends_search gs i = passes is_matra_or_halant gs i
     && not (passes is_free_halant gs i && passes (has_category OT_ZWJ) gs (i + 1))
 
 -- the last place before the base, or before the last glyph where there is no base
-abbrev pub place_before : ℕ → List hb_glyph_info_t → ℕ
+abbrev pub place_before : ℕ → Glyphs → ℕ
 place_before base gs = if base == length gs then base - 2 else base - 1
 
 -- where left matras go: to what ends the search leftwards, if that is a free halant, else the start
-abbrev pub halant_or_start : List hb_glyph_info_t → ℕ → ℕ
+abbrev pub halant_or_start : Glyphs → ℕ → ℕ
 halant_or_start gs i = if passes is_free_halant gs i then i else 0
 
-abbrev pub nearest_halant : ℕ → List hb_glyph_info_t → ℕ
+abbrev pub nearest_halant : ℕ → Glyphs → ℕ
 nearest_halant p gs = halant_or_start gs (unwrap_or (greatest_place (ends_search gs) 0 (p + 1)) 0)
 
 -- the place that left matras go to, the start if they stay
-abbrev pub matra_target : Option Script → ℕ → List hb_glyph_info_t → ℕ
+abbrev pub matra_target : Option Script → ℕ → Glyphs → ℕ
 matra_target script base gs =
     if has_no_half_forms script then place_before base gs
     else nearest_halant (place_before base gs) gs
 
 -- whether there may be left matras before a base, and whether they go to a place
-abbrev pub has_room : ℕ → List hb_glyph_info_t → Bool
+abbrev pub has_room : ℕ → Glyphs → Bool
 has_room base gs = nat_lt 1 (length gs) && nat_lt 0 base
 
-abbrev pub matras_go : ℕ → List hb_glyph_info_t → Bool
+abbrev pub matras_go : ℕ → Glyphs → Bool
 matras_go p gs = nat_lt 0 p && not (passes is_left gs p)
 
 -- a list parted: what doesn't pass the test, and then what does, both in their order
@@ -54,13 +54,13 @@ abbrev pub parted : {X : Type 0} → (X → Bool) → List X → List X
 parted test xs = filter (λ x. not (test x)) xs ++ filter test xs
 
 -- the syllable with its left matras at their place
-abbrev pub with_matras : Option Script → ℕ → List hb_glyph_info_t → List hb_glyph_info_t
+abbrev pub with_matras : Option Script → ℕ → Glyphs → Glyphs
 with_matras script base gs =
     let p = matra_target script base gs in
     if has_room base gs && matras_go p gs then with_stretch 0 (p + 1) (parted is_left) gs else gs
 
 -- the end of what merges: the base with it, if there is one
-abbrev pub end_of_base : ℕ → List hb_glyph_info_t → ℕ
+abbrev pub end_of_base : ℕ → Glyphs → ℕ
 end_of_base base gs = min (length gs) (base + 1)
 
 -- the step of n places in which glyph i goes behind those up to j, and then all from j to e merges
@@ -72,10 +72,10 @@ matra_step n e i j = record {
 }
 
 -- the places of the left matras before p, the last first; it goes to p, each further one before it
-abbrev pub left_places : ℕ → List hb_glyph_info_t → List ℕ
+abbrev pub left_places : ℕ → Glyphs → List ℕ
 left_places p gs = reverse (filter (passes is_left gs) (places 0 p))
 
-abbrev pub parting_steps : ℕ → ℕ → List hb_glyph_info_t → List Step
+abbrev pub parting_steps : ℕ → ℕ → Glyphs → List Step
 parting_steps p e gs =
     map (λ t. matra_step (length gs) e t.1 (p - t.0)) (enumerate_from 0 (left_places p gs))
 
@@ -85,15 +85,15 @@ merging_step n e None = []
 merging_step n e (Some i) =
     record { merged_first = (i, e) ∷ []; places = places 0 n; merged_then = [] } ∷ []
 
-abbrev pub staying_steps : ℕ → List hb_glyph_info_t → List Step
+abbrev pub staying_steps : ℕ → Glyphs → List Step
 staying_steps base gs =
     merging_step (length gs) (end_of_base base gs) (least_place (passes is_left gs) 0 base)
 
 -- the steps of the left matras
-abbrev pub steps_before : Option Script → ℕ → List hb_glyph_info_t → List Step
+abbrev pub steps_before : Option Script → ℕ → Glyphs → List Step
 steps_before script base gs =
     let p = matra_target script base gs in
     if matras_go p gs then parting_steps p (end_of_base base gs) gs else staying_steps base gs
 
-abbrev pub matra_steps : Option Script → ℕ → List hb_glyph_info_t → List Step
+abbrev pub matra_steps : Option Script → ℕ → Glyphs → List Step
 matra_steps script base gs = if has_room base gs then steps_before script base gs else []

@@ -1,7 +1,7 @@
 -- The final reordering of a syllable: what it becomes, and the merges and moves that lead there.
 -- (OpenType, development of Indic scripts: "Final reordering".)
 use Rattle.std.specs.Prelude.{List, [], ◌++◌, Option, if◌then◌else◌}
-use Rattle.shapers_buffer.specs.declared.buffer.glyph.hb_glyph_info_t.{hb_glyph_info_t}
+use Rattle.shapers_buffer.specs.Glyphs.{Glyphs}
 use Rattle.shapers_buffer.specs.declared.buffer.tag.Script.{Script}
 use Rattle.shapers_clusters.specs.Steps.{Step}
 use Rattle.shapers_indic_final.specs.FinalBase.{Based, with_final_base, with_viramas}
@@ -23,15 +23,15 @@ after_reph r b = record {
 }
 
 -- the glyphs with a formed pref glyph before the base
-abbrev pub after_pref : Rules → Option Script → Based → List hb_glyph_info_t
+abbrev pub after_pref : Rules → Option Script → Based → Glyphs
 after_pref r script b = if b.tries_pref then with_pref r.pref script b.base b.glyphs else b.glyphs
 
 -- the syllable with its base, before anything moves
-abbrev pub based : Rules → Option Script → List hb_glyph_info_t → Based
+abbrev pub based : Rules → Option Script → Glyphs → Based
 based r script gs = with_final_base r script (with_viramas r gs)
 
 -- what a syllable becomes, but for the mask of init
-abbrev pub final_order : Rules → Option Script → List hb_glyph_info_t → List hb_glyph_info_t
+abbrev pub final_order : Rules → Option Script → Glyphs → Glyphs
 final_order r script gs =
     after_pref r script (after_reph r (after_matras r script (based r script gs)))
 
@@ -46,5 +46,5 @@ steps_of_based r script b =
     ++ (reph_steps r.reph_pos parted.base parted.glyphs
     ++ steps_of_pref r script (after_reph r parted))
 
-abbrev pub final_steps : Rules → Option Script → List hb_glyph_info_t → List Step
+abbrev pub final_steps : Rules → Option Script → Glyphs → List Step
 final_steps r script gs = steps_of_based r script (based r script gs)

@@ -1,6 +1,6 @@
 -- What the walks over a text and over a syllable look for.
-use Rattle.std.specs.Prelude.{ℕ, ◌-◌, ◌≤◌, ◌≡◌, ◌&&◌, ◌||◌, Bool, List, Option}
-use Rattle.shapers_buffer.specs.declared.buffer.glyph.hb_glyph_info_t.{hb_glyph_info_t}
+use Rattle.std.specs.Prelude.{ℕ, ◌-◌, ◌≤◌, ◌≡◌, ◌&&◌, ◌||◌, Bool, Option}
+use Rattle.shapers_buffer.specs.Glyphs.{Glyph, Glyphs}
 use Rattle.shapers_buffer.specs.declared.buffer.tag.Script.{Script}
 use Rattle.shapers_buffer.specs.Clusters.{stretch_of, with_stretch}
 use Rattle.shapers_indic_final.specs.declared.ot_shaper_indic_final.rules.Rules.{Rules}
@@ -14,19 +14,19 @@ use Rattle.shapers_indic_final.specs.FinalRules.{is_malayalam}
 
 -- what may change a syllable: a left matra, a reph, a glyph with the mask of pref, a virama that is
 -- to be recovered; in Malayalam what stands below the base, too
-abbrev pub changes_syllable : Rules → Option Script → hb_glyph_info_t → Bool
+abbrev pub changes_syllable : Rules → Option Script → Glyph → Bool
 changes_syllable r script g = is_left g || has_position POS_RA_TO_BECOME_REPH g
     || has_bits r.pref g || is_lost_virama r.virama g
     || (has_position POS_BELOW_C g && is_malayalam script)
 
 -- the glyphs of a syllable with the positions that the search for its base gives
-abbrev pub settled : Rules → Option Script → List hb_glyph_info_t → List hb_glyph_info_t
+abbrev pub settled : Rules → Option Script → Glyphs → Glyphs
 settled r script gs = (with_final_base r script gs).glyphs
 
 -- the glyphs before and after, of a syllable from s to e whose base is found, and whether a formed
 -- pref glyph may go before it
-pub record Settles (r : Rules) (script : Option Script) (s e base : ℕ) (tries : Bool) (gs hs : List
-    hb_glyph_info_t) : Type 0 where
+pub record Settles (r : Rules) (script : Option Script) (s e base : ℕ) (tries : Bool)
+    (gs hs : Glyphs) : Type 0 where
   pub glyphs : hs ≡ with_stretch s e (settled r script) gs
   pub base_is : base ≡ (with_final_base r script (stretch_of s e gs)).base
   pub tries_is : tries ≡ (with_final_base r script (stretch_of s e gs)).tries_pref

@@ -2,8 +2,7 @@
 use Rattle.std.proofs.Common.{◌≡◌, ◌≢◌, ◌⊎◌, inl, inr, ℕ, zero, suc, ◌+◌, ◌-◌, ◌<◌, ◌≤◌, ◌||◌, max, min, nat_lt, nat_le, Bool, true, false, List, [], ◌∷◌, length, map, get_or, refl, sym, ap, ◌∙◌, subst, arith, length-set, get_or-set_same, get_or-set_other}
 use Rattle.std.specs.List.{filter, fold, list_all, range_with_len}
 use Rattle.std.proofs.lemmas.Bool.{cases_Bool}
-use Rattle.std.proofs.lemmas.Bool.Decides.{nat_tests}
-use Rattle.shapers_buffer.specs.declared.buffer.glyph.hb_glyph_info_t.{hb_glyph_info_t}
+use Rattle.shapers_buffer.specs.Glyphs.{Glyphs}
 use Rattle.shapers_buffer.specs.declared.buffer.level.BufferClusterLevel.{BufferClusterLevel}
 use Rattle.shapers_buffer.specs.Clusters.{merge, merge_all}
 use Rattle.shapers_clusters.specs.Steps.{shifted}
@@ -18,8 +17,7 @@ length-with_spent f (x ∷ xs) = length-with_spent _ xs ∙ length-set f x x
 
 pub unspent_at : (f xs : List ℕ) (x : ℕ) → (In x xs → ⊥) → get_or (with_spent f xs) x 0 ≡ get_or f x 0
 unspent_at f [] x out = refl
-unspent_at f (y ∷ ys) x out = unspent_at _ ys x (λ i. out (inr i))
-    ∙ get_or-set_other f y x y 0 (λ e. out (inl e))
+unspent_at f (y ∷ ys) x out = unspent_at _ ys x (λ i. out (inr i)) ∙ get_or-set_other f y x y 0 (λ e. out (inl e))
 
 pub spent_at : (f xs : List ℕ) (x : ℕ) → x < length f → In x xs → get_or (with_spent f xs) x 0 ≡ x
 spent_at f [] x h i = absurd i
@@ -68,8 +66,7 @@ other_cycle f p r h l o out =
     let c = cycle f p in
     let step : (y : ℕ) → y < length f → (In y c → ⊥) → Outside f p _ = λ y k off. record {
       inside = o.within y k;
-      out
-          = λ i. off (cycle_closed_back f p y h k o i);
+      out = λ i. off (cycle_closed_back f p y h k o i);
     } in
     cc (
       length-with_spent f c,
@@ -90,27 +87,24 @@ all_false test x (y ∷ ys) i e = elim i [
 ]
 
 pub follows : (f : List ℕ) (base p r : ℕ) → base ≤ p → p < r → In p (cycle f r) → leads_cycle f base r ≡ false
-follows f base p r h l i = search (arith, all_false, nat_tests)
+follows = search (arith, all_false)
 
 pub leads : (f : List ℕ) (base p : ℕ) → p < length f → EachOnce f → ((x : ℕ) → base ≤ x → x < p → get_or f x 0 ≡ x)
     → leads_cycle f base p ≡ true
-leads f base p h o own =
-    all_true _ (cycle f p) (λ x i. elim (cases_Bool (nat_lt x base || nat_le p x)) [
-      | inl t ↦ t
-      | inr n ↦
-          let back = subst (In p) (own_cycle f x (own x
-          (grind (arith, nat_tests, n)) (grind (arith, nat_tests, n)))) (cycle_back f p x h o i) in
-          search arith
-    ])
+leads f base p h o own = all_true _ (cycle f p) (λ x i. elim (cases_Bool (nat_lt x base || nat_le p x)) [
+  | inl t ↦ t
+  | inr n ↦
+      let back = subst (In p) (own_cycle f x (own x (grind arith) (grind arith))) (cycle_back f p x h o i) in
+      search arith
+])
 
 -- what is still to be merged, of n places from a on
 abbrev pub merges_left_from : List ℕ → ℕ → ℕ → ℕ → List (ℕ × ℕ)
 merges_left_from f base a n = map (cycle_stretch f base) (filter (leads_cycle f base) (range_with_len a n))
 
 -- one place alone merges with nothing
-merge_one : (level : BufferClusterLevel) (s e : ℕ) (gs : List hb_glyph_info_t) → e ≡ suc s → merge level s e gs ≡ gs
-merge_one level s e gs is =
-    search arith
+merge_one : (level : BufferClusterLevel) (s e : ℕ) (gs : Glyphs) → e ≡ suc s → merge level s e gs ≡ gs
+merge_one = search arith
 
 -- a place whose cycle two lists have alike, and one that leads none in the first list and is alone in the second
 pub record Same (f g : List ℕ) (base r : ℕ) : Type 0 where
@@ -122,23 +116,23 @@ pub record Gone (f g : List ℕ) (base r : ℕ) : Type 0 where
   pub alone : cycle g r ≡ r ∷ []
   pub behind : base ≤ r
 
-left_yes : (level : BufferClusterLevel) (s : ℕ) (f : List ℕ) (base a n : ℕ) (gs : List hb_glyph_info_t)
+left_yes : (level : BufferClusterLevel) (s : ℕ) (f : List ℕ) (base a n : ℕ) (gs : Glyphs)
     → leads_cycle f base a ≡ true → merge_all level (shifted s (merges_left_from f base a (suc n))) gs
     ≡ merge_all level (shifted s (merges_left_from f base (a + 1) n))
     (merge level (s + (cycle_stretch f base a).0) (s + (cycle_stretch f base a).1) gs)
 left_yes level s f base a n gs e = cc
 
-left_no : (level : BufferClusterLevel) (s : ℕ) (f : List ℕ) (base a n : ℕ) (gs : List hb_glyph_info_t)
+left_no : (level : BufferClusterLevel) (s : ℕ) (f : List ℕ) (base a n : ℕ) (gs : Glyphs)
     → leads_cycle f base a ≡ false → merge_all level (shifted s (merges_left_from f base a (suc n))) gs
     ≡ merge_all level (shifted s (merges_left_from f base (a + 1) n)) gs
 left_no level s f base a n gs e = cc
 
-left_alone : (level : BufferClusterLevel) (s : ℕ) (f : List ℕ) (base a n : ℕ) (gs : List hb_glyph_info_t) → base ≤ a
+left_alone : (level : BufferClusterLevel) (s : ℕ) (f : List ℕ) (base a n : ℕ) (gs : Glyphs) → base ≤ a
     → cycle f a ≡ a ∷ [] → merge_all level (shifted s (merges_left_from f base a (suc n))) gs
     ≡ merge_all level (shifted s (merges_left_from f base (a + 1) n)) gs
-left_alone level s f base a n gs h e = search (arith, left_yes, merge_one, left_no)
+left_alone = search arith
 
-left_alike : (level : BufferClusterLevel) (s : ℕ) (f g : List ℕ) (base a n : ℕ) (gs : List hb_glyph_info_t)
+left_alike : (level : BufferClusterLevel) (s : ℕ) (f g : List ℕ) (base a n : ℕ) (gs : Glyphs)
     → ((r : ℕ) → a ≤ r → r < a + n → Same f g base r ⊎ Gone f g base r)
     → merge_all level (shifted s (merges_left_from f base a n)) gs
     ≡ merge_all level (shifted s (merges_left_from g base a n)) gs
@@ -148,23 +142,17 @@ left_alike level s f g base a (suc n) gs each =
     elim (each a (omega arith) (omega arith)) [
       | inl same ↦ elim (cases_Bool _) [
         | inl t ↦
-            cc (
-              left_yes level s f base a n gs t,
-              same.stretch,
-              left_alike level s f g base (a + 1) n _ later,
-              left_yes level s g base a n gs (sym same.led ∙ t),
-            )
+            cc (left_yes level s f base a n gs t, left_alike level s f g base (a + 1) n _ later, left_yes level s g base a n gs (sym same.led ∙ t))
         | inr t ↦ search (arith, left_no, left_alike level s f g base (a + 1) n gs later)
       ]
-      | inr gone ↦ search (arith, left_no, left_alone, left_alike level s f g base (a + 1) n gs later)
+      | inr gone ↦ search (arith, left_alike level s f g base (a + 1) n gs later)
     ]
 
 -- a place that stays
-pub left_staying : (level : BufferClusterLevel) (s : ℕ) (f : List ℕ) (base p n : ℕ) (gs : List hb_glyph_info_t)
+pub left_staying : (level : BufferClusterLevel) (s : ℕ) (f : List ℕ) (base p n : ℕ) (gs : Glyphs)
     → base ≤ p → p < n → get_or f p 0 ≡ p → merge_all level (shifted s (merges_left_from f base p (n - p))) gs
     ≡ merge_all level (shifted s (merges_left_from f base (p + 1) (n - (p + 1)))) gs
-left_staying level s f base p n gs h l e =
-    search (arith, left_alone, own_cycle)
+left_staying = search (arith, own_cycle)
 
 -- a place whose cycle merges and is spent
 alike_behind : (f : List ℕ) (base p r : ℕ) → base ≤ p → p < r → r < length f → EachOnce f
@@ -176,32 +164,29 @@ alike_behind f base p r h k l o =
       | inl i ↦ inr
           (record {
             led = follows f base p r h k (cycle_back f p r p_inside o i);
-            alone = own_cycle _ r
-                (spent_at f c r l i);
+            alone = own_cycle _ r (spent_at f c r l i);
             behind = omega arith;
           })
       | inr out ↦
           let same = sym (other_cycle f p r p_inside l o out) in
           inl (record {
             led = ap (list_all (λ q. nat_lt q base || nat_le r q)) same;
-            stretch = ap
-                (λ ys. (max base (fold min r ys), suc (fold max r ys))) same;
+            stretch = ap (λ ys. (max base (fold min r ys), suc (fold max r ys))) same;
           })
     ]
 
-pub left_spent : (level : BufferClusterLevel) (s : ℕ) (f : List ℕ) (base p : ℕ) (gs : List hb_glyph_info_t) → base ≤ p
+pub left_spent : (level : BufferClusterLevel) (s : ℕ) (f : List ℕ) (base p : ℕ) (gs : Glyphs) → base ≤ p
     → p < length f → EachOnce f → ((x : ℕ) → base ≤ x → x < p → get_or f x 0 ≡ x)
     → merge_all level (shifted s (merges_left_from f base p (length f - p))) gs
     ≡ merge_all level (shifted s (merges_left_from (with_spent f (cycle f p)) base (p + 1) (length f - (p + 1))))
     (merge level (s + (cycle_stretch f base p).0) (s + (cycle_stretch f base p).1) gs)
-left_spent level s f base p gs h l o own =
-    search (
-      arith,
-      left_yes level s f base p (length f - (p + 1)) gs (leads f base p l o own),
-      left_alike level s f (with_spent f (cycle f p)) base (p + 1) (length f - (p + 1))
-          (merge level (s + (cycle_stretch f base p).0) (s + (cycle_stretch f base p).1) gs)
-          (λ r a b. alike_behind f base p r h (omega arith) (omega arith) o),
-    )
+left_spent level s f base p gs h l o own = search (
+  arith,
+  left_yes level s f base p (length f - (p + 1)) gs (leads f base p l o own),
+  left_alike level s f (with_spent f (cycle f p)) base (p + 1) (length f - (p + 1))
+      (merge level (s + (cycle_stretch f base p).0) (s + (cycle_stretch f base p).1) gs)
+      (λ r a b. alike_behind f base p r h (omega arith) (omega arith) o),
+)
 
 -- the bounds of what a cycle merges
 
@@ -215,15 +200,14 @@ pub record StretchBounds (f : List ℕ) (base p : ℕ) : Type 0 where
   pub inside : fold max p (cycle f p) < length f
 
 pub stretch_bounds : (f : List ℕ) (base p : ℕ) → p < length f → EachOnce f → StretchBounds f base p
-stretch_bounds f base p h o = search (arith, fold_min-le, fold_max-le, fold_max-lt, cycle_within)
+stretch_bounds = search (fold_min-le, fold_max-le, fold_max-lt, cycle_within)
 
 -- what is spent stays spent
 pub own_next : (f : List ℕ) (base p : ℕ) → p < length f → EachOnce f → ((x : ℕ) → base ≤ x → x < p → get_or f x 0 ≡ x)
     → (x : ℕ) → base ≤ x → x < p + 1 → get_or (with_spent f (cycle f p)) x 0 ≡ x
-own_next f base p h o own x low high =
-    elim (in_or_not x (cycle f p)) [
-      | inl i ↦ spent_at f (cycle f p) x (omega arith) i
-      | inr out ↦
-          let n : x ≢ p = λ e. out (inl e) in
-          search (arith, unspent_at)
-    ]
+own_next f base p h o own x low high = elim (in_or_not x (cycle f p)) [
+  | inl i ↦ spent_at f (cycle f p) x (omega arith) i
+  | inr out ↦
+      let n : x ≢ p = λ e. out (inl e) in
+      search (arith, unspent_at)
+]

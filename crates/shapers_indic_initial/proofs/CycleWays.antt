@@ -3,7 +3,6 @@ use Rattle.std.proofs.Common.{ℕ, zero, suc, ◌+◌, ◌-◌, ◌<◌, ◌≤�
 use Rattle.std.specs.Prelude.{filter, fold, nat_le}
 use Rattle.std.specs.List.{range_with_len}
 use Rattle.std.proofs.lemmas.Bool.{cases_Bool, cases_lt}
-use Rattle.std.proofs.lemmas.Bool.Decides.{nat_tests}
 use Rattle.shapers_clusters.specs.Cuts.{held}
 use Rattle.shapers_indic.specs.Glyphs.{places}
 use Rattle.shapers_indic_initial.specs.CycleWalk.{EachOnce}
@@ -47,19 +46,19 @@ filter_in test (y ∷ ys) x i =
 
 -- which stretches hold two neighbours
 holds : (st : ℕ × ℕ) (r : ℕ) → st.0 < r → r < st.1 → (nat_lt st.0 r && nat_lt r st.1) ≡ true
-holds st r a b = grind (arith, nat_tests)
+holds = grind arith
 
 record Holds (st : ℕ × ℕ) (r : ℕ) : Type 0 where
   pub low : st.0 < r
   pub high : r < st.1
 
 holds_both : (s e r : ℕ) → (nat_lt s r && nat_lt r e) ≡ true → Holds (s, e) r
-holds_both s e r h = search (arith, nat_tests)
+holds_both = search arith
 
 held_by : (f : ℕ → ℕ × ℕ) (xs : List ℕ) (x r : ℕ) → In x xs → Holds (f x) r → held (map f xs) r ≡ true
 held_by f [] x r i h = absurd i
 held_by f (y ∷ ys) x r i h = elim i [
-  | inl e ↦ (search (arith, holds))
+  | inl e ↦ (search arith)
   | inr j ↦ search (arith, held_by f ys x r j h)
 ]
 
@@ -118,8 +117,7 @@ cycle_holds : (f : List ℕ) (p z y : ℕ) → p < length f → EachOnce f → I
     → In y (cycle f p)
 cycle_holds f p z y h o i j = elim j [
   | inl e ↦ search arith
-  | inr k ↦ way_keeps _ f z _ _ y (λ w a _. cycle_closed f p w h o a)
-      (cycle_closed f p z h o i) k
+  | inr k ↦ way_keeps _ f z _ _ y (λ w a _. cycle_closed f p w h o a) (cycle_closed f p z h o i) k
 ]
 
 -- the place that leads a cycle with a place from the base on
@@ -136,8 +134,7 @@ record LeastIn (xs : List ℕ) (a : ℕ) : Type 0 where
   pub least : (x : ℕ) → a ≤ x → x < place → In x xs → ⊥
 
 least_in : (xs : List ℕ) (a k p : ℕ) → a + k ≡ p → In p xs → LeastIn xs a
-least_in xs a zero p e i =
-    search arith
+least_in xs a zero p e i = search arith
 least_in xs a (suc k) p e i = elim (in_or_not a xs) [
   | inl j ↦ search arith
   | inr n ↦
@@ -145,7 +142,7 @@ least_in xs a (suc k) p e i = elim (in_or_not a xs) [
 ]
 
 before_or_from : (base l q : ℕ) → ((base ≤ q) → l ≤ q) → (nat_lt q base || nat_le l q) ≡ true
-before_or_from base l q h = search (arith, nat_tests)
+before_or_from = search arith
 
 leader : (f : List ℕ) (base p : ℕ) → base ≤ p → p < length f → EachOnce f → Leader f base p
 leader f base p b h o =
@@ -157,10 +154,10 @@ leader f base p b h o =
       among = search (arith, in_range);
       leads = all_true _ (cycle f l)
           (λ q i. before_or_from base l q (λ k. elim (cases_lt q l) [
-            | inl m ↦ search (arith, found.least, cycle_holds)
+            | inl m ↦ search (found.least, cycle_holds)
             | inr m ↦ m
           ]));
-      has = search (arith, cycle_back);
+      has = search cycle_back;
     }
 
 -- a way lies within what its cycle merges
@@ -172,8 +169,7 @@ way_in_cycle f base p r b h o w =
     let c = cycle f l in
     let n = range_in base _ l found.among in
     let next = cycle_closed f l p (omega arith) o found.has in
-    held_by _ _ l r
-    (search (arith, in_filter))
+    held_by _ _ l r (search in_filter)
     (
     search (
       arith,
@@ -220,9 +216,7 @@ cycle_in_ways f base l r h o w =
     elim (crosses_or_not f c r) [
       | inl x ↦ (
           let inside = cycle_within f l x.place h o x.among in
-          held_by _ _ x.place r
-          (search (arith, in_range))
-          (search arith))
+          held_by _ _ x.place r (search (arith, in_range)) (search arith))
       | inr none ↦
           search (
             arith,
@@ -237,13 +231,10 @@ same_bool false true f g = g refl
 same_bool false false f g = refl
 
 pub held_by_ways : (f : List ℕ) (base r : ℕ) → EachOnce f → held (cycle_stretches f base) r ≡ held (all_ways f base) r
-held_by_ways f base r o = same_bool _ _
-    (λ t.
+held_by_ways f base r o = same_bool _ _ (λ t.
     let x = by_held (cycle_stretch f base) _ r t in
-    let n = range_in base _ x.place
-    (filter_in (leads_cycle f base) _ x.place x.among) in
-    search (arith, cycle_in_ways))
-    (λ t.
+    let n = range_in base _ x.place (filter_in (leads_cycle f base) _ x.place x.among) in
+    search (arith, cycle_in_ways)) (λ t.
     let x = by_held _ _ r t in
     let n = range_in base (length f - base) x.place x.among in
     search (arith, way_in_cycle))

@@ -3,7 +3,6 @@ use Rattle.std.proofs.Common.{◌≡◌, ◌≢◌, ◌⊎◌, inl, inr, ℕ, ze
 use Rattle.std.specs.Prelude.{swap}
 use Rattle.std.specs.List.{AllByRecursion, IsDistinct, list_any, list_all}
 use Rattle.std.proofs.lemmas.Bool.{cases_eq}
-use Rattle.std.proofs.lemmas.Bool.Decides.{nat_tests}
 use Rattle.std.proofs.lemmas.List.Edits.{swap_is, length-swap}
 use Rattle.std.proofs.lemmas.Map.Keys.{IsDistinct-cons}
 use Rattle.std.proofs.lemmas.Map.Steps.{length-le_from_distinct_below}
@@ -43,19 +42,19 @@ abbrev pub turned : ℕ → ℕ → ℕ → ℕ
 turned p q i = if i == q then p else if i == p then q else i
 
 pub turned_second : (p q i : ℕ) → i ≡ q → turned p q i ≡ p
-turned_second p q i e = grind (arith, nat_tests)
+turned_second = grind arith
 
 pub turned_first : (p q i : ℕ) → i ≢ q → i ≡ p → turned p q i ≡ q
-turned_first p q i n e = grind (arith, nat_tests)
+turned_first = grind arith
 
 pub turned_other : (p q i : ℕ) → i ≢ q → i ≢ p → turned p q i ≡ i
-turned_other p q i n m = grind (arith, nat_tests)
+turned_other = grind arith
 
 turned_within : (n p q i : ℕ) → p < n → q < n → i < n → turned p q i < n
-turned_within n p q i h k l = grind (arith, nat_tests)
+turned_within = grind arith
 
 turned_once : (p q i j : ℕ) → turned p q i ≡ turned p q j → i ≡ j
-turned_once p q i j e = grind (arith, nat_tests)
+turned_once = grind arith
 
 pub swap_at : (xs : List ℕ) (p q i : ℕ) → p < length xs → q < length xs
     → get_or (swap xs p q) i 0 ≡ get_or xs (turned p q i) 0
@@ -66,15 +65,13 @@ swap_at xs p q i h k =
     ∙ elim (cases_eq i q) [
       | inl e ↦ ap (λ m. get_or (set (set xs p a) q b) m 0) e ∙ get_or-set_same _ q b 0 (omega (
         arith,
-        length-set xs
-            p a,
+        length-set xs p a,
       )) ∙ sym (ap (λ m. get_or xs m 0) (turned_second p q i e))
       | inr n ↦ get_or-set_other _ q i b 0 n ∙ elim
           (cases_eq i p) [
             | inl e ↦ ap (λ m. get_or (set xs p a) m 0) e ∙ get_or-set_same xs p a 0 h ∙ sym (ap (λ m.
                 get_or xs m 0) (turned_first p q i n e))
-            | inr m ↦ get_or-set_other xs p i a 0 m ∙ sym (ap (λ m. get_or xs m 0)
-                (turned_other p q i n m))
+            | inr m ↦ get_or-set_other xs p i a 0 m ∙ sym (ap (λ m. get_or xs m 0) (turned_other p q i n m))
           ]
     ]
 
@@ -83,35 +80,33 @@ once-swap f p q h k o =
     let n = length-swap f p q in
     record {
       within = search (arith, swap_at);
-      once = λ i j l m e. turned_once p q i j
-          (o.once _ _
-          (turned_within _ p q i h k (omega arith))
+      once = λ i j l m e. turned_once p q i j (o.once _ _ (turned_within _ p q i h k (omega arith))
           (turned_within _ p q j h k (omega arith)) (sym (swap_at f p q i h k) ∙ e ∙ swap_at f p q j h k));
     }
 
 -- the way to p, place by place
 pub way_at : (f : List ℕ) (p m q : ℕ) → q ≡ p → way_to f p m q ≡ []
 way_at f p zero q e = refl
-way_at f p (suc m) q e = search (arith, nat_tests)
+way_at f p (suc m) q e = search arith
 
 pub way_next : (f : List ℕ) (p m q : ℕ) → q ≢ p → way_to f p (suc m) q ≡ q ∷ way_to f p m (get_or f q 0)
-way_next f p m q n = search (arith, nat_tests)
+way_next = search arith
 
 -- two lists that agree on a set of places that the way keeps to
 pub way_agrees : (A : ℕ → Type 0) (f g : List ℕ) (p m x : ℕ)
     → ((y : ℕ) → A y → y ≢ p → (get_or f y 0 ≡ get_or g y 0) × A (get_or f y 0)) → A x → way_to f p m x ≡ way_to g p m x
 way_agrees A f g p zero x step a = refl
 way_agrees A f g p (suc m) x step a = elim (cases_eq x p) [
-  | inl e ↦ search (arith, way_at)
+  | inl e ↦ search arith
   | inr n ↦
-      search (arith, way_next, way_agrees A f g p m _ step (step x a n).1)
+      search (arith, way_agrees A f g p m _ step (step x a n).1)
 ]
 
 pub way_keeps : (A : ℕ → Type 0) (f : List ℕ) (p m x y : ℕ) → ((z : ℕ) → A z → z ≢ p → A (get_or f z 0)) → A x
     → In y (way_to f p m x) → A y
 way_keeps A f p zero x y step a i = absurd i
 way_keeps A f p (suc m) x y step a i = elim (cases_eq x p) [
-  | inl e ↦ search (arith, way_at)
+  | inl e ↦ search arith
   | inr n ↦ elim (subst (In y) (way_next f p m x n) i) [
     | inl e ↦ subst A (sym e) a
     | inr i ↦ way_keeps A f p m _ y step (step x a n) i
@@ -121,7 +116,7 @@ way_keeps A f p (suc m) x y step a i = elim (cases_eq x p) [
 way_apart : (f : List ℕ) (p m x y : ℕ) → In y (way_to f p m x) → y ≢ p
 way_apart f p zero x y i = absurd i
 way_apart f p (suc m) x y i = elim (cases_eq x p) [
-  | inl e ↦ search (arith, way_at)
+  | inl e ↦ search arith
   | inr n ↦ elim (subst (In y) (way_next f p m x n) i) [
     | inl e ↦ λ s. n (sym e ∙ s)
     | inr i ↦ way_apart f p m _ y i
@@ -135,16 +130,16 @@ ends_at f p (suc m) q = if q == p then p else ends_at f p m (get_or f q 0)
 
 ends_there : (f : List ℕ) (p m q : ℕ) → q ≡ p → ends_at f p m q ≡ p
 ends_there f p zero q e = e
-ends_there f p (suc m) q e = search (arith, nat_tests)
+ends_there f p (suc m) q e = search arith
 
 ends_next : (f : List ℕ) (p m q : ℕ) → q ≢ p → ends_at f p (suc m) q ≡ ends_at f p m (get_or f q 0)
-ends_next f p m q n = search (arith, nat_tests)
+ends_next = search arith
 
 -- a way that hasn't come back is as long as may be
 length-way : (f : List ℕ) (p m q : ℕ) → ends_at f p m q ≢ p → length (way_to f p m q) ≡ m
 length-way f p zero q n = refl
 length-way f p (suc m) q n = elim (cases_eq q p) [
-  | inl e ↦ search (arith, ends_there)
+  | inl e ↦ search arith
   | inr o ↦ cc (way_next f p m q o, length-way f p m _ (λ e. n (ends_next f p m q o ∙ e)))
 ]
 
@@ -155,11 +150,11 @@ pub record OnTheWay (f : List ℕ) (q y : ℕ) : Type 0 where
 
 pub keeps_off : (f : List ℕ) (p : ℕ) → p < length f → EachOnce f → (y : ℕ) → OnTheWay f (get_or f p 0) y → y ≢ p
     → OnTheWay f (get_or f p 0) (get_or f y 0)
-keeps_off f p h o y a n = search (arith, o.within)
+keeps_off f p h o = search arith
 
 pub second_off : (f : List ℕ) (p : ℕ) → p < length f → EachOnce f → get_or f p 0 ≢ p
     → OnTheWay f (get_or f p 0) (get_or f (get_or f p 0) 0)
-second_off f p h o n = search (arith, o.within)
+second_off f p h o = search arith
 
 pub way_spent : (f : List ℕ) (p m : ℕ) → p < length f → EachOnce f → get_or f p 0 ≢ p → let q = get_or f p 0 in
     way_to f p m (get_or f q 0) ≡ way_to (swap f p q) p m (get_or (swap f p q) p 0)
@@ -170,8 +165,7 @@ way_spent f p m h o n =
       way_agrees _ f _ p m _
           (λ y a t. (
             sym (swap_at f p q y h k ∙ ap (λ i. get_or f i 0) (turned_other p q y a.other t)),
-            keeps_off f p
-                h o y a t,
+            keeps_off f p h o y a t,
           )) (second_off f p h o n),
       swap_at f p q p h k,
       turned_first p q p (λ e. n (sym e)) refl,
@@ -180,8 +174,7 @@ way_spent f p m h o n =
 -- no place is on it twice
 apart_all : (x : ℕ) (ys : List ℕ) → ((y : ℕ) → In y ys → y ≢ x) → AllByRecursion (λ y. eqb x y ≡ false) ys
 apart_all x [] apart = tt
-apart_all x (y ∷ ys) apart = let n =
-    apart y (inl refl) in (grind (arith, nat_tests), apart_all x ys (λ z i. apart z (inr i)))
+apart_all x (y ∷ ys) apart = let n = apart y (inl refl) in (grind arith, apart_all x ys (λ z i. apart z (inr i)))
 
 distinct_way : (f : List ℕ) (p m : ℕ) → p < length f → EachOnce f → IsDistinct eqb (way_to f p m (get_or f p 0))
 unfolding IsDistinct
@@ -194,7 +187,6 @@ distinct_way f p (suc m) h o = elim (cases_eq _ p) [
       (swap f p q) p m (omega (arith, length-swap f p q)) (once-swap f p q h (o.within p h) o)) in
       search (
         arith,
-        way_next f p m q n,
         IsDistinct-cons eqb q _
             (apart_all q _ (λ (y : ℕ) (i : In y (way_to f p m (get_or f q 0))). (way_keeps _ f p m _ y (λ z a t.
             keeps_off f p h o z a t) (second_off f p h o n) i).other)) rest,
@@ -206,7 +198,7 @@ any_is_in q [] e = absurd (cc)
 any_is_in q (x ∷ xs) e = elim (cases_eq q x) [
   | inl s ↦ inl s
   | inr n ↦ let t : eqb q x ≡ false =
-      grind (arith, nat_tests) in inr (any_is_in q xs (sym (ap (λ b. b || list_any (eqb q) xs) t) ∙ e))
+      grind arith in inr (any_is_in q xs (sym (ap (λ b. b || list_any (eqb q) xs) t) ∙ e))
 ]
 
 -- all places of a cycle are places of the list
@@ -224,7 +216,7 @@ comes_back f p h o = elim (cases_eq _ p) [
       let way = way_to f p (length f) _ in
       let long = length-way f p _ (get_or f p 0) n in
       let short = length-le_from_distinct_below _ _
-      (IsDistinct-cons eqb p way (search (arith, apart_all, way_apart)) (distinct_way f p (length f) h o))
+      (IsDistinct-cons eqb p way (search (apart_all, way_apart)) (distinct_way f p (length f) h o))
       (λ q e. cycle_within f p q h o (any_is_in q (p ∷ way) e)) in
       search arith
 ]
@@ -241,21 +233,20 @@ way_closed : (f : List ℕ) (p m q x : ℕ) → ends_at f p m q ≡ p → In x (
     → In (get_or f x 0) (p ∷ way_to f p m q)
 way_closed f p zero q x e i = absurd i
 way_closed f p (suc m) q x e i = elim (cases_eq q p) [
-  | inl s ↦ search (arith, way_at)
+  | inl s ↦ search arith
   | inr n ↦
       let rest = way_to f p m _ in
       let back = sym (ends_next f p m q n) ∙ e in
       let wider = λ (y : ℕ) (j : In y (p ∷ rest)). subst (λ ys. In y (p ∷ ys)) (sym (way_next f p m q n))
       (elim j as (λ _. In y (p ∷ (q ∷ rest))) [ inl s ↦ inl s | inr k ↦ inr (inr k) ]) in
       elim (subst (In x) (way_next f p m q n) i) [
-        | inl s ↦ wider _
-            (subst (λ z. In (get_or f z 0) (p ∷ rest)) (sym s) (head_in f p m _ back))
+        | inl s ↦ wider _ (subst (λ z. In (get_or f z 0) (p ∷ rest)) (sym s) (head_in f p m _ back))
         | inr j ↦ wider _ (way_closed f p m _ x back j)
       ]
 ]
 
 pub cycle_closed : (f : List ℕ) (p x : ℕ) → p < length f → EachOnce f → In x (cycle f p) → In (get_or f x 0) (cycle f p)
-cycle_closed f p x h o i = search (arith, head_in, comes_back, way_closed)
+cycle_closed = search (arith, comes_back, way_closed)
 
 -- the place before one of the cycle is in it
 record CameFrom (f : List ℕ) (p m z y : ℕ) : Type 0 where
@@ -265,8 +256,7 @@ record CameFrom (f : List ℕ) (p m z y : ℕ) : Type 0 where
 
 came_further : (f : List ℕ) (p m z y : ℕ) → get_or f z 0 ≢ p → CameFrom f p m (get_or f z 0) y
     → CameFrom f p (suc m) z y
-came_further f p m z y n c =
-    search arith
+came_further = search arith
 
 came_from : (f : List ℕ) (p m z y : ℕ) → In y (way_to f p m (get_or f z 0)) → CameFrom f p m z y
 came_from f p zero z y i = absurd i
@@ -286,7 +276,7 @@ came_back f p (suc m) z e = elim (cases_eq _ p) [
 ]
 
 from_cycle : (f : List ℕ) (p y : ℕ) → p < length f → EachOnce f → In y (cycle f p) → CameFrom f p (length f) p y
-from_cycle f p y h o i = search (arith, came_back, comes_back, came_from)
+from_cycle = search (arith, came_back, comes_back, came_from)
 
 pub cycle_closed_back : (f : List ℕ) (p x : ℕ) → p < length f → x < length f → EachOnce f
     → In (get_or f x 0) (cycle f p) → In x (cycle f p)
@@ -300,7 +290,7 @@ leads_back : (f : List ℕ) (p m q r : ℕ) → q < length f → r < length f �
     → In q (cycle f r)
 leads_back f p zero q r h k o i = absurd i
 leads_back f p (suc m) q r h k o i = elim (cases_eq q p) [
-  | inl s ↦ search (arith, way_at)
+  | inl s ↦ search arith
   | inr n ↦ elim (subst (In r) (way_next f p m q n) i) [
     | inl s ↦ inl (sym s)
     | inr j ↦ cycle_closed_back f r q k h o (leads_back f p m _ r (o.within q h) k o j)

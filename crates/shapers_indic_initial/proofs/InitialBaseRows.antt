@@ -1,6 +1,6 @@
 -- The reph, the limit, where the search ends, and the base, computed case by case.
 use Rattle.std.specs.Prelude.{◌≡◌, ℕ, true, false, List, [], ◌∷◌, map, None, refl}
-use Rattle.shapers_buffer.specs.declared.buffer.glyph.hb_glyph_info_t.{hb_glyph_info_t}
+use Rattle.shapers_buffer.specs.Glyphs.{Glyphs}
 use Rattle.shapers_base.specs.declared.plan.indic.BaseSearch.TheVariants.{AllConsonants}
 use Rattle.shapers_indic.proofs.RowWords.{C, CM, H, ZWNJ, ZWJ, M, Repha, Ra, of, plainly, script, with_row_marks}
 use Rattle.shapers_indic_initial.proofs.InitialWords.{rules, no_masks, each_mask, ligated_at, with_reph_of}
@@ -9,7 +9,7 @@ use Rattle.shapers_indic_initial.specs.InitialRules.{Rules}
 use Rattle.shapers_syllabic.specs.Consonants.{is_consonant}
 
 -- the joiner of Kannada: Ra, H, ZWJ in front, none of them a ligature
-abbrev ra_h_zwj : List hb_glyph_info_t
+abbrev ra_h_zwj : Glyphs
 ra_h_zwj = plainly (Ra ∷ H ∷ ZWJ ∷ C ∷ [])
 
 kannada : map (joiner_comes_first (script "Knda")) (ra_h_zwj ∷ plainly (Ra ∷ H ∷ ZWJ ∷ []) ∷ []) ≡ true ∷ true ∷ []
@@ -45,36 +45,31 @@ not_formed = refl
 -- written as Ra, H, ZWJ: the ZWJ is there, be it a ligature, and the font forms it of two or of three
 explicit_rephs : map
     (λ ids. indic_reph_len (with_reph_of ids (rules "Telu" false each_mask)) (plainly (Ra ∷ H ∷ ZWJ ∷ C ∷ [])))
-    ((0 ∷ 1 ∷ []) ∷ (0 ∷ 1 ∷ 2 ∷ []) ∷ (1 ∷ 2 ∷ []) ∷ [])
-    ≡ 2 ∷ 2 ∷ 0 ∷ []
+    ((0 ∷ 1 ∷ []) ∷ (0 ∷ 1 ∷ 2 ∷ []) ∷ (1 ∷ 2 ∷ []) ∷ []) ≡ 2 ∷ 2 ∷ 0 ∷ []
 explicit_rephs = refl
 
 explicit_thirds : map (indic_reph_len (with_reph_of (0 ∷ 1 ∷ []) (rules "Sinh" false each_mask)))
     (plainly (Ra ∷ H ∷ C ∷ []) ∷ plainly (Ra ∷ H ∷ ZWNJ ∷ []) ∷ ligated_at 2 (plainly (Ra ∷ H ∷ ZWJ ∷ []))
-    ∷ plainly (Ra ∷ H ∷ []) ∷ [])
-    ≡ 0 ∷ 0 ∷ 2 ∷ 0 ∷ []
+    ∷ plainly (Ra ∷ H ∷ []) ∷ []) ≡ 0 ∷ 0 ∷ 2 ∷ 0 ∷ []
 explicit_thirds = refl
 
 -- a character of its own, whatever the font says
 rephas : map (indic_reph_len (with_reph_of (0 ∷ 1 ∷ []) (rules "Mlym" false each_mask)))
     (plainly (Repha ∷ C ∷ []) ∷ plainly (Repha ∷ []) ∷ plainly (Ra ∷ H ∷ C ∷ []) ∷ plainly (C ∷ Repha ∷ []) ∷ []
-    ∷ plainly (Repha ∷ C ∷ M ∷ []) ∷ ligated_at 0 (plainly (Repha ∷ C ∷ [])) ∷ [])
-    ≡ 1 ∷ 1 ∷ 0 ∷ 0 ∷ 0 ∷ 1 ∷ 1 ∷ []
+    ∷ plainly (Repha ∷ C ∷ M ∷ []) ∷ ligated_at 0 (plainly (Repha ∷ C ∷ [])) ∷ []) ≡ 1 ∷ 1 ∷ 0 ∷ 0 ∷ 0 ∷ 1 ∷ 1 ∷ []
 rephas = refl
 
 -- the limit: behind the reph and the joiners after it
 limits : limit implicit (plainly (Ra ∷ H ∷ C ∷ [])) ∷ limit implicit (plainly (Ra ∷ H ∷ ZWJ ∷ C ∷ []))
     ∷ limit (with_reph_of (0 ∷ 1 ∷ []) (rules "Telu" false each_mask)) (plainly (Ra ∷ H ∷ ZWJ ∷ ZWNJ ∷ C ∷ ZWJ ∷ []))
     ∷ limit (rules "Mlym" false no_masks) (plainly (Repha ∷ ZWJ ∷ C ∷ []))
-    ∷ limit (rules "Mlym" false no_masks) (plainly (Repha ∷ ZWJ ∷ [])) ∷ []
-    ≡ 2 ∷ 0 ∷ 4 ∷ 2 ∷ 2 ∷ []
+    ∷ limit (rules "Mlym" false no_masks) (plainly (Repha ∷ ZWJ ∷ [])) ∷ [] ≡ 2 ∷ 0 ∷ 4 ∷ 2 ∷ 2 ∷ []
 limits = refl
 
 -- a ligature of a joiner isn't passed, nor are joiners in front where there is no reph
 limits_before_joiners : limit (with_reph_of (0 ∷ 1 ∷ []) (rules "Telu" false each_mask))
     (ligated_at 2 (plainly (Ra ∷ H ∷ ZWJ ∷ ZWJ ∷ C ∷ [])))
-    ∷ limit (rules "Deva" false no_masks) (plainly (ZWJ ∷ ZWNJ ∷ C ∷ [])) ∷ []
-    ≡ 2 ∷ 0 ∷ []
+    ∷ limit (rules "Deva" false no_masks) (plainly (ZWJ ∷ ZWNJ ∷ C ∷ [])) ∷ [] ≡ 2 ∷ 0 ∷ []
 limits_before_joiners = refl
 
 -- where the search ends: behind the last ZWJ that follows an H
@@ -92,8 +87,7 @@ ends_with_ligatures = refl
 from_a_limit : search_from 3 (plainly (Ra ∷ H ∷ ZWJ ∷ C ∷ [])) ∷ search_from 2 (plainly (Ra ∷ H ∷ ZWJ ∷ C ∷ []))
     ∷ search_start (rules "Mlym" false no_masks) (plainly (Repha ∷ []))
     ∷ search_start (rules "Mlym" false no_masks) (plainly (Repha ∷ ZWJ ∷ []))
-    ∷ search_start (rules "Mlym" false no_masks) (plainly (Repha ∷ ZWJ ∷ C ∷ [])) ∷ []
-    ≡ 3 ∷ 3 ∷ 0 ∷ 1 ∷ 2 ∷ []
+    ∷ search_start (rules "Mlym" false no_masks) (plainly (Repha ∷ ZWJ ∷ C ∷ [])) ∷ [] ≡ 3 ∷ 3 ∷ 0 ∷ 1 ∷ 2 ∷ []
 from_a_limit = refl
 
 -- three consonants by their positions: the last that is neither below nor post-base; a post-base
@@ -142,7 +136,7 @@ are_consonants : map (λ gs. map (is_base_candidate AllConsonants) gs)
 are_consonants = refl
 
 -- a medial one by its position, as any other; alone; behind a reph; of two the last; the first where none is the last
-abbrev medials : List (List hb_glyph_info_t)
+abbrev medials : List Glyphs
 medials = of ((C, 4) ∷ (CM, 4) ∷ []) ∷ ligated_at 1 (of ((C, 4) ∷ (CM, 4) ∷ [])) ∷ of ((C, 4) ∷ (CM, 8) ∷ [])
     ∷ of ((C, 4) ∷ (CM, 11) ∷ []) ∷ of ((C, 4) ∷ (C, 11) ∷ (CM, 8) ∷ []) ∷ of ((C, 4) ∷ (CM, 11) ∷ (C, 8) ∷ [])
     ∷ of ((CM, 8) ∷ []) ∷ of ((M, 4) ∷ (CM, 11) ∷ (C, 11) ∷ []) ∷ of ((C, 4) ∷ (H, 4) ∷ (ZWJ, 4) ∷ (CM, 8) ∷ [])
@@ -169,8 +163,7 @@ no_medials = refl
 
 -- behind a ZWJ that ends the search: the first consonant there, none if there is none
 behind_zwj : map (base_place (rules "Deva" false no_masks)) (of ((C, 4) ∷ (H, 4) ∷ (ZWJ, 4) ∷ (C, 8) ∷ (C, 8) ∷ [])
-    ∷ plainly (C ∷ H ∷ ZWJ ∷ M ∷ []) ∷ plainly (C ∷ H ∷ ZWJ ∷ []) ∷ plainly (M ∷ []) ∷ [])
-    ≡ 3 ∷ 4 ∷ 3 ∷ 1 ∷ []
+    ∷ plainly (C ∷ H ∷ ZWJ ∷ M ∷ []) ∷ plainly (C ∷ H ∷ ZWJ ∷ []) ∷ plainly (M ∷ []) ∷ []) ≡ 3 ∷ 4 ∷ 3 ∷ 1 ∷ []
 behind_zwj = refl
 
 -- with a reph the search ends behind it, and without another base the reph is one; then it is none,
@@ -187,6 +180,5 @@ forced : has_indic_reph (with_reph_of (0 ∷ 1 ∷ []) (rules "Telu" false each_
     ∷ has_indic_reph (rules "Mlym" false no_masks) (plainly (Repha ∷ [])) ∷ has_indic_reph (rules "Mlym" false no_masks)
     (plainly (Repha ∷ ZWJ ∷ M ∷ [])) ∷ has_indic_reph (rules "Mlym" false no_masks)
     (plainly (Repha ∷ ZWJ ∷ ZWJ ∷ M ∷ [])) ∷ has_indic_reph (rules "Mlym" false no_masks) (plainly (Repha ∷ C ∷ []))
-    ∷ []
-    ≡ true ∷ false ∷ false ∷ true ∷ true ∷ []
+    ∷ [] ≡ true ∷ false ∷ false ∷ true ∷ true ∷ []
 forced = refl

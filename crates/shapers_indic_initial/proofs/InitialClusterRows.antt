@@ -20,8 +20,7 @@ ways_from_base = refl
 
 -- all from the base on in the older specification, and for more than 127 glyphs
 kept : kept_together (rules "Deva" true no_masks) (0 ∷ 2 ∷ 1 ∷ []) 1 ∷ kept_together (rules "Deva" false no_masks)
-    (0 ∷ 2 ∷ 1 ∷ []) 1 ∷ []
-    ≡ ((1, 3) ∷ []) ∷ ((1, 3) ∷ (1, 3) ∷ []) ∷ []
+    (0 ∷ 2 ∷ 1 ∷ []) 1 ∷ [] ≡ ((1, 3) ∷ []) ∷ ((1, 3) ∷ (1, 3) ∷ []) ∷ []
 kept = refl
 
 kept_long : map (λ n. length (kept_together (rules "Deva" false no_masks) (range_with_len 0 n) 0)) (127 ∷ 128 ∷ [])
@@ -36,13 +35,11 @@ joined_clusters : joined_step MonotoneGraphemes
     (indic_order_step (rules "Deva" false no_masks) (of ((C, 4) ∷ (M, 9) ∷ (M, 6) ∷ []))) (0 ∷ 1 ∷ 2 ∷ [])
     ∷ joined_step MonotoneCharacters
     (indic_order_step (rules "Deva" false no_masks) (of ((C, 4) ∷ (M, 9) ∷ (M, 6) ∷ (M, 8) ∷ [])))
-    (0 ∷ 1 ∷ 2 ∷ 3 ∷ [])
-    ∷ joined_step MonotoneGraphemes
+    (0 ∷ 1 ∷ 2 ∷ 3 ∷ []) ∷ joined_step MonotoneGraphemes
     (indic_order_step (rules "Deva" false no_masks) (of ((C, 4) ∷ (M, 2) ∷ (M, 9) ∷ (M, 6) ∷ [])))
     (0 ∷ 1 ∷ 2 ∷ 3 ∷ [])
     ∷ joined_step Characters (indic_order_step (rules "Deva" false no_masks) (of ((C, 4) ∷ (M, 9) ∷ (M, 6) ∷ [])))
-    (0 ∷ 1 ∷ 2 ∷ []) ∷ []
-    ≡ (0 ∷ 1 ∷ 1 ∷ []) ∷ (0 ∷ 1 ∷ 1 ∷ 1 ∷ []) ∷ (1 ∷ 0 ∷ 2 ∷ 2 ∷ []) ∷ (0 ∷ 2 ∷ 1 ∷ []) ∷ []
+    (0 ∷ 1 ∷ 2 ∷ []) ∷ [] ≡ (0 ∷ 1 ∷ 1 ∷ []) ∷ (0 ∷ 1 ∷ 1 ∷ 1 ∷ []) ∷ (1 ∷ 0 ∷ 2 ∷ 2 ∷ []) ∷ (0 ∷ 2 ∷ 1 ∷ []) ∷ []
 joined_clusters = refl
 
 -- where a syllable stands

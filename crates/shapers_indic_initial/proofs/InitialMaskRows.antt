@@ -2,7 +2,7 @@
 use Rattle.std.specs.Prelude.{◌≡◌, ℕ, ◌==◌, true, false, List, [], ◌∷◌, ◌++◌, length, map, refl}
 use Rattle.shapers_buffer.specs.Glyph.{default_glyph}
 use Rattle.shapers_buffer.specs.GlyphFlags.{with_bits}
-use Rattle.shapers_buffer.specs.declared.buffer.glyph.hb_glyph_info_t.{hb_glyph_info_t}
+use Rattle.shapers_buffer.specs.Glyphs.{Glyphs}
 use Rattle.shapers_indic.proofs.RowWords.{C, N, H, ZWNJ, ZWJ, Ra, of, plainly, with_row_marks, script, row_masks}
 use Rattle.shapers_indic_initial.proofs.InitialWords.{rules, no_masks, each_mask, ligated_at, with_pref_of}
 use Rattle.shapers_indic_initial.specs.InitialMasks.{with_eyelash_mask, with_initial_masks, with_masks_around, with_pref_mask, with_reph_mask, without_half}
@@ -14,7 +14,7 @@ new = rules "Deva" false each_mask
 abbrev old : Rules
 old = rules "Deva" true each_mask
 
-abbrev five : List hb_glyph_info_t
+abbrev five : Glyphs
 five = plainly (C ∷ C ∷ C ∷ C ∷ C ∷ [])
 
 -- the front run of the reph's position
@@ -26,9 +26,8 @@ reph = refl
 -- blwf, abvf and pstf; on it none
 around : row_masks (with_masks_around new 2 five) ∷ row_masks (with_masks_around old 2 five)
     ∷ row_masks (with_masks_around (rules "Knda" false each_mask) 2 five)
-    ∷ row_masks (with_masks_around (rules "Telu" true each_mask) 2 five) ∷ []
-    ≡ (160 ∷ 160 ∷ 0 ∷ 352 ∷ 352 ∷ []) ∷ (128 ∷ 128 ∷ 0 ∷ 352 ∷ 352 ∷ []) ∷ (128 ∷ 128 ∷ 0 ∷ 352 ∷ 352 ∷ [])
-    ∷ (128 ∷ 128 ∷ 0 ∷ 352 ∷ 352 ∷ []) ∷ []
+    ∷ row_masks (with_masks_around (rules "Telu" true each_mask) 2 five) ∷ [] ≡ (160 ∷ 160 ∷ 0 ∷ 352 ∷ 352 ∷ [])
+    ∷ (128 ∷ 128 ∷ 0 ∷ 352 ∷ 352 ∷ []) ∷ (128 ∷ 128 ∷ 0 ∷ 352 ∷ 352 ∷ []) ∷ (128 ∷ 128 ∷ 0 ∷ 352 ∷ 352 ∷ []) ∷ []
 around = refl
 
 around_the_ends : map (λ base. row_masks (with_masks_around new base five)) (0 ∷ 4 ∷ 5 ∷ [])
@@ -54,8 +53,7 @@ with_ligatures : map
     (λ i. row_masks (with_eyelash_mask old (script "Deva") 3 (ligated_at i (plainly (Ra ∷ H ∷ N ∷ C ∷ [])))))
     (0 ∷ 1 ∷ []) ∷ map
     (λ i. row_masks (with_eyelash_mask old (script "Deva") 3 (ligated_at i (plainly (Ra ∷ H ∷ ZWJ ∷ C ∷ []))))) (2 ∷ [])
-    ∷ []
-    ≡ ((32 ∷ 32 ∷ 0 ∷ 0 ∷ []) ∷ (32 ∷ 32 ∷ 0 ∷ 0 ∷ []) ∷ []) ∷ ((0 ∷ 0 ∷ 0 ∷ 0 ∷ []) ∷ []) ∷ []
+    ∷ [] ≡ ((32 ∷ 32 ∷ 0 ∷ 0 ∷ []) ∷ (32 ∷ 32 ∷ 0 ∷ 0 ∷ []) ∷ []) ∷ ((0 ∷ 0 ∷ 0 ∷ 0 ∷ []) ∷ []) ∷ []
 with_ligatures = refl
 
 no_eyelash : eyelash 1 (Ra ∷ H ∷ C ∷ []) ∷ eyelash 0 (Ra ∷ H ∷ []) ∷ eyelash 2 (C ∷ H ∷ C ∷ [])
@@ -84,7 +82,7 @@ no_pref_mask = refl
 
 -- a ZWNJ clears half from the glyph before it back to the nearest consonant, or to the start; a
 -- ZWJ, or a ligature, doesn't
-abbrev halves : List hb_glyph_info_t → List ℕ
+abbrev halves : Glyphs → List ℕ
 halves gs = row_masks (without_half 128 (map (with_bits 129) gs))
 
 cleared : map (λ cs. halves (plainly cs)) ((C ∷ H ∷ ZWNJ ∷ C ∷ []) ∷ (C ∷ C ∷ ZWNJ ∷ []) ∷ (N ∷ N ∷ ZWNJ ∷ [])
@@ -99,8 +97,6 @@ ligatures : halves (of ((C, 4) ∷ []) ++ with_row_marks 0x20 (record default_gl
 ligatures = refl
 
 -- all at once: reph, before the base, base, after it, with a pair for pref and a ZWNJ after the base
-all_masks : row_masks
-    (with_initial_masks (with_pref_of (4 ∷ 5 ∷ []) new) (script "Deva") 3
-    (of ((Ra, 1) ∷ (H, 1) ∷ (C, 3) ∷ (C, 4) ∷ (H, 8) ∷ (Ra, 8) ∷ [])))
-    ≡ 168 ∷ 168 ∷ 160 ∷ 0 ∷ 368 ∷ 368 ∷ []
+all_masks : row_masks (with_initial_masks (with_pref_of (4 ∷ 5 ∷ []) new) (script "Deva") 3
+    (of ((Ra, 1) ∷ (H, 1) ∷ (C, 3) ∷ (C, 4) ∷ (H, 8) ∷ (Ra, 8) ∷ []))) ≡ 168 ∷ 168 ∷ 160 ∷ 0 ∷ 368 ∷ 368 ∷ []
 all_masks = refl

@@ -1,7 +1,7 @@
 -- The pause of the initial reordering, computed: positions by the font, circles, and the order of a text.
-use Rattle.std.specs.Prelude.{◌≡◌, ℕ, ◌*◌, ◌+◌, ◌==◌, pos, true, false, List, [], ◌∷◌, ◌++◌, map, Option, None, Some, refl, if◌then◌else◌}
+use Rattle.std.specs.Prelude.{◌≡◌, ℕ, ◌*◌, ◌+◌, ◌==◌, pos, true, false, [], ◌∷◌, ◌++◌, map, Option, None, Some, refl, if◌then◌else◌}
 use Rattle.std.specs.List.{range_with_len}
-use Rattle.shapers_buffer.specs.declared.buffer.glyph.hb_glyph_info_t.{hb_glyph_info_t}
+use Rattle.shapers_buffer.specs.Glyphs.{Glyph, Glyphs}
 use Rattle.shapers_buffer.specs.declared.buffer.refusal.ShaperError.TheVariants.{UnknownSyllable}
 use Rattle.shapers_buffer.specs.Buffer.{Buffer, new_buffer}
 use Rattle.shapers_buffer.specs.Glyph.{default_glyph}
@@ -27,17 +27,17 @@ abbrev font : Font
 font = record { nominal = nominal; advance = λ _. pos 0; applies = λ _ _ _. false; offers = λ _. false }
 
 -- a text of these glyphs with a broken syllable
-abbrev text : List hb_glyph_info_t → Buffer
+abbrev text : Glyphs → Buffer
 text gs = record (new_buffer 100) { glyphs = gs; script = script "Deva"; broken = true }
 
-abbrev one : ℕ → ℕ → ℕ → ℕ → hb_glyph_info_t
+abbrev one : ℕ → ℕ → ℕ → ℕ → Glyph
 one i byte c p = record default_glyph { glyph_id = i; cluster = i; syllable = byte; category = c; auxiliary = p }
 
 -- syllables of one glyph: a broken one, fourteen of consonants, a broken one with the byte of the first
-abbrev sixteen : List hb_glyph_info_t
+abbrev sixteen : Glyphs
 sixteen = one 0 0x14 C 4 ∷ map (λ i. one (i + 1) ((i + 2) * 16) C 4) (range_with_len 0 14) ++ one 15 0x14 C 4 ∷ []
 
-abbrev prepared : List hb_glyph_info_t → List hb_glyph_info_t
+abbrev prepared : Glyphs → Glyphs
 prepared gs =
     (with_positions_and_circles font empty_map (indic_plan WithoutMedials (script "Deva") empty_map) (text gs)).glyphs
 
@@ -50,7 +50,7 @@ circle_positions : row_positions (prepared (one 0 0x14 Repha 3 ∷ one 1 0x14 M 
 circle_positions = refl
 
 -- the order of a text: a left matra goes before the circle, which is the base, and not into the syllable before it
-abbrev ordered : List hb_glyph_info_t → List hb_glyph_info_t
+abbrev ordered : Glyphs → Glyphs
 ordered gs = text_order
     (initial_order (initial_rules font empty_map (indic_plan WithoutMedials (script "Deva") empty_map)) (script "Deva"))
     (prepared gs)
@@ -61,7 +61,7 @@ text_by_syllables : numbers_of (ordered (one 0 0x10 C 4 ∷ one 1 0x10 M 2 ∷ o
 text_by_syllables = refl
 
 -- no circle without a broken syllable, or where the caller forbids it
-abbrev glyphs_in : Buffer → List hb_glyph_info_t
+abbrev glyphs_in : Buffer → Glyphs
 glyphs_in b = (with_positions_and_circles font empty_map (indic_plan WithoutMedials (script "Deva") empty_map) b).glyphs
 
 none_broken : glyphs_in (record (text sixteen) { broken = false })

@@ -1,13 +1,13 @@
 -- The positions of a syllable's glyphs, computed step by step.
 use Rattle.std.specs.Prelude.{◌≡◌, ℕ, true, false, List, [], ◌∷◌, ◌++◌, map, replicate, refl}
 use Rattle.shapers_buffer.specs.Glyph.{default_glyph}
-use Rattle.shapers_buffer.specs.declared.buffer.glyph.hb_glyph_info_t.{hb_glyph_info_t}
+use Rattle.shapers_buffer.specs.Glyphs.{Glyphs}
 use Rattle.shapers_indic.proofs.RowWords.{C, V, N, H, ZWNJ, ZWJ, M, SM, MPst, CM, of, plainly, with_row_marks, script, row_positions}
 use Rattle.shapers_indic_initial.proofs.InitialWords.{ligated_at, rules, no_masks}
 use Rattle.shapers_indic_initial.specs.InitialPositions.{by_base, halant_places, with_attached, with_signs, with_halants, with_marks_attached, with_owners, with_owners_after}
 
 -- glyphs of positions
-abbrev at : List ℕ → List hb_glyph_info_t
+abbrev at : List ℕ → Glyphs
 at ps = of (map (λ p. (C, p)) ps)
 
 -- before the base at most PRE_C, the base BASE_C, the reph in front of all, also where it is the base
@@ -135,7 +135,7 @@ ligated_matra : row_positions (with_owners_after 0 (ligated_at 2 (of ((C, 4) ∷
 ligated_matra = refl
 
 -- a ligature is no consonant: it owns nothing, and is owned
-abbrev with_ligature : List hb_glyph_info_t
+abbrev with_ligature : Glyphs
 with_ligature = of ((H, 4) ∷ []) ++ with_row_marks 0x20 (record (default_glyph) { category = C; auxiliary = 8 })
     ∷ of ((C, 11) ∷ [])
 

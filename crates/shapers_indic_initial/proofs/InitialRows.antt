@@ -1,7 +1,7 @@
 -- The whole initial reordering of syllables, computed: order, clusters, masks.
 use Rattle.std.specs.Prelude.{◌≡◌, ℕ, zero, suc, true, false, List, [], ◌∷◌, ◌++◌, map, replicate, refl}
 use Rattle.std.specs.List.{range_with_len}
-use Rattle.shapers_buffer.specs.declared.buffer.glyph.hb_glyph_info_t.{hb_glyph_info_t}
+use Rattle.shapers_buffer.specs.Glyphs.{Glyph, Glyphs}
 use Rattle.shapers_buffer.specs.declared.buffer.level.BufferClusterLevel.TheVariants.{MonotoneGraphemes}
 use Rattle.shapers_indic.proofs.RowWords.{C, H, ZWNJ, ZWJ, M, Ra, glyphs_from, of, plainly, script, numbers_of, row_positions, row_masks}
 use Rattle.shapers_indic_initial.proofs.InitialWords.{rules, no_masks, each_mask, with_reph_of, clusters_after, reordered}
@@ -45,13 +45,11 @@ new_halant = refl
 
 -- a reph of Ra and H: the mask of rphf is on both and on nothing else; Ra H ZWJ is none, whatever the font says
 reph : row_masks (initial_order (with_reph_of (0 ∷ 1 ∷ []) (rules "Deva" false reph_alone)) (script "Deva")
-    (of ((Ra, 4) ∷ (H, 4) ∷ (C, 4) ∷ (M, 9) ∷ [])))
-    ≡ 16 ∷ 16 ∷ 0 ∷ 0 ∷ []
+    (of ((Ra, 4) ∷ (H, 4) ∷ (C, 4) ∷ (M, 9) ∷ []))) ≡ 16 ∷ 16 ∷ 0 ∷ 0 ∷ []
 reph = refl
 
 no_reph : row_masks (initial_order (with_reph_of (0 ∷ 1 ∷ []) (rules "Deva" false reph_alone)) (script "Deva")
-    (plainly (Ra ∷ H ∷ ZWJ ∷ [])))
-    ≡ 0 ∷ 0 ∷ 0 ∷ []
+    (plainly (Ra ∷ H ∷ ZWJ ∷ []))) ≡ 0 ∷ 0 ∷ 0 ∷ []
 no_reph = refl
 
 -- Kannada: of an opening Ra H ZWJ the last two merge and change places
@@ -94,7 +92,7 @@ one_matra : row_masks (initial_order (rules "Deva" true each_mask) (script "Deva
 one_matra = refl
 
 -- a glyph keeps all its other fields
-abbrev full : hb_glyph_info_t
+abbrev full : Glyph
 full = record {
   glyph_id = 7;
   mask = 0x1000;
@@ -121,7 +119,7 @@ order_begins = refl
 
 -- long syllables: a base and 125, 126 and 127 matras of one position, which stay; of more than 127
 -- glyphs all merges from the base on
-abbrev base_and : ℕ → List hb_glyph_info_t
+abbrev base_and : ℕ → Glyphs
 base_and n = of ((C, 4) ∷ replicate n (M, 6))
 
 of_126 : clusters_after (rules "Deva" false no_masks) (script "Deva") (base_and 125) ≡ range_with_len 0 126

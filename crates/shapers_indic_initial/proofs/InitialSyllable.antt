@@ -1,7 +1,7 @@
 -- The parts of the initial reordering of a syllable, one after another.
 use Rattle.std.proofs.Common.{◌≡◌, ℕ, ◌-◌, ◌≤◌, Bool, true, false, if◌then◌else◌, List, [], ◌∷◌, ◌++◌, length, take, drop, refl, sym, ap, ◌∙◌, arith, Option, length-append, length-take-le, length-drop}
 use Rattle.std.proofs.lemmas.List.{length-map}
-use Rattle.shapers_buffer.specs.declared.buffer.glyph.hb_glyph_info_t.{hb_glyph_info_t}
+use Rattle.shapers_buffer.specs.Glyphs.{Glyphs}
 use Rattle.shapers_buffer.specs.declared.buffer.tag.Script.{Script}
 use Rattle.shapers_buffer.specs.Buffer.{Buffer}
 use Rattle.shapers_buffer.specs.Clusters.{stretch_of}
@@ -20,32 +20,28 @@ use Rattle.shapers_syllabic.proofs.ReorderingWalk.{length-meaning}
 use Rattle.shapers_syllabic.proofs.SyllableThen.{changed_parts, syllable_as, syllable_then}
 
 -- each part keeps the length
-length-positioned : (r : Rules) (script : Option Script) (gs : List hb_glyph_info_t) → length (positioned r script gs)
-    ≡ length gs
-length-positioned r script gs =
-    length-meaning _ _ (laws_then _ _ _ _ (joiner_laws script) (halant_laws r script)) gs
+length-positioned : (r : Rules) (script : Option Script) (gs : Glyphs) → length (positioned r script gs) ≡ length gs
+length-positioned r script gs = length-meaning _ _ (laws_then _ _ _ _ (joiner_laws script) (halant_laws r script)) gs
 
-length-in_order : (r : Rules) (gs : List hb_glyph_info_t) → length (in_indic_order gs) ≡ length gs
-length-in_order r gs =
-    let f = order_fits r gs in
-    search (arith, length-pick)
+length-in_order : (r : Rules) (gs : Glyphs) → length (in_indic_order gs) ≡ length gs
+length-in_order r gs = let f = order_fits r gs in search length-pick
 
 -- a syllable of the order view
 
-kind-viewed : (gs : List hb_glyph_info_t) → is_reordered_in_indic (order_view gs) ≡ is_reordered_in_indic gs
+kind-viewed : (gs : Glyphs) → is_reordered_in_indic (order_view gs) ≡ is_reordered_in_indic gs
 kind-viewed [] = refl
 kind-viewed (g ∷ gs) = refl
 
-kind-stretch : (s e : ℕ) (gs : List hb_glyph_info_t) → is_reordered_in_indic (stretch_of s e (order_view gs))
+kind-stretch : (s e : ℕ) (gs : Glyphs) → is_reordered_in_indic (stretch_of s e (order_view gs))
     ≡ is_reordered_in_indic (stretch_of s e gs)
 kind-stretch s e gs = cc (map-stretch plain s e gs, kind-viewed (stretch_of s e gs))
 
 -- what a part leaves: as many glyphs, and its syllable
-record After (meaning : List hb_glyph_info_t → List hb_glyph_info_t) (s e : ℕ) (old new : Buffer) : Type 0 where
+record After (meaning : Glyphs → Glyphs) (s e : ℕ) (old new : Buffer) : Type 0 where
   long : length new.glyphs ≡ length old.glyphs
   syllable : stretch_of s e (order_view new.glyphs) ≡ meaning (stretch_of s e (order_view old.glyphs))
 
-after : (meaning : List hb_glyph_info_t → List hb_glyph_info_t) (steps : List hb_glyph_info_t → List Step) (s e : ℕ)
+after : (meaning : Glyphs → Glyphs) (steps : Glyphs → List Step) (s e : ℕ)
     (old new : Buffer) → s ≤ e → e ≤ length old.glyphs → length (meaning (stretch_of s e (order_view old.glyphs)))
     ≡ e - s → SyllableReordered meaning steps s e old new → After meaning s e old new
 after meaning steps s e old new h l k done =
@@ -55,7 +51,6 @@ after meaning steps s e old new h l k done =
     search (
       arith,
       length-map new.glyphs plain,
-      done.order,
       length-append (take s xs) (meaning (stretch_of s e xs) ++ drop e xs),
       length-append (meaning (stretch_of s e xs)) (drop e xs),
       length-drop e xs,
@@ -73,9 +68,7 @@ pub initial_syllable : (r : Rules) (script : Option Script) (s e : ℕ) (b1 b2 b
 initial_syllable r script s e b1 b2 b3 b4 h l kind p o m =
     let x1 = stretch_of s e _ in
     let yes = kind-stretch s e _ ∙ kind in
-    syllable_as _ _
-    _
-    _ s e b1 b4
+    syllable_as _ _ _ _ s e b1 b4
     (sym (ap (λ (b : Bool). if b then masked_in_order r script (in_indic_order (positioned r script x1)) else x1) yes))
     (sym (ap (λ (b : Bool). if b then steps_of_reordered r script x1 else []) yes))
     (
@@ -87,7 +80,7 @@ initial_syllable r script s e b1 b2 b3 b4 h l kind p o m =
 
 -- another syllable stays
 still : (s e : ℕ) (b : Buffer) → s ≤ e → SyllableReordered (λ gs. gs) (λ _. []) s e b b
-still s e b h = search (arith, three_parts)
+still = search three_parts
 
 pub other_syllable : (r : Rules) (script : Option Script) (s e : ℕ) (b : Buffer) → s ≤ e
     → is_reordered_in_indic (stretch_of s e b.glyphs) ≡ false
@@ -97,5 +90,4 @@ other_syllable r script s e b h kind =
     let no = kind-stretch s e _ ∙ kind in
     syllable_as _ _ _ _ s e b b
     (sym (ap (λ (b : Bool). if b then masked_in_order r script (in_indic_order (positioned r script x)) else x) no))
-    (sym (ap (λ (b : Bool). if b then steps_of_reordered r script x else []) no))
-    (still s e b h)
+    (sym (ap (λ (b : Bool). if b then steps_of_reordered r script x else []) no)) (still s e b h)

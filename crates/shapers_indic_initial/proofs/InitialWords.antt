@@ -2,7 +2,7 @@
 use Prim.Native.String.{String}
 use Rattle.std.specs.Prelude.{ℕ, zero, suc, nat_eq, Bool, false, List, [], ◌∷◌, map, Option}
 use Rattle.std.specs.Cmp.Lexicographic.{pointwise}
-use Rattle.shapers_buffer.specs.declared.buffer.glyph.hb_glyph_info_t.{hb_glyph_info_t}
+use Rattle.shapers_buffer.specs.Glyphs.{Glyphs}
 use Rattle.shapers_buffer.specs.declared.buffer.tag.Script.{Script}
 use Rattle.shapers_buffer.specs.declared.buffer.level.BufferClusterLevel.TheVariants.{MonotoneGraphemes}
 use Rattle.shapers_buffer.specs.Glyph.{clusters}
@@ -23,15 +23,14 @@ nothing ids = false
 
 -- the rules of a script with these masks for rphf, pref, blwf, abvf, half and pstf, by a font that substitutes nothing
 abbrev pub rules : String → Bool → List ℕ → Rules
-rules tag old masks =
-    record {
-      config = config_of (script tag);
-      old = old;
-      search = WithoutMedials;
-      masks = masks;
-      forms_reph = nothing;
-      forms_pref = nothing;
-    }
+rules tag old masks = record {
+  config = config_of (script tag);
+  old = old;
+  search = WithoutMedials;
+  masks = masks;
+  forms_reph = nothing;
+  forms_pref = nothing;
+}
 
 abbrev pub no_masks : List ℕ
 no_masks = 0 ∷ 0 ∷ 0 ∷ 0 ∷ 0 ∷ 0 ∷ 0 ∷ 0 ∷ 0 ∷ 0 ∷ 0 ∷ 0 ∷ 0 ∷ 0 ∷ 0 ∷ 0 ∷ 0 ∷ []
@@ -47,15 +46,15 @@ with_reph_of ids r = record r { forms_reph = only ids }
 abbrev pub with_pref_of : List ℕ → Rules → Rules
 with_pref_of ids r = record r { forms_pref = only ids }
 
-abbrev pub clusters_after : Rules → Option Script → List hb_glyph_info_t → List ℕ
+abbrev pub clusters_after : Rules → Option Script → Glyphs → List ℕ
 clusters_after r s gs = clusters (run_steps MonotoneGraphemes (initial_steps r s gs) gs)
 
 -- the glyph at a place put in by a lookup for several
-abbrev pub ligated_at : ℕ → List hb_glyph_info_t → List hb_glyph_info_t
+abbrev pub ligated_at : ℕ → Glyphs → Glyphs
 ligated_at i [] = []
 ligated_at zero (g ∷ gs) = with_row_marks 0x20 g ∷ gs
 ligated_at (suc i) (g ∷ gs) = g ∷ ligated_at i gs
 
 -- order, clusters and masks of a syllable after
-abbrev pub reordered : Rules → Option Script → List hb_glyph_info_t → List (List ℕ)
+abbrev pub reordered : Rules → Option Script → Glyphs → List (List ℕ)
 reordered r s gs = numbers_of (initial_order r s gs) ∷ clusters_after r s gs ∷ row_masks (initial_order r s gs) ∷ []

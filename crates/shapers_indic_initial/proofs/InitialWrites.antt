@@ -1,9 +1,9 @@
 -- Positions and places in such a view: they are those of the glyphs themselves.
-use Rattle.std.proofs.Common.{ℕ, ◌+◌, ◌≡◌, ◌&&◌, ◌||◌, ◌++◌, nat_le, not, Bool, true, false, cond, if◌then◌else◌, List, [], ◌∷◌, map, take, drop, reverse, find, Option, None, Some, refl, sym, ◌∙◌, ap}
+use Rattle.std.proofs.Common.{ℕ, ◌+◌, ◌≡◌, ◌&&◌, ◌||◌, ◌++◌, nat_le, not, Bool, true, false, cond, if◌then◌else◌, [], ◌∷◌, map, take, drop, reverse, find, Option, None, Some, refl, sym, ◌∙◌, ap}
 use Rattle.std.specs.List.{enumerate_from}
 use Rattle.std.specs.Option.{option_map_or}
 use Rattle.std.proofs.lemmas.List.{drop-map, length-map, map-append, take-map}
-use Rattle.shapers_buffer.specs.declared.buffer.glyph.hb_glyph_info_t.{hb_glyph_info_t}
+use Rattle.shapers_buffer.specs.Glyphs.{Glyph, Glyphs}
 use Rattle.shapers_buffer.specs.declared.buffer.tag.Script.{Script}
 use Rattle.shapers_buffer.specs.Glyph.{at_position}
 use Rattle.shapers_buffer.specs.Lists.{each_after}
@@ -20,21 +20,21 @@ use Rattle.shapers_syllabic.specs.Consonants.{is_consonant}
 use Rattle.shapers_buffer.proofs.MappedLists.{map-reverse}
 
 module _ (v : View) where
-  abbrev f : hb_glyph_info_t → hb_glyph_info_t
+  abbrev f : Glyph → Glyph
   f g = shown v g
 
   -- glyphs changed by their places, and by what stands before them
-  pub numbered_stays : (change : ℕ → hb_glyph_info_t → hb_glyph_info_t)
-      → ((i : ℕ) (g : hb_glyph_info_t) → change i (f g) ≡ f (change i g)) → (n : ℕ) (gs : List hb_glyph_info_t)
+  pub numbered_stays : (change : ℕ → Glyph → Glyph)
+      → ((i : ℕ) (g : Glyph) → change i (f g) ≡ f (change i g)) → (n : ℕ) (gs : Glyphs)
       → map (λ t. change t.0 t.1) (enumerate_from n (map f gs)) ≡ map f (map (λ t. change t.0 t.1)
       (enumerate_from n gs))
   numbered_stays change each n [] = refl
   numbered_stays change each n (g ∷ gs) =
       same_two (λ x xs. x ∷ xs) (each n g) (numbered_stays change each (n + 1) gs)
 
-  after_stays : (change : List hb_glyph_info_t → hb_glyph_info_t → hb_glyph_info_t)
-      → ((before : List hb_glyph_info_t) (g : hb_glyph_info_t) → change (map f before) (f g) ≡ f (change before g))
-      → (before gs : List hb_glyph_info_t) → map (λ t. change t.0 t.1) (each_after (map f before) (map f gs))
+  after_stays : (change : Glyphs → Glyph → Glyph)
+      → ((before : Glyphs) (g : Glyph) → change (map f before) (f g) ≡ f (change before g))
+      → (before gs : Glyphs) → map (λ t. change t.0 t.1) (each_after (map f before) (map f gs))
       ≡ map f (map (λ t. change t.0 t.1) (each_after before gs))
   after_stays change stays before [] = refl
   after_stays change stays before (g ∷ gs) =
@@ -43,7 +43,7 @@ module _ (v : View) where
       ∙ after_stays change stays (before ++ g ∷ []) gs)
 
   -- positions by the base
-  pub with_base_stays : (r : Rules) (gs : List hb_glyph_info_t) → with_base_positions r (map f gs)
+  pub with_base_stays : (r : Rules) (gs : Glyphs) → with_base_positions r (map f gs)
       ≡ map f (with_base_positions r gs)
   with_base_stays r gs =
       same_two (λ b h. by_base b h (map f gs)) (base_stays v r gs) (has_reph_stays v r gs)
@@ -51,14 +51,14 @@ module _ (v : View) where
       (λ i g. refl) 0 gs
 
   -- the glyph with another position in one case
-  if_stays : (b : Bool) (p : ℕ) (g : hb_glyph_info_t) → (if b then at_position p (f g) else f g)
+  if_stays : (b : Bool) (p : ℕ) (g : Glyph) → (if b then at_position p (f g) else f g)
       ≡ f (if b then at_position p g else g)
   if_stays true p g = refl
   if_stays false p g = refl
 
   -- the nearest glyph before that passes a test
-  found_position : (test : hb_glyph_info_t → Bool) → ((g : hb_glyph_info_t) → test (f g) ≡ test g) → (d : ℕ)
-      (gs : List hb_glyph_info_t) → option_map_or (λ h. h.auxiliary) (find test (map f gs)) d
+  found_position : (test : Glyph → Bool) → ((g : Glyph) → test (f g) ≡ test g) → (d : ℕ)
+      (gs : Glyphs) → option_map_or (λ h. h.auxiliary) (find test (map f gs)) d
       ≡ option_map_or (λ h. h.auxiliary) (find test gs) d
   found_position test reads d [] = refl
   found_position test reads d (g ∷ gs) =
@@ -69,36 +69,36 @@ module _ (v : View) where
         | false ↦ found_position test reads d gs
       ])
 
-  nearest_stays : (test : hb_glyph_info_t → Bool) → ((g : hb_glyph_info_t) → test (f g) ≡ test g) → (d : ℕ)
-      (before : List hb_glyph_info_t) → option_map_or (λ h. h.auxiliary) (find test (reverse (map f before))) d
+  nearest_stays : (test : Glyph → Bool) → ((g : Glyph) → test (f g) ≡ test g) → (d : ℕ)
+      (before : Glyphs) → option_map_or (λ h. h.auxiliary) (find test (reverse (map f before))) d
       ≡ option_map_or (λ h. h.auxiliary) (find test (reverse before)) d
   nearest_stays test reads d before =
       ap (λ xs. option_map_or (λ h. h.auxiliary) (find test xs) d) (sym (map-reverse f before))
       ∙ found_position test reads d (reverse before)
 
   -- what goes with what stands before it
-  attached_to_stays : (before : List hb_glyph_info_t) (g : hb_glyph_info_t) → attached_to (map f before) (f g)
+  attached_to_stays : (before : Glyphs) (g : Glyph) → attached_to (map f before) (f g)
       ≡ f (attached_to before g)
   attached_to_stays before g =
       ap (λ p. if is_attached g then at_position p (f g) else f g) (nearest_stays carries (λ g. refl) 0 before)
       ∙ if_stays (is_attached g) _ g
 
-  next_stays : (g : hb_glyph_info_t) (gs : List hb_glyph_info_t) → before_next (f g) (map f gs) ≡ f (before_next g gs)
+  next_stays : (g : Glyph) (gs : Glyphs) → before_next (f g) (map f gs) ≡ f (before_next g gs)
   next_stays g [] = refl
   next_stays g (next ∷ gs) = if_stays (draws_sign g next) next.auxiliary g
 
-  with_signs_stays : (gs : List hb_glyph_info_t) → with_signs (map f gs) ≡ map f (with_signs gs)
+  with_signs_stays : (gs : Glyphs) → with_signs (map f gs) ≡ map f (with_signs gs)
   with_signs_stays [] = refl
   with_signs_stays (g ∷ gs) = same_two (λ x xs. x ∷ xs) (next_stays g gs) (with_signs_stays gs)
 
-  behind_stays : (before : List hb_glyph_info_t) (g : hb_glyph_info_t) → halant_behind (map f before) (f g)
+  behind_stays : (before : Glyphs) (g : Glyph) → halant_behind (map f before) (f g)
       ≡ f (halant_behind before g)
   behind_stays before g =
       ap (λ p. if has_category OT_H g && has_position POS_PRE_M g then at_position p (f g) else f g)
       (nearest_stays (λ h. not (has_position POS_PRE_M h)) (λ h. refl) POS_PRE_M before)
       ∙ if_stays (has_category OT_H g && has_position POS_PRE_M g) _ g
 
-  pub with_marks_stays : (gs : List hb_glyph_info_t) → with_marks_attached (map f gs)
+  pub with_marks_stays : (gs : Glyphs) → with_marks_attached (map f gs)
       ≡ map f (with_marks_attached gs)
   with_marks_stays gs =
       ap (λ xs. with_halants (with_signs xs)) (after_stays attached_to attached_to_stays [] gs)
@@ -106,7 +106,7 @@ module _ (v : View) where
       ∙ after_stays halant_behind behind_stays [] (with_signs (with_attached gs))
 
   -- what consonants own
-  owned_stays : (gs : List hb_glyph_info_t) (g : hb_glyph_info_t) → owned_by (find bounds (map f gs)) (f g)
+  owned_stays : (gs : Glyphs) (g : Glyph) → owned_by (find bounds (map f gs)) (f g)
       ≡ f (owned_by (find bounds gs) g)
   owned_stays [] g = refl
   owned_stays (h ∷ gs) g =
@@ -116,7 +116,7 @@ module _ (v : View) where
         | false ↦ owned_stays gs g
       ]
 
-  owner_stays : (gs : List hb_glyph_info_t) (g : hb_glyph_info_t) → with_owner (map f gs) (f g)
+  owner_stays : (gs : Glyphs) (g : Glyph) → with_owner (map f gs) (f g)
       ≡ f (with_owner gs g)
   owner_stays gs g =
       elim (bounds g || nat_le POS_SMVD g.auxiliary) as (λ b. (if b then f g else owned_by (find bounds (map f gs))
@@ -125,11 +125,11 @@ module _ (v : View) where
         | false ↦ owned_stays gs g
       ]
 
-  with_owners_stays : (gs : List hb_glyph_info_t) → with_owners (map f gs) ≡ map f (with_owners gs)
+  with_owners_stays : (gs : Glyphs) → with_owners (map f gs) ≡ map f (with_owners gs)
   with_owners_stays [] = refl
   with_owners_stays (g ∷ gs) = same_two (λ x xs. x ∷ xs) (owner_stays gs g) (with_owners_stays gs)
 
-  pub with_owners_after_stays : (base : ℕ) (gs : List hb_glyph_info_t) → with_owners_after base (map f gs)
+  pub with_owners_after_stays : (base : ℕ) (gs : Glyphs) → with_owners_after base (map f gs)
       ≡ map f (with_owners_after base gs)
   with_owners_after_stays base gs =
       same_two (λ xs ys. xs ++ ys) (take-map f (base + 1) gs) (ap with_owners (drop-map f (base + 1) gs)
@@ -137,13 +137,13 @@ module _ (v : View) where
       ∙ sym (map-append f (take (base + 1) gs) (with_owners (drop (base + 1) gs)))
 
   -- the older specification's H
-  to_stays : (gs : List hb_glyph_info_t) (h : ℕ) (o : Option ℕ) → halant_to (map f gs) h o ≡ halant_to gs h o
+  to_stays : (gs : Glyphs) (h : ℕ) (o : Option ℕ) → halant_to (map f gs) h o ≡ halant_to gs h o
   to_stays gs h None = ap (places 0) (length-map gs f)
   to_stays gs h (Some j) =
       same_two (λ (test : ℕ → Bool) n. if test j then places 0 n else moved_behind h j (places 0 n))
       (passes_stays v (has_category OT_H) (λ g. refl) gs) (length-map gs f)
 
-  from_stays : (script : Option Script) (gs : List hb_glyph_info_t) (o : Option ℕ)
+  from_stays : (script : Option Script) (gs : Glyphs) (o : Option ℕ)
       → halant_from script (map f gs) o ≡ halant_from script gs o
   from_stays script gs None = ap (places 0) (length-map gs f)
   from_stays script gs (Some h) =
@@ -151,7 +151,7 @@ module _ (v : View) where
       (passes_stays v (is_passed_by_halant script) (λ g. refl) gs) (length-map gs f))
       ∙ to_stays gs h (last_after_halant script gs h)
 
-  pub halant_places_stay : (r : Rules) (script : Option Script) (base : ℕ) (gs : List hb_glyph_info_t)
+  pub halant_places_stay : (r : Rules) (script : Option Script) (base : ℕ) (gs : Glyphs)
       → halant_places r script base (map f gs) ≡ halant_places r script base gs
   halant_places_stay r script base gs =
       same_two (λ xs ys. if r.old then xs else ys) (ap (halant_from script (map f gs))

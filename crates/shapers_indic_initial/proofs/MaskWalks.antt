@@ -1,12 +1,12 @@
 -- The walks that give masks, step by step.
-use Rattle.std.proofs.Common.{◌≡◌, ℕ, zero, suc, ◌+◌, ◌-◌, ◌<◌, ◌==◌, ◌&&◌, ◌||◌, Bool, true, false, not, cond, if◌then◌else◌, List, [], ◌∷◌, ◌++◌, length, take, drop, map, get_or, set, refl, sym, ap, ◌∙◌, subst, arith, append_assoc, Option, Some, length-take-le}
+use Rattle.std.proofs.Common.{◌≡◌, ℕ, suc, ◌+◌, ◌-◌, ◌<◌, ◌==◌, ◌&&◌, ◌||◌, Bool, true, false, not, cond, if◌then◌else◌, List, [], ◌∷◌, ◌++◌, length, take, drop, map, get_or, set, refl, sym, ap, ◌∙◌, subst, arith, append_assoc, Option, Some, length-take-le}
 use Rattle.std.specs.Prelude.{find, slice_get}
 use Rattle.std.specs.List.{enumerate_from, list_any, prefix_len, range_with_len}
 use Rattle.std.specs.Option.{option_map_or}
 use Rattle.std.proofs.Math.Seq.{get_or-append_seam, set-append_seam}
 use Rattle.std.proofs.lemmas.List.{drop_more, take_more, map-append, length-map, take-append-drop}
 use Rattle.std.proofs.lemmas.List.FromFn.{length-enumerate_from}
-use Rattle.shapers_buffer.specs.declared.buffer.glyph.hb_glyph_info_t.{hb_glyph_info_t}
+use Rattle.shapers_buffer.specs.Glyphs.{Glyph, Glyphs}
 use Rattle.shapers_buffer.specs.Clusters.{stretch_of, with_stretch}
 use Rattle.shapers_buffer.specs.GlyphFlags.{with_bits}
 use Rattle.shapers_buffer.proofs.ListLaws.{none_in_front}
@@ -24,7 +24,7 @@ use Rattle.shapers_syllabic.specs.Consonants.{is_consonant}
 use Rattle.shapers_indic_initial.specs.InitialMasks.{bits_of, has_eyelash, is_in_eyelash, loses_half, mask_after_base, mask_before_base, pref_pair, with_eyelash_mask, with_initial_masks, with_pref_mask, without_bits, without_half}
 
 -- one glyph back, in the walk that takes half away
-pub half_step : (g : hb_glyph_info_t) (after : List hb_glyph_info_t)
+pub half_step : (g : Glyph) (after : Glyphs)
     → (not (is_consonant g) && (is_one_of (OT_ZWNJ ∷ []) g || loses_half after)) ≡ loses_half (g ∷ after)
 half_step g after =
     let n = prefix_len _ after in
@@ -52,11 +52,10 @@ seam_set : {X : Type 0} (gs rest : List X) (k : ℕ) (d y : X) → k < length gs
 seam_set gs rest k d y h =
     ap (λ ys. set ys k y) (seam gs rest k d h)
     ∙ subst (λ n. set (take k gs ++ get_or gs k d ∷ rest) n y ≡ take k gs ++ y ∷ rest)
-    (length-take-le k gs (omega arith))
-    (set-append_seam _ _ rest y)
+    (length-take-le k gs (omega arith)) (set-append_seam _ _ rest y)
 
 -- without a ZWNJ nothing loses half
-pub no_half_taken : (bits : ℕ) (gs : List hb_glyph_info_t) → list_any (is_one_of (OT_ZWNJ ∷ [])) gs ≡ false
+pub no_half_taken : (bits : ℕ) (gs : Glyphs) → list_any (is_one_of (OT_ZWNJ ∷ [])) gs ≡ false
     → without_half bits gs ≡ gs
 no_half_taken bits [] none = refl
 no_half_taken bits (g ∷ gs) none =
@@ -64,26 +63,25 @@ no_half_taken bits (g ∷ gs) none =
     cc (none_in_front _ _ gs rest, no_half_taken bits gs rest)
 
 -- what becomes of a glyph in that walk
-abbrev pub half_taken : ℕ → Bool → hb_glyph_info_t → hb_glyph_info_t
+abbrev pub half_taken : ℕ → Bool → Glyph → Glyph
 half_taken bits loses g = if loses then without_bits bits g else g
 
-same_category : (bits : ℕ) (loses b : Bool) (g : hb_glyph_info_t)
+same_category : (bits : ℕ) (loses b : Bool) (g : Glyph)
     → (not (is_consonant (half_taken bits b g)) && (is_one_of (OT_ZWNJ ∷ []) (half_taken bits b g) || loses))
     ≡ (not (is_consonant g) && (is_one_of (OT_ZWNJ ∷ []) g || loses))
 same_category bits loses true g = refl
 same_category bits loses false g = refl
 
-pub record HalfTaken (bits : ℕ) (gs : List hb_glyph_info_t) (i : ℕ) (r : Bool) (xs : List hb_glyph_info_t) : Type
+pub record HalfTaken (bits : ℕ) (gs : Glyphs) (i : ℕ) (r : Bool) (xs : Glyphs) : Type
     0 where
   pub glyphs : xs ≡ take i gs ++ without_half bits (drop i gs)
   pub loses : r ≡ loses_half (drop i gs)
 
-pub half_back : (bits : ℕ) (gs xs : List hb_glyph_info_t) (i k : ℕ) (loses r : Bool) (g d : hb_glyph_info_t) → k + 1 ≡ i
+pub half_back : (bits : ℕ) (gs xs : Glyphs) (i k : ℕ) (loses r : Bool) (g d : Glyph) → k + 1 ≡ i
     → k < length gs → xs ≡ take i gs ++ without_half bits (drop i gs) → loses ≡ loses_half (drop i gs)
     → g ≡ half_taken bits loses (get_or xs k d) → r ≡ (not (is_consonant g) && (is_one_of (OT_ZWNJ ∷ []) g || loses))
     → HalfTaken bits gs k r (set xs k g)
-half_back bits gs xs i k loses r g d e h is l g_is r_is =
-    search (arith, seam_set, seam_get, drop_more, same_category, half_step)
+half_back = search (arith, seam_set, seam_get, drop_more, half_step)
 
 -- a search over places, one place on, and its answer
 pub search_on : (P : ℕ → Bool) (i e : ℕ) → i < e → P i ≡ false → find P (places (i + 1) e) ≡ find P (places i e)
@@ -92,41 +90,36 @@ search_on P i e h fails =
     sym (ap (λ b. cond b (Some i) (find P (places (i + 1) e))) fails) ∙ ap (λ m. find P (range_with_len i m)) n
 
 pub search_found : (P : ℕ → Bool) (i e : ℕ) → i < e → P i ≡ true → Some i ≡ find P (places i e)
-search_found P i e h found =
-    search arith
+search_found P = search arith
 
 -- two neighbours, as the font is asked about them
-pub pair_at : (gs : List hb_glyph_info_t) (i : ℕ) (d : hb_glyph_info_t) → i + 1 < length gs
+pub pair_at : (gs : Glyphs) (i : ℕ) (d : Glyph) → i + 1 < length gs
     → numbers (stretch_of i (i + 2) gs) ≡ number (get_or gs i d) ∷ number (get_or gs (i + 1) d) ∷ []
-pair_at gs i d h =
-    search (arith, drop_more)
+pair_at = search (arith, drop_more)
 
-passes_category : (c : ℕ) (gs : List hb_glyph_info_t) (i : ℕ) → passes (has_category c) gs i
+passes_category : (c : ℕ) (gs : Glyphs) (i : ℕ) → passes (has_category c) gs i
     ≡ option_map_or (λ x. x == c) (slice_get (map (λ g. g.category) gs) i) false
-passes_category c [] zero = refl
-passes_category c [] (suc i) = refl
-passes_category c (g ∷ gs) zero = refl
 passes_category c (g ∷ gs) (suc i) = passes_category c gs i
+passes_category c _ _ = refl
 
-pub eyelash_same : (base : ℕ) (xs gs : List hb_glyph_info_t) (i : ℕ)
+pub eyelash_same : (base : ℕ) (xs gs : Glyphs) (i : ℕ)
     → map (λ g. g.category) xs ≡ map (λ g. g.category) gs → is_in_eyelash base xs i ≡ is_in_eyelash base gs i
-eyelash_same base xs gs i same = search (arith, passes_category)
+eyelash_same = search (arith, passes_category)
 
 -- glyphs with mask bits, where a test of their places says so
-abbrev pub bits_if : ℕ → (ℕ → Bool) → ℕ × hb_glyph_info_t → hb_glyph_info_t
+abbrev pub bits_if : ℕ → (ℕ → Bool) → ℕ × Glyph → Glyph
 bits_if bits test t = if test t.0 then with_bits bits t.1 else t.1
 
-categories_stay : (bits : ℕ) (test : ℕ → Bool) (n : ℕ) (gs : List hb_glyph_info_t)
+categories_stay : (bits : ℕ) (test : ℕ → Bool) (n : ℕ) (gs : Glyphs)
     → map (λ g. g.category) (map (bits_if bits test) (enumerate_from n gs)) ≡ map (λ g. g.category) gs
 categories_stay bits test n [] = refl
-categories_stay bits test n (g ∷ gs) =
-    search (arith, categories_stay bits test (n + 1) gs)
+categories_stay bits test n (g ∷ gs) = search (arith, categories_stay bits test (n + 1) gs)
 
 -- such glyphs up to place i, and the rest as it was
-abbrev pub bits_up_to : ℕ → (ℕ → Bool) → ℕ → List hb_glyph_info_t → List hb_glyph_info_t
+abbrev pub bits_up_to : ℕ → (ℕ → Bool) → ℕ → Glyphs → Glyphs
 bits_up_to bits test i gs = map (bits_if bits test) (enumerate_from 0 (take i gs)) ++ drop i gs
 
-pub eyelash_next : (bits base : ℕ) (gs xs ys : List hb_glyph_info_t) (i : ℕ) (d : hb_glyph_info_t) (b : Bool)
+pub eyelash_next : (bits base : ℕ) (gs xs ys : Glyphs) (i : ℕ) (d : Glyph) (b : Bool)
     → i < length gs → xs ≡ bits_up_to bits (is_in_eyelash base gs) i gs → b ≡ is_in_eyelash base xs i
     → ys ≡ (if b then set xs i (with_bits bits (get_or xs i d)) else xs)
     → ys ≡ bits_up_to bits (is_in_eyelash base gs) (i + 1) gs
@@ -138,15 +131,13 @@ eyelash_next bits base gs xs ys i d b h is test_is ys_is =
     let long = length-map (enumerate_from 0 (take i gs)) (bits_if bits test) ∙ length-enumerate_from 0 (take i gs)
     ∙ length-take-le i gs (omega arith) in
     let is' = is ∙ ap (λ zs. front ++ zs) (drop_more gs i d h) in
-    let put : (y : hb_glyph_info_t) → set xs i y ≡ front ++ y ∷ rest = λ y.
-    ap (λ zs. set zs i y) is'
+    let put : (y : Glyph) → set xs i y ≡ front ++ y ∷ rest = λ y. ap (λ zs. set zs i y) is'
     ∙ subst (λ n. set (front ++ g ∷ rest) n y ≡ front ++ y ∷ rest) long (set-append_seam front g rest y) in
     let written : (c : Bool) → (if c then set xs i (with_bits bits (get_or xs i d)) else xs) ≡ front ++ (if c then
     with_bits bits g else g) ∷ rest = λ c. (elim c as (λ e. (if e then set xs i (with_bits bits (get_or xs i d)) else
     xs) ≡ front ++ (if e then with_bits bits g else g) ∷ rest) [
       | true ↦
-          put (with_bits bits (get_or xs i d))
-          ∙ ap (λ x. front ++ with_bits bits x ∷ rest)
+          put (with_bits bits (get_or xs i d)) ∙ ap (λ x. front ++ with_bits bits x ∷ rest)
           (ap (λ zs. get_or zs i d) is' ∙ subst (λ n. get_or (front ++ g ∷ rest) n d ≡ g) long (get_or-append_seam
           front g rest d))
       | false ↦ is'
@@ -165,38 +156,33 @@ eyelash_next bits base gs xs ys i d b h is test_is ys_is =
     )
 
 -- where the test fails everywhere, and at the end
-pub no_eyelash : (bits : ℕ) (test : ℕ → Bool) (gs : List hb_glyph_info_t)
+pub no_eyelash : (bits : ℕ) (test : ℕ → Bool) (gs : Glyphs)
     → map (λ t. if false && test t.0 then with_bits bits t.1 else t.1) (enumerate_from 0 gs) ≡ gs
 no_eyelash bits test gs = values-enumerate_from 0 gs
 
-pub eyelash_is : (r : Rules) (script : Option Script) (base : ℕ) (gs : List hb_glyph_info_t) (b : Bool)
-    → b ≡ has_eyelash r script
+pub eyelash_is : (r : Rules) (script : Option Script) (base : ℕ) (gs : Glyphs) (b : Bool) → b ≡ has_eyelash r script
     → map (λ t. if b && is_in_eyelash base gs t.0 then with_bits (bits_of r BLWF) t.1 else t.1) (enumerate_from 0 gs)
     ≡ with_eyelash_mask r script base gs
-eyelash_is r script base gs b is =
-    search arith
+eyelash_is = search arith
 
 -- what the font is asked about two neighbours
-pub asked_pair : (P : List GlyphId → Bool) (gs : List hb_glyph_info_t) (i : ℕ) (a b : GlyphId) (r : Bool)
+pub asked_pair : (P : List GlyphId → Bool) (gs : Glyphs) (i : ℕ) (a b : GlyphId) (r : Bool)
     → i + 1 < length gs → a ≡ number (get_or gs i default_glyph) → b ≡ number (get_or gs (i + 1) default_glyph)
     → r ≡ P (a ∷ b ∷ []) → P (numbers (stretch_of i (i + 2) gs)) ≡ r
-asked_pair P gs i a b r h is_a is_b is =
-    cc (pair_at gs i _ h)
+asked_pair P gs i a b r h is_a is_b is = cc (pair_at gs i _ h)
 
 -- the pair, where there is a mask and room
-pub pref_pair_asked : (r : Rules) (base : ℕ) (gs : List hb_glyph_info_t) → 0 < mask_at r PREF → base + 2 < length gs
+pub pref_pair_asked : (r : Rules) (base : ℕ) (gs : Glyphs) → 0 < mask_at r PREF → base + 2 < length gs
     → least_place (λ i. r.forms_pref (numbers (stretch_of i (i + 2) gs))) (base + 1) (length gs - 1)
     ≡ pref_pair r base gs
-pref_pair_asked r base gs m h =
-    search (arith, nat_tests)
+pref_pair_asked = search arith
 
 -- all walks, one after another
-pub all_masks : (r : Rules) (script : Option Script) (base : ℕ) (gs g1 g2 g3 g4 g5 : List hb_glyph_info_t)
+pub all_masks : (r : Rules) (script : Option Script) (base : ℕ) (gs g1 g2 g3 g4 g5 : Glyphs)
     (b1 b2 b3 b4 : ℕ) → b1 ≡ bits_of r RPHF
     → g1 ≡ with_stretch 0 (prefix_len (has_position POS_RA_TO_BECOME_REPH) gs) (map (with_bits b1)) gs
     → b2 ≡ mask_before_base r → b3 ≡ mask_after_base r
     → g2 ≡ with_stretch (base + 1) (length g1) (map (with_bits b3)) (with_stretch 0 base (map (with_bits b2)) g1)
     → g3 ≡ with_eyelash_mask r script base g2 → g4 ≡ with_pref_mask r base g3 → b4 ≡ bits_of r HALF
     → g5 ≡ without_half b4 g4 → g5 ≡ with_initial_masks r script base gs
-all_masks r script base gs g1 g2 g3 g4 g5 b1 b2 b3 b4 e1 h1 e2 e3 h2 h3 h4 e4 h5 =
-    cc
+all_masks r script base gs g1 g2 g3 g4 g5 b1 b2 b3 b4 e1 h1 e2 e3 h2 h3 h4 e4 h5 = cc

@@ -6,7 +6,7 @@ use Rattle.std.proofs.Common.{ℕ, ◌+◌, ◌-◌, ◌<◌, ◌≤◌, ◌≡�
 use Rattle.std.specs.List.{range_with_len}
 use Rattle.std.proofs.lemmas.List.{length-drop, take_all}
 use Rattle.std.proofs.lemmas.List.FromFn.{length-range_with_len}
-use Rattle.shapers_buffer.specs.declared.buffer.glyph.hb_glyph_info_t.{hb_glyph_info_t}
+use Rattle.shapers_buffer.specs.Glyphs.{Glyphs}
 use Rattle.shapers_buffer.specs.Buffer.{Buffer, but_places}
 use Rattle.shapers_buffer.specs.Clusters.{merge_all, stretch_of, with_stretch}
 use Rattle.shapers_buffer.specs.Glyph.{order_view}
@@ -21,14 +21,12 @@ use Rattle.shapers_syllabic.proofs.ReorderingLemmas.{old_places_one}
 
 -- those behind it, up to the other, come forward to its place
 pub moved_is : {X : Type 0} (h j : ℕ) (xs : List X) → h ≤ j → moved_behind h j xs ≡ brought_forward h (h + 1) (j - h) xs
-moved_is h j xs l =
-    search arith
+moved_is = search arith
 
 -- within a stretch
 pub moved_within : {X : Type 0} (s e h j : ℕ) (xs : List X) → s ≤ e → e ≤ length xs → h ≤ j → j < e - s
     → moved_behind (s + h) (s + j) xs ≡ with_stretch s e (moved_behind h j) xs
-moved_within s e h j xs l r k m =
-    search (arith, moved_is, brought_within)
+moved_within = search (arith, moved_is, brought_within)
 
 -- as places
 pub pick-moved : {X : Type 0} (h j n : ℕ) (xs : List X) → length xs ≡ n → h ≤ j → j < n
@@ -57,7 +55,7 @@ pick-moved h j n xs e l k =
     )
 
 -- one step of a syllable
-pub stepped : (meaning : List hb_glyph_info_t → List hb_glyph_info_t) (steps : List hb_glyph_info_t
+pub stepped : (meaning : Glyphs → Glyphs) (steps : Glyphs
     → List Step) (s e : ℕ) (step : Step) (old new : Buffer) → s ≤ e → e ≤ length old.glyphs → FitsStep (e - s) step
     → step.merged_then ≡ [] → but_places new ≡ record (but_places old) { glyphs = new.glyphs }
     → new.glyphs ≡ with_stretch s e (pick step.places) (merge_all old.level (shifted s step.merged_first) old.glyphs)
@@ -69,18 +67,14 @@ stepped meaning steps s e step old new h l f nothing kept is meant leads =
     let ms = merge_all _ (shifted s step.merged_first) gs in
     let w = widened s e _ step in
     let same =
-    length-merge_all _ _ gs
-    (fits-widened s e _ step h l f).first_within in
+    length-merge_all _ _ gs (fits-widened s e _ step h l f).first_within in
     let run =
-    is
-    ∙ sym (pick-widened s e step ms h (omega arith) f.within)
-    ∙ ap (λ n. pick (widened s e n step).places ms) same
+    is ∙ sym (pick-widened s e step ms h (omega arith) f.within) ∙ ap (λ n. pick (widened s e n step).places ms) same
     ∙ sym (ap (λ sts. merge_all old.level (shifted s sts) (pick w.places ms)) nothing) in
     record {
       others = kept;
       order =
-          ap order_view run
-          ∙ order_view-widened _ s e (step ∷ []) gs h l (f, tt)
+          ap order_view run ∙ order_view-widened _ s e (step ∷ []) gs h l (f, tt)
           ∙ ap (λ ps. take s xs ++ (pick ps (stretch_of s e xs) ++ drop e xs)) (old_places_one (e - s) step f)
           ∙ ap (λ ys. take s xs ++ (ys ++ drop e xs)) (sym meant);
       moved = cc;
@@ -91,10 +85,8 @@ pub placed_behind : (from end : ℕ) (old new : Buffer) → from < end → end �
     → new ≡ (let r : Buffer = record old {
       glyphs = placed_by (Forward from (from + 1) (end - from - 1)) from end old.places old.glyphs;
     } in r) → new.glyphs ≡ moved_behind from (end - 1) old.glyphs
-placed_behind from end old new l r is =
-    search (
-      arith,
-      placed_forward from (from + 1) (end - from - 1) from end old.places old.glyphs (omega arith) (omega arith)
-          (omega arith) r,
-      moved_is from (end - 1) old.glyphs (omega arith),
-    )
+placed_behind from end old new l r is = search (
+  arith,
+  placed_forward from (from + 1) (end - from - 1) from end old.places old.glyphs (omega arith) (omega arith)
+      (omega arith) r,
+)

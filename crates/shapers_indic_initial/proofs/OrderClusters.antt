@@ -2,8 +2,7 @@
 use Rattle.std.proofs.Common.{ℕ, ◌+◌, ◌-◌, ◌<◌, ◌≤◌, ◌≡◌, ◌≢◌, inl, inr, true, ◌||◌, ◌&&◌, nat_lt, List, [], ◌∷◌, length, get_or, sym, ◌∙◌, ap, subst, arith}
 use Rattle.std.specs.List.{AllByRecursion, range_with_len}
 use Rattle.std.specs.List.Sorted.{IsPermutation}
-use Rattle.std.proofs.lemmas.Bool.{cases_Bool, cases_lt, eqb-true, or_right}
-use Rattle.std.proofs.lemmas.Bool.Decides.{nat_tests}
+use Rattle.std.proofs.lemmas.Bool.{cases_Bool, cases_lt, eqb-true}
 use Rattle.std.proofs.lemmas.List.Sorted.{IsPermutation-keeps}
 use Rattle.shapers_buffer.specs.declared.buffer.level.BufferClusterLevel.{BufferClusterLevel}
 use Rattle.shapers_buffer.specs.Clusters.{merges}
@@ -31,15 +30,13 @@ use Rattle.shapers_indic_initial.specs.Proved.OrderedPlaces.{ordered_permutes}
 
 -- places in some order are each there once
 pub once_permuted : (n : ℕ) (from : List ℕ) → IsPermutation (range_with_len 0 n) from → EachOnce from
-once_permuted n from perm =
-    IsPermutation-keeps _ _ (once_range n) (λ xs i j h k o. once-swap xs i j h k o) from perm
+once_permuted n from perm = IsPermutation-keeps _ _ (once_range n) (λ xs i j h k o. once-swap xs i j h k o) from perm
 
 -- the stretches that are kept together hold the neighbours that those hold that merge; they begin
 -- at the base or behind it and end within
 pub held_together : (r : Rules) (from : List ℕ) (base i : ℕ) → EachOnce from → held (ordered_stretches r from base) i
     ≡ held (kept_together r from base) i
-held_together r from base i o =
-    search (arith, held_by_ways)
+held_together = search (arith, held_by_ways)
 
 pub record Lies (base n : ℕ) (st : ℕ × ℕ) : Type 0 where
   pub low : base ≤ st.0
@@ -47,13 +44,12 @@ pub record Lies (base n : ℕ) (st : ℕ × ℕ) : Type 0 where
 
 pub together_lies : (r : Rules) (from : List ℕ) (base : ℕ) → EachOnce from
     → AllByRecursion (Lies base (length from)) (kept_together r from base)
-together_lies r from base o =
-    search (
-      arith,
-      all-mapped (λ p. p < length from) (Lies base (length from)) (way_of from base) (places base (length from))
-          (λ p l. record { low = omega arith; high = omega (arith, o.within p l) })
-          (all-range (λ p. p < length from) base (length from - base) (λ p low high. omega arith)),
-    )
+together_lies r from base o = search (
+  arith,
+  all-mapped (λ p. p < length from) (Lies base (length from)) (way_of from base) (places base (length from))
+      (λ p l. record { low = omega arith; high = omega arith })
+      (all-range (λ p. p < length from) base (length from - base) (λ p low high. omega arith)),
+)
 
 -- what holds of all, by two things that do
 pub all_by_two : {X : Type 0} (P Q R : X → Type 0) → ((x : X) → P x → Q x → R x) → (xs : List X) → AllByRecursion P xs
@@ -69,8 +65,7 @@ held_behind : (base n : ℕ) (sts : List (ℕ × ℕ)) (i : ℕ) → AllByRecurs
     → Behind base i
 held_behind base n [] i all h = absurd (cc h)
 held_behind base n (st ∷ sts) i all h = elim (cases_Bool (nat_lt st.0 i && nat_lt i st.1)) [
-  | inl t ↦ (let low = all.0.low in let k : st.0
-      < i = grind (arith, nat_tests) in record { above = omega arith })
+  | inl t ↦ (let low = all.0.low in let k : st.0 < i = grind arith in record { above = omega arith })
   | inr f ↦ held_behind base n sts i all.1 (sym (ap (λ b. b || held sts i) f) ∙ h)
 ]
 
@@ -95,18 +90,16 @@ pub one_cluster : (level : BufferClusterLevel) → merges level ≡ true → (st
     → EndWithin (length xs) sts → (st : ℕ × ℕ) → st.1 ≤ length xs → HeldIn sts st
     → OneAlong (joined_all level sts xs) st
 one_cluster level m sts xs ends st within all p q pl ph ql qh =
-    sym (share_all _ p q
-    (λ i a b. search (arith, joined_all-linked, or_right)) q (omega arith) (omega arith))
+    sym (share_all _ p q (λ i a b. search (arith, joined_all-linked)) q (omega arith) (omega arith))
 
 -- a place before the base keeps its cluster
 unlinked_before : (base n : ℕ) (sts : List (ℕ × ℕ)) (xs : List ℕ) → AllByRecursion (Lies base n) sts
     → ((a c : ℕ) → a < c → c < length xs → get_or xs a 0 ≢ get_or xs c 0) → (i : ℕ) → 0 < i → i ≤ base → i < length xs
     → linked xs sts i ≡ true → ⊥
-unlinked_before base n sts xs lies different i z h l t =
-    elim (cases_Bool _) [
-      | inl e ↦ different (i - 1) i (omega arith) l (eqb-true _ _ e)
-      | inr f ↦ let b = held_behind base n sts i lies (sym (ap (λ b. b || held sts i) f) ∙ t) in search arith
-    ]
+unlinked_before base n sts xs lies different i z h l t = elim (cases_Bool _) [
+  | inl e ↦ different (i - 1) i (omega arith) l (eqb-true _ _ e)
+  | inr f ↦ let b = held_behind base n sts i lies (sym (ap (λ b. b || held sts i) f) ∙ t) in search arith
+]
 
 kept_before : (base n : ℕ) (sts : List (ℕ × ℕ)) (xs js : List ℕ) → AllByRecursion (Lies base n) sts
     → ((a c : ℕ) → a < c → c < length xs → get_or xs a 0 ≢ get_or xs c 0) → ExactCuts xs sts js → (p : ℕ) → p < base

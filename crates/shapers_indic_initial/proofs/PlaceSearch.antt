@@ -6,7 +6,7 @@ use Rattle.std.proofs.lemmas.List.{reverse-append}
 use Rattle.std.proofs.lemmas.List.Folds.{find-append}
 use Rattle.shapers_buffer.proofs.Ranges.{range-append}
 use Rattle.shapers_indic.specs.Glyphs.{greatest_place, places, some_place}
-use Rattle.shapers_indic.proofs.PlaceSearch.{greatest_last, greatest_none, places_first}
+use Rattle.shapers_indic.proofs.PlaceSearch.{greatest_last, places_first}
 
 -- the greatest place, with the last place apart
 pub greatest_back : (P : ℕ → Bool) (s i : ℕ) → s ≤ i → P i ≡ false → greatest_place P s (i + 1) ≡ greatest_place P s i
@@ -18,23 +18,21 @@ greatest_here P s i l e = cc (greatest_last P s i l)
 -- with the first place apart
 pub greatest_first : (P : ℕ → Bool) (i n : ℕ) → i < n
     → greatest_place P i n ≡ option_or (greatest_place P (i + 1) n) (cond (P i) (Some i) None)
-greatest_first P i n l =
-    cc (
-      places_first i n l,
-      reverse-append (i ∷ []) (places (i + 1) n),
-      find-append P (reverse (places (i + 1) n)) (i ∷ []),
-    )
+greatest_first P i n l = cc (
+  places_first i n l,
+  reverse-append (i ∷ []) (places (i + 1) n),
+  find-append P (reverse (places (i + 1) n)) (i ∷ []),
+)
 
 -- what is found from a place on is found from each earlier one on
 pub greatest_further : (P : ℕ → Bool) (s i e k : ℕ) → s ≤ i → i ≤ e → greatest_place P i e ≡ Some k
     → greatest_place P s e ≡ Some k
-greatest_further P s i e k h l is =
-    search (
-      arith,
-      range-append s (i - s) (e - i),
-      reverse-append (places s i) (places i e),
-      find-append P (reverse (places i e)) (reverse (places s i)),
-    )
+greatest_further P s i e = search (
+  arith,
+  range-append s (i - s) (e - i),
+  reverse-append (places s i) (places i e),
+  find-append P (reverse (places i e)) (reverse (places s i)),
+)
 
 some_same : {j k : ℕ} → Some j ≡ Some k → j ≡ k
 some_same e = ap (λ o. unwrap_or o 0) e
@@ -49,9 +47,9 @@ none_some e = subst IsNone e tt
 
 -- it stands before the end
 pub greatest_before : (P : ℕ → Bool) (s i k : ℕ) → greatest_place P s i ≡ Some k → k < i
-greatest_before P s zero k is = search (arith, none_some, greatest_none)
+greatest_before P s zero k is = search arith
 greatest_before P s (suc i) k is = elim (cases_lt i s) [
-  | inl l ↦ search (arith, none_some, greatest_none)
+  | inl l ↦ search arith
   | inr l ↦
       let step =
       sym (ap (greatest_place P s) (omega arith) ∙ greatest_last P s i (omega arith)) ∙ is in

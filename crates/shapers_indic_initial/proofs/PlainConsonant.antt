@@ -2,9 +2,9 @@
 use Rattle.std.proofs.Common.{ℕ, ◌+◌, ◌-◌, ◌<◌, ◌≤◌, ◌≡◌, not, Bool, true, false, inl, inr, List, [], ◌∷◌, ◌++◌, map, length, refl, sym, ◌∙◌, ap, arith}
 use Rattle.std.specs.Prelude.{Option}
 use Rattle.std.specs.List.{range_with_len}
-use Rattle.std.proofs.lemmas.Bool.{and_parts, cases_Bool, eqb-true, lt-ltb}
+use Rattle.std.proofs.lemmas.Bool.{and_parts, cases_Bool, eqb-true}
 use Rattle.std.proofs.lemmas.List.{length-map}
-use Rattle.shapers_buffer.specs.declared.buffer.glyph.hb_glyph_info_t.{hb_glyph_info_t}
+use Rattle.shapers_buffer.specs.Glyphs.{Glyph, Glyphs}
 use Rattle.shapers_buffer.specs.declared.buffer.level.BufferClusterLevel.{BufferClusterLevel}
 use Rattle.shapers_buffer.specs.declared.buffer.tag.Script.{Script}
 use Rattle.shapers_buffer.specs.Buffer.{Buffer}
@@ -33,65 +33,51 @@ not_true true h = sym h
 not_true false h = refl
 
 -- a glyph as a consonant at the base
-abbrev pub plain_consonant : hb_glyph_info_t → hb_glyph_info_t
+abbrev pub plain_consonant : Glyph → Glyph
 plain_consonant g = record g { category = 1; auxiliary = 4 }
 
-no_joiner : (script : Option Script) (g : hb_glyph_info_t) → joiner_comes_first script (plain_consonant g ∷ []) ≡ false
-no_joiner script g =
-    search (arith, refl)
+no_joiner : (script : Option Script) (g : Glyph) → joiner_comes_first script (plain_consonant g ∷ []) ≡ false
+no_joiner = search arith
 
-no_repha : (mode : RephMode) (g : hb_glyph_info_t) → opens_with_repha mode (plain_consonant g ∷ []) ≡ false
+no_repha : (mode : RephMode) (g : Glyph) → opens_with_repha mode (plain_consonant g ∷ []) ≡ false
 no_repha Implicit g = refl
 no_repha Explicit g = refl
 no_repha LogRepha g = refl
 
-no_reph : (r : Rules) (g : hb_glyph_info_t) → indic_reph_len r (plain_consonant g ∷ []) ≡ 0
-no_reph r g =
-    search (arith, no_repha, refl)
+no_reph : (r : Rules) (g : Glyph) → indic_reph_len r (plain_consonant g ∷ []) ≡ 0
+no_reph = search arith
 
-is_the_base : (r : Rules) (g : hb_glyph_info_t) → is_ligated g.glyph_props ≡ false
-    → base_place r (plain_consonant g ∷ []) ≡ 0
-is_the_base r g m = search (arith, no_reph, refl)
+is_the_base : (r : Rules) (g : Glyph) → is_ligated g.glyph_props ≡ false → base_place r (plain_consonant g ∷ []) ≡ 0
+is_the_base = search arith
 
-still_halants : (r : Rules) (script : Option Script) (g : hb_glyph_info_t)
+still_halants : (r : Rules) (script : Option Script) (g : Glyph)
     → halant_places r script 0 (plain_consonant g ∷ []) ≡ 0 ∷ []
-still_halants r script g = search (arith, refl)
+still_halants = search arith
 
-consonant_joined : (script : Option Script) (g : hb_glyph_info_t) → with_joiner_first script (plain_consonant g ∷ [])
+consonant_joined : (script : Option Script) (g : Glyph) → with_joiner_first script (plain_consonant g ∷ [])
     ≡ plain_consonant g ∷ []
-consonant_joined script g = search (arith, no_joiner, refl)
+consonant_joined = search arith
 
-consonant_based : (r : Rules) (g : hb_glyph_info_t) → is_ligated g.glyph_props ≡ false
+consonant_based : (r : Rules) (g : Glyph) → is_ligated g.glyph_props ≡ false
     → with_base_positions r (plain_consonant g ∷ []) ≡ plain_consonant g ∷ []
-consonant_based r g m =
-    search (arith, is_the_base r g m, no_reph, refl)
+consonant_based r g m = search arith
 
-marks_stay : (g : hb_glyph_info_t) → with_marks_and_owners 0 (plain_consonant g ∷ []) ≡ plain_consonant g ∷ []
+marks_stay : (g : Glyph) → with_marks_and_owners 0 (plain_consonant g ∷ []) ≡ plain_consonant g ∷ []
 marks_stay g = refl
 
-pub plain_positioned : (r : Rules) (script : Option Script) (g : hb_glyph_info_t) → is_ligated g.glyph_props ≡ false
+pub plain_positioned : (r : Rules) (script : Option Script) (g : Glyph) → is_ligated g.glyph_props ≡ false
     → positioned r script (plain_consonant g ∷ []) ≡ plain_consonant g ∷ []
-plain_positioned r script g m =
-    search (
-      arith,
-      consonant_joined script g,
-      is_the_base r g m,
-      consonant_based r g m,
-      still_halants,
-      refl,
-      marks_stay g,
-    )
+plain_positioned r script g m = search (arith, consonant_joined script g)
 
-no_eyelash : (r : Rules) (script : Option Script) (g : hb_glyph_info_t) → with_eyelash_mask r script 0 (g ∷ []) ≡ g ∷ []
-no_eyelash r script g = search (arith, refl)
+no_eyelash : (r : Rules) (script : Option Script) (g : Glyph) → with_eyelash_mask r script 0 (g ∷ []) ≡ g ∷ []
+no_eyelash = search arith
 
-no_pair : (r : Rules) (g : hb_glyph_info_t) → with_pref_mask r 0 (g ∷ []) ≡ g ∷ []
-no_pair r g = search (arith, refl)
+no_pair : (r : Rules) (g : Glyph) → with_pref_mask r 0 (g ∷ []) ≡ g ∷ []
+no_pair = search arith
 
-masks_stay : (r : Rules) (script : Option Script) (g : hb_glyph_info_t)
+masks_stay : (r : Rules) (script : Option Script) (g : Glyph)
     → with_initial_masks r script 0 (plain_consonant g ∷ []) ≡ plain_consonant g ∷ []
-masks_stay r script g =
-    search (arith, no_eyelash, no_pair, refl)
+masks_stay = search arith
 
 -- steps of one place, which may merge it alone
 abbrev one_place : List (ℕ × ℕ) → Step
@@ -101,51 +87,45 @@ abbrev plain_steps : List Step
 plain_steps = one_place [] ∷ (one_place [] ∷ (one_place ((0, 1) ∷ []) ∷ []))
 
 merges_alone : (r : Rules) → ordered_stretches r (0 ∷ []) 0 ≡ (0, 1) ∷ []
-merges_alone r = search (arith, refl)
+merges_alone = search arith
 
-first_step : (script : Option Script) (g : hb_glyph_info_t) → joiner_step script (plain_consonant g ∷ []) ≡ one_place []
-first_step script g = search (arith, no_joiner, refl)
+first_step : (script : Option Script) (g : Glyph) → joiner_step script (plain_consonant g ∷ []) ≡ one_place []
+first_step = search arith
 
-second_step : (r : Rules) (script : Option Script) (g : hb_glyph_info_t) → is_ligated g.glyph_props ≡ false
+second_step : (r : Rules) (script : Option Script) (g : Glyph) → is_ligated g.glyph_props ≡ false
     → halant_step r script (base_place r (with_joiner_first script (plain_consonant g ∷ [])))
     (with_base_positions r (with_joiner_first script (plain_consonant g ∷ []))) ≡ one_place []
-second_step r script g m =
-    search (arith, consonant_joined, is_the_base, consonant_based, still_halants)
+second_step = search (arith, consonant_joined)
 
-third_step : (r : Rules) (script : Option Script) (g : hb_glyph_info_t) → is_ligated g.glyph_props ≡ false
+third_step : (r : Rules) (script : Option Script) (g : Glyph) → is_ligated g.glyph_props ≡ false
     → indic_order_step r (positioned r script (plain_consonant g ∷ [])) ≡ one_place ((0, 1) ∷ [])
 third_step r script g m = ap (indic_order_step r) (plain_positioned r script g m) ∙ ap one_place (merges_alone r)
 
-plain_steps_are : (r : Rules) (script : Option Script) (g : hb_glyph_info_t) → is_ligated g.glyph_props ≡ false
+plain_steps_are : (r : Rules) (script : Option Script) (g : Glyph) → is_ligated g.glyph_props ≡ false
     → steps_of_reordered r script (plain_consonant g ∷ []) ≡ plain_steps
-plain_steps_are r script g m =
-    cc (first_step script g, second_step r script g m, third_step r script g m)
+plain_steps_are r script g m = cc (first_step script g, second_step r script g m, third_step r script g m)
 
 -- such steps change nothing
-merge_one : (level : BufferClusterLevel) (s e : ℕ) (gs : List hb_glyph_info_t) → e - s < 2 → merge level s e gs ≡ gs
-merge_one level s e gs short =
-    search (arith, lt-ltb, refl)
+merge_one : (level : BufferClusterLevel) (s e : ℕ) (gs : Glyphs) → e - s < 2 → merge level s e gs ≡ gs
+merge_one = search arith
 
-picks_all : (s n : ℕ) (gs : List hb_glyph_info_t) → s + 1 ≤ n → length gs ≡ n
+picks_all : (s n : ℕ) (gs : Glyphs) → s + 1 ≤ n → length gs ≡ n
     → pick (range_with_len 0 s ++ (map (λ p. s + p) (0 ∷ []) ++ range_with_len (s + 1) (n - (s + 1)))) gs ≡ gs
-picks_all s n gs l long =
-    search (arith, range-three s (s + 1) n (omega arith) l, pick-all n gs long)
+picks_all s n gs l long = search (arith, range-three s (s + 1) n (omega arith) l, pick-all n gs long)
 
-still_run : (level : BufferClusterLevel) (s : ℕ) (gs : List hb_glyph_info_t) → s + 1 ≤ length gs
+still_run : (level : BufferClusterLevel) (s : ℕ) (gs : Glyphs) → s + 1 ≤ length gs
     → run_steps level (map (widened s (s + 1) (length gs)) plain_steps) gs ≡ gs
-still_run level s gs l =
-    cc (picks_all s (length gs) gs l refl, merge_one level (s + 0) (s + 1) gs (omega arith))
+still_run level s gs l = cc (picks_all s (length gs) gs l refl, merge_one level (s + 0) (s + 1) gs (omega arith))
 
-pub plain_syllable : (r : Rules) (script : Option Script) (s e : ℕ) (g : hb_glyph_info_t) (b : Buffer) → s ≤ e
+pub plain_syllable : (r : Rules) (script : Option Script) (s e : ℕ) (g : Glyph) (b : Buffer) → s ≤ e
     → e ≤ length b.glyphs → stretch_of s e (order_view b.glyphs) ≡ plain_consonant g ∷ []
-    → is_ligated g.glyph_props ≡ false
-    → SyllableReordered (initial_order r script) (initial_steps r script) s e b b
+    → is_ligated g.glyph_props ≡ false → SyllableReordered (initial_order r script) (initial_steps r script) s e b b
 plain_syllable r script s e g b h l is m =
     let v = order_view b.glyphs in
-    let one : 1 ≡ e - s = sym (ap length is) ∙ (search (arith, length-stretch, length-map)) in
+    let one : 1 ≡ e - s = sym (ap length is) ∙ (search (length-stretch, length-map)) in
     let end : e ≡ s + 1 = omega arith in
     let x = plain_consonant g ∷ [] in
-    let ran : List Step → List hb_glyph_info_t =
+    let ran : List Step → Glyphs =
     λ steps. run_steps b.level (map (widened s e (length b.glyphs)) steps) b.glyphs in
     record {
       others = refl;
@@ -154,23 +134,18 @@ plain_syllable r script s e g b h l is m =
             | inl on ↦ rw on (ap (λ gs. masked_in_order r script
                 (in_indic_order gs)) (plain_positioned r script g m) ∙ masks_stay r script g)
             | inr off ↦ rw off refl
-          ])
-          ∙ sym is));
-      moved = ap (map carried)
-          (sym (ap (λ gs. ran (initial_steps r script gs)) is
+          ]) ∙ sym is));
+      moved = ap (map carried) (sym (ap (λ gs. ran (initial_steps r script gs)) is
           ∙ (elim (cases_Bool (is_reordered_in_indic x)) [
-            | inl on ↦ rw on (ap ran (plain_steps_are r script g m) ∙
-                cc (still_run b.level s b.glyphs (omega arith)))
+            | inl on ↦ rw on (ap ran (plain_steps_are r script g m) ∙ cc (still_run b.level s b.glyphs (omega arith)))
             | inr off ↦ rw off refl
           ])));
     }
 
 -- so where the code sees one
-plain_glyph : (s e : ℕ) (b : Buffer) (xs : List hb_glyph_info_t) → (r : Rules) → (script : Option Script) → s ≤ e
+plain_glyph : (s e : ℕ) (b : Buffer) (xs : Glyphs) → (r : Rules) → (script : Option Script) → s ≤ e
     → e ≤ length b.glyphs → stretch_of s e b.glyphs ≡ xs → is_plain_consonant xs ≡ true
     → SyllableReordered (initial_order r script) (initial_steps r script) s e b b
-plain_glyph s e b [] r script h l is on = absurd (cc)
-plain_glyph s e b (g ∷ (x ∷ xs)) r script h l is on = absurd (cc)
 plain_glyph s e b (g ∷ []) r script h l is on =
     let first = and_parts _ _ on in
     let both = and_parts _ _ first.0 in
@@ -181,8 +156,9 @@ plain_glyph s e b (g ∷ []) r script h l is on =
     ∙ ap (λ a. (record v { category = 1; auxiliary = a })) (eqb-true _ 4 both.1) in
     plain_syllable r script s e v b h l (sym (map-stretch plain s e _) ∙ ap order_view is
     ∙ ap (λ x. x ∷ []) viewed) (not_true _ first.1)
+plain_glyph s e b _ r script h l is on = absurd (cc)
 
 pub plain_here : (r : Rules) (script : Option Script) (s e : ℕ) (b : Buffer) → s ≤ e → e ≤ length b.glyphs
     → is_plain_consonant (stretch_of s e b.glyphs) ≡ true
     → SyllableReordered (initial_order r script) (initial_steps r script) s e b b
-plain_here r script s e b h l on = search (arith, plain_glyph)
+plain_here = search plain_glyph

@@ -1,9 +1,9 @@
 -- The positions of a syllable, and the glyphs that move on the way, part by part.
-use Rattle.std.proofs.Common.{ℕ, zero, suc, ◌+◌, ◌-◌, ◌<◌, ◌≤◌, ◌≡◌, Bool, true, false, if◌then◌else◌, List, [], ◌∷◌, ◌++◌, length, take, drop, Option, refl, sym, ◌∙◌, ap, subst, arith}
+use Rattle.std.proofs.Common.{ℕ, suc, ◌+◌, ◌-◌, ◌<◌, ◌≤◌, ◌≡◌, Bool, true, false, if◌then◌else◌, List, [], ◌∷◌, ◌++◌, length, take, drop, Option, refl, sym, ◌∙◌, ap, subst, arith}
 use Rattle.std.specs.Prelude.{swap}
 use Rattle.std.specs.List.{range_with_len}
 use Rattle.std.proofs.lemmas.List.{length-map, length-take-le}
-use Rattle.shapers_buffer.specs.declared.buffer.glyph.hb_glyph_info_t.{hb_glyph_info_t}
+use Rattle.shapers_buffer.specs.Glyphs.{Glyphs}
 use Rattle.shapers_buffer.specs.declared.buffer.tag.Script.{Script}
 use Rattle.shapers_buffer.specs.Buffer.{Buffer, but_places}
 use Rattle.shapers_buffer.specs.Clusters.{merge, merge_all, stretch_of, with_stretch}
@@ -11,7 +11,6 @@ use Rattle.shapers_buffer.specs.Glyph.{order_view, plain}
 use Rattle.shapers_buffer.specs.Places.{pick}
 use Rattle.shapers_buffer.proofs.ClusterLemmas.{three_parts, length-stretch, map-stretch}
 use Rattle.shapers_clusters.specs.Steps.{FitsStep, Step, shifted, swap_step}
-use Rattle.shapers_clusters.proofs.EqualArguments.{same_two}
 use Rattle.shapers_clusters.proofs.Merging.{length-merge}
 use Rattle.shapers_clusters.proofs.Picks.{length-pick, pick-all}
 use Rattle.shapers_indic.specs.Glyphs.{places}
@@ -21,7 +20,7 @@ use Rattle.shapers_indic_initial.specs.InitialReordering.{halant_step, halant_st
 use Rattle.shapers_indic_initial.specs.InitialRules.{Rules}
 use Rattle.shapers_indic_initial.proofs.InitialReads.{plain_view, base_stays, joiner_first_stays}
 use Rattle.shapers_indic_initial.specs.Proved.InitialSteps.{halant_fits, joiner_fits, joiner_long}
-use Rattle.shapers_indic_initial.specs.Proved.InitialViews.{carried_hides_positions, hidden-by_base, hidden-with_marks_attached, hidden-with_owners_after}
+use Rattle.shapers_indic_initial.specs.Proved.InitialViews.{hidden-by_base, hidden-with_marks_attached, hidden-with_owners_after}
 use Rattle.shapers_indic_initial.proofs.InitialWrites.{halant_places_stay, with_base_stays, with_marks_stays, with_owners_after_stays}
 use Rattle.shapers_indic_initial.proofs.Moves.{moved_within, pick-moved, stepped}
 use Rattle.shapers_indic_initial.specs.Proved.OrderedPlaces.{places_all}
@@ -31,31 +30,26 @@ use Rattle.shapers_syllabic.proofs.SyllableThen.{changed_parts, syllable_as, syl
 
 -- a syllable in the order view, and how long it is
 
-pub seen_long : (s e : ℕ) (gs : List hb_glyph_info_t) → s ≤ e → e ≤ length gs → length (stretch_of s e (order_view gs))
-    ≡ e - s
-seen_long s e gs h l = search (arith, length-stretch, length-map)
+pub seen_long : (s e : ℕ) (gs : Glyphs) → s ≤ e → e ≤ length gs → length (stretch_of s e (order_view gs)) ≡ e - s
+seen_long = search (length-stretch, length-map)
 
 -- a stretch picked in its own order stays
-picked_still : (s e n : ℕ) (gs : List hb_glyph_info_t) → s ≤ e → e ≤ length gs → n ≡ e - s
+picked_still : (s e n : ℕ) (gs : Glyphs) → s ≤ e → e ≤ length gs → n ≡ e - s
     → gs ≡ with_stretch s e (pick (range_with_len 0 n)) gs
-picked_still s e n gs h l k =
-    cc (three_parts s e gs h, pick-all n _ (length-stretch s e gs l ∙ sym k))
+picked_still s e n gs h l k = cc (three_parts s e gs h, pick-all n _ (length-stretch s e gs l ∙ sym k))
 
 -- a stretch picked by a move
-picked_moved : (s e n h j : ℕ) (gs : List hb_glyph_info_t) → s ≤ e → e ≤ length gs → n ≡ e - s → h ≤ j → j < n
+picked_moved : (s e n h j : ℕ) (gs : Glyphs) → s ≤ e → e ≤ length gs → n ≡ e - s → h ≤ j → j < n
     → moved_behind (s + h) (s + j) gs ≡ with_stretch s e (pick (moved_behind h j (range_with_len 0 n))) gs
-picked_moved s e n h j gs l r k a b =
-    cc (
-      moved_within s e h j gs l r a (omega arith),
-      pick-moved h j n (stretch_of s e gs) (length-stretch s e gs r ∙ sym k) a b,
-    )
+picked_moved s e n h j gs l r k a b = cc (
+  moved_within s e h j gs l r a (omega arith),
+  pick-moved h j n (stretch_of s e gs) (length-stretch s e gs r ∙ sym k) a b,
+)
 
 -- a swap of the second and the third is a move
 swap_moved : (n : ℕ) → 2 < n → swap (range_with_len 0 n) 1 2 ≡ moved_behind 1 2 (range_with_len 0 n)
-swap_moved zero l = absurd (omega arith)
-swap_moved (suc zero) l = absurd (omega arith)
-swap_moved (suc (suc zero)) l = absurd (omega arith)
 swap_moved (suc (suc (suc n))) l = refl
+swap_moved _ l = absurd (omega arith)
 
 -- the step of Kannada
 pub joiner_moves : (script : Option Script) (s e : ℕ) (old mid new : Buffer) → s ≤ e → e ≤ length old.glyphs
@@ -77,17 +71,15 @@ joiner_moves script s e old mid new h l first is kept moved =
     let ms = merge old.level (s + 1) (s + 3) gs in
     let firsts : merge_all old.level (shifted s step.merged_first) gs ≡ ms =
     cc in
-    let same = length-merge old.level (s + 1) (s + 3) gs (omega (arith, two, long)) in
+    let same = length-merge old.level (s + 1) (s + 3) gs (omega arith) in
     stepped (with_joiner_first script) (joiner_steps script) s e step old new h l
-    (subst (λ m. FitsStep m step) long (joiner_fits script X))
-    (ap (λ t. t.merged_then) swaps)
+    (subst (λ m. FitsStep m step) long (joiner_fits script X)) (ap (λ t. t.merged_then) swaps)
     (kept ∙ ap (λ b. ((record (but_places b) { glyphs = new.glyphs }))) is)
     (moved ∙ ap (moved_behind (s + 1) (s + 3 - 1)) (ap (λ b. b.glyphs) is)
     ∙ ap (λ j. moved_behind (s + 1) j ms) (omega arith)
-    ∙ picked_moved s e n 1 2 ms h (omega (arith, same)) long (omega arith) two
+    ∙ picked_moved s e n 1 2 ms h (omega arith) long (omega arith) two
     ∙ sym (ap (λ ps. with_stretch s e (pick ps) ms) (cc (swap_moved n two)))
-    ∙ sym (ap (with_stretch s e (pick step.places)) firsts))
-    refl refl
+    ∙ sym (ap (with_stretch s e (pick step.places)) firsts)) refl refl
 
 pub joiner_stays_put : (script : Option Script) (s e : ℕ) (b : Buffer) → s ≤ e → e ≤ length b.glyphs
     → joiner_comes_first script (stretch_of s e b.glyphs) ≡ false
@@ -100,12 +92,8 @@ joiner_stays_put script s e b h l first =
     let off : joiner_comes_first script X ≡ false =
     cc (map-stretch plain s e gs, joiner_first_stays plain_view script (stretch_of s e gs)) in
     let step = joiner_step script X in
-    stepped (with_joiner_first script) (joiner_steps script) s e step b b h l
-    (search (arith, joiner_fits script X))
-    (cc)
-    refl
-    (search (arith, picked_still))
-    refl refl
+    stepped (with_joiner_first script) (joiner_steps script) s e step b b h l (search (arith, joiner_fits script X))
+    (cc) refl (search (arith, picked_still)) refl refl
 
 -- the older specification's H
 pub halant_moves : (r : Rules) (script : Option Script) (base s e a j : ℕ) (old new : Buffer) → s ≤ e
@@ -124,10 +112,7 @@ halant_moves r script base s e a j old new h l up within there kept moved =
     let moves : step.places ≡ moved_behind a j (range_with_len 0 n) =
     cc (map-stretch plain s e gs, halant_places_stay plain_view r script base (stretch_of s e gs), places_all n) in
     stepped (with_halant_moved r script base) (halant_steps r script base) s e step old new h l
-    (search (arith, seen_long s e gs h l, halant_fits r script base X))
-    refl
-    kept
-    (search (arith, picked_moved))
+    (search (arith, seen_long s e gs h l, halant_fits r script base X)) refl kept (search (arith, picked_moved))
     refl refl
 
 pub halant_stays_put : (r : Rules) (script : Option Script) (base s e : ℕ) (b : Buffer) → s ≤ e → e ≤ length b.glyphs
@@ -142,10 +127,7 @@ halant_stays_put r script base s e b h l there =
     let stays : step.places ≡ range_with_len 0 n =
     cc (map-stretch plain s e gs, halant_places_stay plain_view r script base (stretch_of s e gs), places_all n) in
     stepped (with_halant_moved r script base) (halant_steps r script base) s e step b b h l
-    (search (arith, seen_long s e gs h l, halant_fits r script base X))
-    refl
-    refl
-    (search (arith, picked_still))
+    (search (arith, seen_long s e gs h l, halant_fits r script base X)) refl refl (search (arith, picked_still))
     refl refl
 
 pub halant_off : (r : Rules) (script : Option Script) (base s e : ℕ) (b : Buffer) → s ≤ e → e ≤ length b.glyphs
@@ -155,7 +137,7 @@ halant_off r script base s e b h l off =
     halant_stays_put r script base s e b h l
     (ap (λ c. if c then halant_from script syl (halant_after base syl) else places 0 (length syl)) off)
 
-pub halant_left : (r : Rules) (script : Option Script) (base s e : ℕ) (b : Buffer) (hs : List hb_glyph_info_t) → s ≤ e
+pub halant_left : (r : Rules) (script : Option Script) (base s e : ℕ) (b : Buffer) (hs : Glyphs) → s ≤ e
     → e ≤ length b.glyphs → hs ≡ b.glyphs → r.old ≡ true
     → halant_from script (stretch_of s e hs) (halant_after base (stretch_of s e hs))
     ≡ places 0 (length (stretch_of s e hs))
@@ -167,9 +149,8 @@ halant_left r script base s e b hs h l same on there =
     ∙ subst (λ gs. halant_from script (stretch_of s e gs) (halant_after base (stretch_of s e gs))
     ≡ places 0 (length (stretch_of s e gs))) same there)
 
-pub halant_done : (r : Rules) (script : Option Script) (base s e a j : ℕ) (old new : Buffer) (hs : List hb_glyph_info_t)
-    → s ≤ e → e ≤ length old.glyphs → hs ≡ old.glyphs → r.old ≡ true
-    → a < j → j < length (stretch_of s e hs)
+pub halant_done : (r : Rules) (script : Option Script) (base s e a j : ℕ) (old new : Buffer) (hs : Glyphs) → s ≤ e
+    → e ≤ length old.glyphs → hs ≡ old.glyphs → r.old ≡ true → a < j → j < length (stretch_of s e hs)
     → halant_from script (stretch_of s e hs) (halant_after base (stretch_of s e hs))
     ≡ moved_behind a j (places 0 (length (stretch_of s e hs)))
     → but_places new ≡ record (but_places old) { glyphs = new.glyphs }
@@ -177,18 +158,14 @@ pub halant_done : (r : Rules) (script : Option Script) (base s e a j : ℕ) (old
     → SyllableReordered (with_halant_moved r script base) (halant_steps r script base) s e old new
 halant_done r script base s e a j old new hs h l same on up within there kept moved =
     let syl = stretch_of s e _ in
-    halant_moves r script base s e a j old new h l up
-    (search arith)
-    (ap (λ c. if c then halant_from script syl (halant_after base syl) else places 0 (length syl)) on
-    ∙ subst
+    halant_moves r script base s e a j old new h l up (search arith)
+    (ap (λ c. if c then halant_from script syl (halant_after base syl) else places 0 (length syl)) on ∙ subst
     (λ gs. halant_from script (stretch_of s e gs) (halant_after base (stretch_of s e gs)) ≡ moved_behind a j (places
-    0 (length (stretch_of s e gs)))) same there)
-    kept moved
+    0 (length (stretch_of s e gs)))) same there) kept moved
 
 -- all of it
 pub syllable_opened : (r : Rules) (script : Option Script) (s e base : ℕ) (reph : Bool) (b0 b1 b2 b3 b4 : Buffer)
-    → s ≤ e → e ≤ length b0.glyphs
-    → length b1.glyphs ≡ length b0.glyphs
+    → s ≤ e → e ≤ length b0.glyphs → length b1.glyphs ≡ length b0.glyphs
     → SyllableReordered (with_joiner_first script) (joiner_steps script) s e b0 b1
     → base ≡ base_place r (stretch_of s e b1.glyphs) → reph ≡ has_indic_reph r (stretch_of s e b1.glyphs)
     → b2 ≡ (let b : Buffer = record b1 { glyphs = b2.glyphs } in b)
@@ -202,7 +179,7 @@ syllable_opened r script s e base reph b0 b1 b2 b3 b4 h l long1 one base_is reph
     let xs = order_view b0.glyphs in
     let X = stretch_of s e xs in
     let Y = with_joiner_first script X in
-    let kY = (let f = joiner_fits script X in search (arith, length-pick)) ∙ (seen_long s e b0.glyphs h l) in
+    let kY = (let f = joiner_fits script X in search length-pick) ∙ (seen_long s e b0.glyphs h l) in
     let Z = with_base_positions r Y in
     let kZ = length-with_base r Y ∙ kY in
     let parts = changed_parts s e (take s xs) Y (drop e xs) (order_view b1.glyphs) h
@@ -212,26 +189,18 @@ syllable_opened r script s e base reph b0 b1 b2 b3 b4 h l long1 one base_is reph
     let one_two = syllable_then (with_joiner_first script) (with_base_positions r) (joiner_steps script) (λ _. []) s e
     b0 b1 b2 h l kY one (
     let syl = stretch_of s e b1.glyphs in syllable_changed (with_base_positions r) (with_base_positions r) s e b1 b2 h
-    (ap but_places is2) (search (arith, same_two)) (search (arith, hidden-by_base, carried_hides_positions)) (sym
-    (with_base_stays plain_view r syl))) in
-    let first : List hb_glyph_info_t → List hb_glyph_info_t =
+    (ap but_places is2) (search arith) (search hidden-by_base) (sym (with_base_stays plain_view r syl))) in
+    let first : Glyphs → Glyphs =
     λ gs. with_base_positions r (with_joiner_first script gs) in
-    let second : List hb_glyph_info_t → List hb_glyph_info_t = λ gs. with_halant_moved r script base (first gs) in
-    let steps : List hb_glyph_info_t → List Step =
+    let second : Glyphs → Glyphs = λ gs. with_halant_moved r script base (first gs) in
+    let steps : Glyphs → List Step =
     λ gs. (joiner_steps script gs ++ []) ++ halant_steps r script base (first gs) in
     let all = syllable_then second (with_marks_and_owners base) steps (λ _. []) s e b0 b3 b4 h l
-    ((let f = halant_fits r script base Z in search (arith, length-pick)) ∙ kZ)
+    ((let f = halant_fits r script base Z in search length-pick) ∙ kZ)
     (syllable_then first (with_halant_moved r script base) (λ gs. joiner_steps script gs ++ []) (halant_steps r script
     base) s e b0 b2 b3 h l kZ one_two three) (
     let syl = stretch_of s e b3.glyphs in syllable_changed (with_marks_and_owners base) (with_marks_and_owners base) s
-    e b3 b4 h (ap but_places is4) walked4 (search (
-      arith,
-      hidden-with_owners_after,
-      carried_hides_positions,
-      hidden-with_marks_attached,
-    )) (cc (with_marks_stays plain_view syl, with_owners_after_stays plain_view base (with_marks_attached syl)))) in
+    e b3 b4 h (ap but_places is4) walked4 (search (hidden-with_owners_after, hidden-with_marks_attached)) (cc (with_marks_stays plain_view syl, with_owners_after_stays plain_view base (with_marks_attached syl)))) in
     syllable_as (λ gs. with_marks_and_owners base (second gs)) (positioned r script) (λ gs. steps gs ++ [])
-    (opening_steps r script) s e b0 b4
-    (ap (λ b. with_marks_and_owners b (with_halant_moved r script b Z)) base_eq)
-    (ap (λ b. joiner_step script X ∷ halant_step r script b Z ∷ []) base_eq)
-    all
+    (opening_steps r script) s e b0 b4 (ap (λ b. with_marks_and_owners b (with_halant_moved r script b Z)) base_eq)
+    (ap (λ b. joiner_step script X ∷ halant_step r script b Z ∷ []) base_eq) all

@@ -3,7 +3,7 @@ use Rattle.std.proofs.Common.{ℕ, suc, ◌+◌, ◌-◌, ◌≤◌, ◌≡◌, 
 use Rattle.std.specs.List.{AllByRecursion, sum_by}
 use Rattle.std.proofs.lemmas.List.{length-map}
 use Rattle.std.proofs.lemmas.List.Sums.{fold-append}
-use Rattle.shapers_buffer.specs.declared.buffer.glyph.hb_glyph_info_t.{hb_glyph_info_t}
+use Rattle.shapers_buffer.specs.Glyphs.{Glyphs}
 use Rattle.shapers_buffer.specs.declared.buffer.level.BufferClusterLevel.{BufferClusterLevel}
 use Rattle.shapers_buffer.specs.declared.buffer.tag.Script.{Script}
 use Rattle.shapers_buffer.specs.Clusters.{merges, stretch_of}
@@ -49,18 +49,17 @@ one_cluster_left s e cs js f st low within one p q pl ph ql qh =
 
 -- stretches of the syllable, as stretches of the text
 held_in_text : (s : ℕ) (sts : List (ℕ × ℕ)) (st : ℕ × ℕ) → HeldIn sts st → HeldIn (shifted s sts) (s + st.0, s + st.1)
-held_in_text s sts st h i a b =
-    search (arith, held-shifted s (i - s) sts, h (i - s) (omega arith) (omega arith))
+held_in_text s sts st h i a b = search (arith, held-shifted s (i - s) sts)
 
 -- the order step of a syllable in its text
-record OrderInText (r : Rules) (s e : ℕ) (xs : List hb_glyph_info_t) (cs ms : List ℕ) : Type 0 where
+record OrderInText (r : Rules) (s e : ℕ) (xs : Glyphs) (cs ms : List ℕ) : Type 0 where
   pub same_length : length ms ≡ length cs
   pub together : AllByRecursion (λ st. OneAlong ms (s + st.0, s + st.1))
       (kept_together r (indic_ordered_places xs) (ordered_base (in_indic_order xs)))
   pub lies : AllByRecursion (λ st. s + st.1 ≤ e)
       (kept_together r (indic_ordered_places xs) (ordered_base (in_indic_order xs)))
 
-order_in_text : (r : Rules) (level : BufferClusterLevel) (s e : ℕ) (xs : List hb_glyph_info_t) (cs : List ℕ)
+order_in_text : (r : Rules) (level : BufferClusterLevel) (s e : ℕ) (xs : Glyphs) (cs : List ℕ)
     → merges level ≡ true → s ≤ e → e ≤ length cs → length xs ≡ e - s
     → OrderInText r s e xs cs (joined_step level (widened s e (length cs) (indic_order_step r xs)) cs)
 order_in_text r level s e xs cs m h l size =
@@ -83,16 +82,13 @@ order_in_text r level s e xs cs m h l size =
     let all = clusters_hold level (w ∷ []) cs (fits, tt) in
     record {
       same_length = all.same_length;
-      together = all_by_two _ _ _ (λ st a b.
-          one_cluster level m _ picked ends _ (omega arith)
-          (held_in_text s sts st (λ i x y. held_together r from base i o ∙ b i x y)))
-          ways lies (all_held ways);
-      lies = all_by_two _ _ _ (λ st a b. omega arith)
-          ways lies (all_held ways);
+      together = all_by_two _ _ _ (λ st a b. one_cluster level m _ picked ends _ (omega arith)
+          (held_in_text s sts st (λ i x y. held_together r from base i o ∙ b i x y))) ways lies (all_held ways);
+      lies = all_by_two _ _ _ (λ st a b. omega arith) ways lies (all_held ways);
     }
 
 -- and what comes after it
-syllable_merges : (r : Rules) (level : BufferClusterLevel) (s e : ℕ) (xs : List hb_glyph_info_t) (cs js : List ℕ)
+syllable_merges : (r : Rules) (level : BufferClusterLevel) (s e : ℕ) (xs : Glyphs) (cs js : List ℕ)
     → merges level ≡ true → s ≤ e → e ≤ length cs → length xs ≡ e - s
     → Leaves s e (joined_step level (widened s e (length cs) (indic_order_step r xs)) cs) js →
     SyllableMerges s e (ordered_base (in_indic_order xs))
@@ -106,8 +102,7 @@ syllable_merges r level s e xs cs js m h l size left =
     let done = order_in_text r level s e xs cs m h l size in
     let f = subst (λ k. FitsStep k step) size (order_fits r xs) in
     record {
-      together = all-mapped _ _
-          _ ways (λ st k. k)
+      together = all-mapped _ _ _ ways (λ st k. k)
           (all_by_two _ _ _ (λ st a b. one_cluster_left s e ms js left _ (omega arith) b a) ways done.together
           done.lies);
       own = λ own.
@@ -121,12 +116,10 @@ syllable_merges r level s e xs cs js m h l size left =
           subst (OrderMerges base ways from seg) (sym same) law;
     }
 
-length-positioned : (r : Rules) (script : Option Script) (syl : List hb_glyph_info_t) → length (positioned r script syl)
+length-positioned : (r : Rules) (script : Option Script) (syl : Glyphs) → length (positioned r script syl)
     ≡ length syl
 length-positioned r script syl =
-    length-meaning _ _ (halant_laws r script)
-    _
-    ∙ length-meaning _ _ (joiner_laws script) syl
+    length-meaning _ _ (halant_laws r script) _ ∙ length-meaning _ _ (joiner_laws script) syl
 
 pub initial_clusters : InitialClustersLaw
 initial_clusters r script level gs cs m long before behind syl cut on =
@@ -160,18 +153,15 @@ initial_clusters r script level gs cs m long before behind syl cut on =
     let ends =
     ap (λ sts. joined_steps level sts cs)
     (whole ∙ ap (λ sts. front ++ (map (widened s e n) sts ++ later)) is_on ∙ sym (append_assoc front two (last ∷
-    later)))
-    ∙ fold-append (λ cs step. joined_step level step cs) cs (front ++ two) (last ∷ later) in
+    later))) ∙ fold-append (λ cs step. joined_step level step cs) cs (front ++ two) (last ∷ later) in
     let size : length syl ≡ e - s = omega arith in
     let fit3 =
-    subst (λ k. FitSteps k (first ∷ (second ∷ (third ∷ [])))) size
-    ((three_laws r script).fits syl) in
+    subst (λ k. FitSteps k (first ∷ (second ∷ (third ∷ [])))) size ((three_laws r script).fits syl) in
     let fit_begin = all-append (FitsStep n) front two
     (all_along FitsStep fits-widened n 0 a (omega arith) (each_piece FitsStep steps laws.fits before)) (
       fits-widened s e n first (omega arith) (omega arith) fit3.0,
       (
-        fits-widened s e n second (omega arith) (omega
-            arith) fit3.1.0,
+        fits-widened s e n second (omega arith) (omega arith) fit3.1.0,
         tt,
       ),
     ) in

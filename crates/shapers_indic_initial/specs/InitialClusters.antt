@@ -1,7 +1,7 @@
 -- What the order of a syllable makes of its clusters, without cycles, as a statement.
 use Rattle.std.specs.Prelude.{ℕ, suc, ◌+◌, ◌<◌, ◌≡◌, ◌||◌, max, min, nat_lt, true, List, [], ◌∷◌, ◌++◌, length, map, take, Option, slice_index, if◌then◌else◌}
 use Rattle.std.specs.List.{AllByRecursion}
-use Rattle.shapers_buffer.specs.declared.buffer.glyph.hb_glyph_info_t.{hb_glyph_info_t}
+use Rattle.shapers_buffer.specs.Glyphs.{Glyphs}
 use Rattle.shapers_buffer.specs.declared.buffer.level.BufferClusterLevel.{BufferClusterLevel}
 use Rattle.shapers_buffer.specs.Clusters.{merges, stretch_of}
 use Rattle.shapers_buffer.specs.declared.buffer.tag.Script.{Script}
@@ -41,7 +41,7 @@ pub record OrderMerges (base : ℕ) (sts : List (ℕ × ℕ)) (from cs js : List
 -- so of any syllable with positions, at the levels that merge
 abbrev pub OrderMergesLaw : Type 0
 OrderMergesLaw =
-    (r : Rules) (level : BufferClusterLevel) (gs : List hb_glyph_info_t) (cs : List ℕ) →
+    (r : Rules) (level : BufferClusterLevel) (gs : Glyphs) (cs : List ℕ) →
     merges level ≡ true → length cs ≡ length gs →
     OrderMerges (ordered_base (in_indic_order gs))
     (kept_together r (indic_ordered_places gs) (ordered_base (in_indic_order gs)))
@@ -50,7 +50,7 @@ OrderMergesLaw =
 
 -- In a whole text: the clusters as a syllable's last step begins, those before it being reordered.
 abbrev pub as_order_begins : Rules → Option Script → BufferClusterLevel → ℕ →
-    List (List hb_glyph_info_t) → List hb_glyph_info_t → List ℕ → List ℕ
+    List Glyphs → Glyphs → List ℕ → List ℕ
 as_order_begins r script level n before syl cs =
     let s = glyphs_before before in
     joined_steps level (steps_along n 0
@@ -64,10 +64,10 @@ pub record SyllableMerges (s e base : ℕ) (sts : List (ℕ × ℕ)) (from cs js
   pub own : OwnClusters s e cs → OrderMerges base sts from (stretch_of s e cs) (stretch_of s e js)
 
 -- so each syllable that is reordered, of a text gs (its order view) with clusters cs, and js after
-abbrev pub EachSyllableMerges : Rules → Option Script → BufferClusterLevel → List hb_glyph_info_t →
+abbrev pub EachSyllableMerges : Rules → Option Script → BufferClusterLevel → Glyphs →
     List ℕ → List ℕ → Type 0
 EachSyllableMerges r script level gs cs js =
-    (before behind : List (List hb_glyph_info_t)) (syl : List hb_glyph_info_t) →
+    (before behind : List Glyphs) (syl : Glyphs) →
     syllables gs ≡ before ++ syl ∷ behind → is_reordered_in_indic syl ≡ true →
     let s = glyphs_before before in
     let xs = positioned r script syl in
@@ -79,7 +79,7 @@ EachSyllableMerges r script level gs cs js =
 -- at the levels that merge
 abbrev pub InitialClustersLaw : Type 0
 InitialClustersLaw = (r : Rules) (script : Option Script) (level : BufferClusterLevel)
-    (gs : List hb_glyph_info_t) (cs : List ℕ) →
+    (gs : Glyphs) (cs : List ℕ) →
     merges level ≡ true → length cs ≡ length gs →
     EachSyllableMerges r script level gs cs
     (joined_steps level (text_steps (initial_steps r script) gs) cs)

@@ -1,7 +1,7 @@
 -- Positions by the font: a consonant for which the font has a below-base or a post-base form isn't
 -- of position BASE_C.
-use Rattle.std.specs.Prelude.{ℕ, Bool, ◌||◌, List, [], ◌∷◌, map, Option, None, Some, if◌then◌else◌}
-use Rattle.shapers_buffer.specs.declared.buffer.glyph.hb_glyph_info_t.{hb_glyph_info_t}
+use Rattle.std.specs.Prelude.{ℕ, Bool, ◌||◌, [], ◌∷◌, map, Option, None, Some, if◌then◌else◌}
+use Rattle.shapers_buffer.specs.Glyphs.{Glyph, Glyphs}
 use Rattle.shapers_buffer.specs.Glyph.{at_position}
 use Rattle.shapers_base.specs.declared.font.GlyphId.{GlyphId}
 use Rattle.shapers_base.specs.declared.plan.indic.IndicWouldSubstituteFeature.{IndicWouldSubstituteFeature}
@@ -26,17 +26,17 @@ consonant_position font m p v c =
     else POS_BASE_C
 
 -- a glyph with its position by the font, where the table has BASE_C for it
-abbrev pub by_virama : Font → Map → indic_shape_plan_t → GlyphId → hb_glyph_info_t → hb_glyph_info_t
+abbrev pub by_virama : Font → Map → indic_shape_plan_t → GlyphId → Glyph → Glyph
 by_virama font m p v g =
     if has_position POS_BASE_C g then at_position (consonant_position font m p v (number g)) g
     else g
 
 -- the text with the positions by the font, queried with the virama's glyph
-abbrev pub all_by_virama : Font → Map → indic_shape_plan_t → Option GlyphId → List hb_glyph_info_t →
-    List hb_glyph_info_t
+abbrev pub all_by_virama : Font → Map → indic_shape_plan_t → Option GlyphId → Glyphs →
+    Glyphs
 all_by_virama font m p None gs = gs
 all_by_virama font m p (Some v) gs = map (by_virama font m p v) gs
 
-abbrev pub positions_by_font : Font → Map → indic_shape_plan_t → List hb_glyph_info_t →
-    List hb_glyph_info_t
+abbrev pub positions_by_font : Font → Map → indic_shape_plan_t → Glyphs →
+    Glyphs
 positions_by_font font m p gs = all_by_virama font m p (virama_glyph font p) gs

@@ -1,8 +1,8 @@
 -- The masks of a syllable in its new order, by where its base stands. (OpenType, development of
 -- Indic scripts: which features apply where.)
-use Rattle.std.specs.Prelude.{ℕ, ◌+◌, ◌-◌, ◌==◌, nat_lt, bit_and, bit_or, Bool, ◌&&◌, ◌||◌, true, false, not, List, [], ◌∷◌, length, map, take, Option, None, Some, codes, if◌then◌else◌}
+use Rattle.std.specs.Prelude.{ℕ, ◌+◌, ◌-◌, ◌==◌, nat_lt, bit_and, bit_or, Bool, ◌&&◌, ◌||◌, true, false, not, [], ◌∷◌, length, map, take, Option, None, Some, codes, if◌then◌else◌}
 use Rattle.std.specs.List.{enumerate_from, list_any, prefix_len}
-use Rattle.shapers_buffer.specs.declared.buffer.glyph.hb_glyph_info_t.{hb_glyph_info_t}
+use Rattle.shapers_buffer.specs.Glyphs.{Glyph, Glyphs}
 use Rattle.shapers_buffer.specs.declared.buffer.tag.Script.{Script}
 use Rattle.shapers_buffer.specs.Clusters.{stretch_of, with_stretch}
 use Rattle.shapers_buffer.specs.GlyphFlags.{with_bits}
@@ -21,7 +21,7 @@ abbrev pub bits_of : Rules → ℕ → ℕ
 bits_of r feature = bits_at r.masks feature
 
 -- the reph in front gets the mask of rphf
-abbrev pub with_reph_mask : Rules → List hb_glyph_info_t → List hb_glyph_info_t
+abbrev pub with_reph_mask : Rules → Glyphs → Glyphs
 with_reph_mask r gs = with_stretch 0 (prefix_len (has_position POS_RA_TO_BECOME_REPH) gs)
     (map (with_bits (bits_of r RPHF))) gs
 
@@ -40,33 +40,33 @@ mask_before_base r =
 abbrev pub mask_after_base : Rules → ℕ
 mask_after_base r = bit_or (bit_or (bits_of r BLWF) (bits_of r ABVF)) (bits_of r PSTF)
 
-abbrev pub with_masks_around : Rules → ℕ → List hb_glyph_info_t → List hb_glyph_info_t
+abbrev pub with_masks_around : Rules → ℕ → Glyphs → Glyphs
 with_masks_around r base gs =
     with_stretch (base + 1) (length gs) (map (with_bits (mask_after_base r)))
     (with_stretch 0 base (map (with_bits (mask_before_base r))) gs)
 
 -- an eyelash Ra: at place i stand Ra and H, both before the base, and no ZWJ behind them before it
-abbrev pub opens_eyelash : ℕ → List hb_glyph_info_t → ℕ → Bool
+abbrev pub opens_eyelash : ℕ → Glyphs → ℕ → Bool
 opens_eyelash base gs i =
     nat_lt (i + 1) base && passes (has_category OT_Ra) gs i && passes (has_category OT_H) gs (i + 1)
     && not (nat_lt (i + 2) base && passes (has_category OT_ZWJ) gs (i + 2))
 
-abbrev pub is_in_eyelash : ℕ → List hb_glyph_info_t → ℕ → Bool
+abbrev pub is_in_eyelash : ℕ → Glyphs → ℕ → Bool
 is_in_eyelash base gs i = opens_eyelash base gs i || (nat_lt 0 i && opens_eyelash base gs (i - 1))
 
 -- in the older specification of Devanagari both glyphs of such a Ra get the mask of blwf
 abbrev pub has_eyelash : Rules → Option Script → Bool
 has_eyelash r script = r.old && is_script script (Some (record { 0 = codes "Deva" }))
 
-abbrev pub with_eyelash_mask : Rules → Option Script → ℕ → List hb_glyph_info_t →
-    List hb_glyph_info_t
+abbrev pub with_eyelash_mask : Rules → Option Script → ℕ → Glyphs →
+    Glyphs
 with_eyelash_mask r script base gs =
     map (λ t. if has_eyelash r script
     && is_in_eyelash base gs t.0 then with_bits (bits_of r BLWF) t.1
     else t.1) (enumerate_from 0 gs)
 
 -- the first two neighbours after the base that pref would substitute, by the place of the first
-abbrev pub pref_pair : Rules → ℕ → List hb_glyph_info_t → Option ℕ
+abbrev pub pref_pair : Rules → ℕ → Glyphs → Option ℕ
 pref_pair r base gs =
     if not (mask_at r PREF == 0)
     && nat_lt (base + 2) (length gs) then least_place
@@ -74,30 +74,30 @@ pref_pair r base gs =
     else None
 
 -- both get its mask
-abbrev pub with_bits_on_pair : ℕ → Option ℕ → List hb_glyph_info_t → List hb_glyph_info_t
+abbrev pub with_bits_on_pair : ℕ → Option ℕ → Glyphs → Glyphs
 with_bits_on_pair bits None gs = gs
 with_bits_on_pair bits (Some i) gs = with_stretch i (i + 2) (map (with_bits bits)) gs
 
-abbrev pub with_pref_mask : Rules → ℕ → List hb_glyph_info_t → List hb_glyph_info_t
+abbrev pub with_pref_mask : Rules → ℕ → Glyphs → Glyphs
 with_pref_mask r base gs = with_bits_on_pair (bits_of r PREF) (pref_pair r base gs) gs
 
 -- whether a glyph before these has no half form: a ZWNJ stands among them before the next consonant
-abbrev pub loses_half : List hb_glyph_info_t → Bool
+abbrev pub loses_half : Glyphs → Bool
 loses_half after =
     list_any (is_one_of (OT_ZWNJ ∷ [])) (take (prefix_len (λ g. not (is_consonant g)) after) after)
 
-abbrev pub without_bits : ℕ → hb_glyph_info_t → hb_glyph_info_t
+abbrev pub without_bits : ℕ → Glyph → Glyph
 without_bits bits g = record g { mask = bit_and g.mask (0xFFFFFFFF - bits) }
 
 -- those glyphs lose the mask of half
-abbrev pub without_half : ℕ → List hb_glyph_info_t → List hb_glyph_info_t
+abbrev pub without_half : ℕ → Glyphs → Glyphs
 without_half bits [] = []
 without_half bits (g ∷ gs) =
     (if loses_half gs then without_bits bits g else g) ∷ without_half bits gs
 
 -- all masks
-abbrev pub with_initial_masks : Rules → Option Script → ℕ → List hb_glyph_info_t →
-    List hb_glyph_info_t
+abbrev pub with_initial_masks : Rules → Option Script → ℕ → Glyphs →
+    Glyphs
 with_initial_masks r script base gs =
     without_half (bits_of r HALF) (with_pref_mask r base
     (with_eyelash_mask r script base (with_masks_around r base (with_reph_mask r gs))))

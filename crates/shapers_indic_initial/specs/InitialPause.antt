@@ -1,7 +1,7 @@
 -- The pause of the initial reordering: positions by the font, dotted circles, and then each
 -- syllable.
 use Rattle.std.specs.Prelude.{List, Option, Some}
-use Rattle.shapers_buffer.specs.declared.buffer.glyph.hb_glyph_info_t.{hb_glyph_info_t}
+use Rattle.shapers_buffer.specs.Glyphs.{Glyphs}
 use Rattle.shapers_buffer.specs.declared.buffer.refusal.ShaperError.{ShaperError}
 use Rattle.shapers_buffer.specs.declared.buffer.tag.Script.{Script}
 use Rattle.shapers_buffer.specs.Buffer.{Buffer}
@@ -58,12 +58,12 @@ initial_refusal b = unknown_refusal NON_INDIC_CLUSTER b.glyphs
 
 -- Positions by the font go with each glyph, so that they may as well be given to each syllable for
 -- itself, before its order: what a syllable becomes then, and the steps that lead there.
-abbrev pub order_by_font : Font → Map → indic_shape_plan_t → Option Script → List hb_glyph_info_t →
-    List hb_glyph_info_t
+abbrev pub order_by_font : Font → Map → indic_shape_plan_t → Option Script → Glyphs →
+    Glyphs
 order_by_font font m p script gs =
     initial_order (initial_rules font m p) script (positions_by_font font m p gs)
 
-abbrev pub steps_by_font : Font → Map → indic_shape_plan_t → Option Script → List hb_glyph_info_t →
+abbrev pub steps_by_font : Font → Map → indic_shape_plan_t → Option Script → Glyphs →
     List Step
 steps_by_font font m p script gs =
     initial_steps (initial_rules font m p) script (positions_by_font font m p gs)

@@ -1,6 +1,6 @@
 -- Words of the code's walk that gives marks the positions of what they go with.
-use Rattle.std.specs.Prelude.{ℕ, ◌==◌, ◌&&◌, not, List, [], ◌∷◌, if◌then◌else◌}
-use Rattle.shapers_buffer.specs.declared.buffer.glyph.hb_glyph_info_t.{hb_glyph_info_t}
+use Rattle.std.specs.Prelude.{ℕ, ◌==◌, ◌&&◌, not, [], ◌∷◌, if◌then◌else◌}
+use Rattle.shapers_buffer.specs.Glyphs.{Glyph, Glyphs}
 use Rattle.shapers_buffer.specs.Glyph.{at_position}
 use Rattle.shapers_base.specs.declared.plan.ot_category_t.TheConstants.{OT_H}
 use Rattle.shapers_base.specs.declared.plan.ot_position_t.TheConstants.{POS_PRE_M}
@@ -9,17 +9,17 @@ use Rattle.shapers_indic_initial.specs.InitialPositions.{carries, draws_sign, is
 
 -- the position of a glyph before these ones, behind a carrier of position c: an attached one has
 -- the carrier's, a syllable modifier that of the matra that draws it
-abbrev pub drawn_position : ℕ → hb_glyph_info_t → List hb_glyph_info_t → ℕ
+abbrev pub drawn_position : ℕ → Glyph → Glyphs → ℕ
 drawn_position c g [] = if is_attached g then c else g.auxiliary
 drawn_position c g (next ∷ gs) =
     if is_attached g then c else if draws_sign g next then next.auxiliary else g.auxiliary
 
 -- the position of the nearest carrier before what follows the glyph
-abbrev pub next_carrier : ℕ → hb_glyph_info_t → ℕ
+abbrev pub next_carrier : ℕ → Glyph → ℕ
 next_carrier c g = if carries g then g.auxiliary else c
 
 -- an H of position p that would go with a left matra goes with what stands behind it, of position b
-abbrev pub parted_position : ℕ → ℕ → hb_glyph_info_t → ℕ
+abbrev pub parted_position : ℕ → ℕ → Glyph → ℕ
 parted_position b p g = if has_category OT_H g && p == POS_PRE_M then b else p
 
 -- that position, b so far, behind a glyph of position p
@@ -27,7 +27,7 @@ abbrev pub next_behind : ℕ → ℕ → ℕ
 next_behind b p = if not (p == POS_PRE_M) then p else b
 
 -- what becomes of the glyphs
-abbrev pub marks_from : ℕ → ℕ → List hb_glyph_info_t → List hb_glyph_info_t
+abbrev pub marks_from : ℕ → ℕ → Glyphs → Glyphs
 marks_from c b [] = []
 marks_from c b (g ∷ gs) =
     let p = drawn_position c g gs in

@@ -9,9 +9,7 @@ use Rattle.shapers_khmer.proofs.KhmerSerials.{khmer_reads_no_serials}
 use Rattle.shapers_syllabic.proofs.HiddenCuts.{pauses_cut_between_spans}
 
 pub by_movers_law : KhmerByMoversLaw
-by_movers_law r gs regular =
-    search (arith, khmer_order_by_movers, khmer_masks_by_movers)
+by_movers_law = search (arith, khmer_order_by_movers, khmer_masks_by_movers)
 
 pub khmer_cuts_between_spans : KhmerCutsBetweenSpans
-khmer_cuts_between_spans r =
-    search (arith, pauses_cut_between_spans, khmer_laws, khmer_reads_no_serials)
+khmer_cuts_between_spans = search (arith, pauses_cut_between_spans, khmer_laws, khmer_reads_no_serials)

@@ -18,7 +18,7 @@ merges_same : (e : List Part × Part) (es : List (List Part × Part)) → is_mov
 merges_same e es off = rw off refl
 
 front_grown : (front : List ℕ) (z p : ℕ) → length front ≡ p → length (front ++ z ∷ []) ≡ p + 1
-front_grown front z p at = search (arith, length-append)
+front_grown = search (arith, length-append)
 
 -- those of what is looked at, behind a front whose last is neither Coeng nor a left vowel
 movers_merged : (before : List Part) (p : ℕ) (categories : List ℕ) (c : ℕ) (front : List ℕ) (x : ℕ)
@@ -26,8 +26,7 @@ movers_merged : (before : List Part) (p : ℕ) (categories : List ℕ) (c : ℕ)
     → counted 0 (behind_coengs before) ≡ c → map merged_by_move (looked (front ++ x ∷ []) categories c)
     ≡ merges (each_after before (parts_from p categories))
 movers_merged before p [] c front x at no_coeng no_vowel inner count = refl
-movers_merged before p (z ∷ []) c front x at no_coeng no_vowel inner count =
-    search arith
+movers_merged before p (z ∷ []) c front x at no_coeng no_vowel inner count = search arith
 movers_merged before p (z ∷ (y ∷ rest)) c front x at no_coeng no_vowel inner count =
     let all = front ++ x ∷ [] in
     let categories = y ∷ rest in
@@ -45,8 +44,7 @@ movers_merged before p (z ∷ (y ∷ rest)) c front x at no_coeng no_vowel inner
                 let both = and_parts (is_ro y) (nat_le c 2) on in
                 let ms = map merged_by_move (looked (z ∷ (y ∷ all)) rest 2) in
                 ap (map merged_by_move) (looked_pair front x z y rest c no_coeng no_vowel is both.1 both.0)
-                ∙ ap (λ n. (0, n + 2) ∷ ms) at
-                ∙ ap (λ ms. (0, p + 2) ∷ ms)
+                ∙ ap (λ n. (0, n + 2) ∷ ms) at ∙ ap (λ ms. (0, p + 2) ∷ ms)
                 (movers_merged (before ++ Coeng p y ∷ []) (p + 2) rest 2 (z ∷ (y ∷ front)) x
                 (ap (λ n. suc (suc n)) at ∙ omega arith) no_coeng no_vowel tail (counts ∙ rw (both.1, both.0) refl))
                 ∙ sym (merges_more (before, Coeng p y) es (test ∙ on))
@@ -55,8 +53,7 @@ movers_merged before p (z ∷ (y ∷ rest)) c front x at no_coeng no_vowel inner
                 ap (map merged_by_move) (looked_coeng all z y rest c behind.0 behind.1 is off)
                 ∙ movers_merged (before ++ Coeng p y ∷ []) (p + 2) rest (counted_on c y) (all ++ z ∷ []) y
                 (front_grown (all ++ z ∷ []) y (p + 1) (front_grown all z p at) ∙ omega arith) behind.0 behind.1 tail
-                counts
-                ∙ sym (merges_same (before, Coeng p y) es (test ∙ off))
+                counts ∙ sym (merges_same (before, Coeng p y) es (test ∙ off))
                 ∙ ap (λ ps. merges (each_after before ps)) (sym parts)
           ]
       | inr off ↦
@@ -67,18 +64,15 @@ movers_merged before p (z ∷ (y ∷ rest)) c front x at no_coeng no_vowel inner
           elim (cases_Bool (is_left_vowel z)) [
             | inl vowel ↦
                 let ms = map merged_by_move (looked (z ∷ all) categories c) in
-                ap (map merged_by_move) (looked_vowel all z categories c vowel)
-                ∙ ap (λ n. (0, n + 1) ∷ ms) at
+                ap (map merged_by_move) (looked_vowel all z categories c vowel) ∙ ap (λ n. (0, n + 1) ∷ ms) at
                 ∙ ap (λ ms. (0, p + 1) ∷ ms)
                 (movers_merged (before ++ Alone p z ∷ []) (p + 1) (y ∷ rest) c (z ∷ front) x (ap suc at
-                ∙ omega arith) no_coeng no_vowel tail counts)
-                ∙ sym (merges_more (before, Alone p z) es vowel)
+                ∙ omega arith) no_coeng no_vowel tail counts) ∙ sym (merges_more (before, Alone p z) es vowel)
                 ∙ ap (λ ps. merges (each_after before ps)) (sym parts)
             | inr other ↦
                 ap (map merged_by_move) (looked_other all z categories c off other)
                 ∙ movers_merged (before ++ Alone p z ∷ []) (p + 1) (y ∷ rest) c all z (front_grown all z p at) off
-                other tail counts
-                ∙ sym (merges_same (before, Alone p z) es other)
+                other tail counts ∙ sym (merges_same (before, Alone p z) es other)
                 ∙ ap (λ ps. merges (each_after before ps)) (sym parts)
           ]
     ]

@@ -6,7 +6,7 @@ use Rattle.std.proofs.Math.Seq.{get_or-append_seam, take-append_seam}
 use Rattle.std.proofs.lemmas.Bool.{and_parts, cases_Bool, le-leb, le-ltb, leb-true, lt-leb, lt-ltb, ne_eqb, true≢false}
 use Rattle.std.proofs.lemmas.Grind.{flat_map-append, reverse_onto}
 use Rattle.shapers_buffer.specs.Lists.{each_after}
-use Rattle.shapers_buffer.specs.declared.buffer.glyph.hb_glyph_info_t.{hb_glyph_info_t}
+use Rattle.shapers_buffer.specs.Glyphs.{Glyph, Glyphs}
 use Rattle.shapers_khmer.specs.Khmer.{Move, Pair, Vowel, is_coeng, is_left_vowel, is_ro, khmer_moves, moved_all, moves_by_cases, categories_of}
 use Rattle.shapers_khmer.specs.Proved.KhmerCases.{brought_parts}
 use Rattle.shapers_khmer.specs.Proved.KhmerMasks.{length-categories}
@@ -51,8 +51,7 @@ behind_others c (y ∷ ys) h =
 
 -- a Ro moves with its Coeng exactly if at most two are counted
 pub moves_by_count : (ys : List ℕ) → moves_behind ys ≡ nat_le (counted 0 ys) 2
-moves_by_count ys =
-    search (arith, behind_others)
+moves_by_count = search (arith, behind_others)
 
 counted_more : (c : ℕ) (ys : List ℕ) (y : ℕ) → counted c (ys ++ y ∷ []) ≡ counted_on (counted c ys) y
 counted_more c [] y = refl
@@ -79,11 +78,6 @@ is_stayer e = not (is_mover e)
 abbrev result : List ℕ → List (List Part × Part) → List ℕ
 result front es = flat (reverse (filter is_mover es)) ++ (front ++ flat (filter is_stayer es))
 
-result_stays : (front : List ℕ) (e : List Part × Part) (es : List (List Part × Part)) → is_mover e ≡ false
-    → result (front ++ part_places e.1) es ≡ result front (e ∷ es)
-result_stays front e es off =
-    search (arith, append_assoc)
-
 result_moves : (front : List ℕ) (e : List Part × Part) (es : List (List Part × Part)) → is_mover e ≡ true
     → result (part_places e.1 ++ front) es ≡ result front (e ∷ es)
 result_moves front e es on =
@@ -107,20 +101,18 @@ looked_other front z (y ∷ rest) c no_coeng no_vowel = rw (no_coeng, no_vowel) 
 pub looked_vowel : (front : List ℕ) (z : ℕ) (rest : List ℕ) (c : ℕ) → is_left_vowel z ≡ true
     → moves_by_cases front z rest c ≡ Vowel (length front) ∷ looked (z ∷ front) rest c
 looked_vowel front z [] c vowel = rw vowel refl
-looked_vowel front z (y ∷ rest) c vowel =
-    search (arith, ne_eqb, refl)
+looked_vowel front z (y ∷ rest) c vowel = search (arith, ne_eqb, refl)
 
 pub looked_pair : (front : List ℕ) (x z y : ℕ) (rest : List ℕ) (c : ℕ) → is_coeng x ≡ false → is_left_vowel x ≡ false
     → is_coeng z ≡ true → nat_le c 2 ≡ true → is_ro y ≡ true → moves_by_cases (front ++ x ∷ []) z (y ∷ rest) c
     ≡ Pair (length (front ++ x ∷ [])) ∷ looked (z ∷ (y ∷ (front ++ x ∷ []))) rest 2
-looked_pair front x z y rest c no_coeng no_vowel is few ro =
+looked_pair front x =
     search (arith, length-append front (x ∷ []), take-append_seam front (x ∷ []), get_or-append_seam front x [] 0)
 
 pub looked_coeng : (front : List ℕ) (z y : ℕ) (rest : List ℕ) (c : ℕ) → is_coeng y ≡ false → is_left_vowel y ≡ false
     → is_coeng z ≡ true → (is_ro y && nat_le c 2) ≡ false → moves_by_cases front z (y ∷ rest) c
     ≡ looked ((front ++ z ∷ []) ++ y ∷ []) rest (counted_on c y)
-looked_coeng front z y rest c no_coeng no_vowel is stays =
-    search arith
+looked_coeng = search arith
 
 -- REGULAR SYLLABLES. What of them holds of their ends
 abbrev pub is_inner : List ℕ → Bool
@@ -132,14 +124,12 @@ inner_tail z [] inner = refl
 inner_tail z (y ∷ rest) inner = (and_parts (not (is_coeng z && is_coeng_or_left_vowel y)) (is_inner (y ∷ rest)) inner).1
 
 pub neither : (a b : Bool) → not (a || b) ≡ true → (a ≡ false) × (b ≡ false)
-neither true b h = absurd (true≢false (sym h))
-neither false true h = absurd (true≢false (sym h))
 neither false false h = (refl, refl)
+neither _ _ h = absurd (true≢false (sym h))
 
 pub inner_behind : (z y : ℕ) (rest : List ℕ) → is_inner (z ∷ (y ∷ rest)) ≡ true → is_coeng z ≡ true
     → (is_coeng y ≡ false) × (is_left_vowel y ≡ false)
-inner_behind z y rest inner is =
-    search (arith, neither)
+inner_behind = search (arith, neither)
 
 -- THE WALK. What the moves make of the front and of what is still to be looked at
 abbrev Moved : List Part → ℕ → List ℕ → ℕ → List ℕ → List ℕ → Type 0
@@ -152,28 +142,26 @@ alone_moves : (before : List Part) (p z : ℕ) (rest : List ℕ) (c : ℕ) (fron
     → parts_from p (z ∷ rest) ≡ Alone p z ∷ parts_from (p + 1) rest
     → Moved (before ++ Alone p z ∷ []) (p + 1) rest c (z ∷ front) (p ∷ places)
     → Moved before p (z ∷ rest) c front places
-alone_moves before p z rest c front places len vowel parts further =
-    search (
-      arith,
-      looked_vowel front z rest c vowel,
-      brought_parts 1 places (p ∷ []) (range_with_len (p + 1) (length rest)) refl,
-      result_moves,
-    )
+alone_moves before p z rest c front places len vowel = search (
+  arith,
+  looked_vowel front z rest c vowel,
+  brought_parts 1 places (p ∷ []) (range_with_len (p + 1) (length rest)) refl,
+  result_moves,
+)
 
 alone_stays : (before : List Part) (p z : ℕ) (rest : List ℕ) (c : ℕ) (front places : List ℕ) → is_left_vowel z ≡ false
     → parts_from p (z ∷ rest) ≡ Alone p z ∷ parts_from (p + 1) rest → moves_by_cases front z rest c
     ≡ looked (front ++ z ∷ []) rest c
     → Moved (before ++ Alone p z ∷ []) (p + 1) rest c (front ++ z ∷ []) (places ++ p ∷ [])
     → Moved before p (z ∷ rest) c front places
-alone_stays before p z rest c front places other parts passes further =
-    search (arith, append_assoc)
+alone_stays = search (arith, append_assoc)
 
 pair_moves : (before : List Part) (p z y : ℕ) (rest : List ℕ) (c : ℕ) (front : List ℕ) (x : ℕ) (places : List ℕ)
     → length places ≡ length (front ++ x ∷ []) → is_coeng x ≡ false → is_left_vowel x ≡ false → is_coeng z ≡ true
     → nat_le c 2 ≡ true → is_ro y ≡ true → is_mover (before, Coeng p y) ≡ true
     → Moved (before ++ Coeng p y ∷ []) (p + 2) rest 2 (z ∷ (y ∷ (front ++ x ∷ []))) (p ∷ ((p + 1) ∷ places))
     → Moved before p (z ∷ (y ∷ rest)) c (front ++ x ∷ []) places
-pair_moves before p z y rest c front x places len no_coeng no_vowel is few ro moves further =
+pair_moves before p z y rest c front x places len no_coeng no_vowel is few ro =
     let n = length rest in
     search (
       arith,
@@ -187,8 +175,7 @@ coeng_stays : (before : List Part) (p z y : ℕ) (rest : List ℕ) (c : ℕ) (fr
     → is_left_vowel y ≡ false → is_coeng z ≡ true → (is_ro y && nat_le c 2) ≡ false → is_mover (before, Coeng p y)
     ≡ false → Moved (before ++ Coeng p y ∷ []) (p + 2) rest (counted_on c y) ((front ++ z ∷ []) ++ y ∷ [])
     (places ++ p ∷ ((p + 1) ∷ [])) → Moved before p (z ∷ (y ∷ rest)) c front places
-coeng_stays before p z y rest c front places no_coeng no_vowel is stays no_mover further =
-    search (arith, looked_coeng, append_assoc, refl)
+coeng_stays = search (arith, looked_coeng, append_assoc, refl)
 
 -- the count behind one part more
 pub count_alone : (before : List Part) (p z c : ℕ) → counted 0 (behind_coengs before) ≡ c
@@ -197,10 +184,10 @@ count_alone before p z c is = cc (behind_alone before p z)
 
 pub count_coeng : (before : List Part) (p y c : ℕ) → counted 0 (behind_coengs before) ≡ c
     → counted 0 (behind_coengs (before ++ Coeng p y ∷ [])) ≡ counted_on c y
-count_coeng before p y c is = search (arith, behind_coeng, counted_more)
+count_coeng = search (arith, behind_coeng, counted_more)
 
 pub longer : (a b : List ℕ) (x y : ℕ) → length a ≡ length b → length (a ++ x ∷ []) ≡ length (b ++ y ∷ [])
-longer a b x y same = search (arith, length-append)
+longer = search (arith, length-append)
 
 -- what is looked at, behind a front whose last is neither Coeng nor a left vowel
 movers_moved : (before : List Part) (p : ℕ) (categories : List ℕ) (c : ℕ) (front : List ℕ) (x : ℕ) (places : List ℕ)
@@ -232,8 +219,7 @@ movers_moved before p (z ∷ (y ∷ rest)) c front x places len no_coeng no_vowe
             | inr off ↦
                 coeng_stays before p z y rest c all places behind.0 behind.1 is off (test ∙ off)
                 (movers_moved (before ++ Coeng p y ∷ []) (p + 2) rest (counted_on c y) (all ++ z ∷ []) y
-                (places ++ p ∷ ((p + 1) ∷ []))
-                (ap length (sym (append_assoc places (p ∷ []) ((p + 1) ∷ [])))
+                (places ++ p ∷ ((p + 1) ∷ [])) (ap length (sym (append_assoc places (p ∷ []) ((p + 1) ∷ [])))
                 ∙ longer (places ++ p ∷ []) (all ++ z ∷ []) (p + 1) y (longer places all p z len)) behind.0 behind.1
                 tail counts)
           ]
@@ -261,8 +247,7 @@ movers_moved before p (z ∷ (y ∷ rest)) c front x places len no_coeng no_vowe
     ]
 
 -- A SYLLABLE. Its first glyph is the front, and the others are looked at
-pub first_looked : (g : hb_glyph_info_t) (gs : List hb_glyph_info_t)
-    → khmer_moves (g ∷ gs) ≡ looked (g.category ∷ []) (categories_of gs) 0
+pub first_looked : (g : Glyph) (gs : Glyphs) → khmer_moves (g ∷ gs) ≡ looked (g.category ∷ []) (categories_of gs) 0
 first_looked g [] = refl
 first_looked g (h ∷ gs) = refl
 

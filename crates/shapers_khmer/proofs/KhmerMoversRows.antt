@@ -1,7 +1,7 @@
 -- Worked rows of the order by movers, computed: regular syllables, parts, movers, orders.
 use Rattle.std.specs.Prelude.{List, ◌≡◌, ℕ, false, true, [], ◌∷◌, map, refl}
 use Rattle.shapers_buffer.specs.Glyph.{default_glyph}
-use Rattle.shapers_buffer.specs.declared.buffer.glyph.hb_glyph_info_t.{hb_glyph_info_t}
+use Rattle.shapers_buffer.specs.Glyphs.{Glyph}
 use Rattle.shapers_khmer.specs.declared.ot_shaper_khmer.reordering.KhmerOrder.{KhmerOrder}
 use Rattle.shapers_khmer.specs.KhmerMovers.{Alone, Coeng, behind_coengs, coeng_place, is_mover, is_regular, khmer_by_movers, masked_at, masked_by_movers, merged_over, merges_by_movers, moves_behind, moving_coengs, order_by_movers, parts_from, part_places, with_mask_if}
 
@@ -98,7 +98,7 @@ coengs : map moving_coengs ([] ∷ (c ∷ h ∷ ra ∷ pre ∷ h ∷ ra ∷ h �
 coengs = refl
 
 -- a glyph with all fields set: nothing but its mask changes, and only where that is wanted
-abbrev full : hb_glyph_info_t
+abbrev full : Glyph
 full = record {
   glyph_id = 0x179A;
   mask = 0x1003;
@@ -122,16 +122,15 @@ abbrev by_masks : KhmerOrder
 by_masks = record { others = 0xE0; pref = 0x10; cfar = 0x100 }
 
 at_places : map (λ place. masked_at by_masks (2 ∷ 5 ∷ []) place full) (0 ∷ 1 ∷ 2 ∷ 3 ∷ 4 ∷ 5 ∷ 6 ∷ 7 ∷ [])
-    ≡ map (λ m. let g : hb_glyph_info_t = record full { mask = m } in g) (0x1003 ∷ 0x10E3 ∷ 0x10F3 ∷ 0x10F3 ∷ 0x11E3
+    ≡ map (λ m. let g : Glyph = record full { mask = m } in g) (0x1003 ∷ 0x10E3 ∷ 0x10F3 ∷ 0x10F3 ∷ 0x11E3
     ∷ 0x11F3 ∷ 0x11F3 ∷ 0x11E3 ∷ [])
 at_places = refl
 
 -- the masks of the glyphs of a syllable of these categories, in their old places
 abbrev masks_in : List ℕ → List ℕ
 masks_in categories =
-    map (λ g. g.mask)
-    (masked_by_movers by_masks
-    (map (λ category. let g : hb_glyph_info_t = record default_glyph { category = category } in g) categories))
+    map (λ g. g.mask) (masked_by_movers by_masks
+    (map (λ category. let g : Glyph = record default_glyph { category = category } in g) categories))
 
 masks_of_pairs : map masks_in ([] ∷ (c ∷ []) ∷ (c ∷ h ∷ ra ∷ h ∷ c ∷ []) ∷ (c ∷ h ∷ ra ∷ h ∷ ra ∷ [])
     ∷ (c ∷ pre ∷ h ∷ ra ∷ pre ∷ h ∷ []) ∷ []) ≡ [] ∷ (0 ∷ []) ∷ (0 ∷ 0xF0 ∷ 0xF0 ∷ 0x1E0 ∷ 0x1E0 ∷ [])
@@ -145,10 +144,8 @@ masks_of_none = refl
 -- C H Ra H C of kind 0, of kind 1, and of kind 2, which stays: category and mask of each glyph
 abbrev made_of : ℕ → List ℕ → List (ℕ × ℕ)
 made_of kind categories =
-    map (λ g. (g.category, g.mask))
-    (khmer_by_movers by_masks
-    (map (λ category. let g : hb_glyph_info_t = record default_glyph { category = category; syllable = kind } in g)
-    categories))
+    map (λ g. (g.category, g.mask)) (khmer_by_movers by_masks
+    (map (λ category. let g : Glyph = record default_glyph { category = category; syllable = kind } in g) categories))
 
 made_in_kinds : map (λ kind. made_of kind (c ∷ h ∷ ra ∷ h ∷ c ∷ [])) (0 ∷ 1 ∷ 2 ∷ [])
     ≡ ((h, 0xF0) ∷ (ra, 0xF0) ∷ (c, 0) ∷ (h, 0x1E0) ∷ (c, 0x1E0) ∷ [])

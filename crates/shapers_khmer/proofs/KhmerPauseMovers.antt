@@ -4,7 +4,7 @@ use Rattle.std.proofs.Common.{◌≡◌, inl, inr, ◌∷◌, ◌∙◌, List, [
 use Rattle.std.specs.Prelude.{Option}
 use Rattle.std.specs.List.{flat_map}
 use Rattle.std.proofs.lemmas.Bool.{cases_Bool}
-use Rattle.shapers_buffer.specs.declared.buffer.glyph.hb_glyph_info_t.{hb_glyph_info_t}
+use Rattle.shapers_buffer.specs.Glyphs.{Glyphs}
 use Rattle.shapers_buffer.specs.Buffer.{Buffer}
 use Rattle.shapers_buffer.specs.Glyph.{order_view}
 use Rattle.shapers_buffer.specs.Syllables.{syllables}
@@ -28,20 +28,18 @@ map_same : {X Y : Type 0} (f g : X → Y) → ((x : X) → f x ≡ g x) → (xs 
 map_same f g same [] = refl
 map_same f g same (x ∷ xs) = search arith
 
-order_same : (r : KhmerOrder) (gs : List hb_glyph_info_t) → khmer_order r gs ≡ ordered_by_movers r gs
+order_same : (r : KhmerOrder) (gs : Glyphs) → khmer_order r gs ≡ ordered_by_movers r gs
 order_same r gs = elim (cases_Bool (is_regular (categories_of gs))) [
   | inl on ↦ search (arith, by_movers_law r gs on, refl)
   | inr off ↦ rw off refl
 ]
 
-step_same : (gs : List hb_glyph_info_t) → khmer_steps gs ≡ steps_by_movers gs
+step_same : (gs : Glyphs) → khmer_steps gs ≡ steps_by_movers gs
 step_same gs = elim (cases_Bool (is_regular (categories_of gs))) [
   | inl on ↦ elim (cases_Bool (is_reordered_in_khmer gs)) [
     | inl kind ↦
-        rw (on, kind)
-        (ap (λ sts. (record { merged_first = sts; places = khmer_places gs; merged_then = [] }) ∷ [])
-        (khmer_merges_by_movers gs on)
-        ∙ ap
+        rw (on, kind) (ap (λ sts. (record { merged_first = sts; places = khmer_places gs; merged_then = [] }) ∷ [])
+        (khmer_merges_by_movers gs on) ∙ ap
         (λ ps. let step : Step = record {
           merged_first = merges_by_movers (categories_of gs);
           places = ps;

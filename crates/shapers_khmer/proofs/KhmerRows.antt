@@ -2,7 +2,7 @@
 use Rattle.std.specs.Prelude.{◌≡◌, ◌==◌, ◌+◌, ◌||◌, ℕ, Some, None, false, true, if◌then◌else◌, List, [], ◌∷◌, ◌++◌, map, refl}
 use Rattle.std.specs.List.{enumerate_from}
 use Rattle.shapers_buffer.specs.declared.buffer.category.hb_unicode_general_category_t.TheVariants.{Lo, Mn}
-use Rattle.shapers_buffer.specs.declared.buffer.glyph.hb_glyph_info_t.{hb_glyph_info_t}
+use Rattle.shapers_buffer.specs.Glyphs.{Glyph, Glyphs}
 use Rattle.shapers_buffer.specs.declared.buffer.level.BufferClusterLevel.TheVariants.{MonotoneGraphemes}
 use Rattle.shapers_buffer.specs.Glyph.{default_glyph, clusters}
 use Rattle.shapers_base.specs.Font.{CharacterTables}
@@ -36,7 +36,7 @@ decompositions : map (decomposed_in_khmer table) (0x17BD ∷ 0x17BE ∷ 0x17BF �
 decompositions = refl
 
 -- a glyph with all fields set: nothing but the named ones change
-abbrev full : hb_glyph_info_t
+abbrev full : Glyph
 full = record {
   glyph_id = 0x179A;
   mask = 0x1003;
@@ -59,15 +59,13 @@ masks : with_mask 0x25 full ≡ record full { mask = 0x1023 }
 masks = refl
 
 -- SYLLABLES: glyphs by number and category, of a syllable of a kind, in clusters 0, 1, 2 ..
-abbrev glyphs : ℕ → List (ℕ × ℕ) → List hb_glyph_info_t
-glyphs kind gs =
-    map (λ p. let g : hb_glyph_info_t = record default_glyph {
-      glyph_id = p.1.0;
-      cluster = p.0;
-      syllable = 0x30
-          + kind;
-      category = p.1.1;
-    } in g) (enumerate_from 0 gs)
+abbrev glyphs : ℕ → List (ℕ × ℕ) → Glyphs
+glyphs kind gs = map (λ p. let g : Glyph = record default_glyph {
+  glyph_id = p.1.0;
+  cluster = p.0;
+  syllable = 0x30 + kind;
+  category = p.1.1;
+} in g) (enumerate_from 0 gs)
 
 -- with the masks of pref 10, of blwf, abvf and pstf E0, of cfar 100
 abbrev by_masks : KhmerOrder
@@ -174,7 +172,7 @@ broken : shown 1 ((0x25CC, 11) ∷ c 2 ∷ []) ≡ (0x25CC, 0) ∷ (2, 0xE0) ∷
 broken = refl
 
 -- nothing but masks and places changes, and no properties count
-abbrev full_of : ℕ → hb_glyph_info_t
+abbrev full_of : ℕ → Glyph
 full_of category = record full { category = category }
 
 fields_stay : khmer_order by_masks (full_of 1 ∷ full_of 4 ∷ full_of 15 ∷ []) ≡ record (full_of 4) { mask = 0x10F3 }

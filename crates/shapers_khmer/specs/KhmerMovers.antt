@@ -3,7 +3,7 @@ use Rattle.std.specs.Prelude.{ℕ, ◌+◌, ◌≡◌, nat_lt, true, Bool, ◌&&
 use Rattle.std.specs.List.{enumerate_from, list_all, list_any, prefix_len, zip}
 use Rattle.shapers_buffer.specs.Lists.{each_after}
 use Rattle.shapers_buffer.specs.Places.{pick}
-use Rattle.shapers_buffer.specs.declared.buffer.glyph.hb_glyph_info_t.{hb_glyph_info_t}
+use Rattle.shapers_buffer.specs.Glyphs.{Glyph, Glyphs}
 use Rattle.shapers_clusters.specs.Steps.{Step}
 use Rattle.shapers_khmer.specs.Khmer.{is_coeng, is_left_vowel, is_reordered_in_khmer, is_ro, khmer_masked, khmer_moves, khmer_order, khmer_places, khmer_steps, merged_by_move, categories_of, with_mask}
 use Rattle.shapers_khmer.specs.declared.ot_shaper_khmer.reordering.KhmerOrder.{KhmerOrder}
@@ -62,7 +62,7 @@ order_by_movers categories =
 
 -- the order by cases of a regular syllable is that by its movers
 abbrev pub KhmerMoversLaw : Type 0
-KhmerMoversLaw = (gs : List hb_glyph_info_t) → is_regular (categories_of gs) ≡ true →
+KhmerMoversLaw = (gs : Glyphs) → is_regular (categories_of gs) ≡ true →
     khmer_places gs ≡ order_by_movers (categories_of gs)
 
 -- MASKS. The places of the Coengs that move with their Ro
@@ -75,27 +75,27 @@ moving_coengs categories =
     flat_map (λ e. coeng_place e.1) (filter is_mover (each_after [] (parts_from 0 categories)))
 
 -- the glyph with a mask besides its own, if it is wanted
-abbrev pub with_mask_if : Bool → ℕ → hb_glyph_info_t → hb_glyph_info_t
+abbrev pub with_mask_if : Bool → ℕ → Glyph → Glyph
 with_mask_if wanted m g = if wanted then with_mask m g else g
 
 -- the glyph at a place: blwf, abvf, pstf on all but the first, pref on moving pairs, cfar behind
-abbrev pub masked_at : KhmerOrder → List ℕ → ℕ → hb_glyph_info_t → hb_glyph_info_t
+abbrev pub masked_at : KhmerOrder → List ℕ → ℕ → Glyph → Glyph
 masked_at r coengs place g =
     with_mask_if (list_any (λ p. nat_lt (p + 1) place) coengs) r.cfar
     (with_mask_if (list_any (λ p. place == p || place == p + 1) coengs) r.pref
     (with_mask_if (nat_lt 0 place) r.others g))
 
-abbrev pub masked_by_movers : KhmerOrder → List hb_glyph_info_t → List hb_glyph_info_t
+abbrev pub masked_by_movers : KhmerOrder → Glyphs → Glyphs
 masked_by_movers r gs =
     map (λ e. masked_at r (moving_coengs (categories_of gs)) e.0 e.1) (enumerate_from 0 gs)
 
 -- the masks by cases of a regular syllable are those by its movers
 abbrev pub KhmerMoversMasksLaw : Type 0
-KhmerMoversMasksLaw = (r : KhmerOrder) (gs : List hb_glyph_info_t) →
+KhmerMoversMasksLaw = (r : KhmerOrder) (gs : Glyphs) →
     is_regular (categories_of gs) ≡ true → khmer_masked r gs ≡ masked_by_movers r gs
 
 -- what a syllable becomes, by its movers: the glyphs with their masks, in that order
-abbrev pub khmer_by_movers : KhmerOrder → List hb_glyph_info_t → List hb_glyph_info_t
+abbrev pub khmer_by_movers : KhmerOrder → Glyphs → Glyphs
 khmer_by_movers r gs =
     if is_reordered_in_khmer gs
     then pick (order_by_movers (categories_of gs)) (masked_by_movers r gs)
@@ -104,7 +104,7 @@ khmer_by_movers r gs =
 -- so a regular syllable becomes
 abbrev pub KhmerByMoversLaw : Type 0
 KhmerByMoversLaw =
-    (r : KhmerOrder) (gs : List hb_glyph_info_t) → is_regular (categories_of gs) ≡ true →
+    (r : KhmerOrder) (gs : Glyphs) → is_regular (categories_of gs) ≡ true →
     khmer_order r gs ≡ khmer_by_movers r gs
 
 -- MERGES. What merges for a part that moves: from the syllable's start to its end, this included
@@ -119,16 +119,16 @@ merges_by_movers categories =
 -- the merges by cases of a regular syllable are those for its movers, in order
 abbrev pub KhmerMoversMergesLaw : Type 0
 KhmerMoversMergesLaw =
-    (gs : List hb_glyph_info_t) → is_regular (categories_of gs) ≡ true →
+    (gs : Glyphs) → is_regular (categories_of gs) ≡ true →
     map merged_by_move (khmer_moves gs) ≡ merges_by_movers (categories_of gs)
 
 -- THE CALL. What a syllable becomes, and by which steps: of a regular one by its movers
-abbrev pub ordered_by_movers : KhmerOrder → List hb_glyph_info_t → List hb_glyph_info_t
+abbrev pub ordered_by_movers : KhmerOrder → Glyphs → Glyphs
 ordered_by_movers r gs =
     if is_regular (categories_of gs) && is_reordered_in_khmer gs
     then pick (order_by_movers (categories_of gs)) (masked_by_movers r gs) else khmer_order r gs
 
-abbrev pub steps_by_movers : List hb_glyph_info_t → List Step
+abbrev pub steps_by_movers : Glyphs → List Step
 steps_by_movers gs =
     if is_regular (categories_of gs) && is_reordered_in_khmer gs then record {
       merged_first = merges_by_movers (categories_of gs);

@@ -1,32 +1,30 @@
 -- The walk that gives positions, step by step.
-use Rattle.std.proofs.Common.{◌≡◌, ℕ, suc, ◌+◌, ◌<◌, ◌==◌, Bool, true, false, not, cond, if◌then◌else◌, List, [], ◌∷◌, ◌++◌, length, take, drop, map, get_or, set, refl, sym, ap, ◌∙◌, arith, append_assoc}
+use Rattle.std.proofs.Common.{◌≡◌, ℕ, suc, ◌+◌, ◌<◌, ◌==◌, Bool, true, false, not, cond, if◌then◌else◌, [], ◌∷◌, ◌++◌, length, take, drop, map, get_or, set, refl, sym, ap, ◌∙◌, arith, append_assoc}
 use Rattle.std.specs.List.{prefix_len}
-use Rattle.std.proofs.lemmas.Bool.Decides.{nat_tests}
 use Rattle.std.proofs.lemmas.List.{drop_more, drop-set-lt, take_more_set}
 use Rattle.shapers_base.specs.declared.plan.ot_category_t.TheConstants.{OT_VBlw}
-use Rattle.shapers_buffer.specs.declared.buffer.glyph.hb_glyph_info_t.{hb_glyph_info_t}
+use Rattle.shapers_buffer.specs.Glyphs.{Glyph, Glyphs}
 use Rattle.shapers_buffer.specs.Glyph.{at_position}
 use Rattle.shapers_myanmar.specs.Myanmar.{below_parts, carries_on_below, parts_positioned, main_len, main_part, own_position, with_own_positions}
 use Rattle.shapers_myanmar.specs.MyanmarWalk.{behind_part, in_part, part_of}
 
 -- the parts, one after another
-last_part : (gs : List hb_glyph_info_t) → behind_part 9 gs ≡ map (at_position 9) gs
+last_part : (gs : Glyphs) → behind_part 9 gs ≡ map (at_position 9) gs
 last_part [] = refl
 last_part (g ∷ gs) = cc (last_part gs)
 
-below_part : (gs : List hb_glyph_info_t) → behind_part 8 gs ≡ below_parts gs
+below_part : (gs : Glyphs) → behind_part 8 gs ≡ below_parts gs
 below_part [] = refl
 below_part (g ∷ gs) =
     let m = prefix_len carries_on_below gs in
     let one : suc m ≡ 1 + m = omega arith in
     search (arith, last_part, below_part gs)
 
-opens_below : (g : hb_glyph_info_t) (gs : List hb_glyph_info_t) → (g.category == OT_VBlw) ≡ true
+opens_below : (g : Glyph) (gs : Glyphs) → (g.category == OT_VBlw) ≡ true
     → behind_part 8 (g ∷ gs) ≡ in_part 8 g ∷ behind_part 8 gs
-opens_below g gs is =
-    search (arith, nat_tests)
+opens_below = search arith
 
-pub parts_behind : (gs : List hb_glyph_info_t) → behind_part 5 gs ≡ parts_positioned gs
+pub parts_behind : (gs : Glyphs) → behind_part 5 gs ≡ parts_positioned gs
 parts_behind [] = refl
 parts_behind (g ∷ gs) =
     let part : Bool → ℕ = λ b. if b then 8 else 5 in
@@ -39,13 +37,12 @@ parts_behind (g ∷ gs) =
           ∙ ap (λ n. main_part (take n (g ∷ gs)) ++ below_parts (drop n (g ∷ gs))) one
     ]) refl
 
-over_part : (before r : ℕ) (g : hb_glyph_info_t) → at_position (own_position before (in_part r g)) (in_part r g)
+over_part : (before r : ℕ) (g : Glyph) → at_position (own_position before (in_part r g)) (in_part r g)
     ≡ at_position (own_position before (in_part r g)) g
-over_part before r g =
-    search arith
+over_part = search arith
 
 -- one more glyph
-pub own_next : (before part : ℕ) (gs total : List hb_glyph_info_t) (i : ℕ) (d : hb_glyph_info_t) (q p : ℕ)
+pub own_next : (before part : ℕ) (gs total : Glyphs) (i : ℕ) (d : Glyph) (q p : ℕ)
     → i < length gs → take i gs ++ with_own_positions before (behind_part part (drop i gs)) ≡ total
     → q ≡ part_of part (get_or gs i d) → p ≡ own_position before (in_part q (get_or gs i d))
     → take (i + 1) (set gs i (at_position p (get_or gs i d)))
@@ -62,5 +59,4 @@ own_next before part gs total i d q p l same is_q is =
     ∷ with_own_positions (own_position before (in_part r g)) (behind_part r rest)) is_q
     ∙ ap (λ x. take i gs ++ x ∷ with_own_positions (own_position before (in_part (part_of part g) g))
     (behind_part (part_of part g) rest)) (sym (over_part before (part_of part g) g))
-    ∙ sym (ap (λ ys. take i gs ++ with_own_positions before (behind_part part ys)) (drop_more gs i d l))
-    ∙ same
+    ∙ sym (ap (λ ys. take i gs ++ with_own_positions before (behind_part part ys)) (drop_more gs i d l)) ∙ same

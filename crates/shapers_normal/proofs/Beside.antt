@@ -5,7 +5,7 @@ use Rattle.std.proofs.Math.Seq.{drop-append-add, take-append-add}
 use Rattle.std.proofs.lemmas.List.{append-nil, drop-append-le, length-append, length-map, take-append-le}
 use Rattle.std.proofs.lemmas.List.Elements.{All-cons, All-get_or, All-head, All-nil, All-tail}
 use Rattle.std.proofs.lemmas.List.FromFn.{length-range_with_len}
-use Rattle.shapers_buffer.specs.declared.buffer.glyph.hb_glyph_info_t.{hb_glyph_info_t}
+use Rattle.shapers_buffer.specs.Glyphs.{Glyphs}
 use Rattle.shapers_buffer.specs.declared.buffer.level.BufferClusterLevel.{BufferClusterLevel}
 use Rattle.shapers_buffer.specs.Clusters.{least, merge, merges, stretch_of, with_stretch}
 use Rattle.shapers_buffer.specs.Glyph.{clusters}
@@ -27,15 +27,15 @@ Not P k = P k → ⊥
 
 -- ---- what holds of each cluster
 
-pub each_of : (P : ℕ → Type 0) (gs : List hb_glyph_info_t) → All P (clusters gs) → Each P gs
+pub each_of : (P : ℕ → Type 0) (gs : Glyphs) → All P (clusters gs) → Each P gs
 each_of P [] h = tt
 each_of P (g ∷ gs) h = (All-head P g.cluster (clusters gs) h, each_of P gs (All-tail P g.cluster (clusters gs) h))
 
-pub all_of : (P : ℕ → Type 0) (gs : List hb_glyph_info_t) → Each P gs → All P (clusters gs)
+pub all_of : (P : ℕ → Type 0) (gs : Glyphs) → Each P gs → All P (clusters gs)
 all_of P [] h = All-nil P
 all_of P (g ∷ gs) h = All-cons P g.cluster (clusters gs) h.0 (all_of P gs h.1)
 
-each-flagged : (P : ℕ → Type 0) (bits m : ℕ) (gs : List hb_glyph_info_t) → Each P gs
+each-flagged : (P : ℕ → Type 0) (bits m : ℕ) (gs : Glyphs) → Each P gs
     → Each P (map (with_bits_off bits m) gs)
 each-flagged P bits m [] h = tt
 each-flagged P bits m (g ∷ gs) h = (
@@ -44,7 +44,7 @@ each-flagged P bits m (g ∷ gs) h = (
   each-flagged P bits m gs h.1,
 )
 
-pub share_none : (P : ℕ → Type 0) (gs hs : List hb_glyph_info_t) → Each P gs → Each (Not P) hs → ShareNone gs hs
+pub share_none : (P : ℕ → Type 0) (gs hs : Glyphs) → Each P gs → Each (Not P) hs → ShareNone gs hs
 share_none P gs hs p n = λ i j il jl same.
     let one : P (get_or (clusters gs) i 0) =
     All-get_or P (clusters gs) i 0 (omega (arith, length-map gs (λ g. g.cluster))) (all_of P gs p) in
@@ -58,31 +58,31 @@ share_none P gs hs p n = λ i j il jl same.
 -- A change of glyphs, and the same with its places so much further on, over lists of at least n
 -- glyphs: it keeps their number and what holds of each cluster, and glyphs of other clusters on both
 -- sides stay.
-pub record Local (n : ℕ) (P : ℕ → Type 0) (f : List hb_glyph_info_t → List hb_glyph_info_t) (at : ℕ
-    → List hb_glyph_info_t → List hb_glyph_info_t) : Type 0 where
-  pub same_length : (gs : List hb_glyph_info_t) → n ≤ length gs → length (f gs) ≡ length gs
-  pub kept : (gs : List hb_glyph_info_t) → n ≤ length gs → Each P gs → Each P (f gs)
-  pub alone : (before gs behind : List hb_glyph_info_t) → n ≤ length gs → Each P gs → Each (Not P) before
+pub record Local (n : ℕ) (P : ℕ → Type 0) (f : Glyphs → Glyphs) (at : ℕ
+    → Glyphs → Glyphs) : Type 0 where
+  pub same_length : (gs : Glyphs) → n ≤ length gs → length (f gs) ≡ length gs
+  pub kept : (gs : Glyphs) → n ≤ length gs → Each P gs → Each P (f gs)
+  pub alone : (before gs behind : Glyphs) → n ≤ length gs → Each P gs → Each (Not P) before
       → Each (Not P) behind → at (length before) (before ++ (gs ++ behind)) ≡ before ++ (f gs ++ behind)
 
 -- the change itself, where nothing stands before the glyphs
-pub alone_in_front : (n : ℕ) (P : ℕ → Type 0) (f : List hb_glyph_info_t → List hb_glyph_info_t) (at : ℕ
-    → List hb_glyph_info_t → List hb_glyph_info_t) → Local n P f at → ((gs : List hb_glyph_info_t) → at 0 gs ≡ f gs)
-    → (gs behind : List hb_glyph_info_t) → n ≤ length gs → Each P gs → Each (Not P) behind
+pub alone_in_front : (n : ℕ) (P : ℕ → Type 0) (f : Glyphs → Glyphs) (at : ℕ
+    → Glyphs → Glyphs) → Local n P f at → ((gs : Glyphs) → at 0 gs ≡ f gs)
+    → (gs behind : Glyphs) → n ≤ length gs → Each P gs → Each (Not P) behind
     → f (gs ++ behind) ≡ f gs ++ behind
 alone_in_front n P f at l start gs behind long p other = sym (start (gs ++ behind)) ∙ l.alone
     [] gs behind long p tt other
 
-pub alone_behind : (n : ℕ) (P : ℕ → Type 0) (f : List hb_glyph_info_t → List hb_glyph_info_t) (at : ℕ
-    → List hb_glyph_info_t → List hb_glyph_info_t) → Local n P f at → (before gs : List hb_glyph_info_t) → n ≤ length gs
+pub alone_behind : (n : ℕ) (P : ℕ → Type 0) (f : Glyphs → Glyphs) (at : ℕ
+    → Glyphs → Glyphs) → Local n P f at → (before gs : Glyphs) → n ≤ length gs
     → Each P gs → Each (Not P) before → at (length before) (before ++ gs) ≡ before ++ f gs
 alone_behind n P f at l before gs long p other =
     ap (λ xs. at (length before) (before ++ xs)) (sym (append-nil gs))
     ∙ l.alone before gs [] long p other tt
     ∙ ap (λ xs. before ++ xs) (append-nil (f gs))
 
-pub local_then : (n : ℕ) (P : ℕ → Type 0) (f h : List hb_glyph_info_t → List hb_glyph_info_t) (fat hat : ℕ
-    → List hb_glyph_info_t → List hb_glyph_info_t) → Local n P f fat → Local n P h hat
+pub local_then : (n : ℕ) (P : ℕ → Type 0) (f h : Glyphs → Glyphs) (fat hat : ℕ
+    → Glyphs → Glyphs) → Local n P f fat → Local n P h hat
     → Local n P (λ gs. h (f gs)) (λ k gs. hat k (fat k gs))
 local_then n P f h fat hat one two = record {
   same_length = λ gs long. two.same_length (f gs) (omega (arith, one.same_length gs long)) ∙ one.same_length gs long;
@@ -96,8 +96,8 @@ pub local_nothing : (n : ℕ) (P : ℕ → Type 0) → Local n P (λ gs. gs) (λ
 local_nothing n P =
     record { same_length = λ gs long. refl; kept = λ gs long p. p; alone = λ before gs behind long p x y. refl }
 
-pub local_fold : {X : Type 0} (n : ℕ) (P : ℕ → Type 0) (Q : X → Type 0) (op : X → List hb_glyph_info_t
-    → List hb_glyph_info_t) (at : ℕ → X → List hb_glyph_info_t → List hb_glyph_info_t)
+pub local_fold : {X : Type 0} (n : ℕ) (P : ℕ → Type 0) (Q : X → Type 0) (op : X → Glyphs
+    → Glyphs) (at : ℕ → X → Glyphs → Glyphs)
     → ((x : X) → Q x → Local n P (op x) (λ k. at k x)) → (xs : List X) → AllByRecursion Q xs
     → Local n P (λ gs. fold (λ gs x. op x gs) gs xs) (λ k gs. fold (λ gs x. at k x gs) gs xs)
 local_fold n P Q op at each [] all = local_nothing n P
@@ -106,9 +106,9 @@ local_fold n P Q op at each (x ∷ xs) all =
     (each x all.0) (local_fold n P Q op at each xs all.1)
 
 -- the same change, with its places written otherwise
-pub local_as : (n : ℕ) (P : ℕ → Type 0) (f : List hb_glyph_info_t → List hb_glyph_info_t) (at also : ℕ
-    → List hb_glyph_info_t → List hb_glyph_info_t) → Local n P f at
-    → ((k : ℕ) (gs : List hb_glyph_info_t) → also k gs ≡ at k gs) → Local n P f also
+pub local_as : (n : ℕ) (P : ℕ → Type 0) (f : Glyphs → Glyphs) (at also : ℕ
+    → Glyphs → Glyphs) → Local n P f at
+    → ((k : ℕ) (gs : Glyphs) → also k gs ≡ at k gs) → Local n P f also
 local_as n P f at also l same = record {
   same_length = l.same_length;
   kept = l.kept;
@@ -117,8 +117,8 @@ local_as n P f at also l same = record {
 }
 
 -- the change where a test holds, which doesn't depend on the text
-pub local_when : (n : ℕ) (P : ℕ → Type 0) (b : Bool) (f : List hb_glyph_info_t → List hb_glyph_info_t) (at : ℕ
-    → List hb_glyph_info_t → List hb_glyph_info_t) → (b ≡ true → Local n P f at)
+pub local_when : (n : ℕ) (P : ℕ → Type 0) (b : Bool) (f : Glyphs → Glyphs) (at : ℕ
+    → Glyphs → Glyphs) → (b ≡ true → Local n P f at)
     → Local n P (λ gs. cond b (f gs) gs) (λ k gs. cond b (at k gs) gs)
 local_when n P true f at l = l refl
 local_when n P false f at l = local_nothing n P
@@ -150,9 +150,9 @@ changed_part s e f before gs behind order long =
     ∙ ap (λ xs. before ++ (take s gs ++ xs)) (sym (append_assoc middle (drop e gs) behind))
     ∙ ap (λ xs. before ++ xs) (sym (append_assoc (take s gs) (middle ++ drop e gs) behind))
 
-pub local_stretch : (P : ℕ → Type 0) (s e n : ℕ) (f : List hb_glyph_info_t → List hb_glyph_info_t) → s ≤ e → e ≤ n
-    → ((xs : List hb_glyph_info_t) → length (f xs) ≡ length xs)
-    → ((xs : List hb_glyph_info_t) → Each P xs → Each P (f xs))
+pub local_stretch : (P : ℕ → Type 0) (s e n : ℕ) (f : Glyphs → Glyphs) → s ≤ e → e ≤ n
+    → ((xs : Glyphs) → length (f xs) ≡ length xs)
+    → ((xs : Glyphs) → Each P xs → Each P (f xs))
     → Local n P (with_stretch s e f) (λ k. with_stretch (k + s) (k + e) f)
 local_stretch P s e n f order within long keeps = record {
   same_length =
@@ -171,11 +171,11 @@ local_stretch P s e n f order within long keeps = record {
 abbrev merge_step : ℕ → ℕ → ℕ → Step
 merge_step s e n = record { merged_first = (s, e) ∷ []; places = range_with_len 0 n; merged_then = [] }
 
-as_step : (level : BufferClusterLevel) (s e : ℕ) (gs : List hb_glyph_info_t) → e ≤ length gs
+as_step : (level : BufferClusterLevel) (s e : ℕ) (gs : Glyphs) → e ≤ length gs
     → run_steps level (merge_step s e (length gs) ∷ []) gs ≡ merge level s e gs
 as_step level s e gs within = pick-all (length gs) (merge level s e gs) (length-merge level s e gs within)
 
-pub merge_alone : (P : ℕ → Type 0) (level : BufferClusterLevel) (s e : ℕ) (before gs behind : List hb_glyph_info_t)
+pub merge_alone : (P : ℕ → Type 0) (level : BufferClusterLevel) (s e : ℕ) (before gs behind : Glyphs)
     → e ≤ length gs → Each P gs → Each (Not P) before → Each (Not P) behind
     → merge level (length before + s) (length before + e) (before ++ (gs ++ behind))
     ≡ before ++ (merge level s e gs ++ behind)
@@ -204,7 +204,7 @@ merge_alone P level s e before gs behind within p x y =
     (share_none P gs before p x) (share_none P gs behind p y)
     ∙ ap (λ xs. before ++ (xs ++ behind)) (as_step level s e gs within)
 
-pub each-merge : (P : ℕ → Type 0) (level : BufferClusterLevel) (s e : ℕ) (gs : List hb_glyph_info_t) → e ≤ length gs
+pub each-merge : (P : ℕ → Type 0) (level : BufferClusterLevel) (s e : ℕ) (gs : Glyphs) → e ≤ length gs
     → Each P gs → Each P (merge level s e gs)
 each-merge P level s e gs within p =
     let Q : List ℕ → Type 0 = All P in
@@ -227,8 +227,8 @@ local_flags P s e n order within =
     local_stretch P s e n (flagged 3) order within (λ xs. length-map xs (with_bits_off 3 (least (clusters xs))))
     (λ xs p. each-flagged P 3 (least (clusters xs)) xs p)
 
-local_by : (n : ℕ) (P : ℕ → Type 0) (b : Bool) (f h : List hb_glyph_info_t → List hb_glyph_info_t) (fat hat : ℕ
-    → List hb_glyph_info_t → List hb_glyph_info_t) → Local n P f fat → Local n P h hat
+local_by : (n : ℕ) (P : ℕ → Type 0) (b : Bool) (f h : Glyphs → Glyphs) (fat hat : ℕ
+    → Glyphs → Glyphs) → Local n P f fat → Local n P h hat
     → Local n P (λ gs. cond b (f gs) (h gs)) (λ k gs. cond b (fat k gs) (hat k gs))
 local_by n P true f h fat hat one two = one
 local_by n P false f h fat hat one two = two

@@ -1,6 +1,6 @@
 -- What is read of a character's properties: its category, its high byte, and the class of a mark.
 use Rattle.std.proofs.Common.{◌≡◌, ◌&&◌, ℕ, Bool, true, false, cond, nat_le, refl, ap, ◌∙◌}
-use Rattle.shapers_buffer.specs.declared.buffer.glyph.hb_glyph_info_t.{hb_glyph_info_t}
+use Rattle.shapers_buffer.specs.Glyphs.{Glyph}
 use Rattle.shapers_buffer.specs.declared.buffer.unicode_props.UnicodeProps.{UnicodeProps}
 use Rattle.shapers_buffer.specs.Category.{is_mark}
 use Rattle.shapers_buffer.specs.Properties.{CONTINUATION, HIDDEN, IGNORABLE, general_category, high_byte, modified_combining_class, properties, set_property}
@@ -10,7 +10,7 @@ use Rattle.shapers_normal.specs.Properties.{character_properties, class_byte, is
 use Rattle.shapers_normal.specs.Sorting.{class_of, is_mark_glyph}
 
 -- what is no mark has class 0
-pub class_of_other : (g : hb_glyph_info_t) → is_mark_glyph g ≡ false → class_of g ≡ 0
+pub class_of_other : (g : Glyph) → is_mark_glyph g ≡ false → class_of g ≡ 0
 unfolding modified_combining_class
 class_of_other g other = ap (λ mark. cond mark (high_byte g.unicode_props) 0) other
 

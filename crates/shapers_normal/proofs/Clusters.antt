@@ -3,14 +3,14 @@ use Rattle.std.proofs.Common.{◌≡◌, ◌+◌, ◌-◌, ◌<◌, ◌≤◌, �
 use Rattle.std.specs.List.{flat_map, prefix_len}
 use Rattle.std.proofs.lemmas.List.{drop-drop, length-append, length-drop, length-map}
 use Rattle.std.proofs.lemmas.Bool.{false≢true}
-use Rattle.shapers_buffer.specs.declared.buffer.glyph.hb_glyph_info_t.{hb_glyph_info_t}
+use Rattle.shapers_buffer.specs.Glyphs.{Glyph, Glyphs}
 use Rattle.shapers_normal.specs.Context.{Context}
 use Rattle.shapers_normal.specs.Decomposition.{as_part, cluster_becomes, text_decomposed, written_as}
 use Rattle.shapers_normal.specs.Variants.{cut_before_others, form_written, forms_written, is_selector_glyph, with_first}
 use Rattle.shapers_normal.specs.Sorting.{is_mark_glyph}
 
 -- the first group is a glyph and what follows it
-pub opens_with_group : (follows : hb_glyph_info_t → Bool) (g : hb_glyph_info_t) (gs : List hb_glyph_info_t)
+pub opens_with_group : (follows : Glyph → Bool) (g : Glyph) (gs : Glyphs)
     → cut_before_others follows (g ∷ gs) ≡ (g ∷ take (prefix_len follows gs) gs)
     ∷ cut_before_others follows (drop (prefix_len follows gs) gs)
 opens_with_group follows g [] = refl
@@ -26,7 +26,7 @@ opens_with_group follows g (h ∷ hs) =
       | false ↦ ap (λ cs. (g ∷ []) ∷ cs) (sym behind)
     ]
 
-groups_open : (follows : hb_glyph_info_t → Bool) (gs : List hb_glyph_info_t) (n : ℕ) → 0 < length gs
+groups_open : (follows : Glyph → Bool) (gs : Glyphs) (n : ℕ) → 0 < length gs
     → n ≡ 1 + prefix_len follows (drop 1 gs) → cut_before_others follows gs
     ≡ take n gs ∷ cut_before_others follows (drop n gs)
 groups_open follows [] n some is = absurd (omega arith)
@@ -36,7 +36,7 @@ groups_open follows (g ∷ gs) n some is =
     opens_with_group follows g gs ∙ sym (ap (λ n. take n (g ∷ gs) ∷ cut_before_others follows (drop n (g ∷ gs))) next)
 
 -- the groups from one place on
-pub next_groups : (follows : hb_glyph_info_t → Bool) (gs : List hb_glyph_info_t) (start n : ℕ) → start < length gs
+pub next_groups : (follows : Glyph → Bool) (gs : Glyphs) (start n : ℕ) → start < length gs
     → n ≡ 1 + prefix_len follows (drop 1 (drop start gs)) → cut_before_others follows (drop start gs)
     ≡ take (start + n - start) (drop start gs) ∷ cut_before_others follows (drop (start + n) gs)
 next_groups follows gs start n inside is =
@@ -47,8 +47,8 @@ next_groups follows gs start n inside is =
     ∙ ap (λ k. take k (drop start gs) ∷ cut_before_others follows (drop (start + n) gs)) same
 
 -- the glyphs from one place on, by what their first group becomes
-pub next_group : (follows : hb_glyph_info_t → Bool) (f : List hb_glyph_info_t → List hb_glyph_info_t)
-    (gs : List hb_glyph_info_t) (start n : ℕ) → start < length gs → n ≡ 1 + prefix_len follows (drop 1 (drop start gs))
+pub next_group : (follows : Glyph → Bool) (f : Glyphs → Glyphs)
+    (gs : Glyphs) (start n : ℕ) → start < length gs → n ≡ 1 + prefix_len follows (drop 1 (drop start gs))
     →
     flat_map f (cut_before_others follows (drop start gs)) ≡ f (take (start + n - start) (drop start gs))
     ++ flat_map f (cut_before_others follows (drop (start + n) gs))
@@ -60,14 +60,14 @@ next_group follows f gs start n inside is =
     ∙ ap (λ k. f (take k (drop start gs)) ++ flat_map f (cut_before_others follows (drop (start + n) gs))) same
 
 -- the text from one place on, by what its first cluster becomes
-pub next_cluster : (context : Context) (gs : List hb_glyph_info_t) (start n : ℕ) → start < length gs
+pub next_cluster : (context : Context) (gs : Glyphs) (start n : ℕ) → start < length gs
     → n ≡ 1 + prefix_len is_mark_glyph (drop 1 (drop start gs)) → text_decomposed context (drop start gs)
     ≡ cluster_becomes context (take (start + n - start) (drop start gs))
     ++ text_decomposed context (drop (start + n) gs)
 next_cluster context gs start n inside is = next_group is_mark_glyph (cluster_becomes context) gs start n inside is
 
 -- and a cluster that is kept
-pub next_form : (context : Context) (gs : List hb_glyph_info_t) (start n : ℕ) → start < length gs
+pub next_form : (context : Context) (gs : Glyphs) (start n : ℕ) → start < length gs
     → n ≡ 1 + prefix_len is_selector_glyph (drop 1 (drop start gs)) → forms_written context (drop start gs)
     ≡ form_written context (take (start + n - start) (drop start gs)) ++ forms_written context (drop (start + n) gs)
 next_form context gs start n inside is = next_group is_selector_glyph (form_written context) gs start n inside is
@@ -91,12 +91,12 @@ room_for done more start all cap now whole room grown =
     omega (arith, ap length whole, length-append done more, length-append start all)
 
 -- how long what a glyph becomes is, and what it is where there are parts
-pub length-written : (context : Context) (g : hb_glyph_info_t) (cs : List ℕ) (n : ℕ) → n ≡ max (length cs) 1
+pub length-written : (context : Context) (g : Glyph) (cs : List ℕ) (n : ℕ) → n ≡ max (length cs) 1
     → n ≡ length (written_as context g cs)
 length-written context g [] n is = is
 length-written context g (c ∷ cs) n is = omega (arith, length-map (c ∷ cs) (as_part context g))
 
-pub written_parts : (context : Context) (g : hb_glyph_info_t) (cs : List ℕ) → eqb (length cs) 0 ≡ false
+pub written_parts : (context : Context) (g : Glyph) (cs : List ℕ) → eqb (length cs) 0 ≡ false
     → written_as context g cs ≡ map (as_part context g) cs
 written_parts context g [] some = absurd (false≢true (sym some))
 written_parts context g (c ∷ cs) some = refl

@@ -5,7 +5,7 @@ use Rattle.std.specs.Option.{option_map_or}
 use Rattle.shapers_base.specs.declared.font.GlyphId.{GlyphId}
 use Rattle.std.proofs.lemmas.Grind.{flat_map-append}
 use Rattle.std.proofs.lemmas.List.{length-append, length-map}
-use Rattle.shapers_buffer.specs.declared.buffer.glyph.hb_glyph_info_t.{hb_glyph_info_t}
+use Rattle.shapers_buffer.specs.Glyphs.{Glyph, Glyphs}
 use Rattle.shapers_buffer.proofs.MappedLists.{all-append}
 use Rattle.shapers_normal.specs.Properties.{numbered_as}
 use Rattle.shapers_normal.specs.declared.ot_shape_normalize.decomposing.Way.{Way}
@@ -96,12 +96,12 @@ pub parts_are_drawn : PartsAreDrawn
 parts_are_drawn context way c = (image_parts context way c).drawn
 
 -- how many glyphs a glyph becomes, a cluster, and a text
-written_few : (context : Context) (g : hb_glyph_info_t) (cs : List ℕ) → length cs ≤ 9 → length (written_as context g cs)
+written_few : (context : Context) (g : Glyph) (cs : List ℕ) → length cs ≤ 9 → length (written_as context g cs)
     ≤ 9
 written_few context g [] few = omega arith
 written_few context g (c ∷ cs) few = omega (arith, length-map (c ∷ cs) (as_part context g))
 
-ninefold : (context : Context) (way : Way) (gs : List hb_glyph_info_t) → length (flat_map (becomes context way) gs)
+ninefold : (context : Context) (way : Way) (gs : Glyphs) → length (flat_map (becomes context way) gs)
     ≤ 9 * length gs
 ninefold context way [] = omega arith
 ninefold context way (g ∷ gs) =
@@ -114,11 +114,11 @@ ninefold context way (g ∷ gs) =
           gs,
     )
 
-abbrev size : List (List hb_glyph_info_t) → ℕ
+abbrev size : List Glyphs → ℕ
 size [] = 0
 size (c ∷ cs) = length c + size cs
 
-size_first : (follows : hb_glyph_info_t → Bool) (g : hb_glyph_info_t) (cs : List (List hb_glyph_info_t))
+size_first : (follows : Glyph → Bool) (g : Glyph) (cs : List Glyphs)
     → size (with_first follows g cs) ≡ suc (size cs)
 size_first follows g [] = refl
 size_first follows g ([] ∷ cs) = omega arith
@@ -129,26 +129,26 @@ size_first follows g ((h ∷ c) ∷ cs) =
       | false ↦ omega arith
     ]
 
-size_all : (follows : hb_glyph_info_t → Bool) (gs : List hb_glyph_info_t) → size (cut_before_others follows gs)
+size_all : (follows : Glyph → Bool) (gs : Glyphs) → size (cut_before_others follows gs)
     ≡ length gs
 size_all follows [] = refl
 size_all follows (g ∷ gs) = size_first follows g (cut_before_others follows gs) ∙ ap suc (size_all follows gs)
 
 -- a cluster that is kept doesn't grow
-form_by : (context : Context) (g selector : hb_glyph_info_t) (more : List hb_glyph_info_t) (o : Option GlyphId)
+form_by : (context : Context) (g selector : Glyph) (more : Glyphs) (o : Option GlyphId)
     → length (option_map_or (λ (variant : GlyphId). numbered_as variant.0 g ∷ map (with_number context) more) o
     (with_number context g ∷ with_number context (selecting_nothing context selector) ∷ map (with_number context) more))
     ≤ length (g ∷ (selector ∷ more))
 form_by context g selector more None = omega (arith, length-map more (with_number context))
 form_by context g selector more (Some variant) = omega (arith, length-map more (with_number context))
 
-form_few : (context : Context) (form : List hb_glyph_info_t) → length (form_written context form) ≤ length form
+form_few : (context : Context) (form : Glyphs) → length (form_written context form) ≤ length form
 form_few context [] = omega arith
 form_few context (g ∷ []) = omega arith
 form_few context (g ∷ (selector ∷ more)) =
     form_by context g selector more (context.variant g.glyph_id selector.glyph_id)
 
-forms_few : (context : Context) (forms : List (List hb_glyph_info_t)) → length (flat_map (form_written context) forms)
+forms_few : (context : Context) (forms : List Glyphs) → length (flat_map (form_written context) forms)
     ≤ size forms
 forms_few context [] = omega arith
 forms_few context (form ∷ forms) =
@@ -160,7 +160,7 @@ forms_few context (form ∷ forms) =
       forms_few context forms,
     )
 
-cluster_ninefold : (context : Context) (c : List hb_glyph_info_t) → length (cluster_becomes context c) ≤ 9 * length c
+cluster_ninefold : (context : Context) (c : Glyphs) → length (cluster_becomes context c) ≤ 9 * length c
 cluster_ninefold context c =
     elim (is_kept_cluster c) as (λ b. length
     (cond b (forms_written context c) (flat_map (becomes context (apart_way context c)) c)) ≤ 9 * length c) [
@@ -168,7 +168,7 @@ cluster_ninefold context c =
       | false ↦ ninefold context (apart_way context c) c
     ]
 
-clusters_ninefold : (context : Context) (cs : List (List hb_glyph_info_t))
+clusters_ninefold : (context : Context) (cs : List Glyphs)
     → length (flat_map (cluster_becomes context) cs) ≤ 9 * size cs
 clusters_ninefold context [] = omega arith
 clusters_ninefold context (c ∷ cs) =
@@ -180,16 +180,16 @@ clusters_ninefold context (c ∷ cs) =
       clusters_ninefold context cs,
     )
 
-pub decomposed_ninefold : (context : Context) (gs : List hb_glyph_info_t) → length (text_decomposed context gs)
+pub decomposed_ninefold : (context : Context) (gs : Glyphs) → length (text_decomposed context gs)
     ≤ 9 * length gs
 decomposed_ninefold context gs = omega (arith, clusters_ninefold context (mark_clusters gs), size_all is_mark_glyph gs)
 
 -- a cut before a glyph that is no mark
-first_before : (a g : hb_glyph_info_t) (c : List hb_glyph_info_t) (rest : List (List hb_glyph_info_t))
+first_before : (a g : Glyph) (c : Glyphs) (rest : List Glyphs)
     → is_mark_glyph g ≡ false → with_first is_mark_glyph a ((g ∷ c) ∷ rest) ≡ (a ∷ []) ∷ ((g ∷ c) ∷ rest)
 first_before a g c rest e = ap (λ b. cond b ((a ∷ (g ∷ c)) ∷ rest) ((a ∷ []) ∷ ((g ∷ c) ∷ rest))) e
 
-first_of_some : (a h : hb_glyph_info_t) (c : List hb_glyph_info_t) (xs ys : List (List hb_glyph_info_t))
+first_of_some : (a h : Glyph) (c : Glyphs) (xs ys : List Glyphs)
     → with_first is_mark_glyph a (((h ∷ c) ∷ xs) ++ ys) ≡ with_first is_mark_glyph a ((h ∷ c) ∷ xs) ++ ys
 first_of_some a h c xs ys =
     elim (is_mark_glyph h) as (λ b. cond b ((a ∷ (h ∷ c)) ∷ (xs ++ ys)) ((a ∷ []) ∷ ((h ∷ c) ∷ (xs ++ ys)))
@@ -198,7 +198,7 @@ first_of_some a h c xs ys =
       | false ↦ refl
     ]
 
-clusters_in_halves : (front : List hb_glyph_info_t) (g : hb_glyph_info_t) (behind : List hb_glyph_info_t)
+clusters_in_halves : (front : Glyphs) (g : Glyph) (behind : Glyphs)
     → is_mark_glyph g ≡ false → mark_clusters (front ++ g ∷ behind) ≡ mark_clusters front ++ mark_clusters (g ∷ behind)
 clusters_in_halves [] g behind e = refl
 clusters_in_halves (a ∷ []) g behind e =
@@ -217,8 +217,8 @@ clusters_in_halves (a ∷ (h ∷ front)) g behind e =
     ∙ first_of_some a h c rest last
     ∙ ap (λ cs. with_first is_mark_glyph a cs ++ last) (sym opened)
 
-pub decomposed_halves : (context : Context) (front : List hb_glyph_info_t) (g : hb_glyph_info_t)
-    (behind : List hb_glyph_info_t) → is_mark_glyph g ≡ false → text_decomposed context (front ++ g ∷ behind)
+pub decomposed_halves : (context : Context) (front : Glyphs) (g : Glyph)
+    (behind : Glyphs) → is_mark_glyph g ≡ false → text_decomposed context (front ++ g ∷ behind)
     ≡ text_decomposed context front ++ text_decomposed context (g ∷ behind)
 decomposed_halves context front g behind e =
     ap (flat_map (cluster_becomes context)) (clusters_in_halves front g behind e)

@@ -3,7 +3,7 @@ use Rattle.std.specs.Prelude.{◌≡◌, ◌-◌, ℕ, Bool, true, false, None, 
 use Rattle.std.specs.List.{range_with_len}
 use Rattle.shapers_base.specs.declared.plan.record.NormalizationMode.{NormalizationMode}
 use Rattle.shapers_base.specs.declared.plan.record.NormalizationMode.TheVariants.{NONE, AUTO, CD}
-use Rattle.shapers_buffer.specs.declared.buffer.glyph.hb_glyph_info_t.{hb_glyph_info_t}
+use Rattle.shapers_buffer.specs.Glyphs.{Glyph}
 use Rattle.shapers_buffer.specs.declared.buffer.level.BufferClusterLevel.{BufferClusterLevel}
 use Rattle.shapers_buffer.specs.declared.buffer.level.BufferClusterLevel.TheVariants.{MonotoneGraphemes, MonotoneCharacters, Characters}
 use Rattle.shapers_buffer.specs.Glyph.{characters, clusters}
@@ -190,7 +190,7 @@ abbrev fallen : BufferClusterLevel → List (ℕ × ℕ)
 fallen level =
     map (λ g. (g.cluster, g.mask))
     (first_round (with_font AUTO latin) level
-    (map (λ g. let r : hb_glyph_info_t = record g { cluster = 1 - g.cluster } in r)
+    (map (λ g. let r : Glyph = record g { cluster = 1 - g.cluster } in r)
     (text (with_font AUTO latin) (0x65 ∷ 0xFE01 ∷ []))))
 
 fallen_merged : fallen MonotoneCharacters ≡ (0, 0) ∷ []

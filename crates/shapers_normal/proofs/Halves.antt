@@ -1,10 +1,10 @@
 -- A text that is normalized in halves.
-use Rattle.std.proofs.Common.{◌≡◌, ◌&&◌, ◌||◌, ℕ, Bool, true, false, not, cond, eqb, nat_le, List, [], ◌∷◌, ◌++◌, length, take, get_or, refl, sym, ap, ◌∙◌, arith}
+use Rattle.std.proofs.Common.{◌≡◌, ◌&&◌, ◌||◌, ℕ, Bool, true, false, not, cond, eqb, nat_le, [], ◌∷◌, ◌++◌, length, take, get_or, refl, sym, ap, ◌∙◌, arith}
 use Rattle.std.specs.List.{Contains}
 use Rattle.std.proofs.lemmas.List.{append-nil, get_or_default, length-map}
 use Rattle.std.proofs.lemmas.List.Elements.{All-contains_itself, All-from_get_or}
 use Rattle.std.proofs.lemmas.Bool.{false≢true}
-use Rattle.shapers_buffer.specs.declared.buffer.glyph.hb_glyph_info_t.{hb_glyph_info_t}
+use Rattle.shapers_buffer.specs.Glyphs.{Glyph, Glyphs}
 use Rattle.shapers_buffer.specs.declared.buffer.level.BufferClusterLevel.{BufferClusterLevel}
 use Rattle.shapers_buffer.specs.Glyph.{clusters, order_view, plain}
 use Rattle.shapers_clusters.specs.Cuts.{ShareNone}
@@ -23,13 +23,13 @@ use Rattle.shapers_normal.proofs.SortingHalves.{each-ordered, ordered_halves}
 use Rattle.shapers_normal.proofs.VariantHalves.{each-first_round, first_round_halves}
 
 -- what is no joiner stays
-pub not_joiner : (before behind : ℕ) (g : hb_glyph_info_t) → eqb g.glyph_id 0x034F ≡ false
+pub not_joiner : (before behind : ℕ) (g : Glyph) → eqb g.glyph_id 0x034F ≡ false
     → passes_over before behind g ≡ g
 not_joiner before behind g other =
     ap (λ b. cond (b && (eqb behind 0 || nat_le before behind))
     (unseen g) g) other
 
-shown_halves : (c : ℕ) (front : List hb_glyph_info_t) (g : hb_glyph_info_t) (behind : List hb_glyph_info_t)
+shown_halves : (c : ℕ) (front : Glyphs) (g : Glyph) (behind : Glyphs)
     → ends_in_joiner front ≡ false → eqb g.glyph_id 0x034F ≡ false → shown_behind c (front ++ g ∷ behind)
     ≡ shown_behind c front ++ (g ∷ shown_behind (class_of g) behind)
 shown_halves c [] g [] last other = refl
@@ -41,7 +41,7 @@ shown_halves c (f ∷ []) g behind last other =
 shown_halves c (f ∷ (h ∷ front)) g behind last other =
     ap (λ xs. passes_over c (class_of h) f ∷ xs) (shown_halves (class_of f) (h ∷ front) g behind last other)
 
-pub joiners_halves : (front : List hb_glyph_info_t) (g : hb_glyph_info_t) (behind : List hb_glyph_info_t)
+pub joiners_halves : (front : Glyphs) (g : Glyph) (behind : Glyphs)
     → ends_in_joiner front ≡ false → eqb g.glyph_id 0x034F ≡ false → joiners_shown (front ++ g ∷ behind)
     ≡ joiners_shown front ++ joiners_shown (g ∷ behind)
 joiners_halves [] g behind last other = refl
@@ -51,29 +51,29 @@ joiners_halves (f ∷ (h ∷ front)) g behind last other =
 
 -- ---- what holds of each cluster
 
-each-passed : (P : ℕ → Type 0) (before behind : ℕ) (g : hb_glyph_info_t) → P g.cluster
+each-passed : (P : ℕ → Type 0) (before behind : ℕ) (g : Glyph) → P g.cluster
     → P (passes_over before behind g).cluster
 each-passed P before behind g p =
     elim (eqb g.glyph_id 0x034F && (eqb behind 0 || nat_le before behind)) as (λ b.
     P (cond b (unseen g) g).cluster) [ true ↦ p | false ↦ p ]
 
-each-shown_behind : (P : ℕ → Type 0) (c : ℕ) (gs : List hb_glyph_info_t) → Each P gs → Each P (shown_behind c gs)
+each-shown_behind : (P : ℕ → Type 0) (c : ℕ) (gs : Glyphs) → Each P gs → Each P (shown_behind c gs)
 each-shown_behind P c [] p = tt
 each-shown_behind P c (g ∷ []) p = p
 each-shown_behind P c (g ∷ (h ∷ gs)) p =
     (each-passed P c (class_of h) g p.0, each-shown_behind P (class_of g) (h ∷ gs) p.1)
 
-pub each-shown : (P : ℕ → Type 0) (gs : List hb_glyph_info_t) → Each P gs → Each P (joiners_shown gs)
+pub each-shown : (P : ℕ → Type 0) (gs : Glyphs) → Each P gs → Each P (joiners_shown gs)
 each-shown P [] p = tt
 each-shown P (g ∷ gs) p = (p.0, each-shown_behind P (class_of g) gs p.1)
 
 -- ---- the later rounds
 
-record Opens (g : hb_glyph_info_t) : Type 0 where
+record Opens (g : Glyph) : Type 0 where
   letter : is_mark_glyph g ≡ false
   other : eqb g.glyph_id 0x034F ≡ false
 
-opens : (g : hb_glyph_info_t) (a b : Bool) → is_mark_glyph g ≡ a → eqb g.glyph_id 0x034F ≡ b → (not a && not b) ≡ true
+opens : (g : Glyph) (a b : Bool) → is_mark_glyph g ≡ a → eqb g.glyph_id 0x034F ≡ b → (not a && not b) ≡ true
     → Opens g
 opens g false false x y e = record { letter = x; other = y }
 opens g false true x y e = absurd (false≢true e)
@@ -81,7 +81,7 @@ opens g true b x y e = absurd (false≢true e)
 
 -- the first glyph of what is in order, where it is the same but for cluster and flags
 shown_and_composed : (P : ℕ → Type 0) (context : Context) (level : BufferClusterLevel) (composing : Bool)
-    (front : List hb_glyph_info_t) (g : hb_glyph_info_t) (behind : List hb_glyph_info_t) → Opens g
+    (front : Glyphs) (g : Glyph) (behind : Glyphs) → Opens g
     → ends_in_joiner front ≡ false → Each P front → Each (Not P) (g ∷ behind) →
     cond composing (recomposed context level (joiners_shown (front ++ g ∷ behind)))
     (joiners_shown (front ++ g ∷ behind))
@@ -95,7 +95,7 @@ shown_and_composed P context level false front g behind o last p n = joiners_hal
 
 -- what is in order begins with the same glyph, but for its cluster and flags
 in_order : (P : ℕ → Type 0) (context : Context) (level : BufferClusterLevel) (composing : Bool)
-    (front : List hb_glyph_info_t) (d : hb_glyph_info_t) (gs : List hb_glyph_info_t) → Opens d
+    (front : Glyphs) (d : Glyph) (gs : Glyphs) → Opens d
     → take 1 (order_view gs) ≡ plain d ∷ [] → ends_in_joiner front ≡ false → Each P front → Each (Not P) gs →
     cond composing (recomposed context level (joiners_shown (front ++ gs))) (joiners_shown (front ++ gs))
     ≡ cond composing (recomposed context level (joiners_shown front)) (joiners_shown front)
@@ -103,16 +103,16 @@ in_order : (P : ℕ → Type 0) (context : Context) (level : BufferClusterLevel)
 in_order P context level composing front d [] o first last p n =
     absurd (let none : 0 ≡ 1 = ap length first in omega arith)
 in_order P context level composing front d (g ∷ gs) o first last p n =
-    let head = λ (xs : List hb_glyph_info_t). get_or xs 0 d in
+    let head = λ (xs : Glyphs). get_or xs 0 d in
     let same : plain g ≡ plain d = ap head first in
-    let mark : is_mark_glyph g ≡ is_mark_glyph d = ap (λ (h : hb_glyph_info_t). is_mark_glyph h) same in
+    let mark : is_mark_glyph g ≡ is_mark_glyph d = ap (λ (h : Glyph). is_mark_glyph h) same in
     let number : eqb g.glyph_id 0x034F ≡ eqb d.glyph_id 0x034F =
-    ap (λ (h : hb_glyph_info_t). eqb h.glyph_id 0x034F) same in
+    ap (λ (h : Glyph). eqb h.glyph_id 0x034F) same in
     shown_and_composed P context level composing front g gs
     (record { letter = mark ∙ o.letter; other = number ∙ o.other }) last p n
 
 pub later_halves : (P : ℕ → Type 0) (context : Context) → OrdersAlone context
-    → (level : BufferClusterLevel) (front behind : List hb_glyph_info_t) → opens_anew behind ≡ true
+    → (level : BufferClusterLevel) (front behind : Glyphs) → opens_anew behind ≡ true
     → ends_in_joiner (marks_ordered context level front) ≡ false → Each P front → Each (Not P) behind
     → later_rounds context true level (front ++ behind) ≡ later_rounds context true level front
     ++ later_rounds context true level behind
@@ -125,7 +125,7 @@ later_halves P context o level front [] opened last p n =
 later_halves P context o level front (g ∷ behind) opened last p n =
     let start = opens g (is_mark_glyph g) (eqb g.glyph_id 0x034F) refl refl opened in
     let letter : class_of g ≡ 0 = class_of_other g start.letter in
-    let round = λ (gs : List hb_glyph_info_t). cond (composes context.mode)
+    let round = λ (gs : Glyphs). cond (composes context.mode)
     (recomposed context level (joiners_shown gs)) (joiners_shown gs) in
     ap round (ordered_halves P context o level front g behind p n letter)
     ∙ in_order P context level (composes context.mode) (marks_ordered context level front) g
@@ -133,7 +133,7 @@ later_halves P context o level front (g ∷ behind) opened last p n =
     (each-ordered P context o level front p) (each-ordered (Not P) context o level (g ∷ behind) n)
 
 -- no cluster of the one half is one of the other
-pub apart : (gs hs : List hb_glyph_info_t) → ShareNone gs hs → Each (Not (Contains (clusters gs))) hs
+pub apart : (gs hs : Glyphs) → ShareNone gs hs → Each (Not (Contains (clusters gs))) hs
 apart gs hs h =
     let P : ℕ → Type 0 = Not (Contains (clusters gs)) in
     each_of P hs (All-from_get_or P (clusters hs) 0 (λ j within found.

@@ -1,33 +1,33 @@
 -- Grapheme joiners, place after place.
-use Rattle.std.proofs.Common.{◌≡◌, ◌+◌, ◌-◌, ◌<◌, ◌≤◌, ℕ, suc, Bool, true, false, ◌&&◌, ◌||◌, cond, eqb, leb, List, [], ◌∷◌, ◌++◌, length, take, drop, get_or, set, refl, sym, ap, ◌∙◌, arith, append_assoc, drop-cons}
+use Rattle.std.proofs.Common.{◌≡◌, ◌+◌, ◌-◌, ◌<◌, ◌≤◌, ℕ, suc, Bool, true, false, ◌&&◌, ◌||◌, cond, eqb, leb, [], ◌∷◌, ◌++◌, length, take, drop, get_or, set, refl, sym, ap, ◌∙◌, arith, append_assoc, drop-cons}
 use Rattle.std.proofs.lemmas.List.{drop-set-lt, get_or-set_same, length-drop, length-set, take-append-drop, take_more_set}
-use Rattle.shapers_buffer.specs.declared.buffer.glyph.hb_glyph_info_t.{hb_glyph_info_t}
+use Rattle.shapers_buffer.specs.Glyphs.{Glyph, Glyphs}
 use Rattle.shapers_buffer.specs.Glyph.{default_glyph}
 use Rattle.shapers_normal.specs.Normalization.{joiners_shown, passes_over, shown_behind, unseen}
 use Rattle.shapers_normal.specs.Sorting.{class_of}
 use Rattle.shapers_normal.proofs.CharacterProperties.{class_shown}
 
-abbrev glyph_at : List hb_glyph_info_t → ℕ → hb_glyph_info_t
+abbrev glyph_at : Glyphs → ℕ → Glyph
 glyph_at gs i = get_or gs i default_glyph
 
 -- the places before i are done
-pub record Showing (old now : List hb_glyph_info_t) (i : ℕ) : Type 0 where
+pub record Showing (old now : Glyphs) (i : ℕ) : Type 0 where
   pub text : take i now ++ shown_behind (class_of (glyph_at now (i - 1))) (drop i now) ≡ joiners_shown old
   pub some : 1 ≤ i
   pub same_length : length now ≡ length old
 
-pub showing_start : (gs : List hb_glyph_info_t) → Showing gs gs 1
+pub showing_start : (gs : Glyphs) → Showing gs gs 1
 showing_start [] = record { text = refl; some = omega arith; same_length = refl }
 showing_start (g ∷ gs) = record { text = refl; some = omega arith; same_length = refl }
 
-class_passed : (before behind : ℕ) (g : hb_glyph_info_t) → class_of (passes_over before behind g) ≡ class_of g
+class_passed : (before behind : ℕ) (g : Glyph) → class_of (passes_over before behind g) ≡ class_of g
 class_passed before behind g =
     let seen : Bool = eqb g.glyph_id 0x034F && (eqb behind 0 || leb before behind) in
     elim seen as (λ b. class_of (cond b (unseen g) g) ≡ class_of g)
     [ true ↦ class_shown g.unicode_props | false ↦ refl ]
 
 -- one more place, with a glyph on either side
-pub showing_next : (old now new : List hb_glyph_info_t) (i : ℕ) → Showing old now i → i + 1 < length now
+pub showing_next : (old now new : Glyphs) (i : ℕ) → Showing old now i → i + 1 < length now
     → new ≡ set now i (passes_over (class_of (glyph_at now (i - 1))) (class_of (glyph_at now (i + 1))) (glyph_at now i))
     → Showing old new (i + 1)
 showing_next old now new i s within is =
@@ -61,12 +61,12 @@ showing_next old now new i s within is =
       same_length = ap length is ∙ length-set now i passed_marks ∙ s.same_length;
     }
 
-shown_short : (before : ℕ) (gs : List hb_glyph_info_t) → length gs ≤ 1 → shown_behind before gs ≡ gs
+shown_short : (before : ℕ) (gs : Glyphs) → length gs ≤ 1 → shown_behind before gs ≡ gs
 shown_short before [] few = refl
 shown_short before (g ∷ []) few = refl
 shown_short before (g ∷ (h ∷ gs)) few = absurd (omega arith)
 
-pub showing_end : (old now : List hb_glyph_info_t) (i : ℕ) → Showing old now i → length now ≤ i + 1
+pub showing_end : (old now : Glyphs) (i : ℕ) → Showing old now i → length now ≤ i + 1
     → now ≡ joiners_shown old
 showing_end old now i s met =
     sym (take-append-drop i now)

@@ -6,7 +6,7 @@ use Rattle.std.proofs.lemmas.Bool.Decides.{nat_tests}
 use Rattle.std.proofs.lemmas.List.{get_or_default, length-map, map-append}
 use Rattle.std.proofs.lemmas.List.Elements.{All-from_get_or}
 use Rattle.shapers_base.specs.declared.font.GlyphId.{GlyphId}
-use Rattle.shapers_buffer.specs.declared.buffer.glyph.hb_glyph_info_t.{hb_glyph_info_t}
+use Rattle.shapers_buffer.specs.Glyphs.{Glyph, Glyphs}
 use Rattle.shapers_buffer.specs.declared.buffer.level.BufferClusterLevel.{BufferClusterLevel}
 use Rattle.shapers_buffer.specs.Clusters.{least, merge, merges, stretch_of, with_stretch}
 use Rattle.shapers_buffer.specs.Glyph.{clusters, default_glyph}
@@ -33,48 +33,48 @@ use Rattle.shapers_normal.proofs.Runs.{length-changed, length-turned}
 use Rattle.shapers_normal.proofs.SortingHalves.{passed_few, runs_within}
 
 -- as many glyphs, and clusters that rise or fall still do
-record Keeps (old new : List hb_glyph_info_t) : Type 0 where
+record Keeps (old new : Glyphs) : Type 0 where
   same_length : length new ≡ length old
   mono : IsMonotone (clusters old) → IsMonotone (clusters new)
 
-nothing : (gs : List hb_glyph_info_t) → Keeps gs gs
+nothing : (gs : Glyphs) → Keeps gs gs
 nothing gs = record { same_length = refl; mono = λ m. m }
 
-then : (a b c : List hb_glyph_info_t) → Keeps a b → Keeps b c → Keeps a c
+then : (a b c : Glyphs) → Keeps a b → Keeps b c → Keeps a c
 then a b c one two = record { same_length = two.same_length ∙ one.same_length; mono = λ m. two.mono (one.mono m) }
 
-folded : {X : Type 0} (n : ℕ) (Q : X → Type 0) (f : List hb_glyph_info_t → X → List hb_glyph_info_t)
-    → ((gs : List hb_glyph_info_t) (x : X) → n ≤ length gs → Q x → Keeps gs (f gs x))
-    → (gs : List hb_glyph_info_t) (xs : List X) → n ≤ length gs → AllByRecursion Q xs → Keeps gs (fold f gs xs)
+folded : {X : Type 0} (n : ℕ) (Q : X → Type 0) (f : Glyphs → X → Glyphs)
+    → ((gs : Glyphs) (x : X) → n ≤ length gs → Q x → Keeps gs (f gs x))
+    → (gs : Glyphs) (xs : List X) → n ≤ length gs → AllByRecursion Q xs → Keeps gs (fold f gs xs)
 folded n Q f each gs [] long all = nothing gs
 folded n Q f each gs (x ∷ xs) long all =
     let one = each gs x long all.0 in
     then gs (f gs x) (fold f (f gs x) xs) one (folded n Q f each (f gs x) xs (omega (arith, one.same_length)) all.1)
 
-chosen : (b : Bool) (gs new : List hb_glyph_info_t) → (b ≡ true → Keeps gs new) → Keeps gs (cond b new gs)
+chosen : (b : Bool) (gs new : Glyphs) → (b ≡ true → Keeps gs new) → Keeps gs (cond b new gs)
 chosen true gs new h = h refl
 chosen false gs new h = nothing gs
 
-merge_keeps : (level : BufferClusterLevel) (s e : ℕ) (gs : List hb_glyph_info_t) → merges level ≡ true → e ≤ length gs
+merge_keeps : (level : BufferClusterLevel) (s e : ℕ) (gs : Glyphs) → merges level ≡ true → e ≤ length gs
     → Keeps gs (merge level s e gs)
 merge_keeps level s e gs m within = record {
   same_length = length-merge level s e gs within;
   mono = λ rises. (exact_cuts_hold level ((s, e) ∷ []) gs m (within, tt) rises).1;
 }
 
-as_merge : (level : BufferClusterLevel) (s e : ℕ) (gs : List hb_glyph_info_t) → merges level ≡ true
+as_merge : (level : BufferClusterLevel) (s e : ℕ) (gs : Glyphs) → merges level ≡ true
     → stay_together level s e gs ≡ merge level s e gs
 as_merge level s e gs m = ap (λ b. cond b (merge level s e gs) (unsafe_inside s e gs)) m
 
 -- ---- the first round
 
-variant_keeps : (context : Context) (level : BufferClusterLevel) (gs : List hb_glyph_info_t) (i : ℕ)
+variant_keeps : (context : Context) (level : BufferClusterLevel) (gs : Glyphs) (i : ℕ)
     → merges level ≡ true → i + 1 < length gs → Keeps gs (variant_joined context level gs i)
 variant_keeps context level gs i m within =
     chosen (has_variant_at context gs i) gs (stay_together level i (i + 2) gs)
     (λ yes. subst (Keeps gs) (sym (as_merge level i (i + 2) gs m)) (merge_keeps level i (i + 2) gs m (omega arith)))
 
-variants_keep : (context : Context) (level : BufferClusterLevel) (gs : List hb_glyph_info_t) → merges level ≡ true
+variants_keep : (context : Context) (level : BufferClusterLevel) (gs : Glyphs) → merges level ≡ true
     → Keeps gs (variants_joined context level gs)
 variants_keep context level gs m =
     folded (length gs) (λ i. i + 1 < length gs) (λ gs i. variant_joined context level gs i)
@@ -82,7 +82,7 @@ variants_keep context level gs m =
     (omega arith)
     (all-range (λ i. i + 1 < length gs) 0 (length gs - 1) (λ i low high. omega arith))
 
-together_first : (follows : hb_glyph_info_t → Bool) (g : hb_glyph_info_t) (groups : List (List hb_glyph_info_t))
+together_first : (follows : Glyph → Bool) (g : Glyph) (groups : List Glyphs)
     → together (with_first follows g groups) ≡ g ∷ together groups
 together_first follows g [] = refl
 together_first follows g ([] ∷ groups) = refl
@@ -90,25 +90,25 @@ together_first follows g ((h ∷ group) ∷ groups) =
     elim (follows h) as (λ b. together (cond b ((g ∷ h ∷ group) ∷ groups) ((g ∷ []) ∷ (h ∷ group) ∷ groups))
     ≡ g ∷ together ((h ∷ group) ∷ groups)) [ true ↦ refl | false ↦ refl ]
 
-pub together_cut : (follows : hb_glyph_info_t → Bool) (gs : List hb_glyph_info_t)
+pub together_cut : (follows : Glyph → Bool) (gs : Glyphs)
     → together (cut_before_others follows gs) ≡ gs
 together_cut follows [] = refl
 together_cut follows (g ∷ gs) = together_first follows g (cut_before_others follows gs)
     ∙ ap (λ xs. g ∷ xs) (together_cut follows gs)
 
-number_cluster : (g : hb_glyph_info_t) (o : Option GlyphId)
+number_cluster : (g : Glyph) (o : Option GlyphId)
     → (option_map_or (λ (glyph : GlyphId). numbered_as glyph.0 g) o g).cluster ≡ g.cluster
 number_cluster g None = refl
 number_cluster g (Some glyph) = refl
 
-clusters-numbered : (context : Context) (gs : List hb_glyph_info_t) → clusters (map (with_number context) gs)
+clusters-numbered : (context : Context) (gs : Glyphs) → clusters (map (with_number context) gs)
     ≡ clusters gs
 clusters-numbered context [] = refl
 clusters-numbered context (g ∷ gs) =
     ap (λ k. k ∷ clusters (map (with_number context) gs)) (number_cluster g (context.nominal g.glyph_id))
     ∙ ap (λ ks. g.cluster ∷ ks) (clusters-numbered context gs)
 
-form_pairs_by : (R : ℕ → ℕ → Type 0) (context : Context) (g selector : hb_glyph_info_t) (more : List hb_glyph_info_t)
+form_pairs_by : (R : ℕ → ℕ → Type 0) (context : Context) (g selector : Glyph) (more : Glyphs)
     (o : Option GlyphId) → Pairs R (g ∷ (selector ∷ more))
     → Pairs R (option_map_or (λ (variant : GlyphId). numbered_as variant.0 g ∷ map (with_number context) more) o
     (with_number context g ∷ with_number context (selecting_nothing context selector) ∷ map (with_number context) more))
@@ -126,7 +126,7 @@ form_pairs_by R context g selector more (Some variant) p =
     pairs_same R (g ∷ more) (numbered_as variant.0 g ∷ map (with_number context) more)
     (ap (λ ks. g.cluster ∷ ks) (clusters-numbered context more)) one
 
-form_pairs : (R : ℕ → ℕ → Type 0) (context : Context) (form : List hb_glyph_info_t) → Pairs R form
+form_pairs : (R : ℕ → ℕ → Type 0) (context : Context) (form : Glyphs) → Pairs R form
     → Pairs R (form_written context form)
 form_pairs R context [] p = tt
 form_pairs R context (g ∷ []) p = (tt, tt)
@@ -134,7 +134,7 @@ form_pairs R context (g ∷ (selector ∷ more)) p =
     form_pairs_by R context g selector more (context.variant g.glyph_id selector.glyph_id) p
 
 -- glyphs of one cluster
-constant : (R : ℕ → ℕ → Type 0) (m : ℕ) (gs : List hb_glyph_info_t) → R m m → Each (λ k. k ≡ m) gs → Pairs R gs
+constant : (R : ℕ → ℕ → Type 0) (m : ℕ) (gs : Glyphs) → R m m → Each (λ k. k ≡ m) gs → Pairs R gs
 constant R m [] r p = tt
 constant R m (g ∷ gs) r p = (
   each_as (λ k. k ≡ m) (R g.cluster) gs (λ k e. subst (λ a. R a k) (sym p.0) (subst (R m) (sym e) r)) p.1,
@@ -142,20 +142,20 @@ constant R m (g ∷ gs) r p = (
       m gs r p.1,
 )
 
-pairs_apart : (R : ℕ → ℕ → Type 0) → ((k : ℕ) → R k k) → (f : hb_glyph_info_t → List hb_glyph_info_t)
-    → ((P : ℕ → Type 0) (g : hb_glyph_info_t) → P g.cluster → Each P (f g)) → (gs : List hb_glyph_info_t) → Pairs R gs
+pairs_apart : (R : ℕ → ℕ → Type 0) → ((k : ℕ) → R k k) → (f : Glyph → Glyphs)
+    → ((P : ℕ → Type 0) (g : Glyph) → P g.cluster → Each P (f g)) → (gs : Glyphs) → Pairs R gs
     → Pairs R (flat_map f gs)
 pairs_apart R self f keeps [] p = tt
 pairs_apart R self f keeps (g ∷ gs) p =
     let m = g.cluster in
     let rest = flat_map f gs in
     let later : Each (R m) rest =
-    all-flat_map (λ (h : hb_glyph_info_t). R m h.cluster) (λ (h : hb_glyph_info_t). R m h.cluster) f
+    all-flat_map (λ (h : Glyph). R m h.cluster) (λ (h : Glyph). R m h.cluster) f
     (λ h q. keeps (R m) h q) gs p.0 in
     pairs-append R (f g) rest (constant R m (f g) (self m) (keeps (λ k. k ≡ m) g refl))
     (pairs_apart R self f keeps gs p.1) (keeps (λ k. Each (R k) rest) g later)
 
-cluster_pairs : (R : ℕ → ℕ → Type 0) → ((k : ℕ) → R k k) → (context : Context) (cluster : List hb_glyph_info_t)
+cluster_pairs : (R : ℕ → ℕ → Type 0) → ((k : ℕ) → R k k) → (context : Context) (cluster : Glyphs)
     → Pairs R cluster → Pairs R (cluster_becomes context cluster)
 cluster_pairs R self context cluster p =
     let way = apart_way context cluster in
@@ -168,13 +168,13 @@ cluster_pairs R self context cluster p =
           (λ P g q. each-written P context g (image context way g.glyph_id) q) cluster p
     ]
 
-text_pairs : (R : ℕ → ℕ → Type 0) → ((k : ℕ) → R k k) → (context : Context) (gs : List hb_glyph_info_t) → Pairs R gs
+text_pairs : (R : ℕ → ℕ → Type 0) → ((k : ℕ) → R k k) → (context : Context) (gs : Glyphs) → Pairs R gs
     → Pairs R (text_decomposed context gs)
 text_pairs R self context gs p =
     pairs_together R (cluster_becomes context) (λ P cluster q. each-became P context cluster q)
     (cluster_pairs R self context) (mark_clusters gs) (subst (Pairs R) (sym (together_cut is_mark_glyph gs)) p)
 
-first_mono : (context : Context) (level : BufferClusterLevel) (gs : List hb_glyph_info_t) → merges level ≡ true
+first_mono : (context : Context) (level : BufferClusterLevel) (gs : Glyphs) → merges level ≡ true
     → IsMonotone (clusters gs) → IsMonotone (clusters (first_round context level gs))
 first_mono context level gs m rises =
     let joined = variants_joined context level gs in
@@ -183,7 +183,7 @@ first_mono context level gs m rises =
 
 -- ---- the second round
 
-same_clusters : (m : ℕ) (gs hs : List hb_glyph_info_t) → length gs ≡ length hs → Each (λ k. k ≡ m) gs
+same_clusters : (m : ℕ) (gs hs : Glyphs) → length gs ≡ length hs → Each (λ k. k ≡ m) gs
     → Each (λ k. k ≡ m) hs → clusters gs ≡ clusters hs
 same_clusters m [] [] long p q = refl
 same_clusters m [] (h ∷ hs) long p q = absurd (omega arith)
@@ -191,7 +191,7 @@ same_clusters m (g ∷ gs) [] long p q = absurd (omega arith)
 same_clusters m (g ∷ gs) (h ∷ hs) long p q = ap (λ k. k ∷ clusters gs) (p.0 ∙ sym q.0)
     ∙ ap (λ ks. h.cluster ∷ ks) (same_clusters m gs hs (omega arith) p.1 q.1)
 
-all_in : (level : BufferClusterLevel) (a b : ℕ) (gs : List hb_glyph_info_t) → merges level ≡ true → 1 < b - a
+all_in : (level : BufferClusterLevel) (a b : ℕ) (gs : Glyphs) → merges level ≡ true → 1 < b - a
     → b ≤ length gs → Each (λ k. k ≡ least (clusters (stretch_of a b gs))) (stretch_of a b (merge level a b gs))
 all_in level a b gs m two within =
     let ms = merge level a b gs in
@@ -200,14 +200,14 @@ all_in level a b gs m two within =
     let long : length part ≡ b - a = length-stretch a b ms (omega (arith, length-merge level a b gs within)) in
     each_of (λ k. k ≡ one) part (All-from_get_or (λ k. k ≡ one) (clusters part) 0 (λ j inside.
     let few : j < b - a = omega (arith, long, length-map part (λ g. g.cluster)) in
-    ap (λ ks. get_or ks j 0) (map-stretch (λ (g : hb_glyph_info_t). g.cluster) a b ms)
+    ap (λ ks. get_or ks j 0) (map-stretch (λ (g : Glyph). g.cluster) a b ms)
     ∙ get_or-stretch a b j 0 (clusters ms) few
     ∙ (merge_holds level a b gs within).inside m two (a + j) (omega arith) (omega arith)))
 
-turned_same : (m a b : ℕ) (ms : List hb_glyph_info_t) → a ≤ b → Each (λ k. k ≡ m) (stretch_of a b ms)
+turned_same : (m a b : ℕ) (ms : Glyphs) → a ≤ b → Each (λ k. k ≡ m) (stretch_of a b ms)
     → clusters (with_stretch a b (λ xs. slice_rotate_right xs 1) ms) ≡ clusters ms
 turned_same m a b ms order all =
-    let cluster = λ (g : hb_glyph_info_t). g.cluster in
+    let cluster = λ (g : Glyph). g.cluster in
     let part = stretch_of a b ms in
     let turned = slice_rotate_right part 1 in
     let same : clusters turned ≡ clusters part =
@@ -221,16 +221,16 @@ turned_same m a b ms order all =
     ∙ sym (map-append cluster (take a ms) (part ++ drop b ms))
     ∙ ap clusters (three_parts a b ms order)
 
-unless : (b : Bool) (gs new : List hb_glyph_info_t) → (b ≡ false → Keeps gs new) → Keeps gs (cond b gs new)
+unless : (b : Bool) (gs new : Glyphs) → (b ≡ false → Keeps gs new) → Keeps gs (cond b gs new)
 unless true gs new h = nothing gs
 unless false gs new h = h refl
 
-brought_keeps : (level : BufferClusterLevel) (many i : ℕ) (gs : List hb_glyph_info_t) → merges level ≡ true → 0 < many
+brought_keeps : (level : BufferClusterLevel) (many i : ℕ) (gs : Glyphs) → merges level ≡ true → 0 < many
     → many ≤ i → i < length gs → Keeps gs (brought_before level many i gs)
 brought_keeps level many i gs m some few within =
     let a = i - many in
     let b = i + 1 in
-    let turn = λ (xs : List hb_glyph_info_t). slice_rotate_right xs 1 in
+    let turn = λ (xs : Glyphs). slice_rotate_right xs 1 in
     let ms = merge level a b gs in
     let one = merge_keeps level a b gs m (omega arith) in
     let last : Keeps ms (with_stretch a b turn ms) = record {
@@ -244,7 +244,7 @@ brought_keeps level many i gs m some few within =
     subst (λ xs. Keeps gs (with_stretch a b turn xs)) (sym (as_merge level a b gs m))
     (then gs ms (with_stretch a b turn ms) one last)
 
-sorted_keeps : (level : BufferClusterLevel) (s i : ℕ) (gs : List hb_glyph_info_t) → merges level ≡ true → s ≤ i
+sorted_keeps : (level : BufferClusterLevel) (s i : ℕ) (gs : Glyphs) → merges level ≡ true → s ≤ i
     → i < length gs → Keeps gs (sorted_in level s i gs)
 sorted_keeps level s i gs m order within =
     let many = passed_marks s i gs in
@@ -252,7 +252,7 @@ sorted_keeps level s i gs m order within =
     let some : 0 < many = grind (arith, nat_tests) in
     brought_keeps level many i gs m some (omega (arith, passed_few s i gs (omega arith))) within)
 
-run_keeps : (level : BufferClusterLevel) (s e : ℕ) (gs : List hb_glyph_info_t) → merges level ≡ true → e ≤ length gs
+run_keeps : (level : BufferClusterLevel) (s e : ℕ) (gs : Glyphs) → merges level ≡ true → e ≤ length gs
     → Keeps gs (run_sorted level s e gs)
 run_keeps level s e gs m within =
     folded e (λ i. (s ≤ i) × (i < e)) (λ gs i. sorted_in level s i gs)
@@ -260,7 +260,7 @@ run_keeps level s e gs m within =
     (all-range (λ i. (s ≤ i) × (i < e)) (s + 1) (e - (s + 1)) (λ i low high. (omega arith, omega arith)))
 
 ordered_keeps : (context : Context) → OrdersAlone context → OrdersMonotone context
-    → (level : BufferClusterLevel) (gs : List hb_glyph_info_t) (run : ℕ × ℕ) → merges level ≡ true → run.1 ≤ length gs
+    → (level : BufferClusterLevel) (gs : Glyphs) (run : ℕ × ℕ) → merges level ≡ true → run.1 ≤ length gs
     → Keeps gs (run_ordered context level run gs)
 ordered_keeps context o om level gs run m within =
     let s = run.0 in
@@ -278,7 +278,7 @@ ordered_keeps context o om level gs run m within =
     }))
 
 marks_keep : (context : Context) → OrdersAlone context → OrdersMonotone context
-    → (level : BufferClusterLevel) (gs : List hb_glyph_info_t) → merges level ≡ true
+    → (level : BufferClusterLevel) (gs : Glyphs) → merges level ≡ true
     → Keeps gs (marks_ordered context level gs)
 marks_keep context o om level gs m =
     folded (length gs) (λ run. run.1 ≤ length gs) (λ gs run. run_ordered context level run gs)
@@ -288,19 +288,19 @@ marks_keep context o om level gs m =
 
 -- ---- grapheme joiners
 
-passed_cluster : (before behind : ℕ) (g : hb_glyph_info_t) → (passes_over before behind g).cluster ≡ g.cluster
+passed_cluster : (before behind : ℕ) (g : Glyph) → (passes_over before behind g).cluster ≡ g.cluster
 passed_cluster before behind g =
     elim (eqb g.glyph_id 0x034F && (eqb behind 0 || nat_le before behind)) as (λ b.
     (cond b (unseen g) g).cluster ≡ g.cluster) [ true ↦ refl | false ↦ refl ]
 
-clusters-shown_behind : (before : ℕ) (gs : List hb_glyph_info_t) → clusters (shown_behind before gs) ≡ clusters gs
+clusters-shown_behind : (before : ℕ) (gs : Glyphs) → clusters (shown_behind before gs) ≡ clusters gs
 clusters-shown_behind before [] = refl
 clusters-shown_behind before (g ∷ []) = refl
 clusters-shown_behind before (g ∷ (h ∷ gs)) =
     ap (λ k. k ∷ clusters (shown_behind (class_of g) (h ∷ gs))) (passed_cluster before (class_of h) g)
     ∙ ap (λ ks. g.cluster ∷ ks) (clusters-shown_behind (class_of g) (h ∷ gs))
 
-clusters-shown : (gs : List hb_glyph_info_t) → clusters (joiners_shown gs) ≡ clusters gs
+clusters-shown : (gs : Glyphs) → clusters (joiners_shown gs) ≡ clusters gs
 clusters-shown [] = refl
 clusters-shown (g ∷ gs) = ap (λ ks. g.cluster ∷ ks) (clusters-shown_behind (class_of g) gs)
 
@@ -309,7 +309,7 @@ clusters-shown (g ∷ gs) = ap (λ ks. g.cluster ∷ ks) (clusters-shown_behind 
 abbrev Any : ℕ → Type 0
 Any k = Unit {0}
 
-any_each : (gs : List hb_glyph_info_t) → Each Any gs
+any_each : (gs : Glyphs) → Each Any gs
 any_each [] = tt
 any_each (g ∷ gs) = (tt, any_each gs)
 
@@ -325,7 +325,7 @@ taken_mono context level drawn w m order within rises =
     (merge_keeps level w.starter (w.place + 1) w.glyphs m (omega arith)).mono rises in
     let two : IsMonotone (clusters left) = mono_by ms left (λ R self p. pairs-without R w.place ms p) one in
     let same : old.cluster ≡ (get_or left w.starter new).cluster =
-    ap (λ (g : hb_glyph_info_t). g.cluster)
+    ap (λ (g : Glyph). g.cluster)
     (get_or_default left w.starter default_glyph new (omega (arith, length-left level w within))) in
     subst IsMonotone (sym (clusters-set w.starter new left same)) two
 
@@ -343,7 +343,7 @@ walk_mono context level (suc n) w m i rises =
     (walking_by Any context level n w (composition context w) i)
     (next_mono context level w (composition context w) m i.starter (omega (arith, i.left)) rises)
 
-recomposed_mono : (context : Context) (level : BufferClusterLevel) (gs : List hb_glyph_info_t) → merges level ≡ true
+recomposed_mono : (context : Context) (level : BufferClusterLevel) (gs : Glyphs) → merges level ≡ true
     → IsMonotone (clusters gs) → IsMonotone (clusters (recomposed context level gs))
 recomposed_mono context level [] m rises = rises
 recomposed_mono context level (g ∷ gs) m rises =
@@ -351,14 +351,14 @@ recomposed_mono context level (g ∷ gs) m rises =
     subst (λ n. IsMonotone (clusters (walk_over context level n (walk_start (g ∷ gs))).glyphs)) (sym all)
     (walk_mono context level (length gs) (walk_start (g ∷ gs)) m (walking_start Any g gs (any_each (g ∷ gs))) rises)
 
-composed_mono : (context : Context) (level : BufferClusterLevel) (composing : Bool) (gs : List hb_glyph_info_t)
+composed_mono : (context : Context) (level : BufferClusterLevel) (composing : Bool) (gs : Glyphs)
     → merges level ≡ true → IsMonotone (clusters gs)
     → IsMonotone (clusters (cond composing (recomposed context level gs) gs))
 composed_mono context level true gs m rises = recomposed_mono context level gs m rises
 composed_mono context level false gs m rises = rises
 
 later_mono : (context : Context) → OrdersAlone context → OrdersMonotone context
-    → (level : BufferClusterLevel) (runs : Bool) (gs : List hb_glyph_info_t) → merges level ≡ true
+    → (level : BufferClusterLevel) (runs : Bool) (gs : Glyphs) → merges level ≡ true
     → IsMonotone (clusters gs) → IsMonotone (clusters (later_rounds context runs level gs))
 later_mono context o om level true gs m rises =
     let ordered = marks_ordered context level gs in

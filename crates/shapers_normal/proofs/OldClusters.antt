@@ -1,8 +1,8 @@
 -- Each cluster is one that the text had.
-use Rattle.std.proofs.Common.{ℕ, Bool, true, false, cond, List}
+use Rattle.std.proofs.Common.{ℕ, Bool, true, false, cond}
 use Rattle.std.specs.List.{Contains}
 use Rattle.std.proofs.lemmas.List.Elements.{All-contains_itself}
-use Rattle.shapers_buffer.specs.declared.buffer.glyph.hb_glyph_info_t.{hb_glyph_info_t}
+use Rattle.shapers_buffer.specs.Glyphs.{Glyphs}
 use Rattle.shapers_buffer.specs.declared.buffer.level.BufferClusterLevel.{BufferClusterLevel}
 use Rattle.shapers_buffer.specs.Glyph.{clusters}
 use Rattle.shapers_clusters.proofs.Halves.{Each}
@@ -19,12 +19,12 @@ use Rattle.shapers_normal.proofs.SortingHalves.{each-ordered}
 use Rattle.shapers_normal.proofs.VariantHalves.{each-first_round}
 
 by_mode : (P : ℕ → Type 0) (context : Context) (level : BufferClusterLevel) (composing : Bool)
-    (gs : List hb_glyph_info_t) → Each P gs → Each P (cond composing (recomposed context level gs) gs)
+    (gs : Glyphs) → Each P gs → Each P (cond composing (recomposed context level gs) gs)
 by_mode P context level true gs p = each-recomposed P context level gs p
 by_mode P context level false gs p = p
 
 each-later : (P : ℕ → Type 0) (context : Context) → OrdersAlone context
-    → (level : BufferClusterLevel) (runs : Bool) (gs : List hb_glyph_info_t) → Each P gs
+    → (level : BufferClusterLevel) (runs : Bool) (gs : Glyphs) → Each P gs
     → Each P (later_rounds context runs level gs)
 each-later P context o level true gs p =
     by_mode P context level (composes context.mode) (joiners_shown (marks_ordered context level gs))

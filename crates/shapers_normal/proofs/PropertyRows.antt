@@ -1,12 +1,12 @@
 -- The properties of characters.
 use Rattle.std.specs.Prelude.{◌≡◌, ℕ, [], ◌∷◌, List, map, refl}
 use Rattle.shapers_base.specs.declared.plan.record.NormalizationMode.TheVariants.{AUTO}
-use Rattle.shapers_buffer.specs.declared.buffer.glyph.hb_glyph_info_t.{hb_glyph_info_t}
+use Rattle.shapers_buffer.specs.Glyphs.{Glyph}
 use Rattle.shapers_normal.specs.Properties.{as_character, character_properties, class_byte}
 use Rattle.shapers_normal.proofs.RowContext.{with_font}
 
 -- a glyph with all fields set keeps the fields that aren't its character's
-abbrev busy : hb_glyph_info_t
+abbrev busy : Glyph
 busy = record {
   glyph_id = 3;
   mask = 7;

@@ -1,11 +1,11 @@
 -- The third round of a text that is cut before a glyph that is no mark.
-use Rattle.std.proofs.Common.{◌≡◌, ◌+◌, ◌-◌, ◌<◌, ◌&&◌, ◌||◌, ℕ, suc, zero, Bool, true, false, cond, eqb, nat_lt, List, [], ◌∷◌, ◌++◌, length, take, drop, get_or, set, Option, None, Some, refl, sym, ap, ◌∙◌, subst, arith, append_assoc, length-drop}
+use Rattle.std.proofs.Common.{◌≡◌, ◌+◌, ◌-◌, ◌<◌, ◌&&◌, ◌||◌, ℕ, suc, zero, Bool, true, false, cond, eqb, nat_lt, [], ◌∷◌, ◌++◌, length, take, drop, get_or, set, Option, None, Some, refl, sym, ap, ◌∙◌, subst, arith, append_assoc, length-drop}
 use Rattle.std.proofs.Math.Seq.{drop-append-add, take-append-add}
 use Rattle.std.proofs.lemmas.Bool.Decides.{nat_tests}
 use Rattle.std.proofs.lemmas.List.{append-nil, drop-append-le, get_or-append-add, length-append, length-set, length-take-le, set-append_left, set-append_right, take-append-le}
 use Rattle.std.specs.Option.{option_map_or}
 use Rattle.shapers_base.specs.declared.font.GlyphId.{GlyphId}
-use Rattle.shapers_buffer.specs.declared.buffer.glyph.hb_glyph_info_t.{hb_glyph_info_t}
+use Rattle.shapers_buffer.specs.Glyphs.{Glyph, Glyphs}
 use Rattle.shapers_buffer.specs.declared.buffer.level.BufferClusterLevel.{BufferClusterLevel}
 use Rattle.shapers_buffer.specs.Clusters.{merge}
 use Rattle.shapers_buffer.specs.Glyph.{default_glyph}
@@ -20,7 +20,7 @@ use Rattle.shapers_normal.proofs.CharacterProperties.{class_of_other}
 use Rattle.shapers_normal.proofs.SortingHalves.{glyph_in_part, twice_not}
 
 -- the walk over a part of a text
-abbrev in_text : List hb_glyph_info_t → List hb_glyph_info_t → StarterWalk → StarterWalk
+abbrev in_text : Glyphs → Glyphs → StarterWalk → StarterWalk
 in_text before behind w =
     record {
       starter = length before + w.starter;
@@ -35,13 +35,13 @@ pub record Walking (P : ℕ → Type 0) (n : ℕ) (w : StarterWalk) : Type 0 whe
   pub left : w.place + n ≡ length w.glyphs
   pub clusters : Each P w.glyphs
 
-each-at : (P : ℕ → Type 0) (i : ℕ) (gs : List hb_glyph_info_t) → i < length gs → Each P gs
+each-at : (P : ℕ → Type 0) (i : ℕ) (gs : Glyphs) → i < length gs → Each P gs
     → P (get_or gs i default_glyph).cluster
 each-at P i [] within p = absurd (omega arith)
 each-at P zero (g ∷ gs) within p = p.0
 each-at P (suc i) (g ∷ gs) within p = each-at P i gs (omega arith) p.1
 
-each-set : (P : ℕ → Type 0) (i : ℕ) (g : hb_glyph_info_t) (gs : List hb_glyph_info_t) → P g.cluster → Each P gs
+each-set : (P : ℕ → Type 0) (i : ℕ) (g : Glyph) (gs : Glyphs) → P g.cluster → Each P gs
     → Each P (set gs i g)
 each-set P i g [] new p = tt
 each-set P zero g (h ∷ gs) new p = (new, p.1)
@@ -50,10 +50,10 @@ each-set P (suc i) g (h ∷ gs) new p = (p.0, each-set P i g gs new p.1)
 -- ---- one glyph that is taken in
 
 -- what is left of the glyphs, merged
-abbrev pub left_over : BufferClusterLevel → StarterWalk → List hb_glyph_info_t
+abbrev pub left_over : BufferClusterLevel → StarterWalk → Glyphs
 left_over level w = without_place w.place (merge level w.starter (w.place + 1) w.glyphs)
 
-length-without : (i : ℕ) (gs : List hb_glyph_info_t) → i < length gs → length (without_place i gs) + 1 ≡ length gs
+length-without : (i : ℕ) (gs : Glyphs) → i < length gs → length (without_place i gs) + 1 ≡ length gs
 length-without i gs within =
     omega (
       arith,
@@ -77,7 +77,7 @@ each-left P level w within p =
     let q : Each P ms = each-merge P level w.starter (w.place + 1) w.glyphs (omega arith) p in
     each-append P (take w.place ms) (drop (w.place + 1) ms) (each-take P w.place ms q) (each-drop P (w.place + 1) ms q)
 
-without_in_text : (i : ℕ) (before gs behind : List hb_glyph_info_t) → i < length gs
+without_in_text : (i : ℕ) (before gs behind : Glyphs) → i < length gs
     → without_place (length before + i) (before ++ (gs ++ behind)) ≡ before ++ (without_place i gs ++ behind)
 without_in_text i before gs behind within =
     let whole = before ++ (gs ++ behind) in
@@ -90,7 +90,7 @@ without_in_text i before gs behind within =
     ∙ append_assoc before (take i gs) (drop (i + 1) gs ++ behind)
     ∙ ap (λ xs. before ++ xs) (sym (append_assoc (take i gs) (drop (i + 1) gs) behind))
 
-left_in_text : (P : ℕ → Type 0) (level : BufferClusterLevel) (before behind : List hb_glyph_info_t) (w : StarterWalk)
+left_in_text : (P : ℕ → Type 0) (level : BufferClusterLevel) (before behind : Glyphs) (w : StarterWalk)
     → w.place < length w.glyphs → Each P w.glyphs → Each (Not P) before → Each (Not P) behind
     → left_over level (in_text before behind w) ≡ before ++ (left_over level w ++ behind)
 left_in_text P level before behind w within p x y =
@@ -103,7 +103,7 @@ left_in_text P level before behind w within p x y =
     p x y)
     ∙ without_in_text w.place before (merge level w.starter (w.place + 1) w.glyphs) behind (omega arith)
 
-pub set_in_text : (i : ℕ) (g : hb_glyph_info_t) (before gs behind : List hb_glyph_info_t) → i < length gs
+pub set_in_text : (i : ℕ) (g : Glyph) (before gs behind : Glyphs) → i < length gs
     → set (before ++ (gs ++ behind)) (length before + i) g ≡ before ++ (set gs i g ++ behind)
 set_in_text i g before gs behind within =
     let back : length before + i - length before ≡ i = omega arith in
@@ -112,16 +112,16 @@ set_in_text i g before gs behind within =
     ∙ ap (λ xs. before ++ xs) (set-append_left gs behind i g within)
 
 taken_in_text : (P : ℕ → Type 0) (context : Context) (level : BufferClusterLevel) (drawn : ℕ × GlyphId)
-    (before behind : List hb_glyph_info_t) (w : StarterWalk) → w.starter < w.place → w.place < length w.glyphs
+    (before behind : Glyphs) (w : StarterWalk) → w.starter < w.place → w.place < length w.glyphs
     → Each P w.glyphs → Each (Not P) before → Each (Not P) behind
     → taken_in context level drawn (in_text before behind w) ≡ in_text before behind (taken_in context level drawn w)
 taken_in_text P context level drawn before behind w order within p x y =
     let a = length before in
     let st = w.starter in
     let left = left_over level w in
-    let new = λ (g : hb_glyph_info_t). as_character context drawn.0 drawn.1.0 g in
+    let new = λ (g : Glyph). as_character context drawn.0 drawn.1.0 g in
     let inside : st < length left = omega (arith, length-left level w within) in
-    let put = λ (xs : List hb_glyph_info_t). let v : StarterWalk =
+    let put = λ (xs : Glyphs). let v : StarterWalk =
     record { starter = a + st; place = a + w.place; glyphs = xs } in v in
     ap put
     (ap (λ xs. set xs (a + st) (new (get_or xs (a + st) default_glyph)))
@@ -131,17 +131,17 @@ taken_in_text P context level drawn before behind w order within p x y =
 
 -- ---- one glyph
 
-glyph_in_text : (before behind : List hb_glyph_info_t) (w : StarterWalk) (i : ℕ) → i < length w.glyphs
+glyph_in_text : (before behind : Glyphs) (w : StarterWalk) (i : ℕ) → i < length w.glyphs
     → glyph_at (before ++ (w.glyphs ++ behind)) (length before + i) ≡ glyph_at w.glyphs i
 glyph_in_text before behind w i within = glyph_in_part before w.glyphs behind i within
 
 -- what a starter and a mark compose to, by the glyphs that decide it
-abbrev composed_by : Context → hb_glyph_info_t → hb_glyph_info_t → hb_glyph_info_t → Bool → Option (ℕ × GlyphId)
+abbrev composed_by : Context → Glyph → Glyph → Glyph → Bool → Option (ℕ × GlyphId)
 composed_by context starter last mark next =
     cond (is_mark_glyph mark && (next || nat_lt (class_of last) (class_of mark)))
     (if_drawn context (context.composed starter.glyph_id mark.glyph_id)) None
 
-composition_in_text : (context : Context) (before behind : List hb_glyph_info_t) (w : StarterWalk) → w.starter < w.place
+composition_in_text : (context : Context) (before behind : Glyphs) (w : StarterWalk) → w.starter < w.place
     → w.place < length w.glyphs → composition context (in_text before behind w) ≡ composition context w
 composition_in_text context before behind w order within =
     let a = length before in
@@ -161,7 +161,7 @@ composition_in_text context before behind w order within =
     ∙ ap (λ g. composed_by context (glyph_at whole (a + st)) (glyph_at w.glyphs (pl - 1)) g (eqb (st + 1) pl)) here
     ∙ ap (λ g. composed_by context g (glyph_at w.glyphs (pl - 1)) (glyph_at w.glyphs pl) (eqb (st + 1) pl)) first
 
-left_as_is_in_text : (before behind : List hb_glyph_info_t) (w : StarterWalk) → w.place < length w.glyphs
+left_as_is_in_text : (before behind : Glyphs) (w : StarterWalk) → w.place < length w.glyphs
     → left_as_is (in_text before behind w) ≡ in_text before behind (left_as_is w)
 left_as_is_in_text before behind w within =
     let a = length before in
@@ -175,7 +175,7 @@ left_as_is_in_text before behind w within =
     (elim (eqb (class_of (glyph_at w.glyphs w.place)) 0) as (λ b. cond b (a + w.place) (a + w.starter)
     ≡ a + cond b w.place w.starter) [ true ↦ refl | false ↦ refl ])
 
-next_by : (P : ℕ → Type 0) (context : Context) (level : BufferClusterLevel) (before behind : List hb_glyph_info_t)
+next_by : (P : ℕ → Type 0) (context : Context) (level : BufferClusterLevel) (before behind : Glyphs)
     (w : StarterWalk) (o : Option (ℕ × GlyphId)) → w.starter < w.place → w.place < length w.glyphs → Each P w.glyphs
     → Each (Not P) before → Each (Not P) behind →
     option_map_or (λ drawn. taken_in context level drawn (in_text before behind w)) o
@@ -185,7 +185,7 @@ next_by P context level before behind w None order within p x y = left_as_is_in_
 next_by P context level before behind w (Some drawn) order within p x y =
     taken_in_text P context level drawn before behind w order within p x y
 
-next_in_text : (P : ℕ → Type 0) (context : Context) (level : BufferClusterLevel) (before behind : List hb_glyph_info_t)
+next_in_text : (P : ℕ → Type 0) (context : Context) (level : BufferClusterLevel) (before behind : Glyphs)
     (w : StarterWalk) → w.starter < w.place → w.place < length w.glyphs → Each P w.glyphs → Each (Not P) before
     → Each (Not P) behind → next_glyph context level (in_text before behind w)
     ≡ in_text before behind (next_glyph context level w)
@@ -230,7 +230,7 @@ walking_end P context level (suc n) w i =
     walking_end P context level n (next_glyph context level w)
     (walking_by P context level n w (composition context w) i)
 
-walk_in_text : (P : ℕ → Type 0) (context : Context) (level : BufferClusterLevel) (before behind : List hb_glyph_info_t)
+walk_in_text : (P : ℕ → Type 0) (context : Context) (level : BufferClusterLevel) (before behind : Glyphs)
     (n : ℕ) (w : StarterWalk) → Walking P n w → Each (Not P) before → Each (Not P) behind
     → walk_over context level n (in_text before behind w) ≡ in_text before behind (walk_over context level n w)
 walk_in_text P context level before behind zero w i x y = refl
@@ -247,16 +247,16 @@ walk_on context level (suc m) n w =
     let one : suc m + n ≡ suc (m + n) = omega arith in
     ap (λ k. walk_over context level k w) one ∙ walk_on context level m n (next_glyph context level w)
 
-abbrev pub walk_start : List hb_glyph_info_t → StarterWalk
+abbrev pub walk_start : Glyphs → StarterWalk
 walk_start gs = record { starter = 0; place = 1; glyphs = gs }
 
-pub walking_start : (P : ℕ → Type 0) (g : hb_glyph_info_t) (gs : List hb_glyph_info_t) → Each P (g ∷ gs)
+pub walking_start : (P : ℕ → Type 0) (g : Glyph) (gs : Glyphs) → Each P (g ∷ gs)
     → Walking P (length gs) (walk_start (g ∷ gs))
 walking_start P g gs p = record { starter = omega arith; left = omega arith; clusters = p }
 
 -- a letter is the next starter
-letter_next : (context : Context) (level : BufferClusterLevel) (s : ℕ) (done : List hb_glyph_info_t)
-    (g : hb_glyph_info_t) (behind : List hb_glyph_info_t) → is_mark_glyph g ≡ false →
+letter_next : (context : Context) (level : BufferClusterLevel) (s : ℕ) (done : Glyphs)
+    (g : Glyph) (behind : Glyphs) → is_mark_glyph g ≡ false →
     next_glyph context level
     (let w : StarterWalk = record { starter = s; place = length done; glyphs = done ++ g ∷ behind } in w)
     ≡ in_text done [] (walk_start (g ∷ behind))
@@ -269,7 +269,7 @@ letter_next context level s done g behind letter =
     let first = glyph_at w.glyphs s in
     let last = glyph_at w.glyphs (length done - 1) in
     let next = eqb (s + 1) (length done) in
-    let put = λ (a : ℕ) (xs : List hb_glyph_info_t). let v : StarterWalk =
+    let put = λ (a : ℕ) (xs : Glyphs). let v : StarterWalk =
     record { starter = a; place = length done + 1; glyphs = done ++ xs } in v in
     ap (λ o. option_map_or (λ drawn. taken_in context level drawn w) o (left_as_is w))
     (ap (λ h. composed_by context first last h next) here
@@ -281,8 +281,8 @@ letter_next context level s done g behind letter =
     ∙ ap (put (length done + 0)) (sym (append-nil (g ∷ behind)))
 
 -- a text cut before a glyph that is no mark: its halves recomposed are the whole recomposed
-pub recomposed_halves : (P : ℕ → Type 0) (context : Context) (level : BufferClusterLevel) (front : List hb_glyph_info_t)
-    (g : hb_glyph_info_t) (behind : List hb_glyph_info_t) → Each P front → Each (Not P) (g ∷ behind)
+pub recomposed_halves : (P : ℕ → Type 0) (context : Context) (level : BufferClusterLevel) (front : Glyphs)
+    (g : Glyph) (behind : Glyphs) → Each P front → Each (Not P) (g ∷ behind)
     → is_mark_glyph g ≡ false → recomposed context level (front ++ g ∷ behind) ≡ recomposed context level front
     ++ recomposed context level (g ∷ behind)
 recomposed_halves P context level [] g behind p n letter = refl
@@ -317,7 +317,7 @@ recomposed_halves P context level (f ∷ front) g behind p n letter =
     (sym rest)
 
 -- what holds of each cluster still does
-pub each-recomposed : (P : ℕ → Type 0) (context : Context) (level : BufferClusterLevel) (gs : List hb_glyph_info_t)
+pub each-recomposed : (P : ℕ → Type 0) (context : Context) (level : BufferClusterLevel) (gs : Glyphs)
     → Each P gs → Each P (recomposed context level gs)
 each-recomposed P context level [] p = tt
 each-recomposed P context level (g ∷ gs) p =

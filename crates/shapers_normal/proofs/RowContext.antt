@@ -6,7 +6,7 @@ use Rattle.shapers_base.specs.declared.font.GlyphId.{GlyphId}
 use Rattle.shapers_base.specs.declared.plan.record.NormalizationMode.{NormalizationMode}
 use Rattle.shapers_buffer.specs.declared.buffer.category.hb_unicode_general_category_t.{hb_unicode_general_category_t}
 use Rattle.shapers_buffer.specs.declared.buffer.category.hb_unicode_general_category_t.TheVariants.{Cf, Ll, Mn, Zs}
-use Rattle.shapers_buffer.specs.declared.buffer.glyph.hb_glyph_info_t.{hb_glyph_info_t}
+use Rattle.shapers_buffer.specs.Glyphs.{Glyph, Glyphs}
 use Rattle.shapers_buffer.specs.Glyph.{default_glyph}
 use Rattle.shapers_normal.specs.Context.{Context}
 use Rattle.shapers_normal.specs.Properties.{as_character}
@@ -55,7 +55,7 @@ with_font mode font = record {
 }
 
 -- a text of these characters, each in a cluster of its own
-abbrev pub text : Context → List ℕ → List hb_glyph_info_t
+abbrev pub text : Context → List ℕ → Glyphs
 text context cs =
-    map (λ p. let g : hb_glyph_info_t = record (as_character context p.1 0 default_glyph) { cluster = p.0 } in g)
+    map (λ p. let g : Glyph = record (as_character context p.1 0 default_glyph) { cluster = p.0 } in g)
     (enumerate_from 0 cs)

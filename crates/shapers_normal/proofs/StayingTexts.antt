@@ -5,7 +5,7 @@ use Rattle.std.specs.Prelude.{is_some}
 use Rattle.std.proofs.lemmas.Bool.{and_parts, false≢true, or_parts}
 use Rattle.std.proofs.lemmas.Bool.Decides.{nat_tests}
 use Rattle.std.proofs.lemmas.List.{length-map, map-append}
-use Rattle.shapers_buffer.specs.declared.buffer.glyph.hb_glyph_info_t.{hb_glyph_info_t}
+use Rattle.shapers_buffer.specs.Glyphs.{Glyph, Glyphs}
 use Rattle.shapers_buffer.specs.declared.buffer.level.BufferClusterLevel.{BufferClusterLevel}
 use Rattle.shapers_buffer.specs.Glyph.{default_glyph}
 use Rattle.shapers_normal.specs.Context.{Context}
@@ -16,30 +16,30 @@ use Rattle.shapers_normal.specs.declared.ot_shape_normalize.decomposing.Way.{Way
 use Rattle.shapers_normal.proofs.Monotone.{together_cut}
 use Rattle.shapers_normal.proofs.Pairs.{together}
 
-abbrev NoSelector : hb_glyph_info_t → Type 0
+abbrev NoSelector : Glyph → Type 0
 NoSelector g = is_selector_glyph g ≡ false
 
-no_selectors : (gs : List hb_glyph_info_t) → list_any is_selector_glyph gs ≡ false → AllByRecursion NoSelector gs
+no_selectors : (gs : Glyphs) → list_any is_selector_glyph gs ≡ false → AllByRecursion NoSelector gs
 no_selectors [] e = tt
 no_selectors (g ∷ gs) e = let parts =
     or_parts (is_selector_glyph g) (list_any is_selector_glyph gs) e in (parts.0, no_selectors gs parts.1)
 
-none_any : (gs : List hb_glyph_info_t) → AllByRecursion NoSelector gs → list_any is_selector_glyph gs ≡ false
+none_any : (gs : Glyphs) → AllByRecursion NoSelector gs → list_any is_selector_glyph gs ≡ false
 none_any [] all = refl
 none_any (g ∷ gs) all = ap (λ b. b || list_any is_selector_glyph gs) all.0 ∙ none_any gs all.1
 
-not_kept : (cluster : List hb_glyph_info_t) → AllByRecursion NoSelector cluster → is_kept_cluster cluster ≡ false
+not_kept : (cluster : Glyphs) → AllByRecursion NoSelector cluster → is_kept_cluster cluster ≡ false
 not_kept [] all = refl
 not_kept (g ∷ []) all = refl
 not_kept (g ∷ (h ∷ cluster)) all = none_any (g ∷ (h ∷ cluster)) all
 
-none_at : (gs : List hb_glyph_info_t) (k : ℕ) → AllByRecursion NoSelector gs
+none_at : (gs : Glyphs) (k : ℕ) → AllByRecursion NoSelector gs
     → is_selector_glyph (get_or gs k default_glyph) ≡ false
 none_at [] k all = refl
 none_at (g ∷ gs) zero all = all.0
 none_at (g ∷ gs) (suc k) all = none_at gs k all.1
 
-not_joined : (context : Context) (level : BufferClusterLevel) (gs : List hb_glyph_info_t) (i : ℕ)
+not_joined : (context : Context) (level : BufferClusterLevel) (gs : Glyphs) (i : ℕ)
     → AllByRecursion NoSelector gs → variant_joined context level gs i ≡ gs
 not_joined context level gs i all =
     let s = get_or gs (i + 1) default_glyph in
@@ -50,7 +50,7 @@ not_joined context level gs i all =
     && is_some (context.variant (get_or gs i default_glyph).glyph_id s.glyph_id)) (stay_together level i (i + 2) gs)
     gs ≡ gs) [ true ↦ refl | false ↦ refl ]
 
-none_joined : (context : Context) (level : BufferClusterLevel) (gs : List hb_glyph_info_t) (places : List ℕ)
+none_joined : (context : Context) (level : BufferClusterLevel) (gs : Glyphs) (places : List ℕ)
     → AllByRecursion NoSelector gs → fold (λ gs i. variant_joined context level gs i) gs places ≡ gs
 none_joined context level gs [] all = refl
 none_joined context level gs (i ∷ places) all =
@@ -59,14 +59,14 @@ none_joined context level gs (i ∷ places) all =
 
 -- ---- clusters
 
-written_own : (context : Context) (g : hb_glyph_info_t) (cs : List ℕ) → eqb (length cs) 0 ≡ true
+written_own : (context : Context) (g : Glyph) (cs : List ℕ) → eqb (length cs) 0 ≡ true
     → written_as context g cs ≡ with_own_glyph context g ∷ []
 written_own context g [] e = refl
 written_own context g (c ∷ cs) e =
     let some : eqb (suc (length cs)) 0 ≡ false = grind (arith, nat_tests) in
     absurd (false≢true (sym some ∙ e))
 
-all_own : (context : Context) (way : Way) (gs : List hb_glyph_info_t)
+all_own : (context : Context) (way : Way) (gs : Glyphs)
     → list_all (λ g. eqb (length (image context way g.glyph_id)) 0) gs ≡ true → flat_map (becomes context way) gs
     ≡ map (with_own_glyph context) gs
 all_own context way [] e = refl
@@ -76,19 +76,19 @@ all_own context way (g ∷ gs) e =
     ap (λ xs. xs ++ flat_map (becomes context way) gs) (written_own context g (image context way g.glyph_id) parts.0)
     ∙ ap (λ xs. with_own_glyph context g ∷ xs) (all_own context way gs parts.1)
 
-cluster_own : (context : Context) (cluster : List hb_glyph_info_t) → AllByRecursion NoSelector cluster
+cluster_own : (context : Context) (cluster : Glyphs) → AllByRecursion NoSelector cluster
     → cluster_stays context cluster ≡ true → cluster_becomes context cluster ≡ map (with_own_glyph context) cluster
 cluster_own context cluster all e =
     ap (λ b. cond b (forms_written context cluster) (flat_map (becomes context (apart_way context cluster)) cluster))
     (not_kept cluster all)
     ∙ all_own context (apart_way context cluster) cluster e
 
-first_all : (Q : hb_glyph_info_t → Type 0) (gs hs : List hb_glyph_info_t) → AllByRecursion Q (gs ++ hs)
+first_all : (Q : Glyph → Type 0) (gs hs : Glyphs) → AllByRecursion Q (gs ++ hs)
     → AllByRecursion Q gs × AllByRecursion Q hs
 first_all Q [] hs all = (tt, all)
 first_all Q (g ∷ gs) hs all = let rest = first_all Q gs hs all.1 in ((all.0, rest.0), rest.1)
 
-groups_own : (context : Context) (groups : List (List hb_glyph_info_t)) → AllByRecursion NoSelector (together groups)
+groups_own : (context : Context) (groups : List Glyphs) → AllByRecursion NoSelector (together groups)
     → list_all (cluster_stays context) groups ≡ true → flat_map (cluster_becomes context) groups
     ≡ map (with_own_glyph context) (together groups)
 groups_own context [] all e = refl
@@ -103,7 +103,7 @@ not_true : (b : Bool) → not b ≡ true → b ≡ false
 not_true true e = absurd (false≢true e)
 not_true false e = refl
 
-round_own : (context : Context) (level : BufferClusterLevel) (gs : List hb_glyph_info_t)
+round_own : (context : Context) (level : BufferClusterLevel) (gs : Glyphs)
     → stays_together context gs ≡ true → first_round context level gs ≡ map (with_own_glyph context) gs
 round_own context level gs stays =
     let parts = and_parts (not (list_any is_selector_glyph gs)) (list_all (cluster_stays context) (mark_clusters gs))
@@ -115,11 +115,11 @@ round_own context level gs stays =
     ∙ ap (map (with_own_glyph context)) (together_cut is_mark_glyph gs)
 
 -- the first round, as the code writes it
-pub staying_round : (context : Context) (level : BufferClusterLevel) (gs : List hb_glyph_info_t)
+pub staying_round : (context : Context) (level : BufferClusterLevel) (gs : Glyphs)
     → stays_together context gs ≡ true → map (with_own_glyph context) gs ≡ first_round context level gs
 staying_round context level gs stays = sym (round_own context level gs stays)
 
-pub staying_length : (context : Context) (level : BufferClusterLevel) (gs : List hb_glyph_info_t)
+pub staying_length : (context : Context) (level : BufferClusterLevel) (gs : Glyphs)
     → stays_together context gs ≡ true → length (first_round context level gs) ≡ length gs
 staying_length context level gs stays = ap length (round_own context level gs stays)
     ∙ length-map gs (with_own_glyph context)

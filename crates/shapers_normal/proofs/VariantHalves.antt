@@ -5,7 +5,7 @@ use Rattle.std.specs.Prelude.{is_some}
 use Rattle.std.proofs.lemmas.Bool.Decides.{nat_tests}
 use Rattle.std.proofs.lemmas.List.{get_or-append-add, get_or_append_left, length-append}
 use Rattle.std.proofs.lemmas.List.Sums.{fold-append}
-use Rattle.shapers_buffer.specs.declared.buffer.glyph.hb_glyph_info_t.{hb_glyph_info_t}
+use Rattle.shapers_buffer.specs.Glyphs.{Glyph, Glyphs}
 use Rattle.shapers_buffer.specs.declared.buffer.level.BufferClusterLevel.{BufferClusterLevel}
 use Rattle.shapers_buffer.specs.Glyph.{default_glyph, order_view, plain}
 use Rattle.shapers_buffer.proofs.MappedLists.{all-range}
@@ -29,12 +29,12 @@ grows_ninefold context level gs =
 -- ---- one place
 
 -- whether a glyph stands for two, by these and whether others stand before them
-abbrev variant_of : Context → hb_glyph_info_t → hb_glyph_info_t → Bool → Bool
+abbrev variant_of : Context → Glyph → Glyph → Bool → Bool
 variant_of context g s later =
     is_mark_glyph s && is_selector_glyph s && not (later && is_mark_glyph g && is_selector_glyph g)
     && is_some (context.variant g.glyph_id s.glyph_id)
 
-same_in_front : (context : Context) (gs behind : List hb_glyph_info_t) (i : ℕ) → i + 1 < length gs
+same_in_front : (context : Context) (gs behind : Glyphs) (i : ℕ) → i + 1 < length gs
     → has_variant_at context (gs ++ behind) i ≡ has_variant_at context gs i
 same_in_front context gs behind i within =
     let later = nat_lt 0 i in
@@ -52,7 +52,7 @@ nothing true b none = none
 nothing false b none = refl
 
 -- behind others, unless the glyph there is a selector that opens the text
-same_behind : (context : Context) (before gs : List hb_glyph_info_t) (i : ℕ) → i + 1 < length gs
+same_behind : (context : Context) (before gs : Glyphs) (i : ℕ) → i + 1 < length gs
     → (nat_lt 0 (length before + i) && is_mark_glyph (get_or gs i default_glyph))
     ≡ (nat_lt 0 i && is_mark_glyph (get_or gs i default_glyph))
     → has_variant_at context (before ++ gs) (length before + i) ≡ has_variant_at context gs i
@@ -74,11 +74,11 @@ same_behind context before gs i within same =
     ∙ sym (both (nat_lt 0 i) (is_mark_glyph g) (is_selector_glyph g) (λ b. is_mark_glyph s && is_selector_glyph s
     && not b && is_some (context.variant g.glyph_id s.glyph_id)))
 
-joined_in_front : (P : ℕ → Type 0) (context : Context) (level : BufferClusterLevel) (gs behind : List hb_glyph_info_t)
+joined_in_front : (P : ℕ → Type 0) (context : Context) (level : BufferClusterLevel) (gs behind : Glyphs)
     (i : ℕ) → i + 1 < length gs → Each P gs → Each (Not P) behind → variant_joined context level (gs ++ behind) i
     ≡ variant_joined context level gs i ++ behind
 joined_in_front P context level gs behind i within p n =
-    let start = λ (xs : List hb_glyph_info_t).
+    let start = λ (xs : Glyphs).
     let one : 0 + i ≡ i = omega arith in
     let two : 0 + (i + 2) ≡ i + 2 = omega arith in
     ap (λ a. stay_together level a (0 + (i + 2)) xs) one ∙ ap (λ b. stay_together level i b xs) two in
@@ -91,7 +91,7 @@ joined_in_front P context level gs behind i within p n =
       | false ↦ refl
     ]
 
-joined_behind : (P : ℕ → Type 0) (context : Context) (level : BufferClusterLevel) (before gs : List hb_glyph_info_t)
+joined_behind : (P : ℕ → Type 0) (context : Context) (level : BufferClusterLevel) (before gs : Glyphs)
     (i : ℕ) → i + 1 < length gs → (nat_lt 0 (length before + i) && is_mark_glyph (get_or gs i default_glyph))
     ≡ (nat_lt 0 i && is_mark_glyph (get_or gs i default_glyph)) → Each P gs → Each (Not P) before
     → variant_joined context level (before ++ gs) (length before + i) ≡ before ++ variant_joined context level gs i
@@ -109,11 +109,11 @@ joined_behind P context level before gs i within same p n =
     ]
 
 -- as many glyphs, and what holds of each cluster still does
-record Kept (P : ℕ → Type 0) (old new : List hb_glyph_info_t) : Type 0 where
+record Kept (P : ℕ → Type 0) (old new : Glyphs) : Type 0 where
   same_length : length new ≡ length old
   each : Each P old → Each P new
 
-joined_keeps : (P : ℕ → Type 0) (context : Context) (level : BufferClusterLevel) (gs : List hb_glyph_info_t) (i : ℕ)
+joined_keeps : (P : ℕ → Type 0) (context : Context) (level : BufferClusterLevel) (gs : Glyphs) (i : ℕ)
     → i + 1 < length gs → Kept P gs (variant_joined context level gs i)
 joined_keeps P context level gs i within =
     let l = local_together P level i (i + 2) (i + 2) (omega arith) (omega arith) in
@@ -124,10 +124,10 @@ joined_keeps P context level gs i within =
 
 -- ---- places of a half
 
-abbrev all_joined : Context → BufferClusterLevel → List hb_glyph_info_t → List ℕ → List hb_glyph_info_t
+abbrev all_joined : Context → BufferClusterLevel → Glyphs → List ℕ → Glyphs
 all_joined context level gs places = fold (λ gs i. variant_joined context level gs i) gs places
 
-all_keep : (P : ℕ → Type 0) (context : Context) (level : BufferClusterLevel) (n : ℕ) (gs : List hb_glyph_info_t)
+all_keep : (P : ℕ → Type 0) (context : Context) (level : BufferClusterLevel) (n : ℕ) (gs : Glyphs)
     (places : List ℕ) → n ≤ length gs → AllByRecursion (λ i. i + 1 < n) places
     → Kept P gs (all_joined context level gs places)
 all_keep P context level n gs [] long all = record { same_length = refl; each = λ p. p }
@@ -138,7 +138,7 @@ all_keep P context level n gs (i ∷ places) long all =
     record { same_length = rest.same_length ∙ one.same_length; each = λ p. rest.each (one.each p) }
 
 all_in_front : (P : ℕ → Type 0) (context : Context) (level : BufferClusterLevel) (n : ℕ)
-    (gs behind : List hb_glyph_info_t) (places : List ℕ) → n ≤ length gs → AllByRecursion (λ i. i + 1 < n) places
+    (gs behind : Glyphs) (places : List ℕ) → n ≤ length gs → AllByRecursion (λ i. i + 1 < n) places
     → Each P gs → Each (Not P) behind → all_joined context level (gs ++ behind) places
     ≡ all_joined context level gs places ++ behind
 all_in_front P context level n gs behind [] long all p x = refl
@@ -150,7 +150,7 @@ all_in_front P context level n gs behind (i ∷ places) long all p x =
     all.1 (one.each p) x
 
 all_behind : (P : ℕ → Type 0) (context : Context) (level : BufferClusterLevel) (n : ℕ)
-    (before gs : List hb_glyph_info_t) (places : List ℕ) → n ≤ length gs
+    (before gs : Glyphs) (places : List ℕ) → n ≤ length gs
     → AllByRecursion (λ i. (0 < i) × (i + 1 < n)) places → Each P gs → Each (Not P) before
     → all_joined context level (before ++ gs) (map (λ i. length before + i) places)
     ≡ before ++ all_joined context level gs places
@@ -167,8 +167,8 @@ all_behind P context level n before gs (i ∷ places) long all p x =
 -- ---- both halves
 
 -- the second half, whose first glyph is no mark
-second_opened : (P : ℕ → Type 0) (context : Context) (level : BufferClusterLevel) (done : List hb_glyph_info_t)
-    (g : hb_glyph_info_t) (behind : List hb_glyph_info_t) → is_mark_glyph g ≡ false → Each P (g ∷ behind)
+second_opened : (P : ℕ → Type 0) (context : Context) (level : BufferClusterLevel) (done : Glyphs)
+    (g : Glyph) (behind : Glyphs) → is_mark_glyph g ≡ false → Each P (g ∷ behind)
     → Each (Not P) done → all_joined context level (done ++ g ∷ behind) (range_with_len (length done) (length behind))
     ≡ done ++ variants_joined context level (g ∷ behind)
 second_opened P context level done g [] letter p x = refl
@@ -194,8 +194,8 @@ second_opened P context level done g (h ∷ behind) letter p x =
     ∙ sym (ap (λ n. done ++ all_joined context level rest (range_with_len 0 n)) all)
 
 -- at the cut no glyph stands for two
-nothing_there : (context : Context) (level : BufferClusterLevel) (done : List hb_glyph_info_t) (g : hb_glyph_info_t)
-    (behind : List hb_glyph_info_t) (i : ℕ) → i + 1 ≡ length done → is_mark_glyph g ≡ false
+nothing_there : (context : Context) (level : BufferClusterLevel) (done : Glyphs) (g : Glyph)
+    (behind : Glyphs) (i : ℕ) → i + 1 ≡ length done → is_mark_glyph g ≡ false
     → variant_joined context level (done ++ g ∷ behind) i ≡ done ++ g ∷ behind
 nothing_there context level done g behind i last letter =
     let whole = done ++ g ∷ behind in
@@ -207,8 +207,8 @@ nothing_there context level done g behind i last letter =
     ∙ ap (λ b. cond (b && is_selector_glyph g && not (nat_lt 0 i && is_mark_glyph first && is_selector_glyph first)
     && is_some (context.variant first.glyph_id g.glyph_id)) (stay_together level i (i + 2) whole) whole) letter
 
-pub variants_halves : (P : ℕ → Type 0) (context : Context) (level : BufferClusterLevel) (front : List hb_glyph_info_t)
-    (g : hb_glyph_info_t) (behind : List hb_glyph_info_t) → is_mark_glyph g ≡ false → Each P front
+pub variants_halves : (P : ℕ → Type 0) (context : Context) (level : BufferClusterLevel) (front : Glyphs)
+    (g : Glyph) (behind : Glyphs) → is_mark_glyph g ≡ false → Each P front
     → Each (Not P) (g ∷ behind) → variants_joined context level (front ++ g ∷ behind)
     ≡ variants_joined context level front ++ variants_joined context level (g ∷ behind)
 variants_halves P context level [] g behind letter p n = refl
@@ -239,7 +239,7 @@ variants_halves P context level (f ∷ front) g behind letter p n =
     ∙ sym (ap (λ m. all_joined context level (f ∷ front) (range_with_len 0 m) ++ variants_joined context level rest)
     own)
 
-pub each-variants : (P : ℕ → Type 0) (context : Context) (level : BufferClusterLevel) (gs : List hb_glyph_info_t)
+pub each-variants : (P : ℕ → Type 0) (context : Context) (level : BufferClusterLevel) (gs : Glyphs)
     → Each P gs → Each P (variants_joined context level gs)
 each-variants P context level gs p =
     (all_keep P context level (length gs) gs (range_with_len 0 (length gs - 1)) (omega arith)
@@ -247,22 +247,22 @@ each-variants P context level gs p =
 
 -- ---- the first round
 
-pub each-first_round : (P : ℕ → Type 0) (context : Context) (level : BufferClusterLevel) (gs : List hb_glyph_info_t)
+pub each-first_round : (P : ℕ → Type 0) (context : Context) (level : BufferClusterLevel) (gs : Glyphs)
     → Each P gs → Each P (first_round context level gs)
 each-first_round P context level gs p =
     each-decomposed P context (variants_joined context level gs) (each-variants P context level gs p)
 
 -- by the first glyph of the second half, which keeps all but its cluster and flags
-decomposed_with : (context : Context) (front : List hb_glyph_info_t) (g : hb_glyph_info_t) (gs : List hb_glyph_info_t)
+decomposed_with : (context : Context) (front : Glyphs) (g : Glyph) (gs : Glyphs)
     → is_mark_glyph g ≡ false → take 1 (order_view gs) ≡ plain g ∷ [] → text_decomposed context (front ++ gs)
     ≡ text_decomposed context front ++ text_decomposed context gs
 decomposed_with context front g [] letter first = absurd (let none : 0 ≡ 1 = ap length first in omega arith)
 decomposed_with context front g (h ∷ gs) letter first =
     let same : plain h ≡ plain g = ap (λ xs. get_or xs 0 g) first in
-    decomposed_halves context front h gs (ap (λ (x : hb_glyph_info_t). is_mark_glyph x) same ∙ letter)
+    decomposed_halves context front h gs (ap (λ (x : Glyph). is_mark_glyph x) same ∙ letter)
 
 pub first_round_halves : (P : ℕ → Type 0) (context : Context) (level : BufferClusterLevel)
-    (front : List hb_glyph_info_t) (g : hb_glyph_info_t) (behind : List hb_glyph_info_t) → is_mark_glyph g ≡ false
+    (front : Glyphs) (g : Glyph) (behind : Glyphs) → is_mark_glyph g ≡ false
     → Each P front → Each (Not P) (g ∷ behind) → first_round context level (front ++ g ∷ behind)
     ≡ first_round context level front ++ first_round context level (g ∷ behind)
 first_round_halves P context level front g behind letter p n =

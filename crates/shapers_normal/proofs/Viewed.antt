@@ -4,7 +4,7 @@ use Rattle.std.specs.List.{flat_map, fold, range_with_len}
 use Rattle.std.specs.Option.{option_map_or}
 use Rattle.std.proofs.lemmas.List.{length-append, length-map}
 use Rattle.shapers_base.specs.declared.font.GlyphId.{GlyphId}
-use Rattle.shapers_buffer.specs.declared.buffer.glyph.hb_glyph_info_t.{hb_glyph_info_t}
+use Rattle.shapers_buffer.specs.Glyphs.{Glyph, Glyphs}
 use Rattle.shapers_buffer.specs.declared.buffer.level.BufferClusterLevel.{BufferClusterLevel}
 use Rattle.shapers_buffer.specs.Glyph.{order_view, plain}
 use Rattle.shapers_buffer.proofs.MappedLists.{list_any-map}
@@ -17,8 +17,8 @@ use Rattle.shapers_normal.proofs.FirstKept.{view-together}
 
 -- ---- groups
 
-first-viewed : (follows : hb_glyph_info_t → Bool) → ((g : hb_glyph_info_t) → follows (plain g) ≡ follows g)
-    → (g : hb_glyph_info_t) (groups : List (List hb_glyph_info_t))
+first-viewed : (follows : Glyph → Bool) → ((g : Glyph) → follows (plain g) ≡ follows g)
+    → (g : Glyph) (groups : List Glyphs)
     → with_first follows (plain g) (map (map plain) groups) ≡ map (map plain) (with_first follows g groups)
 first-viewed follows same g [] = refl
 first-viewed follows same g ([] ∷ groups) = refl
@@ -31,14 +31,14 @@ first-viewed follows same g ((h ∷ group) ∷ groups) =
     ≡ map (map plain) (cond b ((g ∷ h ∷ group) ∷ groups) ((g ∷ []) ∷ (h ∷ group) ∷ groups)))
     [ true ↦ refl | false ↦ refl ]
 
-groups-viewed : (follows : hb_glyph_info_t → Bool) → ((g : hb_glyph_info_t) → follows (plain g) ≡ follows g)
-    → (gs : List hb_glyph_info_t) → cut_before_others follows (map plain gs)
+groups-viewed : (follows : Glyph → Bool) → ((g : Glyph) → follows (plain g) ≡ follows g)
+    → (gs : Glyphs) → cut_before_others follows (map plain gs)
     ≡ map (map plain) (cut_before_others follows gs)
 groups-viewed follows same [] = refl
 groups-viewed follows same (g ∷ gs) = ap (with_first follows (plain g)) (groups-viewed follows same gs)
     ∙ first-viewed follows same g (cut_before_others follows gs)
 
-all-viewed : {X : Type 0} (f : X → List hb_glyph_info_t) (view : X → X) → ((x : X) → length (f (view x)) ≡ length (f x))
+all-viewed : {X : Type 0} (f : X → Glyphs) (view : X → X) → ((x : X) → length (f (view x)) ≡ length (f x))
     → (xs : List X) → length (flat_map f (map view xs)) ≡ length (flat_map f xs)
 all-viewed f view same [] = refl
 all-viewed f view same (x ∷ xs) =
@@ -52,7 +52,7 @@ all-viewed f view same (x ∷ xs) =
 
 -- ---- what they become
 
-form-by : (context : Context) (g selector : hb_glyph_info_t) (more : List hb_glyph_info_t) (o : Option GlyphId) →
+form-by : (context : Context) (g selector : Glyph) (more : Glyphs) (o : Option GlyphId) →
     length (option_map_or (λ (variant : GlyphId). numbered_as variant.0 (plain g)
     ∷ map (with_number context) (map plain more)) o (with_number context (plain g)
     ∷ with_number context (selecting_nothing context (plain selector))
@@ -77,31 +77,31 @@ form-by context g selector more (Some variant) =
           (with_number context),
     )
 
-form-viewed : (context : Context) (form : List hb_glyph_info_t) → length (form_written context (map plain form))
+form-viewed : (context : Context) (form : Glyphs) → length (form_written context (map plain form))
     ≡ length (form_written context form)
 form-viewed context [] = refl
 form-viewed context (g ∷ []) = refl
 form-viewed context (g ∷ (selector ∷ more)) =
     form-by context g selector more (context.variant g.glyph_id selector.glyph_id)
 
-written-viewed : (context : Context) (g : hb_glyph_info_t) (cs : List ℕ) → length (written_as context (plain g) cs)
+written-viewed : (context : Context) (g : Glyph) (cs : List ℕ) → length (written_as context (plain g) cs)
     ≡ length (written_as context g cs)
 written-viewed context g [] = refl
 written-viewed context g (c ∷ cs) = length-map (c ∷ cs) (as_part context (plain g))
     ∙ sym (length-map (c ∷ cs) (as_part context g))
 
-kept-viewed : (cluster : List hb_glyph_info_t) → is_kept_cluster (map plain cluster) ≡ is_kept_cluster cluster
+kept-viewed : (cluster : Glyphs) → is_kept_cluster (map plain cluster) ≡ is_kept_cluster cluster
 kept-viewed [] = refl
 kept-viewed (g ∷ []) = refl
 kept-viewed (g ∷ (h ∷ cluster)) = list_any-map is_selector_glyph plain (g ∷ (h ∷ cluster))
 
-way-viewed : (context : Context) (cluster : List hb_glyph_info_t) → apart_way context (map plain cluster)
+way-viewed : (context : Context) (cluster : Glyphs) → apart_way context (map plain cluster)
     ≡ apart_way context cluster
 way-viewed context [] = refl
 way-viewed context (g ∷ []) = refl
 way-viewed context (g ∷ (h ∷ cluster)) = refl
 
-cluster-viewed : (context : Context) (cluster : List hb_glyph_info_t)
+cluster-viewed : (context : Context) (cluster : Glyphs)
     → length (cluster_becomes context (map plain cluster)) ≡ length (cluster_becomes context cluster)
 cluster-viewed context cluster =
     let seen = map plain cluster in
@@ -120,7 +120,7 @@ cluster-viewed context cluster =
     ≡ length (cond b (forms_written context cluster) (flat_map (becomes context way) cluster)))
     [ true ↦ forms | false ↦ apart ]
 
-text-viewed : (context : Context) (gs : List hb_glyph_info_t) → length (text_decomposed context (order_view gs))
+text-viewed : (context : Context) (gs : Glyphs) → length (text_decomposed context (order_view gs))
     ≡ length (text_decomposed context gs)
 text-viewed context gs =
     ap (λ groups. length (flat_map (cluster_becomes context) groups)) (groups-viewed is_mark_glyph (λ g. refl) gs)
@@ -128,7 +128,7 @@ text-viewed context gs =
 
 -- ---- characters and selectors that come into one cluster
 
-joined-view : (context : Context) (level : BufferClusterLevel) (gs : List hb_glyph_info_t) (i : ℕ)
+joined-view : (context : Context) (level : BufferClusterLevel) (gs : Glyphs) (i : ℕ)
     → order_view (variant_joined context level gs i) ≡ order_view gs
 joined-view context level gs i =
     elim (has_variant_at context gs i) as (λ b. order_view (cond b (stay_together level i (i + 2) gs) gs)
@@ -137,23 +137,23 @@ joined-view context level gs i =
       | false ↦ refl
     ]
 
-all_joined-view : (context : Context) (level : BufferClusterLevel) (gs : List hb_glyph_info_t) (places : List ℕ)
+all_joined-view : (context : Context) (level : BufferClusterLevel) (gs : Glyphs) (places : List ℕ)
     → order_view (fold (λ gs i. variant_joined context level gs i) gs places) ≡ order_view gs
 all_joined-view context level gs [] = refl
 all_joined-view context level gs (i ∷ places) = all_joined-view context level (variant_joined context level gs i) places
     ∙ joined-view context level gs i
 
-pub variants-view : (context : Context) (level : BufferClusterLevel) (gs : List hb_glyph_info_t)
+pub variants-view : (context : Context) (level : BufferClusterLevel) (gs : Glyphs)
     → order_view (variants_joined context level gs) ≡ order_view gs
 variants-view context level gs = all_joined-view context level gs (range_with_len 0 (length gs - 1))
 
-pub length-variants : (context : Context) (level : BufferClusterLevel) (gs : List hb_glyph_info_t)
+pub length-variants : (context : Context) (level : BufferClusterLevel) (gs : Glyphs)
     → length (variants_joined context level gs) ≡ length gs
 length-variants context level gs = sym (length-map (variants_joined context level gs) plain)
     ∙ ap length (variants-view context level gs) ∙ length-map gs plain
 
 -- the first round is as long as the text taken apart
-pub first_round_length : (context : Context) (level : BufferClusterLevel) (gs : List hb_glyph_info_t)
+pub first_round_length : (context : Context) (level : BufferClusterLevel) (gs : Glyphs)
     → length (first_round context level gs) ≡ length (text_decomposed context gs)
 first_round_length context level gs =
     sym (text-viewed context (variants_joined context level gs))

@@ -1,9 +1,9 @@
 -- What normalization reads of the shaper, the font and Unicode.
-use Rattle.std.specs.Prelude.{ℕ, Bool, List, Option, is_some}
+use Rattle.std.specs.Prelude.{ℕ, Bool, Option, is_some}
 use Rattle.shapers_base.specs.declared.font.GlyphId.{GlyphId}
 use Rattle.shapers_base.specs.declared.plan.record.NormalizationMode.{NormalizationMode}
 use Rattle.shapers_buffer.specs.declared.buffer.category.hb_unicode_general_category_t.{hb_unicode_general_category_t}
-use Rattle.shapers_buffer.specs.declared.buffer.glyph.hb_glyph_info_t.{hb_glyph_info_t}
+use Rattle.shapers_buffer.specs.Glyphs.{Glyphs}
 use Rattle.shapers_buffer.specs.declared.buffer.level.BufferClusterLevel.{BufferClusterLevel}
 
 -- Of the shaper: which form it prefers, the two characters that one comes apart into (the second 0
@@ -17,7 +17,7 @@ pub record Context : Type 0 where
   pub mode : NormalizationMode
   pub decomposed : ℕ → Option (ℕ × ℕ)
   pub composed : ℕ → ℕ → Option ℕ
-  pub reordered : BufferClusterLevel → ℕ → ℕ → List hb_glyph_info_t → List hb_glyph_info_t
+  pub reordered : BufferClusterLevel → ℕ → ℕ → Glyphs → Glyphs
   pub nominal : ℕ → Option GlyphId
   pub variant : ℕ → ℕ → Option GlyphId
   pub general : ℕ → hb_unicode_general_category_t

@@ -7,7 +7,7 @@ use Rattle.shapers_base.specs.declared.plan.record.NormalizationMode.{Normalizat
 use Rattle.shapers_base.specs.declared.plan.record.NormalizationMode.TheVariants as modes
 use Rattle.shapers_buffer.specs.declared.buffer.category.hb_unicode_general_category_t.{hb_unicode_general_category_t}
 use Rattle.shapers_buffer.specs.declared.buffer.category.hb_unicode_general_category_t.TheVariants.{Zs}
-use Rattle.shapers_buffer.specs.declared.buffer.glyph.hb_glyph_info_t.{hb_glyph_info_t}
+use Rattle.shapers_buffer.specs.Glyphs.{Glyph, Glyphs}
 use Rattle.shapers_buffer.specs.declared.buffer.level.BufferClusterLevel.{BufferClusterLevel}
 use Rattle.shapers_buffer.specs.Properties.{general_category, with_high_byte}
 use Rattle.shapers_normal.specs.Context.{Context, has_glyph}
@@ -82,7 +82,7 @@ kind_with_glyph (Some kind) glyph = option_map (λ glyph. (kind, glyph)) glyph
 
 -- the width that a space stands for, and the glyph that is drawn for it: that of the common space,
 -- or else the one for what isn't drawn
-abbrev pub drawn_space : Context → hb_glyph_info_t → Option (ℕ × GlyphId)
+abbrev pub drawn_space : Context → Glyph → Option (ℕ × GlyphId)
 drawn_space context g =
     if is_space_separator (general_category g.unicode_props)
     then kind_with_glyph (space_kind g.glyph_id)
@@ -90,37 +90,37 @@ drawn_space context g =
     else None
 
 -- a space that stands for a width
-abbrev pub as_space : ℕ → hb_glyph_info_t → hb_glyph_info_t
+abbrev pub as_space : ℕ → Glyph → Glyph
 as_space kind g = record g { unicode_props = with_high_byte kind g.unicode_props }
 
 -- a character that the font lacks and that doesn't come apart: a space as another one, a hyphen
 -- that doesn't break as one that does, and else the missing glyph
-abbrev pub without_glyph : Context → hb_glyph_info_t → hb_glyph_info_t
+abbrev pub without_glyph : Context → Glyph → Glyph
 without_glyph context g = option_map_or
     (λ space. as_space space.0 (numbered_as space.1.0 g))
     (drawn_space context g)
     (numbered_as (if g.glyph_id == 0x2011 then glyph_number context 0x2010 else 0) g)
 
 -- a character that stays, with its glyph
-abbrev pub with_own_glyph : Context → hb_glyph_info_t → hb_glyph_info_t
+abbrev pub with_own_glyph : Context → Glyph → Glyph
 with_own_glyph context g = option_map_or
     (λ (glyph : GlyphId). numbered_as glyph.0 g)
     (context.nominal g.glyph_id) (without_glyph context g)
 
 -- a glyph as a part of its character; what it becomes, one way or the other: its own character, or
 -- those of its image
-abbrev pub as_part : Context → hb_glyph_info_t → ℕ → hb_glyph_info_t
+abbrev pub as_part : Context → Glyph → ℕ → Glyph
 as_part context g c = as_character context c (glyph_number context c) g
 
-abbrev pub written_as : Context → hb_glyph_info_t → List ℕ → List hb_glyph_info_t
+abbrev pub written_as : Context → Glyph → List ℕ → Glyphs
 written_as context g [] = with_own_glyph context g ∷ []
 written_as context g (c ∷ cs) = map (as_part context g) (c ∷ cs)
 
-abbrev pub becomes : Context → Way → hb_glyph_info_t → List hb_glyph_info_t
+abbrev pub becomes : Context → Way → Glyph → Glyphs
 becomes context way g = written_as context g (image context way g.glyph_id)
 
 -- the text cut before each glyph that is no mark
-abbrev pub mark_clusters : List hb_glyph_info_t → List (List hb_glyph_info_t)
+abbrev pub mark_clusters : Glyphs → List Glyphs
 mark_clusters gs = cut_before_others is_mark_glyph gs
 
 abbrev pub is_short_alone : NormalizationMode → Bool
@@ -133,38 +133,38 @@ is_short_with_marks _ = false
 
 -- How a cluster comes apart. A character alone stays if the font has it, unless the shaper wants
 -- letters and marks apart; one with marks comes apart, unless the shaper wants no normalization.
-abbrev pub apart_way : Context → List hb_glyph_info_t → Way
+abbrev pub apart_way : Context → Glyphs → Way
 apart_way context (g ∷ []) = if is_short_alone context.mode then Short else Whole
 apart_way context cluster = if is_short_with_marks context.mode then Short else Whole
 
 -- a cluster with a selector is kept
-abbrev pub cluster_becomes : Context → List hb_glyph_info_t → List hb_glyph_info_t
+abbrev pub cluster_becomes : Context → Glyphs → Glyphs
 cluster_becomes context cluster =
     if is_kept_cluster cluster then forms_written context cluster
     else flat_map (becomes context (apart_way context cluster)) cluster
 
 -- the text taken apart
-abbrev pub text_decomposed : Context → List hb_glyph_info_t → List hb_glyph_info_t
+abbrev pub text_decomposed : Context → Glyphs → Glyphs
 text_decomposed context gs = flat_map (cluster_becomes context) (mark_clusters gs)
 
 -- the first round: a character and its selector come into one cluster, if one glyph stands for both
-abbrev pub first_round : Context → BufferClusterLevel → List hb_glyph_info_t → List hb_glyph_info_t
+abbrev pub first_round : Context → BufferClusterLevel → Glyphs → Glyphs
 first_round context level gs = text_decomposed context (variants_joined context level gs)
 
 -- whether a text gets its glyphs and nothing else: no glyph is a mark, the font has each character,
 -- and the shaper leaves letters whole
-abbrev pub stays_alone : Context → hb_glyph_info_t → Bool
+abbrev pub stays_alone : Context → Glyph → Bool
 stays_alone context g = not (is_mark_glyph g) && has_glyph context g.glyph_id
 
-abbrev pub is_whole : Context → List hb_glyph_info_t → Bool
+abbrev pub is_whole : Context → Glyphs → Bool
 is_whole context gs = is_short_alone context.mode && list_all (stays_alone context) gs
 
 -- whether nothing comes apart: no glyph is a selector, and each character stays, as its cluster has
 -- it
-abbrev pub cluster_stays : Context → List hb_glyph_info_t → Bool
+abbrev pub cluster_stays : Context → Glyphs → Bool
 cluster_stays context cluster =
     list_all (λ g. length (image context (apart_way context cluster) g.glyph_id) == 0) cluster
 
-abbrev pub stays_together : Context → List hb_glyph_info_t → Bool
+abbrev pub stays_together : Context → Glyphs → Bool
 stays_together context gs =
     not (list_any is_selector_glyph gs) && list_all (cluster_stays context) (mark_clusters gs)

@@ -1,7 +1,7 @@
 -- Laws of normalization, for every shaper, font and tables.
-use Rattle.std.specs.Prelude.{ℕ, ◌≡◌, ◌<◌, ◌≤◌, ◌+◌, ◌*◌, ◌==◌, Bool, true, false, not, ◌&&◌, List, [], ◌∷◌, ◌++◌, length, map, take}
+use Rattle.std.specs.Prelude.{ℕ, ◌≡◌, ◌<◌, ◌≤◌, ◌+◌, ◌*◌, ◌==◌, Bool, true, false, not, ◌&&◌, [], ◌∷◌, ◌++◌, length, map, take}
 use Rattle.std.specs.List.{All, AllByRecursion, Contains, list_any}
-use Rattle.shapers_buffer.specs.declared.buffer.glyph.hb_glyph_info_t.{hb_glyph_info_t}
+use Rattle.shapers_buffer.specs.Glyphs.{Glyph, Glyphs}
 use Rattle.shapers_buffer.specs.declared.buffer.level.BufferClusterLevel.{BufferClusterLevel}
 use Rattle.shapers_buffer.specs.Clusters.{merges}
 use Rattle.shapers_buffer.specs.Glyph.{clusters, order_view}
@@ -23,14 +23,14 @@ PartsAreDrawn = (context : Context) (way : Way) (c : ℕ) →
 
 -- Each glyph becomes nine at most: a base, and what came off in eight steps.
 abbrev pub GrowsNinefold : Type 0
-GrowsNinefold = (context : Context) (level : BufferClusterLevel) (gs : List hb_glyph_info_t) →
+GrowsNinefold = (context : Context) (level : BufferClusterLevel) (gs : Glyphs) →
     length (first_round context level gs) ≤ 9 * length gs
 
 -- A text cut before a glyph that is no mark, into halves that share no cluster: they come apart as
 -- the whole does.
 abbrev pub ComesApartInHalves : Type 0
 ComesApartInHalves = (context : Context) (level : BufferClusterLevel)
-    (front : List hb_glyph_info_t) (g : hb_glyph_info_t) (behind : List hb_glyph_info_t) →
+    (front : Glyphs) (g : Glyph) (behind : Glyphs) →
     ShareNone front (g ∷ behind) → is_mark_glyph g ≡ false →
     first_round context level (front ++ g ∷ behind)
     ≡ first_round context level front ++ first_round context level (g ∷ behind)
@@ -39,26 +39,26 @@ ComesApartInHalves = (context : Context) (level : BufferClusterLevel)
 -- stays, but for its cluster and glyph flags; and glyphs before and behind that share no cluster
 -- with these stay, and change nothing.
 pub record OrdersAlone (context : Context) : Type 0 where
-  pub same_length : (level : BufferClusterLevel) (s e : ℕ) (gs : List hb_glyph_info_t) →
+  pub same_length : (level : BufferClusterLevel) (s e : ℕ) (gs : Glyphs) →
       s < e → e ≤ length gs → length (context.reordered level s e gs) ≡ length gs
-  pub old_clusters : (level : BufferClusterLevel) (s e : ℕ) (gs : List hb_glyph_info_t) →
+  pub old_clusters : (level : BufferClusterLevel) (s e : ℕ) (gs : Glyphs) →
       s < e → e ≤ length gs →
       All (Contains (clusters gs)) (clusters (context.reordered level s e gs))
-  pub in_front : (level : BufferClusterLevel) (s e : ℕ) (gs : List hb_glyph_info_t) →
+  pub in_front : (level : BufferClusterLevel) (s e : ℕ) (gs : Glyphs) →
       s < e → e ≤ length gs →
       take s (order_view (context.reordered level s e gs)) ≡ take s (order_view gs)
-  pub alone : (level : BufferClusterLevel) (s e : ℕ) (before gs behind : List hb_glyph_info_t) →
+  pub alone : (level : BufferClusterLevel) (s e : ℕ) (before gs behind : Glyphs) →
       s < e → e ≤ length gs → ShareNone gs before → ShareNone gs behind →
       context.reordered level (length before + s) (length before + e) (before ++ (gs ++ behind))
       ≡ before ++ (context.reordered level s e gs ++ behind)
 
 -- whether a text begins with a glyph that is neither a mark nor a grapheme joiner
-abbrev pub opens_anew : List hb_glyph_info_t → Bool
+abbrev pub opens_anew : Glyphs → Bool
 opens_anew [] = true
 opens_anew (g ∷ gs) = not (is_mark_glyph g) && not (g.glyph_id == grapheme_joiner)
 
 -- whether it ends with a grapheme joiner
-abbrev pub ends_in_joiner : List hb_glyph_info_t → Bool
+abbrev pub ends_in_joiner : Glyphs → Bool
 ends_in_joiner [] = false
 ends_in_joiner (g ∷ []) = g.glyph_id == grapheme_joiner
 ends_in_joiner (g ∷ (h ∷ gs)) = ends_in_joiner (h ∷ gs)
@@ -69,7 +69,7 @@ ends_in_joiner (g ∷ (h ∷ gs)) = ends_in_joiner (h ∷ gs)
 -- over it.
 abbrev pub NormalizesInHalves : Type 0
 NormalizesInHalves = (context : Context) (level : BufferClusterLevel)
-    (front : List hb_glyph_info_t) (g : hb_glyph_info_t) (behind : List hb_glyph_info_t) →
+    (front : Glyphs) (g : Glyph) (behind : Glyphs) →
     OrdersAlone context → ShareNone front (g ∷ behind) → is_mark_glyph g ≡ false →
     opens_anew (first_round context level (g ∷ behind)) ≡ true →
     ends_in_joiner (marks_ordered context level (first_round context level front)) ≡ false →
@@ -79,7 +79,7 @@ NormalizesInHalves = (context : Context) (level : BufferClusterLevel)
 -- Each cluster is one that the text had, whenever rounds run.
 abbrev pub MakesNoCluster : Type 0
 MakesNoCluster = (context : Context) (rounds : Rounds) (level : BufferClusterLevel)
-    (gs : List hb_glyph_info_t) →
+    (gs : Glyphs) →
     OrdersAlone context →
     All (Contains (clusters gs)) (clusters (normalized context rounds level gs))
 
@@ -87,20 +87,20 @@ MakesNoCluster = (context : Context) (rounds : Rounds) (level : BufferClusterLev
 -- and nothing else, if no glyph is a grapheme joiner.
 abbrev pub WholeTextsStay : Type 0
 WholeTextsStay = (context : Context) (rounds : Rounds) (level : BufferClusterLevel)
-    (gs : List hb_glyph_info_t) →
+    (gs : Glyphs) →
     is_whole context gs ≡ true → list_any (λ g. g.glyph_id == grapheme_joiner) gs ≡ false →
     normalized context rounds level gs ≡ map (with_number context) gs
 
 -- A shaper's order of marks keeps clusters rising, or falling, at the levels that merge.
 abbrev pub OrdersMonotone : Context → Type 0
 OrdersMonotone context =
-    (level : BufferClusterLevel) (s e : ℕ) (gs : List hb_glyph_info_t) → merges level ≡ true →
+    (level : BufferClusterLevel) (s e : ℕ) (gs : Glyphs) → merges level ≡ true →
     s < e → e ≤ length gs → IsMonotone (clusters gs) →
     IsMonotone (clusters (context.reordered level s e gs))
 
 -- Clusters that rise, or fall, still do, at the levels that merge.
 abbrev pub NormalizesMonotone : Type 0
 NormalizesMonotone = (context : Context) (rounds : Rounds) (level : BufferClusterLevel)
-    (gs : List hb_glyph_info_t) →
+    (gs : Glyphs) →
     OrdersAlone context → OrdersMonotone context → merges level ≡ true →
     IsMonotone (clusters gs) → IsMonotone (clusters (normalized context rounds level gs))

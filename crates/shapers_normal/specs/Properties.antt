@@ -1,6 +1,6 @@
 -- The properties of a character, as its glyph keeps them.
 use Rattle.std.specs.Prelude.{ℕ, ◌==◌, nat_le, Bool, ◌&&◌, ◌||◌, if◌then◌else◌}
-use Rattle.shapers_buffer.specs.declared.buffer.glyph.hb_glyph_info_t.{hb_glyph_info_t}
+use Rattle.shapers_buffer.specs.Glyphs.{Glyph}
 use Rattle.shapers_buffer.specs.declared.buffer.unicode_props.UnicodeProps.{UnicodeProps}
 use Rattle.shapers_buffer.specs.Category.{is_mark}
 use Rattle.shapers_buffer.specs.Properties.{CONTINUATION, HIDDEN, IGNORABLE, properties, set_property}
@@ -47,11 +47,11 @@ character_properties context c =
     (properties (context.general c) (class_byte context c))))
 
 -- the glyph with the number of a glyph in the font, which stands there until lookups run
-abbrev pub numbered_as : ℕ → hb_glyph_info_t → hb_glyph_info_t
+abbrev pub numbered_as : ℕ → Glyph → Glyph
 numbered_as number g = record g { glyph_props = record { 0 = number } }
 
 -- the glyph as a character, whose glyph in the font is kept beside it
-abbrev pub as_character : Context → ℕ → ℕ → hb_glyph_info_t → hb_glyph_info_t
+abbrev pub as_character : Context → ℕ → ℕ → Glyph → Glyph
 as_character context c glyph g = record g {
   glyph_id = c;
   glyph_props = record { 0 = glyph };

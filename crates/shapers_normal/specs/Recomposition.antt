@@ -1,9 +1,9 @@
 -- The third round: a letter and the marks behind it compose, as far as the font has what comes of
 -- it (Unicode's Canonical Composition Algorithm).
-use Rattle.std.specs.Prelude.{ℕ, zero, suc, ◌+◌, ◌-◌, ◌==◌, nat_lt, Bool, ◌&&◌, ◌||◌, List, ◌++◌, drop, length, slice_index_or, slice_set, take, Option, None, Some, option_map, if◌then◌else◌}
+use Rattle.std.specs.Prelude.{ℕ, zero, suc, ◌+◌, ◌-◌, ◌==◌, nat_lt, Bool, ◌&&◌, ◌||◌, ◌++◌, drop, length, slice_index_or, slice_set, take, Option, None, Some, option_map, if◌then◌else◌}
 use Rattle.std.specs.Option.{option_map_or}
 use Rattle.shapers_base.specs.declared.font.GlyphId.{GlyphId}
-use Rattle.shapers_buffer.specs.declared.buffer.glyph.hb_glyph_info_t.{hb_glyph_info_t}
+use Rattle.shapers_buffer.specs.Glyphs.{Glyph, Glyphs}
 use Rattle.shapers_buffer.specs.declared.buffer.level.BufferClusterLevel.{BufferClusterLevel}
 use Rattle.shapers_buffer.specs.Clusters.{merge}
 use Rattle.shapers_buffer.specs.Glyph.{default_glyph}
@@ -12,14 +12,14 @@ use Rattle.shapers_normal.specs.Properties.{as_character}
 use Rattle.shapers_normal.specs.Sorting.{class_of, is_mark_glyph}
 
 -- the glyph at a place
-abbrev pub glyph_at : List hb_glyph_info_t → ℕ → hb_glyph_info_t
+abbrev pub glyph_at : Glyphs → ℕ → Glyph
 glyph_at gs i = slice_index_or gs i default_glyph
 
 -- a walk over the text: the starter, the place that it has come to, and the glyphs
 pub record StarterWalk : Type 0 where
   pub starter : ℕ
   pub place : ℕ
-  pub glyphs : List hb_glyph_info_t
+  pub glyphs : Glyphs
 
 -- whether nothing keeps the glyph there from the starter: it stands right behind it, or the glyph
 -- before it has a lesser class
@@ -42,7 +42,7 @@ composition context w =
     else None
 
 -- the glyphs without the one at a place
-abbrev pub without_place : ℕ → List hb_glyph_info_t → List hb_glyph_info_t
+abbrev pub without_place : ℕ → Glyphs → Glyphs
 without_place i gs = take i gs ++ drop (i + 1) gs
 
 -- The mark there joins the starter: all from the starter to it comes into one cluster, the mark
@@ -69,7 +69,7 @@ walk_over context level zero w = w
 walk_over context level (suc n) w = walk_over context level n (next_glyph context level w)
 
 -- the text recomposed: its first glyph is a starter, and each other glyph is come to once
-abbrev pub recomposed : Context → BufferClusterLevel → List hb_glyph_info_t → List hb_glyph_info_t
+abbrev pub recomposed : Context → BufferClusterLevel → Glyphs → Glyphs
 recomposed context level gs =
     (walk_over context level (length gs - 1)
     (record { starter = 0; place = 1; glyphs = gs })).glyphs

@@ -2,7 +2,7 @@
 use Rattle.std.proofs.Common.{◌≡◌, ◌+◌, ◌-◌, ◌<◌, ◌≤◌, ℕ, List, [], ◌∷◌, ◌++◌, length, map, take, drop, refl, sym, ap, ◌∙◌, subst, arith}
 use Rattle.std.specs.List.{All, Contains, prefix_len}
 use Rattle.std.proofs.lemmas.List.{drop-map, length-append, length-map, length-take-le, take-append-le, take-take}
-use Rattle.shapers_buffer.specs.declared.buffer.glyph.hb_glyph_info_t.{hb_glyph_info_t}
+use Rattle.shapers_buffer.specs.Glyphs.{Glyphs}
 use Rattle.shapers_buffer.specs.declared.buffer.level.BufferClusterLevel.{BufferClusterLevel}
 use Rattle.shapers_buffer.specs.declared.buffer.modified_combining_class.TheConstants.{CCC22, CCC26}
 use Rattle.shapers_buffer.specs.Clusters.{merge, merge_all, stretch_of, with_stretch}
@@ -20,14 +20,14 @@ use Rattle.shapers_normal.specs.Sorting.{class_of, classes}
 use Rattle.shapers_normal.proofs.Runs.{drop-changed}
 use Rattle.shapers_normal.proofs.Beside.{Local, Not, local_as, local_merge, local_nothing, local_stretch, local_then, within_part}
 
-each-classed : (P : ℕ → Type 0) (class : ℕ) (gs : List hb_glyph_info_t) → Each P gs → Each P (map (in_class class) gs)
+each-classed : (P : ℕ → Type 0) (class : ℕ) (gs : Glyphs) → Each P gs → Each P (map (in_class class) gs)
 each-classed P class [] p = tt
 each-classed P class (g ∷ gs) p = (p.0, each-classed P class gs p.1)
 
-abbrev moved : List hb_glyph_info_t → List hb_glyph_info_t
+abbrev moved : Glyphs → Glyphs
 moved gs = with_modifiers_first (split_marks gs)
 
-each-moved : (P : ℕ → Type 0) (gs : List hb_glyph_info_t) → Each P gs → Each P (moved gs)
+each-moved : (P : ℕ → Type 0) (gs : Glyphs) → Each P gs → Each P (moved gs)
 each-moved P gs p =
     let s = split_marks gs in
     let second = behind (has_lower_class 220) gs in
@@ -60,7 +60,7 @@ sum_joined s =
       length-append s.modifiers_above s.rest,
     )
 
-length-moved : (gs : List hb_glyph_info_t) → length (moved gs) ≡ length gs
+length-moved : (gs : Glyphs) → length (moved gs) ≡ length gs
 length-moved gs =
     let s = split_marks gs in
     let below = map (in_class CCC22) s.modifiers_below in
@@ -80,10 +80,10 @@ length-moved gs =
     )
 
 -- what merges of these marks
-abbrev merged_of : List hb_glyph_info_t → List (ℕ × ℕ)
+abbrev merged_of : Glyphs → List (ℕ × ℕ)
 merged_of marks = (arabic_mark_step (split_marks marks)).merged_first
 
-merged_within : (marks : List hb_glyph_info_t) → EndWithin (length marks) (merged_of marks)
+merged_within : (marks : Glyphs) → EndWithin (length marks) (merged_of marks)
 merged_within marks =
     let s = split_marks marks in
     let all : length s.low + length s.modifiers_below + length s.middle + length s.modifiers_above + length s.rest
@@ -107,7 +107,7 @@ merges_alone P level s m n (st ∷ sts) room all =
     ap (λ a. merge level a (k + s + st.1) gs) start ∙ ap (λ b. merge level (k + (s + st.0)) b gs) end))
     (merges_alone P level s m n sts room all.1)
 
-pub arabic_alone : (P : ℕ → Type 0) (level : BufferClusterLevel) (s e : ℕ) (before gs rest : List hb_glyph_info_t)
+pub arabic_alone : (P : ℕ → Type 0) (level : BufferClusterLevel) (s e : ℕ) (before gs rest : Glyphs)
     → s < e → e ≤ length gs → Each P gs → Each (Not P) before → Each (Not P) rest →
     marks_reordered (length before + s) (length before + e)
     (marks_merged level (length before + s) (length before + e) (before ++ (gs ++ rest)))
@@ -128,7 +128,7 @@ arabic_alone P level s e before gs rest some within p x y =
     (within_part s e before gs rest (omega arith) within)
     ∙ both.alone before gs rest (omega arith) p x y
 
-pub arabic_in_front : (level : BufferClusterLevel) (s e : ℕ) (gs : List hb_glyph_info_t) → s < e → e ≤ length gs
+pub arabic_in_front : (level : BufferClusterLevel) (s e : ℕ) (gs : Glyphs) → s < e → e ≤ length gs
     → take s (order_view (marks_reordered s e (marks_merged level s e gs))) ≡ take s (order_view gs)
 arabic_in_front level s e gs some within =
     let view = order_view gs in
@@ -138,7 +138,7 @@ arabic_in_front level s e gs some within =
     (omega (arith, length-take-le s view (omega arith)))
     ∙ take-take s s view (omega arith)
 
-pub arabic_same_length : (level : BufferClusterLevel) (s e : ℕ) (gs : List hb_glyph_info_t) → s < e → e ≤ length gs
+pub arabic_same_length : (level : BufferClusterLevel) (s e : ℕ) (gs : Glyphs) → s < e → e ≤ length gs
     → length (marks_reordered s e (marks_merged level s e gs)) ≡ length gs
 arabic_same_length level s e gs some within =
     let new = marks_reordered s e (marks_merged level s e gs) in
@@ -146,13 +146,13 @@ arabic_same_length level s e gs some within =
     ∙ (mark_laws level s e gs (omega arith) within).glyphs.in_clusters.same_length
     ∙ length-map gs (λ g. g.cluster)
 
-pub arabic_old_clusters : (level : BufferClusterLevel) (s e : ℕ) (gs : List hb_glyph_info_t) → s < e → e ≤ length gs
+pub arabic_old_clusters : (level : BufferClusterLevel) (s e : ℕ) (gs : Glyphs) → s < e → e ≤ length gs
     → All (Contains (clusters gs)) (clusters (marks_reordered s e (marks_merged level s e gs)))
 arabic_old_clusters level s e gs some within =
     (mark_laws level s e gs (omega arith) within).glyphs.in_clusters.old_clusters
 
 -- what stands behind the marks keeps its classes
-pub arabic_behind : (level : BufferClusterLevel) (s e : ℕ) (gs : List hb_glyph_info_t) → s < e → e ≤ length gs
+pub arabic_behind : (level : BufferClusterLevel) (s e : ℕ) (gs : Glyphs) → s < e → e ≤ length gs
     → drop e (classes (marks_reordered s e (marks_merged level s e gs))) ≡ drop e (classes gs)
 arabic_behind level s e gs some within =
     let sts = (text_step s e gs).merged_first in

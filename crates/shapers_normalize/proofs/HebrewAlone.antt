@@ -1,10 +1,10 @@
 -- Hebrew's order of marks leaves glyphs beside them alone.
-use Rattle.std.proofs.Common.{◌≡◌, ◌+◌, ◌-◌, ◌<◌, ◌≤◌, ℕ, List, [], ◌∷◌, ◌++◌, length, map, take, drop, get_or, set, Option, None, Some, refl, sym, ap, ◌∙◌, subst, arith}
+use Rattle.std.proofs.Common.{◌≡◌, ◌+◌, ◌-◌, ◌<◌, ◌≤◌, ℕ, [], ◌∷◌, ◌++◌, length, map, take, drop, get_or, set, Option, None, Some, refl, sym, ap, ◌∙◌, subst, arith}
 use Rattle.std.specs.List.{All, Contains}
 use Rattle.std.specs.Option.{option_map, option_map_or}
 use Rattle.std.specs.Prelude.{IfSome, swap}
 use Rattle.std.proofs.lemmas.List.{drop-map, drop-set-lt, drop-take, get_or_default, length-append, length-map, length-set, length-take-le, take-set-le, take-take}
-use Rattle.shapers_buffer.specs.declared.buffer.glyph.hb_glyph_info_t.{hb_glyph_info_t}
+use Rattle.shapers_buffer.specs.Glyphs.{Glyphs}
 use Rattle.shapers_buffer.specs.declared.buffer.level.BufferClusterLevel.{BufferClusterLevel}
 use Rattle.shapers_buffer.specs.Clusters.{merge, stretch_of}
 use Rattle.shapers_buffer.specs.Glyph.{clusters, default_glyph, order_view, plain}
@@ -20,7 +20,7 @@ use Rattle.shapers_normal.proofs.RecompositionHalves.{set_in_text}
 use Rattle.shapers_normal.proofs.SortingHalves.{glyph_in_part}
 
 -- two neighbours that change places
-as_set : (gs : List hb_glyph_info_t) (i : ℕ) → i + 1 < length gs
+as_set : (gs : Glyphs) (i : ℕ) → i + 1 < length gs
     → swap gs i (i + 1) ≡ set (set gs i (get_or gs (i + 1) default_glyph)) (i + 1) (get_or gs i default_glyph)
 as_set gs i within =
     let x = get_or gs i default_glyph in
@@ -28,7 +28,7 @@ as_set gs i within =
     sym (swapped gs i x y within (get_or_default gs i default_glyph x (omega arith))
     (get_or_default gs (i + 1) default_glyph y within))
 
-swap_in_text : (i : ℕ) (before gs rest : List hb_glyph_info_t) → i + 1 < length gs
+swap_in_text : (i : ℕ) (before gs rest : Glyphs) → i + 1 < length gs
     → swap (before ++ (gs ++ rest)) (length before + i) (length before + i + 1) ≡ before ++ (swap gs i (i + 1) ++ rest)
 swap_in_text i before gs rest within =
     let a = length before in
@@ -45,11 +45,11 @@ swap_in_text i before gs rest within =
     ∙ set_in_text (i + 1) x before (set gs i y) rest (omega (arith, length-set gs i y))
     ∙ ap (λ xs. before ++ (xs ++ rest)) (sym (as_set gs i within))
 
-pub within : (s e : ℕ) (gs : List hb_glyph_info_t) → s < e → e ≤ length gs
+pub within : (s e : ℕ) (gs : Glyphs) → s < e → e ≤ length gs
     → IfSome (second_of_triple s e gs) (λ i. i + 1 < length gs)
 within s e gs some long = second_within gs s e (omega arith) long
 
-alone_by : (P : ℕ → Type 0) (level : BufferClusterLevel) (s : ℕ) (before gs rest : List hb_glyph_info_t) (o : Option ℕ)
+alone_by : (P : ℕ → Type 0) (level : BufferClusterLevel) (s : ℕ) (before gs rest : Glyphs) (o : Option ℕ)
     → IfSome (option_map (λ i. s + i + 1) o) (λ i. i + 1 < length gs) → Each P gs → Each (Not P) before
     → Each (Not P) rest →
     run_step level (step_at (length (before ++ (gs ++ rest))) (option_map (λ i. length before + s + i + 1) o))
@@ -74,7 +74,7 @@ alone_by P level s before gs rest (Some j) inside p x y =
     ∙ swap_in_text i before ms rest (omega (arith, inside, length-merge level i (i + 2) gs (omega (arith, inside))))
     ∙ ap (λ xs. before ++ (xs ++ rest)) (sym (run-swap_step level gs i inside))
 
-pub hebrew_alone : (P : ℕ → Type 0) (level : BufferClusterLevel) (s e : ℕ) (before gs rest : List hb_glyph_info_t)
+pub hebrew_alone : (P : ℕ → Type 0) (level : BufferClusterLevel) (s e : ℕ) (before gs rest : Glyphs)
     → s < e → e ≤ length gs → Each P gs → Each (Not P) before → Each (Not P) rest →
     run_step level (hebrew_mark_step (length before + s) (length before + e) (before ++ (gs ++ rest)))
     (before ++ (gs ++ rest)) ≡ before ++ (run_step level (hebrew_mark_step s e gs) gs ++ rest)
@@ -85,7 +85,7 @@ hebrew_alone P level s e before gs rest some long p x y =
     (within_part s e before gs rest (omega arith) long)
     ∙ alone_by P level s before gs rest (triple_place (stretch_of s e gs)) (within s e gs some long) p x y
 
-front_by : (s : ℕ) (view : List hb_glyph_info_t) (o : Option ℕ)
+front_by : (s : ℕ) (view : Glyphs) (o : Option ℕ)
     → IfSome (option_map (λ i. s + i + 1) o) (λ i. i + 1 < length view)
     → take s (option_map_or (λ i. swap view i (i + 1)) (option_map (λ i. s + i + 1) o) view) ≡ take s view
 front_by s view None inside = refl
@@ -96,7 +96,7 @@ front_by s view (Some j) inside =
     ap (take s) (as_set view i inside) ∙ take-set-le s (set view i y) (i + 1) x (omega arith)
     ∙ take-set-le s view i y (omega arith)
 
-pub hebrew_in_front : (level : BufferClusterLevel) (s e : ℕ) (gs : List hb_glyph_info_t) → s < e → e ≤ length gs
+pub hebrew_in_front : (level : BufferClusterLevel) (s e : ℕ) (gs : Glyphs) → s < e → e ≤ length gs
     → take s (order_view (run_step level (hebrew_mark_step s e gs) gs)) ≡ take s (order_view gs)
 hebrew_in_front level s e gs some long =
     let view = order_view gs in
@@ -104,7 +104,7 @@ hebrew_in_front level s e gs some long =
     ∙ front_by s view (triple_place (stretch_of s e view))
     (second_within view s e (omega arith) (omega (arith, length-map gs plain)))
 
-pub hebrew_same_length : (level : BufferClusterLevel) (s e : ℕ) (gs : List hb_glyph_info_t) → s < e → e ≤ length gs
+pub hebrew_same_length : (level : BufferClusterLevel) (s e : ℕ) (gs : Glyphs) → s < e → e ≤ length gs
     → length (run_step level (hebrew_mark_step s e gs) gs) ≡ length gs
 hebrew_same_length level s e gs some long =
     let new = run_step level (hebrew_mark_step s e gs) gs in
@@ -112,13 +112,13 @@ hebrew_same_length level s e gs some long =
     ∙ (mark_laws level s e gs (within s e gs some long)).glyphs.in_clusters.same_length
     ∙ length-map gs (λ g. g.cluster)
 
-pub hebrew_old_clusters : (level : BufferClusterLevel) (s e : ℕ) (gs : List hb_glyph_info_t) → s < e → e ≤ length gs
+pub hebrew_old_clusters : (level : BufferClusterLevel) (s e : ℕ) (gs : Glyphs) → s < e → e ≤ length gs
     → All (Contains (clusters gs)) (clusters (run_step level (hebrew_mark_step s e gs) gs))
 hebrew_old_clusters level s e gs some long =
     (mark_laws level s e gs (within s e gs some long)).glyphs.in_clusters.old_clusters
 
 -- what stands behind the marks keeps its classes
-before_end : (s e : ℕ) (gs : List hb_glyph_info_t) → s < e → e ≤ length gs
+before_end : (s e : ℕ) (gs : Glyphs) → s < e → e ≤ length gs
     → IfSome (option_map (λ i. s + i + 1) (triple_place (stretch_of s e gs))) (λ i. i + 1 < e)
 before_end s e gs some long =
     let front = take e gs in
@@ -131,7 +131,7 @@ before_end s e gs some long =
     (subst (λ marks. IfSome (option_map (λ i. s + i + 1) (triple_place marks)) (λ i. i + 1 < length front)) same
     (second_within front s e (omega arith) (omega arith)))
 
-behind_by : (level : BufferClusterLevel) (s e : ℕ) (gs : List hb_glyph_info_t) (o : Option ℕ) → e ≤ length gs
+behind_by : (level : BufferClusterLevel) (s e : ℕ) (gs : Glyphs) (o : Option ℕ) → e ≤ length gs
     → IfSome (option_map (λ i. s + i + 1) o) (λ i. i + 1 < e)
     → drop e (classes (run_step level (step_at (length gs) (option_map (λ i. s + i + 1) o)) gs)) ≡ drop e (classes gs)
 behind_by level s e gs None long inside = ap (λ xs. drop e (classes xs)) (run-still_step level gs)
@@ -150,7 +150,7 @@ behind_by level s e gs (Some j) long inside =
     ∙ sym (drop-map class_of e ms)
     ∙ ap (drop e) seen
 
-pub hebrew_behind : (level : BufferClusterLevel) (s e : ℕ) (gs : List hb_glyph_info_t) → s < e → e ≤ length gs
+pub hebrew_behind : (level : BufferClusterLevel) (s e : ℕ) (gs : Glyphs) → s < e → e ≤ length gs
     → drop e (classes (run_step level (hebrew_mark_step s e gs) gs)) ≡ drop e (classes gs)
 hebrew_behind level s e gs some long =
     behind_by level s e gs (triple_place (stretch_of s e gs)) long (before_end s e gs some long)

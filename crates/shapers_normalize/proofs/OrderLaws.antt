@@ -1,9 +1,9 @@
 -- Each shaper's order of marks leaves glyphs beside them alone.
-use Rattle.std.proofs.Common.{List, None, Some, refl}
+use Rattle.std.proofs.Common.{None, Some, refl}
 use Rattle.std.specs.List.{Contains}
 use Rattle.std.proofs.lemmas.List.Elements.{All-contains_itself}
 use Rattle.rustybuzz_shapers.specs.declared.shaper.hb_ot_shaper_t.TheVariants.{Arabic, Hangul, Hebrew, Indic, Khmer, Myanmar, MyanmarZawgyi, Thai, Universal}
-use Rattle.shapers_buffer.specs.declared.buffer.glyph.hb_glyph_info_t.{hb_glyph_info_t}
+use Rattle.shapers_buffer.specs.Glyphs.{Glyphs}
 use Rattle.shapers_buffer.specs.Glyph.{clusters}
 use Rattle.shapers_clusters.proofs.Halves.{Each}
 use Rattle.shapers_normal.proofs.Beside.{each_of}
@@ -12,7 +12,7 @@ use Rattle.shapers_normalize.specs.Laws.{ShapersOrderAlone}
 use Rattle.shapers_normalize.proofs.ArabicAlone.{arabic_alone, arabic_in_front, arabic_old_clusters, arabic_same_length}
 use Rattle.shapers_normalize.proofs.HebrewAlone.{hebrew_alone, hebrew_in_front, hebrew_old_clusters, hebrew_same_length}
 
-own : (gs : List hb_glyph_info_t) → Each (Contains (clusters gs)) gs
+own : (gs : Glyphs) → Each (Contains (clusters gs)) gs
 own gs = each_of (Contains (clusters gs)) gs (All-contains_itself (clusters gs))
 
 pub order_alone : ShapersOrderAlone

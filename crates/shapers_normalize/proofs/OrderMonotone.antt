@@ -1,11 +1,11 @@
 -- Each shaper's order of marks keeps clusters rising, or falling.
-use Rattle.std.proofs.Common.{◌≡◌, ◌-◌, ◌<◌, ◌≤◌, ℕ, true, List, [], ◌∷◌, length, Some, None, sym, ap, ◌∙◌, subst, arith}
+use Rattle.std.proofs.Common.{◌≡◌, ◌-◌, ◌<◌, ◌≤◌, ℕ, true, [], ◌∷◌, length, Some, None, sym, ap, ◌∙◌, subst, arith}
 use Rattle.rustybuzz_shapers.specs.declared.shaper.hb_ot_shaper_t.TheVariants.{Arabic, Hangul, Hebrew, Indic, Khmer, Myanmar, MyanmarZawgyi, Thai, Universal}
 use Rattle.shapers_arabic.specs.Marks.{arabic_mark_step, marks_merged, marks_reordered, split_marks, text_step, without_class}
 use Rattle.shapers_arabic.proofs.MarkLaws as arabic
 use Rattle.shapers_arabic.proofs.MarkLists.{split-joined}
 use Rattle.shapers_arabic.proofs.MarkMoves.{moves-merged}
-use Rattle.shapers_buffer.specs.declared.buffer.glyph.hb_glyph_info_t.{hb_glyph_info_t}
+use Rattle.shapers_buffer.specs.Glyphs.{Glyph, Glyphs}
 use Rattle.shapers_buffer.specs.declared.buffer.level.BufferClusterLevel.{BufferClusterLevel}
 use Rattle.shapers_buffer.specs.Clusters.{merge_all, merges, stretch_of}
 use Rattle.shapers_buffer.specs.Glyph.{clusters}
@@ -24,8 +24,8 @@ use Rattle.shapers_normalize.proofs.ArabicAlone.{sum_joined}
 use Rattle.shapers_normalize.proofs.HebrewAlone.{within}
 
 -- a step that moves inside what it merges
-by_step : (level : BufferClusterLevel) (view : hb_glyph_info_t → hb_glyph_info_t) (step : Step)
-    (gs new : List hb_glyph_info_t) → merges level ≡ true → MovesMerged (length gs) step
+by_step : (level : BufferClusterLevel) (view : Glyph → Glyph) (step : Step)
+    (gs new : Glyphs) → merges level ≡ true → MovesMerged (length gs) step
     → ReorderedHold view level (step ∷ []) gs new → IsMonotone (clusters gs) → IsMonotone (clusters new)
 by_step level view step gs new m moves held rises =
     let sts = all_first (step ∷ []) in
@@ -33,14 +33,14 @@ by_step level view step gs new m moves held rises =
     (exact_cuts_hold level sts gs m (end_within-all_first (length gs) (step ∷ []) (moves, tt)) rises).1 in
     subst IsMonotone (clusters-merge_all level sts gs ∙ sym (held.where_merging m).only_merged) merged
 
-arabic_moves : (marks : List hb_glyph_info_t) → MovesMerged (length marks) (arabic_mark_step (split_marks marks))
+arabic_moves : (marks : Glyphs) → MovesMerged (length marks) (arabic_mark_step (split_marks marks))
 arabic_moves marks =
     let s = split_marks marks in
     subst (λ n. MovesMerged n (arabic_mark_step s)) (sym (sum_joined s) ∙ ap length (split-joined marks))
     (moves-merged (length s.low) (length s.modifiers_below) (length s.middle) (length s.modifiers_above)
     (length s.rest))
 
-arabic_mono : (level : BufferClusterLevel) (s e : ℕ) (gs : List hb_glyph_info_t) → merges level ≡ true → s < e
+arabic_mono : (level : BufferClusterLevel) (s e : ℕ) (gs : Glyphs) → merges level ≡ true → s < e
     → e ≤ length gs → IsMonotone (clusters gs) → IsMonotone (clusters (marks_reordered s e (marks_merged level s e gs)))
 arabic_mono level s e gs m some long rises =
     let marks = stretch_of s e gs in
@@ -51,7 +51,7 @@ arabic_mono level s e gs m some long rises =
     (moves-widened s e (length gs) (arabic_mark_step (split_marks marks)) (omega arith) long moves)
     (arabic.mark_laws level s e gs (omega arith) long) rises
 
-hebrew_mono : (level : BufferClusterLevel) (s e : ℕ) (gs : List hb_glyph_info_t) → merges level ≡ true → s < e
+hebrew_mono : (level : BufferClusterLevel) (s e : ℕ) (gs : Glyphs) → merges level ≡ true → s < e
     → e ≤ length gs → IsMonotone (clusters gs) → IsMonotone (clusters (run_step level (hebrew_mark_step s e gs) gs))
 hebrew_mono level s e gs m some long rises =
     by_step level whole (hebrew_mark_step s e gs) gs (run_step level (hebrew_mark_step s e gs) gs) m

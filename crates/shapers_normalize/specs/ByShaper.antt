@@ -1,5 +1,5 @@
 -- What normalization reads of a shaper with its plan, a font and tables.
-use Rattle.std.specs.Prelude.{ℕ, nat_lt, Bool, ◌&&◌, ◌||◌, List, Option, None, if◌then◌else◌}
+use Rattle.std.specs.Prelude.{ℕ, nat_lt, Bool, ◌&&◌, ◌||◌, Option, None, if◌then◌else◌}
 use Rattle.std.specs.Option.{option_map_or}
 use Rattle.rustybuzz_shapers.specs.Records.{normalizes}
 use Rattle.rustybuzz_shapers.specs.declared.shaper.hb_ot_shaper_t.{hb_ot_shaper_t}
@@ -11,7 +11,7 @@ use Rattle.shapers_base.specs.declared.plan.hb_ot_shape_plan_t.{hb_ot_shape_plan
 use Rattle.shapers_base.specs.declared.plan.record.NormalizationMode.{NormalizationMode}
 use Rattle.shapers_base.specs.declared.plan.record.NormalizationMode.TheVariants.{AUTO}
 use Rattle.shapers_buffer.specs.declared.buffer.category.hb_unicode_general_category_t.TheVariants.{Cn}
-use Rattle.shapers_buffer.specs.declared.buffer.glyph.hb_glyph_info_t.{hb_glyph_info_t}
+use Rattle.shapers_buffer.specs.Glyphs.{Glyphs}
 use Rattle.shapers_buffer.specs.declared.buffer.level.BufferClusterLevel.{BufferClusterLevel}
 use Rattle.shapers_clusters.specs.Steps.{run_step}
 use Rattle.shapers_indic.specs.Characters.{composed_in_indic, decomposed_in_indic}
@@ -53,14 +53,14 @@ composed_for shaper plan tables a b =
     option_map_or (composed_by plan tables a b) shaper (tables.composed a b)
 
 -- the marks from one place to another as the shaper orders them
-abbrev pub ordered_by : BufferClusterLevel → ℕ → ℕ → List hb_glyph_info_t → hb_ot_shaper_t →
-    List hb_glyph_info_t
+abbrev pub ordered_by : BufferClusterLevel → ℕ → ℕ → Glyphs → hb_ot_shaper_t →
+    Glyphs
 ordered_by level s e gs Arabic = marks_reordered s e (marks_merged level s e gs)
 ordered_by level s e gs Hebrew = run_step level (hebrew_mark_step s e gs) gs
 ordered_by level s e gs shaper = gs
 
 abbrev pub ordered_for : Option hb_ot_shaper_t → BufferClusterLevel → ℕ → ℕ →
-    List hb_glyph_info_t → List hb_glyph_info_t
+    Glyphs → Glyphs
 ordered_for shaper level s e gs = option_map_or (ordered_by level s e gs) shaper gs
 
 -- All of them for normalization. A number that is no character's stays as it is: it is of no

@@ -1,7 +1,7 @@
 -- The features of fractions. Masks: 0x10 of fractions, 0x20 of numerators, 0x40 of denominators; flags: 1 and 2.
 use Rattle.std.specs.Prelude.{◌≡◌, ◌==◌, ◌||◌, ℕ, List, [], ◌∷◌, map, suc, refl, if◌then◌else◌}
 use Rattle.shapers_buffer.specs.declared.buffer.category.hb_unicode_general_category_t.TheVariants.{Lo, Nd}
-use Rattle.shapers_buffer.specs.declared.buffer.glyph.hb_glyph_info_t.{hb_glyph_info_t}
+use Rattle.shapers_buffer.specs.Glyphs.{Glyphs}
 use Rattle.shapers_buffer.specs.declared.buffer.level.Direction.{Direction}
 use Rattle.shapers_buffer.specs.declared.buffer.level.Direction.TheVariants.{Invalid, LeftToRight, RightToLeft, TopToBottom, BottomToTop}
 use Rattle.shapers_buffer.specs.Buffer.{Buffer, new_buffer}
@@ -14,7 +14,7 @@ abbrev fraction_features : ℕ → ℕ → ℕ → DriverMasks
 fraction_features frac numr dnom = record { frac = frac; numr = numr; dnom = dnom; rtlm = 0x80; vert = 0 }
 
 -- characters, whose clusters rise; 1, 2 and 3 are decimal numbers
-abbrev text_from : ℕ → List ℕ → List hb_glyph_info_t
+abbrev text_from : ℕ → List ℕ → Glyphs
 text_from k [] = []
 text_from k (c ∷ cs) = (record default_glyph {
   glyph_id = c;

@@ -1,12 +1,12 @@
 -- What is kept beside glyphs, and single substitutions.
 use Rattle.std.specs.Prelude.{◌≡◌, ◌+◌, ℕ, false, true, List, [], ◌∷◌, refl}
-use Rattle.shapers_buffer.specs.declared.buffer.glyph.hb_glyph_info_t.{hb_glyph_info_t}
+use Rattle.shapers_buffer.specs.Glyphs.{Glyph}
 use Rattle.shapers_plan.specs.declared.ot_map.lookups.StageLookup.{StageLookup}
 use Rattle.shapers_pipeline.specs.Lookups.{with_note}
 use Rattle.shapers_pipeline.specs.Singles.{single_applied}
 use Rattle.shapers_pipeline.specs.declared.singles.Single.{Single}
 
-abbrev glyph : ℕ → ℕ → ℕ → ℕ → hb_glyph_info_t
+abbrev glyph : ℕ → ℕ → ℕ → ℕ → Glyph
 glyph number mask props ligature = record {
   glyph_id = number;
   mask = mask;

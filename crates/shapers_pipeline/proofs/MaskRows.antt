@@ -1,10 +1,10 @@
 -- The masks that a plan gives a text.
 use Rattle.std.specs.Prelude.{◌≡◌, ℕ, List, [], ◌∷◌, map, refl}
-use Rattle.shapers_buffer.specs.declared.buffer.glyph.hb_glyph_info_t.{hb_glyph_info_t}
+use Rattle.shapers_buffer.specs.Glyphs.{Glyph}
 use Rattle.shapers_plan.specs.declared.ot_shape_plan.user.UserRange.{UserRange}
 use Rattle.shapers_pipeline.specs.Masks.{as_glyph, with_features, with_mask_alone}
 
-abbrev glyph : ℕ → ℕ → ℕ → ℕ → hb_glyph_info_t
+abbrev glyph : ℕ → ℕ → ℕ → ℕ → Glyph
 glyph c mask props cluster = record {
   glyph_id = c;
   mask = mask;

@@ -5,7 +5,7 @@ use Rattle.std.proofs.lemmas.Slice.Zip.{length-zip}
 use Rattle.std.specs.List.{zip}
 use Rattle.shapers_buffer.specs.Buffer.{Buffer}
 use Rattle.shapers_buffer.specs.declared.buffer.glyph.GlyphPosition.{GlyphPosition}
-use Rattle.shapers_buffer.specs.declared.buffer.glyph.hb_glyph_info_t.{hb_glyph_info_t}
+use Rattle.shapers_buffer.specs.Glyphs.{Glyph, Glyphs}
 use Rattle.shapers_position.specs.Ignorables.{ignorables_zeroed}
 use Rattle.shapers_position.specs.Widths.{positions_changed}
 use Rattle.shapers_position.specs.declared.ot_shape_position.ignorables.DefaultIgnorables.{DefaultIgnorables}
@@ -23,11 +23,11 @@ same_length old new keeps = sym (length-map new.glyphs unplaced) ∙ ap length k
 pub paired_stays : (old new : Buffer) → PositionKeeps old new → Paired old → Paired new
 paired_stays old new keeps pairs = keeps.positions ∙ pairs ∙ sym (same_length old new keeps)
 
-pub length-changed : (f : hb_glyph_info_t → GlyphPosition → GlyphPosition) (gs : List hb_glyph_info_t)
+pub length-changed : (f : Glyph → GlyphPosition → GlyphPosition) (gs : Glyphs)
     (ps : List GlyphPosition) → length ps ≡ length gs → length (positions_changed f gs ps) ≡ length gs
 length-changed f gs ps pairs = omega (arith, length-map (zip gs ps) (λ c. f c.0 c.1), length-zip gs ps, pairs)
 
-pub zeroed_pairs : (now : Bool) (is_mark : hb_glyph_info_t → Bool) (applies : Bool) (b : Buffer) → Paired b → Paired
+pub zeroed_pairs : (now : Bool) (is_mark : Glyph → Bool) (applies : Bool) (b : Buffer) → Paired b → Paired
     (marks_zeroed_if now is_mark applies b)
 zeroed_pairs true is_mark applies b pairs = length-changed _ b.glyphs b.positions pairs
 zeroed_pairs false is_mark applies b pairs = pairs

@@ -13,7 +13,7 @@ use Rattle.shapers_buffer.specs.Buffer.{Buffer}
 use Rattle.shapers_buffer.specs.Clusters.{merges}
 use Rattle.shapers_buffer.specs.Glyph.{clusters}
 use Rattle.shapers_buffer.specs.declared.buffer.glyph.GlyphPosition.{GlyphPosition}
-use Rattle.shapers_buffer.specs.declared.buffer.glyph.hb_glyph_info_t.{hb_glyph_info_t}
+use Rattle.shapers_buffer.specs.Glyphs.{Glyph, Glyphs}
 use Rattle.shapers_plan.specs.declared.ot_map.lookups.StageLookup.{StageLookup}
 use Rattle.shapers_position.specs.Ignorables.{drawn_by, ignorable_zeroed, ignorables_hidden, ignorables_removed, ignorables_zeroed, is_default_ignorable, removed}
 use Rattle.shapers_position.specs.Laws.{FlagsLaw, RemovalLaw}
@@ -67,7 +67,7 @@ stays b = record {
 
 -- ---- positions changed, each by its glyph
 
-changed : (f : hb_glyph_info_t → GlyphPosition → GlyphPosition) (b : Buffer) → Placed b
+changed : (f : Glyph → GlyphPosition → GlyphPosition) (b : Buffer) → Placed b
     (record b { positions = positions_changed f b.glyphs b.positions })
 changed f b = record {
   keeps = record { level = refl; glyphs = itself (merges b.level) b.glyphs };
@@ -75,7 +75,7 @@ changed f b = record {
   few = le_refl (length b.glyphs);
 }
 
-zeroed_if : (now : Bool) (is_mark : hb_glyph_info_t → Bool) (applies : Bool) (b : Buffer) → Placed b
+zeroed_if : (now : Bool) (is_mark : Glyph → Bool) (applies : Bool) (b : Buffer) → Placed b
     (marks_zeroed_if now is_mark applies b)
 zeroed_if true is_mark applies b = changed (mark_zeroed is_mark (hangs_marks applies b.direction)) b
 zeroed_if false is_mark applies b = stays b
@@ -125,12 +125,12 @@ in_order b =
 
 -- ---- hidden glyphs
 
-drawn_cluster : (glyph : GlyphId) (g : hb_glyph_info_t) → (drawn_by glyph g).cluster ≡ g.cluster
+drawn_cluster : (glyph : GlyphId) (g : Glyph) → (drawn_by glyph g).cluster ≡ g.cluster
 drawn_cluster glyph g = elim (is_default_ignorable g) as
-    (λ test. (if test then (let r : hb_glyph_info_t = record g { glyph_id = glyph.0 } in r) else g).cluster
+    (λ test. (if test then (let r : Glyph = record g { glyph_id = glyph.0 } in r) else g).cluster
     ≡ g.cluster) [ true ↦ refl | false ↦ refl ]
 
-length-paired : (f : hb_glyph_info_t → Bool) (gs : List hb_glyph_info_t) (ps : List GlyphPosition) → length ps
+length-paired : (f : Glyph → Bool) (gs : Glyphs) (ps : List GlyphPosition) → length ps
     ≡ length gs → length (filter (λ c. f c.0) (zip gs ps)) ≡ length (filter f gs)
 length-paired f [] [] pairs = refl
 length-paired f [] (p ∷ ps) pairs = refl
@@ -144,7 +144,7 @@ length-paired f (g ∷ gs) (p ∷ ps) pairs =
 ignorables_go : RemovalLaw → (b : Buffer) → Placed b (ignorables_removed b)
 ignorables_go law b =
     let r = law b.level b.glyphs in
-    let stay : hb_glyph_info_t → Bool = λ g. not (is_default_ignorable g) in
+    let stay : Glyph → Bool = λ g. not (is_default_ignorable g) in
     let left = removed b.level b.glyphs in
     let long : length left ≡ length (filter stay b.glyphs) = sym (length-map left _) ∙ ap length r.same_view
     ∙ length-map (filter stay b.glyphs) _ in

@@ -14,7 +14,7 @@ use Rattle.shapers_buffer.specs.Clusters.{merges, with_stretch}
 use Rattle.shapers_buffer.specs.Glyph.{characters, clusters, default_glyph}
 use Rattle.shapers_buffer.specs.GlyphFlags.{unsafe_inside, unsafe_to_concat_in, with_bits}
 use Rattle.shapers_buffer.specs.Lists.{each_after}
-use Rattle.shapers_buffer.specs.declared.buffer.glyph.hb_glyph_info_t.{hb_glyph_info_t}
+use Rattle.shapers_buffer.specs.Glyphs.{Glyph, Glyphs}
 use Rattle.shapers_buffer.specs.declared.buffer.level.Direction.{Direction}
 use Rattle.shapers_buffer.specs.declared.buffer.tag.Script.{Script}
 use Rattle.shapers_clusters.proofs.FlagCalls.{map-unsafe_inside, map-unsafe_to_concat_in, map-with_stretch}
@@ -73,7 +73,7 @@ after a b c one two = record {
 
 -- ---- the features of the whole text, and the properties of its characters
 
-pub clusters-properties : (p : CharacterProperties) (before gs : List hb_glyph_info_t) → clusters
+pub clusters-properties : (p : CharacterProperties) (before gs : Glyphs) → clusters
     (map (λ x. with_properties_behind p x.0 x.1) (each_after before gs)) ≡ clusters gs
 clusters-properties p before [] = refl
 clusters-properties p before (g ∷ gs) = ap (λ ks. g.cluster ∷ ks) (clusters-properties p (before ++ g ∷ []) gs)
@@ -90,7 +90,7 @@ begun p b =
 
 -- ---- a circle in front
 
-circle_kept : (m : Bool) (p : CharacterProperties) (gs : List hb_glyph_info_t) → Kept m gs (behind_circle p gs)
+circle_kept : (m : Bool) (p : CharacterProperties) (gs : Glyphs) → Kept m gs (behind_circle p gs)
 circle_kept m p [] = itself m []
 circle_kept m p (g ∷ gs) =
     kept_by m (g ∷ gs) (first_circle p g ∷ (g ∷ gs)) (λ P own. (own.0, own))
@@ -152,17 +152,17 @@ thai_keeps plan font b =
     ]
 
 -- A walk that puts a circle before some glyphs, by a table of any kind X.
-pub record Parts {X : Type 0} (walk : X → ℕ → List hb_glyph_info_t → List hb_glyph_info_t)
-    (left : X → ℕ → hb_glyph_info_t → List hb_glyph_info_t → ℕ)
+pub record Parts {X : Type 0} (walk : X → ℕ → Glyphs → Glyphs)
+    (left : X → ℕ → Glyph → Glyphs → ℕ)
     : Type 0 where
   pub nil : (s : X) (n : ℕ) → walk s n [] ≡ []
-  pub cons : (s : X) (n : ℕ) (g : hb_glyph_info_t) (gs : List hb_glyph_info_t) →
+  pub cons : (s : X) (n : ℕ) (g : Glyph) (gs : Glyphs) →
       walk s n (g ∷ gs) ≡ circle_before_last n g
       ++ g ∷ walk s (left s n g gs) gs
 
-module _ {X : Type 0} (walk : X → ℕ → List hb_glyph_info_t → List hb_glyph_info_t)
-    (left : X → ℕ → hb_glyph_info_t → List hb_glyph_info_t → ℕ) (parts : Parts walk left) where
-  each-parted : (P : ℕ → Type 0) (s : X) (n : ℕ) (gs : List hb_glyph_info_t) → Each P gs → Each P (walk s n gs)
+module _ {X : Type 0} (walk : X → ℕ → Glyphs → Glyphs)
+    (left : X → ℕ → Glyph → Glyphs → ℕ) (parts : Parts walk left) where
+  each-parted : (P : ℕ → Type 0) (s : X) (n : ℕ) (gs : Glyphs) → Each P gs → Each P (walk s n gs)
   each-parted P s n [] own = subst (Each P) (sym (parts.nil s n)) tt
   each-parted P s n (g ∷ gs) own =
       let rest = walk s (left s n g gs) gs in
@@ -174,7 +174,7 @@ module _ {X : Type 0} (walk : X → ℕ → List hb_glyph_info_t → List hb_gly
         | false ↦ (own.0, more)
       ])
 
-  pairs-parted : (R : ℕ → ℕ → Type 0) → ((k : ℕ) → R k k) → (s : X) (n : ℕ) (gs : List hb_glyph_info_t) → Pairs R gs
+  pairs-parted : (R : ℕ → ℕ → Type 0) → ((k : ℕ) → R k k) → (s : X) (n : ℕ) (gs : Glyphs) → Pairs R gs
       → Pairs R (walk s n gs)
   pairs-parted R self s n [] own = subst (Pairs R) (sym (parts.nil s n)) tt
   pairs-parted R self s n (g ∷ gs) own =
@@ -188,10 +188,10 @@ module _ {X : Type 0} (walk : X → ℕ → List hb_glyph_info_t → List hb_gly
         | false ↦ (all, more)
       ])
 
-  parted_by : (whole : Option X → List hb_glyph_info_t → List hb_glyph_info_t) →
-      ((gs : List hb_glyph_info_t) → whole None gs ≡ gs) →
-      ((s : X) (gs : List hb_glyph_info_t) → whole (Some s) gs ≡ walk s 0 gs) → (m : Bool) (o : Option X)
-      (gs : List hb_glyph_info_t) → Kept m gs (whole o gs)
+  parted_by : (whole : Option X → Glyphs → Glyphs) →
+      ((gs : Glyphs) → whole None gs ≡ gs) →
+      ((s : X) (gs : Glyphs) → whole (Some s) gs ≡ walk s 0 gs) → (m : Bool) (o : Option X)
+      (gs : Glyphs) → Kept m gs (whole o gs)
   parted_by whole without by m None gs = subst (Kept m gs) (sym (without gs)) (itself m gs)
   parted_by whole without by m (Some s) gs = subst (Kept m gs) (sym (by s gs))
       (kept_by m gs (walk s 0 gs) (λ P. each-parted P s 0 gs) (λ R self. pairs-parted R self s 0 gs))
@@ -238,22 +238,22 @@ preprocessed_if thai hangul (Some shaper) plan font b = preprocessed_keeps thai 
 
 -- ---- rotation
 
-other_cluster : (g h : hb_glyph_info_t) (o : Option ℕ) → h.cluster ≡ g.cluster →
+other_cluster : (g h : Glyph) (o : Option ℕ) → h.cluster ≡ g.cluster →
     (option_map_or (as_other_character g) o h).cluster ≡ g.cluster
 other_cluster g h None is = is
 other_cluster g h (Some c) is = refl
 
-upright_cluster : (p : CharacterProperties) (font : Font) (g : hb_glyph_info_t) → (upright_glyph p font g).cluster
+upright_cluster : (p : CharacterProperties) (font : Font) (g : Glyph) → (upright_glyph p font g).cluster
     ≡ g.cluster
 upright_cluster p font g = other_cluster g g (which_font_has font (p.vertical g.glyph_id)) refl
 
-mirrored_cluster : (p : CharacterProperties) (font : Font) (backward : Bool) (mask : ℕ) (g : hb_glyph_info_t) →
+mirrored_cluster : (p : CharacterProperties) (font : Font) (backward : Bool) (mask : ℕ) (g : Glyph) →
     (if backward then mirrored_glyph p font mask g else g).cluster ≡ g.cluster
 mirrored_cluster p font true mask g = other_cluster g (with_bits mask g)
     (which_font_has font (p.mirroring g.glyph_id)) refl
 mirrored_cluster p font false mask g = refl
 
-rotated_cluster : (p : CharacterProperties) (font : Font) (r : CharRotation) (g : hb_glyph_info_t) →
+rotated_cluster : (p : CharacterProperties) (font : Font) (r : CharRotation) (g : Glyph) →
     (rotated_glyph p font r g).cluster ≡ g.cluster
 rotated_cluster p font r g =
     let one = if runs_backward r.direction then mirrored_glyph p font r.rtlm_mask g else g in
@@ -307,27 +307,27 @@ normal laws p direction b =
 
 -- ---- fractions
 
-concat_clusters : (concat : Bool) (i : ℕ) (gs : List hb_glyph_info_t) → clusters
+concat_clusters : (concat : Bool) (i : ℕ) (gs : Glyphs) → clusters
     (unsafe_to_concat_in concat i (i + 1) gs) ≡ clusters gs
 concat_clusters concat i gs = map-unsafe_to_concat_in (λ g. g.cluster) (λ g. refl) concat i (i + 1) gs (omega arith)
 
-if_clusters : (test : Bool) (concat : Bool) (i : ℕ) (gs : List hb_glyph_info_t) → clusters
+if_clusters : (test : Bool) (concat : Bool) (i : ℕ) (gs : Glyphs) → clusters
     (if test then unsafe_to_concat_in concat i (i + 1) gs else gs) ≡ clusters gs
 if_clusters true concat i gs = concat_clusters concat i gs
 if_clusters false concat i gs = refl
 
-alone_clusters : (concat : Bool) (i before behind : ℕ) (gs : List hb_glyph_info_t) → clusters
+alone_clusters : (concat : Bool) (i before behind : ℕ) (gs : Glyphs) → clusters
     (slash_alone concat i before behind gs) ≡ clusters gs
 alone_clusters concat i before behind gs =
     let left = if before == 0 then unsafe_to_concat_in concat i (i + 1) gs else gs in
     if_clusters (behind == 0) concat i left ∙ if_clusters (before == 0) concat i gs
 
-bits_clusters : (bits s e : ℕ) (gs : List hb_glyph_info_t) → s ≤ e → clusters
+bits_clusters : (bits s e : ℕ) (gs : Glyphs) → s ≤ e → clusters
     (with_stretch s e (map (with_bits bits)) gs) ≡ clusters gs
 bits_clusters bits s e gs order = map-with_stretch (λ g. g.cluster) s e (map (with_bits bits)) gs order
     (λ xs. clusters-map (with_bits bits) (λ g. refl) xs)
 
-marked_clusters : (m : SlashMasks) (i before behind : ℕ) (gs : List hb_glyph_info_t) → clusters
+marked_clusters : (m : SlashMasks) (i before behind : ℕ) (gs : Glyphs) → clusters
     (fraction_marked m i before behind gs) ≡ clusters gs
 marked_clusters m i before behind gs =
     let whole = unsafe_inside (i - before) (i + 1 + behind) gs in
@@ -338,7 +338,7 @@ marked_clusters m i before behind gs =
     ∙ bits_clusters m.before (i - before) i whole (omega arith)
     ∙ map-unsafe_inside (λ g. g.cluster) (λ g. refl) (i - before) (i + 1 + behind) gs (omega arith)
 
-around_clusters : (m : SlashMasks) (concat : Bool) (i : ℕ) (gs : List hb_glyph_info_t) → clusters
+around_clusters : (m : SlashMasks) (concat : Bool) (i : ℕ) (gs : Glyphs) → clusters
     (fraction_around m concat i gs) ≡ clusters gs
 around_clusters m concat i gs =
     let before = decimals_before i gs in
@@ -354,7 +354,7 @@ around_clusters m concat i gs =
     elim (not (is_fraction_slash (get_or gs i default_glyph))) as
     (λ test. clusters (if test then gs else made) ≡ clusters gs) [ true ↦ refl | false ↦ inner ]
 
-all_around_clusters : (m : SlashMasks) (concat : Bool) (n : ℕ) (gs : List hb_glyph_info_t) → clusters
+all_around_clusters : (m : SlashMasks) (concat : Bool) (n : ℕ) (gs : Glyphs) → clusters
     (fractions_around m concat n gs) ≡ clusters gs
 all_around_clusters m concat zero gs = refl
 all_around_clusters m concat (suc n) gs = around_clusters m concat n (fractions_around m concat n gs)
@@ -377,7 +377,7 @@ fractions p b = record {
 
 -- ---- the shaper's masks
 
-map_keeps : (f : hb_glyph_info_t → hb_glyph_info_t) → ((g : hb_glyph_info_t) → (f g).cluster ≡ g.cluster) →
+map_keeps : (f : Glyph → Glyph) → ((g : Glyph) → (f g).cluster ≡ g.cluster) →
     (b : Buffer) → Keeps b (record b { glyphs = map f b.glyphs })
 map_keeps f keeps b = record {
   level = refl;
@@ -398,7 +398,7 @@ universal_keeps (Some p) script tables b =
           (joined_added p.break_flags p.mask_array script tables.joining tables.general t new refl));
     })
 
-numbered_cluster : (masks : List ℕ) (g : hb_glyph_info_t) → (with_numbered_mask masks g).cluster ≡ g.cluster
+numbered_cluster : (masks : List ℕ) (g : Glyph) → (with_numbered_mask masks g).cluster ≡ g.cluster
 numbered_cluster masks g = refl
 
 masks_keep : (plan : hb_ot_shape_plan_t) (tables : CharacterTables) (b : Buffer) (shaper : hb_ot_shaper_t) → Keeps b
@@ -428,15 +428,15 @@ masks_if (Some shaper) plan tables b = masks_keep plan tables b shaper
 
 -- ---- the caller's features, and glyphs
 
-feature_cluster : (g : hb_glyph_info_t) (f : UserRange) → (with_feature g f).cluster ≡ g.cluster
+feature_cluster : (g : Glyph) (f : UserRange) → (with_feature g f).cluster ≡ g.cluster
 feature_cluster g f = elim (nat_le f.start g.cluster && nat_lt g.cluster f.end) as (λ test. (if test
-    then (let r : hb_glyph_info_t = record g {
+    then (let r : Glyph = record g {
       mask = bit_or (bit_and g.mask (bit_not w32 f.mask))
           (bit_and f.value f.mask);
     } in r)
     else g).cluster ≡ g.cluster) [ true ↦ refl | false ↦ refl ]
 
-features_cluster : (fs : List UserRange) (g : hb_glyph_info_t) → (with_features fs g).cluster ≡ g.cluster
+features_cluster : (fs : List UserRange) (g : Glyph) → (with_features fs g).cluster ≡ g.cluster
 features_cluster [] g = refl
 features_cluster (f ∷ fs) g = features_cluster fs (with_feature g f) ∙ feature_cluster g f
 

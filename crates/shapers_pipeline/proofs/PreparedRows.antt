@@ -8,7 +8,7 @@ use Rattle.shapers_buffer.specs.Buffer.{Buffer, new_buffer}
 use Rattle.shapers_buffer.specs.Glyph.{default_glyph}
 use Rattle.shapers_buffer.specs.declared.buffer.category.hb_unicode_general_category_t.{hb_unicode_general_category_t}
 use Rattle.shapers_buffer.specs.declared.buffer.category.hb_unicode_general_category_t.TheVariants.{Lo, Mn, Nd}
-use Rattle.shapers_buffer.specs.declared.buffer.glyph.hb_glyph_info_t.{hb_glyph_info_t}
+use Rattle.shapers_buffer.specs.Glyphs.{Glyphs}
 use Rattle.shapers_buffer.specs.declared.buffer.level.Direction.{Direction}
 use Rattle.shapers_buffer.specs.declared.buffer.level.Direction.TheVariants.{LeftToRight, RightToLeft}
 use Rattle.shapers_normal.specs.declared.ot_shape_normalize.normalizing.Rounds.TheVariants.{Always, AsCode}
@@ -61,7 +61,7 @@ prepared_for shaper = record {
 }
 
 -- characters with stale masks and flags, whose clusters rise
-abbrev text_from : ℕ → List ℕ → List hb_glyph_info_t
+abbrev text_from : ℕ → List ℕ → Glyphs
 text_from k [] = []
 text_from k (c ∷ cs) = (record default_glyph { glyph_id = c; cluster = k; mask = 0x7 }) ∷ text_from (suc k) cs
 

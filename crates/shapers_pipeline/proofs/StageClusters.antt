@@ -7,7 +7,7 @@ use Rattle.shapers_base.specs.declared.plan.pause.Pause.{Pause}
 use Rattle.shapers_buffer.specs.Buffer.{Buffer}
 use Rattle.shapers_buffer.specs.Clusters.{merges}
 use Rattle.shapers_buffer.specs.Glyph.{clusters}
-use Rattle.shapers_buffer.specs.declared.buffer.glyph.hb_glyph_info_t.{hb_glyph_info_t}
+use Rattle.shapers_buffer.specs.Glyphs.{Glyphs}
 use Rattle.shapers_clusters.specs.Cuts.{IsMonotone}
 use Rattle.shapers_syllabic.specs.Circles.{circled}
 use Rattle.shapers_syllabic.specs.declared.ot_shaper_syllabic.circles.DottedCircles.{DottedCircles}
@@ -82,7 +82,7 @@ mono_of : (cs js : List ℕ) → StaysMonotone cs js → IsMonotone cs → IsMon
 mono_of cs js stays (inl up) = inl (stays.0 up)
 mono_of cs js stays (inr down) = inr (stays.1 down)
 
-circles_sort : CirclesStayMonotone → (o : Option DottedCircles) (gs : List hb_glyph_info_t) → AtMostOneRepha o gs
+circles_sort : CirclesStayMonotone → (o : Option DottedCircles) (gs : Glyphs) → AtMostOneRepha o gs
     → IsMonotone (clusters gs) → IsMonotone (clusters (circled o gs))
 circles_sort law None gs one rises = rises
 circles_sort law (Some rule) gs one rises = mono_of (clusters gs) (clusters (circled (Some rule) gs))

@@ -16,7 +16,7 @@ use Rattle.shapers_base.specs.declared.plan.pause.Pause.TheVariants.{SetupSyllab
 use Rattle.shapers_buffer.specs.Buffer.{Buffer}
 use Rattle.shapers_buffer.specs.Refusals.{RefusesInput, RefusesLength}
 use Rattle.shapers_buffer.specs.Syllables.{spans_cover, unknown_syllable}
-use Rattle.shapers_buffer.specs.declared.buffer.glyph.hb_glyph_info_t.{hb_glyph_info_t}
+use Rattle.shapers_buffer.specs.Glyphs.{Glyph, Glyphs}
 use Rattle.shapers_buffer.specs.declared.buffer.refusal.ShaperError.{ShaperError}
 use Rattle.shapers_buffer.specs.declared.buffer.refusal.ShaperError.TheVariants.{Memory, TooLong, UnknownSyllable, SpansDontCover, StretchOverflow}
 use Rattle.shapers_buffer.specs.declared.buffer.syllables.Span.{Span}
@@ -118,13 +118,13 @@ looked_long f growth keeps grows (x ∷ xs) b none =
 -- ---- pauses
 
 -- with its circles
-circled_twice : (circles : Option DottedCircles) (gs ms : List hb_glyph_info_t) →
+circled_twice : (circles : Option DottedCircles) (gs ms : Glyphs) →
     length ms ≡ length (circled circles gs) → length ms ≤ length gs * 2
 circled_twice None gs ms same = omega (arith, same)
 circled_twice (Some rule) gs ms same = omega (arith, same, length-with_circles rule gs, few_circles (Some rule) gs)
 
 -- with flags alone
-flagged_once : (gs ms : List hb_glyph_info_t) → OnlyFlagsAdded gs ms → length ms ≤ length gs * 1
+flagged_once : (gs ms : Glyphs) → OnlyFlagsAdded gs ms → length ms ≤ length gs * 1
 flagged_once gs ms added = omega (arith, length_all_zip FlagsAdded gs ms added)
 
 pub pause_long : (pause : Pause) (plan : hb_ot_shape_plan_t) (font : Font) (spans : List Span) (old new : Buffer) →
@@ -142,7 +142,7 @@ pause_long ReorderMyanmar plan font spans old new k =
 pause_long ReorderUse plan font spans old new k =
     circled_twice (pause_circles ReorderUse plan font old) old.glyphs new.glyphs k.0.text.glyphs.same_length
 pause_long FinalReordering plan font spans old new k =
-    let number = λ (g : hb_glyph_info_t). g.glyph_id in
+    let number = λ (g : Glyph). g.glyph_id in
     omega (
       arith,
       length_permutation (map number old.glyphs) (map number new.glyphs) k.0.numbers,
@@ -257,7 +257,7 @@ by_spans : (covers : Bool) (e : ShaperError) →
 by_spans true e k = absurd (false≢true k)
 by_spans false e k = λ is. absurd cc
 
-circles_fit : (circles : Option DottedCircles) (gs : List hb_glyph_info_t) → length (circled circles gs) ≤ length gs * 2
+circles_fit : (circles : Option DottedCircles) (gs : Glyphs) → length (circled circles gs) ≤ length gs * 2
 circles_fit None gs = omega arith
 circles_fit (Some rule) gs = omega (arith, few_circles (Some rule) gs, length-with_circles rule gs)
 

@@ -20,7 +20,7 @@ use Rattle.shapers_buffer.specs.Buffer.{Buffer}
 use Rattle.shapers_buffer.specs.Clusters.{stretch_of}
 use Rattle.shapers_buffer.specs.Glyph.{clusters, default_glyph}
 use Rattle.shapers_buffer.specs.Refusals.{RefusesLength}
-use Rattle.shapers_buffer.specs.declared.buffer.glyph.hb_glyph_info_t.{hb_glyph_info_t}
+use Rattle.shapers_buffer.specs.Glyphs.{Glyph, Glyphs}
 use Rattle.shapers_buffer.specs.declared.buffer.level.BufferClusterLevel.{BufferClusterLevel}
 use Rattle.shapers_buffer.specs.declared.buffer.level.BufferClusterLevel.TheVariants.{Characters, MonotoneCharacters, MonotoneGraphemes}
 use Rattle.shapers_buffer.specs.declared.buffer.level.Direction.{Direction}
@@ -73,9 +73,9 @@ use Rattle.shapers_pipeline.proofs.Directed.{limit_stays}
 use Rattle.shapers_pipeline.proofs.TurnedGraphemes.{ends_within, flagged_same}
 
 -- texts with the same clusters have as many glyphs
-pub same_long : (gs hs : List hb_glyph_info_t) → clusters hs ≡ clusters gs → length hs ≡ length gs
-same_long gs hs is = sym (length-map hs (λ (g : hb_glyph_info_t). g.cluster)) ∙ ap length is
-    ∙ length-map gs (λ (g : hb_glyph_info_t). g.cluster)
+pub same_long : (gs hs : Glyphs) → clusters hs ≡ clusters gs → length hs ≡ length gs
+same_long gs hs is = sym (length-map hs (λ (g : Glyph). g.cluster)) ∙ ap length is
+    ∙ length-map gs (λ (g : Glyph). g.cluster)
 
 -- ---- a circle in front
 
@@ -86,7 +86,7 @@ begun_long p b =
     (clusters-properties p.properties [] masked ∙ clusters-map (with_mask_alone p.plan.ot_map.global) (λ g. refl)
     b.glyphs)
 
-circle_long : (p : CharacterProperties) (gs : List hb_glyph_info_t) → length (behind_circle p gs) ≤ length gs + 1
+circle_long : (p : CharacterProperties) (gs : Glyphs) → length (behind_circle p gs) ≤ length gs + 1
 circle_long p [] = omega arith
 circle_long p (g ∷ gs) = omega arith
 
@@ -102,17 +102,17 @@ opened_long p b =
 
 -- ---- graphemes, and the text's own direction
 
-formed_long : (level : BufferClusterLevel) (gs : List hb_glyph_info_t) → length (clusters_formed level gs) ≡ length gs
+formed_long : (level : BufferClusterLevel) (gs : Glyphs) → length (clusters_formed level gs) ≡ length gs
 formed_long MonotoneGraphemes gs = length-merge_all MonotoneGraphemes (graphemes gs) gs (ends_within gs)
 formed_long MonotoneCharacters gs = same_long gs (clusters_formed MonotoneCharacters gs) (flagged_same gs)
 formed_long Characters gs = same_long gs (clusters_formed Characters gs) (flagged_same gs)
 
-whole_long : (level : BufferClusterLevel) (gs : List hb_glyph_info_t) → length (graphemes_whole level gs) ≡ length gs
+whole_long : (level : BufferClusterLevel) (gs : Glyphs) → length (graphemes_whole level gs) ≡ length gs
 whole_long MonotoneGraphemes gs = refl
 whole_long MonotoneCharacters gs = length-merge_all MonotoneCharacters (graphemes gs) gs (ends_within gs)
 whole_long Characters gs = refl
 
-turned_long : GraphemesCover → (gs : List hb_glyph_info_t) → length (graphemes_turned gs) ≡ length gs
+turned_long : GraphemesCover → (gs : Glyphs) → length (graphemes_turned gs) ≡ length gs
 turned_long cover gs =
     let part = λ (st : ℕ × ℕ). stretch_of st.0 st.1 gs in
     let sts = graphemes gs in
@@ -138,9 +138,9 @@ directed_long cover p b =
 -- ---- preprocessing
 
 -- a walk that puts a circle before some glyphs, by a table of any kind X
-module _ {X : Type 0} (walk : X → ℕ → List hb_glyph_info_t → List hb_glyph_info_t)
-    (left : X → ℕ → hb_glyph_info_t → List hb_glyph_info_t → ℕ) (parts : Parts walk left) where
-  long-walk : (s : X) (n : ℕ) (gs : List hb_glyph_info_t) → length (walk s n gs) ≤ length gs * 2
+module _ {X : Type 0} (walk : X → ℕ → Glyphs → Glyphs)
+    (left : X → ℕ → Glyph → Glyphs → ℕ) (parts : Parts walk left) where
+  long-walk : (s : X) (n : ℕ) (gs : Glyphs) → length (walk s n gs) ≤ length gs * 2
   long-walk s n [] = subst (λ xs. length xs ≤ 0) (sym (parts.nil s n)) (le_refl 0)
   long-walk s n (g ∷ gs) =
       let rest = walk s (left s n g gs) gs in
@@ -152,10 +152,10 @@ module _ {X : Type 0} (walk : X → ℕ → List hb_glyph_info_t → List hb_gly
         | false ↦ omega (arith, more)
       ])
 
-  long_by : (whole : Option X → List hb_glyph_info_t → List hb_glyph_info_t) →
-      ((gs : List hb_glyph_info_t) → whole None gs ≡ gs) →
-      ((s : X) (gs : List hb_glyph_info_t) → whole (Some s) gs ≡ walk s 0 gs) → (o : Option X)
-      (gs : List hb_glyph_info_t) → length (whole o gs) ≤ length gs * 2
+  long_by : (whole : Option X → Glyphs → Glyphs) →
+      ((gs : Glyphs) → whole None gs ≡ gs) →
+      ((s : X) (gs : Glyphs) → whole (Some s) gs ≡ walk s 0 gs) → (o : Option X)
+      (gs : Glyphs) → length (whole o gs) ≤ length gs * 2
   long_by whole without by None gs = omega (arith, ap length (without gs))
   long_by whole without by (Some s) gs = omega (arith, ap length (by s gs), long-walk s 0 gs)
 
@@ -164,7 +164,7 @@ parted_long b =
     long_by vowels_parted_from left_behind (record { nil = λ s n. refl; cons = λ s n g gs. refl }) vowels_parted_in
     (λ gs. refl) (λ s gs. refl) (vowel_script_of b) b.glyphs
 
-few_ams : (gs : List hb_glyph_info_t) → count_by (λ g. is_sara_am g.glyph_id) gs ≤ length gs
+few_ams : (gs : Glyphs) → count_by (λ g. is_sara_am g.glyph_id) gs ≤ length gs
 few_ams gs = count_by-le-length (λ g. is_sara_am g.glyph_id) gs
 
 once : (n : ℕ) → n ≤ n * 1
@@ -217,12 +217,12 @@ wanted_long grows (Some shaper) plan font b = wanted_by grows plan font b shaper
 abbrev Any : ℕ → Type 0
 Any k = Unit {0}
 
-any_each : (gs : List hb_glyph_info_t) → Each Any gs
+any_each : (gs : Glyphs) → Each Any gs
 any_each [] = tt
 any_each (g ∷ gs) = (tt, any_each gs)
 
 run_long : (context : Context) → OrdersAlone context → (level : BufferClusterLevel) (run : ℕ × ℕ)
-    (gs : List hb_glyph_info_t) → run.1 ≤ length gs → length (run_ordered context level run gs) ≡ length gs
+    (gs : Glyphs) → run.1 ≤ length gs → length (run_ordered context level run gs) ≡ length gs
 run_long context o level run gs within =
     let sorted = run_sorted level run.0 run.1 gs in
     let same = (run_alone Any level run.0 run.1 (length gs) within).same_length gs (le_refl (length gs)) in
@@ -239,25 +239,25 @@ run_long context o level run gs within =
     ] refl
 
 runs_long : (context : Context) → OrdersAlone context → (level : BufferClusterLevel) (n : ℕ) (runs : List (ℕ × ℕ))
-    (gs : List hb_glyph_info_t) → n ≡ length gs → AllByRecursion (λ run. run.1 ≤ n) runs →
+    (gs : Glyphs) → n ≡ length gs → AllByRecursion (λ run. run.1 ≤ n) runs →
     length (fold (λ gs run. run_ordered context level run gs) gs runs) ≡ n
 runs_long context o level n [] gs long all = sym long
 runs_long context o level n (run ∷ runs) gs long all =
     let one = run_long context o level run gs (omega (arith, long, all.0)) in
     runs_long context o level n runs (run_ordered context level run gs) (omega (arith, long, one)) all.1
 
-ordered_long : (context : Context) → OrdersAlone context → (level : BufferClusterLevel) (gs : List hb_glyph_info_t) →
+ordered_long : (context : Context) → OrdersAlone context → (level : BufferClusterLevel) (gs : Glyphs) →
     length (marks_ordered context level gs) ≡ length gs
 ordered_long context o level gs =
     runs_long context o level (length gs) (mark_runs 0 0 (classes gs)) gs refl
     (runs_within 0 0 (length gs) (classes gs) (omega (arith, length-map gs class_of)))
 
-shown_behind_long : (before : ℕ) (gs : List hb_glyph_info_t) → length (shown_behind before gs) ≡ length gs
+shown_behind_long : (before : ℕ) (gs : Glyphs) → length (shown_behind before gs) ≡ length gs
 shown_behind_long before [] = refl
 shown_behind_long before (g ∷ []) = refl
 shown_behind_long before (g ∷ (h ∷ gs)) = ap suc (shown_behind_long (class_of g) (h ∷ gs))
 
-shown_long : (gs : List hb_glyph_info_t) → length (joiners_shown gs) ≡ length gs
+shown_long : (gs : Glyphs) → length (joiners_shown gs) ≡ length gs
 shown_long [] = refl
 shown_long (g ∷ gs) = ap suc (shown_behind_long (class_of g) gs)
 
@@ -282,7 +282,7 @@ walk_long context level (suc n) w i =
     (walking_by Any context level n w (composition context w) i) in
     le_trans rest one
 
-recomposed_long : (context : Context) (level : BufferClusterLevel) (gs : List hb_glyph_info_t) →
+recomposed_long : (context : Context) (level : BufferClusterLevel) (gs : Glyphs) →
     length (recomposed context level gs) ≤ length gs
 recomposed_long context level [] = le_refl 0
 recomposed_long context level (g ∷ gs) =
@@ -291,7 +291,7 @@ recomposed_long context level (g ∷ gs) =
     (walk_long context level (length gs) (walk_start (g ∷ gs)) (walking_start Any g gs (any_each (g ∷ gs))))
 
 later_long : (context : Context) → OrdersAlone context → (level : BufferClusterLevel) (runs : Bool)
-    (gs : List hb_glyph_info_t) → length (later_rounds context runs level gs) ≤ length gs
+    (gs : Glyphs) → length (later_rounds context runs level gs) ≤ length gs
 later_long context o level true gs =
     let ordered = marks_ordered context level gs in
     let same = shown_long ordered ∙ ordered_long context o level gs in

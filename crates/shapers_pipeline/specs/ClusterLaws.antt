@@ -6,7 +6,7 @@ use Rattle.shapers_base.specs.declared.plan.pause.Pause.{Pause}
 use Rattle.shapers_buffer.specs.Buffer.{Buffer}
 use Rattle.shapers_buffer.specs.Clusters.{merges}
 use Rattle.shapers_buffer.specs.Glyph.{clusters}
-use Rattle.shapers_buffer.specs.declared.buffer.glyph.hb_glyph_info_t.{hb_glyph_info_t}
+use Rattle.shapers_buffer.specs.Glyphs.{Glyph}
 use Rattle.shapers_buffer.specs.declared.buffer.glyph_props.GlyphProps.{GlyphProps}
 use Rattle.shapers_clusters.specs.Cuts.{IsMonotone}
 use Rattle.shapers_syllabic.specs.CircleLaws.{NoNewCluster}
@@ -31,7 +31,7 @@ StayMonotone old new =
 -- so of every text before the lookups, whatever it is prepared by, and whatever they keep beside
 -- its glyphs
 abbrev pub PreparationKeepsClusters : Type 0
-PreparationKeepsClusters = (p : Preparation) (noted : hb_glyph_info_t → GlyphProps) (b : Buffer) →
+PreparationKeepsClusters = (p : Preparation) (noted : Glyph → GlyphProps) (b : Buffer) →
     NoneMade b (text_noted noted (text_prepared p b))
     × StayMonotone b (text_noted noted (text_prepared p b))
 

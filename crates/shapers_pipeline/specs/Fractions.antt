@@ -1,8 +1,8 @@
 -- The features of fractions: with decimal numbers on both sides of a fraction slash, those before
 -- it take the features of numerators, and those behind it those of denominators.
-use Rattle.std.specs.Prelude.{ℕ, zero, suc, ◌==◌, ◌+◌, ◌-◌, bit_or, Bool, true, false, not, ◌&&◌, ◌||◌, List, length, map, slice_index_or, take, drop, if◌then◌else◌}
+use Rattle.std.specs.Prelude.{ℕ, zero, suc, ◌==◌, ◌+◌, ◌-◌, bit_or, Bool, true, false, not, ◌&&◌, ◌||◌, length, map, slice_index_or, take, drop, if◌then◌else◌}
 use Rattle.std.specs.List.{prefix_len, suffix_len}
-use Rattle.shapers_buffer.specs.declared.buffer.glyph.hb_glyph_info_t.{hb_glyph_info_t}
+use Rattle.shapers_buffer.specs.Glyphs.{Glyph, Glyphs}
 use Rattle.shapers_buffer.specs.declared.buffer.level.Direction.{Direction}
 use Rattle.shapers_buffer.specs.declared.buffer.level.Direction.TheVariants.{LeftToRight, TopToBottom}
 use Rattle.shapers_buffer.specs.Buffer.{Buffer, asks, flags_concat}
@@ -14,17 +14,17 @@ use Rattle.shapers_plan.specs.declared.ot_shape_plan.DriverMasks.{DriverMasks}
 use Rattle.shapers_pipeline.specs.declared.fractions.SlashMasks.{SlashMasks}
 use Rattle.shapers_buffer.specs.Properties.{general_category}
 
-abbrev pub is_fraction_slash : hb_glyph_info_t → Bool
+abbrev pub is_fraction_slash : Glyph → Bool
 is_fraction_slash g = g.glyph_id == 0x2044
 
-abbrev pub is_decimal_glyph : hb_glyph_info_t → Bool
+abbrev pub is_decimal_glyph : Glyph → Bool
 is_decimal_glyph g = is_decimal_number (general_category g.unicode_props)
 
 -- how many decimal numbers stand right before a place, and right behind it
-abbrev pub decimals_before : ℕ → List hb_glyph_info_t → ℕ
+abbrev pub decimals_before : ℕ → Glyphs → ℕ
 decimals_before i gs = suffix_len is_decimal_glyph (take i gs)
 
-abbrev pub decimals_behind : ℕ → List hb_glyph_info_t → ℕ
+abbrev pub decimals_behind : ℕ → Glyphs → ℕ
 decimals_behind i gs = prefix_len is_decimal_glyph (drop (i + 1) gs)
 
 abbrev pub runs_forward : Direction → Bool
@@ -43,7 +43,7 @@ slash_masks direction m =
 
 -- a fraction whose slash stands at place i, with so many numbers on both sides: nothing may be
 -- broken in it
-abbrev pub fraction_marked : SlashMasks → ℕ → ℕ → ℕ → List hb_glyph_info_t → List hb_glyph_info_t
+abbrev pub fraction_marked : SlashMasks → ℕ → ℕ → ℕ → Glyphs → Glyphs
 fraction_marked m i before behind gs =
     let whole = unsafe_inside (i - before) (i + 1 + behind) gs in
     let first = with_stretch (i - before) i (map (with_bits m.before)) whole in
@@ -52,13 +52,13 @@ fraction_marked m i before behind gs =
 
 -- a slash at place i that lacks numbers on one side at least: a text that brings them there changes
 -- what is on the other side
-abbrev pub slash_alone : Bool → ℕ → ℕ → ℕ → List hb_glyph_info_t → List hb_glyph_info_t
+abbrev pub slash_alone : Bool → ℕ → ℕ → ℕ → Glyphs → Glyphs
 slash_alone concat i before behind gs =
     let left = if before == 0 then unsafe_to_concat_in concat i (i + 1) gs else gs in
     if behind == 0 then unsafe_to_concat_in concat i (i + 1) left else left
 
 -- the text with the features of the fraction whose slash stands at place i, if one does
-abbrev pub fraction_around : SlashMasks → Bool → ℕ → List hb_glyph_info_t → List hb_glyph_info_t
+abbrev pub fraction_around : SlashMasks → Bool → ℕ → Glyphs → Glyphs
 fraction_around m concat i gs =
     let before = decimals_before i gs in
     let behind = decimals_behind i gs in
@@ -67,7 +67,7 @@ fraction_around m concat i gs =
     else fraction_marked m i before behind gs
 
 -- so for each of the first n places
-abbrev pub fractions_around : SlashMasks → Bool → ℕ → List hb_glyph_info_t → List hb_glyph_info_t
+abbrev pub fractions_around : SlashMasks → Bool → ℕ → Glyphs → Glyphs
 fractions_around m concat zero gs = gs
 fractions_around m concat (suc n) gs =
     fraction_around m concat n (fractions_around m concat n gs)
@@ -77,7 +77,7 @@ abbrev pub has_fractions : DriverMasks → Bool
 has_fractions m = not (m.frac == 0) || (not (m.numr == 0) && not (m.dnom == 0))
 
 -- the text with the features of its fractions
-abbrev pub fractions_set : DriverMasks → Buffer → List hb_glyph_info_t
+abbrev pub fractions_set : DriverMasks → Buffer → Glyphs
 fractions_set m b =
     let masks = slash_masks b.direction m in
     if has_fractions m

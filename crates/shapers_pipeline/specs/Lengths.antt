@@ -2,7 +2,7 @@
 use Rattle.std.specs.Prelude.{ℕ, ◌+◌, ◌*◌, ◌≡◌, ◌≤◌, ◌≢◌, List, [], fold, length, Option, Result, Err}
 use Rattle.std.specs.Option.{option_map_or}
 use Rattle.shapers_buffer.specs.Buffer.{Buffer}
-use Rattle.shapers_buffer.specs.declared.buffer.glyph.hb_glyph_info_t.{hb_glyph_info_t}
+use Rattle.shapers_buffer.specs.Glyphs.{Glyph}
 use Rattle.shapers_buffer.specs.declared.buffer.glyph_props.GlyphProps.{GlyphProps}
 use Rattle.shapers_buffer.specs.declared.buffer.level.Direction.{Direction}
 use Rattle.shapers_buffer.specs.declared.buffer.refusal.ShaperError.TheVariants.{TooLong}
@@ -61,7 +61,7 @@ LookupsGrow growth substituted = (lookup : StageLookup) (b : Buffer) → b.posit
 
 -- no text before the lookups is longer
 abbrev pub PreparationGrows : Type 0
-PreparationGrows = (p : Preparation) (noted : hb_glyph_info_t → GlyphProps) (b : Buffer) →
+PreparationGrows = (p : Preparation) (noted : Glyph → GlyphProps) (b : Buffer) →
     length (text_noted noted (text_prepared p b)).glyphs
     ≤ prepared_bound p.shaper (length b.glyphs)
 
@@ -91,7 +91,7 @@ FinishGrows = (p : Positioning) (direction : Direction) (b : Buffer) → Positio
 
 -- So of a text all the way: old its characters, mid its glyphs behind the lookups.
 abbrev pub ShapingGrows : Type 0
-ShapingGrows = (p : Preparation) (noted : hb_glyph_info_t → GlyphProps) (r : Substitution)
+ShapingGrows = (p : Preparation) (noted : Glyph → GlyphProps) (r : Substitution)
     (growth : StageLookup → ℕ) (ss : List Stage) (q : Positioning) (direction : Direction)
     (old mid : Buffer) →
     LookupsKeep r.substituted → LookupsGrow growth r.substituted → PositionsKeep q →

@@ -6,7 +6,7 @@ use Rattle.shapers_buffer.specs.Buffer.{Buffer}
 use Rattle.shapers_buffer.specs.Clusters.{merges}
 use Rattle.shapers_buffer.specs.Glyph.{clusters, without_flags}
 use Rattle.shapers_buffer.specs.Properties.{no_ligature}
-use Rattle.shapers_buffer.specs.declared.buffer.glyph.hb_glyph_info_t.{hb_glyph_info_t}
+use Rattle.shapers_buffer.specs.Glyphs.{Glyph, Glyphs}
 use Rattle.shapers_buffer.specs.declared.buffer.glyph_props.GlyphProps.{GlyphProps}
 use Rattle.shapers_buffer.specs.declared.buffer.syllables.Span.{Span}
 use Rattle.shapers_clusters.specs.Cuts.{IsMonotone}
@@ -33,7 +33,7 @@ pub record LookupGrows (times : ℕ) (old new : Buffer) : Type 0 where
   pub few : length new.glyphs ≤ length old.glyphs * times
 
 -- What a lookup of GPOS keeps of a text with positions: everything but positions and glyph flags.
-abbrev pub unplaced : hb_glyph_info_t → hb_glyph_info_t
+abbrev pub unplaced : Glyph → Glyph
 unplaced g = record g { mask = without_flags g.mask }
 
 pub record PositionKeeps (old new : Buffer) : Type 0 where
@@ -42,10 +42,10 @@ pub record PositionKeeps (old new : Buffer) : Type 0 where
   pub positions : length new.positions ≡ length old.positions
 
 -- what the lookups keep of each glyph, once it is one; none is of a ligature yet
-abbrev pub with_note : (hb_glyph_info_t → GlyphProps) → hb_glyph_info_t → hb_glyph_info_t
+abbrev pub with_note : (Glyph → GlyphProps) → Glyph → Glyph
 with_note noted g = record g { glyph_props = noted g; lig_props = no_ligature }
 
-abbrev pub text_noted : (hb_glyph_info_t → GlyphProps) → Buffer → Buffer
+abbrev pub text_noted : (Glyph → GlyphProps) → Buffer → Buffer
 text_noted noted b = record b { glyphs = map (with_note noted) b.glyphs }
 
 -- what these lookups make of a text, one after another
@@ -63,7 +63,7 @@ abbrev pub lookups_of_stage : Stage → List StageLookup → List StageLookup
 lookups_of_stage s list = take (s.end - s.start) (drop s.start list)
 
 -- the spans that a pause takes: those of its grammar, if it writes syllables
-abbrev pub FoundSpans : Pause → List hb_glyph_info_t → List Span → Type 0
+abbrev pub FoundSpans : Pause → Glyphs → List Span → Type 0
 FoundSpans SetupSyllablesIndic gs spans = AreSpansOf indic_grammar gs spans
 FoundSpans SetupSyllablesKhmer gs spans = AreSpansOf khmer_grammar gs spans
 FoundSpans SetupSyllablesMyanmar gs spans = AreSpansOf myanmar_grammar gs spans

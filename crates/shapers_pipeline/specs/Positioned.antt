@@ -8,7 +8,7 @@ use Rattle.shapers_base.specs.declared.plan.hb_ot_shape_plan_t.{hb_ot_shape_plan
 use Rattle.shapers_base.specs.declared.plan.record.ZeroWidthMarks.{ZeroWidthMarks}
 use Rattle.shapers_base.specs.declared.plan.record.ZeroWidthMarks.TheVariants.{GDEF_EARLY, GDEF_LATE}
 use Rattle.shapers_buffer.specs.Buffer.{Buffer}
-use Rattle.shapers_buffer.specs.declared.buffer.glyph.hb_glyph_info_t.{hb_glyph_info_t}
+use Rattle.shapers_buffer.specs.Glyphs.{Glyph}
 use Rattle.shapers_buffer.specs.declared.buffer.level.Direction.{Direction}
 use Rattle.shapers_choice.specs.Choice.{is_horizontal}
 use Rattle.shapers_plan.specs.declared.ot_map.lookups.StageLookup.{StageLookup}
@@ -37,7 +37,7 @@ pub record Positioning : Type 0 where
   pub list : List StageLookup
   pub font : Font
   pub metrics : Metrics
-  pub is_mark : hb_glyph_info_t → Bool
+  pub is_mark : Glyph → Bool
   pub positioned : StageLookup → Buffer → Buffer
   pub finished : Buffer → Buffer
   pub ignorables : DefaultIgnorables
@@ -61,7 +61,7 @@ abbrev pub hangs_marks : Bool → Direction → Bool
 hangs_marks applies_gpos direction = not applies_gpos && runs_forward direction
 
 -- marks without advances, if this is the time
-abbrev pub marks_zeroed_if : Bool → (hb_glyph_info_t → Bool) → Bool → Buffer → Buffer
+abbrev pub marks_zeroed_if : Bool → (Glyph → Bool) → Bool → Buffer → Buffer
 marks_zeroed_if now is_mark applies_gpos b =
     let hangs = hangs_marks applies_gpos b.direction in
     if now then record b { positions = marks_zeroed is_mark hangs b.glyphs b.positions } else b

@@ -1,7 +1,7 @@
 -- What becomes of a text's clusters behind its lookups, and all the way.
 use Rattle.std.specs.Prelude.{◌≡◌, List, [], length}
 use Rattle.shapers_buffer.specs.Buffer.{Buffer}
-use Rattle.shapers_buffer.specs.declared.buffer.glyph.hb_glyph_info_t.{hb_glyph_info_t}
+use Rattle.shapers_buffer.specs.Glyphs.{Glyph}
 use Rattle.shapers_buffer.specs.declared.buffer.glyph_props.GlyphProps.{GlyphProps}
 use Rattle.shapers_buffer.specs.declared.buffer.level.Direction.{Direction}
 use Rattle.shapers_plan.specs.declared.ot_map.lookups.Stage.{Stage}
@@ -28,7 +28,7 @@ FinishKeepsClusters = (p : Positioning) (direction : Direction) (b : Buffer) →
 -- So of a text all the way: from its characters, old, to the glyphs behind the lookups, mid, and to
 -- those with positions.
 abbrev pub ShapingKeepsClusters : Type 0
-ShapingKeepsClusters = (p : Preparation) (noted : hb_glyph_info_t → GlyphProps) (r : Substitution)
+ShapingKeepsClusters = (p : Preparation) (noted : Glyph → GlyphProps) (r : Substitution)
     (ss : List Stage) (q : Positioning) (direction : Direction) (old mid : Buffer) →
     LookupsKeep r.substituted → PositionsKeep q → (text_prepared p old).positions ≡ [] →
     (run : StagesRun r ss (text_noted noted (text_prepared p old)) mid) →

@@ -3,7 +3,7 @@ use Rattle.std.specs.Prelude.{◌≡◌, ◌⊎◌, Bool, Option, None, Some, Er
 use Rattle.shapers_base.specs.Font.{Font}
 use Rattle.shapers_base.specs.declared.plan.hb_ot_shape_plan_t.{hb_ot_shape_plan_t}
 use Rattle.shapers_buffer.specs.Buffer.{Buffer}
-use Rattle.shapers_buffer.specs.declared.buffer.glyph.hb_glyph_info_t.{hb_glyph_info_t}
+use Rattle.shapers_buffer.specs.Glyphs.{Glyph}
 use Rattle.rustybuzz_shapers.specs.Checked.{AsRefused, StopsAt, postprocess_asks}
 use Rattle.rustybuzz_shapers.specs.Hooks.{RefusesPostprocess}
 use Rattle.rustybuzz_shapers.specs.declared.shaper.checked.CallError.{CallError}
@@ -18,7 +18,7 @@ use Rattle.shapers_pipeline.specs.declared.settings.ShapeSettings.{ShapeSettings
 -- what a text is positioned by: what the plan and the settings say, in the font with its metrics,
 -- and what its lookups do
 abbrev pub positioning_by : PlanView → ShapeSettings → Font → Metrics →
-    (hb_glyph_info_t → Bool) → (StageLookup → Buffer → Buffer) → (Buffer → Buffer) → Positioning
+    (Glyph → Bool) → (StageLookup → Buffer → Buffer) → (Buffer → Buffer) → Positioning
 positioning_by plan settings font metrics is_mark positioned finished = record {
   shaper = plan.shaper;
   plan = plan.plan;

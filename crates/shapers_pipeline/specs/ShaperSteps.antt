@@ -1,5 +1,5 @@
 -- What a shaper's hooks make of a text before its lookups, as functions of the buffer.
-use Rattle.std.specs.Prelude.{ℕ, List, length, map, Option, None, Some}
+use Rattle.std.specs.Prelude.{ℕ, length, map, Option, None, Some}
 use Rattle.std.specs.Option.{option_map_or}
 use Rattle.shapers_arabic.specs.JoinedText.{buffer_joined}
 use Rattle.shapers_arabic.specs.PlanData.{breaks_of, masks_of}
@@ -7,7 +7,7 @@ use Rattle.shapers_base.specs.Font.{CharacterTables, Font}
 use Rattle.shapers_base.specs.declared.plan.arabic.arabic_shape_plan_t.{arabic_shape_plan_t}
 use Rattle.shapers_base.specs.declared.plan.hb_ot_shape_plan_t.{hb_ot_shape_plan_t}
 use Rattle.shapers_buffer.specs.Buffer.{Buffer}
-use Rattle.shapers_buffer.specs.declared.buffer.glyph.hb_glyph_info_t.{hb_glyph_info_t}
+use Rattle.shapers_buffer.specs.Glyphs.{Glyphs}
 use Rattle.shapers_buffer.specs.declared.buffer.tag.Script.{Script}
 use Rattle.shapers_hangul.specs.Hangul.{rewritten, rewritten_by}
 use Rattle.shapers_hangul.specs.Masks.{with_jamo_masks}
@@ -75,6 +75,6 @@ abbrev pub PlanFitsFor : Option hb_ot_shaper_t → hb_ot_shape_plan_t → Type 0
 PlanFitsFor None plan = Unit {0}
 PlanFitsFor (Some shaper) plan = PlanFits shaper plan
 
-abbrev pub GlyphsFitFor : Option hb_ot_shaper_t → hb_ot_shape_plan_t → List hb_glyph_info_t → Type 0
+abbrev pub GlyphsFitFor : Option hb_ot_shaper_t → hb_ot_shape_plan_t → Glyphs → Type 0
 GlyphsFitFor None plan gs = Unit {0}
 GlyphsFitFor (Some shaper) plan gs = GlyphsFit shaper plan gs

@@ -8,19 +8,19 @@ use Rattle.std.proofs.lemmas.List.{length-map}
 use Rattle.std.proofs.lemmas.List.Elements.{All-contains_itself}
 use Rattle.shapers_buffer.specs.Buffer.{Buffer}
 use Rattle.shapers_buffer.specs.Glyph.{clusters}
-use Rattle.shapers_buffer.specs.declared.buffer.glyph.hb_glyph_info_t.{hb_glyph_info_t}
+use Rattle.shapers_buffer.specs.Glyphs.{Glyph, Glyphs}
 use Rattle.shapers_clusters.specs.Cuts.{IsMonotone}
 use Rattle.shapers_plan.specs.declared.ot_map.lookups.StageLookup.{StageLookup}
 use Rattle.shapers_pipeline.specs.Lookups.{LookupGrows, LookupKeeps}
 use Rattle.shapers_pipeline.specs.Singles.{is_single_for, single_applied, singles_applied, with_single}
 use Rattle.shapers_pipeline.specs.declared.singles.Single.{Single}
 
-found_cluster : (g : hb_glyph_info_t) (o : Option Single) →
+found_cluster : (g : Glyph) (o : Option Single) →
     (option_map_or (with_single g) o g).cluster ≡ g.cluster
 found_cluster g None = refl
 found_cluster g (Some s) = refl
 
-single_cluster : (singles : List Single) (lookup : StageLookup) (g : hb_glyph_info_t) →
+single_cluster : (singles : List Single) (lookup : StageLookup) (g : Glyph) →
     (single_applied singles lookup g).cluster ≡ g.cluster
 single_cluster singles lookup g =
     let found = option_map_or (with_single g) (find (is_single_for lookup g) singles) g in
@@ -30,7 +30,7 @@ single_cluster singles lookup g =
       | false ↦ found_cluster g (find (is_single_for lookup g) singles)
     ]
 
-all_clusters : (singles : List Single) (lookup : StageLookup) (gs : List hb_glyph_info_t) →
+all_clusters : (singles : List Single) (lookup : StageLookup) (gs : Glyphs) →
     clusters (map (single_applied singles lookup) gs) ≡ clusters gs
 all_clusters singles lookup [] = refl
 all_clusters singles lookup (g ∷ gs) =

@@ -1,17 +1,17 @@
 -- The flags of whole clusters, computed: what is kept of each set of flags, and who shares them.
 use Rattle.std.specs.Prelude.{◌≡◌, ℕ, List, [], ◌∷◌, map, refl}
 use Rattle.shapers_buffer.specs.declared.buffer.flags.BufferFlags.{BufferFlags}
-use Rattle.shapers_buffer.specs.declared.buffer.glyph.hb_glyph_info_t.{hb_glyph_info_t}
+use Rattle.shapers_buffer.specs.Glyphs.{Glyph, Glyphs}
 use Rattle.shapers_buffer.specs.Glyph.{clusters, default_glyph}
 use Rattle.shapers_position.specs.ClusterFlags.{cluster_groups, flags_wanted, flags_of, flags_propagated, joins_settled, with_flags}
 
 abbrev wanting : ℕ → BufferFlags
 wanting bits = record { 0 = bits }
 
-abbrev glyph : ℕ → ℕ → hb_glyph_info_t
+abbrev glyph : ℕ → ℕ → Glyph
 glyph c m = record default_glyph { cluster = c; mask = m }
 
-abbrev masks : List hb_glyph_info_t → List ℕ
+abbrev masks : Glyphs → List ℕ
 masks gs = map (λ g. g.mask) gs
 
 -- all sets of the three flags
@@ -91,7 +91,7 @@ nothing : flags_propagated (wanting 0xC0) [] ≡ []
 nothing = refl
 
 -- all other fields stay
-abbrev full : hb_glyph_info_t
+abbrev full : Glyph
 full = record {
   glyph_id = 0x916;
   mask = 0x8000001F;

@@ -4,12 +4,12 @@ use Rattle.std.specs.List.{flat_map, prefix_len}
 use Rattle.std.proofs.lemmas.Bool.{eqb-true}
 use Rattle.std.proofs.lemmas.List.{append_assoc, drop-drop, drop_at, length-append, length-drop, length-map, length-take-le, take_at}
 use Rattle.shapers_buffer.specs.declared.buffer.flags.BufferFlags.{BufferFlags}
-use Rattle.shapers_buffer.specs.declared.buffer.glyph.hb_glyph_info_t.{hb_glyph_info_t}
+use Rattle.shapers_buffer.specs.Glyphs.{Glyph, Glyphs}
 use Rattle.shapers_buffer.specs.Clusters.{first_cluster, has_cluster, with_stretch}
 use Rattle.shapers_position.specs.ClusterFlags.{cluster_groups, flags_propagated, flags_shared, group_with_first}
 
 -- the first group is the longest run of the first cluster
-pub opens_with_group : (g : hb_glyph_info_t) (gs : List hb_glyph_info_t) →
+pub opens_with_group : (g : Glyph) (gs : Glyphs) →
     cluster_groups (g ∷ gs) ≡ (g ∷ take (prefix_len (has_cluster g.cluster) gs) gs) ∷
     cluster_groups (drop (prefix_len (has_cluster g.cluster) gs) gs)
 opens_with_group g [] = refl
@@ -33,7 +33,7 @@ opens_with_group g (h ∷ hs) =
     ] in
     ap (group_with_first g) behind ∙ by (has_cluster c h) refl
 
-groups_open : (gs : List hb_glyph_info_t) (n : ℕ) → 0 < length gs →
+groups_open : (gs : Glyphs) (n : ℕ) → 0 < length gs →
     n ≡ 1 + prefix_len (has_cluster (first_cluster gs)) (drop 1 gs) → cluster_groups gs ≡ take n gs ∷
     cluster_groups (drop n gs)
 groups_open [] n some is = absurd (omega arith)
@@ -43,7 +43,7 @@ groups_open (g ∷ gs) n some is =
     opens_with_group g gs ∙ sym (ap (λ n. take n (g ∷ gs) ∷ cluster_groups (drop n (g ∷ gs))) next)
 
 -- the text from one place on, by what becomes of its first cluster
-propagated_open : (wanted : BufferFlags) (gs : List hb_glyph_info_t) (n : ℕ) → 0 < length gs →
+propagated_open : (wanted : BufferFlags) (gs : Glyphs) (n : ℕ) → 0 < length gs →
     n ≡ 1 + prefix_len (has_cluster (first_cluster gs)) (drop 1 gs) →
     flags_propagated wanted gs ≡ flags_shared wanted (take n gs) ++ flags_propagated wanted (drop n gs)
 propagated_open wanted gs n some is = ap (flat_map (flags_shared wanted)) (groups_open gs n some is)
@@ -68,7 +68,7 @@ stretch_changed f h s n xs within same =
     ∙ append_assoc front middle (h rest)
 
 -- one more cluster
-pub cluster_next : (wanted : BufferFlags) (gs : List hb_glyph_info_t) (s n : ℕ) → s < length gs → s + n ≤ length gs →
+pub cluster_next : (wanted : BufferFlags) (gs : Glyphs) (s n : ℕ) → s < length gs → s + n ≤ length gs →
     n ≡ 1 + prefix_len (has_cluster (first_cluster (drop s gs))) (drop 1 (drop s gs)) →
     let hs = with_stretch s (s + n) (flags_shared wanted) gs in
     take (s + n) hs ++ flags_propagated wanted (drop (s + n) hs) ≡ take s gs ++ flags_propagated wanted (drop s gs)

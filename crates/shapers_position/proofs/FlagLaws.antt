@@ -8,7 +8,7 @@ use Rattle.std.proofs.lemmas.List.{drop_at, length-drop, length-map, length-take
 use Rattle.std.proofs.lemmas.List.Folds.{list_any-append}
 use Rattle.std.proofs.lemmas.List.Sums.{prefix_len-le-length}
 use Rattle.shapers_buffer.specs.declared.buffer.flags.BufferFlags.{BufferFlags}
-use Rattle.shapers_buffer.specs.declared.buffer.glyph.hb_glyph_info_t.{hb_glyph_info_t}
+use Rattle.shapers_buffer.specs.Glyphs.{Glyph, Glyphs}
 use Rattle.shapers_buffer.specs.Buffer.{flags_tatweel, has_flag}
 use Rattle.shapers_buffer.specs.Clusters.{has_cluster}
 use Rattle.shapers_buffer.specs.Glyph.{clusters}
@@ -20,22 +20,22 @@ use Rattle.shapers_position.proofs.FlagSets.{flags_put, flags_small, flags_unsaf
 use Rattle.std.specs.List.{flat_map}
 
 -- how many of the glyphs behind g are in its cluster
-abbrev pub more : hb_glyph_info_t → List hb_glyph_info_t → ℕ
+abbrev pub more : Glyph → Glyphs → ℕ
 more g gs = prefix_len (has_cluster g.cluster) gs
 
 -- the flags that the group that opens a text gets
-abbrev pub opening_flags : BufferFlags → hb_glyph_info_t → List hb_glyph_info_t → ℕ
+abbrev pub opening_flags : BufferFlags → Glyph → Glyphs → ℕ
 opening_flags wanted g gs = flags_wanted wanted (flags_of (g ∷ take (more g gs) gs))
 
-pub opening_small : (wanted : BufferFlags) (g : hb_glyph_info_t) (gs : List hb_glyph_info_t) →
+pub opening_small : (wanted : BufferFlags) (g : Glyph) (gs : Glyphs) →
     opening_flags wanted g gs < 8
 opening_small wanted g gs = kept_small wanted (flags_of (g ∷ take (more g gs) gs))
     (flags_small (g ∷ take (more g gs) gs))
 
 -- a law of texts by their groups
-pub by_groups : (Q : List hb_glyph_info_t → Type 0) → Q [] →
-    ((g : hb_glyph_info_t) (gs : List hb_glyph_info_t) → Q (drop (more g gs) gs) → Q (g ∷ gs)) →
-    (n : ℕ) (gs : List hb_glyph_info_t) → length gs ≤ n → Q gs
+pub by_groups : (Q : Glyphs → Type 0) → Q [] →
+    ((g : Glyph) (gs : Glyphs) → Q (drop (more g gs) gs) → Q (g ∷ gs)) →
+    (n : ℕ) (gs : Glyphs) → length gs ≤ n → Q gs
 by_groups Q none next zero [] few = none
 by_groups Q none next zero (g ∷ gs) few = absurd (omega arith)
 by_groups Q none next (suc n) [] few = none
@@ -43,7 +43,7 @@ by_groups Q none next (suc n) (g ∷ gs) few = next g gs
     (by_groups Q none next n (drop (more g gs) gs) (omega (arith, length-drop (more g gs) gs)))
 
 -- what becomes of a text that isn't empty
-pub opens : (wanted : BufferFlags) (g : hb_glyph_info_t) (gs : List hb_glyph_info_t) →
+pub opens : (wanted : BufferFlags) (g : Glyph) (gs : Glyphs) →
     let j = opening_flags wanted g gs in
     flags_propagated wanted (g ∷ gs) ≡ with_flags j g ∷
     (map (with_flags j) (take (more g gs) gs) ++ flags_propagated wanted (drop (more g gs) gs))
@@ -51,9 +51,9 @@ opens wanted g gs = ap (flat_map (flags_shared wanted)) (opens_with_group g gs)
 
 -- ---- what doesn't read the flags stays
 
-pub map-propagated : {X : Type 0} (f : hb_glyph_info_t → X) →
-    ((k : ℕ) (g : hb_glyph_info_t) → k < 8 → f (with_flags k g) ≡ f g) →
-    (wanted : BufferFlags) (gs : List hb_glyph_info_t) → map f (flags_propagated wanted gs) ≡ map f gs
+pub map-propagated : {X : Type 0} (f : Glyph → X) →
+    ((k : ℕ) (g : Glyph) → k < 8 → f (with_flags k g) ≡ f g) →
+    (wanted : BufferFlags) (gs : Glyphs) → map f (flags_propagated wanted gs) ≡ map f gs
 map-propagated f keeps wanted gs =
     by_groups (λ gs. map f (flags_propagated wanted gs) ≡ map f gs) refl (λ g gs behind.
     let k = more g gs in
@@ -70,33 +70,33 @@ map-propagated f keeps wanted gs =
     ∙ ap (map f) (take-append-drop k gs)))
     (length gs) gs (omega arith)
 
-pub clusters-propagated : (wanted : BufferFlags) (gs : List hb_glyph_info_t) →
+pub clusters-propagated : (wanted : BufferFlags) (gs : Glyphs) →
     clusters (flags_propagated wanted gs) ≡ clusters gs
 clusters-propagated wanted gs = map-propagated (λ g. g.cluster) (λ k g small. refl) wanted gs
 
-pub length-propagated : (wanted : BufferFlags) (gs : List hb_glyph_info_t) →
+pub length-propagated : (wanted : BufferFlags) (gs : Glyphs) →
     length (flags_propagated wanted gs) ≡ length gs
 length-propagated wanted gs =
-    sym (length-map (flags_propagated wanted gs) (λ (g : hb_glyph_info_t). g.cluster))
-    ∙ ap length (clusters-propagated wanted gs) ∙ length-map gs (λ (g : hb_glyph_info_t). g.cluster)
+    sym (length-map (flags_propagated wanted gs) (λ (g : Glyph). g.cluster))
+    ∙ ap length (clusters-propagated wanted gs) ∙ length-map gs (λ (g : Glyph). g.cluster)
 
 -- ---- a second time
 
-flags_same : (j : ℕ) (gs : List hb_glyph_info_t) → j < 8 →
-    fold (λ f (g : hb_glyph_info_t). bit_or f (g.mask % 8)) j (map (with_flags j) gs) ≡ j
+flags_same : (j : ℕ) (gs : Glyphs) → j < 8 →
+    fold (λ f (g : Glyph). bit_or f (g.mask % 8)) j (map (with_flags j) gs) ≡ j
 flags_same j [] small = refl
 flags_same j (g ∷ gs) small =
-    ap (λ k. fold (λ f (g : hb_glyph_info_t). bit_or f (g.mask % 8)) k (map (with_flags j) gs))
+    ap (λ k. fold (λ f (g : Glyph). bit_or f (g.mask % 8)) k (map (with_flags j) gs))
     (ap (bit_or j) (flags_put j g small) ∙ or_self j) ∙ flags_same j gs small
 
-flags_of_shared : (j : ℕ) (g : hb_glyph_info_t) (gs : List hb_glyph_info_t) → j < 8 →
+flags_of_shared : (j : ℕ) (g : Glyph) (gs : Glyphs) → j < 8 →
     flags_of (map (with_flags j) (g ∷ gs)) ≡ j
 flags_of_shared j g gs small =
-    ap (λ k. fold (λ f (g : hb_glyph_info_t). bit_or f (g.mask % 8)) k (map (with_flags j) gs)) (flags_put j g small)
+    ap (λ k. fold (λ f (g : Glyph). bit_or f (g.mask % 8)) k (map (with_flags j) gs)) (flags_put j g small)
     ∙ flags_same j gs small
 
 -- as many glyphs behind the first are of its cluster as before
-more_same : (wanted : BufferFlags) (g : hb_glyph_info_t) (gs : List hb_glyph_info_t) →
+more_same : (wanted : BufferFlags) (g : Glyph) (gs : Glyphs) →
     let j = opening_flags wanted g gs in
     prefix_len (has_cluster g.cluster) (map (with_flags j) (take (more g gs) gs) ++ flags_propagated wanted
     (drop (more g gs) gs)) ≡ more g gs
@@ -106,18 +106,18 @@ more_same wanted g gs =
     let c = g.cluster in
     let behind = map (with_flags j) (take k gs) ++ flags_propagated wanted (drop k gs) in
     let same : clusters behind ≡ clusters gs =
-    map-append (λ (g : hb_glyph_info_t). g.cluster) (map (with_flags j) (take k gs))
+    map-append (λ (g : Glyph). g.cluster) (map (with_flags j) (take k gs))
     (flags_propagated wanted (drop k gs))
     ∙ ap (λ xs. xs ++ clusters (flags_propagated wanted (drop k gs)))
-    (map-hidden (λ (g : hb_glyph_info_t). g.cluster) (with_flags j) (λ g. refl) (take k gs))
+    (map-hidden (λ (g : Glyph). g.cluster) (with_flags j) (λ g. refl) (take k gs))
     ∙ ap (λ xs. clusters (take k gs) ++ xs) (clusters-propagated wanted (drop k gs))
-    ∙ sym (map-append (λ (g : hb_glyph_info_t). g.cluster) (take k gs) (drop k gs))
+    ∙ sym (map-append (λ (g : Glyph). g.cluster) (take k gs) (drop k gs))
     ∙ ap clusters (take-append-drop k gs) in
-    sym (prefix_len-map (λ n. n == c) (λ (g : hb_glyph_info_t). g.cluster) behind)
+    sym (prefix_len-map (λ n. n == c) (λ (g : Glyph). g.cluster) behind)
     ∙ ap (prefix_len (λ n. n == c)) same
-    ∙ prefix_len-map (λ n. n == c) (λ (g : hb_glyph_info_t). g.cluster) gs
+    ∙ prefix_len-map (λ n. n == c) (λ (g : Glyph). g.cluster) gs
 
-pub again : (wanted : BufferFlags) → has_flag flags_tatweel wanted ≡ false → (gs : List hb_glyph_info_t) →
+pub again : (wanted : BufferFlags) → has_flag flags_tatweel wanted ≡ false → (gs : Glyphs) →
     flags_propagated wanted (flags_propagated wanted gs) ≡ flags_propagated wanted gs
 again wanted unasked gs =
     by_groups (λ gs. flags_propagated wanted (flags_propagated wanted gs) ≡ flags_propagated wanted gs) refl
@@ -168,10 +168,10 @@ and_none true = refl
 and_none false = refl
 
 -- a glyph of cluster c that is unsafe
-abbrev pub unsafe_at : ℕ → hb_glyph_info_t → Bool
+abbrev pub unsafe_at : ℕ → Glyph → Bool
 unsafe_at c g = g.cluster == c && is_unsafe g
 
-any_shared : (j : ℕ) (g : hb_glyph_info_t) (gs : List hb_glyph_info_t) → j < 8 →
+any_shared : (j : ℕ) (g : Glyph) (gs : Glyphs) → j < 8 →
     list_any is_unsafe (map (with_flags j) (g ∷ gs)) ≡ unsafe_flags j
 any_shared j g [] small = ap (λ b. b || false) (unsafe_put j g small) ∙ or_end (unsafe_flags j)
 any_shared j g (h ∷ gs) small =
@@ -183,7 +183,7 @@ parts : (b u us : Bool) → ((b && u) || (b && us)) ≡ (b && (u || us))
 parts true u us = refl
 parts false u us = refl
 
-any_at : (c d : ℕ) (gs : List hb_glyph_info_t) → AllByRecursion (λ g. g.cluster ≡ d) gs →
+any_at : (c d : ℕ) (gs : Glyphs) → AllByRecursion (λ g. g.cluster ≡ d) gs →
     list_any (unsafe_at c) gs ≡ (d == c && list_any is_unsafe gs)
 any_at c d [] all = and_none (d == c)
 any_at c d (g ∷ gs) all =
@@ -191,7 +191,7 @@ any_at c d (g ∷ gs) all =
     ∙ ap (λ b. (d == c && is_unsafe g) || b) (any_at c d gs all.1)
     ∙ parts (d == c) (is_unsafe g) (list_any is_unsafe gs)
 
-pub run_is : (c : ℕ) (gs : List hb_glyph_info_t) →
+pub run_is : (c : ℕ) (gs : Glyphs) →
     AllByRecursion (λ g. g.cluster ≡ c) (take (prefix_len (has_cluster c) gs) gs)
 run_is c [] = tt
 run_is c (g ∷ gs) =
@@ -206,12 +206,12 @@ run_is c (g ∷ gs) =
     ] in
     by (has_cluster c g) refl
 
-shared_is : (j c : ℕ) (gs : List hb_glyph_info_t) → AllByRecursion (λ g. g.cluster ≡ c) gs →
+shared_is : (j c : ℕ) (gs : Glyphs) → AllByRecursion (λ g. g.cluster ≡ c) gs →
     AllByRecursion (λ g. g.cluster ≡ c) (map (with_flags j) gs)
 shared_is j c [] all = tt
 shared_is j c (g ∷ gs) all = (all.0, shared_is j c gs all.1)
 
-any_kept : (wanted : BufferFlags) (c : ℕ) (gs : List hb_glyph_info_t) →
+any_kept : (wanted : BufferFlags) (c : ℕ) (gs : Glyphs) →
     list_any (unsafe_at c) (flags_propagated wanted gs) ≡ list_any (unsafe_at c) gs
 any_kept wanted c gs =
     by_groups (λ gs. list_any (unsafe_at c) (flags_propagated wanted gs) ≡ list_any (unsafe_at c) gs) refl (λ g gs last.
@@ -235,7 +235,7 @@ any_kept wanted c gs =
     (length gs) gs (omega arith)
 
 -- a place is clear after it as before
-pub clear_from : (wanted : BufferFlags) (gs : List hb_glyph_info_t) (p : ℕ) →
+pub clear_from : (wanted : BufferFlags) (gs : Glyphs) (p : ℕ) →
     IsClear (flags_propagated wanted gs) p → IsClear gs p
 clear_from wanted gs p clear =
     let ms = flags_propagated wanted gs in
@@ -247,7 +247,7 @@ clear_from wanted gs p clear =
           ∙ clear.unflagged;
     }
 
-pub clear_to : (wanted : BufferFlags) (gs : List hb_glyph_info_t) (p : ℕ) → IsClear gs p →
+pub clear_to : (wanted : BufferFlags) (gs : Glyphs) (p : ℕ) → IsClear gs p →
     IsClear (flags_propagated wanted gs) p
 clear_to wanted gs p clear =
     let ms = flags_propagated wanted gs in

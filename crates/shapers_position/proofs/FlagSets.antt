@@ -1,12 +1,12 @@
 -- Sets of the three flags, each looked at; and the flags that glyphs are given.
-use Rattle.std.proofs.Common.{◌≡◌, ℕ, zero, suc, ◌/◌, ◌%◌, ◌<◌, ◌==◌, Bool, true, false, ◌||◌, cond, List, [], ◌∷◌, refl, sym, ap, ◌∙◌, arith}
+use Rattle.std.proofs.Common.{◌≡◌, ℕ, zero, suc, ◌/◌, ◌%◌, ◌<◌, ◌==◌, Bool, true, false, ◌||◌, cond, [], ◌∷◌, refl, sym, ap, ◌∙◌, arith}
 use Rattle.std.specs.Int.Bits.{bit_or}
 use Rattle.std.specs.Prelude.{bit_and, fold}
 use Rattle.std.specs.List.{list_any}
 use Rattle.std.proofs.Math.Bool.{or-false, or_assoc}
 use Rattle.std.proofs.lemmas.Nat.{or_lt, or_mod}
 use Rattle.shapers_buffer.specs.declared.buffer.flags.BufferFlags.{BufferFlags}
-use Rattle.shapers_buffer.specs.declared.buffer.glyph.hb_glyph_info_t.{hb_glyph_info_t}
+use Rattle.shapers_buffer.specs.Glyphs.{Glyph, Glyphs}
 use Rattle.shapers_buffer.specs.Buffer.{flags_concat, flags_tatweel, has_flag}
 use Rattle.shapers_buffer.specs.Glyph.{plain, without_flags}
 use Rattle.shapers_clusters.specs.Breaks.{is_unsafe}
@@ -121,9 +121,9 @@ unsafe_low m =
     ap (λ n. n == 1 || bit_at 2 (m % 8) == 1) (one_low m) ∙ ap (λ n. bit_at 0 m == 1 || n == 1) four
 
 -- the flags of several glyphs
-gathered : (a : ℕ) (gs : List hb_glyph_info_t) → a < 8 →
-    (fold (λ f (g : hb_glyph_info_t). bit_or f (g.mask % 8)) a gs < 8) ×
-    (unsafe_flags (fold (λ f (g : hb_glyph_info_t). bit_or f (g.mask % 8)) a gs)
+gathered : (a : ℕ) (gs : Glyphs) → a < 8 →
+    (fold (λ f (g : Glyph). bit_or f (g.mask % 8)) a gs < 8) ×
+    (unsafe_flags (fold (λ f (g : Glyph). bit_or f (g.mask % 8)) a gs)
     ≡ (unsafe_flags a || list_any is_unsafe gs))
 gathered a [] small = (small, sym (or-false (unsafe_flags a)))
 gathered a (g ∷ gs) small =
@@ -136,29 +136,29 @@ gathered a (g ∷ gs) small =
           ∙ or_assoc (unsafe_flags a) (is_unsafe g) (list_any is_unsafe gs),
     )
 
-pub flags_small : (gs : List hb_glyph_info_t) → flags_of gs < 8
+pub flags_small : (gs : Glyphs) → flags_of gs < 8
 flags_small gs = (gathered 0 gs (omega arith)).0
 
-pub flags_unsafe : (gs : List hb_glyph_info_t) → unsafe_flags (flags_of gs) ≡ list_any is_unsafe gs
+pub flags_unsafe : (gs : Glyphs) → unsafe_flags (flags_of gs) ≡ list_any is_unsafe gs
 flags_unsafe gs = (gathered 0 gs (omega arith)).1
 
 -- a glyph with other flags: these are its flags, all else is as before
-pub flags_put : (k : ℕ) (g : hb_glyph_info_t) → k < 8 → (with_flags k g).mask % 8 ≡ k
+pub flags_put : (k : ℕ) (g : Glyph) → k < 8 → (with_flags k g).mask % 8 ≡ k
 flags_put k g small =
     let none : without_flags g.mask % 8 ≡ 0 = omega arith in
     let all : k % 8 ≡ k = omega arith in
     or_mod (without_flags g.mask) k 3 ∙ ap (λ n. bit_or n (k % 8)) none ∙ all
 
-features_put : (k : ℕ) (g : hb_glyph_info_t) → k < 8 → without_flags (with_flags k g).mask ≡ without_flags g.mask
+features_put : (k : ℕ) (g : Glyph) → k < 8 → without_flags (with_flags k g).mask ≡ without_flags g.mask
 features_put k g small =
     let none : k / 8 ≡ 0 = omega arith in
     without_flags-or (without_flags g.mask) k none ∙ without_flags-twice g.mask
 
-pub view_put : (k : ℕ) (g : hb_glyph_info_t) → k < 8 → plain (with_flags k g) ≡ plain g
+pub view_put : (k : ℕ) (g : Glyph) → k < 8 → plain (with_flags k g) ≡ plain g
 view_put k g small = ap (λ (m : ℕ). record g { cluster = 0; mask = m }) (features_put k g small)
 
-pub put_twice : (k : ℕ) (g : hb_glyph_info_t) → k < 8 → with_flags k (with_flags k g) ≡ with_flags k g
+pub put_twice : (k : ℕ) (g : Glyph) → k < 8 → with_flags k (with_flags k g) ≡ with_flags k g
 put_twice k g small = ap (λ (m : ℕ). record g { mask = bit_or m k }) (features_put k g small)
 
-pub unsafe_put : (k : ℕ) (g : hb_glyph_info_t) → k < 8 → is_unsafe (with_flags k g) ≡ unsafe_flags k
+pub unsafe_put : (k : ℕ) (g : Glyph) → k < 8 → is_unsafe (with_flags k g) ≡ unsafe_flags k
 unsafe_put k g small = sym (unsafe_low (with_flags k g).mask) ∙ ap unsafe_flags (flags_put k g small)

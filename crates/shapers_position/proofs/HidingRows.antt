@@ -1,7 +1,7 @@
 -- Ignorable glyphs that are drawn by another one, or go, computed: who takes in the text of what goes.
 use Rattle.std.specs.Prelude.{◌≡◌, ℕ, ◌+◌, pos, true, false, List, [], ◌∷◌, map, None, Some, refl}
 use Rattle.shapers_buffer.specs.declared.buffer.glyph.GlyphPosition.{GlyphPosition}
-use Rattle.shapers_buffer.specs.declared.buffer.glyph.hb_glyph_info_t.{hb_glyph_info_t}
+use Rattle.shapers_buffer.specs.Glyphs.{Glyph, Glyphs}
 use Rattle.shapers_buffer.specs.declared.buffer.level.BufferClusterLevel.TheVariants.{MonotoneGraphemes, MonotoneCharacters, Characters}
 use Rattle.shapers_buffer.specs.Buffer.{Buffer, new_buffer}
 use Rattle.shapers_buffer.specs.Glyph.{clusters, default_glyph, default_position}
@@ -9,13 +9,13 @@ use Rattle.shapers_position.specs.declared.ot_shape_position.ignorables.DefaultI
 use Rattle.shapers_position.specs.Ignorables.{covering, drawn_by, goes_on, ignorables_hidden, in_place_of, positions_kept, removed}
 
 -- a letter, an ignorable glyph, and one that a lookup put in, of a cluster and with a mask
-abbrev letter : ℕ → ℕ → hb_glyph_info_t
+abbrev letter : ℕ → ℕ → Glyph
 letter c m = record default_glyph { glyph_id = 7; cluster = c; mask = m }
 
-abbrev joiner : ℕ → ℕ → hb_glyph_info_t
+abbrev joiner : ℕ → ℕ → Glyph
 joiner c m = record default_glyph { glyph_id = 8; cluster = c; mask = m; unicode_props = record { 0 = 0x20 } }
 
-abbrev seen : ℕ → ℕ → hb_glyph_info_t
+abbrev seen : ℕ → ℕ → Glyph
 seen c m =
     record (joiner c m) {
       glyph_id = 9;
@@ -23,10 +23,10 @@ seen c m =
     }
 
 -- clusters and masks of what stays
-abbrev masks : List hb_glyph_info_t → List ℕ
+abbrev masks : Glyphs → List ℕ
 masks gs = map (λ g. g.mask) gs
 
-abbrev stay : List hb_glyph_info_t → List ℕ
+abbrev stay : Glyphs → List ℕ
 stay gs = clusters (removed MonotoneGraphemes gs)
 
 -- the next glyph is of its cluster: nothing changes
@@ -105,7 +105,7 @@ next : goes_on 1 (letter 1 0 ∷ []) ∷ goes_on 1 (letter 2 0 ∷ letter 1 0 �
 next = refl
 
 -- all other fields stay
-abbrev full : hb_glyph_info_t
+abbrev full : Glyph
 full = record {
   glyph_id = 0x916;
   mask = 0x8000001F;
@@ -151,7 +151,7 @@ not_drawn = refl
 abbrev moved : ℕ → GlyphPosition
 moved x = record default_position { x_advance = pos x; var = x + 40 }
 
-abbrev text : List hb_glyph_info_t
+abbrev text : Glyphs
 text = joiner 0 0 ∷ letter 1 0 ∷ joiner 1 0 ∷ seen 2 0 ∷ []
 
 positions : positions_kept text (moved 1 ∷ moved 2 ∷ moved 3 ∷ moved 4 ∷ []) ≡ moved 2 ∷ moved 4 ∷ []
@@ -167,7 +167,7 @@ buffer = record (new_buffer 9) { glyphs = text; positions = moved 1 ∷ moved 2 
 abbrev gone : Buffer
 gone = record buffer { glyphs = letter 0 0 ∷ seen 2 0 ∷ []; positions = moved 2 ∷ moved 4 ∷ [] }
 
-abbrev blank : ℕ → hb_glyph_info_t
+abbrev blank : ℕ → Glyph
 blank c = record (joiner c 0) { glyph_id = 3 }
 
 shown : ignorables_hidden Hide (Some (record { 0 = 3 })) buffer

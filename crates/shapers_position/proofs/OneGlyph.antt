@@ -1,12 +1,12 @@
 -- One glyph of a cluster tells of all, and one flag of a glyph.
-use Rattle.std.proofs.Common.{◌≡◌, ◌≢◌, ◌↔◌, ℕ, zero, suc, ◌+◌, ◌-◌, ◌%◌, ◌<◌, ◌≤◌, ◌==◌, Bool, true, false, cond, List, [], ◌∷◌, ◌++◌, get_or, length, map, take, drop, inl, inr, refl, sym, ap, subst, ◌∙◌, arith}
+use Rattle.std.proofs.Common.{◌≡◌, ◌≢◌, ◌↔◌, ℕ, zero, suc, ◌+◌, ◌-◌, ◌%◌, ◌<◌, ◌≤◌, ◌==◌, Bool, true, false, cond, [], ◌∷◌, ◌++◌, get_or, length, map, take, drop, inl, inr, refl, sym, ap, subst, ◌∙◌, arith}
 use Rattle.std.specs.List.{AllByRecursion, list_any, prefix_len}
 use Rattle.std.proofs.lemmas.Bool.{and_from, and_left, and_right, both_ways, cases_eq, cases_lt, eq-eqb, eqb-false, false_from_ne_true, ne_eqb}
 use Rattle.std.proofs.lemmas.List.{get_or-map, length-map}
 use Rattle.std.proofs.lemmas.List.Elements.{All-from_get_or, All-from_recursion}
 use Rattle.std.proofs.lemmas.List.Folds.{list_any_at, list_any_none}
 use Rattle.shapers_buffer.specs.declared.buffer.flags.BufferFlags.{BufferFlags}
-use Rattle.shapers_buffer.specs.declared.buffer.glyph.hb_glyph_info_t.{hb_glyph_info_t}
+use Rattle.shapers_buffer.specs.Glyphs.{Glyph, Glyphs}
 use Rattle.shapers_buffer.specs.Clusters.{has_cluster}
 use Rattle.shapers_buffer.specs.Glyph.{clusters, default_glyph, plain}
 use Rattle.shapers_buffer.proofs.MappedLists.{all-append}
@@ -20,17 +20,17 @@ use Rattle.shapers_position.proofs.FlagLaws.{again, by_groups, clear_from, clear
 use Rattle.shapers_position.proofs.FlagSets.{flags_put, flags_small, kept_one, one_low, unsafe_flags, unsafe_low, unsafe_put, view_put}
 
 -- neighbours of one cluster have the same flags
-abbrev Alike : List hb_glyph_info_t → Type 0
+abbrev Alike : Glyphs → Type 0
 Alike [] = Unit {0}
 Alike (g ∷ []) = Unit {0}
 Alike (g ∷ (h ∷ gs)) = (g.cluster ≡ h.cluster → g.mask % 8 ≡ h.mask % 8) × Alike (h ∷ gs)
 
 -- a text doesn't begin with a glyph of cluster c
-abbrev BeginsElsewhere : ℕ → List hb_glyph_info_t → Type 0
+abbrev BeginsElsewhere : ℕ → Glyphs → Type 0
 BeginsElsewhere c [] = Unit {0}
 BeginsElsewhere c (g ∷ gs) = g.cluster ≡ c → ⊥
 
-behind_group : (c : ℕ) (gs : List hb_glyph_info_t) → BeginsElsewhere c (drop (prefix_len (has_cluster c) gs) gs)
+behind_group : (c : ℕ) (gs : Glyphs) → BeginsElsewhere c (drop (prefix_len (has_cluster c) gs) gs)
 behind_group c [] = tt
 behind_group c (g ∷ gs) =
     let k = prefix_len (has_cluster c) gs in
@@ -43,31 +43,31 @@ behind_group c (g ∷ gs) =
     ] in
     by (has_cluster c g) refl
 
-elsewhere_still : (wanted : BufferFlags) (c : ℕ) (gs : List hb_glyph_info_t) → BeginsElsewhere c gs →
+elsewhere_still : (wanted : BufferFlags) (c : ℕ) (gs : Glyphs) → BeginsElsewhere c gs →
     BeginsElsewhere c (flags_propagated wanted gs)
 elsewhere_still wanted c [] other = tt
-elsewhere_still wanted c (g ∷ gs) other = let P : List hb_glyph_info_t → Type 0 =
+elsewhere_still wanted c (g ∷ gs) other = let P : Glyphs → Type 0 =
     BeginsElsewhere c in subst P (sym (opens wanted g gs)) other
 
-alike_group : (j c : ℕ) (g : hb_glyph_info_t) (gs hs : List hb_glyph_info_t) → j < 8 → g.cluster ≡ c →
+alike_group : (j c : ℕ) (g : Glyph) (gs hs : Glyphs) → j < 8 → g.cluster ≡ c →
     AllByRecursion (λ h. h.cluster ≡ c) gs → BeginsElsewhere c hs → Alike hs → Alike (map (with_flags j) (g ∷ gs) ++ hs)
 alike_group j c g [] [] small is all other rest = tt
 alike_group j c g [] (h ∷ hs) small is all other rest = ((λ e. absurd (other (sym e ∙ is))), rest)
 alike_group j c g (x ∷ gs) hs small is all other rest =
     ((λ e. flags_put j g small ∙ sym (flags_put j x small)), alike_group j c x gs hs small all.0 all.1 other rest)
 
-alike : (wanted : BufferFlags) (gs : List hb_glyph_info_t) → Alike (flags_propagated wanted gs)
+alike : (wanted : BufferFlags) (gs : Glyphs) → Alike (flags_propagated wanted gs)
 alike wanted gs =
     by_groups (λ gs. Alike (flags_propagated wanted gs)) tt (λ g gs last.
     let k = more g gs in
     let j = opening_flags wanted g gs in
-    let P : List hb_glyph_info_t → Type 0 = Alike in
+    let P : Glyphs → Type 0 = Alike in
     subst P (sym (opens wanted g gs))
     (alike_group j g.cluster g (take k gs) (flags_propagated wanted (drop k gs)) (opening_small wanted g gs) refl
     (run_is g.cluster gs) (elsewhere_still wanted g.cluster (drop k gs) (behind_group g.cluster gs)) last))
     (length gs) gs (omega arith)
 
-alike_at : (gs : List hb_glyph_info_t) → Alike gs → (p : ℕ) → suc p < length gs →
+alike_at : (gs : Glyphs) → Alike gs → (p : ℕ) → suc p < length gs →
     get_or (clusters gs) p 0 ≡ get_or (clusters gs) (suc p) 0 →
     get_or (glyph_flags gs) p 0 ≡ get_or (glyph_flags gs) (suc p) 0
 alike_at [] a p within e = absurd (omega arith)
@@ -91,7 +91,7 @@ flags_are_shared wanted gs =
 -- ---- the glyphs of a cluster, from one of them to another
 
 -- all from place p on up to one of the same cluster have the same flags
-same_along : (ms : List hb_glyph_info_t) → Alike ms → (p d : ℕ) → p + d < length ms →
+same_along : (ms : Glyphs) → Alike ms → (p d : ℕ) → p + d < length ms →
     ((k : ℕ) → k ≤ d → get_or (clusters ms) (p + k) 0 ≡ get_or (clusters ms) p 0) →
     get_or (glyph_flags ms) (p + d) 0 ≡ get_or (glyph_flags ms) p 0
 same_along ms a p zero within all = ap (λ n. get_or (glyph_flags ms) n 0) (let e : p + 0 ≡ p = omega arith in e)
@@ -105,23 +105,23 @@ same_along ms a p (suc d) within all =
     ∙ sym (alike_at ms a (p + d) (omega (arith, there, within)) (before ∙ sym last))
     ∙ same_along ms a p d (omega arith) (λ k low. all k (omega arith))
 
-unsafe_alike : (ms : List hb_glyph_info_t) (p q : ℕ) → p < length ms → q < length ms →
+unsafe_alike : (ms : Glyphs) (p q : ℕ) → p < length ms → q < length ms →
     get_or (glyph_flags ms) q 0 ≡ get_or (glyph_flags ms) p 0 →
     is_unsafe (get_or ms q default_glyph) ≡ is_unsafe (get_or ms p default_glyph)
 unsafe_alike ms p q pl ql e =
-    let f : hb_glyph_info_t → ℕ = λ g. g.mask % 8 in
+    let f : Glyph → ℕ = λ g. g.mask % 8 in
     sym (unsafe_low (get_or ms q default_glyph).mask)
     ∙ ap unsafe_flags (sym (get_or-map f ms q default_glyph 0 ql) ∙ e ∙ get_or-map f ms p default_glyph 0 pl)
     ∙ unsafe_low (get_or ms p default_glyph).mask
 
 -- a glyph of cluster c stands at place p, and all of that cluster have its flags: it tells whether one is unsafe
-tells_at : (ms : List hb_glyph_info_t) (c p : ℕ) → p < length ms → get_or (clusters ms) p 0 ≡ c →
+tells_at : (ms : Glyphs) (c p : ℕ) → p < length ms → get_or (clusters ms) p 0 ≡ c →
     ((q : ℕ) → q < length ms → get_or (clusters ms) q 0 ≡ c →
     get_or (glyph_flags ms) q 0 ≡ get_or (glyph_flags ms) p 0) →
     (list_any (unsafe_at c) ms ≡ false) ↔ (is_unsafe (get_or ms p default_glyph) ≡ false)
 tells_at ms c p within is all =
     let cluster : (q : ℕ) → q < length ms → get_or (clusters ms) q 0 ≡ (get_or ms q default_glyph).cluster =
-    λ q l. get_or-map (λ (g : hb_glyph_info_t). g.cluster) ms q default_glyph 0 l in (
+    λ q l. get_or-map (λ (g : Glyph). g.cluster) ms q default_glyph 0 l in (
       (λ none. false_from_ne_true (is_unsafe (get_or ms p default_glyph))
           (λ yes. both_ways (list_any (unsafe_at c) ms) none
           (list_any_at (unsafe_at c) ms p default_glyph within
@@ -133,12 +133,12 @@ tells_at ms c p within is all =
           ]))),
     )
 
-tells_rising : (ms : List hb_glyph_info_t) (p : ℕ) → Alike ms → IsRising (clusters ms) → 0 < p → p < length ms →
+tells_rising : (ms : Glyphs) (p : ℕ) → Alike ms → IsRising (clusters ms) → 0 < p → p < length ms →
     get_or (clusters ms) (p - 1) 0 ≢ get_or (clusters ms) p 0 →
     (list_any (unsafe_at (greater ms p)) ms ≡ false) ↔ (is_unsafe (get_or ms p default_glyph) ≡ false)
 tells_rising ms p a rises some within differ =
     let cs = clusters ms in
-    let long : length cs ≡ length ms = length-map ms (λ (g : hb_glyph_info_t). g.cluster) in
+    let long : length cs ≡ length ms = length-map ms (λ (g : Glyph). g.cluster) in
     let step = rising_to cs rises (p - 1) p (omega arith) (omega (arith, long)) in
     let c = greater ms p in
     let top : get_or cs p 0 ≡ c = omega (arith, step) in
@@ -154,12 +154,12 @@ tells_rising ms p a rises some within differ =
           omega (arith, up, down, e, top))))
     ])
 
-tells_falling : (ms : List hb_glyph_info_t) (p : ℕ) → Alike ms → IsFalling (clusters ms) → 0 < p → p < length ms →
+tells_falling : (ms : Glyphs) (p : ℕ) → Alike ms → IsFalling (clusters ms) → 0 < p → p < length ms →
     get_or (clusters ms) (p - 1) 0 ≢ get_or (clusters ms) p 0 →
     (list_any (unsafe_at (greater ms p)) ms ≡ false) ↔ (is_unsafe (get_or ms (p - 1) default_glyph) ≡ false)
 tells_falling ms p a falls some within differ =
     let cs = clusters ms in
-    let long : length cs ≡ length ms = length-map ms (λ (g : hb_glyph_info_t). g.cluster) in
+    let long : length cs ≡ length ms = length-map ms (λ (g : Glyph). g.cluster) in
     let step = falling_to cs falls (p - 1) p (omega arith) (omega (arith, long)) in
     let c = greater ms p in
     let top : get_or cs (p - 1) 0 ≡ c = omega (arith, step) in
@@ -195,10 +195,10 @@ one_glyph_tells wanted gs p some within differ =
 
 -- ---- one flag
 
-abbrev ToldByOne : hb_glyph_info_t → Type 0
+abbrev ToldByOne : Glyph → Type 0
 ToldByOne g = is_unsafe g ≡ (bit_at 0 g.mask == 1)
 
-told : (j : ℕ) (gs : List hb_glyph_info_t) → j < 8 → unsafe_flags j ≡ (bit_at 0 j == 1) →
+told : (j : ℕ) (gs : Glyphs) → j < 8 → unsafe_flags j ≡ (bit_at 0 j == 1) →
     AllByRecursion ToldByOne (map (with_flags j) gs)
 told j [] small is = tt
 told j (g ∷ gs) small is = (
@@ -214,7 +214,7 @@ one_flag_tells wanted gs asked =
     let k = more g gs in
     let j = opening_flags wanted g gs in
     let group = g ∷ take k gs in
-    let P : List hb_glyph_info_t → Type 0 = AllByRecursion ToldByOne in
+    let P : Glyphs → Type 0 = AllByRecursion ToldByOne in
     subst P (sym (opens wanted g gs))
     (all-append ToldByOne (map (with_flags j) group) (flags_propagated wanted (drop k gs))
     (told j group (opening_small wanted g gs) (kept_one wanted asked (flags_of group) (flags_small group))) last))

@@ -9,7 +9,7 @@ use Rattle.std.proofs.lemmas.List.{append-nil, append_assoc, get_or-map, length-
 use Rattle.std.proofs.lemmas.List.Elements.{All-contains_itself}
 use Rattle.shapers_base.specs.declared.font.GlyphId.{GlyphId}
 use Rattle.shapers_buffer.specs.declared.buffer.glyph.GlyphPosition.{GlyphPosition}
-use Rattle.shapers_buffer.specs.declared.buffer.glyph.hb_glyph_info_t.{hb_glyph_info_t}
+use Rattle.shapers_buffer.specs.Glyphs.{Glyph, Glyphs}
 use Rattle.shapers_buffer.specs.declared.buffer.level.BufferClusterLevel.{BufferClusterLevel}
 use Rattle.shapers_buffer.specs.Clusters.{has_cluster, last_cluster, merge, merged, merges}
 use Rattle.shapers_buffer.specs.Glyph.{clusters, default_glyph, default_position, order_view, plain, without_flags}
@@ -32,13 +32,13 @@ run_apart test xs = take-append-drop _ xs
 
 -- ---- what stays, but for its cluster and flags
 
-view_in_place : (gone g : hb_glyph_info_t) → plain (in_place_of gone g) ≡ plain g
+view_in_place : (gone g : Glyph) → plain (in_place_of gone g) ≡ plain g
 view_in_place gone g =
     let none : gone.mask % 8 / 8 ≡ 0 = omega arith in
     ap (λ (m : ℕ). record g { cluster = 0; mask = m }) (without_flags-or (without_flags g.mask) (gone.mask % 8) none
     ∙ without_flags-twice g.mask)
 
-view_by : (b : Bool) (gone : hb_glyph_info_t) (front run gs : List hb_glyph_info_t) → front ++ run ≡ gs →
+view_by : (b : Bool) (gone : Glyph) (front run gs : Glyphs) → front ++ run ≡ gs →
     order_view (cond b (front ++ map (in_place_of gone) run) gs) ≡ order_view gs
 view_by false gone front run gs is = refl
 view_by true gone front run gs is =
@@ -47,18 +47,18 @@ view_by true gone front run gs is =
     ∙ sym (map-append plain front run)
     ∙ ap order_view is
 
-view_covering : (gone : hb_glyph_info_t) (gs : List hb_glyph_info_t) → order_view (covering gone gs) ≡ order_view gs
+view_covering : (gone : Glyph) (gs : Glyphs) → order_view (covering gone gs) ≡ order_view gs
 view_covering gone gs =
     let in_last = has_cluster (last_cluster gs) in
     view_by (nat_lt gone.cluster (last_cluster gs)) gone (before_last_run in_last gs) (last_run in_last gs) gs
     (run_apart in_last gs)
 
-view_goes : (b : Bool) (gone : hb_glyph_info_t) (gs : List hb_glyph_info_t) →
+view_goes : (b : Bool) (gone : Glyph) (gs : Glyphs) →
     order_view (cond b gs (covering gone gs)) ≡ order_view gs
 view_goes true gone gs = refl
 view_goes false gone gs = view_covering gone gs
 
-view_removed : (kept gs : List hb_glyph_info_t) → order_view (removed_behind kept gs)
+view_removed : (kept gs : Glyphs) → order_view (removed_behind kept gs)
     ≡ order_view kept ++ filter stays_in_text (order_view gs)
 view_removed kept [] = sym (append-nil (order_view kept))
 view_removed kept (g ∷ gs) =
@@ -74,7 +74,7 @@ view_removed kept (g ∷ gs) =
     ]
 
 -- the view of those that stay is of those of the view that do
-filter_view : (gs : List hb_glyph_info_t) → filter stays_in_text (order_view gs) ≡ order_view (filter stays_in_text gs)
+filter_view : (gs : Glyphs) → filter stays_in_text (order_view gs) ≡ order_view (filter stays_in_text gs)
 filter_view [] = refl
 filter_view (g ∷ gs) =
     elim (stays_in_text g) as
@@ -86,24 +86,24 @@ filter_view (g ∷ gs) =
 
 -- ---- what holds of each cluster, and of each with each later one
 
-each_in_place : (P : ℕ → Type 0) (gone : hb_glyph_info_t) (gs : List hb_glyph_info_t) → P gone.cluster →
+each_in_place : (P : ℕ → Type 0) (gone : Glyph) (gs : Glyphs) → P gone.cluster →
     Each P (map (in_place_of gone) gs)
 each_in_place P gone [] p = tt
 each_in_place P gone (g ∷ gs) p = (p, each_in_place P gone gs p)
 
-each_parts : (P : ℕ → Type 0) (front run : List hb_glyph_info_t) → Each P (front ++ run) → Each P front
+each_parts : (P : ℕ → Type 0) (front run : Glyphs) → Each P (front ++ run) → Each P front
 each_parts P [] run all = tt
 each_parts P (g ∷ front) run all = (all.0, each_parts P front run all.1)
 
-each_by : (P : ℕ → Type 0) (b : Bool) (gone : hb_glyph_info_t) (front run gs : List hb_glyph_info_t) →
+each_by : (P : ℕ → Type 0) (b : Bool) (gone : Glyph) (front run gs : Glyphs) →
     front ++ run ≡ gs → P gone.cluster → Each P gs → Each P (cond b (front ++ map (in_place_of gone) run) gs)
 each_by P false gone front run gs is p all = all
 each_by P true gone front run gs is p all =
-    let Q : List hb_glyph_info_t → Type 0 = Each P in
+    let Q : Glyphs → Type 0 = Each P in
     each-append P front (map (in_place_of gone) run) (each_parts P front run (subst Q (sym is) all))
     (each_in_place P gone run p)
 
-each_goes : (P : ℕ → Type 0) (b : Bool) (gone : hb_glyph_info_t) (gs : List hb_glyph_info_t) → P gone.cluster →
+each_goes : (P : ℕ → Type 0) (b : Bool) (gone : Glyph) (gs : Glyphs) → P gone.cluster →
     Each P gs → Each P (cond b gs (covering gone gs))
 each_goes P true gone gs p all = all
 each_goes P false gone gs p all =
@@ -111,7 +111,7 @@ each_goes P false gone gs p all =
     each_by P (nat_lt gone.cluster (last_cluster gs)) gone (before_last_run in_last gs) (last_run in_last gs) gs
     (run_apart in_last gs) p all
 
-each_removed : (P : ℕ → Type 0) (kept gs : List hb_glyph_info_t) → Each P kept → Each P gs →
+each_removed : (P : ℕ → Type 0) (kept gs : Glyphs) → Each P kept → Each P gs →
     Each P (removed_behind kept gs)
 each_removed P kept [] p q = p
 each_removed P kept (g ∷ gs) p q =
@@ -122,17 +122,17 @@ each_removed P kept (g ∷ gs) p q =
       | false ↦ each_removed P (kept ++ g ∷ []) gs (each-append P kept (g ∷ []) p (q.0, tt)) q.1
     ]
 
-pairs_in_place : (R : ℕ → ℕ → Type 0) (gone : hb_glyph_info_t) (gs : List hb_glyph_info_t) →
+pairs_in_place : (R : ℕ → ℕ → Type 0) (gone : Glyph) (gs : Glyphs) →
     R gone.cluster gone.cluster → Pairs R (map (in_place_of gone) gs)
 pairs_in_place R gone [] self = tt
 pairs_in_place R gone (g ∷ gs) self = (each_in_place (R gone.cluster) gone gs self, pairs_in_place R gone gs self)
 
 -- a glyph goes, and those directly before it take its cluster
-pairs_covered : (R : ℕ → ℕ → Type 0) (gone : hb_glyph_info_t) (front run gs : List hb_glyph_info_t) →
+pairs_covered : (R : ℕ → ℕ → Type 0) (gone : Glyph) (front run gs : Glyphs) →
     R gone.cluster gone.cluster → Pairs R ((front ++ run) ++ gone ∷ gs) →
     Pairs R ((front ++ map (in_place_of gone) run) ++ gs)
 pairs_covered R gone front run gs self all =
-    let Q : List hb_glyph_info_t → Type 0 = Pairs R in
+    let Q : Glyphs → Type 0 = Pairs R in
     let new = map (in_place_of gone) run in
     let whole : Pairs R (front ++ (run ++ gone ∷ gs)) = subst Q (append_assoc front run (gone ∷ gs)) all in
     let last = pairs-last R (front ++ run) (gone ∷ gs) all in
@@ -146,21 +146,21 @@ pairs_covered R gone front run gs self all =
     (pairs-append R front (new ++ gs) (pairs-first R front (run ++ gone ∷ gs) whole)
     (pairs-append R new gs (pairs_in_place R gone run self) last.1 crossing) others)
 
-pairs_gone : (R : ℕ → ℕ → Type 0) (gone : hb_glyph_info_t) (kept gs : List hb_glyph_info_t) →
+pairs_gone : (R : ℕ → ℕ → Type 0) (gone : Glyph) (kept gs : Glyphs) →
     Pairs R (kept ++ gone ∷ gs) → Pairs R (kept ++ gs)
 pairs_gone R gone kept gs all =
     pairs-append R kept gs (pairs-first R kept (gone ∷ gs) all) (pairs-last R kept (gone ∷ gs) all).1
     (each_as (λ k. Each (R k) (gone ∷ gs)) (λ k. Each (R k) gs) kept (λ k e. e.1) (pairs-cross R kept (gone ∷ gs) all))
 
-pairs_by : (R : ℕ → ℕ → Type 0) (b : Bool) (gone : hb_glyph_info_t) (front run kept gs : List hb_glyph_info_t) →
+pairs_by : (R : ℕ → ℕ → Type 0) (b : Bool) (gone : Glyph) (front run kept gs : Glyphs) →
     R gone.cluster gone.cluster → front ++ run ≡ kept → Pairs R (kept ++ gone ∷ gs) →
     Pairs R (cond b (front ++ map (in_place_of gone) run) kept ++ gs)
 pairs_by R false gone front run kept gs self is all = pairs_gone R gone kept gs all
 pairs_by R true gone front run kept gs self is all =
-    let Q : List hb_glyph_info_t → Type 0 = λ xs. Pairs R (xs ++ gone ∷ gs) in
+    let Q : Glyphs → Type 0 = λ xs. Pairs R (xs ++ gone ∷ gs) in
     pairs_covered R gone front run gs self (subst Q (sym is) all)
 
-pairs_goes : (R : ℕ → ℕ → Type 0) (b : Bool) (gone : hb_glyph_info_t) (kept gs : List hb_glyph_info_t) →
+pairs_goes : (R : ℕ → ℕ → Type 0) (b : Bool) (gone : Glyph) (kept gs : Glyphs) →
     R gone.cluster gone.cluster → Pairs R (kept ++ gone ∷ gs) → Pairs R (cond b kept (covering gone kept) ++ gs)
 pairs_goes R true gone kept gs self all = pairs_gone R gone kept gs all
 pairs_goes R false gone kept gs self all =
@@ -168,11 +168,11 @@ pairs_goes R false gone kept gs self all =
     pairs_by R (nat_lt gone.cluster (last_cluster kept)) gone (before_last_run in_last kept)
     (last_run in_last kept) kept gs self (run_apart in_last kept) all
 
-pairs_removed : (R : ℕ → ℕ → Type 0) → ((k : ℕ) → R k k) → (kept gs : List hb_glyph_info_t) → Pairs R (kept ++ gs) →
+pairs_removed : (R : ℕ → ℕ → Type 0) → ((k : ℕ) → R k k) → (kept gs : Glyphs) → Pairs R (kept ++ gs) →
     Pairs R (removed_behind kept gs)
-pairs_removed R self kept [] all = let Q : List hb_glyph_info_t → Type 0 = Pairs R in subst Q (append-nil kept) all
+pairs_removed R self kept [] all = let Q : Glyphs → Type 0 = Pairs R in subst Q (append-nil kept) all
 pairs_removed R self kept (g ∷ gs) all =
-    let Q : List hb_glyph_info_t → Type 0 = Pairs R in
+    let Q : Glyphs → Type 0 = Pairs R in
     let after = cond (goes_on g.cluster gs) kept (covering g kept) in
     elim (is_default_ignorable g) as (λ b. Pairs R
     (cond b (removed_behind after gs) (removed_behind (kept ++ g ∷ []) gs))) [
@@ -180,13 +180,13 @@ pairs_removed R self kept (g ∷ gs) all =
       | false ↦ pairs_removed R self (kept ++ g ∷ []) gs (subst Q (sym (append_assoc kept (g ∷ []) gs)) all)
     ]
 
-order_removed : (R : ℕ → ℕ → Type 0) → ((k : ℕ) → R k k) → (gs : List hb_glyph_info_t) → AllPairs R (clusters gs) →
+order_removed : (R : ℕ → ℕ → Type 0) → ((k : ℕ) → R k k) → (gs : Glyphs) → AllPairs R (clusters gs) →
     AllPairs R (clusters (removed_behind [] gs))
 order_removed R self gs all = from_pairs R (removed_behind [] gs) (pairs_removed R self [] gs (to_pairs R gs all))
 
 -- ---- where nothing goes
 
-none_goes : (kept gs : List hb_glyph_info_t) → list_any is_default_ignorable gs ≡ false →
+none_goes : (kept gs : Glyphs) → list_any is_default_ignorable gs ≡ false →
     removed_behind kept gs ≡ kept ++ gs
 none_goes kept [] none = sym (append-nil kept)
 none_goes kept (g ∷ gs) none =
@@ -196,7 +196,7 @@ none_goes kept (g ∷ gs) none =
     ∙ none_goes (kept ++ g ∷ []) gs both.1
     ∙ append_assoc kept (g ∷ []) gs
 
-none_opens : (gs : List hb_glyph_info_t) → list_any is_default_ignorable gs ≡ false →
+none_opens : (gs : Glyphs) → list_any is_default_ignorable gs ≡ false →
     prefix_len is_default_ignorable gs ≡ 0
 none_opens [] none = refl
 none_opens (g ∷ gs) none =
@@ -204,24 +204,24 @@ none_opens (g ∷ gs) none =
     ap (λ b. cond b (1 + prefix_len is_default_ignorable gs) 0) both.0
 
 -- one glyph, or none, merges with nothing
-short_by : (b : Bool) (gs ms : List hb_glyph_info_t) → cond (b && false) ms gs ≡ gs
+short_by : (b : Bool) (gs ms : Glyphs) → cond (b && false) ms gs ≡ gs
 short_by true gs ms = refl
 short_by false gs ms = refl
 
-short_merge : (level : BufferClusterLevel) (e : ℕ) (gs : List hb_glyph_info_t) → e < 2 → merge level 0 e gs ≡ gs
+short_merge : (level : BufferClusterLevel) (e : ℕ) (gs : Glyphs) → e < 2 → merge level 0 e gs ≡ gs
 short_merge level e gs short =
     let few : nat_lt (e - 0) 2 ≡ true = grind (arith, nat_tests) in
     ap (λ b. cond (merges level && not b) (merged 0 e gs) gs) few ∙ short_by (merges level) gs (merged 0 e gs)
 
 -- ---- positions, and glyphs that are drawn by another one
 
-as_many : (gs : List hb_glyph_info_t) (ps : List GlyphPosition) → length ps ≡ length gs →
+as_many : (gs : Glyphs) (ps : List GlyphPosition) → length ps ≡ length gs →
     length (positions_kept gs ps) ≡ length (filter stays_in_text gs)
 as_many [] ps same = refl
 as_many (g ∷ gs) [] same = absurd (omega arith)
 as_many (g ∷ gs) (p ∷ ps) same =
-    let cells = filter (λ (c : hb_glyph_info_t × GlyphPosition). stays_in_text c.0) (zip gs ps) in
-    let one : hb_glyph_info_t × GlyphPosition → GlyphPosition = λ c. c.1 in
+    let cells = filter (λ (c : Glyph × GlyphPosition). stays_in_text c.0) (zip gs ps) in
+    let one : Glyph × GlyphPosition → GlyphPosition = λ c. c.1 in
     elim (stays_in_text g)
     as (λ b. length (map one (cond b ((g, p) ∷ cells) cells))
     ≡ length (cond b (g ∷ filter stays_in_text gs) (filter stays_in_text gs))) [
@@ -229,13 +229,13 @@ as_many (g ∷ gs) (p ∷ ps) same =
       | false ↦ as_many gs ps (omega arith)
     ]
 
-by_length : (gs hs : List hb_glyph_info_t) → order_view gs ≡ order_view hs → length hs ≡ length gs
+by_length : (gs hs : Glyphs) → order_view gs ≡ order_view hs → length hs ≡ length gs
 by_length gs hs same = sym (sym (length-map gs plain) ∙ ap length same ∙ length-map hs plain)
 
-drawn_number : (glyph : GlyphId) (n : ℕ) (g : hb_glyph_info_t) → with_glyph_id n (drawn_by glyph g) ≡ with_glyph_id n g
+drawn_number : (glyph : GlyphId) (n : ℕ) (g : Glyph) → with_glyph_id n (drawn_by glyph g) ≡ with_glyph_id n g
 drawn_number glyph n g =
     elim (is_default_ignorable g)
-    as (λ b. with_glyph_id n (cond b (let r : hb_glyph_info_t = record g { glyph_id = glyph.0 } in r) g)
+    as (λ b. with_glyph_id n (cond b (let r : Glyph = record g { glyph_id = glyph.0 } in r) g)
     ≡ with_glyph_id n g)
     [ true ↦ refl | false ↦ refl ]
 
@@ -244,7 +244,7 @@ drawn_keep glyph n gs = map-hidden (with_glyph_id n) (drawn_by glyph) (drawn_num
 
 pub changed_by_glyphs : PositionsLaw
 changed_by_glyphs f gs ps same =
-    let one : hb_glyph_info_t × GlyphPosition → GlyphPosition = λ c. f c.0 c.1 in
+    let one : Glyph × GlyphPosition → GlyphPosition = λ c. f c.0 c.1 in
     record {
       same_length = length-map (zip gs ps) one ∙ (let n = length-zip gs ps in omega (arith, n, same));
       each = λ i inside.
@@ -255,15 +255,15 @@ changed_by_glyphs f gs ps same =
 
 -- ---- all
 
-abbrev opening_end : List hb_glyph_info_t → ℕ
+abbrev opening_end : Glyphs → ℕ
 opening_end gs = min (prefix_len is_default_ignorable gs + 1) (length gs)
 
-monotone_removed : (level : BufferClusterLevel) (gs : List hb_glyph_info_t) → IsMonotone (clusters gs) →
+monotone_removed : (level : BufferClusterLevel) (gs : Glyphs) → IsMonotone (clusters gs) →
     IsMonotone (clusters (removed level gs))
 monotone_removed level gs order =
     let e = opening_end gs in
     let ms = merge level 0 e gs in
-    let within : e ≤ length (clusters gs) = omega (arith, length-map gs (λ (g : hb_glyph_info_t). g.cluster)) in
+    let within : e ≤ length (clusters gs) = omega (arith, length-map gs (λ (g : Glyph). g.cluster)) in
     let joined = clusters-merge level 0 e gs in
     elim order [
       | inl rises ↦ inl (order_removed (λ a b. a ≤ b) (λ k. omega arith) ms

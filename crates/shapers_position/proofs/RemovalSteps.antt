@@ -3,7 +3,7 @@ use Rattle.std.proofs.Common.{◌≡◌, ◌+◌, ◌-◌, ◌<◌, ◌≤◌, �
 use Rattle.std.specs.Prelude.{count_by, not}
 use Rattle.std.proofs.lemmas.List.{drop-drop, drop-set-lt, drop_at, drop_more, take_at, take_more_set}
 use Rattle.std.proofs.lemmas.List.Sums.{sum_by-cons}
-use Rattle.shapers_buffer.specs.declared.buffer.glyph.hb_glyph_info_t.{hb_glyph_info_t}
+use Rattle.shapers_buffer.specs.Glyphs.{Glyph, Glyphs}
 use Rattle.shapers_buffer.specs.declared.buffer.level.BufferClusterLevel.{BufferClusterLevel}
 use Rattle.shapers_buffer.specs.Clusters.{merge}
 use Rattle.shapers_clusters.proofs.Merging.{order_view-merge}
@@ -28,18 +28,18 @@ by : (b : Bool) → cond {A = ℕ} (not b) 1 0 ≡ cond {A = ℕ} b 0 1
 by true = refl
 by false = refl
 
-pub count_next : (gs : List hb_glyph_info_t) (i : ℕ) (b : Bool) → i < length gs →
+pub count_next : (gs : Glyphs) (i : ℕ) (b : Bool) → i < length gs →
     is_default_ignorable (get_or gs i default_glyph) ≡ b →
     count_by stays_in_text (drop i gs) ≡ cond {A = ℕ} b 0 1 + count_by stays_in_text (drop (i + 1) gs)
 count_next gs i b inside is =
     ap (count_by stays_in_text) (drop_more gs i default_glyph inside)
-    ∙ sum_by-cons (λ (g : hb_glyph_info_t). cond {A = ℕ} (stays_in_text g) 1 0) (get_or gs i default_glyph)
+    ∙ sum_by-cons (λ (g : Glyph). cond {A = ℕ} (stays_in_text g) 1 0) (get_or gs i default_glyph)
     (drop (i + 1) gs)
     ∙ ap (λ n. n + count_by stays_in_text (drop (i + 1) gs)) (ap (λ c. cond {A = ℕ} (not c) 1 0) is ∙ by b)
 
 -- ---- a glyph that stays
 
-pub stays_rest : (gs : List hb_glyph_info_t) (k i : ℕ) (g : hb_glyph_info_t) → k ≤ i → i < length gs →
+pub stays_rest : (gs : Glyphs) (k i : ℕ) (g : Glyph) → k ≤ i → i < length gs →
     get_or gs i default_glyph ≡ g → is_default_ignorable g ≡ false →
     removed_behind (take (k + 1) (set gs k g)) (drop (i + 1) (set gs k g)) ≡ removed_behind (take k gs) (drop i gs)
 stays_rest gs k i g few inside at is =
@@ -51,7 +51,7 @@ stays_rest gs k i g few inside at is =
     (covering g (take k gs))) (drop (i + 1) gs)) (removed_behind (take k gs ++ g ∷ []) (drop (i + 1) gs))) is)
     ∙ sym (ap (removed_behind (take k gs)) more)
 
-pub stays_count : (gs : List hb_glyph_info_t) (k i : ℕ) (g : hb_glyph_info_t) → k ≤ i → i < length gs →
+pub stays_count : (gs : Glyphs) (k i : ℕ) (g : Glyph) → k ≤ i → i < length gs →
     get_or gs i default_glyph ≡ g → is_default_ignorable g ≡ false →
     k + 1 + count_by stays_in_text (drop (i + 1) (set gs k g)) ≡ k + count_by stays_in_text (drop i gs)
 stays_count gs k i g few inside at is =
@@ -61,7 +61,7 @@ stays_count gs k i g few inside at is =
 
 -- ---- one that goes
 
-goes_by : (gs : List hb_glyph_info_t) (k i : ℕ) (g : hb_glyph_info_t) (b : Bool) → i < length gs →
+goes_by : (gs : Glyphs) (k i : ℕ) (g : Glyph) (b : Bool) → i < length gs →
     get_or gs i default_glyph ≡ g → is_default_ignorable g ≡ true → goes_on g.cluster (drop (i + 1) gs) ≡ b →
     removed_behind (cond b (take k gs) (covering g (take k gs))) (drop (i + 1) gs)
     ≡ removed_behind (take k gs) (drop i gs)
@@ -74,12 +74,12 @@ goes_by gs k i g b inside at is on =
     ∙ sym (ap (removed_behind (take k gs)) more)
 
 -- its cluster goes on behind it
-pub goes_rest : (gs : List hb_glyph_info_t) (k i : ℕ) (g : hb_glyph_info_t) → i < length gs →
+pub goes_rest : (gs : Glyphs) (k i : ℕ) (g : Glyph) → i < length gs →
     get_or gs i default_glyph ≡ g → is_default_ignorable g ≡ true → goes_on g.cluster (drop (i + 1) gs) ≡ true →
     removed_behind (take k gs) (drop (i + 1) gs) ≡ removed_behind (take k gs) (drop i gs)
 goes_rest gs k i g inside at is on = goes_by gs k i g true inside at is on
 
-pub goes_count : (gs : List hb_glyph_info_t) (k i : ℕ) (g : hb_glyph_info_t) → i < length gs →
+pub goes_count : (gs : Glyphs) (k i : ℕ) (g : Glyph) → i < length gs →
     get_or gs i default_glyph ≡ g → is_default_ignorable g ≡ true →
     k + count_by stays_in_text (drop (i + 1) gs) ≡ k + count_by stays_in_text (drop i gs)
 goes_count gs k i g inside at is =
@@ -87,7 +87,7 @@ goes_count gs k i g inside at is =
     omega (arith, none)
 
 -- it doesn't, and those before take it in
-pub covered_rest : (gs new : List hb_glyph_info_t) (k i : ℕ) (g : hb_glyph_info_t) → k ≤ i → i < length gs →
+pub covered_rest : (gs new : Glyphs) (k i : ℕ) (g : Glyph) → k ≤ i → i < length gs →
     get_or gs i default_glyph ≡ g → is_default_ignorable g ≡ true → goes_on g.cluster (drop (i + 1) gs) ≡ false →
     new ≡ covering g (take k gs) → length new ≡ k →
     removed_behind (take k (new ++ drop k gs)) (drop (i + 1) (new ++ drop k gs))
@@ -97,7 +97,7 @@ covered_rest gs new k i g few inside at is on covers long =
     ∙ ap (removed_behind (covering g (take k gs))) (behind_front gs new k i few long)
     ∙ goes_by gs k i g false inside at is on
 
-pub covered_count : (gs new : List hb_glyph_info_t) (k i : ℕ) (g : hb_glyph_info_t) → k ≤ i → i < length gs →
+pub covered_count : (gs new : Glyphs) (k i : ℕ) (g : Glyph) → k ≤ i → i < length gs →
     get_or gs i default_glyph ≡ g → is_default_ignorable g ≡ true → length new ≡ k →
     k + count_by stays_in_text (drop (i + 1) (new ++ drop k gs)) ≡ k + count_by stays_in_text (drop i gs)
 covered_count gs new k i g few inside at is long =
@@ -105,14 +105,14 @@ covered_count gs new k i g few inside at is long =
 
 -- ---- the glyphs that open a text merged
 
-count_view : (gs : List hb_glyph_info_t) → count_by stays_in_text (order_view gs) ≡ count_by stays_in_text gs
+count_view : (gs : Glyphs) → count_by stays_in_text (order_view gs) ≡ count_by stays_in_text gs
 count_view [] = refl
 count_view (g ∷ gs) =
-    let one : hb_glyph_info_t → ℕ = λ g. cond {A = ℕ} (stays_in_text g) 1 0 in
+    let one : Glyph → ℕ = λ g. cond {A = ℕ} (stays_in_text g) 1 0 in
     sum_by-cons one (plain g) (order_view gs) ∙ ap (λ n. one g + n) (count_view gs) ∙ sym (sum_by-cons one g gs)
 
 -- as many stay
-pub count_merged : (level : BufferClusterLevel) (s e : ℕ) (gs : List hb_glyph_info_t) →
+pub count_merged : (level : BufferClusterLevel) (s e : ℕ) (gs : Glyphs) →
     count_by stays_in_text (merge level s e gs) ≡ count_by stays_in_text gs
 count_merged level s e gs = sym (count_view (merge level s e gs))
     ∙ ap (count_by stays_in_text) (order_view-merge level s e gs) ∙ count_view gs

@@ -4,7 +4,7 @@ use Rattle.std.specs.List.{list_any}
 use Rattle.shapers_base.specs.Font.{Font}
 use Rattle.shapers_buffer.specs.declared.buffer.category.hb_unicode_general_category_t.TheVariants.{Lo, Zs}
 use Rattle.shapers_buffer.specs.declared.buffer.glyph.GlyphPosition.{GlyphPosition}
-use Rattle.shapers_buffer.specs.declared.buffer.glyph.hb_glyph_info_t.{hb_glyph_info_t}
+use Rattle.shapers_buffer.specs.Glyphs.{Glyph}
 use Rattle.shapers_buffer.specs.Glyph.{default_glyph}
 use Rattle.shapers_buffer.specs.Properties.{general_category, properties}
 use Rattle.shapers_position.specs.Metrics.{Metrics, along_line, line_advance}
@@ -90,14 +90,14 @@ stop_rows : full_stops ≡ 46 ∷ 44 ∷ []
 stop_rows = refl
 
 -- a space by its category, unless a lookup put it in for several
-abbrev space : ℕ → hb_glyph_info_t
+abbrev space : ℕ → Glyph
 space bits = record default_glyph { glyph_props = record { 0 = bits }; unicode_props = properties Zs 1 }
 
-abbrev no_space : hb_glyph_info_t
+abbrev no_space : Glyph
 no_space = record default_glyph { unicode_props = properties Lo 1 }
 
 -- a space of the same kind with the bits between
-abbrev noted_space : hb_glyph_info_t
+abbrev noted_space : Glyph
 noted_space = record default_glyph { unicode_props = record { 0 = 0x01FD } }
 
 spaces : map is_space_glyph (space 0 ∷ space 0x10 ∷ space 0x20 ∷ space 0xFFDF ∷ space 0xFFFF ∷ noted_space ∷ no_space ∷

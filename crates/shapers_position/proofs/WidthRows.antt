@@ -2,7 +2,7 @@
 use Rattle.std.specs.Prelude.{◌≡◌, ℕ, ℤ, pos, negsuc, neg_ℤ, ◌+◌, ◌/◌, ◌==◌, Bool, true, false, List, [], ◌∷◌, map, None, refl}
 use Rattle.shapers_base.specs.Font.{Font}
 use Rattle.shapers_buffer.specs.declared.buffer.glyph.GlyphPosition.{GlyphPosition}
-use Rattle.shapers_buffer.specs.declared.buffer.glyph.hb_glyph_info_t.{hb_glyph_info_t}
+use Rattle.shapers_buffer.specs.Glyphs.{Glyph, Glyphs}
 use Rattle.shapers_buffer.specs.declared.buffer.level.Direction.TheVariants.{Invalid, LeftToRight, RightToLeft, TopToBottom, BottomToTop}
 use Rattle.shapers_buffer.specs.Glyph.{default_glyph}
 use Rattle.shapers_position.specs.declared.ot_shape_position.ignorables.DefaultIgnorables.TheVariants.{Hide, Preserve, Remove}
@@ -27,11 +27,11 @@ metrics = record {
   v_origin = λ glyph. (pos (glyph.0 / 2), pos 880);
 }
 
-abbrev glyph : ℕ → hb_glyph_info_t
+abbrev glyph : ℕ → Glyph
 glyph n = record default_glyph { glyph_id = n }
 
 -- with properties as a glyph, and as a character
-abbrev noted : ℕ → ℕ → ℕ → hb_glyph_info_t
+abbrev noted : ℕ → ℕ → ℕ → Glyph
 noted n props character =
     record (glyph n) {
       glyph_props = record { 0 = props };
@@ -88,14 +88,14 @@ bounds : map nearest_of_32_bits (pos 2147483646 ∷ pos 2147483647 ∷ pos 21474
 bounds = refl
 
 -- the second of three is a mark
-abbrev text : List hb_glyph_info_t
+abbrev text : Glyphs
 text = glyph 1 ∷ glyph 2 ∷ glyph 3 ∷ []
 
 abbrev places : List GlyphPosition
 places = kept 11 (pos 10) (pos 1) (pos 5) (pos 6) ∷ kept 22 (pos 20) (pos 2) (pos 7) (pos 8) ∷
     kept 33 (pos 30) (pos 3) (pos 9) (pos 4) ∷ []
 
-abbrev is_mark : hb_glyph_info_t → Bool
+abbrev is_mark : Glyph → Bool
 is_mark g = g.glyph_id == 2
 
 marks : marks_zeroed is_mark false text places ≡ kept 11 (pos 10) (pos 1) (pos 5) (pos 6) ∷
@@ -122,7 +122,7 @@ along : without_extent true (kept 7 (pos 1) (pos 2) (pos 3) (pos 4)) ∷
     kept 7 (pos 0) (pos 0) (pos 3) (pos 0) ∷ []
 along = refl
 
-abbrev hidden : List hb_glyph_info_t
+abbrev hidden : Glyphs
 hidden = glyph 1 ∷ noted 2 0 0x20 ∷ noted 3 0x10 0x20 ∷ []
 
 -- in each direction: only the second is hidden

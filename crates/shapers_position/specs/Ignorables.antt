@@ -4,7 +4,7 @@ use Rattle.std.specs.Prelude.{ℕ, ◌+◌, ◌==◌, ◌%◌, min, nat_lt, pos,
 use Rattle.std.specs.List.{prefix_len, zip}
 use Rattle.shapers_base.specs.declared.font.GlyphId.{GlyphId}
 use Rattle.shapers_buffer.specs.declared.buffer.glyph.GlyphPosition.{GlyphPosition}
-use Rattle.shapers_buffer.specs.declared.buffer.glyph.hb_glyph_info_t.{hb_glyph_info_t}
+use Rattle.shapers_buffer.specs.Glyphs.{Glyph, Glyphs}
 use Rattle.shapers_buffer.specs.declared.buffer.level.BufferClusterLevel.{BufferClusterLevel}
 use Rattle.shapers_buffer.specs.declared.buffer.level.Direction.{Direction}
 use Rattle.shapers_buffer.specs.Buffer.{Buffer}
@@ -23,11 +23,11 @@ ignorables_for bits =
     if bit_and bits 4 == 4 then Preserve else if bit_and bits 8 == 8 then Remove else Hide
 
 -- the character need not be drawn, and no lookup put the glyph in
-abbrev pub is_default_ignorable : hb_glyph_info_t → Bool
+abbrev pub is_default_ignorable : Glyph → Bool
 is_default_ignorable g = is_ignorable g.unicode_props && not (is_substituted g.glyph_props)
 
 -- the others
-abbrev pub stays_in_text : hb_glyph_info_t → Bool
+abbrev pub stays_in_text : Glyph → Bool
 stays_in_text g = not (is_default_ignorable g)
 
 -- a glyph without an advance, and without an offset along the line
@@ -36,26 +36,26 @@ without_extent horizontal p =
     if horizontal then record (without_advance p) { x_offset = pos 0 }
     else record (without_advance p) { y_offset = pos 0 }
 
-abbrev pub ignorable_zeroed : Bool → hb_glyph_info_t → GlyphPosition → GlyphPosition
+abbrev pub ignorable_zeroed : Bool → Glyph → GlyphPosition → GlyphPosition
 ignorable_zeroed horizontal g p =
     if is_default_ignorable g then without_extent horizontal p else p
 
 -- the positions where glyphs that are to be hidden have no width
 abbrev pub ignorables_zeroed : DefaultIgnorables → Direction →
-    List hb_glyph_info_t → List GlyphPosition → List GlyphPosition
+    Glyphs → List GlyphPosition → List GlyphPosition
 ignorables_zeroed Hide direction gs ps =
     positions_changed (ignorable_zeroed (is_horizontal direction)) gs ps
 ignorables_zeroed Preserve direction gs ps = ps
 ignorables_zeroed Remove direction gs ps = ps
 
 -- an ignorable glyph, drawn by this one
-abbrev pub drawn_by : GlyphId → hb_glyph_info_t → hb_glyph_info_t
+abbrev pub drawn_by : GlyphId → Glyph → Glyph
 drawn_by glyph g =
-    if is_default_ignorable g then (let r : hb_glyph_info_t = record g { glyph_id = glyph.0 } in r)
+    if is_default_ignorable g then (let r : Glyph = record g { glyph_id = glyph.0 } in r)
     else g
 
 -- A glyph that takes in the text of one that goes: its cluster, and its glyph flags.
-abbrev pub in_place_of : hb_glyph_info_t → hb_glyph_info_t → hb_glyph_info_t
+abbrev pub in_place_of : Glyph → Glyph → Glyph
 in_place_of gone g = record g {
   cluster = gone.cluster;
   mask = bit_or (without_flags g.mask) (gone.mask % 8);
@@ -64,19 +64,19 @@ in_place_of gone g = record g {
 -- What stands before a glyph that goes, the last of its cluster there: where that cluster is below
 -- the one of the glyph directly before it, that one and all directly before it of its cluster take
 -- in the text of what goes.
-abbrev pub covering : hb_glyph_info_t → List hb_glyph_info_t → List hb_glyph_info_t
+abbrev pub covering : Glyph → Glyphs → Glyphs
 covering gone gs =
     let in_last = has_cluster (last_cluster gs) in
     if nat_lt gone.cluster (last_cluster gs)
     then before_last_run in_last gs ++ map (in_place_of gone) (last_run in_last gs) else gs
 
 -- whether the next glyph is of this cluster
-abbrev pub goes_on : ℕ → List hb_glyph_info_t → Bool
+abbrev pub goes_on : ℕ → Glyphs → Bool
 goes_on cluster [] = false
 goes_on cluster (g ∷ gs) = has_cluster cluster g
 
 -- the glyphs that stay of a text, behind those that stay of what stands before it
-abbrev pub removed_behind : List hb_glyph_info_t → List hb_glyph_info_t → List hb_glyph_info_t
+abbrev pub removed_behind : Glyphs → Glyphs → Glyphs
 removed_behind kept [] = kept
 removed_behind kept (g ∷ gs) =
     if is_default_ignorable g
@@ -86,13 +86,13 @@ removed_behind kept (g ∷ gs) =
 -- The glyphs of a text without the ignorable ones. Those that open it merge with the first glyph
 -- that stays. Behind that, one that goes leaves its cluster to the next glyph, if that is of it,
 -- and else to those before it.
-abbrev pub removed : BufferClusterLevel → List hb_glyph_info_t → List hb_glyph_info_t
+abbrev pub removed : BufferClusterLevel → Glyphs → Glyphs
 removed level gs =
     let opening = prefix_len is_default_ignorable gs in
     removed_behind [] (merge level 0 (min (opening + 1) (length gs)) gs)
 
 -- the positions of the glyphs that stay
-abbrev pub positions_kept : List hb_glyph_info_t → List GlyphPosition → List GlyphPosition
+abbrev pub positions_kept : Glyphs → List GlyphPosition → List GlyphPosition
 positions_kept gs ps = map (λ c. c.1) (filter (λ c. stays_in_text c.0) (zip gs ps))
 
 abbrev pub ignorables_removed : Buffer → Buffer

@@ -5,7 +5,7 @@ use Rattle.std.specs.List.{All, Contains, list_any}
 use Rattle.shapers_base.specs.declared.font.GlyphId.{GlyphId}
 use Rattle.shapers_buffer.specs.declared.buffer.flags.BufferFlags.{BufferFlags}
 use Rattle.shapers_buffer.specs.declared.buffer.glyph.GlyphPosition.{GlyphPosition}
-use Rattle.shapers_buffer.specs.declared.buffer.glyph.hb_glyph_info_t.{hb_glyph_info_t}
+use Rattle.shapers_buffer.specs.Glyphs.{Glyph, Glyphs}
 use Rattle.shapers_buffer.specs.declared.buffer.level.BufferClusterLevel.{BufferClusterLevel}
 use Rattle.shapers_buffer.specs.Buffer.{flags_tatweel, has_flag}
 use Rattle.shapers_buffer.specs.Glyph.{clusters, default_glyph, default_position, order_view}
@@ -17,18 +17,18 @@ use Rattle.shapers_position.specs.Ignorables.{drawn_by, is_default_ignorable, st
 use Rattle.shapers_position.specs.Widths.{positions_changed}
 
 -- the glyph flags of each glyph
-abbrev pub glyph_flags : List hb_glyph_info_t → List ℕ
+abbrev pub glyph_flags : Glyphs → List ℕ
 glyph_flags gs = map (λ g. g.mask % 8) gs
 
 -- the glyph with this number
-abbrev pub with_glyph_id : ℕ → hb_glyph_info_t → hb_glyph_info_t
+abbrev pub with_glyph_id : ℕ → Glyph → Glyph
 with_glyph_id n g = record g { glyph_id = n }
 
 -- What sharing the flags makes of the glyphs gs: ms. Nothing but glyph flags changes. Neighbours of
 -- one cluster have the same flags. A second time changes nothing, unless tatweels are wanted: one
 -- that is there makes its place unsafe to break, and a second time that would take it away. A place
 -- is clear as before.
-pub record FlagsAreShared (wanted : BufferFlags) (gs ms : List hb_glyph_info_t) : Type 0 where
+pub record FlagsAreShared (wanted : BufferFlags) (gs ms : Glyphs) : Type 0 where
   pub same_view : order_view ms ≡ order_view gs
   pub same_clusters : clusters ms ≡ clusters gs
   pub alike : (p : ℕ) → suc p < length gs →
@@ -38,14 +38,14 @@ pub record FlagsAreShared (wanted : BufferFlags) (gs ms : List hb_glyph_info_t) 
   pub clear : (p : ℕ) → IsClear ms p ↔ IsClear gs p
 
 abbrev pub FlagsLaw : Type 0
-FlagsLaw = (wanted : BufferFlags) (gs : List hb_glyph_info_t) →
+FlagsLaw = (wanted : BufferFlags) (gs : Glyphs) →
     FlagsAreShared wanted gs (flags_propagated wanted gs)
 
 -- One glyph tells whether a line may be broken where two clusters meet: the first one behind that
 -- place where clusters never decrease, the last one before it where they never increase. The place
 -- is clear exactly if that glyph is safe.
 abbrev pub OneGlyphTells : Type 0
-OneGlyphTells = (wanted : BufferFlags) (gs : List hb_glyph_info_t) (p : ℕ) →
+OneGlyphTells = (wanted : BufferFlags) (gs : Glyphs) (p : ℕ) →
     0 < p → p < length gs →
     slice_index (clusters gs) (p - 1) ≢ slice_index (clusters gs) p →
     let ms = flags_propagated wanted gs in
@@ -55,31 +55,31 @@ OneGlyphTells = (wanted : BufferFlags) (gs : List hb_glyph_info_t) (p : ℕ) →
 
 -- Where tatweels are wanted, a glyph is unsafe exactly if it has the flag of that, bit 1.
 abbrev pub OneFlagTells : Type 0
-OneFlagTells = (wanted : BufferFlags) (gs : List hb_glyph_info_t) →
+OneFlagTells = (wanted : BufferFlags) (gs : Glyphs) →
     has_flag flags_tatweel wanted ≡ true →
     All (λ g. is_unsafe g ≡ (bit_at 0 g.mask == 1)) (flags_propagated wanted gs)
 
 -- Each position is changed by its own glyph, and there are as many.
-pub record ChangedByGlyphs (f : hb_glyph_info_t → GlyphPosition → GlyphPosition)
-    (gs : List hb_glyph_info_t) (ps qs : List GlyphPosition) : Type 0 where
+pub record ChangedByGlyphs (f : Glyph → GlyphPosition → GlyphPosition)
+    (gs : Glyphs) (ps qs : List GlyphPosition) : Type 0 where
   pub same_length : length qs ≡ length ps
   pub each : (i : ℕ) → i < length gs →
       get_or qs i default_position ≡ f (get_or gs i default_glyph) (get_or ps i default_position)
 
 abbrev pub PositionsLaw : Type 0
-PositionsLaw = (f : hb_glyph_info_t → GlyphPosition → GlyphPosition)
-    (gs : List hb_glyph_info_t) (ps : List GlyphPosition) → length ps ≡ length gs →
+PositionsLaw = (f : Glyph → GlyphPosition → GlyphPosition)
+    (gs : Glyphs) (ps : List GlyphPosition) → length ps ≡ length gs →
     ChangedByGlyphs f gs ps (positions_changed f gs ps)
 
 -- A glyph that is drawn by another one keeps all but its number.
 abbrev pub DrawnLaw : Type 0
-DrawnLaw = (glyph : GlyphId) (n : ℕ) (gs : List hb_glyph_info_t) →
+DrawnLaw = (glyph : GlyphId) (n : ℕ) (gs : Glyphs) →
     map (with_glyph_id n) (map (drawn_by glyph) gs) ≡ map (with_glyph_id n) gs
 
 -- What taking the ignorable glyphs out of gs leaves: ms. The others stay in their order, with all
 -- but cluster and glyph flags, and with their positions. Every cluster is one that was there.
 -- Clusters that rise, or fall, still do. Without an ignorable glyph nothing changes.
-pub record IgnorablesAreRemoved (gs ms : List hb_glyph_info_t) : Type 0 where
+pub record IgnorablesAreRemoved (gs ms : Glyphs) : Type 0 where
   pub same_view : order_view ms ≡ order_view (filter stays_in_text gs)
   pub paired : (ps : List GlyphPosition) → length ps ≡ length gs →
       length (positions_kept gs ps) ≡ length ms
@@ -88,5 +88,5 @@ pub record IgnorablesAreRemoved (gs ms : List hb_glyph_info_t) : Type 0 where
   pub none : list_any is_default_ignorable gs ≡ false → ms ≡ gs
 
 abbrev pub RemovalLaw : Type 0
-RemovalLaw = (level : BufferClusterLevel) (gs : List hb_glyph_info_t) →
+RemovalLaw = (level : BufferClusterLevel) (gs : Glyphs) →
     IgnorablesAreRemoved gs (removed level gs)

@@ -5,7 +5,7 @@ use Rattle.std.specs.Prelude.{ℕ, ◌+◌, ◌*◌, ◌/◌, ◌==◌, nat_le, 
 use Rattle.std.specs.Option.{option_map_or}
 use Rattle.shapers_base.specs.Font.{Font}
 use Rattle.shapers_buffer.specs.declared.buffer.glyph.GlyphPosition.{GlyphPosition}
-use Rattle.shapers_buffer.specs.declared.buffer.glyph.hb_glyph_info_t.{hb_glyph_info_t}
+use Rattle.shapers_buffer.specs.Glyphs.{Glyph}
 use Rattle.shapers_buffer.specs.Properties.{is_ligated, general_category, high_byte}
 use Rattle.shapers_normal.specs.Decomposition.{is_space_separator}
 use Rattle.shapers_position.specs.Metrics.{Metrics, along_line, line_advance}
@@ -45,12 +45,12 @@ space_width font metrics horizontal kind advance =
     else if kind == 21 then int_div advance (pos 2) else advance
 
 -- a space that no lookup put in for several glyphs
-abbrev pub is_space_glyph : hb_glyph_info_t → Bool
+abbrev pub is_space_glyph : Glyph → Bool
 is_space_glyph g =
     is_space_separator (general_category g.unicode_props) && not (is_ligated g.glyph_props)
 
 -- a glyph's position, with that width along the line if it is such a space
-abbrev pub space_placed : Font → Metrics → Bool → hb_glyph_info_t → GlyphPosition → GlyphPosition
+abbrev pub space_placed : Font → Metrics → Bool → Glyph → GlyphPosition → GlyphPosition
 space_placed font metrics horizontal g p =
     let width = space_width font metrics horizontal (high_byte g.unicode_props) in
     if not (is_space_glyph g) then p

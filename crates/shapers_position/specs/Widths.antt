@@ -5,17 +5,17 @@ use Rattle.std.specs.Int.{saturate_to_bits}
 use Rattle.shapers_base.specs.declared.font.GlyphId.{GlyphId}
 use Rattle.shapers_base.specs.Font.{Font}
 use Rattle.shapers_buffer.specs.declared.buffer.glyph.GlyphPosition.{GlyphPosition}
-use Rattle.shapers_buffer.specs.declared.buffer.glyph.hb_glyph_info_t.{hb_glyph_info_t}
+use Rattle.shapers_buffer.specs.Glyphs.{Glyph, Glyphs}
 use Rattle.shapers_buffer.specs.Glyph.{default_position}
 use Rattle.shapers_position.specs.Metrics.{Metrics}
 
 -- The glyph by its number, as fonts take it: every number above 65535 is queried as that one.
-abbrev pub glyph_of : hb_glyph_info_t → GlyphId
+abbrev pub glyph_of : Glyph → GlyphId
 glyph_of g = record { 0 = min g.glyph_id 65535 }
 
 -- the positions, each as its glyph has it changed
-abbrev pub positions_changed : (hb_glyph_info_t → GlyphPosition → GlyphPosition) →
-    List hb_glyph_info_t → List GlyphPosition → List GlyphPosition
+abbrev pub positions_changed : (Glyph → GlyphPosition → GlyphPosition) →
+    Glyphs → List GlyphPosition → List GlyphPosition
 positions_changed f gs ps = map (λ c. f c.0 c.1) (zip gs ps)
 
 -- a glyph that doesn't move the pen
@@ -41,7 +41,7 @@ upright_position metrics glyph =
     }
 
 -- that of a glyph that no lookup has moved
-abbrev pub advanced : Font → Metrics → Bool → hb_glyph_info_t → GlyphPosition
+abbrev pub advanced : Font → Metrics → Bool → Glyph → GlyphPosition
 advanced font metrics horizontal g =
     if horizontal then level_position font (glyph_of g)
     else upright_position metrics (glyph_of g)
@@ -54,11 +54,11 @@ hung_back p = record p {
 }
 
 -- the position of a glyph, which doesn't move the pen if it is a mark
-abbrev pub mark_zeroed : (hb_glyph_info_t → Bool) → Bool → hb_glyph_info_t → GlyphPosition →
+abbrev pub mark_zeroed : (Glyph → Bool) → Bool → Glyph → GlyphPosition →
     GlyphPosition
 mark_zeroed is_mark adjusts g p =
     if is_mark g then without_advance (if adjusts then hung_back p else p) else p
 
-abbrev pub marks_zeroed : (hb_glyph_info_t → Bool) → Bool →
-    List hb_glyph_info_t → List GlyphPosition → List GlyphPosition
+abbrev pub marks_zeroed : (Glyph → Bool) → Bool →
+    Glyphs → List GlyphPosition → List GlyphPosition
 marks_zeroed is_mark adjusts gs ps = positions_changed (mark_zeroed is_mark adjusts) gs ps

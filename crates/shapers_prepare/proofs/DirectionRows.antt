@@ -2,7 +2,7 @@
 use Rattle.std.specs.Prelude.{◌≡◌, ℕ, Bool, true, false, [], ◌∷◌, List, None, Some, codes, map, replicate, refl}
 use Rattle.shapers_buffer.specs.declared.buffer.category.hb_unicode_general_category_t.{hb_unicode_general_category_t}
 use Rattle.shapers_buffer.specs.declared.buffer.category.hb_unicode_general_category_t.TheVariants.{Ll, Lm, Lo, Lt, Lu, Mn, Nd, Nl, No, So, Zs}
-use Rattle.shapers_buffer.specs.declared.buffer.glyph.hb_glyph_info_t.{hb_glyph_info_t}
+use Rattle.shapers_buffer.specs.Glyphs.{Glyph, Glyphs}
 use Rattle.shapers_buffer.specs.declared.buffer.level.BufferClusterLevel.{BufferClusterLevel}
 use Rattle.shapers_buffer.specs.declared.buffer.level.BufferClusterLevel.TheVariants.{MonotoneGraphemes, MonotoneCharacters, Characters}
 use Rattle.shapers_buffer.specs.declared.buffer.level.Direction.{Direction}
@@ -35,10 +35,10 @@ no_script : native_direction None ≡ Invalid
 no_script = refl
 
 -- a glyph of a category, of a regional indicator, and one that goes on
-abbrev of_category : hb_unicode_general_category_t → hb_glyph_info_t
+abbrev of_category : hb_unicode_general_category_t → Glyph
 of_category c = record default_glyph { unicode_props = properties c 0 }
 
-abbrev indicator : ℕ → hb_glyph_info_t
+abbrev indicator : ℕ → Glyph
 indicator c = record default_glyph { glyph_id = c; unicode_props = properties So 0 }
 
 -- numbers alone, flags alone (the first, the last, and their neighbours), with a space; each kind of
@@ -83,18 +83,18 @@ opposites : map opposite_direction (Invalid ∷ LeftToRight ∷ RightToLeft ∷ 
 opposites = refl
 
 -- a text: of each glyph its number and cluster, and whether it goes on
-abbrev text : List (ℕ × Bool) → List hb_glyph_info_t
+abbrev text : List (ℕ × Bool) → Glyphs
 text ps = map
-    (λ p. let g : hb_glyph_info_t = record default_glyph {
+    (λ p. let g : Glyph = record default_glyph {
       glyph_id = p.0;
       cluster = p.0;
       unicode_props = set_property CONTINUATION p.1 (properties Lo 0);
     } in g) ps
 
-abbrev six : List hb_glyph_info_t
+abbrev six : Glyphs
 six = text ((0, false) ∷ (1, true) ∷ (2, true) ∷ (3, false) ∷ (4, false) ∷ (5, true) ∷ [])
 
-abbrev seen : List hb_glyph_info_t → List (ℕ × ℕ)
+abbrev seen : Glyphs → List (ℕ × ℕ)
 seen gs = map (λ g. (g.glyph_id, g.cluster)) gs
 
 graphemes_stay : seen (graphemes_turned six) ≡ (4, 4) ∷ (5, 5) ∷ (3, 3) ∷ (0, 0) ∷ (1, 1) ∷ (2, 2) ∷ []
@@ -107,7 +107,7 @@ nothing : graphemes_turned [] ≡ []
 nothing = refl
 
 -- a text of Hebrew's from left to right at each level
-abbrev prepared : BufferClusterLevel → Direction → List hb_glyph_info_t → Buffer
+abbrev prepared : BufferClusterLevel → Direction → Glyphs → Buffer
 prepared level direction gs =
     let hebrew : Script = record { 0 = codes "Hebr" } in
     let b : Buffer =

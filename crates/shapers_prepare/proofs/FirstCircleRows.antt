@@ -5,7 +5,7 @@ use Rattle.shapers_base.specs.Font.{Font}
 use Rattle.std.specs.Prelude.{pos, false}
 use Rattle.shapers_buffer.specs.declared.buffer.category.hb_unicode_general_category_t.{hb_unicode_general_category_t}
 use Rattle.shapers_buffer.specs.declared.buffer.category.hb_unicode_general_category_t.TheVariants.{Lo, Mc, Me, Mn, So}
-use Rattle.shapers_buffer.specs.declared.buffer.glyph.hb_glyph_info_t.{hb_glyph_info_t}
+use Rattle.shapers_buffer.specs.Glyphs.{Glyph, Glyphs}
 use Rattle.shapers_buffer.specs.Buffer.{Buffer, new_buffer}
 use Rattle.shapers_buffer.specs.Properties.{CONTINUATION, HIDDEN, IGNORABLE, general_category, properties, with_property}
 use Rattle.shapers_prepare.specs.CharacterProperties.{CharacterProperties}
@@ -31,7 +31,7 @@ font_with character = record {
 }
 
 -- a glyph of a category, with other fields set
-abbrev glyph : hb_unicode_general_category_t → hb_glyph_info_t
+abbrev glyph : hb_unicode_general_category_t → Glyph
 glyph general = record {
   glyph_id = 0x301;
   mask = 0x80000007;
@@ -45,7 +45,7 @@ glyph general = record {
   auxiliary = 19;
 }
 
-abbrev buffer : ℕ → List ℕ → List hb_glyph_info_t → Buffer
+abbrev buffer : ℕ → List ℕ → Glyphs → Buffer
 buffer flags before gs = let b : Buffer =
     record (new_buffer 9) { glyphs = gs; flags = record { 0 = flags }; before = before } in b
 

@@ -3,7 +3,7 @@ use Rattle.std.proofs.Common.{◌≡◌, ℕ, zero, suc, ◌+◌, ◌-◌, ◌<�
 use Rattle.std.proofs.lemmas.Bool.Decides.{nat_tests}
 use Rattle.std.proofs.lemmas.Bool.{false≢true}
 use Rattle.std.proofs.lemmas.List.{append-nil, drop-drop, get_or-map, length-drop, length-map, take_all, take-append-drop}
-use Rattle.shapers_buffer.specs.declared.buffer.glyph.hb_glyph_info_t.{hb_glyph_info_t}
+use Rattle.shapers_buffer.specs.Glyphs.{Glyph, Glyphs}
 use Rattle.shapers_buffer.specs.declared.buffer.level.BufferClusterLevel.TheVariants.{MonotoneGraphemes}
 use Rattle.shapers_buffer.specs.Clusters.{stretch_of}
 use Rattle.shapers_buffer.specs.Glyph.{clusters, default_glyph}
@@ -20,11 +20,11 @@ ends_from s i n [] within = (omega arith, tt)
 ends_from s i n (true ∷ cs) within = ends_from s (i + 1) n cs (omega arith)
 ends_from s i n (false ∷ cs) within = (omega arith, ends_from i (i + 1) n cs (omega arith))
 
-ends_within : (gs : List hb_glyph_info_t) → EndWithin (length gs) (graphemes gs)
+ends_within : (gs : Glyphs) → EndWithin (length gs) (graphemes gs)
 ends_within [] = tt
 ends_within (g ∷ gs) =
     ends_from 0 1 (suc (length gs)) (continuations gs)
-    (omega (arith, length-map gs (λ (h : hb_glyph_info_t). is_continuation h.unicode_props)))
+    (omega (arith, length-map gs (λ (h : Glyph). is_continuation h.unicode_props)))
 
 -- the places between the first one of a grapheme and the one that it has come to
 or_right : (a b : Bool) → b ≡ true → (a || b) ≡ true
@@ -58,14 +58,14 @@ holds_from s i (suc k) (false ∷ cs) order is =
     or_right (nat_lt s (i + suc k) && nat_lt (i + suc k) i) (held (graphemes_from i (i + 1) cs) (i + suc k))
     (ap (held (graphemes_from i (i + 1) cs)) (sym there) ∙ holds_from i (i + 1) k cs (omega arith) is)
 
-holds : (gs : List hb_glyph_info_t) (p : ℕ) → 0 < p → p < length gs
+holds : (gs : Glyphs) (p : ℕ) → 0 < p → p < length gs
     → is_continuation (get_or gs p default_glyph).unicode_props ≡ true → held (graphemes gs) p ≡ true
 holds [] p some inside is = absurd (omega arith)
 holds (g ∷ gs) zero some inside is = absurd (omega arith)
 holds (g ∷ gs) (suc k) some inside is =
     let there : 1 + k ≡ suc k = omega arith in
     let read : get_or (continuations gs) k false ≡ true =
-    get_or-map (λ (h : hb_glyph_info_t). is_continuation h.unicode_props) gs k default_glyph false (omega arith) ∙ is in
+    get_or-map (λ (h : Glyph). is_continuation h.unicode_props) gs k default_glyph false (omega arith) ∙ is in
     ap (held (graphemes_from 0 1 (continuations gs))) (sym there)
     ∙ holds_from 0 1 k (continuations gs) (omega arith) read
 
@@ -73,7 +73,7 @@ pub no_grapheme_splits : NoGraphemeSplits
 no_grapheme_splits gs p some inside is =
     let cs = clusters gs in
     let sts = graphemes gs in
-    let n : length cs ≡ length gs = length-map gs (λ (g : hb_glyph_info_t). g.cluster) in
+    let n : length cs ≡ length gs = length-map gs (λ (g : Glyph). g.cluster) in
     let ends : EndWithin (length cs) sts = subst (λ n. EndWithin n sts) (sym n) (ends_within gs) in
     subst (λ cs. ShareCluster cs (p - 1) p) (sym (clusters-merge_all MonotoneGraphemes sts gs))
     (held_share MonotoneGraphemes refl sts cs ends (p - 1) p (omega (arith, n)) (omega (arith, n))
@@ -87,7 +87,7 @@ formed_cuts_are_exact gs monotone =
 
 -- the graphemes from one place on are the text from there on
 
-cover_from : (gs : List hb_glyph_info_t) (s i : ℕ) (cs : List Bool) → s ≤ i → i + length cs ≡ length gs
+cover_from : (gs : Glyphs) (s i : ℕ) (cs : List Bool) → s ≤ i → i + length cs ≡ length gs
     → flat_map (λ st. stretch_of st.0 st.1 gs) (graphemes_from s i cs) ≡ drop s gs
 cover_from gs s i [] order end = append-nil (stretch_of s i gs)
     ∙ take_all (i - s) (drop s gs) (omega (arith, length-drop s gs))
@@ -102,4 +102,4 @@ pub graphemes_cover : GraphemesCover
 graphemes_cover [] = refl
 graphemes_cover (g ∷ gs) =
     cover_from (g ∷ gs) 0 1 (continuations gs) (omega arith)
-    (omega (arith, length-map gs (λ (h : hb_glyph_info_t). is_continuation h.unicode_props)))
+    (omega (arith, length-map gs (λ (h : Glyph). is_continuation h.unicode_props)))

@@ -1,6 +1,6 @@
 -- Clusters formed on small texts.
 use Rattle.std.specs.Prelude.{◌≡◌, ℕ, Bool, true, false, [], ◌∷◌, List, map, refl}
-use Rattle.shapers_buffer.specs.declared.buffer.glyph.hb_glyph_info_t.{hb_glyph_info_t}
+use Rattle.shapers_buffer.specs.Glyphs.{Glyph, Glyphs}
 use Rattle.shapers_buffer.specs.declared.buffer.level.BufferClusterLevel.TheVariants.{MonotoneGraphemes, MonotoneCharacters, Characters}
 use Rattle.shapers_buffer.specs.Glyph.{clusters, default_glyph}
 use Rattle.shapers_buffer.specs.Properties.{CONTINUATION, set_property}
@@ -13,15 +13,15 @@ stretches : map grapheme_stretches ((false ∷ true ∷ true ∷ false ∷ []) �
 stretches = refl
 
 -- a text: of each glyph its cluster, and whether it goes on
-abbrev text : List (ℕ × Bool) → List hb_glyph_info_t
+abbrev text : List (ℕ × Bool) → Glyphs
 text ps = map
-    (λ p. let g : hb_glyph_info_t = record default_glyph
+    (λ p. let g : Glyph = record default_glyph
     { cluster = p.0; mask = 8; unicode_props = set_property CONTINUATION p.1 default_glyph.unicode_props } in g) ps
 
-abbrev seen : List hb_glyph_info_t → List (ℕ × ℕ)
+abbrev seen : Glyphs → List (ℕ × ℕ)
 seen gs = map (λ g. (g.cluster, g.mask)) gs
 
-abbrev three : List hb_glyph_info_t
+abbrev three : Glyphs
 three = text ((0, false) ∷ (1, true) ∷ (2, true) ∷ (3, false) ∷ (4, false) ∷ (5, true) ∷ [])
 
 -- each grapheme in one cluster

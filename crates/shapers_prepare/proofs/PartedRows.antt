@@ -1,6 +1,6 @@
 -- Vowels parted on small texts.
 use Rattle.std.specs.Prelude.{◌≡◌, ℕ, true, false, [], ◌∷◌, List, None, Some, codes, length, map, refl}
-use Rattle.shapers_buffer.specs.declared.buffer.glyph.hb_glyph_info_t.{hb_glyph_info_t}
+use Rattle.shapers_buffer.specs.Glyphs.{Glyph}
 use Rattle.shapers_buffer.specs.declared.buffer.tag.Script.{Script}
 use Rattle.shapers_buffer.specs.Buffer.{Buffer, new_buffer}
 use Rattle.shapers_buffer.specs.Glyph.{characters, default_glyph}
@@ -55,7 +55,7 @@ buffer code flags cs =
     let s : Script = record { 0 = code } in
     let b : Buffer =
     record (new_buffer 9) {
-      glyphs = map (λ c. let g : hb_glyph_info_t = record default_glyph { glyph_id = c } in g) cs;
+      glyphs = map (λ c. let g : Glyph = record default_glyph { glyph_id = c } in g) cs;
       script = Some
           s;
       flags = record { 0 = flags };

@@ -2,7 +2,7 @@
 use Rattle.std.specs.Prelude.{◌≡◌, ◌==◌, ◌||◌, ℕ, Bool, true, false, [], ◌∷◌, List, None, map, refl, if◌then◌else◌}
 use Rattle.shapers_buffer.specs.declared.buffer.category.hb_unicode_general_category_t.{hb_unicode_general_category_t}
 use Rattle.shapers_buffer.specs.declared.buffer.category.hb_unicode_general_category_t.TheVariants.{Cf, Lm, Lo, Mc, Me, Mn, Sk, So}
-use Rattle.shapers_buffer.specs.declared.buffer.glyph.hb_glyph_info_t.{hb_glyph_info_t}
+use Rattle.shapers_buffer.specs.Glyphs.{Glyph}
 use Rattle.shapers_buffer.specs.Glyph.{default_glyph}
 use Rattle.shapers_buffer.specs.Properties.{is_continuation}
 use Rattle.shapers_normal.specs.Properties.{is_from_to}
@@ -31,7 +31,7 @@ sample = record {
 }
 
 -- a glyph with all fields set keeps the fields that aren't its character's, and what lookups noted
-abbrev busy : hb_glyph_info_t
+abbrev busy : Glyph
 busy = record {
   glyph_id = 0x301;
   mask = 7;
@@ -73,7 +73,7 @@ bytes_of = refl
 abbrev going_on : List ℕ → List Bool
 going_on cs =
     map (λ g. is_continuation g.unicode_props)
-    (properties_set sample (map (λ c. let g : hb_glyph_info_t = record default_glyph { glyph_id = c } in g) cs))
+    (properties_set sample (map (λ c. let g : Glyph = record default_glyph { glyph_id = c } in g) cs))
 
 -- the three kinds of marks, also in front; none of ASCII's is
 marks_go_on : going_on (0x301 ∷ 0x905 ∷ 0x903 ∷ 0x20DD ∷ 0x41 ∷ []) ≡ true ∷ false ∷ true ∷ true ∷ false ∷ []

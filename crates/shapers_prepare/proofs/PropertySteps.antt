@@ -6,7 +6,7 @@ use Rattle.std.proofs.Math.Nat.{suc-mod, mod-lt}
 use Rattle.std.proofs.lemmas.Bool.{eqb-true, false≢true}
 use Rattle.std.proofs.lemmas.Bool.Decides.{nat_tests}
 use Rattle.std.proofs.lemmas.List.{map_push}
-use Rattle.shapers_buffer.specs.declared.buffer.glyph.hb_glyph_info_t.{hb_glyph_info_t}
+use Rattle.shapers_buffer.specs.Glyphs.{Glyph, Glyphs}
 use Rattle.shapers_buffer.specs.Glyph.{characters}
 use Rattle.shapers_buffer.specs.Lists.{each_after}
 use Rattle.shapers_buffer.proofs.ListLaws.{last_of, suffix_len_yes, suffix_len_no}
@@ -113,13 +113,13 @@ continues_open p xs c =
     ∙ ap (λ b. is_mark_character p c || b) (sym (goes_on_by p c (ends_joined xs) (ends_in_half_flag xs)))
 
 -- the walk over the glyphs that are left
-abbrev pub set_behind : CharacterProperties → Open → List hb_glyph_info_t → List hb_glyph_info_t
+abbrev pub set_behind : CharacterProperties → Open → Glyphs → Glyphs
 set_behind p o [] = []
 set_behind p o (g ∷ gs) =
     with_properties p (is_mark_character p g.glyph_id || goes_on_behind p o g.glyph_id) g
     ∷ set_behind p (then_open o g.glyph_id) gs
 
-set_from : (p : CharacterProperties) (before gs : List hb_glyph_info_t)
+set_from : (p : CharacterProperties) (before gs : Glyphs)
     → set_behind p (left_open (characters before)) gs
     ≡ map (λ x. with_properties_behind p x.0 x.1) (each_after before gs)
 set_from p before [] = refl
@@ -127,10 +127,10 @@ set_from p before (g ∷ gs) =
     let c = g.glyph_id in
     let o = left_open (characters before) in
     let pushed : left_open (characters (before ++ g ∷ [])) ≡ then_open o c =
-    ap left_open (map_push (λ (h : hb_glyph_info_t). h.glyph_id) before g) ∙ open_next (characters before) c in
+    ap left_open (map_push (λ (h : Glyph). h.glyph_id) before g) ∙ open_next (characters before) c in
     ap (λ b. with_properties p b g ∷ set_behind p (then_open o c) gs) (sym (continues_open p (characters before) c))
     ∙ ap (λ next. with_properties_behind p before g ∷ set_behind p next gs) (sym pushed)
     ∙ ap (λ gs. with_properties_behind p before g ∷ gs) (set_from p (before ++ g ∷ []) gs)
 
-pub set_all : (p : CharacterProperties) (gs : List hb_glyph_info_t) → set_behind p Nothing gs ≡ properties_set p gs
+pub set_all : (p : CharacterProperties) (gs : Glyphs) → set_behind p Nothing gs ≡ properties_set p gs
 set_all p gs = set_from p [] gs

@@ -1,7 +1,7 @@
 -- A dotted circle in front of a text that begins with a mark.
-use Rattle.std.specs.Prelude.{ℕ, ◌==◌, Bool, false, not, ◌&&◌, List, [], ◌∷◌, length, if◌then◌else◌}
+use Rattle.std.specs.Prelude.{ℕ, ◌==◌, Bool, false, not, ◌&&◌, [], ◌∷◌, length, if◌then◌else◌}
 use Rattle.shapers_base.specs.Font.{Font, dotted_circle, has_nominal}
-use Rattle.shapers_buffer.specs.declared.buffer.glyph.hb_glyph_info_t.{hb_glyph_info_t}
+use Rattle.shapers_buffer.specs.Glyphs.{Glyph, Glyphs}
 use Rattle.shapers_buffer.specs.Buffer.{Buffer, asks, no_dotted_circle}
 use Rattle.shapers_buffer.specs.Category.{is_mark}
 use Rattle.shapers_buffer.specs.Glyph.{default_glyph}
@@ -13,7 +13,7 @@ use Rattle.shapers_prepare.specs.GlyphProperties.{with_properties_behind}
 abbrev pub begins_text : ℕ
 begins_text = 0x02
 
-abbrev pub begins_with_mark : List hb_glyph_info_t → Bool
+abbrev pub begins_with_mark : Glyphs → Bool
 begins_with_mark [] = false
 begins_with_mark (g ∷ gs) = is_mark (general_category g.unicode_props)
 
@@ -25,18 +25,18 @@ wants_first_circle b =
     && begins_with_mark b.glyphs
 
 -- the circle before a glyph, in its cluster and with its features
-abbrev pub first_circle : CharacterProperties → hb_glyph_info_t → hb_glyph_info_t
+abbrev pub first_circle : CharacterProperties → Glyph → Glyph
 first_circle p g =
-    let circle : hb_glyph_info_t =
+    let circle : Glyph =
     record default_glyph { glyph_id = dotted_circle; cluster = g.cluster; mask = g.mask } in
     with_properties_behind p [] circle
 
-abbrev pub behind_circle : CharacterProperties → List hb_glyph_info_t → List hb_glyph_info_t
+abbrev pub behind_circle : CharacterProperties → Glyphs → Glyphs
 behind_circle p [] = []
 behind_circle p (g ∷ gs) = first_circle p g ∷ (g ∷ gs)
 
 -- the text with the circle that it wants, if the font has one
-abbrev pub with_first_circle : CharacterProperties → Font → Buffer → List hb_glyph_info_t
+abbrev pub with_first_circle : CharacterProperties → Font → Buffer → Glyphs
 with_first_circle p font b =
     if wants_first_circle b && has_nominal font dotted_circle then behind_circle p b.glyphs
     else b.glyphs

@@ -3,7 +3,7 @@
 -- not take graphemes apart).
 use Rattle.std.specs.Prelude.{ℕ, ◌==◌, ◌%◌, nat_le, Bool, not, ◌&&◌, ◌||◌, List, [], map, if◌then◌else◌}
 use Rattle.std.specs.List.{suffix_len}
-use Rattle.shapers_buffer.specs.declared.buffer.glyph.hb_glyph_info_t.{hb_glyph_info_t}
+use Rattle.shapers_buffer.specs.Glyphs.{Glyph, Glyphs}
 use Rattle.shapers_buffer.specs.declared.buffer.unicode_props.UnicodeProps.{UnicodeProps}
 use Rattle.shapers_buffer.specs.Category.{is_mark}
 use Rattle.shapers_buffer.specs.Glyph.{characters}
@@ -68,16 +68,16 @@ kept_properties p continues c =
     (properties (p.general c) (kept_class p c))))
 
 -- a glyph with the properties of its character
-abbrev pub with_properties : CharacterProperties → Bool → hb_glyph_info_t → hb_glyph_info_t
+abbrev pub with_properties : CharacterProperties → Bool → Glyph → Glyph
 with_properties p continues g =
     record g { unicode_props = kept_properties p continues g.glyph_id }
 
 -- the same behind these glyphs
-abbrev pub with_properties_behind : CharacterProperties → List hb_glyph_info_t →
-    hb_glyph_info_t → hb_glyph_info_t
+abbrev pub with_properties_behind : CharacterProperties → Glyphs →
+    Glyph → Glyph
 with_properties_behind p before g =
     with_properties p (continues_grapheme p (characters before) g.glyph_id) g
 
 -- a text with the properties of its characters
-abbrev pub properties_set : CharacterProperties → List hb_glyph_info_t → List hb_glyph_info_t
+abbrev pub properties_set : CharacterProperties → Glyphs → Glyphs
 properties_set p gs = map (λ x. with_properties_behind p x.0 x.1) (each_after [] gs)

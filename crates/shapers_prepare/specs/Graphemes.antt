@@ -1,6 +1,6 @@
 -- Graphemes: a glyph and those behind it that carry it on.
 use Rattle.std.specs.Prelude.{ℕ, ◌+◌, Bool, List, [], ◌∷◌, map, if◌then◌else◌}
-use Rattle.shapers_buffer.specs.declared.buffer.glyph.hb_glyph_info_t.{hb_glyph_info_t}
+use Rattle.shapers_buffer.specs.Glyphs.{Glyphs}
 use Rattle.shapers_buffer.specs.declared.buffer.level.BufferClusterLevel.{BufferClusterLevel}
 use Rattle.shapers_buffer.specs.declared.buffer.level.BufferClusterLevel.TheVariants.{MonotoneGraphemes}
 use Rattle.shapers_buffer.specs.Clusters.{merge_all}
@@ -8,7 +8,7 @@ use Rattle.shapers_buffer.specs.GlyphFlags.{unsafe_all}
 use Rattle.shapers_buffer.specs.Properties.{is_continuation}
 
 -- of each glyph, whether it carries on the grapheme before it
-abbrev pub continuations : List hb_glyph_info_t → List Bool
+abbrev pub continuations : Glyphs → List Bool
 continuations gs = map (λ g. is_continuation g.unicode_props) gs
 
 -- the graphemes as stretches, each from its first place to the place behind its last one; the first
@@ -23,11 +23,11 @@ abbrev pub grapheme_stretches : List Bool → List (ℕ × ℕ)
 grapheme_stretches [] = []
 grapheme_stretches (c ∷ cs) = graphemes_from 0 1 cs
 
-abbrev pub graphemes : List hb_glyph_info_t → List (ℕ × ℕ)
+abbrev pub graphemes : Glyphs → List (ℕ × ℕ)
 graphemes gs = grapheme_stretches (continuations gs)
 
 -- a text with its clusters formed: each grapheme in one cluster at the level of graphemes, else not
 -- to be broken inside
-abbrev pub clusters_formed : BufferClusterLevel → List hb_glyph_info_t → List hb_glyph_info_t
+abbrev pub clusters_formed : BufferClusterLevel → Glyphs → Glyphs
 clusters_formed MonotoneGraphemes gs = merge_all MonotoneGraphemes (graphemes gs) gs
 clusters_formed _ gs = unsafe_all (graphemes gs) gs

@@ -3,7 +3,7 @@ use Rattle.std.specs.Prelude.{Bool, true, false, not, ◌&&◌, ◌||◌, List, 
 use Rattle.std.specs.List.{list_any}
 use Rattle.shapers_buffer.specs.declared.buffer.category.hb_unicode_general_category_t.{hb_unicode_general_category_t}
 use Rattle.shapers_buffer.specs.declared.buffer.category.hb_unicode_general_category_t.TheVariants.{Ll, Lm, Lo, Lt, Lu, Nd}
-use Rattle.shapers_buffer.specs.declared.buffer.glyph.hb_glyph_info_t.{hb_glyph_info_t}
+use Rattle.shapers_buffer.specs.Glyphs.{Glyph, Glyphs}
 use Rattle.shapers_buffer.specs.declared.buffer.level.BufferClusterLevel.{BufferClusterLevel}
 use Rattle.shapers_buffer.specs.declared.buffer.level.BufferClusterLevel.TheVariants.{MonotoneCharacters}
 use Rattle.shapers_buffer.specs.declared.buffer.level.Direction.{Direction}
@@ -52,20 +52,20 @@ abbrev pub is_decimal_number : hb_unicode_general_category_t → Bool
 is_decimal_number Nd = true
 is_decimal_number _ = false
 
-abbrev pub is_letter_glyph : hb_glyph_info_t → Bool
+abbrev pub is_letter_glyph : Glyph → Bool
 is_letter_glyph g = is_letter_category (general_category g.unicode_props)
 
-abbrev pub is_number_or_flag : hb_glyph_info_t → Bool
+abbrev pub is_number_or_flag : Glyph → Bool
 is_number_or_flag g =
     is_decimal_number (general_category g.unicode_props) || is_regional_indicator g.glyph_id
 
 -- numbers or flags, and no letter beside them
-abbrev pub are_numbers_or_flags : List hb_glyph_info_t → Bool
+abbrev pub are_numbers_or_flags : Glyphs → Bool
 are_numbers_or_flags gs = list_any is_number_or_flag gs && not (list_any is_letter_glyph gs)
 
 -- the direction of a text's own, whose script has one: numbers and flags in a text from left to
 -- right stay so
-abbrev pub text_direction : Direction → Direction → List hb_glyph_info_t → Direction
+abbrev pub text_direction : Direction → Direction → Glyphs → Direction
 text_direction LeftToRight RightToLeft gs =
     if are_numbers_or_flags gs then LeftToRight else RightToLeft
 text_direction _ native gs = native
@@ -87,12 +87,12 @@ opposite_direction BottomToTop = TopToBottom
 
 -- at the level of characters each grapheme comes into one cluster before it is turned with others;
 -- at that of graphemes it is in one
-abbrev pub graphemes_whole : BufferClusterLevel → List hb_glyph_info_t → List hb_glyph_info_t
+abbrev pub graphemes_whole : BufferClusterLevel → Glyphs → Glyphs
 graphemes_whole MonotoneCharacters gs = merge_all MonotoneCharacters (graphemes gs) gs
 graphemes_whole _ gs = gs
 
 -- the graphemes from the last to the first, each as it is
-abbrev pub graphemes_turned : List hb_glyph_info_t → List hb_glyph_info_t
+abbrev pub graphemes_turned : Glyphs → Glyphs
 graphemes_turned gs = flat_map (λ st. stretch_of st.0 st.1 gs) (reverse (graphemes gs))
 
 -- the buffer in its text's own direction

@@ -2,7 +2,7 @@
 use Rattle.std.specs.Prelude.{ℕ, Bool, true, false, not, ◌&&◌, Option, None, Some, if◌then◌else◌}
 use Rattle.std.specs.Option.{option_map_or}
 use Rattle.shapers_base.specs.Font.{Font, has_nominal}
-use Rattle.shapers_buffer.specs.declared.buffer.glyph.hb_glyph_info_t.{hb_glyph_info_t}
+use Rattle.shapers_buffer.specs.Glyphs.{Glyph}
 use Rattle.shapers_buffer.specs.declared.buffer.level.Direction.{Direction}
 use Rattle.shapers_buffer.specs.declared.buffer.level.Direction.TheVariants.{RightToLeft, TopToBottom, BottomToTop}
 use Rattle.shapers_buffer.specs.GlyphFlags.{with_bits}
@@ -24,24 +24,24 @@ abbrev pub which_font_has : Font → Option ℕ → Option ℕ
 which_font_has font None = None
 which_font_has font (Some c) = if has_nominal font c then Some c else None
 
-abbrev pub as_other_character : hb_glyph_info_t → ℕ → hb_glyph_info_t
+abbrev pub as_other_character : Glyph → ℕ → Glyph
 as_other_character g c = record g { glyph_id = c }
 
 -- in text that runs backward: the mirrored character where the font has it, else the feature that
 -- mirrors
-abbrev pub mirrored_glyph : CharacterProperties → Font → ℕ → hb_glyph_info_t → hb_glyph_info_t
+abbrev pub mirrored_glyph : CharacterProperties → Font → ℕ → Glyph → Glyph
 mirrored_glyph p font mask g =
     option_map_or (as_other_character g) (which_font_has font (p.mirroring g.glyph_id))
     (with_bits mask g)
 
 -- in vertical text: the vertical form where the font has it
-abbrev pub upright_glyph : CharacterProperties → Font → hb_glyph_info_t → hb_glyph_info_t
+abbrev pub upright_glyph : CharacterProperties → Font → Glyph → Glyph
 upright_glyph p font g =
     option_map_or (as_other_character g) (which_font_has font (p.vertical g.glyph_id)) g
 
 -- a glyph rotated; a font with a feature for vertical forms keeps its characters
-abbrev pub rotated_glyph : CharacterProperties → Font → CharRotation → hb_glyph_info_t →
-    hb_glyph_info_t
+abbrev pub rotated_glyph : CharacterProperties → Font → CharRotation → Glyph →
+    Glyph
 rotated_glyph p font r g =
     let mirrored_one =
     if runs_backward r.direction then mirrored_glyph p font r.rtlm_mask g else g in

@@ -3,7 +3,7 @@
 use Rattle.std.specs.Prelude.{ℕ, ◌==◌, ◌-◌, Bool, false, ◌&&◌, List, [], ◌∷◌, ◌++◌, Option, None, Some, codes, if◌then◌else◌}
 use Rattle.std.specs.List.{list_any}
 use Rattle.shapers_base.specs.Font.{dotted_circle}
-use Rattle.shapers_buffer.specs.declared.buffer.glyph.hb_glyph_info_t.{hb_glyph_info_t}
+use Rattle.shapers_buffer.specs.Glyphs.{Glyph, Glyphs}
 use Rattle.shapers_buffer.specs.declared.buffer.tag.Script.{Script}
 use Rattle.shapers_buffer.specs.Buffer.{Buffer, asks, no_dotted_circle}
 use Rattle.shapers_buffer.specs.Properties.{CONTINUATION, without_property}
@@ -67,36 +67,36 @@ is_parted_triple _ a b c = false
 
 -- how many glyphs behind the first one are of a pair or a triple that opens the text, 0 where none
 -- does
-abbrev pub triple_behind : VowelScript → ℕ → ℕ → List hb_glyph_info_t → ℕ
+abbrev pub triple_behind : VowelScript → ℕ → ℕ → Glyphs → ℕ
 triple_behind s a b [] = 0
 triple_behind s a b (g ∷ gs) = if is_parted_triple s a b g.glyph_id then 2 else 0
 
-abbrev pub pair_behind : VowelScript → ℕ → List hb_glyph_info_t → ℕ
+abbrev pub pair_behind : VowelScript → ℕ → Glyphs → ℕ
 pair_behind s a [] = 0
 pair_behind s a (g ∷ gs) =
     if is_parted_pair s a g.glyph_id then 1 else triple_behind s a g.glyph_id gs
 
 -- how many glyphs behind this one are left of a pair or triple, if so many were left of one with it
-abbrev pub left_behind : VowelScript → ℕ → hb_glyph_info_t → List hb_glyph_info_t → ℕ
+abbrev pub left_behind : VowelScript → ℕ → Glyph → Glyphs → ℕ
 left_behind s n g gs = if n == 0 then pair_behind s g.glyph_id gs else n - 1
 
 -- the circle before the last one of a pair or triple: a copy of that, which begins a grapheme
-abbrev pub vowel_circle : hb_glyph_info_t → hb_glyph_info_t
+abbrev pub vowel_circle : Glyph → Glyph
 vowel_circle g =
     let begun = without_property CONTINUATION g.unicode_props in
     record g { glyph_id = dotted_circle; unicode_props = begun }
 
-abbrev pub circle_before_last : ℕ → hb_glyph_info_t → List hb_glyph_info_t
+abbrev pub circle_before_last : ℕ → Glyph → Glyphs
 circle_before_last n g = if n == 1 then vowel_circle g ∷ [] else []
 
 -- a text with its circles, where so many glyphs in front are left of a pair or triple; the search
 -- for the next one goes on behind it
-abbrev pub vowels_parted_from : VowelScript → ℕ → List hb_glyph_info_t → List hb_glyph_info_t
+abbrev pub vowels_parted_from : VowelScript → ℕ → Glyphs → Glyphs
 vowels_parted_from s n [] = []
 vowels_parted_from s n (g ∷ gs) =
     circle_before_last n g ++ g ∷ vowels_parted_from s (left_behind s n g gs) gs
 
-abbrev pub vowels_parted_in : Option VowelScript → List hb_glyph_info_t → List hb_glyph_info_t
+abbrev pub vowels_parted_in : Option VowelScript → Glyphs → Glyphs
 vowels_parted_in None gs = gs
 vowels_parted_in (Some s) gs = vowels_parted_from s 0 gs
 
@@ -109,5 +109,5 @@ abbrev pub vowel_script_of : Buffer → Option VowelScript
 vowel_script_of b = if asks no_dotted_circle b then None else script_if_known b.script
 
 -- the text with its circles, where the caller allows them
-abbrev pub vowels_parted : Buffer → List hb_glyph_info_t
+abbrev pub vowels_parted : Buffer → Glyphs
 vowels_parted b = vowels_parted_in (vowel_script_of b) b.glyphs

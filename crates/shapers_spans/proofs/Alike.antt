@@ -1,13 +1,13 @@
 -- Which left halves are read alike without the right half.
-use Rattle.std.proofs.Common.{◌≡◌, ◌<◌, ◌==◌, ◌⊎◌, Bool, true, false, List, [], ◌∷◌, ◌++◌, length, refl, sym, ap, ◌∙◌, arith, inl, inr, ⊎_elim}
+use Rattle.std.proofs.Common.{◌≡◌, ◌<◌, ◌==◌, ◌⊎◌, Bool, true, false, [], ◌∷◌, ◌++◌, length, refl, sym, ap, ◌∙◌, arith, inl, inr, ⊎_elim}
 use Rattle.std.specs.Prelude.{◌&&◌, ◌||◌, if◌then◌else◌}
 use Rattle.std.specs.List.{list_all}
-use Rattle.shapers_buffer.specs.declared.buffer.glyph.hb_glyph_info_t.{hb_glyph_info_t}
+use Rattle.shapers_buffer.specs.Glyphs.{Glyph, Glyphs}
 use Rattle.shapers_spans.specs.Cuts.{ReadsAlike, ends_with_joiner, joiner_waits}
 use Rattle.shapers_spans.specs.Grammar.{Grammar}
 use Rattle.shapers_spans.specs.Passing.{next_is_mark, opens_passed, none_passed}
 
-pub none-alike : (g : Grammar) (gs hs : List hb_glyph_info_t) → g.passes ≡ none_passed → ReadsAlike g gs hs
+pub none-alike : (g : Grammar) (gs hs : Glyphs) → g.passes ≡ none_passed → ReadsAlike g gs hs
 none-alike g gs hs e fs ks s l = ap (λ f. f (ks ++ hs)) e ∙ sym (ap (λ f. f ks) e)
 
 and_parts : (b c : Bool) → (b && c) ≡ false → (b ≡ false) ⊎ (c ≡ false)
@@ -31,35 +31,35 @@ either_passed false true r m n h f = f h
 either_passed false false r m n h f = refl
 
 -- the first glyph that isn't CGJ stands in the left half, or is no mark
-mark-within : (ks hs : List hb_glyph_info_t) → list_all (λ (h : hb_glyph_info_t). h.category == 6) ks ≡ false
+mark-within : (ks hs : Glyphs) → list_all (λ (h : Glyph). h.category == 6) ks ≡ false
     → next_is_mark (ks ++ hs) ≡ next_is_mark ks
 mark-within [] hs h = cc
 mark-within (k ∷ ks) hs h =
-    chosen (k.category == 6) (list_all (λ (g : hb_glyph_info_t). g.category == 6) ks) (next_is_mark (ks ++ hs))
+    chosen (k.category == 6) (list_all (λ (g : Glyph). g.category == 6) ks) (next_is_mark (ks ++ hs))
     (next_is_mark ks) _ h (mark-within ks hs)
 
-mark-none : (ks hs : List hb_glyph_info_t) → next_is_mark hs ≡ false → next_is_mark (ks ++ hs) ≡ next_is_mark ks
+mark-none : (ks hs : Glyphs) → next_is_mark hs ≡ false → next_is_mark (ks ++ hs) ≡ next_is_mark ks
 mark-none [] hs h = h
 mark-none (k ∷ ks) hs h = kept (k.category == 6) (next_is_mark (ks ++ hs)) (next_is_mark ks) _ (mark-none ks hs h)
 
-no-joiner : (fs ks : List hb_glyph_info_t) → ends_with_joiner (fs ++ ks) ≡ false → ends_with_joiner ks ≡ false
+no-joiner : (fs ks : Glyphs) → ends_with_joiner (fs ++ ks) ≡ false → ends_with_joiner ks ≡ false
 no-joiner [] ks h = h
 no-joiner (f ∷ fs) ks h =
-    no-joiner fs ks (or_parts ((f.category == 14) && list_all (λ (g : hb_glyph_info_t). g.category == 6) (fs ++ ks))
+    no-joiner fs ks (or_parts ((f.category == 14) && list_all (λ (g : Glyph). g.category == 6) (fs ++ ks))
     (ends_with_joiner (fs ++ ks)) h).1
 
-opens-alike : (ks hs : List hb_glyph_info_t) → 0 < length ks → (ends_with_joiner ks ≡ false) ⊎ (next_is_mark hs ≡ false)
+opens-alike : (ks hs : Glyphs) → 0 < length ks → (ends_with_joiner ks ≡ false) ⊎ (next_is_mark hs ≡ false)
     → opens_passed (ks ++ hs) ≡ opens_passed ks
 opens-alike [] hs l s = absurd (omega arith)
 opens-alike (k ∷ ks) hs l s =
     ⊎_elim
-    (λ h. either_passed (k.category == 6) (k.category == 14) (list_all (λ (g : hb_glyph_info_t). g.category == 6) ks)
+    (λ h. either_passed (k.category == 6) (k.category == 14) (list_all (λ (g : Glyph). g.category == 6) ks)
     (next_is_mark (ks ++ hs)) (next_is_mark ks)
-    (or_parts ((k.category == 14) && list_all (λ (g : hb_glyph_info_t). g.category == 6) ks) (ends_with_joiner ks) h).0
+    (or_parts ((k.category == 14) && list_all (λ (g : Glyph). g.category == 6) ks) (ends_with_joiner ks) h).0
     (mark-within ks hs))
     (λ h. ap (λ m. (k.category == 6) || ((k.category == 14) && m)) (mark-none ks hs h)) s
 
-pub universal-alike : (g : Grammar) (gs hs : List hb_glyph_info_t) → g.passes ≡ opens_passed
+pub universal-alike : (g : Grammar) (gs hs : Glyphs) → g.passes ≡ opens_passed
     → joiner_waits gs hs ≡ false → ReadsAlike g gs hs
 universal-alike g gs hs e w fs ks s l =
     let o = opens-alike ks hs l (⊎_elim (λ h. inl (no-joiner fs ks (ap ends_with_joiner (sym s) ∙ h))) (λ h. inr h)

@@ -6,7 +6,7 @@ use Rattle.std.specs.List.{list_all}
 use Rattle.std.proofs.lemmas.Bool.{cases_Bool, cond_both, cond-true, cond-false, eqb-true}
 use Rattle.std.proofs.lemmas.List.{length-append, take-append-le, drop-append-le, nil_from_length, length-drop}
 use Rattle.std.proofs.lemmas.List.Sums.{sum_by-cons}
-use Rattle.shapers_buffer.specs.declared.buffer.glyph.hb_glyph_info_t.{hb_glyph_info_t}
+use Rattle.shapers_buffer.specs.Glyphs.{Glyph, Glyphs}
 use Rattle.shapers_buffer.specs.declared.buffer.syllables.Span.{Span}
 use Rattle.shapers_buffer.specs.Syllables.{spans_cover}
 use Rattle.shapers_spans.specs.Cuts.{ReadsAlike, GrammarCutsBetweenSpans}
@@ -16,20 +16,20 @@ use Rattle.shapers_spans.proofs.Reached.{reach-zero}
 
 -- what is read of a text is what is read of its halves
 
-pub alike_tail : (g : Grammar) (x : hb_glyph_info_t) (gs hs : List hb_glyph_info_t) → ReadsAlike g (x ∷ gs) hs
+pub alike_tail : (g : Grammar) (x : Glyph) (gs hs : Glyphs) → ReadsAlike g (x ∷ gs) hs
     → ReadsAlike g gs hs
-alike_tail g x gs hs a fs ks e l = a (x ∷ fs) ks (ap (λ (xs : List hb_glyph_info_t). x ∷ xs) e) l
+alike_tail g x gs hs a fs ks e l = a (x ∷ fs) ks (ap (λ (xs : Glyphs). x ∷ xs) e) l
 
-pub alike_head : (g : Grammar) (x : hb_glyph_info_t) (gs hs : List hb_glyph_info_t) → ReadsAlike g (x ∷ gs) hs
+pub alike_head : (g : Grammar) (x : Glyph) (gs hs : Glyphs) → ReadsAlike g (x ∷ gs) hs
     → g.passes (x ∷ (gs ++ hs)) ≡ g.passes (x ∷ gs)
 alike_head g x gs hs a = a [] (x ∷ gs) refl (omega arith)
 
-pub alike_drop : (g : Grammar) (gs hs : List hb_glyph_info_t) (n : ℕ) → ReadsAlike g gs hs → ReadsAlike g (drop n gs) hs
+pub alike_drop : (g : Grammar) (gs hs : Glyphs) (n : ℕ) → ReadsAlike g gs hs → ReadsAlike g (drop n gs) hs
 alike_drop g gs hs zero a = a
 alike_drop g [] hs (suc n) a = a
 alike_drop g (x ∷ gs) hs (suc n) a = alike_drop g gs hs n (alike_tail g x gs hs a)
 
-pub read-append : (g : Grammar) (gs hs : List hb_glyph_info_t) → ReadsAlike g gs hs → read_of g.passes (gs ++ hs)
+pub read-append : (g : Grammar) (gs hs : Glyphs) → ReadsAlike g gs hs → read_of g.passes (gs ++ hs)
     ≡ read_of g.passes gs ++ read_of g.passes hs
 read-append g [] hs a = refl
 read-append g (x ∷ gs) hs a =
@@ -45,7 +45,7 @@ read-append g (x ∷ gs) hs a =
 -- a reach within the left half is that of the left half: where what is read ends in it, and the
 -- right half opens with a glyph that is read
 
-reach-append : (g : Grammar) (gs hs : List hb_glyph_info_t) (n : ℕ) → ReadsAlike g gs hs
+reach-append : (g : Grammar) (gs hs : Glyphs) (n : ℕ) → ReadsAlike g gs hs
     → n ≤ length (read_of g.passes gs) → reach_of g.passes (gs ++ hs) n ≤ length gs → reach_of g.passes (gs ++ hs) n
     ≡ reach_of g.passes gs n
 reach-append g [] hs n a l b = omega (arith, b)
@@ -88,7 +88,7 @@ reach-append g (x ∷ gs) hs (suc n) a l b =
     (cases_Bool (g.passes (x ∷ gs)))
 
 -- what stands behind a reach is read
-pub behind-reach : (p : List hb_glyph_info_t → Bool) → p [] ≡ false → (gs : List hb_glyph_info_t) (n : ℕ)
+pub behind-reach : (p : Glyphs → Bool) → p [] ≡ false → (gs : Glyphs) (n : ℕ)
     → p (drop (reach_of p gs n) gs) ≡ false
 behind-reach p z [] n = z
 behind-reach p z (x ∷ gs) zero =
@@ -99,7 +99,7 @@ behind-reach p z (x ∷ gs) (suc n) =
     (λ _. behind-reach p z gs (suc n)) (λ _. behind-reach p z gs n)
 
 -- as many as reach no further than the left half are read in it
-read-within : (g : Grammar) (gs hs : List hb_glyph_info_t) (n : ℕ) → ReadsAlike g gs hs
+read-within : (g : Grammar) (gs hs : Glyphs) (n : ℕ) → ReadsAlike g gs hs
     → n ≤ length (read_of g.passes (gs ++ hs)) → reach_of g.passes (gs ++ hs) n ≤ length gs
     → n ≤ length (read_of g.passes gs)
 read-within g [] [] n a l b = l
@@ -159,7 +159,7 @@ shorter g u v s l y =
     }))
     y
 
-opens-shorter : (g : Grammar) (gs hs : List hb_glyph_info_t) (s : Span) → ReadsAlike g gs hs → s.len ≤ length gs
+opens-shorter : (g : Grammar) (gs hs : Glyphs) (s : Span) → ReadsAlike g gs hs → s.len ≤ length gs
     → OpensWith g (gs ++ hs) s → OpensWith g gs s
 opens-shorter g gs hs s a l o =
     let bound : reach_of g.passes (gs ++ hs) o.read.len ≤ length gs = (let e = o.len in omega (arith, e, l)) in
@@ -173,20 +173,20 @@ opens-shorter g gs hs s a l o =
       len = o.len ∙ reach-append g gs hs o.read.len a inside bound;
     }
 
-record Halves (g : Grammar) (gs hs : List hb_glyph_info_t) (ss ts : List Span) : Type 0 where
+record Halves (g : Grammar) (gs hs : Glyphs) (ss ts : List Span) : Type 0 where
   left : IsCutFrom g gs ss
   right : IsCutFrom g hs ts
   read : g.passes hs ≡ false
 
-halves-from : (g : Grammar) → g.passes [] ≡ false → (gs hs : List hb_glyph_info_t) (ss ts : List Span)
+halves-from : (g : Grammar) → g.passes [] ≡ false → (gs hs : Glyphs) (ss ts : List Span)
     → IsCutFrom g (gs ++ hs) (ss ++ ts) → sum_by (λ (s : Span). s.len) ss ≡ length gs → ReadsAlike g gs hs
     → g.passes (gs ++ hs) ≡ false → Halves g gs hs ss ts
 halves-from g z gs hs [] ts c l a r =
     let e : gs ≡ [] = nil_from_length gs (sym l) in
     record {
       left = e;
-      right = subst (λ (xs : List hb_glyph_info_t). IsCutFrom g (xs ++ hs) ts) e c;
-      read = subst (λ (xs : List hb_glyph_info_t). g.passes (xs ++ hs) ≡ false) e r;
+      right = subst (λ (xs : Glyphs). IsCutFrom g (xs ++ hs) ts) e c;
+      read = subst (λ (xs : Glyphs). g.passes (xs ++ hs) ≡ false) e r;
     }
 halves-from g z gs hs (s ∷ ss) ts c l a r =
     let p : s.len + sum_by (λ (t : Span). t.len) ss ≡ length gs = sym (sum_by-cons (λ (t : Span). t.len) s ss) ∙ l in
@@ -205,7 +205,7 @@ halves-from g z gs hs (s ∷ ss) ts c l a r =
 
 -- with what is passed over in front
 
-without_lead : (g : Grammar) (gs : List hb_glyph_info_t) (ss : List Span) → reach_of g.passes gs 0 ≡ 0
+without_lead : (g : Grammar) (gs : Glyphs) (ss : List Span) → reach_of g.passes gs 0 ≡ 0
     → IsCutFrom g gs ss → IsSyllableCut g gs ss
 without_lead g gs ss e c = record {
   rest = ss;
@@ -213,7 +213,7 @@ without_lead g gs ss e c = record {
   cut = subst (λ n. IsCutFrom g (drop n gs) ss) (sym e) c;
 }
 
-with_lead : (g : Grammar) (gs : List hb_glyph_info_t) (n : ℕ) (ss : List Span) → reach_of g.passes gs 0 ≡ n
+with_lead : (g : Grammar) (gs : Glyphs) (n : ℕ) (ss : List Span) → reach_of g.passes gs 0 ≡ n
     → (n == 0) ≡ false → IsCutFrom g (drop n gs) ss
     → IsSyllableCut g gs ((let s : Span = record { len = n; kind = g.other } in s) ∷ ss)
 with_lead g gs n ss e h c =
@@ -230,7 +230,7 @@ covered n spans h =
     eqb-true (sum_by (λ (s : Span). s.len) spans) n
     (second_so (list_all (λ (s : Span). nat_lt 0 s.len) spans) (sum_by (λ (s : Span). s.len) spans == n) h)
 
-halves-led : (g : Grammar) → g.passes [] ≡ false → (gs hs : List hb_glyph_info_t) (s : Span) (ss ts : List Span)
+halves-led : (g : Grammar) → g.passes [] ≡ false → (gs hs : Glyphs) (s : Span) (ss ts : List Span)
     → IsSyllableCut g (gs ++ hs) (s ∷ ss ++ ts) → s.len + sum_by (λ (t : Span). t.len) ss ≡ length gs
     → ReadsAlike g gs hs → IsSyllableCut g gs (s ∷ ss) × IsSyllableCut g hs ts
 halves-led g z gs hs s ss ts c l a =
@@ -278,7 +278,7 @@ pub cuts-between-spans : (g : Grammar) → GrammarCutsBetweenSpans g
 cuts-between-spans g z gs hs [] ts c v a =
     let e : gs ≡ [] = nil_from_length gs (sym (covered (length gs) [] v)) in (
       subst (λ xs. IsSyllableCut g xs []) (sym e) (without_lead g [] [] refl refl),
-      subst (λ (xs : List hb_glyph_info_t). IsSyllableCut g (xs ++ hs) ts) e c,
+      subst (λ (xs : Glyphs). IsSyllableCut g (xs ++ hs) ts) e c,
     )
 cuts-between-spans g z gs hs (s ∷ ss) ts c v a =
     halves-led g z gs hs s ss ts c (sym (sum_by-cons (λ (t : Span). t.len) s ss) ∙ covered (length gs) (s ∷ ss) v) a

@@ -7,7 +7,7 @@ use Rattle.std.proofs.lemmas.List.{append-nil, drop_all, length-drop, drop-drop,
 use Rattle.std.proofs.lemmas.List.Elements.{All-append}
 use Rattle.std.proofs.lemmas.List.Folds.{list_all-append}
 use Rattle.std.proofs.lemmas.List.Sums.{sum_by-append}
-use Rattle.shapers_buffer.specs.declared.buffer.glyph.hb_glyph_info_t.{hb_glyph_info_t}
+use Rattle.shapers_buffer.specs.Glyphs.{Glyphs}
 use Rattle.shapers_buffer.specs.declared.buffer.syllables.Span.{Span}
 use Rattle.shapers_spans.specs.Cuts.{AreSpansOf}
 use Rattle.shapers_spans.specs.Grammar.{Grammar, OpensWith, IsCutFrom, reach_of, lead_spans}
@@ -16,7 +16,7 @@ use Rattle.shapers_spans.specs.Watch.{Watch, IsWatched}
 use Rattle.shapers_spans.proofs.Reached.{reach-le, behind-is-read}
 
 -- the spans up to `start`
-pub record Found (g : Grammar) (gs : List hb_glyph_info_t) (start : ℕ) (spans : List Span) : Type 0 where
+pub record Found (g : Grammar) (gs : Glyphs) (start : ℕ) (spans : List Span) : Type 0 where
   pub within : start ≤ length gs
   pub read : g.passes (drop start gs) ≡ false
   pub rest : List Span
@@ -55,7 +55,7 @@ lead_kinds n k h =
     cond_both (n == 0) [] (s ∷ []) (λ (ss : List Span). All (λ (t : Span). t.kind ≤ 15) ss)
     (λ _. search rules) (λ _. one_fits s h)
 
-pub found_start : (g : Grammar) (gs : List hb_glyph_info_t) (start : ℕ) (spans : List Span) → g.passes [] ≡ false
+pub found_start : (g : Grammar) (gs : Glyphs) (start : ℕ) (spans : List Span) → g.passes [] ≡ false
     → g.other ≤ 15 → start ≡ reach_of g.passes gs 0 → spans ≡ lead_spans start g.other → Found g gs start spans
 found_start g gs start spans z k e s = record {
   within = (let h = reach-le g.passes gs 0 in omega (arith, h, e));
@@ -68,7 +68,7 @@ found_start g gs start spans z k e s = record {
   kinds = subst (λ (ss : List Span). All (λ (t : Span). t.kind ≤ 15) ss) (sym s) (lead_kinds start g.other k);
 }
 
-pub found_next : (g : Grammar) (gs : List hb_glyph_info_t) (start : ℕ) (span : Span) (spans new : List Span)
+pub found_next : (g : Grammar) (gs : Glyphs) (start : ℕ) (span : Span) (spans new : List Span)
     → Found g gs start spans → OpensWith g (drop start gs) span → 0 < span.len → span.len ≤ length (drop start gs)
     → span.kind ≤ 15 → g.passes (drop span.len (drop start gs)) ≡ false → new ≡ spans ++ span ∷ []
     → Found g gs (start + span.len) new
@@ -100,7 +100,7 @@ found_next g gs start span spans new f opens some within kind read e =
           (All-append (λ (t : Span). t.kind ≤ 15) spans (span ∷ []) f.kinds (one_fits span kind));
     }
 
-pub found_all : (g : Grammar) (gs : List hb_glyph_info_t) (start : ℕ) (spans : List Span) → Found g gs start spans
+pub found_all : (g : Grammar) (gs : Glyphs) (start : ℕ) (spans : List Span) → Found g gs start spans
     → length gs ≤ start → AreSpansOf g gs spans
 found_all g gs start spans f l =
     let e : start ≡ length gs = (let a = f.within in omega (arith, a, l)) in
@@ -118,15 +118,15 @@ found_all g gs start spans f l =
 
 -- before the first span
 
-pub knows_none : (p : List hb_glyph_info_t → Bool) (j : ℕ → Bool) (ends : ℕ → List ℕ
-    → Option ℕ) (gs : List hb_glyph_info_t) (len stuck : ℕ) → p gs ≡ false → len ≡ 0
+pub knows_none : (p : Glyphs → Bool) (j : ℕ → Bool) (ends : ℕ → List ℕ
+    → Option ℕ) (gs : Glyphs) (len stuck : ℕ) → p gs ≡ false → len ≡ 0
     → KnowsJoiners p j ends gs len stuck
 knows_none p j ends gs len stuck h e = record {
   joined = subst (λ n. Joined p j gs n) (sym e) h;
   ends_none = (λ l. absurd (omega (arith, l, e)));
 }
 
-pub watched_none : (p : List hb_glyph_info_t → Bool) (turned : ℕ) (gs : List hb_glyph_info_t) (len stuck before : ℕ)
+pub watched_none : (p : Glyphs → Bool) (turned : ℕ) (gs : Glyphs) (len stuck before : ℕ)
     (watch : Watch) → watch.reads ≡ before → IsWatched p turned gs len stuck before watch
 watched_none p turned gs len stuck before watch e = record {
   since = omega (arith, e);
@@ -135,10 +135,10 @@ watched_none p turned gs len stuck before watch e = record {
 }
 
 -- what the next span starts in: the slice behind `start`
-pub sliced : (P : List hb_glyph_info_t → Type 0) (gs : List hb_glyph_info_t) (start : ℕ)
+pub sliced : (P : Glyphs → Type 0) (gs : Glyphs) (start : ℕ)
     → P (take (length gs - start) (drop start gs)) → P (drop start gs)
 sliced P gs start h = subst P (take_rest gs start) h
 
-pub unsliced : (P : List hb_glyph_info_t → Type 0) (gs : List hb_glyph_info_t) (start : ℕ) → P (drop start gs)
+pub unsliced : (P : Glyphs → Type 0) (gs : Glyphs) (start : ℕ) → P (drop start gs)
     → P (take (length gs - start) (drop start gs))
 unsliced P gs start h = subst P (sym (take_rest gs start)) h

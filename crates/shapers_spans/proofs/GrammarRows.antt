@@ -1,7 +1,7 @@
 -- What rows of the grammars ask, and rows for the glyphs that are passed over.
 use Rattle.std.proofs.Common.{◌≡◌, ℕ, true, false, List, [], ◌∷◌, refl}
 use Rattle.shapers_buffer.specs.declared.buffer.category.hb_unicode_general_category_t.TheVariants.{Lo, Mn}
-use Rattle.shapers_buffer.specs.declared.buffer.glyph.hb_glyph_info_t.{hb_glyph_info_t}
+use Rattle.shapers_buffer.specs.Glyphs.{Glyph}
 use Rattle.shapers_buffer.specs.Glyph.{default_glyph}
 use Rattle.shapers_buffer.specs.Properties.{general_category, properties}
 use Rattle.shapers_spans.specs.Cuts.{joiner_waits}
@@ -13,10 +13,10 @@ use Rattle.shapers_spans.proofs.Tables.{first_kind, after}
 unfoldable pub kind_by : Grammar → List ℕ → ℕ
 kind_by g w = first_kind g.kinds (after w g.rules)
 
-letter : ℕ → hb_glyph_info_t
+letter : ℕ → Glyph
 letter c = record default_glyph { category = c; unicode_props = properties Lo 0 }
 
-mark : ℕ → hb_glyph_info_t
+mark : ℕ → Glyph
 mark c = record default_glyph { category = c; unicode_props = properties Mn 0 }
 
 -- CGJ is passed over, whatever is around it; ZWNJ before a mark, CGJs between them apart

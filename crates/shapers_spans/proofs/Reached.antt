@@ -2,47 +2,47 @@
 use Rattle.std.proofs.Common.{◌≡◌, ℕ, zero, suc, ◌+◌, ◌-◌, ◌<◌, ◌≤◌, Bool, true, false, List, [], ◌∷◌, get_or, drop, length, refl, sym, ap, subst, ◌∙◌, arith, zero-add}
 use Rattle.std.proofs.lemmas.Bool.{cond-true, cond-false, cond_both}
 use Rattle.std.proofs.lemmas.List.{drop_more, drop-drop}
-use Rattle.shapers_buffer.specs.declared.buffer.glyph.hb_glyph_info_t.{hb_glyph_info_t}
+use Rattle.shapers_buffer.specs.Glyphs.{Glyph, Glyphs}
 use Rattle.shapers_spans.specs.Grammar.{read_of, reach_of}
 
 -- the glyph that opens a text is passed over, or read
 
-pub skip_read : (p : List hb_glyph_info_t → Bool) (g : hb_glyph_info_t) (gs : List hb_glyph_info_t) → p (g ∷ gs) ≡ true
+pub skip_read : (p : Glyphs → Bool) (g : Glyph) (gs : Glyphs) → p (g ∷ gs) ≡ true
     → read_of p (g ∷ gs) ≡ read_of p gs
 skip_read p g gs h = cond-true (p (g ∷ gs)) (read_of p gs) (g.category ∷ read_of p gs) h
 
-pub keep_read : (p : List hb_glyph_info_t → Bool) (g : hb_glyph_info_t) (gs : List hb_glyph_info_t) → p (g ∷ gs) ≡ false
+pub keep_read : (p : Glyphs → Bool) (g : Glyph) (gs : Glyphs) → p (g ∷ gs) ≡ false
     → read_of p (g ∷ gs) ≡ g.category ∷ read_of p gs
 keep_read p g gs h = cond-false (p (g ∷ gs)) (read_of p gs) (g.category ∷ read_of p gs) h
 
-pub skip_reach : (p : List hb_glyph_info_t → Bool) (g : hb_glyph_info_t) (gs : List hb_glyph_info_t) (n : ℕ)
+pub skip_reach : (p : Glyphs → Bool) (g : Glyph) (gs : Glyphs) (n : ℕ)
     → p (g ∷ gs) ≡ true → reach_of p (g ∷ gs) n ≡ suc (reach_of p gs n)
 skip_reach p g gs zero h = cond-true (p (g ∷ gs)) (suc (reach_of p gs 0)) 0 h
 skip_reach p g gs (suc n) h = ap (λ x. suc x) (cond-true (p (g ∷ gs)) (reach_of p gs (suc n)) (reach_of p gs n) h)
 
-pub keep_reach : (p : List hb_glyph_info_t → Bool) (g : hb_glyph_info_t) (gs : List hb_glyph_info_t) (n : ℕ)
+pub keep_reach : (p : Glyphs → Bool) (g : Glyph) (gs : Glyphs) (n : ℕ)
     → p (g ∷ gs) ≡ false → reach_of p (g ∷ gs) (suc n) ≡ suc (reach_of p gs n)
 keep_reach p g gs n h = ap (λ x. suc x) (cond-false (p (g ∷ gs)) (reach_of p gs (suc n)) (reach_of p gs n) h)
 
-pub reach-zero : (p : List hb_glyph_info_t → Bool) (gs : List hb_glyph_info_t) → p gs ≡ false → reach_of p gs 0 ≡ 0
+pub reach-zero : (p : Glyphs → Bool) (gs : Glyphs) → p gs ≡ false → reach_of p gs 0 ≡ 0
 reach-zero p [] h = refl
 reach-zero p (g ∷ gs) h = cond-false (p (g ∷ gs)) (suc (reach_of p gs 0)) 0 h
 
 -- where each glyph is read
-pub reach-none : (gs : List hb_glyph_info_t) → reach_of (λ _. false) gs 0 ≡ 0
+pub reach-none : (gs : Glyphs) → reach_of (λ _. false) gs 0 ≡ 0
 reach-none [] = refl
 reach-none (g ∷ gs) = refl
 
 -- behind those that are passed over in front
 
-pub read-behind : (p : List hb_glyph_info_t → Bool) (gs : List hb_glyph_info_t)
+pub read-behind : (p : Glyphs → Bool) (gs : Glyphs)
     → read_of p gs ≡ read_of p (drop (reach_of p gs 0) gs)
 read-behind p [] = refl
 read-behind p (g ∷ gs) =
     cond_both (p (g ∷ gs)) (suc (reach_of p gs 0)) 0 (λ n. read_of p (g ∷ gs) ≡ read_of p (drop n (g ∷ gs)))
     (λ h. skip_read p g gs h ∙ read-behind p gs) (λ h. refl)
 
-pub reach-behind : (p : List hb_glyph_info_t → Bool) (gs : List hb_glyph_info_t) (m : ℕ)
+pub reach-behind : (p : Glyphs → Bool) (gs : Glyphs) (m : ℕ)
     → reach_of p gs m ≡ reach_of p gs 0 + reach_of p (drop (reach_of p gs 0) gs) m
 reach-behind p [] m = refl
 reach-behind p (g ∷ gs) m =
@@ -53,7 +53,7 @@ reach-behind p (g ∷ gs) m =
     (arith, i) in e))
     (λ h. sym (zero-add (reach_of p (g ∷ gs) m)))
 
-pub behind-is-read : (p : List hb_glyph_info_t → Bool) → p [] ≡ false → (gs : List hb_glyph_info_t)
+pub behind-is-read : (p : Glyphs → Bool) → p [] ≡ false → (gs : Glyphs)
     → p (drop (reach_of p gs 0) gs) ≡ false
 behind-is-read p z [] = z
 behind-is-read p z (g ∷ gs) =
@@ -62,7 +62,7 @@ behind-is-read p z (g ∷ gs) =
 
 -- bounds
 
-pub reach-le : (p : List hb_glyph_info_t → Bool) (gs : List hb_glyph_info_t) (n : ℕ) → reach_of p gs n ≤ length gs
+pub reach-le : (p : Glyphs → Bool) (gs : Glyphs) (n : ℕ) → reach_of p gs n ≤ length gs
 reach-le p [] n = omega arith
 reach-le p (g ∷ gs) zero =
     cond_both (p (g ∷ gs)) (suc (reach_of p gs 0)) 0 (λ x. x ≤ suc (length gs))
@@ -71,19 +71,19 @@ reach-le p (g ∷ gs) (suc n) =
     cond_both (p (g ∷ gs)) (reach_of p gs (suc n)) (reach_of p gs n) (λ x. suc x ≤ suc (length gs))
     (λ _. let h = reach-le p gs (suc n) in omega (arith, h)) (λ _. let h = reach-le p gs n in omega (arith, h))
 
-pub reach-some : (p : List hb_glyph_info_t → Bool) (gs : List hb_glyph_info_t) (n : ℕ) → 0 < length gs → 0 < n
+pub reach-some : (p : Glyphs → Bool) (gs : Glyphs) (n : ℕ) → 0 < length gs → 0 < n
     → 0 < reach_of p gs n
 reach-some p [] n l h = absurd (omega arith)
 reach-some p (g ∷ gs) zero l h = absurd (omega arith)
 reach-some p (g ∷ gs) (suc n) l h = omega arith
 
-pub first-read : (p : List hb_glyph_info_t → Bool) (gs : List hb_glyph_info_t) → 0 < length gs → p gs ≡ false
+pub first-read : (p : Glyphs → Bool) (gs : Glyphs) → 0 < length gs → p gs ≡ false
     → 0 < length (read_of p gs)
 first-read p [] l h = absurd (omega arith)
 first-read p (g ∷ gs) l h = subst (λ (xs : List ℕ). 0 < length xs) (sym (keep_read p g gs h)) (omega arith)
 
 -- one glyph more that is passed over
-pub reach-step : (p : List hb_glyph_info_t → Bool) (gs : List hb_glyph_info_t) (d : hb_glyph_info_t) (n : ℕ)
+pub reach-step : (p : Glyphs → Bool) (gs : Glyphs) (d : Glyph) (n : ℕ)
     → n < length gs → p (drop n gs) ≡ true → n + reach_of p (drop n gs) 0 ≡ n + 1 + reach_of p (drop (n + 1) gs) 0
 reach-step p gs d n l h =
     let e : drop n gs ≡ get_or gs n d ∷ drop (n + 1) gs = drop_more gs n d l in
@@ -93,7 +93,7 @@ reach-step p gs d n l h =
 
 -- what is read from a place on
 
-read-front : (p : List hb_glyph_info_t → Bool) (gs : List hb_glyph_info_t) (k : ℕ) → length (read_of p (drop k gs))
+read-front : (p : Glyphs → Bool) (gs : Glyphs) (k : ℕ) → length (read_of p (drop k gs))
     ≤ length (read_of p gs)
 read-front p gs zero = omega arith
 read-front p [] (suc k) = omega arith
@@ -104,7 +104,7 @@ read-front p (g ∷ gs) (suc k) =
     (λ _. i) (λ _. omega (arith, i))
 
 -- fewer are read from a later place on
-pub read-later : (p : List hb_glyph_info_t → Bool) (gs : List hb_glyph_info_t) (i j : ℕ) → i ≤ j
+pub read-later : (p : Glyphs → Bool) (gs : Glyphs) (i j : ℕ) → i ≤ j
     → length (read_of p (drop j gs)) ≤ length (read_of p (drop i gs))
 read-later p gs i j l =
     let e : i + (j - i) ≡ j = omega (arith, l) in
@@ -112,7 +112,7 @@ read-later p gs i j l =
     subst (λ xs. length (read_of p xs) ≤ length (read_of p (drop i gs))) on (read-front p (drop i gs) (j - i))
 
 -- what is read from a place on, where a glyph is read
-pub read-at : (p : List hb_glyph_info_t → Bool) (gs : List hb_glyph_info_t) (n : ℕ) (d : hb_glyph_info_t)
+pub read-at : (p : Glyphs → Bool) (gs : Glyphs) (n : ℕ) (d : Glyph)
     → n < length gs → p (drop n gs) ≡ false → read_of p (drop n gs) ≡ (get_or gs n d).category
     ∷ read_of p (drop (n + 1) gs)
 read-at p gs n d l h =
@@ -120,7 +120,7 @@ read-at p gs n d l h =
     ap (read_of p) e ∙ keep_read p (get_or gs n d) (drop (n + 1) gs) (subst (λ xs. p xs ≡ false) e h)
 
 -- the same up to the next one that is read
-pub read-next : (p : List hb_glyph_info_t → Bool) (gs : List hb_glyph_info_t) (n next : ℕ) (d : hb_glyph_info_t)
+pub read-next : (p : Glyphs → Bool) (gs : Glyphs) (n next : ℕ) (d : Glyph)
     → n < length gs → p (drop n gs) ≡ false → next ≡ n + 1 + reach_of p (drop (n + 1) gs) 0
     → read_of p (drop n gs) ≡ (get_or gs n d).category ∷ read_of p (drop next gs)
 read-next p gs n next d l h is =
@@ -130,7 +130,7 @@ read-next p gs n next d l h is =
     read-at p gs n d l h ∙ ap (λ (w : List ℕ). (get_or gs n d).category ∷ w) (read-behind p rest ∙ ap (read_of p) on)
 
 -- one fewer from a later place on, if a glyph is read at the first
-pub read-less : (p : List hb_glyph_info_t → Bool) (gs : List hb_glyph_info_t) (i j : ℕ) (d : hb_glyph_info_t)
+pub read-less : (p : Glyphs → Bool) (gs : Glyphs) (i j : ℕ) (d : Glyph)
     → i < length gs → p (drop i gs) ≡ false → i < j → length (read_of p (drop j gs)) + 1
     ≤ length (read_of p (drop i gs))
 read-less p gs i j d l h m =

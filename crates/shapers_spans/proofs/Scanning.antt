@@ -1,7 +1,7 @@
 -- The loop that looks for the longest front: what is read, and what that comes to.
 use Rattle.std.proofs.Common.{◌≡◌, ℕ, suc, ◌+◌, ◌<◌, ◌≤◌, Bool, true, false, List, [], ◌∷◌, ◌++◌, Option, Some, None, get_or, drop, take, length, refl, sym, ap, subst, ◌∙◌, arith, zero-add, add-zero}
 use Rattle.std.proofs.lemmas.List.{drop_more, drop_all, length-drop, drop-drop, get_or-drop, length-append}
-use Rattle.shapers_buffer.specs.declared.buffer.glyph.hb_glyph_info_t.{hb_glyph_info_t}
+use Rattle.shapers_buffer.specs.Glyphs.{Glyph, Glyphs}
 use Rattle.shapers_buffer.specs.declared.buffer.syllables.Span.{Span}
 use Rattle.shapers_spans.specs.Grammar.{Grammar, IsKind, read_of, reach_of, OpensWith}
 use Rattle.shapers_spans.specs.Joined.{Joined, EndsNothing}
@@ -10,8 +10,8 @@ use Rattle.shapers_spans.proofs.Reached.{keep_read, keep_reach, reach-zero, read
 use Rattle.shapers_spans.proofs.Joining.{AllJoin, joined-end, run-read}
 
 -- n glyphs are behind, `count` of them read; `best` is the span among what is read
-pub record Scanning (ends : ℕ → List ℕ → Option ℕ) (start other : ℕ) (p : List hb_glyph_info_t
-    → Bool) (gs : List hb_glyph_info_t) (n q : ℕ) (span : Span) : Type 0 where
+pub record Scanning (ends : ℕ → List ℕ → Option ℕ) (start other : ℕ) (p : Glyphs
+    → Bool) (gs : Glyphs) (n q : ℕ) (span : Span) : Type 0 where
   pub count : ℕ
   pub best : Span
   pub reading : Reading ends start other (read_of p gs) count q best
@@ -22,15 +22,15 @@ pub record Scanning (ends : ℕ → List ℕ → Option ℕ) (start other : ℕ)
   pub same_kind : span.kind ≡ best.kind
   pub ends_at : span.len ≡ reach_of p gs best.len
 
-reach-one : (p : List hb_glyph_info_t → Bool) (gs : List hb_glyph_info_t) → 0 < length gs → p gs ≡ false
+reach-one : (p : Glyphs → Bool) (gs : Glyphs) → 0 < length gs → p gs ≡ false
     → reach_of p gs 1 ≡ 1 + reach_of p (drop 1 gs) 0
 reach-one p [] l h = absurd (omega arith)
 reach-one p (g ∷ gs) l h =
     let e : suc (reach_of p gs 0) ≡ 1 + reach_of p gs 0 = omega arith in
     keep_reach p g gs 0 h ∙ e
 
-pub scanning_start : (ends : ℕ → List ℕ → Option ℕ) (start other : ℕ) (p : List hb_glyph_info_t
-    → Bool) (gs : List hb_glyph_info_t) (span : Span) → 0 < length gs → p gs ≡ false
+pub scanning_start : (ends : ℕ → List ℕ → Option ℕ) (start other : ℕ) (p : Glyphs
+    → Bool) (gs : Glyphs) (span : Span) → 0 < length gs → p gs ≡ false
     → span.len ≡ 1 + reach_of p (drop 1 gs) 0 → span.kind ≡ other → Scanning ends start other p gs 0 start span
 scanning_start ends start other p gs span l h len kind =
     let best : Span = record { len = 1; kind = span.kind } in
@@ -47,15 +47,15 @@ scanning_start ends start other p gs span l h len kind =
     }
 
 -- what reading the glyph at n comes to
-record Next (p : List hb_glyph_info_t → Bool) (gs : List hb_glyph_info_t) (n r k next : ℕ) : Type 0 where
+record Next (p : Glyphs → Bool) (gs : Glyphs) (n r k next : ℕ) : Type 0 where
   in_range : r < length (read_of p gs)
   value : get_or (read_of p gs) r 0 ≡ k
   left : drop (r + 1) (read_of p gs) ≡ read_of p (drop next gs)
   reaches : (m : ℕ) → reach_of p gs (r + 1 + m) ≡ next + reach_of p (drop next gs) m
   here : p (drop next gs) ≡ false
 
-next_is : (p : List hb_glyph_info_t → Bool) → p [] ≡ false
-    → (gs : List hb_glyph_info_t) (n r next : ℕ) (d : hb_glyph_info_t) → n < length gs → p (drop n gs) ≡ false
+next_is : (p : Glyphs → Bool) → p [] ≡ false
+    → (gs : Glyphs) (n r next : ℕ) (d : Glyph) → n < length gs → p (drop n gs) ≡ false
     → r ≤ length (read_of p gs) → drop r (read_of p gs) ≡ read_of p (drop n gs)
     → ((m : ℕ) → reach_of p gs (r + m) ≡ n + reach_of p (drop n gs) m) → next ≡ n + 1 + reach_of p (drop (n + 1) gs) 0
     → Next p gs n r (get_or gs n d).category next
@@ -85,8 +85,8 @@ next_is p z gs n r next d l some within left reaches is =
       here = subst (λ xs. p xs ≡ false) on (behind-is-read p z rest);
     }
 
-pub scanning_none : (ends : ℕ → List ℕ → Option ℕ) (start other : ℕ) (p : List hb_glyph_info_t → Bool) → p [] ≡ false
-    → (gs : List hb_glyph_info_t) (n q r next : ℕ) (d : hb_glyph_info_t) (span : Span)
+pub scanning_none : (ends : ℕ → List ℕ → Option ℕ) (start other : ℕ) (p : Glyphs → Bool) → p [] ≡ false
+    → (gs : Glyphs) (n q r next : ℕ) (d : Glyph) (span : Span)
     → Scanning ends start other p gs n q span → n < length gs → next ≡ n + 1 + reach_of p (drop (n + 1) gs) 0
     → ((v : List ℕ) → ends q ((get_or gs n d).category ∷ v) ≡ ends r v) → ends r [] ≡ None
     → Scanning ends start other p gs next r span
@@ -105,8 +105,8 @@ scanning_none ends start other p z gs n q r next d span s l is step none =
       ends_at = s.ends_at;
     }
 
-pub scanning_some : (ends : ℕ → List ℕ → Option ℕ) (start other : ℕ) (p : List hb_glyph_info_t → Bool) → p [] ≡ false
-    → (gs : List hb_glyph_info_t) (n q r next k : ℕ) (d : hb_glyph_info_t) (span new : Span)
+pub scanning_some : (ends : ℕ → List ℕ → Option ℕ) (start other : ℕ) (p : Glyphs → Bool) → p [] ≡ false
+    → (gs : Glyphs) (n q r next k : ℕ) (d : Glyph) (span new : Span)
     → Scanning ends start other p gs n q span → n < length gs → next ≡ n + 1 + reach_of p (drop (n + 1) gs) 0
     → ((v : List ℕ) → ends q ((get_or gs n d).category ∷ v) ≡ ends r v) → ends r [] ≡ Some k → new.len ≡ next
     → new.kind ≡ k → Scanning ends start other p gs next r new
@@ -148,8 +148,8 @@ reading_run ends start other w n q span j (k ∷ ks) rest r e l a turns none =
     (reading_none ends start other w n q q k span r in_range value (turns k a.0) none) next (omega (arith, in_range))
     a.1 turns none)
 
-pub scanning_run : (ends : ℕ → List ℕ → Option ℕ) (start other : ℕ) (p : List hb_glyph_info_t
-    → Bool) (gs : List hb_glyph_info_t) (n q k : ℕ) (span : Span) (j : ℕ → Bool)
+pub scanning_run : (ends : ℕ → List ℕ → Option ℕ) (start other : ℕ) (p : Glyphs
+    → Bool) (gs : Glyphs) (n q k : ℕ) (span : Span) (j : ℕ → Bool)
     → Scanning ends start other p gs n q span → Joined p j (drop n gs) k
     → ((c : ℕ) → j c ≡ true → (v : List ℕ) → ends q (c ∷ v) ≡ ends q v) → ends q [] ≡ None
     → Scanning ends start other p gs (n + k) q span
@@ -193,8 +193,8 @@ scanning_run ends start other p gs n q k span j s h turns none =
 
 -- the end
 
-pub scanning_dead : (g : Grammar) (ends : ℕ → List ℕ → Option ℕ) (start : ℕ) (gs : List hb_glyph_info_t) (n q r : ℕ)
-    (d : hb_glyph_info_t) (span : Span) → g.passes [] ≡ false → ((u : List ℕ) → IsKind g u (ends start u))
+pub scanning_dead : (g : Grammar) (ends : ℕ → List ℕ → Option ℕ) (start : ℕ) (gs : Glyphs) (n q r : ℕ)
+    (d : Glyph) (span : Span) → g.passes [] ≡ false → ((u : List ℕ) → IsKind g u (ends start u))
     → Scanning ends start g.other g.passes gs n q span → n < length gs
     → ((v : List ℕ) → ends q ((get_or gs n d).category ∷ v) ≡ ends r v) → ((v : List ℕ) → ends r v ≡ None)
     → OpensWith g gs span
@@ -211,7 +211,7 @@ scanning_dead g ends start gs n q r d span z kinds s l step dead =
       len = s.ends_at;
     }
 
-pub scanning_all : (g : Grammar) (ends : ℕ → List ℕ → Option ℕ) (start : ℕ) (gs : List hb_glyph_info_t) (n q : ℕ)
+pub scanning_all : (g : Grammar) (ends : ℕ → List ℕ → Option ℕ) (start : ℕ) (gs : Glyphs) (n q : ℕ)
     (span : Span) → ((u : List ℕ) → IsKind g u (ends start u)) → Scanning ends start g.other g.passes gs n q span
     → length gs ≤ n → 0 < length gs → g.passes gs ≡ false → OpensWith g gs span
 scanning_all g ends start gs n q span kinds s a l h =
@@ -227,7 +227,7 @@ scanning_all g ends start gs n q span kinds s a l h =
       len = s.ends_at;
     }
 
-pub scanning_stuck : (g : Grammar) (ends : ℕ → List ℕ → Option ℕ) (start : ℕ) (gs : List hb_glyph_info_t) (n q : ℕ)
+pub scanning_stuck : (g : Grammar) (ends : ℕ → List ℕ → Option ℕ) (start : ℕ) (gs : Glyphs) (n q : ℕ)
     (span : Span) → ((u : List ℕ) → IsKind g u (ends start u)) → Scanning ends start g.other g.passes gs n q span
     → EndsNothing g.passes ends (drop n gs) q → 0 < length gs → g.passes gs ≡ false → OpensWith g gs span
 scanning_stuck g ends start gs n q span kinds s none l h =

@@ -3,7 +3,7 @@
 use Rattle.std.proofs.Common.{◌≡◌, ℕ, zero, suc, ◌+◌, ◌-◌, ◌<◌, ◌≤◌, ◌⊎◌, Bool, true, false, List, [], ◌∷◌, ◌++◌, Option, Some, None, get_or, drop, take, length, refl, sym, ap, subst, ◌∙◌, arith, inl, inr, ⊎_elim, ◌==◌, add-zero, eqb-true, if◌then◌else◌}
 use Rattle.std.proofs.lemmas.Bool.{cases_lt, both_ways, cond_both}
 use Rattle.std.proofs.lemmas.List.{drop_more, drop-drop, drop_all}
-use Rattle.shapers_buffer.specs.declared.buffer.glyph.hb_glyph_info_t.{hb_glyph_info_t}
+use Rattle.shapers_buffer.specs.Glyphs.{Glyphs}
 use Rattle.shapers_buffer.specs.declared.buffer.syllables.Span.{Span}
 use Rattle.shapers_buffer.specs.Glyph.{default_glyph}
 use Rattle.shapers_spans.specs.Grammar.{Grammar, IsKind, read_of, reach_of, OpensWith}
@@ -39,7 +39,7 @@ pub record Leads (w : Ways) (q k r : ℕ) : Type 0 where
 -- the machine, the text, and what was known and counted in front of it
 pub record Task : Type 0 where
   pub ways : Ways
-  pub gs : List hb_glyph_info_t
+  pub gs : Glyphs
   pub len : ℕ
   pub stuck : ℕ
   pub watch : Watch
@@ -174,7 +174,7 @@ walking_start t q span ready e len kind alive rank =
     (subst (λ i. t.ways.rank i ≤ 2) e rank))
 
 -- what is known of joiners, seen from a later place
-later : (w : Ways) (gs : List hb_glyph_info_t) (joined from n : ℕ)
+later : (w : Ways) (gs : Glyphs) (joined from n : ℕ)
     → Joined w.grammar.passes w.is_joiner (drop from gs) (joined - from) → from ≤ n → w.grammar.passes (drop n gs)
     ≡ false → Joined w.grammar.passes w.is_joiner (drop n gs) (joined - n)
 later w gs joined from n h l here =
@@ -187,7 +187,7 @@ later w gs joined from n h l here =
     (subst (λ xs. w.grammar.passes xs ≡ false) (sym on) here)))
 
 -- what stands before a place, and then from it on
-on_from : (w : Ways) (gs : List hb_glyph_info_t) (from n k : ℕ) → from ≤ n
+on_from : (w : Ways) (gs : Glyphs) (from n k : ℕ) → from ≤ n
     → Joined w.grammar.passes w.is_joiner (drop from gs) (n - from) → Joined w.grammar.passes w.is_joiner (drop n gs) k
     → Joined w.grammar.passes w.is_joiner (drop from gs) (n + k - from)
 on_from w gs from n k l a b =
@@ -199,7 +199,7 @@ on_from w gs from n k l a b =
     (subst (λ xs. Joined w.grammar.passes w.is_joiner xs k) (sym on) b))
 
 -- the glyph at n is a joiner, and the next one that is read stands at `next`
-one_joined : (w : Ways) → w.grammar.passes [] ≡ false → (gs : List hb_glyph_info_t) (n next : ℕ) → n < length gs
+one_joined : (w : Ways) → w.grammar.passes [] ≡ false → (gs : Glyphs) (n next : ℕ) → n < length gs
     → next ≡ n + 1 + reach_of w.grammar.passes (drop (n + 1) gs) 0 → w.is_joiner (get_or gs n default_glyph).category
     ≡ true → Joined w.grammar.passes w.is_joiner (drop n gs) (next - n)
 one_joined w z gs n next l is h =
@@ -711,7 +711,7 @@ counted_end t n m q span joined stuck watch noted ready x ahead counted before o
   spent = spent;
 }
   where
-    p : List hb_glyph_info_t → Bool
+    p : Glyphs → Bool
     p = t.ways.grammar.passes
 
     few : noted.reads ≤ before + 5

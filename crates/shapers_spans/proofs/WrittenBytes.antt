@@ -3,7 +3,7 @@ use Rattle.std.proofs.Common.{◌≡◌, ℕ, suc, ◌+◌, ◌-◌, ◌*◌, �
 use Rattle.std.proofs.lemmas.Bool.{cond_both, eqb-true}
 use Rattle.std.proofs.lemmas.Grind.{common_steps}
 use Rattle.std.proofs.lemmas.List.{append-nil, drop_all, take_all, drop_at, drop-drop, length-drop, length-map}
-use Rattle.shapers_buffer.specs.declared.buffer.glyph.hb_glyph_info_t.{hb_glyph_info_t}
+use Rattle.shapers_buffer.specs.Glyphs.{Glyphs}
 use Rattle.shapers_buffer.specs.declared.buffer.syllables.Span.{Span}
 use Rattle.shapers_buffer.specs.Clusters.{with_stretch}
 use Rattle.shapers_buffer.specs.Syllables.{in_syllable, span_byte, span_bytes, with_bytes}
@@ -13,7 +13,7 @@ use Rattle.shapers_spans.specs.Written.{AreInSyllables}
 use Rattle.shapers_spans.proofs.FoundSpans.{Found, found_next, found_all}
 
 -- the bytes up to `start` are written, those of so many spans
-pub record WrittenTo (g : Grammar) (old new : List hb_glyph_info_t) (start n : ℕ) : Type 0 where
+pub record WrittenTo (g : Grammar) (old new : Glyphs) (start n : ℕ) : Type 0 where
   pub spans : List Span
   pub found : Found g old start spans
   pub many : n ≡ length spans
@@ -35,7 +35,7 @@ bytes_more i (s ∷ ss) span =
     (replicate span.len (span_byte (i + suc (length ss)) span)))
 
 -- behind a stretch nothing changes
-behind_stretch : (gs : List hb_glyph_info_t) (start n byte : ℕ) → start + n ≤ length gs
+behind_stretch : (gs : Glyphs) (start n byte : ℕ) → start + n ≤ length gs
     → drop (start + n) (with_stretch start (start + n) (map (in_syllable byte)) gs) ≡ drop (start + n) gs
 behind_stretch gs start n byte h =
     let size : start + n - start ≡ n = omega arith in
@@ -55,7 +55,7 @@ behind_stretch gs start n byte h =
     ) refl in
     ap (drop (start + n)) hs_is ∙ drop_at (front ++ middle) rest (start + n) long
 
-stretch_len : (gs : List hb_glyph_info_t) (start n byte : ℕ) → start + n ≤ length gs
+stretch_len : (gs : Glyphs) (start n byte : ℕ) → start + n ≤ length gs
     → length (with_stretch start (start + n) (map (in_syllable byte)) gs) ≡ length gs
 stretch_len gs start n byte h =
     let size : start + n - start ≡ n = omega arith in
@@ -77,7 +77,7 @@ stretch_len gs start n byte h =
     ap length hs_is ∙ length-append (front ++ middle) rest
     ∙ (let e : length (front ++ middle) + length rest ≡ length gs = omega (arith, long, l, h) in e)
 
-pub written_start : (g : Grammar) (old new : List hb_glyph_info_t) (start n kind : ℕ)
+pub written_start : (g : Grammar) (old new : Glyphs) (start n kind : ℕ)
     → Found g old start (lead_spans start g.other) → kind ≡ g.other → n ≡ length (lead_spans start g.other)
     → new ≡ with_stretch 0 start (map (in_syllable ((0 % 15 + 1) * 16 + kind))) old → WrittenTo g old new start n
 written_start g old new start n kind f k many e =
@@ -109,7 +109,7 @@ written_start g old new start n kind f k many e =
         (λ h. ap (λ i. replicate i (span_byte 0 lead)) (eqb-true m 0 h))
         (λ _. sym (append-nil (replicate m (span_byte 0 lead))))
 
-pub written_next : (g : Grammar) (old new next : List hb_glyph_info_t) (start n : ℕ) (span : Span)
+pub written_next : (g : Grammar) (old new next : Glyphs) (start n : ℕ) (span : Span)
     → WrittenTo g old new start n → OpensWith g (drop start new) span → 0 < span.len
     → span.len ≤ length (drop start new) → span.kind ≤ 15 → g.passes (drop span.len (drop start new)) ≡ false
     → next ≡ with_stretch start (start + span.len) (map (in_syllable ((n % 15 + 1) * 16 + span.kind))) new
@@ -118,8 +118,8 @@ written_next g old new next start n span w opens some within kind read e =
     let on = w.rest in
     let f = found_next g old start span w.spans (w.spans ++ span ∷ []) w.found
     (subst (λ xs. OpensWith g xs span) on opens) some
-    (subst (λ (xs : List hb_glyph_info_t). span.len ≤ length xs) on within) kind
-    (subst (λ (xs : List hb_glyph_info_t). g.passes (drop span.len xs) ≡ false) on read) refl in
+    (subst (λ (xs : Glyphs). span.len ≤ length xs) on within) kind
+    (subst (λ (xs : Glyphs). g.passes (drop span.len xs) ≡ false) on read) refl in
     let room : start + span.len ≤ length new =
     (let a = w.found.within in let b = w.len in omega (arith, a, b, some, within, length-drop start new)) in
     let byte = span_byte n span in
@@ -144,7 +144,7 @@ written_next g old new next start n span w opens some within kind read e =
         let z : n ≡ 0 + length w.spans = omega (arith, m) in
         ap (λ k. span_bytes 0 w.spans ++ replicate span.len (span_byte k span)) z ∙ sym (bytes_more 0 w.spans span)
 
-pub written_all : (g : Grammar) (old new : List hb_glyph_info_t) (start n : ℕ) → WrittenTo g old new start n
+pub written_all : (g : Grammar) (old new : Glyphs) (start n : ℕ) → WrittenTo g old new start n
     → length new ≤ start → AreInSyllables g old new
 written_all g old new start n w l =
     let l2 : length old ≤ start = (let a = w.len in omega (arith, a, l)) in
@@ -154,7 +154,7 @@ written_all g old new start n w l =
       bytes =
           let b = w.bytes [] in
           sym (append-nil new)
-          ∙ ap (λ (xs : List hb_glyph_info_t). xs ++ []) (sym (take_all start new l))
-          ∙ ap (λ (xs : List hb_glyph_info_t). take start new ++ with_bytes xs []) (sym (drop_all start new l))
+          ∙ ap (λ (xs : Glyphs). xs ++ []) (sym (take_all start new l))
+          ∙ ap (λ (xs : Glyphs). take start new ++ with_bytes xs []) (sym (drop_all start new l))
           ∙ b ∙ ap (with_bytes old) (append-nil (span_bytes 0 w.spans));
     }

@@ -1,7 +1,7 @@
 -- Grammars of syllables: rules over lists of categories, and how they cut a text.
 use Rattle.std.specs.Prelude.{◌≡◌, ◌==◌, ℕ, zero, suc, ◌<◌, ◌≤◌, ◌⊎◌, Bool, List, [], ◌∷◌, ◌++◌, length, take, drop, get_or, if◌then◌else◌}
 use Rattle.std.specs.Prelude.{Option, Some, None}
-use Rattle.shapers_buffer.specs.declared.buffer.glyph.hb_glyph_info_t.{hb_glyph_info_t}
+use Rattle.shapers_buffer.specs.Glyphs.{Glyphs}
 use Rattle.shapers_buffer.specs.declared.buffer.syllables.Span.{Span}
 use Rattle.shapers_spans.specs.Re.{Re, none, IsIn}
 
@@ -11,7 +11,7 @@ pub record Grammar : Type 0 where
   pub rules : List Re
   pub kinds : List ℕ
   pub other : ℕ
-  pub passes : List hb_glyph_info_t → Bool
+  pub passes : Glyphs → Bool
 
 -- rule number j takes w
 abbrev pub Takes : List Re → ℕ → List ℕ → Type 0
@@ -47,13 +47,13 @@ abbrev pub IsSyllable : Grammar → List ℕ → Span → Type 0
 IsSyllable g w span = IsLongest g w span ⊎ IsOther g w span
 
 -- the categories of the glyphs that are read
-abbrev pub read_of : (List hb_glyph_info_t → Bool) → List hb_glyph_info_t → List ℕ
+abbrev pub read_of : (Glyphs → Bool) → Glyphs → List ℕ
 read_of passes [] = []
 read_of passes (g ∷ gs) =
     if passes (g ∷ gs) then read_of passes gs else g.category ∷ read_of passes gs
 
 -- how many glyphs there are up to the nth that is read, with those that are passed over behind it
-abbrev pub reach_of : (List hb_glyph_info_t → Bool) → List hb_glyph_info_t → ℕ → ℕ
+abbrev pub reach_of : (Glyphs → Bool) → Glyphs → ℕ → ℕ
 reach_of passes [] n = 0
 reach_of passes (g ∷ gs) zero = if passes (g ∷ gs) then suc (reach_of passes gs zero) else 0
 reach_of passes (g ∷ gs) (suc n) =
@@ -61,7 +61,7 @@ reach_of passes (g ∷ gs) (suc n) =
 
 -- The span covers the syllable that begins what is read of the text, and the glyphs that are passed
 -- over within and behind it.
-pub record OpensWith (g : Grammar) (gs : List hb_glyph_info_t) (span : Span) : Type 0 where
+pub record OpensWith (g : Grammar) (gs : Glyphs) (span : Span) : Type 0 where
   pub read : Span
   pub syllable : IsSyllable g (read_of g.passes gs) read
   pub kind : span.kind ≡ read.kind
@@ -69,7 +69,7 @@ pub record OpensWith (g : Grammar) (gs : List hb_glyph_info_t) (span : Span) : T
 
 -- The spans cut a text that begins with a glyph that is read: each is the syllable that begins what
 -- is left.
-abbrev pub IsCutFrom : Grammar → List hb_glyph_info_t → List Span → Type 0
+abbrev pub IsCutFrom : Grammar → Glyphs → List Span → Type 0
 IsCutFrom g gs [] = gs ≡ []
 IsCutFrom g gs (span ∷ spans) = OpensWith g gs span × IsCutFrom g (drop span.len gs) spans
 
@@ -78,7 +78,7 @@ abbrev pub lead_spans : ℕ → ℕ → List Span
 lead_spans n k = let s : Span = record { len = n; kind = k } in if n == 0 then [] else s ∷ []
 
 -- The spans cut the text: first what is passed over in front, of kind other, then each syllable.
-pub record IsSyllableCut (g : Grammar) (gs : List hb_glyph_info_t) (spans : List Span) :
+pub record IsSyllableCut (g : Grammar) (gs : Glyphs) (spans : List Span) :
     Type 0 where
   pub rest : List Span
   pub whole : spans ≡ lead_spans (reach_of g.passes gs 0) g.other ++ rest

@@ -1,20 +1,20 @@
 -- What the universal grammar passes over: CGJ (category 6), and ZWNJ (14) before a mark.
-use Rattle.std.specs.Prelude.{◌==◌, ◌||◌, ◌&&◌, Bool, false, List, [], ◌∷◌, if◌then◌else◌}
-use Rattle.shapers_buffer.specs.declared.buffer.glyph.hb_glyph_info_t.{hb_glyph_info_t}
+use Rattle.std.specs.Prelude.{◌==◌, ◌||◌, ◌&&◌, Bool, false, [], ◌∷◌, if◌then◌else◌}
+use Rattle.shapers_buffer.specs.Glyphs.{Glyphs}
 use Rattle.shapers_buffer.specs.Category.{is_mark}
 use Rattle.shapers_buffer.specs.Properties.{general_category}
 
 -- whether the first glyph that isn't CGJ is a mark
-abbrev pub next_is_mark : List hb_glyph_info_t → Bool
+abbrev pub next_is_mark : Glyphs → Bool
 next_is_mark [] = false
 next_is_mark (g ∷ gs) =
     if g.category == 6 then next_is_mark gs else is_mark (general_category g.unicode_props)
 
 -- whether the text begins with a glyph that is passed over
-abbrev pub opens_passed : List hb_glyph_info_t → Bool
+abbrev pub opens_passed : Glyphs → Bool
 opens_passed [] = false
 opens_passed (g ∷ gs) = (g.category == 6) || ((g.category == 14) && next_is_mark gs)
 
 -- for the grammars that read each glyph
-abbrev pub none_passed : List hb_glyph_info_t → Bool
+abbrev pub none_passed : Glyphs → Bool
 none_passed gs = false

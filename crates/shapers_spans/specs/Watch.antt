@@ -1,6 +1,6 @@
 -- How often one glyph of a text is read.
-use Rattle.std.specs.Prelude.{◌≡◌, ℕ, ◌+◌, ◌-◌, ◌<◌, ◌≤◌, ◌⊎◌, Bool, List, drop, length}
-use Rattle.shapers_buffer.specs.declared.buffer.glyph.hb_glyph_info_t.{hb_glyph_info_t}
+use Rattle.std.specs.Prelude.{◌≡◌, ℕ, ◌+◌, ◌-◌, ◌<◌, ◌≤◌, ◌⊎◌, Bool, drop, length}
+use Rattle.shapers_buffer.specs.Glyphs.{Glyphs}
 use Rattle.shapers_spans.specs.Grammar.{read_of}
 
 -- how often the glyph was read, and how many glyphs there are up to it, 0 once it is behind
@@ -9,7 +9,7 @@ pub record Watch : Type 0 where
   pub ahead : ℕ
 
 -- how many of the glyphs are read
-abbrev pub read_left : (List hb_glyph_info_t → Bool) → List hb_glyph_info_t → ℕ
+abbrev pub read_left : (Glyphs → Bool) → Glyphs → ℕ
 read_left passes gs = length (read_of passes gs)
 
 -- What bounds how often the walks before have read the watched glyph. None did; or at most four
@@ -23,8 +23,8 @@ IsSpent left behind watched len stuck turned times =
 
 -- The watched glyph was read at most five times since `before`, and, if it is still to come, so
 -- often that it won't be read more than that.
-pub record IsWatched (passes : List hb_glyph_info_t → Bool) (turned : ℕ)
-    (gs : List hb_glyph_info_t) (len stuck before : ℕ) (watch : Watch) : Type 0 where
+pub record IsWatched (passes : Glyphs → Bool) (turned : ℕ)
+    (gs : Glyphs) (len stuck before : ℕ) (watch : Watch) : Type 0 where
   pub since : before ≤ watch.reads
   pub few : watch.reads ≤ before + 5
   pub spent : 0 < watch.ahead →

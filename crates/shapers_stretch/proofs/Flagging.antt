@@ -4,7 +4,7 @@ use Rattle.std.specs.List.{zip, AllByRecursion}
 use Rattle.std.proofs.lemmas.List.{drop-take, append_assoc, length-append, length-drop, length-map, length-take-le, map-append, take-append-drop, take-map, take_at, drop_at, drop-drop, take-take}
 use Rattle.std.proofs.lemmas.Slice.Zip.{firsts-zip, seconds-zip}
 use Rattle.shapers_buffer.specs.declared.buffer.glyph.GlyphPosition.{GlyphPosition}
-use Rattle.shapers_buffer.specs.declared.buffer.glyph.hb_glyph_info_t.{hb_glyph_info_t}
+use Rattle.shapers_buffer.specs.Glyphs.{Glyph, Glyphs}
 use Rattle.shapers_buffer.specs.Clusters.{least, stretch_of}
 use Rattle.shapers_buffer.specs.Glyph.{clusters}
 use Rattle.shapers_buffer.specs.GlyphFlags.{flagged, unsafe_inside, with_bits_off}
@@ -34,16 +34,16 @@ stretch_join s m e xs p q =
       take-append-drop n (take (n + (e - m)) (drop s xs)),
     )
 
-pub stretch_glyphs : (s e : ℕ) (gs : List hb_glyph_info_t) (ps : List GlyphPosition) → length gs ≡ length ps
+pub stretch_glyphs : (s e : ℕ) (gs : Glyphs) (ps : List GlyphPosition) → length gs ≡ length ps
     → e ≤ length gs → glyphs_of (stretch_of s e (zip gs ps)) ≡ stretch_of s e gs
-stretch_glyphs s e gs ps both q = search (arith, zip-stretch, firsts-zip, length-stretch)
+stretch_glyphs = search (arith, zip-stretch, firsts-zip, length-stretch)
 
-pub stretch_positions : (s e : ℕ) (gs : List hb_glyph_info_t) (ps : List GlyphPosition) → length gs ≡ length ps
+pub stretch_positions : (s e : ℕ) (gs : Glyphs) (ps : List GlyphPosition) → length gs ≡ length ps
     → e ≤ length gs → positions_of (stretch_of s e (zip gs ps)) ≡ stretch_of s e ps
-stretch_positions s e gs ps both q = search (arith, zip-stretch, seconds-zip, length-stretch)
+stretch_positions = search (arith, zip-stretch, seconds-zip, length-stretch)
 
 -- what the flags make of slices
-pub record Flagged (w t e : ℕ) (gs fs : List hb_glyph_info_t) (ps : List GlyphPosition) : Type 0 where
+pub record Flagged (w t e : ℕ) (gs fs : Glyphs) (ps : List GlyphPosition) : Type 0 where
   pub whole : zip fs ps ≡ take w (zip gs ps)
       ++ (unbroken (stretch_of w t (zip gs ps) ++ stretch_of t e (zip gs ps)) ++ drop e (zip gs ps))
   pub same_length : length fs ≡ length gs
@@ -53,7 +53,7 @@ pub record Flagged (w t e : ℕ) (gs fs : List hb_glyph_info_t) (ps : List Glyph
       ≡ drop (length (stretch_of w t (zip gs ps))) (unbroken (stretch_of w t (zip gs ps) ++ stretch_of t e (zip gs ps)))
   pub behind : (p : ℕ) → e ≤ p → drop p (zip fs ps) ≡ drop p (zip gs ps)
 
-pub whole_cells : (w t e : ℕ) (gs : List hb_glyph_info_t) (ps : List GlyphPosition) → w ≤ t → t ≤ e → e ≤ length gs
+pub whole_cells : (w t e : ℕ) (gs : Glyphs) (ps : List GlyphPosition) → w ≤ t → t ≤ e → e ≤ length gs
     → length gs ≡ length ps → zip (unsafe_inside w e gs) ps ≡ take w (zip gs ps)
     ++ (unbroken (stretch_of w t (zip gs ps) ++ stretch_of t e (zip gs ps)) ++ drop e (zip gs ps))
 whole_cells w t e gs ps p q r both =
@@ -81,18 +81,18 @@ whole_cells w t e gs ps p q r both =
 abbrev pub flag_cell : ℕ → Cell → Cell
 flag_cell m c = (with_bits_off 3 m c.0, c.1)
 
-zip_mapped : (f : hb_glyph_info_t → hb_glyph_info_t) (cs : List Cell) → zip (map f (glyphs_of cs)) (positions_of cs)
+zip_mapped : (f : Glyph → Glyph) (cs : List Cell) → zip (map f (glyphs_of cs)) (positions_of cs)
     ≡ map (λ (c : Cell). let d : Cell = (f c.0, c.1) in d) cs
 zip_mapped f [] = refl
 zip_mapped f (c ∷ cs) = cc (zip_mapped f cs)
 
 pub unbroken_is : (cs : List Cell) → unbroken cs ≡ map (flag_cell (least (clusters (glyphs_of cs)))) cs
-unbroken_is cs = search (arith, zip_mapped)
+unbroken_is = search zip_mapped
 
 join : (e k : ℕ) → e ≤ k → k ≡ e + (k - e)
-join e k h = omega arith
+join = omega arith
 
-pub flags_made : (w t e : ℕ) (gs fs : List hb_glyph_info_t) (ps : List GlyphPosition) → w ≤ t → t ≤ e → e ≤ length gs
+pub flags_made : (w t e : ℕ) (gs fs : Glyphs) (ps : List GlyphPosition) → w ≤ t → t ≤ e → e ≤ length gs
     → length gs ≡ length ps → fs ≡ unsafe_inside w e gs → Flagged w t e gs fs ps
 flags_made w t e gs fs ps p q r both is =
     let cells = zip gs ps in
@@ -103,7 +103,7 @@ flags_made w t e gs fs ps p q r both is =
     let long : length cells ≡ length gs = length-zipped gs ps both in
     let whole : F ≡ take w cells ++ (all ++ drop e cells) = search (arith, whole_cells) in
     let same_length : length fs ≡ length gs =
-    search (arith, length-append, length-take-le, length-map, length-stretch, length-drop) in
+    search (arith, length-append, length-take-le, length-map, length-drop) in
     let before : length (take w cells) ≡ w = length-take-le w cells (omega arith) in
     let word_length : length word ≡ t - w = length-stretch w t cells (omega arith) in
     let tiles_length : length tiles ≡ e - t = length-stretch t e cells (omega arith) in
@@ -135,14 +135,14 @@ flags_made w t e gs fs ps p q r both is =
     }
 
 -- glyph numbers and kinds of tiles stay
-id_if : (b : Bool) (g h : hb_glyph_info_t) → h.glyph_id ≡ g.glyph_id → (cond b g h).glyph_id ≡ g.glyph_id
+id_if : (b : Bool) (g h : Glyph) → h.glyph_id ≡ g.glyph_id → (cond b g h).glyph_id ≡ g.glyph_id
 id_if true g h e = refl
 id_if false g h e = e
 
-pub same_id : (m : ℕ) (g : hb_glyph_info_t) → (with_bits_off 3 m g).glyph_id ≡ g.glyph_id
-same_id m g = search (arith, id_if)
+pub same_id : (m : ℕ) (g : Glyph) → (with_bits_off 3 m g).glyph_id ≡ g.glyph_id
+same_id = search arith
 
-repeats_if : (b : Bool) (g h : hb_glyph_info_t) → repeats h ≡ repeats g → repeats (cond b g h) ≡ repeats g
+repeats_if : (b : Bool) (g h : Glyph) → repeats h ≡ repeats g → repeats (cond b g h) ≡ repeats g
 repeats_if true g h e = refl
 repeats_if false g h e = e
 
@@ -161,32 +161,28 @@ flag_copies_at m w v n false c = refl
 pub flag_copies : (font : Font) (z : Run) (m : ℕ) (cs : List Cell) → copies font z (map (flag_cell m) cs)
     ≡ map (flag_copy m) (copies font z cs)
 flag_copies font z m [] = refl
-flag_copies font z m (c ∷ cs) =
-    search (arith, copies-push, same_id, repeats_if, flag_copies_at, map-append, flag_copies font z m cs)
+flag_copies font z m (c ∷ cs) = search (arith, copies-push, flag_copies_at, map-append, flag_copies font z m cs)
 
 pub flag_offsets : (right_to_left : Bool) (m : ℕ) (at : ℤ) (xs : List Copy)
     → offsets (laid_on right_to_left at (map (flag_copy m) xs)) ≡ offsets (laid_on right_to_left at xs)
 flag_offsets right_to_left m at [] = refl
-flag_offsets right_to_left m at (x ∷ xs) =
-    cc (flag_offsets right_to_left m (pen_behind right_to_left at x.move) xs)
+flag_offsets right_to_left m at (x ∷ xs) = cc (flag_offsets right_to_left m (pen_behind right_to_left at x.move) xs)
 
 -- the flagged tiles of a part
 pub tiles_are : (word tiles : List Cell) → drop (length word) (unbroken (word ++ tiles))
     ≡ map (flag_cell (least (clusters (glyphs_of (word ++ tiles))))) tiles
-tiles_are word tiles =
-    search (arith, unbroken_is, map-append, drop_at, length-map)
+tiles_are = search (arith, unbroken_is, map-append, drop_at, length-map)
 
 take_none : {X : Type 0} (m : ℕ) → take {A = X} m [] ≡ []
 take_none zero = refl
 take_none (suc m) = refl
 
 -- glyph numbers in a stretch, and of flagged glyphs
-pub all_stretch : (P : hb_glyph_info_t → Type 0) (t e : ℕ) (gs : List hb_glyph_info_t) → AllByRecursion P (take e gs)
+pub all_stretch : (P : Glyph → Type 0) (t e : ℕ) (gs : Glyphs) → AllByRecursion P (take e gs)
     → AllByRecursion P (take (e - t) (drop t gs))
-all_stretch P zero e gs all = search arith
-all_stretch P (suc t) zero gs all = search arith
-all_stretch P (suc t) (suc e) [] all = search (arith, take_none)
+all_stretch P (suc t) (suc e) [] all = search take_none
 all_stretch P (suc t) (suc e) (g ∷ gs) all = search (arith, all_stretch P t e gs all.1)
+all_stretch P _ _ gs all = search arith
 
 all_mapped : {X Y : Type 0} (f : X → Y) (P : Y → Type 0) (xs : List X) → AllByRecursion (λ x. P (f x)) xs
     → AllByRecursion P (map f xs)
@@ -198,17 +194,15 @@ all_unmapped : {X Y : Type 0} (f : X → Y) (P : Y → Type 0) (xs : List X) →
 all_unmapped f P [] all = tt
 all_unmapped f P (x ∷ xs) all = (all.0, all_unmapped f P xs all.1)
 
-ids_flagged : (m : ℕ) (gs : List hb_glyph_info_t)
-    → map (λ (g : hb_glyph_info_t). g.glyph_id) (map (with_bits_off 3 m) gs)
-    ≡ map (λ (g : hb_glyph_info_t). g.glyph_id) gs
+ids_flagged : (m : ℕ) (gs : Glyphs)
+    → map (λ (g : Glyph). g.glyph_id) (map (with_bits_off 3 m) gs) ≡ map (λ (g : Glyph). g.glyph_id) gs
 ids_flagged m [] = refl
-ids_flagged m (g ∷ gs) =
-    cc (same_id m g, ids_flagged m gs)
+ids_flagged m (g ∷ gs) = cc (same_id m g, ids_flagged m gs)
 
-ids_unsafe : (w e : ℕ) (gs : List hb_glyph_info_t) → w ≤ e
-    → map (λ (g : hb_glyph_info_t). g.glyph_id) (unsafe_inside w e gs) ≡ map (λ (g : hb_glyph_info_t). g.glyph_id) gs
+ids_unsafe : (w e : ℕ) (gs : Glyphs) → w ≤ e
+    → map (λ (g : Glyph). g.glyph_id) (unsafe_inside w e gs) ≡ map (λ (g : Glyph). g.glyph_id) gs
 ids_unsafe w e gs p =
-    let id : hb_glyph_info_t → ℕ = λ g. g.glyph_id in
+    let id : Glyph → ℕ = λ g. g.glyph_id in
     let s = stretch_of w e gs in
     cc (
       map-append id (take w gs) (flagged 3 s ++ drop e gs),
@@ -220,10 +214,10 @@ ids_unsafe w e gs p =
       take-append-drop w gs,
     )
 
-pub numbers_stay : (P : ℕ → Type 0) (w e : ℕ) (gs fs : List hb_glyph_info_t) → w ≤ e → fs ≡ unsafe_inside w e gs
+pub numbers_stay : (P : ℕ → Type 0) (w e : ℕ) (gs fs : Glyphs) → w ≤ e → fs ≡ unsafe_inside w e gs
     → AllByRecursion (λ g. P g.glyph_id) (take e gs) → AllByRecursion (λ g. P g.glyph_id) (take e fs)
 numbers_stay P w e gs fs p is all =
-    let id : hb_glyph_info_t → ℕ = λ g. g.glyph_id in
+    let id : Glyph → ℕ = λ g. g.glyph_id in
     let same : map id (take e gs) ≡ map id (take e fs) =
     cc (take-map id e gs, ids_unsafe w e gs p, take-map id e fs) in
     all_unmapped id P (take e fs) (search (arith, all_mapped))

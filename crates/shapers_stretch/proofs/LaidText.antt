@@ -1,10 +1,9 @@
 -- A stretched text, read from its result: how much longer it is, and how wide what is laid is.
-use Rattle.std.proofs.Common.{◌≡◌, ◌+◌, ℕ, ℤ, pos, Bool, true, false, cond, List, [], ◌∷◌, ◌++◌, length, map, take, drop, flat_map, replicate, Result, Ok, Err, OnOk, refl, ap, arith, mul-zero}
+use Rattle.std.proofs.Common.{◌≡◌, ◌+◌, ℕ, ℤ, pos, Bool, true, false, cond, List, [], ◌∷◌, ◌++◌, length, map, take, drop, flat_map, replicate, Result, Ok, Err, OnOk, refl, ap, arith}
 use Rattle.std.specs.List.{AllZip, onto_first, sum_by}
 use Rattle.std.proofs.lemmas.List.{append_assoc, length-append, length-map, length-reverse, map-append, reverse-reverse, take-append-drop, take_at}
 use Rattle.std.proofs.lemmas.List.Folds.{flat_map-map}
 use Rattle.std.proofs.lemmas.List.Sums.{sum_by-cons}
-use Rattle.std.proofs.lemmas.Bool.Decides.{nat_tests}
 use Rattle.shapers_buffer.specs.declared.buffer.refusal.ShaperError.{ShaperError}
 use Rattle.shapers_buffer.specs.Buffer.{Buffer}
 use Rattle.shapers_buffer.specs.Clusters.{least}
@@ -39,24 +38,23 @@ either false x xs pieces e = cc (onto x pieces)
 
 pieces_join : {X : Type 0} (apart : X → X → Bool) (xs : List X) → flat_map (λ p. p) (cut_between apart xs) ≡ xs
 pieces_join apart [] = refl
-pieces_join apart (x ∷ xs) = search (arith, either, pieces_join apart xs)
+pieces_join apart (x ∷ xs) = search (arith, pieces_join apart xs)
 
 -- how much longer each part is, and all of them
 no_tiles : (part : List Cell) → has_run part ≡ false → length (tiles_of part) ≡ 0
-no_tiles part e = grind (arith, nat_tests, e)
+no_tiles part e = grind arith
 
 none_repeat : (tiles : List Cell) → length tiles ≡ 0 → length (repeating (glyphs_of tiles)) ≡ 0
 none_repeat [] e = refl
 none_repeat (t ∷ ts) e = absurd (omega arith)
 
 no_copies : (font : Font) (part : List Cell) → has_run part ≡ false → copies_added (run_of_part font part) ≡ 0
-no_copies font part e =
-    search (arith, none_repeat, no_tiles, mul-zero)
+no_copies = search (arith, none_repeat, no_tiles)
 
 longer_by : (how : Laying) (part : List Cell) (b : Bool) → has_run part ≡ b → length (stretched_part how part)
     ≡ length part + copies_added (run_of_part how.font part)
 longer_by how part true e = run_length how part e
-longer_by how part false e = search (arith, no_run_length how part e, no_copies how.font part e)
+longer_by how part false e = search (arith, no_copies how.font part e)
 
 abbrev copies_of_run : Font → List Cell → ℕ
 copies_of_run font part = copies_added (run_of_part font part)
@@ -64,17 +62,14 @@ copies_of_run font part = copies_added (run_of_part font part)
 parts_longer : (how : Laying) (ps : List (List Cell)) → length (flat_map (stretched_part how) ps)
     ≡ length (flat_map (λ p. p) ps) + sum_by (copies_of_run how.font) ps
 parts_longer how [] = refl
-parts_longer how (p ∷ ps) =
-    omega (
-      arith,
-      length-append (stretched_part how p) (flat_map (stretched_part how) ps),
-      length-append p
-          (flat_map (λ p. p) ps),
-      longer_by how p (has_run p) refl,
-      parts_longer how ps,
-      sum_by-cons (copies_of_run how.font)
-          p ps,
-    )
+parts_longer how (p ∷ ps) = omega (
+  arith,
+  length-append (stretched_part how p) (flat_map (stretched_part how) ps),
+  length-append p (flat_map (λ p. p) ps),
+  longer_by how p (has_run p) refl,
+  parts_longer how ps,
+  sum_by-cons (copies_of_run how.font) p ps,
+)
 
 length-in_order : {X : Type 0} (r : Bool) (xs : List X) → length (in_working_order r xs) ≡ length xs
 length-in_order true xs = refl
@@ -87,8 +82,7 @@ longer_if false x b n e = omega arith
 
 pub marks_longer : (font : Font) (choice : StretchStart) (b : Buffer) → length b.positions ≡ length b.glyphs
     → length (marks_stretched font choice b).glyphs ≡ length b.glyphs + copies_in font b
-marks_longer font choice b both =
-    search (arith, longer_if, length-map, length-in_order, parts_longer, pieces_join, length-zipped)
+marks_longer = search (arith, length-map, length-in_order, parts_longer, pieces_join, length-zipped)
 
 pub grows : {T : Type 0} (font : Font) (choice : StretchStart) (b new : Buffer) (r : Result T ShaperError)
     → length b.positions ≡ length b.glyphs → OnOk r (new ≡ marks_stretched font choice b)
@@ -139,10 +133,10 @@ run_laid how part e =
     let from = start how.choice r z in
     let its = copies how.font z tiles in
     let made = laid_run how z (drop (length word) whole) in
-    let is : made ≡ laid_on r from (map (flag_copy m) its) = search (arith, tiles_are, laid_is, flag_copies) in
+    let is : made ≡ laid_on r from (map (flag_copy m) its) = search (tiles_are, laid_is, flag_copies) in
     let on = take (length word) whole in
     let over : on ≡ map (flag_cell m) word = search (arith, unbroken_is, map-append, take_at, length-map) in
-    let before : before_word part ++ word ≡ before_tiles part = search (arith, take-append-drop) in
+    let before : before_word part ++ word ≡ before_tiles part = search take-append-drop in
     let long : length made ≡ length (map (flag_copy m) its) =
     search (arith, length-laid, tiles_are, flag_copies) in
     record {
@@ -152,7 +146,7 @@ run_laid how part e =
       front_ids = search (arith, map-append, flagged-ids);
       front_positions = search (arith, map-append, flagged-positions);
       tiles = search (arith, laid_on-ids, flagged_copies-ids);
-      many = search (arith, length-map, flag_copy, length-copies);
+      many = search (arith, length-map, length-copies);
       advances = search (arith, laid_on-advances);
       offsets = cc (flag_offsets r m from its, laid_is r from its, laid-offsets r from (each_after [] its));
       width = moves_hold how.font part;
@@ -171,8 +165,8 @@ text_laid : (how : Laying) (cs : List Cell) → TextIsLaid how cs (stretched how
 text_laid how cs = record {
   pieces = map (stretched_part how) (parts_of_text cs);
   before = pieces_join run_ends cs;
-  after = search (arith, flat_map-map);
-  each = search (arith, parts_laid);
+  after = search flat_map-map;
+  each = search parts_laid;
 }
 
 -- of a buffer
@@ -184,5 +178,4 @@ pub stretch_is_as_wide : (font : Font) (choice : StretchStart) (old new : Buffer
     → length old.positions ≡ length old.glyphs → new ≡ marks_stretched font choice old
     → (length new.positions ≡ length new.glyphs)
     × TextIsLaid (laying font choice old) (cells_in_order old) (cells_in_order new)
-stretch_is_as_wide font choice old new marked both e =
-    search (arith, length-map, zipped, twice_in_order, text_laid)
+stretch_is_as_wide = search (arith, length-map, zipped, twice_in_order, text_laid)

@@ -4,8 +4,7 @@ use Rattle.std.specs.List.{suffix_len, list_all, take-map}
 use Rattle.std.proofs.lemmas.List.{append_assoc, append-nil, length_push, length-map}
 use Rattle.std.proofs.lemmas.List.Folds.{list_all-append}
 use Rattle.std.proofs.Math.Seq.{take-append_seam, drop-append_seam}
-use Rattle.std.proofs.lemmas.Bool.{and_from, not-true, not-false, and_parts, and_right}
-use borrow.Author.Tests.{clash}
+use Rattle.std.proofs.lemmas.Bool.{and_from, not-true, and_parts}
 use Rattle.shapers_buffer.specs.Lists.{last_run, before_last_run}
 use Rattle.shapers_buffer.proofs.ListLaws.{suffix_len_yes, suffix_len_no, suffix_len_stop, from_end, last_of}
 use Rattle.shapers_buffer.proofs.MappedLists.{suffix_len-map}
@@ -24,7 +23,7 @@ pub run_split : {X : Type 0} (test : X → Bool) (xs : List X) → RunSplit test
 run_split {X} test xs =
     let one : (xs : List X) (x : X) (b : Bool) → test x ≡ b → RunSplit test xs → RunSplit test (xs ++ x ∷ []) =
     λ xs x b. elim b as (λ b. test x ≡ b → RunSplit test xs → RunSplit test (xs ++ x ∷ [])) [
-      | true ↦ search (arith, append_assoc, list_all-append, and_from)
+      | true ↦ search (arith, append_assoc, list_all-append)
       | false ↦ λ h r. record {
         front = xs ++ x ∷ [];
         run =
@@ -87,7 +86,7 @@ stops_behind test front back h =
       | inr p ↦
           let fails = last_fails test (front ++ p.front) p.last (ap (suffix_len test) (append_assoc front p.front
           (p.last ∷ []) ∙ ap (λ b. front ++ b) (sym p.parts)) ∙ h) in
-          cc (p.parts, suffix_len_no test p.front p.last fails)
+          cc (suffix_len_no test p.front p.last fails)
     ]
 
 -- what passes one test everywhere passes another everywhere
@@ -113,26 +112,21 @@ uncut x xs here rest = cc
 
 uncut_other : (x : Cell) (xs : List Cell) → other x ≡ true → cut_here run_ends x xs ≡ false
 uncut_other x [] h = refl
-uncut_other x (y ∷ xs) h = search (arith, not-true)
+uncut_other x (y ∷ xs) h = search arith
 
 -- other cells and then tiles are one part
 tiles_alone : (x : Cell) (xs : List Cell) → list_all tile (x ∷ xs) ≡ true → parts_of_text (x ∷ xs) ≡ (x ∷ xs) ∷ []
 tiles_alone x [] h = refl
 tiles_alone x (y ∷ xs) h =
-    search (arith, uncut, and_right, tiles_alone y xs (and_parts (tile x) (list_all tile (y ∷ xs)) h).1)
+    search (arith, tiles_alone y xs (and_parts (tile x) (list_all tile (y ∷ xs)) h).1)
 
 pub one_part : (x : Cell) (others tiles : List Cell) → list_all other (x ∷ others) ≡ true → list_all tile tiles ≡ true
     → parts_of_text ((x ∷ others) ++ tiles) ≡ ((x ∷ others) ++ tiles) ∷ []
 one_part x [] [] h p = refl
 one_part x [] (t ∷ tiles) h p =
-    search (arith, uncut, uncut_other, and_parts, tiles_alone)
+    search (arith, tiles_alone)
 one_part x (y ∷ others) tiles h p =
-    search (
-      arith,
-      uncut,
-      uncut_other,
-      one_part y others tiles (and_parts (other x) (list_all other (y ∷ others)) h).1 p,
-    )
+    search (arith, one_part y others tiles (and_parts (other x) (list_all other (y ∷ others)) h).1 p)
 
 -- The last part of a text that isn't empty, cut into what stands before its word, its word and its tiles.
 pub record LastPartOf (cs : List Cell) : Type 0 where
@@ -165,7 +159,7 @@ runs_of cs =
 
 -- a list that ends with no run of others ends with a tile, or is empty
 ends_with_tile : (front : List Cell) (a : Cell) → suffix_len other (front ++ a ∷ []) ≡ 0 → tile a ≡ true
-ends_with_tile front a h = search (arith, not-false, last_fails)
+ends_with_tile = search (arith, last_fails)
 
 pub as_one_part : (others tiles : List Cell) → list_all other others ≡ true → list_all tile tiles ≡ true
     → 0 < length (others ++ tiles) → parts_of_text (others ++ tiles) ≡ (others ++ tiles) ∷ []
@@ -176,10 +170,10 @@ as_one_part (x ∷ others) tiles h p some = one_part x others tiles h p
 behind_tile : (front : List Cell) (a : Cell) (others tiles : List Cell) → tile a ≡ true
     → suffix_len tile ((front ++ a ∷ []) ++ others) ≡ 0 → list_all other others ≡ true → list_all tile tiles ≡ true
     → parts_of_text ((front ++ a ∷ []) ++ (others ++ tiles)) ≡ parts_of_text (front ++ a ∷ []) ++ (others ++ tiles) ∷ []
-behind_tile front a [] tiles e t h p =
-    search (arith, clash, last_fails, append-nil)
-behind_tile front a (x ∷ others) tiles e t h p =
-    search (arith, parts-append, not-true, and_parts, one_part)
+behind_tile front a [] =
+    search (arith, last_fails, append-nil)
+behind_tile front a (x ∷ others) =
+    search (arith, parts-append, one_part)
 
 parted_at : (front others tiles : List Cell) → suffix_len other front ≡ 0 → suffix_len tile (front ++ others) ≡ 0
     → list_all other others ≡ true → list_all tile tiles ≡ true → 0 < length (others ++ tiles)
@@ -197,15 +191,14 @@ ends_apart front some s t =
     elim (last_of front) [
       | inl none ↦ search arith
       | inr p ↦
-          search (arith, clash, last_fails, ends_with_tile)
+          search (arith, last_fails)
     ]
 
 some_at_end : (front others tiles : List Cell) → 0 < length (front ++ (others ++ tiles)) → suffix_len other front ≡ 0
     → suffix_len tile (front ++ others) ≡ 0 → 0 < length (others ++ tiles)
-some_at_end front [] [] some s t =
+some_at_end front [] [] =
     search (arith, ends_apart, append-nil)
-some_at_end front [] (x ∷ tiles) some s t = omega arith
-some_at_end front (x ∷ others) tiles some s t = omega arith
+some_at_end front _ _ = omega arith
 
 pub last_part_of : (cs : List Cell) → 0 < length cs → LastPartOf cs
 last_part_of cs some =
@@ -228,7 +221,7 @@ last_part_of cs some =
       | inl none ↦ ap (suffix_len tile) none
       | inr p ↦ let fails = (all_before (λ x.
           not (tile x)) p.front p.last (ap (list_all (λ x. not (tile x))) (sym p.parts) ∙ others)).1 in
-          cc (p.parts, suffix_len_no tile p.front p.last (not-true _ fails))
+          cc (suffix_len_no tile p.front p.last (not-true _ fails))
     ]) r.tiles.passes
     in
     let is_word = last_run_after wordly before word (stops_behind wordly front before
@@ -252,7 +245,7 @@ last_part_of cs some =
     )
 
 pub cut_at : {X : Type 0} (xs a b : List X) (n : ℕ) → xs ≡ a ++ b → n ≡ length a → (take n xs ≡ a) × (drop n xs ≡ b)
-cut_at xs a b n e f = search (arith, take-append_seam, drop-append_seam)
+cut_at = search (arith, take-append_seam, drop-append_seam)
 
 -- the same by places: where the last part begins, and in it the word and the tiles
 pub record LastPartAt (cs : List Cell) (s w t : ℕ) : Type 0 where
@@ -274,7 +267,7 @@ last_part_at cs s w t some ends word start =
     let many : length (glyphs_of cs) ≡ length cs = length-map cs (λ c. c.0) in
     let all_t : length cs ≡ length (p.front ++ (p.before ++ p.word)) + length p.tiles =
     search (arith, length-append) in
-    let tiles_count : suffix_len is_tile (glyphs_of cs) ≡ length p.tiles = search (arith, suffix_len-map) in
+    let tiles_count : suffix_len is_tile (glyphs_of cs) ≡ length p.tiles = search suffix_len-map in
     let cut_t = cut_at cs (p.front ++ (p.before ++ p.word)) p.tiles t (search (arith, append_assoc)) (omega arith) in
     let word_count : suffix_len in_word (take t (glyphs_of cs)) ≡ length p.word =
     ap (suffix_len in_word) (take-map (λ c. c.0) t cs) ∙ suffix_len-map in_word (λ c. c.0) (take t cs)
@@ -294,7 +287,7 @@ last_part_at cs s w t some ends word start =
     let cut_s = cut_at cs p.front part s p.whole at_s in
     let all : length cs ≡ length p.front + length part = ap length p.whole ∙ length-append p.front part in
     record {
-      less = omega (arith, p.some);
+      less = omega arith;
       before_fits = omega arith;
       word_fits = omega arith;
       tiles_fit = omega arith;

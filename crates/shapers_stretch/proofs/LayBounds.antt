@@ -1,7 +1,7 @@
 -- The numbers by which a run is laid are small where all that must fit 32 bits does.
-use Rattle.std.proofs.Common.{◌≡◌, ◌*◌, ◌^◌, ◌<◌, ◌≤◌, ℕ, zero, suc, ◌*ℤ◌, ℤ, pos, negsuc, neg_ℤ, ◌-ℤ◌, ◌≤ℤ◌, unsigned_abs, int_div, Bool, true, false, cond, FitsSigned, [], ◌∷◌, Option, None, Some, refl, subst, sym, ◌∙◌, ap, arith, div-le_self, mul-suc}
+use Rattle.std.proofs.Common.{◌≡◌, ◌*◌, ◌^◌, ◌<◌, ◌≤◌, ℕ, zero, suc, ◌*ℤ◌, ℤ, pos, negsuc, neg_ℤ, ◌-ℤ◌, ◌≤ℤ◌, unsigned_abs, int_div, Bool, true, false, cond, FitsSigned, [], ◌∷◌, Option, None, Some, refl, subst, sym, ◌∙◌, ap, arith}
 use Rattle.std.specs.List.{list_all}
-use Rattle.std.proofs.lemmas.Int.{ints, by_lt_z}
+use Rattle.std.proofs.lemmas.Int.{ints}
 use Rattle.std.proofs.lemmas.List.Folds.{list_all-append}
 use Rattle.std.proofs.lemmas.Option.{none-some}
 use Rattle.std.proofs.lemmas.Bool.{and_parts}
@@ -14,9 +14,8 @@ use Rattle.shapers_stretch.specs.declared.ot_shaper_arabic_stretch.measuring.Lay
 use Rattle.shapers_stretch.specs.declared.ot_shaper_arabic_stretch.measuring.Run.{Run}
 use Rattle.shapers_stretch.specs.Lays.{lay_if_fits, lay_of}
 use Rattle.shapers_stretch.specs.Measure.{times_added, copies_added, fit, fits_i32, laid_width, left, numbers_to_fit, overlap, reach, run_numbers, squeezes, start}
-use Rattle.shapers_stretch.proofs.Numbers.{fit_room, fit_width, fit_yes, fits_from, overlap_bounds, overlap_no, quotient_abs, shared_bounds}
+use Rattle.shapers_stretch.proofs.Numbers.{fits_from, overlap_bounds, overlap_no, shared_bounds}
 use Rattle.shapers_stretch.proofs.Steps.{times_up}
-use Rattle.shapers_stretch.proofs.Sums.{times_add}
 use lib.IntN.{*ℤ-zero}
 
 -- what fits, of the numbers of a run
@@ -26,8 +25,7 @@ pub record SmallRun (z : Run) : Type 0 where
   pub copies : copies_added z < 2 ^ 31
 
 small_from : (z : Run) → list_all fits_i32 (run_numbers z) ≡ true → SmallRun z
-small_from z e =
-    search (arith, fits_from, ltb-true)
+small_from = search (arith, fits_from, ltb-true)
 
 numbers_small : (choice : StretchStart) (z : Run) → list_all fits_i32 (numbers_to_fit choice z) ≡ true → SmallRun z
 numbers_small AsCode z e = small_from z e
@@ -36,58 +34,41 @@ numbers_small Centred z e =
     (sym (list_all-append fits_i32 (run_numbers z) (laid_width z ∷ (z.word -ℤ laid_width z) ∷ [])) ∙ e)).0
 
 magnitude : (x : ℤ) → FitsSigned w32 x → unsigned_abs x ≤ 2 ^ 31
-magnitude (pos n) fits = omega (arith, ints)
-magnitude (negsuc n) fits = omega (arith, ints)
+magnitude (pos n) = omega arith
+magnitude (negsuc n) = omega arith
 
 fit_small : (r m : ℤ) → FitsSigned w32 m → fit r m < 2 ^ 31
-fit_small r m fits =
-    search (arith, by_lt_z, pos, fit_yes, quotient_abs, div-le_self, unsigned_abs, magnitude, fit_width, fit_room)
+fit_small = search arith
 
 added_if : (b : Bool) (n : ℕ) → n < 2 ^ 31 → cond b (suc n) n ≤ 2 ^ 31
-added_if true n h = omega arith
-added_if false n h = omega arith
+added_if true = omega arith
+added_if false = omega arith
 
 overlap_small : (z : Run) (b : Bool) → squeezes z ≡ b → SmallRun z → (pos 0 ≤ℤ overlap z) × (overlap z ≤ℤ pos (2 ^ 34))
-overlap_small z true e s = let bounds =
-    overlap_bounds z e in search (arith, ints)
-overlap_small z false e s = search (arith, ints)
+overlap_small z true e = let bounds = overlap_bounds z e in search (arith, ints)
+overlap_small z false e = search arith
 
 times_more : (n k : ℕ) (o : ℤ) → 0 < k → pos 0 ≤ℤ o → (pos n *ℤ o) ≤ℤ (pos (n * k) *ℤ o)
 times_more n zero o p h = absurd (omega arith)
-times_more n (suc k) o p h =
-    omega (arith, ints, ap (λ m. pos m *ℤ o) (mul-suc n k), times_add n (n * k) o, times_up (n * k) o h)
+times_more n (suc k) o p h = omega (arith, ints, times_up (n * k) o h)
 
 shared_small : (z : Run) (b : Bool) → squeezes z ≡ b → SmallRun z → (pos (times_added z) *ℤ overlap z) ≤ℤ pos (2 ^ 34)
-shared_small z true e s =
-    omega (
-      arith,
-      ints,
-      times_more (times_added z) z.repeaters (overlap z) (search (arith, ltb-true)) (overlap_bounds z e).0,
-      (shared_bounds z e).1,
-      s.left,
-      s.reach,
-    )
+shared_small z true e s = omega (arith, ints, times_more (times_added z) z.repeaters (overlap z) (search arith) (overlap_bounds z e).0, (shared_bounds z e).1)
 shared_small z false e s =
     omega (arith, ints, ap (λ o. pos (times_added z) *ℤ o) (overlap_no z e) ∙ *ℤ-zero (pos (times_added z)))
 
 half_small : (x : ℤ) → FitsSigned w32 x → IsNumber (int_div x (pos 2))
-half_small (pos n) fits =
-    search (arith, ints, div-le_self)
-half_small (negsuc n) fits =
-    search (arith, ints, div-le_self)
+half_small _ = search arith
 
 number_if : (b : Bool) (x y : ℤ) → IsNumber x → IsNumber y → IsNumber (cond b x y)
 number_if true x y p q = p
 number_if false x y p q = q
 
 number_zero : IsNumber (pos 0)
-number_zero = search (arith, ints)
+number_zero = search
 
 number_neg : (x : ℤ) → FitsSigned w32 x → IsNumber (neg_ℤ (int_div x (pos 2)))
-number_neg (pos n) fits =
-    search (arith, ints, div-le_self)
-number_neg (negsuc n) fits =
-    search (arith, ints, div-le_self)
+number_neg _ = search arith
 
 start_small : (choice : StretchStart) (right_to_left : Bool) (z : Run) → list_all fits_i32 (numbers_to_fit choice z)
     ≡ true → IsNumber (start choice right_to_left z)
@@ -97,7 +78,7 @@ start_small Centred right_to_left z e =
     let both = and_parts _ _
     (sym (list_all-append fits_i32 (run_numbers z) (laid_width z ∷ (z.word -ℤ laid_width z) ∷ [])) ∙ e) in
     let gap = fits_from (z.word -ℤ laid_width z) (and_parts _ _ (and_parts (fits_i32 (laid_width z)) _ both.1).1).0 in
-    search (arith, number_if, number_neg, half_small)
+    search (number_if, number_neg, half_small)
 
 -- a lay that was found
 pub record FoundLay (choice : StretchStart) (right_to_left : Bool) (z : Run) (lay : Lay) : Type 0 where
@@ -116,12 +97,12 @@ found_here choice right_to_left z e =
       is = refl;
       small =
           record {
-            added = search (arith, added_if, fit_small);
+            added = search (arith, added_if);
             low = over.0;
             high = over.1;
             shared = shared_small z (squeezes z) refl s;
             start =
-                search (arith, start_small);
+                search start_small;
           };
       copies = s.copies;
     }

@@ -1,12 +1,10 @@
 -- What the code computes of the numbers of a run.
-use Rattle.std.proofs.Common.{◌≡◌, ◌^◌, ℕ, zero, suc, ◌*ℤ◌, ◌-◌, ◌/◌, ◌<◌, ◌≤◌, ◌+◌, ℤ, pos, negsuc, ◌-ℤ◌, ◌≤ℤ◌, ◌<ℤ◌, nat_abs, unsigned_abs, int_lt, int_div, Bool, true, false, cond, ◌&&◌, IsTrue, FitsSigned, [], ◌∷◌, Option, None, Some, refl, sym, ◌∙◌, ap, arith, mul-pos, div-le_self}
+use Rattle.std.proofs.Common.{◌≡◌, ◌^◌, ℕ, zero, suc, ◌*ℤ◌, ◌-◌, ◌/◌, ◌<◌, ◌≤◌, ◌+◌, ℤ, pos, negsuc, ◌-ℤ◌, ◌≤ℤ◌, ◌<ℤ◌, nat_abs, unsigned_abs, int_lt, int_div, Bool, true, false, cond, ◌&&◌, IsTrue, FitsSigned, [], ◌∷◌, Option, None, Some, refl, sym, ◌∙◌, ap, arith, mul-pos}
 use Rattle.std.specs.List.{list_all}
 use Rattle.std.proofs.lemmas.Int.{ints, fits_signed_mul}
 use borrow.Author.Tests.{ltb-true, clash}
 use Rattle.std.proofs.lemmas.Option.{none-some}
-use Rattle.std.proofs.lemmas.Bool.Decides.{nat_tests}
-use Rattle.std.proofs.lemmas.Bool.{and_right}
-use lib.IntN.{pos-*ℤ-pos, *ℤ-zero}
+use lib.IntN.{*ℤ-zero}
 use mir.Syntax.{w32, w64}
 use Rattle.shapers_stretch.specs.declared.ot_shaper_arabic_stretch.measuring.Run.{Run}
 use Rattle.shapers_base.specs.declared.plan.arabic.StretchStart.{StretchStart}
@@ -16,37 +14,28 @@ use Rattle.shapers_stretch.specs.Measure.{times_added, copies_added, excess, fal
 
 -- a number that passes the test fits, and each of a list that does
 pub fits_from : (x : ℤ) → fits_i32 x ≡ true → FitsSigned w32 x
-fits_from (pos n) e = search (arith, ltb-true)
-fits_from (negsuc n) e = search (arith, ltb-true)
+fits_from _ = search arith
 
 -- what a number that fits 32 bits measures, and how many bits hold the reach of at most 2 ^ 31 rounds
 abs_within : (x : ℤ) → FitsSigned w32 x → unsigned_abs x ≤ 2 ^ 31
-abs_within (pos n) f = omega (arith, f.sfits)
-abs_within (negsuc n) f = omega (arith, f.sfits)
+abs_within (pos n) f = omega arith
+abs_within (negsuc n) f = omega arith
 
 pub reach_fits : (z : Run) (n : ℕ) → TileRunFits z → n ≤ 2 ^ 31 → FitsSigned w64 (reach z n)
 reach_fits z n fits few =
-    fits_signed_mul w64 (pos (suc n)) z.repeating (2 ^ 31 + 1) (2 ^ 31) (omega arith)
-    (search (arith, abs_within)) (omega arith)
+    fits_signed_mul w64 (pos (suc n)) z.repeating (2 ^ 31 + 1) (2 ^ 31) (omega arith) (search arith) (omega arith)
 
 -- what fits 32 bits fits 64
 pub wide : (x : ℤ) → FitsSigned w32 x → FitsSigned w64 x
-wide (pos n) f = search arith
-wide (negsuc n) f = search arith
-
--- what IsTrue says
-pub is_true_from : (b : Bool) → IsTrue b → b ≡ true
-is_true_from b t = t
+wide _ = search arith
 
 pub run_fits_from : (z : Run) → IsTrue (list_all fits_i32 (z.word ∷ z.fixed ∷ z.repeating ∷ left z ∷ []))
     → TileRunFits z
-run_fits_from z t =
-    search (arith, fits_from)
+run_fits_from = search arith
 
 pub quotient_abs : (a b : ℤ) → pos 0 <ℤ a → pos 0 <ℤ b → nat_abs (int_div a b) ≡ unsigned_abs a / unsigned_abs b
 quotient_abs (pos a) (pos b) p q = refl
-quotient_abs (pos a) (negsuc b) p q = search (arith, ints)
-quotient_abs (negsuc a) b p q = search (arith, ints)
+quotient_abs _ _ p q = search
 
 if_both : {X : Type 0} (a b : Bool) (x y : X) → a ≡ true → b ≡ true → cond (a && b) x y ≡ x
 if_both a b x y e f = cc
@@ -59,13 +48,13 @@ if_second true b x y f = ap (λ v. cond v x y) f
 if_second false b x y f = refl
 
 pub lt_yes : (a b : ℤ) → a <ℤ b → int_lt a b ≡ true
-lt_yes a b h = grind (arith, ints)
+lt_yes = grind arith
 
 pub lt_not : (a b : ℤ) → b ≤ℤ a → int_lt a b ≡ false
-lt_not a b h = grind (arith, ints)
+lt_not = grind arith
 
 pub fit_yes : (r m : ℤ) → r <ℤ m → pos 0 <ℤ r → fit r m ≡ nat_abs (int_div m r) - 1
-fit_yes r m h p = search (arith, if_both, lt_yes, pos)
+fit_yes = search arith
 
 pub fit_room : (r m : ℤ) → m ≤ℤ r → fit r m ≡ 0
 fit_room r m h = if_first _ _ _ _ (lt_not r m h)
@@ -74,32 +63,31 @@ pub fit_width : (r m : ℤ) → r ≤ℤ pos 0 → fit r m ≡ 0
 fit_width r m h = if_second (int_lt r m) _ _ _ (lt_not (pos 0) r h)
 
 pub added_yes : (z : Run) → pos 0 <ℤ (left z -ℤ reach z (fitting z)) → 0 < z.repeaters → times_added z ≡ suc (fitting z)
-added_yes z h p = search (arith, if_both, lt_yes, pos, nat_tests)
+added_yes = search (arith, if_both, lt_yes, pos)
 
 pub added_full : (z : Run) → (left z -ℤ reach z (fitting z)) ≤ℤ pos 0 → times_added z ≡ fitting z
-added_full z h = search (arith, if_first, lt_not, pos)
+added_full = search lt_not
 
 pub added_none : (z : Run) → z.repeaters ≡ 0 → times_added z ≡ fitting z
-added_none z h = search (arith, if_second, int_lt, pos, nat_tests)
+added_none = search arith
 
 -- the reach of as many times as fit, by a number that equals them
 pub rest_at : (z : Run) (n : ℕ) → n ≡ fitting z → reach z n ≡ reach z (fitting z)
 rest_at z n e = ap (reach z) e
 
 full_is : (z : Run) → (left z -ℤ reach z (fitting z)) ≤ℤ pos 0 → falls_short z ≡ false
-full_is z h = search (arith, lt_not, pos)
+full_is = search lt_not
 
 pub squeezes_full : (z : Run) → (left z -ℤ reach z (fitting z)) ≤ℤ pos 0 → squeezes z ≡ false
 squeezes_full z h = cc (full_is z h)
 
 pub squeezes_short : (z : Run) → pos 0 <ℤ (left z -ℤ reach z (fitting z)) → 0 < z.repeaters
     → squeezes z ≡ int_lt (pos 0) (excess z)
-squeezes_short z h p = search (arith, lt_yes, pos, nat_tests)
+squeezes_short = search arith
 
 -- where copies overlap, there are some, and they reach too far
 pub squeezed_some : (z : Run) → squeezes z ≡ true → (0 < copies_added z) × (pos 0 <ℤ excess z)
-squeezed_some z e =
-    search (arith, mul-pos, ltb-true, ints)
+squeezed_some = search (arith, mul-pos, ltb-true)
 
 pub overlap_yes : (z : Run) → squeezes z ≡ true → overlap z ≡ int_div (excess z) (pos (copies_added z))
 overlap_yes z e = cc
@@ -108,30 +96,28 @@ pub overlap_no : (z : Run) → squeezes z ≡ false → overlap z ≡ pos 0
 overlap_no z e = cc
 
 pub quotient_bounds : (a : ℤ) (n : ℕ) → pos 0 ≤ℤ a → 0 < n → (pos 0 ≤ℤ int_div a (pos n)) × (int_div a (pos n) ≤ℤ a)
-quotient_bounds (pos a) n h p = search (arith, ints, div-le_self)
-quotient_bounds (negsuc a) n h p = search (arith, ints)
+quotient_bounds _ = search arith
 
 -- what copies that overlap share together: no more than they reach too far
 quotient_times : (a : ℤ) (n : ℕ) → pos 0 ≤ℤ a → 0 < n → (pos 0 ≤ℤ (pos n *ℤ int_div a (pos n)))
     × ((pos n *ℤ int_div a (pos n)) ≤ℤ a)
 quotient_times a zero h p = absurd (omega arith)
-quotient_times (pos a) (suc n) h p =
-    search (arith, ints, pos-*ℤ-pos)
-quotient_times (negsuc a) (suc n) h p = search (arith, ints)
+quotient_times (pos a) (suc n) h p = search arith
+quotient_times (negsuc a) (suc n) h p = search
 
 pub shared_bounds : (z : Run) → squeezes z ≡ true → (pos 0 ≤ℤ (pos (copies_added z) *ℤ overlap z))
     × ((pos (copies_added z) *ℤ overlap z) ≤ℤ excess z)
 shared_bounds z e =
     let some = squeezed_some z e in
-    search (arith, overlap_yes z e, quotient_times (excess z) (copies_added z) (omega (arith, ints)) some.0)
+    search (arith, quotient_times (excess z) (copies_added z) (omega (arith, ints)) some.0)
 
 share_nothing : (n : ℕ) (o : ℤ) → o ≡ pos 0 → pos n *ℤ o ≡ pos 0
 share_nothing n o e = cc (*ℤ-zero (pos n))
 
 shared_if : (z : Run) (b : Bool) → squeezes z ≡ b → FitsSigned w32 (left z) → FitsSigned w32 (reach z (times_added z))
     → (pos 0 ≤ℤ (pos (copies_added z) *ℤ overlap z)) × ((pos (copies_added z) *ℤ overlap z) ≤ℤ pos (2 ^ 34))
-shared_if z true e l r = let bounds = shared_bounds z e in search (arith, bounds.0, ints, bounds.1)
-shared_if z false e l r = search (arith, ints, share_nothing (copies_added z) (overlap z) (overlap_no z e))
+shared_if z true e = let bounds = shared_bounds z e in search (arith, ints)
+shared_if z false e = search (arith, share_nothing (copies_added z) (overlap z) (overlap_no z e))
 
 pub shared_within : (z : Run) → FitsSigned w32 (left z) → FitsSigned w32 (reach z (times_added z))
     → (pos 0 ≤ℤ (pos (copies_added z) *ℤ overlap z)) × ((pos (copies_added z) *ℤ overlap z) ≤ℤ pos (2 ^ 34))
@@ -141,31 +127,25 @@ shared_within z l r = shared_if z (squeezes z) refl l r
 pub overlap_bounds : (z : Run) → squeezes z ≡ true → (pos 0 ≤ℤ overlap z) × (overlap z ≤ℤ excess z)
 overlap_bounds z e =
     let some = squeezed_some z e in
-    search (arith, overlap_yes z e, quotient_bounds (excess z) (copies_added z) (omega (arith, ints)) some.0)
+    search (arith, quotient_bounds (excess z) (copies_added z) (omega (arith, ints)) some.0)
 
 pub centred_apart : (right_to_left : Bool) (z : Run) (w : ℤ) → w ≡ laid_width z → fits_i32 (z.word -ℤ w) ≡ false
     → None ≡ start_if_fits Centred right_to_left z
-centred_apart right_to_left z w e f =
-    search (arith, if_second)
+centred_apart = search arith
 
 pub centred_fits : (right_to_left : Bool) (z : Run) (w : ℤ) → w ≡ laid_width z → fits_i32 w ≡ true
     → fits_i32 (z.word -ℤ w) ≡ true → Some (start Centred right_to_left z) ≡ start_if_fits Centred right_to_left z
-centred_fits right_to_left z w e f h =
-    search (arith, if_both)
+centred_fits = search arith
 
 -- how a run is laid, by the tests in turn
 four_true : (a b c d : Bool) (rest : Bool) → (a && (b && (c && (d && true)))) ≡ true → (a && (b && (c && (d && rest))))
     ≡ rest
 four_true true true true true rest e = refl
-four_true true true true false rest e = absurd (clash e)
-four_true true true false d rest e = absurd (clash e)
-four_true true false c d rest e = absurd (clash e)
-four_true false b c d rest e = absurd (clash e)
+four_true _ _ _ _ rest e = absurd (clash e)
 
 two_true : (a b : Bool) (rest : Bool) → (a && (b && true)) ≡ true → (a && (b && rest)) ≡ rest
 two_true true true rest e = refl
-two_true true false rest e = absurd (clash e)
-two_true false b rest e = absurd (clash e)
+two_true _ _ rest e = absurd (clash e)
 
 abbrev number_or : Option ℤ → ℤ
 number_or (Some x) = x
@@ -175,19 +155,16 @@ some_same : {x y : ℤ} → Some x ≡ Some y → x ≡ y
 some_same e = ap number_or e
 
 pub four_and_two : (z : Run) (rest : Bool) → list_all fits_i32 (z.word ∷ z.fixed ∷ z.repeating ∷ left z ∷ []) ≡ true
-    → list_all fits_i32 (reach z (times_added z) ∷ pos (copies_added z) ∷ []) ≡ true
-    → (fits_i32 z.word
-    && (fits_i32 z.fixed
-    && (fits_i32 z.repeating
+    → list_all fits_i32 (reach z (times_added z) ∷ pos (copies_added z) ∷ []) ≡ true → (fits_i32 z.word
+    && (fits_i32 z.fixed && (fits_i32 z.repeating
     && (fits_i32 (left z) && (fits_i32 (reach z (times_added z)) && (fits_i32 (pos (copies_added z)) && rest))))))
     ≡ rest
-four_and_two z rest e f = search (arith, four_true, two_true)
+four_and_two = search arith
 
 centred_found : (right_to_left : Bool) (z : Run) (b : Bool) (s : ℤ) → cond b (Some (start Centred right_to_left z)) None
     ≡ Some s → cond b (Some (lay_of Centred right_to_left z)) None
     ≡ Some (record (lay_of Centred right_to_left z) { start = s })
-centred_found right_to_left z true s e =
-    search (arith, some_same)
+centred_found right_to_left z true s e = search arith
 centred_found right_to_left z false s e = absurd (none-some s e)
 
 pub lay_found : (choice : StretchStart) (right_to_left : Bool) (z : Run) (s : ℤ)
@@ -195,7 +172,7 @@ pub lay_found : (choice : StretchStart) (right_to_left : Bool) (z : Run) (s : �
     → list_all fits_i32 (reach z (times_added z) ∷ pos (copies_added z) ∷ []) ≡ true
     → start_if_fits choice right_to_left z ≡ Some s → lay_if_fits choice right_to_left z
     ≡ Some (record (lay_of choice right_to_left z) { start = s })
-lay_found AsCode right_to_left z s e f h = search (arith, four_and_two, some_same)
+lay_found AsCode right_to_left z s e f h = search arith
 lay_found Centred right_to_left z s e f h =
     let rest = list_all fits_i32 (laid_width z ∷ (z.word -ℤ laid_width z) ∷ []) in
     cc (four_and_two z rest e f, centred_found right_to_left z rest s h)
@@ -203,33 +180,26 @@ lay_found Centred right_to_left z s e f h =
 -- where a number doesn't fit, there is no way to lay it
 four_false : (a b c d rest : Bool) → (a && (b && (c && (d && true)))) ≡ false → (a && (b && (c && (d && rest)))) ≡ false
 four_false true true true true rest e = absurd (clash (sym e))
-four_false true true true false rest e = refl
-four_false true true false d rest e = refl
-four_false true false c d rest e = refl
-four_false false b c d rest e = refl
+four_false _ _ _ _ rest e = refl
 
 two_false : (a b rest : Bool) → (a && (b && true)) ≡ false → (a && (b && rest)) ≡ false
 two_false true true rest e = absurd (clash (sym e))
-two_false true false rest e = refl
-two_false false b rest e = refl
+two_false _ _ rest e = refl
 
 run_apart : (z : Run) (rest : Bool) → list_all fits_i32 (z.word ∷ z.fixed ∷ z.repeating ∷ left z ∷ []) ≡ false
     → (fits_i32 z.word && (fits_i32 z.fixed && (fits_i32 z.repeating && (fits_i32 (left z) && rest)))) ≡ false
-run_apart z rest e = search (arith, four_false)
+run_apart = search arith
 
 added_apart : (z : Run) (rest : Bool) → list_all fits_i32 (z.word ∷ z.fixed ∷ z.repeating ∷ left z ∷ []) ≡ true
-    → list_all fits_i32 (reach z (times_added z) ∷ pos (copies_added z) ∷ []) ≡ false
-    → (fits_i32 z.word
-    && (fits_i32 z.fixed
-    && (fits_i32 z.repeating
+    → list_all fits_i32 (reach z (times_added z) ∷ pos (copies_added z) ∷ []) ≡ false → (fits_i32 z.word
+    && (fits_i32 z.fixed && (fits_i32 z.repeating
     && (fits_i32 (left z) && (fits_i32 (reach z (times_added z)) && (fits_i32 (pos (copies_added z)) && rest))))))
     ≡ false
-added_apart z rest e f = search (arith, four_true, two_false)
+added_apart = search arith
 
 pub repeating_apart : (z : Run) → fits_i32 z.repeating ≡ false
     → list_all fits_i32 (z.word ∷ z.fixed ∷ z.repeating ∷ left z ∷ []) ≡ false
-repeating_apart z e =
-    search (arith, and_right)
+repeating_apart = search arith
 
 -- a run by its numbers
 pub same_run : (w v f h r s : ℤ) (n m : ℕ) → w ≡ v → f ≡ h → r ≡ s → n ≡ m
@@ -247,19 +217,13 @@ numbers_apart Centred z e = run_apart z _ e
 pub no_lay_run : (choice : StretchStart) (right_to_left : Bool) (z : Run)
     → list_all fits_i32 (z.word ∷ z.fixed ∷ z.repeating ∷ left z ∷ []) ≡ false
     → None ≡ lay_if_fits choice right_to_left z
-no_lay_run AsCode right_to_left z e =
-    search (arith, run_apart)
-no_lay_run Centred right_to_left z e =
-    search (arith, run_apart)
+no_lay_run _ = search arith
 
 pub no_lay_added : (choice : StretchStart) (right_to_left : Bool) (z : Run)
     → list_all fits_i32 (z.word ∷ z.fixed ∷ z.repeating ∷ left z ∷ []) ≡ true
     → list_all fits_i32 (reach z (times_added z) ∷ pos (copies_added z) ∷ []) ≡ false
     → None ≡ lay_if_fits choice right_to_left z
-no_lay_added AsCode right_to_left z e f =
-    search (arith, added_apart)
-no_lay_added Centred right_to_left z e f =
-    search (arith, added_apart)
+no_lay_added _ = search arith
 
 no_start : (right_to_left : Bool) (z : Run) (b : Bool) → cond b (Some (start Centred right_to_left z)) None ≡ None
     → cond b (Some (lay_of Centred right_to_left z)) None ≡ None
@@ -271,5 +235,4 @@ pub no_lay_start : (choice : StretchStart) (right_to_left : Bool) (z : Run)
     → list_all fits_i32 (reach z (times_added z) ∷ pos (copies_added z) ∷ []) ≡ true
     → start_if_fits choice right_to_left z ≡ None → None ≡ lay_if_fits choice right_to_left z
 no_lay_start AsCode right_to_left z e f h = absurd (none-some _ (sym h))
-no_lay_start Centred right_to_left z e f h =
-    search (arith, four_and_two, no_start)
+no_lay_start Centred right_to_left z e f h = search (four_and_two, no_start)

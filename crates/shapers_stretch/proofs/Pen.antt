@@ -10,7 +10,7 @@ use Rattle.shapers_stretch.proofs.Sums.{total_cons}
 
 -- one more copy
 moves-push : (before : List Copy) (c : Copy) → moves (before ++ c ∷ []) ≡ moves before +ℤ c.move
-moves-push before c = search (arith, ints, moves-append, total_cons)
+moves-push = search (arith, moves-append)
 
 offset_is : (right_to_left : Bool) (from : ℤ) (before : List Copy) (c : Copy) → offset right_to_left from before c
     ≡ stands_at right_to_left (pen_behind right_to_left from (moves before)) c.move
@@ -31,13 +31,13 @@ laid_after right_to_left from before (c ∷ cs) =
     search (arith, offset_is, pen_next, laid_after right_to_left from (before ++ c ∷ []) cs)
 
 pub no_move : (right_to_left : Bool) (from : ℤ) → pen_behind right_to_left from (moves []) ≡ from
-no_move true from = omega (arith, ints)
-no_move false from = omega (arith, ints)
+no_move true = omega (arith, ints)
+no_move false = omega (arith, ints)
 
 -- so the laid list of a run is laid from its start on
 pub laid_is : (right_to_left : Bool) (from : ℤ) (cs : List Copy)
     → laid right_to_left from cs ≡ laid_on right_to_left from cs
-laid_is right_to_left from cs = search (arith, laid_after, no_move)
+laid_is = search (arith, laid_after, no_move)
 
 pen_moved_on : (right_to_left : Bool) (pen : ℤ) (c : Copy) (xs : List Copy)
     → pen_behind right_to_left (pen_behind right_to_left pen c.move) (moves xs)

@@ -7,7 +7,7 @@ use Rattle.shapers_buffer.specs.Buffer.{Buffer, grown, more_positions}
 use Rattle.shapers_buffer.specs.Glyph.{default_glyph, default_position}
 use Rattle.shapers_buffer.specs.Refusals.{Refuses, RefusesLength}
 use Rattle.shapers_buffer.specs.declared.buffer.glyph.GlyphPosition.{GlyphPosition}
-use Rattle.shapers_buffer.specs.declared.buffer.glyph.hb_glyph_info_t.{hb_glyph_info_t}
+use Rattle.shapers_buffer.specs.Glyphs.{Glyphs}
 use Rattle.shapers_buffer.specs.declared.buffer.refusal.ShaperError.{ShaperError}
 use Rattle.shapers_buffer.proofs.MappedLists.{map-reverse}
 use Rattle.shapers_stretch.specs.Cells.{Cell, glyphs_of, positions_of}
@@ -32,26 +32,24 @@ room_positions n (p ∷ ps) h = refl
 zip-front : {X Y : Type 0} (xs us : List X) (ys vs : List Y) → length xs ≡ length ys
     → take (length xs) (zip (xs ++ us) (ys ++ vs)) ≡ zip xs ys
 zip-front [] us [] vs e = refl
-zip-front [] us (y ∷ ys) vs e = absurd (omega arith)
-zip-front (x ∷ xs) us [] vs e = absurd (omega arith)
 zip-front (x ∷ xs) us (y ∷ ys) vs e = cc (zip-front xs us ys vs (omega arith))
+zip-front _ us _ vs e = absurd (omega arith)
 
-pub record RoomMade (gs : List hb_glyph_info_t) (ps : List GlyphPosition) (n : ℕ) : Type 0 where
+pub record RoomMade (gs : Glyphs) (ps : List GlyphPosition) (n : ℕ) : Type 0 where
   pub text : take (length gs) (zip (gs ++ replicate n default_glyph) (more_positions n ps)) ≡ zip gs ps
   pub glyphs : length (gs ++ replicate n default_glyph) ≡ length gs + n
   pub positions : length (more_positions n ps) ≡ length gs + n
 
-pub room_made : (gs : List hb_glyph_info_t) (ps : List GlyphPosition) (n : ℕ) → length gs ≡ length ps
+pub room_made : (gs : Glyphs) (ps : List GlyphPosition) (n : ℕ) → length gs ≡ length ps
     → (length ps ≡ 0 → n ≡ 0) → RoomMade gs ps n
-room_made gs ps n both none =
-    search (arith, room_positions, zip-front, length-append, length-replicate)
+room_made gs ps n both none = search (arith, room_positions, zip-front, length-append, length-replicate)
 
 -- cells backwards
 pub zipped : (cs : List Cell) → zip (glyphs_of cs) (positions_of cs) ≡ cs
 zipped [] = refl
 zipped (c ∷ cs) = cc (zipped cs)
 
-pub zip-reverse : (gs : List hb_glyph_info_t) (ps : List GlyphPosition) → length gs ≡ length ps
+pub zip-reverse : (gs : Glyphs) (ps : List GlyphPosition) → length gs ≡ length ps
     → zip (reverse gs) (reverse ps) ≡ reverse (zip gs ps)
 zip-reverse gs ps both =
     let cs = zip gs ps in
@@ -67,8 +65,7 @@ zip-reverse gs ps both =
 pub refuses_counted : {T : Type 0} (how : Laying) (cs : List Cell) (n many limit : ℕ) (r : Result T ShaperError)
     → CountsAdded how cs (Some n) → length cs ≡ many → RefusesLength limit (many + n) r
     → Refuses (text_refusal how cs) limit (length (stretched how cs)) r
-refuses_counted how cs n many limit r counted long refuses =
-    search arith
+refuses_counted = search arith
 
 empty : {X : Type 0} (xs : List X) → length xs ≡ 0 → xs ≡ []
 empty [] e = refl
@@ -77,27 +74,16 @@ empty (x ∷ xs) e = absurd (omega arith)
 pub room_for : (b : Buffer) (how : Laying) (n : ℕ) → length b.positions ≡ length b.glyphs
     → CountsAdded how (cells b) (Some n) → RoomMade b.glyphs b.positions n
 room_for b how n both counted =
-    room_made b.glyphs b.positions n (sym both)
-    (λ e.
+    room_made b.glyphs b.positions n (sym both) (λ e.
     let no_cells : length (stretched how (cells b)) ≡ 0 = cc (empty (cells b) (search (arith, length-zipped))) in
-    omega (arith, counted.1))
+    omega arith)
 
 pub room_for_tiles : (b : Buffer) (how : Laying) (n : ℕ) → length b.positions ≡ length b.glyphs
     → All (λ g. g.glyph_id ≤ 65535) b.glyphs → CountsAdded how (cells b) (Some n)
     → HasRoomForTiles how (grown n b).glyphs (grown n b).positions (length b.glyphs)
 room_for_tiles b how n both numbers counted =
     let room = room_for b how n both counted in
-    search (
-      arith,
-      room.glyphs,
-      room.positions,
-      room.text,
-      counted.1,
-      length-zipped b.glyphs b.positions (sym both),
-      take-append_seam b.glyphs (replicate n default_glyph),
-      one_by_one (λ g. g.glyph_id ≤ 65535) b.glyphs numbers,
-      counted.0,
-    )
+    search (arith, length-zipped b.glyphs b.positions (sym both), take-append_seam b.glyphs (replicate n default_glyph), one_by_one (λ g. g.glyph_id ≤ 65535) b.glyphs numbers)
 
 -- what a walk over the grown buffer leaves
 pub stretched_buffer : (b : Buffer) (how : Laying) (n : ℕ) (new : Buffer) → length b.positions ≡ length b.glyphs
@@ -106,40 +92,35 @@ pub stretched_buffer : (b : Buffer) (how : Laying) (n : ℕ) (new : Buffer) → 
     ≡ glyphs_of cs) × (new.positions ≡ positions_of cs))
     → (let r : Buffer = record (grown n b) { glyphs = new.glyphs; positions = new.positions } in new ≡ r)
     → new ≡ with_cells (stretched how (cells b)) b
-stretched_buffer b how n new both counted walked others =
-    cc (walked.0, (room_for b how n both counted).text, walked.1)
+stretched_buffer b how n new both counted walked others = cc ((room_for b how n both counted).text)
 
 -- the same of a buffer that equals the grown one
 pub has_room_in : (b made : Buffer) (how : Laying) (n len : ℕ) → made ≡ grown n b → len ≡ length b.glyphs
     → length b.positions ≡ length b.glyphs → All (λ g. g.glyph_id ≤ 65535) b.glyphs → CountsAdded how (cells b) (Some n)
     → HasRoomForTiles how made.glyphs made.positions len
-has_room_in b made how n len e f both numbers counted =
-    search (arith, room_for_tiles b how n both numbers counted)
+has_room_in b made how n len e f both numbers counted = search (arith, room_for_tiles b how n both numbers counted)
 
 -- what counting says of slices that are those of a buffer
-pub counted_in : (b : Buffer) (how : Laying) (gs : List hb_glyph_info_t) (ps : List GlyphPosition) (r : Option ℕ)
+pub counted_in : (b : Buffer) (how : Laying) (gs : Glyphs) (ps : List GlyphPosition) (r : Option ℕ)
     → gs ≡ b.glyphs → ps ≡ b.positions → CountsAdded how (zip gs ps) r → CountsAdded how (cells b) r
-counted_in b how gs ps r e f counted =
-    search arith
+counted_in = search arith
 
 -- the text of a buffer backwards
 abbrev pub turned : Buffer → Buffer
 turned b = record b { glyphs = reverse b.glyphs; positions = reverse b.positions }
 
 turned_cells : (b : Buffer) → length b.positions ≡ length b.glyphs → cells (turned b) ≡ reverse (cells b)
-turned_cells b both = search (arith, zip-reverse)
+turned_cells = search (arith, zip-reverse)
 
 pub turned_refuses : {T : Type 0} (b mid : Buffer) (how : Laying) (r : Result T ShaperError) → mid ≡ turned b
     → length b.positions ≡ length b.glyphs
     → Refuses (text_refusal how (cells mid)) mid.max_len (length (stretched how (cells mid))) r
     → Refuses (text_refusal how (reverse (cells b))) b.max_len (length (stretched how (reverse (cells b)))) r
-turned_refuses b mid how r e both h =
-    search (arith, turned_cells)
+turned_refuses = search (arith, turned_cells)
 
 pub turned_ok : {T : Type 0} (b mid after new : Buffer) (how : Laying) (r : Result T ShaperError) → mid ≡ turned b
     → new ≡ turned after → length b.positions ≡ length b.glyphs
     → OnOk r (after ≡ with_cells (stretched how (cells mid)) mid)
     → OnOk r (new ≡ with_cells (reverse (stretched how (reverse (cells b)))) b)
-turned_ok b mid after new how (Ok v) e f both h =
-    search (arith, turned_cells b both, map-reverse)
+turned_ok b mid after new how (Ok v) e f both h = search (arith, turned_cells b both, map-reverse)
 turned_ok b mid after new how (Err v) e f both h = h

@@ -1,6 +1,6 @@
 -- Which glyphs become tiles, computed.
-use Rattle.std.specs.Prelude.{◌≡◌, ℕ, true, false, List, [], ◌∷◌, map, refl}
-use Rattle.shapers_buffer.specs.declared.buffer.glyph.hb_glyph_info_t.{hb_glyph_info_t}
+use Rattle.std.specs.Prelude.{◌≡◌, ℕ, true, false, [], ◌∷◌, map, refl}
+use Rattle.shapers_buffer.specs.Glyphs.{Glyph, Glyphs}
 use Rattle.shapers_buffer.specs.Buffer.{Buffer, new_buffer}
 use Rattle.shapers_base.specs.declared.plan.PlanData.{PlanData}
 use Rattle.shapers_base.specs.declared.plan.PlanData.TheVariants.{Arabic}
@@ -9,19 +9,18 @@ use Rattle.shapers_base.specs.declared.plan.breaks.BreakFlags.TheVariants as bre
 use Rattle.shapers_stretch.specs.Recorded.{recorded, start_of, tiles_recorded}
 
 -- a glyph with all fields set, with these words of its lookups
-abbrev set : ℕ → ℕ → ℕ → hb_glyph_info_t
-set props lig action =
-    record {
-      glyph_id = 5;
-      cluster = 6;
-      mask = 7;
-      glyph_props = record { 0 = props };
-      lig_props = record { 0 = lig };
-      syllable = 8;
-      unicode_props = record { 0 = 0x0BE7 };
-      category = 9;
-      auxiliary = action;
-    }
+abbrev set : ℕ → ℕ → ℕ → Glyph
+set props lig action = record {
+  glyph_id = 5;
+  cluster = 6;
+  mask = 7;
+  glyph_props = record { 0 = props };
+  lig_props = record { 0 = lig };
+  syllable = 8;
+  unicode_props = record { 0 = 0x0BE7 };
+  category = 9;
+  auxiliary = action;
+}
 
 -- odd and even components, the ends among them; without the bit nothing changes, and no other bit counts
 rows : map recorded (set 0x40 3 1 ∷ set 0x40 2 1 ∷ set 0x40 0 1 ∷ set 0x40 1 1 ∷ set 0x40 15 1 ∷ set 0xFFFF 14 1
@@ -41,7 +40,7 @@ abbrev without_stch : PlanData
 without_stch =
     Arabic (record { mask_array = []; has_stch = false; stretch_start = AsCode; break_flags = breaks.AsCode })
 
-abbrev text : List hb_glyph_info_t → Buffer
+abbrev text : Glyphs → Buffer
 text gs = record (new_buffer 9) { glyphs = gs }
 
 -- the mark "has stch" comes with a tile, and stays where there is none

@@ -5,7 +5,7 @@ use Rattle.std.proofs.lemmas.Int.{to_z-of_z}
 use Rattle.std.proofs.lemmas.List.{length-map}
 use mir.Syntax.{w64}
 use Rattle.shapers_buffer.specs.declared.buffer.glyph.GlyphPosition.{GlyphPosition}
-use Rattle.shapers_buffer.specs.declared.buffer.glyph.hb_glyph_info_t.{hb_glyph_info_t}
+use Rattle.shapers_buffer.specs.Glyphs.{Glyphs}
 use Rattle.shapers_buffer.specs.Clusters.{least, stretch_of}
 use Rattle.shapers_buffer.specs.Glyph.{clusters}
 use Rattle.shapers_base.specs.Font.{Font}
@@ -30,85 +30,74 @@ run_tiles word tiles = drop (length word) (unbroken (word ++ tiles))
 
 copies_flagged : (font : Font) (z : Run) (word tiles : List Cell) → copies font z (run_tiles word tiles)
     ≡ map (flag_copy (least (clusters (glyphs_of (word ++ tiles))))) (copies font z tiles)
-copies_flagged font z word tiles =
-    search (arith, tiles_are, flag_copies)
+copies_flagged = search (tiles_are, flag_copies)
 
 pub flagged_length : (font : Font) (z : Run) (word tiles : List Cell) → length (copies font z (run_tiles word tiles))
     ≡ length (copies font z tiles)
-flagged_length font z word tiles = search (arith, copies_flagged, length-map, flag_copy)
+flagged_length = search (copies_flagged, length-map)
 
 -- what the run measures, on slices
-abbrev pub measured_slices : Font → ℕ → ℕ → ℕ → List hb_glyph_info_t → List GlyphPosition → Run
+abbrev pub measured_slices : Font → ℕ → ℕ → ℕ → Glyphs → List GlyphPosition → Run
 measured_slices font w t e gs ps = measured font (stretch_of w t ps) (stretch_of t e gs)
 
-pub measured_is : (font : Font) (w t e : ℕ) (gs : List hb_glyph_info_t) (ps : List GlyphPosition) → t ≤ e
+pub measured_is : (font : Font) (w t e : ℕ) (gs : Glyphs) (ps : List GlyphPosition) → t ≤ e
     → e ≤ length gs → length gs ≡ length ps → measured font (stretch_of w t ps) (stretch_of t e gs)
     ≡ measured font (positions_of (stretch_of w t (zip gs ps))) (glyphs_of (stretch_of t e (zip gs ps)))
-measured_is font w t e gs ps p q both =
-    search (arith, stretch_positions, stretch_glyphs)
+measured_is = search (arith, stretch_positions, stretch_glyphs)
 
 -- the copies by the numbers of a run are the run's
 pub copies_same : (font : Font) (z : Run) (lay : Lay) (cs : List Cell) → IsLayOf z lay
     → run_copies font lay cs ≡ copies font z cs
-copies_same font z lay cs is =
-    search arith
+copies_same = search arith
 
 -- the lay that was found
 pub lay_is : (choice : StretchStart) (right_to_left : Bool) (z : Run) (lay : Lay) → lay_if_fits choice right_to_left z
     ≡ Some lay → IsLayOf z lay
-lay_is choice right_to_left z lay e =
-    let found = found_lay choice right_to_left z lay e in search (arith, found.is, found.small.low, found.small.high)
+lay_is choice right_to_left z lay e = let found = found_lay choice right_to_left z lay e in search
 
 pub start_near : (choice : StretchStart) (right_to_left : Bool) (z : Run) (lay : Lay)
     → lay_if_fits choice right_to_left z ≡ Some lay → IsNumber lay.start
-start_near choice right_to_left z lay e =
-    let s = (found_lay choice right_to_left z lay e).small.start in search (arith, s.low, s.high)
+start_near choice right_to_left z lay e = let s = (found_lay choice right_to_left z lay e).small.start in search
 
 pub start_read : (choice : StretchStart) (right_to_left : Bool) (z : Run) (lay : Lay)
     → lay_if_fits choice right_to_left z ≡ Some lay → to_z w64 (of_z w64 lay.start) ≡ lay.start
-start_read choice right_to_left z lay e =
-    search (arith, to_z-of_z, w64, near_fits, start_near)
+start_read = search (to_z-of_z, near_fits, start_near)
 
 pub start_is : (choice : StretchStart) (right_to_left : Bool) (z : Run) (lay : Lay) → lay_if_fits choice right_to_left z
     ≡ Some lay → to_z w64 (of_z w64 lay.start) ≡ start choice right_to_left z
-start_is choice right_to_left z lay e = search (arith, start_read, found_lay)
+start_is = search (arith, start_read)
 
 pub start_read_near : (choice : StretchStart) (right_to_left : Bool) (z : Run) (lay : Lay)
     → lay_if_fits choice right_to_left z ≡ Some lay → IsNumber (to_z w64 (of_z w64 lay.start))
 start_read_near choice right_to_left z lay e =
-    search (arith, start_read choice right_to_left z lay e, start_near choice right_to_left z lay e)
+    search (start_read choice right_to_left z lay e, start_near choice right_to_left z lay e)
 
 -- so its flagged tiles can be laid
-pub run_can : (how : Laying) (word tiles cs : List Cell) (first end place : ℕ) (gs fs : List hb_glyph_info_t)
+pub run_can : (how : Laying) (word tiles cs : List Cell) (first end place : ℕ) (gs fs : Glyphs)
     (ps : List GlyphPosition) (at : ℤ) →
     let z = measured how.font (positions_of word) (glyphs_of tiles) in
     CanLayRun how word tiles first end place gs ps → cs ≡ run_tiles word tiles → length fs ≡ length gs
     → at ≡ start how.choice how.right_to_left z
     → CanLay how.right_to_left (copies how.font z cs) (record { at = at; place = place }) fs ps
-run_can how word tiles cs first end place gs fs ps at can is same from =
-    search (arith, copies_flagged, flag_offsets, laid_is, flagged_length)
+run_can = search (arith, copies_flagged, flag_offsets, laid_is, flagged_length)
 
-pub run_room : (how : Laying) (word tiles cs : List Cell) (first end place : ℕ) (gs : List hb_glyph_info_t)
+pub run_room : (how : Laying) (word tiles cs : List Cell) (first end place : ℕ) (gs : Glyphs)
     (ps : List GlyphPosition) →
     let z = measured how.font (positions_of word) (glyphs_of tiles) in
     CanLayRun how word tiles first end place gs ps → cs ≡ run_tiles word tiles → first + length (copies how.font z cs)
     ≤ place
-run_room how word tiles cs first end place gs ps can is =
-    search (arith, flagged_length)
+run_room = search (arith, flagged_length)
 
 -- what stands then: the word and what stands before it, flagged; the run, laid
-pub run_place : (how : Laying) (word tiles cs : List Cell) (at : ℤ) (place : ℕ) (after : Pen) (old now : List Cell) →
-    let z = measured how.font (positions_of word) (glyphs_of tiles) in
-    cs ≡ run_tiles word tiles
+pub run_place : (how : Laying) (word tiles cs : List Cell) (at : ℤ) (place : ℕ) (after : Pen) (old now : List Cell)
+    → let z = measured how.font (positions_of word) (glyphs_of tiles) in cs ≡ run_tiles word tiles
     → Lays how.right_to_left (copies how.font z cs) (record { at = at; place = place }) after old now
     → after.place + length (copies how.font z tiles) ≡ place
-run_place how word tiles cs at place after old now is laid =
-    search (arith, flagged_length)
+run_place = search (arith, flagged_length)
 
 pub run_laid : (how : Laying) (word tiles cs : List Cell) (at : ℤ) (place : ℕ) (after : Pen) (was old now : List Cell) →
     let z = measured how.font (positions_of word) (glyphs_of tiles) in
     cs ≡ run_tiles word tiles → at ≡ start how.choice how.right_to_left z → drop place old ≡ drop place was
     → Lays how.right_to_left (copies how.font z cs) (record { at = at; place = place }) after old now
     → drop after.place now ≡ reverse (laid_run how z (run_tiles word tiles)) ++ drop place was
-run_laid how word tiles cs at place after was old now is from behind laid =
-    search (arith, laid_is)
+run_laid = search (arith, laid_is)

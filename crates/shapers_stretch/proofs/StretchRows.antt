@@ -3,7 +3,7 @@ use Rattle.std.specs.Prelude.{◌≡◌, ℕ, ◌==◌, ℤ, pos, negsuc, true, 
 use Rattle.shapers_buffer.specs.declared.buffer.category.hb_unicode_general_category_t.{hb_unicode_general_category_t}
 use Rattle.shapers_buffer.specs.declared.buffer.category.hb_unicode_general_category_t.TheVariants.{Cc, Cf, Cn, Co, Cs, Ll, Lm, Lo, Lt, Lu, Mc, Me, Mn, Nd, Nl, No, Pc, Pd, Pe, Pf, Pi, Po, Ps, Sc, Sk, Sm, So, Zl, Zp, Zs}
 use Rattle.shapers_buffer.specs.declared.buffer.glyph.GlyphPosition.{GlyphPosition}
-use Rattle.shapers_buffer.specs.declared.buffer.glyph.hb_glyph_info_t.{hb_glyph_info_t}
+use Rattle.shapers_buffer.specs.Glyphs.{Glyph}
 use Rattle.shapers_buffer.specs.declared.buffer.level.Direction.{Direction}
 use Rattle.shapers_buffer.specs.declared.buffer.level.Direction.TheVariants.{BottomToTop, Invalid, LeftToRight, RightToLeft, TopToBottom}
 use Rattle.shapers_buffer.specs.declared.buffer.refusal.ShaperError.{ShaperError}
@@ -29,7 +29,7 @@ widths n = if n == 2 then pos 100 else if n == 3 then pos 200 else if n == 4 the
 -- a cell by its glyph, its cluster, its category, its action and its advance; other fields are set, to be kept
 abbrev cell : ℕ → ℕ → hb_unicode_general_category_t → ℕ → ℤ → Cell
 cell n cluster category action advance =
-    let g : hb_glyph_info_t =
+    let g : Glyph =
     record {
       glyph_id = n;
       cluster = cluster;
@@ -59,20 +59,19 @@ repeating_tile = cell 3 0 Lo 9 (pos 200)
 
 -- the same cell, with these mask bits, and laid at this offset
 abbrev flags : ℕ → Cell → Cell
-flags mask c = let g : hb_glyph_info_t = record c.0 { mask = mask } in (g, c.1)
+flags mask c = let g : Glyph = record c.0 { mask = mask } in (g, c.1)
 
 abbrev at : ℤ → Cell → Cell
 at x c = let p : GlyphPosition = record c.1 { x_advance = pos 0; x_offset = x } in (c.0, p)
 
 abbrev pub text : Direction → List Cell → Buffer
-text direction cs =
-    record (new_buffer 99) {
-      glyphs = map (λ c. c.0) cs;
-      positions = map (λ c. c.1) cs;
-      direction = direction;
-      stch =
-          true;
-    }
+text direction cs = record (new_buffer 99) {
+  glyphs = map (λ c. c.0) cs;
+  positions = map (λ c. c.1) cs;
+  direction = direction;
+  stch =
+      true;
+}
 
 abbrev after : StretchStart → Buffer → List Cell
 after choice b = cells (marks_stretched (font widths) choice b)
@@ -220,7 +219,7 @@ its_rest = refl
 -- an undrawn space is of the word unless a lookup put it in; 0x0021 is ignorable, and 0x10 substituted
 abbrev undrawn : ℕ → ℕ → Cell
 undrawn unicode_props glyph_props =
-    let g : hb_glyph_info_t =
+    let g : Glyph =
     record default_glyph {
       unicode_props = record { 0 = unicode_props };
       glyph_props = record { 0 = glyph_props };

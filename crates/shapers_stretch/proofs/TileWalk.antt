@@ -1,12 +1,11 @@
 -- The walk over the tiles of a run, from its last to its first.
-use Rattle.shapers_stretch.proofs.Pen.{no_move}
 use Rattle.std.proofs.Common.{◌≡◌, ◌≤◌, ◌<◌, ◌+◌, ◌-◌, ℕ, zero, suc, Bool, List, [], ◌∷◌, ◌++◌, length, take, drop, get_or, reverse, flat_map, refl, arith, subst}
 use Rattle.std.specs.List.{zip, AllByRecursion}
 use Rattle.std.proofs.lemmas.List.{append-nil, length-append, length-drop, length-take-le, take_more, reverse-append}
 use Rattle.std.proofs.lemmas.List.Concat.{flat_map-append}
 use Rattle.std.proofs.lemmas.Slice.Zip.{get_or-zip}
 use Rattle.shapers_buffer.specs.declared.buffer.glyph.GlyphPosition.{GlyphPosition}
-use Rattle.shapers_buffer.specs.declared.buffer.glyph.hb_glyph_info_t.{hb_glyph_info_t}
+use Rattle.shapers_buffer.specs.Glyphs.{Glyph, Glyphs}
 use Rattle.shapers_buffer.specs.Clusters.{stretch_of}
 use Rattle.shapers_base.specs.Font.{Font}
 use Rattle.shapers_stretch.specs.declared.ot_shaper_arabic_stretch.tiles.Pen.{Pen}
@@ -20,7 +19,7 @@ use Rattle.shapers_stretch.proofs.Zips.{length-zipped}
 
 -- The tiles from i to the end are laid, and those from the first to i can be, which stand yet.
 pub record TilesLeft (right_to_left : Bool) (font : Font) (lay : Lay) (first end i : ℕ) (start pen : Pen)
-    (old : List Cell) (gs : List hb_glyph_info_t) (ps : List GlyphPosition) : Type 0 where
+    (old : List Cell) (gs : Glyphs) (ps : List GlyphPosition) : Type 0 where
   pub from : first ≤ i
   pub to : i ≤ end
   pub both : length gs ≡ length ps
@@ -35,22 +34,21 @@ reverse_cons x xs = reverse-append (x ∷ []) xs
 
 pushed : (f : Cell → List Copy) (c : Cell) (cs : List Cell) → flat_map f (reverse (c ∷ cs)) ≡ flat_map f (reverse cs)
     ++ f c
-pushed f c cs = search (arith, reverse_cons, flat_map-append, append-nil)
+pushed = search (reverse_cons, flat_map-append, append-nil)
 
 pub copies-push : (font : Font) (z : Run) (c : Cell) (cs : List Cell)
     → copies font z (c ∷ cs) ≡ copies font z cs ++ copies_of font z c
-copies-push font z c cs = search (arith, pushed)
+copies-push = search pushed
 
 next : (n m : ℕ) → suc (n + m) ≡ suc n + m
-next n m = omega arith
+next = omega arith
 
 get_none : {X : Type 0} (n : ℕ) (d : X) → get_or [] n d ≡ d
-get_none zero d = refl
-get_none (suc n) d = refl
+get_none _ d = refl
 
 get_dropped : {X : Type 0} (s n : ℕ) (xs : List X) (d : X) → get_or (drop s xs) n d ≡ get_or xs (s + n) d
 get_dropped zero n xs d = search arith
-get_dropped (suc s) n [] d = search (arith, get_none)
+get_dropped (suc s) n [] d = search
 get_dropped (suc s) n (x ∷ xs) d = cc (get_dropped s n xs d, next s n)
 
 -- a stretch with its last and its first element
@@ -68,9 +66,7 @@ drop_first (suc i) (x ∷ xs) d p = drop_first i xs d (omega arith)
 stretch_first : {X : Type 0} (i e : ℕ) (xs : List X) (d : X) → 0 < i → i ≤ e → e ≤ length xs
     → stretch_of (i - 1) e xs ≡ get_or xs (i - 1) d ∷ stretch_of i e xs
 stretch_first zero e xs d p q r = absurd (omega arith)
-stretch_first (suc i) e xs d p q r =
-    let more : e - i ≡ suc (e - suc i) = omega arith in
-    search (arith, drop_first)
+stretch_first (suc i) e xs d p q r = let more : e - i ≡ suc (e - suc i) = omega arith in search (arith, drop_first)
 
 -- what stands before the pen's place is as it was
 get_taken : {X : Type 0} (i p : ℕ) (xs : List X) (d : X) → i < p → get_or (take p xs) i d ≡ get_or xs i d
@@ -79,30 +75,27 @@ get_taken i (suc p) [] d h = refl
 get_taken zero (suc p) (x ∷ xs) d h = refl
 get_taken (suc i) (suc p) (x ∷ xs) d h = get_taken i p xs d (omega arith)
 
-pub number_at : (P : hb_glyph_info_t → Type 0) (end : ℕ) (gs : List hb_glyph_info_t) (i : ℕ) (d : hb_glyph_info_t)
+pub number_at : (P : Glyph → Type 0) (end : ℕ) (gs : Glyphs) (i : ℕ) (d : Glyph)
     → AllByRecursion P (take end gs) → i < end → i < length gs → P (get_or gs i d)
-number_at P zero gs i d all h w = absurd (omega arith)
-number_at P (suc end) [] i d all h w = absurd (omega arith)
 number_at P (suc end) (g ∷ gs) zero d all h w = all.0
 number_at P (suc end) (g ∷ gs) (suc i) d all h w = number_at P end gs i d all.1 (omega arith) (omega arith)
+number_at P _ _ i d all h w = absurd (omega arith)
 
 copies_many : (font : Font) (lay : Lay) (cs : List Cell) → length cs ≤ length (run_copies font lay cs)
 copies_many font lay [] = omega arith
-copies_many font lay (c ∷ cs) =
-    search (arith, pushed, length-append, copies_many font lay cs)
+copies_many font lay (c ∷ cs) = search (arith, pushed, length-append, copies_many font lay cs)
 
 -- the start: all tiles are left
 pub tiles_start : (right_to_left : Bool) (font : Font) (lay : Lay) (first end : ℕ) (pen : Pen)
-    (gs : List hb_glyph_info_t) (ps : List GlyphPosition) → first ≤ end → end ≤ length gs → length gs ≡ length ps
+    (gs : Glyphs) (ps : List GlyphPosition) → first ≤ end → end ≤ length gs → length gs ≡ length ps
     → CanLay right_to_left (run_copies font lay (stretch_of first end (zip gs ps))) pen gs ps
     → first + length (run_copies font lay (stretch_of first end (zip gs ps))) ≤ pen.place
     → TilesLeft right_to_left font lay first end end pen pen (zip gs ps) gs ps
-tiles_start right_to_left font lay first end pen gs ps p q both can room =
-    search (arith, length-zipped, no_move)
+tiles_start = search (arith, length-zipped)
 
 -- there is a tile before i, it stands yet, and can be laid
 pub tile_left : (right_to_left : Bool) (font : Font) (lay : Lay) (first end i : ℕ) (start pen : Pen) (old : List Cell)
-    (gs : List hb_glyph_info_t) (ps : List GlyphPosition) (g : hb_glyph_info_t) (q : GlyphPosition) → first < i
+    (gs : Glyphs) (ps : List GlyphPosition) (g : Glyph) (q : GlyphPosition) → first < i
     → TilesLeft right_to_left font lay first end i start pen old gs ps → (get_or gs (i - 1) g, get_or ps (i - 1) q)
     ≡ get_or old (i - 1) (g, q)
 tile_left right_to_left font lay first end i start pen old gs ps g q p t =
@@ -111,20 +104,19 @@ tile_left right_to_left font lay first end i start pen old gs ps g q p t =
     search (arith, get_or-zip, get_taken)
 
 tile_cell : (right_to_left : Bool) (font : Font) (lay : Lay) (first end i : ℕ) (start pen : Pen) (old : List Cell)
-    (gs : List hb_glyph_info_t) (ps : List GlyphPosition) (g : hb_glyph_info_t) (q : GlyphPosition) → first < i
+    (gs : Glyphs) (ps : List GlyphPosition) (g : Glyph) (q : GlyphPosition) → first < i
     → TilesLeft right_to_left font lay first end i start pen old gs ps → run_copies font lay (stretch_of first i old)
     ≡ copies_by font lay (get_or gs (i - 1) g, get_or ps (i - 1) q)
     ++ run_copies font lay (stretch_of first (i - 1) old)
-tile_cell right_to_left font lay first end i start pen old gs ps g q p t =
-    search (
-      arith,
-      stretch_last first i old (g, q) p (omega (arith, t.to, t.within)),
-      reverse-append,
-      tile_left right_to_left font lay first end i start pen old gs ps g q p t,
-    )
+tile_cell right_to_left font lay first end i start pen old gs ps g q p t = search (
+  arith,
+  stretch_last first i old (g, q) p (omega arith),
+  reverse-append,
+  tile_left right_to_left font lay first end i start pen old gs ps g q p t,
+)
 
 pub tile_can : (right_to_left : Bool) (font : Font) (lay : Lay) (first end i : ℕ) (start pen : Pen) (old : List Cell)
-    (gs : List hb_glyph_info_t) (ps : List GlyphPosition) (g : hb_glyph_info_t) (q : GlyphPosition) → first < i
+    (gs : Glyphs) (ps : List GlyphPosition) (g : Glyph) (q : GlyphPosition) → first < i
     → TilesLeft right_to_left font lay first end i start pen old gs ps
     → CanLay right_to_left (copies_by font lay (get_or gs (i - 1) g, get_or ps (i - 1) q)) pen gs ps
 tile_can right_to_left font lay first end i start pen old gs ps g q p t =
@@ -133,7 +125,7 @@ tile_can right_to_left font lay first end i start pen old gs ps g q p t =
 
 -- it is laid
 pub tile_next : (right_to_left : Bool) (font : Font) (lay : Lay) (first end i : ℕ) (start pen after : Pen)
-    (old : List Cell) (gs hs : List hb_glyph_info_t) (ps qs : List GlyphPosition) (g : hb_glyph_info_t)
+    (old : List Cell) (gs hs : Glyphs) (ps qs : List GlyphPosition) (g : Glyph)
     (q : GlyphPosition) → first < i → TilesLeft right_to_left font lay first end i start pen old gs ps
     → Lays right_to_left (copies_by font lay (get_or gs (i - 1) g, get_or ps (i - 1) q)) pen after (zip gs ps)
     (zip hs qs) → length hs ≡ length gs → length hs ≡ length qs
@@ -142,8 +134,6 @@ tile_next right_to_left font lay first end i start pen after old gs hs ps qs g q
     let left = run_copies font lay (stretch_of first (i - 1) old) in
     search (
       arith,
-      t.to,
-      t.same,
       can_rest right_to_left (copies_by font lay (get_or gs (i - 1) g, get_or ps (i - 1) q)) left pen after gs hs ps
           qs (zip gs ps) (zip hs qs)
           (subst (λ copies. CanLay right_to_left copies pen gs ps) (tile_cell right_to_left font lay first end i
@@ -154,21 +144,18 @@ tile_next right_to_left font lay first end i start pen after old gs hs ps qs g q
       lays_then right_to_left (run_copies font lay (stretch_of i end old))
           (copies_by font lay (get_or gs (i - 1) g, get_or ps (i - 1) q)) start pen after old (zip gs ps) (zip hs qs)
           t.lays laid,
-      t.room,
-      laid.place,
       tile_cell right_to_left font lay first end i start pen old gs ps g q p t,
       length-append (copies_by font lay (get_or gs (i - 1) g, get_or ps (i - 1) q)) left,
-      t.within,
     )
 
 -- its glyph number is in range
 pub tile_number : (right_to_left : Bool) (font : Font) (lay : Lay) (first end i : ℕ) (start pen : Pen)
-    (was gs : List hb_glyph_info_t) (before ps : List GlyphPosition) (g : hb_glyph_info_t) (q : GlyphPosition)
+    (was gs : Glyphs) (before ps : List GlyphPosition) (g : Glyph) (q : GlyphPosition)
     → first < i → TilesLeft right_to_left font lay first end i start pen (zip was before) gs ps
     → length was ≡ length before → AllByRecursion (λ g. g.glyph_id ≤ 65535) (take end was)
     → (get_or gs (i - 1) g).glyph_id ≤ 65535
 tile_number right_to_left font lay first end i start pen was gs before ps g q p t both all =
-    let within : i - 1 < length was = omega (arith, t.to, t.within, length-zipped was before both) in
+    let within : i - 1 < length was = omega (arith, length-zipped was before both) in
     search (
       arith,
       tile_left right_to_left font lay first end i start pen (zip was before) gs ps g q p t,

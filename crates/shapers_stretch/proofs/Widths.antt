@@ -1,7 +1,7 @@
 -- The law of widths.
-use Rattle.std.proofs.Common.{◌≡◌, ℕ, zero, suc, ◌+◌, ◌-◌, ◌*◌, ◌/◌, ◌%◌, ◌<◌, ◌≤◌, ℤ, pos, negsuc, ◌+ℤ◌, ◌-ℤ◌, ◌*ℤ◌, ◌≤ℤ◌, ◌<ℤ◌, nat_abs, int_lt, int_div, Bool, true, false, cond, ◌&&◌, nat_lt, ◌⊎◌, inl, inr, subst, refl, sym, ◌∙◌, ap, arith, suc-mul, mul-zero, mul-pos}
+use Rattle.std.proofs.Common.{◌≡◌, ℕ, zero, suc, ◌+◌, ◌-◌, ◌*◌, ◌/◌, ◌%◌, ◌<◌, ◌≤◌, ℤ, pos, ◌+ℤ◌, ◌-ℤ◌, ◌*ℤ◌, ◌≤ℤ◌, ◌<ℤ◌, nat_abs, int_lt, int_div, Bool, true, false, cond, ◌&&◌, nat_lt, ◌⊎◌, inl, inr, subst, refl, sym, ◌∙◌, ap, arith, mul-pos}
 use Rattle.std.proofs.lemmas.Int.{ints}
-use borrow.Author.Tests.{ltb-true, ltb-false, lt-true}
+use borrow.Author.Tests.{ltb-true, ltb-false}
 use Rattle.shapers_stretch.specs.declared.ot_shaper_arabic_stretch.measuring.Run.{Run}
 use Rattle.shapers_stretch.specs.Measure.{fit, left, falls_short}
 use Rattle.shapers_stretch.specs.StretchLaws.{TilesFit, CoversTheWord}
@@ -10,9 +10,8 @@ use lib.IntN.{pos-*ℤ-pos, *ℤ-zero}
 -- the quotient x of M by R, of which at least one fits
 fits_times : (R M x rem : ℕ) → suc R * x + rem ≡ M → rem < suc R → suc R ≤ M → (suc (x - 1) * suc R ≤ M)
     × (M < suc (x - 1) * suc R + suc R)
-fits_times R M zero rem e l h = search (arith, mul-zero)
-fits_times R M (suc y) rem e l h =
-    search arith
+fits_times R M zero = search arith
+fits_times R M (suc y) = search arith
 
 abbrev fit_if : Bool → ℕ → ℕ → ℕ
 fit_if b R M = cond (b && true) (M / suc R - 1) 0
@@ -20,19 +19,17 @@ fit_if b R M = cond (b && true) (M / suc R - 1) 0
 fit_if_bounds : (b : Bool) (R M : ℕ) → (b ≡ true → suc R < M) → (b ≡ false → M ≤ suc R) → suc R ≤ M
     → (suc (fit_if b R M) * suc R ≤ M) × (M < suc (fit_if b R M) * suc R + suc R)
 fit_if_bounds true R M above most h = fits_times R M (M / suc R) (M % suc R) (omega arith) (omega arith) h
-fit_if_bounds false R M above most h = search (arith, suc-mul)
+fit_if_bounds false R M above most h = search arith
 
 pub fit_bounds : (r m : ℤ) → pos 0 <ℤ r → r ≤ℤ m → ((pos (suc (fit r m)) *ℤ r) ≤ℤ m)
     × (m <ℤ (pos (suc (fit r m)) *ℤ r +ℤ r))
-fit_bounds (pos zero) m p h = search (arith, ints)
-fit_bounds (negsuc n) m p h = search (arith, ints)
-fit_bounds (pos (suc R)) (negsuc n) p h = search (arith, ints)
 fit_bounds (pos (suc R)) (pos M) p h =
     let b = fit_if_bounds (nat_lt (suc R) M) R M (λ e. ltb-true (suc R) M e) (λ e. ltb-false (suc R) M e)
     (omega (arith, ints)) in
     let same : fit (pos (suc R)) (pos M) ≡ fit_if (nat_lt (suc R) M) R M =
-    search (arith, lt-true) in
+    search arith in
     search (arith, ints)
+fit_bounds _ _ p h = search
 
 -- a run whose added copies reach too far by a number E above 0
 abbrev overlap_if : Bool → ℤ → ℕ → ℤ
@@ -42,7 +39,7 @@ abbrev Covers : ℤ → ℤ → ℕ → Type 0
 Covers word w n = (word ≤ℤ w) × ((w ≡ word) ⊎ (w <ℤ (word +ℤ pos n)))
 
 over_is : (E N : ℕ) → overlap_if true (pos (suc E)) N ≡ pos (suc E / N)
-over_is E N = search (arith, lt-true)
+over_is E N = search arith
 
 squeezed : (f left ex reach : ℤ) (E N : ℕ) → 0 < N → ex ≡ pos (suc E) → reach ≡ left +ℤ ex
     → Covers (left +ℤ f) ((f +ℤ reach) -ℤ pos N *ℤ overlap_if true ex N) N
@@ -55,8 +52,7 @@ squeezed f left ex reach E N p e h =
     subst P (sym e) at h
 
 above_zero : (x : ℤ) → pos 0 <ℤ x → x ≡ pos (suc (nat_abs x - 1))
-above_zero (pos n) p = search (arith, ints)
-above_zero (negsuc n) p = search (arith, ints)
+above_zero _ = search arith
 
 -- the copies that fit leave less than one more: where that is something and there is a tile, one
 -- more round reaches over it
@@ -68,11 +64,8 @@ covered : (f left r : ℤ) (q k : ℕ) (short : Bool) → 0 < k → (pos (suc q)
 covered f left r q k true p low high more none =
     let E = nat_abs (pos (suc (suc q)) *ℤ r -ℤ left) - 1 in
     let is : pos (suc (suc q)) *ℤ r -ℤ left ≡ pos (suc E) = above_zero _ (omega (arith, ints)) in
-    search (
-      arith,
-      squeezed f left (pos (suc (suc q)) *ℤ r -ℤ left) (pos (suc (suc q)) *ℤ r) E (suc q * k)
-          (mul-pos (omega arith) p) is (omega (arith, ints)),
-    )
+    search (squeezed f left (pos (suc (suc q)) *ℤ r -ℤ left) (pos (suc (suc q)) *ℤ r) E (suc q * k)
+    (mul-pos (omega arith) p) is (omega (arith, ints)))
 covered f left r q k false p low high more none =
     let exactly : left ≤ℤ (pos (suc q) *ℤ r) = none refl in
     let nothing : pos (q * k) *ℤ overlap_if false (pos (suc q) *ℤ r -ℤ left) (q * k) ≡ pos 0 = *ℤ-zero (pos (q * k)) in
@@ -80,11 +73,11 @@ covered f left r q k false p low high more none =
 
 -- what it means that copies fall short: where b is the test of what is left, and c that there is a tile
 short_above : (rest : ℤ) (k : ℕ) {P : Type 0} → (int_lt (pos 0) rest && nat_lt 0 k) ≡ true → (pos 0 <ℤ rest → P) → P
-short_above rest k e then = then (grind (arith, ints))
+short_above rest k e then = then (grind arith)
 
 short_most : (rest : ℤ) (k : ℕ) {P : Type 0} → 0 < k → (int_lt (pos 0) rest && nat_lt 0 k) ≡ false → (rest ≤ℤ pos 0 → P)
     → P
-short_most rest k some e then = then (grind (arith, ints))
+short_most rest k some e then = then (grind arith)
 
 pub covers : (z : Run) → 0 < z.repeaters → TilesFit z → CoversTheWord z
 covers z some fits =

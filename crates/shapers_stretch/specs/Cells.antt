@@ -5,7 +5,7 @@ use Rattle.std.specs.List.{onto_first}
 use Rattle.shapers_buffer.specs.declared.buffer.category.hb_unicode_general_category_t.{hb_unicode_general_category_t}
 use Rattle.shapers_buffer.specs.declared.buffer.category.hb_unicode_general_category_t.TheVariants.{Cn, Co, Lm, Lo, Mc, Me, Mn, Nd, Nl, No, Sc, Sk, Sm, So}
 use Rattle.shapers_buffer.specs.declared.buffer.glyph.GlyphPosition.{GlyphPosition}
-use Rattle.shapers_buffer.specs.declared.buffer.glyph.hb_glyph_info_t.{hb_glyph_info_t}
+use Rattle.shapers_buffer.specs.Glyphs.{Glyph, Glyphs}
 use Rattle.shapers_buffer.specs.Lists.{last_run, before_last_run}
 use Rattle.shapers_buffer.specs.Properties.{general_category, is_ignorable, is_substituted}
 use Rattle.shapers_arabic.specs.declared.ot_shaper_arabic.arabic_action_t.TheConstants.{STRETCHING_FIXED, STRETCHING_REPEATING}
@@ -13,20 +13,20 @@ use Rattle.std.specs.Prelude.{true}
 
 -- a glyph with its position
 abbrev pub Cell : Type 0
-Cell = hb_glyph_info_t × GlyphPosition
+Cell = Glyph × GlyphPosition
 
 -- the glyphs and the positions of cells
-abbrev pub glyphs_of : List Cell → List hb_glyph_info_t
+abbrev pub glyphs_of : List Cell → Glyphs
 glyphs_of cs = map (λ c. c.0) cs
 
 abbrev pub positions_of : List Cell → List GlyphPosition
 positions_of cs = map (λ c. c.1) cs
 
 -- whether a glyph is a tile, and whether it is one that repeats
-abbrev pub is_tile : hb_glyph_info_t → Bool
+abbrev pub is_tile : Glyph → Bool
 is_tile g = g.auxiliary == STRETCHING_FIXED || g.auxiliary == STRETCHING_REPEATING
 
-abbrev pub repeats : hb_glyph_info_t → Bool
+abbrev pub repeats : Glyph → Bool
 repeats g = g.auxiliary == STRETCHING_REPEATING
 
 -- the general categories of words, without the cased letters
@@ -48,7 +48,7 @@ is_word_category So = true
 is_word_category _ = false
 
 -- whether a glyph can be of the word before a run: no tile, undrawn by nature or of such a category
-abbrev pub in_word : hb_glyph_info_t → Bool
+abbrev pub in_word : Glyph → Bool
 in_word g = not (is_tile g)
     && (is_ignorable g.unicode_props && not (is_substituted g.glyph_props)
     || is_word_category (general_category g.unicode_props))

@@ -2,7 +2,7 @@
 -- far it has come.
 use Rattle.std.specs.Prelude.{◌≡◌, ◌≤◌, ◌+◌, ◌^◌, ◌≤ℤ◌, ℕ, ℤ, pos, negsuc, ◌+ℤ◌, ◌-ℤ◌, ◌*ℤ◌, Bool, ◌&&◌, true, false, List, [], ◌∷◌, length, reverse, take, flat_map, replicate, Option, None, Some, if◌then◌else◌}
 use Rattle.std.specs.List.{list_all}
-use Rattle.shapers_buffer.specs.declared.buffer.glyph.hb_glyph_info_t.{hb_glyph_info_t}
+use Rattle.shapers_buffer.specs.Glyphs.{Glyph, Glyphs}
 use Rattle.shapers_base.specs.declared.plan.arabic.StretchStart.{StretchStart}
 use Rattle.shapers_buffer.specs.declared.buffer.refusal.ShaperError.{ShaperError}
 use Rattle.shapers_buffer.specs.declared.buffer.refusal.ShaperError.TheVariants.{StretchOverflow}
@@ -36,12 +36,12 @@ offsets_on right_to_left pen (move ∷ moves) =
     ∷ offsets_on right_to_left (pen_behind right_to_left pen move) moves
 
 -- how far the copies of a tile move it, and those of a run
-abbrev pub moves_of : Font → Lay → hb_glyph_info_t → List ℤ
+abbrev pub moves_of : Font → Lay → Glyph → List ℤ
 moves_of font lay g =
     let width = width_of font g in
     width ∷ (if repeats g then replicate lay.added (width -ℤ lay.overlap) else [])
 
-abbrev pub run_moves : Font → Lay → List hb_glyph_info_t → List ℤ
+abbrev pub run_moves : Font → Lay → Glyphs → List ℤ
 run_moves font lay tiles = flat_map (moves_of font lay) (reverse tiles)
 
 -- whether the offsets of copies fit 32 bits
@@ -70,7 +70,7 @@ WalksPen right_to_left pen moves (Some behind) =
     × (behind ≡ pen_behind right_to_left pen (total moves)) × IsNumber behind
 
 -- how many copies a run adds, unless a number of it doesn't fit
-abbrev pub run_added : StretchStart → Bool → Font → Run → List hb_glyph_info_t → Option ℕ
+abbrev pub run_added : StretchStart → Bool → Font → Run → Glyphs → Option ℕ
 run_added choice right_to_left font z tiles =
     if list_all fits_i32 (numbers_to_fit choice z)
     && offsets_fit right_to_left (start choice right_to_left z)

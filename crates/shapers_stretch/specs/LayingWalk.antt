@@ -2,7 +2,7 @@
 use Rattle.std.specs.Prelude.{◌≡◌, ◌≤◌, ◌≤ℤ◌, ◌^◌, pos, ◌+◌, ◌-ℤ◌, ◌++◌, ℕ, ℤ, Bool, true, false, if◌then◌else◌, List, [], ◌∷◌, length, map, flat_map, replicate, reverse, take, drop}
 use Rattle.std.specs.List.{AllByRecursion, list_all, zip}
 use Rattle.shapers_buffer.specs.declared.buffer.glyph.GlyphPosition.{GlyphPosition}
-use Rattle.shapers_buffer.specs.declared.buffer.glyph.hb_glyph_info_t.{hb_glyph_info_t}
+use Rattle.shapers_buffer.specs.Glyphs.{Glyphs}
 use Rattle.shapers_base.specs.declared.plan.arabic.StretchStart.{StretchStart}
 use Rattle.shapers_base.specs.Font.{Font}
 use Rattle.shapers_stretch.specs.Cells.{Cell, glyphs_of, positions_of, repeats}
@@ -25,8 +25,8 @@ abbrev pub offsets : List Cell → List ℤ
 offsets cs = map (λ c. c.1.x_offset) cs
 
 -- These copies can be laid before the pen's place: there is room for them, and their offsets fit.
-pub record CanLay (right_to_left : Bool) (copies : List Copy) (pen : Pen) (gs : List
-    hb_glyph_info_t) (ps : List GlyphPosition) : Type 0 where
+pub record CanLay (right_to_left : Bool) (copies : List Copy) (pen : Pen) (gs : Glyphs)
+    (ps : List GlyphPosition) : Type 0 where
   pub fits : list_all fits_i32 (offsets (laid_on right_to_left pen.at copies)) ≡ true
   pub room : length copies ≤ pen.place
   pub within : pen.place ≤ length gs
@@ -48,12 +48,12 @@ laying_by font choice right_to_left =
     record { font = font; choice = choice; right_to_left = right_to_left }
 
 -- the text in the first cells of slices
-abbrev pub text_in_slices : ℕ → List hb_glyph_info_t → List GlyphPosition → List Cell
+abbrev pub text_in_slices : ℕ → Glyphs → List GlyphPosition → List Cell
 text_in_slices end gs ps = take end (zip gs ps)
 
 -- The text before `end` is unlaid: stretched it fills the places before `place`, and reading is
 -- ahead.
-pub record IsUnlaid (how : Laying) (gs : List hb_glyph_info_t) (ps : List GlyphPosition) (end place
+pub record IsUnlaid (how : Laying) (gs : Glyphs) (ps : List GlyphPosition) (end place
     : ℕ) : Type 0 where
   pub both : length gs ≡ length ps
   pub room : length (stretched how (text_in_slices end gs ps)) ≡ place
@@ -63,19 +63,19 @@ pub record IsUnlaid (how : Laying) (gs : List hb_glyph_info_t) (ps : List GlyphP
   pub fits : overflows how (text_in_slices end gs ps) ≡ false
 
 -- what the unlaid text becomes, and what stands behind it
-abbrev pub stretched_whole : Laying → List hb_glyph_info_t → List GlyphPosition → ℕ → ℕ → List Cell
+abbrev pub stretched_whole : Laying → Glyphs → List GlyphPosition → ℕ → ℕ → List Cell
 stretched_whole how gs ps end place =
     stretched how (text_in_slices end gs ps) ++ drop place (zip gs ps)
 
 -- in the middle of laying the whole: the writer never overtakes the reader
-pub record IsLaidFrom (how : Laying) (whole : List Cell) (gs : List hb_glyph_info_t) (ps : List
+pub record IsLaidFrom (how : Laying) (whole : List Cell) (gs : Glyphs) (ps : List
     GlyphPosition) (end place : ℕ) : Type 0 where
   pub left : IsUnlaid how gs ps end place
   pub joined : stretched_whole how gs ps end place ≡ whole
 
 -- The first cells of these slices are a text that stretched fills them: glyph numbers are in range,
 -- and no number of it overflows.
-pub record HasRoomForTiles (how : Laying) (gs : List hb_glyph_info_t) (ps : List GlyphPosition)
+pub record HasRoomForTiles (how : Laying) (gs : Glyphs) (ps : List GlyphPosition)
     (len : ℕ) : Type 0 where
   pub both : length gs ≡ length ps
   pub in_range : len ≤ length gs
@@ -105,8 +105,8 @@ pub record IsLayOf (z : Run) (lay : Lay) : Type 0 where
 
 -- What stands before `tiles` and what stands from there to `end` in slices: a word and its run,
 -- where no number overflows and where there is room for the run's copies before `place`.
-pub record CanLayRun (how : Laying) (word tiles : List Cell) (first end place : ℕ) (gs : List
-    hb_glyph_info_t) (ps : List GlyphPosition) : Type 0 where
+pub record CanLayRun (how : Laying) (word tiles : List Cell) (first end place : ℕ) (gs : Glyphs)
+    (ps : List GlyphPosition) : Type 0 where
   pub order : first ≤ end
   pub ahead : end ≤ place
   pub within : place ≤ length gs

@@ -1,7 +1,7 @@
 -- Which glyphs are the tiles of a mark that stretches. (OpenType `stch`.)
 use Rattle.std.specs.Prelude.{ℕ, ◌%◌, ◌==◌, Bool, ◌||◌, map, if◌then◌else◌}
 use Rattle.std.specs.List.{list_any}
-use Rattle.shapers_buffer.specs.declared.buffer.glyph.hb_glyph_info_t.{hb_glyph_info_t}
+use Rattle.shapers_buffer.specs.Glyphs.{Glyph}
 use Rattle.shapers_buffer.specs.Buffer.{Buffer}
 use Rattle.shapers_buffer.specs.Properties.{component, is_multiplied}
 use Rattle.shapers_base.specs.declared.plan.PlanData.{PlanData}
@@ -16,7 +16,7 @@ abbrev pub tile_action : ℕ → ℕ
 tile_action component = if component % 2 == 1 then STRETCHING_REPEATING else STRETCHING_FIXED
 
 -- a multiplied glyph with the action of its tile; any other as it is
-abbrev pub recorded : hb_glyph_info_t → hb_glyph_info_t
+abbrev pub recorded : Glyph → Glyph
 recorded g =
     if is_multiplied g.glyph_props then record g { auxiliary = tile_action (component g.lig_props) }
     else g

@@ -3,7 +3,7 @@
 use Rattle.std.specs.Prelude.{ℕ, nat_lt, ℤ, pos, ◌+ℤ◌, ◌-ℤ◌, Bool, not, ◌&&◌, List, [], ◌∷◌, ◌++◌, length, map, filter, flat_map, replicate, reverse, take, drop, Option, None, Some, if◌then◌else◌}
 use Rattle.std.specs.List.{list_all, list_any, sum_by, zip}
 use Rattle.shapers_buffer.specs.declared.buffer.glyph.GlyphPosition.{GlyphPosition}
-use Rattle.shapers_buffer.specs.declared.buffer.glyph.hb_glyph_info_t.{hb_glyph_info_t}
+use Rattle.shapers_buffer.specs.Glyphs.{Glyph, Glyphs}
 use Rattle.shapers_buffer.specs.declared.buffer.level.Direction.{Direction}
 use Rattle.shapers_buffer.specs.declared.buffer.level.Direction.TheVariants.{RightToLeft}
 use Rattle.shapers_buffer.specs.declared.buffer.refusal.ShaperError.{ShaperError}
@@ -25,18 +25,18 @@ pub record Laying : Type 0 where
   pub right_to_left : Bool
 
 -- how far a glyph of the font moves the pen
-abbrev pub width_of : Font → hb_glyph_info_t → ℤ
+abbrev pub width_of : Font → Glyph → ℤ
 width_of font g = font.advance (record { 0 = g.glyph_id })
 
 -- the tiles of a run that repeat, and those that don't
-abbrev pub repeating : List hb_glyph_info_t → List hb_glyph_info_t
+abbrev pub repeating : Glyphs → Glyphs
 repeating tiles = filter repeats tiles
 
-abbrev pub fixed : List hb_glyph_info_t → List hb_glyph_info_t
+abbrev pub fixed : Glyphs → Glyphs
 fixed tiles = filter (λ g. not (repeats g)) tiles
 
 -- what tiles and the word before them measure
-abbrev pub measured : Font → List GlyphPosition → List hb_glyph_info_t → Run
+abbrev pub measured : Font → List GlyphPosition → Glyphs → Run
 measured font word tiles = record {
   word = total (map (λ p. p.x_advance) word);
   fixed = total (map (width_of font) (fixed tiles));

@@ -1,7 +1,7 @@
 -- The law of widths: how wide the laid stretches of a text are, read from the text after.
 use Rattle.std.specs.Prelude.{◌≡◌, ℕ, true, false, List, [], ◌++◌, length, map, flat_map, replicate, reverse, pos, ℤ, ◌+ℤ◌, ◌≤ℤ◌, ◌<ℤ◌, ◌⊎◌, ◌+◌}
 use Rattle.std.specs.List.{AllByRecursion, AllZip, Contains}
-use Rattle.shapers_buffer.specs.declared.buffer.glyph.hb_glyph_info_t.{hb_glyph_info_t}
+use Rattle.shapers_buffer.specs.Glyphs.{Glyph, Glyphs}
 use Rattle.shapers_buffer.specs.Buffer.{Buffer}
 use Rattle.shapers_buffer.specs.Lists.{each_after}
 use Rattle.shapers_base.specs.declared.plan.arabic.StretchStart.{StretchStart}
@@ -79,7 +79,7 @@ IsLaidOver font choice old new =
     TextIsLaid (laying font choice old) (cells_in_order old) (cells_in_order new)
 
 -- each glyph is a copy of an old one, with its cluster and its glyph flags, and maybe others
-abbrev pub AreCopies : List hb_glyph_info_t → List hb_glyph_info_t → Type 0
+abbrev pub AreCopies : Glyphs → Glyphs → Type 0
 AreCopies olds news =
     AllByRecursion
-    (λ new. (old : hb_glyph_info_t) × (Contains olds old × FlagsAdded old new)) news
+    (λ new. (old : Glyph) × (Contains olds old × FlagsAdded old new)) news

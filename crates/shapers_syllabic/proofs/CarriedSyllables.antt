@@ -2,9 +2,9 @@
 use Rattle.std.proofs.Common.{ℕ, inl, inr, ◌⊎◌, ◌+◌, ◌-◌, ◌<◌, ◌≤◌, ◌≡◌, List, [], ◌∷◌, ◌++◌, map, length, take, drop, refl, sym, ◌∙◌, ap, subst, arith, length-take}
 use Rattle.std.specs.Prelude.{Bool, false, Option}
 use Rattle.std.specs.List.{list_any}
-use Rattle.std.proofs.lemmas.List.{drop-drop, drop-map, length-map, map-append, take-append-drop, take-append-le, take-map, take-take}
+use Rattle.std.proofs.lemmas.List.{drop-map, length-map, map-append, take-append-drop, take-append-le, take-map, take-take}
 use Rattle.std.proofs.Math.Nat.{eq-or-lt_of_le}
-use Rattle.shapers_buffer.specs.declared.buffer.glyph.hb_glyph_info_t.{hb_glyph_info_t}
+use Rattle.shapers_buffer.specs.Glyphs.{Glyph, Glyphs}
 use Rattle.shapers_buffer.specs.declared.buffer.tag.Script.{Script}
 use Rattle.shapers_buffer.specs.Buffer.{Buffer, but_places}
 use Rattle.shapers_buffer.specs.Clusters.{least, stretch_of, with_stretch}
@@ -32,19 +32,17 @@ zip_with f (x ∷ xs) [] = []
 zip_with f (x ∷ xs) (y ∷ ys) = f x y ∷ zip_with f xs ys
 
 -- VIEWS: the order view, and what is carried along, are the glyph
-abbrev rebuilt : hb_glyph_info_t → hb_glyph_info_t → hb_glyph_info_t
+abbrev rebuilt : Glyph → Glyph → Glyph
 rebuilt a b = record a { cluster = b.cluster; mask = a.mask + b.mask }
 
-rebuilt_is : (g : hb_glyph_info_t) → rebuilt (plain g) (carried g) ≡ g
-rebuilt_is g =
-    search arith
+rebuilt_is : (g : Glyph) → rebuilt (plain g) (carried g) ≡ g
+rebuilt_is = search arith
 
-both_views : (gs hs : List hb_glyph_info_t) → map plain gs ≡ map plain hs → map carried gs ≡ map carried hs →
-    gs ≡ hs
+both_views : (gs hs : Glyphs) → map plain gs ≡ map plain hs → map carried gs ≡ map carried hs → gs ≡ hs
 both_views gs hs same also = sym (all gs) ∙ ap (λ l. zip_with rebuilt l (map carried gs)) same
     ∙ ap (λ l. zip_with rebuilt (map plain hs) l) also ∙ all hs
   where
-    all : (gs : List hb_glyph_info_t) → zip_with rebuilt (map plain gs) (map carried gs) ≡ gs
+    all : (gs : Glyphs) → zip_with rebuilt (map plain gs) (map carried gs) ≡ gs
     all [] = refl
     all (g ∷ gs) = ap (λ x. x ∷ zip_with rebuilt (map plain gs) (map carried gs)) (rebuilt_is g)
         ∙ ap (λ xs. g ∷ xs) (all gs)
@@ -52,14 +50,13 @@ both_views gs hs same also = sym (all gs) ∙ ap (λ l. zip_with rebuilt l (map 
 -- THE WALK looks at what stands behind groups
 
 -- BEHIND A RUN, by an order whose steps are known
-abbrev pub Suffices : Meaning → (Option Script → List hb_glyph_info_t → List Step) → Link → Type 0
+abbrev pub Suffices : Meaning → (Option Script → Glyphs → List Step) → Link → Type 0
 Suffices meaning steps link = (s e : ℕ) (b c : Buffer) →
     SyllableReordered (meaning b.script) (steps b.script) s e b c → link s e b c
 
-pub numbers_by_view : (s e : ℕ) (gs hs : List hb_glyph_info_t) → order_view gs ≡ order_view hs →
+pub numbers_by_view : (s e : ℕ) (gs hs : Glyphs) → order_view gs ≡ order_view hs →
     glyph_numbers (stretch_of s e gs) ≡ glyph_numbers (stretch_of s e hs)
-numbers_by_view s e gs hs same =
-    search (arith, map-stretch, numbers-view)
+numbers_by_view = search (arith, map-stretch, numbers-view)
 
 -- THE SYLLABLE. Nothing that the order reads is another one while groups are shown
 pub record GuardedStands (old now : Buffer) : Type 0 where
@@ -70,41 +67,38 @@ pub record GuardedStands (old now : Buffer) : Type 0 where
 pub guarded_stands : (first end count : ℕ) (it after : CarriedGroups) (old now : Buffer) → AreCarried it old.glyphs →
     GroupsGuarded first end it old.glyphs after count now.glyphs → now ≡ record old { glyphs = now.glyphs } →
     GuardedStands old now
-guarded_stands first end count it after old now fits g others =
-    search (arith, guarded_view, guarded_length)
+guarded_stands first end count it after old now fits g others = search (guarded_view, guarded_length)
 
-same_clusters : (xs ys : List hb_glyph_info_t) → map carried xs ≡ map carried ys →
-    map (λ (g : hb_glyph_info_t). g.cluster) xs ≡ map (λ (g : hb_glyph_info_t). g.cluster) ys
-same_clusters xs ys same = sym (own xs) ∙ ap (map (λ (g : hb_glyph_info_t). g.cluster)) same ∙ own ys
+same_clusters : (xs ys : Glyphs) → map carried xs ≡ map carried ys →
+    map (λ (g : Glyph). g.cluster) xs ≡ map (λ (g : Glyph). g.cluster) ys
+same_clusters xs ys same = sym (own xs) ∙ ap (map (λ (g : Glyph). g.cluster)) same ∙ own ys
   where
-    own : (xs : List hb_glyph_info_t) → map (λ (g : hb_glyph_info_t). g.cluster) (map carried xs)
-        ≡ map (λ (g : hb_glyph_info_t). g.cluster) xs
+    own : (xs : Glyphs) → map (λ (g : Glyph). g.cluster) (map carried xs)
+        ≡ map (λ (g : Glyph). g.cluster) xs
     own [] = refl
     own (x ∷ xs) = ap (λ l. x.cluster ∷ l) (own xs)
 
-take_front : (s e k : ℕ) (f : List hb_glyph_info_t → List hb_glyph_info_t) (xs : List hb_glyph_info_t) → k ≤ s →
+take_front : (s e k : ℕ) (f : Glyphs → Glyphs) (xs : Glyphs) → k ≤ s →
     s ≤ length xs → take k (with_stretch s e f xs) ≡ take k xs
-take_front s e k f xs less within =
-    search (arith, take-append-le, length-take, take-take)
+take_front = search (arith, take-append-le, length-take, take-take)
 
 -- with groups shown
-pub record ShownReordered (meaning : List hb_glyph_info_t → List hb_glyph_info_t) (steps : List hb_glyph_info_t →
+pub record ShownReordered (meaning : Glyphs → Glyphs) (steps : Glyphs →
     List Step) (first end count : ℕ) (before after : CarriedGroups) (old reordered : Buffer)
-    (between : List hb_glyph_info_t) : Type 0 where
+    (between : Glyphs) : Type 0 where
   pub can : CanSettle after count reordered.glyphs
   pub made : (final : CarriedGroups) (new : Buffer) → GroupsSettled after count reordered.glyphs final new.glyphs →
       new ≡ record reordered { glyphs = new.glyphs } → SyllableReordered meaning steps first end
       (record old { glyphs = with_groups before between }) (groups_written final new)
 
-pub shown_reordered : (meaning : List hb_glyph_info_t → List hb_glyph_info_t) (steps : List hb_glyph_info_t →
+pub shown_reordered : (meaning : Glyphs → Glyphs) (steps : Glyphs →
     List Step) (first end count : ℕ) (before after : CarriedGroups) (old reordered : Buffer)
-    (between hs : List hb_glyph_info_t) → ReorderLaws meaning steps → first ≤ end → end ≤ length between →
+    (between hs : Glyphs) → ReorderLaws meaning steps → first ≤ end → end ≤ length between →
     AreCarried before between → before.end ≡ first → 0 < count → count ≤ length before.groups.items →
     AreShown count before between after hs →
     ((first_group_cluster (last_groups count before) < least (clusters (stretch_of first end between)))
     ⊎ ((count ≡ length before.groups.items) × EndsAbove (first_group_cluster before.groups.items)
-    (take before.start between))) →
-    SyllableReordered meaning steps first end (record old { glyphs = hs }) reordered →
+    (take before.start between))) → SyllableReordered meaning steps first end (record old { glyphs = hs }) reordered →
     ShownReordered meaning steps first end count before after old reordered between
 shown_reordered meaning steps first end count before after old reordered between hs laws order within fits at some many
     is stops done =
@@ -149,7 +143,7 @@ shown_reordered meaning steps first end count before after old reordered between
     (map-stretch carried place before.end X ∙ ap (stretch_of place before.end) moved
     ∙ sym (map-stretch carried place before.end Y)))) in
     let f_len : len_of F ≡ len_of before.groups.items =
-    fallen_len count before Y many (omega arith) (omega (arith, behind.same_length)) in
+    fallen_len count before Y many (omega arith) (omega arith) in
     let C = groups_in_front before F between in
     let c_span : before.start + len_of F ≡ before.end = omega arith in
     let c_view : map plain C ≡ take first xs = front_view before F between c_span
@@ -191,7 +185,7 @@ pub record BehindGroups (link : Link) (first end : ℕ) (it after : CarriedGroup
       new ≡ record reordered { glyphs = new.glyphs } → link first end (groups_written it old) (groups_written final new)
   pub ends : after.end ≡ first
 
-pub behind_guarded : (meaning : Meaning) (steps : Option Script → List hb_glyph_info_t → List Step) (link : Link) →
+pub behind_guarded : (meaning : Meaning) (steps : Option Script → Glyphs → List Step) (link : Link) →
     Leads meaning steps link → Suffices meaning steps link →
     ((script : Option Script) → ReorderLaws (meaning script) (steps script)) → (first end count : ℕ)
     (it after : CarriedGroups) (old now reordered : Buffer) → first ≤ end → end ≤ length old.glyphs →
@@ -215,7 +209,7 @@ behind_guarded meaning steps link leads suffices laws first end count it after o
           let empty : len_of before.groups.items ≡ 0 = ap len_of all.1 in
           let start_end : before.start ≡ before.end = omega arith in
           let now_is : record old { glyphs = with_groups before between } ≡ now =
-          ap (λ (gs : List hb_glyph_info_t). record old { glyphs = gs })
+          ap (λ (gs : Glyphs). record old { glyphs = gs })
           (none_written before between all.1 start_end ∙ sym all.2) ∙ sym others in
           let Xn : length reordered.glyphs ≡ length now.glyphs =
           let xs = order_view (record old { glyphs = hs }).glyphs in
@@ -243,7 +237,7 @@ behind_guarded meaning steps link leads suffices laws first end count it after o
             linked = λ final new groups_settled rest.
                 let left : groups_written final new ≡ reordered =
                 ap (λ (b : Buffer). record b { glyphs = with_groups final new.glyphs }) rest
-                ∙ ap (λ (gs : List hb_glyph_info_t). record reordered { glyphs = gs })
+                ∙ ap (λ (gs : Glyphs). record reordered { glyphs = gs })
                 (ap (λ (a : CarriedGroups). with_groups a new.glyphs) (groups_settled.still (sym none))
                 ∙ none_written after new.glyphs none_after start_after ∙ groups_settled.none (sym none)) in
                 subst (λ b. link first end b (groups_written final new)) (sym (meant_is ∙ now_is))
@@ -274,18 +268,12 @@ pub record ToCarry (takes : List ℕ → Type 0) (link : Link) (old : Buffer) (i
 -- without groups
 pub written_none : (it : CarriedGroups) (b : Buffer) → it.groups.items ≡ [] → it.start ≡ it.end →
     groups_written it b ≡ b
-written_none it b none same = search (arith, none_written)
+written_none it b none = search none_written
 
 pub to_carry_all : (takes : List ℕ → Type 0) (link : Link) (old : Buffer) (it : Carrying) → it.groups.start ≡ 0 →
     it.groups.end ≡ 0 → it.groups.groups.items ≡ [] → TakesText takes old.glyphs → ToCarry takes link old it old 0
 to_carry_all takes link old it start_is end_is none all =
-    let same : it.groups.start ≡ it.groups.end = omega arith in
-    search (
-      arith,
-      none_carried it.groups old.glyphs none same (omega arith),
-      written_none it.groups old none same,
-      to_link_all takes link old all,
-    )
+    let same : it.groups.start ≡ it.groups.end = omega arith in search (arith, to_link_all takes link old all)
 
 pub record CarriedStands (it : Carrying) (old now : Buffer) (start : ℕ) : Type 0 where
   pub inside : start ≤ length now.glyphs
@@ -294,21 +282,18 @@ pub record CarriedStands (it : Carrying) (old now : Buffer) (start : ℕ) : Type
 
 pub carried_stands : (takes : List ℕ → Type 0) (link : Link) (old : Buffer) (it : Carrying) (now : Buffer)
     (start : ℕ) → ToCarry takes link old it now start → CarriedStands it old now start
-carried_stands takes link old it now start state =
-    search (arith, length_groups)
+carried_stands = search (arith, length_groups)
 
-next_carried : (changes : hb_glyph_info_t → Bool) (it : CarriedGroups) (start first : ℕ)
-    (gs read : List hb_glyph_info_t) → read ≡ gs → AreCarried it gs → it.end ≤ start →
+next_carried : (changes : Glyph → Bool) (it : CarriedGroups) (start first : ℕ)
+    (gs read : Glyphs) → read ≡ gs → AreCarried it gs → it.end ≤ start →
     IsNextChanging changes start read first → IsNextChanging changes start (with_groups it gs) first
-next_carried changes it start first gs read is fits ends found =
-    search (arith, drop-drop, length_groups, behind_groups)
+next_carried = search (arith, length_groups, behind_groups)
 
-pub takes_carried : (meaning : Meaning) (takes : List ℕ → Type 0) (changes : hb_glyph_info_t → Bool) (link : Link)
-    (old : Buffer) (it : Carrying) (now : Buffer) (read : List hb_glyph_info_t) (start first end : ℕ) →
+pub takes_carried : (meaning : Meaning) (takes : List ℕ → Type 0) (changes : Glyph → Bool) (link : Link)
+    (old : Buffer) (it : Carrying) (now : Buffer) (read : Glyphs) (start first end : ℕ) →
     read ≡ now.glyphs → PermutesNumbers meaning → Orders meaning link → Stays changes link →
     IsNextChanging changes start read first → ToCarry takes link old it now start →
-    end ≡ first + first_syllable_len (drop first now.glyphs) →
-    takes (glyph_numbers (stretch_of first end now.glyphs))
+    end ≡ first + first_syllable_len (drop first now.glyphs) → takes (glyph_numbers (stretch_of first end now.glyphs))
 takes_carried meaning takes changes link old it now read start first end is permutes orders stays found state end_is =
     let groups = it.groups in
     let meant = with_groups groups now.glyphs in
@@ -328,8 +313,8 @@ pub record CarriedNext (takes : List ℕ → Type 0) (link : Link) (old now : Bu
   pub same_length : length new.glyphs ≡ length now.glyphs
   pub state : ToCarry takes link old it new end
 
-pub carry_next : (meaning : Meaning) (takes : List ℕ → Type 0) (changes : hb_glyph_info_t → Bool) (link : Link)
-    (old : Buffer) (it : Carrying) (now : Buffer) (read : List hb_glyph_info_t) (start first end : ℕ)
+pub carry_next : (meaning : Meaning) (takes : List ℕ → Type 0) (changes : Glyph → Bool) (link : Link)
+    (old : Buffer) (it : Carrying) (now : Buffer) (read : Glyphs) (start first end : ℕ)
     (after : Carrying) (new : Buffer) → read ≡ now.glyphs → PermutesNumbers meaning → Orders meaning link →
     Stays changes link → IsNextChanging changes start read first → ToCarry takes link old it now start →
     end ≡ first + first_syllable_len (drop first now.glyphs) → first ≤ end →
@@ -343,19 +328,11 @@ carry_next meaning takes changes link old it now read start first end after new 
     let next = past_changing meaning takes changes link old (groups_written groups now) (groups_written after.groups
     new) meant start first end refl permutes orders stays found_meant state.to (end_is
     ∙ ap (λ l. first + first_syllable_len l) (sym (behind_groups groups first now.glyphs fits (omega arith)))) done.linked in
-    search (
-      arith,
-      length_groups after.groups new.glyphs done.fits.fits.span,
-      next.same_length,
-      length_groups groups now.glyphs fits.span,
-      done.fits.fits,
-      done.fits.off,
-      next.to,
-    )
+    search (arith, length_groups after.groups new.glyphs done.fits.fits.span, length_groups groups now.glyphs fits.span)
 
 -- behind the last one the groups are written
-pub carry_end : (meaning : Meaning) (takes : List ℕ → Type 0) (changes : hb_glyph_info_t → Bool) (link : Link)
-    (old : Buffer) (it : Carrying) (now : Buffer) (read : List hb_glyph_info_t) (start : ℕ) (new : Buffer) →
+pub carry_end : (meaning : Meaning) (takes : List ℕ → Type 0) (changes : Glyph → Bool) (link : Link)
+    (old : Buffer) (it : Carrying) (now : Buffer) (read : Glyphs) (start : ℕ) (new : Buffer) →
     read ≡ now.glyphs → PermutesNumbers meaning → Orders meaning link → Stays changes link →
     list_any changes (drop start read) ≡ false → ToCarry takes link old it now start →
     new ≡ but_places (groups_written it.groups now) → SyllablesLinked link old new

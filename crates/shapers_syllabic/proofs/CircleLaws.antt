@@ -2,14 +2,12 @@
 use Rattle.std.specs.Prelude.{◌≡◌, ◌==◌, ℕ, suc, ◌+◌, ◌-◌, ◌<◌, ◌≤◌, Bool, true, false, not, cond, List, [], ◌∷◌, ◌++◌, take, drop, length, map, Option, Some, None, count_by, filter, All, Contains, refl, if◌then◌else◌}
 use Rattle.std.specs.List.{flat_map, prefix_len}
 use Rattle.std.proofs.Common.{ap, sym, subst, ◌∙◌, arith, get_or, length-append, length-drop, length-take-le}
-use Rattle.std.proofs.lemmas.Bool.Decides.{nat_tests}
 use Rattle.std.proofs.lemmas.List.{drop-drop, drop_all, drop_more, take_all, length-map, take_at, drop_at, take-append-drop}
 use Rattle.std.proofs.lemmas.List.Elements.{All-append, All-cons, All-head, All-take, All-drop, All-map, All-weaker, All-contains, All-contains_itself}
 use Rattle.std.proofs.lemmas.List.Sums.{prefix_len-le-length, prefix_len_stops, sum_by-cons}
 use Rattle.std.proofs.lemmas.Bool.{not-false}
-use Rattle.shapers_buffer.specs.declared.buffer.glyph.hb_glyph_info_t.{hb_glyph_info_t}
+use Rattle.shapers_buffer.specs.Glyphs.{Glyph, Glyphs}
 use Rattle.shapers_syllabic.specs.declared.ot_shaper_syllabic.circles.DottedCircles.{DottedCircles}
-use Rattle.shapers_buffer.specs.Buffer.{Buffer}
 use Rattle.shapers_buffer.specs.Glyph.{clusters, default_glyph}
 use Rattle.shapers_buffer.specs.Syllables.{syllables, with_opening, first_syllable_len, kind_of}
 use Rattle.shapers_syllabic.specs.Circles.{is_of_kind, rephas_len, circle_in, with_circle, with_circles, circled, circled_syllable, count_of_kind}
@@ -19,50 +17,47 @@ use Rattle.shapers_buffer.proofs.MappedLists.{Contains-map}
 use Rattle.shapers_buffer.proofs.SyllableLaws.{syllables_are_runs}
 
 abbrev Pieces : Type 0
-Pieces = List (List hb_glyph_info_t)
+Pieces = List Glyphs
 
 -- these pieces, one after another, and each with its circle if it is broken
-abbrev joined : Pieces → List hb_glyph_info_t
+abbrev joined : Pieces → Glyphs
 joined pieces = flat_map (λ piece. piece) pieces
 
-abbrev circled_all : DottedCircles → Pieces → List hb_glyph_info_t
+abbrev circled_all : DottedCircles → Pieces → Glyphs
 circled_all rule pieces = flat_map (circled_syllable rule) pieces
 
 abbrev count_in : DottedCircles → Pieces → ℕ
 count_in rule pieces = count_by (is_of_kind rule.broken_kind) pieces
 
 -- the leading rephas are within the syllable
-pub rephas_within : (repha : Option ℕ) (gs : List hb_glyph_info_t) → rephas_len repha gs ≤ length gs
-rephas_within None gs = omega arith
-rephas_within (Some r) gs = search (arith, prefix_len-le-length)
+pub rephas_within : (repha : Option ℕ) (gs : Glyphs) → rephas_len repha gs ≤ length gs
+rephas_within None = omega arith
+rephas_within (Some r) = search prefix_len-le-length
 
 -- a syllable, broken or not
-abbrev opened : DottedCircles → Bool → List hb_glyph_info_t → List hb_glyph_info_t
+abbrev opened : DottedCircles → Bool → Glyphs → Glyphs
 opened rule broken gs = if broken then with_circle rule gs else gs
 
-length-opened : (rule : DottedCircles) (broken : Bool) (gs : List hb_glyph_info_t) → length (opened rule broken gs)
+length-opened : (rule : DottedCircles) (broken : Bool) (gs : Glyphs) → length (opened rule broken gs)
     ≡ cond broken 1 0 + length gs
-length-opened rule false gs = omega arith
-length-opened rule true gs =
-    search (arith, length-append, length-take-le, rephas_within, length-drop)
+length-opened rule false = omega arith
+length-opened rule true = search (arith, length-append, length-take-le, rephas_within, length-drop)
 
-count_more : (rule : DottedCircles) (piece : List hb_glyph_info_t) (pieces : Pieces) → count_in rule (piece ∷ pieces)
+count_more : (rule : DottedCircles) (piece : Glyphs) (pieces : Pieces) → count_in rule (piece ∷ pieces)
     ≡ cond (is_of_kind rule.broken_kind piece) 1 0 + count_in rule pieces
-count_more rule piece pieces = search (arith, sum_by-cons)
+count_more = search sum_by-cons
 
 length-circled_all : (rule : DottedCircles) (pieces : Pieces) → length (circled_all rule pieces)
     ≡ length (joined pieces) + count_in rule pieces
 length-circled_all rule [] = refl
-length-circled_all rule (piece ∷ pieces) =
-    omega (
-      arith,
-      length-append (circled_syllable rule piece) (circled_all rule pieces),
-      length-append piece
-          (joined pieces),
-      length-opened rule (is_of_kind rule.broken_kind piece) piece,
-      length-circled_all rule pieces,
-      count_more rule piece pieces,
-    )
+length-circled_all rule (piece ∷ pieces) = omega (
+  arith,
+  length-append (circled_syllable rule piece) (circled_all rule pieces),
+  length-append piece (joined pieces),
+  length-opened rule (is_of_kind rule.broken_kind piece) piece,
+  length-circled_all rule pieces,
+  count_more rule piece pieces,
+)
 
 none_here : (broken : Bool) (n : ℕ) → cond broken 1 0 + n ≡ 0 → (broken ≡ false) × (n ≡ 0)
 none_here true n none = absurd (omega arith)
@@ -73,88 +68,83 @@ none_opened : (rule : DottedCircles) (pieces : Pieces) → count_in rule pieces 
 none_opened rule [] none = refl
 none_opened rule (piece ∷ pieces) none =
     let parts = none_here (is_of_kind rule.broken_kind piece) (count_in rule pieces) (sym
-    (count_more rule piece pieces)
-    ∙ none) in
-    cc (parts.0, none_opened rule pieces parts.1)
+    (count_more rule piece pieces) ∙ none) in
+    cc (none_opened rule pieces parts.1)
 
 -- cutting into syllables loses nothing
-joined-with_opening : (g : hb_glyph_info_t) (pieces : Pieces) → joined (with_opening g pieces) ≡ g ∷ joined pieces
-joined-with_opening g [] = refl
-joined-with_opening g ([] ∷ pieces) = refl
-joined-with_opening g ((h ∷ piece) ∷ pieces) =
-    search arith
+joined-with_opening : (g : Glyph) (pieces : Pieces) → joined (with_opening g pieces) ≡ g ∷ joined pieces
+joined-with_opening g ((h ∷ piece) ∷ pieces) = search arith
+joined-with_opening g _ = refl
 
-pub joined-syllables : (gs : List hb_glyph_info_t) → flat_map (λ piece. piece) (syllables gs) ≡ gs
+pub joined-syllables : (gs : Glyphs) → flat_map (λ piece. piece) (syllables gs) ≡ gs
 joined-syllables [] = refl
-joined-syllables (g ∷ gs) = search (arith, joined-with_opening, joined-syllables gs)
+joined-syllables (g ∷ gs) = search (arith, joined-syllables gs)
 
 -- each circle makes the text one glyph longer
-pub length-with_circles : (rule : DottedCircles) (gs : List hb_glyph_info_t) → length (with_circles rule gs)
+pub length-with_circles : (rule : DottedCircles) (gs : Glyphs) → length (with_circles rule gs)
     ≡ length gs + count_of_kind rule.broken_kind gs
-length-with_circles rule gs = search (arith, length-circled_all, joined-syllables)
+length-with_circles = search (length-circled_all, joined-syllables)
 
 -- a text with no circle is the text, and only such a text
-pub with_circles-none : (rule : DottedCircles) (gs : List hb_glyph_info_t) → count_of_kind rule.broken_kind gs ≡ 0
+pub with_circles-none : (rule : DottedCircles) (gs : Glyphs) → count_of_kind rule.broken_kind gs ≡ 0
     → with_circles rule gs ≡ gs
-with_circles-none rule gs none = search (arith, none_opened, joined-syllables)
+with_circles-none rule gs none = search (none_opened, joined-syllables)
 
 -- what circles make of a text, and how many there are, if both leave a first glyph alone
-record Spares (rule : DottedCircles) (g : hb_glyph_info_t) (before after : Pieces) : Type 0 where
+record Spares (rule : DottedCircles) (g : Glyph) (before after : Pieces) : Type 0 where
   text : circled_all rule after ≡ g ∷ circled_all rule before
   count : count_in rule after ≡ count_in rule before
 
 -- a glyph more in front, of another kind
-spares_alone : (rule : DottedCircles) (g : hb_glyph_info_t) (pieces : Pieces) → (kind_of g.syllable == rule.broken_kind)
+spares_alone : (rule : DottedCircles) (g : Glyph) (pieces : Pieces) → (kind_of g.syllable == rule.broken_kind)
     ≡ false → Spares rule g pieces ((g ∷ []) ∷ pieces)
-spares_alone rule g pieces other = search (arith, refl, count_more)
+spares_alone = search arith
 
-spares_opening : (rule : DottedCircles) (g h : hb_glyph_info_t) (piece : List hb_glyph_info_t) (pieces : Pieces)
+spares_opening : (rule : DottedCircles) (g h : Glyph) (piece : Glyphs) (pieces : Pieces)
     (same : Bool) → (h.syllable == g.syllable) ≡ same → (kind_of g.syllable == rule.broken_kind) ≡ false
     → Spares rule g ((h ∷ piece) ∷ pieces) (if same then (g ∷ (h ∷ piece)) ∷ pieces else (g ∷ [])
     ∷ ((h ∷ piece) ∷ pieces))
-spares_opening rule g h piece pieces true test other =
-    search (arith, refl, count_more, nat_tests)
-spares_opening rule g h piece pieces false test other = search (arith, spares_alone)
+spares_opening rule g h piece pieces true = search arith
+spares_opening rule g h piece pieces false = search arith
 
-spares : (rule : DottedCircles) (g : hb_glyph_info_t) (pieces : Pieces) → (kind_of g.syllable == rule.broken_kind)
+spares : (rule : DottedCircles) (g : Glyph) (pieces : Pieces) → (kind_of g.syllable == rule.broken_kind)
     ≡ false → Spares rule g pieces (with_opening g pieces)
 spares rule g [] other = spares_alone rule g [] other
-spares rule g ([] ∷ pieces) other = search (arith, refl, count_more)
-spares rule g ((h ∷ piece) ∷ pieces) other = search (arith, spares_opening)
+spares rule g ([] ∷ pieces) other = search
+spares rule g ((h ∷ piece) ∷ pieces) other = search arith
 
 -- what stands before the first glyph of the broken kind stays
-record StaysUpTo (rule : DottedCircles) (gs : List hb_glyph_info_t) (n : ℕ) : Type 0 where
+record StaysUpTo (rule : DottedCircles) (gs : Glyphs) (n : ℕ) : Type 0 where
   text : with_circles rule gs ≡ take n gs ++ with_circles rule (drop n gs)
   count : count_of_kind rule.broken_kind gs ≡ count_of_kind rule.broken_kind (drop n gs)
 
-stays_next : (rule : DottedCircles) (g : hb_glyph_info_t) (gs : List hb_glyph_info_t) (broken : Bool)
+stays_next : (rule : DottedCircles) (g : Glyph) (gs : Glyphs) (broken : Bool)
     → (kind_of g.syllable == rule.broken_kind) ≡ broken
     → StaysUpTo rule gs (prefix_len (is_of_other_kind rule.broken_kind) gs)
     → StaysUpTo rule (g ∷ gs) (cond (not broken) (1 + prefix_len (is_of_other_kind rule.broken_kind) gs) 0)
 stays_next rule g gs true test stays = search arith
-stays_next rule g gs false test stays =
-    let step = spares rule g (syllables gs) test in search (arith, step.text, stays.text, step.count, stays.count)
+stays_next rule g gs false test stays = let step = spares rule g (syllables gs) test in search arith
 
-stays_up_to : (rule : DottedCircles) (gs : List hb_glyph_info_t)
+stays_up_to : (rule : DottedCircles) (gs : Glyphs)
     → StaysUpTo rule gs (prefix_len (is_of_other_kind rule.broken_kind) gs)
 stays_up_to rule [] = search arith
-stays_up_to rule (g ∷ gs) = search (arith, stays_next, stays_up_to rule gs)
+stays_up_to rule (g ∷ gs) = search (stays_next, stays_up_to rule gs)
 
 -- a text that opens with a broken syllable
-record OpensBroken (rule : DottedCircles) (gs : List hb_glyph_info_t) : Type 0 where
+record OpensBroken (rule : DottedCircles) (gs : Glyphs) : Type 0 where
   text : with_circles rule gs ≡ with_circle rule (take (first_syllable_len gs) gs)
       ++ with_circles rule (drop (first_syllable_len gs) gs)
   count : count_of_kind rule.broken_kind gs ≡ suc (count_of_kind rule.broken_kind (drop (first_syllable_len gs) gs))
 
-opens_broken : (rule : DottedCircles) (g : hb_glyph_info_t) (gs : List hb_glyph_info_t)
+opens_broken : (rule : DottedCircles) (g : Glyph) (gs : Glyphs)
     → (kind_of g.syllable == rule.broken_kind) ≡ true → OpensBroken rule (g ∷ gs)
-opens_broken rule g gs test =
+opens_broken rule g gs =
     let text = g ∷ gs in
     let n = first_syllable_len text in
     search (arith, syllables_are_runs g gs, count_more rule (take n text) (syllables (drop n text)))
 
 -- where the first broken syllable stands
-pub is_first_broken : (rule : DottedCircles) (gs : List hb_glyph_info_t) (start len : ℕ)
+pub is_first_broken : (rule : DottedCircles) (gs : Glyphs) (start len : ℕ)
     → start ≡ prefix_len (is_of_other_kind rule.broken_kind) gs → start < length gs
     → len ≡ first_syllable_len (drop start gs) → 0 < len → len ≤ length (drop start gs)
     → IsFirstBroken rule gs start (start + len)
@@ -165,7 +155,7 @@ is_first_broken rule gs start len start_is inside len_is some within =
     let stop : other (get_or gs (prefix_len other gs) default_glyph) ≡ false =
     prefix_len_stops other gs default_glyph (omega arith) in
     let opens =
-    subst (OpensBroken rule) (sym (search (arith, drop_more))) (opens_broken rule g rest (not-false _ cc)) in
+    subst (OpensBroken rule) (sym (search drop_more)) (opens_broken rule g rest (not-false _ cc)) in
     let stays = subst (StaysUpTo rule gs) (sym start_is) (stays_up_to rule gs) in
     let size : start + len - start ≡ first_syllable_len (drop start gs) = omega arith in
     let behind =
@@ -177,7 +167,7 @@ is_first_broken rule gs start len start_is inside len_is some within =
       count = rw behind (stays.count ∙ opens.count);
     }
 
-pub none_broken : (rule : DottedCircles) (gs : List hb_glyph_info_t) (start : ℕ)
+pub none_broken : (rule : DottedCircles) (gs : Glyphs) (start : ℕ)
     → start ≡ prefix_len (is_of_other_kind rule.broken_kind) gs → length gs ≤ start → count_of_kind rule.broken_kind gs
     ≡ 0
 none_broken rule gs start start_is past =
@@ -187,52 +177,47 @@ none_broken rule gs start start_is past =
 unmarked-append : {X : Type 0} (ms ns : List Bool) (xs ys : List X) → length ms ≡ length xs
     → unmarked (ms ++ ns) (xs ++ ys) ≡ unmarked ms xs ++ unmarked ns ys
 unmarked-append [] ns [] ys same = refl
-unmarked-append [] ns (x ∷ xs) ys same = absurd (omega arith)
-unmarked-append (m ∷ ms) ns [] ys same = absurd (omega arith)
 unmarked-append (true ∷ ms) ns (x ∷ xs) ys same = unmarked-append ms ns xs ys (omega arith)
 unmarked-append (false ∷ ms) ns (x ∷ xs) ys same = cc (unmarked-append ms ns xs ys (omega arith))
+unmarked-append _ ns _ ys same = absurd (omega arith)
 
 marked-append : {X : Type 0} (ms ns : List Bool) (xs ys : List X) → length ms ≡ length xs → marked (ms ++ ns) (xs ++ ys)
     ≡ marked ms xs ++ marked ns ys
 marked-append [] ns [] ys same = refl
-marked-append [] ns (x ∷ xs) ys same = absurd (omega arith)
-marked-append (m ∷ ms) ns [] ys same = absurd (omega arith)
 marked-append (true ∷ ms) ns (x ∷ xs) ys same = cc (marked-append ms ns xs ys (omega arith))
 marked-append (false ∷ ms) ns (x ∷ xs) ys same = marked-append ms ns xs ys (omega arith)
+marked-append _ ns _ ys same = absurd (omega arith)
 
-unmarked-none : (gs : List hb_glyph_info_t) → unmarked (none_marked gs) gs ≡ gs
+unmarked-none : (gs : Glyphs) → unmarked (none_marked gs) gs ≡ gs
 unmarked-none [] = refl
 unmarked-none (g ∷ gs) = cc (unmarked-none gs)
 
-marked-none : (gs : List hb_glyph_info_t) → marked (none_marked gs) gs ≡ []
+marked-none : (gs : Glyphs) → marked (none_marked gs) gs ≡ []
 marked-none [] = refl
 marked-none (g ∷ gs) = marked-none gs
 
-length-no_marks : (gs : List hb_glyph_info_t) → length (none_marked gs) ≡ length gs
+length-no_marks : (gs : Glyphs) → length (none_marked gs) ≡ length gs
 length-no_marks gs = length-map gs (λ g. false)
 
 -- a syllable without its circle, and its circle
-abbrev marks_of : DottedCircles → Bool → List hb_glyph_info_t → List Bool
+abbrev marks_of : DottedCircles → Bool → Glyphs → List Bool
 marks_of rule broken gs = if broken then none_marked (take (rephas_len rule.repha gs) gs) ++ true
     ∷ none_marked (drop (rephas_len rule.repha gs) gs) else none_marked gs
 
-unmarked-syllable : (rule : DottedCircles) (broken : Bool) (gs : List hb_glyph_info_t)
+unmarked-syllable : (rule : DottedCircles) (broken : Bool) (gs : Glyphs)
     → unmarked (marks_of rule broken gs) (opened rule broken gs) ≡ gs
 unmarked-syllable rule false gs = unmarked-none gs
-unmarked-syllable rule true gs =
-    search (arith, unmarked-append, length-no_marks, unmarked-none, take-append-drop)
+unmarked-syllable rule true gs = search (unmarked-append, length-no_marks, unmarked-none, take-append-drop)
 
-marked-syllable : (rule : DottedCircles) (broken : Bool) (gs : List hb_glyph_info_t)
+marked-syllable : (rule : DottedCircles) (broken : Bool) (gs : Glyphs)
     → marked (marks_of rule broken gs) (opened rule broken gs) ≡ (if broken then circle_in gs rule.circle ∷ [] else [])
 marked-syllable rule false gs = marked-none gs
-marked-syllable rule true gs =
-    search (arith, marked-append, length-no_marks, marked-none)
+marked-syllable rule true gs = search (marked-append, length-no_marks, marked-none)
 
-length-marks_of : (rule : DottedCircles) (broken : Bool) (gs : List hb_glyph_info_t) → length (marks_of rule broken gs)
+length-marks_of : (rule : DottedCircles) (broken : Bool) (gs : Glyphs) → length (marks_of rule broken gs)
     ≡ length (opened rule broken gs)
 length-marks_of rule false gs = length-no_marks gs
-length-marks_of rule true gs =
-    search (arith, length-append, length-no_marks)
+length-marks_of rule true gs = search (length-append, length-no_marks)
 
 abbrev marks_all : DottedCircles → Pieces → List Bool
 marks_all rule pieces = flat_map (marks_in rule) pieces
@@ -241,12 +226,12 @@ unmarked-all : (rule : DottedCircles) (pieces : Pieces) → unmarked (marks_all 
     ≡ joined pieces
 unmarked-all rule [] = refl
 unmarked-all rule (piece ∷ pieces) =
-    search (arith, unmarked-append, length-marks_of, unmarked-syllable, unmarked-all rule pieces)
+    search (unmarked-append, length-marks_of, unmarked-syllable, unmarked-all rule pieces)
 
-abbrev circles_all : DottedCircles → Pieces → List hb_glyph_info_t
+abbrev circles_all : DottedCircles → Pieces → Glyphs
 circles_all rule pieces = map (λ piece. circle_in piece rule.circle) (filter (is_of_kind rule.broken_kind) pieces)
 
-circles_more : (rule : DottedCircles) (piece : List hb_glyph_info_t) (pieces : Pieces) (broken : Bool)
+circles_more : (rule : DottedCircles) (piece : Glyphs) (pieces : Pieces) (broken : Bool)
     → is_of_kind rule.broken_kind piece ≡ broken → circles_all rule (piece ∷ pieces)
     ≡ (if broken then circle_in piece rule.circle ∷ [] else []) ++ circles_all rule pieces
 circles_more rule piece pieces false test = rw test refl
@@ -256,32 +241,31 @@ marked-all : (rule : DottedCircles) (pieces : Pieces) → marked (marks_all rule
     ≡ circles_all rule pieces
 marked-all rule [] = refl
 marked-all rule (piece ∷ pieces) =
-    search (arith, marked-append, length-marks_of, marked-syllable, circles_more, marked-all rule pieces)
+    search (arith, marked-append, length-marks_of, marked-syllable, marked-all rule pieces)
 
 pub circles_can_be_erased : CirclesCanBeErased
-circles_can_be_erased rule gs = search (arith, unmarked-all, joined-syllables, marked-all)
+circles_can_be_erased = search (unmarked-all, joined-syllables, marked-all)
 
 -- what holds of all clusters of a text holds of all with its circles
-abbrev InAll : (ℕ → Type 0) → List hb_glyph_info_t → Type 0
+abbrev InAll : (ℕ → Type 0) → Glyphs → Type 0
 InAll P gs = All (λ g. P g.cluster) gs
 
-keeps_opened : (P : ℕ → Type 0) (rule : DottedCircles) (broken : Bool) (g : hb_glyph_info_t) (gs : List hb_glyph_info_t)
+keeps_opened : (P : ℕ → Type 0) (rule : DottedCircles) (broken : Bool) (g : Glyph) (gs : Glyphs)
     → InAll P (g ∷ gs) → InAll P (opened rule broken (g ∷ gs))
 keeps_opened P rule false g gs all = all
-keeps_opened P rule true g gs all =
-    search (arith, All-append, All-take, All-cons, All-head, All-drop)
+keeps_opened P rule true g gs all = search (All-append, All-take, All-cons, All-head, All-drop)
 
-keeps_syllable : (P : ℕ → Type 0) (rule : DottedCircles) (gs : List hb_glyph_info_t) → InAll P gs
+keeps_syllable : (P : ℕ → Type 0) (rule : DottedCircles) (gs : Glyphs) → InAll P gs
     → InAll P (circled_syllable rule gs)
 keeps_syllable P rule [] all = all
-keeps_syllable P rule (g ∷ gs) all = search (arith, keeps_opened)
+keeps_syllable P rule (g ∷ gs) all = search keeps_opened
 
 keeps_all : (P : ℕ → Type 0) (rule : DottedCircles) (pieces : Pieces) → InAll P (joined pieces)
     → InAll P (circled_all rule pieces)
 keeps_all P rule [] all = all
 keeps_all P rule (piece ∷ pieces) all =
     let n = length piece in
-    let Q : hb_glyph_info_t → Type 0 = λ h. P h.cluster in
+    let Q : Glyph → Type 0 = λ h. P h.cluster in
     let front : InAll P piece =
     subst (All Q) (take_at piece (joined pieces) n refl) (All-take Q n (piece ++ joined pieces) all) in
     let back : InAll P (joined pieces) =
@@ -292,15 +276,15 @@ keeps_all P rule (piece ∷ pieces) all =
 pub circles_keep_clusters : CirclesKeepClusters
 circles_keep_clusters rule gs =
     let P = λ (c : ℕ). Contains (clusters gs) c in
-    let Q : hb_glyph_info_t → Type 0 = λ g. P g.cluster in
+    let Q : Glyph → Type 0 = λ g. P g.cluster in
     let start : InAll P gs =
-    All-weaker (Contains gs) Q (λ g among. Contains-map (λ (h : hb_glyph_info_t). h.cluster) gs g among) gs
+    All-weaker (Contains gs) Q (λ g among. Contains-map (λ (h : Glyph). h.cluster) gs g among) gs
     (All-contains_itself gs) in
-    All-map P (λ (h : hb_glyph_info_t). h.cluster) (with_circles rule gs) (keeps_all P rule (syllables gs)
+    All-map P (λ (h : Glyph). h.cluster) (with_circles rule gs) (keeps_all P rule (syllables gs)
     (subst (All Q) (sym (joined-syllables gs)) start))
 
 -- so where circles may be wanted, and of what brings no cluster to the text with its circles
-pub no_new_cluster : (circles : Option DottedCircles) (gs new : List hb_glyph_info_t)
+pub no_new_cluster : (circles : Option DottedCircles) (gs new : Glyphs)
     → NoNewCluster (circled circles gs) new → NoNewCluster gs new
 no_new_cluster None gs new none = none
 no_new_cluster (Some rule) gs new none =
@@ -311,8 +295,4 @@ no_new_cluster (Some rule) gs new none =
 
 -- a slice from a place to the end of a list
 pub to_end : {X : Type 0} (xs : List X) (i : ℕ) → take (length xs - i) (drop i xs) ≡ drop i xs
-to_end xs i = search (arith, take_all, length-drop)
-
--- a buffer with these glyphs
-abbrev pub with_glyphs : Buffer → List hb_glyph_info_t → Buffer
-with_glyphs b gs = record b { glyphs = gs }
+to_end = search (arith, take_all, length-drop)

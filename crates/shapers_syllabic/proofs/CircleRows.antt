@@ -1,6 +1,6 @@
 -- Dotted circles, computed on small texts.
 use Rattle.std.specs.Prelude.{◌≡◌, ℕ, true, false, List, [], ◌∷◌, map, length, Option, Some, None, refl}
-use Rattle.shapers_buffer.specs.declared.buffer.glyph.hb_glyph_info_t.{hb_glyph_info_t}
+use Rattle.shapers_buffer.specs.Glyphs.{Glyph, Glyphs}
 use Rattle.shapers_syllabic.specs.declared.ot_shaper_syllabic.circles.DottedCircles.{DottedCircles}
 use Rattle.shapers_buffer.specs.Buffer.{Buffer, new_buffer}
 use Rattle.shapers_syllabic.specs.CircleLaws.{circle_marks, circles_of}
@@ -8,26 +8,26 @@ use Rattle.shapers_syllabic.specs.Circles.{circled, circles_for, count_of_kind, 
 use Rattle.shapers_buffer.specs.Glyph.{default_glyph}
 
 -- a glyph by its cluster, category and syllable byte
-abbrev glyph : ℕ → ℕ → ℕ → hb_glyph_info_t
+abbrev glyph : ℕ → ℕ → ℕ → Glyph
 glyph c category byte = record default_glyph { cluster = c; category = category; syllable = byte; mask = 8 }
 
 -- glyphs of category 1 and of these syllable bytes
-abbrev of_bytes : List ℕ → List hb_glyph_info_t
+abbrev of_bytes : List ℕ → Glyphs
 of_bytes bytes = map (λ byte. glyph 0 1 byte) bytes
 
 -- a buffer with a broken syllable, of these glyphs
-abbrev broken_text : List hb_glyph_info_t → Buffer
+abbrev broken_text : Glyphs → Buffer
 broken_text gs = record (new_buffer 100) { glyphs = gs; broken = true }
 
 -- clusters, categories, auxiliary bytes and syllable bytes
-abbrev shown : List hb_glyph_info_t → List (ℕ × ℕ × ℕ × ℕ)
+abbrev shown : Glyphs → List (ℕ × ℕ × ℕ × ℕ)
 shown gs = map (λ g. let row : ℕ × ℕ × ℕ × ℕ = (g.cluster, g.category, g.auxiliary, g.syllable) in row) gs
 
 -- the categories alone: 11 is a circle
-abbrev categories : List hb_glyph_info_t → List ℕ
+abbrev categories : Glyphs → List ℕ
 categories gs = map (λ g. g.category) gs
 
-abbrev circled_text : ℕ → Option ℕ → Option ℕ → Buffer → List hb_glyph_info_t
+abbrev circled_text : ℕ → Option ℕ → Option ℕ → Buffer → Glyphs
 circled_text k repha place b = circled (circles_for (Some (record { 0 = 7 })) k 11 repha place b) b.glyphs
 
 -- the categories of glyphs of category 1 and these bytes, where kind k is broken and no category stays in front
@@ -81,8 +81,7 @@ repha_in_front : shown (circled_text 4 (Some 14) (Some 14) (broken_text (glyph 0
 repha_in_front = refl
 
 -- so do several, up to the first glyph of another category
-rephas_in_front : shown
-    (circled_text 4 (Some 14) None
+rephas_in_front : shown (circled_text 4 (Some 14) None
     (broken_text (glyph 0 14 0x14 ∷ glyph 1 14 0x14 ∷ glyph 2 1 0x14 ∷ glyph 3 14 0x14 ∷ []))) ≡ (0, 14, 0, 0x14)
     ∷ (1, 14, 0, 0x14) ∷ (0, 11, 0, 0x14) ∷ (2, 1, 0, 0x14) ∷ (3, 14, 0, 0x14) ∷ []
 rephas_in_front = refl
@@ -99,7 +98,7 @@ rephas_alone : shown (circled_text 4 (Some 14) None (broken_text (glyph 0 14 0x1
 rephas_alone = refl
 
 -- a glyph with all fields set stays as it is, and each field of the circle
-abbrev full : hb_glyph_info_t
+abbrev full : Glyph
 full = record {
   glyph_id = 0x916;
   mask = 0x1F;
@@ -135,7 +134,7 @@ counted = refl
 abbrev rule : DottedCircles
 rule = record { broken_kind = 4; circle = record default_glyph { category = 11 }; repha = Some 14 }
 
-abbrev two_broken : List hb_glyph_info_t
+abbrev two_broken : Glyphs
 two_broken = glyph 0 14 0x14 ∷ glyph 1 1 0x14 ∷ glyph 2 1 0x20 ∷ glyph 3 1 0x34 ∷ []
 
 circled_places : circle_marks rule two_broken ≡ false ∷ true ∷ false ∷ false ∷ true ∷ false ∷ []

@@ -1,12 +1,12 @@
 -- Which glyphs are consonants, over all categories, computed.
 use Rattle.std.specs.Prelude.{◌≡◌, ℕ, false, [], ◌∷◌, refl}
 use Rattle.std.specs.List.{filter, list_any, range_with_len}
-use Rattle.shapers_buffer.specs.declared.buffer.glyph.hb_glyph_info_t.{hb_glyph_info_t}
+use Rattle.shapers_buffer.specs.Glyphs.{Glyph}
 use Rattle.shapers_buffer.specs.Glyph.{default_glyph}
 use Rattle.shapers_syllabic.specs.Consonants.{consonants, is_consonant}
 
 -- a glyph of a category, with these marks
-abbrev glyph_with : ℕ → ℕ → hb_glyph_info_t
+abbrev glyph_with : ℕ → ℕ → Glyph
 glyph_with marks c = record default_glyph { category = c; glyph_props = record { 0 = marks } }
 
 -- the categories, of all 0 to 41, and of the others of a byte, that are consonants: C V PLACEHOLDER

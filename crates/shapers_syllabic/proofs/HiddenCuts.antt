@@ -6,7 +6,7 @@ use Rattle.std.proofs.Common.{ℕ, ◌≡◌, List, [], ◌∷◌, ◌++◌, map
 use Rattle.std.specs.Prelude.{Option, None, Some}
 use Rattle.std.specs.List.{flat_map}
 use Rattle.std.proofs.lemmas.List.{drop-map, drop_at, length-map, map-append, take-map}
-use Rattle.shapers_buffer.specs.declared.buffer.glyph.hb_glyph_info_t.{hb_glyph_info_t}
+use Rattle.shapers_buffer.specs.Glyphs.{Glyph, Glyphs}
 use Rattle.shapers_buffer.specs.declared.buffer.level.BufferClusterLevel.{BufferClusterLevel}
 use Rattle.shapers_buffer.specs.Buffer.{Buffer}
 use Rattle.shapers_buffer.specs.Glyph.{clusters, order_view, without_flags}
@@ -28,9 +28,6 @@ use Rattle.shapers_syllabic.proofs.ReorderingWalk.{pieces_of}
 use Rattle.shapers_syllabic.proofs.Serials.{KeepsSame, pieces_same, serials_dont_count}
 use Rattle.shapers_syllabic.proofs.SpanCuts.{spans_cut}
 
-abbrev Glyphs : Type 0
-Glyphs = List hb_glyph_info_t
-
 -- glyphs with other masks, and masks whose flags stay apart
 abbrev pub by : (ℕ → ℕ) → Glyphs → Glyphs
 by f gs = map (with_mask_by f) gs
@@ -47,58 +44,51 @@ view-by f keeps [] = refl
 view-by f keeps (g ∷ gs) = search (arith, view-by f keeps gs)
 
 syllables-by : (f : ℕ → ℕ) (gs : Glyphs) → syllables (by f gs) ≡ map (by f) (syllables gs)
-syllables-by f gs = search (arith, syllables-viewed)
+syllables-by = search syllables-viewed
 
 joined-by : (f : ℕ → ℕ) (change : Glyphs → Glyphs) → ((gs : Glyphs) → change (by f gs) ≡ by f (change gs))
     → (ps : List Glyphs) → flat_map change (map (by f) ps) ≡ by f (flat_map change ps)
 joined-by f change past [] = refl
-joined-by f change past (p ∷ ps) =
-    search (arith, map-append, joined-by f change past ps)
+joined-by f change past (p ∷ ps) = search (arith, map-append, joined-by f change past ps)
 
 -- circles take the mask along
 rephas-by : (f : ℕ → ℕ) (repha : Option ℕ) (gs : Glyphs) → rephas_len repha (by f gs) ≡ rephas_len repha gs
-rephas-by f None gs = refl
-rephas-by f (Some c) [] = refl
 rephas-by f (Some c) (g ∷ gs) = cc (rephas-by f (Some c) gs)
+rephas-by f _ _ = refl
 
-with_circle-by : (f : ℕ → ℕ) (rule : DottedCircles) (g : hb_glyph_info_t) (gs : Glyphs)
+with_circle-by : (f : ℕ → ℕ) (rule : DottedCircles) (g : Glyph) (gs : Glyphs)
     → with_circle rule (by f (g ∷ gs)) ≡ by f (with_circle rule (g ∷ gs))
-with_circle-by f rule g gs =
-    search (arith, rephas-by, take-map, drop-map, map-append)
+with_circle-by = search (rephas-by, take-map, drop-map, map-append)
 
 circled_syllable-by : (f : ℕ → ℕ) (rule : DottedCircles) (gs : Glyphs) → circled_syllable rule (by f gs)
     ≡ by f (circled_syllable rule gs)
 circled_syllable-by f rule [] = refl
-circled_syllable-by f rule (g ∷ gs) =
-    search (arith, with_circle-by)
+circled_syllable-by f rule (g ∷ gs) = search (arith, with_circle-by)
 
 pub circled-by : (f : ℕ → ℕ) (circles : Option DottedCircles) (gs : Glyphs)
     → circled circles (by f gs) ≡ by f (circled circles gs)
 circled-by f None gs = refl
-circled-by f (Some rule) gs = search (arith, syllables-by, joined-by, circled_syllable-by)
+circled-by f (Some rule) gs = search (syllables-by, joined-by, circled_syllable-by)
 
 -- a pause that reads no masks
 opened-by : (f : ℕ → ℕ) → MaskKeepsFlags f → (circles : Option DottedCircles) (gs : Glyphs)
     → order_view (circled circles (by f gs)) ≡ by f (order_view (circled circles gs))
-opened-by f keeps circles gs = search (arith, circled-by, view-by)
+opened-by = search (circled-by, view-by)
 
 pub paused-by : (f : ℕ → ℕ) → MaskKeepsFlags f → (circles : Option DottedCircles) (meaning : Glyphs → Glyphs)
     → ((gs : Glyphs) → meaning (by f gs) ≡ by f (meaning gs)) → (gs : Glyphs) → paused_order circles meaning (by f gs)
     ≡ by f (paused_order circles meaning gs)
-paused-by f keeps circles meaning meant gs =
-    search (arith, opened-by, syllables-by, joined-by)
+paused-by = search (opened-by, syllables-by, joined-by)
 
 pieces-by : (f : ℕ → ℕ) (steps : Glyphs → List Step) → ((gs : Glyphs) → steps (by f gs) ≡ steps gs) → (ps : List Glyphs)
     → pieces_of steps (map (by f) ps) ≡ pieces_of steps ps
 pieces-by f steps led [] = refl
-pieces-by f steps led (p ∷ ps) =
-    search (arith, length-map, pieces-by f steps led ps)
+pieces-by f steps led (p ∷ ps) = search (arith, length-map, pieces-by f steps led ps)
 
 pub clusters_paused-by : (f : ℕ → ℕ) → MaskKeepsFlags f → (circles : Option DottedCircles) (steps : Glyphs → List Step)
     → ((gs : Glyphs) → steps (by f gs) ≡ steps gs) → (level : BufferClusterLevel) (gs : Glyphs)
     → paused_clusters circles steps level (by f gs) ≡ paused_clusters circles steps level gs
-clusters_paused-by f keeps circles steps led level gs =
-    search (arith, circled-by, clusters-by, opened-by, length-map, syllables-by, pieces-by)
+clusters_paused-by = search (arith, circled-by, clusters-by, opened-by, length-map, syllables-by, pieces-by)
 
 -- a pause of texts that are the same but for serials: its clusters
 clusters-seen : (gs : Glyphs) → clusters (map unnumbered (map carried gs)) ≡ clusters gs
@@ -118,13 +108,12 @@ clusters_paused-same circles meaning steps level gs hs reads same =
 -- a pause of two halves that meet at a border
 paused_halves : (circles : Option DottedCircles) (meaning : Glyphs → Glyphs) (gs hs : Glyphs) → MeetAtBorder gs hs
     → paused_order circles meaning (gs ++ hs) ≡ paused_order circles meaning gs ++ paused_order circles meaning hs
-paused_halves circles meaning gs hs border =
-    search (arith, circled-append, text_order-halves, border-circled)
+paused_halves = search (circled-append, text_order-halves, border-circled)
 
 -- A text that is set up, and its halves: with other masks it is the first half, and behind it the
 -- second one but for serials.
-pub record SetUpParts (f : ℕ → ℕ) (gs hs whole front back : List hb_glyph_info_t) : Type 0 where
-  pub behind : List hb_glyph_info_t
+pub record SetUpParts (f : ℕ → ℕ) (gs hs whole front back : Glyphs) : Type 0 where
+  pub behind : Glyphs
   pub parts : by f whole ≡ by f front ++ behind
   pub renumbered : SameButSerials behind (by f back)
   pub border : MeetAtBorder (by f front) behind
@@ -132,17 +121,12 @@ pub record SetUpParts (f : ℕ → ℕ) (gs hs whole front back : List hb_glyph_
   pub both : clusters whole ≡ clusters (gs ++ hs)
 
 mask_keeps : (f : ℕ → ℕ) → KeepsSame (by f)
-mask_keeps f gs hs same =
-    let told = map-seen unnumbered (with_mask_by
-    f) (λ g. refl) in
-    cc (told gs, told hs)
+mask_keeps f gs hs same = let told = map-seen unnumbered (with_mask_by f) (λ g. refl) in cc (told gs, told hs)
 
 pub same-by : (f : ℕ → ℕ) (gs hs : Glyphs) → SameButSerials gs hs → SameButSerials (by f gs) (by f hs)
-same-by f gs hs same =
-    search (arith, syllables-by, pieces_same, mask_keeps)
+same-by = search (syllables-by, pieces_same, mask_keeps)
 
-pub map-twice : (h : hb_glyph_info_t → hb_glyph_info_t) (gs : Glyphs) → map (λ g. unnumbered (h g)) gs
-    ≡ map unnumbered (map h gs)
+pub map-twice : (h : Glyph → Glyph) (gs : Glyphs) → map (λ g. unnumbered (h g)) gs ≡ map unnumbered (map h gs)
 map-twice h [] = refl
 map-twice h (g ∷ gs) = cc (map-twice h gs)
 
@@ -160,8 +144,8 @@ joined_halves f keeps circles meaning steps level laws reads meant led gs hs who
     let behind = cut.behind in
     let P = paused_order circles meaning in
     let C = paused_clusters circles steps level in
-    let view : hb_glyph_info_t → hb_glyph_info_t = λ g. unnumbered (with_mask_by f g) in
-    let shows : (zs : Glyphs) → map view zs ≡ map unnumbered (by f zs) = search (arith, map-twice) in
+    let view : Glyph → Glyph = λ g. unnumbered (with_mask_by f g) in
+    let shows : (zs : Glyphs) → map view zs ≡ map unnumbered (by f zs) = search map-twice in
     let hidden = paused-by f keeps circles meaning meant in
     let one = serials_dont_count circles meaning steps level (by f front) (by f xs) reads (same-by f front xs first) in
     let mid = cut.renumbered ∙ same-by f back ys second in
@@ -175,35 +159,27 @@ joined_halves f keeps circles meaning steps level laws reads meant led gs hs who
     ∙ drop_at (clusters gs) (clusters hs) n refl in
     record {
       order =
-          shows (order_view new) ∙ ap (λ zs. map unnumbered (by f zs)) order
-          ∙ ap (map unnumbered)
+          shows (order_view new) ∙ ap (λ zs. map unnumbered (by f zs)) order ∙ ap (map unnumbered)
           (sym (hidden whole) ∙ ap P cut.parts ∙ paused_halves circles meaning (by f front) behind cut.border)
-          ∙ map-append unnumbered (P (by f front)) (P behind)
-          ∙ ap (λ l. l ++ map unnumbered (P behind))
-          (one.order ∙ ap (map unnumbered) (hidden xs) ∙ sym (shows (P xs)))
-          ∙ ap (λ l. map view (P xs) ++ l)
+          ∙ map-append unnumbered (P (by f front)) (P behind) ∙ ap (λ l. l ++ map unnumbered (P behind))
+          (one.order ∙ ap (map unnumbered) (hidden xs) ∙ sym (shows (P xs))) ∙ ap (λ l. map view (P xs) ++ l)
           ((serials_dont_count circles meaning steps level behind (by f ys) reads mid).order ∙ ap (map unnumbered)
           (hidden ys) ∙ sym (shows (P ys)));
       in_clusters = λ none.
           in_clusters ∙ sym (clusters_paused-by f keeps circles steps led level whole) ∙ ap C cut.parts
           ∙ (let xs = circled circles (by f front) in let ys = circled circles behind in cc (
-            circled-append circles
-                (by f front) behind cut.border,
-            clusters-run_steps level (text_steps steps (order_view (xs ++ ys))) (xs ++
-                ys),
+            circled-append circles (by f front) behind cut.border,
+            clusters-run_steps level (text_steps steps (order_view (xs ++ ys))) (xs ++ ys),
             steps-halves meaning steps level xs ys laws (border-circled circles (by f front) behind cut.border)
                 (apart-circled circles (by f front) behind (apart_by (by f front) behind gs hs fl bl none)),
             map-append (λ
                 g. g.cluster) (run_steps level (text_steps steps (order_view xs)) xs) (run_steps level (text_steps steps
                 (order_view ys)) ys),
             clusters-run_steps level (text_steps steps (order_view xs)) xs,
-            clusters-run_steps
-                level (text_steps steps (order_view ys)) ys,
-          ))
-          ∙ ap (λ cs. cs ++ C behind)
+            clusters-run_steps level (text_steps steps (order_view ys)) ys,
+          )) ∙ ap (λ cs. cs ++ C behind)
           (clusters_paused-same circles meaning steps level (by f front) (by f xs) reads (same-by f front xs first) ∙
-          clusters_paused-by f keeps circles steps led level xs)
-          ∙ ap (λ cs. C xs ++ cs)
+          clusters_paused-by f keeps circles steps led level xs) ∙ ap (λ cs. C xs ++ cs)
           (clusters_paused-same circles meaning steps level behind (by f ys) reads mid ∙ clusters_paused-by f keeps
           circles steps led level ys);
     }
@@ -220,30 +196,17 @@ unchanged (g ∷ gs) = cc (unchanged gs)
 pub paused_clusters_are : (circles : Option DottedCircles) (meaning : Glyphs → Glyphs) (steps : Glyphs
     → List Step) (old new : Buffer) → PauseReordered circles meaning steps old new
     → clusters new.glyphs ≡ paused_clusters circles steps old.level old.glyphs
-paused_clusters_are circles meaning steps old new done =
-    search (arith, clusters-carried, clusters-run_steps)
+paused_clusters_are = search (arith, clusters-carried, clusters-run_steps)
 
 pub pauses_cut_between_spans : PausesCutBetweenSpans
 pauses_cut_between_spans meaning steps broken_kind laws reads circles spans old new kinds done ss ts gs hs xs ys split
     text first second one two =
     joined_halves (λ m. m) (λ m. refl) circles meaning steps old.level laws reads (λ zs.
-    search (arith, unchanged)) (λ zs. ap steps (unchanged zs))
+    search unchanged) (λ zs. ap steps (unchanged zs))
     gs hs (unsafe_spans spans old.glyphs) (unsafe_spans ss gs) (unsafe_spans ts hs) xs ys new.glyphs
     (
     let cut = spans_cut spans broken_kind old kinds ss ts gs hs split text first second in
-    search (
-      arith,
-      cut.behind,
-      unchanged (unsafe_spans spans old.glyphs),
-      cut.parts,
-      unchanged (unsafe_spans ss gs),
-      unchanged (unsafe_spans ts hs),
-      cut.renumbered,
-      cut.border,
-      clusters-set_up ss broken_kind (record old { glyphs = gs }),
-      clusters-set_up spans broken_kind old,
-    )) one two
-    done.order (search (arith, paused_clusters_are))
+    search (arith, unchanged (unsafe_spans spans old.glyphs), unchanged (unsafe_spans ss gs), unchanged (unsafe_spans ts hs), clusters-set_up ss broken_kind (record old { glyphs = gs }), clusters-set_up spans broken_kind old)) one two done.order (search paused_clusters_are)
 
 -- a pause cut at a border of syllables, of halves that may have other serials
 pub cuts_with_serials : (circles : Option DottedCircles) (meaning : Glyphs → Glyphs) (steps : Glyphs
@@ -262,6 +225,5 @@ cuts_with_serials circles meaning steps old new laws reads done gs hs xs ys text
       both = ap clusters text;
     } in
     joined_halves f (λ m. refl) circles meaning steps old.level laws reads (λ zs.
-    search (arith, unchanged)) (λ zs. ap steps (unchanged zs))
-    gs hs old.glyphs gs hs xs ys new.glyphs parts one two done.order
-    (search (arith, paused_clusters_are))
+    search unchanged) (λ zs. ap steps (unchanged zs))
+    gs hs old.glyphs gs hs xs ys new.glyphs parts one two done.order (search paused_clusters_are)

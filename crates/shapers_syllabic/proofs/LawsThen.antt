@@ -3,7 +3,7 @@ use Rattle.std.proofs.Common.{arith}
 use Rattle.std.proofs.Common.{◌<◌, ◌≡◌, Bool, true, false, if◌then◌else◌, List, [], ◌∷◌, ◌++◌, map, length, sym, subst}
 use Rattle.std.specs.List.{AllByRecursion}
 use Rattle.std.proofs.lemmas.List.{length-map}
-use Rattle.shapers_buffer.specs.declared.buffer.glyph.hb_glyph_info_t.{hb_glyph_info_t}
+use Rattle.shapers_buffer.specs.Glyphs.{Glyphs}
 use Rattle.shapers_buffer.specs.Glyph.{plain}
 use Rattle.shapers_buffer.specs.Places.{pick}
 use Rattle.shapers_buffer.proofs.MappedLists.{all-append}
@@ -18,14 +18,13 @@ use Rattle.shapers_syllabic.proofs.ReorderingLemmas.{agrees_by_places}
 use Rattle.shapers_syllabic.proofs.ReorderingWalk.{length-meaning}
 
 -- one reordering, and then another
-pub laws_then : (first next : List hb_glyph_info_t → List hb_glyph_info_t) (steps steps_then : List hb_glyph_info_t
-    → List Step) → ReorderLaws first steps → ReorderLaws next steps_then
-    → ReorderLaws (λ gs. next (first gs)) (λ gs. steps gs ++ steps_then (first gs))
+pub laws_then : (first next : Glyphs → Glyphs) (steps steps_then : Glyphs → List Step) → ReorderLaws first steps
+    → ReorderLaws next steps_then → ReorderLaws (λ gs. next (first gs)) (λ gs. steps gs ++ steps_then (first gs))
 laws_then first next steps steps_then one two =
     let k = length-meaning first steps one in
     record {
-      fits = search (arith, all-append, two.fits);
-      permutes = search (arith, all-append, two.permutes);
+      fits = search (arith, all-append);
+      permutes = search (arith, all-append);
       agrees = λ gs.
           let mid = first gs in
           let olds = old_places (length gs) (steps gs) in
@@ -41,40 +40,37 @@ laws_then first next steps steps_then one two =
     }
 
 -- a reordering that is done where a test passes
-pub laws_where : (test : List hb_glyph_info_t → Bool) (meaning : List hb_glyph_info_t → List hb_glyph_info_t)
-    (steps : List hb_glyph_info_t → List Step) → ReorderLaws meaning steps
+pub laws_where : (test : Glyphs → Bool) (meaning : Glyphs → Glyphs)
+    (steps : Glyphs → List Step) → ReorderLaws meaning steps
     → ReorderLaws (λ gs. if test gs then meaning gs else gs) (λ gs. if test gs then steps gs else [])
 laws_where test meaning steps laws = record {
   fits = λ gs. elim (test gs) as (λ b. FitSteps (length gs) (if b then steps gs else []))
       [ true ↦ laws.fits gs | false ↦ tt ];
   permutes = λ gs. elim (test gs) as (λ b. AllByRecursion (Permutes (length gs)) (if b then steps gs else []))
       [ true ↦ laws.permutes gs | false ↦ tt ];
-  agrees = search (arith, laws.agrees, pick-all, length-map);
+  agrees = search (arith, pick-all, length-map);
 }
 
 -- a reordering of one step
-pub laws_by_step : (meaning : List hb_glyph_info_t → List hb_glyph_info_t) (step : List hb_glyph_info_t → Step)
-    → ((gs : List hb_glyph_info_t) → FitsStep (length gs) (step gs))
-    → ((gs : List hb_glyph_info_t) → Permutes (length gs) (step gs))
-    → ((gs : List hb_glyph_info_t) → seen carried (meaning gs) ≡ pick (step gs).places (seen carried gs))
+pub laws_by_step : (meaning : Glyphs → Glyphs) (step : Glyphs → Step)
+    → ((gs : Glyphs) → FitsStep (length gs) (step gs)) → ((gs : Glyphs) → Permutes (length gs) (step gs))
+    → ((gs : Glyphs) → seen carried (meaning gs) ≡ pick (step gs).places (seen carried gs))
     → ReorderLaws meaning (λ gs. step gs ∷ [])
-laws_by_step meaning step fits permutes agrees = search (arith, agrees_by_places)
+laws_by_step = search agrees_by_places
 
 -- that no serial is read, of one and then another, and where a test passes
-pub reads_then : (first next : List hb_glyph_info_t → List hb_glyph_info_t) (steps steps_then : List hb_glyph_info_t
+pub reads_then : (first next : Glyphs → Glyphs) (steps steps_then : Glyphs
     → List Step) → ReadsNoSerials first steps → ReadsNoSerials next steps_then
     → ReadsNoSerials (λ gs. next (first gs)) (λ gs. steps gs ++ steps_then (first gs))
-reads_then first next steps steps_then one two = search (arith, two.meant, one.led, two.led)
+reads_then first next steps steps_then one two = search arith
 
-pub reads_where : (test : List hb_glyph_info_t → Bool) (meaning : List hb_glyph_info_t → List hb_glyph_info_t)
-    (steps : List hb_glyph_info_t → List Step)
-    → ((gs hs : List hb_glyph_info_t) → map unnumbered gs ≡ map unnumbered hs → test gs ≡ test hs)
-    → ReadsNoSerials meaning steps
+pub reads_where : (test : Glyphs → Bool) (meaning : Glyphs → Glyphs) (steps : Glyphs → List Step)
+    → ((gs hs : Glyphs) → map unnumbered gs ≡ map unnumbered hs → test gs ≡ test hs) → ReadsNoSerials meaning steps
     → ReadsNoSerials (λ gs. if test gs then meaning gs else gs) (λ gs. if test gs then steps gs else [])
-reads_where test meaning steps tests reads = search (arith, reads.meant, reads.led)
+reads_where test meaning steps tests reads = search arith
 
 -- that no serial is read, where nothing changes without serials
-pub reads_by_view : (meaning : List hb_glyph_info_t → List hb_glyph_info_t) (steps : List hb_glyph_info_t → List Step)
-    → ((gs : List hb_glyph_info_t) → map unnumbered (meaning gs) ≡ meaning (map unnumbered gs))
-    → ((gs : List hb_glyph_info_t) → steps (map unnumbered gs) ≡ steps gs) → ReadsNoSerials meaning steps
-reads_by_view meaning steps means leads = search arith
+pub reads_by_view : (meaning : Glyphs → Glyphs) (steps : Glyphs → List Step)
+    → ((gs : Glyphs) → map unnumbered (meaning gs) ≡ meaning (map unnumbered gs))
+    → ((gs : Glyphs) → steps (map unnumbered gs) ≡ steps gs) → ReadsNoSerials meaning steps
+reads_by_view = search arith

@@ -6,7 +6,7 @@ use Rattle.std.specs.List.Sorted.{IsPermutation}
 use Rattle.std.proofs.lemmas.List.{drop_all, drop-map, length-map, take_at, drop_at, drop-drop}
 use Rattle.std.proofs.lemmas.List.Sorted.{length_permutation}
 use Rattle.std.proofs.lemmas.List.Sums.{fold-append}
-use Rattle.shapers_buffer.specs.declared.buffer.glyph.hb_glyph_info_t.{hb_glyph_info_t}
+use Rattle.shapers_buffer.specs.Glyphs.{Glyph, Glyphs}
 use Rattle.shapers_buffer.specs.declared.buffer.tag.Script.{Script}
 use Rattle.shapers_buffer.specs.Buffer.{Buffer, but_places}
 use Rattle.shapers_buffer.specs.Clusters.{stretch_of}
@@ -25,10 +25,10 @@ abbrev pub Link : Type 1
 Link = ℕ → ℕ → Buffer → Buffer → Type 0
 
 abbrev pub Meaning : Type 0
-Meaning = Option Script → List hb_glyph_info_t → List hb_glyph_info_t
+Meaning = Option Script → Glyphs → Glyphs
 
 abbrev pub PermutesNumbers : Meaning → Type 0
-PermutesNumbers meaning = (script : Option Script) (gs : List hb_glyph_info_t) →
+PermutesNumbers meaning = (script : Option Script) (gs : Glyphs) →
     IsPermutation (glyph_numbers gs) (glyph_numbers (meaning script gs))
 
 -- each link orders its syllable
@@ -36,13 +36,12 @@ abbrev pub Orders : Meaning → Link → Type 0
 Orders meaning link = (s e : ℕ) (b c : Buffer) → link s e b c → SyllableOrdered (meaning b.script) s e b c
 
 -- what has the same numbers in some order has as many glyphs
-same_count : (meaning : Meaning) (script : Option Script) (gs : List hb_glyph_info_t) → PermutesNumbers meaning →
+same_count : (meaning : Meaning) (script : Option Script) (gs : Glyphs) → PermutesNumbers meaning →
     length (meaning script gs) ≡ length gs
-same_count meaning script gs permutes =
-    search (arith, length-map, length_permutation)
+same_count = search (arith, length-map, length_permutation)
 
 -- the next syllable, seen in the order view
-pub record NextSyllable (gs : List hb_glyph_info_t) (start end : ℕ) : Type 0 where
+pub record NextSyllable (gs : Glyphs) (start end : ℕ) : Type 0 where
   pub len : ℕ
   pub end_is : end ≡ start + len
   pub within : len ≤ length (drop start (order_view gs))
@@ -51,15 +50,14 @@ pub record NextSyllable (gs : List hb_glyph_info_t) (start end : ℕ) : Type 0 w
       (drop len (drop start (order_view gs)))
   pub stretch : stretch_of start end (order_view gs) ≡ take len (drop start (order_view gs))
 
-pub next_syllable : (gs : List hb_glyph_info_t) (start end : ℕ) → start < length gs →
+pub next_syllable : (gs : Glyphs) (start end : ℕ) → start < length gs →
     end ≡ start + first_syllable_len (drop start gs) → NextSyllable gs start end
 next_syllable gs start end some end_is =
     let xs = order_view gs in
     let rest = drop start xs in
     let xn : length xs ≡ length gs = length-map gs plain in
     let rn : length rest ≡ length gs - start = omega (arith, length-drop start xs) in
-    let first :
-    (first_syllable_len rest) ≡ first_syllable_len (drop start gs) = search (arith, drop-map, first_len-view) in
+    let first : (first_syllable_len rest) ≡ first_syllable_len (drop start gs) = search (drop-map, first_len-view) in
     search (arith, first_len-within, length-take-le, opens)
 
 -- one syllable that is ordered: what stands before its end then, and behind it
@@ -108,24 +106,23 @@ pub record ToLink (takes : List ℕ → Type 0) (link : Link) (old now : Buffer)
       Chain link 0 (syllable_lens (order_view old.glyphs)) old new
 
 -- the order view has the same syllables
-pub lens-view : (gs : List hb_glyph_info_t) → syllable_lens (order_view gs) ≡ syllable_lens gs
+pub lens-view : (gs : Glyphs) → syllable_lens (order_view gs) ≡ syllable_lens gs
 lens-view gs = ap (map length) (syllables-viewed plain (λ g. refl) gs) ∙ lens (syllables gs)
   where
-    lens : (pieces : List (List hb_glyph_info_t)) → map length (map (map plain) pieces) ≡ map length pieces
+    lens : (pieces : List Glyphs) → map length (map (map plain) pieces) ≡ map length pieces
     lens [] = refl
     lens (piece ∷ pieces) = ap (λ n. n ∷ map length (map (map plain) pieces)) (length-map piece plain)
         ∙ ap (λ ns. length piece ∷ ns) (lens pieces)
 
-pub numbers-view : (gs : List hb_glyph_info_t) → glyph_numbers (order_view gs) ≡ glyph_numbers gs
+pub numbers-view : (gs : Glyphs) → glyph_numbers (order_view gs) ≡ glyph_numbers gs
 numbers-view [] = refl
 numbers-view (g ∷ gs) = cc (numbers-view gs)
 
-takes-view : (takes : List ℕ → Type 0) (gs : List hb_glyph_info_t) → TakesText takes gs →
-    TakesText takes (order_view gs)
+takes-view : (takes : List ℕ → Type 0) (gs : Glyphs) → TakesText takes gs → TakesText takes (order_view gs)
 takes-view takes gs all = subst (AllByRecursion takes) (sym (ap (map glyph_numbers)
     (syllables-viewed plain (λ g. refl) gs) ∙ each (syllables gs))) all
   where
-    each : (pieces : List (List hb_glyph_info_t)) → map glyph_numbers (map (map plain) pieces) ≡ map glyph_numbers
+    each : (pieces : List Glyphs) → map glyph_numbers (map (map plain) pieces) ≡ map glyph_numbers
         pieces
     each [] = refl
     each (piece ∷ pieces) = ap (λ ns. ns ∷ map glyph_numbers (map (map plain) pieces)) (numbers-view piece)
@@ -134,7 +131,7 @@ takes-view takes gs all = subst (AllByRecursion takes) (sym (ap (map glyph_numbe
 -- before the first syllable
 pub to_link_all : (takes : List ℕ → Type 0) (link : Link) (old : Buffer) → TakesText takes old.glyphs →
     ToLink takes link old old 0
-to_link_all takes link old all = search (arith, takes-view)
+to_link_all = search (arith, takes-view)
 
 -- what is required of the next syllable
 pub takes_next : (takes : List ℕ → Type 0) (link : Link) (old now : Buffer) (start end : ℕ) →
@@ -171,11 +168,11 @@ linked_next meaning takes link old now new start end to next done others linked 
     }
 
 -- a syllable without a glyph that may change it is passed over
-abbrev pub Stays : (hb_glyph_info_t → Bool) → Link → Type 0
+abbrev pub Stays : (Glyph → Bool) → Link → Type 0
 Stays changes link = (s e : ℕ) (b : Buffer) → s < e → e ≤ length b.glyphs →
     list_any changes (stretch_of s e b.glyphs) ≡ false → link s e b b
 
-pub linked_passes : (meaning : Meaning) (takes : List ℕ → Type 0) (changes : hb_glyph_info_t → Bool) (link : Link)
+pub linked_passes : (meaning : Meaning) (takes : List ℕ → Type 0) (changes : Glyph → Bool) (link : Link)
     (old now : Buffer) → PermutesNumbers meaning → Orders meaning link → Stays changes link →
     PassesOver changes now.glyphs (ToLink takes link old now)
 linked_passes meaning takes changes link old now permutes orders stays s e some within end_is none to =
@@ -191,69 +188,61 @@ each_may link s e b some within none =
     let long : length (stretch_of s e b.glyphs) ≡ e - s = length-stretch s e b.glyphs within in
     absurd (some_any (stretch_of s e b.glyphs) (omega arith) none)
   where
-    some_any : (gs : List hb_glyph_info_t) → 0 < length gs → list_any (λ _. true) gs ≢ false
+    some_any : (gs : Glyphs) → 0 < length gs → list_any (λ _. true) gs ≢ false
     some_any [] some none = absurd (omega arith)
     some_any (g ∷ gs) some none = cc
 
 -- up to the next syllable that may change
-pub to_changing : (meaning : Meaning) (takes : List ℕ → Type 0) (changes : hb_glyph_info_t → Bool) (link : Link)
-    (old now : Buffer) (gs : List hb_glyph_info_t) (start first : ℕ) → gs ≡ now.glyphs → PermutesNumbers meaning →
+pub to_changing : (meaning : Meaning) (takes : List ℕ → Type 0) (changes : Glyph → Bool) (link : Link)
+    (old now : Buffer) (gs : Glyphs) (start first : ℕ) → gs ≡ now.glyphs → PermutesNumbers meaning →
     Orders meaning link → Stays changes link → IsNextChanging changes start gs first →
     ToLink takes link old now start → ToLink takes link old now first
 to_changing meaning takes changes link old now gs start first is permutes orders stays next to =
-    to_next changes now.glyphs (ToLink takes link old now) (
-    search (arith, linked_passes)) start first (search arith) to
+    to_next changes now.glyphs (ToLink takes link old now) (search linked_passes) start first (search arith) to
 
 -- and past it
 pub record LinkedNext (takes : List ℕ → Type 0) (link : Link) (old now new : Buffer) (end : ℕ) : Type 0 where
   pub same_length : length new.glyphs ≡ length now.glyphs
   pub to : ToLink takes link old new end
 
-pub past_changing : (meaning : Meaning) (takes : List ℕ → Type 0) (changes : hb_glyph_info_t → Bool) (link : Link)
-    (old now new : Buffer) (gs : List hb_glyph_info_t) (start first end : ℕ) → gs ≡ now.glyphs →
+pub past_changing : (meaning : Meaning) (takes : List ℕ → Type 0) (changes : Glyph → Bool) (link : Link)
+    (old now new : Buffer) (gs : Glyphs) (start first end : ℕ) → gs ≡ now.glyphs →
     PermutesNumbers meaning → Orders meaning link → Stays changes link → IsNextChanging changes start gs first →
     ToLink takes link old now start → end ≡ first + first_syllable_len (drop first now.glyphs) →
     link first end now new → LinkedNext takes link old now new end
 past_changing meaning takes changes link old now new gs start first end is permutes orders stays found to end_is linked
     =
     let reached = to_changing meaning takes changes link old now gs start first is permutes orders stays found to in
-    let some : first < length now.glyphs = omega (arith, found.inside, ap length is) in
+    let some : first < length now.glyphs = omega (arith, ap length is) in
     let ordered = orders first end now new linked in
     let next = next_syllable now.glyphs first end some end_is in
     let done = one_ordered meaning now new first end permutes next some ordered in
-    search (
-      arith,
-      done.same_length,
-      linked_next meaning takes link old now new first end reached next done ordered.others linked,
-    )
+    search (linked_next meaning takes link old now new first end reached next done ordered.others linked)
 
 -- behind the last syllable
 pub linked_end : (takes : List ℕ → Type 0) (link : Link) (old now new : Buffer) →
     ToLink takes link old now (length now.glyphs) → new ≡ but_places now → SyllablesLinked link old new
-linked_end takes link old now new to is =
-    search (arith, lens-view, to.completes, drop_all, length-map)
+linked_end takes link old now new to = search (arith, lens-view, drop_all, length-map)
 
 -- WHAT A CHAIN COMES TO
 -- the syllable that its first link orders
-record FirstLink (gs : List hb_glyph_info_t) (start : ℕ) (piece : List hb_glyph_info_t)
-    (pieces : List (List hb_glyph_info_t)) : Type 0 where
+record FirstLink (gs : Glyphs) (start : ℕ) (piece : Glyphs)
+    (pieces : List Glyphs) : Type 0 where
   some : start < length gs
   next : NextSyllable gs start (start + length piece)
   piece_is : take next.len (drop start (order_view gs)) ≡ piece
   pieces_are : syllables (drop next.len (drop start (order_view gs))) ≡ pieces
 
-some_left : (gs : List hb_glyph_info_t) (piece : List hb_glyph_info_t) (pieces : List (List hb_glyph_info_t)) →
-    syllables gs ≡ piece ∷ pieces → 0 < length gs
+some_left : (gs : Glyphs) (piece : Glyphs) (pieces : List Glyphs) → syllables gs ≡ piece ∷ pieces → 0 < length gs
 some_left [] piece pieces is = absurd (cc)
 some_left (g ∷ gs) piece pieces is = omega arith
 
-none_left : (gs : List hb_glyph_info_t) → syllables gs ≡ [] → length gs ≡ 0
+none_left : (gs : Glyphs) → syllables gs ≡ [] → length gs ≡ 0
 none_left [] is = refl
 none_left (g ∷ gs) is = search arith
 
-first_link : (gs : List hb_glyph_info_t) (start : ℕ) (piece : List hb_glyph_info_t)
-    (pieces : List (List hb_glyph_info_t)) → syllables (drop start (order_view gs)) ≡ piece ∷ pieces →
-    FirstLink gs start piece pieces
+first_link : (gs : Glyphs) (start : ℕ) (piece : Glyphs) (pieces : List Glyphs)
+    → syllables (drop start (order_view gs)) ≡ piece ∷ pieces → FirstLink gs start piece pieces
 first_link gs start piece pieces is =
     let rest = drop start (order_view gs) in
     let k = first_syllable_len rest in
@@ -279,10 +268,9 @@ record OrderedFrom (meaning : Meaning) (now new : Buffer) (start : ℕ) : Type 0
   order : order_view new.glyphs ≡ take start (order_view now.glyphs) ++ text_order (meaning now.script)
       (drop start (order_view now.glyphs))
 
-ordered_from : (meaning : Meaning) (link : Link) → PermutesNumbers meaning → Orders meaning link →
-    (pieces : List (List hb_glyph_info_t)) (now new : Buffer) (start : ℕ) →
-    syllables (drop start (order_view now.glyphs)) ≡ pieces → Chain link start (map length pieces) now new →
-    OrderedFrom meaning now new start
+ordered_from : (meaning : Meaning) (link : Link) → PermutesNumbers meaning → Orders meaning link
+    → (pieces : List Glyphs) (now new : Buffer) (start : ℕ) → syllables (drop start (order_view now.glyphs)) ≡ pieces
+    → Chain link start (map length pieces) now new → OrderedFrom meaning now new start
 ordered_from meaning link permutes orders [] now new start is chain =
     let xs = order_view now.glyphs in
     search (arith, append-nil xs, take_all start xs (omega (arith, none_left (drop start xs) is, length-drop start xs)))
@@ -296,13 +284,6 @@ ordered_from meaning link permutes orders (piece ∷ pieces) now new start is ch
     (ap syllables done.after ∙ first.pieces_are) chain.2 in
     search (
       arith,
-      later.others,
-      ordered.others,
-      later.order,
-      done.before,
-      first.piece_is,
-      done.after,
-      first.pieces_are,
       append_assoc (take start (order_view now.glyphs)) (meaning now.script piece)
           (flat_map (meaning now.script) pieces),
     )
@@ -310,28 +291,27 @@ ordered_from meaning link permutes orders (piece ∷ pieces) now new start is ch
 -- the chain over a text, seen in the order view
 chain-view : (link : Link) (old new : Buffer) → SyllablesLinked link old new →
     Chain link 0 (syllable_lens (order_view old.glyphs)) old new
-chain-view link old new chain = search (arith, lens-view)
+chain-view = search lens-view
 
 pub text_ordered : (meaning : Meaning) (link : Link) (old new : Buffer) → PermutesNumbers meaning →
     Orders meaning link → SyllablesLinked link old new → TextOrdered (meaning old.script) old new
 text_ordered meaning link old new permutes orders chain =
     let done = ordered_from meaning link permutes orders (syllables (order_view old.glyphs)) old new 0 refl
     (chain-view link old new chain) in
-    search (arith, done.others, done.order)
+    search
 
 -- a syllable that is reordered by steps is ordered
-pub ordered_by_steps : (meaning : List hb_glyph_info_t → List hb_glyph_info_t)
-    (steps : List hb_glyph_info_t → List Step) (s e : ℕ) (old new : Buffer) →
-    SyllableReordered meaning steps s e old new → SyllableOrdered meaning s e old new
-ordered_by_steps meaning steps s e old new done = search arith
+pub ordered_by_steps : (meaning : Glyphs → Glyphs) (steps : Glyphs → List Step) (s e : ℕ) (old new : Buffer)
+    → SyllableReordered meaning steps s e old new → SyllableOrdered meaning s e old new
+ordered_by_steps = search arith
 
 -- where each link leads by steps: the glyphs that all steps lead to
-abbrev pub Leads : Meaning → (Option Script → List hb_glyph_info_t → List Step) → Link → Type 0
+abbrev pub Leads : Meaning → (Option Script → Glyphs → List Step) → Link → Type 0
 Leads meaning steps link = (s e : ℕ) (b c : Buffer) → link s e b c →
     SyllableReordered (meaning b.script) (steps b.script) s e b c
 
-moved_from : (meaning : Meaning) (steps : Option Script → List hb_glyph_info_t → List Step) (link : Link) →
-    PermutesNumbers meaning → Leads meaning steps link → (pieces : List (List hb_glyph_info_t)) (now new : Buffer)
+moved_from : (meaning : Meaning) (steps : Option Script → Glyphs → List Step) (link : Link) →
+    PermutesNumbers meaning → Leads meaning steps link → (pieces : List Glyphs) (now new : Buffer)
     (start : ℕ) → syllables (drop start (order_view now.glyphs)) ≡ pieces →
     Chain link start (map length pieces) now new → map carried new.glyphs ≡ map carried
     (run_steps now.level (steps_along (length now.glyphs) start (pieces_of (steps now.script) pieces)) now.glyphs)
@@ -351,7 +331,7 @@ moved_from meaning steps link permutes leads (piece ∷ pieces) now new start is
     )
 
 -- so a text is reordered by the steps of its syllables
-pub text_moved : (meaning : Meaning) (steps : Option Script → List hb_glyph_info_t → List Step) (link : Link)
+pub text_moved : (meaning : Meaning) (steps : Option Script → Glyphs → List Step) (link : Link)
     (old new : Buffer) → PermutesNumbers meaning → Leads meaning steps link → SyllablesLinked link old new →
     SyllablesReordered (meaning old.script) (steps old.script) old new
 text_moved meaning steps link old new permutes leads chain =
@@ -359,16 +339,13 @@ text_moved meaning steps link old new permutes leads chain =
     (steps b.script) s e b c (leads s e b c linked)) chain in
     search (
       arith,
-      ordered.others,
-      ordered.order,
       moved_from meaning steps link permutes leads (syllables (order_view old.glyphs)) old new 0 refl
           (chain-view link old new chain),
       length-map old.glyphs plain,
     )
 
 -- what is required of a text, by an order that requires nothing of numbers
-pub takes_any : (takes : List ℕ → Type 0) → ((ns : List ℕ) → takes ns) → (gs : List hb_glyph_info_t) →
-    TakesText takes gs
+pub takes_any : (takes : List ℕ → Type 0) → ((ns : List ℕ) → takes ns) → (gs : Glyphs) → TakesText takes gs
 takes_any takes all gs = each (map glyph_numbers (syllables gs))
   where
     each : (pieces : List (List ℕ)) → AllByRecursion takes pieces

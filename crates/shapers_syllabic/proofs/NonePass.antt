@@ -16,11 +16,10 @@ none_behind test n xs none =
 pub filter-none : {X : Type 0} (test : X → Bool) (xs : List X) → list_any test xs ≡ false → filter test xs ≡ []
 filter-none test [] h = refl
 filter-none test (x ∷ xs) h =
-    let parts : (test x ≡ false) × (list_any test xs ≡ false) = search (arith, or_parts) in
+    let parts : (test x ≡ false) × (list_any test xs ≡ false) = search arith in
     rw parts.0 (filter-none test xs parts.1)
 
 pub filter_not-none : {X : Type 0} (test : X → Bool) (xs : List X) → list_any test xs ≡ false
     → filter (λ x. not (test x)) xs ≡ xs
 filter_not-none test [] h = refl
-filter_not-none test (x ∷ xs) h =
-    search (arith, filter_not-none test xs (or_parts (test x) (list_any test xs) h).1)
+filter_not-none test (x ∷ xs) h = search (arith, filter_not-none test xs (or_parts (test x) (list_any test xs) h).1)

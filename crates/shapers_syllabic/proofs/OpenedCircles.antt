@@ -1,7 +1,7 @@
 -- A broken syllable opened in place: what the steps of the code make of the glyphs.
 use Rattle.std.proofs.Common.{ℕ, suc, ◌+◌, ◌-◌, ◌<◌, ◌≤◌, ◌≡◌, List, ◌∷◌, ◌++◌, length, take, drop, sym, ◌∙◌, ap, arith, append_assoc, slice_set}
 use Rattle.std.proofs.lemmas.List.{drop_at, drop-drop, drop-take, set_split, take-take, take_at, length-take-le}
-use Rattle.shapers_buffer.specs.declared.buffer.glyph.hb_glyph_info_t.{hb_glyph_info_t}
+use Rattle.shapers_buffer.specs.Glyphs.{Glyphs}
 use Rattle.shapers_buffer.specs.Clusters.{stretch_of}
 use Rattle.shapers_syllabic.specs.declared.ot_shaper_syllabic.circles.DottedCircles.{DottedCircles}
 use Rattle.shapers_syllabic.specs.Circles.{circle_in, count_of_kind, rephas_len, with_circle, with_circles}
@@ -12,23 +12,21 @@ front_taken : {X : Type 0} (s n : ℕ) (xs ys : List X) → s ≤ n → take n x
 front_taken s n xs ys h same = cc (take-take s n xs h, take-take s n ys h)
 
 stretch_in : {X : Type 0} (s e : ℕ) (xs : List X) → s ≤ e → stretch_of s e xs ≡ drop s (take e xs)
-stretch_in s e xs h = sym (drop-take s (e - s) xs)
-    ∙ ap (λ n. drop s (take n xs)) (omega arith)
+stretch_in s e xs h = sym (drop-take s (e - s) xs) ∙ ap (λ n. drop s (take n xs)) (omega arith)
 
 stretch_taken : {X : Type 0} (s e n : ℕ) (xs ys : List X) → s ≤ e → e ≤ n → take n xs ≡ take n ys
     → stretch_of s e xs ≡ stretch_of s e ys
-stretch_taken s e n xs ys h l same = search (arith, stretch_in, front_taken)
+stretch_taken = search (arith, stretch_in, front_taken)
 
 -- one element written
 drop_set : {X : Type 0} (i : ℕ) (x : X) (xs : List X) → i < length xs → drop i (slice_set xs i x) ≡ x ∷ drop (suc i) xs
-drop_set i x xs h = search (arith, set_split, drop_at, length-take-le)
+drop_set = search (arith, set_split, drop_at, length-take-le)
 
 take_set : {X : Type 0} (s i : ℕ) (x : X) (xs : List X) → i < length xs → s ≤ i → take s (slice_set xs i x) ≡ take s xs
-take_set s i x xs h l =
-    search (arith, front_taken, set_split, take_at, length-take-le)
+take_set = search (arith, front_taken, set_split, take_at, length-take-le)
 
 -- the glyphs before, after the rest of the syllable has moved up, and after its rephas have
-pub record Opening (rule : DottedCircles) (s e p left : ℕ) (gs hs ms : List hb_glyph_info_t) : Type 0 where
+pub record Opening (rule : DottedCircles) (s e p left : ℕ) (gs hs ms : Glyphs) : Type 0 where
   pub some : 0 < left
   pub in_order : s < e
   pub inside : p ≤ e
@@ -43,14 +41,12 @@ pub record Opening (rule : DottedCircles) (s e p left : ℕ) (gs hs ms : List hb
       ≡ stretch_of s p (slice_set hs (p + left - 1) (circle_in (stretch_of s e gs) rule.circle))
       ++ drop (p + (left - 1)) (slice_set hs (p + left - 1) (circle_in (stretch_of s e gs) rule.circle))
 
-pub opening_front : (rule : DottedCircles) (s e p left : ℕ) (gs hs ms : List hb_glyph_info_t)
+pub opening_front : (rule : DottedCircles) (s e p left : ℕ) (gs hs ms : Glyphs)
     → Opening rule s e p left gs hs ms → take s ms ≡ take s gs
-opening_front rule s e p left gs hs ms o =
-    search (arith, front_taken, take_set)
+opening_front = search (arith, front_taken, take_set)
 
-pub opening_behind : (rule : DottedCircles) (s e p left : ℕ) (gs hs ms : List hb_glyph_info_t)
-    → Opening rule s e p left gs hs ms → drop (s + left - 1) ms ≡ with_circle rule (stretch_of s e gs)
-    ++ drop (e + left) gs
+pub opening_behind : (rule : DottedCircles) (s e p left : ℕ) (gs hs ms : Glyphs) → Opening rule s e p left gs hs ms
+    → drop (s + left - 1) ms ≡ with_circle rule (stretch_of s e gs) ++ drop (e + left) gs
 opening_behind rule s e p left gs hs ms o =
     let syllable = stretch_of s e gs in
     let circle = circle_in syllable rule.circle in
@@ -58,25 +54,24 @@ opening_behind rule s e p left gs hs ms o =
     let written = slice_set hs i circle in
     let r = rephas_len rule.repha syllable in
     let inside : i < length hs = search arith in
-    let next : suc i ≡ p + left = omega (arith, o.some) in
-    let kept : take p written ≡ take p gs = take_set p i circle hs inside (omega (arith, o.some))
+    let next : suc i ≡ p + left = omega arith in
+    let kept : take p written ≡ take p gs = take_set p i circle hs inside (omega arith)
     ∙ front_taken p (p + left) hs gs (omega arith) o.first_front in
     let rephas : stretch_of s p written ≡ take r syllable =
-    stretch_taken s p p written gs (omega (arith, o.rephas)) (omega arith) kept
-    ∙ ap (λ n. take n (drop s gs)) (omega (arith, o.rephas)) ∙ sym (take-take r (e - s) (drop s gs) (omega arith)) in
+    stretch_taken s p p written gs (omega arith) (omega arith) kept
+    ∙ ap (λ n. take n (drop s gs)) (omega arith) ∙ sym (take-take r (e - s) (drop s gs) (omega arith)) in
     let others : stretch_of p e gs ≡ drop r syllable =
     ap (λ n. take (e - p) (drop n gs)) o.rephas ∙ ap (take (e - p)) (sym (drop-drop r s gs))
-    ∙ sym (drop-take r (e - p) (drop s gs))
-    ∙ ap (λ n. drop r (take n (drop s gs))) (sym (omega (arith, o.rephas, o.inside))) in
+    ∙ sym (drop-take r (e - p) (drop s gs)) ∙ ap (λ n. drop r (take n (drop s gs))) (sym (omega arith)) in
     let rest : drop (p + (left - 1)) written ≡ circle ∷ (drop r syllable ++ drop (e + left) gs) =
-    ap (λ n. drop n written) (omega (arith, o.some)) ∙ drop_set i circle hs inside ∙ ap (λ n. circle ∷ drop n hs) next
+    ap (λ n. drop n written) (omega arith) ∙ drop_set i circle hs inside ∙ ap (λ n. circle ∷ drop n hs) next
     ∙ ap (λ l. circle ∷ l) (o.first_behind ∙ ap (λ l. l ++ drop (e + left) gs) others) in
-    ap (λ n. drop n ms) (omega (arith, o.some)) ∙ o.then_behind ∙ ap (λ l. l ++ drop (p + (left - 1)) written) rephas
+    ap (λ n. drop n ms) (omega arith) ∙ o.then_behind ∙ ap (λ l. l ++ drop (p + (left - 1)) written) rephas
     ∙ ap (λ l. take r syllable ++ l) rest
     ∙ sym (append_assoc (take r syllable) (circle ∷ drop r syllable) (drop (e + left) gs))
 
 -- the last broken syllable opened, where what stands behind it has moved up first
-pub record Opened (rule : DottedCircles) (read left s e : ℕ) (gs hs ms : List hb_glyph_info_t) : Type 0 where
+pub record Opened (rule : DottedCircles) (read left s e : ℕ) (gs hs ms : Glyphs) : Type 0 where
   pub some : 0 < left
   pub within : read + left ≤ length gs
   pub room : left ≡ count_of_kind rule.broken_kind (take read gs)
@@ -87,26 +82,10 @@ pub record Opened (rule : DottedCircles) (read left s e : ℕ) (gs hs ms : List 
   pub then_front : take s ms ≡ take s hs
   pub then_behind : drop (s + left - 1) ms ≡ with_circle rule (stretch_of s e hs) ++ drop (e + left) hs
 
-pub is_opened : (rule : DottedCircles) (read left s e : ℕ) (gs hs ms : List hb_glyph_info_t)
+pub is_opened : (rule : DottedCircles) (read left s e : ℕ) (gs hs ms : Glyphs)
     → Opened rule read left s e gs hs ms → IsOpened rule read left s gs ms
 is_opened rule read left s e gs hs ms o =
     let n : length (take read gs) ≡ read = search (arith, length-take-le) in
-    let inside : e ≤ read = omega (arith, o.broken.within) in
+    let inside : e ≤ read = omega arith in
     let rest = drop (read + left) gs in
-    search (
-      arith,
-      o.same_length,
-      o.then_front,
-      front_taken s (e + left) hs gs (omega arith) o.first_front,
-      o.broken.text,
-      take-take s read gs (omega arith),
-      stretch_taken s e read (take read gs) gs (omega arith) inside (take-take read read gs (omega arith)),
-      stretch_taken s e (e + left) hs gs (omega arith) (omega arith) o.first_front,
-      stretch_in e read gs inside,
-      append_assoc (with_circles rule (take s gs)) (with_circle rule (stretch_of s e hs) ++ stretch_of e read gs) rest,
-      append_assoc (with_circle rule (stretch_of s e hs)) (stretch_of e read gs) rest,
-      o.first_behind,
-      o.then_behind,
-      o.room,
-      o.broken.count,
-    )
+    search (arith, front_taken s (e + left) hs gs (omega arith) o.first_front, take-take s read gs (omega arith), stretch_taken s e read (take read gs) gs (omega arith) inside (take-take read read gs (omega arith)), stretch_taken s e (e + left) hs gs (omega arith) (omega arith) o.first_front, stretch_in e read gs inside, append_assoc (with_circles rule (take s gs)) (with_circle rule (stretch_of s e hs) ++ stretch_of e read gs) rest, append_assoc (with_circle rule (stretch_of s e hs)) (stretch_of e read gs) rest)

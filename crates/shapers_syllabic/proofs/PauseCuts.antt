@@ -2,7 +2,7 @@
 use Rattle.std.proofs.Common.{ℕ, ◌≡◌, List, [], ◌∷◌, ◌++◌, map, length, drop, refl, sym, ◌∙◌, ap, arith}
 use Rattle.std.specs.List.{flat_map}
 use Rattle.std.proofs.lemmas.List.{drop_at, length-map, map-append}
-use Rattle.shapers_buffer.specs.declared.buffer.glyph.hb_glyph_info_t.{hb_glyph_info_t}
+use Rattle.shapers_buffer.specs.Glyphs.{Glyph, Glyphs}
 use Rattle.shapers_buffer.specs.declared.buffer.syllables.Span.{Span}
 use Rattle.shapers_buffer.specs.Buffer.{Buffer}
 use Rattle.shapers_buffer.specs.Glyph.{clusters}
@@ -18,23 +18,20 @@ use Rattle.shapers_syllabic.proofs.Serials.{serials_dont_count}
 use Rattle.shapers_syllabic.proofs.SpanCuts.{spans_cut}
 
 -- a set-up keeps the clusters
-pub clusters-flagged : (pieces : List (List hb_glyph_info_t)) → clusters (flat_map (flagged 3) pieces)
+pub clusters-flagged : (pieces : List Glyphs) → clusters (flat_map (flagged 3) pieces)
     ≡ clusters (flat_map (λ piece. piece) pieces)
 clusters-flagged [] = refl
-clusters-flagged (piece ∷ pieces) =
-    search (arith, map-append, map-flagged, clusters-flagged pieces)
+clusters-flagged (piece ∷ pieces) = search (map-append, map-flagged, clusters-flagged pieces)
 
-clusters-with_bytes : (gs : List hb_glyph_info_t) (bytes : List ℕ) → clusters (with_bytes gs bytes) ≡ clusters gs
-clusters-with_bytes [] bytes = refl
-clusters-with_bytes (g ∷ gs) [] = refl
+clusters-with_bytes : (gs : Glyphs) (bytes : List ℕ) → clusters (with_bytes gs bytes) ≡ clusters gs
 clusters-with_bytes (g ∷ gs) (byte ∷ bytes) = cc (clusters-with_bytes gs bytes)
+clusters-with_bytes _ _ = refl
 
 pub clusters-set_up : (spans : List Span) (broken_kind : ℕ) (b : Buffer)
     → clusters (spans_set_up spans broken_kind b).glyphs ≡ clusters b.glyphs
-clusters-set_up spans broken_kind b =
-    search (arith, clusters-flagged, joined-syllables, clusters-with_bytes)
+clusters-set_up = search (clusters-flagged, joined-syllables, clusters-with_bytes)
 
-pub apart_by : (xs ys gs hs : List hb_glyph_info_t) → clusters xs ≡ clusters gs → clusters ys ≡ clusters hs
+pub apart_by : (xs ys gs hs : Glyphs) → clusters xs ≡ clusters gs → clusters ys ≡ clusters hs
     → ShareNone gs hs → ShareNone xs ys
 apart_by xs ys gs hs a b none i j il jl same =
     let x : length xs ≡ length gs = search (arith, length-map) in
@@ -43,7 +40,7 @@ apart_by xs ys gs hs a b none i j il jl same =
 
 pub pauses_cut : PausesCutAtSpans
 pauses_cut circles meaning steps spans broken_kind old new laws reads kinds done ss ts gs hs split text first second =
-    let cluster : hb_glyph_info_t → ℕ = λ g. g.cluster in
+    let cluster : Glyph → ℕ = λ g. g.cluster in
     let before = (spans_set_up ss broken_kind (record old { glyphs = gs })).glyphs in
     let cut = spans_cut spans broken_kind old kinds ss ts gs hs split text first second in
     let behind = cut.behind in
@@ -64,8 +61,7 @@ pauses_cut circles meaning steps spans broken_kind old new laws reads kinds done
           ap (map unnumbered) pause.order
           ∙ map-append unnumbered (paused_order circles meaning before) (paused_order circles meaning behind)
           ∙ ap (λ l. map unnumbered (paused_order circles meaning before) ++ l) serials.order;
-      moved = λ none.
-          ap (map unnumbered) (pause.moved (apart_by before behind gs hs front back none))
+      moved = λ none. ap (map unnumbered) (pause.moved (apart_by before behind gs hs front back none))
           ∙ map-append unnumbered (paused_carried circles steps old.level before)
           (paused_carried circles steps old.level behind)
           ∙ ap (λ l. map unnumbered (paused_carried circles steps old.level before) ++ l) serials.moved;

@@ -5,7 +5,7 @@ use Rattle.std.specs.List.{Contains}
 use Rattle.std.proofs.lemmas.List.{get_or_default, length-map, map-append}
 use Rattle.std.proofs.lemmas.List.Concat.{flat_map-append}
 use Rattle.std.proofs.lemmas.List.Elements.{All-append, All-cons, All-drop, All-get_or, All-head, All-take}
-use Rattle.shapers_buffer.specs.declared.buffer.glyph.hb_glyph_info_t.{hb_glyph_info_t}
+use Rattle.shapers_buffer.specs.Glyphs.{Glyph, Glyphs}
 use Rattle.shapers_buffer.specs.declared.buffer.level.BufferClusterLevel.{BufferClusterLevel}
 use Rattle.shapers_buffer.specs.Glyph.{clusters, order_view, plain}
 use Rattle.shapers_buffer.specs.Syllables.{syllables}
@@ -17,22 +17,21 @@ use Rattle.shapers_syllabic.specs.Circles.{circle_in, circled, circled_syllable,
 use Rattle.shapers_syllabic.specs.Reordering.{carried, text_order, text_steps}
 use Rattle.shapers_syllabic.specs.Borders.{MeetAtBorder}
 use Rattle.shapers_syllabic.specs.ReorderingLaws.{ReorderLaws, ReorderingCutsAtBorders}
-use Rattle.shapers_syllabic.proofs.Borders.{OfByte, SameEnds, border-view, border_by, ends-kept, syllables-append, syllables_cut}
+use Rattle.shapers_syllabic.proofs.Borders.{OfByte, SameEnds, border-view, ends-kept, syllables-append, syllables_cut}
 use Rattle.shapers_syllabic.proofs.CircleLaws.{circles_keep_clusters, joined-syllables}
 use Rattle.shapers_syllabic.proofs.ReorderingLaws.{each_piece, sum-syllables, text_steps-long}
 use Rattle.shapers_syllabic.proofs.ReorderingWalk.{pieces_of}
 
 -- a circle keeps the ends of its syllable
-circle_byte : (byte : ℕ) (gs : List hb_glyph_info_t) (circle : hb_glyph_info_t) → OfByte byte gs
-    → (circle_in gs circle).syllable ≡ byte
-circle_byte byte [] circle u = search arith
-circle_byte byte (g ∷ gs) circle u = search (arith, All-head)
+circle_byte : (byte : ℕ) (gs : Glyphs) (circle : Glyph) → OfByte byte gs → (circle_in gs circle).syllable ≡ byte
+circle_byte byte [] = search arith
+circle_byte byte (g ∷ gs) = search (arith, All-head)
 
-circled_byte : (rule : DottedCircles) (byte : ℕ) (gs : List hb_glyph_info_t) (broken : Bool) → OfByte byte gs
+circled_byte : (rule : DottedCircles) (byte : ℕ) (gs : Glyphs) (broken : Bool) → OfByte byte gs
     → OfByte byte (if broken then with_circle rule gs else gs)
 circled_byte rule byte gs false u = u
 circled_byte rule byte gs true u =
-    let P : hb_glyph_info_t → Type 0 = λ g. g.syllable ≡ byte in
+    let P : Glyph → Type 0 = λ g. g.syllable ≡ byte in
     let n = rephas_len rule.repha gs in
     let circle = circle_in gs rule.circle in
     search (
@@ -42,41 +41,38 @@ circled_byte rule byte gs true u =
           (All-cons P circle (drop n gs) (circle_byte byte gs rule.circle u) (All-drop P n gs u.all)),
     )
 
-pub circled_syllable_byte : (rule : DottedCircles) (byte : ℕ) (gs : List hb_glyph_info_t) → OfByte byte gs
+pub circled_syllable_byte : (rule : DottedCircles) (byte : ℕ) (gs : Glyphs) → OfByte byte gs
     → OfByte byte (circled_syllable rule gs)
-circled_syllable_byte rule byte gs u = search (arith, circled_byte)
+circled_syllable_byte = search circled_byte
 
-ends-circled : (circles : Option DottedCircles) (gs : List hb_glyph_info_t) → SameEnds (circled circles gs) gs
+ends-circled : (circles : Option DottedCircles) (gs : Glyphs) → SameEnds (circled circles gs) gs
 ends-circled None gs = search arith
-ends-circled (Some rule) gs =
-    search (
-      arith,
-      joined-syllables gs,
-      ends-kept (circled_syllable rule) (circled_syllable_byte rule) (syllables gs) (syllables_cut gs),
-    )
+ends-circled (Some rule) gs = search (
+  arith,
+  joined-syllables gs,
+  ends-kept (circled_syllable rule) (circled_syllable_byte rule) (syllables gs) (syllables_cut gs),
+)
 
 -- circles of the halves
-pub border-circled : (circles : Option DottedCircles) (gs hs : List hb_glyph_info_t) → MeetAtBorder gs hs
+pub border-circled : (circles : Option DottedCircles) (gs hs : Glyphs) → MeetAtBorder gs hs
     → MeetAtBorder (circled circles gs) (circled circles hs)
-border-circled circles gs hs border =
-    search (arith, border_by, ends-circled)
+border-circled = search (arith, ends-circled)
 
-pub circled-append : (circles : Option DottedCircles) (gs hs : List hb_glyph_info_t) → MeetAtBorder gs hs
+pub circled-append : (circles : Option DottedCircles) (gs hs : Glyphs) → MeetAtBorder gs hs
     → circled circles (gs ++ hs) ≡ circled circles gs ++ circled circles hs
 circled-append None gs hs border = refl
-circled-append (Some rule) gs hs border = search (arith, syllables-append, flat_map-append)
+circled-append (Some rule) gs hs border = search (syllables-append, flat_map-append)
 
-cluster_of : (circles : Option DottedCircles) (gs : List hb_glyph_info_t) (i : ℕ) → i < length (circled circles gs)
+cluster_of : (circles : Option DottedCircles) (gs : Glyphs) (i : ℕ) → i < length (circled circles gs)
     → (k : ℕ) × (k < length gs) × (slice_index (clusters gs) k ≡ slice_index (clusters (circled circles gs)) i)
 cluster_of None gs i h = (i, h, refl)
 cluster_of (Some rule) gs i h =
     let n = length-map gs (λ g. g.cluster) in
     let found = All-get_or (λ c. Contains (clusters gs) c)
-    (clusters (with_circles rule gs)) i 0 (search (arith, length-map))
-    (circles_keep_clusters rule gs) in
+    (clusters (with_circles rule gs)) i 0 (search length-map) (circles_keep_clusters rule gs) in
     search (arith, get_or_default)
 
-pub apart-circled : (circles : Option DottedCircles) (gs hs : List hb_glyph_info_t) → ShareNone gs hs
+pub apart-circled : (circles : Option DottedCircles) (gs hs : Glyphs) → ShareNone gs hs
     → ShareNone (circled circles gs) (circled circles hs)
 apart-circled circles gs hs none i j il jl same =
     let a = cluster_of circles gs i il in
@@ -84,17 +80,17 @@ apart-circled circles gs hs none i j il jl same =
     none a.0 b.0 a.1 b.1 (a.2 ∙ same ∙ sym b.2)
 
 -- the text order of the halves, and their steps
-pub text_order-append : (meaning : List hb_glyph_info_t → List hb_glyph_info_t) (gs hs : List hb_glyph_info_t)
+pub text_order-append : (meaning : Glyphs → Glyphs) (gs hs : Glyphs)
     → MeetAtBorder gs hs → text_order meaning (gs ++ hs) ≡ text_order meaning gs ++ text_order meaning hs
-text_order-append meaning gs hs border = search (arith, syllables-append, flat_map-append)
+text_order-append = search (syllables-append, flat_map-append)
 
-pub text_order-halves : (meaning : List hb_glyph_info_t → List hb_glyph_info_t) (gs hs : List hb_glyph_info_t)
+pub text_order-halves : (meaning : Glyphs → Glyphs) (gs hs : Glyphs)
     → MeetAtBorder gs hs → text_order meaning (order_view (gs ++ hs)) ≡ text_order meaning (order_view gs)
     ++ text_order meaning (order_view hs)
-text_order-halves meaning gs hs border = search (arith, map-append, text_order-append, border-view)
+text_order-halves = search (map-append, text_order-append, border-view)
 
-pub steps-halves : (meaning : List hb_glyph_info_t → List hb_glyph_info_t) (steps : List hb_glyph_info_t
-    → List Step) (level : BufferClusterLevel) (gs hs : List hb_glyph_info_t) → ReorderLaws meaning steps
+pub steps-halves : (meaning : Glyphs → Glyphs) (steps : Glyphs
+    → List Step) (level : BufferClusterLevel) (gs hs : Glyphs) → ReorderLaws meaning steps
     → MeetAtBorder gs hs → ShareNone gs hs → run_steps level (text_steps steps (order_view (gs ++ hs))) (gs ++ hs)
     ≡ run_steps level (text_steps steps (order_view gs)) gs ++ run_steps level (text_steps steps (order_view hs)) hs
 steps-halves meaning steps level gs hs laws border none =
@@ -103,17 +99,14 @@ steps-halves meaning steps level gs hs laws border none =
     let ps = pieces_of steps (syllables xs) in
     ap (λ sts. run_steps level sts (gs ++ hs)) (text_steps-long steps (gs ++ hs))
     ∙ ap (λ n. run_steps level (steps_along n 0 (pieces_of steps (syllables (order_view (gs ++ hs))))) (gs ++ hs))
-    (length-append gs hs)
-    ∙ ap (λ pieces. run_steps level (steps_along (length gs + length hs) 0 pieces) (gs ++ hs))
-    (ap (pieces_of steps) (search (arith, map-append, syllables-append, border-view)) ∙ map-append (λ syl. (
-      length
-          syl,
+    (length-append gs hs) ∙ ap (λ pieces. run_steps level (steps_along (length gs + length hs) 0 pieces) (gs ++ hs))
+    (ap (pieces_of steps) (search (map-append, syllables-append, border-view)) ∙ map-append (λ syl. (
+      length syl,
       steps syl,
     )) (syllables xs) (syllables ys))
     ∙ halves_hold level ps (pieces_of steps (syllables ys)) gs hs (sum-syllables steps xs ∙ length-map gs plain)
     (sum-syllables steps ys ∙ length-map hs plain) (each_piece FitsStep steps laws.fits (syllables xs))
-    (each_piece FitsStep steps laws.fits (syllables ys)) none
-    ∙ sym
+    (each_piece FitsStep steps laws.fits (syllables ys)) none ∙ sym
     (ap (λ sts. run_steps level sts gs ++ run_steps level (text_steps steps ys) hs) (text_steps-long steps gs) ∙ ap
     (λ sts. run_steps level (steps_along (length gs) 0 ps) gs ++ run_steps level sts hs) (text_steps-long steps hs))
 
@@ -128,7 +121,6 @@ cuts_at_borders circles meaning steps old new laws done gs hs whole border =
       order = search (arith, text_order-halves);
       moved = λ none.
           cc (
-            done.moved,
             steps-halves meaning steps old.level xs ys laws meet (apart-circled circles gs hs none),
             map-append carried (run_steps old.level (text_steps steps (order_view xs)) xs)
                 (run_steps old.level (text_steps steps (order_view ys)) ys),

@@ -5,7 +5,7 @@ use Rattle.std.specs.List.Sorted.{IsPermutation}
 use Rattle.std.proofs.lemmas.List.{length-map, map-append}
 use Rattle.std.proofs.lemmas.List.Sorted.{IsPermutation-append, IsPermutation-map, IsPermutation-refl}
 use Rattle.std.proofs.lemmas.List.Sums.{sum_by-cons}
-use Rattle.shapers_buffer.specs.declared.buffer.glyph.hb_glyph_info_t.{hb_glyph_info_t}
+use Rattle.shapers_buffer.specs.Glyphs.{Glyphs}
 use Rattle.shapers_buffer.specs.declared.buffer.level.BufferClusterLevel.TheVariants.{Characters}
 use Rattle.shapers_buffer.specs.Glyph.{order_view, plain}
 use Rattle.shapers_buffer.specs.Syllables.{syllables}
@@ -20,40 +20,31 @@ use Rattle.shapers_syllabic.proofs.ReorderingLemmas.{carried_hides}
 use Rattle.shapers_syllabic.proofs.ReorderingWalk.{pieces_of}
 
 -- what a syllable becomes has what it had
-kept_syllable : (meaning : List hb_glyph_info_t → List hb_glyph_info_t) (steps : List hb_glyph_info_t → List Step)
-    → ReorderLaws meaning steps → (gs : List hb_glyph_info_t)
+kept_syllable : (meaning : Glyphs → Glyphs) (steps : Glyphs → List Step) → ReorderLaws meaning steps → (gs : Glyphs)
     → IsPermutation (seen carried gs) (seen carried (meaning gs))
-kept_syllable meaning steps laws gs =
-    search (
-      arith,
-      seen-run_steps carried carried_hides Characters (steps gs) gs,
-      laws.agrees gs,
-      seen-permuted carried carried_hides Characters (steps gs) gs (laws.fits gs) (laws.permutes gs),
-    )
+kept_syllable meaning steps laws gs = search (arith, seen-run_steps carried carried_hides Characters (steps gs) gs, seen-permuted carried carried_hides Characters (steps gs) gs (laws.fits gs) (laws.permutes gs))
 
-kept_pieces : (meaning : List hb_glyph_info_t → List hb_glyph_info_t) (steps : List hb_glyph_info_t → List Step)
-    → ReorderLaws meaning steps → (pieces : List (List hb_glyph_info_t))
+kept_pieces : (meaning : Glyphs → Glyphs) (steps : Glyphs → List Step)
+    → ReorderLaws meaning steps → (pieces : List Glyphs)
     → IsPermutation (seen carried (flat_map (λ piece. piece) pieces)) (seen carried (flat_map meaning pieces))
 kept_pieces meaning steps laws [] = IsPermutation-refl []
 kept_pieces meaning steps laws (piece ∷ pieces) =
     search (arith, map-append, IsPermutation-append, kept_syllable, kept_pieces meaning steps laws pieces)
 
-pub numbers-seen : (gs : List hb_glyph_info_t) → map (λ g. g.glyph_id) (seen carried gs) ≡ map (λ g. g.glyph_id) gs
+pub numbers-seen : (gs : Glyphs) → map (λ g. g.glyph_id) (seen carried gs) ≡ map (λ g. g.glyph_id) gs
 numbers-seen [] = refl
 numbers-seen (g ∷ gs) = cc (numbers-seen gs)
 
 -- what a syllable becomes has the numbers that it had
-pub numbers_kept : (meaning : List hb_glyph_info_t → List hb_glyph_info_t) (steps : List hb_glyph_info_t → List Step)
-    → ReorderLaws meaning steps → (gs : List hb_glyph_info_t)
-    → IsPermutation (glyph_numbers gs) (glyph_numbers (meaning gs))
-numbers_kept meaning steps laws gs =
-    search (
-      arith,
-      numbers-seen gs,
-      numbers-seen (meaning gs),
-      IsPermutation-map (λ g. g.glyph_id) (seen carried gs) (seen carried (meaning gs))
-          (kept_syllable meaning steps laws gs),
-    )
+pub numbers_kept : (meaning : Glyphs → Glyphs) (steps : Glyphs → List Step) → ReorderLaws meaning steps
+    → (gs : Glyphs) → IsPermutation (glyph_numbers gs) (glyph_numbers (meaning gs))
+numbers_kept meaning steps laws gs = search (
+  arith,
+  numbers-seen gs,
+  numbers-seen (meaning gs),
+  IsPermutation-map (λ g. g.glyph_id) (seen carried gs) (seen carried (meaning gs))
+      (kept_syllable meaning steps laws gs),
+)
 
 pub nothing_lost : ReorderingLosesNothing
 nothing_lost meaning steps laws gs =
@@ -68,24 +59,23 @@ nothing_lost meaning steps laws gs =
     )
 
 -- the pieces of a text add up to it, and what holds of each syllable's steps holds of each piece
-pub sum-pieces : (steps : List hb_glyph_info_t → List Step) (pieces : List (List hb_glyph_info_t))
+pub sum-pieces : (steps : Glyphs → List Step) (pieces : List Glyphs)
     → sum_by (λ piece. piece.0) (pieces_of steps pieces) ≡ length (flat_map (λ piece. piece) pieces)
 sum-pieces steps [] = refl
-sum-pieces steps (piece ∷ pieces) =
-    search (arith, sum_by-cons, pieces_of, length-append, sum-pieces steps pieces)
+sum-pieces steps (piece ∷ pieces) = search (sum_by-cons, length-append, sum-pieces steps pieces)
 
-pub sum-syllables : (steps : List hb_glyph_info_t → List Step) (gs : List hb_glyph_info_t)
+pub sum-syllables : (steps : Glyphs → List Step) (gs : Glyphs)
     → sum_by (λ piece. piece.0) (pieces_of steps (syllables gs)) ≡ length gs
-sum-syllables steps gs = search (arith, sum-pieces, joined-syllables)
+sum-syllables = search (sum-pieces, joined-syllables)
 
-pub each_piece : (P : ℕ → Step → Type 0) (steps : List hb_glyph_info_t → List Step)
-    → ((gs : List hb_glyph_info_t) → AllByRecursion (P (length gs)) (steps gs)) → (pieces : List (List hb_glyph_info_t))
+pub each_piece : (P : ℕ → Step → Type 0) (steps : Glyphs → List Step)
+    → ((gs : Glyphs) → AllByRecursion (P (length gs)) (steps gs)) → (pieces : List Glyphs)
     → AllByRecursion (λ piece. AllByRecursion (P piece.0) piece.1) (pieces_of steps pieces)
 each_piece P steps h [] = tt
 each_piece P steps h (piece ∷ pieces) = (h piece, each_piece P steps h pieces)
 
 -- the steps of a text, numbered by its glyphs
-pub text_steps-long : (steps : List hb_glyph_info_t → List Step) (gs : List hb_glyph_info_t)
+pub text_steps-long : (steps : Glyphs → List Step) (gs : Glyphs)
     → text_steps steps (order_view gs) ≡ steps_along (length gs) 0 (pieces_of steps (syllables (order_view gs)))
 text_steps-long steps gs = cc (length-map gs plain)
 
@@ -106,8 +96,7 @@ text_reordered meaning steps old new laws done =
           (sym (seen-same carried new.glyphs (run_steps old.level (text_steps steps xs) gs) done.moved))
           (seen-permuted carried carried_hides old.level (text_steps steps xs) gs fits permutes);
       glyphs = seen_steps_hold carried carried_hides old.level (text_steps steps xs) gs new.glyphs fits done.moved;
-      merged = λ inside.
-          reordered_hold carried carried_hides old.level (text_steps steps xs) gs new.glyphs
+      merged = λ inside. reordered_hold carried carried_hides old.level (text_steps steps xs) gs new.glyphs
           (subst (AllByRecursion (MovesMerged (length gs))) (sym is)
           (along.merged (each_piece MovesMerged steps inside (syllables xs)))) permutes done.moved;
     }

@@ -2,7 +2,7 @@
 use Rattle.std.specs.Prelude.{◌+◌, ◌*◌, ◌≤◌, ◌⊎◌, Err, ◌≡◌, ℕ, List, [], ◌∷◌, length, map, reverse, Option, Some, None, pos, true, false, ◌==◌, if◌then◌else◌, refl}
 use Rattle.std.proofs.Common.{inl, inr, arith}
 use Rattle.std.specs.List.{range_with_len}
-use Rattle.shapers_buffer.specs.declared.buffer.glyph.hb_glyph_info_t.{hb_glyph_info_t}
+use Rattle.shapers_buffer.specs.Glyphs.{Glyph, Glyphs}
 use Rattle.shapers_buffer.specs.declared.buffer.level.BufferClusterLevel.TheVariants.{Characters, MonotoneGraphemes}
 use Rattle.shapers_buffer.specs.declared.buffer.syllables.Span.{Span}
 use Rattle.shapers_buffer.specs.Buffer.{Buffer, new_buffer}
@@ -18,7 +18,7 @@ use Rattle.shapers_syllabic.specs.Borders.{MeetAtBorder, SameButSerials, spans_s
 use Rattle.shapers_syllabic.specs.ReorderingLaws.{paused_carried, paused_order}
 
 -- what is carried along, and what is hidden, field by field
-abbrev full : hb_glyph_info_t
+abbrev full : Glyph
 full = record {
   glyph_id = 0x916;
   mask = 0x1F;
@@ -53,14 +53,14 @@ carried_default : carried default_glyph ≡ default_glyph
 carried_default = refl
 
 -- a glyph by its number, cluster and syllable byte, unsafe to break
-abbrev glyph : ℕ × ℕ × ℕ → hb_glyph_info_t
+abbrev glyph : ℕ × ℕ × ℕ → Glyph
 glyph row = record default_glyph { glyph_id = row.0; cluster = row.1; syllable = row.2; mask = 9 }
 
-abbrev text : List (ℕ × ℕ × ℕ) → List hb_glyph_info_t
+abbrev text : List (ℕ × ℕ × ℕ) → Glyphs
 text rows = map glyph rows
 
 -- syllables of two glyphs, of one and of three; the last has the byte of the first
-abbrev three : List hb_glyph_info_t
+abbrev three : Glyphs
 three = text ((1, 0, 0x10) ∷ (2, 1, 0x10) ∷ (3, 2, 0x24) ∷ (4, 3, 0x10) ∷ (5, 4, 0x10) ∷ (6, 5, 0x10) ∷ [])
 
 -- each syllable for itself: backwards, by its length alone, as it stands
@@ -92,8 +92,7 @@ noted s e old new = new ≡ record old { max_len = old.max_len * 100 + (s * 10 +
 
 chain_of_three : SyllablesLinked noted (record (new_buffer 0) { glyphs = three; places = 7 ∷ [] })
     (record (new_buffer 22336) { glyphs = three })
-chain_of_three =
-    search arith
+chain_of_three = search arith
 
 chain_of_nothing : SyllablesLinked noted (record (new_buffer 5) { places = 7 ∷ [] }) (new_buffer 5)
 chain_of_nothing = refl
@@ -112,15 +111,14 @@ order_of_nothing : text_order reverse [] ≡ []
 order_of_nothing = refl
 
 -- a syllable that merges whole and turns backwards; the same merging its first two places once more then
-abbrev turned : List hb_glyph_info_t → List Step
+abbrev turned : Glyphs → List Step
 turned syl = record {
   merged_first = (0, length syl) ∷ [];
   places = reverse (range_with_len 0 (length syl));
-  merged_then
-      = [];
+  merged_then = [];
 } ∷ []
 
-abbrev turned_twice : List hb_glyph_info_t → List Step
+abbrev turned_twice : Glyphs → List Step
 turned_twice syl =
     record { merged_first = []; places = reverse (range_with_len 0 (length syl)); merged_then = (0, 2) ∷ [] }
     ∷ turned syl
@@ -151,8 +149,7 @@ steps_move : clusters (run_steps Characters (text_steps turned three) three) ≡
 steps_move = refl
 
 -- syllables of equal clusters merge across their border
-steps_across : clusters
-    (run_steps MonotoneGraphemes
+steps_across : clusters (run_steps MonotoneGraphemes
     (text_steps turned (text ((1, 0, 0x10) ∷ (2, 2, 0x20) ∷ (3, 2, 0x30) ∷ (4, 1, 0x30) ∷ [])))
     (text ((1, 0, 0x10) ∷ (2, 2, 0x20) ∷ (3, 2, 0x30) ∷ (4, 1, 0x30) ∷ []))) ≡ 0 ∷ 1 ∷ 1 ∷ 1 ∷ []
 steps_across = refl
@@ -161,7 +158,7 @@ steps_across = refl
 abbrev circles : DottedCircles
 circles = record { broken_kind = 4; circle = record default_glyph { glyph_id = 7; category = 11 }; repha = None }
 
-abbrev broken : List hb_glyph_info_t
+abbrev broken : Glyphs
 broken = text ((1, 0, 0x14) ∷ (2, 1, 0x14) ∷ (3, 2, 0x20) ∷ [])
 
 pause_order : glyph_numbers (paused_order (Some circles) reverse broken) ≡ 2 ∷ 1 ∷ 7 ∷ 3 ∷ []
@@ -201,7 +198,7 @@ other_serials : SameButSerials (text ((1, 0, 0x14) ∷ (2, 0, 0x20) ∷ (3, 0, 0
 other_serials = refl
 
 other_kinds : SameButSerials (text ((1, 0, 0x14) ∷ [])) (text ((1, 0, 0x15) ∷ [])) → ⊥
-other_kinds same = search arith
+other_kinds = search arith
 
 other_cut : SameButSerials (text ((1, 0, 0x14) ∷ (2, 0, 0x14) ∷ [])) (text ((1, 0, 0x14) ∷ (2, 0, 0x24) ∷ [])) → ⊥
 other_cut same = cc
@@ -213,8 +210,7 @@ spans_of rows = map (λ row. let span : Span = record { len = row.0; kind = row.
 
 abbrev set_up_of : List (ℕ × ℕ) → List ℕ → List (ℕ × ℕ × ℕ)
 set_up_of spans cs =
-    map (λ g. let row : ℕ × ℕ × ℕ = (g.cluster, g.syllable, g.mask) in row)
-    (spans_set_up (spans_of spans) 4
+    map (λ g. let row : ℕ × ℕ × ℕ = (g.cluster, g.syllable, g.mask) in row) (spans_set_up (spans_of spans) 4
     (record (new_buffer 100) { glyphs = map (λ c. record default_glyph { cluster = c }) cs })).glyphs
 
 set_up_whole : set_up_of ((2, 0) ∷ (1, 4) ∷ (2, 1) ∷ []) (0 ∷ 1 ∷ 2 ∷ 3 ∷ 4 ∷ []) ≡ (0, 0x10, 0) ∷ (1, 0x10, 3)
@@ -232,14 +228,12 @@ abbrev script : ScriptCircles
 script = record { broken_kind = 4; category = 11; repha = Some 14; position = Some 3 }
 
 abbrev font_of : Option GlyphId → Font
-font_of glyph =
-    record {
-      nominal = λ c. (if c == 0x25CC then glyph else None);
-      advance = λ g. pos 0;
-      applies = λ lookup gs context.
-          false;
-      offers = λ tag. false;
-    }
+font_of glyph = record {
+  nominal = λ c. (if c == 0x25CC then glyph else None);
+  advance = λ g. pos 0;
+  applies = λ lookup gs context. false;
+  offers = λ tag. false;
+}
 
 circles_wanted : script_circles script (font_of (Some (record { 0 = 7 }))) (record (new_buffer 9) { broken = true })
     ≡ Some (record {

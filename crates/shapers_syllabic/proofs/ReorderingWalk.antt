@@ -4,7 +4,7 @@ use Rattle.std.specs.Prelude.{Option}
 use Rattle.std.specs.List.{AllByRecursion, prefix_len}
 use Rattle.std.proofs.lemmas.List.{length-map}
 use Rattle.std.proofs.lemmas.List.Sums.{prefix_len-le-length}
-use Rattle.shapers_buffer.specs.declared.buffer.glyph.hb_glyph_info_t.{hb_glyph_info_t}
+use Rattle.shapers_buffer.specs.Glyphs.{Glyphs}
 use Rattle.shapers_buffer.specs.declared.buffer.tag.Script.{Script}
 use Rattle.shapers_buffer.specs.Buffer.{Buffer}
 use Rattle.shapers_buffer.specs.Glyph.{order_view, plain}
@@ -21,12 +21,12 @@ use Rattle.shapers_syllabic.specs.Reordering.{PauseReordered, SyllablesReordered
 use Rattle.shapers_syllabic.specs.ReorderingLaws.{ReorderLaws}
 
 -- the pieces of a text: each syllable's length and its steps
-abbrev pub pieces_of : (List hb_glyph_info_t → List Step) → List (List hb_glyph_info_t) → List (ℕ × List Step)
+abbrev pub pieces_of : (Glyphs → List Step) → List Glyphs → List (ℕ × List Step)
 pieces_of steps pieces = map (λ syl. (length syl, steps syl)) pieces
 
 -- a syllable has as many glyphs after
-pub length-meaning : (meaning : List hb_glyph_info_t → List hb_glyph_info_t) (steps : List hb_glyph_info_t → List Step)
-    → ReorderLaws meaning steps → (gs : List hb_glyph_info_t) → length (meaning gs) ≡ length gs
+pub length-meaning : (meaning : Glyphs → Glyphs) (steps : Glyphs → List Step)
+    → ReorderLaws meaning steps → (gs : Glyphs) → length (meaning gs) ≡ length gs
 length-meaning meaning steps laws gs =
     let olds = old_places (length gs) (steps gs) in
     cc (
@@ -39,29 +39,27 @@ length-meaning meaning steps laws gs =
     )
 
 -- the first syllable, seen in the order view
-prefix-view : (byte : ℕ) (gs : List hb_glyph_info_t) → prefix_len (has_byte byte) (order_view gs)
-    ≡ prefix_len (has_byte byte) gs
+prefix-view : (byte : ℕ) (gs : Glyphs) → prefix_len (has_byte byte) (order_view gs) ≡ prefix_len (has_byte byte) gs
 prefix-view byte [] = refl
 prefix-view byte (g ∷ gs) = cc (prefix-view byte gs)
 
-pub first_len-view : (gs : List hb_glyph_info_t) → first_syllable_len (order_view gs) ≡ first_syllable_len gs
+pub first_len-view : (gs : Glyphs) → first_syllable_len (order_view gs) ≡ first_syllable_len gs
 first_len-view [] = refl
 first_len-view (g ∷ gs) = search (arith, prefix-view)
 
 -- a text that isn't empty opens with a syllable, which isn't longer than it
-pub opens : (gs : List hb_glyph_info_t) → 0 < length gs → OpensWithSyllable gs
+pub opens : (gs : Glyphs) → 0 < length gs → OpensWithSyllable gs
 opens [] h = absurd (omega arith)
 opens (g ∷ gs) h = syllables_are_runs g gs
 
-pub first_len-within : (gs : List hb_glyph_info_t) → first_syllable_len gs ≤ length gs
+pub first_len-within : (gs : Glyphs) → first_syllable_len gs ≤ length gs
 first_len-within [] = omega arith
 first_len-within (g ∷ gs) = search (arith, prefix_len-le-length)
 
 -- a buffer with its circles, and then reordered
-pub pause_reordered : (circles : Option DottedCircles) (meaning : Option Script → List hb_glyph_info_t
-    → List hb_glyph_info_t) (steps : Option Script → List hb_glyph_info_t → List Step) (old opened new : Buffer)
+pub pause_reordered : (circles : Option DottedCircles) (meaning : Option Script → Glyphs
+    → Glyphs) (steps : Option Script → Glyphs → List Step) (old opened new : Buffer)
     → opened ≡ record old { glyphs = circled circles old.glyphs }
     → SyllablesReordered (meaning opened.script) (steps opened.script) opened new
     → PauseReordered circles (meaning old.script) (steps old.script) old new
-pause_reordered circles meaning steps old opened new is done =
-    search arith
+pause_reordered = search arith

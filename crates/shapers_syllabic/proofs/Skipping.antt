@@ -1,11 +1,11 @@
 -- The walk that reorders passes over syllables that stay.
-use Rattle.std.proofs.Common.{◌⊎◌, inl, inr, ◌==◌, ℕ, zero, suc, ◌+◌, ◌-◌, ◌<◌, ◌≤◌, ◌≡◌, ◌≢◌, Bool, false, None, Some, true, List, [], ◌∷◌, ◌++◌, get_or, length, take, drop, sym, ◌∙◌, ap, subst, arith, length-append, length-take-le, length-drop}
+use Rattle.std.proofs.Common.{◌⊎◌, inl, inr, ◌==◌, ℕ, zero, suc, ◌+◌, ◌-◌, ◌<◌, ◌≤◌, ◌≡◌, ◌≢◌, Bool, false, None, Some, true, [], ◌∷◌, ◌++◌, get_or, length, take, drop, sym, ◌∙◌, ap, subst, arith, length-append, length-take-le, length-drop}
 use Rattle.std.specs.List.{list_any, position, prefix_len}
 use Rattle.std.proofs.Math.Nat.{eq-or-lt_of_le}
 use Rattle.std.proofs.lemmas.Bool.{eq-eqb}
 use Rattle.std.proofs.lemmas.List.Folds.{list_any_at}
 use Rattle.std.proofs.lemmas.List.{append-nil, drop-append-le, drop-drop, get_or-drop, get_or-map, get_or-take, get_or_at, take-append-drop, take-append-le, take_rest}
-use Rattle.shapers_buffer.specs.declared.buffer.glyph.hb_glyph_info_t.{hb_glyph_info_t}
+use Rattle.shapers_buffer.specs.Glyphs.{Glyph, Glyphs}
 use Rattle.shapers_buffer.specs.Clusters.{stretch_of}
 use Rattle.shapers_buffer.specs.Glyph.{default_glyph}
 use Rattle.shapers_buffer.specs.Syllables.{first_syllable_len, has_byte}
@@ -18,19 +18,19 @@ use Rattle.shapers_syllabic.proofs.NonePass.{none_behind}
 use Rattle.shapers_syllabic.proofs.ReorderingWalk.{first_len-within, opens}
 
 -- what stands behind some of its glyphs meets the rest at the border
-border_behind : (k : ℕ) (xs ys : List hb_glyph_info_t) → MeetAtBorder xs ys → MeetAtBorder (drop k xs) ys
+border_behind : (k : ℕ) (xs ys : Glyphs) → MeetAtBorder xs ys → MeetAtBorder (drop k xs) ys
 border_behind k xs ys border some more same =
     border (omega (arith, length-drop k xs)) more (
     cc (take-append-drop k xs, last-behind (take k xs) (drop k xs) some) ∙ same)
 
 -- what a walk keeps, past a syllable without a glyph that may change it
-abbrev pub PassesOver : (hb_glyph_info_t → Bool) → List hb_glyph_info_t → (ℕ → Type 0) → Type 0
+abbrev pub PassesOver : (Glyph → Bool) → Glyphs → (ℕ → Type 0) → Type 0
 PassesOver changes gs I = (s e : ℕ) → s < e → e ≤ length gs → e ≡ s + first_syllable_len (drop s gs)
     → list_any changes (stretch_of s e gs) ≡ false → I s → I e
 
 -- so past glyphs that may not change one, up to a border
-passed_over : (changes : hb_glyph_info_t → Bool) (gs : List hb_glyph_info_t) (I : ℕ → Type 0) → PassesOver changes gs I
-    → (n : ℕ) (xs ys : List hb_glyph_info_t) (start : ℕ) → length xs ≤ n → drop start gs ≡ xs ++ ys
+passed_over : (changes : Glyph → Bool) (gs : Glyphs) (I : ℕ → Type 0) → PassesOver changes gs I
+    → (n : ℕ) (xs ys : Glyphs) (start : ℕ) → length xs ≤ n → drop start gs ≡ xs ++ ys
     → list_any changes xs ≡ false → MeetAtBorder xs ys → I start → I (start + length xs)
 passed_over changes gs I passes n [] ys start few text none border kept = subst I (omega arith) kept
 passed_over changes gs I passes zero (x ∷ xs) ys start few text none border kept = absurd (omega arith)
@@ -49,7 +49,7 @@ passed_over changes gs I passes (suc n) (x ∷ xs) ys start few text none border
     ∙ (let all = front ++ ys in cc (
       length-take-le (first_syllable_len all) all (first_len-within all),
       opens all
-          (omega (arith, length-append front ys)),
+          (omega arith),
       syllables-append front ys border,
       opens front (omega arith),
       length-take-le (first_syllable_len front) front (first_len-within front),
@@ -62,7 +62,7 @@ passed_over changes gs I passes (suc n) (x ∷ xs) ys start few text none border
     (none_behind changes k front none) (border_behind k front ys border) next)
 
 -- up to the next syllable that may change, or to the end
-pub to_next : (changes : hb_glyph_info_t → Bool) (gs : List hb_glyph_info_t) (I : ℕ → Type 0) → PassesOver changes gs I
+pub to_next : (changes : Glyph → Bool) (gs : Glyphs) (I : ℕ → Type 0) → PassesOver changes gs I
     → (start first : ℕ) → IsNextChanging changes start gs first → I start → I first
 to_next changes gs I passes start first next kept =
     let xs = stretch_of start first gs in
@@ -76,7 +76,7 @@ to_next changes gs I passes start first next kept =
           kept,
     )
 
-pub to_end : (changes : hb_glyph_info_t → Bool) (gs : List hb_glyph_info_t) (I : ℕ → Type 0) → PassesOver changes gs I
+pub to_end : (changes : Glyph → Bool) (gs : Glyphs) (I : ℕ → Type 0) → PassesOver changes gs I
     → (start : ℕ) → start ≤ length gs → list_any changes (drop start gs) ≡ false → I start → I (length gs)
 to_end changes gs I passes start inside none kept =
     let xs = drop start gs in
@@ -88,11 +88,11 @@ to_end changes gs I passes start inside none kept =
     )
 
 -- neighbours of different bytes make a border
-pub border_between : (gs : List hb_glyph_info_t) (start i : ℕ) → start ≤ i → i + 1 < length gs
+pub border_between : (gs : Glyphs) (start i : ℕ) → start ≤ i → i + 1 < length gs
     → (get_or gs i default_glyph).syllable ≢ (get_or gs (i + 1) default_glyph).syllable
     → MeetAtBorder (stretch_of start (i + 1) gs) (drop (i + 1) gs)
 border_between gs start i order within differ some more same =
-    let byte : hb_glyph_info_t → ℕ = λ g. g.syllable in
+    let byte : Glyph → ℕ = λ g. g.syllable in
     let xs = stretch_of start (i + 1) gs in
     let size : length xs ≡ i + 1 - start =
     search (arith, length-take-le, length-drop) in
@@ -112,13 +112,13 @@ border_between gs start i order within differ some more same =
     differ (sym last ∙ same ∙ first)
 
 -- WHERE THE SEARCH ENDS
-pub none_found : (changes : hb_glyph_info_t → Bool) (start : ℕ) (gs : List hb_glyph_info_t)
+pub none_found : (changes : Glyph → Bool) (start : ℕ) (gs : Glyphs)
     → None ≡ position changes (take (length gs - start) (drop start gs)) → list_any changes (drop start gs) ≡ false
-none_found changes start gs is =
+none_found =
     search (arith, missed_all, take_rest)
 
 -- glyphs of one byte at the front are within the first syllable
-same_front : (byte m : ℕ) (gs : List hb_glyph_info_t) → m ≤ length gs
+same_front : (byte m : ℕ) (gs : Glyphs) → m ≤ length gs
     → ((k : ℕ) → k < m → (get_or gs k default_glyph).syllable ≡ byte) → m ≤ prefix_len (has_byte byte) gs
 same_front byte zero gs few same = omega arith
 same_front byte (suc m) [] few same = absurd (omega arith)
@@ -127,7 +127,7 @@ same_front byte (suc m) (g ∷ gs) few same =
     let here : (g.syllable == byte) ≡ true = eq-eqb g.syllable byte (same 0 (omega arith)) in
     search arith
 
-in_first : (byte m : ℕ) (gs : List hb_glyph_info_t) → suc m ≤ length gs
+in_first : (byte m : ℕ) (gs : Glyphs) → suc m ≤ length gs
     → ((k : ℕ) → k < suc m → (get_or gs k default_glyph).syllable ≡ byte) → m < first_syllable_len gs
 in_first byte m [] few same = absurd (omega arith)
 in_first byte m (g ∷ gs) few same =
@@ -136,7 +136,7 @@ in_first byte m (g ∷ gs) few same =
     cc (same 0 (omega arith)) in
     omega arith
 
-pub next_found : (changes : hb_glyph_info_t → Bool) (start count : ℕ) (gs : List hb_glyph_info_t) (first : ℕ)
+pub next_found : (changes : Glyph → Bool) (start count : ℕ) (gs : Glyphs) (first : ℕ)
     → Some count ≡ position changes (take (length gs - start) (drop start gs)) → start ≤ first → first ≤ start + count
     → ((k : ℕ) → first ≤ k → k < start + count → (get_or gs k default_glyph).syllable
     ≡ (get_or gs (start + count) default_glyph).syllable) → MeetAtBorder (stretch_of start first gs) (drop first gs)
@@ -163,7 +163,7 @@ next_found changes start count gs first is from to together border =
           (first + k) (omega arith) (omega arith)
     ] in
     let same : (k : ℕ) → k < suc i → (get_or syl k default_glyph).syllable ≡ byte = λ k less.
-    ap (λ (g : hb_glyph_info_t). g.syllable) (get_or-drop first gs k default_glyph)
+    ap (λ (g : Glyph). g.syllable) (get_or-drop first gs k default_glyph)
     ∙ one_byte k (omega arith) (eq-or-lt_of_le {n = k} {m = i} (omega arith)) in
     let inside = in_first byte i syl (omega (arith, length-drop first gs)) same in
     search (

@@ -1,6 +1,6 @@
 -- The kinds of syllables by their numbers, span set-up and clearing, computed on small texts.
 use Rattle.std.specs.Prelude.{◌≡◌, ℕ, true, false, List, [], ◌∷◌, map, refl}
-use Rattle.shapers_buffer.specs.declared.buffer.glyph.hb_glyph_info_t.{hb_glyph_info_t}
+use Rattle.shapers_buffer.specs.Glyphs.{Glyph, Glyphs}
 use Rattle.shapers_syllabic.specs.declared.ot_shaper_syllabic.kinds.indic_syllable.TheConstants as indic
 use Rattle.shapers_syllabic.specs.declared.ot_shaper_syllabic.kinds.khmer_syllable.TheConstants as khmer
 use Rattle.shapers_syllabic.specs.declared.ot_shaper_syllabic.kinds.myanmar_syllable.TheConstants as myanmar
@@ -35,7 +35,7 @@ kinds_of_bytes : map kind_of (0 ∷ 4 ∷ 15 ∷ 0x10 ∷ 0x14 ∷ 0x1F ∷ 0x20
 kinds_of_bytes = refl
 
 -- clearing takes one field back and keeps the others
-abbrev full : hb_glyph_info_t
+abbrev full : Glyph
 full = record {
   glyph_id = 0x916;
   mask = 0x1F;
@@ -62,8 +62,7 @@ cleared_of_others = refl
 abbrev set_up : Buffer
 set_up = with_unsafe_syllables (with_spans (record { len = 2; kind = 0 } ∷ record { len = 1; kind = 4 } ∷ []) 4
     (record (new_buffer 100) {
-      glyphs = map (λ c. let g : hb_glyph_info_t = record default_glyph { cluster = c } in g)
-          (0 ∷ 1 ∷ 2 ∷ []);
+      glyphs = map (λ c. let g : Glyph = record default_glyph { cluster = c } in g) (0 ∷ 1 ∷ 2 ∷ []);
     }))
 
 set_up_bytes : map (λ g. let row : ℕ × ℕ = (g.syllable, g.mask) in row) set_up.glyphs ≡ (0x10, 0) ∷ (0x10, 3)
@@ -74,9 +73,8 @@ set_up_broken : set_up.broken ≡ true
 set_up_broken = refl
 
 -- no break inside a syllable: each has its own least cluster, and bits 1 and 2 for the rest
-abbrev of_rows : List (ℕ × ℕ) → List hb_glyph_info_t
-of_rows rows = map (λ row. let g : hb_glyph_info_t = record default_glyph { syllable = row.0; cluster = row.1 } in g)
-    rows
+abbrev of_rows : List (ℕ × ℕ) → Glyphs
+of_rows rows = map (λ row. let g : Glyph = record default_glyph { syllable = row.0; cluster = row.1 } in g) rows
 
 unsafe : map (λ g. g.mask)
     (unsafe_syllables (of_rows ((0x10, 2) ∷ (0x10, 1) ∷ (0x24, 3) ∷ (0x34, 4) ∷ (0x34, 5) ∷ (0x34, 4) ∷ [])))
@@ -100,7 +98,7 @@ by_bytes kind gs =
     set_up_by_bytes kind
     (record (new_buffer 9) { glyphs = map (λ (g : ℕ × ℕ). record default_glyph { cluster = g.0; syllable = g.1 }) gs })
 
-masks_by_bytes : map (λ (g : hb_glyph_info_t). g.mask)
+masks_by_bytes : map (λ (g : Glyph). g.mask)
     (by_bytes 4 ((0, 0x10) ∷ (1, 0x10) ∷ (2, 0x24) ∷ (2, 0x24) ∷ (5, 0x30) ∷ (4, 0x30) ∷ [])).glyphs ≡ 0 ∷ 3 ∷ 0 ∷ 0 ∷ 3
     ∷ 0 ∷ []
 masks_by_bytes = refl

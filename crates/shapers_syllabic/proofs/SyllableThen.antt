@@ -2,7 +2,7 @@
 use Rattle.std.proofs.Common.{ℕ, ◌-◌, ◌≤◌, ◌≡◌, List, [], ◌++◌, map, length, take, drop, ◌∙◌, arith, append_assoc, length-append, length-take-le, length-drop}
 use Rattle.std.proofs.lemmas.List.{drop_at, length-map, map-append, take_at}
 use Rattle.std.proofs.lemmas.List.Sums.{fold-append}
-use Rattle.shapers_buffer.specs.declared.buffer.glyph.hb_glyph_info_t.{hb_glyph_info_t}
+use Rattle.shapers_buffer.specs.Glyphs.{Glyph, Glyphs}
 use Rattle.shapers_buffer.specs.Buffer.{Buffer, but_places}
 use Rattle.shapers_buffer.specs.Clusters.{stretch_of, with_stretch}
 use Rattle.shapers_buffer.specs.Glyph.{order_view, plain}
@@ -20,18 +20,10 @@ pub record ChangedParts {X : Type 0} (s e : ℕ) (front middle back new : List X
 
 pub changed_parts : {X : Type 0} (s e : ℕ) (front middle back new : List X) → s ≤ e → length front ≡ s
     → length middle ≡ e - s → new ≡ front ++ (middle ++ back) → ChangedParts s e front middle back new
-changed_parts s e front middle back new h a b is =
-    search (
-      arith,
-      take_at front (middle ++ back) s a,
-      drop_at front (middle ++ back) s a,
-      take_at middle back (e - s) b,
-      append_assoc front middle back,
-      drop_at (front ++ middle) back e (length-append front middle ∙ omega arith),
-    )
+changed_parts s e front middle back new h a b is = search (take_at front (middle ++ back) s a, drop_at front (middle ++ back) s a, take_at middle back (e - s) b, append_assoc front middle back, drop_at (front ++ middle) back e (length-append front middle ∙ omega arith))
 
 -- one body, and then another: what the syllable becomes, and the steps of both
-pub syllable_then : (first next : List hb_glyph_info_t → List hb_glyph_info_t) (steps steps_then : List hb_glyph_info_t
+pub syllable_then : (first next : Glyphs → Glyphs) (steps steps_then : Glyphs
     → List Step) (s e : ℕ) (old mid new : Buffer) → s ≤ e → e ≤ length old.glyphs
     → length (first (stretch_of s e (order_view old.glyphs))) ≡ e - s → SyllableReordered first steps s e old mid
     → SyllableReordered next steps_then s e mid new
@@ -44,57 +36,35 @@ syllable_then first next steps steps_then s e old mid new h l k one two =
     let front = take s xs in
     let back = drop e xs in
     let fn = length-take-le s xs (omega arith) in
-    let parts = changed_parts s e front (first syl)
-    back (order_view mid.glyphs) h fn k one.order in
+    let parts = changed_parts s e front (first syl) back (order_view mid.glyphs) h fn k one.order in
     let ws = map (widened s e n) (steps syl) in
     let ts = map (widened s e n) (steps_then (first syl)) in
-    search (
-      arith,
-      two.others,
-      one.others,
-      two.order,
-      parts.before,
-      parts.stretch,
-      parts.behind,
-      two.moved,
-      length-map mid.glyphs plain,
-      one.order,
-      length-append front (first syl ++ back),
-      length-append (first syl) back,
-      length-drop e xs,
-      run_steps-carried old.level ts mid.glyphs (run_steps old.level ws old.glyphs) one.moved,
-      fold-append (λ gs step. run_step old.level step gs) old.glyphs ws ts,
-      map-append (widened s e n) (steps syl) (steps_then (first syl)),
-    )
+    search (arith, length-map mid.glyphs plain, length-append front (first syl ++ back), length-append (first syl) back, length-drop e xs, run_steps-carried old.level ts mid.glyphs (run_steps old.level ws old.glyphs) one.moved, fold-append (λ gs step. run_step old.level step gs) old.glyphs ws ts, map-append (widened s e n) (steps syl) (steps_then (first syl)))
 
 -- what is said of a syllable by meanings and steps holds by others that are the same of it
-pub syllable_as : (meaning other : List hb_glyph_info_t → List hb_glyph_info_t) (steps others : List hb_glyph_info_t
-    → List Step) (s e : ℕ) (old new : Buffer) → meaning (stretch_of s e (order_view old.glyphs))
-    ≡ other (stretch_of s e (order_view old.glyphs)) → steps (stretch_of s e (order_view old.glyphs))
-    ≡ others (stretch_of s e (order_view old.glyphs)) → SyllableReordered meaning steps s e old new
-    → SyllableReordered other others s e old new
-syllable_as meaning other steps others s e old new means leads done =
-    search arith
+pub syllable_as : (meaning other : Glyphs → Glyphs) (steps others : Glyphs → List Step) (s e : ℕ) (old new : Buffer)
+    → meaning (stretch_of s e (order_view old.glyphs)) ≡ other (stretch_of s e (order_view old.glyphs))
+    → steps (stretch_of s e (order_view old.glyphs)) ≡ others (stretch_of s e (order_view old.glyphs))
+    → SyllableReordered meaning steps s e old new → SyllableReordered other others s e old new
+syllable_as = search arith
 
 -- a body that changes its syllable's glyphs, and nothing that is carried along
-pub syllable_changed : (meaning change : List hb_glyph_info_t → List hb_glyph_info_t) (s e : ℕ) (old new : Buffer)
+pub syllable_changed : (meaning change : Glyphs → Glyphs) (s e : ℕ) (old new : Buffer)
     → s ≤ e → but_places new ≡ record (but_places old) { glyphs = new.glyphs }
     → new.glyphs ≡ with_stretch s e change old.glyphs → map carried (change (stretch_of s e old.glyphs))
     ≡ map carried (stretch_of s e old.glyphs) → order_view (change (stretch_of s e old.glyphs))
     ≡ meaning (order_view (stretch_of s e old.glyphs)) → SyllableReordered meaning (λ _. []) s e old new
-syllable_changed meaning change s e old new h kept is hides view = search (arith, stretch-viewed, stretch-carried)
+syllable_changed = search (arith, stretch-viewed, stretch-carried)
 
 -- the same where each glyph is changed for itself
-pub syllable_mapped : (f : hb_glyph_info_t → hb_glyph_info_t) (s e : ℕ) (old new : Buffer) → s ≤ e
+pub syllable_mapped : (f : Glyph → Glyph) (s e : ℕ) (old new : Buffer) → s ≤ e
     → but_places new ≡ record (but_places old) { glyphs = new.glyphs }
-    → new.glyphs ≡ with_stretch s e (map f) old.glyphs → ((g : hb_glyph_info_t) → carried (f g) ≡ carried g)
-    → ((g : hb_glyph_info_t) → plain (f g) ≡ f (plain g)) → SyllableReordered (map f) (λ _. []) s e old new
-syllable_mapped f s e old new h kept is hides same =
-    search (arith, syllable_changed, map-hidden, map-seen)
+    → new.glyphs ≡ with_stretch s e (map f) old.glyphs → ((g : Glyph) → carried (f g) ≡ carried g)
+    → ((g : Glyph) → plain (f g) ≡ f (plain g)) → SyllableReordered (map f) (λ _. []) s e old new
+syllable_mapped = search (syllable_changed, map-hidden, map-seen)
 
 -- a body that changes nothing
 pub syllable_still : (s e : ℕ) (old new : Buffer) → s ≤ e
     → but_places new ≡ record (but_places old) { glyphs = new.glyphs } → new.glyphs ≡ old.glyphs
     → SyllableReordered (λ gs. gs) (λ _. []) s e old new
-syllable_still s e old new h kept same =
-    search (arith, three_parts)
+syllable_still = search (arith, three_parts)

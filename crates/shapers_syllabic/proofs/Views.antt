@@ -1,6 +1,6 @@
 -- Views of glyphs that show other clusters, masks and syllables' bytes, and all else as it is.
-use Rattle.std.specs.Prelude.{ℕ, ◌≡◌, List, map}
-use Rattle.shapers_buffer.specs.declared.buffer.glyph.hb_glyph_info_t.{hb_glyph_info_t}
+use Rattle.std.specs.Prelude.{ℕ, ◌≡◌, map}
+use Rattle.shapers_buffer.specs.Glyphs.{Glyph, Glyphs}
 use Rattle.shapers_buffer.specs.Glyph.{without_flags}
 use Rattle.shapers_buffer.specs.Syllables.{kind_of}
 
@@ -9,7 +9,7 @@ pub record View : Type 0 where
   pub in_masks : ℕ → ℕ
   pub in_syllables : ℕ → ℕ
 
-abbrev pub shown : View → hb_glyph_info_t → hb_glyph_info_t
+abbrev pub shown : View → Glyph → Glyph
 shown v g = record g {
   cluster = v.in_clusters g.cluster;
   mask = v.in_masks g.mask;
@@ -17,7 +17,7 @@ shown v g = record g {
 }
 
 -- a list in that view
-abbrev pub seen_by : View → List hb_glyph_info_t → List hb_glyph_info_t
+abbrev pub seen_by : View → Glyphs → Glyphs
 seen_by v gs = map (shown v) gs
 
 -- the kinds of syllables show

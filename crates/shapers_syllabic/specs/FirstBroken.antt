@@ -1,18 +1,18 @@
 -- In the code: the first and the last broken syllable of a text, and a text whose last one has been
 -- opened.
-use Rattle.std.specs.Prelude.{◌≡◌, ◌==◌, ◌+◌, ◌-◌, ℕ, suc, ◌<◌, ◌≤◌, Bool, not, List, ◌++◌, length, take, drop}
-use Rattle.shapers_buffer.specs.declared.buffer.glyph.hb_glyph_info_t.{hb_glyph_info_t}
+use Rattle.std.specs.Prelude.{◌≡◌, ◌==◌, ◌+◌, ◌-◌, ℕ, suc, ◌<◌, ◌≤◌, Bool, not, ◌++◌, length, take, drop}
+use Rattle.shapers_buffer.specs.Glyphs.{Glyph, Glyphs}
 use Rattle.shapers_syllabic.specs.declared.ot_shaper_syllabic.circles.DottedCircles.{DottedCircles}
 use Rattle.shapers_syllabic.specs.Circles.{with_circle, with_circles, count_of_kind}
 use Rattle.shapers_buffer.specs.Clusters.{stretch_of}
 use Rattle.shapers_buffer.specs.Syllables.{kind_of}
 
 -- whether a glyph's syllable is of another kind than k
-abbrev pub is_of_other_kind : ℕ → hb_glyph_info_t → Bool
+abbrev pub is_of_other_kind : ℕ → Glyph → Bool
 is_of_other_kind k g = not (kind_of g.syllable == k)
 
 -- a broken syllable stands at start..end, and none before it
-pub record IsFirstBroken (rule : DottedCircles) (gs : List hb_glyph_info_t) (start end :
+pub record IsFirstBroken (rule : DottedCircles) (gs : Glyphs) (start end :
     ℕ) : Type 0 where
   pub some : start < end
   pub within : end ≤ length gs
@@ -22,7 +22,7 @@ pub record IsFirstBroken (rule : DottedCircles) (gs : List hb_glyph_info_t) (sta
   pub count : count_of_kind rule.broken_kind gs ≡ suc (count_of_kind rule.broken_kind (drop end gs))
 
 -- a broken syllable stands at start..end, and none behind it
-pub record IsLastBroken (rule : DottedCircles) (gs : List hb_glyph_info_t) (start end :
+pub record IsLastBroken (rule : DottedCircles) (gs : Glyphs) (start end :
     ℕ) : Type 0 where
   pub some : start < end
   pub within : end ≤ length gs
@@ -35,8 +35,7 @@ pub record IsLastBroken (rule : DottedCircles) (gs : List hb_glyph_info_t) (star
 -- The glyphs before and after the last of so many broken syllables of the first `read` glyphs, at
 -- `start`, is opened: what stands before it is left, and what stands behind it from then on is what
 -- becomes of the rest.
-pub record IsOpened (rule : DottedCircles) (read left start : ℕ) (gs hs : List
-    hb_glyph_info_t) : Type 0 where
+pub record IsOpened (rule : DottedCircles) (read left start : ℕ) (gs hs : Glyphs) : Type 0 where
   pub before : start < read
   pub same_length : length hs ≡ length gs
   pub front : take start hs ≡ take start gs

@@ -2,7 +2,7 @@
 -- there.
 use Rattle.std.specs.Prelude.{ℕ, ◌%◌, ◌+◌, ◌≡◌, Bool, true, false, List, [], ◌∷◌, Option, None, Some, option_map, length, map, IsOk, IsOkUnless, Result}
 use Rattle.std.specs.List.{AllByRecursion, flat_map}
-use Rattle.shapers_buffer.specs.declared.buffer.glyph.hb_glyph_info_t.{hb_glyph_info_t}
+use Rattle.shapers_buffer.specs.Glyphs.{Glyph, Glyphs}
 use Rattle.shapers_buffer.specs.Buffer.{Buffer, but_places}
 use Rattle.shapers_buffer.specs.Clusters.{stretch_of, with_stretch}
 use Rattle.shapers_buffer.specs.Glyph.{order_view}
@@ -18,28 +18,28 @@ use Rattle.shapers_clusters.specs.Steps.{Step, run_steps, steps_along, widened}
 
 -- What a reordering carries along: all but feature masks, category, auxiliary byte and what lookups
 -- did to the glyph.
-abbrev pub carried : hb_glyph_info_t → hb_glyph_info_t
+abbrev pub carried : Glyph → Glyph
 carried g = record g { mask = g.mask % 8; glyph_props = no_marks; category = 0; auxiliary = 0 }
 
 -- what a text becomes whose syllables each become what the meaning says: the text order
-abbrev pub text_order : (List hb_glyph_info_t → List hb_glyph_info_t) → List hb_glyph_info_t →
-    List hb_glyph_info_t
+abbrev pub text_order : (Glyphs → Glyphs) → Glyphs →
+    Glyphs
 text_order meaning gs = flat_map meaning (syllables gs)
 
 -- the steps of all syllables of a text, one after another, as steps over its places
-abbrev pub text_steps : (List hb_glyph_info_t → List Step) → List hb_glyph_info_t → List Step
+abbrev pub text_steps : (Glyphs → List Step) → Glyphs → List Step
 text_steps steps gs =
     steps_along (length gs) 0 (map (λ syl. (length syl, steps syl)) (syllables gs))
 
 -- how many glyphs stand in some syllables: where the next one stands
-abbrev pub glyphs_before : List (List hb_glyph_info_t) → ℕ
+abbrev pub glyphs_before : List Glyphs → ℕ
 glyphs_before before = length (flat_map (λ piece. piece) before)
 
 -- the glyph numbers of each syllable of a text, and what an order requires of each of them
-abbrev pub glyph_numbers : List hb_glyph_info_t → List ℕ
+abbrev pub glyph_numbers : Glyphs → List ℕ
 glyph_numbers gs = map (λ g. g.glyph_id) gs
 
-abbrev pub TakesText : (List ℕ → Type 0) → List hb_glyph_info_t → Type 0
+abbrev pub TakesText : (List ℕ → Type 0) → Glyphs → Type 0
 TakesText takes gs = AllByRecursion takes (map glyph_numbers (syllables gs))
 
 -- an order that may refuse does so for want of memory alone, and another never does
@@ -49,14 +49,14 @@ RefusesIf false result = IsOk result
 
 -- The buffer before and after the syllable from s to e is ordered: its order view becomes what the
 -- meaning says.
-pub record SyllableOrdered (meaning : List hb_glyph_info_t →
-    List hb_glyph_info_t) (s e : ℕ) (old new : Buffer) : Type 0 where
+pub record SyllableOrdered (meaning : Glyphs →
+    Glyphs) (s e : ℕ) (old new : Buffer) : Type 0 where
   pub others : but_places new ≡ record (but_places old) { glyphs = new.glyphs }
   pub order : order_view new.glyphs ≡ with_stretch s e meaning (order_view old.glyphs)
 
 -- the same of a whole text: the order view is the text order, and the placement list is empty
-pub record TextOrdered (meaning : List hb_glyph_info_t →
-    List hb_glyph_info_t) (old new : Buffer) : Type 0 where
+pub record TextOrdered (meaning : Glyphs →
+    Glyphs) (old new : Buffer) : Type 0 where
   pub others : new ≡ record old { glyphs = new.glyphs; places = [] }
   pub order : order_view new.glyphs ≡ text_order meaning (order_view old.glyphs)
 
@@ -68,7 +68,7 @@ Chain link start (len ∷ lens) old new =
     (mid : Buffer) × link start (start + len) old mid × Chain link (start + len) lens mid new
 
 -- how long the syllables of a text are; a chain over it, with one link a syllable
-abbrev pub syllable_lens : List hb_glyph_info_t → List ℕ
+abbrev pub syllable_lens : Glyphs → List ℕ
 syllable_lens gs = map length (syllables gs)
 
 abbrev pub SyllablesLinked : (ℕ → ℕ → Buffer → Buffer → Type 0) → Buffer → Buffer → Type 0
@@ -77,8 +77,8 @@ SyllablesLinked link old new = Chain link 0 (syllable_lens old.glyphs) old new
 -- The buffer before and after the syllable from s to e is reordered: its order view becomes what
 -- the meaning says, and to the view of what is carried along, cluster and glyph flags among it, the
 -- glyphs are those that the steps lead to.
-pub record SyllableReordered (meaning : List hb_glyph_info_t →
-    List hb_glyph_info_t) (steps : List hb_glyph_info_t →
+pub record SyllableReordered (meaning : Glyphs →
+    Glyphs) (steps : Glyphs →
     List Step) (s e : ℕ) (old new : Buffer) : Type 0 where
   pub others : but_places new ≡ record (but_places old) { glyphs = new.glyphs }
   pub order : order_view new.glyphs ≡ with_stretch s e meaning (order_view old.glyphs)
@@ -87,8 +87,8 @@ pub record SyllableReordered (meaning : List hb_glyph_info_t →
       (steps (stretch_of s e (order_view old.glyphs)))) old.glyphs)
 
 -- The same of a whole text: its order view is the text order, and all steps lead to its glyphs.
-pub record SyllablesReordered (meaning : List hb_glyph_info_t →
-    List hb_glyph_info_t) (steps : List hb_glyph_info_t →
+pub record SyllablesReordered (meaning : Glyphs →
+    Glyphs) (steps : Glyphs →
     List Step) (old new : Buffer) : Type 0 where
   pub others : new ≡ record old { glyphs = new.glyphs; places = [] }
   pub order : order_view new.glyphs ≡ text_order meaning (order_view old.glyphs)
@@ -103,16 +103,16 @@ script_circles script font b =
 
 -- the first place of the first syllable of unknown kind, where there is a last known kind, and the
 -- refusal that it gives
-abbrev pub first_unknown : Option ℕ → List hb_glyph_info_t → Option ℕ
+abbrev pub first_unknown : Option ℕ → Glyphs → Option ℕ
 first_unknown None gs = None
 first_unknown (Some last) gs = unknown_syllable last gs
 
-abbrev pub kind_refusal : Option ℕ → List hb_glyph_info_t → Option ShaperError
+abbrev pub kind_refusal : Option ℕ → Glyphs → Option ShaperError
 kind_refusal last gs = option_map (λ place. UnknownSyllable place) (first_unknown last gs)
 
 -- A reordering pause: dotted circles come into the text, and then its syllables are reordered.
-abbrev pub PauseReordered : Option DottedCircles → (List hb_glyph_info_t → List hb_glyph_info_t) →
-    (List hb_glyph_info_t → List Step) → Buffer → Buffer → Type 0
+abbrev pub PauseReordered : Option DottedCircles → (Glyphs → Glyphs) →
+    (Glyphs → List Step) → Buffer → Buffer → Type 0
 PauseReordered circles meaning steps old new =
     SyllablesReordered meaning steps (record old { glyphs = circled circles old.glyphs }) new
 

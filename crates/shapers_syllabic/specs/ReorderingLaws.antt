@@ -2,7 +2,7 @@
 use Rattle.std.specs.Prelude.{ℕ, ◌≡◌, List, Option, ◌++◌, length, map, ◌≤◌, All, true}
 use Rattle.std.specs.List.{AllByRecursion}
 use Rattle.std.specs.List.Sorted.{IsPermutation}
-use Rattle.shapers_buffer.specs.declared.buffer.glyph.hb_glyph_info_t.{hb_glyph_info_t}
+use Rattle.shapers_buffer.specs.Glyphs.{Glyph, Glyphs}
 use Rattle.shapers_buffer.specs.declared.buffer.level.BufferClusterLevel.{BufferClusterLevel}
 use Rattle.shapers_buffer.specs.declared.buffer.syllables.Span.{Span}
 use Rattle.shapers_buffer.specs.Syllables.{spans_cover}
@@ -21,35 +21,35 @@ use Rattle.shapers_syllabic.specs.Reordering.{PauseReordered, SyllablesReordered
 -- What an instance of `Reorder` has to prove of its syllables and of the steps that lead there:
 -- the steps fit the syllable and take each of its places once, and to the view of what is carried
 -- along the syllable becomes what stood at their old places.
-pub record ReorderLaws (meaning : List hb_glyph_info_t →
-    List hb_glyph_info_t) (steps : List hb_glyph_info_t → List Step) : Type 0 where
-  pub fits : (gs : List hb_glyph_info_t) → FitSteps (length gs) (steps gs)
-  pub permutes : (gs : List hb_glyph_info_t) → AllByRecursion (Permutes (length gs)) (steps gs)
-  pub agrees : (gs : List hb_glyph_info_t) →
+pub record ReorderLaws (meaning : Glyphs →
+    Glyphs) (steps : Glyphs → List Step) : Type 0 where
+  pub fits : (gs : Glyphs) → FitSteps (length gs) (steps gs)
+  pub permutes : (gs : Glyphs) → AllByRecursion (Permutes (length gs)) (steps gs)
+  pub agrees : (gs : Glyphs) →
       seen carried (meaning gs) ≡ pick (old_places (length gs) (steps gs)) (seen carried gs)
 
 -- The text order loses nothing: what is carried along, and glyph numbers alone, are those of the
 -- text in some order.
-pub record NothingLost (meaning : List hb_glyph_info_t →
-    List hb_glyph_info_t) (gs : List hb_glyph_info_t) : Type 0 where
+pub record NothingLost (meaning : Glyphs →
+    Glyphs) (gs : Glyphs) : Type 0 where
   pub kept : IsPermutation (seen carried gs) (seen carried (text_order meaning gs))
   pub numbers : IsPermutation (map (λ g. g.glyph_id) gs)
       (map (λ g. g.glyph_id) (text_order meaning gs))
 
 abbrev pub ReorderingLosesNothing : Type 0
 ReorderingLosesNothing =
-    (meaning : List hb_glyph_info_t → List hb_glyph_info_t)
-    (steps : List hb_glyph_info_t → List Step) →
-    ReorderLaws meaning steps → (gs : List hb_glyph_info_t) → NothingLost meaning gs
+    (meaning : Glyphs → Glyphs)
+    (steps : Glyphs → List Step) →
+    ReorderLaws meaning steps → (gs : Glyphs) → NothingLost meaning gs
 
 -- the steps of each syllable move only inside what they merged first
-abbrev pub MoveMerged : (List hb_glyph_info_t → List Step) → Type 0
-MoveMerged steps = (gs : List hb_glyph_info_t) → AllByRecursion (MovesMerged (length gs)) (steps gs)
+abbrev pub MoveMerged : (Glyphs → List Step) → Type 0
+MoveMerged steps = (gs : Glyphs) → AllByRecursion (MovesMerged (length gs)) (steps gs)
 
 -- What holds of any text whose syllables are reordered: no glyph is lost, and the laws of steps,
 -- through the view. If the steps of each syllable move only inside what they merged first: the laws
 -- of a hook that reorders, exact cuts and the cluster law among them.
-pub record TextReordered (steps : List hb_glyph_info_t →
+pub record TextReordered (steps : Glyphs →
     List Step) (old new : Buffer) : Type 0 where
   pub kept : IsPermutation (seen carried old.glyphs) (seen carried new.glyphs)
   pub glyphs : SeenStepsHold carried old.level (text_steps steps (order_view old.glyphs)) old.glyphs
@@ -59,34 +59,34 @@ pub record TextReordered (steps : List hb_glyph_info_t →
       new.glyphs
 
 abbrev pub TextReorderedLaw : Type 0
-TextReorderedLaw = (meaning : List hb_glyph_info_t → List hb_glyph_info_t)
-    (steps : List hb_glyph_info_t → List Step) (old new : Buffer) →
+TextReorderedLaw = (meaning : Glyphs → Glyphs)
+    (steps : Glyphs → List Step) (old new : Buffer) →
     ReorderLaws meaning steps → SyllablesReordered meaning steps old new →
     TextReordered steps old new
 
 -- what a reordering pause makes of a text: its order view; and what is carried along
-abbrev pub paused_order : Option DottedCircles → (List hb_glyph_info_t → List hb_glyph_info_t) →
-    List hb_glyph_info_t → List hb_glyph_info_t
+abbrev pub paused_order : Option DottedCircles → (Glyphs → Glyphs) →
+    Glyphs → Glyphs
 paused_order circles meaning gs = text_order meaning (order_view (circled circles gs))
 
-abbrev pub paused_carried : Option DottedCircles → (List hb_glyph_info_t → List Step) →
-    BufferClusterLevel → List hb_glyph_info_t → List hb_glyph_info_t
+abbrev pub paused_carried : Option DottedCircles → (Glyphs → List Step) →
+    BufferClusterLevel → Glyphs → Glyphs
 paused_carried circles steps level gs =
     map carried (run_steps level (text_steps steps (order_view (circled circles gs)))
     (circled circles gs))
 
 -- and its clusters
-abbrev pub paused_clusters : Option DottedCircles → (List hb_glyph_info_t → List Step) →
-    BufferClusterLevel → List hb_glyph_info_t → List ℕ
+abbrev pub paused_clusters : Option DottedCircles → (Glyphs → List Step) →
+    BufferClusterLevel → Glyphs → List ℕ
 paused_clusters circles steps level gs =
     joined_steps level (text_steps steps (order_view (circled circles gs)))
     (clusters (circled circles gs))
 
 -- A text cut at a border of syllables: the order view after the pause is the halves' joined. Where
 -- they share no cluster, so is all that is carried along, clusters and glyph flags among it.
-pub record PauseOfHalves (circles : Option DottedCircles) (meaning : List hb_glyph_info_t →
-    List hb_glyph_info_t) (steps : List hb_glyph_info_t →
-    List Step) (level : BufferClusterLevel) (gs hs new : List hb_glyph_info_t) : Type 0 where
+pub record PauseOfHalves (circles : Option DottedCircles) (meaning : Glyphs →
+    Glyphs) (steps : Glyphs →
+    List Step) (level : BufferClusterLevel) (gs hs new : Glyphs) : Type 0 where
   pub order : order_view new ≡ paused_order circles meaning gs ++ paused_order circles meaning hs
   pub moved : ShareNone gs hs →
       map carried new
@@ -94,45 +94,45 @@ pub record PauseOfHalves (circles : Option DottedCircles) (meaning : List hb_gly
 
 -- so at every border of the buffer's syllables
 abbrev pub PauseCutsAtBorders : Option DottedCircles →
-    (List hb_glyph_info_t → List hb_glyph_info_t) → (List hb_glyph_info_t → List Step) → Buffer →
+    (Glyphs → Glyphs) → (Glyphs → List Step) → Buffer →
     Buffer → Type 0
 PauseCutsAtBorders circles meaning steps old new =
-    (gs hs : List hb_glyph_info_t) → old.glyphs ≡ gs ++ hs → MeetAtBorder gs hs →
+    (gs hs : Glyphs) → old.glyphs ≡ gs ++ hs → MeetAtBorder gs hs →
     PauseOfHalves circles meaning steps old.level gs hs new.glyphs
 
 abbrev pub ReorderingCutsAtBorders : Type 0
 ReorderingCutsAtBorders =
-    (circles : Option DottedCircles) (meaning : List hb_glyph_info_t → List hb_glyph_info_t)
-    (steps : List hb_glyph_info_t → List Step) (old new : Buffer) →
+    (circles : Option DottedCircles) (meaning : Glyphs → Glyphs)
+    (steps : Glyphs → List Step) (old new : Buffer) →
     ReorderLaws meaning steps → PauseReordered circles meaning steps old new →
     PauseCutsAtBorders circles meaning steps old new
 
 -- An instance that reads the kinds of syllables and not their serials: of the same syllable but for
 -- serials it makes the same but for serials, by the same steps.
-pub record ReadsNoSerials (meaning : List hb_glyph_info_t →
-    List hb_glyph_info_t) (steps : List hb_glyph_info_t → List Step) : Type 0 where
-  pub meant : (gs hs : List hb_glyph_info_t) → map unnumbered gs ≡ map unnumbered hs →
+pub record ReadsNoSerials (meaning : Glyphs →
+    Glyphs) (steps : Glyphs → List Step) : Type 0 where
+  pub meant : (gs hs : Glyphs) → map unnumbered gs ≡ map unnumbered hs →
       map unnumbered (meaning gs) ≡ map unnumbered (meaning hs)
-  pub led : (gs hs : List hb_glyph_info_t) → map unnumbered gs ≡ map unnumbered hs →
+  pub led : (gs hs : Glyphs) → map unnumbered gs ≡ map unnumbered hs →
       steps gs ≡ steps hs
 
 -- the glyph with a mask that is made of its own
-abbrev pub with_mask_by : (ℕ → ℕ) → hb_glyph_info_t → hb_glyph_info_t
+abbrev pub with_mask_by : (ℕ → ℕ) → Glyph → Glyph
 with_mask_by f g = record g { mask = f g.mask }
 
 -- An instance that reads no masks: of a syllable with other masks it makes the same, each glyph
 -- with its own, by the same steps.
-pub record ReadsNoMasks (meaning : List hb_glyph_info_t →
-    List hb_glyph_info_t) (steps : List hb_glyph_info_t → List Step) : Type 0 where
-  pub meant : (f : ℕ → ℕ) (gs : List hb_glyph_info_t) →
+pub record ReadsNoMasks (meaning : Glyphs →
+    Glyphs) (steps : Glyphs → List Step) : Type 0 where
+  pub meant : (f : ℕ → ℕ) (gs : Glyphs) →
       meaning (map (with_mask_by f) gs) ≡ map (with_mask_by f) (meaning gs)
-  pub led : (f : ℕ → ℕ) (gs : List hb_glyph_info_t) → steps (map (with_mask_by f) gs) ≡ steps gs
+  pub led : (f : ℕ → ℕ) (gs : Glyphs) → steps (map (with_mask_by f) gs) ≡ steps gs
 
 -- A pause of such an instance, circles among it, makes the same of texts that are the same but for
 -- serials.
-pub record SameButSerialsAfter (circles : Option DottedCircles) (meaning : List hb_glyph_info_t →
-    List hb_glyph_info_t) (steps : List hb_glyph_info_t →
-    List Step) (level : BufferClusterLevel) (gs hs : List hb_glyph_info_t) : Type 0 where
+pub record SameButSerialsAfter (circles : Option DottedCircles) (meaning : Glyphs →
+    Glyphs) (steps : Glyphs →
+    List Step) (level : BufferClusterLevel) (gs hs : Glyphs) : Type 0 where
   pub order : map unnumbered (paused_order circles meaning gs)
       ≡ map unnumbered (paused_order circles meaning hs)
   pub moved : map unnumbered (paused_carried circles steps level gs)
@@ -140,18 +140,18 @@ pub record SameButSerialsAfter (circles : Option DottedCircles) (meaning : List 
 
 abbrev pub SerialsDontCount : Type 0
 SerialsDontCount = (circles : Option DottedCircles)
-    (meaning : List hb_glyph_info_t → List hb_glyph_info_t)
-    (steps : List hb_glyph_info_t → List Step) (level : BufferClusterLevel)
-    (gs hs : List hb_glyph_info_t) →
+    (meaning : Glyphs → Glyphs)
+    (steps : Glyphs → List Step) (level : BufferClusterLevel)
+    (gs hs : Glyphs) →
     ReadsNoSerials meaning steps → SameButSerials gs hs →
     SameButSerialsAfter circles meaning steps level gs hs
 
 -- Spans set up, and a reordering pause directly after, cut between two spans: order view, and where
 -- the halves share no cluster all that is carried along, are those of the halves, set up and
 -- reordered each for itself, one after the other, but for serials.
-pub record SetUpAndPauseOfHalves (circles : Option DottedCircles) (meaning : List hb_glyph_info_t →
-    List hb_glyph_info_t) (steps : List hb_glyph_info_t →
-    List Step) (ss ts : List Span) (broken_kind : ℕ) (gs hs : List hb_glyph_info_t) (old new :
+pub record SetUpAndPauseOfHalves (circles : Option DottedCircles) (meaning : Glyphs →
+    Glyphs) (steps : Glyphs →
+    List Step) (ss ts : List Span) (broken_kind : ℕ) (gs hs : Glyphs) (old new :
     Buffer) : Type 0 where
   pub order : map unnumbered (order_view new.glyphs)
       ≡ map unnumbered (paused_order circles meaning
@@ -167,12 +167,12 @@ pub record SetUpAndPauseOfHalves (circles : Option DottedCircles) (meaning : Lis
 
 abbrev pub PausesCutAtSpans : Type 0
 PausesCutAtSpans = (circles : Option DottedCircles)
-    (meaning : List hb_glyph_info_t → List hb_glyph_info_t)
-    (steps : List hb_glyph_info_t → List Step) (spans : List Span) (broken_kind : ℕ)
+    (meaning : Glyphs → Glyphs)
+    (steps : Glyphs → List Step) (spans : List Span) (broken_kind : ℕ)
     (old new : Buffer) →
     ReorderLaws meaning steps → ReadsNoSerials meaning steps → All (λ span. span.kind ≤ 15) spans →
     PauseReordered circles meaning steps (spans_set_up spans broken_kind old) new →
-    (ss ts : List Span) (gs hs : List hb_glyph_info_t) →
+    (ss ts : List Span) (gs hs : Glyphs) →
     spans ≡ ss ++ ts → old.glyphs ≡ gs ++ hs → spans_cover (length gs) ss ≡ true →
     spans_cover (length hs) ts ≡ true →
     SetUpAndPauseOfHalves circles meaning steps ss ts broken_kind gs hs old new

@@ -1,7 +1,7 @@
 -- Words of the code's walk over syllables: groups of glyphs that aren't written yet.
-use Rattle.std.specs.Prelude.{ℕ, ◌<◌, ◌≡◌, ◌≤◌, Bool, false, true, List, [], drop, length, take, Option, MatchBool, MatchOption}
+use Rattle.std.specs.Prelude.{ℕ, ◌<◌, ◌≡◌, ◌≤◌, Bool, false, true, [], drop, length, take, Option, MatchBool, MatchOption}
 use Rattle.std.specs.List.{list_any}
-use Rattle.shapers_buffer.specs.declared.buffer.glyph.hb_glyph_info_t.{hb_glyph_info_t}
+use Rattle.shapers_buffer.specs.Glyphs.{Glyph, Glyphs}
 use Rattle.shapers_buffer.specs.Buffer.{Buffer}
 use Rattle.shapers_buffer.specs.Clusters.{stretch_of}
 use Rattle.shapers_buffer.specs.Syllables.{first_syllable_len}
@@ -12,8 +12,8 @@ use Rattle.shapers_syllabic.specs.Borders.{MeetAtBorder}
 
 -- A syllable starts at place first, if one does at start, and no glyph between them
 -- may change one; one of that syllable's own may.
-pub record IsNextChanging (changes : hb_glyph_info_t → Bool) (start : ℕ) (gs : List
-    hb_glyph_info_t) (first : ℕ) : Type 0 where
+pub record IsNextChanging (changes : Glyph → Bool) (start : ℕ) (gs : Glyphs)
+    (first : ℕ) : Type 0 where
   pub in_order : start ≤ first
   pub inside : first < length gs
   pub stay : list_any changes (stretch_of start first gs) ≡ false
@@ -21,7 +21,7 @@ pub record IsNextChanging (changes : hb_glyph_info_t → Bool) (start : ℕ) (gs
   pub changing : list_any changes (take (first_syllable_len (drop first gs)) (drop first gs)) ≡ true
 
 -- and where there is none, no glyph from start on may
-abbrev pub NextChanging : (hb_glyph_info_t → Bool) → ℕ → List hb_glyph_info_t → Option ℕ → Type 0
+abbrev pub NextChanging : (Glyph → Bool) → ℕ → Glyphs → Option ℕ → Type 0
 NextChanging changes start gs next =
     MatchOption next (list_any changes (drop start gs) ≡ false) (IsNextChanging changes start gs)
 
@@ -30,7 +30,7 @@ abbrev pub groups_written : CarriedGroups → Buffer → Buffer
 groups_written it b = record b { glyphs = with_groups it b.glyphs }
 
 -- What is carried fits these glyphs, up to a place; and before it begins there is nothing.
-pub record CarryingFits (place : ℕ) (it : Carrying) (gs : List hb_glyph_info_t) : Type 0 where
+pub record CarryingFits (place : ℕ) (it : Carrying) (gs : Glyphs) : Type 0 where
   pub fits : AreCarried it.groups gs
   pub ends : it.groups.end ≤ place
   pub off : it.is_on ≡ false → it.groups.groups.items ≡ []
@@ -42,18 +42,17 @@ pub record ReorderedBehind (link : ℕ → ℕ → Buffer → Buffer → Type 0)
   pub fits : CarryingFits first after new.glyphs
 
 -- before a syllable, or behind it
-pub record CanGuard (first end : ℕ) (it : CarriedGroups) (gs : List hb_glyph_info_t) : Type 0 where
+pub record CanGuard (first end : ℕ) (it : CarriedGroups) (gs : Glyphs) : Type 0 where
   pub fits : AreCarried it gs
   pub further : it.end ≤ first
   pub in_order : first ≤ end
   pub in_range : end ≤ length gs
 
-abbrev pub CanWalk : Carrying → List hb_glyph_info_t → Type 0
+abbrev pub CanWalk : Carrying → Glyphs → Type 0
 CanWalk w gs =
     MatchBool w.settles (CanSettle w.groups w.count gs) (CanGuard w.first w.end w.groups gs)
 
-pub record GroupsWalked (v : Carrying) (gs : List hb_glyph_info_t) (w : Carrying) (hs : List
-    hb_glyph_info_t) : Type 0 where
+pub record GroupsWalked (v : Carrying) (gs : Glyphs) (w : Carrying) (hs : Glyphs) : Type 0 where
   pub on : w.is_on ≡ v.is_on
   pub made : MatchBool v.settles (GroupsSettled v.groups v.count gs w.groups hs)
       (GroupsGuarded v.first v.end v.groups gs w.groups w.count hs)

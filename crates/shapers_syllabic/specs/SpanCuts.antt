@@ -1,6 +1,6 @@
 -- A set-up by spans, and pauses that run directly after it, cut between any two spans.
 use Rattle.std.specs.Prelude.{ℕ, ◌≡◌, ◌≤◌, true, List, Option, ◌++◌, All, length, map}
-use Rattle.shapers_buffer.specs.declared.buffer.glyph.hb_glyph_info_t.{hb_glyph_info_t}
+use Rattle.shapers_buffer.specs.Glyphs.{Glyph, Glyphs}
 use Rattle.shapers_buffer.specs.declared.buffer.syllables.Span.{Span}
 use Rattle.shapers_buffer.specs.Buffer.{Buffer}
 use Rattle.shapers_buffer.specs.Glyph.{clusters, order_view}
@@ -15,37 +15,37 @@ use Rattle.shapers_syllabic.specs.Syllabic.{unsafe_spans}
 
 -- What pauses make of a text is what they make of its halves, one after the other: in the order
 -- view, as far as the view shows it; and where the halves share no cluster, in the clusters too.
-pub record HalvesJoined (view : hb_glyph_info_t → hb_glyph_info_t) (made : List hb_glyph_info_t →
-    List hb_glyph_info_t) (clusters_made : List hb_glyph_info_t →
-    List ℕ) (gs hs xs ys new : List hb_glyph_info_t) : Type 0 where
+pub record HalvesJoined (view : Glyph → Glyph) (made : Glyphs →
+    Glyphs) (clusters_made : Glyphs →
+    List ℕ) (gs hs xs ys new : Glyphs) : Type 0 where
   pub order : map view (order_view new) ≡ map view (made xs) ++ map view (made ys)
   pub in_clusters : ShareNone gs hs → clusters new ≡ clusters_made xs ++ clusters_made ys
 
 -- So at every cut between two spans. Each half is set up by the spans that cover it, and its bytes
 -- may then have other serials, as long as neighbouring syllables differ.
-abbrev pub CutsBetweenSpans : (hb_glyph_info_t → hb_glyph_info_t) →
-    (List Span → List hb_glyph_info_t → List hb_glyph_info_t) →
-    (List hb_glyph_info_t → List hb_glyph_info_t) → (List hb_glyph_info_t → List ℕ) → List Span →
-    List hb_glyph_info_t → List hb_glyph_info_t → Type 0
+abbrev pub CutsBetweenSpans : (Glyph → Glyph) →
+    (List Span → Glyphs → Glyphs) →
+    (Glyphs → Glyphs) → (Glyphs → List ℕ) → List Span →
+    Glyphs → Glyphs → Type 0
 CutsBetweenSpans view set_up made clusters_made spans old new =
-    (ss ts : List Span) (gs hs xs ys : List hb_glyph_info_t) →
+    (ss ts : List Span) (gs hs xs ys : Glyphs) →
     spans ≡ ss ++ ts → old ≡ gs ++ hs → spans_cover (length gs) ss ≡ true →
     spans_cover (length hs) ts ≡ true →
     SameButSerials (set_up ss gs) xs → SameButSerials (set_up ts hs) ys →
     HalvesJoined view made clusters_made gs hs xs ys new
 
 -- So at every border of syllables: each half may have other serials, as long as neighbours differ.
-abbrev pub CutsAtBorders : (hb_glyph_info_t → hb_glyph_info_t) →
-    (List hb_glyph_info_t → List hb_glyph_info_t) → (List hb_glyph_info_t → List ℕ) →
-    List hb_glyph_info_t → List hb_glyph_info_t → Type 0
-CutsAtBorders view made clusters_made old new = (gs hs xs ys : List hb_glyph_info_t) →
+abbrev pub CutsAtBorders : (Glyph → Glyph) →
+    (Glyphs → Glyphs) → (Glyphs → List ℕ) →
+    Glyphs → Glyphs → Type 0
+CutsAtBorders view made clusters_made old new = (gs hs xs ys : Glyphs) →
     old ≡ gs ++ hs → MeetAtBorder gs hs → SameButSerials gs xs → SameButSerials hs ys →
     HalvesJoined view made clusters_made gs hs xs ys new
 
 -- A set-up and a reordering pause directly after it, whatever circles it opens: serials of bytes
 -- apart.
-abbrev pub PauseCutsBetweenSpans : (List hb_glyph_info_t → List hb_glyph_info_t) →
-    (List hb_glyph_info_t → List Step) → ℕ → Type 0
+abbrev pub PauseCutsBetweenSpans : (Glyphs → Glyphs) →
+    (Glyphs → List Step) → ℕ → Type 0
 PauseCutsBetweenSpans meaning steps broken_kind =
     (circles : Option DottedCircles) (spans : List Span) (old new : Buffer) →
     All (λ span. span.kind ≤ 15) spans →
@@ -55,7 +55,7 @@ PauseCutsBetweenSpans meaning steps broken_kind =
 
 abbrev pub PausesCutBetweenSpans : Type 0
 PausesCutBetweenSpans =
-    (meaning : List hb_glyph_info_t → List hb_glyph_info_t)
-    (steps : List hb_glyph_info_t → List Step) (broken_kind : ℕ) →
+    (meaning : Glyphs → Glyphs)
+    (steps : Glyphs → List Step) (broken_kind : ℕ) →
     ReorderLaws meaning steps → ReadsNoSerials meaning steps →
     PauseCutsBetweenSpans meaning steps broken_kind

@@ -1,7 +1,7 @@
 -- What the shapers of syllabic scripts do to the whole text.
 use Rattle.std.specs.Prelude.{ℕ, ◌≤◌, ◌==◌, ◌||◌, List, length, map, All, IsTrue}
 use Rattle.std.specs.List.{flat_map, list_any}
-use Rattle.shapers_buffer.specs.declared.buffer.glyph.hb_glyph_info_t.{hb_glyph_info_t}
+use Rattle.shapers_buffer.specs.Glyphs.{Glyph, Glyphs}
 use Rattle.shapers_buffer.specs.declared.buffer.syllables.Span.{Span}
 use Rattle.shapers_buffer.specs.Buffer.{Buffer}
 use Rattle.shapers_buffer.specs.GlyphFlags.{flagged}
@@ -9,7 +9,7 @@ use Rattle.shapers_buffer.specs.Properties.{SUBSTITUTED, without_mark}
 use Rattle.shapers_buffer.specs.Syllables.{kind_of, syllables, in_syllable, span_bytes, spans_cover, with_bytes}
 
 -- the glyphs with the inside of each syllable unsafe to break and to concatenate
-abbrev pub unsafe_syllables : List hb_glyph_info_t → List hb_glyph_info_t
+abbrev pub unsafe_syllables : Glyphs → Glyphs
 unsafe_syllables gs = flat_map (flagged 3) (syllables gs)
 
 -- so for the buffer
@@ -25,17 +25,17 @@ set_up_by_bytes kind b = record b {
 }
 
 -- whether spans cut these glyphs: they cover them, and each has a kind that fits its four bits
-abbrev pub CanCut : List Span → List hb_glyph_info_t → Type 0
+abbrev pub CanCut : List Span → Glyphs → Type 0
 CanCut spans gs = IsTrue (spans_cover (length gs) spans) × All (λ span. span.kind ≤ 15) spans
 
 -- the glyphs cut into these spans, with the inside of each syllable unsafe
-abbrev pub unsafe_spans : List Span → List hb_glyph_info_t → List hb_glyph_info_t
+abbrev pub unsafe_spans : List Span → Glyphs → Glyphs
 unsafe_spans spans gs = unsafe_syllables (with_bytes gs (span_bytes 0 spans))
 
 -- the glyphs as one syllable of this byte, its inside unsafe
-abbrev pub in_unsafe_syllable : ℕ → List hb_glyph_info_t → List hb_glyph_info_t
+abbrev pub in_unsafe_syllable : ℕ → Glyphs → Glyphs
 in_unsafe_syllable byte gs = flagged 3 (map (in_syllable byte) gs)
 
 -- the glyph without the mark that a lookup substituted it
-abbrev pub unsubstituted : hb_glyph_info_t → hb_glyph_info_t
+abbrev pub unsubstituted : Glyph → Glyph
 unsubstituted g = record g { glyph_props = without_mark SUBSTITUTED g.glyph_props }

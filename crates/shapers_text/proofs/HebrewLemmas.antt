@@ -1,12 +1,12 @@
 -- Steps of the search for the first three marks.
-use Rattle.std.proofs.Common.{◌≡◌, ℕ, suc, ◌+◌, ◌<◌, ◌≤◌, Bool, true, false, List, [], ◌∷◌, length, get_or, take, drop, set, refl, arith, Some, None, Option, Bor}
+use Rattle.std.proofs.Common.{◌≡◌, ℕ, ◌+◌, ◌<◌, ◌≤◌, true, false, [], ◌∷◌, length, get_or, take, drop, set, refl, arith, Some, None, Option, Bor}
 use Rattle.std.specs.Prelude.{option_map, swap, IfSome, MatchOption}
 use Rattle.std.proofs.lemmas.Bool.{false≢true}
 use Rattle.std.proofs.lemmas.List.{get_or_read, take-map, drop-map}
 use Rattle.std.proofs.lemmas.List.Edits.{swap_is}
 use Rattle.shapers_buffer.specs.Glyph.{order_view}
 use Rattle.std.proofs.lemmas.Grind.{common_steps}
-use Rattle.shapers_buffer.specs.declared.buffer.glyph.hb_glyph_info_t.{hb_glyph_info_t}
+use Rattle.shapers_buffer.specs.Glyphs.{Glyph, Glyphs}
 use Rattle.shapers_buffer.specs.Clusters.{stretch_of}
 use Rattle.std.specs.Option.{option_map_or}
 use Rattle.shapers_buffer.specs.declared.buffer.level.BufferClusterLevel.{BufferClusterLevel}
@@ -18,102 +18,47 @@ use Rattle.shapers_clusters.proofs.Proved.{reordered_whole}
 use Rattle.shapers_clusters.proofs.Swaps.{still_moves_merged, swap_moves_merged, run-still_step, order_view-swap_step}
 use Rattle.shapers_text.specs.Hebrew.{hebrew_mark_step, step_at, marks_swapped, opens_triple, triple_place, second_of_triple}
 
-triple_place_hit : (g : hb_glyph_info_t) (gs : List hb_glyph_info_t) → opens_triple (g ∷ gs) ≡ true
-    → triple_place (g ∷ gs) ≡ Some 0
-triple_place_hit g gs h = rw h refl
-
-triple_place_miss : (g : hb_glyph_info_t) (gs : List hb_glyph_info_t) → opens_triple (g ∷ gs) ≡ false
-    → triple_place (g ∷ gs) ≡ option_map suc (triple_place gs)
-triple_place_miss g gs h = rw h refl
-
--- the first three glyphs tell whether a list opens with the three
-opens-front : (gs : List hb_glyph_info_t) → opens_triple (take 3 gs) ≡ opens_triple gs
-opens-front [] = refl
-opens-front (a ∷ []) = refl
-opens-front (a ∷ (b ∷ [])) = refl
-opens-front (a ∷ (b ∷ (c ∷ gs))) = refl
-
-triple_moved : (second : ℕ) (o : Option ℕ) → option_map (λ k. second + k) (option_map suc o)
-    ≡ option_map (λ k. second + 1 + k) o
-triple_moved second None = refl
-triple_moved second (Some k) = search arith
-
-counted : (start : ℕ) (o : Option ℕ) → option_map (λ k. start + 1 + k) o ≡ option_map (λ k. start + k + 1) o
-counted start None = refl
-counted start (Some k) = search arith
-
 -- a turn over what is left: its first three glyphs are read, and one is passed
-pub record Turn (gs triple rest : List hb_glyph_info_t) : Type 0 where
+pub record Turn (gs triple rest : Glyphs) : Type 0 where
   pub some : 3 ≤ length gs
   pub front : triple ≡ take 3 gs
   pub left : rest ≡ drop 1 gs
 
-pub turn : (o : Option (Bor (List hb_glyph_info_t))) (x : Bor (List hb_glyph_info_t)) (none : Type 0) (size : ℕ)
-    (gs rest : List hb_glyph_info_t) → o ≡ Some x → size ≡ 3
+pub turn : (o : Option (Bor Glyphs)) (x : Bor Glyphs) (none : Type 0) (size : ℕ)
+    (gs rest : Glyphs) → o ≡ Some x → size ≡ 3
     → MatchOption o none (λ y. (size ≤ length gs) × (y.now ≡ take size gs) × (rest ≡ drop 1 gs) × (length y.now ≡ size))
     → Turn gs x.now rest
-turn o x none size gs rest is three h =
-    search arith
+turn o x none = search arith
 
 -- and after the last turn fewer than three are left
-pub short : (same : Type 0) (o : Option (Bor (List hb_glyph_info_t))) (some : Bor (List hb_glyph_info_t)
-    → Type 0) (size : ℕ) (gs : List hb_glyph_info_t) → o ≡ None → size ≡ 3
-    → MatchOption o ((length gs < size) × same) some → length gs < 3
-short same o some size gs is three h =
-    search arith
+pub short : (same : Type 0) (o : Option (Bor Glyphs)) (some : Bor Glyphs → Type 0) (size : ℕ) (gs : Glyphs) → o ≡ None
+    → size ≡ 3 → MatchOption o ((length gs < size) × same) some → length gs < 3
+short = search arith
 
 -- one turn of the search: what is left opens with the three, or one glyph less is left
-pub triple_hit : (gs w : List hb_glyph_info_t) (second : ℕ) → w ≡ take 3 gs → opens_triple w ≡ true
+pub triple_hit : (gs w : Glyphs) (second : ℕ) → w ≡ take 3 gs → opens_triple w ≡ true
     → option_map (λ k. second + k) (triple_place gs) ≡ Some second
-triple_hit [] w second is opens = search (arith, false≢true)
-triple_hit (g ∷ gs) w second is opens =
-    search arith
+triple_hit [] = search (arith, false≢true)
+triple_hit (g ∷ gs) = search arith
 
-pub triple_miss : (gs w rest : List hb_glyph_info_t) (second : ℕ) → 3 ≤ length gs → w ≡ take 3 gs → rest ≡ drop 1 gs
+pub triple_miss : (gs w rest : Glyphs) (second : ℕ) → 3 ≤ length gs → w ≡ take 3 gs → rest ≡ drop 1 gs
     → opens_triple w ≡ false → option_map (λ k. second + 1 + k) (triple_place rest)
     ≡ option_map (λ k. second + k) (triple_place gs)
 triple_miss [] w rest second some is left fails = absurd (omega arith)
-triple_miss (g ∷ gs) w rest second some is left fails =
-    search arith
+triple_miss (g ∷ gs) w rest second some is left fails = search arith
 
-few : (gs : List hb_glyph_info_t) → length gs < 3 → triple_place gs ≡ None
-few [] h = refl
-few (a ∷ []) h = refl
-few (a ∷ (b ∷ [])) h = refl
+few : (gs : Glyphs) → length gs < 3 → triple_place gs ≡ None
 few (a ∷ (b ∷ (c ∷ gs))) h = absurd (omega arith)
+few _ h = refl
 
 -- fewer than three are left
-pub triple_none : (gs : List hb_glyph_info_t) (second : ℕ) → length gs < 3
-    → option_map (λ k. second + k) (triple_place gs) ≡ None
+pub triple_none : (gs : Glyphs) (second : ℕ) → length gs < 3 → option_map (λ k. second + k) (triple_place gs) ≡ None
 triple_none gs second h = cc (few gs h)
-
--- the search begins with all marks
-pub triple_start : (start end : ℕ) (gs marks : List hb_glyph_info_t) → marks ≡ stretch_of start end gs
-    → option_map (λ k. start + 1 + k) (triple_place marks) ≡ second_of_triple start end gs
-triple_start start end gs marks is = search (arith, counted)
-
--- the first three stand within the text
-three_long : (gs : List hb_glyph_info_t) → opens_triple gs ≡ true → 2 < length gs
-three_long [] h = absurd (false≢true h)
-three_long (a ∷ []) h = absurd (false≢true h)
-three_long (a ∷ (b ∷ [])) h = absurd (false≢true h)
-three_long (a ∷ (b ∷ (c ∷ gs))) h = omega arith
 
 abbrev Within : ℕ → Option ℕ → Type 0
 Within n o = IfSome o (λ k. k + 2 < n)
 
-one_further : (n : ℕ) (o : Option ℕ) → Within n o → Within (suc n) (option_map suc o)
-one_further n None h = tt
-one_further n (Some k) h = omega arith
-
-by_first : (g : hb_glyph_info_t) (gs : List hb_glyph_info_t) (opens : Bool) → opens_triple (g ∷ gs) ≡ opens
-    → Within (length gs) (triple_place gs) → Within (suc (length gs)) (triple_place (g ∷ gs))
-by_first g gs true h _ =
-    search arith
-by_first g gs false h rest =
-    search arith
-
-triple_within : (gs : List hb_glyph_info_t) → Within (length gs) (triple_place gs)
+triple_within : (gs : Glyphs) → Within (length gs) (triple_place gs)
 triple_within [] = tt
 triple_within (g ∷ gs) = search (arith, triple_within gs)
 
@@ -122,20 +67,19 @@ moved_within : (start n total : ℕ) (o : Option ℕ) → start + n ≤ total �
 moved_within start n total None fits h = tt
 moved_within start n total (Some k) fits h = omega arith
 
-pub second_within : (gs : List hb_glyph_info_t) (start end : ℕ) → start ≤ end → end ≤ length gs
+pub second_within : (gs : Glyphs) (start end : ℕ) → start ≤ end → end ≤ length gs
     → IfSome (second_of_triple start end gs) (λ k. k + 1 < length gs)
 second_within gs start end order within =
     let xs = stretch_of start end gs in
     moved_within start (length xs) (length gs) (triple_place xs) (grind (arith, common_steps)) (triple_within xs)
 
 -- two neighbours written over each other
-pub swapped : (gs : List hb_glyph_info_t) (i : ℕ) (x y : hb_glyph_info_t) → i + 1 < length gs → x ≡ get_or gs i x
+pub swapped : (gs : Glyphs) (i : ℕ) (x y : Glyph) → i + 1 < length gs → x ≡ get_or gs i x
     → y ≡ get_or gs (i + 1) y → set (set gs i y) (i + 1) x ≡ swap gs i (i + 1)
-swapped gs i x y h hx hy =
-    search (arith, get_or_read, swap_is)
+swapped = search (arith, get_or_read, swap_is)
 
 -- the step of the marks is one of the smallest
-pub mark_moves_merged : (start end : ℕ) (gs : List hb_glyph_info_t)
+pub mark_moves_merged : (start end : ℕ) (gs : Glyphs)
     → IfSome (second_of_triple start end gs) (λ i. i + 1 < length gs)
     → MovesMerged (length gs) (hebrew_mark_step start end gs)
 mark_moves_merged start end gs within = elim (second_of_triple start end gs) as (λ o. IfSome o (λ i. i + 1 < length gs)
@@ -145,32 +89,30 @@ mark_moves_merged start end gs within = elim (second_of_triple start end gs) as 
     ] within
 
 -- the classes of the marks show in the order view
-opens_plain : (gs : List hb_glyph_info_t) → opens_triple (order_view gs) ≡ opens_triple gs
+opens_plain : (gs : Glyphs) → opens_triple (order_view gs) ≡ opens_triple gs
 opens_plain [] = refl
 opens_plain (a ∷ []) = refl
 opens_plain (a ∷ (b ∷ [])) = refl
 opens_plain (a ∷ (b ∷ (c ∷ gs))) = refl
 
-place_plain : (gs : List hb_glyph_info_t) → triple_place (order_view gs) ≡ triple_place gs
+place_plain : (gs : Glyphs) → triple_place (order_view gs) ≡ triple_place gs
 place_plain [] = refl
-place_plain (g ∷ gs) =
-    cc (opens_plain (g ∷ gs), place_plain gs)
+place_plain (g ∷ gs) = cc (opens_plain (g ∷ gs), place_plain gs)
 
-marks_view_at : (level : BufferClusterLevel) (gs : List hb_glyph_info_t) (o : Option ℕ)
+marks_view_at : (level : BufferClusterLevel) (gs : Glyphs) (o : Option ℕ)
     → IfSome o (λ i. i + 1 < length gs) → order_view (run_step level (step_at (length gs) o) gs)
     ≡ option_map_or (λ i. swap (order_view gs) i (i + 1)) o (order_view gs)
 marks_view_at level gs None within = cc (run-still_step level gs)
 marks_view_at level gs (Some i) within = order_view-swap_step level gs i within
 
 -- the order view of the step is the rule's
-pub marks_view : (level : BufferClusterLevel) (start end : ℕ) (gs : List hb_glyph_info_t)
+pub marks_view : (level : BufferClusterLevel) (start end : ℕ) (gs : Glyphs)
     → IfSome (second_of_triple start end gs) (λ i. i + 1 < length gs)
     → order_view (run_step level (hebrew_mark_step start end gs) gs) ≡ marks_swapped start end (order_view gs)
-marks_view level start end gs within =
-    search (arith, marks_view_at, drop-map, take-map, place_plain)
+marks_view = search (arith, marks_view_at, drop-map, take-map, place_plain)
 
 -- what the step leaves, by the laws
-pub mark_laws : (level : BufferClusterLevel) (start end : ℕ) (gs : List hb_glyph_info_t)
+pub mark_laws : (level : BufferClusterLevel) (start end : ℕ) (gs : Glyphs)
     → IfSome (second_of_triple start end gs) (λ i. i + 1 < length gs)
     → ReorderedHold whole level (hebrew_mark_step start end gs ∷ []) gs
     (run_step level (hebrew_mark_step start end gs) gs)

@@ -3,7 +3,7 @@ use Rattle.std.specs.Prelude.{◌≡◌, ℕ, true, false, Option, Some, None, L
 use Rattle.std.specs.List.{range_with_len}
 use Rattle.shapers_buffer.specs.declared.buffer.category.hb_unicode_general_category_t.{hb_unicode_general_category_t}
 use Rattle.shapers_buffer.specs.declared.buffer.category.hb_unicode_general_category_t.TheVariants.{Cc, Cf, Lo, Mc, Me, Mn, Zs}
-use Rattle.shapers_buffer.specs.declared.buffer.glyph.hb_glyph_info_t.{hb_glyph_info_t}
+use Rattle.shapers_buffer.specs.Glyphs.{Glyph, Glyphs}
 use Rattle.shapers_buffer.specs.declared.buffer.level.BufferClusterLevel.TheVariants.{MonotoneGraphemes, Characters}
 use Rattle.shapers_buffer.specs.Glyph.{default_glyph, clusters}
 use Rattle.shapers_buffer.specs.Properties.{CONTINUATION, IGNORABLE, general_category, modified_combining_class, properties, with_property}
@@ -11,14 +11,14 @@ use Rattle.shapers_clusters.specs.Steps.{run_step}
 use Rattle.shapers_text.specs.Hebrew.{composed_in_hebrew, hebrew_form, is_meteg_or_below, is_patah_or_qamats, is_sheva_or_hiriq, hebrew_mark_step, marks_swapped, second_of_triple, triple_place}
 
 -- marks of these classes and clusters
-abbrev marks : List (ℕ × ℕ) → List hb_glyph_info_t
+abbrev marks : List (ℕ × ℕ) → Glyphs
 marks ms = map
-    (λ m. let g : hb_glyph_info_t = record default_glyph { unicode_props = properties Mn m.0; cluster = m.1 } in g) ms
+    (λ m. let g : Glyph = record default_glyph { unicode_props = properties Mn m.0; cluster = m.1 } in g) ms
 
-abbrev classes : List hb_glyph_info_t → List ℕ
+abbrev classes : Glyphs → List ℕ
 classes gs = map (λ g. modified_combining_class g.unicode_props) gs
 
-abbrev twice : List hb_glyph_info_t
+abbrev twice : Glyphs
 twice = marks ((20, 0) ∷ (22, 1) ∷ (25, 2) ∷ (20, 3) ∷ (22, 4) ∷ (25, 5) ∷ [])
 
 -- of two triples the first
@@ -40,11 +40,11 @@ abbrev formed : ℕ × ℕ → Option ℕ
 formed p = hebrew_form p.0 p.1
 
 -- glyphs of a category with these high bytes, and marks of these classes
-abbrev of_category : hb_unicode_general_category_t → List ℕ → List hb_glyph_info_t
+abbrev of_category : hb_unicode_general_category_t → List ℕ → Glyphs
 of_category category bytes = map
-    (λ byte. let g : hb_glyph_info_t = record default_glyph { unicode_props = properties category byte } in g) bytes
+    (λ byte. let g : Glyph = record default_glyph { unicode_props = properties category byte } in g) bytes
 
-abbrev of_classes : List ℕ → List hb_glyph_info_t
+abbrev of_classes : List ℕ → Glyphs
 of_classes cs = of_category Mn cs
 
 -- the fourteen pairs, from the names of the presentation forms
@@ -171,7 +171,7 @@ unfolding modified_combining_class general_category
 later = refl
 
 -- within a stretch alone: from its start on, up to its end, and no triple that reaches over either
-abbrev six : List hb_glyph_info_t
+abbrev six : Glyphs
 six = of_classes (20 ∷ 22 ∷ 25 ∷ 21 ∷ 23 ∷ 220 ∷ [])
 
 within : map (λ (s : ℕ × ℕ). second_of_triple s.0 s.1 six) ((0, 6) ∷ (0, 3) ∷ (0, 2) ∷ (1, 6) ∷ (1, 5) ∷ (3, 6) ∷ (4, 6)
@@ -196,19 +196,18 @@ unfolding modified_combining_class general_category
 no_step = refl
 
 -- with a start above 0, where clusters are merged and flags fall, all other fields stay
-abbrev full : ℕ → ℕ → ℕ → hb_glyph_info_t
-full class c m =
-    record {
-      glyph_id = 0x05B7;
-      cluster = c;
-      mask = m;
-      syllable = 0x24;
-      category = 1;
-      auxiliary = 3;
-      glyph_props = record { 0 = 0x70 };
-      lig_props = record { 0 = 2 };
-      unicode_props = with_property CONTINUATION (with_property IGNORABLE (properties Mn class));
-    }
+abbrev full : ℕ → ℕ → ℕ → Glyph
+full class c m = record {
+  glyph_id = 0x05B7;
+  cluster = c;
+  mask = m;
+  syllable = 0x24;
+  category = 1;
+  auxiliary = 3;
+  glyph_props = record { 0 = 0x70 };
+  lig_props = record { 0 = 2 };
+  unicode_props = with_property CONTINUATION (with_property IGNORABLE (properties Mn class));
+}
 
 full_swapped : run_step MonotoneGraphemes
     (hebrew_mark_step 1 4 (full 20 0 15 ∷ full 21 1 15 ∷ full 23 2 15 ∷ full 220 3 15 ∷ []))

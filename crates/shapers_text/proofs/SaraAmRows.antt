@@ -3,7 +3,7 @@
 use Rattle.std.specs.Prelude.{◌≡◌, ℕ, true, false, List, [], ◌∷◌, map, codes, None, Some, refl}
 use Rattle.std.specs.List.{range_with_len}
 use Rattle.shapers_buffer.specs.declared.buffer.category.hb_unicode_general_category_t.TheVariants.{Mn}
-use Rattle.shapers_buffer.specs.declared.buffer.glyph.hb_glyph_info_t.{hb_glyph_info_t}
+use Rattle.shapers_buffer.specs.Glyphs.{Glyph}
 use Rattle.shapers_buffer.specs.declared.buffer.level.BufferClusterLevel.TheVariants.{MonotoneGraphemes, MonotoneCharacters, Characters}
 use Rattle.shapers_buffer.specs.Properties.{general_category}
 use Rattle.shapers_text.specs.Thai.{is_above_base, is_sara_am, is_thai, joins_before, nikhahit, sara_aa, sara_am_stretches, sara_am_sources, wants_forms}
@@ -35,7 +35,7 @@ above_base_elsewhere = refl
 
 -- NIKHAHIT and SARA AA copy SARA AM: of Thai 0E4D and 0E32, of Lao 0ECD and 0EB2; NIKHAHIT is a
 -- continuation of category Mn, without the high byte
-abbrev full : hb_glyph_info_t
+abbrev full : Glyph
 full = record {
   glyph_id = 0x0E33;
   cluster = 5;
@@ -62,7 +62,7 @@ lao_sara_aa : sara_aa (record full { glyph_id = 0x0EB3 }) ≡ record full { glyp
 lao_sara_aa = refl
 
 -- of properties that are all ones, of none, and of a letter's
-abbrev with_props : ℕ → hb_glyph_info_t
+abbrev with_props : ℕ → Glyph
 with_props n = record full { unicode_props = record { 0 = n } }
 
 nikhahit_properties : map (λ n. (nikhahit (with_props n)).unicode_props.0) (0xFFFF ∷ 0 ∷ 0x0007 ∷ 0xFF07 ∷ 0x00E7 ∷ [])
@@ -99,8 +99,7 @@ copied = refl
 
 -- the private use forms: the script is Thai, and GSUB hasn't found it
 scripts : map is_thai (None ∷ Some (record { 0 = codes "Thai" }) ∷ Some (record { 0 = codes "Laoo" })
-    ∷ Some (record { 0 = codes "thai" }) ∷ [])
-    ≡ false ∷ true ∷ false ∷ false ∷ []
+    ∷ Some (record { 0 = codes "thai" }) ∷ []) ≡ false ∷ true ∷ false ∷ false ∷ []
 scripts = refl
 
 wanted : map (wants_forms (Some (record { 0 = codes "Thai" }))) (false ∷ true ∷ []) ≡ true ∷ false ∷ []

@@ -6,7 +6,7 @@ use Rattle.std.proofs.lemmas.List.Elements.{All-cons, All-from_recursion}
 use Rattle.std.proofs.lemmas.List.FromFn.{length-range_with_len}
 use Rattle.std.proofs.lemmas.List.Sums.{suffix_len-le-length}
 use Rattle.std.proofs.lemmas.Simd.{map-map}
-use Rattle.shapers_buffer.specs.declared.buffer.glyph.hb_glyph_info_t.{hb_glyph_info_t}
+use Rattle.shapers_buffer.specs.Glyphs.{Glyph, Glyphs}
 use Rattle.shapers_buffer.specs.declared.buffer.level.BufferClusterLevel.{BufferClusterLevel}
 use Rattle.shapers_buffer.specs.Glyph.{clusters, characters}
 use Rattle.shapers_buffer.specs.Clusters.{merge_all, merges}
@@ -27,7 +27,7 @@ use Rattle.shapers_text.proofs.ThaiFormWalks.{without_form-pua}
 use Rattle.shapers_text.proofs.ThaiWholeMarks.{map-marks_flagged}
 
 -- the rule on made glyphs: what comes of a SARA AM comes of its place
-abbrev made_in_two : (gs : List hb_glyph_info_t) → SaraAmRule (Made without_name gs)
+abbrev made_in_two : (gs : Glyphs) → SaraAmRule (Made without_name gs)
 made_in_two gs =
     let rule = guarded glyph_rule in
     read_by (λ m. m.glyph) (λ m. record m { glyph = rule.nikhahit m.glyph; same = guarded_nikhahit m.glyph ∙ m.same })
@@ -53,8 +53,7 @@ shares level us cs js made m xs u ys split is_am =
     part_shares made m st (sara_am_sources (before_last_run is_above_base xs)) (n ∷ range_with_len (n - w) w) behind
     (λ some. subst (λ vs. Contains (sara_am_stretches level vs) st) (sym split)
     (Contains-flat_map _ (each_after [] (xs ++ u ∷ ys)) (xs, u) st (Contains-each_after [] xs u ys)
-    (merged (omega arith))))
-    (ap sara_am_sources split ∙ parts)
+    (merged (omega arith)))) (ap sara_am_sources split ∙ parts)
     (All-cons P n (range_with_len (n - w) w) (omega arith, omega arith)
     (All-from_recursion P (range_with_len (n - w) w)
     (all-range P (n - w) w (λ p low high. (omega arith, omega arith)))))
@@ -70,8 +69,7 @@ in_two_holds level gs =
     let made = in_two (made_in_two ms) standing in
     let pairs =
     in_two-map (λ m. (m.place, m.glyph.glyph_id)) _ _ (guarded place_rule) (λ m. search arith) (λ m. search arith)
-    standing
-    ∙ ap (in_two (guarded place_rule))
+    standing ∙ ap (in_two (guarded place_rule))
     (numbered-standing (λ g. g.glyph_id) without_name ms ∙ ap (enumerate_from 0) (characters-merge_all level sts gs))
     ∙ guarded_alike place_rule (enumerate_from 0 us) in
     let (same, h) =
@@ -87,27 +85,25 @@ in_two_holds level gs =
           record {
             made = h.clusters_made;
             none_lost = none_lost us;
-            cluster_law = shares level us (clusters gs)
-                (clusters (glyphs_in_two ms)) h.clusters_made;
+            cluster_law = shares level us (clusters gs) (clusters (glyphs_in_two ms)) h.clusters_made;
           };
       falls = h.falls;
     }
 
 -- the whole hook: its forms leave the clusters
-pub plain_in_two : (level : BufferClusterLevel) (gs text : List hb_glyph_info_t)
+pub plain_in_two : (level : BufferClusterLevel) (gs text : Glyphs)
     → text ≡ preprocessed_text false (λ _. false) level gs
     → ClustersInTwo level (characters gs) (clusters gs) (clusters text)
 plain_in_two level gs text is =
     subst (λ xs. ClustersInTwo level (characters gs) (clusters gs) (clusters xs)) (sym is)
     (in_two_holds level gs).in_clusters
 
-pub shaped_in_two : (breaks : BreakFlags) (has : ℕ → Bool) (level : BufferClusterLevel)
-    (gs text shaped : List hb_glyph_info_t) → text ≡ preprocessed_text false has level gs
-    → shaped ≡ pua_shaped has (marks_flagged breaks text)
+pub shaped_in_two : (breaks : BreakFlags) (has : ℕ → Bool) (level : BufferClusterLevel) (gs text shaped : Glyphs)
+    → text ≡ preprocessed_text false has level gs → shaped ≡ pua_shaped has (marks_flagged breaks text)
     → ClustersInTwo level (characters gs) (clusters gs) (clusters shaped)
 shaped_in_two breaks has level gs text shaped is forms =
     let whole = preprocessed_text false has level gs in
-    let cluster : hb_glyph_info_t → ℕ = λ g. g.cluster in
+    let cluster : Glyph → ℕ = λ g. g.cluster in
     let flagged = marks_flagged breaks whole in
     subst (ClustersInTwo level (characters gs) (clusters gs)) (sym
     (ap clusters (forms ∙ ap (λ xs. pua_shaped has (marks_flagged breaks xs)) is)

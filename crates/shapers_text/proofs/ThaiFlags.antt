@@ -1,7 +1,7 @@
 -- The flag law of the hook, with the private use forms and without.
 use Rattle.std.proofs.Common.{◌≡◌, ℕ, Bool, false, List, [], ◌∷◌, length, map, refl, ◌∙◌, arith}
 use Rattle.std.proofs.lemmas.List.{length-map}
-use Rattle.shapers_buffer.specs.declared.buffer.glyph.hb_glyph_info_t.{hb_glyph_info_t}
+use Rattle.shapers_buffer.specs.Glyphs.{Glyph, Glyphs}
 use Rattle.shapers_buffer.specs.declared.buffer.level.BufferClusterLevel.{BufferClusterLevel}
 use Rattle.shapers_buffer.specs.Glyph.{characters}
 use Rattle.shapers_buffer.specs.GlyphFlags.{unsafe_all}
@@ -17,26 +17,22 @@ use Rattle.shapers_text.proofs.ThaiFormWalks.{in_order}
 use Rattle.shapers_text.proofs.ThaiWholeMarks.{marks_flagged_stay}
 
 -- what is read of glyphs, characters apart
-map-with_characters : {Y : Type 0} (f : hb_glyph_info_t → Y)
-    → ((u : ℕ) (g : hb_glyph_info_t) → f (with_character g u) ≡ f g) → (us : List ℕ) (gs : List hb_glyph_info_t)
-    → length us ≡ length gs → map f (with_characters us gs) ≡ map f gs
+map-with_characters : {Y : Type 0} (f : Glyph → Y) → ((u : ℕ) (g : Glyph) → f (with_character g u) ≡ f g)
+    → (us : List ℕ) (gs : Glyphs) → length us ≡ length gs → map f (with_characters us gs) ≡ map f gs
 map-with_characters f apart [] [] same = refl
-map-with_characters f apart [] (g ∷ gs) same = absurd (omega arith)
-map-with_characters f apart (u ∷ us) [] same = absurd (omega arith)
-map-with_characters f apart (u ∷ us) (g ∷ gs) same =
-    cc (apart u g, map-with_characters f apart us gs (omega arith))
+map-with_characters f apart (u ∷ us) (g ∷ gs) same = cc (apart u g, map-with_characters f apart us gs (omega arith))
+map-with_characters f apart _ _ same = absurd (omega arith)
 
-pub plain_flags : (level : BufferClusterLevel) (gs text : List hb_glyph_info_t)
+pub plain_flags : (level : BufferClusterLevel) (gs text : Glyphs)
     → text ≡ preprocessed_text false (λ _. false) level gs → FlagsInTwo gs text
-plain_flags level gs text is =
-    search (
-      arith,
-      all_fallen (pick (sara_am_sources (characters gs)) gs) (preprocessed_text false (λ _. false) level gs)
-          (in_two_holds level gs).falls,
-    )
+plain_flags level gs = search (
+  arith,
+  all_fallen (pick (sara_am_sources (characters gs)) gs) (preprocessed_text false (λ _. false) level gs)
+      (in_two_holds level gs).falls,
+)
 
 pub shaped_flags : (breaks : BreakFlags) (has : ℕ → Bool) (level : BufferClusterLevel)
-    (gs text shaped : List hb_glyph_info_t) → text ≡ preprocessed_text false has level gs
+    (gs text shaped : Glyphs) → text ≡ preprocessed_text false has level gs
     → shaped ≡ pua_shaped has (marks_flagged breaks text) → FlagsInTwo gs shaped
 shaped_flags breaks has level gs text shaped is forms =
     let flagged = marks_flagged breaks text in

@@ -36,20 +36,18 @@ any_of_cond false u us = refl
 
 below-cons : (u : ℕ) (us : List ℕ)
     → has_below (u ∷ us) ≡ cond (is_thai_mark u) (stands_below (mark_type u) || has_below us) false
-below-cons u us = search (arith, take_while-cons, any_of_cond)
+below-cons = search (arith, take_while-cons, any_of_cond)
 
 -- what stands behind a character that is no mark isn't seen
 pub below_stop : (us : List ℕ) (a : ℕ) (after : List ℕ) → is_thai_mark a ≡ false
     → has_below (us ++ a ∷ after) ≡ has_below (us ++ [])
 below_stop [] a after h = cc (below-cons a after)
-below_stop (u ∷ us) a after h =
-    search (arith, below-cons, below_stop us a after h)
+below_stop (u ∷ us) a after h = search (arith, below-cons, below_stop us a after h)
 
 pub forms_stop : (has : ℕ → Bool) (before us : List ℕ) (a : ℕ) (after : List ℕ) → is_thai_mark a ≡ false
     → forms_between has before us (a ∷ after) ≡ forms_between has before us []
 forms_stop has before [] a after h = refl
-forms_stop has before (u ∷ us) a after h =
-    search (arith, below_stop, forms_stop has (before ++ u ∷ []) us a after h)
+forms_stop has before (u ∷ us) a after h = search (arith, below_stop, forms_stop has (before ++ u ∷ []) us a after h)
 
 -- the forms of marks don't depend on what follows
 
@@ -63,8 +61,7 @@ forms_marks has before (u ∷ us) after marks =
 below_marks : (us : List ℕ) → list_any (λ u. not (is_thai_mark u)) us ≡ false
     → has_below us ≡ list_any (λ u. stands_below (mark_type u)) us
 below_marks [] marks = refl
-below_marks (u ∷ us) marks =
-    let parts = or_parts _ _ marks in search (arith, below-cons, below_marks us parts.1)
+below_marks (u ∷ us) marks = let parts = or_parts _ _ marks in search (arith, below-cons, below_marks us parts.1)
 
 -- where an action acts on the mark itself
 abbrev Own : Action → Type 0
@@ -99,27 +96,22 @@ acts NC T a b h e = inr (own_if (a == 0) SD NOP (λ x y. refl) (λ x y. refl), r
 acts NC NotMark a b h e = inr (λ x y. refl, refl)
 acts AC BV a b h e = inr (own_if (b == 0) NOP SD (λ x y. refl) (λ x y. refl), refl)
 acts AC AV a b h e = inr (own_if (a == 0) SL NOP (λ x y. refl) (λ x y. refl), refl)
-acts AC T a b h e =
-    inr (
-      own_if (a == 0) SDL (cond (a == 1) SL NOP) (λ x y. refl) (own_if (a == 1) SL NOP (λ x y. refl) (λ x y. refl)),
-      refl,
-    )
+acts AC T a b h e = inr (
+  own_if (a == 0) SDL (cond (a == 1) SL NOP) (λ x y. refl) (own_if (a == 1) SL NOP (λ x y. refl) (λ x y. refl)),
+  refl,
+)
 acts AC NotMark a b h e = inr (λ x y. refl, refl)
 acts DC BV a b h e = inr (λ x y. refl, refl)
 acts DC AV a b h e = inr (λ x y. refl, refl)
 acts DC T a b h e = inr (own_if (a == 0) SD NOP (λ x y. refl) (λ x y. refl), refl)
 acts DC NotMark a b h e = inr (λ x y. refl, refl)
 acts NotConsonant BV a b h e = inr (λ x y. refl, refl)
-acts NotConsonant AV a b h e = inr (λ x y. refl, refl)
-acts NotConsonant T a b h e = inr (λ x y. refl, refl)
-acts NotConsonant NotMark a b h e = inr (λ x y. refl, refl)
+acts NotConsonant _ a b h e = inr (λ x y. refl, refl)
 
 -- without a consonant a mark never takes a descender
 own_without : (mark : Mark) (a b : ℕ) → Own (action_of NotConsonant mark a b)
 own_without AV a b = λ x y. refl
-own_without BV a b = λ x y. refl
-own_without T a b = λ x y. refl
-own_without NotMark a b = λ x y. refl
+own_without _ a b = λ x y. refl
 
 -- what is no mark does nothing
 pub no_action : (base : Consonant) (mark : Mark) (a b : ℕ) → (stands_above mark || stands_below mark) ≡ false
@@ -128,22 +120,18 @@ no_action base AV a b h = absurd cc
 no_action base BV a b h = absurd cc
 no_action base T a b h = absurd cc
 no_action NC NotMark a b h = refl
-no_action AC NotMark a b h = refl
-no_action RC NotMark a b h = refl
-no_action DC NotMark a b h = refl
-no_action NotConsonant NotMark a b h = refl
+no_action _ NotMark a b h = refl
 
 -- a vowel below has no form without a descender
 below_keeps : (has : ℕ → Bool) (u : ℕ) → stands_below (mark_type u) ≡ true → shaped_by has u RD ≡ u
-below_keeps has u below = search (arith, refl)
+below_keeps = search (arith, refl)
 
 -- the forms of a text with a base and its marks at the end
 split_forms : (has : ℕ → Bool) (ys : List ℕ) (base : ℕ) (ms after : List ℕ) → is_thai_mark base ≡ false
     → list_any (λ u. not (is_thai_mark u)) ms ≡ false → forms_between has [] (ys ++ base ∷ ms) after ≡ forms_between has
     [] ys [] ++ (cond (is_removable (consonant_type base) && has_below (ms ++ after)) (shaped_by has base RD) base
     ∷ forms_between has (ys ++ base ∷ []) ms [])
-split_forms has ys base ms after none marks =
-    search (arith, forms-append, forms_stop, forms_marks)
+split_forms has ys base ms after none = search (arith, forms-append, forms_stop, forms_marks)
 
 or_last : (a b : Bool) → (a || (b || false)) ≡ (a || b)
 or_last true b = refl
@@ -198,8 +186,7 @@ set_base : (has : ℕ → Bool) (ps : List ℕ) (base : ℕ) (ms : List ℕ) (u 
     → length ps ≡ n
     → set ((ps ++ base ∷ ms) ++ u ∷ rest) n (shaped_by has (get_or ((ps ++ base ∷ ms) ++ u ∷ rest) n 0) action)
     ≡ ((ps ++ shaped_by has base action ∷ ms) ++ u ∷ []) ++ rest
-set_base has ps base ms u rest n action long =
-    search (arith, append_assoc, get_or_at, set_at)
+set_base = search (arith, append_assoc, get_or_at, set_at)
 
 -- a character shaped in place
 abbrev pub action_put : (ℕ → Bool) → ℕ → Action → List ℕ → List ℕ
@@ -215,28 +202,21 @@ Shapes has xs u rest =
 -- the last form, behind the others
 last_form : (has : ℕ → Bool) (xs : List ℕ) (u : ℕ) → forms_between has [] (xs ++ u ∷ []) [] ≡ forms_between has
     [] xs (u ∷ []) ++ form_between has xs u [] ∷ []
-last_form has xs u = search (arith, forms-append)
+last_form = search (arith, forms-append)
 
 mark_form : (has : ℕ → Bool) (xs : List ℕ) (u : ℕ) → is_thai_mark u ≡ true → form_between has xs u
     [] ≡ shaped_by has u (action_after xs u)
-mark_form has xs u is_one =
-    cc
-
-plain_form : (has : ℕ → Bool) (xs : List ℕ) (u : ℕ) → is_thai_mark u ≡ false → form_between has xs u [] ≡ u
-plain_form has xs u none =
-    search (arith, and_right)
+mark_form has xs u is_one = cc
 
 -- where the mark itself is shaped and the forms before it stay
 shapes_own : (has : ℕ → Bool) (xs : List ℕ) (u : ℕ) (rest : List ℕ) → Own (action_after xs u) → forms_between has
     [] xs (u ∷ []) ≡ forms_between has [] xs [] → form_between has xs u [] ≡ shaped_by has u (action_after xs u)
     → Shapes has xs u rest
-shapes_own has xs u rest own same formed =
-    search (arith, get_or_at, set_at, append_assoc, length-forms, last_form)
+shapes_own = search (arith, get_or_at, set_at, append_assoc, length-forms, last_form)
 
 -- no mark
 shapes_plain : (has : ℕ → Bool) (xs : List ℕ) (u : ℕ) (rest : List ℕ) → is_thai_mark u ≡ false → Shapes has xs u rest
-shapes_plain has xs u rest none =
-    search (arith, shapes_own, no_action, forms_stop)
+shapes_plain has xs u rest none = search (arith, shapes_own, no_action, forms_stop)
 
 -- a mark with a base
 shapes_with : (has : ℕ → Bool) (ys : List ℕ) (base : ℕ) (ms : List ℕ) (u : ℕ) (rest : List ℕ)
@@ -267,13 +247,11 @@ shapes_with has ys base ms u rest none marks is_one =
       | inl takes ↦
           ap
           (λ a. action_put has (target a (thai_base_place xs) (length xs)) a (forms_between has [] xs [] ++ u ∷ rest))
-          takes.0
-          ∙ ap (λ n. action_put has n RD (forms_between has [] xs [] ++ u ∷ rest)) at.place_is
+          takes.0 ∙ ap (λ n. action_put has n RD (forms_between has [] xs [] ++ u ∷ rest)) at.place_is
           ∙ ap (λ zs. action_put has (length ys) RD (zs ++ u ∷ rest))
           (now ∙ ap (λ b. ps ++ (cond (is_removable (base_type xs) && b) (shaped_by has base RD) base ∷ behind))
           takes.1.1.1 ∙ ap (λ b. ps ++ (cond b (shaped_by has base RD) base ∷ behind)) (and_right (is_removable
-          (base_type xs)) false refl))
-          ∙ set_base has ps base behind u rest (length ys) RD (length-forms has [] ys [])
+          (base_type xs)) false refl)) ∙ set_base has ps base behind u rest (length ys) RD (length-forms has [] ys [])
           ∙ ap (λ v. ((ps ++ shaped_by has base RD ∷ behind) ++ v ∷ []) ++ rest)
           (sym (mark_form has xs u is_one ∙ ap (shaped_by has u) takes.0 ∙ below_keeps has u takes.1.1.0))
           ∙ ap (λ zs. (zs ++ form_between has xs u [] ∷ []) ++ rest)
@@ -325,17 +303,13 @@ base_counting base above below =
 
 counted_is : (mark : Mark) (base : Base) (i u : ℕ) → (stands_above mark || stands_below mark) ≡ true
     → counted_base mark base i u ≡ base_counting base (stands_above mark) (stands_below mark)
-counted_is AV base i u h = search arith
-counted_is T base i u h = search arith
-counted_is BV base i u h = search arith
 counted_is NotMark base i u h = absurd cc
+counted_is _ base i u h = search arith
 
 uncounted_is : (mark : Mark) (base : Base) (i u : ℕ) → (stands_above mark || stands_below mark) ≡ false
     → counted_base mark base i u ≡ record { place = i; consonant = consonant_type u; above = 0; below = 0 }
-uncounted_is AV base i u h = absurd cc
-uncounted_is T base i u h = absurd cc
-uncounted_is BV base i u h = absurd cc
 uncounted_is NotMark base i u h = refl
+uncounted_is _ base i u h = absurd cc
 
 pub base_push : (xs : List ℕ) (u : ℕ) (base : Base) (i : ℕ) → i ≡ length xs → IsBase xs base
     → IsBase (xs ++ u ∷ []) (base_after base i u)
@@ -348,6 +322,3 @@ base_push xs u base i place is =
           ((record { place = n; consonant = consonant_type u; above = 0; below = 0 })))
           (sym place) (base_at xs u none))
     ] refl
-
-pub base_none : IsBase [] (record { place = 0; consonant = NotConsonant; above = 0; below = 0 })
-base_none = search arith

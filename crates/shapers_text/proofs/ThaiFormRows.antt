@@ -1,7 +1,7 @@
 -- The private use forms of Thai, cell by cell, computed on characters.
 use Rattle.std.specs.Prelude.{◌≡◌, ◌==◌, ℕ, Bool, true, false, List, [], ◌∷◌, map, flat_map, refl}
 use Rattle.std.specs.List.{list_any, range_with_len}
-use Rattle.shapers_buffer.specs.declared.buffer.glyph.hb_glyph_info_t.{hb_glyph_info_t}
+use Rattle.shapers_buffer.specs.Glyphs.{Glyph}
 use Rattle.shapers_buffer.specs.declared.buffer.level.BufferClusterLevel.TheVariants.{MonotoneCharacters}
 use Rattle.shapers_buffer.specs.Glyph.{default_glyph}
 use Rattle.shapers_base.specs.declared.plan.breaks.BreakFlags.{BreakFlags}
@@ -334,12 +334,12 @@ whole_stretches : whole_mark_stretches (0x0E38 ∷ 0x0E14 ∷ 0x0E38 ∷ 0x0E48 
 whole_stretches = refl
 
 -- forms and masks by the choice, each character in a cluster of its own
-abbrev own_cluster : ℕ × ℕ → hb_glyph_info_t
+abbrev own_cluster : ℕ × ℕ → Glyph
 own_cluster p = record default_glyph { glyph_id = p.0; cluster = p.1 }
 
 abbrev forms_by : BreakFlags → List (ℕ × ℕ) → List (ℕ × ℕ)
 forms_by breaks us =
-    map (λ (g : hb_glyph_info_t). (g.glyph_id, g.mask)) (preprocessed_flagged breaks true has_all MonotoneCharacters
+    map (λ (g : Glyph). (g.glyph_id, g.mask)) (preprocessed_flagged breaks true has_all MonotoneCharacters
     (map own_cluster us))
 
 -- one mark behind its base
@@ -376,7 +376,7 @@ no_forms : map (λ breaks. preprocessed_flagged breaks false has_all MonotoneCha
 no_forms = refl
 
 -- forms and flags change characters and masks alone
-abbrev full : hb_glyph_info_t
+abbrev full : Glyph
 full = record {
   glyph_id = 0x0E0D;
   cluster = 5;

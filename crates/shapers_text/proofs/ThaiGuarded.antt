@@ -1,54 +1,29 @@
 -- The rule of SARA AM with a guard: it leaves what is no SARA AM. A text is rewritten alike with it.
-use Rattle.std.proofs.Common.{◌≡◌, ℕ, ◌-◌, ◌+◌, ◌*◌, ◌/◌, ◌%◌, ◌<◌, bit_and, Bool, true, false, if◌then◌else◌, cond, List, [], ◌∷◌, flat_map, reverse, refl, arith}
+use Rattle.std.proofs.Common.{◌≡◌, ℕ, ◌-◌, ◌+◌, ◌*◌, ◌/◌, ◌%◌, ◌<◌, bit_and, Bool, true, false, if◌then◌else◌, List, [], ◌∷◌, flat_map, reverse, refl, arith}
 use Rattle.std.specs.Int.Bits.{or_add_and}
-use Rattle.std.proofs.lemmas.Bool.{eqb-true}
 use Rattle.std.proofs.lemmas.Nat.Bits.{and_pow}
-use Rattle.shapers_buffer.specs.declared.buffer.glyph.hb_glyph_info_t.{hb_glyph_info_t}
+use Rattle.shapers_buffer.specs.Glyphs.{Glyph}
 use Rattle.shapers_buffer.specs.Lists.{opened_back}
 use Rattle.shapers_buffer.specs.Properties.{with_bit, without_bit}
 use Rattle.shapers_text.specs.Thai.{is_sara_am, SaraAmRule, in_two, glyph_rule, nikhahit, sara_aa}
-use Rattle.shapers_text.specs.ThaiLaws.{is_of_sara_am, without_name}
+use Rattle.shapers_text.specs.ThaiLaws.{without_name}
 
 abbrev pub guarded : {X : Type 0} → SaraAmRule X → SaraAmRule X
-guarded rule =
-    record {
-      character = rule.character;
-      nikhahit = λ x. if is_sara_am (rule.character x) then rule.nikhahit x else x;
-      sara_aa = λ x. if is_sara_am (rule.character x) then rule.sara_aa x else x;
-    }
-
--- pieces are opened alike by rules that agree where the test passes
-opened_alike : {X : Type 0} (test : X → Bool) (rule other : List X → X → List X)
-    → ((xs : List X) (x : X) → test x ≡ true → rule xs x ≡ other xs x) → (xs : List X)
-    → opened_back test rule xs ≡ opened_back test other xs
-opened_alike test rule other agree [] = refl
-opened_alike test rule other agree (x ∷ before) =
-    elim (test x) as (λ b. test x ≡ b
-    → cond b (rule (reverse before) x) (reverse (x ∷ before))
-    ≡ cond b (other (reverse before) x) (reverse (x ∷ before))) [
-      | true ↦ λ e. agree (reverse before) x e
-      | false ↦ λ e. refl
-    ] refl
+guarded rule = record {
+  character = rule.character;
+  nikhahit = λ x. if is_sara_am (rule.character x) then rule.nikhahit x else x;
+  sara_aa = λ x. if is_sara_am (rule.character x) then rule.sara_aa x else x;
+}
 
 pieces_alike : {X : Type 0} (test : X → Bool) (rule other : List X → X → List X)
     → ((xs : List X) (x : X) → test x ≡ true → rule xs x ≡ other xs x) → (pieces : List (List X))
     → flat_map (λ piece. opened_back test rule (reverse piece)) pieces
     ≡ flat_map (λ piece. opened_back test other (reverse piece)) pieces
 pieces_alike test rule other agree [] = refl
-pieces_alike test rule other agree (piece ∷ pieces) =
-    search (arith, pieces_alike test rule other agree pieces)
+pieces_alike test rule other agree (piece ∷ pieces) = search (arith, pieces_alike test rule other agree pieces)
 
 pub guarded_alike : {X : Type 0} (rule : SaraAmRule X) (xs : List X) → in_two (guarded rule) xs ≡ in_two rule xs
-guarded_alike rule xs =
-    search (arith, pieces_alike)
-
--- the parts of a SARA AM are known by their characters
-abbrev KnownParts : ℕ → Type 0
-KnownParts u = (is_of_sara_am u ≡ true) × (is_of_sara_am (u + 0x1A) ≡ true) × (is_of_sara_am (u - 1) ≡ true)
-
-known_parts : (u : ℕ) → is_sara_am u ≡ true → KnownParts u
-known_parts u h =
-    search (arith, eqb-true)
+guarded_alike = search (arith, pieces_alike)
 
 -- a continuation of category Mn is a character without either once both are taken away
 bit_7 : (n : ℕ) → bit_and n 0x80 ≡ n / 128 % 2 * 128
@@ -62,7 +37,7 @@ hidden_number k small =
     search (arith, bit_7)
 
 -- but for what the rewriting changes, the parts of a SARA AM are that SARA AM, and others stay
-pub guarded_nikhahit : (g : hb_glyph_info_t) → without_name ((guarded glyph_rule).nikhahit g) ≡ without_name g
+pub guarded_nikhahit : (g : Glyph) → without_name ((guarded glyph_rule).nikhahit g) ≡ without_name g
 guarded_nikhahit g =
     elim (is_sara_am g.glyph_id) as (λ b. is_sara_am g.glyph_id ≡ b
     → without_name (if b then nikhahit g else g) ≡ without_name g) [
@@ -70,7 +45,7 @@ guarded_nikhahit g =
       | false ↦ λ e. refl
     ] refl
 
-pub guarded_sara_aa : (g : hb_glyph_info_t) → without_name ((guarded glyph_rule).sara_aa g) ≡ without_name g
+pub guarded_sara_aa : (g : Glyph) → without_name ((guarded glyph_rule).sara_aa g) ≡ without_name g
 guarded_sara_aa g =
     elim (is_sara_am g.glyph_id) as (λ b. is_sara_am g.glyph_id ≡ b
     → without_name (if b then sara_aa g else g) ≡ without_name g) [

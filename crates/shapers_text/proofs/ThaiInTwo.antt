@@ -8,7 +8,7 @@ use Rattle.std.proofs.lemmas.List.FromFn.{get_or-enumerate_from, length-enumerat
 use Rattle.std.specs.List.{Contains, list_any, count_by, suffix_len, take-map, enumerate_from, range_with_len}
 use Rattle.std.proofs.lemmas.Bool.{eqb-true}
 use Rattle.std.proofs.lemmas.List.{map-append, append_assoc, length_push}
-use Rattle.shapers_buffer.specs.declared.buffer.glyph.hb_glyph_info_t.{hb_glyph_info_t}
+use Rattle.shapers_buffer.specs.Glyphs.{Glyphs}
 use Rattle.shapers_buffer.specs.Glyph.{characters}
 use Rattle.shapers_buffer.specs.Lists.{last_run, before_last_run}
 use Rattle.shapers_buffer.proofs.ListLaws.{from_end, count_push, last_pass, none_in_front, last_run_yes, before_last_run_yes, last_run_no, before_last_run_no, last_run_stop, before_last_run_stop}
@@ -19,8 +19,7 @@ use Rattle.shapers_text.specs.ThaiWalk.{above_marks_before, text_with_pending}
 
 -- a SARA AM is no above-base mark
 apart : (u : ℕ) → is_sara_am u ≡ true → is_above_base u ≡ false
-apart u h =
-    search (arith, eqb-true)
+apart = search (arith, eqb-true)
 
 -- a text without SARA AM stays
 pub in_two_plain : {X : Type 0} (rule : SaraAmRule X) (xs : List X) → list_any (is_am rule) xs ≡ false
@@ -30,39 +29,35 @@ in_two_plain rule xs none = search (arith, opened_pieces-none)
 -- what stands before and after a SARA AM is rewritten for itself
 pub in_two-append : {X : Type 0} (rule : SaraAmRule X) (xs : List X) (am : X) (ys : List X) → is_am rule am ≡ true
     → in_two rule (xs ++ am ∷ ys) ≡ in_two rule (xs ++ am ∷ []) ++ in_two rule ys
-in_two-append rule xs am ys h = search (arith, opened_pieces-append)
+in_two-append = search (arith, opened_pieces-append)
 
 -- one more glyph that is no SARA AM
 pub in_two_push : {X : Type 0} (rule : SaraAmRule X) (xs : List X) (x : X) → is_am rule x ≡ false
     → in_two rule (xs ++ x ∷ []) ≡ in_two rule xs ++ x ∷ []
-in_two_push rule xs x fails = search (arith, opened_pieces-push)
+in_two_push = search (arith, opened_pieces-push)
 
 in_two_push_am_first : {X : Type 0} (rule : SaraAmRule X) (xs : List X) (x : X) → list_any (is_am rule) xs ≡ false
     → is_am rule x ≡ true → in_two rule (xs ++ x ∷ []) ≡ text_with_pending rule xs (rule.nikhahit x) ++ rule.sara_aa x
     ∷ []
-in_two_push_am_first rule xs x none passes =
-    search (arith, one_piece, append_assoc, in_two_plain, none_in_front)
+in_two_push_am_first rule xs x none = search (arith, one_piece, append_assoc, in_two_plain, none_in_front)
 
 -- one more glyph that is a SARA AM: its NIKHAHIT is pending
 pub in_two_push_am : {X : Type 0} (rule : SaraAmRule X) (xs : List X) (x : X) → is_am rule x ≡ true
     → in_two rule (xs ++ x ∷ []) ≡ text_with_pending rule xs (rule.nikhahit x) ++ rule.sara_aa x ∷ []
-in_two_push_am rule xs x passes =
-    elim (last_pass (is_am rule) xs) [
-      | inl none ↦ search (arith, in_two_push_am_first)
-      | inr p ↦
-          search (arith, append_assoc, in_two-append, in_two_push_am_first, before_last_run_stop, last_run_stop, apart)
-    ]
+in_two_push_am rule xs x passes = elim (last_pass (is_am rule) xs) [
+  | inl none ↦ search (arith, in_two_push_am_first)
+  | inr p ↦
+      search (arith, append_assoc, in_two-append, in_two_push_am_first, before_last_run_stop, last_run_stop, apart)
+]
 
 -- one more above-base mark, or another glyph, where a NIKHAHIT is pending
 pub pending_push_mark : {X : Type 0} (rule : SaraAmRule X) (xs : List X) (x nikhahit : X) → is_above rule x ≡ true
     → text_with_pending rule (xs ++ x ∷ []) nikhahit ≡ text_with_pending rule xs nikhahit ++ x ∷ []
-pending_push_mark rule xs x nikhahit h =
-    search (arith, before_last_run_yes, last_run_yes, append_assoc)
+pending_push_mark = search (arith, before_last_run_yes, last_run_yes, append_assoc)
 
 pub held_push_other : {X : Type 0} (rule : SaraAmRule X) (xs : List X) (x nikhahit : X) → is_above rule x ≡ false
     → text_with_pending rule (xs ++ x ∷ []) nikhahit ≡ in_two rule (xs ++ x ∷ []) ++ nikhahit ∷ []
-held_push_other rule xs x nikhahit h =
-    search (arith, before_last_run_no, last_run_no)
+held_push_other = search (arith, before_last_run_no, last_run_no)
 
 -- an above-base mark is no SARA AM
 pub no_am : {X : Type 0} (rule : SaraAmRule X) (x : X) → is_above rule x ≡ true → is_am rule x ≡ false
@@ -74,8 +69,7 @@ no_am rule x h =
 pub in_two_at : {X : Type 0} (rule : SaraAmRule X) (xs : List X) (am : X) (ys : List X) → is_am rule am ≡ true
     → in_two rule (xs ++ am ∷ ys) ≡ in_two rule (before_last_run (is_above rule) xs)
     ++ ((rule.nikhahit am ∷ last_run (is_above rule) xs) ++ (rule.sara_aa am ∷ in_two rule ys))
-in_two_at rule xs am ys passes =
-    search (arith, in_two-append, in_two_push_am, append_assoc)
+in_two_at = search (arith, in_two-append, in_two_push_am, append_assoc)
 
 -- the rule on what f reads as the other reads its own: what it makes leads to what the other makes,
 -- if its parts of a SARA AM do
@@ -94,20 +88,19 @@ in_two-map f nikhahit sara_aa rule first second xs =
 pub sources_at : (xs : List ℕ) (u : ℕ) (ys : List ℕ) → is_sara_am u ≡ true → (behind : List ℕ)
     × (sara_am_sources (xs ++ u ∷ ys) ≡ sara_am_sources (before_last_run is_above_base xs)
     ++ ((length xs ∷ range_with_len (length xs - suffix_len is_above_base xs) (suffix_len is_above_base xs)) ++ behind))
-sources_at xs u ys passes =
-    let rest = enumerate_from (length xs + 1) ys in (
-      length xs ∷ map (λ p. p.0) (in_two place_rule rest),
-      search (
-        arith,
-        enumerate-append xs (u ∷ ys),
-        in_two_at,
-        map-append,
-        before_last_run-enumerate_from is_above_base 0 xs,
-        places-last_run is_above_base xs,
-      ),
-    )
+sources_at xs u ys passes = let rest = enumerate_from (length xs + 1) ys in (
+  length xs ∷ map (λ p. p.0) (in_two place_rule rest),
+  search (
+    arith,
+    enumerate-append xs (u ∷ ys),
+    in_two_at,
+    map-append,
+    before_last_run-enumerate_from is_above_base 0 xs,
+    places-last_run is_above_base xs,
+  ),
+)
 
-pub above_marks_before-characters : (gs : List hb_glyph_info_t) (i : ℕ)
+pub above_marks_before-characters : (gs : Glyphs) (i : ℕ)
     → above_marks_before gs i ≡ suffix_len is_above_base (take i (characters gs))
 above_marks_before-characters gs i = sym (suffix_len-map is_above_base (λ g. g.glyph_id) (take i gs))
     ∙ ap (suffix_len is_above_base) (sym (take-map (λ g. g.glyph_id) i gs))
@@ -159,8 +152,7 @@ lengths_push_held rule xs x nikhahit p =
 
 pub lengths : {X : Type 0} (rule : SaraAmRule X) (xs : List X) → Lengths rule xs
 lengths rule xs =
-    from_end (Lengths rule) (search arith)
-    (λ xs x p. search (arith, lengths_push, lengths_push_held)) xs
+    from_end (Lengths rule) (search arith) (λ xs x p. search (arith, lengths_push, lengths_push_held)) xs
 
 -- Nothing is lost: the result is what comes of each element, in some order; so is a text with a NIKHAHIT pending.
 pub record Kept {X : Type 0} (rule : SaraAmRule X) (xs : List X) : Type 0 where
@@ -169,13 +161,12 @@ pub record Kept {X : Type 0} (rule : SaraAmRule X) (xs : List X) : Type 0 where
       → IsPermutation (nikhahit ∷ flat_map (in_parts rule) xs) (text_with_pending rule xs nikhahit)
 
 permutation_by : {X : Type 0} (xs us ys vs : List X) → xs ≡ us → ys ≡ vs → IsPermutation us vs → IsPermutation xs ys
-permutation_by xs us ys vs e f p = search arith
+permutation_by = search arith
 
 parts_push : {X : Type 0} (rule : SaraAmRule X) (xs : List X) (x : X) (b : Bool) → is_am rule x ≡ b
     → flat_map (in_parts rule) (xs ++ x ∷ []) ≡ flat_map (in_parts rule) xs
     ++ cond b (rule.nikhahit x ∷ (rule.sara_aa x ∷ [])) (x ∷ [])
-parts_push rule xs x b h =
-    search (arith, flat_map-append)
+parts_push = search (arith, flat_map-append)
 
 kept_push : {X : Type 0} (rule : SaraAmRule X) (xs : List X) (x : X) → Kept rule xs
     → IsPermutation (flat_map (in_parts rule) (xs ++ x ∷ [])) (in_two rule (xs ++ x ∷ []))
@@ -185,8 +176,7 @@ kept_push rule xs x k =
     let s = rule.sara_aa x in
     elim (is_am rule x) as (λ b. is_am rule x ≡ b
     → IsPermutation (flat_map (in_parts rule) (xs ++ x ∷ [])) (in_two rule (xs ++ x ∷ []))) [
-      | true ↦ λ h.
-          permutation_by _ (flat ++ n ∷ (s ∷ [])) _ (text_with_pending rule xs n ++ s ∷ [])
+      | true ↦ λ h. permutation_by _ (flat ++ n ∷ (s ∷ [])) _ (text_with_pending rule xs n ++ s ∷ [])
           (parts_push rule xs x true h) (in_two_push_am rule xs x h)
           (IsPermutation-trans _ (n ∷ (flat ++ s ∷ [])) _ (IsPermutation-middle flat n (s ∷ []))
           (IsPermutation-append_left (s ∷ []) (n ∷ flat) (text_with_pending rule xs n) (k.pending n)))
@@ -201,20 +191,17 @@ kept_push_held rule xs x n k =
     let next = in_two rule (xs ++ x ∷ []) in
     elim (is_above rule x) as (λ b. is_above rule x ≡ b
     → IsPermutation (n ∷ flat_map (in_parts rule) (xs ++ x ∷ [])) (text_with_pending rule (xs ++ x ∷ []) n)) [
-      | true ↦ λ h.
-          permutation_by _ (n ∷ (flat ++ x ∷ [])) _ (text_with_pending rule xs n ++ x ∷ [])
+      | true ↦ λ h. permutation_by _ (n ∷ (flat ++ x ∷ [])) _ (text_with_pending rule xs n ++ x ∷ [])
           (ap (λ ys. n ∷ ys) (parts_push rule xs x false (no_am rule x h))) (pending_push_mark rule xs x n h)
           (IsPermutation-append_left (x ∷ []) (n ∷ flat) (text_with_pending rule xs n) (k.pending n))
-      | false ↦ λ h.
-          permutation_by _ _ _ (next ++ n ∷ []) refl (held_push_other rule xs x n h)
+      | false ↦ λ h. permutation_by _ _ _ (next ++ n ∷ []) refl (held_push_other rule xs x n h)
           (IsPermutation-trans _ (n ∷ next) _ (IsPermutation-cons n _ next (kept_push rule xs x k))
           (IsPermutation-sym (next ++ n ∷ []) (n ∷ next) (IsPermutation-to_front next n)))
     ] refl
 
 pub kept : {X : Type 0} (rule : SaraAmRule X) (xs : List X) → Kept rule xs
 kept rule xs =
-    from_end (Kept rule) (search (arith, IsPermutation-refl))
-    (λ xs x k. search (arith, kept_push, kept_push_held)) xs
+    from_end (Kept rule) (search (arith, IsPermutation-refl)) (λ xs x k. search (arith, kept_push, kept_push_held)) xs
 
 -- so each place has a glyph that comes of it
 pub none_lost : (us : List ℕ) (p : ℕ) → p < length us → Contains (sara_am_sources us) p

@@ -4,7 +4,7 @@ use Rattle.std.specs.Prelude.{◌≡◌, ◌==◌, ℕ, pos, true, false, None, 
 use Rattle.std.proofs.Common.{arith}
 use Rattle.std.specs.List.{list_any, enumerate_from}
 use Rattle.shapers_buffer.specs.declared.buffer.category.hb_unicode_general_category_t.TheVariants.{Cc, Mn}
-use Rattle.shapers_buffer.specs.declared.buffer.glyph.hb_glyph_info_t.{hb_glyph_info_t}
+use Rattle.shapers_buffer.specs.Glyphs.{Glyph, Glyphs}
 use Rattle.shapers_buffer.specs.declared.buffer.level.BufferClusterLevel.{BufferClusterLevel}
 use Rattle.shapers_buffer.specs.declared.buffer.level.BufferClusterLevel.TheVariants.{MonotoneGraphemes, MonotoneCharacters}
 use Rattle.shapers_buffer.specs.Glyph.{default_glyph, clusters, characters}
@@ -21,18 +21,17 @@ use Rattle.shapers_text.specs.ThaiForms.{preprocessed_in_thai, preprocessed_text
 use Rattle.shapers_text.specs.ThaiLaws.{kept_view, new_place, without_name}
 
 -- a text whose clusters count from 0
-abbrev text : List ℕ → List hb_glyph_info_t
-text us = map (λ p. let g : hb_glyph_info_t = record default_glyph { glyph_id = p.1; cluster = p.0 } in g)
-    (enumerate_from 0 us)
+abbrev text : List ℕ → Glyphs
+text us = map (λ p. let g : Glyph = record default_glyph { glyph_id = p.1; cluster = p.0 } in g) (enumerate_from 0 us)
 
 -- the hook where GSUB has the script, and where it hasn't and the font has these characters
-abbrev found : BufferClusterLevel → List ℕ → List hb_glyph_info_t
+abbrev found : BufferClusterLevel → List ℕ → Glyphs
 found level us = preprocessed_text false (λ c. false) level (text us)
 
-abbrev shaped : List ℕ → List ℕ → List hb_glyph_info_t
+abbrev shaped : List ℕ → List ℕ → Glyphs
 shaped font us = preprocessed_text true (λ c. list_any (λ f. f == c) font) MonotoneGraphemes (text us)
 
-abbrev masks : List hb_glyph_info_t → List ℕ
+abbrev masks : Glyphs → List ℕ
 masks gs = map (λ g. g.mask) gs
 
 -- NIKHAHIT goes before the mark
@@ -138,7 +137,7 @@ flags = refl
 
 -- a glyph whose fields are all set: without what the rewriting changes, and as it is kept where
 -- forms don't follow and where they do
-abbrev full : hb_glyph_info_t
+abbrev full : Glyph
 full = record {
   glyph_id = 0x916;
   cluster = 5;
@@ -151,7 +150,7 @@ full = record {
   unicode_props = record { 0 = 0x09AC };
 }
 
-abbrev named : ℕ → hb_glyph_info_t
+abbrev named : ℕ → Glyph
 named c = record full { glyph_id = c }
 
 hidden_names : map (λ c. without_name (named c)) (0x0E32 ∷ 0x0E33 ∷ 0x0E4D ∷ 0x0EB2 ∷ 0x0EB3 ∷ 0x0ECD ∷ [])
@@ -171,38 +170,37 @@ kept_before_forms = refl
 
 -- so the two tell glyphs apart by any field that stays, and the last doesn't by the character
 told_by_number : kept_view false full ≡ kept_view false (record full { glyph_id = 0x915 }) → ⊥
-told_by_number same = search arith
+told_by_number = search arith
 
 not_told_by_number : kept_view true full ≡ kept_view true (record full { glyph_id = 0x915 })
 not_told_by_number = refl
 
 told_by_mask : kept_view true full ≡ kept_view true (record full { mask = 0x27 }) → ⊥
-told_by_mask same = search arith
+told_by_mask = search arith
 
 told_by_class : without_name full ≡ without_name (record full { unicode_props = record { 0 = 0x08AC } }) → ⊥
-told_by_class same = search arith
+told_by_class = search arith
 
 -- the forms hang on the script of the plan, not on that of the buffer
 abbrev plan_for : String → hb_ot_shape_plan_t
-plan_for tag =
-    record {
-      script = Some (record { 0 = codes tag });
-      ot_map = record {
-        features = [];
-        stages = [];
-        lookups =
-            [];
-        global = 0;
-        chosen = None;
-        found = false;
-      };
-      has_gpos_mark = false;
-      stretch_start = starts.AsCode;
-      break_flags =
-          breaks.AsCode;
-      base_search = WithoutMedials;
-      plan_data = data_of.None;
-    }
+plan_for tag = record {
+  script = Some (record { 0 = codes tag });
+  ot_map = record {
+    features = [];
+    stages = [];
+    lookups =
+        [];
+    global = 0;
+    chosen = None;
+    found = false;
+  };
+  has_gpos_mark = false;
+  stretch_start = starts.AsCode;
+  break_flags =
+      breaks.AsCode;
+  base_search = WithoutMedials;
+  plan_data = data_of.None;
+}
 
 abbrev every : Font
 every = record {

@@ -5,11 +5,10 @@ use Rattle.std.proofs.lemmas.List.Concat.{flat_map-append}
 use Rattle.std.proofs.lemmas.Bool.{or_parts}
 use Rattle.std.proofs.lemmas.List.{take-take, take_more, length-take-le, length-map, get_or-take, take_at, length-replicate}
 use Rattle.std.proofs.lemmas.List.Sums.{sum_by-cons}
-use Rattle.shapers_buffer.specs.declared.buffer.glyph.hb_glyph_info_t.{hb_glyph_info_t}
+use Rattle.shapers_buffer.specs.Glyphs.{Glyphs}
 use Rattle.shapers_buffer.specs.declared.buffer.level.BufferClusterLevel.{BufferClusterLevel}
 use Rattle.shapers_buffer.specs.Glyph.{default_glyph, characters}
-use Rattle.shapers_buffer.specs.declared.buffer.glyph.GlyphPosition.{GlyphPosition}
-use Rattle.shapers_buffer.specs.Buffer.{Buffer, grown, more_positions}
+use Rattle.shapers_buffer.specs.Buffer.{Buffer, grown}
 use Rattle.shapers_buffer.specs.Clusters.{merge_all}
 use Rattle.shapers_buffer.specs.Lists.{each_after}
 use Rattle.shapers_buffer.proofs.MappedLists.{all-flat_map, all-each_after, each_after-push, list_any-map}
@@ -25,16 +24,14 @@ use Rattle.shapers_text.proofs.ThaiInTwo.{in_two_plain, lengths, above_marks_bef
 use Rattle.shapers_text.specs.ThaiForms.{preprocessed_flagged}
 
 -- merging leaves the characters
-pub characters-merge_all : (level : BufferClusterLevel) (sts : List (ℕ × ℕ)) (gs : List hb_glyph_info_t)
+pub characters-merge_all : (level : BufferClusterLevel) (sts : List (ℕ × ℕ)) (gs : Glyphs)
     → characters (merge_all level sts gs) ≡ characters gs
-characters-merge_all level sts gs = search (arith, map-merge_all)
+characters-merge_all = search (arith, map-merge_all)
 
 -- the number of SARA AM is that of the characters
-count-characters : (gs : List hb_glyph_info_t) → count_by (λ g. is_sara_am g.glyph_id) gs
-    ≡ count_by is_sara_am (characters gs)
+count-characters : (gs : Glyphs) → count_by (λ g. is_sara_am g.glyph_id) gs ≡ count_by is_sara_am (characters gs)
 count-characters [] = refl
-count-characters (g ∷ gs) =
-    search (arith, sum_by-cons, count-characters gs)
+count-characters (g ∷ gs) = search (arith, sum_by-cons, count-characters gs)
 
 -- a text without SARA AM merges nothing
 stretches_none_after : (level : BufferClusterLevel) (before us : List ℕ) → list_any is_sara_am us ≡ false
@@ -51,23 +48,21 @@ within_two m s e false rest h all = all
 
 within_at : (level : BufferClusterLevel) (m place u w : ℕ) → place < m
     → AllByRecursion (λ st. st.1 ≤ m) (stretches_at level place u w)
-within_at level m place u w h =
-    search (arith, within_two, nat_lt)
+within_at = search (arith, within_two, nat_lt)
 
-pub stretches_within : (level : BufferClusterLevel) (gs : List hb_glyph_info_t)
+pub stretches_within : (level : BufferClusterLevel) (gs : Glyphs)
     → AllByRecursion (λ st. st.1 ≤ length gs) (sara_am_stretches level (characters gs))
 stretches_within level gs =
-    all-flat_map (λ p. length p.0 < length gs) (λ st. st.1 ≤ length gs) _
-    (λ p l. search (arith, within_at))
+    all-flat_map (λ p. length p.0 < length gs) (λ st. st.1 ≤ length gs) _ (λ p l. search (arith, within_at))
     (each_after [] (characters gs)) (search (arith, all-each_after, length-map))
 
 -- the walk: the characters are those of the start, and the merges of the places before are done
-pub record Merging (level : BufferClusterLevel) (start now : List hb_glyph_info_t) (len i : ℕ) : Type 0 where
+pub record Merging (level : BufferClusterLevel) (start now : Glyphs) (len i : ℕ) : Type 0 where
   pub same_characters : characters now ≡ characters start
   pub merged : now ≡ merge_all level (sara_am_stretches level (take i (take len (characters start)))) start
 
-pub merging_next : (level : BufferClusterLevel) (start now : List hb_glyph_info_t) (len i c : ℕ)
-    (after : List hb_glyph_info_t) → len ≤ length start → i < len → Merging level start now len i
+pub merging_next : (level : BufferClusterLevel) (start now : Glyphs) (len i c : ℕ)
+    (after : Glyphs) → len ≤ length start → i < len → Merging level start now len i
     → c ≡ get_or (characters now) i 0 → after ≡ merge_all level (stretches_at level i c (above_marks_before now i)) now
     → Merging level start after len (i + 1)
 merging_next level start now len i c after within inside m at changed =
@@ -92,11 +87,10 @@ merging_next level start now len i c after within inside m at changed =
     )
 
 -- the same where a run isn't written yet
-characters-run : (run : ClusterRun) (gs : List hb_glyph_info_t) → RunFits run gs → characters (with_run run gs)
-    ≡ characters gs
-characters-run run gs fits = search (arith, map-with_run)
+characters-run : (run : ClusterRun) (gs : Glyphs) → RunFits run gs → characters (with_run run gs) ≡ characters gs
+characters-run = search (arith, map-with_run)
 
-pub merging_turn : (level : BufferClusterLevel) (start now after : List hb_glyph_info_t) (run : ClusterRun)
+pub merging_turn : (level : BufferClusterLevel) (start now after : Glyphs) (run : ClusterRun)
     (len i c : ℕ) → len ≤ length start → i < len → RunFits run now → Merging level start (with_run run now) len i
     → c ≡ get_or (characters now) i 0
     → after ≡ merge_all level (stretches_at level i c (above_marks_before now i)) (with_run run now)
@@ -107,13 +101,8 @@ merging_turn level start now after run len i c within inside fits m at changed =
     search (arith, above_marks_before-characters) in
     merging_next level start (with_run run now) len i c after within inside m (cc) (cc)
 
-pub merging_length : (level : BufferClusterLevel) (start now : List hb_glyph_info_t) (run : ClusterRun) (len i : ℕ)
-    → RunFits run now → Merging level start (with_run run now) len i → length now ≡ length start
-merging_length level start now run len i fits m =
-    search (arith, length-map, characters-run)
-
 -- the grown text, merged, is the merged text, grown
-pub merged_grown : (level : BufferClusterLevel) (gs : List hb_glyph_info_t) (n : ℕ)
+pub merged_grown : (level : BufferClusterLevel) (gs : Glyphs) (n : ℕ)
     → merge_all level (sara_am_stretches level (take (length gs) (characters (gs ++ replicate n default_glyph))))
     (gs ++ replicate n default_glyph) ≡ merge_all level (sara_am_stretches level (characters gs)) gs
     ++ replicate n default_glyph
@@ -124,29 +113,27 @@ merged_grown level gs n =
     ∙ merge_all-appended level n (sara_am_stretches level (characters gs)) gs (stretches_within level gs)
 
 -- the text without SARA AM stays, and is as long
-pub unchanged : (level : BufferClusterLevel) (gs : List hb_glyph_info_t) → count_by (λ g. is_sara_am g.glyph_id) gs ≡ 0
+pub unchanged : (level : BufferClusterLevel) (gs : Glyphs) → count_by (λ g. is_sara_am g.glyph_id) gs ≡ 0
     → gs ≡ glyphs_in_two (merge_all level (sara_am_stretches level (characters gs)) gs)
-unchanged level gs count =
-    search (arith, stretches_none_after, list_any-map, none_from_count, in_two_plain)
+unchanged = search (arith, stretches_none_after, list_any-map, none_from_count, in_two_plain)
 
 -- and without private use forms the whole rewriting leaves it
 pub unchanged_plain : (breaks : BreakFlags) (forms : Bool) (has : ℕ → Bool) (level : BufferClusterLevel)
-    (gs : List hb_glyph_info_t) → forms ≡ false → count_by (λ g. is_sara_am g.glyph_id) gs ≡ 0
+    (gs : Glyphs) → forms ≡ false → count_by (λ g. is_sara_am g.glyph_id) gs ≡ 0
     → gs ≡ preprocessed_flagged breaks forms has level gs
 unchanged_plain breaks forms has level gs off none = rw off (unchanged level gs none)
 
-pub length-glyphs_in_two : (gs : List hb_glyph_info_t)
+pub length-glyphs_in_two : (gs : Glyphs)
     → length (glyphs_in_two gs) ≡ length gs + count_by (λ g. is_sara_am g.glyph_id) gs
 length-glyphs_in_two gs = (lengths glyph_rule gs).whole
 
 -- the grown text has just the room that is wanted
-pub room_made : (gs : List hb_glyph_info_t) (n len : ℕ) → len ≡ length gs → n ≡ count_by (λ g. is_sara_am g.glyph_id) gs
+pub room_made : (gs : Glyphs) (n len : ℕ) → len ≡ length gs → n ≡ count_by (λ g. is_sara_am g.glyph_id) gs
     → HasRoomForSaraAms len (gs ++ replicate n default_glyph)
-room_made gs n len long counted =
-    search (arith, length-append, take_at, length-glyphs_in_two, length-replicate)
+room_made = search (arith, length-append, take_at, length-glyphs_in_two, length-replicate)
 
 -- merging leaves the room
-pub room_stays : (level : BufferClusterLevel) (len : ℕ) (gs : List hb_glyph_info_t) → HasRoomForSaraAms len gs
+pub room_stays : (level : BufferClusterLevel) (len : ℕ) (gs : Glyphs) → HasRoomForSaraAms len gs
     → HasRoomForSaraAms len (merged_front level len gs)
 room_stays level len gs room =
     let now = merged_front level len gs in
@@ -159,14 +146,8 @@ room_stays level len gs room =
     ≡ count_by (λ g. is_sara_am g.glyph_id) (take len gs) =
     search (arith, count-characters) in search (arith, length-glyphs_in_two, length-take-le)
 
--- the buffer after the growth and the walk
-more_none : (n : ℕ) (ps : List GlyphPosition) → ps ≡ [] → more_positions n ps ≡ ps
-more_none n ps none = cc
-
 pub all_written : (old mid now : Buffer) (n len : ℕ) → old.positions ≡ [] → len ≡ length old.glyphs → mid ≡ grown n old
     → now.glyphs ≡ glyphs_in_two (take len (merged_front mid.level len mid.glyphs))
-    → now ≡ record mid { glyphs = now.glyphs }
-    → now ≡ record old
+    → now ≡ record mid { glyphs = now.glyphs } → now ≡ record old
     { glyphs = glyphs_in_two (merge_all old.level (sara_am_stretches old.level (characters old.glyphs)) old.glyphs) }
-all_written old mid now n len none long grew written others =
-    search (arith, merged_grown, take_at, length-merge_all, stretches_within)
+all_written old mid now n len none = search (arith, merged_grown, take_at, length-merge_all, stretches_within)

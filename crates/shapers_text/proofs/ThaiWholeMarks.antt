@@ -1,9 +1,9 @@
 -- What Sound flags in a Thai text: the walk, and what it leaves.
 use Rattle.std.proofs.Common.{◌≡◌, ℕ, ◌+◌, ◌<◌, ◌≤◌, Bool, true, false, cond, List, [], ◌∷◌, length, take, drop, get_or, map, refl, arith}
 use Rattle.std.specs.List.{AllByRecursion}
-use Rattle.std.proofs.lemmas.List.{drop_all, length-map, length-take-le}
+use Rattle.std.proofs.lemmas.List.{length-map, length-take-le}
 use Rattle.std.proofs.lemmas.Simd.{map-map}
-use Rattle.shapers_buffer.specs.declared.buffer.glyph.hb_glyph_info_t.{hb_glyph_info_t}
+use Rattle.shapers_buffer.specs.Glyphs.{Glyph, Glyphs}
 use Rattle.shapers_buffer.specs.declared.buffer.level.BufferClusterLevel.{BufferClusterLevel}
 use Rattle.shapers_buffer.specs.Clusters.{merge_all}
 use Rattle.shapers_buffer.specs.Glyph.{characters, clusters, order_view}
@@ -25,27 +25,24 @@ abbrev with_mark : ℕ × ℕ → ℕ × ℕ
 with_mark st = (st.0, st.1 + 1)
 
 -- the walk: what is flagged of the last base goes to the place before this one
-pub record FlaggingWhole (start now : List hb_glyph_info_t) (i base : ℕ) : Type 0 where
+pub record FlaggingWhole (start now : Glyphs) (i base : ℕ) : Type 0 where
   pub same_text : characters now ≡ characters start
   pub base_is : base ≡ thai_base_place (take i (characters start))
   pub rest : unsafe_all (map with_mark (mark_stretches_of_each (each_after (take i (characters start)) (drop i
       (characters start)))))
       (unsafe_inside base i now) ≡ unsafe_all (whole_mark_stretches (characters start)) start
 
-pub whole_base : (start now : List hb_glyph_info_t) (i base : ℕ) → i ≤ length start → FlaggingWhole start now i base
-    → base ≤ i
-whole_base start now i base within f =
-    search (arith, length-take-le, length-map)
+pub whole_base : (start now : Glyphs) (i base : ℕ) → i ≤ length start → FlaggingWhole start now i base → base ≤ i
+whole_base = search (arith, length-take-le, length-map)
 
-pub whole_length : (start now : List hb_glyph_info_t) (i base : ℕ) → FlaggingWhole start now i base
-    → length now ≡ length start
-whole_length start now i base f = search (arith, length-map)
+pub whole_length : (start now : Glyphs) (i base : ℕ) → FlaggingWhole start now i base → length now ≡ length start
+whole_length = search (arith, length-map)
 
 -- what is left after the character u at place i
 abbrev to_come : List ℕ → ℕ → List (ℕ × ℕ)
 to_come us i = map with_mark (mark_stretches_of_each (each_after (take (i + 1) us) (drop (i + 1) us)))
 
-one_passed : (start now : List hb_glyph_info_t) (i base u : ℕ) (b : Bool) → i < length start
+one_passed : (start now : Glyphs) (i base u : ℕ) (b : Bool) → i < length start
     → FlaggingWhole start now i base → u ≡ get_or (characters start) i 0 → is_thai_mark u ≡ b
     → unsafe_all (to_come (characters start) i)
     (unsafe_all (map with_mark (cond b ((base, i) ∷ []) [])) (unsafe_inside base i now))
@@ -56,7 +53,7 @@ one_passed start now i base u b inside f read is =
     let behind = mark_stretches_of_each (each_after (take (i + 1) us) (drop (i + 1) us)) in
     search arith
 
-next_place : (start : List hb_glyph_info_t) (i base u : ℕ) (b : Bool) → i < length start
+next_place : (start : Glyphs) (i base u : ℕ) (b : Bool) → i < length start
     → base ≡ thai_base_place (take i (characters start)) → u ≡ get_or (characters start) i 0 → is_thai_mark u ≡ b
     → cond b base i ≡ thai_base_place (take (i + 1) (characters start))
 next_place start i base u b inside base_is read is =
@@ -65,9 +62,8 @@ next_place start i base u b inside base_is read is =
     cc (base_place_push (take i us) u)
 
 -- a mark
-pub whole_mark : (start now : List hb_glyph_info_t) (i base u : ℕ) → i < length start
-    → FlaggingWhole start now i base → u ≡ get_or (characters start) i 0 → is_thai_mark u ≡ true
-    → FlaggingWhole start now (i + 1) base
+pub whole_mark : (start now : Glyphs) (i base u : ℕ) → i < length start → FlaggingWhole start now i base
+    → u ≡ get_or (characters start) i 0 → is_thai_mark u ≡ true → FlaggingWhole start now (i + 1) base
 whole_mark start now i base u inside f read is =
     let long = whole_length start now i base f in
     search (
@@ -78,22 +74,16 @@ whole_mark start now i base u inside f read is =
     )
 
 -- another character
-pub whole_other : (start now : List hb_glyph_info_t) (i base u : ℕ) → i < length start
+pub whole_other : (start now : Glyphs) (i base u : ℕ) → i < length start
     → FlaggingWhole start now i base → u ≡ get_or (characters start) i 0 → is_thai_mark u ≡ false
     → FlaggingWhole start (unsafe_inside base i now) (i + 1) i
-whole_other start now i base u inside f read is =
-    search (
-      arith,
-      map-unsafe_inside (λ g. g.glyph_id) (λ g. refl) base i now (whole_base start now i base (omega arith) f),
-      next_place start i base u false inside f.base_is read is,
-      unsafe_few,
-      one_passed start now i base u false inside f read is,
-    )
-
-pub whole_all : (start now : List hb_glyph_info_t) (i base : ℕ) → length start ≤ i → FlaggingWhole start now i base
-    → unsafe_inside base i now ≡ unsafe_all (whole_mark_stretches (characters start)) start
-whole_all start now i base end f =
-    search (arith, drop_all, length-map)
+whole_other start now i base u inside f read is = search (
+  arith,
+  map-unsafe_inside (λ g. g.glyph_id) (λ g. refl) base i now (whole_base start now i base (omega arith) f),
+  next_place start i base u false inside f.base_is read is,
+  unsafe_few,
+  one_passed start now i base u false inside f read is,
+)
 
 -- what the choice flags: flags alone, none lost
 with_marks_in_order : (sts : List (ℕ × ℕ)) → AllByRecursion (λ st. st.0 ≤ st.1) sts
@@ -102,41 +92,38 @@ with_marks_in_order [] all = tt
 with_marks_in_order (st ∷ sts) all = search (arith, with_marks_in_order sts all.1)
 
 whole_in_order : (us : List ℕ) → AllByRecursion (λ st. st.0 ≤ st.1) (whole_mark_stretches us)
-whole_in_order us = search (arith, with_marks_in_order, in_order)
+whole_in_order = search (arith, with_marks_in_order, in_order)
 
-pub map-marks_flagged : {Y : Type 0} (f : hb_glyph_info_t → Y) → ((g : hb_glyph_info_t) → f (with_bits 3 g) ≡ f g)
-    → (breaks : BreakFlags) (gs : List hb_glyph_info_t) → map f (marks_flagged breaks gs) ≡ map f gs
+pub map-marks_flagged : {Y : Type 0} (f : Glyph → Y) → ((g : Glyph) → f (with_bits 3 g) ≡ f g)
+    → (breaks : BreakFlags) (gs : Glyphs) → map f (marks_flagged breaks gs) ≡ map f gs
 map-marks_flagged f keeps AsCode gs = refl
-map-marks_flagged f keeps Sound gs =
-    search (arith, map-unsafe_all, whole_in_order)
+map-marks_flagged f keeps Sound gs = search (arith, map-unsafe_all, whole_in_order)
 
-pub marks_flagged_stay : (breaks : BreakFlags) (gs : List hb_glyph_info_t) → AllFlagsStay gs (marks_flagged breaks gs)
+pub marks_flagged_stay : (breaks : BreakFlags) (gs : Glyphs) → AllFlagsStay gs (marks_flagged breaks gs)
 marks_flagged_stay AsCode gs = all_stay_same gs
 marks_flagged_stay Sound gs = search (arith, unsafe_all_stays, whole_in_order)
 
 -- so the forms are the same, and nothing else changes
-view-with_characters : (us : List ℕ) (gs : List hb_glyph_info_t) → order_view (with_characters us gs)
+view-with_characters : (us : List ℕ) (gs : Glyphs) → order_view (with_characters us gs)
     ≡ with_characters us (order_view gs)
-view-with_characters [] gs = refl
-view-with_characters (u ∷ us) [] = refl
-view-with_characters (u ∷ us) (g ∷ gs) =
-    cc (view-with_characters us gs)
+view-with_characters (u ∷ us) (g ∷ gs) = cc (view-with_characters us gs)
+view-with_characters _ _ = refl
 
 pub order_view-flagged : (breaks : BreakFlags) (forms : Bool) (has : ℕ → Bool) (level : BufferClusterLevel)
-    (gs : List hb_glyph_info_t) → order_view (preprocessed_flagged breaks forms has level gs)
+    (gs : Glyphs) → order_view (preprocessed_flagged breaks forms has level gs)
     ≡ order_view (preprocessed_text forms has level gs)
 order_view-flagged breaks false has level gs = refl
 order_view-flagged breaks true has level gs =
     search (arith, view-with_characters, map-unsafe_all, in_order, map-marks_flagged, without_flags-or)
 
 pub clusters-flagged : (breaks : BreakFlags) (forms : Bool) (has : ℕ → Bool) (level : BufferClusterLevel)
-    (gs : List hb_glyph_info_t) → clusters (preprocessed_flagged breaks forms has level gs)
+    (gs : Glyphs) → clusters (preprocessed_flagged breaks forms has level gs)
     ≡ clusters (preprocessed_text forms has level gs)
 clusters-flagged breaks false has level gs = refl
 clusters-flagged breaks true has level gs =
     let text = glyphs_in_two (merge_all level (sara_am_stretches level (characters gs)) gs) in
     let flagged = marks_flagged breaks text in
-    let cluster : hb_glyph_info_t → ℕ = λ g. g.cluster in
+    let cluster : Glyph → ℕ = λ g. g.cluster in
     search (
       arith,
       map-map,

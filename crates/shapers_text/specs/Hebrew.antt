@@ -1,7 +1,7 @@
 -- Hebrew: the order of marks, and the pairs that compose.
 use Rattle.std.specs.Prelude.{ℕ, suc, ◌+◌, ◌-◌, ◌==◌, nat_le, Bool, false, not, ◌&&◌, ◌||◌, List, [], ◌∷◌, length, swap, find, Option, None, Some, option_map, if◌then◌else◌}
 use Rattle.std.specs.Option.{option_map_or}
-use Rattle.shapers_buffer.specs.declared.buffer.glyph.hb_glyph_info_t.{hb_glyph_info_t}
+use Rattle.shapers_buffer.specs.Glyphs.{Glyphs}
 use Rattle.shapers_buffer.specs.Buffer.{Buffer}
 use Rattle.shapers_buffer.specs.Clusters.{stretch_of}
 use Rattle.shapers_buffer.specs.Properties.{modified_combining_class}
@@ -21,7 +21,7 @@ abbrev pub is_meteg_or_below : ℕ → Bool
 is_meteg_or_below class = class == 25 || class == 220
 
 -- whether the first three glyphs are marks of those classes, one of each, in that order
-abbrev pub opens_triple : List hb_glyph_info_t → Bool
+abbrev pub opens_triple : Glyphs → Bool
 opens_triple (a ∷ (b ∷ (c ∷ gs))) =
     is_patah_or_qamats (modified_combining_class a.unicode_props)
     && is_sheva_or_hiriq (modified_combining_class b.unicode_props)
@@ -29,17 +29,17 @@ opens_triple (a ∷ (b ∷ (c ∷ gs))) =
 opens_triple _ = false
 
 -- the first place at which three neighbours are such marks (HarfBuzz's order of Hebrew marks)
-abbrev pub triple_place : List hb_glyph_info_t → Option ℕ
+abbrev pub triple_place : Glyphs → Option ℕ
 triple_place [] = None
 triple_place (g ∷ gs) = if opens_triple (g ∷ gs) then Some 0 else option_map suc (triple_place gs)
 
 -- among the places from start to end, the place of the second of the first three
-abbrev pub second_of_triple : ℕ → ℕ → List hb_glyph_info_t → Option ℕ
+abbrev pub second_of_triple : ℕ → ℕ → Glyphs → Option ℕ
 second_of_triple start end gs =
     option_map (λ i. start + i + 1) (triple_place (stretch_of start end gs))
 
 -- the glyphs with the last two of the first three swapped
-abbrev pub marks_swapped : ℕ → ℕ → List hb_glyph_info_t → List hb_glyph_info_t
+abbrev pub marks_swapped : ℕ → ℕ → Glyphs → Glyphs
 marks_swapped start end gs =
     option_map_or (λ i. swap gs i (i + 1)) (second_of_triple start end gs) gs
 
@@ -48,7 +48,7 @@ abbrev pub step_at : ℕ → Option ℕ → Step
 step_at n None = still_step n
 step_at n (Some i) = swap_step n i
 
-abbrev pub hebrew_mark_step : ℕ → ℕ → List hb_glyph_info_t → Step
+abbrev pub hebrew_mark_step : ℕ → ℕ → Glyphs → Step
 hebrew_mark_step start end gs = step_at (length gs) (second_of_triple start end gs)
 
 -- what the reordering promises: no glyph is lost, and the laws of clusters and flags hold

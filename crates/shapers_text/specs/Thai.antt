@@ -2,7 +2,7 @@
 use Rattle.std.specs.Prelude.{ℕ, nat_eq, not, codes, Option, None, Some, ◌-◌, ◌+◌, Bool, ◌||◌, ◌&&◌, ◌==◌, nat_le, nat_lt, bit_and, true, false, List, [], ◌∷◌, ◌++◌, length, map, flat_map, if◌then◌else◌}
 use Rattle.std.specs.List.{suffix_len, enumerate_from}
 use Rattle.shapers_buffer.specs.declared.buffer.category.hb_unicode_general_category_t.TheVariants.{Mn}
-use Rattle.shapers_buffer.specs.declared.buffer.glyph.hb_glyph_info_t.{hb_glyph_info_t}
+use Rattle.shapers_buffer.specs.Glyphs.{Glyph, Glyphs}
 use Rattle.shapers_buffer.specs.declared.buffer.level.BufferClusterLevel.{BufferClusterLevel}
 use Rattle.shapers_buffer.specs.declared.buffer.level.BufferClusterLevel.TheVariants.{MonotoneGraphemes}
 use Rattle.std.specs.Cmp.Lexicographic.{pointwise}
@@ -27,13 +27,13 @@ is_above_base u = is_thai_above_base (bit_and u 0xFFFFFF7F)
 
 -- NIKHAHIT, a continuation of category Mn and class 0, and SARA AA out of SARA AM (Unicode's
 -- decomposition)
-abbrev pub nikhahit : hb_glyph_info_t → hb_glyph_info_t
+abbrev pub nikhahit : Glyph → Glyph
 nikhahit am = record am {
   glyph_id = am.glyph_id + 0x1A;
   unicode_props = with_property CONTINUATION (with_general_category Mn am.unicode_props);
 }
 
-abbrev pub sara_aa : hb_glyph_info_t → hb_glyph_info_t
+abbrev pub sara_aa : Glyph → Glyph
 sara_aa am = record am { glyph_id = am.glyph_id - 1 }
 
 -- What the rule of SARA AM reads of a text's elements, and makes of them: their character, and the
@@ -65,11 +65,11 @@ abbrev pub in_parts : {X : Type 0} → SaraAmRule X → X → List X
 in_parts rule x = if is_am rule x then rule.nikhahit x ∷ (rule.sara_aa x ∷ []) else x ∷ []
 
 -- the rule on glyphs
-abbrev pub glyph_rule : SaraAmRule hb_glyph_info_t
+abbrev pub glyph_rule : SaraAmRule Glyph
 glyph_rule = record { character = λ g. g.glyph_id; nikhahit = nikhahit; sara_aa = sara_aa }
 
 -- the glyphs with each SARA AM in two
-abbrev pub glyphs_in_two : List hb_glyph_info_t → List hb_glyph_info_t
+abbrev pub glyphs_in_two : Glyphs → Glyphs
 glyphs_in_two gs = in_two glyph_rule gs
 
 -- the rule on characters with their places: both parts of a SARA AM keep its place

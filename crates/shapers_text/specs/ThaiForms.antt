@@ -1,7 +1,7 @@
 -- The private use forms of Thai, by the note on Thai OpenType shaping (the Thai note).
 use Rattle.std.specs.Prelude.{ℕ, ◌+◌, ◌-◌, Bool, ◌||◌, ◌&&◌, ◌==◌, nat_le, true, false, List, [], ◌∷◌, ◌++◌, length, reverse, map, flat_map, take_while, count_by, find, zip, Option, None, Some, if◌then◌else◌}
 use Rattle.std.specs.List.{list_any, suffix_len}
-use Rattle.shapers_buffer.specs.declared.buffer.glyph.hb_glyph_info_t.{hb_glyph_info_t}
+use Rattle.shapers_buffer.specs.Glyphs.{Glyph, Glyphs}
 use Rattle.shapers_buffer.specs.declared.buffer.level.BufferClusterLevel.{BufferClusterLevel}
 use Rattle.shapers_buffer.specs.Glyph.{characters}
 use Rattle.shapers_base.specs.declared.plan.breaks.BreakFlags.{BreakFlags}
@@ -162,14 +162,14 @@ forms_between has before (u ∷ us) after =
     form_between has before u (us ++ after) ∷ forms_between has (before ++ u ∷ []) us after
 
 -- the glyphs with other characters
-abbrev pub with_character : hb_glyph_info_t → ℕ → hb_glyph_info_t
+abbrev pub with_character : Glyph → ℕ → Glyph
 with_character g u = record g { glyph_id = u }
 
-abbrev pub with_characters : List ℕ → List hb_glyph_info_t → List hb_glyph_info_t
+abbrev pub with_characters : List ℕ → Glyphs → Glyphs
 with_characters us gs = map (λ p. with_character p.1 p.0) (zip us gs)
 
 -- the glyphs with their private use forms
-abbrev pub with_thai_forms : (ℕ → Bool) → List hb_glyph_info_t → List hb_glyph_info_t
+abbrev pub with_thai_forms : (ℕ → Bool) → Glyphs → Glyphs
 with_thai_forms has gs = with_characters (forms_between has [] (characters gs) []) gs
 
 -- the place of the base of what follows a text, 0 where there is none
@@ -188,7 +188,7 @@ abbrev pub mark_stretches : List ℕ → List (ℕ × ℕ)
 mark_stretches us = mark_stretches_of_each (each_after [] us)
 
 -- forms and flags: a break between a base and its marks would change the forms
-abbrev pub pua_shaped : (ℕ → Bool) → List hb_glyph_info_t → List hb_glyph_info_t
+abbrev pub pua_shaped : (ℕ → Bool) → Glyphs → Glyphs
 pua_shaped has gs = with_thai_forms has (unsafe_all (mark_stretches (characters gs)) gs)
 
 -- from each mark's base to the mark, the mark with it
@@ -197,19 +197,19 @@ whole_mark_stretches us = map (λ st. (st.0, st.1 + 1)) (mark_stretches us)
 
 -- what the choice flags besides, before the forms: with Sound no break between a base and any mark
 -- of it, since a piece that opens with marks forms them without their base
-abbrev pub marks_flagged : BreakFlags → List hb_glyph_info_t → List hb_glyph_info_t
+abbrev pub marks_flagged : BreakFlags → Glyphs → Glyphs
 marks_flagged AsCode gs = gs
 marks_flagged Sound gs = unsafe_all (whole_mark_stretches (characters gs)) gs
 
 -- the whole rewriting by the choice, with the private use forms or without; with the code's flags
 abbrev pub preprocessed_flagged : BreakFlags → Bool → (ℕ → Bool) → BufferClusterLevel →
-    List hb_glyph_info_t → List hb_glyph_info_t
+    Glyphs → Glyphs
 preprocessed_flagged breaks forms has level gs =
     let text = glyphs_in_two (merge_all level (sara_am_stretches level (characters gs)) gs) in
     if forms then pua_shaped has (marks_flagged breaks text) else text
 
-abbrev pub preprocessed_text : Bool → (ℕ → Bool) → BufferClusterLevel → List hb_glyph_info_t →
-    List hb_glyph_info_t
+abbrev pub preprocessed_text : Bool → (ℕ → Bool) → BufferClusterLevel → Glyphs →
+    Glyphs
 preprocessed_text forms has level gs = preprocessed_flagged AsCode forms has level gs
 
 -- whether a plan wants the forms (the Thai note: for fonts without OpenType rules)

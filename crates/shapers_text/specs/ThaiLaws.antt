@@ -2,7 +2,7 @@
 use Rattle.std.specs.Prelude.{ℕ, Bool, ◌+◌, ◌-◌, ◌||◌, ◌≡◌, if◌then◌else◌, true, false, List, ◌∷◌, ◌++◌, map, flat_map, length, ◌<◌}
 use Rattle.std.specs.List.{AllZip, Contains, suffix_len}
 use Rattle.std.specs.List.Sorted.{IsPermutation}
-use Rattle.shapers_buffer.specs.declared.buffer.glyph.hb_glyph_info_t.{hb_glyph_info_t}
+use Rattle.shapers_buffer.specs.Glyphs.{Glyph, Glyphs}
 use Rattle.shapers_buffer.specs.declared.buffer.level.BufferClusterLevel.{BufferClusterLevel}
 use Rattle.shapers_buffer.specs.declared.buffer.category.hb_unicode_general_category_t.TheVariants.{Cc}
 use Rattle.shapers_buffer.specs.Lists.{before_last_run}
@@ -38,18 +38,18 @@ is_of_sara_am u = is_sara_am u || is_sara_am (u + 1) || is_sara_am (u - 0x1A)
 
 -- a glyph without what the rewriting changes of these: the character, its category, the high byte
 -- and the continuation
-abbrev pub without_number : hb_glyph_info_t → hb_glyph_info_t
+abbrev pub without_number : Glyph → Glyph
 without_number g =
     let other = with_general_category Cc g.unicode_props in
     record g { glyph_id = 0; unicode_props = without_property CONTINUATION other }
 
-abbrev pub without_name : hb_glyph_info_t → hb_glyph_info_t
+abbrev pub without_name : Glyph → Glyph
 without_name g = if is_of_sara_am g.glyph_id then without_number g else g
 
 -- What it gives: rs. But for its order it is the merged text with each SARA AM taken in rule. Each
 -- glyph is its source after the merges; one of a SARA AM is so in all but character, category, high
 -- byte and continuation. So no cluster rises, and glyph flags stay unless it fell.
-pub record InTwoHolds (level : BufferClusterLevel) (gs rs : List hb_glyph_info_t) : Type 0 where
+pub record InTwoHolds (level : BufferClusterLevel) (gs rs : Glyphs) : Type 0 where
   pub made : map without_name rs
       ≡ map without_name (pick (sara_am_sources (characters gs))
       (merge_all level (sara_am_stretches level (characters gs)) gs))
@@ -59,35 +59,35 @@ pub record InTwoHolds (level : BufferClusterLevel) (gs rs : List hb_glyph_info_t
   pub falls : AllZip FlagsFall (pick (sara_am_sources (characters gs)) gs) rs
 
 abbrev pub InTwoLaw : Type 0
-InTwoLaw = (level : BufferClusterLevel) (gs : List hb_glyph_info_t) →
+InTwoLaw = (level : BufferClusterLevel) (gs : Glyphs) →
     InTwoHolds level gs
     (glyphs_in_two (merge_all level (sara_am_stretches level (characters gs)) gs))
 
 -- The flag law, of each glyph by its source: no cluster rises, and unless it fell, no flag is lost.
-abbrev pub FlagsInTwo : List hb_glyph_info_t → List hb_glyph_info_t → Type 0
+abbrev pub FlagsInTwo : Glyphs → Glyphs → Type 0
 FlagsInTwo gs rs = AllFlagsStay (pick (sara_am_sources (characters gs)) gs) rs
 
 -- a glyph without what the private use forms change
-abbrev pub without_form : hb_glyph_info_t → hb_glyph_info_t
+abbrev pub without_form : Glyph → Glyph
 without_form g = record g { glyph_id = 0; mask = without_flags g.mask }
 
 -- The forms change characters and glyph flags alone; so clusters are those of the rewriting.
-pub record FormsHold (plain shaped : List hb_glyph_info_t) : Type 0 where
+pub record FormsHold (plain shaped : Glyphs) : Type 0 where
   pub rest_stays : map without_form shaped ≡ map without_form plain
   pub clusters_stay : clusters shaped ≡ clusters plain
 
 abbrev pub FormsLaw : Type 0
-FormsLaw = (has : ℕ → Bool) (level : BufferClusterLevel) (gs : List hb_glyph_info_t) →
+FormsLaw = (has : ℕ → Bool) (level : BufferClusterLevel) (gs : Glyphs) →
     FormsHold (preprocessed_text false has level gs) (preprocessed_text true has level gs)
 
 -- the order view, and without the characters, which the forms change
-abbrev pub kept_view : Bool → hb_glyph_info_t → hb_glyph_info_t
+abbrev pub kept_view : Bool → Glyph → Glyph
 kept_view false g = plain g
 kept_view true g = record (plain g) { glyph_id = 0 }
 
 -- No glyph is lost, and none made but the two parts of each SARA AM: the order view is the old one
 -- with these, in some order; where the private use forms follow, but for the characters.
-abbrev pub KeptInTwo : Bool → List hb_glyph_info_t → List hb_glyph_info_t → Type 0
+abbrev pub KeptInTwo : Bool → Glyphs → Glyphs → Type 0
 KeptInTwo forms gs rs =
     IsPermutation (map (kept_view forms) (flat_map (in_parts glyph_rule) gs))
     (map (kept_view forms) rs)

@@ -2,10 +2,9 @@
 use Rattle.std.proofs.Common.{◌≡◌, ℕ, zero, suc, ◌+◌, ◌-◌, ◌<◌, ◌≤◌, inl, inr, Bool, true, false, if◌then◌else◌, List, [], ◌∷◌, ◌++◌, map, length, take, drop, get_or, refl, ap, sym, ◌∙◌, arith, append_assoc, Some}
 use Rattle.std.specs.List.{flat_map, list_any, range_with_len, slice_rotate_right}
 use Rattle.std.proofs.lemmas.Bool.{cases_Bool, or_parts}
-use Rattle.std.proofs.lemmas.Bool.Decides.{nat_tests}
 use Rattle.std.proofs.lemmas.List.{append-nil, drop-drop, drop-take, map-append, take-append-drop, take-take}
 use Rattle.std.proofs.lemmas.List.Folds.{list_any-append}
-use Rattle.shapers_buffer.specs.declared.buffer.glyph.hb_glyph_info_t.{hb_glyph_info_t}
+use Rattle.shapers_buffer.specs.Glyphs.{Glyph, Glyphs}
 use Rattle.shapers_buffer.specs.Buffer.{Buffer, but_places}
 use Rattle.shapers_buffer.specs.Clusters.{merge, merge_all, stretch_of, with_stretch}
 use Rattle.shapers_buffer.specs.Lists.{cut_after}
@@ -28,8 +27,7 @@ use Rattle.shapers_clusters.proofs.Halves.{ranges-join}
 cut_none : {X : Type 0} (cut : X → Bool) (xs : List X) (x : X) → list_any cut xs ≡ false → cut x ≡ false
     → cut_after cut (xs ++ x ∷ []) ≡ (xs ++ x ∷ []) ∷ []
 cut_none cut [] x none h = rw h refl
-cut_none cut (y ∷ ys) x none h =
-    search (arith, cut_none cut ys x (or_parts (cut y) (list_any cut ys) none).1 h)
+cut_none cut (y ∷ ys) x none h = search (arith, cut_none cut ys x (or_parts (cut y) (list_any cut ys) none).1 h)
 
 cut_there : {X : Type 0} (cut : X → Bool) (xs ys : List X) (y : X) → list_any cut xs ≡ false → cut y ≡ true
     → cut_after cut (xs ++ y ∷ ys) ≡ (xs ++ y ∷ []) ∷ cut_after cut ys
@@ -42,17 +40,16 @@ abbrev in_order : {X : Type 0} → (X → Bool) → (X → Bool) → List X → 
 in_order cut t xs = flat_map (reversed_first t) (cut_after cut xs)
 
 none_first : {X : Type 0} (t : X → Bool) (xs : List X) → list_any t xs ≡ false → reversed_first t xs ≡ xs
-none_first t xs none = search (arith, filter-none, filter_not-none)
+none_first t xs none = search (filter-none, filter_not-none)
 
 -- behind a piece whose last may go to the front nothing does
 in_order-last : {X : Type 0} (cut t : X → Bool) (xs : List X) (x : X) (ys : List X) → list_any cut xs ≡ false
     → cut x ≡ false → list_any t ys ≡ false → in_order cut t ((xs ++ x ∷ []) ++ ys) ≡ reversed_first t (xs ++ x ∷ [])
     ++ ys
-in_order-last cut t xs x [] none h still =
-    search (arith, append-nil, cut_none)
+in_order-last cut t xs x [] none h still = search (append-nil, cut_none)
 in_order-last cut t xs x (y ∷ ys) none h still =
-    let parts : (t y ≡ false) × (list_any t ys ≡ false) = search (arith, or_parts) in
-    let calm : list_any cut (xs ++ x ∷ []) ≡ false = search (arith, list_any-append, refl) in
+    let parts : (t y ≡ false) × (list_any t ys ≡ false) = search arith in
+    let calm : list_any cut (xs ++ x ∷ []) ≡ false = search (arith, list_any-append) in
     elim (cases_Bool (cut y)) [
       | inl holds ↦
           search (arith, cut_there, reversed_first-no, still_pieces, cut_after-concat, append_assoc)
@@ -63,11 +60,10 @@ in_order-last cut t xs x (y ∷ ys) none h still =
 in_order-cut : {X : Type 0} (cut t : X → Bool) (xs ys : List X) (y : X) → list_any cut xs ≡ false
     → list_any t xs ≡ false → cut y ≡ true → t y ≡ false → in_order cut t (xs ++ y ∷ ys) ≡ (xs ++ y ∷ [])
     ++ in_order cut t ys
-in_order-cut cut t xs ys y none still h i =
-    search (arith, cut_there, none_first, list_any-append, refl)
+in_order-cut cut t xs ys y none = search (arith, cut_there, none_first, list_any-append)
 
 -- nothing merges where nothing goes to the front
-pub none_from : (a i : ℕ) (gs : List hb_glyph_info_t) → fronts_from a i gs ≡ [] → list_any goes_front gs ≡ false
+pub none_from : (a i : ℕ) (gs : Glyphs) → fronts_from a i gs ≡ [] → list_any goes_front gs ≡ false
 none_from a i [] h = refl
 none_from a i (g ∷ gs) h = elim (cases_Bool (goes_front g)) [
   | inl holds ↦
@@ -78,7 +74,7 @@ none_from a i (g ∷ gs) h = elim (cases_Bool (goes_front g)) [
 
 -- What one merge alone says: from `st` to `e` one glyph goes to the front, that before z, of the
 -- piece that starts at a.
-pub record OneFront (gs : List hb_glyph_info_t) (st e a z : ℕ) : Type 0 where
+pub record OneFront (gs : Glyphs) (st e a z : ℕ) : Type 0 where
   pub order : in_order (is_halant_at gs) (goes_front_at gs) (range_with_len st (e - st)) ≡ range_with_len st (a - st)
       ++ (((z - 1) ∷ range_with_len a (z - 1 - a)) ++ range_with_len z (e - z))
   pub from : st ≤ a
@@ -88,7 +84,7 @@ pub record OneFront (gs : List hb_glyph_info_t) (st e a z : ℕ) : Type 0 where
 range_on : (st i : ℕ) → st ≤ i → range_with_len st (i + 1 - st) ≡ range_with_len st (i - st) ++ i ∷ []
 range_on st i h = sym (ranges-join st i (i - st) 1 (i + 1 - st) (omega arith) (omega arith))
 
-pub one_front : (gs : List hb_glyph_info_t) (n i st e a z : ℕ) → st ≤ i → i + n ≡ e
+pub one_front : (gs : Glyphs) (n i st e a z : ℕ) → st ≤ i → i + n ≡ e
     → list_any (is_halant_at gs) (range_with_len st (i - st)) ≡ false
     → list_any (goes_front_at gs) (range_with_len st (i - st)) ≡ false
     → fronts_from st i (map (at gs) (range_with_len i n)) ≡ (a, z) ∷ [] → OneFront gs st e a z
@@ -100,15 +96,14 @@ one_front gs (suc n) i st e a z h up calm still is =
     let ys = range_with_len (i + 1) n in
     let zs = map (at gs) ys in
     let next : suc i ≡ i + 1 = omega arith in
-    let whole = sym (ranges-join st i (i - st) (e - i) (e - st) (omega (arith, h)) (omega (arith, h, up)))
+    let whole = sym (ranges-join st i (i - st) (e - i) (e - st) (omega arith) (omega arith))
     ∙ (let m : e - i ≡ suc n = omega arith in ap (λ k. pre ++ range_with_len i k) m) in
     elim (cases_Bool (goes_front (at gs i))) [
       | inl front ↦
           let here =
           ap
           (λ b. if b then (st, suc i) ∷ fronts_from st (suc i) zs else fronts_from (if is_universal_halant (at gs i)
-          then suc i else st) (suc i) zs) (sym front)
-          ∙ is in
+          then suc i else st) (suc i) zs) (sym front) ∙ is in
           let start = ap (λ (ps : List (ℕ × ℕ)). (get_or ps 0 (0, 0)).0) here in
           let place = ap (λ (ps : List (ℕ × ℕ)). (get_or ps 0 (0, 0)).1) here in
           let behind = labels_any goes_front T gs (goes_front_is gs) ys
@@ -117,8 +112,7 @@ one_front gs (suc n) i st e a z h up calm still is =
           let from : z ≡ i + 1 = omega arith in
           record {
             order = ap (in_order H T) (whole ∙ sym (append_assoc pre (i ∷ []) ys))
-                ∙ in_order-last H T pre i ys calm (halant_at gs i ∙ (grind (arith, nat_tests, front))) behind
-                ∙ ap (λ xs. xs ++ ys)
+                ∙ in_order-last H T pre i ys calm (halant_at gs i ∙ (grind arith)) behind ∙ ap (λ xs. xs ++ ys)
                 (reversed_first-yes T pre i (goes_front_is gs i ∙ front) ∙ ap (λ xs. i ∷ xs) (none_first T pre still))
                 ∙ sym
                 (ap (λ k. range_with_len st k ++ (((z - 1) ∷ range_with_len a (z - 1 - a)) ++ range_with_len z (e - z)))
@@ -126,50 +120,44 @@ one_front gs (suc n) i st e a z h up calm still is =
                 ∷ range_with_len a k) ++ range_with_len z (e - z)) (omega arith) ∙ ap (λ k. (i ∷ range_with_len k (i -
                 st)) ++ range_with_len z (e - z)) (sym start) ∙ ap (λ k. (i ∷ pre) ++ range_with_len z k) (omega arith) ∙
                 ap (λ k. (i ∷ pre) ++ range_with_len k n) from);
-            from = omega (arith, start);
-            some = omega (arith, start, place, h);
-            within = omega (arith, place, up);
+            from = omega arith;
+            some = omega arith;
+            within = omega arith;
           }
       | inr other ↦
           let here =
           ap
           (λ b. if b then (st, suc i) ∷ fronts_from st (suc i) zs else fronts_from (if is_universal_halant (at gs i)
-          then suc i else st) (suc i) zs) (sym other)
-          ∙ is in
+          then suc i else st) (suc i) zs) (sym other) ∙ is in
           let stays = goes_front_is gs i ∙ other in
           elim (cases_Bool (is_universal_halant (at gs i))) [
             | inl ends ↦
                 let there : fronts_from (i + 1) (i + 1) zs ≡ (a, z) ∷ [] = ap (λ k. fronts_from k k zs) (sym next)
                 ∙ ap (λ b. fronts_from (if b then suc i else st) (suc i) zs) (sym ends) ∙ here in
                 let none : i + 1 - (i + 1) ≡ 0 = omega arith in
-                let one = one_front gs n (i + 1) (i + 1) e a z (omega arith) (omega (arith, up))
+                let one = one_front gs n (i + 1) (i + 1) e a z (omega arith) (omega arith)
                 (ap (λ k. list_any H (range_with_len (i + 1) k)) none)
                 (ap (λ k. list_any T (range_with_len (i + 1) k)) none) there in
                 let tail = ((z - 1) ∷ range_with_len a (z - 1 - a)) ++ range_with_len z (e - z) in
                 record {
                   order = ap (in_order H T) whole ∙ in_order-cut H T pre ys i calm still (halant_at gs i ∙ ends) stays
-                      ∙ ap (λ k. (pre ++ i ∷ []) ++ in_order H T (range_with_len (i + 1) k)) (sym (omega (arith, up)))
+                      ∙ ap (λ k. (pre ++ i ∷ []) ++ in_order H T (range_with_len (i + 1) k)) (sym (omega arith))
                       ∙ ap (λ xs. (pre ++ i ∷ []) ++ xs) one.order
                       ∙ ap (λ xs. xs ++ (range_with_len (i + 1) (a - (i + 1)) ++ tail)) (sym (range_on st i h))
                       ∙ sym (append_assoc (range_with_len st (i + 1 - st)) (range_with_len (i + 1) (a - (i + 1))) tail)
                       ∙ ap (λ xs. xs ++ tail)
-                      (ranges-join st (i + 1) (i + 1 - st) (a - (i + 1)) (a - st) (omega (arith, h)) (omega (
-                        arith,
-                        h,
-                        one.from,
-                      )));
-                  from = omega (arith, h, one.from);
+                      (ranges-join st (i + 1) (i + 1 - st) (a - (i + 1)) (a - st) (omega arith) (omega arith));
+                  from = omega arith;
                   some = one.some;
                   within = one.within;
                 }
             | inr goes ↦
                 let there : fronts_from st (i + 1) zs ≡ (a, z) ∷ [] = ap (λ k. fronts_from st k zs) (sym next)
                 ∙ ap (λ b. fronts_from (if b then suc i else st) (suc i) zs) (sym goes) ∙ here in
-                one_front gs n (i + 1) st e a z (omega (arith, h)) (omega (arith, up))
+                one_front gs n (i + 1) st e a z (omega arith) (omega arith)
                 (ap (list_any H) (range_on st i h) ∙ list_any-append H pre (i ∷ [])
                 ∙ rw (calm, halant_at gs i, goes) refl)
-                (ap (list_any T) (range_on st i h) ∙ list_any-append T pre (i ∷ []) ∙ rw (still, stays) refl)
-                there
+                (ap (list_any T) (range_on st i h) ∙ list_any-append T pre (i ∷ []) ∙ rw (still, stays) refl) there
           ]
     ]
 
@@ -180,7 +168,7 @@ take_on s a xs h =
     ∙ ap (λ ys. take s (take a xs) ++ ys) (sym (drop-take s (a - s) xs) ∙ ap (λ k. drop s (take k xs)) (omega arith))
     ∙ take-append-drop s (take a xs)
 
-one_written : (s e a z : ℕ) (gs ms : List hb_glyph_info_t) → e ≤ length ms → OneFront gs s e a z
+one_written : (s e a z : ℕ) (gs ms : Glyphs) → e ≤ length ms → OneFront gs s e a z
     → with_stretch s e (λ _. pick (syllable_places_in_order s s e gs) ms) ms
     ≡ with_stretch a z (λ _. pick (last_place_first a z) ms) ms
 one_written s e a z gs ms l one =
@@ -188,19 +176,7 @@ one_written s e a z gs ms l one =
     let within = one.within in
     let moved = last_place_first a z in
     let last = range_with_len z (e - z) in
-    cc (
-      nothing_behind s e,
-      one.order,
-      pick-append (range_with_len s (a - s)) (moved ++ last) ms,
-      pick-append moved last ms,
-      pick-range s (a - s) ms (omega (arith, l, from, one.some, within)),
-      pick-range z (e - z) ms (omega (arith, l, within)),
-      append_assoc (stretch_of s a ms) (pick moved ms ++ stretch_of z e ms) (drop e ms),
-      append_assoc (take s ms) (stretch_of s a ms) ((pick moved ms ++ stretch_of z e ms) ++ drop e ms),
-      take_on s a ms from,
-      append_assoc (pick moved ms) (stretch_of z e ms) (drop e ms),
-      stretch-rest z e ms within,
-    )
+    cc (nothing_behind s e, pick-append (range_with_len s (a - s)) (moved ++ last) ms, pick-append moved last ms, pick-range s (a - s) ms (omega (arith, l, from, one.some, within)), pick-range z (e - z) ms (omega (arith, l, within)), append_assoc (stretch_of s a ms) (pick moved ms ++ stretch_of z e ms) (drop e ms), append_assoc (take s ms) (stretch_of s a ms) ((pick moved ms ++ stretch_of z e ms) ++ drop e ms), take_on s a ms from, append_assoc (pick moved ms) (stretch_of z e ms) (drop e ms), stretch-rest z e ms within)
 
 -- a syllable that is written so is reordered
 pub one_reordered : (s e a z : ℕ) (b0 b1 : Buffer) → s ≤ e → e ≤ length b0.glyphs
@@ -215,46 +191,36 @@ one_reordered s e a z b0 b1 h l kind reph is done =
     let zs = stretch_of s e gs in
     let ms = merge b0.level a z gs in
     let none : s - s ≡ 0 = omega arith in
-    let one = one_front gs (e - s) s s e a z (omega arith) (omega (arith, h))
-    (cc)
-    (cc)
-    (cc (stretch_at s e gs l)) in
-    let merges :
-    (merge_all b0.level (fronts_from s s zs) (merge b0.level s s gs)) ≡ ms =
+    let one = one_front gs (e - s) s s e a z (omega arith) (omega arith) (cc) (cc) (cc (stretch_at s e gs l)) in
+    let merges : (merge_all b0.level (fronts_from s s zs) (merge b0.level s s gs)) ≡ ms =
     ap (λ sts. merge_all b0.level sts (merge b0.level s s gs)) is
     ∙ ap (merge b0.level a z) (merge_nothing b0.level s gs) in
     let glyphs =
     ap (λ (x : Buffer). x.glyphs) done in
     syllable_reordered s e b0 b1 h l
-    (ap but_places done ∙ ap (λ xs. (record (but_places b0) { glyphs = xs })) (sym glyphs))
-    (glyphs
-    ∙ sym
-    (one_written s e a z gs ms (omega (arith, l, length-merge b0.level a z gs (omega (arith, l, one.within)))) one)
+    (ap but_places done ∙ ap (λ xs. (record (but_places b0) { glyphs = xs })) (sym glyphs)) (glyphs ∙ sym
+    (one_written s e a z gs ms (omega (arith, length-merge b0.level a z gs (omega arith))) one)
     ∙ ap (λ xs. with_stretch s e (λ _. pick (syllable_places_in_order s s e gs) xs) xs) (sym merges)
     ∙ sym (syllable_ran b0.level s e s gs h l kind (omega (arith, no_reph zs reph))))
 
 -- where pieces start, one glyph on
-start_push : (st i : ℕ) (gs : List hb_glyph_info_t) (g : hb_glyph_info_t) → start_from st i (gs ++ g ∷ [])
+start_push : (st i : ℕ) (gs : Glyphs) (g : Glyph) → start_from st i (gs ++ g ∷ [])
     ≡ (if is_universal_halant g then suc (i + length gs) else start_from st i gs)
 start_push st i [] g = search arith
-start_push st i (x ∷ xs) g =
-    search (arith, start_push (if is_universal_halant x then suc i else st) (suc i) xs g)
+start_push st i (x ∷ xs) g = search (arith, start_push (if is_universal_halant x then suc i else st) (suc i) xs g)
 
-pub start_on : (s i : ℕ) (gs : List hb_glyph_info_t) → s ≤ i → i < length gs → start_from s s (stretch_of s (i + 1) gs)
+pub start_on : (s i : ℕ) (gs : Glyphs) → s ≤ i → i < length gs → start_from s s (stretch_of s (i + 1) gs)
     ≡ (if is_universal_halant (at gs i) then i + 1 else start_from s s (stretch_of s i gs))
-start_on s i gs h l =
-    search (arith, stretch_at, range_on, map-append, at, start_push, length-stretch)
+start_on = search (arith, stretch_at, range_on, map-append, start_push, length-stretch)
 
 -- the look for the first
-pub seen_first : (s i e a : ℕ) (gs : List hb_glyph_info_t) → i < e → e ≤ length gs → goes_front (at gs i) ≡ true
+pub seen_first : (s i e a : ℕ) (gs : Glyphs) → i < e → e ≤ length gs → goes_front (at gs i) ≡ true
     → a ≡ start_from s s (stretch_of s i gs) → fronts_from s s (stretch_of s e gs)
     ≡ fronts_from (start_from s s (stretch_of s i gs)) i (stretch_of i e gs) → MergesFirst s e gs (Some (a, i + 1))
-seen_first s i e a gs m l goes is so =
-    let next : suc i ≡ i + 1 = omega arith in
-    search (arith, fronts_next)
+seen_first s i e a gs m l goes is so = let next : suc i ≡ i + 1 = omega arith in search (arith, fronts_next)
 
 -- the merge and the move
-pub turned_is : (s e : ℕ) (xs : List hb_glyph_info_t) → s < e → e ≤ length xs
+pub turned_is : (s e : ℕ) (xs : Glyphs) → s < e → e ≤ length xs
     → with_stretch s e (λ ys. slice_rotate_right ys 1) xs ≡ with_stretch s e (λ _. pick (last_place_first s e) xs) xs
 turned_is s e xs h l =
     let ys = stretch_of s e xs in
@@ -269,8 +235,6 @@ turned_is s e xs h l =
       pick-range s k xs (omega arith),
     )
 
-pub start_back : (s k : ℕ) (gs : List hb_glyph_info_t) → s + 1 < k → k ≤ length gs + 1
-    → start_from s s (stretch_of s (k - 1) gs)
+pub start_back : (s k : ℕ) (gs : Glyphs) → s + 1 < k → k ≤ length gs + 1 → start_from s s (stretch_of s (k - 1) gs)
     ≡ (if is_universal_halant (at gs (k - 1 - 1)) then k - 1 else start_from s s (stretch_of s (k - 1 - 1) gs))
-start_back s k gs h l =
-    search (arith, start_on)
+start_back = search (arith, start_on)

@@ -2,7 +2,7 @@
 use Prim.Native.String.{String}
 use Rattle.std.specs.Prelude.{◌≡◌, ℕ, Bool, true, false, List, [], ◌∷◌, map, Option, None, Some, codes, ◌==◌, ◌%◌, if◌then◌else◌, refl}
 use Rattle.shapers_buffer.specs.declared.buffer.category.hb_unicode_general_category_t.TheVariants.{Lo}
-use Rattle.shapers_buffer.specs.declared.buffer.glyph.hb_glyph_info_t.{hb_glyph_info_t}
+use Rattle.shapers_buffer.specs.Glyphs.{Glyph}
 use Rattle.shapers_buffer.specs.declared.buffer.syllables.Span.{Span}
 use Rattle.shapers_buffer.specs.declared.buffer.tag.Script.{Script}
 use Rattle.shapers_buffer.specs.Buffer.{Buffer, new_buffer}
@@ -26,7 +26,7 @@ use Rattle.shapers_universal.specs.UniversalCuts.{flagless_for, formless_for}
 use Rattle.shapers_universal.specs.UniversalSyllables.{all_forms, form_masks, forms_flagged, is_torn, mask_between, rphf_recorded, set_up_by_its_bytes, syllables_set_up, torn_pairs, with_form_masks, with_forms_flagged, with_instead, with_pref_recorded, with_rphf, with_rphf_recorded}
 
 -- a glyph whose fields are all set
-abbrev full : hb_glyph_info_t
+abbrev full : Glyph
 full = record {
   glyph_id = 0x916;
   mask = 0x3F;
@@ -47,7 +47,7 @@ abbrev no_forms : FormMasks
 no_forms = record { isol = 0; init = 0; medi = 0; fina = 0 }
 
 -- glyphs of these syllable bytes, and their masks
-abbrev of_byte : ℕ → hb_glyph_info_t
+abbrev of_byte : ℕ → Glyph
 of_byte byte = record default_glyph { syllable = byte }
 
 abbrev masks_in : FormMasks → List ℕ → List ℕ
@@ -105,8 +105,7 @@ torn = refl
 abbrev pairs_of : FormMasks → List ℕ → List (ℕ × ℕ)
 pairs_of masks bytes = torn_pairs masks false 0 (syllables (map of_byte bytes))
 
-pairs : pairs_of four (0x12 ∷ 0x12 ∷ 0x22 ∷ 0x38 ∷ 0x42 ∷ 0x52 ∷ 0x52 ∷ 0x62 ∷ [])
-    ≡ (0, 3) ∷ (4, 7) ∷ (5, 8) ∷ []
+pairs : pairs_of four (0x12 ∷ 0x12 ∷ 0x22 ∷ 0x38 ∷ 0x42 ∷ 0x52 ∷ 0x52 ∷ 0x62 ∷ []) ≡ (0, 3) ∷ (4, 7) ∷ (5, 8) ∷ []
 pairs = refl
 
 pairs_of_last : pairs_of last_only (0x12 ∷ 0x22 ∷ 0x32 ∷ []) ≡ (1, 3) ∷ []
@@ -129,7 +128,7 @@ masks_of_map : form_masks (map_of 0x40 (feature "fina" 0x80 ∷ feature "isol" 0
 masks_of_map = refl
 
 -- the mask of rphf: on a reph alone, else on three at most
-abbrev of_category : ℕ → hb_glyph_info_t
+abbrev of_category : ℕ → Glyph
 of_category category = record default_glyph { category = category; syllable = 0x12; mask = 8 }
 
 rphf_masks : map (λ categories. map (λ g. g.mask) (with_rphf 0x100 (map of_category categories)))
@@ -154,7 +153,7 @@ font = map_of 1 (feature "rphf" 0x100 ∷ feature "isol" 0x10 ∷ feature "init"
 abbrev script : String → Option Script
 script tag = Some (record { 0 = codes tag })
 
-abbrev at_cluster : ℕ → hb_glyph_info_t
+abbrev at_cluster : ℕ → Glyph
 at_cluster i = record default_glyph { cluster = i; category = 1 }
 
 abbrev five : Buffer
@@ -215,9 +214,8 @@ broken_by_bytes : map (λ byte. (by_bytes "Bali" ((0, byte) ∷ [])).broken) (0x
 broken_by_bytes = refl
 
 -- the records: four bases with the mask, the second put in by a lookup
-abbrev of_row : ℕ × ℕ → hb_glyph_info_t
-of_row row =
-    record default_glyph { mask = row.0; glyph_props = record { 0 = row.1 }; syllable = 0x12; category = 1 }
+abbrev of_row : ℕ × ℕ → Glyph
+of_row row = record default_glyph { mask = row.0; glyph_props = record { 0 = row.1 }; syllable = 0x12; category = 1 }
 
 abbrev recorded : Bool → List (ℕ × ℕ) → Buffer
 recorded pref rows =
@@ -243,8 +241,7 @@ without_mask = refl
 each_syllable : with_pref_recorded
     (record (new_buffer 9) { glyphs = full ∷ full ∷ record full { syllable = 0x34 } ∷ [] })
     ≡ record (new_buffer 9) {
-      glyphs = record full { category = 22 } ∷ full
-          ∷ record full { syllable = 0x34; category = 22 } ∷ [];
+      glyphs = record full { category = 22 } ∷ full ∷ record full { syllable = 0x34; category = 22 } ∷ [];
     }
 each_syllable = refl
 
@@ -258,14 +255,12 @@ joining : map (λ tag. joins_letters (script tag)) ("Adlm" ∷ "Arab" ∷ "Chrs"
 joining = refl
 
 not_joining : joins_letters None ∷ map (λ tag. joins_letters (script tag)) ("Bali" ∷ "Thai" ∷ "mong" ∷ "Sogo" ∷ "Syre"
-    ∷ [])
-    ≡ false ∷ false ∷ false ∷ false ∷ false ∷ false ∷ []
+    ∷ []) ≡ false ∷ false ∷ false ∷ false ∷ false ∷ false ∷ []
 not_joining = refl
 
 plans : universal_plan starts.AsCode breaks.AsCode (script "Mong") font
     ∷ universal_plan starts.AsCode breaks.AsCode (script "Bali") font ∷ universal_plan starts.AsCode breaks.AsCode None
-    font ∷ []
-    ≡ record { rphf_mask = 0x100; arabic_plan = Some (arabic_plan starts.AsCode breaks.AsCode font) }
+    font ∷ [] ≡ record { rphf_mask = 0x100; arabic_plan = Some (arabic_plan starts.AsCode breaks.AsCode font) }
     ∷ record { rphf_mask = 0x100; arabic_plan = None } ∷ record { rphf_mask = 0x100; arabic_plan = None } ∷ []
 plans = refl
 
@@ -279,8 +274,7 @@ joins c = if c == 0x180B then T else D
 
 abbrev mongolian : List ℕ → List ℕ → List ℕ
 mongolian before cs =
-    forms_of (script "Mong")
-    (text_of joins (λ c. Lo)
+    forms_of (script "Mong") (text_of joins (λ c. Lo)
     (record (new_buffer 9) {
       glyphs = map (λ c. categorized (λ d. 1) (record default_glyph { glyph_id = c; unicode_props = properties Lo 0 }))
           cs;
@@ -308,6 +302,5 @@ falling = refl
 
 -- a glyph without the masks of forms; with a plan of Arabic it stays
 formless : (formless_for None (map_of 0x40 (feature "fina" 0x80 ∷ feature "isol" 0x10 ∷ feature "medi" 0x40 ∷ []))
-    (record full { mask = 0xFFFFFFFF })).mask
-    ≡ 0xFFFFFF6F
+    (record full { mask = 0xFFFFFFFF })).mask ≡ 0xFFFFFF6F
 formless = refl

@@ -10,8 +10,8 @@ use Rattle.std.proofs.lemmas.List.Concat.{flat_map-append}
 use Rattle.std.proofs.lemmas.List.Elements.{All-append, All-drop, All-map, All-take}
 use Rattle.std.proofs.lemmas.Simd.{map-map}
 use Rattle.std.proofs.lemmas.Nat.{and_mod, and_or_apart, and_le_r, and_shr}
-use Rattle.std.proofs.lemmas.Nat.Bits.{bit_at-zero, bit_at_above, bit_at_and, bit_at_not, bit_at_or, same_from_bits}
-use Rattle.shapers_buffer.specs.declared.buffer.glyph.hb_glyph_info_t.{hb_glyph_info_t}
+use Rattle.std.proofs.lemmas.Nat.Bits.{bit_at_above, bit_at_and, bit_at_not, bit_at_or, same_from_bits}
+use Rattle.shapers_buffer.specs.Glyphs.{Glyph, Glyphs}
 use Rattle.shapers_buffer.specs.declared.buffer.syllables.Span.{Span}
 use Rattle.shapers_buffer.specs.Buffer.{Buffer}
 use Rattle.shapers_buffer.specs.Glyph.{clusters, without_flags}
@@ -23,7 +23,7 @@ use Rattle.shapers_base.specs.Map.{Map}
 use Rattle.shapers_base.specs.declared.plan.PlanData.{PlanData}
 use Rattle.shapers_base.specs.declared.plan.arabic.arabic_shape_plan_t.{arabic_shape_plan_t}
 use Rattle.shapers_base.specs.declared.plan.breaks.BreakFlags.{BreakFlags}
-use Rattle.shapers_base.specs.declared.plan.breaks.BreakFlags.TheVariants.{AsCode, Sound}
+use Rattle.shapers_base.specs.declared.plan.breaks.BreakFlags.TheVariants.{Sound}
 use Rattle.shapers_clusters.proofs.FlagCalls.{without_flags-or}
 use Rattle.shapers_syllabic.specs.Borders.{MeetAtBorder, SameButSerials, spans_set_up, unnumbered}
 use Rattle.shapers_syllabic.specs.ReorderingLaws.{with_mask_by}
@@ -43,19 +43,14 @@ bit_hidden : (y bits i : ℕ) → bit_at y i ≤ bit_at bits i → bits < 2 ^ 32
     ≡ bit_at 0 i
 bit_hidden y bits i among fits = elim (cases_lt i 32) [
   | inl low ↦
-      search (arith, bit_at_and y (0xFFFFFFFF - bits) i, bit_at_not w32 bits i fits low, bit_at-zero i)
+      search (arith, bit_at_and y (0xFFFFFFFF - bits) i, bit_at_not w32 bits i fits low)
   | inr high ↦
-      search (
-        arith,
-        bit_at_and y (0xFFFFFFFF - bits) i,
-        bit_at_above (0xFFFFFFFF - bits) 32 i (omega arith) high,
-        bit_at-zero i,
-      )
+      search (arith, bit_at_and y (0xFFFFFFFF - bits) i, bit_at_above (0xFFFFFFFF - bits) 32 i (omega arith) high)
 ]
 
 hidden : (y bits : ℕ) → ((i : ℕ) → bit_at y i ≤ bit_at bits i) → bit_and y (0xFFFFFFFF - bits) ≡ 0
 hidden y bits among = elim (cases_lt bits (2 ^ 32)) [
-  | inl fits ↦ search (arith, same_from_bits, bit_hidden)
+  | inl fits ↦ search (same_from_bits, bit_hidden)
   | inr over ↦
       search (arith, and_le_r)
 ]
@@ -77,8 +72,7 @@ bits_left bits mask n apart =
     ∙ same_from_bits (bit_and (bit_and n k) k) (bit_and n k) (λ i. search (arith, bit_at_and))
 
 -- glyphs in their form don't show it
-formed_hidden : (m : Map) (before behind : Bool) (gs : List hb_glyph_info_t)
-    → map (formless_for None m)
+formed_hidden : (m : Map) (before behind : Bool) (gs : Glyphs) → map (formless_for None m)
     (map (with_instead (all_forms (form_masks m)) (mask_between (form_masks m) before behind)) gs)
     ≡ map (formless_for None m) gs
 formed_hidden m before behind [] = refl
@@ -90,51 +84,47 @@ formed_hidden m before behind (g ∷ gs) =
       formed_hidden m before behind gs,
     )
 
-syllable_hidden : (m : Map) (before behind : Bool) (gs : List hb_glyph_info_t)
+syllable_hidden : (m : Map) (before behind : Bool) (gs : Glyphs)
     → map (formless_for None m) (formed (form_masks m) before behind gs) ≡ map (formless_for None m) gs
-syllable_hidden m before behind gs =
-    search (arith, formed_hidden m before behind gs)
+syllable_hidden m before behind gs = search (arith, formed_hidden m before behind gs)
 
-forms_hidden : (m : Map) (before : Bool) (syls : List (List hb_glyph_info_t))
+forms_hidden : (m : Map) (before : Bool) (syls : List Glyphs)
     → map (formless_for None m) (in_forms (form_masks m) before syls)
     ≡ map (formless_for None m) (flat_map (λ p. p) syls)
 forms_hidden m before [] = refl
-forms_hidden m before (syl ∷ syls) =
-    search (arith, map-append, syllable_hidden, forms_hidden m (joins_runs syl) syls)
+forms_hidden m before (syl ∷ syls) = search (map-append, syllable_hidden, forms_hidden m (joins_runs syl) syls)
 
-masks_hidden : (arabic : Option arabic_shape_plan_t) (m : Map) (gs : List hb_glyph_info_t)
+masks_hidden : (arabic : Option arabic_shape_plan_t) (m : Map) (gs : Glyphs)
     → map (formless_for arabic m) (with_forms_for arabic m gs) ≡ map (formless_for arabic m) gs
 masks_hidden (Some p) m gs = refl
-masks_hidden None m gs =
-    search (arith, forms_hidden, joined-syllables)
+masks_hidden None m gs = search (arith, forms_hidden, joined-syllables)
 
 -- what is set on a syllable, masks of forms apart
-set_on : Option arabic_shape_plan_t → Map → ℕ → List hb_glyph_info_t → List hb_glyph_info_t
+set_on : Option arabic_shape_plan_t → Map → ℕ → Glyphs → Glyphs
 set_on arabic m rphf gs = map (formless_for arabic m) (with_rphf rphf gs)
 
-map-flat : (f : hb_glyph_info_t → hb_glyph_info_t) (h : List hb_glyph_info_t → List hb_glyph_info_t)
-    (pieces : List (List hb_glyph_info_t)) → map f (flat_map h pieces) ≡ flat_map (λ p. map f (h p)) pieces
+map-flat : (f : Glyph → Glyph) (h : Glyphs → Glyphs)
+    (pieces : List Glyphs) → map f (flat_map h pieces) ≡ flat_map (λ p. map f (h p)) pieces
 map-flat f h [] = refl
-map-flat f h (p ∷ pieces) = search (arith, map-append, map-flat f h pieces)
+map-flat f h (p ∷ pieces) = search (map-append, map-flat f h pieces)
 
-set_on_each : (arabic : Option arabic_shape_plan_t) (m : Map) (rphf : ℕ) (gs : List hb_glyph_info_t)
+set_on_each : (arabic : Option arabic_shape_plan_t) (m : Map) (rphf : ℕ) (gs : Glyphs)
     → map (formless_for arabic m) (with_forms_for arabic m (flat_map (with_rphf rphf) (syllables gs)))
     ≡ flat_map (set_on arabic m rphf) (syllables gs)
 unfolding set_on
-set_on_each arabic m rphf gs = search (arith, masks_hidden, map-flat)
+set_on_each = search (masks_hidden, map-flat)
 
 -- it keeps the bytes of syllables, and doesn't read serials
-formless_keeps : (arabic : Option arabic_shape_plan_t) (m : Map) (byte : ℕ) (gs : List hb_glyph_info_t)
+formless_keeps : (arabic : Option arabic_shape_plan_t) (m : Map) (byte : ℕ) (gs : Glyphs)
     → All (λ g. g.syllable ≡ byte) gs → All (λ g. g.syllable ≡ byte) (map (formless_for arabic m) gs)
-formless_keeps (Some p) m byte gs h = search (arith, All-map)
-formless_keeps None m byte gs h = search (arith, All-map)
+formless_keeps (Some p) = search All-map
+formless_keeps None = search All-map
 
-rphf_keeps : (rphf byte : ℕ) (gs : List hb_glyph_info_t) → All (λ g. g.syllable ≡ byte) gs
+rphf_keeps : (rphf byte : ℕ) (gs : Glyphs) → All (λ g. g.syllable ≡ byte) gs
     → All (λ g. g.syllable ≡ byte) (with_rphf rphf gs)
-rphf_keeps rphf byte gs h =
-    search (arith, All-append, All-map, All-take, All-drop)
+rphf_keeps = search (All-append, All-map, All-take, All-drop)
 
-length-rphf : (rphf : ℕ) (gs : List hb_glyph_info_t) → length (with_rphf rphf gs) ≡ length gs
+length-rphf : (rphf : ℕ) (gs : Glyphs) → length (with_rphf rphf gs) ≡ length gs
 length-rphf rphf gs =
     let n = rphf_len gs in
     cc (
@@ -144,44 +134,42 @@ length-rphf rphf gs =
       take-append-drop n gs,
     )
 
-set_on_keeps : (arabic : Option arabic_shape_plan_t) (m : Map) (rphf byte : ℕ) (gs : List hb_glyph_info_t)
+set_on_keeps : (arabic : Option arabic_shape_plan_t) (m : Map) (rphf byte : ℕ) (gs : Glyphs)
     → OfByte byte gs → OfByte byte (set_on arabic m rphf gs)
 unfolding set_on
-set_on_keeps arabic m rphf byte gs h = search (arith, length-map, length-rphf, formless_keeps, rphf_keeps)
+set_on_keeps arabic m rphf byte gs h = search (length-map, length-rphf, formless_keeps, rphf_keeps)
 
-formless_same : (arabic : Option arabic_shape_plan_t) (m : Map) (gs : List hb_glyph_info_t)
+formless_same : (arabic : Option arabic_shape_plan_t) (m : Map) (gs : Glyphs)
     → map unnumbered (map (formless_for arabic m) gs) ≡ map (formless_for arabic m) (map unnumbered gs)
 formless_same arabic m [] = refl
 formless_same (Some p) m (g ∷ gs) = cc (formless_same (Some p) m gs)
 formless_same None m (g ∷ gs) = cc (formless_same None m gs)
 
-len_same : (gs : List hb_glyph_info_t) → rphf_len (map unnumbered gs) ≡ rphf_len gs
+len_same : (gs : Glyphs) → rphf_len (map unnumbered gs) ≡ rphf_len gs
 len_same [] = refl
 len_same (g ∷ gs) = search (arith, length-map)
 
-rphf_same : (rphf : ℕ) (gs : List hb_glyph_info_t) → map unnumbered (with_rphf rphf gs)
-    ≡ with_rphf rphf (map unnumbered gs)
-rphf_same rphf gs =
-    search (arith, map-append, map-seen, take-map, drop-map, len_same)
+rphf_same : (rphf : ℕ) (gs : Glyphs) → map unnumbered (with_rphf rphf gs) ≡ with_rphf rphf (map unnumbered gs)
+rphf_same = search (map-append, map-seen, take-map, drop-map, len_same)
 
 set_on_same : (arabic : Option arabic_shape_plan_t) (m : Map) (rphf : ℕ) → KeepsSame (set_on arabic m rphf)
 unfolding set_on
 set_on_same arabic m rphf gs hs same =
-    let told : (xs : List hb_glyph_info_t) → map unnumbered (map (formless_for arabic m) (with_rphf rphf xs)) ≡ map
+    let told : (xs : Glyphs) → map unnumbered (map (formless_for arabic m) (with_rphf rphf xs)) ≡ map
     (formless_for arabic m) (with_rphf rphf (map unnumbered xs)) = λ xs.
     formless_same arabic m (with_rphf rphf xs) ∙ ap (map (formless_for arabic m)) (rphf_same rphf xs) in
     cc (told gs, told hs)
 
 -- masks change no cluster
-clusters-formless : (arabic : Option arabic_shape_plan_t) (m : Map) (gs : List hb_glyph_info_t)
+clusters-formless : (arabic : Option arabic_shape_plan_t) (m : Map) (gs : Glyphs)
     → clusters (map (formless_for arabic m) gs) ≡ clusters gs
 clusters-formless arabic m [] = refl
 clusters-formless (Some p) m (g ∷ gs) = cc (clusters-formless (Some p) m gs)
 clusters-formless None m (g ∷ gs) = cc (clusters-formless None m gs)
 
-clusters-rphf : (rphf : ℕ) (gs : List hb_glyph_info_t) → clusters (with_rphf rphf gs) ≡ clusters gs
+clusters-rphf : (rphf : ℕ) (gs : Glyphs) → clusters (with_rphf rphf gs) ≡ clusters gs
 clusters-rphf rphf gs =
-    let cluster : hb_glyph_info_t → ℕ = λ g. g.cluster in
+    let cluster : Glyph → ℕ = λ g. g.cluster in
     let n = rphf_len gs in
     cc (
       map-append cluster (map (with_bits rphf) (take n gs)) (drop n gs),
@@ -190,14 +178,12 @@ clusters-rphf rphf gs =
       take-append-drop n gs,
     )
 
-clusters-flat : (f : List hb_glyph_info_t → List hb_glyph_info_t)
-    → ((gs : List hb_glyph_info_t) → clusters (f gs) ≡ clusters gs) → (pieces : List (List hb_glyph_info_t))
+clusters-flat : (f : Glyphs → Glyphs) → ((gs : Glyphs) → clusters (f gs) ≡ clusters gs) → (pieces : List Glyphs)
     → clusters (flat_map f pieces) ≡ clusters (flat_map (λ p. p) pieces)
 clusters-flat f same [] = refl
-clusters-flat f same (p ∷ pieces) =
-    search (arith, map-append, clusters-flat f same pieces)
+clusters-flat f same (p ∷ pieces) = search (arith, map-append, clusters-flat f same pieces)
 
-pub clusters-masks : (kept : PlanData) (m : Map) (gs : List hb_glyph_info_t) → clusters (with_syllable_masks kept m gs)
+pub clusters-masks : (kept : PlanData) (m : Map) (gs : Glyphs) → clusters (with_syllable_masks kept m gs)
     ≡ clusters gs
 clusters-masks kept m gs =
     let arabic = arabic_of kept in
@@ -212,9 +198,9 @@ clusters-masks kept m gs =
     )
 
 -- the halves, before the choice flags anything: masks of forms apart
-pub record FormlessHalves (kept : PlanData) (m : Map) (ss ts : List Span) (gs hs : List hb_glyph_info_t) (old new :
+pub record FormlessHalves (kept : PlanData) (m : Map) (ss ts : List Span) (gs hs : Glyphs) (old new :
     Buffer) : Type 0 where
-  pub behind : List hb_glyph_info_t
+  pub behind : Glyphs
   pub parts : map (formless_for (arabic_of kept) m) new.glyphs
       ≡ map (formless_for (arabic_of kept) m) (syllables_set_up kept m ss (record old { glyphs = gs })).glyphs ++ behind
   pub renumbered : SameButSerials behind (map (formless_for (arabic_of kept) m)
@@ -226,7 +212,7 @@ pub record FormlessHalves (kept : PlanData) (m : Map) (ss ts : List Span) (gs hs
       || (syllables_set_up kept m ts (record old { glyphs = hs })).broken)
 
 pub formless_cuts : (kept : PlanData) (m : Map) (spans : List Span) (old : Buffer)
-    → All (λ span. span.kind ≤ 15) spans → (ss ts : List Span) (gs hs : List hb_glyph_info_t) → spans ≡ ss ++ ts
+    → All (λ span. span.kind ≤ 15) spans → (ss ts : List Span) (gs hs : Glyphs) → spans ≡ ss ++ ts
     → old.glyphs ≡ gs ++ hs → spans_cover (length gs) ss ≡ true → spans_cover (length hs) ts ≡ true
     → FormlessHalves kept m ss ts gs hs old (syllables_set_up kept m spans old)
 formless_cuts kept m spans old kinds ss ts gs hs whole text first second =
@@ -236,7 +222,7 @@ formless_cuts kept m spans old kinds ss ts gs hs whole text first second =
     let front = (spans_set_up ss BROKEN_CLUSTER (record old { glyphs = gs })).glyphs in
     let back = (spans_set_up ts BROKEN_CLUSTER (record old { glyphs = hs })).glyphs in
     let keeps = set_on_keeps (arabic_of kept) m (rphf_of kept) in
-    let ends : (xs : List hb_glyph_info_t) → SameEnds (flat_map f (syllables xs)) xs =
+    let ends : (xs : Glyphs) → SameEnds (flat_map f (syllables xs)) xs =
     λ xs. subst (SameEnds (flat_map f (syllables xs))) (joined-syllables xs)
     (ends-kept f keeps (syllables xs) (syllables_cut xs)) in
     record {
@@ -265,22 +251,19 @@ flags-and a b =
     omega arith
 
 -- what the choice flags doesn't show
-flags_hidden : (arabic : Option arabic_shape_plan_t) (breaks : BreakFlags) (m : Map) (gs : List hb_glyph_info_t)
+flags_hidden : (arabic : Option arabic_shape_plan_t) (breaks : BreakFlags) (m : Map) (gs : Glyphs)
     → map (λ g. with_mask_by (flagless_for arabic breaks) (formless_for arabic m g)) (forms_flagged arabic breaks m gs)
     ≡ map (λ g. with_mask_by (flagless_for arabic breaks) (formless_for arabic m g)) gs
-flags_hidden (Some p) breaks m gs = refl
-flags_hidden None AsCode m gs = refl
-flags_hidden None Sound m gs = search (arith, map-forms_flagged, flags-and, without_flags-or)
+flags_hidden None Sound m gs = search (map-forms_flagged, flags-and, without_flags-or)
+flags_hidden _ _ m gs = refl
 
-view_by : (breaks : BreakFlags) (kept : PlanData) (m : Map) (gs : List hb_glyph_info_t)
+view_by : (breaks : BreakFlags) (kept : PlanData) (m : Map) (gs : Glyphs)
     → map (cut_view breaks kept m) (forms_flagged (arabic_of kept) breaks m gs)
     ≡ map (with_mask_by (flagless_for (arabic_of kept) breaks)) (map (formless_for (arabic_of kept) m) gs)
-view_by breaks kept m gs =
-    search (arith, flags_hidden, map-map)
+view_by = search (flags_hidden, map-map)
 
 pub universal_set_up_cuts : (breaks : BreakFlags) (kept : PlanData) (m : Map) (spans : List Span) (old : Buffer)
-    → All (λ span. span.kind ≤ 15) spans
-    → UniversalSetUpCutsAtSpans breaks kept m spans old
+    → All (λ span. span.kind ≤ 15) spans → UniversalSetUpCutsAtSpans breaks kept m spans old
     (with_forms_flagged breaks kept m (syllables_set_up kept m spans old))
 universal_set_up_cuts breaks kept m spans old kinds ss ts gs hs whole text first second =
     let cut = formless_cuts kept m spans old kinds ss ts gs hs whole text first second in

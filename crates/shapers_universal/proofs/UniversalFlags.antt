@@ -2,7 +2,7 @@
 use Rattle.std.proofs.Common.{arith}
 use Rattle.std.proofs.Common.{ℕ, ◌-◌, ◌%◌, ◌≤◌, ◌≡◌, bit_and, Bool, false, List, [], ◌∷◌, map, flat_map, take, drop}
 use Rattle.std.proofs.lemmas.List.{take-append-drop}
-use Rattle.shapers_buffer.specs.declared.buffer.glyph.hb_glyph_info_t.{hb_glyph_info_t}
+use Rattle.shapers_buffer.specs.Glyphs.{Glyphs}
 use Rattle.shapers_buffer.specs.GlyphFlags.{with_bits}
 use Rattle.shapers_buffer.specs.Syllables.{syllables}
 use Rattle.shapers_clusters.specs.FlagLaw.{FlagsAdded, OnlyFlagsAdded}
@@ -16,7 +16,7 @@ use Rattle.shapers_universal.specs.declared.ot_shaper_use.forms.FormMasks.{FormM
 
 -- syllables in their forms
 formed_added : (masks : FormMasks) (before behind : Bool) → all_forms masks % 8 ≡ 0 → all_forms masks ≤ 0xFFFFFFFF
-    → (gs : List hb_glyph_info_t) → OnlyFlagsAdded gs (formed masks before behind gs)
+    → (gs : Glyphs) → OnlyFlagsAdded gs (formed masks before behind gs)
 formed_added masks before behind off fits gs =
     let bits = all_forms masks in
     let mask = mask_between masks before behind in
@@ -24,23 +24,23 @@ formed_added masks before behind off fits gs =
       arith,
       changed_added (with_instead bits mask)
           (λ g. let h = record g { mask = bit_and g.mask (0xFFFFFFFF - bits) } in added_on g h (with_bits mask h)
-          (search (arith, flags_kept, flags-and)) (bits_added mask h)) gs,
+          (search (flags_kept, flags-and)) (bits_added mask h)) gs,
       same_added gs,
     )
 
 forms_added : (masks : FormMasks) (before : Bool) → all_forms masks % 8 ≡ 0 → all_forms masks ≤ 0xFFFFFFFF
-    → (syls : List (List hb_glyph_info_t)) → OnlyFlagsAdded (flat_map (λ syl. syl) syls) (in_forms masks before syls)
+    → (syls : List Glyphs) → OnlyFlagsAdded (flat_map (λ syl. syl) syls) (in_forms masks before syls)
 forms_added masks before off fits [] = tt
 forms_added masks before off fits (syl ∷ syls) =
-    search (arith, all_append, flat_map, formed_added, forms_added masks (joins_runs syl) off fits syls)
+    search (all_append, formed_added, forms_added masks (joins_runs syl) off fits syls)
 
 pub in_forms_added : (masks : FormMasks) → all_forms masks % 8 ≡ 0 → all_forms masks ≤ 0xFFFFFFFF
-    → (gs : List hb_glyph_info_t) → OnlyFlagsAdded gs (in_forms masks false (syllables gs))
+    → (gs : Glyphs) → OnlyFlagsAdded gs (in_forms masks false (syllables gs))
 in_forms_added masks off fits gs =
     search (arith, joined-syllables gs, forms_added masks false off fits (syllables gs))
 
 -- the mask of rphf
-rphf_syllable_added : (mask : ℕ) (gs : List hb_glyph_info_t) → OnlyFlagsAdded gs (with_rphf mask gs)
+rphf_syllable_added : (mask : ℕ) (gs : Glyphs) → OnlyFlagsAdded gs (with_rphf mask gs)
 rphf_syllable_added mask gs =
     let n = rphf_len gs in
     search (
@@ -50,6 +50,5 @@ rphf_syllable_added mask gs =
           (changed_added (with_bits mask) (bits_added mask) (take n gs)) (same_added (drop n gs)),
     )
 
-pub rphf_mask_added : (mask : ℕ) (gs : List hb_glyph_info_t)
-    → OnlyFlagsAdded gs (flat_map (with_rphf mask) (syllables gs))
-rphf_mask_added mask gs = search (arith, by_syllables, rphf_syllable_added)
+pub rphf_mask_added : (mask : ℕ) (gs : Glyphs) → OnlyFlagsAdded gs (flat_map (with_rphf mask) (syllables gs))
+rphf_mask_added = search (by_syllables, rphf_syllable_added)

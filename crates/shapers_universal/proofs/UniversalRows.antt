@@ -1,7 +1,7 @@
 -- The order of the universal shaper, computed on small syllables.
 use Rattle.std.specs.Prelude.{ℕ, suc, ◌≡◌, None, Some, Bool, true, false, not, filter, List, [], ◌∷◌, map, refl}
 use Rattle.std.specs.List.{range_with_len}
-use Rattle.shapers_buffer.specs.declared.buffer.glyph.hb_glyph_info_t.{hb_glyph_info_t}
+use Rattle.shapers_buffer.specs.Glyphs.{Glyph, Glyphs}
 use Rattle.shapers_buffer.specs.declared.buffer.level.BufferClusterLevel.TheVariants.{MonotoneGraphemes}
 use Rattle.shapers_buffer.specs.Glyph.{clusters, default_glyph}
 use Rattle.shapers_clusters.specs.Steps.{run_steps}
@@ -10,16 +10,16 @@ use Rattle.shapers_universal.specs.UniversalWalk.{may_reorder}
 use Rattle.shapers_universal.specs.Universal.{goes_front, is_universal_halant, reph_passes, is_reordered_in_universal, universal_order, universal_steps}
 
 -- glyphs of one syllable of kind 2 by their categories, numbered from 0 in clusters of their own
-abbrev from_place : ℕ → List ℕ → List hb_glyph_info_t
+abbrev from_place : ℕ → List ℕ → Glyphs
 from_place i [] = []
 from_place i (category ∷ categories) =
     record default_glyph { glyph_id = i; cluster = i; mask = 0x101; syllable = 0x12; category = category }
     ∷ from_place (suc i) categories
 
-abbrev syl : List ℕ → List hb_glyph_info_t
+abbrev syl : List ℕ → Glyphs
 syl categories = from_place 0 categories
 
-abbrev numbers : List hb_glyph_info_t → List ℕ
+abbrev numbers : Glyphs → List ℕ
 numbers gs = map (λ g. g.glyph_id) gs
 
 -- where the glyphs come from, and their clusters
@@ -64,7 +64,7 @@ kinds : map (λ k. is_reordered_in_universal (record default_glyph { syllable = 
     ∷ false ∷ false ∷ false ∷ true ∷ false ∷ false ∷ false ∷ []
 kinds = refl
 
-abbrev of_kind_9 : hb_glyph_info_t → hb_glyph_info_t
+abbrev of_kind_9 : Glyph → Glyph
 of_kind_9 g = record g { syllable = 0x19 }
 
 other_kind : universal_order (map of_kind_9 (syl (18 ∷ 1 ∷ 22 ∷ []))) ≡ map of_kind_9 (syl (18 ∷ 1 ∷ 22 ∷ []))
@@ -74,28 +74,27 @@ other_kind_steps : universal_steps (map of_kind_9 (syl (18 ∷ 1 ∷ 22 ∷ []))
 other_kind_steps = refl
 
 -- glyphs with all fields set: R B VPre, of which none changes
-abbrev full : ℕ → ℕ → hb_glyph_info_t
-full category comp =
-    record {
-      glyph_id = 7;
-      mask = 0x1003;
-      cluster = 5;
-      glyph_props = record { 0 = 0x70 };
-      lig_props = record { 0 = comp };
-      syllable = 0x22;
-      unicode_props = record { 0 = 0x09AC };
-      category = category;
-      auxiliary = 3;
-    }
+abbrev full : ℕ → ℕ → Glyph
+full category comp = record {
+  glyph_id = 7;
+  mask = 0x1003;
+  cluster = 5;
+  glyph_props = record { 0 = 0x70 };
+  lig_props = record { 0 = comp };
+  syllable = 0x22;
+  unicode_props = record { 0 = 0x09AC };
+  category = category;
+  auxiliary = 3;
+}
 
 fields_stay : universal_order (full 18 2 ∷ full 1 3 ∷ full 22 0 ∷ []) ≡ full 22 0 ∷ full 1 3 ∷ full 18 2 ∷ []
 fields_stay = refl
 
 -- each category from 0 to 55: what ends the run that a reph passes, which are halants, and what goes to the front
-abbrev of_category : ℕ → hb_glyph_info_t
+abbrev of_category : ℕ → Glyph
 of_category category = record default_glyph { category = category }
 
-abbrev that_pass : (hb_glyph_info_t → Bool) → List ℕ
+abbrev that_pass : (Glyph → Bool) → List ℕ
 that_pass test = filter (λ category. test (of_category category)) (range_with_len 0 57)
 
 not_passed : that_pass (λ g. not (reph_passes g)) ≡ 12 ∷ 22 ∷ 23 ∷ 24 ∷ 25 ∷ 26 ∷ 27 ∷ 28 ∷ 29 ∷ 30 ∷ 33 ∷ 34 ∷ 35 ∷ 37

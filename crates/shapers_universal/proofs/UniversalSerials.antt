@@ -1,7 +1,7 @@
 -- The order of a syllable reads neither serials nor masks, so a set-up and a pause directly after
 -- it may be cut between two spans.
 use Rattle.std.proofs.Common.{ℕ, ◌-◌, ◌≡◌, bit_and, List, [], ◌∷◌, ◌++◌, map, Option, None, Some, refl, sym, ◌∙◌, ap, subst, arith}
-use Rattle.shapers_buffer.specs.declared.buffer.glyph.hb_glyph_info_t.{hb_glyph_info_t}
+use Rattle.shapers_buffer.specs.Glyphs.{Glyph, Glyphs}
 use Rattle.shapers_buffer.specs.declared.buffer.level.BufferClusterLevel.{BufferClusterLevel}
 use Rattle.shapers_buffer.specs.Glyph.{clusters, order_view, without_flags}
 use Rattle.shapers_base.specs.Map.{Map}
@@ -51,43 +51,39 @@ formless_all None m = refl
 formless_all (Some p) m = refl
 
 keeps_flags : (arabic : Option arabic_shape_plan_t) (m : Map) → MaskKeepsFlags (without_forms arabic m)
-keeps_flags None m mask = search (arith, flags-and)
+keeps_flags None m mask = search flags-and
 keeps_flags (Some p) m mask = refl
 
 -- glyph flags don't show in what a pause makes
-abbrev flagless : hb_glyph_info_t → hb_glyph_info_t
+abbrev flagless : Glyph → Glyph
 flagless = with_mask_by without_flags
 
-view-flagless : (gs : List hb_glyph_info_t) → order_view (map flagless gs) ≡ order_view gs
+view-flagless : (gs : Glyphs) → order_view (map flagless gs) ≡ order_view gs
 view-flagless [] = refl
-view-flagless (g ∷ gs) =
-    cc (without_flags-twice g.mask, view-flagless gs)
+view-flagless (g ∷ gs) = cc (without_flags-twice g.mask, view-flagless gs)
 
-opened_view : (circles : Option DottedCircles) (gs hs : List hb_glyph_info_t) → map flagless gs ≡ map flagless hs
+opened_view : (circles : Option DottedCircles) (gs hs : Glyphs) → map flagless gs ≡ map flagless hs
     → order_view (circled circles gs) ≡ order_view (circled circles hs)
 opened_view circles gs hs alike =
-    let told : (xs : List hb_glyph_info_t) → order_view (circled circles (map flagless xs)) ≡ order_view (circled
+    let told : (xs : Glyphs) → order_view (circled circles (map flagless xs)) ≡ order_view (circled
     circles xs) = λ xs. ap order_view (circled-by without_flags circles xs) ∙ view-flagless (circled circles xs) in
     cc (told gs, told hs)
 
-opened_clusters : (circles : Option DottedCircles) (gs hs : List hb_glyph_info_t) → map flagless gs ≡ map flagless hs
+opened_clusters : (circles : Option DottedCircles) (gs hs : Glyphs) → map flagless gs ≡ map flagless hs
     → clusters (circled circles gs) ≡ clusters (circled circles hs)
 opened_clusters circles gs hs alike =
-    let told : (xs : List hb_glyph_info_t) → clusters (circled circles (map flagless xs)) ≡ clusters (circled circles
+    let told : (xs : Glyphs) → clusters (circled circles (map flagless xs)) ≡ clusters (circled circles
     xs) = λ xs. ap clusters (circled-by without_flags circles xs) ∙ clusters-by without_flags (circled circles xs) in
     cc (told gs, told hs)
 
-order_alike : (circles : Option DottedCircles) (meaning : List hb_glyph_info_t → List hb_glyph_info_t)
-    (gs hs : List hb_glyph_info_t) → map flagless gs ≡ map flagless hs → paused_order circles meaning gs
-    ≡ paused_order circles meaning hs
-order_alike circles meaning gs hs alike = search (arith, opened_view)
+order_alike : (circles : Option DottedCircles) (meaning : Glyphs → Glyphs) (gs hs : Glyphs)
+    → map flagless gs ≡ map flagless hs → paused_order circles meaning gs ≡ paused_order circles meaning hs
+order_alike = search (arith, opened_view)
 
-clusters_alike : (circles : Option DottedCircles) (steps : List hb_glyph_info_t
-    → List Step) (level : BufferClusterLevel)
-    (gs hs : List hb_glyph_info_t) → map flagless gs ≡ map flagless hs → paused_clusters circles steps level gs
+clusters_alike : (circles : Option DottedCircles) (steps : Glyphs → List Step) (level : BufferClusterLevel)
+    (gs hs : Glyphs) → map flagless gs ≡ map flagless hs → paused_clusters circles steps level gs
     ≡ paused_clusters circles steps level hs
-clusters_alike circles steps level gs hs alike =
-    search (arith, opened_view, opened_clusters)
+clusters_alike = search (arith, opened_view, opened_clusters)
 
 pub universal_cuts_between_spans : UniversalCutsBetweenSpans
 universal_cuts_between_spans breaks kept m circles spans old new kinds done ss ts gs hs xs ys split text first second
@@ -105,18 +101,17 @@ universal_cuts_between_spans breaks kept m circles spans old new kinds done ss t
     (without_flags-or g.mask 3 refl)) (arabic_of kept) breaks m whole in
     let parts : SetUpParts f gs hs whole front back = record {
       behind = cut.behind;
-      parts = ap (λ (h : hb_glyph_info_t → hb_glyph_info_t). map h whole) (sym is) ∙ cut.parts
-          ∙ ap (λ (h : hb_glyph_info_t → hb_glyph_info_t). map h front ++ cut.behind) is;
-      renumbered = subst (λ (h : hb_glyph_info_t → hb_glyph_info_t). SameButSerials cut.behind (map h back)) is
-          cut.renumbered;
-      border = subst (λ (h : hb_glyph_info_t → hb_glyph_info_t). MeetAtBorder (map h front) cut.behind) is cut.border;
+      parts = ap (λ (h : Glyph → Glyph). map h whole) (sym is) ∙ cut.parts
+          ∙ ap (λ (h : Glyph → Glyph). map h front ++ cut.behind) is;
+      renumbered = subst (λ (h : Glyph → Glyph). SameButSerials cut.behind (map h back)) is cut.renumbered;
+      border = subst (λ (h : Glyph → Glyph). MeetAtBorder (map h front) cut.behind) is cut.border;
       first = clusters-masks kept m (spans_set_up ss BROKEN_CLUSTER (record old { glyphs = gs })).glyphs
           ∙ clusters-set_up ss BROKEN_CLUSTER (record old { glyphs = gs });
       both = clusters-masks kept m (spans_set_up spans BROKEN_CLUSTER old).glyphs
           ∙ clusters-set_up spans BROKEN_CLUSTER old ∙ ap clusters text;
     } in
     let read = universal_reads_no_masks in
-    subst (λ (h : hb_glyph_info_t → hb_glyph_info_t). HalvesJoined (λ g. unnumbered (h g))
+    subst (λ (h : Glyph → Glyph). HalvesJoined (λ g. unnumbered (h g))
     (paused_order circles universal_order) (paused_clusters circles universal_steps old.level) gs hs xs ys
     new.glyphs) (sym is)
     (joined_halves f (keeps_flags (arabic_of kept) m) circles universal_order universal_steps old.level universal_laws

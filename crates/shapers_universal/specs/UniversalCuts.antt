@@ -1,7 +1,7 @@
 -- The set-up of syllables in the universal shaper, cut between two spans. The form of a syllable
 -- depends on its neighbours, so masks of forms are left out, and with Sound the flags by them.
 use Rattle.std.specs.Prelude.{ℕ, ◌-◌, bit_and, List, map, Option, None, Some}
-use Rattle.shapers_buffer.specs.declared.buffer.glyph.hb_glyph_info_t.{hb_glyph_info_t}
+use Rattle.shapers_buffer.specs.Glyphs.{Glyph, Glyphs}
 use Rattle.shapers_buffer.specs.declared.buffer.syllables.Span.{Span}
 use Rattle.shapers_buffer.specs.Buffer.{Buffer}
 use Rattle.shapers_buffer.specs.Glyph.{without_flags}
@@ -18,7 +18,7 @@ use Rattle.shapers_universal.specs.PlanData.{arabic_of}
 use Rattle.shapers_universal.specs.UniversalSyllables.{all_forms, form_masks, forms_flagged, with_syllable_masks}
 
 -- the glyph without the masks of forms; with a plan of Arabic there are none
-abbrev pub formless_for : Option arabic_shape_plan_t → Map → hb_glyph_info_t → hb_glyph_info_t
+abbrev pub formless_for : Option arabic_shape_plan_t → Map → Glyph → Glyph
 formless_for None m g = record g { mask = bit_and g.mask (0xFFFFFFFF - all_forms (form_masks m)) }
 formless_for (Some p) m g = g
 
@@ -29,13 +29,13 @@ flagless_for None AsCode mask = mask
 flagless_for None Sound mask = without_flags mask
 
 -- so a glyph, without the masks of forms
-abbrev pub cut_view : BreakFlags → PlanData → Map → hb_glyph_info_t → hb_glyph_info_t
+abbrev pub cut_view : BreakFlags → PlanData → Map → Glyph → Glyph
 cut_view breaks kept m g =
     with_mask_by (flagless_for (arabic_of kept) breaks) (formless_for (arabic_of kept) m g)
 
 -- what spans set up of glyphs, as far as this view shows it
-abbrev pub formless_set_up : BreakFlags → PlanData → Map → List Span → List hb_glyph_info_t →
-    List hb_glyph_info_t
+abbrev pub formless_set_up : BreakFlags → PlanData → Map → List Span → Glyphs →
+    Glyphs
 formless_set_up breaks kept m spans gs =
     let set_up = with_syllable_masks kept m (unsafe_spans spans gs) in
     map (cut_view breaks kept m) (forms_flagged (arabic_of kept) breaks m set_up)

@@ -1,6 +1,6 @@
 -- Laws of the order of a syllable in the universal shaper, as statements.
 use Rattle.std.specs.Prelude.{◌≤◌, List, Option, All}
-use Rattle.shapers_buffer.specs.declared.buffer.glyph.hb_glyph_info_t.{hb_glyph_info_t}
+use Rattle.shapers_buffer.specs.Glyphs.{Glyph, Glyphs}
 use Rattle.shapers_buffer.specs.declared.buffer.syllables.Span.{Span}
 use Rattle.shapers_buffer.specs.Buffer.{Buffer}
 use Rattle.shapers_base.specs.Map.{Map}
@@ -34,12 +34,12 @@ abbrev pub UniversalReadsNoMasks : Type 0
 UniversalReadsNoMasks = ReadsNoMasks universal_order universal_steps
 
 -- the glyphs that spans set up: bytes, no break inside them, the masks of rphf and of forms
-abbrev pub set_up_by_spans : PlanData → Map → List Span → List hb_glyph_info_t →
-    List hb_glyph_info_t
+abbrev pub set_up_by_spans : PlanData → Map → List Span → Glyphs →
+    Glyphs
 set_up_by_spans kept m spans gs = with_syllable_masks kept m (unsafe_spans spans gs)
 
 -- the glyph without what differs between a text and its halves: serial and masks of forms
-abbrev pub without_serial_or_forms : PlanData → Map → hb_glyph_info_t → hb_glyph_info_t
+abbrev pub without_serial_or_forms : PlanData → Map → Glyph → Glyph
 without_serial_or_forms kept m g = unnumbered (formless_for (arabic_of kept) m g)
 
 -- A set-up and a reordering pause directly after it may be cut between any two spans.

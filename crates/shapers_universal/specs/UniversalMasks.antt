@@ -1,6 +1,6 @@
 -- The masks and categories of the universal shaper.
-use Rattle.std.specs.Prelude.{ℕ, ◌≡◌, List, map, Option, None, Some}
-use Rattle.shapers_buffer.specs.declared.buffer.glyph.hb_glyph_info_t.{hb_glyph_info_t}
+use Rattle.std.specs.Prelude.{ℕ, ◌≡◌, map, Option, None, Some}
+use Rattle.shapers_buffer.specs.Glyphs.{Glyph, Glyphs}
 use Rattle.shapers_buffer.specs.declared.buffer.tag.Script.{Script}
 use Rattle.shapers_base.specs.Font.{CharacterTables}
 use Rattle.shapers_base.specs.declared.plan.arabic.arabic_shape_plan_t.{arabic_shape_plan_t}
@@ -10,7 +10,7 @@ use Rattle.shapers_arabic.specs.FirstPiece.{FirstKeepsAsFlagged}
 use Rattle.shapers_arabic.specs.JoinedText.{AreCharacters, CutsAsHalves, buffer_joined}
 
 -- the glyph with the category that the tables give its character
-abbrev pub categorized : (ℕ → ℕ) → hb_glyph_info_t → hb_glyph_info_t
+abbrev pub categorized : (ℕ → ℕ) → Glyph → Glyph
 categorized universal g = record g { category = universal g.glyph_id }
 
 -- the buffer with the categories of the tables
@@ -18,7 +18,7 @@ abbrev pub with_categories : CharacterTables → Buffer → Buffer
 with_categories tables b = record b { glyphs = map (categorized tables.universal) b.glyphs }
 
 -- where letters join, the glyphs are characters
-abbrev pub CanJoin : Option arabic_shape_plan_t → List hb_glyph_info_t → Type 0
+abbrev pub CanJoin : Option arabic_shape_plan_t → Glyphs → Type 0
 CanJoin None gs = Unit {0}
 CanJoin (Some p) gs = AreCharacters gs
 

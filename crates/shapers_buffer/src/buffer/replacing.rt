@@ -1,7 +1,8 @@
 //! Other glyphs for the buffer's, texts rewritten, and glyphs copied with their positions.
-ghost use Rattle.std.specs.Prelude.{◌≡◌, ◌<◌, ◌≤◌, List, [], length, vec_capacity, OnOk, OnErr};
+ghost use Rattle.std.specs.Prelude.{◌≡◌, ◌<◌, ◌≤◌, [], length, vec_capacity, OnOk, OnErr};
 ghost use Rattle.shapers_buffer.specs.Buffer.{copied_to};
 ghost use Rattle.shapers_buffer.specs.Refusals.{RefusesLength};
+ghost use Rattle.shapers_buffer.specs.Glyphs.{Glyphs};
 
 use super::glyph::hb_glyph_info_t;
 use super::hb_buffer_t;
@@ -13,9 +14,9 @@ use std::mem;
 pub trait GlyphRewriting {
     ghost use Rattle.shapers_buffer.specs.declared.buffer.glyph.hb_glyph_info_t.{hb_glyph_info_t};
 
-    ghost can_rewrite: { Self → List hb_glyph_info_t → Type 0 };
+    ghost can_rewrite: { Self → Glyphs → Type 0 };
 
-    ghost rewrites: { Self → List hb_glyph_info_t → List hb_glyph_info_t };
+    ghost rewrites: { Self → Glyphs → Glyphs };
 
     /// Writes what these glyphs become to an empty list, which has room for it.
     fn rewrite(&self, glyphs: &mut [hb_glyph_info_t], to: &mut Vec<hb_glyph_info_t>)

@@ -2,6 +2,7 @@
 ghost use Rattle.std.specs.Prelude.{◌≡◌, ◌<◌, ◌≤◌, List, length, map};
 ghost use Rattle.std.specs.Fn.{FnOnceReturnsAtMut};
 ghost use Rattle.shapers_buffer.specs.Clusters.{with_stretch};
+ghost use Rattle.shapers_buffer.specs.Glyphs.{Glyphs};
 
 use super::glyph::{GlyphPosition, hb_glyph_info_t};
 use super::hb_buffer_t;
@@ -21,9 +22,9 @@ pub trait GlyphChange {
 pub trait GlyphWalk {
     ghost use Rattle.shapers_buffer.specs.declared.buffer.glyph.hb_glyph_info_t.{hb_glyph_info_t};
 
-    ghost can_walk: { Self → List hb_glyph_info_t → Type 0 };
+    ghost can_walk: { Self → Glyphs → Type 0 };
 
-    ghost walks: { Self → Self → List hb_glyph_info_t → List hb_glyph_info_t → Type 0 };
+    ghost walks: { Self → Self → Glyphs → Glyphs → Type 0 };
 
     /// Walks over the glyphs.
     fn walk(&mut self, glyphs: &mut [hb_glyph_info_t])
@@ -36,10 +37,10 @@ pub trait PositionedWalk {
     ghost use Rattle.shapers_buffer.specs.declared.buffer.glyph.GlyphPosition.{GlyphPosition};
     ghost use Rattle.shapers_buffer.specs.declared.buffer.glyph.hb_glyph_info_t.{hb_glyph_info_t};
 
-    ghost can_walk: { Self → List hb_glyph_info_t → List GlyphPosition → Type 0 };
+    ghost can_walk: { Self → Glyphs → List GlyphPosition → Type 0 };
 
-    ghost walks: { Self → List hb_glyph_info_t → List GlyphPosition
-        → List hb_glyph_info_t → List GlyphPosition → Type 0 };
+    ghost walks: { Self → Glyphs → List GlyphPosition
+        → Glyphs → List GlyphPosition → Type 0 };
 
     /// Walks over the glyphs and their positions.
     fn walk(&self, glyphs: &mut [hb_glyph_info_t], positions: &mut [GlyphPosition])

@@ -1,9 +1,9 @@
 -- The search for the base changes nothing that is carried along, and the base lies in the syllable or at its end.
-use Rattle.std.proofs.Common.{ℕ, ◌+◌, ◌-◌, ◌<◌, ◌≤◌, ◌≡◌, ◌==◌, Bool, true, false, if◌then◌else◌, List, [], ◌∷◌, ◌++◌, map, length, take, drop, length-drop, reverse, Option, None, Some, refl, sym, ◌∙◌, ap, arith}
+use Rattle.std.proofs.Common.{ℕ, ◌+◌, ◌-◌, ◌<◌, ◌≤◌, ◌≡◌, ◌==◌, Bool, true, false, if◌then◌else◌, [], ◌∷◌, ◌++◌, map, length, take, drop, length-drop, reverse, Option, None, Some, refl, sym, ◌∙◌, ap, arith}
 use Rattle.std.specs.Prelude.{find, unwrap_or, is_some, ◌&&◌}
 use Rattle.std.specs.Option.{option_map_or}
 use Rattle.std.proofs.lemmas.List.{map-append, take-append-drop}
-use Rattle.shapers_buffer.specs.declared.buffer.glyph.hb_glyph_info_t.{hb_glyph_info_t}
+use Rattle.shapers_buffer.specs.Glyphs.{Glyph, Glyphs}
 use Rattle.shapers_buffer.specs.declared.buffer.tag.Script.{Script}
 use Rattle.shapers_buffer.specs.Glyph.{at_position}
 use Rattle.shapers_buffer.specs.Properties.{LIGATED, MULTIPLIED, without_mark}
@@ -23,27 +23,27 @@ use Rattle.shapers_syllabic.specs.Reordering.{carried}
 use Rattle.shapers_indic.proofs.PlaceSearch.{PlaceWithin, greatest_within, least_within}
 
 -- viramas
-hidden-recovered : (v : Option GlyphId) (g : hb_glyph_info_t) → carried (recovered v g) ≡ carried g
+hidden-recovered : (v : Option GlyphId) (g : Glyph) → carried (recovered v g) ≡ carried g
 hidden-recovered v g =
     let props = without_mark MULTIPLIED (without_mark LIGATED g.glyph_props) in
     elim (is_lost_virama v g) as (λ b. carried (if b then record g { category = OT_H; glyph_props = props } else g)
     ≡ carried g) [ true ↦ refl | false ↦ refl ]
 
-pub hidden-viramas : (r : Rules) (gs : List hb_glyph_info_t) → map carried (with_viramas r gs) ≡ map carried gs
+pub hidden-viramas : (r : Rules) (gs : Glyphs) → map carried (with_viramas r gs) ≡ map carried gs
 hidden-viramas r [] = refl
 hidden-viramas r (g ∷ gs) = ap (λ x. x ∷ map carried (with_viramas r gs)) (hidden-recovered r.virama g)
     ∙ ap (λ xs. carried g ∷ xs) (hidden-viramas r gs)
 
 -- positions
-hidden-positions : (p : ℕ) (gs : List hb_glyph_info_t) → map carried (map (at_position p) gs) ≡ map carried gs
+hidden-positions : (p : ℕ) (gs : Glyphs) → map carried (map (at_position p) gs) ≡ map carried gs
 hidden-positions p [] = refl
 hidden-positions p (g ∷ gs) = ap (λ xs. carried g ∷ xs) (hidden-positions p gs)
 
-hidden-base_at : (i : ℕ) (gs : List hb_glyph_info_t) → map carried (with_base_at i gs) ≡ map carried gs
+hidden-base_at : (i : ℕ) (gs : Glyphs) → map carried (with_base_at i gs) ≡ map carried gs
 hidden-base_at i gs =
     map-with_stretch carried i (i + 1) (map (at_position POS_BASE_C)) gs (omega arith) (hidden-positions POS_BASE_C)
 
-pub hidden-pref_base : (pref base : ℕ) (gs : List hb_glyph_info_t) → map carried (with_pref_base pref base gs)
+pub hidden-pref_base : (pref base : ℕ) (gs : Glyphs) → map carried (with_pref_base pref base gs)
     ≡ map carried gs
 hidden-pref_base pref base gs =
     elim (is_some (unformed_pref pref base gs)) as (λ b. map carried
@@ -52,12 +52,12 @@ hidden-pref_base pref base gs =
       | false ↦ refl
     ]
 
-hidden-as_linked : (g : hb_glyph_info_t) → carried (as_linked g) ≡ carried g
+hidden-as_linked : (g : Glyph) → carried (as_linked g) ≡ carried g
 hidden-as_linked g =
     elim (is_unformed_below g) as (λ b. carried (if b then at_position POS_BASE_C g else g) ≡ carried g)
     [ true ↦ refl | false ↦ refl ]
 
-hidden-along : (halant : Bool) (gs : List hb_glyph_info_t) → map carried (along_links as_linked halant gs)
+hidden-along : (halant : Bool) (gs : Glyphs) → map carried (along_links as_linked halant gs)
     ≡ map carried gs
 hidden-along true [] = refl
 hidden-along false [] = refl
@@ -81,7 +81,7 @@ hidden-along true (g ∷ gs) =
           ∙ ap (λ xs. carried g ∷ xs) (hidden-along false gs)
     ]
 
-hidden-written : (base : ℕ) (gs : List hb_glyph_info_t) → map carried (links_written base gs) ≡ map carried gs
+hidden-written : (base : ℕ) (gs : Glyphs) → map carried (links_written base gs) ≡ map carried gs
 hidden-written base gs =
     let a = take (base + 1) gs in
     let c = drop (base + 1) gs in
@@ -90,7 +90,7 @@ hidden-written base gs =
     ∙ sym (map-append carried a c)
     ∙ ap (map carried) (take-append-drop (base + 1) gs)
 
-pub hidden-links : (script : Option Script) (base : ℕ) (gs : List hb_glyph_info_t)
+pub hidden-links : (script : Option Script) (base : ℕ) (gs : Glyphs)
     → map carried (with_links script base gs) ≡ map carried gs
 hidden-links script base gs =
     elim (is_malayalam script) as (λ b. map carried (if b then links_written base gs else gs) ≡ map carried gs) [
@@ -98,7 +98,7 @@ hidden-links script base gs =
       | false ↦ refl
     ]
 
-pub hidden-based : (r : Rules) (script : Option Script) (gs : List hb_glyph_info_t)
+pub hidden-based : (r : Rules) (script : Option Script) (gs : Glyphs)
     → map carried (with_final_base r script gs).glyphs ≡ map carried gs
 hidden-based r script gs =
     let first = first_base gs in
@@ -106,20 +106,20 @@ hidden-based r script gs =
     ∙ hidden-pref_base r.pref first gs
 
 -- the base
-or_length : (gs : List hb_glyph_info_t) (o : Option ℕ) → ((j : ℕ) → o ≡ Some j → PlaceWithin 0 (length gs) j)
+or_length : (gs : Glyphs) (o : Option ℕ) → ((j : ℕ) → o ≡ Some j → PlaceWithin 0 (length gs) j)
     → unwrap_or o (length gs) ≤ length gs
 or_length gs None within = omega arith
 or_length gs (Some j) within = let k = within j refl in omega (arith, k.high)
 
-first_within : (gs : List hb_glyph_info_t) → first_base gs ≤ length gs
+first_within : (gs : Glyphs) → first_base gs ≤ length gs
 first_within gs =
     or_length gs (least_place (passes is_from_base_on gs) 0 (length gs))
     (λ j found. least_within (passes is_from_base_on gs) 0 (length gs) j found)
 
-behind_within : (gs : List hb_glyph_info_t) (i : ℕ) → i < length gs → behind_halants gs i ≤ length gs
+behind_within : (gs : Glyphs) (i : ℕ) → i < length gs → behind_halants gs i ≤ length gs
 behind_within gs i l = let rest = run_within is_indic_halant (drop i gs) in omega (arith, length-drop i gs)
 
-by_pref_from : (base : ℕ) (gs : List hb_glyph_info_t) (o : Option ℕ) → base ≤ length gs
+by_pref_from : (base : ℕ) (gs : Glyphs) (o : Option ℕ) → base ≤ length gs
     → ((j : ℕ) → o ≡ Some j → j < length gs) → option_map_or (behind_halants gs) (if_unformed gs o) base ≤ length gs
 by_pref_from base gs None l within = l
 by_pref_from base gs (Some j) l within =
@@ -129,7 +129,7 @@ by_pref_from base gs (Some j) l within =
       | false ↦ l
     ]
 
-by_pref_within : (pref base : ℕ) (gs : List hb_glyph_info_t) → base ≤ length gs → base_by_pref pref base gs ≤ length gs
+by_pref_within : (pref base : ℕ) (gs : Glyphs) → base ≤ length gs → base_by_pref pref base gs ≤ length gs
 by_pref_within pref base gs l =
     by_pref_from base gs (pref_place pref base gs) l
     (λ j found. (least_within (passes (has_bits pref) gs) (base + 1) (length gs) j found).high)
@@ -138,7 +138,7 @@ or_base : (base n : ℕ) (o : Option ℕ) → base ≤ n → ((j : ℕ) → o �
 or_base base n None l within = l
 or_base base n (Some j) l within = let k = within j refl in omega (arith, k)
 
-by_links_within : (script : Option Script) (base : ℕ) (gs : List hb_glyph_info_t) → base ≤ length gs
+by_links_within : (script : Option Script) (base : ℕ) (gs : Glyphs) → base ≤ length gs
     → base_by_links script base gs ≤ length gs
 by_links_within script base gs l =
     let links = reverse (links_from false (base + 1) (drop (base + 1) gs)) in
@@ -149,11 +149,11 @@ by_links_within script base gs l =
       | false ↦ l
     ]
 
-back_within : (base : ℕ) (gs : List hb_glyph_info_t) → stepped_back base gs ≤ base
+back_within : (base : ℕ) (gs : Glyphs) → stepped_back base gs ≤ base
 back_within base gs = elim (passes is_behind_base gs base) as (λ b. (if b then base - 1 else base) ≤ base)
     [ true ↦ omega arith | false ↦ omega arith ]
 
-joiner_within : (base : ℕ) (gs : List hb_glyph_info_t) → before_joiner base gs ≤ base
+joiner_within : (base : ℕ) (gs : Glyphs) → before_joiner base gs ≤ base
 joiner_within base gs =
     elim (base == length gs && passes (is_one_of (OT_ZWJ ∷ [])) gs (base - 1)) as (λ b. (if b then base - 1 else base)
     ≤ base) [ true ↦ omega arith | false ↦ omega arith ]
@@ -162,7 +162,7 @@ or_start : (base : ℕ) (o : Option ℕ) → ((j : ℕ) → o ≡ Some j → Pla
 or_start base None within = omega arith
 or_start base (Some j) within = let k = within j refl in omega (arith, k.high)
 
-halants_within : (base : ℕ) (gs : List hb_glyph_info_t) → before_halants base gs ≤ base
+halants_within : (base : ℕ) (gs : Glyphs) → before_halants base gs ≤ base
 halants_within base gs =
     elim (base == length gs) as (λ b.
     (if b then base else unwrap_or (greatest_place (passes may_be_settled gs) 1 (base + 1)) 0) ≤ base) [
@@ -171,7 +171,7 @@ halants_within base gs =
           (λ j found. greatest_within (passes may_be_settled gs) 1 (base + 1) j found)
     ]
 
-pub base_within : (r : Rules) (script : Option Script) (gs : List hb_glyph_info_t) → (with_final_base r script gs).base
+pub base_within : (r : Rules) (script : Option Script) (gs : Glyphs) → (with_final_base r script gs).base
     ≤ length (with_final_base r script gs).glyphs
 base_within r script gs =
     let first = first_base gs in

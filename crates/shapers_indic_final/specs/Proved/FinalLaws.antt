@@ -1,5 +1,5 @@
 -- The laws of the final reordering of a syllable: its steps fit it, take each place once, and lead to the order.
-use Rattle.std.proofs.Common.{map, ℕ, suc, ◌+◌, ◌-◌, ◌<◌, ◌≤◌, ◌≡◌, ◌==◌, not, Bool, true, false, cond, if◌then◌else◌, List, [], ◌∷◌, ◌++◌, length, take, drop, take-suc, take-append-drop, append_assoc, append-nil, length-drop, get_or, Option, None, Some, refl, sym, ◌∙◌, ap, subst, arith, inl, inr}
+use Rattle.std.proofs.Common.{map, ℕ, suc, ◌+◌, ◌-◌, ◌<◌, ◌≤◌, ◌≡◌, ◌==◌, not, Bool, true, false, cond, if◌then◌else◌, [], ◌∷◌, ◌++◌, length, take, drop, take-suc, take-append-drop, append_assoc, append-nil, length-drop, get_or, Option, None, Some, refl, sym, ◌∙◌, ap, subst, arith, inl, inr}
 use Rattle.std.specs.Prelude.{filter, nat_lt, unwrap_or}
 use Rattle.std.specs.List.{AllByRecursion, range_with_len}
 use Rattle.std.specs.List.Sorted.{IsPermutation}
@@ -7,7 +7,7 @@ use Rattle.std.proofs.lemmas.Bool.{and_parts, cases_Bool}
 use Rattle.std.proofs.lemmas.Bool.Decides.{nat_tests}
 use Rattle.std.proofs.lemmas.List.Elements.{filter-append}
 use Rattle.std.proofs.lemmas.List.Sorted.{IsPermutation-refl}
-use Rattle.shapers_buffer.specs.declared.buffer.glyph.hb_glyph_info_t.{hb_glyph_info_t}
+use Rattle.shapers_buffer.specs.Glyphs.{Glyphs}
 use Rattle.shapers_buffer.specs.declared.buffer.tag.Script.{Script}
 use Rattle.shapers_buffer.specs.Lists.{first_last}
 use Rattle.shapers_buffer.specs.Clusters.{with_stretch}
@@ -37,7 +37,7 @@ use Rattle.shapers_indic.proofs.PlaceSearch.{passes_there, PlaceWithin, greatest
 use Rattle.shapers_clusters.proofs.Permuted.{permuted-first_last}
 
 -- the left matras go to a place
-parting_at : (gs : List hb_glyph_info_t) (p e : ℕ) → p < length gs → passes is_left gs p ≡ false → e ≤ length gs
+parting_at : (gs : Glyphs) (p e : ℕ) → p < length gs → passes is_left gs p ≡ false → e ≤ length gs
     → LawsAt gs (with_stretch 0 (p + 1) (parted is_left) gs) (parting_steps p e gs)
 parting_at gs p e l other ends =
     let d = default_glyph in
@@ -68,7 +68,7 @@ parting_at gs p e l other ends =
     (all_at gs (length gs) e p p 0 (x ∷ []) c (omega arith) ends parts (omega arith)))
 
 -- or stay
-pub merging_at : (gs : List hb_glyph_info_t) (e : ℕ) (o : Option ℕ) → e ≤ length gs
+pub merging_at : (gs : Glyphs) (e : ℕ) (o : Option ℕ) → e ≤ length gs
     → LawsAt gs gs (merging_step (length gs) e o)
 merging_at gs e None l = same_at gs gs refl
 merging_at gs e (Some i) l =
@@ -80,7 +80,7 @@ merging_at gs e (Some i) l =
     step_laws_at gs gs (record { merged_first = (i, e) ∷ []; places = places 0 n; merged_then = [] }) perm (l, tt) tt
     (sym (ap (λ k. pick (range_with_len 0 k) gs) all ∙ pick-all n gs refl))
 
-halant_within : (gs : List hb_glyph_info_t) (i : ℕ) → halant_or_start gs i ≤ i
+halant_within : (gs : Glyphs) (i : ℕ) → halant_or_start gs i ≤ i
 halant_within gs i = elim (passes is_free_halant gs i) as (λ b. (if b then i else 0) ≤ i)
     [ true ↦ omega arith | false ↦ omega arith ]
 
@@ -88,18 +88,18 @@ or_start : (p : ℕ) (o : Option ℕ) → ((j : ℕ) → o ≡ Some j → PlaceW
 or_start p None within = omega arith
 or_start p (Some j) within = let k = within j refl in omega (arith, k.high)
 
-nearest_within : (p : ℕ) (gs : List hb_glyph_info_t) → nearest_halant p gs ≤ p
+nearest_within : (p : ℕ) (gs : Glyphs) → nearest_halant p gs ≤ p
 nearest_within p gs =
     let found = greatest_place (ends_search gs) 0 (p + 1) in
     let one = halant_within gs (unwrap_or found 0) in
     let two = or_start p found (λ j at. greatest_within (ends_search gs) 0 (p + 1) j at) in
     omega (arith, one, two)
 
-before_within : (base : ℕ) (gs : List hb_glyph_info_t) → place_before base gs ≤ base - 1
+before_within : (base : ℕ) (gs : Glyphs) → place_before base gs ≤ base - 1
 before_within base gs = elim (base == length gs) as (λ b. (if b then base - 2 else base - 1) ≤ base - 1)
     [ true ↦ omega arith | false ↦ omega arith ]
 
-pub target_within : (script : Option Script) (base : ℕ) (gs : List hb_glyph_info_t)
+pub target_within : (script : Option Script) (base : ℕ) (gs : Glyphs)
     → matra_target script base gs ≤ base - 1
 target_within script base gs =
     let p = place_before base gs in
@@ -112,7 +112,7 @@ pub negated : (b : Bool) → not b ≡ true → b ≡ false
 negated true h = sym h
 negated false h = refl
 
-pub matras_at : (script : Option Script) (base : ℕ) (gs : List hb_glyph_info_t) → base ≤ length gs
+pub matras_at : (script : Option Script) (base : ℕ) (gs : Glyphs) → base ≤ length gs
     → LawsAt gs (with_matras script base gs) (matra_steps script base gs)
 matras_at script base gs l =
     let p = matra_target script base gs in
@@ -132,7 +132,7 @@ matras_at script base gs l =
     ]
 
 -- the reph
-pub reph_at : (position : RephPosition) (base : ℕ) (gs : List hb_glyph_info_t)
+pub reph_at : (position : RephPosition) (base : ℕ) (gs : Glyphs)
     → LawsAt gs (with_reph position base gs) (reph_steps position base gs)
 reph_at position base gs =
     let j = reph_target position base gs in
@@ -146,7 +146,7 @@ reph_at position base gs =
     ]
 
 -- the pref glyph
-moved_at : (gs : List hb_glyph_info_t) (j s : ℕ) (o : Option ℕ) → j ≤ s
+moved_at : (gs : Glyphs) (j s : ℕ) (o : Option ℕ) → j ≤ s
     → ((i : ℕ) → o ≡ Some i → PlaceWithin s (length gs) i) → LawsAt gs (moved_before j o gs) (pref_step (length gs) j o)
 moved_at gs j s None l within = same_at gs gs refl
 moved_at gs j s (Some i) l within =
@@ -157,7 +157,7 @@ moved_at gs j s (Some i) l within =
     stretch_at last_goes_first last_goes_first picks_last_first permutes_last_first j (i + 1)
     (pref_move (length gs) j i) gs (omega arith) ends refl (ends, tt) tt
 
-pub pref_at : (pref : ℕ) (script : Option Script) (base : ℕ) (gs : List hb_glyph_info_t)
+pub pref_at : (pref : ℕ) (script : Option Script) (base : ℕ) (gs : Glyphs)
     → LawsAt gs (with_pref pref script base gs) (pref_steps pref script base gs)
 pref_at pref script base gs =
     moved_at gs (pref_target script base gs) (base + 1) (formed_pref pref base gs) (pref_target_within script base gs)
@@ -173,7 +173,7 @@ tried_at r script b =
     ]
 
 -- all of them, from the syllable with its base on
-pub final_at : (r : Rules) (script : Option Script) (gs : List hb_glyph_info_t)
+pub final_at : (r : Rules) (script : Option Script) (gs : Glyphs)
     → LawsAt (based r script gs).glyphs (final_order r script gs) (final_steps r script gs)
 final_at r script gs =
     let b = based r script gs in
@@ -187,7 +187,7 @@ final_at r script gs =
     (matras_at script b.base b.glyphs (base_within r script (with_viramas r gs)))
     (then_at p.glyphs q.glyphs end rs ps (reph_at r.reph_pos p.base p.glyphs) (tried_at r script q))
 
-hidden : (r : Rules) (script : Option Script) (gs : List hb_glyph_info_t) → map carried (based r script gs).glyphs
+hidden : (r : Rules) (script : Option Script) (gs : Glyphs) → map carried (based r script gs).glyphs
     ≡ map carried gs
 hidden r script gs = hidden-based r script (with_viramas r gs) ∙ hidden-viramas r gs
 

@@ -2,7 +2,7 @@
 use Rattle.std.proofs.Common.{ℕ, ◌<◌, ◌≤◌, ◌≡◌, List, [], ◌∷◌, ◌++◌, map, length, refl, sym, ◌∙◌, ap, subst, arith}
 use Rattle.std.specs.List.{AllByRecursion, range_with_len}
 use Rattle.std.specs.List.Sorted.{IsPermutation}
-use Rattle.shapers_buffer.specs.declared.buffer.glyph.hb_glyph_info_t.{hb_glyph_info_t}
+use Rattle.shapers_buffer.specs.Glyphs.{Glyph, Glyphs}
 use Rattle.shapers_buffer.specs.Clusters.{with_stretch}
 use Rattle.shapers_buffer.specs.Glyph.{plain}
 use Rattle.shapers_buffer.specs.Places.{pick}
@@ -22,19 +22,19 @@ use Rattle.shapers_syllabic.proofs.ReorderingLemmas.{old_places_one}
 use Rattle.shapers_clusters.proofs.Permuted.{fits_permuted}
 
 -- that the syllable gs becomes ms by these steps: they fit it, take each place once, and lead there
-pub record LawsAt (gs ms : List hb_glyph_info_t) (steps : List Step) : Type 0 where
+pub record LawsAt (gs ms : Glyphs) (steps : List Step) : Type 0 where
   pub fits : FitSteps (length gs) steps
   pub permutes : AllByRecursion (Permutes (length gs)) steps
   pub moved : ms ≡ pick (old_places (length gs) steps) gs
 
-pub length_at : (gs ms : List hb_glyph_info_t) (steps : List Step) → LawsAt gs ms steps → length ms ≡ length gs
+pub length_at : (gs ms : Glyphs) (steps : List Step) → LawsAt gs ms steps → length ms ≡ length gs
 length_at gs ms steps laws =
     let olds = old_places (length gs) steps in
     ap length laws.moved ∙ length-pick olds gs (within-old_places (length gs) steps)
     ∙ length-old_places (length gs) steps laws.fits
 
 -- one after another
-pub then_at : (gs ms ns : List hb_glyph_info_t) (steps more : List Step) → LawsAt gs ms steps → LawsAt ms ns more
+pub then_at : (gs ms ns : Glyphs) (steps more : List Step) → LawsAt gs ms steps → LawsAt ms ns more
     → LawsAt gs ns (steps ++ more)
 then_at gs ms ns steps more one two =
     let k : length ms ≡ length gs = length_at gs ms steps one in
@@ -51,7 +51,7 @@ then_at gs ms ns steps more one two =
     }
 
 -- nothing
-pub same_at : (gs ms : List hb_glyph_info_t) → ms ≡ gs → LawsAt gs ms []
+pub same_at : (gs ms : Glyphs) → ms ≡ gs → LawsAt gs ms []
 same_at gs ms same = record {
   fits = tt;
   permutes = tt;
@@ -59,17 +59,17 @@ same_at gs ms same = record {
 }
 
 -- to a view of glyphs that are another's to it
-pub agrees_at : (xs gs ms : List hb_glyph_info_t) (steps : List Step) → map carried gs ≡ map carried xs
+pub agrees_at : (xs gs ms : Glyphs) (steps : List Step) → map carried gs ≡ map carried xs
     → LawsAt gs ms steps → seen carried ms ≡ pick (old_places (length xs) steps) (seen carried xs)
 agrees_at xs gs ms steps same laws =
-    let view : hb_glyph_info_t → hb_glyph_info_t = λ g. plain (carried g) in
+    let view : Glyph → Glyph = λ g. plain (carried g) in
     ap (seen carried) laws.moved
     ∙ sym (pick-map view (old_places (length gs) steps) gs)
     ∙ ap (λ n. pick (old_places n steps) (seen carried gs)) (length-same carried gs xs same)
     ∙ ap (pick (old_places (length xs) steps)) (seen-same carried gs xs same)
 
 -- one step
-pub step_laws_at : (gs ms : List hb_glyph_info_t) (step : Step) → Permutes (length gs) step
+pub step_laws_at : (gs ms : Glyphs) (step : Step) → Permutes (length gs) step
     → EndWithin (length gs) step.merged_first → EndWithin (length gs) step.merged_then → ms ≡ pick step.places gs
     → LawsAt gs ms (step ∷ [])
 step_laws_at gs ms step perm first last is =
@@ -81,8 +81,8 @@ step_laws_at gs ms step perm first last is =
     }
 
 -- one step that changes a stretch
-pub stretch_at : (f : List ℕ → List ℕ) (g : List hb_glyph_info_t → List hb_glyph_info_t) → Picks f g
-    → ((ps : List ℕ) → IsPermutation ps (f ps)) → (i k : ℕ) (step : Step) (gs : List hb_glyph_info_t) → i < k
+pub stretch_at : (f : List ℕ → List ℕ) (g : Glyphs → Glyphs) → Picks f g
+    → ((ps : List ℕ) → IsPermutation ps (f ps)) → (i k : ℕ) (step : Step) (gs : Glyphs) → i < k
     → k ≤ length gs → step.places ≡ with_stretch i k f (places 0 (length gs)) → EndWithin (length gs) step.merged_first
     → EndWithin (length gs) step.merged_then → LawsAt gs (with_stretch i k g gs) (step ∷ [])
 stretch_at f g picks permutes i k step gs h l is first last =

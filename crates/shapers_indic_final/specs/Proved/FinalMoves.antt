@@ -4,7 +4,7 @@ use Rattle.std.specs.List.{range_with_len, slice_rotate_right}
 use Rattle.std.specs.List.Sorted.{IsPermutation}
 use Rattle.std.proofs.lemmas.List.{length-take-le, reverse-append, reverse-reverse}
 use Rattle.std.proofs.lemmas.List.Sorted.{IsPermutation-reverse, IsPermutation-trans}
-use Rattle.shapers_buffer.specs.declared.buffer.glyph.hb_glyph_info_t.{hb_glyph_info_t}
+use Rattle.shapers_buffer.specs.Glyphs.{Glyphs}
 use Rattle.shapers_buffer.specs.Lists.{first_last}
 use Rattle.shapers_buffer.specs.Buffer.{Buffer}
 use Rattle.shapers_buffer.specs.Clusters.{stretch_of, with_stretch}
@@ -35,7 +35,7 @@ turned_right gs some =
     turned_last (take k gs) (drop k gs) (omega (arith, length-drop k gs)) ∙ ap last_goes_first (take-append-drop k gs)
 
 -- moved by a placement: the first behind the others, or the last before them
-written_so : (b b2 : Buffer) (xs : List hb_glyph_info_t) → b2 ≡ record b { glyphs = xs }
+written_so : (b b2 : Buffer) (xs : Glyphs) → b2 ≡ record b { glyphs = xs }
     → b2 ≡ record b { glyphs = xs; places = b2.places }
 written_so b b2 xs is =
     is ∙ ap (λ qs. let y : Buffer = record b { glyphs = xs; places = qs } in y) (sym (ap (λ (x : Buffer). x.places) is))
@@ -69,7 +69,7 @@ placed_last_first s e b b2 some within applied =
     ∙ ap (λ xs. let y : Buffer = record b { glyphs = xs } in y) placed)
 
 -- what places so moved pick
-pub picks_first_last : (s e : ℕ) (gs : List hb_glyph_info_t) → s < e → e ≤ length gs
+pub picks_first_last : (s e : ℕ) (gs : Glyphs) → s < e → e ≤ length gs
     → pick (first_last (range_with_len s (e - s))) gs ≡ first_last (stretch_of s e gs)
 picks_first_last s e gs l w =
     let m = e - 1 - s in
@@ -84,7 +84,7 @@ picks_first_last s e gs l w =
     ∙ ap (λ xs. pick (range_with_len (s + 1) m) gs ++ xs) (pick-within d s [] gs there)
     ∙ sym (ap first_last is)
 
-pub picks_last_first : (s e : ℕ) (gs : List hb_glyph_info_t) → s < e → e ≤ length gs
+pub picks_last_first : (s e : ℕ) (gs : Glyphs) → s < e → e ≤ length gs
     → pick (last_goes_first (range_with_len s (e - s))) gs ≡ last_goes_first (stretch_of s e gs)
 picks_last_first s e gs l w =
     let m = e - 1 - s in
@@ -112,7 +112,7 @@ permutes_last_first xs =
     (IsPermutation-reverse (first_last back)))
 
 -- a buffer whose places are listed, and then whose glyphs are put so
-pub glyphs_put : (a b c : Buffer) (gs : List hb_glyph_info_t) → b ≡ record a { places = b.places }
+pub glyphs_put : (a b c : Buffer) (gs : Glyphs) → b ≡ record a { places = b.places }
     → c ≡ record b { glyphs = gs } → c ≡ record a { glyphs = gs; places = c.places }
 glyphs_put a b c gs before after =
     let same : c.places ≡ b.places = ap (λ (x : Buffer). x.places) after in

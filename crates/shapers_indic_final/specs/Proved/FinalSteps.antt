@@ -6,7 +6,7 @@ use Rattle.std.specs.List.Sorted.{IsPermutation}
 use Rattle.std.proofs.lemmas.List.{drop-drop, drop-take, take-take, take_at}
 use Rattle.std.proofs.lemmas.List.FromFn.{length-range_with_len}
 use Rattle.std.proofs.lemmas.List.Sorted.{IsPermutation-append_left, IsPermutation-append_right, length_permutation}
-use Rattle.shapers_buffer.specs.declared.buffer.glyph.hb_glyph_info_t.{hb_glyph_info_t}
+use Rattle.shapers_buffer.specs.Glyphs.{Glyphs}
 use Rattle.shapers_buffer.specs.declared.buffer.level.BufferClusterLevel.{BufferClusterLevel}
 use Rattle.shapers_buffer.specs.Lists.{first_last}
 use Rattle.shapers_buffer.specs.Buffer.{Buffer}
@@ -65,12 +65,12 @@ take-range a n k l =
     ∙ take_at (range_with_len a k) (range_with_len (a + k) (n - k)) k (length-range_with_len a k)
 
 -- a change that picks as it changes
-abbrev pub Picks : (List ℕ → List ℕ) → (List hb_glyph_info_t → List hb_glyph_info_t) → Type 0
-Picks f g = (s e : ℕ) (gs : List hb_glyph_info_t) → s < e → e ≤ length gs → pick (f (range_with_len s (e - s))) gs
+abbrev pub Picks : (List ℕ → List ℕ) → (Glyphs → Glyphs) → Type 0
+Picks f g = (s e : ℕ) (gs : Glyphs) → s < e → e ≤ length gs → pick (f (range_with_len s (e - s))) gs
     ≡ g (stretch_of s e gs)
 
-pub stretch_picks : (f : List ℕ → List ℕ) (g : List hb_glyph_info_t → List hb_glyph_info_t) → Picks f g
-    → (i k n : ℕ) (gs : List hb_glyph_info_t) → i < k → k ≤ n → length gs ≡ n
+pub stretch_picks : (f : List ℕ → List ℕ) (g : Glyphs → Glyphs) → Picks f g
+    → (i k n : ℕ) (gs : Glyphs) → i < k → k ≤ n → length gs ≡ n
     → pick (with_stretch i k f (places 0 n)) gs ≡ with_stretch i k g gs
 stretch_picks f g picks i k n gs h l long =
     let all : n - 0 ≡ n = omega arith in
@@ -105,8 +105,8 @@ stretch_permutes f permutes i k n l =
     (subst (λ qs. IsPermutation qs (with_stretch i k f ps)) (three_parts i k ps l) is)
 
 -- what a widened step with such places moves
-pub moved_by : (f : List ℕ → List ℕ) (g : List hb_glyph_info_t → List hb_glyph_info_t) → Picks f g
-    → ((ps : List ℕ) → IsPermutation ps (f ps)) → (s e i k : ℕ) (step : Step) (gs : List hb_glyph_info_t) → s ≤ e
+pub moved_by : (f : List ℕ → List ℕ) (g : Glyphs → Glyphs) → Picks f g
+    → ((ps : List ℕ) → IsPermutation ps (f ps)) → (s e i k : ℕ) (step : Step) (gs : Glyphs) → s ≤ e
     → e ≤ length gs → i < k → k ≤ e - s → step.places ≡ with_stretch i k f (places 0 (e - s))
     → pick (widened s e (length gs) step).places gs ≡ with_stretch (s + i) (s + k) g gs
 moved_by f g picks permutes s e i k step gs h l m b is =
@@ -122,7 +122,7 @@ moved_by f g picks permutes s e i k step gs h l m b is =
     ∙ stretch_inside s e i k g gs h (omega arith) b
 
 -- The step of the reph: all up to place j of the syllable merges, and the first glyph goes there.
-pub reph_stepped : (level : BufferClusterLevel) (s e j : ℕ) (gs : List hb_glyph_info_t) → s + j < e → e ≤ length gs
+pub reph_stepped : (level : BufferClusterLevel) (s e j : ℕ) (gs : Glyphs) → s + j < e → e ≤ length gs
     → with_stretch s (s + j + 1) first_last (merge level s (s + j + 1) gs)
     ≡ run_step level (widened s e (length gs) (final_reph_step (e - s) j)) gs
 reph_stepped level s e j gs l m =
@@ -137,7 +137,7 @@ reph_stepped level s e j gs l m =
     ∙ ap (λ k. pick (widened s e k (final_reph_step (e - s) j)).places ms) n
 
 -- The step of a formed pref glyph: all from place j up to place i merges, and the glyph of place i goes to j.
-pub pref_stepped : (level : BufferClusterLevel) (s e j i : ℕ) (gs : List hb_glyph_info_t) → j ≤ i → s + i < e
+pub pref_stepped : (level : BufferClusterLevel) (s e j i : ℕ) (gs : Glyphs) → j ≤ i → s + i < e
     → e ≤ length gs → with_stretch (s + j) (s + i + 1) last_goes_first (merge level (s + j) (s + i + 1) gs)
     ≡ run_step level (widened s e (length gs) (pref_move (e - s) j i)) gs
 pref_stepped level s e j i gs h l m =
@@ -150,7 +150,7 @@ pref_stepped level s e j i gs h l m =
     ∙ ap (λ k. pick (widened s e k (pref_move (e - s) j i)).places ms) n
 
 -- The step of a left matra: the glyph of place i goes behind those up to place j, and all from there to b merges.
-pub matra_stepped : (level : BufferClusterLevel) (s e b i j : ℕ) (gs : List hb_glyph_info_t) → i ≤ j → s + j < e
+pub matra_stepped : (level : BufferClusterLevel) (s e b i j : ℕ) (gs : Glyphs) → i ≤ j → s + j < e
     → e ≤ length gs → merge level (s + j) (s + b) (with_stretch (s + i) (s + j + 1) first_last gs)
     ≡ run_step level (widened s e (length gs) (matra_step (e - s) b i j)) gs
 matra_stepped level s e b i j gs h l m =
@@ -161,7 +161,7 @@ matra_stepped level s e b i j gs h l m =
     (matra_step (e - s) b i j) gs (omega arith) m (omega arith) (omega arith) refl))
 
 -- moving keeps the length
-pub length-moved : (s e : ℕ) (gs : List hb_glyph_info_t) → s ≤ e → length (with_stretch s e first_last gs) ≡ length gs
+pub length-moved : (s e : ℕ) (gs : Glyphs) → s ≤ e → length (with_stretch s e first_last gs) ≡ length gs
 length-moved s e gs l =
     let part = stretch_of s e gs in
     let is = IsPermutation-append_right (take s gs) (part ++ drop e gs) (first_last part ++ drop e gs)
@@ -170,22 +170,22 @@ length-moved s e gs l =
     ∙ ap length (three_parts s e gs l)
 
 -- a buffer merged and then moved, and one moved and then merged
-pub merged_and_moved : (a b c : Buffer) (change : List hb_glyph_info_t → List hb_glyph_info_t)
-    (gs hs : List hb_glyph_info_t) → b ≡ record a { glyphs = gs }
+pub merged_and_moved : (a b c : Buffer) (change : Glyphs → Glyphs)
+    (gs hs : Glyphs) → b ≡ record a { glyphs = gs }
     → c ≡ record b { glyphs = change b.glyphs; places = c.places } → change gs ≡ hs
     → c ≡ record a { glyphs = hs; places = c.places }
 merged_and_moved a b c change gs hs before after is =
     after
     ∙ ap (λ (x : Buffer). let y : Buffer = record x { glyphs = change x.glyphs; places = c.places } in y) before
-    ∙ ap (λ (ks : List hb_glyph_info_t). let y : Buffer = record a { glyphs = ks; places = c.places } in y) is
+    ∙ ap (λ (ks : Glyphs). let y : Buffer = record a { glyphs = ks; places = c.places } in y) is
 
-pub moved_and_merged : (a b c : Buffer) (change : BufferClusterLevel → List hb_glyph_info_t → List hb_glyph_info_t)
-    (gs hs : List hb_glyph_info_t) → b ≡ record a { glyphs = gs; places = b.places }
+pub moved_and_merged : (a b c : Buffer) (change : BufferClusterLevel → Glyphs → Glyphs)
+    (gs hs : Glyphs) → b ≡ record a { glyphs = gs; places = b.places }
     → c ≡ record b { glyphs = change b.level b.glyphs } → change a.level gs ≡ hs
     → c ≡ record a { glyphs = hs; places = c.places }
 moved_and_merged a b c change gs hs before after is =
     let same : c.places ≡ b.places = ap (λ (x : Buffer). x.places) after in
     after
     ∙ ap (λ (x : Buffer). let y : Buffer = record x { glyphs = change x.level x.glyphs } in y) before
-    ∙ ap (λ (ks : List hb_glyph_info_t). let y : Buffer = record a { glyphs = ks; places = b.places } in y) is
+    ∙ ap (λ (ks : Glyphs). let y : Buffer = record a { glyphs = ks; places = b.places } in y) is
     ∙ ap (λ (ps : List ℕ). let y : Buffer = record a { glyphs = hs; places = ps } in y) (sym same)

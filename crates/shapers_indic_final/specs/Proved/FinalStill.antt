@@ -5,7 +5,7 @@ use Rattle.std.specs.List.{enumerate_from, find, list_any, slice_get}
 use Rattle.std.specs.Option.{option_map_or}
 use Rattle.std.proofs.lemmas.Bool.{cases_Bool, eqb-true, or_from, or_parts}
 use Rattle.std.proofs.lemmas.Nat.{and_mod, and_shr}
-use Rattle.shapers_buffer.specs.declared.buffer.glyph.hb_glyph_info_t.{hb_glyph_info_t}
+use Rattle.shapers_buffer.specs.Glyphs.{Glyph, Glyphs}
 use Rattle.shapers_buffer.specs.declared.buffer.tag.Script.{Script}
 use Rattle.shapers_buffer.specs.Buffer.{Buffer}
 use Rattle.shapers_buffer.specs.Clusters.{stretch_of, with_stretch}
@@ -39,13 +39,13 @@ never test [] i none = refl
 never test (x ∷ xs) zero none = (or_parts (test x) (list_any test xs) none).0
 never test (x ∷ xs) (suc i) none = never test xs i (or_parts (test x) (list_any test xs) none).1
 
-no_place_of : (test : hb_glyph_info_t → Bool) (gs : List hb_glyph_info_t) (ps : List ℕ) → list_any test gs ≡ false
+no_place_of : (test : Glyph → Bool) (gs : Glyphs) (ps : List ℕ) → list_any test gs ≡ false
     → find (passes test gs) ps ≡ None
 no_place_of test gs [] none = refl
 no_place_of test gs (p ∷ ps) none = ap (λ b. cond b (Some p) (find (passes test gs) ps)) (never test gs p none)
     ∙ no_place_of test gs ps none
 
-none_kept : (test : hb_glyph_info_t → Bool) (gs : List hb_glyph_info_t) (ps : List ℕ) → list_any test gs ≡ false
+none_kept : (test : Glyph → Bool) (gs : Glyphs) (ps : List ℕ) → list_any test gs ≡ false
     → filter (passes test gs) ps ≡ []
 none_kept test gs [] none = refl
 none_kept test gs (p ∷ ps) none =
@@ -53,18 +53,18 @@ none_kept test gs (p ∷ ps) none =
     ∙ none_kept test gs ps none
 
 -- VIRAMAS AND LINKS
-none_recovered : (v : Option GlyphId) (gs : List hb_glyph_info_t) → list_any (is_lost_virama v) gs ≡ false
+none_recovered : (v : Option GlyphId) (gs : Glyphs) → list_any (is_lost_virama v) gs ≡ false
     → map (recovered v) gs ≡ gs
 none_recovered v [] none = refl
 none_recovered v (g ∷ gs) none =
     let parts = or_parts (is_lost_virama v g) (list_any (is_lost_virama v) gs) none in
     rw parts.0 (ap (λ xs. g ∷ xs) (none_recovered v gs parts.1))
 
-not_linked : (g : hb_glyph_info_t) → has_position POS_BELOW_C g ≡ false → as_linked g ≡ g
+not_linked : (g : Glyph) → has_position POS_BELOW_C g ≡ false → as_linked g ≡ g
 not_linked g none = rw none (elim (is_consonant g) as (λ b. (if b && false then at_position POS_BASE_C g else g) ≡ g)
     [ true ↦ refl | false ↦ refl ])
 
-links_stay : (halant : Bool) (gs : List hb_glyph_info_t) → list_any (has_position POS_BELOW_C) gs ≡ false
+links_stay : (halant : Bool) (gs : Glyphs) → list_any (has_position POS_BELOW_C) gs ≡ false
     → along_links as_linked halant gs ≡ gs
 links_stay halant [] none = refl
 links_stay false (g ∷ gs) none =
@@ -87,14 +87,14 @@ links_stay true (g ∷ gs) none =
     ]
 
 -- WHAT IS NOT THERE
-record Nothing (r : Rules) (script : Option Script) (gs : List hb_glyph_info_t) : Type 0 where
+record Nothing (r : Rules) (script : Option Script) (gs : Glyphs) : Type 0 where
   left : list_any is_left gs ≡ false
   reph : list_any (has_position POS_RA_TO_BECOME_REPH) gs ≡ false
   pref : list_any (has_bits r.pref) gs ≡ false
   lost : list_any (is_lost_virama r.virama) gs ≡ false
   below : is_malayalam script ≡ true → list_any (has_position POS_BELOW_C) gs ≡ false
 
-nothing : (r : Rules) (script : Option Script) (gs : List hb_glyph_info_t) → list_any (changes_syllable r script) gs
+nothing : (r : Rules) (script : Option Script) (gs : Glyphs) → list_any (changes_syllable r script) gs
     ≡ false → Nothing r script gs
 nothing r script [] none = record { left = refl; reph = refl; pref = refl; lost = refl; below = λ on. refl }
 nothing r script (g ∷ gs) none =
@@ -118,7 +118,7 @@ nothing r script (g ∷ gs) none =
     and_true_right false h = refl
 
 -- THE BASE: the glyphs stay
-links_written_stay : (script : Option Script) (base : ℕ) (gs : List hb_glyph_info_t)
+links_written_stay : (script : Option Script) (base : ℕ) (gs : Glyphs)
     → (is_malayalam script ≡ true → list_any (has_position POS_BELOW_C) gs ≡ false) → with_links script base gs ≡ gs
 links_written_stay script base gs none = elim (cases_Bool (is_malayalam script)) [
   | inl on ↦ rw on
@@ -128,25 +128,25 @@ links_written_stay script base gs none = elim (cases_Bool (is_malayalam script))
   | inr off ↦ rw off refl
 ]
 
-glyphs_stay : (r : Rules) (script : Option Script) (gs : List hb_glyph_info_t) → Nothing r script gs
+glyphs_stay : (r : Rules) (script : Option Script) (gs : Glyphs) → Nothing r script gs
     → (with_final_base r script gs).glyphs ≡ gs
 glyphs_stay r script gs none =
     let no_pref : pref_place r.pref (first_base gs) gs ≡ None =
     no_place_of (has_bits r.pref) gs (places (first_base gs + 1) (length gs)) none.pref in
     rw no_pref (links_written_stay script (first_base gs) gs none.below)
 
-based_stay : (r : Rules) (script : Option Script) (gs : List hb_glyph_info_t) → Nothing r script gs
+based_stay : (r : Rules) (script : Option Script) (gs : Glyphs) → Nothing r script gs
     → (based r script gs).glyphs ≡ gs
 based_stay r script gs none = ap (λ xs. (with_final_base r script xs).glyphs) (none_recovered r.virama gs none.lost)
     ∙ glyphs_stay r script gs none
 
 -- NOTHING MOVES
-parted_stay : (test : hb_glyph_info_t → Bool) (xs : List hb_glyph_info_t) → list_any test xs ≡ false
+parted_stay : (test : Glyph → Bool) (xs : Glyphs) → list_any test xs ≡ false
     → parted test xs ≡ xs
 parted_stay test xs none = ap (λ ys. ys ++ filter test xs) (filter_not-none test xs none)
     ∙ ap (λ ys. xs ++ ys) (filter-none test xs none) ∙ append-nil xs
 
-matras_stay : (script : Option Script) (base : ℕ) (gs : List hb_glyph_info_t) → list_any is_left gs ≡ false
+matras_stay : (script : Option Script) (base : ℕ) (gs : Glyphs) → list_any is_left gs ≡ false
     → with_matras script base gs ≡ gs
 matras_stay script base gs none =
     let p = matra_target script base gs in
@@ -159,7 +159,7 @@ matras_stay script base gs none =
       | false ↦ refl
     ]
 
-no_matra_steps : (script : Option Script) (base : ℕ) (gs : List hb_glyph_info_t) → list_any is_left gs ≡ false
+no_matra_steps : (script : Option Script) (base : ℕ) (gs : Glyphs) → list_any is_left gs ≡ false
     → matra_steps script base gs ≡ []
 no_matra_steps script base gs none =
     let p = matra_target script base gs in
@@ -175,7 +175,7 @@ no_matra_steps script base gs none =
       | false ↦ refl
     ]
 
-no_reph : (gs : List hb_glyph_info_t) → list_any (has_position POS_RA_TO_BECOME_REPH) gs ≡ false
+no_reph : (gs : Glyphs) → list_any (has_position POS_RA_TO_BECOME_REPH) gs ≡ false
     → opens_with_reph gs ≡ false
 no_reph [] none = refl
 no_reph (g ∷ []) none = refl
@@ -184,15 +184,15 @@ no_reph (g ∷ (h ∷ gs)) none =
     none in
     rw parts.0 refl
 
-no_pref : (pref base : ℕ) (gs : List hb_glyph_info_t) → list_any (has_bits pref) gs ≡ false
+no_pref : (pref base : ℕ) (gs : Glyphs) → list_any (has_bits pref) gs ≡ false
     → formed_pref pref base gs ≡ None
 no_pref pref base gs none = ap (if_formed gs) (no_place_of (has_bits pref) gs (places (base + 1) (length gs)) none)
 
 -- a syllable with its base, in which nothing moves
-abbrev at_base : List hb_glyph_info_t → ℕ → Bool → Based
+abbrev at_base : Glyphs → ℕ → Bool → Based
 at_base gs base tries = record { glyphs = gs; base = base; tries_pref = tries }
 
-order_stays : (r : Rules) (script : Option Script) (gs : List hb_glyph_info_t) (base : ℕ) (tries : Bool)
+order_stays : (r : Rules) (script : Option Script) (gs : Glyphs) (base : ℕ) (tries : Bool)
     → Nothing r script gs → after_pref r script (after_reph r (after_matras r script (at_base gs base tries))) ≡ gs
 order_stays r script gs base tries none =
     let matras = matras_stay script base gs none.left in
@@ -200,7 +200,7 @@ order_stays r script gs base tries none =
     let pref = no_pref r.pref base gs none.pref in
     rw (matras, reph, pref) (elim tries as (λ b. (if b then gs else gs) ≡ gs) [ true ↦ refl | false ↦ refl ])
 
-no_steps : (r : Rules) (script : Option Script) (gs : List hb_glyph_info_t) (base : ℕ) (tries : Bool)
+no_steps : (r : Rules) (script : Option Script) (gs : Glyphs) (base : ℕ) (tries : Bool)
     → Nothing r script gs → steps_of_based r script (at_base gs base tries) ≡ []
 no_steps r script gs base tries none =
     let reph = no_reph gs none.reph in
@@ -219,12 +219,12 @@ no_steps r script gs base tries none =
     (if b then carried_along base (reph_target r.reph_pos base gs) else base) tries)) reph
     ∙ elim tries as (λ b. (if b then pref_steps r.pref script base gs else []) ≡ []) [ true ↦ pref | false ↦ refl ]
 
-lost-view : (v : Option GlyphId) (g : hb_glyph_info_t) → is_lost_virama v (plain g) ≡ is_lost_virama v g
+lost-view : (v : Option GlyphId) (g : Glyph) → is_lost_virama v (plain g) ≡ is_lost_virama v g
 lost-view None g = refl
 lost-view (Some v) g = refl
 
 -- what has no bit of a mask has none without its flags
-flagless_clear : (bits : ℕ) (g : hb_glyph_info_t) → has_bits bits g ≡ false → has_bits bits (plain g) ≡ false
+flagless_clear : (bits : ℕ) (g : Glyph) → has_bits bits g ≡ false → has_bits bits (plain g) ≡ false
 flagless_clear bits g none =
     let m = g.mask in
     let x = bit_and (without_flags m) bits in
@@ -240,7 +240,7 @@ flagless_clear bits g none =
     let all : x ≡ 0 = omega arith in
     ap (λ n. not (n == 0)) all
 
-none_seen : (r : Rules) (script : Option Script) (gs : List hb_glyph_info_t)
+none_seen : (r : Rules) (script : Option Script) (gs : Glyphs)
     → list_any (changes_syllable r script) gs ≡ false → list_any (changes_syllable r script) (order_view gs) ≡ false
 none_seen r script [] none = refl
 none_seen r script (g ∷ gs) none =
@@ -274,7 +274,7 @@ final_stays r script s e b h none =
     ∙ order_stays r script zs found.base found.tries_pref n in
     let steps : final_steps r script zs ≡ [] = ap (steps_of_based r script) at
     ∙ no_steps r script zs found.base found.tries_pref n in
-    let ran : List Step → List hb_glyph_info_t =
+    let ran : List Step → Glyphs =
     λ sts. run_steps b.level (map (widened s e (length b.glyphs)) sts) b.glyphs in
     record {
       others = refl;

@@ -6,7 +6,7 @@ use Rattle.std.specs.Option.{option_map_or}
 use Rattle.std.proofs.lemmas.Bool.{and_parts, cases_Bool, cases_lt, true≢false}
 use Rattle.std.proofs.lemmas.Bool.Decides.{nat_tests}
 use Rattle.std.proofs.lemmas.Option.{slice_get_past}
-use Rattle.shapers_buffer.specs.declared.buffer.glyph.hb_glyph_info_t.{hb_glyph_info_t}
+use Rattle.shapers_buffer.specs.Glyphs.{Glyph, Glyphs}
 use Rattle.shapers_buffer.specs.declared.buffer.tag.Script.{Script}
 use Rattle.shapers_base.specs.declared.plan.indic.RephPosition.{RephPosition}
 use Rattle.shapers_base.specs.declared.plan.indic.RephPosition.TheVariants.{AfterMain, BeforeSub, AfterSub, BeforePost, AfterPost}
@@ -30,7 +30,7 @@ find_passes test (y ∷ ys) x found = elim (cases_Bool (test y)) [
 ]
 
 -- a glyph that passes is there
-pub passes_within : (test : hb_glyph_info_t → Bool) (gs : List hb_glyph_info_t) (i : ℕ) → passes test gs i ≡ true
+pub passes_within : (test : Glyph → Bool) (gs : Glyphs) (i : ℕ) → passes test gs i ≡ true
     → i < length gs
 passes_within test gs i h = elim (cases_lt i (length gs)) [
   | inl l ↦ l
@@ -38,31 +38,31 @@ passes_within test gs i h = elim (cases_lt i (length gs)) [
 ]
 
 -- the reph's place
-joiner_within : (base : ℕ) (gs : List hb_glyph_info_t) (h : ℕ) → h < length gs → with_joiner base gs h < length gs
+joiner_within : (base : ℕ) (gs : Glyphs) (h : ℕ) → h < length gs → with_joiner base gs h < length gs
 joiner_within base gs h l = elim (cases_Bool (nat_lt (h + 1) base && passes is_joiner gs (h + 1))) [
   | inl on ↦ rw on
       (passes_within is_joiner gs (h + 1) (and_parts (nat_lt (h + 1) base) (passes is_joiner gs (h + 1)) on).1)
   | inr off ↦ rw off l
 ]
 
-pub run_within : (test : hb_glyph_info_t → Bool) (gs : List hb_glyph_info_t) → prefix_len test gs ≤ length gs
+pub run_within : (test : Glyph → Bool) (gs : Glyphs) → prefix_len test gs ≤ length gs
 run_within test [] = omega arith
 run_within test (g ∷ gs) = elim (test g) as (λ b. cond b (1 + prefix_len test gs) 0 ≤ suc (length gs)) [
   | true ↦ (let rest = run_within test gs in omega arith)
   | false ↦ omega arith
 ]
 
-run_end_within : (test : hb_glyph_info_t → Bool) (base : ℕ) (gs : List hb_glyph_info_t) → base < length gs
+run_end_within : (test : Glyph → Bool) (base : ℕ) (gs : Glyphs) → base < length gs
     → end_of_run test base gs < length gs
 run_end_within test base gs l = let rest =
     run_within test (drop (base + 1) gs) in omega (arith, length-drop (base + 1) gs)
 
-last_within : (gs : List hb_glyph_info_t) (o : Option ℕ) → 0 < length gs
+last_within : (gs : Glyphs) (o : Option ℕ) → 0 < length gs
     → ((j : ℕ) → o ≡ Some j → PlaceWithin 0 (length gs) j) → unwrap_or o 0 < length gs
 last_within gs None l within = l
 last_within gs (Some j) l within = (within j refl).high
 
-end_within : (base : ℕ) (gs : List hb_glyph_info_t) → 0 < length gs → at_end base gs < length gs
+end_within : (base : ℕ) (gs : Glyphs) → 0 < length gs → at_end base gs < length gs
 end_within base gs l =
     let test : ℕ → Bool = λ i. not (passes (has_position POS_SMVD) gs i) in
     let last = last_but_signs gs in
@@ -75,14 +75,14 @@ end_within base gs l =
       | false ↦ high
     ]
 
-run_or_end : (test : hb_glyph_info_t → Bool) (base : ℕ) (gs : List hb_glyph_info_t) → 0 < length gs
+run_or_end : (test : Glyph → Bool) (base : ℕ) (gs : Glyphs) → 0 < length gs
     → (if nat_lt base (length gs) then end_of_run test base gs else at_end base gs) < length gs
 run_or_end test base gs l = elim (cases_Bool (nat_lt base (length gs))) [
   | inl on ↦ rw on (run_end_within test base gs (grind (arith, nat_tests)))
   | inr off ↦ rw off (end_within base gs l)
 ]
 
-behind_within : (position : RephPosition) (base : ℕ) (gs : List hb_glyph_info_t) → 0 < length gs
+behind_within : (position : RephPosition) (base : ℕ) (gs : Glyphs) → 0 < length gs
     → behind_base position base gs < length gs
 behind_within AfterMain base gs l = run_or_end is_with_main base gs l
 behind_within AfterSub base gs l = run_or_end is_with_sub base gs l
@@ -90,25 +90,25 @@ behind_within BeforeSub base gs l = end_within base gs l
 behind_within BeforePost base gs l = end_within base gs l
 behind_within AfterPost base gs l = end_within base gs l
 
-target_from : (position : RephPosition) (base : ℕ) (gs : List hb_glyph_info_t) (o : Option ℕ) → 0 < length gs
+target_from : (position : RephPosition) (base : ℕ) (gs : Glyphs) (o : Option ℕ) → 0 < length gs
     → ((h : ℕ) → o ≡ Some h → h < length gs) → option_map_or (with_joiner base gs) o (behind_base position base gs)
     < length gs
 target_from position base gs None l within = behind_within position base gs l
 target_from position base gs (Some h) l within = joiner_within base gs h (within h refl)
 
-pub reph_target_within : (position : RephPosition) (base : ℕ) (gs : List hb_glyph_info_t) → 0 < length gs
+pub reph_target_within : (position : RephPosition) (base : ℕ) (gs : Glyphs) → 0 < length gs
     → reph_target position base gs < length gs
 reph_target_within position base gs l =
     target_from position base gs (halant_after_start base gs) l
     (λ h found. passes_within is_indic_halant gs h
     (find_passes (passes is_indic_halant gs) (places 1 base) h found))
 
-pub opens_some : (gs : List hb_glyph_info_t) → opens_with_reph gs ≡ true → 0 < length gs
+pub opens_some : (gs : Glyphs) → opens_with_reph gs ≡ true → 0 < length gs
 opens_some [] h = absurd (true≢false (sym h))
 opens_some (g ∷ gs) h = omega arith
 
 -- the formed pref glyph stands behind the place that it goes to
-formed_within : (gs : List hb_glyph_info_t) (s e : ℕ) (o : Option ℕ) → ((j : ℕ) → o ≡ Some j → PlaceWithin s e j)
+formed_within : (gs : Glyphs) (s e : ℕ) (o : Option ℕ) → ((j : ℕ) → o ≡ Some j → PlaceWithin s e j)
     → (i : ℕ) → if_formed gs o ≡ Some i → PlaceWithin s e i
 formed_within gs s e None within i found = absurd (cc found)
 formed_within gs s e (Some j) within i found =
@@ -117,7 +117,7 @@ formed_within gs s e (Some j) within i found =
       | false ↦ λ h. absurd (cc h)
     ] found
 
-pub formed_pref_within : (pref base : ℕ) (gs : List hb_glyph_info_t) (i : ℕ) → formed_pref pref base gs ≡ Some i
+pub formed_pref_within : (pref base : ℕ) (gs : Glyphs) (i : ℕ) → formed_pref pref base gs ≡ Some i
     → PlaceWithin (base + 1) (length gs) i
 formed_pref_within pref base gs i found =
     formed_within gs (base + 1) (length gs) (pref_place pref base gs)
@@ -128,7 +128,7 @@ nearest_within : (base : ℕ) (o : Option ℕ) → ((j : ℕ) → o ≡ Some j �
 nearest_within base None within = omega arith
 nearest_within base (Some j) within = let k = within j refl in omega (arith, k.high)
 
-before_base_within : (script : Option Script) (base : ℕ) (gs : List hb_glyph_info_t) → place_before_base script base gs
+before_base_within : (script : Option Script) (base : ℕ) (gs : Glyphs) → place_before_base script base gs
     ≤ base
 before_base_within script base gs =
     let test = passes is_matra_or_halant gs in
@@ -138,7 +138,7 @@ before_base_within script base gs =
       | false ↦ nearest_within base (greatest_place test 0 base) (λ j found. greatest_within test 0 base j found)
     ]
 
-pub pref_target_within : (script : Option Script) (base : ℕ) (gs : List hb_glyph_info_t)
+pub pref_target_within : (script : Option Script) (base : ℕ) (gs : Glyphs)
     → pref_target script base gs ≤ base + 1
 pref_target_within script base gs =
     let at = place_before_base script base gs in

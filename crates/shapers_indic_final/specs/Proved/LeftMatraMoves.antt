@@ -5,7 +5,7 @@ use Rattle.std.specs.List.{enumerate_from}
 use Rattle.std.proofs.lemmas.Bool.{cases_Bool}
 use Rattle.std.proofs.lemmas.List.{drop_at, reverse-append, take_at}
 use Rattle.std.proofs.lemmas.List.Elements.{filter-append}
-use Rattle.shapers_buffer.specs.declared.buffer.glyph.hb_glyph_info_t.{hb_glyph_info_t}
+use Rattle.shapers_buffer.specs.Glyphs.{Glyph, Glyphs}
 use Rattle.shapers_buffer.specs.Lists.{first_last}
 use Rattle.shapers_buffer.specs.Clusters.{stretch_of, with_stretch}
 use Rattle.shapers_buffer.specs.Glyph.{default_glyph}
@@ -17,17 +17,17 @@ use Rattle.shapers_indic_final.specs.Proved.FinalMoves.{picks_first_last}
 use Rattle.shapers_indic.proofs.PlaceSearch.{passes_there, places_last}
 use Rattle.shapers_clusters.proofs.Permuted.{permuted-first_last}
 
-abbrev pub is_other : hb_glyph_info_t → Bool
+abbrev pub is_other : Glyph → Bool
 is_other g = not (is_left g)
 
 -- the left places before m, and the steps of them, the first of which has target p - k
-abbrev pub lefts : ℕ → List hb_glyph_info_t → List ℕ
+abbrev pub lefts : ℕ → Glyphs → List ℕ
 lefts m gs = reverse (filter (passes is_left gs) (places 0 m))
 
 abbrev pub steps_of : ℕ → ℕ → ℕ → ℕ → List ℕ → List Step
 steps_of n e p k qs = map (λ t. matra_step n e t.1 (p - t.0)) (enumerate_from k qs)
 
-pub lefts_yes : (m : ℕ) (gs : List hb_glyph_info_t) → passes is_left gs m ≡ true → lefts (m + 1) gs ≡ m ∷ lefts m gs
+pub lefts_yes : (m : ℕ) (gs : Glyphs) → passes is_left gs m ≡ true → lefts (m + 1) gs ≡ m ∷ lefts m gs
 lefts_yes m gs holds =
     let test = passes is_left gs in
     ap (λ qs. reverse (filter test qs)) (places_last 0 m (omega arith))
@@ -35,7 +35,7 @@ lefts_yes m gs holds =
     ∙ ap (λ b. reverse (filter test (places 0 m) ++ cond b (m ∷ []) [])) holds
     ∙ reverse-append (filter test (places 0 m)) (m ∷ [])
 
-pub lefts_no : (m : ℕ) (gs : List hb_glyph_info_t) → passes is_left gs m ≡ false → lefts (m + 1) gs ≡ lefts m gs
+pub lefts_no : (m : ℕ) (gs : Glyphs) → passes is_left gs m ≡ false → lefts (m + 1) gs ≡ lefts m gs
 lefts_no m gs fails =
     let test = passes is_left gs in
     ap (λ qs. reverse (filter test qs)) (places_last 0 m (omega arith))
@@ -59,7 +59,7 @@ stretch_between f i k a b c an bn =
     ∙ ap (λ xs. a ++ (f b ++ xs)) back
 
 -- one left matra goes behind what was passed
-one_at : (a b c : List hb_glyph_info_t) (x : hb_glyph_info_t) (n e i j : ℕ) → n ≡ length (a ++ ((x ∷ b) ++ c)) → e ≤ n
+one_at : (a b c : Glyphs) (x : Glyph) (n e i j : ℕ) → n ≡ length (a ++ ((x ∷ b) ++ c)) → e ≤ n
     → i ≡ length a → j ≡ i + length b → LawsAt (a ++ ((x ∷ b) ++ c)) (a ++ (b ++ x ∷ c)) (matra_step n e i j ∷ [])
 one_at a b c x n e i j long ends at to =
     let gs = a ++ ((x ∷ b) ++ c) in
@@ -73,7 +73,7 @@ one_at a b c x n e i j long ends at to =
     (ap (λ k. with_stretch i (j + 1) first_last (places 0 k)) long) tt (omega arith, tt))
 
 -- all of them
-pub all_at : (gs : List hb_glyph_info_t) (n e p m k : ℕ) (b c : List hb_glyph_info_t) → m ≤ length gs → e ≤ n
+pub all_at : (gs : Glyphs) (n e p m k : ℕ) (b c : Glyphs) → m ≤ length gs → e ≤ n
     → n ≡ m + (length b + length c) → p + 1 ≡ k + (m + length b)
     → LawsAt (take m gs ++ (b ++ c)) (filter is_other (take m gs) ++ (b ++ (filter is_left (take m gs) ++ c)))
     (steps_of n e p k (lefts m gs))
@@ -93,7 +93,7 @@ all_at gs n e p (suc m) k b c l ends long at =
     ap (filter is_other) more ∙ filter-append is_other a (x ∷ []) in
     let left : filter is_left (take (suc m) gs) ≡ filter is_left a ++ cond (is_left x) (x ∷ []) [] =
     ap (filter is_left) more ∙ filter-append is_left a (x ∷ []) in
-    let F : List hb_glyph_info_t → List hb_glyph_info_t → List hb_glyph_info_t = λ os ls. os ++ (b ++ (ls ++ c)) in
+    let F : Glyphs → Glyphs → Glyphs = λ os ls. os ++ (b ++ (ls ++ c)) in
     elim (cases_Bool (is_left x)) [
       | inl holds ↦
           let j = p - k in

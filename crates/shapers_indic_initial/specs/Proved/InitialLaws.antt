@@ -1,6 +1,6 @@
 -- The laws of the initial reordering: its steps fit the syllable, take each place once, and lead to the order.
-use Rattle.std.proofs.Common.{◌≡◌, List, [], ◌∷◌, Option, length, sym, ◌∙◌, ap, subst}
-use Rattle.shapers_buffer.specs.declared.buffer.glyph.hb_glyph_info_t.{hb_glyph_info_t}
+use Rattle.std.proofs.Common.{◌≡◌, [], ◌∷◌, Option, length, sym, ◌∙◌, ap, subst}
+use Rattle.shapers_buffer.specs.Glyphs.{Glyphs}
 use Rattle.shapers_buffer.specs.declared.buffer.tag.Script.{Script}
 use Rattle.shapers_buffer.specs.Glyph.{plain}
 use Rattle.shapers_buffer.specs.Places.{pick}
@@ -35,13 +35,13 @@ joiner_laws script =
     (λ gs. sym (pick-map (λ g. plain (carried g)) (joiner_step script gs).places gs))
 
 -- the step of the older specification's H, with all positions
-abbrev pub halant_order : Rules → Option Script → List hb_glyph_info_t → List hb_glyph_info_t
+abbrev pub halant_order : Rules → Option Script → Glyphs → Glyphs
 halant_order r script gs = with_all_positions r script (base_place r gs) (with_base_positions r gs)
 
-abbrev pub halant_step_of : Rules → Option Script → List hb_glyph_info_t → Step
+abbrev pub halant_step_of : Rules → Option Script → Glyphs → Step
 halant_step_of r script gs = halant_step r script (base_place r gs) (with_base_positions r gs)
 
-pub length-with_base : (r : Rules) (gs : List hb_glyph_info_t) → length (with_base_positions r gs) ≡ length gs
+pub length-with_base : (r : Rules) (gs : Glyphs) → length (with_base_positions r gs) ≡ length gs
 length-with_base r gs =
     length-same carried (with_base_positions r gs) gs
     (hidden-by_base carried carried_hides_positions (base_place r gs) (has_indic_reph r gs) gs)
@@ -63,7 +63,7 @@ halant_laws r script = laws_by_step (halant_order r script) (halant_step_of r sc
     ∙ ap (pick places) (hidden-by_base (λ g. plain (carried g)) seen_hides_positions base (has_indic_reph r gs) gs))
 
 -- the step of the order, with all masks
-abbrev pub masked_order : Rules → Option Script → List hb_glyph_info_t → List hb_glyph_info_t
+abbrev pub masked_order : Rules → Option Script → Glyphs → Glyphs
 masked_order r script gs = masked_in_order r script (in_indic_order gs)
 
 pub order_laws : (r : Rules) (script : Option Script)
@@ -75,7 +75,7 @@ order_laws r script = laws_by_step (masked_order r script) (indic_order_step r) 
     ∙ sym (pick-map (λ g. plain (carried g)) (indic_ordered_places gs) gs))
 
 -- all steps, and where the syllable is reordered
-abbrev pub all_three : Rules → Option Script → List hb_glyph_info_t → List hb_glyph_info_t
+abbrev pub all_three : Rules → Option Script → Glyphs → Glyphs
 all_three r script gs = masked_order r script (halant_order r script (with_joiner_first script gs))
 
 pub three_laws : (r : Rules) (script : Option Script) → ReorderLaws (all_three r script) (steps_of_reordered r script)

@@ -5,7 +5,7 @@ use Rattle.std.specs.List.{AllByRecursion, range_with_len}
 use Rattle.std.specs.List.Sorted.{IsPermutation}
 use Rattle.std.proofs.lemmas.Bool.{and_parts, cases_Bool, true≢false}
 use Rattle.std.proofs.lemmas.List.Sorted.{IsPermutation-append_comm, IsPermutation-append_left, IsPermutation-append_right, IsPermutation-refl}
-use Rattle.shapers_buffer.specs.declared.buffer.glyph.hb_glyph_info_t.{hb_glyph_info_t}
+use Rattle.shapers_buffer.specs.Glyphs.{Glyphs}
 use Rattle.shapers_buffer.specs.declared.buffer.tag.Script.{Script}
 use Rattle.shapers_buffer.specs.Clusters.{stretch_of}
 use Rattle.shapers_buffer.proofs.ClusterLemmas.{three_parts}
@@ -47,7 +47,7 @@ moved_behind_permutes h j xs l =
 all_still : (n : ℕ) → IsPermutation (range_with_len 0 n) (places 0 n)
 all_still n = subst (IsPermutation (range_with_len 0 n)) (sym (places_all n)) (IsPermutation-refl (range_with_len 0 n))
 
-to_permutes : (gs : List hb_glyph_info_t) (h : ℕ) (o : Option ℕ)
+to_permutes : (gs : Glyphs) (h : ℕ) (o : Option ℕ)
     → ((j : ℕ) → o ≡ Some j → PlaceWithin (h + 1) (length gs) j)
     → IsPermutation (range_with_len 0 (length gs)) (halant_to gs h o)
 to_permutes gs h None within = all_still (length gs)
@@ -61,14 +61,14 @@ to_permutes gs h (Some j) within =
           (moved_behind_permutes h j (range_with_len 0 n) (omega (arith, k.low)))
     ]
 
-from_permutes : (script : Option Script) (gs : List hb_glyph_info_t) (o : Option ℕ)
+from_permutes : (script : Option Script) (gs : Glyphs) (o : Option ℕ)
     → IsPermutation (range_with_len 0 (length gs)) (halant_from script gs o)
 from_permutes script gs None = all_still (length gs)
 from_permutes script gs (Some h) =
     to_permutes gs h (last_after_halant script gs h)
     (λ j found. greatest_within (passes (is_passed_by_halant script) gs) (h + 1) (length gs) j found)
 
-pub halant_permutes : (r : Rules) (script : Option Script) (base : ℕ) (gs : List hb_glyph_info_t)
+pub halant_permutes : (r : Rules) (script : Option Script) (base : ℕ) (gs : Glyphs)
     → IsPermutation (range_with_len 0 (length gs)) (halant_places r script base gs)
 halant_permutes r script base gs =
     elim r.old as (λ b. IsPermutation (range_with_len 0 (length gs))
@@ -77,30 +77,30 @@ halant_permutes r script base gs =
       | false ↦ all_still (length gs)
     ]
 
-pub halant_fits : (r : Rules) (script : Option Script) (base : ℕ) (gs : List hb_glyph_info_t)
+pub halant_fits : (r : Rules) (script : Option Script) (base : ℕ) (gs : Glyphs)
     → FitsStep (length gs) (halant_step r script base gs)
 halant_fits r script base gs =
     fits_permuted (length gs) (halant_step r script base gs) (halant_permutes r script base gs) tt tt
 
 -- Kannada's step
-opens_long : (gs : List hb_glyph_info_t) → opens_with_ra_h_zwj gs ≡ true → 2 < length gs
+opens_long : (gs : Glyphs) → opens_with_ra_h_zwj gs ≡ true → 2 < length gs
 opens_long [] h = absurd (true≢false (sym h))
 opens_long (a ∷ []) h = absurd (true≢false (sym h))
 opens_long (a ∷ (b ∷ [])) h = absurd (true≢false (sym h))
 opens_long (a ∷ (b ∷ (c ∷ gs))) h = omega arith
 
-pub joiner_long : (script : Option Script) (gs : List hb_glyph_info_t) → joiner_comes_first script gs ≡ true
+pub joiner_long : (script : Option Script) (gs : Glyphs) → joiner_comes_first script gs ≡ true
     → 2 < length gs
 joiner_long script gs h = opens_long gs (and_parts _ (opens_with_ra_h_zwj gs) h).1
 
-pub joiner_fits : (script : Option Script) (gs : List hb_glyph_info_t) → FitsStep (length gs) (joiner_step script gs)
+pub joiner_fits : (script : Option Script) (gs : Glyphs) → FitsStep (length gs) (joiner_step script gs)
 joiner_fits script gs = elim (cases_Bool (joiner_comes_first script gs)) [
   | inl on ↦ rw on
       (let all = swap_moves_merged (length gs) 1 (let long = joiner_long script gs on in omega arith) in all.fits)
   | inr off ↦ rw off (let all = still_moves_merged (length gs) in all.fits)
 ]
 
-pub joiner_permutes : (script : Option Script) (gs : List hb_glyph_info_t)
+pub joiner_permutes : (script : Option Script) (gs : Glyphs)
     → Permutes (length gs) (joiner_step script gs)
 joiner_permutes script gs = elim (cases_Bool (joiner_comes_first script gs)) [
   | inl on ↦ rw on (swap_permutes (length gs) 1 (let long = joiner_long script gs on in omega arith))
@@ -162,7 +162,7 @@ stretches_end r from base n perm =
     ] in
     subst (λ m. EndWithin m (ordered_stretches r from base)) long ends
 
-pub order_fits : (r : Rules) (gs : List hb_glyph_info_t) → FitsStep (length gs) (indic_order_step r gs)
+pub order_fits : (r : Rules) (gs : Glyphs) → FitsStep (length gs) (indic_order_step r gs)
 order_fits r gs =
     fits_permuted (length gs) (indic_order_step r gs) (ordered_permutes gs) tt
     (stretches_end r (indic_ordered_places gs) (ordered_base (in_indic_order gs)) (length gs) (ordered_permutes gs))

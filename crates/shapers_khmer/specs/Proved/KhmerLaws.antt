@@ -6,7 +6,7 @@ use Rattle.std.proofs.lemmas.List.Elements.{All-from_recursion, recursion_from_A
 use Rattle.std.proofs.lemmas.List.Sorted.{All-permutation}
 use Rattle.std.proofs.lemmas.List.FromFn.{length-range_with_len}
 use Rattle.std.proofs.lemmas.Bool.{cases_Bool, true≢false}
-use Rattle.shapers_buffer.specs.declared.buffer.glyph.hb_glyph_info_t.{hb_glyph_info_t}
+use Rattle.shapers_buffer.specs.Glyphs.{Glyph, Glyphs}
 use Rattle.shapers_buffer.specs.Glyph.{plain}
 use Rattle.shapers_buffer.specs.Places.{pick}
 use Rattle.shapers_buffer.proofs.MappedLists.{all-range}
@@ -39,7 +39,7 @@ pub length-order : (moves : List Move) (n : ℕ) → length (moved_all moves (ra
 length-order moves n = length-moved_all moves (range_with_len 0 n) ∙ length-range_with_len 0 n
 
 -- the moves of a syllable end within it
-pub khmer_ends : (gs : List hb_glyph_info_t) → EndWithin (length gs) (map merged_by_move (khmer_moves gs))
+pub khmer_ends : (gs : Glyphs) → EndWithin (length gs) (map merged_by_move (khmer_moves gs))
 khmer_ends [] = tt
 khmer_ends (g ∷ []) = tt
 khmer_ends (g ∷ (h ∷ gs)) =
@@ -66,24 +66,24 @@ merged_moves moves n ends = record {
   nothing_then = refl;
 }
 
-pub khmer_moves_merged : (gs : List hb_glyph_info_t) → MovesMerged (length gs) (khmer_step gs)
+pub khmer_moves_merged : (gs : Glyphs) → MovesMerged (length gs) (khmer_step gs)
 khmer_moves_merged gs = elim (cases_Bool (is_reordered_in_khmer gs)) [
   | inl on ↦ rw on (merged_moves (khmer_moves gs) (length gs) (khmer_ends gs))
   | inr off ↦ rw off (still_moves_merged (length gs))
 ]
 
-pub khmer_fits : (gs : List hb_glyph_info_t) → FitsStep (length gs) (khmer_step gs)
+pub khmer_fits : (gs : Glyphs) → FitsStep (length gs) (khmer_step gs)
 khmer_fits gs = let all = khmer_moves_merged gs in all.fits
 
-pub khmer_permutes : (gs : List hb_glyph_info_t) → Permutes (length gs) (khmer_step gs)
+pub khmer_permutes : (gs : Glyphs) → Permutes (length gs) (khmer_step gs)
 khmer_permutes gs = elim (cases_Bool (is_reordered_in_khmer gs)) [
   | inl on ↦ rw on (permuted-moved_all (khmer_moves gs) (range_with_len 0 (length gs)))
   | inr off ↦ rw off (still_permutes (length gs))
 ]
 
 -- masks don't show to a view that hides them
-hidden-masked_for : {X : Type 0} (f : hb_glyph_info_t → X) → ((m : ℕ) (g : hb_glyph_info_t) → f (with_mask m g) ≡ f g)
-    → (r : KhmerOrder) (move : Move) (order : List ℕ) (gs : List hb_glyph_info_t)
+hidden-masked_for : {X : Type 0} (f : Glyph → X) → ((m : ℕ) (g : Glyph) → f (with_mask m g) ≡ f g)
+    → (r : KhmerOrder) (move : Move) (order : List ℕ) (gs : Glyphs)
     → EndWithin (length gs) (merged_by_move move ∷ []) → map f (masked_for r move order gs) ≡ map f gs
 hidden-masked_for f hides r (Vowel over) order gs ends = refl
 hidden-masked_for f hides r (Pair over) order gs ends =
@@ -96,15 +96,15 @@ hidden-masked_for f hides r (Pair over) order gs ends =
     ∙ hidden-masked f r.pref ro (ro + 1) first (hides r.pref) (omega arith)
     ∙ hidden-masked f r.pref coeng (coeng + 1) gs (hides r.pref) (omega arith)
 
-pub length-masked_for : (r : KhmerOrder) (move : Move) (order : List ℕ) (gs : List hb_glyph_info_t)
+pub length-masked_for : (r : KhmerOrder) (move : Move) (order : List ℕ) (gs : Glyphs)
     → EndWithin (length gs) (merged_by_move move ∷ []) → length (masked_for r move order gs) ≡ length gs
 length-masked_for r move order gs ends =
     sym (length-categories (masked_for r move order gs))
     ∙ ap length (hidden-masked_for (λ g. g.category) (λ m g. refl) r move order gs ends) ∙ length-categories gs
 
-pub hidden-masked_all : {X : Type 0} (f : hb_glyph_info_t → X)
-    → ((m : ℕ) (g : hb_glyph_info_t) → f (with_mask m g) ≡ f g)
-    → (r : KhmerOrder) (moves : List Move) (order : List ℕ) (gs : List hb_glyph_info_t)
+pub hidden-masked_all : {X : Type 0} (f : Glyph → X)
+    → ((m : ℕ) (g : Glyph) → f (with_mask m g) ≡ f g)
+    → (r : KhmerOrder) (moves : List Move) (order : List ℕ) (gs : Glyphs)
     → EndWithin (length gs) (map merged_by_move moves) → map f (masked_all r moves order gs) ≡ map f gs
 hidden-masked_all f hides r [] order gs ends = refl
 hidden-masked_all f hides r (move ∷ moves) order gs ends =
@@ -114,7 +114,7 @@ hidden-masked_all f hides r (move ∷ moves) order gs ends =
     (subst (λ n. EndWithin n (map merged_by_move moves)) (sym (length-masked_for r move order gs one)) ends.1)
     ∙ hidden-masked_for f hides r move order gs one
 
-pub carried_khmer_masked : (r : KhmerOrder) (gs : List hb_glyph_info_t) → is_reordered_in_khmer gs ≡ true
+pub carried_khmer_masked : (r : KhmerOrder) (gs : Glyphs) → is_reordered_in_khmer gs ≡ true
     → map carried (khmer_masked r gs) ≡ map carried gs
 carried_khmer_masked r [] on = absurd (true≢false (sym on))
 carried_khmer_masked r (g ∷ gs) on =
@@ -126,7 +126,7 @@ carried_khmer_masked r (g ∷ gs) on =
     ∙ carried-masked r.others 1 (length all) all (omega arith)
 
 -- what a syllable becomes is what its step picks
-pub khmer_agrees : (r : KhmerOrder) (gs : List hb_glyph_info_t) → seen carried (khmer_order r gs)
+pub khmer_agrees : (r : KhmerOrder) (gs : Glyphs) → seen carried (khmer_order r gs)
     ≡ pick (old_places (length gs) (khmer_step gs ∷ [])) (seen carried gs)
 khmer_agrees r gs =
     agrees_by_places (khmer_step gs) gs (khmer_order r gs) (khmer_fits gs)

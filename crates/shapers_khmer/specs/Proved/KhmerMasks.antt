@@ -4,7 +4,7 @@ use Rattle.std.specs.Int.Bits.{bit_or, or_zero_r}
 use Rattle.std.proofs.lemmas.List.{length-map, map-append, take-append-le, drop-append-le}
 use Rattle.std.proofs.lemmas.Nat.{or_mod, or_shr}
 use Rattle.std.proofs.Math.Seq.{take-append-add, drop-append-add}
-use Rattle.shapers_buffer.specs.declared.buffer.glyph.hb_glyph_info_t.{hb_glyph_info_t}
+use Rattle.shapers_buffer.specs.Glyphs.{Glyph, Glyphs}
 use Rattle.shapers_buffer.specs.Clusters.{stretch_of}
 use Rattle.shapers_buffer.specs.Glyph.{order_view, plain, without_flags}
 use Rattle.shapers_buffer.specs.Properties.{no_marks}
@@ -32,22 +32,22 @@ plain-or a m =
     ∙ sym (or_shr (without_flags a) w 3) in
     omega arith
 
-pub plain-with_mask : (m : ℕ) (g : hb_glyph_info_t) → plain (with_mask m g) ≡ with_mask m (plain g)
+pub plain-with_mask : (m : ℕ) (g : Glyph) → plain (with_mask m g) ≡ with_mask m (plain g)
 plain-with_mask m g = ap (λ (x : ℕ). record g { cluster = 0; mask = x }) (plain-or g.mask m)
 
-pub carried-with_mask : (m : ℕ) (g : hb_glyph_info_t) → carried (with_mask m g) ≡ carried g
+pub carried-with_mask : (m : ℕ) (g : Glyph) → carried (with_mask m g) ≡ carried g
 carried-with_mask m g =
     ap (λ (x : ℕ). record g { mask = x; glyph_props = no_marks; category = 0; auxiliary = 0 }) (flags-or g.mask m)
 
 -- what a view hides of one glyph with a mask it hides of all
-hidden_all : {X : Type 0} (f : hb_glyph_info_t → X) (m : ℕ) → ((g : hb_glyph_info_t) → f (with_mask m g) ≡ f g)
-    → (gs : List hb_glyph_info_t) → map f (map (with_mask m) gs) ≡ map f gs
+hidden_all : {X : Type 0} (f : Glyph → X) (m : ℕ) → ((g : Glyph) → f (with_mask m g) ≡ f g)
+    → (gs : Glyphs) → map f (map (with_mask m) gs) ≡ map f gs
 hidden_all f m hides [] = refl
 hidden_all f m hides (g ∷ gs) = ap (λ x. x ∷ map f (map (with_mask m) gs)) (hides g)
     ∙ ap (λ xs. f g ∷ xs) (hidden_all f m hides gs)
 
-pub hidden-masked : {X : Type 0} (f : hb_glyph_info_t → X) (m s e : ℕ) (gs : List hb_glyph_info_t)
-    → ((g : hb_glyph_info_t) → f (with_mask m g) ≡ f g) → s ≤ e → map f (masked m s e gs) ≡ map f gs
+pub hidden-masked : {X : Type 0} (f : Glyph → X) (m s e : ℕ) (gs : Glyphs)
+    → ((g : Glyph) → f (with_mask m g) ≡ f g) → s ≤ e → map f (masked m s e gs) ≡ map f gs
 hidden-masked f m s e gs hides h =
     let a = take s gs in
     let b = stretch_of s e gs in
@@ -58,32 +58,32 @@ hidden-masked f m s e gs hides h =
     ∙ sym (map-append f a (b ++ c))
     ∙ ap (map f) (three_parts s e gs h)
 
-pub carried-masked : (m s e : ℕ) (gs : List hb_glyph_info_t) → s ≤ e → map carried (masked m s e gs) ≡ map carried gs
+pub carried-masked : (m s e : ℕ) (gs : Glyphs) → s ≤ e → map carried (masked m s e gs) ≡ map carried gs
 carried-masked m s e gs h = hidden-masked carried m s e gs (carried-with_mask m) h
 
-pub categories-masked : (m s e : ℕ) (gs : List hb_glyph_info_t) → s ≤ e → categories_of (masked m s e gs)
+pub categories-masked : (m s e : ℕ) (gs : Glyphs) → s ≤ e → categories_of (masked m s e gs)
     ≡ categories_of gs
 categories-masked m s e gs h = hidden-masked (λ g. g.category) m s e gs (λ g. refl) h
 
-pub length-categories : (gs : List hb_glyph_info_t) → length (categories_of gs) ≡ length gs
+pub length-categories : (gs : Glyphs) → length (categories_of gs) ≡ length gs
 length-categories gs = length-map gs (λ g. g.category)
 
-pub length-masked : (m s e : ℕ) (gs : List hb_glyph_info_t) → s ≤ e → length (masked m s e gs) ≡ length gs
+pub length-masked : (m s e : ℕ) (gs : Glyphs) → s ≤ e → length (masked m s e gs) ≡ length gs
 length-masked m s e gs h = sym (length-categories (masked m s e gs)) ∙ ap length (categories-masked m s e gs h)
     ∙ length-categories gs
 
-plain_all : (m : ℕ) (gs : List hb_glyph_info_t) → order_view (map (with_mask m) gs) ≡ map (with_mask m) (order_view gs)
+plain_all : (m : ℕ) (gs : Glyphs) → order_view (map (with_mask m) gs) ≡ map (with_mask m) (order_view gs)
 plain_all m [] = refl
 plain_all m (g ∷ gs) = ap (λ x. x ∷ order_view (map (with_mask m) gs)) (plain-with_mask m g)
     ∙ ap (λ xs. with_mask m (plain g) ∷ xs) (plain_all m gs)
 
-pub order_view-masked : (m s e : ℕ) (gs : List hb_glyph_info_t) → order_view (masked m s e gs)
+pub order_view-masked : (m s e : ℕ) (gs : Glyphs) → order_view (masked m s e gs)
     ≡ masked m s e (order_view gs)
 order_view-masked m s e gs =
     stretch-viewed s e (map (with_mask m)) (map (with_mask m)) gs (plain_all m (stretch_of s e gs))
 
 -- masks for glyphs of the middle of three parts
-pub masked_inside : (m a b : ℕ) (front middle rest : List hb_glyph_info_t) → a ≤ b → b ≤ length middle
+pub masked_inside : (m a b : ℕ) (front middle rest : Glyphs) → a ≤ b → b ≤ length middle
     → masked m (length front + a) (length front + b) (front ++ (middle ++ rest))
     ≡ front ++ (masked m a b middle ++ rest)
 masked_inside m a b front middle rest h l =
@@ -107,7 +107,7 @@ masked_inside m a b front middle rest h l =
 
 -- the masks of a move, and of moves, leave the categories and what is carried along
 -- those of one more move
-pub masked_all-push : (r : KhmerOrder) (moves : List Move) (move : Move) (order : List ℕ) (gs : List hb_glyph_info_t)
+pub masked_all-push : (r : KhmerOrder) (moves : List Move) (move : Move) (order : List ℕ) (gs : Glyphs)
     → masked_all r (moves ++ move ∷ []) order gs
     ≡ masked_for r move (moved_all moves order) (masked_all r moves order gs)
 masked_all-push r [] move order gs = refl

@@ -7,6 +7,7 @@ ghost use Rattle.shapers_syllabic.specs.Borders.{MeetAtBorder};
 ghost use Rattle.shapers_syllabic.specs.Reordering.{RefusesIf, SyllablesLinked, TakesText, TextOrdered, glyph_numbers};
 ghost use Rattle.shapers_clusters.specs.CarriedGroups.{AreCarried, CanSettle, GroupsGuarded, GroupsSettled};
 ghost use Rattle.shapers_syllabic.specs.ReorderingWalk.{CarryingFits, NextChanging, ReorderedBehind, groups_written};
+ghost use Rattle.shapers_buffer.specs.Glyphs.{Glyphs};
 
 use shapers_base::buffer::{GlyphWalk, ShaperError, hb_buffer_t, hb_glyph_info_t};
 use shapers_clusters::carried_groups::CarriedGroups;
@@ -41,7 +42,7 @@ pub trait Reorder: MayChange {
     ghost use Rattle.shapers_syllabic.specs.Reordering.{SyllableOrdered, glyph_numbers};
 
     // What a syllable becomes in a buffer of a script, clusters and glyph flags apart.
-    ghost meaning: { Self → Option Script → List hb_glyph_info_t → List hb_glyph_info_t };
+    ghost meaning: { Self → Option Script → Glyphs → Glyphs };
 
     // What is required of a syllable's glyph numbers.
     ghost takes: { Self → List ℕ → Type 0 };
@@ -64,7 +65,7 @@ pub trait Reorder: MayChange {
         ensures refusal { RefusesIf (may_refuse self.now) result };
 
     // No glyph number of a syllable is lost.
-    ghost permutes: { (it : Self) (script : Option Script) (gs : List hb_glyph_info_t) →
+    ghost permutes: { (it : Self) (script : Option Script) (gs : Glyphs) →
         IsPermutation (glyph_numbers gs) (glyph_numbers (meaning it script gs)) };
 
     // What is related has the order that is meant.
@@ -88,7 +89,7 @@ pub trait ReorderBySteps: Reorder {
     ghost use Rattle.shapers_syllabic.specs.ReorderingLaws.{ReorderLaws};
 
     // The merges and moves that lead a syllable to what it becomes.
-    ghost steps: { Self → Option Script → List hb_glyph_info_t → List Step };
+    ghost steps: { Self → Option Script → Glyphs → List Step };
 
     // They fit the syllable, lose nothing, and lead there;
     ghost laws: { (it : Self) (script : Option Script) →

@@ -8,7 +8,7 @@ use Rattle.std.proofs.lemmas.List.{length-map}
 use Rattle.std.proofs.lemmas.List.Folds.{list_any-append}
 use Rattle.std.proofs.lemmas.List.FromFn.{length-range_with_len}
 use Rattle.std.proofs.lemmas.List.Sorted.{length_permutation}
-use Rattle.shapers_buffer.specs.declared.buffer.glyph.hb_glyph_info_t.{hb_glyph_info_t}
+use Rattle.shapers_buffer.specs.Glyphs.{Glyphs}
 use Rattle.shapers_buffer.specs.declared.buffer.level.BufferClusterLevel.{BufferClusterLevel}
 use Rattle.shapers_buffer.specs.Buffer.{Buffer, but_places}
 use Rattle.shapers_buffer.specs.Clusters.{merge, merge_all, merged, merges, stretch_of, with_stretch}
@@ -70,15 +70,15 @@ syllable_reordered s e old new h l others is =
     }
 
 -- what the steps of a syllable lead to: its merges, and then its glyphs at their places
-length-merged : (level : BufferClusterLevel) (sts : List (ℕ × ℕ)) (gs : List hb_glyph_info_t)
+length-merged : (level : BufferClusterLevel) (sts : List (ℕ × ℕ)) (gs : Glyphs)
     → length (merge_all level sts gs) ≡ length gs
 length-merged level sts gs = sym (length-map (merge_all level sts gs) plain)
     ∙ ap length (order_view-merge_all level sts gs) ∙ length-map gs plain
 
-abbrev pub syllable_merges : ℕ → ℕ → ℕ → List hb_glyph_info_t → List (ℕ × ℕ)
+abbrev pub syllable_merges : ℕ → ℕ → ℕ → Glyphs → List (ℕ × ℕ)
 syllable_merges s behind e gs = (s, behind) ∷ fronts_from s behind (stretch_of behind e gs)
 
-pub syllable_ran : (level : BufferClusterLevel) (s e behind : ℕ) (gs : List hb_glyph_info_t) → s ≤ e → e ≤ length gs
+pub syllable_ran : (level : BufferClusterLevel) (s e behind : ℕ) (gs : Glyphs) → s ≤ e → e ≤ length gs
     → is_reordered_in_universal (stretch_of s e gs) ≡ true → behind ≡ s + reph_run (stretch_of s e gs)
     → run_steps level (map (widened s e (length gs)) (universal_steps (stretch_of s e gs))) gs
     ≡ with_stretch s e
@@ -193,7 +193,7 @@ still_pieces t (q ∷ qs) h =
     ∙ ap (λ ys. ys ++ flat_map (reversed_first t) qs) (filter_not-none t q parts.0)
     ∙ ap (λ ys. q ++ ys) (still_pieces t qs parts.1)
 
-still_order : (s e : ℕ) (gs : List hb_glyph_info_t) → e ≤ length gs → list_any goes_front (stretch_of s e gs) ≡ false
+still_order : (s e : ℕ) (gs : Glyphs) → e ≤ length gs → list_any goes_front (stretch_of s e gs) ≡ false
     → syllable_places_in_order s s e gs ≡ range_with_len s (e - s)
 still_order s e gs l none =
     let all = range_with_len s (e - s) in
@@ -206,17 +206,17 @@ still_order s e gs l none =
     ∙ still_pieces (goes_front_at gs) qs (ap (list_any (goes_front_at gs)) whole ∙ calm)
     ∙ whole
 
-pub no_reph : (gs : List hb_glyph_info_t) → has_universal_reph gs ≡ false → reph_run gs ≡ 0
+pub no_reph : (gs : Glyphs) → has_universal_reph gs ≡ false → reph_run gs ≡ 0
 no_reph [] h = refl
 no_reph (g ∷ gs) h = rw h refl
 
-pub merge_nothing : (level : BufferClusterLevel) (s : ℕ) (gs : List hb_glyph_info_t) → merge level s s gs ≡ gs
+pub merge_nothing : (level : BufferClusterLevel) (s : ℕ) (gs : Glyphs) → merge level s s gs ≡ gs
 merge_nothing level s gs =
     let few : nat_lt (s - s) 2 ≡ true = grind (arith, nat_tests) in
     rw few (elim (merges level) as (λ b. (if b && false then merged s s gs else gs) ≡ gs)
     [ true ↦ refl | false ↦ refl ])
 
-still_ran : (level : BufferClusterLevel) (s e : ℕ) (gs : List hb_glyph_info_t) → s ≤ e → e ≤ length gs
+still_ran : (level : BufferClusterLevel) (s e : ℕ) (gs : Glyphs) → s ≤ e → e ≤ length gs
     → is_reordered_in_universal (stretch_of s e gs) ≡ true → has_universal_reph (stretch_of s e gs) ≡ false
     → list_any goes_front (stretch_of s e gs) ≡ false
     → gs ≡ run_steps level (map (widened s e (length gs)) (universal_steps (stretch_of s e gs))) gs
@@ -231,7 +231,7 @@ still_ran level s e gs h l kind reph none =
     ∙ ap (λ ys. take s gs ++ (ys ++ drop e gs)) (pick-range s (e - s) gs (omega arith))
     ∙ three_parts s e gs h)
 
-other_kind : (level : BufferClusterLevel) (s e : ℕ) (gs : List hb_glyph_info_t)
+other_kind : (level : BufferClusterLevel) (s e : ℕ) (gs : Glyphs)
     → is_reordered_in_universal (stretch_of s e gs) ≡ false
     → gs ≡ run_steps level (map (widened s e (length gs)) (universal_steps (stretch_of s e gs))) gs
 other_kind level s e gs kind = rw kind refl
@@ -253,7 +253,7 @@ still_reordered s e b h l still =
     ])
 
 -- so where nothing may change it
-not_front : (gs : List hb_glyph_info_t) → list_any may_reorder gs ≡ false
+not_front : (gs : Glyphs) → list_any may_reorder gs ≡ false
     → (has_universal_reph gs || list_any goes_front gs) ≡ false
 not_front [] none = refl
 not_front (g ∷ gs) none =
@@ -264,7 +264,7 @@ not_front (g ∷ gs) none =
     let rest = no_front gs parts.1 in
     rw (first.0, first.1, rest) refl
   where
-    no_front : (gs : List hb_glyph_info_t) → list_any may_reorder gs ≡ false → list_any goes_front gs ≡ false
+    no_front : (gs : Glyphs) → list_any may_reorder gs ≡ false → list_any goes_front gs ≡ false
     no_front [] none = refl
     no_front (g ∷ gs) none =
         let parts : ((g.category == R || goes_front g) ≡ false) × (list_any may_reorder gs ≡ false) =

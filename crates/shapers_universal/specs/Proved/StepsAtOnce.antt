@@ -3,7 +3,7 @@ use Rattle.std.proofs.Common.{◌≡◌, ℕ, ◌<◌, inl, inr, true, List, [],
 use Rattle.std.specs.List.{AllByRecursion, AllZip}
 use Rattle.std.proofs.lemmas.Bool.{cases_Bool}
 use Rattle.std.proofs.lemmas.List.{length-map}
-use Rattle.shapers_buffer.specs.declared.buffer.glyph.hb_glyph_info_t.{hb_glyph_info_t}
+use Rattle.shapers_buffer.specs.Glyphs.{Glyph, Glyphs}
 use Rattle.shapers_buffer.specs.declared.buffer.level.BufferClusterLevel.{BufferClusterLevel}
 use Rattle.shapers_buffer.specs.Clusters.{in_cluster, merge_all, merges}
 use Rattle.shapers_buffer.specs.Glyph.{clusters}
@@ -18,7 +18,7 @@ use Rattle.shapers_clusters.proofs.Neighbours.{length-joined_all}
 use Rattle.shapers_clusters.proofs.Picks.{AllZip-pick, pick-map}
 
 -- glyphs that fall from the same ones to the same clusters are the same
-same_fall : (zs xs ys : List hb_glyph_info_t) → AllZip FallsTo zs xs → AllZip FallsTo zs ys → clusters xs ≡ clusters ys
+same_fall : (zs xs ys : Glyphs) → AllZip FallsTo zs xs → AllZip FallsTo zs ys → clusters xs ≡ clusters ys
     → xs ≡ ys
 same_fall [] [] [] h i same = refl
 same_fall (z ∷ zs) (x ∷ xs) (y ∷ ys) h i same =
@@ -48,7 +48,7 @@ moved_clusters level m steps cs f =
     (share-moved level m steps cs f p (omega arith)) in
     share (get_or olds p 0) (omega arith) (omega arith))
 
-pub run_at_once : (level : BufferClusterLevel) (steps : List Step) (gs : List hb_glyph_info_t)
+pub run_at_once : (level : BufferClusterLevel) (steps : List Step) (gs : Glyphs)
     → AllByRecursion (MovesMerged (length gs)) steps
     → run_steps level steps gs ≡ pick (old_places (length gs) steps) (merge_all level (all_first steps) gs)
 run_at_once level steps gs f =
@@ -66,7 +66,7 @@ run_at_once level steps gs f =
           let first : clusters (run_steps level steps gs) ≡ joined_all level (all_first steps) cs =
           clusters-run_steps level steps gs ∙ joined-merged_steps level on steps cs g in
           let second : clusters (pick olds ms) ≡ joined_all level (all_first steps) cs =
-          sym (pick-map (λ (g : hb_glyph_info_t). g.cluster) olds ms)
+          sym (pick-map (λ (g : Glyph). g.cluster) olds ms)
           ∙ ap (pick olds) (clusters-merge_all level (all_first steps) gs)
           ∙ ap (λ k. pick (old_places k steps) (joined_all level (all_first steps) cs)) (sym size)
           ∙ moved_clusters level on steps cs g in

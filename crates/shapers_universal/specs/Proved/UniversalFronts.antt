@@ -5,7 +5,7 @@ use Rattle.std.proofs.lemmas.Bool.{cases_Bool, or_parts}
 use Rattle.std.proofs.lemmas.Bool.Decides.{nat_tests}
 use Rattle.std.proofs.lemmas.List.{append-nil, get_or-map, length-map}
 use Rattle.std.proofs.lemmas.List.Folds.{list_any-append}
-use Rattle.shapers_buffer.specs.declared.buffer.glyph.hb_glyph_info_t.{hb_glyph_info_t}
+use Rattle.shapers_buffer.specs.Glyphs.{Glyph, Glyphs}
 use Rattle.shapers_buffer.specs.declared.buffer.cluster_runs.ClusterRun.{ClusterRun}
 use Rattle.shapers_buffer.specs.ClusterRuns.{RunFits, with_run}
 use Rattle.shapers_buffer.specs.Clusters.{merge, merge_all, stretch_of}
@@ -23,7 +23,7 @@ use Rattle.shapers_universal.specs.Proved.UniversalSteps.{reph_run-within}
 use Rattle.shapers_universal.specs.Proved.UniversalWalks.{steps_widened}
 
 -- what merges in a piece that starts at a, from place i on
-abbrev pub fronts_of : ℕ → ℕ → List hb_glyph_info_t → List (ℕ × ℕ)
+abbrev pub fronts_of : ℕ → ℕ → Glyphs → List (ℕ × ℕ)
 fronts_of a i [] = []
 fronts_of a i (g ∷ gs) = if goes_front g then (a, suc i) ∷ fronts_of a (suc i) gs else fronts_of a (suc i) gs
 
@@ -33,8 +33,8 @@ pair_is a b c d h i = ap (λ (k : ℕ). let p : ℕ × ℕ = (k, b) in p) h ∙ 
 both_cons : (p q : ℕ × ℕ) (xs ys : List (ℕ × ℕ)) → p ≡ q → xs ≡ ys → p ∷ xs ≡ q ∷ ys
 both_cons p q xs ys h i = ap (λ r. r ∷ xs) h ∙ ap (λ rs. q ∷ rs) i
 
-fronts_along : (a j : ℕ) (t : ℕ → Bool) (gs : List hb_glyph_info_t)
-    → ((m : ℕ) (x : hb_glyph_info_t) → slice_get gs m ≡ Some x → t (j + m) ≡ goes_front x)
+fronts_along : (a j : ℕ) (t : ℕ → Bool) (gs : Glyphs)
+    → ((m : ℕ) (x : Glyph) → slice_get gs m ≡ Some x → t (j + m) ≡ goes_front x)
     → shifted a (map (λ i. (0, suc i)) (filter t (range_with_len j (length gs)))) ≡ fronts_of a (a + j) gs
 fronts_along a j t [] tells = refl
 fronts_along a j t (g ∷ gs) tells =
@@ -60,17 +60,17 @@ fronts_along a j t (g ∷ gs) tells =
       | false ↦ later
     ]
 
-told : (gs : List hb_glyph_info_t) (m : ℕ) (x : hb_glyph_info_t) → slice_get gs m ≡ Some x
+told : (gs : Glyphs) (m : ℕ) (x : Glyph) → slice_get gs m ≡ Some x
     → goes_front_at gs m ≡ goes_front x
 told gs m x h = rw h refl
 
-piece_fronts : (a : ℕ) (gs : List hb_glyph_info_t) → shifted a (piece_step gs).merged_first ≡ fronts_of a a gs
+piece_fronts : (a : ℕ) (gs : Glyphs) → shifted a (piece_step gs).merged_first ≡ fronts_of a a gs
 piece_fronts a gs =
     let none : a + 0 ≡ a = omega arith in
     fronts_along a 0 (goes_front_at gs) gs (λ m x h. let z : 0 + m ≡ m = omega arith in ap (goes_front_at gs) z
     ∙ told gs m x h) ∙ ap (λ k. fronts_of a k gs) none
 
-fronts_of-append : (a i : ℕ) (xs ys : List hb_glyph_info_t) → fronts_of a i (xs ++ ys) ≡ fronts_of a i xs
+fronts_of-append : (a i : ℕ) (xs ys : Glyphs) → fronts_of a i (xs ++ ys) ≡ fronts_of a i xs
     ++ fronts_of a (i + length xs) ys
 fronts_of-append a i [] ys = let none : i ≡ i + 0 = omega arith in ap (λ k. fronts_of a k ys) none
 fronts_of-append a i (x ∷ xs) ys =
@@ -83,7 +83,7 @@ fronts_of-append a i (x ∷ xs) ys =
       | false ↦ rest
     ]
 
-fronts_of-none : (a i : ℕ) (xs : List hb_glyph_info_t) → list_any goes_front xs ≡ false → fronts_of a i xs ≡ []
+fronts_of-none : (a i : ℕ) (xs : Glyphs) → list_any goes_front xs ≡ false → fronts_of a i xs ≡ []
 fronts_of-none a i [] h = refl
 fronts_of-none a i (x ∷ xs) h =
     let parts : (goes_front x ≡ false) × (list_any goes_front xs ≡ false) =
@@ -91,7 +91,7 @@ fronts_of-none a i (x ∷ xs) h =
     rw parts.0 (fronts_of-none a (suc i) xs parts.1)
 
 -- lists with no place to cut in front
-cut_one : (xs : List hb_glyph_info_t) (x : hb_glyph_info_t) → list_any is_universal_halant xs ≡ false
+cut_one : (xs : Glyphs) (x : Glyph) → list_any is_universal_halant xs ≡ false
     → is_universal_halant x ≡ false → cut_after is_universal_halant (x ∷ xs) ≡ (x ∷ xs) ∷ []
 cut_one [] x none h = rw h refl
 cut_one (y ∷ ys) x none h =
@@ -99,7 +99,7 @@ cut_one (y ∷ ys) x none h =
     or_parts (is_universal_halant y) (list_any is_universal_halant ys) none in
     rw h (ap (onto_first x) (cut_one ys y parts.1 parts.0))
 
-cut_behind : (xs ys : List hb_glyph_info_t) (y : hb_glyph_info_t) → list_any is_universal_halant xs ≡ false
+cut_behind : (xs ys : Glyphs) (y : Glyph) → list_any is_universal_halant xs ≡ false
     → is_universal_halant y ≡ true → cut_after is_universal_halant (xs ++ y ∷ ys) ≡ (xs ++ y ∷ [])
     ∷ cut_after is_universal_halant ys
 cut_behind [] ys y none h = rw h refl
@@ -108,19 +108,19 @@ cut_behind (x ∷ xs) ys y none h =
     or_parts (is_universal_halant x) (list_any is_universal_halant xs) none in
     rw parts.0 (ap (onto_first x) (cut_behind xs ys y parts.1 h))
 
-one_test : (g : hb_glyph_info_t) → is_universal_halant g ≡ true → goes_front g ≡ false
+one_test : (g : Glyph) → is_universal_halant g ≡ true → goes_front g ≡ false
 one_test g h = grind (arith, nat_tests, h)
 
-abbrev merges_along : ℕ → ℕ → List hb_glyph_info_t → List (ℕ × ℕ)
+abbrev merges_along : ℕ → ℕ → Glyphs → List (ℕ × ℕ)
 merges_along n a gs = all_first (steps_along n a (piece_steps (cut_after is_universal_halant gs)))
 
-merges_one : (n a : ℕ) (piece : List hb_glyph_info_t) (ps : List (List hb_glyph_info_t))
+merges_one : (n a : ℕ) (piece : Glyphs) (ps : List Glyphs)
     → all_first (steps_along n a (piece_steps (piece ∷ ps))) ≡ fronts_of a a piece
     ++ all_first (steps_along n (a + length piece) (piece_steps ps))
 merges_one n a piece ps =
     ap (λ xs. xs ++ all_first (steps_along n (a + length piece) (piece_steps ps))) (piece_fronts a piece)
 
-fronts_pieces : (n a : ℕ) (xs ys : List hb_glyph_info_t) → list_any is_universal_halant xs ≡ false
+fronts_pieces : (n a : ℕ) (xs ys : Glyphs) → list_any is_universal_halant xs ≡ false
     → merges_along n a (xs ++ ys) ≡ fronts_of a a xs ++ fronts_from a (a + length xs) ys
 fronts_pieces n a [] [] none = refl
 fronts_pieces n a (x ∷ xs) [] none =
@@ -175,7 +175,7 @@ fronts_pieces n a xs (y ∷ ys) none =
     ]
 
 -- all that a syllable merges
-pub all_merges : (s e behind : ℕ) (gs : List hb_glyph_info_t) → s ≤ e → e ≤ length gs
+pub all_merges : (s e behind : ℕ) (gs : Glyphs) → s ≤ e → e ≤ length gs
     → is_reordered_in_universal (stretch_of s e gs) ≡ true → behind ≡ s + reph_run (stretch_of s e gs)
     → all_first (map (widened s e (length gs)) (universal_steps (stretch_of s e gs)))
     ≡ (s, behind) ∷ fronts_from s behind (stretch_of behind e gs)
@@ -201,18 +201,18 @@ all_merges s e behind gs h l kind is =
     ∙ ap (fronts_from s behind) rest)
 
 -- one glyph of the walk: it goes to the front, ends its piece, or stays
-pub fronts_next : (start i e : ℕ) (gs : List hb_glyph_info_t) → i < e → e ≤ length gs
+pub fronts_next : (start i e : ℕ) (gs : Glyphs) → i < e → e ≤ length gs
     → fronts_from start i (stretch_of i e gs)
     ≡ (if goes_front (at gs i) then (start, suc i) ∷ fronts_from start (suc i) (stretch_of (suc i) e gs) else
     fronts_from (if is_universal_halant (at gs i) then suc i else start) (suc i) (stretch_of (suc i) e gs))
 fronts_next start i e gs h l = ap (fronts_from start i) (stretch_more i e gs h l)
 
-pub fronts_end : (start i e : ℕ) (gs : List hb_glyph_info_t) → e ≤ i → fronts_from start i (stretch_of i e gs) ≡ []
+pub fronts_end : (start i e : ℕ) (gs : Glyphs) → e ≤ i → fronts_from start i (stretch_of i e gs) ≡ []
 fronts_end start i e gs h = let m : e - i ≡ 0 = omega arith in ap (λ k. fronts_from start i (take k (drop i gs))) m
 
 -- what is read where only merges were made
-pub seen_at : (t : hb_glyph_info_t → Bool) → ((g : hb_glyph_info_t) → t (plain g) ≡ t g)
-    → (i : ℕ) (gs hs : List hb_glyph_info_t) → i < length gs → order_view hs ≡ order_view gs → t (at hs i) ≡ t (at gs i)
+pub seen_at : (t : Glyph → Bool) → ((g : Glyph) → t (plain g) ≡ t g)
+    → (i : ℕ) (gs hs : Glyphs) → i < length gs → order_view hs ≡ order_view gs → t (at hs i) ≡ t (at gs i)
 seen_at t blind i gs hs l same =
     let long : length hs ≡ length gs = sym (length-map hs plain) ∙ ap length same ∙ length-map gs plain in
     sym (blind (at hs i))
@@ -333,7 +333,7 @@ merging_ends s behind e start i run b0 b b1 h m is =
     (ap (λ sts. merge_all b0.level sts (with_run run b.glyphs)) (sym (fronts_end start i e b0.glyphs h)) ∙ m.left)
 
 -- what looks the same merges the same, and where nothing goes to the front nothing does
-pub fronts_from-view : (a i : ℕ) (gs : List hb_glyph_info_t) → fronts_from a i (order_view gs) ≡ fronts_from a i gs
+pub fronts_from-view : (a i : ℕ) (gs : Glyphs) → fronts_from a i (order_view gs) ≡ fronts_from a i gs
 fronts_from-view a i [] = refl
 fronts_from-view a i (g ∷ gs) =
     ap (λ sts. if goes_front g then (a, suc i) ∷ sts else fronts_from (if is_universal_halant g then suc i else a)
@@ -341,7 +341,7 @@ fronts_from-view a i (g ∷ gs) =
     ∙ ap (λ sts. if goes_front g then (a, suc i) ∷ fronts_from a (suc i) gs else sts)
     (fronts_from-view (if is_universal_halant g then suc i else a) (suc i) gs)
 
-pub fronts_from-none : (a i : ℕ) (gs : List hb_glyph_info_t) → list_any goes_front gs ≡ false → fronts_from a i gs ≡ []
+pub fronts_from-none : (a i : ℕ) (gs : Glyphs) → list_any goes_front gs ≡ false → fronts_from a i gs ≡ []
 fronts_from-none a i [] h = refl
 fronts_from-none a i (g ∷ gs) h =
     let parts : (goes_front g ≡ false) × (list_any goes_front gs ≡ false) =

@@ -12,7 +12,7 @@ use Rattle.std.proofs.lemmas.List.Filters.{length-filter_both}
 use Rattle.std.proofs.lemmas.List.FromFn.{get_or-map-range_with_len, length-map-range_with_len, length-range_with_len}
 use Rattle.std.proofs.lemmas.List.Sorted.{IsPermutation-append, IsPermutation-refl, IsPermutation-trans, list_any-IsPermutation}
 use Rattle.std.proofs.lemmas.List.Sums.{fold-append, sum_by-cons}
-use Rattle.shapers_buffer.specs.declared.buffer.glyph.hb_glyph_info_t.{hb_glyph_info_t}
+use Rattle.shapers_buffer.specs.Glyphs.{Glyph, Glyphs}
 use Rattle.shapers_buffer.specs.Clusters.{stretch_of}
 use Rattle.shapers_buffer.specs.Glyph.{default_glyph}
 use Rattle.shapers_buffer.specs.Lists.{cut_after, first_last}
@@ -33,21 +33,21 @@ use Rattle.shapers_universal.specs.Proved.UniversalSteps.{all_pieces, piece_fits
 use Rattle.shapers_clusters.proofs.Permuted.{permuted-first_last}
 
 -- the glyph at a place, and the tests of what stands there
-abbrev pub at : List hb_glyph_info_t → ℕ → hb_glyph_info_t
+abbrev pub at : Glyphs → ℕ → Glyph
 at gs i = get_or gs i default_glyph
 
-pub goes_front_is : (gs : List hb_glyph_info_t) (i : ℕ) → goes_front_at gs i ≡ goes_front (at gs i)
+pub goes_front_is : (gs : Glyphs) (i : ℕ) → goes_front_at gs i ≡ goes_front (at gs i)
 goes_front_is [] i = refl
 goes_front_is (g ∷ gs) zero = refl
 goes_front_is (g ∷ gs) (suc i) = goes_front_is gs i
 
-pub halant_at : (gs : List hb_glyph_info_t) (i : ℕ) → is_halant_at gs i ≡ is_universal_halant (at gs i)
+pub halant_at : (gs : Glyphs) (i : ℕ) → is_halant_at gs i ≡ is_universal_halant (at gs i)
 halant_at [] i = refl
 halant_at (g ∷ gs) zero = refl
 halant_at (g ∷ gs) (suc i) = halant_at gs i
 
 -- a stretch is what stands at its places
-pub stretch_at : (s e : ℕ) (gs : List hb_glyph_info_t) → e ≤ length gs
+pub stretch_at : (s e : ℕ) (gs : Glyphs) → e ≤ length gs
     → stretch_of s e gs ≡ map (at gs) (range_with_len s (e - s))
 stretch_at s e gs l =
     let n = length-stretch s e gs l in
@@ -57,7 +57,7 @@ stretch_at s e gs l =
     ∙ sym (get_or-map-range_with_len (at gs) s (e - s) i (s + i) default_glyph k refl))
 
 -- one glyph more of a stretch, and what is left of one
-pub stretch_more : (s e : ℕ) (gs : List hb_glyph_info_t) → s < e → e ≤ length gs
+pub stretch_more : (s e : ℕ) (gs : Glyphs) → s < e → e ≤ length gs
     → stretch_of s e gs ≡ at gs s ∷ stretch_of (suc s) e gs
 stretch_more s e gs h l =
     let m : e - s ≡ suc (e - suc s) = omega arith in
@@ -65,7 +65,7 @@ stretch_more s e gs h l =
     ap (λ k. take k (drop s gs)) m ∙ ap (take (suc (e - suc s))) (drop_more gs s default_glyph (omega arith))
     ∙ ap (λ k. at gs s ∷ take (e - suc s) (drop k gs)) n
 
-pub rest_of : (s e behind r : ℕ) (gs : List hb_glyph_info_t) → behind ≡ s + r → r ≤ e - s
+pub rest_of : (s e behind r : ℕ) (gs : Glyphs) → behind ≡ s + r → r ≤ e - s
     → drop r (stretch_of s e gs) ≡ stretch_of behind e gs
 rest_of s e behind r gs is within =
     let k : e - s ≡ r + (e - behind) = omega arith in
@@ -143,7 +143,7 @@ nothing_there : (p : ℕ) → slice_get {X = ℕ} [] p ≡ None
 nothing_there zero = refl
 nothing_there (suc p) = refl
 
-told_by : (gs : List hb_glyph_info_t) (qs : List ℕ) (p x : ℕ) → slice_get qs p ≡ Some x
+told_by : (gs : Glyphs) (qs : List ℕ) (p x : ℕ) → slice_get qs p ≡ Some x
     → goes_front_at (map (at gs) qs) p ≡ goes_front_at gs x
 told_by gs [] p x h = let none : zero ≡ suc zero =
     ap (λ (o : Option ℕ). option_map_or (λ (y : ℕ). 1) o 0) (sym (nothing_there p) ∙ h) in absurd (omega arith)
@@ -151,7 +151,7 @@ told_by gs (q ∷ qs) zero x h = let same : q ≡ x = ap (λ o. option_map_or (�
     ∙ ap (goes_front_at gs) same
 told_by gs (q ∷ qs) (suc p) x h = told_by gs qs p x h
 
-along_places : (gs : List hb_glyph_info_t) (qs : List (List ℕ))
+along_places : (gs : Glyphs) (qs : List (List ℕ))
     → reordered_along (piece_steps (map (map (at gs)) qs)) (flat_map (λ q. q) qs)
     ≡ flat_map (reversed_first (goes_front_at gs)) qs
 along_places gs [] = refl
@@ -171,7 +171,7 @@ along_places gs (q ∷ qs) =
     ∙ ap (λ ys. reversed_first (goes_front_at gs) q ++ ys) (along_places gs qs)
 
 -- the steps of a syllable lead to its places in order
-pub steps_place : (s e behind : ℕ) (gs : List hb_glyph_info_t) → s ≤ e → e ≤ length gs
+pub steps_place : (s e behind : ℕ) (gs : Glyphs) → s ≤ e → e ≤ length gs
     → is_reordered_in_universal (stretch_of s e gs) ≡ true → behind ≡ s + reph_run (stretch_of s e gs)
     → pick (old_places (e - s) (universal_steps (stretch_of s e gs))) (range_with_len s (e - s))
     ≡ syllable_places_in_order s behind e gs
@@ -219,7 +219,7 @@ pieces-permuted t (q ∷ qs) =
     IsPermutation-append q (reversed_first t q) (flat_map (λ q. q) qs) (flat_map (reversed_first t) qs)
     (permuted-reversed_first t q) (pieces-permuted t qs)
 
-pub order-permuted : (s behind e : ℕ) (gs : List hb_glyph_info_t)
+pub order-permuted : (s behind e : ℕ) (gs : Glyphs)
     → IsPermutation (range_with_len s (e - s)) (syllable_places_in_order s behind e gs)
 order-permuted s behind e gs =
     let all = range_with_len s (e - s) in
@@ -230,21 +230,21 @@ order-permuted s behind e gs =
     (pieces-permuted (goes_front_at gs) qs))
 
 -- a reph and what it passes are no halants, and go to no front
-passed_is : (g : hb_glyph_info_t) → reph_passes g ≡ true → (is_universal_halant g ≡ false) × (goes_front g ≡ false)
+passed_is : (g : Glyph) → reph_passes g ≡ true → (is_universal_halant g ≡ false) × (goes_front g ≡ false)
 passed_is g h = (grind (arith, nat_tests, h), grind (arith, nat_tests, h))
 
-reph_is : (g : hb_glyph_info_t) → nat_eq g.category 18 ≡ true → (is_universal_halant g ≡ false) × (goes_front g ≡ false)
+reph_is : (g : Glyph) → nat_eq g.category 18 ≡ true → (is_universal_halant g ≡ false) × (goes_front g ≡ false)
 reph_is g h = (grind (arith, nat_tests, h), grind (arith, nat_tests, h))
 
-pub record Calm (gs : List hb_glyph_info_t) : Type 0 where
+pub record Calm (gs : Glyphs) : Type 0 where
   pub no_halant : list_any is_universal_halant gs ≡ false
   pub no_front : list_any goes_front gs ≡ false
 
-calm_more : (g : hb_glyph_info_t) (gs : List hb_glyph_info_t) → (is_universal_halant g ≡ false) × (goes_front g ≡ false)
+calm_more : (g : Glyph) (gs : Glyphs) → (is_universal_halant g ≡ false) × (goes_front g ≡ false)
     → Calm gs → Calm (g ∷ gs)
 calm_more g gs h c = record { no_halant = rw h.0 c.no_halant; no_front = rw h.1 c.no_front }
 
-calm_passed : (gs : List hb_glyph_info_t) → Calm (take (prefix_len reph_passes gs) gs)
+calm_passed : (gs : Glyphs) → Calm (take (prefix_len reph_passes gs) gs)
 calm_passed [] = record { no_halant = refl; no_front = refl }
 calm_passed (g ∷ gs) = elim (cases_Bool (reph_passes g)) [
   | inl passes ↦ let k : suc (prefix_len reph_passes gs) ≡ 1 + prefix_len reph_passes gs =
@@ -254,7 +254,7 @@ calm_passed (g ∷ gs) = elim (cases_Bool (reph_passes g)) [
   | inr fails ↦ rw fails (record { no_halant = refl; no_front = refl })
 ]
 
-pub reph_calm : (gs : List hb_glyph_info_t) → Calm (take (reph_run gs) gs)
+pub reph_calm : (gs : Glyphs) → Calm (take (reph_run gs) gs)
 reph_calm [] = record { no_halant = refl; no_front = refl }
 reph_calm (g ∷ gs) = elim (cases_Bool (nat_eq g.category 18)) [
   | inl passes ↦ rw passes (calm_more g (take (prefix_len reph_passes gs) gs) (reph_is g passes) (calm_passed gs))
@@ -262,7 +262,7 @@ reph_calm (g ∷ gs) = elim (cases_Bool (nat_eq g.category 18)) [
 ]
 
 -- so are their places
-pub labels_any : (test : hb_glyph_info_t → Bool) (t : ℕ → Bool) (gs : List hb_glyph_info_t)
+pub labels_any : (test : Glyph → Bool) (t : ℕ → Bool) (gs : Glyphs)
     → ((i : ℕ) → t i ≡ test (at gs i)) → (xs : List ℕ) → list_any t xs ≡ list_any test (map (at gs) xs)
 labels_any test t gs tells [] = refl
 labels_any test t gs tells (x ∷ xs) = ap (λ b. b || list_any t xs) (tells x)
@@ -272,11 +272,11 @@ pub first_last-any : {X : Type 0} (test : X → Bool) (xs : List X) → list_any
     → list_any test (first_last xs) ≡ false
 first_last-any test xs h = sym (list_any-IsPermutation test xs (first_last xs) (permuted-first_last xs)) ∙ h
 
-pub record CalmPlaces (s behind : ℕ) (gs : List hb_glyph_info_t) : Type 0 where
+pub record CalmPlaces (s behind : ℕ) (gs : Glyphs) : Type 0 where
   pub no_halant : list_any (is_halant_at gs) (first_last (range_with_len s (behind - s))) ≡ false
   pub no_front : list_any (goes_front_at gs) (first_last (range_with_len s (behind - s))) ≡ false
 
-pub calm_places : (s e behind : ℕ) (gs : List hb_glyph_info_t) → s ≤ e → e ≤ length gs
+pub calm_places : (s e behind : ℕ) (gs : Glyphs) → s ≤ e → e ≤ length gs
     → behind ≡ s + reph_run (stretch_of s e gs) → CalmPlaces s behind gs
 calm_places s e behind gs h l is =
     let zs = stretch_of s e gs in
@@ -295,7 +295,7 @@ calm_places s e behind gs h l is =
           (labels_any goes_front (goes_front_at gs) gs (goes_front_is gs) run ∙ calm.no_front);
     }
 
-pub calm_nothing : (s : ℕ) (gs : List hb_glyph_info_t) → CalmPlaces s s gs
+pub calm_nothing : (s : ℕ) (gs : Glyphs) → CalmPlaces s s gs
 calm_nothing s gs =
     let m : s - s ≡ 0 = omega arith in
     record {
@@ -353,7 +353,7 @@ labels_cut s behind e h l =
 pub nothing_behind : (s e : ℕ) → first_behind (s - s) (range_with_len s (e - s)) ≡ range_with_len s (e - s)
 nothing_behind s e = let m : s - s ≡ 0 = omega arith in ap (λ k. first_behind k (range_with_len s (e - s))) m
 
-pub order_first : (s behind e end : ℕ) (gs : List hb_glyph_info_t) → s ≤ behind → behind ≤ e → s < e → e ≤ length gs
+pub order_first : (s behind e end : ℕ) (gs : Glyphs) → s ≤ behind → behind ≤ e → s < e → e ≤ length gs
     → CalmPlaces s behind gs → end ≡ behind + first_piece_len is_universal_halant (stretch_of behind e gs)
     → syllable_places_in_order s behind e gs ≡ piece_places s behind end gs ++ syllable_places_in_order end end e gs
 order_first s behind e end gs h l some inside calm is =
@@ -402,7 +402,7 @@ order_first s behind e end gs h l some inside calm is =
     (reversed_first-behind (goes_front_at gs) run first calm.no_front)
     ∙ ap (λ xs. piece_places s behind end gs ++ flat_map R (cut_after H xs)) (sym (nothing_behind end e))
 
-pub length-piece : (s behind e : ℕ) (gs : List hb_glyph_info_t) → s ≤ behind → behind ≤ e
+pub length-piece : (s behind e : ℕ) (gs : Glyphs) → s ≤ behind → behind ≤ e
     → length (piece_places s behind e gs) ≡ e - s
 length-piece s behind e gs h l =
     let t = goes_front_at gs in
@@ -421,7 +421,7 @@ length-piece s behind e gs h l =
       length-range_with_len s (behind - s),
     )
 
-pub order_none : (s e : ℕ) (gs : List hb_glyph_info_t) → e ≤ s → syllable_places_in_order s s e gs ≡ []
+pub order_none : (s e : ℕ) (gs : Glyphs) → e ≤ s → syllable_places_in_order s s e gs ≡ []
 order_none s e gs h =
     let m : e - s ≡ 0 = omega arith in
     ap (λ xs. flat_map (reversed_first (goes_front_at gs)) (cut_after (is_halant_at gs) xs)) (nothing_behind s e

@@ -10,7 +10,7 @@ use Rattle.std.proofs.lemmas.List.Elements.{filter-append}
 use Rattle.std.proofs.lemmas.List.Folds.{list_any-append}
 use Rattle.std.proofs.lemmas.List.FromFn.{length-range_with_len, get_or-range_with_len}
 use Rattle.std.proofs.lemmas.List.Sums.{prefix_len-le-length, sum_by-cons}
-use Rattle.shapers_buffer.specs.declared.buffer.glyph.hb_glyph_info_t.{hb_glyph_info_t}
+use Rattle.shapers_buffer.specs.Glyphs.{Glyphs}
 use Rattle.shapers_buffer.specs.Lists.{first_last}
 use Rattle.shapers_buffer.proofs.ListLaws.{LastPass, last_pass}
 use Rattle.shapers_buffer.proofs.MappedLists.{all-mapped, drop-range}
@@ -57,7 +57,7 @@ one_holds : (k r : ℕ) → 0 < r → r < k → (nat_lt 0 r && nat_lt r k) ≡ t
 one_holds k r a b = grind (arith, nat_tests)
 
 -- the step of the reph
-pub reph_run-within : (gs : List hb_glyph_info_t) → reph_run gs ≤ length gs
+pub reph_run-within : (gs : Glyphs) → reph_run gs ≤ length gs
 reph_run-within [] = omega arith
 reph_run-within (g ∷ gs) =
     let l = prefix_len-le-length reph_passes gs in
@@ -66,14 +66,14 @@ reph_run-within (g ∷ gs) =
       | false ↦ omega arith
     ]
 
-pub reph_permutes : (gs : List hb_glyph_info_t) → Permutes (length gs) (universal_reph_step gs)
+pub reph_permutes : (gs : Glyphs) → Permutes (length gs) (universal_reph_step gs)
 reph_permutes gs = permuted-first_behind (reph_run gs) (range_with_len 0 (length gs))
 
-pub reph_fits : (gs : List hb_glyph_info_t) → FitsStep (length gs) (universal_reph_step gs)
+pub reph_fits : (gs : Glyphs) → FitsStep (length gs) (universal_reph_step gs)
 reph_fits gs =
     fits_permuted (length gs) (universal_reph_step gs) (reph_permutes gs) (reph_run-within gs, tt) tt
 
-pub reph_moves : (gs : List hb_glyph_info_t) → MovesMerged (length gs) (universal_reph_step gs)
+pub reph_moves : (gs : Glyphs) → MovesMerged (length gs) (universal_reph_step gs)
 reph_moves gs =
     let n = length gs in
     let k = reph_run gs in
@@ -92,17 +92,17 @@ reph_moves gs =
     (λ r a b. or_left (nat_lt 0 r && nat_lt r k) false (one_holds k r a b)) (reph_fits gs)
 
 -- the step of a piece
-pub piece_permutes : (gs : List hb_glyph_info_t) → Permutes (length gs) (piece_step gs)
+pub piece_permutes : (gs : Glyphs) → Permutes (length gs) (piece_step gs)
 piece_permutes gs = permuted-reversed_first (goes_front_at gs) (places_within gs)
 
-fronts_within : (gs : List hb_glyph_info_t) → EndWithin (length gs) (piece_step gs).merged_first
+fronts_within : (gs : Glyphs) → EndWithin (length gs) (piece_step gs).merged_first
 fronts_within gs =
     let n = length gs in
     all-mapped (λ i. i < n) (λ st. st.1 ≤ n) (λ i. (0, suc i)) (filter (goes_front_at gs) (places_within gs))
     (λ i h. omega arith)
     (all-filter (λ i. i < n) (goes_front_at gs) (places_within gs) (within_range 0 n n (omega arith)))
 
-pub piece_fits : (gs : List hb_glyph_info_t) → FitsStep (length gs) (piece_step gs)
+pub piece_fits : (gs : Glyphs) → FitsStep (length gs) (piece_step gs)
 piece_fits gs = fits_permuted (length gs) (piece_step gs) (piece_permutes gs) (fronts_within gs) tt
 
 -- a stretch for each place that passes, and one of them
@@ -120,7 +120,7 @@ held_one t before after m r passes a b =
     ∙ or_right (list_any test front) (test (0, suc m) || list_any test rest)
     (or_left (test (0, suc m)) (list_any test rest) (one_holds (suc m) r a b))
 
-piece_moves_by : (gs : List hb_glyph_info_t) → LastPass (goes_front_at gs) (places_within gs)
+piece_moves_by : (gs : Glyphs) → LastPass (goes_front_at gs) (places_within gs)
     → MovesMerged (length gs) (piece_step gs)
 piece_moves_by gs p =
     let n = length gs in
@@ -155,7 +155,7 @@ piece_moves_by gs p =
     (held_one t p.before p.after p.element r p.passes a (omega arith)))
     (piece_fits gs)
 
-pub piece_moves : (gs : List hb_glyph_info_t) → MovesMerged (length gs) (piece_step gs)
+pub piece_moves : (gs : Glyphs) → MovesMerged (length gs) (piece_step gs)
 piece_moves gs =
     let t = goes_front_at gs in
     let ps = places_within gs in
@@ -178,26 +178,26 @@ piece_moves gs =
     ]
 
 -- the steps of pieces, and of a syllable
-sum_pieces : (ps : List (List hb_glyph_info_t)) → sum_by (λ piece. piece.0) (piece_steps ps)
+sum_pieces : (ps : List Glyphs) → sum_by (λ piece. piece.0) (piece_steps ps)
     ≡ length (flat_map (λ piece. piece) ps)
 sum_pieces [] = refl
 sum_pieces (piece ∷ ps) =
     sum_by-cons (λ (p : ℕ × List Step). p.0) (length piece, piece_step piece ∷ []) (piece_steps ps)
     ∙ ap (λ k. length piece + k) (sum_pieces ps) ∙ sym (length-append piece (flat_map (λ p. p) ps))
 
-pub pieces_sum : (gs : List hb_glyph_info_t) → sum_by (λ piece. piece.0) (piece_steps (pieces gs)) ≡ length gs
+pub pieces_sum : (gs : Glyphs) → sum_by (λ piece. piece.0) (piece_steps (pieces gs)) ≡ length gs
 pieces_sum gs = sum_pieces (pieces gs) ∙ ap length (cut_after-concat is_universal_halant (reph_moved gs))
     ∙ length-first_behind (reph_run gs) gs
 
-pub all_pieces : (P : ℕ → Step → Type 0) → ((gs : List hb_glyph_info_t) → P (length gs) (piece_step gs))
-    → (ps : List (List hb_glyph_info_t)) → AllByRecursion (λ piece. AllByRecursion (P piece.0) piece.1) (piece_steps ps)
+pub all_pieces : (P : ℕ → Step → Type 0) → ((gs : Glyphs) → P (length gs) (piece_step gs))
+    → (ps : List Glyphs) → AllByRecursion (λ piece. AllByRecursion (P piece.0) piece.1) (piece_steps ps)
 all_pieces P holds [] = tt
 all_pieces P holds (piece ∷ ps) = ((holds piece, tt), all_pieces P holds ps)
 
 all_steps : (P : ℕ → Step → Type 0)
     → ((s e n : ℕ) (step : Step) → s ≤ e → e ≤ n → P (e - s) step → P n (widened s e n step))
-    → ((gs : List hb_glyph_info_t) → P (length gs) (universal_reph_step gs))
-    → ((gs : List hb_glyph_info_t) → P (length gs) (piece_step gs)) → (gs : List hb_glyph_info_t)
+    → ((gs : Glyphs) → P (length gs) (universal_reph_step gs))
+    → ((gs : Glyphs) → P (length gs) (piece_step gs)) → (gs : Glyphs)
     → AllByRecursion (P (length gs)) (universal_steps gs)
 all_steps P widens reph piece gs =
     elim (is_reordered_in_universal gs) as (λ b. AllByRecursion (P (length gs)) (if b then universal_reph_step gs
@@ -210,11 +210,11 @@ all_steps P widens reph piece gs =
       | false ↦ tt
     ]
 
-pub universal_fits : (gs : List hb_glyph_info_t) → FitSteps (length gs) (universal_steps gs)
+pub universal_fits : (gs : Glyphs) → FitSteps (length gs) (universal_steps gs)
 universal_fits gs = all_steps FitsStep fits-widened reph_fits piece_fits gs
 
-pub universal_permutes : (gs : List hb_glyph_info_t) → AllByRecursion (Permutes (length gs)) (universal_steps gs)
+pub universal_permutes : (gs : Glyphs) → AllByRecursion (Permutes (length gs)) (universal_steps gs)
 universal_permutes gs = all_steps Permutes permutes-widened reph_permutes piece_permutes gs
 
-pub universal_moves : (gs : List hb_glyph_info_t) → AllByRecursion (MovesMerged (length gs)) (universal_steps gs)
+pub universal_moves : (gs : Glyphs) → AllByRecursion (MovesMerged (length gs)) (universal_steps gs)
 universal_moves gs = all_steps MovesMerged moves-widened reph_moves piece_moves gs

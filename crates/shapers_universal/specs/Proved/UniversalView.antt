@@ -4,7 +4,7 @@ use Rattle.std.specs.List.{flat_map, list_any, range_with_len, slice_get}
 use Rattle.std.specs.Option.{option_map, option_map_or}
 use Rattle.std.proofs.lemmas.List.{length-map, map-append, take_at, drop_at}
 use Rattle.std.proofs.lemmas.Option.{slice_get-map}
-use Rattle.shapers_buffer.specs.declared.buffer.glyph.hb_glyph_info_t.{hb_glyph_info_t}
+use Rattle.shapers_buffer.specs.Glyphs.{Glyph, Glyphs}
 use Rattle.shapers_buffer.specs.declared.buffer.level.BufferClusterLevel.TheVariants.{Characters}
 use Rattle.shapers_buffer.specs.Glyph.{order_view, plain}
 use Rattle.shapers_buffer.specs.Lists.{cut_after}
@@ -24,21 +24,21 @@ use Rattle.shapers_universal.specs.Proved.UniversalLists.{cut_after-concat, filt
 use Rattle.shapers_universal.specs.Proved.UniversalSteps.{all_pieces, piece_fits, pieces_sum, reph_run-within, universal_fits, universal_permutes}
 
 -- what the step of the reph picks
-pub reph_picks : (h : hb_glyph_info_t → hb_glyph_info_t) (gs : List hb_glyph_info_t)
+pub reph_picks : (h : Glyph → Glyph) (gs : Glyphs)
     → pick (universal_reph_step gs).places (map h gs) ≡ map h (reph_moved gs)
 reph_picks h gs = pick-map h (universal_reph_step gs).places gs
     ∙ ap (map h) (pick-first_behind (reph_run gs) gs (reph_run-within gs))
 
 -- and that of a piece
-front_told : (gs : List hb_glyph_info_t) (p : ℕ) (x : hb_glyph_info_t) → slice_get gs p ≡ Some x
+front_told : (gs : Glyphs) (p : ℕ) (x : Glyph) → slice_get gs p ≡ Some x
     → goes_front_at gs p ≡ goes_front x
 front_told gs p x h = ap (λ o. option_map_or goes_front o false) h
 
-pub piece_picks : (gs : List hb_glyph_info_t) → pick (piece_step gs).places gs ≡ reversed_first goes_front gs
+pub piece_picks : (gs : Glyphs) → pick (piece_step gs).places gs ≡ reversed_first goes_front gs
 piece_picks gs = pick-reversed_first (goes_front_at gs) goes_front gs (front_told gs)
 
 -- the steps of pieces reorder each for itself
-along_pieces : {Y : Type 0} (f : hb_glyph_info_t → Y) (ps : List (List hb_glyph_info_t))
+along_pieces : {Y : Type 0} (f : Glyph → Y) (ps : List Glyphs)
     → reordered_along (piece_steps ps) (map f (flat_map (λ piece. piece) ps))
     ≡ map f (flat_map (reversed_first goes_front) ps)
 along_pieces f [] = refl
@@ -61,7 +61,7 @@ along_pieces f (piece ∷ ps) =
     ∙ sym (map-append f (reversed_first goes_front piece) (flat_map (reversed_first goes_front) ps))
 
 -- the steps of a syllable that is reordered, over what h makes of its glyphs
-steps_lead : (h : hb_glyph_info_t → hb_glyph_info_t) (gs : List hb_glyph_info_t)
+steps_lead : (h : Glyph → Glyph) (gs : Glyphs)
     → order_view (run_steps Characters (universal_reph_step gs ∷ steps_along (length gs) 0 (piece_steps (pieces gs)))
     (map h gs)) ≡ order_view (map h (flat_map (reversed_first goes_front) (pieces gs)))
 steps_lead h gs =
@@ -80,7 +80,7 @@ steps_lead h gs =
     ∙ sym (mapped_twice plain h (flat_map (reversed_first goes_front) ps))
 
 -- what all steps pick, through what h makes of the glyphs
-pub picked_order : (h : hb_glyph_info_t → hb_glyph_info_t) (gs : List hb_glyph_info_t)
+pub picked_order : (h : Glyph → Glyph) (gs : Glyphs)
     → pick (old_places (length gs) (universal_steps gs)) (order_view (map h gs))
     ≡ order_view (map h (universal_order gs))
 picked_order h gs =
@@ -98,7 +98,7 @@ picked_order h gs =
       | false ↦ pick-all n (order_view (map h gs)) (length-map (map h gs) plain ∙ long)
     ]
 
-pub universal_agrees : (gs : List hb_glyph_info_t) → seen carried (universal_order gs)
+pub universal_agrees : (gs : Glyphs) → seen carried (universal_order gs)
     ≡ pick (old_places (length gs) (universal_steps gs)) (seen carried gs)
 universal_agrees gs =
     sym (mapped_twice plain carried (universal_order gs))
@@ -110,38 +110,38 @@ pub universal_laws : ReorderLaws universal_order universal_steps
 universal_laws = record { fits = universal_fits; permutes = universal_permutes; agrees = universal_agrees }
 
 -- clusters, masks and serials are not seen
-reph_run-seen : (v : View) (gs : List hb_glyph_info_t) → reph_run (seen_by v gs) ≡ reph_run gs
+reph_run-seen : (v : View) (gs : Glyphs) → reph_run (seen_by v gs) ≡ reph_run gs
 reph_run-seen v [] = refl
 reph_run-seen v (g ∷ gs) = ap (λ k. if nat_eq g.category 18 then suc k else 0) (prefix_len-map reph_passes (shown v) gs)
 
-is_reordered-seen : (v : View) → KeepsKinds v → (gs : List hb_glyph_info_t) → is_reordered_in_universal (seen_by v gs)
+is_reordered-seen : (v : View) → KeepsKinds v → (gs : Glyphs) → is_reordered_in_universal (seen_by v gs)
     ≡ is_reordered_in_universal gs
 is_reordered-seen v kinds [] = refl
 is_reordered-seen v kinds (g ∷ gs) =
     ap (λ k. list_any (λ category. category == k) (0 ∷ (1 ∷ (2 ∷ (7 ∷ []))))) (kinds g.syllable)
 
-reph_moved-seen : (v : View) (gs : List hb_glyph_info_t) → reph_moved (seen_by v gs) ≡ seen_by v (reph_moved gs)
+reph_moved-seen : (v : View) (gs : Glyphs) → reph_moved (seen_by v gs) ≡ seen_by v (reph_moved gs)
 reph_moved-seen v gs = ap (λ k. first_behind k (seen_by v gs)) (reph_run-seen v gs)
     ∙ first_behind-map (shown v) (reph_run gs) gs
 
-pub pieces_cut-seen : (v : View) (gs : List hb_glyph_info_t) → cut_after is_universal_halant (seen_by v gs)
+pub pieces_cut-seen : (v : View) (gs : Glyphs) → cut_after is_universal_halant (seen_by v gs)
     ≡ map (seen_by v) (cut_after is_universal_halant gs)
 pieces_cut-seen v gs = cut_after-map is_universal_halant (shown v) gs
 
-pieces-seen : (v : View) (gs : List hb_glyph_info_t) → pieces (seen_by v gs) ≡ map (seen_by v) (pieces gs)
+pieces-seen : (v : View) (gs : Glyphs) → pieces (seen_by v gs) ≡ map (seen_by v) (pieces gs)
 pieces-seen v gs = ap (cut_after is_universal_halant) (reph_moved-seen v gs) ∙ pieces_cut-seen v (reph_moved gs)
 
-at_seen : (v : View) (o : Option hb_glyph_info_t) → option_map_or goes_front (option_map (shown v) o) false
+at_seen : (v : View) (o : Option Glyph) → option_map_or goes_front (option_map (shown v) o) false
     ≡ option_map_or goes_front o false
 at_seen v None = refl
 at_seen v (Some g) = refl
 
-pub goes_front_at-seen : (v : View) (gs : List hb_glyph_info_t) (i : ℕ) → goes_front_at (seen_by v gs) i
+pub goes_front_at-seen : (v : View) (gs : Glyphs) (i : ℕ) → goes_front_at (seen_by v gs) i
     ≡ goes_front_at gs i
 goes_front_at-seen v gs i = ap (λ o. option_map_or goes_front o false) (slice_get-map (shown v) gs i)
     ∙ at_seen v (slice_get gs i)
 
-pub piece_step-seen : (v : View) (gs : List hb_glyph_info_t) → piece_step (seen_by v gs) ≡ piece_step gs
+pub piece_step-seen : (v : View) (gs : Glyphs) → piece_step (seen_by v gs) ≡ piece_step gs
 piece_step-seen v gs =
     let step : List ℕ → (ℕ → Bool) → Step =
     λ ps t. record {
@@ -164,14 +164,14 @@ piece_step-seen v gs =
     ∙ ap (λ yes. made yes (filter (λ x. not (t x)) ps) ps) (filter-same t u ps same)
     ∙ ap (λ no. made (filter u ps) no ps) (filter-same (λ x. not (t x)) (λ x. not (u x)) ps (λ x. ap not (same x)))
 
-pub piece_steps-seen : (v : View) (ps : List (List hb_glyph_info_t)) → piece_steps (map (seen_by v) ps) ≡ piece_steps ps
+pub piece_steps-seen : (v : View) (ps : List Glyphs) → piece_steps (map (seen_by v) ps) ≡ piece_steps ps
 piece_steps-seen v [] = refl
 piece_steps-seen v (piece ∷ ps) =
     ap (λ n. (n, piece_step (seen_by v piece) ∷ []) ∷ piece_steps (map (seen_by v) ps)) (length-map piece (shown v))
     ∙ ap (λ s. (length piece, s ∷ []) ∷ piece_steps (map (seen_by v) ps)) (piece_step-seen v piece)
     ∙ ap (λ qs. (length piece, piece_step piece ∷ []) ∷ qs) (piece_steps-seen v ps)
 
-pub reph_step-seen : (v : View) (gs : List hb_glyph_info_t) → universal_reph_step (seen_by v gs)
+pub reph_step-seen : (v : View) (gs : Glyphs) → universal_reph_step (seen_by v gs)
     ≡ universal_reph_step gs
 reph_step-seen v gs =
     let step : ℕ → ℕ → Step =
@@ -183,7 +183,7 @@ reph_step-seen v gs =
     } in
     ap (λ k. step k (length (seen_by v gs))) (reph_run-seen v gs) ∙ ap (step (reph_run gs)) (length-map gs (shown v))
 
-pub universal_steps-seen : (v : View) → KeepsKinds v → (gs : List hb_glyph_info_t) → universal_steps (seen_by v gs)
+pub universal_steps-seen : (v : View) → KeepsKinds v → (gs : Glyphs) → universal_steps (seen_by v gs)
     ≡ universal_steps gs
 universal_steps-seen v kinds gs =
     let made : Bool → Step → ℕ → List (ℕ × List Step) → List Step =
@@ -197,7 +197,7 @@ universal_steps-seen v kinds gs =
     ∙ ap (λ ps. made (is_reordered_in_universal gs) (universal_reph_step gs) (length gs) ps)
     (ap piece_steps (pieces-seen v gs) ∙ piece_steps-seen v (pieces gs))
 
-ordered-seen : (v : View) (ps : List (List hb_glyph_info_t)) → flat_map (reversed_first goes_front) (map (seen_by v) ps)
+ordered-seen : (v : View) (ps : List Glyphs) → flat_map (reversed_first goes_front) (map (seen_by v) ps)
     ≡ seen_by v (flat_map (reversed_first goes_front) ps)
 ordered-seen v [] = refl
 ordered-seen v (piece ∷ ps) =
@@ -206,7 +206,7 @@ ordered-seen v (piece ∷ ps) =
     ∙ ap (λ ys. seen_by v (reversed_first goes_front piece) ++ ys) (ordered-seen v ps)
     ∙ sym (map-append (shown v) (reversed_first goes_front piece) (flat_map (reversed_first goes_front) ps))
 
-pub universal_order-seen : (v : View) → KeepsKinds v → (gs : List hb_glyph_info_t) → universal_order (seen_by v gs)
+pub universal_order-seen : (v : View) → KeepsKinds v → (gs : Glyphs) → universal_order (seen_by v gs)
     ≡ seen_by v (universal_order gs)
 universal_order-seen v kinds gs =
     ap (λ b. if b then flat_map (reversed_first goes_front) (pieces (seen_by v gs)) else seen_by v gs)
@@ -218,9 +218,9 @@ universal_order-seen v kinds gs =
       | false ↦ refl
     ]
 
-pub universal_steps-view : (gs : List hb_glyph_info_t) → universal_steps (order_view gs) ≡ universal_steps gs
+pub universal_steps-view : (gs : Glyphs) → universal_steps (order_view gs) ≡ universal_steps gs
 universal_steps-view gs = universal_steps-seen plain_view (λ b. refl) gs
 
-pub universal_order-view : (gs : List hb_glyph_info_t) → universal_order (order_view gs)
+pub universal_order-view : (gs : Glyphs) → universal_order (order_view gs)
     ≡ order_view (universal_order gs)
 universal_order-view gs = universal_order-seen plain_view (λ b. refl) gs

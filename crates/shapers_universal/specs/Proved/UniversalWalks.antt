@@ -1,6 +1,6 @@
 -- What the code of the order shows: its merges and moves are the steps.
-use Rattle.std.proofs.Common.{◌≡◌, ℕ, ◌+◌, ◌≤◌, true, if◌then◌else◌, List, [], ◌∷◌, map, length, ap, ◌∙◌, arith}
-use Rattle.shapers_buffer.specs.declared.buffer.glyph.hb_glyph_info_t.{hb_glyph_info_t}
+use Rattle.std.proofs.Common.{◌≡◌, ℕ, ◌+◌, ◌≤◌, true, if◌then◌else◌, [], ◌∷◌, map, length, ap, ◌∙◌, arith}
+use Rattle.shapers_buffer.specs.Glyphs.{Glyphs}
 use Rattle.shapers_buffer.specs.Clusters.{stretch_of}
 use Rattle.shapers_buffer.proofs.ClusterLemmas.{length-stretch}
 use Rattle.shapers_clusters.specs.Steps.{steps_along, widened}
@@ -9,7 +9,7 @@ use Rattle.shapers_universal.specs.Proved.UniversalSteps.{pieces_sum}
 use Rattle.shapers_clusters.proofs.Halves.{along-widened}
 
 -- the steps of a syllable that is reordered, over a text: its reph, then its pieces
-pub steps_widened : (s e : ℕ) (gs : List hb_glyph_info_t) → s ≤ e → e ≤ length gs
+pub steps_widened : (s e : ℕ) (gs : Glyphs) → s ≤ e → e ≤ length gs
     → is_reordered_in_universal (stretch_of s e gs) ≡ true
     → map (widened s e (length gs)) (universal_steps (stretch_of s e gs))
     ≡ widened s e (length gs) (universal_reph_step (stretch_of s e gs))

@@ -1,11 +1,12 @@
 //! What lookups did, kept as categories for the reordering.
-ghost use Rattle.std.specs.Prelude.{◌≡◌, ◌∷◌, List, if◌then◌else◌, true};
+ghost use Rattle.std.specs.Prelude.{◌≡◌, ◌∷◌, if◌then◌else◌, true};
 ghost use Rattle.std.specs.List.{flat_map};
 ghost use Rattle.shapers_buffer.specs.Syllables.{syllables};
 ghost use Rattle.shapers_buffer.specs.declared.buffer.glyph.hb_glyph_info_t.{hb_glyph_info_t};
 ghost use Rattle.shapers_universal.specs.declared.ot_shaper_use.category.TheConstants.{VPre};
 ghost use Rattle.shapers_universal.specs.PlanData.{is_universal, rphf_of};
 ghost use Rattle.shapers_universal.specs.UniversalSyllables.{first_recorded, rphf_recorded, with_pref_recorded, with_rphf_recorded};
+ghost use Rattle.shapers_buffer.specs.Glyphs.{Glyphs};
 
 use super::category;
 use super::syllable_walk::{EachFront, FrontChange, change_fronts};
@@ -98,7 +99,7 @@ impl FrontChange for RecordPref {
 // Gives the glyph another category if a lookup put it in, and returns whether none did.
 #[inline]
 fn record_glyph(glyph: &mut hb_glyph_info_t, category: u8) -> bool
-    ensures { (rest : List hb_glyph_info_t) → first_recorded category (glyph.old ∷ rest)
+    ensures { (rest : Glyphs) → first_recorded category (glyph.old ∷ rest)
         ≡ glyph.new ∷ (if result then first_recorded category rest else rest) }
 {
     if !glyph.glyph_props.is_substituted() {

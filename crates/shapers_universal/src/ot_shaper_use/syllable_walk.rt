@@ -1,19 +1,20 @@
 //! Walks over a text syllable by syllable, over the slice that the buffer keeps it in.
-ghost use Rattle.std.specs.Prelude.{◌≡◌, ◌<◌, ◌≤◌, ◌∷◌, [], List, length};
+ghost use Rattle.std.specs.Prelude.{◌≡◌, ◌<◌, ◌≤◌, ◌∷◌, [], length};
 ghost use Rattle.std.specs.List.{flat_map};
 ghost use Rattle.shapers_buffer.specs.Clusters.{with_stretch};
 ghost use Rattle.shapers_buffer.specs.Syllables.{first_syllable_len, syllables};
 ghost use Rattle.shapers_buffer.specs.declared.buffer.glyph.hb_glyph_info_t.{hb_glyph_info_t};
 ghost use Rattle.shapers_universal.specs.UniversalWalk.{left_to_change};
+ghost use Rattle.shapers_buffer.specs.Glyphs.{Glyphs};
 
 use shapers_base::buffer::{GlyphWalk, first_syllable_len, hb_glyph_info_t};
 
 // A change of one syllable, which looks at nothing else.
 pub(super) trait SyllableChange {
-    ghost use Rattle.std.specs.Prelude.{◌≡◌, List};
+    ghost use Rattle.std.specs.Prelude.{◌≡◌};
     ghost use Rattle.shapers_buffer.specs.declared.buffer.glyph.hb_glyph_info_t.{hb_glyph_info_t};
 
-    ghost changed: { Self → List hb_glyph_info_t → List hb_glyph_info_t };
+    ghost changed: { Self → Glyphs → Glyphs };
 
     // Changes the syllable.
     fn change(&self, syllable: &mut [hb_glyph_info_t])
@@ -56,14 +57,14 @@ pub(super) fn change_syllables<C: SyllableChange>(change: &C, glyphs: &mut [hb_g
 
 // A change of the first glyphs of a syllable, one after another, until one of them is the last.
 pub(super) trait FrontChange {
-    ghost use Rattle.std.specs.Prelude.{◌≡◌, ◌∷◌, List, if◌then◌else◌};
+    ghost use Rattle.std.specs.Prelude.{◌≡◌, ◌∷◌, if◌then◌else◌};
     ghost use Rattle.shapers_buffer.specs.declared.buffer.glyph.hb_glyph_info_t.{hb_glyph_info_t};
 
-    ghost changed: { Self → List hb_glyph_info_t → List hb_glyph_info_t };
+    ghost changed: { Self → Glyphs → Glyphs };
 
     // Changes a glyph, and returns whether the next one of its syllable is to be changed too.
     fn change(&self, glyph: &mut hb_glyph_info_t) -> bool
-        ensures { (rest : List hb_glyph_info_t) → changed self.now (glyph.old ∷ rest)
+        ensures { (rest : Glyphs) → changed self.now (glyph.old ∷ rest)
             ≡ glyph.new ∷ (if result then changed self.now rest else rest) };
 }
 
@@ -108,7 +109,7 @@ fn change_next<C: FrontChange>(
     glyph: &mut hb_glyph_info_t,
 ) -> Option<u8>
     requires { C.changed change.now [] ≡ [] }
-    ensures { (rest : List hb_glyph_info_t)
+    ensures { (rest : Glyphs)
         → left_to_change (C.changed change.now) passed (glyph.old ∷ rest)
         ≡ glyph.new ∷ left_to_change (C.changed change.now) result rest }
 {

@@ -39,13 +39,10 @@ returns-clause-flags g c =
     c.args.buffer.now _ (returns-clause-joined g c)
 
 pub returns-clause-breaks : goal.returns-clause-breaks
-returns-clause-breaks g c =
-    search (arith, breaks-where_clear, returns-clause-joined)
+returns-clause-breaks = search (arith, breaks-where_clear, returns-clause-joined)
 
 pub returns-clause-needless : goal.returns-clause-needless
-returns-clause-needless g c =
-    search (arith, none-needless, returns-clause-joined)
+returns-clause-needless = search (arith, none-needless, returns-clause-joined)
 
 pub returns-clause-first : goal.returns-clause-first
-returns-clause-first g c =
-    search (arith, first-as_flagged, returns-clause-joined)
+returns-clause-first = search (arith, first-as_flagged, returns-clause-joined)

@@ -5,7 +5,7 @@ use Rattle.std.proofs.lemmas.Result.{err_from_is_err_and}
 use Rattle.std.proofs.lemmas.List.{length-map}
 use Rattle.std.proofs.lemmas.List.Elements.{All-contains}
 use Rattle.shapers_base.specs.declared.plan.pause.Pause.TheVariants.{ReorderKhmer}
-use Rattle.shapers_buffer.specs.declared.buffer.glyph.hb_glyph_info_t.{hb_glyph_info_t}
+use Rattle.shapers_buffer.specs.Glyphs.{Glyph, Glyphs}
 use Rattle.shapers_buffer.specs.declared.buffer.level.Direction.TheVariants.{LeftToRight}
 use Rattle.shapers_buffer.specs.declared.buffer.refusal.ShaperError.{ShaperError}
 use Rattle.shapers_buffer.specs.declared.buffer.refusal.ShaperError.TheVariants.{TooLong}
@@ -28,7 +28,7 @@ returns-in_err-run_pause-2-clause-room g c e =
     let set_up = c.run_pause.new.buffer in
     let before = c.in_ok-buffer.buffer in
     let stay = c.in_ok-run_pause.ensures.laws.1 in
-    let cluster = λ (h : hb_glyph_info_t). h.cluster in
+    let cluster = λ (h : Glyph). h.cluster in
     let long : length set_up.glyphs ≡ length before.glyphs =
     omega (arith, ap length stay, length-map set_up.glyphs cluster, length-map before.glyphs cluster) in
     let limit : set_up.max_len ≡ before.max_len = ap (λ (b : Buffer). b.max_len) c.in_ok-run_pause.ensures.ok in
@@ -48,7 +48,7 @@ returns-in_err-run_pause-2-clause-room g c e =
     let same = passed_on c.from_residual-in_err-run_pause-2.result x c.from_residual-in_err-run_pause-2.ensures.1 e in
     room (ap (λ (y : ShaperError). let r : Result Bool ShaperError = Err y in r) same)
 
-stops-mapped : (n : ℕ) (gs read : List hb_glyph_info_t) (stops : List ℕ) → stops ≡ caret_stops LeftToRight read
+stops-mapped : (n : ℕ) (gs read : Glyphs) (stops : List ℕ) → stops ≡ caret_stops LeftToRight read
     → read ≡ gs
     → IsCaretMap n (clusters gs) (caret_stops LeftToRight gs) → IsCaretMap n (clusters gs) stops
 stops-mapped n gs read stops a b map = subst (λ (ss : List ℕ). IsCaretMap n (clusters gs) ss)

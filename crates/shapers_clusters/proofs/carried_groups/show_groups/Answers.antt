@@ -4,5 +4,4 @@ use Rattle.shapers_clusters.proofs.GroupWalk.{show_next}
 use Rattle.shapers_clusters.proofs.carried_groups.show_groups.Goals as goal
 
 pub loop-i-preserved : goal.loop-i-preserved
-loop-i-preserved c =
-    search (arith, show_next)
+loop-i-preserved = search (arith, show_next)

@@ -14,10 +14,4 @@ loop-group-preserved c =
     len_of xs ≤ length l.glyphs) (next_at groups l.group-index no_group c.loop-group-test.true) l.invariant.within in
     let next = written_next g (drop (l.group-index + 1) groups) l.place l.glyphs c.put_into.new.glyphs inside
     c.put_into.ensures in
-    search (
-      arith,
-      next.within,
-      next.walk,
-      next_at groups l.group-index no_group c.loop-group-test.true,
-      l.invariant.walk,
-    )
+    search (arith, next_at groups l.group-index no_group c.loop-group-test.true)

@@ -4,7 +4,7 @@ use Rattle.std.proofs.lemmas.Iterator.Consumers.{YieldsList-end}
 use Rattle.std.proofs.lemmas.List.{reverse-reverse}
 use Rattle.std.proofs.lemmas.Simd.{map-map}
 use Rattle.shapers_buffer.proofs.MappedLists.{map-reverse}
-use Rattle.shapers_buffer.specs.declared.buffer.glyph.hb_glyph_info_t.{hb_glyph_info_t}
+use Rattle.shapers_buffer.specs.Glyphs.{Glyph}
 use Rattle.shapers_buffer.specs.Glyph.{clusters}
 use Rattle.shapers_editing.specs.Carets.{lesser}
 use Rattle.shapers_editing.proofs.caret.push_from_end.Goals as goal
@@ -16,6 +16,6 @@ returns-clause-stops c =
     c.in-None.is c.next.ensures.steps in
     c.loop-glyph.invariant
     ∙ ap (λ cs. reverse (lesser (reverse cs)))
-    (sym (map-map (λ (g : hb_glyph_info_t). g.cluster) (λ y. y.now) c.loop-glyph.yielded) ∙ ap clusters end.0
-    ∙ map-reverse (λ (g : hb_glyph_info_t). g.cluster) gs)
+    (sym (map-map (λ (g : Glyph). g.cluster) (λ y. y.now) c.loop-glyph.yielded) ∙ ap clusters end.0
+    ∙ map-reverse (λ (g : Glyph). g.cluster) gs)
     ∙ ap (λ cs. reverse (lesser cs)) (reverse-reverse (clusters gs))

@@ -6,17 +6,13 @@ use Rattle.shapers_hangul.proofs.HangulSpelling.{on_spelled, on_units}
 use Rattle.shapers_hangul.proofs.ot_shaper_hangul.preprocess_text.Goals as goal
 
 pub returns-clause-clusters : goal.returns-clause-clusters
-returns-clause-clusters g c =
-    search (arith, on_rewritten)
+returns-clause-clusters = search (arith, on_rewritten)
 
 pub returns-clause-spelling : goal.returns-clause-spelling
-returns-clause-spelling g c =
-    search (arith, on_spelled)
+returns-clause-spelling = search (arith, on_spelled)
 
 pub returns-clause-flags : goal.returns-clause-flags
-returns-clause-flags g c =
-    search (arith, on_flags)
+returns-clause-flags = search (arith, on_flags)
 
 pub returns-clause-units : goal.returns-clause-units
-returns-clause-units g c =
-    search (arith, on_units)
+returns-clause-units = search (arith, on_units)

@@ -10,7 +10,6 @@ returns-clause-flags c =
     let masks = c.in-Hangul.data.mask_array in
     search (
       arith,
-      c.change_each.ensures,
       stretch_added 0 c.len.result (with_numbered_mask masks) (jamo_mask_added masks) c.args.buffer.now.glyphs
           (omega arith),
     )

@@ -1,6 +1,6 @@
-use Rattle.std.proofs.Common.{◌≡◌, ◌+◌, ◌≤◌, List, ◌∙◌, ap, arith, drop, false, length, refl, rules, subst, ◌-◌, sym}
+use Rattle.std.proofs.Common.{◌≡◌, ◌+◌, ◌≤◌, ◌∙◌, ap, arith, drop, false, length, refl, rules, subst, ◌-◌, sym}
 use Rattle.std.proofs.lemmas.List.{drop-drop}
-use Rattle.shapers_buffer.specs.declared.buffer.glyph.hb_glyph_info_t.{hb_glyph_info_t}
+use Rattle.shapers_buffer.specs.Glyphs.{Glyphs}
 use Rattle.shapers_spans.specs.Grammar.{OpensWith, lead_spans}
 use Rattle.shapers_spans.specs.Joined.{KnowsJoiners}
 use Rattle.shapers_spans.specs.Watch.{Watch, IsWatched}
@@ -47,18 +47,18 @@ loop-start-preserved g c =
     record {
       found = found_next grammar gs start span c.loop-start.spans.items c.push.new.self.items i.found
           (sliced (λ xs. OpensWith grammar xs span) gs start x.opens) x.some
-          (sliced (λ (xs : List hb_glyph_info_t). span.len ≤ length xs) gs start x.within) x.kind
-          (sliced (λ (xs : List hb_glyph_info_t). grammar.passes (drop span.len xs) ≡ false) gs start x.read)
+          (sliced (λ (xs : Glyphs). span.len ≤ length xs) gs start x.within) x.kind
+          (sliced (λ (xs : Glyphs). grammar.passes (drop span.len xs) ≡ false) gs start x.read)
           (search rules);
       joined = subst (λ n. KnowsJoiners grammar.passes joins ends (drop (start + span.len) gs) n new.stuck) less
           (subst (λ xs. KnowsJoiners grammar.passes joins ends xs (new.end - start - span.len) new.stuck) on
-          (sliced (λ (xs : List hb_glyph_info_t). KnowsJoiners grammar.passes joins ends (drop span.len xs)
+          (sliced (λ (xs : Glyphs). KnowsJoiners grammar.passes joins ends (drop span.len xs)
           (new.end - start - span.len) new.stuck) gs start x.joined));
       counted = subst (λ (w : Watch). IsWatched grammar.passes turned (drop (start + span.len) gs)
           (new.end - (start + span.len)) new.stuck before w) (sym c.pass-in-loop-start.ensures)
           (subst (λ n. IsWatched grammar.passes turned (drop (start + span.len) gs) n new.stuck before left) less
           (subst (λ xs. IsWatched grammar.passes turned xs (new.end - start - span.len) new.stuck before left) on
-          (sliced (λ (xs : List hb_glyph_info_t). IsWatched grammar.passes turned xs (old.end - start) old.stuck before
+          (sliced (λ (xs : Glyphs). IsWatched grammar.passes turned xs (old.end - start) old.stuck before
           c.loop-start.count
           → IsWatched grammar.passes turned (drop span.len xs) (new.end - start - span.len) new.stuck before left)
           gs start (x.counted before) i.counted)));

@@ -1,6 +1,6 @@
-use Rattle.std.proofs.Common.{◌≡◌, ◌+◌, ◌≤◌, List, ◌∙◌, ap, arith, drop, false, length, refl, subst, sym, ◌-◌}
+use Rattle.std.proofs.Common.{◌≡◌, ◌+◌, ◌≤◌, ◌∙◌, ap, arith, drop, false, length, refl, subst, sym, ◌-◌}
 use Rattle.std.proofs.lemmas.List.{drop-drop}
-use Rattle.shapers_buffer.specs.declared.buffer.glyph.hb_glyph_info_t.{hb_glyph_info_t}
+use Rattle.shapers_buffer.specs.Glyphs.{Glyphs}
 use Rattle.shapers_spans.specs.Grammar.{OpensWith}
 use Rattle.shapers_spans.specs.Joined.{KnowsJoiners}
 use Rattle.shapers_spans.specs.Watch.{Watch, IsWatched}
@@ -41,8 +41,8 @@ loop-start-preserved g c =
     let w = written_next grammar c.args.glyphs.now gs c.write_span-in-loop-start.new.glyphs start c.loop-start.spans
     span i.written
     (sliced (λ xs. OpensWith grammar xs span) gs start x.opens) x.some
-    (sliced (λ (xs : List hb_glyph_info_t). span.len ≤ length xs) gs start x.within) x.kind
-    (sliced (λ (xs : List hb_glyph_info_t). grammar.passes (drop span.len xs) ≡ false) gs start x.read)
+    (sliced (λ (xs : Glyphs). span.len ≤ length xs) gs start x.within) x.kind
+    (sliced (λ (xs : Glyphs). grammar.passes (drop span.len xs) ≡ false) gs start x.read)
     c.write_span-in-loop-start.ensures in
     let joins = g.M.Machine.is_joiner c.args.machine.now in
     let ends = g.M.Machine.ends c.args.machine.now in
@@ -53,7 +53,7 @@ loop-start-preserved g c =
     let left : Watch = record c.first_span-span.new.count { ahead = c.first_span-span.new.count.ahead - span.len } in
     let less : new.end - start - span.len ≡ new.end - (start + span.len) = omega arith in
     let on : drop span.len (drop start gs) ≡ drop (start + span.len) c.write_span-in-loop-start.new.glyphs =
-    ap (λ (xs : List hb_glyph_info_t). drop span.len xs) i.written.rest ∙ drop-drop span.len start c.args.glyphs.now
+    ap (λ (xs : Glyphs). drop span.len xs) i.written.rest ∙ drop-drop span.len start c.args.glyphs.now
     ∙ sym w.rest in
     record {
       written = w;
@@ -61,7 +61,7 @@ loop-start-preserved g c =
       joined = subst (λ n. KnowsJoiners grammar.passes joins ends
           (drop (start + span.len) c.write_span-in-loop-start.new.glyphs) n new.stuck) less
           (subst (λ xs. KnowsJoiners grammar.passes joins ends xs (new.end - start - span.len) new.stuck) on
-          (sliced (λ (xs : List hb_glyph_info_t). KnowsJoiners grammar.passes joins ends (drop span.len xs)
+          (sliced (λ (xs : Glyphs). KnowsJoiners grammar.passes joins ends (drop span.len xs)
           (new.end - start - span.len) new.stuck) gs start x.joined));
       counted = subst (λ (w : Watch). IsWatched grammar.passes turned
           (drop (start + span.len) c.write_span-in-loop-start.new.glyphs) (new.end - (start + span.len)) new.stuck
@@ -69,7 +69,7 @@ loop-start-preserved g c =
           (subst (λ n. IsWatched grammar.passes turned (drop (start + span.len) c.write_span-in-loop-start.new.glyphs) n
           new.stuck before left) less
           (subst (λ xs. IsWatched grammar.passes turned xs (new.end - start - span.len) new.stuck before left) on
-          (sliced (λ (xs : List hb_glyph_info_t). IsWatched grammar.passes turned xs (old.end - start) old.stuck before
+          (sliced (λ (xs : Glyphs). IsWatched grammar.passes turned xs (old.end - start) old.stuck before
           c.loop-start.count
           → IsWatched grammar.passes turned (drop span.len xs) (new.end - start - span.len) new.stuck before left)
           gs start (x.counted before) i.counted)));

@@ -5,24 +5,19 @@ use Rattle.shapers_text.proofs.HebrewLemmas.{short, triple_hit, triple_miss, tri
 use Rattle.shapers_text.proofs.ot_shaper_hebrew.find_triple.Goals as goal
 
 pub loop-triple-init : goal.loop-triple-init
-loop-triple-init c =
-    search arith
+loop-triple-init = search arith
 
 pub returns-then-opens_triple-clause-first : goal.returns-then-opens_triple-clause-first
-returns-then-opens_triple-clause-first c =
-    search (arith, triple_hit, turn)
+returns-then-opens_triple-clause-first = search (arith, triple_hit, turn)
 
 pub returns-then-opens_triple-clause-within : goal.returns-then-opens_triple-clause-within
-returns-then-opens_triple-clause-within c =
-    search arith
+returns-then-opens_triple-clause-within = search arith
 
 pub overflow_add-second-in-loop-triple : goal.overflow_add-second-in-loop-triple
-overflow_add-second-in-loop-triple c =
-    search arith
+overflow_add-second-in-loop-triple = search arith
 
 pub loop-triple-preserved : goal.loop-triple-preserved
-loop-triple-preserved c =
-    search (arith, triple_miss)
+loop-triple-preserved = search (arith, triple_miss)
 
 pub returns-clause-first : goal.returns-clause-first
 returns-clause-first c =

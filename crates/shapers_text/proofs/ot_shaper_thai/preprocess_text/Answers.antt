@@ -17,21 +17,16 @@ returns-then-wants_forms-clause-clusters g c =
 
 pub returns-else-wants_forms-clause-clusters : goal.returns-else-wants_forms-clause-clusters
 returns-else-wants_forms-clause-clusters g c =
-    let b = c.args.buffer.now in
-    plain_in_two b.level b.glyphs _ (search arith)
+    let b = c.args.buffer.now in plain_in_two b.level b.glyphs _ (search arith)
 
 pub returns-then-wants_forms-clause-kept : goal.returns-then-wants_forms-clause-kept
-returns-then-wants_forms-clause-kept g c =
-    search (arith, shaped_kept)
+returns-then-wants_forms-clause-kept = search (arith, shaped_kept)
 
 pub returns-else-wants_forms-clause-kept : goal.returns-else-wants_forms-clause-kept
-returns-else-wants_forms-clause-kept g c =
-    search (arith, plain_kept)
+returns-else-wants_forms-clause-kept = search (arith, plain_kept)
 
 pub returns-then-wants_forms-clause-flags : goal.returns-then-wants_forms-clause-flags
-returns-then-wants_forms-clause-flags g c =
-    search (arith, shaped_flags)
+returns-then-wants_forms-clause-flags = search (arith, shaped_flags)
 
 pub returns-else-wants_forms-clause-flags : goal.returns-else-wants_forms-clause-flags
-returns-else-wants_forms-clause-flags g c =
-    search (arith, plain_flags)
+returns-else-wants_forms-clause-flags = search (arith, plain_flags)

@@ -10,12 +10,10 @@ use Rattle.shapers_text.proofs.ThaiStretches.{length-glyphs_in_two, unchanged_pl
 use Rattle.shapers_text.proofs.ot_shaper_thai.preprocess_text_changes.Goals as goal
 
 pub returns-then-not-wants_forms-clause-ok : goal.returns-then-not-wants_forms-clause-ok
-returns-then-not-wants_forms-clause-ok g c =
-    search (arith, unchanged_plain, count_from_none)
+returns-then-not-wants_forms-clause-ok = search (arith, unchanged_plain, count_from_none)
 
 pub returns-then-not-wants_forms-clause-length : goal.returns-then-not-wants_forms-clause-length
-returns-then-not-wants_forms-clause-length g c =
-    search (arith, length-glyphs_in_two, count_from_none)
+returns-then-not-wants_forms-clause-length = search (arith, length-glyphs_in_two, count_from_none)
 
 pub returns-then-not-wants_forms-clause-clusters : goal.returns-then-not-wants_forms-clause-clusters
 returns-then-not-wants_forms-clause-clusters g c =

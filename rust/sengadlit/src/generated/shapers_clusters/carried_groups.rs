@@ -131,23 +131,12 @@ impl CarriedGroups {
     /// # Contract
     ///
     /// ```text
-    /// requires within { count ≤ length self.old.groups.items }
-    /// requires in_range { self.old.end ≤ length glyphs.old }
-    /// requires kept { let low = self.old.end - count - 1 in
-    ///     0 < count → length self.old.kept.items ≡ self.old.end - low }
-    /// requires none { count ≡ 0 → AreCarried self.old glyphs.old }
-    /// requires fits { 0 < count → AreCarried self.old (taken_back count self.old glyphs.old) }
-    /// ensures none { count ≡ 0 → glyphs.new ≡ glyphs.old }
-    /// ensures still { count ≡ 0 → self.new ≡ self.old }
-    /// ensures same { 0 < count → with_groups self.new glyphs.new
-    ///     ≡ with_list self.old (fallen_groups count self.old glyphs.old)
-    ///     (taken_back count self.old glyphs.old) }
-    /// ensures fits { AreCarried self.new glyphs.new }
-    /// ensures end { self.new.end ≡ self.old.end }
+    /// requires fits { CanSettle self.old count glyphs.old }
+    /// ensures settled { GroupsSettled self.old count glyphs.old self.new glyphs.new }
     /// ensures same_length { length glyphs.new ≡ length glyphs.old }
     /// ```
     ///
-    /// - `AreCarried`, `fallen_groups`, `taken_back`, `with_groups`, `with_list`: `crates/shapers_clusters/specs/CarriedGroups.antt`
+    /// - `CanSettle`, `GroupsSettled`: `crates/shapers_clusters/specs/CarriedGroups.antt`
     ///
     /// </details>
     #[inline]

@@ -25,4 +25,4 @@ returns-in-Universal-clause-flags g c =
     c.setup_masks-in-Universal.new.buffer c.setup_masks-in-Universal.ensures.masks
 
 pub returns-in-Hebrew-clause-flags : goal.returns-in-Hebrew-clause-flags
-returns-in-Hebrew-clause-flags g c = search (arith, unchanged_added)
+returns-in-Hebrew-clause-flags = search (arith, unchanged_added)

@@ -15,5 +15,4 @@ pub returns-clause-initial : goal.returns-clause-initial
 returns-clause-initial c = search (arith, indic_is_cut)
 
 pub returns-clause-both : goal.returns-clause-both
-returns-clause-both c =
-    search (arith, indic_is_cut_after_both)
+returns-clause-both c = search (arith, indic_is_cut_after_both)

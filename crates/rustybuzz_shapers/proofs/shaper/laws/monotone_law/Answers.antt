@@ -25,7 +25,7 @@ pub returns-clause-indic : goal.returns-clause-indic
 returns-clause-indic c = indic_keeps_halves
 
 pub returns-clause-thai : goal.returns-clause-thai
-returns-clause-thai c = search (arith, thai_monotone)
+returns-clause-thai = search (arith, thai_monotone)
 
 pub returns-clause-hangul : goal.returns-clause-hangul
 returns-clause-hangul c = hangul_stays_monotone

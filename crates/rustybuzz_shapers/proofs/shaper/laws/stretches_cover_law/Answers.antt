@@ -4,7 +4,7 @@ use Rattle.rustybuzz_shapers.proofs.LineAdvances.{line_advances}
 use Rattle.rustybuzz_shapers.proofs.shaper.laws.stretches_cover_law.Goals as goal
 
 pub returns-clause-cover : goal.returns-clause-cover
-returns-clause-cover c = search (arith, stretch_is_as_wide)
+returns-clause-cover = search (arith, stretch_is_as_wide)
 
 pub returns-clause-line : goal.returns-clause-line
 returns-clause-line c = line_advances

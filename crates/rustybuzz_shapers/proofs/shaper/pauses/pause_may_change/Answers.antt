@@ -4,5 +4,4 @@ use Rattle.rustybuzz_shapers.proofs.PauseStays.{stays}
 use Rattle.rustybuzz_shapers.proofs.shaper.pauses.pause_may_change.Goals as goal
 
 pub returns-in-RecordRphf-clause-stays : goal.returns-in-RecordRphf-clause-stays
-returns-in-RecordRphf-clause-stays c none =
-    search (arith, stays)
+returns-in-RecordRphf-clause-stays c none = search (arith, stays)

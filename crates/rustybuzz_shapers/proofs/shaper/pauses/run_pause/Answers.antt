@@ -5,25 +5,19 @@ use Rattle.rustybuzz_shapers.proofs.FlagLaws.{bytes_cleared, marks_cleared, pref
 use Rattle.rustybuzz_shapers.proofs.shaper.pauses.run_pause.Goals as goal
 
 pub returns-in-RecordStch-clause-laws : goal.returns-in-RecordStch-clause-laws
-returns-in-RecordStch-clause-laws g c =
-    search (arith, tiles_added)
+returns-in-RecordStch-clause-laws = search (arith, tiles_added)
 
 pub returns-in-RecordRphf-clause-laws : goal.returns-in-RecordRphf-clause-laws
-returns-in-RecordRphf-clause-laws g c =
-    search (arith, rphf_record_added)
+returns-in-RecordRphf-clause-laws = search (arith, rphf_record_added)
 
 pub returns-in-RecordPref-clause-laws : goal.returns-in-RecordPref-clause-laws
-returns-in-RecordPref-clause-laws g c =
-    search (arith, pref_record_added)
+returns-in-RecordPref-clause-laws = search (arith, pref_record_added)
 
 pub returns-in-SyllabicClearVar-clause-laws : goal.returns-in-SyllabicClearVar-clause-laws
-returns-in-SyllabicClearVar-clause-laws g c =
-    search (arith, bytes_cleared)
+returns-in-SyllabicClearVar-clause-laws = search (arith, bytes_cleared)
 
 pub returns-in-ClearSubstitutionFlags-clause-laws : goal.returns-in-ClearSubstitutionFlags-clause-laws
-returns-in-ClearSubstitutionFlags-clause-laws g c =
-    search (arith, marks_cleared)
+returns-in-ClearSubstitutionFlags-clause-laws = search (arith, marks_cleared)
 
 pub returns-in-ArabicFallbackShape-clause-laws : goal.returns-in-ArabicFallbackShape-clause-laws
-returns-in-ArabicFallbackShape-clause-laws g c =
-    search (arith, unchanged_added)
+returns-in-ArabicFallbackShape-clause-laws = search (arith, unchanged_added)

@@ -22,18 +22,15 @@ use Rattle.rustybuzz_shapers.proofs.shaper.pauses.run_syllabic_pause.Goals as go
 
 pub returns-in_ok-set_up_syllables-in-SetupSyllablesIndic-clause-laws :
     goal.returns-in_ok-set_up_syllables-in-SetupSyllablesIndic-clause-laws
-returns-in_ok-set_up_syllables-in-SetupSyllablesIndic-clause-laws g c =
-    search (arith, set_up_added)
+returns-in_ok-set_up_syllables-in-SetupSyllablesIndic-clause-laws = search (arith, set_up_added)
 
 pub returns-in_ok-set_up_syllables-in-SetupSyllablesKhmer-clause-laws :
     goal.returns-in_ok-set_up_syllables-in-SetupSyllablesKhmer-clause-laws
-returns-in_ok-set_up_syllables-in-SetupSyllablesKhmer-clause-laws g c =
-    search (arith, set_up_added)
+returns-in_ok-set_up_syllables-in-SetupSyllablesKhmer-clause-laws = search (arith, set_up_added)
 
 pub returns-in_ok-set_up_syllables-in-SetupSyllablesMyanmar-clause-laws :
     goal.returns-in_ok-set_up_syllables-in-SetupSyllablesMyanmar-clause-laws
-returns-in_ok-set_up_syllables-in-SetupSyllablesMyanmar-clause-laws g c =
-    search (arith, set_up_added)
+returns-in_ok-set_up_syllables-in-SetupSyllablesMyanmar-clause-laws = search (arith, set_up_added)
 
 pub returns-in-InitialReordering-clause-laws : goal.returns-in-InitialReordering-clause-laws
 returns-in-InitialReordering-clause-laws g c =
@@ -42,8 +39,7 @@ returns-in-InitialReordering-clause-laws g c =
     let made = c.initial_reordering-circles in
     let text = c.replace-text.result in
     let new = made.new.buffer in
-    let kept = on_kept _ made.result (by_initial plan font text) text new
-    (search (arith, order_by_font_laws))
+    let kept = on_kept _ made.result (by_initial plan font text) text new (search (arith, order_by_font_laws))
     (search (arith, order_by_font_reads_no_serials)) made.ensures.syllables
     (both _ _ made.result made.ensures.linked made.ensures.merged) in
     subst (λ (p : Pause). OnOk made.result (PauseKeeps p plan font c.args.spans.now c.args.buffer.now new))

@@ -6,7 +6,7 @@ use Rattle.shapers_arabic.specs.declared.ot_shaper_arabic.arabic_action_t.TheCon
 use Rattle.std.proofs.Common.{◌∙◌, ◌+◌, ◌<◌, Some, ap, sym, subst, arith, drop, length, map, get_or}
 use Rattle.shapers_buffer.specs.Glyph.{default_glyph}
 use Rattle.shapers_buffer.specs.GlyphFlags.{flags_called}
-use Rattle.shapers_buffer.specs.declared.buffer.glyph.hb_glyph_info_t.{hb_glyph_info_t}
+use Rattle.shapers_buffer.specs.Glyphs.{Glyph}
 use Rattle.shapers_arabic.specs.JoiningWalk.{written, IsWithin, form_calls_along}
 use Rattle.shapers_arabic.proofs.FlaggedGlyphs.{within-more}
 use Rattle.shapers_arabic.proofs.SoundSteps.{form-keeps, forms-none}
@@ -26,31 +26,27 @@ loop-i-preserved c =
       | then-form-ne-NONE w ↦
           let f = (get_or gs l.i default_glyph).auxiliary in
           record {
-            forms = ap (map (λ (g : hb_glyph_info_t). g.auxiliary)) w.glyphs-is
+            forms = ap (map (λ (g : Glyph). g.auxiliary)) w.glyphs-is
                 ∙ form-keeps l.last f (l.i + 1) gs w.flag_form.new.glyphs more w.flag_form.ensures ∙ l.invariant.forms;
             rest = λ concat tatweel.
                 ap (λ last. flags_called concat tatweel (form_calls_along last (l.i + 1) left) hs) w.last-is
                 ∙ ap (flags_called concat tatweel (form_calls_along (Some l.i) (l.i + 1) left)) w.glyphs-is
                 ∙ (let fs = written first in let left = drop (l.i + 1) fs in search (
                   arith,
-                  w.flag_form.ensures
-                      concat tatweel,
+                  w.flag_form.ensures concat tatweel,
                   flags_called-append,
                   drop_more fs l.i NONE (omega (
                     arith,
-                    ap length
-                        l.invariant.forms,
+                    ap length l.invariant.forms,
                     length-map gs (λ g. g.auxiliary),
                   )),
                   get_or-map,
                   ne_eqb,
-                ))
-                ∙ l.invariant.rest concat tatweel;
-            within = subst (λ last. IsWithin last (l.i + 1)) (sym w.last-is)
-                ((omega arith));
+                )) ∙ l.invariant.rest concat tatweel;
+            within = subst (λ last. IsWithin last (l.i + 1)) (sym w.last-is) ((omega arith));
           }
       | else-form-ne-NONE w ↦ record {
-        forms = ap (map (λ (g : hb_glyph_info_t). g.auxiliary)) w.glyphs-is ∙ l.invariant.forms;
+        forms = ap (map (λ (g : Glyph). g.auxiliary)) w.glyphs-is ∙ l.invariant.forms;
         rest = λ concat tatweel.
             ap (λ last. flags_called concat tatweel (form_calls_along last (l.i + 1) left) hs) w.last-is
             ∙ ap (flags_called concat tatweel (form_calls_along l.last (l.i + 1) left)) w.glyphs-is

@@ -28,8 +28,7 @@ loop-i-preserved c =
             rest = λ concat tatweel.
                 ap (flags_called concat tatweel (copied_calls (Some form) (l.i + 1) left)) w.glyphs-is
                 ∙ copied-left concat tatweel l.previous l.i form first gs w.unsafe_to_break_in.new.glyphs h
-                l.invariant.places c.form_behind-form.ensures called
-                ∙ l.invariant.rest concat tatweel;
+                l.invariant.places c.form_behind-form.ensures called ∙ l.invariant.rest concat tatweel;
             first = λ none. absurd (omega arith);
           }
       | else-form-glyphs w ↦
@@ -38,8 +37,7 @@ loop-i-preserved c =
             rest = λ concat tatweel.
                 ap (flags_called concat tatweel (copied_calls (Some form) (l.i + 1) left)) w.glyphs-is
                 ∙ copied-left concat tatweel l.previous l.i form first gs gs h l.invariant.places
-                c.form_behind-form.ensures (search (arith, eq-eqb))
-                ∙ l.invariant.rest concat tatweel;
+                c.form_behind-form.ensures (search (arith, eq-eqb)) ∙ l.invariant.rest concat tatweel;
             first = λ none. absurd (omega arith);
           }
     ]

@@ -22,18 +22,15 @@ returns-then-given-ne-NONE-clause-flagged c =
     )
 
 pub returns-then-given-ne-NONE-clause-forms : goal.returns-then-given-ne-NONE-clause-forms
-returns-then-given-ne-NONE-clause-forms c =
-    search (
-      arith,
-      map-tatweel_inside (λ g. g.auxiliary) (λ bits g low. refl) (has_flag 0x80 c.args.flags) c.args.last c.args.end
-          c.set_form.new.glyphs (omega arith),
-      ne_eqb,
-    )
+returns-then-given-ne-NONE-clause-forms c = search (
+  arith,
+  map-tatweel_inside (λ g. g.auxiliary) (λ bits g low. refl) (has_flag 0x80 c.args.flags) c.args.last c.args.end
+      c.set_form.new.glyphs (omega arith),
+  ne_eqb,
+)
 
 pub returns-then-depends-clause-flagged : goal.returns-then-depends-clause-flagged
-returns-then-depends-clause-flagged c =
-    search (arith, flagged-concat)
+returns-then-depends-clause-flagged = search (arith, flagged-concat)
 
 pub returns-then-depends-clause-forms : goal.returns-then-depends-clause-forms
-returns-then-depends-clause-forms c =
-    search (arith, map-unsafe_to_concat_in)
+returns-then-depends-clause-forms = search (arith, map-unsafe_to_concat_in)

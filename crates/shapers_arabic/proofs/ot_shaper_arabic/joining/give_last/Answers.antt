@@ -6,11 +6,10 @@ use Rattle.shapers_arabic.proofs.FlaggedGlyphs.{flagged-concat}
 use Rattle.shapers_arabic.proofs.ot_shaper_arabic.joining.give_last.Goals as goal
 
 pub returns-in-None-clause-flagged : goal.returns-in-None-clause-flagged
-returns-in-None-clause-flagged c =
-    search (
-      arith,
-      flagged-concat c.args.flags 0 c.args.end c.args.glyphs.now c.flag_concat.new.glyphs c.flag_concat.ensures,
-    )
+returns-in-None-clause-flagged c = search (
+  arith,
+  flagged-concat c.args.flags 0 c.args.end c.args.glyphs.now c.flag_concat.new.glyphs c.flag_concat.ensures,
+)
 
 pub returns-in-None-clause-forms : goal.returns-in-None-clause-forms
 returns-in-None-clause-forms c =

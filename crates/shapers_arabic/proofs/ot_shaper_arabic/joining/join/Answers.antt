@@ -31,8 +31,7 @@ returns-in-Some g c =
           ∙ ap (λ (t : Transition). step_flags letters.last letters.state (length gs) t.0 false)
           c.transition_of.ensures in
           record {
-            forms_are = c.give_last.ensures.forms
-                ∙ ap (λ n. given_last letters.last n mid)
+            forms_are = c.give_last.ensures.forms ∙ ap (λ n. given_last letters.last n mid)
                 (ap (λ (t : Transition). t.0) c.transition_of.ensures ∙ sym (ap (given_by letters.state) (b ∙
                 c.in-Some.is)))
                 ∙ walk-end front types behind (length gs) letters.state letters.last mid long done.walked;
@@ -51,8 +50,7 @@ returns-in_default-clause-joined g c = λ front behind f b.
     let letters = c.join_text-letters.result in
     let between = c.join_text-letters.new.glyphs in
     let mid = map (λ g2. g2.auxiliary) between in
-    let long = sym (length-map gs (λ g2. resolved (joining g2.glyph_id) (general_category
-    g2.unicode_props))) in
+    let long = sym (length-map gs (λ g2. resolved (joining g2.glyph_id) (general_category g2.unicode_props))) in
     let done = c.join_text-letters.ensures.walked front (c.state_at_start.ensures ∙ ap state_at_start (sym f)) in
     search (
       arith,

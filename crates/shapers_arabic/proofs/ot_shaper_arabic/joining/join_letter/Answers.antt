@@ -4,8 +4,7 @@ use Rattle.shapers_arabic.proofs.FlaggedGlyphs.{within-more}
 use Rattle.shapers_arabic.proofs.ot_shaper_arabic.joining.join_letter.Goals as goal
 
 pub give_last-requires-clause-within : goal.give_last-requires-clause-within
-give_last-requires-clause-within c = search (arith, within-more)
+give_last-requires-clause-within = search (arith, within-more)
 
 pub set_form-requires : goal.set_form-requires
-set_form-requires c =
-    search arith
+set_form-requires = search arith

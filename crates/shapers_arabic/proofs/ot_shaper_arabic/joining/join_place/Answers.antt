@@ -45,6 +45,5 @@ returns-in_default c =
         flagged = flagged-letter c.args.flags before types first gs hs i letters.state letters.last t h at letter
             w.walked.last_is w.flagged c.join_letter.ensures.flagged;
       };
-      within = subst (λ last. IsWithin last (i + 1)) (sym c.join_letter.ensures.last)
-          ((omega arith));
+      within = subst (λ last. IsWithin last (i + 1)) (sym c.join_letter.ensures.last) ((omega arith));
     }

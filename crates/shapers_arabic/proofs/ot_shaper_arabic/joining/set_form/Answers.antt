@@ -5,7 +5,7 @@ use Rattle.std.proofs.lemmas.List.{map-set}
 use Rattle.shapers_arabic.proofs.ot_shaper_arabic.joining.set_form.Goals as goal
 
 pub returns-clause-others : goal.returns-clause-others
-returns-clause-others c = search (arith, map-set_same)
+returns-clause-others = search (arith, map-set_same)
 
 pub returns-clause-forms : goal.returns-clause-forms
-returns-clause-forms c = search (arith, map-set)
+returns-clause-forms = search (arith, map-set)

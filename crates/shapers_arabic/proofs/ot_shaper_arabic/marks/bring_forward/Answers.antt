@@ -11,5 +11,4 @@ returns c =
     let marks = c.args.marks.now in
     two_moves (split_marks marks) marks c.bring_last.new.marks c.bring_last-2.new.marks p.low p.modifiers_below p.middle
     p.modifiers_above (ap (λ q. q.low) c.requires) (search arith)
-    (search arith) (search arith) (sym (split-joined marks))
-    c.bring_last.ensures c.bring_last-2.ensures
+    (search arith) (search arith) (sym (split-joined marks)) c.bring_last.ensures c.bring_last-2.ensures

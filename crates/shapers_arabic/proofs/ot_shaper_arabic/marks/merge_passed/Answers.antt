@@ -4,5 +4,4 @@ use Rattle.shapers_arabic.proofs.MarkLaws.{two_merges}
 use Rattle.shapers_arabic.proofs.ot_shaper_arabic.marks.merge_passed.Goals as goal
 
 pub returns : goal.returns
-returns c =
-    search (arith, two_merges)
+returns = search (arith, two_merges)

@@ -4,5 +4,4 @@ use Rattle.shapers_arabic.proofs.MarkLaws.{lengths-merged}
 use Rattle.shapers_arabic.proofs.ot_shaper_arabic.marks.move_modifiers.Goals as goal
 
 pub bring_forward-requires : goal.bring_forward-requires
-bring_forward-requires c =
-    search (arith, lengths-merged)
+bring_forward-requires = search (arith, lengths-merged)

@@ -4,12 +4,10 @@ use Rattle.shapers_arabic.proofs.MarkLaws.{marks_take_classes, marks_view, mark_
 use Rattle.shapers_arabic.proofs.ot_shaper_arabic.marks.reorder_marks.Goals as goal
 
 pub returns-clause-order : goal.returns-clause-order
-returns-clause-order c =
-    search (arith, marks_view)
+returns-clause-order = search (arith, marks_view)
 
 pub returns-clause-classes : goal.returns-clause-classes
-returns-clause-classes c =
-    search (arith, marks_take_classes)
+returns-clause-classes = search (arith, marks_take_classes)
 
 pub returns-clause-laws : goal.returns-clause-laws
 returns-clause-laws c =

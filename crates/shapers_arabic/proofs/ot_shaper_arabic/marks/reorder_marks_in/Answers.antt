@@ -8,12 +8,10 @@ use Rattle.shapers_arabic.proofs.MarkLists.{unmodified}
 use Rattle.shapers_arabic.proofs.ot_shaper_arabic.marks.reorder_marks_in.Goals as goal
 
 pub returns-then-not-may_have_modifier-clause-marks : goal.returns-then-not-may_have_modifier-clause-marks
-returns-then-not-may_have_modifier-clause-marks c =
-    search (arith, unmodified, no_modifier)
+returns-then-not-may_have_modifier-clause-marks = search (arith, unmodified, no_modifier)
 
 pub returns-then-not-may_have_modifier-clause-moved : goal.returns-then-not-may_have_modifier-clause-moved
-returns-then-not-may_have_modifier-clause-moved c =
-    search (arith, no_modifier)
+returns-then-not-may_have_modifier-clause-moved = search (arith, no_modifier)
 
 pub returns-then-not-may_have_modifier-clause-classes : goal.returns-then-not-may_have_modifier-clause-classes
 returns-then-not-may_have_modifier-clause-classes c =
@@ -27,5 +25,4 @@ returns-then-not-may_have_modifier-clause-classes c =
     )
 
 pub returns-clause-classes : goal.returns-clause-classes
-returns-clause-classes c =
-    search (arith, marks_take_classes)
+returns-clause-classes = search (arith, marks_take_classes)

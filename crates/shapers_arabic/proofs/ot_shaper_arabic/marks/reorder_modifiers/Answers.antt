@@ -4,5 +4,4 @@ use Rattle.shapers_arabic.proofs.MarkLists.{unmodified}
 use Rattle.shapers_arabic.proofs.ot_shaper_arabic.marks.reorder_modifiers.Goals as goal
 
 pub returns-then-not-has_modifier-clause-marks : goal.returns-then-not-has_modifier-clause-marks
-returns-then-not-has_modifier-clause-marks c =
-    search (arith, unmodified)
+returns-then-not-has_modifier-clause-marks = search (arith, unmodified)

@@ -4,5 +4,4 @@ use Rattle.shapers_arabic.proofs.JoinedGlyphs.{masks-copied}
 use Rattle.shapers_arabic.proofs.ot_shaper_arabic.walk.finish_forms.Goals as goal
 
 pub add_masks-requires : goal.add_masks-requires
-add_masks-requires c =
-    search (arith, masks-copied)
+add_masks-requires = search (arith, masks-copied)

@@ -3,5 +3,4 @@ use Rattle.shapers_buffer.proofs.BitLemmas.{cleared}
 use Rattle.shapers_buffer.proofs.buffer.bits.set_bit.Goals as goal
 
 pub returns-else-on : goal.returns-else-on
-returns-else-on c =
-    search (arith, cleared)
+returns-else-on = search (arith, cleared)

@@ -16,10 +16,8 @@ returns-clause-merged c =
     λ s from inside. grown_merged c.args.run.start b c.args.run.cluster s e _ _ _ _ gs from inside c.requires.further
     c.requires.in_range c.requires.fits.least
     (c.min-cluster.ensures ∙ ap (λ n. min n c.args.run.cluster) c.least_cluster.ensures) (last-read more
-    (search (arith, length-stretch))) c.equal_before-before.ensures.len
-    (c.equal_behind-behind.ensures.len
+    (search (arith, length-stretch))) c.equal_before-before.ensures.len (c.equal_behind-behind.ensures.len
     ∙ ap (equal_behind _ _) (take_all (length gs - e) (drop e gs) (omega (arith, length-drop e gs))))
 
 pub returns-clause-fits : goal.returns-clause-fits
-returns-clause-fits c =
-    search (arith, length-drop, grown_least, last-read, take_all)
+returns-clause-fits = search (arith, length-drop, grown_least, last-read, take_all)

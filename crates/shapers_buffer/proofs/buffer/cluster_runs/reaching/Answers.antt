@@ -4,9 +4,7 @@ use Rattle.shapers_buffer.proofs.RunLemmas.{reaching_least, reaching_same}
 use Rattle.shapers_buffer.proofs.buffer.cluster_runs.reaching.Goals as goal
 
 pub returns-then-are_in-clause-same : goal.returns-then-are_in-clause-same
-returns-then-are_in-clause-same c =
-    search (arith, reaching_same)
+returns-then-are_in-clause-same = search (arith, reaching_same)
 
 pub returns-then-are_in-clause-fits : goal.returns-then-are_in-clause-fits
-returns-then-are_in-clause-fits c =
-    search (arith, reaching_least)
+returns-then-are_in-clause-fits = search (arith, reaching_least)

@@ -8,8 +8,7 @@ use Rattle.shapers_buffer.proofs.buffer.hb_buffer_t.apply.Goals as goal
 
 inside : (placement : Placement) (to from count s e : ℕ) (places : List ℕ) → placement ≡ Forward to from count → s ≤ e
     → PlacesEachOnce placement s e places → (s ≤ to) × (to ≤ from) × (from + count ≤ e)
-inside placement to from count s e places is order each =
-    forward_inside to from count s e places order (search arith)
+inside placement to from count s e places is order each = forward_inside to from count s e places order (search arith)
 
 pub bring_forward-requires-clause-in_order : goal.bring_forward-requires-clause-in_order
 bring_forward-requires-clause-in_order c =
@@ -28,10 +27,7 @@ bring_forward-requires-clause-in_range c =
     search arith
 
 pub returns-in-Stays : goal.returns-in-Stays
-returns-in-Stays c =
-    let a = c.args in
-    let b = a.self.now in
-    search (arith, c.in-Stays.is, placed_stays)
+returns-in-Stays c = let a = c.args in let b = a.self.now in search (arith, c.in-Stays.is, placed_stays)
 
 pub returns-in-Forward : goal.returns-in-Forward
 returns-in-Forward c =

@@ -3,5 +3,4 @@ use Rattle.shapers_buffer.proofs.PlaceLaws.{set-without_last_zeros}
 use Rattle.shapers_buffer.proofs.buffer.hb_buffer_t.set_place.Goals as goal
 
 pub returns : goal.returns
-returns c =
-    search (arith, set-without_last_zeros, length-take-le)
+returns = search (arith, set-without_last_zeros, length-take-le)

@@ -3,4 +3,4 @@ use Rattle.shapers_buffer.proofs.ClusterLemmas.{flooded_itself}
 use Rattle.shapers_buffer.proofs.buffer.merging.flood_after.Goals as goal
 
 pub returns-then-from-to : goal.returns-then-from-to
-returns-then-from-to c = search (arith, flooded_itself)
+returns-then-from-to = search (arith, flooded_itself)

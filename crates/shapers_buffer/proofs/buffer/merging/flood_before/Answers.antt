@@ -4,4 +4,4 @@ use Rattle.shapers_buffer.proofs.ClusterLemmas.{flooded_itself}
 use Rattle.shapers_buffer.proofs.buffer.merging.flood_before.Goals as goal
 
 pub returns-then-from-to : goal.returns-then-from-to
-returns-then-from-to c = search (arith, flooded_itself, reverse-reverse)
+returns-then-from-to = search (arith, flooded_itself, reverse-reverse)

@@ -4,5 +4,4 @@ use Rattle.shapers_buffer.proofs.PlaceLaws.{without_last_zeros-append}
 use Rattle.shapers_buffer.proofs.buffer.placement.open_places.Goals as goal
 
 pub returns-then-len-n-clause-places : goal.returns-then-len-n-clause-places
-returns-then-len-n-clause-places c =
-    search (arith, rules, take_all, without_last_zeros-append)
+returns-then-len-n-clause-places = search (arith, rules, take_all, without_last_zeros-append)

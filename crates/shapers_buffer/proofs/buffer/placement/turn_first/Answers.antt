@@ -5,8 +5,7 @@ use Rattle.shapers_buffer.proofs.Placements.{turned_more}
 use Rattle.shapers_buffer.proofs.buffer.placement.turn_first.Goals as goal
 
 pub loop-init : goal.loop-init
-loop-init c = search (arith, append-nil)
+loop-init = search (arith, append-nil)
 
 pub loop-preserved : goal.loop-preserved
-loop-preserved c =
-    search (arith, turned_more)
+loop-preserved = search (arith, turned_more)

@@ -5,8 +5,7 @@ use Rattle.shapers_buffer.proofs.Placements.{rotated_more}
 use Rattle.shapers_buffer.proofs.buffer.placement.turn_last.Goals as goal
 
 pub loop-init : goal.loop-init
-loop-init c = search (arith, drop_all, take_all)
+loop-init = search (arith, drop_all, take_all)
 
 pub loop-preserved : goal.loop-preserved
-loop-preserved c =
-    search (arith, rotated_more)
+loop-preserved = search (arith, rotated_more)

@@ -22,7 +22,6 @@ loop-i-preserved c =
         ap (λ n. span_bytes n rest) (add-one c.loop-i.i),
       ) (
           bytes_next c.loop-i.glyphs c.loop-i.start span.len (span_byte c.loop-i.i span)
-          (span_bytes (suc c.loop-i.i) rest) room
-          ∙ rw more at c.loop-i.invariant.written);
+          (span_bytes (suc c.loop-i.i) rest) room ∙ rw more at c.loop-i.invariant.written);
       room = omega arith;
     }

@@ -11,8 +11,7 @@ join-requires c = record {
     end = c.args.self.now.end + 1;
     groups = c.push.new.self;
     kept = c.args.self.now.kept;
-  }) c.args.glyphs.now
-      (get_or c.args.glyphs.now c.args.self.now.end default_glyph) refl
+  }) c.args.glyphs.now (get_or c.args.glyphs.now c.args.self.now.end default_glyph) refl
       c.requires.inside refl refl c.in_ok-push.ensures.items c.requires.fits).fits;
 }
 
@@ -23,6 +22,5 @@ returns-clause-same c = c.join.ensures.same
       end = c.args.self.now.end + 1;
       groups = c.push.new.self;
       kept = c.args.self.now.kept;
-    }) c.args.glyphs.now
-    (get_or c.args.glyphs.now c.args.self.now.end default_glyph) refl
+    }) c.args.glyphs.now (get_or c.args.glyphs.now c.args.self.now.end default_glyph) refl
     c.requires.inside refl refl c.in_ok-push.ensures.items c.requires.fits).same

@@ -1,6 +1,6 @@
 -- Nothing is left to be written.
 use Rattle.std.proofs.Common.{◌∙◌, arith, refl}
-use Rattle.shapers_clusters.proofs.GroupWalk.{none_carried, none_written}
+use Rattle.shapers_clusters.proofs.GroupWalk.{none_written}
 use Rattle.shapers_clusters.proofs.carried_groups.CarriedGroups.guard.Goals as goal
 
 pub returns-then-count-eq0 : goal.returns-then-count-eq0
@@ -18,7 +18,7 @@ returns-then-count-eq0 c =
                 c.write.new.self.kept;
           }) c.write.new.glyphs c.write.ensures.none refl
           ∙ c.write.ensures.written ∙ (c.try_guard-count.ensures.none c.if-count-eq0.true).same;
-      fits = search (arith, none_carried);
+      fits = search arith;
       at = refl;
       none = search arith;
       within = omega arith;

@@ -11,13 +11,7 @@ loop-self-preserved c =
     let items = it.groups.items in
     let n = c.group_count-count.ensures in
     let joined = joined_same items (omega arith)
-    (omega (
-      arith,
-      ap (λ (g : Group). g.cluster) (c.group-before.ensures ∙ ap (λ k. get_or items (k - 2) no_group) n),
-      ap (λ (g : Group). g.cluster) (c.group-last.ensures ∙ ap (λ k. get_or items (k - 1) no_group) n),
-      c.if-before-last.false,
-      c.if-before-last-2.false,
-    )) in
+    (omega (arith, ap (λ (g : Group). g.cluster) (c.group-before.ensures ∙ ap (λ k. get_or items (k - 2) no_group) n), ap (λ (g : Group). g.cluster) (c.group-last.ensures ∙ ap (λ k. get_or items (k - 1) no_group) n))) in
     let same = joined_still it c.join_last.new.self c.loop-self.glyphs
     (subst (EndJoined items) (sym c.join_last.ensures.groups) joined) c.join_last.ensures.start c.join_last.ensures.end
     c.loop-self.invariant.fits in

@@ -4,9 +4,7 @@ use Rattle.shapers_clusters.proofs.GroupWalk.{joined_list, two_lens}
 use Rattle.shapers_clusters.proofs.carried_groups.CarriedGroups.join_last.Goals as goal
 
 pub overflow_add-before : goal.overflow_add-before
-overflow_add-before c =
-    search (arith, two_lens)
+overflow_add-before = search (arith, two_lens)
 
 pub returns-clause-groups : goal.returns-clause-groups
-returns-clause-groups c =
-    search (arith, joined_list)
+returns-clause-groups = search (arith, joined_list)

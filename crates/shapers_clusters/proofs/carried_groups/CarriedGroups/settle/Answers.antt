@@ -1,22 +1,20 @@
 -- The groups are read, and what was kept is back.
 use Rattle.std.proofs.lemmas.List.{take-append-drop}
-use Rattle.std.proofs.Common.{◌++◌, ◌-◌, ◌≡◌, arith, drop, length-drop, length-take, take}
-use Rattle.shapers_clusters.proofs.GroupWalk.{len_of-read, len_of-append, least_front, least_both, least_behind, least-read, many_lens, groups_settled, taken_is}
+use Rattle.std.proofs.Common.{◌++◌, ◌-◌, ◌≡◌, arith, drop, length-drop, take}
+use Rattle.shapers_clusters.proofs.GroupWalk.{len_of-read, len_of-append, least_front, least_both, least_behind, least-read, many_lens}
 use Rattle.shapers_clusters.proofs.carried_groups.CarriedGroups.settle.Goals as goal
 
 pub overflow_sub-place : goal.overflow_sub-place
-overflow_sub-place c =
-    search (arith, many_lens)
+overflow_sub-place = search (arith, many_lens)
 
 pub read_from-requires : goal.read_from-requires
-read_from-requires c =
-    search (arith, many_lens, length-take, length-drop)
+read_from-requires = search (arith, many_lens)
 
 pub join-requires : goal.join-requires
 join-requires c =
     let it = c.args.self.now in
     let gs = c.args.glyphs.now in
-    let fits = c.requires.fits (omega (arith, c.if-count-eq0.false)) in
+    let fits = c.requires.fits.fits (omega arith) in
     let place = it.end - c.args.count in
     let lens = many_lens it.groups.items _ fits.least in
     record {
@@ -37,6 +35,5 @@ join-requires c =
           );
     }
 
-pub returns-clause-same : goal.returns-clause-same
-returns-clause-same c some =
-    search (arith, groups_settled, taken_is)
+pub returns-clause-settled : goal.returns-clause-settled
+returns-clause-settled = search arith

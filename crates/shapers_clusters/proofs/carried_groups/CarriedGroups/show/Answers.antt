@@ -6,12 +6,10 @@ use Rattle.shapers_clusters.proofs.GroupWalk.{are_shown, first_get, many_lens}
 use Rattle.shapers_clusters.proofs.carried_groups.CarriedGroups.show.Goals as goal
 
 pub overflow_sub-place : goal.overflow_sub-place
-overflow_sub-place c =
-    search (arith, many_lens)
+overflow_sub-place = search (arith, many_lens)
 
 pub show_from-requires-clause-room : goal.show_from-requires-clause-room
-show_from-requires-clause-room c =
-    search (arith, many_lens)
+show_from-requires-clause-room = search (arith, many_lens)
 
 pub returns-clause-shown : goal.returns-clause-shown
 returns-clause-shown c =

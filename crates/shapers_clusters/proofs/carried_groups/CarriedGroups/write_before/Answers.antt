@@ -5,14 +5,10 @@ use Rattle.shapers_clusters.proofs.carried_groups.CarriedGroups.write_before.Goa
 
 pub write_groups-requires : goal.write_groups-requires
 write_groups-requires c =
-    let fits = c.requires.fits in
-    let b = before_last c.args.self.now.groups.items c.requires.some in
-    search (arith, c.as_slice.ensures.value, c.group_count-before.ensures, b.lens, fits.span, fits.within)
+    let fits = c.requires.fits in let b = before_last c.args.self.now.groups.items c.requires.some in search arith
 
 pub overflow_sub-self : goal.overflow_sub-self
-overflow_sub-self c =
-    let b = before_last c.args.self.now.groups.items c.requires.some in
-    search (arith, c.group-last.ensures, c.group_count-before.ensures, b.lens, c.requires.fits.span)
+overflow_sub-self c = let b = before_last c.args.self.now.groups.items c.requires.some in search arith
 
 pub returns-clause-same : goal.returns-clause-same
 returns-clause-same c =

@@ -5,5 +5,4 @@ use Rattle.shapers_hangul.proofs.Items.{first_item-within}
 use Rattle.shapers_hangul.proofs.ot_shaper_hangul.item.first_item.Goals as goal
 
 pub returns-clause-within : goal.returns-clause-within
-returns-clause-within g c =
-    search (arith, first_item-within, length-map)
+returns-clause-within = search (arith, first_item-within, length-map)

@@ -3,25 +3,20 @@ use Rattle.std.proofs.Common.{◌+◌, ap}
 use Rattle.shapers_hangul.proofs.HangulGroups.{item_behind}
 use Rattle.shapers_hangul.proofs.ot_shaper_hangul.rewriting.join_behind.Goals as goal
 
-pub settle-requires-clause-fits : goal.settle-requires-clause-fits
-settle-requires-clause-fits c =
-    let place = c.args.place in
-    (item_behind c.args.level c.args.item place (place + c.len.result) c.guard-count.result c.args.groups.now
-    c.guard-count.new.self c.args.glyphs.now c.guard-count.new.glyphs c.join.new.glyphs
-    (ap (λ n. place + n) c.len.ensures) c.requires.item c.requires.torn c.requires.fits c.guard-count.ensures
-    c.join.ensures).can.fits
+pub settle-requires : goal.settle-requires
+settle-requires c = record {
+  fits =
+      let place = c.args.place in
+      (item_behind c.args.level c.args.item place (place + c.len.result) c.guard-count.result c.args.groups.now
+      c.guard-count.new.self c.args.glyphs.now c.guard-count.new.glyphs c.join.new.glyphs
+      (ap (λ n. place + n) c.len.ensures) c.requires.item c.requires.torn c.requires.fits c.guard-count.ensures
+      c.join.ensures).can;
+}
 
 pub returns-clause-joined : goal.returns-clause-joined
 returns-clause-joined c =
     let place = c.args.place in
-    let settled = c.settle.ensures in
     (item_behind c.args.level c.args.item place (place + c.len.result) c.guard-count.result c.args.groups.now
     c.guard-count.new.self c.args.glyphs.now c.guard-count.new.glyphs c.join.new.glyphs
     (ap (λ n. place + n) c.len.ensures) c.requires.item c.requires.torn c.requires.fits c.guard-count.ensures
-    c.join.ensures).made c.settle.new.self c.settle.new.glyphs record {
-      none = settled.none;
-      still = settled.still;
-      same = settled.same;
-      fits = settled.fits;
-      end = settled.end;
-    }
+    c.join.ensures).made c.settle.new.self c.settle.new.glyphs c.settle.ensures.settled

@@ -7,15 +7,11 @@ use Rattle.shapers_hangul.proofs.ot_shaper_hangul.rewriting.join_to_flood.Goals 
 
 begins_within : (n i : ℕ) (cut : List (ℕ × Item)) → i < length cut → Fit n cut → (get_or cut i default_item).0 ≤ n
 begins_within n i [] inside fit = absurd (omega arith)
-begins_within n zero (p ∷ cut) inside fit = omega (arith, fit.0.0)
+begins_within n zero (p ∷ cut) inside fit = omega arith
 begins_within n (suc i) (p ∷ cut) inside fit = begins_within n i cut (omega arith) fit.1
 
 pub cluster_before-requires : goal.cluster_before-requires
 cluster_before-requires c =
     rw (c.join.ensures, length-item_joined) (
-    omega (
-      arith,
-      begins_within (length c.args.glyphs.now) c.loop-i.i c.args.cut.now (search rules) c.requires,
-      c.loop-i.invariant.same_length,
-    )
+    omega (arith, begins_within (length c.args.glyphs.now) c.loop-i.i c.args.cut.now (search rules) c.requires)
     )

@@ -1,6 +1,6 @@
 -- One more item, no room for one, and the end.
-use Rattle.std.proofs.Common.{◌≡◌, ◌+◌, ◌++◌, ◌∙◌, [], true, List, ap, subst, drop, length, arith}
-use Rattle.shapers_buffer.specs.declared.buffer.glyph.hb_glyph_info_t.{hb_glyph_info_t}
+use Rattle.std.proofs.Common.{◌≡◌, ◌+◌, ◌++◌, ◌∙◌, [], true, ap, subst, drop, length, arith}
+use Rattle.shapers_buffer.specs.Glyphs.{Glyphs}
 use Rattle.shapers_buffer.specs.Glyph.{characters}
 use Rattle.shapers_hangul.specs.declared.ot_shaper_hangul.rewriting.Cut.{Cut}
 use Rattle.shapers_hangul.specs.Hangul.{first_item, glyph_copies, is_kept, item_len, items_at, outputs}
@@ -16,9 +16,6 @@ returns-then-room-output_len-clause-length g c =
       arith,
       length_next (g.F.hb_font_t.font c.args.face.now) c.args.circles c.args.glyphs.now l.place
           c.item_at-item.result c.loop-place-test.true c.item_at-item.ensures.item c.item_at-item.ensures.in_rest,
-      l.invariant.room_left,
-      c.if-room-output_len.true,
-      c.output_len.ensures,
     )
 
 pub loop-place-preserved : goal.loop-place-preserved
@@ -30,16 +27,12 @@ loop-place-preserved g c =
     let circles = c.args.circles in
     let on : l.place + item_len item ≡ l.place + c.len-place.result = search arith in
     record {
-      within = omega (arith, c.item_at-item.ensures.within, c.len-place.ensures);
+      within = omega arith;
       room_left = omega (
         arith,
         length_next font circles gs l.place item c.loop-place-test.true c.item_at-item.ensures.item
             c.item_at-item.ensures.in_rest,
         ap (λ p. length (outputs glyph_copies (items_at font circles (characters gs) p) gs)) on,
-        l.invariant.room_left,
-        c.if-room-output_len.false,
-        c.output_len.ensures,
-        c.output_len-room.ensures,
       );
       recorded = λ whole.
           subst (λ p. changes_in c.add.new.self ++ rewritten_items (items_at font circles (characters gs) p)
@@ -64,7 +57,7 @@ returns-then-room-eq0-clause-length g c =
     let font = g.F.hb_font_t.font c.args.face.now in
     let circles = c.args.circles in
     let stays : is_kept (first_item font circles (characters (drop c.loop-place.place c.args.glyphs.now))) ≡ true =
-    subst (λ (xs : List hb_glyph_info_t). is_kept (first_item font circles (characters xs)) ≡ true) c.rest_from.ensures
+    subst (λ (xs : Glyphs). is_kept (first_item font circles (characters xs)) ≡ true) c.rest_from.ensures
     (c.stays_alone.ensures.kept c.if-stays_alone.true) in
     search (arith, length_staying)
 
@@ -75,10 +68,10 @@ loop-place-preserved-then-stays_alone g c =
     let gs = c.args.glyphs.now in
     let circles = c.args.circles in
     let stays : is_kept (first_item font circles (characters (drop l.place gs))) ≡ true =
-    subst (λ (xs : List hb_glyph_info_t). is_kept (first_item font circles (characters xs)) ≡ true) c.rest_from.ensures
+    subst (λ (xs : Glyphs). is_kept (first_item font circles (characters xs)) ≡ true) c.rest_from.ensures
     (c.stays_alone.ensures.kept c.if-stays_alone.true) in
     record {
-      within = omega (arith, c.loop-place-test.true);
+      within = omega arith;
       room_left = search (arith, length_staying);
       recorded = search (arith, recording_staying);
       none = λ all.

@@ -1,9 +1,8 @@
 -- The refusals, that the items stand within the text, and that where none is listed all of it stays.
 use Rattle.shapers_hangul.proofs.Items.{items_fit}
-use Rattle.std.proofs.Common.{rules, ◌≡◌, ◌+◌, ◌≤◌, List, [], length, subst, sym, ◌∙◌, arith}
-use Rattle.std.proofs.lemmas.Bool.Decides.{nat_tests}
+use Rattle.std.proofs.Common.{rules, ◌≡◌, ◌+◌, ◌≤◌, [], length, subst, sym, ◌∙◌, arith}
 use Rattle.std.proofs.lemmas.List.{nil_from_length}
-use Rattle.shapers_buffer.specs.declared.buffer.glyph.hb_glyph_info_t.{hb_glyph_info_t}
+use Rattle.shapers_buffer.specs.Glyphs.{Glyphs}
 use Rattle.shapers_buffer.specs.Glyph.{characters}
 use Rattle.shapers_buffer.specs.Refusals.{RefusesLength}
 use Rattle.shapers_hangul.specs.Hangul.{items, glyph_copies, items_at, outputs, allows_circles, Fit}
@@ -15,52 +14,37 @@ use Rattle.shapers_hangul.proofs.Walks.{length-characters, glyphs_end}
 use Rattle.shapers_hangul.proofs.ot_shaper_hangul.rewriting.rewrite_changes.Goals as goal
 
 pub returns-then-kept-len-clause-ok : goal.returns-then-kept-len-clause-ok
-returns-then-kept-len-clause-ok g c =
-    search (arith, unchanged, all_stay, glyphs_end)
+returns-then-kept-len-clause-ok = search (arith, unchanged, all_stay, glyphs_end)
 
 pub returns-then-kept-len-clause-changes : goal.returns-then-kept-len-clause-changes
-returns-then-kept-len-clause-changes g c is =
-    search (arith, all_stay, glyphs_end)
+returns-then-kept-len-clause-changes = search (arith, all_stay, glyphs_end)
 
 pub returns-then-kept-len-clause-length : goal.returns-then-kept-len-clause-length
-returns-then-kept-len-clause-length g c =
-    search (arith, same_length, all_stay, glyphs_end)
+returns-then-kept-len-clause-length = search (arith, same_length, all_stay, glyphs_end)
 
 pub returns-then-is_empty-clause-ok : goal.returns-then-is_empty-clause-ok
 returns-then-is_empty-clause-ok g c =
-    let none : c.items.result.now ≡ [] = nil_from_length c.items.result.now
-    (grind (arith, nat_tests, c.is_empty.ensures, c.if-is_empty.true)) in
-    let all = all_stay
-    (g.F.hb_font_t.font c.args.face.now)
-    c.args.buffer.now c.wants_circles-circles.result
+    let none : c.items.result.now ≡ [] = nil_from_length c.items.result.now (grind arith) in
+    let all = all_stay (g.F.hb_font_t.font c.args.face.now) c.args.buffer.now c.wants_circles-circles.result
     c.glyphs-glyphs.result.now c.kept_len-kept.result c.wants_circles-circles.ensures c.glyphs-glyphs.ensures
-    c.kept_len-kept.ensures.kept
-    (cc (c.in_ok-len.ensures.items c.if-not-cut.false, c.items.ensures)) in
-    search (arith, unchanged)
+    c.kept_len-kept.ensures.kept (cc (c.in_ok-len.ensures.items c.if-not-cut.false)) in
+    search unchanged
 
 pub returns-then-is_empty-clause-changes : goal.returns-then-is_empty-clause-changes
 returns-then-is_empty-clause-changes g c is =
-    let none : c.items.result.now ≡ [] = nil_from_length c.items.result.now
-    (grind (arith, nat_tests, c.is_empty.ensures, c.if-is_empty.true)) in
-    let all = all_stay
-    (g.F.hb_font_t.font c.args.face.now)
-    c.args.buffer.now c.wants_circles-circles.result
+    let none : c.items.result.now ≡ [] = nil_from_length c.items.result.now (grind arith) in
+    let all = all_stay (g.F.hb_font_t.font c.args.face.now) c.args.buffer.now c.wants_circles-circles.result
     c.glyphs-glyphs.result.now c.kept_len-kept.result c.wants_circles-circles.ensures c.glyphs-glyphs.ensures
-    c.kept_len-kept.ensures.kept
-    (cc (c.in_ok-len.ensures.items c.if-not-cut.false, c.items.ensures)) in
+    c.kept_len-kept.ensures.kept (cc (c.in_ok-len.ensures.items c.if-not-cut.false)) in
     all
 
 pub returns-then-is_empty-clause-length : goal.returns-then-is_empty-clause-length
 returns-then-is_empty-clause-length g c =
-    let none : c.items.result.now ≡ [] = nil_from_length c.items.result.now
-    (grind (arith, nat_tests, c.is_empty.ensures, c.if-is_empty.true)) in
-    let all = all_stay
-    (g.F.hb_font_t.font c.args.face.now)
-    c.args.buffer.now c.wants_circles-circles.result
+    let none : c.items.result.now ≡ [] = nil_from_length c.items.result.now (grind arith) in
+    let all = all_stay (g.F.hb_font_t.font c.args.face.now) c.args.buffer.now c.wants_circles-circles.result
     c.glyphs-glyphs.result.now c.kept_len-kept.result c.wants_circles-circles.ensures c.glyphs-glyphs.ensures
-    c.kept_len-kept.ensures.kept
-    (cc (c.in_ok-len.ensures.items c.if-not-cut.false, c.items.ensures)) in
-    search (arith, same_length)
+    c.kept_len-kept.ensures.kept (cc (c.in_ok-len.ensures.items c.if-not-cut.false)) in
+    search same_length
 
 pub returns-in_err-len-clause-kept : goal.returns-in_err-len-clause-kept
 returns-in_err-len-clause-kept g c all =
@@ -68,30 +52,24 @@ returns-in_err-len-clause-kept g c all =
     let b = c.args.buffer.now in
     search (
       arith,
-      c.in_err-len.ensures.refusal,
-      c.in_err-len.ensures.length,
       length_read font (allows_circles b) b.level b.glyphs c.wants_circles-circles.result c.glyphs-glyphs.result.now
           c.kept_len-kept.result c.wants_circles-circles.ensures c.glyphs-glyphs.ensures c.kept_len-kept.ensures.kept,
       same_length font b all,
-      c.max_len.ensures.limit,
-      c.len.ensures.fits,
     )
 
 pub returns-in_err-len-clause-length : goal.returns-in_err-len-clause-length
 returns-in_err-len-clause-length g c =
     let read = c.glyphs-glyphs.result.now in
     let kept = c.kept_len-kept.result in
-    let told : RefusesLength c.max_len.result
-    (kept + length (outputs glyph_copies (items_at
+    let told : RefusesLength c.max_len.result (kept + length (outputs glyph_copies (items_at
     (g.F.hb_font_t.font c.args.face.now) c.wants_circles-circles.result (characters read) kept) read))
     c.from_residual.result = search rules in
     told_by_text c.args.buffer.now.max_len c.max_len.result _ _ c.from_residual.result c.max_len.ensures.limit
-    (search (arith, length_read)) told
+    (search length_read) told
 
 pub returns-then-not-cut-clause-kept : goal.returns-then-not-cut-clause-kept
 returns-then-not-cut-clause-kept g c all =
-    let whole = c.in_ok-len.ensures.kept (search (arith, nothing_listed)) ∙ c.new-cut.ensures.whole in
-    cc
+    let whole = c.in_ok-len.ensures.kept (search nothing_listed) ∙ c.new-cut.ensures.whole in cc
 
 pub returns-then-not-cut-clause-length : goal.returns-then-not-cut-clause-length
 returns-then-not-cut-clause-length g c =
@@ -102,13 +80,12 @@ returns-then-not-cut-clause-length g c =
           c.wants_circles-circles.result c.glyphs-glyphs.result.now c.kept_len-kept.result
           c.wants_circles-circles.ensures c.glyphs-glyphs.ensures c.kept_len-kept.ensures.kept,
       c.in_ok-len.ensures.length,
-      c.max_len.ensures.limit,
     )
 
 pub rewrite-requires-clause-can : goal.rewrite-requires-clause-can
 rewrite-requires-clause-can g c =
     let cut = c.items-2.result.now in
-    subst (λ (xs : List hb_glyph_info_t). Fit (length xs) cut × InTurn (length xs) 0 cut) c.glyphs-glyphs.ensures
+    subst (λ (xs : Glyphs). Fit (length xs) cut × InTurn (length xs) 0 cut) c.glyphs-glyphs.ensures
     (
     let whole = items (g.F.hb_font_t.font c.args.face.now) c.wants_circles-circles.result (characters
     c.glyphs-glyphs.result.now) in
@@ -139,38 +116,29 @@ rewrite-requires-clause-length g c =
     )
 
 pub returns-in_err-rewrite-clause-kept : goal.returns-in_err-rewrite-clause-kept
-returns-in_err-rewrite-clause-kept g c all =
-    search (
-      arith,
-      nat_tests,
-      c.is_empty.ensures,
-      c.if-is_empty.false,
-      c.items.ensures,
-      c.in_ok-len.ensures.items c.if-not-cut.false,
-      nothing_listed (g.F.hb_font_t.font c.args.face.now) c.args.buffer.now c.wants_circles-circles.result
-          c.glyphs-glyphs.result.now c.kept_len-kept.result c.wants_circles-circles.ensures c.glyphs-glyphs.ensures
-          c.kept_len-kept.ensures.kept all,
-    )
+returns-in_err-rewrite-clause-kept g c all = search (
+  arith,
+  c.is_empty.ensures,
+  c.items.ensures,
+  c.in_ok-len.ensures.items c.if-not-cut.false,
+  nothing_listed (g.F.hb_font_t.font c.args.face.now) c.args.buffer.now c.wants_circles-circles.result
+      c.glyphs-glyphs.result.now c.kept_len-kept.result c.wants_circles-circles.ensures c.glyphs-glyphs.ensures
+      c.kept_len-kept.ensures.kept all,
+)
 
 pub returns-clause-kept : goal.returns-clause-kept
-returns-clause-kept g c all =
-    search (
-      arith,
-      nat_tests,
-      c.is_empty.ensures,
-      c.if-is_empty.false,
-      c.items.ensures,
-      c.in_ok-len.ensures.items c.if-not-cut.false,
-      nothing_listed (g.F.hb_font_t.font c.args.face.now) c.args.buffer.now c.wants_circles-circles.result
-          c.glyphs-glyphs.result.now c.kept_len-kept.result c.wants_circles-circles.ensures c.glyphs-glyphs.ensures
-          c.kept_len-kept.ensures.kept all,
-    )
+returns-clause-kept g c all = search (
+  arith,
+  c.in_ok-len.ensures.items c.if-not-cut.false,
+  nothing_listed (g.F.hb_font_t.font c.args.face.now) c.args.buffer.now c.wants_circles-circles.result
+      c.glyphs-glyphs.result.now c.kept_len-kept.result c.wants_circles-circles.ensures c.glyphs-glyphs.ensures
+      c.kept_len-kept.ensures.kept all,
+)
 
 pub returns-in_err-rewrite-clause-length : goal.returns-in_err-rewrite-clause-length
 returns-in_err-rewrite-clause-length g c =
     let b = c.args.buffer.now in
-    subst (λ n. RefusesLength b.max_len n c.from_residual-in_err-rewrite.result) (c.in_ok-len.ensures.exact
-    ∙ sym
+    subst (λ n. RefusesLength b.max_len n c.from_residual-in_err-rewrite.result) (c.in_ok-len.ensures.exact ∙ sym
     (length_read (g.F.hb_font_t.font c.args.face.now) (allows_circles b) b.level b.glyphs
     c.wants_circles-circles.result c.glyphs-glyphs.result.now c.kept_len-kept.result c.wants_circles-circles.ensures
     c.glyphs-glyphs.ensures c.kept_len-kept.ensures.kept)) (search rules)
@@ -181,7 +149,6 @@ returns-clause-length g c =
     let told : c.in_ok-len.len ≤ b.max_len = search rules in
     omega (
       arith,
-      told,
       c.in_ok-len.ensures.exact,
       length_read (g.F.hb_font_t.font c.args.face.now) (allows_circles b) b.level b.glyphs
           c.wants_circles-circles.result c.glyphs-glyphs.result.now c.kept_len-kept.result
@@ -189,13 +156,11 @@ returns-clause-length g c =
     )
 
 pub returns-clause-ok : goal.returns-clause-ok
-returns-clause-ok g c =
-    search (
-      arith,
-      c.in_ok-rewrite.ensures.ok,
-      buffer_changed c.args.breaks (g.F.hb_font_t.font c.args.face.now) c.args.buffer.now
-          c.wants_circles-circles.result c.cluster_level-level.result c.glyphs-glyphs.result.now c.items-2.result.now
-          c.wants_circles-circles.ensures c.cluster_level-level.ensures c.glyphs-glyphs.ensures
-          (c.items-2.ensures ∙ (c.in_ok-len.ensures.items c.if-not-cut.false ∙ sym
-          c.kept_len-kept.ensures.kept.listed)),
-    )
+returns-clause-ok g c = search (
+  arith,
+  c.in_ok-rewrite.ensures.ok,
+  buffer_changed c.args.breaks (g.F.hb_font_t.font c.args.face.now) c.args.buffer.now
+      c.wants_circles-circles.result c.cluster_level-level.result c.glyphs-glyphs.result.now c.items-2.result.now
+      c.wants_circles-circles.ensures c.cluster_level-level.ensures c.glyphs-glyphs.ensures
+      (c.items-2.ensures ∙ (c.in_ok-len.ensures.items c.if-not-cut.false ∙ sym c.kept_len-kept.ensures.kept.listed)),
+)

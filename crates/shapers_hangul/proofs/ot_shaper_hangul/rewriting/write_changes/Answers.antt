@@ -26,25 +26,22 @@ write_change-requires-clause-room c =
     )
 
 pub overflow_add-place : goal.overflow_add-place
-overflow_add-place c =
-    omega (
-      arith,
-      c.len.ensures,
-      turn-at (length c.args.glyphs.now) 0 c.args.cut.now c.loop-entry.entry-index
-          default_item (search rules) c.requires.in_turn,
-    )
+overflow_add-place c = omega (
+  arith,
+  turn-at (length c.args.glyphs.now) 0 c.args.cut.now c.loop-entry.entry-index
+      default_item (search rules) c.requires.in_turn,
+)
 
 pub unwrap-requires : goal.unwrap-requires
 unwrap-requires c =
     let l = c.loop-entry in
     let gs = c.args.glyphs.now in
     let cut = c.args.cut.now in
-    let none : drop l.entry-index cut ≡ [] = search (arith, drop_all, rules) in
+    let none : drop l.entry-index cut ≡ [] = search drop_all in
     c.extend_from_slice.ensures.succeeds
     (
     search (
       arith,
-      c.rest_from.ensures,
       room_left l.list.items (changed_from l.place (drop l.entry-index cut) gs) c.args.list.now.items
           (changed_from 0 cut gs) (vec_capacity c.args.list.now) (vec_capacity l.list) l.invariant.walk
           c.requires.room l.invariant.capacity,

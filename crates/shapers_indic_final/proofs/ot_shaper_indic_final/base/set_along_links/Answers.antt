@@ -10,9 +10,7 @@ loop-i-preserved-then-halant c =
     let old = c.args.glyphs.now in
     search (
       arith,
-      c.set_link-last.ensures.base,
-      c.set_link-last.ensures.glyph,
       linking_end c.args.base l.i l.last default_glyph old l.glyphs
-          (omega (arith, c.loop-i-test.true, l.invariant.as_many)) (sym c.is_joiner.ensures ∙ c.if-is_joiner.false)
+          (omega arith) (sym c.is_joiner.ensures ∙ c.if-is_joiner.false)
           (subst (λ h. Linking c.args.base l.i h l.last old l.glyphs) c.if-halant.true l.invariant),
     )

@@ -5,8 +5,7 @@ use Rattle.shapers_indic_final.proofs.LeftMatraWalks.{walk_end, walk_no, walk_st
 use Rattle.shapers_indic_final.proofs.ot_shaper_indic_final.left_matras.merged_runs.Goals as goal
 
 pub loop-i-init : goal.loop-i-init
-loop-i-init c =
-    search (arith, walk_start)
+loop-i-init c = search (arith, walk_start)
 
 pub loop-i-preserved-then-is_left : goal.loop-i-preserved-then-is_left
 loop-i-preserved-then-is_left c =
@@ -16,9 +15,9 @@ loop-i-preserved-then-is_left c =
     let w = c.with_matra-runs in
     let lies = lies_on (a.s + (l.i - 1)) (a.s + a.top) (a.s + a.p) (a.s + a.b) l.runs w.result a.glyphs.now
     w.ensures.merged w.ensures.end l.invariant.1.lies in (
-      omega (arith, l.invariant.0),
+      omega arith,
       walk_yes a.s l.i (l.i - 1) a.top a.p a.b l.runs w.result a.glyphs.now
-          (omega (arith, c.loop-i-test.true)) l.invariant.0 r.behind r.before r.in_range (sym c.is_left.ensures
+          (omega arith) l.invariant.0 r.behind r.before r.in_range (sym c.is_left.ensures
           ∙ c.if-is_left.true) w.ensures.merged w.ensures.end lies l.invariant.1,
     )
 
@@ -27,9 +26,9 @@ loop-i-preserved c =
     let a = c.args in
     let l = c.loop-i in
     let r = c.requires in (
-      omega (arith, l.invariant.0),
+      omega arith,
       walk_no a.s l.i (l.i - 1) a.top a.p a.b l.runs a.glyphs.now
-          (omega (arith, c.loop-i-test.true)) l.invariant.0 r.behind r.before r.in_range (sym c.is_left.ensures
+          (omega arith) l.invariant.0 r.behind r.before r.in_range (sym c.is_left.ensures
           ∙ c.if-is_left.false) l.invariant.1,
     )
 
@@ -37,4 +36,4 @@ pub returns-clause-parted : goal.returns-clause-parted
 returns-clause-parted c =
     let a = c.args in
     let l = c.loop-i in
-    walk_end a.s l.i a.top a.p a.b l.runs a.glyphs.now (omega (arith, c.loop-i-test.false)) l.invariant.1
+    walk_end a.s l.i a.top a.p a.b l.runs a.glyphs.now (omega arith) l.invariant.1

@@ -1,30 +1,18 @@
 -- Both lists, one behind the other, and the glyphs put so.
 use Rattle.std.proofs.Common.{arith}
-use Rattle.shapers_indic_final.specs.Proved.FinalMoves.{glyphs_put}
 use Rattle.shapers_indic_final.proofs.LeftMatrasListed.{parted_listed, parted_long, parted_once, parted_placed}
 use Rattle.shapers_indic_final.proofs.ot_shaper_indic_final.left_matras.move_matras.Goals as goal
 
 pub list_places-at-requires-clause-room : goal.list_places-at-requires-clause-room
-list_places-at-requires-clause-room c =
-    let a = c.args in
-    omega (arith, parted_long a.s a.top a.e a.buffer.now.glyphs, c.requires.in_order)
+list_places-at-requires-clause-room c = let a = c.args in omega (arith, parted_long a.s a.top a.e a.buffer.now.glyphs)
 
 pub list_places-requires-clause-room : goal.list_places-requires-clause-room
-list_places-requires-clause-room c =
-    let a = c.args in
-    search (
-      arith,
-      c.list_places-at.ensures.listed,
-      parted_long a.s a.top a.e a.buffer.now.glyphs,
-      c.list_places-at.ensures.behind,
-      c.requires.in_order,
-    )
+list_places-requires-clause-room c = let a = c.args in search (arith, parted_long a.s a.top a.e a.buffer.now.glyphs)
 
 pub apply-requires-clause-permutes : goal.apply-requires-clause-permutes
 apply-requires-clause-permutes c =
     let a = c.args in
     search (
-      arith,
       (parted_listed a.s a.top a.e c.list_places-at.result a.buffer.now c.list_places-at.new.buffer
           c.list_places.new.buffer c.list_places-at.ensures.listed c.list_places-at.ensures.behind
           c.list_places.ensures.listed).1,
@@ -37,4 +25,4 @@ returns-clause-moved c =
     let done = parted_listed a.s a.top a.e c.list_places-at.result a.buffer.now c.list_places-at.new.buffer
     c.list_places.new.buffer c.list_places-at.ensures.listed c.list_places-at.ensures.behind
     c.list_places.ensures.listed in
-    search (arith, glyphs_put, parted_placed)
+    search (arith, parted_placed)

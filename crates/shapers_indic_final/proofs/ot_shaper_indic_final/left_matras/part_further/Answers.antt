@@ -8,7 +8,7 @@ use Rattle.shapers_indic_final.proofs.LeftMatraSteps.{Lies}
 use Rattle.shapers_indic_final.proofs.ot_shaper_indic_final.left_matras.part_further.Goals as goal
 
 pub returns-then-not-has_left-clause-glyphs : goal.returns-then-not-has_left-clause-glyphs
-returns-then-not-has_left-clause-glyphs c = search (arith, no_lefts)
+returns-then-not-has_left-clause-glyphs = search (arith, no_lefts)
 
 pub overflow_sub-at : goal.overflow_sub-at
 overflow_sub-at c =
@@ -19,17 +19,13 @@ overflow_sub-at c =
     record {
       start = w.ensures.start;
       from = w.ensures.from;
-      end = omega (arith, w.ensures.end, ap length c.glyphs-2.ensures);
+      end = omega (arith, ap length c.glyphs-2.ensures);
     } in
     let many = c.len_staying-len.ensures
     ∙ ap (λ xs. length (filter (has_stayed a.s (a.s + a.top) xs) (places w.result.start (a.s + a.p))))
     c.glyphs-3.ensures in
     (parted_written a.buffer.now.level a.s (a.s + a.top) (a.s + a.p) (a.s + a.b) c.move_matras-at.result
-    c.len_staying-len.result w.result gs (omega arith) (omega (
-      arith,
-      c.requires.before,
-    )) lies c.move_matras-at.ensures.at
-    many).0
+    c.len_staying-len.result w.result gs (omega arith) (omega arith) lies c.move_matras-at.ensures.at many).0
 
 pub put-requires-clause-in_range : goal.put-requires-clause-in_range
 put-requires-clause-in_range c =
@@ -40,8 +36,7 @@ put-requires-clause-in_range c =
     let lies : Lies (a.s + a.p) (a.s + a.b) w.result gs = record {
       start = w.ensures.start;
       from = w.ensures.from;
-      end
-          = omega (arith, w.ensures.end, ap length c.glyphs-2.ensures);
+      end = omega (arith, ap length c.glyphs-2.ensures);
     } in
     let many = c.len_staying-len.ensures
     ∙ ap (λ xs. length (filter (has_stayed a.s (a.s + a.top) xs) (places w.result.start (a.s + a.p))))
@@ -51,9 +46,7 @@ put-requires-clause-in_range c =
       (parted_written a.buffer.now.level a.s (a.s + a.top) (a.s + a.p) (a.s + a.b) c.move_matras-at.result
           c.len_staying-len.result w.result gs (omega arith) (omega (arith, r.before)) lies
           c.move_matras-at.ensures.at many).1,
-      c.move_matras-at.ensures.moved,
       moved_long a.s (a.s + a.top) (a.s + a.p) (a.s + a.b) w.result gs (omega (arith, r.before)) lies,
-      w.ensures.end,
     )
 
 pub put-requires-2-clause-in_order : goal.put-requires-2-clause-in_order
@@ -65,17 +58,13 @@ put-requires-2-clause-in_order c =
     record {
       start = w.ensures.start;
       from = w.ensures.from;
-      end = omega (arith, w.ensures.end, ap length c.glyphs-2.ensures);
+      end = omega (arith, ap length c.glyphs-2.ensures);
     } in
     let many = c.len_staying-len.ensures
     ∙ ap (λ xs. length (filter (has_stayed a.s (a.s + a.top) xs) (places w.result.start (a.s + a.p))))
     c.glyphs-3.ensures in
     (parted_written a.buffer.now.level a.s (a.s + a.top) (a.s + a.p) (a.s + a.b) c.move_matras-at.result
-    c.len_staying-len.result w.result gs (omega arith) (omega (
-      arith,
-      c.requires.before,
-    )) lies c.move_matras-at.ensures.at
-    many).1
+    c.len_staying-len.result w.result gs (omega arith) (omega arith) lies c.move_matras-at.ensures.at many).1
 
 pub put-requires-2-clause-in_range : goal.put-requires-2-clause-in_range
 put-requires-2-clause-in_range c =
@@ -85,8 +74,7 @@ put-requires-2-clause-in_range c =
     let lies : Lies (a.s + a.p) (a.s + a.b) w.result gs = record {
       start = w.ensures.start;
       from = w.ensures.from;
-      end
-          = omega (arith, w.ensures.end, ap length c.glyphs-2.ensures);
+      end = omega (arith, ap length c.glyphs-2.ensures);
     } in
     let mid = c.move_matras-at.new.buffer in
     let at = c.move_matras-at.result in
@@ -95,7 +83,7 @@ put-requires-2-clause-in_range c =
       c.put.ensures,
       length-put_in mid.level w.result.before (at - c.len_staying-len.result) at mid.glyphs (omega arith),
       c.move_matras-at.ensures.moved,
-      moved_long a.s (a.s + a.top) (a.s + a.p) (a.s + a.b) w.result gs (omega (arith, c.requires.before)) lies,
+      moved_long a.s (a.s + a.top) (a.s + a.p) (a.s + a.b) w.result gs (omega arith) lies,
       w.ensures.end,
     )
 
@@ -110,17 +98,17 @@ returns-clause-glyphs c = λ e base_in within.
     record {
       start = w.ensures.start;
       from = w.ensures.from;
-      end = omega (arith, w.ensures.end, ap length same);
+      end = omega (arith, ap length same);
     } in
     let many = c.len_staying-len.ensures
     ∙ ap (λ xs. length (filter (has_stayed a.s (a.s + a.top) xs) (places w.result.start (a.s + a.p))))
     c.glyphs-3.ensures in
     let written = written_there a.buffer.now c.move_matras-at.new.buffer c.put.new.buffer c.put-2.new.buffer a.s
     (a.s + a.top) (a.s + a.p) (a.s + a.b) c.move_matras-at.result c.len_staying-len.result w.result
-    (omega arith) (omega (arith, r.before)) lies c.move_matras-at.ensures.moved c.move_matras-at.ensures.at many
+    (omega arith) (omega arith) lies c.move_matras-at.ensures.moved c.move_matras-at.ensures.at many
     c.put.ensures c.put-2.ensures in
     let parted = found a.buffer.now.level a.s e a.top a.p a.b w.result c.glyphs-2.result.now gs same
-    (w.ensures.parted a.buffer.now.level e base_in (omega (arith, within, ap length same))
+    (w.ensures.parted a.buffer.now.level e base_in (omega (arith, ap length same))
     (one_there a.buffer.now.level (a.s + a.p) (a.s + a.b) c.glyphs-2.result.now gs same r.one)) in
     cc
 
@@ -133,14 +121,14 @@ returns-clause-same_length c =
     record {
       start = w.ensures.start;
       from = w.ensures.from;
-      end = omega (arith, w.ensures.end, ap length c.glyphs-2.ensures);
+      end = omega (arith, ap length c.glyphs-2.ensures);
     } in
     let many = c.len_staying-len.ensures
     ∙ ap (λ xs. length (filter (has_stayed a.s (a.s + a.top) xs) (places w.result.start (a.s + a.p))))
     c.glyphs-3.ensures in
     let written = written_there a.buffer.now c.move_matras-at.new.buffer c.put.new.buffer c.put-2.new.buffer a.s
     (a.s + a.top) (a.s + a.p) (a.s + a.b) c.move_matras-at.result c.len_staying-len.result w.result
-    (omega arith) (omega (arith, r.before)) lies c.move_matras-at.ensures.moved c.move_matras-at.ensures.at many
+    (omega arith) (omega arith) lies c.move_matras-at.ensures.moved c.move_matras-at.ensures.at many
     c.put.ensures c.put-2.ensures in
     written_long a.buffer.now c.put-2.new.buffer a.s (a.s + a.top) (a.s + a.p) (a.s + a.b) w.result
-    (omega (arith, r.before)) lies written
+    (omega arith) lies written

@@ -4,5 +4,4 @@ use Rattle.shapers_buffer.proofs.ClusterLemmas.{three_parts}
 use Rattle.shapers_indic_final.proofs.ot_shaper_indic_final.left_matras.put.Goals as goal
 
 pub returns-in-Characters : goal.returns-in-Characters
-returns-in-Characters c =
-    search (arith, three_parts)
+returns-in-Characters = search (arith, three_parts)

@@ -1,17 +1,14 @@
 -- One place more.
 use Rattle.std.proofs.Common.{arith}
-use Rattle.shapers_indic_final.specs.Proved.FinalPlaces.{least_none, least_step, least_stop}
+use Rattle.shapers_indic_final.specs.Proved.FinalPlaces.{least_step}
 use Rattle.shapers_indic_final.proofs.ot_shaper_indic_final.matras.first_left.Goals as goal
 use Rattle.shapers_indic.proofs.PlaceSearch.{passes_there}
 
 pub returns-then-is_left-clause-place : goal.returns-then-is_left-clause-place
-returns-then-is_left-clause-place c =
-    search (arith, least_stop, passes_there)
+returns-then-is_left-clause-place = search (arith, passes_there)
 
 pub loop-i-preserved : goal.loop-i-preserved
-loop-i-preserved c =
-    search (arith, least_step, passes_there)
+loop-i-preserved = search (arith, least_step, passes_there)
 
 pub returns-clause-place : goal.returns-clause-place
-returns-clause-place c =
-    search (arith, least_none)
+returns-clause-place = search arith

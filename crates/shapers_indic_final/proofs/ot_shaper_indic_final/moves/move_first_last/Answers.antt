@@ -7,7 +7,7 @@ use Rattle.shapers_indic_final.proofs.ot_shaper_indic_final.moves.move_first_las
 pub apply-requires-clause-permutes : goal.apply-requires-clause-permutes
 apply-requires-clause-permutes c =
     forward_permutes c.args.s (c.args.s + 1) (c.args.e - c.args.s - 1) c.args.s c.args.e c.args.buffer.now.places
-    (omega arith) (omega arith) (omega (arith, c.requires.in_order))
+    (omega arith) (omega arith) (omega arith)
 
 pub returns : goal.returns
-returns c = search (arith, placed_first_last)
+returns = search (arith, placed_first_last)

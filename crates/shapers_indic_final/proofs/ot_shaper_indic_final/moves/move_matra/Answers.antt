@@ -6,8 +6,7 @@ use Rattle.shapers_indic_final.specs.Proved.FinalSteps.{length-moved, matra_step
 use Rattle.shapers_indic_final.proofs.ot_shaper_indic_final.moves.move_matra.Goals as goal
 
 pub merge_clusters-requires-clause-in_range : goal.merge_clusters-requires-clause-in_range
-merge_clusters-requires-clause-in_range c =
-    search (arith, length-moved)
+merge_clusters-requires-clause-in_range = search (arith, length-moved)
 
 pub returns : goal.returns
 returns c = λ e order range.
@@ -16,6 +15,5 @@ returns c = λ e order range.
     moved_and_merged old c.move_first_last.new.buffer c.merge_clusters.new.self
     (λ level gs. merge level (a.s + a.j) (a.s + a.b) gs)
     (with_stretch (a.s + a.i) (a.s + a.j + 1) first_last old.glyphs) _ c.move_first_last.ensures
-    c.merge_clusters.ensures
-    (matra_stepped old.level a.s e a.b a.i a.j old.glyphs c.requires.before (omega (arith, c.requires.base, order))
+    c.merge_clusters.ensures (matra_stepped old.level a.s e a.b a.i a.j old.glyphs c.requires.before (omega arith)
     range)

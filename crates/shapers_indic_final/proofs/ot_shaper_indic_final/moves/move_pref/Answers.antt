@@ -1,7 +1,7 @@
 -- One merge and one move are the step.
 use Rattle.std.proofs.Common.{arith}
-use Rattle.shapers_indic_final.specs.Proved.FinalSteps.{merged_and_moved, pref_stepped}
+use Rattle.shapers_indic_final.specs.Proved.FinalSteps.{pref_stepped}
 use Rattle.shapers_indic_final.proofs.ot_shaper_indic_final.moves.move_pref.Goals as goal
 
 pub returns : goal.returns
-returns c = search (arith, merged_and_moved, pref_stepped)
+returns = search (arith, pref_stepped)

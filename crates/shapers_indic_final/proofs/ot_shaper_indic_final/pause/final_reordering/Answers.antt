@@ -1,5 +1,4 @@
 -- The chain of the reordering, and what it comes to once its syllables are opened.
-use Rattle.std.proofs.Common.{arith}
 use Rattle.std.proofs.Common.{◌≡◌, ap, sym, subst, true, ◌∙◌}
 use Rattle.std.specs.Prelude.{Err, Ok, OnOk, Result, is_ok}
 use Rattle.shapers_indic_final.specs.FinalReordering.{final_order, final_steps}
@@ -30,12 +29,11 @@ returns-then-is_ok-clause-linked g c =
     )
 
 pub returns-then-is_ok-clause-reordered : goal.returns-then-is_ok-clause-reordered
-returns-then-is_ok-clause-reordered g c = search (arith, reordered_by_links, returns-then-is_ok-clause-linked)
+returns-then-is_ok-clause-reordered = search (reordered_by_links, returns-then-is_ok-clause-linked)
 
 pub returns-then-is_ok-clause-laws : goal.returns-then-is_ok-clause-laws
 returns-then-is_ok-clause-laws g c = finally_kept _ c.args.buffer.now c.open_words.new.buffer
     (returns-then-is_ok-clause-reordered g c)
 
 pub returns-then-is_ok-clause-clusters : goal.returns-then-is_ok-clause-clusters
-returns-then-is_ok-clause-clusters g c =
-    (returns-then-is_ok-clause-laws g c).in_clusters.old_clusters
+returns-then-is_ok-clause-clusters g c = (returns-then-is_ok-clause-laws g c).in_clusters.old_clusters

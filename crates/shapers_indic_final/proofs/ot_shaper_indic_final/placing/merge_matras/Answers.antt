@@ -11,5 +11,5 @@ returns-in-Some-clause-glyphs c =
     let r = c.requires in
     let end = r.end in
     stayed_in old c.merge_clusters.new.self a.s a.e a.base a.b c.in-Some.i r.in_order
-    (omega (arith, length-stretch a.s a.e old.glyphs r.in_range, end, r.in_order)) r.in_range end
+    (omega (arith, length-stretch a.s a.e old.glyphs r.in_range)) r.in_range end
     (search arith) c.merge_clusters.ensures

@@ -4,4 +4,4 @@ use Rattle.shapers_indic_final.proofs.FinalWordStartCases.{before_there}
 use Rattle.shapers_indic_final.proofs.ot_shaper_indic_final.word_start.goes_on.Goals as goal
 
 pub returns : goal.returns
-returns c = search (arith, before_there)
+returns = search (arith, before_there)

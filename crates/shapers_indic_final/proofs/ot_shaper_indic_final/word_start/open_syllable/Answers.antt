@@ -8,12 +8,10 @@ use Rattle.shapers_indic_final.proofs.FinalWordStartCases.{opened_bound, opened_
 use Rattle.shapers_indic_final.proofs.ot_shaper_indic_final.word_start.open_syllable.Goals as goal
 
 pub returns-then-not-is_left : goal.returns-then-not-is_left
-returns-then-not-is_left c =
-    search (arith, opened_other)
+returns-then-not-is_left = search (arith, opened_other)
 
 pub returns-then-goes_on : goal.returns-then-goes_on
-returns-then-goes_on c =
-    search (arith, opened_bound)
+returns-then-goes_on = search (arith, opened_bound)
 
 pub returns : goal.returns
 returns c =
@@ -22,4 +20,4 @@ returns c =
     ∙ c.if-not-is_left.false in
     let word =
     sym (c.goes_on.ensures ∙ ap (λ xs. word_goes_on (before_place s xs)) c.glyphs-2.ensures) ∙ c.if-goes_on.false in
-    cc (c.change_each.ensures, opened_init c.args.init s default_glyph c.args.buffer.now.glyphs c.requires left word)
+    cc (opened_init c.args.init s default_glyph c.args.buffer.now.glyphs c.requires left word)

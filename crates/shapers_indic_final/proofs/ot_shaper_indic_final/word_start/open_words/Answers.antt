@@ -6,7 +6,7 @@ use Rattle.shapers_indic_final.proofs.ot_shaper_indic_final.word_start.open_word
 use Rattle.shapers_indic_final.proofs.ot_shaper_indic_final.word_start.open_words.Goals.{then-starts_syllable, else-starts_syllable}
 
 pub loop-place-init : goal.loop-place-init
-loop-place-init c = search arith
+loop-place-init = search arith
 
 pub loop-place-preserved : goal.loop-place-preserved
 loop-place-preserved c =
@@ -19,8 +19,7 @@ loop-place-preserved c =
       | then-starts_syllable w ↦ subst (λ b. Opening c.args.init old b (i + 1)) (sym w.buffer-is)
           (opening_starts c.args.init old now w.open_syllable.new.buffer i c.requires.init (omega arith)
           (sym is ∙ w.if-starts_syllable.true) w.open_syllable.ensures c.loop-place.invariant)
-      | else-starts_syllable w ↦ subst (λ b. Opening c.args.init old b (i + 1)) (sym w.buffer-is)
-          (search arith)
+      | else-starts_syllable w ↦ subst (λ b. Opening c.args.init old b (i + 1)) (sym w.buffer-is) (search arith)
     ]
 
 pub returns : goal.returns

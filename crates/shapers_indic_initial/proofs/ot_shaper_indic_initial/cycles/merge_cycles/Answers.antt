@@ -7,8 +7,7 @@ use Rattle.shapers_indic_initial.proofs.ot_shaper_indic_initial.cycles.merge_cyc
 use Rattle.shapers_indic_initial.proofs.ot_shaper_indic_initial.cycles.merge_cycles.Goals as goal
 
 pub loop-place-init : goal.loop-place-init
-loop-place-init c =
-    search (arith, length-places_from)
+loop-place-init = search (arith, length-places_from)
 
 pub loop-place-preserved : goal.loop-place-preserved
 loop-place-preserved c =
@@ -25,7 +24,7 @@ loop-place-preserved c =
           let is2 = w.merge_clusters.ensures
           ∙ ap (λ m. ((record b1 { glyphs = merge b1.level (s + m) (s + greatest + 1) b1.glyphs }))) w.max.ensures in
           record {
-            from = omega (arith, l.invariant.from);
+            from = omega arith;
             others = subst
                 (λ b. b ≡ (let r : Buffer = record b0 { glyphs = b.glyphs; places = b.places } in r)) (sym w.buffer-is)
                 (search arith);
@@ -37,8 +36,8 @@ loop-place-preserved c =
           }
       | else-old_place-place w ↦
           record {
-            from = omega (arith, l.invariant.from);
+            from = omega arith;
             others = search arith;
-            merging = search (arith, merging_stays, c.old_place.ensures);
+            merging = search (arith, merging_stays);
           }
     ]

@@ -10,9 +10,8 @@ loop-init c =
     let e = c.args.end in
     let places = c.args.buffer.now.places in
     let n = length-places_from c.args.start e places in
-    let start = passing_start (places_from c.args.start e places) c.args.first
-    (omega (arith, n, c.requires.inside)) c.requires.once in
-    search (arith, passing_as)
+    let start = passing_start (places_from c.args.start e places) c.args.first (omega arith) c.requires.once in
+    search arith
 
 pub loop-preserved : goal.loop-preserved
 loop-preserved c =
@@ -22,17 +21,16 @@ loop-preserved c =
     let places = c.args.buffer.now.places in
     let f = places_from s e places in
     let before = subst (λ k. Passing f c.args.first (places_from s e l.buffer.places) l.place k l.least l.greatest)
-    (omega (arith, c.loop-test.true))
-    l.invariant.passing in
+    (omega arith) l.invariant.passing in
     let next = passing_next f c.args.first (places_from s e l.buffer.places) l.place (e - (l.counter + 1)) l.least
     l.greatest c.if-place-first.false before in
     let is = c.old_place-next.ensures e l.invariant.inside in
     record {
-      from = omega (arith, l.invariant.from);
+      from = omega arith;
       others = others_next c.args.buffer.now l.buffer c.spend_place-in-loop.new.buffer l.invariant.others
           c.spend_place-in-loop.ensures.others;
       long = ap (λ b. length b.glyphs) c.spend_place-in-loop.ensures.others ∙ l.invariant.long;
-      inside = omega (arith, length-places_from s e places, is, next.next_inside);
+      inside = omega (arith, length-places_from s e places);
       passing = passing_as f c.args.first _ _ _ _ _ _ _ _ _ _ (c.spend_place-in-loop.ensures.spent e l.invariant.inside)
           is refl c.min-least.ensures c.max-greatest.ensures next;
     }
@@ -44,22 +42,8 @@ returns-then-place-first c =
     let f = places_from c.args.start c.args.end places in
     let w = passed_back f c.args.first (places_from c.args.start c.args.end l.buffer.places) l.place (c.args.end -
     l.counter) l.least l.greatest c.if-place-first.true l.invariant.passing in
-    let d = stretch_bounds f 0 c.args.first (omega (
-      arith,
-      length-places_from c.args.start c.args.end places,
-      c.requires.inside,
-    )) c.requires.once in
-    search (
-      arith,
-      l.invariant.others,
-      w.spent,
-      w.least_is,
-      w.greatest_is,
-      d.least,
-      d.greatest,
-      d.inside,
-      length-places_from c.args.start c.args.end places,
-    )
+    let d = stretch_bounds f 0 c.args.first (omega arith) c.requires.once in
+    search (arith, length-places_from c.args.start c.args.end places)
 
 pub returns-after-loop : goal.returns-after-loop
 returns-after-loop c =
@@ -67,20 +51,6 @@ returns-after-loop c =
     let places = c.args.buffer.now.places in
     let f = places_from c.args.start c.args.end places in
     let w = passed_whole f c.args.first (places_from c.args.start c.args.end l.buffer.places) l.place (c.args.end -
-    l.counter) l.least l.greatest (omega (arith, c.loop-test.false)) l.invariant.passing in
-    let d = stretch_bounds f 0 c.args.first (omega (
-      arith,
-      length-places_from c.args.start c.args.end places,
-      c.requires.inside,
-    )) c.requires.once in
-    search (
-      arith,
-      l.invariant.others,
-      w.spent,
-      w.least_is,
-      w.greatest_is,
-      d.least,
-      d.greatest,
-      d.inside,
-      length-places_from c.args.start c.args.end places,
-    )
+    l.counter) l.least l.greatest (omega arith) l.invariant.passing in
+    let d = stretch_bounds f 0 c.args.first (omega arith) c.requires.once in
+    search (arith, length-places_from c.args.start c.args.end places)

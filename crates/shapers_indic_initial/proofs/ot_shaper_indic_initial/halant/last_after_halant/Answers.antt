@@ -5,9 +5,7 @@ use Rattle.shapers_indic_initial.proofs.PlaceSearch.{greatest_back, greatest_her
 use Rattle.shapers_indic_initial.proofs.ot_shaper_indic_initial.halant.last_after_halant.Goals as goal
 
 pub returns-then-is_passed_by_halant-clause-place : goal.returns-then-is_passed_by_halant-clause-place
-returns-then-is_passed_by_halant-clause-place c =
-    search (arith, greatest_here, passes_there)
+returns-then-is_passed_by_halant-clause-place = search (arith, greatest_here, passes_there)
 
 pub loop-place-preserved : goal.loop-place-preserved
-loop-place-preserved c =
-    search (arith, greatest_back, passes_there)
+loop-place-preserved = search (arith, greatest_back, passes_there)

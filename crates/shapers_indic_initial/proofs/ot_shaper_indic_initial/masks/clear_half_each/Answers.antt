@@ -17,6 +17,6 @@ loop-i-preserved c =
           w.glyph-is ∙ sym (ap (λ b. half_taken c.args.bits b (get_or l.glyphs k default_glyph)) w.if-loses.false)
     ] in
     let back = half_back c.args.bits c.args.glyphs.now l.glyphs l.i k l.loses c.keeps_losing-loses.result
-    c.if-loses.glyph default_glyph (omega (arith, c.loop-i-test.true)) (omega (arith, c.loop-i-test.true, l.auto.i))
+    c.if-loses.glyph default_glyph (omega arith) (omega arith)
     l.invariant.glyphs l.invariant.loses made c.keeps_losing-loses.ensures in
-    search (arith, back.glyphs, back.loses)
+    search

@@ -12,13 +12,10 @@ returns-then-would_substitute-clause-pair g c =
     let gs = c.args.glyphs.now in
     let r = initial_rules (g.F.hb_font_t.font c.args.rules.now.face.now) c.args.rules.now.map.now
     c.args.rules.now.plan.now in
-    search_found (λ i. r.forms_pref (numbers (stretch_of i (i + 2) gs))) l.i (length gs - 1)
-    (omega (arith, c.loop-i-test.true))
+    search_found (λ i. r.forms_pref (numbers (stretch_of i (i + 2) gs))) l.i (length gs - 1) (omega arith)
     (asked_pair r.forms_pref gs l.i c.number.result c.number-in-loop-i.result c.would_substitute.result (omega
-    (arith, c.loop-i-test.true)) c.number.ensures c.number-in-loop-i.ensures c.would_substitute.ensures ∙
-    c.if-would_substitute.true)
-    ∙ l.invariant.rest
-    ∙ pref_pair_asked r c.args.base gs (omega (arith, c.if-plan-eq0.false)) (omega (arith, c.if-base-glyphs.false))
+    arith) c.number.ensures c.number-in-loop-i.ensures c.would_substitute.ensures ∙
+    c.if-would_substitute.true) ∙ l.invariant.rest ∙ pref_pair_asked r c.args.base gs (omega arith) (omega arith)
 
 pub loop-i-preserved : goal.loop-i-preserved
 loop-i-preserved g c =
@@ -28,11 +25,9 @@ loop-i-preserved g c =
     c.args.rules.now.plan.now in
     search (
       arith,
-      l.invariant.behind,
       search_on (λ i. r.forms_pref (numbers (stretch_of i (i + 2) gs))) l.i (length gs - 1)
           (omega (arith, c.loop-i-test.true))
           (asked_pair r.forms_pref gs l.i c.number.result c.number-in-loop-i.result c.would_substitute.result (omega
           (arith, c.loop-i-test.true)) c.number.ensures c.number-in-loop-i.ensures c.would_substitute.ensures ∙
           c.if-would_substitute.false),
-      l.invariant.rest,
     )

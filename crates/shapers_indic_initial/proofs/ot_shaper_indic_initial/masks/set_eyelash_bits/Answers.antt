@@ -8,4 +8,4 @@ pub loop-i-preserved : goal.loop-i-preserved
 loop-i-preserved c =
     let l = c.loop-i in
     eyelash_next c.args.bits c.args.base c.args.glyphs.now l.glyphs c.if-is_in_eyelash.glyphs l.i default_glyph
-    c.is_in_eyelash.result (omega (arith, c.loop-i-test.true)) l.invariant c.is_in_eyelash.ensures (search arith)
+    c.is_in_eyelash.result (omega arith) l.invariant c.is_in_eyelash.ensures (search arith)

@@ -11,8 +11,6 @@ pub returns-then-has_eyelash : goal.returns-then-has_eyelash
 returns-then-has_eyelash c = λ font m.
     search (
       arith,
-      c.set_eyelash_bits.ensures,
-      c.bits_of.ensures,
       eyelash_is (initial_rules font m c.args.plan.now) c.args.script c.args.base c.args.glyphs.now true
           (sym c.if-has_eyelash.true ∙ c.has_eyelash.ensures font m),
     )

@@ -14,4 +14,4 @@ returns-clause-masks g c =
     c.set_pref_mask.ensures c.bits_of-2.ensures c.clear_half.ensures
 
 pub returns-clause-fits : goal.returns-clause-fits
-returns-clause-fits g c = search arith
+returns-clause-fits = search arith

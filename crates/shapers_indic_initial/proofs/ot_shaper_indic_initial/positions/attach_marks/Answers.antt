@@ -4,5 +4,4 @@ use Rattle.shapers_indic_initial.proofs.MarksAttached.{marks_done}
 use Rattle.shapers_indic_initial.proofs.ot_shaper_indic_initial.positions.attach_marks.Goals as goal
 
 pub returns : goal.returns
-returns c =
-    search (arith, marks_done)
+returns = search (arith, marks_done)

@@ -4,5 +4,4 @@ use Rattle.shapers_indic_initial.proofs.Positions.{based_all}
 use Rattle.shapers_indic_initial.proofs.ot_shaper_indic_initial.positions.set_positions_by_base.Goals as goal
 
 pub returns : goal.returns
-returns c =
-    search (arith, based_all)
+returns = search (arith, based_all)

@@ -18,5 +18,4 @@ returns-in-Some-clause-reordered c = λ r e.
 pub returns-in_default-clause-reordered : goal.returns-in_default-clause-reordered
 returns-in_default-clause-reordered c = λ r e.
     halant_left r c.args.script c.args.base c.args.start c.args.end c.args.buffer.now c.glyphs.result.now
-    c.requires.in_order c.requires.in_range c.glyphs.ensures (search arith)
-    c.in_default.ensures.places
+    c.requires.in_order c.requires.in_range c.glyphs.ensures (search arith) c.in_default.ensures.places

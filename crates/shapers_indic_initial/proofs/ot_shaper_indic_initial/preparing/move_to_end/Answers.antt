@@ -7,8 +7,7 @@ use Rattle.shapers_indic_initial.proofs.ot_shaper_indic_initial.preparing.move_t
 pub apply-requires-clause-permutes : goal.apply-requires-clause-permutes
 apply-requires-clause-permutes c =
     forward_permutes c.args.from (c.args.from + 1) (c.args.end - c.args.from - 1) c.args.from c.args.end
-    c.args.buffer.now.places (omega arith) (omega arith) (omega (arith, c.requires.in_order))
+    c.args.buffer.now.places (omega arith) (omega arith) (omega arith)
 
 pub returns-clause-moved : goal.returns-clause-moved
-returns-clause-moved c =
-    search (arith, placed_behind)
+returns-clause-moved = search (arith, placed_behind)

@@ -20,8 +20,6 @@ returns-clause-reordered g c =
     c.args.buffer.now c.put_joiner_first.new.buffer c.walk.new.self c.move_halant.new.buffer b4
     c.requires.in_order c.requires.in_range
     c.put_joiner_first.ensures.same_length c.put_joiner_first.ensures.reordered
-    (cc (c.find_base-base.ensures.place, c.glyphs.ensures))
-    (search arith)
-    c.walk.ensures.others c.walk.ensures.walked c.walk.ensures.same_length
-    (c.move_halant.ensures.reordered r refl)
+    (cc c.find_base-base.ensures.place) (search arith)
+    c.walk.ensures.others c.walk.ensures.walked c.walk.ensures.same_length (c.move_halant.ensures.reordered r refl)
     c.walk-2.ensures.others c.walk-2.ensures.walked)

@@ -6,8 +6,7 @@ use Rattle.shapers_indic_initial.proofs.ot_shaper_indic_initial.preparing.put_jo
 pub returns-then-joiner_comes_first-clause-reordered : goal.returns-then-joiner_comes_first-clause-reordered
 returns-then-joiner_comes_first-clause-reordered c =
     joiner_moves c.args.script c.args.start c.args.end c.args.buffer.now c.merge_clusters.new.self
-    c.move_to_end.new.buffer c.requires.in_order c.requires.in_range
-    (search arith)
+    c.move_to_end.new.buffer c.requires.in_order c.requires.in_range (search arith)
     c.merge_clusters.ensures c.move_to_end.ensures.others c.move_to_end.ensures.moved
 
 pub returns-else-joiner_comes_first-clause-reordered : goal.returns-else-joiner_comes_first-clause-reordered

@@ -5,11 +5,10 @@ use Rattle.shapers_myanmar.proofs.Positioned.{own_next, parts_behind}
 use Rattle.shapers_myanmar.proofs.ot_shaper_myanmar.positions.set_later.Goals as goal
 
 pub loop-glyph-init : goal.loop-glyph-init
-loop-glyph-init c = search (arith, parts_behind)
+loop-glyph-init = search parts_behind
 
 pub loop-glyph-preserved : goal.loop-glyph-preserved
 loop-glyph-preserved c =
     let l = c.loop-glyph in
     own_next l.before l.part l.glyphs _ l.glyph-index default_glyph c.part_of-part.result c.own_position-before.result
-    (search arith) l.invariant c.part_of-part.ensures
-    c.own_position-before.ensures
+    (search arith) l.invariant c.part_of-part.ensures c.own_position-before.ensures

@@ -1,7 +1,7 @@
 -- Each cluster takes its part of the room.
-use Rattle.std.proofs.Common.{◌≡◌, ◌≤◌, ◌∙◌, ◌+◌, ◌-◌, List, ap, drop, length, refl, take, arith}
+use Rattle.std.proofs.Common.{◌≡◌, ◌≤◌, ◌∙◌, ◌+◌, ◌-◌, ap, drop, length, refl, take, arith}
 use Rattle.std.specs.List.{prefix_len}
-use Rattle.shapers_buffer.specs.declared.buffer.glyph.hb_glyph_info_t.{hb_glyph_info_t}
+use Rattle.shapers_buffer.specs.Glyphs.{Glyphs}
 use Rattle.shapers_normal.specs.Sorting.{is_mark_glyph}
 use Rattle.std.proofs.lemmas.List.{length-append, length-drop}
 use Rattle.shapers_normal.specs.Decomposition.{cluster_becomes, text_decomposed}
@@ -15,7 +15,7 @@ returns-in-None-clause-length g c =
     let l = c.loop-start in
     let n = c.cluster_len.result in
     let is : n ≡ 1 + prefix_len is_mark_glyph (drop 1 (drop l.start gs)) = c.cluster_len.ensures.len
-    ∙ ap (λ (xs : List hb_glyph_info_t). 1 + prefix_len is_mark_glyph (drop 1 xs)) c.rest_from.ensures in
+    ∙ ap (λ (xs : Glyphs). 1 + prefix_len is_mark_glyph (drop 1 xs)) c.rest_from.ensures in
     let cluster = cluster_becomes context (take (l.start + n - l.start) (drop l.start gs)) in
     let behind = text_decomposed context (drop (l.start + n) gs) in
     let next = ap length (next_cluster context gs l.start n c.loop-start-test.true is) in
@@ -28,7 +28,7 @@ loop-start-preserved g c =
     let l = c.loop-start in
     let n = c.cluster_len.result in
     let is : n ≡ 1 + prefix_len is_mark_glyph (drop 1 (drop l.start gs)) = c.cluster_len.ensures.len
-    ∙ ap (λ (xs : List hb_glyph_info_t). 1 + prefix_len is_mark_glyph (drop 1 xs)) c.rest_from.ensures in
+    ∙ ap (λ (xs : Glyphs). 1 + prefix_len is_mark_glyph (drop 1 xs)) c.rest_from.ensures in
     let inside : l.start + n ≤ length gs =
     omega (
       arith,

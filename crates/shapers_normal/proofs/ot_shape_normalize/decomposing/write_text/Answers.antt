@@ -1,7 +1,7 @@
 -- There is room for what the next cluster becomes; it is written.
-use Rattle.std.proofs.Common.{◌≡◌, ◌≤◌, ◌∙◌, ◌++◌, ◌+◌, ◌-◌, List, ap, drop, length, take, arith}
+use Rattle.std.proofs.Common.{◌≡◌, ◌≤◌, ◌∙◌, ◌++◌, ◌+◌, ◌-◌, ap, drop, length, take, arith}
 use Rattle.std.specs.List.{prefix_len}
-use Rattle.shapers_buffer.specs.declared.buffer.glyph.hb_glyph_info_t.{hb_glyph_info_t}
+use Rattle.shapers_buffer.specs.Glyphs.{Glyphs}
 use Rattle.shapers_normal.specs.Sorting.{is_mark_glyph}
 use Rattle.std.specs.Prelude.{vec_capacity}
 use Rattle.std.proofs.lemmas.List.{length-append, length-drop}
@@ -16,7 +16,7 @@ write_cluster-requires g c =
     let l = c.loop-start in
     let n = c.cluster_len.result in
     let is : n ≡ 1 + prefix_len is_mark_glyph (drop 1 (drop l.start gs)) = c.cluster_len.ensures.len
-    ∙ ap (λ (xs : List hb_glyph_info_t). 1 + prefix_len is_mark_glyph (drop 1 xs)) c.rest_from.ensures in
+    ∙ ap (λ (xs : Glyphs). 1 + prefix_len is_mark_glyph (drop 1 xs)) c.rest_from.ensures in
     let inside : l.start + n ≤ length gs =
     omega (
       arith,
@@ -40,7 +40,7 @@ loop-start-preserved g c =
     let l = c.loop-start in
     let n = c.cluster_len.result in
     let is : n ≡ 1 + prefix_len is_mark_glyph (drop 1 (drop l.start gs)) = c.cluster_len.ensures.len
-    ∙ ap (λ (xs : List hb_glyph_info_t). 1 + prefix_len is_mark_glyph (drop 1 xs)) c.rest_from.ensures in
+    ∙ ap (λ (xs : Glyphs). 1 + prefix_len is_mark_glyph (drop 1 xs)) c.rest_from.ensures in
     let inside : l.start + n ≤ length gs =
     omega (
       arith,

@@ -1,6 +1,6 @@
 -- The starter is written before the gap.
-use Rattle.std.proofs.Common.{◌∙◌, ◌+◌, ◌≤◌, List, length, get_or, set, sym, ap, arith}
-use Rattle.shapers_buffer.specs.declared.buffer.glyph.hb_glyph_info_t.{hb_glyph_info_t}
+use Rattle.std.proofs.Common.{◌∙◌, ◌+◌, ◌≤◌, length, get_or, set, sym, ap, arith}
+use Rattle.shapers_buffer.specs.Glyphs.{Glyphs}
 use Rattle.shapers_buffer.specs.Glyph.{default_glyph}
 use Rattle.shapers_normal.specs.Properties.{as_character}
 use Rattle.shapers_normal.specs.Recomposition.{StarterWalk}
@@ -15,7 +15,7 @@ returns-clause-next g c =
     let gs = c.merge_apart.new.glyphs in
     let drawn = c.args.drawn in
     let long : p.to ≤ length gs = omega (arith, c.merge_apart.auto.glyphs, c.requires.inside, c.requires.gap) in
-    let put = λ (xs : List hb_glyph_info_t). let w : StarterWalk =
+    let put = λ (xs : Glyphs). let w : StarterWalk =
     record { starter = s; place = p.to; glyphs = xs } in w in
     ap put
     (apart-set p.to (p.from + 1) s gs c.set_character.new.glyph c.requires.starter (omega (arith, c.requires.gap)) long

@@ -1,7 +1,7 @@
 -- Each cluster takes its part of the room.
-use Rattle.std.proofs.Common.{◌≡◌, ◌≤◌, ◌∙◌, ◌+◌, ◌-◌, List, ap, drop, length, take, arith}
+use Rattle.std.proofs.Common.{◌≡◌, ◌≤◌, ◌∙◌, ◌+◌, ◌-◌, ap, drop, length, take, arith}
 use Rattle.std.specs.List.{prefix_len}
-use Rattle.shapers_buffer.specs.declared.buffer.glyph.hb_glyph_info_t.{hb_glyph_info_t}
+use Rattle.shapers_buffer.specs.Glyphs.{Glyphs}
 use Rattle.std.proofs.lemmas.List.{length-append, length-drop}
 use Rattle.shapers_normal.specs.Variants.{form_written, forms_written, is_selector_glyph}
 use Rattle.shapers_normal.proofs.Clusters.{next_form}
@@ -14,7 +14,7 @@ returns-then-left-len-clause-none g c =
     let l = c.loop-start in
     let n = c.form_len.result in
     let is : n ≡ 1 + prefix_len is_selector_glyph (drop 1 (drop l.start gs)) = c.form_len.ensures.len
-    ∙ ap (λ (xs : List hb_glyph_info_t). 1 + prefix_len is_selector_glyph (drop 1 xs)) c.rest_from.ensures in
+    ∙ ap (λ (xs : Glyphs). 1 + prefix_len is_selector_glyph (drop 1 xs)) c.rest_from.ensures in
     let cluster = form_written context (take (l.start + n - l.start) (drop l.start gs)) in
     let behind = forms_written context (drop (l.start + n) gs) in
     let next = ap length (next_form context gs l.start n c.loop-start-test.true is) in
@@ -27,7 +27,7 @@ loop-start-preserved g c =
     let l = c.loop-start in
     let n = c.form_len.result in
     let is : n ≡ 1 + prefix_len is_selector_glyph (drop 1 (drop l.start gs)) = c.form_len.ensures.len
-    ∙ ap (λ (xs : List hb_glyph_info_t). 1 + prefix_len is_selector_glyph (drop 1 xs)) c.rest_from.ensures in
+    ∙ ap (λ (xs : Glyphs). 1 + prefix_len is_selector_glyph (drop 1 xs)) c.rest_from.ensures in
     let inside : l.start + n ≤ length gs =
     omega (
       arith,

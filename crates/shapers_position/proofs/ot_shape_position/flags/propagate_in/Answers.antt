@@ -1,8 +1,8 @@
 -- One more cluster.
-use Rattle.std.proofs.Common.{◌≡◌, ◌≤◌, ◌∙◌, ◌+◌, ◌++◌, List, ap, drop, length, take, arith}
+use Rattle.std.proofs.Common.{◌≡◌, ◌≤◌, ◌∙◌, ◌+◌, ◌++◌, ap, drop, length, take, arith}
 use Rattle.std.specs.List.{prefix_len}
 use Rattle.std.proofs.lemmas.List.{length-drop}
-use Rattle.shapers_buffer.specs.declared.buffer.glyph.hb_glyph_info_t.{hb_glyph_info_t}
+use Rattle.shapers_buffer.specs.Glyphs.{Glyphs}
 use Rattle.shapers_buffer.specs.Clusters.{first_cluster, has_cluster}
 use Rattle.shapers_position.specs.ClusterFlags.{flags_propagated}
 use Rattle.shapers_position.proofs.ClusterGroups.{cluster_next}
@@ -16,7 +16,7 @@ loop-start-preserved c =
     let inside : l.start + n ≤ length l.glyphs = omega
     (arith, c.first_cluster_len.ensures.within, rest, length-drop l.start l.glyphs, c.loop-start-test.true) in
     let is : n ≡ 1 + prefix_len (has_cluster (first_cluster (drop l.start l.glyphs))) (drop 1 (drop l.start l.glyphs)) =
-    c.first_cluster_len.ensures.len ∙ ap (λ (xs : List hb_glyph_info_t). 1 + prefix_len
+    c.first_cluster_len.ensures.len ∙ ap (λ (xs : Glyphs). 1 + prefix_len
     (has_cluster (first_cluster xs)) (drop 1 xs)) c.rest_from.ensures in
     record {
       done =

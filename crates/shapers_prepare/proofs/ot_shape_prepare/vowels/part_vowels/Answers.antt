@@ -1,8 +1,8 @@
 -- The circles that are counted are what the text grows by.
-use Rattle.std.proofs.Common.{◌≡◌, ◌+◌, ◌∙◌, List, length, ap, subst, sym, arith}
+use Rattle.std.proofs.Common.{◌≡◌, ◌+◌, ◌∙◌, length, ap, subst, sym, arith}
 use Rattle.shapers_buffer.specs.Buffer.{Buffer}
 use Rattle.shapers_buffer.specs.Refusals.{RefusesLength}
-use Rattle.shapers_buffer.specs.declared.buffer.glyph.hb_glyph_info_t.{hb_glyph_info_t}
+use Rattle.shapers_buffer.specs.Glyphs.{Glyphs}
 use Rattle.shapers_prepare.specs.VowelWalk.{vowel_circles}
 use Rattle.shapers_prepare.specs.Vowels.{vowels_parted_from}
 use Rattle.shapers_prepare.proofs.VowelSteps.{none_parted, parted_len}
@@ -14,7 +14,7 @@ returns-then-count-eq0-clause-ok c =
     let s = c.args.script in
     let circles : vowel_circles s 0 gs ≡ c.count_circles-count.result = ap (vowel_circles s 0) (sym c.glyphs.ensures)
     ∙ sym c.count_circles-count.ensures in
-    let with_glyphs : List hb_glyph_info_t → Buffer = λ gs. record c.args.buffer.now { glyphs = gs } in
+    let with_glyphs : Glyphs → Buffer = λ gs. record c.args.buffer.now { glyphs = gs } in
     ap with_glyphs (sym (none_parted s 0 gs (circles ∙ c.if-count-eq0.true)))
 
 pub returns-then-count-eq0-clause-length : goal.returns-then-count-eq0-clause-length

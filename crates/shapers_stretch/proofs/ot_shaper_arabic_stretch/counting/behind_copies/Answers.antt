@@ -25,12 +25,10 @@ returns-then-ends_fit c =
     ∙ three_same (λ p b s. fits_i32 (stands_at rtl p s) && fits_i32 (last_at rtl b s)) pen
     (to_z-of_z w64 c.moved-behind.result fits) step in
     search (
-      arith,
       to_z-of_z w64 c.moved-behind.result fits,
       copies_walked rtl c.args.pen c.args.step c.moved-behind.result c.args.count (omega arith) at
           (sym both ∙ c.if-ends_fit.true) c.requires.low c.requires.high,
     )
 
 pub returns-else-ends_fit : goal.returns-else-ends_fit
-returns-else-ends_fit c =
-    search (arith, copies_stopped, to_z-of_z, w64, three_same)
+returns-else-ends_fit = search (arith, copies_stopped, to_z-of_z)

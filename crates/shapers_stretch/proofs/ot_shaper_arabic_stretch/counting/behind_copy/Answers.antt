@@ -16,12 +16,10 @@ returns-then-fits_i32 c =
     let pen = to_z-of_z w64 c.args.pen c.ranges.pen in
     let step = to_z-of_z w64 c.args.step c.ranges.step in
     let test : c.fits_i32.result ≡ fits_i32 (stands_at rtl c.args.pen c.args.step) =
-    c.fits_i32.ensures.value
-    ∙ ap fits_i32
+    c.fits_i32.ensures.value ∙ ap fits_i32
     (to_z-of_z w64 c.first_offset.result (record { sfits = c.first_offset.type_inv }) ∙ c.first_offset.ensures ∙
     two_same (stands_at rtl) pen step) in
     search (
-      arith,
       to_z-of_z w64 c.moved.result (record { sfits = c.moved.type_inv }),
       copy_walked rtl c.args.pen c.args.step c.moved.result
           (c.moved.ensures.value ∙ two_same (pen_behind rtl) pen step) (sym test ∙ c.if-fits_i32.true) c.requires.low
@@ -29,5 +27,4 @@ returns-then-fits_i32 c =
     )
 
 pub returns-else-fits_i32 : goal.returns-else-fits_i32
-returns-else-fits_i32 c =
-    search (arith, to_z-of_z, w64, two_same)
+returns-else-fits_i32 = search (arith, to_z-of_z)

@@ -11,12 +11,7 @@ far : (n : ℕ) (advance overlap step : ℤ) → FitsSigned w32 advance → Fits
     → step ≡ to_z w32 (of_z w32 advance) -ℤ overlap → n ≤ 2 ^ 31 → pos 0 ≤ℤ overlap → (pos n *ℤ overlap) ≤ℤ pos (2 ^ 34)
     → (negsuc (3 * 2 ^ 61) ≤ℤ (pos n *ℤ to_z w64 (of_z w64 step)))
     × ((pos n *ℤ to_z w64 (of_z w64 step)) ≤ℤ pos (3 * 2 ^ 61))
-far n advance overlap step fits fits_step e few low shared =
-    search (
-      arith,
-      to_z-of_z w64 step fits_step,
-      far_moves n advance overlap step few fits low shared (e ∙ ap (λ x. x -ℤ overlap) (to_z-of_z w32 advance fits)),
-    )
+far n advance overlap step fits fits_step e few low shared = search (arith, far_moves n advance overlap step few fits low shared (e ∙ ap (λ x. x -ℤ overlap) (to_z-of_z w32 advance fits)))
 
 pub behind_copies-requires-clause-far_low : goal.behind_copies-requires-clause-far_low
 behind_copies-requires-clause-far_low g c =

@@ -7,8 +7,7 @@ use Rattle.shapers_stretch.proofs.PartCounts.{counted_start, counted_more}
 use Rattle.shapers_stretch.proofs.ot_shaper_arabic_stretch.counting.count_added.Goals as goal
 
 pub loop-end-init : goal.loop-end-init
-loop-end-init g c =
-    search (arith, counted_start)
+loop-end-init = search (arith, counted_start)
 
 pub returns-in_err-last : goal.returns-in_err-last
 returns-in_err-last g c =
@@ -18,7 +17,7 @@ returns-in_err-last g c =
       right_to_left =
           c.args.right_to_left;
     } in
-    search (arith, c.from_residual.ensures, zip-take)
+    search (arith, zip-take)
 
 pub loop-end-preserved : goal.loop-end-preserved
 loop-end-preserved g c =

@@ -1,6 +1,5 @@
 use Rattle.std.proofs.Common.{◌≡◌, ◌<◌, ◌-◌, ◌==◌, ℕ, Bool, false, length, take, drop, sym, ◌∙◌, arith}
 use Rattle.std.specs.List.{zip}
-use Rattle.std.proofs.lemmas.Bool.Decides.{nat_tests}
 use Rattle.shapers_stretch.specs.CountingWalk.{IsCounted}
 use Rattle.shapers_stretch.specs.Stretch.{Laying}
 use Rattle.shapers_stretch.proofs.PartCounts.{counted_plain, counted_run, last_part_zipped, run_sliced, uncounted_run}
@@ -8,7 +7,7 @@ use Rattle.shapers_stretch.proofs.ot_shaper_arabic_stretch.counting.count_last.G
 use Rattle.shapers_stretch.proofs.Zips.{length-zipped}
 
 empty_no : (n : ℕ) (b : Bool) → b ≡ (n == 0) → b ≡ false → 0 < n
-empty_no n b e h = grind (arith, nat_tests)
+empty_no = grind arith
 
 pub returns-then-is_empty : goal.returns-then-is_empty
 returns-then-is_empty g c =
@@ -25,9 +24,9 @@ returns-then-is_empty g c =
     let at = last_part_zipped gs ps p.start p.word p.tiles c.requires.both c.requires.some
     c.last_part-part.ensures.tiles c.last_part-part.ensures.word c.last_part-part.ensures.start in
     let none : length (take (length gs - p.tiles) (drop p.tiles gs)) ≡ 0 =
-    search (arith, nat_tests) in
+    search arith in
     let long = length-zipped gs ps c.requires.both in
-    search (arith, counted_plain how (zip gs ps) p.start p.word p.tiles at (omega arith), at.less)
+    search (arith, counted_plain how (zip gs ps) p.start p.word p.tiles at (omega arith))
 
 pub returns-in_err-added : goal.returns-in_err-added
 returns-in_err-added g c =
@@ -74,4 +73,4 @@ returns g c =
     let counted : IsCounted how (zip gs ps) p.start c.in_ok-added.added =
     counted_run how (zip gs ps) p.start p.word p.tiles c.in_ok-added.added at (omega arith)
     (run_sliced how gs ps p.word p.tiles c.requires.both at.word_fits ∙ sym c.in_ok-added.ensures.added) in
-    (counted, omega (arith, at.less), c.in_ok-added.ensures.bound)
+    (counted, omega arith, c.in_ok-added.ensures.bound)

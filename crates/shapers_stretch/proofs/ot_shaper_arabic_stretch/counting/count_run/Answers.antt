@@ -10,7 +10,7 @@ offsets_fit-requires-clause-lay g c =
     found.small
 
 pub returns-in_err-run-clause-added : goal.returns-in_err-run-clause-added
-returns-in_err-run-clause-added g c = search (arith, numbers_apart)
+returns-in_err-run-clause-added = search (arith, numbers_apart)
 
 pub overflow_mul-result : goal.overflow_mul-result
 overflow_mul-result g c =

@@ -26,5 +26,4 @@ loop-left-preserved g c =
     }
 
 pub returns-in-None : goal.returns-in-None
-returns-in-None g c =
-    search (arith, fits_not)
+returns-in-None = search (arith, fits_not)

@@ -2,16 +2,14 @@ use Rattle.std.proofs.Common.{arith}
 use Rattle.std.proofs.Common.{◌≡◌, ◌<◌, ◌^◌, ◌*◌, pos, true, ℕ, ℤ, [], ◌∷◌, refl, rules, sym, ap, ◌∙◌}
 use Rattle.std.specs.List.{list_all}
 use Rattle.std.proofs.lemmas.Int.{to_z-of_z}
-use Rattle.std.proofs.lemmas.Bool.{and_parts}
-use borrow.Author.Tests.{ltb-true}
 use mir.Syntax.{w64}
 use Rattle.shapers_stretch.specs.Measure.{times_added, copies_added, fits_i32, reach}
-use Rattle.shapers_stretch.proofs.Numbers.{lay_found, no_lay_added, no_lay_run, no_lay_start}
+use Rattle.shapers_stretch.proofs.Numbers.{lay_found}
 use Rattle.shapers_stretch.proofs.ot_shaper_arabic_stretch.measuring.lay_of.Goals as goal
 
 -- what the tests say of a number that is no less than 0
 few : (a : ℤ) (n : ℕ) → list_all fits_i32 (a ∷ pos n ∷ []) ≡ true → n < 2 ^ 31
-few a n e = search (arith, ltb-true, and_parts)
+few = search arith
 
 pub rounds_of-rounds-requires : goal.rounds_of-rounds-requires
 rounds_of-rounds-requires c = c.if-not-run_fits.ensures.fits refl
@@ -38,8 +36,7 @@ pub overlap-overlap-requires-clause-reach : goal.overlap-overlap-requires-clause
 overlap-overlap-requires-clause-reach c = c.if-not-added_fits.ensures.reach refl
 
 pub overlap-overlap-requires-clause-copies : goal.overlap-overlap-requires-clause-copies
-overlap-overlap-requires-clause-copies c =
-    search (arith, few)
+overlap-overlap-requires-clause-copies = search (arith, few)
 
 pub start-requires-clause-fits : goal.start-requires-clause-fits
 start-requires-clause-fits c = c.if-not-run_fits.ensures.fits refl
@@ -57,33 +54,26 @@ pub start-requires-clause-reach : goal.start-requires-clause-reach
 start-requires-clause-reach c = c.if-not-added_fits.ensures.reach refl
 
 pub start-requires-clause-copies : goal.start-requires-clause-copies
-start-requires-clause-copies c =
-    search (arith, few)
+start-requires-clause-copies = search (arith, few)
 
 pub returns : goal.returns
 returns c =
     let second : list_all fits_i32 (reach c.args.run (times_added c.args.run) ∷ pos (copies_added c.args.run) ∷ []) ≡
     true = ap (λ n. list_all fits_i32 (reach c.args.run n ∷ pos (n * c.args.run.repeaters) ∷ []))
-    (sym c.rounds_of-rounds.ensures.added)
-    ∙ (sym c.if-not-added_fits.ensures.value)
+    (sym c.rounds_of-rounds.ensures.added) ∙ (sym c.if-not-added_fits.ensures.value)
     in
     cc (
-      c.rounds_of-rounds.ensures.added,
       to_z-of_z w64 c.overlap-overlap.result (record { sfits = c.overlap-overlap.type_inv }),
-      c.overlap-overlap.ensures.value,
       to_z-of_z w64 c.in_ok-start.start (search rules),
       lay_found c.args.choice c.args.right_to_left c.args.run c.in_ok-start.start
           (sym c.if-not-run_fits.ensures.value) second (sym c.start.ensures ∙ c.in_ok-start.was),
     )
 
 pub returns-then-not-run_fits : goal.returns-then-not-run_fits
-returns-then-not-run_fits c =
-    search (arith, no_lay_run)
+returns-then-not-run_fits = search arith
 
 pub returns-then-not-added_fits : goal.returns-then-not-added_fits
-returns-then-not-added_fits c =
-    search (arith, no_lay_added)
+returns-then-not-added_fits = search arith
 
 pub returns-in_err-start : goal.returns-in_err-start
-returns-in_err-start c =
-    search (arith, no_lay_start)
+returns-in_err-start = search arith

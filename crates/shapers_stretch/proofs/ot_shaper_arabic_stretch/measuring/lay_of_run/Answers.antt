@@ -1,9 +1,8 @@
 use Rattle.std.proofs.Common.{arith}
-use Rattle.shapers_stretch.proofs.Numbers.{no_lay_run}
 use Rattle.shapers_stretch.proofs.ot_shaper_arabic_stretch.measuring.lay_of_run.Goals as goal
 
 pub returns-in_err-run : goal.returns-in_err-run
-returns-in_err-run g c = search (arith, no_lay_run)
+returns-in_err-run = search arith
 
 pub returns : goal.returns
-returns g c = search arith
+returns = search arith

@@ -1,6 +1,5 @@
 use Rattle.std.proofs.Common.{◌≡◌, false, ◌<◌, ◌≤◌, ◌+ℤ◌, ◌≤ℤ◌, ◌*◌, ◌-◌, neg_ℤ, pos, not, length, map, sym, subst, ap, ◌∙◌, arith, rules, length-append, FitsSigned, to_z, of_z, [], ◌∷◌}
 use Rattle.std.specs.List.{AllByRecursion, list_all}
-use Rattle.std.proofs.lemmas.Bool.{and_right}
 use Rattle.std.proofs.lemmas.Int.{to_z-of_z}
 use Rattle.std.specs.Slice.Iter.{chunks_rest}
 use mir.Syntax.{w64, w128}
@@ -19,9 +18,9 @@ overflow_add-repeaters g c =
     (chunks_rest c.next.new.self) c.loop-piece.repeaters c.measure_short-run.result.repeaters
     c.in-Some.ensures.steps.1.0 c.loop-piece.invariant.7
     (ap (λ (z : Run). z.repeaters) c.measure_short-run.ensures) in
-    let few : length (repeating c.args.tiles.now) ≤ length c.args.tiles.now = search (arith, length_kept) in
+    let few : length (repeating c.args.tiles.now) ≤ length c.args.tiles.now = search length_kept in
     let fits : length c.args.tiles.now ≤ 18446744073709551615 = omega arith in
-    omega (arith, counted, few, fits)
+    omega arith
 
 pub loop-piece-preserved : goal.loop-piece-preserved
 loop-piece-preserved g c =
@@ -43,7 +42,7 @@ loop-piece-preserved g c =
     let short_2 = c.from-in-loop-piece.ensures ∙ to_z-of_z w64 part.repeating fits_part_2 in
     let is = c.measure_short-run.ensures in
     let less : length rest < length old =
-    omega (arith, ap length steps.1.0 ∙ length-append piece rest, steps.1.1, steps.1.2, inv.2) in
+    omega (arith, ap length steps.1.0 ∙ length-append piece rest) in
     let most : all ≤ 18446744073709551615 = omega arith in
     let bounds =
     piece_bounds all (length old) (length rest) first more most less inv.3
@@ -56,8 +55,7 @@ loop-piece-preserved g c =
     ∙ to_z-of_z w128 (first +ℤ more) bounds.fits in
     let same_2 =
     ap (λ x. to_z w128 (of_z w128 (second +ℤ x))) (to_z-of_z w128 more_2
-    (record { sfits = c.from-in-loop-piece.type_inv }))
-    ∙ to_z-of_z w128 (second +ℤ more_2) bounds_2.fits in
+    (record { sfits = c.from-in-loop-piece.type_inv })) ∙ to_z-of_z w128 (second +ℤ more_2) bounds_2.fits in
     let summed = kept_piece_summed (width_of font) (λ g. not (repeats g)) _ old piece rest first more steps.1.0 inv.5
     (short ∙ ap (λ (z : Run). z.fixed) is) in
     let summed_2 = kept_piece_summed (width_of font) repeats _ old piece rest second more_2 steps.1.0 inv.6 (short_2
@@ -65,7 +63,7 @@ loop-piece-preserved g c =
       search rules,
       tt,
       steps.0 ∙ inv.2,
-      omega (arith, less, inv.3),
+      omega arith,
       (all_split (λ g. g.glyph_id ≤ 65535) piece rest
           (subst (AllByRecursion (λ g. g.glyph_id ≤ 65535)) steps.1.0 inv.4)).1,
       ap (λ x. x +ℤ total (map (width_of font) (fixed rest))) same ∙ summed,
@@ -85,11 +83,10 @@ word_apart z e = cc
 
 fixed_apart : (z : Run) → fits_i32 z.fixed ≡ false → list_all fits_i32 (z.word ∷ z.fixed ∷ z.repeating ∷ left z ∷ [])
     ≡ false
-fixed_apart z e = search (arith, and_right)
+fixed_apart = search arith
 
 pub returns-in_err-narrowed : goal.returns-in_err-narrowed
-returns-in_err-narrowed g c =
-    search (arith, word_apart, to_z-of_z, w128)
+returns-in_err-narrowed = search (arith, word_apart, to_z-of_z, w128)
 
 pub returns-in_err-narrowed-2 : goal.returns-in_err-narrowed-2
 returns-in_err-narrowed-2 g c =
@@ -98,11 +95,7 @@ returns-in_err-narrowed-2 g c =
     let done : to_z w128 c.loop-piece.fixed-bits ≡ z.fixed = kept_summed (width_of font) (λ g. not (repeats g)) _
     (chunks_rest c.loop-piece.piece-iterator) (to_z w128 c.loop-piece.fixed-bits) c.in-None.ensures.steps.1.0
     c.loop-piece.invariant.5 in
-    search (
-      arith,
-      c.from_residual-in_err-narrowed-2.ensures,
-      fixed_apart z (ap fits_i32 (sym done) ∙ c.in_err-narrowed-2.ensures),
-    )
+    search (arith, fixed_apart z (ap fits_i32 (sym done) ∙ c.in_err-narrowed-2.ensures))
 
 pub returns-in_err-narrowed-3 : goal.returns-in_err-narrowed-3
 returns-in_err-narrowed-3 g c =
@@ -111,11 +104,7 @@ returns-in_err-narrowed-3 g c =
     let done : to_z w128 c.loop-piece.repeating-bits ≡ z.repeating = kept_summed (width_of font) repeats _
     (chunks_rest c.loop-piece.piece-iterator) (to_z w128 c.loop-piece.repeating-bits) c.in-None.ensures.steps.1.0
     c.loop-piece.invariant.6 in
-    search (
-      arith,
-      c.from_residual-in_err-narrowed-3.ensures,
-      repeating_apart z (ap fits_i32 (sym done) ∙ c.in_err-narrowed-3.ensures),
-    )
+    search (arith, repeating_apart z (ap fits_i32 (sym done) ∙ c.in_err-narrowed-3.ensures))
 
 pub returns : goal.returns
 returns g c =

@@ -10,10 +10,8 @@ abbrev pub invariant-loop-piece : goal.invariant-loop-piece
 invariant-loop-piece g l =
     let font = g.F.hb_font_t.font l.face in
     let rest = chunks_rest l.piece-iterator in
-    (goal.iterator-loop-piece g).can_next l.piece-iterator
-    × (goal.iterator-loop-piece g).is_finite l.piece-iterator
-    × (chunks_size l.piece-iterator ≡ 2147483647)
-    × (length rest ≤ length l.tiles)
+    (goal.iterator-loop-piece g).can_next l.piece-iterator × (goal.iterator-loop-piece g).is_finite l.piece-iterator
+    × (chunks_size l.piece-iterator ≡ 2147483647) × (length rest ≤ length l.tiles)
     × AllByRecursion (λ g. g.glyph_id ≤ 65535) rest
     × (l.fixed +ℤ total (map (width_of font) (fixed rest)) ≡ total (map (width_of font) (fixed l.tiles)))
     × (l.repeating +ℤ total (map (width_of font) (repeating rest)) ≡ total (map (width_of font) (repeating l.tiles)))

@@ -1,5 +1,5 @@
 use Rattle.std.proofs.Common.{arith, not}
-use Rattle.std.proofs.lemmas.Int.{ints, to_z-of_z}
+use Rattle.std.proofs.lemmas.Int.{ints}
 use Rattle.shapers_stretch.specs.Cells.{repeats}
 use Rattle.shapers_stretch.specs.Stretch.{width_of}
 use Rattle.shapers_stretch.proofs.Sums.{sum_next, count_next}
@@ -13,8 +13,8 @@ loop-glyph-preserved g c =
     let ts = c.args.tiles.now in
     elim c.if-repeats.branch [
       | then-repeats w ↦ record {
-        fixed_sum = grind (arith, ints, to_z-of_z, sum_next (width_of font) (λ g. not (repeats g)) ts i);
-        repeating_sum = grind (arith, ints, to_z-of_z, sum_next (width_of font) repeats ts i);
+        fixed_sum = grind (arith, sum_next (width_of font) (λ g. not (repeats g)) ts i);
+        repeating_sum = grind (arith, ints, sum_next (width_of font) repeats ts i);
         count = grind (arith, count_next repeats ts i);
         few = omega arith;
         low_fixed = omega (arith, ints);
@@ -23,8 +23,8 @@ loop-glyph-preserved g c =
         high_repeating = omega (arith, ints);
       }
       | else-repeats w ↦ record {
-        fixed_sum = grind (arith, ints, to_z-of_z, sum_next (width_of font) (λ g. not (repeats g)) ts i);
-        repeating_sum = grind (arith, ints, to_z-of_z, sum_next (width_of font) repeats ts i);
+        fixed_sum = grind (arith, ints, sum_next (width_of font) (λ g. not (repeats g)) ts i);
+        repeating_sum = grind (arith, sum_next (width_of font) repeats ts i);
         count = grind (arith, count_next repeats ts i);
         few = omega arith;
         low_fixed = omega (arith, ints);

@@ -1,8 +1,7 @@
 use Rattle.std.proofs.Common.{◌≡◌, ◌*◌, arith}
 use Rattle.std.proofs.lemmas.Int.{ints, to_z-of_z}
-use mir.Syntax.{w64}
 use Rattle.shapers_stretch.specs.Measure.{copies_added, excess}
-use Rattle.shapers_stretch.proofs.Numbers.{overlap_yes, overlap_bounds, squeezed_some}
+use Rattle.shapers_stretch.proofs.Numbers.{overlap_bounds, squeezed_some}
 use Rattle.shapers_stretch.proofs.ot_shaper_arabic_stretch.measuring.overlap.Goals as goal
 
 pub quotient-requires : goal.quotient-requires
@@ -13,13 +12,11 @@ quotient-requires c =
     omega (arith, ints)
 
 pub returns-clause-value : goal.returns-clause-value
-returns-clause-value c =
-    search (arith, to_z-of_z, w64, overlap_yes)
+returns-clause-value = search (arith, to_z-of_z)
 
 pub returns-clause-low : goal.returns-clause-low
 returns-clause-low c =
-    let bounds = overlap_bounds c.args.run (grind arith) in
-    omega (arith, ints, returns-clause-value c)
+    let bounds = overlap_bounds c.args.run (grind arith) in omega (arith, ints, returns-clause-value c)
 
 pub returns-clause-high : goal.returns-clause-high
 returns-clause-high c =

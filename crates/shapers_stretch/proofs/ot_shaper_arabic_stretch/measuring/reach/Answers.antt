@@ -1,37 +1,30 @@
 -- The product fits, by the bounds of its factors.
 use Rattle.std.proofs.Common.{◌≡◌, ℕ, ◌*◌, ◌^◌, ◌≤◌, ◌≤ℤ◌, negsuc, ◌+ℤ◌, ◌*ℤ◌, pos, suc, sym, subst, arith, to_z, of_z, FitsSigned}
-use Rattle.std.proofs.lemmas.Int.{ints, to_z-of_z}
+use Rattle.std.proofs.lemmas.Int.{to_z-of_z}
 use mir.Syntax.{w32, w64}
 use Rattle.shapers_stretch.specs.declared.ot_shaper_arabic_stretch.measuring.Run.{Run}
 use Rattle.shapers_stretch.proofs.Counts.{widths_within}
 use Rattle.shapers_stretch.specs.Measure.{reach}
-use Rattle.shapers_stretch.proofs.Numbers.{reach_fits, wide}
+use Rattle.shapers_stretch.proofs.Numbers.{reach_fits}
 use Rattle.shapers_stretch.proofs.ot_shaper_arabic_stretch.measuring.reach.Goals as goal
 
 product : (c : goal.After-struct_told-1)
     → to_z w64 (of_z w64 (to_z w64 c.args.added +ℤ pos 1)) *ℤ to_z w64 (of_z w64 c.args.run.repeating)
     ≡ reach c.args.run c.args.added
-product c =
-    search (arith, to_z-of_z, w64, pos, wide)
+product = search arith
 
 pub overflow_mul-result : goal.overflow_mul-result
-overflow_mul-result c =
-    search (arith, product, reach_fits)
+overflow_mul-result = search (arith, product, reach_fits)
 
 pub returns-clause-value : goal.returns-clause-value
-returns-clause-value c =
-    search (arith, product, to_z-of_z, w64, reach_fits)
+returns-clause-value = search (arith, product, to_z-of_z, reach_fits)
 
 within : (z : Run) (n : ℕ) → FitsSigned w32 z.repeating → n ≤ 2 ^ 31 → (negsuc (3 * 2 ^ 61) ≤ℤ reach z n)
     × (reach z n ≤ℤ pos (3 * 2 ^ 61))
-within z n fits few =
-    let near =
-    widths_within (suc n) z.repeating fits in
-    search (arith, ints, near.0, near.1)
+within z n fits = let near = widths_within (suc n) z.repeating fits in search arith
 
 pub returns-clause-low : goal.returns-clause-low
-returns-clause-low c =
-    search (arith, returns-clause-value, within)
+returns-clause-low = search (arith, returns-clause-value, within)
 
 pub returns-clause-high : goal.returns-clause-high
 returns-clause-high c =

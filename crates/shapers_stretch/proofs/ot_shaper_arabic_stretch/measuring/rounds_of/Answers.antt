@@ -1,10 +1,8 @@
-use Rattle.std.proofs.lemmas.Bool.Decides.{nat_tests}
 use Rattle.std.proofs.lemmas.Bool.{and_right}
-use Rattle.std.proofs.Common.{◌≡◌, ◌+◌, ◌-ℤ◌, ◌<ℤ◌, ◌≤ℤ◌, pos, arith, int_lt}
-use mir.Syntax.{w64}
+use Rattle.std.proofs.Common.{◌≡◌, ◌+◌, ◌-ℤ◌, ◌<ℤ◌, ◌≤ℤ◌, pos, arith}
 use Rattle.std.proofs.lemmas.Int.{ints, to_z-of_z}
 use Rattle.shapers_stretch.specs.Measure.{times_added, fitting, left, reach}
-use Rattle.shapers_stretch.proofs.Numbers.{added_yes, added_full, added_none, rest_at, squeezes_short, squeezes_full}
+use Rattle.shapers_stretch.proofs.Numbers.{added_yes, added_full, added_none, rest_at, squeezes_full}
 use Rattle.shapers_stretch.proofs.ot_shaper_arabic_stretch.measuring.rounds_of.Goals as goal
 use Rattle.shapers_stretch.proofs.ot_shaper_arabic_stretch.measuring.rounds_of.Goals.{then-left-reach-via-then-left-reach, then-left-reach-via-else-left-reach+then-run-eq0}
 
@@ -14,7 +12,7 @@ returns-then-left-reach-clause-added c = elim c.then-left-reach.branch [
       let full : (left c.args.run -ℤ reach c.args.run (fitting c.args.run)) ≤ℤ pos 0 =
       omega (arith, ints, rest_at c.args.run c.fitting-fitting.result c.fitting-fitting.ensures.value) in
       cc (added_full c.args.run full)
-  | then-left-reach-via-else-left-reach+then-run-eq0 w ↦ search (arith, added_none)
+  | then-left-reach-via-else-left-reach+then-run-eq0 w ↦ search added_none
 ]
 
 pub returns-then-left-reach-clause-squeezes : goal.returns-then-left-reach-clause-squeezes
@@ -22,9 +20,9 @@ returns-then-left-reach-clause-squeezes c = elim c.then-left-reach.branch [
   | then-left-reach-via-then-left-reach w ↦
       let full : (left c.args.run -ℤ reach c.args.run (fitting c.args.run)) ≤ℤ pos 0 =
       omega (arith, ints, rest_at c.args.run c.fitting-fitting.result c.fitting-fitting.ensures.value) in
-      search (arith, squeezes_full)
+      search squeezes_full
   | then-left-reach-via-else-left-reach+then-run-eq0 w ↦
-      search (arith, and_right, int_lt, pos, nat_tests)
+      search (arith, and_right)
 ]
 
 pub returns-clause-added : goal.returns-clause-added
@@ -39,4 +37,4 @@ returns-clause-squeezes c =
     omega (arith, ints, rest_at c.args.run c.fitting-fitting.result c.fitting-fitting.ensures.value) in
     let at : c.fitting-fitting.result + 1 ≡ times_added c.args.run =
     omega (arith, added_yes c.args.run above (omega arith)) in
-    search (arith, to_z-of_z, w64, squeezes_short)
+    search (arith, to_z-of_z)

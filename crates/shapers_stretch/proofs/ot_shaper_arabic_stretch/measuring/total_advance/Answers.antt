@@ -18,7 +18,7 @@ loop-piece-preserved c =
     let fits_short : FitsSigned w64 c.short_advance.result = record { sfits = c.short_advance.type_inv } in
     let short = c.from-sum.ensures ∙ to_z-of_z w64 c.short_advance.result fits_short in
     let less : length rest < length old =
-    omega (arith, ap length steps.1.0 ∙ length-append c.in-Some.piece.now rest, steps.1.1, steps.1.2, inv.2) in
+    omega (arith, ap length steps.1.0 ∙ length-append c.in-Some.piece.now rest) in
     let bounds =
     piece_bounds all (length old) (length rest) sum more (omega arith) less inv.3
     (subst (FitsSigned w64) (sym short) fits_short) inv.5 inv.6 in
@@ -30,7 +30,7 @@ loop-piece-preserved c =
       search rules,
       tt,
       steps.0 ∙ inv.2,
-      omega (arith, less, inv.3),
+      omega arith,
       ap (λ x. x +ℤ total (map (λ p. p.x_advance) rest)) same ∙ summed,
       subst (λ x. neg_ℤ (pos (9223372036854775808 * (all - length rest))) ≤ℤ x) (sym same) bounds.low,
       subst (λ x. x ≤ℤ pos (9223372036854775808 * (all - length rest))) (sym same) bounds.high,

@@ -10,8 +10,7 @@ use Rattle.shapers_stretch.proofs.ot_shaper_arabic_stretch.measuring.width_of_la
 product : (z : Run) (times : ℕ) (copies shared : ℤ) → FitsSigned w64 copies → FitsSigned w64 shared
     → copies ≡ pos (times * z.repeaters) → times ≡ times_added z → shared ≡ overlap z
     → to_z w64 (of_z w64 copies) *ℤ to_z w64 (of_z w64 shared) ≡ pos (copies_added z) *ℤ overlap z
-product z times copies shared fits fits_shared e f h =
-    search (arith, to_z-of_z, w64)
+product = search (arith, to_z-of_z)
 
 within : (z : Run) (times : ℕ) → FitsSigned w32 (left z) → times ≡ times_added z → FitsSigned w32 (reach z times)
     → (pos 0 ≤ℤ (pos (copies_added z) *ℤ overlap z)) × ((pos (copies_added z) *ℤ overlap z) ≤ℤ pos (2 ^ 34))
@@ -32,17 +31,15 @@ shared_by-requires-clause-high c =
     (within c.args.run c.args.times c.requires.fits.left c.requires.added c.requires.reach).1
 
 pub overflow_sub-result : goal.overflow_sub-result
-overflow_sub-result c =
-    omega (
-      arith,
-      ints,
-      subst (FitsSigned w32) (sym c.reach.ensures.value) c.requires.reach,
-      c.shared_by.ensures
-          ∙ (product c.args.run c.args.times c.copies.result c.args.shared (record { sfits = c.copies.type_inv })
-          c.ranges.shared c.copies.ensures c.requires.added c.requires.overlap),
-      (within c.args.run c.args.times c.requires.fits.left c.requires.added c.requires.reach).0,
-      (within c.args.run c.args.times c.requires.fits.left c.requires.added c.requires.reach).1,
-    )
+overflow_sub-result c = omega (
+  arith,
+  ints,
+  c.shared_by.ensures
+      ∙ (product c.args.run c.args.times c.copies.result c.args.shared (record { sfits = c.copies.type_inv })
+      c.ranges.shared c.copies.ensures c.requires.added c.requires.overlap),
+  (within c.args.run c.args.times c.requires.fits.left c.requires.added c.requires.reach).0,
+  (within c.args.run c.args.times c.requires.fits.left c.requires.added c.requires.reach).1,
+)
 
 pub returns-clause-value : goal.returns-clause-value
 returns-clause-value c =
@@ -50,8 +47,6 @@ returns-clause-value c =
     omega (
       arith,
       ints,
-      subst (FitsSigned w32) (sym c.reach.ensures.value) c.requires.reach,
-      reached,
       c.shared_by.ensures
           ∙ (product c.args.run c.args.times c.copies.result c.args.shared (record { sfits = c.copies.type_inv })
           c.ranges.shared c.copies.ensures c.requires.added c.requires.overlap),
@@ -60,27 +55,23 @@ returns-clause-value c =
     )
 
 pub returns-clause-low : goal.returns-clause-low
-returns-clause-low c =
-    omega (
-      arith,
-      ints,
-      subst (FitsSigned w32) (sym c.reach.ensures.value) c.requires.reach,
-      c.shared_by.ensures
-          ∙ (product c.args.run c.args.times c.copies.result c.args.shared (record { sfits = c.copies.type_inv })
-          c.ranges.shared c.copies.ensures c.requires.added c.requires.overlap),
-      (within c.args.run c.args.times c.requires.fits.left c.requires.added c.requires.reach).0,
-      (within c.args.run c.args.times c.requires.fits.left c.requires.added c.requires.reach).1,
-    )
+returns-clause-low c = omega (
+  arith,
+  ints,
+  c.shared_by.ensures
+      ∙ (product c.args.run c.args.times c.copies.result c.args.shared (record { sfits = c.copies.type_inv })
+      c.ranges.shared c.copies.ensures c.requires.added c.requires.overlap),
+  (within c.args.run c.args.times c.requires.fits.left c.requires.added c.requires.reach).0,
+  (within c.args.run c.args.times c.requires.fits.left c.requires.added c.requires.reach).1,
+)
 
 pub returns-clause-high : goal.returns-clause-high
-returns-clause-high c =
-    omega (
-      arith,
-      ints,
-      subst (FitsSigned w32) (sym c.reach.ensures.value) c.requires.reach,
-      c.shared_by.ensures
-          ∙ (product c.args.run c.args.times c.copies.result c.args.shared (record { sfits = c.copies.type_inv })
-          c.ranges.shared c.copies.ensures c.requires.added c.requires.overlap),
-      (within c.args.run c.args.times c.requires.fits.left c.requires.added c.requires.reach).0,
-      (within c.args.run c.args.times c.requires.fits.left c.requires.added c.requires.reach).1,
-    )
+returns-clause-high c = omega (
+  arith,
+  ints,
+  c.shared_by.ensures
+      ∙ (product c.args.run c.args.times c.copies.result c.args.shared (record { sfits = c.copies.type_inv })
+      c.ranges.shared c.copies.ensures c.requires.added c.requires.overlap),
+  (within c.args.run c.args.times c.requires.fits.left c.requires.added c.requires.reach).0,
+  (within c.args.run c.args.times c.requires.fits.left c.requires.added c.requires.reach).1,
+)

@@ -5,12 +5,11 @@ use Rattle.std.proofs.lemmas.List.{replicate_more}
 use mir.Syntax.{w64}
 use Rattle.shapers_stretch.specs.LayingWalk.{CanLay, Lays}
 use Rattle.shapers_stretch.specs.Stretch.{Copy}
-use Rattle.shapers_stretch.proofs.LaidCopies.{can_first, can_rest, lays_then, replicate_first}
+use Rattle.shapers_stretch.proofs.LaidCopies.{can_rest, lays_then, replicate_first}
 use Rattle.shapers_stretch.proofs.ot_shaper_arabic_stretch.tiles.lay_copies.Goals as goal
 
 pub lay_copy-pen-requires-clause-can : goal.lay_copy-pen-requires-clause-can
-lay_copy-pen-requires-clause-can c =
-    search (arith, can_first, replicate_first)
+lay_copy-pen-requires-clause-can = search (arith, replicate_first)
 
 pub loop-preserved : goal.loop-preserved
 loop-preserved c =

@@ -5,17 +5,10 @@ use Rattle.shapers_stretch.proofs.Zips.{zip-stretch, zip-drop, zip-append, copie
 use Rattle.shapers_stretch.proofs.ot_shaper_arabic_stretch.tiles.move_up.Goals as goal
 
 pub returns-then-end-place-clause-kept : goal.returns-then-end-place-clause-kept
-returns-then-end-place-clause-kept c =
-    search (arith, pairs_kept)
+returns-then-end-place-clause-kept = search (arith, pairs_kept)
 
 pub returns-then-end-place-clause-up : goal.returns-then-end-place-clause-up
-returns-then-end-place-clause-up c =
-    search (arith, zip-drop, copied_up, zip-append, length-stretch, zip-stretch)
+returns-then-end-place-clause-up = search (arith, zip-drop, copied_up, zip-append, length-stretch, zip-stretch)
 
 pub returns-else-end-place-clause-up : goal.returns-else-end-place-clause-up
-returns-else-end-place-clause-up c =
-    search (
-      arith,
-      c.requires.in_order,
-      stretch_then c.args.start c.args.end (zip c.args.glyphs.now c.args.positions.now) c.requires.in_order,
-    )
+returns-else-end-place-clause-up c = search (arith, stretch_then c.args.start c.args.end (zip c.args.glyphs.now c.args.positions.now) c.requires.in_order)

@@ -1,4 +1,3 @@
-use Rattle.std.proofs.Common.{arith}
 use Rattle.shapers_syllabic.specs.Circles.{circled}
 use Rattle.shapers_syllabic.specs.Reordering.{script_circles}
 use Rattle.shapers_syllabic.proofs.CircleLaws.{no_new_cluster}
@@ -27,23 +26,20 @@ returns-clause-cut g c =
     let old = c.args.buffer.now in
     cuts_at_borders
     (script_circles c.args.script.now (g.F.hb_font_t.font c.args.face.now) old) (g.R.Reorder.meaning order old.script) (g.R.ReorderBySteps.steps order old.script) old
-    c.reorder_syllables.new.buffer
-    (g.met.R.ReorderBySteps.laws order old.script) (returns-clause-ok g c)
+    c.reorder_syllables.new.buffer (g.met.R.ReorderBySteps.laws order old.script) (returns-clause-ok g c)
 
 pub returns-clause-laws : goal.returns-clause-laws
 returns-clause-laws g c =
     let order = c.args.order.now in
     let old = c.args.buffer.now in
     let opened = record old {
-      glyphs = circled
-          (script_circles c.args.script.now (g.F.hb_font_t.font c.args.face.now) old) old.glyphs;
+      glyphs = circled (script_circles c.args.script.now (g.F.hb_font_t.font c.args.face.now) old) old.glyphs;
     } in
     text_reordered (g.R.Reorder.meaning order old.script) (g.R.ReorderBySteps.steps order old.script) opened
-    c.reorder_syllables.new.buffer
-    (g.met.R.ReorderBySteps.laws order old.script) (returns-clause-ok g c)
+    c.reorder_syllables.new.buffer (g.met.R.ReorderBySteps.laws order old.script) (returns-clause-ok g c)
 
 pub returns-clause-clusters : goal.returns-clause-clusters
 returns-clause-clusters g c =
     let circles = script_circles c.args.script.now (g.F.hb_font_t.font c.args.face.now) c.args.buffer.now in
     let law = returns-clause-laws g c in
-    search (arith, no_new_cluster)
+    search no_new_cluster

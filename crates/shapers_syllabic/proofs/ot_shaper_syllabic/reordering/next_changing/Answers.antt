@@ -4,8 +4,7 @@ use Rattle.shapers_syllabic.proofs.Skipping.{next_found, none_found}
 use Rattle.shapers_syllabic.proofs.ot_shaper_syllabic.reordering.next_changing.Goals as goal
 
 pub returns-in_err-count : goal.returns-in_err-count
-returns-in_err-count g c =
-    search (arith, none_found)
+returns-in_err-count = search (arith, none_found)
 
 pub returns : goal.returns
 returns g c =

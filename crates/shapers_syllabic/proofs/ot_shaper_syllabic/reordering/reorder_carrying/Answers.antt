@@ -5,8 +5,7 @@ use Rattle.shapers_syllabic.proofs.LinkedSyllables.{text_ordered}
 use Rattle.shapers_syllabic.proofs.ot_shaper_syllabic.reordering.reorder_carrying.Goals as goal
 
 pub loop-first-init : goal.loop-first-init
-loop-first-init g c =
-    search (arith, to_carry_all)
+loop-first-init g c = search to_carry_all
 
 pub next_changing-requires : goal.next_changing-requires
 next_changing-requires g c =
@@ -15,7 +14,6 @@ next_changing-requires g c =
       arith,
       (carried_stands (g.R.Reorder.takes order) (g.R.Reorder.relation order) c.args.buffer.now c.loop-first.carrying
           c.loop-first.buffer c.loop-first.start c.loop-first.invariant).inside,
-      c.glyphs.ensures,
     )
 
 pub reorder_behind-requires-clause-takes : goal.reorder_behind-requires-clause-takes
@@ -34,8 +32,7 @@ reorder_behind-requires-clause-fits g c =
     c.loop-first.buffer c.loop-first.start c.loop-first.invariant).fits c.in-Some.first c.in-Some.ensures.in_order
 
 pub reorder_behind-requires-clause-without_positions : goal.reorder_behind-requires-clause-without_positions
-reorder_behind-requires-clause-without_positions g c =
-    search arith
+reorder_behind-requires-clause-without_positions = search arith
 
 pub loop-first-smaller : goal.loop-first-smaller
 loop-first-smaller g c =
@@ -51,15 +48,12 @@ loop-first-smaller g c =
 pub loop-first-preserved : goal.loop-first-preserved
 loop-first-preserved g c =
     let order = c.args.order.now in
-    search (
-      arith,
-      (carry_next (g.R.Reorder.meaning order) (g.R.Reorder.takes order) (g.R.MayChange.changes order)
-          (g.R.Reorder.relation order) c.args.buffer.now c.loop-first.carrying c.loop-first.buffer
-          c.glyphs.result.now c.loop-first.start c.in-Some.first c.next_syllable-after.result
-          c.reorder_behind.new.carrying c.reorder_behind.new.buffer c.glyphs.ensures (g.met.R.Reorder.permutes order)
-          (g.met.R.Reorder.orders order) (g.met.R.Reorder.stays order) c.in-Some.ensures c.loop-first.invariant
-          c.next_syllable-after.ensures.end (omega arith) c.in_ok-reorder_behind.ensures.behind).state,
-    )
+    search ((carry_next (g.R.Reorder.meaning order) (g.R.Reorder.takes order) (g.R.MayChange.changes order)
+    (g.R.Reorder.relation order) c.args.buffer.now c.loop-first.carrying c.loop-first.buffer
+    c.glyphs.result.now c.loop-first.start c.in-Some.first c.next_syllable-after.result
+    c.reorder_behind.new.carrying c.reorder_behind.new.buffer c.glyphs.ensures (g.met.R.Reorder.permutes order)
+    (g.met.R.Reorder.orders order) (g.met.R.Reorder.stays order) c.in-Some.ensures c.loop-first.invariant
+    c.next_syllable-after.ensures.end (omega arith) c.in_ok-reorder_behind.ensures.behind).state)
 
 pub returns-clause-linked : goal.returns-clause-linked
 returns-clause-linked g c =

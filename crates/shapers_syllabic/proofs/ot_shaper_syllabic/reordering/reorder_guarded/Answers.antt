@@ -15,11 +15,7 @@ reorder-requires-clause-takes g c =
     let stands = guarded_stands c.args.first c.args.end c.guard.new.self.count c.args.carrying.now.groups
     c.guard.new.self.groups c.args.buffer.now c.guard.new.buffer c.requires.fits.fits c.guard.ensures.guarded
     c.guard.ensures.others in
-    search (
-      arith,
-      numbers_by_view c.args.first c.args.end c.guard.new.buffer.glyphs c.args.buffer.now.glyphs stands.view,
-      c.requires.takes,
-    )
+    search (numbers_by_view c.args.first c.args.end c.guard.new.buffer.glyphs c.args.buffer.now.glyphs stands.view)
 
 pub settle-requires : goal.settle-requires
 settle-requires g c =

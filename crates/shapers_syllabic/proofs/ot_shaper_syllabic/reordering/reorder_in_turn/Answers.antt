@@ -6,8 +6,7 @@ use Rattle.shapers_syllabic.proofs.Skipping.{to_end}
 use Rattle.shapers_syllabic.proofs.ot_shaper_syllabic.reordering.reorder_in_turn.Goals as goal
 
 pub loop-first-init : goal.loop-first-init
-loop-first-init g c =
-    search (arith, to_link_all)
+loop-first-init g c = search to_link_all
 
 pub reorder-requires-clause-takes : goal.reorder-requires-clause-takes
 reorder-requires-clause-takes g c =
@@ -56,8 +55,7 @@ returns-clause-linked g c =
     linked_end takes relation old now c.clear_places.new.self
     (to_end changes now.glyphs (ToLink takes relation old now) passes start c.loop-first.invariant.inside
     (subst (λ gs. list_any changes (drop start gs) ≡ false) c.glyphs.ensures c.in_default.ensures)
-    c.loop-first.invariant)
-    c.clear_places.ensures
+    c.loop-first.invariant) c.clear_places.ensures
 
 pub returns-clause-ordered : goal.returns-clause-ordered
 returns-clause-ordered g c =

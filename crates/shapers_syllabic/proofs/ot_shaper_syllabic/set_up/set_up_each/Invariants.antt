@@ -6,5 +6,4 @@ use Rattle.shapers_syllabic.proofs.ot_shaper_syllabic.set_up.set_up_each.Given a
 abbrev pub invariant-loop-glyph : goal.invariant-loop-glyph
 invariant-loop-glyph l =
     take l.glyph-index l.glyphs ++ map (λ g. with_bits_off 3 l.least (in_syllable l.byte g))
-    (drop l.glyph-index l.glyphs)
-    ≡ map (λ g. with_bits_off 3 l.least (in_syllable l.byte g)) l.initial.glyphs
+    (drop l.glyph-index l.glyphs) ≡ map (λ g. with_bits_off 3 l.least (in_syllable l.byte g)) l.initial.glyphs

@@ -9,10 +9,4 @@ pub returns : goal.returns
 returns c =
     let gs = c.args.glyphs.now in
     let byte = in_syllable c.args.byte in
-    search (
-      arith,
-      c.set_up_each.ensures,
-      map-map (with_bits_off 3 c.least_cluster-least.result) byte gs,
-      c.least_cluster-least.ensures,
-      map-map (λ g. g.cluster) byte gs,
-    )
+    search (arith, map-map (with_bits_off 3 c.least_cluster-least.result) byte gs, map-map (λ g. g.cluster) byte gs)

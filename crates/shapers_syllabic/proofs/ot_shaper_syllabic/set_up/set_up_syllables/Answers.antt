@@ -23,8 +23,8 @@ returns-else-has_span_of_kind-clause-cut c =
 
 pub returns-then-has_span_of_kind-clause-clusters : goal.returns-then-has_span_of_kind-clause-clusters
 returns-then-has_span_of_kind-clause-clusters c =
-    search (arith, rules, clusters-set_up c.args.spans.now c.args.broken_kind c.args.buffer.now)
+    search (arith, clusters-set_up c.args.spans.now c.args.broken_kind c.args.buffer.now)
 
 pub returns-else-has_span_of_kind-clause-clusters : goal.returns-else-has_span_of_kind-clause-clusters
 returns-else-has_span_of_kind-clause-clusters c =
-    search (arith, rules, clusters-set_up c.args.spans.now c.args.broken_kind c.args.buffer.now)
+    search (arith, clusters-set_up c.args.spans.now c.args.broken_kind c.args.buffer.now)

@@ -4,5 +4,4 @@ use Rattle.shapers_clusters.proofs.Flagging.{unsafe_few}
 use Rattle.shapers_text.proofs.ot_shaper_thai.forms.flag_marks.Goals as goal
 
 pub returns-else-end-base-gt2 : goal.returns-else-end-base-gt2
-returns-else-end-base-gt2 c =
-    search (arith, unsafe_few)
+returns-else-end-base-gt2 = search (arith, unsafe_few)

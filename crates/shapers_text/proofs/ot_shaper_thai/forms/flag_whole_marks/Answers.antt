@@ -6,8 +6,7 @@ use Rattle.shapers_text.proofs.ThaiWholeMarks.{whole_mark, whole_other}
 use Rattle.shapers_text.proofs.ot_shaper_thai.forms.flag_whole_marks.Goals as goal
 
 pub loop-i-init : goal.loop-i-init
-loop-i-init c = search (arith, unsafe_nothing)
+loop-i-init = search (arith, unsafe_nothing)
 
 pub loop-i-preserved : goal.loop-i-preserved
-loop-i-preserved c =
-    search (arith, whole_other, get_or-map, whole_mark)
+loop-i-preserved = search (arith, whole_other, get_or-map, whole_mark)

@@ -6,11 +6,10 @@ use Rattle.shapers_text.proofs.ThaiFormWalks.{walking_none, walking_next, walkin
 use Rattle.shapers_text.proofs.ot_shaper_thai.forms.shape_marks.Goals as goal
 
 pub loop-i-init : goal.loop-i-init
-loop-i-init g c = search (arith, walking_none)
+loop-i-init = search (arith, walking_none)
 
 pub loop-i-preserved : goal.loop-i-preserved
-loop-i-preserved g c =
-    search (arith, walking_next, get_or-map)
+loop-i-preserved = search (arith, walking_next, get_or-map)
 
 pub returns : goal.returns
 returns g c =

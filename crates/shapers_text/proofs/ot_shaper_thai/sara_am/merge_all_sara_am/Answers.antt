@@ -1,7 +1,7 @@
 -- One more place of the walk: a SARA AM merges, another character doesn't.
-use Rattle.std.proofs.Common.{[], List, get_or, cond, sym, ap, ◌∙◌, subst, arith}
+use Rattle.std.proofs.Common.{[], get_or, cond, sym, ap, ◌∙◌, subst, arith}
 use Rattle.std.proofs.lemmas.List.{get_or-map}
-use Rattle.shapers_buffer.specs.declared.buffer.glyph.hb_glyph_info_t.{hb_glyph_info_t}
+use Rattle.shapers_buffer.specs.Glyphs.{Glyphs}
 use Rattle.shapers_buffer.specs.ClusterRuns.{RunFits, with_run}
 use Rattle.shapers_buffer.specs.Clusters.{merge_all}
 use Rattle.shapers_buffer.specs.Glyph.{default_glyph}
@@ -20,7 +20,7 @@ loop-i-preserved c =
     let whole = with_run l.run l.glyphs in
     let sts = stretch_of_sara_am level l.i (above_marks_before l.glyphs l.i) in
     let read = sym (get_or-map (λ x. x.glyph_id) l.glyphs l.i default_glyph 0 (omega arith)) in
-    let turn = λ (after : List hb_glyph_info_t). merging_turn level start l.glyphs after l.run c.args.len l.i
+    let turn = λ (after : Glyphs). merging_turn level start l.glyphs after l.run c.args.len l.i
     ((get_or l.glyphs l.i default_glyph).glyph_id)
     c.requires c.loop-i-test.true l.invariant.fits l.invariant.merging read in
     elim c.if-is_sara_am.branch [

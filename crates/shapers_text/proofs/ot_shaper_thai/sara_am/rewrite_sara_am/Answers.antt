@@ -7,28 +7,23 @@ use Rattle.shapers_text.specs.ThaiWalk.{merged_front}
 use Rattle.shapers_text.proofs.ot_shaper_thai.sara_am.rewrite_sara_am.Goals as goal
 
 pub returns-then-count-eq0-clause-ok : goal.returns-then-count-eq0-clause-ok
-returns-then-count-eq0-clause-ok c =
-    search (arith, unchanged)
+returns-then-count-eq0-clause-ok = search (arith, unchanged)
 
 pub returns-then-count-eq0-clause-length : goal.returns-then-count-eq0-clause-length
-returns-then-count-eq0-clause-length c =
-    search (arith, length-glyphs_in_two)
+returns-then-count-eq0-clause-length = search (arith, length-glyphs_in_two)
 
 pub returns-in_err-grow-clause-length : goal.returns-in_err-grow-clause-length
-returns-in_err-grow-clause-length c =
-    search (arith, length-glyphs_in_two)
+returns-in_err-grow-clause-length = search (arith, length-glyphs_in_two)
 
 pub returns-in_err-grow-clause-without : goal.returns-in_err-grow-clause-without
-returns-in_err-grow-clause-without c =
-    search (arith, count_from_none)
+returns-in_err-grow-clause-without = search (arith, count_from_none)
 
 pub walk-requires : goal.walk-requires
-walk-requires c =
-    search (
-      arith,
-      room_made c.args.buffer.now.glyphs c.count_sara_am-count.result c.len-len.result c.len-len.ensures.length
-          c.count_sara_am-count.ensures,
-    )
+walk-requires c = search (
+  arith,
+  room_made c.args.buffer.now.glyphs c.count_sara_am-count.result c.len-len.result c.len-len.ensures.length
+      c.count_sara_am-count.ensures,
+)
 
 pub returns-clause-ok : goal.returns-clause-ok
 returns-clause-ok c =
@@ -39,5 +34,4 @@ returns-clause-ok c =
     c.requires c.len-len.ensures.length c.in_ok-grow.ensures.ok written c.walk.ensures.others
 
 pub returns-clause-length : goal.returns-clause-length
-returns-clause-length c =
-    search (arith, length-glyphs_in_two)
+returns-clause-length = search (arith, length-glyphs_in_two)

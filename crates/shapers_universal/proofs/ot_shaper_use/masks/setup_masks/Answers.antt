@@ -8,8 +8,7 @@ use Rattle.shapers_universal.proofs.MaskLemmas.{characters_stay, text_stays}
 use Rattle.shapers_universal.proofs.ot_shaper_use.masks.setup_masks.Goals as goal
 
 pub setup_masks_inner-requires : goal.setup_masks_inner-requires
-setup_masks_inner-requires g c =
-    search (arith, characters_stay)
+setup_masks_inner-requires = search (arith, characters_stay)
 
 pub returns-in-Some-clause-masks : goal.returns-in-Some-clause-masks
 returns-in-Some-clause-masks g c =
@@ -24,8 +23,7 @@ returns-in-Some-clause-masks g c =
     rw (c.in-Universal.is, c.in-Some.is) (
       equation,
       subst (λ text. HoldsCut script text
-          (map (λ h. h.auxiliary) new.glyphs)) (text_stays t t.joining t.general c.args.buffer.now)
-          cut,
+          (map (λ h. h.auxiliary) new.glyphs)) (text_stays t t.joining t.general c.args.buffer.now) cut,
     )
 
 pub returns-in-Some-clause-breaks : goal.returns-in-Some-clause-breaks

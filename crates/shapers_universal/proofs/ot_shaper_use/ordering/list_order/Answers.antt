@@ -29,8 +29,7 @@ returns c =
             c.requires.reph,
           ))
           (c.list_pieces.ensures ∙ ap (λ xs. ((record b1 {
-            places = with_listed end (syllable_places_in_order end end
-                e xs) b1.places;
+            places = with_listed end (syllable_places_in_order end end e xs) b1.places;
           }))) (ap (λ b. b.glyphs) c.list_piece.ensures)),
       order_first s behind e end gs (omega (arith, c.requires.reph)) c.requires.inside c.requires.in_order
           c.requires.in_range

@@ -1,6 +1,6 @@
 -- One piece more.
 use Rattle.std.proofs.Common.{◌≡◌, ◌+◌, ap, arith, ◌∙◌}
-use Rattle.shapers_buffer.proofs.Listing.{left_as, left_starts}
+use Rattle.shapers_buffer.proofs.Listing.{left_as}
 use Rattle.shapers_buffer.specs.Buffer.{Buffer}
 use Rattle.shapers_buffer.specs.Clusters.{stretch_of}
 use Rattle.shapers_buffer.specs.ListingWalk.{with_listed}
@@ -11,8 +11,7 @@ use Rattle.shapers_universal.specs.Proved.UniversalPlaces.{calm_nothing, length-
 use Rattle.shapers_universal.proofs.ot_shaper_use.ordering.list_pieces.Goals as goal
 
 pub loop-start-init : goal.loop-start-init
-loop-start-init c =
-    search (arith, left_starts)
+loop-start-init = search arith
 
 pub loop-start-preserved : goal.loop-start-preserved
 loop-start-preserved c =
@@ -32,19 +31,12 @@ loop-start-preserved c =
       left_part (piece_places l.start l.start end gs) (syllable_places_in_order end end e gs) l.start end _ _ b0
           l.buffer c.list_piece.new.buffer (left_as _ _ l.start _ _ b0 l.buffer first l.invariant.left)
           (c.list_piece.ensures ∙ ap (λ xs. (let r : Buffer = record l.buffer {
-            places = with_listed l.start
-                (piece_places l.start l.start end xs) l.buffer.places;
-          } in r)) same)
-          (omega (arith, length-piece l.start l.start end gs (omega arith) (omega arith))),
-      c.piece_len.ensures.within,
-      c.glyphs.ensures,
-      same_when_placed b0 l.buffer l.invariant.left.others,
-      c.loop-start-test.true,
+            places = with_listed l.start (piece_places l.start l.start end xs) l.buffer.places;
+          } in r)) same) (omega (arith, length-piece l.start l.start end gs (omega arith) (omega arith))),
     )
 
 pub returns : goal.returns
 returns c =
     let l = c.loop-start in
     (left_ends _ l.start _ _ c.args.buffer.now l.buffer
-    (order_none l.start c.args.e c.args.buffer.now.glyphs (omega (arith, c.loop-start-test.false)))
-    l.invariant.left).0
+    (order_none l.start c.args.e c.args.buffer.now.glyphs (omega arith)) l.invariant.left).0

@@ -1,7 +1,6 @@
 -- One place more: it stays, or goes to the front.
-use Rattle.std.proofs.Common.{◌≡◌, ◌+◌, ◌-◌, ◌∷◌, filter, if◌then◌else◌, not, true, ap, arith, sym, ◌∙◌}
+use Rattle.std.proofs.Common.{◌≡◌, ◌+◌, ◌-◌, filter, not, true, ap, arith, sym, ◌∙◌}
 use Rattle.std.specs.List.{range_with_len}
-use Rattle.shapers_buffer.proofs.Listing.{left_as, left_one}
 use Rattle.shapers_universal.specs.Universal.{goes_front}
 use Rattle.shapers_universal.specs.UniversalWalk.{stays_at}
 use Rattle.shapers_universal.proofs.UniversalListing.{rest_next, same_when_placed}
@@ -13,20 +12,11 @@ set_place-requires c =
     let l = c.loop-i in
     let gs = c.args.buffer.now.glyphs in
     let t = stays_at gs in
-    let stays : t l.i ≡ true = ap not (goes_front_is gs l.i
-    ∙ sym
+    let stays : t l.i ≡ true = ap not (goes_front_is gs l.i ∙ sym
     (ap (λ xs. goes_front (at xs l.i)) (c.glyphs.ensures ∙ same_when_placed c.args.buffer.now l.buffer
-    l.invariant.others))
-    ∙ sym c.goes_front.ensures ∙ c.if-not-goes_front.true) in
+    l.invariant.others)) ∙ sym c.goes_front.ensures ∙ c.if-not-goes_front.true) in
     let rest = filter t (range_with_len (l.i + 1) (c.args.e - (l.i + 1))) in
-    search (
-      arith,
-      (left_as _ (l.i ∷ rest) l.at _ _ c.args.buffer.now l.buffer (rest_next t l.i c.args.e c.loop-i-test.true ∙ ap
-          (λ b. if b then l.i ∷ rest else rest) stays) l.invariant).counted,
-      c.requires.room,
-      c.requires.in_range,
-    )
+    search arith
 
 pub loop-i-preserved : goal.loop-i-preserved
-loop-i-preserved c =
-    search (arith, left_one, left_as, rest_next, goes_front_is, same_when_placed)
+loop-i-preserved = search (arith, rest_next, goes_front_is)

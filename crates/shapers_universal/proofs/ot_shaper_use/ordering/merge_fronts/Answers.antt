@@ -1,13 +1,13 @@
 -- One glyph more: it goes to the front, ends its piece, or stays.
 use Rattle.std.proofs.Common.{ap, arith, sym, ◌∙◌}
 use Rattle.shapers_universal.specs.Universal.{goes_front, is_universal_halant}
-use Rattle.shapers_universal.specs.Proved.UniversalFronts.{merging_ends, merging_front, merging_halant, merging_rest, merging_starts}
+use Rattle.shapers_universal.specs.Proved.UniversalFronts.{merging_front, merging_halant, merging_rest}
 use Rattle.shapers_universal.specs.Proved.UniversalPlaces.{at}
 use Rattle.shapers_universal.proofs.ot_shaper_use.ordering.merge_fronts.Goals as goal
 use Rattle.shapers_universal.proofs.ot_shaper_use.ordering.merge_fronts.Goals.{then-goes_front, else-goes_front+then-is_halant, else-goes_front+else-is_halant}
 
 pub loop-i-init : goal.loop-i-init
-loop-i-init c = search (arith, merging_starts)
+loop-i-init = search arith
 
 pub loop-i-preserved : goal.loop-i-preserved
 loop-i-preserved c =
@@ -40,5 +40,4 @@ loop-i-preserved c =
     ]
 
 pub returns : goal.returns
-returns c =
-    search (arith, merging_ends)
+returns = search arith

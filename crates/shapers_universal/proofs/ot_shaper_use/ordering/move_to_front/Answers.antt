@@ -9,7 +9,7 @@ use Rattle.shapers_universal.proofs.ot_shaper_use.ordering.move_to_front.Goals a
 pub apply-requires-clause-permutes : goal.apply-requires-clause-permutes
 apply-requires-clause-permutes c =
     forward_permutes c.args.start (c.args.end - 1) 1 c.args.s c.args.e c.merge_clusters.new.self.places c.requires.from
-    (omega (arith, c.requires.some)) (search arith)
+    (omega arith) (search arith)
 
 pub returns : goal.returns
 returns c =

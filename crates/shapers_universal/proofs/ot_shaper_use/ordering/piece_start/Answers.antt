@@ -4,17 +4,13 @@ use Rattle.shapers_universal.proofs.OneFront.{start_back}
 use Rattle.shapers_universal.proofs.ot_shaper_use.ordering.piece_start.Goals as goal
 
 pub loop-end-init : goal.loop-end-init
-loop-end-init c =
-    search arith
+loop-end-init = search arith
 
 pub returns-then-is_halant-clause-start : goal.returns-then-is_halant-clause-start
-returns-then-is_halant-clause-start c =
-    search (arith, start_back)
+returns-then-is_halant-clause-start = search (arith, start_back)
 
 pub loop-end-preserved : goal.loop-end-preserved
-loop-end-preserved c =
-    search (arith, start_back)
+loop-end-preserved = search (arith, start_back)
 
 pub returns-clause-start : goal.returns-clause-start
-returns-clause-start c =
-    search arith
+returns-clause-start = search arith

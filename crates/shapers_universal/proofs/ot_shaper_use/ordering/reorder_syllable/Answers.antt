@@ -36,7 +36,7 @@ apply-requires-clause-permutes c =
       joined = c.merge_clusters.ensures;
       merged = c.merge_fronts.ensures;
     } in
-    search (arith, parts_permute, parts_make)
+    search (parts_permute, parts_make)
 
 pub returns : goal.returns
 returns c =
@@ -56,4 +56,4 @@ returns c =
     c.merge_fronts.new.buffer parts in
     let run : behind ≡ s + reph_run (stretch_of s e c.args.buffer.now.glyphs) =
     search arith in
-    search (arith, parts_reordered)
+    search parts_reordered

@@ -4,5 +4,4 @@ use Rattle.shapers_universal.proofs.NothingRecorded.{nothing_recorded}
 use Rattle.shapers_universal.proofs.ot_shaper_use.records.record_rphf.Goals as goal
 
 pub returns-then-universal_plan-eq0 : goal.returns-then-universal_plan-eq0
-returns-then-universal_plan-eq0 c =
-    search (arith, nothing_recorded)
+returns-then-universal_plan-eq0 = search (arith, nothing_recorded)

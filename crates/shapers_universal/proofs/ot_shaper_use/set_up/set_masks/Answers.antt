@@ -14,7 +14,6 @@ returns-then-is_none-clause-flags c =
     let flagged = forms_flagged None breaks m formed.glyphs in
     search (
       arith,
-      c.flag_forms.ensures,
       all_added_on c.args.buffer.now.glyphs mid.glyphs flagged c.set_rphf.ensures.flags
           (all_added_on mid.glyphs formed.glyphs flagged c.set_forms.ensures.flags (forms_flagged_added None breaks m
           formed.glyphs)),

@@ -18,19 +18,16 @@ returns-clause-cut c =
     let old = c.args.buffer.now in
     let breaks = c.args.plan.now.break_flags in
     let masked : Buffer → Buffer = λ b. record b { glyphs = with_syllable_masks kept m b.glyphs } in
-    subst (UniversalSetUpCutsAtSpans breaks kept m spans old)
-    (sym (c.set_masks.ensures.masks
+    subst (UniversalSetUpCutsAtSpans breaks kept m spans old) (sym (c.set_masks.ensures.masks
     ∙ ap (λ b. with_forms_flagged breaks kept m (masked b)) c.in_ok-set_up_syllables.ensures.ok))
     (universal_set_up_cuts breaks kept m spans old c.requires.kinds)
 
 -- masks change no cluster
 pub returns-clause-clusters : goal.returns-clause-clusters
-returns-clause-clusters c =
-    search (arith, map-forms_flagged, clusters-masks)
+returns-clause-clusters = search (arith, map-forms_flagged, clusters-masks)
 
 -- the spans only add flags, and so do the masks
 pub returns-clause-flags : goal.returns-clause-flags
 returns-clause-flags c =
     all_added_on c.args.buffer.now.glyphs c.set_up_syllables.new.buffer.glyphs c.set_masks.new.buffer.glyphs
-    (search (arith, set_up_added))
-    c.set_masks.ensures.flags
+    (search (arith, set_up_added)) c.set_masks.ensures.flags

@@ -18,11 +18,10 @@ finish_forms-requires g c =
     done.forms_are c.flag_breaks.ensures)
 
 pub returns : goal.returns
-returns g c =
-    let w = c.args.self.now in (
-      joins-all w.breaks w.masks.now w.flags w.script (g.T.Tables.tables w.tables.now).joining w.before w.after
-          c.args.glyphs.now c.join.new.glyphs c.flag_breaks.new.glyphs c.finish_forms.new.glyphs c.join.ensures.joined
-          c.flag_breaks.ensures c.finish_forms.ensures,
-      c.join.ensures.counted,
-      refl,
-    )
+returns g c = let w = c.args.self.now in (
+  joins-all w.breaks w.masks.now w.flags w.script (g.T.Tables.tables w.tables.now).joining w.before w.after
+      c.args.glyphs.now c.join.new.glyphs c.flag_breaks.new.glyphs c.finish_forms.new.glyphs c.join.ensures.joined
+      c.flag_breaks.ensures c.finish_forms.ensures,
+  c.join.ensures.counted,
+  refl,
+)

@@ -8,7 +8,7 @@ calls : (c : After-place_reph-base) → Calls c.args.self.now.rules.now c.args.s
     c.args.end c.settle_base-based.result.base c.place_reph-base.result c.settle_base-based.result.tries_pref
     c.args.buffer.now c.recover_viramas.new.buffer c.settle_base-based.new.buffer c.place_matras.new.buffer
     c.place_reph-base.new.buffer
-calls c = search arith
+calls = search arith
 
 pub returns-then-based-clause-related : goal.returns-then-based-clause-related
 returns-then-based-clause-related c =

@@ -1,5 +1,5 @@
 -- What is kept is true.
-use Rattle.std.proofs.Common.{rules, ◌%◌, ap, ◌∙◌, arith}
+use Rattle.std.proofs.Common.{rules, ◌%◌, ap, ◌∙◌}
 use Rattle.std.proofs.lemmas.List.Elements.{All-get_or}
 use Rattle.shapers_indic_initial.specs.InitialFont.{consonant_position}
 use Rattle.shapers_indic_initial.specs.KnownWalk.{IsKnown}
@@ -13,5 +13,4 @@ returns-then-kept-consonant-clause-position g c =
     let v = c.args.self.now.virama in
     let i = c.from-slot.result % 32 in
     All-get_or (IsKnown font m p v) c.args.known.now i (record { consonant = record { 0 = 0 }; position = 0 })
-    (search (rules, arith)) c.requires
-    ∙ ap (λ n. consonant_position font m p v ((record { 0 = n }))) c.if-kept-consonant.true
+    (search rules) c.requires ∙ ap (λ n. consonant_position font m p v ((record { 0 = n }))) c.if-kept-consonant.true

@@ -10,6 +10,4 @@ returns g c =
     syllable_masked
     (initial_rules (g.F.hb_font_t.font c.args.self.now.rules.now.face.now) c.args.self.now.rules.now.map.now
     c.args.self.now.rules.now.plan.now) b.script c.args.start c.args.end b c.walk.new.self c.requires.in_order
-    (omega (arith, c.walk.ensures.walked.1))
-    (search arith)
-    (search arith)
+    (omega arith) (search arith) (search arith)

@@ -22,9 +22,7 @@ returns-then-is_reordered-clause-related g c =
     let order = c.order_syllable-base.ensures.syllable r refl in
     initial_syllable r b1.script s e b1 b2 b3 b4 c.requires.in_order c.requires.in_range
     (ap (λ gs. is_reordered_in_indic (stretch_of s e gs)) (sym c.glyphs-2.ensures) ∙ sym c.is_reordered.ensures
-    ∙ c.if-is_reordered.true)
-    c.prepare_for_order.ensures.reordered
-    order
+    ∙ c.if-is_reordered.true) c.prepare_for_order.ensures.reordered order
     (subst (λ script. SyllableReordered (masked_in_order r script) (λ _. []) s e b3 b4) (
     ap (λ b. b.script) order.others ∙ ap (λ b. b.script) c.prepare_for_order.ensures.reordered.others)
     c.mask_syllable.ensures)
@@ -44,7 +42,5 @@ pub returns-then-is_plain_consonant-clause-related : goal.returns-then-is_plain_
 returns-then-is_plain_consonant-clause-related g c =
     let instance = c.args.self.now.rules.now in
     let b = c.args.buffer.now in
-    plain_here
-    (initial_rules (g.F.hb_font_t.font instance.face.now) instance.map.now instance.plan.now) b.script
-    c.args.start c.args.end b c.requires.in_order c.requires.in_range
-    (search arith)
+    plain_here (initial_rules (g.F.hb_font_t.font instance.face.now) instance.map.now instance.plan.now) b.script
+    c.args.start c.args.end b c.requires.in_order c.requires.in_range (search arith)

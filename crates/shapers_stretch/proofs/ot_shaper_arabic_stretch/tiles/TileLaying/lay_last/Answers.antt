@@ -13,7 +13,7 @@ lay_run-place-requires-clause-run g c =
     let l = part_unlaid how c.args.glyphs.now c.args.positions.now p.start p.word p.tiles u.end u.place c.requires.some
     c.requires.unlaid e.tiles e.word e.start in
     let some : p.tiles < u.end = search arith in
-    search (arith, part_can)
+    search part_can
 
 pub returns-then-part-unlaid-clause-laid : goal.returns-then-part-unlaid-clause-laid
 returns-then-part-unlaid-clause-laid g c =
@@ -24,7 +24,7 @@ returns-then-part-unlaid-clause-laid g c =
     let u = c.args.unlaid in
     let l = part_unlaid how c.args.glyphs.now c.args.positions.now p.start p.word p.tiles u.end u.place c.requires.some
     c.requires.unlaid e.tiles e.word e.start in
-    search (arith, part_moved)
+    search part_moved
 
 pub returns-then-part-unlaid-clause-shorter : goal.returns-then-part-unlaid-clause-shorter
 returns-then-part-unlaid-clause-shorter g c =
@@ -60,7 +60,7 @@ overflow_sub-result-3 g c =
     c.requires.unlaid e.tiles e.word e.start in
     let can = part_can how c.args.glyphs.now c.args.positions.now p.start p.word p.tiles u.end u.place (search arith)
     c.requires.unlaid l in
-    omega (arith, can.room, c.lay_run-place.ensures.place)
+    omega arith
 
 pub returns-clause-laid : goal.returns-clause-laid
 returns-clause-laid g c =
@@ -75,7 +75,6 @@ returns-clause-laid g c =
     let l = part_unlaid how c.args.glyphs.now c.args.positions.now p.start p.word p.tiles u.end u.place c.requires.some
     c.requires.unlaid e.tiles e.word e.start in
     part_laid how c.args.glyphs.now h.glyphs n.glyphs c.args.positions.now h.positions n.positions p.start p.word
-    p.tiles u.end u.place c.lay_run-place.result
-    (omega (arith, l.tiles_fit, c.if-part-unlaid.false)) c.requires.unlaid l r.same_length
+    p.tiles u.end u.place c.lay_run-place.result (omega arith) c.requires.unlaid l r.same_length
     c.move_up-2.ensures.same_length c.move_up-2.ensures.both r.flagged r.laid r.place c.move_up-2.ensures.kept
     c.move_up-2.ensures.up

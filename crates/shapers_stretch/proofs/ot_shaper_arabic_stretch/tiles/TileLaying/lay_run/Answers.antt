@@ -17,8 +17,7 @@ use Rattle.shapers_stretch.proofs.RunLaying.{copies_same, lay_is, measured_is, m
 use Rattle.shapers_stretch.proofs.ot_shaper_arabic_stretch.tiles.TileLaying.lay_run.Goals as goal
 
 pub lay_of_run-found-requires : goal.lay_of_run-found-requires
-lay_of_run-found-requires g c =
-    search (arith, all_stretch)
+lay_of_run-found-requires g c = search all_stretch
 
 pub lay_tiles-requires-clause-overlap_low : goal.lay_tiles-requires-clause-overlap_low
 lay_tiles-requires-clause-overlap_low g c =
@@ -52,10 +51,9 @@ lay_tiles-requires-clause-can g c =
     let old = zip c.args.glyphs.now c.args.positions.now in
     let word = stretch_of p.word p.tiles old in
     let tiles = stretch_of p.tiles u.end old in
-    let within : u.end ≤ length c.args.glyphs.now = omega (arith, r.ahead, r.within) in
+    let within : u.end ≤ length c.args.glyphs.now = omega arith in
     let is : (measured_slices (g.F.hb_font_t.font c.args.self.now.face.now) c.args.part.word c.args.part.tiles
-    c.args.unlaid.end c.args.glyphs.now c.args.positions.now)
-    ≡
+    c.args.unlaid.end c.args.glyphs.now c.args.positions.now) ≡
     (measured font (positions_of word) (glyphs_of tiles)) = measured_is font p.word p.tiles u.end c.args.glyphs.now c.args.positions.now r.order within r.both in
     let flags = flags_made p.word p.tiles u.end c.args.glyphs.now c.unsafe_to_break_in.new.glyphs c.args.positions.now
     c.requires.word r.order within r.both c.unsafe_to_break_in.ensures in
@@ -76,8 +74,7 @@ lay_tiles-requires-clause-can g c =
     ∙ c.in-Some.is)) in
     subst (λ run. CanLay c.args.self.now.right_to_left run
     (record { at = to_z w64 (of_z w64 c.in-Some.lay.start); place = u.place }) c.unsafe_to_break_in.new.glyphs
-    c.args.positions.now) (sym (same ∙ ap (λ run. copies font run cs) is))
-    (run_can
+    c.args.positions.now) (sym (same ∙ ap (λ run. copies font run cs) is)) (run_can
     (laying_by font c.args.self.now.choice c.args.self.now.right_to_left) word tiles cs p.tiles u.end u.place c.args.glyphs.now c.unsafe_to_break_in.new.glyphs
     c.args.positions.now _ r flags.tiles flags.same_length from)
 
@@ -90,10 +87,9 @@ lay_tiles-requires-clause-room g c =
     let old = zip c.args.glyphs.now c.args.positions.now in
     let word = stretch_of p.word p.tiles old in
     let tiles = stretch_of p.tiles u.end old in
-    let within : u.end ≤ length c.args.glyphs.now = omega (arith, r.ahead, r.within) in
+    let within : u.end ≤ length c.args.glyphs.now = omega arith in
     let is : (measured_slices (g.F.hb_font_t.font c.args.self.now.face.now) c.args.part.word c.args.part.tiles
-    c.args.unlaid.end c.args.glyphs.now c.args.positions.now)
-    ≡
+    c.args.unlaid.end c.args.glyphs.now c.args.positions.now) ≡
     (measured font (positions_of word) (glyphs_of tiles)) = measured_is font p.word p.tiles u.end c.args.glyphs.now c.args.positions.now r.order within r.both in
     let flags = flags_made p.word p.tiles u.end c.args.glyphs.now c.unsafe_to_break_in.new.glyphs c.args.positions.now
     c.requires.word r.order within r.both c.unsafe_to_break_in.ensures in
@@ -107,8 +103,7 @@ lay_tiles-requires-clause-room g c =
     (measured_slices (g.F.hb_font_t.font c.args.self.now.face.now) c.args.part.word c.args.part.tiles
     c.args.unlaid.end c.args.glyphs.now c.args.positions.now) c.in-Some.lay (sym c.lay_of_run-found.ensures
     ∙ c.in-Some.is)) in
-    subst (λ run. p.tiles + length run ≤ u.place) (sym (same ∙ ap (λ run. copies font run cs) is))
-    (run_room
+    subst (λ run. p.tiles + length run ≤ u.place) (sym (same ∙ ap (λ run. copies font run cs) is)) (run_room
     (laying_by font c.args.self.now.choice c.args.self.now.right_to_left) word tiles cs p.tiles u.end u.place c.args.glyphs.now c.args.positions.now r flags.tiles)
 
 pub unreachable-requires : goal.unreachable-requires
@@ -120,7 +115,7 @@ unreachable-requires g c =
     let old = zip c.args.glyphs.now c.args.positions.now in
     let z = measured font (positions_of (stretch_of p.word p.tiles old)) (glyphs_of (stretch_of p.tiles u.end old)) in
     let is = measured_is font p.word p.tiles u.end c.args.glyphs.now c.args.positions.now r.order
-    (omega (arith, r.ahead, r.within)) r.both in
+    (omega arith) r.both in
     absurd (clash (sym
     (no_lay c.args.self.now.choice c.args.self.now.right_to_left z (ap (lay_if_fits c.args.self.now.choice
     c.args.self.now.right_to_left) (sym is) ∙ sym c.lay_of_run-found.ensures ∙ c.in-None.is))
@@ -135,10 +130,9 @@ returns-clause-flagged g c =
     let old = zip c.args.glyphs.now c.args.positions.now in
     let word = stretch_of p.word p.tiles old in
     let tiles = stretch_of p.tiles u.end old in
-    let within : u.end ≤ length c.args.glyphs.now = omega (arith, r.ahead, r.within) in
+    let within : u.end ≤ length c.args.glyphs.now = omega arith in
     let is : (measured_slices (g.F.hb_font_t.font c.args.self.now.face.now) c.args.part.word c.args.part.tiles
-    c.args.unlaid.end c.args.glyphs.now c.args.positions.now)
-    ≡
+    c.args.unlaid.end c.args.glyphs.now c.args.positions.now) ≡
     (measured font (positions_of word) (glyphs_of tiles)) = measured_is font p.word p.tiles u.end c.args.glyphs.now c.args.positions.now r.order within r.both in
     let flags = flags_made p.word p.tiles u.end c.args.glyphs.now c.unsafe_to_break_in.new.glyphs c.args.positions.now
     c.requires.word r.order within r.both c.unsafe_to_break_in.ensures in
@@ -156,7 +150,7 @@ returns-clause-flagged g c =
     (run_room
     (laying_by font c.args.self.now.choice c.args.self.now.right_to_left) word tiles cs p.tiles u.end u.place c.args.glyphs.now c.args.positions.now r flags.tiles) in
     let n = c.lay_tiles.new in
-    let below : p.tiles ≤ c.lay_tiles.result.place = omega (arith, c.lay_tiles.ensures.lays.place) in
+    let below : p.tiles ≤ c.lay_tiles.result.place = omega arith in
     cc (
       take-take p.tiles c.lay_tiles.result.place (zip n.glyphs n.positions) below,
       c.lay_tiles.ensures.lays.kept,
@@ -172,10 +166,9 @@ returns-clause-laid g c =
     let old = zip c.args.glyphs.now c.args.positions.now in
     let word = stretch_of p.word p.tiles old in
     let tiles = stretch_of p.tiles u.end old in
-    let within : u.end ≤ length c.args.glyphs.now = omega (arith, r.ahead, r.within) in
+    let within : u.end ≤ length c.args.glyphs.now = omega arith in
     let is : (measured_slices (g.F.hb_font_t.font c.args.self.now.face.now) c.args.part.word c.args.part.tiles
-    c.args.unlaid.end c.args.glyphs.now c.args.positions.now)
-    ≡
+    c.args.unlaid.end c.args.glyphs.now c.args.positions.now) ≡
     (measured font (positions_of word) (glyphs_of tiles)) = measured_is font p.word p.tiles u.end c.args.glyphs.now c.args.positions.now r.order within r.both in
     let flags = flags_made p.word p.tiles u.end c.args.glyphs.now c.unsafe_to_break_in.new.glyphs c.args.positions.now
     c.requires.word r.order within r.both c.unsafe_to_break_in.ensures in
@@ -212,10 +205,9 @@ returns-clause-place g c =
     let old = zip c.args.glyphs.now c.args.positions.now in
     let word = stretch_of p.word p.tiles old in
     let tiles = stretch_of p.tiles u.end old in
-    let within : u.end ≤ length c.args.glyphs.now = omega (arith, r.ahead, r.within) in
+    let within : u.end ≤ length c.args.glyphs.now = omega arith in
     let is : (measured_slices (g.F.hb_font_t.font c.args.self.now.face.now) c.args.part.word c.args.part.tiles
-    c.args.unlaid.end c.args.glyphs.now c.args.positions.now)
-    ≡
+    c.args.unlaid.end c.args.glyphs.now c.args.positions.now) ≡
     (measured font (positions_of word) (glyphs_of tiles)) = measured_is font p.word p.tiles u.end c.args.glyphs.now c.args.positions.now r.order within r.both in
     let flags = flags_made p.word p.tiles u.end c.args.glyphs.now c.unsafe_to_break_in.new.glyphs c.args.positions.now
     c.requires.word r.order within r.both c.unsafe_to_break_in.ensures in

@@ -1,4 +1,4 @@
-use Rattle.std.proofs.Common.{arith, pos, ◌∙◌}
+use Rattle.std.proofs.Common.{arith, ◌∙◌}
 use Rattle.std.specs.List.{zip}
 use Rattle.shapers_stretch.proofs.TileWalk.{tile_can, tile_next, tile_number, tiles_start}
 use Rattle.shapers_stretch.proofs.ot_shaper_arabic_stretch.tiles.TileLaying.lay_tiles.Goals as goal
@@ -7,20 +7,15 @@ pub loop-i-init : goal.loop-i-init
 loop-i-init g c =
     let a = c.args in
     let r = c.requires in
-    search (
-      arith,
-      r.near,
-      tiles_start a.self.now.right_to_left (g.F.hb_font_t.font a.self.now.face.now) a.lay a.tiles.start a.tiles.end
-          a.pen a.glyphs.now a.positions.now r.in_order (omega (arith, r.ahead, r.can.within)) r.can.both r.can r.room,
-    )
+    search (tiles_start a.self.now.right_to_left (g.F.hb_font_t.font a.self.now.face.now) a.lay a.tiles.start a.tiles.end
+    a.pen a.glyphs.now a.positions.now r.in_order (omega arith) r.can.both r.can r.room)
 
 pub lay_tile-pen-requires-clause-number : goal.lay_tile-pen-requires-clause-number
 lay_tile-pen-requires-clause-number g c =
     let a = c.args in
     let l = c.loop-i in
     tile_number a.self.now.right_to_left (g.F.hb_font_t.font a.self.now.face.now) a.lay a.tiles.start a.tiles.end l.i
-    a.pen l.pen a.glyphs.now l.glyphs a.positions.now l.positions _
-    (search (arith, pos)) c.loop-i-test.true
+    a.pen l.pen a.glyphs.now l.glyphs a.positions.now l.positions _ (search) c.loop-i-test.true
     l.invariant.walk c.requires.can.both c.requires.numbers
 
 pub lay_tile-pen-requires-clause-can : goal.lay_tile-pen-requires-clause-can

@@ -4,12 +4,10 @@ use Rattle.shapers_syllabic.proofs.CircleLaws.{with_circles-none, length-with_ci
 use Rattle.shapers_syllabic.proofs.ot_shaper_syllabic.circles.DottedCircles.insert.Goals as goal
 
 pub returns-then-count-eq0-clause-ok : goal.returns-then-count-eq0-clause-ok
-returns-then-count-eq0-clause-ok c =
-    search (arith, with_circles-none)
+returns-then-count-eq0-clause-ok = search (arith, with_circles-none)
 
 pub returns-then-count-eq0-clause-length : goal.returns-then-count-eq0-clause-length
-returns-then-count-eq0-clause-length c =
-    search (arith, length-with_circles)
+returns-then-count-eq0-clause-length = search (arith, length-with_circles)
 
 pub returns-in_err-grow-clause-length : goal.returns-in_err-grow-clause-length
 returns-in_err-grow-clause-length c =
@@ -18,5 +16,4 @@ returns-in_err-grow-clause-length c =
     rw size (search rules)
 
 pub returns-in_err-grow-clause-free : goal.returns-in_err-grow-clause-free
-returns-in_err-grow-clause-free c same =
-    search (arith, length-with_circles)
+returns-in_err-grow-clause-free = search (arith, length-with_circles)

@@ -1,4 +1,4 @@
-use Rattle.std.proofs.Common.{◌+◌, arith, length-take}
+use Rattle.std.proofs.Common.{◌+◌, arith}
 use Rattle.shapers_syllabic.proofs.OpenedCircles.{Opening, opening_behind, opening_front}
 use Rattle.shapers_syllabic.proofs.ot_shaper_syllabic.circles.DottedCircles.open.Goals as goal
 
@@ -10,7 +10,7 @@ opening_there c =
     record {
       some = c.requires.some;
       in_order = c.requires.in_order;
-      inside = search (arith, length-take);
+      inside = search arith;
       rephas = search arith;
       within = c.requires.in_range;
       same_length = c.move_up.ensures.same_length;
@@ -21,9 +21,7 @@ opening_there c =
     }
 
 pub returns-clause-front : goal.returns-clause-front
-returns-clause-front c =
-    search (arith, opening_front, opening_there)
+returns-clause-front = search (arith, opening_front)
 
 pub returns-clause-behind : goal.returns-clause-behind
-returns-clause-behind c =
-    search (arith, opening_behind, opening_there)
+returns-clause-behind = search (arith, opening_behind)

@@ -5,5 +5,4 @@ use Rattle.shapers_syllabic.proofs.ot_shaper_syllabic.circles.DottedCircles.open
 
 -- no broken syllable is left, and what stands in front is in its place
 pub returns : goal.returns
-returns c =
-    search (arith, take-append-drop, with_circles-none)
+returns = search (arith, take-append-drop, with_circles-none)

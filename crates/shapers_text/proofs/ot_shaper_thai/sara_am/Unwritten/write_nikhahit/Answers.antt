@@ -29,8 +29,7 @@ loop-preserved c =
     let step = marks_next whole l.glyphs l.self.end l.self.place (marks - l.counter) c.args.nikhahit glyph (omega (
       arith,
       c.loop-test.true,
-    )) l.invariant.walk
-    (read_there l.glyphs (l.self.end - 1) default_glyph (omega arith)) in
+    )) l.invariant.walk (read_there l.glyphs (l.self.end - 1) default_glyph (omega arith)) in
     let walk =
     subst (λ n. MarksLeft whole now (l.self.end - 1) (l.self.place - 1) n c.args.nikhahit) (omega arith) step in
     search (

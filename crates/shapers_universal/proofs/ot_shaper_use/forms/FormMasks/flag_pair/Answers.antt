@@ -4,21 +4,17 @@ use Rattle.shapers_universal.proofs.TornPairs.{no_pair, pair_read}
 use Rattle.shapers_universal.proofs.ot_shaper_use.forms.FormMasks.flag_pair.Goals as goal
 
 pub returns-then-e-glyphs : goal.returns-then-e-glyphs
-returns-then-e-glyphs c =
-    search (arith, no_pair)
+returns-then-e-glyphs = search (arith, no_pair)
 
 pub returns-then-tears : goal.returns-then-tears
 returns-then-tears c =
     let a = c.args in
     search (
       arith,
-      c.unsafe_to_break_in.ensures,
       pair_read a.self a.before a.s a.e c.first_syllable_len.result c.joins_runs-behind.result c.tears.result
           a.glyphs.now c.requires.in_order c.requires.in_range c.first_syllable_len.ensures.len
           c.joins_runs-behind.ensures c.tears.ensures,
-      c.if-tears.true,
     )
 
 pub returns-else-tears : goal.returns-else-tears
-returns-else-tears c =
-    search (arith, pair_read)
+returns-else-tears = search (arith, pair_read)

@@ -7,5 +7,4 @@ pub returns-else-is_reordered-clause-related : goal.returns-else-is_reordered-cl
 returns-else-is_reordered-clause-related c =
     let s = c.args.start in
     let e = c.args.end in
-    still_reordered s e c.args.buffer.now c.requires.in_order c.requires.in_range
-    (search arith)
+    still_reordered s e c.args.buffer.now c.requires.in_order c.requires.in_range (search arith)
