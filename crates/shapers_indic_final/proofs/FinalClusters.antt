@@ -75,8 +75,7 @@ changed_within f permutes i k n l m =
     let yn = length_permutation part ys (permutes part) ∙ pn in
     let each : (p : ℕ) → p < k - i → get_or part p 0 ≡ i + p = λ p a. get_or-take (k - i) (drop i ps) p 0 a
     ∙ get_or-drop i ps p 0 ∙ get_or-range_with_len 0 n (i + p) 0 (omega arith) ∙ omega arith in
-    let all_part : All (Inside i k) part =
-    All-from_get_or (Inside i k) part 0
+    let all_part : All (Inside i k) part = All-from_get_or (Inside i k) part 0
     (λ p a. subst (Inside i k) (sym (each p (omega arith)))
     (record { low = omega arith; high = omega arith })) in
     let there : (p : ℕ) → i ≤ p → p < k → Inside i k (get_or (xs ++ (ys ++ zs)) p 0) = λ p a b.
@@ -140,8 +139,7 @@ still_moves n e i fits = record {
 pub moves_merging : (gs : Glyphs) (e : ℕ) (o : Option ℕ) → e ≤ length gs
     → AllByRecursion (MovesMerged (length gs)) (merging_step (length gs) e o)
 moves_merging gs e None l = tt
-moves_merging gs e (Some i) l =
-    (let at = merging_at gs e (Some i) l in search still_moves)
+moves_merging gs e (Some i) l = (let at = merging_at gs e (Some i) l in search still_moves)
 
 spare_matras : (script : Option Script) (base : ℕ) (gs : Glyphs) → base ≤ length gs
     → SpareMerged (length gs) (matra_steps script base gs)
@@ -163,8 +161,7 @@ spare_matras script base gs l =
     ]
 
 -- the reph, and the pref glyph
-moves_pref : (gs : Glyphs) (j s : ℕ) (o : Option ℕ) → j ≤ s
-    → ((i : ℕ) → o ≡ Some i → PlaceWithin s (length gs) i)
+moves_pref : (gs : Glyphs) (j s : ℕ) (o : Option ℕ) → j ≤ s → ((i : ℕ) → o ≡ Some i → PlaceWithin s (length gs) i)
     → AllByRecursion (MovesMerged (length gs)) (pref_step (length gs) j o)
 moves_pref gs j s None l within = tt
 moves_pref gs j s (Some i) l within =
@@ -186,12 +183,10 @@ spare_final r script gs =
     let rs = reph_steps r.reph_pos p.base p.glyphs in
     let ps = steps_of_pref r script q in
     let low = base_within r script (with_viramas r gs) in
-    let bn =
-    length-same carried b.glyphs gs (hidden-based r script (with_viramas r gs) ∙ hidden-viramas r gs) in
+    let bn = length-same carried b.glyphs gs (hidden-based r script (with_viramas r gs) ∙ hidden-viramas r gs) in
     let pn = length_at b.glyphs p.glyphs ms (matras_at script b.base b.glyphs low) ∙ bn in
     let n = length gs in
-    let three =
-    subst (λ k. AllByRecursion (MovesMerged k) ps)
+    let three = subst (λ k. AllByRecursion (MovesMerged k) ps)
     (length_at p.glyphs q.glyphs rs (reph_at r.reph_pos p.base p.glyphs) ∙ pn) (
     search (
       arith,
@@ -244,8 +239,7 @@ text_merges r script level gs m =
     merged_stay level m (length gs) (final_text_steps r script gs) (clusters gs) (length-map gs (λ g. g.cluster))
     (text_fits r script level gs) (search text_steps-long)
 
-pub text_cuts : (r : Rules) (script : Option Script) (level : BufferClusterLevel) (gs : Glyphs)
-    → merges level ≡ true
+pub text_cuts : (r : Rules) (script : Option Script) (level : BufferClusterLevel) (gs : Glyphs) → merges level ≡ true
     → EachSyllableCuts r script (order_view gs) (clusters gs)
     (joined_steps level (final_text_steps r script gs) (clusters gs))
 text_cuts r script level gs m before behind syl cut own =

@@ -202,8 +202,7 @@ final_cuts_between_spans r meaning steps circles spans old mid new laws reads ki
     let B = cut.behind in
     let joined = pauses_cut_between_spans meaning steps BROKEN_CLUSTER laws reads circles spans old mid kinds paused ss
     ts gs hs xs ys split text first second one two in
-    let parts =
-    paused.order ∙ ap P cut.parts
+    let parts = paused.order ∙ ap P cut.parts
     ∙ ap (λ zs. text_order meaning (order_view zs)) (circled-append circles F B cut.border)
     ∙ text_order-halves meaning (circled circles F) (circled circles B) (border-circled circles F B cut.border) in
     let border =
@@ -211,8 +210,7 @@ final_cuts_between_spans r meaning steps circles spans old mid new laws reads ki
     let ys = order_view (circled circles B) in border_by (text_order meaning xs) (text_order meaning ys) xs ys (search ends_after) (search ends_after) (search (arith, border-view, border-circled)) in
     let front = same_after circles meaning steps laws reads F xs one in
     let back = same_after circles meaning steps laws reads B ys (cut.renumbered ∙ two) in
-    let ordered =
-    f.order ∙ ap (λ s. final_text r s (order_view mid.glyphs)) kept in
+    let ordered = f.order ∙ ap (λ s. final_text r s (order_view mid.glyphs)) kept in
     record {
       order = ap (map (uninitiated r)) (ordered ∙ ap (final_text r script) parts)
           ∙ shown_halves r script (P F) (P B) (P xs) (P ys) border front back;
@@ -228,8 +226,7 @@ final_cuts_between_spans r meaning steps circles spans old mid new laws reads ki
           let both = joined.in_clusters none in
           let gc = sym (take-map cluster n mid.glyphs) ∙ ap (take n) both ∙ take_at (C xs) (C ys) n size in
           let kc = sym (drop-map cluster n mid.glyphs) ∙ ap (drop n) both ∙ drop_at (C xs) (C ys) n size in
-          let meet : MeetAtBorder G K =
-          met G K (subst (λ zs. MeetAtBorder zs (order_view K)) (sym gv)
+          let meet : MeetAtBorder G K = met G K (subst (λ zs. MeetAtBorder zs (order_view K)) (sym gv)
           (subst (MeetAtBorder (P F)) (sym kv) border)) in
           let xf : clusters xs ≡ clusters gs = sym (clusters-same F xs one)
           ∙ clusters-set_up ss BROKEN_CLUSTER (record old { glyphs = gs }) in

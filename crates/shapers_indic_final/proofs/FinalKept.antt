@@ -43,8 +43,7 @@ finally_kept r old new done =
     let are = f.clusters_are in
     let olds = old_places (length gs) steps in
     let number : Glyph → ℕ = λ g. g.glyph_id in
-    let kept =
-    subst (IsPermutation (seen carried gs)) (sym f.seen_same) f.text.kept in
+    let kept = subst (IsPermutation (seen carried gs)) (sym f.seen_same) f.text.kept in
     let many = sym (length-map ns (λ g. g.cluster)) ∙ ap length f.clusters_same ∙ length-map ms (λ g. g.cluster) in
     let fits = text_fits r old.script old.level gs in
     record {

@@ -73,13 +73,9 @@ pub linking_end : (base i last : ℕ) (d : Glyph) (old gs : Glyphs) → i < leng
 unfolding base_of
 linking_end base i last d old gs l j s =
     let x = get_or gs i d in
-    let behind : drop (suc i) (set gs i (as_linked x)) ≡ drop (suc i) gs =
-    search (arith, drop-set-lt) in
+    let behind : drop (suc i) (set gs i (as_linked x)) ≡ drop (suc i) gs = search (arith, drop-set-lt) in
     let test : passes is_unformed_below old i ≡ is_unformed_below x =
-    cc (
-      passes_there is_unformed_below old i d (omega arith),
-      step_here i d old gs l s.as_many s.rest,
-    ) in
+    cc (passes_there is_unformed_below old i d (omega arith), step_here i d old gs l s.as_many s.rest) in
     one_more i (
     search (
       arith,

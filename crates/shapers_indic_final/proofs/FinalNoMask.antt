@@ -1,5 +1,6 @@
 -- A mask without bits is on no glyph.
-use Rattle.std.proofs.Common.{◌≡◌, ◌==◌, ℕ, false, not, List, [], ◌∷◌, Option, None, Some, refl, ap}
+use Rattle.shapers_indic.proofs.PlaceSearch.{passes_there}
+use Rattle.std.proofs.Common.{◌≡◌, ◌==◌, ℕ, false, not, List, [], ◌∷◌, Option, None, Some, refl, ap, arith}
 use Rattle.std.specs.Int.Bits.{and_zero_r}
 use Rattle.std.specs.List.{find}
 use Rattle.std.specs.Option.{option_map_or}
@@ -20,3 +21,6 @@ none_found gs (p ∷ ps) = search (none_at, none_found gs ps)
 
 pub no_place : (gs : Glyphs) (s e : ℕ) → least_place (passes (has_bits 0) gs) s e ≡ None
 no_place gs s e = none_found gs (places s e)
+
+-- what is said of a place, and of a search for one
+pub ruleset at_places = (arith, passes_there)

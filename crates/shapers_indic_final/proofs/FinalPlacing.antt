@@ -107,13 +107,11 @@ stayed level s e b i gs h v w =
 pub one_step : (old new : Buffer) (s e : ℕ) (steps : List Step) (step : Step) → steps ≡ step ∷ []
     → new ≡ record old {
       glyphs = run_step old.level (widened s e (length old.glyphs) step) old.glyphs;
-      places =
-          new.places;
+      places = new.places;
     } → new
     ≡ record old {
       glyphs = run_steps old.level (map (widened s e (length old.glyphs)) steps) old.glyphs;
-      places =
-          new.places;
+      places = new.places;
     }
 one_step old new s e steps step only after = cc
 
@@ -124,8 +122,7 @@ pub stayed_in : (old new : Buffer) (s e base b i : ℕ) → s ≤ e → s + b �
     → new ≡ record old {
       glyphs = run_steps old.level
           (map (widened s e (length old.glyphs)) (staying_steps base (stretch_of s e old.glyphs))) old.glyphs;
-      places =
-          new.places;
+      places = new.places;
     }
 stayed_in old new s e base b i h v w end first after =
     let same : new.places ≡ old.places = cc in

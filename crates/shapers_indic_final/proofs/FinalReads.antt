@@ -97,8 +97,7 @@ first_stays = search (passes_stays, length_stays)
 
 pub pref_place_stays : (v : View) (pref : ℕ) → KeepsMask v pref → (base : ℕ) (gs : Glyphs)
     → pref_place pref base (seen_by v gs) ≡ pref_place pref base gs
-pref_place_stays v pref kept base gs =
-    same_two (λ t n. least_place t (base + 1) n)
+pref_place_stays v pref kept base gs = same_two (λ t n. least_place t (base + 1) n)
     (passes_stays v (has_bits pref) (λ g. search arith) gs) (length_stays v gs)
 
 pub if_unformed_stays : (v : View) (gs : Glyphs) (o : Option ℕ) → if_unformed (seen_by v gs) o ≡ if_unformed gs o
@@ -131,8 +130,13 @@ pref_base_stays v pref kept base gs =
           (ap is_some (sym (unformed_stays v pref kept base gs))) (sym (by_pref_stays v pref kept base gs)),
     )
 
+if_seen : (v : View) (b : Bool) (xs ys : Glyphs) → seen_by v (if b then xs else ys)
+    ≡ (if b then seen_by v xs else seen_by v ys)
+if_seen v true xs ys = refl
+if_seen v false xs ys = refl
+
 pub along_stays : (v : View) (halant : Bool) → KeepsShown v (along_links as_linked halant)
-along_stays v false (g ∷ gs) = search (arith, along_stays v false gs, along_stays v true gs)
+along_stays v false (g ∷ gs) = rw (if_seen, if_seen, along_stays v false gs, along_stays v true gs)
 along_stays v true (g ∷ gs) = search (arith, along_stays v true gs, along_stays v false gs)
 along_stays v _ [] = refl
 
@@ -181,7 +185,8 @@ based_from_stays = search (arith, by_pref_stays, pref_base_stays, written_stays,
 
 pub with_base_stays : (v : View) (r : Rules) → KeepsMask v r.pref → (script : Option Script) (gs : Glyphs)
     → with_final_base r script (seen_by v gs) ≡ base_seen v (with_final_base r script gs)
-with_base_stays = search (arith, first_stays, based_from_stays)
+with_base_stays v r kept script gs = ap (λ n. based_from r script n (seen_by v gs)) (first_stays v gs)
+    ∙ based_from_stays v r kept script (first_base gs) gs
 
 pub based_stays : (v : View) (r : Rules) → KeepsMask v r.pref → (script : Option Script) (gs : Glyphs)
     → based r script (seen_by v gs) ≡ base_seen v (based r script gs)
@@ -245,13 +250,11 @@ opens_stays v (g ∷ []) = refl
 opens_stays v (g ∷ (h ∷ gs)) = refl
 
 pub joined_stays : (v : View) (base : ℕ) (gs : Glyphs) → with_joiner base (seen_by v gs) ≡ with_joiner base gs
-joined_stays v base gs =
-    ap (λ (t : ℕ → Bool). λ h. if nat_lt (h + 1) base && t (h + 1) then h + 1 else h)
+joined_stays v base gs = ap (λ (t : ℕ → Bool). λ h. if nat_lt (h + 1) base && t (h + 1) then h + 1 else h)
     (passes_stays v is_joiner (λ g. refl) gs)
 
 pub last_stays : (v : View) (gs : Glyphs) → last_but_signs (seen_by v gs) ≡ last_but_signs gs
-last_stays v gs =
-    same_two (λ (t : ℕ → Bool) n. unwrap_or (greatest_place (λ i. not (t i)) 0 n) 0)
+last_stays v gs = same_two (λ (t : ℕ → Bool) n. unwrap_or (greatest_place (λ i. not (t i)) 0 n) 0)
     (passes_stays v (has_position POS_SMVD) (λ g. refl) gs) (length_stays v gs)
 
 pub count_stays : (v : View) (gs : Glyphs) → count_by is_matra (seen_by v gs) ≡ count_by is_matra gs
@@ -320,8 +323,7 @@ moved_stays v j (Some i) gs = search (stretch_stays, last_first_stays)
 
 pub with_pref_stays : (v : View) (pref : ℕ) → KeepsMask v pref → (script : Option Script) (base : ℕ) (gs : Glyphs)
     → seen_by v (with_pref pref script base gs) ≡ with_pref pref script base (seen_by v gs)
-with_pref_stays v pref kept script base gs =
-    moved_stays v (pref_target script base gs) (formed_pref pref base gs) gs
+with_pref_stays v pref kept script base gs = moved_stays v (pref_target script base gs) (formed_pref pref base gs) gs
     ∙ same_two (λ (j : ℕ) (o : Option ℕ). moved_before j o (seen_by v gs)) (sym (pref_target_stays v script base gs))
     (sym (formed_stays v pref kept base gs))
 

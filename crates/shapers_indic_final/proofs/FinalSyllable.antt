@@ -13,7 +13,7 @@ use Rattle.shapers_buffer.proofs.ClusterLemmas.{length-stretch, map-stretch}
 use Rattle.shapers_clusters.specs.Steps.{Step, run_steps, widened}
 use Rattle.shapers_clusters.proofs.ViewedSteps.{length-same}
 use Rattle.shapers_clusters.proofs.Widened.{order_view-widened}
-use Rattle.shapers_indic_final.specs.FinalBase.{with_final_base, with_viramas}
+use Rattle.shapers_indic_final.specs.FinalBase.{Based, with_final_base, with_viramas}
 use Rattle.shapers_indic_final.specs.FinalGlyphs.{is_lost_virama, recovered}
 use Rattle.shapers_indic_final.specs.FinalMatras.{matra_steps, with_matras}
 use Rattle.shapers_indic_final.specs.FinalPref.{pref_steps, with_pref}
@@ -134,15 +134,13 @@ pub record Calls (r : Rules) (script : Option Script) (s e base next : ℕ) (tri
       ≡ record b2 {
         glyphs = run_steps b2.level
             (map (widened s e (length b2.glyphs)) (matra_steps script base (stretch_of s e b2.glyphs))) b2.glyphs;
-        places =
-            b3.places;
+        places = b3.places;
       }
   pub reph : b4
       ≡ record b3 {
         glyphs = run_steps b3.level
             (map (widened s e (length b3.glyphs)) (reph_steps r.reph_pos base (stretch_of s e b3.glyphs))) b3.glyphs;
-        places =
-            b4.places;
+        places = b4.places;
       }
   pub next_is : next ≡ base_after_reph r.reph_pos base (stretch_of s e b3.glyphs)
 
@@ -179,43 +177,41 @@ final_syllable r script s e base next tries b0 b1 b2 b3 b4 b5 viewed c last =
     let l = c.in_range in
     let x0 = stretch_of s e (order_view b0.glyphs) in
     let B = based r script x0 in
-    let opening =
-    settled_part r script s e b0 b1 b2 viewed h l c.viramas c.based_are in
+    let opening = settled_part r script s e b0 b1 b2 viewed h l c.viramas c.based_are in
     let k0 : length x0 ≡ e - s = length-view s e b0.glyphs l in
     let kb : length B.glyphs ≡ e - s =
-    search (arith, length-same, hidden-based, hidden-viramas) in
+    length-same carried B.glyphs x0 (hidden-based r script (with_viramas r x0) ∙ hidden-viramas r x0) ∙ k0 in
     let a2 = part_after (λ gs. (based r script gs).glyphs) (λ _. []) s e b0 b2 h l kb opening in
-    let l2 : e ≤ length b2.glyphs = omega arith in
+    let l2 : e ≤ length b2.glyphs = omega (arith, a2.long) in
     let x2 = stretch_of s e (order_view b2.glyphs) in
-    let virama_view : (stretch_of s e (order_view b1.glyphs)) ≡ with_viramas r x0 =
-    cc (map-stretch plain s e b1.glyphs, recovered-stretch r s e b0.glyphs h l) in
+    let v1 = viewed (stretch_of s e b1.glyphs) in
     let same1 : with_final_base r script (order_view (stretch_of s e b1.glyphs)) ≡ B =
-    cc (map-stretch plain s e b1.glyphs) in
-    let base_at : base ≡ B.base = cc ((viewed (stretch_of s e b1.glyphs)).base) in
-    let tries_at : tries ≡ B.tries_pref = search arith in
-    let m_laws = matras_at script base x2 (search (arith, base_within r script (with_viramas r x0))) in
+    ap (λ zs. with_final_base r script (order_view (stretch_of s e zs))) (ap (λ (b : Buffer). b.glyphs) c.viramas)
+    ∙ ap (with_final_base r script) (recovered-stretch r s e b0.glyphs h l) in
+    let base_at : base ≡ B.base = c.base_is ∙ sym v1.base ∙ ap (λ (b : Based). b.base) same1 in
+    let tries_at : tries ≡ B.tries_pref = c.tries_is ∙ sym v1.tries ∙ ap (λ (b : Based). b.tries_pref) same1 in
+    let base_low : base ≤ length x2 = rw (base_at, a2.syllable) (base_within r script (with_viramas r x0)) in
+    let m_laws = matras_at script base x2 base_low in
     let matras_done =
     part_by_steps (with_matras script base) (matra_steps script base) s e b2 b3 h l2 m_laws (
     (viewed (stretch_of s e b2.glyphs)).by_matras base) c.matras in
     let k3 =
     length_at x2 (with_matras script base x2) (matra_steps script base x2) m_laws ∙ (length-view s e b2.glyphs l2) in
     let a3 = part_after (with_matras script base) (matra_steps script base) s e b2 b3 h l2 k3 matras_done in
-    let l3 : e ≤ length b3.glyphs = omega arith in
+    let l3 : e ≤ length b3.glyphs = omega (arith, a3.long) in
     let x3 = stretch_of s e (order_view b3.glyphs) in
     let v3 = viewed (stretch_of s e b3.glyphs) in
     let r_laws = reph_at r.reph_pos base x3 in
     let reph_done =
     part_by_steps (with_reph r.reph_pos base) (reph_steps r.reph_pos base) s e b3 b4 h l3 r_laws (v3.by_reph base)
     c.reph in
-    let k4 =
-    length_at x3 (with_reph r.reph_pos base x3) (reph_steps r.reph_pos base x3) r_laws
+    let k4 = length_at x3 (with_reph r.reph_pos base x3) (reph_steps r.reph_pos base x3) r_laws
     ∙ length-view s e b3.glyphs l3 in
     let l4 : e ≤ length b4.glyphs = omega (
       arith,
       (part_after (with_reph r.reph_pos base) (reph_steps r.reph_pos base) s e b3 b4 h l3 k4 reph_done).long,
     ) in
-    let next_at =
-    c.next_is ∙ sym (v3.base_then base)
+    let next_at = c.next_is ∙ sym (v3.base_then base)
     ∙ ap (base_after_reph r.reph_pos base) (map-stretch plain s e b3.glyphs ∙ a3.syllable
     ∙ ap (with_matras script base) a2.syllable) in
     let whole = syllable_then (λ gs. (based r script gs).glyphs) (placed_order r script tries base next) (λ _. [])

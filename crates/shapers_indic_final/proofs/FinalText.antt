@@ -140,8 +140,7 @@ but_first bits one two ((g ∷ gs) ∷ ps) =
     let F : Bool → Glyphs = λ b. (if b then with_bits bits g ∷ gs else g ∷ gs)
     ++ with_inits bits (last_or (Some g) gs) ps in
     let given : (b : Bool) → with_first_bits bits (F b) ≡ with_bits bits g ∷
-    (gs ++ with_inits bits (last_or (Some g) gs) ps) =
-    search (arith, bits_twice) in
+    (gs ++ with_inits bits (last_or (Some g) gs) ps) = search (arith, bits_twice) in
     search arith
 
 -- with the bits of init on all glyphs, it is the text order

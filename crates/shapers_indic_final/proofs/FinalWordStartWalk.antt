@@ -69,8 +69,7 @@ opened_next bits old now new start end off to some end_is opens_it =
     let inited = take start gs ++ with_init bits bn (drop start gs) in
     let glyphs = ap (λ (b : Buffer). b.glyphs) opens_it ∙ ap (λ c. bound_at start c inited) bound in
     let opening = with_init bits bx syl in
-    let view =
-    ap order_view glyphs ∙ bound-view start B inited
+    let view = ap order_view glyphs ∙ bound-view start B inited
     ∙ map-append plain (take start gs) (with_init bits bn (drop start gs))
     ∙ ap (λ ys. ys ++ order_view (with_init bits bn (drop start gs))) (sym (take-map plain start gs))
     ∙ ap (λ ys. front ++ ys) (init-plain bits off bn (drop start gs) ∙ ap (with_init bits bn) here
@@ -96,15 +95,13 @@ opened_next bits old now new start end off to some end_is opens_it =
         words = ap (map general) (ap (λ (b : Buffer). b.glyphs) opens_it)
             ∙ map-opened general bits start (λ g. refl) (λ g. refl) gs ∙ to.words;
         behind = ap (drop end) view ∙ drop_at (front ++ opening) back end both ∙ sym old_back;
-        order =
-            ap (λ ys. ys ++ with_inits bits (before_place end xs) (syllables (drop end xs)))
+        order = ap (λ ys. ys ++ with_inits bits (before_place end xs) (syllables (drop end xs)))
             (ap (take end) view ∙ take_at (front ++ opening) back end both)
             ∙ ap (λ ys. (front ++ opening) ++ with_inits bits (before_place end xs) (syllables ys)) old_back
             ∙ ap (λ b. (front ++ opening) ++ with_inits bits b (syllables back)) before
             ∙ append_assoc front opening (with_inits bits (last_or bx syl) (syllables back))
             ∙ sym (ap (λ ps. front ++ with_inits bits bx ps) cut) ∙ to.order;
-        flags =
-            ap (λ ys. map carried (bound_from end (before_place end xs) (syllables ys) new.glyphs)) old_back
+        flags = ap (λ ys. map carried (bound_from end (before_place end xs) (syllables ys) new.glyphs)) old_back
             ∙ ap (λ b. map carried (bound_from end b (syllables back) new.glyphs)) before
             ∙ carried-bound_from end (last_or bx syl) (syllables back) new.glyphs (bound_at start B gs)
             (ap (map carried) glyphs ∙ carried-bound start B inited gs (map-append carried (take start gs) (with_init

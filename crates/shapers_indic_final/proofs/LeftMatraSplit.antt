@@ -127,30 +127,25 @@ split level k top p q c gs h l w within left none =
           let A = staying k top gs q k in
           let B = staying k top gs (k + 1) p in
           let parts : merges level ≡ true → (none_below c (staying k top gs q k) ≡ true)
-          × (none_below c (g ∷ staying k top gs (k + 1) p) ≡ true) =
-          search (arith, and_parts, list_all-append) in
-          let high : merges level ≡ true → c ≤ g.cluster =
-          search (arith, leb-true, and_parts) in
-          let is : merges level ≡ true → put_one level c g ≡ in_cluster c g =
-          search arith in
+          × (none_below c (g ∷ staying k top gs (k + 1) p) ≡ true) = search (arith, and_parts, list_all-append) in
+          let high : merges level ≡ true → c ≤ g.cluster = search (arith, leb-true, and_parts) in
+          let is : merges level ≡ true → put_one level c g ≡ in_cluster c g = search arith in
           record {
             front = staying k top gs 0 q ++ put level c (staying k top gs q k);
             back = put level c (staying k top gs (k + 1) p);
             y = put_one level c g;
-            before =
-                cc (
-                  same 0 q (λ j x z e. absurd (omega arith)),
-                  old q p (omega arith) (omega arith),
-                  put-append level c A (g ∷ B),
-                  put-cons level c g B,
-                  append_assoc (staying k top gs 0 q) (put level c A) (put_one level c g ∷ put level c B),
-                );
-            after =
-                cc (
-                  new q p (omega arith) (omega arith),
-                  put-append level c A B,
-                  append_assoc (staying k top gs 0 q) (put level c A) (put level c B),
-                );
+            before = cc (
+              same 0 q (λ j x z e. absurd (omega arith)),
+              old q p (omega arith) (omega arith),
+              put-append level c A (g ∷ B),
+              put-cons level c g B,
+              append_assoc (staying k top gs 0 q) (put level c A) (put_one level c g ∷ put level c B),
+            );
+            after = cc (
+              new q p (omega arith) (omega arith),
+              put-append level c A B,
+              append_assoc (staying k top gs 0 q) (put level c A) (put level c B),
+            );
             long = length-append (staying k top gs 0 q) (put level c A)
                 ∙ omega (
                   arith,

@@ -147,14 +147,12 @@ one_more level k top p b at old new gs h behind before lies left r count fits li
       count,
     ) in
     let C = put level m Z ++ drop e gs in
-    let moved =
-    ap (λ xs. with_stretch k (at + 1) first_last (xs ++ C)) sp.before
+    let moved = ap (λ xs. with_stretch k (at + 1) first_last (xs ++ C)) sp.before
     ∙ rotated k at sp.front sp.back C sp.y sp.long to in
     elim (cases_Bool (merges level)) [
       | inr off ↦
           let same : with_stretch k (at + 1) first_last (as_parted level (k + 1) top p old gs)
-          ≡ as_parted level k top p old gs =
-          moved ∙ ap (λ xs. xs ++ (sp.y ∷ C)) (sym sp.after)
+          ≡ as_parted level k top p old gs = moved ∙ ap (λ xs. xs ++ (sp.y ∷ C)) (sym sp.after)
           ∙ ap (λ xs. (staying k top gs 0 q ++ put level c (staying k top gs q p)) ++ xs)
           (ap (λ x. x ∷ C) (sp.plain off) ∙ ap (λ xs. g ∷ (xs ++ drop e gs)) (put_off level m Z off)
           ∙ sym (ap (λ xs. xs ++ drop e gs) (put_off level m (gone k top gs 0 p ++ stretch_of p e gs) off
@@ -172,15 +170,13 @@ one_more level k top p b at old new gs h behind before lies left r count fits li
           let B = stretch_of b e gs in
           let zs = map (in_cluster m) (G ++ stretch_of p b gs) in
           let behind_zs = map (in_cluster m) B ++ drop e gs in
-          let c_is : put level m Z ++ drop e gs ≡ zs ++ behind_zs =
-          ap (λ xs. xs ++ drop e gs) (put_on level m Z on
+          let c_is : put level m Z ++ drop e gs ≡ zs ++ behind_zs = ap (λ xs. xs ++ drop e gs) (put_on level m Z on
           ∙ ap (λ xs. map (in_cluster m) (G ++ xs)) (stretch_in_two p b e gs (omega arith) f0)
           ∙ ap (map (in_cluster m)) (sym (append_assoc G (stretch_of p b gs) B)) ∙ map-append (in_cluster m) A B)
           ∙ append_assoc zs (map (in_cluster m) B) (drop e gs) in
           let zs_long : length zs ≡ length G + (b - p) = length-map A (in_cluster m)
           ∙ length-append G (stretch_of p b gs) ∙ ap (λ n. length G + n) (length-stretch p b gs (omega arith)) in
-          let merged_it =
-          merged_before at b m (sp.front ++ sp.back) sp.y zs behind_zs
+          let merged_it = merged_before at b m (sp.front ++ sp.back) sp.y zs behind_zs
           (length-append sp.front sp.back ∙ omega (arith, sp.long, to))
           (omega (arith, count)) (omega arith) (all_in_cluster m A) in
           let fr : Fronted level k top p (min sp.y.cluster m) sp.y

@@ -29,8 +29,7 @@ use Rattle.shapers_indic.proofs.PlaceSearch.{passes_there, places_none}
 pub record Walked (level : BufferClusterLevel) (e s i top p b : ℕ) (runs : Runs) (gs : Glyphs) : Type
     0 where
   pub target : ℕ
-  pub parted : as_parted level (s + i) (s + top) (s + p) runs gs
-      ≡ run_steps level
+  pub parted : as_parted level (s + i) (s + top) (s + p) runs gs ≡ run_steps level
       (map (widened s e (length gs)) (numbered_steps (e - s) b (p - 1) (lefts_from i top (stretch_of s e gs)))) gs
   pub goes : target ≡ p - 1 - length (lefts_from i top (stretch_of s e gs))
   pub behind : i ≤ target
@@ -100,8 +99,7 @@ walk_start s top p b runs gs h l w start before end cluster = record {
       let part = stretch_of s e gs in
       let st = start_as level (s + top) (s + p) (s + b) runs gs (omega arith) (omega arith) w start before end cluster
       one in
-      let none =
-      ap (λ qs. reverse (filter (passes is_left part) qs)) (places_none top top (omega arith)) in
+      let none = ap (λ qs. reverse (filter (passes is_left part) qs)) (places_none top top (omega arith)) in
       record {
         target = p - 1;
         parted = st.0 ∙ sym
@@ -174,16 +172,14 @@ walk_yes s i k top p b old new gs one h l m w holds r within lies so =
           let part = stretch_of s e gs in
           let wd = so.walked level e v z all in
           let V = as_parted level (s + k + 1) (s + top) (s + p) old gs in
-          let count =
-          sym (ap (λ n. s + wd.target + 1 + length (gone n (s + top) gs 0 (s + p))) up) ∙ wd.count in
+          let count = sym (ap (λ n. s + wd.target + 1 + length (gone n (s + top) gs 0 (s + p))) up) ∙ wd.count in
           let on = one_more level (s + k) (s + top) (s + p) (s + b) (s + wd.target) old new gs (omega arith)
           (omega arith) (omega arith) so.lies left r count
           (λ y. subst (λ n. Fits n (s + top) (s + p) old gs) up (wd.fits y)) lies in
           let qs = lefts_from i top part in
           let more = ap (λ j. lefts_from j top part ++ k ∷ []) (sym one)
           ∙ sym (lefts_yes k top part (omega arith) (read_at s e k gs (omega arith) z ∙ holds)) in
-          let long =
-          length-parted level (s + k + 1) (s + top) (s + p) (s + b) old gs (omega arith) so.lies in
+          let long = length-parted level (s + k + 1) (s + top) (s + p) (s + b) old gs (omega arith) so.lies in
           let W : Step → Step = λ t. widened s e (length gs) t in
           let step = matra_step (e - s) b k wd.target in
           let steps = numbered_steps (e - s) b (p - 1) qs in
@@ -194,8 +190,7 @@ walk_yes s i k top p b old new gs one h l m w holds r within lies so =
           matra_stepped level s e b k wd.target V (omega arith) (omega arith) (omega arith) in
           record {
             target = wd.target - 1;
-            parted =
-                sym on.0 ∙ stepped ∙ ap (λ n. run_step level (widened s e n step) V) long
+            parted = sym on.0 ∙ stepped ∙ ap (λ n. run_step level (widened s e n step) V) long
                 ∙ ap (run_step level (W step))
                 (sym (ap (λ n. as_parted level n (s + top) (s + p) old gs) up) ∙ wd.parted)
                 ∙ sym (fold-append (λ gs step. run_step level step gs) gs (map W steps) (W step ∷ []))

@@ -36,8 +36,7 @@ pub written_there : (old mid one new : Buffer) (s top p b at len : ℕ) (runs : 
     → one ≡ record mid { glyphs = with_stretch (at - len) at (put mid.level runs.before) mid.glyphs }
     → new ≡ record one { glyphs = with_stretch at runs.end (put one.level runs.cluster) one.glyphs }
     → new ≡ record old { glyphs = as_parted old.level s top p runs old.glyphs; places = new.places }
-written_there old mid one new s top p b at len runs h l lies moved to many first second =
-    second
+written_there old mid one new s top p b at len runs h l lies moved to many first second = second
     ∙ ap (λ (x : Buffer). (record x { glyphs = with_stretch at runs.end (put x.level runs.cluster) x.glyphs })) first
     ∙ ap
     (λ (x : Buffer). let y : Buffer = record x {
@@ -180,14 +179,12 @@ pub both_moved : (old mid new : Buffer) (s e b k p : ℕ) → k < p → p < b �
     → new ≡ record mid {
       glyphs = run_steps mid.level
           (map (widened s e (length mid.glyphs)) (steps_to k (p - 1) b (stretch_of s e mid.glyphs))) mid.glyphs;
-      places =
-          new.places;
+      places = new.places;
     } → new
     ≡ record old {
       glyphs = run_steps old.level
           (map (widened s e (length old.glyphs)) (parting_steps p b (stretch_of s e old.glyphs))) old.glyphs;
-      places =
-          new.places;
+      places = new.places;
     }
 both_moved old mid new s e b k p h l v w holds none first rest =
     let gs = old.glyphs in
@@ -195,11 +192,9 @@ both_moved old mid new s e b k p h l v w holds none first rest =
     let step = matra_step (e - s) b k p in
     let W : Step → Step = λ t. widened s e (length gs) t in
     let is : mid.glyphs ≡ run_step old.level (W step) gs = cc in
-    let long : length mid.glyphs ≡ length gs =
-    search (arith, length-matra) in
+    let long : length mid.glyphs ≡ length gs = search (arith, length-matra) in
     let S = map (λ t. matra_step (e - s) b t.1 (p - 1 - t.0)) (enumerate_from 0 (left_places k part)) in
-    let others : steps_to k (p - 1) b (stretch_of s e mid.glyphs) ≡ S =
-    ap
+    let others : steps_to k (p - 1) b (stretch_of s e mid.glyphs) ≡ S = ap
     (λ q. map (λ t. matra_step q b t.1 (p - 1 - t.0)) (enumerate_from 0 (left_places k (stretch_of s e mid.glyphs))))
     (search (arith, length-stretch))
     ∙ ap (λ qs. map (λ t. matra_step (e - s) b t.1 (p - 1 - t.0)) (enumerate_from 0 qs))

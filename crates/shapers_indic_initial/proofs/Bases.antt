@@ -26,9 +26,13 @@ searching_next search lo i below after gs l s going not_base is =
     record {
       from = l;
       within = omega arith;
-      still_open = cc (greatest_last _ lo i l);
-      no_base = cc (greatest_first _ i _ inside);
-      below_seen = cc (some_first _ i _ inside);
+      still_open = sym (ap (λ b. cond b (Some i) (greatest_place (stops_search gs) lo i)) going)
+          ∙ sym (greatest_last _ lo i l) ∙ s.still_open;
+      no_base = greatest_first _ i _ inside
+          ∙ ap (λ o. option_or o (cond (is_base search gs i) (Some i) None)) s.no_base
+          ∙ ap (λ b. cond b (Some i) None) not_base;
+      below_seen = is ∙ ap (λ b. has_below_form search gs i || b) s.below_seen
+          ∙ sym (some_first _ i _ inside);
     }
 
 -- one that stops it

@@ -142,10 +142,15 @@ left_alike level s f g base a (suc n) gs each =
     elim (each a (omega arith) (omega arith)) [
       | inl same ↦ elim (cases_Bool _) [
         | inl t ↦
-            cc (left_yes level s f base a n gs t, left_alike level s f g base (a + 1) n _ later, left_yes level s g base a n gs (sym same.led ∙ t))
-        | inr t ↦ search (arith, left_no, left_alike level s f g base (a + 1) n gs later)
+            left_yes level s f base a n gs t
+            ∙ ap (λ st. merge_all level (shifted s (merges_left_from f base (a + 1) n))
+            (merge level (s + st.0) (s + st.1) gs)) same.stretch
+            ∙ left_alike level s f g base (a + 1) n _ later ∙ sym (left_yes level s g base a n gs (sym same.led ∙ t))
+        | inr t ↦ left_no level s f base a n gs t ∙ left_alike level s f g base (a + 1) n gs later
+            ∙ sym (left_no level s g base a n gs (sym same.led ∙ t))
       ]
-      | inr gone ↦ search (arith, left_alike level s f g base (a + 1) n gs later)
+      | inr gone ↦ left_no level s f base a n gs gone.led ∙ left_alike level s f g base (a + 1) n gs later
+          ∙ sym (left_alone level s g base a n gs gone.behind gone.alone)
     ]
 
 -- a place that stays

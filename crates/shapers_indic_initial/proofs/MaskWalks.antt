@@ -142,18 +142,16 @@ eyelash_next bits base gs xs ys i d b h is test_is ys_is =
           front g rest d))
       | false ↦ is'
     ]) in
-    cc (
-      eyelash_same base xs gs i
-          (ap (map (λ x. x.category)) is ∙ (map-append _ _ (drop i gs) ∙ ap (λ cs. cs ++ map (λ g. g.category) (drop
-          i gs)) (categories_stay bits test 0 _) ∙ sym (map-append _ (take i gs) _) ∙ ap (map _) (take-append-drop i
-          gs))),
-      written (test i),
-      take_more gs i d h,
-      enumerate-append (take i gs) (g ∷ []),
-      map-append (bits_if bits test) (enumerate_from 0 (take i gs)) (enumerate_from (length (take i gs)) (g ∷ [])),
-      length-take-le i gs (omega arith),
-      append_assoc front (bits_if bits test (i, g) ∷ []) rest,
-    )
+    let t = eyelash_same base xs gs i
+    (ap (map (λ x. x.category)) is ∙ (map-append _ _ (drop i gs) ∙ ap (λ cs. cs ++ map (λ g. g.category) (drop
+    i gs)) (categories_stay bits test 0 _) ∙ sym (map-append _ (take i gs) _)
+    ∙ ap (map _) (take-append-drop i gs))) in
+    let more = ap (λ zs. map (bits_if bits test) (enumerate_from 0 zs)) (take_more gs i d h)
+    ∙ ap (map (bits_if bits test)) (enumerate-append (take i gs) (g ∷ []))
+    ∙ map-append (bits_if bits test) (enumerate_from 0 (take i gs)) (enumerate_from (length (take i gs)) (g ∷ []))
+    ∙ ap (λ n. front ++ bits_if bits test (n, g) ∷ []) (length-take-le i gs (omega arith)) in
+    ys_is ∙ ap (λ c. if c then set xs i (with_bits bits (get_or xs i d)) else xs) (test_is ∙ t) ∙ written (test i)
+    ∙ sym (ap (λ zs. zs ++ rest) more ∙ append_assoc front (bits_if bits test (i, g) ∷ []) rest)
 
 -- where the test fails everywhere, and at the end
 pub no_eyelash : (bits : ℕ) (test : ℕ → Bool) (gs : Glyphs)

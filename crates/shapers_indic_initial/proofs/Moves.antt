@@ -2,21 +2,21 @@
 use Rattle.shapers_buffer.specs.declared.buffer.placement.Placement.TheVariants.{Forward}
 use Rattle.shapers_buffer.specs.Places.{brought_forward, placed_by}
 use Rattle.shapers_buffer.proofs.Placements.{brought_parts, brought_within, placed_forward}
-use Rattle.std.proofs.Common.{ℕ, ◌+◌, ◌-◌, ◌<◌, ◌≤◌, ◌≡◌, List, [], ◌∷◌, ◌++◌, length, take, drop, refl, sym, ◌∙◌, ap, arith}
+use Rattle.std.proofs.Common.{ℕ, ◌+◌, ◌-◌, ◌<◌, ◌≤◌, ◌≡◌, List, [], ◌∷◌, ◌++◌, length, map, take, drop, refl, sym, ◌∙◌, ap, arith}
 use Rattle.std.specs.List.{range_with_len}
-use Rattle.std.proofs.lemmas.List.{length-drop, take_all}
+use Rattle.std.proofs.lemmas.List.{length-append, length-drop, length-take, take_all}
 use Rattle.std.proofs.lemmas.List.FromFn.{length-range_with_len}
 use Rattle.shapers_buffer.specs.Glyphs.{Glyphs}
 use Rattle.shapers_buffer.specs.Buffer.{Buffer, but_places}
 use Rattle.shapers_buffer.specs.Clusters.{merge_all, stretch_of, with_stretch}
 use Rattle.shapers_buffer.specs.Glyph.{order_view}
 use Rattle.shapers_buffer.specs.Places.{pick}
-use Rattle.shapers_clusters.specs.Steps.{FitsStep, Step, shifted, widened}
+use Rattle.shapers_clusters.specs.Steps.{FitsStep, Step, run_steps, shifted, widened}
 use Rattle.shapers_clusters.proofs.Merging.{length-merge_all}
 use Rattle.shapers_clusters.proofs.Picks.{pick-append, pick-range}
 use Rattle.shapers_clusters.proofs.Widened.{fits-widened, order_view-widened, pick-widened, range-append}
 use Rattle.shapers_indic_initial.specs.InitialPositions.{moved_behind}
-use Rattle.shapers_syllabic.specs.Reordering.{SyllableReordered}
+use Rattle.shapers_syllabic.specs.Reordering.{SyllableReordered, carried}
 use Rattle.shapers_syllabic.proofs.ReorderingLemmas.{old_places_one}
 
 -- those behind it, up to the other, come forward to its place
@@ -27,6 +27,10 @@ moved_is = search arith
 pub moved_within : {X : Type 0} (s e h j : ℕ) (xs : List X) → s ≤ e → e ≤ length xs → h ≤ j → j < e - s
     → moved_behind (s + h) (s + j) xs ≡ with_stretch s e (moved_behind h j) xs
 moved_within = search (arith, moved_is, brought_within)
+
+pub length-moved : {X : Type 0} (h j : ℕ) (xs : List X) → h ≤ j → j < length xs
+    → length (moved_behind h j xs) ≡ length xs
+length-moved h j xs l k = simp (length-append, length-take, length-drop) (omega arith)
 
 -- as places
 pub pick-moved : {X : Type 0} (h j n : ℕ) (xs : List X) → length xs ≡ n → h ≤ j → j < n
@@ -77,7 +81,8 @@ stepped meaning steps s e step old new h l f nothing kept is meant leads =
           ap order_view run ∙ order_view-widened _ s e (step ∷ []) gs h l (f, tt)
           ∙ ap (λ ps. take s xs ++ (pick ps (stretch_of s e xs) ++ drop e xs)) (old_places_one (e - s) step f)
           ∙ ap (λ ys. take s xs ++ (ys ++ drop e xs)) (sym meant);
-      moved = cc;
+      moved = ap (map carried) run
+          ∙ sym (ap (λ sts. map carried (run_steps old.level (map (widened s e (length gs)) sts) gs)) leads);
     }
 
 -- the move as a placement

@@ -10,7 +10,7 @@ use Rattle.shapers_buffer.specs.Clusters.{merge, merge_all, stretch_of, with_str
 use Rattle.shapers_buffer.specs.Glyph.{order_view, plain}
 use Rattle.shapers_buffer.specs.Places.{pick}
 use Rattle.shapers_buffer.proofs.ClusterLemmas.{three_parts, length-stretch, map-stretch}
-use Rattle.shapers_clusters.specs.Steps.{FitsStep, Step, shifted, swap_step}
+use Rattle.shapers_clusters.specs.Steps.{FitsStep, Step, shifted, still_step, swap_step}
 use Rattle.shapers_clusters.proofs.Merging.{length-merge}
 use Rattle.shapers_clusters.proofs.Picks.{length-pick, pick-all}
 use Rattle.shapers_indic.specs.Glyphs.{places}
@@ -66,11 +66,10 @@ joiner_moves script s e old mid new h l first is kept moved =
     let on : joiner_comes_first script X ≡ true =
     cc (map-stretch plain s e gs, joiner_first_stays plain_view script (stretch_of s e gs)) in
     let step = joiner_step script X in
-    let swaps : step ≡ swap_step n 1 = cc in
+    let swaps : step ≡ swap_step n 1 = ap (λ b. if b then swap_step n 1 else still_step n) on in
     let two = joiner_long script X on in
     let ms = merge old.level (s + 1) (s + 3) gs in
-    let firsts : merge_all old.level (shifted s step.merged_first) gs ≡ ms =
-    cc in
+    let firsts = ap (λ t. merge_all old.level (shifted s t.merged_first) gs) swaps in
     let same = length-merge old.level (s + 1) (s + 3) gs (omega arith) in
     stepped (with_joiner_first script) (joiner_steps script) s e step old new h l
     (subst (λ m. FitsStep m step) long (joiner_fits script X)) (ap (λ t. t.merged_then) swaps)
@@ -78,7 +77,7 @@ joiner_moves script s e old mid new h l first is kept moved =
     (moved ∙ ap (moved_behind (s + 1) (s + 3 - 1)) (ap (λ b. b.glyphs) is)
     ∙ ap (λ j. moved_behind (s + 1) j ms) (omega arith)
     ∙ picked_moved s e n 1 2 ms h (omega arith) long (omega arith) two
-    ∙ sym (ap (λ ps. with_stretch s e (pick ps) ms) (cc (swap_moved n two)))
+    ∙ sym (ap (λ ps. with_stretch s e (pick ps) ms) (ap (λ t. t.places) swaps ∙ swap_moved n two))
     ∙ sym (ap (with_stretch s e (pick step.places)) firsts)) refl refl
 
 pub joiner_stays_put : (script : Option Script) (s e : ℕ) (b : Buffer) → s ≤ e → e ≤ length b.glyphs

@@ -1,4 +1,5 @@
 -- A syllable in which one glyph alone goes to the front: its places in order.
+use Rattle.std.proofs.lemmas.Bool.Decides.{nat_tests}
 use Rattle.std.proofs.Common.{◌≡◌, ℕ, zero, suc, ◌+◌, ◌-◌, ◌<◌, ◌≤◌, inl, inr, Bool, true, false, if◌then◌else◌, List, [], ◌∷◌, ◌++◌, map, length, take, drop, get_or, refl, ap, sym, ◌∙◌, arith, append_assoc, Some}
 use Rattle.std.specs.List.{flat_map, list_any, range_with_len, slice_rotate_right}
 use Rattle.std.proofs.lemmas.Bool.{cases_Bool, or_parts}
@@ -67,9 +68,18 @@ pub none_from : (a i : ℕ) (gs : Glyphs) → fronts_from a i gs ≡ [] → list
 none_from a i [] h = refl
 none_from a i (g ∷ gs) h = elim (cases_Bool (goes_front g)) [
   | inl holds ↦
-      cc
+      let some : (let k : ℕ = length ((a, suc i) ∷ fronts_from a (suc i) gs) in k) ≡ 0 =
+      ap (λ b. length
+      (if b then (a, suc i)
+      ∷ fronts_from a (suc i) gs else fronts_from (if is_universal_halant g then suc i else a) (suc i) gs))
+      (sym holds) ∙ ap length h in
+      absurd (omega arith)
   | inr fails ↦
-      rw fails (none_from (if is_universal_halant g then suc i else a) (suc i) gs cc)
+      let on : fronts_from (if is_universal_halant g then suc i else a) (suc i) gs ≡ [] =
+      ap (λ b. if b then (a, suc i)
+      ∷ fronts_from a (suc i) gs else fronts_from (if is_universal_halant g then suc i else a) (suc i) gs)
+      (sym fails) ∙ h in
+      rw fails (none_from (if is_universal_halant g then suc i else a) (suc i) gs on)
 ]
 
 -- What one merge alone says: from `st` to `e` one glyph goes to the front, that before z, of the
@@ -84,11 +94,15 @@ pub record OneFront (gs : Glyphs) (st e a z : ℕ) : Type 0 where
 range_on : (st i : ℕ) → st ≤ i → range_with_len st (i + 1 - st) ≡ range_with_len st (i - st) ++ i ∷ []
 range_on st i h = sym (ranges-join st i (i - st) 1 (i + 1 - st) (omega arith) (omega arith))
 
+halt : (g : Glyph) → goes_front g ≡ true → is_universal_halant g ≡ false
+halt g h = grind (arith, nat_tests, h)
+
 pub one_front : (gs : Glyphs) (n i st e a z : ℕ) → st ≤ i → i + n ≡ e
     → list_any (is_halant_at gs) (range_with_len st (i - st)) ≡ false
     → list_any (goes_front_at gs) (range_with_len st (i - st)) ≡ false
     → fronts_from st i (map (at gs) (range_with_len i n)) ≡ (a, z) ∷ [] → OneFront gs st e a z
-one_front gs zero i st e a z h up calm still is = cc
+one_front gs zero i st e a z h up calm still is = let none : zero ≡ suc zero =
+    ap (λ (ps : List (ℕ × ℕ)). length ps) is in absurd (omega arith)
 one_front gs (suc n) i st e a z h up calm still is =
     let H = is_halant_at gs in
     let T = goes_front_at gs in
@@ -96,68 +110,79 @@ one_front gs (suc n) i st e a z h up calm still is =
     let ys = range_with_len (i + 1) n in
     let zs = map (at gs) ys in
     let next : suc i ≡ i + 1 = omega arith in
-    let whole = sym (ranges-join st i (i - st) (e - i) (e - st) (omega arith) (omega arith))
+    let on : i + 1 - st ≡ i + 1 - st = refl in
+    let whole : range_with_len st (e - st) ≡ pre ++ i ∷ ys = sym (ranges-join st i (i - st) (e - i) (e - st)
+    (omega (arith, h)) (omega (arith, h, up)))
     ∙ (let m : e - i ≡ suc n = omega arith in ap (λ k. pre ++ range_with_len i k) m) in
     elim (cases_Bool (goes_front (at gs i))) [
       | inl front ↦
-          let here =
-          ap
-          (λ b. if b then (st, suc i) ∷ fronts_from st (suc i) zs else fronts_from (if is_universal_halant (at gs i)
-          then suc i else st) (suc i) zs) (sym front) ∙ is in
-          let start = ap (λ (ps : List (ℕ × ℕ)). (get_or ps 0 (0, 0)).0) here in
-          let place = ap (λ (ps : List (ℕ × ℕ)). (get_or ps 0 (0, 0)).1) here in
-          let behind = labels_any goes_front T gs (goes_front_is gs) ys
-          ∙ none_from st (suc i) zs (ap (drop 1) here) in
+          let here : (st, suc i) ∷ fronts_from st (suc i) zs ≡ (a, z) ∷ [] =
+          ap (λ b. if b then (st, suc i)
+          ∷ fronts_from st (suc i) zs else fronts_from (if is_universal_halant (at gs i) then suc i else st)
+          (suc i) zs) (sym front) ∙ is in
+          let start : st ≡ a = ap (λ (ps : List (ℕ × ℕ)). (get_or ps 0 (0, 0)).0) here in
+          let place : suc i ≡ z = ap (λ (ps : List (ℕ × ℕ)). (get_or ps 0 (0, 0)).1) here in
+          let rest : fronts_from st (suc i) zs ≡ [] = ap (drop 1) here in
+          let behind : list_any T ys ≡ false = labels_any goes_front T gs (goes_front_is gs) ys
+          ∙ none_from st (suc i) zs rest in
           let m : a - st ≡ 0 = omega arith in
+          let last : z - 1 ≡ i = omega arith in
+          let long : z - 1 - a ≡ i - st = omega arith in
+          let more : e - z ≡ n = omega arith in
           let from : z ≡ i + 1 = omega arith in
           record {
             order = ap (in_order H T) (whole ∙ sym (append_assoc pre (i ∷ []) ys))
-                ∙ in_order-last H T pre i ys calm (halant_at gs i ∙ (grind arith)) behind ∙ ap (λ xs. xs ++ ys)
-                (reversed_first-yes T pre i (goes_front_is gs i ∙ front) ∙ ap (λ xs. i ∷ xs) (none_first T pre still))
-                ∙ sym
-                (ap (λ k. range_with_len st k ++ (((z - 1) ∷ range_with_len a (z - 1 - a)) ++ range_with_len z (e - z)))
-                m ∙ ap (λ k. (k ∷ range_with_len a (z - 1 - a)) ++ range_with_len z (e - z)) (omega arith) ∙ ap (λ k. (i
-                ∷ range_with_len a k) ++ range_with_len z (e - z)) (omega arith) ∙ ap (λ k. (i ∷ range_with_len k (i -
-                st)) ++ range_with_len z (e - z)) (sym start) ∙ ap (λ k. (i ∷ pre) ++ range_with_len z k) (omega arith) ∙
-                ap (λ k. (i ∷ pre) ++ range_with_len k n) from);
-            from = omega arith;
-            some = omega arith;
-            within = omega arith;
+                ∙ in_order-last H T pre i ys calm (halant_at gs i ∙ halt (at gs i) front) behind
+                ∙ ap (λ xs. xs ++ ys) (reversed_first-yes T pre i (goes_front_is gs i ∙ front)
+                ∙ ap (λ xs. i ∷ xs) (none_first T pre still))
+                ∙ sym (ap (λ k. range_with_len st k
+                ++ (((z - 1) ∷ range_with_len a (z - 1 - a)) ++ range_with_len z (e - z))) m
+                ∙ ap (λ k. (k ∷ range_with_len a (z - 1 - a)) ++ range_with_len z (e - z)) last
+                ∙ ap (λ k. (i ∷ range_with_len a k) ++ range_with_len z (e - z)) long
+                ∙ ap (λ k. (i ∷ range_with_len k (i - st)) ++ range_with_len z (e - z)) (sym start)
+                ∙ ap (λ k. (i ∷ pre) ++ range_with_len z k) more
+                ∙ ap (λ k. (i ∷ pre) ++ range_with_len k n) from);
+            from = omega (arith, start);
+            some = omega (arith, start, place, h);
+            within = omega (arith, place, up);
           }
       | inr other ↦
-          let here =
-          ap
-          (λ b. if b then (st, suc i) ∷ fronts_from st (suc i) zs else fronts_from (if is_universal_halant (at gs i)
-          then suc i else st) (suc i) zs) (sym other) ∙ is in
-          let stays = goes_front_is gs i ∙ other in
+          let here : fronts_from (if is_universal_halant (at gs i) then suc i else st) (suc i) zs ≡ (a, z) ∷ [] =
+          ap (λ b. if b then (st, suc i)
+          ∷ fronts_from st (suc i) zs else fronts_from (if is_universal_halant (at gs i) then suc i else st)
+          (suc i) zs) (sym other) ∙ is in
+          let stays : T i ≡ false = goes_front_is gs i ∙ other in
           elim (cases_Bool (is_universal_halant (at gs i))) [
             | inl ends ↦
                 let there : fronts_from (i + 1) (i + 1) zs ≡ (a, z) ∷ [] = ap (λ k. fronts_from k k zs) (sym next)
                 ∙ ap (λ b. fronts_from (if b then suc i else st) (suc i) zs) (sym ends) ∙ here in
                 let none : i + 1 - (i + 1) ≡ 0 = omega arith in
-                let one = one_front gs n (i + 1) (i + 1) e a z (omega arith) (omega arith)
+                let one = one_front gs n (i + 1) (i + 1) e a z (omega arith) (omega (arith, up))
                 (ap (λ k. list_any H (range_with_len (i + 1) k)) none)
                 (ap (λ k. list_any T (range_with_len (i + 1) k)) none) there in
+                let left : e - (i + 1) ≡ n = omega (arith, up) in
                 let tail = ((z - 1) ∷ range_with_len a (z - 1 - a)) ++ range_with_len z (e - z) in
                 record {
-                  order = ap (in_order H T) whole ∙ in_order-cut H T pre ys i calm still (halant_at gs i ∙ ends) stays
-                      ∙ ap (λ k. (pre ++ i ∷ []) ++ in_order H T (range_with_len (i + 1) k)) (sym (omega arith))
+                  order = ap (in_order H T) whole
+                      ∙ in_order-cut H T pre ys i calm still (halant_at gs i ∙ ends) stays
+                      ∙ ap (λ k. (pre ++ i ∷ []) ++ in_order H T (range_with_len (i + 1) k)) (sym left)
                       ∙ ap (λ xs. (pre ++ i ∷ []) ++ xs) one.order
                       ∙ ap (λ xs. xs ++ (range_with_len (i + 1) (a - (i + 1)) ++ tail)) (sym (range_on st i h))
                       ∙ sym (append_assoc (range_with_len st (i + 1 - st)) (range_with_len (i + 1) (a - (i + 1))) tail)
-                      ∙ ap (λ xs. xs ++ tail)
-                      (ranges-join st (i + 1) (i + 1 - st) (a - (i + 1)) (a - st) (omega arith) (omega arith));
-                  from = omega arith;
+                      ∙ ap (λ xs. xs ++ tail) (ranges-join st (i + 1) (i + 1 - st) (a - (i + 1)) (a - st) (omega (arith, h))
+                      (omega (arith, h, one.from)));
+                  from = omega (arith, h, one.from);
                   some = one.some;
                   within = one.within;
                 }
             | inr goes ↦
                 let there : fronts_from st (i + 1) zs ≡ (a, z) ∷ [] = ap (λ k. fronts_from st k zs) (sym next)
                 ∙ ap (λ b. fronts_from (if b then suc i else st) (suc i) zs) (sym goes) ∙ here in
-                one_front gs n (i + 1) st e a z (omega arith) (omega arith)
+                one_front gs n (i + 1) st e a z (omega (arith, h)) (omega (arith, up))
                 (ap (list_any H) (range_on st i h) ∙ list_any-append H pre (i ∷ [])
                 ∙ rw (calm, halant_at gs i, goes) refl)
-                (ap (list_any T) (range_on st i h) ∙ list_any-append T pre (i ∷ []) ∙ rw (still, stays) refl) there
+                (ap (list_any T) (range_on st i h) ∙ list_any-append T pre (i ∷ []) ∙ rw (still, stays) refl)
+                there
           ]
     ]
 
@@ -226,14 +251,19 @@ turned_is s e xs h l =
     let ys = stretch_of s e xs in
     let k = e - 1 - s in
     let size : length ys - 1 ≡ k = omega (arith, length-stretch s e xs l) in
-    let front : take k ys ≡ take k (drop s xs) = search (arith, take-take) in
-    let last : drop k ys ≡ take 1 (drop (e - 1) xs) = ap (λ n. drop k (take n (drop s xs))) (omega arith)
-    ∙ drop-take k 1 (drop s xs) ∙ ap (take 1) (drop-drop k s xs ∙ ap (λ n. drop n xs) (omega arith)) in
-    cc (
-      pick-append (range_with_len (e - 1) 1) (range_with_len s k) xs,
-      pick-range (e - 1) 1 xs (omega arith),
-      pick-range s k xs (omega arith),
-    )
+    let up : e - s ≡ k + 1 = omega arith in
+    let to : s + k ≡ e - 1 = omega arith in
+    let front : take k ys ≡ take k (drop s xs) = take-take k (e - s) (drop s xs) (omega arith) in
+    let last : drop k ys ≡ take 1 (drop (e - 1) xs) = ap (λ n. drop k (take n (drop s xs))) up
+    ∙ drop-take k 1 (drop s xs) ∙ ap (take 1) (drop-drop k s xs ∙ ap (λ n. drop n xs) to) in
+    let turned : slice_rotate_right ys 1 ≡ take 1 (drop (e - 1) xs) ++ take k (drop s xs) =
+    ap (λ n. drop n ys ++ take n ys) size ∙ ap (λ zs. zs ++ take k ys) last
+    ∙ ap (λ zs. take 1 (drop (e - 1) xs) ++ zs) front in
+    let picked : pick (last_place_first s e) xs ≡ take 1 (drop (e - 1) xs) ++ take k (drop s xs) =
+    pick-append (range_with_len (e - 1) 1) (range_with_len s k) xs
+    ∙ ap (λ zs. zs ++ pick (range_with_len s k) xs) (pick-range (e - 1) 1 xs (omega arith))
+    ∙ ap (λ zs. take 1 (drop (e - 1) xs) ++ zs) (pick-range s k xs (omega arith)) in
+    ap (λ zs. take s xs ++ (zs ++ drop e xs)) (turned ∙ sym picked)
 
 pub start_back : (s k : ℕ) (gs : Glyphs) → s + 1 < k → k ≤ length gs + 1 → start_from s s (stretch_of s (k - 1) gs)
     ≡ (if is_universal_halant (at gs (k - 1 - 1)) then k - 1 else start_from s s (stretch_of s (k - 1 - 1) gs))

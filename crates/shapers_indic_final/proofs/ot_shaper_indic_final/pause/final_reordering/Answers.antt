@@ -1,5 +1,5 @@
 -- The chain of the reordering, and what it comes to once its syllables are opened.
-use Rattle.std.proofs.Common.{◌≡◌, ap, sym, subst, true, ◌∙◌}
+use Rattle.std.proofs.Common.{◌≡◌, ap, sym, subst, true, ◌∙◌, arith}
 use Rattle.std.specs.Prelude.{Err, Ok, OnOk, Result, is_ok}
 use Rattle.shapers_indic_final.specs.FinalReordering.{final_order, final_steps}
 use Rattle.shapers_indic_final.specs.FinalRules.{final_rules}
@@ -8,6 +8,7 @@ use Rattle.shapers_indic_final.specs.declared.ot_shaper_indic_final.rules.Rules.
 use Rattle.shapers_indic_final.proofs.FinalKept.{finally_kept}
 use Rattle.shapers_indic_final.proofs.FinalText.{reordered_by_links}
 use Rattle.shapers_syllabic.specs.Reordering.{SyllableReordered, SyllablesLinked}
+use Rattle.shapers_syllabic.proofs.LinkedSyllables.{takes_any}
 use Rattle.shapers_indic_final.proofs.ot_shaper_indic_final.pause.final_reordering.Goals as goal
 
 on_ok : {T E P : Type 0} (r : Result T E) → is_ok r ≡ true → OnOk r P → P
@@ -37,3 +38,10 @@ returns-then-is_ok-clause-laws g c = finally_kept _ c.args.buffer.now c.open_wor
 
 pub returns-then-is_ok-clause-clusters : goal.returns-then-is_ok-clause-clusters
 returns-then-is_ok-clause-clusters g c = (returns-then-is_ok-clause-laws g c).in_clusters.old_clusters
+
+pub reorder_syllables-requires-clause-takes : goal.reorder_syllables-requires-clause-takes
+reorder_syllables-requires-clause-takes g c =
+    takes_any _ (λ ns. omega (arith, ap (λ (r : Rules). r.pref) c.new-rules.ensures)) c.args.buffer.now.glyphs
+
+pub returns-else-is_ok : goal.returns-else-is_ok
+returns-else-is_ok g c = absurd (cc (c.reorder_syllables.ensures.refusal, c.if-is_ok.ensures.value))

@@ -18,8 +18,7 @@ pub returns-in-Some-clause-same_length : goal.returns-in-Some-clause-same_length
 returns-in-Some-clause-same_length c =
     let a = c.args in
     let old = a.buffer.now in
-    let inside : a.s + c.in-Some.i < a.e =
-    omega (arith, c.in-Some.ensures.within) in
+    let inside : a.s + c.in-Some.i < a.e = omega (arith, c.in-Some.ensures.within) in
     search (
       arith,
       length-pref old.level a.s a.e c.pref_target-target.result c.in-Some.i old.glyphs

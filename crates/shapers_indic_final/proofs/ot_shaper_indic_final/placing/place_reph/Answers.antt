@@ -19,8 +19,7 @@ pub returns-clause-same_length : goal.returns-clause-same_length
 returns-clause-same_length c =
     let a = c.args in
     let old = a.buffer.now in
-    let inside : a.s + c.reph_target-target.result < a.e =
-    omega arith in
+    let inside : a.s + c.reph_target-target.result < a.e = omega arith in
     search (
       arith,
       reph_stepped old.level a.s a.e c.reph_target-target.result old.glyphs inside c.requires.in_range,

@@ -1,5 +1,7 @@
 -- By the older specification, and not.
 use Rattle.std.proofs.Common.{arith}
+use Rattle.shapers_buffer.proofs.ClusterLemmas.{length-stretch}
+use Rattle.shapers_indic_initial.proofs.Moves.{length-moved}
 use Rattle.shapers_indic_initial.proofs.Prepared.{halant_done, halant_left, halant_off}
 use Rattle.shapers_indic_initial.proofs.ot_shaper_indic_initial.preparing.move_halant.Goals as goal
 
@@ -19,3 +21,6 @@ pub returns-in_default-clause-reordered : goal.returns-in_default-clause-reorder
 returns-in_default-clause-reordered c = λ r e.
     halant_left r c.args.script c.args.base c.args.start c.args.end c.args.buffer.now c.glyphs.result.now
     c.requires.in_order c.requires.in_range c.glyphs.ensures (search arith) c.in_default.ensures.places
+
+pub returns-in-Some-clause-same_length : goal.returns-in-Some-clause-same_length
+returns-in-Some-clause-same_length c = search (arith, length-moved, length-stretch)

@@ -1,4 +1,5 @@
 -- The merge and the move.
+use Rattle.std.proofs.lemmas.Grind.{common_steps}
 use Rattle.shapers_buffer.specs.Clusters.{merge}
 use Rattle.shapers_clusters.proofs.Merging.{length-merge}
 use Rattle.std.proofs.Common.{◌-◌, arith}
@@ -22,3 +23,6 @@ returns c =
       rotated_stretch c.args.start (c.args.end - 1) 1 ms (omega arith) (omega (arith, long)),
       turned_is c.args.start c.args.end ms c.requires.some (omega (arith, long)),
     )
+
+pub apply-requires-clause-in_range : goal.apply-requires-clause-in_range
+apply-requires-clause-in_range c = grind (arith, common_steps)

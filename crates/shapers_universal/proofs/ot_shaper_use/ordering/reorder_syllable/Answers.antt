@@ -1,4 +1,5 @@
 -- The places listed, the merges, and the syllable written.
+use Rattle.std.proofs.lemmas.Grind.{common_steps}
 use Rattle.std.proofs.Common.{◌≡◌, ◌+◌, arith}
 use Rattle.shapers_buffer.specs.Clusters.{stretch_of}
 use Rattle.shapers_universal.specs.Universal.{reph_run}
@@ -57,3 +58,6 @@ returns c =
     let run : behind ≡ s + reph_run (stretch_of s e c.args.buffer.now.glyphs) =
     search arith in
     search parts_reordered
+
+pub merge_fronts-requires-clause-in_range : goal.merge_fronts-requires-clause-in_range
+merge_fronts-requires-clause-in_range c = grind (arith, common_steps)
