@@ -75,6 +75,7 @@ pub fn erase_imports(files: &mut [File], laws: &BTreeSet<String>) -> Result<(), 
     let mut empty = BTreeSet::new();
     for file in files.iter_mut().rev() {
         erase_uses(file, laws);
+        erase_repeated(file);
         for i in file.places("mod") {
             if empty.contains(&file.path_of_module(file.text(i + 1))) {
                 file.cut_item(file.start(i)..=file.end(i)?);
@@ -95,6 +96,28 @@ fn erase_uses(file: &mut File, laws: &BTreeSet<String>) {
             file.cut_element(i);
         }
     }
+}
+
+// Cuts each name of an import's braces that another one before it there becomes, too: Rust rejects a
+// `use` that has a name twice.
+fn erase_repeated(file: &mut File) {
+    for i in (0..file.tokens.len()).rev() {
+        let Some((open, name)) = listed(file, i) else { continue };
+        if (open + 1..i).any(|j| listed(file, j) == Some((open, name))) {
+            file.cut_element(i);
+        }
+    }
+}
+
+// The brace around a name that an import lists, and what the table makes of the name.
+fn listed(file: &File, i: usize) -> Option<(usize, &str)> {
+    let is_listed = matches!(file.before(i), "{" | ",") && matches!(file.text(i + 1), "," | "}");
+    let is_around = |open: &usize| file.text(*open) == "{" && file.partner(*open) > i;
+    let name = get("name", file.text(i)).unwrap_or(file.text(i));
+    if !is_listed || !file.is_import(i) {
+        return None;
+    }
+    (0..i).rev().find(is_around).map(|open| (open, name))
 }
 
 // Whether the name that is imported at `i` is gone, or has no use any more.

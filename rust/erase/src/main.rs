@@ -24,10 +24,12 @@ fn main() -> ExitCode {
     ExitCode::FAILURE
 }
 
-// Makes the trees below a folder, formatted, in place of what stands there.
+// Makes the trees below a folder, formatted, in place of what stands there. Nothing is written where
+// a source can't be erased or rustfmt is missing.
 fn make(top: &Path) -> Result<(), Box<dyn Error>> {
     let crates: Vec<&str> = table::all("crate").map(|(krate, _)| krate).collect();
     let outputs = erase(&crates, &|path| fs::read_to_string(path).ok())?;
+    find_rustfmt()?;
     files_below(top)?.keys().try_for_each(|path| fs::remove_file(top.join(path)))?;
     for (path, text) in &outputs {
         let path = top.join(path);
@@ -40,6 +42,19 @@ fn make(top: &Path) -> Result<(), Box<dyn Error>> {
         true => Ok(()),
         false => Err("rustfmt failed".into()),
     }
+}
+
+// Fails where rustfmt doesn't run: it isn't there, or it is rustup's proxy without the component.
+fn find_rustfmt() -> Result<(), String> {
+    let fault = match Command::new("rustfmt").arg("--version").output() {
+        Ok(output) if output.status.success() => return Ok(()),
+        Ok(output) => String::from_utf8_lossy(&output.stderr).trim().to_string(),
+        Err(error) => error.to_string(),
+    };
+    Err(format!(
+        "erase: nothing was written, since rustfmt doesn't run ({fault}): install Debian's package \
+         `rustfmt`, or `rustup component add rustfmt`"
+    ))
 }
 
 // The files that differ by more than white space and the layout's commas.

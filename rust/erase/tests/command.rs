@@ -4,6 +4,7 @@
 use erase::table::all;
 use erase::token::{Token, tokens};
 use std::collections::BTreeSet;
+use std::os::unix::fs::PermissionsExt;
 use std::path::{Path, PathBuf};
 use std::process::{Command, Output};
 use std::{env, fs, process};
@@ -127,6 +128,37 @@ fn check_tells_what_differs() {
     assert_eq!(different(top), None);
     assert!(!top.join(stale).exists());
     assert_eq!(fs::read_to_string(top.join(tag)).unwrap(), text);
+}
+
+#[test]
+fn nothing_is_written_without_rustfmt() {
+    let scratch = Scratch::new("rustfmt");
+    let top = &scratch.0;
+    copy_sources(top);
+    let tag = top.join("rust/sengadlit/src/generated/shapers_buffer/buffer/tag.rs");
+    fs::create_dir_all(tag.parent().unwrap()).unwrap();
+    fs::write(&tag, "// as it was\n").unwrap();
+    let proxy = top.join("proxy");
+    fs::create_dir(&proxy).unwrap();
+    let rustfmt = proxy.join("rustfmt");
+    fs::write(&rustfmt, "#!/bin/sh\necho \"'rustfmt' is not installed\" >&2\nexit 1\n").unwrap();
+    fs::set_permissions(&rustfmt, fs::Permissions::from_mode(0o755)).unwrap();
+    for (path, fault) in [("/nowhere", "No such file"), (proxy.to_str().unwrap(), "'rustfmt' is")] {
+        for arguments in [&[][..], &["--check"]] {
+            let mut command = Command::new(env!("CARGO_BIN_EXE_erase"));
+            // (the proxy's shell is named by its path)
+            let output = command.args(arguments).current_dir(top).env("PATH", path).output();
+            let output = output.unwrap();
+            assert_eq!(output.status.code(), Some(1));
+            let message = String::from_utf8(output.stderr).unwrap();
+            let head = "erase: nothing was written, since rustfmt doesn't run (";
+            assert!(message.starts_with(&format!("{head}{fault}")), "{message}");
+            assert!(message.contains("`rustfmt`, or `rustup component add rustfmt`"), "{message}");
+        }
+    }
+    assert_eq!(fs::read_to_string(&tag).unwrap(), "// as it was\n");
+    assert_eq!(fs::read_dir(top.join("rust")).unwrap().count(), 1);
+    assert!(!top.join("target").exists());
 }
 
 #[test]
