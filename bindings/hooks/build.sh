@@ -167,6 +167,12 @@ build() {
     cd "$made/both" && cargo build --release "$@"
 }
 
+# Whether all but the crate as it is compiles without a warning. (Cargo repeats those of what it has built.)
+without_warnings() {
+    build --message-format short >"$made/warnings.log" 2>&1 || return
+    ! grep ': warning: ' "$made/warnings.log" | grep -v "^$made/stock/"
+}
+
 # Says what was made, and ends.
 finish() {
     cat <<END
@@ -237,6 +243,7 @@ need 'manifests are written' write_manifests
 [ -z "$copies" ] || finish "bindings/$crate/test"
 
 need 'both are built, with the release profile' build
+step 'without a warning of the copy with the hooks' without_warnings
 need 'both are built, with both hooks on each call' build --features shadow --target-dir "$made/both/target/shadow"
 if [ -n "$lto" ]; then
     export CARGO_PROFILE_RELEASE_LTO=fat CARGO_PROFILE_RELEASE_CODEGEN_UNITS=1
