@@ -100,8 +100,8 @@ impl ShapePlan {
 
 #[cfg(test)]
 mod tests {
-    use crate::alloc::Global;
-    use crate::buffer::{Buffer, GlyphInfo, LigProps};
+    use crate::alloc::{Global, Vec};
+    use crate::buffer::{Buffer, GlyphInfo, GlyphPosition, LigProps};
     use crate::map::FeatureMap;
     use crate::plan::{Pause, Plan, Planner};
     use crate::shaper::Shaper;
@@ -123,6 +123,22 @@ mod tests {
         let mut other = copy.try_clone().unwrap();
         other.set(1, glyph);
         assert_ne!(copy, other);
+    }
+
+    #[test]
+    fn buffers_with_other_positions_differ() {
+        let (mut buffer, plain) = (Buffer::from("ab"), Buffer::from("ab"));
+        let zero = Vec::from_elem(Global, GlyphPosition::ZERO, 2).unwrap();
+        assert!(buffer.set_positions(zero));
+        assert_ne!(buffer, plain);
+        let mut moved = buffer.try_clone().unwrap();
+        assert_eq!(moved, buffer);
+        let x_offset = GlyphPosition {
+            x_offset: 1,
+            ..GlyphPosition::ZERO
+        };
+        moved.set_position(1, x_offset);
+        assert_ne!(moved, buffer);
     }
 
     #[test]

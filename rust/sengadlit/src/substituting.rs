@@ -73,8 +73,8 @@ impl Buffer {
     /// Puts one glyph in the place of those of the range, as a ligature: a copy of the first one but
     /// for its number, in the merged cluster of all, with the marks
     /// [`SUBSTITUTED`](GlyphProps::SUBSTITUTED) and [`LIGATED`](GlyphProps::LIGATED), and no longer
-    /// [`MULTIPLIED`](GlyphProps::MULTIPLIED). It can't refuse and takes no memory. (Which marks stay
-    /// with which component GDEF says, and the caller keeps.)
+    /// [`MULTIPLIED`](GlyphProps::MULTIPLIED), and without `lig_props`. It can't refuse and takes no
+    /// memory. (Which marks stay with which component GDEF says, and the caller keeps.)
     ///
     /// # Panics
     ///
@@ -202,6 +202,22 @@ mod tests {
         assert!(buffer.is_empty());
     }
 
+    /// HarfBuzz's `hb_buffer_t::delete_glyph`: the cluster is left where a neighbour has it.
+    #[test]
+    fn a_glyph_that_goes_hands_nothing_on_where_a_neighbour_has_its_cluster() {
+        for (clusters, place) in [([0, 1, 1, 3], 2), ([0, 1, 1, 3], 1), ([3, 1, 1, 0], 2)] {
+            let mut buffer = text();
+            buffer.with_glyphs_mut(|glyphs| {
+                for (glyph, cluster) in glyphs.iter_mut().zip(clusters) {
+                    glyph.cluster = cluster;
+                }
+            });
+            buffer.replace_range(place..place + 1, &[]).unwrap();
+            let left: Vec<_> = buffer.iter().map(|glyph| glyph.cluster).collect();
+            assert_eq!(left, [clusters[0], 1, clusters[3]]);
+        }
+    }
+
     #[test]
     fn a_text_that_would_be_too_long_stays() {
         let mut buffer = text();
@@ -228,6 +244,19 @@ mod tests {
             (100, 3, NONE, 0),
         ];
         assert_eq!(seen(&buffer), glyphs);
+    }
+
+    /// HarfBuzz's `_set_glyph_class` of a ligature: the last substitution alone counts.
+    #[test]
+    fn a_ligature_that_begins_with_one_of_several_is_none_of_them() {
+        let mut buffer = text();
+        buffer.replace_range(1..2, &[5, 6]).unwrap();
+        assert!(buffer.get(2).glyph_props.is_multiplied());
+        buffer.ligate(2..4, 9);
+        let glyph = buffer.get(2);
+        let ligated = both(SUBSTITUTED, GlyphProps::LIGATED);
+        assert_eq!((glyph.glyph_id, glyph.glyph_props), (9, ligated));
+        assert_eq!(glyph.lig_props, LigProps::NONE);
     }
 
     #[test]
