@@ -30,8 +30,9 @@ usage: hbhook [FILE]            runs the lines of the file, and prints the glyph
        hbhook --word TEXT       runs the hooks of the text's script over it; also with --draw
        hbhook --lines TEXT      prints the lines that do that
        hbhook --help            prints this
+       hbhook --version         prints the version
 
-For FILE - or nothing: the lines of standard input. Status: 0; 1 after a refusal; 2 where a line or
+For FILE - or nothing: the lines of standard input. Behind -- an argument is no option. Status: 0; 1 after a refusal; 2 where a line or
 an argument is rejected, the input can't be read, or the output can't be written.
 ";
 
@@ -97,7 +98,7 @@ impl Task {
             Ok(output) => return print(&output),
             Err(fault) => fault,
         };
-        match io::stderr().write_all(format!("{fault}\n").as_bytes()) {
+        match io::stderr().write_all(format!("hbhook: {fault}\n").as_bytes()) {
             Ok(()) if fault != TextFault::NoScript => REFUSED,
             _ => UNREADABLE,
         }
@@ -105,11 +106,14 @@ impl Task {
 
     // Runs or draws the lines of a reader.
     fn run(self, input: impl Read) -> u8 {
-        let (output, faults) = (io::stdout(), io::stderr());
-        if self.draws {
-            draw_lines(Global, input, output, faults)
-        } else {
-            run_lines(Global, input, output, faults)
+        if !self.draws {
+            return run_lines(Global, input, io::stdout(), io::stderr());
+        }
+        let mut told = Vec::new();
+        let status = draw_lines(Global, input, io::stdout(), &mut told);
+        match io::stderr().write_all(&named(&told)) {
+            Ok(()) => status,
+            Err(_) => UNREADABLE,
         }
     }
 
@@ -119,14 +123,14 @@ impl Task {
         let mut told = String::new();
         if status != 0 {
             match explain_end(script, status, self.draws) {
-                Some(explanation) => told = format!("{explanation}\n"),
+                Some(explanation) => told = format!("hbhook: {explanation}\n"),
                 None if status == UNREADABLE => return told,
                 None => {}
             }
         }
         let characters = without_table(script);
         if self.lists && !characters.is_empty() {
-            told += "characters without a `table` line:";
+            told += "hbhook: characters without a `table` line:";
             for character in characters {
                 told += &format!(" {:04X}", u32::from(character));
             }
@@ -169,6 +173,9 @@ fn run(arguments: &[OsString]) -> Result<u8, String> {
         if argument == "--help" || argument == "-h" {
             return Ok(print(USAGE));
         }
+        if argument == "--version" {
+            return Ok(print(concat!("hbhook ", env!("CARGO_PKG_VERSION"), "\n")));
+        }
     }
     let mut task = Task::default();
     let (mut files, mut lines) = (Vec::new(), None);
@@ -176,7 +183,9 @@ fn run(arguments: &[OsString]) -> Result<u8, String> {
     let mut arguments = arguments.iter();
     while let Some(argument) = arguments.next() {
         let is_option = argument.as_encoded_bytes().starts_with(b"-") && argument != "-";
-        if !is_option {
+        if argument == "--" {
+            files.extend(arguments.by_ref());
+        } else if !is_option {
             files.push(argument);
         } else if argument == "--word" || argument == "--lines" {
             task.prints_lines |= argument == "--lines";
@@ -237,13 +246,34 @@ fn lines_of(text: &str) -> Result<String, String> {
     })
 }
 
-// Names an argument that is no option, and the options that ./hbhook has too.
+// Names an argument that is no option, and the options.
 fn no_option(argument: &OsStr) -> String {
     let name = Path::new(argument).display();
-    if argument == "--help" || argument == "-h" {
-        return format!("{name} takes no other argument");
+    if ["--help", "-h", "--version"]
+        .iter()
+        .any(|it| argument == *it)
+    {
+        return format!("{name} takes no other argument (hbhook --help)");
     }
-    format!("there is no option {name}; there are --draw, --text, --why and --word (hbhook --help)")
+    format!(
+        "there is no option {name}; there are --draw, --explain, --help, --lines, --script, \
+         --sound, --text, --version, --why and --word (hbhook --help)"
+    )
+}
+
+// Lines of standard error, each behind the program's name but for the messages that are fixed.
+fn named(told: &[u8]) -> Vec<u8> {
+    let is_fixed =
+        |line: &[u8]| line.starts_with(b"refused: ") || line.ends_with(b": unreadable\n");
+    let lines = told.split_inclusive(|byte| *byte == b'\n');
+    let name = |line| {
+        if is_fixed(line) {
+            &b""[..]
+        } else {
+            b"hbhook: "
+        }
+    };
+    lines.flat_map(|line| [name(line), line].concat()).collect()
 }
 
 fn print(text: &str) -> u8 {

@@ -18,11 +18,15 @@ fn expect_rejected(arguments: &[&str], message: &str) {
 fn rejects_bad_arguments() {
     expect_rejected(&["a", "b"], "one file at most (hbhook --help)");
     expect_rejected(&["--why", "a", "b"], "one file at most (hbhook --help)");
-    expect_rejected(&["--help", "a"], "--help takes no other argument");
+    expect_rejected(
+        &["--help", "a"],
+        "--help takes no other argument (hbhook --help)",
+    );
     for arguments in [&["--what"][..], &["--why", "--what"], &["a", "--what"]] {
         expect_rejected(
             arguments,
-            "there is no option --what; there are --draw, --text, --why and --word (hbhook --help)",
+            "there is no option --what; there are --draw, --explain, --help, --lines, --script, \
+             --sound, --text, --version, --why and --word (hbhook --help)",
         );
     }
     expect_rejected(&["no such file"], "there is no file no such file");
@@ -32,6 +36,26 @@ fn rejects_bad_arguments() {
     expect_rejected(
         &["--draw", folder],
         &format!("{folder} is a folder, not a file of lines"),
+    );
+}
+
+#[test]
+fn prints_its_version() {
+    let run = Run::new(&["--version"], "");
+    let version = std::fs::read_to_string(from_top("VERSION")).unwrap();
+    assert_eq!(run.printed, format!("hbhook {version}"));
+    assert_eq!((run.told.as_str(), run.status), ("", Some(0)));
+}
+
+#[test]
+fn behind_two_dashes_is_no_option() {
+    expect_rejected(&["--", "--draw"], "there is no file --draw");
+    expect_rejected(&["--", "a", "b"], "one file at most (hbhook --help)");
+    let run = Run::new(&["--draw", "--", "-"], "text 41");
+    assert_eq!(run, Run::new(&["--draw"], "text 41"));
+    assert_eq!(
+        Run::new(&["--"], "text 41").printed,
+        "0041 0 00000000 00 0 0 0\n"
     );
 }
 
@@ -89,7 +113,7 @@ fn flags_of_a_text_are_sound_where_that_is_wanted() {
 #[test]
 fn rejects_other_texts() {
     let unknown = Run::new(&["--text", "word"], "");
-    let told = "no script with hooks is known of the text\n";
+    let told = "hbhook: no script with hooks is known of the text\n";
     assert_eq!((unknown.told.as_str(), unknown.status), (told, Some(2)));
     assert!(unknown.printed.is_empty());
     expect_rejected(&["--text"], "a text is missing (hbhook --help)");
@@ -171,14 +195,14 @@ fn ends_as_the_lines_say() {
     assert_eq!(unread.status, Some(2));
     assert_eq!(
         unread.told,
-        "line 2: unreadable\nline 2: expected these fields: set KEY VALUE; the line has 1\n"
+        "line 2: unreadable\nhbhook: line 2: expected these fields: set KEY VALUE; the line has 1\n"
     );
     assert_eq!(unread.printed, "");
     let refused = Run::new(&["--explain"], "set maxlen 0\ntext 41");
     assert_eq!(refused.status, Some(1));
     assert_eq!(
         refused.told,
-        "refused: TooLong\nline 2: refused: more glyphs than `maxlen`, which is 0\n"
+        "refused: TooLong\nhbhook: line 2: refused: more glyphs than `maxlen`, which is 0\n"
     );
     let drawn = Run::new(&["--draw"], "text 41\nset");
     assert_eq!(drawn.status, Some(2));
@@ -193,15 +217,15 @@ fn ends_as_the_lines_say() {
 #[test]
 fn lists_characters_without_a_table_line() {
     let script = "table 41 0 7 1 1 1\ntext 41 42 0E14 42\ntext 43\n";
-    let list = "characters without a `table` line: 0042 0E14 0043\n";
+    let list = "hbhook: characters without a `table` line: 0042 0E14 0043\n";
     let listed = Run::new(&["--why"], script);
     assert_eq!((listed.told.as_str(), listed.status), (list, Some(0)));
     assert_eq!(Run::new(&["--explain"], script).told, "");
     let rejected = Run::new(&["--why"], "text 42\nrun masks");
     assert_eq!(
         rejected.told,
-        "line 2: unreadable\nline 2: expected a line `set shaper` before it\n\
-         characters without a `table` line: 0042\n"
+        "line 2: unreadable\nhbhook: line 2: expected a line `set shaper` before it\n\
+         hbhook: characters without a `table` line: 0042\n"
     );
 }
 
@@ -214,8 +238,8 @@ fn draws_and_explains() {
     assert_eq!(
         both.told,
         "line 2: unreadable\n\
-         line 2: field 2, `U+42`: expected a character such as 42, without U+ or 0x\n\
-         characters without a `table` line: 0041\n"
+         hbhook: line 2: field 2, `U+42`: expected a character such as 42, without U+ or 0x\n\
+         hbhook: characters without a `table` line: 0041\n"
     );
     assert_eq!(
         Run::new(&["--why", "-", "--draw"], "text 41\ntext U+42"),
@@ -224,7 +248,7 @@ fn draws_and_explains() {
     let long = format!("text{}\nset", " 41".repeat(10_001));
     assert_eq!(
         Run::new(&["--draw", "--explain"], &long).told,
-        "refused: TooLong\nline 1: 10001 glyphs are too many to draw; 10000 fit\n"
+        "refused: TooLong\nhbhook: line 1: 10001 glyphs are too many to draw; 10000 fit\n"
     );
 }
 
