@@ -397,6 +397,7 @@ mod tests {
         let pause = Request::Pause(None);
         let requests = [feature(b"pref", F_NONE), pause, feature(b"abvs", F_GLOBAL)];
         let plan = Plan::from_requests(Shaper::Khmer, Script(*b"Khmr"), &requests, &Khmer).unwrap();
+        assert_eq!(plan.script, Some(Script(*b"Khmr")));
         let (map, gsub) = (&plan.ot_map, TableIndex::GSUB);
         assert_eq!(map.global_bits(), 1 << 31);
         assert_eq!(map.one_mask(Tag(*b"abvs")), 1 << 31);
@@ -464,5 +465,15 @@ mod tests {
             error_of(flagged).to_string(),
             "the mask of feature 1 touches a glyph flag"
         );
+        assert_eq!(
+            error_of(long).to_string(),
+            "stage 1 isn't a range of the lookups"
+        );
+        for flag in [1, 2, 4] {
+            let feature = FeatureMap::new(Tag(*b"rlig"), 0x20 | flag, 0);
+            let features = [feature];
+            let flagged = Plan::builder().features(&features);
+            assert_eq!(error_of(flagged), PlanError::FeatureMask(0), "{flag}");
+        }
     }
 }

@@ -208,5 +208,7 @@ mod tests {
         assert_eq!(range.value, range.mask);
         let elsewhere = plan.plan().ot_map.global_bits() & range.mask;
         assert_eq!(elsewhere, 2 << range.mask.trailing_zeros());
+        assert_eq!(plan.try_clone().unwrap(), plan);
+        assert_ne!(plan, plan_of(&[everywhere]));
     }
 }

@@ -23,3 +23,19 @@ impl Pause {
         )
     }
 }
+
+#[cfg(test)]
+mod tests {
+    use super::Pause;
+
+    #[test]
+    fn the_pauses_that_set_syllables_up_read_spans() {
+        let readers = Pause::ALL.into_iter().filter(|pause| pause.reads_spans());
+        assert!(readers.eq([
+            Pause::SetupSyllablesIndic,
+            Pause::SetupSyllablesKhmer,
+            Pause::SetupSyllablesMyanmar,
+            Pause::SetupSyllablesUse,
+        ]));
+    }
+}

@@ -52,3 +52,38 @@ scripts! {
     /// Tibetan.
     TIBETAN = b"Tibt";
 }
+
+#[cfg(test)]
+mod tests {
+    use super::*;
+    use crate::buffer::Direction;
+    use crate::shaper::Shaper;
+
+    // A code that is mistyped is that of no script with a shaper, or of another's.
+    #[test]
+    fn scripts_have_their_shapers() {
+        let shapers = [
+            (Shaper::Arabic, &[ARABIC, SYRIAC][..]),
+            (Shaper::Hangul, &[HANGUL]),
+            (Shaper::Hebrew, &[HEBREW]),
+            (
+                Shaper::Indic,
+                &[
+                    BENGALI, DEVANAGARI, GUJARATI, GURMUKHI, KANNADA, MALAYALAM, ORIYA, TAMIL,
+                    TELUGU,
+                ],
+            ),
+            (Shaper::Khmer, &[KHMER]),
+            (Shaper::Myanmar, &[MYANMAR]),
+            (Shaper::Thai, &[THAI, LAO]),
+            (Shaper::Universal, &[BALINESE, MONGOLIAN, SINHALA, TIBETAN]),
+        ];
+        for (shaper, scripts) in shapers {
+            for (place, script) in scripts.iter().enumerate() {
+                let chosen = Shaper::for_script(*script, Direction::LeftToRight, None);
+                assert_eq!(chosen, Some(shaper), "{script}");
+                assert!(!scripts[..place].contains(script), "{script}");
+            }
+        }
+    }
+}

@@ -114,8 +114,8 @@ impl From<ScriptShaper> for Shaper {
 
 #[cfg(test)]
 mod tests {
-    use super::{Hook, Shaper};
-    use crate::buffer::{Direction, Script};
+    use super::{Composition, Decomposition, Hook, Shaper};
+    use crate::buffer::{Direction, Script, Tag};
 
     #[test]
     fn each_shaper_is_chosen_for_its_script() {
@@ -125,6 +125,41 @@ mod tests {
         let chosen =
             codes.map(|code| Shaper::for_script(Script(*code), Direction::LeftToRight, None));
         assert_eq!(chosen, Shaper::ALL.map(Some));
+    }
+
+    // As HarfBuzz's `hb_ot_shaper_categorize` chooses by direction and by the script of the font.
+    #[test]
+    fn a_shaper_is_chosen_by_direction_and_the_fonts_script_too() {
+        let chosen = |code: &[u8; 4], direction, font: &[u8; 4]| {
+            Shaper::for_script(Script(*code), direction, Some(Tag(*font)))
+        };
+        let (left, down) = (Direction::LeftToRight, Direction::TopToBottom);
+        let right = Direction::RightToLeft;
+        assert_eq!(chosen(b"Arab", right, b"arab"), Some(Shaper::Arabic));
+        assert_eq!(chosen(b"Arab", down, b"arab"), None);
+        assert_eq!(chosen(b"Beng", left, b"bng2"), Some(Shaper::Indic));
+        assert_eq!(chosen(b"Beng", left, b"bng3"), Some(Shaper::Universal));
+        assert_eq!(chosen(b"Beng", left, b"DFLT"), None);
+        assert_eq!(chosen(b"Mymr", left, b"mym2"), Some(Shaper::Myanmar));
+        assert_eq!(chosen(b"Mymr", left, b"mymr"), None);
+    }
+
+    #[test]
+    fn tables_compose_where_there_is_no_hook() {
+        let by_tables = || Some('\u{C5}');
+        let whole = Composition::Whole('\u{9CB}').or_else(by_tables);
+        assert_eq!(whole, Some('\u{9CB}'));
+        assert_eq!(Composition::Apart.or_else(by_tables), None);
+        assert_eq!(Composition::NoHook.or_else(by_tables), Some('\u{C5}'));
+    }
+
+    #[test]
+    fn tables_decompose_where_there_is_no_hook() {
+        let by_tables = || Some(('A', '\u{30A}'));
+        let parts = Decomposition::Parts('\u{9C7}', '\u{9BE}').or_else(by_tables);
+        assert_eq!(parts, Some(('\u{9C7}', '\u{9BE}')));
+        assert_eq!(Decomposition::Whole.or_else(by_tables), None);
+        assert_eq!(Decomposition::NoHook.or_else(by_tables), by_tables());
     }
 
     // The table of hooks in the documentation says what `has_hook` does.

@@ -125,7 +125,8 @@ impl Buffer {
 
 #[cfg(test)]
 mod tests {
-    use crate::buffer::{Buffer, GlyphProps, LigProps, ShaperError};
+    use crate::alloc::{Global, Vec as List};
+    use crate::buffer::{Buffer, GlyphPosition, GlyphProps, LigProps, ShaperError};
     use std::vec::Vec;
 
     fn text() -> Buffer {
@@ -180,6 +181,27 @@ mod tests {
         }
     }
 
+    // HarfBuzz packs a component into four bits.
+    #[test]
+    fn components_have_four_bits() {
+        let mut buffer = text();
+        buffer.replace_range(1..2, &[7; 18]).unwrap();
+        let components = buffer.glyphs()[1..19].iter();
+        let components: Vec<u8> = components.map(|it| it.lig_props.component()).collect();
+        assert_eq!(components, [&Vec::from_iter(0..16)[..], &[0, 1]].concat());
+    }
+
+    // Of a glyph without a ligature's number each new one gets its place, whichever the glyph had.
+    #[test]
+    fn parts_of_a_part_have_their_own_places() {
+        let mut buffer = text();
+        buffer.replace_range(1..2, &[7, 8, 9]).unwrap();
+        buffer.replace_range(3..4, &[5, 6]).unwrap();
+        let components = buffer.glyphs()[1..5].iter();
+        let components: Vec<u8> = components.map(|it| it.lig_props.component()).collect();
+        assert_eq!(components, [0, 1, 0, 1]);
+    }
+
     #[test]
     fn several_glyphs_become_fewer_or_more() {
         let mut buffer = text();
@@ -203,6 +225,15 @@ mod tests {
     }
 
     /// HarfBuzz's `hb_buffer_t::delete_glyph`: the cluster is left where a neighbour has it.
+    // As in a text from right to left: the least cluster stays.
+    #[test]
+    fn the_last_glyph_hands_its_cluster_to_the_one_before() {
+        let mut buffer = Buffer::from("ab");
+        buffer.with_glyphs_mut(|glyphs| glyphs[0].cluster = 2);
+        buffer.replace_range(1..2, &[]).unwrap();
+        assert_eq!(seen(&buffer), [(u32::from('a'), 1, NONE, 0)]);
+    }
+
     #[test]
     fn a_glyph_that_goes_hands_nothing_on_where_a_neighbour_has_its_cluster() {
         for (clusters, place) in [([0, 1, 1, 3], 2), ([0, 1, 1, 3], 1), ([3, 1, 1, 0], 2)] {
@@ -227,6 +258,9 @@ mod tests {
             buffer.replace_range(2..3, &[1, 2, 3]),
             Err(ShaperError::TooLong)
         );
+        assert_eq!(buffer, before);
+        let several = buffer.replace_range(1..3, &[1, 2, 3, 4]);
+        assert_eq!(several, Err(ShaperError::TooLong));
         assert_eq!(buffer, before);
     }
 
@@ -263,5 +297,25 @@ mod tests {
     #[should_panic(expected = "2..2 is no range of a buffer of 4 glyphs")]
     fn nothing_is_no_ligature() {
         text().ligate(2..2, 9);
+    }
+
+    // A text whose glyphs have positions.
+    fn positioned() -> Buffer {
+        let mut buffer = text();
+        let zero = List::from_elem(Global, GlyphPosition::ZERO, 4).unwrap();
+        assert!(buffer.set_positions(zero));
+        buffer
+    }
+
+    #[test]
+    #[should_panic(expected = "the buffer has positions already")]
+    fn nothing_is_replaced_behind_positioning() {
+        let _ = positioned().replace_range(0..1, &[1]);
+    }
+
+    #[test]
+    #[should_panic(expected = "the buffer has positions already")]
+    fn nothing_is_ligated_behind_positioning() {
+        positioned().ligate(0..2, 1);
     }
 }

@@ -103,7 +103,7 @@ named_number! {
 #[cfg(test)]
 mod tests {
     use super::*;
-    use std::string::ToString;
+    use std::string::{String, ToString};
     use std::{format, vec::Vec};
 
     #[test]
@@ -120,6 +120,34 @@ mod tests {
             format!("{:?}", KhmerCategory(khmer::VPre)),
             "KhmerCategory(VPre)"
         );
+    }
+
+    // The numbers of HarfBuzz's `ot_category_t` and of its universal shaper's machine.
+    #[test]
+    fn names_have_harfbuzzs_numbers() {
+        let indic = "X=0 C=1 V=2 N=3 H=4 ZWNJ=5 ZWJ=6 M=7 SM=8 A=9 PLACEHOLDER=10 DOTTEDCIRCLE=11 RS=12 \
+            MPst=13 Repha=14 Ra=15 CM=16 Symbol=17 CS=18 SMPst=57";
+        let khmer = "X=0 C=1 V=2 H=4 ZWNJ=5 ZWJ=6 PLACEHOLDER=10 DOTTEDCIRCLE=11 Ra=15 VAbv=20 VBlw=21 \
+            VPre=22 VPst=23 Robatic=25 Xgroup=26 Ygroup=27";
+        let myanmar = "X=0 C=1 IV=2 DB=3 H=4 ZWNJ=5 ZWJ=6 SM=8 A=9 GB=10 DOTTEDCIRCLE=11 Ra=15 CS=18 \
+            VAbv=20 VBlw=21 VPre=22 VPst=23 As=32 MH=35 MR=36 MW=37 MY=38 PT=39 VS=40 ML=41 SMPst=57";
+        let universal = "O=0 B=1 N=4 GB=5 CGJ=6 SUB=11 H=12 HN=13 ZWNJ=14 WJ=16 R=18 VPre=22 VMPre=23 \
+            FAbv=24 FBlw=25 FPst=26 MAbv=27 MBlw=28 MPst=29 MPre=30 CMAbv=31 CMBlw=32 VAbv=33 VBlw=34 \
+            VPst=35 VMAbv=37 VMBlw=38 VMPst=39 SMAbv=41 SMBlw=42 CS=43 IS=44 FMAbv=45 FMBlw=46 FMPst=47 \
+            Sk=48 G=49 J=50 SB=51 SE=52 HVM=53 HM=54 HR=55 RK=56";
+        let position = "START=0 RA_TO_BECOME_REPH=1 PRE_M=2 PRE_C=3 BASE_C=4 AFTER_MAIN=5 ABOVE_C=6 \
+            BEFORE_SUB=7 BELOW_C=8 AFTER_SUB=9 BEFORE_POST=10 POST_C=11 AFTER_POST=12 SMVD=13 END=14";
+        assert_eq!(named(|number| IndicCategory(number).name()), indic);
+        assert_eq!(named(|number| KhmerCategory(number).name()), khmer);
+        assert_eq!(named(|number| MyanmarCategory(number).name()), myanmar);
+        assert_eq!(named(|number| UniversalCategory(number).name()), universal);
+        assert_eq!(named(|number| IndicPosition(number).name()), position);
+    }
+
+    // Each name with its number, in the numbers' order.
+    fn named(name: impl Fn(u8) -> Option<&'static str>) -> String {
+        let named = (0..=255).filter_map(|number| Some(format!("{}={number}", name(number)?)));
+        named.collect::<Vec<_>>().join(" ")
     }
 
     #[test]

@@ -24,7 +24,7 @@ impl Tables for Letters {
     }
 
     fn use_category(&self, _c: u32) -> Category {
-        0
+        9
     }
 
     fn compose(&self, _a: char, _b: char) -> Option<char> {
@@ -34,6 +34,25 @@ impl Tables for Letters {
     fn decompose(&self, _ab: char) -> Option<(char, char)> {
         None
     }
+}
+
+// What tables return for some characters.
+fn read<T: Tables>(tables: T) -> std::string::String {
+    let read = (
+        tables.joining_type('a'),
+        tables.general_category('\u{0E01}'),
+        tables.indic_categories(0x0E01),
+        tables.use_category(0x0E01),
+        tables.compose('A', '\u{30A}'),
+        tables.decompose('\u{C5}'),
+    );
+    std::format!("{read:?}")
+}
+
+#[test]
+fn tables_are_read_through_references() {
+    let tables: &dyn Tables = &Letters;
+    assert_eq!(read(tables), read(Letters));
 }
 
 fn clusters(buffer: &Buffer) -> List<(u32, u32)> {
@@ -130,6 +149,14 @@ fn contexts_are_kept_as_far_as_five_characters() {
     assert_eq!(buffer.post_context(), ['x', 'y']);
     buffer.set_contexts("", "");
     assert!(buffer.pre_context().is_empty() && buffer.post_context().is_empty());
+}
+
+#[test]
+fn a_limit_below_the_length_counts_as_the_length() {
+    let mut buffer = Buffer::from("abc");
+    let other = Buffer::new(Global, 1);
+    buffer.set_settings(&other.settings());
+    assert_eq!((buffer.max_len(), buffer.len()), (3, 3));
 }
 
 #[test]
