@@ -1,5 +1,5 @@
 #!/usr/bin/env python3
-"""Shapes the same texts with HarfBuzz as it is, with the proved hooks, and with both hooks on each call.
+"""Shapes the same texts with HarfBuzz as it is, with the hooks, and with both hooks on each call.
 
     compare.py OUT cases SOURCE    HarfBuzz's own shaping cases, one process each
     compare.py OUT words ROOT      words of Debian's packages, unpacked in ROOT
@@ -137,11 +137,11 @@ def cases(source):
 def run_case(out, case):
     arguments, expected = case
     printed, tally = shadowed(out, arguments)
-    stock, proved = (run(out, which, arguments).decode().strip() for which in ("stock", "proved"))
+    stock, sengadlit = (run(out, which, arguments).decode().strip() for which in ("stock", "sengadlit"))
     return {
         "arguments": arguments,
-        "same": stock == proved == printed.decode().strip(),
-        "expected": {which: expected in ("*", made) for which, made in (("stock", stock), ("proved", proved))},
+        "same": stock == sengadlit == printed.decode().strip(),
+        "expected": {which: expected in ("*", made) for which, made in (("stock", stock), ("sengadlit", sengadlit))},
         "tally": tally,
     }
 
@@ -167,10 +167,10 @@ def compare_cases(out, source):
     for shaper, row in rows.items():
         tally = row["tally"]
         print(f"| {shaper} | {row['cases']} | {row['same']} | {tally.number(shaper)} | {told(tally.reasons(shaper))} |")
-    wanted = {which: sum(result["expected"][which] for result in results) for which in ("stock", "proved")}
+    wanted = {which: sum(result["expected"][which] for result in results) for which in ("stock", "sengadlit")}
     print()
     print(f"{len(results)} cases, {through} of them through at least one hook; the output is the expected one in "
-          f"{wanted['stock']} as it is, in {wanted['proved']} with the proved hooks")
+          f"{wanted['stock']} as it is, in {wanted['sengadlit']} with the hooks")
     for arguments in failed:
         print("FAILED: hb-shape " + shlex.join(arguments))
     passed = len(results) - len(failed)
@@ -240,13 +240,13 @@ def without_flags(line):
     return re.sub(rb"#[0-9]+", b"", line)
 
 
-def compare_lines(out, arguments, words, stock, proved):
+def compare_lines(out, arguments, words, stock, sengadlit):
     """The words whose output differs: each with its place, its reasons, and whether it is flags alone that differ."""
-    stock, proved = stock.splitlines(), proved.splitlines()
-    if len(stock) != len(words) or len(proved) != len(words):
+    stock, sengadlit = stock.splitlines(), sengadlit.splitlines()
+    if len(stock) != len(words) or len(sengadlit) != len(words):
         return [(0, collections.Counter(), False)]
     differ = []
-    for place, (one, other) in enumerate(zip(stock, proved)):
+    for place, (one, other) in enumerate(zip(stock, sengadlit)):
         if one != other:
             unicodes = ",".join(f"{ord(character):04X}" for character in words[place])
             _, tally = shadowed(out, [*arguments, "--unicodes", unicodes])
@@ -269,8 +269,8 @@ def run_words(out, root, fonts, real, others):
                 if place == 1:
                     arguments += [f"--text-before={real[0] if real else others[0]}", f"--text-after={words[-1]}"]
                 _, counted = shadowed(out, [*arguments, "--text-file", path])
-                stock, proved = (run(out, which, [*arguments, "--text-file", path]) for which in ("stock", "proved"))
-                for number, reasons, is_of_flags in compare_lines(out, arguments, words, stock, proved):
+                stock, sengadlit = (run(out, which, [*arguments, "--text-file", path]) for which in ("stock", "sengadlit"))
+                for number, reasons, is_of_flags in compare_lines(out, arguments, words, stock, sengadlit):
                     differ.append((os.path.basename(font), words[number], reasons, is_of_flags, number < len(real)))
                 tally.add(counted)
                 shaped += len(words)
@@ -326,7 +326,7 @@ def compare_words(out, root):
 # ---- Speed ----
 
 SPEED_SCRIPTS = ["Devanagari", "Tamil", "Hangul", "Sinhala", "Khmer", "Myanmar", "Thai", "Arabic", "Hebrew", "Tibetan"]
-BUILDS = ["stock", "proved", "remembered"]
+BUILDS = ["stock", "sengadlit", "remembered"]
 
 
 def counted(out, which, font, path, iterations, into="/dev/null"):
@@ -359,7 +359,7 @@ def written(folder, name, texts):
 
 def compare_speed(out, root, jobs, scripts):
     """A row of the table: the instructions of each build over the same texts."""
-    print("| script | font | a text is | texts | characters | instructions per text, as it is | proved | results remembered |")
+    print("| script | font | a text is | texts | characters | instructions per text, as it is | sengadlit | results remembered |")
     print("|---|---|---|---|---|---|---|---|", flush=True)
     with tempfile.TemporaryDirectory() as folder, concurrent.futures.ThreadPoolExecutor(jobs) as pool:
         rows = []
@@ -370,14 +370,14 @@ def compare_speed(out, root, jobs, scripts):
                 counts = [[pool.submit(counted, out, which, font, path, n) for n in (3, 1)] for which in BUILDS]
                 rows.append((script, os.path.basename(font), kind, some, counts))
         for script, font, kind, texts, counts in rows:
-            stock, proved, remembered = ((three.result() - one.result()) / 2 for three, one in counts)
+            stock, sengadlit, remembered = ((three.result() - one.result()) / 2 for three, one in counts)
             characters = sum(map(len, texts))
             print(f"| {script} | {font} | {kind} | {len(texts)} | {characters} | {stock / len(texts):.0f} | "
-                  f"{proved / stock:.3f} | {remembered / stock:.3f} |", flush=True)
+                  f"{sengadlit / stock:.3f} | {remembered / stock:.3f} |", flush=True)
     return True
 
 
-# The hooks, and the functions that run them: HarfBuzz's own, and those of proved.cc.
+# The hooks, and the functions that run them: HarfBuzz's own, and those of sengadlit.cc.
 OURS = r"proved_hooks_t<\d+u>::"
 THEIRS = r"_(arabic|hangul|hebrew|indic|khmer|myanmar|thai|use)"
 HOOKS = {hook: re.compile(rf"(bool |void )?({OURS}{name}|{name}{THEIRS}|{pauses})\(.*") for hook, name, pauses in (
@@ -429,19 +429,19 @@ def costs_per_text(out, which, font, path, texts, folder):
     return [{name: (many[name] - once[name]) / 2 / texts for name in many} for many, once in zip(*told)]
 
 
-def print_functions(script, texts, stock, proved):
+def print_functions(script, texts, stock, sengadlit):
     """The hooks, with all that they call, and the functions whose own instructions are most."""
     characters = sum(map(len, texts)) / len(texts)
-    print(f"\n{script}: {len(texts)} words of {characters:.1f} characters\n\n| hook, with all that it calls | as it is | proved |\n|---|---|---|")
-    left = [sum(own.values()) for own, _ in (stock, proved)]
+    print(f"\n{script}: {len(texts)} words of {characters:.1f} characters\n\n| hook, with all that it calls | as it is | sengadlit |\n|---|---|---|")
+    left = [sum(own.values()) for own, _ in (stock, sengadlit)]
     print(f"| all of shaping | {left[0]:.0f} | {left[1]:.0f} |")
     for hook, names in HOOKS.items():
-        sums = [sum(cost for name, cost in whole.items() if names.fullmatch(name)) for _, whole in (stock, proved)]
+        sums = [sum(cost for name, cost in whole.items() if names.fullmatch(name)) for _, whole in (stock, sengadlit)]
         left = [rest - found for rest, found in zip(left, sums)]
         if any(sums):
             print(f"| {hook} | {sums[0]:.0f} | {sums[1]:.0f} |")
-    print(f"| the rest | {left[0]:.0f} | {left[1]:.0f} |\n\n| function, alone | as it is | proved |\n|---|---|---|")
-    functions = {name: (stock[0].get(name, 0), proved[0].get(name, 0)) for name in {**stock[0], **proved[0]}}
+    print(f"| the rest | {left[0]:.0f} | {left[1]:.0f} |\n\n| function, alone | as it is | sengadlit |\n|---|---|---|")
+    functions = {name: (stock[0].get(name, 0), sengadlit[0].get(name, 0)) for name in {**stock[0], **sengadlit[0]}}
     for name, (one, other) in sorted(functions.items(), key=lambda item: -abs(item[1][0] - item[1][1])):
         if abs(one - other) >= 10:
             short = re.sub(r"sengadlit_lending::(generated::)?|\(.*", "", name)
@@ -456,7 +456,7 @@ def compare_functions(out, root, jobs, scripts):
             font, texts = texts_of(root, script)
             words = texts["a word"][::10]
             path = written(folder, script, words)
-            found = [pool.submit(costs_per_text, out, which, font, path, len(words), folder) for which in ("stock", "proved")]
+            found = [pool.submit(costs_per_text, out, which, font, path, len(words), folder) for which in ("stock", "sengadlit")]
             rows.append((script, words, found))
         for script, words, found in rows:
             print_functions(script, words, *(costs.result() for costs in found))

@@ -1,4 +1,4 @@
-/* The pauses: set-ups of syllables, reorderings and the rest. Included by proved.cc alone. */
+/* The pauses: set-ups of syllables, reorderings and the rest. Included by sengadlit.cc alone. */
 
 /* HarfBuzz's functions for a pause. */
 struct pause_t

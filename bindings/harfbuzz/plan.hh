@@ -1,4 +1,4 @@
-/* The plan, the callbacks, and the lists of features. Included by proved.cc alone. */
+/* The plan, the callbacks, and the lists of features. Included by sengadlit.cc alone. */
 
 #ifdef SENGADLIT_REMEMBERS
 /* What the face returned for up to three glyphs. */

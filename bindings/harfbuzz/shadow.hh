@@ -1,5 +1,5 @@
 /* Both hooks on each call: HarfBuzz's own runs first, the buffer is put back, ours runs, and every field is compared.
-   What ours made stays. Included by proved.cc alone, with SENGADLIT_SHADOW.
+   What ours made stays. Included by sengadlit.cc alone, with SENGADLIT_SHADOW.
 
    When the program ends, what was counted is added to the file that the environment names in SENGADLIT_SHADOW, a line
    for each shaper, hook and reason: `count SHAPER HOOK REASON CALLS`, where the reason `same` is none; and each

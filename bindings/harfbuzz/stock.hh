@@ -1,4 +1,4 @@
-/* HarfBuzz's nine files, their shapers renamed. Included by proved.cc alone. */
+/* HarfBuzz's nine files, their shapers renamed. Included by sengadlit.cc alone. */
 
 /* ---- HarfBuzz's own shapers ---- */
 

@@ -1,4 +1,4 @@
-/* HarfBuzz's glyphs, lent to the library's buffer. Included by proved.cc alone.
+/* HarfBuzz's glyphs, lent to the library's buffer. Included by sengadlit.cc alone.
 
    The library's glyph is HarfBuzz's, byte for byte: number, mask, cluster, and the two words, in which HarfBuzz 6.0.0 and
    12.3.2 keep the same things in the same bits. So nothing is copied, and whatever a hook doesn't read stays. */

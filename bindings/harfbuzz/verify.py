@@ -1,5 +1,5 @@
 #!/usr/bin/env python3
-"""Breaks words where no flag forbids it, by `hb-shape --verify`, with HarfBuzz as it is, with the proved hooks and with
+"""Breaks words where no flag forbids it, by `hb-shape --verify`, with HarfBuzz as it is, with the hooks and with
 their sound flags.
 
     verify.py OUT ROOT
@@ -81,7 +81,7 @@ WORDS = [
     ("Balinese", BALINESE, "1B13 1B13", 0, (True, True, False)),
     ("Balinese, three", BALINESE, "1B13 1B13 1B13", 0, (True, True, False)),
 ]
-BUILDS = ("stock", "proved", "sound")
+BUILDS = ("stock", "sengadlit", "sound")
 
 
 def differs(out, which, path, word, level):

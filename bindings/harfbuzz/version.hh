@@ -1,4 +1,4 @@
-/* What HarfBuzz 12 has otherwise than 6.0.0. Included by proved.cc alone. */
+/* What HarfBuzz 12 has otherwise than 6.0.0. Included by sengadlit.cc alone. */
 
 #if HB_VERSION_ATLEAST (12, 0, 0)
 

@@ -54,19 +54,19 @@ def shaped(program, lines):
     return done.stdout.decode().splitlines()
 
 
-def kind_of(stock, proved):
+def kind_of(stock, sengadlit):
     """The greatest kind of difference of two outputs."""
-    return next((kind for kind in KINDS if fields(stock, kind) != fields(proved, kind)), "positions")
+    return next((kind for kind in KINDS if fields(stock, kind) != fields(sengadlit, kind)), "positions")
 
 
 def compare(program, lines):
     counts, shortest = collections.defaultdict(collections.Counter), {}
     for line, told in zip(lines, shaped(program, lines), strict=True):
-        reasons, stock, proved = line[6:]
-        kind = kind_of(stock, proved)
+        reasons, stock, sengadlit = line[6:]
+        kind = kind_of(stock, sengadlit)
         if kind == "positions" or stock.startswith("panic"):
             continue
-        ours, theirs, here = (fields(one, kind) for one in (proved, stock, told))
+        ours, theirs, here = (fields(one, kind) for one in (sengadlit, stock, told))
         side = "hooks" if here == ours else "stock" if here == theirs else "neither"
         counts[reasons, kind][side] += 1
         if side == "stock":

@@ -1,12 +1,12 @@
 # shellcheck shell=sh disable=SC2154
 # What bindings/harfrust/build and bindings/rustybuzz/build do; they source this file. They set $here, their folder; $crate
 # and $version, which the edits are made for; $package, Debian's package of it; $needs, the packages of what it builds with.
-# Everything goes to $out/$crate:
+# Everything goes to $built/$crate:
 #
-#   proved      the crate with the hooks, of the same version; with the feature `shadow` its own hooks are compiled too, and
+#   sengadlit   the crate with the hooks, of the same version; with the feature `shadow` its own hooks are compiled too, and
 #               compared with
 #   stock       the crate as it is, but for its version, VERSION+stock, so that one program can have both
-#   sengadlit   rust/sengadlit of this repository (a link)
+#   hooks       rust/sengadlit of this repository (a link)
 #   both        an empty crate that depends on both
 #   show        a program that shapes a text by both
 #
@@ -21,7 +21,7 @@ failed=0
 
 # shellcheck source=bindings/hooks/debian.sh
 . "$hooks/debian.sh"
-made=$out/$crate
+made=$built/$crate
 
 stop() {
     echo "bindings/$crate/build: $*" >&2
@@ -104,11 +104,11 @@ copy_stock() {
         put "$made/new" "$made/stock"
 }
 
-copy_proved() {
-    glue=$made/new/src/hb/ot_shaper_proved
+copy_sengadlit() {
+    glue=$made/new/src/hb/ot_shaper_sengadlit
     copy_crate && python3 "$hooks/edit.py" "$here/edits" "$made/new" &&
         mkdir "$glue" && cp "$hooks/shaper.rs" "$glue.rs" && cp -r "$here"/parts* "$hooks/shadow.rs" "$glue" &&
-        put "$made/new" "$made/proved"
+        put "$made/new" "$made/sengadlit"
 }
 
 # What cargo builds offline: the registry of Debian's packages, and a crate that depends on both.
@@ -131,10 +131,10 @@ edition = "2021"
 
 [dependencies]
 stock = { package = "$crate", path = "../stock" }
-proved = { package = "$crate", path = "../proved" }
+sengadlit = { package = "$crate", path = "../sengadlit" }
 
 [features]
-shadow = ["proved/shadow"]
+shadow = ["sengadlit/shadow"]
 END
 }
 
@@ -149,7 +149,7 @@ wanted_rustc() {
         locked | while read -r name; do
             [ ! -f "$registry/$name/Cargo.toml" ] || sed -n 's/^rust-version = "\(.*\)"/\1/p' "$registry/$name/Cargo.toml"
         done
-        sed -n 's/^rust-version = "\(.*\)"/\1/p' "$made/proved/Cargo.toml" "$top/rust/sengadlit/Cargo.toml"
+        sed -n 's/^rust-version = "\(.*\)"/\1/p' "$made/sengadlit/Cargo.toml" "$top/rust/sengadlit/Cargo.toml"
     } | sort -V | tail -n 1
 }
 
@@ -177,11 +177,11 @@ without_warnings() {
 finish() {
     cat <<END
 
-$made/proved
+$made/sengadlit
 is $crate $version with the hooks. A project takes it with these two lines in its Cargo.toml:
 
     [patch.crates-io]
-    $crate = { path = "$made/proved" }
+    $crate = { path = "$made/sengadlit" }
 
 It is in force where \`cargo tree -i sengadlit\` lists the project. Next: $1
 END
@@ -231,13 +231,13 @@ elif [ -z "$copies" ]; then
 fi
 version=$(version_of "$from")
 [ "$version" = "$known" ] || echo "$from is $crate ${version:-of no version}: the edits, made for $known, are tried"
-if ! step 'the copy with the hooks is edited' copy_proved; then
+if ! step 'the copy with the hooks is edited' copy_sengadlit; then
     [ -n "$given" ] || [ "$version" = "$known" ] || skip "Debian has $crate $version, and the edits are made for $known"
     echo "$passed passed, $failed failed"
     exit 1
 fi
 need 'the crate as it is is copied' copy_stock
-ln -sfn "$top/rust/sengadlit" "$made/sengadlit" || stop "there is no room for $made/sengadlit"
+ln -sfn "$top/rust/sengadlit" "$made/hooks" || stop "there is no room for $made/hooks"
 need 'manifests are written' write_manifests
 [ -n "$copies" ] && [ -n "$given" ] || look_at_rustc
 [ -z "$copies" ] || finish "bindings/$crate/test"

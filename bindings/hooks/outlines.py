@@ -1,5 +1,5 @@
 #!/usr/bin/env python3
-"""Draws what `show --numbers` printed: outlines.py FONT NAME reads its lines, and writes NAME-stock.svg and NAME-proved.svg.
+"""Draws what `show --numbers` printed: outlines.py FONT NAME reads its lines, and writes NAME-stock.svg and NAME-sengadlit.svg.
 
 Both pictures have one size and one baseline. Glyphs that only one of them has are coloured. FONT has outlines of TrueType.
 """
@@ -10,7 +10,7 @@ import struct
 import sys
 
 GLYPH = re.compile(r"(\d+)=\d+(?:@(-?\d+),(-?\d+))?\+(\d+)(?:#\w+)?")
-COLOURS = {"stock": "#d55e00", "proved": "#0072b2"}
+COLOURS = {"stock": "#d55e00", "sengadlit": "#0072b2"}
 MARGIN, HEIGHT = 60, 90
 
 
@@ -139,7 +139,7 @@ def main(font, name):
     left, right = min(it[0] for it in extents) - MARGIN, max(it[1] for it in extents) + MARGIN
     foot, top = min(it[2] for it in extents) - MARGIN, max(it[3] for it in extents) + MARGIN
     box = left, -top, right - left, top - foot
-    for which, other in (("stock", "proved"), ("proved", "stock")):
+    for which, other in (("stock", "sengadlit"), ("sengadlit", "stock")):
         with open(f"{name}-{which}.svg", "w", encoding="ascii") as file:
             for line in draw(font, which, glyphs[which], glyphs[other], box):
                 print(line, file=file)

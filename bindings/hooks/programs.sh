@@ -1,11 +1,11 @@
 # shellcheck shell=sh disable=SC2154
 # What test.sh and speed.sh, which source this file, have in common: texts, and the programs of bindings/hooks/programs for a
 # crate that `build` has copied. They set $here, the folder of the crate, and $crate. Beside what `build` makes there is
-# then in $out/$crate:
+# then in $built/$crate:
 #
 #   reasons     the crate as it is, with the known differences edited away, each by its name
-#   programs    compare, show, shape_stock, shape_proved and the tests of the faults
-#   show        the program, as it was built last
+#   programs    compare, show, shape_stock, shape_sengadlit and the tests of the faults
+#   show        the program, as it was built last; show-sound, with the copy's feature `sound-breaks`
 
 hooks=$(dirname "$here")/hooks
 passed=0
@@ -13,8 +13,8 @@ failed=0
 
 # shellcheck source=bindings/hooks/debian.sh
 . "$hooks/debian.sh"
-made=$out/$crate
-texts=$out/texts
+made=$built/$crate
+texts=$built/texts
 export SENGADLIT_FONTS="$root/usr/share/fonts"
 
 # shellcheck source=bindings/hooks/texts.sh
@@ -82,11 +82,11 @@ write_programs() {
     copy "$hooks"/programs/*.rs "$here/calls.rs" "$made/programs/src" && copy "$here/faults.rs" "$made/programs/tests" || return
     {
         printf '[package]\nname = "programs"\nversion = "0.0.0"\nedition = "2021"\nautobins = false\n\n'
-        printf '[lib]\npath = "src/lib.rs"\n\n[features]\nshadow = ["proved/shadow"]\n\n[dependencies]\n'
-        for which in stock proved reasons; do
+        printf '[lib]\npath = "src/lib.rs"\n\n[features]\nshadow = ["sengadlit/shadow"]\nsound = ["sengadlit/sound-breaks"]\n\n[dependencies]\n'
+        for which in stock sengadlit reasons; do
             printf '%s = { package = "%s", path = "../%s" }\n' "$which" "$crate" "$which"
         done
-        for binary in compare show shape_stock shape_proved; do
+        for binary in compare show shape_stock shape_sengadlit; do
             program "$binary"
         done
     } >"$made/programs/Cargo.toml"
@@ -99,9 +99,9 @@ build() {
     (cd "$made/programs" && cargo build --offline --release --target-dir "$made/both/$folder" "$@")
 }
 
-# keep_show FOLDER: puts `show` where it is found after every build.
+# keep_show FOLDER [NAME]: puts `show` where it is found after every build, by this name.
 keep_show() {
-    cp "$made/both/$1/release/show" "$made/show.new" && mv "$made/show.new" "$made/show"
+    cp "$made/both/$1/release/show" "$made/show.new" && mv "$made/show.new" "$made/${2-show}"
 }
 
-[ -f "$made/stock/Cargo.toml" ] && [ -f "$made/proved/Cargo.toml" ] || stop "there is no $made: run bindings/$crate/build first"
+[ -f "$made/stock/Cargo.toml" ] && [ -f "$made/sengadlit/Cargo.toml" ] || stop "there is no $made: run bindings/$crate/build first"

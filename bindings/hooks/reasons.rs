@@ -1,4 +1,4 @@
-//! Which reasons are in force. Each edit of this copy makes the crate do what the proved hooks do
+//! Which reasons are in force. Each edit of this copy makes the crate do what the hooks do
 //! where the two are known to differ, and has a name; it acts where its name is in force in the
 //! thread.
 

@@ -199,11 +199,11 @@ pub(super) fn compare<A: PartialEq>(
     buffer: &hb_buffer_t,
     answers: [A; 2],
 ) {
-    let by_proved = Snapshot::of(buffer);
-    let fields = by_stock.compare(&by_proved) | u32::from(answers[0] != answers[1]) << 11;
+    let by_hooks = Snapshot::of(buffer);
+    let fields = by_stock.compare(&by_hooks) | u32::from(answers[0] != answers[1]) << 11;
     count(shaper, hook, fields, || {
         let setting = format!("level {:?} flags {:x}", buffer.cluster_level, buffer.flags.bits());
-        format!("{setting}\n  before {}\n  stock  {}\n  proved {}", before.show(), by_stock.show(), by_proved.show())
+        format!("{setting}\n  before    {}\n  stock     {}\n  sengadlit {}", before.show(), by_stock.show(), by_hooks.show())
     });
 }
 
@@ -212,20 +212,20 @@ pub(super) fn compare<A: PartialEq>(
 /// What is kept with a plan: the number of its shaper, and what both make.
 struct Kept {
     shaper: usize,
-    proved: Box<dyn Any + Send + Sync>,
+    sengadlit: Box<dyn Any + Send + Sync>,
     stock: Option<Box<dyn Any + Send + Sync>>,
 }
 
 pub fn create_data<const S: usize>(plan: &hb_ot_shape_plan_t) -> Box<dyn Any + Send + Sync> {
     let stock = STOCK[S].create_data.map(|create_data| create_data(plan));
-    Box::new(Kept { shaper: S, proved: super::create_data::<S>(plan), stock })
+    Box::new(Kept { shaper: S, sengadlit: super::create_data::<S>(plan), stock })
 }
 
 /// What is kept of this type.
 pub fn kept<T: 'static>(data: &(dyn Any + Send + Sync)) -> Option<&T> {
     let Some(kept) = data.downcast_ref::<Kept>() else { return data.downcast_ref() };
     let of_stock = || kept.stock.as_ref()?.downcast_ref();
-    kept.proved.downcast_ref().or_else(of_stock).or_else(|| data.downcast_ref())
+    kept.sengadlit.downcast_ref().or_else(of_stock).or_else(|| data.downcast_ref())
 }
 
 // ---- Hooks ----

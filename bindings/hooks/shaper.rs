@@ -39,7 +39,7 @@ pub mod parts;
 pub mod shadow;
 
 #[cfg(not(feature = "shadow"))]
-use super::ot_shaper_proved as hooks;
+use super::ot_shaper_sengadlit as hooks;
 use parts::{Codepoint, FontRef, Info, Ucd};
 #[cfg(feature = "shadow")]
 use shadow as hooks;

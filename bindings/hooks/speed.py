@@ -4,7 +4,7 @@
     speed.py TEXTS ROOT RELEASE LTO [SCRIPT]..
     speed.py --functions words|lines kept|anew TEXTS ROOT RELEASE SCRIPT..
 
-RELEASE and LTO are folders with shape_stock and shape_proved, built with cargo's release profile, and with fat lto and one
+RELEASE and LTO are folders with shape_stock and shape_sengadlit, built with cargo's release profile, and with fat lto and one
 unit. Of each script its 300 words and their lines of ten are shaped with its first font, once and three times: the half of
 the difference is the cost of one time, without set-up. The last two columns are of a new buffer and plan for each text, as
 usvg calls, with the release profile. JOBS processes run at once (by default 2).
@@ -44,11 +44,11 @@ def row(folders, root, texts, script, font, kind):
         lines = file.read().splitlines()
     calls = [(folders[0], "kept"), (folders[1], "kept"), (folders[0], "anew")]
     counts = [
-        [instructions(f"{folder}/shape_{which}", f"{root}/{font}", path, how) for which in ("stock", "proved")] for folder, how in calls
+        [instructions(f"{folder}/shape_{which}", f"{root}/{font}", path, how) for which in ("stock", "sengadlit")] for folder, how in calls
     ]
     cells = [script, os.path.basename(font), {"words": "a word", "lines": "ten words"}[kind], str(sum(map(len, lines)))]
-    for stock, proved in counts:
-        cells += [f"{stock / len(lines):.0f}", f"{proved / stock:.3f}"]
+    for stock, sengadlit in counts:
+        cells += [f"{stock / len(lines):.0f}", f"{sengadlit / stock:.3f}"]
     return "| " + " | ".join(cells) + " |"
 
 
@@ -86,11 +86,11 @@ def functions(folder, root, texts, script, font, kind, how):
     """The lines that tell the functions of a script's texts."""
     path = f"{texts}/{script}.{kind}"
     count = len(pathlib.Path(path).read_text(encoding="utf-8").splitlines())
-    stock, proved = (functions_of(f"{folder}/shape_{which}", f"{root}/{font}", path, how, count) for which in ("stock", "proved"))
-    sums = [sum(own for own, _ in side.values()) for side in (stock, proved)]
+    stock, sengadlit = (functions_of(f"{folder}/shape_{which}", f"{root}/{font}", path, how, count) for which in ("stock", "sengadlit"))
+    sums = [sum(own for own, _ in side.values()) for side in (stock, sengadlit)]
     yield f"{script}, {kind}, {how}: {sums[0]:.0f} as it is, {sums[1]:.0f} with the hooks, {sums[1] / sums[0]:.3f}"
     yield "   more   as it is  with hooks      with all that it calls"
-    sides = [(name, stock.get(name, (0, 0)), proved.get(name, (0, 0))) for name in stock | proved]
+    sides = [(name, stock.get(name, (0, 0)), sengadlit.get(name, (0, 0))) for name in stock | sengadlit]
     for name, (own, all_of_it), (own_here, all_here) in sorted(sides, key=lambda side: side[1][0] - side[2][0]):
         if abs(own_here - own) * 1000 >= sums[0]:
             yield f"{own_here - own:+7.0f} {own:10.0f} {own_here:11.0f} {all_of_it:10.0f} {all_here:10.0f}  {name}"

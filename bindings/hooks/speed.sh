@@ -10,7 +10,7 @@ command -v valgrind >/dev/null 2>&1 || stop 'there is no valgrind'
     fetch_texts >"$made/step.log" 2>&1 </dev/null || skip "words and fonts: $(tail -n 1 "$made/step.log")"
     need 'the copy with the reasons is edited' copy_reasons
     need 'the programs are written' write_programs
-    need 'the programs are built, with the release profile' build target --bin shape_stock --bin shape_proved
+    need 'the programs are built, with the release profile' build target --bin shape_stock --bin shape_sengadlit
 } >&2
 release=$made/both/target/release
 if [ "${1-}" = --functions ]; then
@@ -20,5 +20,5 @@ if [ "${1-}" = --functions ]; then
     exec python3 "$hooks/speed.py" --functions "$of" "$how" "$texts" "$root" "$release" "$@"
 fi
 export CARGO_PROFILE_RELEASE_LTO=fat CARGO_PROFILE_RELEASE_CODEGEN_UNITS=1
-need 'the programs are built, with fat lto and one unit' build target/lto --bin shape_stock --bin shape_proved >&2
+need 'the programs are built, with fat lto and one unit' build target/lto --bin shape_stock --bin shape_sengadlit >&2
 exec python3 "$hooks/speed.py" "$texts" "$root" "$release" "$made/both/target/lto/release" "$@"

@@ -2,8 +2,8 @@
 # What bindings/harfrust/test and bindings/rustybuzz/test do; they source this file, with $here, their folder, and $crate.
 # With `--every N` each Nth text alone is shaped; with `--quick` each 100th, by programs that are built sooner, and no client
 # is built; with `--shadow` all, by the copy that runs both versions of each hook on each call, and the fields that differ are
-# told; with `--clients` the clients alone are tested; with `--show` nothing is tested, and `show` is built. The last line is
-# 'N passed, M failed', or 'skipped: WHY' with status 77.
+# told; with `--clients` the clients alone are tested; with `--show` nothing is tested, and `show` is built, with `--sound` the
+# one of the copy's feature `sound-breaks`. The last line is 'N passed, M failed', or 'skipped: WHY' with status 77.
 
 # shellcheck source=bindings/hooks/programs.sh
 . "$(dirname "$here")/hooks/programs.sh"
@@ -27,7 +27,11 @@ case $mode in
     target=target/shadow
     options='--features shadow'
     ;;
-*) stop 'test [--every N | --quick | --shadow | --clients | --show]' ;;
+--sound)
+    target=target/sound
+    options='--features sound'
+    ;;
+*) stop 'test [--every N | --quick | --shadow | --clients | --show | --sound]' ;;
 esac
 
 # faults: the tests of the faults, by cargo.
@@ -62,7 +66,7 @@ not_in_force() {
 # patch PROJECT: puts the copy in force there.
 patch() {
     grep -q '^\[patch.crates-io\]' "$1/Cargo.toml" || printf '\n[patch.crates-io]\n' >>"$1/Cargo.toml"
-    printf '%s = { path = "%s" }\n' "$crate" "$made/proved" >>"$1/Cargo.toml"
+    printf '%s = { path = "%s" }\n' "$crate" "$made/sengadlit" >>"$1/Cargo.toml"
 }
 
 # draws PROJECT TEXT: whether the project's program prints what has this text in it.
@@ -94,8 +98,18 @@ END
 # Whether the README's pictures are those that bindings/fault draws.
 draws_pictures() {
     "$hooks/../fault" --draw "$made" bengali || return
-    for which in stock proved; do
+    for which in stock sengadlit; do
         cmp "$made/bengali-$which.svg" "$hooks/../../docs/pictures/bengali-$which.svg" || return
+    done
+}
+
+# Whether bindings/fault shows of these both what the crate as it is gives and what is mended.
+shows_mended() {
+    for fault in syriac myanmar; do
+        "$hooks/../fault" "$fault" >"$made/fault.log" || return
+        cat "$made/fault.log"
+        stock=$(sed -n 's/^stock *//p' "$made/fault.log" | head -n 2)
+        [ -n "$stock" ] && [ "$stock" != "$(sed -n 's/^sengadlit *//p' "$made/fault.log" | head -n 2)" ] || return
     done
 }
 
@@ -105,6 +119,7 @@ test_hooks() {
     need 'the programs are built' build "$target" $options
     need 'show is kept' keep_show "$target"
     [ "$crate" != harfrust ] || step "the README's pictures" draws_pictures
+    [ "$crate" != harfrust ] || step 'what flags and choices mend is shown' shows_mended
     if step 'the faults, both sides of each' faults; then
         tests=$(sed -n 's/^test result: ok\. \([0-9]*\) passed; 0 failed.*/\1/p' "$made/step.log" | tail -n 1)
         passed=$((passed + ${tests:-1} - 1))
@@ -116,18 +131,23 @@ test_hooks() {
 
 case $mode in
 --show) ;;
---quick) echo "$crate is tested in $out: three minutes of processor time, 1 GB" ;;
---clients) echo "clients of $crate are built and tested in $out: some ten minutes of processor time, 1 GB" ;;
-*) echo "$crate is tested in $out: some twenty minutes of processor time, 2 GB" ;;
+--quick) echo "$crate is tested in $made: three minutes of processor time, 1 GB" ;;
+--clients) echo "clients of $crate are built and tested in $made: some ten minutes of processor time, 1 GB" ;;
+*) echo "$crate is tested in $made: some twenty minutes of processor time, 2 GB" ;;
 esac
 version=$(sed -n 's/^version = "\(.*\)+stock"/\1/p' "$made/stock/Cargo.toml")
-[ "$mode" = --show ] || fetch_texts >"$made/step.log" 2>&1 </dev/null || skip "words and fonts: $(tail -n 1 "$made/step.log")"
+[ "$mode" = --show ] || [ "$mode" = --sound ] || fetch_texts >"$made/step.log" 2>&1 </dev/null || skip "words and fonts: $(tail -n 1 "$made/step.log")"
 need 'the copy with the reasons is edited' copy_reasons
 need 'the programs are written' write_programs
 case $mode in
 --show)
     need 'show is built' build "$target" --bin show
     need 'show is kept' keep_show "$target"
+    ;;
+--sound)
+    # shellcheck disable=SC2086
+    need 'show is built, with sound breaks' build "$target" $options --bin show
+    need 'it is kept' keep_show "$target" show-sound
     ;;
 --clients) test_clients ;;
 --all)

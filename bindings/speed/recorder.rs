@@ -93,17 +93,17 @@ fn fill(buffer: &mut hb_buffer_t, from: &hb_buffer_t) {
 /// What is kept with a plan: the number of its shaper, and what the hooks keep.
 struct Kept {
     shaper: usize,
-    proved: Box<dyn Any + Send + Sync>,
+    sengadlit: Box<dyn Any + Send + Sync>,
 }
 
 pub fn create_data<const S: usize>(plan: &hb_ot_shape_plan_t) -> Box<dyn Any + Send + Sync> {
-    Box::new(Kept { shaper: S, proved: super::create_data::<S>(plan) })
+    Box::new(Kept { shaper: S, sengadlit: super::create_data::<S>(plan) })
 }
 
 /// What is kept of this type: rustybuzz's own is found at once, as in rustybuzz.
 #[inline]
 pub fn kept<T: 'static>(data: &(dyn Any + Send + Sync)) -> Option<&T> {
-    data.downcast_ref().or_else(|| data.downcast_ref::<Kept>()?.proved.downcast_ref())
+    data.downcast_ref().or_else(|| data.downcast_ref::<Kept>()?.sengadlit.downcast_ref())
 }
 
 pub fn preprocess_text<const S: usize>(plan: &hb_ot_shape_plan_t, font: FontRef, buffer: &mut hb_buffer_t) {

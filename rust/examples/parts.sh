@@ -1,7 +1,7 @@
 # shellcheck shell=sh disable=SC2034,SC2154
 # What the scripts of this folder, which source this file, have in common: they set $here, this folder. Everything that they
 # fetch and build is in the folder $SENGADLIT_HOOKS of the bindings, by default ~/.cache/sengadlit/hooks, where the crates of
-# Debian's unstable are shared with them.
+# Debian's unstable are shared with them. What they build is of this clone alone (bindings/hooks/debian.sh).
 
 examples=$here
 top=$(dirname "$(dirname "$examples")")
@@ -10,7 +10,7 @@ failed=0
 here=$top/bindings/hooks
 # shellcheck source=bindings/hooks/debian.sh
 . "$here/debian.sh"
-made=$out/examples
+made=$built/examples
 programs=$made/target/release
 needs='librust-bytemuck-dev/sid librust-bytemuck-derive-dev/sid librust-font-types-dev/sid librust-proc-macro2-dev/sid
     librust-once-cell-dev/sid librust-quote-dev/sid librust-read-fonts-dev/sid librust-syn-dev/sid librust-unicode-ident-dev/sid'

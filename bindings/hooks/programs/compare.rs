@@ -1,17 +1,17 @@
 //! compare TEXTS ROOT [--script NAME] [--every N] [--show N] [--list FILE]: shapes the texts of TEXTS
-//! (bindings/hooks/texts) with the fonts in ROOT, by the crate as it is and by the proved one: at
+//! (bindings/hooks/texts) with the fonts in ROOT, by the crate as it is and with the hooks: at
 //! each cluster level, with several flags, with contexts and with features of the user's.
 //! `--script` takes one script, `--every` each Nth text, `--show` prints N differences of each
 //! script, and `--list` writes all, a line each: font, level, flags, whether with contexts and with
 //! features, code points, reasons, both outputs, separated by tabs.
 //!
 //! A difference is explained where the crate as it is, with the known differences edited away,
-//! gives what the proved one gives; its reasons are the edits that this takes. A table goes to
+//! gives what the hooks give; its reasons are the edits that this takes. A table goes to
 //! standard output, by script, and a list of reasons, each with its first text. The last line is 'N
-//! passed, M failed': M outputs differ without a reason. With the feature `shadow` the proved crate
+//! passed, M failed': M outputs differ without a reason. With the feature `shadow` the crate with the hooks
 //! runs both versions of each hook on each call, and the fields that differ are told.
 
-use programs::{proved, put_in_force, reasons, stock, Setting, Shaped, LEVELS, NORMALIZES, REASONS};
+use programs::{put_in_force, reasons, sengadlit, stock, Setting, Shaped, LEVELS, NORMALIZES, REASONS};
 use std::collections::BTreeMap;
 use std::fs;
 use std::path::{Path, PathBuf};
@@ -156,12 +156,12 @@ fn with_reasons(names: &[&'static str], font: &[u8], texts: &[&str], setting: &S
     reasons::shape_texts(font, texts, setting)
 }
 
-/// The reasons of each difference: as few edits as give what the proved crate gives; the first names
+/// The reasons of each difference: as few edits as give what the hooks give; the first names
 /// of [`REASONS`] are left out first. None where all together don't.
-fn explain(font: &[u8], texts: &[&str], setting: &Setting, proved: &[Shaped]) -> Vec<Vec<&'static str>> {
+fn explain(font: &[u8], texts: &[&str], setting: &Setting, sengadlit: &[Shaped]) -> Vec<Vec<&'static str>> {
     let all = with_reasons(REASONS, font, texts, setting);
     let mut sets: Vec<Vec<&'static str>> = Vec::new();
-    sets.extend((0..texts.len()).map(|place| match all[place] == proved[place] {
+    sets.extend((0..texts.len()).map(|place| match all[place] == sengadlit[place] {
         true => REASONS.to_vec(),
         false => Vec::new(),
     }));
@@ -175,7 +175,7 @@ fn explain(font: &[u8], texts: &[&str], setting: &Setting, proved: &[Shaped]) ->
             let some: Vec<&str> = places.iter().map(|&place| texts[place]).collect();
             let shaped = with_reasons(&fewer, font, &some, setting);
             for (place, shaped) in places.into_iter().zip(shaped) {
-                if shaped == proved[place] {
+                if shaped == sengadlit[place] {
                     sets[place].clone_from(&fewer);
                 }
             }
@@ -191,7 +191,7 @@ fn code_points(text: &str) -> String {
 /// Compares the texts of a script with one font and setting.
 fn compare(script: &Script, path: &Path, font: &[u8], setting: &Setting, show: usize, tally: &mut Tally) {
     let texts: Vec<&str> = script.texts.iter().map(String::as_str).collect();
-    let (one, other) = (stock::shape_texts(font, &texts, setting), proved::shape_texts(font, &texts, setting));
+    let (one, other) = (stock::shape_texts(font, &texts, setting), sengadlit::shape_texts(font, &texts, setting));
     tally.shaped += texts.len();
     let places: Vec<usize> = (0..texts.len()).filter(|&place| one[place] != other[place]).collect();
     if places.is_empty() {
@@ -215,7 +215,7 @@ fn compare(script: &Script, path: &Path, font: &[u8], setting: &Setting, show: u
         );
         tally.kinds[kind].add(real);
         tally.add(&explained[number], kind, setting.level, real, &told);
-        let whole = format!("{told}\n    stock  {}\n    proved {}", one[number], other[number]);
+        let whole = format!("{told}\n    stock     {}\n    sengadlit {}", one[number], other[number]);
         tally.listed.push(format!(
             "{}\t{}\t{:X}\t{}\t{}\t{}\t{}\t{}\t{}",
             path.display(),

@@ -1,5 +1,5 @@
 //! Texts, settings and results that the programs share. `calls.rs` has how a crate is called: as it
-//! is (`stock`), with the proved hooks (`proved`), and as it is with each known difference edited
+//! is (`stock`), with the hooks (`sengadlit`), and as it is with each known difference edited
 //! away (`reasons`).
 
 use std::fmt;
@@ -11,11 +11,11 @@ mod calls;
 pub use calls::{LEVELS, NORMALIZES, REASONS};
 
 calls!(stock, stock);
-calls!(proved, proved);
+calls!(sengadlit, sengadlit);
 calls!(reasons, reasons);
 
 #[cfg(feature = "shadow")]
-pub use ::proved::shadow_report;
+pub use ::sengadlit::shadow_report;
 pub use ::reasons::put_in_force;
 
 /// How a text is shaped.

@@ -1,13 +1,13 @@
-//! Shapes one text by the crate as it is, by the proved one, and with reasons edited away.
+//! Shapes one text by the crate as it is, with the hooks, and with reasons edited away.
 
 use programs::fonts::without;
-use programs::{proved, put_in_force, reasons, stock, text_of, Setting, Shaped, LEVELS, REASONS};
+use programs::{put_in_force, reasons, sengadlit, stock, text_of, Setting, Shaped, LEVELS, REASONS};
 
 const USAGE: &str = "show FONT [OPTION..] TEXT
 
 FONT is a font's path. TEXT is code points in hexadecimal (0E14 0E34 0E48 0E33), each with how often
 it comes where that isn't once (0915 0951*256), or the text itself if it isn't of ASCII. Three lines
-tell the glyphs, as `hb-shape --show-flags` writes them: of the crate as it is, of the proved one,
+tell the glyphs, as `hb-shape --show-flags` writes them: of the crate as it is, with the hooks,
 and of the crate as it is with the known reasons of differences edited away, by default all.
 
   --level N  --flags HEX  --scale N  --reasons NAME,..
@@ -108,7 +108,7 @@ fn main() {
         font = without(&font, &tag);
     }
     std::panic::set_hook(Box::new(|_| {}));
-    println!("stock  {}", task.shown(&font, stock::told, stock::shape_texts));
-    println!("proved {}", task.shown(&font, proved::told, proved::shape_texts));
-    println!("edited {}", task.shown(&font, reasons::told, reasons::shape_texts));
+    println!("stock     {}", task.shown(&font, stock::told, stock::shape_texts));
+    println!("sengadlit {}", task.shown(&font, sengadlit::told, sengadlit::shape_texts));
+    println!("edited    {}", task.shown(&font, reasons::told, reasons::shape_texts));
 }

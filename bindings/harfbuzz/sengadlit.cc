@@ -1,9 +1,9 @@
-/* HarfBuzz's script shapers with the proved hooks in their place.
+/* HarfBuzz's script shapers with the hooks in their place.
 
    This unit stands for the nine files of HarfBuzz's script shapers. It includes them, their shapers renamed, and
    then has shapers of the same names: each hook and each pause lends HarfBuzz's glyphs to a buffer of the library's, hands over
    plan, map and font as sengadlit.h takes them, and makes the call. HarfBuzz's own functions still do what the
-   proved hooks leave to a caller: syllable machines, vowel constraints, tables of Unicode, the fallback shaper.
+   hooks leave to a caller: syllable machines, vowel constraints, tables of Unicode, the fallback shaper.
 
    With SENGADLIT_SOUND the plans choose the sound flags of breaks.
 
