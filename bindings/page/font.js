@@ -109,15 +109,15 @@ function showWithFont() {
   const text = [...by("text").value].slice(0, MOST_DRAWN).join("").toWellFormed();
   if (!metrics || text === "") return;
   try {
-    const [stock, proved] = [placed(ask("shape", "stock", text)), placed(ask("shape", "proved", text))];
-    const width = Math.max(widthOf(stock), widthOf(proved));
-    const lines = [{ glyphs: stock, others: proved, colour: "stock" }, { glyphs: proved, others: stock, colour: "proved" }];
-    const differ = Math.max(withoutTwin(stock, proved).size, withoutTwin(proved, stock).size);
+    const [stock, sengadlit] = [placed(ask("shape", "stock", text)), placed(ask("shape", "sengadlit", text))];
+    const width = Math.max(widthOf(stock), widthOf(sengadlit));
+    const lines = [{ glyphs: stock, others: sengadlit, colour: "stock" }, { glyphs: sengadlit, others: stock, colour: "sengadlit" }];
+    const differ = Math.max(withoutTwin(stock, sengadlit).size, withoutTwin(sengadlit, stock).size);
     by("outlines").append(
-      told("HarfRust", stock), drawn(lines.slice(0, 1), width), told("With the hooks", proved), drawn(lines.slice(1), width),
+      told("HarfRust", stock), drawn(lines.slice(0, 1), width), told("With the hooks", sengadlit), drawn(lines.slice(1), width),
       made("p", { id: "differ" }, differ ? `Glyphs that differ: ${differ}. One line over the other:` : "Both have the same glyphs at the same places."));
     if (differ) by("outlines").append(drawn(lines, width));
-    showWidth(text, widthOf(proved));
+    showWidth(text, widthOf(sengadlit));
   } catch (error) {
     by("outlines").append(`The program ended: ${error.message}`);
   }
@@ -136,7 +136,7 @@ function showWidth(text, width) {
 // Each piece as it stands in the whole, and shaped alone.
 function showPieces() {
   by("width-told").textContent = by("width").value;
-  const pieces = ask("broken", "proved", by("width").value, by("broken").text);
+  const pieces = ask("broken", "sengadlit", by("width").value, by("broken").text);
   by("pieces").replaceChildren(...pieces.map(({ whole, alone }) => {
     const [one, other] = [placed(whole), placed(alone)];
     const width = Math.max(widthOf(one), widthOf(other));
@@ -144,7 +144,7 @@ function showPieces() {
     return made("div", { class: "piece" },
       made("p", {}, `In the whole, and alone: ${same ? "the same" : "they differ"}.`),
       drawn([{ glyphs: one, others: other, colour: "stock" }], width),
-      drawn([{ glyphs: other, others: one, colour: "proved" }], width));
+      drawn([{ glyphs: other, others: one, colour: "sengadlit" }], width));
   }));
 }
 

@@ -246,7 +246,7 @@ class Tests:
             self.page.run(drop + "window.dispatchEvent(new DragEvent('drop', { dataTransfer: moved, bubbles: true, cancelable: true })); })()")
             self.page.wait("by('font-note').textContent !== ''")
             assert font in self.page.run("by('font-note').textContent")
-            for which in ("stock", "proved"):
+            for which in ("stock", "sengadlit"):
                 request = f"words\n{which}\n" + "\n".join(words)
                 native = subprocess.run([self.program, str(self.fonts / font)], input=request, capture_output=True, text=True, check=True)
                 assert self.page.run(f"fonts.ask({js(request)})") == json.loads(native.stdout), (font, which)
@@ -259,7 +259,7 @@ class Tests:
         self.type("\t\u0995\u09c7")
         assert self.page.run("by('differ').textContent") == "Glyphs that differ: 1. One line over the other:"
         assert self.page.run("document.querySelectorAll('#outlines svg').length") == 3
-        for which in ("stock", "proved"):
+        for which in ("stock", "sengadlit"):
             assert self.page.run(f"document.querySelectorAll('#outlines .{which}').length") == 2, which  # alone, and one over the other
         self.type("\u0995\u09c7")
         assert self.page.run("by('differ').textContent") == "Both have the same glyphs at the same places."

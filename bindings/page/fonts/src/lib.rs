@@ -5,9 +5,9 @@
 //! | kind | lines | answer |
 //! |---|---|---|
 //! | `name` | | units per em, ascent and descent of the font |
-//! | `shape` | `stock` or `proved`, script, direction, level, flags, the text | the glyphs |
+//! | `shape` | `stock` or `sengadlit`, script, direction, level, flags, the text | the glyphs |
 //! | `broken` | the same with a width before the text | for each piece its glyphs in the whole, and alone |
-//! | `words` | `stock` or `proved`, a text a line | the numbers of the glyphs of each |
+//! | `words` | `stock` or `sengadlit`, a text a line | the numbers of the glyphs of each |
 //! | `outline` | numbers of glyphs | the path of each, in SVG |
 //!
 //! Script and direction may be empty, and are then the text's own. What can't be read has the answer
@@ -19,7 +19,7 @@ mod outlines;
 mod shaping;
 
 use json::{array, object, string};
-use shaping::{proved, stock, Setting, Shaped};
+use shaping::{sengadlit, stock, Setting, Shaped};
 use skrifa::instance::{LocationRef, Size};
 use skrifa::{FontRef, MetadataProvider};
 use std::cell::{Cell, RefCell};
@@ -98,7 +98,7 @@ type ShapeTexts = fn(&[u8], &[&str], &Setting) -> Option<Vec<Shaped>>;
 fn shaper_of(name: &str) -> Option<ShapeTexts> {
     match name {
         "stock" => Some(stock::shape_texts),
-        "proved" => Some(proved::shape_texts),
+        "sengadlit" => Some(sengadlit::shape_texts),
         _ => None,
     }
 }

@@ -84,4 +84,4 @@ macro_rules! shaper {
 }
 
 shaper!(stock, stock);
-shaper!(proved, proved);
+shaper!(sengadlit, sengadlit);
