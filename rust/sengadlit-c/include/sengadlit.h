@@ -22,8 +22,9 @@
    status return SENGADLIT_IN_CALL, those that return a pointer null, and the others do nothing, except that
    sengadlit_buffer_destroy takes effect when the call ends, and sengadlit_buffer_get_error works. A callback must not touch
    the glyphs or positions of that buffer by pointers from before, nor drop the last reference to the plan of the call.
-   A C++ exception that leaves a callback ends the program, with a message on stderr. A jump (longjmp) may leave one; memory
-   that the call took isn't freed then, and its buffer is in that call for good: see sengadlit_buffer_abandon. */
+   A C++ exception that leaves a callback ends the program, with a message on stderr. A callback must not be left by a jump
+   (longjmp): the library's frames below it hold what they free when they return, and the behaviour of a program that jumps
+   over them is undefined. */
 #ifndef SENGADLIT_H
 #define SENGADLIT_H
 
@@ -91,8 +92,7 @@ typedef enum sengadlit_status_t {
     SENGADLIT_INTERNAL = 9,          /* A fault of the library, or of a callback whose result changed: the buffer of
                                         the call is empty, with its properties, and may be used again. A message went to
                                         stderr, or where sengadlit_set_message_func says. */
-    SENGADLIT_IN_CALL = 10,          /* Another call has the buffer: this one was made by a callback of it, or a jump left
-                                        it. */
+    SENGADLIT_IN_CALL = 10,          /* Another call has the buffer: this one was made by a callback of it. */
     SENGADLIT_STATUS_MAX_VALUE = 0x7FFFFFFF
 } sengadlit_status_t;
 
@@ -649,10 +649,6 @@ typedef struct sengadlit_buffer_t sengadlit_buffer_t;
 sengadlit_buffer_t *sengadlit_buffer_create(void);
 /* `buffer` may be null. */
 void sengadlit_buffer_destroy(sengadlit_buffer_t *buffer);
-/* After a jump (longjmp) out of a callback, which leaves the call on the buffer for good: the buffer may only be destroyed, and
-   every other function rejects it still. Memory that the call could have in use isn't freed by either: that of the buffer, and
-   what the call itself took. It does nothing for null, for a buffer in no call, and where the callback returns after all. */
-void sengadlit_buffer_abandon(sengadlit_buffer_t *buffer);
 
 /* Makes the buffer ready for another text, as hb_buffer_clear_contents: glyphs, positions, contexts and the state go, script
    and direction become those of a new buffer; cluster_level, flags and max_length stay, and so does memory. Without it a state
@@ -697,7 +693,6 @@ sengadlit_status_t sengadlit_buffer_set_grow_func(sengadlit_buffer_t *buffer, se
    - Another array may be lent without giving this one back, which is the caller's then, with what the last call left.
    - What stands behind the text in the array is anything; nothing behind `allocated` glyphs is touched.
    - After SENGADLIT_INTERNAL the array is lent still, with a text of length 0, and what stands in it is anything.
-   - After a jump out of a callback the array is the caller's, and what stands in it is anything.
    - sengadlit_buffer_destroy gives nothing back: the array is the caller's, with what the last call left.
    `glyphs` may be null if `allocated` is 0; null is given back then, if the text stays empty. ARGUMENT: GLYPHS, and for a null
    buffer; MEMORY, and nothing was lent then. */
@@ -1028,7 +1023,7 @@ sengadlit_status_t sengadlit_buffer_unsafe_to_break(sengadlit_buffer_t *buffer, 
    for Indic would_substitute; and the functions of `lookups`, of which substitute may be null if the plan has no lookup.
    ARGUMENT: PLAN, FONT, LOOKUPS, POSITIONS; GLYPH_ID: not a scalar value; and for a null buffer. Nothing has changed then.
    TOO_LONG, MEMORY, UNKNOWN_SYLLABLE: the text is as the step before left it, or as a lookup left it that made it too long.
-   INTERNAL: also where a lookup left a glyph number above 65535, or a jump in a call on its buffer. */
+   INTERNAL: also where a lookup left a glyph number above 65535. */
 sengadlit_status_t sengadlit_substitute_text(const sengadlit_shape_plan_t *plan, const sengadlit_font_t *font,
                                              const sengadlit_lookups_t *lookups, sengadlit_buffer_t *buffer);
 

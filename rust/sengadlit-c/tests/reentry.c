@@ -1,9 +1,7 @@
-/* Every function called from within every callback: on the buffer of the call, which is rejected, and on others. With the
-   argument `jumps` instead: jumps out of every callback, after which the buffer of the call may only be abandoned and
-   destroyed. The last line is 'N passed, M failed'. */
+/* Every function called from within every callback: on the buffer of the call, which is rejected, and on others. The last
+   line is 'N passed, M failed'. */
 #include "world.h"
 
-#include <setjmp.h>
 #include <stdio.h>
 #include <stdlib.h>
 #include <string.h>
@@ -506,18 +504,11 @@ static void clear_contents(void) { sengadlit_buffer_clear_contents(world.buffer)
 static void reset(void) { sengadlit_buffer_reset(world.buffer); }
 static void set_state(void) { sengadlit_buffer_set_state(world.buffer, 0); }
 static void get_state(void) { check(made_by, !scene->is_on_buffer || sengadlit_buffer_get_state(world.buffer) == 0); }
-static void abandon(void) { sengadlit_buffer_abandon(world.buffer); }
 
 static void destroy_buffer(void)
 {
     sengadlit_buffer_destroy(world.buffer);
     if (scene->is_on_buffer) sengadlit_buffer_destroy(world.buffer);
-}
-
-static void abandon_and_destroy(void)
-{
-    abandon();
-    destroy_buffer();
 }
 
 static const struct intruder {
@@ -556,9 +547,7 @@ static const struct intruder {
     {"reset", reset, 0},
     {"set_state", set_state, 0},
     {"get_state", get_state, 0},
-    {"abandon", abandon, 0},
     {"destroy", destroy_buffer, 1},
-    {"abandon and destroy", abandon_and_destroy, 1},
 };
 
 enum { INTRUDERS = sizeof intruders / sizeof *intruders };
@@ -593,55 +582,10 @@ static void intrude_everywhere(void)
         check("each callback is met by each call", intrusions[callback] >= INTRUDERS);
 }
 
-/* ---- Jumps ---- */
-
-static jmp_buf back;
-
-static void jump(void) { longjmp(back, 1); }
-
-static void reject_everything(void)
-{
-    for (unsigned int i = 0; i < INTRUDERS; i++) {
-        made_by = intruders[i].name;
-        if (!intruders[i].destroys && intruders[i].call != abandon) intruders[i].call();
-    }
-}
-
-static void jump_out(enum callback callback)
-{
-    scene->begin();
-    intruded = callback;
-    intrude = jump;
-    if (setjmp(back) == 0) {
-        (void)scene->call();
-        end_world();
-        return;
-    }
-    reject_everything();
-    sengadlit_buffer_abandon(world.buffer);
-    reject_everything();
-    end_world();
-    scene->begin();
-    check("a new buffer", scene->call() == SENGADLIT_DONE);
-    end_world();
-}
-
-static void jump_everywhere(void)
-{
-    for (unsigned int i = 0; i < SCENES * CALLBACKS; i++) {
-        scene = &scenes[i % SCENES];
-        jump_out((enum callback)(i / SCENES));
-    }
-    for (unsigned int callback = 0; callback < CALLBACKS; callback++) check("a jump out of each callback", intrusions[callback] > 0);
-    check("jumps out of glyphs", intrusions[NOMINAL_GLYPH] >= 4);
-    check("jumps out of advances", intrusions[GLYPH_H_ADVANCE] == 2 && intrusions[GLYPH_V_ADVANCE] == 1);
-}
-
-int main(int argc, char **argv)
+int main(void)
 {
     plan_whole();
-    if (argc > 1 && strcmp(argv[1], "jumps") == 0) jump_everywhere();
-    else intrude_everywhere();
+    intrude_everywhere();
     sengadlit_shape_plan_destroy(whole);
     printf("%u passed, %u failed\n", passed, failed);
     return failed == 0 ? EXIT_SUCCESS : EXIT_FAILURE;

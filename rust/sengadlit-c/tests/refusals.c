@@ -374,7 +374,6 @@ static void buffers_that_are_none(void)
     expect("properties of no buffer", sengadlit_buffer_set_properties(NULL, &world.properties), SENGADLIT_ARGUMENT);
     expect("a context of no buffer", sengadlit_buffer_set_context(NULL, characters, 1, NULL, 0), SENGADLIT_ARGUMENT);
     sengadlit_buffer_set_state(NULL, 1);
-    sengadlit_buffer_abandon(NULL);
     sengadlit_buffer_clear_contents(NULL);
     sengadlit_buffer_reset(NULL);
     check("a state of no buffer", sengadlit_buffer_get_state(NULL) == 0);

@@ -2,7 +2,6 @@
    what a callback may do with the buffer that it is lent. The last line is 'N passed, M failed'. */
 #include "world.h"
 
-#include <setjmp.h>
 #include <stdio.h>
 #include <stdlib.h>
 #include <string.h>
@@ -530,7 +529,6 @@ static sengadlit_bool_t use_all(const sengadlit_lookup_t *lookup, sengadlit_buff
                          sengadlit_substitute_text(plan, &world.font, &lookups, another) == SENGADLIT_DONE);
     sengadlit_buffer_destroy(another);
     sengadlit_buffer_destroy(buffer);
-    sengadlit_buffer_abandon(buffer);
     properties.direction = SENGADLIT_DIRECTION_RTL;
     check("properties", sengadlit_buffer_set_properties(buffer, &properties) == SENGADLIT_DONE);
     check("state", (sengadlit_buffer_set_state(buffer, 3), sengadlit_buffer_get_state(buffer) == 3));
@@ -540,14 +538,6 @@ static sengadlit_bool_t use_all(const sengadlit_lookup_t *lookup, sengadlit_buff
     check("no array", sengadlit_buffer_give_back(buffer, NULL, NULL) == NULL);
     check("glyphs", sengadlit_buffer_get_glyph_infos(buffer, &length) != NULL && length == 3);
     return count_up(lookup, buffer);
-}
-
-static jmp_buf behind;
-
-static sengadlit_bool_t jump_away(const sengadlit_lookup_t *lookup, sengadlit_buffer_t *buffer)
-{
-    (void)lookup, (void)buffer;
-    longjmp(behind, 1);
 }
 
 static void try_callbacks(void)
@@ -562,56 +552,7 @@ static void try_callbacks(void)
     check("the length", sengadlit_buffer_get_glyph_infos(world.buffer, &length) != NULL && length == 3);
 }
 
-static jmp_buf inside;
-
-static sengadlit_bool_t jump_back(void *user_data, uint32_t unicode, uint32_t *glyph)
-{
-    (void)user_data, (void)unicode, (void)glyph;
-    longjmp(inside, 1);
-}
-
-/* A jump leaves a call on the buffer that is lent: a pause that looks for a dotted circle. */
-static sengadlit_bool_t jump_inside(const sengadlit_lookup_t *lookup, sengadlit_buffer_t *buffer)
-{
-    static const sengadlit_font_funcs_t jumping_funcs = {.nominal_glyph = jump_back};
-    static const sengadlit_font_t jumping = {&jumping_funcs, NULL};
-
-    (void)lookup;
-    sengadlit_buffer_set_state(buffer, SENGADLIT_BUFFER_STATE_HAS_BROKEN_SYLLABLE);
-    sengadlit_buffer_get_glyph_infos(buffer, NULL)[0].syllable = 0x10 | SENGADLIT_KHMER_SYLLABLE_BROKEN;
-    if (setjmp(inside) == 0) {
-        (void)sengadlit_run_pause(world.plan, SENGADLIT_PAUSE_REORDER_KHMER, &jumping, NULL, 0, buffer, NULL);
-        check("the jump", 0);
-    }
-    check("the call that it left", sengadlit_buffer_get_glyph_infos(buffer, NULL) == NULL);
-    return 1;
-}
-
-static void try_inner_jump(void)
-{
-    unsigned int messages = 0;
-
-    sengadlit_set_message_func(take_message, &messages);
-    expect_after("a jump within a lookup", jump_inside, SENGADLIT_INTERNAL, 0);
-    sengadlit_set_message_func(NULL, NULL);
-    check("a message", messages == 1);
-    lookup_7 = count_up;
-    set_text("\u1781\u17C2\u1784");
-    check("again", shape() == SENGADLIT_DONE);
-}
-
-static void try_jump(void)
-{
-    lookup_7 = jump_away;
-    set_text("\u1781\u17C2\u1784");
-    if (setjmp(behind) == 0) (void)shape();
-    check("a call that a jump left", sengadlit_buffer_get_glyph_infos(world.buffer, NULL) == NULL);
-    sengadlit_buffer_abandon(world.buffer);
-    sengadlit_buffer_destroy(world.buffer);
-    world.buffer = NULL;
-}
-
-int main(int argc, char **argv)
+int main(void)
 {
     const sengadlit_shape_plan_input_t input = khmer();
 
@@ -628,10 +569,6 @@ int main(int argc, char **argv)
     try_arguments();
     try_plan_without_lookups();
     try_callbacks();
-    if (argc > 1 && strcmp(argv[1], "jumps") == 0) {
-        try_inner_jump();
-        try_jump();
-    }
     sengadlit_shape_plan_destroy(plan);
     end_world();
     printf("%u passed, %u failed\n", passed, failed);

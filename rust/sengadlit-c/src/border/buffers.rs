@@ -22,11 +22,6 @@ pub extern "C" fn sengadlit_buffer_destroy(buffer: Pointer) {
 }
 
 #[unsafe(no_mangle)]
-pub extern "C" fn sengadlit_buffer_abandon(buffer: Pointer) {
-    buffer.abandon();
-}
-
-#[unsafe(no_mangle)]
 pub extern "C" fn sengadlit_buffer_clear_contents(buffer: Pointer) {
     buffer.call(
         |_| (),

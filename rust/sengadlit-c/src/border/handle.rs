@@ -9,10 +9,8 @@ use core::ptr::{NonNull, null_mut};
 enum State {
     /// C.
     Free,
-    /// A call, or one that a jump left: it doesn't end.
+    /// A call.
     InCall,
-    /// The same, and C says that a jump left it.
-    Abandoned,
     /// The same, and C has destroyed the buffer: it is freed when the call ends.
     Destroyed,
 }
@@ -62,16 +60,6 @@ impl Pointer {
         if handle.state.replace(State::Destroyed) == State::Free {
             // SAFETY: it came from `create`, and neither C nor a call has it any more.
             drop(unsafe { Box::from_raw(self.0) });
-        }
-    }
-
-    /// Notes that a jump left the call that has the buffer. Nothing of it is freed: the compiler may have kept parts of it in
-    /// registers while the callback ran, so what memory holds may be older than what the call freed.
-    pub fn abandon(self) {
-        if let Some(handle) = self.handle() {
-            if handle.state.get() == State::InCall {
-                handle.state.set(State::Abandoned);
-            }
         }
     }
 
@@ -148,24 +136,18 @@ impl Lent {
         self.0
     }
 
-    /// The buffer, between callbacks; none where a jump within a callback left a call on it.
-    pub fn buffer(&mut self) -> Option<&mut Buffer> {
-        let handle = self.0.handle()?;
-        if handle.state.get() != State::Free {
-            return None;
-        }
-        // SAFETY: no call has it, and C makes none while no callback runs; this one is borrowed alone.
-        Some(unsafe { &mut *handle.buffer.get() })
+    /// The buffer, between callbacks: a call that a callback makes has ended when the callback returns.
+    pub fn buffer(&mut self) -> &mut Buffer {
+        // SAFETY: it came from `to_new` and lasts until this is dropped; no call has it, C makes none while no callback runs,
+        // and this one is borrowed alone.
+        unsafe { &mut *(*self.0.0).buffer.get() }
     }
 }
 
 impl Drop for Lent {
     fn drop(&mut self) {
-        // (what a jump left isn't freed: see `abandon`)
-        if self.buffer().is_some() {
-            // SAFETY: it came from `to_new`, and neither C nor a call has it any more.
-            drop(unsafe { Box::from_raw(self.0.0) });
-        }
+        // SAFETY: it came from `to_new`, and neither C nor a call has it any more.
+        drop(unsafe { Box::from_raw(self.0.0) });
     }
 }
 
@@ -249,30 +231,6 @@ mod tests {
     }
 
     #[test]
-    fn a_call_that_ends_after_all_gives_its_buffer_back() {
-        let buffer = Pointer::create();
-        let ended = buffer.call(Err, |_| {
-            buffer.abandon();
-            Ok(length(buffer))
-        });
-        assert_eq!(ended, Err(Status::InCall));
-        buffer.abandon();
-        assert_eq!(length(buffer), Ok(0));
-        buffer.destroy();
-    }
-
-    #[test]
-    fn an_abandoned_buffer_is_refused_and_stays() {
-        let buffer = Pointer::create();
-        let ended = buffer.call(Err, |_| {
-            buffer.abandon();
-            buffer.destroy();
-            Ok(length(buffer))
-        });
-        assert_eq!(ended, Err(Status::InCall));
-    }
-
-    #[test]
     fn what_is_lent_is_used_and_not_destroyed() {
         let mut lent = Lent::create().unwrap();
         let pointer = lent.pointer();
@@ -280,11 +238,10 @@ mod tests {
         assert_eq!(length(pointer), Ok(0));
         let ended = pointer.call(Err, |_| {
             pointer.destroy();
-            assert!(lent.buffer().is_none());
             Ok(length(pointer))
         });
         assert_eq!(ended, Err(Status::InCall));
-        assert!(lent.buffer().is_some());
+        assert_eq!(lent.buffer().text.len(), 0);
     }
 
     #[test]
@@ -292,7 +249,6 @@ mod tests {
         let none = Pointer(core::ptr::null_mut());
         assert_eq!(length(none), Err(Status::Argument));
         assert_eq!(none.error().status, Status::Done);
-        none.abandon();
         none.destroy();
     }
 }

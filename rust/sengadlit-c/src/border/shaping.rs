@@ -251,17 +251,12 @@ impl<'a> AskedLookups<'a> {
         let mut settled = shaping::settled(text);
         let pointer = {
             let mut lent = self.lent.borrow_mut();
-            let Some(buffer) = lent.buffer() else {
-                unreachable!("a jump left a call on the buffer of a lookup")
-            };
-            buffer.lend(text);
+            lent.buffer().lend(text);
             lent.pointer()
         };
         let is_done = call_back(|| callback(pointer));
         let mut lent = self.lent.borrow_mut();
-        let taken = lent
-            .buffer()
-            .is_some_and(|buffer| buffer.take_back(&mut settled, with_positions));
+        let taken = lent.buffer().take_back(&mut settled, with_positions);
         // (a lookup of GPOS keeps the length, down to that of a single glyph)
         let kept = !with_positions || settled.len() == length;
         assert!(taken && kept, "a lookup left what is no text of glyphs");
