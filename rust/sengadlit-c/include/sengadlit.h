@@ -679,7 +679,7 @@ sengadlit_glyph_position_t *sengadlit_buffer_get_glyph_positions(sengadlit_buffe
 typedef sengadlit_glyph_info_t *(*sengadlit_grow_func_t)(void *user_data, sengadlit_glyph_info_t *glyphs, unsigned int wanted,
                                                          unsigned int *allocated);
 /* Sets what makes room in the arrays that the buffer is lent from now on; it stays until it is set again. It runs within calls,
-   as every callback. Null, as in a new buffer: arrays don't grow. MEMORY. ARGUMENT: GLYPHS, and for a null buffer. */
+   as every callback. Null, as in a new buffer: arrays don't grow. ARGUMENT: GLYPHS, and for a null buffer. */
 sengadlit_status_t sengadlit_buffer_set_grow_func(sengadlit_buffer_t *buffer, sengadlit_grow_func_t grow, void *user_data);
 
 /* Lends an array to the buffer, in the place of glyphs of its own: the first `length` of its `allocated` glyphs are the text, and
@@ -695,13 +695,14 @@ sengadlit_status_t sengadlit_buffer_set_grow_func(sengadlit_buffer_t *buffer, se
    - After SENGADLIT_INTERNAL the array is lent still, with a text of length 0, and what stands in it is anything.
    - sengadlit_buffer_destroy gives nothing back: the array is the caller's, with what the last call left.
    `glyphs` may be null if `allocated` is 0; null is given back then, if the text stays empty. ARGUMENT: GLYPHS, and for a null
-   buffer; MEMORY, and nothing was lent then. */
+   buffer; MEMORY. The buffer has the text that it had then, and an array that was lent before is lent still. */
 sengadlit_status_t sengadlit_buffer_lend(sengadlit_buffer_t *buffer, sengadlit_glyph_info_t *glyphs, unsigned int length,
                                          unsigned int allocated);
 /* Ends that: returns the array, in the place to which it may have moved, and writes the length of the text and the room of the
-   array, which the buffer knows no more; it has no text then, and no positions. Where the text was too long for an array that
-   doesn't grow, the glyphs of the buffer are returned instead, until the next call that is given it, and `allocated` is 0. Both
-   pointers may be null. Null is returned for ARGUMENT: GLYPHS, and for a null buffer; IN_CALL. */
+   array, which the buffer knows no more. The buffer has no text then, and no positions. Where the text was too long for an array
+   that doesn't grow, it stands in memory of the buffer's: the place there is returned, which holds until the buffer is passed to
+   another function, sengadlit_buffer_get_error, _get_state and _set_state apart; `allocated` is 0, and what stands in the array
+   is anything. Both pointers may be null. Null is returned for ARGUMENT: GLYPHS, and for a null buffer; IN_CALL. */
 sengadlit_glyph_info_t *sengadlit_buffer_give_back(sengadlit_buffer_t *buffer, unsigned int *length, unsigned int *allocated);
 
 /* Adds characters to the text: those of the item of `item_length` units (bytes, 16 or 32 bits) that begins at `item_offset`

@@ -227,8 +227,13 @@ static void texts_that_leave_the_array(void)
     made = sengadlit_buffer_get_glyph_infos(world.buffer, &length);
     check("elsewhere", made != array && length == 4 && is_done(made));
     check("nothing behind the array", is_nobodys(array + 3, MOST - 3));
+    (void)positions();
     check("given", sengadlit_buffer_give_back(world.buffer, &length, &room) == made && length == 4 && room == 0);
-    check("still there", is_done(made) && sengadlit_buffer_get_glyph_infos(world.buffer, &length) == made && length == 4);
+    check("the text is given", is_done(made) && sengadlit_buffer_get_state(world.buffer) == 0 && is_done(made));
+    check("the buffer has none", sengadlit_buffer_get_glyph_infos(world.buffer, &length) != NULL && length == 0);
+    check("nor positions", sengadlit_buffer_get_glyph_positions(world.buffer, &length) != NULL && length == 0);
+    check("another text", sengadlit_buffer_add_utf8(world.buffer, "\u0E01", -1, 0, -1) == SENGADLIT_DONE);
+    check("of it alone", sengadlit_buffer_get_glyph_infos(world.buffer, &length) != NULL && length == 1);
     begin(3, 0);
     check("preprocessed", preprocess() == SENGADLIT_DONE);
     made = glyphs();
@@ -237,6 +242,13 @@ static void texts_that_leave_the_array(void)
     check("a call brings it back", preprocess() == SENGADLIT_DONE && glyphs() == array && array[2].glyph_id == 0x0E32);
     give_back("back", array, 3, 3);
     end_world();
+}
+
+static sengadlit_bool_t has_jamo_alone(void *user_data, uint32_t unicode, uint32_t *glyph)
+{
+    (void)user_data;
+    *glyph = unicode;
+    return unicode < 0xAC00;
 }
 
 /* Syllables of Hangul, which are taken apart and put together again, once more than there is room for at first. */
@@ -252,6 +264,37 @@ static void texts_that_are_rewritten(void)
         check("composed", preprocess() == SENGADLIT_DONE && glyphs() == array);
         give_back("composed", array, 2, 3 + round);
         check("composed", array[0].glyph_id == 0x302E && array[1].glyph_id == 0xAC00);
+    }
+    end_world();
+}
+
+/* Two syllables that the font lacks become six jamo, beside the array of two, in which spare glyphs stand then. */
+static void texts_that_are_rewritten_elsewhere(void)
+{
+    for (unsigned int lends = 0; lends < 2; lends++) {
+        const sengadlit_glyph_info_t *made;
+        unsigned int length = 0, room = 77;
+
+        begin_world(SENGADLIT_SHAPER_HANGUL, SENGADLIT_TAG('H', 'a', 'n', 'g'), 0, 0);
+        world.font_funcs.nominal_glyph = has_jamo_alone;
+        memset(array, 0, sizeof array);
+        array[0].glyph_id = array[1].glyph_id = 0xAC01;
+        check("lent", sengadlit_buffer_lend(world.buffer, array, 2, 2) == SENGADLIT_DONE);
+        check("decomposed", preprocess() == SENGADLIT_DONE && glyphs() != array);
+        memset(array, NOBODYS, sizeof array);
+        if (lends) {
+            memset(other, 0, sizeof other);
+            check("another", sengadlit_buffer_lend(world.buffer, other, 1, 4) == SENGADLIT_DONE && glyphs() == other);
+            give_back("the other", other, 1, 4);
+        } else {
+            made = sengadlit_buffer_give_back(world.buffer, &length, &room);
+            check("given", made != array && length == 6 && room == 0);
+            check("jamo", made[0].glyph_id == 0x1100 && made[5].glyph_id == 0x11A8);
+        }
+        check("its own", sengadlit_buffer_set_length(world.buffer, 2) != NULL);
+        glyphs()[0].glyph_id = glyphs()[1].glyph_id = 0xAC01;
+        check("decomposed", preprocess() == SENGADLIT_DONE && glyphs()[5].glyph_id == 0x11A8);
+        check("the array is left", is_nobodys(array, MOST));
     }
     end_world();
 }
@@ -350,6 +393,7 @@ int main(void)
     growth_that_is_refused();
     texts_that_leave_the_array();
     texts_that_are_rewritten();
+    texts_that_are_rewritten_elsewhere();
     circles();
     stretched_marks();
     many_arrays();

@@ -178,6 +178,33 @@ static sengadlit_status_t shape(void)
     return status;
 }
 
+/* ---- Arrays ---- */
+
+static sengadlit_glyph_info_t first[4], second[40], third[60];
+
+static sengadlit_status_t lend_first(void) { return sengadlit_buffer_lend(world.buffer, first, 4, 4); }
+static sengadlit_status_t lend_second(void) { return sengadlit_buffer_lend(world.buffer, second, 40, 40); }
+
+/* The same from an array that the text has outgrown. */
+static sengadlit_status_t lend_third(void) { return sengadlit_buffer_lend(world.buffer, third, 50, 60); }
+
+static sengadlit_bool_t has_jamo_alone(void *user_data, uint32_t unicode, uint32_t *glyph)
+{
+    (void)user_data;
+    *glyph = unicode;
+    return unicode < 0xAC00;
+}
+
+/* What is given back of a text that its array has no room for. */
+static void give_back(void)
+{
+    unsigned int length, room;
+    const sengadlit_glyph_info_t *given = sengadlit_buffer_give_back(world.buffer, &length, &room);
+
+    printf("given back: %u glyphs, room for %u\n", length, room);
+    for (unsigned int i = 0; i < length; i++) printf("  %04" PRIX32 "\n", given[i].glyph_id);
+}
+
 /* ---- What they leave ---- */
 
 static void print_text(const char *name)
@@ -272,6 +299,32 @@ static void try_stretch(void)
     try_call("stretch", stretch);
 }
 
+/* SARA AM is taken apart, for which the array has no room, and Hangul's syllable, for which spare glyphs stand in it. */
+static void try_lent(void)
+{
+    begin_world(SENGADLIT_SHAPER_THAI, SENGADLIT_TAG('T', 'h', 'a', 'i'), 0x0E01, 4);
+    for (unsigned int i = 0; i < 40; i++) second[i].glyph_id = 0x0E02;
+    memcpy(third, second, sizeof second);
+    memcpy(first, glyphs(), sizeof first);
+    first[2].glyph_id = 0x0E33;
+    try_call("lend", lend_first);
+    try_call("preprocess lent", preprocess);
+    try_call("lend another", lend_second);
+    try_call("lend a third", lend_third);
+    give_back();
+    begin_world(SENGADLIT_SHAPER_HANGUL, SENGADLIT_TAG('H', 'a', 'n', 'g'), 0xAC01, 4);
+    world.font_funcs.nominal_glyph = has_jamo_alone;
+    memcpy(first, glyphs(), sizeof first);
+    try_call("lend", lend_first);
+    try_call("preprocess lent Hangul", preprocess);
+    try_call("lend from spare glyphs", lend_second);
+    memcpy(first, second, sizeof first);
+    for (unsigned int i = 0; i < 4; i++) first[i].glyph_id = 0xAC01;
+    try_call("lend", lend_first);
+    try_call("preprocess lent Hangul", preprocess);
+    give_back();
+}
+
 static void try_whole(void)
 {
     begin_world(SENGADLIT_SHAPER_KHMER, SENGADLIT_TAG('K', 'h', 'm', 'r'), 0x1780, 4);
@@ -290,6 +343,7 @@ int main(void)
     try_hangul();
     try_khmer();
     try_stretch();
+    try_lent();
     try_whole();
     end_world();
     return EXIT_SUCCESS;

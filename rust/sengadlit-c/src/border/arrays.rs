@@ -45,8 +45,8 @@ impl Array {
     }
 
     /// Takes the function by which the array grows.
-    pub fn set_grow(&self, grow: Option<Grow>, user_data: UserData) {
-        self.record().grow.set((grow, user_data));
+    pub fn set_grow(&self, grow: (Option<Grow>, UserData)) {
+        self.record().grow.set(grow);
     }
 
     /// Whether C lends an array.

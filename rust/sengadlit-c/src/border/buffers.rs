@@ -83,7 +83,7 @@ pub extern "C" fn sengadlit_buffer_set_grow_func(
     buffer.call_own(
         |status| status,
         |buffer| {
-            buffer.text.set_grow(grow, user_data)?;
+            buffer.text.set_grow(grow, user_data);
             Ok(Status::Done)
         },
     )

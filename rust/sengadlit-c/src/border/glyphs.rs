@@ -3,6 +3,7 @@
 use super::arrays::{Array, Grow};
 use super::plans::UserData;
 use crate::status::{Argument, Error};
+use core::ptr::null_mut;
 use sengadlit::alloc::{Global, Vec as List};
 use sengadlit::buffer::{
     Buffer as Inner, BufferSettings, Direction, GlyphInfo, GlyphRewriting, ShaperError,
@@ -35,11 +36,17 @@ fn first_of_no_font(glyphs: &[GlyphInfo]) -> Option<usize> {
 
 /// The glyphs and their settings.
 pub struct Text {
-    // (before the array, so that its lists are dropped first)
+    // (before the arrays, so that its lists are dropped first)
     inner: Inner,
     max_length: usize,
     // What C lends; none before it first does.
     array: Option<Array>,
+    // What stands ready for the array that C lends next, and is lent itself no more.
+    next: Option<Array>,
+    // The function by which arrays grow, which may be none.
+    grow: (Option<Grow>, UserData),
+    // Glyphs for which C's array had no room, and which C was given in its place.
+    handed: List<GlyphInfo>,
 }
 
 impl Text {
@@ -49,6 +56,9 @@ impl Text {
             inner: Inner::new(Global, MAX_LENGTH),
             max_length: MAX_LENGTH,
             array: None,
+            next: None,
+            grow: (None, null_mut()),
+            handed: List::new(Global),
         }
     }
 
@@ -62,9 +72,14 @@ impl Text {
 
     // Drops the lists.
     fn renew(&mut self) {
+        self.inner = self.settled();
+    }
+
+    // An empty list of glyphs with the settings.
+    fn settled(&self) -> Inner {
         let mut inner = Inner::new(Global, MAX_LENGTH);
         inner.set_settings(&self.inner.settings());
-        self.inner = inner;
+        inner
     }
 
     /// Takes the glyphs and settings of a text of the crate's, which is empty then.
@@ -91,21 +106,16 @@ impl Text {
         true
     }
 
-    // The array that C may lend, which is made where there is none.
-    fn array(&mut self) -> Result<&Array, Error> {
-        if self.array.is_none() {
-            self.array = Some(Array::new().ok_or(Error::MEMORY)?);
-        }
-        self.array.as_ref().ok_or(Error::MEMORY)
-    }
-
     /// Takes the function by which arrays grow that C lends.
-    pub fn set_grow(&mut self, grow: Option<Grow>, user_data: UserData) -> Result<(), Error> {
-        self.array()?.set_grow(grow, user_data);
-        Ok(())
+    pub fn set_grow(&mut self, grow: Option<Grow>, user_data: UserData) {
+        self.grow = (grow, user_data);
+        if let Some(array) = &self.array {
+            array.set_grow(self.grow);
+        }
     }
 
-    /// Works in an array of C's from now on, of which the first glyphs are the text; what it had is gone.
+    /// Works in an array of C's from now on, of which the first glyphs are the text; what it had is gone. Where that is refused,
+    /// all is as it was.
     ///
     /// # Safety
     ///
@@ -121,66 +131,74 @@ impl Text {
         if is_none || length > room {
             return Err(Error::argument(Argument::Glyphs));
         }
-        if self.is_lent() {
-            self.leave_array();
+        if self.has_spare_in_array() {
+            let mut another = Text {
+                inner: self.settled(),
+                max_length: self.max_length,
+                grow: self.grow,
+                ..Text::new()
+            };
+            // SAFETY: the caller's promise.
+            unsafe { another.lend_array(first, length, room) }?;
+            *self = another;
+            return Ok(());
         }
+        let next = match self.next.take() {
+            Some(next) => next,
+            None => Array::new().ok_or(Error::MEMORY)?,
+        };
+        next.set_grow(self.grow);
+        next.lend(first, room);
         if length > self.inner.max_len() {
             self.inner.set_max_len(length);
         }
-        let array = self.array()?;
-        array.lend(first, room);
-        // SAFETY: the caller's promise; no list works in the array before, which was left. The list is the text's, and is
-        // dropped by `leave_array`, or with the text before the array is.
-        let mut list = unsafe { array.list(length) };
+        // SAFETY: the caller's promise; no list works in this array before. The list becomes the text's, and is dropped by
+        // `take_array`, by another loan, or with the text before the array is.
+        let mut list = unsafe { next.list(length) };
         let ended = self.inner.exchange_glyphs(&mut list);
-        if ended.is_err() {
-            self.array()?.give_back();
+        // (that of the text before, or, where it was refused, the one that works in the next array)
+        drop(list);
+        self.next = match ended {
+            Ok(()) => self.array.replace(next),
+            Err(_) => Some(next),
+        };
+        if let Some(next) = &self.next {
+            next.give_back();
         }
+        self.handed = List::new(Global);
         Ok(ended?)
     }
 
-    /// Whether C lends an array.
-    #[inline]
-    pub fn is_lent(&self) -> bool {
-        self.array.as_ref().is_some_and(Array::is_lent)
+    // Whether the list that works in C's array is that of spare glyphs, which a rewriting exchanges for that of the text. An
+    // array without room has no place of its own by which to tell.
+    fn has_spare_in_array(&self) -> bool {
+        self.array.as_ref().is_some_and(|array| {
+            let is_text = self.inner.glyphs().as_ptr() == array.first() && array.room() != 0;
+            array.is_used() && !is_text
+        })
     }
 
-    // Drops the list that works in the array, and what it has of the text.
-    #[inline]
-    fn leave_array(&mut self) {
-        drop(self.inner.take_glyphs());
-        if self.array.as_ref().is_some_and(Array::is_used) {
-            self.renew();
-        }
-    }
-
-    /// Ends the loan: returns where the glyphs are, how many, and the room that they have in C's array. If it hadn't any for
-    /// them, they are the buffer's still.
+    /// Ends the loan, and leaves an empty text: returns where the glyphs are, how many, and the room that they have in C's
+    /// array. If it hadn't any for them, they stand in a list that stays until the next loan or text.
     #[inline]
     pub fn take_array(&mut self) -> Result<(*mut GlyphInfo, usize, usize), Error> {
         let Some(array) = self.array.as_ref().filter(|array| array.is_lent()) else {
             return Err(Error::argument(Argument::Glyphs));
         };
         array.give_back();
-        let (place, length) = (self.inner.glyphs().as_ptr(), self.inner.len());
-        if place == array.first() {
-            let found = (array.given(), length, array.room());
-            drop(self.inner.take_glyphs());
-            return Ok(found);
-        }
-        if array.is_used() {
-            self.renew_around();
-        }
-        Ok((self.place(), length, 0))
-    }
-
-    // Drops the lists, one of which works in the array still, but for that of the glyphs.
-    #[cold]
-    fn renew_around(&mut self) {
         let mut glyphs = self.inner.take_glyphs();
-        self.renew();
-        let exchanged = self.inner.exchange_glyphs(&mut glyphs);
-        debug_assert!(exchanged.is_ok());
+        let (place, length) = (glyphs.as_mut_slice().as_mut_ptr(), glyphs.len());
+        let found = if place == array.first() {
+            drop(glyphs);
+            (array.given(), length, array.room())
+        } else {
+            self.handed = glyphs;
+            (place, length, 0)
+        };
+        if array.is_used() {
+            self.renew();
+        }
+        Ok(found)
     }
 
     // Brings glyphs into the array that C lends, from where a hook left them, if it has room for them.
@@ -219,6 +237,7 @@ impl Text {
     /// Removes the glyphs, and what was said of the text.
     pub fn clear(&mut self) {
         self.inner.clear();
+        self.handed = List::new(Global);
     }
 
     /// The number of glyphs.
@@ -252,6 +271,7 @@ impl Text {
             self.inner.truncate(length);
             return Ok(());
         }
+        self.handed = List::new(Global);
         if length > self.inner.max_len() {
             self.inner.set_max_len(length);
         }
