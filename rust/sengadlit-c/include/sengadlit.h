@@ -108,10 +108,12 @@ typedef enum sengadlit_argument_t {
     SENGADLIT_ARGUMENT_PAUSE = 7,    /* No pause by this number, or one that the plan's shaper doesn't have. */
     SENGADLIT_ARGUMENT_RANGE = 8,    /* Places that aren't in order, beyond the text, or too many. */
     SENGADLIT_ARGUMENT_SPANS = 9,    /* Null, or the kind of span `index` is above 15. */
-    SENGADLIT_ARGUMENT_GLYPH_ID = 10, /* The hook doesn't accept that of glyph `index`, or a character among the arguments. */
+    SENGADLIT_ARGUMENT_GLYPH_ID = 10, /* The hook doesn't accept that of glyph `index`, or a character among the arguments; or
+                                        a lookup left glyph `index` with a number above 65535. */
     SENGADLIT_ARGUMENT_GLYPHS = 11,  /* An array that can't be lent: null, shorter than the text, or to the buffer of a lookup; or
                                         none was lent. */
-    SENGADLIT_ARGUMENT_POSITIONS = 12, /* There are positions where the hook takes none, or none where it needs them. */
+    SENGADLIT_ARGUMENT_POSITIONS = 12, /* There are positions where the hook takes none, or none where it needs them; or a
+                                        lookup of GPOS left another number of them, or of glyphs. */
     SENGADLIT_ARGUMENT_DIRECTION = 13,
     SENGADLIT_ARGUMENT_CLUSTER_LEVEL = 14,
     SENGADLIT_ARGUMENT_PROPERTIES = 15, /* Null. */
@@ -1024,7 +1026,8 @@ sengadlit_status_t sengadlit_buffer_unsafe_to_break(sengadlit_buffer_t *buffer, 
    for Indic would_substitute; and the functions of `lookups`, of which substitute may be null if the plan has no lookup.
    ARGUMENT: PLAN, FONT, LOOKUPS, POSITIONS; GLYPH_ID: not a scalar value; and for a null buffer. Nothing has changed then.
    TOO_LONG, MEMORY, UNKNOWN_SYLLABLE: the text is as the step before left it, or as a lookup left it that made it too long.
-   INTERNAL: also where a lookup left a glyph number above 65535. */
+   GLYPH_ID is also the argument where a lookup left glyph `index` with a number above 65535; the text is then as the lookup
+   left it. */
 sengadlit_status_t sengadlit_substitute_text(const sengadlit_shape_plan_t *plan, const sengadlit_font_t *font,
                                              const sengadlit_lookups_t *lookups, sengadlit_buffer_t *buffer);
 
@@ -1033,7 +1036,8 @@ sengadlit_status_t sengadlit_substitute_text(const sengadlit_shape_plan_t *plan,
    in which they are drawn, and default ignorables that no lookup replaced are the font's space, or gone. The table kern, and
    marks placed without GPOS, are the caller's. Calls glyph_h_advance too, and is_mark, position and finish_positions, of which
    position may be null if the plan has no lookup of GPOS; and for vertical text glyph_v_advance and glyph_v_origin.
-   STRETCH_OVERFLOW. INTERNAL: also where a lookup of GPOS left another number of positions than glyphs. */
+   STRETCH_OVERFLOW. POSITIONS is also the argument where a lookup of GPOS left another number of glyphs or positions. INTERNAL:
+   also where finish_positions did so, or left a number above 65535. */
 sengadlit_status_t sengadlit_shape(const sengadlit_shape_plan_t *plan, const sengadlit_font_t *font,
                                    const sengadlit_lookups_t *lookups, sengadlit_buffer_t *buffer);
 

@@ -50,17 +50,19 @@ impl Buffer {
         self.text.lend(text);
     }
 
-    /// Gives its glyphs back, into a text whose settings stay, if they are glyphs of a font and, where positions are wanted, have
-    /// one each; returns whether it did.
-    pub fn take_back(&mut self, text: &mut Inner, with_positions: bool) -> bool {
+    /// Gives its glyphs back, into a text whose settings stay. Refuses glyphs that are no font's and, where positions are wanted,
+    /// glyphs that don't have one each; the text has the glyphs then, and no positions.
+    pub fn take_back(&mut self, text: &mut Inner, with_positions: bool) -> Result<(), Error> {
         let positions = replace(&mut self.positions, List::new(Global));
-        if !self.text.take_back(text) || (with_positions && positions.len() != text.len()) {
-            return false;
+        self.text.take_back(text)?;
+        if !with_positions {
+            return Ok(());
         }
-        if with_positions {
-            text.set_positions(positions);
+        if positions.len() != text.len() {
+            return Err(Error::argument(Argument::Positions));
         }
-        true
+        text.set_positions(positions);
+        Ok(())
     }
 
     /// Gives the glyphs from `start` to `end` one cluster.

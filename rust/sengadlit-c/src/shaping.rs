@@ -246,7 +246,7 @@ pub fn substitute_text(
     buffer.run(Takes::Numbers, |text| {
         let settings = &SETTINGS.normalize;
         let done = ot_shape::substitute_text(inner, settings, &font, &UnicodeTables, lookups, text);
-        done.map_err(of_call)
+        lookups.ended(done.map_err(of_call))
     })?;
     Ok(Status::Done)
 }
@@ -267,7 +267,7 @@ pub fn shape(
     buffer.are_characters()?;
     buffer.run_to_positions(Takes::Numbers, |text| {
         let done = ot_shape::shape(inner, &SETTINGS, &font, &UnicodeTables, lookups, text);
-        done.map_err(of_call)
+        lookups.ended(done.map_err(of_call))
     })?;
     Ok(Status::Done)
 }

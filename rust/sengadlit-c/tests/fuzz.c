@@ -402,8 +402,8 @@ static void make_call(const sengadlit_plan_t *plan, sengadlit_buffer_t *buffer)
 
 /* ---- A whole text ---- */
 
-/* Whether a lookup has left what is no glyph. */
-static int faulty;
+/* Whether a lookup has left what is no text of glyphs, or the function behind the last of them has. */
+static enum { NO_FAULT, LOOKUP, END } faulty;
 
 static sengadlit_bool_t variation_glyph(void *user_data, uint32_t unicode, uint32_t selector, uint32_t *glyph)
 {
@@ -426,7 +426,7 @@ static sengadlit_bool_t substitute(void *user_data, const sengadlit_lookup_t *lo
         if (what & 32) glyphs[i].syllable = what;
     }
     if (what % 64 == 7 && length > start) {
-        faulty = 1;
+        faulty = LOOKUP;
         glyphs[start].glyph_id |= 0x10000;
     }
     switch (what % 8) {
@@ -454,7 +454,7 @@ static sengadlit_bool_t is_mark(void *user_data, const sengadlit_glyph_info_t *g
     return (sengadlit_bool_t)(glyph->glyph_props & 4);
 }
 
-static void finish_positions(void *user_data, sengadlit_buffer_t *lent)
+static void move_glyphs(void *user_data, sengadlit_buffer_t *lent, int fault)
 {
     uint8_t what = next();
     unsigned int length, count;
@@ -468,13 +468,15 @@ static void finish_positions(void *user_data, sengadlit_buffer_t *lent)
         glyphs[i].glyph_props = what;
     }
     /* (an array that is lent may refuse to grow) */
-    if (what % 64 == 7 && length > 0 && sengadlit_buffer_set_length(lent, length - 1 + (what & 64) / 32)) faulty = 1;
+    if (what % 64 == 7 && length > 0 && sengadlit_buffer_set_length(lent, length - 1 + (what & 64) / 32)) faulty = fault;
 }
+
+static void finish_positions(void *user_data, sengadlit_buffer_t *lent) { move_glyphs(user_data, lent, END); }
 
 static sengadlit_bool_t position(void *user_data, const sengadlit_lookup_t *lookup, sengadlit_buffer_t *lent)
 {
     if (lookup->mask == 0) abort();
-    finish_positions(user_data, lent);
+    move_glyphs(user_data, lent, LOOKUP);
     return next() != 1;
 }
 
@@ -536,7 +538,7 @@ static void shape_whole(sengadlit_buffer_t *buffer)
     const sengadlit_lookups_t lookups = {&funcs, buffer};
     sengadlit_shape_plan_t *plan = make_shape_plan();
 
-    faulty = 0;
+    faulty = NO_FAULT;
     keep(buffer, &before);
     sengadlit_status_t status = next() & 1 ? sengadlit_shape(plan, &font, &lookups, buffer)
                                            : sengadlit_substitute_text(plan, &font, &lookups, buffer);
@@ -545,8 +547,9 @@ static void shape_whole(sengadlit_buffer_t *buffer)
     if (status == SENGADLIT_DONE) done++;
     else if (status == SENGADLIT_INTERNAL) internal++;
     else if (status > SENGADLIT_STRETCH_OVERFLOW) abort();
-    if (status == SENGADLIT_INTERNAL ? after.length != 0 || (!changes && !faulty) : faulty) abort();
-    if (status == SENGADLIT_ARGUMENT && (after.length != before.length ||
+    if (status == SENGADLIT_INTERNAL ? after.length != 0 || (!changes && faulty != END) : faulty == END) abort();
+    if (faulty == LOOKUP && status != SENGADLIT_ARGUMENT) abort();
+    if (faulty == NO_FAULT && status == SENGADLIT_ARGUMENT && (after.length != before.length ||
         memcmp(after.glyphs, before.glyphs, after.length * sizeof *after.glyphs) != 0))
         abort();
 }

@@ -178,6 +178,51 @@ static sengadlit_status_t shape(void)
     return status;
 }
 
+static sengadlit_bool_t leave_great_number(void *user_data, const sengadlit_lookup_t *lookup, sengadlit_buffer_t *buffer)
+{
+    (void)user_data, (void)lookup;
+    sengadlit_buffer_get_glyph_infos(buffer, NULL)[0].glyph_id = 65536;
+    return 1;
+}
+
+static void leave_no_positions(void *user_data, sengadlit_buffer_t *buffer)
+{
+    (void)user_data;
+    (void)sengadlit_buffer_set_length(buffer, 1);
+}
+
+static void ignore(const char *message, void *user_data) { (void)message, (void)user_data; }
+
+/* What a callback leaves that is no text of glyphs needs no memory to be refused. */
+static sengadlit_status_t leave_fault(const sengadlit_lookups_funcs_t *funcs, sengadlit_status_t wanted)
+{
+    const sengadlit_lookups_t lookups = {funcs, NULL};
+    sengadlit_buffer_t *buffer = sengadlit_buffer_create();
+    sengadlit_status_t status = SENGADLIT_MEMORY;
+
+    sengadlit_set_message_func(ignore, NULL);
+    if (buffer && sengadlit_buffer_add_utf8(buffer, "\u1780\u17C4\u17D2\u179A", -1, 0, -1) == SENGADLIT_DONE)
+        status = sengadlit_shape(whole, &world.font, &lookups, buffer);
+    sengadlit_buffer_destroy(buffer);
+    sengadlit_set_message_func(NULL, NULL);
+    return status == wanted ? SENGADLIT_DONE : status;
+}
+
+static sengadlit_status_t shape_by_fault(void)
+{
+    static const sengadlit_lookups_funcs_t funcs = {.substitute = leave_great_number, .position = place_lent};
+
+    return leave_fault(&funcs, SENGADLIT_ARGUMENT);
+}
+
+static sengadlit_status_t finish_by_fault(void)
+{
+    static const sengadlit_lookups_funcs_t funcs = {
+        .substitute = lengthen_lent, .position = place_lent, .finish_positions = leave_no_positions};
+
+    return leave_fault(&funcs, SENGADLIT_INTERNAL);
+}
+
 /* ---- Arrays ---- */
 
 static sengadlit_glyph_info_t first[4], second[40], third[60];
@@ -330,6 +375,8 @@ static void try_whole(void)
     begin_world(SENGADLIT_SHAPER_KHMER, SENGADLIT_TAG('K', 'h', 'm', 'r'), 0x1780, 4);
     try_call("shape plan", plan_whole);
     try_call("shape", shape);
+    try_call("shape by a fault", shape_by_fault);
+    try_call("finish by a fault", finish_by_fault);
     sengadlit_shape_plan_destroy(whole);
 }
 

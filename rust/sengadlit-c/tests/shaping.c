@@ -93,10 +93,15 @@ static sengadlit_bool_t position(void *user_data, const sengadlit_lookup_t *look
     return lookup_8(buffer);
 }
 
+/* What is wrong with what it leaves. */
+static enum { NOTHING, NUMBER, LENGTH } fault_at_end;
+
 static void finish_positions(void *user_data, sengadlit_buffer_t *buffer)
 {
     (void)user_data;
     sengadlit_buffer_get_glyph_positions(buffer, NULL)[0].y_offset = 5;
+    if (fault_at_end == NUMBER) sengadlit_buffer_get_glyph_infos(buffer, NULL)[0].glyph_id = 65536;
+    if (fault_at_end == LENGTH) (void)sengadlit_buffer_set_length(buffer, 1);
 }
 
 static int32_t glyph_v_advance(void *user_data, uint32_t glyph)
@@ -232,7 +237,14 @@ static sengadlit_bool_t refuse(const sengadlit_lookup_t *lookup, sengadlit_buffe
 static sengadlit_bool_t leave_great_number(const sengadlit_lookup_t *lookup, sengadlit_buffer_t *buffer)
 {
     (void)lookup;
-    sengadlit_buffer_get_glyph_infos(buffer, NULL)[0].glyph_id = 65536;
+    sengadlit_buffer_get_glyph_infos(buffer, NULL)[1].glyph_id = 65536;
+    return 1;
+}
+
+static sengadlit_bool_t leave_greatest_number(const sengadlit_lookup_t *lookup, sengadlit_buffer_t *buffer)
+{
+    (void)lookup;
+    sengadlit_buffer_get_glyph_infos(buffer, NULL)[1].glyph_id = 65535;
     return 1;
 }
 
@@ -277,13 +289,19 @@ static void take_message(const char *message, void *user_data)
 static void try_bad_lookups(void)
 {
     unsigned int messages = 0;
+    sengadlit_error_t error;
 
     expect_after("memory is refused", refuse, SENGADLIT_MEMORY, 3);
     expect_after("too long", make_many, SENGADLIT_TOO_LONG, ROOM + 1);
     sengadlit_set_message_func(take_message, &messages);
-    expect_after("a number that no glyph has", leave_great_number, SENGADLIT_INTERNAL, 0);
+    expect_after("a number that no glyph has", leave_great_number, SENGADLIT_ARGUMENT, 3);
+    sengadlit_buffer_get_error(world.buffer, &error);
+    check("the glyph", error.argument == SENGADLIT_ARGUMENT_GLYPH_ID && error.index == 1);
     sengadlit_set_message_func(NULL, NULL);
-    check("a message", messages == 1);
+    check("no message", messages == 0);
+    lookup_7 = leave_greatest_number;
+    set_text("\u1781\u17C2\u1784");
+    check("the greatest number", shape() == SENGADLIT_DONE && glyphs()[1].glyph_id == 65535);
     lookup_7 = count_up;
     set_text("\u1781\u17C2\u1784");
     check("again", shape() == SENGADLIT_DONE);
@@ -315,7 +333,31 @@ static sengadlit_bool_t refuse_position(sengadlit_buffer_t *buffer)
 
 static sengadlit_bool_t take_glyph(sengadlit_buffer_t *buffer)
 {
-    return sengadlit_buffer_set_length(buffer, 2) != NULL;
+    return sengadlit_buffer_set_length(buffer, 2) && sengadlit_buffer_get_glyph_positions(buffer, NULL);
+}
+
+static sengadlit_bool_t take_positions(sengadlit_buffer_t *buffer)
+{
+    return sengadlit_buffer_set_length(buffer, 3) != NULL;
+}
+
+static sengadlit_bool_t leave_great_glyph(sengadlit_buffer_t *buffer)
+{
+    sengadlit_buffer_get_glyph_infos(buffer, NULL)[2].glyph_id = UINT32_MAX;
+    return 1;
+}
+
+static void try_bad_positions(const char *what, sengadlit_shape_plan_t *placed, sengadlit_bool_t (*lookup)(sengadlit_buffer_t *),
+                              sengadlit_argument_t argument, unsigned int index)
+{
+    sengadlit_error_t error;
+
+    lookup_8 = lookup;
+    set_text("x\u0323y");
+    check(what, shape_whole(placed) == SENGADLIT_ARGUMENT);
+    sengadlit_buffer_get_error(world.buffer, &error);
+    check(what, error.argument == argument && error.index == index);
+    check(what, sengadlit_buffer_get_glyph_positions(world.buffer, NULL)[0].x_advance == 0);
 }
 
 /* A dot below has no advance behind GPOS; without GPOS it hangs over its letter. */
@@ -339,10 +381,18 @@ static void try_positions(void)
     lookup_8 = refuse_position;
     set_text("x\u0323y");
     check("memory is refused", shape_whole(placed) == SENGADLIT_MEMORY);
-    lookup_8 = take_glyph;
-    set_text("x\u0323y");
     sengadlit_set_message_func(take_message, &messages);
-    check("a glyph is gone", shape_whole(placed) == SENGADLIT_INTERNAL && messages == 1);
+    try_bad_positions("a glyph is gone", placed, take_glyph, SENGADLIT_ARGUMENT_POSITIONS, 0);
+    try_bad_positions("the positions are gone", placed, take_positions, SENGADLIT_ARGUMENT_POSITIONS, 0);
+    try_bad_positions("a number that no glyph has", placed, leave_great_glyph, SENGADLIT_ARGUMENT_GLYPH_ID, 2);
+    check("no message", messages == 0);
+    lookup_8 = move_first;
+    for (fault_at_end = NUMBER; fault_at_end <= LENGTH; fault_at_end++) {
+        set_text("x\u0323y");
+        check("a fault at the end", shape_whole(placed) == SENGADLIT_INTERNAL && messages == fault_at_end);
+        check("no text", sengadlit_buffer_get_glyph_infos(world.buffer, &length) != NULL && length == 0);
+    }
+    fault_at_end = NOTHING;
     sengadlit_set_message_func(NULL, NULL);
     funcs.position = NULL;
     set_text("x\u0323y");

@@ -89,12 +89,10 @@ impl Text {
         self.inner = core::mem::replace(text, empty);
     }
 
-    /// Gives the glyphs back, into a text of the crate's whose settings stay but for the greatest length, if each has a number
-    /// of a font's glyphs; returns whether it did.
-    pub fn take_back(&mut self, text: &mut Inner) -> bool {
-        if self.wrong_glyph(Takes::GlyphNumbers).is_some() {
-            return false;
-        }
+    /// Gives the glyphs back, into a text of the crate's whose settings stay but for the greatest length. Refuses a glyph whose
+    /// number is no font's, once they are given.
+    pub fn take_back(&mut self, text: &mut Inner) -> Result<(), Error> {
+        let wrong = self.wrong_glyph(Takes::GlyphNumbers);
         let mut inner = core::mem::replace(self, Text::new()).inner;
         let length = inner.len();
         let settings = text.settings();
@@ -103,7 +101,9 @@ impl Text {
             ..settings
         });
         *text = inner;
-        true
+        wrong.map_or(Ok(()), |index| {
+            Err(Error::argument_at(Argument::GlyphId, index))
+        })
     }
 
     /// Takes the function by which arrays grow that C lends.

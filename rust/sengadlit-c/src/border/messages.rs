@@ -56,16 +56,21 @@ impl fmt::Write for Text {
     }
 }
 
-/// Hands the message of a panic to who takes messages, and else writes it to standard error, as Rust would.
+/// Hands the message of a panic on.
 fn report(panic: &PanicHookInfo<'_>) {
+    tell(panic);
+}
+
+/// Hands a message to who takes messages, and else writes it to standard error, as Rust would that of a panic.
+pub fn tell(message: &dyn fmt::Display) {
     let receiver = *RECEIVER.read().unwrap_or_else(PoisonError::into_inner);
     let Some(Receiver { func, user_data }) = receiver else {
-        let _ = writeln!(io::stderr(), "{panic}");
+        let _ = writeln!(io::stderr(), "{message}");
         return;
     };
     let mut text = Text::new();
     // (a message that is cut is a message)
-    let _ = write!(text, "{panic}");
+    let _ = write!(text, "{message}");
     // SAFETY: the function is C's, of this type; the text ends with a zero byte and lasts through the call.
     call_back(|| unsafe { func(text.bytes.as_ptr().cast(), user_data) });
 }

@@ -2,6 +2,7 @@
 use super::call_back;
 use super::callbacks::{Font, bit};
 use super::handle::{Lent, Pointer};
+use super::messages;
 use super::plans::UserData;
 use super::{Out, array, boxed, guarded, put};
 use crate::buffer::Buffer;
@@ -9,7 +10,7 @@ use crate::layout::{Bool, Lookup, UserFeature};
 use crate::plan::list;
 use crate::shaping::{self, LayoutTable, ShapePlan};
 use crate::status::{Argument, Error, Status};
-use core::cell::RefCell;
+use core::cell::{Cell, RefCell};
 use core::ffi::c_uint;
 use core::ptr::null_mut;
 use sengadlit::alloc::Vec as List;
@@ -191,6 +192,8 @@ pub struct AskedLookups<'a> {
     funcs: &'a LookupsFuncs,
     user_data: UserData,
     lent: RefCell<Lent>,
+    // What a callback left that is no text of glyphs; it ends the call.
+    fault: Cell<Option<Error>>,
 }
 
 impl<'a> AskedLookups<'a> {
@@ -206,7 +209,13 @@ impl<'a> AskedLookups<'a> {
             funcs,
             user_data: lookups.user_data,
             lent: RefCell::new(Lent::create().ok_or(Error::MEMORY)?),
+            fault: Cell::new(None),
         })
+    }
+
+    /// How a call with these lookups ended: by the fault of one, if there is one.
+    pub fn ended(&self, ended: Result<(), Error>) -> Result<(), Error> {
+        self.fault.take().map_or(ended, Err)
     }
 
     /// The glyph of a character with a variation selector, if the font has one.
@@ -240,7 +249,8 @@ impl<'a> AskedLookups<'a> {
     }
 
     // Lends a text to a callback, in a buffer that the callback may use as any other. Its glyphs, and positions where there are
-    // some, are then the text's, and nothing else of it.
+    // some, are then the text's, and nothing else of it. Where they are no text of glyphs, that is the fault, and any refusal
+    // ends the call.
     fn lend(
         &self,
         text: &mut Inner,
@@ -257,10 +267,18 @@ impl<'a> AskedLookups<'a> {
         let is_done = call_back(|| callback(pointer));
         let mut lent = self.lent.borrow_mut();
         let taken = lent.buffer().take_back(&mut settled, with_positions);
-        // (a lookup of GPOS keeps the length, down to that of a single glyph)
-        let kept = !with_positions || settled.len() == length;
-        assert!(taken && kept, "a lookup left what is no text of glyphs");
         *text = settled;
+        // (a lookup of GPOS keeps the length)
+        let fault = match taken {
+            Ok(()) if with_positions && text.len() != length => {
+                Some(Error::argument(Argument::Positions))
+            }
+            taken => taken.err(),
+        };
+        if fault.is_some() {
+            self.fault.set(fault);
+            return Err(ShaperError::Memory);
+        }
         match is_done {
             0 => Err(ShaperError::Memory),
             _ if text.len() > max_length => Err(ShaperError::TooLong),
@@ -309,12 +327,19 @@ impl AnswersLookups for AskedLookups<'_> {
         let Some(finish) = self.funcs.finish_positions else {
             return;
         };
-        // (it tells of no refusal, and the text has the length that it had)
-        let _ = self.lend(buffer, true, |lent| {
+        let finished = self.lend(buffer, true, |lent| {
             // SAFETY: a callback of C, with what it is given.
             unsafe { finish(self.user_data, lent) };
             1
         });
+        if finished.is_err() {
+            // (nothing can be refused here: what is left of the call has an empty text, which an internal error leaves)
+            self.fault.set(Some(Error::INTERNAL));
+            *buffer = shaping::settled(buffer);
+            messages::tell(
+                &"sengadlit: finish_positions left what is no text of glyphs with positions",
+            );
+        }
     }
 }
 
