@@ -882,12 +882,14 @@ typedef struct sengadlit_span_t {
    IN_CALL; and MEMORY, where the buffer never had so many syllables. */
 const sengadlit_span_t *sengadlit_spans(sengadlit_shaper_t shaper, sengadlit_buffer_t *buffer, unsigned int *length);
 
-/* Does what a shaper does between two stages of GSUB.
+/* Does what a shaper does between two stages of GSUB. A shaper has the pauses that sengadlit_collect_features and
+   sengadlit_override_features add for it, whatever the script: others are rejected.
    SETUP_SYLLABLES_..: reads the spans, which cover the text in its order; sets the state HAS_BROKEN_SYLLABLE if one is of the
    kind of broken ones, and doesn't clear it. SPANS_DONT_COVER.
    INITIAL_REORDERING, REORDER_..: moves glyphs, and adds dotted circles where the state has HAS_BROKEN_SYLLABLE and the
-   properties allow it. Calls nominal_glyph, and INITIAL_REORDERING would_substitute too. Of `glyph_props` REORDER_MYANMAR reads
-   SENGADLIT_GLYPH_PROPS_LIGATED alone. MEMORY and TOO_LONG, of circles; UNKNOWN_SYLLABLE, but for REORDER_USE.
+   properties allow it. Calls nominal_glyph, and INITIAL_REORDERING would_substitute too, if the plan has a lookup. Of
+   `glyph_props` REORDER_MYANMAR reads SENGADLIT_GLYPH_PROPS_LIGATED alone. MEMORY and TOO_LONG, of circles; UNKNOWN_SYLLABLE,
+   but for REORDER_USE.
    FINAL_REORDERING: moves glyphs. Calls nominal_glyph.
    RECORD_STCH: sets the state HAS_STCH. SYLLABIC_CLEAR_VAR: writes 0. CLEAR_SUBSTITUTION_FLAGS: of `glyph_props`
    SENGADLIT_GLYPH_PROPS_SUBSTITUTED is cleared.
@@ -1023,7 +1025,8 @@ sengadlit_status_t sengadlit_buffer_unsafe_to_break(sengadlit_buffer_t *buffer, 
 /* Takes a text of characters, as sengadlit_buffer_add_utf8 adds them, to glyphs behind the last lookup of GSUB: in HarfBuzz's
    order all that comes before lookups, normalization among it, and then stage by stage the lookups and the pause behind them.
    Script and direction are the plan's, and those of the buffer's properties. Calls nominal_glyph; for Hangul glyph_h_advance;
-   for Indic would_substitute; and the functions of `lookups`, of which substitute may be null if the plan has no lookup.
+   for Indic would_substitute, if the plan has a lookup; and the functions of `lookups`, of which substitute may be null if the
+   plan has no lookup.
    ARGUMENT: PLAN, FONT, LOOKUPS, POSITIONS; GLYPH_ID: not a scalar value; and for a null buffer. Nothing has changed then.
    TOO_LONG, MEMORY, UNKNOWN_SYLLABLE: the text is as the step before left it, or as a lookup left it that made it too long.
    GLYPH_ID is also the argument where a lookup left glyph `index` with a number above 65535; the text is then as the lookup

@@ -163,7 +163,7 @@ pub fn run_pause(
     buffer: &mut Buffer,
 ) -> Result<bool, Error> {
     let pause = pause_of(plan, pause)?;
-    let font = Asked::font(font, asks_of(pause))?;
+    let font = Asked::font(font, asks_of(pause, plan))?;
     if let Some(index) = spans.iter().position(|span| span.kind > GREATEST_KIND) {
         return Err(Error::argument_at(Argument::Spans, index));
     }
@@ -219,14 +219,38 @@ pub fn setup_syllables_written(
 // The pause of this number, if the plan's shaper has it.
 #[inline]
 fn pause_of(plan: &Plan, number: u32) -> Result<Pause, Error> {
-    let known = numbers::pause(number).filter(|pause| pause_fits(*pause, &plan.inner));
+    let fits = |pause: &Pause| has_pause(plan.shaper, *pause) && pause_fits(*pause, &plan.inner);
+    let known = numbers::pause(number).filter(fits);
     known.ok_or_else(|| Error::argument(Argument::Pause))
 }
 
-// Which functions of the font a pause uses.
-fn asks_of(pause: Pause) -> u8 {
+// Whether a shaper requests a pause, for a text of some script in some font.
+#[inline]
+fn has_pause(shaper: Shaper, pause: Pause) -> bool {
     match pause {
-        Pause::InitialReordering => FONT_NOMINAL | FONT_WOULD,
+        Pause::RecordStch | Pause::ArabicFallbackShape => shaper == Shaper::Arabic,
+        Pause::SetupSyllablesIndic | Pause::InitialReordering | Pause::FinalReordering => {
+            shaper == Shaper::Indic
+        }
+        Pause::SetupSyllablesKhmer | Pause::ReorderKhmer => shaper == Shaper::Khmer,
+        Pause::SetupSyllablesMyanmar | Pause::ReorderMyanmar => shaper == Shaper::Myanmar,
+        Pause::SetupSyllablesUse
+        | Pause::ReorderUse
+        | Pause::RecordRphf
+        | Pause::RecordPref
+        | Pause::ClearSubstitutionFlags => shaper == Shaper::Universal,
+        Pause::SyllabicClearVar => matches!(
+            shaper,
+            Shaper::Indic | Shaper::Khmer | Shaper::Myanmar | Shaper::Universal
+        ),
+    }
+}
+
+// Which functions of the font a pause of a plan uses.
+fn asks_of(pause: Pause, plan: &Plan) -> u8 {
+    match pause {
+        Pause::InitialReordering if plan.has_lookups => FONT_NOMINAL | FONT_WOULD,
+        Pause::InitialReordering => FONT_NOMINAL,
         Pause::ReorderKhmer
         | Pause::ReorderMyanmar
         | Pause::ReorderUse
@@ -286,4 +310,41 @@ pub fn affected(
 fn covered(spans: &[Span]) -> u64 {
     let lengths = spans.iter().map(|span| span.len as u64);
     lengths.fold(0, u64::saturating_add)
+}
+
+#[cfg(test)]
+mod tests {
+    use super::has_pause;
+    use sengadlit::alloc::Global;
+    use sengadlit::buffer::Script;
+    use sengadlit::font::FeaturesOnly;
+    use sengadlit::plan::{Pause, Planner, Request};
+    use sengadlit::shaper::Shaper;
+
+    // Whether a shaper requests a pause for a text of this script.
+    fn requests(shaper: Shaper, script: [u8; 4], pause: Pause) -> bool {
+        let mut planner = Planner::new(Global, Some(Script(script)));
+        let font = FeaturesOnly(|_| false);
+        shaper.collect_features(&font, &mut planner).unwrap();
+        shaper.override_features(&mut planner).unwrap();
+        let mut requests = planner.requests().iter();
+        requests.any(|request| *request == Request::Pause(Some(pause)))
+    }
+
+    #[test]
+    fn a_shaper_has_the_pauses_that_it_requests() {
+        for shaper in Shaper::ALL {
+            for pause in Pause::ALL {
+                let scripts = [*b"Arab", *b"Syrc", *b"Deva", *b"Khmr", *b"Mymr", *b"Sinh"];
+                let mut wanted = scripts
+                    .iter()
+                    .map(|script| requests(shaper, *script, pause));
+                assert_eq!(
+                    has_pause(shaper, pause),
+                    wanted.any(|does| does),
+                    "{shaper:?} {pause:?}"
+                );
+            }
+        }
+    }
 }

@@ -21,6 +21,8 @@ pub struct Plan {
     pub references: AtomicUsize,
     pub shaper: Shaper,
     pub inner: Inner,
+    /// Whether a lookup stands in it, about which a hook may ask the font.
+    pub has_lookups: bool,
     pub kept: Kept,
 }
 
@@ -56,6 +58,7 @@ pub fn make(
         references: AtomicUsize::new(1),
         shaper,
         inner: shaper.with_data(plan),
+        has_lookups: !lookups.is_empty(),
         kept: input.kept,
     })
 }

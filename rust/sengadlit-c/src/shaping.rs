@@ -193,7 +193,7 @@ impl MetricsFont for ShapedFont<'_> {
 fn asks_of(plan: &Plan) -> u8 {
     let own = match plan.shaper() {
         Some(Shaper::Hangul) => FONT_ADVANCE,
-        Some(Shaper::Indic) => FONT_WOULD,
+        Some(Shaper::Indic) if !plan.lookups().is_empty() => FONT_WOULD,
         _ => 0,
     };
     FONT_NOMINAL | own

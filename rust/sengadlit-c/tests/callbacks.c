@@ -260,8 +260,7 @@ static sengadlit_bool_t call_on_other(void *user_data, uint32_t unicode, uint32_
     (void)user_data;
     text[0].unicode_props = text[1].unicode_props = SENGADLIT_UNICODE_GENERAL_CATEGORY_OTHER_LETTER;
     text[1].glyph_id = 0x0E33;
-    if (sengadlit_run_pause(world.plan, SENGADLIT_PAUSE_CLEAR_SUBSTITUTION_FLAGS, NULL, NULL, 0, other, NULL) == SENGADLIT_DONE)
-        questions++;
+    if (sengadlit_setup_masks(world.plan, NULL, other) == SENGADLIT_DONE) questions++;
     *glyph = unicode;
     return 1;
 }

@@ -509,12 +509,26 @@ static void texts_after_a_broken_one(void)
 
 /* ---- What all hooks refuse ---- */
 
-static void every_hook_refuses(const char *what, sengadlit_argument_t argument, unsigned int index)
+/* The pauses of each shaper, which are those that HarfBuzz's adds to the map, as bits. */
+#define PAUSE_BIT(name) (1u << SENGADLIT_PAUSE_##name)
+static const unsigned int pauses_of[NO_SHAPER] = {
+    [SENGADLIT_SHAPER_ARABIC] = PAUSE_BIT(RECORD_STCH) | PAUSE_BIT(ARABIC_FALLBACK_SHAPE),
+    [SENGADLIT_SHAPER_INDIC] = PAUSE_BIT(SETUP_SYLLABLES_INDIC) | PAUSE_BIT(INITIAL_REORDERING) |
+                               PAUSE_BIT(FINAL_REORDERING) | PAUSE_BIT(SYLLABIC_CLEAR_VAR),
+    [SENGADLIT_SHAPER_KHMER] = PAUSE_BIT(SETUP_SYLLABLES_KHMER) | PAUSE_BIT(REORDER_KHMER) | PAUSE_BIT(SYLLABIC_CLEAR_VAR),
+    [SENGADLIT_SHAPER_MYANMAR] = PAUSE_BIT(SETUP_SYLLABLES_MYANMAR) | PAUSE_BIT(REORDER_MYANMAR) |
+                                 PAUSE_BIT(SYLLABIC_CLEAR_VAR),
+    [SENGADLIT_SHAPER_UNIVERSAL] = PAUSE_BIT(SETUP_SYLLABLES_USE) | PAUSE_BIT(CLEAR_SUBSTITUTION_FLAGS) |
+                                   PAUSE_BIT(RECORD_RPHF) | PAUSE_BIT(RECORD_PREF) | PAUSE_BIT(REORDER_USE) |
+                                   PAUSE_BIT(SYLLABIC_CLEAR_VAR)};
+
+static void every_hook_refuses(const char *what, sengadlit_shaper_t shaper, sengadlit_argument_t argument, unsigned int index)
 {
     FAILS(what, preprocess(), SENGADLIT_ARGUMENT, argument, index);
     FAILS(what, masks(), SENGADLIT_ARGUMENT, argument, index);
     FAILS(what, marks(0, 1), SENGADLIT_ARGUMENT, argument, index);
-    FAILS(what, run(SENGADLIT_PAUSE_SYLLABIC_CLEAR_VAR), SENGADLIT_ARGUMENT, argument, index);
+    for (unsigned int pause = 0; pause < NO_PAUSE; pause++)
+        if (pauses_of[shaper] & 1u << pause) FAILS(what, run(pause), SENGADLIT_ARGUMENT, argument, index);
 }
 
 static void texts_that_are_none(void)
@@ -522,7 +536,7 @@ static void texts_that_are_none(void)
     for (unsigned int shaper = 0; shaper < NO_SHAPER; shaper++) {
         begin_world((sengadlit_shaper_t)shaper, ARAB, 0x0628, 3);
         (void)positions();
-        every_hook_refuses("positions", SENGADLIT_ARGUMENT_POSITIONS, 0);
+        every_hook_refuses("positions", (sengadlit_shaper_t)shaper, SENGADLIT_ARGUMENT_POSITIONS, 0);
     }
 }
 
@@ -533,7 +547,7 @@ static void plans_that_are_none(void)
     begin_arabic();
     sengadlit_plan_destroy(world.plan);
     world.plan = NULL;
-    every_hook_refuses("no plan", SENGADLIT_ARGUMENT_PLAN, 0);
+    every_hook_refuses("no plan", SENGADLIT_SHAPER_ARABIC, SENGADLIT_ARGUMENT_PLAN, 0);
     REFUSES("no plan at last", postprocess(), PLAN, 0);
     expect("compose without a plan", sengadlit_compose(NULL, &world.tables, 0x41, 0x300, &a, NULL), SENGADLIT_ARGUMENT);
     expect("decompose without a plan", sengadlit_decompose(NULL, &world.tables, 0xC0, &a, &b, NULL), SENGADLIT_ARGUMENT);
@@ -545,7 +559,9 @@ static void texts_that_are_long(void)
     begin_thai();
     limit_length(2);
     FAILS("a text longer than its greatest length", preprocess(), SENGADLIT_TOO_LONG, SENGADLIT_ARGUMENT_NONE, 0);
-    FAILS("the same for masks of none", run(SENGADLIT_PAUSE_RECORD_PREF), SENGADLIT_TOO_LONG, SENGADLIT_ARGUMENT_NONE, 0);
+    begin_khmer();
+    limit_length(2);
+    FAILS("the same for a pause", run(SENGADLIT_PAUSE_SYLLABIC_CLEAR_VAR), SENGADLIT_TOO_LONG, SENGADLIT_ARGUMENT_NONE, 0);
     begin_thai();
     limit_length(3);
     glyphs()[1].glyph_id = 0x0E33;
@@ -737,21 +753,33 @@ static void letters_that_are_none(void)
 
 /* ---- Pauses ---- */
 
+/* A pause, on one syllable of the text. */
+static sengadlit_status_t run_on_syllable(unsigned int pause)
+{
+    static const sengadlit_span_t whole = {3, 0};
+
+    return sengadlit_run_pause(world.plan, (sengadlit_pause_t)pause, &world.font, &whole, 1, world.buffer, NULL);
+}
+
 static void pauses_that_are_none(void)
 {
-    static const unsigned int of_others[] = {SENGADLIT_PAUSE_SETUP_SYLLABLES_USE, SENGADLIT_PAUSE_INITIAL_REORDERING,
-                                             SENGADLIT_PAUSE_FINAL_REORDERING,    SENGADLIT_PAUSE_RECORD_STCH,
-                                             SENGADLIT_PAUSE_RECORD_RPHF};
-
     begin_khmer();
     REFUSES("no pause", run(NO_PAUSE), PAUSE, 0);
     REFUSES("the pause that does nothing", run(SENGADLIT_PAUSE_NONE), PAUSE, 0);
     REFUSES("no pause by far", run(0x100), PAUSE, 0);
-    for (size_t i = 0; i < sizeof of_others / sizeof *of_others; i++)
-        REFUSES("a pause of another shaper", run(of_others[i]), PAUSE, 0);
-    begin_arabic();
-    REFUSES("a pause of Khmer", run(SENGADLIT_PAUSE_REORDER_KHMER), PAUSE, 0);
-    expect("a pause that does nothing", run(SENGADLIT_PAUSE_ARABIC_FALLBACK_SHAPE), SENGADLIT_DONE);
+    for (unsigned int i = 0; i < NO_SHAPER * NO_PAUSE; i++) {
+        const unsigned int shaper = i / NO_PAUSE, pause = i % NO_PAUSE;
+        const sengadlit_pause_t number = (sengadlit_pause_t)pause;
+
+        begin_world((sengadlit_shaper_t)shaper, ARAB, 0x1780, 3);
+        if (pauses_of[shaper] & 1u << pause) {
+            expect("a pause of the shaper", run_on_syllable(pause), SENGADLIT_DONE);
+            continue;
+        }
+        REFUSES("a pause of another shaper", run_on_syllable(pause), PAUSE, 0);
+        REFUSES("syllables that it finds", sengadlit_setup_syllables_found(world.plan, number, world.buffer), PAUSE, 0);
+        REFUSES("syllables that are written", sengadlit_setup_syllables_written(world.plan, number, world.buffer), PAUSE, 0);
+    }
 }
 
 static void pause_refuses_font(const char *what, sengadlit_pause_t pause)
@@ -760,12 +788,32 @@ static void pause_refuses_font(const char *what, sengadlit_pause_t pause)
     REFUSES(what, sengadlit_run_pause(world.plan, pause, NULL, NULL, 0, world.buffer, NULL), FONT, 0);
 }
 
+/* A plan of Indic whose features have no lookup. */
+static void plan_without_lookups(void)
+{
+    static const sengadlit_feature_t rphf = {SENGADLIT_TAG('r', 'p', 'h', 'f'), 8, 0};
+    static const sengadlit_stage_t none = {0, 0};
+    sengadlit_plan_input_t input = {0};
+
+    input.script = DEVA;
+    input.features = &rphf;
+    input.features_length = 1;
+    input.stages = &none;
+    input.stages_length = 1;
+    sengadlit_plan_destroy(world.plan);
+    world.plan = sengadlit_plan_create(SENGADLIT_SHAPER_INDIC, &input, NULL);
+}
+
 static void pauses_without_fonts(void)
 {
     begin_khmer();
     world.font_funcs.nominal_glyph = NULL;
     pause_refuses_font("Khmer without glyphs", SENGADLIT_PAUSE_REORDER_KHMER);
+    begin_myanmar();
+    world.font_funcs.nominal_glyph = NULL;
     pause_refuses_font("Myanmar without glyphs", SENGADLIT_PAUSE_REORDER_MYANMAR);
+    begin_mongolian();
+    world.font_funcs.nominal_glyph = NULL;
     pause_refuses_font("the universal one without glyphs", SENGADLIT_PAUSE_REORDER_USE);
     begin_indic();
     world.font_funcs.nominal_glyph = NULL;
@@ -775,6 +823,10 @@ static void pauses_without_fonts(void)
     world.font_funcs.would_substitute = NULL;
     pause_refuses_font("Indic without lookups", SENGADLIT_PAUSE_INITIAL_REORDERING);
     expect("final Indic asks for no lookup", run(SENGADLIT_PAUSE_FINAL_REORDERING), SENGADLIT_DONE);
+    plan_without_lookups();
+    expect("nothing to ask the font about", run(SENGADLIT_PAUSE_INITIAL_REORDERING), SENGADLIT_DONE);
+    world.font_funcs.nominal_glyph = NULL;
+    pause_refuses_font("without glyphs still", SENGADLIT_PAUSE_INITIAL_REORDERING);
     begin_indic();
     glyphs()[2].glyph_id = 0x10000;
     REFUSES("a glyph that is no font's", run(SENGADLIT_PAUSE_INITIAL_REORDERING), GLYPH_ID, 2);

@@ -565,6 +565,37 @@ static void try_plan_without_lookups(void)
     sengadlit_shape_plan_destroy(bare);
 }
 
+/* Indic asks the font about lookups, unless there are none. KA and I: the vowel sign comes before its letter. */
+static void try_indic(void)
+{
+    static const sengadlit_table_feature_t half = {SENGADLIT_TAG('h', 'a', 'l', 'f'), 1, seven};
+    sengadlit_shape_plan_input_t input = {0};
+
+    input.script = SENGADLIT_TAG('D', 'e', 'v', 'a');
+    input.direction = SENGADLIT_DIRECTION_LTR;
+    input.gsub.has_table = 1;
+    input.gsub.chosen_script = SENGADLIT_TAG('d', 'e', 'v', '2');
+    input.gsub.found_script = 1;
+    input.gsub.features = &half;
+    world.font_funcs.would_substitute = NULL;
+    for (unsigned int length = 0; length < 2; length++) {
+        const sengadlit_status_t wanted = length == 0 ? SENGADLIT_DONE : SENGADLIT_ARGUMENT;
+        sengadlit_shape_plan_t *indic;
+        sengadlit_error_t error = {0};
+
+        input.gsub.features_length = length;
+        indic = sengadlit_shape_plan_create(&input, NULL);
+        set_text("\u0915\u093F");
+        check("Indic", sengadlit_substitute_text(indic, &world.font, &lookups, world.buffer) == wanted);
+        check("Indic", glyphs()[0].glyph_id == (length == 0 ? 0x093F : 0x0915));
+        if (length == 1) sengadlit_buffer_get_error(world.buffer, &error);
+        check("the font", length == 0 || error.argument == SENGADLIT_ARGUMENT_FONT);
+        set_text("\u0915\u093F");
+        check("Indic with positions", shape_whole(indic) == wanted);
+        sengadlit_shape_plan_destroy(indic);
+    }
+}
+
 /* ---- What a callback does ---- */
 
 static sengadlit_bool_t use_all(const sengadlit_lookup_t *lookup, sengadlit_buffer_t *buffer)
@@ -619,6 +650,7 @@ int main(void)
     try_arguments();
     try_plan_without_lookups();
     try_callbacks();
+    try_indic();
     sengadlit_shape_plan_destroy(plan);
     end_world();
     printf("%u passed, %u failed\n", passed, failed);
