@@ -634,20 +634,22 @@ enum {
     SENGADLIT_BUFFER_FLAG_PRODUCE_SAFE_TO_INSERT_TATWEEL = 0x80
 };
 
+/* What holds of the text as a whole. Where all is 0, as in a struct that is initialized by {0}, the properties are those of a new
+   buffer. */
 typedef struct sengadlit_buffer_properties_t {
     sengadlit_tag_t script;          /* 0 if it isn't known. */
-    sengadlit_direction_t direction;
+    sengadlit_direction_t direction; /* INVALID, which is 0, counts as LTR. */
     sengadlit_buffer_cluster_level_t cluster_level;
     uint32_t flags;                  /* SENGADLIT_BUFFER_FLAG_.. */
-    uint32_t max_length;             /* A hook that would make the text longer returns TOO_LONG. A stretched mark may
-                                        repeat a tile as often as this allows: HarfBuzz sets 64 times the length of the
-                                        text, or 16384 if that is more. */
+    uint32_t max_length;             /* A hook that would make the text longer returns TOO_LONG; 0 if no length is set. A
+                                        stretched mark may repeat a tile as often as this allows: HarfBuzz 12 sets 256 times
+                                        the length of the text, or 65536 if that is more. */
 } sengadlit_buffer_properties_t;
 
 typedef struct sengadlit_buffer_t sengadlit_buffer_t;
 
-/* An empty buffer: script 0, left to right, monotone graphemes, no flags, max_length UINT32_MAX, no context, state 0. Null
-   where memory is refused. */
+/* An empty buffer: script 0, left to right, monotone graphemes, no flags, no max_length, no context, state 0. Null where memory
+   is refused. */
 sengadlit_buffer_t *sengadlit_buffer_create(void);
 /* `buffer` may be null. */
 void sengadlit_buffer_destroy(sengadlit_buffer_t *buffer);
@@ -661,14 +663,15 @@ void sengadlit_buffer_clear_contents(sengadlit_buffer_t *buffer);
 void sengadlit_buffer_reset(sengadlit_buffer_t *buffer);
 
 /* Gives the text this length and returns its glyphs: those that were there stay as they are, new ones are all zero, and
-   there are no positions. The pointer holds until the buffer is passed to another function, sengadlit_buffer_get_error,
-   _get_state and _set_state apart. It isn't null where the length is 0. Null where memory is refused, or `buffer` is
-   null. */
+   there are no positions. The pointer holds until the buffer is passed to another function, sengadlit_buffer_get_glyph_infos,
+   _get_glyph_positions, _get_error, _get_state and _set_state apart. It isn't null where the length is 0. Null where memory is
+   refused, or `buffer` is null. */
 sengadlit_glyph_info_t *sengadlit_buffer_set_length(sengadlit_buffer_t *buffer, unsigned int length);
 /* The glyphs, for which the same holds, and through `length`, which may be null, how many there are. */
 sengadlit_glyph_info_t *sengadlit_buffer_get_glyph_infos(sengadlit_buffer_t *buffer, unsigned int *length);
-/* The positions, one per glyph, which the first call makes, all zero. They stay until sengadlit_buffer_set_length; while
-   they are there, sengadlit_postprocess_glyphs is the only hook that takes the buffer. */
+/* The positions, one per glyph, which the first call makes, all zero. The pointer holds as long as one to the glyphs does, and
+   the two hold beside each other. The positions stay until sengadlit_buffer_set_length; while they are there,
+   sengadlit_postprocess_glyphs is the only hook that takes the buffer. */
 sengadlit_glyph_position_t *sengadlit_buffer_get_glyph_positions(sengadlit_buffer_t *buffer, unsigned int *length);
 
 /* ---- Glyphs in an array of the caller's ---- */

@@ -178,17 +178,24 @@ impl Buffer {
         Ok(found)
     }
 
-    /// Takes all properties, or none.
+    /// Takes all properties, or none. Those that are 0 are a new buffer's.
     pub fn set_properties(&mut self, properties: &Properties) -> Result<(), Error> {
         let number = |wide: u32| u8::try_from(wide).ok();
-        let direction = numbers::direction(properties.direction);
+        let direction = match numbers::direction(properties.direction) {
+            Some(Direction::Invalid) => Some(Direction::LeftToRight),
+            known => known,
+        };
+        let max_length = match properties.max_length {
+            0 => MAX_LENGTH,
+            set => set as usize,
+        };
         let level = number(properties.cluster_level).and_then(BufferClusterLevel::from_number);
         self.text.set_properties(&BufferSettings {
             direction: direction.ok_or_else(|| Error::argument(Argument::Direction))?,
             script: numbers::script(properties.script),
             cluster_level: level.ok_or_else(|| Error::argument(Argument::ClusterLevel))?,
             flags: BufferFlags::from_harfbuzz(properties.flags),
-            ..BufferSettings::new(properties.max_length as usize)
+            ..BufferSettings::new(max_length)
         });
         Ok(())
     }
@@ -286,4 +293,67 @@ fn nearest<'a>(
         room[i] = character.ok_or_else(|| Error::argument_at(Argument::Context, first + i))?;
     }
     Ok(&room[..length])
+}
+
+#[cfg(test)]
+mod tests {
+    use super::Buffer;
+    use crate::border::glyphs::Takes;
+    use crate::layout::Properties;
+    use sengadlit::buffer::{BufferClusterLevel, BufferFlags, Direction, Script};
+
+    type Told = (
+        Option<Script>,
+        Direction,
+        BufferClusterLevel,
+        BufferFlags,
+        usize,
+    );
+
+    // What a hook finds of the properties.
+    fn told(buffer: &mut Buffer) -> Told {
+        let told = buffer.run(Takes::Numbers, |text| {
+            let settings = text.settings();
+            Ok((
+                settings.script,
+                settings.direction,
+                settings.cluster_level,
+                settings.flags,
+                settings.max_len,
+            ))
+        });
+        told.unwrap()
+    }
+
+    #[test]
+    fn properties_that_are_zero_are_those_of_a_new_buffer() {
+        let mut buffer = Buffer::new();
+        let new = told(&mut buffer);
+        assert_eq!(new.1, Direction::LeftToRight);
+        let set = Properties {
+            script: u32::from_be_bytes(*b"Hebr"),
+            direction: 5,
+            cluster_level: 2,
+            flags: 0x10,
+            max_length: 7,
+        };
+        assert!(buffer.set_properties(&set).is_ok());
+        let all = (
+            Some(Script(*b"Hebr")),
+            Direction::RightToLeft,
+            BufferClusterLevel::Characters,
+            BufferFlags::from_harfbuzz(0x10),
+            7,
+        );
+        assert_eq!(told(&mut buffer), all);
+        let zero = Properties {
+            script: 0,
+            direction: 0,
+            cluster_level: 0,
+            flags: 0,
+            max_length: 0,
+        };
+        assert!(buffer.set_properties(&zero).is_ok());
+        assert_eq!(told(&mut buffer), new);
+    }
 }

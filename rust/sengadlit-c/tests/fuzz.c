@@ -266,7 +266,7 @@ static void write_settings(sengadlit_buffer_t *buffer)
     properties.direction = (sengadlit_direction_t)directions[settings % 8];
     properties.cluster_level = (sengadlit_buffer_cluster_level_t)(settings >> 3 & 3);
     properties.flags = next();
-    properties.max_length = settings & 32 ? next() : ROOM;
+    properties.max_length = settings & 32 ? next() + 1u : ROOM;
     (void)sengadlit_buffer_set_properties(buffer, &properties);
     for (unsigned int i = 0; i < 6; i++) context[i] = firsts[place] + (settings & 64 ? next_word() : next() % 64);
     (void)sengadlit_buffer_set_context(buffer, context, next() % 7, context, next() % 7);

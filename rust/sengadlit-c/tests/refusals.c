@@ -388,6 +388,24 @@ static void buffers_that_are_none(void)
     expect("postprocessing of no buffer", sengadlit_postprocess_glyphs(world.plan, &world.font, NULL), SENGADLIT_ARGUMENT);
 }
 
+/* The place of the glyphs and that of the positions hold while both are asked for, and the error and the state. */
+static void pointers_that_hold(void)
+{
+    sengadlit_glyph_info_t *const of_glyphs = sengadlit_buffer_get_glyph_infos(world.buffer, NULL);
+    sengadlit_glyph_position_t *const of_positions = sengadlit_buffer_get_glyph_positions(world.buffer, NULL);
+    sengadlit_error_t error;
+
+    sengadlit_buffer_get_error(world.buffer, &error);
+    sengadlit_buffer_set_state(world.buffer, sengadlit_buffer_get_state(world.buffer));
+    of_glyphs[1].mask = 8;
+    of_positions[1].y_offset = 9;
+    check("the glyphs hold", sengadlit_buffer_get_glyph_infos(world.buffer, NULL) == of_glyphs);
+    check("the positions hold", sengadlit_buffer_get_glyph_positions(world.buffer, NULL) == of_positions);
+    check("as written", of_glyphs[1].mask == 8 && of_positions[1].y_offset == 9);
+    of_glyphs[1].mask = 0;
+    of_positions[1].y_offset = 0;
+}
+
 static void lengths_and_positions(void)
 {
     unsigned int length = UNTOUCHED;
@@ -402,6 +420,7 @@ static void lengths_and_positions(void)
     check("positions", sengadlit_buffer_get_glyph_positions(world.buffer, &length) != NULL && length == 5);
     positions()[4].x_offset = UNTOUCHED;
     check("positions stay", positions()[4].x_offset == UNTOUCHED && positions()[3].x_offset == 0);
+    pointers_that_hold();
     REFUSES("a hook with positions", preprocess(), POSITIONS, 0);
     check("shorter", sengadlit_buffer_set_length(world.buffer, 3) != NULL);
     world.has_positions = 0;
@@ -428,6 +447,21 @@ static void properties_that_are_none(void)
     world.properties.cluster_level = SENGADLIT_BUFFER_CLUSTER_LEVEL_CHARACTERS;
     world.properties.flags = UINT32_MAX;
     expect("all flags", sengadlit_buffer_set_properties(world.buffer, &world.properties), SENGADLIT_DONE);
+}
+
+/* Properties that are all zero set no length, after one that is too short. */
+static void properties_that_are_zero(void)
+{
+    static const sengadlit_buffer_properties_t zero = {0};
+
+    begin_thai();
+    glyphs()[1].glyph_id = 0x0E33;
+    limit_length(3);
+    FAILS("a longer result", preprocess(), SENGADLIT_TOO_LONG, SENGADLIT_ARGUMENT_NONE, 0);
+    expect("no properties", sengadlit_buffer_set_properties(world.buffer, &zero), SENGADLIT_DONE);
+    expect("any length", preprocess(), SENGADLIT_DONE);
+    limit_length(1);
+    FAILS("another length", preprocess(), SENGADLIT_TOO_LONG, SENGADLIT_ARGUMENT_NONE, 0);
 }
 
 static void contexts_that_are_none(void)
@@ -926,6 +960,7 @@ int main(void)
     buffers_that_are_none();
     lengths_and_positions();
     properties_that_are_none();
+    properties_that_are_zero();
     contexts_that_are_none();
     buffers_made_empty();
     texts_after_a_broken_one();

@@ -376,7 +376,7 @@ static void expect_no_stops(const char *what, unsigned int direction, sengadlit_
 
 static void carets_that_are_none(void)
 {
-    const sengadlit_buffer_properties_t none = {.direction = SENGADLIT_DIRECTION_LTR};
+    const sengadlit_buffer_properties_t one = {.max_length = 1};
     sengadlit_error_t error;
 
     begin();
@@ -386,7 +386,8 @@ static void carets_that_are_none(void)
     expect_no_stops("no direction", 3, SENGADLIT_ARGUMENT_DIRECTION);
     expect_no_stops("no direction", 0x104, SENGADLIT_ARGUMENT_DIRECTION);
     check("no buffer", sengadlit_caret_stops(NULL, SENGADLIT_DIRECTION_LTR, NULL) == NULL);
-    check("a greatest length", sengadlit_buffer_set_properties(buffer, &none) == SENGADLIT_DONE);
+    check("a greatest length", sengadlit_buffer_set_properties(buffer, &one) == SENGADLIT_DONE);
+    check("longer", sengadlit_buffer_set_length(buffer, 2) != NULL);
     check("longer", sengadlit_caret_stops(buffer, SENGADLIT_DIRECTION_LTR, NULL) == NULL);
     sengadlit_buffer_get_error(buffer, &error);
     check("longer", error.status == SENGADLIT_TOO_LONG);
