@@ -39,6 +39,7 @@ mod explained;
 mod steps;
 mod support;
 mod text;
+mod way;
 mod whole_font;
 mod word;
 

@@ -1,28 +1,32 @@
 //! The steps of a text through the hooks, one by one, with what a page shows of each.
 //!
-//! [`Steps::of_text`] takes a text the whole way up to the lookups: what comes before the hooks is
-//! called as the crate has it, and the hooks are carried out as lines. [`Steps::of_lines`] carries
-//! out lines alone. Rows are drawn as `draw_lines` draws them.
+//! [`Steps::of_text`] takes a text the whole way up to a font's lookups and through the pauses
+//! between them, by the steps of the crate's `prepare_text` and `run_stages`, one after the other.
+//! [`Steps::of_lines`] carries out lines. Rows are drawn as `draw_lines` draws them.
 
 mod calls;
+mod fractions;
 mod glyph;
 mod subjects;
 mod told;
 mod walk;
 
 use crate::generated::hbhook_boxes::HEAD;
-use crate::word::{PREPROCESS, Route, line_of_text, script_of_word};
-use calls::{Call, Prepared};
+use crate::way::{Wanted, Way};
+use crate::word::script_of_word;
+use calls::calls_of;
 use glyph::Names;
 use sengadlit::ot_shape_normalize::Rounds;
-use sengadlit::{Direction, GlyphInfo, Shaper, ShaperError};
+use sengadlit::ot_shape_plan::ShapeChoices;
+use sengadlit::plan::BreakFlags;
+use sengadlit::{GlyphInfo, Script, Shaper, ShaperError};
 use std::collections::BTreeSet;
 pub(crate) use walk::Walk;
 
 /// The most characters that [`Steps::of_text`] takes of a text, and the most glyphs of a row.
 pub const MOST_SHOWN: usize = 2_000;
 
-// The most glyphs that all steps have together: a text of MOST_SHOWN characters takes twelve steps.
+// The most glyphs that all steps have together: a text of MOST_SHOWN characters takes up to nineteen.
 const MOST_IN_ALL: usize = 50_000;
 
 // The glyph flag of a glyph before which a line may not break.
@@ -86,28 +90,29 @@ pub struct Steps {
 }
 
 impl Steps {
-    /// The steps of a text: Unicode's properties, a circle in front, graphemes, direction, the hook before
-    /// normalization, normalization for a font that has every character, masks, syllables and their
-    /// reorderings. `None` where no script with hooks is chosen, or known of the text. More than
-    /// [`MOST_SHOWN`] characters are cut off.
+    /// The steps of a text: features of the whole text, Unicode's properties, a circle in front,
+    /// graphemes, direction, the hook before normalization, rotated characters, normalization,
+    /// fractions, masks, glyphs, and the pauses, which set syllables up, reorder and clear them. The font
+    /// has every character but those of private use, every feature and no lookup: the last step has the
+    /// glyphs that [`print_text`](crate::print_text) prints. `None` where no script with hooks is chosen,
+    /// or known of the text. More than [`MOST_SHOWN`] characters are cut off.
     ///
     /// ```
     /// use hbhook::{Choices, Steps};
     ///
     /// let steps = Steps::of_text("\u{0D9A}\u{0DD9}", &Choices::default()).unwrap();
     /// assert_eq!(steps.script, Some(*b"Sinh"));
-    /// let last = steps.steps.last().unwrap();
-    /// assert_eq!(last.heads, ["run pause reorder_use"]);
-    /// assert!(last.told.starts_with("0DD9 moved from place 1 to place 0"));
+    /// let reordered = steps.steps.iter().find(|step| step.heads == ["run pause reorder_use"]).unwrap();
+    /// assert!(reordered.told.starts_with("0DD9 moved from place 1 to place 0"));
     /// ```
     #[must_use]
     pub fn of_text(text: &str, choices: &Choices) -> Option<Self> {
         let text: String = text.chars().take(MOST_SHOWN).collect();
         let code = choices.script.or_else(|| script_of_word(&text))?;
-        let route = Route::of(code)?;
-        let prepared = Prepared::of(&route, choices)?;
+        let way = Way::of(Script(code), wanted_of(choices)).ok()?;
+        let shaper = way.plan.shaper()?;
         let mut walk = Walk::new();
-        let ended = walk_text(&mut walk, &route, &prepared, &text, choices).err();
+        let ended = walk_text(&mut walk, &way, shaper, &text, choices).err();
         let steps = walk.finished(Some(code), ended);
         Some(Steps { text, ..steps })
     }
@@ -179,58 +184,48 @@ pub fn drawing_style() -> &'static str {
     style.split("</style>").next().unwrap_or("")
 }
 
+// What a text's way is decided by.
+fn wanted_of(choices: &Choices) -> Wanted {
+    let break_flags = if choices.is_sound {
+        BreakFlags::Sound
+    } else {
+        BreakFlags::default()
+    };
+    let rounds = if choices.has_all_rounds {
+        Rounds::Always
+    } else {
+        Rounds::default()
+    };
+    Wanted {
+        is_rtl: choices.is_rtl,
+        shape: ShapeChoices {
+            break_flags,
+            ..ShapeChoices::default()
+        },
+        rounds,
+        has_gpos_mark: choices.has_gpos_mark,
+    }
+}
+
 // Takes a text through its steps; returns why there are no more, where one ended them.
 fn walk_text(
     walk: &mut Walk,
-    route: &Route,
-    prepared: &Prepared,
+    way: &Way,
+    shaper: Shaper,
     text: &str,
     choices: &Choices,
 ) -> Result<(), String> {
-    for line in route.settings.iter().chain(&settings_of(choices)) {
+    let settings = [
+        format!("set level {}", choices.level),
+        format!("set flags {:x}", choices.flags),
+    ];
+    for line in settings.iter().chain(&way.lines(text)) {
         walk.carry_out(line)?;
     }
-    walk.carry_out(&line_of_text(text))?;
-    walk.call(Call::Properties, prepared)?;
-    if choices.is_beginning {
-        walk.call(Call::FirstCircle, prepared)?;
-    }
-    for call in [Call::Graphemes, Call::Direction] {
-        walk.call(call, prepared)?;
-    }
-    if matches!(route.shaper, Shaper::Indic | Shaper::Universal) {
-        walk.call(Call::Vowels, prepared)?;
-    }
-    let (preprocess, hooks): (Vec<&String>, Vec<&String>) =
-        route.hooks.iter().partition(|line| *line == PREPROCESS);
-    for line in preprocess {
-        walk.carry_out(line)?;
-    }
-    for call in [Call::Rotation, Call::Normalization] {
-        walk.call(call, prepared)?;
-    }
-    for line in hooks {
-        walk.carry_out(line)?;
+    for call in calls_of(way, shaper, choices.is_beginning) {
+        walk.call(call, way)?;
     }
     Ok(())
-}
-
-// The lines of what is chosen. The font of the lines has the dotted circle alone.
-fn settings_of(choices: &Choices) -> Vec<String> {
-    let mut lines = vec!["font 25CC 9676 0".into()];
-    if let Some(is_rtl) = choices.is_rtl {
-        let direction = if is_rtl { "rtl" } else { "ltr" };
-        lines.push(format!("set direction {direction}"));
-    }
-    lines.push(format!("set level {}", choices.level));
-    lines.push(format!("set flags {:x}", choices.flags));
-    if choices.is_sound {
-        lines.push("set breaks sound".into());
-    }
-    if choices.has_gpos_mark {
-        lines.push("set gposmark yes".into());
-    }
-    lines
 }
 
 #[cfg(test)]

@@ -1,21 +1,16 @@
-//! A text the whole way up to a font's lookups, and through the pauses between them, by the plan of
-//! its script and for a font that stands in for a real one.
+//! A text the whole way up to a font's lookups and through the pauses between them, printed and
+//! drawn.
 
 use crate::generated::hbhook_boxes::{Context, FOOT, HEAD, Line, write_lines, write_text};
 use crate::generated::hbhook_commands::{LineFault, print_buffer};
 use crate::generated::hbhook_lines::Session;
 use crate::steps::{Steps, Walk};
 use crate::support::string::String as Page;
-use crate::whole_font::WholeFont;
-use crate::word::{Planned, line_of_text, name_of, name_of_pause, runs_from_right, script_of_word};
+use crate::way::{Wanted, Way};
+use crate::word::{name_of_pause, script_of_word};
 use sengadlit::alloc::{AllocError, Global};
-use sengadlit::ot_shape::{TextPlan, prepare_text};
-use sengadlit::ot_shape_normalize::NormalizeSettings;
-use sengadlit::ot_shape_plan::{ShapeChoices, ShapePlan};
-use sengadlit::shaper::checked::CallError;
-use sengadlit::spans::setup_syllables_found;
-use sengadlit::unicode::UnicodeTables;
-use sengadlit::{Buffer, Direction, Pause, Script, ShaperError, Tag, run_pause};
+use sengadlit::ot_shape_plan::ShapeChoices;
+use sengadlit::{Buffer, Script, ShaperError};
 use std::fmt;
 
 /// Why a text has no glyphs.
@@ -73,7 +68,7 @@ pub fn print_text(
     script: Option<[u8; 4]>,
     choices: ShapeChoices,
 ) -> Result<String, TextFault> {
-    let way = Way::of(text, script, choices)?;
+    let way = way_of(text, script, choices)?;
     let mut session = Session::new(Global);
     for line in way.lines(text) {
         session.carry_out(line.as_bytes()).map_err(refusal_of)?;
@@ -98,10 +93,10 @@ pub fn draw_text(
     script: Option<[u8; 4]>,
     choices: ShapeChoices,
 ) -> Result<String, TextFault> {
-    let way = Way::of(text, script, choices)?;
+    let way = way_of(text, script, choices)?;
     let mut walk = Walk::new();
-    way.walk(&mut walk, text).map_err(TextFault::Undrawn)?;
-    let context = way.context()?;
+    walk_text(&way, &mut walk, text).map_err(TextFault::Undrawn)?;
+    let context = context_of(&way)?;
     let steps = walk.finished(Some(way.script.0), None);
     Ok(page_of(&steps, text, &context)?.as_str().into())
 }
@@ -110,117 +105,34 @@ pub fn draw_text(
 const PREPARE: &str = "prepare_text";
 const PREPARED: Option<(&str, &str)> = Some(("shapers_pipeline", "Prepared"));
 
-/// The way of a text: what is decided for its script.
-struct Way {
-    script: Script,
-    direction: Direction,
-    plan: ShapePlan,
-    font: WholeFont,
+// The way of a text of this script, or of its own.
+fn way_of(text: &str, script: Option<[u8; 4]>, choices: ShapeChoices) -> Result<Way, TextFault> {
+    let code = script.or_else(|| script_of_word(text));
+    let wanted = Wanted {
+        shape: choices,
+        ..Wanted::default()
+    };
+    Ok(Way::of(Script(code.ok_or(TextFault::NoScript)?), wanted)?)
 }
 
-impl Way {
-    fn of(text: &str, script: Option<[u8; 4]>, choices: ShapeChoices) -> Result<Self, TextFault> {
-        let code = script.or_else(|| script_of_word(text));
-        let script = Script(code.ok_or(TextFault::NoScript)?);
-        let direction = if runs_from_right(script) {
-            Direction::RightToLeft
-        } else {
-            Direction::LeftToRight
-        };
-        let font = WholeFont::of(script);
-        let named = Some(script);
-        let plan = ShapePlan::with_choices(Global, named, direction, &font, &font, &[], choices)?;
-        Ok(Way {
-            script,
-            direction,
-            plan,
-            font,
-        })
+// Takes a text through its steps.
+fn walk_text(way: &Way, walk: &mut Walk, text: &str) -> Result<(), String> {
+    for line in way.lines(text) {
+        walk.carry_out(&line)?;
     }
+    walk.step(PREPARE, PREPARED, |buffer| way.prepare(buffer))?;
+    for pause in way.pauses() {
+        let name = format!("run pause {}", name_of_pause(pause));
+        walk.step(&name, None, |buffer| way.pause(pause, buffer))?;
+    }
+    Ok(())
+}
 
-    // The lines that put the text into a buffer, with the masks that the plan has for features.
-    fn lines(&self, text: &str) -> Vec<String> {
-        let mut lines = vec!["set tables unicode".into()];
-        if let Some(shaper) = self.plan.shaper() {
-            lines.push(format!("set shaper {}", name_of(shaper)));
-        }
-        lines.push(format!(
-            "set script {}",
-            String::from_utf8_lossy(&self.script.0)
-        ));
-        if self.direction == Direction::RightToLeft {
-            lines.push("set direction rtl".into());
-        }
-        for tag in self.features() {
-            let mask = self.plan.plan().ot_map.one_mask(tag);
-            lines.push(format!("mask {} {mask:x}", String::from_utf8_lossy(&tag.0)));
-        }
-        lines.push(line_of_text(text));
-        lines
-    }
-
-    // The features that are turned on glyph by glyph: the shaper's, and those of fractions.
-    fn features(&self) -> Vec<Tag> {
-        let shaper = self.plan.shaper();
-        let planned = shaper.and_then(|shaper| Planned::of(shaper, self.script));
-        let mut features = planned.map_or_else(Vec::new, |planned| planned.features);
-        features.extend([Tag(*b"frac"), Tag(*b"numr"), Tag(*b"dnom")]);
-        features
-    }
-
-    fn pauses(&self) -> impl Iterator<Item = Pause> {
-        self.plan.stages().iter().filter_map(|stage| stage.pause)
-    }
-
-    // Does all that comes before lookups.
-    fn prepare(&self, buffer: &mut Buffer) -> Result<(), ShaperError> {
-        let plan = TextPlan {
-            shaper: self.plan.shaper(),
-            plan: self.plan.plan(),
-            masks: self.plan.masks(),
-            ranges: self.plan.ranges(),
-        };
-        let settings = NormalizeSettings::default();
-        let prepared = self.font.to_characters(buffer, |buffer| {
-            prepare_text(&plan, &settings, &self.font, &UnicodeTables, buffer)
-        });
-        prepared.map_err(|error| match error {
-            CallError::Refused(refusal) => refusal,
-            // the plan has its shaper's data, and the text is of characters, without positions
-            CallError::Condition(condition) => unreachable!("{condition:?} isn't met"),
-        })
-    }
-
-    // Runs a pause, with the syllables that the shaper's grammar finds.
-    fn pause(&self, pause: Pause, buffer: &mut Buffer) -> Result<(), ShaperError> {
-        let plan = self.plan.plan();
-        self.font.on_glyphs(buffer, |buffer| {
-            if !setup_syllables_found(pause, plan, buffer) {
-                run_pause(pause, plan, &self.font, &[], buffer)?;
-            }
-            Ok(())
-        })
-    }
-
-    // Takes the text through its steps.
-    fn walk(&self, walk: &mut Walk, text: &str) -> Result<(), String> {
-        for line in self.lines(text) {
-            walk.carry_out(&line)?;
-        }
-        walk.step(PREPARE, PREPARED, |buffer| self.prepare(buffer))?;
-        for pause in self.pauses() {
-            let name = format!("run pause {}", name_of_pause(pause));
-            walk.step(&name, None, |buffer| self.pause(pause, buffer))?;
-        }
-        Ok(())
-    }
-
-    // What stands around the text: nothing, but the direction counts.
-    fn context(&self) -> Result<Context, AllocError> {
-        let mut buffer = Buffer::default();
-        buffer.set_direction(self.direction);
-        Context::of(&buffer)
-    }
+// What stands around the text: nothing, but the direction counts.
+fn context_of(way: &Way) -> Result<Context, AllocError> {
+    let mut buffer = Buffer::default();
+    buffer.set_direction(way.direction);
+    Context::of(&buffer)
 }
 
 // Lines of a text are refused where it doesn't fit a buffer; they are well-formed.

@@ -27,24 +27,37 @@ const SECOND: [([u8; 4], [u8; 4]); 10] = [
 const FIRST_FAR: u32 = 0xD800;
 const MOST_FAR: usize = 0xF900 - 0xD800;
 
+/// The tag of a script's second specification, where there is one.
+pub(crate) fn second_specification(script: Script) -> Option<Tag> {
+    let row = SECOND.iter().find(|row| row.0 == script.0)?;
+    Some(Tag(row.1))
+}
+
 /// The font for a text of a script. The glyph of a character has the character's number; those above
 /// U+FFFF, which no glyph's number reaches, have others, in the order in which they were looked up.
 pub(crate) struct WholeFont {
     chosen: Tag,
+    has_gpos_mark: bool,
     far: RefCell<Vec<u32>>,
 }
 
 impl WholeFont {
-    /// The font for this script, by the newest specification that its shaper reads.
-    pub(crate) fn of(script: Script) -> Self {
-        let second = SECOND.iter().find(|row| row.0 == script.0);
-        let chosen = second.map_or_else(
-            || script.0.map(|letter| letter.to_ascii_lowercase()),
-            |row| row.1,
-        );
+    /// The font for this script, by the newest specification that its shaper reads; it places marks by
+    /// GPOS, or has no GPOS.
+    pub(crate) fn of(script: Script, has_gpos_mark: bool) -> Self {
+        let first = || Tag(script.0.map(|letter| letter.to_ascii_lowercase()));
         WholeFont {
-            chosen: Tag(chosen),
+            chosen: second_specification(script).unwrap_or_else(first),
+            has_gpos_mark,
             far: RefCell::new(Vec::new()),
+        }
+    }
+
+    // Whether the font has a feature of this tag.
+    fn offers(&self, table: TableIndex, tag: Tag) -> bool {
+        match table {
+            TableIndex::GSUB => !LACKING.contains(&tag),
+            TableIndex::GPOS => self.has_gpos_mark && tag == MARK,
         }
     }
 
@@ -135,13 +148,16 @@ impl NormalizeFont for WholeFont {
     }
 }
 
-// The features that GSUB lacks: that by which GPOS places marks, so that letters and points of Hebrew
-// are composed; and `rand`, which would take eight bits of each mask.
-const LACKING: [Tag; 2] = [Tag(*b"mark"), Tag(*b"rand")];
+// The feature by which GPOS places marks.
+const MARK: Tag = Tag(*b"mark");
+
+// The features that GSUB lacks: that of GPOS, so that letters and points of Hebrew are composed; and
+// `rand`, which would take eight bits of each mask.
+const LACKING: [Tag; 2] = [MARK, Tag(*b"rand")];
 
 impl FontFeatures for WholeFont {
     fn has_table(&self, table: TableIndex) -> bool {
-        table == TableIndex::GSUB
+        table == TableIndex::GSUB || self.has_gpos_mark
     }
 
     fn chosen_script(&self, table: TableIndex) -> Option<Tag> {
@@ -153,7 +169,7 @@ impl FontFeatures for WholeFont {
     }
 
     fn feature_lookups(&self, table: TableIndex, tag: Tag) -> Option<&[u16]> {
-        (table == TableIndex::GSUB && !LACKING.contains(&tag)).then_some(&[])
+        self.offers(table, tag).then_some(&[])
     }
 
     fn any_feature_lookups(&self, table: TableIndex, tag: Tag) -> Option<&[u16]> {
@@ -175,7 +191,7 @@ mod tests {
 
     #[test]
     fn a_character_has_one_glyph_and_is_found_again() {
-        let font = WholeFont::of(Script(*b"Adlm"));
+        let font = WholeFont::of(Script(*b"Adlm"), false);
         let glyph = |c| font.nominal_glyph(c).map(|glyph| u32::from(glyph.0));
         assert_eq!(glyph(0x1780), Some(0x1780));
         assert_eq!(glyph(0x1E900), Some(0xD800));
@@ -188,10 +204,41 @@ mod tests {
         }
     }
 
+    // The tags of OpenType's registry of scripts: Bengali v.2 and so on.
     #[test]
     fn the_newest_specification_is_chosen() {
-        let chosen = |code| WholeFont::of(Script(code)).chosen_script(TableIndex::GSUB);
-        assert_eq!(chosen(*b"Deva"), Some(Tag(*b"dev2")));
-        assert_eq!(chosen(*b"Khmr"), Some(Tag(*b"khmr")));
+        let chosen = |code| {
+            let font = WholeFont::of(Script(code), false);
+            font.chosen_script(TableIndex::GSUB).unwrap().0
+        };
+        let registered: [([u8; 4], &[u8; 4]); 12] = [
+            (*b"Beng", b"bng2"),
+            (*b"Deva", b"dev2"),
+            (*b"Gujr", b"gjr2"),
+            (*b"Guru", b"gur2"),
+            (*b"Knda", b"knd2"),
+            (*b"Mlym", b"mlm2"),
+            (*b"Mymr", b"mym2"),
+            (*b"Orya", b"ory2"),
+            (*b"Taml", b"tml2"),
+            (*b"Telu", b"tel2"),
+            (*b"Khmr", b"khmr"),
+            (*b"Sinh", b"sinh"),
+        ];
+        for (code, tag) in registered {
+            assert_eq!(&chosen(code), tag);
+        }
+    }
+
+    #[test]
+    fn marks_are_placed_by_gpos_alone() {
+        let feature = |has_gpos_mark, table, tag: &[u8; 4]| {
+            let font = WholeFont::of(Script(*b"Hebr"), has_gpos_mark);
+            font.feature_lookups(table, Tag(*tag)).is_some()
+        };
+        let (gsub, gpos) = (TableIndex::GSUB, TableIndex::GPOS);
+        assert!(feature(true, gpos, b"mark") && !feature(false, gpos, b"mark"));
+        assert!(!feature(true, gpos, b"kern") && !feature(true, gsub, b"mark"));
+        assert!(!feature(true, gsub, b"rand") && feature(true, gsub, b"liga"));
     }
 }

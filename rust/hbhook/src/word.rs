@@ -1,10 +1,16 @@
 //! The lines of a word: what a script needs around a text so that the hooks of its shaper run.
 
+use crate::whole_font::second_specification;
 use sengadlit::alloc::Global;
+use sengadlit::buffer::UnicodeProps;
 use sengadlit::font::FeaturesOnly;
 use sengadlit::map::F_GLOBAL;
+use sengadlit::ot_shape_prepare::ensure_native_direction;
 use sengadlit::unicode::{UnicodeTables, decompose, general_category};
-use sengadlit::{Direction, Pause, Plan, Planner, Request, Script, Shaper, Tag};
+use sengadlit::{
+    Buffer, Direction, GeneralCategory, GlyphInfo, Pause, Plan, Planner, Request, Script, Shaper,
+    Tag,
+};
 
 /// The scripts by their own blocks of Unicode: the first and the last character, and the code.
 const SCRIPTS: [(char, char, [u8; 4]); 44] = [
@@ -104,19 +110,24 @@ const NAMES: [(&str, [u8; 4]); 43] = [
 /// The line of the hook before normalization.
 pub(crate) const PREPROCESS: &str = "run preprocess";
 
-// The scripts of these whose text runs from right to left.
-const FROM_RIGHT: [&[u8; 4]; 6] = [b"Hebr", b"Arab", b"Syrc", b"Nkoo", b"Mand", b"Adlm"];
-
-/// Whether a script's text runs from right to left.
+/// Whether a script's text runs from right to left: the pipeline turns a letter that runs the other
+/// way.
 pub(crate) fn runs_from_right(script: Script) -> bool {
-    FROM_RIGHT.contains(&&script.0)
+    let letter = GlyphInfo {
+        unicode_props: UnicodeProps::new(GeneralCategory::Lo, 0),
+        ..GlyphInfo::DEFAULT
+    };
+    let mut text: Buffer = [letter].into_iter().collect();
+    text.set_script(Some(script));
+    ensure_native_direction(&mut text);
+    text.direction() == Direction::RightToLeft
 }
 
 /// The lines that run the hooks of a word's script over it, in the order of a pipeline: what comes
-/// before normalization, masks, and the pauses that set syllables up and reorder them. The features
-/// that hooks turn on have masks; vowel signs of several parts are taken apart, as normalization
-/// does. The script is that of the first character that is of one with a shaper; without such a
-/// character there are no lines.
+/// before normalization, masks, and the pauses that set syllables up and reorder them. The script is
+/// set up by its second specification, where it has one. The features that hooks turn on have masks;
+/// vowel signs of several parts are taken apart, as normalization does. The script is that of the first
+/// character that is of one with a shaper; without such a character there are no lines.
 ///
 /// ```
 /// let lines = hbhook::lines_of_word("\u{0E19}\u{0E33}").unwrap();
@@ -128,9 +139,13 @@ pub(crate) fn runs_from_right(script: Script) -> bool {
 /// ```
 #[must_use]
 pub fn lines_of_word(word: &str) -> Option<String> {
-    let route = Route::of(script_of_word(word)?)?;
-    let text = line_of_text(&with_parts(route.shaper, route.script, word));
-    let lines = [route.settings, vec![text], route.hooks].concat();
+    let script = Script(script_of_word(word)?);
+    let shaper = Shaper::for_script(script, Direction::LeftToRight, None)?;
+    let planned = Planned::of(shaper, script)?;
+    let text = with_parts(shaper, script, word);
+    let mut lines = settings_of(shaper, script, &planned.features);
+    lines.push(line_of_text(&text));
+    lines.extend(hooks_of(shaper, &planned.pauses));
     Some(lines.join("\n") + "\n")
 }
 
@@ -164,41 +179,18 @@ pub fn script_named(name: &str) -> Option<[u8; 4]> {
     Some(code)
 }
 
-/// The way of a script's text through its hooks: the shaper, and the lines before and behind the
-/// line of the text.
-pub(crate) struct Route {
-    pub(crate) script: Script,
-    pub(crate) shaper: Shaper,
-    pub(crate) settings: Vec<String>,
-    pub(crate) hooks: Vec<String>,
-}
-
-impl Route {
-    /// The way of the script of this code, if it has hooks.
-    pub(crate) fn of(code: [u8; 4]) -> Option<Self> {
-        let script = Script(code);
-        let shaper = Shaper::for_script(script, Direction::LeftToRight, None)?;
-        let planned = Planned::of(shaper, script)?;
-        Some(Route {
-            script,
-            shaper,
-            settings: settings_of(shaper, code, &planned.features),
-            hooks: hooks_of(shaper, &planned.pauses),
-        })
-    }
-}
-
 /// The script of the first character that is of one with a shaper.
 pub(crate) fn script_of_word(word: &str) -> Option<[u8; 4]> {
     word.chars().find_map(script_of)
 }
 
 // The lines that set a script up: its shaper and direction, and a mask for each of these features.
-fn settings_of(shaper: Shaper, code: [u8; 4], features: &[Tag]) -> Vec<String> {
+fn settings_of(shaper: Shaper, script: Script, features: &[Tag]) -> Vec<String> {
     let mut lines = vec!["set tables unicode".into()];
     lines.push(format!("set shaper {}", name_of(shaper)));
-    lines.push(format!("set script {}", String::from_utf8_lossy(&code)));
-    if runs_from_right(Script(code)) {
+    lines.push(format!("set script {}", String::from_utf8_lossy(&script.0)));
+    lines.extend(line_of_specification(script));
+    if runs_from_right(script) {
         lines.push("set direction rtl".into());
     }
     let masks = features.iter().zip(4..32);
@@ -207,6 +199,12 @@ fn settings_of(shaper: Shaper, code: [u8; 4], features: &[Tag]) -> Vec<String> {
         format!("mask {tag} {:x}", 1u32 << bit)
     }));
     lines
+}
+
+/// The line that chooses the second specification of a script that has one.
+pub(crate) fn line_of_specification(script: Script) -> Option<String> {
+    let chosen = second_specification(script)?;
+    Some(format!("set chosen {}", String::from_utf8_lossy(&chosen.0)))
 }
 
 // The lines of a shaper's hooks and of these pauses, in the order of a pipeline.
@@ -360,7 +358,8 @@ pub(crate) fn line_of_text(text: &str) -> String {
 
 #[cfg(test)]
 mod tests {
-    use super::{NAMES, SCRIPTS, lines_of_word, script_named};
+    use super::{NAMES, SCRIPTS, lines_of_word, runs_from_right, script_named};
+    use sengadlit::Script;
     use std::fs;
     use std::path::Path;
 
@@ -416,6 +415,31 @@ mod tests {
                 );
             }
         }
+    }
+
+    // HarfBuzz's hb_script_get_horizontal_direction; the letters of these scripts have the types R and
+    // AL in Unicode's DerivedBidiClass.txt.
+    #[test]
+    fn scripts_run_from_the_right() {
+        let from_right = [*b"Hebr", *b"Arab", *b"Syrc", *b"Nkoo", *b"Mand", *b"Adlm"];
+        for (_, _, code) in SCRIPTS {
+            assert_eq!(
+                runs_from_right(Script(code)),
+                from_right.contains(&code),
+                "{code:?}"
+            );
+        }
+        for code in [*b"Rohg", *b"Sogd", *b"Mani", *b"Thaa"] {
+            assert!(runs_from_right(Script(code)), "{code:?}");
+        }
+        for code in [*b"Latn", *b"Phag", *b"Brah"] {
+            assert!(!runs_from_right(Script(code)), "{code:?}");
+        }
+        let lines = lines_of_word("\u{084C}\u{0840}").unwrap();
+        assert!(
+            lines.contains("\nset script Mand\nset direction rtl\n"),
+            "{lines}"
+        );
     }
 
     #[test]

@@ -2,8 +2,11 @@
 
 use crate::generated::hbhook_commands::ShaperName;
 
-/// The crate and the entry of a line of this shaper, if it runs a hook or a pause.
-pub(super) fn subject_of(line: &str, shaper: ShaperName) -> Option<(&'static str, &'static str)> {
+/// A crate, and the entry of a definition there.
+pub(super) type Subject = (&'static str, &'static str);
+
+/// The definition of a line of this shaper, if it runs a hook or a pause.
+pub(super) fn subject_of(line: &str, shaper: ShaperName) -> Option<Subject> {
     let mut fields = line.strip_prefix("run ")?.split(' ');
     match fields.next()? {
         "pause" => subject_of_pause(fields.next()?),
@@ -32,7 +35,7 @@ pub(super) fn subject_of(line: &str, shaper: ShaperName) -> Option<(&'static str
 }
 
 // By shaper, what sets masks.
-fn subject_of_masks(shaper: ShaperName) -> Option<(&'static str, &'static str)> {
+fn subject_of_masks(shaper: ShaperName) -> Option<Subject> {
     match shaper {
         ShaperName::Arabic => Some(("shapers_arabic", "Joining")),
         ShaperName::Hangul => Some(("shapers_hangul", "Masks")),
@@ -45,7 +48,7 @@ fn subject_of_masks(shaper: ShaperName) -> Option<(&'static str, &'static str)> 
 }
 
 // By name, what a pause does.
-fn subject_of_pause(name: &str) -> Option<(&'static str, &'static str)> {
+fn subject_of_pause(name: &str) -> Option<Subject> {
     match name {
         "setup_syllables_indic"
         | "setup_syllables_khmer"
@@ -61,6 +64,7 @@ fn subject_of_pause(name: &str) -> Option<(&'static str, &'static str)> {
         "initial_reordering" => Some(("shapers_indic_initial", "InitialReordering")),
         "final_reordering" => Some(("shapers_indic_final", "FinalReordering")),
         "record_stch" => Some(("shapers_stretch", "Recorded")),
+        "arabic_fallback_shape" => Some(("rustybuzz_shapers", "Pauses")),
         _ => None,
     }
 }

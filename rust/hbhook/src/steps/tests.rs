@@ -1,5 +1,6 @@
 use super::told::{moved_places, told};
 use super::*;
+use sengadlit::GlyphProps;
 use std::collections::BTreeSet;
 use std::fs;
 use std::path::Path;
@@ -49,30 +50,111 @@ fn a_text_takes_the_steps_of_its_shaper() {
         steps.into_iter().flat_map(|step| step.heads).collect()
     };
     let before = [
+        "initialize_masks",
         "set_unicode_properties",
         "form_clusters",
         "ensure_native_direction",
     ];
-    let between = ["rotate_chars", "ot_shape_normalize"];
+    let between = ["rotate_chars", "ot_shape_normalize", "set_fractions"];
     let thai = heads("\u{0E14}\u{0E33}");
-    assert_eq!(thai[1..4], before);
-    assert_eq!(thai[4], "run preprocess");
-    assert_eq!(thai[5..], between);
+    assert_eq!(thai[1..5], before);
+    assert_eq!(thai[5], "preprocess_text");
+    assert_eq!(thai[6..9], between);
+    assert_eq!(thai[9..], ["map_glyphs"]);
     let khmer = heads("\u{1780}\u{17C1}");
-    assert_eq!(khmer[1..4], before);
-    assert_eq!(khmer[4..6], between);
+    assert_eq!(khmer[1..5], before);
+    assert_eq!(khmer[5..8], between);
     assert_eq!(
-        khmer[6..],
+        khmer[8..],
         [
-            "run masks",
+            "setup_masks",
+            "map_glyphs",
             "run pause setup_syllables_khmer",
-            "run pause reorder_khmer"
+            "run pause reorder_khmer",
+            "run pause syllabic_clear_var"
         ]
     );
     assert_eq!(
-        heads("\u{0905}\u{0906}")[4],
+        heads("\u{0905}\u{0906}")[5],
         "preprocess_text_vowel_constraints"
     );
+}
+
+// Normalization leaves the numbers of glyphs where the marks of lookups stand: they aren't marks.
+#[test]
+fn numbers_of_glyphs_are_no_marks() {
+    let khmer = steps_of("\u{1780}\u{17C4}").steps;
+    let place = khmer
+        .iter()
+        .position(|step| step.heads == ["ot_shape_normalize"])
+        .unwrap();
+    for step in &khmer[place..] {
+        assert!(!step.drawn.contains("glyph</"), "{:?}", step.heads);
+        for glyph in &step.glyphs {
+            assert_eq!(glyph.glyph_props, GlyphProps::NONE, "{:?}", step.heads);
+        }
+    }
+    assert_eq!(khmer[place].told, "17C4 became 17C1; 17C4 came in.");
+    assert_eq!(khmer[place + 1].told, "Nothing changed.");
+    assert_eq!(khmer[place + 3].heads, ["map_glyphs"]);
+    assert_eq!(khmer[place + 3].told, "Nothing changed.");
+}
+
+// The font has no character of private use: its glyph is number 0.
+#[test]
+fn a_character_that_the_font_lacks_is_glyph_0() {
+    let steps = steps_of("\u{0E01}\u{E000}").steps;
+    let last = steps.last().unwrap();
+    assert_eq!(last.heads, ["map_glyphs"]);
+    assert_eq!(last.told, "E000 became 0000.");
+}
+
+// Jamo compose in a font that has syllables of Hangul.
+#[test]
+fn decomposed_hangul_composes() {
+    let steps = steps_of("\u{1109}\u{1175}\u{11AB}\u{1107}\u{1165}\u{11B8}").steps;
+    let last = steps.last().unwrap();
+    let numbers: Vec<u32> = last.glyphs.iter().map(|glyph| glyph.glyph_id).collect();
+    assert_eq!(numbers, [0xC2E0, 0xBC95]);
+}
+
+// By the second specification a syllable of Bengali keeps its ZWNJ in a cluster of its own (HarfBuzz).
+#[test]
+fn indic_is_set_up_by_its_second_specification() {
+    let text = "\u{09B8}\u{099F}\u{09CD}\u{200C}\u{0995}\u{09BE}\u{0987}";
+    let steps = steps_of(text).steps;
+    let last = steps.last().unwrap();
+    let clusters: Vec<u32> = last.glyphs.iter().map(|glyph| glyph.cluster).collect();
+    assert_eq!(clusters, [0, 1, 1, 3, 4, 4, 6]);
+}
+
+// What is chosen reaches the plan: where GPOS places marks, a letter and a point stay apart; a text
+// that a caller wants from left to right is turned.
+#[test]
+fn choices_are_those_of_the_plan() {
+    let last = |text: &str, choices: Choices| -> Vec<u32> {
+        let steps = Steps::of_text(text, &choices).unwrap().steps;
+        let glyphs = &steps.last().unwrap().glyphs;
+        glyphs.iter().map(|glyph| glyph.glyph_id).collect()
+    };
+    let choices = Choices::default();
+    assert_eq!(last("\u{05D9}\u{05B4}", choices), [0xFB1D]);
+    let choices = Choices {
+        has_gpos_mark: true,
+        ..choices
+    };
+    assert_eq!(last("\u{05D9}\u{05B4}", choices), [0x05D9, 0x05B4]);
+    let choices = Choices {
+        is_rtl: Some(false),
+        ..choices
+    };
+    assert_eq!(last("\u{05D0}\u{05D1}", choices), [0x05D1, 0x05D0]);
+    let choices = Choices {
+        has_all_rounds: true,
+        ..Choices::default()
+    };
+    assert_eq!(last("\u{1026}", choices), [0x1026]);
+    assert_eq!(last("\u{1026}", Choices::default()), [0x1025, 0x102E]);
 }
 
 #[test]
@@ -82,12 +164,12 @@ fn a_mark_at_the_beginning_gets_a_circle() {
         ..Choices::default()
     };
     let steps = Steps::of_text("\u{17C1}\u{1780}", &choices).unwrap();
-    let circle = &steps.steps[2];
+    let circle = &steps.steps[3];
     assert_eq!(circle.heads, ["insert_dotted_circle"]);
     let numbers: Vec<u32> = circle.glyphs.iter().map(|it| it.glyph_id).collect();
     assert_eq!(numbers, [0x25CC, 0x17C1, 0x1780]);
     assert_ne!(
-        steps_of("\u{17C1}").steps[2].heads,
+        steps_of("\u{17C1}").steps[3].heads,
         ["insert_dotted_circle"]
     );
 }
@@ -111,7 +193,7 @@ fn normalization_takes_a_vowel_apart() {
     // Tamil O is E and AA; E then goes before the letter
     let steps = steps_of("\u{0B95}\u{0BCA}");
     let numbers = |step: &Step| -> Vec<u32> { step.glyphs.iter().map(|it| it.glyph_id).collect() };
-    let normalized = &steps.steps[6];
+    let normalized = &steps.steps[7];
     assert_eq!(normalized.heads, ["ot_shape_normalize"]);
     assert_eq!(numbers(normalized), [0x0B95, 0x0BC6, 0x0BBE]);
     assert_eq!(normalized.origins, [0, 1, 1]);
@@ -125,7 +207,13 @@ fn normalization_takes_a_vowel_apart() {
 fn the_moves_of_a_glyph_lead_to_the_text() {
     let steps = steps_of("\u{0D9A}\u{0DD9}");
     let last = steps.steps.len() - 1;
-    assert_eq!(steps.moves(last, 0), [(last, 1, 0)]);
+    let reordered = steps
+        .steps
+        .iter()
+        .position(|step| step.heads == ["run pause reorder_use"])
+        .unwrap();
+    assert_eq!(steps.moves(reordered, 0), [(reordered, 1, 0)]);
+    assert_eq!(steps.moves(last, 0), [(reordered, 1, 0)]);
     assert_eq!(steps.moves(last, 1), []);
     assert_eq!(steps.moves(last + 1, 9), []);
     let fields = steps.fields(last, 0);

@@ -1,8 +1,8 @@
 //! The walk over lines and calls, which draws what each step left.
 
-use super::calls::{Call, Prepared};
+use super::calls::Call;
 use super::glyph::Names;
-use super::subjects::subject_of;
+use super::subjects::{Subject, subject_of};
 use super::told::told;
 use super::{MOST_IN_ALL, MOST_SHOWN, ShaperError, Step, Steps};
 use crate::explained::explain_end;
@@ -12,8 +12,10 @@ use crate::generated::hbhook_draw::drawing::{draw_row, row_of};
 use crate::generated::hbhook_draw::origins::{Origins, Traced};
 use crate::generated::hbhook_lines::Session;
 use crate::support::string::String as Page;
-use sengadlit::Buffer;
+use crate::way::Way;
 use sengadlit::alloc::Global;
+use sengadlit::{Buffer, GlyphInfo, GlyphProps};
+use std::mem;
 
 /// The steps so far, and the session that they are made in.
 pub(crate) struct Walk {
@@ -25,6 +27,8 @@ pub(crate) struct Walk {
     glyphs: usize,
     // The lines that wrote to the buffer since the last step.
     written: Vec<String>,
+    // Whether the last step left numbers of glyphs where the marks of lookups stand.
+    has_numbers: bool,
 }
 
 impl Walk {
@@ -37,6 +41,7 @@ impl Walk {
             steps: Vec::new(),
             glyphs: 0,
             written: Vec::new(),
+            has_numbers: false,
         }
     }
 
@@ -64,20 +69,23 @@ impl Walk {
         done.map_err(|fault| format!("{line}: {}", fault.told()))
     }
 
-    /// Makes a call.
-    pub(super) fn call(&mut self, call: Call, prepared: &Prepared) -> Result<(), String> {
-        let run = |buffer: &mut Buffer| call.run(prepared, buffer);
-        self.step(call.name(), Some(call.subject()), run)
+    /// Takes a step of the pipeline.
+    pub(super) fn call(&mut self, call: Call, way: &Way) -> Result<(), String> {
+        let name = call.name();
+        let subject = call.subject(self.session.shaper_name());
+        let run = |buffer: &mut Buffer| call.run(way, buffer);
+        self.take_step(&name, subject, call.leaves_numbers(), run)
+            .map_err(|fault| format!("{name}: {}", fault.told()))
     }
 
     /// Takes a step that is no line, by its name and where docs/DEFINITIONS.md defines it.
     pub(crate) fn step(
         &mut self,
         name: &str,
-        subject: Option<(&'static str, &'static str)>,
+        subject: Option<Subject>,
         run: impl Fn(&mut Buffer) -> Result<(), ShaperError>,
     ) -> Result<(), String> {
-        self.take_step(name, subject, run)
+        self.take_step(name, subject, false, run)
             .map_err(|fault| format!("{name}: {}", fault.told()))
     }
 
@@ -130,7 +138,7 @@ impl Walk {
         if self.written.is_empty() {
             return Ok(());
         }
-        let heads = std::mem::take(&mut self.written);
+        let heads = mem::take(&mut self.written);
         let origins = Origins::none(&self.session);
         self.show(heads, &origins, None)
     }
@@ -150,7 +158,8 @@ impl Walk {
     fn take_step(
         &mut self,
         name: &str,
-        subject: Option<(&'static str, &'static str)>,
+        subject: Option<Subject>,
+        leaves_numbers: bool,
         run: impl Fn(&mut Buffer) -> Result<(), ShaperError>,
     ) -> Result<(), Stop> {
         self.show_written()?;
@@ -158,7 +167,11 @@ impl Walk {
         let _ = run(&mut traced.after);
         run(&mut self.session.buffer).map_err(LineFault::Refused)?;
         self.check_length()?;
-        let origins = traced.origins(self.session.buffer.glyphs())?;
+        let mut origins = traced.origins(self.session.buffer.glyphs())?;
+        if self.has_numbers {
+            clear_numbers(&mut origins.before);
+        }
+        self.has_numbers = leaves_numbers;
         for glyph in self.session.buffer.glyphs() {
             self.numbers.add_character(glyph.glyph_id)?;
         }
@@ -173,12 +186,30 @@ impl Walk {
         }
     }
 
-    // Adds a step: what the buffer has now.
+    // Adds a step: what the buffer has now. Numbers of glyphs, which would be taken for marks, aren't
+    // shown.
     fn show(
         &mut self,
         heads: Vec<String>,
         origins: &Origins,
-        subject: Option<(&'static str, &'static str)>,
+        subject: Option<Subject>,
+    ) -> Result<(), Stop> {
+        if !self.has_numbers {
+            return self.show_buffer(heads, origins, subject);
+        }
+        let mut shown = self.session.buffer.copy().map_err(LineFault::Refused)?;
+        shown.with_glyphs_mut(clear_numbers);
+        let kept = mem::replace(&mut self.session.buffer, shown);
+        let done = self.show_buffer(heads, origins, subject);
+        self.session.buffer = kept;
+        done
+    }
+
+    fn show_buffer(
+        &mut self,
+        heads: Vec<String>,
+        origins: &Origins,
+        subject: Option<Subject>,
     ) -> Result<(), Stop> {
         let answers = self.session.take_answers();
         let (mut drawn, mut printed) = (Page::new(Global), Page::new(Global));
@@ -208,6 +239,13 @@ impl Walk {
             origins: row.origins.to_vec(),
         });
         Ok(())
+    }
+}
+
+// Takes numbers of glyphs from where the marks of lookups stand.
+fn clear_numbers(glyphs: &mut [GlyphInfo]) {
+    for glyph in glyphs {
+        glyph.glyph_props = GlyphProps::NONE;
     }
 }
 

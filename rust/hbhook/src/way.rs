@@ -1,0 +1,125 @@
+//! The way of a text up to a font's lookups and through the pauses between them: what is decided for
+//! its script, for a font that stands in for a real one.
+
+use crate::whole_font::WholeFont;
+use crate::word::{Planned, line_of_specification, line_of_text, name_of, runs_from_right};
+use sengadlit::alloc::Global;
+use sengadlit::ot_shape::{TextPlan, prepare_text};
+use sengadlit::ot_shape_normalize::{NormalizeSettings, Rounds};
+use sengadlit::ot_shape_plan::{ShapeChoices, ShapePlan};
+use sengadlit::shaper::checked::CallError;
+use sengadlit::spans::setup_syllables_found;
+use sengadlit::unicode::UnicodeTables;
+use sengadlit::{Buffer, Direction, Pause, Script, ShaperError, Tag, run_pause};
+
+/// What is chosen for a text besides its script.
+#[derive(Clone, Copy, Default)]
+pub(crate) struct Wanted {
+    /// Whether it runs from right to left; as its script does, where there is none.
+    pub(crate) is_rtl: Option<bool>,
+    /// What the plan is made by.
+    pub(crate) shape: ShapeChoices,
+    /// Which rounds of normalization run.
+    pub(crate) rounds: Rounds,
+    /// Whether the font places marks by GPOS.
+    pub(crate) has_gpos_mark: bool,
+}
+
+/// The way of the texts of a script.
+pub(crate) struct Way {
+    pub(crate) script: Script,
+    pub(crate) direction: Direction,
+    pub(crate) plan: ShapePlan,
+    pub(crate) font: WholeFont,
+    pub(crate) settings: NormalizeSettings,
+}
+
+impl Way {
+    /// The way of a script's texts, by what is chosen.
+    pub(crate) fn of(script: Script, wanted: Wanted) -> Result<Self, ShaperError> {
+        let is_rtl = wanted.is_rtl.unwrap_or_else(|| runs_from_right(script));
+        let direction = if is_rtl {
+            Direction::RightToLeft
+        } else {
+            Direction::LeftToRight
+        };
+        let font = WholeFont::of(script, wanted.has_gpos_mark);
+        let named = Some(script);
+        let plan =
+            ShapePlan::with_choices(Global, named, direction, &font, &font, &[], wanted.shape)?;
+        let settings = NormalizeSettings {
+            rounds: wanted.rounds,
+            ..NormalizeSettings::default()
+        };
+        Ok(Way {
+            script,
+            direction,
+            plan,
+            font,
+            settings,
+        })
+    }
+
+    /// The lines that put a text into a buffer, with the masks that the plan has for features.
+    pub(crate) fn lines(&self, text: &str) -> Vec<String> {
+        let mut lines = vec!["set tables unicode".into()];
+        if let Some(shaper) = self.plan.shaper() {
+            lines.push(format!("set shaper {}", name_of(shaper)));
+        }
+        let code = String::from_utf8_lossy(&self.script.0);
+        lines.push(format!("set script {code}"));
+        lines.extend(line_of_specification(self.script));
+        if self.direction == Direction::RightToLeft {
+            lines.push("set direction rtl".into());
+        }
+        for tag in self.features() {
+            let mask = self.plan.plan().ot_map.one_mask(tag);
+            lines.push(format!("mask {} {mask:x}", String::from_utf8_lossy(&tag.0)));
+        }
+        lines.push(line_of_text(text));
+        lines
+    }
+
+    // The features that are turned on glyph by glyph: the shaper's, and those of fractions.
+    fn features(&self) -> Vec<Tag> {
+        let shaper = self.plan.shaper();
+        let planned = shaper.and_then(|shaper| Planned::of(shaper, self.script));
+        let mut features = planned.map_or_else(Vec::new, |planned| planned.features);
+        features.extend([Tag(*b"frac"), Tag(*b"numr"), Tag(*b"dnom")]);
+        features
+    }
+
+    /// The pauses, in their order.
+    pub(crate) fn pauses(&self) -> impl Iterator<Item = Pause> {
+        self.plan.stages().iter().filter_map(|stage| stage.pause)
+    }
+
+    /// Does all that comes before lookups; its glyphs are characters again behind it.
+    pub(crate) fn prepare(&self, buffer: &mut Buffer) -> Result<(), ShaperError> {
+        let plan = TextPlan {
+            shaper: self.plan.shaper(),
+            plan: self.plan.plan(),
+            masks: self.plan.masks(),
+            ranges: self.plan.ranges(),
+        };
+        let prepared = self.font.to_characters(buffer, |buffer| {
+            prepare_text(&plan, &self.settings, &self.font, &UnicodeTables, buffer)
+        });
+        prepared.map_err(|error| match error {
+            CallError::Refused(refusal) => refusal,
+            // the plan has its shaper's data, and the text is of characters, without positions
+            CallError::Condition(condition) => unreachable!("{condition:?} isn't met"),
+        })
+    }
+
+    /// Runs a pause, with the syllables that the shaper's grammar finds.
+    pub(crate) fn pause(&self, pause: Pause, buffer: &mut Buffer) -> Result<(), ShaperError> {
+        let plan = self.plan.plan();
+        self.font.on_glyphs(buffer, |buffer| {
+            if !setup_syllables_found(pause, plan, buffer) {
+                run_pause(pause, plan, &self.font, &[], buffer)?;
+            }
+            Ok(())
+        })
+    }
+}
