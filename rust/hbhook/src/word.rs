@@ -1,5 +1,7 @@
 //! The lines of a word: what a script needs around a text so that the hooks of its shaper run.
 
+mod far;
+
 use crate::whole_font::second_specification;
 use sengadlit::alloc::Global;
 use sengadlit::buffer::UnicodeProps;
@@ -126,8 +128,10 @@ pub(crate) fn runs_from_right(script: Script) -> bool {
 /// The lines that run the hooks of a word's script over it, in the order of a pipeline: what comes
 /// before normalization, masks, and the pauses that set syllables up and reorder them. The script is
 /// set up by its second specification, where it has one. The features that hooks turn on have masks;
-/// vowel signs of several parts are taken apart, as normalization does. The script is that of the first
-/// character that is of one with a shaper; without such a character there are no lines.
+/// vowel signs of several parts are taken apart, as normalization does. Reorderings of Indic take
+/// numbers of glyphs: for them a character above U+FFFF has a number that no character of the word has,
+/// and its own again behind them. The script is that of the first character that is of one with a
+/// shaper; without such a character there are no lines.
 ///
 /// ```
 /// let lines = hbhook::lines_of_word("\u{0E19}\u{0E33}").unwrap();
@@ -146,6 +150,9 @@ pub fn lines_of_word(word: &str) -> Option<String> {
     let mut lines = settings_of(shaper, script, &planned.features);
     lines.push(line_of_text(&text));
     lines.extend(hooks_of(shaper, &planned.pauses));
+    if shaper == Shaper::Indic {
+        lines = far::with_numbers(lines, &text);
+    }
     Some(lines.join("\n") + "\n")
 }
 

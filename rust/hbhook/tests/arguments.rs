@@ -81,6 +81,25 @@ fn runs_a_word() {
     assert_eq!(drawn.printed, Run::new(&["--draw"], &lines.printed).printed);
 }
 
+// An emoji has a number that the reorderings of Indic take, and is printed as itself.
+#[test]
+fn runs_a_word_beside_an_emoji() {
+    let text = "\u{0928}\u{092E}\u{0938}\u{094D}\u{0924}\u{0947} \u{1F64F}";
+    let word = Run::new(&["--explain", "--word", text], "");
+    assert_eq!((word.told.as_str(), word.status), ("", Some(0)));
+    let last = word.printed.lines().last().unwrap();
+    assert!(last.starts_with("1f64f 7 "), "{last}");
+    let lines = Run::new(&["--lines", text], "").printed;
+    assert!(
+        lines.contains("\nset script Deva\nset chosen dev2\n"),
+        "{lines}"
+    );
+    assert_eq!(Run::new(&["--explain"], &lines), word);
+    let drawn = Run::new(&["--draw", "--word", text], "");
+    assert_eq!((drawn.told.as_str(), drawn.status), ("", Some(0)));
+    assert!(drawn.printed.contains("\u{1F64F}"));
+}
+
 #[test]
 fn runs_a_text() {
     // the parts of OO, a letter and a coeng form; graphemes have one cluster
