@@ -190,6 +190,7 @@ mod values;
     reason = "the sources' forms: each cast is proved to lose nothing, and tables have a line per case"
 )]
 mod generated {
+    pub mod opentype_face;
     pub(crate) mod rustybuzz_shapers;
     pub(crate) mod shapers_arabic;
     pub(crate) mod shapers_base;
@@ -261,6 +262,8 @@ pub use buffer::{
     GlyphProps, LigProps, Script, ShaperError, Span, Tag, UnicodeProps,
 };
 pub use font::{Font, GlyphId, Tables};
+#[doc(hidden)]
+pub use generated::opentype_face;
 pub use map::{FeatureMap, Map};
 pub use numbers::UnknownNumber;
 pub use plan::{JoiningType, Pause, Plan, PlanData, Planner, Preprocess, Request};

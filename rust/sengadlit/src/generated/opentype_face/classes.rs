@@ -1,0 +1,78 @@
+// Generated from crates/opentype_face/src/classes.rt by rust/erase; edit the source.
+
+//! GDEF: the classes of glyphs, and sets of marks.
+
+use crate::generated::opentype_face::bytes::{part, u16_at, u32_at};
+use crate::generated::opentype_face::glyph_sets::{class, coverage};
+
+/// Whether the font has classes.
+///
+/// <details><summary>Contract</summary>
+///
+/// # Contract
+///
+/// ```text
+/// ensures { result ≡ has_classes gdef.now }
+/// ```
+///
+/// - `has_classes`: `crates/opentype_face/specs/Classes.antt`
+///
+/// </details>
+#[inline]
+pub fn has_glyph_classes(gdef: &[u8]) -> bool {
+    u16_at(gdef, 4) != 0
+}
+
+/// The class of a glyph: bit 1 a base, 2 a ligature, 3 a mark, and its class above the low byte.
+///
+/// <details><summary>Contract</summary>
+///
+/// # Contract
+///
+/// ```text
+/// ensures { result ≡ props_of gdef.now glyph }
+/// ```
+///
+/// - `props_of`: `crates/opentype_face/specs/Classes.antt`
+///
+/// </details>
+#[inline]
+pub fn glyph_props(gdef: &[u8], glyph: u16) -> u16 {
+    match class(part(gdef, u16_at(gdef, 4) as usize), glyph) {
+        1 => 2,
+        2 => 4,
+        3 => {
+            let mark = class(part(gdef, u16_at(gdef, 10) as usize), glyph);
+            8 + mark % 256 * 256
+        }
+        _ => 0,
+    }
+}
+
+/// Whether a set of marks has a glyph.
+///
+/// <details><summary>Contract</summary>
+///
+/// # Contract
+///
+/// ```text
+/// ensures { result ≡ is_in_set gdef.now set glyph }
+/// ```
+///
+/// - `is_in_set`: `crates/opentype_face/specs/Classes.antt`
+///
+/// </details>
+#[inline]
+pub fn is_in_mark_set(gdef: &[u8], set: u16, glyph: u16) -> bool {
+    let at = if u16_at(gdef, 2) == 0 {
+        0
+    } else {
+        u16_at(gdef, 12)
+    };
+    let sets = part(gdef, at as usize);
+    if set >= u16_at(sets, 2) {
+        return false;
+    }
+    let offset = u32_at(sets, 4 + set as usize * 4);
+    coverage(part(sets, offset as usize), glyph).is_some()
+}

@@ -1,0 +1,126 @@
+// Generated from crates/opentype_face/src/lookup.rt by rust/erase; edit the source.
+
+//! The lookups of GSUB and GPOS.
+
+use crate::generated::opentype_face::bytes::{part, u16_at, u32_at};
+
+/// A lookup's table.
+///
+/// <details><summary>Contract</summary>
+///
+/// # Contract
+///
+/// ```text
+/// ensures { result.now ≡ lookup_in table.now index }
+/// ```
+///
+/// - `lookup_in`: `crates/opentype_face/specs/Lookups.antt`
+///
+/// </details>
+#[inline]
+pub fn lookup(table: &[u8], index: u16) -> &[u8] {
+    let list = part(table, u16_at(table, 8) as usize);
+    if index >= u16_at(list, 0) {
+        return &[];
+    }
+    part(list, u16_at(list, 2 + index as usize * 2) as usize)
+}
+
+/// How many subtables a lookup has.
+///
+/// <details><summary>Contract</summary>
+///
+/// # Contract
+///
+/// ```text
+/// ensures { result ≡ u16_in lookup.now 4 }
+/// ```
+///
+/// - `u16_in`: `crates/opentype_face/specs/Bytes.antt`
+///
+/// </details>
+#[inline]
+pub fn subtable_count(lookup: &[u8]) -> u16 {
+    u16_at(lookup, 4)
+}
+
+/// A lookup's flag.
+///
+/// <details><summary>Contract</summary>
+///
+/// # Contract
+///
+/// ```text
+/// ensures { result ≡ u16_in lookup.now 2 }
+/// ```
+///
+/// - `u16_in`: `crates/opentype_face/specs/Bytes.antt`
+///
+/// </details>
+#[inline]
+pub fn lookup_flag(lookup: &[u8]) -> u16 {
+    u16_at(lookup, 2)
+}
+
+/// A subtable of a lookup; `extension` is the type whose subtables name another one.
+///
+/// <details><summary>Contract</summary>
+///
+/// # Contract
+///
+/// ```text
+/// ensures { result.now ≡ subtable_in extension lookup.now i }
+/// ```
+///
+/// - `subtable_in`: `crates/opentype_face/specs/Lookups.antt`
+///
+/// </details>
+#[inline]
+pub fn subtable(extension: u16, lookup: &[u8], i: u16) -> &[u8] {
+    let bytes = part(lookup, u16_at(lookup, 6 + i as usize * 2) as usize);
+    if u16_at(lookup, 0) == extension {
+        part(bytes, u32_at(bytes, 4) as usize)
+    } else {
+        bytes
+    }
+}
+
+/// The type of a subtable.
+///
+/// <details><summary>Contract</summary>
+///
+/// # Contract
+///
+/// ```text
+/// ensures { result ≡ type_in extension lookup.now i }
+/// ```
+///
+/// - `type_in`: `crates/opentype_face/specs/Lookups.antt`
+///
+/// </details>
+#[inline]
+pub fn subtable_type(extension: u16, lookup: &[u8], i: u16) -> u16 {
+    let kind = u16_at(lookup, 0);
+    if kind != extension {
+        return kind;
+    }
+    u16_at(part(lookup, u16_at(lookup, 6 + i as usize * 2) as usize), 2)
+}
+
+/// The number of a lookup's set of marks.
+///
+/// <details><summary>Contract</summary>
+///
+/// # Contract
+///
+/// ```text
+/// ensures { result ≡ mark_set_in lookup.now }
+/// ```
+///
+/// - `mark_set_in`: `crates/opentype_face/specs/Lookups.antt`
+///
+/// </details>
+#[inline]
+pub fn mark_set(lookup: &[u8]) -> u16 {
+    u16_at(lookup, 6 + u16_at(lookup, 4) as usize * 2)
+}

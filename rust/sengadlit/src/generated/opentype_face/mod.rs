@@ -1,0 +1,10 @@
+// Generated from crates/opentype_face/src/lib.rt by rust/erase; edit the source.
+
+//! The tables of an OpenType font over its bytes.
+
+pub mod bytes;
+pub mod classes;
+pub mod cmap;
+pub mod glyph_sets;
+pub mod lookup;
+pub mod ranges;

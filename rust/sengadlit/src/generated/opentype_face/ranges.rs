@@ -1,0 +1,86 @@
+// Generated from crates/opentype_face/src/ranges.rt by rust/erase; edit the source.
+
+//! Searches among records that are in order.
+
+use crate::generated::opentype_face::bytes::{u16_at, u32_at};
+
+/// Where records of a table have the first number and the last one of a range.
+#[derive(Clone, Copy, Debug)]
+pub struct Ranges<'a> {
+    /// The table of the records.
+    pub bytes: &'a [u8],
+    /// Where the first numbers begin.
+    pub first: u32,
+    /// Where the last ones do.
+    pub last: u32,
+    /// How many bytes there are from one to the next.
+    pub size: u32,
+    /// How many there are.
+    pub count: u32,
+}
+
+impl<'a> Ranges<'a> {
+    /// The range that holds a number, where they have 16 bits.
+    ///
+    /// <details><summary>Contract</summary>
+    ///
+    /// # Contract
+    ///
+    /// ```text
+    /// ensures { let it = self.now in
+    ///     result ≡ ranges_in it.bytes.now it.first it.last it.size it.count number }
+    /// ```
+    ///
+    /// - `ranges_in`: `crates/opentype_face/specs/Glyphs.antt`
+    ///
+    /// </details>
+    #[inline]
+    pub fn find(&self, number: u16) -> Option<u32> {
+        let (mut low, mut high) = (0, self.count);
+        while low < high {
+            let middle = low + (high - low) / 2;
+            let from = middle as usize * self.size as usize;
+            if number < u16_at(self.bytes, self.first as usize + from) {
+                high = middle;
+            } else if u16_at(self.bytes, self.last as usize + from) < number {
+                low = middle + 1;
+            } else {
+                return Some(middle);
+            }
+        }
+        None
+    }
+
+    /// The range that holds a number, where they have 32 bits.
+    ///
+    /// <details><summary>Contract</summary>
+    ///
+    /// # Contract
+    ///
+    /// ```text
+    /// ensures { let it = self.now in result ≡ bisect it.count
+    ///     (λ i. u32_in it.bytes.now (it.first + i * it.size))
+    ///     (λ i. u32_in it.bytes.now (it.last + i * it.size)) number 0 it.count }
+    /// ```
+    ///
+    /// - `u32_in`: `crates/opentype_face/specs/Bytes.antt`
+    /// - `bisect`: `crates/opentype_face/specs/Ranges.antt`
+    ///
+    /// </details>
+    #[inline]
+    pub fn find_long(&self, number: u32) -> Option<u32> {
+        let (mut low, mut high) = (0, self.count);
+        while low < high {
+            let middle = low + (high - low) / 2;
+            let from = middle as usize * self.size as usize;
+            if number < u32_at(self.bytes, self.first as usize + from) {
+                high = middle;
+            } else if u32_at(self.bytes, self.last as usize + from) < number {
+                low = middle + 1;
+            } else {
+                return Some(middle);
+            }
+        }
+        None
+    }
+}
