@@ -2,6 +2,22 @@
 
 //! Numbers in bytes. Behind the end each byte is 0, so that no offset of a font is an error.
 
+/// The byte at a place.
+///
+/// <details><summary>Contract</summary>
+///
+/// # Contract
+///
+/// ```text
+/// ensures { result ≡ slice_index bytes.now at }
+/// ```
+///
+/// </details>
+#[inline]
+pub fn u8_at(bytes: &[u8], at: usize) -> u8 {
+    if at < bytes.len() { bytes[at] } else { 0 }
+}
+
 /// The number of two bytes at a place.
 ///
 /// <details><summary>Contract</summary>
@@ -26,7 +42,7 @@ pub fn u16_at(bytes: &[u8], at: usize) -> u16 {
     } else {
         0
     };
-    256 * (high as u16) + low as u16
+    256 * u16::from(high) + u16::from(low)
 }
 
 /// The number of four bytes at a place.
@@ -53,7 +69,59 @@ pub fn u32_at(bytes: &[u8], at: usize) -> u32 {
     } else {
         0
     };
-    65536 * (high as u32) + low as u32
+    65536 * u32::from(high) + u32::from(low)
+}
+
+/// The number of four bytes at a place, as an offset.
+///
+/// <details><summary>Contract</summary>
+///
+/// # Contract
+///
+/// ```text
+/// ensures { result ≡ u32_in bytes.now at }
+/// ```
+///
+/// - `u32_in`: `crates/opentype_face/specs/Bytes.antt`
+///
+/// </details>
+#[inline]
+pub fn offset32(bytes: &[u8], at: usize) -> usize {
+    u32_at(bytes, at) as usize
+}
+
+/// The number of two bytes at a place, as an offset or a count.
+///
+/// <details><summary>Contract</summary>
+///
+/// # Contract
+///
+/// ```text
+/// ensures { result ≡ u16_in bytes.now at }
+/// ```
+///
+/// - `u16_in`: `crates/opentype_face/specs/Bytes.antt`
+///
+/// </details>
+#[inline]
+pub fn offset16(bytes: &[u8], at: usize) -> usize {
+    usize::from(u16_at(bytes, at))
+}
+
+/// The last two bytes of a number.
+///
+/// <details><summary>Contract</summary>
+///
+/// # Contract
+///
+/// ```text
+/// ensures { result ≡ n % 65536 }
+/// ```
+///
+/// </details>
+#[inline]
+pub fn low16(n: u32) -> u16 {
+    (n % 65536) as u16
 }
 
 /// What begins so many bytes behind the start of a table; at 0 there is nothing.
@@ -75,4 +143,26 @@ pub fn part(bytes: &[u8], offset: usize) -> &[u8] {
         return &[];
     }
     &bytes[offset..]
+}
+
+/// The lesser of a count that a table names and of what it has room for.
+///
+/// <details><summary>Contract</summary>
+///
+/// # Contract
+///
+/// ```text
+/// ensures { result ≡ capped_in count room }
+/// ```
+///
+/// - `capped_in`: `crates/opentype_face/specs/Bytes.antt`
+///
+/// </details>
+#[inline]
+pub fn capped(count: u32, room: usize) -> u32 {
+    if count as usize <= room {
+        count
+    } else {
+        room as u32
+    }
 }

@@ -2,7 +2,7 @@
 
 //! GDEF: the classes of glyphs, and sets of marks.
 
-use crate::generated::opentype_face::bytes::{part, u16_at, u32_at};
+use crate::generated::opentype_face::bytes::{offset16, offset32, part, u16_at};
 use crate::generated::opentype_face::glyph_sets::{class, coverage};
 
 /// Whether the font has classes.
@@ -38,11 +38,11 @@ pub fn has_glyph_classes(gdef: &[u8]) -> bool {
 /// </details>
 #[inline]
 pub fn glyph_props(gdef: &[u8], glyph: u16) -> u16 {
-    match class(part(gdef, u16_at(gdef, 4) as usize), glyph) {
+    match class(part(gdef, offset16(gdef, 4)), glyph) {
         1 => 2,
         2 => 4,
         3 => {
-            let mark = class(part(gdef, u16_at(gdef, 10) as usize), glyph);
+            let mark = class(part(gdef, offset16(gdef, 10)), glyph);
             8 + mark % 256 * 256
         }
         _ => 0,
@@ -67,12 +67,12 @@ pub fn is_in_mark_set(gdef: &[u8], set: u16, glyph: u16) -> bool {
     let at = if u16_at(gdef, 2) == 0 {
         0
     } else {
-        u16_at(gdef, 12)
+        offset16(gdef, 12)
     };
-    let sets = part(gdef, at as usize);
+    let sets = part(gdef, at);
     if set >= u16_at(sets, 2) {
         return false;
     }
-    let offset = u32_at(sets, 4 + set as usize * 4);
-    coverage(part(sets, offset as usize), glyph).is_some()
+    let offset = offset32(sets, 4 + usize::from(set) * 4);
+    coverage(part(sets, offset), glyph).is_some()
 }

@@ -20,7 +20,7 @@ use crate::generated::opentype_face::ranges::Ranges;
 /// </details>
 #[inline]
 pub fn coverage(bytes: &[u8], glyph: u16) -> Option<u32> {
-    let count = u16_at(bytes, 2) as u32;
+    let count = u32::from(u16_at(bytes, 2));
     match u16_at(bytes, 0) {
         1 => {
             let ranges = Ranges {
@@ -44,7 +44,7 @@ pub fn coverage(bytes: &[u8], glyph: u16) -> Option<u32> {
                 Some(i) => {
                     let start = u16_at(bytes, 4 + i as usize * 6);
                     let place = u16_at(bytes, 8 + i as usize * 6);
-                    Some(place as u32 + glyph.saturating_sub(start) as u32)
+                    Some(u32::from(place) + u32::from(glyph.saturating_sub(start)))
                 }
                 None => None,
             }
@@ -72,13 +72,13 @@ pub fn class(bytes: &[u8], glyph: u16) -> u16 {
         1 => {
             let start = u16_at(bytes, 2);
             if glyph >= start && glyph - start < u16_at(bytes, 4) {
-                u16_at(bytes, 6 + (glyph - start) as usize * 2)
+                u16_at(bytes, 6 + usize::from(glyph - start) * 2)
             } else {
                 0
             }
         }
         2 => {
-            let count = u16_at(bytes, 2) as u32;
+            let count = u32::from(u16_at(bytes, 2));
             let ranges = Ranges {
                 bytes,
                 first: 4,

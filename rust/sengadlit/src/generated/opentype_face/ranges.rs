@@ -15,7 +15,7 @@ pub struct Ranges<'a> {
     pub last: u32,
     /// How many bytes there are from one to the next.
     pub size: u32,
-    /// How many there are.
+    /// How many there are: no more than the table has room for.
     pub count: u32,
 }
 
@@ -38,7 +38,7 @@ impl<'a> Ranges<'a> {
     pub fn find(&self, number: u16) -> Option<u32> {
         let (mut low, mut high) = (0, self.count);
         while low < high {
-            let middle = low + (high - low) / 2;
+            let middle = low + (high - low - 1) / 2;
             let from = middle as usize * self.size as usize;
             if number < u16_at(self.bytes, self.first as usize + from) {
                 high = middle;
@@ -71,7 +71,7 @@ impl<'a> Ranges<'a> {
     pub fn find_long(&self, number: u32) -> Option<u32> {
         let (mut low, mut high) = (0, self.count);
         while low < high {
-            let middle = low + (high - low) / 2;
+            let middle = low + (high - low - 1) / 2;
             let from = middle as usize * self.size as usize;
             if number < u32_at(self.bytes, self.first as usize + from) {
                 high = middle;
