@@ -45,6 +45,47 @@ pub fn u16_at(bytes: &[u8], at: usize) -> u16 {
     256 * u16::from(high) + u16::from(low)
 }
 
+/// The number of two bytes at a place, with its sign.
+///
+/// <details><summary>Contract</summary>
+///
+/// # Contract
+///
+/// ```text
+/// ensures { result ≡ i16_in bytes.now at }
+/// ```
+///
+/// - `i16_in`: `crates/opentype_face/specs/Bytes.antt`
+///
+/// </details>
+#[inline]
+pub fn i16_at(bytes: &[u8], at: usize) -> i32 {
+    let number = i32::from(u16_at(bytes, at));
+    if number < 32768 {
+        number
+    } else {
+        number - 65536
+    }
+}
+
+/// The number of three bytes at a place.
+///
+/// <details><summary>Contract</summary>
+///
+/// # Contract
+///
+/// ```text
+/// ensures { result ≡ u24_in bytes.now at }
+/// ```
+///
+/// - `u24_in`: `crates/opentype_face/specs/Bytes.antt`
+///
+/// </details>
+#[inline]
+pub fn u24_at(bytes: &[u8], at: usize) -> u32 {
+    u32_at(bytes, at) / 256
+}
+
 /// The number of four bytes at a place.
 ///
 /// <details><summary>Contract</summary>
@@ -165,4 +206,26 @@ pub fn capped(count: u32, room: usize) -> u32 {
     } else {
         room as u32
     }
+}
+
+/// So many bytes of a table from a place on, as far as it has them.
+///
+/// <details><summary>Contract</summary>
+///
+/// # Contract
+///
+/// ```text
+/// ensures { result.now ≡ stretch_in bytes.now start len }
+/// ```
+///
+/// - `stretch_in`: `crates/opentype_face/specs/Bytes.antt`
+///
+/// </details>
+#[inline]
+pub fn stretch(bytes: &[u8], start: usize, len: usize) -> &[u8] {
+    if start >= bytes.len() {
+        return &[];
+    }
+    let rest = &bytes[start..];
+    if len < rest.len() { &rest[..len] } else { rest }
 }

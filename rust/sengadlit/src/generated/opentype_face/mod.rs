@@ -5,6 +5,8 @@
 pub mod bytes;
 pub mod classes;
 pub mod cmap;
+pub mod directory;
 pub mod glyph_sets;
 pub mod lookup;
+pub mod metrics;
 pub mod ranges;
