@@ -3,10 +3,12 @@
 //! The tables of an OpenType font over its bytes.
 
 pub mod bytes;
+pub mod characters;
 pub mod classes;
 pub mod cmap;
 pub mod directory;
 pub mod glyph_sets;
+mod legacy_tables;
 pub mod lookup;
 pub mod metrics;
 pub mod ranges;
