@@ -325,27 +325,44 @@ mod tests {
         told.unwrap()
     }
 
-    #[test]
-    fn properties_that_are_zero_are_those_of_a_new_buffer() {
-        let mut buffer = Buffer::new();
-        let new = told(&mut buffer);
-        assert_eq!(new.1, Direction::LeftToRight);
-        let set = Properties {
-            script: u32::from_be_bytes(*b"Hebr"),
-            direction: 5,
-            cluster_level: 2,
-            flags: 0x10,
-            max_length: 7,
-        };
-        assert!(buffer.set_properties(&set).is_ok());
-        let all = (
+    const HEBREW: Properties = Properties {
+        script: u32::from_be_bytes(*b"Hebr"),
+        direction: 5,
+        cluster_level: 2,
+        flags: 0x10,
+        max_length: 7,
+    };
+
+    // The same, as a hook finds them.
+    fn hebrew() -> Told {
+        (
             Some(Script(*b"Hebr")),
             Direction::RightToLeft,
             BufferClusterLevel::Characters,
             BufferFlags::from_harfbuzz(0x10),
             7,
-        );
-        assert_eq!(told(&mut buffer), all);
+        )
+    }
+
+    #[test]
+    fn clearing_leaves_level_flags_and_greatest_length_alone() {
+        let mut buffer = Buffer::new();
+        let new = told(&mut buffer);
+        assert!(buffer.set_properties(&HEBREW).is_ok());
+        buffer.clear();
+        let (_, _, level, flags, max_length) = hebrew();
+        assert_eq!(told(&mut buffer), (new.0, new.1, level, flags, max_length));
+        buffer.reset();
+        assert_eq!(told(&mut buffer), new);
+    }
+
+    #[test]
+    fn properties_that_are_zero_are_those_of_a_new_buffer() {
+        let mut buffer = Buffer::new();
+        let new = told(&mut buffer);
+        assert_eq!(new.1, Direction::LeftToRight);
+        assert!(buffer.set_properties(&HEBREW).is_ok());
+        assert_eq!(told(&mut buffer), hebrew());
         let zero = Properties {
             script: 0,
             direction: 0,

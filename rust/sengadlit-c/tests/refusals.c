@@ -160,6 +160,32 @@ static void shapers_that_are_none(void)
     check("constants of Hebrew", constants.gpos_tag == SENGADLIT_TAG('h', 'e', 'b', 'r') && constants.fallback_position == 1);
 }
 
+/* Of each shaper, as HarfBuzz has them: normalization, marks without a width, fallback positions, and the tag of GPOS. */
+static void constants_of_shapers(void)
+{
+    enum { NONE = SENGADLIT_NORMALIZATION_MODE_NONE, AUTO = SENGADLIT_NORMALIZATION_MODE_AUTO,
+           DIACRITICS = SENGADLIT_NORMALIZATION_MODE_COMPOSED_DIACRITICS_NO_SHORT_CIRCUIT,
+           STAY = SENGADLIT_ZERO_WIDTH_MARKS_NONE, EARLY = SENGADLIT_ZERO_WIDTH_MARKS_BY_GDEF_EARLY,
+           LATE = SENGADLIT_ZERO_WIDTH_MARKS_BY_GDEF_LATE };
+    static const struct { unsigned int normalization, marks, fallback; } wanted[NO_SHAPER] = {
+        [SENGADLIT_SHAPER_ARABIC] = {AUTO, LATE, 1},      [SENGADLIT_SHAPER_HANGUL] = {NONE, STAY, 0},
+        [SENGADLIT_SHAPER_HEBREW] = {AUTO, LATE, 1},      [SENGADLIT_SHAPER_INDIC] = {DIACRITICS, STAY, 0},
+        [SENGADLIT_SHAPER_KHMER] = {DIACRITICS, STAY, 0}, [SENGADLIT_SHAPER_MYANMAR] = {DIACRITICS, EARLY, 0},
+        [SENGADLIT_SHAPER_MYANMAR_ZAWGYI] = {NONE, STAY, 0}, [SENGADLIT_SHAPER_THAI] = {AUTO, LATE, 0},
+        [SENGADLIT_SHAPER_UNIVERSAL] = {DIACRITICS, EARLY, 0}};
+
+    for (unsigned int shaper = 0; shaper < NO_SHAPER; shaper++) {
+        sengadlit_shaper_constants_t constants;
+
+        expect("constants", sengadlit_shaper_get_constants((sengadlit_shaper_t)shaper, &constants), SENGADLIT_DONE);
+        check("normalization", constants.normalization_preference == wanted[shaper].normalization);
+        check("marks", constants.zero_width_marks == wanted[shaper].marks);
+        check("fallback positions", constants.fallback_position == (sengadlit_bool_t)wanted[shaper].fallback);
+        check("the tag of GPOS",
+              constants.gpos_tag == (shaper == SENGADLIT_SHAPER_HEBREW ? SENGADLIT_TAG('h', 'e', 'b', 'r') : 0));
+    }
+}
+
 static unsigned int features_told, pauses_told;
 
 static void add_feature(void *user_data, sengadlit_tag_t tag, uint32_t flags, uint32_t value)
@@ -356,6 +382,35 @@ static void plans_with_references(void)
     check("user data of a plan without", sengadlit_plan_get_user_data(world.plan) == NULL);
     check("no plan", sengadlit_plan_reference(NULL) == NULL && sengadlit_plan_get_user_data(NULL) == NULL);
     sengadlit_plan_destroy(NULL);
+}
+
+/* The masks of these features in the plan's data. */
+static void expect_masks(sengadlit_shaper_t shaper, const char *tags, const uint32_t *wanted)
+{
+    sengadlit_feature_t features[9];
+    sengadlit_plan_input_t input = {.features = features};
+    sengadlit_plan_data_t data;
+    sengadlit_plan_t *plan;
+
+    for (; tags[4 * input.features_length] != 0; input.features_length++) {
+        const char *tag = &tags[4 * input.features_length];
+        features[input.features_length] =
+            (sengadlit_feature_t){SENGADLIT_TAG(tag[0], tag[1], tag[2], tag[3]), 8u << input.features_length, 0};
+    }
+    plan = sengadlit_plan_create(shaper, &input, NULL);
+    expect("data", sengadlit_plan_get_data(plan, &data), SENGADLIT_DONE);
+    check("the masks", data.shaper == shaper && memcmp(data.masks, wanted, sizeof data.masks) == 0);
+    check("nothing of others", data.joins == 0 && data.has_stch == 0 && data.rphf_mask == 0);
+    sengadlit_plan_destroy(plan);
+}
+
+/* Features that are on everywhere have no mask of their own. */
+static void masks_of_plans(void)
+{
+    static const uint32_t of_khmer[9] = {0x08, 0x10, 0x20, 0x40, 0x80}, of_hangul[9] = {0, 0x08, 0x10, 0x20};
+
+    expect_masks(SENGADLIT_SHAPER_KHMER, "prefblwfabvfpstfcfarpresblwsabvspsts", of_khmer);
+    expect_masks(SENGADLIT_SHAPER_HANGUL, "ljmovjmotjmo", of_hangul);
 }
 
 /* ---- Buffers ---- */
@@ -677,6 +732,22 @@ static void pairs_of_wrong_arguments(void)
     check("nothing is written", to == UNTOUCHED);
 }
 
+/* ALEF and PATAH are one character where GPOS doesn't place marks. */
+static void compositions_of_hebrew(void)
+{
+    for (int has_gpos_mark = 0; has_gpos_mark < 2; has_gpos_mark++) {
+        const sengadlit_plan_input_t input = {.script = HEBR, .has_gpos_mark = has_gpos_mark};
+        uint32_t ab = UNTOUCHED;
+
+        begin_hebrew();
+        sengadlit_plan_destroy(world.plan);
+        world.plan = sengadlit_plan_create(SENGADLIT_SHAPER_HEBREW, &input, NULL);
+        expect("a pair of Hebrew", sengadlit_compose(world.plan, &world.tables, 0x05D0, 0x05B7, &ab, NULL),
+               has_gpos_mark ? SENGADLIT_NOT_FOUND : SENGADLIT_DONE);
+        check("the pair", ab == (has_gpos_mark ? UNTOUCHED : 0xFB2E));
+    }
+}
+
 static void compositions(void)
 {
     uint32_t ab = UNTOUCHED;
@@ -952,11 +1023,13 @@ int main(void)
     names_and_versions();
     numbers_of_harfbuzz();
     shapers_that_are_none();
+    constants_of_shapers();
     features_without_arguments();
     hooks_of_all();
     plans_of_missing_arrays();
     plans_of_wrong_arrays();
     plans_with_references();
+    masks_of_plans();
     buffers_that_are_none();
     lengths_and_positions();
     properties_that_are_none();
@@ -971,6 +1044,7 @@ int main(void)
     fonts_that_are_none();
     pairs_of_wrong_arguments();
     compositions();
+    compositions_of_hebrew();
     decompositions();
     places_that_are_none();
     tables_that_are_none();

@@ -565,6 +565,84 @@ static void try_plan_without_lookups(void)
     sengadlit_shape_plan_destroy(bare);
 }
 
+/* ---- What is told of a lookup ---- */
+
+static sengadlit_lookup_t told;
+static unsigned int times_told;
+
+static sengadlit_bool_t note(void *user_data, const sengadlit_lookup_t *lookup, sengadlit_buffer_t *buffer)
+{
+    (void)user_data, (void)buffer;
+    told = *lookup;
+    times_told++;
+    return 1;
+}
+
+/* A text with this input calls one lookup, once. */
+static void expect_lookup(const char *what, const sengadlit_shape_plan_input_t *input, const char *text, sengadlit_lookup_t wanted)
+{
+    static const sengadlit_lookups_funcs_t noting_funcs = {.substitute = note, .position = note};
+    static const sengadlit_lookups_t noting = {&noting_funcs, NULL};
+    sengadlit_shape_plan_t *of = sengadlit_shape_plan_create(input, NULL);
+
+    times_told = 0;
+    set_text(text);
+    check(what, (input->gpos.has_table ? sengadlit_shape(of, &world.font, &noting, world.buffer)
+                                       : sengadlit_substitute_text(of, &world.font, &noting, world.buffer)) == SENGADLIT_DONE);
+    check(what, times_told == 1 && told.index == wanted.index && (told.mask & wanted.mask) == wanted.mask);
+    check(what, told.auto_zwnj == wanted.auto_zwnj && told.auto_zwj == wanted.auto_zwj && told.random == wanted.random &&
+                    told.per_syllable == wanted.per_syllable);
+    sengadlit_shape_plan_destroy(of);
+}
+
+/* Myanmar's `rphf` minds joiners alone and stays within a syllable, `liga` minds nothing, `rand` picks at random. */
+static void try_told_lookups(void)
+{
+    static const sengadlit_table_feature_t rphf = {SENGADLIT_TAG('r', 'p', 'h', 'f'), 1, seven},
+                                           liga = {SENGADLIT_TAG('l', 'i', 'g', 'a'), 1, seven},
+                                           random = {SENGADLIT_TAG('r', 'a', 'n', 'd'), 1, eight};
+    sengadlit_shape_plan_input_t input = {0};
+
+    input.script = SENGADLIT_TAG('M', 'y', 'm', 'r');
+    input.direction = SENGADLIT_DIRECTION_LTR;
+    input.gsub.has_table = 1;
+    input.gsub.chosen_script = SENGADLIT_TAG('m', 'y', 'm', '2');
+    input.gsub.features_length = 1;
+    input.gsub.features = &rphf;
+    expect_lookup("rphf", &input, "\u1000", (sengadlit_lookup_t){.index = 7, .auto_zwnj = 1, .per_syllable = 1});
+    input.script = input.gsub.chosen_script = SENGADLIT_TAG('L', 'a', 't', 'n');
+    input.gsub.features = &liga;
+    expect_lookup("liga", &input, "x", (sengadlit_lookup_t){.index = 7, .auto_zwnj = 1, .auto_zwj = 1});
+    input.gsub.features = &random;
+    expect_lookup("rand", &input, "x", (sengadlit_lookup_t){.index = 8, .auto_zwnj = 1, .auto_zwj = 1, .random = 1});
+}
+
+/* `vert` of vertical text is taken from any script, and a required feature is on everywhere, in each table for itself. */
+static void try_other_features(void)
+{
+    static const sengadlit_table_feature_t vert = {SENGADLIT_TAG('v', 'e', 'r', 't'), 1, seven},
+                                           required = {SENGADLIT_TAG('z', 'z', 'z', 'z'), 1, eight}, none = {0};
+    const sengadlit_lookup_t plain = {.index = 8, .mask = 1u << 31, .auto_zwnj = 1, .auto_zwj = 1};
+    sengadlit_shape_plan_input_t input = {0};
+
+    input.script = SENGADLIT_TAG('L', 'a', 't', 'n');
+    input.direction = SENGADLIT_DIRECTION_TTB;
+    input.gsub.has_table = 1;
+    input.gsub.anywhere = &vert;
+    input.gsub.anywhere_length = 1;
+    expect_lookup("vert", &input, "x", (sengadlit_lookup_t){.index = 7, .auto_zwnj = 1, .auto_zwj = 1});
+    input = (sengadlit_shape_plan_input_t){0};
+    input.script = SENGADLIT_TAG('L', 'a', 't', 'n');
+    input.direction = SENGADLIT_DIRECTION_LTR;
+    input.gsub.has_table = input.gpos.has_table = 1;
+    input.gsub.chosen_script = input.gpos.chosen_script = SENGADLIT_TAG('l', 'a', 't', 'n');
+    input.gsub.required = required;
+    expect_lookup("required of GSUB", &input, "x", plain);
+    input.gsub.required = none;
+    input.gpos.required = required;
+    expect_lookup("required of GPOS", &input, "x", plain);
+}
+
 /* Indic asks the font about lookups, unless there are none. KA and I: the vowel sign comes before its letter. */
 static void try_indic(void)
 {
@@ -650,6 +728,8 @@ int main(void)
     try_arguments();
     try_plan_without_lookups();
     try_callbacks();
+    try_told_lookups();
+    try_other_features();
     try_indic();
     sengadlit_shape_plan_destroy(plan);
     end_world();
