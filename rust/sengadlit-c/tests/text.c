@@ -261,6 +261,11 @@ static void contexts(void)
     (void)sengadlit_buffer_add_utf8(buffer, "\u0628a\u0628\u0628", -1, 0, 2);
     (void)sengadlit_buffer_add_utf8(buffer, "\u0628\u0628", -1, 2, -1);
     check("the context of a second item is after it alone", mask_of_item(plan) == 0x40);
+    begin();
+    (void)sengadlit_buffer_add_utf8(buffer, "\u0628\u0628", -1, 0, 2);
+    (void)sengadlit_buffer_set_length(buffer, 0);
+    (void)sengadlit_buffer_add_utf8(buffer, "\u0628", -1, 0, -1);
+    check("nothing stands after an item that ends its text", mask_of_item(plan) == 0x08);
     sengadlit_plan_destroy(plan);
 }
 
