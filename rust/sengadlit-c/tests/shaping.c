@@ -578,11 +578,12 @@ static sengadlit_bool_t note(void *user_data, const sengadlit_lookup_t *lookup, 
     return 1;
 }
 
+static const sengadlit_lookups_funcs_t noting_funcs = {.substitute = note, .position = note};
+static const sengadlit_lookups_t noting = {&noting_funcs, NULL};
+
 /* A text with this input calls one lookup, once. */
 static void expect_lookup(const char *what, const sengadlit_shape_plan_input_t *input, const char *text, sengadlit_lookup_t wanted)
 {
-    static const sengadlit_lookups_funcs_t noting_funcs = {.substitute = note, .position = note};
-    static const sengadlit_lookups_t noting = {&noting_funcs, NULL};
     sengadlit_shape_plan_t *of = sengadlit_shape_plan_create(input, NULL);
 
     times_told = 0;
@@ -641,6 +642,23 @@ static void try_other_features(void)
     input.gsub.required = none;
     input.gpos.required = required;
     expect_lookup("required of GPOS", &input, "x", plain);
+}
+
+/* The lookups of a required feature that Khmer requests, `pres`, come in its stage, behind that of `blwf`. */
+static void try_required_stage(void)
+{
+    static const sengadlit_table_feature_t blwf = {SENGADLIT_TAG('b', 'l', 'w', 'f'), 1, eight};
+    sengadlit_shape_plan_input_t input = khmer();
+    sengadlit_shape_plan_t *of;
+
+    input.gsub.features = &blwf;
+    input.gsub.required = pres;
+    of = sengadlit_shape_plan_create(&input, NULL);
+    times_told = 0;
+    set_text("\u1780");
+    check("two lookups", sengadlit_substitute_text(of, &world.font, &noting, world.buffer) == SENGADLIT_DONE && times_told == 2);
+    check("the required one is the last", told.index == 7 && told.mask == 1u << 31);
+    sengadlit_shape_plan_destroy(of);
 }
 
 /* Indic asks the font about lookups, unless there are none. KA and I: the vowel sign comes before its letter. */
@@ -730,6 +748,7 @@ int main(void)
     try_callbacks();
     try_told_lookups();
     try_other_features();
+    try_required_stage();
     try_indic();
     sengadlit_shape_plan_destroy(plan);
     end_world();
