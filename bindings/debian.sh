@@ -49,8 +49,18 @@ mark() {
     done
 }
 
+# locked COMMAND..: runs a command while no other run, of this clone or another, fetches into $out.
+locked() {
+    mkdir -p "$apt" && (flock 9 && "$@") 9>"$apt/lock"
+}
+
 # unpack PACKAGE..: downloads packages and what of theirs isn't installed, and unpacks all into $root.
 unpack() {
+    [ -z "$(wanted "$@")" ] || locked fetch_all "$@"
+}
+
+# (another run may have fetched them in the meantime)
+fetch_all() {
     missing=$(wanted "$@")
     [ -n "$missing" ] || return 0
     set_up_apt || return
@@ -64,6 +74,10 @@ unpack() {
 # unpack_alone PACKAGE[=VERSION|/SUITE]..: downloads these packages without what they depend on, and unpacks them into
 # $root. Lists of packages that are out of date are read again.
 unpack_alone() {
+    [ -z "$(wanted "$@")" ] || locked fetch_alone "$@"
+}
+
+fetch_alone() {
     missing=$(wanted "$@")
     [ -n "$missing" ] || return 0
     set_up_apt || return
