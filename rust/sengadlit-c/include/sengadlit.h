@@ -22,9 +22,8 @@
    status return SENGADLIT_IN_CALL, those that return a pointer null, and the others do nothing, except that
    sengadlit_buffer_destroy takes effect when the call ends, and sengadlit_buffer_get_error works. A callback must not touch
    the glyphs or positions of that buffer by pointers from before, nor drop the last reference to the plan of the call.
-   A C++ exception that leaves a callback ends the program, with a message on stderr. A callback must not be left by a jump
-   (longjmp): the library's frames below it hold what they free when they return, and the behaviour of a program that jumps
-   over them is undefined. */
+   A C++ exception that leaves a callback ends the program, with a message on stderr. A callback must not be left by longjmp: the
+   jump would pass over frames of the library, which free what they own when they return, and its behaviour is undefined. */
 #ifndef SENGADLIT_H
 #define SENGADLIT_H
 
@@ -634,16 +633,15 @@ enum {
     SENGADLIT_BUFFER_FLAG_PRODUCE_SAFE_TO_INSERT_TATWEEL = 0x80
 };
 
-/* What holds of the text as a whole. Where all is 0, as in a struct that is initialized by {0}, the properties are those of a new
-   buffer. */
+/* Properties of the text as a whole. A struct of zeros, as {0} makes it, has those of a new buffer. */
 typedef struct sengadlit_buffer_properties_t {
     sengadlit_tag_t script;          /* 0 if it isn't known. */
     sengadlit_direction_t direction; /* INVALID, which is 0, counts as LTR. */
     sengadlit_buffer_cluster_level_t cluster_level;
     uint32_t flags;                  /* SENGADLIT_BUFFER_FLAG_.. */
-    uint32_t max_length;             /* A hook that would make the text longer returns TOO_LONG; 0 if no length is set. A
-                                        stretched mark may repeat a tile as often as this allows: HarfBuzz 12 sets 256 times
-                                        the length of the text, or 65536 if that is more. */
+    uint32_t max_length;             /* A hook that would make the text longer returns TOO_LONG; 0 sets no limit. A stretched
+                                        mark may repeat a tile as often as this allows: HarfBuzz 12 sets 256 times the length
+                                        of the text, or 65536 if that is more. */
 } sengadlit_buffer_properties_t;
 
 typedef struct sengadlit_buffer_t sengadlit_buffer_t;
@@ -669,8 +667,8 @@ void sengadlit_buffer_reset(sengadlit_buffer_t *buffer);
 sengadlit_glyph_info_t *sengadlit_buffer_set_length(sengadlit_buffer_t *buffer, unsigned int length);
 /* The glyphs, for which the same holds, and through `length`, which may be null, how many there are. */
 sengadlit_glyph_info_t *sengadlit_buffer_get_glyph_infos(sengadlit_buffer_t *buffer, unsigned int *length);
-/* The positions, one per glyph, which the first call makes, all zero. The pointer holds as long as one to the glyphs does, and
-   the two hold beside each other. The positions stay until sengadlit_buffer_set_length; while they are there,
+/* The positions, one per glyph, which the first call makes, all zero. The pointer holds as long as a pointer to the glyphs, and
+   neither of these functions ends the other's. The positions stay until sengadlit_buffer_set_length; while they are there,
    sengadlit_postprocess_glyphs is the only hook that takes the buffer. */
 sengadlit_glyph_position_t *sengadlit_buffer_get_glyph_positions(sengadlit_buffer_t *buffer, unsigned int *length);
 
@@ -700,12 +698,12 @@ sengadlit_status_t sengadlit_buffer_set_grow_func(sengadlit_buffer_t *buffer, se
    - After SENGADLIT_INTERNAL the array is lent still, with a text of length 0, and what stands in it is anything.
    - sengadlit_buffer_destroy gives nothing back: the array is the caller's, with what the last call left.
    `glyphs` may be null if `allocated` is 0; null is given back then, if the text stays empty. ARGUMENT: GLYPHS, and for a null
-   buffer; MEMORY. The buffer has the text that it had then, and an array that was lent before is lent still. */
+   buffer; MEMORY. With either the buffer keeps the text that it had, and an array that was lent before is lent still. */
 sengadlit_status_t sengadlit_buffer_lend(sengadlit_buffer_t *buffer, sengadlit_glyph_info_t *glyphs, unsigned int length,
                                          unsigned int allocated);
 /* Ends that: returns the array, in the place to which it may have moved, and writes the length of the text and the room of the
-   array, which the buffer knows no more. The buffer has no text then, and no positions. Where the text was too long for an array
-   that doesn't grow, it stands in memory of the buffer's: the place there is returned, which holds until the buffer is passed to
+   array, which the buffer knows no more. The buffer has no text then, and no positions. A text that was too long for an array
+   that doesn't grow stands in memory of the buffer's: a pointer to it is returned, which holds until the buffer is passed to
    another function, sengadlit_buffer_get_error, _get_state and _set_state apart; `allocated` is 0, and what stands in the array
    is anything. Both pointers may be null. Null is returned for ARGUMENT: GLYPHS, and for a null buffer; IN_CALL. */
 sengadlit_glyph_info_t *sengadlit_buffer_give_back(sengadlit_buffer_t *buffer, unsigned int *length, unsigned int *allocated);
@@ -886,7 +884,7 @@ typedef struct sengadlit_span_t {
 const sengadlit_span_t *sengadlit_spans(sengadlit_shaper_t shaper, sengadlit_buffer_t *buffer, unsigned int *length);
 
 /* Does what a shaper does between two stages of GSUB. A shaper has the pauses that sengadlit_collect_features and
-   sengadlit_override_features add for it, whatever the script: others are rejected.
+   sengadlit_override_features add for one script or another; the call rejects all others.
    SETUP_SYLLABLES_..: reads the spans, which cover the text in its order; sets the state HAS_BROKEN_SYLLABLE if one is of the
    kind of broken ones, and doesn't clear it. SPANS_DONT_COVER.
    INITIAL_REORDERING, REORDER_..: moves glyphs, and adds dotted circles where the state has HAS_BROKEN_SYLLABLE and the
@@ -1043,7 +1041,7 @@ sengadlit_status_t sengadlit_substitute_text(const sengadlit_shape_plan_t *plan,
    marks placed without GPOS, are the caller's. Calls glyph_h_advance too, and is_mark, position and finish_positions, of which
    position may be null if the plan has no lookup of GPOS; and for vertical text glyph_v_advance and glyph_v_origin.
    STRETCH_OVERFLOW. POSITIONS is also the argument where a lookup of GPOS left another number of glyphs or positions. INTERNAL:
-   also where finish_positions did so, or left a number above 65535. */
+   also where finish_positions did so, or left a glyph with a number above 65535. */
 sengadlit_status_t sengadlit_shape(const sengadlit_shape_plan_t *plan, const sengadlit_font_t *font,
                                    const sengadlit_lookups_t *lookups, sengadlit_buffer_t *buffer);
 
