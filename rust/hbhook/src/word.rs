@@ -470,9 +470,9 @@ mod tests {
 
     #[test]
     fn spaces_and_ascii_are_numbers() {
-        let lines = lines_of_word("1 \u{0628}\u{0627}\n\u{0628}").unwrap();
+        let lines = lines_of_word("1 \u{0628}\u{0627}\n\u{0628}\u{0081}").unwrap();
         assert!(
-            lines.contains("\ntext 31 20 \u{0628}\u{0627} 0A \u{0628}\n"),
+            lines.contains("\ntext 31 20 \u{0628}\u{0627} 0A \u{0628} 81\n"),
             "{lines}"
         );
         assert!(lines.contains("\nset direction rtl\n"), "{lines}");

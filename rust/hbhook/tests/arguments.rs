@@ -114,6 +114,27 @@ fn runs_a_text() {
     assert!(drawn.printed.ends_with("</html>\n"));
 }
 
+// A row that isn't drawn is a refusal, and a text without a character has no text above its row.
+#[test]
+fn draws_a_text_that_fits() {
+    let long = "\u{1780}".repeat(2001);
+    let refused = Run::new(&["--draw", "--text", &long], "");
+    assert_eq!((refused.printed.as_str(), refused.status), ("", Some(1)));
+    assert!(
+        refused
+            .told
+            .ends_with("2001 glyphs; no more than 2000 are drawn\n"),
+        "{}",
+        refused.told
+    );
+    let has_text = |text| {
+        let drawn = Run::new(&["--draw", "--script", "khmer", "--text", text], "");
+        assert_eq!((drawn.told.as_str(), drawn.status), ("", Some(0)));
+        drawn.printed.contains("<p class=\"text\"")
+    };
+    assert!(has_text("\u{1780}") && !has_text(""));
+}
+
 #[test]
 fn flags_of_a_text_are_sound_where_that_is_wanted() {
     // DALATH and ALAPH: alone ALAPH has another form
@@ -268,6 +289,11 @@ fn draws_and_explains() {
     assert_eq!(
         Run::new(&["--draw", "--explain"], &long).told,
         "refused: TooLong\nhbhook: line 1: 10001 glyphs are too many to draw; 10000 fit\n"
+    );
+    let most = format!("text{}\nset", " 41".repeat(10_000));
+    assert_eq!(
+        Run::new(&["--draw", "--explain"], &most).told,
+        "line 2: unreadable\nline 2: expected these fields: set KEY VALUE; the line has 1\n"
     );
 }
 

@@ -96,8 +96,8 @@ fn examples_of_the_page() {
         for is_sound in [false, true] {
             assert!(is_compared(&text, script, is_sound), "{text:?}");
         }
-        // with fractions, one of which lacks a side, and an emoji
-        let text = format!("{text} 1\u{2044}23 \u{2044}4 5\u{2044} \u{1F64F}{text}");
+        // with fractions, some of which lack a side, characters that are mirrored, and an emoji
+        let text = format!("{text} 1\u{2044}23 \u{2044}4 5\u{2044} (\u{1F64F}<{text}");
         assert!(is_compared(&text, script, false), "{text:?}");
     }
 }

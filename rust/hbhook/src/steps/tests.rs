@@ -44,6 +44,29 @@ fn a_step_is_told_in_sentences() {
 }
 
 #[test]
+fn more_than_four_are_told_by_their_count() {
+    let before: Vec<GlyphInfo> = (0..6).map(|i| glyph(0x41 + i, i)).collect();
+    let after: Vec<GlyphInfo> = (0..6).map(|i| glyph(0x61 + i, i)).collect();
+    assert_eq!(
+        told(&before, &after, &[0, 1, 2, 3, 4, 5]),
+        "0041 became 0061; 0042 became 0062; 0043 became 0063; 0044 became 0064; 2 more became others."
+    );
+}
+
+// The low three bits of a mask are glyph flags, the others features.
+#[test]
+fn flags_and_features_are_told_apart() {
+    let before = [glyph(0x41, 0)];
+    for (mask, what) in [(4, "glyph flags"), (8, "features")] {
+        let after = [GlyphInfo { mask, ..before[0] }];
+        assert_eq!(
+            told(&before, &after, &[0]),
+            format!("1 glyph has other {what}.")
+        );
+    }
+}
+
+#[test]
 fn a_text_takes_the_steps_of_its_shaper() {
     let heads = |text| -> Vec<String> {
         let steps = steps_of(text).steps;
@@ -225,6 +248,41 @@ fn the_moves_of_a_glyph_lead_to_the_text() {
     assert!(steps.fields(last, 2).is_empty());
 }
 
+// The serial of a syllable is its byte's high four bits, its kind the low four: that of a word joiner
+// is 8, other.
+#[test]
+fn a_syllable_has_a_serial_and_a_kind() {
+    let steps = steps_of("\u{0D9A}\u{0DD9}\u{2060}\u{0D9A}");
+    let is_set_up = |step: &Step| step.heads == ["run pause setup_syllables_use"];
+    let step = steps.steps.iter().position(is_set_up).unwrap();
+    let syllable = |place| steps.fields(step, place)[4].clone();
+    assert_eq!(syllable(0), ("syllable", "12: serial 1, kind 2".into()));
+    assert_eq!(syllable(2), ("syllable", "28: serial 2, kind 8".into()));
+}
+
+// A slash that lacks one side is flagged where the buffer wants that flag; one with both has features.
+#[test]
+fn fractions_have_features_and_flags() {
+    let masks = |text: &str, flags| -> Vec<u32> {
+        let choices = Choices {
+            flags,
+            ..Choices::default()
+        };
+        let steps = Steps::of_text(text, &choices).unwrap().steps;
+        let is_fractions = |step: &&Step| step.heads == ["set_fractions"];
+        let step = steps.iter().find(is_fractions).unwrap();
+        step.glyphs.iter().map(|glyph| glyph.mask).collect()
+    };
+    let lacking = "\u{0E01}\u{2044}1";
+    assert_eq!(masks(lacking, 0)[1] & 3, 0);
+    assert_eq!(masks(lacking, 0x40)[1] & 3, 2);
+    let whole = masks("\u{0E01}1\u{2044}2", 0);
+    assert_eq!([whole[1] & 1, whole[2] & 1, whole[3] & 1], [0, 1, 1]);
+    let (numerator, slash, denominator) = (whole[1], whole[2] & !7, whole[3] & !7);
+    assert_eq!(numerator & denominator, slash);
+    assert!(numerator != slash && denominator != slash && numerator != denominator);
+}
+
 #[test]
 fn a_line_may_not_break_where_the_last_step_flags_it() {
     let steps = steps_of("\u{0628}\u{0628} \u{0628}");
@@ -235,6 +293,13 @@ fn a_line_may_not_break_where_the_last_step_flags_it() {
         ["\u{0E14}\u{0E48}", "\u{0E14}"]
     );
     assert!(Steps::of_lines("text 0E14").pieces().is_empty());
+    // the slash is flagged unsafe to concatenate alone
+    let choices = Choices {
+        flags: 0x40,
+        ..Choices::default()
+    };
+    let steps = Steps::of_text("\u{0E01}\u{2044}1", &choices).unwrap();
+    assert_eq!(steps.pieces(), ["\u{0E01}", "\u{2044}", "1"]);
 }
 
 #[test]
@@ -291,5 +356,23 @@ fn each_step_has_its_definition() {
             let part = part.split("\n## ").next().unwrap();
             assert!(part.contains(&format!("\n**{entry}** ")), "{entry}");
         }
+    }
+}
+
+// A reordering is defined in the crate of its shaper.
+#[test]
+fn each_reordering_has_its_own_definition() {
+    let rows = [
+        ("\u{1780}", "reorder_khmer", "shapers_khmer"),
+        ("\u{1000}", "reorder_myanmar", "shapers_myanmar"),
+        ("\u{0D9A}", "reorder_use", "shapers_universal"),
+        ("\u{0915}", "initial_reordering", "shapers_indic_initial"),
+        ("\u{0915}", "final_reordering", "shapers_indic_final"),
+    ];
+    for (text, pause, part) in rows {
+        let steps = steps_of(text).steps;
+        let head = format!("run pause {pause}");
+        let step = steps.iter().find(|step| step.heads == [head.as_str()]);
+        assert_eq!(step.unwrap().subject.unwrap().0, part);
     }
 }
