@@ -7,6 +7,9 @@ import select
 import subprocess
 import time
 
+# How long an answer is waited for, in seconds: on a busy machine the browser may wait, too.
+PATIENCE = 300
+TICK = os.sysconf("SC_CLK_TCK")
 KEYS = {"Tab": 9, "Enter": 13, "ArrowRight": 39, "ArrowLeft": 37, "End": 35, " ": 32}
 
 
@@ -51,7 +54,7 @@ class Page:
         message, _, self.buffer = self.buffer.partition(b"\0")
         return json.loads(message)
 
-    def call(self, method, seconds=60, **parameters):
+    def call(self, method, seconds=PATIENCE, **parameters):
         self.count += 1
         message = {"id": self.count, "method": method, "params": parameters}
         if self.session:
@@ -72,14 +75,14 @@ class Page:
         self.call("Page.navigate", url=url)
         self.wait("document.body?.dataset.ready === 'yes'")
 
-    def wait(self, condition, seconds=60):
+    def wait(self, condition, seconds=PATIENCE):
         end = time.monotonic() + seconds
         while not self.run(condition):
             if time.monotonic() > end:
                 raise Failed(f"not within {seconds} seconds: {condition}")
             time.sleep(0.05)
 
-    def run(self, code, seconds=60):
+    def run(self, code, seconds=PATIENCE):
         """The value of an expression."""
         answer = self.call("Runtime.evaluate", seconds, expression=code, returnByValue=True, awaitPromise=True)
         if "exceptionDetails" in answer:
@@ -116,6 +119,21 @@ class Page:
                 yield details.get("exception", {}).get("description", f"{details['text']} {details.get('url')}:{details.get('lineNumber')}")
             elif event.get("method") == "Log.entryAdded" and event["params"]["entry"]["level"] == "error":
                 yield event["params"]["entry"]["text"]
+
+    def processor_seconds(self):
+        """The processor time of the browser so far, all its processes together."""
+        spent, parents = {}, {}
+        for pid in filter(str.isdigit, os.listdir("/proc")):
+            try:
+                with open(f"/proc/{pid}/stat", encoding="ascii", errors="replace") as file:
+                    fields = file.read().rpartition(")")[2].split()
+            except OSError:
+                continue
+            parents[int(pid)], spent[int(pid)] = int(fields[1]), (int(fields[11]) + int(fields[12])) / TICK
+        family = {self.process.pid}
+        while more := {pid for pid, parent in parents.items() if parent in family} - family:
+            family |= more
+        return sum(spent.get(pid, 0) for pid in family)
 
     def close(self):
         os.close(self.to_write)
