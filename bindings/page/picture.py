@@ -1,5 +1,5 @@
 #!/usr/bin/env python3
-"""Takes a picture of the page: picture.py PAGE FILE. A Khmer word, and the last step that it takes."""
+"""Takes a picture of the page: picture.py PAGE FILE. A Khmer word, and the step that reorders it."""
 
 import pathlib
 import sys
@@ -12,10 +12,10 @@ from chromium import Page  # noqa: E402
 
 WORD = "\u1781\u17d2\u1798\u17c2\u179a"
 WIDTH = 760
-# The text and the last step, without what is between and below.
+# The text and that step, without what is around.
 CHOOSE = """
 const between = [...by('form').children].slice(1);
-const steps = [...by('steps').children].slice(0, -1);
+const steps = [...by('steps').children].filter((step) => step.querySelector('h2').textContent !== 'run pause reorder_khmer');
 for (const element of [...between, ...steps, by('legend'), by('with-font')]) element.style.display = 'none';
 by('text').rows = 1;
 """
