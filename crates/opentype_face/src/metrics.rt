@@ -63,7 +63,7 @@ pub fn advance(header: &[u8], metrics: &[u8], count: u16, glyph: u16) -> Option<
 }
 
 /// The bearing of a glyph, on the left or on top, by the same tables; 0 where they have none.
-pub fn side_bearing(header: &[u8], metrics: &[u8], count: u16, glyph: u16) -> i32
+pub fn side_bearing(header: &[u8], metrics: &[u8], count: u16, glyph: u16) -> i16
     ensures { result ≡ bearing_in header.now metrics.now count glyph }
 {
     let long = long_metrics(header, metrics);
@@ -78,7 +78,7 @@ pub fn side_bearing(header: &[u8], metrics: &[u8], count: u16, glyph: u16) -> i3
 }
 
 /// The height of a glyph's vertical origin, by `VORG`; `None` without the table. It takes 17 steps at most.
-pub fn vertical_origin(vorg: &[u8], glyph: u16) -> Option<i32>
+pub fn vertical_origin(vorg: &[u8], glyph: u16) -> Option<i16>
     ensures { result ≡ origin_in vorg.now glyph }
 {
     if u16_at(vorg, 0) != 1 {
@@ -112,12 +112,12 @@ pub fn ascender(hhea: &[u8], os2: &[u8], units: u16) -> i32
     ensures { result ≡ ascender_in hhea.now os2.now units }
 {
     if uses_typo_metrics(os2) {
-        return i16_at(os2, 68).abs();
+        return i32::from(i16_at(os2, 68)).abs();
     }
     if u16_at(hhea, 0) == 0 {
         return i32::from(units) * 4 / 5;
     }
-    i16_at(hhea, 4).abs()
+    i32::from(i16_at(hhea, 4)).abs()
 }
 
 /// How far it goes below the base line, as a number below 0; the rest of an em where no table says so.
@@ -125,12 +125,12 @@ pub fn descender(hhea: &[u8], os2: &[u8], units: u16) -> i32
     ensures { result ≡ descender_in hhea.now os2.now units }
 {
     if uses_typo_metrics(os2) {
-        return -i16_at(os2, 70).abs();
+        return -i32::from(i16_at(os2, 70)).abs();
     }
     if u16_at(hhea, 0) == 0 {
         return i32::from(units) * 4 / 5 - i32::from(units);
     }
-    -i16_at(hhea, 6).abs()
+    -i32::from(i16_at(hhea, 6)).abs()
 }
 
 /// The page of an old font of one script, by `OS/2` of version 0: 0xB2 and 0xB3 are Arabic.

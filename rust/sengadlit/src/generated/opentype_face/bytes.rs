@@ -59,12 +59,12 @@ pub fn u16_at(bytes: &[u8], at: usize) -> u16 {
 ///
 /// </details>
 #[inline]
-pub fn i16_at(bytes: &[u8], at: usize) -> i32 {
-    let number = i32::from(u16_at(bytes, at));
+pub fn i16_at(bytes: &[u8], at: usize) -> i16 {
+    let number = u16_at(bytes, at);
     if number < 32768 {
-        number
+        number as i16
     } else {
-        number - 65536
+        (i32::from(number) - 65536) as i16
     }
 }
 
@@ -75,7 +75,8 @@ pub fn i16_at(bytes: &[u8], at: usize) -> i32 {
 /// # Contract
 ///
 /// ```text
-/// ensures { result ≡ u24_in bytes.now at }
+/// ensures value { result ≡ u24_in bytes.now at }
+/// ensures bound { result < 2 ^ 24 }
 /// ```
 ///
 /// - `u24_in`: `crates/opentype_face/specs/Bytes.antt`

@@ -49,6 +49,32 @@ pub fn glyph_props(gdef: &[u8], glyph: u16) -> u16 {
     }
 }
 
+fn mark_sets(gdef: &[u8]) -> &[u8] {
+    if u16_at(gdef, 2) < 2 {
+        return &[];
+    }
+    let sets = part(gdef, offset16(gdef, 12));
+    if u16_at(sets, 0) == 1 { sets } else { &[] }
+}
+
+/// How many sets of marks there are.
+///
+/// <details><summary>Contract</summary>
+///
+/// # Contract
+///
+/// ```text
+/// ensures { result ≡ mark_set_count_in gdef.now }
+/// ```
+///
+/// - `mark_set_count_in`: `crates/opentype_face/specs/Classes.antt`
+///
+/// </details>
+#[inline]
+pub fn mark_set_count(gdef: &[u8]) -> u16 {
+    u16_at(mark_sets(gdef), 2)
+}
+
 /// Whether a set of marks has a glyph.
 ///
 /// <details><summary>Contract</summary>
@@ -64,12 +90,7 @@ pub fn glyph_props(gdef: &[u8], glyph: u16) -> u16 {
 /// </details>
 #[inline]
 pub fn is_in_mark_set(gdef: &[u8], set: u16, glyph: u16) -> bool {
-    let at = if u16_at(gdef, 2) == 0 {
-        0
-    } else {
-        offset16(gdef, 12)
-    };
-    let sets = part(gdef, at);
+    let sets = mark_sets(gdef);
     if set >= u16_at(sets, 2) {
         return false;
     }

@@ -92,7 +92,7 @@ pub fn advance(header: &[u8], metrics: &[u8], count: u16, glyph: u16) -> Option<
 /// - `bearing_in`: `crates/opentype_face/specs/Metrics.antt`
 ///
 /// </details>
-pub fn side_bearing(header: &[u8], metrics: &[u8], count: u16, glyph: u16) -> i32 {
+pub fn side_bearing(header: &[u8], metrics: &[u8], count: u16, glyph: u16) -> i16 {
     let long = long_metrics(header, metrics);
     if u32::from(glyph) < long {
         return i16_at(metrics, usize::from(glyph) * 4 + 2);
@@ -117,7 +117,7 @@ pub fn side_bearing(header: &[u8], metrics: &[u8], count: u16, glyph: u16) -> i3
 /// - `origin_in`: `crates/opentype_face/specs/Metrics.antt`
 ///
 /// </details>
-pub fn vertical_origin(vorg: &[u8], glyph: u16) -> Option<i32> {
+pub fn vertical_origin(vorg: &[u8], glyph: u16) -> Option<i16> {
     if u16_at(vorg, 0) != 1 {
         return None;
     }
@@ -157,12 +157,12 @@ fn uses_typo_metrics(os2: &[u8]) -> bool {
 /// </details>
 pub fn ascender(hhea: &[u8], os2: &[u8], units: u16) -> i32 {
     if uses_typo_metrics(os2) {
-        return i16_at(os2, 68).abs();
+        return i32::from(i16_at(os2, 68)).abs();
     }
     if u16_at(hhea, 0) == 0 {
         return i32::from(units) * 4 / 5;
     }
-    i16_at(hhea, 4).abs()
+    i32::from(i16_at(hhea, 4)).abs()
 }
 
 /// How far it goes below the base line, as a number below 0; the rest of an em where no table says so.
@@ -180,12 +180,12 @@ pub fn ascender(hhea: &[u8], os2: &[u8], units: u16) -> i32 {
 /// </details>
 pub fn descender(hhea: &[u8], os2: &[u8], units: u16) -> i32 {
     if uses_typo_metrics(os2) {
-        return -i16_at(os2, 70).abs();
+        return -i32::from(i16_at(os2, 70)).abs();
     }
     if u16_at(hhea, 0) == 0 {
         return i32::from(units) * 4 / 5 - i32::from(units);
     }
-    -i16_at(hhea, 6).abs()
+    -i32::from(i16_at(hhea, 6)).abs()
 }
 
 /// The page of an old font of one script, by `OS/2` of version 0: 0xB2 and 0xB3 are Arabic.

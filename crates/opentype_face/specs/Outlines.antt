@@ -1,0 +1,20 @@
+-- loca and glyf: a glyph's outline.
+use Rattle.std.specs.Prelude.{ℕ, ◌+◌, ◌-◌, ◌*◌, ◌/◌, ◌==◌, ◌&&◌, ◌||◌, nat_lt, nat_le, List, [], length, if◌then◌else◌}
+use Rattle.opentype_face.specs.Bytes.{stretch_in, u16_in, u32_in}
+
+-- how many outlines there are, by indexToLocFormat; none in a format that HarfBuzz doesn't know
+abbrev pub outline_count_in : List ℕ → List ℕ → ℕ
+outline_count_in head loca =
+    if nat_lt 1 (u16_in head 50) || nat_lt 1 (u16_in head 52) then 0
+    else (if u16_in head 50 == 0 then length loca / 2 - 1 else length loca / 4 - 1)
+
+-- where outline number i begins, and the one before it ends
+abbrev pub outline_at : List ℕ → List ℕ → ℕ → ℕ
+outline_at head loca i = if u16_in head 50 == 0 then 2 * u16_in loca (i * 2) else u32_in loca (i * 4)
+
+-- the bytes of an outline, nothing where they aren't in the table
+abbrev pub outline_in : List ℕ → List ℕ → List ℕ → ℕ → List ℕ
+outline_in head loca glyf glyph =
+    let start = outline_at head loca glyph in
+    let end = outline_at head loca (glyph + 1) in
+    if nat_le start end && nat_le end (length glyf) then stretch_in glyf start (end - start) else []
