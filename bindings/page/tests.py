@@ -160,7 +160,7 @@ class Tests:
     def test_a_glyph_tells_what_moved_it(self):
         self.type("\u0d9a\u0dd9")
         self.page.run("by('steps').lastChild.querySelector('.row g').dispatchEvent(new MouseEvent('click', { bubbles: true }))")
-        glyph = self.page.run("document.querySelector('.glyph').innerText")
+        glyph = self.page.run("document.querySelector('.glyph').textContent")
         definition = (TOP / "docs/DEFINITIONS.md").read_text("utf-8").split("## `shapers_universal`")[1]
         definition = definition.split("\n**Universal** ")[1].split(":\n")[1].split("\n\n")[0]
         assert "run pause reorder_use moved it from place 1 to place 0." in glyph, glyph
