@@ -349,7 +349,7 @@ struct shadow_t
     tally.note (line);
     note_text ("before", before);
     note_text ("stock", stock);
-    note_text ("proved", proved);
+    note_text ("sengadlit", proved);
   }
 
   unsigned shaper, hook;
