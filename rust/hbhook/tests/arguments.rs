@@ -293,7 +293,7 @@ fn draws_and_explains() {
     let most = format!("text{}\nset", " 41".repeat(10_000));
     assert_eq!(
         Run::new(&["--draw", "--explain"], &most).told,
-        "line 2: unreadable\nline 2: expected these fields: set KEY VALUE; the line has 1\n"
+        "line 2: unreadable\nhbhook: line 2: expected these fields: set KEY VALUE; the line has 1\n"
     );
 }
 
