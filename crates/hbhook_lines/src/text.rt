@@ -2,7 +2,9 @@
 //! call.
 ghost use Rattle.std.specs.Prelude.{◌≡◌, IfErr, OnOk};
 ghost use Rattle.hbhook_lines.specs.Text.{preparation_by_lines};
+ghost use Rattle.shapers_buffer.specs.Buffer.{Buffer};
 ghost use Rattle.shapers_buffer.specs.Settings.{character_of};
+ghost use Rattle.shapers_pipeline.specs.Planned.{as_planned, put_back};
 ghost use Rattle.shapers_pipeline.specs.Prepared.{text_prepared};
 ghost use Rattle.shapers_pipeline.specs.Refusals.{IsStopped};
 
@@ -28,11 +30,14 @@ pub(crate) fn prepare(
     ensures ok { let font = ⟦<LineFont as hb_font_t>⟧.font font.now in
         let tables = ⟦<LineTables as Tables>⟧.tables tables.now in
         let p = preparation_by_lines plan.now font tables in
-        OnOk result (buffer.new ≡ text_prepared p buffer.old) }
+        let text = as_planned plan.now.plan.now.script plan.now.direction buffer.old in
+        OnOk result (buffer.new ≡ put_back buffer.old (text_prepared p text)) }
     ensures err { let font = ⟦<LineFont as hb_font_t>⟧.font font.now in
         let tables = ⟦<LineTables as Tables>⟧.tables tables.now in
         let p = preparation_by_lines plan.now font tables in
-        IfErr result (λ e. IsStopped p buffer.old buffer.new e) }
+        let text = as_planned plan.now.plan.now.script plan.now.direction buffer.old in
+        IfErr result (λ e. (left : Buffer) × (IsStopped p text left e
+        × (buffer.new ≡ put_back buffer.old left))) }
 {
     let settings = NormalizeSettings {
         rounds: Rounds::AsCode,

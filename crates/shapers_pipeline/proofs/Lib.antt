@@ -9,10 +9,12 @@ mod LookupRows
 mod MaskRows
 pub mod Pausing
 pub mod Placing
+mod PlannedRows
 mod PositionClusters
 mod PositionedRows
 mod PreparedClusters
 mod PreparedRows
+mod PutBack
 mod StageClusters
 pub mod Substituting
 mod StageLengths

@@ -315,6 +315,73 @@ finish_grows removal flags p direction b keeps =
           ∙ postprocessed_long p.shaper p.plan p.font t placed.pairs,
     )
 
+-- ---- the greatest length stays
+
+zeroed_limit : (now : Bool) (is_mark : Glyph → Bool) (applies : Bool) (b : Buffer) →
+    (marks_zeroed_if now is_mark applies b).max_len ≡ b.max_len
+zeroed_limit true is_mark applies b = refl
+zeroed_limit false is_mark applies b = refl
+
+looked_limit : (f : StageLookup → Buffer → Buffer) →
+    ((lookup : StageLookup) (b : Buffer) → Paired b → PositionKeeps b (f lookup b)) → (list : List StageLookup)
+    (b : Buffer) → Paired b → (looked_up f list b).max_len ≡ b.max_len
+looked_limit f keeps [] b pairs = refl
+looked_limit f keeps (x ∷ xs) b pairs =
+    let kept = keeps x b pairs in
+    looked_limit f keeps xs (f x b) (paired_stays b (f x b) kept pairs) ∙ ap (λ (t : Buffer). t.max_len) kept.others
+
+order_limit : (b : Buffer) → (ordered_for_drawing b).max_len ≡ b.max_len
+order_limit b =
+    let t : Buffer = record b { glyphs = reverse b.glyphs; positions = reverse b.positions } in
+    elim (runs_backward b.direction) as (λ test. (if test then t else b).max_len
+    ≡ b.max_len) [ true ↦ refl | false ↦ refl ]
+
+hidden_limit : (wanted : DefaultIgnorables) (glyph : Option GlyphId) (b : Buffer) →
+    (ignorables_hidden wanted glyph b).max_len ≡ b.max_len
+hidden_limit Hide (Some glyph) b = refl
+hidden_limit Hide None b = refl
+hidden_limit Preserve glyph b = refl
+hidden_limit Remove glyph b = refl
+
+stretched_limit : (font : Font) (plan : hb_ot_shape_plan_t) (b : Buffer) →
+    (marks_stretched font (start_of plan.plan_data) b).max_len ≡ b.max_len
+stretched_limit font plan b = elim b.stch as
+    (λ test. (if test then with_cells (stretched_cells font (start_of plan.plan_data) b) b else b).max_len
+    ≡ b.max_len) [ true ↦ refl | false ↦ refl ]
+
+postprocessed_limit : (plan : hb_ot_shape_plan_t) (font : Font) (b : Buffer) (shaper : hb_ot_shaper_t) →
+    (postprocessed_by plan font b shaper).max_len ≡ b.max_len
+postprocessed_limit plan font b Arabic = stretched_limit font plan b
+postprocessed_limit plan font b Hangul = refl
+postprocessed_limit plan font b Hebrew = refl
+postprocessed_limit plan font b Indic = refl
+postprocessed_limit plan font b Khmer = refl
+postprocessed_limit plan font b Myanmar = refl
+postprocessed_limit plan font b MyanmarZawgyi = refl
+postprocessed_limit plan font b Thai = refl
+postprocessed_limit plan font b Universal = refl
+
+postprocessed_limit_if : (o : Option hb_ot_shaper_t) (plan : hb_ot_shape_plan_t) (font : Font) (b : Buffer) →
+    (option_map_or (postprocessed_by plan font b) o b).max_len ≡ b.max_len
+postprocessed_limit_if None plan font b = refl
+postprocessed_limit_if (Some shaper) plan font b = postprocessed_limit plan font b shaper
+
+pub finish_limit : (p : Positioning) → PositionsKeep p → (b : Buffer) → (text_postprocessed p b).max_len ≡ b.max_len
+finish_limit p keeps b =
+    let a = text_advanced p b in
+    let l = text_looked_up p b in
+    let n = text_narrowed p b in
+    let f = p.finished n in
+    let pairs = (begun p b).pairs in
+    let npairs : Paired n = (narrowed p l).paired ((behind_gpos p keeps a pairs).paired pairs) in
+    postprocessed_limit_if p.shaper p.plan p.font (text_positioned p b)
+    ∙ hidden_limit p.ignorables (option_or p.invisible (p.font.nominal 0x20)) (ordered_for_drawing f)
+    ∙ order_limit f
+    ∙ ap (λ (t : Buffer). t.max_len) (keeps.finishing n npairs).others
+    ∙ zeroed_limit (is_late (zeroing_of p.shaper)) p.is_mark p.applies_gpos l
+    ∙ looked_limit p.positioned keeps.looking_up (lookups_if p.applies_gpos p.list) a pairs
+    ∙ zeroed_limit (is_early (zeroing_of p.shaper)) p.is_mark p.applies_gpos (text_spaced p.font p.metrics b)
+
 -- ---- all the way
 
 pub shaping_keeps : PreparationKeepsClusters → StagesKeepClusters → FinishKeepsClusters → ShapingKeepsClusters

@@ -15,6 +15,7 @@ use Rattle.shapers_normal.specs.declared.ot_shape_normalize.normalizing.Rounds.T
 use Rattle.shapers_prepare.specs.VowelRows.{devanagari_pairs}
 use Rattle.rustybuzz_shapers.specs.declared.shaper.hb_ot_shaper_t.{hb_ot_shaper_t}
 use Rattle.rustybuzz_shapers.specs.declared.shaper.hb_ot_shaper_t.TheVariants.{Indic, Myanmar}
+use Rattle.shapers_pipeline.specs.Planned.{as_planned, put_back}
 use Rattle.shapers_pipeline.specs.Prepared.{Preparation, text_prepared}
 use Rattle.shapers_buffer.specs.Properties.{general_category, modified_combining_class}
 
@@ -138,3 +139,28 @@ behind_with_rounds : numbers in_each_text (0x1026 ∷ 0x1000 ∷ 0x102F ∷ [])
     ≡ (0x1026 + 1000) ∷ (0x1000 + 1000) ∷ (0x102F + 1000) ∷ []
 unfolding general_category modified_combining_class
 behind_with_rounds = refl
+
+-- The script and direction of the plan are in force, and the buffer keeps its own, none and from left to right: by a
+-- plan from right to left Hebrew isn't turned, and by one from left to right it is.
+abbrev by_plan : Direction → List ℕ → Buffer
+by_plan direction cs =
+    let created : Buffer = record (new_buffer 9) { glyphs = text_from 0 cs } in
+    put_back created
+    (text_prepared (prepared_for None) (as_planned (Some (record { 0 = codes "Hebr" })) direction created))
+
+abbrev places : Buffer → List (ℕ × ℕ)
+places b = map (λ g. (g.glyph_id, g.cluster)) b.glyphs
+
+planned : places (by_plan RightToLeft (0x28 ∷ 0x5D0 ∷ [])) ≡ (0x29 + 1000, 0) ∷ (0x5D0 + 1000, 1) ∷ []
+unfolding general_category modified_combining_class
+planned = refl
+
+planned_turned : places (by_plan LeftToRight (0x28 ∷ 0x5D0 ∷ [])) ≡ (0x5D0 + 1000, 1) ∷ (0x28 + 1000, 0) ∷ []
+unfolding general_category modified_combining_class
+planned_turned = refl
+
+own_direction : (by_plan LeftToRight (0x5D0 ∷ [])).direction ≡ LeftToRight
+own_direction = refl
+
+own_script : (by_plan LeftToRight (0x5D0 ∷ [])).script ≡ None
+own_script = refl

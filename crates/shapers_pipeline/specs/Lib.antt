@@ -3,6 +3,7 @@ pub mod Fractions
 pub mod Lengths
 pub mod Lookups
 pub mod Masks
+pub mod Planned
 pub mod Positioned
 pub mod Prepared
 pub mod Refusals

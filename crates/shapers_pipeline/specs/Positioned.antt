@@ -118,8 +118,14 @@ text_postprocessed p b =
     let text = text_positioned p b in
     option_map_or (postprocessed_by p.plan p.font text) p.shaper text
 
--- the text shaped: flags of whole clusters, and the direction that the caller wants
+-- with the flags of whole clusters
+abbrev pub text_flagged : Positioning → Buffer → Buffer
+text_flagged p b =
+    let text = text_postprocessed p b in
+    record text { glyphs = flags_propagated text.flags text.glyphs }
+
+-- the text shaped, in the direction that the caller has
 abbrev pub text_shaped : Positioning → Direction → Buffer → Buffer
 text_shaped p direction b =
-    let text = text_postprocessed p b in
-    record text { glyphs = flags_propagated text.flags text.glyphs; direction = direction }
+    let text = text_flagged p b in
+    record text { direction = direction }

@@ -8,6 +8,7 @@ mod lengths;
 mod lookups;
 mod masks;
 mod plan;
+mod planned;
 mod positions;
 mod prepare;
 mod preprocessing;

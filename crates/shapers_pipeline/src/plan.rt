@@ -1,6 +1,7 @@
 //! What is decided for a text before it is seen.
 
 use rustybuzz_shapers::shaper::hb_ot_shaper_t;
+use shapers_base::buffer::Direction;
 use shapers_base::plan::hb_ot_shape_plan_t;
 use shapers_plan::ot_map::{Stage, StageLookup};
 use shapers_plan::ot_shape_plan::{DriverMasks, UserRange};
@@ -10,8 +11,10 @@ use shapers_plan::ot_shape_plan::{DriverMasks, UserRange};
 pub struct TextPlan<'a> {
     /// The shaper of the text's script; None for one that needs none.
     pub shaper: Option<hb_ot_shaper_t>,
-    /// The plan that its hooks read.
+    /// The plan that its hooks read, with the text's script.
     pub plan: &'a hb_ot_shape_plan_t,
+    /// The direction of the text.
+    pub direction: Direction,
     /// The masks of the features that are turned on glyph by glyph.
     pub masks: DriverMasks,
     /// The caller's features in ranges, the later ones over the earlier.
@@ -21,8 +24,10 @@ pub struct TextPlan<'a> {
 /// The same as far as the stages of lookups read it.
 #[derive(Clone, Copy, Debug)]
 pub struct StagePlan<'a> {
-    /// The plan that the shaper's hooks read.
+    /// The plan that the shaper's hooks read, with the text's script.
     pub plan: &'a hb_ot_shape_plan_t,
+    /// The direction of the text, which no pause reads, though lookups may.
+    pub direction: Direction,
     /// The stages, each a range of the list of lookups.
     pub stages: &'a [Stage],
     /// The lookups of all stages.

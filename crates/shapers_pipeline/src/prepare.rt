@@ -5,12 +5,14 @@ ghost use Rattle.shapers_prepare.specs.Graphemes.{clusters_formed};
 ghost use Rattle.shapers_prepare.specs.NativeDirection.{in_native_direction};
 ghost use Rattle.shapers_buffer.specs.Buffer.{Buffer};
 ghost use Rattle.shapers_pipeline.specs.Masks.{with_mask_alone};
+ghost use Rattle.shapers_pipeline.specs.Planned.{as_planned, put_back};
 ghost use Rattle.shapers_pipeline.specs.Prepared.{growths, growths_from, normalized_from, preparation, rotation_to, text_normalized, text_prepared};
 ghost use Rattle.shapers_pipeline.specs.Refusals.{AllHadRoom, IsPrepared, IsStopped, OneRefused};
 
 use crate::fractions::set_fractions;
 use crate::masks::{initialize_masks, map_glyphs, set_features};
 use crate::plan::TextPlan;
+use crate::planned::set_script_and_direction;
 use crate::preprocessing::{plan_fits, preprocess_text, setup_masks};
 use rustybuzz_shapers::shaper::checked::{CallError, Condition};
 use rustybuzz_shapers::shaper::lacks_positions;
@@ -26,14 +28,47 @@ use shapers_prepare::ot_shape_prepare::{
 /// text and the properties of its characters are set, a circle comes before a first mark, graphemes
 /// form clusters, the text turns to its own direction, its shaper rewrites it, characters rotate,
 /// the text is normalized, fractions, the shaper and the caller's features in ranges set masks, and
-/// each character becomes its glyph.
+/// each character becomes its glyph. Script and direction are the plan's, and those of the buffer
+/// stay: the glyphs stand in the order of their script's own direction, whichever that is.
 ///
 /// # Errors
 ///
 /// `Condition`: `Positions` and `PlanData`, and nothing has changed then; `Glyphs` where a number
 /// isn't a character's, and the text is normalized then. `Refused` with `TooLong` and `Memory`: the
-/// text is as it was before the step that wanted more room.
+/// text is as it was before the step that wanted more room. The script and direction of the buffer
+/// are as they were.
 pub fn prepare_text<F: NormalizeFont, T: NormalizeTables + UnicodeProperties>(
+    plan: &TextPlan,
+    settings: &NormalizeSettings,
+    font: &F,
+    tables: &T,
+    buffer: &mut hb_buffer_t,
+) -> Result<(), CallError>
+    ensures ok { let p = preparation plan.now settings.now (F.font font.now) (F.variants font.now)
+        (T.properties tables.now) (T.tables tables.now) (T.texts tables.now) in
+        let text = as_planned plan.now.plan.now.script plan.now.direction buffer.old in
+        OnOk result (buffer.new ≡ put_back buffer.old (text_prepared p text)) }
+    ensures met { let p = preparation plan.now settings.now (F.font font.now) (F.variants font.now)
+        (T.properties tables.now) (T.tables tables.now) (T.texts tables.now) in
+        let text = as_planned plan.now.plan.now.script plan.now.direction buffer.old in
+        OnOk result (IsPrepared p text) }
+    ensures err { let p = preparation plan.now settings.now (F.font font.now) (F.variants font.now)
+        (T.properties tables.now) (T.tables tables.now) (T.texts tables.now) in
+        let text = as_planned plan.now.plan.now.script plan.now.direction buffer.old in
+        IfErr result (λ e. (left : Buffer) × (IsStopped p text left e
+        × (buffer.new ≡ put_back buffer.old left))) }
+    ensures positions { OnOk result (buffer.new.positions ≡ []) }
+{
+    let script = buffer.script();
+    let direction = buffer.direction();
+    set_script_and_direction(plan.plan.script, plan.direction, buffer);
+    let prepared = prepare_planned(plan, settings, font, tables, buffer);
+    set_script_and_direction(script, direction, buffer);
+    prepared
+}
+
+// The same of a text in the script and direction of the plan, whose direction is then its script's.
+pub(crate) fn prepare_planned<F: NormalizeFont, T: NormalizeTables + UnicodeProperties>(
     plan: &TextPlan,
     settings: &NormalizeSettings,
     font: &F,

@@ -2,11 +2,14 @@
 ghost use Rattle.std.specs.Prelude.{◌≡◌, ◌≤◌, ◌*◌, [], length, OnErr, OnOk};
 ghost use Rattle.rustybuzz_shapers.specs.Lengths.{pause_growth};
 ghost use Rattle.shapers_pipeline.specs.Lengths.{NotTooLong, stage_bound, stages_bound};
+ghost use Rattle.shapers_buffer.specs.Buffer.{Buffer};
 ghost use Rattle.shapers_pipeline.specs.Lookups.{lookups_of_stage};
+ghost use Rattle.shapers_pipeline.specs.Planned.{as_planned, put_back};
 ghost use Rattle.shapers_pipeline.specs.Stages.{PauseRun, StageRun, StageStopped, StagesRun, StagesStopped, Substitution};
 
 use crate::lookups::{Lookups, apply_lookups, found_spans};
 use crate::plan::StagePlan;
+use crate::planned::set_script_and_direction;
 use rustybuzz_shapers::shaper::checked::{CallError, checked_run_pause};
 use shapers_base::buffer::hb_buffer_t;
 use shapers_base::font::hb_font_t;
@@ -15,13 +18,54 @@ use shapers_plan::ot_map::{Stage, StageLookup};
 
 /// Runs the stages of a plan over a text of glyphs without positions: the lookups of each, one
 /// after another, and then what the shaper does behind the stage. Syllables are found by the
-/// shaper's grammar where a pause writes them.
+/// shaper's grammar where a pause writes them. Script and direction are the plan's, and those of
+/// the buffer stay.
 ///
 /// # Errors
 ///
-/// A condition of a pause that isn't met, or the refusal of a lookup or a pause. The buffer is as
-/// it was before that one. `TooLong` doesn't come where `max_len` is as much as the text may grow.
+/// A condition of a pause that isn't met, or the refusal of a lookup or a pause. The glyphs are as
+/// they were before that one, and the script and direction of the buffer as they were. `TooLong`
+/// doesn't come where `max_len` is as much as the text may grow.
 pub fn run_stages<F: hb_font_t, L: Lookups>(
+    plan: &StagePlan,
+    font: &F,
+    lookups: &L,
+    buffer: &mut hb_buffer_t,
+) -> Result<(), CallError>
+    requires { buffer.old.positions ≡ [] }
+    ensures ok { let r : Substitution = record {
+      plan = plan.now.plan.now;
+      font = F.font font.now;
+      substituted = L.substituted lookups.now;
+      list = plan.now.lookups.now;
+    } in
+        let text = as_planned plan.now.plan.now.script plan.now.direction buffer.old in
+        OnOk result ((last : Buffer) × (StagesRun r plan.now.stages.now text last
+        × (buffer.new ≡ put_back buffer.old last))) }
+    ensures err { let r : Substitution = record {
+      plan = plan.now.plan.now;
+      font = F.font font.now;
+      substituted = L.substituted lookups.now;
+      list = plan.now.lookups.now;
+    } in
+        let text = as_planned plan.now.plan.now.script plan.now.direction buffer.old in
+        OnErr result ((left : Buffer) × (StagesStopped r plan.now.stages.now text left
+        × (buffer.new ≡ put_back buffer.old left))) }
+    ensures room { let growth = L.growth_of lookups.now in
+        stages_bound growth plan.now.lookups.now plan.now.stages.now (length buffer.old.glyphs)
+        ≤ buffer.old.max_len → NotTooLong result }
+    ensures positions { OnOk result (buffer.new.positions ≡ []) }
+{
+    let script = buffer.script();
+    let direction = buffer.direction();
+    set_script_and_direction(plan.plan.script, plan.direction, buffer);
+    let run = run_planned_stages(plan, font, lookups, buffer);
+    set_script_and_direction(script, direction, buffer);
+    run
+}
+
+// The same of a text in the script of the plan.
+pub(crate) fn run_planned_stages<F: hb_font_t, L: Lookups>(
     plan: &StagePlan,
     font: &F,
     lookups: &L,
@@ -46,6 +90,7 @@ pub fn run_stages<F: hb_font_t, L: Lookups>(
         stages_bound growth plan.now.lookups.now plan.now.stages.now (length buffer.old.glyphs)
         ≤ buffer.old.max_len → NotTooLong result }
     ensures positions { OnOk result (buffer.new.positions ≡ []) }
+    ensures limit { OnOk result (buffer.new.max_len ≡ buffer.old.max_len) }
 {
     for stage in plan.stages {
         run_stage(plan, *stage, font, lookups, buffer)?;

@@ -1,7 +1,11 @@
 //! From characters to the glyphs behind the last stage of lookups.
-ghost use Rattle.std.specs.Prelude.{◌≡◌, ◌⊎◌, ◌≤◌, [], length, IfErr, OnOk};
+ghost use Rattle.std.specs.Prelude.{◌≡◌, ◌⊎◌, ◌≤◌, [], length, IfErr, OnErr, OnOk};
+ghost use Rattle.rustybuzz_shapers.specs.declared.shaper.checked.CallError.TheVariants as call;
+ghost use Rattle.shapers_buffer.specs.Buffer.{Buffer};
+ghost use Rattle.shapers_buffer.specs.declared.buffer.refusal.ShaperError.TheVariants.{Memory};
 ghost use Rattle.shapers_pipeline.specs.Lengths.{NotTooLong, PreparationGrows, PreparationHasRoom, shaped_bound};
 ghost use Rattle.shapers_pipeline.specs.Lookups.{text_noted};
+ghost use Rattle.shapers_pipeline.specs.Planned.{as_planned, put_back};
 ghost use Rattle.shapers_pipeline.specs.Prepared.{text_prepared};
 ghost use Rattle.shapers_pipeline.specs.Refusals.{IsStopped};
 ghost use Rattle.shapers_pipeline.specs.Stages.{StagesRun, StagesStopped};
@@ -9,8 +13,9 @@ ghost use Rattle.shapers_pipeline.specs.Substituted.{preparation_by, substitutio
 
 use crate::lookups::{Lookups, note_glyphs};
 use crate::plan::{StagePlan, TextPlan};
-use crate::prepare::prepare_text;
-use crate::stages::run_stages;
+use crate::planned::{put_back, set_to_plan};
+use crate::prepare::prepare_planned;
+use crate::stages::run_planned_stages;
 use rustybuzz_shapers::shaper::checked::CallError;
 use shapers_base::buffer::hb_buffer_t;
 use shapers_normalize::{NormalizeFont, NormalizeSettings, NormalizeTables};
@@ -18,13 +23,65 @@ use shapers_plan::ot_shape_plan::ShapePlan;
 use shapers_prepare::ot_shape_prepare::UnicodeProperties;
 
 /// Makes glyphs of a text's characters, and substitutes them: `prepare_text`, what the lookups keep
-/// beside each glyph, and then `run_stages` over the stages of the plan.
+/// beside each glyph, and then `run_stages` over the stages of the plan. Script and direction are the
+/// plan's, and those of the buffer stay: the glyphs stand in the order of their script's own
+/// direction, whichever that is.
 ///
 /// # Errors
 ///
-/// Those of both, with the buffer as they leave it; by `pipeline_lengths_law` never `TooLong` with
-/// the `max_len` that `length_bound` tells.
+/// Those of both, and `Memory` for a copy of the text, as which it is given back: nothing has changed
+/// then. By `pipeline_lengths_law` never `TooLong` with the `max_len` that `length_bound` tells.
 pub fn substitute_text<F: NormalizeFont, T: NormalizeTables + UnicodeProperties, L: Lookups>(
+    plan: &ShapePlan,
+    settings: &NormalizeSettings,
+    font: &F,
+    tables: &T,
+    lookups: &L,
+    buffer: &mut hb_buffer_t,
+) -> Result<(), CallError>
+    ensures ok { let p = preparation_by plan.now settings.now (F.font font.now)
+        (F.variants font.now) (T.properties tables.now) (T.tables tables.now)
+        (T.texts tables.now) in
+        let r = substitution_by plan.now (F.font font.now) (L.substituted lookups.now) in
+        let text = as_planned plan.now.plan.script plan.now.direction buffer.old in
+        let noted = text_noted (L.noted lookups.now) (text_prepared p text) in
+        OnOk result ((last : Buffer) × (StagesRun r plan.now.stages noted last
+        × (buffer.new ≡ put_back buffer.old last))) }
+    ensures err { OnErr result (buffer.new ≡ buffer.old) }
+    ensures refusal { let p = preparation_by plan.now settings.now (F.font font.now)
+        (F.variants font.now) (T.properties tables.now) (T.tables tables.now)
+        (T.texts tables.now) in
+        let r = substitution_by plan.now (F.font font.now) (L.substituted lookups.now) in
+        let text = as_planned plan.now.plan.script plan.now.direction buffer.old in
+        let noted = text_noted (L.noted lookups.now) (text_prepared p text) in
+        IfErr result (λ e. (e ≡ call.Refused Memory) ⊎ ((left : Buffer)
+        × (IsStopped p text left e ⊎ StagesStopped r plan.now.stages noted left))) }
+    ensures room { let growth = L.growth_of lookups.now in
+        PreparationGrows → PreparationHasRoom →
+        shaped_bound plan.now.shaper growth plan.now.lookups plan.now.stages
+        (length buffer.old.glyphs) ≤ buffer.old.max_len → NotTooLong result }
+    ensures positions { OnOk result (buffer.new.positions ≡ []) }
+{
+    let kept = buffer.copy()?;
+    set_to_plan(plan, buffer);
+    match substitute_planned(plan, settings, font, tables, lookups, buffer) {
+        Ok(()) => {
+            put_back(&kept, buffer);
+            Ok(())
+        }
+        Err(error) => {
+            *buffer = kept;
+            Err(error)
+        }
+    }
+}
+
+// The same of a text in the script and direction of the plan, whose direction is then its script's.
+pub(crate) fn substitute_planned<
+    F: NormalizeFont,
+    T: NormalizeTables + UnicodeProperties,
+    L: Lookups,
+>(
     plan: &ShapePlan,
     settings: &NormalizeSettings,
     font: &F,
@@ -50,19 +107,22 @@ pub fn substitute_text<F: NormalizeFont, T: NormalizeTables + UnicodeProperties,
         shaped_bound plan.now.shaper growth plan.now.lookups plan.now.stages
         (length buffer.old.glyphs) ≤ buffer.old.max_len → NotTooLong result }
     ensures positions { OnOk result (buffer.new.positions ≡ []) }
+    ensures limit { OnOk result (buffer.new.max_len ≡ buffer.old.max_len) }
 {
     let text = TextPlan {
         shaper: plan.shaper(),
         plan: plan.plan(),
+        direction: plan.direction(),
         masks: plan.masks(),
         ranges: plan.ranges(),
     };
-    prepare_text(&text, settings, font, tables, buffer)?;
+    prepare_planned(&text, settings, font, tables, buffer)?;
     note_glyphs(lookups, buffer);
     let stages = StagePlan {
         plan: plan.plan(),
+        direction: plan.direction(),
         stages: plan.stages(),
         lookups: plan.lookups(),
     };
-    run_stages(&stages, font, lookups, buffer)
+    run_planned_stages(&stages, font, lookups, buffer)
 }

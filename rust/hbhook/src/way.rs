@@ -99,6 +99,7 @@ impl Way {
         let plan = TextPlan {
             shaper: self.plan.shaper(),
             plan: self.plan.plan(),
+            direction: self.plan.direction(),
             masks: self.plan.masks(),
             ranges: self.plan.ranges(),
         };

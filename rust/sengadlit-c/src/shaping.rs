@@ -260,7 +260,8 @@ pub fn shape(
 ) -> Result<Status, Error> {
     let inner = &plan.inner;
     let font = Asked::font(font, asks_of(inner) | FONT_ADVANCE)?;
-    let is_vertical = buffer.text.is_vertical();
+    let direction = inner.direction();
+    let is_vertical = matches!(direction, Direction::TopToBottom | Direction::BottomToTop);
     let asks = substituting_asks(inner) | positioning_asks(inner, is_vertical);
     let lookups = &AskedLookups::of(lookups, asks)?;
     let font = plan.shaped_font(font, lookups);

@@ -80,7 +80,6 @@
 //! let (script, direction) = (Some(script::KHMER), Direction::LeftToRight);
 //! let plan = ShapePlan::new(Global, script, direction, &font, &font, &[])?;
 //! let mut buffer = Buffer::from("ខ្មែរ");
-//! buffer.set_script(script);
 //! let settings = ShapeSettings { normalize: Default::default(), ignorables: Hide };
 //! shape(&plan, &settings, &font, &UnicodeTables, &font, &mut buffer)?;
 //! let glyphs: Vec<u32> = buffer.iter().map(|glyph| glyph.glyph_id).collect();
@@ -95,7 +94,7 @@
 //! use sengadlit::ot_shape_normalize::{NormalizeFont, NormalizeSettings};
 //! use sengadlit::ot_shape_plan::DriverMasks;
 //! use sengadlit::unicode::UnicodeTables;
-//! use sengadlit::{Buffer, Font, GlyphId, Plan, Tag};
+//! use sengadlit::{Buffer, Direction, Font, GlyphId, Plan, Tag};
 //!
 //! /// A font with a glyph for each character below U+10000, by its number.
 //! struct ByNumber;
@@ -119,7 +118,8 @@
 //! // a half with a fraction slash, in a font that has the features of fractions
 //! let plan = Plan::builder().global_mask(1 << 31).build()?;
 //! let masks = DriverMasks { frac: 0x10, numr: 0x20, dnom: 0x40, rtlm: 0, vert: 0 };
-//! let text = TextPlan { shaper: None, plan: &plan, masks, ranges: &[] };
+//! let direction = Direction::LeftToRight;
+//! let text = TextPlan { shaper: None, plan: &plan, direction, masks, ranges: &[] };
 //! let mut buffer = Buffer::from("1\u{2044}2");
 //! let settings = NormalizeSettings::default();
 //! prepare_text(&text, &settings, &ByNumber, &UnicodeTables, &mut buffer)?;

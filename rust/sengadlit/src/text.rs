@@ -35,7 +35,8 @@ impl Default for GlyphPosition {
 }
 
 impl Buffer {
-    /// The greatest length of a buffer that [`Buffer::default`] makes.
+    /// The greatest length of a buffer for which none is set, as of one that [`Buffer::default`] makes.
+    /// `ot_shape::shape` bounds such a text by its length.
     pub const MAX_LEN_DEFAULT: usize = 0x3FFF_FFFF;
 
     /// Adds the characters of a text, each of general category Cc; see

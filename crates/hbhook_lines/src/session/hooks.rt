@@ -69,6 +69,7 @@ impl Session {
         let plan = TextPlan {
             shaper: Some(shaper),
             plan,
+            direction: self.buffer.direction(),
             masks: driver_masks(&plan.ot_map),
             ranges: &[],
         };

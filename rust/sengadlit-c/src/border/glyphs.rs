@@ -6,11 +6,11 @@ use crate::status::{Argument, Error};
 use core::ptr::null_mut;
 use sengadlit::alloc::{Global, Vec as List};
 use sengadlit::buffer::{
-    Buffer as Inner, BufferSettings, Direction, GlyphInfo, GlyphRewriting, ShaperError,
+    Buffer as Inner, BufferSettings, GlyphInfo, GlyphRewriting, ShaperError,
 };
 
 /// The greatest length of a text for which none is set.
-pub const MAX_LENGTH: usize = u32::MAX as usize;
+pub const MAX_LENGTH: usize = Inner::MAX_LEN_DEFAULT;
 
 /// The numbers of characters or glyphs that a hook takes.
 #[derive(Clone, Copy)]
@@ -298,12 +298,6 @@ impl Text {
     /// Sets those after it.
     pub fn set_post_context(&mut self, after: &[char]) {
         self.inner.set_post_context(after);
-    }
-
-    /// Whether it runs up or down.
-    pub fn is_vertical(&self) -> bool {
-        let direction = self.inner.direction();
-        matches!(direction, Direction::TopToBottom | Direction::BottomToTop)
     }
 
     /// What one hook leaves for a later one: that a syllable is broken, and that a mark stretches.

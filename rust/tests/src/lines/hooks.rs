@@ -56,6 +56,7 @@ impl Session {
         let plan = TextPlan {
             shaper: Some(shaper),
             plan,
+            direction: self.buffer.direction(),
             masks,
             ranges: &[],
         };

@@ -1,31 +1,82 @@
--- The text behind the stages, and what the steps after them make of it.
-use Rattle.std.proofs.Common.{◌∙◌, ap}
+-- The text is shaped as its plan has it, and then has its own settings again, or is given back.
+use Rattle.std.proofs.Common.{◌∙◌, ◌⊎◌, ◌≤◌, ap, arith, inr, length, subst, sym}
 use Rattle.shapers_buffer.specs.Buffer.{Buffer}
-use Rattle.shapers_position.specs.ClusterFlags.{flags_propagated}
-use Rattle.shapers_pipeline.specs.Positioned.{text_postprocessed}
-use Rattle.shapers_pipeline.specs.Shaped.{positioning_by}
-use Rattle.shapers_pipeline.proofs.StageLengths.{passed_error, told_error}
+use Rattle.shapers_pipeline.specs.Lengths.{shaped_bound}
+use Rattle.shapers_pipeline.specs.Lookups.{text_noted}
+use Rattle.shapers_pipeline.specs.Planned.{given_back}
+use Rattle.shapers_pipeline.specs.Prepared.{text_prepared}
+use Rattle.shapers_pipeline.specs.Refusals.{IsStopped}
+use Rattle.shapers_pipeline.specs.Shaped.{FinishStopped, positioning_by}
+use Rattle.shapers_pipeline.specs.Stages.{StagesRun, StagesStopped}
+use Rattle.shapers_pipeline.specs.Substituted.{preparation_by, substitution_by}
 use Rattle.shapers_pipeline.proofs.shaping.shape.Goals as goal
 
-pub returns-clause-ok : goal.returns-clause-ok
-returns-clause-ok g c =
-    let q = positioning_by c.args.plan.now c.args.settings.now (g.F.hb_font_t.font c.args.font.now)
-    (g.F.MetricsFont.metrics c.args.font.now) (g.L.GlyphClasses.marks c.args.lookups.now)
-    (g.L.Lookups.positioned c.args.lookups.now) (g.L.Lookups.finished c.args.lookups.now) in
-    let mid = c.substitute_text.new.buffer in
-    let d = c.direction-direction.result in (
-      mid,
+pub give_back-requires : goal.give_back-requires
+give_back-requires g c =
+    omega (
+      arith,
+      c.in-Ok.ensures.limit,
+      c.set_to_shape.ensures.within,
+      ap (λ (b : Buffer). b.max_len) c.in_ok-kept.ensures.ok,
+    )
+
+pub returns-in-Ok-clause-ok : goal.returns-in-Ok-clause-ok
+returns-in-Ok-clause-ok g c =
+    let it = c.args.lookups.now in
+    let plan = c.args.plan.now in
+    let font = g.F.hb_font_t.font c.args.font.now in
+    let p = preparation_by plan c.args.settings.now.normalize font (g.F.NormalizeFont.variants c.args.font.now)
+    (g.T.UnicodeProperties.properties c.args.tables.now) (g.T.Tables.tables c.args.tables.now) (g.T.NormalizeTables.texts c.args.tables.now) in
+    let r = substitution_by plan font (g.L.Lookups.substituted it) in
+    let noted = text_noted (g.L.Lookups.noted it) in
+    let old = c.args.buffer.now in
+    let ran = c.in-Ok.ensures.ok in (
+      ran.0,
       (
-        c.in_ok-substitute_text.ensures.ok,
-        c.set_direction.ensures
-            ∙ ap (λ (t : Buffer). let r : Buffer = record t { direction = d } in r) c.propagate_flags.ensures
-            ∙ ap (λ (t : Buffer). let r : Buffer = record t { glyphs = flags_propagated t.flags t.glyphs; direction = d } in r) c.in_ok-finish_text.ensures.ok
-            ∙ ap (λ w. let t = text_postprocessed q mid in let r : Buffer = record t { glyphs = flags_propagated t.flags t.glyphs; direction = w } in r) c.direction-direction.ensures,
+        subst (λ b. StagesRun r plan.stages (noted (text_prepared p b)) ran.0) c.set_to_shape.ensures.text ran.1.0,
+        c.give_back.ensures
+            ∙ ap (λ (k : Buffer). given_back k c.shape_planned.new.buffer) c.in_ok-kept.ensures.ok
+            ∙ ap (given_back old) ran.1.1,
       ),
     )
 
-pub returns-in_err-substitute_text-clause-room : goal.returns-in_err-substitute_text-clause-room
-returns-in_err-substitute_text-clause-room g c grows room fits =
-    let x = c.in_err-substitute_text.field-0.0 in
-    told_error c.from_residual.result x _ c.from_residual.ensures.1
-    (λ e. absurd (c.in_err-substitute_text.ensures.room grows room fits (passed_error x e)))
+pub returns-in-Err-clause-refusal : goal.returns-in-Err-clause-refusal
+returns-in-Err-clause-refusal g c =
+    let it = c.args.lookups.now in
+    let plan = c.args.plan.now in
+    let font = g.F.hb_font_t.font c.args.font.now in
+    let p = preparation_by plan c.args.settings.now.normalize font (g.F.NormalizeFont.variants c.args.font.now)
+    (g.T.UnicodeProperties.properties c.args.tables.now) (g.T.Tables.tables c.args.tables.now) (g.T.NormalizeTables.texts c.args.tables.now) in
+    let r = substitution_by plan font (g.L.Lookups.substituted it) in
+    let q = positioning_by plan c.args.settings.now font (g.F.MetricsFont.metrics c.args.font.now)
+    (g.L.GlyphClasses.marks it) (g.L.Lookups.positioned it) (g.L.Lookups.finished it) in
+    let noted = text_noted (g.L.Lookups.noted it) in
+    let left = c.shape_planned.new.buffer in
+    let e = c.in-Err.error in
+    inr (
+      left,
+      subst (λ b. IsStopped p b left e
+          ⊎ (StagesStopped r plan.stages (noted (text_prepared p b)) left
+          ⊎ ((mid : Buffer) × (StagesRun r plan.stages (noted (text_prepared p b)) mid × FinishStopped q mid left e))))
+          c.set_to_shape.ensures.text c.in-Err.ensures.err,
+    )
+
+pub returns-in-Err-clause-room : goal.returns-in-Err-clause-room
+returns-in-Err-clause-room g c grows room fits is =
+    let it = c.args.lookups.now in
+    let plan = c.args.plan.now in
+    let font = g.F.hb_font_t.font c.args.font.now in
+    let p = preparation_by plan c.args.settings.now.normalize font (g.F.NormalizeFont.variants c.args.font.now)
+    (g.T.UnicodeProperties.properties c.args.tables.now) (g.T.Tables.tables c.args.tables.now) (g.T.NormalizeTables.texts c.args.tables.now) in
+    let r = substitution_by plan font (g.L.Lookups.substituted it) in
+    let noted = text_noted (g.L.Lookups.noted it) in
+    let set = c.set_to_shape.ensures.text in
+    let enough = subst (λ (b : Buffer). shaped_bound plan.shaper (g.L.Lookups.growth_of it) plan.lookups plan.stages
+    (length b.glyphs) ≤ b.max_len) (sym set) fits in
+    let found = c.in-Err.ensures.room grows room enough is in (
+      found.0,
+      (
+        subst (λ b. StagesRun r plan.stages (noted (text_prepared p b)) found.0) set found.1.0,
+        (c.shape_planned.new.buffer, found.1.1),
+      ),
+    )

@@ -1,47 +1,61 @@
--- One more stage, and the room that it has.
-use Rattle.std.proofs.Common.{rules, ◌∙◌, ◌<◌, arith, length}
-use Rattle.shapers_buffer.specs.declared.buffer.refusal.ShaperError.TheVariants.{TooLong}
-use Rattle.rustybuzz_shapers.specs.declared.shaper.checked.CallError.TheVariants as call
-use Rattle.shapers_plan.specs.declared.ot_map.lookups.StageLookup.{StageLookup}
-use Rattle.shapers_pipeline.specs.Stages.{Substitution}
-use Rattle.shapers_pipeline.proofs.StageLengths.{passed_error, passed_on, run_next, stage_fits, stage_step, stopped_next}
+-- The stages run in the plan's script and direction, and then the text has its own again.
+use Rattle.std.proofs.Common.{◌∙◌, ◌≤◌, ap, length, refl, subst, sym}
+use Rattle.std.proofs.lemmas.Result.{on_ok_weaker}
+use Rattle.shapers_buffer.specs.Buffer.{Buffer}
+use Rattle.shapers_pipeline.specs.Lengths.{stages_bound}
+use Rattle.shapers_pipeline.specs.Stages.{StagesRun, StagesStopped, Substitution}
+use Rattle.shapers_pipeline.proofs.PutBack.{is_put_back, on_err_weaker}
 use Rattle.shapers_pipeline.proofs.stages.run_stages.Goals as goal
 
-pub returns-in_err-run_stage-clause-room : goal.returns-in_err-run_stage-clause-room
-returns-in_err-run_stage-clause-room g c fits e =
-    let l = c.loop-stage in
-    let it = c.args.lookups.now in
-    let growth = g.L.Lookups.growth_of it in
-    let plan = c.args.plan.now in
-    let some : (lookup : StageLookup) → 0 < growth lookup =
-    λ x. omega (arith, (g.met.L.Lookups.substituting_grows it x l.buffer l.invariant.positions).one) in
-    let within : l.stage-index < length plan.stages.now = omega (arith, c.loop-stage-test.true) in
-    let room = c.in_err-run_stage.ensures.room
-    (stage_fits growth some plan.lookups.now plan.stages.now l.stage-index (length l.buffer.glyphs) l.buffer.max_len _
-    within (omega (arith, l.invariant.few, l.invariant.limit, fits))) in
-    room (passed_error c.in_err-run_stage.field-0.0
-    (passed_on c.from_residual.result c.in_err-run_stage.field-0.0 (call.Refused TooLong) c.from_residual.ensures.1 e))
+pub run_planned_stages-run-requires : goal.run_planned_stages-run-requires
+run_planned_stages-run-requires g c = ap (λ (b : Buffer). b.positions) c.set_script_and_direction.ensures ∙ c.requires
 
-pub loop-stage-preserved : goal.loop-stage-preserved
-loop-stage-preserved g c =
-    let l = c.loop-stage in
-    let plan = c.args.plan.now in
-    let within : l.stage-index < length plan.stages.now = omega (arith, c.loop-stage-test.true) in
-    let mid = c.run_stage.new.buffer in
+pub returns-clause-ok : goal.returns-clause-ok
+returns-clause-ok g c =
     let r : Substitution = record {
-      plan = plan.plan.now;
+      plan = c.args.plan.now.plan.now;
       font = g.F.hb_font_t.font c.args.font.now;
       substituted = g.L.Lookups.substituted c.args.lookups.now;
-      list = plan.lookups.now;
+      list = c.args.plan.now.lookups.now;
     } in
-    record {
-      positions = search rules;
-      limit = c.run_stage.ensures.limit ∙ l.invariant.limit;
-      few = stage_step (g.L.Lookups.growth_of c.args.lookups.now) plan.lookups.now plan.stages.now l.stage-index
-          (length l.buffer.glyphs) (length mid.glyphs) _ _ within c.in_ok-run_stage.ensures.length
-          l.invariant.few;
-      run = λ new rest. l.invariant.run new
-          (run_next r plan.stages.now l.stage-index _ l.buffer mid new within c.in_ok-run_stage.ensures.ok rest);
-      stopped = λ new rest. l.invariant.stopped new
-          (stopped_next r plan.stages.now l.stage-index _ l.buffer mid new within c.in_ok-run_stage.ensures.ok rest);
-    }
+    let call = c.run_planned_stages-run in
+    let last = call.new.buffer in
+    on_ok_weaker call.result (λ run. (
+      last,
+      (
+        subst (λ b. StagesRun r c.args.plan.now.stages.now b last) c.set_script_and_direction.ensures run,
+        is_put_back c.args.buffer.now last last _ c.script-script.ensures c.direction-direction.ensures
+            c.set_script_and_direction-2.ensures refl,
+      ),
+    )) call.ensures.ok
+
+pub returns-clause-err : goal.returns-clause-err
+returns-clause-err g c =
+    let r : Substitution = record {
+      plan = c.args.plan.now.plan.now;
+      font = g.F.hb_font_t.font c.args.font.now;
+      substituted = g.L.Lookups.substituted c.args.lookups.now;
+      list = c.args.plan.now.lookups.now;
+    } in
+    let call = c.run_planned_stages-run in
+    let left = call.new.buffer in
+    on_err_weaker call.result (λ stopped. (
+      left,
+      (
+        subst (λ b. StagesStopped r c.args.plan.now.stages.now b left) c.set_script_and_direction.ensures stopped,
+        is_put_back c.args.buffer.now left left _ c.script-script.ensures c.direction-direction.ensures
+            c.set_script_and_direction-2.ensures refl,
+      ),
+    )) call.ensures.err
+
+pub returns-clause-room : goal.returns-clause-room
+returns-clause-room g c fits =
+    let growth = g.L.Lookups.growth_of c.args.lookups.now in
+    c.run_planned_stages-run.ensures.room (subst (λ (b : Buffer).
+    stages_bound growth c.args.plan.now.lookups.now c.args.plan.now.stages.now (length b.glyphs) ≤ b.max_len)
+    (sym c.set_script_and_direction.ensures) fits)
+
+pub returns-clause-positions : goal.returns-clause-positions
+returns-clause-positions g c =
+    let call = c.run_planned_stages-run in
+    on_ok_weaker call.result (λ none. ap (λ (b : Buffer). b.positions) c.set_script_and_direction-2.ensures ∙ none) call.ensures.positions

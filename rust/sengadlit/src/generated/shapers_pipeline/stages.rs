@@ -8,16 +8,19 @@ use crate::generated::shapers_base::font::Font;
 use crate::generated::shapers_base::plan::{Pause, Plan};
 use crate::generated::shapers_pipeline::lookups::{Lookups, apply_lookups, found_spans};
 use crate::generated::shapers_pipeline::plan::StagePlan;
+use crate::generated::shapers_pipeline::planned::set_script_and_direction;
 use crate::generated::shapers_plan::ot_map::{Stage, StageLookup};
 
 /// Runs the stages of a plan over a text of glyphs without positions: the lookups of each, one
 /// after another, and then what the shaper does behind the stage. Syllables are found by the
-/// shaper's grammar where a pause writes them.
+/// shaper's grammar where a pause writes them. Script and direction are the plan's, and those of
+/// the buffer stay.
 ///
 /// # Errors
 ///
-/// A condition of a pause that isn't met, or the refusal of a lookup or a pause. The buffer is as
-/// it was before that one. [`TooLong`] doesn't come where [`max_len`] is as much as the text may grow.
+/// A condition of a pause that isn't met, or the refusal of a lookup or a pause. The glyphs are as
+/// they were before that one, and the script and direction of the buffer as they were. [`TooLong`]
+/// doesn't come where [`max_len`] is as much as the text may grow.
 ///
 /// # Panics
 ///
@@ -35,21 +38,27 @@ use crate::generated::shapers_plan::ot_map::{Stage, StageLookup};
 ///   substituted = L.substituted lookups.now;
 ///   list = plan.now.lookups.now;
 /// } in
-///     OnOk result (StagesRun r plan.now.stages.now buffer.old buffer.new) }
+///     let text = as_planned plan.now.plan.now.script plan.now.direction buffer.old in
+///     OnOk result ((last : Buffer) × (StagesRun r plan.now.stages.now text last
+///     × (buffer.new ≡ put_back buffer.old last))) }
 /// ensures err { let r : Substitution = record {
 ///   plan = plan.now.plan.now;
 ///   font = F.font font.now;
 ///   substituted = L.substituted lookups.now;
 ///   list = plan.now.lookups.now;
 /// } in
-///     OnErr result (StagesStopped r plan.now.stages.now buffer.old buffer.new) }
+///     let text = as_planned plan.now.plan.now.script plan.now.direction buffer.old in
+///     OnErr result ((left : Buffer) × (StagesStopped r plan.now.stages.now text left
+///     × (buffer.new ≡ put_back buffer.old left))) }
 /// ensures room { let growth = L.growth_of lookups.now in
 ///     stages_bound growth plan.now.lookups.now plan.now.stages.now (length buffer.old.glyphs)
 ///     ≤ buffer.old.max_len → NotTooLong result }
 /// ensures positions { OnOk result (buffer.new.positions ≡ []) }
 /// ```
 ///
+/// - `Buffer`: `crates/shapers_buffer/specs/Buffer.antt`
 /// - `NotTooLong`, `stages_bound`: `crates/shapers_pipeline/specs/Lengths.antt`
+/// - `as_planned`, `put_back`: `crates/shapers_pipeline/specs/Planned.antt`
 /// - `StagesRun`, `StagesStopped`, `Substitution`: `crates/shapers_pipeline/specs/Stages.antt`
 ///
 /// </details>
@@ -57,6 +66,21 @@ use crate::generated::shapers_plan::ot_map::{Stage, StageLookup};
 /// [`TooLong`]: crate::ShaperError::TooLong
 /// [`max_len`]: crate::Buffer::max_len
 pub fn run_stages<F: Font, L: Lookups>(
+    plan: &StagePlan,
+    font: &F,
+    lookups: &L,
+    buffer: &mut Buffer,
+) -> Result<(), CallError> {
+    let script = buffer.script();
+    let direction = buffer.direction();
+    set_script_and_direction(plan.plan.script, plan.direction, buffer);
+    let run = run_planned_stages(plan, font, lookups, buffer);
+    set_script_and_direction(script, direction, buffer);
+    run
+}
+
+// The same of a text in the script of the plan.
+pub(crate) fn run_planned_stages<F: Font, L: Lookups>(
     plan: &StagePlan,
     font: &F,
     lookups: &L,

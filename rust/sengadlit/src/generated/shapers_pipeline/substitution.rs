@@ -7,18 +7,21 @@ use crate::generated::shapers_base::buffer::Buffer;
 use crate::generated::shapers_normalize::{NormalizeFont, NormalizeSettings, NormalizeTables};
 use crate::generated::shapers_pipeline::lookups::{Lookups, note_glyphs};
 use crate::generated::shapers_pipeline::plan::{StagePlan, TextPlan};
-use crate::generated::shapers_pipeline::prepare::prepare_text;
-use crate::generated::shapers_pipeline::stages::run_stages;
+use crate::generated::shapers_pipeline::planned::{put_back, set_to_plan};
+use crate::generated::shapers_pipeline::prepare::prepare_planned;
+use crate::generated::shapers_pipeline::stages::run_planned_stages;
 use crate::generated::shapers_plan::ot_shape_plan::ShapePlan;
 use crate::generated::shapers_prepare::ot_shape_prepare::UnicodeProperties;
 
 /// Makes glyphs of a text's characters, and substitutes them: `prepare_text`, what the lookups keep
-/// beside each glyph, and then `run_stages` over the stages of the plan.
+/// beside each glyph, and then `run_stages` over the stages of the plan. Script and direction are the
+/// plan's, and those of the buffer stay: the glyphs stand in the order of their script's own
+/// direction, whichever that is.
 ///
 /// # Errors
 ///
-/// Those of both, with the buffer as they leave it; by `pipeline_lengths_law` never [`TooLong`] with
-/// the [`max_len`] that `length_bound` tells.
+/// Those of both, and [`Memory`] for a copy of the text, as which it is given back: nothing has changed
+/// then. By `pipeline_lengths_law` never [`TooLong`] with the [`max_len`] that `length_bound` tells.
 ///
 /// <details><summary>Contract</summary>
 ///
@@ -29,15 +32,19 @@ use crate::generated::shapers_prepare::ot_shape_prepare::UnicodeProperties;
 ///     (F.variants font.now) (T.properties tables.now) (T.tables tables.now)
 ///     (T.texts tables.now) in
 ///     let r = substitution_by plan.now (F.font font.now) (L.substituted lookups.now) in
-///     let noted = text_noted (L.noted lookups.now) (text_prepared p buffer.old) in
-///     OnOk result (StagesRun r plan.now.stages noted buffer.new) }
-/// ensures err { let p = preparation_by plan.now settings.now (F.font font.now)
+///     let text = as_planned plan.now.plan.script plan.now.direction buffer.old in
+///     let noted = text_noted (L.noted lookups.now) (text_prepared p text) in
+///     OnOk result ((last : Buffer) × (StagesRun r plan.now.stages noted last
+///     × (buffer.new ≡ put_back buffer.old last))) }
+/// ensures err { OnErr result (buffer.new ≡ buffer.old) }
+/// ensures refusal { let p = preparation_by plan.now settings.now (F.font font.now)
 ///     (F.variants font.now) (T.properties tables.now) (T.tables tables.now)
 ///     (T.texts tables.now) in
 ///     let r = substitution_by plan.now (F.font font.now) (L.substituted lookups.now) in
-///     let noted = text_noted (L.noted lookups.now) (text_prepared p buffer.old) in
-///     IfErr result (λ e. IsStopped p buffer.old buffer.new e
-///     ⊎ StagesStopped r plan.now.stages noted buffer.new) }
+///     let text = as_planned plan.now.plan.script plan.now.direction buffer.old in
+///     let noted = text_noted (L.noted lookups.now) (text_prepared p text) in
+///     IfErr result (λ e. (e ≡ call.Refused Memory) ⊎ ((left : Buffer)
+///     × (IsStopped p text left e ⊎ StagesStopped r plan.now.stages noted left))) }
 /// ensures room { let growth = L.growth_of lookups.now in
 ///     PreparationGrows → PreparationHasRoom →
 ///     shaped_bound plan.now.shaper growth plan.now.lookups plan.now.stages
@@ -45,8 +52,10 @@ use crate::generated::shapers_prepare::ot_shape_prepare::UnicodeProperties;
 /// ensures positions { OnOk result (buffer.new.positions ≡ []) }
 /// ```
 ///
+/// - `Buffer`: `crates/shapers_buffer/specs/Buffer.antt`
 /// - `NotTooLong`, `PreparationGrows`, `PreparationHasRoom`, `shaped_bound`: `crates/shapers_pipeline/specs/Lengths.antt`
 /// - `text_noted`: `crates/shapers_pipeline/specs/Lookups.antt`
+/// - `as_planned`, `put_back`: `crates/shapers_pipeline/specs/Planned.antt`
 /// - `text_prepared`: `crates/shapers_pipeline/specs/Prepared.antt`
 /// - `IsStopped`: `crates/shapers_pipeline/specs/Refusals.antt`
 /// - `StagesRun`, `StagesStopped`: `crates/shapers_pipeline/specs/Stages.antt`
@@ -54,6 +63,7 @@ use crate::generated::shapers_prepare::ot_shape_prepare::UnicodeProperties;
 ///
 /// </details>
 ///
+/// [`Memory`]: crate::ShaperError::Memory
 /// [`TooLong`]: crate::ShaperError::TooLong
 /// [`max_len`]: crate::Buffer::max_len
 pub fn substitute_text<F: NormalizeFont, T: NormalizeTables + UnicodeProperties, L: Lookups>(
@@ -64,18 +74,47 @@ pub fn substitute_text<F: NormalizeFont, T: NormalizeTables + UnicodeProperties,
     lookups: &L,
     buffer: &mut Buffer,
 ) -> Result<(), CallError> {
+    let kept = buffer.copy()?;
+    set_to_plan(plan, buffer);
+    match substitute_planned(plan, settings, font, tables, lookups, buffer) {
+        Ok(()) => {
+            put_back(&kept, buffer);
+            Ok(())
+        }
+        Err(error) => {
+            *buffer = kept;
+            Err(error)
+        }
+    }
+}
+
+// The same of a text in the script and direction of the plan, whose direction is then its script's.
+pub(crate) fn substitute_planned<
+    F: NormalizeFont,
+    T: NormalizeTables + UnicodeProperties,
+    L: Lookups,
+>(
+    plan: &ShapePlan,
+    settings: &NormalizeSettings,
+    font: &F,
+    tables: &T,
+    lookups: &L,
+    buffer: &mut Buffer,
+) -> Result<(), CallError> {
     let text = TextPlan {
         shaper: plan.shaper(),
         plan: plan.plan(),
+        direction: plan.direction(),
         masks: plan.masks(),
         ranges: plan.ranges(),
     };
-    prepare_text(&text, settings, font, tables, buffer)?;
+    prepare_planned(&text, settings, font, tables, buffer)?;
     note_glyphs(lookups, buffer);
     let stages = StagePlan {
         plan: plan.plan(),
+        direction: plan.direction(),
         stages: plan.stages(),
         lookups: plan.lookups(),
     };
-    run_stages(&stages, font, lookups, buffer)
+    run_planned_stages(&stages, font, lookups, buffer)
 }

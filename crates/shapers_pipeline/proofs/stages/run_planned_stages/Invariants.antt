@@ -3,7 +3,7 @@ use Rattle.std.proofs.Common.{◌≡◌, ◌≤◌, [], drop, length}
 use Rattle.shapers_buffer.specs.Buffer.{Buffer}
 use Rattle.shapers_pipeline.specs.Lengths.{stages_bound}
 use Rattle.shapers_pipeline.specs.Stages.{StagesRun, StagesStopped, Substitution}
-use Rattle.shapers_pipeline.proofs.stages.run_stages.Given as goal
+use Rattle.shapers_pipeline.proofs.stages.run_planned_stages.Given as goal
 
 abbrev pub invariant-loop-stage : goal.invariant-loop-stage
 invariant-loop-stage g l =
