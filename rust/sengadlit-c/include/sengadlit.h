@@ -639,9 +639,10 @@ typedef struct sengadlit_buffer_properties_t {
     sengadlit_direction_t direction; /* INVALID, which is 0, counts as LTR. */
     sengadlit_buffer_cluster_level_t cluster_level;
     uint32_t flags;                  /* SENGADLIT_BUFFER_FLAG_.. */
-    uint32_t max_length;             /* A hook that would make the text longer returns TOO_LONG; 0 sets no limit. A stretched
-                                        mark may repeat a tile as often as this allows: HarfBuzz 12 sets 256 times the length
-                                        of the text, or 65536 if that is more. */
+    uint32_t max_length;             /* A hook that would make the text longer returns TOO_LONG, and a stretched mark repeats
+                                        its tiles as often as this allows. 0 if no length is set: sengadlit_shape then bounds a
+                                        text as HarfBuzz 12, by 256 times its length, or 65536 if that is more; a hook that is
+                                        called by itself bounds it by 1073741823, which stands for no length, too. */
 } sengadlit_buffer_properties_t;
 
 typedef struct sengadlit_buffer_t sengadlit_buffer_t;
@@ -1025,13 +1026,12 @@ sengadlit_status_t sengadlit_buffer_unsafe_to_break(sengadlit_buffer_t *buffer, 
 
 /* Takes a text of characters, as sengadlit_buffer_add_utf8 adds them, to glyphs behind the last lookup of GSUB: in HarfBuzz's
    order all that comes before lookups, normalization among it, and then stage by stage the lookups and the pause behind them.
-   Script and direction are the plan's, and those of the buffer's properties. Calls nominal_glyph; for Hangul glyph_h_advance;
+   Script and direction are the plan's, and those of the buffer's properties stay: the glyphs are in the order of the script's
+   own direction, whichever that is. Calls nominal_glyph; for Hangul glyph_h_advance;
    for Indic would_substitute, if the plan has a lookup; and the functions of `lookups`, of which substitute may be null if the
    plan has no lookup.
-   ARGUMENT: PLAN, FONT, LOOKUPS, POSITIONS; GLYPH_ID: not a scalar value; and for a null buffer. Nothing has changed then.
-   TOO_LONG, MEMORY, UNKNOWN_SYLLABLE: the text is as the step before left it, or as a lookup left it that made it too long.
-   GLYPH_ID is also the argument where a lookup left glyph `index` with a number above 65535; the text is then as the lookup
-   left it. */
+   ARGUMENT: PLAN, FONT, LOOKUPS, POSITIONS; GLYPH_ID: not a scalar value; and for a null buffer. TOO_LONG, MEMORY,
+   UNKNOWN_SYLLABLE. GLYPH_ID is also the argument where a lookup left glyph `index` with a number above 65535. */
 sengadlit_status_t sengadlit_substitute_text(const sengadlit_shape_plan_t *plan, const sengadlit_font_t *font,
                                              const sengadlit_lookups_t *lookups, sengadlit_buffer_t *buffer);
 

@@ -267,17 +267,20 @@ static void try_texts(void)
     check("no text", shape() == SENGADLIT_DONE && has_glyphs(NULL, NULL, 0));
 }
 
+/* A text that is refused behind a lookup is as it was. */
 static void expect_after(const char *what, sengadlit_bool_t (*lookup)(const sengadlit_lookup_t *, sengadlit_buffer_t *),
-                         sengadlit_status_t status, unsigned int wanted)
+                         sengadlit_status_t status)
 {
     sengadlit_error_t error;
-    unsigned int length;
 
     lookup_7 = lookup;
     set_text("\u1781\u17C2\u1784");
-    check(what, shape() == status);
-    sengadlit_buffer_get_error(world.buffer, &error);
-    check(what, error.status == status && sengadlit_buffer_get_glyph_infos(world.buffer, &length) != NULL && length == wanted);
+    keep_text();
+    for (int whole = 0; whole < 2; whole++) {
+        check(what, (whole ? shape_whole(plan) : shape()) == status);
+        sengadlit_buffer_get_error(world.buffer, &error);
+        check(what, error.status == status && !text_is_changed());
+    }
 }
 
 static void take_message(const char *message, void *user_data)
@@ -291,10 +294,10 @@ static void try_bad_lookups(void)
     unsigned int messages = 0;
     sengadlit_error_t error;
 
-    expect_after("memory is refused", refuse, SENGADLIT_MEMORY, 3);
-    expect_after("too long", make_many, SENGADLIT_TOO_LONG, ROOM + 1);
+    expect_after("memory is refused", refuse, SENGADLIT_MEMORY);
+    expect_after("too long", make_many, SENGADLIT_TOO_LONG);
     sengadlit_set_message_func(take_message, &messages);
-    expect_after("a number that no glyph has", leave_great_number, SENGADLIT_ARGUMENT, 3);
+    expect_after("a number that no glyph has", leave_great_number, SENGADLIT_ARGUMENT);
     sengadlit_buffer_get_error(world.buffer, &error);
     check("the glyph", error.argument == SENGADLIT_ARGUMENT_GLYPH_ID && error.index == 1);
     sengadlit_set_message_func(NULL, NULL);
@@ -354,9 +357,10 @@ static void try_bad_positions(const char *what, sengadlit_shape_plan_t *placed, 
 
     lookup_8 = lookup;
     set_text("x\u0323y");
+    keep_text();
     check(what, shape_whole(placed) == SENGADLIT_ARGUMENT);
     sengadlit_buffer_get_error(world.buffer, &error);
-    check(what, error.argument == argument && error.index == index);
+    check(what, error.argument == argument && error.index == index && !text_is_changed());
     check(what, sengadlit_buffer_get_glyph_positions(world.buffer, NULL)[0].x_advance == 0);
 }
 
@@ -380,7 +384,8 @@ static void try_positions(void)
     check("hung", length == 3 && found[1].x_offset == -100 && found[1].x_advance == 0);
     lookup_8 = refuse_position;
     set_text("x\u0323y");
-    check("memory is refused", shape_whole(placed) == SENGADLIT_MEMORY);
+    keep_text();
+    check("memory is refused", shape_whole(placed) == SENGADLIT_MEMORY && !text_is_changed());
     sengadlit_set_message_func(take_message, &messages);
     try_bad_positions("a glyph is gone", placed, take_glyph, SENGADLIT_ARGUMENT_POSITIONS, 0);
     try_bad_positions("the positions are gone", placed, take_positions, SENGADLIT_ARGUMENT_POSITIONS, 0);
@@ -413,6 +418,104 @@ static void try_ignorables(void)
     check("shaped", shape_whole(plan) == SENGADLIT_DONE && glyphs()[1].glyph_id == 0x20);
     found = sengadlit_buffer_get_glyph_positions(world.buffer, &length);
     check("without a width", length == 3 && found[1].x_advance == 0 && found[2].x_advance == 100);
+}
+
+/* ---- The plan's direction, and the length of a text ---- */
+
+/* A plan of Hebrew without tables. */
+static sengadlit_shape_plan_t *hebrew(sengadlit_direction_t direction)
+{
+    sengadlit_shape_plan_input_t input = {0};
+
+    input.script = SENGADLIT_TAG('H', 'e', 'b', 'r');
+    input.direction = direction;
+    return sengadlit_shape_plan_create(&input, NULL);
+}
+
+/* Puts ALEF, BET and GIMEL into the buffer, whose properties stay. */
+static void set_letters(void)
+{
+    sengadlit_glyph_info_t *found = sengadlit_buffer_set_length(world.buffer, 3);
+
+    memset(found, 0, 3 * sizeof *found);
+    for (unsigned int i = 0; i < 3; i++) {
+        found[i].glyph_id = 0x5D0 + i;
+        found[i].cluster = i;
+    }
+}
+
+/* The direction is the plan's, whatever the buffer's is, which stays: each text comes out in the same order. */
+static void try_directions(void)
+{
+    static const uint32_t forward[] = {0x5D0, 0x5D1, 0x5D2}, backward[] = {0x5D2, 0x5D1, 0x5D0};
+    static const uint32_t rising[] = {0, 1, 2}, falling[] = {2, 1, 0};
+    sengadlit_shape_plan_t *ltr = hebrew(SENGADLIT_DIRECTION_LTR), *rtl = hebrew(SENGADLIT_DIRECTION_RTL);
+
+    set_text("");
+    for (unsigned int time = 0; time < 2; time++) {
+        set_letters();
+        check("turned", sengadlit_substitute_text(ltr, &world.font, &lookups, world.buffer) == SENGADLIT_DONE);
+        check("turned", has_glyphs(backward, falling, 3));
+        set_letters();
+        check("from left to right", shape_whole(ltr) == SENGADLIT_DONE && has_glyphs(forward, rising, 3));
+        set_letters();
+        check("from right to left", shape_whole(rtl) == SENGADLIT_DONE && has_glyphs(backward, falling, 3));
+    }
+    world.properties.direction = SENGADLIT_DIRECTION_TTB;
+    set_text("");
+    set_letters();
+    check("along the line", shape_whole(rtl) == SENGADLIT_DONE && has_glyphs(backward, falling, 3));
+    world.properties.direction = SENGADLIT_DIRECTION_LTR;
+    sengadlit_shape_plan_destroy(ltr);
+    sengadlit_shape_plan_destroy(rtl);
+}
+
+static int32_t wide_letters(void *user_data, uint32_t glyph)
+{
+    (void)user_data;
+    return glyph == 0x70F ? 1 : 10000000;
+}
+
+/* The mark of abbreviation becomes a tile that repeats. */
+static sengadlit_bool_t make_tile(void *user_data, const sengadlit_lookup_t *lookup, sengadlit_buffer_t *buffer)
+{
+    unsigned int length;
+    sengadlit_glyph_info_t *found = sengadlit_buffer_get_glyph_infos(buffer, &length);
+
+    (void)user_data, (void)lookup;
+    for (unsigned int i = 0; i < length; i++)
+        if (found[i].glyph_id == 0x70F) {
+            found[i].glyph_props = SENGADLIT_GLYPH_PROPS_MULTIPLIED;
+            found[i].lig_props = 1;
+        }
+    return 1;
+}
+
+/* Tiles of 1 under a word of 40,000,000: no length is set, so that five characters become 65536 glyphs at most. */
+static void try_stretch(void)
+{
+    static const sengadlit_table_feature_t stch = {SENGADLIT_TAG('s', 't', 'c', 'h'), 1, seven};
+    static const sengadlit_lookups_funcs_t tile_funcs = {.substitute = make_tile};
+    static const sengadlit_lookups_t tiles = {&tile_funcs, NULL};
+    int32_t (*const advances)(void *, uint32_t) = world.font_funcs.glyph_h_advance;
+    sengadlit_shape_plan_input_t input = {0};
+    sengadlit_shape_plan_t *syriac;
+
+    input.script = SENGADLIT_TAG('S', 'y', 'r', 'c');
+    input.direction = SENGADLIT_DIRECTION_RTL;
+    input.gsub.has_table = input.gsub.found_script = 1;
+    input.gsub.chosen_script = SENGADLIT_TAG('s', 'y', 'r', 'c');
+    input.gsub.features = &stch;
+    input.gsub.features_length = 1;
+    syriac = sengadlit_shape_plan_create(&input, NULL);
+    world.font_funcs.glyph_h_advance = wide_letters;
+    limit_length(0);
+    set_text("\u070F\u0712\u0713\u0714\u0715");
+    keep_text();
+    check("a stretch", sengadlit_shape(syriac, &world.font, &tiles, world.buffer) == SENGADLIT_TOO_LONG && !text_is_changed());
+    limit_length(ROOM);
+    world.font_funcs.glyph_h_advance = advances;
+    sengadlit_shape_plan_destroy(syriac);
 }
 
 /* A plan of Latin without tables. */
@@ -740,6 +843,8 @@ int main(void)
     try_bad_lookups();
     try_positions();
     try_ignorables();
+    try_directions();
+    try_stretch();
     try_spaces();
     try_vertical();
     try_choices();

@@ -5,9 +5,7 @@ use super::plans::UserData;
 use crate::status::{Argument, Error};
 use core::ptr::null_mut;
 use sengadlit::alloc::{Global, Vec as List};
-use sengadlit::buffer::{
-    Buffer as Inner, BufferSettings, GlyphInfo, GlyphRewriting, ShaperError,
-};
+use sengadlit::buffer::{Buffer as Inner, BufferSettings, GlyphInfo, GlyphRewriting, ShaperError};
 
 /// The greatest length of a text for which none is set.
 pub const MAX_LENGTH: usize = Inner::MAX_LEN_DEFAULT;
