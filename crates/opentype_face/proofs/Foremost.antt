@@ -1,6 +1,6 @@
 -- A search for the first that fits, as far as it has come.
 use Rattle.std.proofs.Common.{ℕ, suc, ◌+◌, ◌-◌, ◌<◌, ◌≤◌, ◌≡◌, Option, None, Some, refl, sym, ◌∙◌, arith}
-use Rattle.std.proofs.Common.{true}
+use Rattle.std.proofs.Common.{true, false}
 use Rattle.std.specs.Option.{is_some, option_map}
 use Rattle.opentype_face.specs.Firsts.{first_from}
 
@@ -46,3 +46,19 @@ pub first_found : {A X : Type 0} (g : A → X) (f : ℕ → Option X) (count i :
     option_map g o ≡ first_from count f 0
 first_found g f count i None s lt e some = absurd (cc)
 first_found g f count i (Some a) s lt e some = sym (first_hit f count i (g a) s lt (sym e))
+
+pub first_missed : {A X : Type 0} (g : A → X) (f : ℕ → Option X) (count i : ℕ) (o : Option A) →
+    IsFirst f count i → i < count → option_map g o ≡ f i → is_some o ≡ false → IsFirst f count (i + 1)
+first_missed g f count i None s lt e some = first_passed f count i s lt (sym e)
+first_missed g f count i (Some a) s lt e some = absurd (cc)
+
+-- the same where the code has no ghost part
+pub first_same : {X : Type 0} (f : ℕ → Option X) (count i : ℕ) (o : Option X) →
+    IsFirst f count i → i < count → o ≡ f i → is_some o ≡ true → o ≡ first_from count f 0
+first_same f count i None s lt e some = absurd (cc)
+first_same f count i (Some x) s lt e some = sym (first_hit f count i x s lt (sym e))
+
+pub first_none : {X : Type 0} (f : ℕ → Option X) (count i : ℕ) (o : Option X) →
+    IsFirst f count i → i < count → o ≡ f i → is_some o ≡ false → IsFirst f count (i + 1)
+first_none f count i None s lt e some = first_passed f count i s lt (sym e)
+first_none f count i (Some x) s lt e some = absurd (cc)

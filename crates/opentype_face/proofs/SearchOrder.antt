@@ -2,7 +2,7 @@
 use Rattle.std.proofs.Common.{ℕ, zero, suc, ◌+◌, ◌-◌, ◌/◌, ◌<◌, ◌≤◌, None, arith, inl, inr}
 use Rattle.std.proofs.lemmas.Bool.{cases_lt, cases_eq}
 use Rattle.opentype_face.specs.Ranges.{bisect}
-use Rattle.opentype_face.specs.SearchLaws.{AreInOrder, Holds, IsFirstHolding, SearchLaw}
+use Rattle.opentype_face.specs.SearchLaws.{AreRangesInOrder, Holds, IsFirstHolding, SearchLaw}
 use Rattle.opentype_face.proofs.Searches.{below, above, within, none}
 
 -- no range outside of those from low to high holds the number
@@ -18,7 +18,7 @@ nowhere first last number count low high h o i lt holds = elim (cases_lt i low) 
 ]
 
 -- a number below the first of range m is in none from m on
-not_behind : (first last : ℕ → ℕ) (number count m : ℕ) → AreInOrder count first last → number < first m →
+not_behind : (first last : ℕ → ℕ) (number count m : ℕ) → AreRangesInOrder count first last → number < first m →
     (j : ℕ) → m ≤ j → j < count → Holds first last number j → ⊥
 not_behind first last number count m s b j from to holds = elim (cases_eq m j) [
   | inl same ↦ let it : number < first j = rw same at b in let x = holds.0 in omega arith
@@ -31,7 +31,7 @@ not_behind first last number count m s b j from to holds = elim (cases_eq m j) [
 ]
 
 -- one above the last of range m is in none up to m
-not_before : (first last : ℕ → ℕ) (number count m : ℕ) → AreInOrder count first last → m < count →
+not_before : (first last : ℕ → ℕ) (number count m : ℕ) → AreRangesInOrder count first last → m < count →
     last m < number → (j : ℕ) → j ≤ m → Holds first last number j → ⊥
 not_before first last number count m s inside a j to holds = elim (cases_eq m j) [
   | inl same ↦ let it : last j < number = rw same at a in let x = holds.1 in omega arith
@@ -44,14 +44,14 @@ not_before first last number count m s inside a j to holds = elim (cases_eq m j)
 ]
 
 -- one in range m is in none before it
-not_twice : (first last : ℕ → ℕ) (number count m : ℕ) → AreInOrder count first last → m < count →
+not_twice : (first last : ℕ → ℕ) (number count m : ℕ) → AreRangesInOrder count first last → m < count →
     first m ≤ number → (j : ℕ) → j < m → Holds first last number j → ⊥
 not_twice first last number count m s inside f j lt holds =
     let x = holds.1 in
     let z = s.apart j m lt inside in
     omega arith
 
-searched : (first last : ℕ → ℕ) (number count : ℕ) → AreInOrder count first last → (n low high : ℕ) →
+searched : (first last : ℕ → ℕ) (number count : ℕ) → AreRangesInOrder count first last → (n low high : ℕ) →
     high - low ≤ n → high ≤ count → IsOutside first last number count low high →
     IsFirstHolding count first last number (bisect n first last number low high)
 searched first last number count s zero low high e h o =

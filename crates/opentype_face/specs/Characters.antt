@@ -25,7 +25,8 @@ subtable_of cmap key = of_record cmap (bisect (records_in cmap) (λ i. u32_in cm
 
 -- that of a platform, whatever its encoding
 abbrev pub subtable_of_platform : List ℕ → ℕ → List ℕ
-subtable_of_platform cmap platform = of_record cmap (ranges_in cmap 4 4 8 (records_in cmap) platform)
+subtable_of_platform cmap platform = of_record cmap (ranges_in cmap 4 4 8 (records_in cmap)
+    platform)
 
 -- one subtable, or where that is empty, another
 abbrev pub or_table : List ℕ → List ℕ → List ℕ
@@ -34,15 +35,18 @@ or_table table other = if length table == 0 then other else table
 -- Unicode's: all of it 3/10, 0/6, 0/4, the first 65536 characters 3/1, 0/3, 0/2, 0/1, 0/0
 abbrev pub unicode_in : List ℕ → List ℕ
 unicode_in cmap =
-    or_table (subtable_of cmap 0x3000A) (or_table (subtable_of cmap 6) (or_table (subtable_of cmap 4)
-    (or_table (subtable_of cmap 0x30001) (or_table (subtable_of cmap 3) (or_table (subtable_of cmap 2)
+    or_table (subtable_of cmap 0x3000A) (or_table (subtable_of cmap 6) (or_table (subtable_of cmap
+    4)
+    (or_table (subtable_of cmap 0x30001) (or_table (subtable_of cmap 3) (or_table (subtable_of cmap
+    2)
     (or_table (subtable_of cmap 1) (subtable_of cmap 0)))))))
 
 -- how the characters of a symbol font are found, by its page in OS/2
 abbrev pub symbol_by_page : ℕ → Encoding
 symbol_by_page page =
     if page == 0 then Symbol
-    else (if page == 0xB2 then SimplifiedArabic else (if page == 0xB3 then TraditionalArabic else Unicode))
+    else (if page == 0xB2 then SimplifiedArabic else (if page == 0xB3 then TraditionalArabic else
+    Unicode))
 
 -- the choice, in HarfBuzz's order: symbols (3/0), Unicode, MacRoman (1/0), another of the Macintosh
 abbrev pub chosen_table : List ℕ → List ℕ
@@ -62,7 +66,8 @@ chosen_encoding cmap page =
 abbrev pub code_in : List ℕ → ℕ → ℕ
 code_in table c =
     if nat_lt c 65536 then
-    unwrap_or (option_map (λ i. u16_in table (2 + i * 4)) (ranges_in table 0 0 4 (capped_in 65536 (length table / 4)) c)) 0
+    unwrap_or (option_map (λ i. u16_in table (2 + i * 4)) (ranges_in table 0 0 4 (capped_in 65536
+    (length table / 4)) c)) 0
     else 0
 
 -- the glyph of a character's code in such a table
@@ -78,7 +83,10 @@ abbrev pub nominal_in : Encoding → List ℕ → ℕ → Option ℕ
 nominal_in Unicode subtable c = cmap_in subtable c
 nominal_in Symbol subtable c =
     or_else (cmap_in subtable c) (if nat_lt c 256 then cmap_in subtable (0xF000 + c) else None)
-nominal_in SimplifiedArabic subtable c = or_else (cmap_in subtable c) (by_code subtable (code_in SIMPLIFIED_ARABIC c))
-nominal_in TraditionalArabic subtable c = or_else (cmap_in subtable c) (by_code subtable (code_in TRADITIONAL_ARABIC c))
-nominal_in MacRoman subtable c = or_else (of_ascii subtable c) (by_code subtable (code_in MAC_ROMAN c))
+nominal_in SimplifiedArabic subtable c = or_else (cmap_in subtable c) (by_code subtable (code_in
+    SIMPLIFIED_ARABIC c))
+nominal_in TraditionalArabic subtable c = or_else (cmap_in subtable c) (by_code subtable (code_in
+    TRADITIONAL_ARABIC c))
+nominal_in MacRoman subtable c = or_else (of_ascii subtable c) (by_code subtable (code_in MAC_ROMAN
+    c))
 nominal_in Mac subtable c = of_ascii subtable c

@@ -1,12 +1,12 @@
 -- A face: its tables, and what it says of characters and glyphs.
-use Rattle.std.specs.Prelude.{ℕ, ◌/◌, ◌==◌, ◌||◌, not, nat_le, ℤ, List, [], length, Option, None, Some, Result, Ok, Err, if◌then◌else◌}
+use Rattle.std.specs.Prelude.{ℕ, ◌/◌, ◌==◌, ◌||◌, not, nat_le, ℤ, List, [], length, Option, None, Some, Result, Ok, Err, if◌then◌else◌, nat_lt}
 use Rattle.std.specs.Option.{unwrap_or}
 use Rattle.opentype_face.specs.Bytes.{u16_in}
 use Rattle.opentype_face.specs.Characters.{chosen_encoding, chosen_table, nominal_in, subtable_of}
 use Rattle.opentype_face.specs.Directory.{directory_in, table_in}
 use Rattle.opentype_face.specs.Ignored.{is_ignored}
-use Rattle.opentype_face.specs.Metrics.{advance_in, ascender_in, descender_in, font_page_in, units_in}
-use Rattle.opentype_face.specs.Outlines.{outline_count_in}
+use Rattle.opentype_face.specs.Metrics.{advance_in, ascender_in, bearing_in, descender_in, font_page_in, units_in}
+use Rattle.opentype_face.specs.Outlines.{outline_count_in, outline_in}
 use Rattle.opentype_face.specs.Variants.{variant_in}
 use Rattle.opentype_face.specs.declared.characters.Encoding.{Encoding}
 use Rattle.opentype_face.specs.declared.directory.FaceError.{FaceError}
@@ -61,7 +61,8 @@ tables_of f = record {
 abbrev pub gdef_in : List ℕ → List ℕ → List ℕ
 gdef_in bytes directory =
     let gdef = table_in bytes directory 0x47444546 in
-    if not (u16_in gdef 0 == 1) || is_ignored (length gdef) (length (table_in bytes directory 0x47535542))
+    if not (u16_in gdef 0 == 1) || is_ignored (length gdef) (length (table_in bytes directory
+    0x47535542))
     (length (table_in bytes directory 0x47504F53)) then [] else gdef
 
 -- the tables of a directory, by their tags' four characters
@@ -82,7 +83,8 @@ tables_in bytes directory = record {
   gsub = table_in bytes directory 0x47535542;
   gpos = table_in bytes directory 0x47504F53;
   subtable = chosen_table (table_in bytes directory 0x636D6170);
-  encoding = chosen_encoding (table_in bytes directory 0x636D6170) (font_page_in (table_in bytes directory 0x4F532F32));
+  encoding = chosen_encoding (table_in bytes directory 0x636D6170) (font_page_in (table_in bytes
+      directory 0x4F532F32));
   selectors = subtable_of (table_in bytes directory 0x636D6170) 5;
 }
 
@@ -127,4 +129,17 @@ descender_of t = descender_in t.hhea t.os2 (units_in t.head)
 
 -- advances to the right
 abbrev pub h_advance_of : Tables → ℕ → ℕ
-h_advance_of t glyph = unwrap_or (advance_in t.hhea t.hmtx (glyph_count_of t) glyph) (units_in t.head / 2)
+h_advance_of t glyph = unwrap_or (advance_in t.hhea t.hmtx (glyph_count_of t) glyph) (units_in
+    t.head / 2)
+
+abbrev pub v_advance_of : Tables → ℕ → Option ℕ
+v_advance_of t glyph = advance_in t.vhea t.vmtx (glyph_count_of t) glyph
+
+-- the bearing of a glyph on the left, and its outline
+abbrev pub left_side_bearing_of : Tables → ℕ → ℤ
+left_side_bearing_of t glyph = bearing_in t.hhea t.hmtx (u16_in t.maxp 4) glyph
+
+abbrev pub outline_of : Tables → ℕ → Option (List ℕ)
+outline_of t glyph =
+    if nat_lt glyph (outline_count_in t.head t.loca) then Some (outline_in t.head t.loca t.glyf
+    glyph) else None

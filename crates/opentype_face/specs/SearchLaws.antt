@@ -3,7 +3,7 @@ use Rattle.std.specs.Prelude.{ℕ, ◌<◌, ◌≤◌, Option, None, Some}
 use Rattle.opentype_face.specs.Ranges.{bisect}
 
 -- each range ends before the next begins
-pub record AreInOrder (count : ℕ) (first last : ℕ → ℕ) : Type 0 where
+pub record AreRangesInOrder (count : ℕ) (first last : ℕ → ℕ) : Type 0 where
   pub ranges : (i : ℕ) → i < count → first i ≤ last i
   pub apart : (i j : ℕ) → i < j → j < count → last i < first j
 
@@ -19,5 +19,5 @@ IsFirstHolding count first last number (Some i) =
 
 -- the search finds it
 abbrev pub SearchLaw : Type 0
-SearchLaw = (count : ℕ) (first last : ℕ → ℕ) (number : ℕ) → AreInOrder count first last →
+SearchLaw = (count : ℕ) (first last : ℕ → ℕ) (number : ℕ) → AreRangesInOrder count first last →
     IsFirstHolding count first last number (bisect count first last number 0 count)

@@ -9,11 +9,12 @@ use Rattle.opentype_face.specs.declared.variants.GlyphVariant.TheVariants.{NotFo
 -- records in order of a number of three bytes: the one with this number
 abbrev pub record24_in : List ℕ → ℕ → ℕ → ℕ → ℕ → Option ℕ
 record24_in bytes first size count number =
-    bisect count (λ i. u24_in bytes (first + i * size)) (λ i. u24_in bytes (first + i * size)) number 0 count
+    bisect count (λ i. u24_in bytes (first + i * size)) (λ i. u24_in bytes (first + i * size))
+    number 0 count
 
 -- the default characters of a selector, in ranges of a first one and how many follow it
-abbrev pub is_default : List ℕ → ℕ → Option ℕ
-is_default bytes c =
+abbrev pub default_range_in : List ℕ → ℕ → Option ℕ
+default_range_in bytes c =
     let count = capped_in (u32_in bytes 0) (length bytes / 4) in
     bisect count (λ i. u24_in bytes (4 + i * 4))
     (λ i. u24_in bytes (4 + i * 4) + slice_index bytes (7 + i * 4)) c 0 count
@@ -28,7 +29,7 @@ mapped_in bytes c =
 abbrev pub in_record : List ℕ → ℕ → ℕ → GlyphVariant
 in_record bytes c i =
     let glyph = mapped_in (part_in bytes (u32_in bytes (17 + i * 11))) c in
-    if is_some (is_default (part_in bytes (u32_in bytes (13 + i * 11))) c) then UseDefault
+    if is_some (default_range_in (part_in bytes (u32_in bytes (13 + i * 11))) c) then UseDefault
     else (if glyph == 0 then NotFound else Found glyph)
 
 abbrev pub variant_in : List ℕ → ℕ → ℕ → GlyphVariant

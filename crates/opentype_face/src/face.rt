@@ -1,5 +1,5 @@
 //! A face: the tables of a font, over its bytes.
-ghost use Rattle.std.specs.Prelude.{◌≡◌};
+ghost use Rattle.std.specs.Prelude.{◌≡◌, option_map};
 ghost use Rattle.opentype_face.specs.Faces.{
   ascender_of,
   descender_of,
@@ -7,8 +7,11 @@ ghost use Rattle.opentype_face.specs.Faces.{
   gdef_in,
   glyph_count_of,
   h_advance_of,
+  left_side_bearing_of,
+  outline_of,
   tables_in,
   tables_of,
+  v_advance_of,
   variation_glyph_of,
 };
 ghost use Rattle.opentype_face.specs.Characters.{nominal_in};
@@ -163,6 +166,32 @@ impl Face<'_> {
             Some(advance) => advance,
             None => self.units_per_em() / 2,
         }
+    }
+
+    /// How far down a glyph goes; `None` where the font has no vertical advances. (HarfBuzz then takes the
+    /// height of a line.)
+    pub fn v_advance(&self, glyph: u16) -> Option<u16>
+        ensures { result ≡ v_advance_of (tables_of self.now) glyph }
+    {
+        metrics::advance(self.vhea, self.vmtx, self.glyph_count(), glyph)
+    }
+
+    /// The left side bearing of a glyph, where its box begins.
+    pub fn left_side_bearing(&self, glyph: u16) -> i16
+        ensures { result ≡ left_side_bearing_of (tables_of self.now) glyph }
+    {
+        let count = metrics::glyph_count(self.maxp);
+        metrics::side_bearing(self.hhea, self.hmtx, count, glyph)
+    }
+
+    /// The outline of a glyph; `None` where the font has none of its number.
+    pub fn outline(&self, glyph: u16) -> Option<&[u8]>
+        ensures { option_map (λ x. x.now) result ≡ outline_of (tables_of self.now) glyph }
+    {
+        if usize::from(glyph) >= outlines::outline_count(self.head, self.loca) {
+            return None;
+        }
+        Some(outlines::outline(self.head, self.loca, self.glyf, glyph))
     }
 
     /// How far the font rises above the base line.

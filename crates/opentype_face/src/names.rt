@@ -50,7 +50,7 @@ fn start_of_nth(bytes: &[u8], start: usize, n: u16) -> usize
     ensures bound { result < 2 ^ 33 }
 {
     let mut at = start;
-    for i in 0..n {
+    for _i in 0..n {
         at += usize::from(u8_at(bytes, at)) + 1;
     }
     at

@@ -1,8 +1,16 @@
 //! The outlines of glyphs, by `loca` and `glyf`.
 ghost use Rattle.std.specs.Prelude.{◌≡◌, ◌≤◌};
-ghost use Rattle.opentype_face.specs.Outlines.{outline_at, outline_count_in, outline_in};
+ghost use Rattle.opentype_face.specs.Outlines.{
+  box_bottom_in,
+  box_top_in,
+  box_width_in,
+  has_box_in,
+  outline_at,
+  outline_count_in,
+  outline_in,
+};
 
-use crate::bytes::{offset16, offset32, stretch, u16_at};
+use crate::bytes::{i16_at, offset16, offset32, stretch, u16_at};
 
 /// How many outlines there are.
 pub fn outline_count(head: &[u8], loca: &[u8]) -> usize
@@ -42,4 +50,34 @@ pub fn outline<'a>(head: &[u8], loca: &[u8], glyf: &'a [u8], glyph: u16) -> &'a 
     } else {
         &[]
     }
+}
+
+/// Whether an outline has a box; an empty glyph has none, and is 0 wide and high.
+pub fn has_box(outline: &[u8]) -> bool
+    ensures { result ≡ has_box_in outline.now }
+{
+    !(outline.len() < 10 || u16_at(outline, 0) == 0)
+}
+
+/// Where the top of an outline's box is.
+pub fn box_top(outline: &[u8]) -> i16
+    ensures { result ≡ box_top_in outline.now }
+{
+    let (bottom, top) = (i16_at(outline, 4), i16_at(outline, 8));
+    if top < bottom { bottom } else { top }
+}
+
+/// Where its bottom is.
+pub fn box_bottom(outline: &[u8]) -> i16
+    ensures { result ≡ box_bottom_in outline.now }
+{
+    let (bottom, top) = (i16_at(outline, 4), i16_at(outline, 8));
+    if top < bottom { top } else { bottom }
+}
+
+/// How wide it is. HarfBuzz lets it begin at the glyph's left side bearing.
+pub fn box_width(outline: &[u8]) -> u16
+    ensures { result ≡ box_width_in outline.now }
+{
+    i16_at(outline, 6).abs_diff(i16_at(outline, 2))
 }

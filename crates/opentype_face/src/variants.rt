@@ -1,12 +1,6 @@
 //! The glyphs of characters with a selector behind them, by `cmap` of format 14.
 ghost use Rattle.std.specs.Prelude.{◌≡◌, is_some};
-ghost use Rattle.opentype_face.specs.Variants.{
-  in_record,
-  is_default as default_in,
-  mapped_in,
-  record24_in,
-  variant_in,
-};
+ghost use Rattle.opentype_face.specs.Variants.{in_record, default_range_in, mapped_in, variant_in};
 
 use crate::bytes::{capped, offset32, part, u16_at, u32_at};
 use crate::ranges::Ranges;
@@ -58,7 +52,7 @@ fn of_record(bytes: &[u8], c: u32, i: u32) -> GlyphVariant
 }
 
 fn is_default(bytes: &[u8], c: u32) -> bool
-    ensures { result ≡ is_some (default_in bytes.now c) }
+    ensures { result ≡ is_some (default_range_in bytes.now c) }
 {
     let ranges = Ranges {
         bytes,

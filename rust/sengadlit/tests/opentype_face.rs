@@ -5,7 +5,7 @@ use sengadlit::opentype_face::classes::{glyph_props, is_in_mark_set};
 use sengadlit::opentype_face::directory::{FaceError, face_count};
 use sengadlit::opentype_face::face::{Face, parse};
 use sengadlit::opentype_face::metrics::{side_bearing, vertical_origin};
-use sengadlit::opentype_face::outlines::outline;
+use sengadlit::opentype_face::outlines::{box_bottom, box_top, box_width, has_box};
 
 type Table = (&'static [u8; 4], Vec<u8>);
 
@@ -155,8 +155,20 @@ fn metrics() {
         [1, 2].map(|glyph| vertical_origin(face.vorg, glyph)),
         [Some(880), Some(900)]
     );
-    let outlines = [0, 1, 2, 3].map(|glyph| outline(face.head, face.loca, face.glyf, glyph));
-    assert_eq!(outlines, [&[], &face.glyf[..10], &face.glyf[10..], &[]]);
+    let boxes = [0, 1, 2, 3].map(|glyph| {
+        let outline = face.outline(glyph).unwrap();
+        has_box(outline).then(|| (box_top(outline), box_bottom(outline), box_width(outline)))
+    });
+    assert_eq!(
+        boxes,
+        [None, Some((693, -7, 100)), Some((50, 20, 60)), None]
+    );
+    assert_eq!(face.outline(4), None);
+    assert_eq!(face.left_side_bearing(1), -20);
+    assert_eq!(
+        [0, 3, 4].map(|glyph| face.v_advance(glyph)),
+        [Some(1000), Some(1000), Some(0)]
+    );
 }
 
 /// A collection of two faces of symbols: of no page, and of that of Simplified Arabic.
@@ -195,6 +207,7 @@ fn collection_of_symbols() {
         [0xF10C, 0x200C, 0x200D].map(|c| face.nominal_glyph(c)),
         [Some(1), Some(1), None]
     );
+    assert_eq!(face.v_advance(1), None);
     assert_eq!(parse(&bytes, 2).unwrap_err(), FaceError::IndexOutOfRange);
 }
 
@@ -231,8 +244,12 @@ fn spoilt_fonts() {
             for glyph in [0, 1, 2, 3, u16::MAX] {
                 let _ = (
                     face.h_advance(glyph),
-                    outline(face.head, face.loca, face.glyf, glyph),
+                    face.v_advance(glyph),
+                    face.left_side_bearing(glyph),
                 );
+                let _ = face
+                    .outline(glyph)
+                    .map(|it| (box_top(it), box_bottom(it), box_width(it)));
                 let _ = (face.glyph_name(glyph), glyph_props(face.gdef, glyph));
             }
         }

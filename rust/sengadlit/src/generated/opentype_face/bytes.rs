@@ -216,10 +216,10 @@ pub fn capped(count: u32, room: usize) -> u32 {
 /// # Contract
 ///
 /// ```text
-/// ensures { result.now ≡ stretch_in bytes.now start len }
+/// ensures { result.now ≡ stretch_bytes bytes.now start len }
 /// ```
 ///
-/// - `stretch_in`: `crates/opentype_face/specs/Bytes.antt`
+/// - `stretch_bytes`: `crates/opentype_face/specs/Bytes.antt`
 ///
 /// </details>
 #[inline]

@@ -53,6 +53,9 @@ pub fn face_count(bytes: &[u8]) -> u32 {
 
 /// The directory of a face.
 ///
+/// # Errors
+/// The bytes are no font, or the file has no face of that index.
+///
 /// <details><summary>Contract</summary>
 ///
 /// # Contract

@@ -208,6 +208,62 @@ impl Face<'_> {
         }
     }
 
+    /// How far down a glyph goes; `None` where the font has no vertical advances. (HarfBuzz then takes the
+    /// height of a line.)
+    ///
+    /// <details><summary>Contract</summary>
+    ///
+    /// # Contract
+    ///
+    /// ```text
+    /// ensures { result ≡ v_advance_of (tables_of self.now) glyph }
+    /// ```
+    ///
+    /// - `tables_of`, `v_advance_of`: `crates/opentype_face/specs/Faces.antt`
+    ///
+    /// </details>
+    pub fn v_advance(&self, glyph: u16) -> Option<u16> {
+        metrics::advance(self.vhea, self.vmtx, self.glyph_count(), glyph)
+    }
+
+    /// The left side bearing of a glyph, where its box begins.
+    ///
+    /// <details><summary>Contract</summary>
+    ///
+    /// # Contract
+    ///
+    /// ```text
+    /// ensures { result ≡ left_side_bearing_of (tables_of self.now) glyph }
+    /// ```
+    ///
+    /// - `left_side_bearing_of`, `tables_of`: `crates/opentype_face/specs/Faces.antt`
+    ///
+    /// </details>
+    pub fn left_side_bearing(&self, glyph: u16) -> i16 {
+        let count = metrics::glyph_count(self.maxp);
+        metrics::side_bearing(self.hhea, self.hmtx, count, glyph)
+    }
+
+    /// The outline of a glyph; `None` where the font has none of its number.
+    ///
+    /// <details><summary>Contract</summary>
+    ///
+    /// # Contract
+    ///
+    /// ```text
+    /// ensures { option_map (λ x. x.now) result ≡ outline_of (tables_of self.now) glyph }
+    /// ```
+    ///
+    /// - `outline_of`, `tables_of`: `crates/opentype_face/specs/Faces.antt`
+    ///
+    /// </details>
+    pub fn outline(&self, glyph: u16) -> Option<&[u8]> {
+        if usize::from(glyph) >= outlines::outline_count(self.head, self.loca) {
+            return None;
+        }
+        Some(outlines::outline(self.head, self.loca, self.glyf, glyph))
+    }
+
     /// How far the font rises above the base line.
     ///
     /// <details><summary>Contract</summary>

@@ -51,7 +51,7 @@ fn nth_string(bytes: &[u8], start: usize, n: u16) -> &[u8] {
 /// Behind the end of the bytes strings have no characters, so that this rises by 256 a step at most.
 fn start_of_nth(bytes: &[u8], start: usize, n: u16) -> usize {
     let mut at = start;
-    for i in 0..n {
+    for _i in 0..n {
         at += usize::from(u8_at(bytes, at)) + 1;
     }
     at

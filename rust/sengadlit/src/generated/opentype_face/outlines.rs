@@ -4,7 +4,7 @@
 
 use crate::support::prelude::*;
 
-use crate::generated::opentype_face::bytes::{offset16, offset32, stretch, u16_at};
+use crate::generated::opentype_face::bytes::{i16_at, offset16, offset32, stretch, u16_at};
 
 /// How many outlines there are.
 ///
@@ -61,4 +61,74 @@ pub fn outline<'a>(head: &[u8], loca: &[u8], glyf: &'a [u8], glyph: u16) -> &'a 
     } else {
         &[]
     }
+}
+
+/// Whether an outline has a box; an empty glyph has none, and is 0 wide and high.
+///
+/// <details><summary>Contract</summary>
+///
+/// # Contract
+///
+/// ```text
+/// ensures { result ≡ has_box_in outline.now }
+/// ```
+///
+/// - `has_box_in`: `crates/opentype_face/specs/Outlines.antt`
+///
+/// </details>
+pub fn has_box(outline: &[u8]) -> bool {
+    !(outline.len() < 10 || u16_at(outline, 0) == 0)
+}
+
+/// Where the top of an outline's box is.
+///
+/// <details><summary>Contract</summary>
+///
+/// # Contract
+///
+/// ```text
+/// ensures { result ≡ box_top_in outline.now }
+/// ```
+///
+/// - `box_top_in`: `crates/opentype_face/specs/Outlines.antt`
+///
+/// </details>
+pub fn box_top(outline: &[u8]) -> i16 {
+    let (bottom, top) = (i16_at(outline, 4), i16_at(outline, 8));
+    if top < bottom { bottom } else { top }
+}
+
+/// Where its bottom is.
+///
+/// <details><summary>Contract</summary>
+///
+/// # Contract
+///
+/// ```text
+/// ensures { result ≡ box_bottom_in outline.now }
+/// ```
+///
+/// - `box_bottom_in`: `crates/opentype_face/specs/Outlines.antt`
+///
+/// </details>
+pub fn box_bottom(outline: &[u8]) -> i16 {
+    let (bottom, top) = (i16_at(outline, 4), i16_at(outline, 8));
+    if top < bottom { top } else { bottom }
+}
+
+/// How wide it is. HarfBuzz lets it begin at the glyph's left side bearing.
+///
+/// <details><summary>Contract</summary>
+///
+/// # Contract
+///
+/// ```text
+/// ensures { result ≡ box_width_in outline.now }
+/// ```
+///
+/// - `box_width_in`: `crates/opentype_face/specs/Outlines.antt`
+///
+/// </details>
+pub fn box_width(outline: &[u8]) -> u16 {
+    i16_at(outline, 6).abs_diff(i16_at(outline, 2))
 }
