@@ -1,0 +1,197 @@
+-- By how much a lookup makes a text longer: not at all, where none of its subtables may add glyphs.
+use Rattle.std.proofs.Common.{inl, inr, ◌⊎◌, ◌≡◌, ℕ, zero, suc, ◌+◌, ◌*◌, ◌<◌, ◌≤◌, ◌==◌, ◌||◌, Bool, true, false, nat_lt, Option, None, Some, List, length, refl, subst, arith, if◌then◌else◌}
+use Rattle.std.specs.Option.{is_some, option_map}
+use Rattle.std.proofs.lemmas.Bool.{ltb-true}
+use Rattle.shapers_buffer.specs.Buffer.{Buffer}
+use Rattle.shapers_buffer.specs.Glyphs.{Glyphs}
+use Rattle.opentype_face.specs.Bytes.{u16_in}
+use Rattle.opentype_face.specs.Lookups.{lookup_in, subtable_in, type_in}
+use Rattle.opentype_face.specs.Firsts.{first_from, or_else}
+use Rattle.opentype_layout.specs.Text.{glyph_at}
+use Rattle.opentype_layout.specs.declared.sight.Sight.{Sight}
+use Rattle.opentype_gsub.specs.Applied.{PlaceChange, alternate_put, ligated_put, ligature_put, one_put, put_in, single_put}
+use Rattle.opentype_gsub.specs.Growth.{adding, growth_in, may_add}
+use Rattle.opentype_gsub.specs.Ligatures.{nth_ligature}
+use Rattle.opentype_gsub.specs.Machine.{Frame, MachineTurn, came_in, nested, nth_came, started, machine_turned}
+use Rattle.opentype_gsub.specs.Reversed.{lookup_stepped_back, walked_back, with_glyph}
+use Rattle.opentype_gsub.specs.Setting.{Setting, is_seen, sights_of}
+use Rattle.opentype_gsub.specs.Substituted.{applied, operations_in, setting_for, substituted}
+use Rattle.opentype_gsub.specs.Walked.{WalkStep, lookup_stepped, lookup_walked, went_on}
+use Rattle.opentype_gsub.specs.declared.pass.LookupUse.{LookupUse}
+use Rattle.opentype_gsub.specs.declared.pass.Sights.{Sights}
+use Rattle.opentype_gsub.proofs.LawKeeps.{ForEach, AreWithin, each_when, first_each, glyphs_grow, if_each, last_within, ligature_within, each_mapped, mapped_if, or_each, then_each}
+use Rattle.opentype_gsub.proofs.Lengths.{ligated_few, put_few}
+
+or_left : (a b : Bool) → (a || b) ≡ false → a ≡ false
+or_left true b e = e
+or_left false b e = refl
+
+or_right : (a b : Bool) → (a || b) ≡ false → b ≡ false
+or_right true b e = absurd (cc)
+or_right false b e = e
+
+-- the second of two, by a test that fails
+second : {X : Type 0} (P : X → Type 0) (test : Bool) (o p : Option X) → test ≡ false → ForEach P p →
+    ForEach P (if test then o else p)
+second P true o p e b = absurd (cc)
+second P false o p e b = b
+
+-- ---- none of several
+
+none_or : {X : Type 0} (o p : Option X) → is_some (or_else o p) ≡ false → (is_some o ≡ false) × (is_some p ≡ false)
+none_or None p e = (refl, e)
+none_or (Some x) p e = absurd (cc)
+
+none_each : {X : Type 0} (f : ℕ → Option X) (n i : ℕ) → is_some (first_from n f i) ≡ false →
+    (d : ℕ) → d < n → is_some (f (i + d)) ≡ false
+unfolding first_from
+none_each f zero i h d lt = absurd (omega arith)
+none_each f (suc n) i h zero lt =
+    let e : i ≡ i + 0 = omega arith in
+    subst (λ j. is_some (f j) ≡ false) e ((none_or (f i) (first_from n f (i + 1)) h).0)
+none_each f (suc n) i h (suc d) lt =
+    let e : i + 1 + d ≡ i + suc d = omega arith in
+    subst (λ j. is_some (f j) ≡ false) e
+    (none_each f n (i + 1) ((none_or (f i) (first_from n f (i + 1)) h).1) d (omega arith))
+
+each_to : {X : Type 0} (P : X → Type 0) (f : ℕ → Option X) (n i : ℕ) → ((d : ℕ) → d < n → ForEach P (f (i + d))) →
+    ForEach P (first_from n f i)
+unfolding first_from
+each_to P f zero i h = tt
+each_to P f (suc n) i h =
+    let e : i + 0 ≡ i = omega arith in
+    or_each P (f i) (first_from n f (i + 1)) (subst (λ j. ForEach P (f j)) e (h 0 (omega arith)))
+    (each_to P f n (i + 1) (λ d lt. (let k : i + suc d ≡ i + 1 + d = omega arith in
+    subst (λ j. ForEach P (f j)) k (h (suc d) (omega arith)))))
+
+by_test : (test : Bool) (i : ℕ) → is_some (if test then Some i else None) ≡ false → test ≡ false
+by_test true i e = absurd (cc)
+by_test false i e = refl
+
+not_adding : (lookup : List ℕ) (i : ℕ) → is_some (adding lookup i) ≡ false → may_add (type_in 7 lookup i) ≡ false
+unfolding adding
+not_adding lookup i e = by_test (may_add (type_in 7 lookup i)) i e
+
+-- ---- subtables that add nothing
+
+abbrev pub Lessens : Glyphs → PlaceChange → Type 0
+Lessens gs change = length change.text ≤ length gs
+
+if_less : (gs : Glyphs) (test : Bool) (x y : PlaceChange) → Lessens gs x → Lessens gs y → Lessens gs (if test then x else y)
+if_less gs true x y one two = one
+if_less gs false x y one two = two
+
+ligature_less : (s : Setting) (at : ℕ) (gs : Glyphs) (it : ℕ × List ℕ) → at < length gs → AreWithin (length gs) it →
+    Lessens gs (ligature_put s.gdef s.level at gs it)
+ligature_less s at gs it lt all = if_less gs (length it.1 == 0) _ _ (put_few s.gdef at gs it.0)
+    (ligated_few s.level s.gdef at it.0 it.1 gs (last_within (length gs) at it.1 lt all))
+
+one_less : (s : Setting) (sight : Sight) (kind : ℕ) (bytes : List ℕ) (gs : Glyphs) (at : ℕ) → at < length gs →
+    (kind == 2) ≡ false → ForEach (Lessens gs) (one_put s sight kind bytes gs at)
+unfolding one_put single_put alternate_put ligated_put
+one_less s sight kind bytes gs at lt not_two =
+    if_each (Lessens gs) (kind == 1) _ _ (each_mapped (Lessens gs) (put_in s.gdef at gs) _ (put_few s.gdef at gs))
+    (second (Lessens gs) (kind == 2) _ _ not_two
+    (if_each (Lessens gs) (kind == 3) _ _ (each_mapped (Lessens gs) (put_in s.gdef at gs) _ (put_few s.gdef at gs))
+    (if_each (Lessens gs) (kind == 4) _ None
+    (then_each (Lessens gs) _ _ (λ set. mapped_if (AreWithin (length gs)) (Lessens gs)
+    (ligature_put s.gdef s.level at gs) _
+    (first_each (AreWithin (length gs)) (nth_ligature s.gdef sight gs at set) (u16_in set 0) 0
+    (λ j. ligature_within s.gdef sight gs at _))
+    (λ it all. ligature_less s at gs it lt all)))
+    tt)))
+
+abbrev pub CameLess : Glyphs → PlaceChange ⊎ Frame → Type 0
+CameLess gs (inl change) = Lessens gs change
+CameLess gs (inr frame) = ⊥
+
+nth_less : (s : Setting) (sights : Sights) (lookup : List ℕ) (at : ℕ) (gs : Glyphs) (i : ℕ) → at < length gs →
+    may_add (type_in 7 lookup i) ≡ false → ForEach (CameLess gs) (nth_came s sights lookup at gs i)
+unfolding nth_came
+nth_less s sights lookup at gs i lt none =
+    let kind = type_in 7 lookup i in
+    let bytes = subtable_in 7 lookup i in
+    let one : Option PlaceChange = one_put s sights.input kind bytes gs at in
+    second (CameLess gs) ((kind == 5) || (kind == 6)) _ (option_map inl one)
+    (or_right (kind == 2) ((kind == 5) || (kind == 6)) none)
+    (mapped_if (Lessens gs) (CameLess gs) inl one
+    (one_less s sights.input kind bytes gs at lt (or_left (kind == 2) ((kind == 5) || (kind == 6)) none)) (λ change less. less))
+
+came_less : (s : Setting) (lookup : List ℕ) (gs : Glyphs) (at : ℕ) →
+    is_some (first_from (u16_in lookup 4) (adding lookup) 0) ≡ false → ForEach (CameLess gs) (came_in s lookup gs at)
+unfolding came_in
+came_less s lookup gs at none = each_when (CameLess gs) (nat_lt at (length gs)) _
+    (λ e. each_to (CameLess gs) (nth_came s (sights_of s.gdef s.lookup lookup (glyph_at gs at)) lookup at gs) (u16_in lookup 4) 0
+    (λ d lt. nth_less s (sights_of s.gdef s.lookup lookup (glyph_at gs at)) lookup at gs (0 + d) (ltb-true at (length gs) e)
+    (not_adding lookup (0 + d) (none_each (adding lookup) (u16_in lookup 4) 0 none d lt))))
+
+started_less : (operations : ℕ) (turn : Glyphs → List Frame → MachineTurn) (gs : Glyphs) (came : Option (PlaceChange ⊎ Frame)) →
+    ForEach (CameLess gs) came → length (started operations turn gs came).text ≤ length gs
+started_less operations turn gs None h = omega arith
+started_less operations turn gs (Some (inl change)) h = h
+started_less operations turn gs (Some (inr frame)) h = absurd h
+
+if_step : (gs : Glyphs) (test : Bool) (x y : WalkStep) → length x.text ≤ length gs → length y.text ≤ length gs →
+    length (if test then x else y).text ≤ length gs
+if_step gs true x y one two = one
+if_step gs false x y one two = two
+
+step_less : (s : Setting) (lookup : List ℕ) → is_some (first_from (u16_in lookup 4) (adding lookup) 0) ≡ false →
+    (gs : Glyphs) (at left : ℕ) → length (lookup_stepped s lookup gs at left).text ≤ length gs
+unfolding lookup_stepped nested
+step_less s lookup none gs at left =
+    if_step gs (is_seen s.gdef s.lookup lookup (glyph_at gs at)) (went_on at (started left (machine_turned s) gs (came_in s lookup gs at))) _
+    (started_less left (machine_turned s) gs (came_in s lookup gs at) (came_less s lookup gs at none)) (omega arith)
+
+if_text : (n : ℕ) (test : Bool) (x y : Glyphs) → length x ≤ n → length y ≤ n → length (if test then x else y) ≤ n
+if_text n true x y one two = one
+if_text n false x y one two = two
+
+walk_less : (f : Glyphs → ℕ → ℕ → WalkStep) → ((gs : Glyphs) (at left : ℕ) → length (f gs at left).text ≤ length gs) →
+    (n : ℕ) (gs : Glyphs) (at left : ℕ) → length (lookup_walked n f gs at left) ≤ length gs
+unfolding lookup_walked
+walk_less f h zero gs at left = omega arith
+walk_less f h (suc n) gs at left = if_text (length gs) (nat_lt at (length gs)) _ gs
+    (let one = h gs at left in
+    let more = walk_less f h n (f gs at left).text (f gs at left).next (f gs at left).left in omega arith) (omega arith)
+
+with_less : (gdef : List ℕ) (gs : Glyphs) (at : ℕ) (to : Option ℕ) → length (with_glyph gdef gs at to) ≤ length gs
+with_less gdef gs at None = omega arith
+with_less gdef gs at (Some to) = put_few gdef at gs to
+
+back_less : (s : Setting) (lookup : List ℕ) (gs : Glyphs) (at : ℕ) → length (lookup_stepped_back s lookup gs at) ≤ length gs
+unfolding lookup_stepped_back
+back_less s lookup gs at =
+    if_text (length gs) (is_seen s.gdef s.lookup lookup (glyph_at gs at)) _ gs (with_less s.gdef gs at _) (omega arith)
+
+walk_back_less : (f : Glyphs → ℕ → Glyphs) → ((gs : Glyphs) (at : ℕ) → length (f gs at) ≤ length gs) →
+    (n : ℕ) (gs : Glyphs) → length (walked_back n f gs) ≤ length gs
+unfolding walked_back
+walk_back_less f h zero gs = omega arith
+walk_back_less f h (suc n) gs = (let one = h gs n in let more = walk_back_less f h n (f gs n) in omega arith)
+
+applied_less : (s : Setting) (gs : Glyphs) →
+    is_some (first_from (u16_in (lookup_in s.gsub s.lookup.index) 4) (adding (lookup_in s.gsub s.lookup.index)) 0) ≡ false →
+    length (applied s gs) ≤ length gs
+unfolding applied
+applied_less s gs none = let lookup = lookup_in s.gsub s.lookup.index in
+    if_text (length gs) (type_in 7 lookup 0 == 8) _ _
+    (walk_back_less (lookup_stepped_back s lookup) (back_less s lookup) (length gs) gs)
+    (walk_less (lookup_stepped s lookup) (step_less s lookup none) (length gs) gs 0 (operations_in (length gs)))
+
+by_growth : (old new : ℕ) (test : Bool) → new ≤ old * 65536 → (test ≡ false → new ≤ old) →
+    new ≤ old * (if test then 65536 else 1)
+by_growth old new true most less = most
+by_growth old new false most less = let few = less refl in omega arith
+
+glyphs_less : (gdef gsub : List ℕ) (use_of : LookupUse) (b : Buffer) →
+    is_some (first_from (u16_in (lookup_in gsub use_of.index) 4) (adding (lookup_in gsub use_of.index)) 0) ≡ false →
+    length (substituted gdef gsub use_of b).glyphs ≤ length b.glyphs
+unfolding substituted
+glyphs_less gdef gsub use_of b none = applied_less (setting_for gdef gsub use_of b) b.glyphs none
+
+pub glyphs_grow_by : (gdef gsub : List ℕ) (use_of : LookupUse) (b : Buffer) →
+    length (substituted gdef gsub use_of b).glyphs ≤ length b.glyphs * growth_in gsub use_of.index
+glyphs_grow_by gdef gsub use_of b = by_growth (length b.glyphs) (length (substituted gdef gsub use_of b).glyphs)
+    (is_some (first_from (u16_in (lookup_in gsub use_of.index) 4) (adding (lookup_in gsub use_of.index)) 0))
+    (glyphs_grow gdef gsub use_of b) (glyphs_less gdef gsub use_of b)

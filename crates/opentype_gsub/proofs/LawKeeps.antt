@@ -1,0 +1,376 @@
+-- What a lookup keeps of a text, from what its subtables keep.
+use Rattle.std.proofs.Common.{◌||◌, subst, inl, inr, ◌⊎◌, ◌≡◌, ℕ, ◌+◌, ◌-◌, ◌*◌, ◌<◌, ◌≤◌, ◌==◌, Bool, true, false, nat_lt, Option, None, Some, List, [], ◌∷◌, length, get_or, refl, sym, zero, suc, arith, if◌then◌else◌}
+use Rattle.std.specs.List.{AllByRecursion, list_any}
+use Rattle.std.specs.Option.{option_and_then, option_map}
+use Rattle.std.proofs.lemmas.Bool.{ltb-true}
+use Rattle.shapers_buffer.specs.Glyphs.{Glyphs}
+use Rattle.opentype_face.specs.Bytes.{u16_in, part_in}
+use Rattle.opentype_gsub.specs.Kept.{KeepsTextClusters}
+use Rattle.opentype_gsub.specs.Edits.{last_place}
+use Rattle.opentype_layout.specs.Text.{glyph_at}
+use Rattle.opentype_face.specs.Firsts.{first_from, or_else}
+use Rattle.opentype_layout.specs.Sight.{is_hit, is_passed, next_from}
+use Rattle.opentype_layout.specs.Pattern.{is_number, next_in, places_from, seen_by}
+use Rattle.opentype_layout.specs.Ligatures.{if_together, input_in, is_apart}
+use Rattle.opentype_gsub.specs.Ligatures.{nth_ligature, ligature_of}
+use Rattle.opentype_gsub.specs.Applied.{PlaceChange, alternate_put, ligated_put, ligature_put, multiple_put, one_put, put_in, sequence_put, single_put}
+use Rattle.opentype_gsub.specs.Machine.{AfterCall, Frame, Nested, MachineTurn, begun_frame, lookup_called, called_by, came_in, ended, goes_on_with, nested, nth_came, turn_pushed, ran, started, machine_turned}
+use Rattle.opentype_gsub.specs.Setting.{Setting, is_seen, sights_of}
+use Rattle.opentype_gsub.specs.Walked.{WalkStep, lookup_stepped, lookup_walked, went_on}
+use Rattle.opentype_gsub.specs.Substituted.{applied, limit_in, operations_in, setting_for, substituted}
+use Rattle.opentype_gsub.specs.declared.pass.LookupUse.{LookupUse}
+use Rattle.opentype_gsub.specs.declared.pass.Sights.{Sights}
+use Rattle.shapers_buffer.specs.Buffer.{Buffer}
+use Rattle.std.specs.Prelude.{◌≢◌, Err, Result}
+use Rattle.shapers_buffer.specs.Refusals.{RefusesLength}
+use Rattle.shapers_buffer.specs.declared.buffer.refusal.ShaperError.{ShaperError}
+use Rattle.shapers_buffer.specs.declared.buffer.refusal.ShaperError.TheVariants.{TooLong}
+use Rattle.opentype_face.specs.Lookups.{lookup_in, subtable_in, type_in}
+use Rattle.opentype_layout.specs.Rules.{Found, context_in}
+use Rattle.opentype_gsub.specs.Reversed.{lookup_stepped_back, walked_back, with_glyph}
+use Rattle.opentype_layout.specs.declared.sight.Sight.{Sight}
+use Rattle.opentype_gsub.proofs.Kept.{itself, kept_then}
+use Rattle.opentype_gsub.proofs.Lengths.{ligated_few, put_few, sequence_few}
+use Rattle.opentype_gsub.proofs.LookupKeeps.{ligated_keeps, put_keeps, sequence_keeps}
+
+-- what holds of what an option has
+abbrev pub ForEach : {X : Type 0} → (X → Type 0) → Option X → Type 0
+ForEach P None = Unit {0}
+ForEach P (Some x) = P x
+
+pub each_mapped : {X Y : Type 0} (P : Y → Type 0) (f : X → Y) (o : Option X) → ((x : X) → P (f x)) → ForEach P (option_map f o)
+each_mapped P f None h = tt
+each_mapped P f (Some x) h = h x
+
+pub mapped_if : {X Y : Type 0} (Q : X → Type 0) (P : Y → Type 0) (f : X → Y) (o : Option X) → ForEach Q o →
+    ((x : X) → Q x → P (f x)) → ForEach P (option_map f o)
+mapped_if Q P f None q h = tt
+mapped_if Q P f (Some x) q h = h x q
+
+pub then_each : {X Y : Type 0} (P : Y → Type 0) (f : X → Option Y) (o : Option X) → ((x : X) → ForEach P (f x)) →
+    ForEach P (option_and_then f o)
+then_each P f None h = tt
+then_each P f (Some x) h = h x
+
+then_if : {X Y : Type 0} (Q : X → Type 0) (P : Y → Type 0) (f : X → Option Y) (o : Option X) → ForEach Q o →
+    ((x : X) → Q x → ForEach P (f x)) → ForEach P (option_and_then f o)
+then_if Q P f None q h = tt
+then_if Q P f (Some x) q h = h x q
+
+pub or_each : {X : Type 0} (P : X → Type 0) (o p : Option X) → ForEach P o → ForEach P p → ForEach P (or_else o p)
+or_each P None p a b = b
+or_each P (Some x) p a b = a
+
+pub first_each : {X : Type 0} (P : X → Type 0) (f : ℕ → Option X) (n i : ℕ) → ((j : ℕ) → ForEach P (f j)) →
+    ForEach P (first_from n f i)
+unfolding first_from
+first_each P f zero i h = tt
+first_each P f (suc n) i h = or_each P (f i) (first_from n f (i + 1)) (h i) (first_each P f n (i + 1) h)
+
+pub if_each : {X : Type 0} (P : X → Type 0) (test : Bool) (o p : Option X) → ForEach P o → ForEach P p →
+    ForEach P (if test then o else p)
+if_each P true o p a b = a
+if_each P false o p a b = b
+
+-- ---- places are within the text
+
+weaker : {P Q : ℕ → Type 0} (o : Option ℕ) → ((p : ℕ) → P p → Q p) → ForEach P o → ForEach Q o
+weaker None h a = tt
+weaker (Some p) h a = h p a
+
+next_within : (sight : ℕ → Option Bool) (n at : ℕ) → ForEach (λ p. p < at + n) (next_from n sight at)
+unfolding next_from
+next_within sight zero at = tt
+next_within sight (suc n) at =
+    if_each (λ p. p < at + suc n) (is_passed (sight at)) (next_from n sight (at + 1)) _
+    (weaker (next_from n sight (at + 1)) (λ p lt. omega arith) (next_within sight n (at + 1)))
+    (if_each (λ p. p < at + suc n) (is_hit (sight at)) (Some at) None (omega arith) tt)
+
+within_by : (len from : ℕ) (sight : ℕ → Option Bool) (n : ℕ) → len - from ≡ n →
+    ForEach (λ p. p < len) (next_from n sight from)
+unfolding next_from
+within_by len from sight zero e = tt
+within_by len from sight (suc n) e = weaker (next_from (suc n) sight from) (λ p lt. omega arith)
+    (next_within sight (suc n) from)
+
+next_in_within : (gdef : List ℕ) (sight : Sight) (test : ℕ → ℕ → Bool) (gs : Glyphs) (k from : ℕ) →
+    ForEach (λ p. p < length gs) (next_in gdef sight test gs k from)
+next_in_within gdef sight test gs k from =
+    within_by (length gs) from (λ i. seen_by gdef sight test k (glyph_at gs i)) (length gs - from) refl
+
+all_within : (len : ℕ) (next : ℕ → ℕ → Option ℕ) → ((k from : ℕ) → ForEach (λ p. p < len) (next k from)) →
+    (n k from : ℕ) → ForEach (AllByRecursion (λ p. p < len)) (places_from n next k from)
+unfolding places_from
+all_within len next h zero k from = tt
+all_within len next h (suc n) k from =
+    then_if (λ p. p < len) (AllByRecursion (λ p. p < len)) _ (next k from) (h k from)
+    (λ p lt. mapped_if (AllByRecursion (λ q. q < len)) (AllByRecursion (λ q. q < len)) (λ ps. p ∷ ps)
+    (places_from n next (k + 1) (p + 1)) (all_within len next h n (k + 1) (p + 1))
+    (λ ps all. (lt, all)))
+
+get_all : (P : ℕ → Type 0) (xs : List ℕ) → AllByRecursion P xs → (j : ℕ) → j < length xs → P (get_or xs j 0)
+get_all P [] all j lt = absurd (omega arith)
+get_all P (x ∷ xs) all zero lt = all.0
+get_all P (x ∷ xs) all (suc j) lt = get_all P xs all.1 j (omega arith)
+
+pick_less : (len : ℕ) (test : Bool) (x y : ℕ) → x < len → y < len → (if test then x else y) < len
+pick_less len true x y one two = one
+pick_less len false x y one two = two
+
+pub last_within : (len at : ℕ) (ps : List ℕ) → at < len → AllByRecursion (λ p. p < len) ps → last_place at ps < len
+last_within len at [] lt all = lt
+last_within len at (p ∷ ps) lt all =
+    pick_less len (length (p ∷ ps) == 0) at (get_or (p ∷ ps) (length (p ∷ ps) - 1) 0) lt
+    (get_all (λ q. q < len) (p ∷ ps) all (length (p ∷ ps) - 1) (omega arith))
+
+abbrev pub AreWithin : ℕ → ℕ × List ℕ → Type 0
+AreWithin len it = AllByRecursion (λ p. p < len) it.1
+
+together : (len : ℕ) (gdef : List ℕ) (sight : Sight) (gs : Glyphs) (at : ℕ) (o : Option (List ℕ)) →
+    ForEach (AllByRecursion (λ p. p < len)) o → ForEach (AllByRecursion (λ p. p < len)) (if_together gdef sight gs at o)
+together len gdef sight gs at None h = tt
+together len gdef sight gs at (Some places) h =
+    if_each (AllByRecursion (λ p. p < len)) (list_any (is_apart gdef sight gs at) places) None (Some places) tt h
+
+input_within : (gdef : List ℕ) (sight : Sight) (test : ℕ → ℕ → Bool) (count : ℕ) (gs : Glyphs) (at : ℕ) →
+    ForEach (AllByRecursion (λ p. p < length gs)) (input_in gdef sight test count gs at)
+unfolding input_in
+input_within gdef sight test count gs at = together (length gs) gdef sight gs at _
+    (all_within (length gs) _ (next_in_within gdef sight test gs) count 0 (at + 1))
+
+pub ligature_within : (gdef : List ℕ) (sight : Sight) (gs : Glyphs) (at : ℕ) (ligature : List ℕ) →
+    ForEach (AreWithin (length gs)) (ligature_of gdef sight gs at ligature)
+unfolding ligature_of
+ligature_within gdef sight gs at ligature =
+    if_each (AreWithin (length gs)) _ None _ tt
+    (mapped_if (AllByRecursion (λ p. p < length gs)) (AreWithin (length gs)) (λ ps. (u16_in ligature 0, ps))
+    (input_in gdef sight (is_number (part_in ligature 4)) (u16_in ligature 2 - 1) gs at)
+    (input_within gdef sight (is_number (part_in ligature 4)) (u16_in ligature 2 - 1) gs at)
+    (λ ps all. all))
+
+-- ---- what lookups keep
+
+pub record Keeps (s : Setting) (old new : Glyphs) : Type 0 where
+  pub kept : KeepsTextClusters s.level old new
+  pub few : (n : ℕ) → length old ≤ n → s.limit ≤ n → length new ≤ n
+
+unchanged : (s : Setting) (gs : Glyphs) → Keeps s gs gs
+unchanged s gs = record { kept = itself s.level gs; few = λ n within limited. within }
+
+keeps_then : (s : Setting) (a b c : Glyphs) → Keeps s a b → Keeps s b c → Keeps s a c
+keeps_then s a b c one two = record {
+  kept = kept_then s.level a b c one.kept two.kept;
+  few = λ n within limited. two.few n (one.few n within limited) limited;
+}
+
+no_longer : (s : Setting) (old new : Glyphs) → KeepsTextClusters s.level old new → length new ≤ length old → Keeps s old new
+no_longer s old new kept few = record { kept = kept; few = λ n within limited. omega arith }
+
+abbrev pub ChangeKeeps : Setting → Glyphs → PlaceChange → Type 0
+ChangeKeeps s gs change = Keeps s gs change.text
+
+if_keeps : (s : Setting) (gs : Glyphs) (test : Bool) (x y : PlaceChange) → ChangeKeeps s gs x → ChangeKeeps s gs y →
+    ChangeKeeps s gs (if test then x else y)
+if_keeps s gs true x y one two = one
+if_keeps s gs false x y one two = two
+
+in_keeps : (s : Setting) (at : ℕ) (gs : Glyphs) (to : ℕ) → ChangeKeeps s gs (put_in s.gdef at gs to)
+in_keeps s at gs to = no_longer s gs _ (put_keeps s.level s.gdef at gs to) (put_few s.gdef at gs to)
+
+ligature_keeps : (s : Setting) (at : ℕ) (gs : Glyphs) (it : ℕ × List ℕ) → at < length gs → AreWithin (length gs) it →
+    ChangeKeeps s gs (ligature_put s.gdef s.level at gs it)
+ligature_keeps s at gs it lt all = if_keeps s gs (length it.1 == 0) _ _ (in_keeps s at gs it.0)
+    (let in_it = last_within (length gs) at it.1 lt all in
+    no_longer s gs _ (ligated_keeps s.level s.gdef at it.0 it.1 gs in_it) (ligated_few s.level s.gdef at it.0 it.1 gs in_it))
+
+one_keeps : (s : Setting) (sight : Sight) (kind : ℕ) (bytes : List ℕ) (gs : Glyphs) (at : ℕ) → at < length gs →
+    ForEach (ChangeKeeps s gs) (one_put s sight kind bytes gs at)
+unfolding one_put single_put multiple_put alternate_put ligated_put
+one_keeps s sight kind bytes gs at lt =
+    if_each (ChangeKeeps s gs) (kind == 1) _ _ (each_mapped (ChangeKeeps s gs) (put_in s.gdef at gs) _ (in_keeps s at gs))
+    (if_each (ChangeKeeps s gs) (kind == 2) _ _
+    (each_mapped (ChangeKeeps s gs) (sequence_put s at gs) _
+    (λ sequence. record { kept = sequence_keeps s at gs sequence lt; few = sequence_few s at gs sequence lt }))
+    (if_each (ChangeKeeps s gs) (kind == 3) _ _ (each_mapped (ChangeKeeps s gs) (put_in s.gdef at gs) _ (in_keeps s at gs))
+    (if_each (ChangeKeeps s gs) (kind == 4) _ None
+    (then_each (ChangeKeeps s gs) _ _ (λ set. mapped_if (AreWithin (length gs)) (ChangeKeeps s gs)
+    (ligature_put s.gdef s.level at gs) _
+    (first_each (AreWithin (length gs)) (nth_ligature s.gdef sight gs at set) (u16_in set 0) 0
+    (λ j. ligature_within s.gdef sight gs at _))
+    (λ it all. ligature_keeps s at gs it lt all)))
+    tt)))
+
+-- ---- at a place
+
+abbrev pub CameKeeps : Setting → Glyphs → PlaceChange ⊎ Frame → Type 0
+CameKeeps s gs (inl change) = ChangeKeeps s gs change
+CameKeeps s gs (inr frame) = Unit {0}
+
+nth_keeps : (s : Setting) (sights : Sights) (lookup : List ℕ) (at : ℕ) (gs : Glyphs) (i : ℕ) → at < length gs →
+    ForEach (CameKeeps s gs) (nth_came s sights lookup at gs i)
+unfolding nth_came
+nth_keeps s sights lookup at gs i lt =
+    let kind = type_in 7 lookup i in
+    let bytes = subtable_in 7 lookup i in
+    let one : Option PlaceChange = one_put s sights.input kind bytes gs at in
+    let rule : Option Found = context_in (kind == 6) s.gdef sights.input sights.context bytes gs at in
+    let begins : Found → PlaceChange ⊎ Frame = λ m. inr (begun_frame (length gs) m) in
+    if_each (CameKeeps s gs) ((kind == 5) || (kind == 6)) (option_map begins rule) (option_map inl one)
+    (each_mapped (CameKeeps s gs) begins rule (λ m. tt))
+    (mapped_if (ChangeKeeps s gs) (CameKeeps s gs) inl one (one_keeps s sights.input kind bytes gs at lt) (λ change keeps. keeps))
+
+pub each_when : {X : Type 0} (P : X → Type 0) (test : Bool) (o : Option X) → (test ≡ true → ForEach P o) →
+    ForEach P (if test then o else None)
+each_when P true o h = h refl
+each_when P false o h = tt
+
+came_keeps : (s : Setting) (lookup : List ℕ) (gs : Glyphs) (at : ℕ) → ForEach (CameKeeps s gs) (came_in s lookup gs at)
+unfolding came_in
+came_keeps s lookup gs at = each_when (CameKeeps s gs) (nat_lt at (length gs)) _
+    (λ e. first_each (CameKeeps s gs) (nth_came s (sights_of s.gdef s.lookup lookup (glyph_at gs at)) lookup at gs) (u16_in lookup 4) 0
+    (λ j. nth_keeps s (sights_of s.gdef s.lookup lookup (glyph_at gs at)) lookup at gs j (ltb-true at (length gs) e)))
+
+-- ---- the machine
+
+by_keeps : (s : Setting) (gs : Glyphs) (f : Frame) (came : Option (PlaceChange ⊎ Frame)) → ForEach (CameKeeps s gs) came →
+    Keeps s gs (called_by gs f came).text
+by_keeps s gs f None h = unchanged s gs
+by_keeps s gs f (Some (inl change)) h = h
+by_keeps s gs f (Some (inr frame)) h = unchanged s gs
+
+if_called : (s : Setting) (gs : Glyphs) (test : Bool) (x y : AfterCall) → Keeps s gs x.text → Keeps s gs y.text →
+    Keeps s gs (if test then x else y).text
+if_called s gs true x y one two = one
+if_called s gs false x y one two = two
+
+called_keeps : (s : Setting) (gs : Glyphs) (f : Frame) → Keeps s gs (lookup_called s gs f).text
+unfolding lookup_called
+called_keeps s gs f = if_called s gs _ _ _ (by_keeps s gs _ _ (came_keeps s _ gs _)) (unchanged s gs)
+
+ended_keeps : (s : Setting) (gs : Glyphs) (f : Frame) (fs : List Frame) → Keeps s gs (ended gs f fs).text
+ended_keeps s gs f [] = unchanged s gs
+ended_keeps s gs f (outer ∷ fs) = unchanged s gs
+
+if_turn : (s : Setting) (gs : Glyphs) (test : Bool) (x y : MachineTurn) → Keeps s gs x.text → Keeps s gs y.text →
+    Keeps s gs (if test then x else y).text
+if_turn s gs true x y one two = one
+if_turn s gs false x y one two = two
+
+turned_keeps : (s : Setting) (gs : Glyphs) (fs : List Frame) → Keeps s gs (machine_turned s gs fs).text
+unfolding machine_turned
+turned_keeps s gs [] = unchanged s gs
+turned_keeps s gs (f ∷ fs) =
+    if_turn s gs _ (turn_pushed (lookup_called s gs f) fs) (ended gs f fs) (called_keeps s gs f) (ended_keeps s gs f fs)
+
+goes_keeps : (s : Setting) (gs : Glyphs) (left : ℕ) (rest : Glyphs → List Frame → Nested) (t : MachineTurn) (end : Option (Option ℕ)) →
+    Keeps s gs t.text → ((hs : Glyphs) (fs : List Frame) → Keeps s hs (rest hs fs).text) →
+    Keeps s gs (goes_on_with left rest t end).text
+goes_keeps s gs left rest t None one more = keeps_then s gs t.text _ one (more t.text t.stack)
+goes_keeps s gs left rest t (Some end) one more = one
+
+ran_keeps : (s : Setting) (n : ℕ) (gs : Glyphs) (fs : List Frame) → Keeps s gs (ran n (machine_turned s) gs fs).text
+unfolding ran
+ran_keeps s zero gs fs = unchanged s gs
+ran_keeps s (suc n) gs fs = goes_keeps s gs n (ran n (machine_turned s)) (machine_turned s gs fs) (machine_turned s gs fs).end (turned_keeps s gs fs) (ran_keeps s n)
+
+started_keeps : (s : Setting) (operations : ℕ) (gs : Glyphs) (came : Option (PlaceChange ⊎ Frame)) → ForEach (CameKeeps s gs) came →
+    Keeps s gs (started operations (machine_turned s) gs came).text
+started_keeps s operations gs None h = unchanged s gs
+started_keeps s operations gs (Some (inl change)) h = h
+started_keeps s operations gs (Some (inr frame)) h = ran_keeps s operations gs (frame ∷ [])
+
+nested_keeps : (s : Setting) (lookup : List ℕ) (gs : Glyphs) (at operations : ℕ) → Keeps s gs (nested s lookup gs at operations).text
+unfolding nested
+nested_keeps s lookup gs at operations = started_keeps s operations gs (came_in s lookup gs at) (came_keeps s lookup gs at)
+
+-- ---- along the text
+
+if_step : (s : Setting) (gs : Glyphs) (test : Bool) (x y : WalkStep) → Keeps s gs x.text → Keeps s gs y.text →
+    Keeps s gs (if test then x else y).text
+if_step s gs true x y one two = one
+if_step s gs false x y one two = two
+
+step_keeps : (s : Setting) (lookup : List ℕ) (gs : Glyphs) (at left : ℕ) → Keeps s gs (lookup_stepped s lookup gs at left).text
+unfolding lookup_stepped
+step_keeps s lookup gs at left =
+    if_step s gs (is_seen s.gdef s.lookup lookup (glyph_at gs at)) (went_on at (nested s lookup gs at left)) _
+    (nested_keeps s lookup gs at left) (unchanged s gs)
+
+if_text : (s : Setting) (gs x y : Glyphs) (test : Bool) → Keeps s gs x → Keeps s gs y → Keeps s gs (if test then x else y)
+if_text s gs x y true one two = one
+if_text s gs x y false one two = two
+
+pub walk_keeps : (s : Setting) (f : Glyphs → ℕ → ℕ → WalkStep) → ((gs : Glyphs) (at left : ℕ) → Keeps s gs (f gs at left).text) →
+    (n : ℕ) (gs : Glyphs) (at left : ℕ) → Keeps s gs (lookup_walked n f gs at left)
+unfolding lookup_walked
+walk_keeps s f h zero gs at left = unchanged s gs
+walk_keeps s f h (suc n) gs at left = if_text s gs _ gs (nat_lt at (length gs))
+    (keeps_then s gs (f gs at left).text _ (h gs at left) (walk_keeps s f h n (f gs at left).text (f gs at left).next (f gs at left).left))
+    (unchanged s gs)
+
+with_keeps : (s : Setting) (gs : Glyphs) (at : ℕ) (to : Option ℕ) → Keeps s gs (with_glyph s.gdef gs at to)
+with_keeps s gs at None = unchanged s gs
+with_keeps s gs at (Some to) = in_keeps s at gs to
+
+back_keeps : (s : Setting) (lookup : List ℕ) (gs : Glyphs) (at : ℕ) → Keeps s gs (lookup_stepped_back s lookup gs at)
+unfolding lookup_stepped_back
+back_keeps s lookup gs at = if_text s gs _ gs (is_seen s.gdef s.lookup lookup (glyph_at gs at)) (with_keeps s gs at _) (unchanged s gs)
+
+walk_back_keeps : (s : Setting) (f : Glyphs → ℕ → Glyphs) → ((gs : Glyphs) (at : ℕ) → Keeps s gs (f gs at)) →
+    (n : ℕ) (gs : Glyphs) → Keeps s gs (walked_back n f gs)
+unfolding walked_back
+walk_back_keeps s f h zero gs = unchanged s gs
+walk_back_keeps s f h (suc n) gs = keeps_then s gs (f gs n) _ (h gs n) (walk_back_keeps s f h n (f gs n))
+
+pub applied_keeps : (s : Setting) (gs : Glyphs) → Keeps s gs (applied s gs)
+unfolding applied
+applied_keeps s gs = let lookup = lookup_in s.gsub s.lookup.index in
+    if_text s gs _ _ (type_in 7 lookup 0 == 8)
+    (walk_back_keeps s (lookup_stepped_back s lookup) (back_keeps s lookup) (length gs) gs)
+    (walk_keeps s (lookup_stepped s lookup) (step_keeps s lookup) (length gs) gs 0 (operations_in (length gs)))
+
+-- ---- of a buffer
+
+pub glyphs_keep : (gdef gsub : List ℕ) (use_of : LookupUse) (b : Buffer) →
+    KeepsTextClusters b.level b.glyphs (substituted gdef gsub use_of b).glyphs
+unfolding substituted
+glyphs_keep gdef gsub use_of b = (applied_keeps (setting_for gdef gsub use_of b) b.glyphs).kept
+
+pub others_keep : (gdef gsub : List ℕ) (use_of : LookupUse) (b : Buffer) →
+    substituted gdef gsub use_of b ≡ record b { glyphs = (substituted gdef gsub use_of b).glyphs }
+unfolding substituted
+others_keep gdef gsub use_of b = refl
+
+pub applied_fits : (gdef gsub : List ℕ) (use_of : LookupUse) (b : Buffer) → length b.glyphs ≤ b.max_len →
+    length (applied (setting_for gdef gsub use_of b) b.glyphs) ≤ b.max_len
+applied_fits gdef gsub use_of b fits =
+    (applied_keeps (setting_for gdef gsub use_of b) b.glyphs).few b.max_len fits (omega arith)
+
+pub fits_by : (gdef gsub : List ℕ) (use_of : LookupUse) (b : Buffer) (gs : Glyphs) → length b.glyphs ≤ b.max_len →
+    gs ≡ applied (setting_for gdef gsub use_of b) b.glyphs → length gs ≤ b.max_len
+fits_by gdef gsub use_of b gs fits is = subst (λ hs. length hs ≤ b.max_len) (sym is) (applied_fits gdef gsub use_of b fits)
+
+pub no_refusal : {T : Type 0} (r : Result T ShaperError) (limit wanted : ℕ) → RefusesLength limit wanted r → wanted ≤ limit →
+    r ≢ Err TooLong
+no_refusal r limit wanted refuses fits is =
+    let lt : limit < wanted = subst (RefusesLength limit wanted) is refuses in absurd (omega arith)
+
+limited : (len max_len : ℕ) → 1 ≤ len → limit_in len max_len ≤ len * 65536
+limited len max_len some = omega arith
+
+few_text : (gs : Glyphs) (test : Bool) → length (if test then gs else gs) ≤ length gs
+few_text gs true = omega arith
+few_text gs false = omega arith
+
+grown_by : (s : Setting) (gs : Glyphs) (max_len : ℕ) → s.limit ≡ limit_in (length gs) max_len →
+    length (applied s gs) ≤ length gs * 65536
+unfolding applied lookup_walked walked_back
+grown_by s [] max_len is = few_text [] (type_in 7 (lookup_in s.gsub s.lookup.index) 0 == 8)
+grown_by s (g ∷ gs) max_len is =
+    let few : s.limit ≤ length (g ∷ gs) * 65536 = omega (arith, is, limited (length (g ∷ gs)) max_len (omega arith)) in
+    (applied_keeps s (g ∷ gs)).few (length (g ∷ gs) * 65536) (omega arith) few
+
+pub glyphs_grow : (gdef gsub : List ℕ) (use_of : LookupUse) (b : Buffer) →
+    length (substituted gdef gsub use_of b).glyphs ≤ length b.glyphs * 65536
+unfolding substituted
+glyphs_grow gdef gsub use_of b = grown_by (setting_for gdef gsub use_of b) b.glyphs b.max_len refl

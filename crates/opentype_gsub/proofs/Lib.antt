@@ -1,0 +1,13 @@
+pub mod Inserted
+pub mod Walks
+pub mod Backwards
+pub mod Marking
+mod GsubRows
+pub mod Pairs
+pub mod Kept
+pub mod LigatureKeeps
+pub mod LookupKeeps
+pub mod Lengths
+pub mod LawKeeps
+pub mod LawGrows
+pub mod Machines

@@ -1,0 +1,254 @@
+-- The machine of nested lookups, as far as it has come.
+use Rattle.std.proofs.Common.{ℕ, zero, suc, min, ◌+◌, ◌-◌, ◌<◌, ◌≤◌, ◌≡◌, ◌∙◌, List, [], ◌∷◌, ◌++◌, drop, take, map, length, get_or, reverse, Option, None, Some, refl, sym, ap, arith, append_assoc, length-append, Bool, true, false, ◌==◌}
+use Rattle.std.proofs.Common.{inr, ◌⊎◌}
+use Rattle.std.proofs.lemmas.Bool.Decides.{nat_tests}
+use Rattle.std.proofs.lemmas.List.{append-nil, map-append, reverse-append, take_all, take_at}
+use Rattle.shapers_buffer.specs.Glyphs.{Glyphs}
+use Rattle.opentype_gsub.specs.Applied.{PlaceChange}
+use Rattle.opentype_face.specs.Firsts.{first_from}
+use Rattle.opentype_face.specs.Bytes.{u16_in}
+use Rattle.opentype_gsub.specs.Setting.{Setting, sights_of}
+use Rattle.opentype_gsub.specs.declared.pass.Sights.{Sights}
+use Rattle.std.specs.Prelude.{IfOk, Result}
+use Rattle.std.proofs.Common.{subst}
+use Rattle.shapers_buffer.specs.declared.buffer.refusal.ShaperError.{ShaperError}
+use Rattle.opentype_layout.specs.Text.{glyph_at}
+use Rattle.std.proofs.Common.{nat_lt}
+use Rattle.std.proofs.lemmas.List.{length-reverse}
+use Rattle.opentype_gsub.specs.Machine.{IsEnded, lookup_called, came_in, deeper, ended, nth_came, turn_pushed, frame_settled, machine_turned, Frame, IsCome, MachineTurn, capped, climbing, frame_of, frames, goes_on_with, place_moved, ran, settled_places}
+use Rattle.opentype_gsub.specs.declared.settling.Rule.{Rule}
+use Rattle.opentype_gsub.specs.declared.machine.Outcome.{Outcome}
+use Rattle.opentype_gsub.specs.declared.machine.Outcome.TheVariants.{Nothing, Done, Fits}
+use Rattle.opentype_face.proofs.Foremost.{IsFirst, first_hit, first_out, first_passed, first_start}
+
+-- ---- places put in while there is room
+
+pub record IsFilling (old new all rest : List ℕ) : Type 0 where
+  pub same : take 64 (new ++ rest) ≡ take 64 (old ++ all)
+  pub few : length new ≤ 64
+
+pub filling_start : (old all : List ℕ) → length old ≤ 64 → IsFilling old old all all
+filling_start old all few = record { same = refl; few = few }
+
+pub full_before : (old all : List ℕ) → length old ≡ 64 → old ≡ take 64 (old ++ all)
+full_before old all full = sym (take_at old all 64 full)
+
+pub is_64 : (b : Bool) (xs : List ℕ) → b ≡ (length xs == 64) → b ≡ true → length xs ≡ 64
+is_64 b xs is e = grind (arith, nat_tests)
+
+pub not_64 : (b : Bool) (xs : List ℕ) → b ≡ (length xs == 64) → b ≡ false → length xs ≤ 64 → length xs < 64
+not_64 b xs is e few = grind (arith, nat_tests)
+
+pub filling_next : (old new next all rest more : List ℕ) (x : ℕ) → IsFilling old new all rest → rest ≡ x ∷ more →
+    next ≡ new ++ x ∷ [] → length new < 64 → IsFilling old next all more
+filling_next old new next all rest more x f is made lt = record {
+  few = (let l = ap length made in let m = length-append new (x ∷ []) in omega arith);
+  same = ap (λ t. take 64 (t ++ more)) made ∙ ap (take 64) (append_assoc new (x ∷ []) more)
+      ∙ ap (λ t. take 64 (new ++ t)) (sym is) ∙ f.same;
+}
+
+pub filling_full : (old new all rest : List ℕ) → IsFilling old new all rest → length new ≡ 64 → new ≡ take 64 (old ++ all)
+filling_full old new all rest f full = sym (take_at new rest 64 full) ∙ f.same
+
+pub filling_all : (old new all rest : List ℕ) → IsFilling old new all rest → rest ≡ [] →
+    new ≡ take 64 (old ++ all)
+filling_all old new all rest f none =
+    sym (take_all 64 new f.few) ∙ ap (take 64) (sym (append-nil new)) ∙ ap (λ t. take 64 (new ++ t)) (sym none) ∙ f.same
+
+climb_one : (n place : ℕ) → climbing (suc n) place ≡ capped (place + 1) ∷ climbing n (capped (place + 1))
+unfolding climbing
+climb_one n place = refl
+
+climb_none : (place : ℕ) → climbing 0 place ≡ []
+unfolding climbing
+climb_none place = refl
+
+pub climbing_next : (count k from : ℕ) → k < count →
+    climbing (count - k) from ≡ capped (from + 1) ∷ climbing (count - (k + 1)) (capped (from + 1))
+climbing_next count k from lt = let e : count - k ≡ suc (count - (k + 1)) = omega arith in rw e (climb_one (count - (k + 1)) from)
+
+pub climbing_out : (count k from : ℕ) → count ≤ k → climbing (count - k) from ≡ []
+climbing_out count k from le = let e : count - k ≡ 0 = omega arith in rw e (climb_none from)
+
+pub climb_start : (old : List ℕ) (count from : ℕ) → length old ≤ 64 →
+    IsFilling old old (climbing count from) (climbing (count - 0) from)
+climb_start old count from few = let e : count - 0 ≡ count = omega arith in rw e (filling_start old (climbing count from) few)
+
+pub climb_more : (count k from x : ℕ) → k < count → x ≡ min (from + 1) 18446744073709551615 →
+    climbing (count - k) from ≡ x ∷ climbing (count - (k + 1)) x
+climb_more count k from x lt is =
+    let c : x ≡ capped (from + 1) = omega arith in rw c (climbing_next count k from lt)
+
+take_both : (n : ℕ) (xs ys : List ℕ) → take n (take n xs ++ ys) ≡ take n (xs ++ ys)
+take_both zero xs ys = refl
+take_both (suc n) [] ys = refl
+take_both (suc n) (x ∷ xs) ys = ap (λ t. x ∷ t) (take_both n xs ys)
+
+take_twice : (xs ys : List ℕ) → take 64 (take 64 xs ++ ys) ≡ take 64 (xs ++ ys)
+take_twice xs ys = take_both 64 xs ys
+
+pub three_filled : (a b c one two three : List ℕ) → one ≡ take 64 ([] ++ a) → two ≡ take 64 (one ++ b) →
+    three ≡ take 64 (two ++ c) → three ≡ take 64 ((a ++ b) ++ c)
+three_filled a b c one two three x y z =
+    z ∙ ap (λ t. take 64 (t ++ c)) (y ∙ ap (λ t. take 64 (t ++ b)) x ∙ take_twice a b) ∙ take_twice (a ++ b) c
+
+-- ---- subtables tried in turn
+
+pub record IsComing (f : Glyphs → ℕ → Option (PlaceChange ⊎ Frame)) (count i : ℕ) (old gs : Glyphs) : Type 0 where
+  pub same : gs ≡ old
+  pub first : IsFirst (f old) count i
+
+pub coming_start : (f : Glyphs → ℕ → Option (PlaceChange ⊎ Frame)) (count : ℕ) (old : Glyphs) → IsComing f count 0 old old
+coming_start f count old = record { same = refl; first = first_start (f old) count }
+
+pub coming_next : (f : Glyphs → ℕ → Option (PlaceChange ⊎ Frame)) (count i : ℕ) (old gs new : Glyphs) →
+    IsComing f count i old gs → i < count → IsCome (f gs i) gs new Nothing → IsComing f count (i + 1) old new
+coming_next f count i old gs new t lt is =
+    record { same = is.1 ∙ t.same; first = first_passed (f old) count i t.first lt (sym (ap (λ x. f x i) t.same) ∙ is.0) }
+
+pub coming_done : (f : Glyphs → ℕ → Option (PlaceChange ⊎ Frame)) (count i : ℕ) (old gs new : Glyphs) (next : ℕ) →
+    IsComing f count i old gs → i < count → IsCome (f gs i) gs new (Done next) →
+    IsCome (first_from count (f old) 0) old new (Done next)
+coming_done f count i old gs new next t lt is =
+    first_hit (f old) count i _ t.first lt (sym (ap (λ x. f x i) t.same) ∙ is)
+
+pub coming_fits : (f : Glyphs → ℕ → Option (PlaceChange ⊎ Frame)) (count i : ℕ) (old gs new : Glyphs) (rule : Rule) →
+    IsComing f count i old gs → i < count → IsCome (f gs i) gs new (Fits rule) →
+    IsCome (first_from count (f old) 0) old new (Fits rule)
+coming_fits f count i old gs new rule t lt is =
+    (first_hit (f old) count i (inr (frame_of rule)) t.first lt (sym (ap (λ x. f x i) t.same) ∙ is.0), is.1 ∙ t.same)
+
+pub coming_none : (f : Glyphs → ℕ → Option (PlaceChange ⊎ Frame)) (count i : ℕ) (old gs : Glyphs) →
+    IsComing f count i old gs → count ≤ i → IsCome (first_from count (f old) 0) old gs Nothing
+coming_none f count i old gs t le = (first_out (f old) count i t.first le, t.same)
+
+-- ---- turns
+
+pub record IsRunning (turn : Glyphs → List Frame → MachineTurn) (operations : ℕ) (old : Glyphs) (start : List Frame) (k : ℕ)
+    (gs : Glyphs) (fs : List Frame) : Type 0 where
+  pub rest : ran operations turn old start ≡ ran (operations - k) turn gs fs
+
+one_turn : (turn : Glyphs → List Frame → MachineTurn) (n : ℕ) (gs : Glyphs) (fs : List Frame) →
+    ran (suc n) turn gs fs ≡ goes_on_with n (ran n turn) (turn gs fs) (turn gs fs).end
+unfolding ran
+one_turn turn n gs fs = refl
+
+no_turn : (turn : Glyphs → List Frame → MachineTurn) (gs : Glyphs) (fs : List Frame) →
+    ran 0 turn gs fs ≡ record { text = gs; end = None; left = 0 }
+unfolding ran
+no_turn turn gs fs = refl
+
+pub running_start : (turn : Glyphs → List Frame → MachineTurn) (operations : ℕ) (old : Glyphs) (start fs : List Frame) → fs ≡ start →
+    IsRunning turn operations old start 0 old fs
+running_start turn operations old start fs is =
+    let e : operations - 0 ≡ operations = omega arith in rw is (record { rest = rw e refl })
+
+turn_is : (turn : Glyphs → List Frame → MachineTurn) (operations k : ℕ) (old gs : Glyphs) (start fs : List Frame) (t : MachineTurn) →
+    IsRunning turn operations old start k gs fs → k < operations → turn gs fs ≡ t →
+    ran operations turn old start ≡ goes_on_with (operations - (k + 1)) (ran (operations - (k + 1)) turn) t t.end
+turn_is turn operations k old gs start fs t r lt is =
+    let e : operations - k ≡ suc (operations - (k + 1)) = omega arith in
+    r.rest ∙ ap (λ n. ran n turn gs fs) e ∙ one_turn turn (operations - (k + 1)) gs fs
+    ∙ ap (λ x. goes_on_with (operations - (k + 1)) (ran (operations - (k + 1)) turn) x x.end) is
+
+pub running_next : (turn : Glyphs → List Frame → MachineTurn) (operations k : ℕ) (old gs new : Glyphs) (start fs next : List Frame) →
+    IsRunning turn operations old start k gs fs → k < operations →
+    turn gs fs ≡ record { text = new; stack = next; end = None } → IsRunning turn operations old start (k + 1) new next
+running_next turn operations k old gs new start fs next r lt is =
+    record { rest = turn_is turn operations k old gs start fs _ r lt is }
+
+pub running_end : (turn : Glyphs → List Frame → MachineTurn) (operations k : ℕ) (old gs new : Glyphs) (start fs next : List Frame) (end : Option ℕ) →
+    IsRunning turn operations old start k gs fs → k < operations →
+    turn gs fs ≡ record { text = new; stack = next; end = Some end } →
+    ran operations turn old start ≡ record { text = new; end = end; left = operations - (k + 1) }
+running_end turn operations k old gs new start fs next end r lt is = turn_is turn operations k old gs start fs _ r lt is
+
+pub running_out : (turn : Glyphs → List Frame → MachineTurn) (operations k : ℕ) (old gs : Glyphs) (start fs : List Frame) →
+    IsRunning turn operations old start k gs fs → operations ≤ k →
+    ran operations turn old start ≡ record { text = gs; end = None; left = 0 }
+running_out turn operations k old gs start fs r le =
+    let e : operations - k ≡ 0 = omega arith in r.rest ∙ ap (λ n. ran n turn gs fs) e ∙ no_turn turn gs fs
+
+-- ---- the stack, its top first
+
+pub top_first : (rules : List Rule) (rule : Rule) → frames (rules ++ rule ∷ []) ≡ frame_of rule ∷ frames rules
+top_first rules rule = ap reverse (map-append frame_of rules (rule ∷ [])) ∙ reverse-append (map frame_of rules) (frame_of rule ∷ [])
+
+-- ---- at the text's end
+
+pub came_out : (s : Setting) (lookup : List ℕ) (gs : Glyphs) (at : ℕ) → length gs ≤ at → came_in s lookup gs at ≡ None
+unfolding came_in
+came_out s lookup gs at le = let e : nat_lt at (length gs) ≡ false = grind (arith, nat_tests) in rw e refl
+
+came_is : (s : Setting) (lookup : List ℕ) (gs : Glyphs) (at : ℕ) (sights : Sights) → at < length gs →
+    sights ≡ sights_of s.gdef s.lookup lookup (glyph_at gs at) →
+    first_from (u16_in lookup 4) (nth_came s sights lookup at gs) 0 ≡ came_in s lookup gs at
+unfolding came_in
+came_is s lookup gs at sights lt is =
+    let e : nat_lt at (length gs) ≡ true = grind (arith, nat_tests) in
+    let h : Sights → Option (PlaceChange ⊎ Frame) = λ x. first_from (u16_in lookup 4) (nth_came s x lookup at gs) 0 in
+    rw e (ap h is)
+
+pub came_by : (s : Setting) (lookup : List ℕ) (gs new : Glyphs) (at : ℕ) (sights : Sights)
+    (result : Result Outcome ShaperError) → at < length gs → sights ≡ sights_of s.gdef s.lookup lookup (glyph_at gs at) →
+    IfOk result (λ o. IsCome (first_from (u16_in lookup 4) (nth_came s sights lookup at gs) 0) gs new o) →
+    IfOk result (λ o. IsCome (came_in s lookup gs at) gs new o)
+came_by s lookup gs new at sights result lt is come =
+    subst (λ came. IfOk result (λ o. IsCome came gs new o)) (came_is s lookup gs at sights lt is) come
+
+-- ---- the arms of a turn
+
+pub turn_none : (s : Setting) (gs : Glyphs) (fs new : List Frame) → fs ≡ [] → new ≡ [] →
+    machine_turned s gs fs ≡ record { text = gs; stack = new; end = Some None }
+unfolding machine_turned
+turn_none s gs fs new is none = rw (is, none) refl
+
+ended_is : (gs : Glyphs) (f : Frame) (fs new : List Frame) (it : Option (Option ℕ)) → IsEnded (length gs) f.end fs new it →
+    ended gs f fs ≡ record { text = gs; stack = new; end = it }
+ended_is gs f [] new it e = rw (e.0, e.1) refl
+ended_is gs f (outer ∷ fs) new it e = rw (e.0, e.1) refl
+
+pub turn_ends : (s : Setting) (gs : Glyphs) (f : Frame) (all fs new : List Frame)
+    (it : Option (Option ℕ)) → all ≡ f ∷ fs → f.count ≤ f.next → IsEnded (length gs) f.end fs new it →
+    machine_turned s gs all ≡ record { text = gs; stack = new; end = it }
+unfolding machine_turned
+turn_ends s gs f all fs new it is le e =
+    let t : nat_lt f.next f.count ≡ false = grind (arith, nat_tests) in rw (is, t) (ended_is gs f fs new it e)
+
+pub turn_calls : (s : Setting) (gs text : Glyphs) (f frame : Frame) (inner : Option Frame)
+    (all fs new : List Frame) → all ≡ f ∷ fs → f.next < f.count →
+    lookup_called s gs f ≡ record { text = text; frame = frame; inner = inner } →
+    new ≡ deeper inner (frame ∷ fs) →
+    machine_turned s gs all ≡ record { text = text; stack = new; end = None }
+unfolding machine_turned
+turn_calls s gs text f frame inner all fs new is lt c made =
+    let t : nat_lt f.next f.count ≡ true = grind (arith, nat_tests) in
+    rw (is, t) (ap (λ x. turn_pushed x fs) c ∙ (let p : List Frame → MachineTurn = λ stack. record { text = text; stack = stack; end = None } in ap p (sym made)))
+
+-- ---- a stack that is pushed to
+
+length_mapped : (rules : List Rule) → length (map frame_of rules) ≡ length rules
+length_mapped [] = refl
+length_mapped (r ∷ rs) = ap suc (length_mapped rs)
+
+pub length_frames : (rules : List Rule) → length (frames rules) ≡ length rules
+length_frames rules = length-reverse (map frame_of rules) ∙ length_mapped rules
+
+pub ended_below : (len end : ℕ) (old new : List Frame) (outer settled_outer : Frame) (fs : List Frame) → old ≡ outer ∷ fs →
+    settled_outer ≡ frame_settled len outer → new ≡ settled_outer ∷ fs → IsEnded len end old new None
+ended_below len end old new outer settled_outer fs is s made = rw is (made ∙ ap (λ f. f ∷ fs) s, refl)
+
+pub settled_is : (first first_too behind sequence added removed : ℕ) (places front back one two three : List ℕ) →
+    first ≡ min (sequence + 1) 18446744073709551615 → behind ≡ min (first + removed) 18446744073709551615 →
+    front ≡ take first places → back ≡ drop behind places →
+    one ≡ take 64 ([] ++ front) → two ≡ take 64 (one ++ climbing added (get_or places sequence 0)) →
+    three ≡ take 64 (two ++ map (place_moved added removed) back) →
+    three ≡ settled_places sequence added removed places
+unfolding settled_places
+settled_is first first_too behind sequence added removed places front back one two three f b x y p q r =
+    let first_is : first ≡ capped (sequence + 1) = omega arith in
+    let behind_is : behind ≡ capped (capped (sequence + 1) + removed) = omega arith in
+    three_filled front (climbing added (get_or places sequence 0)) (map (place_moved added removed) back) one two three p q r
+    ∙ ap (λ t. take 64 ((t ++ climbing added (get_or places sequence 0)) ++ map (place_moved added removed) back)) (x ∙ ap (λ n. take n places) first_is)
+    ∙ ap (λ t. take 64 ((take (capped (sequence + 1)) places ++ climbing added (get_or places sequence 0)) ++ map (place_moved added removed) t))
+    (y ∙ ap (λ n. drop n places) behind_is)

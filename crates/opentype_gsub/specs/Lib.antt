@@ -1,0 +1,13 @@
+pub mod Decided
+pub mod Edits
+pub mod Setting
+pub mod Ligated
+pub mod Applied
+pub mod Ligatures
+pub mod Reversed
+pub mod Walked
+pub mod Growth
+pub mod Kept
+pub mod Laws
+pub mod Substituted
+pub mod Machine

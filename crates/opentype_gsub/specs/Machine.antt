@@ -1,0 +1,225 @@
+-- Rules that apply lookups, and these lookups: a machine with a stack of rules, at most 64 deep.
+use Rattle.std.specs.Prelude.{ℕ, zero, suc, ◌+◌, ◌-◌, ◌*◌, ◌^◌, ◌==◌, ◌||◌, ◌≡◌, ◌⊎◌, min, nat_lt, List, [], ◌∷◌, ◌++◌, map, take, drop, length, reverse, slice_index, Option, None, Some, if◌then◌else◌}
+use Rattle.std.proofs.Common.{inl, inr}
+use Rattle.std.specs.Option.{option_map}
+use Rattle.shapers_buffer.specs.Glyphs.{Glyphs}
+use Rattle.opentype_face.specs.Bytes.{u16_in}
+use Rattle.opentype_face.specs.Lookups.{lookup_in, subtable_in, type_in}
+use Rattle.opentype_gsub.specs.Applied.{PlaceChange, one_put}
+use Rattle.opentype_layout.specs.Rules.{Found, context_in}
+use Rattle.opentype_face.specs.Firsts.{first_from}
+use Rattle.opentype_gsub.specs.declared.machine.Outcome.{Outcome}
+use Rattle.opentype_gsub.specs.declared.machine.Outcome.TheVariants.{Nothing, Done, Fits}
+use Rattle.opentype_gsub.specs.declared.settling.Rule.{Rule}
+use Rattle.opentype_gsub.specs.Setting.{Setting, sights_of}
+use Rattle.opentype_gsub.specs.declared.pass.Sights.{Sights}
+use Rattle.opentype_layout.specs.Text.{glyph_at}
+
+-- a rule that fits, and how far its lookups are applied
+pub record Frame : Type 0 where
+  pub records : List ℕ
+  pub count : ℕ
+  pub next : ℕ
+  pub places : List ℕ
+  pub end : ℕ
+  pub sequence : ℕ
+  pub before : ℕ
+
+abbrev pub frame_of : Rule → Frame
+frame_of rule = record {
+  records = rule.records.now;
+  count = rule.count;
+  next = rule.next;
+  places = rule.places.items;
+  end = rule.end;
+  sequence = rule.sequence;
+  before = rule.before;
+}
+
+-- one that was just found
+abbrev pub begun_frame : ℕ → Found → Frame
+begun_frame len m = record {
+  records = m.records;
+  count = m.count;
+  next = 0;
+  places = m.places;
+  end = m.end;
+  sequence = 0;
+  before = len;
+}
+
+-- ---- what an applied lookup added or took away moves the places behind it
+
+abbrev pub capped : ℕ → ℕ
+capped n = min (2 ^ 64 - 1) n
+
+abbrev pub place_moved : ℕ → ℕ → ℕ → ℕ
+place_moved added removed place = capped (place + added) - removed
+
+-- the places right behind one
+unfoldable pub climbing : ℕ → ℕ → List ℕ
+climbing zero place = []
+climbing (suc n) place = capped (place + 1) ∷ climbing n (capped (place + 1))
+
+-- of at most 64
+unfoldable pub settled_places : ℕ → ℕ → ℕ → List ℕ → List ℕ
+settled_places sequence added removed places =
+    take 64 ((take (capped (sequence + 1)) places ++ climbing added (slice_index places sequence))
+    ++ map (place_moved added removed) (drop (capped (capped (sequence + 1) + removed)) places))
+
+-- How many glyphs went, but no more than stand from the lookup's place up to the end. Where the
+-- places become more than 64, the rule has no further lookup.
+unfoldable pub frame_settled : ℕ → Frame → Frame
+frame_settled len f =
+    let added = len - f.before in
+    let removed = min (f.before - len) (f.end - slice_index f.places f.sequence) in
+    if nat_lt 64 (length f.places + added) then record {
+      records = f.records;
+      count = f.count;
+      next = f.count;
+      places = f.places;
+      end = place_moved added removed f.end;
+      sequence = f.sequence;
+      before = f.before;
+    }
+    else record {
+      records = f.records;
+      count = f.count;
+      next = f.next;
+      places = settled_places f.sequence added removed f.places;
+      end = place_moved added removed f.end;
+      sequence = f.sequence;
+      before = f.before;
+    }
+
+-- ---- what a lookup comes to at a place: a change, or a rule that fits
+
+unfoldable pub nth_came : Setting → Sights → List ℕ → ℕ → Glyphs → ℕ → Option (PlaceChange ⊎ Frame)
+nth_came s sights lookup at gs i =
+    if (type_in 7 lookup i == 5) || (type_in 7 lookup i == 6)
+    then option_map (λ m. inr (begun_frame (length gs) m))
+    (context_in (type_in 7 lookup i == 6) s.gdef sights.input sights.context (subtable_in 7 lookup
+    i) gs at)
+    else option_map inl (one_put s sights.input (type_in 7 lookup i) (subtable_in 7 lookup i) gs at)
+
+-- by the first of its subtables that fits
+unfoldable pub came_in : Setting → List ℕ → Glyphs → ℕ → Option (PlaceChange ⊎ Frame)
+came_in s lookup gs at =
+    if nat_lt at (length gs)
+    then first_from (u16_in lookup 4) (nth_came s (sights_of s.gdef s.lookup lookup (glyph_at gs
+    at)) lookup at gs) 0
+    else None
+
+-- a text before and after, and the outcome that the code gives then
+abbrev pub IsCome : Option (PlaceChange ⊎ Frame) → Glyphs → Glyphs → Outcome → Type 0
+IsCome came old new Nothing = (came ≡ None) × (new ≡ old)
+IsCome came old new (Done next) = came ≡ Some (inl (record { text = new; next = next }))
+IsCome came old new (Fits rule) = (came ≡ Some (inr (frame_of rule))) × (new ≡ old)
+
+-- ---- one lookup of a rule
+
+pub record AfterCall : Type 0 where
+  pub text : Glyphs
+  pub frame : Frame
+  pub inner : Option Frame
+
+abbrev pub called_by : Glyphs → Frame → Option (PlaceChange ⊎ Frame) → AfterCall
+called_by gs f None = record { text = gs; frame = f; inner = None }
+called_by gs f (Some (inl change)) = record {
+  text = change.text;
+  frame = frame_settled (length
+      change.text) f;
+  inner = None;
+}
+called_by gs f (Some (inr frame)) = record { text = gs; frame = f; inner = Some frame }
+
+-- the frame whose lookup is applied at one of its places
+abbrev pub aimed : ℕ → ℕ → Frame → Frame
+aimed sequence len f = record {
+  records = f.records;
+  count = f.count;
+  next = f.next + 1;
+  places = f.places;
+  end = f.end;
+  sequence = sequence;
+  before = len;
+}
+
+unfoldable pub lookup_called : Setting → Glyphs → Frame → AfterCall
+lookup_called s gs f =
+    let sequence = u16_in f.records (f.next * 4) in
+    let lookup = lookup_in s.gsub (u16_in f.records (f.next * 4 + 2)) in
+    if nat_lt sequence (length f.places)
+    then called_by gs (aimed sequence (length gs) f) (came_in s lookup gs (slice_index f.places
+    sequence))
+    else record { text = gs; frame = aimed f.sequence f.before f; inner = None }
+
+-- ---- one turn of the machine
+
+pub record MachineTurn : Type 0 where
+  pub text : Glyphs
+  pub stack : List Frame
+  pub end : Option (Option ℕ)
+
+abbrev pub ended : Glyphs → Frame → List Frame → MachineTurn
+ended gs f [] = record { text = gs; stack = []; end = Some (Some f.end) }
+ended gs f (outer ∷ fs) = record {
+  text = gs;
+  stack = frame_settled (length gs) outer ∷ fs;
+  end =
+      None;
+}
+
+-- the same, as the code gives it
+abbrev pub IsEnded : ℕ → ℕ → List Frame → List Frame → Option (Option ℕ) → Type 0
+IsEnded len end [] new it = (new ≡ []) × (it ≡ Some (Some end))
+IsEnded len end (outer ∷ fs) new it = (new ≡ frame_settled len outer ∷ fs) × (it ≡ None)
+
+abbrev pub deeper : Option Frame → List Frame → List Frame
+deeper None fs = fs
+deeper (Some f) fs = if nat_lt (length fs) 64 then f ∷ fs else fs
+
+abbrev pub turn_pushed : AfterCall → List Frame → MachineTurn
+turn_pushed c fs = record { text = c.text; stack = deeper c.inner (c.frame ∷ fs); end = None }
+
+unfoldable pub machine_turned : Setting → Glyphs → List Frame → MachineTurn
+machine_turned s gs [] = record { text = gs; stack = []; end = Some None }
+machine_turned s gs (f ∷ fs) =
+    if nat_lt f.next f.count then turn_pushed (lookup_called s gs f) fs else ended gs f fs
+
+-- ---- the machine
+
+-- the text, the place behind what was done, and how many operations are left
+pub record Nested : Type 0 where
+  pub text : Glyphs
+  pub end : Option ℕ
+  pub left : ℕ
+
+abbrev pub goes_on_with : ℕ → (Glyphs → List Frame → Nested) → MachineTurn → Option (Option ℕ) →
+    Nested
+goes_on_with left rest t None = rest t.text t.stack
+goes_on_with left rest t (Some end) = record { text = t.text; end = end; left = left }
+
+-- in at most so many turns
+unfoldable pub ran : ℕ → (Glyphs → List Frame → MachineTurn) → Glyphs → List Frame → Nested
+ran zero turn gs fs = record { text = gs; end = None; left = 0 }
+ran (suc n) turn gs fs = goes_on_with n (ran n turn) (turn gs fs) (turn gs fs).end
+
+abbrev pub started : ℕ → (Glyphs → List Frame → MachineTurn) → Glyphs → Option (PlaceChange ⊎
+    Frame) → Nested
+started operations turn gs None = record { text = gs; end = None; left = operations }
+started operations turn gs (Some (inl change)) = record {
+  text = change.text;
+  end = Some
+      change.next;
+  left = operations;
+}
+started operations turn gs (Some (inr frame)) = ran operations turn gs (frame ∷ [])
+
+-- a lookup's table at a place, and the lookups that its rules apply
+unfoldable pub nested : Setting → List ℕ → Glyphs → ℕ → ℕ → Nested
+nested s lookup gs at operations = started operations (machine_turned s) gs (came_in s lookup gs at)
+
+-- the frames of a stack of the code, the top one first
+abbrev pub frames : List Rule → List Frame
+frames rules = reverse (map frame_of rules)

@@ -1,0 +1,72 @@
+-- Type 8, OpenType's Reverse Chained Contexts Single Substitution format 1: one glyph for one, by
+-- sets of the glyphs around it. Other lookups can't apply it.
+use Rattle.std.specs.Prelude.{ℕ, zero, suc, ◌+◌, ◌*◌, ◌==◌, is_some, nat_lt, List, [], slice_set, Option, None, Some, if◌then◌else◌}
+use Rattle.shapers_buffer.specs.Glyphs.{Glyphs}
+use Rattle.opentype_face.specs.Bytes.{u16_in, part_in}
+use Rattle.opentype_face.specs.Lookups.{subtable_in, type_in}
+use Rattle.opentype_face.specs.Firsts.{first_from}
+use Rattle.opentype_layout.specs.Pattern.{is_in_sets, is_number}
+use Rattle.opentype_layout.specs.Rules.{Sought, found_at}
+use Rattle.opentype_layout.specs.Text.{glyph_at}
+use Rattle.opentype_gsub.specs.Applied.{two_byte_number}
+use Rattle.opentype_gsub.specs.Decided.{covered_in}
+use Rattle.opentype_gsub.specs.Edits.{replaced}
+use Rattle.opentype_gsub.specs.Setting.{Setting, is_seen, sights_of}
+use Rattle.opentype_gsub.specs.declared.pass.Sights.{Sights}
+
+-- the glyphs before and behind the one; each list stands behind its count
+unfoldable pub around_in : List ℕ → Sought
+around_in bytes =
+    let behind_at = 6 + u16_in bytes 4 * 2 in
+    record {
+      before = is_in_sets (part_in bytes 6) bytes;
+      before_count = u16_in bytes 4;
+      input = is_number [];
+      input_count = 1;
+      behind = is_in_sets (part_in bytes (behind_at + 2)) bytes;
+      behind_count = u16_in bytes behind_at;
+      records = [];
+      count = 0;
+    }
+
+-- where the count of the glyphs stands that come in, one for each of the set
+unfoldable pub glyphs_at : List ℕ → ℕ
+glyphs_at bytes =
+    let behind_at = 6 + u16_in bytes 4 * 2 in
+    behind_at + 2 + u16_in bytes behind_at * 2
+
+abbrev pub reversed_at : List ℕ → Sights → List ℕ → Glyphs → ℕ → Option ℕ → Option ℕ
+reversed_at gdef sights bytes gs at None = None
+reversed_at gdef sights bytes gs at (Some i) =
+    if nat_lt i (u16_in bytes (glyphs_at bytes)) then
+    (if is_some (found_at gdef sights.input sights.context gs at (around_in bytes))
+    then Some (u16_in bytes (glyphs_at bytes + 2 + i * 2)) else None)
+    else None
+
+unfoldable pub reversed_in : List ℕ → Sights → List ℕ → Glyphs → ℕ → Option ℕ
+reversed_in gdef sights bytes gs at =
+    if u16_in bytes 0 == 1 then reversed_at gdef sights bytes gs at (covered_in bytes
+    (two_byte_number gs at)) else None
+
+unfoldable pub nth_reversed : List ℕ → Sights → List ℕ → Glyphs → ℕ → ℕ → Option ℕ
+nth_reversed gdef sights lookup gs at i =
+    if type_in 7 lookup i == 8 then reversed_in gdef sights (subtable_in 7 lookup i) gs at else None
+
+-- another glyph at a place, if there is one
+abbrev pub with_glyph : List ℕ → Glyphs → ℕ → Option ℕ → Glyphs
+with_glyph gdef gs at None = gs
+with_glyph gdef gs at (Some to) = slice_set gs at (replaced gdef to 0 (glyph_at gs at))
+
+-- what a lookup's table does at a place
+unfoldable pub lookup_stepped_back : Setting → List ℕ → Glyphs → ℕ → Glyphs
+lookup_stepped_back s lookup gs at =
+    let sights = sights_of s.gdef s.lookup lookup (glyph_at gs at) in
+    if is_seen s.gdef s.lookup lookup (glyph_at gs at)
+    then with_glyph s.gdef gs at (first_from (u16_in lookup 4) (nth_reversed s.gdef sights lookup
+    gs at) 0)
+    else gs
+
+-- the places below one, the last of them first
+unfoldable pub walked_back : ℕ → (Glyphs → ℕ → Glyphs) → Glyphs → Glyphs
+walked_back zero f gs = gs
+walked_back (suc n) f gs = walked_back n f (f gs n)

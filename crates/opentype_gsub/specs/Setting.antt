@@ -1,0 +1,49 @@
+-- What a lookup is applied by, and which glyphs it sees.
+use Rattle.std.specs.Prelude.{ℕ, ◌==◌, ◌&&◌, not, Bool, false, bit_and, List}
+use Rattle.shapers_buffer.specs.Glyphs.{Glyph}
+use Rattle.shapers_buffer.specs.declared.buffer.level.BufferClusterLevel.{BufferClusterLevel}
+use Rattle.opentype_layout.specs.Sight.{ignores, sight_of_context, sight_of_input}
+use Rattle.opentype_layout.specs.declared.sight.Application.{Application}
+use Rattle.opentype_gsub.specs.declared.pass.LookupUse.{LookupUse}
+use Rattle.opentype_gsub.specs.declared.pass.Pass.{Pass}
+use Rattle.opentype_gsub.specs.declared.pass.Sights.{Sights}
+
+-- the tables, the level of the text's clusters, how many glyphs the text may get, and the lookup
+-- of the plan
+pub record Setting : Type 0 where
+  pub gdef : List ℕ
+  pub gsub : List ℕ
+  pub level : BufferClusterLevel
+  pub limit : ℕ
+  pub lookup : LookupUse
+
+abbrev pub setting_of : Pass → Setting
+setting_of pass = record {
+  gdef = pass.gdef.now;
+  gsub = pass.gsub.now;
+  level = pass.level;
+  limit = pass.limit;
+  lookup = pass.lookup;
+}
+
+abbrev pub how_of : LookupUse → Application
+how_of use_of = record {
+  of_gpos = false;
+  mask = use_of.mask;
+  auto_zwnj = use_of.auto_zwnj;
+  auto_zwj = use_of.auto_zwj;
+  per_syllable = use_of.per_syllable;
+}
+
+-- what a lookup's table sees from a glyph on
+unfoldable pub sights_of : List ℕ → LookupUse → List ℕ → Glyph → Sights
+sights_of gdef use_of lookup g = record {
+  input = sight_of_input gdef lookup (how_of use_of) g.syllable;
+  context = sight_of_context gdef lookup (how_of use_of) g.syllable;
+}
+
+-- whether a lookup's table applies to a glyph: the glyph has a bit of the mask, and isn't ignored
+unfoldable pub is_seen : List ℕ → LookupUse → List ℕ → Glyph → Bool
+is_seen gdef use_of lookup g =
+    let sight = sight_of_input gdef lookup (how_of use_of) 0 in
+    not (bit_and g.mask use_of.mask == 0) && not (ignores gdef sight.flag sight.set g)

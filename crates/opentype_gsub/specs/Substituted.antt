@@ -1,0 +1,40 @@
+-- What a lookup of GSUB makes of a buffer.
+use Rattle.std.specs.Prelude.{ℕ, ◌-◌, ◌*◌, ◌^◌, ◌==◌, max, min, List, length, if◌then◌else◌}
+use Rattle.shapers_buffer.specs.Buffer.{Buffer}
+use Rattle.shapers_buffer.specs.Glyphs.{Glyphs}
+use Rattle.opentype_face.specs.Lookups.{lookup_in, type_in}
+use Rattle.opentype_gsub.specs.Reversed.{lookup_stepped_back, walked_back}
+use Rattle.opentype_gsub.specs.Setting.{Setting}
+use Rattle.opentype_gsub.specs.Walked.{lookup_stepped, lookup_walked}
+use Rattle.opentype_gsub.specs.declared.pass.LookupUse.{LookupUse}
+
+-- how many glyphs a text of so many may get: 256 times as many, and 65,536 at least, but no more
+-- than the buffer takes
+abbrev pub limit_in : ℕ → ℕ → ℕ
+limit_in len max_len = min max_len (max 65536 (min (2 ^ 64 - 1) (len * 256)))
+
+-- how many operations a lookup has for it: 4,096 a glyph, and 65,536 at least
+abbrev pub operations_in : ℕ → ℕ
+operations_in len = max 65536 (min (2 ^ 64 - 1) (len * 4096))
+
+abbrev pub setting_for : List ℕ → List ℕ → LookupUse → Buffer → Setting
+setting_for gdef gsub use_of b = record {
+  gdef = gdef;
+  gsub = gsub;
+  level = b.level;
+  limit = limit_in (length b.glyphs) b.max_len;
+  lookup = use_of;
+}
+
+-- a lookup's table along a text, in as many steps as there are glyphs; one of type 8 from the end
+unfoldable pub applied : Setting → Glyphs → Glyphs
+applied s gs =
+    let lookup = lookup_in s.gsub s.lookup.index in
+    if type_in 7 lookup 0 == 8 then walked_back (length gs) (lookup_stepped_back s lookup) gs
+    else lookup_walked (length gs) (lookup_stepped s lookup) gs 0 (operations_in (length gs))
+
+unfoldable pub substituted : List ℕ → List ℕ → LookupUse → Buffer → Buffer
+substituted gdef gsub use_of b = record b {
+  glyphs = applied (setting_for gdef gsub use_of b)
+      b.glyphs;
+}

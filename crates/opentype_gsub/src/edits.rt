@@ -1,0 +1,167 @@
+//! What lookups do to glyphs.
+ghost use Rattle.std.specs.Prelude.{◌≡◌, ◌<◌, length, OnOk, slice_set};
+ghost use Rattle.opentype_gsub.specs.Edits.{count_in, handed_on, last_place, merged_up_to, multiplied, new_props, sequence_part, removed_all, replaced};
+ghost use Rattle.opentype_layout.specs.Text.{glyph_at};
+ghost use Rattle.std.specs.List.{remove};
+
+use opentype_face::bytes::u16_at;
+use opentype_face::classes::{glyph_props, has_glyph_classes};
+use shapers_buffer::buffer::{
+    BufferClusterLevel, GlyphProps, LigProps, ShaperError, hb_glyph_info_t, merge_clusters_in,
+};
+
+// The properties of a glyph that is put in.
+#[inline]
+#[tactic(auto, unfolding(crate::specs::Edits::new_props))]
+fn props_for(gdef: &[u8], to: u16, guess: u16, old: u16) -> u16
+    ensures { result ≡ new_props gdef.now to guess old }
+{
+    let props = old | 16;
+    if has_glyph_classes(gdef) {
+        props & 112 | glyph_props(gdef, to)
+    } else if guess == 0 {
+        props
+    } else {
+        props & 112 | guess
+    }
+}
+
+/// A glyph with another number; `guess` is its class where the font has none.
+#[inline]
+#[tactic(auto, unfolding(crate::specs::Edits::replaced))]
+pub fn replacement(gdef: &[u8], to: u16, guess: u16, glyph: hb_glyph_info_t) -> hb_glyph_info_t
+    ensures { result ≡ replaced gdef.now to guess glyph }
+{
+    let mut new = glyph;
+    new.glyph_id = u32::from(to);
+    new.glyph_props = GlyphProps(props_for(gdef, to, guess, glyph.glyph_props.0));
+    new
+}
+
+/// Puts another glyph in.
+pub fn replace(gdef: &[u8], text: &mut Vec<hb_glyph_info_t>, at: usize, to: u16, guess: u16)
+    requires { at < length text.old.items }
+    ensures { text.new.items ≡
+        slice_set text.old.items at (replaced gdef.now to guess (glyph_at text.old.items at)) }
+{
+    let glyph = text[at];
+    text[at] = replacement(gdef, to, guess, glyph);
+}
+
+// One of a sequence of glyphs that come in for one.
+#[inline]
+#[tactic(auto, unfolding(crate::specs::Edits::sequence_part, crate::specs::Edits::replaced))]
+fn part_for(gdef: &[u8], sequence: &[u8], glyph: hb_glyph_info_t, k: u16) -> hb_glyph_info_t
+    ensures { result ≡ sequence_part gdef.now sequence.now glyph k }
+{
+    let guess = if glyph.glyph_props.0 & 4 == 0 { 0 } else { 2 };
+    let to = u16_at(sequence, 2 + usize::from(k) * 2);
+    let mut new = replacement(gdef, to, guess, glyph);
+    new.glyph_props = GlyphProps(new.glyph_props.0 | 64);
+    if glyph.lig_props.0 < 32 {
+        new.lig_props = LigProps((k % 16) as u8);
+    }
+    new
+}
+
+/// How many glyphs a sequence has.
+#[inline]
+pub fn count_of(sequence: &[u8]) -> u16
+    ensures { result ≡ count_in sequence.now }
+{
+    u16_at(sequence, 0)
+}
+
+/// Puts the glyphs of a sequence in for one.
+///
+/// # Errors
+///
+/// `Memory`.
+pub fn multiply(
+    gdef: &[u8],
+    text: &mut Vec<hb_glyph_info_t>,
+    at: usize,
+    sequence: &[u8],
+) -> Result<(), ShaperError>
+    requires { at < length text.old.items }
+    ensures { OnOk result (text.new.items ≡ multiplied gdef.now sequence.now at text.old.items) }
+{
+    let glyph = text.remove(at);
+    let count = count_of(sequence);
+    for k in (0..count).rev() {
+        let part = part_for(gdef, sequence, glyph, k);
+        text.insert(at, part).map_err(|_| ShaperError::Memory)?;
+    }
+    Ok(())
+}
+
+// Hands the cluster of a glyph that goes on to a neighbour.
+#[tactic(auto, unfolding(crate::specs::Edits::handed_on))]
+fn hand_on(level: BufferClusterLevel, text: &mut [hb_glyph_info_t], at: usize)
+    requires { at < length text.old }
+    ensures { text.new ≡ handed_on level at text.old }
+{
+    let here = text[at].cluster;
+    if at + 1 < text.len() && text[at + 1].cluster == here {
+        return;
+    }
+    if at == 0 {
+        if at + 1 < text.len() {
+            merge_clusters_in(level, text, at, at + 2);
+        }
+        return;
+    }
+    if here < text[at - 1].cluster {
+        merge_clusters_in(level, text, at - 1, at + 1);
+    }
+}
+
+/// Takes a glyph out, but not its place in the text.
+pub fn delete(level: BufferClusterLevel, text: &mut Vec<hb_glyph_info_t>, at: usize)
+    requires { at < length text.old.items }
+    ensures { text.new.items ≡ remove (handed_on level at text.old.items) at }
+{
+    hand_on(level, text, at);
+    text.remove(at);
+}
+
+// Takes glyphs out, the last first.
+pub(crate) fn remove_all(text: &mut Vec<hb_glyph_info_t>, places: &[usize])
+    ensures { text.new.items ≡ removed_all places.now text.old.items }
+{
+    for i in (0..places.len()).rev() {
+        let place = places[i];
+        if place < text.len() {
+            text.remove(place);
+        }
+    }
+}
+
+// The last of a place and those behind it.
+#[inline]
+pub(crate) fn last_of(at: usize, places: &[usize]) -> usize
+    ensures { result ≡ last_place at places.now }
+{
+    if places.is_empty() {
+        at
+    } else {
+        places[places.len() - 1]
+    }
+}
+
+// Merges the clusters of a stretch by its first place and its last one.
+#[inline]
+#[tactic(auto, unfolding(crate::specs::Edits::merged_up_to))]
+pub(crate) fn merge_up_to(
+    level: BufferClusterLevel,
+    text: &mut [hb_glyph_info_t],
+    at: usize,
+    last: usize,
+)
+    requires { last < length text.old }
+    ensures { text.new ≡ merged_up_to level at last text.old }
+{
+    if at < last {
+        merge_clusters_in(level, text, at, last + 1);
+    }
+}

@@ -1,0 +1,16 @@
+//! The lookups of GSUB.
+#![tactic(auto)]
+
+pub mod apply;
+pub mod decided;
+pub mod edits;
+pub mod growth;
+pub mod laws;
+pub mod ligating;
+pub mod machine;
+pub mod matching;
+pub mod pass;
+pub mod reverse;
+pub mod settling;
+pub mod substitute;
+pub mod walk;

@@ -1,0 +1,69 @@
+//! A lookup along a text.
+ghost use Rattle.std.specs.Prelude.{◌≡◌, ◌<◌, length, IfOk, OnOk};
+ghost use Rattle.opentype_gsub.specs.Setting.{setting_of};
+ghost use Rattle.opentype_gsub.specs.Walked.{lookup_stepped, lookup_walked};
+
+use crate::machine::apply_nested;
+use crate::pass::Pass;
+use shapers_buffer::buffer::{ShaperError, hb_glyph_info_t};
+
+/// How far a lookup has come.
+#[derive(Clone, Copy, Debug)]
+struct Progress {
+    // the next place
+    next: usize,
+    // how many operations are left
+    left: usize,
+}
+
+// What a lookup does at a place.
+#[tactic(auto, unfolding(crate::specs::Walked::lookup_stepped))]
+fn step<'a>(
+    pass: &Pass<'a>,
+    lookup: &'a [u8],
+    text: &mut Vec<hb_glyph_info_t>,
+    at: usize,
+    left: usize,
+) -> Result<Progress, ShaperError>
+    requires { at < length text.old.items }
+    ensures { IfOk result (λ it. lookup_stepped (setting_of pass.now) lookup.now text.old.items at left
+        ≡ record { text = text.new.items; next = it.next; left = it.left }) }
+{
+    let next = at + 1;
+    if !pass.lookup.sees(pass.gdef, lookup, &text[at]) {
+        return Ok(Progress { next, left });
+    }
+    let reached = apply_nested(pass, lookup, text, at, left)?;
+    let left = reached.left;
+    match reached.end {
+        Some(next) => Ok(Progress { next, left }),
+        None => Ok(Progress { next, left }),
+    }
+}
+
+/// Applies a lookup by its table along a text, in at most so many steps, and so many operations.
+///
+/// # Errors
+///
+/// `Memory`.
+pub fn walk<'a>(
+    pass: &Pass<'a>,
+    lookup: &'a [u8],
+    text: &mut Vec<hb_glyph_info_t>,
+    steps: usize,
+    operations: usize,
+) -> Result<(), ShaperError>
+    ensures { OnOk result (text.new.items
+        ≡ lookup_walked steps (lookup_stepped (setting_of pass.now) lookup.now) text.old.items 0 operations) }
+{
+    let (mut at, mut left) = (0, operations);
+    for _ in 0..steps {
+        if at >= text.len() {
+            return Ok(());
+        }
+        let progress = step(pass, lookup, text, at, left)?;
+        at = progress.next;
+        left = progress.left;
+    }
+    Ok(())
+}
