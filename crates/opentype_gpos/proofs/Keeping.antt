@@ -1,0 +1,209 @@
+-- What lookups keep of a text.
+use Rattle.std.proofs.Common.{ℕ, ℤ, zero, suc, ◌+◌, ◌-◌, ◌≤◌, ◌≡◌, ◌&&◌, nat_le, nat_lt, Bool, true, false, List, length, map, Option, None, Some, if◌then◌else◌, refl, ap, ◌∙◌, arith}
+use Rattle.std.proofs.lemmas.Grind.{common_steps}
+use Rattle.std.proofs.lemmas.List.{length-set}
+use Rattle.opentype_gpos.specs.declared.anchors.Point.{Point}
+use Rattle.shapers_buffer.specs.Buffer.{Buffer}
+use Rattle.shapers_buffer.specs.GlyphFlags.{unsafe_inside, with_bits}
+use Rattle.shapers_buffer.specs.Glyphs.{Glyph, Glyphs}
+use Rattle.shapers_buffer.specs.declared.buffer.glyph.GlyphPosition.{GlyphPosition}
+use Rattle.shapers_buffer.specs.declared.buffer.level.Direction.{Direction}
+use Rattle.shapers_clusters.proofs.FlagCalls.{map-unsafe_inside, without_flags-or}
+use Rattle.opentype_layout.specs.declared.sight.Application.{Application}
+use Rattle.opentype_layout.specs.declared.sight.Sight.{Sight}
+use Rattle.opentype_gpos.specs.Finished.{drawn_place, finished, finished_from, chain_followed, is_backward, let_go, link_at, on_link, placed_on}
+use Rattle.opentype_gpos.specs.Laws.{PlacesAlone, without_its_flags}
+use Rattle.opentype_gpos.specs.Moved.{Positions, Progress, end_behind, flagged_up_to, mark_moved, pair_moved, value_added}
+use Rattle.opentype_gpos.specs.Moves.{lookup_move}
+use Rattle.opentype_gpos.specs.Joined.{aligned, begun, cursive_moved, ended, hung, cursive_joined, cursive_linked, next_in_line, separated, turn_to, turned}
+use Rattle.opentype_gpos.specs.Walked.{moved, moved_if, positioned, position_stepped, walked}
+use Rattle.opentype_gpos.specs.declared.finish.Attachment.{Attachment}
+use Rattle.opentype_gpos.specs.declared.moves.CursiveMove.{CursiveMove}
+use Rattle.opentype_gpos.specs.declared.moves.MarkMove.{MarkMove}
+use Rattle.opentype_gpos.specs.declared.moves.Move.{Move}
+use Rattle.opentype_gpos.specs.declared.moves.Move.TheVariants.{Adds, Attaches, Joins, Kerns}
+use Rattle.opentype_gpos.specs.declared.moves.PairMove.{PairMove}
+use Rattle.opentype_gpos.specs.declared.values.Value.{Value}
+
+pub record Keeps (gs : Glyphs) (ps : Positions) (after : Progress) : Type 0 where
+  pub glyphs : map without_its_flags after.glyphs ≡ map without_its_flags gs
+  pub positions : length after.positions ≡ length ps
+
+-- ---- flags
+bits : (g : Glyph) → without_its_flags (with_bits 3 g) ≡ without_its_flags g
+bits g = ap (λ (m : ℕ). (record g { mask = m })) (without_flags-or g.mask 3 refl)
+
+flag_if : (test : Bool) (s e : ℕ) (gs : Glyphs) → (test ≡ true → s ≤ e) →
+    map without_its_flags (if test then unsafe_inside s e gs else gs) ≡ map without_its_flags gs
+flag_if true s e gs h = map-unsafe_inside without_its_flags bits s e gs (h refl)
+flag_if false s e gs h = refl
+
+flag : (is_on : Bool) (s last : ℕ) (gs : Glyphs) →
+    map without_its_flags (flagged_up_to is_on s last gs) ≡ map without_its_flags gs
+unfolding flagged_up_to
+flag is_on s last gs = flag_if
+    (is_on && nat_le s (end_behind last gs) && nat_le (end_behind last gs - s) 255) s (end_behind last gs) gs
+    (λ t. grind (arith, common_steps, t))
+
+-- ---- positions
+added : (d : Direction) (value : Value) (at : ℕ) (ps : Positions) → length (value_added d value at ps) ≡ length ps
+unfolding value_added
+added d value at ps = grind (arith, common_steps)
+
+choose : (test : Bool) (gs : Glyphs) (ps : Positions) (a b : Progress) → Keeps gs ps a → Keeps gs ps b →
+    Keeps gs ps (if test then a else b)
+choose true gs ps a b x y = x
+choose false gs ps a b x y = y
+
+pair : (d : Direction) (it : PairMove) (at : ℕ) (gs : Glyphs) (ps : Positions) →
+    Keeps gs ps (pair_moved d it at gs ps)
+unfolding pair_moved
+pair d it at gs ps = choose it.has_second gs ps _ _ (record {
+  glyphs = flag true at (it.second + 1) gs;
+  positions = added d it.second_value it.second (value_added d it.first_value at ps)
+      ∙ added d it.first_value at ps;
+}) (record {
+  glyphs = flag _ at it.second gs;
+  positions = added d it.second_value it.second (value_added d it.first_value at ps)
+      ∙ added d it.first_value at ps;
+})
+
+mark : (it : MarkMove) (at : ℕ) (gs : Glyphs) (ps : Positions) → Keeps gs ps (mark_moved it at gs ps)
+unfolding mark_moved
+mark it at gs ps =
+    record { glyphs = flag true it.to at gs; positions = grind (arith, common_steps) }
+
+nothing : (at : ℕ) (gs : Glyphs) (ps : Positions) →
+    Keeps gs ps (record { glyphs = gs; positions = ps; next = at })
+nothing at gs ps = record { glyphs = refl; positions = refl }
+
+let_go_length : (ps : Positions) (at : ℕ) → length (let_go ps at) ≡ length ps
+unfolding let_go
+let_go_length ps at = grind (arith, common_steps)
+
+turn_to_length : (ps : Positions) (f : ℕ → Positions) (n : ℕ) → length ps ≡ n →
+    ((to : ℕ) → length (f to) ≡ n) → (o : Option ℕ) → length (turn_to ps f o) ≡ n
+turn_to_length ps f n e each None = e
+turn_to_length ps f n e each (Some to) = each to
+
+pub turn_length : (n : ℕ) (v : Bool) (parent : ℕ) (ps : Positions) (at : ℕ) (old : GlyphPosition) →
+    length (turned n v parent ps at old) ≡ length ps
+unfolding turned
+turn_length zero v parent ps at old = refl
+turn_length (suc n) v parent ps at old = turn_to_length ps _ (length ps) refl
+    (λ to. turn_length n v parent _ to _ ∙ length-set ps to _) (next_in_line old.var at parent (length ps))
+
+choose_length : (test : Bool) (a b : Positions) (n : ℕ) → length a ≡ n → length b ≡ n →
+    length (if test then a else b) ≡ n
+choose_length true a b n x y = x
+choose_length false a b n x y = y
+
+separate_length : (v : Bool) (child parent : ℕ) (ps : Positions) → length (separated v child parent ps) ≡ length ps
+unfolding separated
+separate_length v child parent ps = choose_length _ _ _ (length ps) (length-set ps parent _) refl
+
+hang_length : (v : Bool) (child parent : ℕ) (off : ℤ) (ps : Positions) →
+    length (hung v child parent off ps) ≡ length ps
+unfolding hung
+hang_length v child parent off ps = choose_length _ _ _ (length ps) (let_go_length ps child)
+    (separate_length v child parent _ ∙ length-set ps child _)
+
+link_on : (v : Bool) (child parent : ℕ) (off : ℤ) (ps : Positions) → length (cursive_linked v child parent off ps) ≡ length ps
+unfolding cursive_linked
+link_on v child parent off ps = hang_length v child parent off _ ∙ turn_length 64 v parent ps child _
+
+end_length : (v : Bool) (point : Point) (at : ℕ) (ps : Positions) → length (ended v point at ps) ≡ length ps
+unfolding ended
+end_length v point at ps = length-set ps at _
+
+begin_length : (v : Bool) (point : Point) (at : ℕ) (ps : Positions) → length (begun v point at ps) ≡ length ps
+unfolding begun
+begin_length v point at ps = length-set ps at _
+
+pub align_length : (d : Direction) (it : CursiveMove) (at : ℕ) (ps : Positions) → length (aligned d it at ps) ≡ length ps
+unfolding aligned
+align_length d it at ps = choose_length _ _ _ (length ps)
+    (end_length _ it.entry at _ ∙ begin_length _ it.exit it.before ps)
+    (begin_length _ it.entry at _ ∙ end_length _ it.exit it.before ps)
+
+join_length : (d : Direction) (it : CursiveMove) (at : ℕ) (ps : Positions) → length (cursive_joined d it at ps) ≡ length ps
+unfolding cursive_joined
+join_length d it at ps = choose_length it.from_end _ _ (length ps)
+    (link_on _ it.before at _ (aligned d it at ps) ∙ align_length d it at ps)
+    (link_on _ at it.before _ (aligned d it at ps) ∙ align_length d it at ps)
+
+cursive : (d : Direction) (it : CursiveMove) (at : ℕ) (gs : Glyphs) (ps : Positions) →
+    Keeps gs ps (cursive_moved d it at gs ps)
+unfolding cursive_moved
+cursive d it at gs ps = record { glyphs = flag true it.before at gs; positions = join_length d it at ps }
+
+move : (d : Direction) (it : Move) (at : ℕ) (gs : Glyphs) (ps : Positions) → Keeps gs ps (moved d it at gs ps)
+unfolding moved
+move d (Adds value) at gs ps = record { glyphs = refl; positions = added d value at ps }
+move d (Kerns it) at gs ps = choose (nat_lt it.second (length gs)) gs ps _ _
+    (pair d it at gs ps) (nothing (at + 1) gs ps)
+move d (Attaches it) at gs ps = mark it at gs ps
+move d (Joins it) at gs ps = choose (nat_lt it.before (length ps)) gs ps _ _
+    (cursive d it at gs ps) (nothing (at + 1) gs ps)
+
+move_if : (d : Direction) (at : ℕ) (gs : Glyphs) (ps : Positions) (o : Option Move) →
+    Keeps gs ps (moved_if d at gs ps o)
+move_if d at gs ps None = nothing (at + 1) gs ps
+move_if d at gs ps (Some it) = move d it at gs ps
+
+pub keeps_step : (gdef : List ℕ) (d : Direction) (sight : Sight) (lookup : List ℕ) (gs : Glyphs) (ps : Positions)
+    (at : ℕ) → Keeps gs ps (position_stepped gdef d sight lookup gs ps at)
+unfolding position_stepped
+keeps_step gdef d sight lookup gs ps at = choose _ gs ps _ _
+    (move_if d at gs ps (lookup_move gdef sight lookup gs at)) (nothing (at + 1) gs ps)
+
+walk : (n : ℕ) (f : Glyphs → Positions → ℕ → Progress) →
+    ((gs : Glyphs) (ps : Positions) (at : ℕ) → Keeps gs ps (f gs ps at)) →
+    (gs : Glyphs) (ps : Positions) (at : ℕ) → Keeps gs ps (walked n f gs ps at)
+unfolding walked
+walk zero f each gs ps at = record { glyphs = refl; positions = refl }
+walk (suc n) f each gs ps at =
+    let now = each gs ps at in
+    let later = walk n f each (f gs ps at).glyphs (f gs ps at).positions (f gs ps at).next in
+    choose (nat_lt at (length gs)) gs ps _ _ (record {
+      glyphs = later.glyphs ∙ now.glyphs;
+      positions = later.positions ∙ now.positions;
+    }) (nothing at gs ps)
+
+pub position_keeps : (gdef gpos : List ℕ) (index : ℕ) (how : Application) (b : Buffer) →
+    PlacesAlone b (positioned gdef gpos index how b)
+unfolding positioned
+position_keeps gdef gpos index how b =
+    let k = walk (length b.glyphs) _ (keeps_step gdef b.direction _ _) b.glyphs b.positions 0 in
+    record { others = refl; glyphs = k.glyphs; positions = k.positions }
+
+-- ---- attachments
+placed_length : (d : Direction) (link : Attachment) (ps : Positions) → length (placed_on d link ps) ≡ length ps
+unfolding placed_on
+placed_length d link ps = grind (arith, common_steps)
+
+link_length : (d : Direction) (ps : Positions) (f : ℕ → Positions) (n : ℕ) → length ps ≡ n →
+    ((to : ℕ) → length (f to) ≡ n) → (o : Option Attachment) → length (on_link d ps f o) ≡ n
+link_length d ps f n e each None = e
+link_length d ps f n e each (Some link) = placed_length d link (f link.to) ∙ each link.to
+
+follow_length : (n : ℕ) (d : Direction) (ps : Positions) (at : ℕ) → length (chain_followed n d ps at) ≡ length ps
+unfolding chain_followed
+follow_length zero d ps at = let_go_length ps at
+follow_length (suc n) d ps at = link_length d (let_go ps at) _ (length ps) (let_go_length ps at)
+    (λ to. follow_length n d (let_go ps at) to ∙ let_go_length ps at) (link_at ps at)
+
+finish_length : (n : ℕ) (d : Direction) (ps : Positions) (i : ℕ) → length (finished_from n d ps i) ≡ length ps
+unfolding finished_from
+finish_length zero d ps i = refl
+finish_length (suc n) d ps i =
+    finish_length n d (chain_followed 64 d ps (drawn_place (is_backward d) (length ps) i)) (i + 1)
+    ∙ follow_length 64 d ps (drawn_place (is_backward d) (length ps) i)
+
+pub finish_keeps : (b : Buffer) → PlacesAlone b (finished b)
+unfolding finished
+finish_keeps b = record {
+  others = refl;
+  glyphs = refl;
+  positions = finish_length (length b.positions) b.direction b.positions 0;
+}

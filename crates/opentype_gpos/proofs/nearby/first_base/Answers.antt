@@ -1,0 +1,16 @@
+use Rattle.std.proofs.Common.{sym, arith}
+use Rattle.opentype_face.proofs.Foremost.{first_out, first_start}
+use Rattle.opentype_face.proofs.Foremost.{first_none, first_same}
+use Rattle.opentype_gpos.proofs.nearby.first_base.Goals as goal
+
+pub loop-i-init : goal.loop-i-init
+loop-i-init c = first_start _ _
+
+pub returns-then-is_some-clause-value : goal.returns-then-is_some-clause-value
+returns-then-is_some-clause-value c = first_same _ _ _ _ c.loop-i.invariant (omega arith) (cc) (cc)
+
+pub loop-i-preserved : goal.loop-i-preserved
+loop-i-preserved c = first_none _ _ _ c.base_behind-base.result c.loop-i.invariant (omega arith) (cc) (cc)
+
+pub returns-clause-value : goal.returns-clause-value
+returns-clause-value c = sym (first_out _ _ _ c.loop-i.invariant (omega arith))

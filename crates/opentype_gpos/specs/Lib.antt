@@ -1,0 +1,9 @@
+pub mod Values
+pub mod Anchors
+pub mod Nearby
+pub mod Moves
+pub mod Moved
+pub mod Walked
+pub mod Finished
+pub mod Laws
+pub mod Joined

@@ -1,0 +1,153 @@
+//! What moves make of a text.
+ghost use Rattle.std.specs.Prelude.{◌≡◌, ◌<◌, ◌≤◌, ◌||◌, true, length};
+ghost use Rattle.opentype_gpos.specs.Moved.{does_move, end_behind, flagged_up_to, is_vertical, mark_moved, pair_moved, value_added, with_mark_move, with_value};
+
+use crate::moves::{MarkMove, PairMove};
+use crate::values::Value;
+use shapers_buffer::buffer::{Direction, GlyphPosition, hb_glyph_info_t, unsafe_to_break_in};
+
+/// Whether a line runs from top to bottom, or upwards.
+#[inline]
+pub fn is_vertical(direction: Direction) -> bool
+    ensures { result ≡ is_vertical direction }
+{
+    match direction {
+        Direction::TopToBottom | Direction::BottomToTop => true,
+        Direction::LeftToRight | Direction::RightToLeft | Direction::Invalid => false,
+    }
+}
+
+// A position with a value.
+#[inline]
+#[tactic(auto, unfolding(crate::specs::Moved::with_value))]
+fn with_value(vertical: bool, value: &Value, position: GlyphPosition) -> GlyphPosition
+    ensures { result ≡ with_value vertical value.now position }
+{
+    if vertical {
+        return GlyphPosition {
+            y_advance: position.y_advance.saturating_sub(value.y_advance),
+            x_offset: position.x_offset.saturating_add(value.x_placement),
+            y_offset: position.y_offset.saturating_add(value.y_placement),
+            ..position
+        };
+    }
+    GlyphPosition {
+        x_advance: position.x_advance.saturating_add(value.x_advance),
+        x_offset: position.x_offset.saturating_add(value.x_placement),
+        y_offset: position.y_offset.saturating_add(value.y_placement),
+        ..position
+    }
+}
+
+// Whether a value is other than nothing.
+#[inline]
+#[tactic(auto, unfolding(crate::specs::Moved::does_move))]
+fn does_move(vertical: bool, value: &Value) -> bool
+    ensures { result ≡ does_move vertical value.now }
+{
+    let advance = if vertical {
+        value.y_advance
+    } else {
+        value.x_advance
+    };
+    value.x_placement.unsigned_abs() != 0
+        || value.y_placement.unsigned_abs() != 0
+        || advance.unsigned_abs() != 0
+}
+
+// Adds a value to a glyph's position.
+#[tactic(auto, unfolding(crate::specs::Moved::value_added))]
+pub(crate) fn add(direction: Direction, value: &Value, at: usize, positions: &mut [GlyphPosition])
+    ensures { positions.new ≡ value_added direction value.now at positions.old }
+{
+    if at >= positions.len() {
+        return;
+    }
+    positions[at] = with_value(is_vertical(direction), value, positions[at]);
+}
+
+// The end of a stretch up to a place with its glyph.
+#[inline]
+fn end_behind(last: usize, glyphs: &[hb_glyph_info_t]) -> usize
+    ensures value { result ≡ end_behind last glyphs.now }
+    ensures within { result ≤ length glyphs.now }
+{
+    if last < glyphs.len() {
+        last + 1
+    } else {
+        glyphs.len()
+    }
+}
+
+// Flags a stretch as one with no break inside, up to a place with its glyph, if there is one.
+#[tactic(auto, unfolding(crate::specs::Moved::flagged_up_to))]
+pub(crate) fn flag_up_to(is_on: bool, start: usize, last: usize, glyphs: &mut [hb_glyph_info_t])
+    ensures { glyphs.new ≡ flagged_up_to is_on start last glyphs.old }
+{
+    let end = end_behind(last, glyphs);
+    if is_on && start <= end && end - start <= 255 {
+        unsafe_to_break_in(glyphs, start, end);
+    }
+}
+
+// Adds the values of a pair, and returns the place that comes next.
+#[tactic(auto, unfolding(crate::specs::Moved::pair_moved))]
+pub(crate) fn move_pair(
+    direction: Direction,
+    pair: &PairMove,
+    at: usize,
+    glyphs: &mut [hb_glyph_info_t],
+    positions: &mut [GlyphPosition],
+) -> usize
+    requires { pair.now.second < length glyphs.old }
+    ensures { pair_moved direction pair.now at glyphs.old positions.old
+        ≡ record { glyphs = glyphs.new; positions = positions.new; next = result } }
+{
+    add(direction, &pair.first_value, at, positions);
+    add(direction, &pair.second_value, pair.second, positions);
+    if pair.has_second {
+        flag_up_to(true, at, pair.second + 1, glyphs);
+        return pair.second + 1;
+    }
+    let vertical = is_vertical(direction);
+    let has_values = does_move(vertical, &pair.first_value)
+        || does_move(vertical, &pair.second_value);
+    flag_up_to(has_values, at, pair.second, glyphs);
+    pair.second
+}
+
+// A mark's position where it is attached.
+#[tactic(auto, unfolding(crate::specs::Moved::with_mark_move))]
+fn with_mark(mark: &MarkMove, at: usize, position: GlyphPosition) -> GlyphPosition
+    ensures { result ≡ with_mark_move mark.now at position }
+{
+    if mark.to < at && at - mark.to <= 32768 {
+        return GlyphPosition {
+            x_offset: mark.x,
+            y_offset: mark.y,
+            var: (65536 - (at - mark.to)) as u32 + 65536,
+            ..position
+        };
+    }
+    GlyphPosition {
+        var: position.var / 65536 * 65536,
+        ..position
+    }
+}
+
+// Attaches a mark, and returns the place that comes next.
+#[tactic(auto, unfolding(crate::specs::Moved::mark_moved))]
+pub(crate) fn move_mark(
+    mark: &MarkMove,
+    at: usize,
+    glyphs: &mut [hb_glyph_info_t],
+    positions: &mut [GlyphPosition],
+) -> usize
+    requires { at < length positions.old }
+    ensures { mark_moved mark.now at glyphs.old positions.old
+        ≡ record { glyphs = glyphs.new; positions = positions.new; next = result } }
+{
+    flag_up_to(true, mark.to, at, glyphs);
+    positions[at] = with_mark(mark, at, positions[at]);
+    at + 1
+}
