@@ -1,0 +1,6 @@
+pub mod Tests
+pub mod WouldApply
+pub mod ScriptFeatures
+pub mod Fonts
+pub mod Lookups
+pub mod Proved

@@ -1,0 +1,7 @@
+//! A font file as the shapers, normalization, plans and positions read it.
+#![tactic(auto)]
+
+pub mod font;
+pub mod lookups;
+pub mod script_features;
+pub mod would_apply;

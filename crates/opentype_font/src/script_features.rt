@@ -1,0 +1,297 @@
+//! What a plan reads of a font: its features in the script of a text.
+ghost use Rattle.std.specs.Prelude.{◌≡◌, IfOk, IsOkUnless, map, option_map};
+ghost use Rattle.shapers_base.specs.Map.{of_gsub};
+ghost use Rattle.shapers_buffer.specs.declared.buffer.refusal.ShaperError.TheVariants.{Memory};
+ghost use Rattle.opentype_font.specs.ScriptFeatures.{chosen_for, feature_in_list, feature_view, features_in_system, features_view, has_feature_in, lookup_numbers, lookups_by, number_by, table_view, tag_by, tagged_lookups};
+
+use opentype_face::bytes::u16_at;
+use opentype_layout::features::{
+    Chosen, choose_script, feature_table, feature_tag, find_any_feature, find_feature,
+    language_system, lookup_count, nth_lookup, required_feature, script_table, script_tags,
+};
+use shapers_base::buffer::{Script, ShaperError, hb_tag_t};
+use shapers_base::map::TableIndex;
+use shapers_plan::ot_map::FontFeatures;
+use std::alloc::Global;
+
+/// How many lookups of a feature are read at most, which is more than any font has: what a spoilt
+/// font lists costs little memory.
+const MOST_LOOKUPS: u16 = 4096;
+
+/// How many features of a script are read at most.
+const MOST_FEATURES: u16 = 1024;
+
+/// The tag of vertical forms.
+const VERT: u32 = 0x7665_7274;
+
+// A feature, with the numbers of the lookups that it applies.
+#[derive(Debug, Drop)]
+struct ListedFeature {
+    tag: hb_tag_t,
+    lookups: Vec<u16>,
+}
+
+// The tag of a number of four bytes.
+#[inline]
+fn tag_by(number: u32) -> hb_tag_t
+    ensures { result ≡ tag_by number }
+{
+    hb_tag_t([
+        (number / 0x100_0000) as u8,
+        (number / 0x1_0000 % 256) as u8,
+        (number / 256 % 256) as u8,
+        (number % 256) as u8,
+    ])
+}
+
+// The script of a table that is chosen for a text.
+fn chosen_for(table: &[u8], script: Option<Script>) -> Option<Chosen>
+    ensures { result ≡ chosen_for table.now script }
+{
+    let number = match script {
+        Some(script) => number_of(hb_tag_t(script.to_bytes())),
+        None => 0,
+    };
+    let tags = script_tags(number);
+    choose_script(table, tags.as_slice())
+}
+
+// The number of a tag's four bytes.
+#[inline]
+fn number_of(tag: hb_tag_t) -> u32
+    ensures { result ≡ number_by tag.0 }
+{
+    let bytes = tag.to_bytes();
+    u32::from(bytes[0]) * 0x100_0000
+        + u32::from(bytes[1]) * 0x1_0000
+        + u32::from(bytes[2]) * 256
+        + u32::from(bytes[3])
+}
+
+/// Whether GSUB or GPOS has a feature by this tag in the script that is chosen for a text.
+pub fn has_feature(table: &[u8], script: Option<Script>, tag: hb_tag_t) -> bool
+    ensures { result ≡ has_feature_in table.now script tag }
+{
+    match chosen_for(table, script) {
+        Some(chosen) => {
+            let system = language_system(script_table(table, chosen.script), &[]);
+            find_feature(table, system, number_of(tag)).is_some()
+        }
+        None => false,
+    }
+}
+
+// The lookups of a feature's table.
+fn lookups_of(feature: &[u8], alloc: Global) -> Result<Vec<u16>, ShaperError>
+    ensures lookups { IfOk result (λ lookups. lookups.items ≡ lookup_numbers feature.now) }
+    ensures refusal { IsOkUnless result Memory }
+{
+    let mut lookups = Vec::new(alloc);
+    for i in 0..lookup_count(feature).min(MOST_LOOKUPS) {
+        lookups
+            .push(nth_lookup(feature, i))
+            .map_err(|_| ShaperError::Memory)?;
+    }
+    Ok(lookups)
+}
+
+// A feature by its number in the table.
+fn feature_at(table: &[u8], index: u16, alloc: Global) -> Result<ListedFeature, ShaperError>
+    ensures feature { IfOk result (λ feature. feature_view feature ≡ feature_in_list table.now index) }
+    ensures refusal { IsOkUnless result Memory }
+{
+    let tag = tag_by(feature_tag(table, index));
+    let lookups = lookups_of(feature_table(table, index), alloc)?;
+    Ok(ListedFeature { tag, lookups })
+}
+
+// A feature by its number, if there is one.
+fn feature_if(
+    table: &[u8],
+    index: Option<u16>,
+    alloc: Global,
+) -> Result<Option<ListedFeature>, ShaperError>
+    ensures feature { IfOk result (λ feature.
+        option_map feature_view feature ≡ option_map (feature_in_list table.now) index) }
+    ensures refusal { IsOkUnless result Memory }
+{
+    match index {
+        Some(index) => Ok(Some(feature_at(table, index, alloc)?)),
+        None => Ok(None),
+    }
+}
+
+// The features of a language system, in its order.
+fn features_of(
+    table: &[u8],
+    system: &[u8],
+    alloc: Global,
+) -> Result<Vec<ListedFeature>, ShaperError>
+    ensures features { IfOk result (λ features.
+        map feature_view features.items ≡ features_in_system table.now system.now) }
+    ensures refusal { IsOkUnless result Memory }
+{
+    let mut features = Vec::new(alloc);
+    for i in 0..u16_at(system, 4).min(MOST_FEATURES) {
+        let feature = feature_at(table, u16_at(system, 6 + usize::from(i) * 2), alloc)?;
+        features.push(feature).map_err(|_| ShaperError::Memory)?;
+    }
+    Ok(features)
+}
+
+// The lookups of a feature, if it has this tag.
+#[inline]
+fn lookups_if(feature: &ListedFeature, tag: hb_tag_t) -> Option<&[u16]>
+    ensures { option_map (λ list. list.now) result ≡ tagged_lookups tag (feature_view feature.now) }
+{
+    if feature.tag == tag {
+        Some(feature.lookups.as_slice())
+    } else {
+        None
+    }
+}
+
+// The lookups of the first of these features that has this tag.
+fn lookups_by(features: &[ListedFeature], tag: hb_tag_t) -> Option<&[u16]>
+    ensures { let views = map feature_view features.now in
+        option_map (λ list. list.now) result ≡ lookups_by tag views }
+{
+    for i in 0..features.len() {
+        let found = lookups_if(&features[i], tag);
+        if found.is_some() {
+            return found;
+        }
+    }
+    None
+}
+
+/// What GSUB or GPOS has for the script of a text, in the script's default language.
+#[derive(Debug, Drop)]
+struct TableFeatures {
+    is_there: bool,
+    script: Option<hb_tag_t>,
+    is_found: bool,
+    features: Vec<ListedFeature>,
+    required: Option<ListedFeature>,
+    // vertical forms, of any script
+    vertical: Option<ListedFeature>,
+}
+
+impl TableFeatures {
+    // Reads what a table has for a script.
+    fn new(table: &[u8], script: Option<Script>, alloc: Global) -> Result<Self, ShaperError>
+        ensures view { IfOk result (λ it. features_view it ≡ table_view table.now script) }
+        ensures refusal { IsOkUnless result Memory }
+    {
+        let is_there = !table.is_empty();
+        let vertical = feature_if(table, find_any_feature(table, VERT), alloc)?;
+        match chosen_for(table, script) {
+            Some(chosen) => {
+                let system = language_system(script_table(table, chosen.script), &[]);
+                Ok(TableFeatures {
+                    is_there,
+                    script: Some(tag_by(chosen.tag)),
+                    is_found: chosen.is_found,
+                    features: features_of(table, system, alloc)?,
+                    required: feature_if(table, required_feature(system), alloc)?,
+                    vertical,
+                })
+            }
+            None => Ok(TableFeatures {
+                is_there,
+                script: None,
+                is_found: false,
+                features: Vec::new(alloc),
+                required: None,
+                vertical,
+            }),
+        }
+    }
+}
+
+/// The features of a font's GSUB and GPOS in the script of a text, in the script's default language.
+/// (OpenType, common table formats.)
+#[derive(Debug, Drop)]
+pub struct ScriptFeatures {
+    gsub: TableFeatures,
+    gpos: TableFeatures,
+}
+
+impl ScriptFeatures {
+    /// Reads the features that the two tables, which are empty where the font lacks them, have for a
+    /// script.
+    ///
+    /// # Errors
+    ///
+    /// `Memory`.
+    pub fn new(
+        gsub: &[u8],
+        gpos: &[u8],
+        script: Option<Script>,
+        alloc: Global,
+    ) -> Result<Self, ShaperError>
+        ensures gsub { IfOk result (λ it. features_view it.gsub ≡ table_view gsub.now script) }
+        ensures gpos { IfOk result (λ it. features_view it.gpos ≡ table_view gpos.now script) }
+        ensures refusal { IsOkUnless result Memory }
+    {
+        let gsub = TableFeatures::new(gsub, script, alloc)?;
+        let gpos = TableFeatures::new(gpos, script, alloc)?;
+        Ok(ScriptFeatures { gsub, gpos })
+    }
+
+    #[inline]
+    fn of(&self, table: TableIndex) -> &TableFeatures
+        ensures { result.now ≡ of_gsub table self.now.gsub self.now.gpos }
+    {
+        match table {
+            TableIndex::GSUB => &self.gsub,
+            TableIndex::GPOS => &self.gpos,
+        }
+    }
+}
+
+impl FontFeatures for ScriptFeatures {
+    ghost use Rattle.opentype_font.specs.ScriptFeatures.{tables_from, features_view};
+
+    ghost tables = { λ it. tables_from (features_view it.gsub) (features_view it.gpos) };
+
+    #[inline]
+    fn has_table(&self, table: TableIndex) -> bool {
+        self.of(table).is_there
+    }
+
+    #[inline]
+    fn chosen_script(&self, table: TableIndex) -> Option<hb_tag_t> {
+        self.of(table).script
+    }
+
+    #[inline]
+    fn found_script(&self, table: TableIndex) -> bool {
+        self.of(table).is_found
+    }
+
+    fn feature_lookups(&self, table: TableIndex, tag: hb_tag_t) -> Option<&[u16]> {
+        lookups_by(self.of(table).features.as_slice(), tag)
+    }
+
+    fn any_feature_lookups(&self, table: TableIndex, tag: hb_tag_t) -> Option<&[u16]> {
+        match &self.of(table).vertical {
+            Some(feature) => lookups_if(feature, tag),
+            None => None,
+        }
+    }
+
+    fn required_feature(&self, table: TableIndex) -> Option<hb_tag_t> {
+        match &self.of(table).required {
+            Some(feature) => Some(feature.tag),
+            None => None,
+        }
+    }
+
+    fn required_lookups(&self, table: TableIndex) -> &[u16] {
+        match &self.of(table).required {
+            Some(feature) => feature.lookups.as_slice(),
+            None => &[],
+        }
+    }
+}

@@ -1,0 +1,326 @@
+//! Whether a lookup of GSUB would apply to exactly some glyphs, as Indic's shaper asks of consonants.
+ghost use Rattle.std.specs.Prelude.{◌≡◌, ◌<◌, length, option_map};
+ghost use Rattle.opentype_layout.specs.Pattern.{fits};
+ghost use Rattle.opentype_layout.specs.Rules.{set_in};
+ghost use Rattle.opentype_font.specs.WouldApply.{chained_fits, chained_rule_fits, chained_rules_fit, chained_sets_fit, context_fits, fit_each, fit_numbers, has_ligature, is_barred, ligature_fits, ligatures_fit, lookup_applies, nth_applies, rule_of_set, one_fits, place_of_first, rule_fits, rules_fit, sets_fit, subtable_applies, would_apply};
+
+use opentype_face::bytes::{part, u16_at};
+use opentype_face::glyph_sets::{class, coverage};
+use opentype_face::lookup::{lookup, subtable, subtable_count, subtable_type};
+use opentype_layout::pattern::Pattern;
+use shapers_base::font::GlyphId;
+
+/// The type of an extension, whose subtables name another one.
+const EXTENSION: u16 = 7;
+
+/// Whether a lookup of GSUB would apply to exactly these glyphs; with `zero_context`, by a rule that
+/// looks at no glyphs around them. (OpenType, GSUB; HarfBuzz's `would_apply`, which doesn't test the
+/// coverage of classes and sets exactly.)
+pub fn would_apply(gsub: &[u8], index: u16, glyphs: &[GlyphId], zero_context: bool) -> bool
+    ensures { result ≡ would_apply gsub.now index glyphs.now zero_context }
+{
+    lookup_applies(lookup(gsub, index), glyphs, zero_context)
+}
+
+fn lookup_applies(lookup: &[u8], glyphs: &[GlyphId], zero_context: bool) -> bool
+    ensures { result ≡ lookup_applies lookup.now glyphs.now zero_context }
+{
+    for i in 0..subtable_count(lookup) {
+        if nth_applies(lookup, glyphs, zero_context, i) {
+            return true;
+        }
+    }
+    false
+}
+
+fn nth_applies(lookup: &[u8], glyphs: &[GlyphId], zero_context: bool, i: u16) -> bool
+    ensures { result ≡ nth_applies lookup.now glyphs.now zero_context i }
+{
+    let kind = subtable_type(EXTENSION, lookup, i);
+    subtable_applies(kind, subtable(EXTENSION, lookup, i), glyphs, zero_context)
+}
+
+#[tactic(auto, unfolding(crate::specs::WouldApply::subtable_applies))]
+fn subtable_applies(kind: u16, bytes: &[u8], glyphs: &[GlyphId], zero_context: bool) -> bool
+    ensures { result ≡ subtable_applies kind bytes.now glyphs.now zero_context }
+{
+    if glyphs.is_empty() || glyphs.len() > 65535 {
+        return false;
+    }
+    match kind {
+        1 | 2 | 3 | 8 => one_fits(kind, bytes, glyphs),
+        4 => ligatures_fit(bytes, glyphs),
+        5 => context_fits(bytes, glyphs),
+        6 => chained_fits(bytes, glyphs, zero_context),
+        _ => false,
+    }
+}
+
+// The place of the first of these glyphs in the set that a subtable begins with.
+#[inline]
+fn place_of_first(bytes: &[u8], glyphs: &[GlyphId]) -> Option<u32>
+    requires { 0 < length glyphs.now }
+    ensures { result ≡ place_of_first bytes.now glyphs.now }
+{
+    coverage(part(bytes, usize::from(u16_at(bytes, 2))), glyphs[0].0)
+}
+
+// Types that look at one glyph.
+#[tactic(auto, unfolding(crate::specs::WouldApply::one_fits))]
+fn one_fits(kind: u16, bytes: &[u8], glyphs: &[GlyphId]) -> bool
+    requires { 0 < length glyphs.now }
+    ensures { result ≡ one_fits kind bytes.now glyphs.now }
+{
+    let format = u16_at(bytes, 0);
+    let is_known = format == 1 || kind == 1 && format == 2;
+    is_known && glyphs.len() == 1 && place_of_first(bytes, glyphs).is_some()
+}
+
+// Whether the glyphs from one on fit the places of a pattern, one after another.
+fn fit_each(pattern: &Pattern<'_>, first: usize, glyphs: &[GlyphId]) -> bool
+    requires { length glyphs.now < 65536 }
+    ensures { result ≡ fit_each (fits pattern.now) first glyphs.now }
+{
+    for i in 0..glyphs.len().saturating_sub(first) {
+        if !pattern.fits(i as u16, glyphs[first + i].0) {
+            return false;
+        }
+    }
+    true
+}
+
+// A set of rules or ligatures, of those whose number stands at a place of a subtable.
+#[inline]
+#[tactic(auto, unfolding(opentype_layout::specs::Rules::set_in))]
+fn rule_set(bytes: &[u8], at: usize, index: u32) -> &[u8]
+    requires { at < 65536 }
+    ensures { result.now ≡ set_in bytes.now at index }
+{
+    if index < u32::from(u16_at(bytes, at)) {
+        part(
+            bytes,
+            usize::from(u16_at(bytes, at + 2 + index as usize * 2)),
+        )
+    } else {
+        &[]
+    }
+}
+
+#[tactic(auto, unfolding(crate::specs::WouldApply::ligatures_fit))]
+fn ligatures_fit(bytes: &[u8], glyphs: &[GlyphId]) -> bool
+    requires some { 0 < length glyphs.now }
+    requires few { length glyphs.now < 65536 }
+    ensures { result ≡ ligatures_fit bytes.now glyphs.now }
+{
+    if u16_at(bytes, 0) != 1 {
+        return false;
+    }
+    match place_of_first(bytes, glyphs) {
+        Some(place) => has_ligature(rule_set(bytes, 4, place), glyphs),
+        None => false,
+    }
+}
+
+// Whether a ligature of a set is made of exactly these glyphs.
+fn has_ligature(set: &[u8], glyphs: &[GlyphId]) -> bool
+    requires { length glyphs.now < 65536 }
+    ensures { result ≡ has_ligature glyphs.now set.now }
+{
+    for i in 0..u16_at(set, 0) {
+        if ligature_fits(set, glyphs, i) {
+            return true;
+        }
+    }
+    false
+}
+
+#[tactic(auto, unfolding(crate::specs::WouldApply::ligature_fits, opentype_layout::specs::Pattern::fits))]
+fn ligature_fits(set: &[u8], glyphs: &[GlyphId], i: u16) -> bool
+    requires { length glyphs.now < 65536 }
+    ensures { result ≡ ligature_fits set.now glyphs.now i }
+{
+    let ligature = nth(set, i);
+    if usize::from(u16_at(ligature, 2)) != glyphs.len() {
+        return false;
+    }
+    fit_each(&Pattern::Glyphs(part(ligature, 4)), 1, glyphs)
+}
+
+// One of a set's rules or ligatures.
+#[inline]
+fn nth(set: &[u8], i: u16) -> &[u8]
+    ensures { result.now ≡ rule_of_set set.now i }
+{
+    part(set, usize::from(u16_at(set, 2 + usize::from(i) * 2)))
+}
+
+// Whether the glyphs behind the first one are these, or of these classes.
+#[tactic(auto, unfolding(opentype_layout::specs::Pattern::fits))]
+fn fit_numbers(numbers: &[u8], classes: Option<&[u8]>, glyphs: &[GlyphId]) -> bool
+    requires { length glyphs.now < 65536 }
+    ensures { result ≡ fit_numbers numbers.now (option_map (λ c. c.now) classes.entry) glyphs.now }
+{
+    match classes {
+        Some(of) => fit_each(&Pattern::Classes(numbers, of), 1, glyphs),
+        None => fit_each(&Pattern::Glyphs(numbers), 1, glyphs),
+    }
+}
+
+// Contexts.
+#[tactic(auto, unfolding(crate::specs::WouldApply::context_fits))]
+fn context_fits(bytes: &[u8], glyphs: &[GlyphId]) -> bool
+    requires some { 0 < length glyphs.now }
+    requires few { length glyphs.now < 65536 }
+    ensures { result ≡ context_fits bytes.now glyphs.now }
+{
+    let place = place_of_first(bytes, glyphs);
+    match u16_at(bytes, 0) {
+        1 => match place {
+            Some(place) => rules_fit(rule_set(bytes, 4, place), None, glyphs),
+            None => false,
+        },
+        2 if place.is_some() => {
+            let classes = part(bytes, usize::from(u16_at(bytes, 4)));
+            let set = rule_set(bytes, 6, u32::from(class(classes, glyphs[0].0)));
+            rules_fit(set, Some(classes), glyphs)
+        }
+        3 => sets_fit(bytes, glyphs),
+        _ => false,
+    }
+}
+
+// A context by sets.
+#[tactic(auto, unfolding(crate::specs::WouldApply::sets_fit, opentype_layout::specs::Pattern::fits))]
+fn sets_fit(bytes: &[u8], glyphs: &[GlyphId]) -> bool
+    requires { length glyphs.now < 65536 }
+    ensures { result ≡ sets_fit bytes.now glyphs.now }
+{
+    if usize::from(u16_at(bytes, 2)) != glyphs.len() {
+        return false;
+    }
+    fit_each(&Pattern::Sets(part(bytes, 6), bytes), 0, glyphs)
+}
+
+// Whether a rule of a set of contexts has exactly these glyphs.
+fn rules_fit(set: &[u8], classes: Option<&[u8]>, glyphs: &[GlyphId]) -> bool
+    requires { length glyphs.now < 65536 }
+    ensures { result ≡ rules_fit (option_map (λ c. c.now) classes.entry) glyphs.now set.now }
+{
+    for i in 0..u16_at(set, 0) {
+        if rule_fits(set, classes, glyphs, i) {
+            return true;
+        }
+    }
+    false
+}
+
+#[tactic(auto, unfolding(crate::specs::WouldApply::rule_fits))]
+fn rule_fits(set: &[u8], classes: Option<&[u8]>, glyphs: &[GlyphId], i: u16) -> bool
+    requires { length glyphs.now < 65536 }
+    ensures { result ≡ rule_fits set.now (option_map (λ c. c.now) classes.entry) glyphs.now i }
+{
+    let rule = nth(set, i);
+    if usize::from(u16_at(rule, 0)) != glyphs.len() {
+        return false;
+    }
+    fit_numbers(part(rule, 4), classes, glyphs)
+}
+
+// Chained contexts.
+#[tactic(auto, unfolding(crate::specs::WouldApply::chained_fits, opentype_layout::specs::Pattern::fits))]
+fn chained_fits(bytes: &[u8], glyphs: &[GlyphId], zero_context: bool) -> bool
+    requires some { 0 < length glyphs.now }
+    requires few { length glyphs.now < 65536 }
+    ensures { result ≡ chained_fits bytes.now glyphs.now zero_context }
+{
+    let place = place_of_first(bytes, glyphs);
+    match u16_at(bytes, 0) {
+        1 => match place {
+            Some(place) => {
+                chained_rules_fit(rule_set(bytes, 4, place), None, glyphs, zero_context)
+            }
+            None => false,
+        },
+        2 if place.is_some() => {
+            let classes = part(bytes, usize::from(u16_at(bytes, 6)));
+            let set = rule_set(bytes, 10, u32::from(class(classes, glyphs[0].0)));
+            chained_rules_fit(set, Some(classes), glyphs, zero_context)
+        }
+        3 => chained_sets_fit(bytes, glyphs, zero_context),
+        _ => false,
+    }
+}
+
+// Whether a rule of a set of chained contexts has exactly these glyphs.
+fn chained_rules_fit(
+    set: &[u8],
+    classes: Option<&[u8]>,
+    glyphs: &[GlyphId],
+    zero_context: bool,
+) -> bool
+    requires { length glyphs.now < 65536 }
+    ensures { let of = option_map (λ c. c.now) classes.entry in
+        result ≡ chained_rules_fit of glyphs.now zero_context set.now }
+{
+    for i in 0..u16_at(set, 0) {
+        if chained_rule_fits(set, classes, glyphs, zero_context, i) {
+            return true;
+        }
+    }
+    false
+}
+
+// The glyphs before stand first in a rule, then its input without the first glyph, then those behind.
+#[tactic(auto, unfolding(crate::specs::WouldApply::chained_rule_fits))]
+fn chained_rule_fits(
+    set: &[u8],
+    classes: Option<&[u8]>,
+    glyphs: &[GlyphId],
+    zero_context: bool,
+    i: u16,
+) -> bool
+    requires { length glyphs.now < 65536 }
+    ensures { let of = option_map (λ c. c.now) classes.entry in
+        result ≡ chained_rule_fits set.now of glyphs.now zero_context i }
+{
+    let rule = nth(set, i);
+    let before = usize::from(u16_at(rule, 0));
+    let input = 2 + before * 2;
+    let count = usize::from(u16_at(rule, input));
+    let behind = u16_at(rule, input + count * 2);
+    if is_barred(zero_context, before, behind) {
+        return false;
+    }
+    if count != glyphs.len() {
+        return false;
+    }
+    fit_numbers(part(rule, input + 2), classes, glyphs)
+}
+
+// Whether a rule that looks at so many glyphs before its input and behind is barred, since no glyphs
+// around count.
+#[inline]
+fn is_barred(zero_context: bool, before: usize, behind: u16) -> bool
+    ensures { result ≡ is_barred zero_context before behind }
+{
+    zero_context && (before != 0 || behind != 0)
+}
+
+// A chained context by sets.
+#[tactic(auto, unfolding(crate::specs::WouldApply::chained_sets_fit, opentype_layout::specs::Pattern::fits))]
+fn chained_sets_fit(bytes: &[u8], glyphs: &[GlyphId], zero_context: bool) -> bool
+    requires { length glyphs.now < 65536 }
+    ensures { result ≡ chained_sets_fit bytes.now glyphs.now zero_context }
+{
+    let before = usize::from(u16_at(bytes, 2));
+    let input = 4 + before * 2;
+    let count = usize::from(u16_at(bytes, input));
+    let behind = u16_at(bytes, input + 2 + count * 2);
+    if is_barred(zero_context, before, behind) {
+        return false;
+    }
+    if count != glyphs.len() {
+        return false;
+    }
+    fit_each(&Pattern::Sets(part(bytes, input + 2), bytes), 0, glyphs)
+}
