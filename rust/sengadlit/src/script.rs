@@ -1,61 +1,45 @@
-//! Scripts by their codes in ISO 15924.
+//! Scripts by their codes in ISO 15924, the script of a character, and the direction of a script.
 
-use crate::buffer::Script;
+mod names;
+#[cfg(feature = "opentype")]
+mod ranges;
 
-macro_rules! scripts {
-    ($($(#[$about:meta])* $NAME:ident = $code:literal;)*) => {
-        $($(#[$about])* pub const $NAME: Script = Script(*$code);)*
-    };
-}
+pub use names::*;
 
-scripts! {
-    /// Arabic.
-    ARABIC = b"Arab";
-    /// Balinese.
-    BALINESE = b"Bali";
-    /// Bengali.
-    BENGALI = b"Beng";
-    /// Devanagari.
-    DEVANAGARI = b"Deva";
-    /// Gujarati.
-    GUJARATI = b"Gujr";
-    /// Gurmukhi.
-    GURMUKHI = b"Guru";
-    /// Hangul, the script of Korean.
-    HANGUL = b"Hang";
-    /// Hebrew.
-    HEBREW = b"Hebr";
-    /// Kannada.
-    KANNADA = b"Knda";
-    /// Khmer.
-    KHMER = b"Khmr";
-    /// Lao.
-    LAO = b"Laoo";
-    /// Malayalam.
-    MALAYALAM = b"Mlym";
-    /// Mongolian.
-    MONGOLIAN = b"Mong";
-    /// Myanmar.
-    MYANMAR = b"Mymr";
-    /// Oriya, the script of Odia.
-    ORIYA = b"Orya";
-    /// Sinhala.
-    SINHALA = b"Sinh";
-    /// Syriac.
-    SYRIAC = b"Syrc";
-    /// Tamil.
-    TAMIL = b"Taml";
-    /// Telugu.
-    TELUGU = b"Telu";
-    /// Thai.
-    THAI = b"Thai";
-    /// Tibetan.
-    TIBETAN = b"Tibt";
+#[cfg(feature = "opentype")]
+use crate::buffer::{Buffer, Direction, Script};
+#[cfg(feature = "opentype")]
+use crate::ot_shape_prepare::ensure_native_direction;
+
+#[cfg(feature = "opentype")]
+impl Script {
+    /// The script of a character, by Unicode's Scripts.txt; `None` for characters of many scripts, as
+    /// digits and spaces are, and for marks that have the script of the character before them.
+    pub fn of_char(character: char) -> Option<Script> {
+        let number = u32::from(character);
+        let place = ranges::RANGES
+            .partition_point(|(first, ..)| *first <= number)
+            .checked_sub(1)?;
+        let (_, last, code) = ranges::RANGES[place];
+        (number <= last).then_some(Script(code))
+    }
+
+    /// The direction in which the script is written in lines; left to right for a script that is written
+    /// either way. (HarfBuzz's `hb_script_get_horizontal_direction`.)
+    pub fn direction(self) -> Direction {
+        // (a text that runs against its script's direction is turned, and tells which that is)
+        let mut text = Buffer::default();
+        text.set_script(Some(self));
+        text.set_direction(Direction::LeftToRight);
+        ensure_native_direction(&mut text);
+        text.direction()
+    }
 }
 
 #[cfg(test)]
 mod tests {
     use super::*;
+    #[cfg(not(feature = "opentype"))]
     use crate::buffer::Direction;
     use crate::shaper::Shaper;
 
@@ -84,6 +68,60 @@ mod tests {
                 assert_eq!(chosen, Some(shaper), "{script}");
                 assert!(!scripts[..place].contains(script), "{script}");
             }
+        }
+    }
+
+    #[cfg(feature = "opentype")]
+    #[test]
+    fn characters_have_their_scripts() {
+        for (character, script) in [
+            ('A', Some(LATIN)),
+            ('Z', Some(LATIN)),
+            ('[', None),
+            ('1', None),
+            ('\u{0301}', None),
+            ('\u{0627}', Some(ARABIC)),
+            ('\u{05D0}', Some(HEBREW)),
+            ('\u{17D2}', Some(KHMER)),
+            ('\u{AC00}', Some(HANGUL)),
+            ('\u{1F3FB}', None),
+            ('\u{1E900}', Some(ADLAM)),
+            ('\u{323AF}', Some(HAN)),
+            ('\0', None),
+            (char::MAX, None),
+        ] {
+            assert_eq!(Script::of_char(character), script, "{character:?}");
+        }
+    }
+
+    // (the lists of HarfBuzz's hb_script_get_horizontal_direction)
+    #[cfg(feature = "opentype")]
+    #[test]
+    fn scripts_have_their_directions() {
+        for script in [
+            ARABIC,
+            HEBREW,
+            SYRIAC,
+            THAANA,
+            NKO,
+            MANDAIC,
+            ADLAM,
+            HANIFI_ROHINGYA,
+            YEZIDI,
+        ] {
+            assert_eq!(script.direction(), Direction::RightToLeft, "{script}");
+        }
+        for script in [
+            LATIN,
+            KHMER,
+            HANGUL,
+            MONGOLIAN,
+            OLD_HUNGARIAN,
+            OLD_ITALIC,
+            RUNIC,
+            TIFINAGH,
+        ] {
+            assert_eq!(script.direction(), Direction::LeftToRight, "{script}");
         }
     }
 }
