@@ -124,6 +124,8 @@
 //! - `text` (on by default, with `tables`): from a text to its glyphs, in the modules `ot_shape`,
 //!   `ot_shape_prepare`, `ot_shape_normalize` and `ot_shape_position` (43 KB of code on x86-64,
 //!   positions apart).
+//! - `opentype` (on by default, with `text`): font files, and a text shaped in one call, in the module
+//!   `opentype`.
 //!
 //! [`collect_features`]: Shaper::collect_features
 //! [`override_features`]: Shaper::override_features
@@ -174,12 +176,23 @@ mod values;
     clippy::bool_to_int_with_if,
     clippy::cast_possible_truncation,
     clippy::cast_possible_wrap,
+    clippy::comparison_chain,
+    clippy::decimal_bitwise_operands,
     clippy::doc_markdown,
     clippy::elidable_lifetime_names,
     clippy::explicit_iter_loop,
     clippy::inline_always,
+    clippy::large_enum_variant,
     clippy::len_zero,
+    clippy::manual_contains,
+    clippy::manual_find,
+    clippy::manual_map,
+    clippy::manual_range_contains,
     clippy::match_same_arms,
+    clippy::needless_pass_by_value,
+    clippy::needless_range_loop,
+    clippy::option_option,
+    clippy::question_mark,
     clippy::range_plus_one,
     clippy::semicolon_if_nothing_returned,
     clippy::similar_names,
@@ -190,7 +203,21 @@ mod values;
     reason = "the sources' forms: each cast is proved to lose nothing, and tables have a line per case"
 )]
 mod generated {
+    #[cfg(feature = "opentype")]
+    #[allow(dead_code, reason = "readers of fonts say more than shaping asks yet")]
     pub mod opentype_face;
+    #[cfg(feature = "opentype")]
+    #[allow(dead_code, reason = "readers of fonts say more than shaping asks yet")]
+    pub(crate) mod opentype_font;
+    #[cfg(feature = "opentype")]
+    #[allow(dead_code, reason = "readers of fonts say more than shaping asks yet")]
+    pub(crate) mod opentype_gpos;
+    #[cfg(feature = "opentype")]
+    #[allow(dead_code, reason = "readers of fonts say more than shaping asks yet")]
+    pub(crate) mod opentype_gsub;
+    #[cfg(feature = "opentype")]
+    #[allow(dead_code, reason = "readers of fonts say more than shaping asks yet")]
+    pub(crate) mod opentype_layout;
     pub(crate) mod rustybuzz_shapers;
     pub(crate) mod shapers_arabic;
     pub(crate) mod shapers_base;
@@ -231,6 +258,8 @@ pub mod editing;
 pub mod flags;
 pub mod font;
 pub mod map;
+#[cfg(feature = "opentype")]
+pub mod opentype;
 #[cfg(feature = "text")]
 pub mod ot_shape;
 #[cfg(feature = "text")]
@@ -262,10 +291,16 @@ pub use buffer::{
     GlyphProps, LigProps, Script, ShaperError, Span, Tag, UnicodeProps,
 };
 pub use font::{Font, GlyphId, Tables};
+#[cfg(feature = "opentype")]
 #[doc(hidden)]
 pub use generated::opentype_face;
 pub use map::{FeatureMap, Map};
 pub use numbers::UnknownNumber;
+#[cfg(feature = "opentype")]
+pub use opentype::{
+    Face, FaceError, Feature, GlyphBuffer, SerializeFlags, ShapeError, ShapePlan, UnicodeBuffer,
+    shape, shape_with_plan, try_shape, try_shape_with_plan,
+};
 pub use plan::{JoiningType, Pause, Plan, PlanData, Planner, Preprocess, Request};
 pub use shaper::{Shaper, run_pause};
 

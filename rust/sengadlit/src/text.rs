@@ -98,7 +98,15 @@ impl Buffer {
     /// Sets the text before the buffer's, of which the last five characters are kept, and the text
     /// after it, of which the first five are kept.
     pub fn set_contexts(&mut self, before: &str, after: &str) {
+        self.set_context_before(before);
+        self.set_context_after(after);
+    }
+
+    pub(crate) fn set_context_before(&mut self, before: &str) {
         self.set_pre_context(nearest(before.chars().rev(), &mut [' '; 5]));
+    }
+
+    pub(crate) fn set_context_after(&mut self, after: &str) {
         self.set_post_context(nearest(after.chars(), &mut [' '; 5]));
     }
 }

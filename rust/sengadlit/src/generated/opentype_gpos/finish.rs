@@ -1,0 +1,230 @@
+// Generated from crates/opentype_gpos/src/finish.rt by rust/erase; edit the source.
+
+//! What attachments do behind the last lookup.
+
+use crate::generated::opentype_gpos::moved::is_vertical;
+use crate::generated::shapers_buffer::buffer::{
+    Buffer, Direction, GlyphInfo, GlyphPosition, PositionedWalk,
+};
+use crate::support::arrayvec::ArrayVec;
+
+/// An attachment of a glyph to another.
+#[derive(Clone, Copy, Debug, Default, PartialEq, Eq, Hash)]
+pub struct Attachment {
+    /// The place of the glyph.
+    pub at: usize,
+    /// The place of the other one.
+    pub to: usize,
+    /// Whether it is one of a cursive line.
+    pub is_cursive: bool,
+}
+
+#[inline]
+pub(crate) fn is_backward(direction: Direction) -> bool {
+    match direction {
+        Direction::RightToLeft | Direction::BottomToTop => true,
+        Direction::LeftToRight | Direction::TopToBottom | Direction::Invalid => false,
+    }
+}
+
+// The place that a glyph is attached to, by what is kept with its position.
+pub(crate) fn target(var: u32, at: usize, len: usize) -> Option<usize> {
+    let places = (var % 65536) as usize;
+    if places == 0 {
+        return None;
+    }
+    if places < 32768 {
+        return if places < len - at {
+            Some(at + places)
+        } else {
+            None
+        };
+    }
+    let back = 65536 - places;
+    if back <= at { Some(at - back) } else { None }
+}
+
+fn attachment_of(positions: &[GlyphPosition], at: usize) -> Option<Attachment> {
+    let var = positions[at].var;
+    match target(var, at, positions.len()) {
+        Some(to) => Some(Attachment {
+            at,
+            to,
+            is_cursive: var / 65536 % 256 == 2,
+        }),
+        None => None,
+    }
+}
+
+pub(crate) fn let_go(positions: &mut [GlyphPosition], at: usize) {
+    let mut position = positions[at];
+    position.var = position.var / 65536 * 65536;
+    positions[at] = position;
+}
+
+#[inline]
+fn pen_behind(pen: GlyphPosition, position: &GlyphPosition) -> GlyphPosition {
+    GlyphPosition {
+        x_advance: pen.x_advance.saturating_add(position.x_advance),
+        y_advance: pen.y_advance.saturating_add(position.y_advance),
+        ..pen
+    }
+}
+
+// How far the glyphs from a place to another one move the pen.
+fn pen_along(positions: &[GlyphPosition], start: usize, end: usize) -> GlyphPosition {
+    let mut pen = GlyphPosition::ZERO;
+    for i in start..end {
+        pen = pen_behind(pen, &positions[i]);
+    }
+    pen
+}
+
+#[inline]
+fn joined_to(vertical: bool, to: &GlyphPosition, position: GlyphPosition) -> GlyphPosition {
+    if vertical {
+        return GlyphPosition {
+            x_offset: position.x_offset.saturating_add(to.x_offset),
+            ..position
+        };
+    }
+    GlyphPosition {
+        y_offset: position.y_offset.saturating_add(to.y_offset),
+        ..position
+    }
+}
+
+#[inline]
+fn hung_on(
+    backward: bool,
+    pen: &GlyphPosition,
+    to: &GlyphPosition,
+    position: GlyphPosition,
+) -> GlyphPosition {
+    let x = position.x_offset.saturating_add(to.x_offset);
+    let y = position.y_offset.saturating_add(to.y_offset);
+    if backward {
+        return GlyphPosition {
+            x_offset: x.saturating_add(pen.x_advance),
+            y_offset: y.saturating_add(pen.y_advance),
+            ..position
+        };
+    }
+    GlyphPosition {
+        x_offset: x.saturating_sub(pen.x_advance),
+        y_offset: y.saturating_sub(pen.y_advance),
+        ..position
+    }
+}
+
+fn pen_between(backward: bool, positions: &[GlyphPosition], link: &Attachment) -> GlyphPosition {
+    if backward {
+        pen_along(positions, link.to + 1, link.at + 1)
+    } else {
+        pen_along(positions, link.to, link.at)
+    }
+}
+
+// A glyph's position where it is attached.
+#[inline]
+fn placed(direction: Direction, link: &Attachment, positions: &[GlyphPosition]) -> GlyphPosition {
+    let (to, position) = (&positions[link.to], positions[link.at]);
+    if link.is_cursive {
+        return joined_to(is_vertical(direction), to, position);
+    }
+    let backward = is_backward(direction);
+    hung_on(
+        backward,
+        &pen_between(backward, positions, link),
+        to,
+        position,
+    )
+}
+
+// Moves a glyph with the one that it is attached to.
+fn place_on(direction: Direction, link: &Attachment, positions: &mut [GlyphPosition]) {
+    if link.at >= positions.len() || link.to >= positions.len() {
+        return;
+    }
+    positions[link.at] = placed(direction, link, positions);
+}
+
+// The attachments in a row from a glyph on. The glyphs aren't attached any longer.
+fn climb(start: usize, positions: &mut [GlyphPosition]) -> ArrayVec<Attachment, 64> {
+    let mut links = ArrayVec::new();
+    let mut at = start;
+    for _ in 0_usize..64 {
+        let found = attachment_of(positions, at);
+        let_go(positions, at);
+        match found {
+            Some(link) => {
+                links.push(link);
+                at = link.to;
+            }
+            None => return links,
+        }
+    }
+    let_go(positions, at);
+    links
+}
+
+// Moves the glyphs of these attachments, the last one first.
+fn settle(direction: Direction, links: &[Attachment], positions: &mut [GlyphPosition]) {
+    for i in 0..links.len() {
+        let link = links[links.len() - 1 - i];
+        place_on(direction, &link, positions);
+    }
+}
+
+// Moves a glyph with those that it hangs on.
+fn follow(direction: Direction, at: usize, positions: &mut [GlyphPosition]) {
+    let links = climb(at, positions);
+    settle(direction, links.as_slice(), positions);
+}
+
+#[inline]
+fn drawn_place(backward: bool, len: usize, i: usize) -> usize {
+    if backward { len - 1 - i } else { i }
+}
+
+// Moves each glyph that is attached to another.
+fn finish(direction: Direction, positions: &mut [GlyphPosition]) {
+    let backward = is_backward(direction);
+    for i in 0..positions.len() {
+        let at = drawn_place(backward, positions.len(), i);
+        follow(direction, at, positions);
+    }
+}
+
+// The walk over positions that does so.
+struct Finishing {
+    direction: Direction,
+}
+
+impl PositionedWalk for Finishing {
+    fn walk(&self, _glyphs: &mut [GlyphInfo], positions: &mut [GlyphPosition]) {
+        finish(self.direction, positions);
+    }
+}
+
+/// Moves each glyph that lookups attached to another one with that, behind the last lookup of GPOS; of
+/// attachments in a row 64 are followed. Offsets that pass 32 bits stop at their bound.
+///
+/// <details><summary>Contract</summary>
+///
+/// # Contract
+///
+/// ```text
+/// requires { length buffer.old.positions ≡ length buffer.old.glyphs }
+/// ensures { buffer.new ≡ finished buffer.old }
+/// ```
+///
+/// - `finished`: `crates/opentype_gpos/specs/Finished.antt`
+///
+/// </details>
+pub fn finish_positions(buffer: &mut Buffer) {
+    let finishing = Finishing {
+        direction: buffer.direction(),
+    };
+    buffer.walk_positioned(&finishing);
+}

@@ -1,0 +1,18 @@
+// Generated from crates/opentype_gpos/src/lib.rt by rust/erase; edit the source.
+
+//! The lookups of GPOS: values of glyphs and of pairs, cursive lines, and marks upon bases, ligatures and
+//! other marks, along a text, and what attachments do behind the last lookup. What is applied, and in what
+//! way, is as in HarfBuzz; positions are in font units.
+//!
+//! Device tables and variations of values and anchors read as none, and so do a glyph's contour points.
+//! Offsets and advances that pass 32 bits stop at their bound. A mark more than 32,768 glyphs behind the one
+//! that it would be attached to isn't attached, and of attachments in a row 64 are followed.
+
+pub mod anchors;
+pub mod finish;
+pub mod joins;
+pub mod moved;
+pub mod moves;
+pub mod nearby;
+pub mod values;
+pub mod walk;

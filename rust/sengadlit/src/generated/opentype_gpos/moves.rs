@@ -1,0 +1,328 @@
+// Generated from crates/opentype_gpos/src/moves.rt by rust/erase; edit the source.
+
+//! What subtables do at a place of a text.
+
+use crate::support::prelude::*;
+
+use crate::generated::opentype_face::bytes::{part, u16_at};
+use crate::generated::opentype_face::glyph_sets::coverage;
+use crate::generated::opentype_face::lookup::{subtable, subtable_count, subtable_type};
+use crate::generated::opentype_gpos::anchors::{Point, joint_of, ligature_points, points};
+use crate::generated::opentype_gpos::nearby::{
+    are_beside, base_glyph, glyph_before_mark, is_mark_glyph, ligature_number, next_glyph, number,
+    previous_glyph,
+};
+use crate::generated::opentype_gpos::values::{Value, pair, single, size, value_at};
+use crate::generated::opentype_layout::sight::Sight;
+use crate::generated::shapers_buffer::buffer::GlyphInfo;
+
+/// What a lookup does at a place of a text.
+#[derive(Clone, Copy, Debug, PartialEq, Eq, Hash)]
+pub enum Move {
+    /// A value is added to the glyph's position.
+    Adds(Value),
+    /// Values are added to two positions.
+    Kerns(PairMove),
+    /// The glyph comes upon another one.
+    Attaches(MarkMove),
+    /// The glyph joins the one before it in a cursive line.
+    Joins(CursiveMove),
+}
+
+/// Values for a pair of glyphs.
+#[derive(Clone, Copy, Debug, PartialEq, Eq, Hash)]
+pub struct PairMove {
+    /// The place of the second glyph.
+    pub second: usize,
+    /// What is added to the first one's position.
+    pub first_value: Value,
+    /// What is added to the second one's.
+    pub second_value: Value,
+    /// Whether the second one has values of its own, so that it begins no pair.
+    pub has_second: bool,
+}
+
+/// A mark upon another glyph.
+#[derive(Clone, Copy, Debug, PartialEq, Eq, Hash)]
+pub struct MarkMove {
+    /// The place of the other glyph.
+    pub to: usize,
+    /// How far right of the other's origin the mark's is.
+    pub x: i32,
+    /// How far above it.
+    pub y: i32,
+}
+
+/// A glyph that joins the one before it.
+#[derive(Clone, Copy, Debug, PartialEq, Eq, Hash)]
+pub struct CursiveMove {
+    /// The place of the glyph before it.
+    pub before: usize,
+    /// The point where that is left.
+    pub exit: Point,
+    /// The point where the glyph is entered.
+    pub entry: Point,
+    /// Whether the last glyph of a line stays where it is, and not the first one.
+    pub from_end: bool,
+}
+
+fn single_of(bytes: &[u8], glyphs: &[GlyphInfo], at: usize) -> Option<Move> {
+    match single(bytes, number(&glyphs[at])) {
+        Some(place) => Some(Move::Adds(value_at(
+            part(bytes, place),
+            0,
+            u16_at(bytes, 4),
+        ))),
+        None => None,
+    }
+}
+
+#[inline]
+fn values_of(bytes: &[u8], second: usize, place: usize) -> Move {
+    let (format, second_format) = (u16_at(bytes, 4), u16_at(bytes, 6));
+    let values = part(bytes, place);
+    Move::Kerns(PairMove {
+        second,
+        first_value: value_at(values, 0, format),
+        second_value: value_at(values, usize::from(size(format)), second_format),
+        has_second: second_format != 0,
+    })
+}
+
+fn pair_of(bytes: &[u8], glyphs: &[GlyphInfo], at: usize, second: usize) -> Option<Move> {
+    match pair(bytes, number(&glyphs[at]), number(&glyphs[second])) {
+        Some(place) => Some(values_of(bytes, second, place)),
+        None => None,
+    }
+}
+
+// Whether a subtable is for a glyph; its set stands at the same place in each type.
+#[inline]
+fn is_covered(bytes: &[u8], glyph: &GlyphInfo) -> bool {
+    coverage(part(bytes, usize::from(u16_at(bytes, 2))), number(glyph)).is_some()
+}
+
+fn pair_at(
+    gdef: &[u8],
+    sight: &Sight,
+    bytes: &[u8],
+    glyphs: &[GlyphInfo],
+    at: usize,
+) -> Option<Move> {
+    if !is_covered(bytes, &glyphs[at]) {
+        return None;
+    }
+    match next_glyph(gdef, sight, glyphs, at + 1) {
+        Some(second) => pair_of(bytes, glyphs, at, second),
+        None => None,
+    }
+}
+
+fn attached(bytes: &[u8], glyphs: &[GlyphInfo], at: usize, to: usize) -> Option<Move> {
+    match points(bytes, number(&glyphs[at]), number(&glyphs[to])) {
+        Some((point, own)) => Some(attach(to, point, own)),
+        None => None,
+    }
+}
+
+#[inline]
+fn attach(to: usize, point: Point, own: Point) -> Move {
+    Move::Attaches(MarkMove {
+        to,
+        x: point.x.saturating_sub(own.x),
+        y: point.y.saturating_sub(own.y),
+    })
+}
+
+fn mark_to_base(
+    gdef: &[u8],
+    sight: &Sight,
+    bytes: &[u8],
+    glyphs: &[GlyphInfo],
+    at: usize,
+) -> Option<Move> {
+    if !is_covered(bytes, &glyphs[at]) {
+        return None;
+    }
+    let bases = part(bytes, usize::from(u16_at(bytes, 4)));
+    match base_glyph(gdef, sight, false, bases, glyphs, at) {
+        Some(base) => attached(bytes, glyphs, at, base),
+        None => None,
+    }
+}
+
+fn mark_to(bytes: &[u8], glyphs: &[GlyphInfo], at: usize, to: usize) -> Option<Move> {
+    if is_mark_glyph(&glyphs[to]) && are_beside(&glyphs[at], &glyphs[to]) {
+        attached(bytes, glyphs, at, to)
+    } else {
+        None
+    }
+}
+
+fn mark_to_mark(
+    gdef: &[u8],
+    sight: &Sight,
+    bytes: &[u8],
+    glyphs: &[GlyphInfo],
+    at: usize,
+) -> Option<Move> {
+    if !is_covered(bytes, &glyphs[at]) {
+        return None;
+    }
+    match glyph_before_mark(gdef, sight, glyphs, at) {
+        Some(other) => mark_to(bytes, glyphs, at, other),
+        None => None,
+    }
+}
+
+// The component of a ligature that a mark is of; 0 where it is of none.
+fn component_for(mark: &GlyphInfo, ligature: &GlyphInfo) -> u8 {
+    if ligature_number(ligature) != 0 && ligature_number(ligature) == ligature_number(mark) {
+        mark.lig_props.component()
+    } else {
+        0
+    }
+}
+
+fn attached_to_ligature(bytes: &[u8], glyphs: &[GlyphInfo], at: usize, to: usize) -> Option<Move> {
+    let component = u16::from(component_for(&glyphs[at], &glyphs[to]));
+    match ligature_points(bytes, number(&glyphs[at]), number(&glyphs[to]), component) {
+        Some((point, own)) => Some(attach(to, point, own)),
+        None => None,
+    }
+}
+
+fn mark_to_ligature(
+    gdef: &[u8],
+    sight: &Sight,
+    bytes: &[u8],
+    glyphs: &[GlyphInfo],
+    at: usize,
+) -> Option<Move> {
+    if !is_covered(bytes, &glyphs[at]) {
+        return None;
+    }
+    match base_glyph(gdef, sight, true, &[], glyphs, at) {
+        Some(ligature) => attached_to_ligature(bytes, glyphs, at, ligature),
+        None => None,
+    }
+}
+
+fn joined_to(
+    bytes: &[u8],
+    from_end: bool,
+    entry: Point,
+    glyphs: &[GlyphInfo],
+    before: usize,
+) -> Option<Move> {
+    match joint_of(bytes, 2, number(&glyphs[before])) {
+        Some(exit) => Some(Move::Joins(CursiveMove {
+            before,
+            exit,
+            entry,
+            from_end,
+        })),
+        None => None,
+    }
+}
+
+fn joined_from(
+    gdef: &[u8],
+    sight: &Sight,
+    bytes: &[u8],
+    entry: Point,
+    glyphs: &[GlyphInfo],
+    at: usize,
+) -> Option<Move> {
+    match previous_glyph(gdef, sight, glyphs, at) {
+        Some(before) => joined_to(bytes, sight.flag & 1 == 1, entry, glyphs, before),
+        None => None,
+    }
+}
+
+fn cursive(
+    gdef: &[u8],
+    sight: &Sight,
+    bytes: &[u8],
+    glyphs: &[GlyphInfo],
+    at: usize,
+) -> Option<Move> {
+    match joint_of(bytes, 0, number(&glyphs[at])) {
+        Some(entry) => joined_from(gdef, sight, bytes, entry, glyphs, at),
+        None => None,
+    }
+}
+
+// What a subtable of a type does.
+fn move_by(
+    gdef: &[u8],
+    sight: &Sight,
+    kind: u16,
+    bytes: &[u8],
+    glyphs: &[GlyphInfo],
+    at: usize,
+) -> Option<Move> {
+    match kind {
+        1 => single_of(bytes, glyphs, at),
+        2 => pair_at(gdef, sight, bytes, glyphs, at),
+        3 => cursive(gdef, sight, bytes, glyphs, at),
+        4 => mark_to_base(gdef, sight, bytes, glyphs, at),
+        5 => mark_to_ligature(gdef, sight, bytes, glyphs, at),
+        6 => mark_to_mark(gdef, sight, bytes, glyphs, at),
+        _ => None,
+    }
+}
+
+fn nth(
+    gdef: &[u8],
+    sight: &Sight,
+    lookup: &[u8],
+    i: u16,
+    glyphs: &[GlyphInfo],
+    at: usize,
+) -> Option<Move> {
+    let kind = subtable_type(9, lookup, i);
+    move_by(gdef, sight, kind, subtable(9, lookup, i), glyphs, at)
+}
+
+// What the first subtable that fits does.
+fn first_of(
+    gdef: &[u8],
+    sight: &Sight,
+    lookup: &[u8],
+    glyphs: &[GlyphInfo],
+    at: usize,
+) -> Option<Move> {
+    for i in 0..subtable_count(lookup) {
+        let found = nth(gdef, sight, lookup, i, glyphs, at);
+        if found.is_some() {
+            return found;
+        }
+    }
+    None
+}
+
+/// What a lookup does at a place of a text, by its table: what the first of its subtables that fits
+/// does.
+///
+/// <details><summary>Contract</summary>
+///
+/// # Contract
+///
+/// ```text
+/// requires { at < length glyphs.now }
+/// ensures { result ≡ lookup_move gdef.now sight.now lookup.now glyphs.now at }
+/// ```
+///
+/// - `lookup_move`: `crates/opentype_gpos/specs/Moves.antt`
+///
+/// </details>
+pub fn move_of(
+    gdef: &[u8],
+    sight: &Sight,
+    lookup: &[u8],
+    glyphs: &[GlyphInfo],
+    at: usize,
+) -> Option<Move> {
+    first_of(gdef, sight, lookup, glyphs, at)
+}

@@ -1,0 +1,191 @@
+// Generated from crates/opentype_gsub/src/apply.rt by rust/erase; edit the source.
+
+//! What subtables make of a text at a place.
+
+use crate::support::prelude::*;
+
+use crate::generated::opentype_face::bytes::u16_at;
+use crate::generated::opentype_gsub::decided::{alternate, set_of, single};
+use crate::generated::opentype_gsub::edits::{count_of, delete, multiply, replace};
+use crate::generated::opentype_gsub::ligating::ligate;
+use crate::generated::opentype_gsub::matching::{Fitting, first_fitting};
+use crate::generated::opentype_gsub::pass::Pass;
+use crate::generated::opentype_layout::sight::Sight;
+use crate::generated::shapers_buffer::buffer::{BufferClusterLevel, GlyphInfo, ShaperError};
+
+/// Puts the glyphs of a sequence in for one, and returns the place behind them. More than the text
+/// may get aren't put in.
+///
+/// # Errors
+///
+/// [`Memory`].
+///
+/// <details><summary>Contract</summary>
+///
+/// # Contract
+///
+/// ```text
+/// requires here { at < length text.old.items }
+/// ensures { IfOk result (λ next. (sequence_put (setting_of pass.now) at text.old.items sequence.now)
+///     ≡ record { text = text.new.items; next = next }) }
+/// ```
+///
+/// - `sequence_put`: `crates/opentype_gsub/specs/Applied.antt`
+/// - `setting_of`: `crates/opentype_gsub/specs/Setting.antt`
+///
+/// </details>
+///
+/// [`Memory`]: crate::ShaperError::Memory
+pub fn put_sequence(
+    pass: &Pass<'_>,
+    text: &mut Vec<GlyphInfo>,
+    at: usize,
+    sequence: &[u8],
+) -> Result<usize, ShaperError> {
+    let count = count_of(sequence);
+    if count == 0 {
+        delete(pass.level, text, at);
+        return Ok(at);
+    }
+    if count == 1 {
+        replace(pass.gdef, text, at, u16_at(sequence, 2), 0);
+        return Ok(at + 1);
+    }
+    if usize::from(count) - 1 > pass.limit.saturating_sub(text.len()) {
+        return Ok(at + 1);
+    }
+    multiply(pass.gdef, text, at, sequence)?;
+    Ok(at.saturating_add(usize::from(count)))
+}
+
+// The number of a glyph of the text, of two bytes.
+#[inline]
+pub(crate) fn number(text: &[GlyphInfo], at: usize) -> u16 {
+    (text[at].glyph_id % 65536) as u16
+}
+
+fn apply_single(gdef: &[u8], bytes: &[u8], text: &mut Vec<GlyphInfo>, at: usize) -> Option<usize> {
+    match single(bytes, number(text, at)) {
+        Some(to) => {
+            replace(gdef, text, at, to, 0);
+            Some(at + 1)
+        }
+        None => None,
+    }
+}
+
+fn apply_alternate(
+    gdef: &[u8],
+    bytes: &[u8],
+    value: u32,
+    text: &mut Vec<GlyphInfo>,
+    at: usize,
+) -> Option<usize> {
+    match alternate(bytes, number(text, at), value) {
+        Some(to) => {
+            replace(gdef, text, at, to, 0);
+            Some(at + 1)
+        }
+        None => None,
+    }
+}
+
+fn apply_multiple(
+    pass: &Pass<'_>,
+    bytes: &[u8],
+    text: &mut Vec<GlyphInfo>,
+    at: usize,
+) -> Result<Option<usize>, ShaperError> {
+    match set_of(bytes, number(text, at)) {
+        Some(sequence) => Ok(Some(put_sequence(pass, text, at, sequence)?)),
+        None => Ok(None),
+    }
+}
+
+fn apply_ligature(
+    gdef: &[u8],
+    level: BufferClusterLevel,
+    sight: &Sight,
+    bytes: &[u8],
+    text: &mut Vec<GlyphInfo>,
+    at: usize,
+) -> Option<usize> {
+    let set = set_of(bytes, number(text, at))?;
+    match first_fitting(gdef, sight, set, text, at) {
+        Some(fitting) => Some(put_ligature(gdef, level, text, at, &fitting)),
+        None => None,
+    }
+}
+
+// Puts a ligature in.
+fn put_ligature(
+    gdef: &[u8],
+    level: BufferClusterLevel,
+    text: &mut Vec<GlyphInfo>,
+    at: usize,
+    fitting: &Fitting,
+) -> usize {
+    let places = fitting.places.as_slice();
+    if places.is_empty() {
+        replace(gdef, text, at, fitting.glyph, 0);
+        return at + 1;
+    }
+    let last = places[places.len() - 1];
+    ligate(gdef, level, text, at, places, fitting.glyph);
+    (last + 1).saturating_sub(places.len())
+}
+
+// The value of a feature at a glyph; the first alternate stands for one at random.
+fn value(random: bool, sight: &Sight, glyph: &GlyphInfo) -> u32 {
+    let mask = u64::from(sight.mask);
+    let lowest = mask & (4294967296 - mask);
+    let value = u64::from(glyph.mask & sight.mask) / lowest.max(1);
+    if random && value == 255 {
+        return 1;
+    }
+    value as u32
+}
+
+/// What a subtable of a type makes of a text at a place: the place behind it, if it fits.
+///
+/// # Errors
+///
+/// [`Memory`].
+///
+/// <details><summary>Contract</summary>
+///
+/// # Contract
+///
+/// ```text
+/// requires { at < length text.old.items }
+/// ensures { IfOk result (λ next. IsChange (one_put (setting_of pass.now) sight.now kind bytes.now
+///     text.old.items at) text.old.items text.new.items next) }
+/// ```
+///
+/// - `IsChange`, `one_put`: `crates/opentype_gsub/specs/Applied.antt`
+/// - `setting_of`: `crates/opentype_gsub/specs/Setting.antt`
+///
+/// </details>
+///
+/// [`Memory`]: crate::ShaperError::Memory
+pub fn apply_one(
+    pass: &Pass<'_>,
+    sight: &Sight,
+    kind: u16,
+    bytes: &[u8],
+    text: &mut Vec<GlyphInfo>,
+    at: usize,
+) -> Result<Option<usize>, ShaperError> {
+    match kind {
+        1 => Ok(apply_single(pass.gdef, bytes, text, at)),
+        2 => apply_multiple(pass, bytes, text, at),
+        3 => {
+            let value = value(pass.lookup.random, sight, &text[at]);
+            Ok(apply_alternate(pass.gdef, bytes, value, text, at))
+        }
+        4 => Ok(apply_ligature(
+            pass.gdef, pass.level, sight, bytes, text, at,
+        )),
+        _ => Ok(None),
+    }
+}

@@ -1,0 +1,201 @@
+// Generated from crates/opentype_gsub/src/edits.rt by rust/erase; edit the source.
+
+//! What lookups do to glyphs.
+
+use crate::support::prelude::*;
+
+use crate::generated::opentype_face::bytes::u16_at;
+use crate::generated::opentype_face::classes::{glyph_props, has_glyph_classes};
+use crate::generated::shapers_buffer::buffer::{
+    BufferClusterLevel, GlyphInfo, GlyphProps, LigProps, ShaperError, merge_clusters_in,
+};
+
+// The properties of a glyph that is put in.
+#[inline]
+fn props_for(gdef: &[u8], to: u16, guess: u16, old: u16) -> u16 {
+    let props = old | 16;
+    if has_glyph_classes(gdef) {
+        props & 112 | glyph_props(gdef, to)
+    } else if guess == 0 {
+        props
+    } else {
+        props & 112 | guess
+    }
+}
+
+/// A glyph with another number; `guess` is its class where the font has none.
+///
+/// <details><summary>Contract</summary>
+///
+/// # Contract
+///
+/// ```text
+/// ensures { result ≡ replaced gdef.now to guess glyph }
+/// ```
+///
+/// - `replaced`: `crates/opentype_gsub/specs/Edits.antt`
+///
+/// </details>
+#[inline]
+pub fn replacement(gdef: &[u8], to: u16, guess: u16, glyph: GlyphInfo) -> GlyphInfo {
+    let mut new = glyph;
+    new.glyph_id = u32::from(to);
+    new.glyph_props = GlyphProps(props_for(gdef, to, guess, glyph.glyph_props.0));
+    new
+}
+
+/// Puts another glyph in.
+///
+/// <details><summary>Contract</summary>
+///
+/// # Contract
+///
+/// ```text
+/// requires { at < length text.old.items }
+/// ensures { text.new.items ≡
+///     slice_set text.old.items at (replaced gdef.now to guess (glyph_at text.old.items at)) }
+/// ```
+///
+/// - `replaced`: `crates/opentype_gsub/specs/Edits.antt`
+/// - `glyph_at`: `crates/opentype_layout/specs/Text.antt`
+///
+/// </details>
+pub fn replace(gdef: &[u8], text: &mut Vec<GlyphInfo>, at: usize, to: u16, guess: u16) {
+    let glyph = text[at];
+    text[at] = replacement(gdef, to, guess, glyph);
+}
+
+// One of a sequence of glyphs that come in for one.
+#[inline]
+fn part_for(gdef: &[u8], sequence: &[u8], glyph: GlyphInfo, k: u16) -> GlyphInfo {
+    let guess = if glyph.glyph_props.0 & 4 == 0 { 0 } else { 2 };
+    let to = u16_at(sequence, 2 + usize::from(k) * 2);
+    let mut new = replacement(gdef, to, guess, glyph);
+    new.glyph_props = GlyphProps(new.glyph_props.0 | 64);
+    if glyph.lig_props.0 < 32 {
+        new.lig_props = LigProps((k % 16) as u8);
+    }
+    new
+}
+
+/// How many glyphs a sequence has.
+///
+/// <details><summary>Contract</summary>
+///
+/// # Contract
+///
+/// ```text
+/// ensures { result ≡ count_in sequence.now }
+/// ```
+///
+/// - `count_in`: `crates/opentype_gsub/specs/Edits.antt`
+///
+/// </details>
+#[inline]
+pub fn count_of(sequence: &[u8]) -> u16 {
+    u16_at(sequence, 0)
+}
+
+/// Puts the glyphs of a sequence in for one.
+///
+/// # Errors
+///
+/// [`Memory`].
+///
+/// <details><summary>Contract</summary>
+///
+/// # Contract
+///
+/// ```text
+/// requires { at < length text.old.items }
+/// ensures { OnOk result (text.new.items ≡ multiplied gdef.now sequence.now at text.old.items) }
+/// ```
+///
+/// - `multiplied`: `crates/opentype_gsub/specs/Edits.antt`
+///
+/// </details>
+///
+/// [`Memory`]: crate::ShaperError::Memory
+pub fn multiply(
+    gdef: &[u8],
+    text: &mut Vec<GlyphInfo>,
+    at: usize,
+    sequence: &[u8],
+) -> Result<(), ShaperError> {
+    let glyph = text.remove(at);
+    let count = count_of(sequence);
+    for k in (0..count).rev() {
+        let part = part_for(gdef, sequence, glyph, k);
+        text.insert(at, part).map_err(|_| ShaperError::Memory)?;
+    }
+    Ok(())
+}
+
+// Hands the cluster of a glyph that goes on to a neighbour.
+fn hand_on(level: BufferClusterLevel, text: &mut [GlyphInfo], at: usize) {
+    let here = text[at].cluster;
+    if at + 1 < text.len() && text[at + 1].cluster == here {
+        return;
+    }
+    if at == 0 {
+        if at + 1 < text.len() {
+            merge_clusters_in(level, text, at, at + 2);
+        }
+        return;
+    }
+    if here < text[at - 1].cluster {
+        merge_clusters_in(level, text, at - 1, at + 1);
+    }
+}
+
+/// Takes a glyph out, but not its place in the text.
+///
+/// <details><summary>Contract</summary>
+///
+/// # Contract
+///
+/// ```text
+/// requires { at < length text.old.items }
+/// ensures { text.new.items ≡ remove (handed_on level at text.old.items) at }
+/// ```
+///
+/// - `handed_on`: `crates/opentype_gsub/specs/Edits.antt`
+///
+/// </details>
+pub fn delete(level: BufferClusterLevel, text: &mut Vec<GlyphInfo>, at: usize) {
+    hand_on(level, text, at);
+    text.remove(at);
+}
+
+// Takes glyphs out, the last first.
+pub(crate) fn remove_all(text: &mut Vec<GlyphInfo>, places: &[usize]) {
+    for i in (0..places.len()).rev() {
+        let place = places[i];
+        if place < text.len() {
+            text.remove(place);
+        }
+    }
+}
+
+// The last of a place and those behind it.
+#[inline]
+pub(crate) fn last_of(at: usize, places: &[usize]) -> usize {
+    if places.is_empty() {
+        at
+    } else {
+        places[places.len() - 1]
+    }
+}
+
+// Merges the clusters of a stretch by its first place and its last one.
+#[inline]
+pub(crate) fn merge_up_to(
+    level: BufferClusterLevel,
+    text: &mut [GlyphInfo],
+    at: usize,
+    last: usize,
+) {
+    if at < last {
+        merge_clusters_in(level, text, at, last + 1);
+    }
+}

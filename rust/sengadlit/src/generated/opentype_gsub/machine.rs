@@ -1,0 +1,231 @@
+// Generated from crates/opentype_gsub/src/machine.rt by rust/erase; edit the source.
+
+//! Lookups that rules apply, on a stack in the place of a recursion.
+
+use crate::support::prelude::*;
+
+use crate::generated::opentype_face::bytes::u16_at;
+use crate::generated::opentype_face::lookup::{lookup, subtable, subtable_count, subtable_type};
+use crate::generated::opentype_gsub::apply::apply_one;
+use crate::generated::opentype_gsub::pass::{Pass, Sights};
+use crate::generated::opentype_gsub::settling::Rule;
+use crate::generated::opentype_layout::rules::find_rule;
+use crate::generated::shapers_buffer::buffer::{GlyphInfo, ShaperError};
+
+/// How deep lookups may apply lookups.
+const MOST_DEEP: usize = 64;
+
+/// What a lookup came to at a place.
+#[derive(Debug)]
+pub enum Outcome<'a> {
+    /// It doesn't fit.
+    Nothing,
+    /// It is done, up to this place.
+    Done(usize),
+    /// A rule fits.
+    Fits(Rule<'a>),
+}
+
+// What one of a lookup's subtables comes to at a place.
+fn come_by<'a>(
+    pass: &Pass<'_>,
+    sights: &Sights,
+    lookup: &'a [u8],
+    i: u16,
+    text: &mut Vec<GlyphInfo>,
+    at: usize,
+) -> Result<Outcome<'a>, ShaperError> {
+    let kind = subtable_type(7, lookup, i);
+    let bytes = subtable(7, lookup, i);
+    if kind == 5 || kind == 6 {
+        let (input, context) = (&sights.input, &sights.context);
+        return match find_rule(kind == 6, pass.gdef, input, context, bytes, text, at) {
+            Some(matched) => Ok(Outcome::Fits(Rule::begin(matched, text.len()))),
+            None => Ok(Outcome::Nothing),
+        };
+    }
+    match apply_one(pass, &sights.input, kind, bytes, text, at)? {
+        Some(next) => Ok(Outcome::Done(next)),
+        None => Ok(Outcome::Nothing),
+    }
+}
+
+// What the first of a lookup's subtables that fits comes to at a place.
+fn come_among<'a>(
+    pass: &Pass<'_>,
+    sights: &Sights,
+    lookup: &'a [u8],
+    text: &mut Vec<GlyphInfo>,
+    at: usize,
+) -> Result<Outcome<'a>, ShaperError> {
+    for i in 0..subtable_count(lookup) {
+        match come_by(pass, sights, lookup, i, text, at) {
+            Ok(Outcome::Nothing) => {}
+            Ok(Outcome::Done(next)) => return Ok(Outcome::Done(next)),
+            Ok(Outcome::Fits(rule)) => return Ok(Outcome::Fits(rule)),
+            Err(e) => return Err(e),
+        }
+    }
+    Ok(Outcome::Nothing)
+}
+
+// What a lookup sees from the glyph at a place on.
+fn seen_from(pass: &Pass<'_>, lookup: &[u8], glyphs: &[GlyphInfo], at: usize) -> Sights {
+    pass.lookup.sights(pass.gdef, lookup, &glyphs[at])
+}
+
+// What a lookup comes to at a place.
+fn come_to<'a>(
+    pass: &Pass<'_>,
+    lookup: &'a [u8],
+    text: &mut Vec<GlyphInfo>,
+    at: usize,
+) -> Result<Outcome<'a>, ShaperError> {
+    if at >= text.len() {
+        return Ok(Outcome::Nothing);
+    }
+    let seen = seen_from(pass, lookup, text, at);
+    come_among(pass, &seen, lookup, text, at)
+}
+
+// Applies the next lookup of a rule; the rule that fits there, if one does.
+fn call<'a>(
+    pass: &Pass<'a>,
+    text: &mut Vec<GlyphInfo>,
+    rule: &mut Rule<'a>,
+) -> Result<Option<Rule<'a>>, ShaperError> {
+    let record = usize::from(rule.next) * 4;
+    let sequence = usize::from(u16_at(rule.records, record));
+    let called = lookup(pass.gsub, u16_at(rule.records, record + 2));
+    rule.next += 1;
+    if sequence >= rule.places.len() {
+        return Ok(None);
+    }
+    let place = rule.places[sequence];
+    rule.sequence = sequence;
+    rule.before = text.len();
+    match come_to(pass, called, text, place)? {
+        Outcome::Nothing => Ok(None),
+        Outcome::Done(_) => {
+            rule.settle(text.len());
+            Ok(None)
+        }
+        Outcome::Fits(called_rule) => Ok(Some(called_rule)),
+    }
+}
+
+// A rule whose lookups are all applied, below which its caller goes on.
+fn end_rule(
+    len: usize,
+    end: usize,
+    stack: &mut Vec<Rule<'_>>,
+) -> Result<Option<Option<usize>>, ShaperError> {
+    let Some(mut outer) = stack.pop() else {
+        return Ok(Some(Some(end)));
+    };
+    outer.settle(len);
+    stack.push(outer).map_err(|_| ShaperError::Memory)?;
+    Ok(None)
+}
+
+// Puts a rule on its caller, if that isn't too deep.
+fn push_deeper<'a>(stack: &mut Vec<Rule<'a>>, rule: Option<Rule<'a>>) -> Result<(), ShaperError> {
+    if let Some(rule) = rule {
+        if stack.len() < MOST_DEEP {
+            stack.push(rule).map_err(|_| ShaperError::Memory)?;
+        }
+    }
+    Ok(())
+}
+
+// One turn of the machine; where it ends, the place behind what was done.
+fn turn<'a>(
+    pass: &Pass<'a>,
+    text: &mut Vec<GlyphInfo>,
+    stack: &mut Vec<Rule<'a>>,
+) -> Result<Option<Option<usize>>, ShaperError> {
+    let Some(mut rule) = stack.pop() else {
+        return Ok(Some(None));
+    };
+    if rule.next >= rule.count {
+        let ended = end_rule(text.len(), rule.end, stack)?;
+        return Ok(ended);
+    }
+    let inner = call(pass, text, &mut rule)?;
+    stack.push(rule).map_err(|_| ShaperError::Memory)?;
+    push_deeper(stack, inner)?;
+    Ok(None)
+}
+
+/// What a lookup came to at a place, with all that its rules apply.
+#[derive(Clone, Copy, Debug)]
+pub struct Reached {
+    /// The place behind what was done, if it fits.
+    pub end: Option<usize>,
+    /// How many operations are left.
+    pub left: usize,
+}
+
+// The machine, in at most so many turns.
+fn run<'a>(
+    pass: &Pass<'a>,
+    text: &mut Vec<GlyphInfo>,
+    rule: Rule<'a>,
+    operations: usize,
+) -> Result<Reached, ShaperError> {
+    let mut stack = Vec::new(*text.allocator());
+    stack.push(rule).map_err(|_| ShaperError::Memory)?;
+    for done in 0..operations {
+        match turn(pass, text, &mut stack) {
+            Ok(Some(end)) => {
+                let left = operations - (done + 1);
+                return Ok(Reached { end, left });
+            }
+            Ok(None) => {}
+            Err(e) => return Err(e),
+        }
+    }
+    Ok(Reached { end: None, left: 0 })
+}
+
+/// Applies a lookup by its table at a place, and the lookups that its rules apply, in at most so
+/// many operations: each call of a lookup is one, and so is the end of a rule.
+///
+/// # Errors
+///
+/// [`Memory`].
+///
+/// <details><summary>Contract</summary>
+///
+/// # Contract
+///
+/// ```text
+/// ensures { IfOk result (λ r. nested (setting_of pass.now) lookup.now text.old.items at operations
+///     ≡ record { text = text.new.items; end = r.end; left = r.left }) }
+/// ```
+///
+/// - `nested`: `crates/opentype_gsub/specs/Machine.antt`
+/// - `setting_of`: `crates/opentype_gsub/specs/Setting.antt`
+///
+/// </details>
+///
+/// [`Memory`]: crate::ShaperError::Memory
+pub fn apply_nested<'a>(
+    pass: &Pass<'a>,
+    lookup: &'a [u8],
+    text: &mut Vec<GlyphInfo>,
+    at: usize,
+    operations: usize,
+) -> Result<Reached, ShaperError> {
+    match come_to(pass, lookup, text, at)? {
+        Outcome::Nothing => Ok(Reached {
+            end: None,
+            left: operations,
+        }),
+        Outcome::Done(next) => Ok(Reached {
+            end: Some(next),
+            left: operations,
+        }),
+        Outcome::Fits(rule) => run(pass, text, rule, operations),
+    }
+}

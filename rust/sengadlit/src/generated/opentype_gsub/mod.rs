@@ -1,0 +1,16 @@
+// Generated from crates/opentype_gsub/src/lib.rt by rust/erase; edit the source.
+
+//! The lookups of GSUB.
+
+pub mod apply;
+pub mod decided;
+pub mod edits;
+pub mod growth;
+pub mod ligating;
+pub mod machine;
+pub mod matching;
+pub mod pass;
+pub mod reverse;
+pub mod settling;
+pub mod substitute;
+pub mod walk;

@@ -1,0 +1,106 @@
+// Generated from crates/opentype_gsub/src/pass.rt by rust/erase; edit the source.
+
+//! A lookup of GSUB as it is applied to a text, and which glyphs it sees.
+
+use crate::generated::opentype_layout::sight::{Application, Sight, ignores_glyph};
+use crate::generated::shapers_buffer::buffer::{BufferClusterLevel, GlyphInfo};
+
+/// A lookup as a plan applies it.
+#[derive(Clone, Copy, Debug, PartialEq, Eq, Hash)]
+pub struct LookupUse {
+    /// The number of the lookup in GSUB.
+    pub index: u16,
+    /// The lookup applies to a glyph whose mask has one of these bits.
+    pub mask: u32,
+    /// Whether matching passes over zero width non-joiners.
+    pub auto_zwnj: bool,
+    /// Whether matching passes over zero width joiners.
+    pub auto_zwj: bool,
+    /// Whether an alternate is picked at random.
+    pub random: bool,
+    /// Whether a match stays within a syllable.
+    pub per_syllable: bool,
+}
+
+/// What a lookup is applied by.
+#[derive(Clone, Copy, Debug)]
+pub struct Pass<'a> {
+    /// The table GDEF.
+    pub gdef: &'a [u8],
+    /// The table GSUB.
+    pub gsub: &'a [u8],
+    /// The level of the text's clusters.
+    pub level: BufferClusterLevel,
+    /// How many glyphs the text may get.
+    pub limit: usize,
+    /// The lookup of the plan.
+    pub lookup: LookupUse,
+}
+
+/// What the two sides of a rule see.
+#[derive(Clone, Copy, Debug)]
+pub struct Sights {
+    /// What its input sees.
+    pub input: Sight,
+    /// What the glyphs around the input are seen by: each feature counts there, and joiners don't.
+    pub context: Sight,
+}
+
+impl LookupUse {
+    // How its rules look at a text.
+    #[inline]
+    fn application(&self) -> Application {
+        Application {
+            of_gpos: false,
+            mask: self.mask,
+            auto_zwnj: self.auto_zwnj,
+            auto_zwj: self.auto_zwj,
+            per_syllable: self.per_syllable,
+        }
+    }
+
+    /// What a lookup's table sees from a glyph on.
+    ///
+    /// <details><summary>Contract</summary>
+    ///
+    /// # Contract
+    ///
+    /// ```text
+    /// ensures { result ≡ sights_of gdef.now self.now lookup.now glyph.now }
+    /// ```
+    ///
+    /// - `sights_of`: `crates/opentype_gsub/specs/Setting.antt`
+    ///
+    /// </details>
+    #[inline]
+    pub fn sights(&self, gdef: &[u8], lookup: &[u8], glyph: &GlyphInfo) -> Sights {
+        let how = self.application();
+        Sights {
+            input: Sight::of_input(gdef, lookup, &how, glyph.syllable),
+            context: Sight::of_context(gdef, lookup, &how, glyph.syllable),
+        }
+    }
+
+    /// Whether a lookup, of this sight, applies to a glyph: the glyph has a bit of the mask, and isn't
+    /// ignored.
+    ///
+    /// <details><summary>Contract</summary>
+    ///
+    /// # Contract
+    ///
+    /// ```text
+    /// ensures { result ≡ is_seen gdef.now self.now lookup.now glyph.now }
+    /// ```
+    ///
+    /// - `is_seen`: `crates/opentype_gsub/specs/Setting.antt`
+    ///
+    /// </details>
+    #[inline]
+    pub fn sees(&self, gdef: &[u8], lookup: &[u8], glyph: &GlyphInfo) -> bool {
+        if glyph.mask & self.mask == 0 {
+            return false;
+        }
+        let sight = Sight::of_input(gdef, lookup, &self.application(), 0);
+        !ignores_glyph(gdef, sight.flag, sight.set, glyph)
+    }
+}

@@ -1,0 +1,130 @@
+// Generated from crates/opentype_gsub/src/reverse.rt by rust/erase; edit the source.
+
+//! Type 8: one glyph for one by the glyphs around it, from the end of the text to its start.
+
+use crate::support::prelude::*;
+
+use crate::generated::opentype_face::bytes::{part, u16_at};
+use crate::generated::opentype_face::lookup::{subtable, subtable_count, subtable_type};
+use crate::generated::opentype_gsub::apply::number;
+use crate::generated::opentype_gsub::decided::covered;
+use crate::generated::opentype_gsub::edits::replace;
+use crate::generated::opentype_gsub::pass::{Pass, Sights};
+use crate::generated::opentype_layout::pattern::Pattern;
+use crate::generated::opentype_layout::rules::Rule;
+use crate::generated::shapers_buffer::buffer::GlyphInfo;
+
+// The glyphs before and behind the one.
+fn around(bytes: &[u8]) -> Rule<'_> {
+    let before_count = u16_at(bytes, 4);
+    let behind_at = 6 + usize::from(before_count) * 2;
+    Rule {
+        before: Pattern::Sets(part(bytes, 6), bytes),
+        before_count,
+        input: Pattern::Glyphs(&[]),
+        input_count: 1,
+        behind: Pattern::Sets(part(bytes, behind_at + 2), bytes),
+        behind_count: u16_at(bytes, behind_at),
+        records: &[],
+        count: 0,
+    }
+}
+
+// Where the count of the glyphs stands that come in.
+fn place_of_glyphs(bytes: &[u8]) -> usize {
+    let behind_at = 6 + usize::from(u16_at(bytes, 4)) * 2;
+    behind_at + 2 + usize::from(u16_at(bytes, behind_at)) * 2
+}
+
+// One glyph for another, by a subtable of type 8.
+fn reversed(
+    gdef: &[u8],
+    sights: &Sights,
+    bytes: &[u8],
+    glyphs: &[GlyphInfo],
+    at: usize,
+) -> Option<u16> {
+    if u16_at(bytes, 0) != 1 {
+        return None;
+    }
+    let Some(i) = covered(bytes, number(glyphs, at)) else {
+        return None;
+    };
+    let from = place_of_glyphs(bytes);
+    if i >= u32::from(u16_at(bytes, from)) {
+        return None;
+    }
+    let (input, context) = (&sights.input, &sights.context);
+    if around(bytes)
+        .fit(gdef, input, context, glyphs, at)
+        .is_none()
+    {
+        return None;
+    }
+    Some(u16_at(bytes, from + 2 + i as usize * 2))
+}
+
+// One glyph for another, by one of a lookup's subtables.
+fn nth(
+    gdef: &[u8],
+    sights: &Sights,
+    lookup: &[u8],
+    i: u16,
+    glyphs: &[GlyphInfo],
+    at: usize,
+) -> Option<u16> {
+    if subtable_type(7, lookup, i) != 8 {
+        return None;
+    }
+    reversed(gdef, sights, subtable(7, lookup, i), glyphs, at)
+}
+
+// One glyph for another, by the first subtable that fits.
+fn first(
+    gdef: &[u8],
+    sights: &Sights,
+    lookup: &[u8],
+    glyphs: &[GlyphInfo],
+    at: usize,
+) -> Option<u16> {
+    for i in 0..subtable_count(lookup) {
+        let found = nth(gdef, sights, lookup, i, glyphs, at);
+        if found.is_some() {
+            return found;
+        }
+    }
+    None
+}
+
+// What a lookup does at a place.
+fn step_back(pass: &Pass<'_>, lookup: &[u8], text: &mut Vec<GlyphInfo>, at: usize) {
+    let glyph = text[at];
+    if !pass.lookup.sees(pass.gdef, lookup, &glyph) {
+        return;
+    }
+    let sights = pass.lookup.sights(pass.gdef, lookup, &glyph);
+    if let Some(to) = first(pass.gdef, &sights, lookup, text, at) {
+        replace(pass.gdef, text, at, to, 0);
+    }
+}
+
+/// Applies a lookup by its table from the last glyph of a text to its first one.
+///
+/// <details><summary>Contract</summary>
+///
+/// # Contract
+///
+/// ```text
+/// ensures { text.new.items ≡ walked_back (length text.old.items)
+///     (lookup_stepped_back (setting_of pass.now) lookup.now) text.old.items }
+/// ```
+///
+/// - `lookup_stepped_back`, `walked_back`: `crates/opentype_gsub/specs/Reversed.antt`
+/// - `setting_of`: `crates/opentype_gsub/specs/Setting.antt`
+///
+/// </details>
+pub fn walk_back(pass: &Pass<'_>, lookup: &[u8], text: &mut Vec<GlyphInfo>) {
+    for at in (0..text.len()).rev() {
+        step_back(pass, lookup, text, at);
+    }
+}

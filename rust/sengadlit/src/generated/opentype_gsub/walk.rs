@@ -1,0 +1,78 @@
+// Generated from crates/opentype_gsub/src/walk.rt by rust/erase; edit the source.
+
+//! A lookup along a text.
+
+use crate::support::prelude::*;
+
+use crate::generated::opentype_gsub::machine::apply_nested;
+use crate::generated::opentype_gsub::pass::Pass;
+use crate::generated::shapers_buffer::buffer::{GlyphInfo, ShaperError};
+
+/// How far a lookup has come.
+#[derive(Clone, Copy, Debug)]
+struct Progress {
+    // the next place
+    next: usize,
+    // how many operations are left
+    left: usize,
+}
+
+// What a lookup does at a place.
+fn step<'a>(
+    pass: &Pass<'a>,
+    lookup: &'a [u8],
+    text: &mut Vec<GlyphInfo>,
+    at: usize,
+    left: usize,
+) -> Result<Progress, ShaperError> {
+    let next = at + 1;
+    if !pass.lookup.sees(pass.gdef, lookup, &text[at]) {
+        return Ok(Progress { next, left });
+    }
+    let reached = apply_nested(pass, lookup, text, at, left)?;
+    let left = reached.left;
+    match reached.end {
+        Some(next) => Ok(Progress { next, left }),
+        None => Ok(Progress { next, left }),
+    }
+}
+
+/// Applies a lookup by its table along a text, in at most so many steps, and so many operations.
+///
+/// # Errors
+///
+/// [`Memory`].
+///
+/// <details><summary>Contract</summary>
+///
+/// # Contract
+///
+/// ```text
+/// ensures { OnOk result (text.new.items
+///     ≡ lookup_walked steps (lookup_stepped (setting_of pass.now) lookup.now) text.old.items 0 operations) }
+/// ```
+///
+/// - `setting_of`: `crates/opentype_gsub/specs/Setting.antt`
+/// - `lookup_stepped`, `lookup_walked`: `crates/opentype_gsub/specs/Walked.antt`
+///
+/// </details>
+///
+/// [`Memory`]: crate::ShaperError::Memory
+pub fn walk<'a>(
+    pass: &Pass<'a>,
+    lookup: &'a [u8],
+    text: &mut Vec<GlyphInfo>,
+    steps: usize,
+    operations: usize,
+) -> Result<(), ShaperError> {
+    let (mut at, mut left) = (0, operations);
+    for _ in 0..steps {
+        if at >= text.len() {
+            return Ok(());
+        }
+        let progress = step(pass, lookup, text, at, left)?;
+        at = progress.next;
+        left = progress.left;
+    }
+    Ok(())
+}

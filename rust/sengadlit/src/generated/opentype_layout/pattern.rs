@@ -1,0 +1,127 @@
+// Generated from crates/opentype_layout/src/pattern.rt by rust/erase; edit the source.
+
+//! What places of a rule look for, and where they find it.
+
+use crate::generated::opentype_face::bytes::{part, u16_at};
+use crate::generated::opentype_face::glyph_sets::{class, coverage};
+use crate::generated::opentype_layout::sight::{Sight, number};
+use crate::generated::shapers_buffer::buffer::GlyphInfo;
+
+/// What the places of a rule look for, one after another. Its numbers stand at the start of a table.
+#[derive(Clone, Copy, Debug)]
+pub enum Pattern<'a> {
+    /// These glyphs.
+    Glyphs(&'a [u8]),
+    /// Glyphs of these classes, by a table of classes.
+    Classes(&'a [u8], &'a [u8]),
+    /// Glyphs of sets, whose offsets these are, from the start of another table.
+    Sets(&'a [u8], &'a [u8]),
+}
+
+impl<'a> Pattern<'a> {
+    /// Whether a glyph fits a place.
+    ///
+    /// <details><summary>Contract</summary>
+    ///
+    /// # Contract
+    ///
+    /// ```text
+    /// ensures { result ≡ fits self.now k glyph }
+    /// ```
+    ///
+    /// - `fits`: `crates/opentype_layout/specs/Pattern.antt`
+    ///
+    /// </details>
+    #[inline]
+    pub fn fits(&self, k: u16, glyph: u16) -> bool {
+        match *self {
+            Pattern::Glyphs(glyphs) => u16_at(glyphs, usize::from(k) * 2) == glyph,
+            Pattern::Classes(classes, of) => {
+                u16_at(classes, usize::from(k) * 2) == class(of, glyph)
+            }
+            Pattern::Sets(offsets, table) => {
+                let offset = usize::from(u16_at(offsets, usize::from(k) * 2));
+                coverage(part(table, offset), glyph).is_some()
+            }
+        }
+    }
+
+    // What a search for a place makes of the glyph at another.
+    #[inline]
+    fn sees(
+        &self,
+        gdef: &[u8],
+        sight: &Sight,
+        k: u16,
+        glyphs: &[GlyphInfo],
+        i: usize,
+    ) -> Option<bool> {
+        let fits = self.fits(k, number(&glyphs[i]));
+        sight.sees(gdef, fits, &glyphs[i])
+    }
+
+    /// The first glyph from a place on that fits a place of the rule.
+    ///
+    /// <details><summary>Contract</summary>
+    ///
+    /// # Contract
+    ///
+    /// ```text
+    /// ensures value { result ≡ next_in gdef.now sight.now (fits self.now) glyphs.now k from }
+    /// ensures within { IfSome result (λ i. i < length glyphs.now) }
+    /// ```
+    ///
+    /// - `fits`, `next_in`: `crates/opentype_layout/specs/Pattern.antt`
+    ///
+    /// </details>
+    pub fn next(
+        &self,
+        gdef: &[u8],
+        sight: &Sight,
+        k: u16,
+        glyphs: &[GlyphInfo],
+        from: usize,
+    ) -> Option<usize> {
+        for i in from..glyphs.len() {
+            let seen = self.sees(gdef, sight, k, glyphs, i);
+            if let Some(is_found) = seen {
+                return if is_found { Some(i) } else { None };
+            }
+        }
+        None
+    }
+
+    /// The nearest glyph before a place that fits a place of the rule, by how many glyphs stand
+    /// between, of which so many are passed already.
+    ///
+    /// <details><summary>Contract</summary>
+    ///
+    /// # Contract
+    ///
+    /// ```text
+    /// requires { at ≤ length glyphs.now }
+    /// ensures value { result ≡ previous_in gdef.now sight.now (fits self.now) glyphs.now at k from }
+    /// ensures within { IfSome result (λ i. i < at) }
+    /// ```
+    ///
+    /// - `fits`, `previous_in`: `crates/opentype_layout/specs/Pattern.antt`
+    ///
+    /// </details>
+    pub fn previous(
+        &self,
+        gdef: &[u8],
+        sight: &Sight,
+        k: u16,
+        glyphs: &[GlyphInfo],
+        at: usize,
+        from: usize,
+    ) -> Option<usize> {
+        for i in from..at {
+            let seen = self.sees(gdef, sight, k, glyphs, at - 1 - i);
+            if let Some(is_found) = seen {
+                return if is_found { Some(i) } else { None };
+            }
+        }
+        None
+    }
+}

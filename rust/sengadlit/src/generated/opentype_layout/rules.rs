@@ -1,0 +1,386 @@
+// Generated from crates/opentype_layout/src/rules.rt by rust/erase; edit the source.
+
+//! Rules of contexts and of chained contexts: what they look for, and where they fit.
+
+use crate::support::prelude::*;
+
+use crate::generated::opentype_face::bytes::{part, u16_at};
+use crate::generated::opentype_face::glyph_sets::{class, coverage};
+use crate::generated::opentype_layout::input::input_places;
+use crate::generated::opentype_layout::pattern::Pattern;
+use crate::generated::opentype_layout::places::Places;
+use crate::generated::opentype_layout::sight::{Sight, number};
+use crate::generated::shapers_buffer::buffer::GlyphInfo;
+
+/// What a rule looks for, and the records of the lookups that it applies.
+#[derive(Clone, Copy, Debug)]
+pub struct Rule<'a> {
+    /// The glyphs before a place, counted backwards.
+    pub before: Pattern<'a>,
+    /// How many they are.
+    pub before_count: u16,
+    /// The rest of the input, behind the place.
+    pub input: Pattern<'a>,
+    /// How many glyphs the input has with its first one.
+    pub input_count: u16,
+    /// The glyphs behind the input.
+    pub behind: Pattern<'a>,
+    /// How many they are.
+    pub behind_count: u16,
+    /// The records of its lookups, of four bytes each: a place of the input, and a lookup.
+    pub records: &'a [u8],
+    /// How many they are.
+    pub count: u16,
+}
+
+/// A rule that fits.
+#[derive(Debug)]
+pub struct Matched<'a> {
+    /// The records of its lookups, of four bytes each.
+    pub records: &'a [u8],
+    /// How many they are.
+    pub count: u16,
+    /// The places of its input.
+    pub places: Places,
+    /// The place behind its input.
+    pub end: usize,
+    /// The first glyph that it looked at.
+    pub start: usize,
+    /// The place behind the last one.
+    pub stop: usize,
+}
+
+/// The tables that the numbers of a context's rules refer to.
+#[derive(Clone, Copy, Debug)]
+pub struct Tables<'a> {
+    /// Whether the context is a chained one.
+    pub chained: bool,
+    /// Its format.
+    pub format: u16,
+    /// The table of the glyphs before an input.
+    pub before: &'a [u8],
+    /// The table of the input.
+    pub input: &'a [u8],
+    /// The table of the glyphs behind it.
+    pub behind: &'a [u8],
+}
+
+// How many glyphs before a place so many places of a pattern reach over.
+fn look_back(
+    gdef: &[u8],
+    sight: &Sight,
+    pattern: &Pattern<'_>,
+    count: u16,
+    glyphs: &[GlyphInfo],
+    at: usize,
+) -> Option<usize> {
+    let mut from = 0;
+    for k in 0..count {
+        let found = pattern.previous(gdef, sight, k, glyphs, at, from);
+        if let Some(i) = found {
+            from = i + 1;
+        } else {
+            return None;
+        }
+    }
+    Some(from)
+}
+
+// The place behind so many places of a pattern, from a place on.
+fn look_ahead(
+    gdef: &[u8],
+    sight: &Sight,
+    pattern: &Pattern<'_>,
+    count: u16,
+    glyphs: &[GlyphInfo],
+    from: usize,
+) -> Option<usize> {
+    let mut from = from;
+    for k in 0..count {
+        let found = pattern.next(gdef, sight, k, glyphs, from);
+        if let Some(i) = found {
+            from = i + 1;
+        } else {
+            return None;
+        }
+    }
+    Some(from)
+}
+
+// The place behind an input.
+#[inline]
+fn end_of(at: usize, places: &[usize]) -> usize {
+    if places.is_empty() {
+        at.saturating_add(1)
+    } else {
+        places[places.len() - 1].saturating_add(1)
+    }
+}
+
+impl<'a> Rule<'a> {
+    // The rest of a rule whose input is found.
+    fn fit_around(
+        &self,
+        gdef: &[u8],
+        context: &Sight,
+        glyphs: &[GlyphInfo],
+        at: usize,
+        behind: &Places,
+    ) -> Option<Matched<'a>> {
+        let end = end_of(at, behind.as_slice());
+        let stop = look_ahead(gdef, context, &self.behind, self.behind_count, glyphs, end)?;
+        let back = look_back(gdef, context, &self.before, self.before_count, glyphs, at)?;
+        let mut places = Places::new();
+        places.push(at);
+        places.try_extend_from_slice(behind.as_slice()).unwrap();
+        Some(Matched {
+            records: self.records,
+            count: self.count,
+            places,
+            end,
+            start: at.saturating_sub(back),
+            stop,
+        })
+    }
+
+    /// The rule at a place of a text, where it fits: its input by one sight, its context by another.
+    /// A rule of no glyph or of more than 64 fits nowhere.
+    ///
+    /// <details><summary>Contract</summary>
+    ///
+    /// # Contract
+    ///
+    /// ```text
+    /// requires { at < length glyphs.now }
+    /// ensures { option_map (λ it. found it) result
+    ///     ≡ found_at gdef.now input.now context.now glyphs.now at (sought self.now) }
+    /// ```
+    ///
+    /// - `found`, `found_at`, `sought`: `crates/opentype_layout/specs/Rules.antt`
+    ///
+    /// </details>
+    pub fn fit(
+        &self,
+        gdef: &[u8],
+        input: &Sight,
+        context: &Sight,
+        glyphs: &[GlyphInfo],
+        at: usize,
+    ) -> Option<Matched<'a>> {
+        if self.input_count == 0 {
+            return None;
+        }
+        if self.input_count > 64 {
+            return None;
+        }
+        match input_places(gdef, input, &self.input, self.input_count - 1, glyphs, at) {
+            Some(behind) => self.fit_around(gdef, context, glyphs, at, &behind),
+            None => None,
+        }
+    }
+}
+
+// What a list of numbers looks for.
+fn pattern<'a>(format: u16, numbers: &'a [u8], of: &'a [u8]) -> Pattern<'a> {
+    match format {
+        1 => Pattern::Glyphs(numbers),
+        2 => Pattern::Classes(numbers, of),
+        _ => Pattern::Sets(numbers, of),
+    }
+}
+
+fn shift(format: u16) -> usize {
+    if format == 3 { 2 } else { 0 }
+}
+
+impl<'a> Tables<'a> {
+    // A rule of a chained context.
+    fn chained_rule(&self, bytes: &'a [u8]) -> Rule<'a> {
+        let shift = shift(self.format);
+        let before_count = u16_at(bytes, shift);
+        let input_at = shift + 2 + usize::from(before_count) * 2;
+        let input_count = u16_at(bytes, input_at);
+        let behind_at = input_at + shift + usize::from(input_count) * 2;
+        let behind_count = u16_at(bytes, behind_at);
+        let records_at = behind_at + 2 + usize::from(behind_count) * 2;
+        Rule {
+            before: pattern(self.format, part(bytes, shift + 2), self.before),
+            before_count,
+            input: pattern(self.format, part(bytes, input_at + shift + 2), self.input),
+            input_count,
+            behind: pattern(self.format, part(bytes, behind_at + 2), self.behind),
+            behind_count,
+            records: part(bytes, records_at + 2),
+            count: u16_at(bytes, records_at),
+        }
+    }
+
+    // A rule of a context.
+    fn unchained_rule(&self, bytes: &'a [u8]) -> Rule<'a> {
+        let shift = shift(self.format);
+        let input_count = u16_at(bytes, shift);
+        Rule {
+            before: pattern(1, &[], &[]),
+            before_count: 0,
+            input: pattern(self.format, part(bytes, shift + shift + 4), self.input),
+            input_count,
+            behind: pattern(1, &[], &[]),
+            behind_count: 0,
+            records: part(bytes, shift + shift + 2 + usize::from(input_count) * 2),
+            count: u16_at(bytes, shift + 2),
+        }
+    }
+
+    /// The rule that begins with these bytes: a table of a set, or in format 3 the context itself.
+    ///
+    /// <details><summary>Contract</summary>
+    ///
+    /// # Contract
+    ///
+    /// ```text
+    /// ensures { sought result ≡ rule_in (kind self.now) bytes.now }
+    /// ```
+    ///
+    /// - `kind`, `rule_in`, `sought`: `crates/opentype_layout/specs/Rules.antt`
+    ///
+    /// </details>
+    pub fn rule(&self, bytes: &'a [u8]) -> Rule<'a> {
+        if self.chained {
+            self.chained_rule(bytes)
+        } else {
+            self.unchained_rule(bytes)
+        }
+    }
+
+    /// The tables of a context.
+    ///
+    /// <details><summary>Contract</summary>
+    ///
+    /// # Contract
+    ///
+    /// ```text
+    /// ensures { kind result ≡ kind_in chained bytes.now }
+    /// ```
+    ///
+    /// - `kind`, `kind_in`: `crates/opentype_layout/specs/Rules.antt`
+    ///
+    /// </details>
+    pub fn of(chained: bool, bytes: &'a [u8]) -> Self {
+        match u16_at(bytes, 0) {
+            3 => Tables {
+                chained,
+                format: 3,
+                before: bytes,
+                input: bytes,
+                behind: bytes,
+            },
+            2 if chained => Tables {
+                chained: true,
+                format: 2,
+                before: part(bytes, usize::from(u16_at(bytes, 4))),
+                input: part(bytes, usize::from(u16_at(bytes, 6))),
+                behind: part(bytes, usize::from(u16_at(bytes, 8))),
+            },
+            2 => Tables {
+                chained: false,
+                format: 2,
+                before: &[],
+                input: part(bytes, usize::from(u16_at(bytes, 4))),
+                behind: &[],
+            },
+            _ => Tables {
+                chained,
+                format: 1,
+                before: &[],
+                input: &[],
+                behind: &[],
+            },
+        }
+    }
+
+    // The first rule of a set that fits.
+    fn first_rule(
+        &self,
+        gdef: &[u8],
+        input: &Sight,
+        context: &Sight,
+        set: &'a [u8],
+        glyphs: &[GlyphInfo],
+        at: usize,
+    ) -> Option<Matched<'a>> {
+        for i in 0..u16_at(set, 0) {
+            let rule = self.rule(part(set, usize::from(u16_at(set, 2 + usize::from(i) * 2))));
+            let found = rule.fit(gdef, input, context, glyphs, at);
+            if found.is_some() {
+                return found;
+            }
+        }
+        None
+    }
+}
+
+// A set of rules of a context, by its number.
+pub(crate) fn rule_set(bytes: &[u8], at: usize, i: u32) -> &[u8] {
+    if i >= u32::from(u16_at(bytes, at)) {
+        return &[];
+    }
+    part(bytes, usize::from(u16_at(bytes, at + 2 + i as usize * 2)))
+}
+
+pub(crate) fn place_of_sets(chained: bool) -> usize {
+    if chained { 10 } else { 6 }
+}
+
+// Where the offset of the set of format 3's first glyph stands.
+pub(crate) fn place_of_first(chained: bool, bytes: &[u8]) -> usize {
+    if chained {
+        usize::from(u16_at(bytes, 2)) * 2 + 6
+    } else {
+        6
+    }
+}
+
+/// The first rule of a context that fits a place of a text: its input by one sight, its context by
+/// another.
+///
+/// <details><summary>Contract</summary>
+///
+/// # Contract
+///
+/// ```text
+/// requires { at < length glyphs.now }
+/// ensures { option_map (λ it. found it) result
+///     ≡ context_in chained gdef.now input.now context.now bytes.now glyphs.now at }
+/// ```
+///
+/// - `context_in`, `found`: `crates/opentype_layout/specs/Rules.antt`
+///
+/// </details>
+pub fn find_rule<'a>(
+    chained: bool,
+    gdef: &[u8],
+    input: &Sight,
+    context: &Sight,
+    bytes: &'a [u8],
+    glyphs: &[GlyphInfo],
+    at: usize,
+) -> Option<Matched<'a>> {
+    let glyph = number(&glyphs[at]);
+    let tables = Tables::of(chained, bytes);
+    let format = u16_at(bytes, 0);
+    if format == 3 {
+        let set = u16_at(bytes, place_of_first(chained, bytes));
+        coverage(part(bytes, usize::from(set)), glyph)?;
+        return tables.rule(bytes).fit(gdef, input, context, glyphs, at);
+    }
+    let covered = coverage(part(bytes, usize::from(u16_at(bytes, 2))), glyph);
+    let set = match (format, covered) {
+        (1, Some(number)) => rule_set(bytes, 4, number),
+        (2, Some(_)) => {
+            let number = class(tables.input, glyph);
+            rule_set(bytes, place_of_sets(chained), u32::from(number))
+        }
+        _ => return None,
+    };
+    tables.first_rule(gdef, input, context, set, glyphs, at)
+}

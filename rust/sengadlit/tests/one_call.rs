@@ -1,0 +1,204 @@
+//! A font's bytes and a text to positioned glyphs in one call, by a small font that is written out here:
+//! its glyphs are .notdef, A, B, C and a ligature of A and B, with kerning between that and C.
+#![cfg(feature = "opentype")]
+
+use sengadlit::{
+    Direction, Face, FaceError, Feature, SerializeFlags, ShapePlan, UnicodeBuffer, script, shape,
+    shape_with_plan, try_shape,
+};
+
+/// Numbers of two bytes.
+fn words(numbers: &[u16]) -> Vec<u8> {
+    numbers
+        .iter()
+        .flat_map(|number| number.to_be_bytes())
+        .collect()
+}
+
+/// A table of lookups with one script, `DFLT`, one feature and one lookup of one subtable.
+fn layout(feature: [u8; 4], kind: u16, subtable: &[u8]) -> Vec<u8> {
+    let mut table = words(&[1, 0, 10, 30, 44]);
+    // scripts: DFLT, whose default language has feature 0
+    table.extend(words(&[1]));
+    table.extend(b"DFLT");
+    table.extend(words(&[8, 4, 0, 0, 0xFFFF, 1, 0]));
+    // features: one, with lookup 0
+    table.extend(words(&[1]));
+    table.extend(feature);
+    table.extend(words(&[8, 0, 1, 0]));
+    // lookups
+    table.extend(words(&[1, 4, kind, 0, 1, 8]));
+    table.extend(subtable);
+    table
+}
+
+fn font() -> Vec<u8> {
+    let mut head = vec![0; 54];
+    head[18..20].copy_from_slice(&1000_u16.to_be_bytes());
+    let mut hhea = vec![0; 36];
+    hhea[34..].copy_from_slice(&5_u16.to_be_bytes());
+    let cmap = [
+        words(&[0, 1, 3, 10, 0, 12]),
+        words(&[12, 0, 0, 28, 0, 0, 0, 1, 0, 0x41, 0, 0x43, 0, 1]),
+    ];
+    // format 1, its glyphs begin with A; the ligature 4 of A and B
+    let ligatures = words(&[1, 8, 1, 14, 1, 1, 1, 1, 4, 4, 2, 2]);
+    // format 1 of pairs: the ligature and C stand 50 units nearer
+    let kerning = words(&[1, 12, 4, 0, 1, 18, 1, 1, 4, 1, 3, 0xFFCE]);
+    let tables = [
+        (*b"GPOS", layout(*b"kern", 2, &kerning)),
+        (*b"GSUB", layout(*b"liga", 4, &ligatures)),
+        (*b"cmap", cmap.concat()),
+        (*b"head", head),
+        (*b"hhea", hhea),
+        (*b"hmtx", words(&[500, 0, 600, 0, 650, 0, 700, 0, 1100, 0])),
+        (*b"maxp", words(&[0, 0x5000, 5])),
+    ];
+    let mut directory = words(&[1, 0, 7, 0, 0, 0]);
+    let mut bytes = vec![];
+    for (tag, table) in tables {
+        let offset = 12 + 16 * 7 + bytes.len();
+        directory.extend(tag);
+        for number in [0, offset, table.len()] {
+            directory.extend(u32::try_from(number).unwrap().to_be_bytes());
+        }
+        bytes.extend(table);
+        bytes.resize(bytes.len().next_multiple_of(4), 0);
+    }
+    directory.extend(bytes);
+    directory
+}
+
+/// The glyphs of a text in the font, with these features.
+fn shaped(text: &str, features: &[&str]) -> String {
+    let data = font();
+    let face = Face::parse(&data, 0).unwrap();
+    let features: Vec<Feature> = features
+        .iter()
+        .map(|feature| feature.parse().unwrap())
+        .collect();
+    let mut buffer = UnicodeBuffer::new();
+    buffer.push_str(text);
+    shape(&face, &features, buffer).serialize(&face, SerializeFlags::default())
+}
+
+#[test]
+fn letters_ligate_and_kern() {
+    assert_eq!(shaped("ABC", &[]), "[gid4=0+1050|gid3=2+700]");
+    assert_eq!(shaped("AC", &[]), "[gid1=0+600|gid3=1+700]");
+    assert_eq!(shaped("", &[]), "[]");
+}
+
+#[test]
+fn features_are_turned_off_and_in_ranges() {
+    assert_eq!(
+        shaped("ABC", &["-liga"]),
+        "[gid1=0+600|gid2=1+650|gid3=2+700]"
+    );
+    assert_eq!(shaped("ABC", &["kern=0"]), "[gid4=0+1100|gid3=2+700]");
+    assert_eq!(
+        shaped("ABAB", &["-liga[0:2]"]),
+        "[gid1=0+600|gid2=1+650|gid4=2+1100]"
+    );
+}
+
+#[test]
+fn hebrew_runs_from_the_right() {
+    // (the font has no letter of it)
+    assert_eq!(shaped("\u{05D0}\u{05D1}", &[]), "[gid0=2+500|gid0=0+500]");
+}
+
+#[test]
+fn what_is_printed() {
+    let data = font();
+    let face = Face::parse(&data, 0).unwrap();
+    let mut buffer = UnicodeBuffer::new();
+    buffer.push_str("ABC");
+    let glyphs = shape(&face, &[], buffer);
+    let print = |flags| glyphs.serialize(&face, flags);
+    assert_eq!(print(SerializeFlags::NO_GLYPH_NAMES), "[4=0+1050|3=2+700]");
+    assert_eq!(print(SerializeFlags::NO_CLUSTERS), "[gid4+1050|gid3+700]");
+    assert_eq!(print(SerializeFlags::NO_POSITIONS), "[gid4=0|gid3=2]");
+    assert_eq!(print(SerializeFlags::NO_ADVANCES), "[gid4=0|gid3=2@1050,0]");
+    let names_alone = SerializeFlags::NO_CLUSTERS | SerializeFlags::NO_POSITIONS;
+    assert_eq!(print(names_alone), "[gid4|gid3]");
+    // (a text may not be broken within a pair that is kerned)
+    assert_eq!(
+        print(SerializeFlags::GLYPH_FLAGS),
+        "[gid4=0+1050|gid3=2+700#1]"
+    );
+}
+
+#[test]
+fn a_plan_and_a_buffer_serve_many_texts() {
+    let data = font();
+    let face = Face::parse(&data, 0).unwrap();
+    let plan = ShapePlan::new(&face, Direction::LeftToRight, Some(script::LATIN), &[]);
+    let mut buffer = UnicodeBuffer::new();
+    for _ in 0..3 {
+        buffer.push_str("AB");
+        let glyphs = shape_with_plan(&face, &plan, buffer);
+        assert!(glyphs.is_complete());
+        assert_eq!((glyphs.len(), glyphs.glyph_infos()[0].glyph_id), (1, 4));
+        assert_eq!(glyphs.glyph_positions()[0].x_advance, 1100);
+        buffer = glyphs.clear();
+        assert!(buffer.is_empty() && buffer.script().is_none());
+        assert_eq!(buffer.direction(), Direction::Invalid);
+    }
+}
+
+#[test]
+fn properties_are_guessed() {
+    let mut buffer = UnicodeBuffer::new();
+    buffer.push_str("1 \u{0627}A");
+    buffer.guess_segment_properties();
+    assert_eq!(buffer.script(), Some(script::ARABIC));
+    assert_eq!(buffer.direction(), Direction::RightToLeft);
+    buffer.clear();
+    buffer.push_str("12");
+    buffer.guess_segment_properties();
+    assert_eq!(
+        (buffer.script(), buffer.direction()),
+        (None, Direction::LeftToRight)
+    );
+    // what is set stays
+    buffer.clear();
+    buffer.set_direction(Direction::TopToBottom);
+    buffer.add('\u{0627}', 7);
+    buffer.guess_segment_properties();
+    assert_eq!(buffer.direction(), Direction::TopToBottom);
+}
+
+#[test]
+fn what_is_no_font() {
+    assert_eq!(Face::parse(b"", 0).unwrap_err(), FaceError::UnknownMagic);
+    assert_eq!(
+        Face::parse(&font(), 1).unwrap_err(),
+        FaceError::IndexOutOfRange
+    );
+    assert!(Face::from_slice(b"no font", 0).is_none());
+    assert_eq!(FaceError::UnknownMagic.to_string(), "the file is no font");
+    let data = font();
+    let face = Face::from_slice(&data, 0).unwrap();
+    assert_eq!((face.units_per_em(), face.glyph_count()), (1000, 5));
+    assert_eq!(face.glyph_name(1), None);
+}
+
+#[test]
+fn spoilt_fonts_shape() {
+    // each byte of the font set to each of four values: something is shaped, or it is no font
+    let data = font();
+    for place in 0..data.len() {
+        for value in [0, 1, 0x7F, 0xFF] {
+            let mut spoilt = data.clone();
+            spoilt[place] = value;
+            let Ok(face) = Face::parse(&spoilt, 0) else {
+                continue;
+            };
+            let mut buffer = UnicodeBuffer::new();
+            buffer.push_str("ABCABAC");
+            let glyphs = try_shape(&face, &[], buffer).unwrap();
+            assert!(glyphs.len() <= 65_536);
+        }
+    }
+}
