@@ -139,14 +139,14 @@ END
 }
 
 # What `both` builds with: each package of its lock that is in the registry.
-locked() {
+locked_packages() {
     sed -n '/^name = /{N;s/name = "\(.*\)"\nversion = "\(.*\)"/\1-\2/p}' "$made/both/Cargo.lock"
 }
 
 # The greatest rustc that a package of these needs.
 wanted_rustc() {
     {
-        locked | while read -r name; do
+        locked_packages | while read -r name; do
             [ ! -f "$registry/$name/Cargo.toml" ] || sed -n 's/^rust-version = "\(.*\)"/\1/p' "$registry/$name/Cargo.toml"
         done
         sed -n 's/^rust-version = "\(.*\)"/\1/p' "$made/sengadlit/Cargo.toml" "$top/rust/sengadlit/Cargo.toml"
