@@ -658,10 +658,11 @@ version = "0.0.0"
 edition = "2024"
 
 [features]
-default = ["std", "tables", "text"]
+default = ["std", "tables", "text", "opentype"]
 std = []
 tables = []
 text = ["tables"]
+opentype = ["text"]
 
 [dependencies]
 twice = {{ path = "../twice" }}
