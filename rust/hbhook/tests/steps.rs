@@ -122,11 +122,11 @@ fn characters_of_examples_in_any_order() {
 }
 
 // 1,000 words of each script, real ones first, as bindings/hooks/texts writes them: checks/harfrust names
-// their folder by SENGADLIT_TEXTS. Without that the test compares nothing.
+// their folder by SENGADLIT_WORDS. Without that the test compares nothing.
 #[test]
 fn words_of_each_script() {
     const MOST: usize = 1000;
-    let Some(folder) = env::var_os("SENGADLIT_TEXTS").map(PathBuf::from) else {
+    let Some(folder) = env::var_os("SENGADLIT_WORDS").map(PathBuf::from) else {
         return;
     };
     let scripts = fs::read_to_string(folder.join("scripts")).unwrap();
