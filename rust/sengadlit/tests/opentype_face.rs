@@ -1,4 +1,5 @@
 //! Two small fonts, written out table by table, and what OpenType's specification says of them.
+#![cfg(feature = "opentype")]
 
 use sengadlit::opentype_face::characters::Encoding;
 use sengadlit::opentype_face::classes::{glyph_props, is_in_mark_set};
