@@ -2,10 +2,10 @@
 //! Lao, and the universal shaper.
 //!
 //! They are the hooks of rustybuzz's shapers, which rewrite a buffer of glyphs between Unicode text
-//! and a font's lookups. What is around them is the caller's: the font, lookups and positioning.
-//! Beside the hooks, [`spans`] finds the syllables that they take, `unicode` has Unicode's tables, and
-//! `ot_shape` takes a text the whole way to the last of a font's lookups. The crate has no
-//! dependencies and no `unsafe`, and needs `alloc` alone.
+//! and a font's lookups. Beside the hooks, [`spans`] finds the syllables that they take, and `unicode`
+//! has Unicode's tables. `ot_shape` takes a text the whole way to positioned glyphs, with a caller's
+//! font and lookups, and `opentype` does so with a font file's. The crate has no dependencies and no
+//! `unsafe`, and needs `alloc` alone.
 //!
 //! It is generated from proved sources, by deleting their contracts, and its functions are called
 //! beside those that were proved, with the same arguments; the contract of each is in its
