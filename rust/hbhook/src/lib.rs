@@ -30,11 +30,10 @@
     reason = "the sources import a trait for methods that the types have of their own in Rust"
 )]
 mod generated {
-    pub(crate) mod hbhook_boxes;
     pub(crate) mod hbhook_commands;
-    pub(crate) mod hbhook_draw;
     pub(crate) mod hbhook_lines;
 }
+mod drawing;
 mod explained;
 mod steps;
 mod support;
@@ -43,8 +42,8 @@ mod way;
 mod whole_font;
 mod word;
 
+pub use drawing::draw_lines;
 pub use explained::{explain_end, without_table};
-pub use generated::hbhook_draw::draw_lines;
 pub use generated::hbhook_lines::{explain_lines, run_lines};
 pub use steps::{Choices, MOST_SHOWN, Step, Steps, drawing_style};
 pub use text::{TextFault, draw_text, print_text};

@@ -110,7 +110,7 @@ impl Task {
             return run_lines(Global, input, io::stdout(), io::stderr());
         }
         let mut told = Vec::new();
-        let status = draw_lines(Global, input, io::stdout(), &mut told);
+        let status = draw_lines(input, io::stdout(), &mut told);
         match io::stderr().write_all(&named(&told)) {
             Ok(()) => status,
             Err(_) => UNREADABLE,

@@ -11,7 +11,7 @@ mod subjects;
 mod told;
 mod walk;
 
-use crate::generated::hbhook_boxes::HEAD;
+use crate::drawing::HEAD;
 use crate::way::{Wanted, Way};
 use crate::word::script_of_word;
 use calls::calls_of;

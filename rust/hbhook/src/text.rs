@@ -1,16 +1,15 @@
 //! A text the whole way up to a font's lookups and through the pauses between them, printed and
 //! drawn.
 
-use crate::generated::hbhook_boxes::{Context, FOOT, HEAD, Line, write_lines, write_text};
-use crate::generated::hbhook_commands::{LineFault, print_buffer};
-use crate::generated::hbhook_lines::Session;
+use crate::drawing::{FOOT, HEAD, Head, Line, Text};
+use crate::generated::hbhook_commands::print_buffer;
 use crate::steps::{Steps, Walk};
 use crate::support::string::String as Page;
 use crate::way::{Wanted, Way};
 use crate::word::{name_of_pause, script_of_word};
 use sengadlit::alloc::{AllocError, Global};
 use sengadlit::ot_shape_plan::ShapeChoices;
-use sengadlit::{Buffer, Script, ShaperError};
+use sengadlit::{Buffer, GlyphInfo, Script, ShaperError};
 use std::fmt;
 
 /// Why a text has no glyphs.
@@ -69,16 +68,13 @@ pub fn print_text(
     choices: ShapeChoices,
 ) -> Result<String, TextFault> {
     let way = way_of(text, script, choices)?;
-    let mut session = Session::new(Global);
-    for line in way.lines(text) {
-        session.carry_out(line.as_bytes()).map_err(refusal_of)?;
+    let mut buffer = Buffer::default();
+    for (cluster, character) in (0..).zip(text.chars()) {
+        buffer.push(GlyphInfo::of_character(character, cluster))?;
     }
-    way.prepare(&mut session.buffer)?;
-    for pause in way.pauses() {
-        way.pause(pause, &mut session.buffer)?;
-    }
+    way.substitute(&mut buffer)?;
     let mut printed = Page::new(Global);
-    print_buffer(&mut printed, &session.buffer)?;
+    print_buffer(&mut printed, &buffer)?;
     Ok(printed.as_str().into())
 }
 
@@ -96,9 +92,10 @@ pub fn draw_text(
     let way = way_of(text, script, choices)?;
     let mut walk = Walk::new();
     walk_text(&way, &mut walk, text).map_err(TextFault::Undrawn)?;
-    let context = context_of(&way)?;
+    let mut around = Buffer::default();
+    around.set_direction(way.direction);
     let steps = walk.finished(Some(way.script.0), None);
-    Ok(page_of(&steps, text, &context)?.as_str().into())
+    Ok(page_of(&steps, &Text::new(text, &around)))
 }
 
 /// The step before the lookups, as the crate calls it, and where docs/DEFINITIONS.md defines it.
@@ -128,46 +125,25 @@ fn walk_text(way: &Way, walk: &mut Walk, text: &str) -> Result<(), String> {
     Ok(())
 }
 
-// What stands around the text: nothing, but the direction counts.
-fn context_of(way: &Way) -> Result<Context, AllocError> {
-    let mut buffer = Buffer::default();
-    buffer.set_direction(way.direction);
-    Context::of(&buffer)
-}
-
-// Lines of a text are refused where it doesn't fit a buffer; they are well-formed.
-fn refusal_of(fault: LineFault) -> ShaperError {
-    match fault {
-        LineFault::Refused(refusal) => refusal,
-        LineFault::Unreadable(_) => ShaperError::TooLong,
-    }
-}
-
 // The page of these steps, of which the first is the text.
-fn page_of(steps: &Steps, text: &str, context: &Context) -> Result<Page, AllocError> {
-    let mut page = Page::from_str(Global, HEAD)?;
+fn page_of(steps: &Steps, text: &Text) -> String {
+    let mut page = String::from(HEAD);
     for (i, step) in steps.steps.iter().enumerate() {
-        for head in &step.heads {
-            write_head(&mut page, i, head)?;
-        }
+        page.extend(step.heads.iter().map(|head| head_of(i, head)));
         if i == 0 && !text.is_empty() {
-            write_text(&mut page, text, context)?;
+            page += &text.to_string();
         }
-        page.push_str(&step.drawn)?;
+        page += &step.drawn;
     }
-    page.push_str(&steps.legend)?;
-    page.push_str(FOOT)?;
-    Ok(page)
+    page + &steps.legend + FOOT
 }
 
-// Writes what a step is: the line of the text, or the name of a call, which needs no escapes.
-fn write_head(page: &mut Page, step: usize, head: &str) -> Result<(), AllocError> {
+// What a step is: the line of the text, or the name of a call, which needs no escapes.
+fn head_of(step: usize, head: &str) -> String {
     if step == 0 {
-        return write_lines(page, &[Line::new(Global, 1, head.as_bytes())?]);
+        return Head(&[Line::new(1, head.as_bytes())]).to_string();
     }
-    page.push_str("<h2><code>")?;
-    page.push_str(head)?;
-    page.push_str("</code></h2>\n")
+    format!("<h2><code>{head}</code></h2>\n")
 }
 
 #[cfg(test)]

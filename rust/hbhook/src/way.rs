@@ -4,7 +4,7 @@
 use crate::whole_font::WholeFont;
 use crate::word::{Planned, line_of_specification, line_of_text, name_of, runs_from_right};
 use sengadlit::alloc::Global;
-use sengadlit::ot_shape::{TextPlan, prepare_text};
+use sengadlit::ot_shape::{SingleLookups, TextPlan, prepare_text, substitute_text};
 use sengadlit::ot_shape_normalize::{NormalizeSettings, Rounds};
 use sengadlit::ot_shape_plan::{ShapeChoices, ShapePlan};
 use sengadlit::shaper::checked::CallError;
@@ -106,11 +106,24 @@ impl Way {
         let prepared = self.font.to_characters(buffer, |buffer| {
             prepare_text(&plan, &self.settings, &self.font, &UnicodeTables, buffer)
         });
-        prepared.map_err(|error| match error {
-            CallError::Refused(refusal) => refusal,
-            // the plan has its shaper's data, and the text is of characters, without positions
-            CallError::Condition(condition) => unreachable!("{condition:?} isn't met"),
-        })
+        prepared.map_err(refusal_of)
+    }
+
+    /// Does all that comes before lookups, and runs the pauses between them; the glyphs are characters
+    /// again behind it.
+    pub(crate) fn substitute(&self, buffer: &mut Buffer) -> Result<(), ShaperError> {
+        let (plan, lookups) = (&self.plan, SingleLookups { singles: &[] });
+        let substituted = self.font.to_characters(buffer, |buffer| {
+            substitute_text(
+                plan,
+                &self.settings,
+                &self.font,
+                &UnicodeTables,
+                &lookups,
+                buffer,
+            )
+        });
+        substituted.map_err(refusal_of)
     }
 
     /// Runs a pause, with the syllables that the shaper's grammar finds.
@@ -122,5 +135,14 @@ impl Way {
             }
             Ok(())
         })
+    }
+}
+
+// The refusal of a call whose conditions are met: the plan has its shaper's data, and the text is of
+// characters, without positions.
+fn refusal_of(error: CallError) -> ShaperError {
+    match error {
+        CallError::Refused(refusal) => refusal,
+        CallError::Condition(condition) => unreachable!("{condition:?} isn't met"),
     }
 }

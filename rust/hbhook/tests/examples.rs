@@ -64,21 +64,23 @@ fn pages_say_what_is_printed() {
     assert_eq!(&shaped.printed, printed);
 }
 
-// The programs that the repository proves have an input of their own, and what they print of it.
+// The program that the repository proves has an input of its own, and what it prints of it. A page
+// was drawn by proved functions before they were written in Rust.
 #[test]
-fn proved_programs_print_the_same() {
-    for (option, program) in [("--explain", "hbhook_why"), ("--draw", "hbhook_page")] {
-        let script = from_top("crates").join(program).join("stdin");
-        let printed = from_top("crates").join(program).join("stdout");
+fn what_was_proved_prints_the_same() {
+    let (proved, page) = (
+        from_top("crates/hbhook"),
+        from_top("rust/hbhook/tests/page"),
+    );
+    for (option, script, printed) in [
+        ("--explain", proved.join("stdin"), proved.join("stdout")),
+        ("--draw", page.join("lines"), page.join("page.html")),
+    ] {
         let expected = Run {
             printed: fs::read_to_string(printed).unwrap(),
             told: String::new(),
             status: Some(0),
         };
-        assert_eq!(
-            Run::new(&[option, script.to_str().unwrap()], ""),
-            expected,
-            "{program}"
-        );
+        assert_eq!(Run::new(&[option, script.to_str().unwrap()], ""), expected);
     }
 }

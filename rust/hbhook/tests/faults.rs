@@ -24,7 +24,7 @@ fn explain(input: &str) -> Carried {
 // The same of a run that draws.
 fn draw(input: &[u8]) -> Carried {
     let (mut page, mut told) = (Vec::new(), Vec::new());
-    let status = draw_lines(Global, input, &mut page, &mut told);
+    let status = draw_lines(input, &mut page, &mut told);
     (status, text(page), text(told))
 }
 
@@ -87,10 +87,7 @@ fn ends_on_broken_streams() {
         run_lines(Global, b"text 41".as_slice(), Broken, &mut told),
         2
     );
-    assert_eq!(
-        draw_lines(Global, b"text 41".as_slice(), Broken, &mut told),
-        2
-    );
+    assert_eq!(draw_lines(b"text 41".as_slice(), Broken, &mut told), 2);
     assert!(told.is_empty());
     assert_eq!(
         run_lines(Global, b"set".as_slice(), &mut printed, Broken),
@@ -99,10 +96,7 @@ fn ends_on_broken_streams() {
     let refused = b"set maxlen 0\ntext 41".as_slice();
     assert_eq!(run_lines(Global, refused, &mut printed, Broken), 2);
     assert!(printed.is_empty());
-    assert_eq!(
-        draw_lines(Global, b"set".as_slice(), &mut printed, Broken),
-        2
-    );
+    assert_eq!(draw_lines(b"set".as_slice(), &mut printed, Broken), 2);
     assert!(!printed.is_empty());
 }
 

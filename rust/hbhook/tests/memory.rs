@@ -1,6 +1,6 @@
 //! Each request for memory is refused in turn: the run is refused with `Memory` and prints nothing.
 
-use hbhook::{draw_lines, explain_lines, run_lines};
+use hbhook::{explain_lines, run_lines};
 use sengadlit::alloc::Global;
 use std::alloc::{GlobalAlloc, Layout, System};
 use std::cell::Cell;
@@ -118,10 +118,6 @@ fn explain(script: &[u8], printed: &mut Vec<u8>, told: &mut Vec<u8>) -> u8 {
     explain_lines(Global, script, printed, told)
 }
 
-fn draw(script: &[u8], page: &mut Vec<u8>, told: &mut Vec<u8>) -> u8 {
-    draw_lines(Global, script, page, told)
-}
-
 // Refuses each request of a run in turn, and returns their number.
 fn refuse_each(program: Program, script: &[u8], expect: impl Fn(usize, Run)) -> usize {
     let whole = Run::new(program, script, usize::MAX);
@@ -156,19 +152,4 @@ fn refusals_are_explained() {
         assert_eq!(told.lines().count(), 2, "request {refused}: {told}");
         assert!(run.printed.is_empty(), "request {refused}");
     });
-}
-
-// A hook is drawn without lines if the second run, which traces its glyphs, is refused.
-#[test]
-fn drawings_end_with_the_refusal_or_without_lines() {
-    let script = examples(&["arabic-stretch.txt", "hebrew-letter.txt", "thai-forms.txt"]);
-    let count = refuse_each(draw, &script, |refused, run| {
-        let told: &[u8] = match run.status {
-            0 => b"",
-            _ => b"refused: Memory\n",
-        };
-        assert!(run.status <= 1, "request {refused}");
-        assert_eq!(run.told, told, "request {refused}");
-    });
-    assert!(count > 500, "{count} requests");
 }

@@ -41,18 +41,10 @@ impl Row {
         let (mut printed, mut told) = (Vec::new(), Vec::new());
         let script = self.script.as_bytes();
         let status = hbhook::run_lines(Global, script, &mut printed, &mut told);
-        let begins_on = self.begins_on;
-        assert_eq!(
-            String::from_utf8_lossy(&printed),
-            self.printed,
-            "{file}, line {begins_on}"
-        );
-        assert_eq!(
-            String::from_utf8_lossy(&told),
-            self.told,
-            "{file}, line {begins_on}"
-        );
-        assert_eq!(status, self.status, "{file}, line {begins_on}");
+        let place = format!("crates/hbhook_rows/data/{file}, line {}", self.begins_on);
+        assert_eq!(String::from_utf8_lossy(&printed), self.printed, "{place}");
+        assert_eq!(String::from_utf8_lossy(&told), self.told, "{place}");
+        assert_eq!(status, self.status, "{place}");
     }
 }
 

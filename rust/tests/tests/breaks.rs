@@ -8,7 +8,7 @@ use sengadlit::font::NominalOnly;
 use sengadlit::map::FeatureMap;
 use sengadlit::plan::{BreakFlags, Category, JoiningType, Position};
 use sengadlit::{Buffer, GlyphInfo, Plan, Script, Shaper, Tables, Tag};
-use sengadlit_tests::lines::broken_script;
+use sengadlit_tests::End;
 use sengadlit_tests::numbers::Numbers;
 use sengadlit_tests::pieces::{breaks_at, edited, is_bare, is_clear, piece, put_together, shown};
 use std::fs;
@@ -323,6 +323,77 @@ fn as_the_code_flags_it_the_first_piece_keeps_no_forms_where_a_fresh_text_is_not
     assert!(counts.iter().all(|&count| count > 5000), "{counts:?}");
 }
 
+/// A glyph as the program prints it: its cluster, its flags, and the line without these.
+struct Printed {
+    cluster: u32,
+    flags: u32,
+    shown: String,
+}
+
+/// The glyphs that a script prints with the choice `Sound`, unless it is refused.
+fn printed(lines: &[String]) -> Option<Vec<Printed>> {
+    let script = lines
+        .join("\n")
+        .replace("run masks", "set breaks sound\nrun masks");
+    let end = End::of(script.as_bytes());
+    if end.status != 0 {
+        return None;
+    }
+    let glyphs = String::from_utf8(end.printed).unwrap();
+    let fields = glyphs
+        .lines()
+        .map(|line| line.split(' ').collect::<Vec<_>>());
+    let glyphs = fields.map(|fields| {
+        let mask = u32::from_str_radix(fields[2], 16).unwrap();
+        Printed {
+            cluster: fields[1].parse().unwrap(),
+            flags: mask & 5,
+            shown: format!("{} {:08x} {}", fields[0], mask & !7, fields[3..].join(" ")),
+        }
+    });
+    Some(glyphs.collect())
+}
+
+/// The lines with some characters of the text alone, of which the inner context is empty.
+fn piece_of(lines: &[String], places: Range<usize>, len: usize) -> Vec<String> {
+    let mut lines = lines.to_vec();
+    for line in &mut lines {
+        if let Some(text) = line.strip_prefix("text ") {
+            let characters: Vec<&str> = text.split(' ').collect();
+            *line = format!("text {}", characters[places.clone()].join(" "));
+        } else if line.starts_with("context 0") && places.start > 0 {
+            *line = "context 0".into();
+        } else if line.starts_with("context 1") && places.end < len {
+            *line = "context 1".into();
+        }
+    }
+    lines
+}
+
+/// Breaks the text of the lines of a row at each clear place, where the pieces must be the whole: at
+/// how many places.
+fn broken_everywhere(lines: &[String]) -> usize {
+    let Some(whole) = printed(lines) else {
+        return 0;
+    };
+    let is_clear = |place: &usize| {
+        let (left, right) = (whole[place - 1].cluster, whole[*place].cluster);
+        let mut greater = whole
+            .iter()
+            .filter(|glyph| glyph.cluster == left.max(right));
+        left != right && greater.all(|glyph| glyph.flags == 0)
+    };
+    let clear: Vec<usize> = (1..whole.len()).filter(is_clear).collect();
+    for &place in &clear {
+        let mut pieces = printed(&piece_of(lines, 0..place, whole.len())).unwrap();
+        pieces.extend(printed(&piece_of(lines, place..whole.len(), whole.len())).unwrap());
+        let shown =
+            |glyphs: &[Printed]| glyphs.iter().map(|it| it.shown.clone()).collect::<Vec<_>>();
+        assert_eq!(shown(&pieces), shown(&whole), "{lines:?} at {place}");
+    }
+    clear.len()
+}
+
 #[test]
 fn texts_of_the_worked_rows_may_be_broken_at_every_clear_place() {
     let data = Path::new(env!("CARGO_MANIFEST_DIR")).join("../../crates/hbhook_rows/data");
@@ -331,11 +402,15 @@ fn texts_of_the_worked_rows_may_be_broken_at_every_clear_place() {
         let rows = fs::read_to_string(data.join(file)).unwrap();
         for row in rows.split("\n\n") {
             let lines = row.lines().filter_map(|line| line.strip_prefix("> "));
-            let lines = lines.map(|line| match line {
-                "run masks" => "set breaks sound\nrun masks\n".to_string(),
-                line => format!("{line}\n"),
-            });
-            count += broken_script(lines.collect::<String>().as_bytes());
+            let mut lines: Vec<String> = lines.map(String::from).collect();
+            let Some(end) = lines.iter().position(|line| line.starts_with("run ")) else {
+                continue;
+            };
+            lines.truncate(end + 1);
+            // (glyphs that lines change by their places don't stand in pieces)
+            if lines[end] == "run masks" && !lines.iter().any(|line| line.starts_with("at ")) {
+                count += broken_everywhere(&lines);
+            }
         }
     }
     assert!(count > 20, "{count}");

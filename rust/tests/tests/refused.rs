@@ -6,7 +6,7 @@ mod allocator;
 
 use allocator::{Refusing, refusing};
 use sengadlit::alloc::Global;
-use sengadlit_tests::lines::End;
+use sengadlit_tests::End;
 use sengadlit_tests::scripts::script;
 
 #[global_allocator]

@@ -1,25 +1,13 @@
-//! Random scripts by the program's library and by the crate's own calls: status, output and message
-//! are the same.
+//! The random scripts that the programs are compared on: they end in each way, and run each hook and
+//! pause to its end.
 
-use sengadlit::alloc::Global;
-use sengadlit_tests::lines::{End, run_script};
+use sengadlit_tests::End;
 use sengadlit_tests::scripts::script;
 use std::collections::BTreeMap;
 use std::sync::LazyLock;
 
 /// How many scripts are run.
 const SCRIPTS: u64 = 8_000;
-
-/// How the run of a script by the program's library ends.
-fn run_by_program(script: &[u8]) -> End {
-    let (mut printed, mut told) = (Vec::new(), Vec::new());
-    let status = hbhook::run_lines(Global, script, &mut printed, &mut told);
-    End {
-        status,
-        printed,
-        told,
-    }
-}
 
 /// What the scripts did: how many ended how, and how many ran each hook and pause to its end.
 struct Tally {
@@ -28,7 +16,7 @@ struct Tally {
 }
 
 impl Tally {
-    /// Runs all scripts both ways, which must end alike.
+    /// Runs all scripts.
     fn of_all() -> Self {
         let mut tally = Tally {
             ends: BTreeMap::new(),
@@ -36,9 +24,7 @@ impl Tally {
         };
         for seed in 0..SCRIPTS {
             let script = script(seed);
-            let end = run_by_program(script.as_bytes());
-            assert_eq!(run_script(script.as_bytes()), end, "seed {seed}:\n{script}");
-            tally.add(&script, end);
+            tally.add(&script, End::of(script.as_bytes()));
         }
         tally
     }
@@ -68,7 +54,7 @@ fn name_of_run(line: &str) -> String {
 static TALLY: LazyLock<Tally> = LazyLock::new(Tally::of_all);
 
 #[test]
-fn both_ways_end_alike() {
+fn scripts_end_in_each_way() {
     let ends = &TALLY.ends;
     println!("{ends:?}");
     assert!(ends["0 "] > SCRIPTS as usize / 2);

@@ -1,6 +1,6 @@
 //! All fields of a glyph, with their names.
 
-use crate::generated::hbhook_boxes::Row;
+use crate::drawing::Row;
 use sengadlit::GlyphInfo;
 
 /// What a shaper calls a glyph's bytes, and the features that its mask turns on.

@@ -5,11 +5,9 @@ use super::glyph::Names;
 use super::subjects::{Subject, subject_of};
 use super::told::told;
 use super::{MOST_IN_ALL, MOST_SHOWN, ShaperError, Step, Steps};
+use crate::drawing::{Legend, Numbers, Origins, Traced, draw_row, row_of};
 use crate::explained::explain_end;
-use crate::generated::hbhook_boxes::{Legend, Numbers};
 use crate::generated::hbhook_commands::{Fault, LineFault, LineKind, kind_of_line, print_buffer};
-use crate::generated::hbhook_draw::drawing::{draw_row, row_of};
-use crate::generated::hbhook_draw::origins::{Origins, Traced};
 use crate::generated::hbhook_lines::Session;
 use crate::support::string::String as Page;
 use crate::way::Way;
@@ -36,8 +34,8 @@ impl Walk {
     pub(crate) fn new() -> Self {
         Walk {
             session: Session::new(Global),
-            numbers: Numbers::new(Global),
-            legend: Legend::new(Global),
+            numbers: Numbers::default(),
+            legend: Legend::default(),
             steps: Vec::new(),
             glyphs: 0,
             written: Vec::new(),
@@ -91,13 +89,11 @@ impl Walk {
 
     /// The steps, and why there are no more.
     pub(crate) fn finished(self, script: Option<[u8; 4]>, ended: Option<String>) -> Steps {
-        let mut legend = Page::new(Global);
-        let written = self.legend.write(&mut legend);
         Steps {
             steps: self.steps,
-            legend: legend.as_str().into(),
+            legend: self.legend.to_string(),
             script,
-            ended: ended.or_else(|| written.err().map(|_| reason(MEMORY))),
+            ended,
             text: String::new(),
         }
     }
@@ -106,7 +102,7 @@ impl Walk {
         match kind_of_line(Global, line.as_bytes())? {
             LineKind::Setting => {
                 self.session.carry_out(line.as_bytes())?;
-                self.numbers.add_line(Global, line.as_bytes())?;
+                self.numbers.add_line(line.as_bytes());
                 Ok(())
             }
             LineKind::Glyphs => self.write(line),
@@ -114,7 +110,7 @@ impl Walk {
                 self.show_written()?;
                 self.write(line)?;
                 for glyph in self.session.buffer.glyphs() {
-                    self.numbers.add_character(glyph.glyph_id)?;
+                    self.numbers.add_character(glyph.glyph_id);
                 }
                 Ok(())
             }
@@ -139,7 +135,7 @@ impl Walk {
             return Ok(());
         }
         let heads = mem::take(&mut self.written);
-        let origins = Origins::none(&self.session);
+        let origins = Origins::default();
         self.show(heads, &origins, None)
     }
 
@@ -148,7 +144,7 @@ impl Walk {
         let traced = Traced::new(&mut self.session, line.as_bytes())?;
         self.session.carry_out(line.as_bytes())?;
         self.check_length()?;
-        let origins = traced.origins(self.session.buffer.glyphs())?;
+        let origins = traced.origins(self.session.buffer.glyphs());
         let shaper = self.session.shaper_name();
         let subject = shaper.and_then(|shaper| subject_of(line, shaper));
         self.show(vec![line.into()], &origins, subject)
@@ -167,13 +163,13 @@ impl Walk {
         let _ = run(&mut traced.after);
         run(&mut self.session.buffer).map_err(LineFault::Refused)?;
         self.check_length()?;
-        let mut origins = traced.origins(self.session.buffer.glyphs())?;
+        let mut origins = traced.origins(self.session.buffer.glyphs());
         if self.has_numbers {
             clear_numbers(&mut origins.before);
         }
         self.has_numbers = leaves_numbers;
         for glyph in self.session.buffer.glyphs() {
-            self.numbers.add_character(glyph.glyph_id)?;
+            self.numbers.add_character(glyph.glyph_id);
         }
         self.show(vec![name.into()], &origins, subject)
     }
@@ -212,9 +208,9 @@ impl Walk {
         subject: Option<Subject>,
     ) -> Result<(), Stop> {
         let answers = self.session.take_answers();
-        let (mut drawn, mut printed) = (Page::new(Global), Page::new(Global));
+        let mut printed = Page::new(Global);
         let (session, numbers) = (&self.session, &self.numbers);
-        draw_row(&mut drawn, &mut self.legend, session, numbers, origins)?;
+        let drawn = draw_row(&mut self.legend, session, numbers, origins);
         print_buffer(&mut printed, &session.buffer)?;
         let row = row_of(session, numbers, origins);
         let told = if origins.before.is_empty() {
@@ -227,7 +223,7 @@ impl Walk {
             heads,
             answers: answers.lines().map(String::from).collect(),
             told,
-            drawn: drawn.as_str().into(),
+            drawn,
             printed: printed.as_str().into(),
             subject,
             glyphs: row.glyphs.to_vec(),
@@ -273,8 +269,6 @@ impl Stop {
         }
     }
 }
-
-const MEMORY: LineFault = LineFault::Refused(ShaperError::Memory);
 
 fn reason(fault: LineFault) -> String {
     match fault {

@@ -16,33 +16,6 @@ impl String {
         String(std::string::String::new())
     }
 
-    /// A copy of a text.
-    ///
-    /// # Errors
-    ///
-    /// [`AllocError`] if memory runs out.
-    pub fn from_str(alloc: Global, text: &str) -> Result<Self, AllocError> {
-        let mut copy = String::new(alloc);
-        copy.push_str(text)?;
-        Ok(copy)
-    }
-
-    /// The text of some bytes, with U+FFFD in place of each invalid sequence.
-    ///
-    /// # Errors
-    ///
-    /// [`AllocError`] if memory runs out.
-    pub fn from_utf8_lossy(alloc: Global, bytes: &[u8]) -> Result<Self, AllocError> {
-        let mut text = String::new(alloc);
-        for chunk in bytes.utf8_chunks() {
-            text.push_str(chunk.valid())?;
-            if !chunk.invalid().is_empty() {
-                text.push(char::REPLACEMENT_CHARACTER)?;
-            }
-        }
-        Ok(text)
-    }
-
     /// The text.
     pub fn as_str(&self) -> &str {
         &self.0
@@ -76,11 +49,6 @@ impl String {
     pub fn write_fmt(&mut self, arguments: fmt::Arguments<'_>) -> Result<(), AllocError> {
         fmt::Write::write_fmt(&mut Growing(self), arguments).map_err(|_| AllocError)
     }
-
-    /// Empties the text, and keeps its memory.
-    pub fn clear(&mut self) {
-        self.0.clear();
-    }
 }
 
 impl Deref for String {
@@ -106,21 +74,12 @@ mod tests {
 
     #[test]
     fn grows_by_texts_characters_and_formats() {
-        let mut text = String::from_str(Global, "a").unwrap();
+        let mut text = String::new(Global);
+        text.push_str("a").unwrap();
         text.push('\u{E33}').unwrap();
         text.push_str("bc").unwrap();
         write!(text, " {:04X}", 0x41).unwrap();
         assert_eq!(text.as_str(), "a\u{E33}bc 0041");
         assert_eq!(text.chars().count(), 9);
-        text.clear();
-        assert!(text.is_empty());
-    }
-
-    #[test]
-    fn replaces_what_is_no_text() {
-        let text = String::from_utf8_lossy(Global, b"a\xFF\xE0\xB8z\xE0").unwrap();
-        assert_eq!(text.as_str(), "a\u{FFFD}\u{FFFD}z\u{FFFD}");
-        let same = std::string::String::from_utf8_lossy(b"a\xFF\xE0\xB8z\xE0");
-        assert_eq!(text.as_str(), same);
     }
 }

@@ -4,8 +4,7 @@
 
 #![forbid(unsafe_code)]
 
-use sengadlit::alloc::Global;
-use sengadlit_tests::lines::End;
+use sengadlit_tests::End;
 use sengadlit_tests::scripts::script;
 use std::io::{self, Write};
 use std::process::{Command, ExitCode, Stdio};
@@ -64,7 +63,7 @@ impl Comparison {
     /// Runs the script of a seed every way.
     fn compare(&self, seed: u64, differences: &AtomicU64) {
         let script = script(seed);
-        let wanted = run_by_library(script.as_bytes());
+        let wanted = End::of(script.as_bytes());
         for program in &self.programs {
             let is_same = match run_by_program(program, script.as_bytes()) {
                 Ok(end) if end == wanted => true,
@@ -79,16 +78,6 @@ impl Comparison {
             };
             differences.fetch_add(u64::from(!is_same), Ordering::Relaxed);
         }
-    }
-}
-
-fn run_by_library(script: &[u8]) -> End {
-    let (mut printed, mut told) = (Vec::new(), Vec::new());
-    let status = hbhook::run_lines(Global, script, &mut printed, &mut told);
-    End {
-        status,
-        printed,
-        told,
     }
 }
 
