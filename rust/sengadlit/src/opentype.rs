@@ -18,21 +18,20 @@
 
 mod feature;
 mod glyph_buffer;
+mod in_place;
 mod plan;
 mod unicode_buffer;
 
 pub use crate::generated::opentype_face::directory::FaceError;
 pub use feature::{Feature, FeatureError};
 pub use glyph_buffer::{GlyphBuffer, SerializeFlags};
+pub use in_place::OpenTypeFont;
 pub use plan::{ShapePlan, ShapePlanBuilder};
 pub use unicode_buffer::UnicodeBuffer;
 
 use crate::buffer::Script;
 use crate::generated::opentype_face::face;
-use crate::generated::opentype_font::font::OpenTypeFont;
-use crate::ot_shape;
 use crate::shaper::checked::CallError;
-use crate::unicode::UnicodeTables;
 use core::fmt;
 
 /// A font file, or one font of a collection, over its bytes. It is a few references: what a text needs
@@ -181,14 +180,7 @@ pub fn try_shape_with_plan(
     let (font, buffer) = (face.for_script(plan.script()), &mut text.buffer);
     buffer.set_direction(plan.direction());
     buffer.set_script(plan.script());
-    match ot_shape::shape(
-        &plan.plan,
-        &plan.settings,
-        &font,
-        &UnicodeTables,
-        &font,
-        buffer,
-    ) {
+    match plan.shape_buffer(face, &font, buffer) {
         Ok(()) => Ok(GlyphBuffer {
             buffer: text.buffer,
             is_complete: true,

@@ -202,3 +202,22 @@ fn spoilt_fonts_shape() {
         }
     }
 }
+
+#[test]
+fn a_buffer_is_shaped_where_it_stands() {
+    use sengadlit::{Buffer, font::Font, shaper::checked::CallError};
+    let data = font();
+    assert_eq!((Face::count(&data), Face::count(&data[1..])), (1, 0));
+    let face = Face::parse(&data, 0).unwrap();
+    let plan = ShapePlan::new(&face, Direction::LeftToRight, Some(script::LATIN), &[]);
+    let own = face.font(plan.script());
+    assert_eq!(own.glyph_h_advance(sengadlit::GlyphId(4)), 1100);
+    let mut buffer = Buffer::from("ABC");
+    plan.shape_buffer(&face, &own, &mut buffer).unwrap();
+    let advances: Vec<_> = buffer.positions().iter().map(|at| at.x_advance).collect();
+    assert_eq!(advances, [1050, 700]);
+    // (it has positions now)
+    let refused = plan.shape_buffer(&face, &own, &mut buffer);
+    assert!(matches!(refused, Err(CallError::Condition(_))));
+    assert_eq!(buffer.len(), 2);
+}

@@ -1,5 +1,5 @@
 //! What the sources of the crate `sengadlit` take from Rust's `alloc`, where they are compiled for C: its list, which may also
-//! work in an array that someone lends it.
+//! work in an array that someone lends it, and Rust's own strings.
 #![no_std]
 #![deny(missing_docs)]
 
@@ -8,3 +8,5 @@ extern crate alloc as rust_alloc;
 extern crate std;
 
 pub mod vec;
+
+pub use rust_alloc::string;
