@@ -298,8 +298,9 @@ pub use map::{FeatureMap, Map};
 pub use numbers::UnknownNumber;
 #[cfg(feature = "opentype")]
 pub use opentype::{
-    Face, FaceError, Feature, GlyphBuffer, SerializeFlags, ShapeError, ShapePlan, UnicodeBuffer,
-    shape, shape_with_plan, try_shape, try_shape_with_plan,
+    Face, FaceError, Feature, GlyphBuffer, GlyphExtents, PlanCache, SerializeFlags, ShapeError,
+    ShapePlan, UnicodeBuffer, shape, shape_with_cache, shape_with_plan, try_shape,
+    try_shape_with_cache, try_shape_with_plan,
 };
 pub use plan::{JoiningType, Pause, Plan, PlanData, Planner, Preprocess, Request};
 pub use shaper::{Shaper, run_pause};

@@ -1,73 +1,13 @@
-//! A font's bytes and a text to positioned glyphs in one call, by a small font that is written out here:
-//! its glyphs are .notdef, A, B, C and a ligature of A and B, with kerning between that and C.
+//! A font's bytes and a text to positioned glyphs in one call, by the small font of common/lookup_font.rs.
 #![cfg(feature = "opentype")]
 
+mod common;
+
+use common::lookup_font::font;
 use sengadlit::{
     Direction, Face, FaceError, Feature, SerializeFlags, ShapePlan, UnicodeBuffer, script, shape,
     shape_with_plan, try_shape,
 };
-
-/// Numbers of two bytes.
-fn words(numbers: &[u16]) -> Vec<u8> {
-    numbers
-        .iter()
-        .flat_map(|number| number.to_be_bytes())
-        .collect()
-}
-
-/// A table of lookups with one script, `DFLT`, one feature and one lookup of one subtable.
-fn layout(feature: [u8; 4], kind: u16, subtable: &[u8]) -> Vec<u8> {
-    let mut table = words(&[1, 0, 10, 30, 44]);
-    // scripts: DFLT, whose default language has feature 0
-    table.extend(words(&[1]));
-    table.extend(b"DFLT");
-    table.extend(words(&[8, 4, 0, 0, 0xFFFF, 1, 0]));
-    // features: one, with lookup 0
-    table.extend(words(&[1]));
-    table.extend(feature);
-    table.extend(words(&[8, 0, 1, 0]));
-    // lookups
-    table.extend(words(&[1, 4, kind, 0, 1, 8]));
-    table.extend(subtable);
-    table
-}
-
-fn font() -> Vec<u8> {
-    let mut head = vec![0; 54];
-    head[18..20].copy_from_slice(&1000_u16.to_be_bytes());
-    let mut hhea = vec![0; 36];
-    hhea[34..].copy_from_slice(&5_u16.to_be_bytes());
-    let cmap = [
-        words(&[0, 1, 3, 10, 0, 12]),
-        words(&[12, 0, 0, 28, 0, 0, 0, 1, 0, 0x41, 0, 0x43, 0, 1]),
-    ];
-    // format 1, its glyphs begin with A; the ligature 4 of A and B
-    let ligatures = words(&[1, 8, 1, 14, 1, 1, 1, 1, 4, 4, 2, 2]);
-    // format 1 of pairs: the ligature and C stand 50 units nearer
-    let kerning = words(&[1, 12, 4, 0, 1, 18, 1, 1, 4, 1, 3, 0xFFCE]);
-    let tables = [
-        (*b"GPOS", layout(*b"kern", 2, &kerning)),
-        (*b"GSUB", layout(*b"liga", 4, &ligatures)),
-        (*b"cmap", cmap.concat()),
-        (*b"head", head),
-        (*b"hhea", hhea),
-        (*b"hmtx", words(&[500, 0, 600, 0, 650, 0, 700, 0, 1100, 0])),
-        (*b"maxp", words(&[0, 0x5000, 5])),
-    ];
-    let mut directory = words(&[1, 0, 7, 0, 0, 0]);
-    let mut bytes = vec![];
-    for (tag, table) in tables {
-        let offset = 12 + 16 * 7 + bytes.len();
-        directory.extend(tag);
-        for number in [0, offset, table.len()] {
-            directory.extend(u32::try_from(number).unwrap().to_be_bytes());
-        }
-        bytes.extend(table);
-        bytes.resize(bytes.len().next_multiple_of(4), 0);
-    }
-    directory.extend(bytes);
-    directory
-}
 
 /// The glyphs of a text in the font, with these features.
 fn shaped(text: &str, features: &[&str]) -> String {

@@ -1,23 +1,34 @@
 //! A text that has been shaped.
 
-use super::{Face, UnicodeBuffer};
-use crate::buffer::{Buffer, Direction, GlyphInfo, GlyphPosition, glyph_flag};
-use core::fmt::{self, Write};
-use core::ops::BitOr;
-use rust_alloc::string::String;
+use super::scale::Scale;
+use super::serialize::Serialized;
+use super::{Face, SerializeFlags, UnicodeBuffer};
+use crate::buffer::{Direction, GlyphInfo, GlyphPosition};
+use core::fmt::Write;
+use rust_alloc::string::{String, ToString};
 
 /// A text that has been shaped: its glyphs, each with its position, in the order in which they are
 /// drawn from left to right, or from top to bottom.
 #[derive(Debug)]
 pub struct GlyphBuffer {
-    pub(super) buffer: Buffer,
-    pub(super) is_complete: bool,
+    text: UnicodeBuffer,
+    is_complete: bool,
+    scale: Option<Scale>,
 }
 
 impl GlyphBuffer {
+    /// What became of a text.
+    pub(super) fn new(text: UnicodeBuffer, is_complete: bool) -> Self {
+        GlyphBuffer {
+            text,
+            is_complete,
+            scale: None,
+        }
+    }
+
     /// How many glyphs the text has.
     pub fn len(&self) -> usize {
-        self.buffer.len()
+        self.text.buffer.len()
     }
 
     /// Whether the text has no glyphs.
@@ -33,144 +44,56 @@ impl GlyphBuffer {
 
     /// The glyphs: numbers, clusters, and flags for line breakers (`mask & FLAGS`).
     pub fn glyph_infos(&self) -> &[GlyphInfo] {
-        self.buffer.glyphs()
+        self.text.buffer.glyphs()
     }
 
     /// The position of each glyph, in font units.
     pub fn glyph_positions(&self) -> &[GlyphPosition] {
-        self.buffer.positions()
+        self.text.buffer.positions()
     }
 
     /// The direction in which the text was shaped.
     pub fn direction(&self) -> Direction {
-        self.buffer.direction()
+        self.text.buffer.direction()
+    }
+
+    /// Scales positions, and boxes that are printed, from font units to so many units an em across and up:
+    /// the glyph's advance, what lookups added to it, and each offset is rounded. (HarfBuzz, whose fonts
+    /// have a scale, rounds each value that a lookup adds.) To be called once.
+    pub fn scale(&mut self, face: &Face<'_>, x: i32, y: i32) {
+        let scale = Scale::new(face, x, y);
+        scale.apply(face, &mut self.text.buffer);
+        self.scale = Some(scale);
     }
 
     /// The glyphs in one line, as hb-shape prints them: `[gid3=0+563|gid9=1@10,0+0]`.
     pub fn serialize(&self, face: &Face<'_>, flags: SerializeFlags) -> String {
+        self.serialized(face, flags).to_string()
+    }
+
+    /// The glyphs in one line, as hb-shape prints them with `--output-format=json`.
+    pub fn serialize_json(&self, face: &Face<'_>, flags: SerializeFlags) -> String {
         let mut text = String::new();
         // (writing to a string returns no error)
-        let _ = write!(
-            text,
-            "{}",
-            Serialized {
-                glyphs: self,
-                face,
-                flags
-            }
-        );
+        let _ = write!(text, "{:#}", self.serialized(face, flags));
         text
     }
 
-    /// The buffer for another text. It keeps cluster level, flags and memory.
+    fn serialized<'a>(&'a self, face: &'a Face<'a>, flags: SerializeFlags) -> Serialized<'a> {
+        Serialized {
+            infos: self.glyph_infos(),
+            positions: self.glyph_positions(),
+            face,
+            scale: self.scale,
+            flags,
+        }
+    }
+
+    /// The buffer for another text. It keeps cluster level, flags, the glyphs for what the font lacks,
+    /// and memory.
     pub fn clear(self) -> UnicodeBuffer {
-        let mut text = UnicodeBuffer {
-            buffer: self.buffer,
-        };
+        let mut text = self.text;
         text.clear();
         text
-    }
-}
-
-/// What [`GlyphBuffer::serialize`] prints.
-#[derive(Clone, Copy, Debug, Default, PartialEq, Eq)]
-pub struct SerializeFlags(u8);
-
-impl SerializeFlags {
-    /// No clusters.
-    pub const NO_CLUSTERS: Self = SerializeFlags(1);
-    /// No positions.
-    pub const NO_POSITIONS: Self = SerializeFlags(2);
-    /// Numbers in place of the names of glyphs.
-    pub const NO_GLYPH_NAMES: Self = SerializeFlags(4);
-    /// The glyph flags, where there are any.
-    pub const GLYPH_FLAGS: Self = SerializeFlags(0x10);
-    /// No advances: each offset is from the start of the text.
-    pub const NO_ADVANCES: Self = SerializeFlags(0x20);
-
-    /// Whether all of these are set.
-    pub fn contains(self, flags: Self) -> bool {
-        self.0 & flags.0 == flags.0
-    }
-}
-
-impl BitOr for SerializeFlags {
-    type Output = Self;
-
-    fn bitor(self, other: Self) -> Self {
-        SerializeFlags(self.0 | other.0)
-    }
-}
-
-/// The bits of a mask that are glyph flags.
-const FLAGS: u32 =
-    glyph_flag::UNSAFE_TO_BREAK | glyph_flag::UNSAFE_TO_CONCAT | glyph_flag::SAFE_TO_INSERT_TATWEEL;
-
-/// Glyphs that are printed by `hb_buffer_serialize_glyphs`'s rules for text.
-struct Serialized<'a> {
-    glyphs: &'a GlyphBuffer,
-    face: &'a Face<'a>,
-    flags: SerializeFlags,
-}
-
-impl fmt::Display for Serialized<'_> {
-    fn fmt(&self, f: &mut fmt::Formatter<'_>) -> fmt::Result {
-        let infos = self.glyphs.glyph_infos().iter();
-        let mut pen = (0, 0);
-        f.write_str("[")?;
-        for (place, (info, position)) in infos.zip(self.glyphs.glyph_positions()).enumerate() {
-            if place > 0 {
-                f.write_str("|")?;
-            }
-            self.write_name(f, info)?;
-            if !self.flags.contains(SerializeFlags::NO_CLUSTERS) {
-                write!(f, "={}", info.cluster)?;
-            }
-            if !self.flags.contains(SerializeFlags::NO_POSITIONS) {
-                self.write_position(f, position, &mut pen)?;
-            }
-            let glyph_flags = info.mask & FLAGS;
-            if self.flags.contains(SerializeFlags::GLYPH_FLAGS) && glyph_flags != 0 {
-                write!(f, "#{glyph_flags:X}")?;
-            }
-        }
-        f.write_str("]")
-    }
-}
-
-impl Serialized<'_> {
-    fn write_name(&self, f: &mut fmt::Formatter<'_>, info: &GlyphInfo) -> fmt::Result {
-        if self.flags.contains(SerializeFlags::NO_GLYPH_NAMES) {
-            return write!(f, "{}", info.glyph_id);
-        }
-        match self.face.glyph_name(info.glyph_id) {
-            Some(name) => f.write_str(name),
-            None => write!(f, "gid{}", info.glyph_id),
-        }
-    }
-
-    /// Writes a glyph's offset, if it has one, and its advance. Without advances the offset is from
-    /// where the pen began.
-    fn write_position(
-        &self,
-        f: &mut fmt::Formatter<'_>,
-        position: &GlyphPosition,
-        pen: &mut (i32, i32),
-    ) -> fmt::Result {
-        let x = pen.0.saturating_add(position.x_offset);
-        let y = pen.1.saturating_add(position.y_offset);
-        if (x, y) != (0, 0) {
-            write!(f, "@{x},{y}")?;
-        }
-        if self.flags.contains(SerializeFlags::NO_ADVANCES) {
-            pen.0 = pen.0.saturating_add(position.x_advance);
-            pen.1 = pen.1.saturating_add(position.y_advance);
-            return Ok(());
-        }
-        write!(f, "+{}", position.x_advance)?;
-        if position.y_advance != 0 {
-            write!(f, ",{}", position.y_advance)?;
-        }
-        Ok(())
     }
 }

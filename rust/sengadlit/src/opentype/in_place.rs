@@ -1,6 +1,8 @@
 //! Texts that are shaped where they stand, for callers with a [`Buffer`] or a font of their own.
 
-use super::{Face, ShapePlan};
+use super::not_found::Substituted;
+use super::steps::{Steps, Told};
+use super::{Face, Replacements, ShapePlan};
 use crate::buffer::{Buffer, Script};
 pub use crate::generated::opentype_font::font::OpenTypeFont;
 use crate::ot_shape;
@@ -10,11 +12,6 @@ use crate::shaper::checked::CallError;
 use crate::unicode::UnicodeTables;
 
 impl<'a> Face<'a> {
-    /// How many fonts a file has: 1, or those of a collection; 0 where the bytes are no font.
-    pub fn count(data: &[u8]) -> u32 {
-        crate::generated::opentype_face::directory::face_count(data)
-    }
-
     /// The face as the hooks and `ot_shape` read it, for texts of a script.
     pub fn font(&self, script: Option<Script>) -> OpenTypeFont<'a> {
         self.for_script(script)
@@ -24,7 +21,8 @@ impl<'a> Face<'a> {
 impl ShapePlan {
     /// Shapes a text of characters in its buffer, whose script and direction stay. Characters and widths
     /// are those of `font`, which is [`Face::font`] or has some of its own (hinted widths, another
-    /// `cmap`); lookups are those of the face that the plan was made for.
+    /// `cmap`); lookups are those of the face that the plan was made for. The buffer's flags say what
+    /// becomes of characters that need not be drawn.
     ///
     /// # Errors
     ///
@@ -37,14 +35,50 @@ impl ShapePlan {
         font: &F,
         buffer: &mut Buffer,
     ) -> Result<(), CallError> {
-        let lookups = face.for_script(self.script());
-        ot_shape::shape(
-            &self.plan,
-            &self.settings,
+        self.shape_buffer_with(face, font, &Replacements::default(), buffer)
+    }
+
+    /// The same, with glyphs for what the font lacks.
+    ///
+    /// # Errors
+    ///
+    /// As [`shape_buffer`](Self::shape_buffer).
+    pub fn shape_buffer_with<F: NormalizeFont + MetricsFont>(
+        &self,
+        face: &Face<'_>,
+        font: &F,
+        replacements: &Replacements,
+        buffer: &mut Buffer,
+    ) -> Result<(), CallError> {
+        self.shape_and_tell(face, font, replacements, None, buffer)
+    }
+
+    /// The same, and tells the lookups as they are applied.
+    pub(super) fn shape_and_tell<F: NormalizeFont + MetricsFont>(
+        &self,
+        face: &Face<'_>,
+        font: &F,
+        replacements: &Replacements,
+        told: Told<'_>,
+        buffer: &mut Buffer,
+    ) -> Result<(), CallError> {
+        let steps = Steps {
+            font: &face.for_script(self.script()),
+            plan: &self.plan,
+            not_found: replacements.not_found,
+            told,
+        };
+        let font = Substituted {
             font,
-            &UnicodeTables,
-            &lookups,
-            buffer,
-        )
+            instead: steps.not_found.filter(|_| !steps.has_lookups()),
+        };
+        let settings = replacements.settings(self.rounds, buffer.flags());
+        let (plan, tables) = (&self.plan, &UnicodeTables);
+        ot_shape::shape(plan, &settings, &font, tables, &steps, buffer)?;
+        if !steps.has_lookups() {
+            steps.put_not_found(buffer);
+        }
+        replacements.draw_selectors(buffer);
+        Ok(())
     }
 }

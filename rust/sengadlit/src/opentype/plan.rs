@@ -4,10 +4,8 @@ use super::{Face, Feature};
 use crate::alloc::Global;
 use crate::buffer::{Direction, Script, ShaperError};
 use crate::generated::opentype_font::script_features::ScriptFeatures;
-use crate::ot_shape::ShapeSettings;
-use crate::ot_shape_normalize::{NormalizeSettings, Rounds};
+use crate::ot_shape_normalize::Rounds;
 use crate::ot_shape_plan::{self, ShapeChoices};
-use crate::ot_shape_position::DefaultIgnorables;
 use crate::plan::{BaseSearch, BreakFlags};
 
 /// What a face, a script, a direction and the user's features decide before a text is seen. It serves
@@ -15,7 +13,7 @@ use crate::plan::{BaseSearch, BreakFlags};
 #[derive(Debug)]
 pub struct ShapePlan {
     pub(super) plan: ot_shape_plan::ShapePlan,
-    pub(super) settings: ShapeSettings,
+    pub(super) rounds: Rounds,
     script: Option<Script>,
 }
 
@@ -39,7 +37,7 @@ impl ShapePlan {
     }
 
     /// A plan with choices of one's own.
-    pub fn builder<'f>() -> ShapePlanBuilder<'f> {
+    pub fn builder() -> ShapePlanBuilder<'static> {
         ShapePlanBuilder::default()
     }
 
@@ -61,7 +59,7 @@ pub struct ShapePlanBuilder<'f> {
     direction: Direction,
     features: &'f [Feature],
     choices: ShapeChoices,
-    settings: ShapeSettings,
+    rounds: Rounds,
 }
 
 impl Default for ShapePlanBuilder<'_> {
@@ -71,15 +69,12 @@ impl Default for ShapePlanBuilder<'_> {
             direction: Direction::LeftToRight,
             features: &[],
             choices: ShapeChoices::default(),
-            settings: ShapeSettings {
-                normalize: NormalizeSettings::default(),
-                ignorables: DefaultIgnorables::Hide,
-            },
+            rounds: Rounds::default(),
         }
     }
 }
 
-impl<'f> ShapePlanBuilder<'f> {
+impl ShapePlanBuilder<'_> {
     /// The script of the texts.
     #[must_use]
     pub fn script(self, script: impl Into<Option<Script>>) -> Self {
@@ -97,7 +92,7 @@ impl<'f> ShapePlanBuilder<'f> {
 
     /// The features that the user requests.
     #[must_use]
-    pub fn features(self, features: &'f [Feature]) -> Self {
+    pub fn features(self, features: &[Feature]) -> ShapePlanBuilder<'_> {
         ShapePlanBuilder { features, ..self }
     }
 
@@ -117,16 +112,8 @@ impl<'f> ShapePlanBuilder<'f> {
 
     /// Which texts are normalized in all rounds.
     #[must_use]
-    pub fn rounds(mut self, rounds: Rounds) -> Self {
-        self.settings.normalize.rounds = rounds;
-        self
-    }
-
-    /// What becomes of glyphs of characters that need not be drawn.
-    #[must_use]
-    pub fn ignorables(mut self, ignorables: DefaultIgnorables) -> Self {
-        self.settings.ignorables = ignorables;
-        self
+    pub fn rounds(self, rounds: Rounds) -> Self {
+        ShapePlanBuilder { rounds, ..self }
     }
 
     /// Makes the plan.
@@ -149,7 +136,7 @@ impl<'f> ShapePlanBuilder<'f> {
         )?;
         Ok(ShapePlan {
             plan,
-            settings: self.settings,
+            rounds: self.rounds,
             script: self.script,
         })
     }

@@ -1,9 +1,16 @@
 //! A text that is to be shaped.
 
+use super::SerializeFlags;
+use super::settings::Replacements;
 use crate::buffer::{
     Buffer, BufferClusterLevel, BufferFlags, Direction, GlyphInfo, Script, ShaperError,
 };
-use core::fmt;
+use crate::font::GlyphId;
+use crate::generated::shapers_buffer::buffer::least_cluster;
+use crate::ot_shape_prepare::set_unicode_properties;
+use crate::unicode::UnicodeTables;
+use core::fmt::{self, Write};
+use rust_alloc::string::String;
 
 /// A text that is to be shaped: its characters with their clusters, and what is known of it.
 ///
@@ -11,6 +18,7 @@ use core::fmt;
 /// [`guess_segment_properties`](Self::guess_segment_properties) does.
 pub struct UnicodeBuffer {
     pub(super) buffer: Buffer,
+    pub(super) replacements: Replacements,
 }
 
 impl UnicodeBuffer {
@@ -18,7 +26,10 @@ impl UnicodeBuffer {
     pub fn new() -> Self {
         let mut buffer = Buffer::default();
         buffer.set_direction(Direction::Invalid);
-        UnicodeBuffer { buffer }
+        UnicodeBuffer {
+            buffer,
+            replacements: Replacements::default(),
+        }
     }
 
     /// How many characters the text has.
@@ -69,6 +80,26 @@ impl UnicodeBuffer {
     pub fn try_add(&mut self, character: char, cluster: u32) -> Result<(), ShaperError> {
         self.buffer
             .push(GlyphInfo::of_character(character, cluster))
+    }
+
+    /// Makes room for so many more characters.
+    ///
+    /// # Errors
+    ///
+    /// [`ShaperError::Memory`].
+    pub fn try_reserve(&mut self, additional: usize) -> Result<(), ShaperError> {
+        let mut glyphs = self.buffer.take_glyphs();
+        let reserved = glyphs.reserve(additional);
+        self.buffer.exchange_glyphs(&mut glyphs)?;
+        reserved.map_err(|_| ShaperError::Memory)
+    }
+
+    /// The characters with their clusters.
+    pub fn characters(&self) -> impl Iterator<Item = (char, u32)> + Clone + '_ {
+        self.buffer.iter().map(|glyph| {
+            let character = char::from_u32(glyph.glyph_id).unwrap_or(char::REPLACEMENT_CHARACTER);
+            (character, glyph.cluster)
+        })
     }
 
     /// Numbers the clusters of the characters 0, 1, 2 ..
@@ -129,6 +160,21 @@ impl UnicodeBuffer {
         }
     }
 
+    /// Brings the characters of each grapheme, as a letter with its accents, into one cluster. With the
+    /// level `Characters`, at which no other clusters merge, that is HarfBuzz's level Graphemes.
+    pub fn merge_graphemes(&mut self) {
+        set_unicode_properties(&UnicodeTables, &mut self.buffer);
+        self.buffer.with_glyphs_mut(|glyphs| {
+            let graphemes = glyphs.chunk_by_mut(|_, next| next.unicode_props.is_continuation());
+            for grapheme in graphemes {
+                let least = least_cluster(grapheme);
+                for glyph in grapheme {
+                    glyph.cluster = least;
+                }
+            }
+        });
+    }
+
     /// The flags that say where the text begins and ends, and what shaping does beside its work.
     pub fn flags(&self) -> BufferFlags {
         self.buffer.flags()
@@ -149,7 +195,58 @@ impl UnicodeBuffer {
         self.buffer.set_cluster_level(level);
     }
 
-    /// Makes the buffer ready for another text. It keeps cluster level, flags and memory.
+    /// The glyph that stands for what isn't drawn; the font's space where none is set.
+    pub fn invisible_glyph(&self) -> Option<GlyphId> {
+        self.replacements.invisible
+    }
+
+    /// Sets the glyph that stands for what isn't drawn.
+    pub fn set_invisible_glyph(&mut self, glyph: Option<GlyphId>) {
+        self.replacements.invisible = glyph;
+    }
+
+    /// The glyph of characters that the font lacks; glyph 0 where none is set.
+    pub fn not_found_glyph(&self) -> Option<GlyphId> {
+        self.replacements.not_found
+    }
+
+    /// Sets the glyph of characters that the font lacks.
+    pub fn set_not_found_glyph(&mut self, glyph: Option<GlyphId>) {
+        self.replacements.not_found = glyph;
+    }
+
+    /// The glyph of variation selectors that select nothing; where none is set they aren't drawn.
+    pub fn not_found_variation_selector_glyph(&self) -> Option<GlyphId> {
+        self.replacements.not_found_selector
+    }
+
+    /// Sets the glyph of variation selectors that select nothing.
+    pub fn set_not_found_variation_selector_glyph(&mut self, glyph: Option<GlyphId>) {
+        self.replacements.not_found_selector = glyph;
+    }
+
+    /// The characters in one line, as hb-shape prints them with `--show-unicode`: `<U+0651=0|U+0628=2>`.
+    pub fn serialize(&self, flags: SerializeFlags) -> String {
+        let mut text = String::new();
+        // (writing to a string returns no error)
+        let _ = self.write(&mut text, flags);
+        text
+    }
+
+    fn write(&self, f: &mut String, flags: SerializeFlags) -> fmt::Result {
+        f.write_str("<")?;
+        for (place, (character, cluster)) in self.characters().enumerate() {
+            let between = if place > 0 { "|" } else { "" };
+            write!(f, "{between}U+{:04X}", u32::from(character))?;
+            if !flags.contains(SerializeFlags::NO_CLUSTERS) {
+                write!(f, "={cluster}")?;
+            }
+        }
+        f.write_str(">")
+    }
+
+    /// Makes the buffer ready for another text. It keeps cluster level, flags, the glyphs for what the
+    /// font lacks, and memory.
     pub fn clear(&mut self) {
         self.buffer.clear();
         self.buffer.set_direction(Direction::Invalid);
@@ -172,7 +269,7 @@ impl fmt::Debug for UnicodeBuffer {
             .field("direction", &self.direction())
             .field("script", &self.script())
             .field("characters", &DebugList(characters.clone()))
-            .finish()
+            .finish_non_exhaustive()
     }
 }
 

@@ -7,6 +7,7 @@
 pub mod buffers;
 pub mod calls;
 pub mod fonts;
+pub mod lookup_font;
 pub mod misuse;
 pub mod numbers;
 pub mod plans;

@@ -1,0 +1,157 @@
+//! A font file.
+
+pub use crate::generated::opentype_face::directory::FaceError;
+
+use crate::buffer::Script;
+use crate::font::GlyphId;
+use crate::generated::opentype_face::bytes::i16_at;
+use crate::generated::opentype_face::directory::{directory, face_count, table};
+use crate::generated::opentype_face::face;
+use crate::generated::opentype_face::outlines::{box_bottom, box_top, box_width, has_box};
+use crate::generated::opentype_font::font::OpenTypeFont;
+use core::fmt;
+
+/// The tag `fvar` as a number: the table of a font's axes.
+const FVAR: u32 = u32::from_be_bytes(*b"fvar");
+
+/// A font file, or one font of a collection, over its bytes. It is a few references: what a text needs
+/// is read from the bytes each time.
+///
+/// A variable font is its default instance (see [`is_variable`](Self::is_variable)). What only AAT's or
+/// Graphite's tables say isn't read.
+#[derive(Clone, Copy, Debug)]
+pub struct Face<'a> {
+    pub(super) face: face::Face<'a>,
+    is_variable: bool,
+}
+
+impl<'a> Face<'a> {
+    /// Reads the directory of a font's bytes; `index` chooses a font of a collection, and is 0 else.
+    ///
+    /// # Errors
+    ///
+    /// The bytes are no font, or it lacks a table that each font has.
+    pub fn parse(data: &'a [u8], index: u32) -> Result<Self, FaceError> {
+        let is_variable = !table(data, directory(data, index)?, FVAR).is_empty();
+        Ok(Face {
+            face: face::parse(data, index)?,
+            is_variable,
+        })
+    }
+
+    /// The same without a reason where there is no font, as rustybuzz has it.
+    pub fn from_slice(data: &'a [u8], index: u32) -> Option<Self> {
+        Face::parse(data, index).ok()
+    }
+
+    /// How many fonts the bytes have: one, those of a collection, or none.
+    pub fn count(data: &[u8]) -> u32 {
+        face_count(data)
+    }
+
+    /// How many font units an em has.
+    pub fn units_per_em(&self) -> u16 {
+        self.face.units_per_em()
+    }
+
+    /// How many glyphs the font has.
+    pub fn glyph_count(&self) -> u16 {
+        self.face.glyph_count()
+    }
+
+    /// Whether the font has axes (the table `fvar`), so that what is shaped is its default instance.
+    pub fn is_variable(&self) -> bool {
+        self.is_variable
+    }
+
+    /// How high lines reach above their base line, in font units.
+    pub fn ascender(&self) -> i32 {
+        self.face.ascender()
+    }
+
+    /// How high lines reach above their base line at their lowest: mostly a negative number.
+    pub fn descender(&self) -> i32 {
+        self.face.descender()
+    }
+
+    /// The glyph of a character, if the font has one (the table `cmap`).
+    pub fn glyph_index(&self, character: char) -> Option<GlyphId> {
+        self.face.nominal_glyph(character.into()).map(GlyphId)
+    }
+
+    /// How far a glyph moves the pen in horizontal text; 0 for a glyph that the font lacks.
+    pub fn glyph_hor_advance(&self, glyph: u32) -> u16 {
+        u16::try_from(glyph).map_or(0, |glyph| self.face.h_advance(glyph))
+    }
+
+    /// The name of a glyph, if the font's table `post` has one.
+    pub fn glyph_name(&self, glyph: u32) -> Option<&str> {
+        let name = self.face.glyph_name(u16::try_from(glyph).ok()?);
+        core::str::from_utf8(name)
+            .ok()
+            .filter(|name| !name.is_empty())
+    }
+
+    /// The description of a glyph in the table `glyf`, which is empty for a glyph without contours.
+    /// `None` where the font lacks the glyph or the table, as fonts with `CFF ` do.
+    pub fn glyph_outline(&self, glyph: u32) -> Option<&[u8]> {
+        self.face.outline(u16::try_from(glyph).ok()?)
+    }
+
+    /// The box around a glyph, if the table `glyf` has the glyph. (HarfBuzz's
+    /// `hb_font_get_glyph_extents`, which begins at the left side bearing of `hmtx`.)
+    pub fn glyph_extents(&self, glyph: u32) -> Option<GlyphExtents> {
+        let number = u16::try_from(glyph).ok()?;
+        let outline = self.face.outline(number)?;
+        if !has_box(outline) {
+            return Some(GlyphExtents::default());
+        }
+        let left = if self.face.hmtx.is_empty() {
+            i16_at(outline, 2).min(i16_at(outline, 6))
+        } else {
+            self.face.left_side_bearing(number)
+        };
+        let (top, bottom) = (box_top(outline), box_bottom(outline));
+        Some(GlyphExtents {
+            x_bearing: left.into(),
+            y_bearing: top.into(),
+            width: box_width(outline).into(),
+            height: i32::from(bottom) - i32::from(top),
+        })
+    }
+
+    /// The font as it is for texts of a script.
+    pub(super) fn for_script(&self, script: Option<Script>) -> OpenTypeFont<'a> {
+        OpenTypeFont {
+            face: self.face,
+            script,
+        }
+    }
+}
+
+/// The box around a glyph, in font units: from its upper left corner to the right and down, so that the
+/// height is negative or 0. (HarfBuzz's `hb_glyph_extents_t`.)
+#[derive(Clone, Copy, Debug, Default, PartialEq, Eq, Hash)]
+pub struct GlyphExtents {
+    /// Where the box begins, to the right of the glyph's origin.
+    pub x_bearing: i32,
+    /// How high the upper edge lies above the base line.
+    pub y_bearing: i32,
+    /// How wide the box is.
+    pub width: i32,
+    /// How far the lower edge lies above the upper one.
+    pub height: i32,
+}
+
+impl fmt::Display for FaceError {
+    fn fmt(&self, f: &mut fmt::Formatter<'_>) -> fmt::Result {
+        f.write_str(match self {
+            FaceError::UnknownMagic => "the file is no font",
+            FaceError::IndexOutOfRange => "the file has no font of this index",
+            FaceError::MissingHead => "the font lacks the table head",
+            FaceError::MissingMaxp => "the font lacks the table maxp",
+        })
+    }
+}
+
+impl core::error::Error for FaceError {}

@@ -1,0 +1,59 @@
+//! A font whose glyph for missing characters is another one than 0.
+
+use crate::buffer::Tag;
+use crate::font::{Font, GlyphId};
+use crate::ot_shape_normalize::NormalizeFont;
+use crate::ot_shape_position::MetricsFont;
+
+/// A font in which `instead`, if there is one, has the metrics of glyph 0: as long as no lookup has run,
+/// that is the glyph of each character that the font lacks.
+pub(super) struct Substituted<'a, F> {
+    pub font: &'a F,
+    pub instead: Option<GlyphId>,
+}
+
+impl<F> Substituted<'_, F> {
+    fn drawn(&self, glyph: GlyphId) -> GlyphId {
+        self.instead
+            .filter(|_| glyph == GlyphId(0))
+            .unwrap_or(glyph)
+    }
+}
+
+impl<F: Font> Font for Substituted<'_, F> {
+    fn nominal_glyph(&self, c: u32) -> Option<GlyphId> {
+        self.font.nominal_glyph(c)
+    }
+
+    fn glyph_h_advance(&self, glyph: GlyphId) -> i32 {
+        self.font.glyph_h_advance(self.drawn(glyph))
+    }
+
+    fn would_apply(&self, lookup: u16, glyphs: &[GlyphId], zero_context: bool) -> bool {
+        self.font.would_apply(lookup, glyphs, zero_context)
+    }
+
+    fn has_feature(&self, tag: Tag) -> bool {
+        self.font.has_feature(tag)
+    }
+}
+
+impl<F: NormalizeFont> NormalizeFont for Substituted<'_, F> {
+    fn variation_glyph(&self, c: u32, selector: u32) -> Option<GlyphId> {
+        self.font.variation_glyph(c, selector)
+    }
+}
+
+impl<F: MetricsFont> MetricsFont for Substituted<'_, F> {
+    fn units_per_em(&self) -> u16 {
+        self.font.units_per_em()
+    }
+
+    fn glyph_v_advance(&self, glyph: GlyphId) -> i32 {
+        self.font.glyph_v_advance(self.drawn(glyph))
+    }
+
+    fn glyph_v_origin(&self, glyph: GlyphId) -> (i32, i32) {
+        self.font.glyph_v_origin(self.drawn(glyph))
+    }
+}

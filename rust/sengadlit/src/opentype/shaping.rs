@@ -1,0 +1,178 @@
+//! Texts are shaped.
+
+use super::steps::{ShapeStep, Told};
+use super::{Face, Feature, GlyphBuffer, PlanCache, ShapePlan, UnicodeBuffer};
+use crate::buffer::Buffer;
+use crate::shaper::checked::CallError;
+use core::fmt;
+
+/// A text that could not be shaped, and why.
+#[derive(Debug)]
+pub struct ShapeError {
+    /// Why: memory was refused, or the text grew beyond 256 times its length.
+    pub error: CallError,
+    /// The text, as it was.
+    pub text: UnicodeBuffer,
+}
+
+impl fmt::Display for ShapeError {
+    fn fmt(&self, f: &mut fmt::Formatter<'_>) -> fmt::Result {
+        self.error.fmt(f)
+    }
+}
+
+impl core::error::Error for ShapeError {
+    fn source(&self) -> Option<&(dyn core::error::Error + 'static)> {
+        Some(&self.error)
+    }
+}
+
+/// Shapes a text with a face and the features that the user requests. Script and direction that
+/// aren't set are guessed.
+///
+/// Where memory is refused, or the text grows beyond 256 times its length, the result is empty and
+/// `is_complete` returns false: see [`try_shape`].
+pub fn shape(face: &Face<'_>, features: &[Feature], text: UnicodeBuffer) -> GlyphBuffer {
+    complete_or_empty(try_shape(face, features, text))
+}
+
+/// Shapes a text, as [`shape`](shape()) does.
+///
+/// # Errors
+///
+/// Memory is refused, or the text grows beyond 256 times its length; the error has the text.
+#[allow(
+    clippy::result_large_err,
+    reason = "the error has the text, and a box would take memory when memory was refused"
+)]
+pub fn try_shape(
+    face: &Face<'_>,
+    features: &[Feature],
+    mut text: UnicodeBuffer,
+) -> Result<GlyphBuffer, ShapeError> {
+    text.guess_segment_properties();
+    let builder = ShapePlan::builder()
+        .direction(text.direction())
+        .script(text.script());
+    match builder.features(features).build(face) {
+        Ok(plan) => try_shape_with_plan(face, &plan, text),
+        Err(refusal) => Err(ShapeError {
+            error: refusal.into(),
+            text,
+        }),
+    }
+}
+
+/// Shapes a text with a plan that was made for its script and direction, and for this face.
+///
+/// Where memory is refused, or the text grows beyond 256 times its length, the result is empty and
+/// `is_complete` returns false: see [`try_shape_with_plan`].
+pub fn shape_with_plan(face: &Face<'_>, plan: &ShapePlan, text: UnicodeBuffer) -> GlyphBuffer {
+    complete_or_empty(try_shape_with_plan(face, plan, text))
+}
+
+/// Shapes a text with a plan, as [`shape_with_plan`] does.
+///
+/// # Errors
+///
+/// Memory is refused, or the text grows beyond 256 times its length; the error has the text.
+#[allow(
+    clippy::result_large_err,
+    reason = "the error has the text, and a box would take memory when memory was refused"
+)]
+pub fn try_shape_with_plan(
+    face: &Face<'_>,
+    plan: &ShapePlan,
+    text: UnicodeBuffer,
+) -> Result<GlyphBuffer, ShapeError> {
+    shape_and_tell(face, plan, text, None)
+}
+
+/// Shapes a text with the plan that a cache has for its script, direction and features. Script and
+/// direction that aren't set are guessed.
+///
+/// Where memory is refused, or the text grows beyond 256 times its length, the result is empty and
+/// `is_complete` returns false: see [`try_shape_with_cache`].
+pub fn shape_with_cache(
+    face: &Face<'_>,
+    cache: &mut PlanCache,
+    features: &[Feature],
+    text: UnicodeBuffer,
+) -> GlyphBuffer {
+    complete_or_empty(try_shape_with_cache(face, cache, features, text))
+}
+
+/// Shapes a text with a plan of a cache, as [`shape_with_cache`] does.
+///
+/// # Errors
+///
+/// Memory is refused, or the text grows beyond 256 times its length; the error has the text.
+#[allow(
+    clippy::result_large_err,
+    reason = "the error has the text, and a box would take memory when memory was refused"
+)]
+pub fn try_shape_with_cache(
+    face: &Face<'_>,
+    cache: &mut PlanCache,
+    features: &[Feature],
+    mut text: UnicodeBuffer,
+) -> Result<GlyphBuffer, ShapeError> {
+    text.guess_segment_properties();
+    match cache.plan(face, text.direction(), text.script(), features) {
+        Ok(plan) => try_shape_with_plan(face, plan, text),
+        Err(refusal) => Err(ShapeError {
+            error: refusal.into(),
+            text,
+        }),
+    }
+}
+
+/// Shapes a text with a plan, and tells each lookup as it is applied, with the glyphs as they are then
+/// (`hb-shape --trace`). Positions are told in the order of the characters.
+///
+/// # Errors
+///
+/// Memory is refused, or the text grows beyond 256 times its length; the error has the text.
+#[allow(
+    clippy::result_large_err,
+    reason = "the error has the text, and a box would take memory when memory was refused"
+)]
+pub fn try_shape_in_steps(
+    face: &Face<'_>,
+    plan: &ShapePlan,
+    text: UnicodeBuffer,
+    told: &dyn Fn(ShapeStep, &Buffer),
+) -> Result<GlyphBuffer, ShapeError> {
+    shape_and_tell(face, plan, text, Some(told))
+}
+
+#[allow(
+    clippy::result_large_err,
+    reason = "the error has the text, and a box would take memory when memory was refused"
+)]
+fn shape_and_tell(
+    face: &Face<'_>,
+    plan: &ShapePlan,
+    mut text: UnicodeBuffer,
+    told: Told<'_>,
+) -> Result<GlyphBuffer, ShapeError> {
+    let font = face.for_script(plan.script());
+    let buffer = &mut text.buffer;
+    buffer.set_direction(plan.direction());
+    buffer.set_script(plan.script());
+    match plan.shape_and_tell(face, &font, &text.replacements, told, buffer) {
+        Ok(()) => Ok(GlyphBuffer::new(text, true)),
+        Err(error) => Err(ShapeError { error, text }),
+    }
+}
+
+/// What was shaped, or nothing.
+fn complete_or_empty(shaped: Result<GlyphBuffer, ShapeError>) -> GlyphBuffer {
+    shaped.unwrap_or_else(|refused| {
+        let mut text = refused.text;
+        let direction = text.direction();
+        text.buffer.clear();
+        text.buffer.set_direction(direction);
+        GlyphBuffer::new(text, false)
+    })
+}

@@ -1,0 +1,111 @@
+//! The lookups of a text, one by one.
+
+use crate::buffer::{Buffer, GlyphInfo, GlyphProps, ShaperError};
+use crate::font::GlyphId;
+use crate::generated::opentype_font::font::OpenTypeFont;
+use crate::ot_shape::Lookups;
+use crate::ot_shape_plan::{ShapePlan, StageLookup};
+use crate::ot_shape_position::GlyphClasses;
+use core::ptr;
+
+/// A step of shaping, for [`try_shape_in_steps`](super::try_shape_in_steps): a lookup of GSUB or GPOS,
+/// by its number in the table.
+#[derive(Clone, Copy, Debug, PartialEq, Eq, Hash)]
+pub enum ShapeStep {
+    /// A lookup of GSUB is about to be applied.
+    SubstitutionStarts(u16),
+    /// A lookup of GSUB has been applied.
+    SubstitutionEnds(u16),
+    /// A lookup of GPOS is about to be applied.
+    PositioningStarts(u16),
+    /// A lookup of GPOS has been applied.
+    PositioningEnds(u16),
+}
+
+/// Who is told of steps, with the glyphs as they are then.
+pub(super) type Told<'a> = Option<&'a dyn Fn(ShapeStep, &Buffer)>;
+
+/// The lookups of a font, which are told as they are applied, and before the first of which the glyph
+/// for characters that the font lacks is put in.
+pub(super) struct Steps<'a> {
+    pub font: &'a OpenTypeFont<'a>,
+    pub plan: &'a ShapePlan,
+    pub not_found: Option<GlyphId>,
+    pub told: Told<'a>,
+}
+
+impl Steps<'_> {
+    fn tell(&self, step: ShapeStep, buffer: &Buffer) {
+        if let Some(told) = self.told {
+            told(step, buffer);
+        }
+    }
+
+    /// Whether the plan has lookups of GSUB.
+    pub fn has_lookups(&self) -> bool {
+        !self.plan.lookups().is_empty()
+    }
+
+    /// Puts the glyph for missing characters in place of glyph 0, where a lookup is the plan's first.
+    fn put_not_found_before(&self, lookup: &StageLookup, buffer: &mut Buffer) {
+        let (lookups, positioning) = (self.plan.lookups(), self.plan.positioning());
+        let first = lookups.first().or(positioning.first());
+        if first.is_some_and(|first| ptr::eq(first, lookup)) {
+            self.put_not_found(buffer);
+        }
+    }
+
+    /// Puts the glyph for missing characters in place of glyph 0.
+    pub fn put_not_found(&self, buffer: &mut Buffer) {
+        let Some(instead) = self.not_found else {
+            return;
+        };
+        buffer.with_glyphs_mut(|glyphs| {
+            for glyph in glyphs.iter_mut().filter(|glyph| glyph.glyph_id == 0) {
+                glyph.glyph_id = instead.into();
+            }
+        });
+    }
+}
+
+impl GlyphClasses for Steps<'_> {
+    fn is_mark(&self, glyph: &GlyphInfo) -> bool {
+        self.font.is_mark(glyph)
+    }
+}
+
+impl Lookups for Steps<'_> {
+    fn glyph_props(&self, glyph: &GlyphInfo) -> GlyphProps {
+        match self.not_found {
+            Some(instead) if glyph.glyph_id == 0 => self.font.glyph_props(&GlyphInfo {
+                glyph_id: instead.into(),
+                ..*glyph
+            }),
+            _ => self.font.glyph_props(glyph),
+        }
+    }
+
+    fn growth(&self, lookup: &StageLookup) -> usize {
+        self.font.growth(lookup)
+    }
+
+    fn substitute(&self, lookup: &StageLookup, buffer: &mut Buffer) -> Result<(), ShaperError> {
+        self.put_not_found_before(lookup, buffer);
+        self.tell(ShapeStep::SubstitutionStarts(lookup.index), buffer);
+        self.font.substitute(lookup, buffer)?;
+        self.tell(ShapeStep::SubstitutionEnds(lookup.index), buffer);
+        Ok(())
+    }
+
+    fn position(&self, lookup: &StageLookup, buffer: &mut Buffer) -> Result<(), ShaperError> {
+        self.put_not_found_before(lookup, buffer);
+        self.tell(ShapeStep::PositioningStarts(lookup.index), buffer);
+        self.font.position(lookup, buffer)?;
+        self.tell(ShapeStep::PositioningEnds(lookup.index), buffer);
+        Ok(())
+    }
+
+    fn finish_positions(&self, buffer: &mut Buffer) {
+        self.font.finish_positions(buffer);
+    }
+}

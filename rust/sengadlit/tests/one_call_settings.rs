@@ -1,0 +1,302 @@
+//! What a text, a plan and a cache of plans may set, and what is printed, by the small font of
+//! common/lookup_font.rs.
+#![cfg(feature = "opentype")]
+
+mod common;
+
+use common::lookup_font::{font, font_with, words};
+use sengadlit::opentype::{Replacements, ShapeStep, try_shape_in_steps};
+use sengadlit::plan::BreakFlags;
+use sengadlit::{
+    Buffer, BufferClusterLevel, BufferFlags, Direction, Face, Feature, GlyphExtents, GlyphId,
+    PlanCache, SerializeFlags, ShapePlan, UnicodeBuffer, script, shape, shape_with_cache,
+    try_shape_with_cache,
+};
+use std::cell::RefCell;
+
+fn text(characters: &str) -> UnicodeBuffer {
+    let mut buffer = UnicodeBuffer::new();
+    buffer.push_str(characters);
+    buffer
+}
+
+/// The glyphs of a text with these features, once it is set up.
+fn shaped(characters: &str, features: &[&str], set_up: impl Fn(&mut UnicodeBuffer)) -> String {
+    let data = font();
+    let face = Face::parse(&data, 0).unwrap();
+    let features: Vec<Feature> = features.iter().map(|tag| tag.parse().unwrap()).collect();
+    let mut buffer = text(characters);
+    set_up(&mut buffer);
+    shape(&face, &features, buffer).serialize(&face, SerializeFlags::default())
+}
+
+#[test]
+fn a_cache_makes_a_plan_once() {
+    let data = font();
+    let face = Face::parse(&data, 0).unwrap();
+    let mut cache = PlanCache::new();
+    assert!(cache.is_empty());
+    let without: Feature = "-liga".parse().unwrap();
+    for _ in 0..3 {
+        let glyphs = shape_with_cache(&face, &mut cache, &[], text("AB"));
+        assert_eq!((glyphs.len(), cache.len()), (1, 1));
+    }
+    let glyphs = shape_with_cache(&face, &mut cache, &[without], text("AB"));
+    assert_eq!((glyphs.len(), cache.len()), (2, 2));
+    let hebrew = try_shape_with_cache(&face, &mut cache, &[], text("\u{05D0}")).unwrap();
+    assert_eq!(
+        (hebrew.direction(), cache.len()),
+        (Direction::RightToLeft, 3)
+    );
+    let mut upwards = text("AB");
+    upwards.set_direction(Direction::BottomToTop);
+    shape_with_cache(&face, &mut cache, &[], upwards);
+    assert_eq!(cache.len(), 4);
+    cache.clear();
+    assert!(cache.is_empty());
+}
+
+#[test]
+fn a_cache_keeps_64_plans() {
+    let data = font();
+    let face = Face::parse(&data, 0).unwrap();
+    let mut cache = PlanCache::with_choices(ShapePlan::builder().break_flags(BreakFlags::Sound));
+    let feature = |value| Feature::new(sengadlit::Tag(*b"aalt"), value, ..);
+    for value in 0..100 {
+        let plan = cache.plan(
+            &face,
+            Direction::LeftToRight,
+            Some(script::LATIN),
+            &[feature(value)],
+        );
+        assert_eq!(plan.unwrap().script(), Some(script::LATIN));
+        let expected = usize::try_from(value + 1).unwrap().min(64);
+        assert_eq!(cache.len(), expected);
+    }
+}
+
+#[test]
+fn ignorable_characters_go_stay_or_are_hidden() {
+    // (the font has no glyph for ZWNJ, and no space that stands for it)
+    let with_flags = |flags| shaped("A\u{200C}C", &[], |buffer| buffer.set_flags(flags));
+    assert_eq!(with_flags(BufferFlags(0)), "[gid1=0+600|gid3=4+700]");
+    assert_eq!(
+        with_flags(BufferFlags::REMOVE_DEFAULT_IGNORABLES),
+        "[gid1=0+600|gid3=4+700]"
+    );
+    let preserved = "[gid1=0+600|gid0=1+500|gid3=4+700]";
+    assert_eq!(
+        with_flags(BufferFlags::PRESERVE_DEFAULT_IGNORABLES),
+        preserved
+    );
+    let both = BufferFlags::PRESERVE_DEFAULT_IGNORABLES | BufferFlags::REMOVE_DEFAULT_IGNORABLES;
+    assert_eq!(with_flags(both), preserved);
+    let hidden = shaped("A\u{200C}C", &[], |buffer| {
+        buffer.set_invisible_glyph(Some(GlyphId(2)));
+        assert_eq!(buffer.invisible_glyph(), Some(GlyphId(2)));
+    });
+    assert_eq!(hidden, "[gid1=0+600|gid2=1+0|gid3=4+700]");
+}
+
+#[test]
+fn missing_characters_have_a_glyph() {
+    assert_eq!(shaped("AD", &[], |_| ()), "[gid1=0+600|gid0=1+500]");
+    let set = |buffer: &mut UnicodeBuffer| {
+        buffer.set_not_found_glyph(Some(GlyphId(2)));
+        assert_eq!(buffer.not_found_glyph(), Some(GlyphId(2)));
+    };
+    // lookups see it: it ligates, unless they are off
+    assert_eq!(shaped("AD", &[], set), "[gid4=0+1100]");
+    assert_eq!(shaped("AD", &["-liga"], set), "[gid1=0+600|gid2=1+650]");
+    let none = ["-liga", "-kern"];
+    assert_eq!(shaped("AD", &none, set), "[gid1=0+600|gid2=1+650]");
+}
+
+#[test]
+fn selectors_without_a_variant_have_a_glyph() {
+    assert_eq!(shaped("A\u{FE00}", &[], |_| ()), "[gid1=0+600]");
+    let drawn = shaped("A\u{FE00}", &[], |buffer| {
+        buffer.set_not_found_variation_selector_glyph(Some(GlyphId(3)));
+        let glyph = buffer.not_found_variation_selector_glyph();
+        assert_eq!(glyph, Some(GlyphId(3)));
+    });
+    assert_eq!(drawn, "[gid1=0+600|gid3=0+0]");
+}
+
+#[test]
+fn a_buffer_is_shaped_with_glyphs_for_what_the_font_lacks() {
+    let data = font();
+    let face = Face::parse(&data, 0).unwrap();
+    let plan = ShapePlan::new(&face, Direction::LeftToRight, None, &[]);
+    let mut buffer = Buffer::from("D");
+    let replacements = Replacements {
+        not_found: Some(GlyphId(3)),
+        ..Replacements::default()
+    };
+    plan.shape_buffer_with(&face, &face.font(None), &replacements, &mut buffer)
+        .unwrap();
+    assert_eq!(buffer.get(0).glyph_id, 3);
+    assert_eq!(buffer.position(0).x_advance, 700);
+}
+
+#[test]
+fn graphemes_share_a_cluster() {
+    let mut buffer = text("A\u{0301}B\u{0301}\u{0302}C");
+    let clusters = |buffer: &UnicodeBuffer| -> Vec<u32> {
+        buffer.characters().map(|(_, cluster)| cluster).collect()
+    };
+    assert_eq!(clusters(&buffer), [0, 1, 3, 4, 6, 8]);
+    buffer.merge_graphemes();
+    assert_eq!(clusters(&buffer), [0, 0, 3, 3, 3, 8]);
+    buffer.reset_clusters();
+    assert_eq!(clusters(&buffer), [0, 1, 2, 3, 4, 5]);
+    buffer.set_cluster_level(BufferClusterLevel::Characters);
+    assert_eq!(buffer.cluster_level(), BufferClusterLevel::Characters);
+}
+
+#[test]
+fn characters_are_printed() {
+    let mut buffer = text("A\u{10FFFF}");
+    buffer.try_reserve(100).unwrap();
+    assert_eq!(
+        buffer.serialize(SerializeFlags::default()),
+        "<U+0041=0|U+10FFFF=1>"
+    );
+    assert_eq!(
+        buffer.serialize(SerializeFlags::NO_CLUSTERS),
+        "<U+0041|U+10FFFF>"
+    );
+    buffer.clear();
+    assert_eq!(buffer.serialize(SerializeFlags::default()), "<>");
+}
+
+#[test]
+fn settings_outlive_a_text() {
+    let data = font();
+    let face = Face::parse(&data, 0).unwrap();
+    let mut buffer = text("D");
+    buffer.set_not_found_glyph(Some(GlyphId(2)));
+    buffer.set_flags(BufferFlags::END_OF_TEXT);
+    let buffer = shape(&face, &[], buffer).clear();
+    assert_eq!(buffer.not_found_glyph(), Some(GlyphId(2)));
+    assert_eq!(buffer.flags(), BufferFlags::END_OF_TEXT);
+}
+
+#[test]
+fn lookups_are_told() {
+    let data = font();
+    let face = Face::parse(&data, 0).unwrap();
+    let plan = ShapePlan::new(&face, Direction::LeftToRight, Some(script::LATIN), &[]);
+    let steps = RefCell::new(vec![]);
+    let told = |step, buffer: &Buffer| steps.borrow_mut().push((step, buffer.len()));
+    try_shape_in_steps(&face, &plan, text("ABC"), &told).unwrap();
+    let expected = [
+        (ShapeStep::SubstitutionStarts(0), 3),
+        (ShapeStep::SubstitutionEnds(0), 2),
+        (ShapeStep::PositioningStarts(0), 2),
+        (ShapeStep::PositioningEnds(0), 2),
+    ];
+    assert_eq!(steps.into_inner(), expected);
+}
+
+/// The font with outlines of A, of three points, and of B, which is empty, an axis, and names.
+fn drawn_font() -> Vec<u8> {
+    let outline = words(&[1, 20, 65_526, 320, 700]);
+    let names = [
+        &words(&[2, 0])[..],
+        &[0; 28],
+        &words(&[5, 0, 36, 258, 38, 37]),
+    ];
+    font_with(&[
+        (*b"loca", words(&[0, 0, 5, 5, 5, 5])),
+        (*b"glyf", outline),
+        (*b"fvar", vec![0; 16]),
+        (*b"post", [&names.concat()[..], b"\x03\"\\x"].concat()),
+    ])
+}
+
+#[test]
+fn boxes_names_and_axes() {
+    let data = drawn_font();
+    let face = Face::parse(&data, 0).unwrap();
+    assert!(face.is_variable());
+    assert!(!Face::parse(&font(), 0).unwrap().is_variable());
+    // (the box begins at the side bearing of hmtx, which is 0)
+    let of_a = GlyphExtents {
+        x_bearing: 0,
+        y_bearing: 700,
+        width: 300,
+        height: -710,
+    };
+    assert_eq!(face.glyph_extents(1), Some(of_a));
+    assert_eq!(face.glyph_extents(2), Some(GlyphExtents::default()));
+    assert_eq!(
+        [5, 65_537].map(|glyph| face.glyph_extents(glyph)),
+        [None; 2]
+    );
+    assert_eq!(face.glyph_outline(1).map(<[u8]>::len), Some(10));
+    assert_eq!(
+        (face.glyph_name(1), face.glyph_name(2)),
+        (Some("A"), Some("\"\\x"))
+    );
+    assert_eq!((face.ascender(), face.descender()), (800, -200));
+    assert_eq!(face.glyph_index('B'), Some(GlyphId(2)));
+    assert_eq!(face.glyph_index('D'), None);
+    assert_eq!(
+        [1, 65_537].map(|glyph| face.glyph_hor_advance(glyph)),
+        [600, 0]
+    );
+    let glyphs = shape(&face, &["-liga".parse().unwrap()], text("AB"));
+    assert_eq!(
+        glyphs.serialize(&face, SerializeFlags::GLYPH_EXTENTS),
+        "[A=0+600<0,700,300,-710>|\"\\x=1+650<0,0,0,0>]"
+    );
+    assert_eq!(
+        glyphs.serialize_json(&face, SerializeFlags::GLYPH_EXTENTS),
+        concat!(
+            r#"[{"g":"A","cl":0,"dx":0,"dy":0,"ax":600,"ay":0,"xb":0,"yb":700,"w":300,"h":-710},"#,
+            r#"{"g":"\"\\x","cl":1,"dx":0,"dy":0,"ax":650,"ay":0,"xb":0,"yb":0,"w":0,"h":0}]"#
+        )
+    );
+}
+
+#[test]
+fn json_as_hb_shape_prints_it() {
+    let data = font();
+    let face = Face::parse(&data, 0).unwrap();
+    let glyphs = shape(&face, &[], text("ABC"));
+    let print = |flags| glyphs.serialize_json(&face, flags);
+    assert_eq!(
+        print(SerializeFlags::NO_CLUSTERS | SerializeFlags::NO_ADVANCES),
+        r#"[{"g":"gid4","dx":0,"dy":0},{"g":"gid3","dx":1050,"dy":0}]"#
+    );
+    let mut flags = SerializeFlags::NO_GLYPH_NAMES;
+    flags |= SerializeFlags::NO_POSITIONS | SerializeFlags::GLYPH_FLAGS;
+    assert_eq!(print(flags), r#"[{"g":4,"cl":0},{"g":3,"cl":2,"fl":1}]"#);
+}
+
+#[test]
+fn positions_are_scaled() {
+    let data = drawn_font();
+    let face = Face::parse(&data, 0).unwrap();
+    let mut glyphs = shape(&face, &[], text("ABCA"));
+    glyphs.scale(&face, 10, 20);
+    // 1100, 50 less, of 1000: 11, and half a unit, which is rounded up
+    assert_eq!(
+        glyphs.serialize(
+            &face,
+            SerializeFlags::NO_GLYPH_NAMES | SerializeFlags::GLYPH_EXTENTS
+        ),
+        "[4=0+11<0,0,0,0>|3=2+7<0,0,0,0>|1=3+6<0,14,3,-14>]"
+    );
+    let mut downwards = text("AB");
+    downwards.set_direction(Direction::TopToBottom);
+    let mut glyphs = shape(&face, &["-liga".parse().unwrap()], downwards);
+    glyphs.scale(&face, 500, 2000);
+    let heights: Vec<_> = glyphs
+        .glyph_positions()
+        .iter()
+        .map(|at| at.y_advance)
+        .collect();
+    assert_eq!(heights, [-2000; 2]);
+}
