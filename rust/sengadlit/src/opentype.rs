@@ -19,6 +19,7 @@
 mod cache;
 mod face;
 mod feature;
+mod from_str;
 mod glyph_buffer;
 mod in_place;
 mod not_found;
@@ -33,6 +34,7 @@ mod unicode_buffer;
 pub use cache::PlanCache;
 pub use face::{Face, FaceError, GlyphExtents};
 pub use feature::{Feature, FeatureError};
+pub use from_str::{DirectionError, ScriptError};
 pub use glyph_buffer::GlyphBuffer;
 pub use in_place::OpenTypeFont;
 pub use plan::{ShapePlan, ShapePlanBuilder};
