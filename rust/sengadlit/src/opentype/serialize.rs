@@ -2,9 +2,10 @@
 
 use super::Face;
 use super::scale::Scale;
-use crate::buffer::{GlyphInfo, GlyphPosition, glyph_flag};
+use crate::buffer::{Buffer, GlyphInfo, GlyphPosition, glyph_flag};
 use core::fmt;
 use core::ops::{BitOr, BitOrAssign};
+use rust_alloc::string::{String, ToString};
 
 /// What [`GlyphBuffer::serialize`](super::GlyphBuffer::serialize) prints.
 #[derive(Clone, Copy, Debug, Default, PartialEq, Eq, Hash)]
@@ -222,4 +223,17 @@ fn write_escaped(name: &str, f: &mut fmt::Formatter<'_>) -> fmt::Result {
         write!(f, "{character}")?;
     }
     Ok(())
+}
+
+/// The glyphs of a buffer in one line, as hb-shape prints them: those that
+/// [`try_shape_in_steps`](super::try_shape_in_steps) tells.
+pub fn serialize_glyphs(buffer: &Buffer, face: &Face<'_>, flags: SerializeFlags) -> String {
+    let serialized = Serialized {
+        infos: buffer.glyphs(),
+        positions: buffer.positions(),
+        face,
+        scale: None,
+        flags,
+    };
+    serialized.to_string()
 }

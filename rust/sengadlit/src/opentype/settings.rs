@@ -19,6 +19,13 @@ impl BufferFlags {
     pub const REMOVE_DEFAULT_IGNORABLES: Self = BufferFlags(0x10);
 }
 
+/// No flags.
+impl Default for BufferFlags {
+    fn default() -> Self {
+        BufferFlags(0)
+    }
+}
+
 /// The high byte of a character's properties that says that it is a variation selector which selected
 /// nothing, where its category is Cf.
 const SELECTOR: u8 = 4;

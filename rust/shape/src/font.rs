@@ -1,0 +1,33 @@
+//! The bytes of the font.
+
+use crate::fault::Fault;
+use sengadlit::Face;
+use std::fs;
+use std::io::{self, Read};
+use std::path::Path;
+
+/// Reads a file, or standard input for `-`.
+pub fn read(path: &Path) -> Result<Vec<u8>, Fault> {
+    let bytes = if path == Path::new("-") {
+        let mut bytes = vec![];
+        io::stdin().lock().read_to_end(&mut bytes).map(|_| bytes)
+    } else {
+        fs::read(path)
+    };
+    bytes.map_err(|error| Fault::Font(format!("{}: {error}", path.display())))
+}
+
+/// The font of this index among those of the bytes.
+pub fn parse<'a>(bytes: &'a [u8], index: u32, path: &Path) -> Result<Face<'a>, Fault> {
+    Face::parse(bytes, index).map_err(|error| {
+        let message = match Face::count(bytes) {
+            0 | 1 => format!("{}: {error}", path.display()),
+            count => format!(
+                "{}: {error}; it has fonts 0 to {}",
+                path.display(),
+                count - 1
+            ),
+        };
+        Fault::Font(message)
+    })
+}
