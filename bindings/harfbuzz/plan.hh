@@ -11,7 +11,7 @@ struct work_t
   ~work_t () { sengadlit_buffer_destroy (buffer); }
 
   sengadlit_buffer_t *buffer = sengadlit_buffer_create ();
-  sengadlit_buffer_properties_t properties = {};
+  sengadlit_buffer_properties_t properties = SENGADLIT_INIT (sengadlit_buffer_properties_t);
   hb_buffer_t *text = nullptr; /* Whose properties those are. */
   const hb_glyph_info_t *glyphs = nullptr; /* Those that are lent; null where none are. */
   unsigned length = 0, allocated = 0;
@@ -62,7 +62,7 @@ struct proved_plan_t
   ~proved_plan_t () { sengadlit_plan_destroy (plan); }
 
   sengadlit_plan_t *plan;
-  sengadlit_plan_data_t data;
+  sengadlit_plan_data_t data = SENGADLIT_INIT (sengadlit_plan_data_t);
   unsigned shaper;
   bool zero_context; /* As HarfBuzz queries whether a lookup of Indic would apply. */
   slot_t<work_t> work;
@@ -175,8 +175,8 @@ offers_feature (void *user_data, uint32_t tag)
   return builder && builder->has_feature (tag);
 }
 
-static const sengadlit_font_funcs_t font_funcs = {nominal_glyph, glyph_h_advance, would_substitute, offers_feature};
-static const sengadlit_font_funcs_t font_funcs_indic = {nominal_glyph_indic, glyph_h_advance, would_substitute, offers_feature};
+static const sengadlit_font_funcs_t font_funcs = {sizeof font_funcs, nominal_glyph, glyph_h_advance, would_substitute, offers_feature};
+static const sengadlit_font_funcs_t font_funcs_indic = {sizeof font_funcs_indic, nominal_glyph_indic, glyph_h_advance, would_substitute, offers_feature};
 
 static uint8_t ask_joining_type (void *, uint32_t u) { return joining_type (u); }
 static uint8_t ask_general_category (void *unicode, uint32_t u) { return ((hb_unicode_funcs_t *) unicode)->general_category (u); }
@@ -186,7 +186,7 @@ static sengadlit_bool_t ask_compose (void *unicode, uint32_t a, uint32_t b, uint
 static sengadlit_bool_t ask_decompose (void *unicode, uint32_t ab, uint32_t *a, uint32_t *b) { return ((hb_unicode_funcs_t *) unicode)->decompose (ab, a, b); }
 
 static const sengadlit_tables_funcs_t tables_funcs =
-{ask_joining_type, ask_general_category, ask_indic_categories, ask_use_category, ask_compose, ask_decompose};
+{sizeof tables_funcs, ask_joining_type, ask_general_category, ask_indic_categories, ask_use_category, ask_compose, ask_decompose};
 
 /* ---- Lists of features ---- */
 
@@ -207,7 +207,7 @@ list_pause (void *user_data, sengadlit_pause_t pause)
   ((requests_t *) user_data)->push (proved_request_t {0, 0, 0, pause == SENGADLIT_PAUSE_NONE ? SENGADLIT_NONE : (uint32_t) pause});
 }
 
-static const sengadlit_map_funcs_t listing_funcs = {list_feature, list_pause};
+static const sengadlit_map_funcs_t listing_funcs = {sizeof listing_funcs, list_feature, list_pause};
 
 /* What a shaper requests of the map, in order; with `builder`, the font is queried through it. */
 static void
@@ -327,7 +327,7 @@ create_proved_plan (unsigned shaper, const hb_ot_shape_plan_t *plan)
     add_stages (plan->map, features, proved, stages, lookups);
   }
   set_stock_plan (plan, proved);
-  sengadlit_plan_input_t input = {};
+  sengadlit_plan_input_t input = SENGADLIT_INIT (sengadlit_plan_input_t);
   input.script = plan->props.script;
   input.chosen_script = plan->map.chosen_script[0];
   input.found_script = plan->map.found_script[0];

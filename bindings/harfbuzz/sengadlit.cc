@@ -205,7 +205,7 @@ static hb_ot_shaper_t
 proved_shaper (const stock_shaper_t &stock)
 {
   typedef HOOKS<shaper> hooks;
-  sengadlit_shaper_constants_t constants = {};
+  sengadlit_shaper_constants_t constants = SENGADLIT_INIT (sengadlit_shaper_constants_t);
   (void) sengadlit_shaper_get_constants ((sengadlit_shaper_t) shaper, &constants);
   return {
     stock.collect_features ? hooks::collect_features : nullptr,

@@ -38,10 +38,12 @@ int main(void)
 {
     const sengadlit_table_feature_t features[] = {{SENGADLIT_TAG('b', 'l', 'w', 'f'), 1, (const uint16_t[]){0}},
                                                   {SENGADLIT_TAG('p', 'r', 'e', 'f'), 1, (const uint16_t[]){1}}};
-    const sengadlit_shape_plan_input_t input = {.script = SENGADLIT_TAG('K', 'h', 'm', 'r'), .direction = SENGADLIT_DIRECTION_LTR,
+    const sengadlit_shape_plan_input_t input = {sizeof input, SENGADLIT_TAG('K', 'h', 'm', 'r'), SENGADLIT_DIRECTION_LTR,
         .gsub = {.has_table = 1, .chosen_script = SENGADLIT_TAG('k', 'h', 'm', 'r'), .features_length = 2, .features = features}};
-    const sengadlit_font_t font = {.funcs = &(sengadlit_font_funcs_t){nominal_glyph, glyph_h_advance, NULL, NULL}};
-    const sengadlit_lookups_t lookups = {.funcs = &(sengadlit_lookups_funcs_t){.substitute = substitute}};
+    const sengadlit_font_funcs_t font_funcs = {sizeof font_funcs, nominal_glyph, glyph_h_advance, NULL, NULL};
+    const sengadlit_lookups_funcs_t lookups_funcs = {.size = sizeof lookups_funcs, .substitute = substitute};
+    const sengadlit_font_t font = {.funcs = &font_funcs};
+    const sengadlit_lookups_t lookups = {.funcs = &lookups_funcs};
     sengadlit_shape_plan_t *plan = sengadlit_shape_plan_create(&input, NULL);
     sengadlit_buffer_t *buffer = sengadlit_buffer_create();
     unsigned int length = 0;

@@ -18,9 +18,9 @@ static sengadlit_bool_t nominal_glyph(void *user_data, uint32_t unicode, uint32_
 
 int main(void)
 {
-    static const sengadlit_font_funcs_t funcs = {.nominal_glyph = nominal_glyph};
+    static const sengadlit_font_funcs_t funcs = {.size = sizeof funcs, .nominal_glyph = nominal_glyph};
     const sengadlit_font_t font = {.funcs = &funcs};
-    const sengadlit_plan_input_t input = {.script = SENGADLIT_TAG('T', 'h', 'a', 'i')};
+    const sengadlit_plan_input_t input = {.size = sizeof input, .script = SENGADLIT_TAG('T', 'h', 'a', 'i')};
     unsigned int length;
     sengadlit_plan_t *plan = sengadlit_plan_create(SENGADLIT_SHAPER_THAI, &input, NULL);
     sengadlit_buffer_t *buffer = sengadlit_buffer_create();

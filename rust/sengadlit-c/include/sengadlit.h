@@ -1,34 +1,53 @@
-/* sengadlit.h - script shapers: the hooks between Unicode text and a font's lookups.
+/* sengadlit.h - text shaping: a font file and a text to positioned glyphs in one call, and script shapers for engines with
+   lookups of their own, the hooks between Unicode text and a font's lookups.
 
    For Arabic and the scripts that join like it, Hangul, Hebrew, the Indic scripts, Khmer, Myanmar, Thai and Lao, and the
-   scripts of the Universal Shaping Engine. They are HarfBuzz's hooks under HarfBuzz's names, with its numbers for
-   scripts, directions, cluster levels, flags and categories. Lookups are the caller's, and so is the font, which the library
-   calls back. Unicode's tables, the syllables of a text, its normalization and what stands around lookups may be the library's
-   or the caller's.
+   scripts of the Universal Shaping Engine. They are HarfBuzz's hooks under HarfBuzz's names, with its numbers for scripts,
+   directions, cluster levels, flags and categories. Lookups are a face's, or the caller's, and so is the font, which the
+   library calls back then. Unicode's tables, the syllables of a text, its normalization and what stands around lookups may be
+   the library's or the caller's.
 
-   Objects. A plan is made once for a shaper, a script and a font, and doesn't change afterwards: threads may share it. A
-   buffer is used by one thread at a time, again and again; its glyphs are read and written in place.
+   Objects. A face is a font in memory, and a plan is made once for a shaper, a script and a font; neither changes afterwards,
+   and threads may share them. A buffer is used by one thread at a time, again and again; its glyphs are read and written in
+   place.
 
-   Pointers. What is passed in stays the caller's and is read during the call alone, but for the user data of a plan.
-   No pointer may be null unless its description says so. A null pointer elsewhere is rejected like any other argument.
+   Structs that may get fields in a later version begin with their own size: SENGADLIT_INIT(type) makes one of which the size is
+   set and all else 0. One of a later header is taken if the fields that this library doesn't know are 0. A size that is 0, or
+   none of the struct's, is rejected as a null pointer would be.
 
-   Errors. A call tests its arguments before it writes anything. Where it doesn't return SENGADLIT_DONE, and where a
-   function that returns a pointer returns null, nothing has changed but what sengadlit_error_t reports; the one
-   exception is SENGADLIT_INTERNAL. Memory comes from malloc.
+   Pointers. What is passed in stays the caller's and is read during the call alone, but for the user data of a plan. No pointer
+   may be null unless its description says so. A null pointer elsewhere is rejected like any other argument.
 
-   Callbacks run on the thread of the call, before it returns. They return the same result for the same arguments
-   throughout a call; if one doesn't, the result is unspecified or SENGADLIT_INTERNAL, and memory stays sound all the same.
-   A callback may use other buffers and plans. The buffer of its call is rejected by every function: those that return a
-   status return SENGADLIT_IN_CALL, those that return a pointer null, and the others do nothing, except that
-   sengadlit_buffer_destroy takes effect when the call ends, and sengadlit_buffer_get_error works. A callback must not touch
-   the glyphs or positions of that buffer by pointers from before, nor drop the last reference to the plan of the call.
-   A C++ exception that leaves a callback ends the program, with a message on stderr. A callback must not be left by longjmp: the
-   jump would pass over frames of the library, which free what they own when they return, and its behaviour is undefined. */
+   Errors. A call tests its arguments before it writes anything. Where it doesn't return SENGADLIT_DONE, and where a function
+   that returns a pointer returns null, nothing has changed but what sengadlit_error_t reports; the one exception is
+   SENGADLIT_INTERNAL. Memory comes from malloc.
+
+   Callbacks run on the thread of the call, before it returns. They return the same result for the same arguments throughout a
+   call; if one doesn't, the result is unspecified or SENGADLIT_INTERNAL, and memory stays sound all the same. A callback may
+   use other buffers and plans. The buffer of its call is rejected by every function: those that return a status return
+   SENGADLIT_IN_CALL, those that return a pointer null, and the others do nothing, except that sengadlit_buffer_destroy takes
+   effect when the call ends, and sengadlit_buffer_get_error works. A callback must not touch the glyphs or positions of that
+   buffer by pointers from before, nor drop the last reference to the plan of the call. A C++ exception that leaves a callback
+   ends the program, with a message on stderr. A callback must not be left by longjmp: the jump would pass over frames of the
+   library, which free what they own when they return, and its behaviour is undefined. */
 #ifndef SENGADLIT_H
 #define SENGADLIT_H
 
 #include <stddef.h>
 #include <stdint.h>
+
+/* What initializes a struct that begins with its size: sengadlit_plan_input_t input = SENGADLIT_INIT(sengadlit_plan_input_t); */
+#ifdef __cplusplus
+template <typename type> inline type sengadlit_init()
+{
+    type zeros{};
+    zeros.size = sizeof zeros;
+    return zeros;
+}
+#define SENGADLIT_INIT(type) sengadlit_init<type>()
+#else
+#define SENGADLIT_INIT(type) {.size = sizeof(type)}
+#endif
 
 #ifdef __cplusplus
 extern "C" {
@@ -122,6 +141,13 @@ typedef enum sengadlit_argument_t {
     SENGADLIT_ARGUMENT_STAGES = 19,  /* Null, or stage `index` isn't a range of the lookups. */
     SENGADLIT_ARGUMENT_LOOKUPS = 20, /* Null, those of feature `index` are, or a function that the call uses is. */
     SENGADLIT_ARGUMENT_TEXT = 21,    /* Null. */
+    SENGADLIT_ARGUMENT_CONTENT = 22, /* The buffer has glyphs where the call takes characters, or of two buffers the one has
+                                        glyphs and the other characters; or no content type by this number. */
+    SENGADLIT_ARGUMENT_FACE = 23,    /* Null. */
+    SENGADLIT_ARGUMENT_DATA = 24,    /* Null, or no OpenType font, or one without the table head or maxp. */
+    SENGADLIT_ARGUMENT_INDEX = 25,   /* The file has fewer fonts. */
+    SENGADLIT_ARGUMENT_OPTIONS = 26, /* The size is none of the struct's, or a later header's field isn't 0; or a flag that isn't
+                                        one of the call's. */
     SENGADLIT_ARGUMENT_MAX_VALUE = 0x7FFFFFFF
 } sengadlit_argument_t;
 
@@ -145,6 +171,8 @@ typedef void (*sengadlit_message_func_t)(const char *message, void *user_data);
 /* Where messages go, for the whole program: to this function, and nothing is written to stderr; if it is null, to stderr,
    as at first. A call on another thread may still hand one to the function that was set before. */
 void sengadlit_set_message_func(sengadlit_message_func_t func, void *user_data);
+/* That function, or null, and through `user_data`, which may be null, what it is given. */
+sengadlit_message_func_t sengadlit_get_message_func(void **user_data);
 
 /* ---- Shapers ---- */
 
@@ -192,6 +220,7 @@ typedef enum sengadlit_zero_width_marks_t {
 
 /* What holds of a shaper whatever the text and the font. */
 typedef struct sengadlit_shaper_constants_t {
+    size_t size;                     /* sizeof. */
     uint32_t hooks;                  /* SENGADLIT_HOOK_.. */
     sengadlit_tag_t gpos_tag;        /* Marks are left to GPOS only if it chose this script; 0 if any will do. */
     sengadlit_normalization_mode_t normalization_preference;
@@ -199,7 +228,7 @@ typedef struct sengadlit_shaper_constants_t {
     sengadlit_bool_t fallback_position; /* Whether marks are placed by their classes where the font doesn't place them. */
 } sengadlit_shaper_constants_t;
 
-/* ARGUMENT (and `constants` is as it was): no such shaper, or a null pointer. */
+/* Writes all but the size. ARGUMENT (and `constants` is as it was): no such shaper, a null pointer, or a wrong size. */
 sengadlit_status_t sengadlit_shaper_get_constants(sengadlit_shaper_t shaper, sengadlit_shaper_constants_t *constants);
 
 /* The shaper for a text, as HarfBuzz chooses it: by its script (0 if it isn't known), its direction, and the script tag that
@@ -212,6 +241,7 @@ sengadlit_status_t sengadlit_shaper_for_script(sengadlit_tag_t script, sengadlit
 
 /* The font. A function that no call uses may be null: each call below says which ones it calls. */
 typedef struct sengadlit_font_funcs_t {
+    size_t size;                     /* sizeof. */
     /* Writes the nominal glyph of a character, as the font's cmap has it, and returns whether there is one. A glyph above
        65535 counts as none. */
     sengadlit_bool_t (*nominal_glyph)(void *user_data, uint32_t unicode, uint32_t *glyph);
@@ -376,6 +406,7 @@ enum {
 /* The Unicode Character Database and the shapers' tables. A function that no call uses may be null. Where a call takes null
    tables, they are the library's own, of Unicode 17.0. */
 typedef struct sengadlit_tables_funcs_t {
+    size_t size;                     /* sizeof. */
     /* SENGADLIT_JOINING_..; any other number counts as U. */
     uint8_t (*joining_type)(void *user_data, uint32_t unicode);
     /* SENGADLIT_UNICODE_GENERAL_CATEGORY_..; any other number counts as UNASSIGNED. */
@@ -422,6 +453,7 @@ enum {
 
 /* Where a shaper puts its requests to the map, in order, as hb_ot_map_builder_t. Neither may be null. */
 typedef struct sengadlit_map_funcs_t {
+    size_t size;                     /* sizeof. */
     void (*add_feature)(void *user_data, sengadlit_tag_t tag, uint32_t flags, uint32_t value); /* Value 0: off. */
     void (*add_gsub_pause)(void *user_data, sengadlit_pause_t pause);
 } sengadlit_map_funcs_t;
@@ -441,6 +473,9 @@ typedef struct sengadlit_map_t {
     const sengadlit_map_funcs_t *funcs;
     void *user_data;
 } sengadlit_map_t;
+
+/* The library's own tables, which are there for good: for who asks Unicode, or has only some functions of one's own. */
+const sengadlit_tables_t *sengadlit_tables_default(void);
 
 /* ---- Plans ---- */
 
@@ -469,6 +504,7 @@ typedef struct sengadlit_stage_t {
 
 /* What was made of the font's GSUB and the requested features. Fields that aren't needed are 0, by an initializer. */
 typedef struct sengadlit_plan_input_t {
+    size_t size;                     /* sizeof. */
     sengadlit_tag_t script;          /* Of the text; 0 if it isn't known. */
     sengadlit_tag_t chosen_script;   /* The script tag that GSUB was found to offer, as hb_ot_map_t::chosen_script; or 0. */
     sengadlit_bool_t found_script;   /* Whether that is one of the script's own tags; read for Thai alone. */
@@ -504,6 +540,7 @@ void *sengadlit_plan_get_user_data(const sengadlit_plan_t *plan);
 
 /* What the shaper keeps in the plan: for callers that skip calls which would change nothing. */
 typedef struct sengadlit_plan_data_t {
+    size_t size;                     /* sizeof. */
     sengadlit_shaper_t shaper;
     sengadlit_bool_t joins;          /* Whether letters join: Arabic, and scripts of the universal shaper that do. */
     sengadlit_bool_t has_stch;       /* Whether the font stretches marks: else RECORD_STCH and postprocess_glyphs do nothing. */
@@ -512,7 +549,7 @@ typedef struct sengadlit_plan_data_t {
                                         vjmo, tjmo. Khmer: pref, blwf, abvf, pstf, cfar, pres, blws, abvs, psts. */
 } sengadlit_plan_data_t;
 
-/* ARGUMENT (and `data` is as it was): a null pointer. */
+/* Writes all but the size. ARGUMENT (and `data` is as it was): a null pointer, or a wrong size. */
 sengadlit_status_t sengadlit_plan_get_data(const sengadlit_plan_t *plan, sengadlit_plan_data_t *data);
 
 /* ---- Buffers ---- */
@@ -626,17 +663,21 @@ typedef enum sengadlit_buffer_cluster_level_t {
     SENGADLIT_BUFFER_CLUSTER_LEVEL_MAX_VALUE = 0x7FFFFFFF
 } sengadlit_buffer_cluster_level_t;
 
-/* As hb_buffer_flags_t: its other flags may be set too, and change nothing. */
+/* As hb_buffer_flags_t: its other flags may be set too, and change nothing. The first two, of which PRESERVE counts where both
+   are set, are read by the calls that shape whole texts. */
 enum {
+    SENGADLIT_BUFFER_FLAG_PRESERVE_DEFAULT_IGNORABLES = 0x04,
+    SENGADLIT_BUFFER_FLAG_REMOVE_DEFAULT_IGNORABLES = 0x08,
     SENGADLIT_BUFFER_FLAG_DO_NOT_INSERT_DOTTED_CIRCLE = 0x10,
     SENGADLIT_BUFFER_FLAG_PRODUCE_UNSAFE_TO_CONCAT = 0x40,
     SENGADLIT_BUFFER_FLAG_PRODUCE_SAFE_TO_INSERT_TATWEEL = 0x80
 };
 
-/* Properties of the text as a whole. A struct of zeros, as {0} makes it, has those of a new buffer. */
+/* Properties of the text as a whole. Fields of zeros, as SENGADLIT_INIT makes them, are those of a new buffer. */
 typedef struct sengadlit_buffer_properties_t {
+    size_t size;                     /* sizeof. */
     sengadlit_tag_t script;          /* 0 if it isn't known. */
-    sengadlit_direction_t direction; /* INVALID, which is 0, counts as LTR. */
+    sengadlit_direction_t direction; /* INVALID, which is 0, if it isn't set; hooks take it for LTR. */
     sengadlit_buffer_cluster_level_t cluster_level;
     uint32_t flags;                  /* SENGADLIT_BUFFER_FLAG_.. */
     uint32_t max_length;             /* A hook that would make the text longer returns TOO_LONG, and a stretched mark repeats
@@ -647,7 +688,7 @@ typedef struct sengadlit_buffer_properties_t {
 
 typedef struct sengadlit_buffer_t sengadlit_buffer_t;
 
-/* An empty buffer: script 0, left to right, monotone graphemes, no flags, no max_length, no context, state 0. Null where memory
+/* An empty buffer: no script, no direction, monotone graphemes, no flags, no max_length, no context, state 0. Null where memory
    is refused. */
 sengadlit_buffer_t *sengadlit_buffer_create(void);
 /* `buffer` may be null. */
@@ -668,10 +709,50 @@ void sengadlit_buffer_reset(sengadlit_buffer_t *buffer);
 sengadlit_glyph_info_t *sengadlit_buffer_set_length(sengadlit_buffer_t *buffer, unsigned int length);
 /* The glyphs, for which the same holds, and through `length`, which may be null, how many there are. */
 sengadlit_glyph_info_t *sengadlit_buffer_get_glyph_infos(sengadlit_buffer_t *buffer, unsigned int *length);
+/* The same to be read alone: the glyphs, and the positions where there are some, through `length`, which may be null, how many;
+   null where there are none. Both pointers hold until the text is changed or the buffer passed to a call that may change it; these
+   two calls don't. */
+const sengadlit_glyph_info_t *sengadlit_buffer_read_glyphs(sengadlit_buffer_t *buffer, unsigned int *length);
+const sengadlit_glyph_position_t *sengadlit_buffer_read_positions(sengadlit_buffer_t *buffer, unsigned int *length);
+/* How many glyphs there are; 0 for null. */
+unsigned int sengadlit_buffer_get_length(sengadlit_buffer_t *buffer);
 /* The positions, one per glyph, which the first call makes, all zero. The pointer holds as long as a pointer to the glyphs, and
    neither of these functions ends the other's. The positions stay until sengadlit_buffer_set_length; while they are there,
    sengadlit_postprocess_glyphs is the only hook that takes the buffer. */
 sengadlit_glyph_position_t *sengadlit_buffer_get_glyph_positions(sengadlit_buffer_t *buffer, unsigned int *length);
+
+/* As hb_buffer_content_type_t: what the glyphs of a buffer are, as far as it knows. sengadlit_buffer_add_utf8 and its siblings
+   make it UNICODE, and the calls that shape whole texts GLYPHS; an empty text, and an array that is lent, have INVALID. The calls
+   that take characters reject GLYPHS: sengadlit_buffer_add_utf8, sengadlit_substitute_text, sengadlit_shape,
+   sengadlit_shape_buffer and sengadlit_buffer_guess_properties. Hooks read nothing of it, and set nothing. */
+typedef enum sengadlit_buffer_content_type_t {
+    SENGADLIT_BUFFER_CONTENT_TYPE_INVALID = 0,
+    SENGADLIT_BUFFER_CONTENT_TYPE_UNICODE = 1,
+    SENGADLIT_BUFFER_CONTENT_TYPE_GLYPHS = 2,
+    SENGADLIT_BUFFER_CONTENT_TYPE_MAX_VALUE = 0x7FFFFFFF
+} sengadlit_buffer_content_type_t;
+
+/* INVALID for a null buffer. */
+sengadlit_buffer_content_type_t sengadlit_buffer_get_content_type(sengadlit_buffer_t *buffer);
+/* For who writes glyphs or characters in place. ARGUMENT: CONTENT; and for a null buffer. */
+sengadlit_status_t sengadlit_buffer_set_content_type(sengadlit_buffer_t *buffer, sengadlit_buffer_content_type_t content_type);
+/* Whether the text is one that sengadlit_shape, sengadlit_shape_buffer or sengadlit_shape_utf8 and its siblings have shaped, with
+   nothing left undone. 0 once the text gets another length or content type, and for null. */
+sengadlit_bool_t sengadlit_buffer_is_complete(sengadlit_buffer_t *buffer);
+
+/* Adds the glyphs of another buffer from place `start` to before `end`, with their positions, as hb_buffer_append: script and
+   direction that aren't set become the other's, and of characters what stands around them there becomes the context, before the
+   text if it was empty. `source` stays as it is. ARGUMENT: RANGE; TEXT, a null source; CONTENT and POSITIONS, where neither
+   text is empty and only one has characters, or positions; and for a null buffer. IN_CALL: also where both are one. MEMORY.
+   TOO_LONG: more than UINT32_MAX glyphs. */
+sengadlit_status_t sengadlit_buffer_append(sengadlit_buffer_t *buffer, sengadlit_buffer_t *source, unsigned int start,
+                                           unsigned int end);
+/* Turns the glyphs round, with their positions, as hb_buffer_reverse; those from `start` to before `end`, as
+   hb_buffer_reverse_range; or the order of clusters, but not of the glyphs in each, as hb_buffer_reverse_clusters. ARGUMENT:
+   RANGE; and for a null buffer. */
+sengadlit_status_t sengadlit_buffer_reverse(sengadlit_buffer_t *buffer);
+sengadlit_status_t sengadlit_buffer_reverse_range(sengadlit_buffer_t *buffer, unsigned int start, unsigned int end);
+sengadlit_status_t sengadlit_buffer_reverse_clusters(sengadlit_buffer_t *buffer);
 
 /* ---- Glyphs in an array of the caller's ---- */
 
@@ -685,6 +766,8 @@ typedef sengadlit_glyph_info_t *(*sengadlit_grow_func_t)(void *user_data, sengad
 /* Sets what makes room in the arrays that the buffer is lent from now on; it stays until it is set again. It runs within calls,
    as every callback. Null, as in a new buffer: arrays don't grow. ARGUMENT: GLYPHS, and for a null buffer. */
 sengadlit_status_t sengadlit_buffer_set_grow_func(sengadlit_buffer_t *buffer, sengadlit_grow_func_t grow, void *user_data);
+/* That function, or null, and through `user_data`, which may be null, what it is given. */
+sengadlit_grow_func_t sengadlit_buffer_get_grow_func(sengadlit_buffer_t *buffer, void **user_data);
 
 /* Lends an array to the buffer, in the place of glyphs of its own: the first `length` of its `allocated` glyphs are the text, and
    nothing is copied. All calls work in the array until it is given back: they read and write it there, and
@@ -721,8 +804,8 @@ sengadlit_glyph_info_t *sengadlit_buffer_give_back(sengadlit_buffer_t *buffer, u
    CONTINUATION of Unicode 17.0; what else continues a grapheme, as in emoji and flags, is the caller's, and so is
    the high byte of what is no mark. All else is zero, and there are no positions. `text` may be null if its length is 0.
    max_length doesn't limit this call, as it doesn't limit sengadlit_buffer_set_length.
-   ARGUMENT: TEXT; RANGE: a length below -1, or an item that doesn't lie in the text; and for a null buffer. MEMORY. TOO_LONG:
-   the buffer would have, or the text has, more than UINT32_MAX units. */
+   ARGUMENT: TEXT; RANGE: a length below -1, or an item that doesn't lie in the text; CONTENT: the buffer has glyphs; and for a
+   null buffer. MEMORY. TOO_LONG: the buffer would have, or the text has, more than UINT32_MAX units. */
 sengadlit_status_t sengadlit_buffer_add_utf8(sengadlit_buffer_t *buffer, const char *text, int text_length,
                                              unsigned int item_offset, int item_length);
 sengadlit_status_t sengadlit_buffer_add_utf16(sengadlit_buffer_t *buffer, const uint16_t *text, int text_length,
@@ -732,11 +815,23 @@ sengadlit_status_t sengadlit_buffer_add_utf32(sengadlit_buffer_t *buffer, const 
 
 /* ARGUMENT: PROPERTIES, DIRECTION, CLUSTER_LEVEL, and for a null buffer. */
 sengadlit_status_t sengadlit_buffer_set_properties(sengadlit_buffer_t *buffer, const sengadlit_buffer_properties_t *properties);
+/* Writes all but the size: what isn't set is 0. ARGUMENT: PROPERTIES, and for a null buffer. */
+sengadlit_status_t sengadlit_buffer_get_properties(sengadlit_buffer_t *buffer, sengadlit_buffer_properties_t *properties);
+/* Sets the script, where none is set, to that of the first character that has one of its own, and then the direction, where
+   none is set, to that of the script, or LTR: as hb_buffer_guess_segment_properties, but for its language. ARGUMENT: CONTENT,
+   and for a null buffer. */
+sengadlit_status_t sengadlit_buffer_guess_properties(sengadlit_buffer_t *buffer);
 /* The characters before the text and after it, the nearest first, of which five count on each side. Null if the length is
    0. Read where letters join. ARGUMENT: CONTEXT, where `index` counts on from those before to those after; and for a null
    buffer. */
 sengadlit_status_t sengadlit_buffer_set_context(sengadlit_buffer_t *buffer, const uint32_t *before, unsigned int before_length,
                                                 const uint32_t *after, unsigned int after_length);
+/* How many characters of a context count on each side. */
+#define SENGADLIT_CONTEXT_LENGTH 5
+/* Writes those characters, with zeros behind them, and how many they are; each pointer may be null. ARGUMENT: a null buffer. */
+sengadlit_status_t sengadlit_buffer_get_context(sengadlit_buffer_t *buffer, uint32_t before[SENGADLIT_CONTEXT_LENGTH],
+                                                unsigned int *before_length, uint32_t after[SENGADLIT_CONTEXT_LENGTH],
+                                                unsigned int *after_length);
 
 /* What one hook leaves for a later one, as HarfBuzz's scratch flags. It stays until it is set or the buffer cleared. */
 enum {
@@ -955,6 +1050,7 @@ typedef struct sengadlit_user_feature_t {
 
 /* What decides how the texts of one script, direction and font are shaped. */
 typedef struct sengadlit_shape_plan_input_t {
+    size_t size;                     /* sizeof. */
     sengadlit_tag_t script;          /* Of the text; 0 if it isn't known. */
     sengadlit_direction_t direction;
     sengadlit_layout_table_t gsub;
@@ -993,6 +1089,7 @@ typedef struct sengadlit_lookup_t {
    65535, and its positions are then the text's; what else is changed of it is lost. A function that returns 0 tells that memory
    was refused, and leaves the glyphs as they were. */
 typedef struct sengadlit_lookups_funcs_t {
+    size_t size;                     /* sizeof. */
     /* Writes the glyph of a character with a variation selector, as the font's cmap has it, and returns whether there is one;
        may be null if there is none. */
     sengadlit_bool_t (*variation_glyph)(void *user_data, uint32_t unicode, uint32_t selector, uint32_t *glyph);
@@ -1027,11 +1124,11 @@ sengadlit_status_t sengadlit_buffer_unsafe_to_break(sengadlit_buffer_t *buffer, 
 /* Takes a text of characters, as sengadlit_buffer_add_utf8 adds them, to glyphs behind the last lookup of GSUB: in HarfBuzz's
    order all that comes before lookups, normalization among it, and then stage by stage the lookups and the pause behind them.
    Script and direction are the plan's, and those of the buffer's properties stay: the glyphs are in the order of the script's
-   own direction, whichever that is. Calls nominal_glyph; for Hangul glyph_h_advance;
-   for Indic would_substitute, if the plan has a lookup; and the functions of `lookups`, of which substitute may be null if the
-   plan has no lookup.
-   ARGUMENT: PLAN, FONT, LOOKUPS, POSITIONS; GLYPH_ID: not a scalar value; and for a null buffer. TOO_LONG, MEMORY,
-   UNKNOWN_SYLLABLE. GLYPH_ID is also the argument where a lookup left glyph `index` with a number above 65535. */
+   own direction, whichever that is. Calls nominal_glyph; for Hangul glyph_h_advance; for Indic would_substitute, if the plan
+   has a lookup; and the functions of `lookups`, of which substitute may be null if the plan has no lookup.
+   ARGUMENT: PLAN, FONT, LOOKUPS, POSITIONS; CONTENT: the buffer has glyphs; GLYPH_ID: not a scalar value; and for a null
+   buffer. TOO_LONG, MEMORY, UNKNOWN_SYLLABLE. GLYPH_ID is also the argument where a lookup left glyph `index` with a number
+   above 65535. */
 sengadlit_status_t sengadlit_substitute_text(const sengadlit_shape_plan_t *plan, const sengadlit_font_t *font,
                                              const sengadlit_lookups_t *lookups, sengadlit_buffer_t *buffer);
 
@@ -1044,6 +1141,109 @@ sengadlit_status_t sengadlit_substitute_text(const sengadlit_shape_plan_t *plan,
    also where finish_positions did so, or left a glyph with a number above 65535. */
 sengadlit_status_t sengadlit_shape(const sengadlit_shape_plan_t *plan, const sengadlit_font_t *font,
                                    const sengadlit_lookups_t *lookups, sengadlit_buffer_t *buffer);
+
+/* ---- Faces: a text and a font file in one call ---- */
+
+/* A font file in memory, or one font of a collection: OpenType, with glyf or CFF outlines. No file is opened. Of a variable
+   font it is the default instance, and tables of AAT and Graphite aren't read. A face doesn't change: threads may share it. A
+   library that was built without the feature `opentype` has none of the functions from here to sengadlit_buffer_serialize, nor
+   sengadlit_buffer_guess_properties. */
+typedef struct sengadlit_face_t sengadlit_face_t;
+
+/* How many fonts a file has: 1, or those of a collection; 0 where the bytes are null, or no font. */
+unsigned int sengadlit_face_count(const void *data, size_t length);
+
+/* Makes a face, with one reference, of a font by its place in a collection; else `index` is 0. The bytes must last and stay as
+   they are until `destroy` is called with `user_data`: once, when the last reference goes, on that thread, or before null is
+   returned. With a null `destroy` they are copied. What in a font can't be read counts as absent, whatever the bytes are.
+   `error` may be null; it is written where null is returned: ARGUMENT: DATA, INDEX; MEMORY; INTERNAL. */
+sengadlit_face_t *sengadlit_face_create(const void *data, size_t length, unsigned int index, void *user_data,
+                                        sengadlit_destroy_func_t destroy, sengadlit_error_t *error);
+/* Adds a reference and returns `face`, which may be null. Any thread that has a reference may call these two. */
+sengadlit_face_t *sengadlit_face_reference(sengadlit_face_t *face);
+/* Drops a reference; the last one frees the face. `face` may be null. */
+void sengadlit_face_destroy(sengadlit_face_t *face);
+/* What the face was made with; null for a null face. */
+void *sengadlit_face_get_user_data(const sengadlit_face_t *face);
+
+/* How many font units an em has, and how many glyphs there are; 0 for a null face, as below. */
+unsigned int sengadlit_face_get_units_per_em(const sengadlit_face_t *face);
+unsigned int sengadlit_face_get_glyph_count(const sengadlit_face_t *face);
+/* Writes the glyph of a character, or of one with a variation selector behind it, unless `glyph` is null, and returns whether
+   there is one. */
+sengadlit_bool_t sengadlit_face_get_nominal_glyph(const sengadlit_face_t *face, uint32_t unicode, uint32_t *glyph);
+sengadlit_bool_t sengadlit_face_get_variation_glyph(const sengadlit_face_t *face, uint32_t unicode, uint32_t selector,
+                                                    uint32_t *glyph);
+/* In font units. */
+int32_t sengadlit_face_get_glyph_h_advance(const sengadlit_face_t *face, uint32_t glyph);
+/* Writes the name that the table post has for a glyph, as much of it as has room in `size` bytes with a zero behind it, and
+   returns whether there is one. `name` may be null if `size` is 0. */
+sengadlit_bool_t sengadlit_face_get_glyph_name(const sengadlit_face_t *face, uint32_t glyph, char *name, unsigned int size);
+/* The face as a font for the hooks, which lasts as long as the face; null for null. Its has_feature asks GSUB and GPOS in the
+   script that they have for texts of no script. */
+const sengadlit_font_t *sengadlit_face_get_font(const sengadlit_face_t *face);
+
+/* Plans of faces, which are made once for each face, script, direction, features and choices below: the 64 that were used last.
+   One thread uses a cache at a time, and a callback may use that of its call, but not destroy it. A plan of a face that is gone
+   is never taken for another's, and keeps no bytes of it. Null where memory is refused. */
+typedef struct sengadlit_plan_cache_t sengadlit_plan_cache_t;
+sengadlit_plan_cache_t *sengadlit_plan_cache_create(void);
+/* `cache` may be null, here and in the next two. */
+void sengadlit_plan_cache_destroy(sengadlit_plan_cache_t *cache);
+/* Drops all plans. */
+void sengadlit_plan_cache_clear(sengadlit_plan_cache_t *cache);
+/* How many plans it has. */
+unsigned int sengadlit_plan_cache_get_length(const sengadlit_plan_cache_t *cache);
+
+/* What is chosen for a text. Fields of zeros are as HarfBuzz shapes. */
+typedef struct sengadlit_shape_options_t {
+    size_t size;                     /* sizeof. */
+    sengadlit_tag_t script;          /* Script and direction, if not 0 and INVALID; else those of the buffer's properties, */
+    sengadlit_direction_t direction; /* where the text is the buffer's, and else those that the characters have. */
+    const sengadlit_user_feature_t *features; /* May be null if the length is 0. */
+    unsigned int features_length;
+    sengadlit_bool_t sound_breaks;   /* These two as in sengadlit_plan_input_t. */
+    sengadlit_bool_t searches_medials;
+    sengadlit_bool_t normalizes_always; /* Whether letters compose in a text without marks too, so that a letter is the same in a
+                                        short text and in a long one. */
+    const sengadlit_font_t *font;    /* Its nominal_glyph and glyph_h_advance, where there are, in the place of the face's: widths
+                                        by hinting, or another cmap. In font units. Null: the face's own. */
+    sengadlit_plan_cache_t *cache;   /* Null: a plan is made for the call. */
+} sengadlit_shape_options_t;
+
+/* Shapes a text, which replaces that of the buffer: `text_length` units, or with -1 those before the first zero, decoded as
+   sengadlit_buffer_add_utf8 and its siblings do. The glyphs have positions and are in the order in which they are drawn. Script
+   and direction of the buffer become those by which the text was shaped; its cluster_level, flags and max_length count.
+   `options` may be null. A plan that is used for more than one text is worth a cache.
+   ATOMIC: unless DONE is returned, the buffer has the text that it had. ARGUMENT: FACE; TEXT, RANGE, of text and length;
+   OPTIONS; DIRECTION, FEATURES, FONT, of the options; and for a null buffer. MEMORY. TOO_LONG: the text grows beyond
+   max_length, or has more than UINT32_MAX units. STRETCH_OVERFLOW. */
+sengadlit_status_t sengadlit_shape_utf8(const sengadlit_face_t *face, const char *text, int text_length,
+                                        const sengadlit_shape_options_t *options, sengadlit_buffer_t *buffer);
+sengadlit_status_t sengadlit_shape_utf16(const sengadlit_face_t *face, const uint16_t *text, int text_length,
+                                         const sengadlit_shape_options_t *options, sengadlit_buffer_t *buffer);
+sengadlit_status_t sengadlit_shape_utf32(const sengadlit_face_t *face, const uint32_t *text, int text_length,
+                                         const sengadlit_shape_options_t *options, sengadlit_buffer_t *buffer);
+/* The same of the characters that the buffer has, with its context: for an item of a longer text, or clusters of one's own.
+   ARGUMENT as above, and POSITIONS; CONTENT: the buffer has glyphs; GLYPH_ID: not a scalar value. */
+sengadlit_status_t sengadlit_shape_buffer(const sengadlit_face_t *face, const sengadlit_shape_options_t *options,
+                                          sengadlit_buffer_t *buffer);
+
+/* As hb_buffer_serialize_flags_t. */
+enum {
+    SENGADLIT_SERIALIZE_FLAG_NO_CLUSTERS = 0x01,
+    SENGADLIT_SERIALIZE_FLAG_NO_POSITIONS = 0x02,
+    SENGADLIT_SERIALIZE_FLAG_NO_GLYPH_NAMES = 0x04,
+    SENGADLIT_SERIALIZE_FLAG_GLYPH_FLAGS = 0x10,
+    SENGADLIT_SERIALIZE_FLAG_NO_ADVANCES = 0x20
+};
+
+/* Writes the text of the buffer in one line, as hb-shape does: glyphs as [gid3=0+563|gid9=1@10,0+0], by the names of a face, which
+   may be null; characters, by the content type, as <U+0E01=0|U+0E33=3>. As with snprintf, as much of it is written as has room in
+   `size` bytes with a zero behind it, and `length`, which may be null, gets the length of all. `text` may be null if `size` is 0.
+   ARGUMENT: OPTIONS, another flag; and for a null buffer. */
+sengadlit_status_t sengadlit_buffer_serialize(sengadlit_buffer_t *buffer, const sengadlit_face_t *face, uint32_t flags, char *text,
+                                              size_t size, size_t *length);
 
 /* ---- Carets and edits ---- */
 

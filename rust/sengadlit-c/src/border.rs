@@ -9,6 +9,8 @@ mod arrays;
 mod buffers;
 pub mod callbacks;
 mod editing;
+#[cfg(feature = "opentype")]
+pub mod faces;
 pub mod glyphs;
 mod handle;
 mod hook_calls;
@@ -16,6 +18,7 @@ mod messages;
 mod names;
 pub mod plans;
 pub mod shaping;
+mod tables;
 
 use crate::encodings::Unit;
 use crate::status::{Argument, Error};
@@ -78,6 +81,78 @@ unsafe fn text<'a, U: Unit>(first: *const U, length: c_int) -> Result<&'a [U], E
     Ok(unsafe { slice::from_raw_parts(first, length) })
 }
 
+/// A struct of C's that begins with its own size, which tells how many of its fields the caller knows.
+///
+/// # Safety
+///
+/// It is laid out as C's, its first field is its size, a `usize`, and where all other bytes are 0 it is valid.
+unsafe trait Growing: Copy {
+    /// The size that it had when it was first in the header.
+    const LEAST: usize;
+}
+
+/// No struct is as large, so that a size that was never set is told from one of a later header.
+const MOST_SIZE: usize = 4096;
+
+/// Reads such a struct, whose fields behind what the caller knows are 0. None where the pointer is null, or the size none of it;
+/// and where a field that only a later header has isn't 0.
+///
+/// # Safety
+///
+/// If `place` isn't null, a size stands there, and it is that of the struct.
+unsafe fn grown<T: Growing>(place: *const T) -> Option<T> {
+    if place.is_null() {
+        return None;
+    }
+    // SAFETY: the first field is the size.
+    let size = unsafe { place.cast::<usize>().read() };
+    if size < T::LEAST || size > MOST_SIZE {
+        return None;
+    }
+    let known = size.min(size_of::<T>());
+    // SAFETY: the struct has this size, the caller's promise.
+    let bytes = unsafe { slice::from_raw_parts(place.cast::<u8>(), size) };
+    if bytes[known..].iter().any(|byte| *byte != 0) {
+        return None;
+    }
+    let mut read = MaybeUninit::<T>::zeroed();
+    // SAFETY: there is room for what is copied, of C's fields, and zeros are valid behind them (`Growing`).
+    unsafe {
+        read.as_mut_ptr()
+            .cast::<u8>()
+            .copy_from_nonoverlapping(bytes.as_ptr(), known);
+        Some(read.assume_init())
+    }
+}
+
+/// Writes such a struct, but for its size, as far as the caller knows its fields; what only a later header has becomes 0. Says
+/// whether it did: the pointer isn't null, and the size is one of it.
+///
+/// # Safety
+///
+/// If `place` isn't null, a size stands there, and it is that of the struct, which nobody else uses.
+unsafe fn put_grown<T: Growing>(place: *mut T, value: T) -> bool {
+    if place.is_null() {
+        return false;
+    }
+    // SAFETY: the first field is the size.
+    let size = unsafe { place.cast::<usize>().read() };
+    if size < T::LEAST || size > MOST_SIZE {
+        return false;
+    }
+    let fields = size.min(size_of::<T>()) - size_of::<usize>();
+    // SAFETY: behind the size the struct has room for the fields that are written, and for zeros up to its end.
+    unsafe {
+        let first = place.cast::<u8>().add(size_of::<usize>());
+        let from = (&raw const value).cast::<u8>().add(size_of::<usize>());
+        first.copy_from_nonoverlapping(from, fields);
+        first
+            .add(fields)
+            .write_bytes(0, size - size_of::<usize>() - fields);
+    }
+    true
+}
+
 /// A thing on the heap; none where memory is refused.
 fn boxed<T>(thing: T) -> Option<Box<T>> {
     const { assert!(size_of::<T>() != 0) };
@@ -122,7 +197,7 @@ fn guarded<A>(call: impl FnOnce() -> Result<A, Error>) -> Result<A, Error> {
 
 #[cfg(test)]
 mod tests {
-    use super::{array, boxed, guarded, text};
+    use super::{Growing, array, boxed, grown, guarded, put_grown, text};
     use crate::status::{Argument, Error, Status};
 
     #[test]
@@ -159,6 +234,100 @@ mod tests {
                 Err(Error::argument(Argument::Range))
             );
         }
+    }
+
+    #[derive(Clone, Copy, Debug, PartialEq)]
+    #[repr(C)]
+    struct Sized {
+        size: usize,
+        first: u32,
+        second: u32,
+    }
+
+    // SAFETY: it is C's, and all of it are numbers.
+    unsafe impl Growing for Sized {
+        const LEAST: usize = size_of::<usize>() + 4;
+    }
+
+    // One of a later header.
+    #[repr(C)]
+    struct Later {
+        known: Sized,
+        later: u64,
+    }
+
+    #[test]
+    fn a_struct_has_the_fields_that_its_size_says() {
+        let least = size_of::<usize>() + 4;
+        let of_size = |size, later: u64| {
+            let known = Sized {
+                size,
+                first: 7,
+                second: 8,
+            };
+            let place = Later { known, later };
+            // SAFETY: the sizes are of no more than stands there, or are refused.
+            unsafe { grown((&raw const place).cast::<Sized>()) }
+        };
+        let found = |size, second| {
+            Some(Sized {
+                size,
+                first: 7,
+                second,
+            })
+        };
+        assert_eq!(of_size(0, 0), None);
+        assert_eq!(of_size(least - 1, 0), None);
+        assert_eq!(of_size(least, 1), found(least, 0));
+        assert_eq!(of_size(least + 4, 1), found(least + 4, 8));
+        assert_eq!(of_size(least + 12, 0), found(least + 12, 8));
+        assert_eq!(of_size(least + 12, 1), None);
+        assert_eq!(of_size(4097, 0), None);
+        assert_eq!(of_size(usize::MAX, 0), None);
+        // SAFETY: null.
+        assert_eq!(unsafe { grown::<Sized>(core::ptr::null()) }, None);
+    }
+
+    #[test]
+    fn a_struct_is_written_as_far_as_its_size_says() {
+        let least = size_of::<usize>() + 4;
+        let of_size = |size| {
+            let known = Sized {
+                size,
+                first: 1,
+                second: 2,
+            };
+            let mut place = Later {
+                known,
+                later: u64::MAX,
+            };
+            let value = Sized {
+                size: 9,
+                first: 7,
+                second: 8,
+            };
+            // SAFETY: the sizes are of no more than stands there, or are refused.
+            let is_written = unsafe { put_grown((&raw mut place).cast(), value) };
+            assert_eq!(place.known.size, size);
+            (
+                is_written,
+                place.known.first,
+                place.known.second,
+                place.later,
+            )
+        };
+        assert_eq!(of_size(least - 1), (false, 1, 2, u64::MAX));
+        assert_eq!(of_size(least), (true, 7, 2, u64::MAX));
+        assert_eq!(of_size(least + 4), (true, 7, 8, u64::MAX));
+        assert_eq!(of_size(least + 12), (true, 7, 8, 0));
+        assert_eq!(of_size(4097), (false, 1, 2, u64::MAX));
+        let value = Sized {
+            size: 9,
+            first: 7,
+            second: 8,
+        };
+        // SAFETY: null.
+        assert!(!unsafe { put_grown(core::ptr::null_mut(), value) });
     }
 
     #[test]

@@ -9,15 +9,93 @@ use core::ops::Range;
 use sengadlit::Shaper;
 use sengadlit::alloc::{AllocError, Global, Vec as List};
 use sengadlit::buffer::{
-    Buffer as Inner, BufferClusterLevel, BufferFlags, BufferSettings, CONTEXT_LENGTH, Direction,
-    GlyphInfo, GlyphPosition, ShaperError, Span,
+    Buffer as Inner, BufferClusterLevel, BufferSettings, CONTEXT_LENGTH, Direction, GlyphInfo,
+    GlyphPosition, Script, ShaperError, Span,
 };
 use sengadlit::editing::caret_stops;
+use sengadlit::ot_shape_position::DefaultIgnorables;
 use sengadlit::unicode::UnicodeTables;
+
+/// `sengadlit_buffer_content_type_t`: what the glyphs of a buffer are, as far as the buffer knows.
+#[derive(Clone, Copy, Debug, PartialEq, Eq)]
+#[repr(u32)]
+pub enum Content {
+    /// Nobody said so.
+    Unknown = 0,
+    /// Characters.
+    Characters = 1,
+    /// Glyphs of a font.
+    Glyphs = 2,
+}
+
+impl Content {
+    /// The content of a number.
+    pub fn from_number(number: u32) -> Option<Self> {
+        let all = [Content::Unknown, Content::Characters, Content::Glyphs];
+        all.get(number as usize).copied()
+    }
+}
+
+/// The script and direction of a text, as far as they are known: no script, and the direction `Invalid`, are unknown.
+#[derive(Clone, Copy, Debug, PartialEq, Eq)]
+pub struct Segment {
+    pub script: Option<Script>,
+    pub direction: Direction,
+}
+
+impl Segment {
+    /// Neither is known.
+    pub const UNKNOWN: Self = Segment {
+        script: None,
+        direction: Direction::Invalid,
+    };
+
+    /// This, and where something is unknown the other's.
+    pub fn or(self, other: Self) -> Self {
+        Segment {
+            script: self.script.or(other.script),
+            direction: match self.direction {
+                Direction::Invalid => other.direction,
+                known => known,
+            },
+        }
+    }
+
+    /// This, and where something is unknown what the characters have: the script of the first that has one of its own, and the
+    /// direction of the script.
+    #[cfg(feature = "opentype")]
+    pub fn or_guess(self, characters: &[GlyphInfo]) -> Self {
+        let of_glyph = |glyph: &GlyphInfo| char::from_u32(glyph.glyph_id).and_then(Script::of_char);
+        let script = self.script.or_else(|| characters.iter().find_map(of_glyph));
+        self.or(Segment {
+            script,
+            direction: script.map_or(Direction::LeftToRight, Script::direction),
+        })
+    }
+
+    // HarfBuzz's `hb_segment_properties_overlay`: the other's script counts where the directions agree.
+    fn overlaid(self, other: Self) -> Self {
+        let both = self.or(other);
+        if both.direction == other.direction {
+            both
+        } else {
+            self
+        }
+    }
+}
 
 /// What a `sengadlit_buffer_t` holds.
 pub struct Buffer {
     pub text: Text,
+    content: Content,
+    // Whether the direction of the text is set; it is from left to right where not.
+    has_direction: bool,
+    // Whether the glyphs are a text that was shaped whole.
+    is_complete: bool,
+    // The flags as C set them.
+    flags: u32,
+    // What a text is made and shaped in before it replaces that of the buffer. It is kept for its room.
+    spare: Text,
     // One per glyph, or none.
     positions: List<GlyphPosition>,
     // What was found last; it is kept for its room.
@@ -31,6 +109,11 @@ impl Buffer {
     pub fn new() -> Self {
         Buffer {
             text: Text::new(),
+            content: Content::Unknown,
+            has_direction: false,
+            is_complete: false,
+            flags: 0,
+            spare: Text::new(),
             positions: List::new(Global),
             spans: List::new(Global),
             stops: List::new(Global),
@@ -41,11 +124,36 @@ impl Buffer {
     #[cold]
     pub fn recover(&mut self) {
         self.text.recover();
+        self.set_content(Content::Unknown);
+        self.spare = Text::new();
         self.positions = List::new(Global);
+    }
+
+    /// What the glyphs are.
+    pub fn content(&self) -> Content {
+        self.content
+    }
+
+    /// Says what they are.
+    pub fn set_content(&mut self, content: Content) {
+        self.content = content;
+        self.is_complete = false;
+    }
+
+    /// Whether they are a text that was shaped whole.
+    pub fn is_complete(&self) -> bool {
+        self.is_complete
+    }
+
+    /// Says that they are.
+    pub fn set_complete(&mut self) {
+        self.content = Content::Glyphs;
+        self.is_complete = true;
     }
 
     /// Takes a text of the crate's with its positions, and leaves an empty one.
     pub fn lend(&mut self, text: &mut Inner) {
+        self.set_content(Content::Glyphs);
         self.positions = text.take_positions();
         self.text.lend(text);
     }
@@ -94,12 +202,15 @@ impl Buffer {
     /// Removes the text, and what was said of it.
     pub fn clear(&mut self) {
         self.text.clear();
+        self.set_content(Content::Unknown);
+        self.has_direction = false;
         self.positions.clear();
     }
 
     /// The same, and takes the properties of a new buffer.
     pub fn reset(&mut self) {
         self.clear();
+        self.flags = 0;
         self.text.set_properties(&BufferSettings::new(MAX_LENGTH));
     }
 
@@ -107,6 +218,10 @@ impl Buffer {
     #[inline]
     pub fn set_length(&mut self, length: usize) -> Result<(), Error> {
         self.text.set_len(length)?;
+        if length == 0 {
+            self.set_content(Content::Unknown);
+        }
+        self.is_complete = false;
         self.clear_positions();
         Ok(())
     }
@@ -114,27 +229,183 @@ impl Buffer {
     /// Adds the characters of an item of a text, with what Unicode says of each. What stands before the item in the text becomes
     /// the context of a text that was empty, and what stands after it the one behind; no position stays.
     pub fn add<U: Unit>(&mut self, text: &[U], item: Range<usize>) -> Result<(), Error> {
-        let (before, start) = (&text[..item.start], self.text.len());
-        let after = &text[item.end..];
-        let length = start + characters(&text[item.clone()]).count();
-        if u32::try_from(length.max(text.len())).is_err() {
+        if self.content == Content::Glyphs {
+            return Err(Error::argument(Argument::Content));
+        }
+        add(&mut self.text, text, item)?;
+        self.set_content(Content::Characters);
+        self.clear_positions();
+        Ok(())
+    }
+
+    /// Adds the glyphs of another text from `start` to `end`, as HarfBuzz's `hb_buffer_append`: with their positions, and for
+    /// characters with what stands around them as the context.
+    pub fn append(&mut self, source: &Buffer, start: usize, end: usize) -> Result<(), Error> {
+        source.check_range(start, end)?;
+        if start == end {
+            return Ok(());
+        }
+        let length = self.text.len();
+        if length != 0 && self.content != source.content {
+            return Err(Error::argument(Argument::Content));
+        }
+        if length != 0 && self.positions.is_empty() != source.positions.is_empty() {
+            return Err(Error::argument(Argument::Positions));
+        }
+        if u32::try_from(length + (end - start)).is_err() {
             return Err(ShaperError::TooLong.into());
         }
-        self.set_length(length)?;
-        self.text.with_glyphs_mut(|glyphs| {
-            for (glyph, (place, character)) in glyphs[start..]
-                .iter_mut()
-                .zip(characters(&text[item.clone()]))
-            {
-                let cluster = (item.start + place) as u32;
-                *glyph = GlyphInfo::from_character(character, cluster, &UnicodeTables);
-            }
-        });
-        let mut room = ['\0'; CONTEXT_LENGTH];
-        if start == 0 && !before.is_empty() {
-            self.text.set_pre_context(last(before, &mut room));
+        if !source.positions.is_empty() {
+            self.positions
+                .reserve(end - start)
+                .map_err(ShaperError::from)?;
         }
-        self.text.set_post_context(first(after, &mut room));
+        self.text.set_len(length + (end - start))?;
+        self.text.with_glyphs_mut(|glyphs| {
+            glyphs[length..].copy_from_slice(&source.text.glyphs()[start..end]);
+        });
+        if !source.positions.is_empty() {
+            // (there is room for them)
+            let added = self
+                .positions
+                .extend_from_slice(&source.positions.as_slice()[start..end]);
+            debug_assert!(added.is_ok());
+        }
+        self.set_content(source.content);
+        self.set_segment(self.segment().overlaid(source.segment()));
+        if source.content == Content::Characters {
+            self.take_contexts(source, start, end, length == 0);
+        }
+        Ok(())
+    }
+
+    // Takes what stands around a stretch of characters as the context: that behind it, and that before it of a text that was
+    // empty, if there is any.
+    fn take_contexts(&mut self, source: &Buffer, start: usize, end: usize, was_empty: bool) {
+        let glyphs = source.text.glyphs();
+        let of_glyph = |glyph: &GlyphInfo| char::from_u32(glyph.glyph_id).unwrap_or('\u{FFFD}');
+        let (pre, post) = source.text.contexts();
+        let mut room = ['\0'; CONTEXT_LENGTH];
+        if was_empty && start + pre.len() > 0 {
+            let before = glyphs[..start].iter().rev().map(of_glyph);
+            let found = fill(&mut room, before.chain(pre.iter().copied()));
+            self.text.set_pre_context(found);
+        }
+        let after = glyphs[end..].iter().map(of_glyph);
+        let found = fill(&mut room, after.chain(post.iter().copied()));
+        self.text.set_post_context(found);
+    }
+
+    /// Turns the glyphs from `start` to `end` round, with their positions.
+    pub fn reverse(&mut self, start: usize, end: usize) -> Result<(), Error> {
+        self.check_range(start, end)?;
+        self.turn(start, end);
+        Ok(())
+    }
+
+    fn turn(&mut self, start: usize, end: usize) {
+        self.text
+            .with_glyphs_mut(|glyphs| glyphs[start..end].reverse());
+        if !self.positions.is_empty() {
+            self.positions.as_mut_slice()[start..end].reverse();
+        }
+    }
+
+    /// Turns the order of clusters round; that of the glyphs of each stays.
+    pub fn reverse_clusters(&mut self) {
+        let length = self.text.len();
+        self.turn(0, length);
+        let mut start = 0;
+        for end in 1..=length {
+            let glyphs = self.text.glyphs();
+            if end == length || glyphs[end].cluster != glyphs[start].cluster {
+                self.turn(start, end);
+                start = end;
+            }
+        }
+    }
+
+    /// The script and direction, as far as they are set.
+    pub fn segment(&self) -> Segment {
+        let settings = self.text.settings();
+        Segment {
+            script: settings.script,
+            direction: if self.has_direction {
+                settings.direction
+            } else {
+                Direction::Invalid
+            },
+        }
+    }
+
+    fn set_segment(&mut self, segment: Segment) {
+        self.has_direction = segment.direction != Direction::Invalid;
+        let direction = match segment.direction {
+            Direction::Invalid => Direction::LeftToRight,
+            known => known,
+        };
+        self.text.set_segment(segment.script, direction);
+    }
+
+    /// Sets the script and direction that aren't set to those of the characters.
+    #[cfg(feature = "opentype")]
+    pub fn guess(&mut self) -> Result<(), Error> {
+        if self.content == Content::Glyphs {
+            return Err(Error::argument(Argument::Content));
+        }
+        self.set_segment(self.segment().or_guess(self.text.glyphs()));
+        Ok(())
+    }
+
+    /// What becomes of characters that need not be drawn, by the flags.
+    pub fn ignorables(&self) -> DefaultIgnorables {
+        DefaultIgnorables::from_harfbuzz(self.flags)
+    }
+
+    /// Makes a text of these units and shapes it, in the place of that of the buffer. Where that is refused, all stays.
+    #[cfg(feature = "opentype")]
+    pub fn replace<U: Unit>(
+        &mut self,
+        units: &[U],
+        shape: impl FnOnce(&mut Inner) -> Result<Segment, Error>,
+    ) -> Result<(), Error> {
+        let spare = &mut self.spare;
+        spare.clear();
+        spare.set_properties(&BufferSettings {
+            flags: self.text.settings().flags,
+            cluster_level: self.text.settings().cluster_level,
+            ..BufferSettings::new(self.text.max_length())
+        });
+        add(spare, units, 0..units.len())?;
+        let (segment, positions) = spare.run(Takes::Numbers, |text| {
+            let segment = shape(text)?;
+            Ok((segment, text.take_positions()))
+        })?;
+        let shaped = self.spare.glyphs();
+        self.text.set_len(shaped.len())?;
+        self.text
+            .with_glyphs_mut(|glyphs| glyphs.copy_from_slice(shaped));
+        self.text.set_pre_context(&[]);
+        self.text.set_post_context(&[]);
+        self.text.set_state(false, false);
+        self.positions = positions;
+        self.set_segment(segment);
+        self.set_complete();
+        Ok(())
+    }
+
+    /// Shapes the characters of the buffer, for which it may know script and direction; they become those by which the text was
+    /// shaped. Where that is refused, all stays.
+    #[cfg(feature = "opentype")]
+    pub fn shape_characters(
+        &mut self,
+        shape: impl FnOnce(Segment, &mut Inner) -> Result<Segment, Error>,
+    ) -> Result<(), Error> {
+        self.are_characters()?;
+        let known = self.segment();
+        let segment = self.run_to_positions(Takes::Numbers, |text| shape(known, text))?;
+        self.set_segment(segment);
+        self.set_complete();
         Ok(())
     }
 
@@ -164,6 +435,11 @@ impl Buffer {
         Ok(self.positions.as_mut_slice())
     }
 
+    /// The positions, one per glyph, or none.
+    pub fn positions_there(&self) -> &[GlyphPosition] {
+        self.positions.as_slice()
+    }
+
     /// Removes the positions.
     #[inline]
     pub fn clear_positions(&mut self) {
@@ -174,6 +450,7 @@ impl Buffer {
     #[inline]
     pub fn take_array(&mut self) -> Result<(*mut GlyphInfo, usize, usize), Error> {
         let found = self.text.take_array()?;
+        self.set_content(Content::Unknown);
         self.clear_positions();
         Ok(found)
     }
@@ -181,23 +458,38 @@ impl Buffer {
     /// Takes all properties, or none. Those that are 0 are a new buffer's.
     pub fn set_properties(&mut self, properties: &Properties) -> Result<(), Error> {
         let number = |wide: u32| u8::try_from(wide).ok();
-        let direction = match numbers::direction(properties.direction) {
-            Some(Direction::Invalid) => Some(Direction::LeftToRight),
-            known => known,
-        };
+        let direction = numbers::direction(properties.direction)
+            .ok_or_else(|| Error::argument(Argument::Direction))?;
         let max_length = match properties.max_length {
             0 => MAX_LENGTH,
             set => set as usize,
         };
         let level = number(properties.cluster_level).and_then(BufferClusterLevel::from_number);
         self.text.set_properties(&BufferSettings {
-            direction: direction.ok_or_else(|| Error::argument(Argument::Direction))?,
-            script: numbers::script(properties.script),
             cluster_level: level.ok_or_else(|| Error::argument(Argument::ClusterLevel))?,
-            flags: BufferFlags::from_harfbuzz(properties.flags),
+            flags: numbers::buffer_flags(properties.flags),
             ..BufferSettings::new(max_length)
         });
+        let script = numbers::script(properties.script);
+        self.set_segment(Segment { script, direction });
+        self.flags = properties.flags;
         Ok(())
+    }
+
+    /// All properties. Those that aren't set are 0.
+    pub fn properties(&self) -> Properties {
+        let Segment { script, direction } = self.segment();
+        Properties {
+            size: 0,
+            script: script.map_or(0, |script| u32::from_be_bytes(script.to_bytes())),
+            direction: direction.number().into(),
+            cluster_level: self.text.settings().cluster_level.number().into(),
+            flags: self.flags,
+            max_length: match self.text.max_length() {
+                MAX_LENGTH => 0,
+                set => set as u32,
+            },
+        }
     }
 
     /// Takes the characters on both sides, or those of neither.
@@ -223,8 +515,11 @@ impl Buffer {
         self.text.set_state(state & 1 != 0, state & 2 != 0);
     }
 
-    /// That each glyph is a character, one of Unicode's scalar values.
+    /// That nobody said that they are glyphs, and each is a character, one of Unicode's scalar values.
     pub fn are_characters(&self) -> Result<(), Error> {
+        if self.content == Content::Glyphs {
+            return Err(Error::argument(Argument::Content));
+        }
         let mut glyphs = self.text.glyphs().iter();
         match glyphs.position(|glyph| char::from_u32(glyph.glyph_id).is_none()) {
             Some(index) => Err(Error::argument_at(Argument::GlyphId, index)),
@@ -281,6 +576,42 @@ impl Buffer {
     }
 }
 
+// Adds the characters of an item of a text, with what Unicode says of each, and what stands around it as the context.
+fn add<U: Unit>(to: &mut Text, text: &[U], item: Range<usize>) -> Result<(), Error> {
+    let (before, start) = (&text[..item.start], to.len());
+    let after = &text[item.end..];
+    let length = start + characters(&text[item.clone()]).count();
+    if u32::try_from(length.max(text.len())).is_err() {
+        return Err(ShaperError::TooLong.into());
+    }
+    to.set_len(length)?;
+    to.with_glyphs_mut(|glyphs| {
+        for (glyph, (place, character)) in glyphs[start..]
+            .iter_mut()
+            .zip(characters(&text[item.clone()]))
+        {
+            let cluster = (item.start + place) as u32;
+            *glyph = GlyphInfo::from_character(character, cluster, &UnicodeTables);
+        }
+    });
+    let mut room = ['\0'; CONTEXT_LENGTH];
+    if start == 0 && !before.is_empty() {
+        to.set_pre_context(last(before, &mut room));
+    }
+    to.set_post_context(first(after, &mut room));
+    Ok(())
+}
+
+// The first of these characters, as many as there is room for.
+fn fill(room: &mut [char; CONTEXT_LENGTH], from: impl Iterator<Item = char>) -> &[char] {
+    let mut length = 0;
+    for (to, character) in room.iter_mut().zip(from) {
+        *to = character;
+        length += 1;
+    }
+    &room[..length]
+}
+
 // The nearest of these characters, which are counted from `first` on.
 fn nearest<'a>(
     characters: &[u32],
@@ -326,6 +657,7 @@ mod tests {
     }
 
     const HEBREW: Properties = Properties {
+        size: 0,
         script: u32::from_be_bytes(*b"Hebr"),
         direction: 5,
         cluster_level: 2,
@@ -364,6 +696,7 @@ mod tests {
         assert!(buffer.set_properties(&HEBREW).is_ok());
         assert_eq!(told(&mut buffer), hebrew());
         let zero = Properties {
+            size: 0,
             script: 0,
             direction: 0,
             cluster_level: 0,

@@ -7,11 +7,7 @@ use sengadlit::plan::Planner;
 use sengadlit::shaper::Shaper;
 
 /// The features and pauses that stand before those of every script; none if the shaper has no such list.
-pub fn collect(
-    shaper: u32,
-    script: u32,
-    font: Option<&Font<'_>>,
-) -> Result<Option<Planner>, Error> {
+pub fn collect(shaper: u32, script: u32, font: Option<&Font>) -> Result<Option<Planner>, Error> {
     let shaper = numbers::shaper(shaper).ok_or_else(|| Error::argument(Argument::Shaper))?;
     let asks = if shaper == Shaper::Arabic {
         FONT_FEATURE

@@ -34,7 +34,7 @@ fn done_if(is_there: bool) -> Status {
 /// `sengadlit_preprocess_text`, and whether the caller runs the vowel constraints.
 pub fn preprocess_text(
     plan: &Plan,
-    font: Option<&Font<'_>>,
+    font: Option<&Font>,
     buffer: &mut Buffer,
 ) -> Result<(Status, bool), Error> {
     let asks = match plan.shaper {
@@ -53,12 +53,7 @@ pub fn preprocess_text(
 }
 
 /// What two characters compose to.
-pub fn compose(
-    plan: &Plan,
-    tables: Option<&Tables<'_>>,
-    a: u32,
-    b: u32,
-) -> Result<Composition, Error> {
+pub fn compose(plan: &Plan, tables: Option<&Tables>, a: u32, b: u32) -> Result<Composition, Error> {
     let asks = match plan.shaper {
         Shaper::Hebrew => TABLES_COMPOSE,
         Shaper::Indic | Shaper::Khmer | Shaper::Universal => TABLES_COMPOSE | TABLES_GENERAL,
@@ -70,11 +65,7 @@ pub fn compose(
 }
 
 /// The two characters that one decomposes to.
-pub fn decompose(
-    plan: &Plan,
-    tables: Option<&Tables<'_>>,
-    ab: u32,
-) -> Result<Decomposition, Error> {
+pub fn decompose(plan: &Plan, tables: Option<&Tables>, ab: u32) -> Result<Decomposition, Error> {
     let asks = match plan.shaper {
         Shaper::Indic | Shaper::Khmer => TABLES_DECOMPOSE,
         _ => 0,
@@ -107,7 +98,7 @@ pub fn reorder_marks(
 /// `sengadlit_setup_masks`.
 pub fn setup_masks(
     plan: &Plan,
-    tables: Option<&Tables<'_>>,
+    tables: Option<&Tables>,
     buffer: &mut Buffer,
 ) -> Result<Status, Error> {
     let joins = plan.joins();
@@ -140,7 +131,7 @@ pub fn setup_masks(
 // Sets the categories in their place, if the hook does no more. The crate's call takes the text out of the buffer meanwhile, in
 // case that the tables panic, which C's can't.
 #[inline]
-fn set_categories(shaper: Shaper, joins: bool, tables: AskedTables<'_>, text: &mut Inner) -> bool {
+fn set_categories(shaper: Shaper, joins: bool, tables: AskedTables, text: &mut Inner) -> bool {
     let tables = &tables;
     text.with_glyphs_mut(|glyphs| {
         match shaper {
@@ -158,7 +149,7 @@ fn set_categories(shaper: Shaper, joins: bool, tables: AskedTables<'_>, text: &m
 pub fn run_pause(
     plan: &Plan,
     pause: u32,
-    font: Option<&Font<'_>>,
+    font: Option<&Font>,
     spans: &[Span],
     buffer: &mut Buffer,
 ) -> Result<bool, Error> {
@@ -271,7 +262,7 @@ fn asks_of(pause: Pause, plan: &Plan) -> u8 {
 /// `sengadlit_postprocess_glyphs`.
 pub fn postprocess_glyphs(
     plan: &Plan,
-    font: Option<&Font<'_>>,
+    font: Option<&Font>,
     buffer: &mut Buffer,
 ) -> Result<Status, Error> {
     let stretches = plan.shaper == Shaper::Arabic;

@@ -1,15 +1,18 @@
 //! The structs of the header that hold numbers alone, and the layout of all of them. Glyphs, positions and spans are the
 //! crate's own structs, whose layout is C's and whose fields may hold any number.
+use crate::numbers::tag;
 use core::ffi::{c_int, c_uint};
 use core::mem::size_of;
-use sengadlit::ot_shape_plan::StageLookup;
+use sengadlit::ot_shape_plan::{StageLookup, UserFeature as Wanted};
 
 /// `sengadlit_bool_t`: 0 is false.
 pub type Bool = c_int;
 
 /// `sengadlit_buffer_properties_t`.
 #[repr(C)]
+#[derive(Clone, Copy)]
 pub struct Properties {
+    pub size: usize,
     pub script: u32,
     pub direction: u32,
     pub cluster_level: u32,
@@ -19,7 +22,9 @@ pub struct Properties {
 
 /// `sengadlit_shaper_constants_t`.
 #[repr(C)]
+#[derive(Clone, Copy)]
 pub struct Constants {
+    pub size: usize,
     pub hooks: u32,
     pub gpos_tag: u32,
     pub normalization_preference: u32,
@@ -46,8 +51,9 @@ pub struct Stage {
 
 /// `sengadlit_plan_data_t`.
 #[repr(C)]
-#[derive(Default)]
+#[derive(Clone, Copy, Default)]
 pub struct Data {
+    pub size: usize,
     pub shaper: u32,
     pub joins: Bool,
     pub has_stch: Bool,
@@ -70,6 +76,28 @@ pub struct UserFeature {
     pub value: u32,
     pub start: u32,
     pub end: u32,
+}
+
+impl UserFeature {
+    /// The same of the crate's.
+    pub fn wanted(&self) -> Wanted {
+        Wanted {
+            tag: tag(self.tag),
+            value: self.value,
+            start: self.start,
+            end: self.end,
+        }
+    }
+}
+
+/// `sengadlit_glyph_extents_t`.
+#[cfg(feature = "opentype")]
+#[repr(C)]
+pub struct GlyphExtents {
+    pub x_bearing: i32,
+    pub y_bearing: i32,
+    pub width: i32,
+    pub height: i32,
 }
 
 /// `sengadlit_lookup_t`.
@@ -102,6 +130,8 @@ const _: () = assert!(size_of::<c_uint>() == 4 && size_of::<Bool>() == 4);
 mod tests {
     use super::*;
     use crate::border::callbacks::{Font, FontFuncs, Map, MapFuncs, Tables, TablesFuncs};
+    #[cfg(feature = "opentype")]
+    use crate::border::faces::ShapeOptions;
     use crate::border::plans::PlanInput;
     use crate::border::shaping::{
         LayoutTableInput, Lookups, LookupsFuncs, ShapePlanInput, TableFeatureInput,
@@ -124,34 +154,39 @@ mod tests {
         };
     }
         layout!("error", Error: status, argument, index);
-        layout!("shaper_constants", Constants: hooks, gpos_tag, normalization_preference, zero_width_marks, fallback_position);
-        layout!("font_funcs", FontFuncs: nominal_glyph, glyph_h_advance, would_substitute, has_feature);
-        layout!("tables_funcs", TablesFuncs: joining_type, general_category, indic_categories, use_category, compose, decompose);
-        layout!("map_funcs", MapFuncs: add_feature, add_gsub_pause);
-        layout!("font", Font<'static>: funcs, user_data);
-        layout!("tables", Tables<'static>: funcs, user_data);
-        layout!("map", Map<'static>: funcs, user_data);
+        layout!("shaper_constants", Constants: size, hooks, gpos_tag, normalization_preference, zero_width_marks, fallback_position);
+        layout!("font_funcs", FontFuncs: size, nominal_glyph, glyph_h_advance, would_substitute, has_feature);
+        layout!("tables_funcs", TablesFuncs: size, joining_type, general_category, indic_categories, use_category, compose, decompose);
+        layout!("map_funcs", MapFuncs: size, add_feature, add_gsub_pause);
+        layout!("font", Font: funcs, user_data);
+        layout!("tables", Tables: funcs, user_data);
+        layout!("map", Map: funcs, user_data);
         layout!("feature", Feature: tag, mask, stage);
         layout!("stage", Stage: start, end);
-        layout!("plan_input", PlanInput: script, chosen_script, found_script, has_gpos_mark, centres_stretch, sound_breaks,
+        layout!("plan_input", PlanInput: size, script, chosen_script, found_script, has_gpos_mark, centres_stretch, sound_breaks,
         global_mask, searches_medials, features, features_length, stages, stages_length, lookups, lookups_length, kept.user_data = "user_data", kept.destroy = "destroy");
-        layout!("plan_data", Data: shaper, joins, has_stch, rphf_mask, masks);
+        layout!("plan_data", Data: size, shaper, joins, has_stch, rphf_mask, masks);
         layout!("glyph_info", GlyphInfo: glyph_id, mask, cluster, glyph_props, lig_props, syllable, unicode_props, category,
         auxiliary);
         layout!("glyph_position", GlyphPosition: x_advance, y_advance, x_offset, y_offset, var);
-        layout!("buffer_properties", Properties: script, direction, cluster_level, flags, max_length);
+        layout!("buffer_properties", Properties: size, script, direction, cluster_level, flags, max_length);
         layout!("span", Span: len = "length", kind);
         layout!("table_feature", TableFeatureInput: tag, lookups_length, lookups);
         layout!("layout_table", LayoutTableInput: has_table, chosen_script, found_script, features_length, features, anywhere,
         anywhere_length, required);
         layout!("user_feature", UserFeature: tag, value, start, end);
-        layout!("shape_plan_input", ShapePlanInput: script, direction, gsub, gpos, user_features, user_features_length,
+        layout!("shape_plan_input", ShapePlanInput: size, script, direction, gsub, gpos, user_features, user_features_length,
         units_per_em, centres_stretch, sound_breaks, searches_medials);
         layout!("lookup", Lookup: index, mask, auto_zwnj, auto_zwj, random, per_syllable);
-        layout!("lookups_funcs", LookupsFuncs: variation_glyph, glyph_props, substitute, is_mark, position, finish_positions,
+        layout!("lookups_funcs", LookupsFuncs: size, variation_glyph, glyph_props, substitute, is_mark, position, finish_positions,
         glyph_v_advance, glyph_v_origin);
-        layout!("lookups", Lookups<'static>: funcs, user_data);
+        layout!("lookups", Lookups: funcs, user_data);
         layout!("unaffected", Unaffected: front, back);
+        #[cfg(feature = "opentype")]
+        layout!("shape_options", ShapeOptions<'static>: size, script, direction, features, features_length, sound_breaks,
+        searches_medials, normalizes_always, invisible_glyph, not_found_glyph, not_found_selector_glyph, font, cache);
+        #[cfg(feature = "opentype")]
+        layout!("glyph_extents", GlyphExtents: x_bearing, y_bearing, width, height);
         lines
     }
 

@@ -9,10 +9,16 @@
 mod border;
 mod buffer;
 mod encodings;
+#[cfg(feature = "opentype")]
+mod faces;
 mod features;
 mod hooks;
 mod layout;
 mod numbers;
 mod plan;
+#[cfg(feature = "opentype")]
+mod plan_cache;
+#[cfg(feature = "opentype")]
+mod serialize;
 mod shaping;
 mod status;

@@ -1,5 +1,5 @@
 //! The header's numbers, as the types of `sengadlit` and back.
-use sengadlit::buffer::{Direction, GeneralCategory, Script, Tag};
+use sengadlit::buffer::{BufferFlags, Direction, GeneralCategory, Script, Tag};
 use sengadlit::plan::{JoiningType, Pause};
 use sengadlit::shaper::{Hook, NormalizationMode, Shaper, ZeroWidthMarks};
 
@@ -33,6 +33,12 @@ pub fn pause_number(pause: Option<Pause>) -> u32 {
 /// The direction of `sengadlit_direction_t`.
 pub fn direction(number: u32) -> Option<Direction> {
     Direction::from_number(u8::try_from(number).ok()?)
+}
+
+/// The flags of `SENGADLIT_BUFFER_FLAG_..`, which are HarfBuzz's: the low four are read where whole texts are shaped, and stand one
+/// bit higher in the crate.
+pub fn buffer_flags(bits: u32) -> BufferFlags {
+    BufferFlags(BufferFlags::from_harfbuzz(bits).0 | (bits & 0x0F) << 1)
 }
 
 /// The joining type of `SENGADLIT_JOINING_..`; U for any other number.

@@ -181,6 +181,7 @@ mod tests {
 
     fn input() -> PlanInput {
         PlanInput {
+            size: 0,
             script: u32::from_be_bytes(*b"Deva"),
             chosen_script: 0,
             found_script: 0,

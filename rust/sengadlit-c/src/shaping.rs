@@ -5,7 +5,7 @@ use crate::border::shaping::{
     AskedLookups, LOOKUPS_POSITION, LOOKUPS_SUBSTITUTE, LOOKUPS_VERTICAL, Lookups, ShapePlanInput,
     TableFeature,
 };
-use crate::buffer::Buffer;
+use crate::buffer::{Buffer, Content};
 use crate::layout::UserFeature;
 use crate::numbers::{self, script, tag};
 use crate::plan::{choices, list};
@@ -16,7 +16,7 @@ use sengadlit::font::{FeaturesOnly, Font as AnswersFont, GlyphId};
 use sengadlit::map::TableIndex;
 use sengadlit::ot_shape::{self, ShapeSettings};
 use sengadlit::ot_shape_normalize::{NormalizeFont, NormalizeSettings, Rounds};
-use sengadlit::ot_shape_plan::{FontFeatures, ShapePlan as Plan, UserFeature as Wanted};
+use sengadlit::ot_shape_plan::{FontFeatures, ShapePlan as Plan};
 use sengadlit::ot_shape_position::{DefaultIgnorables, MetricsFont};
 use sengadlit::shaper::Shaper;
 use sengadlit::shaper::checked::CallError;
@@ -115,13 +115,7 @@ pub fn make(
     let direction = direction.ok_or_else(|| Error::argument(Argument::Direction))?;
     let units_per_em = u16::try_from(input.units_per_em);
     let units_per_em = units_per_em.map_err(|_| Error::argument(Argument::Input))?;
-    let of_user = |user: &UserFeature| Wanted {
-        tag: tag(user.tag),
-        value: user.value,
-        start: user.start,
-        end: user.end,
-    };
-    let wanted = list(users, of_user).map_err(ShaperError::from)?;
+    let wanted = list(users, UserFeature::wanted).map_err(ShaperError::from)?;
     let font = FeaturesOnly(|tag: Tag| gsub.has(tag) || gpos.has(tag));
     let layout = Layout { gsub, gpos };
     let choices = choices(
@@ -142,8 +136,8 @@ pub fn make(
 
 /// A font with the functions of lookups that normalization and positions call.
 struct ShapedFont<'a> {
-    font: Asked<'a, FontFuncs>,
-    lookups: &'a AskedLookups<'a>,
+    font: Asked<FontFuncs>,
+    lookups: &'a AskedLookups,
     units_per_em: u16,
 }
 
@@ -234,8 +228,8 @@ const SETTINGS: ShapeSettings = ShapeSettings {
 /// `sengadlit_substitute_text`.
 pub fn substitute_text(
     plan: &ShapePlan,
-    font: Option<&Font<'_>>,
-    lookups: Option<&Lookups<'_>>,
+    font: Option<&Font>,
+    lookups: Option<&Lookups>,
     buffer: &mut Buffer,
 ) -> Result<Status, Error> {
     let inner = &plan.inner;
@@ -248,14 +242,15 @@ pub fn substitute_text(
         let done = ot_shape::substitute_text(inner, settings, &font, &UnicodeTables, lookups, text);
         lookups.ended(done.map_err(of_call))
     })?;
+    buffer.set_content(Content::Glyphs);
     Ok(Status::Done)
 }
 
 /// `sengadlit_shape`.
 pub fn shape(
     plan: &ShapePlan,
-    font: Option<&Font<'_>>,
-    lookups: Option<&Lookups<'_>>,
+    font: Option<&Font>,
+    lookups: Option<&Lookups>,
     buffer: &mut Buffer,
 ) -> Result<Status, Error> {
     let inner = &plan.inner;
@@ -266,19 +261,20 @@ pub fn shape(
     let lookups = &AskedLookups::of(lookups, asks)?;
     let font = plan.shaped_font(font, lookups);
     buffer.are_characters()?;
+    let settings = ShapeSettings {
+        ignorables: buffer.ignorables(),
+        ..SETTINGS
+    };
     buffer.run_to_positions(Takes::Numbers, |text| {
-        let done = ot_shape::shape(inner, &SETTINGS, &font, &UnicodeTables, lookups, text);
+        let done = ot_shape::shape(inner, &settings, &font, &UnicodeTables, lookups, text);
         lookups.ended(done.map_err(of_call))
     })?;
+    buffer.set_complete();
     Ok(Status::Done)
 }
 
 impl ShapePlan {
-    fn shaped_font<'a>(
-        &self,
-        font: Asked<'a, FontFuncs>,
-        lookups: &'a AskedLookups<'a>,
-    ) -> ShapedFont<'a> {
+    fn shaped_font<'a>(&self, font: Asked<FontFuncs>, lookups: &'a AskedLookups) -> ShapedFont<'a> {
         ShapedFont {
             font,
             lookups,
@@ -287,8 +283,8 @@ impl ShapePlan {
     }
 }
 
-// The conditions are tested before: the text is of characters, without positions, and its glyphs have numbers of a font.
-fn of_call(error: CallError) -> Error {
+/// The conditions are tested before: the text is of characters, without positions, and its glyphs have numbers of a font.
+pub fn of_call(error: CallError) -> Error {
     match error {
         CallError::Refused(refusal) => refusal.into(),
         CallError::Condition(condition) => unreachable!("{condition:?} isn't met"),
@@ -323,6 +319,7 @@ mod tests {
     fn made(units_per_em: u32, bits: [i32; 3]) -> (u16, (StretchStart, BreakFlags, BaseSearch)) {
         let [centres_stretch, sound_breaks, searches_medials] = bits;
         let input = ShapePlanInput {
+            size: 0,
             script: u32::from_be_bytes(*b"Deva"),
             direction: 4,
             gsub: no_table(),

@@ -55,6 +55,11 @@ named_numbers! {
     Stages = c"SENGADLIT_ARGUMENT_STAGES",
     Lookups = c"SENGADLIT_ARGUMENT_LOOKUPS",
     Text = c"SENGADLIT_ARGUMENT_TEXT",
+    Content = c"SENGADLIT_ARGUMENT_CONTENT",
+    Face = c"SENGADLIT_ARGUMENT_FACE",
+    Data = c"SENGADLIT_ARGUMENT_DATA",
+    Index = c"SENGADLIT_ARGUMENT_INDEX",
+    Options = c"SENGADLIT_ARGUMENT_OPTIONS",
 }
 
 /// `sengadlit_error_t`: why a call failed.

@@ -5,7 +5,7 @@
 
 int main()
 {
-    sengadlit_plan_input_t input = {};
+    sengadlit_plan_input_t input = SENGADLIT_INIT(sengadlit_plan_input_t);
     sengadlit_error_t error = {};
     input.script = SENGADLIT_TAG('H', 'e', 'b', 'r');
     sengadlit_plan_t *plan = sengadlit_plan_create(SENGADLIT_SHAPER_HEBREW, &input, &error);

@@ -116,8 +116,8 @@ static sengadlit_tables_funcs_t tables_funcs;
 
 static void choose_functions(void)
 {
-    static const sengadlit_font_funcs_t font = {nominal_glyph, glyph_h_advance, would_substitute, has_feature};
-    static const sengadlit_tables_funcs_t tables = {joining_type, general_category, indic_categories,
+    static const sengadlit_font_funcs_t font = {sizeof font, nominal_glyph, glyph_h_advance, would_substitute, has_feature};
+    static const sengadlit_tables_funcs_t tables = {sizeof tables, joining_type, general_category, indic_categories,
                                                     use_category, compose,          decompose};
     uint8_t missing = next();
 
@@ -152,7 +152,7 @@ static sengadlit_plan_t *make_plan(unsigned int *destroyed)
     sengadlit_feature_t features[8];
     sengadlit_stage_t stages[4];
     uint16_t lookups[4];
-    sengadlit_plan_input_t input = {0};
+    sengadlit_plan_input_t input = SENGADLIT_INIT(sengadlit_plan_input_t);
     sengadlit_error_t error;
     uint8_t settings = next();
 
@@ -257,7 +257,8 @@ static void write_text(sengadlit_buffer_t *buffer)
 static void write_settings(sengadlit_buffer_t *buffer)
 {
     static const unsigned int directions[] = {4, 5, 6, 7, 0, 3, 4, 5};
-    sengadlit_buffer_properties_t properties = {0, SENGADLIT_DIRECTION_RTL, SENGADLIT_BUFFER_CLUSTER_LEVEL_CHARACTERS, 0, ROOM};
+    sengadlit_buffer_properties_t properties = {sizeof properties, 0, SENGADLIT_DIRECTION_RTL,
+                                                SENGADLIT_BUFFER_CLUSTER_LEVEL_CHARACTERS, 0, ROOM};
     uint32_t context[6];
     uint8_t settings = next();
 
@@ -498,7 +499,7 @@ static sengadlit_shape_plan_t *make_shape_plan(void)
     static const char tags[][5] = {"ccmp", "rphf", "pref", "blwf", "half", "pres", "init", "medi", "liga", "mark"};
     sengadlit_table_feature_t features[4];
     sengadlit_user_feature_t user;
-    sengadlit_shape_plan_input_t input = {0};
+    sengadlit_shape_plan_input_t input = SENGADLIT_INIT(sengadlit_shape_plan_input_t);
     static uint16_t lookups[8];
     sengadlit_error_t error;
     uint8_t settings = next();
@@ -533,7 +534,7 @@ static sengadlit_shape_plan_t *make_shape_plan(void)
 
 static void shape_whole(sengadlit_buffer_t *buffer)
 {
-    static const sengadlit_lookups_funcs_t funcs = {variation_glyph, glyph_props, substitute, is_mark, position,
+    static const sengadlit_lookups_funcs_t funcs = {sizeof funcs, variation_glyph, glyph_props, substitute, is_mark, position,
                                                     finish_positions, glyph_v_advance, glyph_v_origin};
     const sengadlit_lookups_t lookups = {&funcs, buffer};
     sengadlit_shape_plan_t *plan = make_shape_plan();
@@ -557,11 +558,11 @@ static void shape_whole(sengadlit_buffer_t *buffer)
 /* The functions that no buffer is given. */
 static void call_others(sengadlit_plan_t *plan)
 {
-    static const sengadlit_map_funcs_t funcs = {add_feature, add_gsub_pause};
+    static const sengadlit_map_funcs_t funcs = {sizeof funcs, add_feature, add_gsub_pause};
     unsigned int sum = 0;
     const sengadlit_map_t map = {&funcs, &sum};
-    sengadlit_shaper_constants_t constants;
-    sengadlit_plan_data_t data;
+    sengadlit_shaper_constants_t constants = SENGADLIT_INIT(sengadlit_shaper_constants_t);
+    sengadlit_plan_data_t data = SENGADLIT_INIT(sengadlit_plan_data_t);
     sengadlit_shaper_t found;
     uint32_t a = next_word() % 0x120000, b = firsts[place] + next() % 128, c, d;
 

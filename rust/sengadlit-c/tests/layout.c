@@ -14,6 +14,7 @@ static void print_common(void)
     FIELD(error, argument);
     FIELD(error, index);
     STRUCT(shaper_constants);
+    FIELD(shaper_constants, size);
     FIELD(shaper_constants, hooks);
     FIELD(shaper_constants, gpos_tag);
     FIELD(shaper_constants, normalization_preference);
@@ -24,11 +25,13 @@ static void print_common(void)
 static void print_callbacks(void)
 {
     STRUCT(font_funcs);
+    FIELD(font_funcs, size);
     FIELD(font_funcs, nominal_glyph);
     FIELD(font_funcs, glyph_h_advance);
     FIELD(font_funcs, would_substitute);
     FIELD(font_funcs, has_feature);
     STRUCT(tables_funcs);
+    FIELD(tables_funcs, size);
     FIELD(tables_funcs, joining_type);
     FIELD(tables_funcs, general_category);
     FIELD(tables_funcs, indic_categories);
@@ -36,6 +39,7 @@ static void print_callbacks(void)
     FIELD(tables_funcs, compose);
     FIELD(tables_funcs, decompose);
     STRUCT(map_funcs);
+    FIELD(map_funcs, size);
     FIELD(map_funcs, add_feature);
     FIELD(map_funcs, add_gsub_pause);
     STRUCT(font);
@@ -59,6 +63,7 @@ static void print_plans(void)
     FIELD(stage, start);
     FIELD(stage, end);
     STRUCT(plan_input);
+    FIELD(plan_input, size);
     FIELD(plan_input, script);
     FIELD(plan_input, chosen_script);
     FIELD(plan_input, found_script);
@@ -76,6 +81,7 @@ static void print_plans(void)
     FIELD(plan_input, user_data);
     FIELD(plan_input, destroy);
     STRUCT(plan_data);
+    FIELD(plan_data, size);
     FIELD(plan_data, shaper);
     FIELD(plan_data, joins);
     FIELD(plan_data, has_stch);
@@ -102,6 +108,7 @@ static void print_buffers(void)
     FIELD(glyph_position, y_offset);
     FIELD(glyph_position, var);
     STRUCT(buffer_properties);
+    FIELD(buffer_properties, size);
     FIELD(buffer_properties, script);
     FIELD(buffer_properties, direction);
     FIELD(buffer_properties, cluster_level);
@@ -133,6 +140,7 @@ static void print_shaping(void)
     FIELD(user_feature, start);
     FIELD(user_feature, end);
     STRUCT(shape_plan_input);
+    FIELD(shape_plan_input, size);
     FIELD(shape_plan_input, script);
     FIELD(shape_plan_input, direction);
     FIELD(shape_plan_input, gsub);
@@ -151,6 +159,7 @@ static void print_shaping(void)
     FIELD(lookup, random);
     FIELD(lookup, per_syllable);
     STRUCT(lookups_funcs);
+    FIELD(lookups_funcs, size);
     FIELD(lookups_funcs, variation_glyph);
     FIELD(lookups_funcs, glyph_props);
     FIELD(lookups_funcs, substitute);
@@ -165,6 +174,25 @@ static void print_shaping(void)
     STRUCT(unaffected);
     FIELD(unaffected, front);
     FIELD(unaffected, back);
+    STRUCT(shape_options);
+    FIELD(shape_options, size);
+    FIELD(shape_options, script);
+    FIELD(shape_options, direction);
+    FIELD(shape_options, features);
+    FIELD(shape_options, features_length);
+    FIELD(shape_options, sound_breaks);
+    FIELD(shape_options, searches_medials);
+    FIELD(shape_options, normalizes_always);
+    FIELD(shape_options, invisible_glyph);
+    FIELD(shape_options, not_found_glyph);
+    FIELD(shape_options, not_found_selector_glyph);
+    FIELD(shape_options, font);
+    FIELD(shape_options, cache);
+    STRUCT(glyph_extents);
+    FIELD(glyph_extents, x_bearing);
+    FIELD(glyph_extents, y_bearing);
+    FIELD(glyph_extents, width);
+    FIELD(glyph_extents, height);
 }
 
 int main(void)

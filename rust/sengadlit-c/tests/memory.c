@@ -24,7 +24,7 @@ static void add_gsub_pause(void *user_data, sengadlit_pause_t pause)
     told++;
 }
 
-static const sengadlit_map_funcs_t map_funcs = {add_feature, add_gsub_pause};
+static const sengadlit_map_funcs_t map_funcs = {sizeof map_funcs, add_feature, add_gsub_pause};
 static const sengadlit_map_t map = {&map_funcs, NULL};
 
 /* Nothing is told to the map of a refused list. */
@@ -135,7 +135,7 @@ static sengadlit_shape_plan_t *whole;
 
 static sengadlit_status_t plan_whole(void)
 {
-    sengadlit_shape_plan_input_t input = {0};
+    sengadlit_shape_plan_input_t input = SENGADLIT_INIT(sengadlit_shape_plan_input_t);
 
     input.script = SENGADLIT_TAG('K', 'h', 'm', 'r');
     input.direction = SENGADLIT_DIRECTION_LTR;
@@ -167,7 +167,7 @@ static sengadlit_bool_t place_lent(void *user_data, const sengadlit_lookup_t *lo
 /* In a buffer of its own, since a refusal leaves the text as the step before did. */
 static sengadlit_status_t shape(void)
 {
-    static const sengadlit_lookups_funcs_t funcs = {.substitute = lengthen_lent, .position = place_lent};
+    static const sengadlit_lookups_funcs_t funcs = {.size = sizeof funcs, .substitute = lengthen_lent, .position = place_lent};
     static const sengadlit_lookups_t lookups = {&funcs, NULL};
     sengadlit_buffer_t *buffer = sengadlit_buffer_create();
     sengadlit_status_t status = SENGADLIT_MEMORY;
@@ -210,7 +210,8 @@ static sengadlit_status_t leave_fault(const sengadlit_lookups_funcs_t *funcs, se
 
 static sengadlit_status_t shape_by_fault(void)
 {
-    static const sengadlit_lookups_funcs_t funcs = {.substitute = leave_great_number, .position = place_lent};
+    static const sengadlit_lookups_funcs_t funcs = {
+        .size = sizeof funcs, .substitute = leave_great_number, .position = place_lent};
 
     return leave_fault(&funcs, SENGADLIT_ARGUMENT);
 }
@@ -218,7 +219,7 @@ static sengadlit_status_t shape_by_fault(void)
 static sengadlit_status_t finish_by_fault(void)
 {
     static const sengadlit_lookups_funcs_t funcs = {
-        .substitute = lengthen_lent, .position = place_lent, .finish_positions = leave_no_positions};
+        .size = sizeof funcs, .substitute = lengthen_lent, .position = place_lent, .finish_positions = leave_no_positions};
 
     return leave_fault(&funcs, SENGADLIT_INTERNAL);
 }

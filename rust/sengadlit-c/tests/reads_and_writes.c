@@ -208,9 +208,9 @@ static uint8_t use_category(void *user_data, uint32_t unicode)
     return (uint8_t)(answer(9, unicode) % 57);
 }
 
-static const sengadlit_font_funcs_t font_funcs = {nominal_glyph, glyph_h_advance, would_substitute, NULL};
+static const sengadlit_font_funcs_t font_funcs = {sizeof font_funcs, nominal_glyph, glyph_h_advance, would_substitute, NULL};
 static const sengadlit_font_t font = {&font_funcs, NULL};
-static const sengadlit_tables_funcs_t tables_funcs = {joining_type, general_category, indic_categories,
+static const sengadlit_tables_funcs_t tables_funcs = {sizeof tables_funcs, joining_type, general_category, indic_categories,
                                                       use_category, NULL,             NULL};
 static const sengadlit_tables_t tables = {&tables_funcs, NULL};
 
@@ -221,7 +221,7 @@ static sengadlit_plan_t *make_plan(const struct call *call)
     static uint16_t lookups[TAGS + 1];
     sengadlit_feature_t features[TAGS];
     sengadlit_stage_t stages[TAGS];
-    sengadlit_plan_input_t input = {0};
+    sengadlit_plan_input_t input = SENGADLIT_INIT(sengadlit_plan_input_t);
 
     for (unsigned int i = 0; i < TAGS; i++) {
         const sengadlit_feature_t feature = {TAG(tags[i]), 8u << i, i};
@@ -547,7 +547,7 @@ static void vary(const struct call *call, unsigned int fields, int is_read)
 static void shape_both(const struct call *call, const sengadlit_plan_t *plan)
 {
     const sengadlit_buffer_properties_t properties = {
-        call->script, below(2) ? SENGADLIT_DIRECTION_LTR : SENGADLIT_DIRECTION_RTL,
+        sizeof properties, call->script, below(2) ? SENGADLIT_DIRECTION_LTR : SENGADLIT_DIRECTION_RTL,
         (sengadlit_buffer_cluster_level_t)below(3), below(8) ? below(4) << 6 : 0x10, ROOM};
     const uint32_t range = any();
 

@@ -198,9 +198,10 @@ static void glyph_v_origin(void *user_data, uint32_t glyph, int32_t *x, int32_t 
     *y = 800;
 }
 
-static const sengadlit_map_funcs_t map_funcs = {add_feature, add_gsub_pause};
+static const sengadlit_map_funcs_t map_funcs = {sizeof map_funcs, add_feature, add_gsub_pause};
 static const sengadlit_map_t map = {&map_funcs, NULL};
-static const sengadlit_lookups_funcs_t lookups_funcs = {variation_glyph, glyph_props, substitute, is_mark, position,
+static const sengadlit_lookups_funcs_t lookups_funcs = {sizeof lookups_funcs, variation_glyph, glyph_props, substitute,
+                                                         is_mark, position,
                                                         finish_positions, glyph_v_advance, glyph_v_origin};
 static const sengadlit_lookups_t lookups = {&lookups_funcs, NULL};
 static sengadlit_shape_plan_t *whole;
@@ -211,7 +212,7 @@ static void plan_whole(void)
     static const sengadlit_table_feature_t ccmp = {SENGADLIT_TAG('c', 'c', 'm', 'p'), 1, zero};
     static const sengadlit_table_feature_t mark = {SENGADLIT_TAG('m', 'a', 'r', 'k'), 1, zero};
     const sengadlit_shape_plan_input_t input = {
-        .script = SENGADLIT_TAG('L', 'a', 't', 'n'), .direction = SENGADLIT_DIRECTION_TTB,
+        .size = sizeof input, .script = SENGADLIT_TAG('L', 'a', 't', 'n'), .direction = SENGADLIT_DIRECTION_TTB,
         .gsub = {.has_table = 1, .features = &ccmp, .features_length = 1},
         .gpos = {.has_table = 1, .chosen_script = SENGADLIT_TAG('l', 'a', 't', 'n'), .features = &mark, .features_length = 1}};
 
@@ -233,8 +234,8 @@ static void meet_growth(void) { meet(GROWTH); }
 
 static void begin(sengadlit_shaper_t shaper, sengadlit_tag_t script, uint32_t codepoint)
 {
-    static const sengadlit_font_funcs_t font = {nominal_glyph, glyph_h_advance, would_substitute, has_feature};
-    static const sengadlit_tables_funcs_t tables = {joining_type, general_category, indic_categories,
+    static const sengadlit_font_funcs_t font = {sizeof font, nominal_glyph, glyph_h_advance, would_substitute, has_feature};
+    static const sengadlit_tables_funcs_t tables = {sizeof tables, joining_type, general_category, indic_categories,
                                                     use_category, compose,          decompose};
 
     begin_world(shaper, script, codepoint, 3);
@@ -358,7 +359,7 @@ static sengadlit_status_t decompose_one(void)
 
 static sengadlit_status_t make_and_drop_plan(void)
 {
-    const sengadlit_plan_input_t input = {.destroy = destroy};
+    const sengadlit_plan_input_t input = {.size = sizeof input, .destroy = destroy};
 
     sengadlit_plan_destroy(sengadlit_plan_create(SENGADLIT_SHAPER_THAI, &input, NULL));
     return SENGADLIT_DONE;
@@ -414,8 +415,8 @@ static void use_another(void)
 
 static void use_plans(void)
 {
-    sengadlit_shaper_constants_t constants;
-    sengadlit_plan_data_t data;
+    sengadlit_shaper_constants_t constants = SENGADLIT_INIT(sengadlit_shaper_constants_t);
+    sengadlit_plan_data_t data = SENGADLIT_INIT(sengadlit_plan_data_t);
     sengadlit_shaper_t shaper;
 
     check(made_by, make_and_drop_plan() == SENGADLIT_DONE && collect() == SENGADLIT_DONE);

@@ -126,7 +126,8 @@ static void names_and_versions(void)
     check("the last status", strcmp(sengadlit_status_name(SENGADLIT_IN_CALL), "SENGADLIT_IN_CALL") == 0);
     check("no status", strcmp(sengadlit_status_name((sengadlit_status_t)11), "unknown") == 0);
     check("an argument", strcmp(sengadlit_argument_name(SENGADLIT_ARGUMENT_TEXT), "SENGADLIT_ARGUMENT_TEXT") == 0);
-    check("no argument", strcmp(sengadlit_argument_name((sengadlit_argument_t)22), "unknown") == 0);
+    check("the last argument", strcmp(sengadlit_argument_name(SENGADLIT_ARGUMENT_OPTIONS), "SENGADLIT_ARGUMENT_OPTIONS") == 0);
+    check("no argument", strcmp(sengadlit_argument_name((sengadlit_argument_t)27), "unknown") == 0);
 }
 
 /* Numbers of HarfBuzz's that are others here, and parts of numbers. */
@@ -149,7 +150,7 @@ static void numbers_of_harfbuzz(void)
 
 static void shapers_that_are_none(void)
 {
-    sengadlit_shaper_constants_t constants = {UNTOUCHED, 0, SENGADLIT_NORMALIZATION_MODE_NONE,
+    sengadlit_shaper_constants_t constants = {sizeof constants, UNTOUCHED, 0, SENGADLIT_NORMALIZATION_MODE_NONE,
                                               SENGADLIT_ZERO_WIDTH_MARKS_NONE, 0};
 
     expect("constants of no shaper", sengadlit_shaper_get_constants((sengadlit_shaper_t)NO_SHAPER, &constants),
@@ -175,7 +176,7 @@ static void constants_of_shapers(void)
         [SENGADLIT_SHAPER_UNIVERSAL] = {DIACRITICS, EARLY, 0}};
 
     for (unsigned int shaper = 0; shaper < NO_SHAPER; shaper++) {
-        sengadlit_shaper_constants_t constants;
+        sengadlit_shaper_constants_t constants = SENGADLIT_INIT(sengadlit_shaper_constants_t);
 
         expect("constants", sengadlit_shaper_get_constants((sengadlit_shaper_t)shaper, &constants), SENGADLIT_DONE);
         check("normalization", constants.normalization_preference == wanted[shaper].normalization);
@@ -220,8 +221,8 @@ static void expect_features(const char *what, unsigned int shaper, const sengadl
 
 static void features_without_arguments(void)
 {
-    static const sengadlit_map_funcs_t funcs = {add_feature, add_gsub_pause}, no_pause = {add_feature, NULL},
-                                       no_feature = {NULL, add_gsub_pause};
+    static const sengadlit_map_funcs_t funcs = {sizeof funcs, add_feature, add_gsub_pause}, no_pause = {sizeof no_pause, add_feature, NULL},
+                                       no_feature = {sizeof no_feature, NULL, add_gsub_pause};
     const sengadlit_map_t map = {&funcs, NULL}, without_pause = {&no_pause, NULL}, without_feature = {&no_feature, NULL},
                           without_funcs = {NULL, NULL};
     const sengadlit_font_t no_font = {NULL, NULL};
@@ -253,9 +254,9 @@ static void expect_hook(const char *what, uint32_t hooks, unsigned int hook, sen
 
 static void hooks_of(sengadlit_shaper_t shaper)
 {
-    static const sengadlit_map_funcs_t funcs = {add_feature, add_gsub_pause};
+    static const sengadlit_map_funcs_t funcs = {sizeof funcs, add_feature, add_gsub_pause};
     const sengadlit_map_t map = {&funcs, NULL};
-    sengadlit_shaper_constants_t constants;
+    sengadlit_shaper_constants_t constants = SENGADLIT_INIT(sengadlit_shaper_constants_t);
     uint32_t hooks, a, b;
 
     begin_world(shaper, ARAB, 0x0628, 3);
@@ -297,7 +298,7 @@ static sengadlit_plan_input_t input_of_two(void)
     static sengadlit_feature_t features[2] = {{SENGADLIT_TAG('i', 's', 'o', 'l'), 8, 0}, {SENGADLIT_TAG('i', 'n', 'i', 't'), 16, 1}};
     static const sengadlit_stage_t stages[2] = {{0, 1}, {1, 2}};
     static const uint16_t lookups[2] = {3, 4};
-    sengadlit_plan_input_t input = {0};
+    sengadlit_plan_input_t input = SENGADLIT_INIT(sengadlit_plan_input_t);
 
     input.features = features;
     input.features_length = 2;
@@ -362,7 +363,7 @@ static void plans_with_references(void)
 {
     sengadlit_plan_input_t input = input_of_two();
     sengadlit_plan_t *plan = sengadlit_plan_create(SENGADLIT_SHAPER_ARABIC, &input, NULL);
-    sengadlit_plan_data_t data;
+    sengadlit_plan_data_t data = SENGADLIT_INIT(sengadlit_plan_data_t);
 
     data.rphf_mask = UNTOUCHED;
     destroyed = 0;
@@ -388,8 +389,8 @@ static void plans_with_references(void)
 static void expect_masks(sengadlit_shaper_t shaper, const char *tags, const uint32_t *wanted)
 {
     sengadlit_feature_t features[9];
-    sengadlit_plan_input_t input = {.features = features};
-    sengadlit_plan_data_t data;
+    sengadlit_plan_input_t input = {.size = sizeof input, .features = features};
+    sengadlit_plan_data_t data = SENGADLIT_INIT(sengadlit_plan_data_t);
     sengadlit_plan_t *plan;
 
     for (; tags[4 * input.features_length] != 0; input.features_length++) {
@@ -507,7 +508,7 @@ static void properties_that_are_none(void)
 /* Properties that are all zero set no length, after one that is too short. */
 static void properties_that_are_zero(void)
 {
-    static const sengadlit_buffer_properties_t zero = {0};
+    static const sengadlit_buffer_properties_t zero = SENGADLIT_INIT(sengadlit_buffer_properties_t);
 
     begin_thai();
     glyphs()[1].glyph_id = 0x0E33;
@@ -664,7 +665,7 @@ static void texts_that_are_long(void)
 /* Thai takes the forms of the Private Use Area of the font only if GSUB doesn't have the script, and Lao never. */
 static void fonts_that_are_not_called(void)
 {
-    sengadlit_plan_input_t input = {0};
+    sengadlit_plan_input_t input = SENGADLIT_INIT(sengadlit_plan_input_t);
 
     begin_world(SENGADLIT_SHAPER_THAI, SENGADLIT_TAG('L', 'a', 'o', 'o'), 0x0E81, 3);
     expect("Lao without a font", sengadlit_preprocess_text(world.plan, NULL, world.buffer, NULL), SENGADLIT_DONE);
@@ -736,7 +737,7 @@ static void pairs_of_wrong_arguments(void)
 static void compositions_of_hebrew(void)
 {
     for (int has_gpos_mark = 0; has_gpos_mark < 2; has_gpos_mark++) {
-        const sengadlit_plan_input_t input = {.script = HEBR, .has_gpos_mark = has_gpos_mark};
+        const sengadlit_plan_input_t input = {.size = sizeof input, .script = HEBR, .has_gpos_mark = has_gpos_mark};
         uint32_t ab = UNTOUCHED;
 
         begin_hebrew();
@@ -898,7 +899,7 @@ static void plan_without_lookups(void)
 {
     static const sengadlit_feature_t rphf = {SENGADLIT_TAG('r', 'p', 'h', 'f'), 8, 0};
     static const sengadlit_stage_t none = {0, 0};
-    sengadlit_plan_input_t input = {0};
+    sengadlit_plan_input_t input = SENGADLIT_INIT(sengadlit_plan_input_t);
 
     input.script = DEVA;
     input.features = &rphf;

@@ -25,7 +25,7 @@ static const sengadlit_table_feature_t pres = {SENGADLIT_TAG('p', 'r', 'e', 's')
 
 static sengadlit_shape_plan_input_t khmer(void)
 {
-    sengadlit_shape_plan_input_t input = {0};
+    sengadlit_shape_plan_input_t input = SENGADLIT_INIT(sengadlit_shape_plan_input_t);
 
     input.script = SENGADLIT_TAG('K', 'h', 'm', 'r');
     input.direction = SENGADLIT_DIRECTION_LTR;
@@ -41,7 +41,7 @@ static sengadlit_shape_plan_input_t khmer(void)
 static sengadlit_shape_plan_t *latin(sengadlit_bool_t has_gpos)
 {
     static const sengadlit_table_feature_t kern = {SENGADLIT_TAG('k', 'e', 'r', 'n'), 1, eight};
-    sengadlit_shape_plan_input_t input = {0};
+    sengadlit_shape_plan_input_t input = SENGADLIT_INIT(sengadlit_shape_plan_input_t);
 
     input.script = SENGADLIT_TAG('L', 'a', 't', 'n');
     input.direction = SENGADLIT_DIRECTION_LTR;
@@ -117,7 +117,8 @@ static void glyph_v_origin(void *user_data, uint32_t glyph, int32_t *x, int32_t 
     *y = 880;
 }
 
-static sengadlit_lookups_funcs_t funcs = {variation_glyph, glyph_props, substitute, is_mark, position, finish_positions, NULL, NULL};
+static sengadlit_lookups_funcs_t funcs = {
+    sizeof funcs, variation_glyph, glyph_props, substitute, is_mark, position, finish_positions, NULL, NULL};
 static sengadlit_lookups_t lookups = {&funcs, &lookup_7};
 
 static sengadlit_shape_plan_t *plan;
@@ -425,7 +426,7 @@ static void try_ignorables(void)
 /* A plan of Hebrew without tables. */
 static sengadlit_shape_plan_t *hebrew(sengadlit_direction_t direction)
 {
-    sengadlit_shape_plan_input_t input = {0};
+    sengadlit_shape_plan_input_t input = SENGADLIT_INIT(sengadlit_shape_plan_input_t);
 
     input.script = SENGADLIT_TAG('H', 'e', 'b', 'r');
     input.direction = direction;
@@ -437,6 +438,7 @@ static void set_letters(void)
 {
     sengadlit_glyph_info_t *found = sengadlit_buffer_set_length(world.buffer, 3);
 
+    (void)sengadlit_buffer_set_content_type(world.buffer, SENGADLIT_BUFFER_CONTENT_TYPE_UNICODE);
     memset(found, 0, 3 * sizeof *found);
     for (unsigned int i = 0; i < 3; i++) {
         found[i].glyph_id = 0x5D0 + i;
@@ -495,10 +497,10 @@ static sengadlit_bool_t make_tile(void *user_data, const sengadlit_lookup_t *loo
 static void try_stretch(void)
 {
     static const sengadlit_table_feature_t stch = {SENGADLIT_TAG('s', 't', 'c', 'h'), 1, seven};
-    static const sengadlit_lookups_funcs_t tile_funcs = {.substitute = make_tile};
+    static const sengadlit_lookups_funcs_t tile_funcs = {.size = sizeof tile_funcs, .substitute = make_tile};
     static const sengadlit_lookups_t tiles = {&tile_funcs, NULL};
     int32_t (*const advances)(void *, uint32_t) = world.font_funcs.glyph_h_advance;
-    sengadlit_shape_plan_input_t input = {0};
+    sengadlit_shape_plan_input_t input = SENGADLIT_INIT(sengadlit_shape_plan_input_t);
     sengadlit_shape_plan_t *syriac;
 
     input.script = SENGADLIT_TAG('S', 'y', 'r', 'c');
@@ -521,7 +523,7 @@ static void try_stretch(void)
 /* A plan of Latin without tables. */
 static sengadlit_shape_plan_t *bare_latin(sengadlit_direction_t direction, unsigned int units_per_em)
 {
-    sengadlit_shape_plan_input_t input = {0};
+    sengadlit_shape_plan_input_t input = SENGADLIT_INIT(sengadlit_shape_plan_input_t);
 
     input.script = SENGADLIT_TAG('L', 'a', 't', 'n');
     input.direction = direction;
@@ -584,7 +586,7 @@ static void try_choices(void)
                                                       {SENGADLIT_TAG('f', 'i', 'n', '2'), 0, NULL},
                                                       {SENGADLIT_TAG('f', 'i', 'n', '3'), 0, NULL}};
     sengadlit_shape_plan_t *const khmer_plan = plan;
-    sengadlit_shape_plan_input_t input = {0};
+    sengadlit_shape_plan_input_t input = SENGADLIT_INIT(sengadlit_shape_plan_input_t);
 
     input.script = world.properties.script = SENGADLIT_TAG('S', 'y', 'r', 'c');
     input.direction = world.properties.direction = SENGADLIT_DIRECTION_RTL;
@@ -617,7 +619,7 @@ static void refuse_text(const char *what, sengadlit_status_t status, sengadlit_a
 static void try_arguments(void)
 {
     int32_t (*const advances)(void *, uint32_t) = world.font_funcs.glyph_h_advance;
-    sengadlit_lookups_funcs_t no_funcs = {0};
+    sengadlit_lookups_funcs_t no_funcs = SENGADLIT_INIT(sengadlit_lookups_funcs_t);
     sengadlit_lookups_t no_lookups = {0};
 
     set_text("\u1781\u17C2\u1784");
@@ -656,7 +658,7 @@ static void try_arguments(void)
 static void try_plan_without_lookups(void)
 {
     sengadlit_shape_plan_input_t input = khmer();
-    sengadlit_lookups_funcs_t no_funcs = {0};
+    sengadlit_lookups_funcs_t no_funcs = SENGADLIT_INIT(sengadlit_lookups_funcs_t);
     sengadlit_lookups_t none = {&no_funcs, NULL};
     sengadlit_shape_plan_t *bare;
 
@@ -681,7 +683,7 @@ static sengadlit_bool_t note(void *user_data, const sengadlit_lookup_t *lookup, 
     return 1;
 }
 
-static const sengadlit_lookups_funcs_t noting_funcs = {.substitute = note, .position = note};
+static const sengadlit_lookups_funcs_t noting_funcs = {.size = sizeof noting_funcs, .substitute = note, .position = note};
 static const sengadlit_lookups_t noting = {&noting_funcs, NULL};
 
 /* A text with this input calls one lookup, once. */
@@ -705,7 +707,7 @@ static void try_told_lookups(void)
     static const sengadlit_table_feature_t rphf = {SENGADLIT_TAG('r', 'p', 'h', 'f'), 1, seven},
                                            liga = {SENGADLIT_TAG('l', 'i', 'g', 'a'), 1, seven},
                                            random = {SENGADLIT_TAG('r', 'a', 'n', 'd'), 1, eight};
-    sengadlit_shape_plan_input_t input = {0};
+    sengadlit_shape_plan_input_t input = SENGADLIT_INIT(sengadlit_shape_plan_input_t);
 
     input.script = SENGADLIT_TAG('M', 'y', 'm', 'r');
     input.direction = SENGADLIT_DIRECTION_LTR;
@@ -727,7 +729,7 @@ static void try_other_features(void)
     static const sengadlit_table_feature_t vert = {SENGADLIT_TAG('v', 'e', 'r', 't'), 1, seven},
                                            required = {SENGADLIT_TAG('z', 'z', 'z', 'z'), 1, eight}, none = {0};
     const sengadlit_lookup_t plain = {.index = 8, .mask = 1u << 31, .auto_zwnj = 1, .auto_zwj = 1};
-    sengadlit_shape_plan_input_t input = {0};
+    sengadlit_shape_plan_input_t input = SENGADLIT_INIT(sengadlit_shape_plan_input_t);
 
     input.script = SENGADLIT_TAG('L', 'a', 't', 'n');
     input.direction = SENGADLIT_DIRECTION_TTB;
@@ -735,7 +737,7 @@ static void try_other_features(void)
     input.gsub.anywhere = &vert;
     input.gsub.anywhere_length = 1;
     expect_lookup("vert", &input, "x", (sengadlit_lookup_t){.index = 7, .auto_zwnj = 1, .auto_zwj = 1});
-    input = (sengadlit_shape_plan_input_t){0};
+    input = (sengadlit_shape_plan_input_t)SENGADLIT_INIT(sengadlit_shape_plan_input_t);
     input.script = SENGADLIT_TAG('L', 'a', 't', 'n');
     input.direction = SENGADLIT_DIRECTION_LTR;
     input.gsub.has_table = input.gpos.has_table = 1;
@@ -768,7 +770,7 @@ static void try_required_stage(void)
 static void try_indic(void)
 {
     static const sengadlit_table_feature_t half = {SENGADLIT_TAG('h', 'a', 'l', 'f'), 1, seven};
-    sengadlit_shape_plan_input_t input = {0};
+    sengadlit_shape_plan_input_t input = SENGADLIT_INIT(sengadlit_shape_plan_input_t);
 
     input.script = SENGADLIT_TAG('D', 'e', 'v', 'a');
     input.direction = SENGADLIT_DIRECTION_LTR;
@@ -799,7 +801,7 @@ static void try_indic(void)
 
 static sengadlit_bool_t use_all(const sengadlit_lookup_t *lookup, sengadlit_buffer_t *buffer)
 {
-    sengadlit_buffer_properties_t properties = {0};
+    sengadlit_buffer_properties_t properties = SENGADLIT_INIT(sengadlit_buffer_properties_t);
     sengadlit_buffer_t *another = sengadlit_buffer_create();
     unsigned int length;
 

@@ -168,7 +168,8 @@ static void items_that_are_none(void)
 
 static void lengths(void)
 {
-    const sengadlit_buffer_properties_t one = {0, SENGADLIT_DIRECTION_LTR, SENGADLIT_BUFFER_CLUSTER_LEVEL_CHARACTERS, 0, 1};
+    const sengadlit_buffer_properties_t one = {sizeof one, 0, SENGADLIT_DIRECTION_LTR,
+                                               SENGADLIT_BUFFER_CLUSTER_LEVEL_CHARACTERS, 0, 1};
     unsigned int length;
 
     begin();
@@ -218,7 +219,7 @@ static sengadlit_plan_t *plan_of(sengadlit_shaper_t shaper, sengadlit_tag_t scri
         {SENGADLIT_TAG('i', 's', 'o', 'l'), 0x08, 0}, {SENGADLIT_TAG('f', 'i', 'n', 'a'), 0x10, 0},
         {SENGADLIT_TAG('m', 'e', 'd', 'i'), 0x20, 0}, {SENGADLIT_TAG('i', 'n', 'i', 't'), 0x40, 0},
         {SENGADLIT_TAG('p', 'r', 'e', 'f'), 0x80, 0}};
-    const sengadlit_plan_input_t input = {.script = script, .features = features, .features_length = 5};
+    const sengadlit_plan_input_t input = {.size = sizeof input, .script = script, .features = features, .features_length = 5};
     sengadlit_plan_t *plan = sengadlit_plan_create(shaper, &input, NULL);
 
     if (!plan)
@@ -381,7 +382,7 @@ static void expect_no_stops(const char *what, unsigned int direction, sengadlit_
 
 static void carets_that_are_none(void)
 {
-    const sengadlit_buffer_properties_t one = {.max_length = 1};
+    const sengadlit_buffer_properties_t one = {.size = sizeof one, .max_length = 1};
     sengadlit_error_t error;
 
     begin();

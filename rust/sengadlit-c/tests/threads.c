@@ -17,7 +17,7 @@ static sengadlit_bool_t nominal_glyph(void *user_data, uint32_t unicode, uint32_
     return 1;
 }
 
-static const sengadlit_font_funcs_t font_funcs = {nominal_glyph, NULL, NULL, NULL};
+static const sengadlit_font_funcs_t font_funcs = {sizeof font_funcs, nominal_glyph, NULL, NULL, NULL};
 static const sengadlit_font_t font = {&font_funcs, NULL};
 
 struct made {

@@ -132,12 +132,13 @@ static void add_gsub_pause(void *, sengadlit_pause_t) { meet("add_gsub_pause"); 
 static void destroy(void *) { meet("destroy"); }
 static void receive(const char *, void *) { meet("message"); }
 
-static const sengadlit_font_funcs_t font_funcs = {nominal_glyph, glyph_h_advance, would_substitute, has_feature};
+static const sengadlit_font_funcs_t font_funcs = {sizeof font_funcs, nominal_glyph, glyph_h_advance, would_substitute,
+                                                  has_feature};
 static const sengadlit_font_t font = {&font_funcs, nullptr};
-static const sengadlit_tables_funcs_t tables_funcs = {joining_type, general_category, indic_categories,
+static const sengadlit_tables_funcs_t tables_funcs = {sizeof tables_funcs, joining_type, general_category, indic_categories,
                                                       use_category, compose,          decompose};
 static const sengadlit_tables_t tables = {&tables_funcs, nullptr};
-static const sengadlit_map_funcs_t map_funcs = {add_feature, add_gsub_pause};
+static const sengadlit_map_funcs_t map_funcs = {sizeof map_funcs, add_feature, add_gsub_pause};
 static const sengadlit_map_t map = {&map_funcs, nullptr};
 
 static sengadlit_plan_t *plan_of(sengadlit_shaper_t shaper, sengadlit_tag_t script)
@@ -146,7 +147,7 @@ static sengadlit_plan_t *plan_of(sengadlit_shaper_t shaper, sengadlit_tag_t scri
                                                    {SENGADLIT_TAG('s', 't', 'c', 'h'), 16, 0}};
     static const sengadlit_stage_t stage = {0, 1};
     static const uint16_t lookup = 0;
-    sengadlit_plan_input_t input = {};
+    sengadlit_plan_input_t input = SENGADLIT_INIT(sengadlit_plan_input_t);
 
     input.script = script;
     input.features = features;
@@ -172,8 +173,8 @@ static void stretch()
 {
     sengadlit_plan_t *plan = plan_of(SENGADLIT_SHAPER_ARABIC, SENGADLIT_TAG('S', 'y', 'r', 'c'));
     sengadlit_buffer_t *buffer = sengadlit_buffer_create();
-    const sengadlit_buffer_properties_t properties = {SENGADLIT_TAG('S', 'y', 'r', 'c'), SENGADLIT_DIRECTION_RTL,
-                                                      SENGADLIT_BUFFER_CLUSTER_LEVEL_CHARACTERS, 0, 64};
+    const sengadlit_buffer_properties_t properties = {sizeof properties, SENGADLIT_TAG('S', 'y', 'r', 'c'),
+                                                      SENGADLIT_DIRECTION_RTL, SENGADLIT_BUFFER_CLUSTER_LEVEL_CHARACTERS, 0, 64};
 
     (void)sengadlit_buffer_set_properties(buffer, &properties);
     sengadlit_glyph_info_t *glyphs = sengadlit_buffer_set_length(buffer, 3);
@@ -195,10 +196,10 @@ static void shape_whole()
 {
     static const uint16_t zero = 0;
     static const sengadlit_table_feature_t mark = {SENGADLIT_TAG('m', 'a', 'r', 'k'), 1, &zero};
-    static const sengadlit_lookups_funcs_t funcs = {variation_glyph, glyph_props, substitute, is_mark, position,
+    static const sengadlit_lookups_funcs_t funcs = {sizeof funcs, variation_glyph, glyph_props, substitute, is_mark, position,
                                                     finish_positions, glyph_v_advance, glyph_v_origin};
     static const sengadlit_lookups_t lookups = {&funcs, nullptr};
-    sengadlit_shape_plan_input_t input = {};
+    sengadlit_shape_plan_input_t input = SENGADLIT_INIT(sengadlit_shape_plan_input_t);
 
     input.script = SENGADLIT_TAG('L', 'a', 't', 'n');
     input.direction = SENGADLIT_DIRECTION_TTB;
@@ -207,7 +208,7 @@ static void shape_whole()
     input.gsub.features_length = 1;
     input.gpos = input.gsub;
     input.gpos.chosen_script = SENGADLIT_TAG('l', 'a', 't', 'n');
-    const sengadlit_buffer_properties_t properties = {input.script, input.direction,
+    const sengadlit_buffer_properties_t properties = {sizeof properties, input.script, input.direction,
                                                       SENGADLIT_BUFFER_CLUSTER_LEVEL_CHARACTERS, 0, 64};
     sengadlit_buffer_t *buffer = buffer_of("--\u1780\uFE00");
     (void)sengadlit_buffer_set_properties(buffer, &properties);

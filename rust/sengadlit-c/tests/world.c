@@ -106,7 +106,7 @@ static sengadlit_plan_t *create_plan(sengadlit_shaper_t shaper, sengadlit_tag_t 
     };
     static const sengadlit_stage_t stages[] = {{0, 1}, {1, 2}, {2, 3}, {3, 4}};
     static const uint16_t lookups[] = {7, 8, 9, 10};
-    sengadlit_plan_input_t input = {0};
+    sengadlit_plan_input_t input = SENGADLIT_INIT(sengadlit_plan_input_t);
 
     input.script = script;
     input.features = features;
@@ -120,8 +120,9 @@ static sengadlit_plan_t *create_plan(sengadlit_shaper_t shaper, sengadlit_tag_t 
 
 static void set_answers(void)
 {
-    static const sengadlit_font_funcs_t font_funcs = {nominal_glyph, glyph_h_advance, would_substitute, has_feature};
-    static const sengadlit_tables_funcs_t tables_funcs = {joining_type, general_category, indic_categories,
+    static const sengadlit_font_funcs_t font_funcs = {sizeof font_funcs, nominal_glyph, glyph_h_advance, would_substitute,
+                                                      has_feature};
+    static const sengadlit_tables_funcs_t tables_funcs = {sizeof tables_funcs, joining_type, general_category, indic_categories,
                                                           use_category, compose,          decompose};
 
     world.font_funcs = font_funcs;
@@ -188,6 +189,7 @@ void begin_world(sengadlit_shaper_t shaper, sengadlit_tag_t script, uint32_t cod
     lend_text(length);
 #endif
     set_answers();
+    world.properties.size = sizeof world.properties;
     world.properties.script = script;
     world.properties.direction = SENGADLIT_DIRECTION_LTR;
     limit_length(ROOM);

@@ -36,7 +36,7 @@ pub use face::{Face, FaceError, GlyphExtents};
 pub use feature::{Feature, FeatureError};
 pub use from_str::{DirectionError, ScriptError};
 pub use glyph_buffer::GlyphBuffer;
-pub use in_place::OpenTypeFont;
+pub use in_place::{OpenTypeFont, printed};
 pub use plan::{ShapePlan, ShapePlanBuilder};
 pub use serialize::{SerializeFlags, serialize_glyphs};
 pub use settings::Replacements;

@@ -2,14 +2,15 @@
 use super::arrays::Grow;
 use super::handle::Pointer;
 use super::plans::UserData;
-use super::{Out, array, put, text};
-use crate::buffer::Buffer;
+use super::{Growing, Out, array, grown, put, put_grown, text};
+use crate::buffer::{Buffer, Content};
 use crate::encodings::Unit;
-use crate::layout::Properties;
+use crate::layout::{Bool, Properties};
 use crate::status::{Argument, Error, Status};
 use core::ffi::{c_char, c_int, c_uint};
 use core::ops::Range;
-use sengadlit::buffer::{GlyphInfo, GlyphPosition};
+use core::ptr::null;
+use sengadlit::buffer::{CONTEXT_LENGTH, GlyphInfo, GlyphPosition};
 
 #[unsafe(no_mangle)]
 pub extern "C" fn sengadlit_buffer_create() -> Pointer {
@@ -75,6 +76,118 @@ pub extern "C" fn sengadlit_buffer_get_glyph_positions(
 }
 
 #[unsafe(no_mangle)]
+pub extern "C" fn sengadlit_buffer_get_length(buffer: Pointer) -> c_uint {
+    buffer.call(|_| 0, |buffer| Ok(buffer.text.len() as c_uint))
+}
+
+#[unsafe(no_mangle)]
+pub extern "C" fn sengadlit_buffer_read_glyphs(
+    buffer: Pointer,
+    length: Out<'_, c_uint>,
+) -> *const GlyphInfo {
+    buffer.call(
+        |_| null(),
+        |buffer| {
+            let glyphs = buffer.text.glyphs();
+            put(length, glyphs.len() as c_uint);
+            Ok(glyphs.as_ptr())
+        },
+    )
+}
+
+#[unsafe(no_mangle)]
+pub extern "C" fn sengadlit_buffer_read_positions(
+    buffer: Pointer,
+    length: Out<'_, c_uint>,
+) -> *const GlyphPosition {
+    buffer.call(
+        |_| null(),
+        |buffer| {
+            let positions = buffer.positions_there();
+            put(length, positions.len() as c_uint);
+            Ok(positions.as_ptr())
+        },
+    )
+}
+
+#[unsafe(no_mangle)]
+pub extern "C" fn sengadlit_buffer_get_content_type(buffer: Pointer) -> u32 {
+    buffer.call(|_| 0, |buffer| Ok(buffer.content() as u32))
+}
+
+#[unsafe(no_mangle)]
+pub extern "C" fn sengadlit_buffer_set_content_type(buffer: Pointer, content: u32) -> Status {
+    done(buffer, |buffer| {
+        let content = Content::from_number(content);
+        buffer.set_content(content.ok_or_else(|| Error::argument(Argument::Content))?);
+        Ok(())
+    })
+}
+
+#[unsafe(no_mangle)]
+pub extern "C" fn sengadlit_buffer_is_complete(buffer: Pointer) -> Bool {
+    buffer.call(|_| 0, |buffer| Ok(buffer.is_complete().into()))
+}
+
+/// Adds glyphs of another buffer.
+#[unsafe(no_mangle)]
+pub extern "C" fn sengadlit_buffer_append(
+    buffer: Pointer,
+    source: Pointer,
+    start: c_uint,
+    end: c_uint,
+) -> Status {
+    done(buffer, |buffer| {
+        source.call_other(|source| buffer.append(source, start as usize, end as usize))
+    })
+}
+
+#[unsafe(no_mangle)]
+pub extern "C" fn sengadlit_buffer_reverse(buffer: Pointer) -> Status {
+    done(buffer, |buffer| buffer.reverse(0, buffer.text.len()))
+}
+
+#[unsafe(no_mangle)]
+pub extern "C" fn sengadlit_buffer_reverse_range(
+    buffer: Pointer,
+    start: c_uint,
+    end: c_uint,
+) -> Status {
+    done(buffer, |buffer| {
+        buffer.reverse(start as usize, end as usize)
+    })
+}
+
+#[unsafe(no_mangle)]
+pub extern "C" fn sengadlit_buffer_reverse_clusters(buffer: Pointer) -> Status {
+    done(buffer, |buffer| {
+        buffer.reverse_clusters();
+        Ok(())
+    })
+}
+
+#[cfg(feature = "opentype")]
+#[unsafe(no_mangle)]
+pub extern "C" fn sengadlit_buffer_guess_properties(buffer: Pointer) -> Status {
+    done(buffer, Buffer::guess)
+}
+
+#[unsafe(no_mangle)]
+pub extern "C" fn sengadlit_buffer_get_grow_func(
+    buffer: Pointer,
+    user_data: Out<'_, UserData>,
+) -> Option<Grow> {
+    buffer.call(
+        |_| None,
+        |buffer| {
+            let (grow, given) = buffer.text.grow_func();
+            put(user_data, given);
+            Ok(grow)
+        },
+    )
+}
+
+#[unsafe(no_mangle)]
 pub extern "C" fn sengadlit_buffer_set_grow_func(
     buffer: Pointer,
     grow: Option<Grow>,
@@ -108,6 +221,7 @@ pub unsafe extern "C" fn sengadlit_buffer_lend(
                     .text
                     .lend_array(glyphs, length as usize, allocated as usize)
             }?;
+            buffer.set_content(Content::Unknown);
             buffer.clear_positions();
             Ok(Status::Done)
         },
@@ -161,14 +275,68 @@ fn done(buffer: Pointer, call: impl FnOnce(&mut Buffer) -> Result<(), Error>) ->
     )
 }
 
+// SAFETY: it is C's, its size comes first, and all of it are numbers.
+unsafe impl Growing for Properties {
+    const LEAST: usize = size_of::<Self>();
+}
+
+/// # Safety
+///
+/// The struct is C's, with its size.
 #[unsafe(no_mangle)]
-pub extern "C" fn sengadlit_buffer_set_properties(
+pub unsafe extern "C" fn sengadlit_buffer_set_properties(
     buffer: Pointer,
-    properties: Option<&Properties>,
+    properties: *const Properties,
 ) -> Status {
-    done(buffer, |buffer| match properties {
+    // SAFETY: the caller's promise.
+    let properties = unsafe { grown(properties) };
+    done(buffer, |buffer| match &properties {
         Some(properties) => buffer.set_properties(properties),
         None => Err(Error::argument(Argument::Properties)),
+    })
+}
+
+/// # Safety
+///
+/// The struct is C's, with its size.
+#[unsafe(no_mangle)]
+pub unsafe extern "C" fn sengadlit_buffer_get_properties(
+    buffer: Pointer,
+    properties: *mut Properties,
+) -> Status {
+    done(buffer, |buffer| {
+        // SAFETY: the caller's promise.
+        if unsafe { put_grown(properties, buffer.properties()) } {
+            Ok(())
+        } else {
+            Err(Error::argument(Argument::Properties))
+        }
+    })
+}
+
+// Writes characters to an array of C's that has room for those of a context, and how many they are.
+fn put_context(to: Out<'_, [u32; CONTEXT_LENGTH]>, length: Out<'_, c_uint>, characters: &[char]) {
+    put(length, characters.len() as c_uint);
+    let mut written = [0; CONTEXT_LENGTH];
+    for (to, character) in written.iter_mut().zip(characters) {
+        *to = u32::from(*character);
+    }
+    put(to, written);
+}
+
+#[unsafe(no_mangle)]
+pub extern "C" fn sengadlit_buffer_get_context(
+    buffer: Pointer,
+    before: Out<'_, [u32; CONTEXT_LENGTH]>,
+    before_length: Out<'_, c_uint>,
+    after: Out<'_, [u32; CONTEXT_LENGTH]>,
+    after_length: Out<'_, c_uint>,
+) -> Status {
+    done(buffer, |buffer| {
+        let (pre, post) = buffer.text.contexts();
+        put_context(before, before_length, pre);
+        put_context(after, after_length, post);
+        Ok(())
     })
 }
 

@@ -1,6 +1,6 @@
 //! The functions of a font and of tables, as the traits of `sengadlit`.
-use super::call_back;
 use super::plans::UserData;
+use super::{Growing, call_back, grown};
 use crate::layout::Bool;
 use crate::numbers;
 use crate::status::{Argument, Error};
@@ -12,7 +12,9 @@ use sengadlit::unicode::UnicodeTables;
 
 /// `sengadlit_font_funcs_t`.
 #[repr(C)]
+#[derive(Clone, Copy)]
 pub struct FontFuncs {
+    pub size: usize,
     pub nominal_glyph: Option<unsafe extern "C-unwind" fn(UserData, u32, *mut u32) -> Bool>,
     pub glyph_h_advance: Option<unsafe extern "C-unwind" fn(UserData, u32) -> i32>,
     pub would_substitute: Option<
@@ -21,16 +23,23 @@ pub struct FontFuncs {
     pub has_feature: Option<unsafe extern "C-unwind" fn(UserData, u32) -> Bool>,
 }
 
+// SAFETY: it is C's, its size comes first, and functions may be null.
+unsafe impl Growing for FontFuncs {
+    const LEAST: usize = size_of::<Self>();
+}
+
 /// `sengadlit_font_t`.
 #[repr(C)]
-pub struct Font<'a> {
-    pub funcs: Option<&'a FontFuncs>,
+pub struct Font {
+    pub funcs: *const FontFuncs,
     pub user_data: UserData,
 }
 
 /// `sengadlit_tables_funcs_t`.
 #[repr(C)]
+#[derive(Clone, Copy)]
 pub struct TablesFuncs {
+    pub size: usize,
     pub joining_type: Option<unsafe extern "C-unwind" fn(UserData, u32) -> u8>,
     pub general_category: Option<unsafe extern "C-unwind" fn(UserData, u32) -> u8>,
     pub indic_categories: Option<unsafe extern "C-unwind" fn(UserData, u32) -> u16>,
@@ -39,24 +48,36 @@ pub struct TablesFuncs {
     pub decompose: Option<unsafe extern "C-unwind" fn(UserData, u32, *mut u32, *mut u32) -> Bool>,
 }
 
+// SAFETY: it is C's, its size comes first, and functions may be null.
+unsafe impl Growing for TablesFuncs {
+    const LEAST: usize = size_of::<Self>();
+}
+
 /// `sengadlit_tables_t`.
 #[repr(C)]
-pub struct Tables<'a> {
-    pub funcs: Option<&'a TablesFuncs>,
+pub struct Tables {
+    pub funcs: *const TablesFuncs,
     pub user_data: UserData,
 }
 
 /// `sengadlit_map_funcs_t`.
 #[repr(C)]
+#[derive(Clone, Copy)]
 pub struct MapFuncs {
+    pub size: usize,
     pub add_feature: Option<unsafe extern "C-unwind" fn(UserData, u32, u32, u32)>,
     pub add_gsub_pause: Option<unsafe extern "C-unwind" fn(UserData, u32)>,
 }
 
+// SAFETY: it is C's, its size comes first, and functions may be null.
+unsafe impl Growing for MapFuncs {
+    const LEAST: usize = size_of::<Self>();
+}
+
 /// `sengadlit_map_t`.
 #[repr(C)]
-pub struct Map<'a> {
-    pub funcs: Option<&'a MapFuncs>,
+pub struct Map {
+    pub funcs: *const MapFuncs,
     pub user_data: UserData,
 }
 
@@ -73,19 +94,21 @@ pub const TABLES_COMPOSE: u8 = 16;
 pub const TABLES_DECOMPOSE: u8 = 32;
 
 /// Functions, among them all that a call uses, with their user data.
-pub struct Asked<'a, F> {
-    funcs: &'a F,
+#[derive(Clone, Copy)]
+pub struct Asked<F> {
+    funcs: F,
     user_data: UserData,
 }
 
-impl<F> Clone for Asked<'_, F> {
-    #[inline]
-    fn clone(&self) -> Self {
-        *self
+// The functions of C's struct, or none where it is null; nothing where its size is wrong.
+#[inline]
+fn functions<F: Growing>(funcs: *const F, none: F) -> Option<F> {
+    if funcs.is_null() {
+        return Some(none);
     }
+    // SAFETY: a struct of C's with its size.
+    unsafe { grown(funcs) }
 }
-
-impl<F> Copy for Asked<'_, F> {}
 
 pub(super) fn bit(is_there: bool, bit: u8) -> u8 {
     if is_there { bit } else { 0 }
@@ -93,6 +116,7 @@ pub(super) fn bit(is_there: bool, bit: u8) -> u8 {
 
 impl FontFuncs {
     const NONE: Self = FontFuncs {
+        size: size_of::<Self>(),
         nominal_glyph: None,
         glyph_h_advance: None,
         would_substitute: None,
@@ -110,6 +134,7 @@ impl FontFuncs {
 
 impl TablesFuncs {
     const NONE: Self = TablesFuncs {
+        size: size_of::<Self>(),
         joining_type: None,
         general_category: None,
         indic_categories: None,
@@ -129,14 +154,20 @@ impl TablesFuncs {
     }
 }
 
-impl<'a> Asked<'a, FontFuncs> {
+impl Asked<FontFuncs> {
+    /// Whether all of these functions are there: bits of `FONT_..`.
+    #[inline]
+    pub fn has(&self, functions: u8) -> bool {
+        functions & !self.funcs.answered() == 0
+    }
+
     /// The font, if it has all that is used; where nothing is, it may be null.
     #[inline]
-    pub fn font(font: Option<&Font<'a>>, asks: u8) -> Result<Self, Error> {
-        let funcs = font.and_then(|font| font.funcs).unwrap_or(&FontFuncs::NONE);
-        if asks & !funcs.answered() != 0 {
-            return Err(Error::argument(Argument::Font));
-        }
+    pub fn font(font: Option<&Font>, asks: u8) -> Result<Self, Error> {
+        let funcs = font.map_or(core::ptr::null(), |font| font.funcs);
+        let funcs = functions(funcs, FontFuncs::NONE);
+        let funcs = funcs.filter(|funcs| asks & !funcs.answered() == 0);
+        let funcs = funcs.ok_or_else(|| Error::argument(Argument::Font))?;
         Ok(Asked {
             funcs,
             user_data: font.map_or(core::ptr::null_mut(), |font| font.user_data),
@@ -146,22 +177,21 @@ impl<'a> Asked<'a, FontFuncs> {
 
 /// Tables: Unicode's, or functions with their user data.
 #[derive(Clone, Copy)]
-pub struct AskedTables<'a> {
+pub struct AskedTables {
     // None where the tables are Unicode's.
-    asked: Option<Asked<'a, TablesFuncs>>,
+    asked: Option<Asked<TablesFuncs>>,
 }
 
-impl<'a> AskedTables<'a> {
+impl AskedTables {
     /// The tables, if they have all that is used; null ones are Unicode's.
     #[inline]
-    pub fn of(tables: Option<&Tables<'a>>, asks: u8) -> Result<Self, Error> {
+    pub fn of(tables: Option<&Tables>, asks: u8) -> Result<Self, Error> {
         let Some(tables) = tables else {
             return Ok(AskedTables { asked: None });
         };
-        let funcs = tables.funcs.unwrap_or(&TablesFuncs::NONE);
-        if asks & !funcs.answered() != 0 {
-            return Err(Error::argument(Argument::Tables));
-        }
+        let funcs = functions(tables.funcs, TablesFuncs::NONE);
+        let funcs = funcs.filter(|funcs| asks & !funcs.answered() == 0);
+        let funcs = funcs.ok_or_else(|| Error::argument(Argument::Tables))?;
         let user_data = tables.user_data;
         Ok(AskedTables {
             asked: Some(Asked { funcs, user_data }),
@@ -170,10 +200,10 @@ impl<'a> AskedTables<'a> {
 }
 
 /// How many glyphs a question about lookups is about at most.
-const QUESTIONED: usize = 3;
+pub const QUESTIONED: usize = 3;
 
 // No call below uses a function that is missing (`Asked::font`, `AskedTables::of`).
-impl AnswersFont for Asked<'_, FontFuncs> {
+impl AnswersFont for Asked<FontFuncs> {
     #[inline]
     fn nominal_glyph(&self, c: u32) -> Option<GlyphId> {
         let nominal = self.funcs.nominal_glyph?;
@@ -238,7 +268,7 @@ impl AnswersFont for Asked<'_, FontFuncs> {
     }
 }
 
-impl AnswersTables for AskedTables<'_> {
+impl AnswersTables for AskedTables {
     #[inline]
     fn joining_type(&self, c: char) -> JoiningType {
         match &self.asked {
@@ -286,7 +316,7 @@ impl AnswersTables for AskedTables<'_> {
     }
 }
 
-impl AnswersTables for Asked<'_, TablesFuncs> {
+impl AnswersTables for Asked<TablesFuncs> {
     #[inline]
     fn joining_type(&self, c: char) -> JoiningType {
         let Some(of) = self.funcs.joining_type else {

@@ -5,7 +5,9 @@ use super::plans::UserData;
 use crate::status::{Argument, Error};
 use core::ptr::null_mut;
 use sengadlit::alloc::{Global, Vec as List};
-use sengadlit::buffer::{Buffer as Inner, BufferSettings, GlyphInfo, GlyphRewriting, ShaperError};
+use sengadlit::buffer::{
+    Buffer as Inner, BufferSettings, Direction, GlyphInfo, GlyphRewriting, Script, ShaperError,
+};
 
 /// The greatest length of a text for which none is set.
 pub const MAX_LENGTH: usize = Inner::MAX_LEN_DEFAULT;
@@ -110,6 +112,11 @@ impl Text {
         if let Some(array) = &self.array {
             array.set_grow(self.grow);
         }
+    }
+
+    /// The function by which they grow, with what it is given.
+    pub fn grow_func(&self) -> (Option<Grow>, UserData) {
+        self.grow
     }
 
     /// Works in an array of C's from now on, of which the first glyphs are the text; what it had is gone. Where that is refused,
@@ -278,10 +285,30 @@ impl Text {
         grown
     }
 
+    /// The settings.
+    pub fn settings(&self) -> BufferSettings<'_> {
+        self.inner.settings()
+    }
+
+    /// The greatest length of the text that is set.
+    pub fn max_length(&self) -> usize {
+        self.max_length
+    }
+
+    /// The characters before the text and behind it, the nearest first.
+    pub fn contexts(&self) -> (&[char], &[char]) {
+        (self.inner.pre_context(), self.inner.post_context())
+    }
+
+    /// Sets the script and direction.
+    pub fn set_segment(&mut self, script: Option<Script>, direction: Direction) {
+        self.inner.set_script(script);
+        self.inner.set_direction(direction);
+    }
+
     /// Takes the direction, script, level, flags and greatest length of these settings.
     pub fn set_properties(&mut self, settings: &BufferSettings<'_>) {
-        self.inner.set_direction(settings.direction);
-        self.inner.set_script(settings.script);
+        self.set_segment(settings.script, settings.direction);
         self.inner.set_cluster_level(settings.cluster_level);
         self.inner.set_flags(settings.flags);
         self.max_length = settings.max_len;

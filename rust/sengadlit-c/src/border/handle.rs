@@ -110,6 +110,17 @@ impl Pointer {
         }
     }
 
+    /// Makes a part of a call that has another buffer on this one, too. An error is the other's: that of text where there is no
+    /// buffer, and where another call has this one, or the same call, that it is so.
+    pub fn call_other<A>(
+        self,
+        call: impl FnOnce(&mut Buffer) -> Result<A, Error>,
+    ) -> Result<A, Error> {
+        let place = NonNull::new(self.0).ok_or_else(|| Error::argument(Argument::Text))?;
+        let mut begun = Call::begin(place).map_err(|_| Error::IN_CALL)?;
+        call(begun.buffer())
+    }
+
     /// The same for a call that returns a place: null where it fails.
     #[inline]
     pub fn call_for_place<T>(

@@ -31,7 +31,7 @@ fn on_buffer(
 #[unsafe(no_mangle)]
 pub extern "C" fn sengadlit_preprocess_text(
     plan: Option<&Plan>,
-    font: Option<&Font<'_>>,
+    font: Option<&Font>,
     buffer: Pointer,
     vowel_constraints: Out<'_, Bool>,
 ) -> Status {
@@ -54,7 +54,7 @@ fn ended(found: Result<Status, Error>, error: Out<'_, Error>) -> Status {
 #[unsafe(no_mangle)]
 pub extern "C" fn sengadlit_decompose(
     plan: Option<&Plan>,
-    tables: Option<&Tables<'_>>,
+    tables: Option<&Tables>,
     ab: u32,
     a: Out<'_, u32>,
     b: Out<'_, u32>,
@@ -80,7 +80,7 @@ pub extern "C" fn sengadlit_decompose(
 #[unsafe(no_mangle)]
 pub extern "C" fn sengadlit_compose(
     plan: Option<&Plan>,
-    tables: Option<&Tables<'_>>,
+    tables: Option<&Tables>,
     a: u32,
     b: u32,
     ab: Out<'_, u32>,
@@ -117,7 +117,7 @@ pub extern "C" fn sengadlit_reorder_marks(
 #[unsafe(no_mangle)]
 pub extern "C" fn sengadlit_setup_masks(
     plan: Option<&Plan>,
-    tables: Option<&Tables<'_>>,
+    tables: Option<&Tables>,
     buffer: Pointer,
 ) -> Status {
     on_buffer(plan, buffer, |plan, buffer| {
@@ -132,7 +132,7 @@ pub extern "C" fn sengadlit_setup_masks(
 pub unsafe extern "C" fn sengadlit_run_pause(
     plan: Option<&Plan>,
     pause: u32,
-    font: Option<&Font<'_>>,
+    font: Option<&Font>,
     spans: *const Span,
     spans_length: c_uint,
     buffer: Pointer,
@@ -191,7 +191,7 @@ pub extern "C" fn sengadlit_setup_syllables_written(
 #[unsafe(no_mangle)]
 pub extern "C" fn sengadlit_postprocess_glyphs(
     plan: Option<&Plan>,
-    font: Option<&Font<'_>>,
+    font: Option<&Font>,
     buffer: Pointer,
 ) -> Status {
     on_buffer(plan, buffer, |plan, buffer| {

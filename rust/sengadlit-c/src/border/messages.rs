@@ -1,8 +1,9 @@
 //! Messages on internal errors.
-use super::call_back;
 use super::plans::UserData;
+use super::{Out, call_back, put};
 use core::ffi::c_char;
 use core::fmt::{self, Write as _};
+use core::ptr::null_mut;
 use std::io::{self, Write as _};
 use std::panic::{self, PanicHookInfo};
 use std::sync::{Once, PoisonError, RwLock};
@@ -82,6 +83,16 @@ pub extern "C" fn sengadlit_set_message_func(func: Option<MessageFunc>, user_dat
         func.map(|func| Receiver { func, user_data });
     // (a box of a function takes no memory, which could be refused)
     ONCE.call_once(|| panic::set_hook(Box::new(report)));
+}
+
+#[unsafe(no_mangle)]
+pub extern "C" fn sengadlit_get_message_func(user_data: Out<'_, UserData>) -> Option<MessageFunc> {
+    let receiver = *RECEIVER.read().unwrap_or_else(PoisonError::into_inner);
+    put(
+        user_data,
+        receiver.map_or(null_mut(), |receiver| receiver.user_data),
+    );
+    receiver.map(|receiver| receiver.func)
 }
 
 #[cfg(test)]

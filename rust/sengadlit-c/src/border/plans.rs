@@ -1,12 +1,13 @@
 //! Shapers, their features, and plans.
-use super::callbacks::{Font, Map, MapFuncs};
-use super::{Out, array, boxed, call_back, guarded, put};
+use super::callbacks::{Font, Map};
+use super::{Growing, Out, array, boxed, call_back, grown, guarded, put, put_grown};
 use crate::layout::{Bool, Constants, Data, Feature, Stage};
 use crate::plan::{self, Plan};
 use crate::status::{Argument, Error, Status};
 use crate::{features, numbers};
 use core::ffi::{c_uint, c_void};
 use core::ptr::null_mut;
+use core::sync::atomic::AtomicUsize;
 use core::sync::atomic::Ordering::{AcqRel, Relaxed};
 use sengadlit::Shaper;
 use sengadlit::plan::{Planner, Request};
@@ -15,22 +16,45 @@ use std::process::abort;
 /// What callbacks are given.
 pub type UserData = *mut c_void;
 
+/// # Safety
+///
+/// The struct is C's, with its size.
 #[unsafe(no_mangle)]
-pub extern "C" fn sengadlit_shaper_get_constants(
+pub unsafe extern "C" fn sengadlit_shaper_get_constants(
     shaper: u32,
-    constants: Out<'_, Constants>,
+    constants: *mut Constants,
 ) -> Status {
-    let (Some(shaper), Some(constants)) = (numbers::shaper(shaper), constants) else {
+    let Some(shaper) = numbers::shaper(shaper) else {
         return Status::Argument;
     };
-    constants.write(Constants {
+    let found = Constants {
+        size: 0,
         hooks: numbers::hooks(shaper),
         gpos_tag: shaper.gpos_tag().map_or(0, numbers::tag_number),
         normalization_preference: numbers::normalization(shaper.normalization_preference()),
         zero_width_marks: numbers::zero_width_marks(shaper.zero_width_marks()),
         fallback_position: Bool::from(shaper.fallback_position()),
-    });
-    Status::Done
+    };
+    // SAFETY: the caller's promise.
+    done_if(unsafe { put_grown(constants, found) })
+}
+
+// How a call ended that writes to a struct of C's, which may be none.
+fn done_if(is_written: bool) -> Status {
+    if is_written {
+        Status::Done
+    } else {
+        Status::Argument
+    }
+}
+
+// SAFETY: they are C's, their sizes come first, and all of them are numbers.
+unsafe impl Growing for Constants {
+    const LEAST: usize = size_of::<Self>();
+}
+// SAFETY: the same.
+unsafe impl Growing for Data {
+    const LEAST: usize = size_of::<Self>();
 }
 
 #[unsafe(no_mangle)]
@@ -64,17 +88,15 @@ struct Told {
 }
 
 impl Told {
-    fn of(map: Option<&Map<'_>>) -> Result<Self, Error> {
-        let known = map.and_then(|map| match map.funcs? {
-            MapFuncs {
-                add_feature: Some(feature),
-                add_gsub_pause: Some(pause),
-            } => Some(Told {
-                add_feature: *feature,
-                add_gsub_pause: *pause,
+    fn of(map: Option<&Map>) -> Result<Self, Error> {
+        let known = map.and_then(|map| {
+            // SAFETY: a struct of C's with its size.
+            let funcs = unsafe { grown(map.funcs) }?;
+            Some(Told {
+                add_feature: funcs.add_feature?,
+                add_gsub_pause: funcs.add_gsub_pause?,
                 user_data: map.user_data,
-            }),
-            _ => None,
+            })
         });
         known.ok_or_else(|| Error::argument(Argument::Map))
     }
@@ -97,7 +119,7 @@ impl Told {
 
 // Tells the map what the shaper wants of it.
 fn tell(
-    map: Option<&Map<'_>>,
+    map: Option<&Map>,
     error: Out<'_, Error>,
     wanted: impl FnOnce() -> Result<Option<Planner>, Error>,
 ) -> Status {
@@ -124,8 +146,8 @@ fn tell(
 pub extern "C" fn sengadlit_collect_features(
     shaper: u32,
     script: u32,
-    font: Option<&Font<'_>>,
-    map: Option<&Map<'_>>,
+    font: Option<&Font>,
+    map: Option<&Map>,
     error: Out<'_, Error>,
 ) -> Status {
     tell(map, error, || features::collect(shaper, script, font))
@@ -135,7 +157,7 @@ pub extern "C" fn sengadlit_collect_features(
 pub extern "C" fn sengadlit_override_features(
     shaper: u32,
     script: u32,
-    map: Option<&Map<'_>>,
+    map: Option<&Map>,
     error: Out<'_, Error>,
 ) -> Status {
     tell(map, error, || features::collect_overriding(shaper, script))
@@ -152,7 +174,8 @@ pub struct Kept {
 }
 
 impl Kept {
-    fn destroy(self) {
+    /// Gives the user data back to C.
+    pub fn destroy(self) {
         if let Some(destroy) = self.destroy {
             // SAFETY: a callback of C, with what it is given, called once.
             call_back(|| unsafe { destroy(self.user_data) });
@@ -162,7 +185,9 @@ impl Kept {
 
 /// `sengadlit_plan_input_t`.
 #[repr(C)]
+#[derive(Clone, Copy)]
 pub struct PlanInput {
+    pub size: usize,
     pub script: u32,
     pub chosen_script: u32,
     pub found_script: Bool,
@@ -178,6 +203,11 @@ pub struct PlanInput {
     pub lookups: *const u16,
     pub lookups_length: c_uint,
     pub kept: Kept,
+}
+
+// SAFETY: it is C's, its size comes first, and zeros and null pointers are valid.
+unsafe impl Growing for PlanInput {
+    const LEAST: usize = size_of::<Self>();
 }
 
 fn make(shaper: u32, input: &PlanInput) -> Result<Box<Plan>, Error> {
@@ -198,13 +228,18 @@ fn make(shaper: u32, input: &PlanInput) -> Result<Box<Plan>, Error> {
     boxed(plan).ok_or(Error::MEMORY)
 }
 
+/// # Safety
+///
+/// The input is C's, with its size.
 #[unsafe(no_mangle)]
-pub extern "C" fn sengadlit_plan_create(
+pub unsafe extern "C" fn sengadlit_plan_create(
     shaper: u32,
-    input: Option<&PlanInput>,
+    input: *const PlanInput,
     error: Out<'_, Error>,
 ) -> *mut Plan {
-    let made = match input {
+    // SAFETY: the caller's promise.
+    let input = unsafe { grown(input) };
+    let made = match &input {
         Some(input) => guarded(|| make(shaper, input)),
         None => Err(Error::argument(Argument::Input)),
     };
@@ -223,11 +258,15 @@ pub extern "C" fn sengadlit_plan_create(
 #[unsafe(no_mangle)]
 pub extern "C" fn sengadlit_plan_reference(plan: Option<&Plan>) -> *mut Plan {
     let Some(plan) = plan else { return null_mut() };
-    // As many references as half of the numbers are lost ones.
-    if plan.references.fetch_add(1, Relaxed) > usize::MAX / 2 {
+    reference(&plan.references);
+    core::ptr::from_ref(plan).cast_mut()
+}
+
+/// Adds a reference. As many as half of the numbers are lost ones.
+pub fn reference(references: &AtomicUsize) {
+    if references.fetch_add(1, Relaxed) > usize::MAX / 2 {
         abort();
     }
-    core::ptr::from_ref(plan).cast_mut()
 }
 
 /// # Safety
@@ -251,11 +290,14 @@ pub extern "C" fn sengadlit_plan_get_user_data(plan: Option<&Plan>) -> UserData 
     plan.map_or(null_mut(), |plan| plan.kept.user_data)
 }
 
+/// # Safety
+///
+/// The struct is C's, with its size.
 #[unsafe(no_mangle)]
-pub extern "C" fn sengadlit_plan_get_data(plan: Option<&Plan>, data: Out<'_, Data>) -> Status {
-    let (Some(plan), Some(data)) = (plan, data) else {
+pub unsafe extern "C" fn sengadlit_plan_get_data(plan: Option<&Plan>, data: *mut Data) -> Status {
+    let Some(plan) = plan else {
         return Status::Argument;
     };
-    data.write(plan::data(plan));
-    Status::Done
+    // SAFETY: the caller's promise.
+    done_if(unsafe { put_grown(data, plan::data(plan)) })
 }

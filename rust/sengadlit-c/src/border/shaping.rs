@@ -4,7 +4,7 @@ use super::callbacks::{Font, bit};
 use super::handle::{Lent, Pointer};
 use super::messages;
 use super::plans::UserData;
-use super::{Out, array, boxed, guarded, put};
+use super::{Growing, Out, array, boxed, grown, guarded, put};
 use crate::buffer::Buffer;
 use crate::layout::{Bool, Lookup, UserFeature};
 use crate::plan::list;
@@ -33,6 +33,7 @@ pub struct TableFeatureInput {
 
 /// `sengadlit_layout_table_t`.
 #[repr(C)]
+#[derive(Clone, Copy)]
 pub struct LayoutTableInput {
     pub has_table: Bool,
     pub chosen_script: u32,
@@ -46,7 +47,9 @@ pub struct LayoutTableInput {
 
 /// `sengadlit_shape_plan_input_t`.
 #[repr(C)]
+#[derive(Clone, Copy)]
 pub struct ShapePlanInput {
+    pub size: usize,
     pub script: u32,
     pub direction: u32,
     pub gsub: LayoutTableInput,
@@ -57,6 +60,11 @@ pub struct ShapePlanInput {
     pub centres_stretch: Bool,
     pub sound_breaks: Bool,
     pub searches_medials: Bool,
+}
+
+// SAFETY: it is C's, its size comes first, and zeros and null pointers are valid.
+unsafe impl Growing for ShapePlanInput {
+    const LEAST: usize = size_of::<Self>();
 }
 
 /// A feature of a table, and its lookups.
@@ -117,12 +125,16 @@ fn make(input: &ShapePlanInput) -> Result<Box<ShapePlan>, Error> {
     boxed(plan).ok_or(Error::MEMORY)
 }
 
+/// # Safety
+///
+/// The input is C's, with its size.
 #[unsafe(no_mangle)]
-pub extern "C" fn sengadlit_shape_plan_create(
-    input: Option<&ShapePlanInput>,
+pub unsafe extern "C" fn sengadlit_shape_plan_create(
+    input: *const ShapePlanInput,
     error: Out<'_, Error>,
 ) -> *mut ShapePlan {
-    let made = match input {
+    // SAFETY: the caller's promise.
+    let made = match unsafe { grown(input) }.as_ref() {
         Some(input) => guarded(|| make(input)),
         None => Err(Error::argument(Argument::Input)),
     };
@@ -155,7 +167,9 @@ type Origin = unsafe extern "C-unwind" fn(UserData, u32, *mut i32, *mut i32);
 
 /// `sengadlit_lookups_funcs_t`.
 #[repr(C)]
+#[derive(Clone, Copy)]
 pub struct LookupsFuncs {
+    pub size: usize,
     pub variation_glyph: Option<unsafe extern "C-unwind" fn(UserData, u32, u32, *mut u32) -> Bool>,
     pub glyph_props: Option<Props>,
     pub substitute: Option<Apply>,
@@ -164,6 +178,11 @@ pub struct LookupsFuncs {
     pub finish_positions: Option<unsafe extern "C-unwind" fn(UserData, Pointer)>,
     pub glyph_v_advance: Option<unsafe extern "C-unwind" fn(UserData, u32) -> i32>,
     pub glyph_v_origin: Option<Origin>,
+}
+
+// SAFETY: it is C's, its size comes first, and functions may be null.
+unsafe impl Growing for LookupsFuncs {
+    const LEAST: usize = size_of::<Self>();
 }
 
 // Which callbacks a call uses, as bits.
@@ -182,26 +201,27 @@ impl LookupsFuncs {
 
 /// `sengadlit_lookups_t`.
 #[repr(C)]
-pub struct Lookups<'a> {
-    pub funcs: Option<&'a LookupsFuncs>,
+pub struct Lookups {
+    pub funcs: *const LookupsFuncs,
     pub user_data: UserData,
 }
 
 /// The functions of a font's lookups, with the buffer that they are lent.
-pub struct AskedLookups<'a> {
-    funcs: &'a LookupsFuncs,
+pub struct AskedLookups {
+    funcs: LookupsFuncs,
     user_data: UserData,
     lent: RefCell<Lent>,
     // What a callback left that is no text of glyphs; it ends the call.
     fault: Cell<Option<Error>>,
 }
 
-impl<'a> AskedLookups<'a> {
+impl AskedLookups {
     /// The lookups, which must have what the call uses: bits of `LOOKUPS_..`.
-    pub fn of(lookups: Option<&Lookups<'a>>, asks: u8) -> Result<Self, Error> {
+    pub fn of(lookups: Option<&Lookups>, asks: u8) -> Result<Self, Error> {
         let missing = || Error::argument(Argument::Lookups);
         let lookups = lookups.ok_or_else(missing)?;
-        let funcs = lookups.funcs.ok_or_else(missing)?;
+        // SAFETY: a struct of C's with its size.
+        let funcs = unsafe { grown(lookups.funcs) }.ok_or_else(missing)?;
         if asks & !funcs.answered() != 0 {
             return Err(missing());
         }
@@ -287,7 +307,7 @@ impl<'a> AskedLookups<'a> {
     }
 }
 
-impl AnswersLookups for AskedLookups<'_> {
+impl AnswersLookups for AskedLookups {
     fn glyph_props(&self, glyph: &GlyphInfo) -> GlyphProps {
         let Some(props) = self.funcs.glyph_props else {
             return GlyphProps::NONE;
@@ -343,7 +363,7 @@ impl AnswersLookups for AskedLookups<'_> {
     }
 }
 
-impl GlyphClasses for AskedLookups<'_> {
+impl GlyphClasses for AskedLookups {
     fn is_mark(&self, glyph: &GlyphInfo) -> bool {
         let Some(is_mark) = self.funcs.is_mark else {
             return false;
@@ -371,8 +391,8 @@ fn on_text(
 #[unsafe(no_mangle)]
 pub extern "C" fn sengadlit_substitute_text(
     plan: Option<&ShapePlan>,
-    font: Option<&Font<'_>>,
-    lookups: Option<&Lookups<'_>>,
+    font: Option<&Font>,
+    lookups: Option<&Lookups>,
     buffer: Pointer,
 ) -> Status {
     on_text(plan, buffer, |plan, buffer| {
@@ -383,8 +403,8 @@ pub extern "C" fn sengadlit_substitute_text(
 #[unsafe(no_mangle)]
 pub extern "C" fn sengadlit_shape(
     plan: Option<&ShapePlan>,
-    font: Option<&Font<'_>>,
-    lookups: Option<&Lookups<'_>>,
+    font: Option<&Font>,
+    lookups: Option<&Lookups>,
     buffer: Pointer,
 ) -> Status {
     on_text(plan, buffer, |plan, buffer| {

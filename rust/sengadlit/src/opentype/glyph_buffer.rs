@@ -83,7 +83,7 @@ impl GlyphBuffer {
         Serialized {
             infos: self.glyph_infos(),
             positions: self.glyph_positions(),
-            face,
+            face: Some(face),
             scale: self.scale,
             flags,
         }

@@ -1,20 +1,39 @@
 //! Texts that are shaped where they stand, for callers with a [`Buffer`] or a font of their own.
 
 use super::not_found::Substituted;
+use super::serialize::Serialized;
 use super::steps::{Steps, Told};
-use super::{Face, Replacements, ShapePlan};
-use crate::buffer::{Buffer, Script};
+use super::{Face, Replacements, SerializeFlags, ShapePlan};
+use crate::buffer::{Buffer, GlyphInfo, GlyphPosition, Script};
 pub use crate::generated::opentype_font::font::OpenTypeFont;
 use crate::ot_shape;
 use crate::ot_shape_normalize::NormalizeFont;
 use crate::ot_shape_position::MetricsFont;
 use crate::shaper::checked::CallError;
 use crate::unicode::UnicodeTables;
+use core::fmt;
 
 impl<'a> Face<'a> {
     /// The face as the hooks and `ot_shape` read it, for texts of a script.
     pub fn font(&self, script: Option<Script>) -> OpenTypeFont<'a> {
         self.for_script(script)
+    }
+}
+
+/// Glyphs of a [`Buffer`] in one line, as hb-shape prints them: by the names of a face, if there is one, and
+/// with positions, if there are some. The alternate form (`{:#}`) is that of `--output-format=json`.
+pub fn printed<'a>(
+    face: Option<&'a Face<'a>>,
+    glyphs: &'a [GlyphInfo],
+    positions: &'a [GlyphPosition],
+    flags: SerializeFlags,
+) -> impl fmt::Display + 'a {
+    Serialized {
+        infos: glyphs,
+        positions,
+        face,
+        scale: None,
+        flags,
     }
 }
 

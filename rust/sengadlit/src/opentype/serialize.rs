@@ -25,6 +25,11 @@ impl SerializeFlags {
     /// No advances: each offset is from the start of the text.
     pub const NO_ADVANCES: Self = SerializeFlags(0x20);
 
+    /// The flags of HarfBuzz's numbers; `None` where another bit is set.
+    pub fn from_number(number: u32) -> Option<Self> {
+        (number & !0x3F == 0).then_some(SerializeFlags(number as u8))
+    }
+
     /// Whether all of these are set.
     pub fn contains(self, flags: Self) -> bool {
         self.0 & flags.0 == flags.0
@@ -54,7 +59,7 @@ const FLAGS: u32 =
 pub(super) struct Serialized<'a> {
     pub infos: &'a [GlyphInfo],
     pub positions: &'a [GlyphPosition],
-    pub face: &'a Face<'a>,
+    pub face: Option<&'a Face<'a>>,
     pub scale: Option<Scale>,
     pub flags: SerializeFlags,
 }
@@ -184,7 +189,7 @@ impl Glyph<'_> {
             return write!(f, "{number}");
         }
         f.write_str(quote)?;
-        match self.shown.face.glyph_name(number) {
+        match self.shown.face.and_then(|face| face.glyph_name(number)) {
             Some(name) => write_quoted(name, f)?,
             None => write!(f, "gid{number}")?,
         }
@@ -202,7 +207,7 @@ impl Glyph<'_> {
         if !self.shown.has(SerializeFlags::GLYPH_EXTENTS) {
             return None;
         }
-        let units = self.shown.face.glyph_extents(self.info.glyph_id)?;
+        let units = self.shown.face?.glyph_extents(self.info.glyph_id)?;
         let scale = self.shown.scale;
         let extents = scale.map_or(units, |scale| scale.extents(units));
         Some([
