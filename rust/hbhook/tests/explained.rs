@@ -169,6 +169,8 @@ fn places_are_in_the_buffer() {
     expect("at 0 glyph 1", empty);
     let places = "field 3, `2`: expected a number up to the end, 1";
     expect("set shaper hebrew\ntext 41 42\nrun marks 2 1", places);
+    let places = "field 3, `3`: expected a number up to the end, 2";
+    expect("set shaper hebrew\ntext 41 42\nrun marks 3 2", places);
     let positions = "expected positions: a line `set positions yes` before it, and after the text";
     expect("set shaper arabic\ntext 41\nrun postprocess", positions);
 }

@@ -51,6 +51,38 @@ fn more_than_four_are_told_by_their_count() {
         told(&before, &after, &[0, 1, 2, 3, 4, 5]),
         "0041 became 0061; 0042 became 0062; 0043 became 0063; 0044 became 0064; 2 more became others."
     );
+    let reversed: Vec<GlyphInfo> = before.iter().rev().copied().collect();
+    assert_eq!(
+        told(&before, &reversed, &[5, 4, 3, 2, 1, 0]),
+        "0046 moved from place 5 to place 0; 0045 moved from place 4 to place 1; \
+         0044 moved from place 3 to place 2; 0043 moved from place 2 to place 3; 1 more moved."
+    );
+    let of_one = [before[0]; 6];
+    assert_eq!(
+        told(&before[..1], &of_one, &[0; 6]),
+        "0041 came in; 0041 came in; 0041 came in; 0041 came in; 1 more came in."
+    );
+    assert_eq!(
+        told(&before, &before[..1], &[0]),
+        "0042 went into another; 0043 went into another; 0044 went into another; \
+         0045 went into another; 1 more went into others."
+    );
+}
+
+// Of a syllable's byte the kind counts as the serial does.
+#[test]
+fn another_syllable_has_another_serial_or_kind() {
+    let before = [GlyphInfo {
+        syllable: 0x12,
+        ..glyph(0x41, 0)
+    }];
+    for syllable in [0x22, 0x13] {
+        let after = [GlyphInfo {
+            syllable,
+            ..before[0]
+        }];
+        assert_eq!(told(&before, &after, &[0]), "1 glyph has another syllable.");
+    }
 }
 
 // The low three bits of a mask are glyph flags, the others features.
@@ -246,6 +278,16 @@ fn the_moves_of_a_glyph_lead_to_the_text() {
         "22: VPre, a vowel before the base, which goes to the front"
     );
     assert!(steps.fields(last, 2).is_empty());
+}
+
+// What would break a line of the page, or can't be seen, has a number alone.
+#[test]
+fn a_control_character_is_shown_by_its_number() {
+    let steps = steps_of("\u{0D9A}\n\u{0085}");
+    let number = |place| steps.fields(0, place)[0].clone();
+    assert_eq!(number(0), ("glyph", "0D9A \u{0D9A}".into()));
+    assert_eq!(number(1), ("glyph", "000A".into()));
+    assert_eq!(number(2), ("glyph", "0085".into()));
 }
 
 // The serial of a syllable is its byte's high four bits, its kind the low four: that of a word joiner
