@@ -1,6 +1,7 @@
 //! Glyphs as hb-shape prints them (HarfBuzz's `hb_buffer_serialize_glyphs`).
 
 use super::Face;
+use super::in_place::printed;
 use super::scale::Scale;
 use crate::buffer::{Buffer, GlyphInfo, GlyphPosition, glyph_flag};
 use core::fmt;
@@ -233,12 +234,5 @@ fn write_escaped(name: &str, f: &mut fmt::Formatter<'_>) -> fmt::Result {
 /// The glyphs of a buffer in one line, as hb-shape prints them: those that
 /// [`try_shape_in_steps`](super::try_shape_in_steps) tells.
 pub fn serialize_glyphs(buffer: &Buffer, face: &Face<'_>, flags: SerializeFlags) -> String {
-    let serialized = Serialized {
-        infos: buffer.glyphs(),
-        positions: buffer.positions(),
-        face,
-        scale: None,
-        flags,
-    };
-    serialized.to_string()
+    printed(Some(face), buffer.glyphs(), buffer.positions(), flags).to_string()
 }
