@@ -4,6 +4,7 @@
 mod boxes;
 mod escaped;
 mod fault;
+mod font_glyphs;
 mod glyphs;
 mod label;
 mod legend;
@@ -22,7 +23,7 @@ use boxes::Boxes;
 use glyphs::Glyphs;
 use page::Note;
 use scale::Positions;
-use sengadlit::Direction;
+use sengadlit::{Direction, Face, GlyphInfo, GlyphPosition};
 
 pub(crate) use legend::Legend;
 pub use lines::draw_lines;
@@ -39,7 +40,34 @@ pub(crate) fn draw_row(
     numbers: &Numbers,
     origins: &Origins,
 ) -> String {
-    let mut row = row_of(session, numbers, origins);
+    let row = row_of(session, numbers, origins);
+    let width_of = |glyph| session.font().advance(glyph);
+    draw(row, legend, &width_of)
+}
+
+/// The glyphs of a font file drawn, with their outlines where the font has some.
+pub(crate) fn draw_glyphs(
+    legend: &mut Legend,
+    face: &Face<'_>,
+    glyphs: &[GlyphInfo],
+    positions: &[GlyphPosition],
+    is_rtl: bool,
+) -> String {
+    let row = Row {
+        glyphs,
+        positions,
+        before: &[],
+        origins: &[],
+        shaper: None,
+        features: &[],
+        numbers: &Numbers::default(),
+        face: Some(face),
+        is_rtl,
+    };
+    draw(row, legend, &|glyph| face.glyph_hor_advance(glyph).into())
+}
+
+fn draw(mut row: Row, legend: &mut Legend, width_of: &dyn Fn(u32) -> i32) -> String {
     if row.glyphs.is_empty() {
         return Note("The buffer is empty.").to_string();
     }
@@ -51,7 +79,7 @@ pub(crate) fn draw_row(
         row.origins = &[];
     }
     legend.add(&row);
-    format!("{above}{}{}", Boxes(&row), Positions(&row, session.font()))
+    format!("{above}{}{}", Boxes(&row), Positions(&row, width_of))
 }
 
 /// The buffer as a row: from left to right, but a text from right to left in that direction, until
@@ -70,6 +98,7 @@ pub(crate) fn row_of<'a>(
         shaper: session.shaper_name(),
         features: session.features(),
         numbers,
+        face: None,
         is_rtl: is_rtl && session.buffer.positions_len() == 0,
     }
 }

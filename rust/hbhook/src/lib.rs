@@ -7,7 +7,8 @@
 //! [`explain_end`] names the field of a rejected line, and [`without_table`] the characters of the
 //! texts that no `table` line is about. [`lines_of_word`] makes the lines that a word takes;
 //! [`print_text`] and [`draw_text`] take a text the whole way up to a font's lookups, without lines;
-//! and [`Steps`] has what the page of bindings/page shows.
+//! [`print_text_in_font`] and [`draw_text_in_font`] shape it with a font file; and [`Steps`] has what
+//! the page of bindings/page shows.
 //!
 //! ```
 //! use sengadlit::alloc::Global;
@@ -46,5 +47,5 @@ pub use drawing::draw_lines;
 pub use explained::{explain_end, without_table};
 pub use generated::hbhook_lines::{explain_lines, run_lines};
 pub use steps::{Choices, MOST_SHOWN, Step, Steps, drawing_style};
-pub use text::{TextFault, draw_text, print_text};
+pub use text::{TextFault, draw_text, draw_text_in_font, print_text, print_text_in_font};
 pub use word::{lines_of_word, script_named, scripts_with_hooks};

@@ -3,9 +3,10 @@
 #![forbid(unsafe_code)]
 
 use hbhook::{
-    TextFault, draw_lines, draw_text, explain_end, lines_of_word, print_text, run_lines,
-    script_named, without_table,
+    Choices, TextFault, draw_lines, draw_text, draw_text_in_font, explain_end, lines_of_word,
+    print_text, print_text_in_font, run_lines, script_named, without_table,
 };
+use sengadlit::Face;
 use sengadlit::alloc::Global;
 use sengadlit::ot_shape_plan::ShapeChoices;
 use sengadlit::plan::BreakFlags;
@@ -26,7 +27,8 @@ usage: hbhook [FILE]            runs the lines of the file, and prints the glyph
        hbhook --text TEXT       does all to the text that comes before a font's lookups, and runs the
                                 pauses between them; also with --draw, with --script SCRIPT, a name
                                 or a code: khmer, Khmr, and with --sound: flags by which a text whose
-                                letters join may be broken
+                                letters join may be broken. With --font FILE, an OpenType font, the
+                                text is shaped to its end, with the font's lookups
        hbhook --word TEXT       runs the hooks of the text's script over it; also with --draw
        hbhook --lines TEXT      prints the lines that do that
        hbhook --help            prints this
@@ -83,17 +85,34 @@ impl Task {
         }
     }
 
-    // Prints or draws the glyphs of a text, and returns the exit status.
-    fn carry_out_text(self, text: &str, script: Option<[u8; 4]>) -> u8 {
+    // Prints or draws the glyphs of a text, in a font if one is named, and returns the exit status.
+    fn carry_out_text(
+        self,
+        text: &str,
+        script: Option<[u8; 4]>,
+        font: Option<&OsStr>,
+    ) -> Result<u8, String> {
         let mut choices = ShapeChoices::default();
         if self.is_sound {
             choices.break_flags = BreakFlags::Sound;
         }
-        let done = if self.draws {
-            draw_text(text, script, choices)
-        } else {
-            print_text(text, script, choices)
+        let chosen = Choices {
+            script,
+            is_sound: self.is_sound,
+            ..Choices::default()
         };
+        Ok(
+            self.end_of_text(match (font.map(read_font).transpose()?, self.draws) {
+                (None, true) => draw_text(text, script, choices),
+                (None, false) => print_text(text, script, choices),
+                (Some(font), true) => draw_text_in_font(text, &chosen, &font.face()?),
+                (Some(font), false) => print_text_in_font(text, &chosen, &font.face()?),
+            }),
+        )
+    }
+
+    // Prints what a text has become, and returns the exit status.
+    fn end_of_text(self, done: Result<String, TextFault>) -> u8 {
         let fault = match done {
             Ok(output) => return print(&output),
             Err(fault) => fault,
@@ -179,7 +198,7 @@ fn run(arguments: &[OsString]) -> Result<u8, String> {
     }
     let mut task = Task::default();
     let (mut files, mut lines) = (Vec::new(), None);
-    let (mut text, mut script) = (None, None);
+    let (mut text, mut script, mut font) = (None, None, None);
     let mut arguments = arguments.iter();
     while let Some(argument) = arguments.next() {
         let is_option = argument.as_encoded_bytes().starts_with(b"-") && argument != "-";
@@ -194,18 +213,25 @@ fn run(arguments: &[OsString]) -> Result<u8, String> {
             text = Some(text_behind(&mut arguments)?);
         } else if argument == "--script" {
             script = Some(script_of(arguments.next())?);
+        } else if argument == "--font" {
+            font = Some(
+                arguments
+                    .next()
+                    .ok_or("a font is missing (hbhook --help)")?,
+            );
         } else if !task.add(argument) {
             return Err(no_option(argument));
         }
     }
     if let Some(text) = text {
         return match (&files[..], lines) {
-            ([], None) => Ok(task.carry_out_text(text, script)),
+            ([], None) => task.carry_out_text(text, script, font.map(OsString::as_os_str)),
             _ => Err("a text alone, without a file or a word (hbhook --help)".into()),
         };
     }
-    if script.is_some() {
-        return Err("--script goes with --text (hbhook --help)".into());
+    if script.is_some() || font.is_some() {
+        let option = if font.is_some() { "--font" } else { "--script" };
+        return Err(format!("{option} goes with --text (hbhook --help)"));
     }
     if task.is_sound {
         return Err("--sound goes with --text (hbhook --help)".into());
@@ -229,6 +255,27 @@ fn text_behind<'a>(
         .next()
         .ok_or("a text is missing (hbhook --help)")?;
     text.to_str().ok_or("the text isn't of UTF-8")
+}
+
+// The bytes of a font file, and its name.
+struct FontFile {
+    name: String,
+    bytes: Vec<u8>,
+}
+
+impl FontFile {
+    fn face(&self) -> Result<Face<'_>, String> {
+        Face::parse(&self.bytes, 0).map_err(|fault| format!("{}: {fault}", self.name))
+    }
+}
+
+fn read_font(path: &OsStr) -> Result<FontFile, String> {
+    let name = Path::new(path).display().to_string();
+    let mut bytes = Vec::new();
+    match open(Path::new(path))?.read_to_end(&mut bytes) {
+        Ok(_) => Ok(FontFile { name, bytes }),
+        Err(_) => Err(format!("{name} can't be read")),
+    }
 }
 
 // The script that an argument names.
@@ -256,7 +303,7 @@ fn no_option(argument: &OsStr) -> String {
         return format!("{name} takes no other argument (hbhook --help)");
     }
     format!(
-        "there is no option {name}; there are --draw, --explain, --help, --lines, --script, \
+        "there is no option {name}; there are --draw, --explain, --font, --help, --lines, --script, \
          --sound, --text, --version, --why and --word (hbhook --help)"
     )
 }
@@ -290,7 +337,7 @@ fn open(path: &Path) -> Result<File, String> {
         return Err(format!("there is no file {name}"));
     }
     if path.is_dir() {
-        return Err(format!("{name} is a folder, not a file of lines"));
+        return Err(format!("{name} is a folder, not a file"));
     }
     File::open(path).map_err(|_| format!("{name} can't be read"))
 }

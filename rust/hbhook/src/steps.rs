@@ -2,11 +2,13 @@
 //!
 //! [`Steps::of_text`] takes a text the whole way up to a font's lookups and through the pauses
 //! between them, by the steps of the crate's `prepare_text` and `run_stages`, one after the other.
-//! [`Steps::of_lines`] carries out lines. Rows are drawn as `draw_lines` draws them.
+//! [`Steps::in_font`] shapes it with a font file, lookup by lookup. [`Steps::of_lines`] carries out
+//! lines. Rows are drawn as `draw_lines` draws them.
 
 mod calls;
 mod fractions;
 mod glyph;
+mod in_font;
 mod subjects;
 mod told;
 mod walk;

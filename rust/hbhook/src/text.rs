@@ -3,13 +3,14 @@
 
 use crate::drawing::{FOOT, HEAD, Head, Line, Text};
 use crate::generated::hbhook_commands::print_buffer;
-use crate::steps::{Steps, Walk};
+use crate::steps::{Choices, Steps, Walk};
 use crate::support::string::String as Page;
 use crate::way::{Wanted, Way};
 use crate::word::{name_of_pause, script_of_word};
 use sengadlit::alloc::{AllocError, Global};
 use sengadlit::ot_shape_plan::ShapeChoices;
-use sengadlit::{Buffer, GlyphInfo, Script, ShaperError};
+use sengadlit::shaper::checked::CallError;
+use sengadlit::{Buffer, Face, GlyphInfo, Script, ShaperError};
 use std::fmt;
 
 /// Why a text has no glyphs.
@@ -98,6 +99,46 @@ pub fn draw_text(
     Ok(page_of(&steps, &Text::new(text, &around)))
 }
 
+/// The glyphs of a text in a font file, in the order that they are drawn in, one line each as
+/// [`run_lines`](crate::run_lines) prints them, with advances and offsets. The script is the text's own
+/// by Unicode, unless one is named.
+///
+/// # Errors
+///
+/// Memory is refused, or the text gets too long.
+pub fn print_text_in_font(
+    text: &str,
+    choices: &Choices,
+    face: &Face<'_>,
+) -> Result<String, TextFault> {
+    let steps = Steps::in_font(text, choices, face).map_err(refusal_of)?;
+    Ok(steps
+        .steps
+        .last()
+        .map_or_else(String::new, |step| step.printed.clone()))
+}
+
+/// The same as a page of HTML, which has a row for the text before the font's lookups, for each lookup
+/// and each pause that changes it, and for what is shaped in the end, with the glyphs' outlines.
+///
+/// # Errors
+///
+/// Those of [`print_text_in_font`].
+pub fn draw_text_in_font(
+    text: &str,
+    choices: &Choices,
+    face: &Face<'_>,
+) -> Result<String, TextFault> {
+    let steps = Steps::in_font(text, choices, face).map_err(refusal_of)?;
+    let mut page = String::from(HEAD);
+    page += &Text::new(text, &Buffer::default()).to_string();
+    for step in &steps.steps {
+        let head = step.heads.join(", ");
+        page += &format!("<h2><code>{head}</code></h2>\n{}", step.drawn);
+    }
+    Ok(page + &steps.legend + FOOT)
+}
+
 /// The step before the lookups, as the crate calls it, and where docs/DEFINITIONS.md defines it.
 const PREPARE: &str = "prepare_text";
 const PREPARED: Option<(&str, &str)> = Some(("shapers_pipeline", "Prepared"));
@@ -110,6 +151,11 @@ fn way_of(text: &str, script: Option<[u8; 4]>, choices: ShapeChoices) -> Result<
         ..Wanted::default()
     };
     Ok(Way::of(Script(code.ok_or(TextFault::NoScript)?), wanted)?)
+}
+
+// Why a text in a font file has no glyphs.
+fn refusal_of(error: CallError) -> TextFault {
+    TextFault::Undrawn(error.to_string())
 }
 
 // Takes a text through its steps.

@@ -25,7 +25,7 @@ fn rejects_bad_arguments() {
     for arguments in [&["--what"][..], &["--why", "--what"], &["a", "--what"]] {
         expect_rejected(
             arguments,
-            "there is no option --what; there are --draw, --explain, --help, --lines, --script, \
+            "there is no option --what; there are --draw, --explain, --font, --help, --lines, --script, \
              --sound, --text, --version, --why and --word (hbhook --help)",
         );
     }
@@ -35,7 +35,7 @@ fn rejects_bad_arguments() {
     let folder = folder.to_str().unwrap();
     expect_rejected(
         &["--draw", folder],
-        &format!("{folder} is a folder, not a file of lines"),
+        &format!("{folder} is a folder, not a file"),
     );
 }
 

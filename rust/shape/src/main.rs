@@ -7,7 +7,6 @@ mod font;
 mod help;
 mod input;
 mod options;
-mod outline;
 mod output;
 mod run;
 mod settings;

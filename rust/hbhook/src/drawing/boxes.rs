@@ -1,5 +1,6 @@
 //! Boxes, one per glyph: pieces of a row as drawings that the page lets wrap.
 
+use super::font_glyphs::{Outline, glyph_name};
 use super::label::{Place, Style};
 use super::names::{BROKEN, kind_name};
 use super::pieces::{Piece, pieces_of};
@@ -201,15 +202,17 @@ fn draw_before(
     Ok(())
 }
 
-// Draws a glyph: its character, one that combines on a dotted circle, or its number.
+// Draws a glyph: its character, one that combines on a dotted circle, its outline, or its number.
 fn draw_shown(page: &mut Formatter<'_>, row: &Row, glyph: &GlyphInfo, place: Place) -> fmt::Result {
-    let shown = Shown::of(glyph, row.numbers);
-    let text = shown.text(glyph.glyph_id);
+    if let Some(outline) = row.face.and_then(|face| Outline::of(face, glyph.glyph_id)) {
+        return outline.draw(page, place);
+    }
+    let shown = Shown::of(glyph, row);
     let style = match shown {
         Shown::Character(_) | Shown::Mark(_) => place.style,
         Shown::Unseen | Shown::Private | Shown::Glyph => Style::Id,
     };
-    Place { style, ..place }.draw(page, &text)
+    Place { style, ..place }.draw(page, &shown.text(glyph.glyph_id))
 }
 
 // Draws a line to each glyph of a piece from where it stood before; where that is in another piece,
@@ -366,11 +369,12 @@ fn draw_face(page: &mut Formatter<'_>, row: &Row, glyph: &GlyphInfo) -> fmt::Res
         style: Style::Now,
     };
     draw_shown(page, row, glyph, place)?;
-    let text = match Shown::of(glyph, row.numbers) {
-        Shown::Character(_) | Shown::Mark(_) => &*format!("{:04X}", glyph.glyph_id),
-        Shown::Unseen => "unseen",
-        Shown::Private => "private",
-        Shown::Glyph => "glyph",
+    let text = match (Shown::of(glyph, row), row.face) {
+        (_, Some(face)) => &*glyph_name(face, glyph.glyph_id),
+        (Shown::Character(_) | Shown::Mark(_), None) => &*format!("{:04X}", glyph.glyph_id),
+        (Shown::Unseen, None) => "unseen",
+        (Shown::Private, None) => "private",
+        (Shown::Glyph, None) => "glyph",
     };
     Place {
         y: 62,

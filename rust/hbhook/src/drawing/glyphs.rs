@@ -1,6 +1,7 @@
 //! The glyphs of a row as text, which a reader can copy.
 
 use super::escaped::Escaped;
+use super::font_glyphs::glyph_name;
 use super::row::Row;
 use super::shown::Shown;
 use std::fmt;
@@ -19,7 +20,10 @@ impl fmt::Display for Glyphs<'_> {
         write!(page, "<p class=\"glyphs\"{direction}>")?;
         for (i, glyph) in row.glyphs.iter().take(MOST).enumerate() {
             let space = if i > 0 { " " } else { "" };
-            let text = Shown::of(glyph, row.numbers).text(glyph.glyph_id);
+            let text = match row.face {
+                Some(face) => glyph_name(face, glyph.glyph_id),
+                None => Shown::of(glyph, row).text(glyph.glyph_id),
+            };
             write!(page, "{space}<bdi>{}</bdi>", Escaped(&text))?;
         }
         if row.glyphs.len() > MOST {

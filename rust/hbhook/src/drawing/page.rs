@@ -48,7 +48,7 @@ text{fill:currentColor;text-anchor:middle;font-size:11px}
 .stayed{stroke-width:1;stroke-dasharray:2 3}
 .syllable,.measure{stroke:var(--rule)}
 .broken{stroke:currentColor;stroke-width:4;stroke-dasharray:6 5}
-.flag{fill:var(--ink)}
+.flag,.outline{fill:var(--ink)}
 .flag-name{fill:var(--paper);font-size:12px}
 .k0{stroke:#0072b2}.box.k0{fill:#0072b2}
 .k1{stroke:#e69f00}.box.k1{fill:#e69f00}

@@ -4,7 +4,7 @@ use super::label::Style;
 use super::names::{Name, auxiliary_name, category_name};
 use super::numbers::Numbers;
 use crate::generated::hbhook_commands::{Feature, ShaperName};
-use sengadlit::{GlyphInfo, GlyphPosition, Tag};
+use sengadlit::{Face, GlyphInfo, GlyphPosition, Tag};
 
 /// The glyph flags among the bits of a mask.
 pub(super) const GLYPH_FLAGS: u32 = 7;
@@ -21,6 +21,8 @@ pub(crate) struct Row<'a> {
     pub shaper: Option<ShaperName>,
     pub features: &'a [Feature],
     pub numbers: &'a Numbers,
+    /// The font whose glyphs these are; none where they are still characters, or of lines.
+    pub face: Option<&'a Face<'a>>,
     /// Whether the row is drawn from right to left.
     pub is_rtl: bool,
 }

@@ -3,7 +3,6 @@
 use super::boxes::{colour, open_drawing};
 use super::label::{Place, Style};
 use super::row::Row;
-use crate::generated::hbhook_commands::LineFont;
 use std::fmt::{self, Formatter};
 
 // How wide the narrowest glyph of a row is drawn, and how wide the widest at most.
@@ -77,16 +76,17 @@ impl Scale {
     }
 }
 
-/// The positions of a row drawn to scale, if it has some.
-pub(super) struct Positions<'a>(pub(super) &'a Row<'a>, pub(super) &'a LineFont);
+/// The positions of a row drawn to scale, if it has some. A glyph without an advance is as wide as the
+/// font says.
+pub(super) struct Positions<'a>(pub(super) &'a Row<'a>, pub(super) &'a dyn Fn(u32) -> i32);
 
 impl fmt::Display for Positions<'_> {
     fn fmt(&self, page: &mut Formatter<'_>) -> fmt::Result {
-        let Positions(row, font) = *self;
+        let Positions(row, width_of) = *self;
         if row.positions.is_empty() {
             return Ok(());
         }
-        let extents = extents_of(row, font);
+        let extents = extents_of(row, width_of);
         let scale = Scale::of(&extents);
         page.write_str("<p class=\"note\">To scale, with advances and offsets</p>\n")?;
         page.write_str("<div class=\"row\">\n")?;
@@ -97,14 +97,14 @@ impl fmt::Display for Positions<'_> {
     }
 }
 
-// Where the glyphs of a row stand on the line. One without an advance is as wide as in the font.
-fn extents_of(row: &Row, font: &LineFont) -> Vec<Extent> {
+// Where the glyphs of a row stand on the line.
+fn extents_of(row: &Row, width_of: &dyn Fn(u32) -> i32) -> Vec<Extent> {
     let mut pen = 0i64;
     let glyphs = row.glyphs.iter().zip(row.positions);
     let extents = glyphs.map(|(glyph, position)| {
         let advance = i64::from(position.x_advance);
         let width = match advance {
-            0 => i64::from(font.advance(glyph.glyph_id)),
+            0 => i64::from(width_of(glyph.glyph_id)),
             advance => advance,
         };
         let start = pen.saturating_add(i64::from(position.x_offset));

@@ -1,6 +1,7 @@
 //! How a glyph is shown: as a character, or by its number.
 
 use super::numbers::Numbers;
+use super::row::Row;
 use sengadlit::unicode::general_category;
 use sengadlit::{GeneralCategory, GlyphInfo};
 
@@ -22,7 +23,14 @@ pub(super) enum Shown {
 impl Shown {
     /// What is shown of a glyph. What a lookup put in is no character any more, and neither is a
     /// number that only a glyph of the font has.
-    pub(super) fn of(glyph: &GlyphInfo, numbers: &Numbers) -> Self {
+    pub(super) fn of(glyph: &GlyphInfo, row: &Row) -> Self {
+        if row.face.is_some() {
+            return Shown::Glyph;
+        }
+        Shown::of_number(glyph, row.numbers)
+    }
+
+    fn of_number(glyph: &GlyphInfo, numbers: &Numbers) -> Self {
         let marks = glyph.glyph_props;
         let is_new = marks.is_substituted() || marks.is_ligated() || marks.is_multiplied();
         if is_new || numbers.is_of_a_glyph(glyph.glyph_id) {
@@ -76,7 +84,7 @@ mod tests {
             glyph_props,
             ..GlyphInfo::DEFAULT
         };
-        Shown::of(&glyph, &Numbers::default()).text(glyph_id)
+        Shown::of_number(&glyph, &Numbers::default()).text(glyph_id)
     }
 
     #[test]

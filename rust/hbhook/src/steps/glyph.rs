@@ -4,7 +4,7 @@ use crate::drawing::Row;
 use sengadlit::GlyphInfo;
 
 /// What a shaper calls a glyph's bytes, and the features that its mask turns on.
-#[derive(Debug)]
+#[derive(Debug, Default)]
 pub(super) struct Names {
     category: Option<(&'static str, &'static str)>,
     auxiliary: Option<(&'static str, &'static str)>,
