@@ -17,12 +17,12 @@
 //! callers split.
 
 mod cache;
+mod drawn_font;
 mod face;
 mod feature;
 mod from_str;
 mod glyph_buffer;
 mod in_place;
-mod not_found;
 mod plan;
 mod scale;
 mod serialize;

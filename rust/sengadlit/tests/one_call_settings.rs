@@ -278,9 +278,8 @@ fn json_as_hb_shape_prints_it() {
 #[test]
 fn positions_are_scaled() {
     let data = drawn_font();
-    let face = Face::parse(&data, 0).unwrap();
-    let mut glyphs = shape(&face, &[], text("ABCA"));
-    glyphs.scale(&face, 10, 20);
+    let face = Face::parse(&data, 0).unwrap().with_scale(10, 20);
+    let glyphs = shape(&face, &[], text("ABCA"));
     // 1100, 50 less, of 1000: 11, and half a unit, which is rounded up
     assert_eq!(
         glyphs.serialize(
@@ -289,14 +288,12 @@ fn positions_are_scaled() {
         ),
         "[4=0+11<0,0,0,0>|3=2+7<0,0,0,0>|1=3+6<0,14,3,-14>]"
     );
+    assert_eq!((face.ascender(), face.descender()), (16, -4));
+    assert_eq!((face.glyph_hor_advance(3), face.units_per_em()), (7, 1000));
+    let face = face.with_scale(500, 2000);
     let mut downwards = text("AB");
     downwards.set_direction(Direction::TopToBottom);
-    let mut glyphs = shape(&face, &["-liga".parse().unwrap()], downwards);
-    glyphs.scale(&face, 500, 2000);
-    let heights: Vec<_> = glyphs
-        .glyph_positions()
-        .iter()
-        .map(|at| at.y_advance)
-        .collect();
-    assert_eq!(heights, [-2000; 2]);
+    let glyphs = shape(&face, &["-liga".parse().unwrap()], downwards);
+    let heights = glyphs.glyph_positions().iter().map(|at| at.y_advance);
+    assert!(heights.eq([-2000; 2]));
 }

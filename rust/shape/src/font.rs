@@ -1,6 +1,7 @@
 //! The bytes of the font.
 
 use crate::fault::Fault;
+use crate::settings::Settings;
 use sengadlit::Face;
 use std::fs;
 use std::io::{self, Read};
@@ -17,9 +18,9 @@ pub fn read(path: &Path) -> Result<Vec<u8>, Fault> {
     bytes.map_err(|error| Fault::Font(format!("{}: {error}", path.display())))
 }
 
-/// The font of this index among those of the bytes.
-pub fn parse<'a>(bytes: &'a [u8], index: u32, path: &Path) -> Result<Face<'a>, Fault> {
-    Face::parse(bytes, index).map_err(|error| {
+/// The font that the settings choose among those of a file's bytes, in the size that they set.
+pub fn parse<'a>(bytes: &'a [u8], settings: &Settings, path: &Path) -> Result<Face<'a>, Fault> {
+    let face = Face::parse(bytes, settings.face_index).map_err(|error| {
         let message = match Face::count(bytes) {
             0 | 1 => format!("{}: {error}", path.display()),
             count => format!(
@@ -29,5 +30,7 @@ pub fn parse<'a>(bytes: &'a [u8], index: u32, path: &Path) -> Result<Face<'a>, F
             ),
         };
         Fault::Font(message)
-    })
+    })?;
+    let size = settings.font_size;
+    Ok(size.map_or(face, |(x, y)| face.with_scale(x, y)))
 }

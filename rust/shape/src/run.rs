@@ -19,11 +19,11 @@ use std::path::Path;
 pub fn run(settings: &Settings) -> Result<(), Fault> {
     let path = settings.font_file.as_deref().unwrap_or(Path::new("-"));
     let bytes = font::read(path)?;
-    let face = font::parse(&bytes, settings.face_index, path)?;
+    let face = font::parse(&bytes, settings, path)?;
     let mut lines = Lines::open(&settings.text)?;
     let mut output = Output::open(settings)?;
     let picture = settings.svg.as_deref();
-    let picture = picture.map(|path| Picture::open(path, settings.font_size));
+    let picture = picture.map(|path| Picture::open(path, &face, settings.font_size));
     let mut picture = picture.transpose()?;
     let mut shaper = LineShaper::new(settings, &face);
     let (mut line, mut has_failed) = (vec![], false);
@@ -99,13 +99,7 @@ impl<'a> LineShaper<'a> {
                 Err(message) => return Ok(Err(message)),
             }
         }
-        let shaped = self.shape(&text, &prefix);
-        Ok(shaped.map(|mut glyphs| {
-            if let Some((x, y)) = self.settings.font_size {
-                glyphs.scale(self.face, x, y);
-            }
-            glyphs
-        }))
+        Ok(self.shape(&text, &prefix))
     }
 
     /// Shapes a text, and verifies the glyphs if it is asked for.

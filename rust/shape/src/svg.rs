@@ -12,7 +12,7 @@ use std::path::{Path, PathBuf};
 pub struct Picture {
     file: File,
     path: PathBuf,
-    size: Option<(i32, i32)>,
+    measure: Measure,
     body: String,
     width: f64,
     height: f64,
@@ -35,20 +35,20 @@ impl Measure {
         Measure {
             x,
             y,
-            ascender: f64::from(face.ascender()) * y,
-            descender: f64::from(face.descender()) * y,
+            ascender: face.ascender().into(),
+            descender: face.descender().into(),
         }
     }
 }
 
 impl Picture {
     /// Makes the file of the picture; lines have this size of the font.
-    pub fn open(path: &Path, size: Option<(i32, i32)>) -> Result<Self, Fault> {
+    pub fn open(path: &Path, face: &Face<'_>, size: Option<(i32, i32)>) -> Result<Self, Fault> {
         let file = File::create(path).map_err(|error| Fault::file(path, &error))?;
         Ok(Picture {
             file,
             path: path.into(),
-            size,
+            measure: Measure::of(face, size),
             body: String::new(),
             width: 0.0,
             height: 0.0,
@@ -57,21 +57,21 @@ impl Picture {
 
     /// Draws a line below the others, or downwards beside them.
     pub fn add_line(&mut self, face: &Face<'_>, glyphs: &GlyphBuffer) {
-        let measure = Measure::of(face, self.size);
         let is_vertical = matches!(
             glyphs.direction(),
             Direction::TopToBottom | Direction::BottomToTop
         );
-        let line = measure.ascender - measure.descender;
+        let ascender = self.measure.ascender;
+        let line = ascender - self.measure.descender;
         let (left, top) = if is_vertical {
             (self.width + line / 2.0, 0.0)
         } else {
-            (0.0, self.height + measure.ascender)
+            (0.0, self.height + ascender)
         };
         let (mut x, mut y) = (left, top);
         for (info, at) in glyphs.glyph_infos().iter().zip(glyphs.glyph_positions()) {
             let place = (x + f64::from(at.x_offset), y - f64::from(at.y_offset));
-            self.draw(face, info, at.x_advance, &measure, place);
+            self.draw(face, info, at.x_advance, place);
             x += f64::from(at.x_advance);
             y -= f64::from(at.y_advance);
         }
@@ -83,14 +83,8 @@ impl Picture {
     }
 
     /// Draws a glyph: its outline, or a box as wide as its advance.
-    fn draw(
-        &mut self,
-        face: &Face<'_>,
-        info: &GlyphInfo,
-        advance: i32,
-        measure: &Measure,
-        (x, y): (f64, f64),
-    ) {
+    fn draw(&mut self, face: &Face<'_>, info: &GlyphInfo, advance: i32, (x, y): (f64, f64)) {
+        let measure = &self.measure;
         // (writing to a string returns no error)
         let _ = match outline::path(face, info.glyph_id) {
             Some(path) if path.is_empty() => Ok(()),

@@ -2,6 +2,7 @@
 
 pub use crate::generated::opentype_face::directory::FaceError;
 
+use super::scale::Scale;
 use crate::buffer::Script;
 use crate::font::GlyphId;
 use crate::generated::opentype_face::bytes::i16_at;
@@ -20,8 +21,13 @@ const FVAR: u32 = u32::from_be_bytes(*b"fvar");
 /// A variable font is its default instance (see [`is_variable`](Self::is_variable)). What only AAT's or
 /// Graphite's tables say isn't read.
 #[derive(Clone, Copy, Debug)]
+#[allow(
+    clippy::struct_field_names,
+    reason = "it is a face of the generated crate"
+)]
 pub struct Face<'a> {
     pub(super) face: face::Face<'a>,
+    pub(super) scale: Option<Scale>,
     is_variable: bool,
 }
 
@@ -35,6 +41,7 @@ impl<'a> Face<'a> {
         let is_variable = !table(data, directory(data, index)?, FVAR).is_empty();
         Ok(Face {
             face: face::parse(data, index)?,
+            scale: None,
             is_variable,
         })
     }
@@ -47,6 +54,16 @@ impl<'a> Face<'a> {
     /// How many fonts the bytes have: one, those of a collection, or none.
     pub fn count(data: &[u8]) -> u32 {
         face_count(data)
+    }
+
+    /// The same font in other units: an em has so many across and up. Advances, what lookups add to them,
+    /// offsets and boxes are scaled, each rounded by itself. (HarfBuzz's `hb_font_set_scale`, which rounds
+    /// each value where several lookups add to one.)
+    #[must_use]
+    pub fn with_scale(self, x: i32, y: i32) -> Self {
+        let units_per_em = self.units_per_em();
+        let scale = Some(Scale { x, y, units_per_em });
+        Face { scale, ..self }
     }
 
     /// How many font units an em has.
@@ -64,14 +81,14 @@ impl<'a> Face<'a> {
         self.is_variable
     }
 
-    /// How high lines reach above their base line, in font units.
+    /// How high lines reach above their base line.
     pub fn ascender(&self) -> i32 {
-        self.face.ascender()
+        self.up(self.face.ascender())
     }
 
     /// How high lines reach above their base line at their lowest: mostly a negative number.
     pub fn descender(&self) -> i32 {
-        self.face.descender()
+        self.up(self.face.descender())
     }
 
     /// The glyph of a character, if the font has one (the table `cmap`).
@@ -80,8 +97,10 @@ impl<'a> Face<'a> {
     }
 
     /// How far a glyph moves the pen in horizontal text; 0 for a glyph that the font lacks.
-    pub fn glyph_hor_advance(&self, glyph: u32) -> u16 {
-        u16::try_from(glyph).map_or(0, |glyph| self.face.h_advance(glyph))
+    pub fn glyph_hor_advance(&self, glyph: u32) -> i32 {
+        let advance = u16::try_from(glyph).map_or(0, |glyph| self.face.h_advance(glyph));
+        let units = advance.into();
+        self.scale.map_or(units, |scale| scale.across(units))
     }
 
     /// The name of a glyph, if the font's table `post` has one.
@@ -112,12 +131,17 @@ impl<'a> Face<'a> {
             self.face.left_side_bearing(number)
         };
         let (top, bottom) = (box_top(outline), box_bottom(outline));
-        Some(GlyphExtents {
+        let units = GlyphExtents {
             x_bearing: left.into(),
             y_bearing: top.into(),
             width: box_width(outline).into(),
             height: i32::from(bottom) - i32::from(top),
-        })
+        };
+        Some(self.scale.map_or(units, |scale| scale.extents(units)))
+    }
+
+    fn up(&self, units: i32) -> i32 {
+        self.scale.map_or(units, |scale| scale.up(units))
     }
 
     /// The font as it is for texts of a script.
@@ -129,7 +153,7 @@ impl<'a> Face<'a> {
     }
 }
 
-/// The box around a glyph, in font units: from its upper left corner to the right and down, so that the
+/// The box around a glyph: from its upper left corner to the right and down, so that the
 /// height is negative or 0. (HarfBuzz's `hb_glyph_extents_t`.)
 #[derive(Clone, Copy, Debug, Default, PartialEq, Eq, Hash)]
 pub struct GlyphExtents {

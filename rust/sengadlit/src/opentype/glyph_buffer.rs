@@ -1,6 +1,5 @@
 //! A text that has been shaped.
 
-use super::scale::Scale;
 use super::serialize::Serialized;
 use super::{Face, SerializeFlags, UnicodeBuffer};
 use crate::buffer::{Direction, GlyphInfo, GlyphPosition};
@@ -13,17 +12,12 @@ use rust_alloc::string::{String, ToString};
 pub struct GlyphBuffer {
     text: UnicodeBuffer,
     is_complete: bool,
-    scale: Option<Scale>,
 }
 
 impl GlyphBuffer {
     /// What became of a text.
     pub(super) fn new(text: UnicodeBuffer, is_complete: bool) -> Self {
-        GlyphBuffer {
-            text,
-            is_complete,
-            scale: None,
-        }
+        GlyphBuffer { text, is_complete }
     }
 
     /// How many glyphs the text has.
@@ -47,7 +41,7 @@ impl GlyphBuffer {
         self.text.buffer.glyphs()
     }
 
-    /// The position of each glyph, in font units.
+    /// The position of each glyph, in font units or those of [`Face::with_scale`].
     pub fn glyph_positions(&self) -> &[GlyphPosition] {
         self.text.buffer.positions()
     }
@@ -55,15 +49,6 @@ impl GlyphBuffer {
     /// The direction in which the text was shaped.
     pub fn direction(&self) -> Direction {
         self.text.buffer.direction()
-    }
-
-    /// Scales positions, and boxes that are printed, from font units to so many units an em across and up:
-    /// the glyph's advance, what lookups added to it, and each offset is rounded. (HarfBuzz, whose fonts
-    /// have a scale, rounds each value that a lookup adds.) To be called once.
-    pub fn scale(&mut self, face: &Face<'_>, x: i32, y: i32) {
-        let scale = Scale::new(face, x, y);
-        scale.apply(face, &mut self.text.buffer);
-        self.scale = Some(scale);
     }
 
     /// The glyphs in one line, as hb-shape prints them: `[gid3=0+563|gid9=1@10,0+0]`.
@@ -84,7 +69,6 @@ impl GlyphBuffer {
             infos: self.glyph_infos(),
             positions: self.glyph_positions(),
             face: Some(face),
-            scale: self.scale,
             flags,
         }
     }

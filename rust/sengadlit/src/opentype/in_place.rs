@@ -1,6 +1,6 @@
 //! Texts that are shaped where they stand, for callers with a [`Buffer`] or a font of their own.
 
-use super::not_found::Substituted;
+use super::drawn_font::DrawnFont;
 use super::serialize::Serialized;
 use super::steps::{Steps, Told};
 use super::{Face, Replacements, SerializeFlags, ShapePlan};
@@ -11,6 +11,7 @@ use crate::ot_shape_normalize::NormalizeFont;
 use crate::ot_shape_position::MetricsFont;
 use crate::shaper::checked::CallError;
 use crate::unicode::UnicodeTables;
+use core::cell::Cell;
 use core::fmt;
 
 impl<'a> Face<'a> {
@@ -32,7 +33,6 @@ pub fn printed<'a>(
         infos: glyphs,
         positions,
         face,
-        scale: None,
         flags,
     }
 }
@@ -81,15 +81,20 @@ impl ShapePlan {
         told: Told<'_>,
         buffer: &mut Buffer,
     ) -> Result<(), CallError> {
+        let is_scaled = &Cell::new(false);
         let steps = Steps {
             font: &face.for_script(self.script()),
             plan: &self.plan,
             not_found: replacements.not_found,
+            scale: face.scale,
+            is_scaled,
             told,
         };
-        let font = Substituted {
+        let font = DrawnFont {
             font,
             instead: steps.not_found.filter(|_| !steps.has_lookups()),
+            scale: face.scale,
+            is_scaled,
         };
         let settings = replacements.settings(self.rounds, buffer.flags());
         let (plan, tables) = (&self.plan, &UnicodeTables);

@@ -1,6 +1,6 @@
 //! Positions in other units than the font's (HarfBuzz's `hb_font_set_scale`).
 
-use super::{Face, GlyphExtents};
+use super::GlyphExtents;
 use crate::buffer::{Buffer, GlyphInfo, GlyphPosition};
 use crate::font::{Font, GlyphId};
 use crate::generated::opentype_font::font::OpenTypeFont;
@@ -9,35 +9,32 @@ use crate::ot_shape_position::MetricsFont;
 /// How many units an em has across and up, and how many it has in the font.
 #[derive(Clone, Copy, Debug)]
 pub(super) struct Scale {
-    x: i32,
-    y: i32,
-    units_per_em: u16,
+    pub x: i32,
+    pub y: i32,
+    pub units_per_em: u16,
 }
 
 impl Scale {
-    pub fn new(face: &Face<'_>, x: i32, y: i32) -> Self {
-        let units_per_em = face.units_per_em();
-        Scale { x, y, units_per_em }
-    }
-
-    fn across(self, units: i32) -> i32 {
+    /// Scales a length across.
+    pub fn across(self, units: i32) -> i32 {
         scaled(units, self.x, self.units_per_em)
     }
 
-    fn up(self, units: i32) -> i32 {
+    /// Scales a height.
+    pub fn up(self, units: i32) -> i32 {
         scaled(units, self.y, self.units_per_em)
     }
 
-    /// Scales the positions of glyphs.
-    pub fn apply(self, face: &Face<'_>, buffer: &mut Buffer) {
-        let font = face.for_script(None);
+    /// Scales the positions of a text whose attachments aren't carried out yet.
+    pub fn apply(self, font: &OpenTypeFont<'_>, buffer: &mut Buffer) {
         for place in 0..buffer.positions_len() {
-            let position = self.position(&font, &buffer.get(place), buffer.position(place));
+            let position = self.position(font, &buffer.get(place), buffer.position(place));
             buffer.set_position(place, position);
         }
     }
 
-    /// Scales a position: the glyph's own advance, and what lookups added to it.
+    /// Scales a position: the glyph's own advance, what lookups added to it, and the offsets, which where a
+    /// glyph is attached to another are the way between two anchors.
     fn position(
         self,
         font: &OpenTypeFont<'_>,
@@ -45,7 +42,7 @@ impl Scale {
         at: GlyphPosition,
     ) -> GlyphPosition {
         let glyph = GlyphId(u16::try_from(info.glyph_id).unwrap_or(u16::MAX));
-        let (own_x, own_y) = if at.y_advance == 0 {
+        let own = if at.y_advance == 0 {
             (font.glyph_h_advance(glyph), 0)
         } else {
             (0, font.glyph_v_advance(glyph))
@@ -57,12 +54,20 @@ impl Scale {
                 (own, all.saturating_sub(own))
             }
         };
-        let (x, y) = (parts(own_x, at.x_advance), parts(own_y, at.y_advance));
+        let (x, y) = (parts(own.0, at.x_advance), parts(own.1, at.y_advance));
+        let (x_offset, y_offset) = if at.var == 0 {
+            (self.across(at.x_offset), self.up(at.y_offset))
+        } else {
+            (
+                scaled_way(at.x_offset, self.x, self.units_per_em),
+                scaled_way(at.y_offset, self.y, self.units_per_em),
+            )
+        };
         GlyphPosition {
             x_advance: self.across(x.0).saturating_add(self.across(x.1)),
             y_advance: self.up(y.0).saturating_add(self.up(y.1)),
-            x_offset: self.across(at.x_offset),
-            y_offset: self.up(at.y_offset),
+            x_offset,
+            y_offset,
             ..at
         }
     }
@@ -75,35 +80,50 @@ impl Scale {
         GlyphExtents {
             x_bearing,
             y_bearing,
-            width: self.across(left + extents.width) - x_bearing,
-            height: self.up(top + extents.height) - y_bearing,
+            width: self.across(left + extents.width).saturating_sub(x_bearing),
+            height: self.up(top + extents.height).saturating_sub(y_bearing),
         }
     }
 }
 
-/// A number of font units in units of which an em has `scale`, rounded as HarfBuzz rounds it.
+/// A number of font units in units of which an em has `scale`. The factor has 16 bits behind the point, and
+/// halves are rounded up. (HarfBuzz's `em_mult`.)
 fn scaled(units: i32, scale: i32, units_per_em: u16) -> i32 {
     let factor = (i64::from(scale) << 16) / i64::from(units_per_em.max(1));
-    let rounded = (i128::from(units) * i128::from(factor) + 0x8000) >> 16;
-    let bounds = (i128::from(i32::MIN), i128::from(i32::MAX));
-    #[expect(clippy::cast_possible_truncation, reason = "it is between the bounds")]
-    let bounded = rounded.clamp(bounds.0, bounds.1) as i32;
-    bounded
+    bounded((i128::from(units) * i128::from(factor) + 0x8000) >> 16)
+}
+
+/// The same for the way between two anchors, which HarfBuzz scales without the bounds of a factor: halves
+/// are rounded away from 0.
+fn scaled_way(units: i32, scale: i32, units_per_em: u16) -> i32 {
+    let product = i128::from(units) * i128::from(scale);
+    let em = i128::from(units_per_em.max(1));
+    bounded((2 * product + em * product.signum()) / (2 * em))
+}
+
+fn bounded(number: i128) -> i32 {
+    let number = number.clamp(i32::MIN.into(), i32::MAX.into());
+    i32::try_from(number).unwrap_or_default()
 }
 
 #[cfg(test)]
 mod tests {
-    use super::scaled;
+    use super::{scaled, scaled_way};
 
-    // (HarfBuzz's em_mult: a factor of 16 bits behind the point, and half a unit is rounded up)
     #[test]
     fn halves_are_rounded_up() {
-        assert_eq!(
-            [1, -1, 3, -3].map(|units| scaled(units, 500, 1000)),
-            [1, 0, 2, -1]
-        );
+        let halves = [1, -1, 3, -3].map(|units| scaled(units, 500, 1000));
+        assert_eq!(halves, [1, 0, 2, -1]);
         assert_eq!([563, -50].map(|units| scaled(units, 16, 1000)), [9, -1]);
         assert_eq!(scaled(i32::MIN, i32::MAX, 16), i32::MIN);
         assert_eq!(scaled(7, -2000, 1000), -14);
+    }
+
+    #[test]
+    fn halves_of_ways_are_rounded_away_from_0() {
+        let halves = [0, 1, -1, 3, -3].map(|units| scaled_way(units, 500, 1000));
+        assert_eq!(halves, [0, 1, -1, 2, -2]);
+        assert_eq!(scaled_way(1, -500, 1000), -1);
+        assert_eq!(scaled_way(i32::MAX, i32::MAX, 1), i32::MAX);
     }
 }

@@ -2,7 +2,6 @@
 
 use super::Face;
 use super::in_place::printed;
-use super::scale::Scale;
 use crate::buffer::{Buffer, GlyphInfo, GlyphPosition, glyph_flag};
 use core::fmt;
 use core::ops::{BitOr, BitOrAssign};
@@ -61,7 +60,6 @@ pub(super) struct Serialized<'a> {
     pub infos: &'a [GlyphInfo],
     pub positions: &'a [GlyphPosition],
     pub face: Option<&'a Face<'a>>,
-    pub scale: Option<Scale>,
     pub flags: SerializeFlags,
 }
 
@@ -208,9 +206,7 @@ impl Glyph<'_> {
         if !self.shown.has(SerializeFlags::GLYPH_EXTENTS) {
             return None;
         }
-        let units = self.shown.face?.glyph_extents(self.info.glyph_id)?;
-        let scale = self.shown.scale;
-        let extents = scale.map_or(units, |scale| scale.extents(units));
+        let extents = self.shown.face?.glyph_extents(self.info.glyph_id)?;
         Some([
             extents.x_bearing,
             extents.y_bearing,

@@ -1,11 +1,13 @@
 //! The lookups of a text, one by one.
 
+use super::scale::Scale;
 use crate::buffer::{Buffer, GlyphInfo, GlyphProps, ShaperError};
 use crate::font::GlyphId;
 use crate::generated::opentype_font::font::OpenTypeFont;
 use crate::ot_shape::Lookups;
 use crate::ot_shape_plan::{ShapePlan, StageLookup};
 use crate::ot_shape_position::GlyphClasses;
+use core::cell::Cell;
 use core::ptr;
 
 /// A step of shaping, for [`try_shape_in_steps`](super::try_shape_in_steps): a lookup of GSUB or GPOS,
@@ -25,12 +27,14 @@ pub enum ShapeStep {
 /// Who is told of steps, with the glyphs as they are then.
 pub(super) type Told<'a> = Option<&'a dyn Fn(ShapeStep, &Buffer)>;
 
-/// The lookups of a font, which are told as they are applied, and before the first of which the glyph
-/// for characters that the font lacks is put in.
+/// The lookups of a font, which are told as they are applied, before the first of which the glyph for
+/// characters that the font lacks is put in, and behind the last of which positions are scaled.
 pub(super) struct Steps<'a> {
     pub font: &'a OpenTypeFont<'a>,
     pub plan: &'a ShapePlan,
     pub not_found: Option<GlyphId>,
+    pub scale: Option<Scale>,
+    pub is_scaled: &'a Cell<bool>,
     pub told: Told<'a>,
 }
 
@@ -106,6 +110,10 @@ impl Lookups for Steps<'_> {
     }
 
     fn finish_positions(&self, buffer: &mut Buffer) {
+        if let Some(scale) = self.scale {
+            scale.apply(self.font, buffer);
+            self.is_scaled.set(true);
+        }
         self.font.finish_positions(buffer);
     }
 }

@@ -75,7 +75,6 @@ pub const REFUSED: &[&str] = &[
     "variations",
     "normalize-glyphs",
     "glyphs",
-    "batch",
 ];
 
 const FACE: &[Entry] = &[

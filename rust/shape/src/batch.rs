@@ -1,0 +1,28 @@
+//! `--batch`: each line of standard input has the arguments of a run, with `;` between them, as those of
+//! HarfBuzz's own tests have. The status is the greatest of all runs.
+
+use crate::carry_out;
+use std::ffi::OsString;
+use std::io;
+use std::process::ExitCode;
+
+/// Carries out the lines of standard input.
+pub fn run() -> ExitCode {
+    let mut greatest = 0;
+    // (a run may read standard input itself, so that it isn't locked for longer than a line)
+    let mut line = String::new();
+    while io::stdin()
+        .read_line(&mut line)
+        .is_ok_and(|count| count > 0)
+    {
+        let pieces = line.trim_end_matches('\n').split(';');
+        let arguments = pieces.filter(|piece| !piece.is_empty()).map(OsString::from);
+        let arguments: Vec<OsString> = arguments.collect();
+        if let Err(fault) = carry_out(&arguments) {
+            fault.tell();
+            greatest = greatest.max(fault.status());
+        }
+        line.clear();
+    }
+    ExitCode::from(greatest)
+}
