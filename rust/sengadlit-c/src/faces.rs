@@ -57,7 +57,7 @@ impl<'a> Chosen<'a> {
             replacements: Replacements {
                 invisible: glyph(options.invisible_glyph)?,
                 not_found: glyph(options.not_found_glyph)?,
-                not_found_selector: glyph(options.not_found_selector_glyph)?,
+                not_found_selector: glyph(options.not_found_selector_glyph)?.map(u32::from),
             },
             cache: options.cache,
         })

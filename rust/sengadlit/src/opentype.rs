@@ -38,7 +38,7 @@ pub use from_str::{DirectionError, ScriptError};
 pub use glyph_buffer::GlyphBuffer;
 pub use in_place::{OpenTypeFont, printed};
 pub use plan::{ShapePlan, ShapePlanBuilder};
-pub use serialize::{SerializeFlags, serialize_glyphs};
+pub use serialize::SerializeFlags;
 pub use settings::Replacements;
 pub use shaping::{
     ShapeError, shape, shape_with_cache, shape_with_plan, try_shape, try_shape_in_steps,

@@ -116,11 +116,11 @@ fn missing_characters_have_a_glyph() {
 fn selectors_without_a_variant_have_a_glyph() {
     assert_eq!(shaped("A\u{FE00}", &[], |_| ()), "[gid1=0+600]");
     let drawn = shaped("A\u{FE00}", &[], |buffer| {
-        buffer.set_not_found_variation_selector_glyph(Some(GlyphId(3)));
+        buffer.set_not_found_variation_selector_glyph(Some(70_000));
         let glyph = buffer.not_found_variation_selector_glyph();
-        assert_eq!(glyph, Some(GlyphId(3)));
+        assert_eq!(glyph, Some(70_000));
     });
-    assert_eq!(drawn, "[gid1=0+600|gid3=0+0]");
+    assert_eq!(drawn, "[gid1=0+600|gid70000=0+0]");
 }
 
 #[test]

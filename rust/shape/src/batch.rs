@@ -1,14 +1,16 @@
 //! `--batch`: each line of standard input has the arguments of a run, with `;` between them, as those of
-//! HarfBuzz's own tests have. The status is the greatest of all runs.
+//! HarfBuzz's own tests have. A run whose arguments can't be used ends the program, as it does hb-shape's;
+//! else the status is 3 where a line couldn't be shaped.
 
 use crate::carry_out;
+use crate::fault::Fault;
 use std::ffi::OsString;
 use std::io;
 use std::process::ExitCode;
 
 /// Carries out the lines of standard input.
 pub fn run() -> ExitCode {
-    let mut greatest = 0;
+    let mut status = 0;
     // (a run may read standard input itself, so that it isn't locked for longer than a line)
     let mut line = String::new();
     while io::stdin()
@@ -20,9 +22,12 @@ pub fn run() -> ExitCode {
         let arguments: Vec<OsString> = arguments.collect();
         if let Err(fault) = carry_out(&arguments) {
             fault.tell();
-            greatest = greatest.max(fault.status());
+            status = fault.status();
+            if !matches!(fault, Fault::Shaping) {
+                break;
+            }
         }
         line.clear();
     }
-    ExitCode::from(greatest)
+    ExitCode::from(status)
 }

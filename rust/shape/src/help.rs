@@ -1,6 +1,6 @@
 //! The help text, which is made of the table of options.
 
-use crate::options::{Effect, Entry, GROUPS, Group, REFUSED};
+use crate::options::{Effect, Entry, GROUPS, Group, HIDDEN, REFUSED};
 
 /// Where what an option does begins in a line.
 const COLUMN: usize = 44;
@@ -52,7 +52,8 @@ pub fn asked_for(name: &[u8]) -> Option<String> {
 
 /// A group with its title.
 fn group(group: &Group) -> String {
-    let lines: String = group.options.iter().map(line).collect();
+    let told = group.options.iter().filter(|entry| entry.help != HIDDEN);
+    let lines: String = told.map(line).collect();
     format!("{}\n{lines}", group.title)
 }
 

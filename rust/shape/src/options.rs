@@ -8,7 +8,7 @@ use std::ffi::OsString;
 
 mod table;
 
-pub use table::{GROUPS, REFUSED};
+pub use table::{GROUPS, HIDDEN, REFUSED};
 
 /// Options that belong together.
 pub struct Group {

@@ -8,7 +8,7 @@ use crate::settings::{OutputSettings, Settings};
 use crate::svg::Picture;
 use crate::text::Text;
 use crate::verify;
-use sengadlit::opentype::{ShapeStep, serialize_glyphs, try_shape_in_steps};
+use sengadlit::opentype::{ShapeStep, printed, try_shape_in_steps};
 use sengadlit::{
     Buffer, Face, GlyphBuffer, PlanCache, ShapePlan, UnicodeBuffer, try_shape_with_plan,
 };
@@ -168,7 +168,8 @@ impl Trace<'_> {
             ShapeStep::PositioningStarts(lookup) => ("start GPOS lookup", lookup),
             ShapeStep::PositioningEnds(lookup) => ("end GPOS lookup", lookup),
         };
-        let shown = serialize_glyphs(glyphs, self.face, self.settings.flags);
+        let flags = self.settings.flags;
+        let shown = printed(Some(self.face), glyphs.glyphs(), glyphs.positions(), flags);
         eprintln!("{}trace: {what} {lookup}\tbuffer: {shown}", self.prefix);
     }
 }

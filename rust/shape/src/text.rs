@@ -58,7 +58,7 @@ impl<'a> Text<'a> {
             buffer.set_direction(direction);
         }
         buffer.guess_segment_properties();
-        set_cluster_level(self.settings.cluster_level, buffer);
+        buffer.set_cluster_level(cluster_level(self.settings.cluster_level));
         Ok(())
     }
 }
@@ -69,13 +69,10 @@ fn context(bytes: Option<&[u8]>) -> String {
     characters.map(|(_, character)| character).collect()
 }
 
-/// Sets HarfBuzz's cluster level of this number: at the level Graphemes, 3, these alone share clusters.
-fn set_cluster_level(number: u8, buffer: &mut UnicodeBuffer) {
-    let level = BufferClusterLevel::from_number(number);
-    buffer.set_cluster_level(level.unwrap_or(BufferClusterLevel::Characters));
-    if number == 3 {
-        buffer.merge_graphemes();
-    }
+/// HarfBuzz's cluster level of this number. At level 3, Graphemes, clusters are those of level 2 in
+/// HarfBuzz 12.
+fn cluster_level(number: u8) -> BufferClusterLevel {
+    BufferClusterLevel::from_number(number).unwrap_or(BufferClusterLevel::Characters)
 }
 
 /// The characters of UTF-8 with the places of their bytes. Each byte that is part of none is U+FFFD, as

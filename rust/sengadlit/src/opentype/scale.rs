@@ -93,12 +93,11 @@ fn scaled(units: i32, scale: i32, units_per_em: u16) -> i32 {
     bounded((i128::from(units) * i128::from(factor) + 0x8000) >> 16)
 }
 
-/// The same for the way between two anchors, which HarfBuzz scales without the bounds of a factor: halves
-/// are rounded away from 0.
+/// The same for the way between two anchors, for which HarfBuzz's factor isn't cut off.
 fn scaled_way(units: i32, scale: i32, units_per_em: u16) -> i32 {
     let product = i128::from(units) * i128::from(scale);
     let em = i128::from(units_per_em.max(1));
-    bounded((2 * product + em * product.signum()) / (2 * em))
+    bounded((2 * product + em).div_euclid(2 * em))
 }
 
 fn bounded(number: i128) -> i32 {
@@ -120,10 +119,19 @@ mod tests {
     }
 
     #[test]
-    fn halves_of_ways_are_rounded_away_from_0() {
+    fn ways_are_scaled_by_the_whole_factor() {
         let halves = [0, 1, -1, 3, -3].map(|units| scaled_way(units, 500, 1000));
-        assert_eq!(halves, [0, 1, -1, 2, -2]);
-        assert_eq!(scaled_way(1, -500, 1000), -1);
+        assert_eq!(halves, [0, 1, 0, 2, -1]);
+        // (a third of 16 bits is a little less)
+        assert_eq!(
+            (scaled(-30_000, 1, 3), scaled_way(-30_000, 1, 3)),
+            (-10_000, -10_000)
+        );
+        assert_eq!(
+            (scaled(300_000, 1, 3), scaled_way(300_000, 1, 3)),
+            (99_998, 100_000)
+        );
+        assert_eq!(scaled_way(1, -500, 1000), 0);
         assert_eq!(scaled_way(i32::MAX, i32::MAX, 1), i32::MAX);
     }
 }

@@ -1,11 +1,9 @@
 //! Glyphs as hb-shape prints them (HarfBuzz's `hb_buffer_serialize_glyphs`).
 
 use super::Face;
-use super::in_place::printed;
-use crate::buffer::{Buffer, GlyphInfo, GlyphPosition, glyph_flag};
+use crate::buffer::{GlyphInfo, GlyphPosition, glyph_flag};
 use core::fmt;
 use core::ops::{BitOr, BitOrAssign};
-use rust_alloc::string::{String, ToString};
 
 /// What [`GlyphBuffer::serialize`](super::GlyphBuffer::serialize) prints.
 #[derive(Clone, Copy, Debug, Default, PartialEq, Eq, Hash)]
@@ -27,7 +25,8 @@ impl SerializeFlags {
 
     /// The flags of HarfBuzz's numbers; `None` where another bit is set.
     pub fn from_number(number: u32) -> Option<Self> {
-        (number & !0x3F == 0).then_some(SerializeFlags(number as u8))
+        let flags = u8::try_from(number).ok().filter(|flags| flags & !0x3F == 0);
+        flags.map(SerializeFlags)
     }
 
     /// Whether all of these are set.
@@ -225,10 +224,4 @@ fn write_escaped(name: &str, f: &mut fmt::Formatter<'_>) -> fmt::Result {
         write!(f, "{character}")?;
     }
     Ok(())
-}
-
-/// The glyphs of a buffer in one line, as hb-shape prints them: those that
-/// [`try_shape_in_steps`](super::try_shape_in_steps) tells.
-pub fn serialize_glyphs(buffer: &Buffer, face: &Face<'_>, flags: SerializeFlags) -> String {
-    printed(Some(face), buffer.glyphs(), buffer.positions(), flags).to_string()
 }

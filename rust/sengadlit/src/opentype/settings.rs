@@ -38,7 +38,7 @@ pub struct Replacements {
     /// The glyph of characters that the font lacks; glyph 0 where there is none.
     pub not_found: Option<GlyphId>,
     /// The glyph of variation selectors that select nothing; where there is none they aren't drawn.
-    pub not_found_selector: Option<GlyphId>,
+    pub not_found_selector: Option<u32>,
 }
 
 impl Replacements {
@@ -63,13 +63,12 @@ impl Replacements {
     /// Draws each variation selector that selected nothing by its glyph, if there is one, at no width.
     /// (HarfBuzz's `hb_ot_deal_with_variation_selectors`.)
     pub(super) fn draw_selectors(&self, buffer: &mut Buffer) {
-        let Some(glyph) = self.not_found_selector else {
+        let Some(glyph_id) = self.not_found_selector else {
             return;
         };
         for place in 0..buffer.len() {
             let info = buffer.get(place);
             if is_selector(&info) {
-                let glyph_id = glyph.into();
                 buffer.set(place, GlyphInfo { glyph_id, ..info });
                 buffer.set_position(place, GlyphPosition::ZERO);
             }

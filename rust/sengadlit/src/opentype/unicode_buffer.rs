@@ -216,12 +216,12 @@ impl UnicodeBuffer {
     }
 
     /// The glyph of variation selectors that select nothing; where none is set they aren't drawn.
-    pub fn not_found_variation_selector_glyph(&self) -> Option<GlyphId> {
+    pub fn not_found_variation_selector_glyph(&self) -> Option<u32> {
         self.replacements.not_found_selector
     }
 
     /// Sets the glyph of variation selectors that select nothing.
-    pub fn set_not_found_variation_selector_glyph(&mut self, glyph: Option<GlyphId>) {
+    pub fn set_not_found_variation_selector_glyph(&mut self, glyph: Option<u32>) {
         self.replacements.not_found_selector = glyph;
     }
 

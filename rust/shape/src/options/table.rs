@@ -5,7 +5,7 @@ use crate::settings::{Iterations, Settings, TextSettings};
 use crate::values;
 use sengadlit::ot_shape_normalize::Rounds;
 use sengadlit::plan::BreakFlags;
-use sengadlit::{BufferFlags, GlyphId, SerializeFlags};
+use sengadlit::{BufferFlags, SerializeFlags};
 
 /// The options in the order of hb-shape's help, then the program's own.
 pub const GROUPS: &[Group] = &[
@@ -60,6 +60,9 @@ pub const GROUPS: &[Group] = &[
         options: APPLICATION,
     },
 ];
+
+/// The help of an option that isn't told.
+pub const HIDDEN: &str = "";
 
 /// The options of hb-shape that are refused by name.
 pub const REFUSED: &[&str] = &[
@@ -120,10 +123,10 @@ const FONT: &[Entry] = &[
     value(
         "font-funcs",
         "impl",
-        "Accepted: ot, the font functions that there are",
+        "Accepted: ot or ft; there is one implementation",
         |_, name| match name {
-            b"ot" => Ok(()),
-            _ => Err("the font functions are ot".into()),
+            b"ot" | b"ft" => Ok(()),
+            _ => Err("it is ot or ft".into()),
         },
     ),
     print(
@@ -191,16 +194,10 @@ const SHAPE: &[Entry] = &[
     value(
         "shapers",
         "comma-separated list",
-        "Accepted with ot, the shaper that there is, among them",
-        |_, list| {
-            let mut names = list.split(|byte| *byte == b',');
-            if names.any(|name| name == b"ot") {
-                Ok(())
-            } else {
-                Err("the shaper is ot".into())
-            }
-        },
+        "Accepted with ot among them, the shaper that there is",
+        accept_shapers,
     ),
+    value("shaper", "comma-separated list", HIDDEN, accept_shapers),
     print("list-shapers", "List available shapers and quit", || {
         "ot\n".into()
     }),
@@ -271,8 +268,7 @@ const SHAPE: &[Entry] = &[
         "glyph",
         "Glyph value to replace not-found variation-selector characters with",
         |settings, glyph| {
-            settings.replacements.not_found_selector =
-                Some(values::glyph(glyph)?.unwrap_or(GlyphId(0)));
+            settings.replacements.not_found_selector = Some(values::number(glyph)?);
             Ok(())
         },
     ),
@@ -502,6 +498,15 @@ const fn letter(letter: char, option: Entry) -> Entry {
     Entry {
         letter: Some(letter),
         ..option
+    }
+}
+
+fn accept_shapers(_: &mut Settings, list: &[u8]) -> Result<(), String> {
+    let mut names = list.split(|byte| *byte == b',');
+    if names.any(|name| name == b"ot") {
+        Ok(())
+    } else {
+        Err("the shaper is ot".into())
     }
 }
 
