@@ -1,5 +1,5 @@
 -- Scripts, language systems and features, on a table written out by hand (OpenType, Common Table Formats).
-use Rattle.std.specs.Prelude.{ℕ, ◌≡◌, List, [], ◌∷◌, ◌++◌, Bool, true, false, Option, None, Some, refl}
+use Rattle.std.specs.Prelude.{ℕ, zero, suc, ◌-◌, ◌≡◌, List, [], ◌∷◌, ◌++◌, Bool, true, false, Option, None, Some, refl}
 use Rattle.opentype_face.specs.Ranges.{bisect}
 use Rattle.opentype_layout.specs.declared.features.Chosen.{Chosen}
 use Rattle.opentype_layout.specs.Features.{any_feature_in, chosen_script_in, condition_holds, feature_in, feature_table_in, feature_tag_in, first_language_in, first_script_in, lookup_count_in, new_tag_in, nth_any, nth_failing, nth_feature, nth_holding, nth_language, nth_lookup_in, nth_script, nth_substitute, old_tag_in, required_in, script_table_in, script_tags_in, set_holds, substitute_in, substitutions_in, system_in, third_tag_in, variation_in, variations_in}
@@ -144,6 +144,37 @@ required-mar : required_in (system (0x48494E20 ∷ 0x4D415220 ∷ [])) ≡ Some 
 unfolding required_in system_in first_language_in nth_language first_from bisect
 required-mar = refl
 
+-- A script without a default language system: HIN requires feature 3, MAR 1, dflt 2. The first tag is
+-- taken that the script has, then dflt.
+abbrev with_dflt : List ℕ
+with_dflt = (0 ∷ 0 ∷ 0 ∷ 3 ∷ 72 ∷ 73 ∷ 78 ∷ 32 ∷ 0 ∷ 22 ∷ 77 ∷ 65 ∷ 82 ∷ 32 ∷ 0 ∷ 28 ∷ 100 ∷ 102 ∷ 108 ∷ 116 ∷ 0 ∷ 34 ∷ [])
+    ++ (0 ∷ 0 ∷ 0 ∷ 3 ∷ 0 ∷ 0 ∷ []) ++ (0 ∷ 0 ∷ 0 ∷ 1 ∷ 0 ∷ 0 ∷ []) ++ (0 ∷ 0 ∷ 0 ∷ 2 ∷ 0 ∷ 0 ∷ [])
+
+language-dflt : required_in (system_in with_dflt []) ≡ Some 2
+unfolding required_in system_in first_language_in nth_language first_from bisect
+language-dflt = refl
+
+language-unknown : required_in (system_in with_dflt (0x4E455020 ∷ [])) ≡ Some 2
+unfolding required_in system_in first_language_in nth_language first_from bisect
+language-unknown = refl
+
+language-third : required_in (system_in with_dflt (0x4E455020 ∷ 0x53414E20 ∷ 0x4D415220 ∷ [])) ≡ Some 1
+unfolding required_in system_in first_language_in nth_language first_from bisect
+language-third = refl
+
+language-hin-mar : required_in (system_in with_dflt (0x48494E20 ∷ 0x4D415220 ∷ [])) ≡ Some 3
+unfolding required_in system_in first_language_in nth_language first_from bisect
+language-hin-mar = refl
+
+language-mar-hin : required_in (system_in with_dflt (0x4D415220 ∷ 0x48494E20 ∷ [])) ≡ Some 1
+unfolding required_in system_in first_language_in nth_language first_from bisect
+language-mar-hin = refl
+
+-- neither a default language system nor dflt
+language-nothing : system_in (0 ∷ 0 ∷ 0 ∷ 1 ∷ 72 ∷ 73 ∷ 78 ∷ 32 ∷ 0 ∷ 10 ∷ 0 ∷ 0 ∷ 0 ∷ 3 ∷ 0 ∷ 0 ∷ []) (0x4D415220 ∷ []) ≡ []
+unfolding system_in first_language_in nth_language first_from bisect
+language-nothing = refl
+
 required-nothing : required_in [] ≡ None
 unfolding required_in
 required-nothing = refl
@@ -231,3 +262,45 @@ condition-value-below = refl
 condition-another : condition_holds (0 ∷ 3 ∷ 0 ∷ 0 ∷ []) ≡ false
 unfolding condition_holds
 condition-another = refl
+
+-- ---- how much is read at most
+
+unfoldable times : ℕ → List ℕ → List ℕ
+times zero bytes = []
+times (suc n) bytes = bytes ++ times n bytes
+
+-- of 257 conditions the last, which doesn't hold, isn't read; of 256 it is
+abbrev conditions : ℕ → ℕ → ℕ → List ℕ
+conditions high low before = (high ∷ low ∷ []) ++ times before (0 ∷ 0 ∷ 4 ∷ 6 ∷ []) ++ times (257 - before) (0 ∷ 0 ∷ 0 ∷ 0 ∷ []) ++ (0 ∷ 1 ∷ 0 ∷ 0 ∷ 0 ∷ 0 ∷ 0 ∷ 0 ∷ [])
+
+conditions-257 : set_holds (conditions 1 1 256) ≡ true
+unfolding set_holds nth_failing condition_holds first_from times
+conditions-257 = refl
+
+conditions-256 : set_holds (conditions 1 0 255) ≡ false
+unfolding set_holds nth_failing condition_holds first_from times
+conditions-256 = refl
+
+-- of 513 records the last, whose conditions hold, isn't found; the last but one is
+abbrev records : ℕ → List ℕ
+records before = (0 ∷ 1 ∷ 0 ∷ 0 ∷ 0 ∷ 0 ∷ 2 ∷ 1 ∷ []) ++ times before (0 ∷ 0 ∷ 16 ∷ 16 ∷ 0 ∷ 0 ∷ 0 ∷ 0 ∷ []) ++ times (513 - before) (0 ∷ 0 ∷ 0 ∷ 0 ∷ 0 ∷ 0 ∷ 0 ∷ 0 ∷ []) ++ (0 ∷ 1 ∷ 0 ∷ 0 ∷ 0 ∷ 0 ∷ [])
+
+records-513 : variation_in (records 512) ≡ None
+unfolding variation_in nth_holding set_holds nth_failing condition_holds first_from times
+records-513 = refl
+
+records-512 : variation_in (records 511) ≡ Some 511
+unfolding variation_in nth_holding set_holds nth_failing condition_holds first_from times
+records-512 = refl
+
+-- of 1025 substitutions the last, of feature 7, isn't found; the last but one is
+abbrev substitutes : ℕ → List ℕ
+substitutes before = (0 ∷ 1 ∷ 0 ∷ 0 ∷ 4 ∷ 1 ∷ []) ++ times before (0 ∷ 0 ∷ 0 ∷ 0 ∷ 0 ∷ 0 ∷ []) ++ (0 ∷ 7 ∷ 0 ∷ 0 ∷ 0 ∷ 0 ∷ [])
+
+substitutes-1025 : substitute_in (substitutes 1024) 7 ≡ None
+unfolding substitute_in nth_substitute first_from times
+substitutes-1025 = refl
+
+substitutes-1024 : substitute_in (substitutes 1023) 7 ≡ Some 1023
+unfolding substitute_in nth_substitute first_from times
+substitutes-1024 = refl

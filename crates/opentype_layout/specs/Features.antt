@@ -1,6 +1,6 @@
 -- Scripts, language systems and features of GSUB or GPOS (OpenType, Common Table Formats), chosen
 -- as HarfBuzz chooses them. Tags are the numbers of their four letters.
-use Rattle.std.specs.Prelude.{ℕ, ◌+◌, ◌*◌, ◌==◌, ◌&&◌, ◌||◌, not, nat_lt, nat_le, is_some, bit_or, slice_index, length, Bool, true, false, List, [], ◌∷◌, ◌++◌, Option, None, Some, if◌then◌else◌}
+use Rattle.std.specs.Prelude.{ℕ, ◌+◌, ◌*◌, ◌==◌, ◌&&◌, ◌||◌, not, nat_lt, nat_le, is_some, bit_or, slice_index, length, min, Bool, true, false, List, [], ◌∷◌, ◌++◌, Option, None, Some, if◌then◌else◌}
 use Rattle.opentype_face.specs.Bytes.{u16_in, u32_in, part_in}
 use Rattle.opentype_face.specs.Ranges.{bisect}
 use Rattle.opentype_layout.specs.declared.features.Chosen.{Chosen}
@@ -165,9 +165,9 @@ condition_holds condition =
 unfoldable pub nth_failing : List ℕ → ℕ → Option ℕ
 nth_failing set i = if condition_holds (part_in set (u32_in set (2 + i * 4))) then None else Some i
 
--- whether all conditions of a set hold
+-- whether all conditions of a set hold, of which 256 are read at most
 unfoldable pub set_holds : List ℕ → Bool
-set_holds set = not (is_some (first_from (u16_in set 0) (nth_failing set) 0))
+set_holds set = not (is_some (first_from (min (u16_in set 0) 256) (nth_failing set) 0))
 
 -- the feature variations of a table of version 1.1 or later
 unfoldable pub variations_in : List ℕ → List ℕ
@@ -178,9 +178,9 @@ unfoldable pub nth_holding : List ℕ → ℕ → Option ℕ
 nth_holding variations i =
     if set_holds (part_in variations (u32_in variations (8 + i * 8))) then Some i else None
 
--- the first record whose conditions hold
+-- the first record whose conditions hold, of 512 at most
 unfoldable pub variation_in : List ℕ → Option ℕ
-variation_in variations = first_from (u32_in variations 4) (nth_holding variations) 0
+variation_in variations = first_from (min (u32_in variations 4) 512) (nth_holding variations) 0
 
 abbrev pub substitutions_of : List ℕ → Option ℕ → List ℕ
 substitutions_of variations None = []
@@ -193,9 +193,10 @@ unfoldable pub nth_substitute : List ℕ → ℕ → ℕ → Option ℕ
 nth_substitute substitutions index i =
     if u16_in substitutions (6 + i * 6) == index then Some i else None
 
+-- the first substitution of a feature, of 1024 at most
 unfoldable pub substitute_in : List ℕ → ℕ → Option ℕ
 substitute_in substitutions index =
-    first_from (u16_in substitutions 4) (nth_substitute substitutions index) 0
+    first_from (min (u16_in substitutions 4) 1024) (nth_substitute substitutions index) 0
 
 -- ---- a feature's table and its lookups
 

@@ -1,6 +1,6 @@
 //! Scripts, language systems and features of GSUB or GPOS, over the bytes of the table. Tags are the
 //! numbers of their four letters.
-ghost use Rattle.std.specs.Prelude.{◌≡◌, ◌≤◌, ◌+◌, ◌++◌, length, slice_index};
+ghost use Rattle.std.specs.Prelude.{◌≡◌, ◌≤◌, ◌+◌, ◌++◌, length, min, slice_index};
 ghost use Rattle.opentype_layout.specs.Features.{any_feature_in, chosen_as, chosen_script_in, condition_holds, feature_in, feature_or, feature_table_in, feature_tag_in, features_in, first_language_in, first_script_in, language_in, lookup_count_in, new_tag_in, nth_any, nth_failing, nth_feature, nth_holding, nth_language, nth_lookup_in, nth_script, nth_substitute, old_tag_in, plain_feature_in, required_in, script_in, script_table_in, script_tags_in, scripts_in, set_holds, substitute_in, substitutions_in, system_in, system_of, tag_list, tagged_in, third_tag_in, variation_in, variations_in};
 ghost use Rattle.opentype_face.specs.Firsts.{first_from};
 ghost use Rattle.opentype_face.specs.Bytes.{u16_in, u32_in};
@@ -8,6 +8,15 @@ ghost use Rattle.opentype_face.specs.Bytes.{u16_in, u32_in};
 use arrayvec::ArrayVec;
 use opentype_face::bytes::{part, u16_at, u32_at};
 use opentype_face::ranges::Ranges;
+
+/// How many records of feature variations are read at most, which is more than any font has.
+const MOST_VARIATIONS: u32 = 512;
+
+/// How many conditions of a record are read at most; fonts have one for an axis.
+const MOST_CONDITIONS: u16 = 256;
+
+/// How many substitutions of a record are read at most.
+const MOST_SUBSTITUTIONS: u16 = 1024;
 
 /// The script that is chosen for a text.
 #[derive(Clone, Copy, Debug)]
@@ -340,9 +349,9 @@ fn failing(set: &[u8], i: u16) -> Option<u16>
 }
 
 fn first_failing(set: &[u8]) -> Option<u16>
-    ensures { result ≡ first_from (u16_in set.now 0) (nth_failing set.now) 0 }
+    ensures { result ≡ first_from (min (u16_in set.now 0) 256) (nth_failing set.now) 0 }
 {
-    for i in 0..u16_at(set, 0) {
+    for i in 0..u16_at(set, 0).min(MOST_CONDITIONS) {
         let found = failing(set, i);
         if found.is_some() {
             return found;
@@ -351,7 +360,7 @@ fn first_failing(set: &[u8]) -> Option<u16>
     None
 }
 
-// Whether all conditions of a set hold.
+// Whether all conditions of a set hold. At most 256 are read.
 #[tactic(auto, unfolding(crate::specs::Features::set_holds))]
 fn all_hold(set: &[u8]) -> bool
     ensures { result ≡ set_holds set.now }
@@ -380,13 +389,12 @@ fn holding(variations: &[u8], i: u32) -> Option<u32>
     }
 }
 
-// The first variation whose conditions hold. Behind the end of the table stand records of 0, whose
-// conditions hold, so it is found in as many steps as the table has records.
+// The first variation whose conditions hold, of 512 at most.
 #[tactic(auto, unfolding(crate::specs::Features::variation_in))]
 fn find_variation(variations: &[u8]) -> Option<u32>
     ensures { result ≡ variation_in variations.now }
 {
-    for i in 0..u32_at(variations, 4) {
+    for i in 0..u32_at(variations, 4).min(MOST_VARIATIONS) {
         let found = holding(variations, i);
         if found.is_some() {
             return found;
@@ -396,6 +404,7 @@ fn find_variation(variations: &[u8]) -> Option<u32>
 }
 
 /// What stands for features at the default instance of a variable font: a table for `feature_by`.
+/// At most 131,072 conditions are tested.
 #[tactic(auto, unfolding(crate::specs::Features::substitutions_in))]
 pub fn substitutions(table: &[u8]) -> &[u8]
     ensures { result.now ≡ substitutions_in table.now }
@@ -418,12 +427,12 @@ fn substitute_if(substitutions: &[u8], index: u16, i: u16) -> Option<u16>
     }
 }
 
-// The number of what stands for a feature.
+// The number of what stands for a feature, among 1024 at most.
 #[tactic(auto, unfolding(crate::specs::Features::substitute_in))]
 fn find_substitute(substitutions: &[u8], index: u16) -> Option<u16>
     ensures { result ≡ substitute_in substitutions.now index }
 {
-    for i in 0..u16_at(substitutions, 4) {
+    for i in 0..u16_at(substitutions, 4).min(MOST_SUBSTITUTIONS) {
         let found = substitute_if(substitutions, index, i);
         if found.is_some() {
             return found;

@@ -7,6 +7,15 @@ use crate::generated::opentype_face::bytes::{part, u16_at, u32_at};
 use crate::generated::opentype_face::ranges::Ranges;
 use crate::support::arrayvec::ArrayVec;
 
+/// How many records of feature variations are read at most, which is more than any font has.
+const MOST_VARIATIONS: u32 = 512;
+
+/// How many conditions of a record are read at most; fonts have one for an axis.
+const MOST_CONDITIONS: u16 = 256;
+
+/// How many substitutions of a record are read at most.
+const MOST_SUBSTITUTIONS: u16 = 1024;
+
 /// The script that is chosen for a text.
 #[derive(Clone, Copy, Debug)]
 pub struct Chosen {
@@ -359,7 +368,7 @@ fn failing(set: &[u8], i: u16) -> Option<u16> {
 }
 
 fn first_failing(set: &[u8]) -> Option<u16> {
-    for i in 0..u16_at(set, 0) {
+    for i in 0..u16_at(set, 0).min(MOST_CONDITIONS) {
         let found = failing(set, i);
         if found.is_some() {
             return found;
@@ -368,7 +377,7 @@ fn first_failing(set: &[u8]) -> Option<u16> {
     None
 }
 
-// Whether all conditions of a set hold.
+// Whether all conditions of a set hold. At most 256 are read.
 fn all_hold(set: &[u8]) -> bool {
     first_failing(set).is_none()
 }
@@ -388,10 +397,9 @@ fn holding(variations: &[u8], i: u32) -> Option<u32> {
     }
 }
 
-// The first variation whose conditions hold. Behind the end of the table stand records of 0, whose
-// conditions hold, so it is found in as many steps as the table has records.
+// The first variation whose conditions hold, of 512 at most.
 fn find_variation(variations: &[u8]) -> Option<u32> {
-    for i in 0..u32_at(variations, 4) {
+    for i in 0..u32_at(variations, 4).min(MOST_VARIATIONS) {
         let found = holding(variations, i);
         if found.is_some() {
             return found;
@@ -401,6 +409,7 @@ fn find_variation(variations: &[u8]) -> Option<u32> {
 }
 
 /// What stands for features at the default instance of a variable font: a table for `feature_by`.
+/// At most 131,072 conditions are tested.
 ///
 /// <details><summary>Contract</summary>
 ///
@@ -429,9 +438,9 @@ fn substitute_if(substitutions: &[u8], index: u16, i: u16) -> Option<u16> {
     }
 }
 
-// The number of what stands for a feature.
+// The number of what stands for a feature, among 1024 at most.
 fn find_substitute(substitutions: &[u8], index: u16) -> Option<u16> {
-    for i in 0..u16_at(substitutions, 4) {
+    for i in 0..u16_at(substitutions, 4).min(MOST_SUBSTITUTIONS) {
         let found = substitute_if(substitutions, index, i);
         if found.is_some() {
             return found;
