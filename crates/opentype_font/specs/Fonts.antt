@@ -2,7 +2,6 @@
 use Rattle.std.specs.Prelude.{ℕ, ◌/◌, ◌||◌, ℤ, pos, neg_ℤ, ◌-ℤ◌, Option, None, Some}
 use Rattle.std.specs.Int.{saturate_to_bits}
 use Rattle.std.specs.Option.{option_map, unwrap_or}
-use Rattle.shapers_buffer.specs.declared.buffer.tag.Script.{Script}
 use Rattle.shapers_base.specs.Font.{Font}
 use Rattle.shapers_base.specs.declared.font.GlyphId.{GlyphId}
 use Rattle.shapers_normalize.specs.TextTables.{VariantForms}
@@ -10,19 +9,20 @@ use Rattle.shapers_position.specs.Metrics.{Metrics}
 use Rattle.opentype_face.specs.Faces.{Tables, ascender_of, descender_of, glyph_count_of, h_advance_of, nominal_glyph_of, variation_glyph_of}
 use Rattle.opentype_face.specs.Metrics.{advance_in, origin_in, units_in}
 use Rattle.opentype_font.specs.ScriptFeatures.{has_feature_in}
+use Rattle.opentype_font.specs.TextTags.{Tags}
 use Rattle.opentype_font.specs.WouldApply.{would_apply}
 
 -- a glyph by its number
 abbrev pub glyph_by : ℕ → GlyphId
 glyph_by number = record { 0 = number }
 
--- for texts of a script: the features are those of GSUB and of GPOS in that script
-abbrev pub font_of : Tables → Option Script → Font
-font_of t script = record {
+-- for texts with these tags: the features are those of GSUB and of GPOS for them
+abbrev pub font_of : Tables → Tags → Font
+font_of t tags = record {
   nominal = λ c. option_map glyph_by (nominal_glyph_of t c);
   advance = λ glyph. pos (h_advance_of t glyph.0);
   applies = λ lookup glyphs zero_context. would_apply t.gsub lookup glyphs zero_context;
-  offers = λ tag. has_feature_in t.gsub script tag || has_feature_in t.gpos script tag;
+  offers = λ tag. has_feature_in t.gsub tags tag || has_feature_in t.gpos tags tag;
 }
 
 abbrev pub variants_of : Tables → VariantForms

@@ -1,4 +1,5 @@
 pub mod Tests
+pub mod TextTags
 pub mod WouldApply
 pub mod ScriptFeatures
 pub mod Fonts

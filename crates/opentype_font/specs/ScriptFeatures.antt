@@ -12,31 +12,25 @@ use Rattle.opentype_layout.specs.Features.{any_feature_in, chosen_script_in, fea
 use Rattle.opentype_layout.specs.declared.features.Chosen.{Chosen}
 use Rattle.opentype_font.specs.declared.script_features.ListedFeature.{ListedFeature}
 use Rattle.opentype_font.specs.declared.script_features.TableFeatures.{TableFeatures}
+use Rattle.opentype_font.specs.TextTags.{Tags, number_by}
 
--- a tag's four bytes by its number, and a number of four bytes
+-- a tag's four bytes by its number
 abbrev pub tag_by : ℕ → hb_tag_t
 tag_by n = record { 0 = n / 0x1000000 ∷ n / 0x10000 % 256 ∷ n / 256 % 256 ∷ n % 256 ∷ [] }
 
-abbrev pub number_by : List ℕ → ℕ
-number_by code = slice_index code 0 * 0x1000000 + slice_index code 1 * 0x10000
-    + slice_index code 2 * 256 + slice_index code 3
+-- the language system of a script that is chosen for a text
+abbrev pub system_for : List ℕ → Tags → Chosen → List ℕ
+system_for table tags c = system_in (script_table_in table c.script) tags.languages
 
-abbrev pub script_number : Option Script → ℕ
-script_number None = 0
-script_number (Some script) = number_by script.0
+-- whether a table has a feature in it
+abbrev pub has_feature_by : List ℕ → Tags → hb_tag_t → Option Chosen → Bool
+has_feature_by table tags tag None = false
+has_feature_by table tags tag (Some c) =
+    is_some (feature_in table (system_for table tags c) (number_by tag.0))
 
--- the script of a table that is chosen for a text
-abbrev pub chosen_for : List ℕ → Option Script → Option Chosen
-chosen_for table script = chosen_script_in table (script_tags_in (script_number script))
-
--- whether it has a feature
-abbrev pub has_feature_by : List ℕ → hb_tag_t → Option Chosen → Bool
-has_feature_by table tag None = false
-has_feature_by table tag (Some c) =
-    is_some (feature_in table (system_in (script_table_in table c.script) []) (number_by tag.0))
-
-abbrev pub has_feature_in : List ℕ → Option Script → hb_tag_t → Bool
-has_feature_in table script tag = has_feature_by table tag (chosen_for table script)
+abbrev pub has_feature_in : List ℕ → Tags → hb_tag_t → Bool
+has_feature_in table tags tag =
+    has_feature_by table tags tag (chosen_script_in table tags.scripts)
 
 -- a feature and its lookups
 pub record FeatureView : Type 0 where
@@ -51,6 +45,7 @@ abbrev pub lookup_numbers : List ℕ → List ℕ
 lookup_numbers feature = map (nth_lookup_in feature) (range_with_len 0 (min (lookup_count_in
     feature) 4096))
 
+-- a feature by its number, as the font's variations have it
 abbrev pub feature_in_list : List ℕ → ℕ → FeatureView
 feature_in_list table index =
     record {
@@ -84,8 +79,8 @@ features_view t = record {
   vertical = option_map feature_view t.vertical;
 }
 
-abbrev pub view_with : List ℕ → Option Chosen → TableView
-view_with table None = record {
+abbrev pub view_with : List ℕ → Tags → Option Chosen → TableView
+view_with table tags None = record {
   there = not (length table == 0);
   chosen = None;
   own = false;
@@ -93,8 +88,8 @@ view_with table None = record {
   required = None;
   vertical = option_map (feature_in_list table) (any_feature_in table 0x76657274);
 }
-view_with table (Some c) =
-    let system = system_in (script_table_in table c.script) [] in record {
+view_with table tags (Some c) =
+    let system = system_for table tags c in record {
       there = not (length table == 0);
       chosen = Some (tag_by c.tag);
       own = c.is_found;
@@ -103,9 +98,9 @@ view_with table (Some c) =
       vertical = option_map (feature_in_list table) (any_feature_in table 0x76657274);
     }
 
--- by the table's bytes, in the script's default language
-abbrev pub table_view : List ℕ → Option Script → TableView
-table_view table script = view_with table (chosen_for table script)
+-- by the table's bytes, in the language system for the tags of a text
+abbrev pub table_view : List ℕ → Tags → TableView
+table_view table tags = view_with table tags (chosen_script_in table tags.scripts)
 
 -- the lookups of a feature, if it has a tag
 abbrev pub tagged_lookups : hb_tag_t → FeatureView → Option (List ℕ)

@@ -4,21 +4,22 @@ ghost use Rattle.opentype_face.specs.Faces.{tables_of};
 ghost use Rattle.opentype_font.specs.Fonts.{vertical_advance_of, vertical_origin_of};
 
 use crate::script_features::has_feature;
+use crate::text_tags::TextTags;
 use crate::would_apply::would_apply;
 use opentype_face::face::Face;
 use opentype_face::metrics::{advance, vertical_origin};
-use shapers_base::buffer::{Script, hb_tag_t};
+use shapers_base::buffer::hb_tag_t;
 use shapers_base::font::{GlyphId, hb_font_t};
 use shapers_normalize::NormalizeFont;
 use shapers_position::ot_shape_position::MetricsFont;
 
-/// A face, for texts of a script.
+/// A face, for texts of a script and a language.
 #[derive(Clone, Copy, Debug)]
 pub struct OpenTypeFont<'a> {
     /// The face.
     pub face: Face<'a>,
-    /// The script of the texts, if it is known.
-    pub script: Option<Script>,
+    /// The tags of the texts' script and language.
+    pub tags: TextTags,
 }
 
 // How far a glyph moves the pen in vertical text: as high as a line is where the font has no vertical
@@ -44,9 +45,10 @@ fn v_origin(face: &Face<'_>, glyph: u16) -> i32
 
 impl<'a> hb_font_t for OpenTypeFont<'a> {
     ghost use Rattle.opentype_font.specs.Fonts.{font_of};
+    ghost use Rattle.opentype_font.specs.TextTags.{tags_of};
     ghost use Rattle.opentype_face.specs.Faces.{tables_of};
 
-    ghost font = { λ it. font_of (tables_of it.face) it.script };
+    ghost font = { λ it. font_of (tables_of it.face) (tags_of it.tags) };
 
     #[inline]
     fn get_nominal_glyph(&self, c: u32) -> Option<GlyphId> {
@@ -66,8 +68,7 @@ impl<'a> hb_font_t for OpenTypeFont<'a> {
     }
 
     fn has_feature(&self, tag: hb_tag_t) -> bool {
-        has_feature(self.face.gsub, self.script, tag)
-            || has_feature(self.face.gpos, self.script, tag)
+        has_feature(self.face.gsub, &self.tags, tag) || has_feature(self.face.gpos, &self.tags, tag)
     }
 }
 

@@ -1,15 +1,18 @@
-//! What a plan reads of a font: its features in the script of a text.
+//! What a plan reads of a font: its features in the script and the language of a text.
 ghost use Rattle.std.specs.Prelude.{◌≡◌, IfOk, IsOkUnless, map, option_map};
 ghost use Rattle.shapers_base.specs.Map.{of_gsub};
 ghost use Rattle.shapers_buffer.specs.declared.buffer.refusal.ShaperError.TheVariants.{Memory};
-ghost use Rattle.opentype_font.specs.ScriptFeatures.{chosen_for, feature_in_list, feature_view, features_in_system, features_view, has_feature_in, lookup_numbers, lookups_by, number_by, table_view, tag_by, tagged_lookups};
+ghost use Rattle.opentype_layout.specs.Features.{substitutions_in};
+ghost use Rattle.opentype_font.specs.ScriptFeatures.{feature_in_list, feature_view, features_in_system, features_view, has_feature_in, lookup_numbers, lookups_by, system_for, table_view, tag_by, tagged_lookups};
+ghost use Rattle.opentype_font.specs.TextTags.{number_by, tags_of};
 
+use crate::text_tags::{TextTags, number_of};
 use opentype_face::bytes::u16_at;
 use opentype_layout::features::{
-    Chosen, choose_script, feature_table, feature_tag, find_any_feature, find_feature,
-    language_system, lookup_count, nth_lookup, required_feature, script_table, script_tags,
+    Chosen, choose_script, feature_by, feature_tag, find_any_feature, find_feature,
+    language_system, lookup_count, nth_lookup, required_feature, script_table, substitutions,
 };
-use shapers_base::buffer::{Script, ShaperError, hb_tag_t};
+use shapers_base::buffer::{ShaperError, hb_tag_t};
 use shapers_base::map::TableIndex;
 use shapers_plan::ot_map::FontFeatures;
 use std::alloc::Global;
@@ -44,37 +47,21 @@ fn tag_by(number: u32) -> hb_tag_t
     ])
 }
 
-// The script of a table that is chosen for a text.
-fn chosen_for(table: &[u8], script: Option<Script>) -> Option<Chosen>
-    ensures { result ≡ chosen_for table.now script }
-{
-    let number = match script {
-        Some(script) => number_of(hb_tag_t(script.to_bytes())),
-        None => 0,
-    };
-    let tags = script_tags(number);
-    choose_script(table, tags.as_slice())
-}
-
-// The number of a tag's four bytes.
+// The language system of a script for a text.
 #[inline]
-fn number_of(tag: hb_tag_t) -> u32
-    ensures { result ≡ number_by tag.0 }
+fn system_for<'a>(table: &'a [u8], tags: &TextTags, chosen: &Chosen) -> &'a [u8]
+    ensures { result.now ≡ system_for table.now (tags_of tags.now) chosen.now }
 {
-    let bytes = tag.to_bytes();
-    u32::from(bytes[0]) * 0x100_0000
-        + u32::from(bytes[1]) * 0x1_0000
-        + u32::from(bytes[2]) * 256
-        + u32::from(bytes[3])
+    language_system(script_table(table, chosen.script), tags.languages.as_slice())
 }
 
-/// Whether GSUB or GPOS has a feature by this tag in the script that is chosen for a text.
-pub fn has_feature(table: &[u8], script: Option<Script>, tag: hb_tag_t) -> bool
-    ensures { result ≡ has_feature_in table.now script tag }
+/// Whether GSUB or GPOS has a feature by this tag for a text with these tags.
+pub fn has_feature(table: &[u8], tags: &TextTags, tag: hb_tag_t) -> bool
+    ensures { result ≡ has_feature_in table.now (tags_of tags.now) tag }
 {
-    match chosen_for(table, script) {
+    match choose_script(table, tags.scripts.as_slice()) {
         Some(chosen) => {
-            let system = language_system(script_table(table, chosen.script), &[]);
+            let system = system_for(table, tags, &chosen);
             find_feature(table, system, number_of(tag)).is_some()
         }
         None => false,
@@ -95,28 +82,36 @@ fn lookups_of(feature: &[u8], alloc: Global) -> Result<Vec<u16>, ShaperError>
     Ok(lookups)
 }
 
-// A feature by its number in the table.
-fn feature_at(table: &[u8], index: u16, alloc: Global) -> Result<ListedFeature, ShaperError>
+// A feature by its number in the table, whose variations were read.
+fn feature_at(
+    table: &[u8],
+    substitutions: &[u8],
+    index: u16,
+    alloc: Global,
+) -> Result<ListedFeature, ShaperError>
+    requires { substitutions.now ≡ substitutions_in table.now }
     ensures feature { IfOk result (λ feature. feature_view feature ≡ feature_in_list table.now index) }
     ensures refusal { IsOkUnless result Memory }
 {
     let tag = tag_by(feature_tag(table, index));
-    let lookups = lookups_of(feature_table(table, index), alloc)?;
+    let lookups = lookups_of(feature_by(table, substitutions, index), alloc)?;
     Ok(ListedFeature { tag, lookups })
 }
 
 // A feature by its number, if there is one.
 fn feature_if(
     table: &[u8],
+    substitutions: &[u8],
     index: Option<u16>,
     alloc: Global,
 ) -> Result<Option<ListedFeature>, ShaperError>
+    requires { substitutions.now ≡ substitutions_in table.now }
     ensures feature { IfOk result (λ feature.
         option_map feature_view feature ≡ option_map (feature_in_list table.now) index) }
     ensures refusal { IsOkUnless result Memory }
 {
     match index {
-        Some(index) => Ok(Some(feature_at(table, index, alloc)?)),
+        Some(index) => Ok(Some(feature_at(table, substitutions, index, alloc)?)),
         None => Ok(None),
     }
 }
@@ -124,16 +119,19 @@ fn feature_if(
 // The features of a language system, in its order.
 fn features_of(
     table: &[u8],
+    substitutions: &[u8],
     system: &[u8],
     alloc: Global,
 ) -> Result<Vec<ListedFeature>, ShaperError>
+    requires { substitutions.now ≡ substitutions_in table.now }
     ensures features { IfOk result (λ features.
         map feature_view features.items ≡ features_in_system table.now system.now) }
     ensures refusal { IsOkUnless result Memory }
 {
     let mut features = Vec::new(alloc);
     for i in 0..u16_at(system, 4).min(MOST_FEATURES) {
-        let feature = feature_at(table, u16_at(system, 6 + usize::from(i) * 2), alloc)?;
+        let index = u16_at(system, 6 + usize::from(i) * 2);
+        let feature = feature_at(table, substitutions, index, alloc)?;
         features.push(feature).map_err(|_| ShaperError::Memory)?;
     }
     Ok(features)
@@ -165,7 +163,7 @@ fn lookups_by(features: &[ListedFeature], tag: hb_tag_t) -> Option<&[u16]>
     None
 }
 
-/// What GSUB or GPOS has for the script of a text, in the script's default language.
+/// What GSUB or GPOS has for the script and the language of a text.
 #[derive(Debug, Drop)]
 struct TableFeatures {
     is_there: bool,
@@ -178,22 +176,23 @@ struct TableFeatures {
 }
 
 impl TableFeatures {
-    // Reads what a table has for a script.
-    fn new(table: &[u8], script: Option<Script>, alloc: Global) -> Result<Self, ShaperError>
-        ensures view { IfOk result (λ it. features_view it ≡ table_view table.now script) }
+    // Reads what a table has for a text.
+    fn new(table: &[u8], tags: &TextTags, alloc: Global) -> Result<Self, ShaperError>
+        ensures view { IfOk result (λ it. features_view it ≡ table_view table.now (tags_of tags.now)) }
         ensures refusal { IsOkUnless result Memory }
     {
         let is_there = !table.is_empty();
-        let vertical = feature_if(table, find_any_feature(table, VERT), alloc)?;
-        match chosen_for(table, script) {
+        let varied = substitutions(table);
+        let vertical = feature_if(table, varied, find_any_feature(table, VERT), alloc)?;
+        match choose_script(table, tags.scripts.as_slice()) {
             Some(chosen) => {
-                let system = language_system(script_table(table, chosen.script), &[]);
+                let system = system_for(table, tags, &chosen);
                 Ok(TableFeatures {
                     is_there,
                     script: Some(tag_by(chosen.tag)),
                     is_found: chosen.is_found,
-                    features: features_of(table, system, alloc)?,
-                    required: feature_if(table, required_feature(system), alloc)?,
+                    features: features_of(table, varied, system, alloc)?,
+                    required: feature_if(table, varied, required_feature(system), alloc)?,
                     vertical,
                 })
             }
@@ -209,8 +208,8 @@ impl TableFeatures {
     }
 }
 
-/// The features of a font's GSUB and GPOS in the script of a text, in the script's default language.
-/// (OpenType, common table formats.)
+/// The features of a font's GSUB and GPOS in the script and the language of a text. (OpenType, common
+/// table formats.)
 #[derive(Debug, Drop)]
 pub struct ScriptFeatures {
     gsub: TableFeatures,
@@ -219,7 +218,7 @@ pub struct ScriptFeatures {
 
 impl ScriptFeatures {
     /// Reads the features that the two tables, which are empty where the font lacks them, have for a
-    /// script.
+    /// text with these tags.
     ///
     /// # Errors
     ///
@@ -227,15 +226,15 @@ impl ScriptFeatures {
     pub fn new(
         gsub: &[u8],
         gpos: &[u8],
-        script: Option<Script>,
+        tags: &TextTags,
         alloc: Global,
     ) -> Result<Self, ShaperError>
-        ensures gsub { IfOk result (λ it. features_view it.gsub ≡ table_view gsub.now script) }
-        ensures gpos { IfOk result (λ it. features_view it.gpos ≡ table_view gpos.now script) }
+        ensures gsub { IfOk result (λ it. features_view it.gsub ≡ table_view gsub.now (tags_of tags.now)) }
+        ensures gpos { IfOk result (λ it. features_view it.gpos ≡ table_view gpos.now (tags_of tags.now)) }
         ensures refusal { IsOkUnless result Memory }
     {
-        let gsub = TableFeatures::new(gsub, script, alloc)?;
-        let gpos = TableFeatures::new(gpos, script, alloc)?;
+        let gsub = TableFeatures::new(gsub, tags, alloc)?;
+        let gpos = TableFeatures::new(gpos, tags, alloc)?;
         Ok(ScriptFeatures { gsub, gpos })
     }
 

@@ -257,6 +257,8 @@ pub mod categories;
 pub mod editing;
 pub mod flags;
 pub mod font;
+#[cfg(feature = "opentype")]
+pub mod language;
 pub mod map;
 #[cfg(feature = "opentype")]
 pub mod opentype;
@@ -294,6 +296,8 @@ pub use font::{Font, GlyphId, Tables};
 #[cfg(feature = "opentype")]
 #[doc(hidden)]
 pub use generated::opentype_face;
+#[cfg(feature = "opentype")]
+pub use language::{Language, LanguageError};
 pub use map::{FeatureMap, Map};
 pub use numbers::UnknownNumber;
 #[cfg(feature = "opentype")]

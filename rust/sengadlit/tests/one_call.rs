@@ -73,7 +73,13 @@ fn what_is_printed() {
 fn a_plan_and_a_buffer_serve_many_texts() {
     let data = font();
     let face = Face::parse(&data, 0).unwrap();
-    let plan = ShapePlan::new(&face, Direction::LeftToRight, Some(script::LATIN), &[]);
+    let plan = ShapePlan::new(
+        &face,
+        Direction::LeftToRight,
+        Some(script::LATIN),
+        None,
+        &[],
+    );
     let mut buffer = UnicodeBuffer::new();
     for _ in 0..3 {
         buffer.push_str("AB");
@@ -149,7 +155,13 @@ fn a_buffer_is_shaped_where_it_stands() {
     let data = font();
     assert_eq!((Face::count(&data), Face::count(&data[1..])), (1, 0));
     let face = Face::parse(&data, 0).unwrap();
-    let plan = ShapePlan::new(&face, Direction::LeftToRight, Some(script::LATIN), &[]);
+    let plan = ShapePlan::new(
+        &face,
+        Direction::LeftToRight,
+        Some(script::LATIN),
+        None,
+        &[],
+    );
     let own = face.font(plan.script());
     assert_eq!(own.glyph_h_advance(sengadlit::GlyphId(4)), 1100);
     let mut buffer = Buffer::from("ABC");

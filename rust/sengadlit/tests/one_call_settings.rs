@@ -67,6 +67,7 @@ fn a_cache_keeps_64_plans() {
             &face,
             Direction::LeftToRight,
             Some(script::LATIN),
+            None,
             &[feature(value)],
         );
         assert_eq!(plan.unwrap().script(), Some(script::LATIN));
@@ -127,7 +128,7 @@ fn selectors_without_a_variant_have_a_glyph() {
 fn a_buffer_is_shaped_with_glyphs_for_what_the_font_lacks() {
     let data = font();
     let face = Face::parse(&data, 0).unwrap();
-    let plan = ShapePlan::new(&face, Direction::LeftToRight, None, &[]);
+    let plan = ShapePlan::new(&face, Direction::LeftToRight, None, None, &[]);
     let mut buffer = Buffer::from("D");
     let replacements = Replacements {
         not_found: Some(GlyphId(3)),
@@ -186,7 +187,13 @@ fn settings_outlive_a_text() {
 fn lookups_are_told() {
     let data = font();
     let face = Face::parse(&data, 0).unwrap();
-    let plan = ShapePlan::new(&face, Direction::LeftToRight, Some(script::LATIN), &[]);
+    let plan = ShapePlan::new(
+        &face,
+        Direction::LeftToRight,
+        Some(script::LATIN),
+        None,
+        &[],
+    );
     let steps = RefCell::new(vec![]);
     let told = |step, buffer: &Buffer| steps.borrow_mut().push((step, buffer.len()));
     try_shape_in_steps(&face, &plan, text("ABC"), &told).unwrap();

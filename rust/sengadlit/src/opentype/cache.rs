@@ -3,12 +3,13 @@
 use super::{Face, Feature, ShapePlan, ShapePlanBuilder};
 use crate::alloc::{Global, Vec};
 use crate::buffer::{Direction, Script, ShaperError};
+use crate::language::Language;
 
 /// How many plans a cache keeps: more than a text has scripts, directions and lists of features.
 const MOST_PLANS: usize = 64;
 
-/// The plans of a face, found by script, direction and features and made where there is none: a program
-/// that shapes many texts lends one to [`shape_with_cache`](super::shape_with_cache).
+/// The plans of a face, found by script, language, direction and features and made where there is none: a
+/// program that shapes many texts lends one to [`shape_with_cache`](super::shape_with_cache).
 ///
 /// A cache serves one face, as a plan does, and one thread at a time. It keeps 64 plans: the one that was
 /// made first goes for another.
@@ -32,9 +33,16 @@ struct Kept {
 }
 
 impl Kept {
-    fn is_for(&self, script: Option<Script>, direction: Direction, features: &[Feature]) -> bool {
-        self.plan.script() == script
-            && self.plan.direction() == direction
+    fn is_for(
+        &self,
+        direction: Direction,
+        script: Option<Script>,
+        language: Option<Language>,
+        features: &[Feature],
+    ) -> bool {
+        self.plan.direction() == direction
+            && self.plan.script() == script
+            && self.plan.language() == language
             && self.features.as_slice() == features
     }
 }
@@ -45,7 +53,8 @@ impl PlanCache {
         PlanCache::default()
     }
 
-    /// A cache of plans with the choices of a builder, whose script, direction and features don't matter.
+    /// A cache of plans with the choices of a builder, whose script, language, direction and features
+    /// don't matter.
     pub fn with_choices(choices: ShapePlanBuilder<'static>) -> Self {
         PlanCache {
             choices,
@@ -68,8 +77,8 @@ impl PlanCache {
         self.plans.clear();
     }
 
-    /// The plan for texts of a script and a direction with these features, which is made where the cache
-    /// hasn't got it.
+    /// The plan for texts of a script, a language and a direction with these features, which is made where
+    /// the cache hasn't got it.
     ///
     /// # Errors
     ///
@@ -79,17 +88,19 @@ impl PlanCache {
         face: &Face<'_>,
         direction: Direction,
         script: Option<Script>,
+        language: Option<Language>,
         features: &[Feature],
     ) -> Result<&ShapePlan, ShaperError> {
         let found = self
             .plans
             .as_slice()
             .iter()
-            .position(|kept| kept.is_for(script, direction, features));
+            .position(|kept| kept.is_for(direction, script, language, features));
         let place = if let Some(place) = found {
             place
         } else {
-            let builder = self.choices.script(script).direction(direction);
+            let builder = self.choices.script(script).language(language);
+            let builder = builder.direction(direction);
             self.keep(builder.features(features).build(face)?, features)?
         };
         Ok(&self.plans.as_slice()[place].plan)

@@ -3,13 +3,13 @@
 pub use crate::generated::opentype_face::directory::FaceError;
 
 use super::scale::Scale;
-use crate::buffer::Script;
 use crate::font::GlyphId;
 use crate::generated::opentype_face::bytes::i16_at;
 use crate::generated::opentype_face::directory::{directory, face_count, table};
 use crate::generated::opentype_face::face;
 use crate::generated::opentype_face::outlines::{box_bottom, box_top, box_width, has_box};
 use crate::generated::opentype_font::font::OpenTypeFont;
+use crate::generated::opentype_font::text_tags::TextTags;
 use core::fmt;
 
 /// The tag `fvar` as a number: the table of a font's axes.
@@ -144,11 +144,11 @@ impl<'a> Face<'a> {
         self.scale.map_or(units, |scale| scale.up(units))
     }
 
-    /// The font as it is for texts of a script.
-    pub(super) fn for_script(&self, script: Option<Script>) -> OpenTypeFont<'a> {
+    /// The font as it is for texts with these tags of OpenType.
+    pub(super) fn for_tags(&self, tags: TextTags) -> OpenTypeFont<'a> {
         OpenTypeFont {
             face: self.face,
-            script,
+            tags,
         }
     }
 }

@@ -6,6 +6,7 @@ use super::steps::{Steps, Told};
 use super::{Face, Replacements, SerializeFlags, ShapePlan};
 use crate::buffer::{Buffer, GlyphInfo, GlyphPosition, Script};
 pub use crate::generated::opentype_font::font::OpenTypeFont;
+use crate::language::text_tags;
 use crate::ot_shape;
 use crate::ot_shape_normalize::NormalizeFont;
 use crate::ot_shape_position::MetricsFont;
@@ -17,7 +18,7 @@ use core::fmt;
 impl<'a> Face<'a> {
     /// The face as the hooks and `ot_shape` read it, for texts of a script.
     pub fn font(&self, script: Option<Script>) -> OpenTypeFont<'a> {
-        self.for_script(script)
+        self.for_tags(text_tags(script, None))
     }
 }
 
@@ -83,7 +84,7 @@ impl ShapePlan {
     ) -> Result<(), CallError> {
         let is_scaled = &Cell::new(false);
         let steps = Steps {
-            font: &face.for_script(self.script()),
+            font: &face.for_tags(self.tags),
             plan: &self.plan,
             not_found: replacements.not_found,
             scale: face.scale,

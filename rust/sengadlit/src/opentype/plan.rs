@@ -4,17 +4,21 @@ use super::{Face, Feature};
 use crate::alloc::Global;
 use crate::buffer::{Direction, Script, ShaperError};
 use crate::generated::opentype_font::script_features::ScriptFeatures;
+use crate::generated::opentype_font::text_tags::TextTags;
+use crate::language::{Language, text_tags};
 use crate::ot_shape_normalize::Rounds;
 use crate::ot_shape_plan::{self, ShapeChoices};
 use crate::plan::{BaseSearch, BreakFlags};
 
-/// What a face, a script, a direction and the user's features decide before a text is seen. It serves
-/// every text of this script and direction, in this face.
+/// What a face, a script, a language, a direction and the user's features decide before a text is seen.
+/// It serves every text of this script, language and direction, in this face.
 #[derive(Debug)]
 pub struct ShapePlan {
     pub(super) plan: ot_shape_plan::ShapePlan,
     pub(super) rounds: Rounds,
+    pub(super) tags: TextTags,
     script: Option<Script>,
+    language: Option<Language>,
 }
 
 impl ShapePlan {
@@ -27,10 +31,12 @@ impl ShapePlan {
         face: &Face<'_>,
         direction: Direction,
         script: Option<Script>,
+        language: Option<&Language>,
         features: &[Feature],
     ) -> Self {
         let builder = ShapePlan::builder().direction(direction).script(script);
         builder
+            .language(language.copied())
             .features(features)
             .build(face)
             .expect("memory isn't refused")
@@ -50,12 +56,19 @@ impl ShapePlan {
     pub fn script(&self) -> Option<Script> {
         self.script
     }
+
+    /// The language of the texts.
+    pub fn language(&self) -> Option<Language> {
+        self.language
+    }
 }
 
-/// Makes a [`ShapePlan`]. What isn't set is as in HarfBuzz: no script, left to right, no features.
+/// Makes a [`ShapePlan`]. What isn't set is as in HarfBuzz: no script, no language,
+/// left to right, no features.
 #[derive(Clone, Copy, Debug)]
 pub struct ShapePlanBuilder<'f> {
     script: Option<Script>,
+    language: Option<Language>,
     direction: Direction,
     features: &'f [Feature],
     choices: ShapeChoices,
@@ -66,6 +79,7 @@ impl Default for ShapePlanBuilder<'_> {
     fn default() -> Self {
         ShapePlanBuilder {
             script: None,
+            language: None,
             direction: Direction::LeftToRight,
             features: &[],
             choices: ShapeChoices::default(),
@@ -80,6 +94,15 @@ impl ShapePlanBuilder<'_> {
     pub fn script(self, script: impl Into<Option<Script>>) -> Self {
         ShapePlanBuilder {
             script: script.into(),
+            ..self
+        }
+    }
+
+    /// The language of the texts.
+    #[must_use]
+    pub fn language(self, language: impl Into<Option<Language>>) -> Self {
+        ShapePlanBuilder {
+            language: language.into(),
             ..self
         }
     }
@@ -122,9 +145,10 @@ impl ShapePlanBuilder<'_> {
     ///
     /// [`ShaperError::Memory`].
     pub fn build(self, face: &Face<'_>) -> Result<ShapePlan, ShaperError> {
-        let font = face.for_script(self.script);
+        let tags = text_tags(self.script, self.language.as_ref());
+        let font = face.for_tags(tags);
         let (gsub, gpos) = (face.face.gsub, face.face.gpos);
-        let features = ScriptFeatures::new(gsub, gpos, self.script, Global)?;
+        let features = ScriptFeatures::new(gsub, gpos, &tags, Global)?;
         let plan = ot_shape_plan::ShapePlan::with_choices(
             Global,
             self.script,
@@ -137,7 +161,9 @@ impl ShapePlanBuilder<'_> {
         Ok(ShapePlan {
             plan,
             rounds: self.rounds,
+            tags,
             script: self.script,
+            language: self.language,
         })
     }
 }

@@ -53,7 +53,8 @@ pub fn try_shape(
     text.guess_segment_properties();
     let builder = ShapePlan::builder()
         .direction(text.direction())
-        .script(text.script());
+        .script(text.script())
+        .language(text.language());
     match builder.features(features).build(face) {
         Ok(plan) => try_shape_with_plan(face, &plan, text),
         Err(refusal) => Err(ShapeError {
@@ -118,7 +119,8 @@ pub fn try_shape_with_cache(
     mut text: UnicodeBuffer,
 ) -> Result<GlyphBuffer, ShapeError> {
     text.guess_segment_properties();
-    match cache.plan(face, text.direction(), text.script(), features) {
+    let (direction, script, language) = (text.direction(), text.script(), text.language());
+    match cache.plan(face, direction, script, language, features) {
         Ok(plan) => try_shape_with_plan(face, plan, text),
         Err(refusal) => Err(ShapeError {
             error: refusal.into(),
@@ -156,7 +158,7 @@ fn shape_and_tell(
     mut text: UnicodeBuffer,
     told: Told<'_>,
 ) -> Result<GlyphBuffer, ShapeError> {
-    let font = face.for_script(plan.script());
+    let font = face.for_tags(plan.tags);
     let buffer = &mut text.buffer;
     buffer.set_direction(plan.direction());
     buffer.set_script(plan.script());

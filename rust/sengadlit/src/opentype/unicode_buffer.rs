@@ -7,6 +7,7 @@ use crate::buffer::{
 };
 use crate::font::GlyphId;
 use crate::generated::shapers_buffer::buffer::least_cluster;
+use crate::language::Language;
 use crate::ot_shape_prepare::set_unicode_properties;
 use crate::unicode::UnicodeTables;
 use core::fmt::{self, Write};
@@ -19,6 +20,7 @@ use rust_alloc::string::String;
 pub struct UnicodeBuffer {
     pub(super) buffer: Buffer,
     pub(super) replacements: Replacements,
+    language: Option<Language>,
 }
 
 impl UnicodeBuffer {
@@ -29,6 +31,7 @@ impl UnicodeBuffer {
         UnicodeBuffer {
             buffer,
             replacements: Replacements::default(),
+            language: None,
         }
     }
 
@@ -142,6 +145,17 @@ impl UnicodeBuffer {
         self.buffer.set_script(Some(script));
     }
 
+    /// The text's language, if one is set.
+    pub fn language(&self) -> Option<Language> {
+        self.language
+    }
+
+    /// Sets the text's language. Where none is set, the text gets what fonts have for all languages; the
+    /// locale is never asked.
+    pub fn set_language(&mut self, language: Language) {
+        self.language = Some(language);
+    }
+
     /// Sets the script, where none is set, to that of the first character that has one of its own, and
     /// then the direction, where none is set, to that of the script (HarfBuzz's
     /// `hb_buffer_guess_segment_properties`).
@@ -250,6 +264,7 @@ impl UnicodeBuffer {
     pub fn clear(&mut self) {
         self.buffer.clear();
         self.buffer.set_direction(Direction::Invalid);
+        self.language = None;
     }
 }
 
@@ -268,6 +283,7 @@ impl fmt::Debug for UnicodeBuffer {
         f.debug_struct("UnicodeBuffer")
             .field("direction", &self.direction())
             .field("script", &self.script())
+            .field("language", &self.language())
             .field("characters", &DebugList(characters.clone()))
             .finish_non_exhaustive()
     }

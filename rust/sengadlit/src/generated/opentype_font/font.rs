@@ -5,19 +5,20 @@
 use crate::generated::opentype_face::face::Face;
 use crate::generated::opentype_face::metrics::{advance, vertical_origin};
 use crate::generated::opentype_font::script_features::has_feature;
+use crate::generated::opentype_font::text_tags::TextTags;
 use crate::generated::opentype_font::would_apply::would_apply;
-use crate::generated::shapers_base::buffer::{Script, Tag};
+use crate::generated::shapers_base::buffer::Tag;
 use crate::generated::shapers_base::font::{Font, GlyphId};
 use crate::generated::shapers_normalize::NormalizeFont;
 use crate::generated::shapers_position::ot_shape_position::MetricsFont;
 
-/// A face, for texts of a script.
+/// A face, for texts of a script and a language.
 #[derive(Clone, Copy, Debug)]
 pub struct OpenTypeFont<'a> {
     /// The face.
     pub face: Face<'a>,
-    /// The script of the texts, if it is known.
-    pub script: Option<Script>,
+    /// The tags of the texts' script and language.
+    pub tags: TextTags,
 }
 
 // How far a glyph moves the pen in vertical text: as high as a line is where the font has no vertical
@@ -56,8 +57,7 @@ impl<'a> Font for OpenTypeFont<'a> {
     }
 
     fn has_feature(&self, tag: Tag) -> bool {
-        has_feature(self.face.gsub, self.script, tag)
-            || has_feature(self.face.gpos, self.script, tag)
+        has_feature(self.face.gsub, &self.tags, tag) || has_feature(self.face.gpos, &self.tags, tag)
     }
 }
 

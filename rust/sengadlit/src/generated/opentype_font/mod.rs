@@ -5,4 +5,5 @@
 pub mod font;
 pub mod lookups;
 pub mod script_features;
+pub mod text_tags;
 pub mod would_apply;
