@@ -1,14 +1,13 @@
 -- The features of a font's two tables, as a plan reads them.
-use Rattle.std.specs.Prelude.{ℕ, ◌+◌, ◌*◌, ◌/◌, ◌%◌, ◌==◌, not, min, Bool, false, List, [], ◌∷◌, length, map, slice_index, slice_index_or, option_map, is_some, Option, None, Some, if◌then◌else◌}
+use Rattle.std.specs.Prelude.{ℕ, ◌+◌, ◌*◌, ◌/◌, ◌%◌, ◌==◌, not, min, Bool, false, List, [], ◌∷◌, length, map, slice_index_or, option_map, is_some, Option, None, Some, if◌then◌else◌}
 use Rattle.std.specs.List.{range_with_len}
 use Rattle.std.specs.Option.{option_map_or}
 use Rattle.shapers_base.specs.Map.{of_gsub, same_tag}
-use Rattle.shapers_buffer.specs.declared.buffer.tag.Script.{Script}
 use Rattle.shapers_buffer.specs.declared.buffer.tag.hb_tag_t.{hb_tag_t}
 use Rattle.shapers_plan.specs.FontFeatures.{FontTables}
 use Rattle.opentype_face.specs.Bytes.{u16_in}
 use Rattle.opentype_face.specs.Firsts.{first_from}
-use Rattle.opentype_layout.specs.Features.{any_feature_in, chosen_script_in, feature_in, feature_table_in, feature_tag_in, lookup_count_in, nth_lookup_in, required_in, script_table_in, script_tags_in, system_in}
+use Rattle.opentype_layout.specs.Features.{any_feature_in, chosen_script_in, feature_in, feature_table_in, feature_tag_in, lookup_count_in, nth_lookup_in, required_in, script_table_in, system_in}
 use Rattle.opentype_layout.specs.declared.features.Chosen.{Chosen}
 use Rattle.opentype_font.specs.declared.script_features.ListedFeature.{ListedFeature}
 use Rattle.opentype_font.specs.declared.script_features.TableFeatures.{TableFeatures}

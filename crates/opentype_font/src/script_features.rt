@@ -4,7 +4,7 @@ ghost use Rattle.shapers_base.specs.Map.{of_gsub};
 ghost use Rattle.shapers_buffer.specs.declared.buffer.refusal.ShaperError.TheVariants.{Memory};
 ghost use Rattle.opentype_layout.specs.Features.{substitutions_in};
 ghost use Rattle.opentype_font.specs.ScriptFeatures.{feature_in_list, feature_view, features_in_system, features_view, has_feature_in, lookup_numbers, lookups_by, system_for, table_view, tag_by, tagged_lookups};
-ghost use Rattle.opentype_font.specs.TextTags.{number_by, tags_of};
+ghost use Rattle.opentype_font.specs.TextTags.{tags_of};
 
 use crate::text_tags::{TextTags, number_of};
 use opentype_face::bytes::u16_at;

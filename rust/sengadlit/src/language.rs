@@ -112,35 +112,19 @@ pub(crate) fn text_tags(script: Option<Script>, language: Option<&Language>) -> 
     }
 }
 
-/// Parts a tag: what stands before its extensions, which begin with a subtag of one letter, and the
-/// private subtags.
+/// Parts a tag: what stands before its extensions, each of which begins with a subtag of one letter, and
+/// the private subtags behind an `x`.
 fn split_private(text: &str) -> (&str, &str) {
     if text.starts_with("x-") {
         return ("", text);
     }
-    let mut public = text;
-    for (place, subtag) in places_of_subtags(text).skip(1) {
-        let is_last = place + subtag.len() == text.len();
-        if subtag.len() != 1 || is_last {
-            continue;
-        }
-        if public.len() == text.len() {
-            public = &text[..place - 1];
-        }
-        if subtag == "x" {
-            return (public, &text[place..]);
-        }
-    }
-    (public, "")
-}
-
-/// The subtags of a text, each with its place.
-fn places_of_subtags(text: &str) -> impl Iterator<Item = (usize, &str)> {
-    text.split('-').scan(0, |next, subtag| {
-        let place = *next;
-        *next += subtag.len() + 1;
-        Some((place, subtag))
-    })
+    let extension = |begins: fn(u8) -> bool| {
+        let mut places = text.as_bytes().windows(3);
+        places.position(|part| part[0] == b'-' && begins(part[1]) && part[2] == b'-')
+    };
+    let public = extension(|_| true).map_or(text, |place| &text[..place]);
+    let private = extension(|letter| letter == b'x').map_or("", |place| &text[place + 1..]);
+    (public, private)
 }
 
 /// The tag of OpenType that private subtags have behind a prefix: eight hexadecimal digits behind `-`,

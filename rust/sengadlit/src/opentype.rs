@@ -13,7 +13,7 @@
 //! ```
 //!
 //! The names are rustybuzz's. What isn't done: variations (a variable font is shaped at its default
-//! instance), AAT and Graphite, languages, and texts of several fonts, scripts or directions, which
+//! instance), AAT and Graphite, and texts of several fonts, scripts, languages or directions, which
 //! callers split.
 
 mod cache;

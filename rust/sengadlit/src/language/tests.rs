@@ -218,3 +218,24 @@ fn what_is_no_tag_is_refused() {
 fn the_languages_stand_in_order() {
     assert!(tags::LANGUAGES.is_sorted_by(|(one, _), (next, _)| one <= next));
 }
+
+/// What checks/languages has HarfBuzz say of many languages: lines of a language, the tags of its script and
+/// its own, as `sr ; ; 53524220`.
+#[test]
+fn harfbuzz_has_the_same_tags() {
+    let Some(path) = std::env::var_os("SENGADLIT_LANGUAGES") else {
+        return;
+    };
+    let hexadecimal = |tags: TagList| -> String {
+        let tags = tags.as_slice().iter();
+        tags.map(|tag| format!("{tag:08x} ")).collect()
+    };
+    let lines = std::fs::read_to_string(path).unwrap();
+    for line in lines.lines() {
+        let (text, _) = line.split_once(" ; ").unwrap();
+        let tags = text_tags(None, Some(&text.parse().unwrap()));
+        let (scripts, languages) = (hexadecimal(tags.scripts), hexadecimal(tags.languages));
+        assert_eq!(format!("{text} ; {scripts}; {languages}"), line);
+    }
+    std::println!("{} languages compared", lines.lines().count());
+}
