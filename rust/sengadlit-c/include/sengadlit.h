@@ -663,9 +663,12 @@ typedef enum sengadlit_buffer_cluster_level_t {
     SENGADLIT_BUFFER_CLUSTER_LEVEL_MAX_VALUE = 0x7FFFFFFF
 } sengadlit_buffer_cluster_level_t;
 
-/* As hb_buffer_flags_t: its other flags may be set too, and change nothing. The first two, of which PRESERVE counts where both
-   are set, are read by the calls that shape whole texts. */
+/* As hb_buffer_flags_t: its other flags may be set too, and change nothing. The first four are read by the calls that shape whole
+   texts: at the beginning of a paragraph a mark that nothing carries gets a dotted circle, nothing depends on the end, and of the
+   other two PRESERVE counts where both are set. */
 enum {
+    SENGADLIT_BUFFER_FLAG_BOT = 0x01,
+    SENGADLIT_BUFFER_FLAG_EOT = 0x02,
     SENGADLIT_BUFFER_FLAG_PRESERVE_DEFAULT_IGNORABLES = 0x04,
     SENGADLIT_BUFFER_FLAG_REMOVE_DEFAULT_IGNORABLES = 0x08,
     SENGADLIT_BUFFER_FLAG_DO_NOT_INSERT_DOTTED_CIRCLE = 0x10,
@@ -812,6 +815,10 @@ sengadlit_status_t sengadlit_buffer_add_utf16(sengadlit_buffer_t *buffer, const 
                                               unsigned int item_offset, int item_length);
 sengadlit_status_t sengadlit_buffer_add_utf32(sengadlit_buffer_t *buffer, const uint32_t *text, int text_length,
                                               unsigned int item_offset, int item_length);
+
+/* Adds a character, of a cluster that the caller chooses, as hb_buffer_add. ARGUMENT: GLYPH_ID, not a scalar value; CONTENT: the
+   buffer has glyphs; and for a null buffer. MEMORY, TOO_LONG as above. */
+sengadlit_status_t sengadlit_buffer_add(sengadlit_buffer_t *buffer, uint32_t unicode, uint32_t cluster);
 
 /* ARGUMENT: PROPERTIES, DIRECTION, CLUSTER_LEVEL, and for a null buffer. */
 sengadlit_status_t sengadlit_buffer_set_properties(sengadlit_buffer_t *buffer, const sengadlit_buffer_properties_t *properties);
@@ -1176,6 +1183,18 @@ sengadlit_bool_t sengadlit_face_get_variation_glyph(const sengadlit_face_t *face
                                                     uint32_t *glyph);
 /* In font units. */
 int32_t sengadlit_face_get_glyph_h_advance(const sengadlit_face_t *face, uint32_t glyph);
+/* Whether the font has axes, of which the default instance is taken. */
+sengadlit_bool_t sengadlit_face_is_variable(const sengadlit_face_t *face);
+/* As hb_glyph_extents_t: the box around a glyph, in font units, from its top left corner; the height is mostly negative. */
+typedef struct sengadlit_glyph_extents_t {
+    int32_t x_bearing;
+    int32_t y_bearing;
+    int32_t width;
+    int32_t height;
+} sengadlit_glyph_extents_t;
+/* Writes the box of a glyph of the table glyf, unless `extents` is null, and returns whether there is one. */
+sengadlit_bool_t sengadlit_face_get_glyph_extents(const sengadlit_face_t *face, uint32_t glyph,
+                                                  sengadlit_glyph_extents_t *extents);
 /* Writes the name that the table post has for a glyph, as much of it as has room in `size` bytes with a zero behind it, and
    returns whether there is one. `name` may be null if `size` is 0. */
 sengadlit_bool_t sengadlit_face_get_glyph_name(const sengadlit_face_t *face, uint32_t glyph, char *name, unsigned int size);
@@ -1206,10 +1225,20 @@ typedef struct sengadlit_shape_options_t {
     sengadlit_bool_t searches_medials;
     sengadlit_bool_t normalizes_always; /* Whether letters compose in a text without marks too, so that a letter is the same in a
                                         short text and in a long one. */
+    uint32_t invisible_glyph;        /* For characters that aren't drawn; 0: the font's space, or nothing. These three are at most
+                                        65535. */
+    uint32_t not_found_glyph;        /* For characters that the font lacks. */
+    uint32_t not_found_selector_glyph; /* For variation selectors that select nothing; 0: they aren't drawn. */
     const sengadlit_font_t *font;    /* Its nominal_glyph and glyph_h_advance, where there are, in the place of the face's: widths
                                         by hinting, or another cmap. In font units. Null: the face's own. */
     sengadlit_plan_cache_t *cache;   /* Null: a plan is made for the call. */
 } sengadlit_shape_options_t;
+
+/* Reads a feature as hb_feature_from_string, `kern`, `-liga`, `aalt[3:5]=2`, of a text of `length` bytes, or with -1 of one that
+   ends with a zero; returns whether it is one, and writes it unless `feature` is null. */
+sengadlit_bool_t sengadlit_user_feature_from_string(const char *string, int length, sengadlit_user_feature_t *feature);
+/* Writes a feature as that reads it, as much of it as has room in `size` bytes with a zero behind it; 128 are enough. */
+void sengadlit_user_feature_to_string(const sengadlit_user_feature_t *feature, char *string, unsigned int size);
 
 /* Shapes a text, which replaces that of the buffer: `text_length` units, or with -1 those before the first zero, decoded as
    sengadlit_buffer_add_utf8 and its siblings do. The glyphs have positions and are in the order in which they are drawn. Script
@@ -1229,11 +1258,19 @@ sengadlit_status_t sengadlit_shape_utf32(const sengadlit_face_t *face, const uin
 sengadlit_status_t sengadlit_shape_buffer(const sengadlit_face_t *face, const sengadlit_shape_options_t *options,
                                           sengadlit_buffer_t *buffer);
 
+/* As hb_buffer_serialize_format_t. */
+typedef enum sengadlit_serialize_format_t {
+    SENGADLIT_SERIALIZE_FORMAT_TEXT = 0x54455854,
+    SENGADLIT_SERIALIZE_FORMAT_JSON = 0x4A534F4E,
+    SENGADLIT_SERIALIZE_FORMAT_MAX_VALUE = 0x7FFFFFFF
+} sengadlit_serialize_format_t;
+
 /* As hb_buffer_serialize_flags_t. */
 enum {
     SENGADLIT_SERIALIZE_FLAG_NO_CLUSTERS = 0x01,
     SENGADLIT_SERIALIZE_FLAG_NO_POSITIONS = 0x02,
     SENGADLIT_SERIALIZE_FLAG_NO_GLYPH_NAMES = 0x04,
+    SENGADLIT_SERIALIZE_FLAG_GLYPH_EXTENTS = 0x08,
     SENGADLIT_SERIALIZE_FLAG_GLYPH_FLAGS = 0x10,
     SENGADLIT_SERIALIZE_FLAG_NO_ADVANCES = 0x20
 };
@@ -1241,9 +1278,10 @@ enum {
 /* Writes the text of the buffer in one line, as hb-shape does: glyphs as [gid3=0+563|gid9=1@10,0+0], by the names of a face, which
    may be null; characters, by the content type, as <U+0E01=0|U+0E33=3>. As with snprintf, as much of it is written as has room in
    `size` bytes with a zero behind it, and `length`, which may be null, gets the length of all. `text` may be null if `size` is 0.
-   ARGUMENT: OPTIONS, another flag; and for a null buffer. */
-sengadlit_status_t sengadlit_buffer_serialize(sengadlit_buffer_t *buffer, const sengadlit_face_t *face, uint32_t flags, char *text,
-                                              size_t size, size_t *length);
+   ARGUMENT: OPTIONS, another format or flag; and for a null buffer. */
+sengadlit_status_t sengadlit_buffer_serialize(sengadlit_buffer_t *buffer, const sengadlit_face_t *face,
+                                              sengadlit_serialize_format_t format, uint32_t flags, char *text, size_t size,
+                                              size_t *length);
 
 /* ---- Carets and edits ---- */
 

@@ -238,6 +238,26 @@ impl Buffer {
         Ok(())
     }
 
+    /// Adds a character of a cluster, with what Unicode says of it; no position stays.
+    pub fn push(&mut self, unicode: u32, cluster: u32) -> Result<(), Error> {
+        if self.content == Content::Glyphs {
+            return Err(Error::argument(Argument::Content));
+        }
+        let character =
+            char::from_u32(unicode).ok_or_else(|| Error::argument(Argument::GlyphId))?;
+        let place = self.text.len();
+        if u32::try_from(place + 1).is_err() {
+            return Err(ShaperError::TooLong.into());
+        }
+        self.text.set_len(place + 1)?;
+        self.text.with_glyphs_mut(|glyphs| {
+            glyphs[place] = GlyphInfo::from_character(character, cluster, &UnicodeTables);
+        });
+        self.set_content(Content::Characters);
+        self.clear_positions();
+        Ok(())
+    }
+
     /// Adds the glyphs of another text from `start` to `end`, as HarfBuzz's `hb_buffer_append`: with their positions, and for
     /// characters with what stands around them as the context.
     pub fn append(&mut self, source: &Buffer, start: usize, end: usize) -> Result<(), Error> {
@@ -369,28 +389,12 @@ impl Buffer {
         units: &[U],
         shape: impl FnOnce(&mut Inner) -> Result<Segment, Error>,
     ) -> Result<(), Error> {
-        let spare = &mut self.spare;
-        spare.clear();
-        spare.set_properties(&BufferSettings {
-            flags: self.text.settings().flags,
-            cluster_level: self.text.settings().cluster_level,
-            ..BufferSettings::new(self.text.max_length())
-        });
-        add(spare, units, 0..units.len())?;
-        let (segment, positions) = spare.run(Takes::Numbers, |text| {
-            let segment = shape(text)?;
-            Ok((segment, text.take_positions()))
-        })?;
-        let shaped = self.spare.glyphs();
-        self.text.set_len(shaped.len())?;
-        self.text
-            .with_glyphs_mut(|glyphs| glyphs.copy_from_slice(shaped));
+        self.empty_spare();
+        add(&mut self.spare, units, 0..units.len())?;
+        self.take_shaped(shape)?;
         self.text.set_pre_context(&[]);
         self.text.set_post_context(&[]);
         self.text.set_state(false, false);
-        self.positions = positions;
-        self.set_segment(segment);
-        self.set_complete();
         Ok(())
     }
 
@@ -402,8 +406,49 @@ impl Buffer {
         shape: impl FnOnce(Segment, &mut Inner) -> Result<Segment, Error>,
     ) -> Result<(), Error> {
         self.are_characters()?;
+        if !self.positions.is_empty() {
+            return Err(Error::argument(Argument::Positions));
+        }
         let known = self.segment();
-        let segment = self.run_to_positions(Takes::Numbers, |text| shape(known, text))?;
+        self.empty_spare();
+        let characters = self.text.glyphs();
+        self.spare.set_len(characters.len())?;
+        self.spare
+            .with_glyphs_mut(|glyphs| glyphs.copy_from_slice(characters));
+        let (before, after) = self.text.contexts();
+        self.spare.set_pre_context(before);
+        self.spare.set_post_context(after);
+        self.take_shaped(|text| shape(known, text))
+    }
+
+    // Makes room for another text with the level, flags and greatest length of this one.
+    #[cfg(feature = "opentype")]
+    fn empty_spare(&mut self) {
+        let settings = self.text.settings();
+        self.spare.clear();
+        self.spare.set_properties(&BufferSettings {
+            flags: settings.flags,
+            cluster_level: settings.cluster_level,
+            ..BufferSettings::new(self.text.max_length())
+        });
+    }
+
+    // Shapes the spare text, whose glyphs and positions are then the buffer's, with the script and direction.
+    #[cfg(feature = "opentype")]
+    fn take_shaped(
+        &mut self,
+        shape: impl FnOnce(&mut Inner) -> Result<Segment, Error>,
+    ) -> Result<(), Error> {
+        let (segment, positions) = self.spare.run(Takes::Numbers, |text| {
+            let segment = shape(text)?;
+            Ok((segment, text.take_positions()))
+        })?;
+        let shaped = self.spare.glyphs();
+        // (an array that is lent may have no room for them)
+        self.text.set_len(shaped.len())?;
+        self.text
+            .with_glyphs_mut(|glyphs| glyphs.copy_from_slice(shaped));
+        self.positions = positions;
         self.set_segment(segment);
         self.set_complete();
         Ok(())

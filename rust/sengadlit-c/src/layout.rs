@@ -1,6 +1,8 @@
 //! The structs of the header that hold numbers alone, and the layout of all of them. Glyphs, positions and spans are the
 //! crate's own structs, whose layout is C's and whose fields may hold any number.
 use crate::numbers::tag;
+#[cfg(feature = "opentype")]
+use crate::numbers::tag_number;
 use core::ffi::{c_int, c_uint};
 use core::mem::size_of;
 use sengadlit::ot_shape_plan::{StageLookup, UserFeature as Wanted};
@@ -76,6 +78,18 @@ pub struct UserFeature {
     pub value: u32,
     pub start: u32,
     pub end: u32,
+}
+
+#[cfg(feature = "opentype")]
+impl From<Wanted> for UserFeature {
+    fn from(wanted: Wanted) -> Self {
+        UserFeature {
+            tag: tag_number(wanted.tag),
+            value: wanted.value,
+            start: wanted.start,
+            end: wanted.end,
+        }
+    }
 }
 
 impl UserFeature {

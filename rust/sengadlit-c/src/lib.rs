@@ -4,6 +4,10 @@
 //! pointers into references, call back, and catch panics. The other modules are safe: numbers, outcomes, layouts, and the
 //! hooks themselves.
 #![deny(unsafe_code)]
+#![cfg_attr(
+    not(feature = "opentype"),
+    allow(dead_code, reason = "what faces alone take stays where it is")
+)]
 #![warn(missing_docs)]
 
 mod border;

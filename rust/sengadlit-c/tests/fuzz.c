@@ -250,6 +250,7 @@ static void write_text(sengadlit_buffer_t *buffer)
 
     if (!glyphs && !is_lent) abort();
     if (!glyphs) return;
+    (void)sengadlit_buffer_set_content_type(buffer, SENGADLIT_BUFFER_CONTENT_TYPE_INVALID);
     for (unsigned int i = 0; i < length; i++) write_glyph(&glyphs[i], i);
     if (next() % 4 == 1) add_text(buffer);
 }
@@ -341,12 +342,123 @@ static void edit(void)
     if (left.front > front || left.back > back) abort();
 }
 
+/* ---- Faces: the font of which SENGADLIT_FONT is the file's name, with some bytes spoilt; without it bytes of the input ---- */
+
+static unsigned char font_bytes[1 << 16];
+static size_t font_length;
+
+static void read_font(void)
+{
+    const char *path = getenv("SENGADLIT_FONT");
+    FILE *file = path && font_length == 0 ? fopen(path, "rb") : NULL;
+
+    if (!file) return;
+    font_length = fread(font_bytes, 1, sizeof font_bytes, file);
+    fclose(file);
+}
+
+static void count_destroyed(void *user_data) { ++*(unsigned int *)user_data; }
+
+static sengadlit_face_t *make_face(unsigned int *destroyed)
+{
+    static unsigned char spoilt[sizeof font_bytes];
+    size_t length = font_length;
+    sengadlit_error_t error;
+
+    read_font();
+    memcpy(spoilt, font_bytes, font_length);
+    for (unsigned int i = next() % 8; i > 0 && font_length > 0; i--) spoilt[next_word() % font_length] = next();
+    while (font_length == 0 && length < 64) spoilt[length++] = next();
+    *destroyed = 0;
+    sengadlit_face_t *face = sengadlit_face_create(spoilt, length, 0, destroyed, count_destroyed, &error);
+    if (!face && (error.status != SENGADLIT_ARGUMENT || error.argument != SENGADLIT_ARGUMENT_DATA || *destroyed != 1)) abort();
+    if (face && sengadlit_face_count(spoilt, length) == 0) abort();
+    return face;
+}
+
+static void ask_face(const sengadlit_face_t *face)
+{
+    sengadlit_glyph_extents_t box;
+    char name[9];
+    uint32_t glyph = next_word() % 70000;
+
+    (void)sengadlit_face_get_nominal_glyph(face, firsts[place] + next(), &glyph);
+    (void)sengadlit_face_get_variation_glyph(face, firsts[place] + next(), 0xFE00 + next() % 16, &glyph);
+    (void)sengadlit_face_get_glyph_h_advance(face, glyph);
+    (void)sengadlit_face_get_glyph_extents(face, glyph, &box);
+    if (sengadlit_face_get_glyph_name(face, glyph, name, sizeof name) && strlen(name) >= sizeof name) abort();
+    if (face && sengadlit_face_get_font(face)->funcs->would_substitute((void *)(uintptr_t)face, (uint16_t[]){next()}, 1,
+              &glyph, 1, 0) > 1)
+        abort();
+}
+
+static sengadlit_status_t shape_by_face(sengadlit_buffer_t *buffer, const sengadlit_font_t *own)
+{
+    static const char *const texts[] = {"Tofi", "\u0644\u0627\u0628", "\u0915\u094D\u0937\u093F", "\u1781\u17D2\u1798\u17C2",
+              "\u0E1B\u0E48\u0E33", ""};
+    sengadlit_shape_options_t options = SENGADLIT_INIT(sengadlit_shape_options_t);
+    unsigned int destroyed;
+    uint8_t how = next();
+    sengadlit_face_t *face = make_face(&destroyed);
+    sengadlit_user_feature_t feature = {SENGADLIT_TAG('l', 'i', 'g', 'a'), next() % 3, next() % 8, next() % 16};
+
+    ask_face(face);
+    options.direction = (sengadlit_direction_t)(how % 9);
+    options.features = &feature;
+    options.features_length = how >> 4 & 1;
+    options.not_found_glyph = next() % 16;
+    options.font = how & 32 ? own : NULL;
+    options.cache = how & 64 ? sengadlit_plan_cache_create() : NULL;
+    sengadlit_status_t status = how & 128 ? sengadlit_shape_buffer(face, &options, buffer)
+                                          : sengadlit_shape_utf8(face, texts[next() % 6], -1, &options, buffer);
+    if (sengadlit_plan_cache_get_length(options.cache) > 1) abort();
+    sengadlit_plan_cache_destroy(options.cache);
+    sengadlit_face_destroy(face);
+    if (face && destroyed != 1) abort();
+    return status;
+}
+
+/* What changes a text as a whole, or tells of it. */
+static sengadlit_status_t change_text(sengadlit_buffer_t *buffer)
+{
+    static char text[4096];
+    unsigned int start = next() % 8, end = next() % 12;
+    size_t length;
+    sengadlit_buffer_properties_t properties = SENGADLIT_INIT(sengadlit_buffer_properties_t);
+
+    switch (next() % 8) {
+    case 0: return sengadlit_buffer_reverse_range(buffer, start, end);
+    case 1: return sengadlit_buffer_reverse_clusters(buffer);
+    case 2: return start & 1 ? sengadlit_buffer_guess_properties(buffer) : sengadlit_buffer_add(buffer, next_word() % 0x120000,
+              end);
+    case 3: return sengadlit_buffer_set_content_type(buffer, (sengadlit_buffer_content_type_t)(next() % 4));
+    case 4: return sengadlit_buffer_get_properties(buffer, &properties);
+    case 5: {
+        sengadlit_buffer_t *other = sengadlit_buffer_create();
+        (void)sengadlit_buffer_append(other, buffer, end / 3, start);
+        if (sengadlit_buffer_get_content_type(other) != SENGADLIT_BUFFER_CONTENT_TYPE_INVALID)
+            (void)sengadlit_buffer_set_content_type(buffer, sengadlit_buffer_get_content_type(other));
+        sengadlit_status_t status = sengadlit_buffer_append(buffer, other, 0, sengadlit_buffer_get_length(other));
+        sengadlit_buffer_destroy(other);
+        return status;
+    }
+    case 6: {
+        sengadlit_status_t status = sengadlit_buffer_serialize(buffer, NULL,
+                  start & 1 ? SENGADLIT_SERIALIZE_FORMAT_JSON : SENGADLIT_SERIALIZE_FORMAT_TEXT,
+                                                               next(), text, end, &length);
+        if (status == SENGADLIT_DONE && end != 0 && strlen(text) != (length < end ? length : end - 1)) abort();
+        return status;
+    }
+    default: return sengadlit_buffer_reverse(buffer);
+    }
+}
+
 static sengadlit_status_t run_hook(const sengadlit_plan_t *plan, sengadlit_buffer_t *buffer)
 {
     sengadlit_bool_t constraints;
     unsigned int start = next() % 33;
 
-    switch (next() % 10) {
+    switch (next() % 12) {
     case 0: return sengadlit_preprocess_text(plan, &font, buffer, &constraints);
     case 1: return sengadlit_setup_masks(plan, start == 1 ? NULL : &tables, buffer);
     case 5: return run_found(plan, buffer);
@@ -354,6 +466,8 @@ static sengadlit_status_t run_hook(const sengadlit_plan_t *plan, sengadlit_buffe
     case 3: (void)sengadlit_buffer_get_glyph_positions(buffer, NULL); /* fall through */
     case 4: return sengadlit_postprocess_glyphs(plan, &font, buffer);
     case 6: return stop_carets(buffer);
+    case 7: return change_text(buffer);
+    case 8: return shape_by_face(buffer, &font);
     default: return run_pause(plan, buffer);
     }
 }

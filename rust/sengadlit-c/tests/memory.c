@@ -1,12 +1,15 @@
-/* Makes each call that wants memory, and prints what it leaves. Where a call is refused memory, nothing may be changed, and
+/* memory FONT: makes each call that wants memory, and prints what it leaves. Where a call is refused memory, nothing may be changed, and
    made again it must succeed: so the program prints the same whichever request is refused. Each refusal is told on
    stderr. */
+#define _POSIX_C_SOURCE 200809L
 #include "world.h"
 
+#include <fcntl.h>
 #include <inttypes.h>
 #include <stdio.h>
 #include <stdlib.h>
 #include <string.h>
+#include <unistd.h>
 
 /* ---- Calls ---- */
 
@@ -224,6 +227,60 @@ static sengadlit_status_t finish_by_fault(void)
     return leave_fault(&funcs, SENGADLIT_INTERNAL);
 }
 
+/* ---- By a face ---- */
+
+static unsigned char font[1 << 16];
+static size_t font_length;
+static sengadlit_face_t *face;
+static sengadlit_plan_cache_t *cache;
+
+static sengadlit_status_t make_face(void)
+{
+    face = sengadlit_face_create(font, font_length, 0, NULL, NULL, NULL);
+    return face ? SENGADLIT_DONE : SENGADLIT_MEMORY;
+}
+
+static sengadlit_status_t make_cache(void)
+{
+    cache = sengadlit_plan_cache_create();
+    return cache ? SENGADLIT_DONE : SENGADLIT_MEMORY;
+}
+
+static sengadlit_status_t shape_by_face(const char *text)
+{
+    const sengadlit_user_feature_t off = {SENGADLIT_TAG('l', 'i', 'g', 'a'), 0, 0, 2};
+    sengadlit_shape_options_t options = SENGADLIT_INIT(sengadlit_shape_options_t);
+
+    options.features = &off;
+    options.features_length = 1;
+    options.cache = cache;
+    return sengadlit_shape_utf8(face, text, -1, &options, world.buffer);
+}
+
+static sengadlit_status_t shape_latin(void) { return shape_by_face("fifi"); }
+static sengadlit_status_t shape_khmer(void) { return shape_by_face("\u1781\u17D2\u1798\u17C2\u179A"); }
+static sengadlit_status_t shape_syllables(void)
+{
+    return shape_by_face("\u0915\u094D\u0937\u093F\u0928\u094D\u0926\u0940 \u0930\u094D\u0915\u0930\u094D\u0915");
+}
+static sengadlit_status_t shape_without_cache(void)
+{
+    return sengadlit_shape_utf8(face, "Tofi", -1, NULL, world.buffer);
+}
+
+static sengadlit_status_t shape_own_text(void)
+{
+    sengadlit_buffer_t *buffer = sengadlit_buffer_create();
+    sengadlit_status_t status = SENGADLIT_MEMORY;
+
+    if (buffer && sengadlit_buffer_add_utf8(buffer, "\u0628\u0628", -1, 0, -1) == SENGADLIT_DONE)
+        status = sengadlit_shape_buffer(face, NULL, buffer);
+    if (status == SENGADLIT_DONE)
+        status = sengadlit_buffer_append(world.buffer, buffer, 0, sengadlit_buffer_get_length(buffer));
+    sengadlit_buffer_destroy(buffer);
+    return status;
+}
+
 /* ---- Arrays ---- */
 
 static sengadlit_glyph_info_t first[4], second[40], third[60];
@@ -381,7 +438,27 @@ static void try_whole(void)
     sengadlit_shape_plan_destroy(whole);
 }
 
-int main(void)
+static void try_face(const char *path)
+{
+    const int file = open(path, O_RDONLY);
+    const ssize_t length = file < 0 ? 0 : read(file, font, sizeof font);
+
+    font_length = length < 0 ? 0 : (size_t)length;
+    begin_world(SENGADLIT_SHAPER_THAI, SENGADLIT_TAG('T', 'h', 'a', 'i'), 0x0E01, 4);
+    try_call("face", make_face);
+    try_call("plan cache", make_cache);
+    try_call("shape Latin", shape_latin);
+    try_call("shape Latin again", shape_latin);
+    try_call("shape Khmer", shape_khmer);
+    try_call("shape Devanagari", shape_syllables);
+    try_call("shape without cache", shape_without_cache);
+    try_call("shape own text", shape_own_text);
+    printf("%u plans, complete: %d\n", sengadlit_plan_cache_get_length(cache) > 1, sengadlit_buffer_is_complete(world.buffer));
+    sengadlit_plan_cache_destroy(cache);
+    sengadlit_face_destroy(face);
+}
+
+int main(int argc, char **argv)
 {
     static char room[1 << 16]; /* So that printing wants no memory. */
 
@@ -393,6 +470,7 @@ int main(void)
     try_stretch();
     try_lent();
     try_whole();
+    if (argc > 1) try_face(argv[1]);
     end_world();
     return EXIT_SUCCESS;
 }

@@ -200,9 +200,9 @@ static void glyph_v_origin(void *user_data, uint32_t glyph, int32_t *x, int32_t 
 
 static const sengadlit_map_funcs_t map_funcs = {sizeof map_funcs, add_feature, add_gsub_pause};
 static const sengadlit_map_t map = {&map_funcs, NULL};
-static const sengadlit_lookups_funcs_t lookups_funcs = {sizeof lookups_funcs, variation_glyph, glyph_props, substitute,
-                                                         is_mark, position,
-                                                        finish_positions, glyph_v_advance, glyph_v_origin};
+static const sengadlit_lookups_funcs_t lookups_funcs = {sizeof lookups_funcs, variation_glyph,  glyph_props,
+                                                        substitute,           is_mark,          position,
+                                                        finish_positions,     glyph_v_advance,  glyph_v_origin};
 static const sengadlit_lookups_t lookups = {&lookups_funcs, NULL};
 static sengadlit_shape_plan_t *whole;
 
@@ -496,6 +496,76 @@ static void give_back(void)
     expect(given == NULL && error.status == SENGADLIT_IN_CALL && length == 77 && allocated == 77);
 }
 
+static void read_glyphs(void)
+{
+    unsigned int length = 77;
+
+    expect(sengadlit_buffer_read_glyphs(world.buffer, &length) == NULL && length == 77);
+}
+
+static void read_positions(void)
+{
+    unsigned int length = 77;
+
+    expect(sengadlit_buffer_read_positions(world.buffer, &length) == NULL && length == 77);
+}
+
+static void get_properties(void)
+{
+    sengadlit_buffer_properties_t found = {.size = sizeof found, .flags = 77};
+
+    expect_status(sengadlit_buffer_get_properties(world.buffer, &found));
+    check(made_by, !scene->is_on_buffer || found.flags == 77);
+}
+
+static void append_from(void)
+{
+    sengadlit_buffer_t *another = sengadlit_buffer_create();
+    const sengadlit_status_t status = sengadlit_buffer_append(another, world.buffer, 0, 1);
+
+    check(made_by, !scene->is_on_buffer || status == SENGADLIT_IN_CALL);
+    check(made_by, !scene->is_on_buffer || sengadlit_buffer_get_length(another) == 0);
+    sengadlit_buffer_destroy(another);
+}
+
+static void append_to(void)
+{
+    sengadlit_buffer_t *another = sengadlit_buffer_create();
+
+    expect_status(sengadlit_buffer_append(world.buffer, another, 0, 0));
+    sengadlit_buffer_destroy(another);
+}
+
+static void serialize(void)
+{
+    char text[4] = "???";
+    size_t length = 77;
+
+    expect_status(sengadlit_buffer_serialize(world.buffer, NULL, SENGADLIT_SERIALIZE_FORMAT_TEXT, 0, text, 4, &length));
+    check(made_by, !scene->is_on_buffer || (text[0] == '?' && length == 77));
+}
+
+static void add(void) { expect_status(sengadlit_buffer_add(world.buffer, 'a', 0)); }
+static void get_context(void) { expect_status(sengadlit_buffer_get_context(world.buffer, NULL, NULL, NULL, NULL)); }
+static void set_content(void) { expect_status(sengadlit_buffer_set_content_type(world.buffer,
+          SENGADLIT_BUFFER_CONTENT_TYPE_INVALID)); }
+static void reverse(void) { expect_status(sengadlit_buffer_reverse(world.buffer)); }
+static void reverse_range(void) { expect_status(sengadlit_buffer_reverse_range(world.buffer, 0, 0)); }
+static void reverse_clusters(void) { expect_status(sengadlit_buffer_reverse_clusters(world.buffer)); }
+static void guess(void) { expect_status(sengadlit_buffer_guess_properties(world.buffer)); }
+static void shape_utf8(void) { expect_status(sengadlit_shape_utf8(NULL, "a", -1, NULL, world.buffer)); }
+static void shape_utf16(void) { expect_status(sengadlit_shape_utf16(NULL, NULL, 0, NULL, world.buffer)); }
+static void shape_utf32(void) { expect_status(sengadlit_shape_utf32(NULL, NULL, 0, NULL, world.buffer)); }
+static void shape_buffer(void) { expect_status(sengadlit_shape_buffer(NULL, NULL, world.buffer)); }
+
+static void get_numbers(void)
+{
+    if (!scene->is_on_buffer) return;
+    check(made_by, sengadlit_buffer_get_length(world.buffer) == 0 && !sengadlit_buffer_is_complete(world.buffer));
+    check(made_by, sengadlit_buffer_get_content_type(world.buffer) == SENGADLIT_BUFFER_CONTENT_TYPE_INVALID);
+    check(made_by, sengadlit_buffer_get_grow_func(world.buffer, NULL) == NULL);
+}
+
 static void stop_carets(void) { expect(sengadlit_caret_stops(world.buffer, SENGADLIT_DIRECTION_LTR, NULL) == NULL); }
 static void merge_clusters(void) { expect_status(sengadlit_buffer_merge_clusters(world.buffer, 0, 1)); }
 static void flag_unsafe_to_break(void) { expect_status(sengadlit_buffer_unsafe_to_break(world.buffer, 0, 1)); }
@@ -539,6 +609,24 @@ static const struct intruder {
     {"lend", lend, 0},
     {"set_grow_func", set_grow_func, 0},
     {"give_back", give_back, 0},
+    {"add", add, 0},
+    {"read_glyphs", read_glyphs, 0},
+    {"read_positions", read_positions, 0},
+    {"get_properties", get_properties, 0},
+    {"append from", append_from, 0},
+    {"append to", append_to, 0},
+    {"serialize", serialize, 0},
+    {"get_context", get_context, 0},
+    {"set_content_type", set_content, 0},
+    {"reverse", reverse, 0},
+    {"reverse_range", reverse_range, 0},
+    {"reverse_clusters", reverse_clusters, 0},
+    {"guess_properties", guess, 0},
+    {"shape_utf8", shape_utf8, 0},
+    {"shape_utf16", shape_utf16, 0},
+    {"shape_utf32", shape_utf32, 0},
+    {"shape_buffer", shape_buffer, 0},
+    {"getters of numbers", get_numbers, 0},
     {"caret_stops", stop_carets, 0},
     {"merge_clusters", merge_clusters, 0},
     {"unsafe_to_break", flag_unsafe_to_break, 0},

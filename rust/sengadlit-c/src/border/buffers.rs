@@ -80,19 +80,21 @@ pub extern "C" fn sengadlit_buffer_get_length(buffer: Pointer) -> c_uint {
     buffer.call(|_| 0, |buffer| Ok(buffer.text.len() as c_uint))
 }
 
+// Where things stand, and how many; null where there are none.
+fn place<T>(things: &[T], length: Out<'_, c_uint>) -> *const T {
+    put(length, things.len() as c_uint);
+    match things {
+        [] => null(),
+        things => things.as_ptr(),
+    }
+}
+
 #[unsafe(no_mangle)]
 pub extern "C" fn sengadlit_buffer_read_glyphs(
     buffer: Pointer,
     length: Out<'_, c_uint>,
 ) -> *const GlyphInfo {
-    buffer.call(
-        |_| null(),
-        |buffer| {
-            let glyphs = buffer.text.glyphs();
-            put(length, glyphs.len() as c_uint);
-            Ok(glyphs.as_ptr())
-        },
-    )
+    buffer.call(|_| null(), |buffer| Ok(place(buffer.text.glyphs(), length)))
 }
 
 #[unsafe(no_mangle)]
@@ -102,11 +104,7 @@ pub extern "C" fn sengadlit_buffer_read_positions(
 ) -> *const GlyphPosition {
     buffer.call(
         |_| null(),
-        |buffer| {
-            let positions = buffer.positions_there();
-            put(length, positions.len() as c_uint);
-            Ok(positions.as_ptr())
-        },
+        |buffer| Ok(place(buffer.positions_there(), length)),
     )
 }
 
@@ -359,6 +357,11 @@ pub unsafe extern "C" fn sengadlit_buffer_set_context(
         (Some(before), Some(after)) => buffer.set_context(before, after),
         _ => Err(Error::argument(Argument::Context)),
     })
+}
+
+#[unsafe(no_mangle)]
+pub extern "C" fn sengadlit_buffer_add(buffer: Pointer, unicode: u32, cluster: c_uint) -> Status {
+    done(buffer, |buffer| buffer.push(unicode, cluster))
 }
 
 // The item of a text of so many units that begins at a place and has a length, with -1 all that is left.

@@ -11,13 +11,14 @@ use crate::plan_cache::PlanCache;
 use crate::serialize::{self, Format, Room};
 use crate::status::{Argument, Error, Status};
 use core::ffi::{c_char, c_int, c_uint, c_void};
+use core::fmt::Write as _;
 use core::mem::MaybeUninit;
 use core::ptr::{null, null_mut};
 use core::slice;
 use core::sync::atomic::Ordering::{AcqRel, Relaxed};
 use core::sync::atomic::{AtomicU64, AtomicUsize};
 use sengadlit::font::{Font as _, GlyphId};
-use sengadlit::opentype::{Face as Parsed, FaceError, SerializeFlags};
+use sengadlit::opentype::{Face as Parsed, FaceError, Feature, SerializeFlags};
 use sengadlit::ot_shape_normalize::NormalizeFont as _;
 
 // ---- Faces ----
@@ -371,6 +372,60 @@ pub unsafe extern "C" fn sengadlit_plan_cache_destroy(cache: *mut PlanCache) {
     }
 }
 
+// ---- Features as users write them ----
+
+/// # Safety
+///
+/// The text has the length beside it, or ends with a zero.
+#[unsafe(no_mangle)]
+pub unsafe extern "C" fn sengadlit_user_feature_from_string(
+    string: *const c_char,
+    length: c_int,
+    feature: Out<'_, UserFeature>,
+) -> Bool {
+    // SAFETY: a text of C's with its length, or one that ends with a zero.
+    let Ok(bytes) = (unsafe { text(string.cast::<u8>(), length) }) else {
+        return 0;
+    };
+    let read = core::str::from_utf8(bytes).ok().map(str::parse::<Feature>);
+    let Some(Ok(found)) = read else { return 0 };
+    put(feature, found.into());
+    1
+}
+
+/// # Safety
+///
+/// If `string` isn't null, there is room for so many bytes.
+#[unsafe(no_mangle)]
+pub unsafe extern "C" fn sengadlit_user_feature_to_string(
+    feature: Option<&UserFeature>,
+    string: *mut c_char,
+    size: c_uint,
+) {
+    if string.is_null() {
+        return;
+    }
+    // SAFETY: C's room.
+    let mut to = Room::new(unsafe { room(string, size as usize) });
+    if let Some(feature) = feature {
+        // (room refuses nothing)
+        let _ = write!(to, "{}", feature.wanted());
+    }
+}
+
+// Room of C's for a text, which is all zeros.
+//
+// # Safety
+//
+// There is room for so many bytes, which is the library's through the call.
+unsafe fn room<'a>(first: *mut c_char, size: usize) -> &'a mut [u8] {
+    // SAFETY: the caller's promise; it is written before it is read.
+    unsafe {
+        first.cast::<u8>().write_bytes(0, size);
+        slice::from_raw_parts_mut(first.cast(), size)
+    }
+}
+
 // ---- Texts ----
 
 /// `sengadlit_shape_options_t`.
@@ -548,16 +603,13 @@ pub unsafe extern "C" fn sengadlit_buffer_serialize(
         |buffer| {
             let how = Format::from_number(format).zip(SerializeFlags::from_number(flags));
             let (format, flags) = how.ok_or_else(|| Error::argument(Argument::Options))?;
-            let room = if text.is_null() || isize::try_from(size).is_err() {
+            let bytes = if text.is_null() || isize::try_from(size).is_err() {
                 &mut []
             } else {
-                // SAFETY: C's room, which is the library's through the call, and is written before it is read.
-                unsafe {
-                    text.cast::<u8>().write_bytes(0, size);
-                    slice::from_raw_parts_mut(text.cast::<u8>(), size)
-                }
+                // SAFETY: C's room.
+                unsafe { room(text, size) }
             };
-            let mut to = Room::new(room);
+            let mut to = Room::new(bytes);
             // (room refuses nothing)
             let _ = serialize::write(&mut to, buffer, face, format, flags);
             put(length, to.length());
