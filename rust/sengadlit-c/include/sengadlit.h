@@ -148,6 +148,7 @@ typedef enum sengadlit_argument_t {
     SENGADLIT_ARGUMENT_INDEX = 25,   /* The file has fewer fonts. */
     SENGADLIT_ARGUMENT_OPTIONS = 26, /* The size is none of the struct's, or a later header's field isn't 0; or a flag that isn't
                                         one of the call's. */
+    SENGADLIT_ARGUMENT_LANGUAGE = 27, /* A tag of no character, or of more than 63. */
     SENGADLIT_ARGUMENT_MAX_VALUE = 0x7FFFFFFF
 } sengadlit_argument_t;
 
@@ -1202,9 +1203,9 @@ sengadlit_bool_t sengadlit_face_get_glyph_name(const sengadlit_face_t *face, uin
    script that they have for texts of no script. */
 const sengadlit_font_t *sengadlit_face_get_font(const sengadlit_face_t *face);
 
-/* Plans of faces, which are made once for each face, script, direction, features and choices below: the 64 that were used last.
-   One thread uses a cache at a time, and a callback may use that of its call, but not destroy it. A plan of a face that is gone
-   is never taken for another's, and keeps no bytes of it. Null where memory is refused. */
+/* Plans of faces, which are made once for each face, script, direction, language, features and choices below: the 64 that were
+   used last. One thread uses a cache at a time, and a callback may use that of its call, but not destroy it. A plan of a face
+   that is gone is never taken for another's, and keeps no bytes of it. Null where memory is refused. */
 typedef struct sengadlit_plan_cache_t sengadlit_plan_cache_t;
 sengadlit_plan_cache_t *sengadlit_plan_cache_create(void);
 /* `cache` may be null, here and in the next two. */
@@ -1219,6 +1220,9 @@ typedef struct sengadlit_shape_options_t {
     size_t size;                     /* sizeof. */
     sengadlit_tag_t script;          /* Script and direction, if not 0 and INVALID; else those of the buffer's properties, */
     sengadlit_direction_t direction; /* where the text is the buffer's, and else those that the characters have. */
+    const char *language;            /* As hb_language_from_string takes it, "sr-Latn" or "sr_RS.UTF-8": a tag of BCP 47 up to the
+                                        first character that no tag has, or to a zero. Some fonts have glyphs of their own for
+                                        a language. Null: none. */
     const sengadlit_user_feature_t *features; /* May be null if the length is 0. */
     unsigned int features_length;
     sengadlit_bool_t sound_breaks;   /* These two as in sengadlit_plan_input_t. */
@@ -1245,7 +1249,7 @@ void sengadlit_user_feature_to_string(const sengadlit_user_feature_t *feature, c
    and direction of the buffer become those by which the text was shaped; its cluster_level, flags and max_length count.
    `options` may be null. A plan that is used for more than one text is worth a cache.
    ATOMIC: unless DONE is returned, the buffer has the text that it had. ARGUMENT: FACE; TEXT, RANGE, of text and length;
-   OPTIONS; DIRECTION, FEATURES, FONT, of the options; and for a null buffer. MEMORY. TOO_LONG: the text grows beyond
+   OPTIONS; DIRECTION, LANGUAGE, FEATURES, FONT, of the options; and for a null buffer. MEMORY. TOO_LONG: the text grows beyond
    max_length, or has more than UINT32_MAX units. STRETCH_OVERFLOW. */
 sengadlit_status_t sengadlit_shape_utf8(const sengadlit_face_t *face, const char *text, int text_length,
                                         const sengadlit_shape_options_t *options, sengadlit_buffer_t *buffer);

@@ -9,6 +9,7 @@ use crate::plan::{choices, list};
 use crate::plan_cache::{Entry, PlanCache, PlanOf};
 use crate::shaping::of_call;
 use crate::status::{Argument, Error};
+use sengadlit::Language;
 use sengadlit::alloc::Vec as List;
 use sengadlit::buffer::{Buffer as Inner, ShaperError, Tag};
 use sengadlit::font::{Font as AnswersFont, GlyphId};
@@ -21,6 +22,7 @@ use sengadlit::plan::{BaseSearch, BreakFlags};
 /// What the caller of a text chose.
 pub struct Chosen<'a> {
     segment: Segment,
+    language: Option<Language>,
     features: List<Wanted>,
     font: Asked<FontFuncs>,
     rounds: Rounds,
@@ -30,6 +32,13 @@ pub struct Chosen<'a> {
     cache: Option<&'a PlanCache>,
 }
 
+// The language of a tag of BCP 47, which ends before the first character that no tag has.
+fn language_of(tag: &[u8]) -> Result<Language, Error> {
+    let tag = tag.utf8_chunks().next().map_or("", |first| first.valid());
+    let language = tag.parse();
+    language.map_err(|_| Error::argument(Argument::Language))
+}
+
 // A glyph of the options; 0 is none.
 fn glyph(number: u32) -> Result<Option<GlyphId>, Error> {
     let glyph = u16::try_from(number).map_err(|_| Error::argument(Argument::Options))?;
@@ -37,8 +46,12 @@ fn glyph(number: u32) -> Result<Option<GlyphId>, Error> {
 }
 
 impl<'a> Chosen<'a> {
-    /// What these options choose, with the user's features.
-    pub fn of(options: &ShapeOptions<'a>, features: &[UserFeature]) -> Result<Self, Error> {
+    /// What these options choose, with a language by its tag, and the user's features.
+    pub fn of(
+        options: &ShapeOptions<'a>,
+        language: Option<&[u8]>,
+        features: &[UserFeature],
+    ) -> Result<Self, Error> {
         let choices = choices(0, options.sound_breaks, options.searches_medials);
         let direction = numbers::direction(options.direction);
         Ok(Chosen {
@@ -46,6 +59,7 @@ impl<'a> Chosen<'a> {
                 script: numbers::script(options.script),
                 direction: direction.ok_or_else(|| Error::argument(Argument::Direction))?,
             },
+            language: language.map(language_of).transpose()?,
             features: list(features, UserFeature::wanted).map_err(ShaperError::from)?,
             font: Asked::font(options.font, 0)?,
             rounds: match options.normalizes_always {
@@ -69,6 +83,7 @@ impl<'a> Chosen<'a> {
             face: face.serial,
             script: segment.script,
             direction: segment.direction,
+            language: self.language,
             rounds: self.rounds,
             break_flags: self.break_flags,
             base_search: self.base_search,
@@ -80,6 +95,7 @@ impl<'a> Chosen<'a> {
         let builder = ShapePlan::builder()
             .script(of.script)
             .direction(of.direction)
+            .language(of.language)
             .features(features)
             .rounds(of.rounds)
             .break_flags(of.break_flags)

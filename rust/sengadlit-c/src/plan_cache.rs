@@ -1,6 +1,7 @@
 //! The plans of faces, which a thread keeps for the texts that come next.
 use crate::plan::list;
 use core::cell::RefCell;
+use sengadlit::Language;
 use sengadlit::alloc::Vec as List;
 use sengadlit::buffer::{Direction, Script, ShaperError};
 use sengadlit::opentype::ShapePlan;
@@ -18,6 +19,7 @@ pub struct PlanOf {
     pub face: u64,
     pub script: Option<Script>,
     pub direction: Direction,
+    pub language: Option<Language>,
     pub rounds: Rounds,
     pub break_flags: BreakFlags,
     pub base_search: BaseSearch,

@@ -60,6 +60,7 @@ named_numbers! {
     Data = c"SENGADLIT_ARGUMENT_DATA",
     Index = c"SENGADLIT_ARGUMENT_INDEX",
     Options = c"SENGADLIT_ARGUMENT_OPTIONS",
+    Language = c"SENGADLIT_ARGUMENT_LANGUAGE",
 }
 
 /// `sengadlit_error_t`: why a call failed.

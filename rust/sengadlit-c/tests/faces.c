@@ -361,6 +361,23 @@ static void try_features(void)
               sengadlit_buffer_get_length(buffer) == 3);
 }
 
+/* The private part of a tag names the script of which a font's features are taken: that of Arabic has no ligature of f and i. */
+static void try_languages(void)
+{
+    sengadlit_shape_options_t options = no_options();
+
+    options.cache = cache;
+    sengadlit_plan_cache_clear(cache);
+    options.language = "sr_RS.UTF-8";
+    check("Serbian", sengadlit_shape_utf8(face, "fi", -1, &options, buffer) == SENGADLIT_DONE && is_line("[fi=0+520]"));
+    options.language = "sr-RS\xFF";
+    check("the same", sengadlit_shape_utf8(face, "fi", -1, &options, buffer) == SENGADLIT_DONE && is_line("[fi=0+520]"));
+    check("by one plan", sengadlit_plan_cache_get_length(cache) == 1);
+    options.language = "x-hbscarab";
+    check("of a script", sengadlit_shape_utf8(face, "fi", -1, &options, buffer) == SENGADLIT_DONE && is_line("[f=0+340|i=1+220]"));
+    check("by another plan", sengadlit_plan_cache_get_length(cache) == 2);
+}
+
 static void try_replaced_glyphs(void)
 {
     sengadlit_shape_options_t options = no_options();
@@ -449,6 +466,13 @@ static void try_refusals(void)
     options = no_options();
     options.direction = (sengadlit_direction_t)3;
     REFUSES("no direction", DIRECTION);
+    options = no_options();
+    options.language = "";
+    REFUSES("a language without a character", LANGUAGE);
+    options.language = "\xFFsr";
+    REFUSES("no language", LANGUAGE);
+    options.language = "a-language-of-more-than-sixty-three-characters-which-is-too-many-xx";
+    REFUSES("a long language", LANGUAGE);
     options = no_options();
     options.features_length = 1;
     REFUSES("no features", FEATURES);
@@ -555,6 +579,7 @@ int main(int argc, char **argv)
     try_context();
     try_fonts();
     try_features();
+    try_languages();
     try_replaced_glyphs();
     try_cache();
     try_refusals();

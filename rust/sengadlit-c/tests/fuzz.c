@@ -404,6 +404,7 @@ static sengadlit_status_t shape_by_face(sengadlit_buffer_t *buffer, const sengad
 
     ask_face(face);
     options.direction = (sengadlit_direction_t)(how % 9);
+    options.language = next() % 4 == 0 ? "x-hbscarab-hbotabcd" : NULL;
     options.features = &feature;
     options.features_length = how >> 4 & 1;
     options.not_found_glyph = next() % 16;

@@ -178,6 +178,7 @@ static void print_shaping(void)
     FIELD(shape_options, size);
     FIELD(shape_options, script);
     FIELD(shape_options, direction);
+    FIELD(shape_options, language);
     FIELD(shape_options, features);
     FIELD(shape_options, features_length);
     FIELD(shape_options, sound_breaks);

@@ -126,8 +126,8 @@ static void names_and_versions(void)
     check("the last status", strcmp(sengadlit_status_name(SENGADLIT_IN_CALL), "SENGADLIT_IN_CALL") == 0);
     check("no status", strcmp(sengadlit_status_name((sengadlit_status_t)11), "unknown") == 0);
     check("an argument", strcmp(sengadlit_argument_name(SENGADLIT_ARGUMENT_TEXT), "SENGADLIT_ARGUMENT_TEXT") == 0);
-    check("the last argument", strcmp(sengadlit_argument_name(SENGADLIT_ARGUMENT_OPTIONS), "SENGADLIT_ARGUMENT_OPTIONS") == 0);
-    check("no argument", strcmp(sengadlit_argument_name((sengadlit_argument_t)27), "unknown") == 0);
+    check("the last argument", strcmp(sengadlit_argument_name(SENGADLIT_ARGUMENT_LANGUAGE), "SENGADLIT_ARGUMENT_LANGUAGE") == 0);
+    check("no argument", strcmp(sengadlit_argument_name((sengadlit_argument_t)28), "unknown") == 0);
 }
 
 /* Numbers of HarfBuzz's that are others here, and parts of numbers. */

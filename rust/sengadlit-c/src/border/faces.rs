@@ -435,6 +435,7 @@ pub struct ShapeOptions<'a> {
     pub size: usize,
     pub script: u32,
     pub direction: u32,
+    pub language: *const c_char,
     pub features: *const UserFeature,
     pub features_length: c_uint,
     pub sound_breaks: Bool,
@@ -458,6 +459,7 @@ impl ShapeOptions<'_> {
         size: size_of::<Self>(),
         script: 0,
         direction: 0,
+        language: null(),
         features: null(),
         features_length: 0,
         sound_breaks: 0,
@@ -485,8 +487,13 @@ unsafe fn chosen<'a>(options: *const ShapeOptions<'a>) -> Result<Chosen<'a>, Err
     };
     // SAFETY: an array of C's with its length.
     let features = unsafe { array(options.features, options.features_length) };
+    // SAFETY: a text of C's that ends with a zero.
+    let language = (!options.language.is_null())
+        .then(|| unsafe { text(options.language.cast::<u8>(), -1) })
+        .transpose()?;
     Chosen::of(
         &options,
+        language,
         features.ok_or_else(|| Error::argument(Argument::Features))?,
     )
 }
