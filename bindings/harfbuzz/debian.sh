@@ -36,3 +36,8 @@ source_folder() {
 source_version() {
     sed -n 's/^#define HB_VERSION_STRING "\(.*\)"/\1/p' "$source/src/hb-version.h"
 }
+
+# Fetches it as Debian's source package.
+fetch_source() {
+    set_up_apt && (cd "$out" && rm -rf harfbuzz-[0-9]* && apt-get source "$package")
+}
