@@ -1,5 +1,5 @@
 #!/usr/bin/env python3
-"""Compares what `shape` and hb-shape make of the same texts: glyphs, clusters, positions and the flag `unsafe to break`.
+"""Compares what `sengadlit-shape` and hb-shape make of the same texts: glyphs, clusters, positions and the flag `unsafe to break`.
 
     compare.py ROOT TEXTS SHAPE HB-SHAPE..
 
@@ -61,19 +61,18 @@ class Font:
     def __init__(self, root, path, shape, hb_shape, code):
         self.path, self.code = f"{root}/{path}", code
         direction = "rtl" if code in FROM_RIGHT else "ltr"
-        options = ["--script", code, "--direction", direction]
-        self.mine = [*shape, *options, self.path, "--lines"]
-        self.theirs = [*hb_shape, "--shapers=ot", "--utf8-clusters", "--no-glyph-names", "--show-flags", "--language=und",
-                       f"--script={code}", f"--direction={direction}", self.path]  # fmt: skip
+        options = ["--shapers=ot", "--utf8-clusters", "--no-glyph-names", "--show-flags", "--language=und",
+                   f"--script={code}", f"--direction={direction}", self.path]  # fmt: skip
+        self.mine, self.theirs = [*shape, *options], [*hb_shape, *options]
         self.has_gpos = has_table(self.path, b"GPOS")
         circle = items(subprocess.run([*self.theirs, "\u25cc"], capture_output=True, text=True, check=True).stdout)
         self.circle = circle[0][0]
 
     def shape(self, path):
         """Both outputs for the lines of a file."""
-        mine = subprocess.run([*self.mine, path], capture_output=True, text=True, check=True)
-        theirs = subprocess.run([*self.theirs, f"--text-file={path}"], capture_output=True, text=True, check=True)
-        return [list(map(items, output.stdout.splitlines())) for output in (mine, theirs)]
+        commands = [[*command, f"--text-file={path}"] for command in (self.mine, self.theirs)]
+        outputs = [subprocess.run(command, capture_output=True, text=True, check=True).stdout for command in commands]
+        return [list(map(items, output.splitlines())) for output in outputs]
 
     def reason(self, text, mine, theirs):
         """Why the glyphs of a text differ, or None."""

@@ -1,7 +1,6 @@
 # shellcheck shell=sh disable=SC2034,SC2154
-# What the scripts of this folder, which source this file, have in common: they set $here, this folder. Everything that they
-# fetch and build is in the folder $SENGADLIT_HOOKS of the bindings, by default ~/.cache/sengadlit/hooks, where the crates of
-# Debian's unstable are shared with them. What they build is of this clone alone (bindings/hooks/debian.sh).
+# What the scripts of this folder, which source this file, have in common: they set $here, this folder. What they fetch is in
+# the folder $SENGADLIT_HOOKS of the bindings, by default ~/.cache/sengadlit/hooks (bindings/hooks/debian.sh).
 
 examples=$here
 top=$(dirname "$(dirname "$examples")")
@@ -11,9 +10,7 @@ here=$top/bindings/hooks
 # shellcheck source=bindings/hooks/debian.sh
 . "$here/debian.sh"
 made=$built/examples
-programs=$made/target/release
-needs='librust-bytemuck-dev/sid librust-bytemuck-derive-dev/sid librust-font-types-dev/sid librust-proc-macro2-dev/sid
-    librust-once-cell-dev/sid librust-quote-dev/sid librust-read-fonts-dev/sid librust-syn-dev/sid librust-unicode-ident-dev/sid'
+programs=${CARGO_TARGET_DIR:-$top/target}/release
 
 # What can't be fetched isn't tested, and the status tells so.
 skip() {
@@ -43,35 +40,6 @@ finish() {
     exit
 }
 
-# run_cargo COMMAND..: runs cargo offline on the crate, whose lock and target folder are outside the repository.
-run_cargo() {
-    (cd "$made" && cargo "$@")
-}
-
-# A crate outside the repository with the sources of this one, and Debian's crates for a registry.
-write_crate() {
-    mkdir -p "$made/.cargo" && ln -sfn "$examples/src" "$made/src" &&
-        sed "s|path = \"\.\./sengadlit\"|path = \"$top/rust/sengadlit\"|" "$examples/Cargo.toml" >"$made/Cargo.new" || return
-    cmp -s "$made/Cargo.new" "$made/Cargo.toml" || cp "$made/Cargo.new" "$made/Cargo.toml" || return
-    cat >"$made/.cargo/config.toml" <<END
-[source.crates-io]
-replace-with = "debian"
-
-[source.debian]
-directory = "$registry"
-
-[net]
-offline = true
-END
-}
-
-# Fetches what the crate builds with.
-fetch_crates() {
-    mkdir -p "$made" || exit 2
-    command -v cargo >/dev/null 2>&1 || skip 'there is no cargo'
-    # shellcheck disable=SC2086
-    unpack_alone $needs >"$made/step.log" 2>&1 </dev/null || skip "read-fonts of Debian: $(tail -n 1 "$made/step.log")"
-    write_crate || exit 2
-    run_cargo generate-lockfile >"$made/step.log" 2>&1 ||
-        skip "Debian has another read-fonts: $(sed -n 's/^error: *//p' "$made/step.log" | head -n 1)"
+build_programs() {
+    (cd "$top" && cargo build --quiet --release -p sengadlit-examples -p sengadlit-shape)
 }

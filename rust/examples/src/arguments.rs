@@ -1,6 +1,5 @@
 //! The arguments of the programs: options, and words without a name.
 
-use crate::scripts::script_of;
 use sengadlit::{Direction, Script};
 use std::collections::HashMap;
 use std::error::Error;
@@ -31,7 +30,11 @@ impl Arguments {
                 rest.push(argument);
             }
         }
-        Ok(Arguments { options, flags, rest })
+        Ok(Arguments {
+            options,
+            flags,
+            rest,
+        })
     }
 
     pub fn option(&self, name: &str) -> Option<&str> {
@@ -42,24 +45,21 @@ impl Arguments {
         self.flags.iter().any(|other| other == flag)
     }
 
-    /// The script that `--script` names, or that of a text; `--direction` chooses another direction,
-    /// by its name in HarfBuzz.
+    /// The script that `--script` names, or that of a text's first letter; and the script's direction, or
+    /// that which `--direction` names.
     ///
     /// # Errors
     ///
-    /// The text has no letter of a script that is known, and no script is named.
+    /// An option names none, or the text has no letter of a script and no option names it.
     pub fn script(&self, text: &str) -> Result<(Script, Direction), Box<dyn Error>> {
-        let (script, direction) = match self.option("--script") {
-            Some(code) => (Script(code.as_bytes().try_into()?), Direction::LeftToRight),
-            None => script_of(text).ok_or("--script names the text's script, such as Khmr")?,
+        let script = match self.option("--script") {
+            Some(code) => code.parse()?,
+            None => text
+                .chars()
+                .find_map(Script::of_char)
+                .ok_or("--script names the text's script, such as Khmr")?,
         };
-        match self.option("--direction") {
-            Some("rtl") => Ok((script, Direction::RightToLeft)),
-            Some("ltr") => Ok((script, Direction::LeftToRight)),
-            Some("ttb") => Ok((script, Direction::TopToBottom)),
-            Some("btt") => Ok((script, Direction::BottomToTop)),
-            Some(other) => Err(format!("--direction is ltr, rtl, ttb or btt, not {other}").into()),
-            None => Ok((script, direction)),
-        }
+        let direction = self.option("--direction").map(str::parse).transpose()?;
+        Ok((script, direction.unwrap_or(script.direction())))
     }
 }

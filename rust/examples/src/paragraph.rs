@@ -18,7 +18,10 @@ impl Line {
     pub fn width(&self, text: &str) -> i32 {
         let is_space = |cluster: &&Cluster| text[cluster.text.clone()].chars().all(|c| c == ' ');
         let spaces = self.clusters.iter().rev().take_while(is_space).count();
-        self.clusters[..self.clusters.len() - spaces].iter().map(Cluster::advance).sum()
+        self.clusters[..self.clusters.len() - spaces]
+            .iter()
+            .map(Cluster::advance)
+            .sum()
     }
 }
 
@@ -38,7 +41,7 @@ pub enum Breaks {
 ///
 /// Those of shaping.
 pub fn wrap(
-    shaping: &Shaping<'_, '_>,
+    shaping: &Shaping<'_>,
     text: &str,
     width: i32,
     breaks: Breaks,
@@ -55,7 +58,7 @@ pub fn wrap(
 
 // The longest line that fits, from a cluster on, and the cluster that the next one begins with.
 fn longest_line(
-    shaping: &Shaping<'_, '_>,
+    shaping: &Shaping<'_>,
     text: &str,
     clusters: &[Cluster],
     start: usize,
@@ -66,8 +69,15 @@ fn longest_line(
         |end: &usize| *end == clusters.len() || text[..clusters[*end].text.start].ends_with(' ');
     let all = start + 1..=clusters.len();
     let words: Vec<usize> = all.clone().filter(is_behind_space).collect();
-    let mut ends = if breaks == Breaks::Anywhere { all.collect() } else { words };
-    if ends.first().is_some_and(|end| !may_fit(&clusters[start..*end], text, width)) {
+    let mut ends = if breaks == Breaks::Anywhere {
+        all.collect()
+    } else {
+        words
+    };
+    if ends
+        .first()
+        .is_some_and(|end| !may_fit(&clusters[start..*end], text, width))
+    {
         ends = (start + 1..=ends[0]).collect();
     }
     // by the glyphs of the whole paragraph at first, and then by the line's own
@@ -82,34 +92,60 @@ fn longest_line(
 }
 
 fn may_fit(clusters: &[Cluster], text: &str, width: i32) -> bool {
-    let last = clusters.last().map_or("", |cluster| &text[cluster.text.clone()]);
-    let trailing = clusters.last().filter(|_| last == " ").map_or(0, Cluster::advance);
+    let last = clusters
+        .last()
+        .map_or("", |cluster| &text[cluster.text.clone()]);
+    let trailing = clusters
+        .last()
+        .filter(|_| last == " ")
+        .map_or(0, Cluster::advance);
     clusters.iter().map(Cluster::advance).sum::<i32>() - trailing <= width
 }
 
 // The line of these clusters of the paragraph, its ends shaped again where a flag says so.
 fn line_of(
-    shaping: &Shaping<'_, '_>,
+    shaping: &Shaping<'_>,
     text: &str,
     clusters: &[Cluster],
     line: Range<usize>,
 ) -> Result<Line, Box<dyn Error>> {
-    let byte = |at: usize| clusters.get(at).map_or(text.len(), |cluster| cluster.text.start);
-    let is_safe = |at: &usize| clusters.get(*at).is_none_or(|cluster| !cluster.is_unsafe_to_break);
+    let byte = |at: usize| {
+        clusters
+            .get(at)
+            .map_or(text.len(), |cluster| cluster.text.start)
+    };
+    let is_safe = |at: &usize| {
+        clusters
+            .get(*at)
+            .is_none_or(|cluster| !cluster.is_unsafe_to_break)
+    };
     // from where on, and up to where, the paragraph's clusters are the line's
-    let kept_from = (line.start..=line.end).find(is_safe).unwrap_or(line.end + 1);
-    let kept_to = (line.start..=line.end).rev().find(is_safe).unwrap_or(line.start);
+    let kept_from = (line.start..=line.end)
+        .find(is_safe)
+        .unwrap_or(line.end + 1);
+    let kept_to = (line.start..=line.end)
+        .rev()
+        .find(is_safe)
+        .unwrap_or(line.start);
     let again = |part: Range<usize>| -> Result<Vec<Cluster>, Box<dyn Error>> {
         let mut clusters = shaping.clusters(text, byte(part.start)..byte(part.end))?;
-        clusters.iter_mut().for_each(|cluster| cluster.is_shaped_again = true);
+        clusters
+            .iter_mut()
+            .for_each(|cluster| cluster.is_shaped_again = true);
         Ok(clusters)
     };
     let range = byte(line.start)..byte(line.end);
     if kept_from > kept_to {
-        return Ok(Line { text: range, clusters: again(line)? });
+        return Ok(Line {
+            text: range,
+            clusters: again(line)?,
+        });
     }
     let mut own = again(line.start..kept_from)?;
     own.extend_from_slice(&clusters[kept_from..kept_to]);
     own.extend(again(kept_to..line.end)?);
-    Ok(Line { text: range, clusters: own })
+    Ok(Line {
+        text: range,
+        clusters: own,
+    })
 }

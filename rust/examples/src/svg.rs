@@ -1,10 +1,7 @@
 //! Lines of glyphs as a picture.
 
-use crate::font::OpenType;
-use crate::outlines::Outlines;
-use read_fonts::TableProvider;
-use sengadlit::ot_shape_position::MetricsFont;
-use sengadlit::{GlyphInfo, GlyphPosition};
+use sengadlit::{Face, GlyphInfo, GlyphPosition};
+use sengadlit_shape::outline;
 use std::collections::BTreeMap;
 use std::fmt::Write as _;
 
@@ -16,7 +13,7 @@ pub const RED: &str = "#c33";
 
 /// A picture that lines are drawn into, from the top.
 pub struct Drawing<'a> {
-    outlines: Outlines<'a>,
+    face: &'a Face<'a>,
     ascent: i32,
     line_height: i32,
     units_per_em: i32,
@@ -27,16 +24,12 @@ pub struct Drawing<'a> {
 }
 
 impl<'a> Drawing<'a> {
-    pub fn new(font: &OpenType<'a>) -> Self {
-        let units_per_em = i32::from(font.units_per_em());
-        let (ascent, descent) = match font.file.hhea() {
-            Ok(hhea) => (i32::from(hhea.ascender().to_i16()), i32::from(hhea.descender().to_i16())),
-            Err(_) => (units_per_em, 0),
-        };
+    pub fn new(face: &'a Face<'a>) -> Self {
+        let units_per_em = i32::from(face.units_per_em());
         Drawing {
-            outlines: Outlines::new(&font.file),
-            ascent,
-            line_height: ascent - descent,
+            face,
+            ascent: face.ascender(),
+            line_height: face.ascender() - face.descender(),
             units_per_em,
             shapes: BTreeMap::new(),
             placed: String::new(),
@@ -56,7 +49,8 @@ impl<'a> Drawing<'a> {
         let _ = writeln!(self.placed, "<g fill=\"{colour}\">");
         for (glyph, position) in glyphs {
             let number = glyph.glyph_id;
-            let shape = self.shapes.entry(number).or_insert_with(|| self.outlines.path(number));
+            let path = || outline::path(self.face, number).unwrap_or_default();
+            let shape = self.shapes.entry(number).or_insert_with(path);
             if !shape.is_empty() {
                 let (x, y) = (pen + position.x_offset, baseline + position.y_offset);
                 let _ = writeln!(self.placed, r##"<use href="#g{number}" x="{x}" y="{y}"/>"##);

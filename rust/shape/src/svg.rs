@@ -1,8 +1,8 @@
 //! A picture of the lines.
 
 use crate::fault::Fault;
-use crate::outline;
 use sengadlit::{Direction, Face, GlyphBuffer, GlyphInfo};
+use sengadlit_shape::outline;
 use std::fmt::Write as _;
 use std::fs::File;
 use std::io::Write as _;
@@ -18,8 +18,12 @@ pub struct Picture {
     height: f64,
 }
 
-/// How a face is drawn: units by font unit, and the heights of lines.
+/// How many pixels an em has in a picture.
+const PIXELS: f64 = 40.0;
+
+/// How a face is drawn: units by font unit, those of an em, and the heights of lines.
 struct Measure {
+    em: f64,
     x: f64,
     y: f64,
     ascender: f64,
@@ -33,6 +37,7 @@ impl Measure {
             (f64::from(x) / units, f64::from(y) / units)
         });
         Measure {
+            em: y * units,
             x,
             y,
             ascender: face.ascender().into(),
@@ -108,9 +113,13 @@ impl Picture {
     /// Writes the picture.
     pub fn finish(mut self) -> Result<(), Fault> {
         let (width, height) = (self.width.max(1.0), self.height.max(1.0));
-        let head = "<svg xmlns=\"http://www.w3.org/2000/svg\"";
+        let pixels = |units: f64| (units * PIXELS / self.measure.em.max(1.0)).ceil();
         let whole = format!(
-            "{head} viewBox=\"0 0 {width} {height}\">\n{}</svg>\n",
+            "<svg xmlns=\"http://www.w3.org/2000/svg\" width=\"{}\" height=\"{}\" \
+             viewBox=\"0 0 {width} {height}\">\n\
+             <rect width=\"100%\" height=\"100%\" fill=\"white\"/>\n{}</svg>\n",
+            pixels(width),
+            pixels(height),
             self.body
         );
         let written = self.file.write_all(whole.as_bytes());

@@ -4,12 +4,11 @@
 //! ligature, by GDEF's carets or else at equal distances.
 //!
 //!     --svg FILE        draws the text with a stroke for each place
-//!     --script CODE, --direction ltr|rtl   as for `shape`
+//!     --script CODE, --direction ltr|rtl   instead of those of the first letter
 
-use sengadlit::Direction;
-use sengadlit::ot_shape_plan::ShapeChoices;
-use sengadlit_examples::OpenType;
+use sengadlit::{Direction, Face, ShapePlan};
 use sengadlit_examples::arguments::Arguments;
+use sengadlit_examples::carets::ligature_carets;
 use sengadlit_examples::run::{Cluster, Shaping, graphemes};
 use sengadlit_examples::svg::{BLACK, Drawing};
 use std::error::Error;
@@ -17,23 +16,31 @@ use std::fs;
 
 fn main() -> Result<(), Box<dyn Error>> {
     let arguments = Arguments::read(&["--svg", "--script", "--direction"])?;
-    let [path, text] = &arguments.rest[..] else { return Err("caret FONT TEXT".into()) };
+    let [path, text] = &arguments.rest[..] else {
+        return Err("caret FONT TEXT".into());
+    };
     let (script, direction) = arguments.script(text)?;
     let data = fs::read(path)?;
-    let font = OpenType::new(&data, script)?;
-    let shaping = Shaping::new(&font, script, direction, ShapeChoices::default())?;
+    let face = Face::parse(&data, 0)?;
+    let shaping = Shaping::new(
+        &face,
+        ShapePlan::builder().script(script).direction(direction),
+    )?;
     let clusters = join_narrow(shaping.clusters(text, 0..text.len())?, direction);
-    let places = places(&shaping, text, &clusters)?;
+    let places = places(&shaping, &data, text, &clusters)?;
     for (byte, x) in &places {
         println!("{byte} {x}");
     }
     if let Some(path) = arguments.option("--svg") {
-        let mut drawing = Drawing::new(&font);
+        let mut drawing = Drawing::new(&face);
         for (_, x) in &places {
             drawing.caret(*x);
         }
         let clusters = shaping.visual(&clusters);
-        let glyphs: Vec<_> = clusters.iter().flat_map(|cluster| cluster.glyphs.clone()).collect();
+        let glyphs: Vec<_> = clusters
+            .iter()
+            .flat_map(|cluster| cluster.glyphs.clone())
+            .collect();
         drawing.glyphs(&glyphs, 0, BLACK);
         drawing.end_line();
         fs::write(path, drawing.finish())?;
@@ -60,19 +67,20 @@ fn join_narrow(clusters: Vec<Cluster>, direction: Direction) -> Vec<Cluster> {
 }
 
 fn places(
-    shaping: &Shaping<'_, '_>,
+    shaping: &Shaping<'_>,
+    data: &[u8],
     text: &str,
     clusters: &[Cluster],
 ) -> Result<Vec<(usize, i32)>, Box<dyn Error>> {
     let width: i32 = clusters.iter().map(Cluster::advance).sum();
-    let from_left = |x: i32| match shaping.direction {
+    let from_left = |x: i32| match shaping.direction() {
         Direction::RightToLeft => width - x,
         _ => x,
     };
     let starts = graphemes(text)?;
     let (mut places, mut x) = (vec![(0, from_left(0))], 0);
     for cluster in clusters {
-        for (byte, inside) in inside(shaping, cluster, &starts) {
+        for (byte, inside) in inside(shaping.direction(), data, cluster, &starts) {
             places.push((byte, from_left(x + inside)));
         }
         x += cluster.advance();
@@ -82,14 +90,24 @@ fn places(
 }
 
 // The places within a cluster, each with its distance from where the cluster begins.
-fn inside(shaping: &Shaping<'_, '_>, cluster: &Cluster, starts: &[usize]) -> Vec<(usize, i32)> {
+fn inside(
+    direction: Direction,
+    data: &[u8],
+    cluster: &Cluster,
+    starts: &[usize],
+) -> Vec<(usize, i32)> {
     let is_inside = |start: &&usize| cluster.text.start < **start && **start < cluster.text.end;
     let starts: Vec<usize> = starts.iter().filter(is_inside).copied().collect();
-    let mut moving = cluster.glyphs.iter().filter(|(_, position)| position.x_advance != 0);
-    let (Some((ligature, _)), None) = (moving.next(), moving.next()) else { return vec![] };
+    let mut moving = cluster
+        .glyphs
+        .iter()
+        .filter(|(_, position)| position.x_advance != 0);
+    let (Some((ligature, _)), None) = (moving.next(), moving.next()) else {
+        return vec![];
+    };
     let (width, parts) = (cluster.advance(), starts.len() as i32 + 1);
-    let carets = shaping.font.ligature_carets(ligature.glyph_id);
-    let caret = |part: usize| match (carets.get(part), shaping.direction) {
+    let carets = ligature_carets(data, ligature.glyph_id);
+    let caret = |part: usize| match (carets.get(part), direction) {
         // GDEF counts from the left
         (Some(_), Direction::RightToLeft) => width - carets[starts.len() - 1 - part],
         (Some(caret), _) => *caret,
@@ -97,5 +115,9 @@ fn inside(shaping: &Shaping<'_, '_>, cluster: &Cluster, starts: &[usize]) -> Vec
     };
     let places = 0..starts.len();
     let places = places.map(|part| (starts[part], caret(part)));
-    if carets.len() == starts.len() || carets.is_empty() { places.collect() } else { vec![] }
+    if carets.len() == starts.len() || carets.is_empty() {
+        places.collect()
+    } else {
+        vec![]
+    }
 }
