@@ -87,8 +87,9 @@ class Font:
         circles = [sum(glyph[0] == self.circle for glyph in glyphs) for glyphs in (mine, theirs)]
         if circles[0] > circles[1] and len(text) > 14:
             return "dotted-circles"
-        is_same = sorted(glyph[:2] for glyph in mine) == sorted(glyph[:2] for glyph in theirs)
-        is_symbol = self.code in UNIVERSAL and (is_same or has_symbol_with_sign(text))
+        orders = [[glyph[:2] for glyph in glyphs] for glyphs in (mine, theirs)]
+        is_moved = orders[0] != orders[1] and sorted(orders[0]) == sorted(orders[1])
+        is_symbol = self.code in UNIVERSAL and (is_moved or has_symbol_with_sign(text))
         return "symbol-clusters" if is_symbol else None
 
 
