@@ -440,6 +440,20 @@ mod tests {
         assert_eq!(plan.break_flags, BreakFlags::AsCode);
         assert_eq!(plan.base_search, BaseSearch::WithoutMedials);
         assert_eq!(plan.ot_map.global_bits(), 0);
+        assert_eq!(plan.ot_map.chosen_script(TableIndex::GSUB), None);
+        assert!(!plan.ot_map.found_script(TableIndex::GSUB));
+    }
+
+    // Of a font that has DFLT alone a script was chosen, and the one that was requested isn't found.
+    #[test]
+    fn a_chosen_script_may_be_another_than_the_requested() {
+        let built = Plan::builder().chosen_script(Tag(*b"DFLT")).build();
+        let map = built.unwrap().ot_map;
+        let gsub = TableIndex::GSUB;
+        assert_eq!(map.chosen_script(gsub), Some(Tag(*b"DFLT")));
+        assert!(!map.found_script(gsub));
+        let map = Plan::builder().found_script(true).build().unwrap().ot_map;
+        assert!(map.chosen_script(gsub).is_none() && map.found_script(gsub));
     }
 
     #[test]

@@ -101,8 +101,12 @@ impl ShapePlan {
 #[cfg(test)]
 mod tests {
     use crate::alloc::{Global, Vec};
-    use crate::buffer::{Buffer, GlyphInfo, GlyphPosition, LigProps};
-    use crate::map::FeatureMap;
+    use crate::buffer::{
+        Buffer, BufferClusterLevel, BufferFlags, Direction, GlyphInfo, GlyphPosition, LigProps,
+    };
+    use crate::font::NominalOnly;
+    use crate::map::{FeatureMap, TableIndex};
+    use crate::ot_shape_plan::{FontFeatures, ShapePlan, UserFeature};
     use crate::plan::{Pause, Plan, Planner};
     use crate::shaper::Shaper;
     use crate::{Script, Tag};
@@ -139,6 +143,82 @@ mod tests {
         };
         moved.set_position(1, x_offset);
         assert_ne!(moved, buffer);
+    }
+
+    // Each setting counts, and so does each glyph's place.
+    #[test]
+    fn buffers_with_other_settings_differ() {
+        let plain = Buffer::from("ab");
+        let changes: [fn(&mut Buffer); 7] = [
+            |buffer| buffer.set_script(Some(Script(*b"Thai"))),
+            |buffer| buffer.set_direction(Direction::RightToLeft),
+            |buffer| buffer.set_cluster_level(BufferClusterLevel::Characters),
+            |buffer| buffer.set_flags(BufferFlags::DO_NOT_INSERT_DOTTED_CIRCLE),
+            |buffer| buffer.set_contexts("c", ""),
+            |buffer| buffer.set_contexts("", "c"),
+            |buffer| buffer.with_glyphs_mut(|glyphs| glyphs.swap(0, 1)),
+        ];
+        for (number, change) in changes.iter().enumerate() {
+            let mut changed = plain.try_clone().unwrap();
+            change(&mut changed);
+            assert_ne!(changed, plain, "change {number}");
+            assert_eq!(changed, changed.try_clone().unwrap(), "change {number}");
+        }
+    }
+
+    /// A font in which each feature of both tables has lookup 5.
+    struct Latin;
+
+    impl FontFeatures for Latin {
+        fn has_table(&self, _: TableIndex) -> bool {
+            true
+        }
+
+        fn chosen_script(&self, _: TableIndex) -> Option<Tag> {
+            Some(Tag(*b"latn"))
+        }
+
+        fn found_script(&self, _: TableIndex) -> bool {
+            true
+        }
+
+        fn feature_lookups(&self, _: TableIndex, _: Tag) -> Option<&[u16]> {
+            Some(&[5])
+        }
+
+        fn any_feature_lookups(&self, _: TableIndex, _: Tag) -> Option<&[u16]> {
+            None
+        }
+
+        fn required_feature(&self, _: TableIndex) -> Option<Tag> {
+            None
+        }
+
+        fn required_lookups(&self, _: TableIndex) -> &[u16] {
+            &[]
+        }
+    }
+
+    #[test]
+    fn a_copied_plan_of_a_text_has_all_lists() {
+        let font = NominalOnly(|_| None);
+        let (script, left) = (Some(Script(*b"Latn")), Direction::LeftToRight);
+        let user = UserFeature {
+            tag: Tag(*b"salt"),
+            value: 1,
+            start: 2,
+            end: 4,
+        };
+        let plan = ShapePlan::new(Global, script, left, &font, &Latin, &[user]).unwrap();
+        let copy = plan.try_clone().unwrap();
+        assert_eq!(copy, plan);
+        let lens = |plan: &ShapePlan| {
+            let lists = (plan.lookups().len(), plan.positioning().len());
+            (lists, plan.ranges().len(), plan.stages().len())
+        };
+        let ((lookups, positioning), ranges, stages) = lens(&copy);
+        assert!(lookups > 0 && positioning > 0 && ranges > 0 && stages > 0);
+        assert_eq!(lens(&copy), lens(&plan));
     }
 
     #[test]

@@ -212,6 +212,30 @@ mod tests {
         assert_eq!(seen(&buffer), [(1, 0, SUBSTITUTED, 0)]);
     }
 
+    // Each is a copy of the first one, features and category with it, and none of them is one of
+    // several for one.
+    #[test]
+    fn glyphs_for_several_are_copies_of_the_first() {
+        let mut buffer = text();
+        buffer.with_glyphs_mut(|glyphs| {
+            for (glyph, mask) in glyphs.iter_mut().zip([0x10, 0x20, 0x40, 0x80]) {
+                (glyph.mask, glyph.category) = (mask, mask as u8 / 16);
+            }
+        });
+        buffer.replace_range(1..3, &[7, 8, 9]).unwrap();
+        for (glyph, number) in buffer.glyphs()[1..4].iter().zip(7..) {
+            assert_eq!(
+                (glyph.glyph_id, glyph.mask, glyph.category),
+                (number, 0x20, 2)
+            );
+            assert_eq!(glyph.glyph_props, SUBSTITUTED);
+        }
+        assert_eq!(buffer.get(4).mask, 0x80);
+        buffer.replace_range(3..5, &[1]).unwrap();
+        assert_eq!(seen(&buffer)[3], (1, 1, SUBSTITUTED, 0));
+        assert_eq!(buffer.get(3).mask, 0x20);
+    }
+
     #[test]
     fn a_glyph_that_goes_hands_its_cluster_on() {
         let mut buffer = text();
