@@ -22,7 +22,7 @@ pub enum Expected {
     NoByteOrderMark,
     #[error("a line feed alone at the end, without a carriage return")]
     LineFeed,
-    #[error("a line that does something; a comment begins with #")]
+    #[error("a line that does something; only a named file may have comments, which begin with #")]
     Command,
     #[error("one space between two fields, and none at either end")]
     OneSpace,
@@ -55,7 +55,7 @@ impl Expected {
             Expected::NoByteOrderMark
         } else if line.ends_with('\r') {
             Expected::LineFeed
-        } else if line.starts_with("//") {
+        } else if line.is_empty() || line.starts_with('#') || line.starts_with("//") {
             Expected::Command
         } else if line.contains('\t') || line.split(' ').any(|field| field.is_empty()) {
             Expected::OneSpace

@@ -83,7 +83,6 @@ impl Session {
     fn carry_out_command(&mut self, command: Command) -> Result<(), LineFault> {
         let settings = &mut self.settings;
         match command {
-            Command::Comment => {}
             Command::Font(character, glyph, advance) => {
                 settings.font.add_glyph(character, glyph, advance)?;
             }

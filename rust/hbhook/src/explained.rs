@@ -5,8 +5,9 @@
 
 mod field;
 
-use crate::generated::hbhook_commands::{Expected, Fault, LineFault, lines_of};
+use crate::generated::hbhook_commands::{Expected, Fault, LineFault};
 use crate::generated::hbhook_lines::Session;
+use crate::source::Source;
 use field::{PAUSES, SHAPERS, fields_of};
 use sengadlit::alloc::Global;
 use sengadlit::buffer::{Buffer, ShaperError};
@@ -23,7 +24,7 @@ const MOST_DRAWN: usize = 10_000;
 ///
 /// ```
 /// let script = b"set shaper thai\ntext U+0E14 0E33";
-/// let explained = hbhook::explain_end(script, 2, false).unwrap();
+/// let explained = hbhook::explain_end(hbhook::Source::Input, script, 2, false).unwrap();
 /// assert_eq!(
 ///     explained,
 ///     "line 2: field 2, `U+0E14`: expected a character such as 0E14, without U+ or 0x"
@@ -32,21 +33,21 @@ const MOST_DRAWN: usize = 10_000;
 ///
 /// `draws` says that the script was drawn: that run ends before a row with too many glyphs, which
 /// it has explained itself.
-pub fn explain_end(script: &[u8], status: u8, draws: bool) -> Option<String> {
+pub fn explain_end(source: Source, script: &[u8], status: u8, draws: bool) -> Option<String> {
     let mut session = Session::new(Global);
-    for (i, line) in lines_of(Global, script).ok()?.iter().enumerate() {
+    for (number, line) in source.lines(script) {
         match session.carry_out(line) {
             Ok(()) if draws && session.buffer.len() > MOST_DRAWN => return None,
             Ok(()) => {}
-            Err(fault) if Fault::on_line(fault, i + 1).status() != status => return None,
+            Err(fault) if Fault::on_line(fault, number).status() != status => return None,
             Err(LineFault::Unreadable(expected)) => {
                 let line = String::from_utf8_lossy(line);
                 let reason = reason(&session, &line, expected);
-                return Some(format!("line {}: {reason}", i + 1));
+                return Some(format!("line {number}: {reason}"));
             }
             Err(LineFault::Refused(refusal)) => {
                 let reason = refused(refusal, &session.buffer);
-                return Some(format!("line {}: refused: {reason}", i + 1));
+                return Some(format!("line {number}: refused: {reason}"));
             }
         }
     }

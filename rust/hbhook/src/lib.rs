@@ -3,7 +3,8 @@
 //! A script of lines says what a font has and what Unicode's tables say, chooses a shaper, puts a
 //! text into a buffer and runs hooks over it; docs/HBHOOK.md of the repository explains the lines.
 //! [`run_lines`] prints the glyphs that are left, [`explain_lines`] also what was expected of a
-//! rejected line, and [`draw_lines`] writes a page of HTML that shows what each hook did.
+//! rejected line, and [`draw_lines`] writes a page of HTML that shows what each hook did. A file of
+//! lines may have comments and empty lines ([`run_file`], [`Source`]).
 //! [`explain_end`] names the field of a rejected line, and [`without_table`] the characters of the
 //! texts that no `table` line is about. [`lines_of_word`] makes the lines that a word takes;
 //! [`print_text`] and [`draw_text`] take a text the whole way up to a font's lookups, without lines;
@@ -36,6 +37,7 @@ mod generated {
 }
 mod drawing;
 mod explained;
+mod source;
 mod steps;
 mod support;
 mod text;
@@ -46,6 +48,7 @@ mod word;
 pub use drawing::draw_lines;
 pub use explained::{explain_end, without_table};
 pub use generated::hbhook_lines::{explain_lines, run_lines};
+pub use source::{Source, run_file};
 pub use steps::{Choices, MOST_SHOWN, Step, Steps, drawing_style};
 pub use text::{TextFault, draw_text, draw_text_in_font, print_text, print_text_in_font};
 pub use word::{lines_of_word, script_named, scripts_with_hooks};

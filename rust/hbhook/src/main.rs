@@ -3,8 +3,8 @@
 #![forbid(unsafe_code)]
 
 use hbhook::{
-    Choices, TextFault, draw_lines, draw_text, draw_text_in_font, explain_end, lines_of_word,
-    print_text, print_text_in_font, run_lines, script_named, without_table,
+    Choices, Source, TextFault, draw_lines, draw_text, draw_text_in_font, explain_end,
+    lines_of_word, print_text, print_text_in_font, run_file, run_lines, script_named, without_table,
 };
 use sengadlit::Face;
 use sengadlit::alloc::Global;
@@ -18,7 +18,8 @@ use std::path::Path;
 use std::process::ExitCode;
 
 const USAGE: &str = "\
-usage: hbhook [FILE]            runs the lines of the file, and prints the glyphs that they leave
+usage: hbhook [FILE]            runs the lines of the file, and prints the glyphs that they leave; in
+                                a file comments, which begin with #, and empty lines are passed over
        hbhook --explain [FILE]  runs them, and names the field of a rejected line and what was
                                 expected in its place, or why a line was refused
        hbhook --why [FILE]      does that, and lists the characters without a `table` line
@@ -50,6 +51,7 @@ struct Task {
     draws: bool,
     prints_lines: bool,
     is_sound: bool,
+    source: Source,
 }
 
 impl Task {
@@ -126,10 +128,13 @@ impl Task {
     // Runs or draws the lines of a reader.
     fn run(self, input: impl Read) -> u8 {
         if !self.draws {
-            return run_lines(Global, input, io::stdout(), io::stderr());
+            return match self.source {
+                Source::Input => run_lines(Global, input, io::stdout(), io::stderr()),
+                Source::File => run_file(input, io::stdout(), io::stderr()),
+            };
         }
         let mut told = Vec::new();
-        let status = draw_lines(input, io::stdout(), &mut told);
+        let status = draw_lines(self.source, input, io::stdout(), &mut told);
         match io::stderr().write_all(&named(&told)) {
             Ok(()) => status,
             Err(_) => UNREADABLE,
@@ -141,7 +146,7 @@ impl Task {
     fn told(self, script: &[u8], status: u8) -> String {
         let mut told = String::new();
         if status != 0 {
-            match explain_end(script, status, self.draws) {
+            match explain_end(self.source, script, status, self.draws) {
                 Some(explanation) => told = format!("hbhook: {explanation}\n"),
                 None if status == UNREADABLE => return told,
                 None => {}
@@ -241,7 +246,10 @@ fn run(arguments: &[OsString]) -> Result<u8, String> {
         ([], Some(lines)) => Ok(task.carry_out(lines.as_bytes())),
         ([], None) => Ok(task.carry_out(io::stdin())),
         ([file], None) if *file == "-" => Ok(task.carry_out(io::stdin())),
-        ([file], None) => Ok(task.carry_out(open((*file).as_ref())?)),
+        ([file], None) => {
+            task.source = Source::File;
+            Ok(task.carry_out(open((*file).as_ref())?))
+        }
         (_, Some(_)) => Err("a file or a word, not both (hbhook --help)".into()),
         _ => Err("one file at most (hbhook --help)".into()),
     }

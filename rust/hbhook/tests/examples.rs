@@ -1,4 +1,5 @@
-//! The scripts of examples/ print what tests/printed says, each from a file and from standard input.
+//! The scripts of examples/ print what tests/printed says, each from a file and, without its comments,
+//! from standard input.
 
 mod common;
 
@@ -17,7 +18,9 @@ fn examples_print_what_is_written() {
             told: String::new(),
             status: Some(0),
         };
-        let script = fs::read_to_string(&path).unwrap();
+        let file = fs::read_to_string(&path).unwrap();
+        let lines = file.split_inclusive('\n');
+        let script: String = lines.filter(|line| !line.starts_with('#')).collect();
         let path = path.to_str().unwrap();
         assert_eq!(Run::new(&[path], ""), expected, "{path}");
         assert_eq!(Run::new(&["--explain", path], ""), expected, "{path}");

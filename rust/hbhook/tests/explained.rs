@@ -1,7 +1,7 @@
 //! What is explained of a line that ends a run: its field and what was expected, or why it was
 //! refused.
 
-use hbhook::{explain_end, run_lines, without_table};
+use hbhook::{Source, explain_end, run_lines, without_table};
 use sengadlit::alloc::Global;
 
 // The last line of the script is rejected, and explained so.
@@ -14,7 +14,7 @@ fn expect_end(script: &str, status: u8, expected: &str) {
     let ended = run_lines(Global, script.as_bytes(), &mut printed, &mut told);
     assert_eq!(ended, status, "{script:?}");
     let last = script.lines().count();
-    let explained = explain_end(script.as_bytes(), status, false);
+    let explained = explain_end(Source::Input, script.as_bytes(), status, false);
     let expected = format!("line {last}: {expected}");
     assert_eq!(explained.as_deref(), Some(expected.as_str()), "{script:?}");
 }
@@ -135,7 +135,7 @@ fn lines_have_their_fields() {
     );
     expect(
         "// U+41",
-        "expected a line that does something; a comment begins with #",
+        "expected a line that does something; only a named file may have comments, which begin with #",
     );
     expect(
         "stage half 2 1",
@@ -191,12 +191,12 @@ fn refusals_have_their_reasons() {
 
 #[test]
 fn other_ends_are_not_explained() {
-    assert_eq!(explain_end(b"text 41", 0, false), None);
-    assert_eq!(explain_end(b"text 41", 2, false), None);
-    assert_eq!(explain_end(b"text U+41", 1, false), None);
+    assert_eq!(explain_end(Source::Input, b"text 41", 0, false), None);
+    assert_eq!(explain_end(Source::Input, b"text 41", 2, false), None);
+    assert_eq!(explain_end(Source::Input, b"text U+41", 1, false), None);
     let long = format!("text{}\ntext U+41", " 41".repeat(10_001));
-    assert_eq!(explain_end(long.as_bytes(), 2, true), None);
-    assert!(explain_end(long.as_bytes(), 2, false).is_some());
+    assert_eq!(explain_end(Source::Input, long.as_bytes(), 2, true), None);
+    assert!(explain_end(Source::Input, long.as_bytes(), 2, false).is_some());
 }
 
 #[test]

@@ -1,7 +1,7 @@
 //! What no row can say: where lines end, bytes that aren't text, streams that break, and what is
 //! explained.
 
-use hbhook::{draw_lines, explain_lines, run_lines};
+use hbhook::{Source, draw_lines, explain_lines, run_lines};
 use sengadlit::alloc::Global;
 use std::io::{self, ErrorKind, Read, Write};
 
@@ -24,7 +24,7 @@ fn explain(input: &str) -> Carried {
 // The same of a run that draws.
 fn draw(input: &[u8]) -> Carried {
     let (mut page, mut told) = (Vec::new(), Vec::new());
-    let status = draw_lines(input, &mut page, &mut told);
+    let status = draw_lines(Source::Input, input, &mut page, &mut told);
     (status, text(page), text(told))
 }
 
@@ -87,7 +87,10 @@ fn ends_on_broken_streams() {
         run_lines(Global, b"text 41".as_slice(), Broken, &mut told),
         2
     );
-    assert_eq!(draw_lines(b"text 41".as_slice(), Broken, &mut told), 2);
+    assert_eq!(
+        draw_lines(Source::Input, b"text 41".as_slice(), Broken, &mut told),
+        2
+    );
     assert!(told.is_empty());
     assert_eq!(
         run_lines(Global, b"set".as_slice(), &mut printed, Broken),
@@ -96,7 +99,10 @@ fn ends_on_broken_streams() {
     let refused = b"set maxlen 0\ntext 41".as_slice();
     assert_eq!(run_lines(Global, refused, &mut printed, Broken), 2);
     assert!(printed.is_empty());
-    assert_eq!(draw_lines(b"set".as_slice(), &mut printed, Broken), 2);
+    assert_eq!(
+        draw_lines(Source::Input, b"set".as_slice(), &mut printed, Broken),
+        2
+    );
     assert!(!printed.is_empty());
 }
 
@@ -109,7 +115,7 @@ fn explains_lines_that_do_not_read() {
         ),
         (
             "// text",
-            "a line that does something; a comment begins with #",
+            "a line that does something; only a named file may have comments, which begin with #",
         ),
         (
             "text  41",

@@ -1,6 +1,6 @@
 //! Each request for memory is refused in turn: the run is refused with `Memory` and prints nothing.
 
-use hbhook::{explain_lines, run_lines};
+use hbhook::{explain_lines, run_file, run_lines};
 use sengadlit::alloc::Global;
 use std::alloc::{GlobalAlloc, Layout, System};
 use std::cell::Cell;
@@ -79,15 +79,17 @@ impl Run {
     }
 }
 
-// These scripts of examples/, one behind the other.
+// These scripts of examples/ without their comments, one behind the other.
 fn examples(names: &[&str]) -> Vec<u8> {
     let folder = Path::new(env!("CARGO_MANIFEST_DIR")).join("../../examples");
-    let mut script = Vec::new();
+    let mut script = String::new();
     for name in names {
-        script.extend(fs::read(folder.join(name)).unwrap());
-        script.extend(b"set positions no\n");
+        let file = fs::read_to_string(folder.join(name)).unwrap();
+        let lines = file.split_inclusive('\n');
+        script.extend(lines.filter(|line| !line.starts_with('#')));
+        script += "set positions no\n";
     }
-    script
+    script.into()
 }
 
 // Scripts of each shaper, and more of what lines keep.
@@ -136,6 +138,19 @@ fn refuse_each(program: Program, script: &[u8], expect: impl Fn(usize, Run)) -> 
 #[test]
 fn runs_end_with_the_refusal() {
     let count = refuse_each(run, &script(), |refused, run| {
+        assert_eq!(run.status, 1, "request {refused}");
+        assert_eq!(run.told, b"refused: Memory\n", "request {refused}");
+        assert!(run.printed.is_empty(), "request {refused}");
+    });
+    assert!(count > 100, "{count} requests");
+}
+
+// A file takes its memory as an input does.
+#[test]
+fn files_end_with_the_refusal() {
+    let script = [b"# a comment\n\n", &script()[..]].concat();
+    let as_file: Program = |file, printed, told| run_file(file, printed, told);
+    let count = refuse_each(as_file, &script, |refused, run| {
         assert_eq!(run.status, 1, "request {refused}");
         assert_eq!(run.told, b"refused: Memory\n", "request {refused}");
         assert!(run.printed.is_empty(), "request {refused}");

@@ -295,3 +295,41 @@ fn without_cargo_each_message_names_the_script() {
     }
     let _ = fs::remove_dir_all(&folder);
 }
+
+// A stand-in for rt that runs this program in place of the one that Rattle's compiler makes.
+const RT: &str =
+    "#!/bin/sh\nPROGRAM\nstatus=$?\necho \"run=ended status=$status\" >&2\nexit $status\n";
+
+// The program that Rattle's compiler makes takes lines alone: the script leaves comments and empty lines of a file out, and
+// its messages have the numbers of the file.
+#[test]
+fn a_file_for_the_proved_program_may_have_comments() {
+    let tools = Tools::new("proved", "1.85.0", "1.85.0");
+    let rt = tools.0.join("bin/rt");
+    fs::write(&rt, RT.replace("PROGRAM", env!("CARGO_BIN_EXE_hbhook"))).unwrap();
+    fs::set_permissions(&rt, fs::Permissions::from_mode(0o755)).unwrap();
+    let file = tools.path("file of lines");
+    for (lines, printed, told, status) in [
+        ("# one\n\ntext 41\n", "0041 0 00000000 00 0 0 0\n", "", 0),
+        ("# one\n\n", "", "", 0),
+        (
+            "\n# two\ntext 41\ntext U+41\n",
+            "",
+            "line 4: unreadable\n",
+            2,
+        ),
+        ("#\ntext 41\n \n", "", "line 3: unreadable\n", 2),
+        ("set maxlen 0\n#\ntext 41\n", "", "refused: TooLong\n", 1),
+    ] {
+        fs::write(&file, lines).unwrap();
+        let run = tools.run(&[], &["--proved", &file]);
+        assert_eq!(
+            (run.printed.as_str(), run.status),
+            (printed, Some(status)),
+            "{lines:?}"
+        );
+        let named = |line: &&str| !line.starts_with("hbhook: ");
+        let messages: String = run.told.split_inclusive('\n').filter(named).collect();
+        assert_eq!(messages, told, "{lines:?}");
+    }
+}

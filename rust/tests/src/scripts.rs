@@ -31,16 +31,12 @@ struct Draft {
 }
 
 impl Draft {
-    /// Adds a line; once in a while a line before it that can't be read, or one that does nothing.
+    /// Adds a line; once in a while a line before it that can't be read.
     fn add(&mut self, line: Arguments) {
         if self.numbers.once_in(4000) {
             let line = self.numbers.one_of(&UNREADABLE);
             self.lines.push_str(line);
             self.lines.push('\n');
-        }
-        if self.numbers.once_in(200) {
-            self.lines
-                .push_str(self.numbers.one_of(&["\n", "# a comment\n", "#\r\n"]));
         }
         self.lines.push_str(&line.to_string());
         self.lines.push('\n');
@@ -53,8 +49,10 @@ impl Draft {
 }
 
 /// Lines that can't be read, each for a reason of its own.
-const UNREADABLE: [&str; 23] = [
+const UNREADABLE: [&str; 25] = [
+    "",
     " ",
+    "# a comment",
     "// a comment",
     "text  41",
     "text 41 ",

@@ -5,21 +5,20 @@ use super::numbers::Numbers;
 use super::origins::{Origins, Traced};
 use super::page::{Answers, FOOT, Fault as FaultNote, HEAD, Head, Line, Text, shortened};
 use super::{Legend, draw_row};
-use crate::generated::hbhook_commands::{
-    Fault, LineKind, kind_of_line, lines_of, read_input, report,
-};
+use crate::generated::hbhook_commands::{Fault, LineKind, kind_of_line, read_input, report};
 use crate::generated::hbhook_lines::Session;
+use crate::source::Source;
 use sengadlit::GlyphInfo;
 use sengadlit::alloc::Global;
 use std::io::{Read, Write};
 
-/// Carries out the lines of the input and writes a page that shows the buffer before and after each
+/// Carries out the lines of an input or a file and writes a page that shows the buffer before and after each
 /// hook. A refusal or a fault ends the run: the page then shows it below all that came before it,
 /// and the message goes to `faults`. A line that leaves more than 10,000 glyphs is refused as too
 /// long, with how many fit on a line of its own. Returns the status to end with: 0, 1 for a
 /// refusal, and 2 for a rejected line, and without a message for a reader or a writer that fails.
-pub fn draw_lines(input: impl Read, output: impl Write, faults: impl Write) -> u8 {
-    match draw(input, output) {
+pub fn draw_lines(source: Source, input: impl Read, output: impl Write, faults: impl Write) -> u8 {
+    match draw(source, input, output) {
         Ok(None) => 0,
         Ok(Some(ended)) => ended.report(faults),
         Err(fault) => report(faults, fault),
@@ -27,11 +26,10 @@ pub fn draw_lines(input: impl Read, output: impl Write, faults: impl Write) -> u
 }
 
 // Draws the lines, and returns what ended the page.
-fn draw(input: impl Read, mut output: impl Write) -> Result<Option<Ended>, Fault> {
+fn draw(source: Source, input: impl Read, mut output: impl Write) -> Result<Option<Ended>, Fault> {
     let bytes = read_input(Global, input)?;
-    let lines = lines_of(Global, &bytes)?;
     let mut drawing = Drawing::new();
-    let ended = drawing.draw_each(lines.as_slice());
+    let ended = drawing.draw_each(source.lines(&bytes));
     let written = output.write_all(drawing.finished().as_bytes());
     written
         .and_then(|()| output.flush())
@@ -64,8 +62,8 @@ impl Drawing {
     }
 
     // Draws the lines in order, up to the first fault, which it returns.
-    fn draw_each(&mut self, lines: &[&[u8]]) -> Option<Ended> {
-        for (number, line) in (1..).zip(lines) {
+    fn draw_each<'a>(&mut self, lines: impl Iterator<Item = (usize, &'a [u8])>) -> Option<Ended> {
+        for (number, line) in lines {
             if let Err(fault) = self.draw(number, line) {
                 self.draw_written();
                 let told = FaultNote(Line::new(number, line), fault);

@@ -9,6 +9,7 @@ use crate::drawing::{Legend, Numbers, Origins, Traced, draw_row, row_of};
 use crate::explained::explain_end;
 use crate::generated::hbhook_commands::{Fault, LineFault, LineKind, kind_of_line, print_buffer};
 use crate::generated::hbhook_lines::Session;
+use crate::source::Source;
 use crate::support::string::String as Page;
 use crate::way::Way;
 use sengadlit::alloc::Global;
@@ -50,7 +51,7 @@ impl Walk {
             done.map_err(|fault| match fault {
                 Stop::Line(fault) => {
                     let status = Fault::on_line(fault, i + 1).status();
-                    let told = explain_end(lines.as_bytes(), status, false);
+                    let told = explain_end(Source::Input, lines.as_bytes(), status, false);
                     told.unwrap_or_else(|| format!("line {}: {}", i + 1, reason(fault)))
                 }
                 Stop::TooMany(_) | Stop::TooManySteps => {

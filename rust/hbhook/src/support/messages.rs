@@ -12,7 +12,10 @@ impl fmt::Display for Expected {
             Expected::LineFeed => {
                 write!(f, "a line feed alone at the end, without a carriage return")
             }
-            Expected::Command => write!(f, "a line that does something; a comment begins with #"),
+            Expected::Command => write!(
+                f,
+                "a line that does something; only a named file may have comments, which begin with #"
+            ),
             Expected::OneSpace => write!(f, "one space between two fields, and none at either end"),
             Expected::Fields(fields) => write!(f, "these fields: {fields}"),
             Expected::Word(words) => write!(f, "one of these words: {words}"),

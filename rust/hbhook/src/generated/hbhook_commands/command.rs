@@ -56,8 +56,6 @@ pub enum LineKind {
 
 /// One line of input.
 pub enum Command {
-    /// An empty line, or a comment, which begins with `#`.
-    Comment,
     /// `font U G W`: a character's glyph, and the glyph's advance.
     Font(char, GlyphId, i32),
     /// `applies I G G` or with three G: glyphs to which a lookup would apply.
@@ -87,11 +85,8 @@ pub enum Command {
 }
 
 impl Command {
-    /// The command of a line, whose fields one space separates, unless it is empty or a comment.
+    /// The command of a line, whose fields one space separates.
     pub fn parse(alloc: Global, line: &str) -> Result<Command, LineFault> {
-        if line.is_empty() || line.starts_with('#') {
-            return Ok(Command::Comment);
-        }
         let fields: Vec<&str> = line.split(' ').collect_in(alloc)?;
         match *fields.as_slice() {
             [word, ref fields @ ..] => read_command(alloc, word, fields),

@@ -43,7 +43,7 @@ impl Expected {
             Expected::NoByteOrderMark
         } else if line.ends_with('\r') {
             Expected::LineFeed
-        } else if line.starts_with("//") {
+        } else if line.is_empty() || line.starts_with('#') || line.starts_with("//") {
             Expected::Command
         } else if line.contains('\t') || line.split(' ').any(|field| field.is_empty()) {
             Expected::OneSpace
