@@ -146,3 +146,30 @@ fn refusal_of(error: CallError) -> ShaperError {
         CallError::Condition(condition) => unreachable!("{condition:?} isn't met"),
     }
 }
+
+#[cfg(test)]
+mod tests {
+    use super::*;
+    use sengadlit::script;
+
+    // The features that the shaper turns on glyph by glyph, and those of fractions, as the plan has them.
+    #[test]
+    fn the_lines_of_a_text_have_the_plans_masks() {
+        let way = Way::of(script::KHMER, Wanted::default()).unwrap();
+        let lines = way.lines("\u{1780}");
+        for tag in [
+            b"pref", b"blwf", b"abvf", b"pstf", b"cfar", b"frac", b"numr", b"dnom",
+        ] {
+            let mask = way.plan.plan().ot_map.one_mask(Tag(*tag));
+            let line = format!("mask {} {mask:x}", String::from_utf8_lossy(tag));
+            assert!(mask != 0 && lines.contains(&line), "{line}: {lines:?}");
+        }
+        assert_eq!(
+            lines
+                .iter()
+                .filter(|line| line.starts_with("mask "))
+                .count(),
+            8
+        );
+    }
+}

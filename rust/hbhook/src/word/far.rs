@@ -65,3 +65,25 @@ fn changes(session: &Session, numbers: &BTreeMap<u32, u32>) -> Vec<String> {
         })
         .collect()
 }
+
+#[cfg(test)]
+mod tests {
+    use super::*;
+
+    // As many characters as there are numbers of surrogates and behind them, and more, so that lower
+    // numbers are taken, too: none that the text has, nor that of a dotted circle.
+    #[test]
+    fn a_number_that_is_free_is_no_characters_of_the_text() {
+        let far = (0x2_0000..0x2_5000).filter_map(char::from_u32);
+        let text: String = "\u{0915}\u{E000}".chars().chain(far).collect();
+        let numbers = free_numbers(&text);
+        assert_eq!(numbers.len(), 0x5000);
+        let given: BTreeSet<u32> = numbers.into_values().collect();
+        assert_eq!(given.len(), 0x5000);
+        assert!(given.contains(&0xD800) && given.contains(&0xFFFF) && given.contains(&1));
+        for taken in [0, 0x0915, 0x25CC, 0xE000] {
+            assert!(!given.contains(&taken), "{taken:04X}");
+        }
+        assert!(given.last() <= Some(&MOST));
+    }
+}
