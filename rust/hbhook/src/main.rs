@@ -4,7 +4,8 @@
 
 use hbhook::{
     Choices, Source, TextFault, draw_lines, draw_text, draw_text_in_font, explain_end,
-    lines_of_word, print_text, print_text_in_font, run_file, run_lines, script_named, without_table,
+    lines_of_word, print_text, print_text_in_font, run_file, run_lines, script_named,
+    without_table,
 };
 use sengadlit::Face;
 use sengadlit::alloc::Global;

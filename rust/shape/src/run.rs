@@ -138,9 +138,13 @@ impl<'a> LineShaper<'a> {
         trace: Option<&Trace<'_>>,
     ) -> Result<GlyphBuffer, String> {
         let (face, features) = (self.face, &self.settings.features);
-        let plan = self
-            .plans
-            .plan(face, buffer.direction(), buffer.script(), features);
+        let plan = self.plans.plan(
+            face,
+            buffer.direction(),
+            buffer.script(),
+            buffer.language(),
+            features,
+        );
         let plan = plan.map_err(|error| error.to_string())?;
         let shaped = match trace.filter(|trace| trace.settings.traces) {
             Some(trace) => {

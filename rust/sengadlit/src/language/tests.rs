@@ -4,9 +4,9 @@ use super::{Language, LanguageError, tags, text_tags};
 use crate::buffer::Script;
 use crate::generated::opentype_font::text_tags::TagList;
 use crate::script;
-use rust_alloc::borrow::ToOwned;
-use rust_alloc::format;
 use rust_alloc::string::{String, ToString};
+use std::borrow::ToOwned;
+use std::format;
 
 /// The first tag of OpenType of each of these languages; none where it is empty.
 const FIRST_TAGS: &[(&str, &str)] = &[
