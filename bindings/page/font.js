@@ -23,7 +23,8 @@ async function takeFont(file) {
   if (!file) return;
   try {
     fonts = await (loading ??= loadFonts());
-    fonts.write(new Uint8Array(await file.arrayBuffer()), fonts.calls.font_room);
+    const bytes = new Uint8Array(await file.arrayBuffer());
+    fonts.takeFont(bytes);
     metrics = fonts.ask("name");
     outlines = new Map();
     by("font-note").textContent = metrics ? `${file.name}, ${metrics.units} units per em.` : `${file.name} can't be read as a font.`;
@@ -32,6 +33,7 @@ async function takeFont(file) {
     by("font-note").textContent = `${file.name}: ${error.message}`;
   }
   showWithFont();
+  if (metrics) showShapedBy(file.name, fonts.font);
 }
 
 // ---- Shaping ----

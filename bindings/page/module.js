@@ -1,9 +1,11 @@
 "use strict";
 // Modules of wasm that answer requests of text (hooks/src/lib.rs, fonts/src/lib.rs).
 
+const decoded = (text) => Uint8Array.from(atob(text), (letter) => letter.charCodeAt(0));
+
 // The bytes that a script holds, packed by gzip and in base64.
 async function unpacked(packed) {
-  const bytes = Uint8Array.from(atob(packed), (letter) => letter.charCodeAt(0));
+  const bytes = decoded(packed);
   const stream = new Blob([bytes]).stream().pipeThrough(new DecompressionStream("gzip"));
   return new Response(stream).arrayBuffer();
 }
@@ -18,6 +20,13 @@ class Module {
 
   async start() {
     this.calls = (await WebAssembly.instantiate(this.compiled)).exports;
+    if (this.font) this.takeFont(this.font);
+  }
+
+  // Gives the module a font, which it has again where it is started anew.
+  takeFont(bytes) {
+    this.font = bytes;
+    this.write(bytes, this.calls.font_room);
   }
 
   // Writes bytes where the module wants them.

@@ -50,9 +50,42 @@ function run() {
     shown = null;
     by("note").textContent = `${cut}The program ended: ${error.message}`;
   }
+  showShaped();
   keepAddress();
   document.body.dataset.took = performance.now() - began;
   document.dispatchEvent(new Event("shown"));
+}
+
+// ---- The text in a font ----
+
+// Shows the steps of the text in the font: what is before its lookups, each lookup that changes the text, and the end.
+function showShaped() {
+  const text = by("text").value;
+  let shaped = null;
+  try {
+    if (text !== "" && !isOfLines()) shaped = hooks.ask(textRequest(text).replace("text", "shaped"));
+  } catch {
+    // (the module is started anew, and there is nothing to show)
+  }
+  by("in-font").hidden = !shaped;
+  by("shaped").replaceChildren(...(shaped?.steps ?? []).map(shapedElement));
+  by("shaped-legend").innerHTML = shaped?.legend ?? "";
+}
+
+function shapedElement(step) {
+  const element = made("section", { class: "shaped" });
+  element.append(made("h2", {}, made("code", {}, step.heads[0])), made("p", { class: "told" }, step.told));
+  const row = made("div", { class: "drawn" });
+  row.innerHTML = step.drawn;
+  element.append(row, tableElement(step));
+  return element;
+}
+
+// Takes the font that is dropped on the page for these steps.
+function showShapedBy(name, bytes) {
+  by("shaped-font").textContent = name;
+  hooks.takeFont(bytes);
+  showShaped();
 }
 
 // ---- The address ----
@@ -264,6 +297,7 @@ function addExamples() {
 
 async function start() {
   hooks = await Module.load(HOOKS);
+  hooks.takeFont(decoded(TEXTS.font));
   document.head.prepend(made("style", {}, hooks.ask("style")));
   for (const code of hooks.ask("scripts")) by("script").append(made("option", { value: code }, scriptName(code)));
   addExamples();

@@ -242,6 +242,30 @@ class Tests:
         self.page.run(f"({LINES})({js('set shaper thai' + chr(10) + 'text 0E14 0E33' + chr(10) + 'run nothing')})")
         assert "Ended at line 3: field 2, `nothing`: expected" in self.note(), self.note()
 
+    def test_a_text_is_shaped_in_the_font_of_the_page(self):
+        """Words end with the glyphs that hb-shape has for the sample font, drawn with their outlines."""
+        count = 0
+        for line in (TOP / "fonts/words.txt").read_text("utf-8").splitlines():
+            word, found, glyphs = line.partition(";")
+            if not found or line.startswith("#"):
+                continue
+            self.type(word)
+            names = [glyph.partition("=")[0] for glyph in glyphs.strip("[]").split("|")]
+            shown = self.page.run("[...document.querySelectorAll('.shaped:last-child .row:first-of-type .number')].map((it) => it.textContent)")
+            assert shown[: len(names)] == names, (word, shown, names)
+            count += 1
+        self.type("Tofi")
+        assert self.page.run("document.querySelectorAll('.shaped .outline').length") >= 3
+        assert self.page.run("by('shaped-font').textContent") == "of this page"
+        return f"{count} words"
+
+    def test_a_font_that_is_dropped_shapes_the_steps(self):
+        self.type("\u1780\u17c4")
+        self.choose_font(self.fonts / "NotoSansKhmer-Regular.ttf")
+        self.page.wait("by('shaped-font').textContent === 'NotoSansKhmer-Regular.ttf'")
+        heads = self.page.run("[...document.querySelectorAll('.shaped h2')].map((it) => it.textContent)")
+        assert heads[0] == "before lookups" and heads[-1] == "shape", heads
+
     def test_fonts_shape_as_natively(self):
         """Two fonts are dropped: 1,000 words have the numbers of glyphs that the native programs give."""
         count = 0
