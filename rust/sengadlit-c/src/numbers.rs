@@ -105,7 +105,23 @@ pub fn hooks(shaper: Shaper) -> u32 {
 
 #[cfg(test)]
 mod tests {
+    use super::{general_category, joining_type};
+    use sengadlit::buffer::GeneralCategory;
     use sengadlit::categories::{indic, khmer, myanmar, position, universal};
+    use sengadlit::plan::JoiningType;
+
+    // The numbers of HarfBuzz's hb_unicode_general_category_t and arabic_joining_t (7 is T, 8 X).
+    #[test]
+    fn other_numbers_of_tables_stand_for_what_is_unassigned() {
+        assert_eq!(joining_type(7), JoiningType::T);
+        for number in [6, 9, 255] {
+            assert_eq!(joining_type(number), JoiningType::U, "{number}");
+        }
+        assert_eq!(general_category(29), GeneralCategory::Zs);
+        for number in [30, 255] {
+            assert_eq!(general_category(number), GeneralCategory::Cn, "{number}");
+        }
+    }
 
     macro_rules! numbers {
         ($module:ident: $($name:ident)*) => {

@@ -238,4 +238,24 @@ mod tests {
         assert_eq!(chosen(&sound), (CODE.0, BreakFlags::Sound, without));
         assert_eq!(chosen(&centred), (StretchStart::Centred, CODE.1, without));
     }
+    // Marks stretch in a font that has `stch`; letters join, whatever it has.
+    #[test]
+    fn data_tell_whether_marks_stretch() {
+        let feature = |name: &[u8; 4]| Feature {
+            tag: u32::from_be_bytes(*name),
+            mask: 0x10,
+            stage: 0,
+        };
+        let data_of = |shaper, feature| {
+            let plan = make(shaper, &input(), &[feature], &[], &[]).ok().unwrap();
+            let data = data(&plan);
+            (data.joins, data.has_stch, data.masks)
+        };
+        let arabic = Shaper::Arabic;
+        assert_eq!(data_of(arabic, feature(b"stch")), (1, 1, [0; 9]));
+        let (joins, has_stch, masks) = data_of(arabic, feature(b"init"));
+        assert_eq!((joins, has_stch), (1, 0));
+        assert_eq!(masks.iter().filter(|mask| **mask == 0x10).count(), 1);
+        assert_eq!(data_of(Shaper::Thai, feature(b"stch")), (0, 0, [0; 9]));
+    }
 }

@@ -44,8 +44,10 @@ static void meet_an_internal_error(void)
         world.font_funcs.glyph_h_advance = changing_advance;
         (void)sengadlit_run_pause(world.plan, SENGADLIT_PAUSE_RECORD_STCH, NULL, NULL, 0, world.buffer, NULL);
         positions()[0].x_advance = 1000;
-        if (sengadlit_postprocess_glyphs(world.plan, &world.font, world.buffer) == SENGADLIT_INTERNAL)
+        if (sengadlit_postprocess_glyphs(world.plan, &world.font, world.buffer) == SENGADLIT_INTERNAL) {
+            check("no state is left", sengadlit_buffer_get_state(world.buffer) == 0);
             return;
+        }
     }
     check("an internal error", 0);
 }

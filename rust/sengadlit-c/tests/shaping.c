@@ -559,12 +559,15 @@ static void try_spaces(void)
     world.font_funcs.nominal_glyph = nominal;
 }
 
-/* Downwards each glyph has its vertical advance, and its vertical origin is at the pen. */
+/* Downwards each glyph has its vertical advance, and its vertical origin is at the pen. Upwards the same functions are wanted. */
 static void try_vertical(void)
 {
-    sengadlit_shape_plan_t *down = bare_latin(SENGADLIT_DIRECTION_TTB, 0);
+    sengadlit_shape_plan_t *down = bare_latin(SENGADLIT_DIRECTION_TTB, 0), *up = bare_latin(SENGADLIT_DIRECTION_BTT, 0);
     const sengadlit_glyph_position_t *found;
 
+    set_text("xy");
+    check("no vertical metrics, upwards", shape_whole(up) == SENGADLIT_ARGUMENT);
+    sengadlit_shape_plan_destroy(up);
     world.properties.direction = SENGADLIT_DIRECTION_TTB;
     set_text("xy");
     check("no vertical metrics", shape_whole(down) == SENGADLIT_ARGUMENT);

@@ -499,6 +499,18 @@ static void pairs(void)
     sengadlit_plan_destroy(plan);
 }
 
+/* MAI EK has 107, as in HarfBuzz, and SHEVA 22; what is no character has none, whatever its low bits are. */
+static void classes(void)
+{
+    check("MAI EK", sengadlit_modified_combining_class(0x0E48) == 107);
+    check("SHEVA", sengadlit_modified_combining_class(0x05B0) == 22);
+    check("a letter", sengadlit_modified_combining_class(0x0E01) == 0);
+    check("a surrogate", sengadlit_modified_combining_class(0xD800) == 0);
+    check("beyond Unicode", sengadlit_modified_combining_class(0x110000) == 0 &&
+                                sengadlit_modified_combining_class(0x200E48) == 0 &&
+                                sengadlit_modified_combining_class(0x80000E48) == 0);
+}
+
 int main(void)
 {
     utf8();
@@ -516,6 +528,7 @@ int main(void)
     edits();
     shapers();
     pairs();
+    classes();
     sengadlit_buffer_destroy(buffer);
     printf("%u passed, %u failed\n", passed, failed);
     return failed == 0 ? EXIT_SUCCESS : EXIT_FAILURE;
