@@ -3,7 +3,7 @@
 use sengadlit::opentype::Replacements;
 use sengadlit::ot_shape_normalize::Rounds;
 use sengadlit::plan::BreakFlags;
-use sengadlit::{BufferFlags, Direction, Feature, Script, SerializeFlags};
+use sengadlit::{BufferFlags, Direction, Feature, Language, Script, SerializeFlags};
 use std::path::PathBuf;
 
 /// What the arguments set; what isn't set is as in hb-shape.
@@ -16,6 +16,7 @@ pub struct Settings {
     pub text: TextSettings,
     pub direction: Option<Direction>,
     pub script: Option<Script>,
+    pub language: Option<Language>,
     pub flags: BufferFlags,
     pub replacements: Replacements,
     pub has_utf8_clusters: bool,

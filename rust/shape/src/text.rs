@@ -57,6 +57,9 @@ impl<'a> Text<'a> {
         if let Some(direction) = self.direction {
             buffer.set_direction(direction);
         }
+        if let Some(language) = self.settings.language {
+            buffer.set_language(language);
+        }
         buffer.guess_segment_properties();
         buffer.set_cluster_level(cluster_level(self.settings.cluster_level));
         Ok(())

@@ -1,6 +1,6 @@
 //! What an option's value stands for. Each function returns what is wrong with it otherwise.
 
-use sengadlit::{Direction, Feature, GlyphId, Script};
+use sengadlit::{Direction, Feature, GlyphId, Language, LanguageError, Script};
 use std::path::PathBuf;
 
 /// A value as a text.
@@ -105,6 +105,17 @@ pub fn script(value: &[u8]) -> Result<Script, String> {
     code[0].make_ascii_uppercase();
     let other = OTHER_CODES.iter().find(|(from, _)| **from == code);
     Ok(Script(other.map_or(code, |(_, to)| **to)))
+}
+
+/// A language by its tag in BCP 47; an empty one is none.
+pub fn language(value: &[u8]) -> Result<Option<Language>, String> {
+    match text(value)? {
+        "" => Ok(None),
+        tag => tag
+            .parse()
+            .map(Some)
+            .map_err(|error: LanguageError| error.to_string()),
+    }
 }
 
 /// Features with commas or spaces between them, perhaps in quotation marks.

@@ -214,7 +214,10 @@ const SHAPE: &[Entry] = &[
         "language",
         "BCP 47 tag",
         "Set text language (default: none)",
-        |_, language| values::text(language).map(|_| ()),
+        |settings, language| {
+            settings.language = values::language(language)?;
+            Ok(())
+        },
     ),
     value(
         "script",
