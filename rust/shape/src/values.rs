@@ -136,8 +136,11 @@ pub fn features(value: &[u8]) -> Result<Vec<Feature>, String> {
 /// What may stand between numbers of characters.
 const BETWEEN: &[u8] = b"<+-|>{},;&#\\xXuUnNiI\n\t\x0B\x0C\r ";
 
-/// A text by the numbers of its characters, which are hexadecimal, in UTF-8.
+/// A text by the numbers of its characters, which are hexadecimal, in UTF-8; an asterisk is itself.
 pub fn unicodes(value: &[u8]) -> Result<Vec<u8>, String> {
+    if value == b"*" {
+        return Ok(value.to_vec());
+    }
     let mut text = vec![];
     let mut rest = value;
     loop {
@@ -202,6 +205,7 @@ mod tests {
             Ok(expected)
         );
         assert_eq!(unicodes(b"").as_deref(), Ok(&[][..]));
+        assert_eq!(unicodes(b"*").as_deref(), Ok(&b"*"[..]));
         assert_eq!(unicodes(b"D800").as_deref(), Ok(&b"\xED\xA0\x80"[..]));
         assert_eq!(unicodes(b"110000").as_deref(), Ok(&b"\xF4\x90\x80\x80"[..]));
         let six = b"\xFD\xBF\xBF\xBF\xBF\xBF";
