@@ -1225,8 +1225,9 @@ typedef struct sengadlit_shape_options_t {
                                         a language. Null: none. */
     const sengadlit_user_feature_t *features; /* May be null if the length is 0. */
     unsigned int features_length;
-    sengadlit_bool_t sound_breaks;   /* These two as in sengadlit_plan_input_t. */
-    sengadlit_bool_t searches_medials;
+    sengadlit_bool_t sound_breaks;   /* As in sengadlit_plan_input_t. */
+    sengadlit_bool_t skips_medials;  /* Whether Indic looks for a base among those consonants alone that aren't medial, as
+                                        rustybuzz does. */
     sengadlit_bool_t normalizes_always; /* Whether letters compose in a text without marks too, so that a letter is the same in a
                                         short text and in a long one. */
     uint32_t invisible_glyph;        /* For characters that aren't drawn; 0: the font's space, or nothing. These three are at most

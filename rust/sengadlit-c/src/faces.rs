@@ -5,7 +5,7 @@ use crate::buffer::{Buffer, Segment};
 use crate::encodings::Unit;
 use crate::layout::UserFeature;
 use crate::numbers;
-use crate::plan::{choices, list};
+use crate::plan::list;
 use crate::plan_cache::{Entry, PlanCache, PlanOf};
 use crate::shaping::of_call;
 use crate::status::{Argument, Error};
@@ -52,7 +52,6 @@ impl<'a> Chosen<'a> {
         language: Option<&[u8]>,
         features: &[UserFeature],
     ) -> Result<Self, Error> {
-        let choices = choices(0, options.sound_breaks, options.searches_medials);
         let direction = numbers::direction(options.direction);
         Ok(Chosen {
             segment: Segment {
@@ -66,8 +65,15 @@ impl<'a> Chosen<'a> {
                 0 => Rounds::AsCode,
                 _ => Rounds::Always,
             },
-            break_flags: choices.break_flags,
-            base_search: choices.base_search,
+            break_flags: match options.sound_breaks {
+                0 => BreakFlags::AsCode,
+                _ => BreakFlags::Sound,
+            },
+            // (HarfBuzz looks among all)
+            base_search: match options.skips_medials {
+                0 => BaseSearch::AllConsonants,
+                _ => BaseSearch::WithoutMedials,
+            },
             replacements: Replacements {
                 invisible: glyph(options.invisible_glyph)?,
                 not_found: glyph(options.not_found_glyph)?,
@@ -193,5 +199,41 @@ impl MetricsFont for ShapedFace<'_> {
         } else {
             (x, y)
         }
+    }
+}
+
+#[cfg(test)]
+mod tests {
+    use super::*;
+    use crate::border::faces::ShapeOptions;
+
+    type Choices = (Rounds, BreakFlags, BaseSearch);
+
+    fn chosen(options: &ShapeOptions<'_>) -> Choices {
+        let chosen = Chosen::of(options, None, &[]).ok().unwrap();
+        (chosen.rounds, chosen.break_flags, chosen.base_search)
+    }
+
+    #[test]
+    fn each_choice_of_the_options_is_the_plans() {
+        use BaseSearch::{AllConsonants, WithoutMedials};
+        let none = ShapeOptions::NONE;
+        let (code, rounds) = (BreakFlags::AsCode, Rounds::AsCode);
+        assert_eq!(chosen(&none), (rounds, code, AllConsonants));
+        let always = ShapeOptions {
+            normalizes_always: 1,
+            ..none
+        };
+        assert_eq!(chosen(&always), (Rounds::Always, code, AllConsonants));
+        let sound = ShapeOptions {
+            sound_breaks: 1,
+            ..none
+        };
+        assert_eq!(chosen(&sound), (rounds, BreakFlags::Sound, AllConsonants));
+        let skips = ShapeOptions {
+            skips_medials: 1,
+            ..none
+        };
+        assert_eq!(chosen(&skips), (rounds, code, WithoutMedials));
     }
 }

@@ -198,7 +198,7 @@ mod tests {
         layout!("unaffected", Unaffected: front, back);
         #[cfg(feature = "opentype")]
         layout!("shape_options", ShapeOptions<'static>: size, script, direction, language, features, features_length, sound_breaks,
-        searches_medials, normalizes_always, invisible_glyph, not_found_glyph, not_found_selector_glyph, font, cache);
+        skips_medials, normalizes_always, invisible_glyph, not_found_glyph, not_found_selector_glyph, font, cache);
         #[cfg(feature = "opentype")]
         layout!("glyph_extents", GlyphExtents: x_bearing, y_bearing, width, height);
         lines

@@ -182,7 +182,7 @@ static void print_shaping(void)
     FIELD(shape_options, features);
     FIELD(shape_options, features_length);
     FIELD(shape_options, sound_breaks);
-    FIELD(shape_options, searches_medials);
+    FIELD(shape_options, skips_medials);
     FIELD(shape_options, normalizes_always);
     FIELD(shape_options, invisible_glyph);
     FIELD(shape_options, not_found_glyph);

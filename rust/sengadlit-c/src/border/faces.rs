@@ -439,7 +439,7 @@ pub struct ShapeOptions<'a> {
     pub features: *const UserFeature,
     pub features_length: c_uint,
     pub sound_breaks: Bool,
-    pub searches_medials: Bool,
+    pub skips_medials: Bool,
     pub normalizes_always: Bool,
     pub invisible_glyph: u32,
     pub not_found_glyph: u32,
@@ -454,8 +454,8 @@ unsafe impl Growing for ShapeOptions<'_> {
 }
 
 impl ShapeOptions<'_> {
-    // What null stands for.
-    const NONE: Self = ShapeOptions {
+    /// What null stands for.
+    pub const NONE: Self = ShapeOptions {
         size: size_of::<Self>(),
         script: 0,
         direction: 0,
@@ -463,7 +463,7 @@ impl ShapeOptions<'_> {
         features: null(),
         features_length: 0,
         sound_breaks: 0,
-        searches_medials: 0,
+        skips_medials: 0,
         normalizes_always: 0,
         invisible_glyph: 0,
         not_found_glyph: 0,
