@@ -1,5 +1,5 @@
-// An exception that leaves a callback ends the program, with a message on standard error: each callback throws in a process of
-// its own. The last line is 'N passed, M failed'.
+// throws FONT: an exception that leaves a callback ends the program, with a message on standard error: each callback throws in a
+// process of its own. The last line is 'N passed, M failed'.
 #include <sengadlit.h>
 
 #include <csignal>
@@ -236,6 +236,41 @@ static void lend()
     sengadlit_plan_destroy(plan);
 }
 
+static unsigned char font_bytes[1 << 16];
+static size_t font_length;
+
+static void destroy_face(void *) { meet("destroy of a face"); }
+
+static int32_t own_advance(void *, uint32_t)
+{
+    meet("glyph_h_advance of a text");
+    return 7;
+}
+
+static sengadlit_bool_t own_glyph(void *, uint32_t, uint32_t *glyph)
+{
+    meet("nominal_glyph of a text");
+    *glyph = 1;
+    return 1;
+}
+
+// A text by a face, with a font of the caller's.
+static void shape_by_face()
+{
+    sengadlit_font_funcs_t funcs = SENGADLIT_INIT(sengadlit_font_funcs_t);
+    const sengadlit_font_t own = {&funcs, nullptr};
+    sengadlit_shape_options_t options = SENGADLIT_INIT(sengadlit_shape_options_t);
+    sengadlit_buffer_t *buffer = sengadlit_buffer_create();
+    sengadlit_face_t *face = sengadlit_face_create(font_bytes, font_length, 0, nullptr, destroy_face, nullptr);
+
+    funcs.nominal_glyph = own_glyph;
+    funcs.glyph_h_advance = own_advance;
+    options.font = &own;
+    (void)sengadlit_shape_utf8(face, "Tofi", -1, &options, buffer);
+    sengadlit_buffer_destroy(buffer);
+    sengadlit_face_destroy(face);
+}
+
 // Calls that make every call back.
 static void call_everything()
 {
@@ -258,6 +293,7 @@ static void call_everything()
     (void)sengadlit_run_pause(indic, SENGADLIT_PAUSE_INITIAL_REORDERING, &font, nullptr, 0, devanagari, nullptr);
     shape_whole();
     lend();
+    shape_by_face();
     sengadlit_set_message_func(receive, nullptr);
     for (int i = 0; i < 3000; i++) stretch();
 }
@@ -294,13 +330,18 @@ static void expect_end(const char *callback)
     holds ? passed++ : failed++;
 }
 
-int main()
+int main(int argc, char **argv)
 {
+    std::FILE *file = argc == 2 ? std::fopen(argv[1], "rb") : nullptr;
     static const char *const callbacks[] = {
         "nominal_glyph", "glyph_h_advance", "would_substitute", "has_feature", "joining_type", "general_category",
         "indic_categories", "use_category", "compose", "decompose", "add_feature", "add_gsub_pause", "destroy", "message",
         "variation_glyph", "glyph_props", "substitute", "is_mark", "position", "finish_positions", "glyph_v_advance",
-        "glyph_v_origin", "grow"};
+        "glyph_v_origin", "grow", "destroy of a face", "nominal_glyph of a text", "glyph_h_advance of a text"};
+
+    if (!file) return EXIT_FAILURE;
+    font_length = std::fread(font_bytes, 1, sizeof font_bytes, file);
+    (void)std::fclose(file);
 
     for (const char *callback : callbacks) expect_end(callback);
     std::printf("%u passed, %u failed\n", passed, failed);
