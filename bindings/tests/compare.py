@@ -144,6 +144,7 @@ class Reasons:
             "kern": lambda case: self.is_by_tables(case, ["kern"]),
             "language": lambda case: case.has("--language") and self.agree(case, without=["--language"]),
             "other-shaper": lambda case: case.has("--shaper") and self.agree(case, without=["--shaper"]),
+            "scaled": lambda case: case.has("--font-size") and self.agree(case, without=["--font-size"]),
             "extents": lambda case: self.needs_boxes_of_cff(case) and self.agree(case, "--no-positions"),
             "vertical": lambda case: case.has("--direction") and self.agree(case, "--no-positions"),
             "marks": lambda case: self.lacks(case, "GPOS") and self.agree(case, "--no-positions"),
