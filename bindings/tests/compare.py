@@ -9,8 +9,8 @@ skipped. Glyphs may be compared by their numbers: names of CFF's are not read he
 
 A line that doesn't pass gets the first of the reasons below that holds. Most of them are proved by hb-shape itself: it prints
 what the program prints as soon as a table is taken out of the font, a feature is off, or positions are left out.
-results.txt has the counts by file and reason; --write writes it. A line without a reason is printed, and fails. The last
-line is 'N passed, M failed'.
+results.txt has the counts by file and reason; --write writes it. A line without a reason is printed, and fails, and so does
+a file of which fewer lines than there are as expected or as hb-shape prints them. The last line is 'N passed, M failed'.
 """
 
 import collections
@@ -233,16 +233,30 @@ def table(counts):
     for of_file in counts.values():
         total.update(of_file)
     tried = sum(total.values()) - total["skipped"] - total["variations"] - total["aat"]
-    good = total["passed"] + total["as-hb-shape"]
     lines = [
         "# Lines of HarfBuzz's shaping tests by what became of them (bindings/tests/README.md), all and by file.",
-        f"# Of {tried} that need neither variations nor AAT, {good} are as expected or as hb-shape: {100 * good / tried:.1f} %.",
+        f"# Of {tried} that need neither variations nor AAT, {good(total)} are as expected or as hb-shape: {100 * good(total) / tried:.1f} %.",
     ]
     lines += [f"{name:16} {number}" for name, number in sorted(total.items(), key=lambda one: (-one[1], one[0]))]
     for name, of_file in sorted(counts.items()):
         words = [f"{reason} {number}" for reason, number in sorted(of_file.items(), key=lambda one: (-one[1], one[0]))]
         lines.append(f"{name:60} {', '.join(words)}")
     return "\n".join(lines) + "\n"
+
+
+def good(of_file):
+    return of_file["passed"] + of_file["as-hb-shape"]
+
+
+def read_results(text):
+    """The counts by file that results.txt has."""
+    counts = collections.defaultdict(collections.Counter)
+    for line in text.splitlines():
+        name, _, words = line.partition(".tests ")
+        for word in filter(None, words.split(",")):
+            reason, number = word.split()
+            counts[name + ".tests"][reason] = int(number)
+    return counts
 
 
 def main(arguments):
@@ -261,14 +275,17 @@ def main(arguments):
                 failed += 1
                 told = "unexplained"
             counts[f"{case.path.parent.parent.name}/{case.path.name}"][told] += 1
-    passed = sum(of_file["passed"] for of_file in counts.values())
     found = table(counts)
     if is_writing:
         RESULTS.write_text(found)
-    elif not RESULTS.exists() or RESULTS.read_text() != found:
-        print("\n".join(line for line in found.splitlines() if line not in RESULTS.read_text().splitlines()))
-        print("FAILED: bindings/tests/results.txt has other counts; bindings/tests/test --write writes these")
-        failed += 1
+    elif found != RESULTS.read_text():
+        recorded = read_results(RESULTS.read_text())
+        worse = [name for name in {*recorded, *counts} if good(counts[name]) < good(recorded[name])]
+        for name in sorted(worse):
+            print(f"FAILED: {name}: {good(counts[name])} lines are as expected or as hb-shape, and were {good(recorded[name])}")
+        failed += len(worse)
+        print("bindings/tests/results.txt has other counts; bindings/tests/test --write writes these")
+    passed = sum(of_file["passed"] for of_file in counts.values())
     print(f"{passed} passed, {failed} failed")
     return 1 if failed or not passed else 0
 
