@@ -1,11 +1,12 @@
 -- A face: its tables, and what it says of characters and glyphs.
-use Rattle.std.specs.Prelude.{ℕ, ◌/◌, ◌==◌, ◌||◌, not, nat_le, ℤ, List, [], length, Option, None, Some, Result, Ok, Err, if◌then◌else◌, nat_lt}
+use Rattle.std.specs.Prelude.{ℕ, ◌+◌, ◌/◌, ◌==◌, ◌||◌, not, nat_le, nat_abs, ℤ, pos, ◌+ℤ◌, List, [], length, Option, None, Some, Result, Ok, Err, if◌then◌else◌, nat_lt}
 use Rattle.std.specs.Option.{unwrap_or}
 use Rattle.opentype_face.specs.Bytes.{u16_in}
 use Rattle.opentype_face.specs.Characters.{chosen_encoding, chosen_table, nominal_in, subtable_of}
 use Rattle.opentype_face.specs.Directory.{directory_in, table_in}
 use Rattle.opentype_face.specs.Ignored.{is_ignored}
-use Rattle.opentype_face.specs.Metrics.{advance_in, ascender_in, bearing_in, descender_in, font_page_in, units_in}
+use Rattle.opentype_face.specs.Metrics.{advance_in, ascender_in, bearing_in, descender_in, font_page_in, long_metrics_in, origin_in, units_in}
+use Rattle.opentype_face.specs.Origins.{centred_outline, measured, top_in}
 use Rattle.opentype_face.specs.Outlines.{outline_count_in, outline_in}
 use Rattle.opentype_face.specs.Variants.{variant_in}
 use Rattle.opentype_face.specs.declared.characters.Encoding.{Encoding}
@@ -143,3 +144,32 @@ abbrev pub outline_of : Tables → ℕ → Option (List ℕ)
 outline_of t glyph =
     if nat_lt glyph (outline_count_in t.head t.loca) then Some (outline_in t.head t.loca t.glyf
     glyph) else None
+
+-- how high a line is, and how high above the base line the vertical origin of a glyph lies
+unfoldable pub line_height_of : Tables → ℕ
+line_height_of t = nat_abs (ascender_of t) + nat_abs (descender_of t)
+
+-- with outlines and vertical metrics: the top of the outline whose metrics a glyph has, and the
+-- bearing above it. A number that isn't an outline's has the base line.
+unfoldable pub top_with_bearing : Tables → ℕ → ℤ
+top_with_bearing t glyph =
+    top_in (outline_in t.head t.loca t.glyf glyph) +ℤ bearing_in t.vhea t.vmtx (u16_in t.maxp 4) glyph
+
+unfoldable pub origin_by_bearing : Tables → ℕ → ℤ
+origin_by_bearing t glyph =
+    if nat_lt glyph (outline_count_in t.head t.loca)
+    then top_with_bearing t (measured 64 t.head t.loca t.glyf glyph) else pos 0
+
+-- with outlines alone, the middle of a line; with neither its ascender
+unfoldable pub origin_by_box : Tables → Option (List ℕ) → ℤ
+origin_by_box t None = ascender_of t
+origin_by_box t (Some outline) = centred_outline outline (line_height_of t)
+
+unfoldable pub origin_without_vorg : Tables → ℕ → ℤ
+origin_without_vorg t glyph =
+    if long_metrics_in t.vhea t.vmtx == 0 || outline_count_in t.head t.loca == 0
+    then origin_by_box t (outline_of t glyph)
+    else origin_by_bearing t glyph
+
+abbrev pub v_origin_of : Tables → ℕ → ℤ
+v_origin_of t glyph = unwrap_or (origin_in t.vorg glyph) (origin_without_vorg t glyph)

@@ -1,5 +1,5 @@
 //! A face: the tables of a font, over its bytes.
-ghost use Rattle.std.specs.Prelude.{◌≡◌, option_map};
+ghost use Rattle.std.specs.Prelude.{◌≡◌, ◌<◌, ◌^◌, option_map};
 ghost use Rattle.opentype_face.specs.Faces.{
   ascender_of,
   descender_of,
@@ -8,10 +8,16 @@ ghost use Rattle.opentype_face.specs.Faces.{
   glyph_count_of,
   h_advance_of,
   left_side_bearing_of,
+  line_height_of,
+  origin_by_bearing,
+  origin_by_box,
+  origin_without_vorg,
   outline_of,
   tables_in,
   tables_of,
+  top_with_bearing,
   v_advance_of,
+  v_origin_of,
   variation_glyph_of,
 };
 ghost use Rattle.opentype_face.specs.Characters.{nominal_in};
@@ -24,7 +30,7 @@ use crate::characters::{Characters, choose, subtable};
 use crate::directory::{FaceError, directory, table};
 use crate::ignored::is_ignored;
 use crate::variants::{GlyphVariant, glyph_variant};
-use crate::{metrics, names, outlines};
+use crate::{metrics, names, origins, outlines};
 
 /// The tables of a font, each empty where the font has none. Nothing is copied.
 #[derive(Clone, Copy, Debug)]
@@ -206,6 +212,70 @@ impl Face<'_> {
         ensures { result ≡ descender_of (tables_of self.now) }
     {
         metrics::descender(self.hhea, self.os2, self.units_per_em())
+    }
+
+    /// How high above the base line a glyph's origin for vertical text lies, as HarfBuzz has it: by `VORG`; by
+    /// outlines and `vmtx`; in the middle of a line, by outlines alone; or at the ascender. It takes 2,048 steps at
+    /// most for each of 64 components in one another.
+    pub fn v_origin(&self, glyph: u16) -> i32
+        ensures { result ≡ v_origin_of (tables_of self.now) glyph }
+    {
+        match metrics::vertical_origin(self.vorg, glyph) {
+            Some(height) => i32::from(height),
+            None => self.v_origin_without_vorg(glyph),
+        }
+    }
+
+    #[tactic(auto, unfolding(crate::specs::Faces::origin_without_vorg))]
+    fn v_origin_without_vorg(&self, glyph: u16) -> i32
+        ensures { result ≡ origin_without_vorg (tables_of self.now) glyph }
+    {
+        if metrics::long_metrics(self.vhea, self.vmtx) == 0
+            || outlines::outline_count(self.head, self.loca) == 0
+        {
+            self.v_origin_by_box(glyph)
+        } else {
+            self.v_origin_by_bearing(glyph)
+        }
+    }
+
+    #[tactic(auto, unfolding(crate::specs::Faces::origin_by_box))]
+    fn v_origin_by_box(&self, glyph: u16) -> i32
+        ensures { result ≡ origin_by_box (tables_of self.now) (outline_of (tables_of self.now) glyph) }
+    {
+        match self.outline(glyph) {
+            Some(outline) => origins::centred_origin(outline, self.line_height()),
+            None => self.ascender(),
+        }
+    }
+
+    #[tactic(auto, unfolding(crate::specs::Faces::origin_by_bearing))]
+    fn v_origin_by_bearing(&self, glyph: u16) -> i32
+        ensures { result ≡ origin_by_bearing (tables_of self.now) glyph }
+    {
+        if usize::from(glyph) >= outlines::outline_count(self.head, self.loca) {
+            return 0;
+        }
+        let glyph = origins::measured_glyph(self.head, self.loca, self.glyf, glyph);
+        self.top_with_bearing(glyph)
+    }
+
+    #[tactic(auto, unfolding(crate::specs::Faces::top_with_bearing))]
+    fn top_with_bearing(&self, glyph: u16) -> i32
+        ensures { result ≡ top_with_bearing (tables_of self.now) glyph }
+    {
+        let top = origins::top(outlines::outline(self.head, self.loca, self.glyf, glyph));
+        let count = metrics::glyph_count(self.maxp);
+        let bearing = metrics::side_bearing(self.vhea, self.vmtx, count, glyph);
+        origins::above(top, bearing)
+    }
+
+    #[tactic(auto, unfolding(crate::specs::Faces::line_height_of))]
+    fn line_height(&self) -> u32
+        ensures value { result ≡ line_height_of (tables_of self.now) }
+        ensures bound { result < 2 ^ 17 }
+    {
+        metrics::line_height(self.hhea, self.os2, self.units_per_em())
     }
 
     /// The name of a glyph; empty where the font has none.

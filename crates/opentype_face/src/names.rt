@@ -31,7 +31,7 @@ fn named(post: &[u8], i: u16) -> &[u8]
 
 /// A string, by its number, of those that begin at a place.
 fn nth_string(bytes: &[u8], start: usize, n: u16) -> &[u8]
-    requires { start < 2 ^ 32 }
+    requires { start < 2 ^ 18 }
     ensures { result.now ≡ nth_string_in n bytes.now start }
 {
     let at = start_of_nth(bytes, start, n);
@@ -45,9 +45,9 @@ fn nth_string(bytes: &[u8], start: usize, n: u16) -> &[u8]
 
 /// Behind the end of the bytes strings have no characters, so that this rises by 256 a step at most.
 fn start_of_nth(bytes: &[u8], start: usize, n: u16) -> usize
-    requires { start < 2 ^ 32 }
+    requires { start < 2 ^ 18 }
     ensures value { result ≡ string_start n bytes.now start }
-    ensures bound { result < 2 ^ 33 }
+    ensures bound { result < 2 ^ 25 }
 {
     let mut at = start;
     for _i in 0..n {

@@ -7,7 +7,7 @@ use crate::generated::opentype_face::characters::{Characters, choose, subtable};
 use crate::generated::opentype_face::directory::{FaceError, directory, table};
 use crate::generated::opentype_face::ignored::is_ignored;
 use crate::generated::opentype_face::variants::{GlyphVariant, glyph_variant};
-use crate::generated::opentype_face::{metrics, names, outlines};
+use crate::generated::opentype_face::{metrics, names, origins, outlines};
 
 /// The tables of a font, each empty where the font has none. Nothing is copied.
 #[derive(Clone, Copy, Debug)]
@@ -296,6 +296,64 @@ impl Face<'_> {
     /// </details>
     pub fn descender(&self) -> i32 {
         metrics::descender(self.hhea, self.os2, self.units_per_em())
+    }
+
+    /// How high above the base line a glyph's origin for vertical text lies, as HarfBuzz has it: by `VORG`; by
+    /// outlines and `vmtx`; in the middle of a line, by outlines alone; or at the ascender. It takes 2,048 steps at
+    /// most for each of 64 components in one another.
+    ///
+    /// <details><summary>Contract</summary>
+    ///
+    /// # Contract
+    ///
+    /// ```text
+    /// ensures { result ≡ v_origin_of (tables_of self.now) glyph }
+    /// ```
+    ///
+    /// - `tables_of`, `v_origin_of`: `crates/opentype_face/specs/Faces.antt`
+    ///
+    /// </details>
+    pub fn v_origin(&self, glyph: u16) -> i32 {
+        match metrics::vertical_origin(self.vorg, glyph) {
+            Some(height) => i32::from(height),
+            None => self.v_origin_without_vorg(glyph),
+        }
+    }
+
+    fn v_origin_without_vorg(&self, glyph: u16) -> i32 {
+        if metrics::long_metrics(self.vhea, self.vmtx) == 0
+            || outlines::outline_count(self.head, self.loca) == 0
+        {
+            self.v_origin_by_box(glyph)
+        } else {
+            self.v_origin_by_bearing(glyph)
+        }
+    }
+
+    fn v_origin_by_box(&self, glyph: u16) -> i32 {
+        match self.outline(glyph) {
+            Some(outline) => origins::centred_origin(outline, self.line_height()),
+            None => self.ascender(),
+        }
+    }
+
+    fn v_origin_by_bearing(&self, glyph: u16) -> i32 {
+        if usize::from(glyph) >= outlines::outline_count(self.head, self.loca) {
+            return 0;
+        }
+        let glyph = origins::measured_glyph(self.head, self.loca, self.glyf, glyph);
+        self.top_with_bearing(glyph)
+    }
+
+    fn top_with_bearing(&self, glyph: u16) -> i32 {
+        let top = origins::top(outlines::outline(self.head, self.loca, self.glyf, glyph));
+        let count = metrics::glyph_count(self.maxp);
+        let bearing = metrics::side_bearing(self.vhea, self.vmtx, count, glyph);
+        origins::above(top, bearing)
+    }
+
+    fn line_height(&self) -> u32 {
+        metrics::line_height(self.hhea, self.os2, self.units_per_em())
     }
 
     /// The name of a glyph; empty where the font has none.

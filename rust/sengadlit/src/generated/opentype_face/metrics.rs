@@ -46,7 +46,20 @@ pub fn glyph_count(maxp: &[u8]) -> u16 {
     u16_at(maxp, 4)
 }
 
-fn long_metrics(header: &[u8], metrics: &[u8]) -> u32 {
+/// How many glyphs have a bearing and an advance of their own, of those that the table has room for.
+///
+/// <details><summary>Contract</summary>
+///
+/// # Contract
+///
+/// ```text
+/// ensures { result ≡ long_metrics_in header.now metrics.now }
+/// ```
+///
+/// - `long_metrics_in`: `crates/opentype_face/specs/Metrics.antt`
+///
+/// </details>
+pub fn long_metrics(header: &[u8], metrics: &[u8]) -> u32 {
     capped(u32::from(u16_at(header, 34)), metrics.len() / 4)
 }
 
@@ -140,6 +153,50 @@ fn uses_typo_metrics(os2: &[u8]) -> bool {
             && u16_at(os2, 6) == 0
             && u16_at(os2, 64) == 0
             && u16_at(os2, 66) == 0)
+}
+
+/// How far the font rises above the base line, whatever sign its tables have there.
+fn rise(hhea: &[u8], os2: &[u8], units: u16) -> u16 {
+    if uses_typo_metrics(os2) {
+        return i16_at(os2, 68).unsigned_abs();
+    }
+    if u16_at(hhea, 0) == 0 {
+        return four_fifths(units);
+    }
+    i16_at(hhea, 4).unsigned_abs()
+}
+
+/// How far it goes below the base line.
+fn fall(hhea: &[u8], os2: &[u8], units: u16) -> u16 {
+    if uses_typo_metrics(os2) {
+        return i16_at(os2, 70).unsigned_abs();
+    }
+    if u16_at(hhea, 0) == 0 {
+        return units - four_fifths(units);
+    }
+    i16_at(hhea, 6).unsigned_abs()
+}
+
+fn four_fifths(units: u16) -> u16 {
+    (u32::from(units) * 4 / 5) as u16
+}
+
+/// How high a line is: from the lowest place below the base line to the highest one above it.
+///
+/// <details><summary>Contract</summary>
+///
+/// # Contract
+///
+/// ```text
+/// ensures value { result ≡ nat_abs (ascender_in hhea.now os2.now units) + nat_abs (descender_in hhea.now os2.now units) }
+/// ensures bound { result < 2 ^ 17 }
+/// ```
+///
+/// - `ascender_in`, `descender_in`: `crates/opentype_face/specs/Metrics.antt`
+///
+/// </details>
+pub fn line_height(hhea: &[u8], os2: &[u8], units: u16) -> u32 {
+    u32::from(rise(hhea, os2, units)) + u32::from(fall(hhea, os2, units))
 }
 
 /// How far the font rises above the base line, by `OS/2` or `hhea`, or else four fifths of an em.

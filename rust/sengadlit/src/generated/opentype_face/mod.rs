@@ -15,6 +15,7 @@ pub mod lookup;
 mod mac_names;
 pub mod metrics;
 pub mod names;
+pub mod origins;
 pub mod outlines;
 pub mod ranges;
 pub mod variants;
