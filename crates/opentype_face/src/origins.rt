@@ -126,7 +126,7 @@ fn centred(top: i16, height: u16, line: u32) -> i32
     if height <= line {
         i32::from(top) + ((line - height) / 2) as i32
     } else {
-        i32::from(top) - ((height - line + 1) / 2) as i32
+        i32::from(top) - ((height + 1 - line) / 2) as i32
     }
 }
 
