@@ -1,7 +1,8 @@
 -- Numbers of faces and glyphs, and what is chosen, by tables written out from OpenType's specification.
-use Rattle.std.specs.Prelude.{ℕ, ℤ, ◌/◌, ◌%◌, ◌≡◌, refl, List, [], ◌∷◌, ◌++◌, map, flat_map, replicate, None, Some, true, false, pos, negsuc}
+use Rattle.std.specs.Prelude.{ℕ, ℤ, ◌-◌, ◌/◌, ◌%◌, ◌≡◌, refl, List, [], ◌∷◌, ◌++◌, map, flat_map, replicate, None, Some, true, false, pos, negsuc}
 use Rattle.opentype_face.specs.Characters.{chosen_encoding, chosen_table, nominal_in}
-use Rattle.opentype_face.specs.Directory.{directory_in, table_in}
+use Rattle.opentype_face.specs.Directory.{directory_in, face_count_in, record_in, table_in}
+use Rattle.opentype_face.specs.Faces.{gdef_in}
 use Rattle.opentype_face.specs.Firsts.{first_from}
 use Rattle.opentype_face.specs.Ignored.{is_ignored}
 use Rattle.opentype_face.specs.Metrics.{advance_in, ascender_in, bearing_in, descender_in, font_page_in, origin_in, units_in}
@@ -146,3 +147,40 @@ symbols = refl
 no_subtable : chosen_table (cmap 3 2) ∷ chosen_table (1 ∷ 0 ∷ cmap 3 1) ∷ [] ≡ [] ∷ [] ∷ []
 unfolding bisect
 no_subtable = refl
+
+-- of each two, in HarfBuzz's order, the first is taken: both begin with what is theirs
+abbrev two : (ℕ × ℕ) × (ℕ × ℕ) → List ℕ
+two k = words (0 ∷ 2 ∷ k.0.0 ∷ k.0.1 ∷ 0 ∷ 20 ∷ k.1.0 ∷ k.1.1 ∷ 0 ∷ 22 ∷ 7 ∷ 8 ∷ [])
+
+first_of_two : map (λ k. chosen_table (two k)) (((3, 0), (3, 10)) ∷ ((0, 4), (3, 1)) ∷ ((0, 0), (1, 0)) ∷ ((1, 0), (1, 1)) ∷ [])
+    ≡ words (7 ∷ 8 ∷ []) ∷ words (7 ∷ 8 ∷ []) ∷ words (7 ∷ 8 ∷ []) ∷ words (7 ∷ 8 ∷ []) ∷ []
+unfolding bisect
+first_of_two = refl
+
+second_of_two : map (λ k. chosen_table (two k)) (((0, 6), (3, 10)) ∷ ((0, 4), (0, 6)) ∷ ((0, 3), (3, 1)) ∷ ((0, 2), (0, 3)) ∷ ((0, 1), (0, 2))
+    ∷ ((0, 0), (0, 1)) ∷ []) ≡ words (8 ∷ []) ∷ words (8 ∷ []) ∷ words (8 ∷ []) ∷ words (8 ∷ []) ∷ words (8 ∷ []) ∷ words (8 ∷ []) ∷ []
+unfolding bisect
+second_of_two = refl
+
+-- collections of version 1 and 2 alone, with no more faces than the file has room for
+collections : map face_count_in (map (λ v. 116 ∷ 116 ∷ 99 ∷ 102 ∷ words (v ∷ 0 ∷ 0 ∷ 2 ∷ 0 ∷ 20 ∷ 0 ∷ 21 ∷ [])) (0 ∷ 1 ∷ 2 ∷ 3 ∷ [])
+    ++ (116 ∷ 116 ∷ 99 ∷ 102 ∷ words (1 ∷ 0 ∷ 65535 ∷ 65535 ∷ [])) ∷ []) ≡ 0 ∷ 2 ∷ 2 ∷ 0 ∷ 3 ∷ []
+collections = refl
+
+-- GDEF of version 1 alone: a file of this one table
+abbrev only_gdef : ℕ → List ℕ
+only_gdef version = words (0 ∷ 1 ∷ 1 ∷ 0 ∷ 0 ∷ 0 ∷ 0x4744 ∷ 0x4546 ∷ 0 ∷ 0 ∷ 0 ∷ 28 ∷ 0 ∷ 4 ∷ version ∷ 0 ∷ [])
+
+gdefs : map (λ v. gdef_in (only_gdef v) (only_gdef v)) (0 ∷ 1 ∷ 2 ∷ []) ≡ [] ∷ words (1 ∷ 0 ∷ []) ∷ [] ∷ []
+unfolding first_from
+gdefs = refl
+
+-- a directory of 15 records is read one after the other, of 16 by halves: the last has the tag 1, the others 2
+abbrev directory : ℕ → List ℕ
+directory count = words (0 ∷ 1 ∷ count ∷ 0 ∷ 0 ∷ 0 ∷ []) ++ flat_map {X = ℕ} (λ n. words (0 ∷ 2 ∷ 0 ∷ 0 ∷ 0 ∷ 0 ∷ 0 ∷ 0 ∷ [])) (replicate (count - 1) 0)
+    ++ words (0 ∷ 1 ∷ 0 ∷ 0 ∷ 0 ∷ 0 ∷ 0 ∷ 0 ∷ [])
+
+out_of_order : record_in (directory 15) 1 ∷ record_in (directory 16) 1 ∷ record_in (directory 15) 2 ∷ record_in (directory 16) 2 ∷ []
+    ≡ Some 14 ∷ None ∷ Some 0 ∷ Some 7 ∷ []
+unfolding bisect first_from
+out_of_order = refl

@@ -1,6 +1,5 @@
 -- Walks over components, and from a glyph to the one that lends it its metrics, as far as they have come.
 use Rattle.std.proofs.Common.{ℕ, zero, suc, ◌+◌, ◌*◌, ◌-◌, ◌<◌, ◌≤◌, ◌≡◌, ◌/◌, ◌%◌, List, Option, None, Some, refl, sym, arith, ◌∙◌}
-use Rattle.std.proofs.lemmas.Grind.{common_steps}
 use Rattle.opentype_face.specs.Bytes.{u16_in}
 use Rattle.opentype_face.specs.Firsts.{or_else}
 use Rattle.opentype_face.specs.Origins.{component_size, lender_in, lender_of, lent_at, lent_from, measured}

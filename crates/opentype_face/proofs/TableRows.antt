@@ -1,9 +1,10 @@
 -- Tables written out from OpenType's specification, and what they say.
 use Rattle.std.specs.Prelude.{ℕ, ◌/◌, ◌%◌, ◌≡◌, refl, List, [], ◌∷◌, ◌++◌, map, flat_map, replicate, None, Some, true, false, pos, negsuc}
 use Rattle.opentype_face.specs.Bytes.{u16_in, u32_in, u24_in, i16_in, part_in, stretch_bytes}
-use Rattle.opentype_face.specs.Classes.{is_in_set, props_of}
+use Rattle.opentype_face.specs.Classes.{is_in_set, mark_set_count_in, props_of}
 use Rattle.opentype_face.specs.Cmap.{cmap_in}
 use Rattle.opentype_face.specs.Glyphs.{class_in, coverage_in}
+use Rattle.opentype_face.specs.Lookups.{lookup_in, mark_set_in, subtable_in, type_in}
 use Rattle.opentype_face.specs.Ranges.{bisect}
 use Rattle.opentype_face.specs.Variants.{variant_in}
 use Rattle.opentype_face.specs.declared.variants.GlyphVariant.TheVariants.{NotFound, Found, UseDefault}
@@ -112,3 +113,27 @@ props = refl
 sets : is_in_set gdef 0 5 ∷ is_in_set gdef 0 4 ∷ is_in_set gdef 1 5 ∷ [] ≡ true ∷ false ∷ false ∷ []
 unfolding bisect
 sets = refl
+
+-- sets of marks from version 1.2 on, in a table of format 1: the first has another version, the second another format
+abbrev old_gdef : ℕ → ℕ → List ℕ
+old_gdef version format = words (1 ∷ version ∷ 0 ∷ 0 ∷ 0 ∷ 0 ∷ 14 ∷ format ∷ 1 ∷ 0 ∷ 8 ∷ 1 ∷ 1 ∷ 5 ∷ [])
+
+set_counts : mark_set_count_in (old_gdef 1 1) ∷ mark_set_count_in (old_gdef 2 1) ∷ mark_set_count_in (old_gdef 3 1)
+    ∷ mark_set_count_in (old_gdef 2 2) ∷ [] ≡ 0 ∷ 1 ∷ 1 ∷ 0 ∷ []
+set_counts = refl
+
+-- lookups by their numbers; type 7 names another subtable, of type 1, two bytes behind; a set of marks behind the subtables
+abbrev lookups : List ℕ
+lookups = words (1 ∷ 0 ∷ 0 ∷ 0 ∷ 10 ∷ 2 ∷ 6 ∷ 8 ∷ 9 ∷ [])
+
+lookups_by_number : map (lookup_in lookups) (0 ∷ 1 ∷ 2 ∷ []) ≡ words (9 ∷ []) ∷ [] ∷ [] ∷ []
+lookups_by_number = refl
+
+abbrev extension : List ℕ
+extension = words (7 ∷ 16 ∷ 1 ∷ 10 ∷ 4 ∷ 1 ∷ 1 ∷ 0 ∷ 8 ∷ 33 ∷ [])
+
+extended : subtable_in 7 extension 0 ∷ subtable_in 9 extension 0 ∷ [] ≡ words (33 ∷ []) ∷ words (1 ∷ 1 ∷ 0 ∷ 8 ∷ 33 ∷ []) ∷ []
+extended = refl
+
+types : type_in 7 extension 0 ∷ type_in 9 extension 0 ∷ mark_set_in extension ∷ [] ≡ 1 ∷ 7 ∷ 4 ∷ []
+types = refl

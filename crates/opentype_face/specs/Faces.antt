@@ -153,7 +153,8 @@ line_height_of t = nat_abs (ascender_of t) + nat_abs (descender_of t)
 -- bearing above it. A number that isn't an outline's has the base line.
 unfoldable pub top_with_bearing : Tables → ℕ → ℤ
 top_with_bearing t glyph =
-    top_in (outline_in t.head t.loca t.glyf glyph) +ℤ bearing_in t.vhea t.vmtx (u16_in t.maxp 4) glyph
+    top_in (outline_in t.head t.loca t.glyf glyph)
+    +ℤ bearing_in t.vhea t.vmtx (u16_in t.maxp 4) glyph
 
 unfoldable pub origin_by_bearing : Tables → ℕ → ℤ
 origin_by_bearing t glyph =

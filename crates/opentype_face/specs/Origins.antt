@@ -1,6 +1,6 @@
 -- Where the origins of glyphs for vertical text lie, as HarfBuzz has them: by VORG; where there is
 -- none, by the tops of outlines and vmtx; and else in the middle of a line.
-use Rattle.std.specs.Prelude.{ℕ, zero, suc, ◌+◌, ◌-◌, ◌*◌, ◌/◌, ◌%◌, ◌==◌, ◌||◌, Bool, nat_lt, nat_le, ℤ, pos, ◌+ℤ◌, ◌-ℤ◌, nat_abs, List, length, Option, None, Some, if◌then◌else◌}
+use Rattle.std.specs.Prelude.{ℕ, zero, suc, ◌+◌, ◌-◌, ◌/◌, ◌%◌, ◌==◌, ◌||◌, nat_lt, nat_le, ℤ, pos, ◌+ℤ◌, ◌-ℤ◌, nat_abs, List, length, Option, None, Some, if◌then◌else◌}
 use Rattle.std.specs.Option.{unwrap_or}
 use Rattle.opentype_face.specs.Bytes.{i16_in, u16_in}
 use Rattle.opentype_face.specs.Firsts.{or_else}
@@ -28,7 +28,8 @@ unfoldable pub lent_from : ℕ → List ℕ → ℕ → Option ℕ
 lent_from zero outline at = None
 lent_from (suc n) outline at =
     let flags = u16_in outline at in
-    or_else (if flags / 0x20 % 2 == 1 then lent_from n outline (at + component_size flags) else None)
+    or_else
+    (if flags / 0x20 % 2 == 1 then lent_from n outline (at + component_size flags) else None)
     (lent_at outline at)
 
 -- the glyph whose metrics an outline has, other than its own; of 2,048 components at most
@@ -62,5 +63,6 @@ centred_in top height line =
 abbrev pub centred_outline : List ℕ → ℕ → ℤ
 centred_outline outline line =
     if has_box_in outline
-    then centred_in (box_top_in outline) (nat_abs (box_top_in outline -ℤ box_bottom_in outline)) line
+    then centred_in (box_top_in outline) (nat_abs (box_top_in outline -ℤ box_bottom_in outline))
+    line
     else centred_in (pos 0) 0 line
