@@ -46,7 +46,7 @@ pub struct Face<'a> {
     pub selectors: &'a [u8],
 }
 
-/// Reads a face of a font file, by its index in a collection. It looks at some 300 records at most.
+/// Reads a face of a font file, by its index in a collection. It takes 530 steps at most.
 ///
 /// # Errors
 /// The bytes are no font, the file has no face of that index, or the tables `head` or `maxp` are missing.

@@ -29,7 +29,7 @@ fn run(words: &[String]) -> Result<bool, Box<dyn Error>> {
     match words {
         [name, font, index] if name == "beside" => Ok(beside::compare(font, index.parse()?)?),
         [name, count, random, fonts @ ..] if name == "spoilt" && !fonts.is_empty() => {
-            spoilt::try_all(count.parse()?, random.parse()?, fonts)
+            spoilt::try_all(count.parse()?, random.parse()?, fonts, spoilt::MOST)
         }
         _ => Err("usage: fonts beside FONT INDEX | fonts spoilt COUNT RANDOM FONT..".into()),
     }

@@ -13,7 +13,7 @@ use std::panic::catch_unwind;
 use std::time::{Duration, Instant};
 
 /// How long a font may take: parsing and 1,000 look-ups.
-const MOST: Duration = Duration::from_millis(50);
+pub const MOST: Duration = Duration::from_millis(50);
 /// A font that took a quarter of that is tried so many times, since the machine may have been busy; the least
 /// time counts.
 const AGAIN: usize = 5;
@@ -114,10 +114,9 @@ fn number(bytes: &[u8], at: usize) -> usize {
     (byte(at) << 24) + (byte(at + 1) << 16) + (byte(at + 2) << 8) + byte(at + 3)
 }
 
-/// What was tried so far.
-#[derive(Default)]
+/// What was tried so far, and how long a font may take.
 struct Tried {
-    files: usize,
+    most: Duration,
     parsed: usize,
     failed: usize,
     slowest: Duration,
@@ -126,7 +125,6 @@ struct Tried {
 impl Tried {
     /// Reads a file and asks it; a panic, and one that takes too long each time, is printed and counted.
     fn try_file(&mut self, bytes: &[u8], seed: u64, what: &str) {
-        self.files += 1;
         let (mut least, mut is_font) = (Duration::MAX, false);
         for _ in 0..AGAIN {
             let began = Instant::now();
@@ -136,11 +134,11 @@ impl Tried {
                 return;
             };
             (least, is_font) = (least.min(began.elapsed()), read);
-            if least < MOST / 4 {
+            if least < self.most / 4 {
                 break;
             }
         }
-        if least >= MOST {
+        if least >= self.most {
             println!("FAILED: {what}, seed {seed}, took {least:?}");
             self.failed += 1;
         }
@@ -150,9 +148,20 @@ impl Tried {
 }
 
 /// Tries all, prints what was tried, and returns whether nothing failed.
-pub fn try_all(count: u64, random: u64, paths: &[String]) -> Result<bool, Box<dyn Error>> {
+pub fn try_all(
+    count: u64,
+    random: u64,
+    paths: &[String],
+    most: Duration,
+) -> Result<bool, Box<dyn Error>> {
     let fonts: Result<Vec<Font>, _> = paths.iter().map(|path| Font::read(path)).collect();
-    let (mut fonts, mut tried) = (fonts?, Tried::default());
+    let mut fonts = fonts?;
+    let mut tried = Tried {
+        most,
+        parsed: 0,
+        failed: 0,
+        slowest: Duration::ZERO,
+    };
     for seed in 0..count {
         let mut numbers = Numbers::new(seed);
         let font = numbers.below(fonts.len());
@@ -244,4 +253,16 @@ fn ask_of_glyph(face: &Face<'_>, numbers: &mut Numbers) {
         glyph_props(face.gdef, glyph),
         is_in_mark_set(face.gdef, set, glyph),
     ));
+}
+
+#[cfg(test)]
+mod tests {
+    use super::*;
+
+    /// The same on each platform whose tests run, and by rustc's builds without optimization, which take their time.
+    #[test]
+    fn the_sample_font() {
+        let path = concat!(env!("CARGO_MANIFEST_DIR"), "/../../fonts/sample.ttf");
+        assert!(try_all(2_000, 200, &[path.into()], Duration::MAX).unwrap());
+    }
 }
