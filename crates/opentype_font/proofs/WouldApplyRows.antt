@@ -1,12 +1,12 @@
 -- Whether lookups would apply, computed on tables that are written out by OpenType's specification. Each
 -- is a GSUB of one lookup; its glyphs are 5, 7 and 9.
-use Rattle.std.proofs.Common.{ℕ, ◌≡◌, true, false, List, [], ◌∷◌, refl}
+use Rattle.std.proofs.Common.{ℕ, zero, suc, ◌-◌, ◌≡◌, true, false, List, [], ◌∷◌, ◌++◌, refl}
 use Rattle.std.specs.Prelude.{map}
 use Rattle.shapers_base.specs.declared.font.GlyphId.{GlyphId}
 use Rattle.opentype_face.specs.Firsts.{first_from}
 use Rattle.opentype_face.specs.Ranges.{bisect}
 use Rattle.opentype_layout.specs.Rules.{set_in}
-use Rattle.opentype_font.specs.WouldApply.{chained_fits, chained_rule_fits, chained_sets_fit, context_fits, ligature_fits, ligatures_fit, one_fits, rule_fits, sets_fit, subtable_applies, would_apply}
+use Rattle.opentype_font.specs.WouldApply.{chained_fits, chained_rule_fits, chained_sets_fit, context_fits, ligature_fits, ligatures_fit, lookup_applies, one_fits, rule_count, rule_fits, sets_fit, subtable_applies, would_apply}
 
 abbrev glyphs : List ℕ → List GlyphId
 glyphs numbers = map (λ n. record { 0 = n }) numbers
@@ -205,3 +205,33 @@ chained_sets_25 = refl
 chained_sets_26 : would_apply chained_sets 0 (glyphs (5 ∷ [])) false ≡ false
 unfolding bisect set_in subtable_applies one_fits ligatures_fit ligature_fits context_fits sets_fit rule_fits chained_fits chained_rule_fits chained_sets_fit first_from
 chained_sets_26 = refl
+
+-- ---- how much is asked at most
+
+-- of 257 rules the last isn't asked
+rules_257 : rule_count (1 ∷ 1 ∷ []) ≡ 256
+rules_257 = refl
+
+rules_256 : rule_count (1 ∷ 0 ∷ []) ≡ 256
+rules_256 = refl
+
+rules_255 : rule_count (0 ∷ 255 ∷ []) ≡ 255
+rules_255 = refl
+
+unfoldable times : ℕ → List ℕ → List ℕ
+times zero bytes = []
+times (suc n) bytes = bytes ++ times n bytes
+
+-- a lookup of so many subtables, of which one applies to glyph 5: the one behind so many that aren't there
+abbrev subtables : ℕ → ℕ → ℕ → List ℕ
+subtables high low before = (0 ∷ 1 ∷ 0 ∷ 0 ∷ high ∷ low ∷ []) ++ times before (0 ∷ 0 ∷ [])
+    ++ (2 ∷ 8 ∷ []) ++ times (256 - before) (0 ∷ 0 ∷ [])
+    ++ (0 ∷ 1 ∷ 0 ∷ 6 ∷ 0 ∷ 3 ∷ 0 ∷ 1 ∷ 0 ∷ 1 ∷ 0 ∷ 5 ∷ [])
+
+subtables_257 : lookup_applies (subtables 1 1 256) (glyphs (5 ∷ [])) false ≡ false
+unfolding bisect set_in subtable_applies one_fits ligatures_fit ligature_fits context_fits sets_fit rule_fits chained_fits chained_rule_fits chained_sets_fit first_from times
+subtables_257 = refl
+
+subtables_256 : lookup_applies (subtables 1 0 255) (glyphs (5 ∷ [])) false ≡ true
+unfolding bisect set_in subtable_applies one_fits ligatures_fit ligature_fits context_fits sets_fit rule_fits chained_fits chained_rule_fits chained_sets_fit first_from times
+subtables_256 = refl

@@ -1,5 +1,5 @@
 -- Whether a lookup of GSUB would apply to exactly some glyphs, by the bytes of its table.
-use Rattle.std.specs.Prelude.{ℕ, ◌+◌, ◌-◌, ◌*◌, ◌==◌, ◌&&◌, ◌||◌, not, nat_lt, Bool, false, is_some, length, List, Option, None, Some, slice_index_or, if◌then◌else◌}
+use Rattle.std.specs.Prelude.{ℕ, ◌+◌, ◌-◌, ◌*◌, min, ◌==◌, ◌&&◌, ◌||◌, not, nat_lt, Bool, false, is_some, length, List, Option, None, Some, slice_index_or, if◌then◌else◌}
 use Rattle.shapers_base.specs.declared.font.GlyphId.{GlyphId}
 use Rattle.opentype_face.specs.Bytes.{u16_in, part_in}
 use Rattle.opentype_face.specs.Glyphs.{class_in, coverage_in}
@@ -27,6 +27,10 @@ fit_numbers numbers None glyphs = fit_each (is_number numbers) 1 glyphs
 fit_numbers numbers (Some classes) glyphs =
     fit_each (λ k glyph. u16_in numbers (k * 2) == class_in classes glyph) 1 glyphs
 
+-- how many of a set's rules or ligatures are asked: 256 at most
+abbrev pub rule_count : List ℕ → ℕ
+rule_count set = min (u16_in set 0) 256
+
 -- one of a set's rules or ligatures
 abbrev pub rule_of_set : List ℕ → ℕ → List ℕ
 rule_of_set set i = part_in set (u16_in set (2 + i * 2))
@@ -44,7 +48,7 @@ ligature_fits set glyphs i =
     then fit_each (is_number (part_in (rule_of_set set i) 4)) 1 glyphs else false
 
 abbrev pub has_ligature : List GlyphId → List ℕ → Bool
-has_ligature glyphs set = some_of (u16_in set 0) (ligature_fits set glyphs)
+has_ligature glyphs set = some_of (rule_count set) (ligature_fits set glyphs)
 
 -- whether the set at a place of a subtable, if there is a place, passes a test
 abbrev pub if_set : List ℕ → ℕ → (List ℕ → Bool) → Option ℕ → Bool
@@ -63,7 +67,7 @@ rule_fits set classes glyphs i =
     then fit_numbers (part_in (rule_of_set set i) 4) classes glyphs else false
 
 abbrev pub rules_fit : Option (List ℕ) → List GlyphId → List ℕ → Bool
-rules_fit classes glyphs set = some_of (u16_in set 0) (rule_fits set classes glyphs)
+rules_fit classes glyphs set = some_of (rule_count set) (rule_fits set classes glyphs)
 
 unfoldable pub sets_fit : List ℕ → List GlyphId → Bool
 sets_fit bytes glyphs =
@@ -97,7 +101,7 @@ chained_rule_fits set classes glyphs zero_context i =
 
 abbrev pub chained_rules_fit : Option (List ℕ) → List GlyphId → Bool → List ℕ → Bool
 chained_rules_fit classes glyphs zero_context set =
-    some_of (u16_in set 0) (chained_rule_fits set classes glyphs zero_context)
+    some_of (rule_count set) (chained_rule_fits set classes glyphs zero_context)
 
 unfoldable pub chained_sets_fit : List ℕ → List GlyphId → Bool → Bool
 chained_sets_fit bytes glyphs zero_context =
@@ -132,10 +136,10 @@ abbrev pub nth_applies : List ℕ → List GlyphId → Bool → ℕ → Bool
 nth_applies lookup glyphs zero_context i =
     subtable_applies (type_in 7 lookup i) (subtable_in 7 lookup i) glyphs zero_context
 
--- a lookup: one of its subtables would
+-- a lookup: one of its subtables would, of which 256 are asked at most
 abbrev pub lookup_applies : List ℕ → List GlyphId → Bool → Bool
 lookup_applies lookup glyphs zero_context =
-    some_of (u16_in lookup 4) (nth_applies lookup glyphs zero_context)
+    some_of (min (u16_in lookup 4) 256) (nth_applies lookup glyphs zero_context)
 
 abbrev pub would_apply : List ℕ → ℕ → List GlyphId → Bool → Bool
 would_apply gsub index glyphs zero_context =

@@ -52,7 +52,10 @@ fn tag_by(number: u32) -> hb_tag_t
 fn system_for<'a>(table: &'a [u8], tags: &TextTags, chosen: &Chosen) -> &'a [u8]
     ensures { result.now ≡ system_for table.now (tags_of tags.now) chosen.now }
 {
-    language_system(script_table(table, chosen.script), tags.languages.as_slice())
+    language_system(
+        script_table(table, chosen.script),
+        tags.languages.as_slice(),
+    )
 }
 
 /// Whether GSUB or GPOS has a feature by this tag for a text with these tags.
@@ -83,6 +86,7 @@ fn lookups_of(feature: &[u8], alloc: Global) -> Result<Vec<u16>, ShaperError>
 }
 
 // A feature by its number in the table, whose variations were read.
+#[tactic(auto, unfolding(opentype_layout::specs::Features::feature_table_in))]
 fn feature_at(
     table: &[u8],
     substitutions: &[u8],

@@ -2,7 +2,7 @@
 ghost use Rattle.std.specs.Prelude.{◌≡◌, ◌<◌, length, option_map};
 ghost use Rattle.opentype_layout.specs.Pattern.{fits};
 ghost use Rattle.opentype_layout.specs.Rules.{set_in};
-ghost use Rattle.opentype_font.specs.WouldApply.{chained_fits, chained_rule_fits, chained_rules_fit, chained_sets_fit, context_fits, fit_each, fit_numbers, has_ligature, is_barred, ligature_fits, ligatures_fit, lookup_applies, nth_applies, rule_of_set, one_fits, place_of_first, rule_fits, rules_fit, sets_fit, subtable_applies, would_apply};
+ghost use Rattle.opentype_font.specs.WouldApply.{chained_fits, chained_rule_fits, chained_rules_fit, chained_sets_fit, context_fits, fit_each, fit_numbers, has_ligature, is_barred, ligature_fits, ligatures_fit, lookup_applies, nth_applies, rule_count, rule_of_set, one_fits, place_of_first, rule_fits, rules_fit, sets_fit, subtable_applies, would_apply};
 
 use opentype_face::bytes::{part, u16_at};
 use opentype_face::glyph_sets::{class, coverage};
@@ -13,9 +13,14 @@ use shapers_base::font::GlyphId;
 /// The type of an extension, whose subtables name another one.
 const EXTENSION: u16 = 7;
 
+/// How many subtables of a lookup are asked at most, and how many rules of a set.
+const MOST_SUBTABLES: u16 = 256;
+
+const MOST_RULES: u16 = 256;
+
 /// Whether a lookup of GSUB would apply to exactly these glyphs; with `zero_context`, by a rule that
-/// looks at no glyphs around them. (OpenType, GSUB; HarfBuzz's `would_apply`, which doesn't test the
-/// coverage of classes and sets exactly.)
+/// looks at no glyphs around them. At most 65,536 rules are asked. (OpenType, GSUB; HarfBuzz's
+/// `would_apply`, which doesn't test the coverage of classes and sets exactly.)
 pub fn would_apply(gsub: &[u8], index: u16, glyphs: &[GlyphId], zero_context: bool) -> bool
     ensures { result ≡ would_apply gsub.now index glyphs.now zero_context }
 {
@@ -25,7 +30,7 @@ pub fn would_apply(gsub: &[u8], index: u16, glyphs: &[GlyphId], zero_context: bo
 fn lookup_applies(lookup: &[u8], glyphs: &[GlyphId], zero_context: bool) -> bool
     ensures { result ≡ lookup_applies lookup.now glyphs.now zero_context }
 {
-    for i in 0..subtable_count(lookup) {
+    for i in 0..subtable_count(lookup).min(MOST_SUBTABLES) {
         if nth_applies(lookup, glyphs, zero_context, i) {
             return true;
         }
@@ -126,7 +131,7 @@ fn has_ligature(set: &[u8], glyphs: &[GlyphId]) -> bool
     requires { length glyphs.now < 65536 }
     ensures { result ≡ has_ligature glyphs.now set.now }
 {
-    for i in 0..u16_at(set, 0) {
+    for i in 0..rule_count(set) {
         if ligature_fits(set, glyphs, i) {
             return true;
         }
@@ -144,6 +149,14 @@ fn ligature_fits(set: &[u8], glyphs: &[GlyphId], i: u16) -> bool
         return false;
     }
     fit_each(&Pattern::Glyphs(part(ligature, 4)), 1, glyphs)
+}
+
+// How many of a set's rules or ligatures are asked.
+#[inline]
+fn rule_count(set: &[u8]) -> u16
+    ensures { result ≡ rule_count set.now }
+{
+    u16_at(set, 0).min(MOST_RULES)
 }
 
 // One of a set's rules or ligatures.
@@ -206,7 +219,7 @@ fn rules_fit(set: &[u8], classes: Option<&[u8]>, glyphs: &[GlyphId]) -> bool
     requires { length glyphs.now < 65536 }
     ensures { result ≡ rules_fit (option_map (λ c. c.now) classes.entry) glyphs.now set.now }
 {
-    for i in 0..u16_at(set, 0) {
+    for i in 0..rule_count(set) {
         if rule_fits(set, classes, glyphs, i) {
             return true;
         }
@@ -262,7 +275,7 @@ fn chained_rules_fit(
     ensures { let of = option_map (λ c. c.now) classes.entry in
         result ≡ chained_rules_fit of glyphs.now zero_context set.now }
 {
-    for i in 0..u16_at(set, 0) {
+    for i in 0..rule_count(set) {
         if chained_rule_fits(set, classes, glyphs, zero_context, i) {
             return true;
         }

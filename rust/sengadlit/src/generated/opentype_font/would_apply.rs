@@ -13,9 +13,14 @@ use crate::generated::shapers_base::font::GlyphId;
 /// The type of an extension, whose subtables name another one.
 const EXTENSION: u16 = 7;
 
+/// How many subtables of a lookup are asked at most, and how many rules of a set.
+const MOST_SUBTABLES: u16 = 256;
+
+const MOST_RULES: u16 = 256;
+
 /// Whether a lookup of GSUB would apply to exactly these glyphs; with `zero_context`, by a rule that
-/// looks at no glyphs around them. (OpenType, GSUB; HarfBuzz's [`would_apply`], which doesn't test the
-/// coverage of classes and sets exactly.)
+/// looks at no glyphs around them. At most 65,536 rules are asked. (OpenType, GSUB; HarfBuzz's
+/// [`would_apply`], which doesn't test the coverage of classes and sets exactly.)
 ///
 /// <details><summary>Contract</summary>
 ///
@@ -35,7 +40,7 @@ pub fn would_apply(gsub: &[u8], index: u16, glyphs: &[GlyphId], zero_context: bo
 }
 
 fn lookup_applies(lookup: &[u8], glyphs: &[GlyphId], zero_context: bool) -> bool {
-    for i in 0..subtable_count(lookup) {
+    for i in 0..subtable_count(lookup).min(MOST_SUBTABLES) {
         if nth_applies(lookup, glyphs, zero_context, i) {
             return true;
         }
@@ -109,7 +114,7 @@ fn ligatures_fit(bytes: &[u8], glyphs: &[GlyphId]) -> bool {
 
 // Whether a ligature of a set is made of exactly these glyphs.
 fn has_ligature(set: &[u8], glyphs: &[GlyphId]) -> bool {
-    for i in 0..u16_at(set, 0) {
+    for i in 0..rule_count(set) {
         if ligature_fits(set, glyphs, i) {
             return true;
         }
@@ -123,6 +128,12 @@ fn ligature_fits(set: &[u8], glyphs: &[GlyphId], i: u16) -> bool {
         return false;
     }
     fit_each(&Pattern::Glyphs(part(ligature, 4)), 1, glyphs)
+}
+
+// How many of a set's rules or ligatures are asked.
+#[inline]
+fn rule_count(set: &[u8]) -> u16 {
+    u16_at(set, 0).min(MOST_RULES)
 }
 
 // One of a set's rules or ligatures.
@@ -167,7 +178,7 @@ fn sets_fit(bytes: &[u8], glyphs: &[GlyphId]) -> bool {
 
 // Whether a rule of a set of contexts has exactly these glyphs.
 fn rules_fit(set: &[u8], classes: Option<&[u8]>, glyphs: &[GlyphId]) -> bool {
-    for i in 0..u16_at(set, 0) {
+    for i in 0..rule_count(set) {
         if rule_fits(set, classes, glyphs, i) {
             return true;
         }
@@ -208,7 +219,7 @@ fn chained_rules_fit(
     glyphs: &[GlyphId],
     zero_context: bool,
 ) -> bool {
-    for i in 0..u16_at(set, 0) {
+    for i in 0..rule_count(set) {
         if chained_rule_fits(set, classes, glyphs, zero_context, i) {
             return true;
         }
