@@ -1,13 +1,13 @@
 -- A face as the hooks, normalization and positions read it.
 use Rattle.std.specs.Prelude.{ℕ, ◌/◌, ◌||◌, ℤ, pos, neg_ℤ, ◌-ℤ◌, Option, None, Some}
 use Rattle.std.specs.Int.{saturate_to_bits}
-use Rattle.std.specs.Option.{option_map, unwrap_or}
+use Rattle.std.specs.Option.{option_map}
 use Rattle.shapers_base.specs.Font.{Font}
 use Rattle.shapers_base.specs.declared.font.GlyphId.{GlyphId}
 use Rattle.shapers_normalize.specs.TextTables.{VariantForms}
 use Rattle.shapers_position.specs.Metrics.{Metrics}
-use Rattle.opentype_face.specs.Faces.{Tables, ascender_of, descender_of, glyph_count_of, h_advance_of, nominal_glyph_of, variation_glyph_of}
-use Rattle.opentype_face.specs.Metrics.{advance_in, origin_in, units_in}
+use Rattle.opentype_face.specs.Faces.{Tables, ascender_of, descender_of, glyph_count_of, h_advance_of, nominal_glyph_of, v_origin_of, variation_glyph_of}
+use Rattle.opentype_face.specs.Metrics.{advance_in, units_in}
 use Rattle.opentype_font.specs.ScriptFeatures.{has_feature_in}
 use Rattle.opentype_font.specs.TextTags.{Tags}
 use Rattle.opentype_font.specs.WouldApply.{would_apply}
@@ -38,14 +38,10 @@ abbrev pub vertical_advance_of : Tables → ℕ → ℤ
 vertical_advance_of t glyph = vertical_advance_by t (advance_in t.vhea t.vmtx (glyph_count_of t)
     glyph)
 
--- the height of the vertical origin: that of VORG, or the ascender's
-abbrev pub vertical_origin_of : Tables → ℕ → ℤ
-vertical_origin_of t glyph = unwrap_or (origin_in t.vorg glyph) (ascender_of t)
-
 -- the vertical origin lies half of the horizontal advance to the right
 abbrev pub metrics_of : Tables → Metrics
 metrics_of t = record {
   em = units_in t.head;
   v_advance = λ glyph. vertical_advance_of t glyph.0;
-  v_origin = λ glyph. (pos (h_advance_of t glyph.0 / 2), vertical_origin_of t glyph.0);
+  v_origin = λ glyph. (pos (h_advance_of t glyph.0 / 2), v_origin_of t glyph.0);
 }

@@ -1,13 +1,13 @@
 //! A font file as the hooks, normalization and positions read it.
 ghost use Rattle.std.specs.Prelude.{◌≡◌};
 ghost use Rattle.opentype_face.specs.Faces.{tables_of};
-ghost use Rattle.opentype_font.specs.Fonts.{vertical_advance_of, vertical_origin_of};
+ghost use Rattle.opentype_font.specs.Fonts.{vertical_advance_of};
 
 use crate::script_features::has_feature;
 use crate::text_tags::TextTags;
 use crate::would_apply::would_apply;
 use opentype_face::face::Face;
-use opentype_face::metrics::{advance, vertical_origin};
+use opentype_face::metrics::advance;
 use shapers_base::buffer::hb_tag_t;
 use shapers_base::font::{GlyphId, hb_font_t};
 use shapers_normalize::NormalizeFont;
@@ -30,16 +30,6 @@ fn v_advance(face: &Face<'_>, glyph: u16) -> i32
     match advance(face.vhea, face.vmtx, face.glyph_count(), glyph) {
         Some(advance) => -i32::from(advance),
         None => face.descender().saturating_sub(face.ascender()),
-    }
-}
-
-// How high above the base line a glyph's origin for vertical text lies.
-fn v_origin(face: &Face<'_>, glyph: u16) -> i32
-    ensures { result ≡ vertical_origin_of (tables_of face.now) glyph }
-{
-    match vertical_origin(face.vorg, glyph) {
-        Some(height) => i32::from(height),
-        None => face.ascender(),
     }
 }
 
@@ -106,6 +96,6 @@ impl<'a> MetricsFont for OpenTypeFont<'a> {
     // (half of the horizontal advance to the right, as no table says otherwise)
     fn glyph_v_origin(&self, glyph: GlyphId) -> (i32, i32) {
         let across = self.face.h_advance(glyph.0) / 2;
-        (i32::from(across), v_origin(&self.face, glyph.0))
+        (i32::from(across), self.face.v_origin(glyph.0))
     }
 }

@@ -3,7 +3,7 @@
 //! A font file as the hooks, normalization and positions read it.
 
 use crate::generated::opentype_face::face::Face;
-use crate::generated::opentype_face::metrics::{advance, vertical_origin};
+use crate::generated::opentype_face::metrics::advance;
 use crate::generated::opentype_font::script_features::has_feature;
 use crate::generated::opentype_font::text_tags::TextTags;
 use crate::generated::opentype_font::would_apply::would_apply;
@@ -27,14 +27,6 @@ fn v_advance(face: &Face<'_>, glyph: u16) -> i32 {
     match advance(face.vhea, face.vmtx, face.glyph_count(), glyph) {
         Some(advance) => -i32::from(advance),
         None => face.descender().saturating_sub(face.ascender()),
-    }
-}
-
-// How high above the base line a glyph's origin for vertical text lies.
-fn v_origin(face: &Face<'_>, glyph: u16) -> i32 {
-    match vertical_origin(face.vorg, glyph) {
-        Some(height) => i32::from(height),
-        None => face.ascender(),
     }
 }
 
@@ -85,6 +77,6 @@ impl<'a> MetricsFont for OpenTypeFont<'a> {
     // (half of the horizontal advance to the right, as no table says otherwise)
     fn glyph_v_origin(&self, glyph: GlyphId) -> (i32, i32) {
         let across = self.face.h_advance(glyph.0) / 2;
-        (i32::from(across), v_origin(&self.face, glyph.0))
+        (i32::from(across), self.face.v_origin(glyph.0))
     }
 }
