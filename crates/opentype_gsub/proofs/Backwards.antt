@@ -1,9 +1,5 @@
 -- A walk from the end of a text to its start, as far as it has come.
-use Rattle.std.proofs.Common.{ℕ, zero, suc, ◌+◌, ◌-◌, ◌<◌, ◌≤◌, ◌≡◌, length, refl, sym, ap, ◌∙◌, arith}
-use Rattle.std.proofs.Common.{Option, None, Some, true, false}
-use Rattle.std.specs.Option.{is_some}
-use Rattle.opentype_face.specs.Firsts.{first_from}
-use Rattle.opentype_face.proofs.Foremost.{IsFirst, first_hit, first_passed}
+use Rattle.std.proofs.Common.{ℕ, zero, suc, ◌-◌, ◌<◌, ◌≤◌, ◌≡◌, length, refl, sym, ap, ◌∙◌, arith}
 use Rattle.shapers_buffer.specs.Glyphs.{Glyphs}
 use Rattle.opentype_gsub.specs.Reversed.{walked_back}
 
@@ -36,15 +32,3 @@ pub back_all : (f : Glyphs → ℕ → Glyphs) (old : Glyphs) (at : ℕ) (gs : G
     gs ≡ walked_back (length old) f old
 back_all f old at gs b le =
     let e : at ≡ 0 = omega arith in sym (rw e at b.rest ∙ none_back f gs)
-
--- ---- the first of several that fits, as the code finds it
-
-pub some_first : (f : ℕ → Option ℕ) (count i : ℕ) (o : Option ℕ) → IsFirst f count i → i < count → o ≡ f i →
-    is_some o ≡ true → o ≡ first_from count f 0
-some_first f count i None s lt e some = absurd (cc)
-some_first f count i (Some x) s lt e some = sym (first_hit f count i x s lt (sym e))
-
-pub no_first : (f : ℕ → Option ℕ) (count i : ℕ) (o : Option ℕ) → IsFirst f count i → i < count → o ≡ f i →
-    is_some o ≡ false → IsFirst f count (i + 1)
-no_first f count i None s lt e none = first_passed f count i s lt (sym e)
-no_first f count i (Some x) s lt e none = absurd (cc)

@@ -1,5 +1,5 @@
 -- Worked rows of GSUB, computed on tables written out by hand.
-use Rattle.std.specs.Prelude.{◌≡◌, ℕ, Some, None, List, [], ◌∷◌, ◌++◌, map, refl}
+use Rattle.std.specs.Prelude.{◌≡◌, ℕ, ◌+◌, Some, None, List, [], ◌∷◌, ◌++◌, map, refl}
 use Rattle.shapers_buffer.specs.Glyphs.{Glyph}
 use Rattle.shapers_buffer.specs.Glyph.{default_glyph}
 use Rattle.shapers_buffer.specs.declared.buffer.level.BufferClusterLevel.TheVariants.{MonotoneGraphemes}
@@ -11,8 +11,9 @@ use Rattle.opentype_layout.specs.Rules.{around, chained_in, context_in, end_in, 
 use Rattle.opentype_layout.specs.Sight.{flag_in, ignores, may_pass, next_from, seen_as, sight_of_context, sight_of_input}
 use Rattle.opentype_gsub.specs.Applied.{one_put, sequence_put, single_put}
 use Rattle.opentype_gsub.specs.Edits.{handed_on, merged_up_to, multiplied, new_props, sequence_part, sequence_parts, removed_all, replaced}
+use Rattle.opentype_gsub.specs.Flagged.{is_short, unbroken}
 use Rattle.opentype_gsub.specs.Ligated.{as_letter, as_mark, components_of, counted_too, followed_by_marks, is_of_base, is_of_last, is_of_marks, ligature_joined, ligated, ligature_glyph, marks_inside, marked_one, number_before, number_for, with_followers}
-use Rattle.opentype_gsub.specs.Machine.{lookup_called, came_in, nested, nth_came, ran, machine_turned}
+use Rattle.opentype_gsub.specs.Machine.{begun, lookup_called, came_in, nested, nth_came, ran, machine_turned}
 use Rattle.opentype_gsub.specs.Reversed.{around_in, glyphs_at, nth_reversed, reversed_in, lookup_stepped_back}
 use Rattle.opentype_gsub.specs.Setting.{Setting, is_seen, sights_of}
 use Rattle.opentype_face.specs.Ranges.{bisect}
@@ -123,6 +124,9 @@ glyph number cluster = record default_glyph { glyph_id = number; mask = 256; clu
 abbrev with_props : ℕ → ℕ → Glyph → Glyph
 with_props props ligature g = record g { glyph_props = record { 0 = props }; lig_props = record { 0 = ligature } }
 
+abbrev with_flags : ℕ → Glyph → Glyph
+with_flags bits g = record g { mask = g.mask + bits }
+
 -- a lookup table with one subtable, of a type and a flag; and GSUB with one lookup
 abbrev lookup_of : ℕ → ℕ → List ℕ → List ℕ
 lookup_of kind flag subtable = 0 ∷ kind ∷ 0 ∷ flag ∷ 0 ∷ 1 ∷ 0 ∷ 8 ∷ subtable
@@ -135,6 +139,7 @@ set_for limit gsub = record {
   gdef = [];
   gsub = gsub;
   level = MonotoneGraphemes;
+  len = 2;
   limit = limit;
   lookup = record { index = 0; mask = 256; auto_zwnj = true; auto_zwj = true; random = false; per_syllable = false };
 }
@@ -195,18 +200,19 @@ unfolding ligated ligature_joined merged_up_to number_for is_of_marks is_of_base
 ligature_of_marks = refl
 
 -- type 6, format 3: glyph 5 before glyph 9 is given to lookup 0, which makes 7 of it. One call, one end.
+-- No break is between the two.
 abbrev context : List ℕ
 context = lookup_of 6 0 (0 ∷ 3 ∷ 0 ∷ 0 ∷ 0 ∷ 1 ∷ 0 ∷ 18 ∷ 0 ∷ 1 ∷ 0 ∷ 24 ∷ 0 ∷ 1 ∷ 0 ∷ 0 ∷ 0 ∷ 0
     ∷ 0 ∷ 1 ∷ 0 ∷ 1 ∷ 0 ∷ 5 ∷ 0 ∷ 1 ∷ 0 ∷ 1 ∷ 0 ∷ 9 ∷ [])
 
 in_context : nested (set_for 9 (gsub_of (lookup_of 1 0 by_delta))) context (glyph 5 1 ∷ glyph 9 2 ∷ []) 0 100
-    ≡ record { text = with_props 16 0 (glyph 7 1) ∷ glyph 9 2 ∷ []; end = Some 1; left = 98 }
-unfolding nested came_in nth_came sights_of sight_of_input sight_of_context flag_in context_in kind_in first_at found_at around rule_in chained_in test_in reach_behind reach_before reach_from end_in input_in places_from next_from seen_by seen_as ignores may_pass bisect first_from ran machine_turned lookup_called one_put single_put replaced new_props frame_settled settled_places climbing
+    ≡ record { text = with_props 16 0 (glyph 7 1) ∷ with_flags 3 (glyph 9 2) ∷ []; end = Some 1; left = 98 }
+unfolding nested came_in nth_came begun unbroken is_short sights_of sight_of_input sight_of_context flag_in context_in kind_in first_at found_at around rule_in chained_in test_in reach_behind reach_before reach_from end_in input_in places_from next_from seen_by seen_as ignores may_pass bisect first_from ran machine_turned lookup_called one_put single_put replaced new_props frame_settled settled_places climbing
 in_context = refl
 
 out_of_context : nested (set_for 9 (gsub_of (lookup_of 1 0 by_delta))) context (glyph 5 1 ∷ glyph 8 2 ∷ []) 0 100
     ≡ record { text = glyph 5 1 ∷ glyph 8 2 ∷ []; end = None; left = 100 }
-unfolding nested came_in nth_came sights_of sight_of_input sight_of_context flag_in context_in kind_in first_at found_at around rule_in chained_in test_in reach_behind reach_before reach_from end_in input_in places_from next_from seen_by seen_as ignores may_pass bisect first_from ran machine_turned lookup_called one_put single_put replaced new_props frame_settled settled_places climbing
+unfolding nested came_in nth_came begun unbroken is_short sights_of sight_of_input sight_of_context flag_in context_in kind_in first_at found_at around rule_in chained_in test_in reach_behind reach_before reach_from end_in input_in places_from next_from seen_by seen_as ignores may_pass bisect first_from ran machine_turned lookup_called one_put single_put replaced new_props frame_settled settled_places climbing
 out_of_context = refl
 
 -- type 8: glyph 5 becomes 6 before glyph 9
@@ -214,11 +220,11 @@ abbrev reverse : List ℕ
 reverse = 0 ∷ 1 ∷ 0 ∷ 14 ∷ 0 ∷ 0 ∷ 0 ∷ 1 ∷ 0 ∷ 20 ∷ 0 ∷ 1 ∷ 0 ∷ 6 ∷ 0 ∷ 1 ∷ 0 ∷ 1 ∷ 0 ∷ 5 ∷ 0 ∷ 1 ∷ 0 ∷ 1 ∷ 0 ∷ 9 ∷ []
 
 reversed_before_9 : lookup_stepped_back (set_for 9 []) (lookup_of 8 0 reverse) (glyph 5 1 ∷ glyph 9 2 ∷ []) 0
-    ≡ with_props 16 0 (glyph 6 1) ∷ glyph 9 2 ∷ []
-unfolding lookup_stepped_back is_seen sights_of sight_of_input sight_of_context flag_in nth_reversed reversed_in glyphs_at around_in found_at around reach_behind reach_before reach_from end_in input_in places_from next_from seen_by seen_as ignores may_pass bisect first_from replaced new_props
+    ≡ with_props 16 0 (glyph 6 1) ∷ with_flags 3 (glyph 9 2) ∷ []
+unfolding lookup_stepped_back unbroken is_short is_seen sights_of sight_of_input sight_of_context flag_in nth_reversed reversed_in glyphs_at around_in found_at around reach_behind reach_before reach_from end_in input_in places_from next_from seen_by seen_as ignores may_pass bisect first_from replaced new_props
 reversed_before_9 = refl
 
 reversed_before_8 : lookup_stepped_back (set_for 9 []) (lookup_of 8 0 reverse) (glyph 5 1 ∷ glyph 8 2 ∷ []) 0
     ≡ glyph 5 1 ∷ glyph 8 2 ∷ []
-unfolding lookup_stepped_back is_seen sights_of sight_of_input sight_of_context flag_in nth_reversed reversed_in glyphs_at around_in found_at around reach_behind reach_before reach_from end_in input_in places_from next_from seen_by seen_as ignores may_pass bisect first_from replaced new_props
+unfolding lookup_stepped_back unbroken is_short is_seen sights_of sight_of_input sight_of_context flag_in nth_reversed reversed_in glyphs_at around_in found_at around reach_behind reach_before reach_from end_in input_in places_from next_from seen_by seen_as ignores may_pass bisect first_from replaced new_props
 reversed_before_8 = refl

@@ -12,7 +12,7 @@ use Rattle.opentype_layout.specs.declared.sight.Sight.{Sight}
 use Rattle.opentype_gsub.specs.Applied.{PlaceChange, alternate_put, ligated_put, ligature_put, one_put, put_in, single_put}
 use Rattle.opentype_gsub.specs.Growth.{adding, growth_in, may_add}
 use Rattle.opentype_gsub.specs.Ligatures.{nth_ligature}
-use Rattle.opentype_gsub.specs.Machine.{Frame, MachineTurn, came_in, nested, nth_came, started, machine_turned}
+use Rattle.opentype_gsub.specs.Machine.{Begun, Frame, MachineTurn, came_in, nested, nth_came, started, machine_turned}
 use Rattle.opentype_gsub.specs.Reversed.{lookup_stepped_back, walked_back, with_glyph}
 use Rattle.opentype_gsub.specs.Setting.{Setting, is_seen, sights_of}
 use Rattle.opentype_gsub.specs.Substituted.{applied, operations_in, setting_for, substituted}
@@ -20,6 +20,10 @@ use Rattle.opentype_gsub.specs.Walked.{WalkStep, lookup_stepped, lookup_walked, 
 use Rattle.opentype_gsub.specs.declared.pass.LookupUse.{LookupUse}
 use Rattle.opentype_gsub.specs.declared.pass.Sights.{Sights}
 use Rattle.opentype_gsub.proofs.LawKeeps.{ForEach, AreWithin, each_when, first_each, glyphs_grow, if_each, last_within, ligature_within, each_mapped, mapped_if, or_each, then_each}
+use Rattle.opentype_gsub.specs.Flagged.{unbroken}
+use Rattle.opentype_gsub.specs.declared.reverse.Reversal.{Reversal}
+use Rattle.opentype_gsub.proofs.Unbroken.{unbroken_same}
+use Rattle.opentype_gsub.proofs.LigatureKeeps.{same_length}
 use Rattle.opentype_gsub.proofs.Lengths.{ligated_few, put_few}
 
 or_left : (a b : Bool) → (a || b) ≡ false → a ≡ false
@@ -101,9 +105,9 @@ one_less s sight kind bytes gs at lt not_two =
     (λ it all. ligature_less s at gs it lt all)))
     tt)))
 
-abbrev pub CameLess : Glyphs → PlaceChange ⊎ Frame → Type 0
+abbrev pub CameLess : Glyphs → PlaceChange ⊎ Begun → Type 0
 CameLess gs (inl change) = Lessens gs change
-CameLess gs (inr frame) = ⊥
+CameLess gs (inr b) = ⊥
 
 nth_less : (s : Setting) (sights : Sights) (lookup : List ℕ) (at : ℕ) (gs : Glyphs) (i : ℕ) → at < length gs →
     may_add (type_in 7 lookup i) ≡ false → ForEach (CameLess gs) (nth_came s sights lookup at gs i)
@@ -125,11 +129,11 @@ came_less s lookup gs at none = each_when (CameLess gs) (nat_lt at (length gs)) 
     (λ d lt. nth_less s (sights_of s.gdef s.lookup lookup (glyph_at gs at)) lookup at gs (0 + d) (ltb-true at (length gs) e)
     (not_adding lookup (0 + d) (none_each (adding lookup) (u16_in lookup 4) 0 none d lt))))
 
-started_less : (operations : ℕ) (turn : Glyphs → List Frame → MachineTurn) (gs : Glyphs) (came : Option (PlaceChange ⊎ Frame)) →
+started_less : (operations : ℕ) (turn : Glyphs → List Frame → MachineTurn) (gs : Glyphs) (came : Option (PlaceChange ⊎ Begun)) →
     ForEach (CameLess gs) came → length (started operations turn gs came).text ≤ length gs
 started_less operations turn gs None h = omega arith
 started_less operations turn gs (Some (inl change)) h = h
-started_less operations turn gs (Some (inr frame)) h = absurd h
+started_less operations turn gs (Some (inr b)) h = absurd h
 
 if_step : (gs : Glyphs) (test : Bool) (x y : WalkStep) → length x.text ≤ length gs → length y.text ≤ length gs →
     length (if test then x else y).text ≤ length gs
@@ -155,9 +159,10 @@ walk_less f h (suc n) gs at left = if_text (length gs) (nat_lt at (length gs)) _
     (let one = h gs at left in
     let more = walk_less f h n (f gs at left).text (f gs at left).next (f gs at left).left in omega arith) (omega arith)
 
-with_less : (gdef : List ℕ) (gs : Glyphs) (at : ℕ) (to : Option ℕ) → length (with_glyph gdef gs at to) ≤ length gs
+with_less : (gdef : List ℕ) (gs : Glyphs) (at : ℕ) (it : Option Reversal) → length (with_glyph gdef gs at it) ≤ length gs
 with_less gdef gs at None = omega arith
-with_less gdef gs at (Some to) = put_few gdef at gs to
+with_less gdef gs at (Some it) = let flagged = unbroken (length gs) it.start it.stop gs in
+    omega (arith, put_few gdef at flagged it.glyph, same_length flagged gs (unbroken_same (length gs) it.start it.stop gs))
 
 back_less : (s : Setting) (lookup : List ℕ) (gs : Glyphs) (at : ℕ) → length (lookup_stepped_back s lookup gs at) ≤ length gs
 unfolding lookup_stepped_back

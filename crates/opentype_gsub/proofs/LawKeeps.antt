@@ -14,7 +14,7 @@ use Rattle.opentype_layout.specs.Pattern.{is_number, next_in, places_from, seen_
 use Rattle.opentype_layout.specs.Ligatures.{if_together, input_in, is_apart}
 use Rattle.opentype_gsub.specs.Ligatures.{nth_ligature, ligature_of}
 use Rattle.opentype_gsub.specs.Applied.{PlaceChange, alternate_put, ligated_put, ligature_put, multiple_put, one_put, put_in, sequence_put, single_put}
-use Rattle.opentype_gsub.specs.Machine.{AfterCall, Frame, Nested, MachineTurn, begun_frame, lookup_called, called_by, came_in, ended, goes_on_with, nested, nth_came, turn_pushed, ran, started, machine_turned}
+use Rattle.opentype_gsub.specs.Machine.{AfterCall, Begun, Frame, Nested, MachineTurn, begun, lookup_called, called_by, came_in, ended, goes_on_with, nested, nth_came, turn_pushed, ran, started, machine_turned}
 use Rattle.opentype_gsub.specs.Setting.{Setting, is_seen, sights_of}
 use Rattle.opentype_gsub.specs.Walked.{WalkStep, lookup_stepped, lookup_walked, went_on}
 use Rattle.opentype_gsub.specs.Substituted.{applied, limit_in, operations_in, setting_for, substituted}
@@ -29,7 +29,11 @@ use Rattle.opentype_face.specs.Lookups.{lookup_in, subtable_in, type_in}
 use Rattle.opentype_layout.specs.Rules.{Found, context_in}
 use Rattle.opentype_gsub.specs.Reversed.{lookup_stepped_back, walked_back, with_glyph}
 use Rattle.opentype_layout.specs.declared.sight.Sight.{Sight}
-use Rattle.opentype_gsub.proofs.Kept.{itself, kept_then}
+use Rattle.opentype_gsub.specs.Flagged.{unbroken}
+use Rattle.opentype_gsub.specs.declared.reverse.Reversal.{Reversal}
+use Rattle.opentype_gsub.proofs.Unbroken.{unbroken_same}
+use Rattle.opentype_gsub.proofs.LigatureKeeps.{same_length}
+use Rattle.opentype_gsub.proofs.Kept.{itself, kept_then, same}
 use Rattle.opentype_gsub.proofs.Lengths.{ligated_few, put_few, sequence_few}
 use Rattle.opentype_gsub.proofs.LookupKeeps.{ligated_keeps, put_keeps, sequence_keeps}
 
@@ -166,6 +170,16 @@ keeps_then s a b c one two = record {
 no_longer : (s : Setting) (old new : Glyphs) → KeepsTextClusters s.level old new → length new ≤ length old → Keeps s old new
 no_longer s old new kept few = record { kept = kept; few = λ n within limited. omega arith }
 
+flagging_keeps : (s : Setting) (gs : Glyphs) (old_len start stop : ℕ) →
+    Keeps s gs (unbroken old_len start stop gs)
+flagging_keeps s gs old_len start stop = let kept = unbroken_same old_len start stop gs in
+    no_longer s gs _ (same s.level gs _ kept)
+    (omega (arith, same_length (unbroken old_len start stop gs) gs kept))
+
+begun_keeps : (s : Setting) (chained : Bool) (gs : Glyphs) (m : Found) → Keeps s gs (begun s chained gs m).text
+unfolding begun
+begun_keeps s chained gs m = flagging_keeps s gs (if chained then s.len else length gs) m.start m.stop
+
 abbrev pub ChangeKeeps : Setting → Glyphs → PlaceChange → Type 0
 ChangeKeeps s gs change = Keeps s gs change.text
 
@@ -202,9 +216,9 @@ one_keeps s sight kind bytes gs at lt =
 
 -- ---- at a place
 
-abbrev pub CameKeeps : Setting → Glyphs → PlaceChange ⊎ Frame → Type 0
+abbrev pub CameKeeps : Setting → Glyphs → PlaceChange ⊎ Begun → Type 0
 CameKeeps s gs (inl change) = ChangeKeeps s gs change
-CameKeeps s gs (inr frame) = Unit {0}
+CameKeeps s gs (inr b) = Keeps s gs b.text
 
 nth_keeps : (s : Setting) (sights : Sights) (lookup : List ℕ) (at : ℕ) (gs : Glyphs) (i : ℕ) → at < length gs →
     ForEach (CameKeeps s gs) (nth_came s sights lookup at gs i)
@@ -214,9 +228,9 @@ nth_keeps s sights lookup at gs i lt =
     let bytes = subtable_in 7 lookup i in
     let one : Option PlaceChange = one_put s sights.input kind bytes gs at in
     let rule : Option Found = context_in (kind == 6) s.gdef sights.input sights.context bytes gs at in
-    let begins : Found → PlaceChange ⊎ Frame = λ m. inr (begun_frame (length gs) m) in
+    let begins : Found → PlaceChange ⊎ Begun = λ m. inr (begun s (kind == 6) gs m) in
     if_each (CameKeeps s gs) ((kind == 5) || (kind == 6)) (option_map begins rule) (option_map inl one)
-    (each_mapped (CameKeeps s gs) begins rule (λ m. tt))
+    (each_mapped (CameKeeps s gs) begins rule (begun_keeps s (kind == 6) gs))
     (mapped_if (ChangeKeeps s gs) (CameKeeps s gs) inl one (one_keeps s sights.input kind bytes gs at lt) (λ change keeps. keeps))
 
 pub each_when : {X : Type 0} (P : X → Type 0) (test : Bool) (o : Option X) → (test ≡ true → ForEach P o) →
@@ -232,11 +246,11 @@ came_keeps s lookup gs at = each_when (CameKeeps s gs) (nat_lt at (length gs)) _
 
 -- ---- the machine
 
-by_keeps : (s : Setting) (gs : Glyphs) (f : Frame) (came : Option (PlaceChange ⊎ Frame)) → ForEach (CameKeeps s gs) came →
+by_keeps : (s : Setting) (gs : Glyphs) (f : Frame) (came : Option (PlaceChange ⊎ Begun)) → ForEach (CameKeeps s gs) came →
     Keeps s gs (called_by gs f came).text
 by_keeps s gs f None h = unchanged s gs
 by_keeps s gs f (Some (inl change)) h = h
-by_keeps s gs f (Some (inr frame)) h = unchanged s gs
+by_keeps s gs f (Some (inr b)) h = h
 
 if_called : (s : Setting) (gs : Glyphs) (test : Bool) (x y : AfterCall) → Keeps s gs x.text → Keeps s gs y.text →
     Keeps s gs (if test then x else y).text
@@ -273,11 +287,12 @@ unfolding ran
 ran_keeps s zero gs fs = unchanged s gs
 ran_keeps s (suc n) gs fs = goes_keeps s gs n (ran n (machine_turned s)) (machine_turned s gs fs) (machine_turned s gs fs).end (turned_keeps s gs fs) (ran_keeps s n)
 
-started_keeps : (s : Setting) (operations : ℕ) (gs : Glyphs) (came : Option (PlaceChange ⊎ Frame)) → ForEach (CameKeeps s gs) came →
+started_keeps : (s : Setting) (operations : ℕ) (gs : Glyphs) (came : Option (PlaceChange ⊎ Begun)) → ForEach (CameKeeps s gs) came →
     Keeps s gs (started operations (machine_turned s) gs came).text
 started_keeps s operations gs None h = unchanged s gs
 started_keeps s operations gs (Some (inl change)) h = h
-started_keeps s operations gs (Some (inr frame)) h = ran_keeps s operations gs (frame ∷ [])
+started_keeps s operations gs (Some (inr b)) h =
+    keeps_then s gs b.text _ h (ran_keeps s operations b.text (b.frame ∷ []))
 
 nested_keeps : (s : Setting) (lookup : List ℕ) (gs : Glyphs) (at operations : ℕ) → Keeps s gs (nested s lookup gs at operations).text
 unfolding nested
@@ -308,9 +323,10 @@ walk_keeps s f h (suc n) gs at left = if_text s gs _ gs (nat_lt at (length gs))
     (keeps_then s gs (f gs at left).text _ (h gs at left) (walk_keeps s f h n (f gs at left).text (f gs at left).next (f gs at left).left))
     (unchanged s gs)
 
-with_keeps : (s : Setting) (gs : Glyphs) (at : ℕ) (to : Option ℕ) → Keeps s gs (with_glyph s.gdef gs at to)
+with_keeps : (s : Setting) (gs : Glyphs) (at : ℕ) (it : Option Reversal) → Keeps s gs (with_glyph s.gdef gs at it)
 with_keeps s gs at None = unchanged s gs
-with_keeps s gs at (Some to) = in_keeps s at gs to
+with_keeps s gs at (Some it) = keeps_then s gs (unbroken (length gs) it.start it.stop gs) _ (flagging_keeps s gs (length gs) it.start it.stop)
+    (in_keeps s at (unbroken (length gs) it.start it.stop gs) it.glyph)
 
 back_keeps : (s : Setting) (lookup : List ℕ) (gs : Glyphs) (at : ℕ) → Keeps s gs (lookup_stepped_back s lookup gs at)
 unfolding lookup_stepped_back

@@ -3,6 +3,8 @@ pub mod Walks
 pub mod Backwards
 pub mod Marking
 mod GsubRows
+mod FlagRows
+pub mod Unbroken
 pub mod Pairs
 pub mod Kept
 pub mod LigatureKeeps

@@ -1,6 +1,6 @@
 -- The machine of nested lookups, as far as it has come.
 use Rattle.std.proofs.Common.{ℕ, zero, suc, min, ◌+◌, ◌-◌, ◌<◌, ◌≤◌, ◌≡◌, ◌∙◌, List, [], ◌∷◌, ◌++◌, drop, take, map, length, get_or, reverse, Option, None, Some, refl, sym, ap, arith, append_assoc, length-append, Bool, true, false, ◌==◌}
-use Rattle.std.proofs.Common.{inr, ◌⊎◌}
+use Rattle.std.proofs.Common.{◌⊎◌}
 use Rattle.std.proofs.lemmas.Bool.Decides.{nat_tests}
 use Rattle.std.proofs.lemmas.List.{append-nil, map-append, reverse-append, take_all, take_at}
 use Rattle.shapers_buffer.specs.Glyphs.{Glyphs}
@@ -15,7 +15,7 @@ use Rattle.shapers_buffer.specs.declared.buffer.refusal.ShaperError.{ShaperError
 use Rattle.opentype_layout.specs.Text.{glyph_at}
 use Rattle.std.proofs.Common.{nat_lt}
 use Rattle.std.proofs.lemmas.List.{length-reverse}
-use Rattle.opentype_gsub.specs.Machine.{IsEnded, lookup_called, came_in, deeper, ended, nth_came, turn_pushed, frame_settled, machine_turned, Frame, IsCome, MachineTurn, capped, climbing, frame_of, frames, goes_on_with, place_moved, ran, settled_places}
+use Rattle.opentype_gsub.specs.Machine.{Begun, IsEnded, lookup_called, came_in, deeper, ended, nth_came, turn_pushed, frame_settled, machine_turned, Frame, IsCome, MachineTurn, capped, climbing, frame_of, frames, goes_on_with, place_moved, ran, settled_places}
 use Rattle.opentype_gsub.specs.declared.settling.Rule.{Rule}
 use Rattle.opentype_gsub.specs.declared.machine.Outcome.{Outcome}
 use Rattle.opentype_gsub.specs.declared.machine.Outcome.TheVariants.{Nothing, Done, Fits}
@@ -94,31 +94,31 @@ three_filled a b c one two three x y z =
 
 -- ---- subtables tried in turn
 
-pub record IsComing (f : Glyphs → ℕ → Option (PlaceChange ⊎ Frame)) (count i : ℕ) (old gs : Glyphs) : Type 0 where
+pub record IsComing (f : Glyphs → ℕ → Option (PlaceChange ⊎ Begun)) (count i : ℕ) (old gs : Glyphs) : Type 0 where
   pub same : gs ≡ old
   pub first : IsFirst (f old) count i
 
-pub coming_start : (f : Glyphs → ℕ → Option (PlaceChange ⊎ Frame)) (count : ℕ) (old : Glyphs) → IsComing f count 0 old old
+pub coming_start : (f : Glyphs → ℕ → Option (PlaceChange ⊎ Begun)) (count : ℕ) (old : Glyphs) → IsComing f count 0 old old
 coming_start f count old = record { same = refl; first = first_start (f old) count }
 
-pub coming_next : (f : Glyphs → ℕ → Option (PlaceChange ⊎ Frame)) (count i : ℕ) (old gs new : Glyphs) →
+pub coming_next : (f : Glyphs → ℕ → Option (PlaceChange ⊎ Begun)) (count i : ℕ) (old gs new : Glyphs) →
     IsComing f count i old gs → i < count → IsCome (f gs i) gs new Nothing → IsComing f count (i + 1) old new
 coming_next f count i old gs new t lt is =
     record { same = is.1 ∙ t.same; first = first_passed (f old) count i t.first lt (sym (ap (λ x. f x i) t.same) ∙ is.0) }
 
-pub coming_done : (f : Glyphs → ℕ → Option (PlaceChange ⊎ Frame)) (count i : ℕ) (old gs new : Glyphs) (next : ℕ) →
+pub coming_done : (f : Glyphs → ℕ → Option (PlaceChange ⊎ Begun)) (count i : ℕ) (old gs new : Glyphs) (next : ℕ) →
     IsComing f count i old gs → i < count → IsCome (f gs i) gs new (Done next) →
     IsCome (first_from count (f old) 0) old new (Done next)
 coming_done f count i old gs new next t lt is =
     first_hit (f old) count i _ t.first lt (sym (ap (λ x. f x i) t.same) ∙ is)
 
-pub coming_fits : (f : Glyphs → ℕ → Option (PlaceChange ⊎ Frame)) (count i : ℕ) (old gs new : Glyphs) (rule : Rule) →
+pub coming_fits : (f : Glyphs → ℕ → Option (PlaceChange ⊎ Begun)) (count i : ℕ) (old gs new : Glyphs) (rule : Rule) →
     IsComing f count i old gs → i < count → IsCome (f gs i) gs new (Fits rule) →
     IsCome (first_from count (f old) 0) old new (Fits rule)
 coming_fits f count i old gs new rule t lt is =
-    (first_hit (f old) count i (inr (frame_of rule)) t.first lt (sym (ap (λ x. f x i) t.same) ∙ is.0), is.1 ∙ t.same)
+    first_hit (f old) count i _ t.first lt (sym (ap (λ x. f x i) t.same) ∙ is)
 
-pub coming_none : (f : Glyphs → ℕ → Option (PlaceChange ⊎ Frame)) (count i : ℕ) (old gs : Glyphs) →
+pub coming_none : (f : Glyphs → ℕ → Option (PlaceChange ⊎ Begun)) (count i : ℕ) (old gs : Glyphs) →
     IsComing f count i old gs → count ≤ i → IsCome (first_from count (f old) 0) old gs Nothing
 coming_none f count i old gs t le = (first_out (f old) count i t.first le, t.same)
 
@@ -186,7 +186,7 @@ came_is : (s : Setting) (lookup : List ℕ) (gs : Glyphs) (at : ℕ) (sights : S
 unfolding came_in
 came_is s lookup gs at sights lt is =
     let e : nat_lt at (length gs) ≡ true = grind (arith, nat_tests) in
-    let h : Sights → Option (PlaceChange ⊎ Frame) = λ x. first_from (u16_in lookup 4) (nth_came s x lookup at gs) 0 in
+    let h : Sights → Option (PlaceChange ⊎ Begun) = λ x. first_from (u16_in lookup 4) (nth_came s x lookup at gs) 0 in
     rw e (ap h is)
 
 pub came_by : (s : Setting) (lookup : List ℕ) (gs new : Glyphs) (at : ℕ) (sights : Sights)

@@ -1,6 +1,7 @@
 pub mod Decided
 pub mod Edits
 pub mod Setting
+pub mod Flagged
 pub mod Ligated
 pub mod Applied
 pub mod Ligatures

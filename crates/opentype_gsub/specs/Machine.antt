@@ -1,11 +1,12 @@
 -- Rules that apply lookups, and these lookups: a machine with a stack of rules, at most 64 deep.
-use Rattle.std.specs.Prelude.{ℕ, zero, suc, ◌+◌, ◌-◌, ◌*◌, ◌^◌, ◌==◌, ◌||◌, ◌≡◌, ◌⊎◌, min, nat_lt, List, [], ◌∷◌, ◌++◌, map, take, drop, length, reverse, slice_index, Option, None, Some, if◌then◌else◌}
+use Rattle.std.specs.Prelude.{ℕ, zero, suc, ◌+◌, ◌-◌, ◌*◌, ◌^◌, ◌==◌, ◌||◌, ◌≡◌, ◌⊎◌, min, nat_lt, Bool, List, [], ◌∷◌, ◌++◌, map, take, drop, length, reverse, slice_index, Option, None, Some, if◌then◌else◌}
 use Rattle.std.proofs.Common.{inl, inr}
 use Rattle.std.specs.Option.{option_map}
 use Rattle.shapers_buffer.specs.Glyphs.{Glyphs}
 use Rattle.opentype_face.specs.Bytes.{u16_in}
 use Rattle.opentype_face.specs.Lookups.{lookup_in, subtable_in, type_in}
 use Rattle.opentype_gsub.specs.Applied.{PlaceChange, one_put}
+use Rattle.opentype_gsub.specs.Flagged.{unbroken}
 use Rattle.opentype_layout.specs.Rules.{Found, context_in}
 use Rattle.opentype_face.specs.Firsts.{first_from}
 use Rattle.opentype_gsub.specs.declared.machine.Outcome.{Outcome}
@@ -47,6 +48,17 @@ begun_frame len m = record {
   sequence = 0;
   before = len;
 }
+
+-- A text with a rule that fits: no break is inside the stretch that the rule looked at. That of a
+-- chained context begins in the text as the lookup has changed it.
+pub record Begun : Type 0 where
+  pub text : Glyphs
+  pub frame : Frame
+
+unfoldable pub begun : Setting → Bool → Glyphs → Found → Begun
+begun s chained gs m =
+    let old_len = (if chained then s.len else length gs) in
+    record { text = unbroken old_len m.start m.stop gs; frame = begun_frame (length gs) m }
 
 -- ---- what an applied lookup added or took away moves the places behind it
 
@@ -94,16 +106,16 @@ frame_settled len f =
 
 -- ---- what a lookup comes to at a place: a change, or a rule that fits
 
-unfoldable pub nth_came : Setting → Sights → List ℕ → ℕ → Glyphs → ℕ → Option (PlaceChange ⊎ Frame)
+unfoldable pub nth_came : Setting → Sights → List ℕ → ℕ → Glyphs → ℕ → Option (PlaceChange ⊎ Begun)
 nth_came s sights lookup at gs i =
     if (type_in 7 lookup i == 5) || (type_in 7 lookup i == 6)
-    then option_map (λ m. inr (begun_frame (length gs) m))
+    then option_map (λ m. inr (begun s (type_in 7 lookup i == 6) gs m))
     (context_in (type_in 7 lookup i == 6) s.gdef sights.input sights.context (subtable_in 7 lookup
     i) gs at)
     else option_map inl (one_put s sights.input (type_in 7 lookup i) (subtable_in 7 lookup i) gs at)
 
 -- by the first of its subtables that fits
-unfoldable pub came_in : Setting → List ℕ → Glyphs → ℕ → Option (PlaceChange ⊎ Frame)
+unfoldable pub came_in : Setting → List ℕ → Glyphs → ℕ → Option (PlaceChange ⊎ Begun)
 came_in s lookup gs at =
     if nat_lt at (length gs)
     then first_from (u16_in lookup 4) (nth_came s (sights_of s.gdef s.lookup lookup (glyph_at gs
@@ -111,10 +123,11 @@ came_in s lookup gs at =
     else None
 
 -- a text before and after, and the outcome that the code gives then
-abbrev pub IsCome : Option (PlaceChange ⊎ Frame) → Glyphs → Glyphs → Outcome → Type 0
+abbrev pub IsCome : Option (PlaceChange ⊎ Begun) → Glyphs → Glyphs → Outcome → Type 0
 IsCome came old new Nothing = (came ≡ None) × (new ≡ old)
 IsCome came old new (Done next) = came ≡ Some (inl (record { text = new; next = next }))
-IsCome came old new (Fits rule) = (came ≡ Some (inr (frame_of rule))) × (new ≡ old)
+IsCome came old new (Fits rule) =
+    came ≡ Some (inr (record { text = new; frame = frame_of rule }))
 
 -- ---- one lookup of a rule
 
@@ -123,7 +136,7 @@ pub record AfterCall : Type 0 where
   pub frame : Frame
   pub inner : Option Frame
 
-abbrev pub called_by : Glyphs → Frame → Option (PlaceChange ⊎ Frame) → AfterCall
+abbrev pub called_by : Glyphs → Frame → Option (PlaceChange ⊎ Begun) → AfterCall
 called_by gs f None = record { text = gs; frame = f; inner = None }
 called_by gs f (Some (inl change)) = record {
   text = change.text;
@@ -131,7 +144,7 @@ called_by gs f (Some (inl change)) = record {
       change.text) f;
   inner = None;
 }
-called_by gs f (Some (inr frame)) = record { text = gs; frame = f; inner = Some frame }
+called_by gs f (Some (inr b)) = record { text = b.text; frame = f; inner = Some b.frame }
 
 -- the frame whose lookup is applied at one of its places
 abbrev pub aimed : ℕ → ℕ → Frame → Frame
@@ -206,7 +219,7 @@ ran zero turn gs fs = record { text = gs; end = None; left = 0 }
 ran (suc n) turn gs fs = goes_on_with n (ran n turn) (turn gs fs) (turn gs fs).end
 
 abbrev pub started : ℕ → (Glyphs → List Frame → MachineTurn) → Glyphs → Option (PlaceChange ⊎
-    Frame) → Nested
+    Begun) → Nested
 started operations turn gs None = record { text = gs; end = None; left = operations }
 started operations turn gs (Some (inl change)) = record {
   text = change.text;
@@ -214,7 +227,7 @@ started operations turn gs (Some (inl change)) = record {
       change.next;
   left = operations;
 }
-started operations turn gs (Some (inr frame)) = ran operations turn gs (frame ∷ [])
+started operations turn gs (Some (inr b)) = ran operations turn b.text (b.frame ∷ [])
 
 -- a lookup's table at a place, and the lookups that its rules apply
 unfoldable pub nested : Setting → List ℕ → Glyphs → ℕ → ℕ → Nested

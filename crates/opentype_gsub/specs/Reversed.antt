@@ -1,18 +1,21 @@
 -- Type 8, OpenType's Reverse Chained Contexts Single Substitution format 1: one glyph for one, by
 -- sets of the glyphs around it. Other lookups can't apply it.
-use Rattle.std.specs.Prelude.{ℕ, zero, suc, ◌+◌, ◌*◌, ◌==◌, is_some, nat_lt, List, [], slice_set, Option, None, Some, if◌then◌else◌}
+use Rattle.std.specs.Prelude.{ℕ, zero, suc, ◌+◌, ◌*◌, ◌==◌, nat_lt, List, [], length, slice_set, Option, None, Some, if◌then◌else◌}
+use Rattle.std.specs.Option.{option_map}
 use Rattle.shapers_buffer.specs.Glyphs.{Glyphs}
 use Rattle.opentype_face.specs.Bytes.{u16_in, part_in}
 use Rattle.opentype_face.specs.Lookups.{subtable_in, type_in}
 use Rattle.opentype_face.specs.Firsts.{first_from}
 use Rattle.opentype_layout.specs.Pattern.{is_in_sets, is_number}
-use Rattle.opentype_layout.specs.Rules.{Sought, found_at}
+use Rattle.opentype_layout.specs.Rules.{Found, Sought, found_at}
 use Rattle.opentype_layout.specs.Text.{glyph_at}
 use Rattle.opentype_gsub.specs.Applied.{two_byte_number}
 use Rattle.opentype_gsub.specs.Decided.{covered_in}
 use Rattle.opentype_gsub.specs.Edits.{replaced}
+use Rattle.opentype_gsub.specs.Flagged.{unbroken}
 use Rattle.opentype_gsub.specs.Setting.{Setting, is_seen, sights_of}
 use Rattle.opentype_gsub.specs.declared.pass.Sights.{Sights}
+use Rattle.opentype_gsub.specs.declared.reverse.Reversal.{Reversal}
 
 -- the glyphs before and behind the one; each list stands behind its count
 unfoldable pub around_in : List ℕ → Sought
@@ -35,27 +38,33 @@ glyphs_at bytes =
     let behind_at = 6 + u16_in bytes 4 * 2 in
     behind_at + 2 + u16_in bytes behind_at * 2
 
-abbrev pub reversed_at : List ℕ → Sights → List ℕ → Glyphs → ℕ → Option ℕ → Option ℕ
+-- the glyph that comes in, and the stretch that was looked at
+abbrev pub reversal : ℕ → Found → Reversal
+reversal to m = record { glyph = to; start = m.start; stop = m.stop }
+
+abbrev pub reversed_at : List ℕ → Sights → List ℕ → Glyphs → ℕ → Option ℕ → Option Reversal
 reversed_at gdef sights bytes gs at None = None
 reversed_at gdef sights bytes gs at (Some i) =
-    if nat_lt i (u16_in bytes (glyphs_at bytes)) then
-    (if is_some (found_at gdef sights.input sights.context gs at (around_in bytes))
-    then Some (u16_in bytes (glyphs_at bytes + 2 + i * 2)) else None)
+    if nat_lt i (u16_in bytes (glyphs_at bytes))
+    then option_map (reversal (u16_in bytes (glyphs_at bytes + 2 + i * 2)))
+    (found_at gdef sights.input sights.context gs at (around_in bytes))
     else None
 
-unfoldable pub reversed_in : List ℕ → Sights → List ℕ → Glyphs → ℕ → Option ℕ
+unfoldable pub reversed_in : List ℕ → Sights → List ℕ → Glyphs → ℕ → Option Reversal
 reversed_in gdef sights bytes gs at =
     if u16_in bytes 0 == 1 then reversed_at gdef sights bytes gs at (covered_in bytes
     (two_byte_number gs at)) else None
 
-unfoldable pub nth_reversed : List ℕ → Sights → List ℕ → Glyphs → ℕ → ℕ → Option ℕ
+unfoldable pub nth_reversed : List ℕ → Sights → List ℕ → Glyphs → ℕ → ℕ → Option Reversal
 nth_reversed gdef sights lookup gs at i =
     if type_in 7 lookup i == 8 then reversed_in gdef sights (subtable_in 7 lookup i) gs at else None
 
--- another glyph at a place, if there is one
-abbrev pub with_glyph : List ℕ → Glyphs → ℕ → Option ℕ → Glyphs
+-- another glyph at a place, if there is one, and no break inside what was looked at
+abbrev pub with_glyph : List ℕ → Glyphs → ℕ → Option Reversal → Glyphs
 with_glyph gdef gs at None = gs
-with_glyph gdef gs at (Some to) = slice_set gs at (replaced gdef to 0 (glyph_at gs at))
+with_glyph gdef gs at (Some it) =
+    let flagged = unbroken (length gs) it.start it.stop gs in
+    slice_set flagged at (replaced gdef it.glyph 0 (glyph_at flagged at))
 
 -- what a lookup's table does at a place
 unfoldable pub lookup_stepped_back : Setting → List ℕ → Glyphs → ℕ → Glyphs

@@ -22,6 +22,7 @@ setting_for gdef gsub use_of b = record {
   gdef = gdef;
   gsub = gsub;
   level = b.level;
+  len = length b.glyphs;
   limit = limit_in (length b.glyphs) b.max_len;
   lookup = use_of;
 }

@@ -4,6 +4,7 @@
 pub mod apply;
 pub mod decided;
 pub mod edits;
+pub mod flagging;
 pub mod growth;
 pub mod laws;
 pub mod ligating;

@@ -1,18 +1,20 @@
 //! Lookups that rules apply, on a stack in the place of a recursion.
 ghost use Rattle.std.specs.Prelude.{◌≡◌, ◌<◌, [], ◌∷◌, length, IfOk, OnOk};
 ghost use Rattle.std.specs.Option.{option_map};
+ghost use Rattle.opentype_layout.specs.Rules.{found};
 ghost use Rattle.opentype_face.specs.Bytes.{u16_in};
 ghost use Rattle.opentype_face.specs.Firsts.{first_from};
-ghost use Rattle.opentype_gsub.specs.Machine.{IsCome, IsEnded, lookup_called, came_in, deeper, frame_of, frames, nested, nth_came, ran, machine_turned};
+ghost use Rattle.opentype_gsub.specs.Machine.{IsCome, IsEnded, begun, lookup_called, came_in, deeper, frame_of, frames, nested, nth_came, ran, machine_turned};
 ghost use Rattle.opentype_gsub.specs.Setting.{setting_of, sights_of};
 ghost use Rattle.opentype_layout.specs.Text.{glyph_at};
 
 use crate::apply::apply_one;
+use crate::flagging::flag_stretch;
 use crate::pass::{Pass, Sights};
 use crate::settling::Rule;
 use opentype_face::bytes::u16_at;
 use opentype_face::lookup::{lookup, subtable, subtable_count, subtable_type};
-use opentype_layout::rules::find_rule;
+use opentype_layout::rules::{Matched, find_rule};
 use shapers_buffer::buffer::{ShaperError, hb_glyph_info_t};
 
 /// How deep lookups may apply lookups.
@@ -27,6 +29,23 @@ pub enum Outcome<'a> {
     Done(usize),
     /// A rule fits.
     Fits(Rule<'a>),
+}
+
+// Begins a rule: no break may be inside what it looked at.
+#[tactic(auto, unfolding(crate::specs::Machine::begun))]
+fn begin<'a>(
+    pass: &Pass<'_>,
+    chained: bool,
+    matched: Matched<'a>,
+    text: &mut [hb_glyph_info_t],
+) -> Rule<'a>
+    ensures { begun (setting_of pass.now) chained text.old (found matched.entry)
+        ≡ record { text = text.new; frame = frame_of result } }
+{
+    let len = text.len();
+    let old_len = if chained { pass.len } else { len };
+    flag_stretch(text, old_len, matched.start, matched.stop);
+    Rule::begin(matched, len)
 }
 
 // What one of a lookup's subtables comes to at a place.
@@ -49,7 +68,7 @@ fn come_by<'a>(
     if kind == 5 || kind == 6 {
         let (input, context) = (&sights.input, &sights.context);
         return match find_rule(kind == 6, pass.gdef, input, context, bytes, text, at) {
-            Some(matched) => Ok(Outcome::Fits(Rule::begin(matched, text.len()))),
+            Some(matched) => Ok(Outcome::Fits(begin(pass, kind == 6, matched, text))),
             None => Ok(Outcome::Nothing),
         };
     }

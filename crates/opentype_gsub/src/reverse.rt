@@ -9,6 +9,7 @@ ghost use Rattle.opentype_gsub.specs.Setting.{setting_of};
 use crate::apply::number;
 use crate::decided::covered;
 use crate::edits::replace;
+use crate::flagging::flag_stretch;
 use crate::pass::{Pass, Sights};
 use opentype_face::bytes::{part, u16_at};
 use opentype_face::lookup::{subtable, subtable_count, subtable_type};
@@ -45,6 +46,17 @@ fn place_of_glyphs(bytes: &[u8]) -> usize
     behind_at + 2 + usize::from(u16_at(bytes, behind_at)) * 2
 }
 
+/// A glyph that comes in for another one.
+#[derive(Clone, Copy, Debug)]
+pub struct Reversal {
+    /// The glyph.
+    pub glyph: u16,
+    /// The first glyph that the rule looked at.
+    pub start: usize,
+    /// The place behind the last one.
+    pub stop: usize,
+}
+
 // One glyph for another, by a subtable of type 8.
 #[tactic(auto, unfolding(crate::specs::Reversed::reversed_in))]
 fn reversed(
@@ -53,7 +65,7 @@ fn reversed(
     bytes: &[u8],
     glyphs: &[hb_glyph_info_t],
     at: usize,
-) -> Option<u16>
+) -> Option<Reversal>
     requires { at < length glyphs.now }
     ensures { result ≡ reversed_in gdef.now sights.now bytes.now glyphs.now at }
 {
@@ -68,13 +80,14 @@ fn reversed(
         return None;
     }
     let (input, context) = (&sights.input, &sights.context);
-    if around(bytes)
-        .fit(gdef, input, context, glyphs, at)
-        .is_none()
-    {
-        return None;
+    match around(bytes).fit(gdef, input, context, glyphs, at) {
+        Some(matched) => Some(Reversal {
+            glyph: u16_at(bytes, from + 2 + i as usize * 2),
+            start: matched.start,
+            stop: matched.stop,
+        }),
+        None => None,
     }
-    Some(u16_at(bytes, from + 2 + i as usize * 2))
 }
 
 // One glyph for another, by one of a lookup's subtables.
@@ -86,7 +99,7 @@ fn nth(
     i: u16,
     glyphs: &[hb_glyph_info_t],
     at: usize,
-) -> Option<u16>
+) -> Option<Reversal>
     requires { at < length glyphs.now }
     ensures { result ≡ nth_reversed gdef.now sights.now lookup.now glyphs.now at i }
 {
@@ -103,7 +116,7 @@ fn first(
     lookup: &[u8],
     glyphs: &[hb_glyph_info_t],
     at: usize,
-) -> Option<u16>
+) -> Option<Reversal>
     requires { at < length glyphs.now }
     ensures { result ≡ first_from (u16_in lookup.now 4)
         (nth_reversed gdef.now sights.now lookup.now glyphs.now at) 0 }
@@ -129,8 +142,10 @@ fn step_back(pass: &Pass<'_>, lookup: &[u8], text: &mut Vec<hb_glyph_info_t>, at
         return;
     }
     let sights = pass.lookup.sights(pass.gdef, lookup, &glyph);
-    if let Some(to) = first(pass.gdef, &sights, lookup, text, at) {
-        replace(pass.gdef, text, at, to, 0);
+    if let Some(it) = first(pass.gdef, &sights, lookup, text, at) {
+        let len = text.len();
+        flag_stretch(text, len, it.start, it.stop);
+        replace(pass.gdef, text, at, it.glyph, 0);
     }
 }
 

@@ -63,6 +63,7 @@ pub fn substitute(
         gdef,
         gsub,
         level: buffer.cluster_level(),
+        len,
         limit: limit(len, buffer.max_len()),
         lookup: *lookup_use,
     };

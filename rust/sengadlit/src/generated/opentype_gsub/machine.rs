@@ -7,9 +7,10 @@ use crate::support::prelude::*;
 use crate::generated::opentype_face::bytes::u16_at;
 use crate::generated::opentype_face::lookup::{lookup, subtable, subtable_count, subtable_type};
 use crate::generated::opentype_gsub::apply::apply_one;
+use crate::generated::opentype_gsub::flagging::flag_stretch;
 use crate::generated::opentype_gsub::pass::{Pass, Sights};
 use crate::generated::opentype_gsub::settling::Rule;
-use crate::generated::opentype_layout::rules::find_rule;
+use crate::generated::opentype_layout::rules::{Matched, find_rule};
 use crate::generated::shapers_buffer::buffer::{GlyphInfo, ShaperError};
 
 /// How deep lookups may apply lookups.
@@ -26,6 +27,19 @@ pub enum Outcome<'a> {
     Fits(Rule<'a>),
 }
 
+// Begins a rule: no break may be inside what it looked at.
+fn begin<'a>(
+    pass: &Pass<'_>,
+    chained: bool,
+    matched: Matched<'a>,
+    text: &mut [GlyphInfo],
+) -> Rule<'a> {
+    let len = text.len();
+    let old_len = if chained { pass.len } else { len };
+    flag_stretch(text, old_len, matched.start, matched.stop);
+    Rule::begin(matched, len)
+}
+
 // What one of a lookup's subtables comes to at a place.
 fn come_by<'a>(
     pass: &Pass<'_>,
@@ -40,7 +54,7 @@ fn come_by<'a>(
     if kind == 5 || kind == 6 {
         let (input, context) = (&sights.input, &sights.context);
         return match find_rule(kind == 6, pass.gdef, input, context, bytes, text, at) {
-            Some(matched) => Ok(Outcome::Fits(Rule::begin(matched, text.len()))),
+            Some(matched) => Ok(Outcome::Fits(begin(pass, kind == 6, matched, text))),
             None => Ok(Outcome::Nothing),
         };
     }

@@ -5,6 +5,7 @@
 pub mod apply;
 pub mod decided;
 pub mod edits;
+pub mod flagging;
 pub mod growth;
 pub mod ligating;
 pub mod machine;

@@ -31,6 +31,8 @@ pub struct Pass<'a> {
     pub gsub: &'a [u8],
     /// The level of the text's clusters.
     pub level: BufferClusterLevel,
+    /// How many glyphs the text had before the lookup.
+    pub len: usize,
     /// How many glyphs the text may get.
     pub limit: usize,
     /// The lookup of the plan.

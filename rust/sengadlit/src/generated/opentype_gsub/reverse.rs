@@ -9,6 +9,7 @@ use crate::generated::opentype_face::lookup::{subtable, subtable_count, subtable
 use crate::generated::opentype_gsub::apply::number;
 use crate::generated::opentype_gsub::decided::covered;
 use crate::generated::opentype_gsub::edits::replace;
+use crate::generated::opentype_gsub::flagging::flag_stretch;
 use crate::generated::opentype_gsub::pass::{Pass, Sights};
 use crate::generated::opentype_layout::pattern::Pattern;
 use crate::generated::opentype_layout::rules::Rule;
@@ -36,6 +37,17 @@ fn place_of_glyphs(bytes: &[u8]) -> usize {
     behind_at + 2 + usize::from(u16_at(bytes, behind_at)) * 2
 }
 
+/// A glyph that comes in for another one.
+#[derive(Clone, Copy, Debug)]
+pub struct Reversal {
+    /// The glyph.
+    pub glyph: u16,
+    /// The first glyph that the rule looked at.
+    pub start: usize,
+    /// The place behind the last one.
+    pub stop: usize,
+}
+
 // One glyph for another, by a subtable of type 8.
 fn reversed(
     gdef: &[u8],
@@ -43,7 +55,7 @@ fn reversed(
     bytes: &[u8],
     glyphs: &[GlyphInfo],
     at: usize,
-) -> Option<u16> {
+) -> Option<Reversal> {
     if u16_at(bytes, 0) != 1 {
         return None;
     }
@@ -55,13 +67,14 @@ fn reversed(
         return None;
     }
     let (input, context) = (&sights.input, &sights.context);
-    if around(bytes)
-        .fit(gdef, input, context, glyphs, at)
-        .is_none()
-    {
-        return None;
+    match around(bytes).fit(gdef, input, context, glyphs, at) {
+        Some(matched) => Some(Reversal {
+            glyph: u16_at(bytes, from + 2 + i as usize * 2),
+            start: matched.start,
+            stop: matched.stop,
+        }),
+        None => None,
     }
-    Some(u16_at(bytes, from + 2 + i as usize * 2))
 }
 
 // One glyph for another, by one of a lookup's subtables.
@@ -72,7 +85,7 @@ fn nth(
     i: u16,
     glyphs: &[GlyphInfo],
     at: usize,
-) -> Option<u16> {
+) -> Option<Reversal> {
     if subtable_type(7, lookup, i) != 8 {
         return None;
     }
@@ -86,7 +99,7 @@ fn first(
     lookup: &[u8],
     glyphs: &[GlyphInfo],
     at: usize,
-) -> Option<u16> {
+) -> Option<Reversal> {
     for i in 0..subtable_count(lookup) {
         let found = nth(gdef, sights, lookup, i, glyphs, at);
         if found.is_some() {
@@ -103,8 +116,10 @@ fn step_back(pass: &Pass<'_>, lookup: &[u8], text: &mut Vec<GlyphInfo>, at: usiz
         return;
     }
     let sights = pass.lookup.sights(pass.gdef, lookup, &glyph);
-    if let Some(to) = first(pass.gdef, &sights, lookup, text, at) {
-        replace(pass.gdef, text, at, to, 0);
+    if let Some(it) = first(pass.gdef, &sights, lookup, text, at) {
+        let len = text.len();
+        flag_stretch(text, len, it.start, it.stop);
+        replace(pass.gdef, text, at, it.glyph, 0);
     }
 }
 

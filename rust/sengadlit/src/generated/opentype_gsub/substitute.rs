@@ -67,6 +67,7 @@ pub fn substitute(
         gdef,
         gsub,
         level: buffer.cluster_level(),
+        len,
         limit: limit(len, buffer.max_len()),
         lookup: *lookup_use,
     };
