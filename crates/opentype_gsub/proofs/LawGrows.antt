@@ -46,7 +46,7 @@ none_or : {X : Type 0} (o p : Option X) → is_some (or_else o p) ≡ false → 
 none_or None p e = (refl, e)
 none_or (Some x) p e = absurd (cc)
 
-none_each : {X : Type 0} (f : ℕ → Option X) (n i : ℕ) → is_some (first_from n f i) ≡ false →
+pub none_each : {X : Type 0} (f : ℕ → Option X) (n i : ℕ) → is_some (first_from n f i) ≡ false →
     (d : ℕ) → d < n → is_some (f (i + d)) ≡ false
 unfolding first_from
 none_each f zero i h d lt = absurd (omega arith)

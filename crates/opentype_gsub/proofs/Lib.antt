@@ -4,6 +4,7 @@ pub mod Backwards
 pub mod Marking
 mod GsubRows
 mod FlagRows
+mod PresenceRows
 pub mod Unbroken
 pub mod Pairs
 pub mod Kept
@@ -13,3 +14,4 @@ pub mod Lengths
 pub mod LawKeeps
 pub mod LawGrows
 pub mod Machines
+pub mod Untouched

@@ -11,4 +11,5 @@ pub mod Growth
 pub mod Kept
 pub mod Laws
 pub mod Substituted
+pub mod Presence
 pub mod Machine

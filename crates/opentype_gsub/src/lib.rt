@@ -11,6 +11,7 @@ pub mod ligating;
 pub mod machine;
 pub mod matching;
 pub mod pass;
+pub mod presence;
 pub mod reverse;
 pub mod settling;
 pub mod substitute;

@@ -1,14 +1,18 @@
 //! A lookup of GSUB over a buffer.
-ghost use Rattle.std.specs.Prelude.{◌≡◌, ◌≢◌, ◌<◌, [], Err, OnErr, OnOk};
+ghost use Rattle.std.specs.Prelude.{◌≡◌, ◌≢◌, ◌<◌, [], Err, IfOk, OnErr, OnOk};
+ghost use Rattle.std.specs.Option.{option_map};
+ghost use Rattle.opentype_gsub.specs.Presence.{applied_from, new_text};
 ghost use Rattle.shapers_buffer.specs.declared.buffer.refusal.ShaperError.TheVariants.{TooLong};
 ghost use Rattle.opentype_gsub.specs.Setting.{setting_of};
 ghost use Rattle.opentype_gsub.specs.Substituted.{applied, limit_in, operations_in, substituted};
 
 use crate::pass::{LookupUse, Pass};
+use crate::presence::first_place;
 use crate::reverse::walk_back;
 use crate::walk::walk;
 use opentype_face::lookup::{lookup, subtable_type};
 use shapers_buffer::buffer::{ShaperError, hb_buffer_t, hb_glyph_info_t};
+use std::alloc::Global;
 
 // How many glyphs a text may get.
 #[inline]
@@ -26,18 +30,49 @@ fn operations(len: usize) -> usize
     len.saturating_mul(4096).max(65536)
 }
 
-// Applies a lookup to a list of glyphs.
-#[tactic(auto, unfolding(crate::specs::Substituted::applied))]
-fn apply(pass: &Pass<'_>, text: &mut Vec<hb_glyph_info_t>) -> Result<(), ShaperError>
-    ensures { OnOk result (text.new.items ≡ applied (setting_of pass.now) text.old.items) }
+// Applies a lookup by its table to a list of glyphs, from a place on.
+#[tactic(auto, unfolding(crate::specs::Presence::applied_from))]
+fn apply_from<'a>(
+    pass: &Pass<'a>,
+    table: &'a [u8],
+    first: usize,
+    text: &mut Vec<hb_glyph_info_t>,
+) -> Result<(), ShaperError>
+    ensures { OnOk result (text.new.items
+        ≡ applied_from (setting_of pass.now) table.now first text.old.items) }
 {
-    let table = lookup(pass.gsub, pass.lookup.index);
     if subtable_type(7, table, 0) == 8 {
         walk_back(pass, table, text);
         return Ok(());
     }
     let len = text.len();
-    walk(pass, table, text, len, operations(len))
+    walk(
+        pass,
+        table,
+        text,
+        first,
+        len.saturating_sub(first),
+        operations(len),
+    )
+}
+
+// Applies a lookup to a list of glyphs. There is no new list where the lookup can't begin anywhere.
+fn apply(
+    pass: &Pass<'_>,
+    alloc: Global,
+    glyphs: &[hb_glyph_info_t],
+) -> Result<Option<Vec<hb_glyph_info_t>>, ShaperError>
+    ensures { IfOk result (λ new. new_text glyphs.now (option_map (λ text. text.items) new)
+        ≡ applied (setting_of pass.now) glyphs.now) }
+{
+    let table = lookup(pass.gsub, pass.lookup.index);
+    let first = first_place(&pass.lookup, table, glyphs);
+    if first >= glyphs.len() {
+        return Ok(None);
+    }
+    let mut text = Vec::from_slice(alloc, glyphs)?;
+    apply_from(pass, table, first, &mut text)?;
+    Ok(Some(text))
 }
 
 /// Applies a lookup of GSUB, as a plan has it, to a text of glyphs without positions. The text gets
@@ -67,7 +102,9 @@ pub fn substitute(
         limit: limit(len, buffer.max_len()),
         lookup: *lookup_use,
     };
-    let mut text = Vec::from_slice(buffer.alloc(), buffer.glyphs())?;
-    apply(&pass, &mut text).map_err(|_| ShaperError::Memory)?;
-    buffer.replace_glyphs(text)
+    match apply(&pass, buffer.alloc(), buffer.glyphs()) {
+        Ok(Some(text)) => buffer.replace_glyphs(text),
+        Ok(None) => Ok(()),
+        Err(_) => Err(ShaperError::Memory),
+    }
 }

@@ -41,7 +41,8 @@ fn step<'a>(
     }
 }
 
-/// Applies a lookup by its table along a text, in at most so many steps, and so many operations.
+/// Applies a lookup by its table along a text from a place on, in at most so many steps, and so many
+/// operations.
 ///
 /// # Errors
 ///
@@ -50,13 +51,14 @@ pub fn walk<'a>(
     pass: &Pass<'a>,
     lookup: &'a [u8],
     text: &mut Vec<hb_glyph_info_t>,
+    first: usize,
     steps: usize,
     operations: usize,
 ) -> Result<(), ShaperError>
     ensures { OnOk result (text.new.items
-        ≡ lookup_walked steps (lookup_stepped (setting_of pass.now) lookup.now) text.old.items 0 operations) }
+        ≡ lookup_walked steps (lookup_stepped (setting_of pass.now) lookup.now) text.old.items first operations) }
 {
-    let (mut at, mut left) = (0, operations);
+    let (mut at, mut left) = (first, operations);
     for _ in 0..steps {
         if at >= text.len() {
             return Ok(());

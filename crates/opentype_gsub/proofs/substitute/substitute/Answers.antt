@@ -2,7 +2,7 @@ use Rattle.std.proofs.Common.{rules}
 use Rattle.opentype_gsub.proofs.LawKeeps.{fits_by, no_refusal}
 use Rattle.opentype_gsub.proofs.substitute.substitute.Goals as goal
 
-pub returns-clause-room : goal.returns-clause-room
-returns-clause-room c = no_refusal _ _ _ c.replace_glyphs.ensures.length
-    (fits_by c.args.gdef.now c.args.gsub.now c.args.lookup_use.now c.args.buffer.now c.apply.new.text.items
+pub returns-in-Ok-Some-clause-room : goal.returns-in-Ok-Some-clause-room
+returns-in-Ok-Some-clause-room c = no_refusal _ _ _ c.replace_glyphs.ensures.length
+    (fits_by c.args.gdef.now c.args.gsub.now c.args.lookup_use.now c.args.buffer.now c.in-Ok-Some.text.items
     c.len-len.ensures.fits (search rules))

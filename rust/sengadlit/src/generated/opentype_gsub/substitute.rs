@@ -6,9 +6,11 @@ use crate::support::prelude::*;
 
 use crate::generated::opentype_face::lookup::{lookup, subtable_type};
 use crate::generated::opentype_gsub::pass::{LookupUse, Pass};
+use crate::generated::opentype_gsub::presence::first_place;
 use crate::generated::opentype_gsub::reverse::walk_back;
 use crate::generated::opentype_gsub::walk::walk;
 use crate::generated::shapers_buffer::buffer::{Buffer, GlyphInfo, ShaperError};
+use crate::support::alloc::Global;
 
 // How many glyphs a text may get.
 #[inline]
@@ -22,15 +24,42 @@ fn operations(len: usize) -> usize {
     len.saturating_mul(4096).max(65536)
 }
 
-// Applies a lookup to a list of glyphs.
-fn apply(pass: &Pass<'_>, text: &mut Vec<GlyphInfo>) -> Result<(), ShaperError> {
-    let table = lookup(pass.gsub, pass.lookup.index);
+// Applies a lookup by its table to a list of glyphs, from a place on.
+fn apply_from<'a>(
+    pass: &Pass<'a>,
+    table: &'a [u8],
+    first: usize,
+    text: &mut Vec<GlyphInfo>,
+) -> Result<(), ShaperError> {
     if subtable_type(7, table, 0) == 8 {
         walk_back(pass, table, text);
         return Ok(());
     }
     let len = text.len();
-    walk(pass, table, text, len, operations(len))
+    walk(
+        pass,
+        table,
+        text,
+        first,
+        len.saturating_sub(first),
+        operations(len),
+    )
+}
+
+// Applies a lookup to a list of glyphs. There is no new list where the lookup can't begin anywhere.
+fn apply(
+    pass: &Pass<'_>,
+    alloc: Global,
+    glyphs: &[GlyphInfo],
+) -> Result<Option<Vec<GlyphInfo>>, ShaperError> {
+    let table = lookup(pass.gsub, pass.lookup.index);
+    let first = first_place(&pass.lookup, table, glyphs);
+    if first >= glyphs.len() {
+        return Ok(None);
+    }
+    let mut text = Vec::from_slice(alloc, glyphs)?;
+    apply_from(pass, table, first, &mut text)?;
+    Ok(Some(text))
 }
 
 /// Applies a lookup of GSUB, as a plan has it, to a text of glyphs without positions. The text gets
@@ -71,7 +100,9 @@ pub fn substitute(
         limit: limit(len, buffer.max_len()),
         lookup: *lookup_use,
     };
-    let mut text = Vec::from_slice(buffer.alloc(), buffer.glyphs())?;
-    apply(&pass, &mut text).map_err(|_| ShaperError::Memory)?;
-    buffer.replace_glyphs(text)
+    match apply(&pass, buffer.alloc(), buffer.glyphs()) {
+        Ok(Some(text)) => buffer.replace_glyphs(text),
+        Ok(None) => Ok(()),
+        Err(_) => Err(ShaperError::Memory),
+    }
 }

@@ -37,7 +37,8 @@ fn step<'a>(
     }
 }
 
-/// Applies a lookup by its table along a text, in at most so many steps, and so many operations.
+/// Applies a lookup by its table along a text from a place on, in at most so many steps, and so many
+/// operations.
 ///
 /// # Errors
 ///
@@ -49,7 +50,7 @@ fn step<'a>(
 ///
 /// ```text
 /// ensures { OnOk result (text.new.items
-///     ≡ lookup_walked steps (lookup_stepped (setting_of pass.now) lookup.now) text.old.items 0 operations) }
+///     ≡ lookup_walked steps (lookup_stepped (setting_of pass.now) lookup.now) text.old.items first operations) }
 /// ```
 ///
 /// - `setting_of`: `crates/opentype_gsub/specs/Setting.antt`
@@ -62,10 +63,11 @@ pub fn walk<'a>(
     pass: &Pass<'a>,
     lookup: &'a [u8],
     text: &mut Vec<GlyphInfo>,
+    first: usize,
     steps: usize,
     operations: usize,
 ) -> Result<(), ShaperError> {
-    let (mut at, mut left) = (0, operations);
+    let (mut at, mut left) = (first, operations);
     for _ in 0..steps {
         if at >= text.len() {
             return Ok(());

@@ -1,0 +1,290 @@
+-- A text stays as it is where a lookup can't begin.
+use Rattle.std.proofs.Common.{◌⊎◌, inl, inr, ◌≡◌, ◌∙◌, ℕ, zero, suc, ◌+◌, ◌-◌, ◌%◌, ◌==◌, ◌<◌, ◌≤◌, ◌||◌, not, Bool, true, false, nat_lt, bit_and, Option, None, Some, List, length, refl, sym, ap, subst, arith, if◌then◌else◌}
+use Rattle.std.specs.List.{prefix_len}
+use Rattle.std.specs.Option.{is_some, option_and_then, option_map}
+use Rattle.std.proofs.lemmas.Bool.Decides.{nat_tests}
+use Rattle.std.proofs.lemmas.Grind.{common_steps}
+use Rattle.std.proofs.lemmas.List.Sums.{prefix_len-le-length, prefix_len_passes}
+use Rattle.shapers_buffer.specs.Glyph.{default_glyph}
+use Rattle.shapers_buffer.specs.Glyphs.{Glyph, Glyphs}
+use Rattle.opentype_face.specs.Bytes.{u16_in, part_in}
+use Rattle.opentype_face.specs.Firsts.{first_from, or_else}
+use Rattle.opentype_face.specs.Glyphs.{coverage_in}
+use Rattle.opentype_face.specs.Lookups.{lookup_in, subtable_in, type_in}
+use Rattle.opentype_layout.specs.Rules.{by_glyphs, context_in, first_at}
+use Rattle.opentype_layout.specs.Text.{glyph_at}
+use Rattle.opentype_layout.specs.declared.sight.Sight.{Sight}
+use Rattle.opentype_gsub.specs.Applied.{alternate_put, ligated_put, multiple_put, one_put, single_put, two_byte_number}
+use Rattle.opentype_gsub.specs.Decided.{alternate_at, covered_in, set_at, set_for_glyph, single_at}
+use Rattle.opentype_gsub.specs.Machine.{came_in, nested, nth_came}
+use Rattle.opentype_gsub.specs.Presence.{applied_from, is_left, starting, starts_at, starts_with}
+use Rattle.opentype_gsub.specs.Reversed.{lookup_stepped_back, nth_reversed, reversed_at, reversed_in, walked_back, with_glyph}
+use Rattle.opentype_gsub.specs.Setting.{Setting, is_seen, sights_of}
+use Rattle.opentype_gsub.specs.Substituted.{applied, operations_in}
+use Rattle.opentype_gsub.specs.Walked.{WalkStep, lookup_stepped, lookup_walked}
+use Rattle.opentype_gsub.specs.declared.pass.Sights.{Sights}
+use Rattle.opentype_gsub.proofs.LawGrows.{none_each}
+
+is_none : {X : Type 0} (o : Option X) → is_some o ≡ false → o ≡ None
+is_none None e = refl
+is_none (Some x) e = absurd (cc)
+
+none_if : {X : Type 0} (test : Bool) (o p : Option X) → (test ≡ true → o ≡ None) → (test ≡ false → p ≡ None) →
+    (if test then o else p) ≡ None
+none_if true o p one two = one refl
+none_if false o p one two = two refl
+
+none_mapped : {X Y : Type 0} (f : X → Y) (o : Option X) → o ≡ None → option_map f o ≡ None
+none_mapped f None e = refl
+none_mapped f (Some x) e = absurd (cc)
+
+none_then : {X Y : Type 0} (f : X → Option Y) (o : Option X) → o ≡ None → option_and_then f o ≡ None
+none_then f None e = refl
+none_then f (Some x) e = absurd (cc)
+
+none_of : {X : Type 0} (f : ℕ → Option X) (n i : ℕ) → ((d : ℕ) → d < n → f (i + d) ≡ None) → first_from n f i ≡ None
+unfolding first_from
+none_of f zero i h = refl
+none_of f (suc n) i h =
+    let e : i + 0 ≡ i = omega arith in
+    let here : f i ≡ None = subst (λ j. f j ≡ None) e (h 0 (omega arith)) in
+    ap (λ o. or_else o (first_from n f (i + 1))) here
+    ∙ none_of f n (i + 1) (λ d lt. (let k : i + suc d ≡ i + 1 + d = omega arith in
+    subst (λ j. f j ≡ None) k (h (suc d) (omega arith))))
+
+-- ---- a subtable that doesn't begin with a glyph
+
+same_else : (test : Bool) (n : ℕ) → (if test then n else n) ≡ n
+same_else true n = refl
+same_else false n = refl
+
+at_two : (kind : ℕ) (bytes : List ℕ) → (kind == 5) ≡ false → (kind == 6) ≡ false → starts_at kind bytes ≡ 2
+unfolding starts_at
+at_two kind bytes five six = rw (five, six) (same_else (u16_in bytes 0 == 3) 2)
+
+at_start : (kind : ℕ) (bytes : List ℕ) → (u16_in bytes 0 == 3) ≡ false → starts_at kind bytes ≡ 2
+unfolding starts_at
+at_start kind bytes e = rw e refl
+
+at_first : (kind : ℕ) (bytes : List ℕ) → ((kind == 5) || (kind == 6)) ≡ true → (u16_in bytes 0 == 3) ≡ true →
+    starts_at kind bytes ≡ first_at (kind == 6) bytes
+unfolding starts_at
+at_first kind bytes context e = grind (arith, common_steps, nat_tests)
+
+covered_by : (kind : ℕ) (bytes : List ℕ) (glyph at : ℕ) → starts_with kind bytes glyph ≡ false →
+    starts_at kind bytes ≡ at → coverage_in (part_in bytes (u16_in bytes at)) glyph ≡ None
+covered_by kind bytes glyph at none e =
+    is_none _ (subst (λ n. is_some (coverage_in (part_in bytes (u16_in bytes n)) glyph) ≡ false) e none)
+
+no_set : (bytes : List ℕ) (glyph : ℕ) → covered_in bytes glyph ≡ None → set_for_glyph bytes glyph ≡ None
+no_set bytes glyph e = none_if (u16_in bytes 0 == 1) _ None (λ t. ap (set_at bytes) e) (λ t. refl)
+
+no_change : (s : Setting) (sight : Sight) (kind : ℕ) (bytes : List ℕ) (gs : Glyphs) (at : ℕ) →
+    covered_in bytes (two_byte_number gs at) ≡ None → one_put s sight kind bytes gs at ≡ None
+unfolding one_put single_put multiple_put alternate_put ligated_put
+no_change s sight kind bytes gs at e =
+    let set = no_set bytes (two_byte_number gs at) e in
+    none_if (kind == 1) _ _ (λ t. none_mapped _ _ (ap (single_at bytes (two_byte_number gs at)) e))
+    (λ t. none_if (kind == 2) _ _ (λ t. none_mapped _ _ set)
+    (λ t. none_if (kind == 3) _ _ (λ t. none_mapped _ _ (ap (alternate_at _) set))
+    (λ t. none_if (kind == 4) _ None (λ t. none_then _ _ set) (λ t. refl))))
+
+no_rule : (chained : Bool) (gdef : List ℕ) (input context : Sight) (bytes : List ℕ) (gs : Glyphs) (at : ℕ) →
+    let glyph = (glyph_at gs at).glyph_id % 65536 in
+    ((u16_in bytes 0 == 3) ≡ true → coverage_in (part_in bytes (u16_in bytes (first_at chained bytes))) glyph ≡ None) →
+    ((u16_in bytes 0 == 3) ≡ false → coverage_in (part_in bytes (u16_in bytes 2)) glyph ≡ None) →
+    context_in chained gdef input context bytes gs at ≡ None
+unfolding context_in by_glyphs
+no_rule chained gdef input context bytes gs at third other =
+    let format = u16_in bytes 0 in
+    none_if (format == 1) _ _
+    (λ t. (let e = other (grind (arith, nat_tests)) in rw e refl))
+    (λ t. none_if (format == 2) _ _ (λ t. (let e = other (grind (arith, nat_tests)) in rw e refl))
+    (λ t. none_if (format == 3) _ None (λ t. (let e = third t in rw e refl)) (λ t. refl)))
+
+nth_none : (s : Setting) (sights : Sights) (lookup : List ℕ) (at : ℕ) (gs : Glyphs) (i : ℕ) →
+    starts_with (type_in 7 lookup i) (subtable_in 7 lookup i) (two_byte_number gs at) ≡ false →
+    nth_came s sights lookup at gs i ≡ None
+unfolding nth_came
+nth_none s sights lookup at gs i none =
+    let kind = type_in 7 lookup i in
+    let bytes = subtable_in 7 lookup i in
+    let glyph = two_byte_number gs at in
+    none_if ((kind == 5) || (kind == 6)) _ _
+    (λ t. none_mapped _ _ (no_rule (kind == 6) s.gdef sights.input sights.context bytes gs at
+    (λ e. covered_by kind bytes glyph _ none (at_first kind bytes t e))
+    (λ e. covered_by kind bytes glyph 2 none (at_start kind bytes e))))
+    (λ t. none_mapped _ _ (no_change s sights.input kind bytes gs at
+    (covered_by kind bytes glyph 2 none (at_two kind bytes (grind (arith, common_steps, t)) (grind (arith, common_steps, t))))))
+
+nth_reversed_none : (gdef : List ℕ) (sights : Sights) (lookup : List ℕ) (gs : Glyphs) (at i : ℕ) →
+    starts_with (type_in 7 lookup i) (subtable_in 7 lookup i) (two_byte_number gs at) ≡ false →
+    nth_reversed gdef sights lookup gs at i ≡ None
+unfolding nth_reversed reversed_in
+nth_reversed_none gdef sights lookup gs at i none =
+    let kind = type_in 7 lookup i in
+    let bytes = subtable_in 7 lookup i in
+    none_if (kind == 8) _ None
+    (λ t. none_if (u16_in bytes 0 == 1) _ None
+    (λ one. ap (reversed_at gdef sights bytes gs at) (covered_by kind bytes (two_byte_number gs at) 2 none
+    (at_start kind bytes (grind (arith, nat_tests)))))
+    (λ one. refl))
+    (λ t. refl)
+
+-- ---- a lookup that doesn't
+
+not_started : (test : Bool) (i : ℕ) → is_some (if test then Some i else None) ≡ false → test ≡ false
+not_started true i e = absurd (cc)
+not_started false i e = refl
+
+starts_none : (lookup : List ℕ) (glyph i : ℕ) → is_some (starting lookup glyph i) ≡ false →
+    starts_with (type_in 7 lookup i) (subtable_in 7 lookup i) glyph ≡ false
+unfolding starting
+starts_none lookup glyph i e = not_started _ i e
+
+each_none : (lookup : List ℕ) (glyph : ℕ) → is_some (first_from (u16_in lookup 4) (starting lookup glyph) 0) ≡ false →
+    (d : ℕ) → d < u16_in lookup 4 → starts_with (type_in 7 lookup (0 + d)) (subtable_in 7 lookup (0 + d)) glyph ≡ false
+each_none lookup glyph none d lt =
+    starts_none lookup glyph (0 + d) (none_each (starting lookup glyph) (u16_in lookup 4) 0 none d lt)
+
+came_none : (s : Setting) (lookup : List ℕ) (gs : Glyphs) (at : ℕ) →
+    is_some (first_from (u16_in lookup 4) (starting lookup (two_byte_number gs at)) 0) ≡ false →
+    came_in s lookup gs at ≡ None
+unfolding came_in
+came_none s lookup gs at none = let sights = sights_of s.gdef s.lookup lookup (glyph_at gs at) in
+    none_if (nat_lt at (length gs)) _ None
+    (λ t. none_of (nth_came s sights lookup at gs) (u16_in lookup 4) 0
+    (λ d lt. nth_none s sights lookup at gs (0 + d) (each_none lookup (two_byte_number gs at) none d lt)))
+    (λ t. refl)
+
+still_by : (test : Bool) (x : WalkStep) → (if test then x else x) ≡ x
+still_by true x = refl
+still_by false x = refl
+
+stands_still : (s : Setting) (lookup : List ℕ) (gs : Glyphs) (at left : ℕ) →
+    came_in s lookup gs at ≡ None → lookup_stepped s lookup gs at left ≡ record { text = gs; next = at + 1; left = left }
+unfolding lookup_stepped nested
+stands_still s lookup gs at left e =
+    let test = is_seen s.gdef s.lookup lookup (glyph_at gs at) in
+    rw e (still_by test _)
+
+unseen : (s : Setting) (lookup : List ℕ) (g : Glyph) → (bit_and g.mask s.lookup.mask == 0) ≡ true →
+    is_seen s.gdef s.lookup lookup g ≡ false
+unfolding is_seen
+unseen s lookup g e = rw e refl
+
+left_by : (zero_mask none : Bool) → (zero_mask || not none) ≡ true → (zero_mask ≡ true) ⊎ (none ≡ false)
+left_by true none e = inl refl
+left_by false true e = absurd (cc)
+left_by false false e = inr refl
+
+why_left : (s : Setting) (lookup : List ℕ) (g : Glyph) → is_left s.lookup lookup g ≡ true →
+    ((bit_and g.mask s.lookup.mask == 0) ≡ true)
+    ⊎ (is_some (first_from (u16_in lookup 4) (starting lookup (g.glyph_id % 65536)) 0) ≡ false)
+unfolding is_left
+why_left s lookup g e = left_by _ _ e
+
+passed_over : (s : Setting) (lookup : List ℕ) (gs : Glyphs) (at left : ℕ) →
+    is_seen s.gdef s.lookup lookup (glyph_at gs at) ≡ false →
+    lookup_stepped s lookup gs at left ≡ record { text = gs; next = at + 1; left = left }
+unfolding lookup_stepped
+passed_over s lookup gs at left e = rw e refl
+
+step_left : (s : Setting) (lookup : List ℕ) (gs : Glyphs) (at left : ℕ) → is_left s.lookup lookup (glyph_at gs at) ≡ true →
+    lookup_stepped s lookup gs at left ≡ record { text = gs; next = at + 1; left = left }
+step_left s lookup gs at left e = elim (why_left s lookup (glyph_at gs at) e) [
+  | inl zero_mask ↦ passed_over s lookup gs at left (unseen s lookup (glyph_at gs at) zero_mask)
+  | inr none ↦ stands_still s lookup gs at left (came_none s lookup gs at none)
+]
+
+-- ---- along a text
+
+left_at : (s : Setting) (lookup : List ℕ) (gs : Glyphs) (at : ℕ) → at < prefix_len (is_left s.lookup lookup) gs →
+    is_left s.lookup lookup (glyph_at gs at) ≡ true
+left_at s lookup gs at lt = prefix_len_passes (is_left s.lookup lookup) gs at default_glyph lt
+
+step_on : (f : Glyphs → ℕ → ℕ → WalkStep) (n : ℕ) (gs : Glyphs) (at left : ℕ) → at < length gs →
+    f gs at left ≡ record { text = gs; next = at + 1; left = left } →
+    lookup_walked (suc n) f gs at left ≡ lookup_walked n f gs (at + 1) left
+unfolding lookup_walked
+step_on f n gs at left lt e =
+    let t : nat_lt at (length gs) ≡ true = grind (arith, nat_tests) in rw (t, e) refl
+
+walk_on : (f : Glyphs → ℕ → ℕ → WalkStep) (p n : ℕ) (gs : Glyphs) (at left : ℕ) → at + p ≤ length gs →
+    ((j : ℕ) → at ≤ j → j < at + p → f gs j left ≡ record { text = gs; next = j + 1; left = left }) →
+    lookup_walked (p + n) f gs at left ≡ lookup_walked n f gs (at + p) left
+walk_on f zero n gs at left within h =
+    let z : 0 + n ≡ n = omega arith in
+    let e : at + 0 ≡ at = omega arith in rw (z, e) refl
+walk_on f (suc p) n gs at left within h =
+    let e : at + 1 + p ≡ at + suc p = omega arith in
+    let m : suc p + n ≡ suc (p + n) = omega arith in
+    ap (λ k. lookup_walked k f gs at left) m ∙ step_on f (p + n) gs at left (omega arith) (h at (omega arith) (omega arith))
+    ∙ walk_on f p n gs (at + 1) left (omega arith) (λ j le lt. h j (omega arith) (omega arith))
+    ∙ ap (λ k. lookup_walked n f gs k left) e
+
+pub applied_is : (s : Setting) (gs : Glyphs) (first : ℕ) →
+    first ≡ prefix_len (is_left s.lookup (lookup_in s.gsub s.lookup.index)) gs →
+    applied_from s (lookup_in s.gsub s.lookup.index) first gs ≡ applied s gs
+unfolding applied applied_from
+applied_is s gs first is =
+    let lookup = lookup_in s.gsub s.lookup.index in
+    let within : first ≤ length gs = omega (arith, prefix_len-le-length (is_left s.lookup lookup) gs) in
+    let e : first + (length gs - first) ≡ length gs = omega arith in
+    let z : 0 + first ≡ first = omega arith in
+    let walks = walk_on (lookup_stepped s lookup) first (length gs - first) gs 0 (operations_in (length gs)) (omega arith)
+    (λ j le lt. step_left s lookup gs j (operations_in (length gs)) (left_at s lookup gs j (omega arith))) in
+    ap (λ x. if type_in 7 lookup 0 == 8 then walked_back (length gs) (lookup_stepped_back s lookup) gs else x)
+    (sym (rw (e, z) at walks))
+
+-- ---- nothing to do
+
+kept_back : (s : Setting) (lookup : List ℕ) (gs : Glyphs) (at : ℕ) →
+    is_some (first_from (u16_in lookup 4) (starting lookup (two_byte_number gs at)) 0) ≡ false →
+    with_glyph s.gdef gs at (first_from (u16_in lookup 4)
+    (nth_reversed s.gdef (sights_of s.gdef s.lookup lookup (glyph_at gs at)) lookup gs at) 0) ≡ gs
+kept_back s lookup gs at none = let sights = sights_of s.gdef s.lookup lookup (glyph_at gs at) in
+    ap (with_glyph s.gdef gs at) (none_of (nth_reversed s.gdef sights lookup gs at) (u16_in lookup 4) 0
+    (λ d lt. nth_reversed_none s.gdef sights lookup gs at (0 + d) (each_none lookup (two_byte_number gs at) none d lt)))
+
+same_if : (test : Bool) (x gs : Glyphs) → (test ≡ true → x ≡ gs) → (if test then x else gs) ≡ gs
+same_if true x gs e = e refl
+same_if false x gs e = refl
+
+back_left : (s : Setting) (lookup : List ℕ) (gs : Glyphs) (at : ℕ) → is_left s.lookup lookup (glyph_at gs at) ≡ true →
+    lookup_stepped_back s lookup gs at ≡ gs
+unfolding lookup_stepped_back
+back_left s lookup gs at e = same_if (is_seen s.gdef s.lookup lookup (glyph_at gs at)) _ gs
+    (λ seen. elim (why_left s lookup (glyph_at gs at) e) [
+      | inl zero_mask ↦ absurd (let no = unseen s lookup (glyph_at gs at) zero_mask in cc)
+      | inr none ↦ kept_back s lookup gs at none
+    ])
+
+walk_back_left : (f : Glyphs → ℕ → Glyphs) (n : ℕ) (gs : Glyphs) → ((j : ℕ) → j < n → f gs j ≡ gs) → walked_back n f gs ≡ gs
+unfolding walked_back
+walk_back_left f zero gs h = refl
+walk_back_left f (suc n) gs h =
+    ap (walked_back n f) (h n (omega arith)) ∙ walk_back_left f n gs (λ j lt. h j (omega arith))
+
+no_steps : (f : Glyphs → ℕ → ℕ → WalkStep) (gs : Glyphs) (at left : ℕ) → lookup_walked 0 f gs at left ≡ gs
+unfolding lookup_walked
+no_steps f gs at left = refl
+
+both_same : (test : Bool) (x y gs : Glyphs) → x ≡ gs → y ≡ gs → (if test then x else y) ≡ gs
+both_same true x y gs one two = one
+both_same false x y gs one two = two
+
+from_end : (s : Setting) (gs : Glyphs) (first : ℕ) →
+    first ≡ prefix_len (is_left s.lookup (lookup_in s.gsub s.lookup.index)) gs → length gs ≤ first →
+    applied_from s (lookup_in s.gsub s.lookup.index) first gs ≡ gs
+unfolding applied_from
+from_end s gs first is all =
+    let lookup = lookup_in s.gsub s.lookup.index in
+    let e : length gs - first ≡ 0 = omega arith in
+    both_same (type_in 7 lookup 0 == 8) _ _ gs
+    (walk_back_left (lookup_stepped_back s lookup) (length gs) gs (λ j lt. back_left s lookup gs j (left_at s lookup gs j (omega arith))))
+    (rw e (no_steps (lookup_stepped s lookup) gs first (operations_in (length gs))))
+
+pub left_alone : (s : Setting) (gs : Glyphs) (first : ℕ) →
+    first ≡ prefix_len (is_left s.lookup (lookup_in s.gsub s.lookup.index)) gs → length gs ≤ first → applied s gs ≡ gs
+left_alone s gs first is all = sym (applied_is s gs first is) ∙ from_end s gs first is all
