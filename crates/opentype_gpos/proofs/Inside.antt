@@ -8,14 +8,14 @@ use Rattle.shapers_buffer.specs.Glyphs.{Glyphs}
 use Rattle.shapers_buffer.specs.declared.buffer.glyph.GlyphPosition.{GlyphPosition}
 use Rattle.shapers_buffer.specs.declared.buffer.level.Direction.{Direction}
 use Rattle.opentype_layout.specs.declared.sight.Application.{Application}
-use Rattle.opentype_layout.specs.declared.sight.Sight.{Sight}
-use Rattle.opentype_gpos.proofs.Keeping.{Keeps, align_length, keeps_step, turn_length}
+use Rattle.opentype_gpos.proofs.Keeping.{Keeps, align_length, flag, move as keeps, turn_length}
 use Rattle.opentype_gpos.specs.Finished.{is_backward, let_go, target_in}
 use Rattle.opentype_gpos.specs.Joined.{aligned, beginning_at, begun, cursive_moved, ended, ending_at, hung, is_at, cursive_joined, line_var, cursive_linked, next_in_line, other_than, separated, turn_to, turned, turned_on, with_across}
 use Rattle.opentype_gpos.specs.Laws.{AreInside, is_inside, without_its_flags}
-use Rattle.opentype_gpos.specs.Moved.{Positions, Progress, detached, is_vertical, mark_moved, pair_moved, position_at, value_added, with_mark_move, with_value}
-use Rattle.opentype_gpos.specs.Moves.{lookup_move}
-use Rattle.opentype_gpos.specs.Walked.{moved, moved_if, positioned, position_stepped, walked}
+use Rattle.opentype_gpos.specs.Moved.{Positions, Progress, detached, flagged_up_to, is_vertical, mark_moved, pair_moved, position_at, value_added, with_mark_move, with_value}
+use Rattle.opentype_gpos.specs.Making.{moved}
+use Rattle.opentype_gpos.specs.Walked.{positioned}
+use Rattle.opentype_gpos.proofs.Preserved.{IsKept, positioned_keeps}
 use Rattle.opentype_gpos.specs.declared.anchors.Point.{Point}
 use Rattle.opentype_gpos.specs.declared.moves.CursiveMove.{CursiveMove}
 use Rattle.opentype_gpos.specs.declared.moves.MarkMove.{MarkMove}
@@ -306,40 +306,30 @@ move d (Attaches it) at gs ps inside all = mark it at gs ps all
 move d (Joins it) at gs ps inside all = choose_if (nat_lt it.before (length ps)) _ _
     (λ t. cursive d it at gs ps inside (grind (arith, t)) all) all
 
-move_if : (d : Direction) (at : ℕ) (gs : Glyphs) (ps : Positions) (o : Option Move) → at < length ps →
-    AreInside ps → AreInside (moved_if d at gs ps o).positions
-move_if d at gs ps None inside all = all
-move_if d at gs ps (Some it) inside all = move d it at gs ps inside all
-
-step : (gdef : List ℕ) (d : Direction) (sight : Sight) (lookup : List ℕ) (gs : Glyphs) (ps : Positions)
-    (at : ℕ) → at < length ps → AreInside ps → AreInside (position_stepped gdef d sight lookup gs ps at).positions
-unfolding position_stepped
-step gdef d sight lookup gs ps at inside all =
-    choose _ _ _ (move_if d at gs ps (lookup_move gdef sight lookup gs at) inside all) all
-
 paired : (gs : Glyphs) (ps : Positions) (after : Progress) → Keeps gs ps after → length ps ≡ length gs →
     length after.positions ≡ length after.glyphs
 paired gs ps after k e = k.positions ∙ e
     ∙ sym (sym (length-map after.glyphs without_its_flags) ∙ ap length k.glyphs ∙ length-map gs without_its_flags)
 
-inside_of : (at m n : ℕ) → nat_lt at m ≡ true → n ≡ m → at < n
-inside_of at m n t e = grind (arith, t, e)
+abbrev Inside : Glyphs → Positions → Type 0
+Inside gs ps = (length ps ≡ length gs) × AreInside ps
 
-walk : (n : ℕ) (f : Glyphs → Positions → ℕ → Progress) →
-    ((gs : Glyphs) (ps : Positions) (at : ℕ) → Keeps gs ps (f gs ps at)) →
-    ((gs : Glyphs) (ps : Positions) (at : ℕ) → at < length ps → AreInside ps → AreInside (f gs ps at).positions) →
-    (gs : Glyphs) (ps : Positions) (at : ℕ) → length ps ≡ length gs → AreInside ps →
-    AreInside (walked n f gs ps at).positions
-unfolding walked
-walk zero f keeps each gs ps at e all = all
-walk (suc n) f keeps each gs ps at e all = choose_if (nat_lt at (length gs)) _ _
-    (λ t. walk n f keeps each (f gs ps at).glyphs (f gs ps at).positions (f gs ps at).next
-    (paired gs ps (f gs ps at) (keeps gs ps at) e)
-    (each gs ps at (inside_of at (length gs) (length ps) t e) all)) all
+flagged_length : (start last : ℕ) (gs : Glyphs) → length (flagged_up_to true start last gs) ≡ length gs
+flagged_length start last gs =
+    sym (length-map (flagged_up_to true start last gs) without_its_flags) ∙ ap length (flag true start last gs)
+    ∙ length-map gs without_its_flags
+
+inside_kept : (d : Direction) → IsKept d Inside
+inside_kept d = record {
+  moves = λ it at gs ps lt h. (
+    paired gs ps (moved d it at gs ps) (keeps d it at gs ps) h.0,
+    move d it at gs ps (let e = h.0 in omega arith) h.1,
+  );
+  flags = λ start last gs ps h. (h.0 ∙ sym (flagged_length start last gs), h.1);
+}
 
 pub position_inside : (gdef gpos : List ℕ) (index : ℕ) (how : Application) (b : Buffer) →
     length b.positions ≡ length b.glyphs → AreInside b.positions →
     AreInside (positioned gdef gpos index how b).positions
-unfolding positioned
 position_inside gdef gpos index how b e all =
-    walk (length b.glyphs) _ (keeps_step gdef b.direction _ _) (step gdef b.direction _ _) b.glyphs b.positions 0 e all
+    (positioned_keeps Inside gdef gpos index how b (inside_kept b.direction) (e, all)).1

@@ -10,13 +10,13 @@ use Rattle.shapers_buffer.specs.declared.buffer.glyph.GlyphPosition.{GlyphPositi
 use Rattle.shapers_buffer.specs.declared.buffer.level.Direction.{Direction}
 use Rattle.shapers_clusters.proofs.FlagCalls.{map-unsafe_inside, without_flags-or}
 use Rattle.opentype_layout.specs.declared.sight.Application.{Application}
-use Rattle.opentype_layout.specs.declared.sight.Sight.{Sight}
 use Rattle.opentype_gpos.specs.Finished.{drawn_place, finished, finished_from, chain_followed, is_backward, let_go, link_at, on_link, placed_on}
 use Rattle.opentype_gpos.specs.Laws.{PlacesAlone, without_its_flags}
 use Rattle.opentype_gpos.specs.Moved.{Positions, Progress, end_behind, flagged_up_to, mark_moved, pair_moved, value_added}
-use Rattle.opentype_gpos.specs.Moves.{lookup_move}
 use Rattle.opentype_gpos.specs.Joined.{aligned, begun, cursive_moved, ended, hung, cursive_joined, cursive_linked, next_in_line, separated, turn_to, turned}
-use Rattle.opentype_gpos.specs.Walked.{moved, moved_if, positioned, position_stepped, walked}
+use Rattle.opentype_gpos.specs.Making.{moved}
+use Rattle.opentype_gpos.specs.Walked.{positioned}
+use Rattle.opentype_gpos.proofs.Preserved.{IsKept, positioned_keeps}
 use Rattle.opentype_gpos.specs.declared.finish.Attachment.{Attachment}
 use Rattle.opentype_gpos.specs.declared.moves.CursiveMove.{CursiveMove}
 use Rattle.opentype_gpos.specs.declared.moves.MarkMove.{MarkMove}
@@ -38,7 +38,7 @@ flag_if : (test : Bool) (s e : ℕ) (gs : Glyphs) → (test ≡ true → s ≤ e
 flag_if true s e gs h = map-unsafe_inside without_its_flags bits s e gs (h refl)
 flag_if false s e gs h = refl
 
-flag : (is_on : Bool) (s last : ℕ) (gs : Glyphs) →
+pub flag : (is_on : Bool) (s last : ℕ) (gs : Glyphs) →
     map without_its_flags (flagged_up_to is_on s last gs) ≡ map without_its_flags gs
 unfolding flagged_up_to
 flag is_on s last gs = flag_if
@@ -137,7 +137,7 @@ cursive : (d : Direction) (it : CursiveMove) (at : ℕ) (gs : Glyphs) (ps : Posi
 unfolding cursive_moved
 cursive d it at gs ps = record { glyphs = flag true it.before at gs; positions = join_length d it at ps }
 
-move : (d : Direction) (it : Move) (at : ℕ) (gs : Glyphs) (ps : Positions) → Keeps gs ps (moved d it at gs ps)
+pub move : (d : Direction) (it : Move) (at : ℕ) (gs : Glyphs) (ps : Positions) → Keeps gs ps (moved d it at gs ps)
 unfolding moved
 move d (Adds value) at gs ps = record { glyphs = refl; positions = added d value at ps }
 move d (Kerns it) at gs ps = choose (nat_lt it.second (length gs)) gs ps _ _
@@ -146,36 +146,28 @@ move d (Attaches it) at gs ps = mark it at gs ps
 move d (Joins it) at gs ps = choose (nat_lt it.before (length ps)) gs ps _ _
     (cursive d it at gs ps) (nothing (at + 1) gs ps)
 
-move_if : (d : Direction) (at : ℕ) (gs : Glyphs) (ps : Positions) (o : Option Move) →
-    Keeps gs ps (moved_if d at gs ps o)
-move_if d at gs ps None = nothing (at + 1) gs ps
-move_if d at gs ps (Some it) = move d it at gs ps
+others : (gdef gpos : List ℕ) (index : ℕ) (how : Application) (b : Buffer) →
+    positioned gdef gpos index how b ≡ record b {
+      glyphs = (positioned gdef gpos index how b).glyphs;
+      positions = (positioned gdef gpos index how b).positions;
+    }
+unfolding positioned
+others gdef gpos index how b = refl
 
-pub keeps_step : (gdef : List ℕ) (d : Direction) (sight : Sight) (lookup : List ℕ) (gs : Glyphs) (ps : Positions)
-    (at : ℕ) → Keeps gs ps (position_stepped gdef d sight lookup gs ps at)
-unfolding position_stepped
-keeps_step gdef d sight lookup gs ps at = choose _ gs ps _ _
-    (move_if d at gs ps (lookup_move gdef sight lookup gs at)) (nothing (at + 1) gs ps)
+abbrev Same : Buffer → Glyphs → Positions → Type 0
+Same b gs ps = (map without_its_flags gs ≡ map without_its_flags b.glyphs) × (length ps ≡ length b.positions)
 
-walk : (n : ℕ) (f : Glyphs → Positions → ℕ → Progress) →
-    ((gs : Glyphs) (ps : Positions) (at : ℕ) → Keeps gs ps (f gs ps at)) →
-    (gs : Glyphs) (ps : Positions) (at : ℕ) → Keeps gs ps (walked n f gs ps at)
-unfolding walked
-walk zero f each gs ps at = record { glyphs = refl; positions = refl }
-walk (suc n) f each gs ps at =
-    let now = each gs ps at in
-    let later = walk n f each (f gs ps at).glyphs (f gs ps at).positions (f gs ps at).next in
-    choose (nat_lt at (length gs)) gs ps _ _ (record {
-      glyphs = later.glyphs ∙ now.glyphs;
-      positions = later.positions ∙ now.positions;
-    }) (nothing at gs ps)
+same_kept : (b : Buffer) (d : Direction) → IsKept d (Same b)
+same_kept b d = record {
+  moves = λ it at gs ps inside h. (let k = move d it at gs ps in (k.glyphs ∙ h.0, k.positions ∙ h.1));
+  flags = λ start last gs ps h. (flag true start last gs ∙ h.0, h.1);
+}
 
 pub position_keeps : (gdef gpos : List ℕ) (index : ℕ) (how : Application) (b : Buffer) →
     PlacesAlone b (positioned gdef gpos index how b)
-unfolding positioned
 position_keeps gdef gpos index how b =
-    let k = walk (length b.glyphs) _ (keeps_step gdef b.direction _ _) b.glyphs b.positions 0 in
-    record { others = refl; glyphs = k.glyphs; positions = k.positions }
+    let k = positioned_keeps (Same b) gdef gpos index how b (same_kept b b.direction) (refl, refl) in
+    record { others = others gdef gpos index how b; glyphs = k.0; positions = k.1 }
 
 -- ---- attachments
 placed_length : (d : Direction) (link : Attachment) (ps : Positions) → length (placed_on d link ps) ≡ length ps

@@ -1,6 +1,8 @@
 pub mod Firsts
 pub mod Walks
+pub mod Calls
 pub mod Following
+pub mod Preserved
 pub mod Keeping
 mod TypeRows
 pub mod Inside

@@ -3,6 +3,9 @@ pub mod Anchors
 pub mod Nearby
 pub mod Moves
 pub mod Moved
+pub mod Making
+pub mod Coming
+pub mod Called
 pub mod Walked
 pub mod Finished
 pub mod Laws

@@ -6,8 +6,6 @@ use Rattle.shapers_buffer.specs.Glyphs.{Glyph, Glyphs}
 use Rattle.shapers_buffer.specs.Properties.{component, has_bit}
 use Rattle.opentype_face.specs.Bytes.{u16_in, part_in}
 use Rattle.opentype_face.specs.Glyphs.{coverage_in}
-use Rattle.opentype_face.specs.Lookups.{subtable_in, type_in}
-use Rattle.opentype_face.specs.Firsts.{first_from}
 use Rattle.opentype_layout.specs.Text.{glyph_at}
 use Rattle.opentype_layout.specs.declared.sight.Sight.{Sight}
 use Rattle.opentype_gpos.specs.Anchors.{joint_in, ligature_points_in, points_in}
@@ -128,13 +126,3 @@ one_move gdef sight kind bytes gs at =
     else (if kind == 5 then ligature_move gdef sight bytes gs at
     else (if kind == 6 then mark_move gdef sight bytes gs at
     else None)))))
-
--- what one of a lookup's subtables does; type 9 names another
-unfoldable pub nth_move : List ℕ → Sight → List ℕ → Glyphs → ℕ → ℕ → Option Move
-nth_move gdef sight lookup gs at i =
-    one_move gdef sight (type_in 9 lookup i) (subtable_in 9 lookup i) gs at
-
--- what a lookup does: what the first of its subtables that fits does
-unfoldable pub lookup_move : List ℕ → Sight → List ℕ → Glyphs → ℕ → Option Move
-lookup_move gdef sight lookup gs at = first_from (u16_in lookup 4) (nth_move gdef sight lookup gs
-    at) 0

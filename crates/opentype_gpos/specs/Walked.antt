@@ -1,56 +1,44 @@
 -- A lookup along a text, and over a buffer.
-use Rattle.std.specs.Prelude.{ℕ, zero, suc, ◌+◌, ◌==◌, ◌&&◌, not, bit_and, nat_lt, List, length, Option, None, Some, if◌then◌else◌}
+use Rattle.std.specs.Prelude.{ℕ, zero, suc, ◌+◌, ◌==◌, ◌&&◌, ◌⊎◌, not, bit_and, nat_lt, List, length, Option, None, Some, if◌then◌else◌}
+use Rattle.std.proofs.Common.{inl, inr}
 use Rattle.shapers_buffer.specs.Buffer.{Buffer}
 use Rattle.shapers_buffer.specs.Glyphs.{Glyphs}
-use Rattle.shapers_buffer.specs.declared.buffer.level.Direction.{Direction}
 use Rattle.opentype_face.specs.Lookups.{lookup_in}
-use Rattle.opentype_layout.specs.Sight.{ignores, sight_of_input}
+use Rattle.opentype_layout.specs.Rules.{Found}
+use Rattle.opentype_layout.specs.Sight.{ignores}
 use Rattle.opentype_layout.specs.Text.{glyph_at}
 use Rattle.opentype_layout.specs.declared.sight.Application.{Application}
-use Rattle.opentype_layout.specs.declared.sight.Sight.{Sight}
-use Rattle.opentype_gpos.specs.Joined.{cursive_moved}
-use Rattle.opentype_gpos.specs.Moved.{Positions, Progress, mark_moved, pair_moved, value_added}
-use Rattle.opentype_gpos.specs.Moves.{lookup_move}
+use Rattle.opentype_gpos.specs.Called.{Work, rule_made}
+use Rattle.opentype_gpos.specs.Coming.{Setting, came_in, sights_in}
+use Rattle.opentype_gpos.specs.Making.{moved}
+use Rattle.opentype_gpos.specs.Moved.{Positions, Progress}
 use Rattle.opentype_gpos.specs.declared.moves.Move.{Move}
-use Rattle.opentype_gpos.specs.declared.moves.Move.TheVariants.{Adds, Attaches, Joins, Kerns}
-
--- what a move at a place makes of a text
-unfoldable pub moved : Direction → Move → ℕ → Glyphs → Positions → Progress
-moved direction (Adds value) at gs ps =
-    record { glyphs = gs; positions = value_added direction value at ps; next = at + 1 }
-moved direction (Kerns pair) at gs ps = if nat_lt pair.second (length gs)
-    then pair_moved direction pair at gs ps else record {
-      glyphs = gs;
-      positions = ps;
-      next = at +
-          1;
-    }
-moved direction (Attaches mark) at gs ps = mark_moved mark at gs ps
-moved direction (Joins it) at gs ps = if nat_lt it.before (length ps)
-    then cursive_moved direction it at gs ps else record {
-      glyphs = gs;
-      positions = ps;
-      next = at +
-          1;
-    }
+use Rattle.opentype_gpos.specs.declared.pass.Sights.{Sights}
 
 -- nothing at a place
 abbrev pub passed : ℕ → Glyphs → Positions → Progress
 passed at gs ps = record { glyphs = gs; positions = ps; next = at + 1 }
 
--- what a move makes, if there is one
-abbrev pub moved_if : Direction → ℕ → Glyphs → Positions → Option Move → Progress
-moved_if direction at gs ps None = passed at gs ps
-moved_if direction at gs ps (Some it) = moved direction it at gs ps
+-- A rule that fits at a place, with the lookups that it applies, in at most 4,096 calls and 64
+-- levels deep. The text goes on behind its input.
+abbrev pub at_rule : Setting → Found → Glyphs → Positions → Progress
+at_rule s rule gs ps =
+    let w = rule_made 64 s rule (record { glyphs = gs; positions = ps; left = 4096 }) in
+    record { glyphs = w.glyphs; positions = w.positions; next = rule.end }
+
+-- what a lookup that comes to something at a place makes of a text
+abbrev pub stepped_by : Setting → ℕ → Glyphs → Positions → Option (Move ⊎ Found) → Progress
+stepped_by s at gs ps None = passed at gs ps
+stepped_by s at gs ps (Some (inl it)) = moved s.direction it at gs ps
+stepped_by s at gs ps (Some (inr rule)) = at_rule s rule gs ps
 
 -- what a lookup does at a place: nothing to a glyph that hasn't its feature, or that it ignores
-unfoldable pub position_stepped : List ℕ → Direction → Sight → List ℕ → Glyphs → Positions → ℕ →
-    Progress
-position_stepped gdef direction sight lookup gs ps at =
-    if not (bit_and (glyph_at gs at).mask sight.mask == 0)
-    && not (ignores gdef sight.flag sight.set (glyph_at gs at))
-    then moved_if direction at gs ps (lookup_move gdef sight lookup gs at)
-    else passed at gs ps
+unfoldable pub position_stepped : Setting → Sights → List ℕ → Glyphs → Positions → ℕ → Progress
+position_stepped s sights lookup gs ps at =
+    let g = glyph_at gs at in
+    if not (bit_and g.mask sights.input.mask == 0)
+    && not (ignores s.gdef sights.input.flag sights.input.set g)
+    then stepped_by s at gs ps (came_in s sights lookup gs at) else passed at gs ps
 
 -- a text from a place on, in at most so many steps
 unfoldable pub walked : ℕ → (Glyphs → Positions → ℕ → Progress) → Glyphs → Positions → ℕ → Progress
@@ -61,14 +49,16 @@ walked (suc n) f gs ps at =
     else record { glyphs = gs; positions = ps; next = at }
 
 -- the whole text, in as many steps as there are glyphs
-abbrev pub walked_whole : List ℕ → Direction → Sight → List ℕ → Glyphs → Positions → Progress
-walked_whole gdef direction sight lookup gs ps =
-    walked (length gs) (position_stepped gdef direction sight lookup) gs ps 0
+abbrev pub walked_whole : Setting → List ℕ → Glyphs → Positions → Progress
+walked_whole s lookup gs ps =
+    walked (length gs) (position_stepped s (sights_in s lookup) lookup) gs ps 0
+
+abbrev pub setting_for : List ℕ → List ℕ → Application → Buffer → Setting
+setting_for gdef gpos how b =
+    record { gdef = gdef; gpos = gpos; direction = b.direction; how = how }
 
 -- a lookup by its number, as a plan has it applied
 unfoldable pub positioned : List ℕ → List ℕ → ℕ → Application → Buffer → Buffer
 positioned gdef gpos index how b =
-    let lookup = lookup_in gpos index in
-    let sight = sight_of_input gdef lookup how 0 in
-    let end = walked_whole gdef b.direction sight lookup b.glyphs b.positions in
-    record b { glyphs = end.glyphs; positions = end.positions }
+    let end = walked_whole (setting_for gdef gpos how b) (lookup_in gpos index) b.glyphs b.positions
+    in record b { glyphs = end.glyphs; positions = end.positions }

@@ -8,11 +8,15 @@
 #![tactic(auto)]
 
 pub mod anchors;
+pub mod calling;
+pub mod coming;
 pub mod finish;
 pub mod joins;
 pub mod laws;
+pub mod making;
 pub mod moved;
 pub mod moves;
 pub mod nearby;
+pub mod pass;
 pub mod values;
 pub mod walk;

@@ -1,8 +1,6 @@
 //! What subtables do at a place of a text.
 ghost use Rattle.std.specs.Prelude.{◌≡◌, ◌<◌, length};
-ghost use Rattle.opentype_face.specs.Bytes.{u16_in};
-ghost use Rattle.opentype_face.specs.Firsts.{first_from};
-ghost use Rattle.opentype_gpos.specs.Moves.{attached_by, attaching, base_move, component_for, cursive_move, is_first_in, joined_from, joined_with, ligature_move, ligature_with, lookup_move, mark_move, mark_with, nth_move, one_move, pair_move, pair_values, pair_with, single_move};
+ghost use Rattle.opentype_gpos.specs.Moves.{attached_by, attaching, base_move, component_for, cursive_move, is_first_in, joined_from, joined_with, ligature_move, ligature_with, mark_move, mark_with, one_move, pair_move, pair_values, pair_with, single_move};
 
 use crate::anchors::{Point, joint_of, ligature_points, points};
 use crate::nearby::{
@@ -12,7 +10,6 @@ use crate::nearby::{
 use crate::values::{Value, pair, single, size, value_at};
 use opentype_face::bytes::{part, u16_at};
 use opentype_face::glyph_sets::coverage;
-use opentype_face::lookup::{subtable, subtable_count, subtable_type};
 use opentype_layout::sight::Sight;
 use shapers_buffer::buffer::hb_glyph_info_t;
 
@@ -315,9 +312,9 @@ fn cursive(
     }
 }
 
-// What a subtable of a type does.
+/// What a subtable of one of types 1 to 6 does at a place.
 #[tactic(auto, unfolding(crate::specs::Moves::one_move))]
-fn move_by(
+pub fn move_by(
     gdef: &[u8],
     sight: &Sight,
     kind: u16,
@@ -337,57 +334,4 @@ fn move_by(
         6 => mark_to_mark(gdef, sight, bytes, glyphs, at),
         _ => None,
     }
-}
-
-#[tactic(auto, unfolding(crate::specs::Moves::nth_move))]
-fn nth(
-    gdef: &[u8],
-    sight: &Sight,
-    lookup: &[u8],
-    i: u16,
-    glyphs: &[hb_glyph_info_t],
-    at: usize,
-) -> Option<Move>
-    requires { at < length glyphs.now }
-    ensures { result ≡ nth_move gdef.now sight.now lookup.now glyphs.now at i }
-{
-    let kind = subtable_type(9, lookup, i);
-    move_by(gdef, sight, kind, subtable(9, lookup, i), glyphs, at)
-}
-
-// What the first subtable that fits does.
-fn first_of(
-    gdef: &[u8],
-    sight: &Sight,
-    lookup: &[u8],
-    glyphs: &[hb_glyph_info_t],
-    at: usize,
-) -> Option<Move>
-    requires { at < length glyphs.now }
-    ensures { result ≡ first_from (u16_in lookup.now 4)
-        (nth_move gdef.now sight.now lookup.now glyphs.now at) 0 }
-{
-    for i in 0..subtable_count(lookup) {
-        let found = nth(gdef, sight, lookup, i, glyphs, at);
-        if found.is_some() {
-            return found;
-        }
-    }
-    None
-}
-
-/// What a lookup does at a place of a text, by its table: what the first of its subtables that fits
-/// does.
-#[tactic(auto, unfolding(crate::specs::Moves::lookup_move))]
-pub fn move_of(
-    gdef: &[u8],
-    sight: &Sight,
-    lookup: &[u8],
-    glyphs: &[hb_glyph_info_t],
-    at: usize,
-) -> Option<Move>
-    requires { at < length glyphs.now }
-    ensures { result ≡ lookup_move gdef.now sight.now lookup.now glyphs.now at }
-{
-    first_of(gdef, sight, lookup, glyphs, at)
 }

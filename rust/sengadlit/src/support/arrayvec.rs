@@ -1,7 +1,9 @@
 //! A list in place, without the heap.
 
+use core::array;
 use core::error::Error;
 use core::fmt;
+use core::mem;
 use core::ops::{Deref, DerefMut};
 use core::slice;
 
@@ -12,18 +14,26 @@ pub struct ArrayVec<T, const CAP: usize> {
     len: usize,
 }
 
-impl<T: Copy + Default, const CAP: usize> ArrayVec<T, CAP> {
+impl<T: Default, const CAP: usize> ArrayVec<T, CAP> {
     /// An empty list.
     #[inline]
     pub fn new() -> Self {
         ArrayVec {
-            items: [T::default(); CAP],
+            items: array::from_fn(|_| T::default()),
             len: 0,
         }
     }
+
+    /// Takes the last element away.
+    #[inline]
+    pub fn pop(&mut self) -> Option<T> {
+        let last = self.as_mut_slice().last_mut().map(mem::take)?;
+        self.len -= 1;
+        Some(last)
+    }
 }
 
-impl<T: Copy + Default, const CAP: usize> Default for ArrayVec<T, CAP> {
+impl<T: Default, const CAP: usize> Default for ArrayVec<T, CAP> {
     #[inline]
     fn default() -> Self {
         ArrayVec::new()
@@ -31,6 +41,22 @@ impl<T: Copy + Default, const CAP: usize> Default for ArrayVec<T, CAP> {
 }
 
 impl<T: Copy, const CAP: usize> ArrayVec<T, CAP> {
+    /// Adds all of these elements at the end, or none where they find no room.
+    ///
+    /// # Errors
+    ///
+    /// There is no room for all of them; nothing is added then.
+    #[inline]
+    pub fn try_extend_from_slice(&mut self, other: &[T]) -> Result<(), CapacityError> {
+        let room = &mut self.items[self.len..];
+        let found = room.get_mut(..other.len());
+        found.ok_or(CapacityError::new(()))?.copy_from_slice(other);
+        self.len += other.len();
+        Ok(())
+    }
+}
+
+impl<T, const CAP: usize> ArrayVec<T, CAP> {
     /// Adds an element at the end.
     ///
     /// # Panics
@@ -56,30 +82,6 @@ impl<T: Copy, const CAP: usize> ArrayVec<T, CAP> {
         Ok(())
     }
 
-    /// Adds all of these elements at the end, or none where they find no room.
-    ///
-    /// # Errors
-    ///
-    /// There is no room for all of them; nothing is added then.
-    #[inline]
-    pub fn try_extend_from_slice(&mut self, other: &[T]) -> Result<(), CapacityError> {
-        let room = &mut self.items[self.len..];
-        let found = room.get_mut(..other.len());
-        found.ok_or(CapacityError::new(()))?.copy_from_slice(other);
-        self.len += other.len();
-        Ok(())
-    }
-
-    /// Takes the last element away.
-    #[inline]
-    pub fn pop(&mut self) -> Option<T> {
-        let last = self.last().copied()?;
-        self.len -= 1;
-        Some(last)
-    }
-}
-
-impl<T, const CAP: usize> ArrayVec<T, CAP> {
     /// The number of elements that there is room for: `CAP`.
     #[inline]
     pub const fn capacity(&self) -> usize {

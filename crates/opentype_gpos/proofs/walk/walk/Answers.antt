@@ -1,4 +1,8 @@
-use Rattle.std.proofs.Common.{arith}
+use Rattle.std.proofs.Common.{ap, arith, sym, ◌∙◌}
+use Rattle.opentype_gpos.specs.Coming.{setting_of}
+use Rattle.opentype_gpos.specs.Moved.{Progress}
+use Rattle.opentype_gpos.specs.Walked.{position_stepped}
+use Rattle.opentype_gpos.specs.declared.pass.Sights.{Sights}
 use Rattle.opentype_gpos.proofs.Walks.{glyphs_all, glyphs_out, positions_all, positions_out, walked_next, walked_start}
 use Rattle.opentype_gpos.proofs.walk.walk.Goals as goal
 
@@ -12,8 +16,10 @@ returns-then-at-glyphs c = record {
 }
 
 pub loop-preserved : goal.loop-preserved
-loop-preserved c = walked_next _ _ _ _ _ _ _ _ _ _ _ c.loop.invariant c.loop-test.true
-    (omega arith) (cc) c.step-at.ensures
+loop-preserved c =
+    let h : Sights → Progress = λ x. position_stepped (setting_of c.args.pass.now) x c.args.lookup.now c.loop.glyphs c.loop.positions c.loop.at in
+    walked_next _ _ _ _ _ _ _ _ _ _ _ c.loop.invariant c.loop-test.true
+    (omega arith) (cc) (ap h (sym c.sights-sights.ensures) ∙ c.step-at.ensures)
 
 pub returns : goal.returns
 returns c = record {

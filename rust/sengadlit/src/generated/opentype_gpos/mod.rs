@@ -9,10 +9,14 @@
 //! that it would be attached to isn't attached, and of attachments in a row 64 are followed.
 
 pub mod anchors;
+pub mod calling;
+pub mod coming;
 pub mod finish;
 pub mod joins;
+pub mod making;
 pub mod moved;
 pub mod moves;
 pub mod nearby;
+pub mod pass;
 pub mod values;
 pub mod walk;

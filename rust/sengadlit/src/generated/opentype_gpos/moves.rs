@@ -6,7 +6,6 @@ use crate::support::prelude::*;
 
 use crate::generated::opentype_face::bytes::{part, u16_at};
 use crate::generated::opentype_face::glyph_sets::coverage;
-use crate::generated::opentype_face::lookup::{subtable, subtable_count, subtable_type};
 use crate::generated::opentype_gpos::anchors::{Point, joint_of, ligature_points, points};
 use crate::generated::opentype_gpos::nearby::{
     are_beside, base_glyph, glyph_before_mark, is_mark_glyph, ligature_number, next_glyph, number,
@@ -253,8 +252,21 @@ fn cursive(
     }
 }
 
-// What a subtable of a type does.
-fn move_by(
+/// What a subtable of one of types 1 to 6 does at a place.
+///
+/// <details><summary>Contract</summary>
+///
+/// # Contract
+///
+/// ```text
+/// requires { at < length glyphs.now }
+/// ensures { result ≡ one_move gdef.now sight.now kind bytes.now glyphs.now at }
+/// ```
+///
+/// - `one_move`: `crates/opentype_gpos/specs/Moves.antt`
+///
+/// </details>
+pub fn move_by(
     gdef: &[u8],
     sight: &Sight,
     kind: u16,
@@ -271,58 +283,4 @@ fn move_by(
         6 => mark_to_mark(gdef, sight, bytes, glyphs, at),
         _ => None,
     }
-}
-
-fn nth(
-    gdef: &[u8],
-    sight: &Sight,
-    lookup: &[u8],
-    i: u16,
-    glyphs: &[GlyphInfo],
-    at: usize,
-) -> Option<Move> {
-    let kind = subtable_type(9, lookup, i);
-    move_by(gdef, sight, kind, subtable(9, lookup, i), glyphs, at)
-}
-
-// What the first subtable that fits does.
-fn first_of(
-    gdef: &[u8],
-    sight: &Sight,
-    lookup: &[u8],
-    glyphs: &[GlyphInfo],
-    at: usize,
-) -> Option<Move> {
-    for i in 0..subtable_count(lookup) {
-        let found = nth(gdef, sight, lookup, i, glyphs, at);
-        if found.is_some() {
-            return found;
-        }
-    }
-    None
-}
-
-/// What a lookup does at a place of a text, by its table: what the first of its subtables that fits
-/// does.
-///
-/// <details><summary>Contract</summary>
-///
-/// # Contract
-///
-/// ```text
-/// requires { at < length glyphs.now }
-/// ensures { result ≡ lookup_move gdef.now sight.now lookup.now glyphs.now at }
-/// ```
-///
-/// - `lookup_move`: `crates/opentype_gpos/specs/Moves.antt`
-///
-/// </details>
-pub fn move_of(
-    gdef: &[u8],
-    sight: &Sight,
-    lookup: &[u8],
-    glyphs: &[GlyphInfo],
-    at: usize,
-) -> Option<Move> {
-    first_of(gdef, sight, lookup, glyphs, at)
 }

@@ -3,99 +3,57 @@
 //! Lookups along a text.
 
 use crate::generated::opentype_face::lookup::lookup;
-use crate::generated::opentype_gpos::joins::move_cursive;
-use crate::generated::opentype_gpos::moved::{add, move_mark, move_pair};
-use crate::generated::opentype_gpos::moves::{Move, move_of};
-use crate::generated::opentype_layout::sight::{Application, Sight, ignores_glyph};
-use crate::generated::shapers_buffer::buffer::{
-    Buffer, Direction, GlyphInfo, GlyphPosition, PositionedWalk,
-};
-
-// Makes a move at a place of a text, and returns the place that comes next.
-fn make_move(
-    direction: Direction,
-    change: &Move,
-    at: usize,
-    glyphs: &mut [GlyphInfo],
-    positions: &mut [GlyphPosition],
-) -> usize {
-    match change {
-        Move::Adds(value) => {
-            add(direction, value, at, positions);
-            at + 1
-        }
-        Move::Kerns(pair) => {
-            if pair.second >= glyphs.len() {
-                return at + 1;
-            }
-            move_pair(direction, pair, at, glyphs, positions)
-        }
-        Move::Attaches(mark) => move_mark(mark, at, glyphs, positions),
-        Move::Joins(it) => {
-            if it.before >= positions.len() {
-                return at + 1;
-            }
-            move_cursive(direction, it, at, glyphs, positions)
-        }
-    }
-}
+use crate::generated::opentype_gpos::calling::apply_rule;
+use crate::generated::opentype_gpos::coming::{Came, come_to};
+use crate::generated::opentype_gpos::making::make_move;
+use crate::generated::opentype_gpos::pass::{Pass, Sights};
+use crate::generated::opentype_layout::sight::{Application, ignores_glyph};
+use crate::generated::shapers_buffer::buffer::{Buffer, GlyphInfo, GlyphPosition, PositionedWalk};
 
 // What a lookup does at a place; returns the place that comes next.
 fn step(
-    gdef: &[u8],
-    direction: Direction,
-    sight: &Sight,
+    pass: &Pass<'_>,
+    sights: &Sights,
     lookup: &[u8],
     glyphs: &mut [GlyphInfo],
     positions: &mut [GlyphPosition],
     at: usize,
 ) -> usize {
-    let glyph = glyphs[at];
-    if glyph.mask & sight.mask == 0 || ignores_glyph(gdef, sight.flag, sight.set, &glyph) {
+    let (sight, glyph) = (&sights.input, &glyphs[at]);
+    if glyph.mask & sight.mask == 0 || ignores_glyph(pass.gdef, sight.flag, sight.set, glyph) {
         return at + 1;
     }
-    match move_of(gdef, sight, lookup, glyphs, at) {
-        Some(change) => make_move(direction, &change, at, glyphs, positions),
+    match come_to(pass, sights, lookup, glyphs, at) {
+        Some(Came::Moves(change)) => make_move(pass.direction, &change, at, glyphs, positions),
+        Some(Came::Fits(rule)) => {
+            apply_rule(pass, &rule, glyphs, positions);
+            rule.end
+        }
         None => at + 1,
     }
 }
 
 // Applies a lookup along a text.
-fn walk(
-    gdef: &[u8],
-    direction: Direction,
-    sight: &Sight,
-    lookup: &[u8],
-    glyphs: &mut [GlyphInfo],
-    positions: &mut [GlyphPosition],
-) {
+fn walk(pass: &Pass<'_>, lookup: &[u8], glyphs: &mut [GlyphInfo], positions: &mut [GlyphPosition]) {
+    let sights = pass.sights(lookup);
     let mut at = 0;
     for _ in 0..glyphs.len() {
         if at >= glyphs.len() {
             return;
         }
-        at = step(gdef, direction, sight, lookup, glyphs, positions, at);
+        at = step(pass, &sights, lookup, glyphs, positions, at);
     }
 }
 
 // A lookup over a text with positions.
 struct Walking<'a> {
-    gdef: &'a [u8],
+    pass: Pass<'a>,
     lookup: &'a [u8],
-    sight: Sight,
-    direction: Direction,
 }
 
 impl<'a> PositionedWalk for Walking<'a> {
     fn walk(&self, glyphs: &mut [GlyphInfo], positions: &mut [GlyphPosition]) {
-        walk(
-            self.gdef,
-            self.direction,
-            &self.sight,
-            self.lookup,
-            glyphs,
-            positions,
-        );
+        walk(&self.pass, self.lookup, glyphs, positions);
     }
 }
 
@@ -115,12 +73,14 @@ impl<'a> PositionedWalk for Walking<'a> {
 ///
 /// </details>
 pub fn position(gdef: &[u8], gpos: &[u8], index: u16, how: &Application, buffer: &mut Buffer) {
-    let lookup = lookup(gpos, index);
     let walking = Walking {
-        gdef,
-        lookup,
-        sight: Sight::of_input(gdef, lookup, how, 0),
-        direction: buffer.direction(),
+        pass: Pass {
+            gdef,
+            gpos,
+            direction: buffer.direction(),
+            how: *how,
+        },
+        lookup: lookup(gpos, index),
     };
     buffer.walk_positioned(&walking);
 }

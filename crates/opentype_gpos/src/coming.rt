@@ -1,0 +1,90 @@
+//! What a lookup of GPOS comes to at a place of a text.
+ghost use Rattle.std.specs.Prelude.{◌≡◌, ◌<◌, length, IfSome};
+ghost use Rattle.std.specs.Option.{option_map};
+ghost use Rattle.opentype_face.specs.Bytes.{u16_in};
+ghost use Rattle.opentype_face.specs.Firsts.{first_from};
+ghost use Rattle.opentype_gpos.specs.Coming.{came, came_in, nth_came, setting_of};
+
+use crate::moves::{Move, move_by};
+use crate::pass::{Pass, Sights};
+use opentype_face::lookup::{subtable, subtable_count, subtable_type};
+use opentype_layout::rules::{Matched, find_rule};
+use shapers_buffer::buffer::hb_glyph_info_t;
+
+/// What a lookup comes to at a place.
+#[derive(Debug, Drop)]
+pub enum Came<'a> {
+    /// The glyph is moved.
+    Moves(Move),
+    /// A rule of a context fits.
+    Fits(Matched<'a>),
+}
+
+// What one of a lookup's subtables comes to.
+#[tactic(auto, unfolding(crate::specs::Coming::nth_came))]
+fn come_by<'a>(
+    pass: &Pass<'_>,
+    sights: &Sights,
+    lookup: &'a [u8],
+    i: u16,
+    glyphs: &[hb_glyph_info_t],
+    at: usize,
+) -> Option<Came<'a>>
+    requires { at < length glyphs.now }
+    ensures { option_map came result
+        ≡ nth_came (setting_of pass.now) sights.now lookup.now glyphs.now at i }
+{
+    let kind = subtable_type(9, lookup, i);
+    let bytes = subtable(9, lookup, i);
+    let (input, context) = (&sights.input, &sights.context);
+    if kind == 7 || kind == 8 {
+        return match find_rule(kind == 8, pass.gdef, input, context, bytes, glyphs, at) {
+            Some(matched) => Some(Came::Fits(matched)),
+            None => None,
+        };
+    }
+    match move_by(pass.gdef, input, kind, bytes, glyphs, at) {
+        Some(change) => Some(Came::Moves(change)),
+        None => None,
+    }
+}
+
+// What the first of a lookup's subtables that fits comes to.
+fn come_among<'a>(
+    pass: &Pass<'_>,
+    sights: &Sights,
+    lookup: &'a [u8],
+    glyphs: &[hb_glyph_info_t],
+    at: usize,
+) -> Option<Came<'a>>
+    requires { at < length glyphs.now }
+    ensures { option_map came result ≡ first_from (u16_in lookup.now 4)
+        (nth_came (setting_of pass.now) sights.now lookup.now glyphs.now at) 0 }
+{
+    for i in 0..subtable_count(lookup) {
+        let found = come_by(pass, sights, lookup, i, glyphs, at);
+        if found.is_some() {
+            return found;
+        }
+    }
+    None
+}
+
+/// What a lookup comes to at a place of a text, by its table: a move, or a rule that fits.
+#[tactic(auto, unfolding(crate::specs::Coming::came_in))]
+pub fn come_to<'a>(
+    pass: &Pass<'_>,
+    sights: &Sights,
+    lookup: &'a [u8],
+    glyphs: &[hb_glyph_info_t],
+    at: usize,
+) -> Option<Came<'a>>
+    ensures within { IfSome result (λ it. at < length glyphs.now) }
+    ensures value { option_map came result
+        ≡ came_in (setting_of pass.now) sights.now lookup.now glyphs.now at }
+{
+    if at >= glyphs.len() {
+        return None;
+    }
+    come_among(pass, sights, lookup, glyphs, at)
+}
