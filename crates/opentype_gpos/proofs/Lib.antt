@@ -8,3 +8,4 @@ mod TypeRows
 pub mod Inside
 pub mod Turning
 mod CursiveRows
+mod ContextRows

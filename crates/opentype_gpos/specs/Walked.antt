@@ -8,7 +8,7 @@ use Rattle.opentype_layout.specs.Rules.{Found}
 use Rattle.opentype_layout.specs.Sight.{ignores}
 use Rattle.opentype_layout.specs.Text.{glyph_at}
 use Rattle.opentype_layout.specs.declared.sight.Application.{Application}
-use Rattle.opentype_gpos.specs.Called.{Work, rule_made}
+use Rattle.opentype_gpos.specs.Called.{rule_made}
 use Rattle.opentype_gpos.specs.Coming.{Setting, came_in, sights_in}
 use Rattle.opentype_gpos.specs.Making.{moved}
 use Rattle.opentype_gpos.specs.Moved.{Positions, Progress}
