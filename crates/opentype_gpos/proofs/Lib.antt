@@ -4,6 +4,7 @@ pub mod Calls
 pub mod Following
 pub mod Preserved
 pub mod Keeping
+pub mod Kerning
 mod TypeRows
 pub mod Inside
 pub mod Turning

@@ -7,6 +7,7 @@ pub mod Making
 pub mod Coming
 pub mod Called
 pub mod Walked
+pub mod Kerned
 pub mod Finished
 pub mod Laws
 pub mod Joined

@@ -82,7 +82,7 @@ fn align(direction: Direction, it: &CursiveMove, at: usize, positions: &mut [Gly
 
 #[inline]
 #[tactic(auto, unfolding(crate::specs::Joined::with_across))]
-fn with_across(vertical: bool, off: i32, position: GlyphPosition) -> GlyphPosition
+pub(crate) fn with_across(vertical: bool, off: i32, position: GlyphPosition) -> GlyphPosition
     ensures { result ≡ with_across vertical off position }
 {
     if vertical {

@@ -12,6 +12,7 @@ pub mod calling;
 pub mod coming;
 pub mod finish;
 pub mod joins;
+pub mod kern;
 pub mod laws;
 pub mod making;
 pub mod moved;
