@@ -30,7 +30,7 @@ pub record Keeps (gs : Glyphs) (ps : Positions) (after : Progress) : Type 0 wher
   pub positions : length after.positions ≡ length ps
 
 -- ---- flags
-bits : (g : Glyph) → without_its_flags (with_bits 3 g) ≡ without_its_flags g
+pub bits : (g : Glyph) → without_its_flags (with_bits 3 g) ≡ without_its_flags g
 bits g = ap (λ (m : ℕ). (record g { mask = m })) (without_flags-or g.mask 3 refl)
 
 flag_if : (test : Bool) (s e : ℕ) (gs : Glyphs) → (test ≡ true → s ≤ e) →
@@ -77,7 +77,7 @@ nothing : (at : ℕ) (gs : Glyphs) (ps : Positions) →
     Keeps gs ps (record { glyphs = gs; positions = ps; next = at })
 nothing at gs ps = record { glyphs = refl; positions = refl }
 
-let_go_length : (ps : Positions) (at : ℕ) → length (let_go ps at) ≡ length ps
+pub let_go_length : (ps : Positions) (at : ℕ) → length (let_go ps at) ≡ length ps
 unfolding let_go
 let_go_length ps at = grind (arith, common_steps)
 

@@ -5,6 +5,8 @@ pub mod Following
 pub mod Preserved
 pub mod Keeping
 pub mod Kerning
+pub mod KernKeeping
+mod KernRows
 mod TypeRows
 pub mod Inside
 pub mod Turning

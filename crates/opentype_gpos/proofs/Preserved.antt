@@ -75,10 +75,10 @@ rule_keeps (suc n) s P k rule w h = records_keep rule.count P _
     0 _ (k.flags rule.start (rule.stop - 1) w.glyphs w.positions h)
 
 -- ---- and so along a text
-abbrev Stays : (Glyphs → Positions → Type 0) → Progress → Type 0
+abbrev pub Stays : (Glyphs → Positions → Type 0) → Progress → Type 0
 Stays P c = P c.glyphs c.positions
 
-choose_step : (t : Bool) (P : Glyphs → Positions → Type 0) (a b : Progress) → Stays P a → Stays P b →
+pub choose_step : (t : Bool) (P : Glyphs → Positions → Type 0) (a b : Progress) → Stays P a → Stays P b →
     Stays P (if t then a else b)
 choose_step true P a b x y = x
 choose_step false P a b x y = y
@@ -97,7 +97,7 @@ unfolding position_stepped
 step_keeps s P k sights lookup gs ps at h =
     choose_step _ P _ _ (step_by s P k at gs ps _ (came_inside s sights lookup gs at) h) h
 
-walk_keeps : (n : ℕ) (P : Glyphs → Positions → Type 0) (f : Glyphs → Positions → ℕ → Progress) →
+pub walk_keeps : (n : ℕ) (P : Glyphs → Positions → Type 0) (f : Glyphs → Positions → ℕ → Progress) →
     ((gs : Glyphs) (ps : Positions) (at : ℕ) → P gs ps → Stays P (f gs ps at)) →
     (gs : Glyphs) (ps : Positions) (at : ℕ) → P gs ps → Stays P (walked n f gs ps at)
 unfolding walked

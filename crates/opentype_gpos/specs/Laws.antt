@@ -5,6 +5,7 @@ use Rattle.shapers_buffer.specs.Glyph.{without_flags}
 use Rattle.shapers_buffer.specs.Glyphs.{Glyph}
 use Rattle.opentype_layout.specs.declared.sight.Application.{Application}
 use Rattle.opentype_gpos.specs.Finished.{finished, target_in}
+use Rattle.opentype_gpos.specs.Kerned.{kerned}
 use Rattle.opentype_gpos.specs.Moved.{Positions, position_at}
 use Rattle.opentype_gpos.specs.Walked.{positioned}
 
@@ -22,6 +23,10 @@ pub record PlacesAlone (old new : Buffer) : Type 0 where
 abbrev pub PositionLaw : Type 0
 PositionLaw = (gdef gpos : List ℕ) (index : ℕ) (how : Application) (b : Buffer) →
     PlacesAlone b (positioned gdef gpos index how b)
+
+-- and so does the table `kern`
+abbrev pub KernLaw : Type 0
+KernLaw = (table : List ℕ) (mask : ℕ) (b : Buffer) → PlacesAlone b (kerned table mask b)
 
 -- and behind the last lookup
 abbrev pub FinishLaw : Type 0

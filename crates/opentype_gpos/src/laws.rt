@@ -1,9 +1,14 @@
 //! The laws of lookups: each function does nothing, and its contract is the law.
-ghost use Rattle.opentype_gpos.specs.Laws.{FinishLaw, InsideLaw, PositionLaw};
+ghost use Rattle.opentype_gpos.specs.Laws.{FinishLaw, InsideLaw, KernLaw, PositionLaw};
 
 /// A lookup, by any bytes, changes positions and glyph flags alone, and there are as many of them.
 pub fn position_law()
     ensures { PositionLaw }
+{}
+
+/// So does the table `kern`.
+pub fn kern_law()
+    ensures { KernLaw }
 {}
 
 /// So do attachments, behind the last lookup.

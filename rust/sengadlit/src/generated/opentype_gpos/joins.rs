@@ -61,7 +61,7 @@ fn align(direction: Direction, it: &CursiveMove, at: usize, positions: &mut [Gly
 }
 
 #[inline]
-fn with_across(vertical: bool, off: i32, position: GlyphPosition) -> GlyphPosition {
+pub(crate) fn with_across(vertical: bool, off: i32, position: GlyphPosition) -> GlyphPosition {
     if vertical {
         return GlyphPosition {
             x_offset: off,

@@ -13,6 +13,7 @@ pub mod calling;
 pub mod coming;
 pub mod finish;
 pub mod joins;
+pub mod kern;
 pub mod making;
 pub mod moved;
 pub mod moves;
