@@ -1,0 +1,150 @@
+#!/usr/bin/env python3
+"""Counts whole shaping, from a text to positioned glyphs, with callgrind.
+
+  count.py texts TEXTS FOLDER ROOT        writes the words and lines of each script into a folder, of the texts and fonts that
+                                          bindings/hooks/texts fetched
+  count.py count FOLDER LOADER [SCRIPT..] counts the programs of that folder on them, and prints a table
+
+Each program shapes a file once and three times; half of the difference is what one time takes, so that starting, reading the
+font and what is made once don't count. What all three print, the sum of the glyphs' numbers, must be the same.
+"""
+
+import concurrent.futures
+import math
+import pathlib
+import re
+import subprocess
+import sys
+
+NOTO = "usr/share/fonts/truetype/noto/Noto"
+# Each script's texts, with its code, its direction and its font.
+SCRIPTS = {
+    "Latin": ("Latn", "ltr", f"{NOTO}Sans-Regular.ttf"),
+    "Arabic": ("Arab", "rtl", f"{NOTO}NaskhArabic-Regular.ttf"),
+    "Hebrew": ("Hebr", "rtl", f"{NOTO}SansHebrew-Regular.ttf"),
+    "Devanagari": ("Deva", "ltr", f"{NOTO}SansDevanagari-Regular.ttf"),
+    "Bengali": ("Beng", "ltr", f"{NOTO}SansBengali-Regular.ttf"),
+    "Tamil": ("Taml", "ltr", f"{NOTO}SansTamil-Regular.ttf"),
+    "Malayalam": ("Mlym", "ltr", f"{NOTO}SansMalayalam-Regular.ttf"),
+    "Sinhala": ("Sinh", "ltr", f"{NOTO}SansSinhala-Regular.ttf"),
+    "Khmer": ("Khmr", "ltr", f"{NOTO}SansKhmer-Regular.ttf"),
+    "Myanmar": ("Mymr", "ltr", f"{NOTO}SansMyanmar-Regular.ttf"),
+    "Thai": ("Thai", "ltr", f"{NOTO}SansThai-Regular.ttf"),
+    "Hangul, composed": ("Hang", "ltr", "usr/share/fonts/truetype/nanum/NanumGothic.ttf"),
+    "Tibetan": ("Tibt", "ltr", f"{NOTO}SerifTibetan-Regular.ttf"),
+}
+# How many words and lines are counted, and how long a line is at least.
+WORDS, LINES, LENGTH = 60, 6, 130
+PROGRAMS = ["sengadlit", "harfrust", "harfbuzz"]
+WAYS = ["kept", "cache", "anew"]
+KINDS = ["words", "lines"]
+
+
+def spread(items, count):
+    """So many of the items, from the first to the last."""
+    step = max(1, len(items) // count)
+    return items[::step][:count]
+
+
+def lines_of(words):
+    """Words joined to lines of a length."""
+    line = ""
+    for word in words:
+        line = f"{line} {word}".strip()
+        if len(line) >= LENGTH:
+            yield line
+            line = ""
+
+
+def write_texts(texts, folder, root):
+    folder.mkdir(parents=True, exist_ok=True)
+    rows = []
+    for script, (code, direction, font) in SCRIPTS.items():
+        path = texts / f"{script}.real"
+        if not path.exists():
+            print(f"there are no words of {script}")
+            continue
+        real = [word for word in path.read_text("utf-8").split("\n") if word]
+        words = spread([word for word in real if 3 <= len(word) <= 20], WORDS)
+        (folder / f"{script}.words").write_text("".join(f"{word}\n" for word in words), "utf-8")
+        lines = list(lines_of(real[7::11]))[:LINES]
+        (folder / f"{script}.lines").write_text("".join(f"{line}\n" for line in lines), "utf-8")
+        rows.append("\t".join([script, code, direction, f"{root}/{font}"]))
+    (folder / "scripts").write_text("\n".join(rows) + "\n", "utf-8")
+
+
+def collected(command):
+    """How many instructions a command takes, and what it prints."""
+    ran = subprocess.run(["valgrind", "--tool=callgrind", "--callgrind-out-file=/dev/null", *command], capture_output=True, text=True, check=True)
+    return int(re.search(r"Collected : (\d+)", ran.stderr).group(1)), ran.stdout.strip()
+
+
+class Count:
+    def __init__(self, folder, loader):
+        self.folder = folder
+        self.commands = {
+            "sengadlit": [f"{folder}/sengadlit/target/release/sengadlit"],
+            "harfrust": [f"{folder}/harfrust/target/release/harfrust"],
+            "harfbuzz": [*loader.split(), f"{folder}/harfbuzz"],
+        }
+
+    def text(self, job):
+        """Instructions of a text, the mean over a file, and the sum that the program prints."""
+        program, way, (script, code, direction, font), kind = job
+        texts = self.folder / "texts" / f"{script}.{kind}"
+        count = len(texts.read_text("utf-8").splitlines())
+        one, three = (collected([*self.commands[program], font, str(texts), times, way, code, direction]) for times in "13")
+        return (three[0] - one[0]) / 2 / count, one[1]
+
+
+def mean(numbers):
+    numbers = list(numbers)
+    return math.exp(sum(map(math.log, numbers)) / len(numbers))
+
+
+def rows_of(rows, counts):
+    """The rows of the table: instructions of a text here, and ratios beside the peers, by kind and way."""
+    for row in rows:
+        for kind in KINDS:
+            cells = []
+            for way in WAYS:
+                own, *peers = [counts[program, way, row, kind][0] for program in PROGRAMS]
+                cells += [f"{own:.0f}", *(f"{own / peer:.2f}" for peer in peers)]
+            yield [row[0], kind, *cells]
+
+
+def print_table(rows, counts):
+    ways = [f"{way}: {what}" for way in WAYS for what in ("here", "HarfRust", "HarfBuzz")]
+    print("\t".join(["script", "texts", *ways]))
+    for cells in rows_of(rows, counts):
+        print("\t".join(cells))
+    for kind in KINDS:
+        ratios = [f"{mean(counts['sengadlit', way, row, kind][0] / counts[peer, way, row, kind][0] for row in rows):.2f}" for way in WAYS for peer in PROGRAMS[1:]]
+        print("\t".join(["mean", kind, *(cell for pair in zip(ratios[::2], ratios[1::2]) for cell in ("", *pair))]))
+
+
+def count(folder, loader, wanted):
+    rows = [tuple(line.split("\t")) for line in (folder / "texts/scripts").read_text("utf-8").splitlines()]
+    rows = [row for row in rows if not wanted or row[0] in wanted]
+    jobs = [(program, way, row, kind) for row in rows for kind in KINDS for way in WAYS for program in PROGRAMS]
+    with concurrent.futures.ThreadPoolExecutor(2) as pool:
+        counts = dict(zip(jobs, pool.map(Count(folder, loader).text, jobs)))
+    print_table(rows, counts)
+    differ = sorted({(row[0], kind) for _, _, row, kind in jobs if len({counts[p, w, row, kind][1] for p in PROGRAMS for w in WAYS}) > 1})
+    for script, kind in differ:
+        print(f"the glyphs of {script}, {kind}, aren't the same")
+    print(f"{len(jobs)} passed, {len(differ)} failed")
+    return 1 if differ else 0
+
+
+def main(words):
+    if words[:1] == ["texts"] and len(words) == 4:
+        return write_texts(*map(pathlib.Path, words[1:3]), words[3])
+    if words[:1] == ["count"] and len(words) >= 3:
+        return count(pathlib.Path(words[1]), words[2], words[3:])
+    print(__doc__.strip())
+    return 2
+
+
+if __name__ == "__main__":
+    sys.exit(main(sys.argv[1:]))
