@@ -202,6 +202,23 @@ mod tests {
         }
     }
 
+    // A range may leave its first cluster out, and have its last; what doesn't fit 32 bits is the end.
+    #[test]
+    fn clusters_are_any_range() {
+        let clusters = |start, end| {
+            let feature = UserFeature::new(Tag(*b"kern"), 1, (start, end));
+            (feature.start, feature.end)
+        };
+        let (open, most) = (Bound::Unbounded, usize::MAX);
+        assert_eq!(clusters(Bound::Included(2), Bound::Included(4)), (2, 5));
+        assert_eq!(clusters(Bound::Excluded(2), Bound::Excluded(5)), (3, 5));
+        assert_eq!(clusters(open, open), (0, END));
+        assert_eq!(
+            clusters(Bound::Excluded(most), Bound::Included(most)),
+            (END, END)
+        );
+    }
+
     // (the table of HarfBuzz's documentation of hb_feature_from_string)
     #[test]
     fn harfbuzz_syntax() {

@@ -225,3 +225,39 @@ fn write_escaped(name: &str, f: &mut fmt::Formatter<'_>) -> fmt::Result {
     }
     Ok(())
 }
+
+#[cfg(test)]
+mod tests {
+    use super::*;
+    use std::format;
+
+    // hb-shape's --no-advances: a glyph is where the pen would be, downwards too.
+    #[test]
+    fn without_advances_the_pen_is_told() {
+        let infos = [0, 1, 2].map(|cluster| GlyphInfo {
+            glyph_id: 7,
+            cluster,
+            ..GlyphInfo::DEFAULT
+        });
+        let positions = [(0, -1000, -250, -880), (20, -500, 0, 0), (0, 0, 1, 2)].map(
+            |(x_advance, y_advance, x_offset, y_offset)| GlyphPosition {
+                x_advance,
+                y_advance,
+                x_offset,
+                y_offset,
+                var: 0,
+            },
+        );
+        let flags = SerializeFlags::NO_GLYPH_NAMES | SerializeFlags::NO_ADVANCES;
+        let printed = Serialized {
+            infos: &infos,
+            positions: &positions,
+            face: None,
+            flags,
+        };
+        assert_eq!(
+            format!("{printed}"),
+            "[7=0@-250,-880|7=1@0,-1000|7=2@21,-1498]"
+        );
+    }
+}
