@@ -1,17 +1,45 @@
 //! Script shapers of text layout: Arabic, Hangul, Hebrew, the Indic scripts, Khmer, Myanmar, Thai and
 //! Lao, and the universal shaper.
 //!
-//! They are the hooks of rustybuzz's shapers, which rewrite a buffer of glyphs between Unicode text
-//! and a font's lookups. Beside the hooks, [`spans`] finds the syllables that they take, and `unicode`
-//! has Unicode's tables. `ot_shape` takes a text the whole way to positioned glyphs, with a caller's
-//! font and lookups, and `opentype` does so with a font file's. The crate has no dependencies and no
+//! The module `opentype` takes a font's bytes and a text to positioned glyphs in one call, with
+//! rustybuzz's names.
+//! The hooks of rustybuzz's shapers, which rewrite a buffer of glyphs between Unicode text and a font's
+//! lookups, serve engines with lookups of their own; what is around them is the caller's then. Beside the
+//! hooks, [`spans`] finds the syllables that they take, `unicode` has Unicode's tables, and `ot_shape`
+//! takes a text the whole way with a caller's font and lookups. The crate has no dependencies and no
 //! `unsafe`, and needs `alloc` alone.
 //!
 //! It is generated from proved sources, by deleting their contracts, and its functions are called
 //! beside those that were proved, with the same arguments; the contract of each is in its
 //! documentation. The repository's docs/TRUST.md says what that shows, and of which functions.
 //!
-//! # Quick start
+//! # Quick start: a font file and a text
+//!
+//! ```no_run
+//! let data = std::fs::read("NotoSansKhmer-Regular.ttf")?;
+//! let face = sengadlit::Face::parse(&data, 0)?;
+//! let mut text = sengadlit::UnicodeBuffer::new();
+//! text.push_str("ខ្មែរ");
+//! let glyphs = sengadlit::shape(&face, &[], text);
+//! println!("{}", glyphs.serialize(&face, sengadlit::SerializeFlags::default()));
+//! # Ok::<(), Box<dyn std::error::Error>>(())
+//! ```
+//!
+//! # The names at the root
+//!
+//! | names | for |
+//! |---|---|
+//! | `Face`, `FaceError`, `GlyphExtents` | a font file |
+//! | `UnicodeBuffer`, `Feature`, `Language`, `LanguageError`; [`Script`], [`Direction`], [`Tag`], [`BufferFlags`], [`BufferClusterLevel`] | a text, and what is known and wanted of it |
+//! | `shape`, `try_shape`, `ShapeError` | a text is shaped |
+//! | `ShapePlan`, `PlanCache`, `shape_with_plan`, `shape_with_cache`, `try_shape_with_plan`, `try_shape_with_cache` | many texts are shaped |
+//! | `GlyphBuffer`, `SerializeFlags`; [`GlyphInfo`], [`GlyphPosition`] | glyphs with their positions |
+//! | [`Buffer`], [`Shaper`], [`run_pause`], [`Pause`], [`Span`], [`ShaperError`] | the hooks, and what they rewrite |
+//! | [`Plan`], [`PlanData`], [`Planner`], [`Request`], [`Preprocess`], [`JoiningType`], [`Map`], [`FeatureMap`] | what a shaper decides before a text is seen |
+//! | [`Font`], [`GlyphId`], [`Tables`] | what hooks read of a font and of Unicode |
+//! | [`GeneralCategory`], [`GlyphProps`], [`LigProps`], [`UnicodeProps`], [`UnknownNumber`] | what a glyph keeps of its character and of lookups, and numbers of enums |
+//!
+//! # A hook alone
 //!
 //! Thai: SARA AM becomes NIKHAHIT and SARA AA, and NIKHAHIT goes before the tone.
 //!

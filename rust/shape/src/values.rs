@@ -67,44 +67,14 @@ fn whole(text: &str) -> Result<i32, String> {
         .ok_or_else(|| format!("{text} is too large"))
 }
 
-/// A direction by its first letter, as HarfBuzz reads it.
+/// A direction, as HarfBuzz reads it.
 pub fn direction(value: &[u8]) -> Result<Direction, String> {
-    match value.first().map(u8::to_ascii_lowercase) {
-        Some(b'l') => Ok(Direction::LeftToRight),
-        Some(b'r') => Ok(Direction::RightToLeft),
-        Some(b't') => Ok(Direction::TopToBottom),
-        Some(b'b') => Ok(Direction::BottomToTop),
-        _ => Err("it is ltr, rtl, ttb or btt".into()),
-    }
+    Ok(text(value)?.parse()?)
 }
-
-/// Codes that stand for another script. (HarfBuzz's `hb_script_from_iso15924_tag`.)
-const OTHER_CODES: [(&[u8; 4], &[u8; 4]); 13] = [
-    (b"Qaai", b"Zinh"),
-    (b"Qaac", b"Copt"),
-    (b"Aran", b"Arab"),
-    (b"Cyrs", b"Cyrl"),
-    (b"Geok", b"Geor"),
-    (b"Hans", b"Hani"),
-    (b"Hant", b"Hani"),
-    (b"Jamo", b"Hang"),
-    (b"Latf", b"Latn"),
-    (b"Latg", b"Latn"),
-    (b"Syre", b"Syrc"),
-    (b"Syrj", b"Syrc"),
-    (b"Syrn", b"Syrc"),
-];
 
 /// A script by its code of four letters in ISO 15924.
 pub fn script(value: &[u8]) -> Result<Script, String> {
-    let letters = <[u8; 4]>::try_from(value).ok();
-    let mut code = letters
-        .filter(|code| code.iter().all(u8::is_ascii_alphabetic))
-        .ok_or("it is a code of four letters, as Latn")?;
-    code.make_ascii_lowercase();
-    code[0].make_ascii_uppercase();
-    let other = OTHER_CODES.iter().find(|(from, _)| **from == code);
-    Ok(Script(other.map_or(code, |(_, to)| **to)))
+    Ok(text(value)?.parse()?)
 }
 
 /// A language by its tag in BCP 47; an empty one is none.
@@ -220,15 +190,13 @@ mod tests {
     }
 
     #[test]
-    fn scripts_and_directions() {
+    fn names() {
         assert_eq!(script(b"khmr"), Ok(Script(*b"Khmr")));
-        assert_eq!(script(b"ARAN"), Ok(Script(*b"Arab")));
-        for wrong in [&b""[..], b"Kh", b"Khmer", b"Kh1r"] {
-            assert!(script(wrong).is_err(), "{wrong:?}");
-        }
-        assert_eq!(direction(b"Right-to-left"), Ok(Direction::RightToLeft));
-        assert_eq!(direction(b"b"), Ok(Direction::BottomToTop));
-        assert!(direction(b"").is_err() && direction(b"up").is_err());
+        assert_eq!(direction(b"rtl"), Ok(Direction::RightToLeft));
+        assert!(script(b"Kh").is_err() && direction(b"\xFF").is_err());
+        assert_eq!(language(b""), Ok(None));
+        assert_eq!(language(b"en_GB"), Ok("en-gb".parse().ok()));
+        assert!(language(b"\xFF").is_err());
     }
 
     #[test]

@@ -47,11 +47,11 @@ fn arguments() {
         ),
         (
             &["--direction=up"],
-            "--direction: it is ltr, rtl, ttb or btt",
+            "--direction: a direction is ltr, rtl, ttb or btt",
         ),
         (
-            &["--script=Latin"],
-            "--script: it is a code of four letters, as Latn",
+            &["--script=Lat"],
+            "--script: a script is a code of four letters, as Latn",
         ),
         (
             &["--features=kern,toolong"],
