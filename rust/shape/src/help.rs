@@ -1,6 +1,7 @@
 //! The help text, which is made of the table of options.
 
-use crate::options::{Effect, Entry, GROUPS, Group, HIDDEN, REFUSED};
+use crate::man;
+use crate::options::{Entry, GROUPS, Group, HIDDEN, REFUSED};
 
 /// Where what an option does begins in a line.
 const COLUMN: usize = 44;
@@ -15,15 +16,19 @@ Help options:
   -h, --help                                Show help options
   --help-GROUP                              Show those of a group: face, font, text, text-context,
                                             shape, features, output, output-syntax, own; all
+  --help-man                                Print this as a manual page
 
 ";
 
-const TAIL: &str = "\
-Output syntax:
+/// What is printed of a glyph.
+pub const FORMATS: &str = "\
   text: [<glyph name or index>=<cluster>@<x offset>,<y offset>+<x advance>,<y advance>|...]
   json: [{\"g\": <glyph name or index>, \"cl\": <cluster>, \"dx\": <x offset>, \"dy\": <y offset>,
         \"ax\": <x advance>, \"ay\": <y advance>}, ...]
+";
 
+/// What the program is, and how it ends.
+pub const SUMMARY: &str = "\
 The options and the output are those of HarfBuzz's hb-shape. A variable font is shaped at its default
 instance. Exit status: 0; 1 where an argument or a file that it names can't be used; 2 where the font
 can't; 3 where a line couldn't be shaped or the output written; 4 for unknown font functions.
@@ -35,13 +40,15 @@ pub fn whole() -> String {
     let refused: Vec<String> = REFUSED.iter().map(|name| format!("--{name}")).collect();
     let refused = wrapped(&refused);
     let title = "Options of hb-shape that aren't supported:";
-    format!("{HEAD}{}\n{title}\n{refused}\n{TAIL}", groups.join("\n"))
+    let groups = groups.join("\n");
+    format!("{HEAD}{groups}\n{title}\n{refused}\nOutput syntax:\n{FORMATS}\n{SUMMARY}")
 }
 
 /// The help that an option of this name asks for, if it is one for help.
 pub fn asked_for(name: &[u8]) -> Option<String> {
     match name {
         b"help" | b"help-all" => Some(whole()),
+        b"help-man" => Some(man::page()),
         _ => {
             let name = name.strip_prefix(b"help-")?;
             let found = GROUPS.iter().find(|group| group.name.as_bytes() == name);
@@ -59,12 +66,8 @@ fn group(group: &Group) -> String {
 
 /// An option with what it does, which has lines of its own where it has several or the name is long.
 fn line(entry: &Entry) -> String {
-    let letter = entry.letter.map(|letter| format!("-{letter}, "));
-    let value = match entry.effect {
-        Effect::Value(what, _) => format!("={what}"),
-        Effect::Flag(_) | Effect::Print(_) => String::new(),
-    };
-    let option = format!("  {}--{}{value}", letter.unwrap_or_default(), entry.name);
+    let [letter, value] = [entry.letter_shown(), entry.value_shown()];
+    let option = format!("  {letter}--{}{value}", entry.name);
     let between = if option.len() + 1 < COLUMN {
         " ".repeat(COLUMN - option.chars().count())
     } else {

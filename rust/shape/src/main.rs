@@ -7,6 +7,7 @@ mod fault;
 mod font;
 mod help;
 mod input;
+mod man;
 mod options;
 mod output;
 mod run;

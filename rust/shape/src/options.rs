@@ -28,6 +28,22 @@ pub struct Entry {
     pub help: &'static str,
 }
 
+impl Entry {
+    /// The letter that stands for it, with what is between that and the name.
+    pub fn letter_shown(&self) -> String {
+        let letter = self.letter.map(|letter| format!("-{letter}, "));
+        letter.unwrap_or_default()
+    }
+
+    /// What its value is called, behind the name.
+    pub fn value_shown(&self) -> String {
+        match self.effect {
+            Effect::Value(what, _) => format!("={what}"),
+            Effect::Flag(_) | Effect::Print(_) => String::new(),
+        }
+    }
+}
+
 /// What an option does.
 pub enum Effect {
     /// It sets something.

@@ -219,6 +219,23 @@ fn batches() {
 }
 
 #[test]
+fn the_manual_page_has_each_option() {
+    let (help, page) = (run(&["--help"]).success(), run(&["--help-man"]).success());
+    assert!(page.starts_with(".TH SENGADLIT\\-SHAPE 1 "));
+    let is_name = |c: char| c == '-' || c.is_ascii_alphanumeric();
+    let words = help.split(|c: char| !is_name(c));
+    let options: Vec<_> = words.filter(|word| word.starts_with("--")).collect();
+    assert!(options.len() > 60);
+    for option in options
+        .iter()
+        .filter(|option| !option.starts_with("--help"))
+    {
+        let name = option.replace('-', "\\-");
+        assert!(page.contains(&name), "{option}");
+    }
+}
+
+#[test]
 fn help_and_versions() {
     let help = run(&["--help"]).success();
     assert_eq!(run(&["-h"]).success(), help);
