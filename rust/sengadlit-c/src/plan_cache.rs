@@ -77,3 +77,41 @@ impl PlanCache {
         self.entries.borrow_mut().clear();
     }
 }
+
+#[cfg(test)]
+mod tests {
+    use super::{Entry, MOST_PLANS, PlanCache, PlanOf};
+    use sengadlit::buffer::Direction;
+    use sengadlit::opentype::{Face, ShapePlan};
+    use sengadlit::ot_shape_normalize::Rounds;
+    use sengadlit::plan::{BaseSearch, BreakFlags};
+
+    fn of(face: u64) -> PlanOf {
+        PlanOf {
+            face,
+            script: None,
+            direction: Direction::LeftToRight,
+            language: None,
+            rounds: Rounds::AsCode,
+            break_flags: BreakFlags::AsCode,
+            base_search: BaseSearch::AllConsonants,
+        }
+    }
+
+    #[test]
+    fn the_plan_goes_that_was_not_used_for_longest() {
+        let face = Face::parse(include_bytes!("../../../fonts/sample.ttf"), 0).unwrap();
+        let cache = PlanCache::default();
+        let make = |number| {
+            let plan = ShapePlan::builder().build(&face).unwrap();
+            cache.put(Entry::new(of(number), &[], plan).unwrap());
+        };
+        (0..MOST_PLANS as u64).for_each(make);
+        cache.put(cache.take(&of(0), &[]).unwrap());
+        make(99);
+        assert_eq!(cache.len(), MOST_PLANS);
+        let is_there = |number| cache.take(&of(number), &[]).is_some();
+        assert_eq!([0, 1, 2, 99].map(is_there), [true, false, true, true]);
+        assert!(!is_there(0));
+    }
+}

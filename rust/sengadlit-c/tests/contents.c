@@ -166,6 +166,18 @@ static void try_shaped_twice(void)
               sengadlit_buffer_is_complete(buffer));
     (void)sengadlit_buffer_set_length(buffer, 1);
     check("cut", !sengadlit_buffer_is_complete(buffer));
+    /* The flags say what becomes of a character that isn't drawn: it is a space, or as it is, or gone. */
+    for (unsigned int i = 0; i < 3; i++) {
+        static const uint32_t flags[] = {0, SENGADLIT_BUFFER_FLAG_PRESERVE_DEFAULT_IGNORABLES,
+                  SENGADLIT_BUFFER_FLAG_REMOVE_DEFAULT_IGNORABLES};
+        static const uint32_t wanted[] = {' ', 0x200B, 'b'};
+        const sengadlit_buffer_properties_t properties = {sizeof properties, 0, SENGADLIT_DIRECTION_INVALID,
+                                                          SENGADLIT_BUFFER_CLUSTER_LEVEL_MONOTONE_GRAPHEMES, flags[i], 0};
+        set_text(buffer, "a\u200Bb");
+        check("flags", sengadlit_buffer_set_properties(buffer, &properties) == SENGADLIT_DONE &&
+                           sengadlit_shape(plan, &world.font, &lookups, buffer) == SENGADLIT_DONE);
+        check("what isn't drawn", sengadlit_buffer_read_glyphs(buffer, NULL)[1].glyph_id == wanted[i]);
+    }
     sengadlit_shape_plan_destroy(plan);
     end_world();
 }
@@ -205,6 +217,9 @@ static void try_properties(void)
     set.direction = SENGADLIT_DIRECTION_INVALID;
     check("cleared", are_properties(&set));
     check("into nothing", is_refused(buffer, sengadlit_buffer_get_properties(buffer, NULL), SENGADLIT_ARGUMENT_PROPERTIES));
+    sengadlit_buffer_reset(buffer);
+    check("reset", are_properties(&zero));
+    (void)sengadlit_buffer_set_properties(buffer, &set);
     found.size = 8;
     found.flags = set.flags;
     check("into too little", is_refused(buffer, sengadlit_buffer_get_properties(buffer, &found),

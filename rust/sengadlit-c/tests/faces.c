@@ -277,6 +277,23 @@ static void try_properties(void)
     check("a new buffer's", has_properties(0, SENGADLIT_DIRECTION_INVALID));
 }
 
+/* What the options choose comes before what the buffer has. */
+static void try_precedence(void)
+{
+    const sengadlit_buffer_properties_t properties = {sizeof properties, SENGADLIT_TAG('L', 'a', 't', 'n'),
+              SENGADLIT_DIRECTION_RTL,
+                                                      SENGADLIT_BUFFER_CLUSTER_LEVEL_MONOTONE_GRAPHEMES, 0, 0};
+    sengadlit_shape_options_t options = no_options();
+
+    options.direction = SENGADLIT_DIRECTION_LTR;
+    options.script = SENGADLIT_TAG('A', 'r', 'a', 'b');
+    sengadlit_buffer_reset(buffer);
+    check("the buffer's", sengadlit_buffer_set_properties(buffer, &properties) == SENGADLIT_DONE &&
+                              sengadlit_buffer_add_utf8(buffer, "fi", -1, 0, -1) == SENGADLIT_DONE);
+    check("the options'", sengadlit_shape_buffer(face, &options, buffer) == SENGADLIT_DONE && is_line("[f=0+340|i=1+220]"));
+    check("the options', kept", has_properties(options.script, options.direction));
+}
+
 /* A context joins: BEH at the end of a word. */
 static void try_context(void)
 {
@@ -293,6 +310,26 @@ static void try_context(void)
     check("a context that goes", sengadlit_buffer_set_context(buffer, NULL, 0, &beh, 1) == SENGADLIT_DONE &&
                                      sengadlit_shape_utf8(face, "\u0628", -1, NULL, buffer) == SENGADLIT_DONE);
     check("BEH alone", is_line("[beh-ar=0+720]"));
+    unsigned int before = 7, after = 7;
+    check("no context", sengadlit_buffer_get_context(buffer, NULL, &before, NULL, &after) == SENGADLIT_DONE &&
+              before + after == 0);
+    sengadlit_buffer_set_state(buffer, SENGADLIT_BUFFER_STATE_HAS_BROKEN_SYLLABLE);
+    check("no state", sengadlit_shape_utf8(face, "T", -1, NULL, buffer) == SENGADLIT_DONE &&
+              sengadlit_buffer_get_state(buffer) == 0);
+}
+
+/* What the buffer's level says of the clusters of a letter and a mark. */
+static void try_levels(void)
+{
+    sengadlit_buffer_properties_t properties = SENGADLIT_INIT(sengadlit_buffer_properties_t);
+
+    sengadlit_buffer_reset(buffer);
+    check("graphemes", sengadlit_shape_utf8(face, "u\u0323", -1, NULL, buffer) == SENGADLIT_DONE &&
+                           sengadlit_buffer_read_glyphs(buffer, NULL)[1].cluster == 0);
+    properties.cluster_level = SENGADLIT_BUFFER_CLUSTER_LEVEL_CHARACTERS;
+    check("a level", sengadlit_buffer_set_properties(buffer, &properties) == SENGADLIT_DONE);
+    check("characters", sengadlit_shape_utf8(face, "u\u0323", -1, NULL, buffer) == SENGADLIT_DONE &&
+                            sengadlit_buffer_read_glyphs(buffer, NULL)[1].cluster == 1);
 }
 
 /* ---- Options ---- */
@@ -346,6 +383,35 @@ static void try_fonts(void)
     check("called back, shaped", is_line("[T=0+490|o=1+560|fi=2+520]"));
 }
 
+/* A glyph of vertical text stands in the middle of the width that is used. */
+static void try_vertical(void)
+{
+    sengadlit_font_funcs_t funcs = SENGADLIT_INIT(sengadlit_font_funcs_t);
+    const sengadlit_font_t font = {&funcs, NULL};
+    sengadlit_shape_options_t options = no_options();
+
+    options.direction = SENGADLIT_DIRECTION_TTB;
+    check("downwards", sengadlit_shape_utf8(face, "T", -1, &options, buffer) == SENGADLIT_DONE);
+    check("in the middle", sengadlit_buffer_read_positions(buffer, NULL)[0].x_offset == -290);
+    check("a step downwards", sengadlit_buffer_read_positions(buffer, NULL)[0].y_advance < 0);
+    funcs.glyph_h_advance = seven;
+    options.font = &font;
+    check("by another width", sengadlit_shape_utf8(face, "T", -1, &options, buffer) == SENGADLIT_DONE);
+    check("in its middle", sengadlit_buffer_read_positions(buffer, NULL)[0].x_offset == -3);
+}
+
+/* Letters of Syriac join, also in a font that has none of them. */
+static void try_sound_breaks(void)
+{
+    sengadlit_shape_options_t options = no_options();
+
+    check("as HarfBuzz", sengadlit_shape_utf8(face, "\u0759\u0710", -1, &options, buffer) == SENGADLIT_DONE &&
+                             (sengadlit_buffer_read_glyphs(buffer, NULL)[0].mask & SENGADLIT_GLYPH_FLAG_UNSAFE_TO_BREAK) == 0);
+    options.sound_breaks = 1;
+    check("sound", sengadlit_shape_utf8(face, "\u0759\u0710", -1, &options, buffer) == SENGADLIT_DONE &&
+                       (sengadlit_buffer_read_glyphs(buffer, NULL)[0].mask & SENGADLIT_GLYPH_FLAG_UNSAFE_TO_BREAK) != 0);
+}
+
 static void try_features(void)
 {
     const sengadlit_user_feature_t no_ligature = {SENGADLIT_TAG('l', 'i', 'g', 'a'), 0, 0, UINT32_MAX};
@@ -374,7 +440,8 @@ static void try_languages(void)
     check("the same", sengadlit_shape_utf8(face, "fi", -1, &options, buffer) == SENGADLIT_DONE && is_line("[fi=0+520]"));
     check("by one plan", sengadlit_plan_cache_get_length(cache) == 1);
     options.language = "x-hbscarab";
-    check("of a script", sengadlit_shape_utf8(face, "fi", -1, &options, buffer) == SENGADLIT_DONE && is_line("[f=0+340|i=1+220]"));
+    check("of a script", sengadlit_shape_utf8(face, "fi", -1, &options, buffer) == SENGADLIT_DONE &&
+              is_line("[f=0+340|i=1+220]"));
     check("by another plan", sengadlit_plan_cache_get_length(cache) == 2);
 }
 
@@ -576,8 +643,12 @@ int main(int argc, char **argv)
     try_words();
     try_encodings();
     try_properties();
+    try_precedence();
     try_context();
+    try_levels();
     try_fonts();
+    try_vertical();
+    try_sound_breaks();
     try_features();
     try_languages();
     try_replaced_glyphs();
