@@ -3,8 +3,10 @@
 //! font. It stops between clusters; and within one whose graphemes are drawn as one glyph, a
 //! ligature, by GDEF's carets or else at equal distances.
 //!
-//!     --svg FILE        draws the text with a stroke for each place
-//!     --script CODE, --direction ltr|rtl   instead of those of the first letter
+//! ```text
+//! --svg FILE        draws the text with a stroke for each place
+//! --script CODE, --direction ltr|rtl   instead of those of the first letter
+//! ```
 
 use sengadlit::{Direction, Face, ShapePlan};
 use sengadlit_examples::arguments::Arguments;

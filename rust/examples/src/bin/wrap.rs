@@ -2,10 +2,12 @@
 //! shaped once, and at the ends of lines again only where a flag says so; a line of output tells
 //! how many of a line's clusters were, and whether the line is as if it had been shaped alone.
 //!
-//!     --anywhere        breaks between any two clusters, not only behind spaces
-//!     --sound           by flags that are sound where letters join, too (`BreakFlags::Sound`)
-//!     --svg FILE        draws the lines
-//!     --script CODE, --direction ltr|rtl   instead of those of the first letter
+//! ```text
+//! --anywhere        breaks between any two clusters, not only behind spaces
+//! --sound           by flags that are sound where letters join, too (`BreakFlags::Sound`)
+//! --svg FILE        draws the lines
+//! --script CODE, --direction ltr|rtl   instead of those of the first letter
+//! ```
 
 use sengadlit::plan::BreakFlags;
 use sengadlit::{Direction, Face, GlyphInfo, GlyphPosition, ShapePlan};
