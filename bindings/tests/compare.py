@@ -26,8 +26,8 @@ import threading
 
 RESULTS = pathlib.Path(__file__).resolve().parent / "results.txt"
 FOLDERS = ["aots", "in-house", "text-rendering-tests"]
-# Options that the program refuses, or whose value here it refuses.
-REFUSED = ["--font-slant", "--font-bold", "--not-found-variation-selector-glyph"]
+# Options that the program refuses.
+REFUSED = ["--font-slant", "--font-bold"]
 AAT = ["morx", "mort", "kerx", "trak", "ankr"]
 ARABIC_FORMS = "--features=-init,-medi,-fina,-isol,-rlig"
 
@@ -142,14 +142,9 @@ class Reasons:
             "dfont": lambda case: case.font.endswith(".dfont") and self.is_refused(case),
             "aat": lambda case: self.is_by_tables(case, AAT),
             "kern": lambda case: self.is_by_tables(case, ["kern"]),
-            "language": lambda case: case.has("--language") and self.agree(case, without=["--language"]),
             "other-shaper": lambda case: case.has("--shaper") and self.agree(case, without=["--shaper"]),
             "scaled": lambda case: case.has("--font-size") and self.agree(case, without=["--font-size"]),
-            "extents": lambda case: self.needs_boxes_of_cff(case) and self.agree(case, "--no-positions"),
-            "vertical": lambda case: case.has("--direction") and self.agree(case, "--no-positions"),
             "marks": lambda case: self.lacks(case, "GPOS") and self.agree(case, "--no-positions"),
-            "contexts": lambda case: self.has_contexts(case) and self.agree(case, "--no-positions"),
-            "graphemes": lambda case: "--cluster-level=3" in case.options and self.agree(case, "--no-clusters", "--no-positions"),
             "arabic-fallback": self.is_by_arabic_forms,
             "random": lambda case: not case.has("--features") and self.agree(case, "--features=rand=1"),
             "overlapping": lambda case: os.path.basename(case.font) == "HarfBust.ttf",
@@ -180,32 +175,8 @@ class Reasons:
         are_equal = self.agree(case, "--no-positions")
         return not are_equal and self.lacks(case, "GSUB") and self.agree(case, ARABIC_FORMS, "--no-positions")
 
-    def has_contexts(self, case):
-        """Whether GPOS has lookups of type 7 or 8, also by type 9."""
-        data = pathlib.Path(case.font).read_bytes()
-        if "GPOS" not in read_directory(data):
-            return False
-        _, table, _ = read_directory(data)["GPOS"]
-
-        def number(*places):
-            return struct.unpack_from(">H", data, sum(places))[0]
-
-        lookups = table + number(table, 8)
-        for index in range(number(lookups)):
-            lookup = lookups + number(lookups, 2, 2 * index)
-            kind = number(lookup)
-            if kind == 9:
-                kind = number(lookup, number(lookup, 6), 2)
-            if kind in (7, 8):
-                return True
-        return False
-
     def lacks(self, case, tag):
         return tag not in read_directory(pathlib.Path(case.font).read_bytes())
-
-    def needs_boxes_of_cff(self, case):
-        is_cff = not self.lacks(case, "CFF ") or not self.lacks(case, "CFF2")
-        return is_cff and (case.has("--direction", "--show-extents") or self.lacks(case, "GPOS"))
 
 
 def outcome(case, program, peer, reasons):
