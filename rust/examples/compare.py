@@ -1,9 +1,9 @@
 #!/usr/bin/env python3
 """Compares what `sengadlit-shape` and hb-shape make of the same texts: glyphs, clusters, positions and the flag `unsafe to break`.
 
-    compare.py ROOT TEXTS SHAPE HB-SHAPE..
+    compare.py [--first N] ROOT TEXTS SHAPE HB-SHAPE..
 
-ROOT has Debian's packages of fonts, TEXTS what bindings/hooks/texts wrote; HB-SHAPE is a command of several words. For
+With --first it takes so many texts of each kind alone. ROOT has Debian's packages of fonts, TEXTS what bindings/hooks/texts wrote; HB-SHAPE is a command of several words. For
 each script and font a line tells how many texts of each kind are equal; then there is a line for each reason of a
 difference. A text that differs for no known reason fails. The last line is 'N passed, M failed'.
 """
@@ -15,6 +15,7 @@ import pathlib
 import re
 import subprocess
 import sys
+import tempfile
 import unicodedata
 
 # The scripts of bindings/hooks/texts by ISO 15924, those that run from right to left, and those of the universal shaper.
@@ -105,10 +106,13 @@ def has_symbol_with_sign(text):
     return any(kind not in "LM" and behind == "M" for kind, behind in zip(kinds, kinds[1:]))
 
 
-def compare(font, path):
+def compare(font, path, first):
     """How many texts of a file are equal, the reasons of the others, and those without a reason."""
-    texts = pathlib.Path(path).read_text(encoding="utf-8").split("\n")[:-1]
-    mine, theirs = font.shape(path)
+    texts = pathlib.Path(path).read_text(encoding="utf-8").split("\n")[:-1][:first]
+    with tempfile.NamedTemporaryFile("w", encoding="utf-8", suffix=".txt") as file:
+        file.write("".join(f"{text}\n" for text in texts))
+        file.flush()
+        mine, theirs = font.shape(file.name)
     if not len(mine) == len(theirs) == len(texts):
         raise SystemExit(f"compare.py: {path} has {len(texts)} lines, and the outputs {len(mine)} and {len(theirs)}")
     reasons, unknown = collections.Counter(), []
@@ -122,9 +126,12 @@ def compare(font, path):
 
 
 def main():
-    if len(sys.argv) < 5:
+    arguments, first = sys.argv[1:], None
+    if arguments[:1] == ["--first"]:
+        first, arguments = int(arguments[1]), arguments[2:]
+    if len(arguments) < 4:
         raise SystemExit(__doc__)
-    root, folder, shape, hb_shape = sys.argv[1], sys.argv[2], [sys.argv[3]], sys.argv[4:]
+    root, folder, shape, hb_shape = arguments[0], arguments[1], [arguments[2]], arguments[3:]
     work = []
     for line in pathlib.Path(folder, "scripts").read_text(encoding="utf-8").splitlines():
         script, *fonts = line.split("\t")
@@ -132,7 +139,7 @@ def main():
     paths = [(script, font, kind, f"{folder}/{script}.{kind}") for script, font in work for kind in KINDS]
     paths = [row for row in paths if os.path.getsize(row[3])]
     with concurrent.futures.ThreadPoolExecutor(2) as pool:
-        results = list(pool.map(lambda row: compare(row[1], row[3]), paths))
+        results = list(pool.map(lambda row: compare(row[1], row[3], first), paths))
     equal, reasons, all_unknown, lines = 0, collections.Counter(), [], collections.defaultdict(list)
     for (script, font, kind, _), (same, why, unknown) in zip(paths, results):
         lines[script, os.path.basename(font.path)].append(f"{kind} {same} of {same + sum(why.values())}")
