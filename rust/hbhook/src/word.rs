@@ -4,125 +4,17 @@ mod far;
 
 use crate::whole_font::second_specification;
 use sengadlit::alloc::Global;
-use sengadlit::buffer::UnicodeProps;
 use sengadlit::font::FeaturesOnly;
 use sengadlit::map::F_GLOBAL;
-use sengadlit::ot_shape_prepare::ensure_native_direction;
 use sengadlit::unicode::{UnicodeTables, decompose, general_category};
-use sengadlit::{
-    Buffer, Direction, GeneralCategory, GlyphInfo, Pause, Plan, Planner, Request, Script, Shaper,
-    Tag,
-};
-
-/// The scripts by their own blocks of Unicode: the first and the last character, and the code.
-const SCRIPTS: [(char, char, [u8; 4]); 44] = [
-    ('\u{0591}', '\u{05F4}', *b"Hebr"),
-    ('\u{0600}', '\u{06FF}', *b"Arab"),
-    ('\u{0700}', '\u{074F}', *b"Syrc"),
-    ('\u{07C0}', '\u{07FF}', *b"Nkoo"),
-    ('\u{0840}', '\u{085E}', *b"Mand"),
-    ('\u{0900}', '\u{097F}', *b"Deva"),
-    ('\u{0980}', '\u{09FE}', *b"Beng"),
-    ('\u{0A01}', '\u{0A76}', *b"Guru"),
-    ('\u{0A81}', '\u{0AFF}', *b"Gujr"),
-    ('\u{0B01}', '\u{0B77}', *b"Orya"),
-    ('\u{0B82}', '\u{0BFA}', *b"Taml"),
-    ('\u{0C00}', '\u{0C7F}', *b"Telu"),
-    ('\u{0C80}', '\u{0CF3}', *b"Knda"),
-    ('\u{0D00}', '\u{0D7F}', *b"Mlym"),
-    ('\u{0D81}', '\u{0DF4}', *b"Sinh"),
-    ('\u{0E01}', '\u{0E5B}', *b"Thai"),
-    ('\u{0E81}', '\u{0EDF}', *b"Laoo"),
-    ('\u{0F00}', '\u{0FDA}', *b"Tibt"),
-    ('\u{1000}', '\u{109F}', *b"Mymr"),
-    ('\u{1100}', '\u{11FF}', *b"Hang"),
-    ('\u{1700}', '\u{171F}', *b"Tglg"),
-    ('\u{1780}', '\u{17F9}', *b"Khmr"),
-    ('\u{1800}', '\u{18AA}', *b"Mong"),
-    ('\u{1900}', '\u{194F}', *b"Limb"),
-    ('\u{1950}', '\u{1974}', *b"Tale"),
-    ('\u{1A00}', '\u{1A1F}', *b"Bugi"),
-    ('\u{1A20}', '\u{1AAD}', *b"Lana"),
-    ('\u{1B00}', '\u{1B7F}', *b"Bali"),
-    ('\u{1B80}', '\u{1BBF}', *b"Sund"),
-    ('\u{1BC0}', '\u{1BFF}', *b"Batk"),
-    ('\u{1C00}', '\u{1C4F}', *b"Lepc"),
-    ('\u{2D30}', '\u{2D7F}', *b"Tfng"),
-    ('\u{A800}', '\u{A82C}', *b"Sylo"),
-    ('\u{A880}', '\u{A8D9}', *b"Saur"),
-    ('\u{A900}', '\u{A92F}', *b"Kali"),
-    ('\u{A930}', '\u{A95F}', *b"Rjng"),
-    ('\u{A980}', '\u{A9DF}', *b"Java"),
-    ('\u{AA00}', '\u{AA5F}', *b"Cham"),
-    ('\u{AA80}', '\u{AADF}', *b"Tavt"),
-    ('\u{ABC0}', '\u{ABF9}', *b"Mtei"),
-    ('\u{AC00}', '\u{D7FB}', *b"Hang"),
-    ('\u{11100}', '\u{11147}', *b"Cakm"),
-    ('\u{11400}', '\u{11461}', *b"Newa"),
-    ('\u{1E900}', '\u{1E95F}', *b"Adlm"),
-];
-
-// The names of these scripts in Unicode, each with its code.
-const NAMES: [(&str, [u8; 4]); 43] = [
-    ("Hebrew", *b"Hebr"),
-    ("Arabic", *b"Arab"),
-    ("Syriac", *b"Syrc"),
-    ("Nko", *b"Nkoo"),
-    ("Mandaic", *b"Mand"),
-    ("Devanagari", *b"Deva"),
-    ("Bengali", *b"Beng"),
-    ("Gurmukhi", *b"Guru"),
-    ("Gujarati", *b"Gujr"),
-    ("Oriya", *b"Orya"),
-    ("Tamil", *b"Taml"),
-    ("Telugu", *b"Telu"),
-    ("Kannada", *b"Knda"),
-    ("Malayalam", *b"Mlym"),
-    ("Sinhala", *b"Sinh"),
-    ("Thai", *b"Thai"),
-    ("Lao", *b"Laoo"),
-    ("Tibetan", *b"Tibt"),
-    ("Myanmar", *b"Mymr"),
-    ("Hangul", *b"Hang"),
-    ("Tagalog", *b"Tglg"),
-    ("Khmer", *b"Khmr"),
-    ("Mongolian", *b"Mong"),
-    ("Limbu", *b"Limb"),
-    ("Tai_Le", *b"Tale"),
-    ("Buginese", *b"Bugi"),
-    ("Tai_Tham", *b"Lana"),
-    ("Balinese", *b"Bali"),
-    ("Sundanese", *b"Sund"),
-    ("Batak", *b"Batk"),
-    ("Lepcha", *b"Lepc"),
-    ("Tifinagh", *b"Tfng"),
-    ("Syloti_Nagri", *b"Sylo"),
-    ("Saurashtra", *b"Saur"),
-    ("Kayah_Li", *b"Kali"),
-    ("Rejang", *b"Rjng"),
-    ("Javanese", *b"Java"),
-    ("Cham", *b"Cham"),
-    ("Tai_Viet", *b"Tavt"),
-    ("Meetei_Mayek", *b"Mtei"),
-    ("Chakma", *b"Cakm"),
-    ("Newa", *b"Newa"),
-    ("Adlam", *b"Adlm"),
-];
+use sengadlit::{Direction, Pause, Plan, Planner, Request, Script, Shaper, Tag, script};
 
 /// The line of the hook before normalization.
 pub(crate) const PREPROCESS: &str = "run preprocess";
 
-/// Whether a script's text runs from right to left: the pipeline turns a letter that runs the other
-/// way.
+/// Whether a script's text runs from right to left.
 pub(crate) fn runs_from_right(script: Script) -> bool {
-    let letter = GlyphInfo {
-        unicode_props: UnicodeProps::new(GeneralCategory::Lo, 0),
-        ..GlyphInfo::DEFAULT
-    };
-    let mut text: Buffer = [letter].into_iter().collect();
-    text.set_script(Some(script));
-    ensure_native_direction(&mut text);
-    text.direction() == Direction::RightToLeft
+    script.direction() == Direction::RightToLeft
 }
 
 /// The lines that run the hooks of a word's script over it, in the order of a pipeline: what comes
@@ -159,10 +51,15 @@ pub fn lines_of_word(word: &str) -> Option<String> {
 /// The codes of the scripts that [`lines_of_word`] knows, each once.
 #[must_use]
 pub fn scripts_with_hooks() -> Vec<[u8; 4]> {
-    let mut codes: Vec<[u8; 4]> = SCRIPTS.iter().map(|row| row.2).collect();
+    let scripts = script::ALL.iter().map(|(_, script)| *script);
+    let mut codes: Vec<[u8; 4]> = scripts.filter(has_shaper).map(|script| script.0).collect();
     codes.sort_unstable();
-    codes.dedup();
     codes
+}
+
+// Whether the texts of a script have a shaper.
+fn has_shaper(script: &Script) -> bool {
+    Shaper::for_script(*script, Direction::LeftToRight, None).is_some()
 }
 
 /// The code of a script, from its name in Unicode or from the code itself, in any case: `khmer`,
@@ -174,8 +71,8 @@ pub fn script_named(name: &str) -> Option<[u8; 4]> {
             .replace('_', " ")
             .eq_ignore_ascii_case(&name.replace(['_', '-'], " "))
     };
-    if let Some(row) = NAMES.iter().find(|row| of_name(row.0)) {
-        return Some(row.1);
+    if let Some((_, script)) = script::ALL.iter().find(|(known, _)| of_name(known)) {
+        return Some(script.0);
     }
     let mut code: [u8; 4] = name.as_bytes().try_into().ok()?;
     if !code.iter().all(u8::is_ascii_alphabetic) {
@@ -188,7 +85,8 @@ pub fn script_named(name: &str) -> Option<[u8; 4]> {
 
 /// The script of the first character that is of one with a shaper.
 pub(crate) fn script_of_word(word: &str) -> Option<[u8; 4]> {
-    word.chars().find_map(script_of)
+    let mut scripts = word.chars().filter_map(Script::of_char);
+    scripts.find(has_shaper).map(|script| script.0)
 }
 
 // The lines that set a script up: its shaper and direction, and a mask for each of these features.
@@ -228,13 +126,6 @@ fn hooks_of(shaper: Shaper, pauses: &[&str]) -> Vec<String> {
     }
     lines.extend(pauses.iter().map(|name| format!("run pause {name}")));
     lines
-}
-
-fn script_of(character: char) -> Option<[u8; 4]> {
-    let row = SCRIPTS
-        .iter()
-        .find(|row| (row.0..=row.1).contains(&character))?;
-    Some(row.2)
 }
 
 /// What the program calls a shaper.
@@ -365,21 +256,8 @@ pub(crate) fn line_of_text(text: &str) -> String {
 
 #[cfg(test)]
 mod tests {
-    use super::{NAMES, SCRIPTS, lines_of_word, runs_from_right, script_named};
+    use super::{lines_of_word, runs_from_right, script_named, script_of_word, scripts_with_hooks};
     use sengadlit::Script;
-    use std::fs;
-    use std::path::Path;
-
-    // Whether the letters of a code come in this order in the script's name.
-    fn has_code(name: &str, code: [u8; 4]) -> bool {
-        let mut letters = name.bytes();
-        let is_in_name = code
-            .iter()
-            .all(|letter| letters.any(|other| other.eq_ignore_ascii_case(letter)));
-        is_in_name
-            || [("Tai_Tham", *b"Lana"), ("Lao", *b"Laoo"), ("Nko", *b"Nkoo")]
-                .contains(&(name, code))
-    }
 
     #[test]
     fn a_script_has_a_name_and_a_code() {
@@ -395,53 +273,24 @@ mod tests {
     }
 
     #[test]
-    fn each_block_is_of_its_script() {
-        let path = Path::new(env!("CARGO_MANIFEST_DIR")).join("../../unicode/data/ucd/Scripts.txt");
-        let data = fs::read_to_string(path).unwrap();
-        let rows: Vec<(u32, u32, &str)> = data
-            .lines()
-            .filter_map(|line| line.split('#').next()?.split_once(';'))
-            .map(|(range, name)| {
-                let (first, last) = range
-                    .trim()
-                    .split_once("..")
-                    .unwrap_or((range.trim(), range.trim()));
-                let number = |text| u32::from_str_radix(text, 16).unwrap();
-                (number(first), number(last), name.trim())
-            })
-            .collect();
-        for (first, last, code) in SCRIPTS {
-            for end in [first, last] {
-                let found = rows
-                    .iter()
-                    .find(|row| (row.0..=row.1).contains(&u32::from(end)));
-                let name = found.map(|row| row.2);
-                assert!(
-                    name.is_some_and(|name| has_code(name, code) && NAMES.contains(&(name, code))),
-                    "{end:?} {name:?} {code:?}"
-                );
-            }
+    fn a_text_is_of_its_first_script_with_a_shaper() {
+        for (text, code) in [
+            // (a full stop is of many scripts, and Latin has no shaper)
+            ("a. \u{0964}\u{0995}", Some(*b"Beng")),
+            ("\u{10A10}", Some(*b"Khar")),
+            ("\u{0300}1", None),
+            ("", None),
+        ] {
+            assert_eq!(script_of_word(text), code, "{text:?}");
         }
+        let codes = scripts_with_hooks();
+        assert!(codes.is_sorted() && codes.contains(b"Hang") && !codes.contains(b"Latn"));
     }
 
-    // HarfBuzz's hb_script_get_horizontal_direction; the letters of these scripts have the types R and
-    // AL in Unicode's DerivedBidiClass.txt.
     #[test]
-    fn scripts_run_from_the_right() {
-        let from_right = [*b"Hebr", *b"Arab", *b"Syrc", *b"Nkoo", *b"Mand", *b"Adlm"];
-        for (_, _, code) in SCRIPTS {
-            assert_eq!(
-                runs_from_right(Script(code)),
-                from_right.contains(&code),
-                "{code:?}"
-            );
-        }
-        for code in [*b"Rohg", *b"Sogd", *b"Mani", *b"Thaa"] {
-            assert!(runs_from_right(Script(code)), "{code:?}");
-        }
-        for code in [*b"Latn", *b"Phag", *b"Brah"] {
-            assert!(!runs_from_right(Script(code)), "{code:?}");
-        }
+    fn a_script_runs_from_the_right() {
+        assert!(runs_from_right(Script(*b"Rohg")));
+        assert!(!runs_from_right(Script(*b"Phag")));
         let lines = lines_of_word("\u{084C}\u{0840}").unwrap();
         assert!(
             lines.contains("\nset script Mand\nset direction rtl\n"),

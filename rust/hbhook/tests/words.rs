@@ -5,7 +5,7 @@ use sengadlit::alloc::Global;
 use std::fs;
 use std::path::Path;
 
-// Emoji, and characters of other planes, none of which is of a script that the program knows.
+// Emoji, and characters of other planes, none of which is of a script with a shaper.
 const FAR: [&str; 20] = [
     "\u{1F64F}",
     "\u{1F469}\u{200D}\u{1F469}\u{200D}\u{1F467}",
@@ -18,14 +18,14 @@ const FAR: [&str; 20] = [
     "\u{1D518}\u{1D52B}\u{1D526}",
     "\u{10330}\u{1033F}",
     "\u{12000}",
-    "\u{13000}",
+    "\u{10600}",
     "\u{1D15F}",
     "\u{10000}",
     "\u{845B}\u{E0100}",
     "\u{F0000}",
     "\u{10FFFD}",
     "\u{10FFFF}",
-    "\u{11013}\u{1103A}",
+    "\u{10480}\u{10481}",
     "\u{1F004}\u{1F0A1}",
 ];
 

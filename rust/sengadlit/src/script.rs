@@ -94,34 +94,55 @@ mod tests {
         }
     }
 
-    // (the lists of HarfBuzz's hb_script_get_horizontal_direction)
+    // (the list of HarfBuzz's hb_script_get_horizontal_direction)
     #[cfg(feature = "opentype")]
     #[test]
     fn scripts_have_their_directions() {
-        for script in [
+        let from_right = [
+            ADLAM,
             ARABIC,
+            AVESTAN,
+            CHORASMIAN,
+            CYPRIOT,
+            ELYMAIC,
+            GARAY,
+            HANIFI_ROHINGYA,
+            HATRAN,
             HEBREW,
+            IMPERIAL_ARAMAIC,
+            INSCRIPTIONAL_PAHLAVI,
+            INSCRIPTIONAL_PARTHIAN,
+            KHAROSHTHI,
+            LYDIAN,
+            MANDAIC,
+            MANICHAEAN,
+            MENDE_KIKAKUI,
+            MEROITIC_CURSIVE,
+            MEROITIC_HIEROGLYPHS,
+            NABATAEAN,
+            NKO,
+            OLD_NORTH_ARABIAN,
+            OLD_SOGDIAN,
+            OLD_SOUTH_ARABIAN,
+            OLD_TURKIC,
+            OLD_UYGHUR,
+            PALMYRENE,
+            PHOENICIAN,
+            PSALTER_PAHLAVI,
+            SAMARITAN,
+            SIDETIC,
+            SOGDIAN,
             SYRIAC,
             THAANA,
-            NKO,
-            MANDAIC,
-            ADLAM,
-            HANIFI_ROHINGYA,
             YEZIDI,
-        ] {
-            assert_eq!(script.direction(), Direction::RightToLeft, "{script}");
-        }
-        for script in [
-            LATIN,
-            KHMER,
-            HANGUL,
-            MONGOLIAN,
-            OLD_HUNGARIAN,
-            OLD_ITALIC,
-            RUNIC,
-            TIFINAGH,
-        ] {
-            assert_eq!(script.direction(), Direction::LeftToRight, "{script}");
+        ];
+        for (name, script) in ALL {
+            let direction = if from_right.contains(&script) {
+                Direction::RightToLeft
+            } else {
+                Direction::LeftToRight
+            };
+            assert_eq!(script.direction(), direction, "{name}");
         }
     }
 }
