@@ -18,6 +18,7 @@ mod row;
 mod scale;
 mod shown;
 
+use crate::generated::hbhook_commands::ShaperName;
 use crate::generated::hbhook_lines::Session;
 use boxes::Boxes;
 use glyphs::Glyphs;
@@ -49,6 +50,7 @@ pub(crate) fn draw_row(
 pub(crate) fn draw_glyphs(
     legend: &mut Legend,
     face: &Face<'_>,
+    shaper: Option<ShaperName>,
     glyphs: &[GlyphInfo],
     positions: &[GlyphPosition],
     is_rtl: bool,
@@ -58,7 +60,7 @@ pub(crate) fn draw_glyphs(
         positions,
         before: &[],
         origins: &[],
-        shaper: None,
+        shaper,
         features: &[],
         numbers: &Numbers::default(),
         face: Some(face),

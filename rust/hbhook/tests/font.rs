@@ -71,6 +71,8 @@ fn a_page_has_a_row_for_each_step_that_changes_the_text() {
     }
     assert!(run.printed.matches("class=\"outline\"").count() > heads.len());
     assert!(run.printed.contains("iMatra-deva.wide"));
+    // the shaper's names for what Ra is, and for the syllable
+    assert!(run.printed.contains(">Ra</text>") && run.printed.contains(">consonant</text>"));
 }
 
 #[test]

@@ -5,8 +5,8 @@ mod common;
 
 use common::lookup_font::font;
 use sengadlit::{
-    Direction, Face, FaceError, Feature, SerializeFlags, ShapePlan, UnicodeBuffer, script, shape,
-    shape_with_plan, try_shape,
+    Direction, Face, FaceError, Feature, SerializeFlags, ShapePlan, Shaper, UnicodeBuffer, script,
+    shape, shape_with_plan, try_shape,
 };
 
 /// The glyphs of a text in the font, with these features.
@@ -67,6 +67,21 @@ fn what_is_printed() {
         print(SerializeFlags::GLYPH_FLAGS),
         "[gid4=0+1050|gid3=2+700#1]"
     );
+}
+
+// (HarfBuzz's hb_ot_shaper_categorize: a font for `latn` or `DFLT` alone isn't made for the universal shaper, and Khmer's
+// shaper takes every font)
+#[test]
+fn a_plan_tells_the_shaper_of_its_script() {
+    let data = font();
+    let face = Face::parse(&data, 0).unwrap();
+    let shaper = |script| {
+        let plan = ShapePlan::builder().script(script).build(&face);
+        plan.unwrap().shaper()
+    };
+    assert_eq!(shaper(script::LATIN), None);
+    assert_eq!(shaper(script::KHMER), Some(Shaper::Khmer));
+    assert_eq!(shaper(script::SINHALA), None);
 }
 
 #[test]

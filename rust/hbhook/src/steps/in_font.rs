@@ -5,12 +5,16 @@ use super::glyph::Names;
 use super::told::told;
 use super::{Choices, MOST_IN_ALL, MOST_SHOWN, Step, Steps, wanted_of};
 use crate::drawing::{Legend, draw_glyphs};
+use crate::generated::hbhook_commands::ShaperName;
+use crate::generated::hbhook_lines::Session;
+use crate::word::name_of;
+use sengadlit::alloc::Global;
 use sengadlit::buffer::BufferFlags;
 use sengadlit::opentype::{ShapeStep, try_shape_in_steps};
 use sengadlit::shaper::checked::CallError;
 use sengadlit::{
     Buffer, BufferClusterLevel, Direction, Face, GlyphInfo, GlyphPosition, Script, ShapePlan,
-    UnicodeBuffer,
+    Shaper, UnicodeBuffer,
 };
 use std::cell::RefCell;
 
@@ -117,7 +121,8 @@ impl Steps {
             is_rtl: false,
         });
         let mut legend = Legend::default();
-        let steps = steps_of(&snapshots, face, &mut legend);
+        let shaper = plan.shaper().and_then(shaper_name);
+        let steps = steps_of(&snapshots, face, shaper, &mut legend);
         Ok(Steps {
             steps,
             legend: legend.to_string(),
@@ -151,7 +156,20 @@ fn buffer_of(text: &str, choices: &Choices) -> UnicodeBuffer {
     buffer
 }
 
-fn steps_of(snapshots: &[Snapshot], face: &Face<'_>, legend: &mut Legend) -> Vec<Step> {
+// The name by which lines choose a shaper, whose names for categories and syllables are shown.
+fn shaper_name(shaper: Shaper) -> Option<ShaperName> {
+    let mut session = Session::new(Global);
+    let line = format!("set shaper {}", name_of(shaper));
+    session.carry_out(line.as_bytes()).ok()?;
+    session.shaper_name()
+}
+
+fn steps_of(
+    snapshots: &[Snapshot],
+    face: &Face<'_>,
+    shaper: Option<ShaperName>,
+    legend: &mut Legend,
+) -> Vec<Step> {
     let befores = [None].into_iter().chain(snapshots.iter().map(Some));
     let steps = snapshots.iter().zip(befores).map(|(it, before)| Step {
         heads: vec![it.name.clone()],
@@ -160,7 +178,7 @@ fn steps_of(snapshots: &[Snapshot], face: &Face<'_>, legend: &mut Legend) -> Vec
             || format!("{} glyphs.", it.glyphs.len()),
             |before| told(&before.glyphs, &it.glyphs, &[]),
         ),
-        drawn: draw_glyphs(legend, face, &it.glyphs, &it.positions, it.is_rtl),
+        drawn: draw_glyphs(legend, face, shaper, &it.glyphs, &it.positions, it.is_rtl),
         printed: printed(&it.glyphs, &it.positions),
         subject: None,
         glyphs: it.glyphs.clone(),

@@ -9,6 +9,7 @@ use crate::language::{Language, text_tags};
 use crate::ot_shape_normalize::Rounds;
 use crate::ot_shape_plan::{self, ShapeChoices};
 use crate::plan::{BaseSearch, BreakFlags};
+use crate::shaper::Shaper;
 
 /// What a face, a script, a language, a direction and the user's features decide before a text is seen.
 /// It serves every text of this script, language and direction, in this face.
@@ -60,6 +61,12 @@ impl ShapePlan {
     /// The language of the texts.
     pub fn language(&self) -> Option<Language> {
         self.language
+    }
+
+    /// The shaper whose hooks the texts go through, by their script and by the font's; `None` where
+    /// there is nothing that a shaper does for them.
+    pub fn shaper(&self) -> Option<Shaper> {
+        self.plan.shaper()
     }
 }
 
