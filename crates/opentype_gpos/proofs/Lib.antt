@@ -5,6 +5,7 @@ pub mod Following
 pub mod Preserved
 pub mod Keeping
 pub mod Kerning
+pub mod Marks
 pub mod KernKeeping
 mod KernRows
 mod TypeRows

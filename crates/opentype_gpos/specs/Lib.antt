@@ -8,6 +8,8 @@ pub mod Coming
 pub mod Called
 pub mod Walked
 pub mod Kerned
+pub mod MarkBoxes
+pub mod Fallback
 pub mod Finished
 pub mod Laws
 pub mod Joined

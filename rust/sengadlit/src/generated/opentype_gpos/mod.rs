@@ -1,8 +1,8 @@
 // Generated from crates/opentype_gpos/src/lib.rt by rust/erase; edit the source.
 
-//! The lookups of GPOS: values of glyphs and of pairs, cursive lines, and marks upon bases, ligatures and
-//! other marks, along a text, and what attachments do behind the last lookup. What is applied, and in what
-//! way, is as in HarfBuzz; positions are in font units.
+//! The lookups of GPOS: values of glyphs and of pairs, cursive lines, marks upon bases, ligatures and other
+//! marks, and contexts that apply lookups, along a text; what attachments do behind the last lookup; and pairs
+//! by the table `kern`. What is applied, and in what way, is as in HarfBuzz; positions are in font units.
 //!
 //! Device tables and variations of values and anchors read as none, and so do a glyph's contour points.
 //! Offsets and advances that pass 32 bits stop at their bound. A mark more than 32,768 glyphs behind the one
@@ -11,10 +11,12 @@
 pub mod anchors;
 pub mod calling;
 pub mod coming;
+pub mod fallback;
 pub mod finish;
 pub mod joins;
 pub mod kern;
 pub mod making;
+pub mod mark_boxes;
 pub mod moved;
 pub mod moves;
 pub mod nearby;
