@@ -109,11 +109,14 @@ static void choose_options(sengadlit_shape_options_t *options, sengadlit_user_fe
     static const sengadlit_direction_t directions[] = {
         SENGADLIT_DIRECTION_INVALID, SENGADLIT_DIRECTION_LTR, SENGADLIT_DIRECTION_RTL, SENGADLIT_DIRECTION_TTB,
         SENGADLIT_DIRECTION_BTT};
+    static const char *const languages[] = {NULL, "en", "sr-Latn", "ar-x-hbotabcd", "zh-Hant-HK"};
     uint8_t choices = next();
 
     options->direction = directions[choices % 5];
+    options->language = languages[next() % 5];
+    options->not_found_glyph = next();
     options->sound_breaks = choices >> 5 & 1;
-    options->searches_medials = choices >> 6 & 1;
+    options->skips_medials = choices >> 6 & 1;
     options->normalizes_always = choices >> 7 & 1;
     options->features = features;
     options->features_length = next() % (FEATURES + 1);
@@ -203,7 +206,7 @@ static void shape_all(const sengadlit_face_t *face)
     choose_options(&options, features);
     choose_properties(buffer);
     sengadlit_status_t status = shape(face, &options, buffer, &alone);
-    (void)sengadlit_buffer_serialize(buffer, face, 0, NULL, 0, NULL);
+    (void)sengadlit_buffer_serialize(buffer, face, SENGADLIT_SERIALIZE_FORMAT_TEXT, 0, NULL, 0, NULL);
     options.cache = cache;
     if (shape(face, &options, buffer, &kept) != status || shape(face, &options, buffer, &again) != status) abort();
     if (status == SENGADLIT_DONE) {
