@@ -661,6 +661,7 @@ typedef enum sengadlit_buffer_cluster_level_t {
     SENGADLIT_BUFFER_CLUSTER_LEVEL_MONOTONE_GRAPHEMES = 0,
     SENGADLIT_BUFFER_CLUSTER_LEVEL_MONOTONE_CHARACTERS = 1,
     SENGADLIT_BUFFER_CLUSTER_LEVEL_CHARACTERS = 2,
+    SENGADLIT_BUFFER_CLUSTER_LEVEL_GRAPHEMES = 3, /* In any order. Where no face shapes the text, it counts as CHARACTERS. */
     SENGADLIT_BUFFER_CLUSTER_LEVEL_MAX_VALUE = 0x7FFFFFFF
 } sengadlit_buffer_cluster_level_t;
 

@@ -2,15 +2,15 @@
 use crate::border::glyphs::{MAX_LENGTH, Takes, Text};
 use crate::encodings::{Unit, characters, first, last};
 use crate::layout::Properties;
-use crate::numbers;
+use crate::numbers::{self, LEVEL_GRAPHEMES};
 use crate::status::{Argument, Error};
 use core::mem::replace;
 use core::ops::Range;
 use sengadlit::Shaper;
 use sengadlit::alloc::{AllocError, Global, Vec as List};
 use sengadlit::buffer::{
-    Buffer as Inner, BufferClusterLevel, BufferSettings, CONTEXT_LENGTH, Direction, GlyphInfo,
-    GlyphPosition, Script, ShaperError, Span,
+    Buffer as Inner, BufferSettings, CONTEXT_LENGTH, Direction, GlyphInfo, GlyphPosition, Script,
+    ShaperError, Span,
 };
 use sengadlit::editing::caret_stops;
 use sengadlit::ot_shape_position::DefaultIgnorables;
@@ -92,6 +92,8 @@ pub struct Buffer {
     has_direction: bool,
     // Whether the glyphs are a text that was shaped whole.
     is_complete: bool,
+    // Whether the level is that at which graphemes are clusters, in any order.
+    merges_graphemes: bool,
     // The flags as C set them.
     flags: u32,
     // What a text is made and shaped in before it replaces that of the buffer. It is kept for its room.
@@ -112,6 +114,7 @@ impl Buffer {
             content: Content::Unknown,
             has_direction: false,
             is_complete: false,
+            merges_graphemes: false,
             flags: 0,
             spare: Text::new(),
             positions: List::new(Global),
@@ -211,6 +214,7 @@ impl Buffer {
     pub fn reset(&mut self) {
         self.clear();
         self.flags = 0;
+        self.merges_graphemes = false;
         self.text.set_properties(&BufferSettings::new(MAX_LENGTH));
     }
 
@@ -439,7 +443,11 @@ impl Buffer {
         &mut self,
         shape: impl FnOnce(&mut Inner) -> Result<Segment, Error>,
     ) -> Result<(), Error> {
+        let merges_graphemes = self.merges_graphemes;
         let (segment, positions) = self.spare.run(Takes::Numbers, |text| {
+            if merges_graphemes {
+                text.merge_graphemes();
+            }
             let segment = shape(text)?;
             Ok((segment, text.take_positions()))
         })?;
@@ -502,14 +510,13 @@ impl Buffer {
 
     /// Takes all properties, or none. Those that are 0 are a new buffer's.
     pub fn set_properties(&mut self, properties: &Properties) -> Result<(), Error> {
-        let number = |wide: u32| u8::try_from(wide).ok();
         let direction = numbers::direction(properties.direction)
             .ok_or_else(|| Error::argument(Argument::Direction))?;
         let max_length = match properties.max_length {
             0 => MAX_LENGTH,
             set => set as usize,
         };
-        let level = number(properties.cluster_level).and_then(BufferClusterLevel::from_number);
+        let level = numbers::cluster_level(properties.cluster_level);
         self.text.set_properties(&BufferSettings {
             cluster_level: level.ok_or_else(|| Error::argument(Argument::ClusterLevel))?,
             flags: numbers::buffer_flags(properties.flags),
@@ -518,6 +525,7 @@ impl Buffer {
         let script = numbers::script(properties.script);
         self.set_segment(Segment { script, direction });
         self.flags = properties.flags;
+        self.merges_graphemes = properties.cluster_level == LEVEL_GRAPHEMES;
         Ok(())
     }
 
@@ -528,7 +536,11 @@ impl Buffer {
             size: 0,
             script: script.map_or(0, |script| u32::from_be_bytes(script.to_bytes())),
             direction: direction.number().into(),
-            cluster_level: self.text.settings().cluster_level.number().into(),
+            cluster_level: if self.merges_graphemes {
+                LEVEL_GRAPHEMES
+            } else {
+                self.text.settings().cluster_level.number().into()
+            },
             flags: self.flags,
             max_length: match self.text.max_length() {
                 MAX_LENGTH => 0,

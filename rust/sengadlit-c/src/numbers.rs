@@ -1,5 +1,5 @@
 //! The header's numbers, as the types of `sengadlit` and back.
-use sengadlit::buffer::{BufferFlags, Direction, GeneralCategory, Script, Tag};
+use sengadlit::buffer::{BufferClusterLevel, BufferFlags, Direction, GeneralCategory, Script, Tag};
 use sengadlit::plan::{JoiningType, Pause};
 use sengadlit::shaper::{Hook, NormalizationMode, Shaper, ZeroWidthMarks};
 
@@ -39,6 +39,17 @@ pub fn direction(number: u32) -> Option<Direction> {
 /// bit higher in the crate.
 pub fn buffer_flags(bits: u32) -> BufferFlags {
     BufferFlags(BufferFlags::from_harfbuzz(bits).0 | (bits & 0x0F) << 1)
+}
+
+/// `SENGADLIT_BUFFER_CLUSTER_LEVEL_GRAPHEMES`, which is the level of characters where graphemes aren't merged before.
+pub const LEVEL_GRAPHEMES: u32 = 3;
+
+/// The level of `sengadlit_buffer_cluster_level_t`.
+pub fn cluster_level(number: u32) -> Option<BufferClusterLevel> {
+    match number {
+        LEVEL_GRAPHEMES => Some(BufferClusterLevel::Characters),
+        number => BufferClusterLevel::from_number(u8::try_from(number).ok()?),
+    }
 }
 
 /// The joining type of `SENGADLIT_JOINING_..`; U for any other number.

@@ -216,6 +216,8 @@ static void try_properties(void)
     set.script = 0;
     set.direction = SENGADLIT_DIRECTION_INVALID;
     check("cleared", are_properties(&set));
+    set.cluster_level = SENGADLIT_BUFFER_CLUSTER_LEVEL_GRAPHEMES;
+    check("graphemes", sengadlit_buffer_set_properties(buffer, &set) == SENGADLIT_DONE && are_properties(&set));
     check("into nothing", is_refused(buffer, sengadlit_buffer_get_properties(buffer, NULL), SENGADLIT_ARGUMENT_PROPERTIES));
     sengadlit_buffer_reset(buffer);
     check("reset", are_properties(&zero));

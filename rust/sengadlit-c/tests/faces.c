@@ -330,6 +330,13 @@ static void try_levels(void)
     check("a level", sengadlit_buffer_set_properties(buffer, &properties) == SENGADLIT_DONE);
     check("characters", sengadlit_shape_utf8(face, "u\u0323", -1, NULL, buffer) == SENGADLIT_DONE &&
                             sengadlit_buffer_read_glyphs(buffer, NULL)[1].cluster == 1);
+    /* The vowel sign stands before its letters, which keep their clusters: they don't rise. */
+    check("Khmer", sengadlit_shape_utf8(face, "\u1781\u17D2\u1798\u17C2", -1, NULL, buffer) == SENGADLIT_DONE);
+    check("characters of it", sengadlit_buffer_read_glyphs(buffer, NULL)[0].cluster == 9);
+    properties.cluster_level = SENGADLIT_BUFFER_CLUSTER_LEVEL_GRAPHEMES;
+    check("another level", sengadlit_buffer_set_properties(buffer, &properties) == SENGADLIT_DONE);
+    check("graphemes in any order", sengadlit_shape_utf8(face, "u\u0323", -1, NULL, buffer) == SENGADLIT_DONE &&
+                                        sengadlit_buffer_read_glyphs(buffer, NULL)[1].cluster == 0);
 }
 
 /* ---- Options ---- */

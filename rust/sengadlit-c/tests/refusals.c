@@ -487,7 +487,7 @@ static void lengths_and_positions(void)
 
 static void properties_that_are_none(void)
 {
-    static const unsigned int directions[] = {1, 2, 3, 8, 0x104, UINT32_MAX}, levels[] = {3, 0x100, UINT32_MAX};
+    static const unsigned int directions[] = {1, 2, 3, 8, 0x104, UINT32_MAX}, levels[] = {4, 0x100, UINT32_MAX};
 
     begin_thai();
     REFUSES("no properties", sengadlit_buffer_set_properties(world.buffer, NULL), PROPERTIES, 0);

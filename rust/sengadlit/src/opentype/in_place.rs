@@ -6,10 +6,12 @@ use super::steps::{Steps, Told};
 use super::{Face, Replacements, SerializeFlags, ShapePlan};
 use crate::buffer::{Buffer, GlyphInfo, GlyphPosition, Script};
 pub use crate::generated::opentype_font::font::OpenTypeFont;
+use crate::generated::shapers_buffer::buffer::least_cluster;
 use crate::language::text_tags;
 use crate::ot_shape;
 use crate::ot_shape_normalize::NormalizeFont;
 use crate::ot_shape_position::MetricsFont;
+use crate::ot_shape_prepare::set_unicode_properties;
 use crate::shaper::checked::CallError;
 use crate::unicode::UnicodeTables;
 use core::cell::Cell;
@@ -19,6 +21,23 @@ impl<'a> Face<'a> {
     /// The face as the hooks and `ot_shape` read it, for texts of a script.
     pub fn font(&self, script: Option<Script>) -> OpenTypeFont<'a> {
         self.for_tags(text_tags(script, None))
+    }
+}
+
+impl Buffer {
+    /// Brings the characters of each grapheme into one cluster, as
+    /// [`UnicodeBuffer::merge_graphemes`](super::UnicodeBuffer::merge_graphemes) does.
+    pub fn merge_graphemes(&mut self) {
+        set_unicode_properties(&UnicodeTables, self);
+        self.with_glyphs_mut(|glyphs| {
+            let graphemes = glyphs.chunk_by_mut(|_, next| next.unicode_props.is_continuation());
+            for grapheme in graphemes {
+                let least = least_cluster(grapheme);
+                for glyph in grapheme {
+                    glyph.cluster = least;
+                }
+            }
+        });
     }
 }
 

@@ -6,10 +6,7 @@ use crate::buffer::{
     Buffer, BufferClusterLevel, BufferFlags, Direction, GlyphInfo, Script, ShaperError,
 };
 use crate::font::GlyphId;
-use crate::generated::shapers_buffer::buffer::least_cluster;
 use crate::language::Language;
-use crate::ot_shape_prepare::set_unicode_properties;
-use crate::unicode::UnicodeTables;
 use core::fmt::{self, Write};
 use rust_alloc::string::String;
 
@@ -177,16 +174,7 @@ impl UnicodeBuffer {
     /// Brings the characters of each grapheme, as a letter with its accents, into one cluster. With the
     /// level `Characters`, at which no other clusters merge, that is HarfBuzz's level Graphemes.
     pub fn merge_graphemes(&mut self) {
-        set_unicode_properties(&UnicodeTables, &mut self.buffer);
-        self.buffer.with_glyphs_mut(|glyphs| {
-            let graphemes = glyphs.chunk_by_mut(|_, next| next.unicode_props.is_continuation());
-            for grapheme in graphemes {
-                let least = least_cluster(grapheme);
-                for glyph in grapheme {
-                    glyph.cluster = least;
-                }
-            }
-        });
+        self.buffer.merge_graphemes();
     }
 
     /// The flags that say where the text begins and ends, and what shaping does beside its work.
