@@ -15,8 +15,9 @@
    set and all else 0. One of a later header is taken if the fields that this library doesn't know are 0. A size that is 0, or
    none of the struct's, is rejected as a null pointer would be.
 
-   Pointers. What is passed in stays the caller's and is read during the call alone, but for the user data of a plan. No pointer
-   may be null unless its description says so. A null pointer elsewhere is rejected like any other argument.
+   Pointers. What is passed in stays the caller's and is read during the call alone, but for the user data of a plan or a face,
+   and a face's bytes. No pointer may be null unless its description says so. A null pointer elsewhere is rejected like any
+   other argument.
 
    Errors. A call tests its arguments before it writes anything. Where it doesn't return SENGADLIT_DONE, and where a function
    that returns a pointer returns null, nothing has changed but what sengadlit_error_t reports; the one exception is
@@ -27,9 +28,9 @@
    use other buffers and plans. The buffer of its call is rejected by every function: those that return a status return
    SENGADLIT_IN_CALL, those that return a pointer null, and the others do nothing, except that sengadlit_buffer_destroy takes
    effect when the call ends, and sengadlit_buffer_get_error works. A callback must not touch the glyphs or positions of that
-   buffer by pointers from before, nor drop the last reference to the plan of the call. A C++ exception that leaves a callback
-   ends the program, with a message on stderr. A callback must not be left by longjmp: the jump would pass over frames of the
-   library, which free what they own when they return, and its behaviour is undefined. */
+   buffer by pointers from before, nor drop the last reference to the plan or the face of the call. A C++ exception that leaves
+   a callback ends the program, with a message on stderr. A callback must not be left by longjmp: the jump would pass over
+   frames of the library, which free what they own when they return, and its behaviour is undefined. */
 #ifndef SENGADLIT_H
 #define SENGADLIT_H
 
@@ -1252,7 +1253,7 @@ void sengadlit_user_feature_to_string(const sengadlit_user_feature_t *feature, c
    `options` may be null. A plan that is used for more than one text is worth a cache.
    ATOMIC: unless DONE is returned, the buffer has the text that it had. ARGUMENT: FACE; TEXT, RANGE, of text and length;
    OPTIONS; DIRECTION, LANGUAGE, FEATURES, FONT, of the options; and for a null buffer. MEMORY. TOO_LONG: the text grows beyond
-   max_length, or has more than UINT32_MAX units. STRETCH_OVERFLOW. */
+   max_length, or has more than UINT32_MAX units. STRETCH_OVERFLOW. INTERNAL: only where `font` changes its results. */
 sengadlit_status_t sengadlit_shape_utf8(const sengadlit_face_t *face, const char *text, int text_length,
                                         const sengadlit_shape_options_t *options, sengadlit_buffer_t *buffer);
 sengadlit_status_t sengadlit_shape_utf16(const sengadlit_face_t *face, const uint16_t *text, int text_length,
