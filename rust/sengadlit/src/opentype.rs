@@ -54,6 +54,7 @@ mod feature;
 mod from_str;
 mod glyph_buffer;
 mod in_place;
+mod kerning;
 mod plan;
 mod scale;
 mod serialize;

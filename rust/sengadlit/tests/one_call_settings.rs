@@ -4,7 +4,7 @@
 
 mod common;
 
-use common::lookup_font::{font, font_with, words};
+use common::lookup_font::{font, font_with, font_without_gpos, words};
 use sengadlit::opentype::{Replacements, ShapeStep, try_shape_in_steps};
 use sengadlit::plan::BreakFlags;
 use sengadlit::{
@@ -265,6 +265,33 @@ fn boxes_names_and_axes() {
             r#"{"g":"\"\\x","cl":1,"dx":0,"dy":0,"ax":650,"ay":0,"xb":0,"yb":0,"w":0,"h":0}]"#
         )
     );
+}
+
+/// A pair of A and C that stands 100 units nearer, by the table `kern`: half of it moves each of the two, as
+/// in HarfBuzz (`hb_kern_machine_t::kern`).
+#[test]
+fn pairs_by_the_table_kern() {
+    let pairs = words(&[0, 1, 0, 20, 1, 1, 6, 0, 0, 1, 3, 0xFF9C]);
+    let data = font_without_gpos((*b"kern", pairs.clone()));
+    let face = Face::parse(&data, 0).unwrap();
+    let shaped = |features: &[&str], characters: &str| {
+        let features: Vec<Feature> = features.iter().map(|tag| tag.parse().unwrap()).collect();
+        let glyphs = shape(&face, &features, text(characters));
+        glyphs.serialize(&face, SerializeFlags::GLYPH_FLAGS)
+    };
+    assert_eq!(shaped(&[], "AC"), "[gid1=0+550|gid3=1@-50,0+650#1]");
+    assert_eq!(shaped(&[], "CA"), "[gid3=0+700|gid1=1+600]");
+    assert_eq!(shaped(&["-kern"], "AC"), "[gid1=0+600|gid3=1+700]");
+    assert_eq!(shaped(&["-kern[:2]"], "ACAC").matches("+550").count(), 1);
+    // Thai's shaper takes no such table, and where GPOS kerns it isn't read
+    let mut thai = text("AC");
+    thai.set_script(script::THAI);
+    let glyphs = shape(&face, &[], thai);
+    assert_eq!(glyphs.glyph_positions()[0].x_advance, 600);
+    let data = font_with(&[(*b"kern", pairs)]);
+    let face = Face::parse(&data, 0).unwrap();
+    let glyphs = shape(&face, &[], text("AC"));
+    assert_eq!(glyphs.glyph_positions()[0].x_advance, 600);
 }
 
 #[test]

@@ -15,6 +15,9 @@ use core::fmt;
 /// The tag `fvar` as a number: the table of a font's axes.
 const FVAR: u32 = u32::from_be_bytes(*b"fvar");
 
+/// The tag `kern`: the table of pairs in fonts that have no GPOS.
+const KERN: u32 = u32::from_be_bytes(*b"kern");
+
 /// A font file, or one font of a collection, over its bytes. It is a few references: what a text needs
 /// is read from the bytes each time.
 ///
@@ -27,6 +30,8 @@ const FVAR: u32 = u32::from_be_bytes(*b"fvar");
 )]
 pub struct Face<'a> {
     pub(super) face: face::Face<'a>,
+    /// The table `kern`, empty where the font has none.
+    pub(super) kern: &'a [u8],
     pub(super) scale: Option<Scale>,
     is_variable: bool,
 }
@@ -38,11 +43,12 @@ impl<'a> Face<'a> {
     ///
     /// The bytes are no font, or it lacks a table that each font has.
     pub fn parse(data: &'a [u8], index: u32) -> Result<Self, FaceError> {
-        let is_variable = !table(data, directory(data, index)?, FVAR).is_empty();
+        let directory = directory(data, index)?;
         Ok(Face {
             face: face::parse(data, index)?,
+            kern: table(data, directory, KERN),
             scale: None,
-            is_variable,
+            is_variable: !table(data, directory, FVAR).is_empty(),
         })
     }
 

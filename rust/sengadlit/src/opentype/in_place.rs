@@ -1,6 +1,7 @@
 //! Texts that are shaped where they stand, for callers with a [`Buffer`] or a font of their own.
 
 use super::drawn_font::DrawnFont;
+use super::kerning::Kerning;
 use super::serialize::Serialized;
 use super::steps::{Steps, Told};
 use super::{Face, Replacements, SerializeFlags, ShapePlan};
@@ -102,10 +103,17 @@ impl ShapePlan {
         buffer: &mut Buffer,
     ) -> Result<(), CallError> {
         let is_scaled = &Cell::new(false);
+        let settings = replacements.settings(self.rounds, buffer.flags());
+        let kerning = Kerning {
+            table: face.kern,
+            mask: self.kern_mask,
+            ignorables: settings.ignorables,
+        };
         let steps = Steps {
             font: &face.for_tags(self.tags),
             plan: &self.plan,
             not_found: replacements.not_found,
+            kerning,
             scale: face.scale,
             is_scaled,
             told,
@@ -116,7 +124,6 @@ impl ShapePlan {
             scale: face.scale,
             is_scaled,
         };
-        let settings = replacements.settings(self.rounds, buffer.flags());
         let (plan, tables) = (&self.plan, &UnicodeTables);
         ot_shape::shape(plan, &settings, &font, tables, &steps, buffer)?;
         if !steps.has_lookups() {

@@ -1,5 +1,6 @@
 //! What is decided for texts before they are seen.
 
+use super::kerning::kern_mask;
 use super::{Face, Feature};
 use crate::alloc::Global;
 use crate::buffer::{Direction, Script, ShaperError};
@@ -18,6 +19,7 @@ pub struct ShapePlan {
     pub(super) plan: ot_shape_plan::ShapePlan,
     pub(super) rounds: Rounds,
     pub(super) tags: TextTags,
+    pub(super) kern_mask: u32,
     script: Option<Script>,
     language: Option<Language>,
 }
@@ -166,6 +168,7 @@ impl ShapePlanBuilder<'_> {
             self.choices,
         )?;
         Ok(ShapePlan {
+            kern_mask: kern_mask(&plan, &features),
             plan,
             rounds: self.rounds,
             tags,

@@ -1,7 +1,7 @@
 //! Positions in other units than the font's (HarfBuzz's `hb_font_set_scale`).
 
 use super::GlyphExtents;
-use crate::buffer::{Buffer, GlyphInfo, GlyphPosition};
+use crate::buffer::{Buffer, Direction, GlyphPosition};
 use crate::font::{Font, GlyphId};
 use crate::generated::opentype_font::font::OpenTypeFont;
 use crate::ot_shape_position::MetricsFont;
@@ -27,47 +27,61 @@ impl Scale {
 
     /// Scales the positions of a text whose attachments aren't carried out yet.
     pub fn apply(self, font: &OpenTypeFont<'_>, buffer: &mut Buffer) {
+        let is_vertical = matches!(
+            buffer.direction(),
+            Direction::TopToBottom | Direction::BottomToTop
+        );
         for place in 0..buffer.positions_len() {
-            let position = self.position(font, &buffer.get(place), buffer.position(place));
+            let glyph = buffer.get(place).glyph_id;
+            let glyph = GlyphId(u16::try_from(glyph).unwrap_or(u16::MAX));
+            let own = self.metrics(font, glyph, is_vertical);
+            let position = self.position(&own, buffer.position(place));
             buffer.set_position(place, position);
         }
     }
 
-    /// Scales a position: the glyph's own advance, what lookups added to it, and the offsets, which where a
-    /// glyph is attached to another are the way between two anchors.
-    fn position(
-        self,
-        font: &OpenTypeFont<'_>,
-        info: &GlyphInfo,
-        at: GlyphPosition,
-    ) -> GlyphPosition {
-        let glyph = GlyphId(u16::try_from(info.glyph_id).unwrap_or(u16::MAX));
-        let own = if at.y_advance == 0 {
-            (font.glyph_h_advance(glyph), 0)
-        } else {
-            (0, font.glyph_v_advance(glyph))
+    /// What a glyph has by itself.
+    fn metrics(self, font: &OpenTypeFont<'_>, glyph: GlyphId, is_vertical: bool) -> Metrics {
+        let across = font.glyph_h_advance(glyph);
+        if !is_vertical {
+            return Metrics {
+                advance: (across, 0),
+                origin: (0, 0),
+                scaled_origin: (0, 0),
+            };
+        }
+        let origin = font.glyph_v_origin(glyph);
+        Metrics {
+            advance: (0, font.glyph_v_advance(glyph)),
+            origin,
+            scaled_origin: (self.across(across) / 2, self.up(origin.1)),
+        }
+    }
+
+    /// Scales a position: the glyph's own advance and origin, what lookups added to them, and where a glyph
+    /// is attached to another, the way between two anchors.
+    fn position(self, own: &Metrics, at: GlyphPosition) -> GlyphPosition {
+        let parts = |own: i32, all: i32| match all {
+            0 => (0, 0),
+            _ => (own, all.saturating_sub(own)),
         };
-        let parts = |own: i32, all: i32| {
-            if all == 0 {
-                (0, 0)
-            } else {
-                (own, all.saturating_sub(own))
-            }
-        };
-        let (x, y) = (parts(own.0, at.x_advance), parts(own.1, at.y_advance));
-        let (x_offset, y_offset) = if at.var == 0 {
-            (self.across(at.x_offset), self.up(at.y_offset))
+        let x = parts(own.advance.0, at.x_advance);
+        let y = parts(own.advance.1, at.y_advance);
+        let way_x = at.x_offset.saturating_add(own.origin.0);
+        let way_y = at.y_offset.saturating_add(own.origin.1);
+        let (way_x, way_y) = if at.var == 0 {
+            (self.across(way_x), self.up(way_y))
         } else {
             (
-                scaled_way(at.x_offset, self.x, self.units_per_em),
-                scaled_way(at.y_offset, self.y, self.units_per_em),
+                scaled_way(way_x, self.x, self.units_per_em),
+                scaled_way(way_y, self.y, self.units_per_em),
             )
         };
         GlyphPosition {
             x_advance: self.across(x.0).saturating_add(self.across(x.1)),
             y_advance: self.up(y.0).saturating_add(self.up(y.1)),
-            x_offset,
-            y_offset,
+            x_offset: way_x.saturating_sub(own.scaled_origin.0),
+            y_offset: way_y.saturating_sub(own.scaled_origin.1),
             ..at
         }
     }
@@ -84,6 +98,13 @@ impl Scale {
             height: self.up(top + extents.height).saturating_sub(y_bearing),
         }
     }
+}
+
+/// What a glyph has by itself: its advance, and its origin in vertical text, in font units and scaled.
+struct Metrics {
+    advance: (i32, i32),
+    origin: (i32, i32),
+    scaled_origin: (i32, i32),
 }
 
 /// A number of font units in units of which an em has `scale`. The factor has 16 bits behind the point, and

@@ -1,5 +1,6 @@
 //! The lookups of a text, one by one.
 
+use super::kerning::Kerning;
 use super::scale::Scale;
 use crate::buffer::{Buffer, GlyphInfo, GlyphProps, ShaperError};
 use crate::font::GlyphId;
@@ -28,11 +29,13 @@ pub enum ShapeStep {
 pub(super) type Told<'a> = Option<&'a dyn Fn(ShapeStep, &Buffer)>;
 
 /// The lookups of a font, which are told as they are applied, before the first of which the glyph for
-/// characters that the font lacks is put in, and behind the last of which positions are scaled.
+/// characters that the font lacks is put in, and behind the last of which pairs are moved by the table `kern`
+/// and positions scaled.
 pub(super) struct Steps<'a> {
     pub font: &'a OpenTypeFont<'a>,
     pub plan: &'a ShapePlan,
     pub not_found: Option<GlyphId>,
+    pub kerning: Kerning<'a>,
     pub scale: Option<Scale>,
     pub is_scaled: &'a Cell<bool>,
     pub told: Told<'a>,
@@ -110,6 +113,7 @@ impl Lookups for Steps<'_> {
     }
 
     fn finish_positions(&self, buffer: &mut Buffer) {
+        self.kerning.apply(self.plan, self, buffer);
         if let Some(scale) = self.scale {
             scale.apply(self.font, buffer);
             self.is_scaled.set(true);

@@ -1,5 +1,6 @@
 //! A small font with lookups: its glyphs are .notdef, A, B, C and a ligature of A and B, with kerning
 //! between that and C.
+#![allow(dead_code, reason = "each test uses a part")]
 
 /// Numbers of two bytes.
 pub fn words(numbers: &[u16]) -> Vec<u8> {
@@ -31,8 +32,22 @@ pub fn font() -> Vec<u8> {
     font_with(&[])
 }
 
-/// The font with tables more, whose tags come behind `maxp`'s or in any order.
-pub fn font_with(more: &[([u8; 4], Vec<u8>)]) -> Vec<u8> {
+type Table = ([u8; 4], Vec<u8>);
+
+/// The font with more tables.
+pub fn font_with(more: &[Table]) -> Vec<u8> {
+    font_of([&tables()[..], more].concat())
+}
+
+/// The font with this table in place of GPOS.
+pub fn font_without_gpos(table: Table) -> Vec<u8> {
+    let mut tables = tables();
+    tables[0] = table;
+    font_of(tables)
+}
+
+/// The tables of the font; GPOS is the first.
+fn tables() -> Vec<Table> {
     let mut head = vec![0; 54];
     head[18..20].copy_from_slice(&1000_u16.to_be_bytes());
     let mut hhea = vec![0; 36];
@@ -45,7 +60,7 @@ pub fn font_with(more: &[([u8; 4], Vec<u8>)]) -> Vec<u8> {
     let ligatures = words(&[1, 8, 1, 14, 1, 1, 1, 1, 4, 4, 2, 2]);
     // format 1 of pairs: the ligature and C stand 50 units nearer
     let kerning = words(&[1, 12, 4, 0, 1, 18, 1, 1, 4, 1, 3, 0xFFCE]);
-    let mut tables = vec![
+    vec![
         (*b"GPOS", layout(*b"kern", 2, &kerning)),
         (*b"GSUB", layout(*b"liga", 4, &ligatures)),
         (*b"cmap", cmap.concat()),
@@ -53,8 +68,11 @@ pub fn font_with(more: &[([u8; 4], Vec<u8>)]) -> Vec<u8> {
         (*b"hhea", hhea),
         (*b"hmtx", words(&[500, 0, 600, 0, 650, 0, 700, 0, 1100, 0])),
         (*b"maxp", words(&[0, 0x5000, 5])),
-    ];
-    tables.extend_from_slice(more);
+    ]
+}
+
+/// The bytes of a font with these tables.
+fn font_of(tables: Vec<Table>) -> Vec<u8> {
     let count = tables.len();
     let mut directory = words(&[1, 0, u16::try_from(count).unwrap(), 0, 0, 0]);
     let mut bytes = vec![];

@@ -1,0 +1,53 @@
+//! The table `kern`, in fonts whose GPOS doesn't kern.
+
+use crate::buffer::{Buffer, Direction, Tag};
+use crate::generated::opentype_gpos::kern::kern;
+use crate::map::TableIndex;
+use crate::ot_shape_plan::{FontFeatures, ShapePlan};
+use crate::ot_shape_position::{
+    DefaultIgnorables, GlyphClasses, zero_mark_widths, zero_width_default_ignorables,
+};
+use crate::plan::ZeroWidthMarks;
+use crate::shaper::Shaper;
+
+/// The feature of kerning.
+const KERN: Tag = Tag(*b"kern");
+
+/// The bits of glyphs that the table `kern` moves by a plan; 0 where it moves none: GPOS has the feature, or
+/// the shaper is one that doesn't take the table. (HarfBuzz's `hb_ot_shape_planner_t::compile`.)
+pub(super) fn kern_mask(plan: &ShapePlan, features: &impl FontFeatures) -> u32 {
+    let has_feature = features.feature_lookups(TableIndex::GPOS, KERN).is_some();
+    let takes_table = plan.shaper().is_none_or(Shaper::fallback_position);
+    if has_feature && plan.applies_gpos() || !takes_table {
+        0
+    } else {
+        plan.plan().ot_map.one_mask(KERN)
+    }
+}
+
+/// The table of a font, and how a plan has it applied.
+pub(super) struct Kerning<'a> {
+    pub table: &'a [u8],
+    pub mask: u32,
+    pub ignorables: DefaultIgnorables,
+}
+
+impl Kerning<'_> {
+    /// Moves pairs of glyphs by the table. What marks and ignorable glyphs got they lose again, since they
+    /// lost their advances before this.
+    pub fn apply(&self, plan: &ShapePlan, classes: &impl GlyphClasses, buffer: &mut Buffer) {
+        if self.mask == 0 || self.table.is_empty() {
+            return;
+        }
+        kern(self.table, self.mask, buffer);
+        let zeroing = plan.shaper().map(Shaper::zero_width_marks);
+        if zeroing.is_none_or(|zeroing| zeroing == ZeroWidthMarks::GDEF_LATE) {
+            let is_forward = matches!(
+                buffer.direction(),
+                Direction::LeftToRight | Direction::TopToBottom
+            );
+            zero_mark_widths(classes, is_forward && !plan.applies_gpos(), buffer);
+        }
+        zero_width_default_ignorables(self.ignorables, buffer);
+    }
+}
