@@ -154,7 +154,7 @@ others : (gdef gpos : List ℕ) (index : ℕ) (how : Application) (b : Buffer) �
 unfolding positioned
 others gdef gpos index how b = refl
 
-abbrev Same : Buffer → Glyphs → Positions → Type 0
+abbrev pub Same : Buffer → Glyphs → Positions → Type 0
 Same b gs ps = (map without_its_flags gs ≡ map without_its_flags b.glyphs) × (length ps ≡ length b.positions)
 
 same_kept : (b : Buffer) (d : Direction) → IsKept d (Same b)

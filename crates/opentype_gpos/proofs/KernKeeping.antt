@@ -1,5 +1,5 @@
 -- What the table `kern` keeps of a text.
-use Rattle.std.proofs.Common.{ℕ, zero, suc, ◌+◌, ◌≤◌, ◌≡◌, ◌==◌, bit_and, nat_lt, Bool, true, false, List, [], map, length, reverse, Option, None, Some, if◌then◌else◌, refl, sym, ap, ◌∙◌, arith}
+use Rattle.std.proofs.Common.{ℕ, zero, suc, ◌+◌, ◌≡◌, ◌==◌, bit_and, nat_lt, Bool, true, false, List, [], map, length, reverse, Option, None, Some, if◌then◌else◌, refl, ap, ◌∙◌, arith}
 use Rattle.std.proofs.lemmas.List.{length-map, length-reverse, length-set, reverse-reverse}
 use Rattle.shapers_buffer.proofs.MappedLists.{map-reverse}
 use Rattle.shapers_buffer.specs.Buffer.{Buffer, asks, flags_concat}
@@ -10,7 +10,7 @@ use Rattle.shapers_clusters.proofs.FlagCalls.{map-unsafe_to_concat_in, without_f
 use Rattle.opentype_face.specs.Bytes.{part_in, u16_in}
 use Rattle.opentype_layout.specs.Text.{glyph_at}
 use Rattle.opentype_gpos.specs.Finished.{is_backward}
-use Rattle.opentype_gpos.specs.Kerned.{Placed, as_drawn, in_one_line, is_across, kern_sight, kern_stepped, kerned, kerned_along, kerned_by, kerned_in_turn, kerned_text, kerned_with, line_step, pair_kerned, with_step}
+use Rattle.opentype_gpos.specs.Kerned.{Placed, in_one_line, is_across, kern_sight, kern_stepped, kerned, kerned_along, kerned_by, kerned_in_turn, kerned_text, kerned_with, line_step, pair_kerned, with_step}
 use Rattle.opentype_gpos.specs.Laws.{PlacesAlone, without_its_flags}
 use Rattle.opentype_gpos.specs.Moved.{Positions, is_vertical}
 use Rattle.opentype_gpos.specs.Nearby.{next_any}

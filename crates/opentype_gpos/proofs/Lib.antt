@@ -6,6 +6,8 @@ pub mod Preserved
 pub mod Keeping
 pub mod Kerning
 pub mod Marks
+pub mod MarkKeeping
+mod MarkRows
 pub mod KernKeeping
 mod KernRows
 mod TypeRows

@@ -1,6 +1,6 @@
 -- Marks of a text in a font without GPOS (HarfBuzz, hb-ot-shape-fallback.cc,
 -- `_hb_ot_shape_fallback_mark_position`).
-use Rattle.std.specs.Prelude.{ℕ, zero, suc, ◌+◌, ◌-◌, ◌*◌, ◌/◌, ◌%◌, ◌==◌, ◌&&◌, ◌||◌, not, nat_le, nat_lt, ℤ, pos, Bool, true, List, drop, length, slice_set, Option, None, Some, if◌then◌else◌}
+use Rattle.std.specs.Prelude.{ℕ, zero, suc, ◌+◌, ◌-◌, ◌/◌, ◌%◌, ◌==◌, ◌&&◌, ◌||◌, not, nat_le, nat_lt, ℤ, pos, Bool, true, drop, length, slice_set, Option, None, Some, if◌then◌else◌}
 use Rattle.std.specs.List.{prefix_len}
 use Rattle.shapers_buffer.specs.Buffer.{Buffer}
 use Rattle.shapers_buffer.specs.Category.{is_mark}
@@ -197,3 +197,44 @@ unfoldable pub marks_placed : MarkFont → Buffer → Buffer
 marks_placed f b =
     let end = walked (length b.glyphs) (marks_stepped f) b.glyphs b.positions 0 in
     record b { glyphs = end.glyphs; positions = end.positions }
+
+-- ---- classes of marks
+
+-- Marks of Thai and Lao without a class of their own.
+abbrev pub class_of_character : ℕ → ℕ
+class_of_character c =
+    if (c == 0x0E31) || (nat_le 0x0E34 c && nat_le c 0x0E37) || (c == 0x0E47)
+    || (nat_le 0x0E4C c && nat_le c 0x0E4E) then 232
+    else (if (c == 0x0EB1) || (nat_le 0x0EB4 c && nat_le c 0x0EB7) || (c == 0x0EBB)
+    || (c == 0x0ECC) || (c == 0x0ECD) then 230
+    else (if c == 0x0EBC then 220 else 0))
+
+-- The classes below 200 are those of marks of one script, by HarfBuzz's numbers: points of Hebrew
+-- (10 to 26), vowels of Arabic and Syriac (27 to 36), marks of Thai (3 and 107), Lao (118 and 122)
+-- and Tibetan (129 to 132).
+abbrev pub is_class_below : ℕ → Bool
+is_class_below c =
+    (nat_le 15 c && nat_le c 25) || (c == 30) || (c == 33)
+    || (c == 118) || (c == 129) || (c == 131)
+
+abbrev pub is_class_above : ℕ → Bool
+is_class_above c =
+    (nat_le 26 c && nat_le c 29) || (c == 31) || (c == 32) || (nat_le 34 c && nat_le c 36)
+    || (c == 122) || (c == 132)
+
+abbrev pub class_of_script : ℕ → ℕ
+class_of_script c =
+    if is_class_below c then 220
+    else (if is_class_above c then 230
+    else (if c == 13 then 214
+    else (if (c == 10) || (c == 107) then 232
+    else (if (c == 11) || (c == 14) then 228
+    else (if c == 3 then 222 else c)))))
+
+-- where a nonspacing mark comes, by its character and class (HarfBuzz,
+-- `recategorize_combining_class`); the sign of a missing vowel of Thai is below on the right
+unfoldable pub mark_class : ℕ → ℕ → ℕ
+mark_class character class =
+    if nat_le 200 class then class
+    else (if class == 0 then class_of_character character
+    else (if character == 0x0E3A then 222 else class_of_script class))

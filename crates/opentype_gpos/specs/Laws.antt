@@ -4,6 +4,7 @@ use Rattle.shapers_buffer.specs.Buffer.{Buffer}
 use Rattle.shapers_buffer.specs.Glyph.{without_flags}
 use Rattle.shapers_buffer.specs.Glyphs.{Glyph}
 use Rattle.opentype_layout.specs.declared.sight.Application.{Application}
+use Rattle.opentype_gpos.specs.Fallback.{MarkFont, marks_placed}
 use Rattle.opentype_gpos.specs.Finished.{finished, target_in}
 use Rattle.opentype_gpos.specs.Kerned.{kerned}
 use Rattle.opentype_gpos.specs.Moved.{Positions, position_at}
@@ -27,6 +28,10 @@ PositionLaw = (gdef gpos : List ℕ) (index : ℕ) (how : Application) (b : Buff
 -- and so does the table `kern`
 abbrev pub KernLaw : Type 0
 KernLaw = (table : List ℕ) (mask : ℕ) (b : Buffer) → PlacesAlone b (kerned table mask b)
+
+-- and the placing of marks without GPOS
+abbrev pub MarkLaw : Type 0
+MarkLaw = (f : MarkFont) (b : Buffer) → PlacesAlone b (marks_placed f b)
 
 -- and behind the last lookup
 abbrev pub FinishLaw : Type 0

@@ -2,7 +2,7 @@
 ghost use Rattle.std.specs.Prelude.{ℕ, ◌≡◌, ◌<◌, ◌≤◌, ◌+◌, ◌-◌, drop, length, slice_set};
 ghost use Rattle.opentype_gpos.specs.Moved.{position_at};
 ghost use Rattle.std.specs.List.{prefix_len};
-ghost use Rattle.opentype_gpos.specs.Fallback.{at_class, at_component, box_for_marks, brought_back, component_under, components_of, first_around, first_pen, glyph_around, mark_font, mark_upon, marks_around, marks_character, marks_placed, marks_stepped, marks_without_box, pen_past, placed_around, stays_with_base, upon_box, with_offsets, without_box};
+ghost use Rattle.opentype_gpos.specs.Fallback.{at_class, at_component, box_for_marks, brought_back, class_of_character, class_of_script, component_under, components_of, first_around, first_pen, glyph_around, mark_class, mark_font, mark_upon, marks_around, marks_character, marks_placed, marks_stepped, marks_without_box, pen_past, placed_around, stays_with_base, upon_box, with_offsets, without_box};
 ghost use Rattle.opentype_gpos.specs.Walked.{walked};
 ghost use Rattle.opentype_layout.specs.Text.{glyph_at};
 
@@ -41,8 +41,8 @@ pub struct MarkSettings {
     pub gap: u16,
     /// The direction of the line.
     pub direction: Direction,
-    /// Whether components of ligatures come from right to left: the line does, or in a vertical line
-    /// the script.
+    /// Whether the components of a ligature come from right to left: the direction that the text was to
+    /// be shaped in does, or of a vertical line the script.
     pub from_right: bool,
 }
 
@@ -558,4 +558,49 @@ pub fn place_marks_by_boxes<M: MarkMetrics>(
 {
     let placing = Placing { font, settings };
     buffer.walk_positioned(&placing);
+}
+
+// The class of a mark that has none, by its character.
+fn class_of_character(character: u32) -> u8
+    ensures { result ≡ class_of_character character }
+{
+    match character {
+        0x0E31 | 0x0E34..=0x0E37 | 0x0E47 | 0x0E4C..=0x0E4E => 232,
+        0x0EB1 | 0x0EB4..=0x0EB7 | 0x0EBB | 0x0ECC | 0x0ECD => 230,
+        0x0EBC => 220,
+        _ => 0,
+    }
+}
+
+// The class of a mark of one script, by where it comes.
+fn class_of_script(class: u8) -> u8
+    ensures { result ≡ class_of_script class }
+{
+    match class {
+        15..=25 | 30 | 33 | 118 | 129 | 131 => 220,
+        26..=29 | 31 | 32 | 34..=36 | 122 | 132 => 230,
+        13 => 214,
+        10 | 107 => 232,
+        11 | 14 => 228,
+        3 => 222,
+        _ => class,
+    }
+}
+
+/// The class by which a nonspacing mark is placed without GPOS, of a character and its class: HarfBuzz
+/// gives the glyph this one before characters are mapped to glyphs.
+#[tactic(auto, unfolding(crate::specs::Fallback::mark_class))]
+pub fn mark_class(character: u32, class: u8) -> u8
+    ensures { result ≡ mark_class character class }
+{
+    if class >= 200 {
+        return class;
+    }
+    if class == 0 {
+        return class_of_character(character);
+    }
+    if character == 0x0E3A {
+        return 222;
+    }
+    class_of_script(class)
 }

@@ -1,5 +1,5 @@
 //! The laws of lookups: each function does nothing, and its contract is the law.
-ghost use Rattle.opentype_gpos.specs.Laws.{FinishLaw, InsideLaw, KernLaw, PositionLaw};
+ghost use Rattle.opentype_gpos.specs.Laws.{FinishLaw, InsideLaw, KernLaw, MarkLaw, PositionLaw};
 
 /// A lookup, by any bytes, changes positions and glyph flags alone, and there are as many of them.
 pub fn position_law()
@@ -9,6 +9,11 @@ pub fn position_law()
 /// So does the table `kern`.
 pub fn kern_law()
     ensures { KernLaw }
+{}
+
+/// So does the placing of marks without GPOS, in any font.
+pub fn mark_law()
+    ensures { MarkLaw }
 {}
 
 /// So do attachments, behind the last lookup.

@@ -48,8 +48,8 @@ pub struct MarkSettings {
     pub gap: u16,
     /// The direction of the line.
     pub direction: Direction,
-    /// Whether components of ligatures come from right to left: the line does, or in a vertical line
-    /// the script.
+    /// Whether the components of a ligature come from right to left: the direction that the text was to
+    /// be shaped in does, or of a vertical line the script.
     pub from_right: bool,
 }
 
@@ -458,4 +458,54 @@ impl<'a, M: MarkMetrics> PositionedWalk for Placing<'a, M> {
 pub fn place_marks_by_boxes<M: MarkMetrics>(font: &M, settings: MarkSettings, buffer: &mut Buffer) {
     let placing = Placing { font, settings };
     buffer.walk_positioned(&placing);
+}
+
+// The class of a mark that has none, by its character.
+fn class_of_character(character: u32) -> u8 {
+    match character {
+        0x0E31 | 0x0E34..=0x0E37 | 0x0E47 | 0x0E4C..=0x0E4E => 232,
+        0x0EB1 | 0x0EB4..=0x0EB7 | 0x0EBB | 0x0ECC | 0x0ECD => 230,
+        0x0EBC => 220,
+        _ => 0,
+    }
+}
+
+// The class of a mark of one script, by where it comes.
+fn class_of_script(class: u8) -> u8 {
+    match class {
+        15..=25 | 30 | 33 | 118 | 129 | 131 => 220,
+        26..=29 | 31 | 32 | 34..=36 | 122 | 132 => 230,
+        13 => 214,
+        10 | 107 => 232,
+        11 | 14 => 228,
+        3 => 222,
+        _ => class,
+    }
+}
+
+/// The class by which a nonspacing mark is placed without GPOS, of a character and its class: HarfBuzz
+/// gives the glyph this one before characters are mapped to glyphs.
+///
+/// <details><summary>Contract</summary>
+///
+/// # Contract
+///
+/// ```text
+/// ensures { result ≡ mark_class character class }
+/// ```
+///
+/// - `mark_class`: `crates/opentype_gpos/specs/Fallback.antt`
+///
+/// </details>
+pub fn mark_class(character: u32, class: u8) -> u8 {
+    if class >= 200 {
+        return class;
+    }
+    if class == 0 {
+        return class_of_character(character);
+    }
+    if character == 0x0E3A {
+        return 222;
+    }
+    class_of_script(class)
 }
