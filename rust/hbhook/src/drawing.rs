@@ -66,7 +66,7 @@ pub(crate) fn draw_glyphs(
         face: Some(face),
         is_rtl,
     };
-    draw(row, legend, &|glyph| face.glyph_hor_advance(glyph).into())
+    draw(row, legend, &|glyph| face.glyph_hor_advance(glyph))
 }
 
 fn draw(mut row: Row, legend: &mut Legend, width_of: &dyn Fn(u32) -> i32) -> String {

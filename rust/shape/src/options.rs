@@ -229,7 +229,8 @@ fn check(settings: &Settings) -> Result<(), Fault> {
     }
     let reads_font = settings.font_file.as_deref() == Some("-".as_ref());
     let file = settings.text.file.as_deref();
-    if reads_font && settings.text.text.is_none() && file.is_none_or(|file| file == "-") {
+    if reads_font && settings.text.text.is_none() && file.is_none_or(|file| file.as_os_str() == "-")
+    {
         return refuse("Font and text can't both be standard input");
     }
     Ok(())
