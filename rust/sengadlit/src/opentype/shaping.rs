@@ -178,3 +178,21 @@ fn complete_or_empty(shaped: Result<GlyphBuffer, ShapeError>) -> GlyphBuffer {
         GlyphBuffer::new(text, false)
     })
 }
+
+#[cfg(test)]
+mod tests {
+    use super::*;
+    use crate::buffer::{Direction, ShaperError};
+
+    // What can't be shaped has no glyph, and is told; its direction is what it was.
+    #[test]
+    fn a_refused_text_is_nothing_in_its_direction() {
+        let mut text = UnicodeBuffer::new();
+        text.push_str("\u{05D0}\u{05D1}");
+        text.set_direction(Direction::RightToLeft);
+        let error = CallError::Refused(ShaperError::Memory);
+        let glyphs = complete_or_empty(Err(ShapeError { error, text }));
+        assert!(glyphs.is_empty() && !glyphs.is_complete());
+        assert_eq!(glyphs.direction(), Direction::RightToLeft);
+    }
+}
