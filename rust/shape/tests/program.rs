@@ -8,7 +8,7 @@ use common::{Done, run, run_with_input, sample_font};
 /// What is printed of a text in the sample font with these options.
 fn shaped(options: &[&str], text: &str) -> String {
     let font = sample_font();
-    let mut arguments = vec![font.as_str()];
+    let mut arguments = vec![font];
     arguments.extend(options);
     arguments.extend(["--text", text]);
     run(&arguments).success()
@@ -17,11 +17,11 @@ fn shaped(options: &[&str], text: &str) -> String {
 #[test]
 fn a_font_and_a_text() {
     let font = sample_font();
-    let done = run(&[&font, "Tofi"]);
+    let done = run(&[font, "Tofi"]);
     assert_eq!(done.success(), "[T=0+490|o=1+560|fi=2+520]\n");
-    let by_options = run(&["--text=Tofi", "--font-file", &font]);
+    let by_options = run(&["--text=Tofi", "--font-file", font]);
     assert_eq!(by_options.success(), "[T=0+490|o=1+560|fi=2+520]\n");
-    assert_eq!(run(&["--", &font, "To"]).success(), "[T=0+490|o=1+560]\n");
+    assert_eq!(run(&["--", font, "To"]).success(), "[T=0+490|o=1+560]\n");
 }
 
 #[test]
@@ -39,7 +39,7 @@ fn words_of_the_sample_font() {
         .map(|(_, glyphs)| format!("{glyphs}\n"))
         .collect();
     let font = sample_font();
-    let done = run_with_input(&[&font, "--utf8-clusters"], input.as_bytes());
+    let done = run_with_input(&[font, "--utf8-clusters"], input.as_bytes());
     assert_eq!(done.success(), expected);
 }
 
@@ -84,30 +84,30 @@ fn features_direction_script_language() {
 #[test]
 fn characters_by_numbers_and_contexts() {
     let font = sample_font();
-    let by_numbers = run(&[&font, "-u", "U+0041,0056"]).success();
+    let by_numbers = run(&[font, "-u", "U+0041,0056"]).success();
     assert_eq!(by_numbers, shaped(&[], "AV"));
     // a letter of Arabic before the text, and one behind
-    let alone = run(&[&font, "--unicodes=628", "--no-positions"]).success();
+    let alone = run(&[font, "--unicodes=628", "--no-positions"]).success();
     assert_eq!(alone, "[beh-ar=0]\n");
     let joined = [
         "--unicodes-before=628",
         "--text-after=\u{628}",
         "--no-positions",
     ];
-    let joined = run(&[&[font.as_str(), "-u628"], &joined[..]].concat()).success();
+    let joined = run(&[&[font, "-u628"], &joined[..]].concat()).success();
     assert_eq!(joined, "[beh-ar.medi=0]\n");
 }
 
 #[test]
 fn lines_and_paragraphs() {
     let font = sample_font();
-    let done = run_with_input(&[&font, "--no-positions"], b"o\n\na");
+    let done = run_with_input(&[font, "--no-positions"], b"o\n\na");
     assert_eq!(done.success(), "[o=0]\n\n[a=0]\n");
-    let done = run_with_input(&[&font, "--no-positions", "--single-par"], b"o\na");
+    let done = run_with_input(&[font, "--no-positions", "--single-par"], b"o\na");
     assert_eq!(done.success().matches('|').count(), 2);
-    let done = run_with_input(&[&font, "--text-file=-", "--show-unicode"], b"\xFFo");
+    let done = run_with_input(&[font, "--text-file=-", "--show-unicode"], b"\xFFo");
     assert!(done.success().starts_with("<U+FFFD=0|U+006F=1>\n"));
-    assert_eq!(run_with_input(&[&font], b"").success(), "");
+    assert_eq!(run_with_input(&[font], b"").success(), "");
     assert_eq!(shaped(&[], ""), "");
 }
 
@@ -135,17 +135,17 @@ fn ignorable_and_missing_characters() {
     assert_eq!(with("--preserve-default-ignorables"), "[A|.notdef|A]\n");
     let font = sample_font();
     let invisible = run(&[
-        &font,
+        font,
         zwnj,
         "--no-glyph-names",
         "--invisible-glyph=1",
         "--ned",
     ]);
     assert_eq!(invisible.success().matches("|1@").count(), 1);
-    let missing = run(&[&font, "\u{4E2D}", "--no-glyph-names", "--not-found-glyph=7"]);
+    let missing = run(&[font, "\u{4E2D}", "--no-glyph-names", "--not-found-glyph=7"]);
     assert!(missing.success().starts_with("[7=0+"));
     let selector = ["A\u{FE0F}", "--not-found-variation-selector-glyph=70000"];
-    let selector = run(&[&[font.as_str()], &selector[..]].concat()).success();
+    let selector = run(&[&[font], &selector[..]].concat()).success();
     assert_eq!(selector, "[A=0+640|gid70000=0+0]\n");
 }
 
@@ -162,7 +162,7 @@ fn cluster_levels() {
 #[test]
 fn lookups_are_traced() {
     let font = sample_font();
-    let Done { output, error, .. } = run(&[&font, "fi", "-V", "--show-line-num"]);
+    let Done { output, error, .. } = run(&[font, "fi", "-V", "--show-line-num"]);
     assert_eq!(output, "1: [fi=0+520]\n");
     assert!(
         error.lines().all(|line| line.starts_with("1: trace: ")),
@@ -194,7 +194,7 @@ fn files_of_output() {
     let folder = common::Scratch::new("files");
     let (json, svg) = (folder.path("o.json"), folder.path("o.svg"));
     let font = sample_font();
-    let done = run(&[&font, "AV\no", "-o", &json, "--svg", &svg]);
+    let done = run(&[font, "AV\no", "-o", &json, "--svg", &svg]);
     assert_eq!(done.success(), "");
     let written = std::fs::read_to_string(&json).unwrap();
     assert!(written.starts_with("[{\"g\":\"A\",") && written.lines().count() == 2);
@@ -203,7 +203,7 @@ fn files_of_output() {
     assert_eq!(picture.matches("<path ").count(), 3);
     assert!(!picture.contains("NaN") && !picture.contains("inf"));
     let text = folder.path("o.anything");
-    run(&[&font, "o", "--output-file", &text]).success();
+    run(&[font, "o", "--output-file", &text]).success();
     assert_eq!(std::fs::read_to_string(&text).unwrap(), "[o=0+560]\n");
 }
 

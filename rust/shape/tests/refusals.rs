@@ -9,7 +9,7 @@ use std::ffi::OsString;
 /// Runs with these arguments behind the sample font; the status, and the first line of the message.
 fn refused(arguments: &[&str]) -> (Option<i32>, String) {
     let font = sample_font();
-    let done = run(&[&[font.as_str()], arguments].concat());
+    let done = run(&[&[font], arguments].concat());
     let first = done.error.lines().next().unwrap_or_default();
     let message = first.strip_prefix("sengadlit-shape: ").unwrap_or_default();
     (done.status, message.into())
@@ -194,9 +194,9 @@ fn spoilt_fonts() {
 fn texts_without_end() {
     let font = sample_font();
     let long = "\u{915}\u{94D}".repeat(5_000);
-    let done = run_with_input(&[font.as_str(), "--no-positions"], long.as_bytes());
+    let done = run_with_input(&[font, "--no-positions"], long.as_bytes());
     assert_eq!(done.status, Some(0));
-    let nul = run_with_input(&[font.as_str(), "--ned"], b"A\0V");
+    let nul = run_with_input(&[font, "--ned"], b"A\0V");
     assert_eq!(nul.success().matches('|').count(), 2);
 }
 

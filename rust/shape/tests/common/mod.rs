@@ -13,9 +13,16 @@ pub fn top() -> PathBuf {
 }
 
 /// The repository's own font.
-pub fn sample_font() -> String {
-    let path = top().join("fonts/sample.ttf");
-    path.to_str().unwrap().into()
+pub fn sample_font() -> &'static str {
+    concat!(env!("CARGO_MANIFEST_DIR"), "/../../fonts/sample.ttf")
+}
+
+/// The program, beside the folder of the tests. (A shell between cargo and rustc drops the variable
+/// `CARGO_BIN_EXE_sengadlit-shape`, for its hyphen.)
+fn program() -> PathBuf {
+    let test = std::env::current_exe().unwrap();
+    let folder = test.ancestors().nth(2).unwrap();
+    folder.join(format!("sengadlit-shape{}", std::env::consts::EXE_SUFFIX))
 }
 
 /// How a run ended.
@@ -41,7 +48,7 @@ pub fn run(arguments: &[impl AsRef<OsStr>]) -> Done {
 
 /// Runs the program with this standard input.
 pub fn run_with_input(arguments: &[impl AsRef<OsStr>], input: &[u8]) -> Done {
-    let mut program = Command::new(env!("CARGO_BIN_EXE_sengadlit-shape"))
+    let mut program = Command::new(program())
         .args(arguments)
         .stdin(Stdio::piped())
         .stdout(Stdio::piped())
