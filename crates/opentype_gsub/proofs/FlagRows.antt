@@ -6,7 +6,7 @@ use Rattle.shapers_buffer.specs.declared.buffer.level.BufferClusterLevel.TheVari
 use Rattle.opentype_layout.specs.Rules.{Found}
 use Rattle.opentype_gsub.specs.Edits.{replaced}
 use Rattle.opentype_gsub.specs.Flagged.{is_short, unbroken}
-use Rattle.opentype_gsub.specs.Machine.{begun}
+use Rattle.opentype_gsub.specs.Came.{begun}
 use Rattle.opentype_gsub.specs.Reversed.{with_glyph}
 use Rattle.opentype_gsub.specs.Setting.{Setting}
 
@@ -86,6 +86,7 @@ setting = record {
   gdef = [];
   gsub = [];
   level = MonotoneGraphemes;
+  concat = false;
   len = 1;
   limit = 9;
   lookup = record { index = 0; mask = 8; auto_zwnj = true; auto_zwj = true; random = false; per_syllable = false };

@@ -12,13 +12,16 @@ use Rattle.opentype_layout.specs.Sight.{flag_in, ignores, may_pass, next_from, s
 use Rattle.opentype_gsub.specs.Applied.{one_put, sequence_put, single_put}
 use Rattle.opentype_gsub.specs.Edits.{handed_on, merged_up_to, multiplied, new_props, sequence_part, sequence_parts, removed_all, replaced}
 use Rattle.opentype_gsub.specs.Flagged.{is_short, unbroken}
+use Rattle.opentype_gsub.specs.Looked.{tried}
 use Rattle.opentype_gsub.specs.Ligated.{as_letter, as_mark, components_of, counted_too, followed_by_marks, is_of_base, is_of_last, is_of_marks, ligature_joined, ligated, ligature_glyph, marks_inside, marked_one, number_before, number_for, with_followers}
-use Rattle.opentype_gsub.specs.Machine.{begun, lookup_called, came_in, nested, nth_came, ran, machine_turned}
+use Rattle.opentype_gsub.specs.Came.{begun, came_in, nth_came}
+use Rattle.opentype_gsub.specs.Machine.{lookup_called, nested, ran, machine_turned}
 use Rattle.opentype_gsub.specs.Reversed.{around_in, glyphs_at, nth_reversed, reversed_in, lookup_stepped_back}
 use Rattle.opentype_gsub.specs.Setting.{Setting, is_seen, sights_of}
 use Rattle.opentype_face.specs.Ranges.{bisect}
 use Rattle.opentype_gsub.specs.Decided.{alternate_in, single_in}
-use Rattle.opentype_gsub.specs.Machine.{Frame, climbing, frame_settled, settled_places}
+use Rattle.opentype_gsub.specs.Came.{Frame}
+use Rattle.opentype_gsub.specs.Machine.{climbing, frame_settled, settled_places}
 
 -- a coverage, format 1: glyphs 5 and 9
 abbrev covered : List ℕ
@@ -139,6 +142,7 @@ set_for limit gsub = record {
   gdef = [];
   gsub = gsub;
   level = MonotoneGraphemes;
+  concat = false;
   len = 2;
   limit = limit;
   lookup = record { index = 0; mask = 256; auto_zwnj = true; auto_zwj = true; random = false; per_syllable = false };
@@ -207,12 +211,12 @@ context = lookup_of 6 0 (0 ∷ 3 ∷ 0 ∷ 0 ∷ 0 ∷ 1 ∷ 0 ∷ 18 ∷ 0 ∷ 
 
 in_context : nested (set_for 9 (gsub_of (lookup_of 1 0 by_delta))) context (glyph 5 1 ∷ glyph 9 2 ∷ []) 0 100
     ≡ record { text = with_props 16 0 (glyph 7 1) ∷ with_flags 3 (glyph 9 2) ∷ []; end = Some 1; left = 98 }
-unfolding nested came_in nth_came begun unbroken is_short sights_of sight_of_input sight_of_context flag_in context_in kind_in first_at found_at around rule_in chained_in test_in reach_behind reach_before reach_from end_in input_in places_from next_from seen_by seen_as ignores may_pass bisect first_from ran machine_turned lookup_called one_put single_put replaced new_props frame_settled settled_places climbing
+unfolding nested tried came_in nth_came begun unbroken is_short sights_of sight_of_input sight_of_context flag_in context_in kind_in first_at found_at around rule_in chained_in test_in reach_behind reach_before reach_from end_in input_in places_from next_from seen_by seen_as ignores may_pass bisect first_from ran machine_turned lookup_called one_put single_put replaced new_props frame_settled settled_places climbing
 in_context = refl
 
 out_of_context : nested (set_for 9 (gsub_of (lookup_of 1 0 by_delta))) context (glyph 5 1 ∷ glyph 8 2 ∷ []) 0 100
     ≡ record { text = glyph 5 1 ∷ glyph 8 2 ∷ []; end = None; left = 100 }
-unfolding nested came_in nth_came begun unbroken is_short sights_of sight_of_input sight_of_context flag_in context_in kind_in first_at found_at around rule_in chained_in test_in reach_behind reach_before reach_from end_in input_in places_from next_from seen_by seen_as ignores may_pass bisect first_from ran machine_turned lookup_called one_put single_put replaced new_props frame_settled settled_places climbing
+unfolding nested tried came_in nth_came begun unbroken is_short sights_of sight_of_input sight_of_context flag_in context_in kind_in first_at found_at around rule_in chained_in test_in reach_behind reach_before reach_from end_in input_in places_from next_from seen_by seen_as ignores may_pass bisect first_from ran machine_turned lookup_called one_put single_put replaced new_props frame_settled settled_places climbing
 out_of_context = refl
 
 -- type 8: glyph 5 becomes 6 before glyph 9

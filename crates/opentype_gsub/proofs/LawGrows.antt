@@ -12,7 +12,8 @@ use Rattle.opentype_layout.specs.declared.sight.Sight.{Sight}
 use Rattle.opentype_gsub.specs.Applied.{PlaceChange, alternate_put, ligated_put, ligature_put, one_put, put_in, single_put}
 use Rattle.opentype_gsub.specs.Growth.{adding, growth_in, may_add}
 use Rattle.opentype_gsub.specs.Ligatures.{nth_ligature}
-use Rattle.opentype_gsub.specs.Machine.{Begun, Frame, MachineTurn, came_in, nested, nth_came, started, machine_turned}
+use Rattle.opentype_gsub.specs.Came.{Begun, Frame, came_in, nth_came}
+use Rattle.opentype_gsub.specs.Machine.{MachineTurn, nested, started, machine_turned}
 use Rattle.opentype_gsub.specs.Reversed.{lookup_stepped_back, walked_back, with_glyph}
 use Rattle.opentype_gsub.specs.Setting.{Setting, is_seen, sights_of}
 use Rattle.opentype_gsub.specs.Substituted.{applied, operations_in, setting_for, substituted}
@@ -21,8 +22,9 @@ use Rattle.opentype_gsub.specs.declared.pass.LookupUse.{LookupUse}
 use Rattle.opentype_gsub.specs.declared.pass.Sights.{Sights}
 use Rattle.opentype_gsub.proofs.LawKeeps.{ForEach, AreWithin, each_when, first_each, glyphs_grow, if_each, last_within, ligature_within, each_mapped, mapped_if, or_each, then_each}
 use Rattle.opentype_gsub.specs.Flagged.{unbroken}
+use Rattle.opentype_gsub.specs.Looked.{tried}
 use Rattle.opentype_gsub.specs.declared.reverse.Reversal.{Reversal}
-use Rattle.opentype_gsub.proofs.Unbroken.{unbroken_same}
+use Rattle.opentype_gsub.proofs.Unbroken.{tried_same, unbroken_same}
 use Rattle.opentype_gsub.proofs.LigatureKeeps.{same_length}
 use Rattle.opentype_gsub.proofs.Lengths.{ligated_few, put_few}
 
@@ -143,9 +145,11 @@ if_step gs false x y one two = two
 step_less : (s : Setting) (lookup : List ℕ) → is_some (first_from (u16_in lookup 4) (adding lookup) 0) ≡ false →
     (gs : Glyphs) (at left : ℕ) → length (lookup_stepped s lookup gs at left).text ≤ length gs
 unfolding lookup_stepped nested
-step_less s lookup none gs at left =
-    if_step gs (is_seen s.gdef s.lookup lookup (glyph_at gs at)) (went_on at (started left (machine_turned s) gs (came_in s lookup gs at))) _
-    (started_less left (machine_turned s) gs (came_in s lookup gs at) (came_less s lookup gs at none)) (omega arith)
+step_less s lookup none gs at left = let flagged = tried s lookup gs at in
+    if_step gs (is_seen s.gdef s.lookup lookup (glyph_at gs at))
+    (went_on at (started left (machine_turned s) flagged (came_in s lookup flagged at))) _
+    (let less = started_less left (machine_turned s) flagged (came_in s lookup flagged at) (came_less s lookup flagged at none) in
+    let same = same_length flagged gs (tried_same s lookup gs at) in omega arith) (omega arith)
 
 if_text : (n : ℕ) (test : Bool) (x y : Glyphs) → length x ≤ n → length y ≤ n → length (if test then x else y) ≤ n
 if_text n true x y one two = one

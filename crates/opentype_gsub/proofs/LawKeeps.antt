@@ -14,7 +14,8 @@ use Rattle.opentype_layout.specs.Pattern.{is_number, next_in, places_from, seen_
 use Rattle.opentype_layout.specs.Ligatures.{if_together, input_in, is_apart}
 use Rattle.opentype_gsub.specs.Ligatures.{nth_ligature, ligature_of}
 use Rattle.opentype_gsub.specs.Applied.{PlaceChange, alternate_put, ligated_put, ligature_put, multiple_put, one_put, put_in, sequence_put, single_put}
-use Rattle.opentype_gsub.specs.Machine.{AfterCall, Begun, Frame, Nested, MachineTurn, begun, lookup_called, called_by, came_in, ended, goes_on_with, nested, nth_came, turn_pushed, ran, started, machine_turned}
+use Rattle.opentype_gsub.specs.Came.{Begun, Frame, begun, came_in, nth_came}
+use Rattle.opentype_gsub.specs.Machine.{AfterCall, Nested, MachineTurn, lookup_called, called_by, ended, goes_on_with, nested, turn_pushed, ran, started, machine_turned}
 use Rattle.opentype_gsub.specs.Setting.{Setting, is_seen, sights_of}
 use Rattle.opentype_gsub.specs.Walked.{WalkStep, lookup_stepped, lookup_walked, went_on}
 use Rattle.opentype_gsub.specs.Substituted.{applied, limit_in, operations_in, setting_for, substituted}
@@ -30,8 +31,9 @@ use Rattle.opentype_layout.specs.Rules.{Found, context_in}
 use Rattle.opentype_gsub.specs.Reversed.{lookup_stepped_back, walked_back, with_glyph}
 use Rattle.opentype_layout.specs.declared.sight.Sight.{Sight}
 use Rattle.opentype_gsub.specs.Flagged.{unbroken}
+use Rattle.opentype_gsub.specs.Looked.{tried}
 use Rattle.opentype_gsub.specs.declared.reverse.Reversal.{Reversal}
-use Rattle.opentype_gsub.proofs.Unbroken.{unbroken_same}
+use Rattle.opentype_gsub.proofs.Unbroken.{tried_same, unbroken_same}
 use Rattle.opentype_gsub.proofs.LigatureKeeps.{same_length}
 use Rattle.opentype_gsub.proofs.Kept.{itself, kept_then, same}
 use Rattle.opentype_gsub.proofs.Lengths.{ligated_few, put_few, sequence_few}
@@ -176,6 +178,10 @@ flagging_keeps s gs old_len start stop = let kept = unbroken_same old_len start 
     no_longer s gs _ (same s.level gs _ kept)
     (omega (arith, same_length (unbroken old_len start stop gs) gs kept))
 
+trying_keeps : (s : Setting) (lookup : List ℕ) (gs : Glyphs) (at : ℕ) → Keeps s gs (tried s lookup gs at)
+trying_keeps s lookup gs at = let kept = tried_same s lookup gs at in
+    no_longer s gs _ (same s.level gs _ kept) (omega (arith, same_length (tried s lookup gs at) gs kept))
+
 begun_keeps : (s : Setting) (chained : Bool) (gs : Glyphs) (m : Found) → Keeps s gs (begun s chained gs m).text
 unfolding begun
 begun_keeps s chained gs m = flagging_keeps s gs (if chained then s.len else length gs) m.start m.stop
@@ -259,7 +265,13 @@ if_called s gs false x y one two = two
 
 called_keeps : (s : Setting) (gs : Glyphs) (f : Frame) → Keeps s gs (lookup_called s gs f).text
 unfolding lookup_called
-called_keeps s gs f = if_called s gs _ _ _ (by_keeps s gs _ _ (came_keeps s _ gs _)) (unchanged s gs)
+called_keeps s gs f =
+    let lookup = lookup_in s.gsub (u16_in f.records (f.next * 4 + 2)) in
+    let place = get_or f.places (u16_in f.records (f.next * 4)) 0 in
+    let flagged = tried s lookup gs place in
+    if_called s gs _ _ _
+    (keeps_then s gs flagged _ (trying_keeps s lookup gs place) (by_keeps s flagged _ _ (came_keeps s lookup flagged place)))
+    (unchanged s gs)
 
 ended_keeps : (s : Setting) (gs : Glyphs) (f : Frame) (fs : List Frame) → Keeps s gs (ended gs f fs).text
 ended_keeps s gs f [] = unchanged s gs
@@ -296,7 +308,9 @@ started_keeps s operations gs (Some (inr b)) h =
 
 nested_keeps : (s : Setting) (lookup : List ℕ) (gs : Glyphs) (at operations : ℕ) → Keeps s gs (nested s lookup gs at operations).text
 unfolding nested
-nested_keeps s lookup gs at operations = started_keeps s operations gs (came_in s lookup gs at) (came_keeps s lookup gs at)
+nested_keeps s lookup gs at operations = let flagged = tried s lookup gs at in
+    keeps_then s gs flagged _ (trying_keeps s lookup gs at)
+    (started_keeps s operations flagged (came_in s lookup flagged at) (came_keeps s lookup flagged at))
 
 -- ---- along the text
 

@@ -5,6 +5,7 @@ pub mod Marking
 mod GsubRows
 mod FlagRows
 mod PresenceRows
+mod LookedRows
 pub mod Unbroken
 pub mod Pairs
 pub mod Kept
@@ -15,3 +16,4 @@ pub mod LawKeeps
 pub mod LawGrows
 pub mod Machines
 pub mod Untouched
+pub mod Lookings

@@ -15,7 +15,8 @@ use Rattle.shapers_buffer.specs.declared.buffer.refusal.ShaperError.{ShaperError
 use Rattle.opentype_layout.specs.Text.{glyph_at}
 use Rattle.std.proofs.Common.{nat_lt}
 use Rattle.std.proofs.lemmas.List.{length-reverse}
-use Rattle.opentype_gsub.specs.Machine.{Begun, IsEnded, lookup_called, came_in, deeper, ended, nth_came, turn_pushed, frame_settled, machine_turned, Frame, IsCome, MachineTurn, capped, climbing, frame_of, frames, goes_on_with, place_moved, ran, settled_places}
+use Rattle.opentype_gsub.specs.Came.{Begun, came_in, nth_came, Frame, IsCome, frame_of}
+use Rattle.opentype_gsub.specs.Machine.{IsEnded, lookup_called, deeper, ended, turn_pushed, frame_settled, machine_turned, MachineTurn, capped, climbing, frames, goes_on_with, place_moved, ran, settled_places}
 use Rattle.opentype_gsub.specs.declared.settling.Rule.{Rule}
 use Rattle.opentype_gsub.specs.declared.machine.Outcome.{Outcome}
 use Rattle.opentype_gsub.specs.declared.machine.Outcome.TheVariants.{Nothing, Done, Fits}

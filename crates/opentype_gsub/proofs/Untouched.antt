@@ -1,5 +1,5 @@
 -- A text stays as it is where a lookup can't begin.
-use Rattle.std.proofs.Common.{◌⊎◌, inl, inr, ◌≡◌, ◌∙◌, ℕ, zero, suc, ◌+◌, ◌-◌, ◌%◌, ◌==◌, ◌<◌, ◌≤◌, ◌||◌, not, Bool, true, false, nat_lt, bit_and, Option, None, Some, List, length, refl, sym, ap, subst, arith, if◌then◌else◌}
+use Rattle.std.proofs.Common.{◌⊎◌, inl, inr, ◌≡◌, ◌∙◌, ℕ, zero, suc, ◌+◌, ◌-◌, ◌%◌, ◌==◌, ◌<◌, ◌≤◌, ◌||◌, ◌&&◌, not, min, max, Bool, true, false, nat_lt, bit_and, Option, None, Some, List, length, refl, sym, ap, subst, arith, if◌then◌else◌}
 use Rattle.std.specs.List.{prefix_len}
 use Rattle.std.specs.Option.{is_some, option_and_then, option_map}
 use Rattle.std.proofs.lemmas.Bool.Decides.{nat_tests}
@@ -16,7 +16,10 @@ use Rattle.opentype_layout.specs.Text.{glyph_at}
 use Rattle.opentype_layout.specs.declared.sight.Sight.{Sight}
 use Rattle.opentype_gsub.specs.Applied.{alternate_put, ligated_put, multiple_put, one_put, single_put, two_byte_number}
 use Rattle.opentype_gsub.specs.Decided.{alternate_at, covered_in, set_at, set_for_glyph, single_at}
-use Rattle.opentype_gsub.specs.Machine.{came_in, nested, nth_came}
+use Rattle.opentype_gsub.specs.Came.{came_in, nth_came}
+use Rattle.opentype_gsub.specs.Machine.{nested}
+use Rattle.opentype_gsub.specs.Looked.{all_looked, context_rules, spanned, lookup_looked, looked_by, nothing, rules_in, subtable_looked, tried, unjoined}
+use Rattle.opentype_gsub.specs.declared.looking.Stretch.{Stretch}
 use Rattle.opentype_gsub.specs.Presence.{applied_from, is_left, starting, starts_at, starts_with}
 use Rattle.opentype_gsub.specs.Reversed.{lookup_stepped_back, nth_reversed, reversed_at, reversed_in, walked_back, with_glyph}
 use Rattle.opentype_gsub.specs.Setting.{Setting, is_seen, sights_of}
@@ -70,6 +73,10 @@ at_first : (kind : ℕ) (bytes : List ℕ) → ((kind == 5) || (kind == 6)) ≡ 
     starts_at kind bytes ≡ first_at (kind == 6) bytes
 unfolding starts_at
 at_first kind bytes context e = grind (arith, common_steps, nat_tests)
+
+first_of : (kind : ℕ) (chained : Bool) (bytes : List ℕ) → (kind == 6) ≡ chained →
+    first_at (kind == 6) bytes ≡ first_at chained bytes
+first_of kind chained bytes e = rw e refl
 
 covered_by : (kind : ℕ) (bytes : List ℕ) (glyph at : ℕ) → starts_with kind bytes glyph ≡ false →
     starts_at kind bytes ≡ at → coverage_in (part_in bytes (u16_in bytes at)) glyph ≡ None
@@ -157,16 +164,100 @@ came_none s lookup gs at none = let sights = sights_of s.gdef s.lookup lookup (g
     (λ d lt. nth_none s sights lookup at gs (0 + d) (each_none lookup (two_byte_number gs at) none d lt)))
     (λ t. refl)
 
+-- ---- nothing is looked at either
+
+no_context : (chained : Bool) (bytes : List ℕ) (glyph : ℕ) →
+    ((u16_in bytes 0 == 3) ≡ true → coverage_in (part_in bytes (u16_in bytes (first_at chained bytes))) glyph ≡ None) →
+    ((u16_in bytes 0 == 3) ≡ false → coverage_in (part_in bytes (u16_in bytes 2)) glyph ≡ None) →
+    context_rules chained bytes glyph ≡ None
+unfolding context_rules
+no_context chained bytes glyph third other =
+    let format = u16_in bytes 0 in
+    none_if (format == 1) _ _
+    (λ t. none_mapped _ _ (other (grind (arith, nat_tests))))
+    (λ t. none_if (format == 2) _ _ (λ t. (let e = other (grind (arith, nat_tests)) in rw e refl))
+    (λ t. none_if (format == 3) _ None (λ t. (let e = third t in rw e refl)) (λ t. refl)))
+
+no_rules : (kind : ℕ) (bytes : List ℕ) (glyph : ℕ) → starts_with kind bytes glyph ≡ false →
+    rules_in kind bytes glyph ≡ None
+unfolding rules_in
+no_rules kind bytes glyph none =
+    none_if (kind == 4) _ _
+    (λ t. none_mapped _ _ (no_set bytes glyph (covered_by kind bytes glyph 2 none (at_two kind bytes (grind (arith, nat_tests)) (grind (arith, nat_tests))))))
+    (λ t. none_if (kind == 5) _ _
+    (λ t. no_context false bytes glyph
+    (λ e. covered_by kind bytes glyph _ none (at_first kind bytes (grind (arith, common_steps, nat_tests)) e ∙ first_of kind false bytes (grind (arith, nat_tests))))
+    (λ e. covered_by kind bytes glyph 2 none (at_start kind bytes e)))
+    (λ t. none_if (kind == 6) _ None
+    (λ t. no_context true bytes glyph
+    (λ e. covered_by kind bytes glyph _ none (at_first kind bytes (grind (arith, common_steps, nat_tests)) e ∙ first_of kind true bytes t))
+    (λ e. covered_by kind bytes glyph 2 none (at_start kind bytes e)))
+    (λ t. refl)))
+
+unlooked : (s : Setting) (sights : Sights) (lookup : List ℕ) (gs : Glyphs) (at i : ℕ) →
+    starts_with (type_in 7 lookup i) (subtable_in 7 lookup i) (two_byte_number gs at) ≡ false →
+    subtable_looked s sights lookup gs at i ≡ nothing at
+unfolding subtable_looked
+unlooked s sights lookup gs at i none =
+    ap (looked_by s.gdef sights s.len gs at) (no_rules (type_in 7 lookup i) (subtable_in 7 lookup i) (two_byte_number gs at) none)
+
+join_none : (at : ℕ) (looked : Stretch) → looked ≡ nothing at → spanned (nothing at) looked ≡ nothing at
+join_none at looked is =
+    let low : min at at ≡ at = omega arith in
+    let high : max at at ≡ at = omega arith in
+    ap (spanned (nothing at)) is ∙ (let h : ℕ → ℕ → Stretch = λ x y. record { start = x; stop = y } in
+    ap (λ x. h x (max at at)) low ∙ ap (h at) high)
+
+either_none : (test : Bool) (x y : Stretch) (z : Stretch) → x ≡ z → y ≡ z → (if test then x else y) ≡ z
+either_none true x y z one two = one
+either_none false x y z one two = two
+
+all_none : (fits : ℕ → Bool) (look : ℕ → Stretch) (at n i : ℕ) → ((d : ℕ) → d < n → look (i + d) ≡ nothing at) →
+    all_looked n fits look i (nothing at) ≡ nothing at
+unfolding all_looked
+all_none fits look at zero i h = refl
+all_none fits look at (suc n) i h =
+    let z : i + 0 ≡ i = omega arith in
+    let here : spanned (nothing at) (look i) ≡ nothing at =
+    join_none at (look i) (subst (λ j. look j ≡ nothing at) z (h 0 (omega arith))) in
+    either_none (fits i) _ _ (nothing at) here (ap (all_looked n fits look (i + 1)) here
+    ∙ all_none fits look at n (i + 1) (λ d lt. (let k : i + suc d ≡ i + 1 + d = omega arith in
+    subst (λ j. look j ≡ nothing at) k (h (suc d) (omega arith)))))
+
+looked_none : (s : Setting) (sights : Sights) (lookup : List ℕ) (gs : Glyphs) (at : ℕ) →
+    is_some (first_from (u16_in lookup 4) (starting lookup (two_byte_number gs at)) 0) ≡ false →
+    lookup_looked s sights lookup gs at ≡ nothing at
+unfolding lookup_looked
+looked_none s sights lookup gs at none =
+    all_none _ (subtable_looked s sights lookup gs at) at (u16_in lookup 4) 0
+    (λ d lt. unlooked s sights lookup gs at (0 + d) (each_none lookup (two_byte_number gs at) none d lt))
+
+unflagged : (at : ℕ) (gs : Glyphs) → unjoined (nothing at) gs ≡ gs
+unfolding unjoined
+unflagged at gs = let t : nat_lt at (min (length gs) at) ≡ false = grind (arith, nat_tests) in rw t refl
+
+kept_if : (test : Bool) (x gs : Glyphs) → x ≡ gs → (if test then x else gs) ≡ gs
+kept_if true x gs e = e
+kept_if false x gs e = refl
+
+tried_none : (s : Setting) (lookup : List ℕ) (gs : Glyphs) (at : ℕ) →
+    is_some (first_from (u16_in lookup 4) (starting lookup (two_byte_number gs at)) 0) ≡ false →
+    tried s lookup gs at ≡ gs
+unfolding tried
+tried_none s lookup gs at none = let sights = sights_of s.gdef s.lookup lookup (glyph_at gs at) in
+    kept_if (s.concat && nat_lt at (length gs)) _ gs
+    (ap (λ x. unjoined x gs) (looked_none s sights lookup gs at none) ∙ unflagged at gs)
+
 still_by : (test : Bool) (x : WalkStep) → (if test then x else x) ≡ x
 still_by true x = refl
 still_by false x = refl
 
-stands_still : (s : Setting) (lookup : List ℕ) (gs : Glyphs) (at left : ℕ) →
+stands_still : (s : Setting) (lookup : List ℕ) (gs : Glyphs) (at left : ℕ) → tried s lookup gs at ≡ gs →
     came_in s lookup gs at ≡ None → lookup_stepped s lookup gs at left ≡ record { text = gs; next = at + 1; left = left }
 unfolding lookup_stepped nested
-stands_still s lookup gs at left e =
+stands_still s lookup gs at left t e =
     let test = is_seen s.gdef s.lookup lookup (glyph_at gs at) in
-    rw e (still_by test _)
+    rw (t, e) (still_by test _)
 
 unseen : (s : Setting) (lookup : List ℕ) (g : Glyph) → (bit_and g.mask s.lookup.mask == 0) ≡ true →
     is_seen s.gdef s.lookup lookup g ≡ false
@@ -194,7 +285,7 @@ step_left : (s : Setting) (lookup : List ℕ) (gs : Glyphs) (at left : ℕ) → 
     lookup_stepped s lookup gs at left ≡ record { text = gs; next = at + 1; left = left }
 step_left s lookup gs at left e = elim (why_left s lookup (glyph_at gs at) e) [
   | inl zero_mask ↦ passed_over s lookup gs at left (unseen s lookup (glyph_at gs at) zero_mask)
-  | inr none ↦ stands_still s lookup gs at left (came_none s lookup gs at none)
+  | inr none ↦ stands_still s lookup gs at left (tried_none s lookup gs at none) (came_none s lookup gs at none)
 ]
 
 -- ---- along a text

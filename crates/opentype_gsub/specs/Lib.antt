@@ -4,6 +4,7 @@ pub mod Setting
 pub mod Flagged
 pub mod Ligated
 pub mod Applied
+pub mod Came
 pub mod Ligatures
 pub mod Reversed
 pub mod Walked
@@ -12,4 +13,5 @@ pub mod Kept
 pub mod Laws
 pub mod Substituted
 pub mod Presence
+pub mod Looked
 pub mod Machine

@@ -1,64 +1,14 @@
 -- Rules that apply lookups, and these lookups: a machine with a stack of rules, at most 64 deep.
-use Rattle.std.specs.Prelude.{ℕ, zero, suc, ◌+◌, ◌-◌, ◌*◌, ◌^◌, ◌==◌, ◌||◌, ◌≡◌, ◌⊎◌, min, nat_lt, Bool, List, [], ◌∷◌, ◌++◌, map, take, drop, length, reverse, slice_index, Option, None, Some, if◌then◌else◌}
+use Rattle.std.specs.Prelude.{ℕ, zero, suc, ◌+◌, ◌-◌, ◌*◌, ◌^◌, ◌≡◌, ◌⊎◌, min, nat_lt, List, [], ◌∷◌, ◌++◌, map, take, drop, length, reverse, slice_index, Option, None, Some, if◌then◌else◌}
 use Rattle.std.proofs.Common.{inl, inr}
-use Rattle.std.specs.Option.{option_map}
 use Rattle.shapers_buffer.specs.Glyphs.{Glyphs}
 use Rattle.opentype_face.specs.Bytes.{u16_in}
-use Rattle.opentype_face.specs.Lookups.{lookup_in, subtable_in, type_in}
-use Rattle.opentype_gsub.specs.Applied.{PlaceChange, one_put}
-use Rattle.opentype_gsub.specs.Flagged.{unbroken}
-use Rattle.opentype_layout.specs.Rules.{Found, context_in}
-use Rattle.opentype_face.specs.Firsts.{first_from}
-use Rattle.opentype_gsub.specs.declared.machine.Outcome.{Outcome}
-use Rattle.opentype_gsub.specs.declared.machine.Outcome.TheVariants.{Nothing, Done, Fits}
+use Rattle.opentype_face.specs.Lookups.{lookup_in}
+use Rattle.opentype_gsub.specs.Applied.{PlaceChange}
+use Rattle.opentype_gsub.specs.Came.{Begun, Frame, came_in, frame_of}
+use Rattle.opentype_gsub.specs.Looked.{tried}
+use Rattle.opentype_gsub.specs.Setting.{Setting}
 use Rattle.opentype_gsub.specs.declared.settling.Rule.{Rule}
-use Rattle.opentype_gsub.specs.Setting.{Setting, sights_of}
-use Rattle.opentype_gsub.specs.declared.pass.Sights.{Sights}
-use Rattle.opentype_layout.specs.Text.{glyph_at}
-
--- a rule that fits, and how far its lookups are applied
-pub record Frame : Type 0 where
-  pub records : List ℕ
-  pub count : ℕ
-  pub next : ℕ
-  pub places : List ℕ
-  pub end : ℕ
-  pub sequence : ℕ
-  pub before : ℕ
-
-abbrev pub frame_of : Rule → Frame
-frame_of rule = record {
-  records = rule.records.now;
-  count = rule.count;
-  next = rule.next;
-  places = rule.places.items;
-  end = rule.end;
-  sequence = rule.sequence;
-  before = rule.before;
-}
-
--- one that was just found
-abbrev pub begun_frame : ℕ → Found → Frame
-begun_frame len m = record {
-  records = m.records;
-  count = m.count;
-  next = 0;
-  places = m.places;
-  end = m.end;
-  sequence = 0;
-  before = len;
-}
-
--- A text with a rule that fits: no break is inside the stretch that the rule looked at. That of a
--- chained context begins in the text as the lookup has changed it.
-pub record Begun : Type 0 where
-  pub text : Glyphs
-  pub frame : Frame
-
-unfoldable pub begun : Setting → Bool → Glyphs → Found → Begun
-begun s chained gs m =
-    let old_len = (if chained then s.len else length gs) in
-    record { text = unbroken old_len m.start m.stop gs; frame = begun_frame (length gs) m }
 
 -- ---- what an applied lookup added or took away moves the places behind it
 
@@ -104,31 +54,6 @@ frame_settled len f =
       before = f.before;
     }
 
--- ---- what a lookup comes to at a place: a change, or a rule that fits
-
-unfoldable pub nth_came : Setting → Sights → List ℕ → ℕ → Glyphs → ℕ → Option (PlaceChange ⊎ Begun)
-nth_came s sights lookup at gs i =
-    if (type_in 7 lookup i == 5) || (type_in 7 lookup i == 6)
-    then option_map (λ m. inr (begun s (type_in 7 lookup i == 6) gs m))
-    (context_in (type_in 7 lookup i == 6) s.gdef sights.input sights.context (subtable_in 7 lookup
-    i) gs at)
-    else option_map inl (one_put s sights.input (type_in 7 lookup i) (subtable_in 7 lookup i) gs at)
-
--- by the first of its subtables that fits
-unfoldable pub came_in : Setting → List ℕ → Glyphs → ℕ → Option (PlaceChange ⊎ Begun)
-came_in s lookup gs at =
-    if nat_lt at (length gs)
-    then first_from (u16_in lookup 4) (nth_came s (sights_of s.gdef s.lookup lookup (glyph_at gs
-    at)) lookup at gs) 0
-    else None
-
--- a text before and after, and the outcome that the code gives then
-abbrev pub IsCome : Option (PlaceChange ⊎ Begun) → Glyphs → Glyphs → Outcome → Type 0
-IsCome came old new Nothing = (came ≡ None) × (new ≡ old)
-IsCome came old new (Done next) = came ≡ Some (inl (record { text = new; next = next }))
-IsCome came old new (Fits rule) =
-    came ≡ Some (inr (record { text = new; frame = frame_of rule }))
-
 -- ---- one lookup of a rule
 
 pub record AfterCall : Type 0 where
@@ -162,9 +87,10 @@ unfoldable pub lookup_called : Setting → Glyphs → Frame → AfterCall
 lookup_called s gs f =
     let sequence = u16_in f.records (f.next * 4) in
     let lookup = lookup_in s.gsub (u16_in f.records (f.next * 4 + 2)) in
+    let place = slice_index f.places sequence in
+    let flagged = tried s lookup gs place in
     if nat_lt sequence (length f.places)
-    then called_by gs (aimed sequence (length gs) f) (came_in s lookup gs (slice_index f.places
-    sequence))
+    then called_by flagged (aimed sequence (length gs) f) (came_in s lookup flagged place)
     else record { text = gs; frame = aimed f.sequence f.before f; inner = None }
 
 -- ---- one turn of the machine
@@ -231,7 +157,9 @@ started operations turn gs (Some (inr b)) = ran operations turn b.text (b.frame 
 
 -- a lookup's table at a place, and the lookups that its rules apply
 unfoldable pub nested : Setting → List ℕ → Glyphs → ℕ → ℕ → Nested
-nested s lookup gs at operations = started operations (machine_turned s) gs (came_in s lookup gs at)
+nested s lookup gs at operations =
+    let flagged = tried s lookup gs at in
+    started operations (machine_turned s) flagged (came_in s lookup flagged at)
 
 -- the frames of a stack of the code, the top one first
 abbrev pub frames : List Rule → List Frame

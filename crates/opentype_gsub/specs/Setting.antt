@@ -8,12 +8,13 @@ use Rattle.opentype_gsub.specs.declared.pass.LookupUse.{LookupUse}
 use Rattle.opentype_gsub.specs.declared.pass.Pass.{Pass}
 use Rattle.opentype_gsub.specs.declared.pass.Sights.{Sights}
 
--- the tables, the level of the text's clusters, how many glyphs the text had before the lookup, how
--- many it may get, and the lookup of the plan
+-- the tables, the level of the text's clusters, whether flags of concatenation are wanted, how many
+-- glyphs the text had before the lookup, how many it may get, and the lookup of the plan
 pub record Setting : Type 0 where
   pub gdef : List ℕ
   pub gsub : List ℕ
   pub level : BufferClusterLevel
+  pub concat : Bool
   pub len : ℕ
   pub limit : ℕ
   pub lookup : LookupUse
@@ -23,6 +24,7 @@ setting_of pass = record {
   gdef = pass.gdef.now;
   gsub = pass.gsub.now;
   level = pass.level;
+  concat = pass.concat;
   len = pass.len;
   limit = pass.limit;
   lookup = pass.lookup;

@@ -1,6 +1,6 @@
 -- What a lookup of GSUB makes of a buffer.
 use Rattle.std.specs.Prelude.{ℕ, ◌-◌, ◌*◌, ◌^◌, ◌==◌, max, min, List, length, if◌then◌else◌}
-use Rattle.shapers_buffer.specs.Buffer.{Buffer}
+use Rattle.shapers_buffer.specs.Buffer.{Buffer, asks, flags_concat}
 use Rattle.shapers_buffer.specs.Glyphs.{Glyphs}
 use Rattle.opentype_face.specs.Lookups.{lookup_in, type_in}
 use Rattle.opentype_gsub.specs.Reversed.{lookup_stepped_back, walked_back}
@@ -22,6 +22,7 @@ setting_for gdef gsub use_of b = record {
   gdef = gdef;
   gsub = gsub;
   level = b.level;
+  concat = asks flags_concat b;
   len = length b.glyphs;
   limit = limit_in (length b.glyphs) b.max_len;
   lookup = use_of;

@@ -156,7 +156,7 @@ fn put_ligature(
 }
 
 // The value of a feature at a glyph; the first alternate stands for one at random.
-fn value(random: bool, sight: &Sight, glyph: &hb_glyph_info_t) -> u32
+pub(crate) fn value(random: bool, sight: &Sight, glyph: &hb_glyph_info_t) -> u32
     ensures { result ≡ chosen_of random sight.now glyph.now }
 {
     let mask = u64::from(sight.mask);

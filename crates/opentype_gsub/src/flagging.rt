@@ -10,7 +10,7 @@ const MOST_FLAGGED: usize = 255;
 // Whether a stretch of so many glyphs is flagged, in a text that had so many glyphs and has so many:
 // those that were added count less, those that were removed more.
 #[tactic(auto, unfolding(crate::specs::Flagged::is_short))]
-fn is_short(span: usize, old_len: usize, len: usize) -> bool
+pub(crate) fn is_short(span: usize, old_len: usize, len: usize) -> bool
     ensures { result ≡ is_short span old_len len }
 {
     if len >= old_len {

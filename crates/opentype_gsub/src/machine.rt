@@ -4,14 +4,17 @@ ghost use Rattle.std.specs.Option.{option_map};
 ghost use Rattle.opentype_layout.specs.Rules.{found};
 ghost use Rattle.opentype_face.specs.Bytes.{u16_in};
 ghost use Rattle.opentype_face.specs.Firsts.{first_from};
-ghost use Rattle.opentype_gsub.specs.Machine.{IsCome, IsEnded, begun, lookup_called, came_in, deeper, frame_of, frames, nested, nth_came, ran, machine_turned};
+ghost use Rattle.opentype_gsub.specs.Came.{IsCome, begun, came_in, frame_of, nth_came};
+ghost use Rattle.opentype_gsub.specs.Machine.{IsEnded, lookup_called, deeper, frames, nested, ran, machine_turned};
 ghost use Rattle.opentype_gsub.specs.Setting.{setting_of, sights_of};
+ghost use Rattle.opentype_gsub.specs.Looked.{tried};
 ghost use Rattle.opentype_layout.specs.Text.{glyph_at};
 
 use crate::apply::apply_one;
 use crate::flagging::flag_stretch;
 use crate::pass::{Pass, Sights};
 use crate::settling::Rule;
+use crate::trying::flag_tried;
 use opentype_face::bytes::u16_at;
 use opentype_face::lookup::{lookup, subtable, subtable_count, subtable_type};
 use opentype_layout::rules::{Matched, find_rule};
@@ -32,7 +35,7 @@ pub enum Outcome<'a> {
 }
 
 // Begins a rule: no break may be inside what it looked at.
-#[tactic(auto, unfolding(crate::specs::Machine::begun))]
+#[tactic(auto, unfolding(crate::specs::Came::begun))]
 fn begin<'a>(
     pass: &Pass<'_>,
     chained: bool,
@@ -49,7 +52,7 @@ fn begin<'a>(
 }
 
 // What one of a lookup's subtables comes to at a place.
-#[tactic(auto, unfolding(crate::specs::Machine::nth_came))]
+#[tactic(auto, unfolding(crate::specs::Came::nth_came))]
 fn come_by<'a>(
     pass: &Pass<'_>,
     sights: &Sights,
@@ -128,6 +131,20 @@ fn come_to<'a>(
     come_among(pass, &seen, lookup, text, at)
 }
 
+// The same behind the flags of what is tried in vain.
+fn try_at<'a>(
+    pass: &Pass<'_>,
+    lookup: &'a [u8],
+    text: &mut Vec<hb_glyph_info_t>,
+    at: usize,
+) -> Result<Outcome<'a>, ShaperError>
+    ensures { IfOk result (λ outcome. let gs = tried (setting_of pass.now) lookup.now text.old.items at in
+        IsCome (came_in (setting_of pass.now) lookup.now gs at) gs text.new.items outcome) }
+{
+    flag_tried(pass, lookup, text, at);
+    come_to(pass, lookup, text, at)
+}
+
 // Applies the next lookup of a rule; the rule that fits there, if one does.
 #[tactic(auto, unfolding(crate::specs::Machine::lookup_called))]
 fn call<'a>(
@@ -149,7 +166,7 @@ fn call<'a>(
     let place = rule.places[sequence];
     rule.sequence = sequence;
     rule.before = text.len();
-    match come_to(pass, called, text, place)? {
+    match try_at(pass, called, text, place)? {
         Outcome::Nothing => Ok(None),
         Outcome::Done(_) => {
             rule.settle(text.len());
@@ -261,7 +278,7 @@ pub fn apply_nested<'a>(
     ensures { IfOk result (λ r. nested (setting_of pass.now) lookup.now text.old.items at operations
         ≡ record { text = text.new.items; end = r.end; left = r.left }) }
 {
-    match come_to(pass, lookup, text, at)? {
+    match try_at(pass, lookup, text, at)? {
         Outcome::Nothing => Ok(Reached {
             end: None,
             left: operations,

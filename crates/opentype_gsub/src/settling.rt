@@ -1,7 +1,8 @@
 //! Rules whose lookups are being applied, and their places behind lookups that add or take glyphs.
 ghost use Rattle.std.specs.Prelude.{◌≡◌, ◌++◌, drop, map, take, slice_index};
 ghost use Rattle.opentype_layout.specs.Rules.{found};
-ghost use Rattle.opentype_gsub.specs.Machine.{begun_frame, climbing, frame_of, place_moved, frame_settled, settled_places};
+ghost use Rattle.opentype_gsub.specs.Came.{begun_frame, frame_of};
+ghost use Rattle.opentype_gsub.specs.Machine.{climbing, place_moved, frame_settled, settled_places};
 
 use opentype_layout::places::Places;
 use opentype_layout::rules::Matched;

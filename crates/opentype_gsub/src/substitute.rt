@@ -2,6 +2,7 @@
 ghost use Rattle.std.specs.Prelude.{◌≡◌, ◌≢◌, ◌<◌, [], Err, IfOk, OnErr, OnOk};
 ghost use Rattle.std.specs.Option.{option_map};
 ghost use Rattle.opentype_gsub.specs.Presence.{applied_from, new_text};
+ghost use Rattle.shapers_buffer.specs.Buffer.{flags_concat, has_flag};
 ghost use Rattle.shapers_buffer.specs.declared.buffer.refusal.ShaperError.TheVariants.{TooLong};
 ghost use Rattle.opentype_gsub.specs.Setting.{setting_of};
 ghost use Rattle.opentype_gsub.specs.Substituted.{applied, limit_in, operations_in, substituted};
@@ -11,7 +12,7 @@ use crate::presence::first_place;
 use crate::reverse::walk_back;
 use crate::walk::walk;
 use opentype_face::lookup::{lookup, subtable_type};
-use shapers_buffer::buffer::{ShaperError, hb_buffer_t, hb_glyph_info_t};
+use shapers_buffer::buffer::{BufferFlags, ShaperError, hb_buffer_t, hb_glyph_info_t};
 use std::alloc::Global;
 
 // How many glyphs a text may get.
@@ -28,6 +29,14 @@ fn operations(len: usize) -> usize
     ensures { result ≡ operations_in len }
 {
     len.saturating_mul(4096).max(65536)
+}
+
+// Whether flags of concatenation are wanted.
+#[inline]
+fn wants_concat(flags: BufferFlags) -> bool
+    ensures { result ≡ has_flag flags_concat flags }
+{
+    flags.0 & BufferFlags::PRODUCE_UNSAFE_TO_CONCAT.0 == BufferFlags::PRODUCE_UNSAFE_TO_CONCAT.0
 }
 
 // Applies a lookup by its table to a list of glyphs, from a place on.
@@ -98,6 +107,7 @@ pub fn substitute(
         gdef,
         gsub,
         level: buffer.cluster_level(),
+        concat: wants_concat(buffer.flags()),
         len,
         limit: limit(len, buffer.max_len()),
         lookup: *lookup_use,

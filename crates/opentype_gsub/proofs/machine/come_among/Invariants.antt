@@ -1,5 +1,5 @@
 use Rattle.opentype_face.specs.Bytes.{u16_in}
-use Rattle.opentype_gsub.specs.Machine.{nth_came}
+use Rattle.opentype_gsub.specs.Came.{nth_came}
 use Rattle.opentype_gsub.specs.Setting.{setting_of}
 use Rattle.opentype_gsub.proofs.Machines.{IsComing}
 use Rattle.opentype_gsub.proofs.machine.come_among.Given as goal

@@ -1,5 +1,6 @@
 use Rattle.opentype_gsub.proofs.Machines.{IsRunning}
-use Rattle.opentype_gsub.specs.Machine.{frame_of, frames, machine_turned}
+use Rattle.opentype_gsub.specs.Came.{frame_of}
+use Rattle.opentype_gsub.specs.Machine.{frames, machine_turned}
 use Rattle.opentype_gsub.specs.Setting.{setting_of}
 use Rattle.std.proofs.Common.{[], ◌∷◌}
 use Rattle.opentype_gsub.proofs.machine.run.Given as goal

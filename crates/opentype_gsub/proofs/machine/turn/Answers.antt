@@ -1,6 +1,7 @@
 use Rattle.std.proofs.Common.{arith, rules, ap, ◌∙◌, [], ◌∷◌, ◌++◌, ◌≡◌, length}
 use Rattle.std.specs.Option.{option_map}
-use Rattle.opentype_gsub.specs.Machine.{deeper, frame_of, frames}
+use Rattle.opentype_gsub.specs.Came.{frame_of}
+use Rattle.opentype_gsub.specs.Machine.{deeper, frames}
 use Rattle.opentype_gsub.specs.Setting.{setting_of}
 use Rattle.opentype_gsub.proofs.Machines.{top_first, turn_calls, turn_ends, turn_none}
 use Rattle.opentype_gsub.proofs.machine.turn.Goals as goal

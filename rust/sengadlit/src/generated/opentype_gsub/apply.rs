@@ -136,7 +136,7 @@ fn put_ligature(
 }
 
 // The value of a feature at a glyph; the first alternate stands for one at random.
-fn value(random: bool, sight: &Sight, glyph: &GlyphInfo) -> u32 {
+pub(crate) fn value(random: bool, sight: &Sight, glyph: &GlyphInfo) -> u32 {
     let mask = u64::from(sight.mask);
     let lowest = mask & (4294967296 - mask);
     let value = u64::from(glyph.mask & sight.mask) / lowest.max(1);

@@ -9,7 +9,7 @@ const MOST_FLAGGED: usize = 255;
 
 // Whether a stretch of so many glyphs is flagged, in a text that had so many glyphs and has so many:
 // those that were added count less, those that were removed more.
-fn is_short(span: usize, old_len: usize, len: usize) -> bool {
+pub(crate) fn is_short(span: usize, old_len: usize, len: usize) -> bool {
     if len >= old_len {
         let added = len - old_len;
         return added <= span && span - added <= MOST_FLAGGED;

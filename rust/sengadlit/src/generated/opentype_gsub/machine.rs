@@ -10,6 +10,7 @@ use crate::generated::opentype_gsub::apply::apply_one;
 use crate::generated::opentype_gsub::flagging::flag_stretch;
 use crate::generated::opentype_gsub::pass::{Pass, Sights};
 use crate::generated::opentype_gsub::settling::Rule;
+use crate::generated::opentype_gsub::trying::flag_tried;
 use crate::generated::opentype_layout::rules::{Matched, find_rule};
 use crate::generated::shapers_buffer::buffer::{GlyphInfo, ShaperError};
 
@@ -102,6 +103,17 @@ fn come_to<'a>(
     come_among(pass, &seen, lookup, text, at)
 }
 
+// The same behind the flags of what is tried in vain.
+fn try_at<'a>(
+    pass: &Pass<'_>,
+    lookup: &'a [u8],
+    text: &mut Vec<GlyphInfo>,
+    at: usize,
+) -> Result<Outcome<'a>, ShaperError> {
+    flag_tried(pass, lookup, text, at);
+    come_to(pass, lookup, text, at)
+}
+
 // Applies the next lookup of a rule; the rule that fits there, if one does.
 fn call<'a>(
     pass: &Pass<'a>,
@@ -118,7 +130,7 @@ fn call<'a>(
     let place = rule.places[sequence];
     rule.sequence = sequence;
     rule.before = text.len();
-    match come_to(pass, called, text, place)? {
+    match try_at(pass, called, text, place)? {
         Outcome::Nothing => Ok(None),
         Outcome::Done(_) => {
             rule.settle(text.len());
@@ -231,7 +243,7 @@ pub fn apply_nested<'a>(
     at: usize,
     operations: usize,
 ) -> Result<Reached, ShaperError> {
-    match come_to(pass, lookup, text, at)? {
+    match try_at(pass, lookup, text, at)? {
         Outcome::Nothing => Ok(Reached {
             end: None,
             left: operations,

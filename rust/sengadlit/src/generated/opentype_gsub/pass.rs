@@ -31,6 +31,8 @@ pub struct Pass<'a> {
     pub gsub: &'a [u8],
     /// The level of the text's clusters.
     pub level: BufferClusterLevel,
+    /// Whether flags of concatenation are wanted.
+    pub concat: bool,
     /// How many glyphs the text had before the lookup.
     pub len: usize,
     /// How many glyphs the text may get.

@@ -9,7 +9,7 @@ use crate::generated::opentype_gsub::pass::{LookupUse, Pass};
 use crate::generated::opentype_gsub::presence::first_place;
 use crate::generated::opentype_gsub::reverse::walk_back;
 use crate::generated::opentype_gsub::walk::walk;
-use crate::generated::shapers_buffer::buffer::{Buffer, GlyphInfo, ShaperError};
+use crate::generated::shapers_buffer::buffer::{Buffer, BufferFlags, GlyphInfo, ShaperError};
 use crate::support::alloc::Global;
 
 // How many glyphs a text may get.
@@ -22,6 +22,12 @@ fn limit(len: usize, max_len: usize) -> usize {
 #[inline]
 fn operations(len: usize) -> usize {
     len.saturating_mul(4096).max(65536)
+}
+
+// Whether flags of concatenation are wanted.
+#[inline]
+fn wants_concat(flags: BufferFlags) -> bool {
+    flags.0 & BufferFlags::PRODUCE_UNSAFE_TO_CONCAT.0 == BufferFlags::PRODUCE_UNSAFE_TO_CONCAT.0
 }
 
 // Applies a lookup by its table to a list of glyphs, from a place on.
@@ -96,6 +102,7 @@ pub fn substitute(
         gdef,
         gsub,
         level: buffer.cluster_level(),
+        concat: wants_concat(buffer.flags()),
         len,
         limit: limit(len, buffer.max_len()),
         lookup: *lookup_use,

@@ -1,0 +1,417 @@
+//! How far a lookup looks at a place: a text that is joined to there may give something else.
+ghost use Rattle.std.specs.Prelude.{◌≡◌, ◌<◌, ◌≤◌, length, is_some};
+ghost use Rattle.std.specs.Option.{option_map};
+ghost use Rattle.opentype_layout.specs.Pattern.{fits, seen_by};
+ghost use Rattle.opentype_layout.specs.Rules.{first_at, set_in, sought};
+ghost use Rattle.opentype_layout.specs.Text.{glyph_at};
+ghost use Rattle.opentype_layout.specs.Sight.{is_passed};
+ghost use Rattle.opentype_gsub.specs.Looked.{around_looked, context_rules, counted, spanned, ligature_sought, nothing, nth_part, rule_list, rule_looked, rules_in, set_looked, stop_before, stop_in, swept_before, swept_behind};
+ghost use Rattle.opentype_layout.specs.Ligatures.{input_in};
+
+use crate::decided::set_of;
+use crate::flagging::is_short;
+use crate::pass::Sights;
+use opentype_face::bytes::{part, u16_at};
+use opentype_face::glyph_sets::{class, coverage};
+use opentype_layout::input::input_places;
+use opentype_layout::pattern::Pattern;
+use opentype_layout::rules::{Rule, Tables};
+use opentype_layout::sight::{Sight, number};
+use shapers_buffer::buffer::hb_glyph_info_t;
+
+/// A stretch of a text, from a place up to another one.
+#[derive(Clone, Copy, Debug)]
+pub struct Stretch {
+    /// The first place.
+    pub start: usize,
+    /// The place behind the last one.
+    pub stop: usize,
+}
+
+/// How far a search for several places went.
+#[derive(Clone, Copy, Debug)]
+pub struct Sweep {
+    /// The place behind the last glyph that it looked at.
+    pub to: usize,
+    /// How many places it found.
+    pub found: u16,
+}
+
+/// The rules that a subtable has for a glyph.
+#[derive(Clone, Copy, Debug)]
+pub enum RuleSet<'a> {
+    /// Ligatures.
+    Ligatures(&'a [u8]),
+    /// The rules of a context of format 1 or 2.
+    Rules(Tables<'a>, &'a [u8]),
+    /// The rule of one of format 3.
+    One(Tables<'a>, &'a [u8]),
+}
+
+// Whether a search for place `k` of a rule passes over a glyph.
+#[inline]
+#[tactic(auto, unfolding(opentype_layout::specs::Pattern::seen_by))]
+fn passes(
+    gdef: &[u8],
+    sight: &Sight,
+    pattern: &Pattern<'_>,
+    k: u16,
+    glyphs: &[hb_glyph_info_t],
+    i: usize,
+) -> bool
+    requires { i < length glyphs.now }
+    ensures { result ≡ is_passed (seen_by gdef.now sight.now (fits pattern.now) k (glyph_at glyphs.now i)) }
+{
+    let glyph = &glyphs[i];
+    sight
+        .sees(gdef, pattern.fits(k, number(glyph)), glyph)
+        .is_none()
+}
+
+// The place behind the glyph at which a search from a place on ends.
+fn stop_behind(
+    gdef: &[u8],
+    sight: &Sight,
+    pattern: &Pattern<'_>,
+    k: u16,
+    glyphs: &[hb_glyph_info_t],
+    from: usize,
+) -> usize
+    ensures { result ≡ stop_in gdef.now sight.now (fits pattern.now) glyphs.now k from }
+{
+    for i in from..glyphs.len() {
+        if !passes(gdef, sight, pattern, k, glyphs, i) {
+            return i + 1;
+        }
+    }
+    from.max(glyphs.len())
+}
+
+// The same backwards from a place, by how many glyphs stand between.
+fn stop_back(
+    gdef: &[u8],
+    sight: &Sight,
+    pattern: &Pattern<'_>,
+    k: u16,
+    glyphs: &[hb_glyph_info_t],
+    at: usize,
+    from: usize,
+) -> usize
+    requires { at ≤ length glyphs.now }
+    ensures { result ≡ stop_before gdef.now sight.now (fits pattern.now) glyphs.now at k from }
+{
+    for i in from..at {
+        if !passes(gdef, sight, pattern, k, glyphs, at - 1 - i) {
+            return i + 1;
+        }
+    }
+    from.max(at)
+}
+
+// How far a search for so many places goes from a place on.
+fn sweep_behind(
+    gdef: &[u8],
+    sight: &Sight,
+    pattern: &Pattern<'_>,
+    count: u16,
+    glyphs: &[hb_glyph_info_t],
+    from: usize,
+) -> Sweep
+    ensures value { result ≡ swept_behind gdef.now sight.now (fits pattern.now) count glyphs.now from }
+    ensures few { result.found ≤ count }
+{
+    let mut to = from;
+    for found in 0..count {
+        let Some(i) = pattern.next(gdef, sight, found, glyphs, to) else {
+            let to = stop_behind(gdef, sight, pattern, found, glyphs, to);
+            return Sweep { to, found };
+        };
+        to = i + 1;
+    }
+    Sweep { to, found: count }
+}
+
+// The same backwards from a place, by how many glyphs stand between.
+fn sweep_back(
+    gdef: &[u8],
+    sight: &Sight,
+    pattern: &Pattern<'_>,
+    count: u16,
+    glyphs: &[hb_glyph_info_t],
+    at: usize,
+) -> Sweep
+    requires { at ≤ length glyphs.now }
+    ensures { result ≡ swept_before gdef.now sight.now (fits pattern.now) count glyphs.now at }
+{
+    let mut to = 0;
+    for found in 0..count {
+        let Some(i) = pattern.previous(gdef, sight, found, glyphs, at, to) else {
+            let to = stop_back(gdef, sight, pattern, found, glyphs, at, to);
+            return Sweep { to, found };
+        };
+        to = i + 1;
+    }
+    Sweep { to, found: count }
+}
+
+impl Stretch {
+    // No glyph.
+    #[inline]
+    pub(crate) fn none(at: usize) -> Self
+        ensures { result ≡ nothing at }
+    {
+        Stretch {
+            start: at,
+            stop: at,
+        }
+    }
+
+    // Both, and what is between.
+    #[inline]
+    pub(crate) fn join(self, other: Stretch) -> Self
+        ensures { result ≡ spanned self other }
+    {
+        Stretch {
+            start: self.start.min(other.start),
+            stop: self.stop.max(other.stop),
+        }
+    }
+}
+
+// A stretch, if it isn't too long to be flagged.
+#[inline]
+#[tactic(auto, unfolding(crate::specs::Looked::counted))]
+fn count(at: usize, old_len: usize, len: usize, start: usize, stop: usize) -> Stretch
+    ensures { result ≡ counted at old_len len start stop }
+{
+    if start > stop {
+        return Stretch::none(at);
+    }
+    if is_short(stop - start, old_len, len) {
+        Stretch { start, stop }
+    } else {
+        Stretch::none(at)
+    }
+}
+
+// The stretch that a rule looked at, where its input is found: what stands behind it, then before.
+#[tactic(auto, unfolding(crate::specs::Looked::around_looked))]
+fn look_around(
+    gdef: &[u8],
+    context: &Sight,
+    old_len: usize,
+    glyphs: &[hb_glyph_info_t],
+    at: usize,
+    rule: &Rule<'_>,
+    end: usize,
+) -> Stretch
+    requires { at < length glyphs.now }
+    ensures { result ≡ around_looked gdef.now context.now old_len glyphs.now at (sought rule.now) end }
+{
+    let len = glyphs.len();
+    let behind = sweep_behind(gdef, context, &rule.behind, rule.behind_count, glyphs, end);
+    if behind.found != rule.behind_count {
+        return count(at, len, len, at, behind.to);
+    }
+    let before = sweep_back(gdef, context, &rule.before, rule.before_count, glyphs, at);
+    if before.found == rule.before_count {
+        return Stretch::none(at);
+    }
+    let start = at.saturating_sub(before.to.saturating_add(1));
+    count(at, old_len, len, start, behind.to)
+}
+
+// The stretch that a rule looked at that doesn't fit.
+#[tactic(auto, unfolding(crate::specs::Looked::rule_looked))]
+fn look(
+    gdef: &[u8],
+    sights: &Sights,
+    old_len: usize,
+    glyphs: &[hb_glyph_info_t],
+    at: usize,
+    rule: &Rule<'_>,
+) -> Stretch
+    requires { at < length glyphs.now }
+    ensures { result ≡ rule_looked gdef.now sights.now old_len glyphs.now at (sought rule.now) }
+{
+    if rule.input_count == 0 || rule.input_count > 64 {
+        return Stretch::none(at);
+    }
+    let input = sweep_behind(
+        gdef,
+        &sights.input,
+        &rule.input,
+        rule.input_count - 1,
+        glyphs,
+        at + 1,
+    );
+    if !is_one_input(gdef, &sights.input, rule, input.found, glyphs, at) {
+        return Stretch::none(at);
+    }
+    if input.found != rule.input_count - 1 {
+        return count(at, glyphs.len(), glyphs.len(), at, input.to);
+    }
+    look_around(gdef, &sights.context, old_len, glyphs, at, rule, input.to)
+}
+
+// Whether so many glyphs of a rule's input are there, and can be of one input.
+fn is_one_input(
+    gdef: &[u8],
+    sight: &Sight,
+    rule: &Rule<'_>,
+    count: u16,
+    glyphs: &[hb_glyph_info_t],
+    at: usize,
+) -> bool
+    requires inside { at < length glyphs.now }
+    requires few { count ≤ 63 }
+    ensures { result ≡ is_some (input_in gdef.now sight.now (sought rule.now).input count glyphs.now at) }
+{
+    input_places(gdef, sight, &rule.input, count, glyphs, at).is_some()
+}
+
+impl<'a> RuleSet<'a> {
+    // How many rules there are.
+    #[tactic(auto, unfolding(crate::specs::Looked::rule_list))]
+    fn count(&self) -> u16
+        ensures { result ≡ (rule_list self.now).count }
+    {
+        match *self {
+            RuleSet::Ligatures(set) => u16_at(set, 0),
+            RuleSet::Rules(_, set) => u16_at(set, 0),
+            RuleSet::One(_, _) => 1,
+        }
+    }
+
+    // One of the rules.
+    #[tactic(auto, unfolding(crate::specs::Looked::rule_list, opentype_layout::specs::Pattern::fits))]
+    fn rule(&self, i: u16) -> Rule<'a>
+        ensures { sought result ≡ (rule_list self.now).rule i }
+    {
+        match *self {
+            RuleSet::Ligatures(set) => ligature_rule(nth(set, i)),
+            RuleSet::Rules(tables, set) => tables.rule(nth(set, i)),
+            RuleSet::One(tables, rule) => tables.rule(rule),
+        }
+    }
+
+    // The stretch that the rules looked at, up to the first that fits.
+    #[tactic(auto, unfolding(crate::specs::Looked::set_looked))]
+    pub(crate) fn look(
+        &self,
+        gdef: &[u8],
+        sights: &Sights,
+        old_len: usize,
+        glyphs: &[hb_glyph_info_t],
+        at: usize,
+    ) -> Stretch
+        requires { at < length glyphs.now }
+        ensures { result ≡ set_looked gdef.now sights.now old_len glyphs.now at (rule_list self.now) }
+    {
+        let mut looked = Stretch::none(at);
+        for i in 0..self.count() {
+            let rule = self.rule(i);
+            looked = looked.join(look(gdef, sights, old_len, glyphs, at, &rule));
+            if rule
+                .fit(gdef, &sights.input, &sights.context, glyphs, at)
+                .is_some()
+            {
+                return looked;
+            }
+        }
+        looked
+    }
+}
+
+// Entry `i` of a list of offsets behind its count.
+#[inline]
+fn nth(set: &[u8], i: u16) -> &[u8]
+    ensures { result.now ≡ nth_part set.now i }
+{
+    part(set, usize::from(u16_at(set, 2 + usize::from(i) * 2)))
+}
+
+// A ligature as a rule.
+#[tactic(auto, unfolding(opentype_layout::specs::Pattern::fits))]
+fn ligature_rule(bytes: &[u8]) -> Rule<'_>
+    ensures { sought result ≡ ligature_sought bytes.now }
+{
+    Rule {
+        before: Pattern::Glyphs(&[]),
+        before_count: 0,
+        input: Pattern::Glyphs(part(bytes, 4)),
+        input_count: u16_at(bytes, 2),
+        behind: Pattern::Glyphs(&[]),
+        behind_count: 0,
+        records: &[],
+        count: 0,
+    }
+}
+
+// The set of rules of a context, by its number.
+#[tactic(auto, unfolding(opentype_layout::specs::Rules::set_in))]
+fn rule_set(bytes: &[u8], at: usize, number: u32) -> &[u8]
+    requires { at ≤ 10 }
+    ensures { result.now ≡ set_in bytes.now at number }
+{
+    if number >= u32::from(u16_at(bytes, at)) {
+        return &[];
+    }
+    part(
+        bytes,
+        usize::from(u16_at(bytes, at + 2 + number as usize * 2)),
+    )
+}
+
+// Where the offset of the set of format 3's first glyph stands.
+#[inline]
+#[tactic(auto, unfolding(opentype_layout::specs::Rules::first_at))]
+fn place_of_first(chained: bool, bytes: &[u8]) -> usize
+    ensures { result ≡ first_at chained bytes.now }
+{
+    if chained {
+        usize::from(u16_at(bytes, 2)) * 2 + 6
+    } else {
+        6
+    }
+}
+
+// The rules that a context has for a glyph.
+#[tactic(auto, unfolding(crate::specs::Looked::context_rules, crate::specs::Looked::rule_list))]
+fn context_rules<'a>(chained: bool, bytes: &'a [u8], glyph: u16) -> Option<RuleSet<'a>>
+    ensures { option_map (λ set. rule_list set) result ≡ context_rules chained bytes.now glyph }
+{
+    let tables = Tables::of(chained, bytes);
+    let format = u16_at(bytes, 0);
+    if format == 3 {
+        let first = u16_at(bytes, place_of_first(chained, bytes));
+        coverage(part(bytes, usize::from(first)), glyph)?;
+        return Some(RuleSet::One(tables, bytes));
+    }
+    let covered = coverage(part(bytes, usize::from(u16_at(bytes, 2))), glyph);
+    match (format, covered) {
+        (1, Some(number)) => Some(RuleSet::Rules(tables, rule_set(bytes, 4, number))),
+        (2, Some(_)) => {
+            let number = u32::from(class(tables.input, glyph));
+            let sets = if chained { 10 } else { 6 };
+            Some(RuleSet::Rules(tables, rule_set(bytes, sets, number)))
+        }
+        _ => None,
+    }
+}
+
+// The rules that a subtable has for a glyph.
+#[tactic(auto, unfolding(crate::specs::Looked::rules_in, crate::specs::Looked::rule_list))]
+pub(crate) fn rules<'a>(kind: u16, bytes: &'a [u8], glyph: u16) -> Option<RuleSet<'a>>
+    ensures { option_map (λ set. rule_list set) result ≡ rules_in kind bytes.now glyph }
+{
+    match kind {
+        4 => match set_of(bytes, glyph) {
+            Some(set) => Some(RuleSet::Ligatures(set)),
+            None => None,
+        },
+        5 => context_rules(false, bytes, glyph),
+        6 => context_rules(true, bytes, glyph),
+        _ => None,
+    }
+}

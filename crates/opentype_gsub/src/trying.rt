@@ -1,0 +1,165 @@
+//! Which flags of concatenation a lookup sets at a place, by the rules that don't fit there.
+ghost use Rattle.std.specs.Prelude.{◌≡◌, ◌<◌, length, is_some};
+ghost use Rattle.opentype_gsub.specs.Applied.{alternate_put, chosen_of, ligated_put, multiple_put, one_put, single_put};
+ghost use Rattle.opentype_gsub.specs.Looked.{lookup_looked, subtable_looked, tried, unjoined};
+ghost use Rattle.opentype_gsub.specs.Came.{nth_came};
+ghost use Rattle.opentype_gsub.specs.Setting.{setting_of};
+ghost use Rattle.opentype_layout.specs.Text.{glyph_at};
+
+use crate::apply::{number, value};
+use crate::decided::{alternate, set_of, single};
+use crate::looking::{Stretch, rules};
+use crate::matching::first_fitting;
+use crate::pass::{Pass, Sights};
+use opentype_face::lookup::{subtable, subtable_count, subtable_type};
+use opentype_layout::rules::find_rule;
+use shapers_buffer::buffer::{BufferFlags, hb_glyph_info_t, unsafe_to_concat_in};
+
+// Whether a subtable of type 4 has a ligature that fits a place.
+#[tactic(auto, unfolding(crate::specs::Applied::ligated_put))]
+fn ligates(
+    pass: &Pass<'_>,
+    sights: &Sights,
+    bytes: &[u8],
+    glyphs: &[hb_glyph_info_t],
+    at: usize,
+) -> bool
+    requires { at < length glyphs.now }
+    ensures { let s = setting_of pass.now in
+        result ≡ is_some (ligated_put s.gdef s.level sights.now.input bytes.now glyphs.now at) }
+{
+    match set_of(bytes, number(glyphs, at)) {
+        Some(set) => first_fitting(pass.gdef, &sights.input, set, glyphs, at).is_some(),
+        None => false,
+    }
+}
+
+// Whether a subtable of type 3 has an alternate for the glyph at a place.
+#[tactic(auto, unfolding(crate::specs::Applied::alternate_put))]
+fn alternates(
+    pass: &Pass<'_>,
+    sights: &Sights,
+    bytes: &[u8],
+    glyphs: &[hb_glyph_info_t],
+    at: usize,
+) -> bool
+    requires { at < length glyphs.now }
+    ensures { let s = setting_of pass.now in result ≡ is_some (alternate_put s.gdef bytes.now
+        (chosen_of s.lookup.random sights.now.input (glyph_at glyphs.now at)) glyphs.now at) }
+{
+    let value = value(pass.lookup.random, &sights.input, &glyphs[at]);
+    alternate(bytes, number(glyphs, at), value).is_some()
+}
+
+// Whether a subtable of types 1 to 4 does something at a place.
+#[tactic(auto, unfolding(crate::specs::Applied::one_put, crate::specs::Applied::single_put, crate::specs::Applied::multiple_put))]
+fn applies(
+    pass: &Pass<'_>,
+    sights: &Sights,
+    kind: u16,
+    bytes: &[u8],
+    glyphs: &[hb_glyph_info_t],
+    at: usize,
+) -> bool
+    requires { at < length glyphs.now }
+    ensures { result ≡ is_some (one_put (setting_of pass.now) sights.now.input kind bytes.now glyphs.now at) }
+{
+    match kind {
+        1 => single(bytes, number(glyphs, at)).is_some(),
+        2 => set_of(bytes, number(glyphs, at)).is_some(),
+        3 => alternates(pass, sights, bytes, glyphs, at),
+        4 => ligates(pass, sights, bytes, glyphs, at),
+        _ => false,
+    }
+}
+
+// Whether one of a lookup's subtables does something at a place.
+#[tactic(auto, unfolding(crate::specs::Came::nth_came))]
+fn comes(
+    pass: &Pass<'_>,
+    sights: &Sights,
+    lookup: &[u8],
+    i: u16,
+    glyphs: &[hb_glyph_info_t],
+    at: usize,
+) -> bool
+    requires { at < length glyphs.now }
+    ensures { result ≡ is_some (nth_came (setting_of pass.now) sights.now lookup.now at glyphs.now i) }
+{
+    let kind = subtable_type(7, lookup, i);
+    let bytes = subtable(7, lookup, i);
+    if kind == 5 || kind == 6 {
+        let (input, context) = (&sights.input, &sights.context);
+        return find_rule(kind == 6, pass.gdef, input, context, bytes, glyphs, at).is_some();
+    }
+    applies(pass, sights, kind, bytes, glyphs, at)
+}
+
+// The stretch that the rules of a subtable looked at, up to the first that fits.
+#[tactic(auto, unfolding(crate::specs::Looked::subtable_looked))]
+fn look_by(
+    pass: &Pass<'_>,
+    sights: &Sights,
+    lookup: &[u8],
+    i: u16,
+    glyphs: &[hb_glyph_info_t],
+    at: usize,
+) -> Stretch
+    requires { at < length glyphs.now }
+    ensures { result ≡ subtable_looked (setting_of pass.now) sights.now lookup.now glyphs.now at i }
+{
+    let kind = subtable_type(7, lookup, i);
+    match rules(kind, subtable(7, lookup, i), number(glyphs, at)) {
+        Some(rules) => rules.look(pass.gdef, sights, pass.len, glyphs, at),
+        None => Stretch::none(at),
+    }
+}
+
+// The stretch that the subtables of a lookup looked at, up to the first that does something.
+fn look_among(
+    pass: &Pass<'_>,
+    sights: &Sights,
+    lookup: &[u8],
+    glyphs: &[hb_glyph_info_t],
+    at: usize,
+) -> Stretch
+    requires { at < length glyphs.now }
+    ensures { result ≡ lookup_looked (setting_of pass.now) sights.now lookup.now glyphs.now at }
+{
+    let mut looked = Stretch::none(at);
+    for i in 0..subtable_count(lookup) {
+        looked = looked.join(look_by(pass, sights, lookup, i, glyphs, at));
+        if comes(pass, sights, lookup, i, glyphs, at) {
+            return looked;
+        }
+    }
+    looked
+}
+
+// Flags a stretch as one with no concatenation, as far as the text goes.
+#[tactic(auto, unfolding(crate::specs::Looked::unjoined))]
+fn flag_joins(glyphs: &mut [hb_glyph_info_t], looked: Stretch)
+    ensures { glyphs.new ≡ unjoined looked glyphs.old }
+{
+    let end = glyphs.len().min(looked.stop);
+    if looked.start < end {
+        let wanted = BufferFlags::PRODUCE_UNSAFE_TO_CONCAT;
+        unsafe_to_concat_in(wanted, glyphs, looked.start, end);
+    }
+}
+
+/// Flags what a lookup's rules look at that don't fit a place, where that is wanted.
+#[tactic(auto, unfolding(crate::specs::Looked::tried))]
+pub(crate) fn flag_tried(pass: &Pass<'_>, lookup: &[u8], glyphs: &mut [hb_glyph_info_t], at: usize)
+    ensures { glyphs.new ≡ tried (setting_of pass.now) lookup.now glyphs.old at }
+{
+    if !pass.concat {
+        return;
+    }
+    if at >= glyphs.len() {
+        return;
+    }
+    let sights = pass.lookup.sights(pass.gdef, lookup, &glyphs[at]);
+    let looked = look_among(pass, &sights, lookup, glyphs, at);
+    flag_joins(glyphs, looked);
+}

@@ -1,0 +1,130 @@
+// Generated from crates/opentype_gsub/src/trying.rt by rust/erase; edit the source.
+
+//! Which flags of concatenation a lookup sets at a place, by the rules that don't fit there.
+
+use crate::generated::opentype_face::lookup::{subtable, subtable_count, subtable_type};
+use crate::generated::opentype_gsub::apply::{number, value};
+use crate::generated::opentype_gsub::decided::{alternate, set_of, single};
+use crate::generated::opentype_gsub::looking::{Stretch, rules};
+use crate::generated::opentype_gsub::matching::first_fitting;
+use crate::generated::opentype_gsub::pass::{Pass, Sights};
+use crate::generated::opentype_layout::rules::find_rule;
+use crate::generated::shapers_buffer::buffer::{BufferFlags, GlyphInfo, unsafe_to_concat_in};
+
+// Whether a subtable of type 4 has a ligature that fits a place.
+fn ligates(
+    pass: &Pass<'_>,
+    sights: &Sights,
+    bytes: &[u8],
+    glyphs: &[GlyphInfo],
+    at: usize,
+) -> bool {
+    match set_of(bytes, number(glyphs, at)) {
+        Some(set) => first_fitting(pass.gdef, &sights.input, set, glyphs, at).is_some(),
+        None => false,
+    }
+}
+
+// Whether a subtable of type 3 has an alternate for the glyph at a place.
+fn alternates(
+    pass: &Pass<'_>,
+    sights: &Sights,
+    bytes: &[u8],
+    glyphs: &[GlyphInfo],
+    at: usize,
+) -> bool {
+    let value = value(pass.lookup.random, &sights.input, &glyphs[at]);
+    alternate(bytes, number(glyphs, at), value).is_some()
+}
+
+// Whether a subtable of types 1 to 4 does something at a place.
+fn applies(
+    pass: &Pass<'_>,
+    sights: &Sights,
+    kind: u16,
+    bytes: &[u8],
+    glyphs: &[GlyphInfo],
+    at: usize,
+) -> bool {
+    match kind {
+        1 => single(bytes, number(glyphs, at)).is_some(),
+        2 => set_of(bytes, number(glyphs, at)).is_some(),
+        3 => alternates(pass, sights, bytes, glyphs, at),
+        4 => ligates(pass, sights, bytes, glyphs, at),
+        _ => false,
+    }
+}
+
+// Whether one of a lookup's subtables does something at a place.
+fn comes(
+    pass: &Pass<'_>,
+    sights: &Sights,
+    lookup: &[u8],
+    i: u16,
+    glyphs: &[GlyphInfo],
+    at: usize,
+) -> bool {
+    let kind = subtable_type(7, lookup, i);
+    let bytes = subtable(7, lookup, i);
+    if kind == 5 || kind == 6 {
+        let (input, context) = (&sights.input, &sights.context);
+        return find_rule(kind == 6, pass.gdef, input, context, bytes, glyphs, at).is_some();
+    }
+    applies(pass, sights, kind, bytes, glyphs, at)
+}
+
+// The stretch that the rules of a subtable looked at, up to the first that fits.
+fn look_by(
+    pass: &Pass<'_>,
+    sights: &Sights,
+    lookup: &[u8],
+    i: u16,
+    glyphs: &[GlyphInfo],
+    at: usize,
+) -> Stretch {
+    let kind = subtable_type(7, lookup, i);
+    match rules(kind, subtable(7, lookup, i), number(glyphs, at)) {
+        Some(rules) => rules.look(pass.gdef, sights, pass.len, glyphs, at),
+        None => Stretch::none(at),
+    }
+}
+
+// The stretch that the subtables of a lookup looked at, up to the first that does something.
+fn look_among(
+    pass: &Pass<'_>,
+    sights: &Sights,
+    lookup: &[u8],
+    glyphs: &[GlyphInfo],
+    at: usize,
+) -> Stretch {
+    let mut looked = Stretch::none(at);
+    for i in 0..subtable_count(lookup) {
+        looked = looked.join(look_by(pass, sights, lookup, i, glyphs, at));
+        if comes(pass, sights, lookup, i, glyphs, at) {
+            return looked;
+        }
+    }
+    looked
+}
+
+// Flags a stretch as one with no concatenation, as far as the text goes.
+fn flag_joins(glyphs: &mut [GlyphInfo], looked: Stretch) {
+    let end = glyphs.len().min(looked.stop);
+    if looked.start < end {
+        let wanted = BufferFlags::PRODUCE_UNSAFE_TO_CONCAT;
+        unsafe_to_concat_in(wanted, glyphs, looked.start, end);
+    }
+}
+
+/// Flags what a lookup's rules look at that don't fit a place, where that is wanted.
+pub(crate) fn flag_tried(pass: &Pass<'_>, lookup: &[u8], glyphs: &mut [GlyphInfo], at: usize) {
+    if !pass.concat {
+        return;
+    }
+    if at >= glyphs.len() {
+        return;
+    }
+    let sights = pass.lookup.sights(pass.gdef, lookup, &glyphs[at]);
+    let looked = look_among(pass, &sights, lookup, glyphs, at);
+    flag_joins(glyphs, looked);
+}
