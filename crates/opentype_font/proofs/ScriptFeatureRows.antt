@@ -1,14 +1,11 @@
 -- What a plan reads of a table for a text's tags, on a GSUB written out by hand (OpenType, Common Table
 -- Formats).
 use Rattle.std.specs.Prelude.{ℕ, ◌≡◌, List, [], ◌∷◌, ◌++◌, length, true, false, Option, None, Some, refl}
-use Rattle.shapers_buffer.specs.declared.buffer.tag.Script.{Script}
-use Rattle.shapers_buffer.specs.declared.buffer.tag.hb_tag_t.{hb_tag_t}
 use Rattle.opentype_face.specs.Firsts.{first_from}
 use Rattle.opentype_face.specs.Ranges.{bisect}
 use Rattle.opentype_layout.specs.Features.{any_feature_in, chosen_script_in, feature_in, feature_table_in, feature_tag_in, first_language_in, first_script_in, new_tag_in, nth_any, nth_feature, nth_holding, nth_language, nth_script, nth_substitute, old_tag_in, required_in, script_tags_in, substitute_in, substitutions_in, system_in, third_tag_in, variation_in, variations_in}
 use Rattle.opentype_font.specs.declared.text_tags.TagList.{TagList}
-use Rattle.opentype_font.specs.declared.text_tags.TextTags.{TextTags}
-use Rattle.opentype_font.specs.ScriptFeatures.{FeatureView, TableView, features_in_system, has_feature_in, lookup_numbers, lookups_by, table_view, tag_by}
+use Rattle.opentype_font.specs.ScriptFeatures.{FeatureView, features_in_system, has_feature_in, lookup_numbers, lookups_by, table_view, tag_by}
 use Rattle.opentype_font.specs.TextTags.{Tags, number_by, tags_in, tags_of, tags_of_script}
 
 -- ---- tags
