@@ -285,7 +285,7 @@ impl<'a> RuleSet<'a> {
 
     // One of the rules.
     #[tactic(auto, unfolding(crate::specs::Looked::rule_list, opentype_layout::specs::Pattern::fits))]
-    fn rule(&self, i: u16) -> Rule<'a>
+    fn nth_rule(&self, i: u16) -> Rule<'a>
         ensures { sought result ≡ (rule_list self.now).rule i }
     {
         match *self {
@@ -310,7 +310,7 @@ impl<'a> RuleSet<'a> {
     {
         let mut looked = Stretch::none(at);
         for i in 0..self.count() {
-            let rule = self.rule(i);
+            let rule = self.nth_rule(i);
             looked = looked.join(look(gdef, sights, old_len, glyphs, at, &rule));
             if rule
                 .fit(gdef, &sights.input, &sights.context, glyphs, at)

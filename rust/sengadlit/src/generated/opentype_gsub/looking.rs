@@ -243,7 +243,7 @@ impl<'a> RuleSet<'a> {
     }
 
     // One of the rules.
-    fn rule(&self, i: u16) -> Rule<'a> {
+    fn nth_rule(&self, i: u16) -> Rule<'a> {
         match *self {
             RuleSet::Ligatures(set) => ligature_rule(nth(set, i)),
             RuleSet::Rules(tables, set) => tables.rule(nth(set, i)),
@@ -262,7 +262,7 @@ impl<'a> RuleSet<'a> {
     ) -> Stretch {
         let mut looked = Stretch::none(at);
         for i in 0..self.count() {
-            let rule = self.rule(i);
+            let rule = self.nth_rule(i);
             looked = looked.join(look(gdef, sights, old_len, glyphs, at, &rule));
             if rule
                 .fit(gdef, &sights.input, &sights.context, glyphs, at)
