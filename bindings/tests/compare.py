@@ -143,7 +143,6 @@ class Reasons:
             "aat": lambda case: self.is_by_tables(case, AAT),
             "kern": lambda case: self.is_by_tables(case, ["kern"]),
             "other-shaper": lambda case: case.has("--shaper") and self.agree(case, without=["--shaper"]),
-            "scaled": lambda case: case.has("--font-size") and self.agree(case, without=["--font-size"]),
             "marks": lambda case: self.lacks(case, "GPOS") and self.agree(case, "--no-positions"),
             "arabic-fallback": self.is_by_arabic_forms,
             "random": lambda case: not case.has("--features") and self.agree(case, "--features=rand=1"),
