@@ -70,6 +70,16 @@ pub struct Around {
     pub rest: GlyphBox,
 }
 
+// A glyph around which marks come.
+#[derive(Drop)]
+struct Base<'a> {
+    // Its place.
+    at: usize,
+    glyph: &'a hb_glyph_info_t,
+    // Its box for marks.
+    whole: GlyphBox,
+}
+
 // How many components a glyph has.
 #[inline]
 fn component_count(glyph: &hb_glyph_info_t) -> u8
@@ -262,8 +272,7 @@ fn place_at<M: MarkMetrics>(
     font: &M,
     settings: &MarkSettings,
     glyphs: &[hb_glyph_info_t],
-    base: &hb_glyph_info_t,
-    whole: &GlyphBox,
+    base: &Base<'_>,
     i: usize,
     around: Around,
     positions: &mut [GlyphPosition],
@@ -271,17 +280,17 @@ fn place_at<M: MarkMetrics>(
     requires within { i < length glyphs.now }
     requires paired { length positions.old ≡ length glyphs.now }
     ensures place { let f = mark_font (M.box_of font.now) (M.advance_of font.now) settings.now in
-        let it = glyph_around f base.now whole.now (glyph_at glyphs.now i) (position_at positions.old i) around in
+        let it = glyph_around f base.now.glyph.now base.now.whole (glyph_at glyphs.now i) (position_at positions.old i) around in
         positions.new ≡ slice_set positions.old i it.0 }
     ensures around { let f = mark_font (M.box_of font.now) (M.advance_of font.now) settings.now in
-        let it = glyph_around f base.now whole.now (glyph_at glyphs.now i) (position_at positions.old i) around in
+        let it = glyph_around f base.now.glyph.now base.now.whole (glyph_at glyphs.now i) (position_at positions.old i) around in
         result ≡ it.1 }
 {
     let placed = place_glyph(
         font,
         settings,
-        base,
-        whole,
+        base.glyph,
+        &base.whole,
         &glyphs[i],
         positions[i],
         around,
@@ -295,22 +304,21 @@ fn place_marks<M: MarkMetrics>(
     font: &M,
     settings: &MarkSettings,
     glyphs: &[hb_glyph_info_t],
-    base: &hb_glyph_info_t,
-    whole: &GlyphBox,
-    start: usize,
+    base: &Base<'_>,
     end: usize,
     around: Around,
     positions: &mut [GlyphPosition],
 )
+    requires base { base.now.at < end }
     requires within { end ≤ length glyphs.now }
     requires paired { length positions.old ≡ length glyphs.now }
     ensures { let f = mark_font (M.box_of font.now) (M.advance_of font.now) settings.now in
-        positions.new ≡ marks_around (end - start) f glyphs.now base.now whole.now start around
-        positions.old }
+        positions.new ≡ marks_around (end - (base.now.at + 1)) f glyphs.now base.now.glyph.now
+        base.now.whole (base.now.at + 1) around positions.old }
 {
     let mut around = around;
-    for i in start..end {
-        around = place_at(font, settings, glyphs, base, whole, i, around, positions);
+    for i in base.at + 1..end {
+        around = place_at(font, settings, glyphs, base, i, around, positions);
     }
 }
 
@@ -419,17 +427,12 @@ fn place_around<M: MarkMetrics>(
         Some(own) => {
             let whole = box_for_marks(&own, font.glyph_advance(glyph.glyph_id), &position);
             let around = first_around(settings.direction, &whole, &position);
-            place_marks(
-                font,
-                settings,
-                glyphs,
+            let base = Base {
+                at: base,
                 glyph,
-                &whole,
-                base + 1,
-                end,
-                around,
-                positions,
-            );
+                whole,
+            };
+            place_marks(font, settings, glyphs, &base, end, around, positions);
         }
         None => zero_marks(settings.direction, glyphs, base + 1, end, positions),
     }

@@ -79,7 +79,7 @@ fn is_as_gap(gap: u16, y: i32) -> bool
     ensures { result ≡ is_as_gap gap y }
 {
     if gap == 0 {
-        return !(0 < y);
+        return y <= 0;
     }
     0 < y
 }

@@ -77,6 +77,15 @@ pub struct Around {
     pub rest: GlyphBox,
 }
 
+// A glyph around which marks come.
+struct Base<'a> {
+    // Its place.
+    at: usize,
+    glyph: &'a GlyphInfo,
+    // Its box for marks.
+    whole: GlyphBox,
+}
+
 // How many components a glyph has.
 #[inline]
 fn component_count(glyph: &GlyphInfo) -> u8 {
@@ -234,8 +243,7 @@ fn place_at<M: MarkMetrics>(
     font: &M,
     settings: &MarkSettings,
     glyphs: &[GlyphInfo],
-    base: &GlyphInfo,
-    whole: &GlyphBox,
+    base: &Base<'_>,
     i: usize,
     around: Around,
     positions: &mut [GlyphPosition],
@@ -243,8 +251,8 @@ fn place_at<M: MarkMetrics>(
     let placed = place_glyph(
         font,
         settings,
-        base,
-        whole,
+        base.glyph,
+        &base.whole,
         &glyphs[i],
         positions[i],
         around,
@@ -258,16 +266,14 @@ fn place_marks<M: MarkMetrics>(
     font: &M,
     settings: &MarkSettings,
     glyphs: &[GlyphInfo],
-    base: &GlyphInfo,
-    whole: &GlyphBox,
-    start: usize,
+    base: &Base<'_>,
     end: usize,
     around: Around,
     positions: &mut [GlyphPosition],
 ) {
     let mut around = around;
-    for i in start..end {
-        around = place_at(font, settings, glyphs, base, whole, i, around, positions);
+    for i in base.at + 1..end {
+        around = place_at(font, settings, glyphs, base, i, around, positions);
     }
 }
 
@@ -351,17 +357,12 @@ fn place_around<M: MarkMetrics>(
         Some(own) => {
             let whole = box_for_marks(&own, font.glyph_advance(glyph.glyph_id), &position);
             let around = first_around(settings.direction, &whole, &position);
-            place_marks(
-                font,
-                settings,
-                glyphs,
+            let base = Base {
+                at: base,
                 glyph,
-                &whole,
-                base + 1,
-                end,
-                around,
-                positions,
-            );
+                whole,
+            };
+            place_marks(font, settings, glyphs, &base, end, around, positions);
         }
         None => zero_marks(settings.direction, glyphs, base + 1, end, positions),
     }

@@ -73,7 +73,7 @@ pub(crate) fn across_place(
 #[inline]
 fn is_as_gap(gap: u16, y: i32) -> bool {
     if gap == 0 {
-        return !(0 < y);
+        return y <= 0;
     }
     0 < y
 }
