@@ -6,7 +6,7 @@ use Rattle.std.proofs.lemmas.List.{length-map, length-reverse, map-append, rever
 use Rattle.shapers_buffer.specs.Glyphs.{Glyphs}
 use Rattle.opentype_layout.specs.Rules.{Found, found}
 use Rattle.opentype_layout.specs.declared.rules.Matched.{Matched}
-use Rattle.opentype_gpos.specs.Called.{Begun, Work, begun, begun_on, made_if_found, record_made, records_made, rest_made, rest_of_rule, rule_flagged, rule_made}
+use Rattle.opentype_gpos.specs.Called.{Begun, Work, begun_rule, begun_on, made_if_found, record_made, records_made, rest_made, rest_of_rule, rule_flagged, rule_made}
 use Rattle.opentype_gpos.specs.Coming.{Setting}
 use Rattle.opentype_gpos.specs.Moved.{Positions, flagged_up_to}
 use Rattle.opentype_gpos.specs.declared.calling.Frame.{Frame}
@@ -54,12 +54,12 @@ spent s (f ∷ fs) gs ps =
     ap (rest_made s fs) (spent_records (f.count - f.next) _ s f.records f.places f.next gs ps) ∙ spent s fs gs ps
 
 -- ---- rules on a stack
-top_first : (stack : List Frame) (frame : Frame) → begun_on (stack ++ frame ∷ []) ≡ begun frame ∷ begun_on stack
+top_first : (stack : List Frame) (frame : Frame) → begun_on (stack ++ frame ∷ []) ≡ begun_rule frame ∷ begun_on stack
 top_first stack frame =
-    ap reverse (map-append begun stack (frame ∷ [])) ∙ reverse-append (map begun stack) (begun frame ∷ [])
+    ap reverse (map-append begun_rule stack (frame ∷ [])) ∙ reverse-append (map begun_rule stack) (begun_rule frame ∷ [])
 
 begun_length : (stack : List Frame) → length (begun_on stack) ≡ length stack
-begun_length stack = length-reverse (map begun stack) ∙ length-map stack begun
+begun_length stack = length-reverse (map begun_rule stack) ∙ length-map stack begun_rule
 
 top : (s : Setting) (f : Begun) (fs : List Begun) (w : Work) →
     rest_made s (f ∷ fs) w ≡ rest_made s fs (rest_of_rule s (length fs + 1) f w)
@@ -82,14 +82,14 @@ deep n s rule w = refl
 -- what the top rule's next record makes, and then the rest of the rules
 rest_of : (s : Setting) (stack : List Frame) (frame : Frame) (w : Work) →
     rest_made s (begun_on (stack ++ frame ∷ [])) w
-    ≡ rest_made s (begun_on stack) (rest_of_rule s (length stack + 1) (begun frame) w)
+    ≡ rest_made s (begun_on stack) (rest_of_rule s (length stack + 1) (begun_rule frame) w)
 rest_of s stack frame w =
-    ap (λ fs. rest_made s fs w) (top_first stack frame) ∙ top s (begun frame) (begun_on stack) w
-    ∙ ap (λ n. rest_made s (begun_on stack) (rest_of_rule s (n + 1) (begun frame) w)) (begun_length stack)
+    ap (λ fs. rest_made s fs w) (top_first stack frame) ∙ top s (begun_rule frame) (begun_on stack) w
+    ∙ ap (λ n. rest_made s (begun_on stack) (rest_of_rule s (n + 1) (begun_rule frame) w)) (begun_length stack)
 
 -- a rule is put on top
 pub pushed : (s : Setting) (stack : List Frame) (rule : Found) (frame : Frame) (w : Work) → length stack < 63 →
-    begun frame ≡ record { records = rule.records; count = rule.count; places = rule.places; next = 0 } →
+    begun_rule frame ≡ record { records = rule.records; count = rule.count; places = rule.places; next = 0 } →
     rest_made s (begun_on (stack ++ frame ∷ [])) (rule_flagged rule w)
     ≡ rest_made s (begun_on stack) (rule_made (63 - length stack) s rule w)
 pushed s stack rule frame w lt is =
@@ -111,7 +111,7 @@ left_out s stack (Some rule) w full =
 
 pub pushed_as : (s : Setting) (stack new : List Frame) (it : Option Matched) (rule : Matched) (frame : Frame) (gs flagged : Glyphs)
     (ps : Positions) (left : ℕ) → it ≡ Some rule → length stack < 63 → new ≡ stack ++ frame ∷ [] →
-    begun frame ≡ record { records = rule.records.now; count = rule.count; places = rule.places.items; next = 0 } →
+    begun_rule frame ≡ record { records = rule.records.now; count = rule.count; places = rule.places.items; next = 0 } →
     flagged ≡ flagged_up_to true rule.start (rule.stop - 1) gs →
     rest_made s (begun_on new) (work flagged ps left)
     ≡ rest_made s (begun_on stack) (made_if_found (rule_made (63 - length stack) s) (option_map (λ m. found m) it) (work gs ps left))
@@ -137,7 +137,7 @@ turn_ended s old stack frame w is le =
 
 pub turn_called : (s : Setting) (stack : List Frame) (frame after : Frame) (w v : Work) (inner : Option Found) →
     frame.next < frame.count →
-    begun after ≡ record { records = frame.records.now; count = frame.count; places = frame.places.items; next = frame.next + 1 } →
+    begun_rule after ≡ record { records = frame.records.now; count = frame.count; places = frame.places.items; next = frame.next + 1 } →
     record_made (rule_made (63 - (length stack + 1)) s) s frame.records.now frame.places.items frame.next w
     ≡ made_if_found (rule_made (63 - (length stack + 1)) s) inner v →
     rest_made s (begun_on (stack ++ after ∷ [])) (made_if_found (rule_made (63 - (length stack + 1)) s) inner v)
@@ -151,7 +151,7 @@ turn_called s stack frame after w v inner lt is made =
 
 pub turn_goes_on : (s : Setting) (old stack pushed : List Frame) (frame after : Frame) (places : List ℕ) (w v : Work)
     (inner : Option Found) (end : Work) → places ≡ frame.places.items → old ≡ stack ++ frame ∷ [] → pushed ≡ stack ++ after ∷ [] → frame.next < frame.count →
-    begun after ≡ record { records = frame.records.now; count = frame.count; places = frame.places.items; next = frame.next + 1 } →
+    begun_rule after ≡ record { records = frame.records.now; count = frame.count; places = frame.places.items; next = frame.next + 1 } →
     record_made (rule_made (63 - (length stack + 1)) s) s frame.records.now places frame.next w
     ≡ made_if_found (rule_made (63 - (length stack + 1)) s) inner v →
     end ≡ rest_made s (begun_on pushed) (made_if_found (rule_made (63 - length pushed) s) inner v) →

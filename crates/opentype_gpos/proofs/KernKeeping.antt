@@ -10,7 +10,7 @@ use Rattle.shapers_clusters.proofs.FlagCalls.{map-unsafe_to_concat_in, without_f
 use Rattle.opentype_face.specs.Bytes.{part_in, u16_in}
 use Rattle.opentype_layout.specs.Text.{glyph_at}
 use Rattle.opentype_gpos.specs.Finished.{is_backward}
-use Rattle.opentype_gpos.specs.Kerned.{Placed, in_one_line, is_across, kern_sight, kern_stepped, kerned, kerned_along, kerned_by, kerned_in_turn, kerned_text, kerned_with, line_step, pair_kerned, with_step}
+use Rattle.opentype_gpos.specs.Kerned.{PlacedText, in_one_line, is_across, kern_sight, kern_stepped, kerned, kerned_along, kerned_by, kerned_in_turn, kerned_text, kerned_with, line_step, pair_kerned, with_step}
 use Rattle.opentype_gpos.specs.Laws.{PlacesAlone, without_its_flags}
 use Rattle.opentype_gpos.specs.Moved.{Positions, is_vertical}
 use Rattle.opentype_gpos.specs.Nearby.{next_any}
@@ -21,10 +21,10 @@ use Rattle.opentype_gpos.proofs.Preserved.{Stays, choose_step, walk_keeps}
 abbrev Like : Glyphs → ℕ → Glyphs → Positions → Type 0
 Like xs n gs ps = (map without_its_flags gs ≡ xs) × (length ps ≡ n)
 
-abbrev IsLike : Glyphs → ℕ → Placed → Type 0
+abbrev IsLike : Glyphs → ℕ → PlacedText → Type 0
 IsLike xs n t = Like xs n t.glyphs t.positions
 
-choose : (b : Bool) (xs : Glyphs) (n : ℕ) (t u : Placed) → IsLike xs n t → IsLike xs n u → IsLike xs n (if b then t else u)
+choose : (b : Bool) (xs : Glyphs) (n : ℕ) (t u : PlacedText) → IsLike xs n t → IsLike xs n u → IsLike xs n (if b then t else u)
 choose true xs n t u x y = x
 choose false xs n t u x y = y
 
@@ -53,20 +53,20 @@ line_if : (b : Bool) (step : ℕ) (ps : Positions) → length (if b then in_one_
 line_if true step ps = line_length step ps
 line_if false step ps = refl
 
-along_keeps : (bytes : List ℕ) (mask : ℕ) (d : Direction) (xs : Glyphs) (n : ℕ) (t : Placed) → IsLike xs n t →
+along_keeps : (bytes : List ℕ) (mask : ℕ) (d : Direction) (xs : Glyphs) (n : ℕ) (t : PlacedText) → IsLike xs n t →
     IsLike xs n (kerned_along bytes mask d t)
 unfolding kerned_along
 along_keeps bytes mask d xs n t h = walk_keeps (length t.glyphs) (Like xs n) (kern_stepped bytes mask (is_vertical d))
     (λ gs ps at g. step_keeps bytes mask (is_vertical d) xs n gs ps at g) t.glyphs _ 0
     (h.0, line_if (is_across bytes) (line_step d) t.positions ∙ h.1)
 
-by_keeps : (mask : ℕ) (d : Direction) (bytes : List ℕ) (xs : Glyphs) (n : ℕ) (t : Placed) → IsLike xs n t →
+by_keeps : (mask : ℕ) (d : Direction) (bytes : List ℕ) (xs : Glyphs) (n : ℕ) (t : PlacedText) → IsLike xs n t →
     IsLike xs n (kerned_by mask d bytes t)
 unfolding kerned_by
 by_keeps mask d bytes xs n t h = choose _ xs n _ t (along_keeps bytes mask d xs n t h) h
 
-turns_keep : (k : ℕ) (each : List ℕ → Placed → Placed) (xs : Glyphs) (n : ℕ) →
-    ((bytes : List ℕ) (t : Placed) → IsLike xs n t → IsLike xs n (each bytes t)) → (bytes : List ℕ) (t : Placed) →
+turns_keep : (k : ℕ) (each : List ℕ → PlacedText → PlacedText) (xs : Glyphs) (n : ℕ) →
+    ((bytes : List ℕ) (t : PlacedText) → IsLike xs n t → IsLike xs n (each bytes t)) → (bytes : List ℕ) (t : PlacedText) →
     IsLike xs n t → IsLike xs n (kerned_in_turn k each bytes t)
 unfolding kerned_in_turn
 turns_keep zero each xs n keeps bytes t h = h
@@ -74,19 +74,19 @@ turns_keep (suc k) each xs n keeps bytes t h = choose (nat_lt (u16_in bytes 2) 6
     (turns_keep k each xs n keeps (part_in bytes (u16_in bytes 2)) (each bytes t) (keeps bytes t h))
 
 -- a text that is turned around, changed, and turned back
-abbrev turned_if : Bool → Placed → Placed
+abbrev turned_if : Bool → PlacedText → PlacedText
 turned_if b t = if b then record { glyphs = reverse t.glyphs; positions = reverse t.positions } else t
 
-turned_keeps : (b : Bool) (f : Placed → Placed) → ((xs : Glyphs) (n : ℕ) (t : Placed) → IsLike xs n t → IsLike xs n (f t)) →
-    (xs : Glyphs) (n : ℕ) (t : Placed) → IsLike xs n t → IsLike xs n (turned_if b (f (turned_if b t)))
+turned_keeps : (b : Bool) (f : PlacedText → PlacedText) → ((xs : Glyphs) (n : ℕ) (t : PlacedText) → IsLike xs n t → IsLike xs n (f t)) →
+    (xs : Glyphs) (n : ℕ) (t : PlacedText) → IsLike xs n t → IsLike xs n (turned_if b (f (turned_if b t)))
 turned_keeps true f keeps xs n t h =
-    let u : Placed = record { glyphs = reverse t.glyphs; positions = reverse t.positions } in
+    let u : PlacedText = record { glyphs = reverse t.glyphs; positions = reverse t.positions } in
     let k : IsLike (reverse xs) n (f u) = keeps (reverse xs) n u
     (map-reverse without_its_flags t.glyphs ∙ ap reverse h.0, length-reverse t.positions ∙ h.1) in
     (map-reverse without_its_flags (f u).glyphs ∙ ap reverse k.0 ∙ reverse-reverse xs, length-reverse (f u).positions ∙ k.1)
 turned_keeps false f keeps xs n t h = keeps xs n t h
 
-text_keeps : (table : List ℕ) (mask : ℕ) (d : Direction) (xs : Glyphs) (n : ℕ) (t : Placed) → IsLike xs n t →
+text_keeps : (table : List ℕ) (mask : ℕ) (d : Direction) (xs : Glyphs) (n : ℕ) (t : PlacedText) → IsLike xs n t →
     IsLike xs n (kerned_text table mask d t)
 unfolding kerned_text
 text_keeps table mask d xs n t h = choose (u16_in table 0 == 0) xs n _ t

@@ -8,7 +8,7 @@ use Rattle.opentype_face.specs.Ranges.{bisect}
 use Rattle.opentype_layout.specs.Sight.{ignores, may_pass, next_from, seen_as}
 use Rattle.opentype_gpos.specs.Finished.{let_go}
 use Rattle.opentype_gpos.specs.Joined.{with_across}
-use Rattle.opentype_gpos.specs.Kerned.{Placed, in_one_line, kern_class, kern_half, kern_rest, kern_stepped, kern_value, kern_whole, kerned_along, kerned_by, kerned_in_turn, kerned_text, pair_kerned, value_of_pair, with_half, with_rest}
+use Rattle.opentype_gpos.specs.Kerned.{PlacedText, in_one_line, kern_class, kern_half, kern_rest, kern_stepped, kern_value, kern_whole, kerned_along, kerned_by, kerned_in_turn, kerned_text, pair_kerned, value_of_pair, with_half, with_rest}
 use Rattle.opentype_gpos.specs.Moved.{Positions, flagged_up_to}
 use Rattle.opentype_gpos.specs.Nearby.{any_seen}
 use Rattle.opentype_gpos.specs.Walked.{walked}
@@ -113,7 +113,7 @@ wide = record default_position { x_advance = pos 500; y_advance = pos 700 }
 abbrev table : List ℕ → List ℕ
 table subtable = (0 ∷ 0 ∷ 0 ∷ 1 ∷ []) ++ subtable
 
-abbrev placed : Glyphs → Positions → Placed
+abbrev placed : Glyphs → Positions → PlacedText
 placed gs ps = record { glyphs = gs; positions = ps }
 
 -- the mark between is passed over, and there is no break up to glyph 6

@@ -3,39 +3,39 @@ use Rattle.std.proofs.Common.{[], ◌∷◌, map, ℕ, zero, suc, ◌+◌, ◌-�
 use Rattle.std.proofs.lemmas.Bool.Decides.{nat_tests}
 use Rattle.shapers_buffer.specs.Glyphs.{Glyphs}
 use Rattle.opentype_face.specs.Bytes.{part_in, u16_in}
-use Rattle.opentype_gpos.specs.Kerned.{Placed, in_one_line, kerned_in_turn, with_step}
+use Rattle.opentype_gpos.specs.Kerned.{PlacedText, in_one_line, kerned_in_turn, with_step}
 use Rattle.opentype_gpos.specs.Finished.{let_go}
 use Rattle.opentype_gpos.specs.Moved.{Positions}
 
-abbrev placed : Glyphs → Positions → Placed
+abbrev placed : Glyphs → Positions → PlacedText
 placed gs ps = record { glyphs = gs; positions = ps }
 
-pub record IsKerning (each : List ℕ → Placed → Placed) (count : ℕ) (start : List ℕ) (old : Placed) (i : ℕ) (bytes : List ℕ)
+pub record IsKerning (each : List ℕ → PlacedText → PlacedText) (count : ℕ) (start : List ℕ) (old : PlacedText) (i : ℕ) (bytes : List ℕ)
     (gs : Glyphs) (ps : Positions) : Type 0 where
   pub rest : kerned_in_turn count each start old ≡ kerned_in_turn (count - i) each bytes (placed gs ps)
   pub paired : length ps ≡ length gs
 
-none : (each : List ℕ → Placed → Placed) (bytes : List ℕ) (t : Placed) → kerned_in_turn 0 each bytes t ≡ t
+none : (each : List ℕ → PlacedText → PlacedText) (bytes : List ℕ) (t : PlacedText) → kerned_in_turn 0 each bytes t ≡ t
 unfolding kerned_in_turn
 none each bytes t = refl
 
-short : (n : ℕ) (each : List ℕ → Placed → Placed) (bytes : List ℕ) (t : Placed) → u16_in bytes 2 < 6 →
+short : (n : ℕ) (each : List ℕ → PlacedText → PlacedText) (bytes : List ℕ) (t : PlacedText) → u16_in bytes 2 < 6 →
     kerned_in_turn n each bytes t ≡ t
 unfolding kerned_in_turn
 short zero each bytes t lt = refl
 short (suc n) each bytes t lt = let e : nat_lt (u16_in bytes 2) 6 ≡ true = grind (arith, nat_tests) in rw e refl
 
-one : (n : ℕ) (each : List ℕ → Placed → Placed) (bytes : List ℕ) (t : Placed) → 6 ≤ u16_in bytes 2 →
+one : (n : ℕ) (each : List ℕ → PlacedText → PlacedText) (bytes : List ℕ) (t : PlacedText) → 6 ≤ u16_in bytes 2 →
     kerned_in_turn (suc n) each bytes t ≡ kerned_in_turn n each (part_in bytes (u16_in bytes 2)) (each bytes t)
 unfolding kerned_in_turn
 one n each bytes t le = let e : nat_lt (u16_in bytes 2) 6 ≡ false = grind (arith, nat_tests) in rw e refl
 
-pub kerning_start : (each : List ℕ → Placed → Placed) (count : ℕ) (bytes : List ℕ) (gs : Glyphs) (ps : Positions) →
+pub kerning_start : (each : List ℕ → PlacedText → PlacedText) (count : ℕ) (bytes : List ℕ) (gs : Glyphs) (ps : Positions) →
     length ps ≡ length gs → IsKerning each count bytes (placed gs ps) 0 bytes gs ps
 kerning_start each count bytes gs ps paired =
     let n : count - 0 ≡ count = omega arith in record { rest = rw n refl; paired = paired }
 
-pub kerning_next : (each : List ℕ → Placed → Placed) (count : ℕ) (start : List ℕ) (old : Placed) (i : ℕ) (bytes rest : List ℕ)
+pub kerning_next : (each : List ℕ → PlacedText → PlacedText) (count : ℕ) (start : List ℕ) (old : PlacedText) (i : ℕ) (bytes rest : List ℕ)
     (gs new : Glyphs) (ps moved : Positions) (len : ℕ) → IsKerning each count start old i bytes gs ps → i < count →
     len ≡ u16_in bytes 2 → 6 ≤ len → length moved ≡ length new → each bytes (placed gs ps) ≡ placed new moved →
     rest ≡ part_in bytes len → IsKerning each count start old (i + 1) rest new moved
@@ -48,12 +48,12 @@ kerning_next each count start old i bytes rest gs new ps moved len k lt long le 
       paired = paired;
     }
 
-pub kerning_short : (each : List ℕ → Placed → Placed) (count : ℕ) (start : List ℕ) (old : Placed) (i : ℕ) (bytes : List ℕ)
+pub kerning_short : (each : List ℕ → PlacedText → PlacedText) (count : ℕ) (start : List ℕ) (old : PlacedText) (i : ℕ) (bytes : List ℕ)
     (gs : Glyphs) (ps : Positions) (len : ℕ) → IsKerning each count start old i bytes gs ps → len ≡ u16_in bytes 2 → len < 6 →
     kerned_in_turn count each start old ≡ placed gs ps
 kerning_short each count start old i bytes gs ps len k long lt = k.rest ∙ short (count - i) each bytes (placed gs ps) (rw long at lt)
 
-pub kerning_all : (each : List ℕ → Placed → Placed) (count : ℕ) (start : List ℕ) (old : Placed) (i : ℕ) (bytes : List ℕ)
+pub kerning_all : (each : List ℕ → PlacedText → PlacedText) (count : ℕ) (start : List ℕ) (old : PlacedText) (i : ℕ) (bytes : List ℕ)
     (gs : Glyphs) (ps : Positions) → IsKerning each count start old i bytes gs ps → count ≤ i →
     kerned_in_turn count each start old ≡ placed gs ps
 kerning_all each count start old i bytes gs ps k le =

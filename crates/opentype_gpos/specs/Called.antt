@@ -27,8 +27,8 @@ made_of by_rule s at w None = w
 made_of by_rule s at w (Some (inl it)) = move_made s it at w
 made_of by_rule s at w (Some (inr rule)) = by_rule rule w
 
--- A lookup that a rule applies at a place, once. Neither the flag of the lookup nor a feature leaves
--- the glyph at that place out.
+-- A lookup that a rule applies at a place, once. Neither the flag of the lookup nor a feature
+-- leaves the glyph at that place out.
 unfoldable pub lookup_made : (Found → Work → Work) → Setting → List ℕ → ℕ → Work → Work
 lookup_made by_rule s lookup at w =
     made_of by_rule s at w (came_in s (sights_in s lookup) lookup w.glyphs at)
@@ -68,8 +68,8 @@ pub record Begun : Type 0 where
   pub places : List ℕ
   pub next : ℕ
 
-abbrev pub begun : Frame → Begun
-begun frame = record {
+abbrev pub begun_rule : Frame → Begun
+begun_rule frame = record {
   records = frame.records.now;
   count = frame.count;
   places = frame.places.items;
@@ -78,7 +78,7 @@ begun frame = record {
 
 -- the rules on a stack, the top one first
 abbrev pub begun_on : List Frame → List Begun
-begun_on stack = reverse (map begun stack)
+begun_on stack = reverse (map begun_rule stack)
 
 -- What the rest of the records of a rule at this depth makes of a text; the first one on the stack
 -- is at depth 1, and there are at most 63.

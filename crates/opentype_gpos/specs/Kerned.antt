@@ -140,12 +140,12 @@ abbrev pub line_step : Direction → ℕ
 line_step direction = if is_backward direction then 1 else 65535
 
 -- a text with its positions
-pub record Placed : Type 0 where
+pub record PlacedText : Type 0 where
   pub glyphs : Glyphs
   pub positions : Positions
 
 -- one subtable, over glyphs as they are drawn
-unfoldable pub kerned_along : List ℕ → ℕ → Direction → Placed → Placed
+unfoldable pub kerned_along : List ℕ → ℕ → Direction → PlacedText → PlacedText
 kerned_along bytes mask direction t =
     let ps = if is_across bytes then in_one_line (line_step direction) t.positions else t.positions
     in let end = walked (length t.glyphs) (kern_stepped bytes mask (is_vertical direction)) t.glyphs
@@ -157,23 +157,23 @@ abbrev pub is_for : Direction → List ℕ → Bool
 is_for direction bytes = if is_vertical direction then not (slice_index bytes 5 % 2 == 1)
     else slice_index bytes 5 % 2 == 1
 
-unfoldable pub kerned_by : ℕ → Direction → List ℕ → Placed → Placed
+unfoldable pub kerned_by : ℕ → Direction → List ℕ → PlacedText → PlacedText
 kerned_by mask direction bytes t =
     if is_for direction bytes then kerned_along bytes mask direction t else t
 
 -- so many subtables, each with its length at byte 2; one shorter than its header is the last one
-unfoldable pub kerned_in_turn : ℕ → (List ℕ → Placed → Placed) → List ℕ → Placed → Placed
+unfoldable pub kerned_in_turn : ℕ → (List ℕ → PlacedText → PlacedText) → List ℕ → PlacedText → PlacedText
 kerned_in_turn zero each bytes t = t
 kerned_in_turn (suc n) each bytes t = if nat_lt (u16_in bytes 2) 6 then t
     else kerned_in_turn n each (part_in bytes (u16_in bytes 2)) (each bytes t)
 
 -- backward text as it is drawn
-abbrev pub as_drawn : Direction → Placed → Placed
+abbrev pub as_drawn : Direction → PlacedText → PlacedText
 as_drawn direction t = if is_backward direction
     then record { glyphs = reverse t.glyphs; positions = reverse t.positions } else t
 
 -- the table: a version, and how many subtables it has, from byte 4 on
-unfoldable pub kerned_text : List ℕ → ℕ → Direction → Placed → Placed
+unfoldable pub kerned_text : List ℕ → ℕ → Direction → PlacedText → PlacedText
 kerned_text table mask direction t =
     if u16_in table 0 == 0
     then as_drawn direction (kerned_in_turn (u16_in table 2) (kerned_by mask direction) (part_in

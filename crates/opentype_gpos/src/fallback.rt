@@ -1,5 +1,5 @@
 //! Marks of a text in a font without GPOS.
-ghost use Rattle.std.specs.Prelude.{ℕ, ◌≡◌, ◌<◌, ◌≤◌, ◌+◌, ◌-◌, drop, length, slice_set};
+ghost use Rattle.std.specs.Prelude.{ℕ, ◌≡◌, ◌<◌, ◌≤◌, ◌+◌, ◌-◌, length, slice_set};
 ghost use Rattle.opentype_gpos.specs.Moved.{position_at};
 ghost use Rattle.std.specs.List.{prefix_len};
 ghost use Rattle.opentype_gpos.specs.Fallback.{at_class, at_component, box_for_marks, brought_back, class_of_character, class_of_script, component_under, components_of, first_around, first_pen, glyph_around, mark_class, mark_font, mark_upon, marks_around, marks_character, marks_placed, marks_stepped, marks_without_box, pen_past, placed_around, stays_with_base, upon_box, with_offsets, without_box};

@@ -1,6 +1,6 @@
 //! Pairs of glyphs by the table `kern`.
-ghost use Rattle.std.specs.Prelude.{◌≡◌, ◌<◌, ◌≤◌, length, map, reverse};
-ghost use Rattle.opentype_gpos.specs.Kerned.{Placed, as_drawn, in_one_line, is_across, is_for, kern_class, kern_half, kern_rest, kern_sight, kern_stepped, kern_value, kern_whole, kerned, kerned_along, kerned_by, kerned_in_turn, kerned_text, line_step, pair_kerned, value_of_pair, with_half, with_rest, with_step};
+ghost use Rattle.std.specs.Prelude.{◌≡◌, ◌<◌, length, map, reverse};
+ghost use Rattle.opentype_gpos.specs.Kerned.{as_drawn, in_one_line, is_across, is_for, kern_class, kern_half, kern_rest, kern_sight, kern_stepped, kern_value, kern_whole, kerned, kerned_along, kerned_by, kerned_in_turn, kerned_text, line_step, pair_kerned, value_of_pair, with_half, with_rest, with_step};
 ghost use Rattle.opentype_gpos.specs.Walked.{walked};
 
 use crate::finish::{is_backward, let_go};

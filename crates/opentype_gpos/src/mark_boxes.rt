@@ -1,6 +1,6 @@
 //! Where marks come in a font without GPOS, by their classes and the boxes of glyphs.
 ghost use Rattle.std.specs.Prelude.{◌≡◌, ◌<◌};
-ghost use Rattle.opentype_gpos.specs.MarkBoxes.{across_place, at_middle, between_letters, down_half, is_above, is_above_apart, is_as_gap, is_at_left, is_at_right, is_below, is_below_apart, is_double, part_of_box, part_start, placed_above, placed_below, steps_before, upon_edge, upright_place, with_above, with_below, with_gap_above, with_gap_below};
+ghost use Rattle.opentype_gpos.specs.MarkBoxes.{across_place, at_middle, between_letters, down_half, is_as_gap, part_of_box, part_start, placed_above, placed_below, steps_before, upon_edge, upright_place, with_above, with_below, with_gap_above, with_gap_below};
 
 use shapers_buffer::buffer::Direction;
 
