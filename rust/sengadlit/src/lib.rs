@@ -219,6 +219,7 @@ mod values;
     clippy::match_same_arms,
     clippy::needless_pass_by_value,
     clippy::needless_range_loop,
+    clippy::nonminimal_bool,
     clippy::option_option,
     clippy::question_mark,
     clippy::range_plus_one,
@@ -226,6 +227,7 @@ mod values;
     clippy::similar_names,
     clippy::single_match_else,
     clippy::struct_excessive_bools,
+    clippy::too_many_arguments,
     clippy::trivially_copy_pass_by_ref,
     clippy::unreadable_literal,
     reason = "the sources' forms: each cast is proved to lose nothing, and tables have a line per case"

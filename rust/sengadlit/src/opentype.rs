@@ -55,6 +55,7 @@ mod from_str;
 mod glyph_buffer;
 mod in_place;
 mod kerning;
+mod marks;
 mod plan;
 mod scale;
 mod serialize;

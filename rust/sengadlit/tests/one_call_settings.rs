@@ -272,7 +272,7 @@ fn boxes_names_and_axes() {
 #[test]
 fn pairs_by_the_table_kern() {
     let pairs = words(&[0, 1, 0, 20, 1, 1, 6, 0, 0, 1, 3, 0xFF9C]);
-    let data = font_without_gpos((*b"kern", pairs.clone()));
+    let data = font_without_gpos(&[(*b"kern", pairs.clone())]);
     let face = Face::parse(&data, 0).unwrap();
     let shaped = |features: &[&str], characters: &str| {
         let features: Vec<Feature> = features.iter().map(|tag| tag.parse().unwrap()).collect();
@@ -292,6 +292,50 @@ fn pairs_by_the_table_kern() {
     let face = Face::parse(&data, 0).unwrap();
     let glyphs = shape(&face, &[], text("AC"));
     assert_eq!(glyphs.glyph_positions()[0].x_advance, 600);
+}
+
+/// Marks that the font lacks, over and under A and a ligature, by boxes. (hb-shape's answers.)
+#[test]
+fn marks_without_gpos() {
+    // boxes of .notdef, from (10, 0) to (210, 300), and of A, from (20, -10) to (320, 700)
+    let outlines = words(&[1, 10, 0, 210, 300, 1, 20, 65_526, 320, 700]);
+    let more = [
+        (*b"loca", words(&[0, 5, 10, 10, 10, 10])),
+        (*b"glyf", outlines),
+    ];
+    let data = font_without_gpos(&more);
+    let face = Face::parse(&data, 0).unwrap();
+    let shaped = |face: &Face<'_>, characters: &str, set_up: fn(&mut UnicodeBuffer)| {
+        let mut buffer = text(characters);
+        set_up(&mut buffer);
+        shape(face, &[], buffer).serialize(face, SerializeFlags::default())
+    };
+    let marked = "A\u{301}\u{302}\u{323}C";
+    assert_eq!(
+        shaped(&face, marked, |_| ()),
+        "[gid1=0+600|gid0=0@-400,-372+0|gid0=0@-400,762+0|gid0=0@-400,1124+0|gid3=7+700]"
+    );
+    let ligature = "AB\u{301}\u{323}";
+    assert_eq!(
+        shaped(&face, ligature, |_| ()),
+        "[gid4=0+1100|gid0=0@-375,-362+0|gid0=0@-375,62+0]"
+    );
+    let backward = |buffer: &mut UnicodeBuffer| buffer.set_direction(Direction::RightToLeft);
+    assert_eq!(
+        shaped(&face, ligature, backward),
+        "[gid2=1+650|gid0=1@-425,-362+0|gid0=1@-425,62+0|gid1=0+600]"
+    );
+    // Thai's shaper leaves marks where they are
+    let thai = |buffer: &mut UnicodeBuffer| buffer.set_script(script::THAI);
+    assert_eq!(
+        shaped(&face, ligature, thai),
+        "[gid4=0+1100|gid0=0@-500,0+0|gid0=0@-500,0+0]"
+    );
+    let scaled = face.with_scale(100, 100);
+    assert_eq!(
+        shaped(&scaled, marked, |_| ()),
+        "[gid1=0+60|gid0=0@-40,-37+0|gid0=0@-40,76+0|gid0=0@-40,112+0|gid3=7+70]"
+    );
 }
 
 #[test]

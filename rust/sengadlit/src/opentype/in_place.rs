@@ -2,6 +2,7 @@
 
 use super::drawn_font::DrawnFont;
 use super::kerning::Kerning;
+use super::marks::MarkPlacing;
 use super::serialize::Serialized;
 use super::steps::{Steps, Told};
 use super::{Face, Replacements, SerializeFlags, ShapePlan};
@@ -113,6 +114,7 @@ impl ShapePlan {
             font: &face.for_tags(self.tags),
             plan: &self.plan,
             not_found: replacements.not_found,
+            marks: MarkPlacing::new(face, &self.plan, &kerning),
             kerning,
             scale: face.scale,
             is_scaled,

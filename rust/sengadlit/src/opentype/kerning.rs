@@ -1,6 +1,7 @@
 //! The table `kern`, in fonts whose GPOS doesn't kern.
 
 use crate::buffer::{Buffer, Direction, Tag};
+use crate::generated::opentype_face::bytes::{part, u16_at};
 use crate::generated::opentype_gpos::kern::kern;
 use crate::map::TableIndex;
 use crate::ot_shape_plan::{FontFeatures, ShapePlan};
@@ -9,6 +10,9 @@ use crate::ot_shape_position::{
 };
 use crate::plan::ZeroWidthMarks;
 use crate::shaper::Shaper;
+
+/// The bit of a subtable's coverage by which it moves glyphs across their line.
+const ACROSS: u16 = 4;
 
 /// The feature of kerning.
 const KERN: Tag = Tag(*b"kern");
@@ -33,6 +37,22 @@ pub(super) struct Kerning<'a> {
 }
 
 impl Kerning<'_> {
+    /// Whether a subtable moves glyphs across their line.
+    pub fn moves_across(&self) -> bool {
+        let mut rest = part(self.table, 4);
+        for _ in 0..u16_at(self.table, 2) {
+            let length = u16_at(rest, 2);
+            if length < 6 {
+                return false;
+            }
+            if u16_at(rest, 4) & ACROSS != 0 {
+                return true;
+            }
+            rest = part(rest, length.into());
+        }
+        false
+    }
+
     /// Moves pairs of glyphs by the table. What marks and ignorable glyphs got they lose again, since they
     /// lost their advances before this.
     pub fn apply(&self, plan: &ShapePlan, classes: &impl GlyphClasses, buffer: &mut Buffer) {

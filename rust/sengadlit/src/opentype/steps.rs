@@ -1,6 +1,7 @@
 //! The lookups of a text, one by one.
 
 use super::kerning::Kerning;
+use super::marks::MarkPlacing;
 use super::scale::Scale;
 use crate::buffer::{Buffer, GlyphInfo, GlyphProps, ShaperError};
 use crate::font::GlyphId;
@@ -29,13 +30,14 @@ pub enum ShapeStep {
 pub(super) type Told<'a> = Option<&'a dyn Fn(ShapeStep, &Buffer)>;
 
 /// The lookups of a font, which are told as they are applied, before the first of which the glyph for
-/// characters that the font lacks is put in, and behind the last of which pairs are moved by the table `kern`
-/// and positions scaled.
+/// characters that the font lacks is put in, and behind the last of which pairs are moved by the table `kern`,
+/// positions are scaled, and marks placed in a font without GPOS.
 pub(super) struct Steps<'a> {
     pub font: &'a OpenTypeFont<'a>,
     pub plan: &'a ShapePlan,
     pub not_found: Option<GlyphId>,
     pub kerning: Kerning<'a>,
+    pub marks: Option<MarkPlacing<'a>>,
     pub scale: Option<Scale>,
     pub is_scaled: &'a Cell<bool>,
     pub told: Told<'a>,
@@ -119,5 +121,8 @@ impl Lookups for Steps<'_> {
             self.is_scaled.set(true);
         }
         self.font.finish_positions(buffer);
+        if let Some(marks) = self.marks {
+            marks.apply(buffer);
+        }
     }
 }

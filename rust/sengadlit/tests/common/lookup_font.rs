@@ -39,11 +39,9 @@ pub fn font_with(more: &[Table]) -> Vec<u8> {
     font_of([&tables()[..], more].concat())
 }
 
-/// The font with this table in place of GPOS.
-pub fn font_without_gpos(table: Table) -> Vec<u8> {
-    let mut tables = tables();
-    tables[0] = table;
-    font_of(tables)
+/// The font with these tables in place of GPOS.
+pub fn font_without_gpos(more: &[Table]) -> Vec<u8> {
+    font_of([&tables()[1..], more].concat())
 }
 
 /// The tables of the font; GPOS is the first.
@@ -51,6 +49,8 @@ fn tables() -> Vec<Table> {
     let mut head = vec![0; 54];
     head[18..20].copy_from_slice(&1000_u16.to_be_bytes());
     let mut hhea = vec![0; 36];
+    hhea[1] = 1;
+    hhea[4..8].copy_from_slice(&words(&[800, 65_336]));
     hhea[34..].copy_from_slice(&5_u16.to_be_bytes());
     let cmap = [
         words(&[0, 1, 3, 10, 0, 12]),

@@ -1,0 +1,78 @@
+//! Marks in fonts without GPOS, which are placed by their classes and the boxes of glyphs.
+
+use super::Face;
+use super::kerning::Kerning;
+use crate::buffer::{Buffer, Direction, GeneralCategory, Script};
+use crate::generated::opentype_gpos::fallback::{
+    MarkMetrics, MarkSettings, mark_class, place_marks_by_boxes,
+};
+use crate::generated::opentype_gpos::mark_boxes::GlyphBox;
+use crate::ot_shape_plan::ShapePlan;
+use crate::shaper::Shaper;
+
+/// The face of a text whose marks GPOS doesn't place.
+#[derive(Clone, Copy)]
+pub(super) struct MarkPlacing<'a> {
+    face: &'a Face<'a>,
+    from_right: bool,
+}
+
+impl<'a> MarkPlacing<'a> {
+    /// How marks are placed by a plan, if GPOS doesn't do it, the shaper wants it, and no pair is moved across
+    /// the line. (HarfBuzz's `fallback_mark_positioning`.)
+    pub fn new(face: &'a Face<'a>, plan: &ShapePlan, kerning: &Kerning<'_>) -> Option<Self> {
+        let wants = plan.shaper().is_none_or(Shaper::fallback_position);
+        if plan.applies_gpos() || !wants || kerning.moves_across() {
+            return None;
+        }
+        let line = match plan.direction() {
+            Direction::TopToBottom | Direction::BottomToTop => {
+                let script = plan.plan().script;
+                script.map_or(Direction::LeftToRight, Script::direction)
+            }
+            horizontal => horizontal,
+        };
+        Some(MarkPlacing {
+            face,
+            from_right: line == Direction::RightToLeft,
+        })
+    }
+
+    /// Places the marks of a text whose positions are done.
+    pub fn apply(self, buffer: &mut Buffer) {
+        buffer.with_glyphs_mut(|glyphs| {
+            let props = glyphs.iter_mut().map(|glyph| &mut glyph.unicode_props);
+            for props in props.filter(|props| props.general_category() == GeneralCategory::Mn) {
+                // (a character counts in scripts alone whose shapers place no marks)
+                let class = mark_class(0, props.modified_combining_class());
+                props.set_modified_combining_class(class);
+            }
+        });
+        let height = self
+            .face
+            .scale
+            .map_or(self.face.units_per_em().into(), |scale| scale.y);
+        let settings = MarkSettings {
+            gap: u16::try_from(height / 16).unwrap_or_default(),
+            direction: buffer.direction(),
+            from_right: self.from_right,
+        };
+        place_marks_by_boxes(&self, settings, buffer);
+    }
+}
+
+impl MarkMetrics for MarkPlacing<'_> {
+    fn glyph_box(&self, glyph: u32) -> Option<GlyphBox> {
+        let extents = self.face.glyph_extents(glyph)?;
+        Some(GlyphBox {
+            x_bearing: extents.x_bearing,
+            y_bearing: extents.y_bearing,
+            width: extents.width,
+            height: extents.height,
+        })
+    }
+
+    fn glyph_advance(&self, glyph: u32) -> i32 {
+        self.face.glyph_hor_advance(glyph)
+    }
+}
