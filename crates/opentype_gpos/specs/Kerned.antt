@@ -162,7 +162,8 @@ kerned_by mask direction bytes t =
     if is_for direction bytes then kerned_along bytes mask direction t else t
 
 -- so many subtables, each with its length at byte 2; one shorter than its header is the last one
-unfoldable pub kerned_in_turn : ℕ → (List ℕ → PlacedText → PlacedText) → List ℕ → PlacedText → PlacedText
+unfoldable pub kerned_in_turn : ℕ → (List ℕ → PlacedText → PlacedText) → List ℕ → PlacedText →
+    PlacedText
 kerned_in_turn zero each bytes t = t
 kerned_in_turn (suc n) each bytes t = if nat_lt (u16_in bytes 2) 6 then t
     else kerned_in_turn n each (part_in bytes (u16_in bytes 2)) (each bytes t)
