@@ -33,7 +33,6 @@ UNIVERSAL = {"Sinh", "Tibt", "Mong", "Nkoo", "Adlm", "Cakm", "Mtei", "Rohg", "Ja
 KINDS = ["real", "torn", "random", "long"]
 
 REASONS = {
-    "no-gpos": "left out: HarfBuzz places marks by itself in a font without GPOS",
     "fvs4": "180F is default ignorable in Unicode, and HarfBuzz draws it as a missing glyph",
     "telugu-length-marks": "0C55 and 0C56 have class 0 here, and HarfBuzz sorts them",
     "symbol-clusters": "the universal shaper leaves symbols with signs in place, and HarfBuzz reorders them",
@@ -51,13 +50,6 @@ def items(line):
     return [(int(glyph), int(cluster), x or "0", y or "0", advance, flag or "") for glyph, cluster, x, y, advance, flag in found]
 
 
-def has_table(font, tag):
-    with open(font, "rb") as file:
-        head = file.read(12)
-        tables = file.read(16 * int.from_bytes(head[4:6], "big"))
-    return tag in {tables[place : place + 4] for place in range(0, len(tables), 16)}
-
-
 class Font:
     def __init__(self, root, path, shape, hb_shape, code):
         self.path, self.code = f"{root}/{path}", code
@@ -65,7 +57,6 @@ class Font:
         options = ["--shapers=ot", "--utf8-clusters", "--no-glyph-names", "--show-flags", "--language=und",
                    f"--script={code}", f"--direction={direction}", self.path]  # fmt: skip
         self.mine, self.theirs = [*shape, *options], [*hb_shape, *options]
-        self.has_gpos = has_table(self.path, b"GPOS")
         circle = items(subprocess.run([*self.theirs, "\u25cc"], capture_output=True, text=True, check=True).stdout)
         self.circle = circle[0][0]
 
@@ -78,9 +69,7 @@ class Font:
     def reason(self, text, mine, theirs):
         """Why the glyphs of a text differ, or None."""
         if [glyph[:5] for glyph in mine] == [glyph[:5] for glyph in theirs]:
-            return "long-stretch" if len(text) > 255 else "no-gpos" if not self.has_gpos else None
-        if not self.has_gpos:
-            return "no-gpos"
+            return "long-stretch" if len(text) > 255 else None
         if "\u180f" in text:
             return "fvs4"
         if has_unsorted_length_mark(text):
