@@ -16,7 +16,7 @@ use Rattle.opentype_gsub.specs.Looked.{tried}
 use Rattle.opentype_gsub.specs.Ligated.{as_letter, as_mark, components_of, counted_too, followed_by_marks, is_of_base, is_of_last, is_of_marks, ligature_joined, ligated, ligature_glyph, marks_inside, marked_one, number_before, number_for, with_followers}
 use Rattle.opentype_gsub.specs.Came.{begun, came_in, nth_came}
 use Rattle.opentype_gsub.specs.Machine.{lookup_called, nested, ran, machine_turned}
-use Rattle.opentype_gsub.specs.Reversed.{around_in, glyphs_at, nth_reversed, reversed_in, lookup_stepped_back}
+use Rattle.opentype_gsub.specs.Reversed.{tried_back, around_in, glyphs_at, nth_reversed, reversed_in, lookup_stepped_back}
 use Rattle.opentype_gsub.specs.Setting.{Setting, is_seen, sights_of}
 use Rattle.opentype_face.specs.Ranges.{bisect}
 use Rattle.opentype_gsub.specs.Decided.{alternate_in, single_in}
@@ -225,10 +225,10 @@ reverse = 0 ∷ 1 ∷ 0 ∷ 14 ∷ 0 ∷ 0 ∷ 0 ∷ 1 ∷ 0 ∷ 20 ∷ 0 ∷ 1 
 
 reversed_before_9 : lookup_stepped_back (set_for 9 []) (lookup_of 8 0 reverse) (glyph 5 1 ∷ glyph 9 2 ∷ []) 0
     ≡ with_props 16 0 (glyph 6 1) ∷ with_flags 3 (glyph 9 2) ∷ []
-unfolding lookup_stepped_back unbroken is_short is_seen sights_of sight_of_input sight_of_context flag_in nth_reversed reversed_in glyphs_at around_in found_at around reach_behind reach_before reach_from end_in input_in places_from next_from seen_by seen_as ignores may_pass bisect first_from replaced new_props
+unfolding lookup_stepped_back tried_back unbroken is_short is_seen sights_of sight_of_input sight_of_context flag_in nth_reversed reversed_in glyphs_at around_in found_at around reach_behind reach_before reach_from end_in input_in places_from next_from seen_by seen_as ignores may_pass bisect first_from replaced new_props
 reversed_before_9 = refl
 
 reversed_before_8 : lookup_stepped_back (set_for 9 []) (lookup_of 8 0 reverse) (glyph 5 1 ∷ glyph 8 2 ∷ []) 0
     ≡ glyph 5 1 ∷ glyph 8 2 ∷ []
-unfolding lookup_stepped_back unbroken is_short is_seen sights_of sight_of_input sight_of_context flag_in nth_reversed reversed_in glyphs_at around_in found_at around reach_behind reach_before reach_from end_in input_in places_from next_from seen_by seen_as ignores may_pass bisect first_from replaced new_props
+unfolding lookup_stepped_back tried_back unbroken is_short is_seen sights_of sight_of_input sight_of_context flag_in nth_reversed reversed_in glyphs_at around_in found_at around reach_behind reach_before reach_from end_in input_in places_from next_from seen_by seen_as ignores may_pass bisect first_from replaced new_props
 reversed_before_8 = refl

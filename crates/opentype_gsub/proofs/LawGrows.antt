@@ -14,7 +14,7 @@ use Rattle.opentype_gsub.specs.Growth.{adding, growth_in, may_add}
 use Rattle.opentype_gsub.specs.Ligatures.{nth_ligature}
 use Rattle.opentype_gsub.specs.Came.{Begun, Frame, came_in, nth_came}
 use Rattle.opentype_gsub.specs.Machine.{MachineTurn, nested, started, machine_turned}
-use Rattle.opentype_gsub.specs.Reversed.{lookup_stepped_back, walked_back, with_glyph}
+use Rattle.opentype_gsub.specs.Reversed.{nth_reversed, tried_back, lookup_stepped_back, walked_back, with_glyph}
 use Rattle.opentype_gsub.specs.Setting.{Setting, is_seen, sights_of}
 use Rattle.opentype_gsub.specs.Substituted.{applied, operations_in, setting_for, substituted}
 use Rattle.opentype_gsub.specs.Walked.{WalkStep, lookup_stepped, lookup_walked, went_on}
@@ -24,7 +24,7 @@ use Rattle.opentype_gsub.proofs.LawKeeps.{ForEach, AreWithin, each_when, first_e
 use Rattle.opentype_gsub.specs.Flagged.{unbroken}
 use Rattle.opentype_gsub.specs.Looked.{tried}
 use Rattle.opentype_gsub.specs.declared.reverse.Reversal.{Reversal}
-use Rattle.opentype_gsub.proofs.Unbroken.{tried_same, unbroken_same}
+use Rattle.opentype_gsub.proofs.Unbroken.{tried_back_same, tried_same, unbroken_same}
 use Rattle.opentype_gsub.proofs.LigatureKeeps.{same_length}
 use Rattle.opentype_gsub.proofs.Lengths.{ligated_few, put_few}
 
@@ -170,8 +170,14 @@ with_less gdef gs at (Some it) = let flagged = unbroken (length gs) it.start it.
 
 back_less : (s : Setting) (lookup : List ℕ) (gs : Glyphs) (at : ℕ) → length (lookup_stepped_back s lookup gs at) ≤ length gs
 unfolding lookup_stepped_back
-back_less s lookup gs at =
-    if_text (length gs) (is_seen s.gdef s.lookup lookup (glyph_at gs at)) _ gs (with_less s.gdef gs at _) (omega arith)
+back_less s lookup gs at = let flagged = tried_back s lookup gs at in
+    if_text (length gs) (is_seen s.gdef s.lookup lookup (glyph_at gs at)) _ gs
+    (omega (
+      arith,
+      with_less s.gdef flagged at (first_from (u16_in lookup 4) (nth_reversed s.gdef
+          (sights_of s.gdef s.lookup lookup (glyph_at gs at)) lookup flagged at) 0),
+      same_length flagged gs (tried_back_same s lookup gs at),
+    )) (omega arith)
 
 walk_back_less : (f : Glyphs → ℕ → Glyphs) → ((gs : Glyphs) (at : ℕ) → length (f gs at) ≤ length gs) →
     (n : ℕ) (gs : Glyphs) → length (walked_back n f gs) ≤ length gs

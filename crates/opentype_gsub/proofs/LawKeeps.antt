@@ -28,12 +28,12 @@ use Rattle.shapers_buffer.specs.declared.buffer.refusal.ShaperError.{ShaperError
 use Rattle.shapers_buffer.specs.declared.buffer.refusal.ShaperError.TheVariants.{TooLong}
 use Rattle.opentype_face.specs.Lookups.{lookup_in, subtable_in, type_in}
 use Rattle.opentype_layout.specs.Rules.{Found, context_in}
-use Rattle.opentype_gsub.specs.Reversed.{lookup_stepped_back, walked_back, with_glyph}
+use Rattle.opentype_gsub.specs.Reversed.{tried_back, lookup_stepped_back, walked_back, with_glyph}
 use Rattle.opentype_layout.specs.declared.sight.Sight.{Sight}
 use Rattle.opentype_gsub.specs.Flagged.{unbroken}
 use Rattle.opentype_gsub.specs.Looked.{tried}
 use Rattle.opentype_gsub.specs.declared.reverse.Reversal.{Reversal}
-use Rattle.opentype_gsub.proofs.Unbroken.{tried_same, unbroken_same}
+use Rattle.opentype_gsub.proofs.Unbroken.{tried_back_same, tried_same, unbroken_same}
 use Rattle.opentype_gsub.proofs.LigatureKeeps.{same_length}
 use Rattle.opentype_gsub.proofs.Kept.{itself, kept_then, same}
 use Rattle.opentype_gsub.proofs.Lengths.{ligated_few, put_few, sequence_few}
@@ -344,7 +344,11 @@ with_keeps s gs at (Some it) = keeps_then s gs (unbroken (length gs) it.start it
 
 back_keeps : (s : Setting) (lookup : List ℕ) (gs : Glyphs) (at : ℕ) → Keeps s gs (lookup_stepped_back s lookup gs at)
 unfolding lookup_stepped_back
-back_keeps s lookup gs at = if_text s gs _ gs (is_seen s.gdef s.lookup lookup (glyph_at gs at)) (with_keeps s gs at _) (unchanged s gs)
+back_keeps s lookup gs at = let flagged = tried_back s lookup gs at in
+    let kept = tried_back_same s lookup gs at in
+    if_text s gs _ gs (is_seen s.gdef s.lookup lookup (glyph_at gs at))
+    (keeps_then s gs flagged _ (no_longer s gs _ (same s.level gs _ kept) (omega (arith, same_length flagged gs kept)))
+    (with_keeps s flagged at _)) (unchanged s gs)
 
 walk_back_keeps : (s : Setting) (f : Glyphs → ℕ → Glyphs) → ((gs : Glyphs) (at : ℕ) → Keeps s gs (f gs at)) →
     (n : ℕ) (gs : Glyphs) → Keeps s gs (walked_back n f gs)

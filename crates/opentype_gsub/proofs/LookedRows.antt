@@ -14,6 +14,7 @@ use Rattle.opentype_gsub.specs.Came.{nth_came}
 use Rattle.opentype_gsub.specs.Flagged.{is_short}
 use Rattle.opentype_gsub.specs.Ligatures.{ligature_of}
 use Rattle.opentype_gsub.specs.Looked.{all_looked, around_looked, counted, lookup_looked, rule_looked, rules_in, set_looked, stop_from, subtable_looked, swept_from, tried, unjoined}
+use Rattle.opentype_gsub.specs.Reversed.{all_looked_back, around_in, glyphs_at, nth_looked_back, nth_reversed, reverse_looked, reversed_in, tried_back}
 use Rattle.opentype_gsub.specs.Setting.{Setting, sights_of}
 use Rattle.opentype_gsub.specs.declared.pass.Sights.{Sights}
 
@@ -153,3 +154,15 @@ not_begun = refl
 not_wanted : masks (tried (record setting { concat = false }) ligature (text (5 ∷ 7 ∷ 8 ∷ [])) 0) ≡ 8 ∷ 8 ∷ 8 ∷ []
 unfolding tried
 not_wanted = refl
+
+-- type 8: glyph 5 becomes 6 before glyph 9. Before glyph 8 both are flagged, none where it fits, and
+-- none at another glyph
+abbrev reverse : List ℕ
+reverse = 0 ∷ 8 ∷ 0 ∷ 0 ∷ 0 ∷ 1 ∷ 0 ∷ 8
+    ∷ 0 ∷ 1 ∷ 0 ∷ 14 ∷ 0 ∷ 0 ∷ 0 ∷ 1 ∷ 0 ∷ 20 ∷ 0 ∷ 1 ∷ 0 ∷ 6 ∷ 0 ∷ 1 ∷ 0 ∷ 1 ∷ 0 ∷ 5 ∷ 0 ∷ 1 ∷ 0 ∷ 1 ∷ 0 ∷ 9 ∷ []
+
+back_before : map (λ numbers. masks (tried_back setting reverse (text numbers) 0))
+    ((5 ∷ 8 ∷ 7 ∷ []) ∷ (5 ∷ 9 ∷ 7 ∷ []) ∷ (4 ∷ 8 ∷ 7 ∷ []) ∷ [])
+    ≡ (10 ∷ 10 ∷ 8 ∷ []) ∷ (8 ∷ 8 ∷ 8 ∷ []) ∷ (8 ∷ 8 ∷ 8 ∷ []) ∷ []
+unfolding tried_back all_looked_back all_looked nth_looked_back reverse_looked unjoined swept_from stop_from counted is_short around_in glyphs_at nth_reversed reversed_in found_at around reach_behind reach_before reach_from end_in input_in is_apart places_from next_from seen_by seen_as ignores may_pass bisect first_from sights_of sight_of_input sight_of_context flag_in
+back_before = refl

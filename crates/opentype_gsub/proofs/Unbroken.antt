@@ -8,6 +8,7 @@ use Rattle.shapers_clusters.proofs.FlagCalls.{map-unsafe_inside, map-unsafe_to_c
 use Rattle.shapers_buffer.specs.GlyphFlags.{unsafe_to_concat_in}
 use Rattle.opentype_gsub.specs.Flagged.{is_short, unbroken}
 use Rattle.opentype_gsub.specs.Looked.{lookup_looked, tried, unjoined}
+use Rattle.opentype_gsub.specs.Reversed.{all_looked_back, tried_back}
 use Rattle.opentype_gsub.specs.Setting.{Setting, sights_of}
 use Rattle.opentype_gsub.specs.declared.looking.Stretch.{Stretch}
 use Rattle.opentype_layout.specs.Text.{glyph_at}
@@ -42,3 +43,9 @@ pub tried_same : (s : Setting) (lookup : List ℕ) (gs : Glyphs) (at : ℕ) → 
 unfolding tried
 tried_same s lookup gs at = let sights = sights_of s.gdef s.lookup lookup (glyph_at gs at) in
     same_if (s.concat && nat_lt at (length gs)) _ gs (unjoined_same (lookup_looked s sights lookup gs at) gs)
+
+pub tried_back_same : (s : Setting) (lookup : List ℕ) (gs : Glyphs) (at : ℕ) →
+    clusters (tried_back s lookup gs at) ≡ clusters gs
+unfolding tried_back
+tried_back_same s lookup gs at = let sights = sights_of s.gdef s.lookup lookup (glyph_at gs at) in
+    same_if s.concat _ gs (unjoined_same (all_looked_back s.gdef sights lookup gs at) gs)

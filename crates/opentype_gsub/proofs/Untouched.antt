@@ -21,7 +21,7 @@ use Rattle.opentype_gsub.specs.Machine.{nested}
 use Rattle.opentype_gsub.specs.Looked.{all_looked, context_rules, spanned, lookup_looked, looked_by, nothing, rules_in, subtable_looked, tried, unjoined}
 use Rattle.opentype_gsub.specs.declared.looking.Stretch.{Stretch}
 use Rattle.opentype_gsub.specs.Presence.{applied_from, is_left, starting, starts_at, starts_with}
-use Rattle.opentype_gsub.specs.Reversed.{lookup_stepped_back, nth_reversed, reversed_at, reversed_in, walked_back, with_glyph}
+use Rattle.opentype_gsub.specs.Reversed.{all_looked_back, nth_looked_back, tried_back, lookup_stepped_back, nth_reversed, reversed_at, reversed_in, walked_back, with_glyph}
 use Rattle.opentype_gsub.specs.Setting.{Setting, is_seen, sights_of}
 use Rattle.opentype_gsub.specs.Substituted.{applied, operations_in}
 use Rattle.opentype_gsub.specs.Walked.{WalkStep, lookup_stepped, lookup_walked}
@@ -208,6 +208,14 @@ join_none at looked is =
     ap (spanned (nothing at)) is ∙ (let h : ℕ → ℕ → Stretch = λ x y. record { start = x; stop = y } in
     ap (λ x. h x (max at at)) low ∙ ap (h at) high)
 
+stretch_if : (test : Bool) (x y : Stretch) (z : Stretch) → (test ≡ true → x ≡ z) → (test ≡ false → y ≡ z) →
+    (if test then x else y) ≡ z
+stretch_if true x y z one two = one refl
+stretch_if false x y z one two = two refl
+
+three_of : (format : ℕ) → not (format == 1) ≡ false → (format == 3) ≡ false
+three_of format e = grind (arith, common_steps, nat_tests)
+
 either_none : (test : Bool) (x y : Stretch) (z : Stretch) → x ≡ z → y ≡ z → (if test then x else y) ≡ z
 either_none true x y z one two = one
 either_none false x y z one two = two
@@ -338,6 +346,26 @@ kept_back s lookup gs at none = let sights = sights_of s.gdef s.lookup lookup (g
     ap (with_glyph s.gdef gs at) (none_of (nth_reversed s.gdef sights lookup gs at) (u16_in lookup 4) 0
     (λ d lt. nth_reversed_none s.gdef sights lookup gs at (0 + d) (each_none lookup (two_byte_number gs at) none d lt)))
 
+unlooked_back : (gdef : List ℕ) (sights : Sights) (lookup : List ℕ) (gs : Glyphs) (at i : ℕ) →
+    starts_with (type_in 7 lookup i) (subtable_in 7 lookup i) (two_byte_number gs at) ≡ false →
+    nth_looked_back gdef sights lookup gs at i ≡ nothing at
+unfolding nth_looked_back
+unlooked_back gdef sights lookup gs at i none =
+    let kind = type_in 7 lookup i in
+    let bytes = subtable_in 7 lookup i in
+    stretch_if (not (kind == 8)) _ _ (nothing at) (λ t. refl) (λ t.
+    stretch_if (not (u16_in bytes 0 == 1)) _ _ (nothing at) (λ u. refl) (λ u. (let e = covered_by kind bytes (two_byte_number gs at) 2 none
+    (at_start kind bytes (three_of (u16_in bytes 0) u)) in rw e refl)))
+
+back_untried : (s : Setting) (lookup : List ℕ) (gs : Glyphs) (at : ℕ) →
+    is_some (first_from (u16_in lookup 4) (starting lookup (two_byte_number gs at)) 0) ≡ false →
+    tried_back s lookup gs at ≡ gs
+unfolding tried_back all_looked_back
+back_untried s lookup gs at none = let sights = sights_of s.gdef s.lookup lookup (glyph_at gs at) in
+    kept_if s.concat _ gs (ap (λ x. unjoined x gs) (all_none _ (nth_looked_back s.gdef sights lookup gs at) at (u16_in lookup 4) 0
+    (λ d lt. unlooked_back s.gdef sights lookup gs at (0 + d) (each_none lookup (two_byte_number gs at) none d lt)))
+    ∙ unflagged at gs)
+
 same_if : (test : Bool) (x gs : Glyphs) → (test ≡ true → x ≡ gs) → (if test then x else gs) ≡ gs
 same_if true x gs e = e refl
 same_if false x gs e = refl
@@ -348,7 +376,7 @@ unfolding lookup_stepped_back
 back_left s lookup gs at e = same_if (is_seen s.gdef s.lookup lookup (glyph_at gs at)) _ gs
     (λ seen. elim (why_left s lookup (glyph_at gs at) e) [
       | inl zero_mask ↦ absurd (let no = unseen s lookup (glyph_at gs at) zero_mask in cc)
-      | inr none ↦ kept_back s lookup gs at none
+      | inr none ↦ (let e = back_untried s lookup gs at none in rw e (kept_back s lookup gs at none))
     ])
 
 walk_back_left : (f : Glyphs → ℕ → Glyphs) (n : ℕ) (gs : Glyphs) → ((j : ℕ) → j < n → f gs j ≡ gs) → walked_back n f gs ≡ gs

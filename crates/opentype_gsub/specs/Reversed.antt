@@ -1,6 +1,6 @@
 -- Type 8, OpenType's Reverse Chained Contexts Single Substitution format 1: one glyph for one, by
 -- sets of the glyphs around it. Other lookups can't apply it.
-use Rattle.std.specs.Prelude.{ℕ, zero, suc, ◌+◌, ◌*◌, ◌==◌, nat_lt, List, [], length, slice_set, Option, None, Some, if◌then◌else◌}
+use Rattle.std.specs.Prelude.{ℕ, zero, suc, ◌+◌, ◌*◌, ◌-◌, ◌==◌, not, nat_lt, Bool, false, is_some, List, [], length, slice_set, Option, None, Some, if◌then◌else◌}
 use Rattle.std.specs.Option.{option_map}
 use Rattle.shapers_buffer.specs.Glyphs.{Glyphs}
 use Rattle.opentype_face.specs.Bytes.{u16_in, part_in}
@@ -13,7 +13,9 @@ use Rattle.opentype_gsub.specs.Applied.{two_byte_number}
 use Rattle.opentype_gsub.specs.Decided.{covered_in}
 use Rattle.opentype_gsub.specs.Edits.{replaced}
 use Rattle.opentype_gsub.specs.Flagged.{unbroken}
+use Rattle.opentype_gsub.specs.Looked.{all_looked, counted, nothing, swept_before, swept_behind, unjoined}
 use Rattle.opentype_gsub.specs.Setting.{Setting, is_seen, sights_of}
+use Rattle.opentype_gsub.specs.declared.looking.Stretch.{Stretch}
 use Rattle.opentype_gsub.specs.declared.pass.Sights.{Sights}
 use Rattle.opentype_gsub.specs.declared.reverse.Reversal.{Reversal}
 
@@ -59,6 +61,39 @@ unfoldable pub nth_reversed : List ℕ → Sights → List ℕ → Glyphs → �
 nth_reversed gdef sights lookup gs at i =
     if type_in 7 lookup i == 8 then reversed_in gdef sights (subtable_in 7 lookup i) gs at else None
 
+-- What a subtable looked at that doesn't fit (HarfBuzz): the glyphs before are looked for first,
+-- and nothing is flagged where they aren't there.
+unfoldable pub reverse_looked : List ℕ → Sights → List ℕ → Glyphs → ℕ → Stretch
+reverse_looked gdef sights bytes gs at =
+    let rule = around_in bytes in
+    let before = swept_before gdef sights.context rule.before rule.before_count gs at in
+    let behind = swept_behind gdef sights.context rule.behind rule.behind_count gs (at + 1) in
+    if not (before.found == rule.before_count) then nothing at
+    else (if behind.found == rule.behind_count then nothing at
+    else counted at (length gs) (length gs) (at - before.to) behind.to)
+
+abbrev pub is_replaced : List ℕ → Option ℕ → Bool
+is_replaced bytes None = false
+is_replaced bytes (Some i) = nat_lt i (u16_in bytes (glyphs_at bytes))
+
+unfoldable pub nth_looked_back : List ℕ → Sights → List ℕ → Glyphs → ℕ → ℕ → Stretch
+nth_looked_back gdef sights lookup gs at i =
+    let bytes = subtable_in 7 lookup i in
+    if not (type_in 7 lookup i == 8) then nothing at
+    else (if not (u16_in bytes 0 == 1) then nothing at
+    else (if is_replaced bytes (covered_in bytes (two_byte_number gs at))
+    then reverse_looked gdef sights bytes gs at else nothing at))
+
+unfoldable pub all_looked_back : List ℕ → Sights → List ℕ → Glyphs → ℕ → Stretch
+all_looked_back gdef sights lookup gs at =
+    all_looked (u16_in lookup 4) (λ i. is_some (nth_reversed gdef sights lookup gs at i))
+    (nth_looked_back gdef sights lookup gs at) 0 (nothing at)
+
+unfoldable pub tried_back : Setting → List ℕ → Glyphs → ℕ → Glyphs
+tried_back s lookup gs at =
+    let sights = sights_of s.gdef s.lookup lookup (glyph_at gs at) in
+    if s.concat then unjoined (all_looked_back s.gdef sights lookup gs at) gs else gs
+
 -- another glyph at a place, if there is one, and no break inside what was looked at
 abbrev pub with_glyph : List ℕ → Glyphs → ℕ → Option Reversal → Glyphs
 with_glyph gdef gs at None = gs
@@ -70,9 +105,10 @@ with_glyph gdef gs at (Some it) =
 unfoldable pub lookup_stepped_back : Setting → List ℕ → Glyphs → ℕ → Glyphs
 lookup_stepped_back s lookup gs at =
     let sights = sights_of s.gdef s.lookup lookup (glyph_at gs at) in
+    let flagged = tried_back s lookup gs at in
     if is_seen s.gdef s.lookup lookup (glyph_at gs at)
-    then with_glyph s.gdef gs at (first_from (u16_in lookup 4) (nth_reversed s.gdef sights lookup
-    gs at) 0)
+    then with_glyph s.gdef flagged at (first_from (u16_in lookup 4) (nth_reversed s.gdef sights
+    lookup flagged at) 0)
     else gs
 
 -- the places below one, the last of them first

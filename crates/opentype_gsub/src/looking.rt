@@ -109,7 +109,7 @@ fn stop_back(
 }
 
 // How far a search for so many places goes from a place on.
-fn sweep_behind(
+pub(crate) fn sweep_behind(
     gdef: &[u8],
     sight: &Sight,
     pattern: &Pattern<'_>,
@@ -132,7 +132,7 @@ fn sweep_behind(
 }
 
 // The same backwards from a place, by how many glyphs stand between.
-fn sweep_back(
+pub(crate) fn sweep_back(
     gdef: &[u8],
     sight: &Sight,
     pattern: &Pattern<'_>,
@@ -181,7 +181,7 @@ impl Stretch {
 // A stretch, if it isn't too long to be flagged.
 #[inline]
 #[tactic(auto, unfolding(crate::specs::Looked::counted))]
-fn count(at: usize, old_len: usize, len: usize, start: usize, stop: usize) -> Stretch
+pub(crate) fn count(at: usize, old_len: usize, len: usize, start: usize, stop: usize) -> Stretch
     ensures { result ≡ counted at old_len len start stop }
 {
     if start > stop {

@@ -3,14 +3,17 @@ ghost use Rattle.std.specs.Prelude.{◌≡◌, ◌<◌, length};
 ghost use Rattle.opentype_face.specs.Bytes.{u16_in};
 ghost use Rattle.opentype_face.specs.Firsts.{first_from};
 ghost use Rattle.opentype_layout.specs.Rules.{sought};
-ghost use Rattle.opentype_gsub.specs.Reversed.{around_in, glyphs_at, nth_reversed, reversed_in, lookup_stepped_back, walked_back};
+ghost use Rattle.opentype_gsub.specs.Reversed.{all_looked_back, around_in, is_replaced, nth_looked_back, reverse_looked, tried_back, glyphs_at, nth_reversed, reversed_in, lookup_stepped_back, walked_back};
+ghost use Rattle.opentype_gsub.specs.Decided.{covered_in};
 ghost use Rattle.opentype_gsub.specs.Setting.{setting_of};
 
 use crate::apply::number;
 use crate::decided::covered;
 use crate::edits::replace;
 use crate::flagging::flag_stretch;
+use crate::looking::{Stretch, count, sweep_back, sweep_behind};
 use crate::pass::{Pass, Sights};
+use crate::trying::flag_joins;
 use opentype_face::bytes::{part, u16_at};
 use opentype_face::lookup::{subtable, subtable_count, subtable_type};
 use opentype_layout::pattern::Pattern;
@@ -90,6 +93,110 @@ fn reversed(
     }
 }
 
+// The stretch that a subtable looked at that doesn't fit.
+#[tactic(auto, unfolding(crate::specs::Reversed::reverse_looked))]
+fn look_around(
+    gdef: &[u8],
+    sights: &Sights,
+    bytes: &[u8],
+    glyphs: &[hb_glyph_info_t],
+    at: usize,
+) -> Stretch
+    requires { at < length glyphs.now }
+    ensures { result ≡ reverse_looked gdef.now sights.now bytes.now glyphs.now at }
+{
+    let (rule, context) = (around(bytes), &sights.context);
+    let before = sweep_back(gdef, context, &rule.before, rule.before_count, glyphs, at);
+    if before.found != rule.before_count {
+        return Stretch::none(at);
+    }
+    let behind = sweep_behind(
+        gdef,
+        context,
+        &rule.behind,
+        rule.behind_count,
+        glyphs,
+        at + 1,
+    );
+    if behind.found == rule.behind_count {
+        return Stretch::none(at);
+    }
+    let len = glyphs.len();
+    count(at, len, len, at.saturating_sub(before.to), behind.to)
+}
+
+// Whether a subtable has a glyph to put in.
+fn replaces(bytes: &[u8], glyph: u16) -> bool
+    ensures { result ≡ is_replaced bytes.now (covered_in bytes.now glyph) }
+{
+    match covered(bytes, glyph) {
+        Some(i) => i < u32::from(u16_at(bytes, place_of_glyphs(bytes))),
+        None => false,
+    }
+}
+
+// The stretch that one of a lookup's subtables looked at that doesn't fit.
+#[tactic(auto, unfolding(crate::specs::Reversed::nth_looked_back))]
+fn look(
+    gdef: &[u8],
+    sights: &Sights,
+    lookup: &[u8],
+    i: u16,
+    glyphs: &[hb_glyph_info_t],
+    at: usize,
+) -> Stretch
+    requires { at < length glyphs.now }
+    ensures { result ≡ nth_looked_back gdef.now sights.now lookup.now glyphs.now at i }
+{
+    if subtable_type(7, lookup, i) != 8 {
+        return Stretch::none(at);
+    }
+    let bytes = subtable(7, lookup, i);
+    if u16_at(bytes, 0) != 1 {
+        return Stretch::none(at);
+    }
+    if replaces(bytes, number(glyphs, at)) {
+        look_around(gdef, sights, bytes, glyphs, at)
+    } else {
+        Stretch::none(at)
+    }
+}
+
+// The stretch that the subtables of a lookup looked at, up to the first that fits.
+fn look_among(
+    gdef: &[u8],
+    sights: &Sights,
+    lookup: &[u8],
+    glyphs: &[hb_glyph_info_t],
+    at: usize,
+) -> Stretch
+    requires { at < length glyphs.now }
+    ensures { result ≡ all_looked_back gdef.now sights.now lookup.now glyphs.now at }
+{
+    let mut looked = Stretch::none(at);
+    for i in 0..subtable_count(lookup) {
+        looked = looked.join(look(gdef, sights, lookup, i, glyphs, at));
+        if nth(gdef, sights, lookup, i, glyphs, at).is_some() {
+            return looked;
+        }
+    }
+    looked
+}
+
+// Flags what a lookup looks at that doesn't fit a place, where that is wanted.
+#[tactic(auto, unfolding(crate::specs::Reversed::tried_back))]
+fn flag_tried(pass: &Pass<'_>, lookup: &[u8], glyphs: &mut [hb_glyph_info_t], at: usize)
+    requires { at < length glyphs.old }
+    ensures { glyphs.new ≡ tried_back (setting_of pass.now) lookup.now glyphs.old at }
+{
+    if !pass.concat {
+        return;
+    }
+    let sights = pass.lookup.sights(pass.gdef, lookup, &glyphs[at]);
+    let looked = look_among(pass.gdef, &sights, lookup, glyphs, at);
+    flag_joins(glyphs, looked);
+}
+
 // One glyph for another, by one of a lookup's subtables.
 #[tactic(auto, unfolding(crate::specs::Reversed::nth_reversed))]
 fn nth(
@@ -142,6 +249,7 @@ fn step_back(pass: &Pass<'_>, lookup: &[u8], text: &mut Vec<hb_glyph_info_t>, at
         return;
     }
     let sights = pass.lookup.sights(pass.gdef, lookup, &glyph);
+    flag_tried(pass, lookup, text, at);
     if let Some(it) = first(pass.gdef, &sights, lookup, text, at) {
         let len = text.len();
         flag_stretch(text, len, it.start, it.stop);

@@ -138,7 +138,7 @@ fn look_among(
 
 // Flags a stretch as one with no concatenation, as far as the text goes.
 #[tactic(auto, unfolding(crate::specs::Looked::unjoined))]
-fn flag_joins(glyphs: &mut [hb_glyph_info_t], looked: Stretch)
+pub(crate) fn flag_joins(glyphs: &mut [hb_glyph_info_t], looked: Stretch)
     ensures { glyphs.new ≡ unjoined looked glyphs.old }
 {
     let end = glyphs.len().min(looked.stop);

@@ -96,7 +96,7 @@ fn stop_back(
 }
 
 // How far a search for so many places goes from a place on.
-fn sweep_behind(
+pub(crate) fn sweep_behind(
     gdef: &[u8],
     sight: &Sight,
     pattern: &Pattern<'_>,
@@ -116,7 +116,7 @@ fn sweep_behind(
 }
 
 // The same backwards from a place, by how many glyphs stand between.
-fn sweep_back(
+pub(crate) fn sweep_back(
     gdef: &[u8],
     sight: &Sight,
     pattern: &Pattern<'_>,
@@ -157,7 +157,7 @@ impl Stretch {
 
 // A stretch, if it isn't too long to be flagged.
 #[inline]
-fn count(at: usize, old_len: usize, len: usize, start: usize, stop: usize) -> Stretch {
+pub(crate) fn count(at: usize, old_len: usize, len: usize, start: usize, stop: usize) -> Stretch {
     if start > stop {
         return Stretch::none(at);
     }

@@ -10,7 +10,9 @@ use crate::generated::opentype_gsub::apply::number;
 use crate::generated::opentype_gsub::decided::covered;
 use crate::generated::opentype_gsub::edits::replace;
 use crate::generated::opentype_gsub::flagging::flag_stretch;
+use crate::generated::opentype_gsub::looking::{Stretch, count, sweep_back, sweep_behind};
 use crate::generated::opentype_gsub::pass::{Pass, Sights};
+use crate::generated::opentype_gsub::trying::flag_joins;
 use crate::generated::opentype_layout::pattern::Pattern;
 use crate::generated::opentype_layout::rules::Rule;
 use crate::generated::shapers_buffer::buffer::GlyphInfo;
@@ -77,6 +79,93 @@ fn reversed(
     }
 }
 
+// The stretch that a subtable looked at that doesn't fit.
+fn look_around(
+    gdef: &[u8],
+    sights: &Sights,
+    bytes: &[u8],
+    glyphs: &[GlyphInfo],
+    at: usize,
+) -> Stretch {
+    let (rule, context) = (around(bytes), &sights.context);
+    let before = sweep_back(gdef, context, &rule.before, rule.before_count, glyphs, at);
+    if before.found != rule.before_count {
+        return Stretch::none(at);
+    }
+    let behind = sweep_behind(
+        gdef,
+        context,
+        &rule.behind,
+        rule.behind_count,
+        glyphs,
+        at + 1,
+    );
+    if behind.found == rule.behind_count {
+        return Stretch::none(at);
+    }
+    let len = glyphs.len();
+    count(at, len, len, at.saturating_sub(before.to), behind.to)
+}
+
+// Whether a subtable has a glyph to put in.
+fn replaces(bytes: &[u8], glyph: u16) -> bool {
+    match covered(bytes, glyph) {
+        Some(i) => i < u32::from(u16_at(bytes, place_of_glyphs(bytes))),
+        None => false,
+    }
+}
+
+// The stretch that one of a lookup's subtables looked at that doesn't fit.
+fn look(
+    gdef: &[u8],
+    sights: &Sights,
+    lookup: &[u8],
+    i: u16,
+    glyphs: &[GlyphInfo],
+    at: usize,
+) -> Stretch {
+    if subtable_type(7, lookup, i) != 8 {
+        return Stretch::none(at);
+    }
+    let bytes = subtable(7, lookup, i);
+    if u16_at(bytes, 0) != 1 {
+        return Stretch::none(at);
+    }
+    if replaces(bytes, number(glyphs, at)) {
+        look_around(gdef, sights, bytes, glyphs, at)
+    } else {
+        Stretch::none(at)
+    }
+}
+
+// The stretch that the subtables of a lookup looked at, up to the first that fits.
+fn look_among(
+    gdef: &[u8],
+    sights: &Sights,
+    lookup: &[u8],
+    glyphs: &[GlyphInfo],
+    at: usize,
+) -> Stretch {
+    let mut looked = Stretch::none(at);
+    for i in 0..subtable_count(lookup) {
+        looked = looked.join(look(gdef, sights, lookup, i, glyphs, at));
+        if nth(gdef, sights, lookup, i, glyphs, at).is_some() {
+            return looked;
+        }
+    }
+    looked
+}
+
+// Flags what a lookup looks at that doesn't fit a place, where that is wanted.
+fn flag_tried(pass: &Pass<'_>, lookup: &[u8], glyphs: &mut [GlyphInfo], at: usize) {
+    if !pass.concat {
+        return;
+    }
+    let sights = pass.lookup.sights(pass.gdef, lookup, &glyphs[at]);
+    let looked = look_among(pass.gdef, &sights, lookup, glyphs, at);
+    flag_joins(glyphs, looked);
+}
+
 // One glyph for another, by one of a lookup's subtables.
 fn nth(
     gdef: &[u8],
@@ -116,6 +205,7 @@ fn step_back(pass: &Pass<'_>, lookup: &[u8], text: &mut Vec<GlyphInfo>, at: usiz
         return;
     }
     let sights = pass.lookup.sights(pass.gdef, lookup, &glyph);
+    flag_tried(pass, lookup, text, at);
     if let Some(it) = first(pass.gdef, &sights, lookup, text, at) {
         let len = text.len();
         flag_stretch(text, len, it.start, it.stop);

@@ -108,7 +108,7 @@ fn look_among(
 }
 
 // Flags a stretch as one with no concatenation, as far as the text goes.
-fn flag_joins(glyphs: &mut [GlyphInfo], looked: Stretch) {
+pub(crate) fn flag_joins(glyphs: &mut [GlyphInfo], looked: Stretch) {
     let end = glyphs.len().min(looked.stop);
     if looked.start < end {
         let wanted = BufferFlags::PRODUCE_UNSAFE_TO_CONCAT;
