@@ -21,12 +21,18 @@ const KERN: Tag = Tag(*b"kern");
 /// the shaper is one that doesn't take the table. (HarfBuzz's `hb_ot_shape_planner_t::compile`.)
 pub(super) fn kern_mask(plan: &ShapePlan, features: &impl FontFeatures) -> u32 {
     let has_feature = features.feature_lookups(TableIndex::GPOS, KERN).is_some();
-    let takes_table = plan.shaper().is_none_or(Shaper::fallback_position);
+    let takes_table = positions_by_itself(plan.shaper());
     if has_feature && plan.applies_gpos() || !takes_table {
         0
     } else {
         plan.plan().ot_map.one_mask(KERN)
     }
+}
+
+/// Whether a shaper moves pairs and places marks where GPOS doesn't. (HarfBuzz 12.3.2's `fallback_position`,
+/// which Hangul has there, too.)
+pub(super) fn positions_by_itself(shaper: Option<Shaper>) -> bool {
+    shaper.is_none_or(|shaper| shaper.fallback_position() || shaper == Shaper::Hangul)
 }
 
 /// The table of a font, and how a plan has it applied.

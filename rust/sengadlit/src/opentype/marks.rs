@@ -1,14 +1,13 @@
 //! Marks in fonts without GPOS, which are placed by their classes and the boxes of glyphs.
 
 use super::Face;
-use super::kerning::Kerning;
+use super::kerning::{Kerning, positions_by_itself};
 use crate::buffer::{Buffer, Direction, GeneralCategory, Script};
 use crate::generated::opentype_gpos::fallback::{
     MarkMetrics, MarkSettings, mark_class, place_marks_by_boxes,
 };
 use crate::generated::opentype_gpos::mark_boxes::GlyphBox;
 use crate::ot_shape_plan::ShapePlan;
-use crate::shaper::Shaper;
 
 /// The face of a text whose marks GPOS doesn't place.
 #[derive(Clone, Copy)]
@@ -21,7 +20,7 @@ impl<'a> MarkPlacing<'a> {
     /// How marks are placed by a plan, if GPOS doesn't do it, the shaper wants it, and no pair is moved across
     /// the line. (HarfBuzz's `fallback_mark_positioning`.)
     pub fn new(face: &'a Face<'a>, plan: &ShapePlan, kerning: &Kerning<'_>) -> Option<Self> {
-        let wants = plan.shaper().is_none_or(Shaper::fallback_position);
+        let wants = positions_by_itself(plan.shaper());
         if plan.applies_gpos() || !wants || kerning.moves_across() {
             return None;
         }
