@@ -283,11 +283,13 @@ fn pairs_by_the_table_kern() {
     assert_eq!(shaped(&[], "CA"), "[gid3=0+700|gid1=1+600]");
     assert_eq!(shaped(&["-kern"], "AC"), "[gid1=0+600|gid3=1+700]");
     assert_eq!(shaped(&["-kern[:2]"], "ACAC").matches("+550").count(), 1);
-    // Thai's shaper takes no such table, and where GPOS kerns it isn't read
-    let mut thai = text("AC");
-    thai.set_script(script::THAI);
-    let glyphs = shape(&face, &[], thai);
-    assert_eq!(glyphs.glyph_positions()[0].x_advance, 600);
+    // Thai's shaper takes no such table, Hangul's does, and where GPOS kerns it isn't read
+    for (script, advance) in [(script::THAI, 600), (script::HANGUL, 550)] {
+        let mut buffer = text("AC");
+        buffer.set_script(script);
+        let glyphs = shape(&face, &[], buffer);
+        assert_eq!(glyphs.glyph_positions()[0].x_advance, advance);
+    }
     let data = font_with(&[(*b"kern", pairs)]);
     let face = Face::parse(&data, 0).unwrap();
     let glyphs = shape(&face, &[], text("AC"));
