@@ -68,7 +68,7 @@ fn pages_say_what_is_printed() {
 }
 
 // The program that the repository proves has an input of its own, and what it prints of it. A page
-// was drawn by proved functions before they were written in Rust.
+// was drawn by proved functions before they were written in Rust; a style of outlines came later.
 #[test]
 fn what_was_proved_prints_the_same() {
     let (proved, page) = (
