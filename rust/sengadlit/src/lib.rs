@@ -16,12 +16,14 @@
 //! # Quick start: a font file and a text
 //!
 //! ```no_run
+//! # #[cfg(feature = "opentype")] {
 //! let data = std::fs::read("NotoSansKhmer-Regular.ttf")?;
 //! let face = sengadlit::Face::parse(&data, 0)?;
 //! let mut text = sengadlit::UnicodeBuffer::new();
 //! text.push_str("ខ្មែរ");
 //! let glyphs = sengadlit::shape(&face, &[], text);
 //! println!("{}", glyphs.serialize(&face, sengadlit::SerializeFlags::default()));
+//! # }
 //! # Ok::<(), Box<dyn std::error::Error>>(())
 //! ```
 //!
@@ -356,6 +358,6 @@ const _: () = {
 };
 
 /// The code of README.md, which is tested as this page's is.
-#[cfg(all(doctest, feature = "tables"))]
+#[cfg(all(doctest, feature = "opentype"))]
 #[doc = include_str!("../README.md")]
 struct Readme;
