@@ -22,10 +22,10 @@ use Rattle.opentype_gsub.specs.Substituted.{applied, limit_in, operations_in, se
 use Rattle.opentype_gsub.specs.declared.pass.LookupUse.{LookupUse}
 use Rattle.opentype_gsub.specs.declared.pass.Sights.{Sights}
 use Rattle.shapers_buffer.specs.Buffer.{Buffer}
-use Rattle.std.specs.Prelude.{◌≢◌, Err, Result}
+use Rattle.std.specs.Prelude.{Err, IsOkUnless, Ok, Result}
 use Rattle.shapers_buffer.specs.Refusals.{RefusesLength}
 use Rattle.shapers_buffer.specs.declared.buffer.refusal.ShaperError.{ShaperError}
-use Rattle.shapers_buffer.specs.declared.buffer.refusal.ShaperError.TheVariants.{TooLong}
+use Rattle.shapers_buffer.specs.declared.buffer.refusal.ShaperError.TheVariants.{Memory, TooLong}
 use Rattle.opentype_face.specs.Lookups.{lookup_in, subtable_in, type_in}
 use Rattle.opentype_layout.specs.Rules.{Found, context_in}
 use Rattle.opentype_gsub.specs.Reversed.{tried_back, lookup_stepped_back, walked_back, with_glyph}
@@ -384,10 +384,13 @@ pub fits_by : (gdef gsub : List ℕ) (use_of : LookupUse) (b : Buffer) (gs : Gly
     gs ≡ applied (setting_for gdef gsub use_of b) b.glyphs → length gs ≤ b.max_len
 fits_by gdef gsub use_of b gs fits is = subst (λ hs. length hs ≤ b.max_len) (sym is) (applied_fits gdef gsub use_of b fits)
 
-pub no_refusal : {T : Type 0} (r : Result T ShaperError) (limit wanted : ℕ) → RefusesLength limit wanted r → wanted ≤ limit →
-    r ≢ Err TooLong
-no_refusal r limit wanted refuses fits is =
-    let lt : limit < wanted = subst (RefusesLength limit wanted) is refuses in absurd (omega arith)
+-- what isn't too long is refused for memory alone
+pub memory_alone : {T : Type 0} (r : Result T ShaperError) (limit wanted : ℕ) → RefusesLength limit wanted r → wanted ≤ limit →
+    IsOkUnless r Memory
+memory_alone (Ok _) limit wanted refuses fits = search
+memory_alone (Err Memory) limit wanted refuses fits = search
+memory_alone (Err TooLong) limit wanted refuses fits = absurd (omega arith)
+memory_alone _ limit wanted refuses fits = absurd refuses
 
 limited : (len max_len : ℕ) → 1 ≤ len → limit_in len max_len ≤ len * 65536
 limited len max_len some = omega arith

@@ -1,9 +1,9 @@
 //! A lookup of GSUB over a buffer.
-ghost use Rattle.std.specs.Prelude.{◌≡◌, ◌≢◌, ◌<◌, [], Err, IfOk, OnErr, OnOk};
+ghost use Rattle.std.specs.Prelude.{◌≡◌, ◌<◌, [], IfOk, IsOkUnless, OnErr, OnOk};
 ghost use Rattle.std.specs.Option.{option_map};
 ghost use Rattle.opentype_gsub.specs.Presence.{applied_from, new_text};
 ghost use Rattle.shapers_buffer.specs.Buffer.{flags_concat, has_flag};
-ghost use Rattle.shapers_buffer.specs.declared.buffer.refusal.ShaperError.TheVariants.{TooLong};
+ghost use Rattle.shapers_buffer.specs.declared.buffer.refusal.ShaperError.TheVariants.{Memory};
 ghost use Rattle.opentype_gsub.specs.Setting.{setting_of};
 ghost use Rattle.opentype_gsub.specs.Substituted.{applied, limit_in, operations_in, substituted};
 
@@ -99,7 +99,7 @@ pub fn substitute(
 ) -> Result<(), ShaperError>
     requires { buffer.old.positions ≡ [] }
     ensures ok { OnOk result (buffer.new ≡ substituted gdef.now gsub.now lookup_use.now buffer.old) }
-    ensures room { result ≢ Err TooLong }
+    ensures refusal { IsOkUnless result Memory }
     ensures err { OnErr result (buffer.new ≡ buffer.old) }
 {
     let len = buffer.len();

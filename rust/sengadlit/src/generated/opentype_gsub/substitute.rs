@@ -82,7 +82,7 @@ fn apply(
 /// ```text
 /// requires { buffer.old.positions ≡ [] }
 /// ensures ok { OnOk result (buffer.new ≡ substituted gdef.now gsub.now lookup_use.now buffer.old) }
-/// ensures room { result ≢ Err TooLong }
+/// ensures refusal { IsOkUnless result Memory }
 /// ensures err { OnErr result (buffer.new ≡ buffer.old) }
 /// ```
 ///
