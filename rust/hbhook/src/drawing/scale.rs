@@ -97,7 +97,7 @@ impl fmt::Display for Positions<'_> {
     }
 }
 
-// Where the glyphs of a row stand on the line.
+// The offsets of a row's glyphs along the line.
 fn extents_of(row: &Row, width_of: &dyn Fn(u32) -> i32) -> Vec<Extent> {
     let mut pen = 0i64;
     let glyphs = row.glyphs.iter().zip(row.positions);
