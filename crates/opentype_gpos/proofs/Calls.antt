@@ -6,7 +6,8 @@ use Rattle.std.proofs.lemmas.List.{length-map, length-reverse, map-append, rever
 use Rattle.shapers_buffer.specs.Glyphs.{Glyphs}
 use Rattle.opentype_layout.specs.Rules.{Found, found}
 use Rattle.opentype_layout.specs.declared.rules.Matched.{Matched}
-use Rattle.opentype_gpos.specs.Called.{Begun, Work, begun_rule, begun_on, made_if_found, record_made, records_made, rest_made, rest_of_rule, rule_flagged, rule_made}
+use Rattle.opentype_gpos.specs.Called.{Work, record_made, records_made, rule_flagged, rule_made}
+use Rattle.opentype_gpos.specs.CalledWalk.{Begun, begun_rule, begun_on, made_if_found, rest_made, rest_of_rule}
 use Rattle.opentype_gpos.specs.Coming.{Setting}
 use Rattle.opentype_gpos.specs.Moved.{Positions, flagged_up_to}
 use Rattle.opentype_gpos.specs.declared.calling.Frame.{Frame}

@@ -6,6 +6,7 @@ pub mod Moved
 pub mod Making
 pub mod Coming
 pub mod Called
+pub mod CalledWalk
 pub mod Walked
 pub mod Kerned
 pub mod MarkBoxes

@@ -2,7 +2,8 @@
 ghost use Rattle.std.specs.Prelude.{ℕ, ◌≡◌, ◌<◌, ◌≤◌, ◌+◌, ◌-◌, ◌*◌, [], true, length, IfSome, IfNone};
 ghost use Rattle.std.specs.Option.{option_map};
 ghost use Rattle.opentype_layout.specs.Rules.{Found, found};
-ghost use Rattle.opentype_gpos.specs.Called.{Work, begun_on, lookup_made, made_if_found, record_made, rest_made, rule_made};
+ghost use Rattle.opentype_gpos.specs.Called.{Work, lookup_made, record_made, rule_made};
+ghost use Rattle.opentype_gpos.specs.CalledWalk.{begun_on, made_if_found, rest_made};
 ghost use Rattle.opentype_gpos.specs.Coming.{Setting, setting_of};
 ghost use Rattle.opentype_gpos.specs.Moved.{Positions, flagged_up_to};
 
