@@ -37,13 +37,8 @@ use Rattle.shapers_text.specs.Hebrew.{composed_in_hebrew, hebrew_mark_step}
 use Rattle.shapers_text.specs.Thai.{is_sara_am, glyphs_in_two}
 use Rattle.shapers_text.specs.ThaiForms.{asks_for_forms, preprocessed_in_thai}
 use Rattle.shapers_text.specs.ThaiLaws.{ClustersInTwo, FlagsInTwo, KeptInTwo}
-use Rattle.rustybuzz_shapers.specs.Outcomes.{parts_found, whole_found}
 use Rattle.rustybuzz_shapers.specs.Standing.{Lacking, has_hook}
-use Rattle.rustybuzz_shapers.specs.declared.shaper.outcomes.Composition.{Composition}
-use Rattle.rustybuzz_shapers.specs.declared.shaper.outcomes.Composition.TheVariants as composed
-use Rattle.rustybuzz_shapers.specs.declared.shaper.outcomes.Decomposition.{Decomposition}
-use Rattle.rustybuzz_shapers.specs.declared.shaper.outcomes.Decomposition.TheVariants as decomposed
-use Rattle.rustybuzz_shapers.specs.declared.shaper.Hook.TheVariants.{PreprocessText, PostprocessGlyphs, Compose, Decompose, SetupMasks, ReorderMarks}
+use Rattle.rustybuzz_shapers.specs.declared.shaper.Hook.TheVariants.{PreprocessText, PostprocessGlyphs, SetupMasks, ReorderMarks}
 use Rattle.rustybuzz_shapers.specs.declared.shaper.hb_ot_shaper_t.{hb_ot_shaper_t}
 use Rattle.rustybuzz_shapers.specs.declared.shaper.hb_ot_shaper_t.TheVariants.{Arabic, Hangul, Hebrew, Indic, Khmer, Myanmar, Thai, Universal}
 
@@ -53,7 +48,7 @@ data_created Arabic plan =
     Some (data_of.Arabic (arabic_plan plan.stretch_start plan.break_flags plan.ot_map))
 data_created Hangul plan = Some (data_of.Hangul (record { mask_array = jamo_masks plan.ot_map }))
 data_created Indic plan =
-    Some (data_of.Indic (indic_plan plan.base_search plan.script plan.ot_map))
+    Some (data_of.Indic (indic_plan plan.base_search plan.zero_context plan.script plan.ot_map))
 data_created Khmer plan = Some (data_of.Khmer (record { mask_array = khmer_masks plan.ot_map }))
 data_created Universal plan =
     let kept = universal_plan plan.stretch_start plan.break_flags plan.script plan.ot_map in
@@ -156,24 +151,23 @@ RefusesPostprocess Arabic plan font old r =
     (length (marks_stretched font choice old).glyphs) r × (old.stch ≡ false → IsOk r)
 RefusesPostprocess shaper plan font old r = Lacking (has_hook shaper PostprocessGlyphs) (IsOk r)
 
--- what two characters compose to
-abbrev pub Composed :
-    hb_ot_shaper_t → hb_ot_shape_plan_t → CharacterTables → ℕ → ℕ → Composition → Type 0
-Composed Hebrew plan tables a b answer =
-    answer ≡ whole_found (composed_in_hebrew (tables.composed a b) plan.has_gpos_mark a b)
-Composed Indic plan tables a b answer = answer ≡ whole_found (composed_in_indic tables a b)
-Composed Khmer plan tables a b answer = answer ≡ whole_found (composed_behind tables a b)
-Composed Universal plan tables a b answer = answer ≡ whole_found (composed_behind tables a b)
-Composed shaper plan tables a b answer =
-    Lacking (has_hook shaper Compose) (answer ≡ composed.NoHook)
+-- what composing two characters returns: the character that they compose to, if they do; of the
+-- shapers that leave it to the tables None
+abbrev pub compose_answer :
+    hb_ot_shaper_t → hb_ot_shape_plan_t → CharacterTables → ℕ → ℕ → Option (Option ℕ)
+compose_answer Hebrew plan tables a b =
+    Some (composed_in_hebrew (tables.composed a b) plan.has_gpos_mark a b)
+compose_answer Indic plan tables a b = Some (composed_in_indic tables a b)
+compose_answer Khmer plan tables a b = Some (composed_behind tables a b)
+compose_answer Universal plan tables a b = Some (composed_behind tables a b)
+compose_answer _ plan tables a b = None
 
--- what a character decomposes to
-abbrev pub Decomposed :
-    hb_ot_shaper_t → hb_ot_shape_plan_t → CharacterTables → ℕ → Decomposition → Type 0
-Decomposed Indic plan tables ab answer = answer ≡ parts_found (decomposed_in_indic tables ab)
-Decomposed Khmer plan tables ab answer = answer ≡ parts_found (decomposed_in_khmer tables ab)
-Decomposed shaper plan tables ab answer =
-    Lacking (has_hook shaper Decompose) (answer ≡ decomposed.NoHook)
+-- what decomposing a character returns: the two that it decomposes to, if it does; of the shapers
+-- that leave it to the tables None
+abbrev pub decompose_answer : hb_ot_shaper_t → CharacterTables → ℕ → Option (Option (ℕ × ℕ))
+decompose_answer Indic tables ab = Some (decomposed_in_indic tables ab)
+decompose_answer Khmer tables ab = Some (decomposed_in_khmer tables ab)
+decompose_answer _ tables ab = None
 
 -- the buffer before and after masks are set
 abbrev pub MasksSet :

@@ -7,7 +7,6 @@ pub mod Edited
 pub mod Headline
 pub mod Hooks
 pub mod Lengths
-pub mod Outcomes
 pub mod Pauses
 pub mod Records
 pub mod Standing

@@ -1,15 +1,14 @@
 //! The shapers behind one enum, one method per hook. Where a shaper lacks a hook, its method
-//! tells so and changes nothing.
+//! returns `None` and changes nothing.
 ghost use Rattle.std.specs.Prelude.{◌≡◌, ◌≤◌, [], length, IfOk, IsOk, false, is_some, IsOkUnless, OnOk, OnErr};
 ghost use Rattle.std.specs.Option.{IfSome};
 ghost use Rattle.shapers_buffer.specs.declared.buffer.refusal.ShaperError.TheVariants.{Memory};
 ghost use Rattle.shapers_arabic.specs.Requests.{rclt};
 ghost use Rattle.shapers_clusters.specs.FlagLaw.{OnlyFlagsAdded};
-ghost use Rattle.rustybuzz_shapers.specs.Hooks.{Composed, Decomposed, GlyphsFit, MasksOffFlags, MasksSet, MarksFit, MarksKeep, MarksReordered, PlanFits, PostprocessFits, PostprocessKeeps, Postprocessed, Preprocessed, PreprocessKeeps, data_created, preprocess_answer, RefusesPostprocess, RefusesPreprocess};
-ghost use Rattle.rustybuzz_shapers.specs.Outcomes.{outcome};
+ghost use Rattle.rustybuzz_shapers.specs.Hooks.{GlyphsFit, MasksOffFlags, MasksSet, MarksFit, MarksKeep, MarksReordered, PlanFits, PostprocessFits, PostprocessKeeps, Postprocessed, Preprocessed, PreprocessKeeps, compose_answer, data_created, decompose_answer, preprocess_answer, RefusesPostprocess, RefusesPreprocess};
 ghost use Rattle.rustybuzz_shapers.specs.Records.{asked, collected, normalizes, overridden, places_marks, wants_gpos_script, zeroes_marks};
 ghost use Rattle.rustybuzz_shapers.specs.Standing.{has_hook};
-ghost use Rattle.rustybuzz_shapers.specs.declared.shaper.Hook.TheVariants.{CollectFeatures, OverrideFeatures, CreateData, PreprocessText, PostprocessGlyphs, SetupMasks, ReorderMarks};
+ghost use Rattle.rustybuzz_shapers.specs.declared.shaper.Hook.TheVariants.{CollectFeatures, OverrideFeatures, CreateData, PreprocessText, PostprocessGlyphs, Compose, Decompose, SetupMasks, ReorderMarks};
 
 use shapers_base::buffer::{ShaperError, hb_buffer_t, hb_tag_t};
 use shapers_base::font::{Tables, hb_font_t};
@@ -18,7 +17,6 @@ use shapers_base::plan::{hb_ot_shape_plan_t, hb_ot_shape_planner_t};
 pub mod checked;
 mod conditions;
 mod laws;
-mod outcomes;
 mod pauses;
 
 pub use conditions::{has_positions, kinds_fit, lacks_positions, pause_fits};
@@ -26,7 +24,6 @@ pub use laws::{
     again_law, apart_law, breaks_law, cuts_at_borders_law, headline, lengths_law, monotone_law,
     stretches_cover_law, syllables_regrouped_law, text_cuts_law,
 };
-pub use outcomes::{Composition, Decomposition, HookOutcome};
 pub use pauses::{pause_may_change, run_pause};
 use shapers_arabic::ot_shaper_arabic;
 pub use shapers_base::plan::{NormalizationMode, Pause, PlanData, Preprocess, ZeroWidthMarks};
@@ -39,8 +36,8 @@ use shapers_text::{ot_shaper_hebrew, ot_shaper_thai};
 use shapers_universal::ot_shaper_use;
 use std::mem;
 
-/// A script shaper. Where it lacks a hook, a dash here, the method returns `NoHook`, or `None`, and
-/// changes nothing; `has_hook` is this table. What runs between two stages of lookups is a [`Pause`].
+/// A script shaper. Where it lacks a hook, a dash here, the method returns `None` and changes
+/// nothing; `has_hook` is this table. What runs between two stages of lookups is a [`Pause`].
 ///
 /// | hook | Arabic | Hangul | Hebrew | Indic | Khmer | Myanmar | Zawgyi | Thai | universal |
 /// |---|---|---|---|---|---|---|---|---|---|
@@ -238,9 +235,9 @@ impl hb_ot_shaper_t {
         self,
         face: &F,
         planner: &mut hb_ot_shape_planner_t,
-    ) -> Result<HookOutcome, ShaperError>
+    ) -> Result<Option<()>, ShaperError>
         ensures answer { let there = has_hook self CollectFeatures in
-            IfOk result (λ answer. answer ≡ outcome there) }
+            IfOk result (λ answer. is_some answer ≡ there) }
         ensures ok { let has_rclt = (F.font face.now).offers rclt in
             let list = collected self planner.old.script has_rclt in
             OnOk result (planner.new ≡ asked list planner.old) }
@@ -255,9 +252,9 @@ impl hb_ot_shaper_t {
             Self::Khmer => ot_shaper_khmer::collect_features(planner)?,
             Self::Myanmar => ot_shaper_myanmar::collect_features(planner)?,
             Self::Universal => ot_shaper_use::collect_features(planner)?,
-            Self::Hebrew | Self::MyanmarZawgyi | Self::Thai => return Ok(HookOutcome::NoHook),
+            Self::Hebrew | Self::MyanmarZawgyi | Self::Thai => return Ok(None),
         }
-        Ok(HookOutcome::Done)
+        Ok(Some(()))
     }
 
     /// Requests what comes after the features of all shapers: all of it, or nothing where memory is
@@ -269,9 +266,9 @@ impl hb_ot_shaper_t {
     pub fn override_features(
         self,
         planner: &mut hb_ot_shape_planner_t,
-    ) -> Result<HookOutcome, ShaperError>
+    ) -> Result<Option<()>, ShaperError>
         ensures answer { let there = has_hook self OverrideFeatures in
-            IfOk result (λ answer. answer ≡ outcome there) }
+            IfOk result (λ answer. is_some answer ≡ there) }
         ensures ok { OnOk result (planner.new ≡ asked (overridden self) planner.old) }
         ensures refusal { IsOkUnless result Memory }
         ensures err { OnErr result (planner.new ≡ planner.old) }
@@ -281,9 +278,9 @@ impl hb_ot_shaper_t {
             Self::Hangul => ot_shaper_hangul::override_features(planner)?,
             Self::Indic => ot_shaper_indic::override_features(planner)?,
             Self::Khmer => ot_shaper_khmer::override_features(planner)?,
-            _ => return Ok(HookOutcome::NoHook),
+            _ => return Ok(None),
         }
-        Ok(HookOutcome::Done)
+        Ok(Some(()))
     }
 
     /// What the shaper keeps in the plan. No mask in it touches a glyph flag bit.
@@ -358,11 +355,11 @@ impl hb_ot_shaper_t {
         plan: &hb_ot_shape_plan_t,
         face: &F,
         buffer: &mut hb_buffer_t,
-    ) -> Result<HookOutcome, ShaperError>
+    ) -> Result<Option<()>, ShaperError>
         requires with_positions { length buffer.old.positions ≡ length buffer.old.glyphs }
         requires fits { PostprocessFits self plan.now buffer.old.glyphs }
         ensures answer { let there = has_hook self PostprocessGlyphs in
-            IfOk result (λ answer. answer ≡ outcome there) }
+            IfOk result (λ answer. is_some answer ≡ there) }
         ensures ok { let font = F.font face.now in
             OnOk result (Postprocessed self plan.now font buffer.old buffer.new) }
         ensures laws { let font = F.font face.now in
@@ -375,7 +372,7 @@ impl hb_ot_shaper_t {
         match self {
             Self::Arabic => {
                 ot_shaper_arabic_stretch::postprocess_glyphs(plan, face, buffer)?;
-                Ok(HookOutcome::Done)
+                Ok(Some(()))
             }
             Self::Hangul
             | Self::Hebrew
@@ -384,13 +381,14 @@ impl hb_ot_shaper_t {
             | Self::Myanmar
             | Self::MyanmarZawgyi
             | Self::Thai
-            | Self::Universal => Ok(HookOutcome::NoHook),
+            | Self::Universal => Ok(None),
         }
     }
 
-    /// The character that two characters compose to for this shaper: for Hebrew also, where GPOS
-    /// places no marks, the form of a letter and a point; for Indic, Khmer and the universal shaper
-    /// none behind a mark, and for Indic also YA with its nukta.
+    /// The character that two characters compose to for this shaper, or `Some(None)` where they stay
+    /// apart: for Hebrew also, where GPOS places no marks, the form of a letter and a point; for
+    /// Indic, Khmer and the universal shaper none behind a mark, and for Indic also YA with its
+    /// nukta. `None` leaves it to Unicode's tables.
     #[inline]
     pub fn compose<T: Tables>(
         self,
@@ -398,41 +396,44 @@ impl hb_ot_shaper_t {
         tables: &T,
         a: char,
         b: char,
-    ) -> Composition
-        ensures pair { Composed self plan.now (T.tables tables.now) a b result }
+    ) -> Option<Option<char>>
+        ensures pair { result ≡ compose_answer self plan.now (T.tables tables.now) a b }
+        ensures answer { is_some result ≡ has_hook self Compose }
     {
         match self {
-            Self::Hebrew => Composition::of(ot_shaper_hebrew::compose(plan, tables, a, b)),
-            Self::Indic => Composition::of(ot_shaper_indic::compose(tables, a, b)),
-            Self::Khmer => Composition::of(ot_shaper_khmer::compose(tables, a, b)),
-            Self::Universal => Composition::of(ot_shaper_use::compose(tables, a, b)),
+            Self::Hebrew => Some(ot_shaper_hebrew::compose(plan, tables, a, b)),
+            Self::Indic => Some(ot_shaper_indic::compose(tables, a, b)),
+            Self::Khmer => Some(ot_shaper_khmer::compose(tables, a, b)),
+            Self::Universal => Some(ot_shaper_use::compose(tables, a, b)),
             Self::Arabic | Self::Hangul | Self::Myanmar | Self::MyanmarZawgyi | Self::Thai => {
-                Composition::NoHook
+                None
             }
         }
     }
 
-    /// The two characters that a character decomposes to for this shaper: for Indic not of letters
-    /// that fonts know whole, for Khmer also of split vowels.
+    /// The two characters that a character decomposes to for this shaper, or `Some(None)` where it
+    /// stays whole: for Indic not of letters that fonts know whole, for Khmer also of split vowels.
+    /// `None` leaves it to Unicode's tables.
     #[inline]
     pub fn decompose<T: Tables>(
         self,
         _plan: &hb_ot_shape_plan_t,
         tables: &T,
         ab: char,
-    ) -> Decomposition
-        ensures parts { Decomposed self _plan.now (T.tables tables.now) ab result }
+    ) -> Option<Option<(char, char)>>
+        ensures parts { result ≡ decompose_answer self (T.tables tables.now) ab }
+        ensures answer { is_some result ≡ has_hook self Decompose }
     {
         match self {
-            Self::Indic => Decomposition::of(ot_shaper_indic::decompose(tables, ab)),
-            Self::Khmer => Decomposition::of(ot_shaper_khmer::decompose(tables, ab)),
+            Self::Indic => Some(ot_shaper_indic::decompose(tables, ab)),
+            Self::Khmer => Some(ot_shaper_khmer::decompose(tables, ab)),
             Self::Arabic
             | Self::Hangul
             | Self::Hebrew
             | Self::Myanmar
             | Self::MyanmarZawgyi
             | Self::Thai
-            | Self::Universal => Decomposition::NoHook,
+            | Self::Universal => None,
         }
     }
 
@@ -441,22 +442,23 @@ impl hb_ot_shaper_t {
     /// Myanmar categories alone, for the universal shaper these and, where letters join, Arabic's
     /// forms. It can't refuse and takes no memory.
     #[inline]
+    #[must_use]
     pub fn setup_masks<F: hb_font_t, T: Tables>(
         self,
         plan: &hb_ot_shape_plan_t,
         _face: &F,
         tables: &T,
         buffer: &mut hb_buffer_t,
-    ) -> HookOutcome
+    ) -> Option<()>
         requires without_positions { buffer.old.positions ≡ [] }
         requires data { PlanFits self plan.now }
         requires glyphs { GlyphsFit self plan.now buffer.old.glyphs }
-        ensures answer { result ≡ outcome (has_hook self SetupMasks) }
+        ensures answer { is_some result ≡ has_hook self SetupMasks }
         ensures masks { MasksSet self plan.now (T.tables tables.now) buffer.old buffer.new }
         ensures flags { OnlyFlagsAdded buffer.old.glyphs buffer.new.glyphs }
     {
         match self {
-            Self::Hebrew | Self::MyanmarZawgyi | Self::Thai => return HookOutcome::NoHook,
+            Self::Hebrew | Self::MyanmarZawgyi | Self::Thai => return None,
             Self::Arabic | Self::Hangul => self.set_masks(plan, tables, buffer),
             Self::Indic | Self::Khmer | Self::Myanmar | Self::Universal => {
                 // (tables that panic leave the empty buffer, and no text with some categories)
@@ -466,7 +468,7 @@ impl hb_ot_shaper_t {
                 *buffer = text;
             }
         }
-        HookOutcome::Done
+        Some(())
     }
 
     // The masks of a shaper, where it sets any.
@@ -492,18 +494,19 @@ impl hb_ot_shaper_t {
     /// classes, the last two merge and change places; for Arabic, over at most 32 places, marks
     /// that modify a letter come to the front. It can't refuse and takes no memory.
     #[inline]
+    #[must_use]
     pub fn reorder_marks(
         self,
         plan: &hb_ot_shape_plan_t,
         buffer: &mut hb_buffer_t,
         start: usize,
         end: usize,
-    ) -> HookOutcome
+    ) -> Option<()>
         requires without_positions { buffer.old.positions ≡ [] }
         requires in_order { start ≤ end }
         requires in_range { end ≤ length buffer.old.glyphs }
         requires few { MarksFit self start end }
-        ensures answer { result ≡ outcome (has_hook self ReorderMarks) }
+        ensures answer { is_some result ≡ has_hook self ReorderMarks }
         ensures marks { MarksReordered self start end buffer.old buffer.new }
         ensures laws { MarksKeep self start end buffer.old buffer.new }
     {
@@ -516,8 +519,8 @@ impl hb_ot_shaper_t {
             | Self::Myanmar
             | Self::MyanmarZawgyi
             | Self::Thai
-            | Self::Universal => return HookOutcome::NoHook,
+            | Self::Universal => return None,
         }
-        HookOutcome::Done
+        Some(())
     }
 }

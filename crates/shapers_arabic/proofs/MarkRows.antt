@@ -1,5 +1,5 @@
 -- The order of marks, computed on values written out from the rule.
-use Rattle.std.specs.Prelude.{◌≡◌, ℕ, ◌+◌, ◌*◌, List, [], ◌∷◌, ◌++◌, map, length, replicate, true, false, refl}
+use Rattle.std.specs.Prelude.{◌≡◌, ℕ, ◌+◌, ◌-◌, ◌*◌, List, [], ◌∷◌, ◌++◌, map, length, replicate, true, false, refl}
 use Rattle.std.specs.List.{range_with_len}
 use Rattle.shapers_buffer.specs.Glyph.{default_glyph, clusters}
 use Rattle.shapers_buffer.specs.Properties.{general_category, modified_combining_class, properties}
@@ -216,9 +216,9 @@ kept_fields : marks_reordered 0 2 (marks_merged MonotoneGraphemes 0 2 (mark (0x0
 unfolding modified_combining_class general_category
 kept_fields = refl
 
--- a letter with a high byte of 220 or 230 has no class: it stays where it is, and its high byte too
+-- a format character with a high byte of 220 or 230 has no class: it stays where it is, and its high byte too
 abbrev unclassed : ℕ → Glyph
-unclassed byte = record full { unicode_props = record { 0 = 0xA7 + 256 * byte } }
+unclassed byte = record full { unicode_props = record { 0 = 0xA1 + 256 * byte } }
 
 no_class : map (λ g. modified_combining_class g.unicode_props) (unclassed 220 ∷ unclassed 230 ∷ []) ≡ 0 ∷ 0 ∷ []
 unfolding modified_combining_class general_category
@@ -244,6 +244,24 @@ unclassed_in_class : last_marks_first 2 25 (full ∷ unclassed 220 ∷ [])
     ≡ record full { unicode_props = record { 0 = 0x19AC } } ∷ unclassed 220 ∷ []
 unfolding modified_combining_class general_category
 unclassed_in_class = refl
+
+-- a class counts with any other category: a letter and a control character move as marks do
+abbrev as_letter : Glyph → Glyph
+as_letter g = record g { unicode_props = record { 0 = g.unicode_props.0 - 5 } }
+
+abbrev as_control : Glyph → Glyph
+as_control g = record g { unicode_props = record { 0 = g.unicode_props.0 - 12 } }
+
+letters_in_class : view (marks_reordered 0 5 (map as_letter five)) ≡ (0x0655, 25) ∷ (0x0654, 26) ∷ (0x064E, 31)
+    ∷ (0x065C, 220) ∷ (0x0653, 230) ∷ []
+unfolding modified_combining_class general_category
+letters_in_class = refl
+
+fields_of_letters : map (λ to. marks_reordered 0 2 (mark (0x064E, 31, 5) ∷ to full ∷ [])) (as_letter ∷ as_control ∷ [])
+    ≡ (record full { unicode_props = record { 0 = 0x19A7 } } ∷ mark (0x064E, 31, 5) ∷ [])
+    ∷ (record full { unicode_props = record { 0 = 0x19A0 } } ∷ mark (0x064E, 31, 5) ∷ []) ∷ []
+unfolding modified_combining_class general_category
+fields_of_letters = refl
 
 -- an empty stretch, and one of 32 modifiers
 empty_stretch : marks_reordered 3 3 (marks_merged MonotoneGraphemes 3 3 rising) ≡ rising
@@ -288,13 +306,13 @@ may : map may_modify (full ∷ unclassed 220 ∷ unclassed 230 ∷ unclassed 219
     ∷ (0x0653, 230, 0) ∷ (0x0655, 231, 0) ∷ [])) ≡ true ∷ true ∷ true ∷ false ∷ true ∷ false ∷ false ∷ []
 may = refl
 
--- the view hides the class of a mark, and no other high byte
+-- the view hides a class, and no other high byte
 hidden_class : map without_class (full ∷ unclassed 220 ∷ []) ≡ record full { unicode_props = record { 0 = 0x00AC } }
     ∷ unclassed 220 ∷ []
 unfolding modified_combining_class general_category
 hidden_class = refl
 
--- the classes after the reordering: of the five parts, and of a text in which a letter has a high byte
+-- the classes after the reordering: of the five parts, and of a text in which what has no class has a high byte
 five_classes : classes_moved (split_marks five) ≡ 25 ∷ 26 ∷ 31 ∷ 220 ∷ 230 ∷ []
 unfolding modified_combining_class general_category
 five_classes = refl

@@ -107,7 +107,7 @@ text_step start end gs =
 abbrev pub marks_merged : BufferClusterLevel → ℕ → ℕ → Glyphs → Glyphs
 marks_merged level start end gs = merge_all level (text_step start end gs).merged_first gs
 
--- the classes of a list of glyphs: 0 of each that is no mark
+-- the classes of a list of glyphs
 abbrev pub combining_classes : Glyphs → List ℕ
 combining_classes gs = map (λ g. modified_combining_class g.unicode_props) gs
 
@@ -126,7 +126,7 @@ ModifiersTakeClasses start end old new =
     ≡ combining_classes (take start old)
     ++ (classes_moved (split_marks (stretch_of start end old)) ++ combining_classes (drop end old))
 
--- the view that hides classes, of marks alone: other glyphs keep their high bytes
+-- the view that hides classes: glyphs of a category without one keep their high bytes
 abbrev pub without_class : Glyph → Glyph
 without_class g = in_class 0 g
 

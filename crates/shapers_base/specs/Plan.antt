@@ -8,6 +8,7 @@ use Rattle.shapers_base.specs.declared.plan.breaks.BreakFlags.TheVariants as bre
 use Rattle.shapers_base.specs.declared.plan.hangul.hangul_shape_plan_t.{hangul_shape_plan_t}
 use Rattle.shapers_base.specs.declared.plan.hb_ot_shape_plan_t.{hb_ot_shape_plan_t}
 use Rattle.shapers_base.specs.declared.plan.indic.BaseSearch.TheVariants.{WithoutMedials}
+use Rattle.shapers_base.specs.declared.plan.indic.ZeroContext.TheVariants.{OldSpec}
 use Rattle.shapers_base.specs.declared.plan.indic.indic_shape_plan_t.{indic_shape_plan_t}
 use Rattle.shapers_base.specs.declared.plan.khmer.khmer_shape_plan_t.{khmer_shape_plan_t}
 use Rattle.shapers_base.specs.declared.plan.universal.use_shape_plan_t.{use_shape_plan_t}
@@ -23,6 +24,7 @@ new_plan s m = record {
   stretch_start = starts.AsCode;
   break_flags = breaks.AsCode;
   base_search = WithoutMedials;
+  zero_context = OldSpec;
   plan_data = data_of.None;
 }
 

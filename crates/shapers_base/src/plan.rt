@@ -26,7 +26,7 @@ pub use breaks::BreakFlags;
 pub use hangul::hangul_shape_plan_t;
 pub use indic::{
     BaseSearch, BlwfMode, IndicConfig, IndicWouldSubstituteFeature, RephMode, RephPosition,
-    indic_shape_plan_t,
+    ZeroContext, indic_shape_plan_t,
 };
 pub use joining::hb_arabic_joining_type_t;
 pub use khmer::khmer_shape_plan_t;
@@ -57,6 +57,8 @@ pub struct hb_ot_shape_plan_t {
     pub break_flags: BreakFlags,
     /// Among which consonants Indic looks for the base of a syllable.
     pub base_search: BaseSearch,
+    /// Where Indic's questions to the font leave out rules that need context.
+    pub zero_context: ZeroContext,
     /// What the shaper itself keeps.
     pub plan_data: PlanData,
 }
@@ -76,6 +78,7 @@ impl hb_ot_shape_plan_t {
             stretch_start: StretchStart::AsCode,
             break_flags: BreakFlags::AsCode,
             base_search: BaseSearch::WithoutMedials,
+            zero_context: ZeroContext::OldSpec,
             plan_data: PlanData::None,
         }
     }

@@ -1,10 +1,13 @@
+pub mod Arranging
 pub mod BitLemmas
 mod BufferRows
 mod CategoryRows
 pub mod ClusterLemmas
 pub mod OneCluster
 mod ConstantRows
+mod Copying
 mod GlyphFlagRows
+mod GlyphRows
 pub mod ListLaws
 pub mod Listing
 pub mod MappedLists

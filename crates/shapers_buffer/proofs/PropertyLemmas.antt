@@ -1,12 +1,12 @@
 -- What is read of a character's properties once they are set.
-use Rattle.std.proofs.Common.{ℕ, ◌≡◌, ◌<◌, ◌/◌, ◌%◌, arith, Bool, true, false, refl, slice_index_or}
+use Rattle.std.proofs.Common.{ℕ, ◌≡◌, ◌<◌, ◌/◌, ◌%◌, arith, Bool, true, false, if◌then◌else◌, refl, ap, ◌∙◌, slice_index_or}
 use Rattle.std.specs.Int.Bits.{or_add_and}
 use Rattle.std.proofs.lemmas.Nat.Bits.{and_pow}
 use Rattle.shapers_buffer.specs.declared.buffer.category.hb_unicode_general_category_t.{hb_unicode_general_category_t}
 use Rattle.shapers_buffer.specs.declared.buffer.category.hb_unicode_general_category_t.TheVariants.{Cc, Cn}
 use Rattle.shapers_buffer.specs.declared.buffer.unicode_props.UnicodeProps.{UnicodeProps}
-use Rattle.shapers_buffer.specs.Category.{categories, category_number}
-use Rattle.shapers_buffer.specs.Properties.{CONTINUATION, HIDDEN, IGNORABLE, general_category, set_bit, BitKeeps, PropertiesAreSet, PropertiesSet}
+use Rattle.shapers_buffer.specs.Category.{categories, category_number, has_class}
+use Rattle.shapers_buffer.specs.Properties.{CONTINUATION, HIDDEN, IGNORABLE, general_category, high_byte, modified_combining_class, set_bit, with_general_category, with_high_byte, BitKeeps, PropertiesAreSet, PropertiesSet}
 
 -- a category by its number
 pub by_number : (c : hb_unicode_general_category_t) → slice_index_or categories (category_number c) Cn ≡ c
@@ -54,14 +54,62 @@ pub category_is : (p : UnicodeProps) (c : hb_unicode_general_category_t) → p.0
 unfolding general_category
 category_is p c same = cc (by_number c)
 
+-- the class is the high byte, where the category has one
+pub class_by_category : (p : UnicodeProps) (b : Bool) → has_class (general_category p) ≡ b
+    → modified_combining_class p ≡ (if b then high_byte p else 0)
+unfolding modified_combining_class
+class_by_category p b told = rw told refl
+
+class_set : (class : ℕ) (p : UnicodeProps) (b : Bool) → has_class (general_category p) ≡ b
+    → modified_combining_class (if b then with_high_byte class p else p) ≡ (if b then class else 0)
+class_set class p true told =
+    class_by_category (with_high_byte class p) true (ap has_class (same_category (with_high_byte class p) p (omega arith))
+    ∙ told)
+    ∙ omega arith
+class_set class p false told = class_by_category p false told
+
+category_set : (class : ℕ) (p : UnicodeProps) (b : Bool)
+    → general_category (if b then with_high_byte class p else p) ≡ general_category p
+category_set class p true = search (arith, same_category)
+category_set class p false = refl
+
+category_read : (c : hb_unicode_general_category_t) (p : UnicodeProps)
+    → general_category (with_general_category c p) ≡ c
+category_read = search (arith, category_is, number-lt)
+
+byte_kept : (c : hb_unicode_general_category_t) (p : UnicodeProps)
+    → high_byte (with_general_category c p) ≡ (if has_class c then modified_combining_class p else 0)
+byte_kept c p = omega (arith, number-lt c)
+
+class_kept : (c : hb_unicode_general_category_t) (p : UnicodeProps) (b : Bool) → has_class c ≡ b
+    → modified_combining_class (with_general_category c p) ≡ (if b then modified_combining_class p else 0)
+class_kept c p true told =
+    class_by_category (with_general_category c p) true (ap has_class (category_read c p) ∙ told)
+    ∙ byte_kept c p
+    ∙ ap (λ b. if b then modified_combining_class p else 0) told
+class_kept c p false told =
+    class_by_category (with_general_category c p) false (ap has_class (category_read c p) ∙ told)
+
+-- properties of one category and one high byte have one class
+pub same_class : (p q : UnicodeProps) → general_category p ≡ general_category q → high_byte p ≡ high_byte q
+    → modified_combining_class p ≡ modified_combining_class q
+unfolding modified_combining_class
+same_class p q category byte = rw (category, byte) refl
+
+ends_keep : (p q : UnicodeProps) → EndsStay p.0 q.0 → modified_combining_class q ≡ modified_combining_class p
+ends_keep p q stay = same_class q p (same_category q p stay.low) stay.high
+
 bit_keeps : (bit : ℕ) (p : UnicodeProps) → ((n : ℕ) (on : Bool) → EndsStay n (set_bit bit on n)) → BitKeeps bit p
-bit_keeps = search (arith, same_category)
+bit_keeps = search (arith, same_category, ends_keep)
 
 pub set_is_read : (p : UnicodeProps) → PropertiesSet p
 set_is_read p = record {
-  category = search (arith, category_is, number-lt);
+  category = λ c. category_read c p;
   byte = λ byte. omega arith;
   category_stays = search (arith, same_category);
+  class = λ class. class_set class p (has_class (general_category p)) refl;
+  category_of_class = λ class. category_set class p (has_class (general_category p));
+  class_stays = λ c. class_kept c p (has_class c) refl;
   made = search (arith, category_is, number-lt);
   made_byte = search (arith, number-lt);
 }

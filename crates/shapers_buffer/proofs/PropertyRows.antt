@@ -1,12 +1,13 @@
 -- The bits of a glyph's two words by their numbers, what each setter changes, and the glyphs that bear them, written out.
 use Rattle.std.specs.Prelude.{◌≡◌, ℕ, ◌^◌, Bool, true, false, List, [], ◌∷◌, map, refl}
-use Rattle.shapers_buffer.specs.declared.buffer.category.hb_unicode_general_category_t.TheVariants.{Cc, Cf, Cn, Mc, Me, Mn, Nd, Zs}
+use Rattle.shapers_buffer.specs.declared.buffer.category.hb_unicode_general_category_t.TheVariants.{Cc, Cf, Cn, Lo, Mc, Me, Mn, Nd, Zs}
 use Rattle.shapers_buffer.specs.declared.buffer.glyph_props.GlyphProps.{GlyphProps}
 use Rattle.shapers_buffer.specs.declared.buffer.glyph_props.TheConstants.GlyphProps as glyph_constant
 use Rattle.shapers_buffer.specs.declared.buffer.lig_props.LigProps.{LigProps}
 use Rattle.shapers_buffer.specs.declared.buffer.lig_props.TheConstants.LigProps as ligature_constant
 use Rattle.shapers_buffer.specs.declared.buffer.unicode_props.UnicodeProps.{UnicodeProps}
 use Rattle.shapers_buffer.specs.declared.buffer.unicode_props.TheConstants.UnicodeProps as unicode_constant
+use Rattle.shapers_buffer.proofs.CategoryRows.{all_thirty}
 use Rattle.shapers_buffer.specs.Glyph.{default_glyph}
 use Rattle.shapers_buffer.specs.Properties.{SUBSTITUTED, LIGATED, MULTIPLIED, IGNORABLE, HIDDEN, CONTINUATION, component, general_category, high_byte, is_substituted, is_ligated, is_multiplied, is_ignorable, is_hidden, is_continuation, modified_combining_class, no_ligature, no_marks, no_properties, properties, with_component, with_mark, with_general_category, with_high_byte, with_modified_combining_class, with_property, without_mark, without_property, set_mark, set_property}
 
@@ -136,31 +137,60 @@ high_bytes : map (λ bits. high_byte (character bits)) (0 ∷ 255 ∷ 256 ∷ 0x
     ≡ 0 ∷ 0 ∷ 1 ∷ 1 ∷ 220 ∷ 255 ∷ []
 high_bytes = refl
 
--- the class of the three categories of marks, and of those beside them none
-classes : map (λ bits. modified_combining_class (character bits))
-    (0xDC09 ∷ 0xDC0A ∷ 0xDC0B ∷ 0xDC0C ∷ 0xDC0D ∷ 0xE61F ∷ 0x0C ∷ 0xFF01 ∷ 0x121D ∷ [])
-    ≡ 0 ∷ 220 ∷ 220 ∷ 220 ∷ 0 ∷ 0 ∷ 0 ∷ 0 ∷ 0 ∷ []
+-- each category with byte 220 behind the three bits, then the numbers 30 and 31, which read as Cn: all
+-- but Cf and Zs have that class
+abbrev in_class_220 : List ℕ
+in_class_220 = 0xDCE0 ∷ 0xDCE1 ∷ 0xDCE2 ∷ 0xDCE3 ∷ 0xDCE4 ∷ 0xDCE5 ∷ 0xDCE6 ∷ 0xDCE7 ∷ 0xDCE8 ∷ 0xDCE9 ∷ 0xDCEA ∷ 0xDCEB ∷ 0xDCEC ∷ 0xDCED ∷ 0xDCEE ∷ 0xDCEF ∷ 0xDCF0 ∷ 0xDCF1 ∷ 0xDCF2 ∷ 0xDCF3 ∷ 0xDCF4 ∷ 0xDCF5 ∷ 0xDCF6 ∷ 0xDCF7 ∷ 0xDCF8 ∷ 0xDCF9 ∷ 0xDCFA ∷ 0xDCFB ∷ 0xDCFC ∷ 0xDCFD ∷ 0xDCFE ∷ 0xDCFF ∷ []
+
+classes : map (λ bits. modified_combining_class (character bits)) in_class_220
+    ≡ 220 ∷ 0 ∷ 220 ∷ 220 ∷ 220 ∷ 220 ∷ 220 ∷ 220 ∷ 220 ∷ 220 ∷ 220 ∷ 220 ∷ 220 ∷ 220 ∷ 220 ∷ 220 ∷ 220 ∷ 220 ∷ 220 ∷ 220 ∷ 220 ∷ 220 ∷ 220 ∷ 220 ∷ 220 ∷ 220 ∷ 220 ∷ 220 ∷ 220 ∷ 0 ∷ 220 ∷ 220 ∷ []
 unfolding modified_combining_class general_category
 classes = refl
+
+class_ends : map (λ bits. modified_combining_class (character bits))
+    (0x00E7 ∷ 0xFFE7 ∷ 0x000C ∷ 0xFF0C ∷ 0xFF01 ∷ 0xFF1D ∷ []) ≡ 0 ∷ 255 ∷ 0 ∷ 255 ∷ 0 ∷ 0 ∷ []
+unfolding modified_combining_class general_category
+class_ends = refl
 
 -- what setters make of a word that is all ones and of one that isn't
 made : properties Mn 220 ∷ properties Zs 18 ∷ properties Cc 0 ∷ [] ≡ character 0xDC0C ∷ character 0x121D ∷ character 0
     ∷ []
 made = refl
 
-category_set : with_general_category Mn (character 0xFFFF) ∷ with_general_category Cf (character 0x1254) ∷ []
-    ≡ character 0xEC ∷ character 0x41 ∷ []
-category_set = refl
+-- Mn in place of each, and each in place of Mn: the class and the three bits stay; of Cf and Zs, old or
+-- new, the byte is cleared
+marks_set : map (λ bits. with_general_category Mn (character bits)) in_class_220
+    ≡ map character (0xDCEC ∷ 0xEC ∷ 0xDCEC ∷ 0xDCEC ∷ 0xDCEC ∷ 0xDCEC ∷ 0xDCEC ∷ 0xDCEC ∷ 0xDCEC ∷ 0xDCEC ∷ 0xDCEC ∷ 0xDCEC ∷ 0xDCEC ∷ 0xDCEC ∷ 0xDCEC ∷ 0xDCEC ∷ 0xDCEC ∷ 0xDCEC ∷ 0xDCEC ∷ 0xDCEC ∷ 0xDCEC ∷ 0xDCEC ∷ 0xDCEC ∷ 0xDCEC ∷ 0xDCEC ∷ 0xDCEC ∷ 0xDCEC ∷ 0xDCEC ∷ 0xDCEC ∷ 0xEC ∷ 0xDCEC ∷ 0xDCEC ∷ [])
+unfolding modified_combining_class general_category
+marks_set = refl
+
+categories_set : map (λ category. with_general_category category (character 0xFFEC)) all_thirty
+    ≡ map character (0xFFE0 ∷ 0xE1 ∷ 0xFFE2 ∷ 0xFFE3 ∷ 0xFFE4 ∷ 0xFFE5 ∷ 0xFFE6 ∷ 0xFFE7 ∷ 0xFFE8 ∷ 0xFFE9 ∷ 0xFFEA ∷ 0xFFEB ∷ 0xFFEC ∷ 0xFFED ∷ 0xFFEE ∷ 0xFFEF ∷ 0xFFF0 ∷ 0xFFF1 ∷ 0xFFF2 ∷ 0xFFF3 ∷ 0xFFF4 ∷ 0xFFF5 ∷ 0xFFF6 ∷ 0xFFF7 ∷ 0xFFF8 ∷ 0xFFF9 ∷ 0xFFFA ∷ 0xFFFB ∷ 0xFFFC ∷ 0xFD ∷ [])
+unfolding modified_combining_class general_category
+categories_set = refl
+
+category_ends : with_general_category Cf (character 0x0101) ∷ with_general_category Zs (character 0x121D)
+    ∷ with_general_category Cf (character 0x1254) ∷ with_general_category Lo (character 0x000C)
+    ∷ with_general_category Cc (character 0xFFFF) ∷ []
+    ≡ map character (0x01 ∷ 0x1D ∷ 0x41 ∷ 0x07 ∷ 0xFFE0 ∷ [])
+unfolding modified_combining_class general_category
+category_ends = refl
 
 byte_set : with_high_byte 4 (character 0xFFFF) ∷ with_high_byte 255 (character 0x001D) ∷ []
     ≡ character 0x04FF ∷ character 0xFF1D ∷ []
 byte_set = refl
 
--- of marks alone
-class_set : map (λ bits. with_modified_combining_class 25 (character bits)) (0xDC0A ∷ 0xFFEC ∷ 0xDC09 ∷ 0x0D ∷ [])
-    ≡ character 0x190A ∷ character 0x19EC ∷ character 0xDC09 ∷ character 0x0D ∷ []
+-- of every category but Cf and Zs, which stay as they are
+class_set : map (λ bits. with_modified_combining_class 25 (character bits)) in_class_220
+    ≡ map character (0x19E0 ∷ 0xDCE1 ∷ 0x19E2 ∷ 0x19E3 ∷ 0x19E4 ∷ 0x19E5 ∷ 0x19E6 ∷ 0x19E7 ∷ 0x19E8 ∷ 0x19E9 ∷ 0x19EA ∷ 0x19EB ∷ 0x19EC ∷ 0x19ED ∷ 0x19EE ∷ 0x19EF ∷ 0x19F0 ∷ 0x19F1 ∷ 0x19F2 ∷ 0x19F3 ∷ 0x19F4 ∷ 0x19F5 ∷ 0x19F6 ∷ 0x19F7 ∷ 0x19F8 ∷ 0x19F9 ∷ 0x19FA ∷ 0x19FB ∷ 0x19FC ∷ 0xDCFD ∷ 0x19FE ∷ 0x19FF ∷ [])
 unfolding general_category
 class_set = refl
+
+class_set_ends : map (λ (p : ℕ × ℕ). with_modified_combining_class p.0 (character p.1))
+    ((0, 0xFFE7) ∷ (255, 0x0007) ∷ (0, 0xFF01) ∷ (255, 0x001D) ∷ [])
+    ≡ map character (0x00E7 ∷ 0xFF07 ∷ 0xFF01 ∷ 0x001D ∷ [])
+unfolding general_category
+class_set_ends = refl
 
 default_fields : default_glyph
     ≡ record {

@@ -3,7 +3,7 @@ use Rattle.std.specs.Prelude.{◌≡◌, true, false, List, [], ◌∷◌, map, 
 use Rattle.std.specs.Borrow.{Bor}
 use Rattle.shapers_buffer.specs.Buffer.{Buffer, new_buffer}
 use Rattle.shapers_buffer.specs.Glyph.{default_glyph, default_position}
-use Rattle.shapers_buffer.specs.Settings.{are_paired, character_of, with_settings, with_text}
+use Rattle.shapers_buffer.specs.Settings.{character_of, positions_of_text, with_settings, with_text}
 use Rattle.shapers_buffer.specs.declared.buffer.level.BufferClusterLevel.TheVariants.{Characters}
 use Rattle.shapers_buffer.specs.declared.buffer.level.Direction.TheVariants.{RightToLeft}
 use Rattle.shapers_buffer.specs.declared.buffer.settings.BufferSettings.{BufferSettings}
@@ -74,11 +74,16 @@ placed_text : (before after : Bor (List ℕ))
     ≡ record (with_settings (given before after) one) { positions = record default_position { x_advance = pos 9 } ∷ [] }
 placed_text before after = refl
 
--- positions of two glyphs: none or two
-paired : map (λ ps. are_paired ps (default_glyph ∷ default_glyph ∷ []))
-    ([] ∷ (default_position ∷ []) ∷ (default_position ∷ default_position ∷ [])
-    ∷ (default_position ∷ default_position ∷ default_position ∷ []) ∷ []) ≡ true ∷ false ∷ true ∷ false ∷ []
+-- the positions of two glyphs are these two, and none where there is another number of them
+paired : map (λ ps. positions_of_text (default_glyph ∷ default_glyph ∷ []) ps)
+    ([] ∷ (default_position ∷ []) ∷ (default_position ∷ record default_position { x_advance = pos 9 } ∷ [])
+    ∷ (default_position ∷ default_position ∷ default_position ∷ []) ∷ [])
+    ≡ [] ∷ [] ∷ (default_position ∷ record default_position { x_advance = pos 9 } ∷ []) ∷ [] ∷ []
 paired = refl
+
+-- and of no glyph none
+paired_none : map (λ ps. positions_of_text [] ps) ([] ∷ (default_position ∷ []) ∷ []) ≡ [] ∷ [] ∷ []
+paired_none = refl
 
 -- code points at the bounds of the surrogates and of Unicode
 characters_of : map character_of (0 ∷ 0x41 ∷ 0xD7FF ∷ 0xD800 ∷ 0xDFFF ∷ 0xE000 ∷ 0x10FFFF ∷ 0x110000 ∷ 0xFFFFFFFF ∷ [])

@@ -1,4 +1,4 @@
--- General categories, by their numbers, and which of them are of marks.
+-- General categories, by their numbers, which of them are of marks, and which have a class.
 use Rattle.std.specs.Prelude.{ℕ, Bool, true, false, List, [], ◌∷◌}
 use Rattle.shapers_buffer.specs.declared.buffer.category.hb_unicode_general_category_t.{hb_unicode_general_category_t}
 use Rattle.shapers_buffer.specs.declared.buffer.category.hb_unicode_general_category_t.TheVariants.{Cc, Cf, Cn, Co, Cs, Ll, Lm, Lo, Lt, Lu, Mc, Me, Mn, Nd, Nl, No, Pc, Pd, Pe, Pf, Pi, Po, Ps, Sc, Sk, Sm, So, Zl, Zp, Zs}
@@ -48,3 +48,10 @@ is_mark Mc = true
 is_mark Me = true
 is_mark Mn = true
 is_mark _ = false
+
+-- Whether a character of this category has a combining class. Where HarfBuzz keeps it, a format
+-- character says which joiner it is, and a space separator of which kind: these two have none.
+abbrev pub has_class : hb_unicode_general_category_t → Bool
+has_class Cf = false
+has_class Zs = false
+has_class _ = true

@@ -1,5 +1,6 @@
 pub mod Buffer
 pub mod Category
+pub mod Changes
 pub mod ClusterRuns
 pub mod Clusters
 pub mod Glyph
@@ -8,6 +9,7 @@ pub mod GlyphFlags
 pub mod ListingWalk
 pub mod Lists
 pub mod Numbers
+pub mod Placements
 pub mod Places
 pub mod Properties
 pub mod Refusals

@@ -6,7 +6,7 @@ use Rattle.shapers_buffer.specs.declared.buffer.category.hb_unicode_general_cate
 use Rattle.shapers_buffer.specs.declared.buffer.glyph_props.GlyphProps.{GlyphProps}
 use Rattle.shapers_buffer.specs.declared.buffer.lig_props.LigProps.{LigProps}
 use Rattle.shapers_buffer.specs.declared.buffer.unicode_props.UnicodeProps.{UnicodeProps}
-use Rattle.shapers_buffer.specs.Category.{categories, category_number, is_mark}
+use Rattle.shapers_buffer.specs.Category.{categories, category_number, has_class}
 
 -- whether a bit is among these
 abbrev pub has_bit : ℕ → ℕ → Bool
@@ -112,30 +112,31 @@ set_property property on props = record { 0 = set_bit property on props.0 }
 unfoldable pub general_category : UnicodeProps → hb_unicode_general_category_t
 general_category props = slice_index_or categories (props.0 % 32) Cn
 
--- the high byte: a mark's class, which joiner a format character is, a space's kind
+-- the high byte: the combining class, which joiner a format character is, a space's kind
 abbrev pub high_byte : UnicodeProps → ℕ
 high_byte props = props.0 / 256
 
--- the class of a mark; no other character has one
+-- the combining class: the high byte, but where it says which joiner or which space stands there
 unfoldable pub modified_combining_class : UnicodeProps → ℕ
-modified_combining_class props = if is_mark (general_category props) then high_byte props else 0
+modified_combining_class props = if has_class (general_category props) then high_byte props else 0
 
 -- the properties of a character of this category, with this high byte and none of the three bits
 abbrev pub properties : hb_unicode_general_category_t → ℕ → UnicodeProps
 properties category byte = record { 0 = category_number category + 256 * byte }
 
--- with another category, and no high byte
+-- With another category. The class stays where both have one; else the high byte is 0.
 abbrev pub with_general_category : hb_unicode_general_category_t → UnicodeProps → UnicodeProps
 with_general_category category props =
-    record { 0 = category_number category + 32 * (props.0 / 32 % 8) }
+    let class = if has_class category then modified_combining_class props else 0 in
+    record { 0 = category_number category + 32 * (props.0 / 32 % 8) + 256 * class }
 
--- with another high byte; with another class, where it is a mark
+-- with another high byte; with another class, where the category has one
 abbrev pub with_high_byte : ℕ → UnicodeProps → UnicodeProps
 with_high_byte byte props = record { 0 = props.0 % 256 + 256 * byte }
 
 abbrev pub with_modified_combining_class : ℕ → UnicodeProps → UnicodeProps
 with_modified_combining_class class props =
-    if is_mark (general_category props) then with_high_byte class props else props
+    if has_class (general_category props) then with_high_byte class props else props
 
 -- LAWS
 -- what setting bit k of sixteen does: that bit is on or off as told, each other bit stays, and they
@@ -151,13 +152,21 @@ BitsAreSetAlone = (k : ℕ) (on : Bool) (bits : ℕ) → k < 16 → bits < 2 ^ 1
     SetsAlone k on bits (set_bit (2 ^ k) on bits)
 
 -- What is set is what is read, and the rest of the word stays: where a bit of the three is set, the
--- category and the high byte; where the high byte is, the category.
+-- category, the high byte and so the class; where the high byte or the class is, the category;
+-- where the category is, the class, unless the old one or the new has none.
 pub record PropertiesSet (props : UnicodeProps) : Type 0 where
   pub category : (c : hb_unicode_general_category_t) →
       general_category (with_general_category c props) ≡ c
   pub byte : (byte : ℕ) → high_byte (with_high_byte byte props) ≡ byte
   pub category_stays : (byte : ℕ) →
       general_category (with_high_byte byte props) ≡ general_category props
+  pub class : (class : ℕ) → modified_combining_class (with_modified_combining_class class props)
+      ≡ (if has_class (general_category props) then class else 0)
+  pub category_of_class : (class : ℕ) →
+      general_category (with_modified_combining_class class props) ≡ general_category props
+  pub class_stays : (c : hb_unicode_general_category_t) →
+      modified_combining_class (with_general_category c props)
+      ≡ (if has_class c then modified_combining_class props else 0)
   pub made : (c : hb_unicode_general_category_t) (byte : ℕ) →
       general_category (properties c byte) ≡ c
   pub made_byte : (c : hb_unicode_general_category_t) (byte : ℕ) →
@@ -167,6 +176,8 @@ pub record BitKeeps (bit : ℕ) (props : UnicodeProps) : Type 0 where
   pub category : (on : Bool) →
       general_category (set_property bit on props) ≡ general_category props
   pub byte : (on : Bool) → high_byte (set_property bit on props) ≡ high_byte props
+  pub class : (on : Bool) →
+      modified_combining_class (set_property bit on props) ≡ modified_combining_class props
 
 pub record PropertiesAreSet : Type 0 where
   pub set : (props : UnicodeProps) → PropertiesSet props

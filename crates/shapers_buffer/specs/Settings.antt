@@ -1,5 +1,5 @@
 -- A whole text for a buffer: its settings, glyphs and positions.
-use Rattle.std.specs.Prelude.{ℕ, Bool, ◌||◌, ◌&&◌, ◌==◌, List, length, nat_lt, take, if◌then◌else◌}
+use Rattle.std.specs.Prelude.{ℕ, ◌||◌, ◌&&◌, ◌==◌, List, [], length, nat_lt, take, if◌then◌else◌}
 use Rattle.shapers_buffer.specs.Buffer.{Buffer}
 use Rattle.shapers_buffer.specs.declared.buffer.glyph.GlyphPosition.{GlyphPosition}
 use Rattle.shapers_buffer.specs.Glyphs.{Glyphs}
@@ -25,9 +25,9 @@ with_text gs ps s b =
     let settled = with_settings s b in
     let text : Buffer = record settled { glyphs = gs; positions = ps } in text
 
--- whether there are no positions, or one for each of these glyphs
-abbrev pub are_paired : List GlyphPosition → Glyphs → Bool
-are_paired ps gs = length ps == 0 || length ps == length gs
+-- these positions if there is one for each of the glyphs, and else none
+abbrev pub positions_of_text : Glyphs → List GlyphPosition → List GlyphPosition
+positions_of_text gs ps = if length ps == length gs then ps else []
 
 -- the character of a code point; one that is no character reads as U+FFFD
 abbrev pub character_of : ℕ → ℕ

@@ -1,11 +1,13 @@
 //! The buffer of glyphs: what the shapers read and rewrite.
-ghost use Rattle.std.specs.Prelude.{◌≡◌, ◌==◌, ◌+◌, ◌<◌, ◌≤◌, [], ◌++◌, ◌∷◌, length, take, slice_index_or, slice_set, OnOk, OnErr, IfOk, IfErr};
-ghost use Rattle.shapers_buffer.specs.Buffer.{grown, new_buffer};
+ghost use Rattle.std.specs.Prelude.{◌≡◌, ◌==◌, ◌+◌, ◌^◌, ◌<◌, ◌≤◌, [], ◌++◌, ◌∷◌, length, take, slice_index_or, slice_set, OnOk, OnErr, IfOk, IfErr, IsOkUnless};
+ghost use Rattle.shapers_buffer.specs.Buffer.{grown, more_positions, new_buffer};
 ghost use Rattle.shapers_buffer.specs.Refusals.{RefusesLength};
 ghost use Rattle.shapers_buffer.specs.declared.buffer.refusal.ShaperError.TheVariants.{Memory};
 
 use arrayvec::ArrayVec;
-use placement::{copy_places, make_room};
+use keeping::KeptRoom;
+use placement::make_room;
+use rooms::Rooms;
 use std::alloc::Global;
 use std::marker::Model;
 
@@ -18,15 +20,19 @@ mod flags;
 mod glyph;
 mod glyph_flags;
 mod glyph_props;
+mod group_room;
+mod keeping;
 mod laws;
 mod level;
 mod lig_props;
 mod merging;
 pub mod modified_combining_class;
 mod placement;
+mod placements;
 mod refusal;
 mod replacing;
 mod reversing;
+mod rooms;
 mod settings;
 mod syllables;
 mod tag;
@@ -41,21 +47,23 @@ pub use glyph_flags::{
     glyph_flag, safe_to_insert_tatweel_in, unsafe_to_break_in, unsafe_to_concat_in,
 };
 pub use glyph_props::GlyphProps;
+pub use group_room::{ClusterGroup, GroupRoom};
 pub use laws::{
     bits_are_set_alone, parts_change_places, places_are_written, properties_are_set,
     syllables_are_runs,
 };
 pub use level::{BufferClusterLevel, Direction};
 pub use lig_props::LigProps;
-pub use merging::{least_cluster, merge_clusters_in};
+pub use merging::{IntoCluster, least_cluster, merge_clusters_in, put_into_cluster};
 pub use placement::Placement;
+pub use placements::{Arranged, Placements, SyllableReading};
 pub use refusal::ShaperError;
 pub use replacing::GlyphRewriting;
 pub use settings::{BufferSettings, context_characters};
 pub use syllables::{Span, first_syllable_len, has_span_of_kind, set_syllable, spans_cover};
 pub use tag::{Script, hb_tag_t};
 pub use unicode_props::UnicodeProps;
-pub use walking::{GlyphChange, GlyphWalk, PositionedWalk, change_each_in};
+pub use walking::{GlyphChange, GlyphWalk, PositionedWalk, change_each_by_in, change_each_in};
 
 /// How many characters of context a buffer keeps on each side.
 pub const CONTEXT_LENGTH: usize = 5;
@@ -79,6 +87,10 @@ pub struct hb_buffer_t {
     // written as far as reorderings came
     places: Vec<usize>,
     spare: Vec<hb_glyph_info_t>,
+    // room for one group of glyphs and one glyph more per glyph, lent to walks
+    group_room: GroupRoom,
+    // room that calls make when they first need it, so that the next text takes no memory
+    rooms: Rooms,
 }
 
 impl Model for hb_buffer_t {
@@ -139,6 +151,8 @@ impl hb_buffer_t {
             max_len,
             places: Vec::new(alloc),
             spare: Vec::new(alloc),
+            group_room: GroupRoom::new(alloc),
+            rooms: Rooms::new(alloc),
         }
     }
 
@@ -199,7 +213,7 @@ impl hb_buffer_t {
         self.info[i] = glyph;
     }
 
-    /// Adds a glyph at the end of a buffer without positions.
+    /// Adds a glyph at the end. The buffer has no positions afterwards.
     ///
     /// # Errors
     ///
@@ -207,17 +221,22 @@ impl hb_buffer_t {
     /// refused; nothing has changed then.
     #[inline]
     pub fn push(&mut self, glyph: hb_glyph_info_t) -> Result<(), ShaperError>
-        requires { self.old.positions ≡ [] }
         ensures ok { OnOk result (self.new ≡
-            record self.old { glyphs = self.old.glyphs ++ glyph ∷ [] }) }
+            record self.old { glyphs = self.old.glyphs ++ glyph ∷ []; positions = [] }) }
         ensures length { RefusesLength self.old.max_len (length self.old.glyphs + 1) result }
         ensures err { OnErr result (self.new ≡ self.old) }
     {
         if self.info.len() == self.max_len {
             return Err(ShaperError::TooLong);
         }
-        make_room(&mut self.places, &mut self.spare, self.info.len() + 1)?;
+        make_room(
+            &mut self.places,
+            &mut self.spare,
+            &mut self.group_room,
+            self.info.len() + 1,
+        )?;
         self.info.push(glyph).map_err(|_| ShaperError::Memory)?;
+        self.pos.clear();
         Ok(())
     }
 
@@ -237,11 +256,9 @@ impl hb_buffer_t {
             return Err(ShaperError::TooLong);
         }
         let len = self.info.len() + n;
-        make_room(&mut self.places, &mut self.spare, len)?;
+        make_room(&mut self.places, &mut self.spare, &mut self.group_room, len)?;
         self.info.reserve(n)?;
-        if !self.pos.is_empty() {
-            self.pos.resize(len, GlyphPosition::ZERO)?;
-        }
+        add_zero_positions(&mut self.pos, n)?;
         self.info.resize(len, hb_glyph_info_t::DEFAULT)?;
         Ok(())
     }
@@ -270,9 +287,21 @@ impl hb_buffer_t {
         ensures err { IfErr result (λ e. e ≡ Memory) }
     {
         let alloc = self.alloc();
+        let groups = GroupRoom::with_capacity(alloc, self.info.len())?;
+        self.copy_into(KeptRoom::new(alloc), groups)
+    }
+
+    // An equal buffer, with its lists in this room and with this room for groups.
+    #[inline]
+    fn copy_into(&self, room: KeptRoom, group_room: GroupRoom) -> Result<Self, ShaperError>
+        ensures ok { IfOk result (λ copy. copy ≡ self.now) }
+        ensures err { IfErr result (λ e. e ≡ Memory) }
+    {
+        let alloc = self.alloc();
+        let lists = room.filled(&self.info, &self.pos, &self.places)?;
         Ok(hb_buffer_t {
-            info: Vec::from_slice(alloc, self.info.as_slice())?,
-            pos: Vec::from_slice(alloc, self.pos.as_slice())?,
+            info: lists.info,
+            pos: lists.pos,
             direction: self.direction,
             script: self.script,
             cluster_level: self.cluster_level,
@@ -282,10 +311,30 @@ impl hb_buffer_t {
             has_broken_syllable: self.has_broken_syllable,
             has_stch: self.has_stch,
             max_len: self.max_len,
-            places: copy_places(alloc, self.places.as_slice(), self.info.len())?,
-            spare: Vec::with_capacity(alloc, self.info.len())?,
+            places: lists.places,
+            spare: lists.spare,
+            group_room,
+            rooms: Rooms::new(alloc),
         })
     }
+}
+
+// Adds `n` zero positions, unless there are no positions.
+#[inline]
+fn add_zero_positions(positions: &mut Vec<GlyphPosition>, n: usize) -> Result<(), ShaperError>
+    requires { length positions.old.items + n < 2 ^ 64 }
+    ensures ok { OnOk result (positions.new.items ≡ more_positions n positions.old.items) }
+    ensures none { OnOk result (length positions.old.items ≡ 0
+        → length positions.new.items ≡ 0) }
+    ensures length { OnOk result (0 < length positions.old.items
+        → length positions.new.items ≡ length positions.old.items + n) }
+    ensures refusal { IsOkUnless result Memory }
+    ensures err { OnErr result (positions.new.items ≡ positions.old.items) }
+{
+    if !positions.is_empty() {
+        positions.resize(positions.len() + n, GlyphPosition::ZERO)?;
+    }
+    Ok(())
 }
 
 // The five nearest of these characters, which are nearest first.

@@ -4,12 +4,12 @@ use Rattle.shapers_buffer.specs.Glyphs.{Glyphs}
 use Rattle.shapers_buffer.specs.Glyph.{clusters}
 use Rattle.shapers_clusters.specs.CarriedGroups.{first_group_cluster, grouped, joined_end, len_of, put_before, read_back, shown_groups, spread_groups}
 use Rattle.shapers_clusters.specs.ClusterMerges.{of_cluster}
-use Rattle.shapers_clusters.specs.declared.carried_groups.Group.{Group}
+use Rattle.shapers_buffer.specs.declared.buffer.group_room.ClusterGroup.{ClusterGroup}
 
 glyphs : List ℕ → Glyphs
 glyphs cs = map of_cluster cs
 
-groups : List (ℕ × ℕ) → List Group
+groups : List (ℕ × ℕ) → List ClusterGroup
 groups gs = map (λ g. record { len = g.0; cluster = g.1 }) gs
 
 -- two groups, of two and three glyphs, and a glyph behind them
@@ -44,7 +44,7 @@ unfolding glyphs
 before_first = refl
 
 -- a group falls, and never rises
-read_two : map (λ (g : Group). g.cluster) (read_back (glyphs (2 ∷ 6 ∷ [])) (groups ((2, 3) ∷ (3, 5) ∷ []))) ≡ 2 ∷ 5 ∷ []
+read_two : map (λ (g : ClusterGroup). g.cluster) (read_back (glyphs (2 ∷ 6 ∷ [])) (groups ((2, 3) ∷ (3, 5) ∷ []))) ≡ 2 ∷ 5 ∷ []
 unfolding glyphs groups
 read_two = refl
 

@@ -9,7 +9,7 @@ use Rattle.shapers_buffer.specs.Clusters.{in_cluster, last_cluster, stretch_of, 
 use Rattle.shapers_buffer.specs.Glyph.{default_glyph, plain}
 use Rattle.shapers_clusters.specs.CarriedGroups.{AreCarried, AreShown, EndsAbove, LeastIn, StillSame, first_group_cluster, grouped, joined_end, len_of, no_group, put_before, read_back, shown_groups, taken_back, with_groups, with_list}
 use Rattle.shapers_clusters.specs.declared.carried_groups.CarriedGroups.{CarriedGroups}
-use Rattle.shapers_clusters.specs.declared.carried_groups.Group.{Group}
+use Rattle.shapers_buffer.specs.declared.buffer.group_room.ClusterGroup.{ClusterGroup}
 use Rattle.std.proofs.Math.Seq.{map-set_same}
 use Rattle.shapers_buffer.proofs.ClusterLemmas.{length-stretch, three_parts}
 use Rattle.shapers_buffer.proofs.OneCluster.{last_of_end}
@@ -24,40 +24,40 @@ next_at (x ∷ xs) zero d inside = refl
 next_at (x ∷ xs) (suc i) d inside =
     let up : suc i + 1 ≡ suc (i + 1) = omega arith in cc (next_at xs i d (omega arith))
 
-pub len_of-append : (xs ys : List Group) → len_of (xs ++ ys) ≡ len_of xs + len_of ys
+pub len_of-append : (xs ys : List ClusterGroup) → len_of (xs ++ ys) ≡ len_of xs + len_of ys
 len_of-append [] ys = omega arith
 len_of-append (x ∷ xs) ys = omega (arith, len_of-append xs ys)
 
-pub grouped-append : (xs ys : List Group) (gs : Glyphs) →
+pub grouped-append : (xs ys : List ClusterGroup) (gs : Glyphs) →
     grouped (xs ++ ys) gs ≡ grouped xs gs ++ grouped ys (drop (len_of xs) gs)
 grouped-append [] ys gs = refl
 grouped-append (x ∷ xs) ys gs = search (append_assoc, drop-drop, grouped-append xs ys (drop x.len gs))
 
-pub length-grouped : (xs : List Group) (gs : Glyphs) → len_of xs ≤ length gs → length (grouped xs gs) ≡ len_of xs
+pub length-grouped : (xs : List ClusterGroup) (gs : Glyphs) → len_of xs ≤ length gs → length (grouped xs gs) ≡ len_of xs
 length-grouped [] gs within = refl
 length-grouped (x ∷ xs) gs within = search (arith, length-append, length-map, length-take, length-grouped xs (drop x.len gs) (omega (arith, length-drop x.len gs)))
 
-pub least_front : (xs ys : List Group) (gs : Glyphs) → LeastIn (xs ++ ys) gs → LeastIn xs gs
+pub least_front : (xs ys : List ClusterGroup) (gs : Glyphs) → LeastIn (xs ++ ys) gs → LeastIn xs gs
 least_front [] ys gs all = tt
 least_front (x ∷ xs) ys gs all = (all.0, least_front xs ys (drop x.len gs) all.1)
 
-pub least_behind : (xs ys : List Group) (gs : Glyphs) → LeastIn (xs ++ ys) gs → LeastIn ys (drop (len_of xs) gs)
+pub least_behind : (xs ys : List ClusterGroup) (gs : Glyphs) → LeastIn (xs ++ ys) gs → LeastIn ys (drop (len_of xs) gs)
 least_behind [] ys gs all = all
 least_behind (x ∷ xs) ys gs all = search (arith, drop-drop, least_behind xs ys (drop x.len gs) all.1)
 
-pub least_both : (xs ys : List Group) (gs : Glyphs) → LeastIn xs gs → LeastIn ys (drop (len_of xs) gs) →
+pub least_both : (xs ys : List ClusterGroup) (gs : Glyphs) → LeastIn xs gs → LeastIn ys (drop (len_of xs) gs) →
     LeastIn (xs ++ ys) gs
 least_both [] ys gs one two = two
 least_both (x ∷ xs) ys gs one two = (one.0, least_both xs ys (drop x.len gs) one.1 (search drop-drop))
 
 -- WRITING one
-pub record WrittenNext (g : Group) (groups : List Group) (place : ℕ) (gs hs : Glyphs) : Type 0 where
+pub record WrittenNext (g : ClusterGroup) (groups : List ClusterGroup) (place : ℕ) (gs hs : Glyphs) : Type 0 where
   pub within : place + g.len + len_of groups ≤ length hs
   pub walk : take (place + g.len) hs ++ (grouped groups (drop (place + g.len) hs)
       ++ drop (place + g.len + len_of groups) hs)
       ≡ take place gs ++ (grouped (g ∷ groups) (drop place gs) ++ drop (place + len_of (g ∷ groups)) gs)
 
-pub written_next : (g : Group) (groups : List Group) (place : ℕ) (gs hs : Glyphs) →
+pub written_next : (g : ClusterGroup) (groups : List ClusterGroup) (place : ℕ) (gs hs : Glyphs) →
     place + len_of (g ∷ groups) ≤ length gs →
     hs ≡ with_stretch place (place + g.len) (map (in_cluster g.cluster)) gs → WrittenNext g groups place gs hs
 written_next g groups place gs hs within is =
@@ -81,7 +81,7 @@ written_next g groups place gs hs within is =
     )
 
 -- SHOWING one more, and reading one
-pub show_next : (groups : List Group) (gs : Glyphs) (i : ℕ) → i < length groups →
+pub show_next : (groups : List ClusterGroup) (gs : Glyphs) (i : ℕ) → i < length groups →
     length groups ≤ length gs → (let g : Glyph = get_or (shown_groups (take i groups) gs) i default_glyph in
     slice_set (shown_groups (take i groups) gs) i (record g { cluster = (get_or groups i no_group).cluster })
     ≡ shown_groups (take (i + 1) groups) gs)
@@ -90,8 +90,8 @@ show_next (group ∷ groups) (g ∷ gs) (suc i) inside many =
     search (arith, show_next groups gs i (omega arith) (omega arith))
 show_next _ _ i inside many = absurd (omega arith)
 
-pub read_next : (gs : Glyphs) (groups : List Group) (i : ℕ) → i < length gs →
-    length gs ≡ length groups → (let group : Group = get_or (read_back (take i gs) groups) i no_group in
+pub read_next : (gs : Glyphs) (groups : List ClusterGroup) (i : ℕ) → i < length gs →
+    length gs ≡ length groups → (let group : ClusterGroup = get_or (read_back (take i gs) groups) i no_group in
     slice_set (read_back (take i gs) groups) i (record group {
       cluster = min group.cluster (get_or gs i default_glyph).cluster;
     }) ≡ read_back (take (i + 1) gs) groups)
@@ -100,13 +100,13 @@ read_next (g ∷ gs) (group ∷ groups) (suc i) inside many =
     let up : suc i + 1 ≡ suc (i + 1) = omega arith in cc (read_next gs groups i (omega arith) (omega arith))
 read_next _ _ i inside many = absurd (omega arith)
 
-pub len_of-read : (gs : Glyphs) (groups : List Group) → length gs ≡ length groups →
+pub len_of-read : (gs : Glyphs) (groups : List ClusterGroup) → length gs ≡ length groups →
     len_of (read_back gs groups) ≡ len_of groups
 len_of-read [] groups many = refl
 len_of-read (g ∷ gs) [] many = absurd (omega arith)
 len_of-read (g ∷ gs) (group ∷ groups) many = cc (len_of-read gs groups (omega arith))
 
-pub least-read : (gs : Glyphs) (groups : List Group) (hs : Glyphs) →
+pub least-read : (gs : Glyphs) (groups : List ClusterGroup) (hs : Glyphs) →
     length gs ≡ length groups → LeastIn groups hs → LeastIn (read_back gs groups) hs
 least-read [] groups hs many all = all
 least-read (g ∷ gs) [] hs many all = absurd (omega arith)
@@ -114,11 +114,11 @@ least-read (g ∷ gs) (group ∷ groups) hs many all =
     search (arith, none_lower, least-read gs groups (drop group.len hs) (omega arith) all.1)
 
 -- THE LAST groups
-pub last_split : (xs : List Group) → 0 < length xs →
+pub last_split : (xs : List ClusterGroup) → 0 < length xs →
     xs ≡ take (length xs - 1) xs ++ get_or xs (length xs - 1) no_group ∷ []
 last_split = search (arith, take_all, take_more)
 
-pub two_split : (xs : List Group) → 1 < length xs → xs ≡ take (length xs - 2) xs
+pub two_split : (xs : List ClusterGroup) → 1 < length xs → xs ≡ take (length xs - 2) xs
     ++ get_or xs (length xs - 2) no_group ∷ get_or xs (length xs - 1) no_group ∷ []
 two_split xs two = search (
   arith,
@@ -128,19 +128,19 @@ two_split xs two = search (
       ((get_or xs (length xs - 1) no_group) ∷ []),
 )
 
-pub record EndJoined (xs ys : List Group) : Type 0 where
+pub record EndJoined (xs ys : List ClusterGroup) : Type 0 where
   pub len : len_of ys ≡ len_of xs
   pub many : length ys + 1 ≡ length xs
   pub same : (gs : Glyphs) → grouped ys gs ≡ grouped xs gs
   pub least : (gs : Glyphs) → LeastIn xs gs → LeastIn ys gs
 
-pub joined_same : (xs : List Group) → 1 < length xs → (get_or xs (length xs - 2) no_group).cluster
+pub joined_same : (xs : List ClusterGroup) → 1 < length xs → (get_or xs (length xs - 2) no_group).cluster
     ≡ (get_or xs (length xs - 1) no_group).cluster → EndJoined xs (joined_end xs)
 joined_same xs two same =
     let front = take (length xs - 2) xs in
-    let one : Group = get_or xs (length xs - 2) no_group in
-    let other : Group = get_or xs (length xs - 1) no_group in
-    let both : Group = record one { len = one.len + other.len } in
+    let one : ClusterGroup = get_or xs (length xs - 2) no_group in
+    let other : ClusterGroup = get_or xs (length xs - 1) no_group in
+    let both : ClusterGroup = record one { len = one.len + other.len } in
     let split = two_split xs two in
     record {
       len = len_of-append front (both ∷ [])
@@ -155,7 +155,7 @@ joined_same xs two same =
           (pair_least one other (drop (len_of front) gs) same (least_behind front (one ∷ other ∷ []) gs parts));
     }
   where
-    pair : (one other : Group) (hs : Glyphs) → one.cluster ≡ other.cluster →
+    pair : (one other : ClusterGroup) (hs : Glyphs) → one.cluster ≡ other.cluster →
         grouped ((record one { len = one.len + other.len }) ∷ []) hs ≡ grouped (one ∷ other ∷ []) hs
     pair one other hs is =
         let f : Glyph → Glyph = in_cluster one.cluster in
@@ -165,7 +165,7 @@ joined_same xs two same =
         ∙ ap (λ l. map f (take one.len hs) ++ l)
         (sym (append-nil (map (in_cluster other.cluster) (take other.len (drop one.len hs)))))
 
-    pair_least : (one other : Group) (hs : Glyphs) → one.cluster ≡ other.cluster →
+    pair_least : (one other : ClusterGroup) (hs : Glyphs) → one.cluster ≡ other.cluster →
         LeastIn (one ∷ other ∷ []) hs → LeastIn ((record one { len = one.len + other.len }) ∷ []) hs
     pair_least one other hs is all =
         let some = all.0.0 in
@@ -181,7 +181,7 @@ joined_same xs two same =
           tt,
         )
 
-pub two_lens : (xs : List Group) → 1 < length xs → (get_or xs (length xs - 2) no_group).len
+pub two_lens : (xs : List ClusterGroup) → 1 < length xs → (get_or xs (length xs - 2) no_group).len
     + (get_or xs (length xs - 1) no_group).len ≤ len_of xs
 two_lens xs two = search (
   arith,
@@ -190,7 +190,7 @@ two_lens xs two = search (
       ((get_or xs (length xs - 2) no_group) ∷ (get_or xs (length xs - 1) no_group) ∷ []),
 )
 
-pub joined_list : (xs ys : List Group) (n : ℕ) (one other : Group) → 1 < length xs → n ≡ length xs →
+pub joined_list : (xs ys : List ClusterGroup) (n : ℕ) (one other : ClusterGroup) → 1 < length xs → n ≡ length xs →
     ys ≡ take (n - 1) xs → one ≡ get_or xs (n - 2) no_group → other ≡ get_or xs (n - 1) no_group →
     slice_set ys (n - 2) (record one { len = one.len + other.len }) ≡ joined_end xs
 joined_list xs ys n one other two n_is ys_is one_is other_is =
@@ -200,8 +200,8 @@ joined_list xs ys n one other two n_is ys_is one_is other_is =
     let many : length hs ≡ n - 1 = length-set ys (n - 2) both ∙ yn in
     sym (take_all (n - 1) hs (omega arith)) ∙ ap (λ k. take k hs) (sym (omega arith))
     ∙ take_more_set ys (n - 2) both (omega arith) ∙ ap (λ l. l ++ both ∷ []) (search (arith, take-take))
-    ∙ ap (λ (a : Group). take (n - 2) xs ++ (record a { len = a.len + other.len }) ∷ []) one_is ∙ ap
-    (λ (b : Group). take (n - 2) xs ++ (record (get_or xs (n - 2) no_group) {
+    ∙ ap (λ (a : ClusterGroup). take (n - 2) xs ++ (record a { len = a.len + other.len }) ∷ []) one_is ∙ ap
+    (λ (b : ClusterGroup). take (n - 2) xs ++ (record (get_or xs (n - 2) no_group) {
       len = (get_or xs (n - 2) no_group).len + b.len;
     }) ∷ []) other_is ∙ ap
     (λ k. (let a = get_or xs (k - 2) no_group in take (k - 2) xs ++ (record a {
@@ -209,11 +209,11 @@ joined_list xs ys n one other two n_is ys_is one_is other_is =
     }) ∷ [])) n_is
 
 -- all but the last one, and that
-pub record BeforeLast (xs : List Group) : Type 0 where
+pub record BeforeLast (xs : List ClusterGroup) : Type 0 where
   pub whole : xs ≡ take (length xs - 1) xs ++ get_or xs (length xs - 1) no_group ∷ []
   pub lens : len_of xs ≡ len_of (take (length xs - 1) xs) + (get_or xs (length xs - 1) no_group).len
 
-pub before_last : (xs : List Group) → 0 < length xs → BeforeLast xs
+pub before_last : (xs : List ClusterGroup) → 0 < length xs → BeforeLast xs
 before_last xs some = search (
   arith,
   last_split xs some,
@@ -221,7 +221,7 @@ before_last xs some = search (
 )
 
 -- WRITTEN before the last one
-pub written_before : (it after : CarriedGroups) (front : List Group) (last : Group) (gs hs : Glyphs) →
+pub written_before : (it after : CarriedGroups) (front : List ClusterGroup) (last : ClusterGroup) (gs hs : Glyphs) →
     it.groups.items ≡ front ++ last ∷ [] → after.groups.items ≡ last ∷ [] → after.start ≡ it.start + len_of front →
     after.end ≡ it.end → hs ≡ take it.start gs ++ (grouped front (drop it.start gs)
     ++ drop (it.start + len_of front) gs) → AreCarried it gs → StillSame it gs after hs
@@ -262,7 +262,7 @@ pub group_added : (it after : CarriedGroups) (gs : Glyphs) (g : Glyph) →
 group_added it after gs g g_is inside start_is end_is are fits =
     let span = fits.span in
     let items = it.groups.items in
-    let one : Group = record { len = 1; cluster = g.cluster } in
+    let one : ClusterGroup = record { len = 1; cluster = g.cluster } in
     let rest = drop (it.end + 1) gs in
     let split : drop it.end gs ≡ g ∷ rest = next_at gs it.end default_glyph inside ∙ ap (λ x. x ∷ rest) (sym g_is) in
     let up : drop (len_of items) (drop it.start gs) ≡ drop it.end gs = drop-drop (len_of items) it.start gs
@@ -292,17 +292,17 @@ group_added it after gs g g_is inside start_is end_is are fits =
     own g = grind arith
 
 -- SHOWN
-pub many_lens : (xs : List Group) (gs : Glyphs) → LeastIn xs gs → length xs ≤ len_of xs
+pub many_lens : (xs : List ClusterGroup) (gs : Glyphs) → LeastIn xs gs → length xs ≤ len_of xs
 many_lens [] gs all = omega arith
 many_lens (x ∷ xs) gs all = search (arith, many_lens xs (drop x.len gs) all.1)
 
-pub shown_append : (groups : List Group) (xs ys : Glyphs) → length groups ≤ length xs →
+pub shown_append : (groups : List ClusterGroup) (xs ys : Glyphs) → length groups ≤ length xs →
     shown_groups groups (xs ++ ys) ≡ shown_groups groups xs ++ ys
 shown_append [] xs ys many = refl
 shown_append (group ∷ groups) [] ys many = absurd (omega arith)
 shown_append (group ∷ groups) (x ∷ xs) ys many = cc (shown_append groups xs ys (omega arith))
 
-pub shown_view : (groups : List Group) (xs : Glyphs) → length groups ≤ length xs →
+pub shown_view : (groups : List ClusterGroup) (xs : Glyphs) → length groups ≤ length xs →
     map plain (shown_groups groups xs) ≡ map plain xs
 shown_view [] xs many = refl
 shown_view (group ∷ groups) [] many = absurd (omega arith)
@@ -384,11 +384,11 @@ pub none_carried : (it : CarriedGroups) (gs : Glyphs) → it.groups.items ≡ []
     it.end ≤ length gs → AreCarried it gs
 none_carried it gs none = search arith
 
-pub first_get : (xs : List Group) → first_group_cluster xs ≡ (get_or xs 0 no_group).cluster
+pub first_get : (xs : List ClusterGroup) → first_group_cluster xs ≡ (get_or xs 0 no_group).cluster
 first_get [] = refl
 first_get (x ∷ xs) = refl
 
-pub first_set : (xs : List Group) (y : Group) → 0 < length xs → take 1 (slice_set xs 0 y) ≡ y ∷ []
+pub first_set : (xs : List ClusterGroup) (y : ClusterGroup) → 0 < length xs → take 1 (slice_set xs 0 y) ≡ y ∷ []
 first_set [] y some = absurd (omega arith)
 first_set (x ∷ xs) y some = refl
 
@@ -396,7 +396,7 @@ pub joined_still : (it after : CarriedGroups) (gs : Glyphs) → EndJoined it.gro
     → after.start ≡ it.start → after.end ≡ it.end → AreCarried it gs → StillSame it gs after gs
 joined_still = search arith
 
-pub written_by : (it after : CarriedGroups) (gs hs : Glyphs) (n : ℕ) (xs : List Group) (last : Group) →
+pub written_by : (it after : CarriedGroups) (gs hs : Glyphs) (n : ℕ) (xs : List ClusterGroup) (last : ClusterGroup) →
     0 < length it.groups.items → n ≡ length it.groups.items → xs ≡ it.groups.items →
     last ≡ get_or it.groups.items (n - 1) no_group → after.groups.items ≡ take 1 (slice_set it.groups.items 0 last) →
     after.start ≡ it.end - last.len → after.end ≡ it.end → hs ≡ take it.start gs ++ (grouped (take (n - 1) xs)
@@ -412,6 +412,6 @@ pub taken_is : (count : ℕ) (it : CarriedGroups) (gs hs : Glyphs) (low end : �
     hs ≡ with_stretch low end (λ xs. kept) gs → hs ≡ taken_back count it gs
 taken_is count it gs hs low end kept low_is end_is kept_is is = cc
 
-pub groups_settled : (it after : CarriedGroups) (groups : List Group) (gs : Glyphs) → after.start ≡ it.start
+pub groups_settled : (it after : CarriedGroups) (groups : List ClusterGroup) (gs : Glyphs) → after.start ≡ it.start
     → after.end ≡ it.end → after.groups.items ≡ groups → with_groups after gs ≡ with_list it groups gs
 groups_settled it after groups gs start_is end_is are = cc

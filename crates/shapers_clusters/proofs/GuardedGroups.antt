@@ -10,7 +10,7 @@ use Rattle.shapers_buffer.specs.Clusters.{first_cluster, in_cluster, least, stre
 use Rattle.shapers_buffer.specs.Glyph.{clusters, plain}
 use Rattle.shapers_clusters.specs.CarriedGroups.{AreCarried, AreShown, EndsAbove, LeastIn, StandFor, StopsBefore, groups_len, fallen_groups, first_group_cluster, grouped, last_groups, len_of, read_back, shown_groups, spread_groups, with_groups}
 use Rattle.shapers_clusters.specs.declared.carried_groups.CarriedGroups.{CarriedGroups}
-use Rattle.shapers_clusters.specs.declared.carried_groups.Group.{Group}
+use Rattle.shapers_buffer.specs.declared.buffer.group_room.ClusterGroup.{ClusterGroup}
 use Rattle.shapers_clusters.specs.Steps.{FitSteps, Step, run_steps, widened}
 use Rattle.shapers_clusters.proofs.CarriedGroups.{From, Keeps, NotAbove, Spreads, from_of_least, length-spread, spread_append, steps_keep, steps_spread}
 use Rattle.shapers_clusters.proofs.Falls.{in_cluster-same}
@@ -18,23 +18,23 @@ use Rattle.shapers_clusters.proofs.FloodsBack.{Change}
 use Rattle.shapers_clusters.proofs.GroupWalk.{grouped-append, least_behind, length-grouped, len_of-append}
 
 -- the glyphs of these groups, which open the list
-abbrev pub cut_up : List Group → Glyphs → List Glyphs
+abbrev pub cut_up : List ClusterGroup → Glyphs → List Glyphs
 cut_up [] gs = []
 cut_up (group ∷ groups) gs = take group.len gs ∷ cut_up groups (drop group.len gs)
 
-length-cut_up : (groups : List Group) (gs : Glyphs) → length (cut_up groups gs) ≡ length groups
+length-cut_up : (groups : List ClusterGroup) (gs : Glyphs) → length (cut_up groups gs) ≡ length groups
 length-cut_up [] gs = refl
 length-cut_up (group ∷ groups) gs = cc (length-cut_up groups (drop group.len gs))
 
-all_of-cut_up : (groups : List Group) (gs : Glyphs) → len_of groups ≤ length gs →
+all_of-cut_up : (groups : List ClusterGroup) (gs : Glyphs) → len_of groups ≤ length gs →
     groups_len (cut_up groups gs) ≡ len_of groups
 all_of-cut_up [] gs within = refl
 all_of-cut_up (group ∷ groups) gs within =
     search (arith, length-take, all_of-cut_up groups (drop group.len gs) (omega (arith, length-drop group.len gs)))
 
 -- glyphs in the clusters of groups
-abbrev StandAs : List Group → Glyphs → Type 0
-StandAs groups gs = map (λ (g : Glyph). g.cluster) gs ≡ map (λ (group : Group). group.cluster) groups
+abbrev StandAs : List ClusterGroup → Glyphs → Type 0
+StandAs groups gs = map (λ (g : Glyph). g.cluster) gs ≡ map (λ (group : ClusterGroup). group.cluster) groups
 
 heads : {X : Type 0} (x y : X) (xs ys : List X) → x ∷ xs ≡ y ∷ ys → (x ≡ y) × (xs ≡ ys)
 heads x y xs ys same = (ap (λ l. first_or x l) same, ap (drop 1) same)
@@ -43,35 +43,35 @@ heads x y xs ys same = (ap (λ l. first_or x l) same, ap (drop 1) same)
     first_or d [] = d
     first_or d (x ∷ xs) = x
 
-spread_cut : (groups : List Group) (reps gs rest : Glyphs) → StandAs groups reps →
+spread_cut : (groups : List ClusterGroup) (reps gs rest : Glyphs) → StandAs groups reps →
     spread_groups (cut_up groups gs) (reps ++ rest) ≡ grouped groups gs ++ rest
 spread_cut [] [] gs rest stood = refl
 spread_cut (group ∷ groups) (g ∷ reps) gs rest stood =
     let (one, more) = heads g.cluster group.cluster (map (λ (g : Glyph). g.cluster) reps) (map (λ (group :
-    Group). group.cluster) groups) stood in
+    ClusterGroup). group.cluster) groups) stood in
     search (arith, append_assoc, spread_cut groups reps (drop group.len gs) rest more)
 spread_cut _ _ gs rest stood = absurd (cc)
 
-stand_cut : (groups : List Group) (reps gs rest : Glyphs) → StandAs groups reps →
+stand_cut : (groups : List ClusterGroup) (reps gs rest : Glyphs) → StandAs groups reps →
     len_of groups ≤ length gs → LeastIn groups gs → StandFor (cut_up groups gs) (reps ++ rest)
 stand_cut [] reps gs rest stood within all = tt
 stand_cut (group ∷ groups) [] gs rest stood within all = absurd (cc)
 stand_cut (group ∷ groups) (g ∷ reps) gs rest stood within all =
     let (one, more) = heads g.cluster group.cluster (map (λ (g : Glyph). g.cluster) reps) (map (λ (group :
-    Group). group.cluster) groups) stood in
+    ClusterGroup). group.cluster) groups) stood in
     search (
       arith,
       length-take,
       stand_cut groups reps (drop group.len gs) rest more (omega (arith, length-drop group.len gs)) all.1,
     )
 
-shown_as : (groups : List Group) (gs : Glyphs) → length groups ≤ length gs →
+shown_as : (groups : List ClusterGroup) (gs : Glyphs) → length groups ≤ length gs →
     StandAs groups (take (length groups) (shown_groups groups gs))
 shown_as [] gs many = refl
 shown_as (group ∷ groups) [] many = absurd (omega arith)
 shown_as (group ∷ groups) (g ∷ gs) many = cc (shown_as groups gs (omega arith))
 
-shown_rest : (groups : List Group) (gs : Glyphs) → length groups ≤ length gs →
+shown_rest : (groups : List ClusterGroup) (gs : Glyphs) → length groups ≤ length gs →
     drop (length groups) (shown_groups groups gs) ≡ drop (length groups) gs
 shown_rest [] gs many = refl
 shown_rest (group ∷ groups) [] many = absurd (omega arith)
@@ -106,7 +106,7 @@ clusters_alone [] [] many = refl
 clusters_alone (g ∷ gs) (x ∷ xs) many = search (arith, clusters_alone gs xs (omega arith))
 clusters_alone _ _ many = absurd (omega arith)
 
-pub read_clusters : (xs ys : Glyphs) (groups : List Group) →
+pub read_clusters : (xs ys : Glyphs) (groups : List ClusterGroup) →
     map (λ (g : Glyph). g.cluster) xs ≡ map (λ (g : Glyph). g.cluster) ys → read_back xs groups ≡ read_back ys groups
 read_clusters [] [] groups same = refl
 read_clusters (x ∷ xs) (y ∷ ys) [] same = refl
@@ -116,19 +116,19 @@ read_clusters (x ∷ xs) (y ∷ ys) (group ∷ groups) same =
     cc (read_clusters xs ys groups more)
 read_clusters _ _ groups same = absurd (cc)
 
-spread_read : (groups : List Group) (reps new gs : Glyphs) → StandAs groups reps →
+spread_read : (groups : List ClusterGroup) (reps new gs : Glyphs) → StandAs groups reps →
     AllZip NotAbove reps new → grouped (read_back new groups) gs ≡ spread_groups (cut_up groups gs) new
 spread_read [] [] [] gs stood lower = refl
 spread_read [] [] (n ∷ new) gs stood lower = absurd lower
 spread_read (group ∷ groups) (g ∷ reps) [] gs stood lower = absurd lower
 spread_read (group ∷ groups) (g ∷ reps) (n ∷ new) gs stood lower =
     let (one, more) = heads g.cluster group.cluster (map (λ (g : Glyph). g.cluster) reps) (map (λ (group :
-    Group). group.cluster) groups) stood in
+    ClusterGroup). group.cluster) groups) stood in
     search (arith, spread_read groups reps new (drop group.len gs) more lower.1)
 spread_read _ _ new gs stood lower = absurd (cc)
 
 -- the glyphs before a place, those of groups in their clusters
-abbrev pub groups_in_front : CarriedGroups → List Group → Glyphs → Glyphs
+abbrev pub groups_in_front : CarriedGroups → List ClusterGroup → Glyphs → Glyphs
 groups_in_front it groups gs = take it.start gs ++ grouped groups (drop it.start gs)
 
 -- A CHANGE of n glyphs, which merges none before place first or from place end on: the same of fewer glyphs, where
@@ -296,16 +296,16 @@ changed_behind first end count over before after between hs order within changes
       meant_is = cc (one.is until.0, spread_append Gs reps_new (drop count new) (omega arith), append_assoc P (spread_groups Gs reps_new) (drop count new), append_assoc (take before.start between) (grouped front D) (spread_groups Gs reps_new));
     }
   where
-    long : (groups : List Group) (gs : Glyphs) → length groups ≤ length gs →
+    long : (groups : List ClusterGroup) (gs : Glyphs) → length groups ≤ length gs →
         length (shown_groups groups gs) ≡ length gs
     long [] gs few = refl
     long (group ∷ groups) [] few = absurd (omega arith)
     long (group ∷ groups) (g ∷ gs) few = omega (arith, long groups gs (omega arith))
 
-    first_of_reps : (reps rest : Glyphs) (groups : List Group) → StandAs groups reps → 0 < length reps →
+    first_of_reps : (reps rest : Glyphs) (groups : List ClusterGroup) → StandAs groups reps → 0 < length reps →
         first_cluster (reps ++ rest) ≡ first_group_cluster groups
     first_of_reps [] rest groups stood more = absurd (omega arith)
     first_of_reps (g ∷ reps) rest [] stood more = absurd (cc)
     first_of_reps (g ∷ reps) rest (group ∷ groups) stood more =
         (heads g.cluster group.cluster (map (λ (g : Glyph). g.cluster) reps)
-        (map (λ (group : Group). group.cluster) groups) stood).0
+        (map (λ (group : ClusterGroup). group.cluster) groups) stood).0

@@ -8,7 +8,7 @@ use Rattle.shapers_buffer.specs.Glyph.{order_view, plain}
 use Rattle.shapers_buffer.proofs.ClusterLemmas.{length-stretch}
 use Rattle.shapers_clusters.specs.CarriedGroups.{AreCarried, AreShown, CanSettle, GroupsGuarded, GroupsSettled, LeastIn, fallen_groups, grouped, len_of, taken_back, with_groups, with_list}
 use Rattle.shapers_clusters.specs.declared.carried_groups.CarriedGroups.{CarriedGroups}
-use Rattle.shapers_clusters.specs.declared.carried_groups.Group.{Group}
+use Rattle.shapers_buffer.specs.declared.buffer.group_room.ClusterGroup.{ClusterGroup}
 use Rattle.shapers_clusters.proofs.FloodsBack.{Change}
 use Rattle.shapers_clusters.proofs.GroupWalk.{len_of-append, len_of-read, none_carried, none_written}
 use Rattle.shapers_clusters.proofs.GuardedGroups.{ChangesBehind, changed_behind, groups_in_front}
@@ -18,12 +18,12 @@ plain-all : (m : ℕ) (gs : Glyphs) → map plain (map (in_cluster m) gs) ≡ ma
 plain-all m [] = refl
 plain-all m (g ∷ gs) = search (arith, plain-all m gs)
 
-plain-grouped : (groups : List Group) (gs : Glyphs) →
+plain-grouped : (groups : List ClusterGroup) (gs : Glyphs) →
     map plain (grouped groups gs) ≡ map plain (take (len_of groups) gs)
 plain-grouped [] gs = refl
 plain-grouped (group ∷ groups) gs = search (map-append, plain-all, take-add, plain-grouped groups (drop group.len gs))
 
-grouped_front : (groups : List Group) (xs ys : Glyphs) → len_of groups ≤ length xs →
+grouped_front : (groups : List ClusterGroup) (xs ys : Glyphs) → len_of groups ≤ length xs →
     grouped groups (xs ++ ys) ≡ grouped groups xs
 grouped_front [] xs ys within = refl
 grouped_front (group ∷ groups) xs ys within = search (
@@ -33,7 +33,7 @@ grouped_front (group ∷ groups) xs ys within = search (
   grouped_front groups (drop group.len xs) ys (omega (arith, length-drop group.len xs)),
 )
 
-least_other : (groups : List Group) (xs ys zs : Glyphs) → len_of groups ≤ length xs →
+least_other : (groups : List ClusterGroup) (xs ys zs : Glyphs) → len_of groups ≤ length xs →
     LeastIn groups (xs ++ ys) → LeastIn groups (xs ++ zs)
 least_other [] xs ys zs within all = tt
 least_other (group ∷ groups) xs ys zs within all = search (
@@ -45,11 +45,11 @@ least_other (group ∷ groups) xs ys zs within all = search (
 )
 
 -- the first part in the clusters of groups
-pub front_view : (it : CarriedGroups) (groups : List Group) (gs : Glyphs) →
+pub front_view : (it : CarriedGroups) (groups : List ClusterGroup) (gs : Glyphs) →
     it.start + len_of groups ≡ it.end → map plain (groups_in_front it groups gs) ≡ take it.end (map plain gs)
 front_view = search (arith, map-append, plain-grouped, take-add, take-map)
 
-list_is : (it : CarriedGroups) (groups : List Group) (gs : Glyphs) →
+list_is : (it : CarriedGroups) (groups : List ClusterGroup) (gs : Glyphs) →
     with_list it groups gs ≡ groups_in_front it groups gs ++ drop it.end gs
 list_is = search append_assoc
 

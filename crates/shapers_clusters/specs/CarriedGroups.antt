@@ -5,7 +5,7 @@ use Rattle.shapers_buffer.specs.ClusterRuns.{none_below}
 use Rattle.shapers_buffer.specs.Clusters.{first_cluster, in_cluster, last_cluster, least, stretch_of}
 use Rattle.shapers_buffer.specs.Glyph.{clusters, default_glyph, order_view}
 use Rattle.shapers_clusters.specs.declared.carried_groups.CarriedGroups.{CarriedGroups}
-use Rattle.shapers_clusters.specs.declared.carried_groups.Group.{Group}
+use Rattle.shapers_buffer.specs.declared.buffer.group_room.ClusterGroup.{ClusterGroup}
 
 -- the last of these glyphs, if there is one, has a cluster above c
 abbrev pub EndsAbove : ℕ → Glyphs → Type 0
@@ -38,24 +38,24 @@ StopsBefore before gs new =
     EndsAbove (first_cluster gs) before ⊎ (first_cluster new ≡ first_cluster gs)
 
 -- how many glyphs these groups have
-abbrev pub len_of : List Group → ℕ
+abbrev pub len_of : List ClusterGroup → ℕ
 len_of [] = 0
 len_of (group ∷ groups) = group.len + len_of groups
 
 -- the glyphs of these groups, which open the list, each in the cluster of its group
-abbrev pub grouped : List Group → Glyphs → Glyphs
+abbrev pub grouped : List ClusterGroup → Glyphs → Glyphs
 grouped [] gs = []
 grouped (group ∷ groups) gs =
     map (in_cluster group.cluster) (take group.len gs) ++ grouped groups (drop group.len gs)
 
 -- none is empty, and in none has a glyph a cluster below its own
-abbrev pub LeastIn : List Group → Glyphs → Type 0
+abbrev pub LeastIn : List ClusterGroup → Glyphs → Type 0
 LeastIn [] gs = Unit {0}
 LeastIn (group ∷ groups) gs = ((0 < group.len)
     × (none_below group.cluster (take group.len gs) ≡ true)) × LeastIn groups (drop group.len gs)
 
 -- the glyphs, with those of each group in its cluster
-abbrev pub with_list : CarriedGroups → List Group → Glyphs → Glyphs
+abbrev pub with_list : CarriedGroups → List ClusterGroup → Glyphs → Glyphs
 with_list it groups gs =
     take it.start gs ++ (grouped groups (drop it.start gs) ++ drop it.end gs)
 
@@ -76,26 +76,26 @@ pub record StillSame (it : CarriedGroups) (gs : Glyphs) (after : CarriedGroups)
   pub same_length : length hs ≡ length gs
 
 -- glyphs in the clusters of groups, one for each
-abbrev pub shown_groups : List Group → Glyphs → Glyphs
+abbrev pub shown_groups : List ClusterGroup → Glyphs → Glyphs
 shown_groups [] gs = gs
 shown_groups (group ∷ groups) [] = []
 shown_groups (group ∷ groups) (g ∷ gs) =
     record g { cluster = group.cluster } ∷ shown_groups groups gs
 
 -- groups in the clusters of glyphs, if those are lower
-abbrev pub read_back : Glyphs → List Group → List Group
+abbrev pub read_back : Glyphs → List ClusterGroup → List ClusterGroup
 read_back [] groups = groups
 read_back (g ∷ gs) [] = []
 read_back (g ∷ gs) (group ∷ groups) =
     record group { cluster = min group.cluster g.cluster } ∷ read_back gs groups
 
 -- the cluster of the first group
-abbrev pub first_group_cluster : List Group → ℕ
+abbrev pub first_group_cluster : List ClusterGroup → ℕ
 first_group_cluster [] = 0
 first_group_cluster (group ∷ groups) = group.cluster
 
 -- the last groups, so many
-abbrev pub last_groups : ℕ → CarriedGroups → List Group
+abbrev pub last_groups : ℕ → CarriedGroups → List ClusterGroup
 last_groups count it = drop (length it.groups.items - count) it.groups.items
 
 -- What stands before the groups ends in a cluster above that of the first one; and there is one
@@ -140,7 +140,7 @@ abbrev pub taken_back : ℕ → CarriedGroups → Glyphs → Glyphs
 taken_back count it gs = take (it.end - count - 1) gs ++ (it.kept.items ++ drop it.end gs)
 
 -- the last groups in the clusters of the glyphs that stand for them
-abbrev pub fallen_groups : ℕ → CarriedGroups → Glyphs → List Group
+abbrev pub fallen_groups : ℕ → CarriedGroups → Glyphs → List ClusterGroup
 fallen_groups count it gs = take (length it.groups.items - count) it.groups.items
     ++ read_back (stretch_of (it.end - count) it.end gs) (last_groups count it)
 
@@ -170,12 +170,12 @@ put_before (suc place) cluster gs =
     slice_set gs place (record g { cluster = cluster })
 
 -- the last two groups as one, in the cluster of the first of them
-abbrev pub no_group : Group
+abbrev pub no_group : ClusterGroup
 no_group = record { len = 0; cluster = 0 }
 
-abbrev pub joined_end : List Group → List Group
+abbrev pub joined_end : List ClusterGroup → List ClusterGroup
 joined_end groups =
     let n = length groups in
-    let one : Group = get_or groups (n - 2) no_group in
-    let other : Group = get_or groups (n - 1) no_group in
+    let one : ClusterGroup = get_or groups (n - 2) no_group in
+    let other : ClusterGroup = get_or groups (n - 1) no_group in
     take (n - 2) groups ++ record one { len = one.len + other.len } ∷ []

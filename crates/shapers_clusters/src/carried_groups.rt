@@ -4,16 +4,10 @@ ghost use Rattle.std.specs.Prelude.{◌≡◌, ◌<◌, ◌≤◌, ◌+◌, ◌-
 ghost use Rattle.shapers_buffer.specs.Clusters.{in_cluster, with_stretch};
 ghost use Rattle.shapers_clusters.specs.CarriedGroups.{AreCarried, AreShown, CanSettle, GroupsApart, GroupsGuarded, GroupsSettled, StillSame, first_group_cluster, grouped, joined_end, len_of, no_group, put_before, read_back, shown_groups, with_groups};
 
-use crate::into_cluster::IntoCluster;
-use shapers_buffer::buffer::{change_each_in, hb_glyph_info_t, least_cluster};
+use shapers_buffer::buffer::{
+    ClusterGroup, GroupRoom, change_each_by_in, hb_glyph_info_t, least_cluster, put_into_cluster,
+};
 use std::alloc::{AllocError, Global};
-
-/// Glyphs that stand together in one cluster, which only the group has.
-#[derive(Clone, Copy, Debug)]
-pub struct Group {
-    len: usize,
-    cluster: u32,
-}
 
 /// Groups of glyphs, one behind the other, up to the place where merges go on. The clusters rise
 /// from each group to the next one: a group before one of a lower cluster can't be flooded from
@@ -22,23 +16,45 @@ pub struct Group {
 pub struct CarriedGroups {
     start: usize,
     end: usize,
-    groups: Vec<Group>,
+    groups: Vec<ClusterGroup>,
     kept: Vec<hb_glyph_info_t>,
 }
 
 impl CarriedGroups {
-    /// No groups.
+    /// No groups, and no room for any.
     #[inline]
     pub fn new(alloc: Global) -> Self
         ensures start { result.start ≡ 0 }
         ensures end { result.end ≡ 0 }
         ensures none { result.groups.items ≡ [] }
     {
+        CarriedGroups::with_room(GroupRoom::new(alloc))
+    }
+
+    /// No groups, with room that a buffer lends. Where it is enough for the text, carrying takes no
+    /// memory.
+    #[inline]
+    pub fn with_room(room: GroupRoom) -> Self
+        ensures start { result.start ≡ 0 }
+        ensures end { result.end ≡ 0 }
+        ensures none { result.groups.items ≡ [] }
+    {
+        let mut groups = room.groups;
+        groups.clear();
         CarriedGroups {
             start: 0,
             end: 0,
-            groups: Vec::new(alloc),
-            kept: Vec::new(alloc),
+            groups,
+            kept: room.glyphs,
+        }
+    }
+
+    /// The room, for the buffer that lent it.
+    #[inline]
+    pub fn into_room(self) -> GroupRoom {
+        GroupRoom {
+            groups: self.groups,
+            glyphs: self.kept,
         }
     }
 
@@ -149,7 +165,7 @@ impl CarriedGroups {
 
     // A group.
     #[inline]
-    fn group(&self, index: usize) -> Group
+    fn group(&self, index: usize) -> ClusterGroup
         requires { index < length self.now.groups.items }
         ensures { result ≡ get_or self.now.groups.items index no_group }
     {
@@ -189,7 +205,7 @@ impl CarriedGroups {
         ensures err { OnErr result (self.new.end ≡ self.old.end) }
         ensures same_length { length glyphs.new ≡ length glyphs.old }
     {
-        let group = Group {
+        let group = ClusterGroup {
             len: 1,
             cluster: glyphs[self.end].cluster,
         };
@@ -264,7 +280,7 @@ impl CarriedGroups {
 
     // The groups from one on.
     #[inline]
-    fn groups_from(&self, index: usize) -> &[Group]
+    fn groups_from(&self, index: usize) -> &[ClusterGroup]
         requires { index ≤ length self.now.groups.items }
         ensures { result.now ≡ drop index self.now.groups.items }
     {
@@ -309,7 +325,7 @@ impl CarriedGroups {
         let last = self.group(count - 1);
         let before = self.group(count - 2);
         self.groups.truncate(count - 1);
-        self.groups[count - 2] = Group {
+        self.groups[count - 2] = ClusterGroup {
             len: before.len + last.len,
             ..before
         };
@@ -336,7 +352,7 @@ impl CarriedGroups {
 
 // Puts the glyphs of groups, which begin at a place, into their clusters.
 #[inline]
-fn write_groups(groups: &[Group], glyphs: &mut [hb_glyph_info_t], start: usize)
+fn write_groups(groups: &[ClusterGroup], glyphs: &mut [hb_glyph_info_t], start: usize)
     requires { start + len_of groups.now ≤ length glyphs.old }
     ensures { let put = grouped groups.now (drop start glyphs.old) in
         glyphs.new ≡ take start glyphs.old
@@ -357,7 +373,10 @@ fn put_into(glyphs: &mut [hb_glyph_info_t], place: usize, end: usize, cluster: u
     requires in_range { end ≤ length glyphs.old }
     ensures { glyphs.new ≡ with_stretch place end (map (in_cluster cluster)) glyphs.old }
 {
-    change_each_in(&mut glyphs[place..end], &IntoCluster(cluster));
+    change_each_by_in(
+        &mut glyphs[place..end],
+        |glyph| put_into_cluster(glyph, cluster),
+    );
 }
 
 // Puts other glyphs into a stretch.
@@ -384,7 +403,7 @@ fn put_before(glyphs: &mut [hb_glyph_info_t], place: usize, cluster: u32)
 
 // Lets glyphs stand for groups, one for each.
 #[inline]
-fn show_groups(groups: &[Group], glyphs: &mut [hb_glyph_info_t])
+fn show_groups(groups: &[ClusterGroup], glyphs: &mut [hb_glyph_info_t])
     requires { length groups.now ≤ length glyphs.old }
     ensures { glyphs.new ≡ shown_groups groups.now glyphs.old }
 {
@@ -395,7 +414,7 @@ fn show_groups(groups: &[Group], glyphs: &mut [hb_glyph_info_t])
 
 // Puts groups into the clusters of glyphs, unless these are above their own.
 #[inline]
-fn read_groups(glyphs: &[hb_glyph_info_t], groups: &mut [Group])
+fn read_groups(glyphs: &[hb_glyph_info_t], groups: &mut [ClusterGroup])
     requires { length glyphs.now ≡ length groups.old }
     ensures { groups.new ≡ read_back glyphs.now groups.old }
 {

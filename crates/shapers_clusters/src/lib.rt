@@ -8,7 +8,6 @@ ghost use Rattle.shapers_clusters.specs.Laws.{ViewLaw, FlagCallsLaw, MergeLaw, E
 
 pub mod carried_groups;
 pub mod floods;
-pub mod into_cluster;
 
 /// Merges leave the order view; the three flag calls change nothing but glyph flags.
 pub fn view_law()

@@ -8,9 +8,11 @@ use Rattle.shapers_arabic.specs.Marks.{behind, front_of, has_lower_class, in_cla
 use Rattle.shapers_arabic.proofs.MarkLists.{split-joined}
 use Rattle.shapers_buffer.specs.Glyphs.{Glyph, Glyphs}
 use Rattle.shapers_buffer.specs.declared.buffer.modified_combining_class.TheConstants.{CCC22, CCC26}
+use Rattle.shapers_buffer.specs.Properties.{modified_combining_class}
 use Rattle.shapers_buffer.proofs.MappedLists.{all-append, map-hidden}
 use Rattle.shapers_normal.specs.Context.{Context}
 use Rattle.shapers_normal.specs.Sorting.{class_of}
+use Rattle.shapers_normal.proofs.CharacterProperties.{class_counted}
 use Rattle.shapers_normalize.proofs.ArabicAlone.{sum_joined}
 use Rattle.shapers_equivalence.specs.Equivalence.{SameButForOrder}
 use Rattle.shapers_equivalence.specs.Laws.{mark_class}
@@ -63,15 +65,16 @@ modifiers_in : (context : Context) (a : ℕ) (gs : Glyphs) → AreMarks context 
     → InClass context a gs
 modifiers_in context a [] marks all = tt
 modifiers_in context a (g ∷ gs) marks all =
-    let parts = and_parts (eqb (class_of g) a) (list_any (λ c. eqb c g.glyph_id) modifiers) all.0 in
-    let is : class_of g ≡ a = eqb-true (class_of g) a parts.0 in
+    let class = modified_combining_class g.unicode_props in
+    let parts = and_parts (eqb class a) (list_any (λ c. eqb c g.glyph_id) modifiers) all.0 in
+    let is : class_of g ≡ a = sym (class_counted g marks.0.1) ∙ eqb-true class a parts.0 in
     ((marks.0, is), modifiers_in context a gs marks.1 all.1)
 
 lower_out : (context : Context) (high a : ℕ) (gs : Glyphs) → high ≤ a → AreMarks context gs
     → Passing (has_lower_class high) gs → OtherMarks context a gs
 lower_out context high a [] least marks all = tt
 lower_out context high a (g ∷ gs) least marks all =
-    let test : nat_lt (class_of g) high ≡ true = all.0 in
+    let test : nat_lt (class_of g) high ≡ true = subst (λ c. nat_lt c high ≡ true) (class_counted g marks.0.1) all.0 in
     let less : class_of g < high = grind (arith, nat_tests) in
     ((marks.0, λ e. absurd (omega arith)), lower_out context high a gs least marks.1 all.1)
 

@@ -14,6 +14,7 @@ use Rattle.shapers_buffer.specs.Glyph.{characters, default_glyph}
 use Rattle.shapers_normal.specs.Context.{Context}
 use Rattle.shapers_normal.specs.Normalization.{normalized}
 use Rattle.shapers_normal.specs.Properties.{as_character}
+use Rattle.shapers_normal.specs.Sorting.{class_of_mark}
 use Rattle.shapers_normal.specs.declared.ot_shape_normalize.normalizing.Rounds.TheVariants.{Always}
 use Rattle.shapers_normalize.specs.ByShaper.{ordered_for}
 use Rattle.shapers_equivalence.specs.Equivalence.{apart_in_steps, full_decomposition, fully_decomposed, ordered_by_classes, with_marks_of}
@@ -137,22 +138,22 @@ abbrev normal : List ℕ → List ℕ
 normal cs = characters (normalized whole Always MonotoneGraphemes (text cs))
 
 classes_of_marks : map (mark_class whole) (0x41 ∷ 0x301 ∷ 0x323 ∷ 0x9BE ∷ []) ≡ 0 ∷ 230 ∷ 220 ∷ 0 ∷ []
-unfolding general_category modified_combining_class
+unfolding general_category class_of_mark
 classes_of_marks = refl
 
 -- a run of 32 marks is short, one of 33 isn't
 short_runs : map (λ n. has_short_runs (text (0x41 ∷ replicate n 0x316))) (32 ∷ 33 ∷ []) ≡ true ∷ false ∷ []
-unfolding general_category modified_combining_class
+unfolding general_category class_of_mark
 short_runs = refl
 
 -- 33 marks stay unsorted, and the last of them composes over one of its class
 unsorted : normal (0x41 ∷ 0x305 ∷ (replicate 31 0x316 ++ 0x301 ∷ [])) ≡ 0xC1 ∷ 0x305 ∷ replicate 31 0x316
-unfolding general_category modified_combining_class
+unfolding general_category class_of_mark
 unsorted = refl
 
 sorted_run : normal (0x41 ∷ 0x305 ∷ (replicate 30 0x316 ++ 0x301 ∷ [])) ≡ 0x41 ∷
     (replicate 30 0x316 ++ 0x305 ∷ 0x301 ∷ [])
-unfolding general_category modified_combining_class
+unfolding general_category class_of_mark
 sorted_run = refl
 
 -- ---- shapers with an order of their own
@@ -166,25 +167,25 @@ normal_by shaper cs = characters (normalized (ordering shaper) Always MonotoneGr
 -- a modifier takes a class of its own, and the mark behind it, of its class by Unicode, composes over
 -- it; without the third round both stay in order
 over_modifier : normal_by Arabic (0x627 ∷ 0x658 ∷ 0x653 ∷ []) ≡ 0x622 ∷ 0x658 ∷ []
-unfolding general_category modified_combining_class
+unfolding general_category modified_combining_class class_of_mark
 over_modifier = refl
 
 blocked_by_modifier : normal (0x627 ∷ 0x658 ∷ 0x653 ∷ []) ≡ 0x627 ∷ 0x658 ∷ 0x653 ∷ []
-unfolding general_category modified_combining_class
+unfolding general_category class_of_mark
 blocked_by_modifier = refl
 
 -- a modifier passes a mark of a lesser class
 modifier_first : normal_by Arabic (0x628 ∷ 0x64E ∷ 0x654 ∷ []) ≡ 0x628 ∷ 0x654 ∷ 0x64E ∷ []
-unfolding general_category modified_combining_class
+unfolding general_category modified_combining_class class_of_mark
 modifier_first = refl
 
 -- behind a sheva that meteg or a mark below passes stands a mark of that one's class, which composes
 over_swapped : normal_by Hebrew (0x61 ∷ 0x5B7 ∷ 0x5B0 ∷ 0x316 ∷ 0x323 ∷ []) ≡ 0x1EA1 ∷ 0x5B7 ∷ 0x316 ∷ 0x5B0 ∷ []
-unfolding general_category modified_combining_class
+unfolding general_category modified_combining_class class_of_mark
 over_swapped = refl
 
 blocked_below : normal (0x61 ∷ 0x5B7 ∷ 0x5B0 ∷ 0x316 ∷ 0x323 ∷ []) ≡ 0x61 ∷ 0x5B7 ∷ 0x5B0 ∷ 0x316 ∷ 0x323 ∷ []
-unfolding general_category modified_combining_class
+unfolding general_category class_of_mark
 blocked_below = refl
 
 -- ---- without the other premises
@@ -195,7 +196,7 @@ in_class_220 g = record g { unicode_props = with_high_byte 220 g.unicode_props }
 
 other_class : characters (normalized whole Always MonotoneGraphemes
     (text (0x41 ∷ []) ++ (map in_class_220 (text (0x305 ∷ [])) ++ text (0x301 ∷ [])))) ≡ 0xC1 ∷ 0x305 ∷ []
-unfolding general_category modified_combining_class
+unfolding general_category class_of_mark
 other_class = refl
 
 -- a character and a selector of which the font has the form
@@ -203,7 +204,7 @@ abbrev with_forms : Context
 with_forms = record whole { variant = λ c selector. let glyph : GlyphId = record { 0 = 7 } in Some glyph }
 
 one_form : characters (normalized with_forms Always MonotoneGraphemes (text (0x61 ∷ 0xFE01 ∷ []))) ≡ 0x61 ∷ []
-unfolding general_category modified_combining_class
+unfolding general_category class_of_mark
 one_form = refl
 
 -- a split vowel of Khmer
@@ -211,7 +212,7 @@ abbrev splitting : Context
 splitting = record whole { mode = CD; decomposed = λ c. if c == 0x17BE then Some (0x17C1, c) else None }
 
 split_vowel : characters (normalized splitting Always MonotoneGraphemes (text (0x17BE ∷ []))) ≡ 0x17C1 ∷ 0x17BE ∷ []
-unfolding general_category modified_combining_class
+unfolding general_category class_of_mark
 split_vowel = refl
 
 -- ---- twice
@@ -224,16 +225,16 @@ without_note = record whole {
 }
 
 once : characters (normalized without_note Always MonotoneGraphemes (text (0x1D164 ∷ []))) ≡ 0x1D15F ∷ 0x1D172 ∷ []
-unfolding general_category modified_combining_class
+unfolding general_category class_of_mark
 once = refl
 
 again : characters (normalized without_note Always MonotoneGraphemes (text (0x1D15F ∷ 0x1D172 ∷ [])))
     ≡ 0x1D158 ∷ 0x1D165 ∷ 0x1D172 ∷ []
-unfolding general_category modified_combining_class
+unfolding general_category class_of_mark
 again = refl
 
 -- a text that is apart, in order, stays so for a shaper that composes nothing
 apart_stays : characters (normalized (record whole { mode = NONE }) Always MonotoneGraphemes
     (text (0x41 ∷ 0x316 ∷ 0x301 ∷ []))) ≡ 0x41 ∷ 0x316 ∷ 0x301 ∷ []
-unfolding general_category modified_combining_class
+unfolding general_category class_of_mark
 apart_stays = refl

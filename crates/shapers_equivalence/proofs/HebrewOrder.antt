@@ -11,9 +11,11 @@ use Rattle.shapers_buffer.specs.Glyphs.{Glyph, Glyphs}
 use Rattle.shapers_buffer.specs.declared.buffer.level.BufferClusterLevel.{BufferClusterLevel}
 use Rattle.shapers_buffer.specs.Clusters.{stretch_of, with_stretch}
 use Rattle.shapers_buffer.specs.Glyph.{order_view, plain}
+use Rattle.shapers_buffer.specs.Properties.{modified_combining_class}
 use Rattle.shapers_clusters.specs.Steps.{run_step}
 use Rattle.shapers_normal.specs.Context.{Context}
 use Rattle.shapers_normal.specs.Sorting.{class_of}
+use Rattle.shapers_normal.proofs.CharacterProperties.{class_counted}
 use Rattle.shapers_normalize.proofs.HebrewAlone.{within}
 use Rattle.shapers_text.specs.Hebrew.{hebrew_mark_step, is_meteg_or_below, is_patah_or_qamats, is_sheva_or_hiriq, opens_triple, triple_place}
 use Rattle.shapers_text.proofs.HebrewLemmas.{marks_view, swapped}
@@ -187,11 +189,13 @@ triple_same context full t front a b c rest marks opens =
     let own = (marks_parts context front (a ∷ (b ∷ (c ∷ rest))) marks).1 in
     let mb = own.1.0 in
     let mc = own.1.1.0 in
-    let parts = and_parts (is_patah_or_qamats (class_of a) && is_sheva_or_hiriq
-    (class_of b)) (is_meteg_or_below (class_of c)) opens in
-    let second = (and_parts (is_patah_or_qamats (class_of a))
-    (is_sheva_or_hiriq (class_of b)) parts.0).1 in
-    let other = differ (class_of b) (class_of c) second parts.1 in
+    let first = modified_combining_class a.unicode_props in
+    let second = modified_combining_class b.unicode_props in
+    let third = modified_combining_class c.unicode_props in
+    let parts = and_parts (is_patah_or_qamats first && is_sheva_or_hiriq second) (is_meteg_or_below third) opens in
+    let sheva = (and_parts (is_patah_or_qamats first) (is_sheva_or_hiriq second) parts.0).1 in
+    let other : class_of b ≢ class_of c = λ e. differ second third sheva parts.1
+    (class_counted b mb.1 ∙ e ∙ sym (class_counted c mc.1)) in
     let fb = full b.glyph_id in
     let fc = full c.glyph_id in
     let r = apart_text full rest in

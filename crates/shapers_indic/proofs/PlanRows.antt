@@ -6,6 +6,7 @@ use Rattle.shapers_buffer.specs.declared.buffer.tag.hb_tag_t.{hb_tag_t}
 use Rattle.shapers_base.specs.Map.{Map}
 use Rattle.shapers_base.specs.declared.map.feature_map_t.{feature_map_t}
 use Rattle.shapers_base.specs.declared.plan.indic.BaseSearch.TheVariants.{WithoutMedials, AllConsonants}
+use Rattle.shapers_base.specs.declared.plan.indic.ZeroContext.TheVariants.{NewSpec, OldSpec}
 use Rattle.shapers_base.specs.declared.plan.indic.BlwfMode.TheVariants.{PreAndPost, PostOnly}
 use Rattle.shapers_base.specs.declared.plan.indic.IndicConfig.{IndicConfig}
 use Rattle.shapers_base.specs.declared.plan.indic.RephMode.TheVariants.{Implicit, Explicit, LogRepha}
@@ -82,13 +83,24 @@ unknown_script : has_old_spec None (map_with [] None) ≡ false
 unknown_script = refl
 
 -- contexts are left out in the older specification, but for Malayalam
-old_contexts : map (λ t. zero_context (script t) (map_with [] None)) tags ≡ true ∷ true ∷ true ∷ true ∷ true ∷ true
+old_contexts : map (λ t. zero_context OldSpec (script t) (map_with [] None)) tags ≡ true ∷ true ∷ true ∷ true ∷ true ∷ true
     ∷ true ∷ true ∷ false ∷ false ∷ false ∷ []
 old_contexts = refl
 
-new_contexts : zero_context (script "Deva") (chosen "dev2") ∷ zero_context (script "Mlym") (chosen "mlm2") ∷ []
-    ≡ false ∷ false ∷ []
+new_contexts : zero_context OldSpec (script "Deva") (chosen "dev2")
+    ∷ zero_context OldSpec (script "Mlym") (chosen "mlm2") ∷ [] ≡ false ∷ false ∷ []
 new_contexts = refl
+
+-- or in the newer one, and of scripts that have but one; for Malayalam not in it either
+newer_contexts : map (λ t. zero_context NewSpec (script t) (map_with [] None)) tags ≡ false ∷ false ∷ false ∷ false
+    ∷ false ∷ false ∷ false ∷ false ∷ false ∷ true ∷ true ∷ []
+newer_contexts = refl
+
+chosen_contexts : zero_context NewSpec (script "Deva") (chosen "dev2")
+    ∷ zero_context NewSpec (script "Deva") (chosen "deva") ∷ zero_context NewSpec (script "Mlym") (chosen "mlm2")
+    ∷ zero_context NewSpec (script "Mlym") (chosen "mlym") ∷ zero_context NewSpec (script "Sinh") (chosen "sinh") ∷ []
+    ≡ true ∷ false ∷ false ∷ false ∷ true ∷ []
+chosen_contexts = refl
 
 -- every feature of the shaper has a mask in the font; those of the whole text get none
 abbrev all_features : List feature_map_t
@@ -105,7 +117,7 @@ no_masks : feature_masks (map_with [] None) ≡ 0 ∷ 0 ∷ 0 ∷ 0 ∷ 0 ∷ 0 
 no_masks = refl
 
 -- the whole plan: each question about the lookups of its own stage, with the plan's context
-whole_plan : indic_plan AllConsonants (script "Beng")
+whole_plan : indic_plan AllConsonants OldSpec (script "Beng")
     (map_with (feature "rphf" 8 0 ∷ feature "blwf" 16 1 ∷ feature "vatu" 32 0 ∷ feature "half" 64 1 ∷ [])
     (Some (record { 0 = codes "beng" })))
     ≡ record {
@@ -130,9 +142,10 @@ whole_plan : indic_plan AllConsonants (script "Beng")
 whole_plan = refl
 
 -- the caller's choice is kept, and nothing else depends on it
-each_search : (t : String) (m : Map) → record (indic_plan WithoutMedials (script t) m) { base_search = AllConsonants }
-    ≡ indic_plan AllConsonants (script t) m
+each_search : (t : String) (m : Map) →
+    record (indic_plan WithoutMedials OldSpec (script t) m) { base_search = AllConsonants }
+    ≡ indic_plan AllConsonants OldSpec (script t) m
 each_search t m = refl
 
-other_search : (t : String) (m : Map) → (indic_plan WithoutMedials (script t) m).base_search ≡ WithoutMedials
+other_search : (t : String) (m : Map) → (indic_plan WithoutMedials OldSpec (script t) m).base_search ≡ WithoutMedials
 other_search t m = refl

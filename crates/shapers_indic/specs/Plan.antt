@@ -12,6 +12,8 @@ use Rattle.shapers_base.specs.declared.plan.PlanData.{PlanData}
 use Rattle.shapers_base.specs.declared.plan.hb_ot_shape_plan_t.{hb_ot_shape_plan_t}
 use Rattle.shapers_base.specs.declared.plan.PlanData.TheVariants.{Indic}
 use Rattle.shapers_base.specs.declared.plan.indic.BaseSearch.{BaseSearch}
+use Rattle.shapers_base.specs.declared.plan.indic.ZeroContext.{ZeroContext}
+use Rattle.shapers_base.specs.declared.plan.indic.ZeroContext.TheVariants.{OldSpec, NewSpec}
 use Rattle.shapers_base.specs.declared.plan.indic.BlwfMode.{BlwfMode}
 use Rattle.shapers_base.specs.declared.plan.indic.BlwfMode.TheVariants.{PreAndPost, PostOnly}
 use Rattle.shapers_base.specs.declared.plan.indic.IndicConfig.{IndicConfig}
@@ -83,10 +85,15 @@ is_old_script (Some tag) = not (slice_index tag.0 3 == 0x32)
 abbrev pub has_old_spec : Option Script → Map → Bool
 has_old_spec script m = (config_of script).has_old_spec && is_old_script m.chosen
 
--- whether questions to the font leave contexts out: in the older specification, but for Malayalam
-abbrev pub zero_context : Option Script → Map → Bool
-zero_context script m =
-    has_old_spec script m && not (is_script script (Some (record { 0 = codes "Mlym" })))
+-- Malayalam, whose rules may need context by both specifications, as Uniscribe has it
+abbrev pub is_malayalam : Option Script → Bool
+is_malayalam script = is_script script (Some (record { 0 = codes "Mlym" }))
+
+-- whether questions to the font leave contexts out: in the older specification, as in rustybuzz, or
+-- in the newer one, as in HarfBuzz; for Malayalam never
+abbrev pub zero_context : ZeroContext → Option Script → Map → Bool
+zero_context OldSpec script m = has_old_spec script m && not (is_malayalam script)
+zero_context NewSpec script m = not (has_old_spec script m) && not (is_malayalam script)
 
 -- the mask of a feature, none for one that holds for the whole text
 abbrev pub mask_for : Map → Request → ℕ
@@ -98,20 +105,21 @@ abbrev pub feature_masks : Map → List ℕ
 feature_masks m = map (mask_for m) (indic_basic_features ++ other_features)
 
 -- a question of the plan
-abbrev pub question : Option Script → Map → String → IndicWouldSubstituteFeature
-question script m tag = question_for (record { 0 = codes tag }) (zero_context script m) m
+abbrev pub question : Bool → Map → String → IndicWouldSubstituteFeature
+question alone m tag = question_for (record { 0 = codes tag }) alone m
 
--- the plan; the caller says among which consonants the base is looked for
-abbrev pub indic_plan : BaseSearch → Option Script → Map → indic_shape_plan_t
-indic_plan search script m = record {
+-- the plan; the caller says among which consonants the base is looked for, and where questions
+-- leave contexts out
+abbrev pub indic_plan : BaseSearch → ZeroContext → Option Script → Map → indic_shape_plan_t
+indic_plan search context script m = record {
   config = config_of script;
   is_old_spec = has_old_spec script m;
   base_search = search;
-  rphf = question script m "rphf";
-  pref = question script m "pref";
-  blwf = question script m "blwf";
-  pstf = question script m "pstf";
-  vatu = question script m "vatu";
+  rphf = question (zero_context context script m) m "rphf";
+  pref = question (zero_context context script m) m "pref";
+  blwf = question (zero_context context script m) m "blwf";
+  pstf = question (zero_context context script m) m "pstf";
+  vatu = question (zero_context context script m) m "vatu";
   mask_array = feature_masks m;
 }
 
@@ -126,7 +134,9 @@ indic_data otherwise (Indic kept) = kept
 indic_data otherwise _ = otherwise
 
 abbrev pub indic_in : hb_ot_shape_plan_t → indic_shape_plan_t
-indic_in plan = indic_data (indic_plan plan.base_search plan.script plan.ot_map) plan.plan_data
+indic_in plan =
+    let otherwise = indic_plan plan.base_search plan.zero_context plan.script plan.ot_map in
+    indic_data otherwise plan.plan_data
 
 -- the bits that a feature gives: its mask, but for the glyph flags
 abbrev pub bits_at : List ℕ → ℕ → ℕ

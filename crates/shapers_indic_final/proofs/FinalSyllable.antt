@@ -233,3 +233,33 @@ final_syllable r script s e base next tries b0 b1 b2 b3 b4 b5 viewed c last =
     syllable_as (λ gs. placed_order r script tries base next (based r script gs).glyphs) (final_order r script) (λ gs.
     [] ++ placed_steps r script tries base next (based r script gs).glyphs) (final_steps r script) s e b0 b5 means
     leads whole
+
+-- the last part either way, by steps
+pub last_part : (r : Rules) (script : Option Script) (s e next : ℕ) (tries : Bool) (b4 b5 : Buffer)
+    → ((gs : Glyphs) → Viewed r script gs) → s ≤ e
+    → b5 ≡ record b4 {
+      glyphs = run_steps b4.level
+          (map (widened s e (length b4.glyphs)) (tried_steps r script tries next (stretch_of s e b4.glyphs))) b4.glyphs;
+    } → LastPart r script s e next tries b4 b5
+last_part r script s e next true b4 b5 viewed h is =
+    last_tried r script s e next true b4 b5 viewed h refl
+    (is ∙ ap (λ ps. let y : Buffer = record b4 {
+      glyphs = run_steps b4.level (map (widened s e (length b4.glyphs))
+          (pref_steps r.pref script next (stretch_of s e b4.glyphs))) b4.glyphs;
+      places = ps;
+    } in y) (sym (ap (λ (b : Buffer). b.places) is)))
+last_part r script s e next false b4 b5 viewed h is =
+    subst (LastPart r script s e next false b4) (sym is) (last_none r script s e next false b4 h refl)
+
+-- the syllable written at last
+pub written_at_last : (meaning : Glyphs → Glyphs) (steps : Glyphs → List Step) (s e : ℕ) (b0 b5 b6 : Buffer)
+    → SyllableReordered meaning steps s e b0 b5 → but_places b6 ≡ but_places b5
+    → SyllableReordered meaning steps s e b0 b6
+written_at_last meaning steps s e b0 b5 b6 done same =
+    let g : b6.glyphs ≡ b5.glyphs = ap (λ (b : Buffer). b.glyphs) same in
+    record {
+      others = same ∙ done.others
+          ∙ ap (λ (gs : Glyphs). let y : Buffer = record (but_places b0) { glyphs = gs } in y) (sym g);
+      order = ap order_view g ∙ done.order;
+      moved = ap (map carried) g ∙ done.moved;
+    }

@@ -25,7 +25,7 @@ pub chosen-same : (t u : ℕ → Bool) (gs : Glyphs) (a b : ℕ) → ((j : ℕ) 
     → chosen t gs a b ≡ chosen u gs a b
 chosen-same = search (arith, same_filter)
 
-filter_all : (t : ℕ → Bool) (a n : ℕ) → ((j : ℕ) → a ≤ j → j < a + n → t j ≡ true) → filter t (range_with_len a n)
+pub filter_all : (t : ℕ → Bool) (a n : ℕ) → ((j : ℕ) → a ≤ j → j < a + n → t j ≡ true) → filter t (range_with_len a n)
     ≡ range_with_len a n
 filter_all t a zero h = refl
 filter_all t a (suc n) h = search (arith, filter_all t (a + 1) n (λ j l m. h j (omega arith) (omega arith)))

@@ -216,3 +216,16 @@ both_moved old mid new s e b k p h l v w holds none first rest =
     ∙ ap (λ (x : Buffer). (record x { glyphs = run_steps x.level (map W S) x.glyphs; places = new.places })) first
     ∙ ap (λ (sts : List Step). (record old { glyphs = run_steps old.level (map W sts) gs; places = new.places }))
     (sym all)
+
+-- one matra alone is one step
+pub alone_stepped : (s e b k p : ℕ) (gs : Glyphs) → k < p → s + p ≤ e → e ≤ length gs
+    → passes is_left (stretch_of s e gs) k ≡ true → lefts_from (k + 1) p (stretch_of s e gs) ≡ []
+    → list_any is_left (stretch_of s (s + k) gs) ≡ false
+    → parting_steps p b (stretch_of s e gs) ≡ matra_step (e - s) b k p ∷ []
+alone_stepped s e b k p gs h l w holds none few =
+    let part = stretch_of s e gs in
+    let only : left_places p part ≡ k ∷ [] =
+    last_left k p part h holds none ∙ ap (λ qs. k ∷ qs) (no_lefts s e k gs (omega arith) w few) in
+    ap (λ q. map (λ t. matra_step q b t.1 (p - t.0)) (enumerate_from 0 (left_places p part))) (length-stretch s e gs w)
+    ∙ ap (λ qs. map (λ t. matra_step (e - s) b t.1 (p - t.0)) (enumerate_from 0 qs)) only
+    ∙ ap (λ j. matra_step (e - s) b k j ∷ []) (omega arith)

@@ -1,3 +1,4 @@
+pub mod FinalArranged
 mod FinalBaseRows
 mod FinalClusterRows
 pub mod FinalClusters
@@ -25,6 +26,7 @@ pub mod FinalWords
 pub mod LeftMatraFloods
 pub mod LeftMatraListing
 pub mod LeftMatrasAtOnce
+pub mod LeftMatrasArranged
 pub mod LeftMatrasListed
 pub mod LeftMatraPlaces
 pub mod LeftMatraSplit

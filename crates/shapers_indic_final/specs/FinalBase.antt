@@ -14,7 +14,7 @@ use Rattle.shapers_indic.specs.Glyphs.{greatest_place, has_position, is_joiner, 
 use Rattle.shapers_indic_final.specs.FinalGlyphs.{is_formed, is_indic_halant, recovered}
 use Rattle.shapers_base.specs.Masks.{has_bits}
 use Rattle.shapers_indic_final.specs.declared.ot_shaper_indic_final.rules.Rules.{Rules}
-use Rattle.shapers_indic_final.specs.FinalRules.{is_malayalam}
+use Rattle.shapers_indic.specs.Plan.{is_malayalam}
 use Rattle.shapers_syllabic.specs.Consonants.{is_consonant}
 
 -- the first glyph whose position is the base's or one after it, else the end

@@ -5,7 +5,7 @@ use Rattle.shapers_base.specs.declared.plan.indic.indic_shape_plan_t.{indic_shap
 use Rattle.shapers_base.specs.Font.{Font}
 use Rattle.shapers_indic_final.specs.declared.ot_shaper_indic_final.rules.Rules.{Rules}
 use Rattle.shapers_indic.specs.declared.ot_shaper_indic.indic_feature.TheConstants.{INIT, PREF}
-use Rattle.shapers_indic.specs.Plan.{bits_at, is_script, virama_glyph}
+use Rattle.shapers_indic.specs.Plan.{bits_at, is_malayalam, is_script, virama_glyph}
 
 -- what is read, by a plan and a font
 abbrev pub final_rules : Font → indic_shape_plan_t → Rules
@@ -16,10 +16,7 @@ final_rules font p = record {
   init = bits_at p.mask_array INIT;
 }
 
--- the scripts without half forms or explicit viramas, and the first of them alone
-abbrev pub is_malayalam : Option Script → Bool
-is_malayalam script = is_script script (Some (record { 0 = codes "Mlym" }))
-
+-- the scripts without half forms or explicit viramas
 abbrev pub has_no_half_forms : Option Script → Bool
 has_no_half_forms script =
     is_malayalam script || is_script script (Some (record { 0 = codes "Taml" }))

@@ -10,7 +10,7 @@ use Rattle.shapers_indic.specs.Glyphs.{has_position}
 use Rattle.shapers_indic_final.specs.FinalBase.{with_final_base}
 use Rattle.shapers_indic_final.specs.FinalGlyphs.{is_lost_virama}
 use Rattle.shapers_indic_final.specs.FinalMatras.{is_left}
-use Rattle.shapers_indic_final.specs.FinalRules.{is_malayalam}
+use Rattle.shapers_indic.specs.Plan.{is_malayalam}
 
 -- what may change a syllable: a left matra, a reph, a glyph with the mask of pref, a virama that is
 -- to be recovered; in Malayalam what stands below the base, too

@@ -4,6 +4,7 @@ pub mod FinalCuts
 pub mod FinalGlyphs
 pub mod FinalLaws
 pub mod FinalMatras
+pub mod FinalMoveWalk
 pub mod FinalPref
 pub mod FinalReordering
 pub mod FinalReph

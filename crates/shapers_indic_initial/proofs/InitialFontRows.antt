@@ -14,6 +14,7 @@ use Rattle.shapers_buffer.specs.Glyph.{default_glyph}
 use Rattle.shapers_indic_initial.specs.InitialFont.{positions_by_font}
 use Rattle.shapers_indic.specs.Glyphs.{number}
 use Rattle.shapers_base.specs.declared.plan.indic.BaseSearch.TheVariants.{WithoutMedials}
+use Rattle.shapers_base.specs.declared.plan.indic.ZeroContext.TheVariants.{OldSpec}
 use Rattle.shapers_indic.specs.Plan.{indic_plan}
 
 abbrev feature : String → ℕ → feature_map_t
@@ -55,22 +56,22 @@ glyphs p = map (λ i. let g : Glyph = record default_glyph { glyph_id = i; auxil
 
 -- below by blwf or vatu, in either order of virama and consonant; else post-base by pstf or pref; else as it was
 by_font : row_positions (positions_by_font (font_with virama_alone applies) (small None)
-    (indic_plan WithoutMedials (script "Deva") (small None)) (glyphs 4))
+    (indic_plan WithoutMedials OldSpec (script "Deva") (small None)) (glyphs 4))
     ≡ 8 ∷ 8 ∷ 8 ∷ 8 ∷ 11 ∷ 11 ∷ 11 ∷ 11 ∷ 8 ∷ 4 ∷ 4 ∷ []
 by_font = refl
 
 -- other positions than BASE_C stay
 other_positions : positions_by_font (font_with virama_alone applies) (small None)
-    (indic_plan WithoutMedials (script "Deva") (small None)) (glyphs 3) ≡ glyphs 3
+    (indic_plan WithoutMedials OldSpec (script "Deva") (small None)) (glyphs 3) ≡ glyphs 3
 other_positions = refl
 
 -- a font without the virama, and a script without one
 no_glyph : positions_by_font (font_with virama_alone applies) (small None)
-    (indic_plan WithoutMedials (script "Beng") (small None)) (glyphs 4) ≡ glyphs 4
+    (indic_plan WithoutMedials OldSpec (script "Beng") (small None)) (glyphs 4) ≡ glyphs 4
 no_glyph = refl
 
 no_virama : positions_by_font (font_with all_characters applies) (small None)
-    (indic_plan WithoutMedials (script "Thai") (small None)) (glyphs 4) ≡ glyphs 4
+    (indic_plan WithoutMedials OldSpec (script "Thai") (small None)) (glyphs 4) ≡ glyphs 4
 no_virama = refl
 
 -- in the older specification contexts are left out: a lookup that asks for one doesn't count; in the newer it does
@@ -78,12 +79,12 @@ abbrev with_context : ℕ → List GlyphId → Bool → Bool
 with_context lookup ids zero = if zero then false else applies lookup ids zero
 
 old_contexts : positions_by_font (font_with virama_alone with_context) (small None)
-    (indic_plan WithoutMedials (script "Deva") (small None)) (glyphs 4) ≡ glyphs 4
+    (indic_plan WithoutMedials OldSpec (script "Deva") (small None)) (glyphs 4) ≡ glyphs 4
 old_contexts = refl
 
 new_contexts : row_positions
     (positions_by_font (font_with virama_alone with_context) (small (Some (record { 0 = codes "dev2" })))
-    (indic_plan WithoutMedials (script "Deva") (small (Some (record { 0 = codes "dev2" })))) (glyphs 4))
+    (indic_plan WithoutMedials OldSpec (script "Deva") (small (Some (record { 0 = codes "dev2" })))) (glyphs 4))
     ≡ 8 ∷ 8 ∷ 8 ∷ 8 ∷ 11 ∷ 11 ∷ 11 ∷ 11 ∷ 8 ∷ 4 ∷ 4 ∷ []
 new_contexts = refl
 

@@ -13,6 +13,7 @@ use Rattle.shapers_indic_initial.specs.InitialPause.{initial_refusal, with_posit
 use Rattle.shapers_indic_initial.specs.InitialReordering.{initial_order}
 use Rattle.shapers_indic_initial.specs.InitialRules.{initial_rules}
 use Rattle.shapers_base.specs.declared.plan.indic.BaseSearch.TheVariants.{WithoutMedials}
+use Rattle.shapers_base.specs.declared.plan.indic.ZeroContext.TheVariants.{OldSpec}
 use Rattle.shapers_indic.specs.Plan.{indic_plan}
 use Rattle.shapers_syllabic.specs.Reordering.{text_order}
 
@@ -39,7 +40,7 @@ sixteen = one 0 0x14 C 4 ∷ map (λ i. one (i + 1) ((i + 2) * 16) C 4) (range_w
 
 abbrev prepared : Glyphs → Glyphs
 prepared gs =
-    (with_positions_and_circles font empty_map (indic_plan WithoutMedials (script "Deva") empty_map) (text gs)).glyphs
+    (with_positions_and_circles font empty_map (indic_plan WithoutMedials OldSpec (script "Deva") empty_map) (text gs)).glyphs
 
 circles : numbers_of (prepared sixteen) ≡ 500 ∷ range_with_len 0 15 ++ 500 ∷ 15 ∷ []
 circles = refl
@@ -52,7 +53,7 @@ circle_positions = refl
 -- the order of a text: a left matra goes before the circle, which is the base, and not into the syllable before it
 abbrev ordered : Glyphs → Glyphs
 ordered gs = text_order
-    (initial_order (initial_rules font empty_map (indic_plan WithoutMedials (script "Deva") empty_map)) (script "Deva"))
+    (initial_order (initial_rules font empty_map (indic_plan WithoutMedials OldSpec (script "Deva") empty_map)) (script "Deva"))
     (prepared gs)
 
 text_by_syllables : numbers_of (ordered (one 0 0x10 C 4 ∷ one 1 0x10 M 2 ∷ one 2 0x24 M 2 ∷ one 3 0x33 M 2 ∷ []))
@@ -62,7 +63,7 @@ text_by_syllables = refl
 
 -- no circle without a broken syllable, or where the caller forbids it
 abbrev glyphs_in : Buffer → Glyphs
-glyphs_in b = (with_positions_and_circles font empty_map (indic_plan WithoutMedials (script "Deva") empty_map) b).glyphs
+glyphs_in b = (with_positions_and_circles font empty_map (indic_plan WithoutMedials OldSpec (script "Deva") empty_map) b).glyphs
 
 none_broken : glyphs_in (record (text sixteen) { broken = false })
     ∷ glyphs_in (record (text sixteen) { flags = record { 0 = 0x20 } }) ∷ [] ≡ sixteen ∷ sixteen ∷ []

@@ -21,9 +21,12 @@ pub mod InitialWrites
 pub mod MaskViews
 mod MaskWalks
 mod MarksAttached
+pub mod MovedLaws
+mod MovedOrder
 pub mod Moves
 pub mod OneMoved
 mod Prepared
+mod PreparedMoves
 pub mod OrderClusters
 pub mod OrderListing
 pub mod OrderShifted

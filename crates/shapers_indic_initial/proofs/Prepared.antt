@@ -1,9 +1,10 @@
 -- The positions of a syllable, and the glyphs that move on the way, part by part.
-use Rattle.std.proofs.Common.{ℕ, suc, ◌+◌, ◌-◌, ◌<◌, ◌≤◌, ◌≡◌, Bool, true, false, if◌then◌else◌, List, [], ◌∷◌, ◌++◌, length, take, drop, Option, refl, sym, ◌∙◌, ap, subst, arith}
+use Rattle.std.proofs.Common.{ℕ, suc, ◌+◌, ◌-◌, ◌<◌, ◌≤◌, ◌≡◌, Bool, true, false, if◌then◌else◌, List, [], ◌∷◌, ◌++◌, length, Option, refl, sym, ◌∙◌, ap, subst, arith}
 use Rattle.std.specs.Prelude.{swap}
 use Rattle.std.specs.List.{range_with_len}
-use Rattle.std.proofs.lemmas.List.{length-map, length-take-le}
+use Rattle.std.proofs.lemmas.List.{length-map}
 use Rattle.shapers_buffer.specs.Glyphs.{Glyphs}
+use Rattle.shapers_buffer.specs.declared.buffer.placement.Placement.{Placement}
 use Rattle.shapers_buffer.specs.declared.buffer.tag.Script.{Script}
 use Rattle.shapers_buffer.specs.Buffer.{Buffer, but_places}
 use Rattle.shapers_buffer.specs.Clusters.{merge, merge_all, stretch_of, with_stretch}
@@ -16,8 +17,9 @@ use Rattle.shapers_clusters.proofs.Picks.{length-pick, pick-all}
 use Rattle.shapers_indic.specs.Glyphs.{places}
 use Rattle.shapers_indic_initial.specs.InitialBase.{base_place, has_indic_reph, joiner_comes_first}
 use Rattle.shapers_indic_initial.specs.InitialPositions.{by_base, halant_after, halant_from, halant_places, moved_behind, with_marks_attached}
-use Rattle.shapers_indic_initial.specs.InitialReordering.{halant_step, halant_steps, joiner_step, joiner_steps, opening_steps, positioned, with_base_positions, with_halant_moved, with_joiner_first, with_marks_and_owners}
+use Rattle.shapers_indic_initial.specs.InitialReordering.{halant_step, halant_steps, joiner_step, joiner_steps, opening_steps, positioned, with_all_positions, with_base_positions, with_halant_moved, with_joiner_first, with_marks_and_owners}
 use Rattle.shapers_indic_initial.specs.InitialRules.{Rules}
+use Rattle.shapers_indic_initial.specs.MovedWalk.{PositionsSet, moved_buffer, opened_by}
 use Rattle.shapers_indic_initial.proofs.InitialReads.{plain_view, base_stays, joiner_first_stays}
 use Rattle.shapers_indic_initial.specs.Proved.InitialSteps.{halant_fits, joiner_fits, joiner_long}
 use Rattle.shapers_indic_initial.specs.Proved.InitialViews.{hidden-by_base, hidden-with_marks_attached, hidden-with_owners_after}
@@ -26,7 +28,7 @@ use Rattle.shapers_indic_initial.proofs.Moves.{moved_within, pick-moved, stepped
 use Rattle.shapers_indic_initial.specs.Proved.OrderedPlaces.{places_all}
 use Rattle.shapers_indic_initial.specs.Proved.InitialLaws.{length-with_base}
 use Rattle.shapers_syllabic.specs.Reordering.{SyllableReordered}
-use Rattle.shapers_syllabic.proofs.SyllableThen.{changed_parts, syllable_as, syllable_changed, syllable_then}
+use Rattle.shapers_syllabic.proofs.SyllableThen.{syllable_as, syllable_changed, syllable_then}
 
 -- a syllable in the order view, and how long it is
 
@@ -162,44 +164,57 @@ halant_done r script base s e a j old new hs h l same on up within there kept mo
     (λ gs. halant_from script (stretch_of s e gs) (halant_after base (stretch_of s e gs)) ≡ moved_behind a j (places
     0 (length (stretch_of s e gs)))) same there) kept moved
 
--- all of it
-pub syllable_opened : (r : Rules) (script : Option Script) (s e base : ℕ) (reph : Bool) (b0 b1 b2 b3 b4 : Buffer)
-    → s ≤ e → e ≤ length b0.glyphs → length b1.glyphs ≡ length b0.glyphs
-    → SyllableReordered (with_joiner_first script) (joiner_steps script) s e b0 b1
-    → base ≡ base_place r (stretch_of s e b1.glyphs) → reph ≡ has_indic_reph r (stretch_of s e b1.glyphs)
-    → b2 ≡ (let b : Buffer = record b1 { glyphs = b2.glyphs } in b)
-    → b2.glyphs ≡ with_stretch s e (by_base base reph) b1.glyphs → length b2.glyphs ≡ length b1.glyphs
+-- the positions, from the first move on
+pub from_opened : (r : Rules) (script : Option Script) (s e base : ℕ) (reph : Bool) (b1 b2 b3 b4 : Buffer) → s ≤ e
+    → e ≤ length b1.glyphs → base ≡ base_place r (stretch_of s e b1.glyphs)
+    → reph ≡ has_indic_reph r (stretch_of s e b1.glyphs) → b2 ≡ (let b : Buffer = record b1 { glyphs = b2.glyphs } in b)
+    → b2.glyphs ≡ with_stretch s e (by_base base reph) b1.glyphs
     → SyllableReordered (with_halant_moved r script base) (halant_steps r script base) s e b2 b3
     → b4 ≡ (let b : Buffer = record b3 { glyphs = b4.glyphs } in b)
     → b4.glyphs ≡ with_stretch s e (with_marks_and_owners base) b3.glyphs
-    → SyllableReordered (positioned r script) (opening_steps r script) s e b0 b4
-syllable_opened r script s e base reph b0 b1 b2 b3 b4 h l long1 one base_is reph_is is2 walked2 long2 three is4 walked4
-    =
-    let xs = order_view b0.glyphs in
-    let X = stretch_of s e xs in
-    let Y = with_joiner_first script X in
-    let kY = (let f = joiner_fits script X in search length-pick) ∙ (seen_long s e b0.glyphs h l) in
-    let Z = with_base_positions r Y in
-    let kZ = length-with_base r Y ∙ kY in
-    let parts = changed_parts s e (take s xs) Y (drop e xs) (order_view b1.glyphs) h
-    (search (arith, length-take-le, length-map)) kY one.order in
-    let base_eq = base_is ∙ sym (base_stays plain_view r (stretch_of s e b1.glyphs))
-    ∙ ap (base_place r) (map-stretch plain s e b1.glyphs ∙ parts.stretch) in
-    let one_two = syllable_then (with_joiner_first script) (with_base_positions r) (joiner_steps script) (λ _. []) s e
-    b0 b1 b2 h l kY one (
+    → SyllableReordered (λ gs. with_all_positions r script (base_place r gs) (with_base_positions r gs))
+    (λ gs. halant_steps r script (base_place r gs) (with_base_positions r gs)) s e b1 b4
+from_opened r script s e base reph b1 b2 b3 b4 h l base_is reph_is is2 walked2 three is4 walked4 =
+    let X = stretch_of s e (order_view b1.glyphs) in
+    let Z = with_base_positions r X in
+    let kZ = length-with_base r X ∙ seen_long s e b1.glyphs h l in
+    let base_eq : base ≡ base_place r X =
+    base_is ∙ sym (base_stays plain_view r (stretch_of s e b1.glyphs))
+    ∙ ap (base_place r) (map-stretch plain s e b1.glyphs) in
+    let one = (
     let syl = stretch_of s e b1.glyphs in syllable_changed (with_base_positions r) (with_base_positions r) s e b1 b2 h
     (ap but_places is2) (search arith) (search hidden-by_base) (sym (with_base_stays plain_view r syl))) in
-    let first : Glyphs → Glyphs =
-    λ gs. with_base_positions r (with_joiner_first script gs) in
-    let second : Glyphs → Glyphs = λ gs. with_halant_moved r script base (first gs) in
-    let steps : Glyphs → List Step =
-    λ gs. (joiner_steps script gs ++ []) ++ halant_steps r script base (first gs) in
-    let all = syllable_then second (with_marks_and_owners base) steps (λ _. []) s e b0 b3 b4 h l
+    let second : Glyphs → Glyphs = λ gs. with_halant_moved r script base (with_base_positions r gs) in
+    let steps : Glyphs → List Step = λ gs. [] ++ halant_steps r script base (with_base_positions r gs) in
+    let all = syllable_then second (with_marks_and_owners base) steps (λ _. []) s e b1 b3 b4 h l
     ((let f = halant_fits r script base Z in search length-pick) ∙ kZ)
-    (syllable_then first (with_halant_moved r script base) (λ gs. joiner_steps script gs ++ []) (halant_steps r script
-    base) s e b0 b2 b3 h l kZ one_two three) (
+    (syllable_then (with_base_positions r) (with_halant_moved r script base) (λ _. []) (halant_steps r script base) s e
+    b1 b2 b3 h l kZ one three) (
     let syl = stretch_of s e b3.glyphs in syllable_changed (with_marks_and_owners base) (with_marks_and_owners base) s
     e b3 b4 h (ap but_places is4) walked4 (search (hidden-with_owners_after, hidden-with_marks_attached)) (cc (with_marks_stays plain_view syl, with_owners_after_stays plain_view base (with_marks_attached syl)))) in
-    syllable_as (λ gs. with_marks_and_owners base (second gs)) (positioned r script) (λ gs. steps gs ++ [])
-    (opening_steps r script) s e b0 b4 (ap (λ b. with_marks_and_owners b (with_halant_moved r script b Z)) base_eq)
-    (ap (λ b. joiner_step script X ∷ halant_step r script b Z ∷ []) base_eq) all
+    syllable_as (λ gs. with_marks_and_owners base (second gs))
+    (λ gs. with_all_positions r script (base_place r gs) (with_base_positions r gs)) (λ gs. steps gs ++ [])
+    (λ gs. halant_steps r script (base_place r gs) (with_base_positions r gs)) s e b1 b4
+    (ap (λ b. with_marks_and_owners b (with_halant_moved r script b Z)) base_eq)
+    (ap (λ b. halant_step r script b Z ∷ []) base_eq) all
+
+-- all of it
+pub opened_then : (r : Rules) (script : Option Script) (p q : Placement) (s e : ℕ) (b0 b1 b2 : Buffer) → s ≤ e
+    → e ≤ length b0.glyphs → b1.script ≡ script
+    → SyllableReordered (with_joiner_first script) (joiner_steps script) s e b0 (moved_buffer (opened_by p s e) b1)
+    → PositionsSet r p q s e b1 b2 → SyllableReordered (positioned r script) (opening_steps r script) s e b0
+    (moved_buffer (record (opened_by p s e) { second = q }) b2)
+opened_then r script p q s e b0 b1 b2 h l same one two =
+    let X = stretch_of s e (order_view b0.glyphs) in
+    let mid = moved_buffer (opened_by p s e) b1 in
+    let new = moved_buffer (record (opened_by p s e) { second = q }) b2 in
+    let next : Glyphs → Glyphs = λ gs. with_all_positions r script (base_place r gs) (with_base_positions r gs) in
+    let steps : Glyphs → List Step = λ gs. halant_steps r script (base_place r gs) (with_base_positions r gs) in
+    let rest : SyllableReordered next steps s e mid new =
+    subst (λ script. SyllableReordered
+    (λ gs. with_all_positions r script (base_place r gs) (with_base_positions r gs))
+    (λ gs. halant_steps r script (base_place r gs) (with_base_positions r gs)) s e mid new) same two in
+    syllable_as (λ gs. next (with_joiner_first script gs)) (positioned r script)
+    (λ gs. joiner_steps script gs ++ steps (with_joiner_first script gs)) (opening_steps r script) s e b0 new refl refl
+    (syllable_then (with_joiner_first script) next (joiner_steps script) steps s e b0 mid new h l
+    ((let f = joiner_fits script X in search length-pick) ∙ seen_long s e b0.glyphs h l) one rest)

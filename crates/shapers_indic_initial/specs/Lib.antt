@@ -11,5 +11,7 @@ pub mod InitialReordering
 pub mod InitialRules
 pub mod KnownWalk
 pub mod MarkWalk
+pub mod MovedWalk
 pub mod OrderWalk
+pub mod OrderWays
 pub mod Proved

@@ -6,6 +6,7 @@ mod font_positions;
 mod halant;
 pub mod laws;
 mod masks;
+mod moved;
 mod moving;
 mod order;
 mod ordered_base;

@@ -1,5 +1,5 @@
 -- A text without marks that the font has gets its glyphs and nothing else.
-use Rattle.std.proofs.Common.{◌≡◌, ◌+◌, ◌-◌, ◌&&◌, ℕ, zero, suc, Bool, true, false, not, cond, eqb, nat_lt, nat_le, List, [], ◌∷◌, ◌++◌, length, map, get_or, Option, None, Some, refl, sym, ap, ◌∙◌, subst, arith}
+use Rattle.std.proofs.Common.{◌≡◌, ◌==◌, ◌+◌, ◌-◌, ◌&&◌, ℕ, zero, suc, Bool, true, false, not, cond, eqb, nat_lt, nat_le, List, [], ◌∷◌, ◌++◌, length, map, get_or, Option, None, Some, refl, sym, ap, ◌∙◌, subst, arith}
 use Rattle.std.specs.List.{AllByRecursion, flat_map, fold, list_all, list_any, range_with_len}
 use Rattle.std.specs.Option.{option_map_or}
 use Rattle.std.specs.Prelude.{is_some}
@@ -14,12 +14,13 @@ use Rattle.shapers_buffer.specs.Properties.{general_category}
 use Rattle.shapers_normal.specs.Context.{Context, has_glyph}
 use Rattle.shapers_normal.specs.Decomposition.{apart_in, becomes, cluster_becomes, first_round, is_short_alone, is_whole, mark_clusters, stays_alone, text_decomposed, without_glyph, written_as}
 use Rattle.shapers_normal.specs.Laws.{WholeTextsStay}
-use Rattle.shapers_normal.specs.Normalization.{composes, has_rounds, joiners_shown, later_rounds, shown_behind}
-use Rattle.shapers_normal.specs.Properties.{numbered_as}
+use Rattle.shapers_normal.specs.Normalization.{composes, has_rounds, joiners_shown, later_rounds, normalized, shown_behind}
+use Rattle.shapers_normal.specs.Properties.{grapheme_joiner, numbered_as}
 use Rattle.shapers_normal.specs.Recomposition.{StarterWalk, is_free, if_drawn, left_as_is, recomposed, taken_in, walk_over}
 use Rattle.shapers_normal.specs.Sorting.{class_of, classes, is_mark_glyph, mark_runs, run_ordered, run_sorted, stay_together}
 use Rattle.shapers_normal.specs.Variants.{is_selector_glyph, is_selector_behind, variant_joined, with_first, with_number}
 use Rattle.shapers_normal.specs.declared.ot_shape_normalize.decomposing.Way.{Way}
+use Rattle.shapers_normal.specs.declared.ot_shape_normalize.normalizing.Rounds.{Rounds}
 use Rattle.shapers_normal.specs.declared.ot_shape_normalize.decomposing.Way.TheVariants.{Short, Whole}
 use Rattle.shapers_normal.proofs.CharacterProperties.{class_of_other}
 use Rattle.shapers_normal.proofs.Halves.{not_joiner}
@@ -180,6 +181,25 @@ none_shown before (g ∷ (h ∷ gs)) all =
 no_joiner_shown : (gs : Glyphs) → AllByRecursion NoJoiner gs → joiners_shown gs ≡ gs
 no_joiner_shown [] all = refl
 no_joiner_shown (g ∷ gs) all = ap (λ xs. g ∷ xs) (none_shown (class_of g) gs all.1)
+
+without_joiners : (gs : Glyphs) → list_any (λ g. eqb g.glyph_id 0x034F) gs ≡ false → AllByRecursion NoJoiner gs
+without_joiners [] e = tt
+without_joiners (g ∷ gs) e =
+    let parts = or_parts (eqb g.glyph_id 0x034F) (list_any (λ g. eqb g.glyph_id 0x034F) gs) e in
+    (parts.0, without_joiners gs parts.1)
+
+-- A text without grapheme joiners has none to show.
+pub none_is_shown : (gs : Glyphs) → list_any (λ g. g.glyph_id == grapheme_joiner) gs ≡ false → joiners_shown gs ≡ gs
+none_is_shown gs e = no_joiner_shown gs (without_joiners gs e)
+
+-- A text without marks behind its first place, and in the end without such joiners, is done after the first round.
+pub first_round_alone : (context : Context) (rounds : Rounds) (level : BufferClusterLevel) (gs : Glyphs)
+    → has_rounds rounds gs ≡ false
+    → list_any (λ g. g.glyph_id == grapheme_joiner) (first_round context level gs) ≡ false
+    → normalized context rounds level gs ≡ first_round context level gs
+first_round_alone context rounds level gs runs none =
+    ap (λ b. later_rounds context b level (first_round context level gs)) runs
+    ∙ none_is_shown (first_round context level gs) none
 
 no_joiners : (context : Context) (gs : Glyphs) → list_any (λ g. eqb g.glyph_id 0x034F) gs ≡ false
     → AllByRecursion NoJoiner (map (with_number context) gs)

@@ -3,7 +3,7 @@ ghost use Rattle.std.specs.Prelude.{◌≡◌, ◌<◌, ◌≤◌, drop, length,
 ghost use Rattle.shapers_normal.specs.Sorting.{classes};
 ghost use Rattle.shapers_normalize.specs.ByShaper.{composed_for, decomposed_for, is_character, ordered_for};
 
-use rustybuzz_shapers::shaper::{Composition, Decomposition, hb_ot_shaper_t};
+use rustybuzz_shapers::shaper::hb_ot_shaper_t;
 use rustybuzz_shapers::{ot_shaper_arabic, ot_shaper_hebrew};
 use shapers_base::buffer::{BufferClusterLevel, hb_glyph_info_t};
 use shapers_base::font::Tables;
@@ -31,9 +31,8 @@ pub(crate) fn decompose<T: Tables>(
         return tables.decompose(ab);
     };
     match shaper.decompose(plan, tables, ab) {
-        Decomposition::Parts(a, b) => Some((a, b)),
-        Decomposition::Whole => None,
-        Decomposition::NoHook => tables.decompose(ab),
+        Some(parts) => parts,
+        None => tables.decompose(ab),
     }
 }
 
@@ -52,9 +51,8 @@ pub(crate) fn compose<T: Tables>(
         return tables.compose(a, b);
     };
     match shaper.compose(plan, tables, a, b) {
-        Composition::Whole(whole) => Some(whole),
-        Composition::Apart => None,
-        Composition::NoHook => tables.compose(a, b),
+        Some(whole) => whole,
+        None => tables.compose(a, b),
     }
 }
 

@@ -8,7 +8,8 @@ use Rattle.shapers_buffer.specs.Buffer.{Buffer, new_buffer}
 use Rattle.shapers_buffer.specs.Glyph.{default_glyph}
 use Rattle.shapers_plan.specs.declared.ot_shape_plan.DriverMasks.{DriverMasks}
 use Rattle.shapers_pipeline.specs.Fractions.{fractions_set}
-use Rattle.shapers_buffer.specs.Properties.{properties, general_category, modified_combining_class}
+use Rattle.shapers_buffer.specs.Properties.{properties, general_category}
+use Rattle.shapers_normal.specs.Sorting.{class_of_mark}
 
 abbrev fraction_features : ℕ → ℕ → ℕ → DriverMasks
 fraction_features frac numr dnom = record { frac = frac; numr = numr; dnom = dnom; rtlm = 0x80; vert = 0 }
@@ -41,30 +42,30 @@ one_23rd = 0x61 ∷ 0x31 ∷ 0x2044 ∷ 0x32 ∷ 0x33 ∷ 0x62 ∷ []
 -- a1⁄23b by direction: the numerator stands first where the text runs forward
 forward : map (λ d. masks whole (buffer d 0 one_23rd)) (LeftToRight ∷ TopToBottom ∷ [])
     ≡ (0 ∷ 0x30 ∷ 0x13 ∷ 0x53 ∷ 0x53 ∷ 0 ∷ []) ∷ (0 ∷ 0x30 ∷ 0x13 ∷ 0x53 ∷ 0x53 ∷ 0 ∷ []) ∷ []
-unfolding general_category modified_combining_class
+unfolding general_category class_of_mark
 forward = refl
 
 backward : map (λ d. masks whole (buffer d 0 one_23rd)) (RightToLeft ∷ BottomToTop ∷ Invalid ∷ [])
     ≡ (0 ∷ 0x50 ∷ 0x13 ∷ 0x33 ∷ 0x33 ∷ 0 ∷ []) ∷ (0 ∷ 0x50 ∷ 0x13 ∷ 0x33 ∷ 0x33 ∷ 0 ∷ [])
     ∷ (0 ∷ 0x50 ∷ 0x13 ∷ 0x33 ∷ 0x33 ∷ 0 ∷ []) ∷ []
-unfolding general_category modified_combining_class
+unfolding general_category class_of_mark
 backward = refl
 
 -- 1⁄2⁄3: the 2 is of both
 in_a_row : masks whole (buffer LeftToRight 0 (0x31 ∷ 0x2044 ∷ 0x32 ∷ 0x2044 ∷ 0x33 ∷ []))
     ≡ 0x30 ∷ 0x13 ∷ 0x73 ∷ 0x13 ∷ 0x53 ∷ []
-unfolding general_category modified_combining_class
+unfolding general_category class_of_mark
 in_a_row = refl
 
 -- numbers on one side alone: the slash, where flags of concatenation are wanted
 lacking_left : map (λ flags. masks whole (buffer LeftToRight flags (0x61 ∷ 0x2044 ∷ 0x31 ∷ []))) (0 ∷ 0x40 ∷ [])
     ≡ (0 ∷ 0 ∷ 0 ∷ []) ∷ (0 ∷ 2 ∷ 0 ∷ []) ∷ []
-unfolding general_category modified_combining_class
+unfolding general_category class_of_mark
 lacking_left = refl
 
 lacking_right : map (λ flags. masks whole (buffer LeftToRight flags (0x31 ∷ 0x2044 ∷ []))) (0 ∷ 0x40 ∷ [])
     ≡ (0 ∷ 0 ∷ []) ∷ (0 ∷ 2 ∷ []) ∷ []
-unfolding general_category modified_combining_class
+unfolding general_category class_of_mark
 lacking_right = refl
 
 slash_only : masks whole (buffer LeftToRight 0x40 (0x2044 ∷ [])) ≡ 2 ∷ []
@@ -73,7 +74,7 @@ slash_only = refl
 -- fonts: halves alone are enough together, and neither by itself; no feature, no flag
 halves : masks (fraction_features 0 0x20 0x40) (buffer LeftToRight 0 (0x31 ∷ 0x2044 ∷ 0x32 ∷ []))
     ≡ 0x20 ∷ 0x03 ∷ 0x43 ∷ []
-unfolding general_category modified_combining_class
+unfolding general_category class_of_mark
 halves = refl
 
 one_half : map (λ m. masks m (buffer LeftToRight 0x40 (0x31 ∷ 0x2044 ∷ 0x32 ∷ [])))

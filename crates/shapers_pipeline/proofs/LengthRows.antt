@@ -17,7 +17,8 @@ use Rattle.rustybuzz_shapers.specs.declared.shaper.hb_ot_shaper_t.TheVariants.{A
 use Rattle.shapers_pipeline.specs.Lengths.{looked_up_bound, prepared_bound, preprocess_growth, shaped_bound, stage_bound, stages_bound}
 use Rattle.shapers_pipeline.specs.Prepared.{Preparation, text_opened, text_prepared}
 use Rattle.shapers_pipeline.specs.Stages.{Substitution, stage_looked_up}
-use Rattle.shapers_buffer.specs.Properties.{general_category, modified_combining_class}
+use Rattle.shapers_buffer.specs.Properties.{general_category}
+use Rattle.shapers_normal.specs.Sorting.{class_of_mark}
 
 growths : map preprocess_growth (Arabic ∷ Hangul ∷ Hebrew ∷ Indic ∷ Khmer ∷ Myanmar ∷ MyanmarZawgyi ∷ Thai ∷ Universal
     ∷ []) ≡ 1 ∷ 3 ∷ 1 ∷ 2 ∷ 1 ∷ 1 ∷ 1 ∷ 2 ∷ 2 ∷ []
@@ -82,11 +83,11 @@ text = record (new_buffer 99) { glyphs = record default_glyph { glyph_id = 0xE00
 
 -- a circle comes in front, and each becomes nine
 opened : length (text_opened p text).glyphs ≡ 2
-unfolding general_category modified_combining_class
+unfolding general_category class_of_mark
 opened = refl
 
 attained : length (text_prepared p text).glyphs ≡ prepared_bound None 1
-unfolding general_category modified_combining_class
+unfolding general_category class_of_mark
 attained = refl
 
 -- lookups that put each glyph twice, and a stage of two of them, from the second of the list on
@@ -111,7 +112,7 @@ growth l = if l.index == 3 then 5 else 2
 
 attained_by_lookups : length (stage_looked_up stages (stage None) (text_prepared p text)).glyphs
     ≡ shaped_bound None growth lookups (stage None ∷ []) 1
-unfolding general_category modified_combining_class
+unfolding general_category class_of_mark
 attained_by_lookups = refl
 
 all_lookups : looked_up_bound growth lookups 1 ≡ 20

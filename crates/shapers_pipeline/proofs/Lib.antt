@@ -15,8 +15,10 @@ mod PositionedRows
 mod PreparedClusters
 mod PreparedRows
 mod PutBack
+mod RefusalRows
 mod StageClusters
 pub mod Substituting
 mod StageLengths
 mod TextLengths
 mod TurnedGraphemes
+mod Untouched

@@ -15,7 +15,8 @@ use Rattle.shapers_position.specs.declared.ot_shape_position.ignorables.DefaultI
 use Rattle.rustybuzz_shapers.specs.declared.shaper.hb_ot_shaper_t.{hb_ot_shaper_t}
 use Rattle.rustybuzz_shapers.specs.declared.shaper.hb_ot_shaper_t.TheVariants.{Khmer, Universal}
 use Rattle.shapers_pipeline.specs.Positioned.{Positioning, is_early, is_late, text_shaped, zeroing_of}
-use Rattle.shapers_buffer.specs.Properties.{general_category, modified_combining_class}
+use Rattle.shapers_buffer.specs.Properties.{general_category}
+use Rattle.shapers_normal.specs.Sorting.{class_of_mark}
 
 times : map is_early (NONE ∷ GDEF_EARLY ∷ GDEF_LATE ∷ []) ≡ false ∷ true ∷ false ∷ []
 times = refl
@@ -98,7 +99,7 @@ plain = refl
 
 plain_positions : (text_shaped (by None false) BottomToTop (text LeftToRight)).positions
     ≡ spot (pos 10) (pos 0) (pos 1) ∷ spot (pos 0) (neg_ℤ (pos 20)) (pos 0) ∷ spot (pos 0) (pos 0) (pos 0) ∷ []
-unfolding general_category modified_combining_class
+unfolding general_category class_of_mark
 plain_positions = refl
 
 callers : (text_shaped (by None false) BottomToTop (text LeftToRight)).direction ≡ BottomToTop
@@ -107,12 +108,12 @@ callers = refl
 -- with GPOS it doesn't, and both lookups widen the base; Khmer's marks keep their advances
 applied : (text_shaped (by None true) LeftToRight (text LeftToRight)).positions
     ≡ spot (pos 117) (pos 0) (pos 1) ∷ spot (pos 0) (pos 0) (pos 0) ∷ spot (pos 0) (pos 0) (pos 0) ∷ []
-unfolding general_category modified_combining_class
+unfolding general_category class_of_mark
 applied = refl
 
 khmer : (text_shaped (by (Some Khmer) true) LeftToRight (text LeftToRight)).positions
     ≡ spot (pos 117) (pos 0) (pos 1) ∷ spot (pos 20) (pos 0) (pos 0) ∷ spot (pos 0) (pos 0) (pos 0) ∷ []
-unfolding general_category modified_combining_class
+unfolding general_category class_of_mark
 khmer = refl
 
 -- a mark in front is widened by GPOS behind an early time, and loses that at a late one
@@ -120,11 +121,11 @@ abbrev mark_first : Buffer
 mark_first = record (new_buffer 9) { glyphs = record default_glyph { glyph_id = 20 } ∷ []; direction = LeftToRight }
 
 early : (text_shaped (by (Some Universal) true) LeftToRight mark_first).positions ≡ spot (pos 107) (pos 0) (pos 1) ∷ []
-unfolding general_category modified_combining_class
+unfolding general_category class_of_mark
 early = refl
 
 late : (text_shaped (by None true) LeftToRight mark_first).positions ≡ spot (pos 0) (pos 0) (pos 1) ∷ []
-unfolding general_category modified_combining_class
+unfolding general_category class_of_mark
 late = refl
 
 -- from right to left it is turned, and nothing hangs
@@ -134,7 +135,7 @@ backward = refl
 
 backward_positions : (text_shaped (by None false) RightToLeft (text RightToLeft)).positions
     ≡ spot (pos 0) (pos 0) (pos 0) ∷ spot (pos 0) (pos 0) (pos 0) ∷ spot (pos 10) (pos 0) (pos 1) ∷ []
-unfolding general_category modified_combining_class
+unfolding general_category class_of_mark
 backward_positions = refl
 
 -- a space of half an em that the font lacks
@@ -145,7 +146,7 @@ half_em = record (new_buffer 9) {
 }
 
 spaced : (text_shaped (by None false) LeftToRight half_em).positions ≡ spot (pos 500) (pos 0) (pos 1) ∷ []
-unfolding general_category modified_combining_class
+unfolding general_category class_of_mark
 spaced = refl
 
 -- downwards the mark hangs, too, and the ignorable one keeps its place beside the line
@@ -155,5 +156,5 @@ below advance x y = record default_position { y_advance = advance; x_offset = x;
 downward : (text_shaped (by None false) TopToBottom (text TopToBottom)).positions
     ≡ below (neg_ℤ (pos 11)) (neg_ℤ (pos 5)) (neg_ℤ (pos 7)) ∷ below (pos 0) (neg_ℤ (pos 5)) (pos 13) ∷
     below (pos 0) (neg_ℤ (pos 5)) (pos 0) ∷ []
-unfolding general_category modified_combining_class
+unfolding general_category class_of_mark
 downward = refl

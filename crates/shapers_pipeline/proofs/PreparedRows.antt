@@ -17,7 +17,8 @@ use Rattle.rustybuzz_shapers.specs.declared.shaper.hb_ot_shaper_t.{hb_ot_shaper_
 use Rattle.rustybuzz_shapers.specs.declared.shaper.hb_ot_shaper_t.TheVariants.{Indic, Myanmar}
 use Rattle.shapers_pipeline.specs.Planned.{as_planned, put_back}
 use Rattle.shapers_pipeline.specs.Prepared.{Preparation, text_prepared}
-use Rattle.shapers_buffer.specs.Properties.{general_category, modified_combining_class}
+use Rattle.shapers_buffer.specs.Properties.{general_category}
+use Rattle.shapers_normal.specs.Sorting.{class_of_mark}
 
 -- 1, 2 are decimal numbers, 0x300, 0x102E and 0x102F are marks, all else is a letter; ( and ) are mirrored
 abbrev general : ℕ → hb_unicode_general_category_t
@@ -82,32 +83,32 @@ seen shaper b =
 fraction : seen None (buffer LeftToRight (codes "Latn") (0x31 ∷ 0x2044 ∷ 0x32 ∷ []))
     ≡ (0x31 + 1000, (0, (0x80000030, 0))) ∷ (0x2044 + 1000, (1, (0x80000013, 0))) ∷ (0x32 + 1000, (2, (0x80000353, 0)))
     ∷ []
-unfolding general_category modified_combining_class
+unfolding general_category class_of_mark
 fraction = refl
 
 -- a with a grave accent is one cluster, and composed
 composed : seen None (buffer LeftToRight (codes "Latn") (0x61 ∷ 0x300 ∷ 0x62 ∷ []))
     ≡ (0xE0 + 1000, (0, (0x80000000, 0))) ∷ (0x62 + 1000, (2, (0x80000300, 0))) ∷ []
-unfolding general_category modified_combining_class
+unfolding general_category class_of_mark
 composed = refl
 
 -- Hebrew from right to left isn't turned; the bracket is mirrored, and the letter gets the feature that mirrors
 mirrored : seen None (buffer RightToLeft (codes "Hebr") (0x28 ∷ 0x5D0 ∷ []))
     ≡ (0x29 + 1000, (0, (0x80000000, 0))) ∷ (0x5D0 + 1000, (1, (0x80000080, 0))) ∷ []
-unfolding general_category modified_combining_class
+unfolding general_category class_of_mark
 mirrored = refl
 
 -- from left to right it is turned, and rotated by the direction that the caller wants
 turned : seen None (buffer LeftToRight (codes "Hebr") (0x28 ∷ 0x5D0 ∷ []))
     ≡ (0x5D0 + 1000, (1, (0x80000000, 0))) ∷ (0x28 + 1000, (0, (0x80000000, 0))) ∷ []
-unfolding general_category modified_combining_class
+unfolding general_category class_of_mark
 turned = refl
 
 -- Devanagari: a circle between vowels, and the categories of the shaper
 vowels : seen (Some Indic) (buffer LeftToRight (codes "Deva") (0x905 ∷ 0x946 ∷ []))
     ≡ (0x905 + 1000, (0, (0x80000000, 5))) ∷ (0x25CC + 1000, (1, (0x80000000, 5)))
     ∷ (0x946 + 1000, (1, (0x80000000, 5))) ∷ []
-unfolding devanagari_pairs general_category modified_combining_class
+unfolding devanagari_pairs general_category class_of_mark
 vowels = refl
 
 -- An edit behind a syllable that it doesn't meet: Myanmar 1026 comes apart, and composes again only in a text with a
@@ -118,12 +119,12 @@ numbers p cs = map (λ g. g.glyph_id) (text_prepared p (buffer LeftToRight (code
 
 before_edit : numbers (prepared_for (Some Myanmar)) (0x1026 ∷ 0x1000 ∷ [])
     ≡ (0x1025 + 1000) ∷ (0x102E + 1000) ∷ (0x1000 + 1000) ∷ []
-unfolding general_category modified_combining_class
+unfolding general_category class_of_mark
 before_edit = refl
 
 behind_edit : numbers (prepared_for (Some Myanmar)) (0x1026 ∷ 0x1000 ∷ 0x102F ∷ [])
     ≡ (0x1026 + 1000) ∷ (0x1000 + 1000) ∷ (0x102F + 1000) ∷ []
-unfolding general_category modified_combining_class
+unfolding general_category class_of_mark
 behind_edit = refl
 
 abbrev in_each_text : Preparation
@@ -132,12 +133,12 @@ in_each_text = record (prepared_for (Some Myanmar)) {
 }
 
 before_with_rounds : numbers in_each_text (0x1026 ∷ 0x1000 ∷ []) ≡ (0x1026 + 1000) ∷ (0x1000 + 1000) ∷ []
-unfolding general_category modified_combining_class
+unfolding general_category class_of_mark
 before_with_rounds = refl
 
 behind_with_rounds : numbers in_each_text (0x1026 ∷ 0x1000 ∷ 0x102F ∷ [])
     ≡ (0x1026 + 1000) ∷ (0x1000 + 1000) ∷ (0x102F + 1000) ∷ []
-unfolding general_category modified_combining_class
+unfolding general_category class_of_mark
 behind_with_rounds = refl
 
 -- The script and direction of the plan are in force, and the buffer keeps its own, none and from left to right: by a
@@ -152,11 +153,11 @@ abbrev places : Buffer → List (ℕ × ℕ)
 places b = map (λ g. (g.glyph_id, g.cluster)) b.glyphs
 
 planned : places (by_plan RightToLeft (0x28 ∷ 0x5D0 ∷ [])) ≡ (0x29 + 1000, 0) ∷ (0x5D0 + 1000, 1) ∷ []
-unfolding general_category modified_combining_class
+unfolding general_category class_of_mark
 planned = refl
 
 planned_turned : places (by_plan LeftToRight (0x28 ∷ 0x5D0 ∷ [])) ≡ (0x5D0 + 1000, 1) ∷ (0x28 + 1000, 0) ∷ []
-unfolding general_category modified_combining_class
+unfolding general_category class_of_mark
 planned_turned = refl
 
 own_direction : (by_plan LeftToRight (0x5D0 ∷ [])).direction ≡ LeftToRight

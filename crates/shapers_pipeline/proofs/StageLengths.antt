@@ -1,5 +1,5 @@
 -- How long stages make a text, and what comes behind them.
-use Rattle.std.proofs.Common.{◌≡◌, ◌∙◌, ℕ, ◌+◌, ◌*◌, ◌<◌, ◌≤◌, ◌≢◌, Bool, true, false, List, [], ◌∷◌, drop, get_or, inr, length, map, sym, ap, subst, arith}
+use Rattle.std.proofs.Common.{◌≡◌, ◌∙◌, ℕ, ◌+◌, ◌*◌, ◌<◌, ◌≤◌, ◌≢◌, Bool, true, false, List, [], ◌∷◌, drop, get_or, inl, inr, length, map, sym, ap, subst, arith}
 use Rattle.std.specs.Prelude.{IfErr, IsOk, Option, None, Some, Result, Err, if◌then◌else◌, option_map}
 use Rattle.std.specs.Option.{option_map_or}
 use Rattle.std.specs.Result.{IsErrAnd}
@@ -36,9 +36,9 @@ use Rattle.rustybuzz_shapers.specs.declared.shaper.hb_ot_shaper_t.{hb_ot_shaper_
 use Rattle.shapers_clusters.proofs.GroupWalk.{next_at}
 use Rattle.shapers_pipeline.specs.ClusterLaws.{LookupsKeep}
 use Rattle.shapers_pipeline.specs.Lengths.{FinishGrows, LookupsGrow, PreparationGrows, ShapingGrows, StagesGrow, looked_up_bound, prepared_bound, shaped_bound, stage_bound, stages_bound}
-use Rattle.shapers_pipeline.specs.Lookups.{StoppedIn, looked_up, lookups_of_stage, text_noted}
+use Rattle.shapers_pipeline.specs.Lookups.{LookupRefusals, MayRefuse, StoppedIn, looked_up, lookups_of_stage, text_noted}
 use Rattle.shapers_pipeline.specs.Prepared.{text_prepared}
-use Rattle.shapers_pipeline.specs.Stages.{PauseRunIf, StageRun, StagesRun, StagesStopped, Substitution, stage_looked_up}
+use Rattle.shapers_pipeline.specs.Stages.{PauseRunIf, StageRun, StageStopped, StagesRun, StagesStopped, Substitution, stage_looked_up}
 use Rattle.shapers_pipeline.proofs.Pausing.{pause_positions}
 
 -- ---- bounds
@@ -182,12 +182,22 @@ pub looked_next : (f : StageLookup → Buffer → Buffer) (list : List StageLook
 looked_next f list i d old new within is =
     ap (looked_up f (drop (i + 1) list)) is ∙ sym (ap (λ xs. looked_up f xs old) (next_at list i d within))
 
-pub looked_stopped : (f : StageLookup → Buffer → Buffer) (list : List StageLookup) (i : ℕ) (d : StageLookup)
-    (old mid new : Buffer) → i < length list → mid ≡ f (get_or list i d) old →
-    StoppedIn f (drop (i + 1) list) mid new → StoppedIn f (drop i list) old new
-looked_stopped f list i d old mid new within is stopped =
-    subst (λ xs. StoppedIn f xs old new) (sym (next_at list i d within))
-    (inr (subst (λ b. StoppedIn f (drop (i + 1) list) b new) is stopped))
+-- or that a later one refuses
+pub looked_stopped : (f : StageLookup → Buffer → Buffer) (refusals : StageLookup → Buffer → LookupRefusals)
+    (list : List StageLookup) (i : ℕ) (d : StageLookup) (old mid new : Buffer) (e : ShaperError) →
+    i < length list → mid ≡ f (get_or list i d) old →
+    StoppedIn f refusals (drop (i + 1) list) mid new e → StoppedIn f refusals (drop i list) old new e
+looked_stopped f refusals list i d old mid new e within is stopped =
+    subst (λ xs. StoppedIn f refusals xs old new e) (sym (next_at list i d within))
+    (inr (subst (λ b. StoppedIn f refusals (drop (i + 1) list) b new e) is stopped))
+
+-- or the next one itself
+pub looked_refused : (f : StageLookup → Buffer → Buffer) (refusals : StageLookup → Buffer → LookupRefusals)
+    (list : List StageLookup) (i : ℕ) (d : StageLookup) (old new : Buffer) (e : ShaperError) →
+    i < length list → MayRefuse (refusals (get_or list i d) old) e → new ≡ old →
+    StoppedIn f refusals (drop i list) old new e
+looked_refused f refusals list i d old new e within may same =
+    subst (λ xs. StoppedIn f refusals xs old new e) (sym (next_at list i d within)) (inl (may, same))
 
 -- and the stages that are left
 pub run_next : (r : Substitution) (ss : List Stage) (i : ℕ) (d : Stage) (old mid new : Buffer) → i < length ss →
@@ -195,11 +205,17 @@ pub run_next : (r : Substitution) (ss : List Stage) (i : ℕ) (d : Stage) (old m
 run_next r ss i d old mid new within one rest =
     subst (λ xs. StagesRun r xs old new) (sym (next_at ss i d within)) (mid, (one, rest))
 
-pub stopped_next : (r : Substitution) (ss : List Stage) (i : ℕ) (d : Stage) (old mid new : Buffer) → i < length ss →
-    StageRun r (get_or ss i d) old mid → StagesStopped r (drop (i + 1) ss) mid new →
-    StagesStopped r (drop i ss) old new
-stopped_next r ss i d old mid new within one rest =
-    subst (λ xs. StagesStopped r xs old new) (sym (next_at ss i d within)) (inr (mid, (one, rest)))
+pub stopped_next : (r : Substitution) (refusals : StageLookup → Buffer → LookupRefusals) (ss : List Stage) (i : ℕ)
+    (d : Stage) (old mid new : Buffer) (e : CallError) → i < length ss → StageRun r (get_or ss i d) old mid →
+    StagesStopped r refusals (drop (i + 1) ss) mid new e → StagesStopped r refusals (drop i ss) old new e
+stopped_next r refusals ss i d old mid new e within one rest =
+    subst (λ xs. StagesStopped r refusals xs old new e) (sym (next_at ss i d within)) (inr (mid, (one, rest)))
+
+pub stopped_here : (r : Substitution) (refusals : StageLookup → Buffer → LookupRefusals) (ss : List Stage) (i : ℕ)
+    (d : Stage) (old new : Buffer) (e : CallError) → i < length ss → StageStopped r refusals (get_or ss i d) old new e →
+    StagesStopped r refusals (drop i ss) old new e
+stopped_here r refusals ss i d old new e within stopped =
+    subst (λ xs. StagesStopped r refusals xs old new e) (sym (next_at ss i d within)) (inl stopped)
 
 -- where the lookups that are left fit, the next one does
 pub lookup_fits : (growth : StageLookup → ℕ) → ((lookup : StageLookup) → 0 < growth lookup) →

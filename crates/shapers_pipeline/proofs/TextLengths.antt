@@ -450,7 +450,7 @@ preparation_has_room laws p old new (call.Refused e) room stopped =
       rotated_long laws p old.direction d,
       in_times laws p old,
     ) in
-    λ is. none_refuses old.max_len bound (growths p old) e new (opened, (preprocessed, (normal, tt))) room stopped
+    λ is. none_refuses old.max_len bound (growths p old) e new (opened, (preprocessed, (normal, tt))) room stopped.1
     (same_refusal e TooLong is)
 
 -- ---- the limit stays

@@ -1,5 +1,5 @@
 -- What lookups keep of a text, and stages of them, each with a pause behind it.
-use Rattle.std.specs.Prelude.{ℕ, ◌≡◌, ◌≤◌, ◌-◌, ◌*◌, ◌⊎◌, true, List, [], ◌∷◌, drop, fold, length, map, take}
+use Rattle.std.specs.Prelude.{ℕ, ◌≡◌, ◌≤◌, ◌-◌, ◌*◌, ◌⊎◌, Bool, true, List, [], ◌∷◌, drop, fold, length, map, take}
 use Rattle.shapers_base.specs.declared.plan.pause.Pause.{Pause}
 use Rattle.shapers_base.specs.declared.plan.pause.Pause.TheVariants.{SetupSyllablesIndic, SetupSyllablesKhmer, SetupSyllablesMyanmar, SetupSyllablesUse}
 use Rattle.shapers_buffer.specs.Buffer.{Buffer}
@@ -8,6 +8,8 @@ use Rattle.shapers_buffer.specs.Glyph.{clusters, without_flags}
 use Rattle.shapers_buffer.specs.Properties.{no_ligature}
 use Rattle.shapers_buffer.specs.Glyphs.{Glyph, Glyphs}
 use Rattle.shapers_buffer.specs.declared.buffer.glyph_props.GlyphProps.{GlyphProps}
+use Rattle.shapers_buffer.specs.declared.buffer.refusal.ShaperError.{ShaperError}
+use Rattle.shapers_buffer.specs.declared.buffer.refusal.ShaperError.TheVariants.{Memory, TooLong}
 use Rattle.shapers_buffer.specs.declared.buffer.syllables.Span.{Span}
 use Rattle.shapers_clusters.specs.Cuts.{IsMonotone}
 use Rattle.shapers_syllabic.specs.CircleLaws.{NoNewCluster}
@@ -52,11 +54,25 @@ text_noted noted b = record b { glyphs = map (with_note noted) b.glyphs }
 abbrev pub looked_up : (StageLookup → Buffer → Buffer) → List StageLookup → Buffer → Buffer
 looked_up substituted list b = fold (λ text lookup. substituted lookup text) b list
 
--- a text after the first of these lookups, up to the one that refused
-abbrev pub StoppedIn : (StageLookup → Buffer → Buffer) → List StageLookup → Buffer → Buffer → Type 0
-StoppedIn substituted [] old new = ⊥
-StoppedIn substituted (x ∷ xs) old new =
-    (new ≡ old) ⊎ StoppedIn substituted xs (substituted x old) new
+-- whether a lookup may find a text too long, and whether it may be refused memory for the text
+pub record LookupRefusals : Type 0 where
+  pub too_long : Bool
+  pub memory : Bool
+
+-- the refusals that a lookup may then have
+abbrev pub MayRefuse : LookupRefusals → ShaperError → Type 0
+MayRefuse may TooLong = may.too_long ≡ true
+MayRefuse may Memory = may.memory ≡ true
+MayRefuse may _ = ⊥
+
+-- a text after the first of these lookups, up to the one that refused, which may so refuse the text
+abbrev pub StoppedIn :
+    (StageLookup → Buffer → Buffer) → (StageLookup → Buffer → LookupRefusals) →
+    List StageLookup → Buffer → Buffer → ShaperError → Type 0
+StoppedIn substituted refusals [] old new e = ⊥
+StoppedIn substituted refusals (x ∷ xs) old new e =
+    (MayRefuse (refusals x old) e × (new ≡ old))
+    ⊎ StoppedIn substituted refusals xs (substituted x old) new e
 
 -- the lookups of a stage, as far as the list goes
 abbrev pub lookups_of_stage : Stage → List StageLookup → List StageLookup
@@ -69,3 +85,11 @@ FoundSpans SetupSyllablesKhmer gs spans = AreSpansOf khmer_grammar gs spans
 FoundSpans SetupSyllablesMyanmar gs spans = AreSpansOf myanmar_grammar gs spans
 FoundSpans SetupSyllablesUse gs spans = AreSpansOf universal_grammar gs spans
 FoundSpans _ gs spans = spans ≡ []
+
+-- the refusal of a pause's spans: of memory, where a grammar finds them
+abbrev pub SpansRefused : Pause → ShaperError → Type 0
+SpansRefused SetupSyllablesIndic e = e ≡ Memory
+SpansRefused SetupSyllablesKhmer e = e ≡ Memory
+SpansRefused SetupSyllablesMyanmar e = e ≡ Memory
+SpansRefused SetupSyllablesUse e = e ≡ Memory
+SpansRefused _ e = ⊥

@@ -3,7 +3,7 @@ use Rattle.std.specs.Prelude.{ℕ, ◌*◌, ◌==◌, length, max, min, Option, 
 use Rattle.shapers_buffer.specs.Buffer.{Buffer}
 use Rattle.shapers_buffer.specs.declared.buffer.level.Direction.{Direction}
 use Rattle.shapers_buffer.specs.declared.buffer.tag.Script.{Script}
-use Rattle.shapers_plan.specs.ShapePlan.{PlanView}
+use Rattle.shapers_plan.specs.EnginePlan.{PlanView}
 
 -- the text in this script and direction
 abbrev pub as_planned : Option Script → Direction → Buffer → Buffer

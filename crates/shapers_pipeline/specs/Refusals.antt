@@ -3,6 +3,7 @@ use Rattle.std.specs.Prelude.{ℕ, ◌≡◌, ◌≤◌, ◌⊎◌, List, [], �
 use Rattle.shapers_buffer.specs.Buffer.{Buffer}
 use Rattle.shapers_buffer.specs.Refusals.{RefusesLength}
 use Rattle.shapers_buffer.specs.declared.buffer.refusal.ShaperError.{ShaperError}
+use Rattle.rustybuzz_shapers.specs.Checked.{IsFirstUnmet, MetBefore}
 use Rattle.rustybuzz_shapers.specs.declared.shaper.checked.CallError.{CallError}
 use Rattle.rustybuzz_shapers.specs.declared.shaper.checked.CallError.TheVariants as call
 use Rattle.rustybuzz_shapers.specs.declared.shaper.checked.Condition.{Condition}
@@ -31,17 +32,26 @@ pub record IsPrepared (p : Preparation) (old : Buffer) : Type 0 where
   pub room : AllHadRoom old.max_len (growths p old)
   pub glyphs : GlyphsFitFor p.shaper p.plan (text_in_fractions p old).glyphs
 
--- the condition that isn't met, and what the buffer is then: as it was; or, where the glyphs aren't
--- such, with all that comes before the shaper's masks
-abbrev pub IsUnmet : Preparation → Buffer → Buffer → Condition → Type 0
-IsUnmet p old new Positions = (old.positions ≡ [] → ⊥) × (new ≡ old)
-IsUnmet p old new PlanData = (PlanFitsFor p.shaper p.plan → ⊥) × (new ≡ old)
-IsUnmet p old new Glyphs =
-    (GlyphsFitFor p.shaper p.plan (text_in_fractions p old).glyphs → ⊥)
-    × (new ≡ text_in_fractions p old)
-IsUnmet p old new _ = ⊥
+-- what each condition is for the preparation of a text: of the glyphs as they are once all that
+-- comes before the shaper's masks is done; what isn't named isn't required
+abbrev pub preparation_asks : Preparation → Buffer → Condition → Type 0
+preparation_asks p old Positions = old.positions ≡ []
+preparation_asks p old PlanData = PlanFitsFor p.shaper p.plan
+preparation_asks p old Glyphs = GlyphsFitFor p.shaper p.plan (text_in_fractions p old).glyphs
+preparation_asks p old _ = Unit {0}
 
--- why the preparation stopped, and what the buffer is then
+-- The first condition that isn't met, and what the buffer is then: as it was; or, where the glyphs
+-- aren't such, with all that comes before the shaper's masks, which had room.
+abbrev pub IsUnmet : Preparation → Buffer → Buffer → Condition → Type 0
+IsUnmet p old new Glyphs =
+    IsFirstUnmet (preparation_asks p old) Glyphs
+    × (AllHadRoom old.max_len (growths p old) × (new ≡ text_in_fractions p old))
+IsUnmet p old new c = IsFirstUnmet (preparation_asks p old) c × (new ≡ old)
+
+-- why the preparation stopped, and what the buffer is then; a step refuses once the conditions
+-- before that of the glyphs are met
 abbrev pub IsStopped : Preparation → Buffer → Buffer → CallError → Type 0
 IsStopped p old new (call.Condition c) = IsUnmet p old new c
-IsStopped p old new (call.Refused e) = OneRefused old.max_len (growths p old) e new
+IsStopped p old new (call.Refused e) =
+    MetBefore (preparation_asks p old) Glyphs
+    × OneRefused old.max_len (growths p old) e new

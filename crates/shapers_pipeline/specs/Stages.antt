@@ -1,14 +1,18 @@
 -- The stages of a plan: the lookups of each, and the pause behind them.
-use Rattle.std.specs.Prelude.{◌≡◌, ◌⊎◌, List, [], ◌∷◌, Option, None, Some}
+use Rattle.std.specs.Prelude.{◌≡◌, ◌⊎◌, Bool, List, [], ◌∷◌, Option, None, Some, Err}
 use Rattle.shapers_base.specs.Font.{Font}
 use Rattle.shapers_base.specs.declared.plan.hb_ot_shape_plan_t.{hb_ot_shape_plan_t}
 use Rattle.shapers_base.specs.declared.plan.pause.Pause.{Pause}
 use Rattle.shapers_buffer.specs.Buffer.{Buffer}
+use Rattle.shapers_buffer.specs.declared.buffer.refusal.ShaperError.{ShaperError}
 use Rattle.shapers_buffer.specs.declared.buffer.syllables.Span.{Span}
-use Rattle.rustybuzz_shapers.specs.Pauses.{PauseKeeps, Paused}
+use Rattle.rustybuzz_shapers.specs.Checked.{AsRefused, StopsAt, pause_asks}
+use Rattle.rustybuzz_shapers.specs.Pauses.{PauseKeeps, Paused, RefusesPause}
+use Rattle.rustybuzz_shapers.specs.declared.shaper.checked.CallError.{CallError}
+use Rattle.rustybuzz_shapers.specs.declared.shaper.checked.CallError.TheVariants as call
 use Rattle.shapers_plan.specs.declared.ot_map.lookups.Stage.{Stage}
 use Rattle.shapers_plan.specs.declared.ot_map.lookups.StageLookup.{StageLookup}
-use Rattle.shapers_pipeline.specs.Lookups.{FoundSpans, StoppedIn, looked_up, lookups_of_stage}
+use Rattle.shapers_pipeline.specs.Lookups.{FoundSpans, LookupRefusals, SpansRefused, StoppedIn, looked_up, lookups_of_stage}
 
 -- what stages read: the plan of the hooks, the font, what each lookup makes of a text, and the list
 -- of lookups that the stages are ranges of
@@ -44,14 +48,41 @@ abbrev pub StagesRun : Substitution → List Stage → Buffer → Buffer → Typ
 StagesRun r [] old new = new ≡ old
 StagesRun r (s ∷ ss) old new = (mid : Buffer) × (StageRun r s old mid × StagesRun r ss mid new)
 
--- a stage that stopped: the buffer is as it was before the lookup that refused, or before the pause
-abbrev pub StageStopped : Substitution → Stage → Buffer → Buffer → Type 0
-StageStopped r s old new =
-    StoppedIn r.substituted (lookups_of_stage s r.list) old new ⊎ (new ≡ stage_looked_up r s old)
+-- the error of a call that hands on a refusal such as this, and no condition
+abbrev pub IsRefusal : (ShaperError → Type 0) → CallError → Type 0
+IsRefusal Refused (call.Refused e) = Refused e
+IsRefusal Refused (call.Condition _) = ⊥
+
+-- Why a pause didn't run: the spans of its grammar were refused; or there are spans, and this is
+-- the first of the pause's conditions that isn't met, or, where all are met, the pause's own
+-- refusal.
+abbrev pub PauseStopped : Pause → hb_ot_shape_plan_t → Font → Buffer → CallError → Type 0
+PauseStopped pause plan font b e =
+    IsRefusal (SpansRefused pause) e
+    ⊎ ((spans : List Span) × (FoundSpans pause b.glyphs spans
+    × (StopsAt {T = Bool} (pause_asks pause plan spans b) (Err e)
+    × AsRefused {T = Bool} (RefusesPause pause font spans b) (Err e))))
+
+-- why the pause that a stage has didn't run; a stage without one doesn't stop there
+abbrev pub PauseStoppedIf :
+    Option Pause → hb_ot_shape_plan_t → Font → Buffer → CallError → Type 0
+PauseStoppedIf None plan font b e = ⊥
+PauseStoppedIf (Some pause) plan font b e = PauseStopped pause plan font b e
+
+-- A stage that stopped, by what its lookups may refuse, and why: a lookup refused, and the buffer
+-- is as it was before that lookup; or the pause didn't run, and the buffer is as it was before the
+-- pause.
+abbrev pub StageStopped : Substitution → (StageLookup → Buffer → LookupRefusals) → Stage →
+    Buffer → Buffer → CallError → Type 0
+StageStopped r refusals s old new e =
+    IsRefusal (StoppedIn r.substituted refusals (lookups_of_stage s r.list) old new) e
+    ⊎ (PauseStoppedIf s.pause r.plan r.font (stage_looked_up r s old) e
+    × (new ≡ stage_looked_up r s old))
 
 -- one of these stages stopped, and those before it ran
-abbrev pub StagesStopped : Substitution → List Stage → Buffer → Buffer → Type 0
-StagesStopped r [] old new = ⊥
-StagesStopped r (s ∷ ss) old new =
-    StageStopped r s old new
-    ⊎ ((mid : Buffer) × (StageRun r s old mid × StagesStopped r ss mid new))
+abbrev pub StagesStopped : Substitution → (StageLookup → Buffer → LookupRefusals) → List Stage →
+    Buffer → Buffer → CallError → Type 0
+StagesStopped r refusals [] old new e = ⊥
+StagesStopped r refusals (s ∷ ss) old new e =
+    StageStopped r refusals s old new e
+    ⊎ ((mid : Buffer) × (StageRun r s old mid × StagesStopped r refusals ss mid new e))

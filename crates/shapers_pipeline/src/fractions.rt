@@ -1,7 +1,7 @@
 //! The features of fractions.
 ghost use Rattle.std.specs.Prelude.{◌≡◌, ◌<◌, ◌≤◌, ◌+◌, length, map};
 ghost use Rattle.shapers_buffer.specs.Buffer.{flags_concat, has_flag};
-ghost use Rattle.std.specs.List.{prefix_len};
+ghost use Rattle.std.specs.List.{list_any, prefix_len};
 ghost use Rattle.shapers_buffer.specs.Clusters.{with_stretch};
 ghost use Rattle.shapers_buffer.specs.GlyphFlags.{with_bits};
 ghost use Rattle.shapers_pipeline.specs.Fractions.{fraction_around, fraction_marked, fractions_around, fractions_set, has_fractions, is_decimal_glyph, is_fraction_slash, decimals_before, decimals_behind, runs_forward, slash_alone, slash_masks};
@@ -31,6 +31,9 @@ pub(crate) fn set_fractions(masks: &DriverMasks, buffer: &mut hb_buffer_t)
     if !has_fractions(masks) {
         return;
     }
+    if !has_slash(buffer.glyphs()) {
+        return;
+    }
     let masks = slash_masks(buffer.direction(), masks);
     let flags = buffer.flags();
     buffer.walk(&mut FractionWalk { masks, flags });
@@ -42,6 +45,14 @@ fn has_fractions(masks: &DriverMasks) -> bool
     ensures { result ≡ has_fractions masks.now }
 {
     masks.frac != 0 || (masks.numr != 0 && masks.dnom != 0)
+}
+
+// Whether a fraction's slash is among these glyphs.
+#[inline]
+fn has_slash(glyphs: &[hb_glyph_info_t]) -> bool
+    ensures { result ≡ list_any is_fraction_slash glyphs.now }
+{
+    glyphs.iter().any(is_fraction_slash)
 }
 
 // Numerators stand first where the text runs forward.

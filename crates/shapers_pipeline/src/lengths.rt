@@ -11,7 +11,7 @@ use shapers_base::plan::Pause;
 use shapers_normal::ot_shape_normalize;
 use shapers_normalize::orders_alone_law;
 use shapers_plan::ot_map::{Stage, StageLookup};
-use shapers_plan::ot_shape_plan::ShapePlan;
+use shapers_plan::ot_shape_plan::EnginePlan;
 use shapers_position::ot_shape_position::{flags_law, hiding_law};
 use shapers_prepare::ot_shape_prepare::graphemes_law;
 
@@ -21,7 +21,7 @@ use shapers_prepare::ot_shape_prepare::graphemes_law;
 ///
 /// How many glyphs stretched marks add goes by the widths of their words, which the lookups decide:
 /// nothing bounds it by the length of the text.
-pub fn length_bound<L: Lookups>(plan: &ShapePlan, lookups: &L, len: usize) -> usize
+pub fn length_bound<L: Lookups>(plan: &EnginePlan, lookups: &L, len: usize) -> usize
     ensures { let growth = L.growth_of lookups.now in
         let bound = shaped_bound plan.now.shaper growth plan.now.lookups plan.now.stages len in
         result ≡ min bound (2 ^ 64 - 1) }

@@ -1,8 +1,9 @@
 //! The lookups of a font, stage by stage, with what the shaper does behind each stage.
-ghost use Rattle.std.specs.Prelude.{ℕ, ◌≡◌, ◌≢◌, ◌≤◌, ◌*◌, [], length, Err, IfOk, IsOkUnless, OnErr, OnOk};
+ghost use Rattle.std.specs.Prelude.{ℕ, ◌≡◌, ◌≢◌, ◌≤◌, ◌*◌, [], length, Err, IfErr, IfOk, IsOkUnless, OnErr, OnOk};
 ghost use Rattle.shapers_buffer.specs.declared.buffer.refusal.ShaperError.TheVariants.{Memory, TooLong};
 ghost use Rattle.shapers_pipeline.specs.Lengths.{looked_up_bound};
-ghost use Rattle.shapers_pipeline.specs.Lookups.{FoundSpans, StoppedIn, looked_up, text_noted};
+ghost use Rattle.shapers_spans.specs.Cuts.{AreSpansOf};
+ghost use Rattle.shapers_pipeline.specs.Lookups.{FoundSpans, MayRefuse, SpansRefused, StoppedIn, looked_up, text_noted};
 
 use shapers_base::buffer::{
     GlyphChange, GlyphProps, LigProps, ShaperError, Span, hb_buffer_t, hb_glyph_info_t,
@@ -10,9 +11,7 @@ use shapers_base::buffer::{
 use shapers_base::plan::Pause;
 use shapers_plan::ot_map::StageLookup;
 use shapers_position::ot_shape_position::GlyphClasses;
-use shapers_spans::{Indic, Khmer, Myanmar, Universal, spans_of};
-use std::alloc::Global;
-use std::mem;
+use shapers_spans::{Indic, Khmer, Machine, Myanmar, Universal, spans_into};
 
 /// The lookups of a font's GSUB and GPOS. Each is a function of the text: the same text becomes the
 /// same.
@@ -20,7 +19,7 @@ pub trait Lookups: GlyphClasses {
     ghost use Rattle.shapers_buffer.specs.Buffer.{Buffer};
     ghost use Rattle.shapers_buffer.specs.declared.buffer.glyph.hb_glyph_info_t.{hb_glyph_info_t};
     ghost use Rattle.shapers_buffer.specs.declared.buffer.glyph_props.GlyphProps.{GlyphProps};
-    ghost use Rattle.shapers_pipeline.specs.Lookups.{LookupGrows, LookupKeeps, PositionKeeps};
+    ghost use Rattle.shapers_pipeline.specs.Lookups.{LookupGrows, LookupKeeps, LookupRefusals, PositionKeeps};
     ghost use Rattle.shapers_plan.specs.declared.ot_map.lookups.StageLookup.{StageLookup};
 
     /// What is kept of a glyph.
@@ -32,10 +31,16 @@ pub trait Lookups: GlyphClasses {
     /// How many times as long it makes a text at most.
     ghost growth_of: { Self → StageLookup → ℕ };
 
+    /// With what it may refuse a text.
+    ghost substituting_refuses: { Self → StageLookup → Buffer → LookupRefusals };
+
     /// What one of GPOS makes of it, and what attachments do behind the last one.
     ghost positioned: { Self → StageLookup → Buffer → Buffer };
 
     ghost finished: { Self → Buffer → Buffer };
+
+    /// With what one of GPOS may refuse a text.
+    ghost positioning_refuses: { Self → StageLookup → Buffer → LookupRefusals };
 
     /// What the lookups keep in `glyph_props`, as the glyph's class of `GDEF`, before the first of
     /// them: it is called once for each glyph, of which no bit is set there yet.
@@ -53,13 +58,15 @@ pub trait Lookups: GlyphClasses {
     ///
     /// # Errors
     ///
-    /// Why the text couldn't become longer; nothing has changed then. `TooLong` doesn't come where
-    /// the buffer has room for the text's growth.
+    /// `TooLong` or `Memory`; nothing has changed then. `TooLong` doesn't come where the buffer has
+    /// room for the text's growth.
     fn substitute(&self, lookup: &StageLookup, buffer: &mut hb_buffer_t) -> Result<(), ShaperError>
         requires { buffer.old.positions ≡ [] }
         ensures ok { OnOk result (buffer.new ≡ substituted self.now lookup.now buffer.old) }
         ensures room { let times = growth_of self.now lookup.now in
             length buffer.old.glyphs * times ≤ buffer.old.max_len → result ≢ Err TooLong }
+        ensures refusal { let may = substituting_refuses self.now lookup.now buffer.old in
+            IfErr result (λ e. MayRefuse may e) }
         ensures err { OnErr result (buffer.new ≡ buffer.old) };
 
     /// Applies a lookup of GPOS to a text of glyphs with positions. It writes these and glyph
@@ -67,10 +74,12 @@ pub trait Lookups: GlyphClasses {
     ///
     /// # Errors
     ///
-    /// Why it couldn't; nothing has changed then.
+    /// `TooLong` or `Memory`; nothing has changed then.
     fn position(&self, lookup: &StageLookup, buffer: &mut hb_buffer_t) -> Result<(), ShaperError>
         requires { length buffer.old.positions ≡ length buffer.old.glyphs }
         ensures ok { OnOk result (buffer.new ≡ positioned self.now lookup.now buffer.old) }
+        ensures refusal { let may = positioning_refuses self.now lookup.now buffer.old in
+            IfErr result (λ e. MayRefuse may e) }
         ensures err { OnErr result (buffer.new ≡ buffer.old) };
 
     /// Moves the glyphs that lookups attached to others, behind the last lookup of GPOS. It writes
@@ -98,11 +107,7 @@ pub(crate) fn note_glyphs<L: Lookups>(lookups: &L, buffer: &mut hb_buffer_t)
     ensures { buffer.new ≡ text_noted (L.noted lookups.now) buffer.old }
 {
     // (lookups that panic leave the empty buffer, and no text with some of its glyphs noted)
-    let empty = hb_buffer_t::new(buffer.alloc(), buffer.max_len());
-    let mut text = mem::replace(buffer, empty);
-    let end = text.len();
-    text.change_each(0, end, &Noting { lookups });
-    *buffer = text;
+    buffer.change_outside(&Noting { lookups });
 }
 
 // The note beside one glyph.
@@ -133,7 +138,8 @@ pub(crate) fn apply_lookups<L: Lookups>(
     ensures ok { let f = L.substituted lookups.now in
         OnOk result (buffer.new ≡ looked_up f list.now buffer.old) }
     ensures err { let f = L.substituted lookups.now in
-        OnErr result (StoppedIn f list.now buffer.old buffer.new) }
+        let refusals = L.substituting_refuses lookups.now in
+        IfErr result (λ e. StoppedIn f refusals list.now buffer.old buffer.new e) }
     ensures length { let growth = L.growth_of lookups.now in
         OnOk result (length buffer.new.glyphs
         ≤ looked_up_bound growth list.now (length buffer.old.glyphs)) }
@@ -149,20 +155,37 @@ pub(crate) fn apply_lookups<L: Lookups>(
     Ok(())
 }
 
-// The syllables that a pause writes into a text, found by its grammar; none for the other pauses.
+// The syllables that a pause writes into a text, found by its grammar, in a list that is empty; none
+// for the other pauses.
 pub(crate) fn found_spans(
     pause: Pause,
     glyphs: &[hb_glyph_info_t],
-    alloc: Global,
+    list: Vec<Span>,
 ) -> Result<Vec<Span>, ShaperError>
+    requires { list.items ≡ [] }
     ensures spans { IfOk result (λ spans. FoundSpans pause glyphs.now spans.items) }
-    ensures refusal { IsOkUnless result Memory }
+    ensures refusal { IfErr result (λ e. SpansRefused pause e) }
 {
     match pause {
-        Pause::SetupSyllablesIndic => spans_of(&Indic, glyphs, alloc),
-        Pause::SetupSyllablesKhmer => spans_of(&Khmer, glyphs, alloc),
-        Pause::SetupSyllablesMyanmar => spans_of(&Myanmar, glyphs, alloc),
-        Pause::SetupSyllablesUse => spans_of(&Universal, glyphs, alloc),
-        _ => Ok(Vec::new(alloc)),
+        Pause::SetupSyllablesIndic => spans_in(&Indic, glyphs, list),
+        Pause::SetupSyllablesKhmer => spans_in(&Khmer, glyphs, list),
+        Pause::SetupSyllablesMyanmar => spans_in(&Myanmar, glyphs, list),
+        Pause::SetupSyllablesUse => spans_in(&Universal, glyphs, list),
+        _ => Ok(list),
     }
+}
+
+// The syllables of the glyphs, by a machine, in a list of which nothing stays but its room.
+#[inline]
+fn spans_in<M: Machine>(
+    machine: &M,
+    glyphs: &[hb_glyph_info_t],
+    mut list: Vec<Span>,
+) -> Result<Vec<Span>, ShaperError>
+    ensures spans { IfOk result
+        (λ spans. AreSpansOf (M.grammar machine.now) glyphs.now spans.items) }
+    ensures refusal { IsOkUnless result Memory }
+{
+    spans_into(machine, glyphs, &mut list)?;
+    Ok(list)
 }

@@ -36,6 +36,9 @@ pub(crate) fn set_features(features: &[UserRange], buffer: &mut hb_buffer_t)
     ensures { let text = map (with_features features.now) buffer.old.glyphs in
         buffer.new ≡ record buffer.old { glyphs = text } }
 {
+    if features.is_empty() {
+        return;
+    }
     let end = buffer.len();
     buffer.change_each(0, end, &Features { features });
 }

@@ -3,7 +3,7 @@ ghost use Rattle.std.specs.Prelude.{◌≡◌};
 ghost use Rattle.shapers_pipeline.specs.Planned.{as_planned, put_back};
 
 use shapers_base::buffer::{Direction, Script, hb_buffer_t};
-use shapers_plan::ot_shape_plan::ShapePlan;
+use shapers_plan::ot_shape_plan::EnginePlan;
 
 // Sets the script and direction of a text.
 #[inline]
@@ -20,7 +20,7 @@ pub(crate) fn set_script_and_direction(
 
 // Sets those of a plan.
 #[inline]
-pub(crate) fn set_to_plan(plan: &ShapePlan, buffer: &mut hb_buffer_t)
+pub(crate) fn set_to_plan(plan: &EnginePlan, buffer: &mut hb_buffer_t)
     ensures { buffer.new ≡ as_planned plan.now.plan.script plan.now.direction buffer.old }
 {
     set_script_and_direction(plan.plan().script, plan.direction(), buffer);

@@ -1,5 +1,6 @@
 //! Positions: what is done around GPOS.
-ghost use Rattle.std.specs.Prelude.{◌≡◌, OnErr, OnOk, length};
+ghost use Rattle.std.specs.Prelude.{◌≡◌, IfErr, IsOkUnless, OnErr, OnOk, length};
+ghost use Rattle.shapers_buffer.specs.declared.buffer.refusal.ShaperError.TheVariants.{Memory};
 ghost use Rattle.shapers_pipeline.specs.Lookups.{StoppedIn, looked_up};
 ghost use Rattle.shapers_pipeline.specs.Positioned.{hangs_marks, ordered_for_drawing, is_early, is_late, lookups_if, marks_zeroed_if, text_positioned, text_spaced, zeroing_of};
 ghost use Rattle.shapers_pipeline.specs.Shaped.{PositionsStopped, positioning_by};
@@ -11,7 +12,7 @@ use rustybuzz_shapers::shaper::hb_ot_shaper_t;
 use shapers_base::buffer::{Direction, ShaperError, hb_buffer_t};
 use shapers_base::plan::ZeroWidthMarks;
 use shapers_plan::ot_map::StageLookup;
-use shapers_plan::ot_shape_plan::ShapePlan;
+use shapers_plan::ot_shape_plan::EnginePlan;
 use shapers_position::ot_shape_position::{
     MetricsFont, hide_default_ignorables, set_advances, set_space_widths, zero_mark_widths,
     zero_width_default_ignorables,
@@ -20,7 +21,7 @@ use shapers_position::ot_shape_position::{
 // Gives the glyphs of a text positions, in the order that it is drawn in, and hides those that need
 // not be drawn.
 pub(crate) fn position_text<F: MetricsFont, L: Lookups>(
-    plan: &ShapePlan,
+    plan: &EnginePlan,
     settings: &ShapeSettings,
     font: &F,
     lookups: &L,
@@ -32,7 +33,8 @@ pub(crate) fn position_text<F: MetricsFont, L: Lookups>(
     ensures err { let p = positioning_by
         plan.now settings.now (F.font font.now) (F.metrics font.now) (L.marks lookups.now)
         (L.positioned lookups.now) (L.finished lookups.now) in
-        OnErr result (PositionsStopped p buffer.old buffer.new) }
+        let refusals = L.positioning_refuses lookups.now in
+        IfErr result (λ e. PositionsStopped p refusals buffer.old buffer.new e) }
 {
     let applies_gpos = plan.applies_gpos();
     let zeroing = zeroing_of(plan.shaper());
@@ -53,6 +55,7 @@ fn place_glyphs<F: MetricsFont>(font: &F, buffer: &mut hb_buffer_t) -> Result<()
     ensures ok { let text = text_spaced (F.font font.now) (F.metrics font.now) buffer.old in
         OnOk result (buffer.new ≡ text) }
     ensures paired { OnOk result (length buffer.new.positions ≡ length buffer.new.glyphs) }
+    ensures refusal { IsOkUnless result Memory }
     ensures err { OnErr result (buffer.new ≡ buffer.old) }
 {
     set_advances(font, buffer)?;
@@ -122,7 +125,9 @@ fn apply_positioning_if<L: Lookups>(
     ensures ok { let f = L.positioned lookups.now in
         OnOk result (buffer.new ≡ looked_up f (lookups_if applies_gpos list.now) buffer.old) }
     ensures err { let f = L.positioned lookups.now in
-        OnErr result (StoppedIn f (lookups_if applies_gpos list.now) buffer.old buffer.new) }
+        let refusals = L.positioning_refuses lookups.now in
+        let list = lookups_if applies_gpos list.now in
+        IfErr result (λ e. StoppedIn f refusals list buffer.old buffer.new e) }
     ensures paired { OnOk result (length buffer.new.positions ≡ length buffer.new.glyphs) }
 {
     if applies_gpos {
@@ -141,7 +146,8 @@ fn apply_positioning<L: Lookups>(
     ensures ok { let f = L.positioned lookups.now in
         OnOk result (buffer.new ≡ looked_up f list.now buffer.old) }
     ensures err { let f = L.positioned lookups.now in
-        OnErr result (StoppedIn f list.now buffer.old buffer.new) }
+        let refusals = L.positioning_refuses lookups.now in
+        IfErr result (λ e. StoppedIn f refusals list.now buffer.old buffer.new e) }
     ensures paired { OnOk result (length buffer.new.positions ≡ length buffer.new.glyphs) }
 {
     for lookup in list {

@@ -21,7 +21,7 @@ use crate::substitution::substitute_planned;
 use rustybuzz_shapers::shaper::checked::CallError;
 use shapers_base::buffer::hb_buffer_t;
 use shapers_normalize::{NormalizeFont, NormalizeTables};
-use shapers_plan::ot_shape_plan::ShapePlan;
+use shapers_plan::ot_shape_plan::EnginePlan;
 use shapers_position::ot_shape_position::{MetricsFont, propagate_flags};
 use shapers_prepare::ot_shape_prepare::UnicodeProperties;
 
@@ -45,7 +45,7 @@ const MAX_LEN_UNSET: usize = 0x3FFF_FFFF;
 /// condition `Glyphs` where a number above 65535 stands in a text whose marks may stretch, and the
 /// refusal of stretching them. Nothing has changed then.
 pub fn shape<F: NormalizeFont + MetricsFont, T: NormalizeTables + UnicodeProperties, L: Lookups>(
-    plan: &ShapePlan,
+    plan: &EnginePlan,
     settings: &ShapeSettings,
     font: &F,
     tables: &T,
@@ -71,11 +71,13 @@ pub fn shape<F: NormalizeFont + MetricsFont, T: NormalizeTables + UnicodePropert
         (L.marks lookups.now) (L.positioned lookups.now) (L.finished lookups.now) in
         let text = text_to_shape plan.now buffer.old in
         let noted = text_noted (L.noted lookups.now) (text_prepared p text) in
+        let substituting = L.substituting_refuses lookups.now in
+        let positioning = L.positioning_refuses lookups.now in
         IfErr result (λ e. (e ≡ call.Refused Memory)
         ⊎ ((left : Buffer) × (IsStopped p text left e
-        ⊎ (StagesStopped r plan.now.stages noted left
+        ⊎ (StagesStopped r substituting plan.now.stages noted left e
         ⊎ ((mid : Buffer) × (StagesRun r plan.now.stages noted mid
-        × FinishStopped q mid left e)))))) }
+        × FinishStopped q positioning mid left e)))))) }
     ensures room { let p = preparation_by plan.now settings.now.normalize (F.font font.now)
         (F.variants font.now) (T.properties tables.now) (T.tables tables.now)
         (T.texts tables.now) in
@@ -85,22 +87,24 @@ pub fn shape<F: NormalizeFont + MetricsFont, T: NormalizeTables + UnicodePropert
         let text = text_to_shape plan.now buffer.old in
         let noted = text_noted (L.noted lookups.now) (text_prepared p text) in
         let growth = L.growth_of lookups.now in
+        let refusals = L.positioning_refuses lookups.now in
         PreparationGrows → PreparationHasRoom →
         shaped_bound plan.now.shaper growth plan.now.lookups plan.now.stages
         (length buffer.old.glyphs) ≤ shape_limit buffer.old.max_len (length buffer.old.glyphs) →
         IfErr result (λ e. e ≡ call.Refused TooLong → (mid : Buffer)
         × (StagesRun r plan.now.stages noted mid × ((left : Buffer)
-        × FinishStopped q mid left e))) }
+        × FinishStopped q refusals mid left e))) }
 {
-    let kept = buffer.copy()?;
+    let kept = buffer.keep()?;
     set_to_shape(plan, buffer);
     match shape_planned(plan, settings, font, tables, lookups, buffer) {
         Ok(()) => {
             give_back(&kept, buffer);
+            buffer.recycle(kept);
             Ok(())
         }
         Err(error) => {
-            *buffer = kept;
+            buffer.restore(kept);
             Err(error)
         }
     }
@@ -121,7 +125,7 @@ fn shape_limit(max_len: usize, len: usize) -> usize
 }
 
 // Sets the script, direction and greatest length by which a plan shapes the text.
-fn set_to_shape(plan: &ShapePlan, buffer: &mut hb_buffer_t)
+fn set_to_shape(plan: &EnginePlan, buffer: &mut hb_buffer_t)
     ensures text { buffer.new ≡ text_to_shape plan.now buffer.old }
     ensures within { buffer.new.max_len ≤ buffer.old.max_len }
 {
@@ -146,7 +150,7 @@ fn shape_planned<
     T: NormalizeTables + UnicodeProperties,
     L: Lookups,
 >(
-    plan: &ShapePlan,
+    plan: &EnginePlan,
     settings: &ShapeSettings,
     font: &F,
     tables: &T,
@@ -169,10 +173,12 @@ fn shape_planned<
         let q = positioning_by plan.now settings.now (F.font font.now) (F.metrics font.now)
         (L.marks lookups.now) (L.positioned lookups.now) (L.finished lookups.now) in
         let noted = text_noted (L.noted lookups.now) (text_prepared p buffer.old) in
+        let substituting = L.substituting_refuses lookups.now in
+        let positioning = L.positioning_refuses lookups.now in
         IfErr result (λ e. IsStopped p buffer.old buffer.new e
-        ⊎ (StagesStopped r plan.now.stages noted buffer.new
+        ⊎ (StagesStopped r substituting plan.now.stages noted buffer.new e
         ⊎ ((mid : Buffer) × (StagesRun r plan.now.stages noted mid
-        × FinishStopped q mid buffer.new e)))) }
+        × FinishStopped q positioning mid buffer.new e)))) }
     ensures room { let p = preparation_by plan.now settings.now.normalize (F.font font.now)
         (F.variants font.now) (T.properties tables.now) (T.tables tables.now)
         (T.texts tables.now) in
@@ -181,11 +187,13 @@ fn shape_planned<
         (L.marks lookups.now) (L.positioned lookups.now) (L.finished lookups.now) in
         let noted = text_noted (L.noted lookups.now) (text_prepared p buffer.old) in
         let growth = L.growth_of lookups.now in
+        let refusals = L.positioning_refuses lookups.now in
         PreparationGrows → PreparationHasRoom →
         shaped_bound plan.now.shaper growth plan.now.lookups plan.now.stages
         (length buffer.old.glyphs) ≤ buffer.old.max_len →
         IfErr result (λ e. e ≡ call.Refused TooLong → (mid : Buffer)
-        × (StagesRun r plan.now.stages noted mid × FinishStopped q mid buffer.new e)) }
+        × (StagesRun r plan.now.stages noted mid
+        × FinishStopped q refusals mid buffer.new e)) }
     ensures limit { OnOk result (buffer.new.max_len ≡ buffer.old.max_len) }
 {
     substitute_planned(plan, &settings.normalize, font, tables, lookups, buffer)?;
@@ -196,7 +204,7 @@ fn shape_planned<
 
 // Gives glyphs positions, and stretches marks.
 fn finish_text<F: MetricsFont, L: Lookups>(
-    plan: &ShapePlan,
+    plan: &EnginePlan,
     settings: &ShapeSettings,
     font: &F,
     lookups: &L,
@@ -208,7 +216,8 @@ fn finish_text<F: MetricsFont, L: Lookups>(
     ensures err { let q = positioning_by
         plan.now settings.now (F.font font.now) (F.metrics font.now) (L.marks lookups.now)
         (L.positioned lookups.now) (L.finished lookups.now) in
-        IfErr result (λ e. FinishStopped q buffer.old buffer.new e) }
+        let refusals = L.positioning_refuses lookups.now in
+        IfErr result (λ e. FinishStopped q refusals buffer.old buffer.new e) }
 {
     position_text(plan, settings, font, lookups, buffer)?;
     if let Some(shaper) = plan.shaper() {

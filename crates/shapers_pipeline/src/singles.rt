@@ -39,7 +39,7 @@ impl<'a> GlyphClasses for SingleLookups<'a> {
 }
 
 impl<'a> Lookups for SingleLookups<'a> {
-    ghost use Rattle.std.specs.Prelude.{refl};
+    ghost use Rattle.std.specs.Prelude.{false, refl};
     ghost use Rattle.shapers_buffer.specs.Properties.{no_marks};
     ghost use Rattle.shapers_pipeline.specs.Singles.{singles_applied};
     ghost use Rattle.shapers_pipeline.specs.SingleLaws.{singles_grow, singles_keep};
@@ -50,9 +50,13 @@ impl<'a> Lookups for SingleLookups<'a> {
 
     ghost growth_of = { λ it lookup. 1 };
 
+    ghost substituting_refuses = { λ it lookup b. record { too_long = false; memory = false } };
+
     ghost positioned = { λ it lookup b. b };
 
     ghost finished = { λ it b. b };
+
+    ghost positioning_refuses = { λ it lookup b. record { too_long = false; memory = false } };
 
     #[inline]
     fn glyph_props(&self, _glyph: &hb_glyph_info_t) -> GlyphProps {

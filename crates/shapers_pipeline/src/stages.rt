@@ -1,11 +1,11 @@
 //! The stages of a plan: the lookups of each, and what the shaper does behind them.
-ghost use Rattle.std.specs.Prelude.{◌≡◌, ◌≤◌, ◌*◌, [], length, OnErr, OnOk};
+ghost use Rattle.std.specs.Prelude.{◌≡◌, ◌≤◌, ◌*◌, [], length, IfErr, OnErr, OnOk};
 ghost use Rattle.rustybuzz_shapers.specs.Lengths.{pause_growth};
 ghost use Rattle.shapers_pipeline.specs.Lengths.{NotTooLong, stage_bound, stages_bound};
 ghost use Rattle.shapers_buffer.specs.Buffer.{Buffer};
 ghost use Rattle.shapers_pipeline.specs.Lookups.{lookups_of_stage};
 ghost use Rattle.shapers_pipeline.specs.Planned.{as_planned, put_back};
-ghost use Rattle.shapers_pipeline.specs.Stages.{PauseRun, StageRun, StageStopped, StagesRun, StagesStopped, Substitution};
+ghost use Rattle.shapers_pipeline.specs.Stages.{PauseRun, PauseStopped, StageRun, StageStopped, StagesRun, StagesStopped, Substitution};
 
 use crate::lookups::{Lookups, apply_lookups, found_spans};
 use crate::plan::StagePlan;
@@ -23,9 +23,10 @@ use shapers_plan::ot_map::{Stage, StageLookup};
 ///
 /// # Errors
 ///
-/// A condition of a pause that isn't met, or the refusal of a lookup or a pause. The glyphs are as
-/// they were before that one, and the script and direction of the buffer as they were. `TooLong`
-/// doesn't come where `max_len` is as much as the text may grow.
+/// The refusal of a lookup; or of a pause, the first of its conditions that isn't met, its refusal,
+/// or, where its spans are found, `Memory` for these. The glyphs are as they were before that lookup
+/// or pause, and the script and direction of the buffer as they were. `TooLong` doesn't come where
+/// `max_len` is as much as the text may grow.
 pub fn run_stages<F: hb_font_t, L: Lookups>(
     plan: &StagePlan,
     font: &F,
@@ -49,7 +50,9 @@ pub fn run_stages<F: hb_font_t, L: Lookups>(
       list = plan.now.lookups.now;
     } in
         let text = as_planned plan.now.plan.now.script plan.now.direction buffer.old in
-        OnErr result ((left : Buffer) × (StagesStopped r plan.now.stages.now text left
+        let refusals = L.substituting_refuses lookups.now in
+        IfErr result (λ e. (left : Buffer)
+        × (StagesStopped r refusals plan.now.stages.now text left e
         × (buffer.new ≡ put_back buffer.old left))) }
     ensures room { let growth = L.growth_of lookups.now in
         stages_bound growth plan.now.lookups.now plan.now.stages.now (length buffer.old.glyphs)
@@ -85,7 +88,9 @@ pub(crate) fn run_planned_stages<F: hb_font_t, L: Lookups>(
       substituted = L.substituted lookups.now;
       list = plan.now.lookups.now;
     } in
-        OnErr result (StagesStopped r plan.now.stages.now buffer.old buffer.new) }
+        let refusals = L.substituting_refuses lookups.now in
+        let stages = plan.now.stages.now in
+        IfErr result (λ e. StagesStopped r refusals stages buffer.old buffer.new e) }
     ensures room { let growth = L.growth_of lookups.now in
         stages_bound growth plan.now.lookups.now plan.now.stages.now (length buffer.old.glyphs)
         ≤ buffer.old.max_len → NotTooLong result }
@@ -120,7 +125,8 @@ fn run_stage<F: hb_font_t, L: Lookups>(
       substituted = L.substituted lookups.now;
       list = plan.now.lookups.now;
     } in
-        OnErr result (StageStopped r stage buffer.old buffer.new) }
+        let refusals = L.substituting_refuses lookups.now in
+        IfErr result (λ e. StageStopped r refusals stage buffer.old buffer.new e) }
     ensures length { let growth = L.growth_of lookups.now in
         OnOk result (length buffer.new.glyphs
         ≤ stage_bound growth plan.now.lookups.now (length buffer.old.glyphs) stage) }
@@ -157,6 +163,8 @@ fn pause_with_spans<F: hb_font_t>(
 ) -> Result<(), CallError>
     requires { buffer.old.positions ≡ [] }
     ensures ok { OnOk result (PauseRun pause plan.now (F.font font.now) buffer.old buffer.new) }
+    ensures refusal { let font = F.font font.now in
+        IfErr result (λ e. PauseStopped pause plan.now font buffer.old e) }
     ensures err { OnErr result (buffer.new ≡ buffer.old) }
     ensures length { OnOk result
         (length buffer.new.glyphs ≤ length buffer.old.glyphs * pause_growth pause) }
@@ -165,7 +173,9 @@ fn pause_with_spans<F: hb_font_t>(
     ensures positions { OnOk result (buffer.new.positions ≡ []) }
     ensures limit { buffer.new.max_len ≡ buffer.old.max_len }
 {
-    let spans = found_spans(pause, buffer.glyphs(), buffer.alloc())?;
+    let list = buffer.take_spans();
+    let spans = found_spans(pause, buffer.glyphs(), list)?;
     checked_run_pause(pause, plan, font, spans.as_slice(), buffer)?;
+    buffer.give_spans(spans);
     Ok(())
 }

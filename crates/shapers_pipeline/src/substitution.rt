@@ -19,7 +19,7 @@ use crate::stages::run_planned_stages;
 use rustybuzz_shapers::shaper::checked::CallError;
 use shapers_base::buffer::hb_buffer_t;
 use shapers_normalize::{NormalizeFont, NormalizeSettings, NormalizeTables};
-use shapers_plan::ot_shape_plan::ShapePlan;
+use shapers_plan::ot_shape_plan::EnginePlan;
 use shapers_prepare::ot_shape_prepare::UnicodeProperties;
 
 /// Makes glyphs of a text's characters, and substitutes them: `prepare_text`, what the lookups keep
@@ -32,7 +32,7 @@ use shapers_prepare::ot_shape_prepare::UnicodeProperties;
 /// Those of both, and `Memory` for a copy of the text, as which it is given back: nothing has changed
 /// then. By `pipeline_lengths_law` never `TooLong` with the `max_len` that `length_bound` tells.
 pub fn substitute_text<F: NormalizeFont, T: NormalizeTables + UnicodeProperties, L: Lookups>(
-    plan: &ShapePlan,
+    plan: &EnginePlan,
     settings: &NormalizeSettings,
     font: &F,
     tables: &T,
@@ -54,23 +54,26 @@ pub fn substitute_text<F: NormalizeFont, T: NormalizeTables + UnicodeProperties,
         let r = substitution_by plan.now (F.font font.now) (L.substituted lookups.now) in
         let text = as_planned plan.now.plan.script plan.now.direction buffer.old in
         let noted = text_noted (L.noted lookups.now) (text_prepared p text) in
+        let refusals = L.substituting_refuses lookups.now in
         IfErr result (λ e. (e ≡ call.Refused Memory) ⊎ ((left : Buffer)
-        × (IsStopped p text left e ⊎ StagesStopped r plan.now.stages noted left))) }
+        × (IsStopped p text left e
+        ⊎ StagesStopped r refusals plan.now.stages noted left e))) }
     ensures room { let growth = L.growth_of lookups.now in
         PreparationGrows → PreparationHasRoom →
         shaped_bound plan.now.shaper growth plan.now.lookups plan.now.stages
         (length buffer.old.glyphs) ≤ buffer.old.max_len → NotTooLong result }
     ensures positions { OnOk result (buffer.new.positions ≡ []) }
 {
-    let kept = buffer.copy()?;
+    let kept = buffer.keep()?;
     set_to_plan(plan, buffer);
     match substitute_planned(plan, settings, font, tables, lookups, buffer) {
         Ok(()) => {
             put_back(&kept, buffer);
+            buffer.recycle(kept);
             Ok(())
         }
         Err(error) => {
-            *buffer = kept;
+            buffer.restore(kept);
             Err(error)
         }
     }
@@ -82,7 +85,7 @@ pub(crate) fn substitute_planned<
     T: NormalizeTables + UnicodeProperties,
     L: Lookups,
 >(
-    plan: &ShapePlan,
+    plan: &EnginePlan,
     settings: &NormalizeSettings,
     font: &F,
     tables: &T,
@@ -100,8 +103,9 @@ pub(crate) fn substitute_planned<
         (T.texts tables.now) in
         let r = substitution_by plan.now (F.font font.now) (L.substituted lookups.now) in
         let noted = text_noted (L.noted lookups.now) (text_prepared p buffer.old) in
+        let refusals = L.substituting_refuses lookups.now in
         IfErr result (λ e. IsStopped p buffer.old buffer.new e
-        ⊎ StagesStopped r plan.now.stages noted buffer.new) }
+        ⊎ StagesStopped r refusals plan.now.stages noted buffer.new e) }
     ensures room { let growth = L.growth_of lookups.now in
         PreparationGrows → PreparationHasRoom →
         shaped_bound plan.now.shaper growth plan.now.lookups plan.now.stages

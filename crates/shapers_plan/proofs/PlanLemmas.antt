@@ -11,7 +11,7 @@ use Rattle.rustybuzz_shapers.specs.declared.shaper.hb_ot_shaper_t.{hb_ot_shaper_
 use Rattle.shapers_plan.specs.Compiling.{features_for, lookups_for, map_for, positioning_for, stages_for}
 use Rattle.shapers_plan.specs.FontFeatures.{FontTables}
 use Rattle.shapers_plan.specs.Planning.{driver_masks, hooks_plan, plan_of_requests, range_of_user, takes_gpos}
-use Rattle.shapers_plan.specs.ShapePlan.{PlanView}
+use Rattle.shapers_plan.specs.EnginePlan.{PlanView}
 use Rattle.shapers_plan.specs.declared.ot_map.lookups.Stage.{Stage}
 use Rattle.shapers_plan.specs.declared.ot_map.lookups.StageLookup.{StageLookup}
 use Rattle.shapers_plan.specs.declared.ot_map.masks.MappedFeature.{MappedFeature}

@@ -1,5 +1,5 @@
 pub mod FontFeatures
-pub mod ShapePlan
+pub mod EnginePlan
 pub mod Ordered
 pub mod Requests
 pub mod Masks

@@ -13,6 +13,7 @@ use Rattle.shapers_base.specs.declared.plan.arabic.StretchStart.TheVariants as s
 use Rattle.shapers_base.specs.declared.plan.breaks.BreakFlags.TheVariants as breaks
 use Rattle.shapers_base.specs.declared.plan.hb_ot_shape_plan_t.{hb_ot_shape_plan_t}
 use Rattle.shapers_base.specs.declared.plan.indic.BaseSearch.TheVariants.{WithoutMedials}
+use Rattle.shapers_base.specs.declared.plan.indic.ZeroContext.TheVariants.{OldSpec}
 use Rattle.shapers_base.specs.declared.plan.planner.Request.{Request}
 use Rattle.rustybuzz_shapers.specs.Hooks.{data_created, with_created}
 use Rattle.rustybuzz_shapers.specs.Records.{wants_gpos_script}
@@ -21,7 +22,7 @@ use Rattle.shapers_plan.specs.Collecting.{is_for_all, requests_for, text_shaper}
 use Rattle.shapers_plan.specs.Compiling.{features_for, lookups_for, map_for, positioning_for, stages_for}
 use Rattle.shapers_plan.specs.FontFeatures.{FontTables}
 use Rattle.shapers_plan.specs.Masks.{value_in}
-use Rattle.shapers_plan.specs.ShapePlan.{PlanView}
+use Rattle.shapers_plan.specs.EnginePlan.{PlanView}
 use Rattle.shapers_plan.specs.declared.ot_map.masks.MappedFeature.{MappedFeature}
 use Rattle.shapers_plan.specs.declared.ot_shape_plan.DriverMasks.{DriverMasks}
 use Rattle.shapers_plan.specs.declared.ot_shape_plan.choices.ShapeChoices.{ShapeChoices}
@@ -42,12 +43,13 @@ driver_masks map = record {
 }
 
 -- the choices of a caller who makes none: marks stretch, and breaks are flagged, as HarfBuzz's code
--- has it, and Indic looks for the base as rustybuzz does
+-- has it, and Indic looks for the base and asks the font as rustybuzz does
 abbrev pub default_choices : ShapeChoices
 default_choices = record {
   stretch_start = starts.AsCode;
   break_flags = breaks.AsCode;
   base_search = WithoutMedials;
+  zero_context = OldSpec;
 }
 
 -- the plan that the shaper's hooks read, with the caller's choices and the data that the shaper
@@ -61,6 +63,7 @@ hooks_plan shaper script choices map =
       stretch_start = choices.stretch_start;
       break_flags = choices.break_flags;
       base_search = choices.base_search;
+      zero_context = choices.zero_context;
     } in
     option_map_or (λ s. with_created (data_created s plan) plan) shaper plan
 

@@ -41,7 +41,7 @@ pub struct DriverMasks {
 
 /// What is decided for the texts of one script, direction and font before one is seen.
 #[derive(Debug, Drop)]
-pub struct ShapePlan {
+pub struct EnginePlan {
     shaper: Option<hb_ot_shaper_t>,
     plan: hb_ot_shape_plan_t,
     direction: Direction,
@@ -53,10 +53,10 @@ pub struct ShapePlan {
     ranges: Vec<UserRange>,
 }
 
-impl Model for ShapePlan {
+impl Model for EnginePlan {
     ghost use Rattle.std.specs.Prelude.{IsTrue};
     ghost use Rattle.shapers_plan.specs.Ranges.{stages_fit};
-    ghost use Rattle.shapers_plan.specs.ShapePlan.{PlanView};
+    ghost use Rattle.shapers_plan.specs.EnginePlan.{PlanView};
 
     ghost Value = { PlanView };
 
@@ -75,7 +75,7 @@ impl Model for ShapePlan {
     ghost invariant = { λ p. IsTrue (stages_fit p.substitutions.items p.lookups.items) };
 }
 
-impl ShapePlan {
+impl EnginePlan {
     /// The plan of a text of this script and direction in a font, with the user's features. The
     /// shaper follows from the script by which the font's features were found (HarfBuzz's planner).
     ///
@@ -125,7 +125,7 @@ impl ShapePlan {
         let compiled = CompiledMap::new(alloc, features, planner.requests())?;
         let ranges = user_ranges(alloc, compiled.features.as_slice(), users)?;
         let masks = driver_masks(&compiled.map);
-        Ok(ShapePlan {
+        Ok(EnginePlan {
             shaper,
             plan: hooks_plan(shaper, script, choices, compiled.map),
             direction,

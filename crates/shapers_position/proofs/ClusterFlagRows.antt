@@ -1,9 +1,9 @@
 -- The flags of whole clusters, computed: what is kept of each set of flags, and who shares them.
-use Rattle.std.specs.Prelude.{◌≡◌, ℕ, List, [], ◌∷◌, map, refl}
+use Rattle.std.specs.Prelude.{◌≡◌, ℕ, true, false, List, [], ◌∷◌, map, refl}
 use Rattle.shapers_buffer.specs.declared.buffer.flags.BufferFlags.{BufferFlags}
 use Rattle.shapers_buffer.specs.Glyphs.{Glyph, Glyphs}
 use Rattle.shapers_buffer.specs.Glyph.{clusters, default_glyph}
-use Rattle.shapers_position.specs.ClusterFlags.{cluster_groups, flags_wanted, flags_of, flags_propagated, joins_settled, with_flags}
+use Rattle.shapers_position.specs.ClusterFlags.{cluster_groups, flags_wanted, flags_of, flags_propagated, is_flagged, joins_settled, with_flags}
 
 abbrev wanting : ℕ → BufferFlags
 wanting bits = record { 0 = bits }
@@ -17,6 +17,11 @@ masks gs = map (λ g. g.mask) gs
 -- all sets of the three flags
 abbrev sets : List ℕ
 sets = 0 ∷ 1 ∷ 2 ∷ 3 ∷ 4 ∷ 5 ∷ 6 ∷ 7 ∷ []
+
+-- a flag is one of the lowest three bits
+flagged : map (λ m. is_flagged (glyph 0 m)) (0 ∷ 1 ∷ 2 ∷ 4 ∷ 7 ∷ 8 ∷ 9 ∷ 0xFFFFFFF8 ∷ [])
+    ≡ false ∷ true ∷ true ∷ true ∷ true ∷ false ∷ true ∷ false ∷ []
+flagged = refl
 
 -- unsafe to break takes the tatweel; a tatweel is unsafe to break and to concatenate
 settled : map joins_settled sets ≡ 0 ∷ 1 ∷ 2 ∷ 3 ∷ 7 ∷ 1 ∷ 7 ∷ 3 ∷ []

@@ -8,4 +8,6 @@ pub mod PositionSteps
 pub mod RemovalLaws
 pub mod RemovalSteps
 mod SpaceRows
+pub mod Unflagged
+pub mod Untouched
 mod WidthRows

@@ -1,6 +1,6 @@
 -- The glyph flags of whole clusters: bit 1 unsafe to break, 2 unsafe to concatenate, 4 safe to
 -- insert a tatweel (HarfBuzz's hb_propagate_flags).
-use Rattle.std.specs.Prelude.{ℕ, ◌%◌, ◌==◌, bit_and, bit_or, List, [], ◌∷◌, fold, map, if◌then◌else◌}
+use Rattle.std.specs.Prelude.{ℕ, ◌%◌, ◌==◌, bit_and, bit_or, Bool, not, List, [], ◌∷◌, fold, map, if◌then◌else◌}
 use Rattle.std.specs.List.{flat_map}
 use Rattle.shapers_buffer.specs.declared.buffer.flags.BufferFlags.{BufferFlags}
 use Rattle.shapers_buffer.specs.Glyphs.{Glyph, Glyphs}
@@ -24,6 +24,10 @@ cluster_groups (g ∷ gs) = group_with_first g (cluster_groups gs)
 -- the flags that one of these glyphs has
 abbrev pub flags_of : Glyphs → ℕ
 flags_of gs = fold (λ flags g. bit_or flags (g.mask % 8)) 0 gs
+
+-- whether a glyph has one
+abbrev pub is_flagged : Glyph → Bool
+is_flagged g = not (g.mask % 8 == 0)
 
 -- Flags where tatweels are wanted: what is unsafe to break takes none, and what takes one is unsafe
 -- to break and to concatenate.

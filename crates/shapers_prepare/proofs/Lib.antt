@@ -8,4 +8,5 @@ mod PropertyRows
 pub mod PropertySteps
 mod RotationRows
 pub mod TurningSteps
+mod Untouched
 pub mod VowelSteps

@@ -7,6 +7,7 @@ use Rattle.shapers_buffer.specs.Glyph.{default_glyph}
 use Rattle.shapers_buffer.specs.Properties.{is_continuation}
 use Rattle.shapers_normal.specs.Properties.{is_from_to}
 use Rattle.shapers_prepare.specs.CharacterProperties.{CharacterProperties}
+use Rattle.shapers_prepare.specs.PropertyWalk.{properties_with}
 use Rattle.shapers_prepare.specs.GlyphProperties.{kept_class, kept_properties, properties_set, with_properties}
 
 -- some characters of Unicode, and in ASCII a mark that is ignorable, which there is none of
@@ -29,6 +30,12 @@ sample = record {
   mirroring = λ c. None;
   vertical = λ c. None;
 }
+
+-- a category and a class, with each bit by itself
+by_bits : map (λ p. p.0) (properties_with Mn 230 false false false ∷ properties_with Cf 1 true false false
+    ∷ properties_with So 0 false true false ∷ properties_with Mn 0 true true true ∷ [])
+    ≡ 58892 ∷ 289 ∷ 154 ∷ 236 ∷ []
+by_bits = refl
 
 -- a glyph with all fields set keeps the fields that aren't its character's, and what lookups noted
 abbrev busy : Glyph

@@ -6,15 +6,18 @@ use Rattle.std.proofs.Math.Nat.{suc-mod, mod-lt}
 use Rattle.std.proofs.lemmas.Bool.{eqb-true, false≢true}
 use Rattle.std.proofs.lemmas.Bool.Decides.{nat_tests}
 use Rattle.std.proofs.lemmas.List.{map_push}
+use Rattle.shapers_buffer.specs.declared.buffer.category.hb_unicode_general_category_t.{hb_unicode_general_category_t}
+use Rattle.shapers_buffer.specs.declared.buffer.category.hb_unicode_general_category_t.TheVariants.{Cc}
 use Rattle.shapers_buffer.specs.Glyphs.{Glyph, Glyphs}
 use Rattle.shapers_buffer.specs.Glyph.{characters}
 use Rattle.shapers_buffer.specs.Lists.{each_after}
+use Rattle.shapers_buffer.specs.Properties.{CONTINUATION, properties, set_property}
 use Rattle.shapers_buffer.proofs.ListLaws.{last_of, suffix_len_yes, suffix_len_no}
 use Rattle.shapers_prepare.specs.declared.ot_shape_prepare.properties.Open.{Open}
 use Rattle.shapers_prepare.specs.declared.ot_shape_prepare.properties.Open.TheVariants.{Joiner, HalfFlag, Nothing}
 use Rattle.shapers_prepare.specs.CharacterProperties.{CharacterProperties}
 use Rattle.shapers_prepare.specs.GlyphProperties.{always_continues, continues_grapheme, ends_in_half_flag, ends_joined, is_mark_character, is_regional_indicator, is_zero_width_joiner, properties_set, with_properties, with_properties_behind}
-use Rattle.shapers_prepare.specs.PropertyWalk.{goes_on_behind, half_flag_behind, left_open, then_open}
+use Rattle.shapers_prepare.specs.PropertyWalk.{goes_on_behind, half_flag_behind, left_open, properties_with, then_open}
 
 -- a joiner is no half of a flag
 no_flag : (c : ℕ) → is_zero_width_joiner c ≡ true → is_regional_indicator c ≡ false
@@ -134,3 +137,20 @@ set_from p before (g ∷ gs) =
 
 pub set_all : (p : CharacterProperties) (gs : Glyphs) → set_behind p Nothing gs ≡ properties_set p gs
 set_all p gs = set_from p [] gs
+
+-- a character without a class that is always drawn has neither bit of those that aren't
+plain_continuing : (general : hb_unicode_general_category_t) → properties_with general 0 false true false
+    ≡ set_property CONTINUATION true (properties general 0)
+plain_continuing Cc = refl
+plain_continuing _ = refl
+
+plain_beginning : (general : hb_unicode_general_category_t) → properties_with general 0 false false false
+    ≡ set_property CONTINUATION false (properties general 0)
+plain_beginning Cc = refl
+plain_beginning _ = refl
+
+pub plain_properties : (general : hb_unicode_general_category_t) (continues : Bool)
+    → properties_with general 0 false continues false
+    ≡ set_property CONTINUATION continues (properties general 0)
+plain_properties general true = plain_continuing general
+plain_properties general false = plain_beginning general

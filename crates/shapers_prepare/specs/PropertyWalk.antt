@@ -1,5 +1,8 @@
 -- Words of the code's walk, which keeps what the characters so far leave open.
 use Rattle.std.specs.Prelude.{ℕ, Bool, ◌||◌, List, if◌then◌else◌}
+use Rattle.shapers_buffer.specs.declared.buffer.category.hb_unicode_general_category_t.{hb_unicode_general_category_t}
+use Rattle.shapers_buffer.specs.declared.buffer.unicode_props.UnicodeProps.{UnicodeProps}
+use Rattle.shapers_buffer.specs.Properties.{CONTINUATION, HIDDEN, IGNORABLE, properties, set_property}
 use Rattle.shapers_prepare.specs.declared.ot_shape_prepare.properties.Open.{Open}
 use Rattle.shapers_prepare.specs.declared.ot_shape_prepare.properties.Open.TheVariants.{Joiner, HalfFlag, Nothing}
 use Rattle.shapers_prepare.specs.CharacterProperties.{CharacterProperties}
@@ -25,3 +28,10 @@ abbrev pub goes_on_behind : CharacterProperties → Open → ℕ → Bool
 goes_on_behind p Joiner c = always_continues c || p.pictographic c
 goes_on_behind p HalfFlag c = always_continues c || is_regional_indicator c
 goes_on_behind p Nothing c = always_continues c
+
+-- the properties of a category and a class, and whether a character need not be drawn, carries on
+-- the grapheme before it, and is seen by lookups all the same
+abbrev pub properties_with : hb_unicode_general_category_t → ℕ → Bool → Bool → Bool → UnicodeProps
+properties_with general class ignorable continues hidden =
+    set_property HIDDEN hidden (set_property CONTINUATION continues
+    (set_property IGNORABLE ignorable (properties general class)))

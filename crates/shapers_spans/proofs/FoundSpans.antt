@@ -1,16 +1,16 @@
 -- The loops over the syllables of a text.
-use Rattle.std.proofs.Common.{◌≡◌, ℕ, ◌+◌, ◌-◌, ◌<◌, ◌≤◌, Bool, true, false, ◌==◌, List, [], ◌∷◌, ◌++◌, drop, take, length, sum_by, refl, sym, ap, subst, ◌∙◌, arith, append_assoc, rules, inl, Option}
-use Rattle.std.specs.Prelude.{nat_lt, All}
+use Rattle.std.proofs.Common.{◌≡◌, ℕ, ◌+◌, ◌-◌, ◌<◌, ◌≤◌, Bool, true, false, ◌==◌, List, [], ◌∷◌, ◌++◌, drop, take, length, sum_by, refl, sym, ap, subst, ◌∙◌, arith, append_assoc, rules, inl, inr, ⊎_elim, Option}
+use Rattle.std.specs.Prelude.{nat_lt, is_ok, All, OnErr, Result, Ok, Err}
 use Rattle.std.specs.List.{list_all}
-use Rattle.std.proofs.lemmas.Bool.{lt-ltb, eq-eqb, and_from, cond_both, eqb-false}
-use Rattle.std.proofs.lemmas.List.{append-nil, drop_all, length-drop, drop-drop, take_rest}
+use Rattle.std.proofs.lemmas.Bool.{lt-ltb, cases_lt, eq-eqb, and_from, cond_both, eqb-false, true≢false}
+use Rattle.std.proofs.lemmas.List.{append-nil, drop_all, length-append, length-drop, drop-drop, take_rest}
 use Rattle.std.proofs.lemmas.List.Elements.{All-append}
 use Rattle.std.proofs.lemmas.List.Folds.{list_all-append}
 use Rattle.std.proofs.lemmas.List.Sums.{sum_by-append}
 use Rattle.shapers_buffer.specs.Glyphs.{Glyphs}
 use Rattle.shapers_buffer.specs.declared.buffer.syllables.Span.{Span}
 use Rattle.shapers_spans.specs.Cuts.{AreSpansOf}
-use Rattle.shapers_spans.specs.Grammar.{Grammar, OpensWith, IsCutFrom, reach_of, lead_spans}
+use Rattle.shapers_spans.specs.Grammar.{Grammar, IsCutFrom, IsSyllable, OpensWith, lead_spans, reach_of, read_of}
 use Rattle.shapers_spans.specs.Joined.{Joined, KnowsJoiners}
 use Rattle.shapers_spans.specs.Watch.{Watch, IsWatched}
 use Rattle.shapers_spans.proofs.Reached.{reach-le, behind-is-read}
@@ -26,6 +26,33 @@ pub record Found (g : Grammar) (gs : Glyphs) (start : ℕ) (spans : List Span) :
   pub len : sum_by (λ (s : Span). s.len) spans ≡ start
   pub each : list_all (λ (s : Span). nat_lt 0 s.len) spans ≡ true
   pub kinds : All (λ (s : Span). s.kind ≤ 15) spans
+  pub few : (all : List Span) → IsCutFrom g (drop (reach_of g.passes gs 0) gs) all
+      → (more : List Span) × (IsCutFrom g (drop start gs) more × (length all ≡ length rest + length more))
+
+-- whatever cuts the text, its spans are as long
+syllable_len : (g : Grammar) (w : List ℕ) (s t : Span) → IsSyllable g w s → IsSyllable g w t → s.len ≡ t.len
+syllable_len g w s t (inl a) (inl b) =
+    ⊎_elim
+    (λ l. absurd (a.longest t.len l b.within b.rule b.first.takes))
+    (λ l. ⊎_elim (λ m. absurd (b.longest s.len m a.within a.rule a.first.takes)) (λ m. omega (arith, l, m)) (cases_lt t.len s.len))
+    (cases_lt s.len t.len)
+syllable_len g w s t (inl a) (inr b) = absurd (b.none s.len a.some a.within a.rule a.first.takes)
+syllable_len g w s t (inr a) (inl b) = absurd (a.none t.len b.some b.within b.rule b.first.takes)
+syllable_len g w s t (inr a) (inr b) = a.one ∙ sym b.one
+
+opening_len : (g : Grammar) (gs : Glyphs) (s t : Span) → OpensWith g gs s → OpensWith g gs t → s.len ≡ t.len
+opening_len g gs s t a b =
+    a.len ∙ ap (reach_of g.passes gs) (syllable_len g (read_of g.passes gs) a.read b.read a.syllable b.syllable) ∙ sym b.len
+
+-- so behind the first span it cuts what is left
+next_cut : (g : Grammar) (gs : Glyphs) (span : Span) (more : List Span) → IsCutFrom g gs more → OpensWith g gs span
+    → 0 < span.len → span.len ≤ length gs
+    → (rest : List Span) × (IsCutFrom g (drop span.len gs) rest × (length more ≡ length rest + 1))
+next_cut g gs span [] nil opens some within = absurd (omega (arith, some, within, ap length nil))
+next_cut g gs span (s ∷ rest) cut opens some within = (
+  rest,
+  (subst (λ n. IsCutFrom g (drop n gs) rest) (opening_len g gs s span cut.0 opens) cut.1, omega arith),
+)
 
 one_fits : (s : Span) → s.kind ≤ 15 → All (λ (t : Span). t.kind ≤ 15) (s ∷ [])
 one_fits s h = search (rules, h)
@@ -66,6 +93,7 @@ found_start g gs start spans z k e s = record {
   len = ap (λ (ss : List Span). sum_by (λ (t : Span). t.len) ss) s ∙ lead_len start g.other;
   each = ap (λ (ss : List Span). list_all (λ (t : Span). nat_lt 0 t.len) ss) s ∙ lead_each start g.other;
   kinds = subst (λ (ss : List Span). All (λ (t : Span). t.kind ≤ 15) ss) (sym s) (lead_kinds start g.other k);
+  few = (λ all h. (all, (subst (λ n. IsCutFrom g (drop n gs) all) (sym e) h, omega arith)));
 }
 
 pub found_next : (g : Grammar) (gs : Glyphs) (start : ℕ) (span : Span) (spans new : List Span)
@@ -98,6 +126,15 @@ found_next g gs start span spans new f opens some within kind read e =
           (and_from (nat_lt 0 span.len) true (lt-ltb 0 span.len some) refl);
       kinds = subst (λ (ss : List Span). All (λ (t : Span). t.kind ≤ 15) ss) (sym e)
           (All-append (λ (t : Span). t.kind ≤ 15) spans (span ∷ []) f.kinds (one_fits span kind));
+      few = (λ all h.
+          let (more, known) = f.few all h in
+          let (left, then) = next_cut g (drop start gs) span more known.0 opens some within in (
+            left,
+            (
+              subst (λ xs. IsCutFrom g xs left) on then.0,
+              omega (arith, known.1, then.1, length-append f.rest (span ∷ [])),
+            ),
+          ));
     }
 
 pub found_all : (g : Grammar) (gs : Glyphs) (start : ℕ) (spans : List Span) → Found g gs start spans
@@ -115,6 +152,39 @@ found_all g gs start spans f l =
           f.each (eq-eqb (sum_by (λ (s : Span). s.len) spans) (length gs) (f.len ∙ e));
       kinds = f.kinds;
     }
+
+-- before the text's end there are fewer than in any list that cuts it
+pub found_fewer : (g : Grammar) (gs : Glyphs) (start : ℕ) (spans all : List Span) → Found g gs start spans
+    → start < length gs → AreSpansOf g gs all → length spans < length all
+found_fewer g gs start spans all f before are =
+    let (more, known) = f.few are.cut.rest are.cut.cut in
+    let lead = lead_spans (reach_of g.passes gs 0) g.other in
+    omega (
+      arith,
+      known.1,
+      some more known.0,
+      ap length f.whole,
+      ap length are.cut.whole,
+      length-append lead f.rest,
+      length-append lead are.cut.rest,
+    )
+  where
+    some : (more : List Span) → IsCutFrom g (drop start gs) more → 0 < length more
+    some [] nil = absurd (omega (arith, before, length-drop start gs, ap length nil))
+    some (s ∷ more) cut = omega arith
+
+-- what a refusal says
+pub refused : {T E P : Type 0} (r : Result T E) → false ≡ is_ok r → OnErr r P → P
+refused (Ok x) is full = absurd (true≢false (sym is))
+refused (Err e) is full = full
+
+-- as in front
+pub lead_within : (g : Grammar) (gs : Glyphs) (start kind : ℕ) (all : List Span) → start ≡ reach_of g.passes gs 0
+    → kind ≡ g.other → AreSpansOf g gs all → length (lead_spans start kind) ≤ length all
+lead_within g gs start kind all e k are =
+    let lead = lead_spans (reach_of g.passes gs 0) g.other in
+    let same : lead_spans start kind ≡ lead = ap (λ n. lead_spans n kind) e ∙ ap (lead_spans (reach_of g.passes gs 0)) k in
+    omega (arith, ap length same, ap length are.cut.whole, length-append lead are.cut.rest)
 
 -- before the first span
 

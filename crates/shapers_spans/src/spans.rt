@@ -1,6 +1,7 @@
 //! The syllables of a text, as a list.
-ghost use Rattle.std.specs.Prelude.{◌≡◌, ◌+◌, ◌<◌, ◌≤◌, [], IfOk, IsOkUnless, OnOk};
+ghost use Rattle.std.specs.Prelude.{◌≡◌, ◌+◌, ◌<◌, ◌≤◌, List, [], length, vec_capacity, IfOk, IsOk, IsOkUnless, OnErr, OnOk};
 ghost use Rattle.shapers_buffer.specs.declared.buffer.refusal.ShaperError.TheVariants.{Memory};
+ghost use Rattle.shapers_buffer.specs.declared.buffer.syllables.Span.{Span};
 ghost use Rattle.shapers_spans.specs.Cuts.{AreSpansOf};
 ghost use Rattle.shapers_spans.specs.Grammar.{lead_spans};
 
@@ -37,6 +38,8 @@ pub fn spans_into<M: Machine>(
 ) -> Result<(), ShaperError>
     ensures spans { OnOk result (AreSpansOf (M.grammar machine.now) glyphs.now spans.new.items) }
     ensures refusal { IsOkUnless result Memory }
+    ensures room { (all : List Span) → AreSpansOf (M.grammar machine.now) glyphs.now all →
+        length all ≤ vec_capacity spans.old → IsOk result }
 {
     spans_into_with::<M, Brand>(machine, glyphs, spans, Blank::new(1))
 }
@@ -54,6 +57,8 @@ fn spans_into_with<M: Machine, L: Ledger>(
     requires some { 0 < blank.parts }
     ensures spans { OnOk result (AreSpansOf (M.grammar machine.now) glyphs.now spans.new.items) }
     ensures refusal { IsOkUnless result Memory }
+    ensures room { (all : List Span) → AreSpansOf (M.grammar machine.now) glyphs.now all →
+        length all ≤ vec_capacity spans.old → IsOk result }
 {
     let mut count = Reads::<L>::new(blank, 0);
     spans_into_counted(machine, glyphs, spans, &mut count)
@@ -65,6 +70,8 @@ fn push_lead(lead: usize, kind: u8, spans: &mut Vec<Span>) -> Result<(), ShaperE
     requires { spans.old.items ≡ [] }
     ensures ok { OnOk result (spans.new.items ≡ lead_spans lead kind) }
     ensures refusal { IsOkUnless result Memory }
+    ensures full { OnErr result (vec_capacity spans.old < length (lead_spans lead kind)) }
+    ensures capacity { vec_capacity spans.old ≤ vec_capacity spans.new }
 {
     if lead == 0 {
         return Ok(());
@@ -86,6 +93,8 @@ pub fn spans_into_counted<M: Machine, L: Ledger>(
     ensures spans { OnOk result (AreSpansOf (M.grammar machine.now) glyphs.now spans.new.items) }
     ensures counted { OnOk result (count.new.reads ≤ count.old.reads + 5) }
     ensures refusal { IsOkUnless result Memory }
+    ensures room { (all : List Span) → AreSpansOf (M.grammar machine.now) glyphs.now all →
+        length all ≤ vec_capacity spans.old → IsOk result }
 {
     spans.clear();
     let mut start = machine.next_read(glyphs, 0);

@@ -28,5 +28,7 @@ pub use laws::{
 };
 pub use moving::{move_before, place_among};
 pub use pause::reorder_pause;
-pub use reordering::{MayChange, Reorder, ReorderBySteps, reorder_syllables};
+pub use reordering::{
+    MayChange, Reorder, ReorderBySteps, reorder_syllables, reorder_syllables_by_steps,
+};
 pub use set_up::{flag_syllables_in, set_up_by_bytes, set_up_syllables};

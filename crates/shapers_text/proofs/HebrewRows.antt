@@ -157,11 +157,19 @@ no_triples : map (λ cs. triple_place (of_classes cs)) ([] ∷ (20 ∷ []) ∷ (
 unfolding modified_combining_class general_category
 no_triples = refl
 
--- nor are glyphs that are no marks, whatever their high bytes are
-no_marks : map (λ category. triple_place (of_category category (20 ∷ 22 ∷ 25 ∷ [])))
-    (Lo ∷ Cc ∷ Cf ∷ Zs ∷ Me ∷ Mc ∷ Mn ∷ []) ≡ None ∷ None ∷ None ∷ None ∷ Some 0 ∷ Some 0 ∷ Some 0 ∷ []
+-- glyphs of any category are, but for Cf and Zs, whose high bytes are no classes
+by_category : map (λ category. triple_place (of_category category (20 ∷ 22 ∷ 25 ∷ [])))
+    (Lo ∷ Cc ∷ Cf ∷ Zs ∷ Me ∷ Mc ∷ Mn ∷ []) ≡ Some 0 ∷ Some 0 ∷ None ∷ None ∷ Some 0 ∷ Some 0 ∷ Some 0 ∷ []
 unfolding modified_combining_class general_category
-no_marks = refl
+by_category = refl
+
+-- the first of two triples of letters
+abbrev letters : Glyphs
+letters = of_category Lo (20 ∷ 22 ∷ 25 ∷ 20 ∷ 22 ∷ 25 ∷ [])
+
+letters_swapped : marks_swapped 0 6 letters ≡ of_category Lo (20 ∷ 25 ∷ 22 ∷ 20 ∷ 22 ∷ 25 ∷ [])
+unfolding modified_combining_class general_category
+letters_swapped = refl
 
 -- behind others, at the end of the text, and the first of two, which may overlap what is nearly one
 later : map (λ cs. triple_place (of_classes cs)) ((0 ∷ 20 ∷ 22 ∷ 25 ∷ []) ∷ (20 ∷ 20 ∷ 22 ∷ 25 ∷ [])

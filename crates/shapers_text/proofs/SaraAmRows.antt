@@ -5,7 +5,7 @@ use Rattle.std.specs.List.{range_with_len}
 use Rattle.shapers_buffer.specs.declared.buffer.category.hb_unicode_general_category_t.TheVariants.{Mn}
 use Rattle.shapers_buffer.specs.Glyphs.{Glyph}
 use Rattle.shapers_buffer.specs.declared.buffer.level.BufferClusterLevel.TheVariants.{MonotoneGraphemes, MonotoneCharacters, Characters}
-use Rattle.shapers_buffer.specs.Properties.{general_category}
+use Rattle.shapers_buffer.specs.Properties.{general_category, modified_combining_class}
 use Rattle.shapers_text.specs.Thai.{is_above_base, is_sara_am, is_thai, joins_before, nikhahit, sara_aa, sara_am_stretches, sara_am_sources, wants_forms}
 
 -- 0E33 and 0EB3 alone
@@ -48,33 +48,37 @@ full = record {
   unicode_props = record { 0 = 0x0967 };
 }
 
-thai_nikhahit : nikhahit full ≡ record full { glyph_id = 0x0E4D; unicode_props = record { 0 = 0x00EC } }
+thai_nikhahit : nikhahit full ≡ record full { glyph_id = 0x0E4D; unicode_props = record { 0 = 0x09EC } }
+unfolding modified_combining_class general_category
 thai_nikhahit = refl
 
 thai_sara_aa : sara_aa full ≡ record full { glyph_id = 0x0E32 }
 thai_sara_aa = refl
 
 lao_nikhahit : nikhahit (record full { glyph_id = 0x0EB3 })
-    ≡ record full { glyph_id = 0x0ECD; unicode_props = record { 0 = 0x00EC } }
+    ≡ record full { glyph_id = 0x0ECD; unicode_props = record { 0 = 0x09EC } }
+unfolding modified_combining_class general_category
 lao_nikhahit = refl
 
 lao_sara_aa : sara_aa (record full { glyph_id = 0x0EB3 }) ≡ record full { glyph_id = 0x0EB2 }
 lao_sara_aa = refl
 
--- of properties that are all ones, of none, and of a letter's
+-- of properties that are all ones, of none, of a letter's, and of Cf and Zs, whose byte is no class
 abbrev with_props : ℕ → Glyph
 with_props n = record full { unicode_props = record { 0 = n } }
 
-nikhahit_properties : map (λ n. (nikhahit (with_props n)).unicode_props.0) (0xFFFF ∷ 0 ∷ 0x0007 ∷ 0xFF07 ∷ 0x00E7 ∷ [])
-    ≡ 0x00EC ∷ 0x008C ∷ 0x008C ∷ 0x008C ∷ 0x00EC ∷ []
+nikhahit_properties : map (λ n. (nikhahit (with_props n)).unicode_props.0) (0xFFFF ∷ 0 ∷ 0x0007 ∷ 0xFF07 ∷ 0x00E7 ∷ 0xFF01
+    ∷ 0xFF1D ∷ []) ≡ 0xFFEC ∷ 0x008C ∷ 0x008C ∷ 0xFF8C ∷ 0x00EC ∷ 0x008C ∷ 0x008C ∷ []
+unfolding modified_combining_class general_category
 nikhahit_properties = refl
 
 nikhahit_category : map (λ n. general_category (nikhahit (with_props n)).unicode_props) (0xFFFF ∷ 0 ∷ []) ≡ Mn ∷ Mn ∷ []
-unfolding general_category
+unfolding modified_combining_class general_category
 nikhahit_category = refl
 
 nikhahit_of_ones : nikhahit (with_props 0xFFFF)
-    ≡ record full { glyph_id = 0x0E4D; unicode_props = record { 0 = 0x00EC } }
+    ≡ record full { glyph_id = 0x0E4D; unicode_props = record { 0 = 0xFFEC } }
+unfolding modified_combining_class general_category
 nikhahit_of_ones = refl
 
 sara_aa_of_ones : sara_aa (with_props 0xFFFF)

@@ -1,10 +1,13 @@
 -- The rule of SARA AM with a guard: it leaves what is no SARA AM. A text is rewritten alike with it.
-use Rattle.std.proofs.Common.{◌≡◌, ℕ, ◌-◌, ◌+◌, ◌*◌, ◌/◌, ◌%◌, ◌<◌, bit_and, Bool, true, false, if◌then◌else◌, List, [], ◌∷◌, flat_map, reverse, refl, arith}
+use Rattle.std.proofs.Common.{◌≡◌, ℕ, ◌-◌, ◌+◌, ◌*◌, ◌/◌, ◌%◌, ◌<◌, bit_and, Bool, true, false, if◌then◌else◌, List, [], ◌∷◌, flat_map, reverse, refl, ap, ◌∙◌, arith}
 use Rattle.std.specs.Int.Bits.{or_add_and}
 use Rattle.std.proofs.lemmas.Nat.Bits.{and_pow}
 use Rattle.shapers_buffer.specs.Glyphs.{Glyph}
 use Rattle.shapers_buffer.specs.Lists.{opened_back}
-use Rattle.shapers_buffer.specs.Properties.{with_bit, without_bit}
+use Rattle.shapers_buffer.specs.declared.buffer.category.hb_unicode_general_category_t.TheVariants.{Cc, Mn}
+use Rattle.shapers_buffer.specs.declared.buffer.unicode_props.UnicodeProps.{UnicodeProps}
+use Rattle.shapers_buffer.specs.Properties.{CONTINUATION, modified_combining_class, set_property, with_bit, with_general_category, without_bit, without_property}
+use Rattle.shapers_buffer.proofs.PropertyLemmas.{continuation_keeps, set_is_read}
 use Rattle.shapers_text.specs.Thai.{is_sara_am, SaraAmRule, in_two, glyph_rule, nikhahit, sara_aa}
 use Rattle.shapers_text.specs.ThaiLaws.{without_name}
 
@@ -29,19 +32,34 @@ guarded_alike = search (arith, pieces_alike)
 bit_7 : (n : ℕ) → bit_and n 0x80 ≡ n / 128 % 2 * 128
 bit_7 n = and_pow n 7
 
-hidden_number : (k : ℕ) → k < 8
-    → without_bit 0x80 (0 + 32 * (with_bit 0x80 (12 + 32 * k) / 32 % 8)) ≡ without_bit 0x80 (0 + 32 * k)
-hidden_number k small =
-    let set_is : (with_bit 0x80 (12 + 32 * k)) ≡ 12 + 32 * k + 128 - (12 + 32 * k) / 128 % 2 * 128 =
-    omega (arith, or_add_and (12 + 32 * k) 0x80, bit_7) in
+hidden_number : (k class : ℕ) → k < 8
+    → without_bit 0x80 (0 + 32 * (with_bit 0x80 (12 + 32 * k + 256 * class) / 32 % 8) + 256 * class)
+    ≡ without_bit 0x80 (0 + 32 * k + 256 * class)
+hidden_number k class small =
+    let old = 12 + 32 * k + 256 * class in
+    let set_is : with_bit 0x80 old ≡ old + 128 - old / 128 % 2 * 128 = omega (arith, or_add_and old 0x80, bit_7) in
     search (arith, bit_7)
+
+class_stays : (p : UnicodeProps)
+    → modified_combining_class (set_property CONTINUATION true (with_general_category Mn p)) ≡ modified_combining_class p
+class_stays p = (continuation_keeps (with_general_category Mn p)).class true ∙ (set_is_read p).class_stays Mn
+
+hidden_properties : (p : UnicodeProps)
+    → without_property CONTINUATION (with_general_category Cc (set_property CONTINUATION true (with_general_category Mn p)))
+    ≡ without_property CONTINUATION (with_general_category Cc p)
+hidden_properties p =
+    let k = p.0 / 32 % 8 in
+    let class = modified_combining_class p in
+    let made : UnicodeProps = set_property CONTINUATION true (with_general_category Mn p) in
+    ap (λ c. let r : UnicodeProps = record { 0 = without_bit 0x80 (0 + 32 * (made.0 / 32 % 8) + 256 * c) } in r) (class_stays p)
+    ∙ ap (λ n. let r : UnicodeProps = record { 0 = n } in r) (hidden_number k class (omega arith))
 
 -- but for what the rewriting changes, the parts of a SARA AM are that SARA AM, and others stay
 pub guarded_nikhahit : (g : Glyph) → without_name ((guarded glyph_rule).nikhahit g) ≡ without_name g
 guarded_nikhahit g =
     elim (is_sara_am g.glyph_id) as (λ b. is_sara_am g.glyph_id ≡ b
     → without_name (if b then nikhahit g else g) ≡ without_name g) [
-      | true ↦ λ e. search (arith, hidden_number)
+      | true ↦ λ e. search (arith, hidden_properties)
       | false ↦ λ e. refl
     ] refl
 

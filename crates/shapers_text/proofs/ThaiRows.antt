@@ -10,13 +10,14 @@ use Rattle.shapers_buffer.specs.declared.buffer.level.BufferClusterLevel.TheVari
 use Rattle.shapers_buffer.specs.Glyph.{default_glyph, clusters, characters}
 use Rattle.shapers_text.specs.Thai.{sara_am_sources, sara_am_stretches}
 use Rattle.shapers_buffer.specs.Buffer.{new_buffer}
-use Rattle.shapers_buffer.specs.Properties.{general_category, is_continuation}
+use Rattle.shapers_buffer.specs.Properties.{general_category, is_continuation, modified_combining_class}
 use Rattle.shapers_base.specs.Font.{Font}
 use Rattle.shapers_base.specs.declared.plan.hb_ot_shape_plan_t.{hb_ot_shape_plan_t}
 use Rattle.shapers_base.specs.declared.plan.PlanData.TheVariants as data_of
 use Rattle.shapers_base.specs.declared.plan.arabic.StretchStart.TheVariants as starts
 use Rattle.shapers_base.specs.declared.plan.breaks.BreakFlags.TheVariants as breaks
 use Rattle.shapers_base.specs.declared.plan.indic.BaseSearch.TheVariants.{WithoutMedials}
+use Rattle.shapers_base.specs.declared.plan.indic.ZeroContext.TheVariants.{OldSpec}
 use Rattle.shapers_text.specs.ThaiForms.{preprocessed_in_thai, preprocessed_text}
 use Rattle.shapers_text.specs.ThaiLaws.{kept_view, new_place, without_name}
 
@@ -51,11 +52,12 @@ tone-new_place = refl
 -- only NIKHAHIT is made a mark and a continuation
 made-marks : map (λ g. is_continuation g.unicode_props) (found MonotoneGraphemes (0x0E14 ∷ 0x0E4B ∷ 0x0E33 ∷ []))
     ≡ false ∷ true ∷ false ∷ false ∷ []
+unfolding modified_combining_class general_category
 made-marks = refl
 
 made-categories : map (λ g. general_category g.unicode_props)
     (found MonotoneGraphemes (0x0E14 ∷ 0x0E4B ∷ 0x0E33 ∷ [])) ≡ Cc ∷ Mn ∷ Cc ∷ Cc ∷ []
-unfolding general_category
+unfolding modified_combining_class general_category
 made-categories = refl
 
 -- before two marks
@@ -154,7 +156,8 @@ abbrev named : ℕ → Glyph
 named c = record full { glyph_id = c }
 
 hidden_names : map (λ c. without_name (named c)) (0x0E32 ∷ 0x0E33 ∷ 0x0E4D ∷ 0x0EB2 ∷ 0x0EB3 ∷ 0x0ECD ∷ [])
-    ≡ replicate 6 (record full { glyph_id = 0; unicode_props = record { 0 = 0x0020 } })
+    ≡ replicate 6 (record full { glyph_id = 0; unicode_props = record { 0 = 0x0920 } })
+unfolding modified_combining_class general_category
 hidden_names = refl
 
 shown_names : map (λ c. without_name (named c)) (0x0E31 ∷ 0x0E34 ∷ 0x0E4C ∷ 0x0E4E ∷ 0x0EB1 ∷ 0x0EB4 ∷ 0x0ECC ∷ 0x0ECE
@@ -199,6 +202,7 @@ plan_for tag = record {
   break_flags =
       breaks.AsCode;
   base_search = WithoutMedials;
+  zero_context = OldSpec;
   plan_data = data_of.None;
 }
 

@@ -20,7 +20,8 @@ is_sheva_or_hiriq class = class == 22 || class == 23
 abbrev pub is_meteg_or_below : ℕ → Bool
 is_meteg_or_below class = class == 25 || class == 220
 
--- whether the first three glyphs are marks of those classes, one of each, in that order
+-- Whether the first three glyphs are of those classes, one of each, in that order. A glyph of such
+-- a class counts as a mark, whatever its category.
 abbrev pub opens_triple : Glyphs → Bool
 opens_triple (a ∷ (b ∷ (c ∷ gs))) =
     is_patah_or_qamats (modified_combining_class a.unicode_props)

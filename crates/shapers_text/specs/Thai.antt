@@ -25,8 +25,8 @@ is_thai_above_base u =
 abbrev pub is_above_base : ℕ → Bool
 is_above_base u = is_thai_above_base (bit_and u 0xFFFFFF7F)
 
--- NIKHAHIT, a continuation of category Mn and class 0, and SARA AA out of SARA AM (Unicode's
--- decomposition)
+-- NIKHAHIT, a continuation of category Mn, and SARA AA out of SARA AM (Unicode's decomposition);
+-- both keep its class, which Unicode's SARA AM has none of
 abbrev pub nikhahit : Glyph → Glyph
 nikhahit am = record am {
   glyph_id = am.glyph_id + 0x1A;

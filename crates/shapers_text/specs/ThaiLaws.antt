@@ -36,8 +36,8 @@ pub record ClustersInTwo (level : BufferClusterLevel) (us cs js : List ℕ) : Ty
 abbrev pub is_of_sara_am : ℕ → Bool
 is_of_sara_am u = is_sara_am u || is_sara_am (u + 1) || is_sara_am (u - 0x1A)
 
--- a glyph without what the rewriting changes of these: the character, its category, the high byte
--- and the continuation
+-- a glyph without what the rewriting changes of these: the character, its category (of Cf and Zs
+-- with the high byte, which is no class) and the continuation
 abbrev pub without_number : Glyph → Glyph
 without_number g =
     let other = with_general_category Cc g.unicode_props in
@@ -47,8 +47,8 @@ abbrev pub without_name : Glyph → Glyph
 without_name g = if is_of_sara_am g.glyph_id then without_number g else g
 
 -- What it gives: rs. But for its order it is the merged text with each SARA AM taken in rule. Each
--- glyph is its source after the merges; one of a SARA AM is so in all but character, category, high
--- byte and continuation. So no cluster rises, and glyph flags stay unless it fell.
+-- glyph is its source after the merges; one of a SARA AM is so in all but character, category and
+-- continuation. So no cluster rises, and glyph flags stay unless it fell.
 pub record InTwoHolds (level : BufferClusterLevel) (gs rs : Glyphs) : Type 0 where
   pub made : map without_name rs
       ≡ map without_name (pick (sara_am_sources (characters gs))

@@ -106,7 +106,7 @@ fn find_triple(glyphs: &[hb_glyph_info_t], start: usize, end: usize) -> Option<u
     None
 }
 
-// Whether the first three are marks of which the last two change places.
+// Whether the first three are of such classes that the last two change places.
 #[inline]
 fn opens_triple(marks: &[hb_glyph_info_t]) -> bool
     ensures { result ≡ opens_triple marks.now }

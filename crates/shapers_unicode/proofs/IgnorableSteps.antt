@@ -1,7 +1,6 @@
 -- Ignorable characters by steps.
 use Rattle.std.proofs.Common.{not, ◌&&◌, refl}
-use Rattle.ucd_table.proofs.RunsLemmas.{one_if}
-use Rattle.ucd_table.proofs.Stepped.{Stepped, of_ranges, map_stepped, zip_stepped}
+use Rattle.ucd_table.proofs.Stepped.{Stepped, of_ranges, zip_stepped}
 use Rattle.ucd_table.proofs.StepsLemmas.{rises_from}
 use Rattle.ucd_table.specs.Rows.{in_ranges}
 use Rattle.shapers_unicode.specs.Ignorable.{default_ignorable, drawn_ranges, ignorable_property}
@@ -16,6 +15,3 @@ unfolding default_ignorable rises_from drawn_ranges property_stepped
 ignorable_stepped =
     zip_stepped (λ i d. i && not d) ignorable_property (in_ranges drawn_ranges) property_stepped
     (of_ranges drawn_ranges refl)
-
-abbrev pub number_stepped : Stepped (λ c. one_if (default_ignorable c))
-number_stepped = map_stepped one_if default_ignorable ignorable_stepped

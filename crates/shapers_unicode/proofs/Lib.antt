@@ -1,11 +1,10 @@
+pub mod CharacterSteps
+pub mod CharacterTable
 pub mod ClassSteps
-pub mod ClassTable
 pub mod CompositionLemmas
 pub mod CompositionTable
 pub mod GeneralSteps
-pub mod GeneralTable
 pub mod IgnorableSteps
-pub mod IgnorableTable
 pub mod IndicSteps
 pub mod IndicTable
 pub mod JoiningSteps

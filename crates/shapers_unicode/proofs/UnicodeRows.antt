@@ -4,6 +4,7 @@ use Rattle.ucd_table.proofs.Computing.{tables}
 use Rattle.shapers_base.specs.declared.plan.joining.hb_arabic_joining_type_t.TheVariants as joins
 use Rattle.shapers_buffer.specs.declared.buffer.category.hb_unicode_general_category_t.TheVariants as general
 use Rattle.shapers_unicode.specs.BlockRows.{block_rows}
+use Rattle.shapers_unicode.specs.CharacterBits.{character_bits}
 use Rattle.shapers_unicode.specs.ClassRows.{class_rows}
 use Rattle.shapers_unicode.specs.Classes.{changed_classes, class_exceptions, modified_class}
 use Rattle.shapers_unicode.specs.ExclusionRanges.{exclusion_ranges}
@@ -35,6 +36,14 @@ categories : map category_of_character (0x41 ∷ 0x61 ∷ 0x30 ∷ 0x20 ∷ 0x37
     ∷ general.Lo ∷ general.Cn ∷ []
 unfolding tables category_of_character general_rows
 categories = refl
+
+-- the number kept of A, a, 0, space, a soft hyphen, acute, Hebrew's sheva, whose class is changed, the grapheme
+-- joiner, the joiner, Hangul's filler, an unassigned code point, Tibetan's TSA -PHRU
+kept : map character_bits (0x41 ∷ 0x61 ∷ 0x30 ∷ 0x20 ∷ 0xAD ∷ 0x301 ∷ 0x5B0 ∷ 0x34F ∷ 0x200D ∷ 0x3164 ∷ 0x378 ∷ 0xF39 ∷ [])
+    ≡ 9 ∷ 5 ∷ 13 ∷ 29 ∷ 33 ∷ 58892 ∷ 5644 ∷ 44 ∷ 33 ∷ 7 ∷ 2 ∷ 32524 ∷ []
+unfolding tables character_bits category_of_character general_rows default_ignorable ignorable_ranges drawn_ranges
+    modified_class class_rows class_exceptions changed_classes
+kept = refl
 
 -- alef, beh, tatweel, Syriac's alaph, dalath and rish, a mark, the joiner, the non-joiner, Phags-pa's
 -- superfixed letter RA, A

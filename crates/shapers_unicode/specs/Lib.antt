@@ -1,5 +1,6 @@
 pub mod Answers
 pub mod BlockRows
+pub mod CharacterBits
 pub mod ClassRows
 pub mod Classes
 pub mod CompositionRows

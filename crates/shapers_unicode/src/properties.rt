@@ -1,5 +1,6 @@
 //! Properties of characters.
 ghost use Rattle.std.specs.Prelude.{◌≡◌};
+ghost use Rattle.shapers_unicode.specs.CharacterBits.{character_bits};
 ghost use Rattle.shapers_unicode.specs.Classes.{modified_class};
 ghost use Rattle.shapers_unicode.specs.General.{category_of_character};
 ghost use Rattle.shapers_unicode.specs.Ignorable.{default_ignorable};
@@ -9,9 +10,9 @@ ghost use Rattle.shapers_unicode.specs.Indic.{indic_categories};
 ghost use Rattle.shapers_unicode.specs.Joining.{joining_type};
 
 use crate::table::value_of;
-use crate::tables::class::{CLASS_BLOCKS, CLASS_INDEX, CLASS_TAIL};
-use crate::tables::general::{GENERAL_BLOCKS, GENERAL_INDEX, GENERAL_TAIL};
-use crate::tables::ignorable::{IGNORABLE_BLOCKS, IGNORABLE_INDEX, IGNORABLE_TAIL};
+use crate::tables::character::{
+    CHARACTER_BLOCKS, CHARACTER_INDEX, CHARACTER_KINDS, CHARACTER_TAIL,
+};
 use crate::tables::indic::{INDIC_BLOCKS, INDIC_INDEX, INDIC_PAIRS, INDIC_TAIL};
 use crate::tables::joining::{JOINING_BLOCKS, JOINING_INDEX, JOINING_TAIL};
 use crate::tables::pictographic::{PICTOGRAPHIC_BLOCKS, PICTOGRAPHIC_INDEX, PICTOGRAPHIC_TAIL};
@@ -19,12 +20,28 @@ use crate::tables::universal::{UNIVERSAL_BLOCKS, UNIVERSAL_INDEX, UNIVERSAL_TAIL
 use shapers_base::plan::{Category, Position, hb_arabic_joining_type_t};
 use shapers_buffer::buffer::hb_unicode_general_category_t;
 
+// The general category of a character, whether a font need not draw it, and its class, in one number
+// that one look-up tells: callers that want several of them read it once.
+#[inline]
+fn character_bits(c: char) -> u16
+    ensures { result ≡ character_bits c }
+{
+    let kind = value_of(
+        &CHARACTER_INDEX,
+        &CHARACTER_BLOCKS,
+        &CHARACTER_TAIL,
+        c as u32,
+    );
+    CHARACTER_KINDS[kind as usize]
+}
+
 /// The general category of a character.
+#[inline]
 pub fn general_category(c: char) -> hb_unicode_general_category_t
     ensures { result ≡ category_of_character c }
 {
-    let number = value_of(&GENERAL_INDEX, &GENERAL_BLOCKS, &GENERAL_TAIL, c as u32);
-    hb_unicode_general_category_t::from_number_or_unassigned(number)
+    let number = character_bits(c) % 32;
+    hb_unicode_general_category_t::from_number_or_unassigned(number as u8)
 }
 
 /// How a character joins its neighbours.
@@ -36,23 +53,20 @@ pub fn joining_type(c: char) -> hb_arabic_joining_type_t
 }
 
 /// The class by which a mark is ordered: its canonical combining class as HarfBuzz changes it.
+#[inline]
 pub fn modified_combining_class(c: char) -> u8
     ensures { result ≡ modified_class c }
 {
-    value_of(&CLASS_INDEX, &CLASS_BLOCKS, &CLASS_TAIL, c as u32)
+    (character_bits(c) / 256) as u8
 }
 
 /// Whether a font need not draw a character: Unicode's default ignorable characters but Hangul's fillers
 /// and Duployan's format controls.
+#[inline]
 pub fn is_default_ignorable(c: char) -> bool
     ensures { result ≡ default_ignorable c }
 {
-    value_of(
-        &IGNORABLE_INDEX,
-        &IGNORABLE_BLOCKS,
-        &IGNORABLE_TAIL,
-        c as u32,
-    ) == 1
+    character_bits(c) / 32 % 2 == 1
 }
 
 /// Whether a character is a pictograph that may be part of an emoji sequence (`Extended_Pictographic`).

@@ -6,9 +6,7 @@ ghost use Rattle.rustybuzz_shapers.specs.Checked.{AsRefused, FirstUnmet, StopsAt
 ghost use Rattle.rustybuzz_shapers.specs.Pauses.{PauseKeeps, Paused, RefusesPause, pause_circles};
 
 use super::conditions::{are_glyph_numbers, is_arabic};
-use super::{
-    HookOutcome, has_positions, hb_ot_shaper_t, kinds_fit, lacks_positions, pause_fits, run_pause,
-};
+use super::{has_positions, hb_ot_shaper_t, kinds_fit, lacks_positions, pause_fits, run_pause};
 use shapers_base::buffer::{ShaperError, Span, hb_buffer_t};
 use shapers_base::font::{Tables, hb_font_t};
 use shapers_base::plan::{Pause, Preprocess, hb_ot_shape_plan_t};
@@ -69,7 +67,6 @@ impl hb_ot_shaper_t {
     ghost use Rattle.rustybuzz_shapers.specs.Checked.{marks_ask, masks_ask, postprocess_asks, preprocess_asks};
     ghost use Rattle.shapers_clusters.specs.FlagLaw.{OnlyFlagsAdded};
     ghost use Rattle.rustybuzz_shapers.specs.Hooks.{MarksKeep, MarksReordered, MasksSet, PostprocessKeeps, Postprocessed, Preprocessed, PreprocessKeeps, RefusesPostprocess, RefusesPreprocess, preprocess_answer};
-    ghost use Rattle.rustybuzz_shapers.specs.Outcomes.{outcome};
     ghost use Rattle.rustybuzz_shapers.specs.Standing.{has_hook};
     ghost use Rattle.rustybuzz_shapers.specs.declared.shaper.Hook.TheVariants.{PostprocessGlyphs, SetupMasks, ReorderMarks};
     ghost use Rattle.rustybuzz_shapers.specs.Stretched.{glyphs_added};
@@ -113,10 +110,10 @@ impl hb_ot_shaper_t {
         face: &F,
         tables: &T,
         buffer: &mut hb_buffer_t,
-    ) -> Result<HookOutcome, CallError>
+    ) -> Result<Option<()>, CallError>
         ensures conditions { StopsAt (masks_ask self plan.now buffer.old) result }
         ensures answer { let there = has_hook self SetupMasks in
-            IfOk result (λ answer. answer ≡ outcome there) }
+            IfOk result (λ answer. is_some answer ≡ there) }
         ensures masks { let tables = T.tables tables.now in
             OnOk result (MasksSet self plan.now tables buffer.old buffer.new) }
         ensures flags { OnOk result (OnlyFlagsAdded buffer.old.glyphs buffer.new.glyphs) }
@@ -139,10 +136,10 @@ impl hb_ot_shaper_t {
         buffer: &mut hb_buffer_t,
         start: usize,
         end: usize,
-    ) -> Result<HookOutcome, CallError>
+    ) -> Result<Option<()>, CallError>
         ensures conditions { StopsAt (marks_ask self start end buffer.old) result }
         ensures answer { let there = has_hook self ReorderMarks in
-            IfOk result (λ answer. answer ≡ outcome there) }
+            IfOk result (λ answer. is_some answer ≡ there) }
         ensures marks { OnOk result (MarksReordered self start end buffer.old buffer.new) }
         ensures laws { OnOk result (MarksKeep self start end buffer.old buffer.new) }
         ensures refusal { AsRefused IsOk result }
@@ -165,10 +162,10 @@ impl hb_ot_shaper_t {
         plan: &hb_ot_shape_plan_t,
         face: &F,
         buffer: &mut hb_buffer_t,
-    ) -> Result<HookOutcome, CallError>
+    ) -> Result<Option<()>, CallError>
         ensures conditions { StopsAt (postprocess_asks self plan.now buffer.old) result }
         ensures answer { let there = has_hook self PostprocessGlyphs in
-            IfOk result (λ answer. answer ≡ outcome there) }
+            IfOk result (λ answer. is_some answer ≡ there) }
         ensures ok { let font = F.font face.now in
             OnOk result (Postprocessed self plan.now font buffer.old buffer.new) }
         ensures laws { let font = F.font face.now in

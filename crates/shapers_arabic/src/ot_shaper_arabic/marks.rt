@@ -95,8 +95,8 @@ fn may_have_modifier(marks: &[hb_glyph_info_t]) -> bool
     marks.iter().any(may_modify)
 }
 
-// Whether the mark may modify a letter: by its class, if it has one, and by where its character
-// stands. (Few marks may, and it is faster to ask this of all marks first.)
+// Whether the mark may modify a letter: by its class, if its category has one, and by where its
+// character stands. (Few marks may, and it is faster to ask this of all marks first.)
 #[inline]
 fn may_modify(mark: &hb_glyph_info_t) -> bool
     ensures { result ≡ may_modify mark.now }

@@ -1,6 +1,6 @@
 ghost use Rattle.std.specs.Prelude.{◌≡◌, Some, slice_get, slice_index_or};
 ghost use Rattle.shapers_buffer.specs.declared.buffer.category.hb_unicode_general_category_t.TheVariants.{Cn};
-ghost use Rattle.shapers_buffer.specs.Category.{categories, category_number, is_mark};
+ghost use Rattle.shapers_buffer.specs.Category.{categories, category_number, has_class, is_mark};
 
 /// The general categories of the Unicode Character Database, in their order: one byte, from 0 to 29,
 /// as HarfBuzz numbers them.
@@ -172,5 +172,14 @@ impl hb_unicode_general_category_t {
         ensures { result ≡ is_mark self }
     {
         matches!(self, Self::Mc | Self::Me | Self::Mn)
+    }
+
+    /// Whether a character of this category has a combining class: any but Cf and Zs, of which that
+    /// byte says which joiner or which kind of space it is.
+    #[inline]
+    pub fn has_class(self) -> bool
+        ensures { result ≡ has_class self }
+    {
+        !matches!(self, Self::Cf | Self::Zs)
     }
 }

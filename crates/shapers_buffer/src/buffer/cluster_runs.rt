@@ -14,9 +14,9 @@ use super::{BufferClusterLevel, hb_buffer_t};
 /// place behind them, and their cluster.
 #[derive(Clone, Copy, Debug)]
 pub struct ClusterRun {
-    start: usize,
-    end: usize,
-    cluster: u32,
+    pub(super) start: usize,
+    pub(super) end: usize,
+    pub(super) cluster: u32,
 }
 
 impl ClusterRun {

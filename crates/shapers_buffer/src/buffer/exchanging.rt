@@ -1,9 +1,9 @@
 //! Lists taken out of the buffer and exchanged with the caller's, so that no glyph is copied and
 //! the caller's room is used again.
-ghost use Rattle.std.specs.Prelude.{◌≡◌, [], length, IsTrue, OnOk, OnErr, if◌then◌else◌};
+ghost use Rattle.std.specs.Prelude.{◌≡◌, [], length, OnOk, OnErr, if◌then◌else◌};
 ghost use Rattle.shapers_buffer.specs.Buffer.{can_be_positions};
 ghost use Rattle.shapers_buffer.specs.Refusals.{RefusesLength};
-ghost use Rattle.shapers_buffer.specs.Settings.{are_paired, with_text};
+ghost use Rattle.shapers_buffer.specs.Settings.{positions_of_text, with_text};
 
 use super::glyph::{GlyphPosition, hb_glyph_info_t};
 use super::hb_buffer_t;
@@ -53,7 +53,12 @@ impl hb_buffer_t {
         if glyphs.len() > self.max_len {
             return Err(ShaperError::TooLong);
         }
-        make_room(&mut self.places, &mut self.spare, glyphs.len())?;
+        make_room(
+            &mut self.places,
+            &mut self.spare,
+            &mut self.group_room,
+            glyphs.len(),
+        )?;
         self.pos.clear();
         mem::swap(&mut self.info, glyphs);
         Ok(())
@@ -62,6 +67,7 @@ impl hb_buffer_t {
     /// Exchanges the buffer's positions for those of the list, none or one per glyph, and returns
     /// true; for any other number of them it returns false and nothing changes.
     #[inline]
+    #[must_use]
     pub fn exchange_positions(&mut self, positions: &mut Vec<GlyphPosition>) -> bool
         ensures answer { result ≡ can_be_positions positions.old.items self.old }
         ensures changed { let taken = record self.old { positions = positions.old.items } in
@@ -76,8 +82,9 @@ impl hb_buffer_t {
         fits
     }
 
-    /// Exchanges the buffer's text for another: its glyphs, its positions (none, or one per glyph)
-    /// and its settings. Refuses by the number of glyphs, and then all is as it was.
+    /// Exchanges the buffer's text for another: its glyphs, its positions and its settings. Positions
+    /// that are not one per glyph are dropped. Refuses by the number of glyphs, and then all is as
+    /// it was.
     ///
     /// # Errors
     ///
@@ -90,9 +97,8 @@ impl hb_buffer_t {
         positions: &mut Vec<GlyphPosition>,
         settings: &BufferSettings,
     ) -> Result<(), ShaperError>
-        requires paired { IsTrue (are_paired positions.old.items glyphs.old.items) }
-        ensures ok { OnOk result (self.new ≡
-            with_text glyphs.old.items positions.old.items settings.now self.old) }
+        ensures ok { let placed = positions_of_text glyphs.old.items positions.old.items in
+            OnOk result (self.new ≡ with_text glyphs.old.items placed settings.now self.old) }
         ensures glyphs_out { OnOk result (glyphs.new.items ≡ self.old.glyphs) }
         ensures positions_out { OnOk result (positions.new.items ≡ self.old.positions) }
         ensures length { RefusesLength settings.now.max_len (length glyphs.old.items) result }
@@ -103,10 +109,19 @@ impl hb_buffer_t {
         if glyphs.len() > settings.max_len {
             return Err(ShaperError::TooLong);
         }
-        make_room(&mut self.places, &mut self.spare, glyphs.len())?;
+        make_room(
+            &mut self.places,
+            &mut self.spare,
+            &mut self.group_room,
+            glyphs.len(),
+        )?;
+        let paired = positions.len() == glyphs.len();
         self.max_len = settings.max_len;
         mem::swap(&mut self.info, glyphs);
         mem::swap(&mut self.pos, positions);
+        if !paired {
+            self.pos.clear();
+        }
         self.set_settings(settings);
         Ok(())
     }

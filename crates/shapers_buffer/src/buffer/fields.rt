@@ -54,6 +54,7 @@ impl hb_buffer_t {
     /// Takes positions, none or one per glyph, and returns true; for any other number of them it
     /// returns false and nothing changes.
     #[inline]
+    #[must_use]
     pub fn set_positions(&mut self, positions: Vec<GlyphPosition>) -> bool
         ensures answer { result ≡ can_be_positions positions.items self.old }
         ensures changed { let taken = record self.old { positions = positions.items } in

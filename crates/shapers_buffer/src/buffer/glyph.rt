@@ -1,3 +1,7 @@
+ghost use Rattle.std.specs.Prelude.{◌≡◌};
+ghost use Rattle.shapers_buffer.specs.Properties.{SUBSTITUTED, LIGATED, MULTIPLIED, IGNORABLE, CONTINUATION, component, general_category, is_continuation, is_ignorable, is_ligated, is_multiplied, is_substituted, modified_combining_class, set_mark, set_property, with_component, with_general_category, with_modified_combining_class};
+
+use super::category::hb_unicode_general_category_t;
 use super::glyph_props::GlyphProps;
 use super::lig_props::LigProps;
 use super::unicode_props::UnicodeProps;
@@ -42,6 +46,151 @@ impl hb_glyph_info_t {
         category: 0,
         auxiliary: 0,
     };
+
+    /// The `General_Category` of the glyph's character in the Unicode Character Database.
+    #[inline]
+    pub fn general_category(&self) -> hb_unicode_general_category_t
+        ensures { result ≡ general_category self.now.unicode_props }
+    {
+        self.unicode_props.general_category()
+    }
+
+    /// The canonical combining class of the glyph's character, as HarfBuzz renumbers it.
+    #[inline]
+    pub fn modified_combining_class(&self) -> u8
+        ensures { result ≡ modified_combining_class self.now.unicode_props }
+    {
+        self.unicode_props.modified_combining_class()
+    }
+
+    /// The component of a ligature that a mark is attached to, or which part of several the glyph
+    /// is, 0 to 15: 0 for a ligature itself.
+    #[inline]
+    pub fn lig_comp(&self) -> u8
+        ensures { result ≡ component self.now.lig_props }
+    {
+        self.lig_props.component()
+    }
+
+    /// Whether a lookup put the glyph in.
+    #[inline]
+    pub fn substituted(&self) -> bool
+        ensures { result ≡ is_substituted self.now.glyph_props }
+    {
+        self.glyph_props.is_substituted()
+    }
+
+    /// Whether a lookup put the glyph in for several.
+    #[inline]
+    pub fn ligated(&self) -> bool
+        ensures { result ≡ is_ligated self.now.glyph_props }
+    {
+        self.glyph_props.is_ligated()
+    }
+
+    /// Whether a lookup put the glyph in as one of several for one.
+    #[inline]
+    pub fn multiplied(&self) -> bool
+        ensures { result ≡ is_multiplied self.now.glyph_props }
+    {
+        self.glyph_props.is_multiplied()
+    }
+
+    /// Whether the glyph's character may stay undrawn (`Default_Ignorable_Code_Point`).
+    #[inline]
+    pub fn ignorable(&self) -> bool
+        ensures { result ≡ is_ignorable self.now.unicode_props }
+    {
+        self.unicode_props.is_ignorable()
+    }
+
+    /// Whether the glyph's character carries on the grapheme of the one before it.
+    #[inline]
+    pub fn continuation(&self) -> bool
+        ensures { result ≡ is_continuation self.now.unicode_props }
+    {
+        self.unicode_props.is_continuation()
+    }
+
+    /// Sets the category, as `UnicodeProps::set_general_category` does.
+    #[inline]
+    pub fn set_general_category(&mut self, category: hb_unicode_general_category_t)
+        ensures { self.new ≡ record self.old {
+          unicode_props = with_general_category category self.old.unicode_props;
+        } }
+    {
+        self.unicode_props.set_general_category(category);
+    }
+
+    /// Sets the class, as `UnicodeProps::set_modified_combining_class` does.
+    #[inline]
+    pub fn set_modified_combining_class(&mut self, class: u8)
+        ensures { self.new ≡ record self.old {
+          unicode_props = with_modified_combining_class class self.old.unicode_props;
+        } }
+    {
+        self.unicode_props.set_modified_combining_class(class);
+    }
+
+    /// Sets the component, of which the low four bits count; the glyph isn't a ligature itself then.
+    #[inline]
+    pub fn set_lig_comp(&mut self, component: u8)
+        ensures { self.new ≡ record self.old {
+          lig_props = with_component component self.old.lig_props;
+        } }
+    {
+        self.lig_props.set_component(component);
+    }
+
+    /// Sets whether a lookup put the glyph in.
+    #[inline]
+    pub fn set_substituted(&mut self, on: bool)
+        ensures { self.new ≡ record self.old {
+          glyph_props = set_mark SUBSTITUTED on self.old.glyph_props;
+        } }
+    {
+        self.glyph_props.set_substituted(on);
+    }
+
+    /// Sets whether a lookup put the glyph in for several.
+    #[inline]
+    pub fn set_ligated(&mut self, on: bool)
+        ensures { self.new ≡ record self.old {
+          glyph_props = set_mark LIGATED on self.old.glyph_props;
+        } }
+    {
+        self.glyph_props.set_ligated(on);
+    }
+
+    /// Sets whether a lookup put the glyph in as one of several for one.
+    #[inline]
+    pub fn set_multiplied(&mut self, on: bool)
+        ensures { self.new ≡ record self.old {
+          glyph_props = set_mark MULTIPLIED on self.old.glyph_props;
+        } }
+    {
+        self.glyph_props.set_multiplied(on);
+    }
+
+    /// Sets whether the glyph's character may stay undrawn (`Default_Ignorable_Code_Point`).
+    #[inline]
+    pub fn set_ignorable(&mut self, on: bool)
+        ensures { self.new ≡ record self.old {
+          unicode_props = set_property IGNORABLE on self.old.unicode_props;
+        } }
+    {
+        self.unicode_props.set_ignorable(on);
+    }
+
+    /// Sets whether the glyph's character carries on the grapheme of the one before it.
+    #[inline]
+    pub fn set_continuation(&mut self, on: bool)
+        ensures { self.new ≡ record self.old {
+          unicode_props = set_property CONTINUATION on self.old.unicode_props;
+        } }
+    {
+        self.unicode_props.set_continuation(on);
+    }
 }
 
 /// Where a glyph is drawn and how far it moves the pen, in font units: 20 bytes, each where HarfBuzz's

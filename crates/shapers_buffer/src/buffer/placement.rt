@@ -2,16 +2,16 @@
 //! then the syllable is written once. Most syllables stay, or one stretch of theirs comes forward;
 //! any other order is listed. The room for the list grows with the buffer, so that a reordering
 //! takes no memory; what was never listed is never written.
-ghost use Rattle.std.specs.Prelude.{◌≡◌, ◌+◌, ◌-◌, ◌<◌, ◌≤◌, [], ◌++◌, All, IfErr, IfOk, IsOkUnless, OnOk, drop, length, take, vec_capacity};
+ghost use Rattle.std.specs.Prelude.{◌≡◌, ◌+◌, ◌-◌, ◌<◌, ◌≤◌, [], ◌++◌, All, IsOkUnless, OnOk, drop, length, take, vec_capacity};
 ghost use Rattle.std.specs.List.{slice_rotate_right};
 ghost use Rattle.shapers_buffer.specs.Clusters.{stretch_of, with_stretch};
 ghost use Rattle.shapers_buffer.specs.Places.{ListsEachOnce, PlacesEachOnce, pick, place_at, placed, placed_by, with_place, without_last_zeros};
 ghost use Rattle.shapers_buffer.specs.declared.buffer.refusal.ShaperError.TheVariants.{Memory};
 
 use super::glyph::hb_glyph_info_t;
+use super::group_room::GroupRoom;
 use super::hb_buffer_t;
 use super::refusal::ShaperError;
-use std::alloc::Global;
 
 /// The old places of the glyphs of one syllable, in the forms that text has.
 #[derive(Clone, Copy, Debug, PartialEq, Eq)]
@@ -88,7 +88,7 @@ impl hb_buffer_t {
               self.old.glyphs;
         } }
     {
-        turn(&mut self.info[to..from + count], count);
+        bring_forward_in(&mut self.info, to, from, count);
     }
 
     // Gives each place from `start` to `end` the glyph of the place listed for it.
@@ -104,6 +104,17 @@ impl hb_buffer_t {
         open_spare(&mut self.spare, end - start);
         reorder(&mut self.info, &self.places, &mut self.spare, start, end);
     }
+}
+
+// The same in a list of glyphs.
+#[inline]
+fn bring_forward_in(glyphs: &mut [hb_glyph_info_t], to: usize, from: usize, count: usize)
+    requires in_order { to ≤ from }
+    requires in_range { from + count ≤ length glyphs.old }
+    ensures { glyphs.new
+        ≡ with_stretch to (from + count) (λ gs. slice_rotate_right gs count) glyphs.old }
+{
+    turn(&mut glyphs[to..from + count], count);
 }
 
 // How many glyphs are moved one by one past others. Stretches are short, so neighbours are swapped:
@@ -224,7 +235,7 @@ fn open_places(places: &mut Vec<usize>, n: usize)
 
 // Opens the first `n` glyphs of the room that is there.
 #[inline]
-fn open_spare(spare: &mut Vec<hb_glyph_info_t>, n: usize)
+pub(super) fn open_spare(spare: &mut Vec<hb_glyph_info_t>, n: usize)
     requires room { n ≤ vec_capacity spare.old }
     ensures opened { n ≤ length spare.new.items }
     ensures capacity { vec_capacity spare.old ≤ vec_capacity spare.new }
@@ -234,11 +245,13 @@ fn open_spare(spare: &mut Vec<hb_glyph_info_t>, n: usize)
     }
 }
 
-// Makes room for `n` places and glyphs, and writes nothing there.
+// Makes room for `n` places, glyphs and groups, and writes nothing there. The places come last: where
+// they have room, so have the groups.
 #[inline]
 pub(super) fn make_room(
     places: &mut Vec<usize>,
     spare: &mut Vec<hb_glyph_info_t>,
+    room: &mut GroupRoom,
     n: usize,
 ) -> Result<(), ShaperError>
     ensures places { places.new.items ≡ places.old.items }
@@ -250,6 +263,7 @@ pub(super) fn make_room(
     ensures refusal { IsOkUnless result Memory }
 {
     if places.capacity() < n {
+        room.enlarge(n)?;
         enlarge(places, n)?;
     }
     if spare.capacity() < n {
@@ -261,7 +275,7 @@ pub(super) fn make_room(
 // Makes room for `n` items. An empty list takes new room, since making the old one larger copies
 // all of it.
 #[inline]
-fn enlarge<T: Copy>(list: &mut Vec<T>, n: usize) -> Result<(), ShaperError>
+pub(super) fn enlarge<T: Copy>(list: &mut Vec<T>, n: usize) -> Result<(), ShaperError>
     requires less { vec_capacity list.old < n }
     ensures items { list.new.items ≡ list.old.items }
     ensures more { vec_capacity list.old ≤ vec_capacity list.new }
@@ -276,20 +290,4 @@ fn enlarge<T: Copy>(list: &mut Vec<T>, n: usize) -> Result<(), ShaperError>
         list.reserve(n - list.len())?;
     }
     Ok(())
-}
-
-// These places, with room for `n`.
-#[inline]
-pub(super) fn copy_places(
-    alloc: Global,
-    places: &[usize],
-    n: usize,
-) -> Result<Vec<usize>, ShaperError>
-    ensures items { IfOk result (λ copy. copy.items ≡ places.now) }
-    ensures room { IfOk result (λ copy. n ≤ vec_capacity copy) }
-    ensures refusal { IfErr result (λ e. e ≡ Memory) }
-{
-    let mut copy = Vec::with_capacity(alloc, n.max(places.len()))?;
-    copy.extend_from_slice(places)?;
-    Ok(copy)
 }

@@ -28,8 +28,8 @@ pub trait GlyphRewriting {
 }
 
 impl hb_buffer_t {
-    /// Rewrites the text, which has no positions, to `len` glyphs. Refuses by their number, before
-    /// anything changes.
+    /// Rewrites the text to `len` glyphs; the buffer has no positions afterwards. Refuses by their
+    /// number, before anything changes.
     ///
     /// # Errors
     ///
@@ -40,20 +40,22 @@ impl hb_buffer_t {
         len: usize,
         rewriting: &R,
     ) -> Result<(), ShaperError>
-        requires unplaced { self.old.positions ≡ [] }
         requires can { R.can_rewrite rewriting.now self.old.glyphs }
         requires length { length (R.rewrites rewriting.now self.old.glyphs) ≡ len }
-        ensures ok { OnOk result (self.new ≡
-            record self.old { glyphs = R.rewrites rewriting.now self.old.glyphs }) }
+        ensures ok { OnOk result (self.new ≡ record self.old {
+          glyphs = R.rewrites rewriting.now self.old.glyphs;
+          positions = [];
+        }) }
         ensures length { RefusesLength self.old.max_len len result }
         ensures err { OnErr result (self.new ≡ self.old) }
     {
         if len > self.max_len {
             return Err(ShaperError::TooLong);
         }
-        make_room(&mut self.places, &mut self.spare, len)?;
+        make_room(&mut self.places, &mut self.spare, &mut self.group_room, len)?;
         self.info.reserve(len.saturating_sub(self.info.len()))?;
         self.spare.clear();
+        self.pos.clear();
         rewriting.rewrite(&mut self.info, &mut self.spare);
         // (in plain Rust a caller's rewriting may write more than it should)
         self.spare.truncate(len);
@@ -61,7 +63,8 @@ impl hb_buffer_t {
         Ok(())
     }
 
-    /// Puts these glyphs in the place of the buffer's, which has no positions. Refuses by their
+    /// Puts these glyphs in the place of the buffer's, which has no positions afterwards, and keeps
+    /// the list that they replace as room for [`take_list`](Self::take_list). Refuses by their
     /// number, whatever the buffer held.
     ///
     /// # Errors
@@ -69,16 +72,22 @@ impl hb_buffer_t {
     /// `TooLong` and `Memory`; nothing has changed then.
     #[inline]
     pub fn replace_glyphs(&mut self, glyphs: Vec<hb_glyph_info_t>) -> Result<(), ShaperError>
-        requires { self.old.positions ≡ [] }
-        ensures ok { OnOk result (self.new ≡ record self.old { glyphs = glyphs.items }) }
+        ensures ok { OnOk result (self.new ≡
+            record self.old { glyphs = glyphs.items; positions = [] }) }
         ensures length { RefusesLength self.old.max_len (length glyphs.items) result }
         ensures err { OnErr result (self.new ≡ self.old) }
     {
         if glyphs.len() > self.max_len {
             return Err(ShaperError::TooLong);
         }
-        make_room(&mut self.places, &mut self.spare, glyphs.len())?;
-        self.info = glyphs;
+        make_room(
+            &mut self.places,
+            &mut self.spare,
+            &mut self.group_room,
+            glyphs.len(),
+        )?;
+        self.rooms.list = mem::replace(&mut self.info, glyphs);
+        self.pos.clear();
         Ok(())
     }
 

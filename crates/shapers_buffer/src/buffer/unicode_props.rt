@@ -7,7 +7,7 @@ use super::category::hb_unicode_general_category_t;
 use bitflags::{Flag, Flags, bitflag_items};
 
 /// What the glyph's character is (HarfBuzz's `unicode_props`): its general category in the low five
-/// bits, three bits of their own, and in the high byte the canonical combining class of a mark.
+/// bits, three bits of their own, and in the high byte the canonical combining class.
 #[repr(transparent)]
 #[derive(Clone, Copy, Debug, PartialEq, Eq)]
 pub struct UnicodeProps(pub u16);
@@ -72,7 +72,7 @@ impl UnicodeProps {
         hb_unicode_general_category_t::from_number_or_unassigned((self.0 % 32) as u8)
     }
 
-    /// The high byte: a mark's class, which joiner a format character is, a space's kind.
+    /// The high byte: the combining class, which joiner a format character is, a space's kind.
     #[inline]
     pub fn high_byte(self) -> u8
         ensures { result ≡ high_byte self }
@@ -81,13 +81,13 @@ impl UnicodeProps {
     }
 
     /// The canonical combining class, as HarfBuzz renumbers it (`modified_combining_class`): 0
-    /// unless the character is a mark.
+    /// where the category is Cf or Zs, which have none.
     #[inline]
     #[tactic(auto, unfolding(crate::specs::Properties::modified_combining_class))]
     pub fn modified_combining_class(self) -> u8
         ensures { result ≡ modified_combining_class self }
     {
-        if self.general_category().is_mark() {
+        if self.general_category().has_class() {
             self.high_byte()
         } else {
             0
@@ -118,12 +118,19 @@ impl UnicodeProps {
         self.contains(UnicodeProps::CONTINUATION)
     }
 
-    /// Sets the category; the high byte is 0 then.
+    /// Sets the category. The combining class stays; where the old category or the new one is Cf or
+    /// Zs, which have none, the high byte is 0 then.
     #[inline]
     pub fn set_general_category(&mut self, category: hb_unicode_general_category_t)
         ensures { self.new ≡ with_general_category category self.old }
     {
-        self.0 = self.0 / 32 % 8 * 32 + u16::from(category.number());
+        let class = if category.has_class() {
+            self.modified_combining_class()
+        } else {
+            0
+        };
+        let bits = self.0 / 32 % 8 * 32 + u16::from(category.number());
+        self.0 = bits + 256 * u16::from(class);
     }
 
     /// Sets the high byte.
@@ -134,12 +141,12 @@ impl UnicodeProps {
         self.0 = self.0 & 0xFF | u16::from(byte) << 8;
     }
 
-    /// Sets a mark's class; of another character nothing changes.
+    /// Sets the combining class; where the category is Cf or Zs, which have none, nothing changes.
     #[inline]
     pub fn set_modified_combining_class(&mut self, class: u8)
         ensures { self.new ≡ with_modified_combining_class class self.old }
     {
-        if self.general_category().is_mark() {
+        if self.general_category().has_class() {
             self.set_high_byte(class);
         }
     }

@@ -2,10 +2,13 @@
 ghost use Rattle.std.specs.Prelude.{◌≡◌, ◌<◌, ◌≤◌, List, length, map};
 ghost use Rattle.std.specs.Fn.{FnOnceReturnsAtMut};
 ghost use Rattle.shapers_buffer.specs.Clusters.{with_stretch};
-ghost use Rattle.shapers_buffer.specs.Glyphs.{Glyphs};
+ghost use Rattle.shapers_buffer.specs.Glyphs.{Glyph, Glyphs};
+ghost use Rattle.shapers_buffer.specs.Changes.{ChangesAs};
+ghost use Rattle.std.specs.Fn.{FnOnceTakesAtMut};
 
 use super::glyph::{GlyphPosition, hb_glyph_info_t};
 use super::hb_buffer_t;
+use std::mem;
 
 /// A change of one glyph, which looks at nothing else.
 pub trait GlyphChange {
@@ -64,6 +67,65 @@ impl hb_buffer_t {
         change_each_in(&mut self.info[s..e], change);
     }
 
+    /// Changes each glyph from `s` to `e` by a closure. It takes no memory.
+    ///
+    /// # Panics
+    ///
+    /// Where `s` is above `e`, or `e` above the length.
+    #[inline]
+    pub fn change_each_by<F: Fn(&mut hb_glyph_info_t)>(&mut self, s: usize, e: usize, change: F)
+        requires in_order { s ≤ e }
+        requires in_range { e ≤ length self.old.glyphs }
+        requires callable { F.IsAlwaysCallable change }
+        ensures { (f : Glyph → Glyph) → ChangesAs F.Fn change f → self.new ≡ record self.old {
+          glyphs = with_stretch s e (map f) self.old.glyphs;
+        } }
+    {
+        change_each_by_in(&mut self.info[s..e], change);
+    }
+
+    /// Changes each glyph by a closure. It takes no memory.
+    #[inline]
+    pub fn change_all_by<F: Fn(&mut hb_glyph_info_t)>(&mut self, change: F)
+        requires callable { F.IsAlwaysCallable change }
+        ensures { (f : Glyph → Glyph) → ChangesAs F.Fn change f
+            → self.new ≡ record self.old { glyphs = map f self.old.glyphs } }
+    {
+        change_each_by_in(&mut self.info, change);
+    }
+
+    /// Changes each glyph, while the text is out of the buffer: a change that panics leaves the buffer
+    /// empty, and no text of which some glyphs have changed. It takes no memory.
+    #[inline]
+    pub fn change_outside<C: GlyphChange>(&mut self, change: &C)
+        ensures { self.new ≡
+            record self.old { glyphs = map (C.changed change.now) self.old.glyphs } }
+    {
+        let alloc = self.alloc();
+        let mut glyphs = mem::replace(&mut self.info, Vec::new(alloc));
+        let positions = mem::replace(&mut self.pos, Vec::new(alloc));
+        change_each_in(&mut glyphs, change);
+        self.info = glyphs;
+        self.pos = positions;
+    }
+
+    /// Walks over all glyphs, while the text is out of the buffer: a walk that panics leaves the buffer
+    /// empty, and no text that it went over in part. It takes no memory.
+    #[inline]
+    pub fn walk_outside<W: GlyphWalk>(&mut self, walk: &mut W)
+        requires { W.can_walk walk.old self.old.glyphs }
+        ensures walked { W.walks walk.old walk.new self.old.glyphs self.new.glyphs }
+        ensures same_length { length self.new.glyphs ≡ length self.old.glyphs }
+        ensures others { self.new ≡ record self.old { glyphs = self.new.glyphs } }
+    {
+        let alloc = self.alloc();
+        let mut glyphs = mem::replace(&mut self.info, Vec::new(alloc));
+        let positions = mem::replace(&mut self.pos, Vec::new(alloc));
+        walk.walk(&mut glyphs);
+        self.info = glyphs;
+        self.pos = positions;
+    }
+
     /// Walks over all glyphs. It takes no memory.
     #[inline]
     pub fn walk<W: GlyphWalk>(&mut self, walk: &mut W)
@@ -79,7 +141,7 @@ impl hb_buffer_t {
     /// no memory.
     #[inline]
     pub fn with_glyphs_mut<R, F: FnOnce(&mut [hb_glyph_info_t]) -> R>(&mut self, change: F) -> R
-        requires { F.IsAlwaysCallable change }
+        requires { FnOnceTakesAtMut F.FnOnce change self.old.glyphs }
         ensures changed { let call = FnOnceReturnsAtMut F.FnOnce change in
             call self.old.glyphs result self.new.glyphs }
         ensures same_length { length self.new.glyphs ≡ length self.old.glyphs }
@@ -92,7 +154,7 @@ impl hb_buffer_t {
     /// takes no memory.
     #[inline]
     pub fn with_positions_mut<R, F: FnOnce(&mut [GlyphPosition]) -> R>(&mut self, change: F) -> R
-        requires { F.IsAlwaysCallable change }
+        requires { FnOnceTakesAtMut F.FnOnce change self.old.positions }
         ensures changed { let call = FnOnceReturnsAtMut F.FnOnce change in
             call self.old.positions result self.new.positions }
         ensures same_length { length self.new.positions ≡ length self.old.positions }
@@ -114,6 +176,26 @@ impl hb_buffer_t {
     {
         walk.walk(&mut self.info, &mut self.pos);
     }
+
+    /// Walks over all glyphs and their positions, while the text is out of the buffer: a walk that
+    /// panics leaves the buffer empty, and no text that it went over in part. It takes no memory.
+    #[inline]
+    pub fn walk_positioned_outside<W: PositionedWalk>(&mut self, walk: &W)
+        requires { W.can_walk walk.now self.old.glyphs self.old.positions }
+        ensures walked { W.walks walk.now
+            self.old.glyphs self.old.positions self.new.glyphs self.new.positions }
+        ensures others { self.new ≡ record self.old {
+          glyphs = self.new.glyphs;
+          positions = self.new.positions;
+        } }
+    {
+        let alloc = self.alloc();
+        let mut glyphs = mem::replace(&mut self.info, Vec::new(alloc));
+        let mut positions = mem::replace(&mut self.pos, Vec::new(alloc));
+        walk.walk(&mut glyphs, &mut positions);
+        self.info = glyphs;
+        self.pos = positions;
+    }
 }
 
 /// Changes each of these glyphs.
@@ -123,5 +205,16 @@ pub fn change_each_in<C: GlyphChange>(glyphs: &mut [hb_glyph_info_t], change: &C
 {
     for glyph in glyphs.iter_mut() {
         change.change(glyph);
+    }
+}
+
+/// Changes each of these glyphs by a closure.
+#[inline]
+pub fn change_each_by_in<F: Fn(&mut hb_glyph_info_t)>(glyphs: &mut [hb_glyph_info_t], change: F)
+    requires { F.IsAlwaysCallable change }
+    ensures { (f : Glyph → Glyph) → ChangesAs F.Fn change f → glyphs.new ≡ map f glyphs.old }
+{
+    for glyph in glyphs.iter_mut() {
+        change(glyph);
     }
 }

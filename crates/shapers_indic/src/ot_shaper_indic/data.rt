@@ -13,7 +13,7 @@ use shapers_base::font::{GlyphId, hb_font_t};
 use shapers_base::map::{TableIndex, hb_ot_map_t};
 use shapers_base::plan::{
     BlwfMode, IndicConfig, IndicWouldSubstituteFeature, PlanData, RephMode, RephPosition,
-    hb_ot_shape_plan_t, indic_shape_plan_t,
+    ZeroContext, hb_ot_shape_plan_t, indic_shape_plan_t,
 };
 
 const MALAYALAM: Script = Script(*b"Mlym");
@@ -171,17 +171,21 @@ fn masks_of(map: &hb_ot_map_t) -> [u32; 17]
 
 /// What the shaper keeps in the plan: the script's row of the table, whether the font follows the
 /// older specification, among which consonants the base is looked for, its questions to the font,
-/// and the masks of its features. Questions leave contexts out in the older specification, but for
-/// Malayalam. No mask touches a glyph flag bit. It can't refuse and takes no memory.
+/// and the masks of its features. Questions leave contexts out where the plan's `zero_context` says
+/// so. No mask touches a glyph flag bit. It can't refuse and takes no memory.
 pub fn create_data(plan: &hb_ot_shape_plan_t) -> PlanData
-    ensures data { let search = plan.now.base_search in
-        result ≡ Indic (indic_plan search plan.now.script plan.now.ot_map) }
+    ensures data { let it = plan.now in
+        result ≡ Indic (indic_plan it.base_search it.zero_context it.script it.ot_map) }
     ensures off_flags { AllByRecursion (λ mask. mask % 8 ≡ 0) (masks_kept result) }
 {
     let map = &plan.ot_map;
     let config = config_of(plan.script);
     let is_old_spec = config.has_old_spec && is_old_script(map.chosen_script(TableIndex::GSUB));
-    let zero_context = is_old_spec && plan.script != Some(MALAYALAM);
+    // (Uniscribe counts rules with context in Malayalam's fonts of both specifications.)
+    let zero_context = match plan.zero_context {
+        ZeroContext::OldSpec => is_old_spec && plan.script != Some(MALAYALAM),
+        ZeroContext::NewSpec => !is_old_spec && plan.script != Some(MALAYALAM),
+    };
     let question = |tag: [u8; 4]| IndicWouldSubstituteFeature::new(
         map,
         hb_tag_t(tag),

@@ -16,7 +16,7 @@ use Rattle.shapers_indic.specs.Glyphs.{greatest_place, is_joiner, is_one_of, lea
 use Rattle.shapers_indic_final.specs.FinalBase.{along_links, as_linked, base_by_links, base_by_pref, before_halants, before_joiner, behind_halants, first_base, if_unformed, is_behind_base, is_from_base_on, is_unformed, is_unformed_below, last_link, links_from, links_written, may_be_settled, pref_place, stepped_back, unformed_pref, with_final_base, with_base_at, with_links, with_pref_base, with_viramas}
 use Rattle.shapers_indic_final.specs.FinalGlyphs.{is_indic_halant, is_lost_virama, recovered}
 use Rattle.shapers_base.specs.Masks.{has_bits}
-use Rattle.shapers_indic_final.specs.FinalRules.{is_malayalam}
+use Rattle.shapers_indic.specs.Plan.{is_malayalam}
 use Rattle.shapers_indic_final.specs.declared.ot_shaper_indic_final.rules.Rules.{Rules}
 use Rattle.shapers_indic_final.specs.Proved.FinalTargets.{find_passes, passes_within, run_within}
 use Rattle.shapers_syllabic.specs.Reordering.{carried}

@@ -24,7 +24,7 @@ use Rattle.shapers_indic_final.specs.FinalMatras.{end_of_base, has_room, is_left
 use Rattle.shapers_indic_final.specs.FinalPref.{formed_pref, if_formed, pref_step, pref_steps, pref_target}
 use Rattle.shapers_indic_final.specs.FinalReordering.{after_matras, after_pref, after_reph, based, final_order, final_steps, steps_of_based, steps_of_pref}
 use Rattle.shapers_indic_final.specs.FinalReph.{carried_along, final_reph_step, opens_with_reph, reph_steps, reph_target}
-use Rattle.shapers_indic_final.specs.FinalRules.{is_malayalam}
+use Rattle.shapers_indic.specs.Plan.{is_malayalam}
 use Rattle.shapers_indic_final.specs.FinalWalk.{changes_syllable}
 use Rattle.shapers_indic_final.specs.declared.ot_shaper_indic_final.rules.Rules.{Rules}
 use Rattle.shapers_syllabic.specs.Consonants.{is_consonant}

@@ -13,7 +13,7 @@ use shapers_base::buffer::hb_buffer_t;
 use shapers_base::font::hb_font_t;
 use shapers_base::plan::hb_ot_shape_plan_t;
 use shapers_indic::ot_shaper_indic::indic_in;
-use shapers_syllabic::ot_shaper_syllabic::reorder_syllables;
+use shapers_syllabic::ot_shaper_syllabic::reorder_syllables_by_steps;
 
 /// Reorders each syllable again, now that the basic features formed its glyphs: its base, its left
 /// matras, its reph and a glyph that `pref` formed; and gives a left matra at the start of a word
@@ -38,7 +38,7 @@ pub fn final_reordering<F: hb_font_t>(plan: &hb_ot_shape_plan_t, face: &F, buffe
         script: buffer.script(),
     };
     // (this order never refuses)
-    if reorder_syllables(&order, buffer).is_ok() {
+    if reorder_syllables_by_steps(&order, buffer).is_ok() {
         open_words(rules.init, buffer);
     }
 }

@@ -3,7 +3,7 @@ ghost use Rattle.std.specs.Prelude.{◌≡◌, ◌<◌, ◌≤◌, ◌+◌, leng
 ghost use Rattle.std.specs.List.{prefix_len};
 ghost use Rattle.std.specs.Option.{IfSome};
 ghost use Rattle.shapers_indic.specs.Glyphs.{has_position, is_matra};
-ghost use Rattle.shapers_indic_final.specs.FinalReph.{at_end, behind_base, carried_along, halant_after_start, is_with_main, is_with_sub, last_but_signs, opens_with_reph, reph_target, with_joiner};
+ghost use Rattle.shapers_indic_final.specs.FinalReph.{at_end, behind_base, carried_along, halant_after_start, is_moving_reph, is_with_main, is_with_sub, last_but_signs, opens_with_reph, reph_target, with_joiner};
 
 use super::glyphs::{is_formed, is_halant};
 use shapers_base::buffer::hb_glyph_info_t;
@@ -22,12 +22,17 @@ pub(super) fn opens_with_reph(glyphs: &[hb_glyph_info_t]) -> bool
     ensures { result ≡ opens_with_reph glyphs.now }
 {
     match glyphs {
-        [first, _, ..] => {
-            first.auxiliary == POS_RA_TO_BECOME_REPH
-                && (first.category == OT_Repha) != is_formed(first)
-        }
+        [first, _, ..] => is_moving_reph(first),
         _ => false,
     }
+}
+
+// Whether a glyph is a reph that moves.
+#[inline]
+pub(super) fn is_moving_reph(glyph: &hb_glyph_info_t) -> bool
+    ensures { result ≡ is_moving_reph glyph.now }
+{
+    glyph.auxiliary == POS_RA_TO_BECOME_REPH && (glyph.category == OT_Repha) != is_formed(glyph)
 }
 
 // Where the reph goes: behind the first halant before the base, else by the script. A halant that

@@ -1,6 +1,7 @@
 //! What the final reordering reads of the plan and the font.
 ghost use Rattle.std.specs.Prelude.{◌≡◌};
-ghost use Rattle.shapers_indic_final.specs.FinalRules.{has_no_half_forms, is_malayalam, final_rules};
+ghost use Rattle.shapers_indic.specs.Plan.{is_malayalam};
+ghost use Rattle.shapers_indic_final.specs.FinalRules.{has_no_half_forms, final_rules};
 
 use shapers_base::buffer::Script;
 use shapers_base::font::{GlyphId, hb_font_t};

@@ -19,7 +19,7 @@ use shapers_base::plan::ot_category_t::{OT_DOTTEDCIRCLE, OT_Repha};
 use shapers_base::plan::ot_position_t::POS_END;
 use shapers_indic::ot_shaper_indic::indic_in;
 use shapers_syllabic::ot_shaper_syllabic::indic_syllable::{BROKEN_CLUSTER, NON_INDIC_CLUSTER};
-use shapers_syllabic::ot_shaper_syllabic::{ScriptCircles, reorder_syllables};
+use shapers_syllabic::ot_shaper_syllabic::{ScriptCircles, reorder_syllables_by_steps};
 
 // The dotted circles of Indic scripts.
 const CIRCLES: ScriptCircles = ScriptCircles {
@@ -86,6 +86,6 @@ pub fn initial_reordering<F: hb_font_t>(
     };
     update_consonant_positions(&rules, buffer);
     let order = InitialOrder { rules: &rules };
-    reorder_syllables(&order, buffer)?;
+    reorder_syllables_by_steps(&order, buffer)?;
     Ok(circles)
 }

@@ -67,8 +67,8 @@ impl<'a, F: hb_font_t> Reorder for InitialOrder<'a, F> {
             return Ok(());
         }
         if is_reordered(&buffer.glyphs()[start..end]) {
-            prepare_for_order(self.rules, buffer, start, end);
-            let base = order_syllable(self.rules.plan.is_old_spec, buffer, start, end);
+            let moved = prepare_for_order(self.rules, buffer, start, end);
+            let base = order_syllable(self.rules.plan.is_old_spec, &moved, buffer);
             self.mask_syllable(buffer, base, start, end);
         }
         Ok(())

@@ -22,7 +22,6 @@ use shapers_base::buffer::{
 };
 use shapers_base::font::GlyphId;
 use shapers_base::plan::NormalizationMode;
-use std::mem;
 
 /// How many steps a character comes apart in at most: Unicode's longest canonical decomposition
 /// takes three.
@@ -68,30 +67,17 @@ pub fn decompose<C: NormalizeContext>(
     // so that a return without a rewrite keeps the promise on lengths, too
     prove!(buffer.len() <= buffer.max_len());
     if is_whole(context, buffer.glyphs()) {
-        change_all(buffer, &Numbering { context });
+        // (a context that panics leaves the empty buffer, and no text with some of its numbers)
+        buffer.change_outside(&Numbering { context });
         return Ok(());
     }
     if stays_together(context, buffer.glyphs()) {
-        change_all(buffer, &Settling { context });
+        buffer.change_outside(&Settling { context });
         return Ok(());
     }
     let len = measure(context, buffer.glyphs(), buffer.max_len())?;
     let level = buffer.cluster_level();
     buffer.rewrite(len, &Decomposing { context, level })
-}
-
-// Changes each glyph where it stands. A context that panics leaves the empty buffer, and no text of
-// which some glyphs have changed.
-#[inline]
-fn change_all<G: GlyphChange>(buffer: &mut hb_buffer_t, change: &G)
-    ensures { let text = map (G.changed change.now) buffer.old.glyphs in
-        buffer.new ≡ record buffer.old { glyphs = text } }
-{
-    let empty = hb_buffer_t::new(buffer.alloc(), buffer.max_len());
-    let mut text = mem::replace(buffer, empty);
-    let len = text.len();
-    text.change_each(0, len, change);
-    *buffer = text;
 }
 
 // Whether a text gets its glyphs and nothing else: no glyph is a mark, the font has each character,

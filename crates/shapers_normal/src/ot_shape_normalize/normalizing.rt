@@ -1,9 +1,10 @@
 //! The three rounds, one after another.
-ghost use Rattle.std.specs.Prelude.{◌≡◌, ◌≤◌, [], length, take, if◌then◌else◌, IsOk, OnOk, OnErr, true};
+ghost use Rattle.std.specs.Prelude.{◌≡◌, ◌==◌, ◌≤◌, [], length, take, if◌then◌else◌, IsOk, OnOk, OnErr, true};
 ghost use Rattle.std.specs.List.{list_any};
 ghost use Rattle.shapers_buffer.specs.Refusals.{RefusesLength};
 ghost use Rattle.shapers_normal.specs.Decomposition.{first_round, is_whole, stays_together};
 ghost use Rattle.shapers_normal.specs.Normalization.{composes, has_rounds, joiners_shown, later_rounds, normalized, passes_over};
+ghost use Rattle.shapers_normal.specs.Properties.{grapheme_joiner};
 ghost use Rattle.shapers_normal.specs.Sorting.{is_mark_glyph, marks_ordered};
 
 use super::context::NormalizeContext;
@@ -15,7 +16,6 @@ use shapers_base::buffer::{
     BufferClusterLevel, GlyphWalk, ShaperError, hb_buffer_t, hb_glyph_info_t,
 };
 use shapers_base::plan::NormalizationMode;
-use std::mem;
 
 /// When marks are ordered and composed.
 #[derive(Clone, Copy, Debug, PartialEq, Eq, Default)]
@@ -52,6 +52,9 @@ pub fn normalize<C: NormalizeContext>(
 {
     let runs = has_rounds(rounds, buffer.glyphs());
     decompose(context, buffer)?;
+    if !runs && !has_joiner(buffer.glyphs()) {
+        return Ok(());
+    }
     let level = buffer.cluster_level();
     let mut later = LaterRounds {
         context,
@@ -60,11 +63,8 @@ pub fn normalize<C: NormalizeContext>(
         len: 0,
     };
     // (a context that panics leaves the empty buffer, and no text with marks half ordered)
-    let empty = hb_buffer_t::new(buffer.alloc(), buffer.max_len());
-    let mut text = mem::replace(buffer, empty);
-    text.walk(&mut later);
-    text.truncate(later.len);
-    *buffer = text;
+    buffer.walk_outside(&mut later);
+    buffer.truncate(later.len);
     Ok(())
 }
 
@@ -158,10 +158,21 @@ fn composes(mode: NormalizationMode) -> bool
     }
 }
 
+// Whether one of these glyphs is a grapheme joiner.
+#[inline]
+fn has_joiner(glyphs: &[hb_glyph_info_t]) -> bool
+    ensures { result ≡ list_any (λ g. g.glyph_id == grapheme_joiner) glyphs.now }
+{
+    glyphs.iter().any(|glyph| glyph.glyph_id == GRAPHEME_JOINER)
+}
+
 // Lets lookups pass over the grapheme joiners that kept no marks apart.
 fn show_joiners(glyphs: &mut [hb_glyph_info_t])
     ensures { glyphs.new ≡ joiners_shown glyphs.old }
 {
+    if !has_joiner(glyphs) {
+        return;
+    }
     for i in 1..glyphs.len().max(1) - 1 {
         let (before, behind) = (class(&glyphs[i - 1]), class(&glyphs[i + 1]));
         glyphs[i] = pass_over(before, behind, glyphs[i]);

@@ -10,10 +10,9 @@ use super::context::NormalizeContext;
 use super::properties::set_character;
 use super::sorting::{class, is_mark, merges};
 use shapers_base::buffer::{
-    BufferClusterLevel, change_each_in, hb_glyph_info_t, merge_clusters_in,
+    BufferClusterLevel, IntoCluster, change_each_in, hb_glyph_info_t, merge_clusters_in,
 };
 use shapers_base::font::GlyphId;
-use shapers_clusters::into_cluster::IntoCluster;
 
 /// Composes each starter with the marks behind it that nothing keeps apart from it, as far as the
 /// shaper composes them and the font has the character. A mark that is taken in comes into one

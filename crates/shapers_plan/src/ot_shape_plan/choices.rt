@@ -1,4 +1,4 @@
-use shapers_base::plan::{BaseSearch, BreakFlags, StretchStart};
+use shapers_base::plan::{BaseSearch, BreakFlags, StretchStart, ZeroContext};
 
 /// What a caller chooses where a shaper can go more than one way.
 #[derive(Clone, Copy, Debug, PartialEq, Eq, Default)]
@@ -9,4 +9,6 @@ pub struct ShapeChoices {
     pub break_flags: BreakFlags,
     /// Among which consonants Indic looks for the base of a syllable.
     pub base_search: BaseSearch,
+    /// Where Indic's questions to the font leave out rules that need context.
+    pub zero_context: ZeroContext,
 }

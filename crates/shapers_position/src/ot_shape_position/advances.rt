@@ -1,13 +1,13 @@
 //! The advances of glyphs before any lookup.
-ghost use Rattle.std.specs.Prelude.{◌≡◌, IfOk, IsOkUnless, OnErr, OnOk, map};
+ghost use Rattle.std.specs.Prelude.{◌≡◌, [], IfOk, IsOkUnless, OnErr, OnOk, map};
 ghost use Rattle.shapers_buffer.specs.declared.buffer.refusal.ShaperError.TheVariants.{Memory};
 ghost use Rattle.shapers_choice.specs.Choice.{is_horizontal};
 ghost use Rattle.shapers_position.specs.Widths.{advanced, level_position, upright_position};
 
 use super::metrics::{MetricsFont, is_horizontal};
+use super::positions::{PositionChange, change_each_position};
 use shapers_base::buffer::{GlyphPosition, ShaperError, hb_buffer_t, hb_glyph_info_t};
 use shapers_base::font::GlyphId;
-use std::alloc::Global;
 
 /// Gives each glyph a position of its own: its advance in the font, no offset, and `var` 0; in
 /// vertical text it is drawn by its origin for that. What positions there were are gone. A font has
@@ -25,29 +25,51 @@ pub fn set_advances<F: MetricsFont>(font: &F, buffer: &mut hb_buffer_t) -> Resul
     ensures err { OnErr result (buffer.new ≡ buffer.old) }
 {
     let is_horizontal = is_horizontal(buffer.direction());
-    let positions = advances(font, is_horizontal, buffer.glyphs(), buffer.alloc())?;
-    buffer.set_positions(positions);
+    let room = buffer.take_position_list();
+    let positions = advances(font, is_horizontal, buffer.glyphs(), room)?;
+    // (one for each glyph, so the buffer takes them)
+    let _ = buffer.set_positions(positions);
     Ok(())
 }
 
-// A position for each of these glyphs.
+// A position for each of these glyphs, in a list that is empty.
 fn advances<F: MetricsFont>(
     font: &F,
     is_horizontal: bool,
     glyphs: &[hb_glyph_info_t],
-    alloc: Global,
+    mut positions: Vec<GlyphPosition>,
 ) -> Result<Vec<GlyphPosition>, ShaperError>
+    requires { positions.items ≡ [] }
     ensures advances { let f = advanced (F.font font.now) (F.metrics font.now) is_horizontal in
         IfOk result (λ ps. ps.items ≡ map f glyphs.now) }
     ensures refusal { IsOkUnless result Memory }
 {
-    let mut positions = Vec::with_capacity(alloc, glyphs.len())?;
-    for glyph in glyphs {
-        positions
-            .push(advanced(font, is_horizontal, glyph))
-            .map_err(|_| ShaperError::Memory)?;
-    }
+    positions.resize(glyphs.len(), GlyphPosition::ZERO)?;
+    let advancing = Advancing {
+        font,
+        is_horizontal,
+    };
+    change_each_position(&advancing, glyphs, positions.as_mut_slice());
     Ok(positions)
+}
+
+// Gives a glyph the position that it has by itself.
+#[derive(Drop)]
+struct Advancing<'a, F: MetricsFont> {
+    font: &'a F,
+    is_horizontal: bool,
+}
+
+impl<'a, F: MetricsFont> PositionChange for Advancing<'a, F> {
+    ghost use Rattle.shapers_position.specs.Widths.{advanced};
+
+    ghost changed = { λ a g p.
+        advanced (F.font a.font.now) (F.metrics a.font.now) a.is_horizontal g };
+
+    #[inline]
+    fn change(&self, glyph: &hb_glyph_info_t, position: &mut GlyphPosition) {
+        *position = advanced(self.font, self.is_horizontal, glyph);
+    }
 }
 
 // The position of a glyph that no lookup has moved.

@@ -1,8 +1,8 @@
 //! The glyph flags of whole clusters.
 ghost use Rattle.std.specs.Prelude.{◌≡◌, ◌<◌, ◌≤◌, ◌+◌, drop, length, map};
-ghost use Rattle.std.specs.List.{prefix_len};
+ghost use Rattle.std.specs.List.{list_any, prefix_len};
 ghost use Rattle.shapers_buffer.specs.Clusters.{first_cluster, has_cluster, with_stretch};
-ghost use Rattle.shapers_position.specs.ClusterFlags.{flags_wanted, flags_of, flags_propagated, flags_shared, joins_settled, with_flags};
+ghost use Rattle.shapers_position.specs.ClusterFlags.{flags_wanted, flags_of, flags_propagated, flags_shared, is_flagged, joins_settled, with_flags};
 
 use bitflags::Flags;
 use glyph_flag::{SAFE_TO_INSERT_TATWEEL, UNSAFE_TO_BREAK, UNSAFE_TO_CONCAT};
@@ -16,8 +16,26 @@ pub fn propagate_flags(buffer: &mut hb_buffer_t)
     ensures { let text = flags_propagated buffer.old.flags buffer.old.glyphs in
         buffer.new ≡ record buffer.old { glyphs = text } }
 {
+    if !has_flags(buffer.glyphs()) {
+        return;
+    }
     let flags = buffer.flags();
     buffer.walk(&mut FlagPropagation { flags });
+}
+
+// Whether one of these glyphs has flags.
+#[inline]
+fn has_flags(glyphs: &[hb_glyph_info_t]) -> bool
+    ensures { result ≡ list_any is_flagged glyphs.now }
+{
+    glyphs.iter().any(is_flagged)
+}
+
+#[inline]
+fn is_flagged(glyph: &hb_glyph_info_t) -> bool
+    ensures { result ≡ is_flagged glyph.now }
+{
+    glyph.mask & 7 != 0
 }
 
 // The walk over the clusters of a text.
@@ -99,6 +117,11 @@ fn share_flags_from(wanted: BufferFlags, glyphs: &mut [hb_glyph_info_t], s: usiz
 fn share_flags(wanted: BufferFlags, cluster: &mut [hb_glyph_info_t])
     ensures { cluster.new ≡ flags_shared wanted cluster.old }
 {
+    if cluster.len() == 1 {
+        let flags = flags_wanted(wanted, cluster[0].mask & 7);
+        put_flags(&mut cluster[0], flags);
+        return;
+    }
     let flags = flags_wanted(wanted, flags_of(cluster));
     set_flags(cluster, flags);
 }

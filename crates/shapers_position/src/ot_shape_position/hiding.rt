@@ -5,7 +5,7 @@ ghost use Rattle.std.specs.Option.{option_or};
 ghost use Rattle.shapers_buffer.specs.Clusters.{has_cluster, merge};
 ghost use Rattle.shapers_position.specs.Ignorables.{covering, drawn_by, goes_on, ignorables_hidden, ignorables_removed, in_place_of, is_default_ignorable, stays_in_text, positions_kept, removed_behind};
 
-use super::ignorables::{DefaultIgnorables, is_default_ignorable};
+use super::ignorables::{DefaultIgnorables, has_ignorable, is_default_ignorable};
 use shapers_base::buffer::{
     BufferClusterLevel, GlyphChange, GlyphPosition, GlyphWalk, PositionedWalk, hb_buffer_t,
     hb_glyph_info_t, merge_clusters_in,
@@ -28,6 +28,11 @@ pub fn hide_default_ignorables<F: hb_font_t>(
     ensures { let glyph = option_or invisible_glyph ((F.font font.now).nominal 0x20) in
         buffer.new ≡ ignorables_hidden ignorables glyph buffer.old }
 {
+    // so that a return with nothing changed knows how many positions there are
+    prove!(buffer.positions_len() <= buffer.len());
+    if !has_ignorable(buffer.glyphs()) {
+        return;
+    }
     match ignorables {
         DefaultIgnorables::Hide => match invisible_glyph.or_else(|| font.get_nominal_glyph(SPACE)) {
             Some(glyph) => draw_by(glyph, buffer),

@@ -1,5 +1,6 @@
 //! Glyphs of characters that need not be drawn.
 ghost use Rattle.std.specs.Prelude.{◌≡◌};
+ghost use Rattle.std.specs.List.{list_any};
 ghost use Rattle.shapers_position.specs.Ignorables.{ignorables_for, is_default_ignorable};
 
 use shapers_base::buffer::hb_glyph_info_t;
@@ -44,4 +45,12 @@ pub(super) fn is_default_ignorable(glyph: &hb_glyph_info_t) -> bool
     ensures { result ≡ is_default_ignorable glyph.now }
 {
     glyph.unicode_props.is_ignorable() && !glyph.glyph_props.is_substituted()
+}
+
+// Whether a text has such a glyph: what is done to these leaves a text without one as it is.
+#[inline]
+pub(super) fn has_ignorable(glyphs: &[hb_glyph_info_t]) -> bool
+    ensures { result ≡ list_any is_default_ignorable glyphs.now }
+{
+    glyphs.iter().any(is_default_ignorable)
 }

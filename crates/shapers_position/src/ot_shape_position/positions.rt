@@ -16,7 +16,8 @@ pub(super) trait PositionChange {
         ensures { position.new ≡ changed self.now glyph.now position.old };
 }
 
-// Changes each position of the buffer.
+// Changes each position of the buffer. A change that panics leaves the empty buffer, and no text with
+// some of its positions changed.
 #[inline]
 pub(super) fn change_positions<C: PositionChange>(change: &C, buffer: &mut hb_buffer_t)
     ensures { let f = C.changed change.now in
@@ -24,7 +25,7 @@ pub(super) fn change_positions<C: PositionChange>(change: &C, buffer: &mut hb_bu
         buffer.new ≡ record buffer.old { positions = changed } }
 {
     if buffer.positions_len() > 0 {
-        buffer.walk_positioned(&Changing { change });
+        buffer.walk_positioned_outside(&Changing { change });
     }
 }
 
@@ -51,7 +52,7 @@ impl<'a, C: PositionChange> PositionedWalk for Changing<'a, C> {
 
 // Changes the position of each of these glyphs.
 #[inline]
-fn change_each_position<C: PositionChange>(
+pub(super) fn change_each_position<C: PositionChange>(
     change: &C,
     glyphs: &[hb_glyph_info_t],
     positions: &mut [GlyphPosition],

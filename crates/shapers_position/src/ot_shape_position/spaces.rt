@@ -1,5 +1,6 @@
 //! The widths of spaces that the font lacks.
 ghost use Rattle.std.specs.Prelude.{◌≡◌, ◌<◌, ◌*◌, ◌/◌};
+ghost use Rattle.std.specs.List.{list_any};
 ghost use Rattle.shapers_choice.specs.Choice.{is_horizontal};
 ghost use Rattle.shapers_normal.specs.Decomposition.{is_space_separator};
 ghost use Rattle.shapers_position.specs.Spaces.{first_advance, is_space_glyph, part_of_em, space_placed, space_width};
@@ -10,7 +11,6 @@ use super::positions::{PositionChange, change_positions};
 use shapers_base::buffer::{
     GlyphPosition, hb_buffer_t, hb_glyph_info_t, hb_unicode_general_category_t,
 };
-use std::mem;
 
 // The kinds of spaces that are no part of an em, by HarfBuzz's numbers.
 const SPACE_4_EM_18: u8 = 17;
@@ -38,16 +38,17 @@ pub fn set_space_widths<F: MetricsFont>(font: &F, buffer: &mut hb_buffer_t)
         let placed = positions_changed f buffer.old.glyphs buffer.old.positions in
         buffer.new ≡ record buffer.old { positions = placed } }
 {
+    // so that a return with nothing changed knows how many positions there are
+    prove!(buffer.positions_len() <= buffer.len());
+    if !has_space(buffer.glyphs()) {
+        return;
+    }
     let is_horizontal = is_horizontal(buffer.direction());
-    // (a font that panics leaves the empty buffer, and no text with some of its spaces changed)
-    let empty = hb_buffer_t::new(buffer.alloc(), buffer.max_len());
-    let mut text = mem::replace(buffer, empty);
     let widths = SpaceWidths {
         font,
         is_horizontal,
     };
-    change_positions(&widths, &mut text);
-    *buffer = text;
+    change_positions(&widths, buffer);
 }
 
 // Gives a space its width.
@@ -75,6 +76,14 @@ impl<'a, F: MetricsFont> PositionChange for SpaceWidths<'a, F> {
             position.y_advance = space_width(self.font, false, kind, position.y_advance);
         }
     }
+}
+
+// Whether one of these glyphs is such a space.
+#[inline]
+fn has_space(glyphs: &[hb_glyph_info_t]) -> bool
+    ensures { result ≡ list_any is_space_glyph glyphs.now }
+{
+    glyphs.iter().any(is_space_glyph)
 }
 
 // Whether a glyph is a space, and no lookup put it in for several.

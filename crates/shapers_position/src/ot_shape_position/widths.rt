@@ -1,13 +1,13 @@
 //! Glyphs that don't move the pen.
 ghost use Rattle.std.specs.Prelude.{◌≡◌, Bool};
+ghost use Rattle.std.specs.List.{list_any};
 ghost use Rattle.shapers_position.specs.Ignorables.{ignorables_zeroed, without_extent};
 ghost use Rattle.shapers_position.specs.Widths.{hung_back, mark_zeroed, marks_zeroed, without_advance};
 
-use super::ignorables::{DefaultIgnorables, is_default_ignorable};
+use super::ignorables::{DefaultIgnorables, has_ignorable, is_default_ignorable};
 use super::metrics::is_horizontal;
 use super::positions::{PositionChange, change_positions};
 use shapers_base::buffer::{GlyphPosition, hb_buffer_t, hb_glyph_info_t};
-use std::mem;
 
 /// The classes of glyphs by a font's GDEF, as far as positions read them.
 pub trait GlyphClasses {
@@ -35,15 +35,24 @@ pub fn zero_mark_widths<C: GlyphClasses>(
         marks_zeroed is_mark adjust_offsets buffer.old.glyphs buffer.old.positions in
         buffer.new ≡ record buffer.old { positions = zeroed } }
 {
-    // (classes that panic leave the empty buffer, and no text with some of its marks changed)
-    let empty = hb_buffer_t::new(buffer.alloc(), buffer.max_len());
-    let mut text = mem::replace(buffer, empty);
+    // so that a return with nothing changed knows how many positions there are
+    prove!(buffer.positions_len() <= buffer.len());
+    if !has_mark(classes, buffer.glyphs()) {
+        return;
+    }
     let change = ZeroMarks {
         classes,
         adjust_offsets,
     };
-    change_positions(&change, &mut text);
-    *buffer = text;
+    change_positions(&change, buffer);
+}
+
+// Whether one of these glyphs is a mark.
+#[inline]
+fn has_mark<C: GlyphClasses>(classes: &C, glyphs: &[hb_glyph_info_t]) -> bool
+    ensures { result ≡ list_any (C.marks classes.now) glyphs.now }
+{
+    glyphs.iter().any(|glyph| classes.is_mark(glyph))
 }
 
 // Takes a mark its advance.
@@ -94,12 +103,14 @@ pub fn zero_width_default_ignorables(ignorables: DefaultIgnorables, buffer: &mut
         ignorables buffer.old.direction buffer.old.glyphs buffer.old.positions in
         buffer.new ≡ record buffer.old { positions = zeroed } }
 {
+    // so that a return with nothing changed knows how many positions there are
+    prove!(buffer.positions_len() <= buffer.len());
     match ignorables {
-        DefaultIgnorables::Hide => {
+        DefaultIgnorables::Hide if has_ignorable(buffer.glyphs()) => {
             let is_horizontal = is_horizontal(buffer.direction());
             change_positions(&ZeroIgnorables { is_horizontal }, buffer);
         }
-        DefaultIgnorables::Preserve | DefaultIgnorables::Remove => {}
+        DefaultIgnorables::Hide | DefaultIgnorables::Preserve | DefaultIgnorables::Remove => {}
     }
 }
 

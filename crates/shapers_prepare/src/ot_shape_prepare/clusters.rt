@@ -1,7 +1,9 @@
 //! Clusters by graphemes.
 ghost use Rattle.std.specs.Prelude.{◌≡◌};
+ghost use Rattle.std.specs.List.{list_any};
 ghost use Rattle.shapers_buffer.specs.Clusters.{merge_all};
 ghost use Rattle.shapers_buffer.specs.GlyphFlags.{unsafe_all};
+ghost use Rattle.shapers_buffer.specs.Properties.{is_continuation};
 ghost use Rattle.shapers_prepare.specs.Graphemes.{clusters_formed, graphemes};
 
 use shapers_base::buffer::{
@@ -15,8 +17,21 @@ pub fn form_clusters(buffer: &mut hb_buffer_t)
     ensures { let text = clusters_formed buffer.old.level buffer.old.glyphs in
         buffer.new ≡ record buffer.old { glyphs = text } }
 {
+    if !has_continuation(buffer.glyphs()) {
+        return;
+    }
     let level = buffer.cluster_level();
     buffer.walk(&mut Forming { level });
+}
+
+// Whether a glyph carries on the grapheme before it: else each is one of its own.
+#[inline]
+fn has_continuation(glyphs: &[hb_glyph_info_t]) -> bool
+    ensures { result ≡ list_any (λ g. is_continuation g.unicode_props) glyphs.now }
+{
+    glyphs
+        .iter()
+        .any(|glyph| glyph.unicode_props.is_continuation())
 }
 
 // The walk over the graphemes of a text.

@@ -1,12 +1,13 @@
 //! The properties of each character, as its glyph keeps them.
-ghost use Rattle.std.specs.Prelude.{◌≡◌, ◌&&◌, ◌||◌};
+ghost use Rattle.std.specs.Prelude.{◌≡◌, ◌&&◌, ◌||◌, false};
 ghost use Rattle.shapers_normal.specs.Properties.{is_seen_by_lookups, joiner_class};
-ghost use Rattle.shapers_prepare.specs.GlyphProperties.{always_continues, is_mark_character, is_regional_indicator, kept_class, need_not_be_drawn, properties_set, with_properties};
-ghost use Rattle.shapers_prepare.specs.PropertyWalk.{goes_on_behind, then_open};
+ghost use Rattle.shapers_prepare.specs.GlyphProperties.{always_continues, is_mark_character, is_regional_indicator, kept_class, kept_properties, need_not_be_drawn, properties_set, with_properties};
+ghost use Rattle.shapers_prepare.specs.PropertyWalk.{goes_on_behind, properties_with, then_open};
 
 use super::unicode::UnicodeProperties;
-use shapers_base::buffer::{GlyphWalk, UnicodeProps, hb_buffer_t, hb_glyph_info_t};
-use std::mem;
+use shapers_base::buffer::{
+    GlyphWalk, UnicodeProps, hb_buffer_t, hb_glyph_info_t, hb_unicode_general_category_t,
+};
 
 // ZWJ, which joins pictographs.
 const ZERO_WIDTH_JOINER: u32 = 0x200D;
@@ -21,10 +22,7 @@ pub fn set_unicode_properties<U: UnicodeProperties>(unicode: &U, buffer: &mut hb
         buffer.new ≡ record buffer.old { glyphs = text } }
 {
     // (properties that panic leave the empty buffer, and no text with some of them)
-    let empty = hb_buffer_t::new(buffer.alloc(), buffer.max_len());
-    let mut text = mem::replace(buffer, empty);
-    text.walk(&mut PropertyWalk { unicode });
-    *buffer = text;
+    buffer.walk_outside(&mut PropertyWalk { unicode });
 }
 
 // The walk that sets the properties of a text.
@@ -74,6 +72,10 @@ fn set_properties_in<U: UnicodeProperties>(unicode: &U, glyphs: &mut [hb_glyph_i
 fn then_open(before: Open, c: u32) -> Open
     ensures { result ≡ then_open before c }
 {
+    // (most characters have smaller numbers than any that leaves something open)
+    if c < ZERO_WIDTH_JOINER {
+        return Open::Nothing;
+    }
     if c == ZERO_WIDTH_JOINER {
         return Open::Joiner;
     }
@@ -96,15 +98,54 @@ pub(super) fn set_properties<U: UnicodeProperties>(
         glyph.new ≡ with_properties p continues glyph.old }
 {
     let c = glyph.glyph_id;
+    let goes_on = goes_on_behind(unicode, before, c);
+    glyph.unicode_props = kept_properties(unicode, goes_on, c);
+}
+
+// What a glyph keeps of a character that carries on the grapheme before it if it is a mark or goes on.
+#[inline]
+fn kept_properties<U: UnicodeProperties>(unicode: &U, goes_on: bool, c: u32) -> UnicodeProps
+    ensures { let p = U.properties unicode.now in
+        result ≡ kept_properties p (is_mark_character p c || goes_on) c }
+{
     let general = unicode.general_category(c);
     let is_mark = c >= 0x80 && general.is_mark();
     let is_ignorable = c >= 0x80 && unicode.is_default_ignorable(c);
-    let continues = is_mark || goes_on_behind(unicode, before, c);
-    let mut props = UnicodeProps::new(general, kept_class(unicode, c, is_mark, is_ignorable));
+    if !is_mark && !is_ignorable {
+        return plain_properties(general, goes_on);
+    }
+    let class = kept_class(unicode, c, is_mark, is_ignorable);
+    let is_hidden = is_ignorable && is_seen_by_lookups(c);
+    properties_with(general, class, is_ignorable, is_mark || goes_on, is_hidden)
+}
+
+// The properties of a category and a class, with these bits on or off.
+#[inline]
+fn properties_with(
+    general: hb_unicode_general_category_t,
+    class: u8,
+    is_ignorable: bool,
+    continues: bool,
+    is_hidden: bool,
+) -> UnicodeProps
+    ensures { result ≡ properties_with general class is_ignorable continues is_hidden }
+{
+    let mut props = UnicodeProps::new(general, class);
     props.set_ignorable(is_ignorable);
     props.set_continuation(continues);
-    props.set_hidden(is_ignorable && is_seen_by_lookups(c));
-    glyph.unicode_props = props;
+    props.set_hidden(is_hidden);
+    props
+}
+
+// The same of a character that is no mark and is always drawn, as most are.
+#[inline]
+#[tactic(auto, using(crate::proofs::PropertySteps::plain_properties))]
+fn plain_properties(general: hb_unicode_general_category_t, continues: bool) -> UnicodeProps
+    ensures { result ≡ properties_with general 0 false continues false }
+{
+    let mut props = UnicodeProps::new(general, 0);
+    props.set_continuation(continues);
+    props
 }
 
 // Whether a character that is no mark carries on the grapheme before it.
@@ -125,6 +166,9 @@ fn goes_on_behind<U: UnicodeProperties>(unicode: &U, before: Open, c: u32) -> bo
 fn always_continues(c: u32) -> bool
     ensures { result ≡ always_continues c }
 {
+    if c < ZERO_WIDTH_JOINER {
+        return false;
+    }
     matches!(c, ZERO_WIDTH_JOINER | 0xFF9E..=0xFF9F | 0x1F3FB..=0x1F3FF | 0xE0020..=0xE007F)
 }
 

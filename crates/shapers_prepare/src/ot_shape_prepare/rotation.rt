@@ -1,11 +1,10 @@
 //! Characters for another direction.
-ghost use Rattle.std.specs.Prelude.{◌≡◌, map};
+ghost use Rattle.std.specs.Prelude.{◌≡◌, ◌&&◌, ◌||◌, map, not};
 ghost use Rattle.shapers_prepare.specs.Rotation.{mirrored_glyph, rotated_glyph, runs_backward, runs_vertically, upright_glyph, which_font_has};
 
 use super::unicode::UnicodeProperties;
 use shapers_base::buffer::{Direction, GlyphChange, hb_buffer_t, hb_glyph_info_t};
 use shapers_base::font::hb_font_t;
-use std::mem;
 
 /// What characters are rotated by: the direction that the caller wants of the text, and of the plan
 /// the mask of the feature that mirrors (`rtlm`) and whether the font has a feature for vertical
@@ -34,18 +33,40 @@ pub fn rotate_chars<U: UnicodeProperties, F: hb_font_t>(
         let text = map (rotated_glyph p (F.font face.now) rotation.now) buffer.old.glyphs in
         buffer.new ≡ record buffer.old { glyphs = text } }
 {
-    let rotation = *rotation;
+    if !rotates(*rotation) {
+        return;
+    }
+    rotate_each(unicode, face, *rotation, buffer);
+}
+
+// Rotates each character, in a text that runs in such a direction.
+fn rotate_each<U: UnicodeProperties, F: hb_font_t>(
+    unicode: &U,
+    face: &F,
+    rotation: CharRotation,
+    buffer: &mut hb_buffer_t,
+)
+    ensures { let p = U.properties unicode.now in
+        let text = map (rotated_glyph p (F.font face.now) rotation) buffer.old.glyphs in
+        buffer.new ≡ record buffer.old { glyphs = text } }
+{
     let rotating = Rotating {
         unicode,
         face,
         rotation,
     };
     // (a font that panics leaves the empty buffer, and no text with some characters rotated)
-    let empty = hb_buffer_t::new(buffer.alloc(), buffer.max_len());
-    let mut text = mem::replace(buffer, empty);
-    let len = text.len();
-    text.change_each(0, len, &rotating);
-    *buffer = text;
+    buffer.change_outside(&rotating);
+}
+
+// Whether a text runs in a direction for which characters are rotated.
+#[inline]
+fn rotates(rotation: CharRotation) -> bool
+    ensures { result ≡
+        (runs_backward rotation.direction
+        || (runs_vertically rotation.direction && not rotation.has_vert)) }
+{
+    runs_backward(rotation.direction) || (runs_vertically(rotation.direction) && !rotation.has_vert)
 }
 
 // The change of one glyph.

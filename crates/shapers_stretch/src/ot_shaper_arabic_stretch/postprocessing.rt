@@ -1,5 +1,5 @@
 //! The hook behind positioning: marks stretch over the words before them.
-ghost use Rattle.std.specs.Prelude.{◌≡◌, ◌≤◌, ◌+◌, All, Err, IsOk, OnErr, OnOk, false, length, reverse};
+ghost use Rattle.std.specs.Prelude.{◌≡◌, ◌≤◌, ◌+◌, All, Err, IsOk, OnErr, OnOk, false, true, length, reverse};
 ghost use Rattle.shapers_buffer.specs.Buffer.{grown};
 ghost use Rattle.shapers_buffer.specs.Refusals.{Refuses, RefusesLength};
 ghost use Rattle.shapers_arabic.specs.PlanData.{IsArabic};
@@ -73,12 +73,31 @@ fn stretch_marks<F: hb_font_t>(
     // (a font that panics leaves the empty buffer, and none that is reversed or half laid)
     let empty = hb_buffer_t::new(buffer.alloc(), buffer.max_len());
     let mut text = mem::replace(buffer, empty);
-    let result = match text.direction() {
-        Direction::RightToLeft => stretch_text(face, choice, true, &mut text),
-        _ => stretch_backwards(face, choice, &mut text),
-    };
+    let result = stretch_in_order(face, choice, &mut text);
     *buffer = text;
     result
+}
+
+// Stretches a text that has tiles, in working order: from right to left it stands in it.
+#[inline]
+fn stretch_in_order<F: hb_font_t>(
+    face: &F,
+    choice: StretchStart,
+    buffer: &mut hb_buffer_t,
+) -> Result<(), ShaperError>
+    requires marked { buffer.old.stch ≡ true }
+    requires positions { length buffer.old.positions ≡ length buffer.old.glyphs }
+    requires numbers { All (λ g. g.glyph_id ≤ 65535) buffer.old.glyphs }
+    ensures ok { OnOk result (buffer.new ≡ marks_stretched (F.font face.now) choice buffer.old) }
+    ensures refusal { let after = marks_stretched (F.font face.now) choice buffer.old in
+        Refuses (stretch_refusal (F.font face.now) choice buffer.old) buffer.old.max_len
+        (length after.glyphs) result }
+    ensures err { OnErr result (buffer.new ≡ buffer.old) }
+{
+    match buffer.direction() {
+        Direction::RightToLeft => stretch_text(face, choice, true, buffer),
+        _ => stretch_backwards(face, choice, buffer),
+    }
 }
 
 // Stretches a text that is in working order backwards.

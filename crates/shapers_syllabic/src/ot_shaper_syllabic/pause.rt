@@ -7,7 +7,7 @@ ghost use Rattle.shapers_syllabic.specs.Reordering.{PauseLinked, PauseReordered,
 ghost use Rattle.shapers_syllabic.specs.ReorderingLaws.{PauseCutsAtBorders, TextReordered};
 
 use super::circles::ScriptCircles;
-use super::reordering::{ReorderBySteps, reorder_syllables};
+use super::reordering::{ReorderBySteps, reorder_syllables_by_steps};
 use shapers_base::buffer::{ShaperError, hb_buffer_t};
 use shapers_base::font::hb_font_t;
 
@@ -55,7 +55,7 @@ pub fn reorder_pause<F: hb_font_t, R: ReorderBySteps>(
         return Err(ShaperError::UnknownSyllable(place));
     }
     let circles = script.insert(face, buffer)?;
-    reorder_syllables(order, buffer)?;
+    reorder_syllables_by_steps(order, buffer)?;
     Ok(circles)
 }
 

@@ -9,10 +9,9 @@ ghost use Rattle.shapers_clusters.specs.CarriedGroups.{AreCarried, CanSettle, Gr
 ghost use Rattle.shapers_syllabic.specs.ReorderingWalk.{CarryingFits, NextChanging, ReorderedBehind, groups_written};
 ghost use Rattle.shapers_buffer.specs.Glyphs.{Glyphs};
 
-use shapers_base::buffer::{GlyphWalk, ShaperError, hb_buffer_t, hb_glyph_info_t};
+use shapers_base::buffer::{GlyphWalk, GroupRoom, ShaperError, hb_buffer_t, hb_glyph_info_t};
 use shapers_clusters::carried_groups::CarriedGroups;
 use shapers_clusters::floods::floods_again;
-use std::alloc::Global;
 
 /// Which glyphs may change their syllable.
 pub trait MayChange {
@@ -109,32 +108,11 @@ pub trait ReorderBySteps: Reorder {
 /// no place depends on how syllables were moved. The text becomes what its syllables become, one
 /// after another, and the order's relation leads there, one link a syllable. It refuses where the
 /// order does, and then nothing is said of the buffer.
+///
+/// It is linear unless merges of many syllables flood what stands before them again and again, as
+/// they may where clusters fall: see [`reorder_syllables_by_steps`].
 #[inline]
-pub fn reorder_syllables<R: ReorderBySteps>(
-    order: &R,
-    buffer: &mut hb_buffer_t,
-) -> Result<(), ShaperError>
-    requires without_positions { buffer.old.positions ≡ [] }
-    requires takes { TakesText (R.takes order.now) buffer.old.glyphs }
-    ensures ordered { OnOk result
-        (TextOrdered (R.meaning order.now buffer.old.script) buffer.old buffer.new) }
-    ensures linked { OnOk result
-        (SyllablesLinked (R.relation order.now) buffer.old buffer.new) }
-    ensures refusal { RefusesIf (R.may_refuse order.now) result }
-{
-    if floods_again(buffer.glyphs()) {
-        reorder_carrying(order, buffer)
-    } else {
-        reorder_in_turn(order, buffer)
-    }
-}
-
-// Reorders the syllables one after another.
-#[inline]
-fn reorder_in_turn<R: ReorderBySteps>(
-    order: &R,
-    buffer: &mut hb_buffer_t,
-) -> Result<(), ShaperError>
+pub fn reorder_syllables<R: Reorder>(order: &R, buffer: &mut hb_buffer_t) -> Result<(), ShaperError>
     requires without_positions { buffer.old.positions ≡ [] }
     requires takes { TakesText (R.takes order.now) buffer.old.glyphs }
     ensures ordered { OnOk result
@@ -153,8 +131,30 @@ fn reorder_in_turn<R: ReorderBySteps>(
     Ok(())
 }
 
-// The same in a text whose clusters fall: what merges flood before their syllables is carried along
-// and written once.
+/// Reorders each syllable of the text, as [`reorder_syllables`], by an order whose merges and moves
+/// are known: it is linear whatever the clusters are. It takes no memory but the order's.
+#[inline]
+pub fn reorder_syllables_by_steps<R: ReorderBySteps>(
+    order: &R,
+    buffer: &mut hb_buffer_t,
+) -> Result<(), ShaperError>
+    requires without_positions { buffer.old.positions ≡ [] }
+    requires takes { TakesText (R.takes order.now) buffer.old.glyphs }
+    ensures ordered { OnOk result
+        (TextOrdered (R.meaning order.now buffer.old.script) buffer.old buffer.new) }
+    ensures linked { OnOk result
+        (SyllablesLinked (R.relation order.now) buffer.old buffer.new) }
+    ensures refusal { RefusesIf (R.may_refuse order.now) result }
+{
+    if floods_again(buffer.glyphs()) {
+        reorder_carrying(order, buffer)
+    } else {
+        reorder_syllables(order, buffer)
+    }
+}
+
+// Reorders the syllables of a text whose clusters fall: what merges flood before their syllables is
+// carried along and written once, in room that the buffer lends.
 #[inline(never)]
 fn reorder_carrying<R: ReorderBySteps>(
     order: &R,
@@ -168,11 +168,35 @@ fn reorder_carrying<R: ReorderBySteps>(
         (SyllablesLinked (R.relation order.now) buffer.old buffer.new) }
     ensures refusal { RefusesIf (R.may_refuse order.now) result }
 {
-    let mut carrying = Carrying::new(buffer.alloc());
+    let mut carrying = Carrying::with_room(buffer.take_group_room());
+    let reordered = reorder_along(order, &mut carrying, buffer);
+    buffer.put_group_room_back(carrying.groups.into_room());
+    reordered
+}
+
+// Reorders the syllables one after another behind what is carried, and writes that.
+#[inline]
+fn reorder_along<R: ReorderBySteps>(
+    order: &R,
+    carrying: &mut Carrying,
+    buffer: &mut hb_buffer_t,
+) -> Result<(), ShaperError>
+    requires without_positions { buffer.old.positions ≡ [] }
+    requires takes { TakesText (R.takes order.now) buffer.old.glyphs }
+    requires start { carrying.old.groups.start ≡ 0 }
+    requires end { carrying.old.groups.end ≡ 0 }
+    requires none { carrying.old.groups.groups.items ≡ [] }
+    requires off { carrying.old.is_on ≡ false }
+    ensures ordered { OnOk result
+        (TextOrdered (R.meaning order.now buffer.old.script) buffer.old buffer.new) }
+    ensures linked { OnOk result
+        (SyllablesLinked (R.relation order.now) buffer.old buffer.new) }
+    ensures refusal { RefusesIf (R.may_refuse order.now) result }
+{
     let mut start = 0;
     while let Some(first) = next_changing(order, buffer.glyphs(), start) {
         let after = buffer.next_syllable(first);
-        reorder_behind(order, &mut carrying, buffer, first, after)?;
+        reorder_behind(order, carrying, buffer, first, after)?;
         start = after;
     }
     carrying.write(buffer);
@@ -211,16 +235,16 @@ impl GlyphWalk for Carrying {
 }
 
 impl Carrying {
-    // Nothing so far.
+    // Carries nothing.
     #[inline]
-    fn new(alloc: Global) -> Self
+    fn with_room(room: GroupRoom) -> Self
         ensures start { result.groups.start ≡ 0 }
         ensures end { result.groups.end ≡ 0 }
         ensures none { result.groups.groups.items ≡ [] }
         ensures off { result.is_on ≡ false }
     {
         Carrying {
-            groups: CarriedGroups::new(alloc),
+            groups: CarriedGroups::with_room(room),
             is_on: false,
             settles: false,
             count: 0,

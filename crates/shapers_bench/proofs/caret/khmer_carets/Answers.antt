@@ -4,7 +4,7 @@ use Rattle.std.specs.Result.{IsErrAnd}
 use Rattle.std.proofs.lemmas.Result.{err_from_is_err_and}
 use Rattle.std.proofs.lemmas.List.{length-map}
 use Rattle.std.proofs.lemmas.List.Elements.{All-contains}
-use Rattle.shapers_base.specs.declared.plan.pause.Pause.TheVariants.{ReorderKhmer}
+use Rattle.shapers_base.specs.declared.plan.pause.Pause.TheVariants.{ReorderKhmer, SetupSyllablesKhmer}
 use Rattle.shapers_buffer.specs.Glyphs.{Glyph, Glyphs}
 use Rattle.shapers_buffer.specs.declared.buffer.level.Direction.TheVariants.{LeftToRight}
 use Rattle.shapers_buffer.specs.declared.buffer.refusal.ShaperError.{ShaperError}
@@ -21,6 +21,24 @@ passed_on r x told e =
     let (y, is, own) = err_from_is_err_and r told in
     let one : y ≡ TooLong = cc in
     sym own ∙ one
+
+-- the word has room for its glyphs
+pub returns-in_err-run_pause-clause-room : goal.returns-in_err-run_pause-clause-room
+returns-in_err-run_pause-clause-room g c e =
+    let before = c.in_ok-buffer.buffer in
+    let fits : length before.glyphs * 1 ≤ before.max_len =
+    omega (
+      arith,
+      c.in_ok-buffer.ensures.filled,
+      c.in_ok-buffer.ensures.limit,
+      c.length_bound.ensures.bound,
+      c.requires.short,
+    ) in
+    let x = c.in_err-run_pause.field-0.0 in
+    let room = c.length_bound.ensures.pauses SetupSyllablesKhmer (g.F.hb_font_t.font c.args.face.now) c.args.spans.now
+    before (Err x) fits c.in_err-run_pause.ensures.refusal in
+    let same = passed_on c.from_residual-in_err-run_pause.result x c.from_residual-in_err-run_pause.ensures.1 e in
+    room (ap (λ (y : ShaperError). let r : Result Bool ShaperError = Err y in r) same)
 
 -- the word set up has as many glyphs, and room for twice as many
 pub returns-in_err-run_pause-2-clause-room : goal.returns-in_err-run_pause-2-clause-room

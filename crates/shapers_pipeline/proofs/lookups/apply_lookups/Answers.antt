@@ -4,7 +4,7 @@ use Rattle.std.specs.Prelude.{Result}
 use Rattle.shapers_buffer.specs.declared.buffer.refusal.ShaperError.{ShaperError}
 use Rattle.shapers_buffer.specs.declared.buffer.refusal.ShaperError.TheVariants.{TooLong}
 use Rattle.shapers_plan.specs.declared.ot_map.lookups.StageLookup.{StageLookup}
-use Rattle.shapers_pipeline.proofs.StageLengths.{lookup_fits, lookup_step, looked_next, looked_stopped, passed_on}
+use Rattle.shapers_pipeline.proofs.StageLengths.{lookup_fits, lookup_step, looked_next, looked_refused, looked_stopped, passed_on, told_error}
 use Rattle.shapers_pipeline.proofs.lookups.apply_lookups.Goals as goal
 
 pub returns-in_err-substitute-clause-room : goal.returns-in_err-substitute-clause-room
@@ -23,6 +23,18 @@ returns-in_err-substitute-clause-room g c fits e =
     room (ap (λ (y : ShaperError). let r : Result (Unit {0}) ShaperError = Err y in r)
     (passed_on c.from_residual.result x TooLong c.from_residual.ensures.1 e))
 
+pub returns-in_err-substitute-clause-err : goal.returns-in_err-substitute-clause-err
+returns-in_err-substitute-clause-err g c =
+    let l = c.loop-lookup in
+    let it = c.args.lookups.now in
+    let list = c.args.list.now in
+    let x = c.in_err-substitute.field-0.0 in
+    let new = c.substitute.new.buffer in
+    let within : l.lookup-index < length list = omega (arith, c.loop-lookup-test.true) in
+    told_error c.from_residual.result x _ c.from_residual.ensures.1
+    (l.invariant.stopped new x (looked_refused (g.L.Lookups.substituted it) (g.L.Lookups.substituting_refuses it) list l.lookup-index _
+    l.buffer new x within c.in_err-substitute.ensures.refusal c.in_err-substitute.ensures.err))
+
 pub loop-lookup-preserved : goal.loop-lookup-preserved
 loop-lookup-preserved g c =
     let l = c.loop-lookup in
@@ -40,6 +52,6 @@ loop-lookup-preserved g c =
       limit = step.0 ∙ l.invariant.limit;
       few = step.1;
       done = looked_next f list i _ l.buffer new within c.in_ok-substitute.ensures.ok ∙ l.invariant.done;
-      stopped = λ end rest. l.invariant.stopped end
-          (looked_stopped f list i _ l.buffer new end within c.in_ok-substitute.ensures.ok rest);
+      stopped = λ end e rest. l.invariant.stopped end e
+          (looked_stopped f (g.L.Lookups.substituting_refuses it) list i _ l.buffer new end e within c.in_ok-substitute.ensures.ok rest);
     }

@@ -1,6 +1,7 @@
 -- What is left to do, from the text that the lookups so far made.
 use Rattle.std.proofs.Common.{◌≡◌, ◌≤◌, [], drop, length}
 use Rattle.shapers_buffer.specs.Buffer.{Buffer}
+use Rattle.shapers_buffer.specs.declared.buffer.refusal.ShaperError.{ShaperError}
 use Rattle.shapers_pipeline.specs.Lengths.{looked_up_bound}
 use Rattle.shapers_pipeline.specs.Lookups.{StoppedIn, looked_up}
 use Rattle.shapers_pipeline.proofs.lookups.apply_lookups.Given as goal
@@ -9,6 +10,7 @@ abbrev pub invariant-loop-lookup : goal.invariant-loop-lookup
 invariant-loop-lookup g l =
     let f = g.L.Lookups.substituted l.lookups in
     let growth = g.L.Lookups.growth_of l.lookups in
+    let refusals = g.L.Lookups.substituting_refuses l.lookups in
     let rest = drop l.lookup-index l.list in
     record {
       positions : l.buffer.positions ≡ [];
@@ -16,5 +18,6 @@ invariant-loop-lookup g l =
       few : looked_up_bound growth rest (length l.buffer.glyphs)
           ≤ looked_up_bound growth l.list (length l.initial.buffer.glyphs);
       done : looked_up f rest l.buffer ≡ looked_up f l.list l.initial.buffer;
-      stopped : (new : Buffer) → StoppedIn f rest l.buffer new → StoppedIn f l.list l.initial.buffer new;
+      stopped : (new : Buffer) (e : ShaperError) → StoppedIn f refusals rest l.buffer new e
+          → StoppedIn f refusals l.list l.initial.buffer new e;
     }

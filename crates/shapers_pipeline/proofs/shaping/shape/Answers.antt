@@ -3,7 +3,7 @@ use Rattle.std.proofs.Common.{◌∙◌, ◌⊎◌, ◌≤◌, ap, arith, inr, l
 use Rattle.shapers_buffer.specs.Buffer.{Buffer}
 use Rattle.shapers_pipeline.specs.Lengths.{shaped_bound}
 use Rattle.shapers_pipeline.specs.Lookups.{text_noted}
-use Rattle.shapers_pipeline.specs.Planned.{given_back}
+use Rattle.shapers_pipeline.specs.Planned.{given_back, text_to_shape}
 use Rattle.shapers_pipeline.specs.Prepared.{text_prepared}
 use Rattle.shapers_pipeline.specs.Refusals.{IsStopped}
 use Rattle.shapers_pipeline.specs.Shaped.{FinishStopped, positioning_by}
@@ -17,6 +17,7 @@ give_back-requires g c =
       arith,
       c.in-Ok.ensures.limit,
       c.set_to_shape.ensures.within,
+      ap (λ (b : Buffer). b.max_len) c.keep.ensures.same,
       ap (λ (b : Buffer). b.max_len) c.in_ok-kept.ensures.ok,
     )
 
@@ -33,8 +34,9 @@ returns-in-Ok-clause-ok g c =
     let ran = c.in-Ok.ensures.ok in (
       ran.0,
       (
-        subst (λ b. StagesRun r plan.stages (noted (text_prepared p b)) ran.0) c.set_to_shape.ensures.text ran.1.0,
-        c.give_back.ensures
+        subst (λ b. StagesRun r plan.stages (noted (text_prepared p b)) ran.0) (c.set_to_shape.ensures.text ∙ ap (text_to_shape plan) c.keep.ensures.same) ran.1.0,
+        c.recycle.ensures
+            ∙ c.give_back.ensures
             ∙ ap (λ (k : Buffer). given_back k c.shape_planned.new.buffer) c.in_ok-kept.ensures.ok
             ∙ ap (given_back old) ran.1.1,
       ),
@@ -53,12 +55,14 @@ returns-in-Err-clause-refusal g c =
     let noted = text_noted (g.L.Lookups.noted it) in
     let left = c.shape_planned.new.buffer in
     let e = c.in-Err.error in
+    let substituting = g.L.Lookups.substituting_refuses it in
+    let positioning = g.L.Lookups.positioning_refuses it in
     inr (
       left,
       subst (λ b. IsStopped p b left e
-          ⊎ (StagesStopped r plan.stages (noted (text_prepared p b)) left
-          ⊎ ((mid : Buffer) × (StagesRun r plan.stages (noted (text_prepared p b)) mid × FinishStopped q mid left e))))
-          c.set_to_shape.ensures.text c.in-Err.ensures.err,
+          ⊎ (StagesStopped r substituting plan.stages (noted (text_prepared p b)) left e
+          ⊎ ((mid : Buffer) × (StagesRun r plan.stages (noted (text_prepared p b)) mid × FinishStopped q positioning mid left e))))
+          (c.set_to_shape.ensures.text ∙ ap (text_to_shape plan) c.keep.ensures.same) c.in-Err.ensures.err,
     )
 
 pub returns-in-Err-clause-room : goal.returns-in-Err-clause-room
@@ -70,7 +74,7 @@ returns-in-Err-clause-room g c grows room fits is =
     (g.T.UnicodeProperties.properties c.args.tables.now) (g.T.Tables.tables c.args.tables.now) (g.T.NormalizeTables.texts c.args.tables.now) in
     let r = substitution_by plan font (g.L.Lookups.substituted it) in
     let noted = text_noted (g.L.Lookups.noted it) in
-    let set = c.set_to_shape.ensures.text in
+    let set = c.set_to_shape.ensures.text ∙ ap (text_to_shape plan) c.keep.ensures.same in
     let enough = subst (λ (b : Buffer). shaped_bound plan.shaper (g.L.Lookups.growth_of it) plan.lookups plan.stages
     (length b.glyphs) ≤ b.max_len) (sym set) fits in
     let found = c.in-Err.ensures.room grows room enough is in (

@@ -4,7 +4,7 @@ use Rattle.std.proofs.lemmas.Result.{on_ok_weaker}
 use Rattle.shapers_buffer.specs.Buffer.{Buffer}
 use Rattle.shapers_pipeline.specs.Lengths.{stages_bound}
 use Rattle.shapers_pipeline.specs.Stages.{StagesRun, StagesStopped, Substitution}
-use Rattle.shapers_pipeline.proofs.PutBack.{is_put_back, on_err_weaker}
+use Rattle.shapers_pipeline.proofs.PutBack.{if_err_weaker, is_put_back}
 use Rattle.shapers_pipeline.proofs.stages.run_stages.Goals as goal
 
 pub run_planned_stages-run-requires : goal.run_planned_stages-run-requires
@@ -39,10 +39,11 @@ returns-clause-err g c =
     } in
     let call = c.run_planned_stages-run in
     let left = call.new.buffer in
-    on_err_weaker call.result (λ stopped. (
+    let refusals = g.L.Lookups.substituting_refuses c.args.lookups.now in
+    if_err_weaker call.result (λ e stopped. (
       left,
       (
-        subst (λ b. StagesStopped r c.args.plan.now.stages.now b left) c.set_script_and_direction.ensures stopped,
+        subst (λ b. StagesStopped r refusals c.args.plan.now.stages.now b left e) c.set_script_and_direction.ensures stopped,
         is_put_back c.args.buffer.now left left _ c.script-script.ensures c.direction-direction.ensures
             c.set_script_and_direction-2.ensures refl,
       ),

@@ -72,7 +72,7 @@ returns-clause-err g c =
       substituted = g.L.Lookups.substituted c.args.lookups.now;
       list = list;
     } in r) c.lookups.ensures in
-    as_stopped _ c.run_planned_stages.result (stopped_alike c.run_planned_stages.new.buffer read c.stages.ensures prepared) c.run_planned_stages.ensures.err
+    as_stopped _ c.run_planned_stages.result (stopped_alike (g.L.Lookups.substituting_refuses c.args.lookups.now) c.run_planned_stages.new.buffer read c.stages.ensures prepared) c.run_planned_stages.ensures.err
 
 pub returns-clause-room : goal.returns-clause-room
 returns-clause-room g c grows room fits =

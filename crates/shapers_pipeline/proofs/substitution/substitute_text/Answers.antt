@@ -3,7 +3,7 @@ use Rattle.std.proofs.Common.{◌∙◌, ◌⊎◌, ◌≤◌, ap, inr, length, 
 use Rattle.shapers_buffer.specs.Buffer.{Buffer}
 use Rattle.shapers_pipeline.specs.Lengths.{shaped_bound}
 use Rattle.shapers_pipeline.specs.Lookups.{text_noted}
-use Rattle.shapers_pipeline.specs.Planned.{put_back}
+use Rattle.shapers_pipeline.specs.Planned.{as_planned, put_back}
 use Rattle.shapers_pipeline.specs.Prepared.{text_prepared}
 use Rattle.shapers_pipeline.specs.Refusals.{IsStopped}
 use Rattle.shapers_pipeline.specs.Stages.{StagesRun, StagesStopped}
@@ -22,14 +22,14 @@ returns-in-Ok-clause-ok g c =
     let last = c.substitute_planned.new.buffer in (
       last,
       (
-        subst (λ b. StagesRun r plan.stages (noted (text_prepared p b)) last) c.set_to_plan.ensures c.in-Ok.ensures.ok,
-        c.put_back.ensures ∙ ap (λ (k : Buffer). put_back k last) c.in_ok-kept.ensures.ok,
+        subst (λ b. StagesRun r plan.stages (noted (text_prepared p b)) last) (c.set_to_plan.ensures ∙ ap (as_planned plan.plan.script plan.direction) c.keep.ensures.same) c.in-Ok.ensures.ok,
+        c.recycle.ensures ∙ c.put_back.ensures ∙ ap (λ (k : Buffer). put_back k last) c.in_ok-kept.ensures.ok,
       ),
     )
 
 pub returns-in-Ok-clause-positions : goal.returns-in-Ok-clause-positions
 returns-in-Ok-clause-positions g c =
-    ap (λ (b : Buffer). b.positions) c.put_back.ensures ∙ c.in-Ok.ensures.positions
+    ap (λ (b : Buffer). b.positions) (c.recycle.ensures ∙ c.put_back.ensures) ∙ c.in-Ok.ensures.positions
 
 pub returns-in-Err-clause-refusal : goal.returns-in-Err-clause-refusal
 returns-in-Err-clause-refusal g c =
@@ -41,11 +41,12 @@ returns-in-Err-clause-refusal g c =
     let r = substitution_by plan font (g.L.Lookups.substituted it) in
     let noted = text_noted (g.L.Lookups.noted it) in
     let left = c.substitute_planned.new.buffer in
+    let refusals = g.L.Lookups.substituting_refuses it in
     let e = c.in-Err.error in
     inr (
       left,
-      subst (λ b. IsStopped p b left e ⊎ StagesStopped r plan.stages (noted (text_prepared p b)) left)
-          c.set_to_plan.ensures c.in-Err.ensures.err,
+      subst (λ b. IsStopped p b left e ⊎ StagesStopped r refusals plan.stages (noted (text_prepared p b)) left e)
+          (c.set_to_plan.ensures ∙ ap (as_planned plan.plan.script plan.direction) c.keep.ensures.same) c.in-Err.ensures.err,
     )
 
 pub returns-in-Err-clause-room : goal.returns-in-Err-clause-room
@@ -53,5 +54,5 @@ returns-in-Err-clause-room g c grows room fits =
     let it = c.args.lookups.now in
     let plan = c.args.plan.now in
     let enough = subst (λ (b : Buffer). shaped_bound plan.shaper (g.L.Lookups.growth_of it) plan.lookups plan.stages
-    (length b.glyphs) ≤ b.max_len) (sym c.set_to_plan.ensures) fits in
+    (length b.glyphs) ≤ b.max_len) (sym (c.set_to_plan.ensures ∙ ap (as_planned plan.plan.script plan.direction) c.keep.ensures.same)) fits in
     c.in-Err.ensures.room grows room enough

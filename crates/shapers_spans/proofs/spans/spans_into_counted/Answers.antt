@@ -4,7 +4,7 @@ use Rattle.shapers_buffer.specs.Glyphs.{Glyphs}
 use Rattle.shapers_spans.specs.Grammar.{OpensWith, lead_spans}
 use Rattle.shapers_spans.specs.Joined.{KnowsJoiners}
 use Rattle.shapers_spans.specs.Watch.{Watch, IsWatched}
-use Rattle.shapers_spans.proofs.FoundSpans.{found_start, found_next, found_all, knows_none, watched_none, sliced}
+use Rattle.shapers_spans.proofs.FoundSpans.{found_start, found_next, found_all, found_fewer, refused, knows_none, watched_none, sliced}
 use Rattle.shapers_spans.proofs.spans.spans_into_counted.Goals as goal
 
 pub loop-start-init : goal.loop-start-init
@@ -17,6 +17,7 @@ loop-start-init g c =
     (let e : c.push_lead.new.spans.items ≡ _ = c.in_ok-push_lead.ensures.ok in e
     ∙ ap (λ k. lead_spans c.next_read-start.result k) c.other.ensures.kind) in
     record {
+      capacity = omega (arith, c.push_lead.ensures.capacity, c.clear.ensures.capacity);
       found = f;
       joined = knows_none grammar.passes (g.M.Machine.is_joiner c.args.machine.now)
           (g.M.Machine.ends c.args.machine.now) (drop c.next_read-start.result c.args.glyphs.now)
@@ -26,6 +27,14 @@ loop-start-init g c =
           (drop c.next_read-start.result c.args.glyphs.now) (c.none-joiners.result.end - c.next_read-start.result)
           c.none-joiners.result.stuck c.pass.new.self.reads c.pass.new.self refl;
     }
+
+pub returns-in_err-map_err-clause-room : goal.returns-in_err-map_err-clause-room
+returns-in_err-map_err-clause-room g c all are fits =
+    let l = c.loop-start in
+    let full = refused c.push.result c.in_err-map_err.ensures.variant c.push.ensures.full in
+    let fewer = found_fewer (g.M.Machine.grammar c.args.machine.now) c.args.glyphs.now l.start l.spans.items all
+    l.invariant.found (omega (arith, c.loop-start-test.true)) are in
+    absurd (omega (arith, full, fewer, fits, l.invariant.capacity))
 
 pub loop-start-preserved : goal.loop-start-preserved
 loop-start-preserved g c =
@@ -45,6 +54,7 @@ loop-start-preserved g c =
     let less : new.end - start - span.len ≡ new.end - (start + span.len) = omega arith in
     let on : drop span.len (drop start gs) ≡ drop (start + span.len) gs = drop-drop span.len start gs in
     record {
+      capacity = omega (arith, i.capacity, c.push.ensures.capacity);
       found = found_next grammar gs start span c.loop-start.spans.items c.push.new.self.items i.found
           (sliced (λ xs. OpensWith grammar xs span) gs start x.opens) x.some
           (sliced (λ (xs : Glyphs). span.len ≤ length xs) gs start x.within) x.kind

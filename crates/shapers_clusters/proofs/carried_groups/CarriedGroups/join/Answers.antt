@@ -1,7 +1,7 @@
 -- Two groups in one cluster are as one.
 use Rattle.std.proofs.Common.{◌∙◌, ◌-◌, ap, arith, get_or, subst, sym}
 use Rattle.shapers_clusters.specs.CarriedGroups.{no_group}
-use Rattle.shapers_clusters.specs.declared.carried_groups.Group.{Group}
+use Rattle.shapers_buffer.specs.declared.buffer.group_room.ClusterGroup.{ClusterGroup}
 use Rattle.shapers_clusters.proofs.GroupWalk.{EndJoined, joined_same, joined_still}
 use Rattle.shapers_clusters.proofs.carried_groups.CarriedGroups.join.Goals as goal
 
@@ -11,7 +11,7 @@ loop-self-preserved c =
     let items = it.groups.items in
     let n = c.group_count-count.ensures in
     let joined = joined_same items (omega arith)
-    (omega (arith, ap (λ (g : Group). g.cluster) (c.group-before.ensures ∙ ap (λ k. get_or items (k - 2) no_group) n), ap (λ (g : Group). g.cluster) (c.group-last.ensures ∙ ap (λ k. get_or items (k - 1) no_group) n))) in
+    (omega (arith, ap (λ (g : ClusterGroup). g.cluster) (c.group-before.ensures ∙ ap (λ k. get_or items (k - 2) no_group) n), ap (λ (g : ClusterGroup). g.cluster) (c.group-last.ensures ∙ ap (λ k. get_or items (k - 1) no_group) n))) in
     let same = joined_still it c.join_last.new.self c.loop-self.glyphs
     (subst (EndJoined items) (sym c.join_last.ensures.groups) joined) c.join_last.ensures.start c.join_last.ensures.end
     c.loop-self.invariant.fits in

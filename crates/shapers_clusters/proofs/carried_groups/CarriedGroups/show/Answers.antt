@@ -1,7 +1,7 @@
 -- What is shown, and what was there.
 use Rattle.std.proofs.Common.{◌∙◌, ◌+◌, ◌++◌, ◌-◌, ap, arith, drop, refl, sym, take}
 use Rattle.shapers_clusters.specs.CarriedGroups.{first_group_cluster, put_before}
-use Rattle.shapers_clusters.specs.declared.carried_groups.Group.{Group}
+use Rattle.shapers_buffer.specs.declared.buffer.group_room.ClusterGroup.{ClusterGroup}
 use Rattle.shapers_clusters.proofs.GroupWalk.{are_shown, first_get, many_lens}
 use Rattle.shapers_clusters.proofs.carried_groups.CarriedGroups.show.Goals as goal
 
@@ -22,5 +22,5 @@ returns-clause-shown c =
     ∙ ap (λ l. l ++ take (it.end - c.saturating_sub.result) (drop c.saturating_sub.result gs)) c.truncate.ensures.items
     ∙ ap (λ k. take (it.end - k) (drop k gs)) c.saturating_sub.ensures)
     (c.put_before.ensures ∙ ap (λ k. put_before place (k + 1) c.show_from.new.glyphs)
-    (ap (λ (g : Group). g.cluster) c.group.ensures ∙ sym (first_get it.groups.items))
+    (ap (λ (g : ClusterGroup). g.cluster) c.group.ensures ∙ sym (first_get it.groups.items))
     ∙ ap (λ l. put_before place (first_group_cluster it.groups.items + 1) l) c.show_from.ensures) c.requires.fits

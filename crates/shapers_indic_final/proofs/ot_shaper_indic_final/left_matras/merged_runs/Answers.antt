@@ -1,11 +1,19 @@
 -- One place back: a left matra goes, anything else stays.
-use Rattle.std.proofs.Common.{◌+◌, ◌-◌, sym, ◌∙◌, arith}
+use Rattle.std.proofs.Common.{◌+◌, ◌-◌, refl, sym, ap, ◌∙◌, arith}
+use Rattle.shapers_buffer.specs.Glyphs.{Glyph}
+use Rattle.shapers_indic_final.specs.FinalMatras.{is_left}
 use Rattle.shapers_indic_final.proofs.LeftMatraSteps.{lies_on}
 use Rattle.shapers_indic_final.proofs.LeftMatraWalks.{walk_end, walk_no, walk_start, walk_yes}
 use Rattle.shapers_indic_final.proofs.ot_shaper_indic_final.left_matras.merged_runs.Goals as goal
 
 pub loop-i-init : goal.loop-i-init
-loop-i-init c = search (arith, walk_start)
+loop-i-init c =
+    let a = c.args in
+    let r = c.requires in (
+      omega arith,
+      walk_start a.s a.top a.p a.b _ a.glyphs.now r.behind r.before r.in_range refl
+          (ap (λ (g : Glyph). g.cluster) c.get.ensures) refl (ap (λ (g : Glyph). g.cluster) c.get-2.ensures),
+    )
 
 pub loop-i-preserved-then-is_left : goal.loop-i-preserved-then-is_left
 loop-i-preserved-then-is_left c =
@@ -17,7 +25,7 @@ loop-i-preserved-then-is_left c =
     w.ensures.merged w.ensures.end l.invariant.1.lies in (
       omega arith,
       walk_yes a.s l.i (l.i - 1) a.top a.p a.b l.runs w.result a.glyphs.now
-          (omega arith) l.invariant.0 r.behind r.before r.in_range (sym c.is_left.ensures
+          (omega arith) l.invariant.0 r.behind r.before r.in_range (ap is_left (sym c.get-in-loop-i.ensures) ∙ sym c.is_left.ensures
           ∙ c.if-is_left.true) w.ensures.merged w.ensures.end lies l.invariant.1,
     )
 
@@ -28,7 +36,7 @@ loop-i-preserved c =
     let r = c.requires in (
       omega arith,
       walk_no a.s l.i (l.i - 1) a.top a.p a.b l.runs a.glyphs.now
-          (omega arith) l.invariant.0 r.behind r.before r.in_range (sym c.is_left.ensures
+          (omega arith) l.invariant.0 r.behind r.before r.in_range (ap is_left (sym c.get-in-loop-i.ensures) ∙ sym c.is_left.ensures
           ∙ c.if-is_left.false) l.invariant.1,
     )
 

@@ -1,134 +1,351 @@
 -- The matras listed and their clusters written, by what the walk over them found.
-use Rattle.std.proofs.Common.{◌+◌, ◌-◌, length, filter, ap, ◌∙◌, arith}
+use Rattle.std.proofs.Common.{◌≡◌, ◌+◌, [], ◌++◌, drop, filter, length, refl, sym, ap, subst, ◌∙◌, arith}
+use Rattle.shapers_buffer.specs.Buffer.{Buffer}
+use Rattle.shapers_buffer.specs.Glyphs.{Glyphs}
+use Rattle.shapers_buffer.specs.Places.{placed_by}
+use Rattle.shapers_buffer.specs.Placements.{MayArrange, arranged, placed_by_all}
+use Rattle.shapers_buffer.specs.declared.buffer.placement.Placement.TheVariants.{Listed, Stays}
+use Rattle.shapers_buffer.specs.declared.buffer.placements.Placements.{Placements}
+use Rattle.shapers_buffer.proofs.Arranging.{all_long, only_one}
 use Rattle.shapers_indic.specs.Glyphs.{places}
-use Rattle.shapers_indic_final.specs.LeftMatraWalk.{has_stayed}
-use Rattle.shapers_indic_final.proofs.LeftMatrasAtOnce.{found, length-put_in, moved_long, no_lefts, one_there, written_long, written_there}
+use Rattle.shapers_indic_final.specs.FinalMoveWalk.{matra_placements}
+use Rattle.shapers_indic_final.specs.LeftMatraWalk.{gone, has_stayed, staying}
+use Rattle.shapers_indic_final.proofs.FinalArranged.{stay_fits}
+use Rattle.shapers_indic_final.proofs.LeftMatrasAtOnce.{found, no_lefts, one_there, written_there}
 use Rattle.shapers_indic_final.proofs.LeftMatrasListed.{parted_written}
 use Rattle.shapers_indic_final.proofs.LeftMatraSteps.{Lies}
 use Rattle.shapers_indic_final.proofs.ot_shaper_indic_final.left_matras.part_further.Goals as goal
 
 pub returns-then-not-has_left-clause-glyphs : goal.returns-then-not-has_left-clause-glyphs
-returns-then-not-has_left-clause-glyphs = search (arith, no_lefts)
+returns-then-not-has_left-clause-glyphs c =
+    let a = c.args in
+    let r = c.requires in
+    let b0 = a.buffer.now in
+    let old = arranged a.moves a.s a.e b0 in
+    let long : length old.glyphs ≡ length b0.glyphs = all_long a.moves a.s a.e b0.places b0.glyphs r.fits in
+    let text = c.arranged.ensures.text in
+    search (arith, no_lefts)
 
 pub overflow_sub-at : goal.overflow_sub-at
 overflow_sub-at c =
     let a = c.args in
+    let r = c.requires in
+    let b0 = a.buffer.now in
+    let old = arranged a.moves a.s a.e b0 in
+    let gs = old.glyphs in
+    let long : length gs ≡ length b0.glyphs = all_long a.moves a.s a.e b0.places b0.glyphs r.fits in
     let w = c.merged_runs-runs in
-    let gs = a.buffer.now.glyphs in
     let lies : Lies (a.s + a.p) (a.s + a.b) w.result gs =
     record {
       start = w.ensures.start;
       from = w.ensures.from;
-      end = omega (arith, ap length c.glyphs-2.ensures);
+      end = omega (arith, w.ensures.end, c.arranged-2.ensures.same_length, long);
     } in
     let many = c.len_staying-len.ensures
     ∙ ap (λ xs. length (filter (has_stayed a.s (a.s + a.top) xs) (places w.result.start (a.s + a.p))))
-    c.glyphs-3.ensures in
-    (parted_written a.buffer.now.level a.s (a.s + a.top) (a.s + a.p) (a.s + a.b) c.move_matras-at.result
-    c.len_staying-len.result w.result gs (omega arith) (omega arith) lies c.move_matras-at.ensures.at many).0
+    c.arranged-3.ensures.text in
+    let view : placed_by_all (matra_placements a.s a.top a.p) a.s a.e [] b0.glyphs ≡ gs =
+    ap (λ ps. placed_by_all ps a.s a.e b0.places b0.glyphs) (sym r.moved) in
+    let at = c.list_matras-at.ensures.at
+    ∙ ap (λ xs. a.s + length (filter (has_stayed a.s (a.s + a.top) xs) (places a.s (a.s + a.p)))) view in
+    let parted = parted_written b0.level a.s (a.s + a.top) (a.s + a.p) (a.s + a.b) c.list_matras-at.result
+    c.len_staying-len.result w.result gs (omega arith) (omega (arith, r.before)) lies at many in
+    parted.0
+
+pub put-requires-clause-fits : goal.put-requires-clause-fits
+put-requires-clause-fits c =
+    let a = c.args in
+    let r = c.requires in
+    let b0 = a.buffer.now in
+    let old = arranged a.moves a.s a.e b0 in
+    let gs = old.glyphs in
+    let long : length gs ≡ length b0.glyphs = all_long a.moves a.s a.e b0.places b0.glyphs r.fits in
+    let w = c.merged_runs-runs in
+    let lies : Lies (a.s + a.p) (a.s + a.b) w.result gs =
+    record {
+      start = w.ensures.start;
+      from = w.ensures.from;
+      end = omega (arith, w.ensures.end, c.arranged-2.ensures.same_length, long);
+    } in
+    let many = c.len_staying-len.ensures
+    ∙ ap (λ xs. length (filter (has_stayed a.s (a.s + a.top) xs) (places w.result.start (a.s + a.p))))
+    c.arranged-3.ensures.text in
+    let view : placed_by_all (matra_placements a.s a.top a.p) a.s a.e [] b0.glyphs ≡ gs =
+    ap (λ ps. placed_by_all ps a.s a.e b0.places b0.glyphs) (sym r.moved) in
+    let at = c.list_matras-at.ensures.at
+    ∙ ap (λ xs. a.s + length (filter (has_stayed a.s (a.s + a.top) xs) (places a.s (a.s + a.p)))) view in
+    let parted = parted_written b0.level a.s (a.s + a.top) (a.s + a.p) (a.s + a.b) c.list_matras-at.result
+    c.len_staying-len.result w.result gs (omega arith) (omega (arith, r.before)) lies at many in
+    let listed : Placements = record { first = Listed; second = Stays; third = Stays } in
+    let b1 = c.list_matras-at.new.buffer in
+    let same : length b1.glyphs ≡ length b0.glyphs =
+    ap (λ (b : Buffer). length b.glyphs) c.list_matras-at.ensures.others in
+    let fits1 : MayArrange listed a.s a.e (length b1.glyphs) b1.places =
+    record {
+      in_order = r.fits.in_order;
+      in_range = omega (arith, r.fits.in_range);
+      first = c.list_matras-at.ensures.each;
+      second = stay_fits a.s a.e b1.places;
+      third = stay_fits a.s a.e b1.places;
+    } in
+    fits1
 
 pub put-requires-clause-in_range : goal.put-requires-clause-in_range
 put-requires-clause-in_range c =
     let a = c.args in
     let r = c.requires in
+    let b0 = a.buffer.now in
+    let old = arranged a.moves a.s a.e b0 in
+    let gs = old.glyphs in
+    let long : length gs ≡ length b0.glyphs = all_long a.moves a.s a.e b0.places b0.glyphs r.fits in
     let w = c.merged_runs-runs in
-    let gs = a.buffer.now.glyphs in
-    let lies : Lies (a.s + a.p) (a.s + a.b) w.result gs = record {
+    let lies : Lies (a.s + a.p) (a.s + a.b) w.result gs =
+    record {
       start = w.ensures.start;
       from = w.ensures.from;
-      end = omega (arith, ap length c.glyphs-2.ensures);
+      end = omega (arith, w.ensures.end, c.arranged-2.ensures.same_length, long);
     } in
     let many = c.len_staying-len.ensures
     ∙ ap (λ xs. length (filter (has_stayed a.s (a.s + a.top) xs) (places w.result.start (a.s + a.p))))
-    c.glyphs-3.ensures in
-    search (
-      arith,
-      (parted_written a.buffer.now.level a.s (a.s + a.top) (a.s + a.p) (a.s + a.b) c.move_matras-at.result
-          c.len_staying-len.result w.result gs (omega arith) (omega (arith, r.before)) lies
-          c.move_matras-at.ensures.at many).1,
-      moved_long a.s (a.s + a.top) (a.s + a.p) (a.s + a.b) w.result gs (omega (arith, r.before)) lies,
-    )
+    c.arranged-3.ensures.text in
+    let view : placed_by_all (matra_placements a.s a.top a.p) a.s a.e [] b0.glyphs ≡ gs =
+    ap (λ ps. placed_by_all ps a.s a.e b0.places b0.glyphs) (sym r.moved) in
+    let at = c.list_matras-at.ensures.at
+    ∙ ap (λ xs. a.s + length (filter (has_stayed a.s (a.s + a.top) xs) (places a.s (a.s + a.p)))) view in
+    let parted = parted_written b0.level a.s (a.s + a.top) (a.s + a.p) (a.s + a.b) c.list_matras-at.result
+    c.len_staying-len.result w.result gs (omega arith) (omega (arith, r.before)) lies at many in
+    let listed : Placements = record { first = Listed; second = Stays; third = Stays } in
+    let b1 = c.list_matras-at.new.buffer in
+    let same : length b1.glyphs ≡ length b0.glyphs =
+    ap (λ (b : Buffer). length b.glyphs) c.list_matras-at.ensures.others in
+    let fits1 : MayArrange listed a.s a.e (length b1.glyphs) b1.places =
+    record {
+      in_order = r.fits.in_order;
+      in_range = omega (arith, r.fits.in_range);
+      first = c.list_matras-at.ensures.each;
+      second = stay_fits a.s a.e b1.places;
+      third = stay_fits a.s a.e b1.places;
+    } in
+    omega (arith, parted.1, w.ensures.end, c.arranged-2.ensures.same_length)
+
+pub put-requires-2-clause-fits : goal.put-requires-2-clause-fits
+put-requires-2-clause-fits c =
+    let a = c.args in
+    let r = c.requires in
+    let b0 = a.buffer.now in
+    let old = arranged a.moves a.s a.e b0 in
+    let gs = old.glyphs in
+    let long : length gs ≡ length b0.glyphs = all_long a.moves a.s a.e b0.places b0.glyphs r.fits in
+    let w = c.merged_runs-runs in
+    let lies : Lies (a.s + a.p) (a.s + a.b) w.result gs =
+    record {
+      start = w.ensures.start;
+      from = w.ensures.from;
+      end = omega (arith, w.ensures.end, c.arranged-2.ensures.same_length, long);
+    } in
+    let many = c.len_staying-len.ensures
+    ∙ ap (λ xs. length (filter (has_stayed a.s (a.s + a.top) xs) (places w.result.start (a.s + a.p))))
+    c.arranged-3.ensures.text in
+    let view : placed_by_all (matra_placements a.s a.top a.p) a.s a.e [] b0.glyphs ≡ gs =
+    ap (λ ps. placed_by_all ps a.s a.e b0.places b0.glyphs) (sym r.moved) in
+    let at = c.list_matras-at.ensures.at
+    ∙ ap (λ xs. a.s + length (filter (has_stayed a.s (a.s + a.top) xs) (places a.s (a.s + a.p)))) view in
+    let parted = parted_written b0.level a.s (a.s + a.top) (a.s + a.p) (a.s + a.b) c.list_matras-at.result
+    c.len_staying-len.result w.result gs (omega arith) (omega (arith, r.before)) lies at many in
+    let listed : Placements = record { first = Listed; second = Stays; third = Stays } in
+    let b1 = c.list_matras-at.new.buffer in
+    let same : length b1.glyphs ≡ length b0.glyphs =
+    ap (λ (b : Buffer). length b.glyphs) c.list_matras-at.ensures.others in
+    let fits1 : MayArrange listed a.s a.e (length b1.glyphs) b1.places =
+    record {
+      in_order = r.fits.in_order;
+      in_range = omega (arith, r.fits.in_range);
+      first = c.list_matras-at.ensures.each;
+      second = stay_fits a.s a.e b1.places;
+      third = stay_fits a.s a.e b1.places;
+    } in
+    let b2 = c.put.new.buffer in
+    let fits2 : MayArrange listed a.s a.e (length b2.glyphs) b2.places =
+    subst (λ ps. MayArrange listed a.s a.e (length b2.glyphs) ps)
+    (sym (ap (λ (b : Buffer). b.places) c.put.ensures.others))
+    (subst (λ n. MayArrange listed a.s a.e n b1.places) (sym c.put.ensures.same_length) fits1) in
+    fits2
 
 pub put-requires-2-clause-in_order : goal.put-requires-2-clause-in_order
 put-requires-2-clause-in_order c =
     let a = c.args in
+    let r = c.requires in
+    let b0 = a.buffer.now in
+    let old = arranged a.moves a.s a.e b0 in
+    let gs = old.glyphs in
+    let long : length gs ≡ length b0.glyphs = all_long a.moves a.s a.e b0.places b0.glyphs r.fits in
     let w = c.merged_runs-runs in
-    let gs = a.buffer.now.glyphs in
     let lies : Lies (a.s + a.p) (a.s + a.b) w.result gs =
     record {
       start = w.ensures.start;
       from = w.ensures.from;
-      end = omega (arith, ap length c.glyphs-2.ensures);
+      end = omega (arith, w.ensures.end, c.arranged-2.ensures.same_length, long);
     } in
     let many = c.len_staying-len.ensures
     ∙ ap (λ xs. length (filter (has_stayed a.s (a.s + a.top) xs) (places w.result.start (a.s + a.p))))
-    c.glyphs-3.ensures in
-    (parted_written a.buffer.now.level a.s (a.s + a.top) (a.s + a.p) (a.s + a.b) c.move_matras-at.result
-    c.len_staying-len.result w.result gs (omega arith) (omega arith) lies c.move_matras-at.ensures.at many).1
+    c.arranged-3.ensures.text in
+    let view : placed_by_all (matra_placements a.s a.top a.p) a.s a.e [] b0.glyphs ≡ gs =
+    ap (λ ps. placed_by_all ps a.s a.e b0.places b0.glyphs) (sym r.moved) in
+    let at = c.list_matras-at.ensures.at
+    ∙ ap (λ xs. a.s + length (filter (has_stayed a.s (a.s + a.top) xs) (places a.s (a.s + a.p)))) view in
+    let parted = parted_written b0.level a.s (a.s + a.top) (a.s + a.p) (a.s + a.b) c.list_matras-at.result
+    c.len_staying-len.result w.result gs (omega arith) (omega (arith, r.before)) lies at many in
+    parted.1
 
 pub put-requires-2-clause-in_range : goal.put-requires-2-clause-in_range
 put-requires-2-clause-in_range c =
     let a = c.args in
-    let w = c.merged_runs-runs in
-    let gs = a.buffer.now.glyphs in
-    let lies : Lies (a.s + a.p) (a.s + a.b) w.result gs = record {
-      start = w.ensures.start;
-      from = w.ensures.from;
-      end = omega (arith, ap length c.glyphs-2.ensures);
-    } in
-    let mid = c.move_matras-at.new.buffer in
-    let at = c.move_matras-at.result in
-    search (
-      arith,
-      c.put.ensures,
-      length-put_in mid.level w.result.before (at - c.len_staying-len.result) at mid.glyphs (omega arith),
-      c.move_matras-at.ensures.moved,
-      moved_long a.s (a.s + a.top) (a.s + a.p) (a.s + a.b) w.result gs (omega arith) lies,
-      w.ensures.end,
-    )
-
-pub returns-clause-glyphs : goal.returns-clause-glyphs
-returns-clause-glyphs c = λ e base_in within.
-    let a = c.args in
     let r = c.requires in
+    let b0 = a.buffer.now in
+    let old = arranged a.moves a.s a.e b0 in
+    let gs = old.glyphs in
+    let long : length gs ≡ length b0.glyphs = all_long a.moves a.s a.e b0.places b0.glyphs r.fits in
     let w = c.merged_runs-runs in
-    let gs = a.buffer.now.glyphs in
-    let same = c.glyphs-2.ensures in
     let lies : Lies (a.s + a.p) (a.s + a.b) w.result gs =
     record {
       start = w.ensures.start;
       from = w.ensures.from;
-      end = omega (arith, ap length same);
+      end = omega (arith, w.ensures.end, c.arranged-2.ensures.same_length, long);
     } in
     let many = c.len_staying-len.ensures
     ∙ ap (λ xs. length (filter (has_stayed a.s (a.s + a.top) xs) (places w.result.start (a.s + a.p))))
-    c.glyphs-3.ensures in
-    let written = written_there a.buffer.now c.move_matras-at.new.buffer c.put.new.buffer c.put-2.new.buffer a.s
-    (a.s + a.top) (a.s + a.p) (a.s + a.b) c.move_matras-at.result c.len_staying-len.result w.result
-    (omega arith) (omega arith) lies c.move_matras-at.ensures.moved c.move_matras-at.ensures.at many
-    c.put.ensures c.put-2.ensures in
-    let parted = found a.buffer.now.level a.s e a.top a.p a.b w.result c.glyphs-2.result.now gs same
-    (w.ensures.parted a.buffer.now.level e base_in (omega (arith, ap length same))
-    (one_there a.buffer.now.level (a.s + a.p) (a.s + a.b) c.glyphs-2.result.now gs same r.one)) in
-    cc
+    c.arranged-3.ensures.text in
+    let view : placed_by_all (matra_placements a.s a.top a.p) a.s a.e [] b0.glyphs ≡ gs =
+    ap (λ ps. placed_by_all ps a.s a.e b0.places b0.glyphs) (sym r.moved) in
+    let at = c.list_matras-at.ensures.at
+    ∙ ap (λ xs. a.s + length (filter (has_stayed a.s (a.s + a.top) xs) (places a.s (a.s + a.p)))) view in
+    let parted = parted_written b0.level a.s (a.s + a.top) (a.s + a.p) (a.s + a.b) c.list_matras-at.result
+    c.len_staying-len.result w.result gs (omega arith) (omega (arith, r.before)) lies at many in
+    let listed : Placements = record { first = Listed; second = Stays; third = Stays } in
+    let b1 = c.list_matras-at.new.buffer in
+    let same : length b1.glyphs ≡ length b0.glyphs =
+    ap (λ (b : Buffer). length b.glyphs) c.list_matras-at.ensures.others in
+    let fits1 : MayArrange listed a.s a.e (length b1.glyphs) b1.places =
+    record {
+      in_order = r.fits.in_order;
+      in_range = omega (arith, r.fits.in_range);
+      first = c.list_matras-at.ensures.each;
+      second = stay_fits a.s a.e b1.places;
+      third = stay_fits a.s a.e b1.places;
+    } in
+    omega (arith, w.ensures.end, c.arranged-2.ensures.same_length, c.put.ensures.same_length)
 
-pub returns-clause-same_length : goal.returns-clause-same_length
-returns-clause-same_length c =
+pub returns-clause-glyphs : goal.returns-clause-glyphs
+returns-clause-glyphs c =
     let a = c.args in
     let r = c.requires in
+    let b0 = a.buffer.now in
+    let old = arranged a.moves a.s a.e b0 in
+    let gs = old.glyphs in
+    let long : length gs ≡ length b0.glyphs = all_long a.moves a.s a.e b0.places b0.glyphs r.fits in
     let w = c.merged_runs-runs in
-    let lies : Lies (a.s + a.p) (a.s + a.b) w.result a.buffer.now.glyphs =
+    let lies : Lies (a.s + a.p) (a.s + a.b) w.result gs =
     record {
       start = w.ensures.start;
       from = w.ensures.from;
-      end = omega (arith, ap length c.glyphs-2.ensures);
+      end = omega (arith, w.ensures.end, c.arranged-2.ensures.same_length, long);
     } in
     let many = c.len_staying-len.ensures
     ∙ ap (λ xs. length (filter (has_stayed a.s (a.s + a.top) xs) (places w.result.start (a.s + a.p))))
-    c.glyphs-3.ensures in
-    let written = written_there a.buffer.now c.move_matras-at.new.buffer c.put.new.buffer c.put-2.new.buffer a.s
-    (a.s + a.top) (a.s + a.p) (a.s + a.b) c.move_matras-at.result c.len_staying-len.result w.result
-    (omega arith) (omega arith) lies c.move_matras-at.ensures.moved c.move_matras-at.ensures.at many
-    c.put.ensures c.put-2.ensures in
-    written_long a.buffer.now c.put-2.new.buffer a.s (a.s + a.top) (a.s + a.p) (a.s + a.b) w.result
-    (omega arith) lies written
+    c.arranged-3.ensures.text in
+    let view : placed_by_all (matra_placements a.s a.top a.p) a.s a.e [] b0.glyphs ≡ gs =
+    ap (λ ps. placed_by_all ps a.s a.e b0.places b0.glyphs) (sym r.moved) in
+    let at = c.list_matras-at.ensures.at
+    ∙ ap (λ xs. a.s + length (filter (has_stayed a.s (a.s + a.top) xs) (places a.s (a.s + a.p)))) view in
+    let parted = parted_written b0.level a.s (a.s + a.top) (a.s + a.p) (a.s + a.b) c.list_matras-at.result
+    c.len_staying-len.result w.result gs (omega arith) (omega (arith, r.before)) lies at many in
+    let listed : Placements = record { first = Listed; second = Stays; third = Stays } in
+    let b1 = c.list_matras-at.new.buffer in
+    let same : length b1.glyphs ≡ length b0.glyphs =
+    ap (λ (b : Buffer). length b.glyphs) c.list_matras-at.ensures.others in
+    let fits1 : MayArrange listed a.s a.e (length b1.glyphs) b1.places =
+    record {
+      in_order = r.fits.in_order;
+      in_range = omega (arith, r.fits.in_range);
+      first = c.list_matras-at.ensures.each;
+      second = stay_fits a.s a.e b1.places;
+      third = stay_fits a.s a.e b1.places;
+    } in
+    let b2 = c.put.new.buffer in
+    let fits2 : MayArrange listed a.s a.e (length b2.glyphs) b2.places =
+    subst (λ ps. MayArrange listed a.s a.e (length b2.glyphs) ps)
+    (sym (ap (λ (b : Buffer). b.places) c.put.ensures.others))
+    (subst (λ n. MayArrange listed a.s a.e n b1.places) (sym c.put.ensures.same_length) fits1) in
+    let b3 = c.put-2.new.buffer in
+    let mid = arranged listed a.s a.e b1 in
+    let alone = (only_one listed a.s a.e b1.places b1.glyphs fits1).0 refl refl in
+    let text : mid.glyphs ≡ staying a.s (a.s + a.top) gs 0 (a.s + a.p)
+    ++ (gone a.s (a.s + a.top) gs 0 (a.s + a.p) ++ drop (a.s + a.p) gs) =
+    alone ∙ ap (λ xs. placed_by Listed a.s a.e b1.places xs) (ap (λ (b : Buffer). b.glyphs) c.list_matras-at.ensures.others)
+    ∙ c.list_matras-at.ensures.moved
+    ∙ ap (λ xs. staying a.s (a.s + a.top) xs 0 (a.s + a.p)
+    ++ (gone a.s (a.s + a.top) xs 0 (a.s + a.p) ++ drop (a.s + a.p) xs)) view in
+    let moved = ap (λ (xs : Glyphs). let y : Buffer = record mid { glyphs = xs } in y) text
+    ∙ ap (λ (x : Buffer). let y : Buffer = record x {
+      glyphs = staying a.s (a.s + a.top) gs 0 (a.s + a.p)
+          ++ (gone a.s (a.s + a.top) gs 0 (a.s + a.p) ++ drop (a.s + a.p) gs);
+      places = [];
+    } in y) c.list_matras-at.ensures.others in
+    let written = written_there old mid (arranged listed a.s a.e b2) (arranged listed a.s a.e b3) a.s (a.s + a.top)
+    (a.s + a.p) (a.s + a.b) c.list_matras-at.result c.len_staying-len.result w.result (omega arith)
+    (omega (arith, r.before)) lies moved at many c.put.ensures.glyphs c.put-2.ensures.glyphs in
+    let walked = found b0.level a.s a.e a.top a.p a.b w.result c.arranged-2.result gs c.arranged-2.ensures.text
+    (w.ensures.parted b0.level a.e r.in_order (omega (arith, c.arranged-2.ensures.same_length, r.fits.in_range))
+    (one_there b0.level (a.s + a.p) (a.s + a.b) c.arranged-2.result gs c.arranged-2.ensures.text r.one)) in
+    written ∙ ap (λ (xs : Glyphs). let y : Buffer = record old { glyphs = xs } in y) walked
+
+pub returns-clause-fits : goal.returns-clause-fits
+returns-clause-fits c =
+    let a = c.args in
+    let r = c.requires in
+    let b0 = a.buffer.now in
+    let old = arranged a.moves a.s a.e b0 in
+    let gs = old.glyphs in
+    let long : length gs ≡ length b0.glyphs = all_long a.moves a.s a.e b0.places b0.glyphs r.fits in
+    let w = c.merged_runs-runs in
+    let lies : Lies (a.s + a.p) (a.s + a.b) w.result gs =
+    record {
+      start = w.ensures.start;
+      from = w.ensures.from;
+      end = omega (arith, w.ensures.end, c.arranged-2.ensures.same_length, long);
+    } in
+    let many = c.len_staying-len.ensures
+    ∙ ap (λ xs. length (filter (has_stayed a.s (a.s + a.top) xs) (places w.result.start (a.s + a.p))))
+    c.arranged-3.ensures.text in
+    let view : placed_by_all (matra_placements a.s a.top a.p) a.s a.e [] b0.glyphs ≡ gs =
+    ap (λ ps. placed_by_all ps a.s a.e b0.places b0.glyphs) (sym r.moved) in
+    let at = c.list_matras-at.ensures.at
+    ∙ ap (λ xs. a.s + length (filter (has_stayed a.s (a.s + a.top) xs) (places a.s (a.s + a.p)))) view in
+    let parted = parted_written b0.level a.s (a.s + a.top) (a.s + a.p) (a.s + a.b) c.list_matras-at.result
+    c.len_staying-len.result w.result gs (omega arith) (omega (arith, r.before)) lies at many in
+    let listed : Placements = record { first = Listed; second = Stays; third = Stays } in
+    let b1 = c.list_matras-at.new.buffer in
+    let same : length b1.glyphs ≡ length b0.glyphs =
+    ap (λ (b : Buffer). length b.glyphs) c.list_matras-at.ensures.others in
+    let fits1 : MayArrange listed a.s a.e (length b1.glyphs) b1.places =
+    record {
+      in_order = r.fits.in_order;
+      in_range = omega (arith, r.fits.in_range);
+      first = c.list_matras-at.ensures.each;
+      second = stay_fits a.s a.e b1.places;
+      third = stay_fits a.s a.e b1.places;
+    } in
+    let b2 = c.put.new.buffer in
+    let fits2 : MayArrange listed a.s a.e (length b2.glyphs) b2.places =
+    subst (λ ps. MayArrange listed a.s a.e (length b2.glyphs) ps)
+    (sym (ap (λ (b : Buffer). b.places) c.put.ensures.others))
+    (subst (λ n. MayArrange listed a.s a.e n b1.places) (sym c.put.ensures.same_length) fits1) in
+    let b3 = c.put-2.new.buffer in
+    subst (λ ps. MayArrange listed a.s a.e (length b3.glyphs) ps)
+    (sym (ap (λ (b : Buffer). b.places) c.put-2.ensures.others))
+    (subst (λ n. MayArrange listed a.s a.e n b2.places) (sym c.put-2.ensures.same_length) fits2)
+
+pub returns-clause-same_length : goal.returns-clause-same_length
+returns-clause-same_length c =
+    c.put-2.ensures.same_length ∙ c.put.ensures.same_length
+    ∙ ap (λ (b : Buffer). length b.glyphs) c.list_matras-at.ensures.others

@@ -1,17 +1,18 @@
 -- The last left matra moves, and then those before it.
-use Rattle.std.proofs.Common.{get_or, length, ◌-◌, sym, ap, ◌∙◌, arith}
+use Rattle.std.proofs.Common.{◌≡◌, ◌+◌, List, ℕ, [], map, get_or, length, ◌-◌, sym, ap, ◌∙◌, arith}
 use Rattle.shapers_buffer.specs.Buffer.{Buffer}
 use Rattle.shapers_buffer.specs.Clusters.{stretch_of}
 use Rattle.shapers_buffer.specs.Glyph.{default_glyph}
+use Rattle.shapers_buffer.specs.Placements.{arranged}
+use Rattle.shapers_indic_final.proofs.FinalArranged.{stay_buffer}
 use Rattle.shapers_buffer.proofs.ClusterLemmas.{length-stretch}
-use Rattle.shapers_indic_final.specs.FinalMatras.{is_left}
+use Rattle.shapers_indic_final.specs.FinalMatras.{is_left, left_places, matra_step}
+use Rattle.std.specs.List.{enumerate_from, list_any}
+use Rattle.shapers_clusters.specs.Steps.{Step, run_step, run_steps, widened}
 use Rattle.shapers_indic_final.proofs.FinalPlacing.{lefts_from}
-use Rattle.shapers_indic_final.proofs.LeftMatrasAtOnce.{both_moved, first_moved, moved_as_long, one_in}
+use Rattle.shapers_indic_final.proofs.LeftMatrasAtOnce.{alone_stepped, both_moved, first_moved, one_in}
 use Rattle.shapers_indic_final.proofs.ot_shaper_indic_final.left_matras.part_matras.Goals as goal
 use Rattle.shapers_indic.proofs.PlaceSearch.{passes_there}
-
-pub part_further-requires-clause-in_range : goal.part_further-requires-clause-in_range
-part_further-requires-clause-in_range = search (arith, moved_as_long, first_moved)
 
 pub part_further-requires-clause-one : goal.part_further-requires-clause-one
 part_further-requires-clause-one c =
@@ -20,9 +21,8 @@ part_further-requires-clause-one c =
     let l = c.loop-i in
     let k = l.i - 1 in
     let old = a.buffer.now in
-    let mid = c.move_matra.new.buffer in
-    let is = first_moved old l.buffer mid a.s a.e a.b k a.p l.invariant.1.0 (c.move_matra.ensures a.e r.base_in_order
-    (omega (arith, ap (λ (x : Buffer). length x.glyphs) l.invariant.1.0))) in
+    let mid = arranged c.move_matra-moves.result a.s a.e c.move_matra-moves.new.buffer in
+    let is = first_moved old l.buffer mid a.s a.e a.b k a.p l.invariant.1.0 c.move_matra-moves.ensures.glyphs in
     one_in old mid a.s a.e a.b k a.p (omega arith) r.before r.base_in_order r.in_range is
 
 pub returns-then-is_left-clause-glyphs : goal.returns-then-is_left-clause-glyphs
@@ -32,9 +32,9 @@ returns-then-is_left-clause-glyphs c =
     let l = c.loop-i in
     let k = l.i - 1 in
     let old = a.buffer.now in
-    let mid = c.move_matra.new.buffer in
-    let is = first_moved old l.buffer mid a.s a.e a.b k a.p l.invariant.1.0 (c.move_matra.ensures a.e r.base_in_order
-    (omega (arith, ap (λ (x : Buffer). length x.glyphs) l.invariant.1.0))) in
+    let mid = arranged c.move_matra-moves.result a.s a.e c.move_matra-moves.new.buffer in
+    let new = arranged c.part_further.result a.s a.e c.part_further.new.buffer in
+    let is = first_moved old l.buffer mid a.s a.e a.b k a.p l.invariant.1.0 c.move_matra-moves.ensures.glyphs in
     let part = stretch_of a.s a.e old.glyphs in
     let seen = ap (λ (x : Buffer). is_left (get_or (stretch_of a.s a.e x.glyphs) k default_glyph)) (sym l.invariant.1.0)
     ∙ ap (λ gs. is_left (get_or (stretch_of a.s a.e gs) k default_glyph)) (sym c.glyphs.ensures)
@@ -42,19 +42,56 @@ returns-then-is_left-clause-glyphs c =
     let holds = passes_there is_left part k default_glyph
     (omega (arith, length-stretch a.s a.e old.glyphs r.in_range)) ∙ seen in
     let none = ap (λ j. lefts_from j a.p part) (omega arith) ∙ l.invariant.1.1 in
-    both_moved old mid c.part_further.new.buffer a.s a.e a.b k a.p (omega arith)
-    r.before r.base_in_order r.in_range holds none is (c.part_further.ensures.glyphs a.e r.base_in_order
-    (omega (arith, moved_as_long old mid a.s a.e a.b k a.p (omega arith) r.before r.base_in_order r.in_range is)))
+    both_moved old mid new a.s a.e a.b k a.p (omega arith)
+    r.before r.base_in_order r.in_range holds none is c.part_further.ensures.glyphs
 
-pub returns-then-is_left-clause-same_length : goal.returns-then-is_left-clause-same_length
-returns-then-is_left-clause-same_length c =
+pub returns-then-moves_alone-clause-glyphs : goal.returns-then-moves_alone-clause-glyphs
+returns-then-moves_alone-clause-glyphs c =
     let a = c.args in
     let r = c.requires in
     let l = c.loop-i in
-    let is = first_moved a.buffer.now l.buffer c.move_matra.new.buffer a.s a.e a.b (l.i - 1) a.p l.invariant.1.0
-    (c.move_matra.ensures a.e r.base_in_order
-    (omega (arith, ap (λ (x : Buffer). length x.glyphs) l.invariant.1.0))) in
-    search (arith, moved_as_long)
+    let k = l.i - 1 in
+    let old = a.buffer.now in
+    let new = c.write_matra.new.buffer in
+    let part = stretch_of a.s a.e old.glyphs in
+    let same = ap (λ (x : Buffer). x.glyphs) l.invariant.1.0 in
+    let seen = ap (λ (x : Buffer). is_left (get_or (stretch_of a.s a.e x.glyphs) k default_glyph)) (sym l.invariant.1.0)
+    ∙ ap (λ gs. is_left (get_or (stretch_of a.s a.e gs) k default_glyph)) (sym c.glyphs.ensures)
+    ∙ sym c.is_left.ensures ∙ c.if-is_left.true in
+    let holds = passes_there is_left part k default_glyph
+    (omega (arith, length-stretch a.s a.e old.glyphs r.in_range)) ∙ seen in
+    let none = ap (λ j. lefts_from j a.p part) (omega arith) ∙ l.invariant.1.1 in
+    let few = ap (λ gs. list_any is_left (stretch_of a.s (a.s + k) gs)) (sym (c.glyphs-then-not-others.ensures ∙ same))
+    ∙ c.moves_alone.ensures c.if-moves_alone.true in
+    let steps = alone_stepped a.s a.e a.b k a.p old.glyphs (omega arith) (omega (arith, r.before, r.base_in_order))
+    r.in_range holds none few in
+    let step = matra_step (a.e - a.s) a.b k a.p in
+    let moved = c.write_matra.ensures.glyphs ∙ ap (λ (x : Buffer). let y : Buffer = record x {
+      glyphs = run_step x.level (widened a.s a.e (length x.glyphs) step) x.glyphs;
+    } in y) l.invariant.1.0 in
+    let long = c.write_matra.ensures.same_length ∙ ap length same in
+    stay_buffer a.s a.e new (omega arith) (omega (arith, r.in_range))
+    ∙ ap (λ (x : Buffer). let y : Buffer = record x { places = [] } in y) moved
+    ∙ ap (λ (sts : List Step). let y : Buffer = record old {
+      glyphs = run_steps old.level (map (widened a.s a.e (length old.glyphs)) sts) old.glyphs;
+      places = [];
+    } in y) (sym steps)
+
+pub returns-clause-glyphs : goal.returns-clause-glyphs
+returns-clause-glyphs c =
+    let a = c.args in
+    let v = c.loop-i.invariant in
+    let b = c.loop-i.buffer in
+    let old = a.buffer.now in
+    let none : left_places a.p (stretch_of a.s a.e old.glyphs) ≡ [] =
+    ap (λ i. lefts_from i a.p (stretch_of a.s a.e old.glyphs)) (sym (omega arith)) ∙ v.1.1 in
+    let n = ap (λ (x : Buffer). length x.glyphs) v.1.0 in
+    let wide = λ (qs : List ℕ). map (widened a.s a.e (length old.glyphs))
+    (map (λ t. matra_step (length (stretch_of a.s a.e old.glyphs)) a.b t.1 (a.p - t.0)) (enumerate_from 0 qs)) in
+    stay_buffer a.s a.e b (omega arith) (omega (arith, c.requires.in_range))
+    ∙ ap (λ (x : Buffer). let y : Buffer = record x { places = [] } in y) v.1.0
+    ∙ ap (λ qs. let y : Buffer = record old { glyphs = run_steps old.level (wide qs) old.glyphs; places = [] } in y)
+    (sym none)
 
 pub loop-i-preserved : goal.loop-i-preserved
 loop-i-preserved = search (arith, passes_there)

@@ -1,19 +1,39 @@
 -- One move and one merge are the step.
-use Rattle.std.proofs.Common.{◌+◌, arith}
-use Rattle.shapers_buffer.specs.Lists.{first_last}
-use Rattle.shapers_buffer.specs.Clusters.{merge, with_stretch}
-use Rattle.shapers_indic_final.specs.Proved.FinalSteps.{length-moved, matra_stepped, moved_and_merged}
+use Rattle.std.proofs.Common.{◌+◌, sym, ap, subst, [], ◌∙◌, length, arith}
+use Rattle.shapers_buffer.specs.Buffer.{Buffer}
+use Rattle.shapers_buffer.specs.Clusters.{merge}
+use Rattle.shapers_buffer.specs.Glyphs.{Glyphs}
+use Rattle.shapers_buffer.specs.Placements.{MayArrange, arranged}
+use Rattle.shapers_indic_final.specs.Proved.FinalSteps.{matra_stepped}
+use Rattle.shapers_indic_final.proofs.FinalArranged.{matra_fits, matra_moved}
 use Rattle.shapers_indic_final.proofs.ot_shaper_indic_final.moves.move_matra.Goals as goal
 
-pub merge_clusters-requires-clause-in_range : goal.merge_clusters-requires-clause-in_range
-merge_clusters-requires-clause-in_range = search (arith, length-moved)
-
-pub returns : goal.returns
-returns c = λ e order range.
+pub merge_arranged-requires-clause-arranges : goal.merge_arranged-requires-clause-arranges
+merge_arranged-requires-clause-arranges c =
     let a = c.args in
-    let old = a.buffer.now in
-    moved_and_merged old c.move_first_last.new.buffer c.merge_clusters.new.self
-    (λ level gs. merge level (a.s + a.j) (a.s + a.b) gs)
-    (with_stretch (a.s + a.i) (a.s + a.j + 1) first_last old.glyphs) _ c.move_first_last.ensures
-    c.merge_clusters.ensures (matra_stepped old.level a.s e a.b a.i a.j old.glyphs c.requires.before (omega arith)
-    range)
+    let b = a.buffer.now in
+    subst (λ ps. MayArrange ps a.s a.e (length b.glyphs) b.places) (sym c.matra_placements-moves.ensures)
+    (matra_fits a.s a.e (length b.glyphs) a.i a.j b.places c.requires.before (omega arith) c.requires.in_range)
+
+pub returns-clause-fits : goal.returns-clause-fits
+returns-clause-fits c =
+    let a = c.args in
+    let b = c.merge_arranged.new.self in
+    subst (λ ps. MayArrange ps a.s a.e (length b.glyphs) b.places) (sym c.matra_placements-moves.ensures)
+    (matra_fits a.s a.e (length b.glyphs) a.i a.j b.places c.requires.before (omega arith)
+    (omega (arith, c.merge_arranged.ensures.same_length)))
+
+pub returns-clause-glyphs : goal.returns-clause-glyphs
+returns-clause-glyphs c =
+    let a = c.args in
+    let r = c.requires in
+    let b0 = a.buffer.now in
+    let moved = matra_moved a.s a.e a.i a.j b0.places b0.glyphs r.before (omega arith) r.in_range in
+    c.merge_arranged.ensures.glyphs
+    ∙ ap (λ ps. let old = arranged ps a.s a.e b0 in
+    let y : Buffer = record old { glyphs = merge b0.level (a.s + a.j) (a.s + a.base_end) old.glyphs } in y)
+    c.matra_placements-moves.ensures
+    ∙ ap (λ (gs : Glyphs). let y : Buffer = record b0 { glyphs = merge b0.level (a.s + a.j) (a.s + a.base_end) gs; places = [] } in y)
+    moved
+    ∙ ap (λ (gs : Glyphs). let y : Buffer = record b0 { glyphs = gs; places = [] } in y)
+    (matra_stepped b0.level a.s a.e a.base_end a.i a.j b0.glyphs r.before (omega arith) r.in_range)

@@ -18,14 +18,14 @@ on_ok (Err e) is done = absurd (cc is)
 pub returns-then-is_ok-clause-linked : goal.returns-then-is_ok-clause-linked
 returns-then-is_ok-clause-linked g c =
     let old = c.args.buffer.now in
-    let mid = c.reorder_syllables.new.buffer in
+    let mid = c.reorder_syllables_by_steps.new.buffer in
     let r = c.new-rules.result in
     let same = c.new-rules.ensures ∙ ap (final_rules (g.F.hb_font_t.font c.args.face.now)) c.indic_in.ensures in
     subst (λ (r : Rules). FinallyLinked r old c.open_words.new.buffer) same (
       mid,
       subst (λ script. SyllablesLinked (SyllableReordered (final_order r script) (final_steps r script)) old mid)
-          c.script.ensures (on_ok c.reorder_syllables.result (sym c.is_ok.ensures.value ∙ c.if-is_ok.true)
-          c.reorder_syllables.ensures.linked),
+          c.script.ensures (on_ok c.reorder_syllables_by_steps.result (sym c.is_ok.ensures.value ∙ c.if-is_ok.true)
+          c.reorder_syllables_by_steps.ensures.linked),
       c.open_words.ensures,
     )
 
@@ -39,9 +39,9 @@ returns-then-is_ok-clause-laws g c = finally_kept _ c.args.buffer.now c.open_wor
 pub returns-then-is_ok-clause-clusters : goal.returns-then-is_ok-clause-clusters
 returns-then-is_ok-clause-clusters g c = (returns-then-is_ok-clause-laws g c).in_clusters.old_clusters
 
-pub reorder_syllables-requires-clause-takes : goal.reorder_syllables-requires-clause-takes
-reorder_syllables-requires-clause-takes g c =
+pub reorder_syllables_by_steps-requires-clause-takes : goal.reorder_syllables_by_steps-requires-clause-takes
+reorder_syllables_by_steps-requires-clause-takes g c =
     takes_any _ (λ ns. omega (arith, ap (λ (r : Rules). r.pref) c.new-rules.ensures)) c.args.buffer.now.glyphs
 
 pub returns-else-is_ok : goal.returns-else-is_ok
-returns-else-is_ok g c = absurd (cc (c.reorder_syllables.ensures.refusal, c.if-is_ok.ensures.value))
+returns-else-is_ok g c = absurd (cc (c.reorder_syllables_by_steps.ensures.refusal, c.if-is_ok.ensures.value))

@@ -1,26 +1,44 @@
 -- One step, if there is a formed glyph.
-use Rattle.std.proofs.Common.{◌+◌, ◌-◌, ◌<◌, arith}
+use Rattle.std.proofs.Common.{◌≡◌, ◌-◌, ◌≤◌, length, true, if◌then◌else◌, [], sym, ap, subst, ◌∙◌, arith}
+use Rattle.shapers_buffer.specs.Buffer.{Buffer}
 use Rattle.shapers_buffer.specs.Clusters.{stretch_of}
+use Rattle.shapers_buffer.specs.Placements.{arranged}
+use Rattle.shapers_buffer.proofs.Arranging.{all_long}
+use Rattle.shapers_buffer.proofs.ClusterLemmas.{length-stretch}
+use Rattle.shapers_clusters.specs.Steps.{run_step, widened}
 use Rattle.shapers_indic_final.specs.FinalPref.{pref_move, pref_steps}
-use Rattle.shapers_indic_final.proofs.FinalPlacing.{length-pref, one_step}
+use Rattle.shapers_indic_final.proofs.FinalArranged.{pref_one}
+use Rattle.shapers_indic_final.proofs.FinalPlacing.{one_step}
 use Rattle.shapers_indic_final.proofs.ot_shaper_indic_final.placing.place_pref.Goals as goal
+
+pub read_arranged-requires-clause-readable : goal.read_arranged-requires-clause-readable
+read_arranged-requires-clause-readable c =
+    let a = c.args in
+    let b = a.buffer.now in
+    let old = arranged a.moves.now a.s a.e b in
+    let long : length old.glyphs ≡ length b.glyphs = all_long a.moves.now a.s a.e b.places b.glyphs c.requires.fits in
+    subst (λ n. a.base ≤ n) (sym (length-stretch a.s a.e old.glyphs (omega (arith, c.requires.fits.in_range))))
+    c.requires.in_syllable
 
 pub returns-in-Some-clause-glyphs : goal.returns-in-Some-clause-glyphs
 returns-in-Some-clause-glyphs c =
     let a = c.args in
-    let old = a.buffer.now in
+    let ps = a.moves.now in
+    let b = a.buffer.now in
+    let old = arranged ps a.s a.e b in
+    let new = arranged c.move_pref.result a.s a.e c.move_pref.new.buffer in
+    let j = c.in-Some.target in
     let i = c.in-Some.i in
-    one_step old c.move_pref.new.buffer a.s a.e (pref_steps a.pref a.script a.base (stretch_of a.s a.e old.glyphs))
-    (pref_move (a.e - a.s) c.pref_target-target.result i) (search arith)
-    (c.move_pref.ensures a.e (search arith) c.requires.in_range)
-
-pub returns-in-Some-clause-same_length : goal.returns-in-Some-clause-same_length
-returns-in-Some-clause-same_length c =
-    let a = c.args in
-    let old = a.buffer.now in
-    let inside : a.s + c.in-Some.i < a.e = omega (arith, c.in-Some.ensures.within) in
-    search (
-      arith,
-      length-pref old.level a.s a.e c.pref_target-target.result c.in-Some.i old.glyphs
-          (omega (arith, c.in-Some.ensures.behind)) inside c.requires.in_range,
-    )
+    let long : length old.glyphs ≡ length b.glyphs = all_long ps a.s a.e b.places b.glyphs c.requires.fits in
+    let part = length-stretch a.s a.e old.glyphs (omega (arith, c.requires.fits.in_range)) in
+    let step = pref_move (a.e - a.s) j i in
+    let moved = subst (λ (x : Buffer). let old = arranged ps a.s a.e x in
+    let y : Buffer = record old {
+      glyphs = run_step old.level (widened a.s a.e (length old.glyphs) step) old.glyphs;
+      places = new.places;
+    } in new ≡ y) c.read_arranged.ensures.same c.move_pref.ensures.glyphs in
+    let tries : a.tries ≡ true = search arith in
+    let steps = pref_steps a.pref a.script a.base (stretch_of a.s a.e old.glyphs) in
+    one_step old new a.s a.e (if a.tries then steps else []) step
+    (ap (λ t. if t then steps else []) tries ∙ pref_one a.pref a.script a.base (a.e - a.s) j i (stretch_of a.s a.e old.glyphs)
+    (sym c.read_arranged.ensures.read.0 ∙ c.in-Some.is) part) moved

@@ -1,29 +1,41 @@
 -- One step, if a reph opens the syllable.
-use Rattle.shapers_indic_final.specs.Proved.FinalSteps.{reph_stepped, length-moved}
-use Rattle.shapers_clusters.proofs.Merging.{length-merge}
-use Rattle.std.proofs.Common.{◌+◌, ◌-◌, ◌<◌, arith}
-use Rattle.shapers_buffer.specs.Clusters.{merge, stretch_of}
+use Rattle.std.proofs.Common.{◌≡◌, ◌-◌, ◌≤◌, length, sym, subst, ◌∙◌, arith}
+use Rattle.shapers_buffer.specs.Buffer.{Buffer}
+use Rattle.shapers_buffer.specs.Clusters.{stretch_of}
+use Rattle.shapers_buffer.specs.Placements.{arranged}
+use Rattle.shapers_buffer.proofs.Arranging.{all_long}
+use Rattle.shapers_buffer.proofs.ClusterLemmas.{length-stretch}
+use Rattle.shapers_clusters.specs.Steps.{run_step, widened}
 use Rattle.shapers_indic_final.specs.FinalReph.{final_reph_step, reph_steps}
+use Rattle.shapers_indic_final.proofs.FinalArranged.{reph_one}
 use Rattle.shapers_indic_final.proofs.FinalPlacing.{one_step}
 use Rattle.shapers_indic_final.proofs.ot_shaper_indic_final.placing.place_reph.Goals as goal
 
-pub returns-clause-glyphs : goal.returns-clause-glyphs
-returns-clause-glyphs c =
+pub read_arranged-requires-clause-readable : goal.read_arranged-requires-clause-readable
+read_arranged-requires-clause-readable c =
     let a = c.args in
-    let old = a.buffer.now in
-    one_step old c.move_reph.new.buffer a.s a.e (reph_steps a.position a.base (stretch_of a.s a.e old.glyphs))
-    (final_reph_step (a.e - a.s) c.reph_target-target.result) (search arith)
-    (c.move_reph.ensures a.e (search arith) c.requires.in_range)
+    let b = a.buffer.now in
+    let old = arranged a.moves.now a.s a.e b in
+    let long : length old.glyphs ≡ length b.glyphs = all_long a.moves.now a.s a.e b.places b.glyphs c.requires.fits in
+    subst (λ n. a.base ≤ n) (sym (length-stretch a.s a.e old.glyphs (omega (arith, c.requires.fits.in_range))))
+    c.requires.in_syllable
 
-pub returns-clause-same_length : goal.returns-clause-same_length
-returns-clause-same_length c =
+pub returns-in-Some-clause-glyphs : goal.returns-in-Some-clause-glyphs
+returns-in-Some-clause-glyphs c =
     let a = c.args in
-    let old = a.buffer.now in
-    let inside : a.s + c.reph_target-target.result < a.e = omega arith in
-    search (
-      arith,
-      reph_stepped old.level a.s a.e c.reph_target-target.result old.glyphs inside c.requires.in_range,
-      length-moved a.s (a.s + c.reph_target-target.result + 1)
-          (merge old.level a.s (a.s + c.reph_target-target.result + 1) old.glyphs) (omega arith),
-      length-merge old.level a.s (a.s + c.reph_target-target.result + 1) old.glyphs (omega arith),
-    )
+    let ps = a.moves.now in
+    let b = a.buffer.now in
+    let old = arranged ps a.s a.e b in
+    let new = arranged c.move_reph.result a.s a.e c.move_reph.new.buffer in
+    let j = c.in-Some.target in
+    let long : length old.glyphs ≡ length b.glyphs = all_long ps a.s a.e b.places b.glyphs c.requires.fits in
+    let part = length-stretch a.s a.e old.glyphs (omega (arith, c.requires.fits.in_range)) in
+    let step = final_reph_step (a.e - a.s) j in
+    let moved = subst (λ (x : Buffer). let old = arranged ps a.s a.e x in
+    let y : Buffer = record old {
+      glyphs = run_step old.level (widened a.s a.e (length old.glyphs) step) old.glyphs;
+      places = new.places;
+    } in new ≡ y) c.read_arranged.ensures.same c.move_reph.ensures.glyphs in
+    one_step old new a.s a.e (reph_steps a.position a.base (stretch_of a.s a.e old.glyphs)) step
+    (reph_one a.position a.base (a.e - a.s) j (stretch_of a.s a.e old.glyphs)
+    (sym c.read_arranged.ensures.read.0 ∙ c.in-Some.is) part) moved

@@ -12,15 +12,15 @@ use Rattle.shapers_syllabic.proofs.ReorderingLaws.{text_reordered}
 use Rattle.shapers_syllabic.proofs.LinkedSyllables.{takes_any}
 use Rattle.shapers_indic_initial.proofs.ot_shaper_indic_initial.pause.initial_reordering.Goals as goal
 
-pub reorder_syllables-requires-clause-takes : goal.reorder_syllables-requires-clause-takes
-reorder_syllables-requires-clause-takes = search (arith, takes_any)
+pub reorder_syllables_by_steps-requires-clause-takes : goal.reorder_syllables_by_steps-requires-clause-takes
+reorder_syllables_by_steps-requires-clause-takes = search (arith, takes_any)
 
 pub returns-clause-linked : goal.returns-clause-linked
 returns-clause-linked g c =
     linked_behind_circles (g.F.hb_font_t.font c.args.face.now) c.args.plan.now.ot_map (indic_in c.args.plan.now)
     c.indic_in.result.now c.args.buffer.now c.insert.new.buffer c.update_consonant_positions.new.buffer
-    c.reorder_syllables.new.buffer c.indic_in.ensures c.in_ok-circles.ensures.ok c.update_consonant_positions.ensures
-    c.in_ok-reorder_syllables.ensures.linked
+    c.reorder_syllables_by_steps.new.buffer c.indic_in.ensures c.in_ok-circles.ensures.ok c.update_consonant_positions.ensures
+    c.in_ok-reorder_syllables_by_steps.ensures.linked
 
 pub returns-clause-ok : goal.returns-clause-ok
 returns-clause-ok = search (initially_linked, returns-clause-linked)
@@ -35,7 +35,7 @@ returns-clause-cut g c =
     let p = indic_in c.args.plan.now in
     let b = c.args.buffer.now in
     cuts_at_borders (initial_circles font b) (order_by_font font m p b.script) (steps_by_font font m p b.script) b
-    c.reorder_syllables.new.buffer (search laws_by_font) (returns-clause-syllables g c)
+    c.reorder_syllables_by_steps.new.buffer (search laws_by_font) (returns-clause-syllables g c)
 
 pub returns-clause-laws : goal.returns-clause-laws
 returns-clause-laws g c =
@@ -45,7 +45,7 @@ returns-clause-laws g c =
     let b = c.args.buffer.now in
     text_reordered (order_by_font font m p b.script) (steps_by_font font m p b.script)
     (record b { glyphs = circled (initial_circles font b) b.glyphs })
-    c.reorder_syllables.new.buffer (search laws_by_font) (returns-clause-syllables g c)
+    c.reorder_syllables_by_steps.new.buffer (search laws_by_font) (returns-clause-syllables g c)
 
 pub returns-clause-merged : goal.returns-clause-merged
 returns-clause-merged = search (initial_text_merges, returns-clause-ok)

@@ -1,11 +1,16 @@
--- All parts, one after another.
-use Rattle.std.proofs.Common.{arith}
-use Rattle.std.proofs.Common.{refl, subst}
-use Rattle.shapers_indic_initial.specs.InitialReordering.{opening_steps, positioned}
+-- The joiner's move, and then the positions.
+use Rattle.std.proofs.Common.{ap, subst}
+use Rattle.shapers_buffer.specs.Buffer.{Buffer}
+use Rattle.shapers_indic_initial.specs.InitialReordering.{joiner_steps, with_joiner_first}
 use Rattle.shapers_indic_initial.specs.InitialRules.{initial_rules}
-use Rattle.shapers_indic_initial.proofs.Prepared.{syllable_opened}
+use Rattle.shapers_indic_initial.specs.MovedWalk.{moved_buffer, opened_by}
+use Rattle.shapers_indic_initial.proofs.Prepared.{opened_then}
 use Rattle.shapers_syllabic.specs.Reordering.{SyllableReordered}
 use Rattle.shapers_indic_initial.proofs.ot_shaper_indic_initial.preparing.prepare_for_order.Goals as goal
+
+pub returns-clause-unlisted : goal.returns-clause-unlisted
+returns-clause-unlisted g c =
+    record { first = c.put_joiner_first-first.ensures.unlisted; second = c.set_positions-second.ensures.unlisted }
 
 pub returns-clause-reordered : goal.returns-clause-reordered
 returns-clause-reordered g c =
@@ -13,13 +18,11 @@ returns-clause-reordered g c =
     c.args.rules.now.plan.now in
     let s = c.args.start in
     let e = c.args.end in
-    let b4 = c.walk-2.new.self in
-    subst (λ script. SyllableReordered (positioned r script) (opening_steps r script) s e c.args.buffer.now b4)
-    c.script-script.ensures
-    (syllable_opened r c.script-script.result s e c.find_base-base.result.place c.find_base-base.result.has_reph
-    c.args.buffer.now c.put_joiner_first.new.buffer c.walk.new.self c.move_halant.new.buffer b4
-    c.requires.in_order c.requires.in_range
-    c.put_joiner_first.ensures.same_length c.put_joiner_first.ensures.reordered
-    (cc c.find_base-base.ensures.place) (search arith)
-    c.walk.ensures.others c.walk.ensures.walked c.walk.ensures.same_length (c.move_halant.ensures.reordered r refl)
-    c.walk-2.ensures.others c.walk-2.ensures.walked)
+    let b = c.args.buffer.now in
+    let first = c.put_joiner_first-first in
+    opened_then r b.script first.result c.set_positions-second.result s e b first.new.buffer
+    c.set_positions-second.new.buffer c.requires.in_order c.requires.in_range
+    (ap (λ (x : Buffer). x.script) first.ensures.others)
+    (subst (λ script. SyllableReordered (with_joiner_first script) (joiner_steps script) s e b
+    (moved_buffer (opened_by first.result s e) first.new.buffer)) c.script-script.ensures first.ensures.reordered)
+    c.set_positions-second.ensures.reordered

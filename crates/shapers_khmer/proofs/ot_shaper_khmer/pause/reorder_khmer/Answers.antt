@@ -25,7 +25,7 @@ returns-clause-movers g c = search (
 )
 
 pub returns-clause-cut : goal.returns-clause-cut
-returns-clause-cut = search arith
+returns-clause-cut g c = rw c.order_of-order.ensures at c.reorder_pause.ensures.cut
 
 pub returns-clause-laws : goal.returns-clause-laws
 returns-clause-laws g c = on_ok_weaker c.reorder_pause.result (λ laws. laws.merged (λ gs. (khmer_moves_merged gs, tt)))

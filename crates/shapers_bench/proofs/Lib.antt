@@ -1,0 +1,2 @@
+-- Lemmas of the calls on real cases.
+pub mod Filled

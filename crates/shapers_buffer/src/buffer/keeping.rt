@@ -1,0 +1,124 @@
+//! A copy of a text that is kept while the text changes. Its lists are used again for the next
+//! copy, so that a buffer that is shaped again takes no memory for it.
+ghost use Rattle.std.specs.Prelude.{◌≡◌, ◌≤◌, IfErr, IfOk, length, vec_capacity};
+ghost use Rattle.shapers_buffer.specs.declared.buffer.refusal.ShaperError.TheVariants.{Memory};
+
+use super::glyph::{GlyphPosition, hb_glyph_info_t};
+use super::group_room::GroupRoom;
+use super::hb_buffer_t;
+use super::placement::enlarge;
+use super::refusal::ShaperError;
+use std::alloc::Global;
+use std::mem;
+
+// The lists of a copy that is no longer needed.
+#[derive(Debug, Drop)]
+pub(super) struct KeptRoom {
+    pub(super) info: Vec<hb_glyph_info_t>,
+    pub(super) pos: Vec<GlyphPosition>,
+    pub(super) places: Vec<usize>,
+    pub(super) spare: Vec<hb_glyph_info_t>,
+}
+
+impl KeptRoom {
+    // No room; it takes no memory.
+    #[inline]
+    pub(super) fn new(alloc: Global) -> Self {
+        KeptRoom {
+            info: Vec::new(alloc),
+            pos: Vec::new(alloc),
+            places: Vec::new(alloc),
+            spare: Vec::new(alloc),
+        }
+    }
+
+    // The room with these lists of a text in it, and with room for a place and a glyph per glyph.
+    #[inline]
+    pub(super) fn filled(
+        self,
+        info: &[hb_glyph_info_t],
+        pos: &[GlyphPosition],
+        places: &[usize],
+    ) -> Result<Self, ShaperError>
+        ensures info { IfOk result (λ lists. lists.info.items ≡ info.now) }
+        ensures pos { IfOk result (λ lists. lists.pos.items ≡ pos.now) }
+        ensures places { IfOk result (λ lists. lists.places.items ≡ places.now) }
+        ensures places_room { IfOk result (λ lists. length info.now ≤ vec_capacity lists.places) }
+        ensures spare_room { IfOk result (λ lists. length info.now ≤ vec_capacity lists.spare) }
+        ensures refusal { IfErr result (λ e. e ≡ Memory) }
+    {
+        Ok(KeptRoom {
+            info: refilled(self.info, info, info.len())?,
+            pos: refilled(self.pos, pos, pos.len())?,
+            places: refilled(self.places, places, info.len())?,
+            spare: refilled(self.spare, &[], info.len())?,
+        })
+    }
+}
+
+impl hb_buffer_t {
+    /// An equal buffer, to be kept while this one changes. Where an earlier copy of a text that was
+    /// as long has been handed to [`recycle`](Self::recycle), it takes no memory. Nothing changes.
+    ///
+    /// # Errors
+    ///
+    /// `Memory`.
+    #[inline]
+    pub fn keep(&mut self) -> Result<hb_buffer_t, ShaperError>
+        ensures ok { IfOk result (λ kept. kept ≡ self.old) }
+        ensures err { IfErr result (λ e. e ≡ Memory) }
+        ensures same { self.new ≡ self.old }
+    {
+        let alloc = self.alloc();
+        let room = mem::replace(&mut self.rooms.kept, KeptRoom::new(alloc));
+        self.copy_into(room, GroupRoom::new(alloc))
+    }
+
+    /// Keeps the lists of a copy that is no longer needed as room for the next. Nothing changes.
+    #[inline]
+    pub fn recycle(&mut self, kept: hb_buffer_t)
+        ensures { self.new ≡ self.old }
+    {
+        self.rooms.kept = KeptRoom {
+            info: kept.info,
+            pos: kept.pos,
+            places: kept.places,
+            spare: kept.spare,
+        };
+    }
+
+    /// Puts the kept copy in the place of what the buffer has become. The buffer's room stays.
+    pub fn restore(&mut self, kept: hb_buffer_t)
+        ensures { self.new ≡ kept }
+    {
+        let changed = mem::replace(self, kept);
+        self.group_room = changed.group_room;
+        self.rooms = changed.rooms;
+        self.rooms.kept = KeptRoom {
+            info: changed.info,
+            pos: changed.pos,
+            places: changed.places,
+            spare: changed.spare,
+        };
+    }
+}
+
+// The list with these items alone, and with room for `n`.
+#[inline]
+pub(super) fn refilled<T: Copy>(
+    mut list: Vec<T>,
+    items: &[T],
+    n: usize,
+) -> Result<Vec<T>, ShaperError>
+    ensures items { IfOk result (λ list. list.items ≡ items.now) }
+    ensures room { IfOk result (λ list. n ≤ vec_capacity list) }
+    ensures refusal { IfErr result (λ e. e ≡ Memory) }
+{
+    let n = n.max(items.len());
+    list.clear();
+    if list.capacity() < n {
+        enlarge(&mut list, n)?;
+    }
+    list.extend_from_slice(items).unwrap();
+    Ok(list)
+}
