@@ -168,6 +168,10 @@ impl Face<'_> {
     pub fn h_advance(&self, glyph: u16) -> u16
         ensures { result ≡ h_advance_of (tables_of self.now) glyph }
     {
+        let long = metrics::long_metrics(self.hhea, self.hmtx);
+        if u32::from(glyph) < long {
+            return u16_at(self.hmtx, usize::from(glyph) * 4);
+        }
         match metrics::advance(self.hhea, self.hmtx, self.glyph_count(), glyph) {
             Some(advance) => advance,
             None => self.units_per_em() / 2,

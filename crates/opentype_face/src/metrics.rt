@@ -38,6 +38,7 @@ pub fn glyph_count(maxp: &[u8]) -> u16
 }
 
 /// How many glyphs have a bearing and an advance of their own, of those that the table has room for.
+#[inline]
 pub fn long_metrics(header: &[u8], metrics: &[u8]) -> u32
     ensures { result ≡ long_metrics_in header.now metrics.now }
 {

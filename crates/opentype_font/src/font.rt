@@ -8,16 +8,17 @@ use crate::text_tags::TextTags;
 use crate::would_apply::would_apply;
 use opentype_face::face::Face;
 use opentype_face::metrics::advance;
+use opentype_layout::face_tables::FaceTables;
 use shapers_base::buffer::hb_tag_t;
 use shapers_base::font::{GlyphId, hb_font_t};
 use shapers_normalize::NormalizeFont;
 use shapers_position::ot_shape_position::MetricsFont;
 
 /// A face, for texts of a script and a language.
-#[derive(Clone, Copy, Debug)]
+#[derive(Debug, Drop)]
 pub struct OpenTypeFont<'a> {
-    /// The face.
-    pub face: Face<'a>,
+    /// The face, with what was prepared of it.
+    pub tables: FaceTables<'a>,
     /// The tags of the texts' script and language.
     pub tags: TextTags,
 }
@@ -38,11 +39,11 @@ impl<'a> hb_font_t for OpenTypeFont<'a> {
     ghost use Rattle.opentype_font.specs.TextTags.{tags_of};
     ghost use Rattle.opentype_face.specs.Faces.{tables_of};
 
-    ghost font = { λ it. font_of (tables_of it.face) (tags_of it.tags) };
+    ghost font = { λ it. font_of (tables_of it.tables.face) (tags_of it.tags) };
 
     #[inline]
     fn get_nominal_glyph(&self, c: u32) -> Option<GlyphId> {
-        match self.face.get_nominal_glyph(c) {
+        match self.tables.get_nominal_glyph(c) {
             Some(glyph) => Some(GlyphId(glyph)),
             None => None,
         }
@@ -50,15 +51,16 @@ impl<'a> hb_font_t for OpenTypeFont<'a> {
 
     #[inline]
     fn glyph_h_advance(&self, glyph: GlyphId) -> i32 {
-        i32::from(self.face.h_advance(glyph.0))
+        i32::from(self.tables.face.h_advance(glyph.0))
     }
 
     fn would_apply(&self, lookup: u16, glyphs: &[GlyphId], zero_context: bool) -> bool {
-        would_apply(self.face.gsub, lookup, glyphs, zero_context)
+        would_apply(self.tables.face.gsub, lookup, glyphs, zero_context)
     }
 
     fn has_feature(&self, tag: hb_tag_t) -> bool {
-        has_feature(self.face.gsub, &self.tags, tag) || has_feature(self.face.gpos, &self.tags, tag)
+        has_feature(self.tables.face.gsub, &self.tags, tag)
+            || has_feature(self.tables.face.gpos, &self.tags, tag)
     }
 }
 
@@ -66,11 +68,11 @@ impl<'a> NormalizeFont for OpenTypeFont<'a> {
     ghost use Rattle.opentype_font.specs.Fonts.{variants_of};
     ghost use Rattle.opentype_face.specs.Faces.{tables_of};
 
-    ghost variants = { λ it. variants_of (tables_of it.face) };
+    ghost variants = { λ it. variants_of (tables_of it.tables.face) };
 
     #[inline]
     fn get_variation_glyph(&self, c: u32, selector: u32) -> Option<GlyphId> {
-        match self.face.get_variation_glyph(c, selector) {
+        match self.tables.face.get_variation_glyph(c, selector) {
             Some(glyph) => Some(GlyphId(glyph)),
             None => None,
         }
@@ -81,21 +83,21 @@ impl<'a> MetricsFont for OpenTypeFont<'a> {
     ghost use Rattle.opentype_font.specs.Fonts.{metrics_of};
     ghost use Rattle.opentype_face.specs.Faces.{tables_of};
 
-    ghost metrics = { λ it. metrics_of (tables_of it.face) };
+    ghost metrics = { λ it. metrics_of (tables_of it.tables.face) };
 
     #[inline]
     fn units_per_em(&self) -> u16 {
-        self.face.units_per_em()
+        self.tables.face.units_per_em()
     }
 
     #[inline]
     fn glyph_v_advance(&self, glyph: GlyphId) -> i32 {
-        v_advance(&self.face, glyph.0)
+        v_advance(&self.tables.face, glyph.0)
     }
 
     // (half of the horizontal advance to the right, as no table says otherwise)
     fn glyph_v_origin(&self, glyph: GlyphId) -> (i32, i32) {
-        let across = self.face.h_advance(glyph.0) / 2;
-        (i32::from(across), self.face.v_origin(glyph.0))
+        let across = self.tables.face.h_advance(glyph.0) / 2;
+        (i32::from(across), self.tables.face.v_origin(glyph.0))
     }
 }

@@ -3,12 +3,12 @@ ghost use Rattle.std.specs.Prelude.{◌≡◌};
 ghost use Rattle.opentype_font.specs.Lookups.{application_for, noted_by, use_for};
 
 use crate::font::OpenTypeFont;
-use opentype_face::classes::{glyph_props, has_glyph_classes};
 use opentype_gpos::finish::finish_positions;
 use opentype_gpos::walk::position;
 use opentype_gsub::growth::growth;
 use opentype_gsub::pass::LookupUse;
 use opentype_gsub::substitute::substitute;
+use opentype_layout::face_tables::FaceTables;
 use opentype_layout::sight::Application;
 use shapers_base::buffer::{GlyphProps, ShaperError, hb_buffer_t, hb_glyph_info_t};
 use shapers_pipeline::Lookups;
@@ -50,11 +50,11 @@ fn application_for(lookup: &StageLookup) -> Application
 // What lookups keep of a glyph: its class by GDEF. In a font without classes nonspacing marks are
 // marks, unless they need not be drawn, and all else is a base. (HarfBuzz's
 // `hb_synthesize_glyph_classes`.)
-fn noted_by(gdef: &[u8], glyph: &hb_glyph_info_t) -> GlyphProps
-    ensures { result ≡ noted_by gdef.now glyph.now }
+fn noted_by(tables: &FaceTables<'_>, glyph: &hb_glyph_info_t) -> GlyphProps
+    ensures { result ≡ noted_by tables.now.face.gdef.now glyph.now }
 {
-    if has_glyph_classes(gdef) {
-        return GlyphProps(glyph_props(gdef, (glyph.glyph_id % 65536) as u16));
+    if let Some(props) = tables.glyph_props((glyph.glyph_id % 65536) as u16) {
+        return GlyphProps(props);
     }
     if glyph.unicode_props.0 % 32 == NONSPACING_MARK && !glyph.unicode_props.is_ignorable() {
         GlyphProps(8)
@@ -75,6 +75,7 @@ impl<'a> GlyphClasses for OpenTypeFont<'a> {
 }
 
 impl<'a> Lookups for OpenTypeFont<'a> {
+    ghost use Rattle.std.specs.Prelude.{false, true};
     ghost use Rattle.opentype_gsub.specs.Growth.{growth_in};
     ghost use Rattle.opentype_gsub.specs.Substituted.{substituted};
     ghost use Rattle.opentype_gpos.specs.Finished.{finished};
@@ -82,26 +83,30 @@ impl<'a> Lookups for OpenTypeFont<'a> {
     ghost use Rattle.opentype_font.specs.Lookups.{application_for, noted_by, use_for};
     ghost use Rattle.opentype_font.specs.Proved.LookupLaws.{finishing_keeps, positioning_keeps, substituting_grows, substituting_keeps};
 
-    ghost noted = { λ it g. noted_by it.face.gdef.now g };
+    ghost noted = { λ it g. noted_by it.tables.face.gdef.now g };
 
     ghost substituted = { λ it lookup b.
-        substituted it.face.gdef.now it.face.gsub.now (use_for lookup) b };
+        substituted it.tables.face.gdef.now it.tables.face.gsub.now (use_for lookup) b };
 
-    ghost growth_of = { λ it lookup. growth_in it.face.gsub.now lookup.index };
+    ghost growth_of = { λ it lookup. growth_in it.tables.face.gsub.now lookup.index };
+
+    ghost substituting_refuses = { λ it lookup b. record { too_long = false; memory = true } };
 
     ghost positioned = { λ it lookup b.
-        positioned it.face.gdef.now it.face.gpos.now lookup.index (application_for lookup) b };
+        positioned it.tables.face.gdef.now it.tables.face.gpos.now lookup.index (application_for lookup) b };
 
     ghost finished = { λ it b. finished b };
 
+    ghost positioning_refuses = { λ it lookup b. record { too_long = false; memory = false } };
+
     #[inline]
     fn glyph_props(&self, glyph: &hb_glyph_info_t) -> GlyphProps {
-        noted_by(self.face.gdef, glyph)
+        noted_by(&self.tables, glyph)
     }
 
     #[inline]
     fn growth(&self, lookup: &StageLookup) -> usize {
-        growth(self.face.gsub, lookup.index)
+        growth(self.tables.face.gsub, lookup.index)
     }
 
     fn substitute(
@@ -109,12 +114,23 @@ impl<'a> Lookups for OpenTypeFont<'a> {
         lookup: &StageLookup,
         buffer: &mut hb_buffer_t,
     ) -> Result<(), ShaperError> {
-        substitute(self.face.gdef, self.face.gsub, &use_for(lookup), buffer)
+        substitute(
+            self.tables.face.gdef,
+            self.tables.gsub(),
+            &use_for(lookup),
+            buffer,
+        )
     }
 
     fn position(&self, lookup: &StageLookup, buffer: &mut hb_buffer_t) -> Result<(), ShaperError> {
         let how = application_for(lookup);
-        position(self.face.gdef, self.face.gpos, lookup.index, &how, buffer);
+        position(
+            self.tables.face.gdef,
+            self.tables.gpos(),
+            lookup.index,
+            &how,
+            buffer,
+        );
         Ok(())
     }
 
@@ -123,13 +139,13 @@ impl<'a> Lookups for OpenTypeFont<'a> {
     }
 
     ghost substituting_keeps = { λ it lookup b none.
-        substituting_keeps it.face.gdef.now it.face.gsub.now (use_for lookup) b };
+        substituting_keeps it.tables.face.gdef.now it.tables.face.gsub.now (use_for lookup) b };
 
     ghost substituting_grows = { λ it lookup b none.
-        substituting_grows it.face.gdef.now it.face.gsub.now (use_for lookup) b };
+        substituting_grows it.tables.face.gdef.now it.tables.face.gsub.now (use_for lookup) b };
 
     ghost positioning_keeps = { λ it lookup b paired. positioning_keeps
-        it.face.gdef.now it.face.gpos.now lookup.index (application_for lookup) b };
+        it.tables.face.gdef.now it.tables.face.gpos.now lookup.index (application_for lookup) b };
 
     ghost finishing_keeps = { λ it b paired. finishing_keeps b };
 }

@@ -1,11 +1,13 @@
 -- Glyphs that are moved with those that they are attached to, as far as a loop has come.
-use Rattle.std.proofs.Common.{ℕ, zero, suc, ◌+◌, ◌-◌, ◌<◌, ◌≤◌, ◌≡◌, List, [], ◌∷◌, ◌++◌, length, take, slice_index_or, IfSome, Option, None, Some, refl, sym, ap, ◌∙◌, arith}
+use Rattle.std.proofs.Common.{ℕ, zero, suc, ◌+◌, ◌-◌, ◌*◌, ◌/◌, ◌%◌, ◌<◌, ◌≤◌, ◌≡◌, ◌==◌, nat_eq, Bool, true, false, List, [], ◌∷◌, ◌++◌, length, take, slice_index_or, slice_set, IfSome, Option, None, Some, refl, sym, ap, ◌∙◌, arith}
+use Rattle.std.proofs.lemmas.Bool.Decides.{nat_tests}
 use Rattle.std.proofs.lemmas.Grind.{common_steps}
+use Rattle.std.proofs.lemmas.List.{get_or-set_other, get_or-set_same, set-get_or}
 use Rattle.shapers_buffer.specs.Glyph.{default_position}
 use Rattle.shapers_buffer.specs.declared.buffer.glyph.GlyphPosition.{GlyphPosition}
 use Rattle.shapers_buffer.specs.declared.buffer.level.Direction.{Direction}
-use Rattle.opentype_gpos.specs.Finished.{drawn_place, finished_from, chain_followed, is_backward, let_go, link_at, pen_along, pen_behind, placed_on, settled}
-use Rattle.opentype_gpos.specs.Moved.{Positions, position_at}
+use Rattle.opentype_gpos.specs.Finished.{drawn_place, finished_from, chain_followed, is_backward, let_go, link_at, pen_along, pen_behind, placed_on, settled, target_in}
+use Rattle.opentype_gpos.specs.Moved.{Positions, detached, position_at}
 use Rattle.opentype_gpos.specs.declared.finish.Attachment.{Attachment}
 
 -- ---- the pen
@@ -148,6 +150,59 @@ pub settling_all : (d : Direction) (links : List Attachment) (old : Positions) (
     IsSettling d links old i ps → length links ≤ i → ps ≡ settled d links old
 settling_all d links old i ps is le =
     let n : length links - i ≡ 0 = omega arith in sym (take_none d links ps) ∙ rw n at is.rest
+
+-- ---- a glyph that is attached to none, and one attached to such a glyph
+no_target : (var at len : ℕ) → var % 65536 ≡ 0 → target_in var at len ≡ None
+unfolding target_in
+no_target var at len e = rw e refl
+
+loose_link : (ps : Positions) (at : ℕ) → (position_at ps at).var % 65536 ≡ 0 → link_at ps at ≡ None
+unfolding link_at
+loose_link ps at e = rw (no_target (position_at ps at).var at (length ps) e) refl
+
+with_var : (p : GlyphPosition) (var : ℕ) → var ≡ p.var → (let r : GlyphPosition = record p { var = var } in r) ≡ p
+with_var p var e = rw e refl
+
+pub loose_let_go : (ps : Positions) (at : ℕ) → (position_at ps at).var % 65536 ≡ 0 → let_go ps at ≡ ps
+unfolding let_go
+loose_let_go ps at e =
+    let v : ℕ = (position_at ps at).var in
+    let same : v / 65536 * 65536 ≡ v = omega (arith, e) in
+    ap (slice_set ps at) (with_var (position_at ps at) _ same) ∙ set-get_or ps at default_position
+
+loose_followed : (n : ℕ) (d : Direction) (ps : Positions) (at : ℕ) → (position_at ps at).var % 65536 ≡ 0 →
+    chain_followed n d ps at ≡ ps
+loose_followed zero d ps at e = follow_zero d ps at ∙ loose_let_go ps at e
+loose_followed (suc n) d ps at e = follow_none n d ps at (loose_link ps at e) ∙ loose_let_go ps at e
+
+pub unattached : (d : Direction) (ps : Positions) (at : ℕ) → ((position_at ps at).var % 65536 == 0) ≡ true →
+    ps ≡ chain_followed 64 d ps at
+unattached d ps at e = sym (loose_followed 64 d ps at (grind (arith, nat_tests, e)))
+
+let_go_keeps : (ps : Positions) (at to : ℕ) (same : Bool) → same ≡ nat_eq to at → at < length ps →
+    (position_at ps to).var % 65536 ≡ 0 → (position_at (let_go ps at) to).var % 65536 ≡ 0
+unfolding let_go
+let_go_keeps ps at to true e lt loose =
+    let here : to ≡ at = grind (arith, e) in
+    let v : ℕ = (position_at ps at).var in
+    let is : position_at (slice_set ps at (detached (position_at ps at))) at ≡ detached (position_at ps at) =
+    get_or-set_same ps at (detached (position_at ps at)) default_position lt in
+    ap (λ (i : ℕ). (position_at (slice_set ps at (detached (position_at ps at))) i).var % 65536) here
+    ∙ ap (λ (q : GlyphPosition). q.var % 65536) is ∙ omega arith
+let_go_keeps ps at to false e lt loose =
+    let there : position_at (slice_set ps at (detached (position_at ps at))) to ≡ position_at ps to =
+    get_or-set_other ps at to (detached (position_at ps at)) default_position (grind (arith, e)) in
+    ap (λ (q : GlyphPosition). q.var % 65536) there ∙ loose
+
+pub one_link : (d : Direction) (ps : Positions) (at : ℕ) (found : Option Attachment) (link : Attachment)
+    (mid new : Positions) → at < length ps → found ≡ link_at ps at → found ≡ Some link →
+    ((position_at ps link.to).var % 65536 == 0) ≡ true → mid ≡ let_go ps at → new ≡ placed_on d link mid →
+    new ≡ chain_followed 64 d ps at
+one_link d ps at found link mid new lt there some loose gone done =
+    let free : (position_at (let_go ps at) link.to).var % 65536 ≡ 0 =
+    let_go_keeps ps at link.to (nat_eq link.to at) refl lt (grind (arith, nat_tests, loose)) in
+    done ∙ ap (placed_on d link) (gone ∙ sym (loose_followed 63 d (let_go ps at) link.to free))
+    ∙ sym (follow_some 63 d ps at link (sym there ∙ some))
 
 -- ---- all glyphs
 pub record IsFinishing (d : Direction) (old : Positions) (i : ℕ) (ps : Positions) : Type 0 where

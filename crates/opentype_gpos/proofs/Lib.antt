@@ -1,5 +1,6 @@
 pub mod Firsts
 pub mod Walks
+pub mod Unbegun
 pub mod Calls
 pub mod Following
 pub mod Preserved
@@ -15,3 +16,4 @@ pub mod Inside
 pub mod Turning
 mod CursiveRows
 mod ContextRows
+mod Paired

@@ -6,12 +6,12 @@ use Rattle.shapers_buffer.specs.declared.buffer.glyph.GlyphPosition.{GlyphPositi
 use Rattle.shapers_buffer.specs.declared.buffer.level.Direction.TheVariants.{LeftToRight, RightToLeft}
 use Rattle.opentype_face.specs.Bytes.{part_in}
 use Rattle.opentype_face.specs.Ranges.{bisect}
-use Rattle.opentype_gpos.specs.Anchors.{component_point, ligature_point, ligature_points_in, points_in}
+use Rattle.opentype_gpos.specs.Anchors.{component_point, ligature_point, ligature_points_by, ligature_points_in, points_by, points_in}
 use Rattle.opentype_gpos.specs.Finished.{finished_from, chain_followed, hung_on, joined_to, let_go, link_at, pen_along, pen_behind, pen_between, placed_on, target_in}
 use Rattle.opentype_gpos.specs.Moved.{Positions, with_mark_move, with_value}
 use Rattle.opentype_gpos.specs.Moves.{component_for}
 use Rattle.opentype_gpos.specs.Nearby.{are_beside, carries_on}
-use Rattle.opentype_gpos.specs.Values.{pair_in, single_in, size_of, value_in}
+use Rattle.opentype_gpos.specs.Values.{class_pair, pair_in, single_in, size_of, value_in}
 use Rattle.opentype_gpos.specs.declared.anchors.Point.{Point}
 use Rattle.opentype_gpos.specs.declared.values.Value.{Value}
 
@@ -75,12 +75,15 @@ pair_value : value_in (part_in nearer 16) 0 4 ≡ value (pos 0) (pos 0) (negsuc 
 pair_value = refl
 
 -- format 2: glyph 5 is of class 0, glyph 9 of class 1 as a second one, and others of class 0
-abbrev by_classes : List ℕ
-by_classes = 0 ∷ 2 ∷ 0 ∷ 20 ∷ 0 ∷ 4 ∷ 0 ∷ 0 ∷ 0 ∷ 26 ∷ 0 ∷ 34 ∷ 0 ∷ 1 ∷ 0 ∷ 2
+abbrev with_classes : ℕ → ℕ → List ℕ
+with_classes rows columns = 0 ∷ 2 ∷ 0 ∷ 20 ∷ 0 ∷ 4 ∷ 0 ∷ 0 ∷ 0 ∷ 26 ∷ 0 ∷ 34 ∷ 0 ∷ rows ∷ 0 ∷ columns
     ∷ 0 ∷ 0 ∷ 255 ∷ 236
     ∷ 0 ∷ 1 ∷ 0 ∷ 1 ∷ 0 ∷ 5
     ∷ 0 ∷ 1 ∷ 0 ∷ 5 ∷ 0 ∷ 1 ∷ 0 ∷ 0
     ∷ 0 ∷ 1 ∷ 0 ∷ 9 ∷ 0 ∷ 1 ∷ 0 ∷ 1 ∷ []
+
+abbrev by_classes : List ℕ
+by_classes = with_classes 1 2
 
 class_place : pair_in by_classes 5 9 ≡ Some 18
 unfolding bisect
@@ -89,6 +92,19 @@ class_place = refl
 class_other : pair_in by_classes 5 8 ≡ Some 16
 unfolding bisect
 class_other = refl
+
+-- the table needs a row and a column for the classes
+class_cell : class_pair by_classes 5 9 ≡ Some 18
+unfolding bisect
+class_cell = refl
+
+class_without_row : class_pair (with_classes 0 2) 5 9 ≡ None
+unfolding bisect
+class_without_row = refl
+
+class_without_column : class_pair (with_classes 1 1) 5 9 ≡ None
+unfolding bisect
+class_without_column = refl
 
 -- types 4 and 6: mark 20 has its point at 50, 200, base 5 at 300, 600
 abbrev upon_base : List ℕ
@@ -106,6 +122,21 @@ no_base : points_in upon_base 20 6 ≡ None
 unfolding bisect
 no_base = refl
 
+-- by the mark's place, which must be among the marks of the one format
+mark_place : points_by upon_base (Some 0) 5 ≡ Some (at (pos 300) (pos 600), at (pos 50) (pos 200))
+unfolding bisect
+mark_place = refl
+
+no_mark_place : points_by upon_base None 5 ≡ None
+no_mark_place = refl
+
+mark_past_the_last : points_by upon_base (Some 1) 5 ≡ None
+unfolding bisect
+mark_past_the_last = refl
+
+mark_of_another_format : points_by (0 ∷ 2 ∷ []) (Some 0) 5 ≡ None
+mark_of_another_format = refl
+
 -- type 5: the ligature has two components, with points at 100, 600 and 300, 600
 abbrev upon_ligature : List ℕ
 upon_ligature = 0 ∷ 1 ∷ 0 ∷ 12 ∷ 0 ∷ 18 ∷ 0 ∷ 1 ∷ 0 ∷ 24 ∷ 0 ∷ 36
@@ -114,6 +145,14 @@ upon_ligature = 0 ∷ 1 ∷ 0 ∷ 12 ∷ 0 ∷ 18 ∷ 0 ∷ 1 ∷ 0 ∷ 24 ∷ 0
     ∷ 0 ∷ 1 ∷ 0 ∷ 0 ∷ 0 ∷ 6 ∷ 0 ∷ 1 ∷ 0 ∷ 50 ∷ 0 ∷ 200
     ∷ 0 ∷ 1 ∷ 0 ∷ 4
     ∷ 0 ∷ 2 ∷ 0 ∷ 6 ∷ 0 ∷ 12 ∷ 0 ∷ 1 ∷ 0 ∷ 100 ∷ 2 ∷ 88 ∷ 0 ∷ 1 ∷ 1 ∷ 44 ∷ 2 ∷ 88 ∷ []
+
+ligature_by_place : ligature_points_by upon_ligature (Some 0) 5 1
+    ≡ Some (at (pos 100) (pos 600), at (pos 50) (pos 200))
+unfolding bisect ligature_point component_point
+ligature_by_place = refl
+
+no_place_for_ligature : ligature_points_by upon_ligature None 5 1 ≡ None
+no_place_for_ligature = refl
 
 first_component : ligature_points_in upon_ligature 20 5 1
     ≡ Some (at (pos 100) (pos 600), at (pos 50) (pos 200))

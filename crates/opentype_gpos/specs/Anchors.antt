@@ -24,10 +24,13 @@ points_at bytes (Some mark) None = None
 points_at bytes (Some mark) (Some base) = base_point (part_in bytes (u16_in bytes 8))
     (part_in bytes (u16_in bytes 10)) (u16_in bytes 6) mark base
 
+-- the mark by its place in the set of marks
+abbrev pub points_by : List ℕ → Option ℕ → ℕ → Option (Point × Point)
+points_by bytes mark base = if u16_in bytes 0 == 1 then
+    points_at bytes mark (coverage_in (part_in bytes (u16_in bytes 4)) base) else None
+
 abbrev pub points_in : List ℕ → ℕ → ℕ → Option (Point × Point)
-points_in bytes mark base = if u16_in bytes 0 == 1 then
-    points_at bytes (coverage_in (part_in bytes (u16_in bytes 2)) mark)
-    (coverage_in (part_in bytes (u16_in bytes 4)) base) else None
+points_in bytes mark base = points_by bytes (coverage_in (part_in bytes (u16_in bytes 2)) mark) base
 
 -- type 5: the points of a mark and of a component of a ligature, by its number from 1 on; the last
 -- one is meant by 0, and by a number beyond it
@@ -51,10 +54,16 @@ ligature_points_at bytes component None ligature = None
 ligature_points_at bytes component (Some mark) None = None
 ligature_points_at bytes component (Some mark) (Some i) = ligature_point bytes component mark i
 
+-- type 5: the points of a mark and of a component of a ligature, by the mark's place in the set of
+-- marks, if the subtable covers both
+abbrev pub ligature_points_by : List ℕ → Option ℕ → ℕ → ℕ → Option (Point × Point)
+ligature_points_by bytes mark ligature component = if u16_in bytes 0 == 1 then ligature_points_at
+    bytes component mark (coverage_in (part_in bytes (u16_in bytes 4)) ligature) else None
+
+-- the same by the mark's glyph
 abbrev pub ligature_points_in : List ℕ → ℕ → ℕ → ℕ → Option (Point × Point)
-ligature_points_in bytes mark ligature component = if u16_in bytes 0 == 1 then
-    ligature_points_at bytes component (coverage_in (part_in bytes (u16_in bytes 2)) mark)
-    (coverage_in (part_in bytes (u16_in bytes 4)) ligature) else None
+ligature_points_in bytes mark ligature component = ligature_points_by bytes (coverage_in (part_in
+    bytes (u16_in bytes 2)) mark) ligature component
 
 -- type 3: the point where a cursive line enters a glyph, 0 bytes behind its record's start, or
 -- leaves it, 2 bytes behind
@@ -64,6 +73,7 @@ joint_point bytes side i =
     if not (nat_lt i (u16_in bytes 4)) || (u16_in anchor 0 == 0) then None else Some (point_in
     anchor)
 
+-- the point of a glyph that a subtable of type 3 covers
 unfoldable pub joint_in : List ℕ → ℕ → ℕ → Option Point
 joint_in bytes side glyph = if u16_in bytes 0 == 1 then
     option_and_then (joint_point bytes side) (coverage_in (part_in bytes (u16_in bytes 2)) glyph)

@@ -95,7 +95,7 @@ unfoldable pub mark_upon : MarkFont → ℕ → Around → GlyphPosition → Opt
 mark_upon f class a p None = (brought_back a p, a)
 mark_upon f class a p (Some box) = upon_box f.direction f.gap class a p box
 
--- the pen behind a glyph that is no mark, or a mark of class 0
+-- the pen behind a glyph of class 0
 unfoldable pub pen_past : Direction → GlyphPosition → PenWay → PenWay
 pen_past direction p pen =
     if is_backward direction

@@ -108,6 +108,7 @@ cursive_joined direction it at ps =
     direction it at ps)
     else cursive_linked v at it.before (between v it.exit it.entry) (aligned direction it at ps)
 
+-- a glyph is joined to the one before it, up to which no break is safe
 unfoldable pub cursive_moved : Direction → CursiveMove → ℕ → Glyphs → Positions → Progress
 cursive_moved direction it at gs ps = record {
   glyphs = flagged_up_to true it.before at gs;

@@ -7,6 +7,7 @@ use Rattle.opentype_gpos.specs.Moved.{Positions, Progress, mark_moved, pair_move
 use Rattle.opentype_gpos.specs.declared.moves.Move.{Move}
 use Rattle.opentype_gpos.specs.declared.moves.Move.TheVariants.{Adds, Attaches, Joins, Kerns}
 
+-- what a move makes of a text, and the place that comes next
 unfoldable pub moved : Direction → Move → ℕ → Glyphs → Positions → Progress
 moved direction (Adds value) at gs ps =
     record { glyphs = gs; positions = value_added direction value at ps; next = at + 1 }

@@ -50,6 +50,17 @@ abbrev pub pair_of : ℕ → ℕ → Option ℕ → Option ℕ
 pair_of set size None = None
 pair_of set size (Some k) = Some (set + 4 + k * size)
 
+-- or in a table of their classes, if it has a row and a column for them
+abbrev pub class_pair : List ℕ → ℕ → ℕ → Option ℕ
+class_pair bytes first second =
+    let size = size_of (u16_in bytes 4) + size_of (u16_in bytes 6) in
+    let row = class_in (part_in bytes (u16_in bytes 8)) first in
+    let column = class_in (part_in bytes (u16_in bytes 10)) second in
+    if nat_lt row (u16_in bytes 12) then
+    (if nat_lt column (u16_in bytes 14) then
+    Some (16 + (row * u16_in bytes 14 + column) * size) else None)
+    else None
+
 abbrev pub pair_place : List ℕ → ℕ → ℕ → Option ℕ → Option ℕ
 pair_place bytes first second None = None
 pair_place bytes first second (Some i) =
@@ -60,14 +71,7 @@ pair_place bytes first second (Some i) =
     let set = part_in bytes offset in
     pair_of offset (size + 2) (ranges_in set 2 2 (size + 2) (u16_in set 0) second))
     else None)
-    else (if u16_in bytes 0 == 2 then
-    (let row = class_in (part_in bytes (u16_in bytes 8)) first in
-    let column = class_in (part_in bytes (u16_in bytes 10)) second in
-    if nat_lt row (u16_in bytes 12) then
-    (if nat_lt column (u16_in bytes 14) then
-    Some (16 + (row * u16_in bytes 14 + column) * size) else None)
-    else None)
-    else None)
+    else (if u16_in bytes 0 == 2 then class_pair bytes first second else None)
 
 abbrev pub pair_in : List ℕ → ℕ → ℕ → Option ℕ
 pair_in bytes first second =

@@ -1,6 +1,6 @@
 //! Where marks attach.
-ghost use Rattle.std.specs.Prelude.{◌≡◌, ◌<◌};
-ghost use Rattle.opentype_gpos.specs.Anchors.{base_point, component_point, joint_in, joint_point, ligature_point, ligature_points_in, point_in, points_in, row_of};
+ghost use Rattle.std.specs.Prelude.{◌≡◌, ◌<◌, Some};
+ghost use Rattle.opentype_gpos.specs.Anchors.{base_point, component_point, joint_in, joint_point, ligature_point, ligature_points_by, point_in, points_by, row_of};
 
 use crate::values::i16_at;
 use opentype_face::bytes::{part, u16_at};
@@ -50,14 +50,14 @@ fn of_numbers(
     Some((point_at(anchor), point_at(own)))
 }
 
-/// The points of a base and a mark that come together, by a subtable of type 4 or 6.
-pub fn points(bytes: &[u8], mark: u16, base: u16) -> Option<(Point, Point)>
-    ensures { result ≡ points_in bytes.now mark base }
+/// The points of a base and a mark that come together, by a subtable of type 4 or 6 and by the place of
+/// the mark in its set.
+pub fn points(bytes: &[u8], mark: u32, base: u16) -> Option<(Point, Point)>
+    ensures { result ≡ points_by bytes.now (Some mark) base }
 {
     if u16_at(bytes, 0) != 1 {
         return None;
     }
-    let mark = coverage(part(bytes, usize::from(u16_at(bytes, 2))), mark)?;
     let base = coverage(part(bytes, usize::from(u16_at(bytes, 4))), base)?;
     let marks = part(bytes, usize::from(u16_at(bytes, 8)));
     let bases = part(bytes, usize::from(u16_at(bytes, 10)));
@@ -116,20 +116,20 @@ fn of_ligature(bytes: &[u8], component: u16, mark: u32, i: u32) -> Option<(Point
     of_component(marks, ligature, u16_at(bytes, 6), mark, component)
 }
 
-/// The points of a component of a ligature and of a mark that come together, by a subtable of type 5.
+/// The points of a component of a ligature and of a mark that come together, by a subtable of type 5
+/// and by the place of the mark in its set.
 /// Components count from 1 on; 0, and a number beyond the last one, mean the last one.
 pub fn ligature_points(
     bytes: &[u8],
-    mark: u16,
+    mark: u32,
     ligature: u16,
     component: u16,
 ) -> Option<(Point, Point)>
-    ensures { result ≡ ligature_points_in bytes.now mark ligature component }
+    ensures { result ≡ ligature_points_by bytes.now (Some mark) ligature component }
 {
     if u16_at(bytes, 0) != 1 {
         return None;
     }
-    let mark = coverage(part(bytes, usize::from(u16_at(bytes, 2))), mark)?;
     let ligature = coverage(part(bytes, usize::from(u16_at(bytes, 4))), ligature)?;
     of_ligature(bytes, component, mark, ligature)
 }

@@ -13,9 +13,9 @@ use crate::moved::flag_up_to;
 use crate::pass::Pass;
 use arrayvec::ArrayVec;
 use opentype_face::bytes::u16_at;
-use opentype_face::lookup::lookup;
 use opentype_layout::places::Places;
 use opentype_layout::rules::Matched;
+use opentype_layout::starts::LookupTable;
 use shapers_buffer::buffer::{GlyphPosition, hb_glyph_info_t};
 
 /// A rule that fits, with lookups left to apply.
@@ -36,7 +36,7 @@ pub type Frames<'a> = ArrayVec<Frame<'a>, 63>;
 #[tactic(auto, unfolding(crate::specs::Called::lookup_made))]
 fn call<'a>(
     pass: &Pass<'_>,
-    lookup: &'a [u8],
+    lookup: &LookupTable<'a>,
     at: usize,
     glyphs: &mut [hb_glyph_info_t],
     positions: &mut [GlyphPosition],
@@ -48,7 +48,7 @@ fn call<'a>(
         ≡ made_if_found by_rule (option_map (λ it. found it) result)
         (record { glyphs = glyphs.new; positions = positions.new; left = left }) }
 {
-    let sights = pass.sights(lookup);
+    let sights = pass.sights(lookup.bytes());
     match come_to(pass, &sights, lookup, glyphs, at) {
         Some(Came::Moves(change)) => {
             make_move(pass.direction, &change, at, glyphs, positions);
@@ -81,8 +81,8 @@ fn call_record<'a>(
     if sequence >= places.len() {
         return None;
     }
-    let called = lookup(pass.gpos, u16_at(records, record + 2));
-    call(pass, called, places[sequence], glyphs, positions)
+    let called = pass.gpos.lookup(u16_at(records, record + 2));
+    call(pass, &called, places[sequence], glyphs, positions)
 }
 
 // Flags what a rule looked at.

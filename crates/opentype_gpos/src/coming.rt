@@ -5,10 +5,12 @@ ghost use Rattle.opentype_face.specs.Bytes.{u16_in};
 ghost use Rattle.opentype_face.specs.Firsts.{first_from};
 ghost use Rattle.opentype_gpos.specs.Coming.{came, came_in, nth_came, setting_of};
 
-use crate::moves::{Move, move_by};
+use crate::moves::{Move, move_by, pair_by_table};
+use crate::nearby::number;
 use crate::pass::{Pass, Sights};
 use opentype_face::lookup::{subtable, subtable_count, subtable_type};
 use opentype_layout::rules::{Matched, find_rule};
+use opentype_layout::starts::LookupTable;
 use shapers_buffer::buffer::hb_glyph_info_t;
 
 /// What a lookup comes to at a place.
@@ -25,15 +27,22 @@ pub enum Came<'a> {
 fn come_by<'a>(
     pass: &Pass<'_>,
     sights: &Sights,
-    lookup: &'a [u8],
+    table: &LookupTable<'a>,
     i: u16,
     glyphs: &[hb_glyph_info_t],
     at: usize,
 ) -> Option<Came<'a>>
     requires { at < length glyphs.now }
     ensures { option_map came result
-        ≡ nth_came (setting_of pass.now) sights.now lookup.now glyphs.now at i }
+        ≡ nth_came (setting_of pass.now) sights.now table.now glyphs.now at i }
 {
+    if let Some(pairs) = table.pair_table(i) {
+        return match pair_by_table(pass.gdef, &sights.input, pairs, glyphs, at) {
+            Some(change) => Some(Came::Moves(change)),
+            None => None,
+        };
+    }
+    let lookup = table.bytes();
     let kind = subtable_type(9, lookup, i);
     let bytes = subtable(9, lookup, i);
     let (input, context) = (&sights.input, &sights.context);
@@ -53,7 +62,7 @@ fn come_by<'a>(
 fn come_among<'a>(
     pass: &Pass<'_>,
     sights: &Sights,
-    lookup: &'a [u8],
+    lookup: &LookupTable<'a>,
     glyphs: &[hb_glyph_info_t],
     at: usize,
 ) -> Option<Came<'a>>
@@ -61,11 +70,15 @@ fn come_among<'a>(
     ensures { option_map came result ≡ first_from (u16_in lookup.now 4)
         (nth_came (setting_of pass.now) sights.now lookup.now glyphs.now at) 0 }
 {
-    for i in 0..subtable_count(lookup) {
+    let glyph = number(&glyphs[at]);
+    let (count, mut from) = (subtable_count(lookup.bytes()), 0);
+    while from < count {
+        let i = lookup.next_start(true, glyph, from)?;
         let found = come_by(pass, sights, lookup, i, glyphs, at);
         if found.is_some() {
             return found;
         }
+        from = i + 1;
     }
     None
 }
@@ -75,7 +88,7 @@ fn come_among<'a>(
 pub fn come_to<'a>(
     pass: &Pass<'_>,
     sights: &Sights,
-    lookup: &'a [u8],
+    lookup: &LookupTable<'a>,
     glyphs: &[hb_glyph_info_t],
     at: usize,
 ) -> Option<Came<'a>>

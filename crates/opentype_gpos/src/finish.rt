@@ -1,5 +1,5 @@
 //! What attachments do behind the last lookup.
-ghost use Rattle.std.specs.Prelude.{◌≡◌, ◌<◌, ◌≤◌, ◌-◌, length, IfSome};
+ghost use Rattle.std.specs.Prelude.{◌≡◌, ◌<◌, ◌≤◌, ◌-◌, ◌%◌, ◌==◌, length, IfSome};
 ghost use Rattle.shapers_buffer.specs.declared.buffer.level.Direction.{Direction as TextDirection};
 ghost use Rattle.opentype_gpos.specs.Finished.{drawn_place, finished, finished_from, chain_followed, hung_on, is_backward, joined_to, let_go, link_at, pen_behind, pen_between, pen_from, placed_along, placed_on, settled, target_in};
 
@@ -223,13 +223,48 @@ fn settle(direction: Direction, links: &[Attachment], positions: &mut [GlyphPosi
     }
 }
 
-// Moves a glyph with those that it hangs on.
-fn follow(direction: Direction, at: usize, positions: &mut [GlyphPosition])
+// Whether a glyph is attached to none.
+#[inline]
+fn is_loose(position: &GlyphPosition) -> bool
+    ensures { result ≡ position.now.var % 65536 == 0 }
+{
+    position.var % 65536 == 0
+}
+
+// Moves a glyph with those that it hangs on, more than one in a row.
+fn follow_chain(direction: Direction, at: usize, positions: &mut [GlyphPosition])
     requires { at < length positions.old }
     ensures { positions.new ≡ chain_followed 64 direction positions.old at }
 {
     let links = climb(at, positions);
     settle(direction, links.as_slice(), positions);
+}
+
+// Moves a glyph with the ones that it hangs on; mostly that is one, which hangs on none.
+fn follow_link(direction: Direction, at: usize, positions: &mut [GlyphPosition])
+    requires { at < length positions.old }
+    ensures { positions.new ≡ chain_followed 64 direction positions.old at }
+{
+    if let Some(link) = attachment_of(positions, at) {
+        if is_loose(&positions[link.to]) {
+            let_go(positions, at);
+            place_on(direction, &link, positions);
+            return;
+        }
+    }
+    follow_chain(direction, at, positions);
+}
+
+// Moves a glyph with those that it hangs on, if there are some.
+#[inline]
+fn follow(direction: Direction, at: usize, positions: &mut [GlyphPosition])
+    requires { at < length positions.old }
+    ensures { positions.new ≡ chain_followed 64 direction positions.old at }
+{
+    if is_loose(&positions[at]) {
+        return;
+    }
+    follow_link(direction, at, positions);
 }
 
 #[inline]

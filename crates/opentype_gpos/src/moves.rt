@@ -1,15 +1,19 @@
 //! What subtables do at a place of a text.
-ghost use Rattle.std.specs.Prelude.{◌≡◌, ◌<◌, length};
-ghost use Rattle.opentype_gpos.specs.Moves.{attached_by, attaching, base_move, component_for, cursive_move, is_first_in, joined_from, joined_with, ligature_move, ligature_with, mark_move, mark_with, one_move, pair_move, pair_values, pair_with, single_move};
+ghost use Rattle.std.specs.Prelude.{◌≡◌, ◌<◌, length, Some};
+ghost use Rattle.std.specs.Option.{option_map};
+ghost use Rattle.opentype_gpos.specs.Anchors.{points_by};
+ghost use Rattle.opentype_gpos.specs.Nearby.{number_in};
+ghost use Rattle.opentype_gpos.specs.Moves.{attaching, base_move, component_for, covered_by, cursive_move, joined_from, joined_with, ligature_move, ligature_with, mark_move, mark_with, number_at, one_move, pair_move, pair_values, pair_with, single_move};
 
 use crate::anchors::{Point, joint_of, ligature_points, points};
 use crate::nearby::{
     are_beside, base_glyph, glyph_before_mark, is_mark_glyph, ligature_number, next_glyph, number,
     previous_glyph,
 };
-use crate::values::{Value, pair, single, size, value_at};
+use crate::values::{Value, pair, pair_in_table, single, size, value_at};
 use opentype_face::bytes::{part, u16_at};
 use opentype_face::glyph_sets::coverage;
+use opentype_layout::pair_tables::PairTable;
 use opentype_layout::sight::Sight;
 use shapers_buffer::buffer::hb_glyph_info_t;
 
@@ -88,24 +92,32 @@ fn values_of(bytes: &[u8], second: usize, place: usize) -> Move
     })
 }
 
+// The place of a glyph in a subtable's set, which stands at the same place in each type.
+#[inline]
+fn place_in_set(bytes: &[u8], glyph: &hb_glyph_info_t) -> Option<u32>
+    ensures { result ≡ covered_by bytes.now 2 (number_in glyph.now) }
+{
+    coverage(part(bytes, usize::from(u16_at(bytes, 2))), number(glyph))
+}
+
+// The values of a pair, by the place of the first glyph in the subtable's set.
 #[tactic(auto, unfolding(crate::specs::Moves::pair_with))]
-fn pair_of(bytes: &[u8], glyphs: &[hb_glyph_info_t], at: usize, second: usize) -> Option<Move>
+fn pair_of(
+    bytes: &[u8],
+    i: u32,
+    glyphs: &[hb_glyph_info_t],
+    at: usize,
+    second: usize,
+) -> Option<Move>
     requires first { at < length glyphs.now }
     requires second { second < length glyphs.now }
+    requires covered { covered_by bytes.now 2 (number_at glyphs.now at) ≡ Some i }
     ensures { result ≡ pair_with bytes.now glyphs.now at second }
 {
-    match pair(bytes, number(&glyphs[at]), number(&glyphs[second])) {
+    match pair(bytes, i, number(&glyphs[at]), number(&glyphs[second])) {
         Some(place) => Some(values_of(bytes, second, place)),
         None => None,
     }
-}
-
-// Whether a subtable is for a glyph; its set stands at the same place in each type.
-#[inline]
-fn is_covered(bytes: &[u8], glyph: &hb_glyph_info_t) -> bool
-    ensures { result ≡ is_first_in bytes.now glyph.now }
-{
-    coverage(part(bytes, usize::from(u16_at(bytes, 2))), number(glyph)).is_some()
 }
 
 #[tactic(auto, unfolding(crate::specs::Moves::pair_move))]
@@ -119,22 +131,59 @@ fn pair_at(
     requires { at < length glyphs.now }
     ensures { result ≡ pair_move gdef.now sight.now bytes.now glyphs.now at }
 {
-    if !is_covered(bytes, &glyphs[at]) {
-        return None;
-    }
+    let i = place_in_set(bytes, &glyphs[at])?;
     match next_glyph(gdef, sight, glyphs, at + 1) {
-        Some(second) => pair_of(bytes, glyphs, at, second),
+        Some(second) => pair_of(bytes, i, glyphs, at, second),
         None => None,
     }
 }
 
-#[tactic(auto, unfolding(crate::specs::Moves::attached_by))]
-fn attached(bytes: &[u8], glyphs: &[hb_glyph_info_t], at: usize, to: usize) -> Option<Move>
-    requires mark { at < length glyphs.now }
-    requires other { to < length glyphs.now }
-    ensures { result ≡ attached_by bytes.now glyphs.now at to }
+// The same by tables of the subtable's glyphs.
+#[tactic(auto, unfolding(crate::specs::Moves::pair_with))]
+fn pair_of_table(
+    table: &PairTable<'_>,
+    i: u32,
+    glyphs: &[hb_glyph_info_t],
+    at: usize,
+    second: usize,
+) -> Option<Move>
+    requires first { at < length glyphs.now }
+    requires second { second < length glyphs.now }
+    requires covered { covered_by table.now 2 (number_at glyphs.now at) ≡ Some i }
+    ensures { result ≡ pair_with table.now glyphs.now at second }
 {
-    match points(bytes, number(&glyphs[at]), number(&glyphs[to])) {
+    match pair_in_table(table, i, number(&glyphs[at]), number(&glyphs[second])) {
+        Some(place) => Some(values_of(table.bytes(), second, place)),
+        None => None,
+    }
+}
+
+/// What a subtable of type 2 does at a place, by tables of its glyphs.
+#[tactic(auto, unfolding(crate::specs::Moves::pair_move))]
+pub fn pair_by_table(
+    gdef: &[u8],
+    sight: &Sight,
+    table: &PairTable<'_>,
+    glyphs: &[hb_glyph_info_t],
+    at: usize,
+) -> Option<Move>
+    requires { at < length glyphs.now }
+    ensures { result ≡ pair_move gdef.now sight.now table.now glyphs.now at }
+{
+    let i = table.place(number(&glyphs[at]))?;
+    match next_glyph(gdef, sight, glyphs, at + 1) {
+        Some(second) => pair_of_table(table, i, glyphs, at, second),
+        None => None,
+    }
+}
+
+// A mark, by its place in the subtable's set, upon another glyph.
+fn attached(bytes: &[u8], mark: u32, glyphs: &[hb_glyph_info_t], to: usize) -> Option<Move>
+    requires { to < length glyphs.now }
+    ensures { result
+        ≡ option_map (attaching to) (points_by bytes.now (Some mark) (number_at glyphs.now to)) }
+{
+    match points(bytes, mark, number(&glyphs[to])) {
         Some((point, own)) => Some(attach(to, point, own)),
         None => None,
     }
@@ -151,7 +200,7 @@ fn attach(to: usize, point: Point, own: Point) -> Move
     })
 }
 
-#[tactic(auto, unfolding(crate::specs::Moves::base_move))]
+#[tactic(auto, unfolding(crate::specs::Moves::base_move, crate::specs::Moves::attached_by))]
 fn mark_to_base(
     gdef: &[u8],
     sight: &Sight,
@@ -162,24 +211,29 @@ fn mark_to_base(
     requires { at < length glyphs.now }
     ensures { result ≡ base_move gdef.now sight.now bytes.now glyphs.now at }
 {
-    if !is_covered(bytes, &glyphs[at]) {
-        return None;
-    }
+    let mark = place_in_set(bytes, &glyphs[at])?;
     let bases = part(bytes, usize::from(u16_at(bytes, 4)));
     match base_glyph(gdef, sight, false, bases, glyphs, at) {
-        Some(base) => attached(bytes, glyphs, at, base),
+        Some(base) => attached(bytes, mark, glyphs, base),
         None => None,
     }
 }
 
-#[tactic(auto, unfolding(crate::specs::Moves::mark_with))]
-fn mark_to(bytes: &[u8], glyphs: &[hb_glyph_info_t], at: usize, to: usize) -> Option<Move>
+#[tactic(auto, unfolding(crate::specs::Moves::mark_with, crate::specs::Moves::attached_by))]
+fn mark_to(
+    bytes: &[u8],
+    mark: u32,
+    glyphs: &[hb_glyph_info_t],
+    at: usize,
+    to: usize,
+) -> Option<Move>
     requires mark { at < length glyphs.now }
     requires other { to < length glyphs.now }
+    requires covered { covered_by bytes.now 2 (number_at glyphs.now at) ≡ Some mark }
     ensures { result ≡ mark_with bytes.now glyphs.now at to }
 {
     if is_mark_glyph(&glyphs[to]) && are_beside(&glyphs[at], &glyphs[to]) {
-        attached(bytes, glyphs, at, to)
+        attached(bytes, mark, glyphs, to)
     } else {
         None
     }
@@ -196,11 +250,9 @@ fn mark_to_mark(
     requires { at < length glyphs.now }
     ensures { result ≡ mark_move gdef.now sight.now bytes.now glyphs.now at }
 {
-    if !is_covered(bytes, &glyphs[at]) {
-        return None;
-    }
+    let mark = place_in_set(bytes, &glyphs[at])?;
     match glyph_before_mark(gdef, sight, glyphs, at) {
-        Some(other) => mark_to(bytes, glyphs, at, other),
+        Some(other) => mark_to(bytes, mark, glyphs, at, other),
         None => None,
     }
 }
@@ -220,16 +272,18 @@ fn component_for(mark: &hb_glyph_info_t, ligature: &hb_glyph_info_t) -> u8
 #[tactic(auto, unfolding(crate::specs::Moves::ligature_with))]
 fn attached_to_ligature(
     bytes: &[u8],
+    mark: u32,
     glyphs: &[hb_glyph_info_t],
     at: usize,
     to: usize,
 ) -> Option<Move>
     requires mark { at < length glyphs.now }
     requires other { to < length glyphs.now }
+    requires covered { covered_by bytes.now 2 (number_at glyphs.now at) ≡ Some mark }
     ensures { result ≡ ligature_with bytes.now glyphs.now at to }
 {
     let component = u16::from(component_for(&glyphs[at], &glyphs[to]));
-    match ligature_points(bytes, number(&glyphs[at]), number(&glyphs[to]), component) {
+    match ligature_points(bytes, mark, number(&glyphs[to]), component) {
         Some((point, own)) => Some(attach(to, point, own)),
         None => None,
     }
@@ -246,11 +300,9 @@ fn mark_to_ligature(
     requires { at < length glyphs.now }
     ensures { result ≡ ligature_move gdef.now sight.now bytes.now glyphs.now at }
 {
-    if !is_covered(bytes, &glyphs[at]) {
-        return None;
-    }
+    let mark = place_in_set(bytes, &glyphs[at])?;
     match base_glyph(gdef, sight, true, &[], glyphs, at) {
-        Some(ligature) => attached_to_ligature(bytes, glyphs, at, ligature),
+        Some(ligature) => attached_to_ligature(bytes, mark, glyphs, at, ligature),
         None => None,
     }
 }

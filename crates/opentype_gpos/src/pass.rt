@@ -3,6 +3,7 @@ ghost use Rattle.std.specs.Prelude.{◌≡◌};
 ghost use Rattle.opentype_gpos.specs.Coming.{setting_of, sights_in};
 
 use opentype_layout::sight::{Application, Sight};
+use opentype_layout::tables::LayoutTable;
 use shapers_buffer::buffer::Direction;
 
 /// What a lookup is applied by.
@@ -11,7 +12,7 @@ pub struct Pass<'a> {
     /// The table GDEF.
     pub gdef: &'a [u8],
     /// The table GPOS.
-    pub gpos: &'a [u8],
+    pub gpos: &'a LayoutTable<'a>,
     /// The direction of the line.
     pub direction: Direction,
     /// How the plan has the lookup applied.
@@ -30,13 +31,17 @@ pub struct Sights {
 impl<'a> Pass<'a> {
     /// What a lookup's table sees.
     #[inline]
-    #[tactic(auto, unfolding(crate::specs::Coming::sights_in))]
+    #[tactic(auto, unfolding(crate::specs::Coming::sights_in, opentype_layout::specs::Sight::sight_of_input, opentype_layout::specs::Sight::sight_of_context))]
     pub fn sights(&self, lookup: &[u8]) -> Sights
         ensures { result ≡ sights_in (setting_of self.now) lookup.now }
     {
-        Sights {
-            input: Sight::of_input(self.gdef, lookup, &self.how, 0),
-            context: Sight::of_context(self.gdef, lookup, &self.how, 0),
-        }
+        let input = Sight::of_input(self.gdef, lookup, &self.how, 0);
+        let context = Sight {
+            mask: 0xFFFF_FFFF,
+            over_zwnj: self.how.of_gpos || self.how.auto_zwnj,
+            over_zwj: true,
+            ..input
+        };
+        Sights { input, context }
     }
 }

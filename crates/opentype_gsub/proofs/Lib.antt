@@ -2,6 +2,7 @@ pub mod Inserted
 pub mod Walks
 pub mod Backwards
 pub mod Marking
+mod LigatureKeys
 mod GsubRows
 mod FlagRows
 mod PresenceRows
@@ -16,4 +17,5 @@ pub mod LawKeeps
 pub mod LawGrows
 pub mod Machines
 pub mod Untouched
+mod Started
 pub mod Lookings

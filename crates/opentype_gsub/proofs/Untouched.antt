@@ -1,17 +1,20 @@
 -- A text stays as it is where a lookup can't begin.
-use Rattle.std.proofs.Common.{◌⊎◌, inl, inr, ◌≡◌, ◌∙◌, ℕ, zero, suc, ◌+◌, ◌-◌, ◌%◌, ◌==◌, ◌<◌, ◌≤◌, ◌||◌, ◌&&◌, not, min, max, Bool, true, false, nat_lt, bit_and, Option, None, Some, List, length, refl, sym, ap, subst, arith, if◌then◌else◌}
-use Rattle.std.specs.List.{prefix_len}
-use Rattle.std.specs.Option.{is_some, option_and_then, option_map}
+use Rattle.std.proofs.Common.{◌⊎◌, inl, inr, ◌≡◌, ◌∙◌, ℕ, zero, suc, ◌+◌, ◌-◌, ◌%◌, ◌==◌, ◌<◌, ◌≤◌, ◌||◌, ◌&&◌, not, min, max, Bool, true, false, nat_lt, bit_and, Option, None, Some, List, [], length, get_or, refl, sym, ap, subst, arith, if◌then◌else◌}
+use Rattle.std.specs.Option.{is_some, unwrap_or}
 use Rattle.std.proofs.lemmas.Bool.Decides.{nat_tests}
 use Rattle.std.proofs.lemmas.Grind.{common_steps}
-use Rattle.std.proofs.lemmas.List.Sums.{prefix_len-le-length, prefix_len_passes}
+use Rattle.std.proofs.lemmas.List.{get_or_default}
+use Rattle.std.specs.Prelude.{Err, Ok, OnOk, Result}
+use Rattle.shapers_buffer.specs.Buffer.{Buffer}
+use Rattle.shapers_buffer.specs.declared.buffer.glyph.GlyphPosition.{GlyphPosition}
+use Rattle.shapers_buffer.specs.declared.buffer.refusal.ShaperError.{ShaperError}
 use Rattle.shapers_buffer.specs.Glyph.{default_glyph}
 use Rattle.shapers_buffer.specs.Glyphs.{Glyph, Glyphs}
 use Rattle.opentype_face.specs.Bytes.{u16_in, part_in}
-use Rattle.opentype_face.specs.Firsts.{first_from, or_else}
+use Rattle.opentype_face.specs.Firsts.{first_from}
 use Rattle.opentype_face.specs.Glyphs.{coverage_in}
 use Rattle.opentype_face.specs.Lookups.{lookup_in, subtable_in, type_in}
-use Rattle.opentype_layout.specs.Rules.{by_glyphs, context_in, first_at}
+use Rattle.opentype_layout.specs.Rules.{first_at}
 use Rattle.opentype_layout.specs.Text.{glyph_at}
 use Rattle.opentype_layout.specs.declared.sight.Sight.{Sight}
 use Rattle.opentype_gsub.specs.Applied.{alternate_put, ligated_put, multiple_put, one_put, single_put, two_byte_number}
@@ -20,40 +23,20 @@ use Rattle.opentype_gsub.specs.Came.{came_in, nth_came}
 use Rattle.opentype_gsub.specs.Machine.{nested}
 use Rattle.opentype_gsub.specs.Looked.{all_looked, context_rules, spanned, lookup_looked, looked_by, nothing, rules_in, subtable_looked, tried, unjoined}
 use Rattle.opentype_gsub.specs.declared.looking.Stretch.{Stretch}
-use Rattle.opentype_gsub.specs.Presence.{applied_from, is_left, starting, starts_at, starts_with}
+use Rattle.opentype_layout.specs.Starts.{ArePassed, IsPassed, NoneStarts, starting, starts_at, starts_with}
+use Rattle.opentype_gsub.specs.Presence.{applied_from, is_left}
 use Rattle.opentype_gsub.specs.Reversed.{all_looked_back, nth_looked_back, tried_back, lookup_stepped_back, nth_reversed, reversed_at, reversed_in, walked_back, with_glyph}
 use Rattle.opentype_gsub.specs.Setting.{Setting, is_seen, sights_of}
-use Rattle.opentype_gsub.specs.Substituted.{applied, operations_in}
+use Rattle.opentype_gsub.specs.Substituted.{applied, operations_in, setting_for, substituted}
 use Rattle.opentype_gsub.specs.Walked.{WalkStep, lookup_stepped, lookup_walked}
+use Rattle.opentype_gsub.specs.declared.pass.LookupUse.{LookupUse}
 use Rattle.opentype_gsub.specs.declared.pass.Sights.{Sights}
+use Rattle.opentype_layout.proofs.NoneFits.{no_rule, none_if, none_mapped, none_of, none_then}
 use Rattle.opentype_gsub.proofs.LawGrows.{none_each}
 
-is_none : {X : Type 0} (o : Option X) → is_some o ≡ false → o ≡ None
-is_none None e = refl
-is_none (Some x) e = absurd (cc)
-
-none_if : {X : Type 0} (test : Bool) (o p : Option X) → (test ≡ true → o ≡ None) → (test ≡ false → p ≡ None) →
-    (if test then o else p) ≡ None
-none_if true o p one two = one refl
-none_if false o p one two = two refl
-
-none_mapped : {X Y : Type 0} (f : X → Y) (o : Option X) → o ≡ None → option_map f o ≡ None
-none_mapped f None e = refl
-none_mapped f (Some x) e = absurd (cc)
-
-none_then : {X Y : Type 0} (f : X → Option Y) (o : Option X) → o ≡ None → option_and_then f o ≡ None
-none_then f None e = refl
-none_then f (Some x) e = absurd (cc)
-
-none_of : {X : Type 0} (f : ℕ → Option X) (n i : ℕ) → ((d : ℕ) → d < n → f (i + d) ≡ None) → first_from n f i ≡ None
-unfolding first_from
-none_of f zero i h = refl
-none_of f (suc n) i h =
-    let e : i + 0 ≡ i = omega arith in
-    let here : f i ≡ None = subst (λ j. f j ≡ None) e (h 0 (omega arith)) in
-    ap (λ o. or_else o (first_from n f (i + 1))) here
-    ∙ none_of f n (i + 1) (λ d lt. (let k : i + suc d ≡ i + 1 + d = omega arith in
-    subst (λ j. f j ≡ None) k (h (suc d) (omega arith))))
+none_by : {X : Type 0} (o : Option X) → is_some o ≡ false → o ≡ None
+none_by None e = refl
+none_by (Some x) e = absurd (cc)
 
 -- ---- a subtable that doesn't begin with a glyph
 
@@ -61,16 +44,16 @@ same_else : (test : Bool) (n : ℕ) → (if test then n else n) ≡ n
 same_else true n = refl
 same_else false n = refl
 
-at_two : (kind : ℕ) (bytes : List ℕ) → (kind == 5) ≡ false → (kind == 6) ≡ false → starts_at kind bytes ≡ 2
+at_two : (kind : ℕ) (bytes : List ℕ) → (kind == 5) ≡ false → (kind == 6) ≡ false → starts_at false kind bytes ≡ 2
 unfolding starts_at
 at_two kind bytes five six = rw (five, six) (same_else (u16_in bytes 0 == 3) 2)
 
-at_start : (kind : ℕ) (bytes : List ℕ) → (u16_in bytes 0 == 3) ≡ false → starts_at kind bytes ≡ 2
+at_start : (kind : ℕ) (bytes : List ℕ) → (u16_in bytes 0 == 3) ≡ false → starts_at false kind bytes ≡ 2
 unfolding starts_at
 at_start kind bytes e = rw e refl
 
 at_first : (kind : ℕ) (bytes : List ℕ) → ((kind == 5) || (kind == 6)) ≡ true → (u16_in bytes 0 == 3) ≡ true →
-    starts_at kind bytes ≡ first_at (kind == 6) bytes
+    starts_at false kind bytes ≡ first_at (kind == 6) bytes
 unfolding starts_at
 at_first kind bytes context e = grind (arith, common_steps, nat_tests)
 
@@ -78,10 +61,10 @@ first_of : (kind : ℕ) (chained : Bool) (bytes : List ℕ) → (kind == 6) ≡ 
     first_at (kind == 6) bytes ≡ first_at chained bytes
 first_of kind chained bytes e = rw e refl
 
-covered_by : (kind : ℕ) (bytes : List ℕ) (glyph at : ℕ) → starts_with kind bytes glyph ≡ false →
-    starts_at kind bytes ≡ at → coverage_in (part_in bytes (u16_in bytes at)) glyph ≡ None
+covered_by : (kind : ℕ) (bytes : List ℕ) (glyph at : ℕ) → starts_with false kind bytes glyph ≡ false →
+    starts_at false kind bytes ≡ at → coverage_in (part_in bytes (u16_in bytes at)) glyph ≡ None
 covered_by kind bytes glyph at none e =
-    is_none _ (subst (λ n. is_some (coverage_in (part_in bytes (u16_in bytes n)) glyph) ≡ false) e none)
+    none_by _ (subst (λ n. is_some (coverage_in (part_in bytes (u16_in bytes n)) glyph) ≡ false) e none)
 
 no_set : (bytes : List ℕ) (glyph : ℕ) → covered_in bytes glyph ≡ None → set_for_glyph bytes glyph ≡ None
 no_set bytes glyph e = none_if (u16_in bytes 0 == 1) _ None (λ t. ap (set_at bytes) e) (λ t. refl)
@@ -96,21 +79,8 @@ no_change s sight kind bytes gs at e =
     (λ t. none_if (kind == 3) _ _ (λ t. none_mapped _ _ (ap (alternate_at _) set))
     (λ t. none_if (kind == 4) _ None (λ t. none_then _ _ set) (λ t. refl))))
 
-no_rule : (chained : Bool) (gdef : List ℕ) (input context : Sight) (bytes : List ℕ) (gs : Glyphs) (at : ℕ) →
-    let glyph = (glyph_at gs at).glyph_id % 65536 in
-    ((u16_in bytes 0 == 3) ≡ true → coverage_in (part_in bytes (u16_in bytes (first_at chained bytes))) glyph ≡ None) →
-    ((u16_in bytes 0 == 3) ≡ false → coverage_in (part_in bytes (u16_in bytes 2)) glyph ≡ None) →
-    context_in chained gdef input context bytes gs at ≡ None
-unfolding context_in by_glyphs
-no_rule chained gdef input context bytes gs at third other =
-    let format = u16_in bytes 0 in
-    none_if (format == 1) _ _
-    (λ t. (let e = other (grind (arith, nat_tests)) in rw e refl))
-    (λ t. none_if (format == 2) _ _ (λ t. (let e = other (grind (arith, nat_tests)) in rw e refl))
-    (λ t. none_if (format == 3) _ None (λ t. (let e = third t in rw e refl)) (λ t. refl)))
-
-nth_none : (s : Setting) (sights : Sights) (lookup : List ℕ) (at : ℕ) (gs : Glyphs) (i : ℕ) →
-    starts_with (type_in 7 lookup i) (subtable_in 7 lookup i) (two_byte_number gs at) ≡ false →
+pub nth_none : (s : Setting) (sights : Sights) (lookup : List ℕ) (at : ℕ) (gs : Glyphs) (i : ℕ) →
+    starts_with false (type_in 7 lookup i) (subtable_in 7 lookup i) (two_byte_number gs at) ≡ false →
     nth_came s sights lookup at gs i ≡ None
 unfolding nth_came
 nth_none s sights lookup at gs i none =
@@ -125,7 +95,7 @@ nth_none s sights lookup at gs i none =
     (covered_by kind bytes glyph 2 none (at_two kind bytes (grind (arith, common_steps, t)) (grind (arith, common_steps, t))))))
 
 nth_reversed_none : (gdef : List ℕ) (sights : Sights) (lookup : List ℕ) (gs : Glyphs) (at i : ℕ) →
-    starts_with (type_in 7 lookup i) (subtable_in 7 lookup i) (two_byte_number gs at) ≡ false →
+    starts_with false (type_in 7 lookup i) (subtable_in 7 lookup i) (two_byte_number gs at) ≡ false →
     nth_reversed gdef sights lookup gs at i ≡ None
 unfolding nth_reversed reversed_in
 nth_reversed_none gdef sights lookup gs at i none =
@@ -144,18 +114,18 @@ not_started : (test : Bool) (i : ℕ) → is_some (if test then Some i else None
 not_started true i e = absurd (cc)
 not_started false i e = refl
 
-starts_none : (lookup : List ℕ) (glyph i : ℕ) → is_some (starting lookup glyph i) ≡ false →
-    starts_with (type_in 7 lookup i) (subtable_in 7 lookup i) glyph ≡ false
+starts_none : (lookup : List ℕ) (glyph i : ℕ) → is_some (starting false lookup glyph i) ≡ false →
+    starts_with false (type_in 7 lookup i) (subtable_in 7 lookup i) glyph ≡ false
 unfolding starting
 starts_none lookup glyph i e = not_started _ i e
 
-each_none : (lookup : List ℕ) (glyph : ℕ) → is_some (first_from (u16_in lookup 4) (starting lookup glyph) 0) ≡ false →
-    (d : ℕ) → d < u16_in lookup 4 → starts_with (type_in 7 lookup (0 + d)) (subtable_in 7 lookup (0 + d)) glyph ≡ false
+each_none : (lookup : List ℕ) (glyph : ℕ) → is_some (first_from (u16_in lookup 4) (starting false lookup glyph) 0) ≡ false →
+    (d : ℕ) → d < u16_in lookup 4 → starts_with false (type_in 7 lookup (0 + d)) (subtable_in 7 lookup (0 + d)) glyph ≡ false
 each_none lookup glyph none d lt =
-    starts_none lookup glyph (0 + d) (none_each (starting lookup glyph) (u16_in lookup 4) 0 none d lt)
+    starts_none lookup glyph (0 + d) (none_each (starting false lookup glyph) (u16_in lookup 4) 0 none d lt)
 
 came_none : (s : Setting) (lookup : List ℕ) (gs : Glyphs) (at : ℕ) →
-    is_some (first_from (u16_in lookup 4) (starting lookup (two_byte_number gs at)) 0) ≡ false →
+    is_some (first_from (u16_in lookup 4) (starting false lookup (two_byte_number gs at)) 0) ≡ false →
     came_in s lookup gs at ≡ None
 unfolding came_in
 came_none s lookup gs at none = let sights = sights_of s.gdef s.lookup lookup (glyph_at gs at) in
@@ -178,7 +148,7 @@ no_context chained bytes glyph third other =
     (λ t. none_if (format == 2) _ _ (λ t. (let e = other (grind (arith, nat_tests)) in rw e refl))
     (λ t. none_if (format == 3) _ None (λ t. (let e = third t in rw e refl)) (λ t. refl)))
 
-no_rules : (kind : ℕ) (bytes : List ℕ) (glyph : ℕ) → starts_with kind bytes glyph ≡ false →
+no_rules : (kind : ℕ) (bytes : List ℕ) (glyph : ℕ) → starts_with false kind bytes glyph ≡ false →
     rules_in kind bytes glyph ≡ None
 unfolding rules_in
 no_rules kind bytes glyph none =
@@ -195,7 +165,7 @@ no_rules kind bytes glyph none =
     (λ t. refl)))
 
 unlooked : (s : Setting) (sights : Sights) (lookup : List ℕ) (gs : Glyphs) (at i : ℕ) →
-    starts_with (type_in 7 lookup i) (subtable_in 7 lookup i) (two_byte_number gs at) ≡ false →
+    starts_with false (type_in 7 lookup i) (subtable_in 7 lookup i) (two_byte_number gs at) ≡ false →
     subtable_looked s sights lookup gs at i ≡ nothing at
 unfolding subtable_looked
 unlooked s sights lookup gs at i none =
@@ -233,7 +203,7 @@ all_none fits look at (suc n) i h =
     subst (λ j. look j ≡ nothing at) k (h (suc d) (omega arith)))))
 
 looked_none : (s : Setting) (sights : Sights) (lookup : List ℕ) (gs : Glyphs) (at : ℕ) →
-    is_some (first_from (u16_in lookup 4) (starting lookup (two_byte_number gs at)) 0) ≡ false →
+    is_some (first_from (u16_in lookup 4) (starting false lookup (two_byte_number gs at)) 0) ≡ false →
     lookup_looked s sights lookup gs at ≡ nothing at
 unfolding lookup_looked
 looked_none s sights lookup gs at none =
@@ -249,7 +219,7 @@ kept_if true x gs e = e
 kept_if false x gs e = refl
 
 tried_none : (s : Setting) (lookup : List ℕ) (gs : Glyphs) (at : ℕ) →
-    is_some (first_from (u16_in lookup 4) (starting lookup (two_byte_number gs at)) 0) ≡ false →
+    is_some (first_from (u16_in lookup 4) (starting false lookup (two_byte_number gs at)) 0) ≡ false →
     tried s lookup gs at ≡ gs
 unfolding tried
 tried_none s lookup gs at none = let sights = sights_of s.gdef s.lookup lookup (glyph_at gs at) in
@@ -277,9 +247,63 @@ left_by true none e = inl refl
 left_by false true e = absurd (cc)
 left_by false false e = inr refl
 
+masked : (zero_mask none : Bool) → zero_mask ≡ true → (zero_mask || none) ≡ true
+masked true none e = refl
+masked false none e = absurd (cc)
+
+begun_nowhere : (zero_mask : Bool) (o : Option ℕ) → o ≡ None → (zero_mask || not (is_some o)) ≡ true
+begun_nowhere true o e = refl
+begun_nowhere false None e = refl
+begun_nowhere false (Some x) e = absurd (cc)
+
+-- a glyph that has no bit of the mask, and one that no subtable begins with
+pub left_masked : (use_of : LookupUse) (lookup : List ℕ) (g : Glyph) → (bit_and g.mask use_of.mask == 0) ≡ true →
+    is_left use_of lookup g ≡ true
+unfolding is_left
+left_masked use_of lookup g e = masked _ _ e
+
+pub left_none : (use_of : LookupUse) (lookup : List ℕ) (g : Glyph) →
+    NoneStarts false lookup (g.glyph_id % 65536) 0 (u16_in lookup 4) → is_left use_of lookup g ≡ true
+unfolding is_left
+left_none use_of lookup g n = begun_nowhere _ _
+    (none_of (starting false lookup (g.glyph_id % 65536)) (u16_in lookup 4) 0 (λ d lt. n.none (0 + d) (omega arith) (omega arith)))
+
+-- the same of what the code reads
+pub left_unmasked : (use_of : LookupUse) (lookup : List ℕ) (g : Glyph) → bit_and g.mask use_of.mask ≡ 0 →
+    is_left use_of lookup g ≡ true
+left_unmasked use_of lookup g e = left_masked use_of lookup g (rw e refl)
+
+pub left_unstarted : (use_of : LookupUse) (lookup : List ℕ) (g : Glyph) (o : Option ℕ) (number : ℕ) (none : Bool) →
+    NoneStarts false lookup number 0 (unwrap_or o (u16_in lookup 4)) → number ≡ g.glyph_id % 65536 →
+    is_some o ≡ not none → none ≡ true → is_left use_of lookup g ≡ true
+left_unstarted use_of lookup g None number none n is e all = left_none use_of lookup g (rw is at n)
+left_unstarted use_of lookup g (Some x) number none n is e all = absurd (let no = rw all at e in cc)
+
+left_passed : (use_of : LookupUse) (lookup : List ℕ) (g : Glyph) → IsPassed false lookup use_of.mask g →
+    is_left use_of lookup g ≡ true
+left_passed use_of lookup g p = elim p [
+  | inl unmasked ↦ left_unmasked use_of lookup g unmasked
+  | inr none ↦ left_none use_of lookup g none
+]
+
+pub all_passed : (use_of : LookupUse) (lookup : List ℕ) (gs : Glyphs) (from end : ℕ) →
+    ArePassed false lookup use_of.mask gs from end → (j : ℕ) → from ≤ j → j < end → is_left use_of lookup (glyph_at gs j) ≡ true
+all_passed use_of lookup gs from end p j le lt = left_passed use_of lookup (glyph_at gs j) (p.each j le lt)
+
+pub left_read : (use_of : LookupUse) (lookup : List ℕ) (gs : Glyphs) (at : ℕ) (g : Glyph) → is_left use_of lookup g ≡ true →
+    g ≡ get_or gs at g → at < length gs → is_left use_of lookup (glyph_at gs at) ≡ true
+left_read use_of lookup gs at g e is lt =
+    subst (λ x. is_left use_of lookup x ≡ true) (is ∙ get_or_default gs at g default_glyph lt) e
+
+-- a subtable comes to nothing where it doesn't begin
+pub nth_unstarted : (s : Setting) (sights : Sights) (lookup : List ℕ) (at : ℕ) (gs : Glyphs) (i : ℕ) →
+    starting false lookup (two_byte_number gs at) i ≡ None → nth_came s sights lookup at gs i ≡ None
+nth_unstarted s sights lookup at gs i e =
+    nth_none s sights lookup at gs i (starts_none lookup (two_byte_number gs at) i (ap is_some e))
+
 why_left : (s : Setting) (lookup : List ℕ) (g : Glyph) → is_left s.lookup lookup g ≡ true →
     ((bit_and g.mask s.lookup.mask == 0) ≡ true)
-    ⊎ (is_some (first_from (u16_in lookup 4) (starting lookup (g.glyph_id % 65536)) 0) ≡ false)
+    ⊎ (is_some (first_from (u16_in lookup 4) (starting false lookup (g.glyph_id % 65536)) 0) ≡ false)
 unfolding is_left
 why_left s lookup g e = left_by _ _ e
 
@@ -289,7 +313,7 @@ passed_over : (s : Setting) (lookup : List ℕ) (gs : Glyphs) (at left : ℕ) �
 unfolding lookup_stepped
 passed_over s lookup gs at left e = rw e refl
 
-step_left : (s : Setting) (lookup : List ℕ) (gs : Glyphs) (at left : ℕ) → is_left s.lookup lookup (glyph_at gs at) ≡ true →
+pub step_left : (s : Setting) (lookup : List ℕ) (gs : Glyphs) (at left : ℕ) → is_left s.lookup lookup (glyph_at gs at) ≡ true →
     lookup_stepped s lookup gs at left ≡ record { text = gs; next = at + 1; left = left }
 step_left s lookup gs at left e = elim (why_left s lookup (glyph_at gs at) e) [
   | inl zero_mask ↦ passed_over s lookup gs at left (unseen s lookup (glyph_at gs at) zero_mask)
@@ -298,18 +322,18 @@ step_left s lookup gs at left e = elim (why_left s lookup (glyph_at gs at) e) [
 
 -- ---- along a text
 
-left_at : (s : Setting) (lookup : List ℕ) (gs : Glyphs) (at : ℕ) → at < prefix_len (is_left s.lookup lookup) gs →
-    is_left s.lookup lookup (glyph_at gs at) ≡ true
-left_at s lookup gs at lt = prefix_len_passes (is_left s.lookup lookup) gs at default_glyph lt
+-- a lookup begins at no place before one
+abbrev pub AreLeft : LookupUse → List ℕ → Glyphs → ℕ → Type 0
+AreLeft use_of lookup gs first = (j : ℕ) → j < first → is_left use_of lookup (glyph_at gs j) ≡ true
 
-step_on : (f : Glyphs → ℕ → ℕ → WalkStep) (n : ℕ) (gs : Glyphs) (at left : ℕ) → at < length gs →
+pub step_on : (f : Glyphs → ℕ → ℕ → WalkStep) (n : ℕ) (gs : Glyphs) (at left : ℕ) → at < length gs →
     f gs at left ≡ record { text = gs; next = at + 1; left = left } →
     lookup_walked (suc n) f gs at left ≡ lookup_walked n f gs (at + 1) left
 unfolding lookup_walked
 step_on f n gs at left lt e =
     let t : nat_lt at (length gs) ≡ true = grind (arith, nat_tests) in rw (t, e) refl
 
-walk_on : (f : Glyphs → ℕ → ℕ → WalkStep) (p n : ℕ) (gs : Glyphs) (at left : ℕ) → at + p ≤ length gs →
+pub walk_on : (f : Glyphs → ℕ → ℕ → WalkStep) (p n : ℕ) (gs : Glyphs) (at left : ℕ) → at + p ≤ length gs →
     ((j : ℕ) → at ≤ j → j < at + p → f gs j left ≡ record { text = gs; next = j + 1; left = left }) →
     lookup_walked (p + n) f gs at left ≡ lookup_walked n f gs (at + p) left
 walk_on f zero n gs at left within h =
@@ -322,24 +346,23 @@ walk_on f (suc p) n gs at left within h =
     ∙ walk_on f p n gs (at + 1) left (omega arith) (λ j le lt. h j (omega arith) (omega arith))
     ∙ ap (λ k. lookup_walked n f gs k left) e
 
-pub applied_is : (s : Setting) (gs : Glyphs) (first : ℕ) →
-    first ≡ prefix_len (is_left s.lookup (lookup_in s.gsub s.lookup.index)) gs →
+pub applied_is : (s : Setting) (gs : Glyphs) (first : ℕ) → AreLeft s.lookup (lookup_in s.gsub s.lookup.index) gs first →
+    first ≤ length gs →
     applied_from s (lookup_in s.gsub s.lookup.index) first gs ≡ applied s gs
 unfolding applied applied_from
-applied_is s gs first is =
+applied_is s gs first left within =
     let lookup = lookup_in s.gsub s.lookup.index in
-    let within : first ≤ length gs = omega (arith, prefix_len-le-length (is_left s.lookup lookup) gs) in
     let e : first + (length gs - first) ≡ length gs = omega arith in
     let z : 0 + first ≡ first = omega arith in
     let walks = walk_on (lookup_stepped s lookup) first (length gs - first) gs 0 (operations_in (length gs)) (omega arith)
-    (λ j le lt. step_left s lookup gs j (operations_in (length gs)) (left_at s lookup gs j (omega arith))) in
+    (λ j le lt. step_left s lookup gs j (operations_in (length gs)) (left j (omega arith))) in
     ap (λ x. if type_in 7 lookup 0 == 8 then walked_back (length gs) (lookup_stepped_back s lookup) gs else x)
     (sym (rw (e, z) at walks))
 
 -- ---- nothing to do
 
 kept_back : (s : Setting) (lookup : List ℕ) (gs : Glyphs) (at : ℕ) →
-    is_some (first_from (u16_in lookup 4) (starting lookup (two_byte_number gs at)) 0) ≡ false →
+    is_some (first_from (u16_in lookup 4) (starting false lookup (two_byte_number gs at)) 0) ≡ false →
     with_glyph s.gdef gs at (first_from (u16_in lookup 4)
     (nth_reversed s.gdef (sights_of s.gdef s.lookup lookup (glyph_at gs at)) lookup gs at) 0) ≡ gs
 kept_back s lookup gs at none = let sights = sights_of s.gdef s.lookup lookup (glyph_at gs at) in
@@ -347,7 +370,7 @@ kept_back s lookup gs at none = let sights = sights_of s.gdef s.lookup lookup (g
     (λ d lt. nth_reversed_none s.gdef sights lookup gs at (0 + d) (each_none lookup (two_byte_number gs at) none d lt)))
 
 unlooked_back : (gdef : List ℕ) (sights : Sights) (lookup : List ℕ) (gs : Glyphs) (at i : ℕ) →
-    starts_with (type_in 7 lookup i) (subtable_in 7 lookup i) (two_byte_number gs at) ≡ false →
+    starts_with false (type_in 7 lookup i) (subtable_in 7 lookup i) (two_byte_number gs at) ≡ false →
     nth_looked_back gdef sights lookup gs at i ≡ nothing at
 unfolding nth_looked_back
 unlooked_back gdef sights lookup gs at i none =
@@ -358,7 +381,7 @@ unlooked_back gdef sights lookup gs at i none =
     (at_start kind bytes (three_of (u16_in bytes 0) u)) in rw e refl)))
 
 back_untried : (s : Setting) (lookup : List ℕ) (gs : Glyphs) (at : ℕ) →
-    is_some (first_from (u16_in lookup 4) (starting lookup (two_byte_number gs at)) 0) ≡ false →
+    is_some (first_from (u16_in lookup 4) (starting false lookup (two_byte_number gs at)) 0) ≡ false →
     tried_back s lookup gs at ≡ gs
 unfolding tried_back all_looked_back
 back_untried s lookup gs at none = let sights = sights_of s.gdef s.lookup lookup (glyph_at gs at) in
@@ -370,7 +393,7 @@ same_if : (test : Bool) (x gs : Glyphs) → (test ≡ true → x ≡ gs) → (if
 same_if true x gs e = e refl
 same_if false x gs e = refl
 
-back_left : (s : Setting) (lookup : List ℕ) (gs : Glyphs) (at : ℕ) → is_left s.lookup lookup (glyph_at gs at) ≡ true →
+pub back_left : (s : Setting) (lookup : List ℕ) (gs : Glyphs) (at : ℕ) → is_left s.lookup lookup (glyph_at gs at) ≡ true →
     lookup_stepped_back s lookup gs at ≡ gs
 unfolding lookup_stepped_back
 back_left s lookup gs at e = same_if (is_seen s.gdef s.lookup lookup (glyph_at gs at)) _ gs
@@ -393,17 +416,46 @@ both_same : (test : Bool) (x y gs : Glyphs) → x ≡ gs → y ≡ gs → (if te
 both_same true x y gs one two = one
 both_same false x y gs one two = two
 
-from_end : (s : Setting) (gs : Glyphs) (first : ℕ) →
-    first ≡ prefix_len (is_left s.lookup (lookup_in s.gsub s.lookup.index)) gs → length gs ≤ first →
+from_end : (s : Setting) (gs : Glyphs) (first : ℕ) → AreLeft s.lookup (lookup_in s.gsub s.lookup.index) gs first →
+    length gs ≤ first →
     applied_from s (lookup_in s.gsub s.lookup.index) first gs ≡ gs
 unfolding applied_from
-from_end s gs first is all =
+from_end s gs first left all =
     let lookup = lookup_in s.gsub s.lookup.index in
     let e : length gs - first ≡ 0 = omega arith in
     both_same (type_in 7 lookup 0 == 8) _ _ gs
-    (walk_back_left (lookup_stepped_back s lookup) (length gs) gs (λ j lt. back_left s lookup gs j (left_at s lookup gs j (omega arith))))
+    (walk_back_left (lookup_stepped_back s lookup) (length gs) gs (λ j lt. back_left s lookup gs j (left j (omega arith))))
     (rw e (no_steps (lookup_stepped s lookup) gs first (operations_in (length gs))))
 
-pub left_alone : (s : Setting) (gs : Glyphs) (first : ℕ) →
-    first ≡ prefix_len (is_left s.lookup (lookup_in s.gsub s.lookup.index)) gs → length gs ≤ first → applied s gs ≡ gs
-left_alone s gs first is all = sym (applied_is s gs first is) ∙ from_end s gs first is all
+pub left_alone : (s : Setting) (gs : Glyphs) (first : ℕ) → AreLeft s.lookup (lookup_in s.gsub s.lookup.index) gs first →
+    first ≤ length gs → length gs ≤ first → applied s gs ≡ gs
+left_alone s gs first left within all = sym (applied_is s gs first left within) ∙ from_end s gs first left all
+
+-- ---- in a buffer
+
+pub buffer_left : (gdef gsub : List ℕ) (use_of : LookupUse) (b : Buffer) (lookup : List ℕ) (first : ℕ) →
+    lookup ≡ lookup_in gsub use_of.index → AreLeft use_of lookup b.glyphs first → first ≤ length b.glyphs →
+    length b.glyphs ≤ first → b ≡ substituted gdef gsub use_of b
+unfolding substituted
+buffer_left gdef gsub use_of b lookup first is left within all =
+    let put : Glyphs → Buffer = λ xs. (let r : Buffer = record b { glyphs = xs } in r) in
+    ap put (sym (left_alone (setting_for gdef gsub use_of b) b.glyphs first (rw is at left) within all))
+
+pub text_applied : (gdef gsub : List ℕ) (use_of : LookupUse) (b : Buffer) (lookup : List ℕ) (text : Glyphs) (first : ℕ) →
+    lookup ≡ lookup_in gsub use_of.index → AreLeft use_of lookup b.glyphs first → first ≤ length b.glyphs →
+    text ≡ applied_from (setting_for gdef gsub use_of b) lookup first b.glyphs →
+    text ≡ applied (setting_for gdef gsub use_of b) b.glyphs
+text_applied gdef gsub use_of b lookup text first is left within from =
+    rw is at from ∙ applied_is (setting_for gdef gsub use_of b) b.glyphs first (rw is at left) within
+
+pub buffer_applied : (gdef gsub : List ℕ) (use_of : LookupUse) (b : Buffer) (text : Glyphs) →
+    text ≡ applied (setting_for gdef gsub use_of b) b.glyphs → b.positions ≡ [] →
+    (let r : Buffer = record b { glyphs = text; positions = [] } in r) ≡ substituted gdef gsub use_of b
+unfolding substituted
+buffer_applied gdef gsub use_of b text is none =
+    let put : Glyphs → List GlyphPosition → Buffer = λ xs ps. (let r : Buffer = record b { glyphs = xs; positions = ps } in r) in
+    ap (λ xs. put xs []) is ∙ ap (put (applied (setting_for gdef gsub use_of b) b.glyphs)) (sym none)
+
+pub ok_then : {T P Q : Type 0} (r : Result T ShaperError) → (P → Q) → OnOk r P → OnOk r Q
+ok_then (Ok _) f p = f p
+ok_then (Err _) f p = p

@@ -1,11 +1,16 @@
 -- A walk along a text, as far as it has come.
-use Rattle.std.proofs.Common.{ℕ, zero, suc, ◌+◌, ◌-◌, ◌<◌, ◌≤◌, ◌≡◌, length, refl, sym, ap, ◌∙◌, arith}
+use Rattle.std.proofs.Common.{ℕ, zero, suc, ◌+◌, ◌-◌, ◌<◌, ◌≤◌, ◌≡◌, ◌⊎◌, inl, inr, true, List, length, refl, sym, ap, ◌∙◌, arith}
 use Rattle.std.proofs.lemmas.Grind.{common_steps}
 use Rattle.shapers_buffer.specs.Glyphs.{Glyphs}
-use Rattle.opentype_gsub.specs.Walked.{WalkStep, lookup_walked}
+use Rattle.opentype_layout.specs.Text.{glyph_at}
+use Rattle.opentype_gsub.specs.Presence.{is_left}
+use Rattle.opentype_gsub.specs.Setting.{Setting}
+use Rattle.opentype_gsub.specs.Walked.{WalkStep, lookup_stepped, lookup_walked}
+use Rattle.opentype_gsub.proofs.Untouched.{step_left, step_on, walk_on}
 
-pub record IsWalked (f : Glyphs → ℕ → ℕ → WalkStep) (steps : ℕ) (old : Glyphs) (from first i : ℕ) (gs : Glyphs) (at left : ℕ) : Type 0 where
-  pub rest : lookup_walked steps f old from first ≡ lookup_walked (steps - i) f gs at left
+-- so many steps are left
+pub record IsWalked (f : Glyphs → ℕ → ℕ → WalkStep) (steps : ℕ) (old : Glyphs) (from first n : ℕ) (gs : Glyphs) (at left : ℕ) : Type 0 where
+  pub rest : lookup_walked steps f old from first ≡ lookup_walked n f gs at left
 
 step : (f : Glyphs → ℕ → ℕ → WalkStep) (n : ℕ) (gs : Glyphs) (at left : ℕ) → at < length gs →
     lookup_walked (suc n) f gs at left ≡ lookup_walked n f (f gs at left).text (f gs at left).next (f gs at left).left
@@ -21,22 +26,54 @@ none : (f : Glyphs → ℕ → ℕ → WalkStep) (gs : Glyphs) (at left : ℕ) �
 unfolding lookup_walked
 none f gs at left = refl
 
-pub walked_start : (f : Glyphs → ℕ → ℕ → WalkStep) (steps : ℕ) (old : Glyphs) (from first : ℕ) → IsWalked f steps old from first 0 old from first
-walked_start f steps old from first = let n : steps - 0 ≡ steps = omega arith in record { rest = rw n refl }
+-- nothing is done at the places from one on, and before another
+abbrev pub IsStill : (Glyphs → ℕ → ℕ → WalkStep) → Glyphs → ℕ → ℕ → ℕ → Type 0
+IsStill f gs left at place =
+    (j : ℕ) → at ≤ j → j < place → f gs j left ≡ record { text = gs; next = j + 1; left = left }
 
-pub walked_next : (f : Glyphs → ℕ → ℕ → WalkStep) (steps : ℕ) (old : Glyphs) (from first i : ℕ) (gs : Glyphs) (at left : ℕ)
-    (new : Glyphs) (next less : ℕ) → IsWalked f steps old from first i gs at left → i < steps → at < length gs →
-    f gs at left ≡ record { text = new; next = next; left = less } → IsWalked f steps old from first (i + 1) new next less
-walked_next f steps old from first i gs at left new next less w lt inside is =
-    let n : steps - i ≡ suc (steps - (i + 1)) = omega arith in
-    let h : WalkStep → Glyphs = λ c. lookup_walked (steps - (i + 1)) f c.text c.next c.left in
-    record { rest = rw n at w.rest ∙ step f (steps - (i + 1)) gs at left inside ∙ ap h is }
+in_or_out : (at len : ℕ) → (at < len) ⊎ (len ≤ at)
+in_or_out at len = grind arith
 
-pub walked_out : (f : Glyphs → ℕ → ℕ → WalkStep) (steps : ℕ) (old : Glyphs) (from first i : ℕ) (gs : Glyphs) (at left : ℕ) →
-    IsWalked f steps old from first i gs at left → length gs ≤ at → gs ≡ lookup_walked steps f old from first
-walked_out f steps old from first i gs at left w le = sym (w.rest ∙ out f (steps - i) gs at left le)
+still : (f : Glyphs → ℕ → ℕ → WalkStep) (n : ℕ) (gs : Glyphs) (at left place : ℕ) → IsStill f gs left at place →
+    (length gs ≤ place) ⊎ (at + n ≤ place) → lookup_walked n f gs at left ≡ gs
+still f zero gs at left place h far = none f gs at left
+still f (suc n) gs at left place h far = elim (in_or_out at (length gs)) [
+  | inr le ↦ out f (suc n) gs at left le
+  | inl lt ↦ step_on f n gs at left lt (h at (omega arith) (elim far [ inl all ↦ omega arith | inr few ↦ omega arith ]))
+      ∙ still f n gs (at + 1) left place (λ j a b. h j (omega arith) b)
+      (elim far [ inl all ↦ inl all | inr few ↦ inr (omega arith) ])
+]
 
-pub walked_all : (f : Glyphs → ℕ → ℕ → WalkStep) (steps : ℕ) (old : Glyphs) (from first i : ℕ) (gs : Glyphs) (at left : ℕ) →
-    IsWalked f steps old from first i gs at left → steps ≤ i → gs ≡ lookup_walked steps f old from first
-walked_all f steps old from first i gs at left w le =
-    let n : steps - i ≡ 0 = omega arith in sym (rw n at w.rest ∙ none f gs at left)
+pub walked_start : (f : Glyphs → ℕ → ℕ → WalkStep) (steps : ℕ) (old : Glyphs) (from first : ℕ) →
+    IsWalked f steps old from first steps old from first
+walked_start f steps old from first = record { rest = refl }
+
+pub walked_next : (f : Glyphs → ℕ → ℕ → WalkStep) (steps : ℕ) (old : Glyphs) (from first n : ℕ) (gs : Glyphs) (at left place : ℕ)
+    (new : Glyphs) (next less : ℕ) → IsWalked f steps old from first n gs at left → IsStill f gs left at place →
+    at ≤ place → place < length gs → place - at < n →
+    f gs place left ≡ record { text = new; next = next; left = less } →
+    IsWalked f steps old from first (n - (place - at + 1)) new next less
+walked_next f steps old from first n gs at left place new next less w h le inside lt is =
+    let m : n ≡ (place - at) + suc (n - (place - at + 1)) = omega arith in
+    let e : at + (place - at) ≡ place = omega arith in
+    let g : WalkStep → Glyphs = λ c. lookup_walked (n - (place - at + 1)) f c.text c.next c.left in
+    record {
+      rest = w.rest ∙ ap (λ k. lookup_walked k f gs at left) m
+          ∙ walk_on f (place - at) (suc (n - (place - at + 1))) gs at left (omega arith) (λ j a b. h j a (omega arith))
+          ∙ ap (λ k. lookup_walked (suc (n - (place - at + 1))) f gs k left) e
+          ∙ step f (n - (place - at + 1)) gs place left inside ∙ ap g is;
+    }
+
+pub walked_out : (f : Glyphs → ℕ → ℕ → WalkStep) (steps : ℕ) (old : Glyphs) (from first n : ℕ) (gs : Glyphs) (at left place : ℕ) →
+    IsWalked f steps old from first n gs at left → IsStill f gs left at place → (length gs ≤ place) ⊎ (at + n ≤ place) →
+    gs ≡ lookup_walked steps f old from first
+walked_out f steps old from first n gs at left place w h far = sym (w.rest ∙ still f n gs at left place h far)
+
+pub walked_all : (f : Glyphs → ℕ → ℕ → WalkStep) (steps : ℕ) (old : Glyphs) (from first n : ℕ) (gs : Glyphs) (at left : ℕ) →
+    IsWalked f steps old from first n gs at left → n ≡ 0 → gs ≡ lookup_walked steps f old from first
+walked_all f steps old from first n gs at left w e = sym (w.rest ∙ ap (λ k. lookup_walked k f gs at left) e ∙ none f gs at left)
+
+pub still_left : (s : Setting) (lookup : List ℕ) (gs : Glyphs) (left at place : ℕ) →
+    ((j : ℕ) → at ≤ j → j < place → is_left s.lookup lookup (glyph_at gs j) ≡ true) →
+    IsStill (lookup_stepped s lookup) gs left at place
+still_left s lookup gs left at place h = λ j a b. step_left s lookup gs j left (h j a b)

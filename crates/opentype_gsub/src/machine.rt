@@ -10,14 +10,15 @@ ghost use Rattle.opentype_gsub.specs.Setting.{setting_of, sights_of};
 ghost use Rattle.opentype_gsub.specs.Looked.{tried};
 ghost use Rattle.opentype_layout.specs.Text.{glyph_at};
 
-use crate::apply::apply_one;
+use crate::apply::{apply_one, number};
 use crate::flagging::flag_stretch;
 use crate::pass::{Pass, Sights};
 use crate::settling::Rule;
 use crate::trying::flag_tried;
 use opentype_face::bytes::u16_at;
-use opentype_face::lookup::{lookup, subtable, subtable_count, subtable_type};
+use opentype_face::lookup::{subtable, subtable_count, subtable_type};
 use opentype_layout::rules::{Matched, find_rule};
+use opentype_layout::starts::LookupTable;
 use shapers_buffer::buffer::{ShaperError, hb_glyph_info_t};
 
 /// How deep lookups may apply lookups.
@@ -85,7 +86,7 @@ fn come_by<'a>(
 fn come_among<'a>(
     pass: &Pass<'_>,
     sights: &Sights,
-    lookup: &'a [u8],
+    lookup: &LookupTable<'a>,
     text: &mut Vec<hb_glyph_info_t>,
     at: usize,
 ) -> Result<Outcome<'a>, ShaperError>
@@ -94,9 +95,14 @@ fn come_among<'a>(
         (nth_came (setting_of pass.now) sights.now lookup.now at text.old.items) 0)
         text.old.items text.new.items outcome) }
 {
-    for i in 0..subtable_count(lookup) {
-        match come_by(pass, sights, lookup, i, text, at) {
-            Ok(Outcome::Nothing) => {}
+    let bytes = lookup.bytes();
+    let (count, mut from) = (subtable_count(bytes), 0);
+    while from < count {
+        let Some(i) = lookup.next_start(false, number(text, at), from) else {
+            return Ok(Outcome::Nothing);
+        };
+        match come_by(pass, sights, bytes, i, text, at) {
+            Ok(Outcome::Nothing) => from = i + 1,
             Ok(Outcome::Done(next)) => return Ok(Outcome::Done(next)),
             Ok(Outcome::Fits(rule)) => return Ok(Outcome::Fits(rule)),
             Err(e) => return Err(e),
@@ -117,7 +123,7 @@ fn seen_from(pass: &Pass<'_>, lookup: &[u8], glyphs: &[hb_glyph_info_t], at: usi
 // What a lookup comes to at a place.
 fn come_to<'a>(
     pass: &Pass<'_>,
-    lookup: &'a [u8],
+    lookup: &LookupTable<'a>,
     text: &mut Vec<hb_glyph_info_t>,
     at: usize,
 ) -> Result<Outcome<'a>, ShaperError>
@@ -127,21 +133,21 @@ fn come_to<'a>(
     if at >= text.len() {
         return Ok(Outcome::Nothing);
     }
-    let seen = seen_from(pass, lookup, text, at);
+    let seen = seen_from(pass, lookup.bytes(), text, at);
     come_among(pass, &seen, lookup, text, at)
 }
 
 // The same behind the flags of what is tried in vain.
 fn try_at<'a>(
     pass: &Pass<'_>,
-    lookup: &'a [u8],
+    lookup: &LookupTable<'a>,
     text: &mut Vec<hb_glyph_info_t>,
     at: usize,
 ) -> Result<Outcome<'a>, ShaperError>
     ensures { IfOk result (λ outcome. let gs = tried (setting_of pass.now) lookup.now text.old.items at in
         IsCome (came_in (setting_of pass.now) lookup.now gs at) gs text.new.items outcome) }
 {
-    flag_tried(pass, lookup, text, at);
+    flag_tried(pass, lookup.bytes(), text, at);
     come_to(pass, lookup, text, at)
 }
 
@@ -158,7 +164,7 @@ fn call<'a>(
 {
     let record = usize::from(rule.next) * 4;
     let sequence = usize::from(u16_at(rule.records, record));
-    let called = lookup(pass.gsub, u16_at(rule.records, record + 2));
+    let called = pass.gsub.lookup(u16_at(rule.records, record + 2));
     rule.next += 1;
     if sequence >= rule.places.len() {
         return Ok(None);
@@ -166,13 +172,14 @@ fn call<'a>(
     let place = rule.places[sequence];
     rule.sequence = sequence;
     rule.before = text.len();
-    match try_at(pass, called, text, place)? {
-        Outcome::Nothing => Ok(None),
-        Outcome::Done(_) => {
+    match try_at(pass, &called, text, place) {
+        Ok(Outcome::Nothing) => Ok(None),
+        Ok(Outcome::Done(_)) => {
             rule.settle(text.len());
             Ok(None)
         }
-        Outcome::Fits(called_rule) => Ok(Some(called_rule)),
+        Ok(Outcome::Fits(called_rule)) => Ok(Some(called_rule)),
+        Err(e) => Err(e),
     }
 }
 
@@ -270,7 +277,7 @@ fn run<'a>(
 #[tactic(auto, unfolding(crate::specs::Machine::nested))]
 pub fn apply_nested<'a>(
     pass: &Pass<'a>,
-    lookup: &'a [u8],
+    lookup: &LookupTable<'a>,
     text: &mut Vec<hb_glyph_info_t>,
     at: usize,
     operations: usize,
@@ -278,15 +285,17 @@ pub fn apply_nested<'a>(
     ensures { IfOk result (λ r. nested (setting_of pass.now) lookup.now text.old.items at operations
         ≡ record { text = text.new.items; end = r.end; left = r.left }) }
 {
-    match try_at(pass, lookup, text, at)? {
-        Outcome::Nothing => Ok(Reached {
+    // (`?` would move the rule once more, with the room for its places)
+    match try_at(pass, lookup, text, at) {
+        Ok(Outcome::Nothing) => Ok(Reached {
             end: None,
             left: operations,
         }),
-        Outcome::Done(next) => Ok(Reached {
+        Ok(Outcome::Done(next)) => Ok(Reached {
             end: Some(next),
             left: operations,
         }),
-        Outcome::Fits(rule) => run(pass, text, rule, operations),
+        Ok(Outcome::Fits(rule)) => run(pass, text, rule, operations),
+        Err(e) => Err(e),
     }
 }

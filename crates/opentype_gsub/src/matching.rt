@@ -1,13 +1,15 @@
 //! Where the places of a rule find their glyphs, and which ligature fits.
-ghost use Rattle.std.specs.Prelude.{◌≡◌, ◌<◌, ◌-◌, ◌+◌, ℕ, length, IfSome, slice_index};
+ghost use Rattle.std.specs.Prelude.{◌≡◌, ◌<◌, ◌-◌, ◌+◌, ℕ, Bool, true, None, length, IfSome, slice_index};
 ghost use Rattle.std.specs.Option.{option_map};
 ghost use Rattle.opentype_face.specs.Bytes.{u16_in};
 ghost use Rattle.opentype_face.specs.Firsts.{first_from};
 ghost use Rattle.opentype_gsub.specs.Ligatures.{nth_ligature, ligature_of};
-ghost use Rattle.opentype_layout.specs.Pattern.{fits};
+ghost use Rattle.opentype_layout.specs.Keys.{bars};
+ghost use Rattle.opentype_layout.specs.Pattern.{fits, next_in};
 
 use opentype_face::bytes::{part, u16_at};
 use opentype_layout::input::input_places;
+use opentype_layout::keys::{Key, key_behind};
 use opentype_layout::pattern::Pattern;
 use opentype_layout::places::Places;
 use opentype_layout::sight::Sight;
@@ -22,16 +24,19 @@ pub struct Fitting {
     pub places: Places,
 }
 
-// A ligature, if it fits.
+// A ligature, if it fits a place with a key for the rest of its glyphs.
 #[tactic(auto, unfolding(crate::specs::Ligatures::ligature_of, opentype_layout::specs::Pattern::fits))]
 fn fit_ligature(
     gdef: &[u8],
     sight: &Sight,
+    key: &Key,
     ligature: &[u8],
     glyphs: &[hb_glyph_info_t],
     at: usize,
 ) -> Option<Fitting>
-    requires { at < length glyphs.now }
+    requires inside { at < length glyphs.now }
+    requires key { (test : ℕ → ℕ → Bool) (k : ℕ) → bars key.now (test k) ≡ true →
+        next_in gdef.now sight.now test glyphs.now k (at + 1) ≡ None }
     ensures within { IfSome result (λ it. (j : ℕ) → j < length it.places.items →
         slice_index it.places.items j < length glyphs.now) }
     ensures value { option_map (λ it. (it.glyph, it.places.items)) result
@@ -39,6 +44,9 @@ fn fit_ligature(
 {
     let count = u16_at(ligature, 2);
     if count == 0 || count > 64 {
+        return None;
+    }
+    if count > 1 && key.bars(u16_at(ligature, 4)) {
         return None;
     }
     let pattern = Pattern::Glyphs(part(ligature, 4));
@@ -65,9 +73,10 @@ pub fn first_fitting(
     ensures value { option_map (λ it. (it.glyph, it.places.items)) result
         ≡ first_from (u16_in set.now 0) (nth_ligature gdef.now sight.now glyphs.now at set.now) 0 }
 {
+    let key = key_behind(gdef, sight, glyphs, at + 1);
     for i in 0..u16_at(set, 0) {
         let ligature = part(set, usize::from(u16_at(set, 2 + usize::from(i) * 2)));
-        let found = fit_ligature(gdef, sight, ligature, glyphs, at);
+        let found = fit_ligature(gdef, sight, &key, ligature, glyphs, at);
         if found.is_some() {
             return found;
         }

@@ -3,6 +3,7 @@ ghost use Rattle.std.specs.Prelude.{◌≡◌};
 ghost use Rattle.opentype_gsub.specs.Setting.{how_of, is_seen, sights_of};
 
 use opentype_layout::sight::{Application, Sight, ignores_glyph};
+use opentype_layout::tables::LayoutTable;
 use shapers_buffer::buffer::{BufferClusterLevel, hb_glyph_info_t};
 
 /// A lookup as a plan applies it.
@@ -28,7 +29,7 @@ pub struct Pass<'a> {
     /// The table GDEF.
     pub gdef: &'a [u8],
     /// The table GSUB.
-    pub gsub: &'a [u8],
+    pub gsub: &'a LayoutTable<'a>,
     /// The level of the text's clusters.
     pub level: BufferClusterLevel,
     /// Whether flags of concatenation are wanted.

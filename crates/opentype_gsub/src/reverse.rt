@@ -13,11 +13,13 @@ use crate::edits::replace;
 use crate::flagging::flag_stretch;
 use crate::looking::{Stretch, count, sweep_back, sweep_behind};
 use crate::pass::{Pass, Sights};
+use crate::presence::is_passed;
 use crate::trying::flag_joins;
 use opentype_face::bytes::{part, u16_at};
 use opentype_face::lookup::{subtable, subtable_count, subtable_type};
 use opentype_layout::pattern::Pattern;
 use opentype_layout::rules::Rule;
+use opentype_layout::starts::LookupTable;
 use shapers_buffer::buffer::hb_glyph_info_t;
 
 // The glyphs before and behind the one.
@@ -239,18 +241,22 @@ fn first(
 
 // What a lookup does at a place.
 #[tactic(auto, unfolding(crate::specs::Reversed::lookup_stepped_back))]
-fn step_back(pass: &Pass<'_>, lookup: &[u8], text: &mut Vec<hb_glyph_info_t>, at: usize)
+fn step_back(pass: &Pass<'_>, lookup: &LookupTable<'_>, text: &mut Vec<hb_glyph_info_t>, at: usize)
     requires { at < length text.old.items }
     ensures value { text.new.items ≡ lookup_stepped_back (setting_of pass.now) lookup.now text.old.items at }
     ensures length { length text.new.items ≡ length text.old.items }
 {
     let glyph = text[at];
-    if !pass.lookup.sees(pass.gdef, lookup, &glyph) {
+    if is_passed(&pass.lookup, lookup, &glyph) {
         return;
     }
-    let sights = pass.lookup.sights(pass.gdef, lookup, &glyph);
-    flag_tried(pass, lookup, text, at);
-    if let Some(it) = first(pass.gdef, &sights, lookup, text, at) {
+    let bytes = lookup.bytes();
+    if !pass.lookup.sees(pass.gdef, bytes, &glyph) {
+        return;
+    }
+    let sights = pass.lookup.sights(pass.gdef, bytes, &glyph);
+    flag_tried(pass, bytes, text, at);
+    if let Some(it) = first(pass.gdef, &sights, bytes, text, at) {
         let len = text.len();
         flag_stretch(text, len, it.start, it.stop);
         replace(pass.gdef, text, at, it.glyph, 0);
@@ -258,7 +264,7 @@ fn step_back(pass: &Pass<'_>, lookup: &[u8], text: &mut Vec<hb_glyph_info_t>, at
 }
 
 /// Applies a lookup by its table from the last glyph of a text to its first one.
-pub fn walk_back(pass: &Pass<'_>, lookup: &[u8], text: &mut Vec<hb_glyph_info_t>)
+pub fn walk_back(pass: &Pass<'_>, lookup: &LookupTable<'_>, text: &mut Vec<hb_glyph_info_t>)
     ensures { text.new.items ≡ walked_back (length text.old.items)
         (lookup_stepped_back (setting_of pass.now) lookup.now) text.old.items }
 {

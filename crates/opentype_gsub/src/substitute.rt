@@ -1,19 +1,19 @@
 //! A lookup of GSUB over a buffer.
-ghost use Rattle.std.specs.Prelude.{◌≡◌, ◌<◌, [], IfOk, IsOkUnless, OnErr, OnOk};
-ghost use Rattle.std.specs.Option.{option_map};
-ghost use Rattle.opentype_gsub.specs.Presence.{applied_from, new_text};
+ghost use Rattle.std.specs.Prelude.{◌≡◌, [], IfOk, IsOkUnless, OnErr, OnOk};
+ghost use Rattle.opentype_gsub.specs.Presence.{applied_from};
 ghost use Rattle.shapers_buffer.specs.Buffer.{flags_concat, has_flag};
 ghost use Rattle.shapers_buffer.specs.declared.buffer.refusal.ShaperError.TheVariants.{Memory};
 ghost use Rattle.opentype_gsub.specs.Setting.{setting_of};
-ghost use Rattle.opentype_gsub.specs.Substituted.{applied, limit_in, operations_in, substituted};
+ghost use Rattle.opentype_gsub.specs.Substituted.{limit_in, operations_in, substituted};
 
 use crate::pass::{LookupUse, Pass};
 use crate::presence::first_place;
 use crate::reverse::walk_back;
 use crate::walk::walk;
-use opentype_face::lookup::{lookup, subtable_type};
+use opentype_face::lookup::subtable_type;
+use opentype_layout::starts::LookupTable;
+use opentype_layout::tables::LayoutTable;
 use shapers_buffer::buffer::{BufferFlags, ShaperError, hb_buffer_t, hb_glyph_info_t};
-use std::alloc::Global;
 
 // How many glyphs a text may get.
 #[inline]
@@ -43,14 +43,14 @@ fn wants_concat(flags: BufferFlags) -> bool
 #[tactic(auto, unfolding(crate::specs::Presence::applied_from))]
 fn apply_from<'a>(
     pass: &Pass<'a>,
-    table: &'a [u8],
+    table: &LookupTable<'a>,
     first: usize,
     text: &mut Vec<hb_glyph_info_t>,
 ) -> Result<(), ShaperError>
     ensures { OnOk result (text.new.items
         ≡ applied_from (setting_of pass.now) table.now first text.old.items) }
 {
-    if subtable_type(7, table, 0) == 8 {
+    if subtable_type(7, table.bytes(), 0) == 8 {
         walk_back(pass, table, text);
         return Ok(());
     }
@@ -65,23 +65,21 @@ fn apply_from<'a>(
     )
 }
 
-// Applies a lookup to a list of glyphs. There is no new list where the lookup can't begin anywhere.
+// A new list of glyphs, in the buffer's room: what a lookup makes of the buffer's from a place on.
 fn apply(
     pass: &Pass<'_>,
-    alloc: Global,
-    glyphs: &[hb_glyph_info_t],
-) -> Result<Option<Vec<hb_glyph_info_t>>, ShaperError>
-    ensures { IfOk result (λ new. new_text glyphs.now (option_map (λ text. text.items) new)
-        ≡ applied (setting_of pass.now) glyphs.now) }
+    table: &LookupTable<'_>,
+    first: usize,
+    buffer: &mut hb_buffer_t,
+) -> Result<Vec<hb_glyph_info_t>, ShaperError>
+    ensures text { IfOk result (λ text. text.items
+        ≡ applied_from (setting_of pass.now) table.now first buffer.old.glyphs) }
+    ensures same { buffer.new ≡ buffer.old }
 {
-    let table = lookup(pass.gsub, pass.lookup.index);
-    let first = first_place(&pass.lookup, table, glyphs);
-    if first >= glyphs.len() {
-        return Ok(None);
-    }
-    let mut text = Vec::from_slice(alloc, glyphs)?;
+    let mut text = buffer.take_list();
+    text.extend_from_slice(buffer.glyphs())?;
     apply_from(pass, table, first, &mut text)?;
-    Ok(Some(text))
+    Ok(text)
 }
 
 /// Applies a lookup of GSUB, as a plan has it, to a text of glyphs without positions. The text gets
@@ -93,7 +91,7 @@ fn apply(
 #[tactic(auto, unfolding(crate::specs::Substituted::substituted))]
 pub fn substitute(
     gdef: &[u8],
-    gsub: &[u8],
+    gsub: &LayoutTable<'_>,
     lookup_use: &LookupUse,
     buffer: &mut hb_buffer_t,
 ) -> Result<(), ShaperError>
@@ -102,7 +100,13 @@ pub fn substitute(
     ensures refusal { IsOkUnless result Memory }
     ensures err { OnErr result (buffer.new ≡ buffer.old) }
 {
+    // (most lookups have nothing to do in a text)
+    let table = gsub.lookup(lookup_use.index);
+    let first = first_place(lookup_use, &table, buffer.glyphs());
     let len = buffer.len();
+    if first >= len {
+        return Ok(());
+    }
     let pass = Pass {
         gdef,
         gsub,
@@ -112,9 +116,8 @@ pub fn substitute(
         limit: limit(len, buffer.max_len()),
         lookup: *lookup_use,
     };
-    match apply(&pass, buffer.alloc(), buffer.glyphs()) {
-        Ok(Some(text)) => buffer.replace_glyphs(text),
-        Ok(None) => Ok(()),
+    match apply(&pass, &table, first, buffer) {
+        Ok(text) => buffer.replace_glyphs(text),
         Err(_) => Err(ShaperError::Memory),
     }
 }

@@ -5,6 +5,8 @@ ghost use Rattle.opentype_gsub.specs.Walked.{lookup_stepped, lookup_walked};
 
 use crate::machine::apply_nested;
 use crate::pass::Pass;
+use crate::presence::next_place;
+use opentype_layout::starts::LookupTable;
 use shapers_buffer::buffer::{ShaperError, hb_glyph_info_t};
 
 /// How far a lookup has come.
@@ -20,7 +22,7 @@ struct Progress {
 #[tactic(auto, unfolding(crate::specs::Walked::lookup_stepped))]
 fn step<'a>(
     pass: &Pass<'a>,
-    lookup: &'a [u8],
+    lookup: &LookupTable<'a>,
     text: &mut Vec<hb_glyph_info_t>,
     at: usize,
     left: usize,
@@ -30,7 +32,7 @@ fn step<'a>(
         ≡ record { text = text.new.items; next = it.next; left = it.left }) }
 {
     let next = at + 1;
-    if !pass.lookup.sees(pass.gdef, lookup, &text[at]) {
+    if !pass.lookup.sees(pass.gdef, lookup.bytes(), &text[at]) {
         return Ok(Progress { next, left });
     }
     let reached = apply_nested(pass, lookup, text, at, left)?;
@@ -49,7 +51,7 @@ fn step<'a>(
 /// `Memory`.
 pub fn walk<'a>(
     pass: &Pass<'a>,
-    lookup: &'a [u8],
+    lookup: &LookupTable<'a>,
     text: &mut Vec<hb_glyph_info_t>,
     first: usize,
     steps: usize,
@@ -58,12 +60,18 @@ pub fn walk<'a>(
     ensures { OnOk result (text.new.items
         ≡ lookup_walked steps (lookup_stepped (setting_of pass.now) lookup.now) text.old.items first operations) }
 {
-    let (mut at, mut left) = (first, operations);
-    for _ in 0..steps {
-        if at >= text.len() {
+    let (mut at, mut left, mut steps) = (first, operations, steps);
+    while steps > 0 {
+        let place = next_place(&pass.lookup, lookup, text, at);
+        if place >= text.len() {
             return Ok(());
         }
-        let progress = step(pass, lookup, text, at, left)?;
+        let passed = place - at;
+        if passed >= steps {
+            return Ok(());
+        }
+        let progress = step(pass, lookup, text, place, left)?;
+        steps -= passed + 1;
         at = progress.next;
         left = progress.left;
     }

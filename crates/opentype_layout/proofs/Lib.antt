@@ -1,7 +1,19 @@
 pub mod Sights
 pub mod Placed
 pub mod Reached
+pub mod Skipped
+pub mod NoneFits
+pub mod Keyed
+mod BitPlaces
+mod Grids
+mod Headed
+mod Unfollowed
+mod Flags
+mod Listed
+mod PairsListed
 mod RuleRows
+mod KeyRows
+mod StartRows
 mod SightRows
 mod FeatureRows
 mod InputRows

@@ -186,6 +186,7 @@ abbrev pub substitutions_of : List ℕ → Option ℕ → List ℕ
 substitutions_of variations None = []
 substitutions_of variations (Some i) = part_in variations (u32_in variations (12 + i * 8))
 
+-- the substitutions of features that hold at the default instance
 unfoldable pub substitutions_in : List ℕ → List ℕ
 substitutions_in table = substitutions_of (variations_in table) (variation_in (variations_in table))
 
@@ -205,6 +206,7 @@ plain_feature_in table index =
     let list = features_in table in
     if nat_lt index (u16_in list 0) then part_in list (u16_in list (6 + index * 6)) else []
 
+-- the table of a feature: the one that its substitution names, or its own
 abbrev pub feature_or : List ℕ → ℕ → List ℕ → Option ℕ → List ℕ
 feature_or table index substitutions None = plain_feature_in table index
 feature_or table index substitutions (Some i) = part_in substitutions (u32_in substitutions (8 + i

@@ -4,3 +4,7 @@ pub mod Pattern
 pub mod Ligatures
 pub mod Rules
 pub mod Features
+pub mod Bits
+pub mod Starts
+pub mod Keys
+pub mod PairTables

@@ -1,9 +1,18 @@
-//! What lookups of GSUB and GPOS have in common: which glyphs they see, and what their rules look for.
+//! What lookups of GSUB and GPOS have in common: which glyphs they see, where they may begin, and what their rules look for.
 #![tactic(auto)]
 
+pub mod bits;
+pub mod face_tables;
 pub mod features;
+pub mod grid;
+pub mod heads;
 pub mod input;
+pub mod keys;
+pub mod pair_tables;
 pub mod pattern;
 pub mod places;
 pub mod rules;
+pub mod sets;
 pub mod sight;
+pub mod starts;
+pub mod tables;

@@ -59,6 +59,10 @@ fn sound_flag(gdef: &[u8], lookup: &[u8]) -> u16
     ensures { result ≡ flag_in gdef.now lookup.now }
 {
     let flag = lookup_flag(lookup);
+    // (most lookups have no set of marks)
+    if flag & 16 == 0 {
+        return flag;
+    }
     if mark_set(lookup) < mark_set_count(gdef) {
         return flag;
     }

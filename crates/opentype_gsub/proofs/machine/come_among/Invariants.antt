@@ -1,9 +1,13 @@
+use Rattle.std.proofs.Common.{◌-◌}
 use Rattle.opentype_face.specs.Bytes.{u16_in}
 use Rattle.opentype_gsub.specs.Came.{nth_came}
 use Rattle.opentype_gsub.specs.Setting.{setting_of}
 use Rattle.opentype_gsub.proofs.Machines.{IsComing}
 use Rattle.opentype_gsub.proofs.machine.come_among.Given as goal
 
-abbrev pub invariant-loop-i : goal.invariant-loop-i
-invariant-loop-i l = IsComing (nth_came (setting_of l.pass) l.sights l.lookup l.at) (u16_in l.lookup 4) l.i
+abbrev pub invariant-loop-from : goal.invariant-loop-from
+invariant-loop-from l = IsComing (nth_came (setting_of l.pass) l.sights l.lookup l.at) (u16_in l.lookup 4) l.from
     l.fn.text.items l.text.items
+
+abbrev pub decreases-loop-from : goal.decreases-loop-from
+decreases-loop-from l = l.count - l.from

@@ -1,7 +1,7 @@
 use Rattle.std.proofs.Common.{sym, arith}
 use Rattle.opentype_layout.specs.declared.rules.Matched.{Matched}
 use Rattle.opentype_layout.specs.Rules.{Found, found, first_in, nth_in}
-use Rattle.opentype_face.proofs.Foremost.{first_found, first_missed, first_out, first_start}
+use Rattle.opentype_face.proofs.Foremost.{first_found, first_missed, first_out, first_passed, first_start}
 use Rattle.opentype_layout.proofs.rules.Tables.first_rule.Goals as goal
 
 pub loop-i-init : goal.loop-i-init
@@ -12,6 +12,13 @@ unfolding first_in nth_in
 returns-then-is_some c =
     let g : Matched → Found = λ it. found it in
     first_found g _ _ _ _ c.loop-i.invariant (omega arith) (cc) (cc)
+
+pub loop-i-preserved-then-is_barred : goal.loop-i-preserved-then-is_barred
+unfolding nth_in
+loop-i-preserved-then-is_barred c =
+    let barred = c.is_barred.ensures c.if-is_barred.true in
+    let none = barred.none _ _ _ _ _ c.keys-keys.ensures in
+    first_passed _ _ _ c.loop-i.invariant (omega arith) (cc)
 
 pub loop-i-preserved : goal.loop-i-preserved
 unfolding nth_in

@@ -1,0 +1,92 @@
+//! The classes of glyphs, by a table that is made once.
+ghost use Rattle.std.specs.Prelude.{◌≡◌, ◌<◌, true, IfOk, []};
+ghost use Rattle.opentype_face.specs.Classes.{has_classes};
+ghost use Rattle.opentype_face.specs.ClassTables.{TellsClasses, props_if_any};
+
+use crate::classes::{glyph_props, has_glyph_classes};
+use std::alloc::{AllocError, Global};
+
+/// GDEF, with the classes of the first glyphs beside it.
+#[derive(Clone, Copy, Debug)]
+pub struct ClassTable<'a> {
+    /// GDEF.
+    pub gdef: &'a [u8],
+    props: &'a [u16],
+    ghost tells: { TellsClasses gdef.now props.now },
+}
+
+impl<'a> ClassTable<'a> {
+    /// GDEF alone.
+    pub fn of(gdef: &'a [u8]) -> Self
+        ensures { result.gdef.now ≡ gdef.now }
+    {
+        ClassTable { gdef, props: &[] }
+    }
+
+    /// The class of a glyph as lookups keep it, in a font that has classes; without a search where the table has the
+    /// glyph.
+    #[inline]
+    pub fn glyph_props(&self, glyph: u16) -> Option<u16>
+        ensures { result ≡ props_if_any self.now.gdef.now glyph }
+    {
+        let at = usize::from(glyph);
+        if at < self.props.len() {
+            return Some(self.props[at]);
+        }
+        if has_glyph_classes(self.gdef) {
+            Some(glyph_props(self.gdef, glyph))
+        } else {
+            None
+        }
+    }
+}
+
+/// GDEF, with a table of classes that was made of it.
+#[derive(Debug, Drop)]
+pub struct PreparedClasses<'a> {
+    /// GDEF.
+    pub gdef: &'a [u8],
+    props: Vec<u16>,
+    ghost tells: { TellsClasses gdef.now props.items },
+}
+
+// Appends the classes of so many glyphs.
+fn fill(gdef: &[u8], count: u16, props: &mut Vec<u16>) -> Result<(), AllocError>
+    requires has { has_classes gdef.now ≡ true }
+    requires none { props.old.items ≡ [] }
+    ensures { IfOk result (λ _. TellsClasses gdef.now props.new.items) }
+{
+    for glyph in 0..count {
+        props.push(glyph_props(gdef, glyph))?;
+    }
+    Ok(())
+}
+
+impl<'a> PreparedClasses<'a> {
+    /// Makes a table of the classes of so many glyphs, of which each takes two bytes and a search or two. Where
+    /// memory is refused, or the font has no classes, there is none.
+    pub fn new(gdef: &'a [u8], count: u16, alloc: Global) -> Self
+        ensures { result.gdef.now ≡ gdef.now }
+    {
+        let mut props = Vec::new(alloc);
+        if has_glyph_classes(gdef) && fill(gdef, count, &mut props).is_ok() {
+            PreparedClasses { gdef, props }
+        } else {
+            PreparedClasses {
+                gdef,
+                props: Vec::new(alloc),
+            }
+        }
+    }
+
+    /// GDEF with this table.
+    #[inline]
+    pub fn table(&self) -> ClassTable<'_>
+        ensures { result.gdef.now ≡ self.now.gdef.now }
+    {
+        ClassTable {
+            gdef: self.gdef,
+            props: self.props.as_slice(),
+        }
+    }
+}

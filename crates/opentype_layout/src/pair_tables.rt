@@ -1,0 +1,119 @@
+//! Subtables of pairs, with tables of their glyphs.
+ghost use Rattle.std.specs.Prelude.{◌≡◌, List, ℕ};
+ghost use Rattle.opentype_face.specs.Bytes.{part_in, u16_in};
+ghost use Rattle.opentype_face.specs.Glyphs.{class_in, coverage_in};
+ghost use Rattle.opentype_layout.specs.PairTables.{ArePairTables};
+
+use opentype_face::bytes::{offset16, part};
+use opentype_face::glyph_tables::{PreparedClassDef, PreparedCoverage};
+use opentype_face::lookup::{subtable, subtable_count, subtable_type};
+use std::alloc::Global;
+use std::marker::Model;
+
+/// A subtable of type 2 of GPOS, with tables of its first glyphs and of the classes of both.
+#[derive(Debug, Drop)]
+pub struct PairTable<'a> {
+    bytes: &'a [u8],
+    set: PreparedCoverage<'a>,
+    first_classes: PreparedClassDef<'a>,
+    second_classes: PreparedClassDef<'a>,
+}
+
+impl<'a> Model for PairTable<'a> {
+    ghost Value = { List ℕ };
+
+    ghost view = { λ it. it.bytes.now };
+
+    ghost invariant = { λ it. (it.set.set.now ≡ part_in it.bytes.now (u16_in it.bytes.now 2)) ×
+        (it.first_classes.bytes.now ≡ part_in it.bytes.now (u16_in it.bytes.now 8)) ×
+        (it.second_classes.bytes.now ≡ part_in it.bytes.now (u16_in it.bytes.now 10)) };
+}
+
+impl<'a> PairTable<'a> {
+    /// Makes the tables, for which a budget in bytes pays.
+    pub fn new(alloc: Global, bytes: &'a [u8], budget: &mut usize) -> Self
+        ensures { result ≡ bytes.now }
+    {
+        PairTable {
+            bytes,
+            set: PreparedCoverage::new(part(bytes, offset16(bytes, 2)), alloc, budget),
+            first_classes: PreparedClassDef::new(part(bytes, offset16(bytes, 8)), alloc, budget),
+            second_classes: PreparedClassDef::new(part(bytes, offset16(bytes, 10)), alloc, budget),
+        }
+    }
+
+    /// The subtable.
+    #[inline]
+    pub fn bytes(&self) -> &'a [u8]
+        ensures { result.now ≡ self.now }
+    {
+        self.bytes
+    }
+
+    /// The place of a glyph in the set of first glyphs.
+    #[inline]
+    pub fn place(&self, glyph: u16) -> Option<u32>
+        ensures { result ≡ coverage_in (part_in self.now (u16_in self.now 2)) glyph }
+    {
+        self.set.place(glyph)
+    }
+
+    /// The class of a first glyph, in format 2.
+    #[inline]
+    pub fn first_class(&self, glyph: u16) -> u16
+        ensures { result ≡ class_in (part_in self.now (u16_in self.now 8)) glyph }
+    {
+        self.first_classes.class(glyph)
+    }
+
+    /// The class of a second one.
+    #[inline]
+    pub fn second_class(&self, glyph: u16) -> u16
+        ensures { result ≡ class_in (part_in self.now (u16_in self.now 10)) glyph }
+    {
+        self.second_classes.class(glyph)
+    }
+}
+
+/// The subtables of pairs that a lookup of GPOS has, with tables of their glyphs.
+#[derive(Debug, Drop)]
+pub struct LookupPairs<'a> {
+    lookup: &'a [u8],
+    tables: Vec<PairTable<'a>>,
+}
+
+impl<'a> Model for LookupPairs<'a> {
+    ghost Value = { List ℕ };
+
+    ghost view = { λ it. it.lookup.now };
+
+    ghost invariant = { λ it. ArePairTables it.lookup.now it.tables.items };
+}
+
+impl<'a> LookupPairs<'a> {
+    /// Makes the tables of a lookup, of which there are none unless its type is 2. Where memory doesn't
+    /// suffice, there are fewer.
+    pub fn new(alloc: Global, lookup: &'a [u8], budget: &mut usize) -> Self
+        ensures { result ≡ lookup.now }
+    {
+        let mut tables = Vec::new(alloc);
+        for i in 0..subtable_count(lookup) {
+            if subtable_type(9, lookup, i) != 2 {
+                return LookupPairs { lookup, tables };
+            }
+            let table = PairTable::new(alloc, subtable(9, lookup, i), budget);
+            if tables.push(table).is_err() {
+                return LookupPairs { lookup, tables };
+            }
+        }
+        LookupPairs { lookup, tables }
+    }
+
+    /// The tables of the first subtables.
+    #[inline]
+    pub fn tables(&self) -> &[PairTable<'a>]
+        ensures { ArePairTables self.now result.now }
+    {
+        self.tables.as_slice()
+    }
+}
