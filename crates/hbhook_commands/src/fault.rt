@@ -4,18 +4,6 @@ use shapers_base::buffer::ShaperError;
 use std::alloc::AllocError;
 use thiserror::Error;
 
-/// What a refusal is called, on standard error too.
-pub const fn refusal_name(refusal: &ShaperError) -> &'static str {
-    match refusal {
-        ShaperError::Memory => "Memory",
-        ShaperError::TooLong => "TooLong",
-        ShaperError::UnknownSyllable(_) => "UnknownSyllable",
-        ShaperError::SpansDontCover => "SpansDontCover",
-        // (the crate that callers take may add refusals, so it wants an arm for the others)
-        _ => "StretchOverflow",
-    }
-}
-
 /// Why a line can't be carried out.
 #[derive(Clone, Copy, Debug)]
 pub enum LineFault {
@@ -54,7 +42,7 @@ pub enum Fault {
     #[error("line {0}: unreadable")]
     Unreadable(usize, Expected),
     /// A refusal, and the number of the line that was refused, unless it was another growth.
-    #[error("refused: {name}", name = refusal_name(.0))]
+    #[error("refused: {0}")]
     Refused(ShaperError, Option<usize>),
     /// Input that can't be read, or output that can't be written: nothing is reported.
     #[error("broken")]

@@ -68,7 +68,7 @@ pub struct Step {
     pub drawn: String,
     /// The glyphs as the program prints them, one line each.
     pub printed: String,
-    /// Where docs/DEFINITIONS.md defines the step: the crate and the entry.
+    /// Where bindings/page/definitions.md defines the step: the crate and the entry.
     pub subject: Option<(&'static str, &'static str)>,
     glyphs: Vec<GlyphInfo>,
     names: Vec<Names>,

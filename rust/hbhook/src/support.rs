@@ -13,12 +13,6 @@ pub mod alloc {
     pub use sengadlit::alloc::{AllocError, Global};
 }
 
-pub mod bitflags {
-    //! What flag types have in common.
-
-    pub use sengadlit::flags::Flags;
-}
-
 pub mod prelude {
     //! What the generated files that name a list or a text import.
 

@@ -28,7 +28,7 @@ impl fmt::Display for TextFault {
     fn fmt(&self, f: &mut fmt::Formatter<'_>) -> fmt::Result {
         match self {
             TextFault::NoScript => f.write_str("no script with hooks is known of the text"),
-            TextFault::Refused(refusal) => write!(f, "{refusal}"),
+            TextFault::Refused(refusal) => write!(f, "the text was refused: {refusal}"),
             TextFault::Undrawn(reason) => f.write_str(reason),
         }
     }
@@ -139,7 +139,7 @@ pub fn draw_text_in_font(
     Ok(page + &steps.legend + FOOT)
 }
 
-/// The step before the lookups, as the crate calls it, and where docs/DEFINITIONS.md defines it.
+/// The step before the lookups, as the crate calls it, and where bindings/page/definitions.md defines it.
 const PREPARE: &str = "prepare_text";
 const PREPARED: Option<(&str, &str)> = Some(("shapers_pipeline", "Prepared"));
 

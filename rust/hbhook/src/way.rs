@@ -6,7 +6,7 @@ use crate::word::{Planned, line_of_specification, line_of_text, name_of, runs_fr
 use sengadlit::alloc::Global;
 use sengadlit::ot_shape::{SingleLookups, TextPlan, prepare_text, substitute_text};
 use sengadlit::ot_shape_normalize::{NormalizeSettings, Rounds};
-use sengadlit::ot_shape_plan::{ShapeChoices, ShapePlan};
+use sengadlit::ot_shape_plan::{EnginePlan, ShapeChoices};
 use sengadlit::shaper::checked::CallError;
 use sengadlit::spans::setup_syllables_found;
 use sengadlit::unicode::UnicodeTables;
@@ -29,7 +29,7 @@ pub(crate) struct Wanted {
 pub(crate) struct Way {
     pub(crate) script: Script,
     pub(crate) direction: Direction,
-    pub(crate) plan: ShapePlan,
+    pub(crate) plan: EnginePlan,
     pub(crate) font: WholeFont,
     pub(crate) settings: NormalizeSettings,
 }
@@ -46,7 +46,7 @@ impl Way {
         let font = WholeFont::of(script, wanted.has_gpos_mark);
         let named = Some(script);
         let plan =
-            ShapePlan::with_choices(Global, named, direction, &font, &font, &[], wanted.shape)?;
+            EnginePlan::with_choices(Global, named, direction, &font, &font, &[], wanted.shape)?;
         let settings = NormalizeSettings {
             rounds: wanted.rounds,
             ..NormalizeSettings::default()

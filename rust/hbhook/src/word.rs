@@ -232,7 +232,7 @@ fn with_parts(shaper: Shaper, script: Script, word: &str) -> String {
 // Adds a character's parts, of which only the first may have parts again.
 fn push_parts(shaper: Shaper, plan: &Plan, character: char, parts: &mut String) {
     let own = shaper.decompose(plan, &UnicodeTables, character);
-    match own.or_else(|| decompose(character)) {
+    match own.unwrap_or_else(|| decompose(character)) {
         Some((first, second)) => {
             push_parts(shaper, plan, first, parts);
             parts.push(second);

@@ -8,10 +8,7 @@ use hbhook_commands::{Expected, HookCall, LineFault};
 use rustybuzz_shapers::buffer::{Span, hb_glyph_info_t};
 use rustybuzz_shapers::plan::hb_ot_shape_plan_t;
 use rustybuzz_shapers::shaper::checked::{CallError, Condition};
-use rustybuzz_shapers::shaper::{
-    Composition, Decomposition, HookOutcome, Pause, Preprocess, hb_ot_shaper_t, pause_fits,
-    run_pause,
-};
+use rustybuzz_shapers::shaper::{Pause, Preprocess, hb_ot_shaper_t, pause_fits, run_pause};
 use shapers_pipeline::TextPlan;
 use shapers_plan::ot_shape_plan::driver_masks;
 
@@ -112,8 +109,8 @@ impl Session {
         check(shaper.glyphs_fit(plan, &self.buffer), CHARACTERS)?;
         check(auxiliary_bytes_fit(shaper, self.buffer.glyphs()), JAMO)?;
         let (font, tables) = (&self.settings.font, &self.settings.tables);
-        let outcome = shaper.setup_masks(plan, font, tables, &mut self.buffer);
-        self.answer_if_absent(outcome)
+        let done = shaper.setup_masks(plan, font, tables, &mut self.buffer);
+        self.answer_if_absent(done)
     }
 
     // The hook after positioning.
@@ -124,8 +121,8 @@ impl Session {
     ) -> Result<(), LineFault> {
         check(self.buffer.positions_len() == self.buffer.len(), POSITIONS)?;
         check(shaper.postprocess_fits(plan, &self.buffer), GLYPH_NUMBERS)?;
-        let outcome = shaper.postprocess_glyphs(plan, &self.settings.font, &mut self.buffer)?;
-        self.answer_if_absent(outcome)
+        let done = shaper.postprocess_glyphs(plan, &self.settings.font, &mut self.buffer)?;
+        self.answer_if_absent(done)
     }
 
     // The hook that reorders the marks from `start` to `end`.
@@ -139,8 +136,8 @@ impl Session {
         self.check_no_positions()?;
         check(start <= end && end <= self.buffer.len(), PLACES)?;
         check(shaper.marks_fit(start, end), MARKS)?;
-        let outcome = shaper.reorder_marks(plan, &mut self.buffer, start, end);
-        self.answer_if_absent(outcome)
+        let done = shaper.reorder_marks(plan, &mut self.buffer, start, end);
+        self.answer_if_absent(done)
     }
 
     // The hook that composes two characters.
@@ -152,9 +149,9 @@ impl Session {
         b: char,
     ) -> Result<(), LineFault> {
         match shaper.compose(plan, &self.settings.tables, a, b) {
-            Composition::Whole(ab) => Ok(writeln!(self.answers, "{:04x}", u32::from(ab))?),
-            Composition::Apart => self.answer("none"),
-            Composition::NoHook => self.answer("absent"),
+            Some(Some(ab)) => Ok(writeln!(self.answers, "{:04x}", u32::from(ab))?),
+            Some(None) => self.answer("none"),
+            None => self.answer("absent"),
         }
     }
 
@@ -166,12 +163,12 @@ impl Session {
         ab: char,
     ) -> Result<(), LineFault> {
         match shaper.decompose(plan, &self.settings.tables, ab) {
-            Decomposition::Parts(a, b) => {
+            Some(Some((a, b))) => {
                 writeln!(self.answers, "{:04x} {:04x}", u32::from(a), u32::from(b))?;
                 Ok(())
             }
-            Decomposition::Whole => self.answer("none"),
-            Decomposition::NoHook => self.answer("absent"),
+            Some(None) => self.answer("none"),
+            None => self.answer("absent"),
         }
     }
 
@@ -197,10 +194,10 @@ impl Session {
     }
 
     // Prints that a hook is absent, where it is.
-    fn answer_if_absent(&mut self, outcome: HookOutcome) -> Result<(), LineFault> {
-        match outcome {
-            HookOutcome::Done => Ok(()),
-            HookOutcome::NoHook => self.answer("absent"),
+    fn answer_if_absent(&mut self, done: Option<()>) -> Result<(), LineFault> {
+        match done {
+            Some(()) => Ok(()),
+            None => self.answer("absent"),
         }
     }
 

@@ -2,7 +2,7 @@
 
 use super::escaped::Escaped;
 use super::fault::{DrawFault, MOST_GLYPHS};
-use crate::generated::hbhook_commands::{LineFault, refusal_name};
+use crate::generated::hbhook_commands::LineFault;
 use sengadlit::{Buffer, Direction};
 use std::fmt;
 
@@ -177,7 +177,7 @@ impl fmt::Display for Fault {
         write!(page, "<p class=\"fault\">{line}")?;
         match fault.of_line() {
             LineFault::Unreadable(_) => page.write_str("<br>unreadable")?,
-            LineFault::Refused(refusal) => write!(page, "<br>refused: {}", refusal_name(&refusal))?,
+            LineFault::Refused(refusal) => write!(page, "<br>refused: {refusal}")?,
         }
         if let DrawFault::TooMany(count) = fault {
             write!(

@@ -72,7 +72,7 @@ impl Call {
         }
     }
 
-    /// Where docs/DEFINITIONS.md defines it for a shaper.
+    /// Where bindings/page/definitions.md defines it for a shaper.
     pub(super) fn subject(self, shaper: Option<ShaperName>) -> Option<Subject> {
         match self {
             Call::GlobalMask | Call::Glyphs => Some(("shapers_pipeline", "Masks")),
@@ -120,7 +120,8 @@ impl Call {
             Call::Fractions => set_fractions(way.plan.masks(), buffer),
             Call::Masks => {
                 if let Some(shaper) = way.plan.shaper() {
-                    shaper.setup_masks(plan, font, &UnicodeTables, buffer);
+                    // (a shaper that has no masks of its own leaves the glyphs as they are)
+                    let _ = shaper.setup_masks(plan, font, &UnicodeTables, buffer);
                 }
             }
             Call::Glyphs => font.to_characters(buffer, map_glyphs),

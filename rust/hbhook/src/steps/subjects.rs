@@ -1,4 +1,4 @@
-//! Where docs/DEFINITIONS.md defines what a line runs.
+//! Where bindings/page/definitions.md defines what a line runs.
 
 use crate::generated::hbhook_commands::ShaperName;
 

@@ -375,10 +375,10 @@ fn a_long_text_is_cut_off() {
     assert_eq!(steps.ended, None);
 }
 
-// The entries of docs/DEFINITIONS.md that a page shows beside its steps.
+// The entries of bindings/page/definitions.md, which the page shows beside its steps.
 #[test]
 fn each_step_has_its_definition() {
-    let path = Path::new(env!("CARGO_MANIFEST_DIR")).join("../../docs/DEFINITIONS.md");
+    let path = Path::new(env!("CARGO_MANIFEST_DIR")).join("../../bindings/page/definitions.md");
     let page = fs::read_to_string(path).unwrap();
     for code in crate::scripts_with_hooks() {
         let choices = Choices {

@@ -77,7 +77,7 @@ impl Walk {
             .map_err(|fault| format!("{name}: {}", fault.told()))
     }
 
-    /// Takes a step that is no line, by its name and where docs/DEFINITIONS.md defines it.
+    /// Takes a step that is no line, by its name and where bindings/page/definitions.md defines it.
     pub(crate) fn step(
         &mut self,
         name: &str,

@@ -1,6 +1,6 @@
 //! The messages of the errors that the sources declare.
 
-use crate::generated::hbhook_commands::{Expected, Fault, refusal_name};
+use crate::generated::hbhook_commands::{Expected, Fault};
 use std::error::Error;
 use std::fmt;
 
@@ -43,7 +43,7 @@ impl fmt::Display for Fault {
     fn fmt(&self, f: &mut fmt::Formatter<'_>) -> fmt::Result {
         match self {
             Fault::Unreadable(line, _) => write!(f, "line {line}: unreadable"),
-            Fault::Refused(refusal, _) => write!(f, "refused: {}", refusal_name(refusal)),
+            Fault::Refused(refusal, _) => write!(f, "refused: {refusal}"),
             Fault::Broken => write!(f, "broken"),
         }
     }
@@ -83,10 +83,7 @@ mod tests {
         assert_eq!(declared.len(), errors.len());
         for ((name, message), (variant, error, value)) in declared.into_iter().zip(errors) {
             assert_eq!(name, *variant);
-            assert_eq!(
-                error.to_string(),
-                message.replace("{0}", value).replace("{name}", value)
-            );
+            assert_eq!(error.to_string(), message.replace("{0}", value));
         }
     }
 

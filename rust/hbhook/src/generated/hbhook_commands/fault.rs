@@ -6,18 +6,6 @@ use crate::generated::hbhook_commands::expected::Expected;
 use crate::support::alloc::AllocError;
 use sengadlit::buffer::ShaperError;
 
-/// What a refusal is called, on standard error too.
-pub const fn refusal_name(refusal: &ShaperError) -> &'static str {
-    match refusal {
-        ShaperError::Memory => "Memory",
-        ShaperError::TooLong => "TooLong",
-        ShaperError::UnknownSyllable(_) => "UnknownSyllable",
-        ShaperError::SpansDontCover => "SpansDontCover",
-        // (the crate that callers take may add refusals, so it wants an arm for the others)
-        _ => "StretchOverflow",
-    }
-}
-
 /// Why a line can't be carried out.
 #[derive(Clone, Copy, Debug)]
 pub enum LineFault {

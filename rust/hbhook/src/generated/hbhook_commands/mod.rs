@@ -16,7 +16,7 @@ pub use command::{
     Command, GlyphField, HookCall, LineKind, Setting, ShaperName, Side, kind_of_line, read_line,
 };
 pub use expected::Expected;
-pub use fault::{Fault, LineFault, refusal_name};
+pub use fault::{Fault, LineFault};
 pub use font::LineFont;
 pub use input::{lines_of, read_input};
 pub use printing::{explain, print_buffer, report, write_text};

@@ -164,13 +164,15 @@ impl Session {
             ..GlyphPosition::ZERO
         });
         let positions = positions.collect_in(alloc)?;
-        self.buffer.set_positions(positions);
+        // (one for each glyph, so the buffer takes them)
+        let _ = self.buffer.set_positions(positions);
         Ok(())
     }
 
     // Takes the positions away.
     fn remove_positions(&mut self) {
-        self.buffer.set_positions(Vec::new(self.buffer.alloc()));
+        // (every buffer takes an empty list)
+        let _ = self.buffer.set_positions(Vec::new(self.buffer.alloc()));
     }
 
     // Puts a text into the buffer: a glyph for each character.

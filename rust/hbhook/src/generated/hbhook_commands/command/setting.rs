@@ -6,7 +6,6 @@ use super::fields::{decimal, four_characters, hexadecimal, yes_or_no};
 use crate::generated::hbhook_commands::expected::{COUNT, Expected};
 use crate::generated::hbhook_commands::fault::LineFault;
 use crate::generated::hbhook_commands::tables::OtherCharacters;
-use crate::support::bitflags::Flags;
 use sengadlit::buffer::{BufferClusterLevel, BufferFlags, Direction, Script, Tag};
 use sengadlit::plan::{BaseSearch, BreakFlags, StretchStart};
 

@@ -10,9 +10,7 @@ use sengadlit::ot_shape::TextPlan;
 use sengadlit::ot_shape_plan::driver_masks;
 use sengadlit::plan::Plan;
 use sengadlit::shaper::checked::{CallError, Condition};
-use sengadlit::shaper::{
-    Composition, Decomposition, HookOutcome, Pause, Preprocess, Shaper, pause_fits, run_pause,
-};
+use sengadlit::shaper::{Pause, Preprocess, Shaper, pause_fits, run_pause};
 
 // The conditions of calls.
 const SHAPER: Expected = Expected::Condition("a line `set shaper` before it");
@@ -94,16 +92,16 @@ impl Session {
         check(shaper.glyphs_fit(plan, &self.buffer), CHARACTERS)?;
         check(auxiliary_bytes_fit(shaper, self.buffer.glyphs()), JAMO)?;
         let (font, tables) = (&self.settings.font, &self.settings.tables);
-        let outcome = shaper.setup_masks(plan, font, tables, &mut self.buffer);
-        self.answer_if_absent(outcome)
+        let done = shaper.setup_masks(plan, font, tables, &mut self.buffer);
+        self.answer_if_absent(done)
     }
 
     // The hook after positioning.
     fn postprocess(&mut self, shaper: Shaper, plan: &Plan) -> Result<(), LineFault> {
         check(self.buffer.positions_len() == self.buffer.len(), POSITIONS)?;
         check(shaper.postprocess_fits(plan, &self.buffer), GLYPH_NUMBERS)?;
-        let outcome = shaper.postprocess_glyphs(plan, &self.settings.font, &mut self.buffer)?;
-        self.answer_if_absent(outcome)
+        let done = shaper.postprocess_glyphs(plan, &self.settings.font, &mut self.buffer)?;
+        self.answer_if_absent(done)
     }
 
     // The hook that reorders the marks from `start` to `end`.
@@ -117,28 +115,28 @@ impl Session {
         self.check_no_positions()?;
         check(start <= end && end <= self.buffer.len(), PLACES)?;
         check(shaper.marks_fit(start, end), MARKS)?;
-        let outcome = shaper.reorder_marks(plan, &mut self.buffer, start, end);
-        self.answer_if_absent(outcome)
+        let done = shaper.reorder_marks(plan, &mut self.buffer, start, end);
+        self.answer_if_absent(done)
     }
 
     // The hook that composes two characters.
     fn compose(&mut self, shaper: Shaper, plan: &Plan, a: char, b: char) -> Result<(), LineFault> {
         match shaper.compose(plan, &self.settings.tables, a, b) {
-            Composition::Whole(ab) => Ok(writeln!(self.answers, "{:04x}", u32::from(ab))?),
-            Composition::Apart => self.answer("none"),
-            Composition::NoHook => self.answer("absent"),
+            Some(Some(ab)) => Ok(writeln!(self.answers, "{:04x}", u32::from(ab))?),
+            Some(None) => self.answer("none"),
+            None => self.answer("absent"),
         }
     }
 
     // The hook that decomposes a character.
     fn decompose(&mut self, shaper: Shaper, plan: &Plan, ab: char) -> Result<(), LineFault> {
         match shaper.decompose(plan, &self.settings.tables, ab) {
-            Decomposition::Parts(a, b) => {
+            Some(Some((a, b))) => {
                 writeln!(self.answers, "{:04x} {:04x}", u32::from(a), u32::from(b))?;
                 Ok(())
             }
-            Decomposition::Whole => self.answer("none"),
-            Decomposition::NoHook => self.answer("absent"),
+            Some(None) => self.answer("none"),
+            None => self.answer("absent"),
         }
     }
 
@@ -162,10 +160,10 @@ impl Session {
     }
 
     // Prints that a hook is absent, where it is.
-    fn answer_if_absent(&mut self, outcome: HookOutcome) -> Result<(), LineFault> {
-        match outcome {
-            HookOutcome::Done => Ok(()),
-            HookOutcome::NoHook => self.answer("absent"),
+    fn answer_if_absent(&mut self, done: Option<()>) -> Result<(), LineFault> {
+        match done {
+            Some(()) => Ok(()),
+            None => self.answer("absent"),
         }
     }
 
