@@ -2,7 +2,7 @@
 //! and what the crate's hand-written part alone sees.
 
 use crate::file::File;
-use crate::table::get;
+use crate::table::{all, get};
 use std::collections::BTreeMap;
 
 /// What stands before tokens in the file that is written, by their places.
@@ -12,13 +12,22 @@ pub fn added(file: &File) -> BTreeMap<usize, String> {
         match (file.text(i), file.text(i + 1)) {
             ("struct" | "enum", name) => add_to_type(file, i, name, &mut added),
             // `pub` stands before it
-            ("fn", name) if get("inner", name).is_some() => {
+            ("fn", _) if is_inner(file, i) => {
                 added.insert(i, "(crate) ".to_string());
             }
             _ => {}
         }
     }
     added
+}
+
+// Whether the table has the function with its keyword at `i` as a method that only the crate sees.
+fn is_inner(file: &File, i: usize) -> bool {
+    let is_around = |j: &usize| file.text(*j) == "impl" && file.end(*j).is_ok_and(|end| end > i);
+    let method = |owner: &str| format!("{owner}::{}", file.text(i + 1));
+    let is_known = all("inner").any(|(path, _)| path.ends_with(&method("")));
+    let owner = (0..i).rev().filter(|_| is_known).find(is_around);
+    owner.is_some_and(|j| get("inner", &method(file.text(j + 1))).is_some())
 }
 
 // Adds to the struct or enum with its keyword at `i`.

@@ -35,8 +35,15 @@ fn erase_derive(file: &mut File, name: &str, derive: &str) {
     }
 }
 
-// Cuts `ghost use ..;`, `ghost NAME: {..};` or `ghost NAME = {..};`.
+// Cuts `ghost use ..;`, `ghost NAME: {..};` or `ghost NAME = {..};`, and a struct's field `ghost NAME: {..},`.
 fn erase_ghost(file: &mut File, i: usize) -> Result<(), String> {
+    let close = file.partner(i + 3);
+    let is_field = file.text(i + 2) == ":" && matches!(file.text(close + 1), "," | "}");
+    if is_field && file.text(close) == "}" {
+        let comma = usize::from(file.text(close + 1) == ",");
+        file.cut_item(i..=close + comma);
+        return Ok(());
+    }
     let item = i..=file.end(i)?;
     let text = file.joined(item.clone());
     let is_member = matches!(file.text(i + 2), ":" | "=") && file.text(i + 3) == "{";

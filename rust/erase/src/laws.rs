@@ -125,7 +125,7 @@ fn is_dead(file: &File, i: usize, laws: &BTreeSet<String>) -> bool {
     let module = file.nearest(i, &["{"]).filter(|_| file.text(i) == "self");
     let name = file.text(module.map_or(i, |open| open - 2));
     let import = file.nearest(i, &["use"]).unwrap_or(i);
-    let was_used = file.erased.contains(name) || get("trait", name).is_some();
+    let was_used = file.erased.contains(name);
     let is_used = || file.places(name).iter().any(|i| !file.is_import(*i));
     let is_gone = laws.contains(name) || get("item", name).is_some();
     is_gone || file.start(import) == import && was_used && !is_used()

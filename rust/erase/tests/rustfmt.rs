@@ -1,5 +1,5 @@
 //! What rustfmt does to the text that the eraser writes: the committed files have its tokens, but for
-//! commas, the order of imports and the braces around one expression as a match's arm.
+//! commas, the order of imports and the braces around one expression as a match's arm or a closure's body.
 
 use erase::erase;
 use erase::table::all;
@@ -29,10 +29,10 @@ fn code_and_imports(text: &str) -> (Vec<String>, Vec<String>) {
     (code, imports)
 }
 
-// The tokens without the braces around an arm that is one expression.
+// The tokens without the braces around an arm, or a closure's body, that is one expression.
 fn without_braces(mut code: Vec<String>) -> Vec<String> {
     for i in (0..code.len().saturating_sub(1)).rev() {
-        if code[i] == "=>" && code[i + 1] == "{" {
+        if matches!(code[i].as_str(), "=>" | "|") && code[i + 1] == "{" {
             let mut depth = 0;
             let is_end = |token: &String| {
                 depth += i32::from(token == "{") - i32::from(token == "}");
@@ -67,10 +67,12 @@ fn what_changes_more_than_the_layout_is_found() {
         let (code, imports) = code_and_imports(text);
         (without_braces(code), imports)
     };
-    let text = "use a::{b, c};\nfn f() { match d { E => { g(h, 1) } _ => { i(); j } } } // k\n";
-    let same = "use a::{c, b,};\nfn f() {\n match d { E => g(h, 1,), _ => { i(); j } } }\n// k\n";
+    let text = "use a::{b, c};\nfn f() { match d { E => { g(h, 1) } _ => { i(); j } } l(|m| { n(m) }) } // k\n";
+    let same = "use a::{c, b,};\nfn f() {\n match d { E => g(h, 1,), _ => { i(); j } } l(|m| n(m)) }\n// k\n";
     assert_eq!(of(text), of(same));
-    for (word, other) in [("b", "c"), ("g(h, 1)", "g(1, h)"), ("i(); ", ""), ("k", "l")] {
+    for (word, other) in
+        [("b", "c"), ("g(h, 1)", "g(1, h)"), ("i(); ", ""), ("n(m)", "m"), ("k", "o")]
+    {
         assert_ne!(of(text), of(&text.replacen(word, other, 1)), "{word}");
     }
 }

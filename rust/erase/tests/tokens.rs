@@ -1,9 +1,10 @@
 //! Holds the eraser to what it may do, by a reading of its own. What this test knows is taken out of
 //! each source: ghost items, clauses, proofs, attributes and derives of the proof, tests, models, law
-//! functions and the bound `Drop`. All that is left stands in the generated file, comments apart, in
-//! its order, names replaced by the table, but for names in imports, empty modules, and the runs of
-//! tokens that are listed in runs.txt; and besides it there is at most the one `use` line of the
-//! prelude, and of items the derives, attributes and visibility that the table gives them.
+//! functions, the trait of flag types and the bound `Drop`. All that is left stands in the generated
+//! file, comments apart, in its order, names replaced by the table, but for names in imports, empty
+//! modules, and the runs of tokens that are listed in runs.txt; and besides it there is at most the
+//! one `use` line of the prelude, and of items the derives, attributes and visibility that the table
+//! gives them.
 
 use erase::erase;
 use erase::table::{all, get};
@@ -80,7 +81,7 @@ fn ghost_len(tokens: &[String]) -> usize {
     let is_block = is(tokens, 1, "{") || is(tokens, 2, "{");
     let attribute = tokens.get(2).and_then(|name| get("attribute", name));
     match tokens[0].as_str() {
-        "ghost" | "prove" => len_to(tokens, &[";"]),
+        "ghost" | "prove" => len_to(tokens, &[";", ","]),
         "requires" | "ensures" if is_block => len_to(tokens, &["}"]),
         "#" if is(tokens, 1, "!") => len_to(tokens, &["]"]),
         "#" if attribute == Some("goes") => len_to(tokens, &["]"]),
@@ -158,14 +159,16 @@ fn bare_function(tokens: &[String]) -> Option<(String, String)> {
     is_bare.then(|| (tokens[1].clone(), tokens[5..3 + len_to(&tokens[4..], &["}"])].concat()))
 }
 
-// The tokens without law functions, models, and the bound `Drop`.
+// The tokens without law functions, models, the trait of flag types, and the bound `Drop`.
 fn without_items(tokens: &[String], laws: &[String]) -> Vec<String> {
     let (mut kept, mut i): (Vec<String>, usize) = (Vec::new(), 0);
     while i < tokens.len() {
         let is_law = bare_function(&tokens[i..]).is_some_and(|(name, _)| laws.contains(&name));
         let is_model = is(tokens, i, "impl") && {
             let header = &tokens[i..i + tokens[i..].iter().position(|token| token == "{").unwrap()];
-            header.windows(2).any(|pair| pair == ["Model", "for"])
+            header
+                .windows(2)
+                .any(|pair| ["Model", "Flags"].contains(&&*pair[0]) && pair[1] == "for")
         };
         if is_law || is_model {
             kept.truncate(kept.len() - usize::from(is(&kept, kept.len().wrapping_sub(1), "pub")));
@@ -224,7 +227,7 @@ fn with_added(tokens: &[String]) -> Vec<String> {
                 }
                 len
             }
-            (_, "pub") if is(rest, 1, "fn") && get("inner", &rest[2]).is_some() => {
+            (_, "pub") if is(rest, 1, "fn") && is_inner(tokens, i) => {
                 out.extend(code("pub(crate)"));
                 1
             }
@@ -236,6 +239,14 @@ fn with_added(tokens: &[String]) -> Vec<String> {
         i += len;
     }
     out
+}
+
+// Whether the table has the function at `i` as a method that only the crate sees.
+fn is_inner(tokens: &[String], i: usize) -> bool {
+    let is_item = |j: usize| j == 0 || ["}", ";", "]"].contains(&tokens[j - 1].as_str());
+    let is_known = all("inner").any(|(path, _)| path.ends_with(&format!("::{}", tokens[i + 2])));
+    let owner = (0..i).rev().find(|j| is_known && tokens[*j] == "impl" && is_item(*j));
+    owner.is_some_and(|j| get("inner", &format!("{}::{}", tokens[j + 1], tokens[i + 2])).is_some())
 }
 
 // What a word of a source may stand as, the longest first.

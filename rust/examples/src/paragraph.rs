@@ -1,6 +1,7 @@
 //! A paragraph broken into lines. It is shaped once; where a line is broken at a cluster that is
 //! flagged unsafe, the text from the break to the next cluster without the flag, on both sides, is
-//! shaped again, and no more.
+//! shaped again, and no more. With flags for `unsafe to concat` the new piece and the old clusters meet
+//! only where both are without it.
 
 use crate::run::{Cluster, Shaping};
 use std::error::Error;
@@ -109,43 +110,96 @@ fn line_of(
     clusters: &[Cluster],
     line: Range<usize>,
 ) -> Result<Line, Box<dyn Error>> {
-    let byte = |at: usize| {
-        clusters
-            .get(at)
-            .map_or(text.len(), |cluster| cluster.text.start)
+    let (start, end) = (
+        byte(text, clusters, line.start),
+        byte(text, clusters, line.end),
+    );
+    let paragraph = Paragraph {
+        shaping,
+        text,
+        clusters,
     };
-    let is_safe = |at: &usize| {
-        clusters
-            .get(*at)
-            .is_none_or(|cluster| !cluster.is_unsafe_to_break)
+    let (kept_from, front) = paragraph.front(&line)?;
+    let (kept_to, back) = paragraph.back(&line)?;
+    let clusters = if kept_from <= kept_to {
+        let kept = clusters[kept_from..kept_to].iter().cloned();
+        front.into_iter().chain(kept).chain(back).collect()
+    } else {
+        paragraph.shape_again(line)?
     };
-    // from where on, and up to where, the paragraph's clusters are the line's
-    let kept_from = (line.start..=line.end)
-        .find(is_safe)
-        .unwrap_or(line.end + 1);
-    let kept_to = (line.start..=line.end)
-        .rev()
-        .find(is_safe)
-        .unwrap_or(line.start);
-    let again = |part: Range<usize>| -> Result<Vec<Cluster>, Box<dyn Error>> {
-        let mut clusters = shaping.clusters(text, byte(part.start)..byte(part.end))?;
-        clusters
-            .iter_mut()
-            .for_each(|cluster| cluster.is_shaped_again = true);
-        Ok(clusters)
-    };
-    let range = byte(line.start)..byte(line.end);
-    if kept_from > kept_to {
-        return Ok(Line {
-            text: range,
-            clusters: again(line)?,
-        });
-    }
-    let mut own = again(line.start..kept_from)?;
-    own.extend_from_slice(&clusters[kept_from..kept_to]);
-    own.extend(again(kept_to..line.end)?);
     Ok(Line {
-        text: range,
-        clusters: own,
+        text: start..end,
+        clusters,
     })
+}
+
+// Where a cluster of a text begins.
+fn byte(text: &str, clusters: &[Cluster], at: usize) -> usize {
+    let cluster = clusters.get(at);
+    cluster.map_or(text.len(), |cluster| cluster.text.start)
+}
+
+struct Paragraph<'a> {
+    shaping: &'a Shaping<'a>,
+    text: &'a str,
+    clusters: &'a [Cluster],
+}
+
+impl Paragraph<'_> {
+    // The piece that opens a line, and from where on the paragraph's clusters are the line's: from the first
+    // that no flag ties to what stands before it, in the paragraph or behind the piece.
+    fn front(&self, line: &Range<usize>) -> Result<(usize, Vec<Cluster>), Box<dyn Error>> {
+        if self.is_safe_to_break(line.start) {
+            return Ok((line.start, vec![]));
+        }
+        for from in (line.start + 1..=line.end).filter(|at| self.may_join(*at)) {
+            let piece = self.shape_again(line.start..from)?;
+            if from == line.end || self.ends_clear(piece.last()) {
+                return Ok((from, piece));
+            }
+        }
+        Ok((line.end + 1, vec![]))
+    }
+
+    // The piece that ends a line, and up to where the paragraph's clusters are the line's.
+    fn back(&self, line: &Range<usize>) -> Result<(usize, Vec<Cluster>), Box<dyn Error>> {
+        if self.is_safe_to_break(line.end) {
+            return Ok((line.end, vec![]));
+        }
+        for to in (line.start..line.end).rev().filter(|at| self.may_join(*at)) {
+            let piece = self.shape_again(to..line.end)?;
+            if to == line.start || self.ends_clear(piece.first()) {
+                return Ok((to, piece));
+            }
+        }
+        Ok((line.start, self.shape_again(line.clone())?))
+    }
+
+    fn is_safe_to_break(&self, at: usize) -> bool {
+        let cluster = self.clusters.get(at);
+        cluster.is_none_or(|cluster| !cluster.is_unsafe_to_break)
+    }
+
+    // Whether a piece may meet the paragraph's clusters before this one.
+    fn may_join(&self, at: usize) -> bool {
+        let cluster = self.clusters.get(at);
+        let is_tied = |cluster: &Cluster| cluster.is_unsafe_to_break || cluster.is_unsafe_to_concat;
+        cluster.is_none_or(|cluster| !is_tied(cluster))
+    }
+
+    // Whether the cluster of a piece that meets the paragraph's is clear, where flags tell.
+    fn ends_clear(&self, cluster: Option<&Cluster>) -> bool {
+        !self.shaping.flags_concat() || cluster.is_none_or(|cluster| !cluster.is_unsafe_to_concat)
+    }
+
+    fn shape_again(&self, part: Range<usize>) -> Result<Vec<Cluster>, Box<dyn Error>> {
+        let at = |at| byte(self.text, self.clusters, at);
+        let mut clusters = self
+            .shaping
+            .clusters(self.text, at(part.start)..at(part.end))?;
+        for cluster in &mut clusters {
+            cluster.is_shaped_again = true;
+        }
+        Ok(clusters)
+    }
 }

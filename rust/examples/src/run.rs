@@ -9,7 +9,7 @@ use sengadlit::ot_shape_normalize::Rounds;
 use sengadlit::ot_shape_prepare::set_unicode_properties;
 use sengadlit::unicode::UnicodeTables;
 use sengadlit::{
-    Buffer, Direction, Face, GlyphInfo, GlyphPosition, ShapePlan, UnicodeBuffer,
+    Buffer, BufferFlags, Direction, Face, GlyphInfo, GlyphPosition, ShapePlan, UnicodeBuffer,
     try_shape_with_plan,
 };
 use std::error::Error;
@@ -26,6 +26,8 @@ pub struct Cluster {
     pub glyphs: Glyphs,
     /// Whether both sides are shaped again, if a line is broken before it.
     pub is_unsafe_to_break: bool,
+    /// Whether nothing that was shaped apart may be put before it, or behind it.
+    pub is_unsafe_to_concat: bool,
     /// Whether it was, for a line.
     pub is_shaped_again: bool,
 }
@@ -45,6 +47,7 @@ impl Cluster {
 pub struct Shaping<'f> {
     pub face: &'f Face<'f>,
     plan: ShapePlan,
+    flags: BufferFlags,
 }
 
 impl<'f> Shaping<'f> {
@@ -53,7 +56,24 @@ impl<'f> Shaping<'f> {
     /// Memory is refused.
     pub fn new(face: &'f Face<'f>, plan: ShapePlanBuilder<'_>) -> Result<Self, Box<dyn Error>> {
         let plan = plan.rounds(Rounds::Always).build(face)?;
-        Ok(Shaping { face, plan })
+        Ok(Shaping {
+            face,
+            plan,
+            flags: BufferFlags::default(),
+        })
+    }
+
+    /// The same with the flags `unsafe to concat`.
+    #[must_use]
+    pub fn flagging_concat(self) -> Self {
+        Shaping {
+            flags: BufferFlags::PRODUCE_UNSAFE_TO_CONCAT,
+            ..self
+        }
+    }
+
+    pub fn flags_concat(&self) -> bool {
+        self.flags.contains(BufferFlags::PRODUCE_UNSAFE_TO_CONCAT)
     }
 
     pub fn direction(&self) -> Direction {
@@ -67,6 +87,7 @@ impl<'f> Shaping<'f> {
     /// Those of [`try_shape_with_plan`].
     pub fn clusters(&self, text: &str, part: Range<usize>) -> Result<Vec<Cluster>, Box<dyn Error>> {
         let mut buffer = UnicodeBuffer::new();
+        buffer.set_flags(self.flags);
         buffer.try_push_str(&text[part.clone()])?;
         let shaped = try_shape_with_plan(self.face, &self.plan, buffer);
         let glyphs = shaped.map_err(|refused| refused.error)?;
@@ -82,6 +103,7 @@ impl<'f> Shaping<'f> {
                 text: place(start)..end,
                 glyphs: vec![],
                 is_unsafe_to_break: false,
+                is_unsafe_to_concat: false,
                 is_shaped_again: false,
             })
             .collect();
@@ -90,6 +112,7 @@ impl<'f> Shaping<'f> {
             let cluster = &mut clusters[stops.partition_point(|stop| *stop <= glyph.cluster) - 1];
             cluster.glyphs.push((*glyph, *position));
             cluster.is_unsafe_to_break |= glyph.mask & glyph_flag::UNSAFE_TO_BREAK != 0;
+            cluster.is_unsafe_to_concat |= glyph.mask & glyph_flag::UNSAFE_TO_CONCAT != 0;
         }
         Ok(clusters)
     }

@@ -45,7 +45,12 @@ fn lines_are_as_alone() {
         "Tofi LATVo fluffy",
     ] {
         for ems in ["0.5", "1", "2", "4", "9"] {
-            for options in [&["--anywhere"][..], &["--anywhere", "--sound"], &[]] {
+            for options in [
+                &["--anywhere"][..],
+                &["--anywhere", "--sound"],
+                &["--anywhere", "--concat"],
+                &[],
+            ] {
                 let lines = printed(wrap, options, &[ems, text]);
                 assert!(
                     lines.lines().all(|line| line.contains(", as alone: ")),
@@ -58,6 +63,32 @@ fn lines_are_as_alone() {
     }
     let lines = printed(wrap, &[], &["1000", "Tofi"]);
     assert_eq!(lines, "0 of 3 clusters shaped again, as alone: Tofi\n");
+}
+
+#[test]
+fn words_are_typed() {
+    let edit = env!("CARGO_BIN_EXE_edit");
+    let line = "AVAWAY fluffy Tofi LATVo";
+    let keys = printed(edit, &[], &["AVAWAY fluffy LATVo", "14", "Tofi "]);
+    let counts: Vec<&str> = keys
+        .lines()
+        .map(|key| key.split(": ").next().unwrap())
+        .collect();
+    assert_eq!(counts, ["T", "o", "f", "i", " "]);
+    assert!(
+        keys.lines().all(|key| key.ends_with(", as the whole")),
+        "{keys}"
+    );
+    assert!(keys.lines().last().unwrap().contains(line));
+    for (text, word) in [("السلام بيت", "لا"), ("ខ្មែរ ក្រុង", "ស្រ្តី"), ("हिन्दी", "कर्म")]
+    {
+        let keys = printed(edit, &[], &[text, &text.len().to_string(), word]);
+        assert!(
+            keys.lines().all(|key| key.ends_with(", as the whole")),
+            "{keys}"
+        );
+        assert_eq!(keys.lines().count(), word.chars().count());
+    }
 }
 
 #[test]
@@ -75,6 +106,7 @@ fn wrong_arguments() {
         env!("CARGO_BIN_EXE_caret"),
         env!("CARGO_BIN_EXE_wrap"),
         env!("CARGO_BIN_EXE_runs"),
+        env!("CARGO_BIN_EXE_edit"),
     ] {
         let done = Command::new(program).output().unwrap();
         assert!(!done.status.success() && done.stdout.is_empty());

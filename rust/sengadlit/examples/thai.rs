@@ -26,7 +26,7 @@ fn shape(text: &str) -> Result<Buffer, Box<dyn Error>> {
         .map(|(place, character)| GlyphInfo::of_character(character, place))
         .collect();
     buffer.set_script(plan.script);
-    Shaper::Thai.preprocess_text(&plan, &NominalOnly(glyph_of), &mut buffer)?;
+    Shaper::Thai.checked_preprocess_text(&plan, &NominalOnly(glyph_of), &mut buffer)?;
     Ok(buffer)
 }
 

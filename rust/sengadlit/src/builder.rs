@@ -5,7 +5,7 @@ use crate::buffer::{Script, ShaperError, Tag};
 use crate::generated::shapers_plan::ot_map::CompiledMap;
 use crate::map::{FeatureMap, Map};
 use crate::ot_shape_plan::FontFeatures;
-use crate::plan::{BaseSearch, BreakFlags, Plan, Request, StretchStart};
+use crate::plan::{BaseSearch, BreakFlags, Plan, Request, StretchStart, ZeroContext};
 use crate::shaper::Shaper;
 use core::error::Error;
 use core::fmt;
@@ -33,10 +33,10 @@ impl Plan {
     /// bits given out, as HarfBuzz's map does it; the features of GPOS count for
     /// [`has_gpos_mark`](Plan::has_gpos_mark) alone.
     ///
-    /// A caller that has no planner of its own takes [`ShapePlan::new`], which makes the requests
+    /// A caller that has no planner of its own takes [`EnginePlan::new`], which makes the requests
     /// for a script and keeps the lookups with their masks.
     ///
-    /// [`ShapePlan::new`]: crate::ot_shape_plan::ShapePlan::new
+    /// [`EnginePlan::new`]: crate::ot_shape_plan::EnginePlan::new
     ///
     /// ```
     /// use sengadlit::alloc::Global;
@@ -121,6 +121,7 @@ pub struct PlanBuilder<'a> {
     stretch_start: StretchStart,
     break_flags: BreakFlags,
     base_search: BaseSearch,
+    zero_context: ZeroContext,
 }
 
 impl<'a> PlanBuilder<'a> {
@@ -220,6 +221,15 @@ impl<'a> PlanBuilder<'a> {
         }
     }
 
+    /// Where Indic's questions to the font leave out rules that need context.
+    #[inline]
+    pub fn zero_context(self, zero_context: ZeroContext) -> Self {
+        PlanBuilder {
+            zero_context,
+            ..self
+        }
+    }
+
     /// The map of the features, stages and lookups.
     ///
     /// # Errors
@@ -251,6 +261,7 @@ impl<'a> PlanBuilder<'a> {
         plan.stretch_start = self.stretch_start;
         plan.break_flags = self.break_flags;
         plan.base_search = self.base_search;
+        plan.zero_context = self.zero_context;
         Ok(plan)
     }
 
@@ -315,8 +326,9 @@ mod tests {
     use crate::buffer::Direction;
     use crate::font::NominalOnly;
     use crate::map::{F_GLOBAL, F_NONE, TableIndex};
-    use crate::ot_shape_plan::ShapePlan;
+    use crate::ot_shape_plan::EnginePlan;
     use crate::plan::{PlanData, Planner};
+    use crate::test_font::TestFont;
     use std::string::ToString;
 
     const PREF: FeatureMap = FeatureMap::new(Tag(*b"pref"), 0x10, 1);
@@ -340,6 +352,7 @@ mod tests {
             .stretch_start(StretchStart::Centred)
             .break_flags(BreakFlags::Sound)
             .base_search(BaseSearch::AllConsonants)
+            .zero_context(ZeroContext::NewSpec)
             .build()
             .unwrap();
         let table = crate::map::TableIndex::GSUB;
@@ -348,6 +361,7 @@ mod tests {
         assert_eq!(plan.stretch_start, StretchStart::Centred);
         assert_eq!(plan.break_flags, BreakFlags::Sound);
         assert_eq!(plan.base_search, BaseSearch::AllConsonants);
+        assert_eq!(plan.zero_context, ZeroContext::NewSpec);
         assert_eq!(plan.plan_data, PlanData::None);
         assert_eq!(plan.ot_map.one_mask(PREF.tag), 0x10);
         assert_eq!(plan.ot_map.stage_of(table, PREF.tag), Some(1));
@@ -359,44 +373,20 @@ mod tests {
     }
 
     /// A font of Khmer in which every feature of GSUB has lookups 9 and 3, and GPOS places marks.
-    struct Khmer;
-
-    impl FontFeatures for Khmer {
-        fn has_table(&self, _: TableIndex) -> bool {
-            true
-        }
-
-        fn chosen_script(&self, _: TableIndex) -> Option<Tag> {
-            Some(Tag(*b"khmr"))
-        }
-
-        fn found_script(&self, _: TableIndex) -> bool {
-            true
-        }
-
-        fn feature_lookups(&self, table: TableIndex, tag: Tag) -> Option<&[u16]> {
+    const KHMER: TestFont = TestFont {
+        tables: &[TableIndex::GSUB, TableIndex::GPOS],
+        script: Tag(*b"khmr"),
+        lookups: |table, tag| {
             (table == TableIndex::GSUB || tag == Tag(*b"mark")).then_some(&[9, 3])
-        }
-
-        fn any_feature_lookups(&self, _: TableIndex, _: Tag) -> Option<&[u16]> {
-            None
-        }
-
-        fn required_feature(&self, _: TableIndex) -> Option<Tag> {
-            None
-        }
-
-        fn required_lookups(&self, _: TableIndex) -> &[u16] {
-            &[]
-        }
-    }
+        },
+    };
 
     #[test]
     fn a_plan_of_requests_has_bits_stages_and_lookups() {
         let feature = |tag: &[u8; 4], flags| Request::Feature(Tag(*tag), flags, 1);
         let pause = Request::Pause(None);
         let requests = [feature(b"pref", F_NONE), pause, feature(b"abvs", F_GLOBAL)];
-        let plan = Plan::from_requests(Shaper::Khmer, Script(*b"Khmr"), &requests, &Khmer).unwrap();
+        let plan = Plan::from_requests(Shaper::Khmer, Script(*b"Khmr"), &requests, &KHMER).unwrap();
         assert_eq!(plan.script, Some(Script(*b"Khmr")));
         let (map, gsub) = (&plan.ot_map, TableIndex::GSUB);
         assert_eq!(map.global_bits(), 1 << 31);
@@ -410,7 +400,7 @@ mod tests {
         }
         assert!(!plan.has_gpos_mark);
         let marks = [feature(b"mark", F_GLOBAL)];
-        let plan = Plan::from_requests(None, None, &marks, &Khmer).unwrap();
+        let plan = Plan::from_requests(None, None, &marks, &KHMER).unwrap();
         assert_eq!((plan.has_gpos_mark, plan.plan_data), (true, PlanData::None));
     }
 
@@ -418,11 +408,11 @@ mod tests {
     fn a_plan_of_a_planners_requests_is_that_of_the_text() {
         let (font, script) = (NominalOnly(|_| None), Some(Script(*b"Khmr")));
         let left = Direction::LeftToRight;
-        let whole = ShapePlan::new(Global, script, left, &font, &Khmer, &[]).unwrap();
+        let whole = EnginePlan::new(Global, script, left, &font, &KHMER, &[]).unwrap();
         let mut planner = Planner::new(Global, script);
         Shaper::Khmer.collect_features(&font, &mut planner).unwrap();
         Shaper::Khmer.override_features(&mut planner).unwrap();
-        let plan = Plan::from_requests(Shaper::Khmer, script, planner.requests(), &Khmer).unwrap();
+        let plan = Plan::from_requests(Shaper::Khmer, script, planner.requests(), &KHMER).unwrap();
         let map = &plan.ot_map;
         for tag in [b"pref", b"blwf", b"abvf", b"pstf", b"cfar"] {
             assert_eq!(
@@ -439,6 +429,7 @@ mod tests {
         assert_eq!(plan.stretch_start, StretchStart::AsCode);
         assert_eq!(plan.break_flags, BreakFlags::AsCode);
         assert_eq!(plan.base_search, BaseSearch::WithoutMedials);
+        assert_eq!(plan.zero_context, ZeroContext::OldSpec);
         assert_eq!(plan.ot_map.global_bits(), 0);
         assert_eq!(plan.ot_map.chosen_script(TableIndex::GSUB), None);
         assert!(!plan.ot_map.found_script(TableIndex::GSUB));

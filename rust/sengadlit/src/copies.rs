@@ -3,7 +3,7 @@
 use crate::alloc::{AllocError, Global, Vec};
 use crate::buffer::{Buffer, ShaperError};
 use crate::map::Map;
-use crate::ot_shape_plan::ShapePlan;
+use crate::ot_shape_plan::EnginePlan;
 use crate::plan::{Plan, Planner};
 use core::ops::Range;
 
@@ -20,7 +20,8 @@ impl PartialEq for Buffer {
 impl Eq for Buffer {}
 
 impl Buffer {
-    /// An equal buffer, with the same places listed.
+    /// An equal buffer, with the same places listed: [`copy`](Buffer::copy) by the name that Rust
+    /// gives a clone that may be refused.
     ///
     /// # Errors
     ///
@@ -80,14 +81,14 @@ impl Planner {
     }
 }
 
-impl ShapePlan {
+impl EnginePlan {
     /// An equal plan.
     ///
     /// # Errors
     ///
     /// Memory is refused.
     pub fn try_clone(&self) -> Result<Self, AllocError> {
-        Ok(ShapePlan {
+        Ok(EnginePlan {
             plan: self.plan.try_clone()?,
             substitutions: Vec::from_slice(Global, &self.substitutions)?,
             lookups: Vec::from_slice(Global, &self.lookups)?,
@@ -106,9 +107,10 @@ mod tests {
     };
     use crate::font::NominalOnly;
     use crate::map::{FeatureMap, TableIndex};
-    use crate::ot_shape_plan::{FontFeatures, ShapePlan, UserFeature};
+    use crate::ot_shape_plan::{EnginePlan, UserFeature};
     use crate::plan::{Pause, Plan, Planner};
     use crate::shaper::Shaper;
+    use crate::test_font::TestFont;
     use crate::{Script, Tag};
 
     #[test]
@@ -167,37 +169,11 @@ mod tests {
     }
 
     /// A font in which each feature of both tables has lookup 5.
-    struct Latin;
-
-    impl FontFeatures for Latin {
-        fn has_table(&self, _: TableIndex) -> bool {
-            true
-        }
-
-        fn chosen_script(&self, _: TableIndex) -> Option<Tag> {
-            Some(Tag(*b"latn"))
-        }
-
-        fn found_script(&self, _: TableIndex) -> bool {
-            true
-        }
-
-        fn feature_lookups(&self, _: TableIndex, _: Tag) -> Option<&[u16]> {
-            Some(&[5])
-        }
-
-        fn any_feature_lookups(&self, _: TableIndex, _: Tag) -> Option<&[u16]> {
-            None
-        }
-
-        fn required_feature(&self, _: TableIndex) -> Option<Tag> {
-            None
-        }
-
-        fn required_lookups(&self, _: TableIndex) -> &[u16] {
-            &[]
-        }
-    }
+    const LATIN: TestFont = TestFont {
+        tables: &[TableIndex::GSUB, TableIndex::GPOS],
+        script: Tag(*b"latn"),
+        lookups: |_, _| Some(&[5]),
+    };
 
     #[test]
     fn a_copied_plan_of_a_text_has_all_lists() {
@@ -209,10 +185,10 @@ mod tests {
             start: 2,
             end: 4,
         };
-        let plan = ShapePlan::new(Global, script, left, &font, &Latin, &[user]).unwrap();
+        let plan = EnginePlan::new(Global, script, left, &font, &LATIN, &[user]).unwrap();
         let copy = plan.try_clone().unwrap();
         assert_eq!(copy, plan);
-        let lens = |plan: &ShapePlan| {
+        let lens = |plan: &EnginePlan| {
             let lists = (plan.lookups().len(), plan.positioning().len());
             (lists, plan.ranges().len(), plan.stages().len())
         };

@@ -4,7 +4,7 @@ use crate::buffer::{ShaperError, Tag};
 use crate::map::{F_GLOBAL, F_HAS_FALLBACK, F_MANUAL_ZWJ, F_MANUAL_ZWNJ, F_PER_SYLLABLE};
 use crate::ot_shape_plan::{F_GLOBAL_SEARCH, F_RANDOM};
 use crate::plan::{Planner, Request};
-use crate::support::bitflags::{Flag, Flags, bitflag_items};
+use crate::support::bitflags::bitflag_items;
 
 /// How a feature is requested: the flags whose bits [`Request::Feature`] and
 /// [`Planner::add_feature`] take.
@@ -39,25 +39,6 @@ bitflag_items! {
         const RANDOM = F_RANDOM;
         /// The feature stays within a syllable ([`F_PER_SYLLABLE`]).
         const PER_SYLLABLE = F_PER_SYLLABLE;
-    }
-}
-
-impl Flags for FeatureFlags {
-    type Bits = u32;
-
-    #[inline]
-    fn flags<'a>() -> &'a [Flag<FeatureFlags>] {
-        FeatureFlags::FLAGS
-    }
-
-    #[inline]
-    fn bits(&self) -> u32 {
-        self.0
-    }
-
-    #[inline]
-    fn from_bits_retain(bits: u32) -> FeatureFlags {
-        FeatureFlags(bits)
     }
 }
 
@@ -128,7 +109,7 @@ mod tests {
 
     #[test]
     fn each_bit_is_one_flag() {
-        let bits = FeatureFlags::FLAGS.iter().map(|flag| flag.value().0);
+        let bits = FeatureFlags::FLAGS.iter().map(|(_, flag)| flag.0);
         assert!(bits.eq((0..7).map(|bit| 1 << bit)));
         assert_eq!(u32::from(FeatureFlags::all()), 127);
         assert_eq!(format!("{:#x}", FeatureFlags::RANDOM), "0x20");

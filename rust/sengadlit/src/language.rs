@@ -101,7 +101,13 @@ impl core::error::Error for LanguageError {}
 /// The tags of OpenType for a text's script and language, the best first (HarfBuzz's
 /// `hb_ot_tags_from_script_and_language`).
 pub(crate) fn text_tags(script: Option<Script>, language: Option<&Language>) -> TextTags {
-    let text = language.map_or("", Language::as_str);
+    let Some(language) = language else {
+        return TextTags {
+            scripts: tags_of_script(script),
+            languages: TagList::new(&[]),
+        };
+    };
+    let text = language.as_str();
     let (public, private) = split_private(text);
     let script_tag = private_tag(private, "-hbsc", u8::to_ascii_lowercase);
     let language_tag = private_tag(private, "-hbot", u8::to_ascii_uppercase);

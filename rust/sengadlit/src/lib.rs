@@ -36,7 +36,7 @@
 //! | `shape`, `try_shape`, `ShapeError` | a text is shaped |
 //! | `ShapePlan`, `PlanCache`, `shape_with_plan`, `shape_with_cache`, `try_shape_with_plan`, `try_shape_with_cache` | many texts are shaped |
 //! | `GlyphBuffer`, `SerializeFlags`; [`GlyphInfo`], [`GlyphPosition`] | glyphs with their positions |
-//! | [`Buffer`], [`Shaper`], [`run_pause`], [`Pause`], [`Span`], [`ShaperError`] | the hooks, and what they rewrite |
+//! | [`Buffer`], [`Shaper`], [`checked_run_pause`], [`run_pause`], [`Pause`], [`Span`], [`CallError`], [`Condition`], [`ShaperError`] | the hooks, and what they rewrite |
 //! | [`Plan`], [`PlanData`], [`Planner`], [`Request`], [`Preprocess`], [`JoiningType`], [`Map`], [`FeatureMap`] | what a shaper decides before a text is seen |
 //! | [`Font`], [`GlyphId`], [`Tables`] | what hooks read of a font and of Unicode |
 //! | [`GeneralCategory`], [`GlyphProps`], [`LigProps`], [`UnicodeProps`], [`UnknownNumber`] | what a glyph keeps of its character and of lookups, and numbers of enums |
@@ -55,7 +55,7 @@
 //!
 //! let plan = Plan::builder().script(script::THAI).build_for(Shaper::Thai)?;
 //! let mut buffer = Buffer::from("\u{0E14}\u{0E4B}\u{0E33}");
-//! Shaper::Thai.preprocess_text(&plan, &font, &mut buffer)?;
+//! Shaper::Thai.checked_preprocess_text(&plan, &font, &mut buffer)?;
 //!
 //! let characters: Vec<u32> = buffer.glyphs().iter().map(|glyph| glyph.glyph_id).collect();
 //! assert_eq!(characters, [0x0E14, 0x0E4D, 0x0E4B, 0x0E32]);
@@ -64,8 +64,10 @@
 //!
 //! # The hooks in the order of a pipeline
 //!
-//! Each is a method of [`Shaper`]; one that the shaper lacks returns `NoHook`, or `None`, and changes
-//! nothing, and [`Shaper::has_hook`] says which it has.
+//! Each is a method of [`Shaper`]; one that the shaper lacks returns `None` and changes
+//! nothing, and [`Shaper::has_hook`] says which it has. The names with `checked` test the conditions of
+//! a call ([below](#the-callers-part)) before they make it; without it they are the rules' names, which
+//! don't test.
 //!
 //! 1. *Plan time*, once for a script and a font: [`collect_features`] and [`override_features`] fill
 //!    a [`Planner`] with features and pauses. From those that the font has, [`Plan::from_requests`]
@@ -73,19 +75,18 @@
 //!    [`Shaper::with_data`] (or [`create_data`]).
 //! 2. *Text*: [`Shaper::for_script`] chooses the shaper. [`Buffer`] takes the characters, their
 //!    clusters and general categories, `Buffer::from_text` a text with all that Unicode says of it.
-//!    [`preprocess_text`] rewrites them.
-//! 3. *Normalization*: [`decompose`], [`compose`], and between them [`reorder_marks`] for each run of
-//!    characters with a combining class, once it is sorted by it;
+//!    [`checked_preprocess_text`], or [`preprocess_text`], rewrites them.
+//! 3. *Normalization*: [`decompose`], [`compose`], and between them [`checked_reorder_marks`], or
+//!    [`reorder_marks`], for each run of characters with a combining class, once it is sorted by it;
 //!    [`normalization_preference`] says how.
-//! 4. [`setup_masks`] sets each character's category ([`categories`]) and the features that it takes,
-//!    whose bits it adds to the mask. Then
-//!    characters become glyphs.
-//! 5. *Lookups*, stage by stage. Between two stages [`run_pause`] runs the pauses that the planner
-//!    has there: syllables are set up from [`Span`]s (or as they are found, by
+//! 4. [`checked_setup_masks`], or [`setup_masks`], sets each character's category ([`categories`]) and
+//!    the features that it takes, whose bits it adds to the mask. Then characters become glyphs.
+//! 5. *Lookups*, stage by stage. Between two stages [`checked_run_pause`], or [`run_pause`], runs the
+//!    pauses that the planner has there: syllables are set up from [`Span`]s (or as they are found, by
 //!    [`spans::setup_syllables_found`]), reordered, recorded. A lookup may take
 //!    [`Buffer::replace_range`] and [`Buffer::ligate`], which set the marks that pauses read.
 //! 6. *Positioning*: [`zero_width_marks`], [`fallback_position`] and [`gpos_tag`] say how. Then
-//!    [`postprocess_glyphs`] stretches each mark over the word before it in the buffer, which has
+//!    [`checked_postprocess_glyphs`], or [`postprocess_glyphs`], stretches each mark over the word before it in the buffer, which has
 //!    visual order by then: a text from right to left is reversed.
 //!
 //! [`Buffer::clear`] makes the buffer ready for another text. With the feature `text`, `ot_shape` takes
@@ -98,7 +99,7 @@
 //! # let font = NominalOnly(|_| None);
 //! use sengadlit::ot_shaper_syllabic::khmer_syllable::CONSONANT_SYLLABLE;
 //! use sengadlit::plan::ot_category_t::{OT_C, OT_VPre};
-//! use sengadlit::{Buffer, GlyphInfo, Pause, Plan, Shaper, Span, run_pause, script};
+//! use sengadlit::{Buffer, GlyphInfo, Pause, Plan, Shaper, Span, checked_run_pause, script};
 //!
 //! let plan = Plan::builder().script(script::KHMER).build_for(Shaper::Khmer)?;
 //! let letter = |c, cluster, category| GlyphInfo { category, ..GlyphInfo::of_character(c, cluster) };
@@ -106,8 +107,8 @@
 //! let letters = [letter('\u{1780}', 0, OT_C), letter('\u{17C1}', 3, OT_VPre)];
 //! let mut buffer: Buffer = letters.into_iter().collect();
 //! let spans = [Span { len: 2, kind: CONSONANT_SYLLABLE }];
-//! run_pause(Pause::SetupSyllablesKhmer, &plan, &font, &spans, &mut buffer)?;
-//! run_pause(Pause::ReorderKhmer, &plan, &font, &[], &mut buffer)?;
+//! checked_run_pause(Pause::SetupSyllablesKhmer, &plan, &font, &spans, &mut buffer)?;
+//! checked_run_pause(Pause::ReorderKhmer, &plan, &font, &[], &mut buffer)?;
 //!
 //! let glyphs: Vec<_> = buffer.glyphs().iter().map(|glyph| (glyph.glyph_id, glyph.cluster)).collect();
 //! assert_eq!(glyphs, [(0x17C1, 0), (0x1780, 0)]);
@@ -116,20 +117,18 @@
 //!
 //! # The caller's part
 //!
-//! - **Conditions.** Some calls have conditions, `requires` in the contract. Where one isn't met the
-//!   result is unspecified and the call may panic; memory stays safe.
+//! - **Conditions.** Some calls have conditions, `requires` in the contract. The checked ones test them
+//!   before they change anything, and return the first that isn't met ([`shaper::checked`]). The others
+//!   don't test: where a condition isn't met, the result is unspecified and the call may panic; memory
+//!   stays safe. [`Shaper::with_data`] and [`Plan::builder`] make plans that fit.
 //!
-//!   | call | requires |
-//!   |---|---|
-//!   | [`preprocess_text`], [`setup_masks`], [`reorder_marks`], [`run_pause`] | the buffer has no positions |
-//!   | [`setup_masks`] | for Arabic, Hangul and universal: the plan has the shaper's data; for Arabic, and for universal where letters join: glyphs are characters |
-//!   | [`reorder_marks`] | `start <= end`, and `end` is within the buffer; for Arabic, at most 32 places |
-//!   | [`run_pause`] | kinds of spans are at most 15; the plan has the data that the pause reads |
-//!   | [`postprocess_glyphs`] | one position per glyph; for Arabic, its data in the plan, and glyph numbers of at most 65535 |
-//!
-//!   [`Shaper::with_data`] and [`Plan::builder`] make plans that fit. A caller who can't know
-//!   uses the checked methods, which test the conditions before they change anything: see
-//!   [`shaper::checked`].
+//!   | tests its conditions | doesn't | conditions |
+//!   |---|---|---|
+//!   | [`checked_preprocess_text`] | [`preprocess_text`] | the buffer has no positions |
+//!   | [`checked_setup_masks`] | [`setup_masks`] | the same; for Arabic, Hangul and universal: the plan has the shaper's data; for Arabic, and for universal where letters join: glyphs are characters |
+//!   | [`checked_reorder_marks`] | [`reorder_marks`] | the buffer has no positions; `start <= end`, and `end` is within the buffer; for Arabic, at most 32 places |
+//!   | [`checked_run_pause`] | [`run_pause`] | the buffer has no positions; kinds of spans are at most 15; the plan has the data that the pause reads |
+//!   | [`checked_postprocess_glyphs`] | [`postprocess_glyphs`] | one position per glyph; for Arabic, its data in the plan, and glyph numbers of at most 65535 |
 //! - **Fonts and tables.** A [`Font`] and [`Tables`] return the same result for the same arguments. A
 //!   font that overrides [`Font::has_glyph`] or [`Font::would_apply_any`] returns what the provided
 //!   method would.
@@ -160,15 +159,19 @@
 //! [`collect_features`]: Shaper::collect_features
 //! [`override_features`]: Shaper::override_features
 //! [`create_data`]: Shaper::create_data
+//! [`checked_preprocess_text`]: Shaper::checked_preprocess_text
 //! [`preprocess_text`]: Shaper::preprocess_text
 //! [`decompose`]: Shaper::decompose
 //! [`compose`]: Shaper::compose
+//! [`checked_reorder_marks`]: Shaper::checked_reorder_marks
 //! [`reorder_marks`]: Shaper::reorder_marks
 //! [`normalization_preference`]: Shaper::normalization_preference
+//! [`checked_setup_masks`]: Shaper::checked_setup_masks
 //! [`setup_masks`]: Shaper::setup_masks
 //! [`zero_width_marks`]: Shaper::zero_width_marks
 //! [`fallback_position`]: Shaper::fallback_position
 //! [`gpos_tag`]: Shaper::gpos_tag
+//! [`checked_postprocess_glyphs`]: Shaper::checked_postprocess_glyphs
 //! [`postprocess_glyphs`]: Shaper::postprocess_glyphs
 #![no_std]
 #![forbid(unsafe_code)]
@@ -192,6 +195,8 @@ mod properties;
 mod references;
 mod substituting;
 mod support;
+#[cfg(test)]
+mod test_font;
 mod text;
 mod values;
 
@@ -253,6 +258,10 @@ mod generated {
     pub(crate) mod rustybuzz_shapers;
     pub(crate) mod shapers_arabic;
     pub(crate) mod shapers_base;
+    #[allow(
+        dead_code,
+        reason = "what hooks need of the buffer is the crate's alone, and some builds need less"
+    )]
     pub(crate) mod shapers_buffer;
     pub(crate) mod shapers_choice;
     pub(crate) mod shapers_clusters;
@@ -287,7 +296,6 @@ pub mod alloc;
 pub mod buffer;
 pub mod categories;
 pub mod editing;
-pub mod flags;
 pub mod font;
 #[cfg(feature = "opentype")]
 pub mod language;
@@ -339,6 +347,7 @@ pub use opentype::{
     try_shape_with_cache, try_shape_with_plan,
 };
 pub use plan::{JoiningType, Pause, Plan, PlanData, Planner, Preprocess, Request};
+pub use shaper::checked::{CallError, Condition, checked_run_pause};
 pub use shaper::{Shaper, run_pause};
 
 /// What is shared between threads, or moved to another one.

@@ -17,7 +17,8 @@
 //! # Many texts
 //!
 //! What is decided before a text is seen, by its script, direction, language and features, is a
-//! [`ShapePlan`]. A [`PlanCache`] makes each once; the buffer of a text that is shaped serves the next.
+//! [`ShapePlan`]. A [`PlanCache`] makes each once; the buffer of a text that is shaped serves the next. A
+//! font's tables are searched at each glyph unless [`Face::prepare`] has made others of them.
 //!
 //! ```
 //! use sengadlit::{Face, Feature, PlanCache, UnicodeBuffer, shape_with_cache};
@@ -57,6 +58,7 @@ mod in_place;
 mod kerning;
 mod marks;
 mod plan;
+mod reshaping;
 mod scale;
 mod serialize;
 mod settings;

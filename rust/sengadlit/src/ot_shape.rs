@@ -1,5 +1,5 @@
 //! From a text to glyphs with positions, in the order of HarfBuzz's hb-ot-shape, by a
-//! [`ShapePlan`](crate::ot_shape_plan::ShapePlan) and a caller's [`Lookups`]: [`shape`] does it all.
+//! [`EnginePlan`](crate::ot_shape_plan::EnginePlan) and a caller's [`Lookups`]: [`shape`] does it all.
 //! [`prepare_text`] does what comes before the font's lookups, [`run_stages`] runs those of GSUB,
 //! with what the shaper does behind each stage, and [`substitute_text`] does both. [`length_bound`]
 //! tells for how many glyphs a text needs room.
@@ -59,7 +59,7 @@
 //! #                 buffer.merge_clusters(at, at + 2);
 //! #                 buffer.set(at, sengadlit::GlyphInfo { glyph_id: 0xE000, ..buffer.get(at) });
 //! #                 for place in at + 1..buffer.len() - 1 {
-//! #                     buffer.copy_glyph(place + 1, place);
+//! #                     buffer.set(place, buffer.get(place + 1));
 //! #                 }
 //! #                 buffer.truncate(buffer.len() - 1);
 //! #             }
@@ -70,7 +70,7 @@
 //! # }
 //! use sengadlit::alloc::Global;
 //! use sengadlit::ot_shape::{ShapeSettings, shape};
-//! use sengadlit::ot_shape_plan::ShapePlan;
+//! use sengadlit::ot_shape_plan::EnginePlan;
 //! use sengadlit::ot_shape_position::DefaultIgnorables::Hide;
 //! use sengadlit::unicode::UnicodeTables;
 //! use sengadlit::{Buffer, Direction, script};
@@ -78,7 +78,7 @@
 //! // with `Font`, `NormalizeFont`, `MetricsFont`, `FontFeatures` and `Lookups`
 //! let font = MyFont;
 //! let (script, direction) = (Some(script::KHMER), Direction::LeftToRight);
-//! let plan = ShapePlan::new(Global, script, direction, &font, &font, &[])?;
+//! let plan = EnginePlan::new(Global, script, direction, &font, &font, &[])?;
 //! let mut buffer = Buffer::from("ខ្មែរ");
 //! let settings = ShapeSettings { normalize: Default::default(), ignorables: Hide };
 //! shape(&plan, &settings, &font, &UnicodeTables, &font, &mut buffer)?;
@@ -146,7 +146,7 @@ mod tests {
     use crate::font::{Font, GlyphId};
     use crate::map::TableIndex;
     use crate::ot_shape_normalize::{NormalizeFont, NormalizeSettings, Rounds};
-    use crate::ot_shape_plan::{FontFeatures, ShapePlan, StageLookup};
+    use crate::ot_shape_plan::{EnginePlan, FontFeatures, StageLookup};
     use crate::ot_shape_position::{DefaultIgnorables, GlyphClasses, MetricsFont};
     use crate::unicode::UnicodeTables;
     use std::vec::Vec;
@@ -265,7 +265,7 @@ mod tests {
     fn a_word_goes_through_all_stages() {
         let script = Some(Script(*b"Khmr"));
         let direction = Direction::LeftToRight;
-        let plan = ShapePlan::new(Global, script, direction, &Khmer, &Khmer, &[]).unwrap();
+        let plan = EnginePlan::new(Global, script, direction, &Khmer, &Khmer, &[]).unwrap();
         let mut text = Buffer::from("\u{1781}\u{17C2}\u{1784}");
         text.set_script(script);
         text.set_direction(direction);
@@ -299,9 +299,9 @@ mod tests {
         ignorables: DefaultIgnorables::Hide,
     };
 
-    fn khmer_plan() -> ShapePlan {
+    fn khmer_plan() -> EnginePlan {
         let script = Some(Script(*b"Khmr"));
-        ShapePlan::new(Global, script, Direction::LeftToRight, &Khmer, &Khmer, &[]).unwrap()
+        EnginePlan::new(Global, script, Direction::LeftToRight, &Khmer, &Khmer, &[]).unwrap()
     }
 
     fn khmer_text(text: &str) -> Buffer {
@@ -366,7 +366,7 @@ mod tests {
     #[test]
     fn vertical_text_runs_down() {
         let (script, direction) = (Some(Script(*b"Khmr")), Direction::TopToBottom);
-        let plan = ShapePlan::new(Global, script, direction, &Khmer, &Khmer, &[]).unwrap();
+        let plan = EnginePlan::new(Global, script, direction, &Khmer, &Khmer, &[]).unwrap();
         let mut text = khmer_text("\u{1780}\u{2002}");
         text.set_direction(direction);
         let lookups = SingleLookups { singles: &[] };
@@ -420,7 +420,7 @@ mod tests {
     fn the_direction_is_the_callers_again() {
         let script = Some(Script(*b"Hebr"));
         let direction = Direction::LeftToRight;
-        let plan = ShapePlan::new(Global, script, direction, &Khmer, &Khmer, &[]).unwrap();
+        let plan = EnginePlan::new(Global, script, direction, &Khmer, &Khmer, &[]).unwrap();
         let mut text = Buffer::from("\u{5D0}\u{5D1}");
         text.set_script(script);
         text.set_direction(direction);

@@ -1,16 +1,16 @@
 //! The plan of a text: what a script, a direction, a font and the user's features decide before a
 //! text is seen.
 //!
-//! [`ShapePlan::new`] chooses the shaper, collects what it and the user request, joins requests by
+//! [`EnginePlan::new`] chooses the shaper, collects what it and the user request, joins requests by
 //! tag, gives each feature its bits of a glyph's mask, and puts the font's lookups into stages. A
-//! caller's [`FontFeatures`] says which lookups a feature has. [`ShapePlan::with_choices`] also takes
+//! caller's [`FontFeatures`] says which lookups a feature has. [`EnginePlan::with_choices`] also takes
 //! what a caller chooses of the shapers' ways, as [`Plan::builder`](crate::Plan::builder) does.
 //!
 //! ```
 //! use sengadlit::alloc::Global;
 //! use sengadlit::font::NominalOnly;
 //! use sengadlit::map::TableIndex;
-//! use sengadlit::ot_shape_plan::{FontFeatures, ShapePlan};
+//! use sengadlit::ot_shape_plan::{FontFeatures, EnginePlan};
 //! use sengadlit::{Direction, Script, Tag};
 //!
 //! /// A font that has ligatures, by lookup 4 of GSUB.
@@ -42,7 +42,7 @@
 //!
 //! let script = Some(Script(*b"Latn"));
 //! let font = NominalOnly(|_| None);
-//! let plan = ShapePlan::new(Global, script, Direction::LeftToRight, &font, &Ligatures, &[])?;
+//! let plan = EnginePlan::new(Global, script, Direction::LeftToRight, &font, &Ligatures, &[])?;
 //!
 //! // variations of the font have a stage of their own, which is empty here
 //! let stages: Vec<_> = plan.stages().iter().map(|stage| stage.start..stage.end).collect();
@@ -56,57 +56,32 @@ pub use crate::generated::shapers_plan::ot_map::{
     F_GLOBAL_SEARCH, F_RANDOM, FontFeatures, Stage, StageLookup,
 };
 pub use crate::generated::shapers_plan::ot_shape_plan::{
-    DriverMasks, ShapeChoices, ShapePlan, UserFeature, UserRange, driver_masks,
+    DriverMasks, EnginePlan, ShapeChoices, UserFeature, UserRange, driver_masks,
 };
 
 #[cfg(test)]
 mod tests {
-    use super::{FontFeatures, ShapeChoices, ShapePlan, UserFeature};
+    use super::{EnginePlan, ShapeChoices, UserFeature};
     use crate::alloc::Global;
     use crate::buffer::{Direction, Script, Tag};
     use crate::font::{FeaturesOnly, NominalOnly};
     use crate::map::TableIndex;
-    use crate::plan::{BaseSearch, BreakFlags, Pause, StretchStart};
+    use crate::plan::{BaseSearch, BreakFlags, Pause, StretchStart, ZeroContext};
     use crate::shaper::Shaper;
+    use crate::test_font::TestFont;
     use std::vec::Vec;
 
     /// A font of the script Khmer, in which every feature of GSUB has lookups 9 and 3.
-    struct Khmer;
+    const KHMER: TestFont = TestFont {
+        tables: &[TableIndex::GSUB],
+        script: Tag(*b"khmr"),
+        lookups: |table, _| (table == TableIndex::GSUB).then_some(&[9, 3]),
+    };
 
-    impl FontFeatures for Khmer {
-        fn has_table(&self, table: TableIndex) -> bool {
-            table == TableIndex::GSUB
-        }
-
-        fn chosen_script(&self, _: TableIndex) -> Option<Tag> {
-            Some(Tag(*b"khmr"))
-        }
-
-        fn found_script(&self, _: TableIndex) -> bool {
-            true
-        }
-
-        fn feature_lookups(&self, table: TableIndex, _: Tag) -> Option<&[u16]> {
-            (table == TableIndex::GSUB).then_some(&[9, 3])
-        }
-
-        fn any_feature_lookups(&self, _: TableIndex, _: Tag) -> Option<&[u16]> {
-            None
-        }
-
-        fn required_feature(&self, _: TableIndex) -> Option<Tag> {
-            None
-        }
-
-        fn required_lookups(&self, _: TableIndex) -> &[u16] {
-            &[]
-        }
-    }
-
-    fn plan_of(users: &[UserFeature]) -> ShapePlan {
+    fn plan_of(users: &[UserFeature]) -> EnginePlan {
         let script = Some(Script(*b"Khmr"));
         let font = NominalOnly(|_| None);
-        ShapePlan::new(Global, script, Direction::LeftToRight, &font, &Khmer, users).unwrap()
+        EnginePlan::new(Global, script, Direction::LeftToRight, &font, &KHMER, users).unwrap()
     }
 
     #[test]
@@ -166,11 +141,13 @@ mod tests {
             stretch_start: StretchStart::Centred,
             break_flags: BreakFlags::Sound,
             base_search: BaseSearch::AllConsonants,
+            zero_context: ZeroContext::NewSpec,
         };
         let plan_for = |script, choices| {
             let font = FeaturesOnly(|_| false);
             let (script, direction) = (Some(Script(script)), Direction::LeftToRight);
-            ShapePlan::with_choices(Global, script, direction, &font, &Khmer, &[], choices).unwrap()
+            EnginePlan::with_choices(Global, script, direction, &font, &KHMER, &[], choices)
+                .unwrap()
         };
         for wanted in [ShapeChoices::default(), choices] {
             let arabic = plan_for(*b"Arab", wanted);
@@ -181,6 +158,8 @@ mod tests {
             let indic = plan_for(*b"Deva", wanted);
             let kept = indic.plan().plan_data.indic().unwrap();
             assert_eq!(kept.base_search, wanted.base_search);
+            // (this font has no script of the newer specification)
+            assert_eq!(indic.plan().zero_context, wanted.zero_context);
         }
         let default = plan_for(*b"Khmr", ShapeChoices::default());
         assert_eq!(default, plan_of(&[]));

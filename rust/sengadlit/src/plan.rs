@@ -6,7 +6,7 @@ pub use crate::generated::shapers_base::plan::{
     ArabicPlan, BaseSearch, BlwfMode, BreakFlags, Category, HangulPlan, IndicConfig, IndicPlan,
     IndicWouldSubstituteFeature, JoiningType, KhmerPlan, NormalizationMode, Pause, Plan, PlanData,
     Planner, Position, Preprocess, RephMode, RephPosition, Request, StretchStart, UniversalPlan,
-    ZeroWidthMarks, ot_category_t, ot_position_t,
+    ZeroContext, ZeroWidthMarks, ot_category_t, ot_position_t,
 };
 
 impl Pause {

@@ -2,7 +2,6 @@
 //! them, beside what the sources have of them, and how they are shown.
 
 use crate::buffer::{GeneralCategory, GlyphInfo, GlyphProps, LigProps, UnicodeProps};
-use crate::flags::Flags;
 use core::fmt;
 
 /// What lookups leave in a glyph whatever its class (HarfBuzz's `HB_OT_LAYOUT_GLYPH_PROPS_PRESERVE`).
@@ -138,7 +137,8 @@ impl fmt::Debug for GlyphProps {
         if self.is_empty() {
             f.write_str("NONE")?;
         }
-        write_flags(self, f)?;
+        let names = GlyphProps::FLAGS.iter().map(|(name, flag)| (*name, flag.0));
+        write_flags(self.0, names, f)?;
         f.write_str(")")
     }
 }
@@ -171,20 +171,26 @@ impl fmt::Debug for UnicodeProps {
         if !bits.is_empty() {
             f.write_str(", ")?;
         }
-        write_flags(&bits, f)?;
+        let names = UnicodeProps::FLAGS
+            .iter()
+            .map(|(name, flag)| (*name, flag.0));
+        write_flags(bits.0, names, f)?;
         f.write_str(")")
     }
 }
 
 // The names of bits with `|` between them, and a number for what has none.
-fn write_flags<F: Flags<Bits = u16>>(flags: &F, f: &mut fmt::Formatter<'_>) -> fmt::Result {
-    let mut names = flags.iter_names();
-    let mut between = "";
-    for (name, _) in names.by_ref() {
+fn write_flags(
+    bits: u16,
+    names: impl Iterator<Item = (&'static str, u16)>,
+    f: &mut fmt::Formatter<'_>,
+) -> fmt::Result {
+    let (mut rest, mut between) = (bits, "");
+    for (name, flag) in names.filter(|(_, flag)| bits & flag == *flag) {
         write!(f, "{between}{name}")?;
-        between = " | ";
+        (rest, between) = (rest & !flag, " | ");
     }
-    match names.remaining().bits() {
+    match rest {
         0 => Ok(()),
         rest => write!(f, "{between}{rest:#x}"),
     }

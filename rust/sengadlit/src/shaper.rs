@@ -1,14 +1,14 @@
-//! The shapers, one method per hook, and what runs between two stages of lookups.
-
-pub use crate::generated::rustybuzz_shapers::shaper::{
-    ARABIC_SHAPER, Composition, Decomposition, HANGUL_SHAPER, HEBREW_SHAPER, Hook, HookOutcome,
-    INDIC_SHAPER, KHMER_SHAPER, MYANMAR_SHAPER, MYANMAR_ZAWGYI_SHAPER, Shaper, THAI_SHAPER,
-    UNIVERSAL_SHAPER, has_positions, kinds_fit, lacks_positions, pause_fits, pause_may_change,
-    run_pause,
-};
-pub use crate::plan::{NormalizationMode, Pause, PlanData, Preprocess, ZeroWidthMarks};
+//! The shapers, one method per hook, and what runs between two stages of lookups. The module
+//! [`checked`] has the calls that test their conditions.
 
 pub mod checked;
+
+pub use crate::generated::rustybuzz_shapers::shaper::{
+    ARABIC_SHAPER, HANGUL_SHAPER, HEBREW_SHAPER, Hook, INDIC_SHAPER, KHMER_SHAPER, MYANMAR_SHAPER,
+    MYANMAR_ZAWGYI_SHAPER, Shaper, THAI_SHAPER, UNIVERSAL_SHAPER, has_positions, kinds_fit,
+    lacks_positions, pause_fits, pause_may_change, run_pause,
+};
+pub use crate::plan::{NormalizationMode, Pause, PlanData, Preprocess, ZeroWidthMarks};
 
 use crate::buffer::{Direction, Script, Tag};
 use crate::generated::shapers_choice::{ScriptShaper, shaper_for_script};
@@ -55,47 +55,6 @@ impl Shaper {
     ];
 }
 
-impl HookOutcome {
-    /// Whether the shaper has the hook, which ran.
-    #[inline]
-    pub const fn is_done(self) -> bool {
-        matches!(self, HookOutcome::Done)
-    }
-}
-
-impl Composition {
-    /// The character, or none where the two stay apart; the tables say so where the shaper doesn't.
-    ///
-    /// ```
-    /// use sengadlit::shaper::Composition;
-    ///
-    /// let by_tables = || Some('\u{E4}');
-    /// assert_eq!(Composition::NoHook.or_else(by_tables), Some('\u{E4}'));
-    /// assert_eq!(Composition::Apart.or_else(by_tables), None);
-    /// ```
-    #[inline]
-    pub fn or_else(self, by_tables: impl FnOnce() -> Option<char>) -> Option<char> {
-        match self {
-            Composition::Whole(whole) => Some(whole),
-            Composition::Apart => None,
-            Composition::NoHook => by_tables(),
-        }
-    }
-}
-
-impl Decomposition {
-    /// The parts, or none where the character stays whole; the tables say so where the shaper
-    /// doesn't.
-    #[inline]
-    pub fn or_else(self, by_tables: impl FnOnce() -> Option<(char, char)>) -> Option<(char, char)> {
-        match self {
-            Decomposition::Parts(a, b) => Some((a, b)),
-            Decomposition::Whole => None,
-            Decomposition::NoHook => by_tables(),
-        }
-    }
-}
-
 impl From<ScriptShaper> for Shaper {
     fn from(shaper: ScriptShaper) -> Self {
         match shaper {
@@ -114,7 +73,7 @@ impl From<ScriptShaper> for Shaper {
 
 #[cfg(test)]
 mod tests {
-    use super::{Composition, Decomposition, Hook, Shaper};
+    use super::{Hook, Shaper};
     use crate::buffer::{Direction, Script, Tag};
 
     #[test]
@@ -142,24 +101,6 @@ mod tests {
         assert_eq!(chosen(b"Beng", left, b"DFLT"), None);
         assert_eq!(chosen(b"Mymr", left, b"mym2"), Some(Shaper::Myanmar));
         assert_eq!(chosen(b"Mymr", left, b"mymr"), None);
-    }
-
-    #[test]
-    fn tables_compose_where_there_is_no_hook() {
-        let by_tables = || Some('\u{C5}');
-        let whole = Composition::Whole('\u{9CB}').or_else(by_tables);
-        assert_eq!(whole, Some('\u{9CB}'));
-        assert_eq!(Composition::Apart.or_else(by_tables), None);
-        assert_eq!(Composition::NoHook.or_else(by_tables), Some('\u{C5}'));
-    }
-
-    #[test]
-    fn tables_decompose_where_there_is_no_hook() {
-        let by_tables = || Some(('A', '\u{30A}'));
-        let parts = Decomposition::Parts('\u{9C7}', '\u{9BE}').or_else(by_tables);
-        assert_eq!(parts, Some(('\u{9C7}', '\u{9BE}')));
-        assert_eq!(Decomposition::Whole.or_else(by_tables), None);
-        assert_eq!(Decomposition::NoHook.or_else(by_tables), by_tables());
     }
 
     // The table of hooks in the documentation says what `has_hook` does.

@@ -13,13 +13,15 @@ use crate::generated::shapers_syllabic::ot_shaper_syllabic::{
 use crate::generated::shapers_universal::ot_shaper_use::setup_syllables_use_by_bytes;
 use crate::{Buffer, Pause, Plan, Shaper, ShaperError, Span};
 
-/// Finds the syllables of the buffer's text and sets them up in one pass, as [`run_pause`] does with
-/// the [`Shaper::spans_of`] that text. It takes no memory. Returns false, and changes nothing, where
-/// the pause isn't one that sets syllables up. As for [`run_pause`], the plan has the data that the
-/// pause reads.
+/// Finds the syllables of the buffer's text and sets them up in one pass; the plan isn't tested.
+///
+/// It does what [`run_pause`] does with the [`Shaper::spans_of`] that text, and takes no memory. It
+/// returns false, and changes nothing, where the pause isn't one that sets syllables up. As for
+/// [`run_pause`], the plan has the data that the pause reads.
 ///
 /// [`run_pause`]: crate::run_pause
 #[inline]
+#[must_use]
 pub fn setup_syllables_found(pause: Pause, plan: &Plan, buffer: &mut Buffer) -> bool {
     match pause {
         Pause::SetupSyllablesIndic => {

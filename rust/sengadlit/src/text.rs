@@ -65,9 +65,10 @@ impl Buffer {
     }
 
     /// Sets the general category of each character, as the tables have it. Stretched marks depend on
-    /// it, and in Indic where a word begins. What stands in the high byte of a character's
-    /// [`UnicodeProps`](crate::buffer::UnicodeProps), as a mark's class, goes. Glyphs that are no
-    /// characters stay as they are.
+    /// it, and in Indic where a word begins. A combining class stays, but where the old category or
+    /// the new one is Cf or Zs, which have none, the high byte of
+    /// [`UnicodeProps`](crate::buffer::UnicodeProps) is 0 then. Glyphs that are no characters stay as
+    /// they are.
     pub fn set_general_categories<T: Tables>(&mut self, tables: &T) {
         self.with_glyphs_mut(|glyphs| set_categories(tables, glyphs));
     }
@@ -173,7 +174,7 @@ impl<'a> IntoIterator for &'a Buffer {
 }
 
 // The first characters of these, in the room that is given.
-fn nearest(characters: impl Iterator<Item = char>, room: &mut [char; 5]) -> &[char] {
+pub(crate) fn nearest(characters: impl Iterator<Item = char>, room: &mut [char; 5]) -> &[char] {
     let mut len = 0;
     for (to, character) in room.iter_mut().zip(characters) {
         *to = character;

@@ -45,10 +45,7 @@ fn assert_stops(
 ) {
     let mut changed = copy_of(buffer);
     assert_eq!(call(&mut changed), Err(CallError::Condition(condition)));
-    assert_eq!(
-        Contents::with_places(&changed),
-        Contents::with_places(buffer)
-    );
+    assert_eq!(Contents::of(&changed), Contents::of(buffer));
 }
 
 /// A text of two letters, with positions.
@@ -205,12 +202,12 @@ fn settings_leave_a_limit_of_at_least_the_length() {
     let mut text = text_of(&[0xE14, 0xE4B, 0xE33], 10);
     text.set_settings(&BufferSettings::new(1));
     assert_eq!(text.max_len(), 3);
-    let before = Contents::with_places(&text);
+    let before = Contents::of(&text);
     let returned = make(Call::Preprocess, Shaper::Thai, &plan, &[], &mut text);
     assert_eq!(returned, Err(CallError::Refused(ShaperError::TooLong)));
     assert_eq!(text.push_str("a"), Err(ShaperError::TooLong));
     assert_eq!(text.grow(1), Err(ShaperError::TooLong));
-    assert_eq!(Contents::with_places(&text), before);
+    assert_eq!(Contents::of(&text), before);
 }
 
 #[test]
@@ -287,10 +284,7 @@ fn play(seed: u64, kind: Glyphs) -> bool {
     let mut checked = copy_of(&misuse.buffer);
     let returned = misuse.call.make_checked(&setting, &mut checked);
     if returned.is_err() {
-        assert_eq!(
-            Contents::with_places(&checked),
-            Contents::with_places(&misuse.buffer)
-        );
+        assert_eq!(Contents::of(&checked), Contents::of(&misuse.buffer));
     }
     if let Err(CallError::Condition(_)) = returned {
         assert!(!misuse.call.fits(&setting, &misuse.buffer), "seed {seed}");

@@ -9,7 +9,7 @@ use common::plans::plan_of;
 use sengadlit::alloc::Global;
 use sengadlit::buffer::{Buffer, Script, ShaperError, Tag};
 use sengadlit::font::FeaturesOnly;
-use sengadlit::plan::{Pause, PlanData, Planner};
+use sengadlit::plan::{PlanData, Planner};
 use sengadlit::shaper::{Hook, Shaper};
 use sengadlit::{ot_shaper_hangul, ot_shaper_thai};
 use std::cell::RefCell;
@@ -42,41 +42,6 @@ fn an_empty_text_stays_empty() {
             assert_eq!(Contents::of(&text), before, "{call:?} of {shaper:?}");
         }
     }
-}
-
-/// Whether a pause moves glyphs.
-fn reorders(pause: Pause) -> bool {
-    matches!(
-        pause,
-        Pause::InitialReordering
-            | Pause::ReorderKhmer
-            | Pause::ReorderMyanmar
-            | Pause::ReorderUse
-            | Pause::FinalReordering
-    )
-}
-
-#[test]
-fn a_reordering_leaves_no_place_listed() {
-    for shaper in Shaper::ALL {
-        for call in Call::all(0) {
-            let Call::Pause(pause) = call else { continue };
-            let mut text = text_of(&[0x1000; 3], 3);
-            text.set_place(1, 2);
-            let places = match make(call, shaper, &mut text) {
-                Ok(Returned::Changed(_)) if reorders(pause) => [0, 0, 0],
-                _ => [0, 2, 0],
-            };
-            let left: Vec<_> = (0..3).map(|i| text.place(i)).collect();
-            assert_eq!(left, places, "{pause:?} of {shaper:?}");
-        }
-    }
-}
-
-#[test]
-#[should_panic(expected = "range end index")]
-fn a_place_beyond_the_buffer_is_none() {
-    text_of(&[0x1000; 3], 3).set_place(1 << 28, 0);
 }
 
 /// The hooks that a shaper has, in the order of `HOOKS`.
@@ -140,7 +105,7 @@ fn shapers_request_features() {
         let overrides = shaper.override_features(&mut planner).unwrap();
         let is_without = [Shaper::Hebrew, Shaper::MyanmarZawgyi, Shaper::Thai].contains(&shaper);
         let has_overrides = [Shaper::Hangul, Shaper::Indic, Shaper::Khmer].contains(&shaper);
-        let present = [collects.is_done(), overrides.is_done()];
+        let present = [collects.is_some(), overrides.is_some()];
         assert_eq!(present, [!is_without, has_overrides], "{shaper:?}");
         let hooks = [Hook::CollectFeatures, Hook::OverrideFeatures];
         assert_eq!(hooks.map(|hook| shaper.has_hook(hook)), present);

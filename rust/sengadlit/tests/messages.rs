@@ -7,11 +7,28 @@ use std::error::Error;
 #[test]
 fn an_error_is_one_of_rusts() {
     let error: Box<dyn Error> = Box::new(ShaperError::UnknownSyllable(7));
-    assert_eq!(
-        error.to_string(),
-        "a syllable is of a kind that the shaper doesn't know"
-    );
+    assert_eq!(error.to_string(), "UnknownSyllable");
     assert!(error.source().is_none());
+}
+
+// Without the place of the syllable, which the value has.
+#[test]
+fn the_text_of_a_refusal_is_its_name() {
+    let refusals = [
+        ShaperError::Memory,
+        ShaperError::TooLong,
+        ShaperError::UnknownSyllable(3),
+        ShaperError::SpansDontCover,
+        ShaperError::StretchOverflow,
+    ];
+    let names = [
+        "Memory",
+        "TooLong",
+        "UnknownSyllable",
+        "SpansDontCover",
+        "StretchOverflow",
+    ];
+    assert_eq!(refusals.map(|refusal| refusal.to_string()), names);
 }
 
 #[test]
@@ -24,10 +41,7 @@ fn a_checked_call_says_what_it_refused() {
     );
     let refused = CallError::from(ShaperError::TooLong);
     assert_eq!(refused.to_string(), "the call was refused");
-    assert_eq!(
-        refused.source().unwrap().to_string(),
-        "the text would be longer than the buffer's limit"
-    );
+    assert_eq!(refused.source().unwrap().to_string(), "TooLong");
     let error: Box<dyn Error> = Box::new(Condition::PlanData);
     assert_eq!(error.to_string(), "the plan hasn't the data that is read");
 }

@@ -98,6 +98,17 @@ fn characters(buffer: &Buffer) -> Vec<u32> {
 const WHOLE: Latin = Latin(&[0x65, 0x301, 0x302, 0x323, 0xE9, 0xEA, 0x1EBF]);
 
 #[test]
+fn settings_by_default() {
+    let settings = NormalizeSettings {
+        rounds: Rounds::AsCode,
+        invisible_glyph: None,
+        draws_selectors: false,
+    };
+    assert_eq!(NormalizeSettings::default(), settings);
+    assert_eq!(Rounds::default(), Rounds::AsCode);
+}
+
+#[test]
 fn marks_are_ordered_and_composed() {
     let mut text = buffer(&WHOLE, "e\u{301}\u{323}");
     normalize(&WHOLE, Rounds::AsCode, &mut text).unwrap();

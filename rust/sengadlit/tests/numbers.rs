@@ -137,15 +137,16 @@ fn properties_have_harfbuzzs_bits() {
 }
 
 /// Each number of 16 bits, read as HarfBuzz's `_hb_glyph_info_get_general_category` and
-/// `_hb_glyph_info_get_modified_combining_class` do: low five bits, and of a mark the high byte.
+/// `_hb_glyph_info_get_modified_combining_class` do, but for the class of what is no mark: low five
+/// bits, and the high byte unless it says which joiner or which space it is.
 #[test]
-fn properties_are_read_as_harfbuzz_does() {
+fn properties_are_read_from_their_bits() {
     for bits in 0..=u16::MAX {
         let props = UnicodeProps(bits);
         let number = (bits & 0x1F) as u8;
         let category = GeneralCategory::from_number(number).unwrap_or(GeneralCategory::Cn);
         let high = (bits >> 8) as u8;
-        let class = if (10..=12).contains(&number) { high } else { 0 };
+        let class = if [1, 29].contains(&number) { 0 } else { high };
         assert_eq!(props.general_category(), category);
         assert_eq!(props.high_byte(), high);
         assert_eq!(props.modified_combining_class(), class);

@@ -146,6 +146,39 @@ fn what_is_no_font() {
 }
 
 #[test]
+fn a_prepared_face_shapes_to_the_same_glyphs() {
+    let data = font();
+    let face = Face::parse(&data, 0).unwrap();
+    let mut prepared = face.clone();
+    prepared.prepare();
+    let copy = prepared.clone();
+    prepared.prepare();
+    let scaled = (
+        face.clone().with_scale(10, 7),
+        copy.clone().with_scale(10, 7),
+    );
+    for text in [
+        "ABC",
+        "ABAB",
+        "AC\u{301}",
+        "\u{FF}\u{100}\u{1F600}\u{10FFFF}",
+        "",
+    ] {
+        let glyphs = |face| shape_text(face, text);
+        assert_eq!(glyphs(&prepared), glyphs(&face), "{text}");
+        assert_eq!(glyphs(&copy), glyphs(&face), "{text}");
+        assert_eq!(glyphs(&scaled.0), glyphs(&scaled.1), "{text}");
+    }
+}
+
+/// The glyphs of a text by a face.
+fn shape_text(face: &Face<'_>, text: &str) -> String {
+    let mut buffer = UnicodeBuffer::new();
+    buffer.push_str(text);
+    shape(face, &[], buffer).serialize(face, SerializeFlags::default())
+}
+
+#[test]
 fn spoilt_fonts_shape() {
     // each byte of the font set to each of four values: something is shaped, or it is no font
     let data = font();
@@ -153,13 +186,20 @@ fn spoilt_fonts_shape() {
         for value in [0, 1, 0x7F, 0xFF] {
             let mut spoilt = data.clone();
             spoilt[place] = value;
-            let Ok(face) = Face::parse(&spoilt, 0) else {
+            let Ok(mut face) = Face::parse(&spoilt, 0) else {
                 continue;
             };
             let mut buffer = UnicodeBuffer::new();
             buffer.push_str("ABCABAC");
             let glyphs = try_shape(&face, &[], buffer).unwrap();
             assert!(glyphs.len() <= 65_536);
+            let glyphs = glyphs.serialize(&face, SerializeFlags::default());
+            face.prepare();
+            assert_eq!(
+                shape_text(&face, "ABCABAC"),
+                glyphs,
+                "byte {place}: {value}"
+            );
         }
     }
 }

@@ -1,7 +1,10 @@
 //! Two small fonts, written out table by table, and what OpenType's specification says of them.
 #![cfg(feature = "opentype")]
 
+use sengadlit::alloc::Global;
+use sengadlit::opentype_face::character_table::PreparedCharacters;
 use sengadlit::opentype_face::characters::Encoding;
+use sengadlit::opentype_face::class_table::PreparedClasses;
 use sengadlit::opentype_face::classes::{glyph_props, is_in_mark_set};
 use sengadlit::opentype_face::directory::{FaceError, face_count};
 use sengadlit::opentype_face::face::{Face, parse};
@@ -122,6 +125,17 @@ fn characters_and_glyphs() {
     assert_eq!(face.characters.encoding, Encoding::Unicode);
     let glyphs = [0x40, 0x41, 0x42, 0xC1, 0x301, 0xFFFF, 0x1_0041].map(|c| face.nominal_glyph(c));
     assert_eq!(glyphs, [None, Some(1), None, Some(3), Some(2), None, None]);
+    // tables of two pages, of one, and of none say the same
+    for most_pages in [2, 1, 0] {
+        let prepared = PreparedCharacters::new(face.characters, most_pages, Global);
+        for c in (0..0x400).chain([0xFFFF, 0x1_0041, 0x1_FFFF, 0x2_0000, u32::MAX]) {
+            assert_eq!(
+                prepared.table().nominal_glyph(c),
+                face.nominal_glyph(c),
+                "{c:x}"
+            );
+        }
+    }
     assert_eq!(face.variation_glyph(0x41, 0xFE00), Some(3));
     assert_eq!(face.variation_glyph(0x301, 0xFE00), Some(2));
     assert_eq!(face.variation_glyph(0xC1, 0xFE00), None);
@@ -133,6 +147,21 @@ fn characters_and_glyphs() {
     assert_eq!(
         [0, 1, 2, 3].map(|glyph| glyph_props(face.gdef, glyph)),
         [0, 2, 8 + 7 * 256, 0]
+    );
+    for count in [0, 2, 3, 65535] {
+        let prepared = PreparedClasses::new(face.gdef, count, Global);
+        for glyph in [0, 1, 2, 3, 65534, 65535] {
+            let props = prepared.table().glyph_props(glyph);
+            assert_eq!(
+                props,
+                Some(glyph_props(face.gdef, glyph)),
+                "{count}, {glyph}"
+            );
+        }
+    }
+    assert_eq!(
+        PreparedClasses::new(&[], 4, Global).table().glyph_props(1),
+        None
     );
     assert!(
         is_in_mark_set(face.gdef, 0, 2)

@@ -169,7 +169,7 @@ type Outcome = Option<Result<Returned, ShaperError>>;
 /// Asserts that a call that panicked left the buffer as it was, or empty, and that it can be made
 /// again.
 fn check_left(scene: &Scene, left: &mut Buffer, whole: &(Outcome, Contents)) {
-    let is_as_it_was = Contents::with_places(left) == Contents::with_places(&scene.buffer);
+    let is_as_it_was = Contents::of(left) == Contents::of(&scene.buffer);
     let is_empty = left.is_empty() && left.positions_len() == 0;
     let name = scene.name();
     match scene.call {
@@ -346,7 +346,7 @@ mod text {
             }
             kinds[usize::from(left.is_empty())] += 1;
             if !left.is_empty() {
-                assert_eq!(Contents::with_places(&left), Contents::with_places(text));
+                assert_eq!(Contents::of(&left), Contents::of(text));
                 assert!(make(usize::MAX, &mut left));
                 assert_eq!(Contents::of(&left), Contents::of(&whole));
             }

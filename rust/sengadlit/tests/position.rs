@@ -13,6 +13,7 @@ use sengadlit::ot_shape_position::{
     DefaultIgnorables, GlyphClasses, MetricsFont, hide_default_ignorables, propagate_flags,
     set_advances, set_space_widths, zero_mark_widths, zero_width_default_ignorables,
 };
+use std::cell::Cell;
 use std::panic;
 
 /// A font whose glyphs are as wide as their numbers, without a space.
@@ -276,22 +277,35 @@ fn widths_of_spaces() {
     assert_eq!(advances, [251, 1000, 333, 63, 222, 251, 251, 251, 125, 251]);
 }
 
-/// Classes, and a font, that panic.
-struct Panicking;
+/// Classes, and a font, that answer so many questions, and then panic. Each glyph is a mark, and the font has each character.
+struct Panicking {
+    answers: Cell<usize>,
+}
+
+impl Panicking {
+    fn ask<R>(&self, answer: R) -> R {
+        let answers = self.answers.get();
+        if answers == 0 {
+            panic::resume_unwind(Box::new("the caller's code"));
+        }
+        self.answers.set(answers - 1);
+        answer
+    }
+}
 
 impl GlyphClasses for Panicking {
     fn is_mark(&self, _: &GlyphInfo) -> bool {
-        panic::resume_unwind(Box::new("the caller's code"))
+        self.ask(true)
     }
 }
 
 impl Font for Panicking {
     fn nominal_glyph(&self, _: u32) -> Option<GlyphId> {
-        panic::resume_unwind(Box::new("the caller's code"))
+        self.ask(Some(GlyphId(3)))
     }
 
     fn glyph_h_advance(&self, _: GlyphId) -> i32 {
-        panic::resume_unwind(Box::new("the caller's code"))
+        self.ask(7)
     }
 
     fn would_apply(&self, _: u16, _: &[GlyphId], _: bool) -> bool {
@@ -305,41 +319,54 @@ impl Font for Panicking {
 
 impl MetricsFont for Panicking {
     fn units_per_em(&self) -> u16 {
-        panic::resume_unwind(Box::new("the caller's code"))
+        self.ask(1000)
     }
 
     fn glyph_v_advance(&self, _: GlyphId) -> i32 {
-        panic::resume_unwind(Box::new("the caller's code"))
+        self.ask(-7)
     }
 
     fn glyph_v_origin(&self, _: GlyphId) -> (i32, i32) {
-        panic::resume_unwind(Box::new("the caller's code"))
+        self.ask((0, 0))
     }
 }
 
+/// A call of which the caller's code is asked so many questions.
+type Asking = (usize, fn(&Panicking, &mut Buffer));
+
+/// Whichever question is the one that panics: those before it were answered, so that some glyphs have been changed.
 #[test]
 fn panics_leave_no_half() {
     let placed = || {
-        let mut buffer = text(&[(1, 0, 0), (0, 1, 0)]);
+        let mut buffer = text(&[(1, 0, 0), (0, 1, 0), (1, 2, 0)]);
         buffer.with_glyphs_mut(|glyphs| {
             glyphs[0].unicode_props = space(1);
+            glyphs[1].unicode_props = space(2);
         });
         set_advances(&Wide, &mut buffer).unwrap();
         buffer
     };
-    let calls: [fn(&mut Buffer); 4] = [
-        |buffer| set_advances(&Panicking, buffer).unwrap(),
-        |buffer| set_space_widths(&Panicking, buffer),
-        |buffer| zero_mark_widths(&Panicking, false, buffer),
-        |buffer| hide_default_ignorables(DefaultIgnorables::Hide, None, &Panicking, buffer),
+    let calls: [Asking; 4] = [
+        (3, |font, buffer| set_advances(font, buffer).unwrap()),
+        (2, |font, buffer| set_space_widths(font, buffer)),
+        // (whether one is a mark, and then which)
+        (4, |font, buffer| zero_mark_widths(font, false, buffer)),
+        (1, |font, buffer| {
+            hide_default_ignorables(DefaultIgnorables::Hide, None, font, buffer)
+        }),
     ];
-    for call in calls {
-        let mut buffer = placed();
-        let caught = panic::catch_unwind(panic::AssertUnwindSafe(|| call(&mut buffer)));
-        assert!(caught.is_err());
-        let old = placed();
-        let is_old = buffer.glyphs() == old.glyphs() && buffer.positions() == old.positions();
-        assert!(buffer.is_empty() || is_old);
+    for (questions, call) in calls {
+        for answers in 0..=questions {
+            let asked = Panicking {
+                answers: Cell::new(answers),
+            };
+            let mut buffer = placed();
+            let caught = panic::catch_unwind(panic::AssertUnwindSafe(|| call(&asked, &mut buffer)));
+            assert_eq!(caught.is_ok(), answers == questions);
+            let old = placed();
+            let is_old = buffer.glyphs() == old.glyphs() && buffer.positions() == old.positions();
+            assert!(caught.is_ok() != (buffer.is_empty() || is_old));
+        }
     }
 }
 

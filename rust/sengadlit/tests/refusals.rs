@@ -47,10 +47,7 @@ fn assert_refuses<R>(
 ) {
     let mut changed = copy_of(buffer);
     assert_eq!(call(&mut changed).map(drop), Err(error));
-    assert_eq!(
-        Contents::with_places(&changed),
-        Contents::with_places(buffer)
-    );
+    assert_eq!(Contents::of(&changed), Contents::of(buffer));
 }
 
 /// Asserts that a call needs a greatest length of this many glyphs, refuses with less, and leaves
@@ -349,18 +346,5 @@ fn refused_spans_note_no_broken_syllable() {
     assert_eq!(run(1, &mut text), Err(ShaperError::SpansDontCover));
     assert!(!text.has_broken_syllable());
     assert_eq!(run(2, &mut text), Ok(false));
-    assert!(text.has_broken_syllable());
-}
-
-#[test]
-fn spans_of_a_buffer_may_not_cover_it() {
-    let text = text_of(&[0x1780, 0x17D2], 2);
-    for len in [0, 1, 3, usize::MAX] {
-        assert_refuses(ShaperError::SpansDontCover, &text, |buffer| {
-            buffer.set_spans(&[Span { len, kind: 1 }], 1)
-        });
-    }
-    let mut text = text;
-    assert_eq!(text.set_spans(&[Span { len: 2, kind: 1 }], 1), Ok(()));
     assert!(text.has_broken_syllable());
 }

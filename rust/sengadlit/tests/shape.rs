@@ -11,12 +11,13 @@ use sengadlit::ot_shape::{
     Lookups, ShapeSettings, StagePlan, TextPlan, prepare_text, run_stages, shape, substitute_text,
 };
 use sengadlit::ot_shape_normalize::{NormalizeFont, NormalizeSettings};
-use sengadlit::ot_shape_plan::{FontFeatures, ShapePlan, StageLookup};
+use sengadlit::ot_shape_plan::{EnginePlan, FontFeatures, StageLookup};
 use sengadlit::ot_shape_position::{DefaultIgnorables, GlyphClasses, MetricsFont};
 use sengadlit::shaper::checked::CallError;
 use sengadlit::unicode::UnicodeTables;
 use sengadlit::{Buffer, Direction, GlyphId, GlyphInfo, Script, ShaperError, Tag, script};
-use std::cell::RefCell;
+use std::cell::{Cell, RefCell};
+use std::panic;
 
 /// The mark that stretches over a word.
 const ABBREVIATION_MARK: u32 = 0x70F;
@@ -32,6 +33,8 @@ struct TestFont {
     tile: i32,
     /// The lookups that refuse.
     refuses: Vec<u16>,
+    /// How many glyphs get their notes before one panics.
+    notes: Cell<usize>,
     /// The direction and script of the text that each lookup was given.
     seen: RefCell<Vec<(Direction, Option<Script>)>>,
 }
@@ -43,6 +46,7 @@ impl TestFont {
             last_letter: letter,
             tile: 1,
             refuses: Vec::new(),
+            notes: Cell::new(usize::MAX),
             seen: RefCell::default(),
         }
     }
@@ -149,6 +153,11 @@ impl GlyphClasses for TestFont {
 
 impl Lookups for TestFont {
     fn glyph_props(&self, _: &GlyphInfo) -> GlyphProps {
+        let notes = self.notes.get();
+        if notes == 0 {
+            panic::resume_unwind(Box::new("the caller's code"));
+        }
+        self.notes.set(notes - 1);
         GlyphProps::NONE
     }
 
@@ -186,16 +195,16 @@ const SETTINGS: ShapeSettings = ShapeSettings {
     ignorables: DefaultIgnorables::Hide,
 };
 
-fn plan_of(script: Script, direction: Direction, font: &TestFont) -> ShapePlan {
-    ShapePlan::new(Global, Some(script), direction, font, font, &[]).unwrap()
+fn plan_of(script: Script, direction: Direction, font: &TestFont) -> EnginePlan {
+    EnginePlan::new(Global, Some(script), direction, font, font, &[]).unwrap()
 }
 
-fn run_shape(plan: &ShapePlan, font: &TestFont, text: &mut Buffer) -> Result<(), CallError> {
+fn run_shape(plan: &EnginePlan, font: &TestFont, text: &mut Buffer) -> Result<(), CallError> {
     shape(plan, &SETTINGS, font, &UnicodeTables, font, text)
 }
 
 fn run_substitutions(
-    plan: &ShapePlan,
+    plan: &EnginePlan,
     font: &TestFont,
     text: &mut Buffer,
 ) -> Result<(), CallError> {
@@ -321,6 +330,21 @@ fn refused_parts_leave_the_direction_and_the_script() {
         (text.direction(), text.script()),
         (Direction::LeftToRight, None)
     );
+}
+
+/// Lookups that panic where they note a glyph leave no text with some of its glyphs noted.
+#[test]
+fn notes_that_panic_leave_no_half() {
+    let font = TestFont::of(500);
+    let plan = plan_of(script::HEBREW, Direction::RightToLeft, &font);
+    for notes in 0..=HEBREW.chars().count() {
+        font.notes.set(notes);
+        let mut text = Buffer::from(HEBREW);
+        let call = panic::AssertUnwindSafe(|| run_substitutions(&plan, &font, &mut text));
+        let caught = panic::catch_unwind(call);
+        assert_eq!(caught.is_ok(), notes == HEBREW.chars().count());
+        assert_eq!(text.is_empty(), caught.is_err());
+    }
 }
 
 /// Refused before the lookups, by one of GSUB, by one of GPOS, and where a mark stretches: the text is as it was, with its

@@ -31,6 +31,12 @@ pub fn parse<'a>(bytes: &'a [u8], settings: &Settings, path: &Path) -> Result<Fa
         };
         Fault::Font(message)
     })?;
-    let size = settings.font_size;
-    Ok(size.map_or(face, |(x, y)| face.with_scale(x, y)))
+    let mut face = match settings.font_size {
+        Some((x, y)) => face.with_scale(x, y),
+        None => face,
+    };
+    if settings.has_many_texts() {
+        face.prepare();
+    }
+    Ok(face)
 }

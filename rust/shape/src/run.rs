@@ -128,7 +128,7 @@ impl<'a> LineShaper<'a> {
         let mut buffer = mem::take(&mut self.buffer);
         buffer.clear();
         let filled = text.fill(&mut buffer);
-        filled.map_err(|error| error.to_string())?;
+        filled.map_err(|refusal| format!("the text was refused: {refusal}"))?;
         Ok(buffer)
     }
 

@@ -30,6 +30,14 @@ pub struct Settings {
     pub svg: Option<PathBuf>,
 }
 
+impl Settings {
+    /// Whether so many texts may be shaped that tables of the font pay: the lines of a file, or one text again and again.
+    pub fn has_many_texts(&self) -> bool {
+        let has_lines = self.text.text.is_none() && !self.text.is_single_paragraph;
+        has_lines || self.iterations.0 > 100
+    }
+}
+
 /// Where the text comes from.
 #[derive(Debug, Default)]
 pub struct TextSettings {

@@ -12,3 +12,8 @@ pub mod pieces;
 pub mod scripts;
 
 pub use end::End;
+
+/// The lines of Rust of docs/GUIDE.md are tested.
+#[cfg(doctest)]
+#[doc = include_str!("../../../docs/GUIDE.md")]
+struct Guide;

@@ -85,8 +85,8 @@ struct Text {
 impl Text {
     fn join(&self, buffer: &mut Buffer) {
         let font = NominalOnly(|_| None);
-        let outcome = self.shaper.setup_masks(&self.plan, &font, &Letters, buffer);
-        assert!(outcome.is_done());
+        let done = self.shaper.setup_masks(&self.plan, &font, &Letters, buffer);
+        assert_eq!(done, Some(()));
     }
 
     /// What joining makes of these places of the text by themselves.

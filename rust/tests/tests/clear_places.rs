@@ -1,5 +1,5 @@
 //! Texts that are broken at the clear places that hooks and pauses leave: what these make of the
-//! pieces, each by itself, is what they make of the whole. docs/BREAKS.md has the laws.
+//! pieces, each by itself, is what they make of the whole. docs/PROOF.md has the laws.
 
 use sengadlit::alloc::Global;
 use sengadlit::buffer::{BufferFlags, Direction, GeneralCategory, UnicodeProps};
@@ -56,12 +56,12 @@ fn buffer_of(numbers: &mut Numbers, glyphs: &[GlyphInfo]) -> Buffer {
 /// These places of a buffer as a text of their own, positions among it.
 fn piece(buffer: &Buffer, places: Range<usize>) -> Buffer {
     let mut piece = buffer.copy().unwrap();
-    piece.set_positions(Vec::new().into());
+    assert!(piece.set_positions(Vec::new().into()));
     piece
         .replace_glyphs(buffer.glyphs()[places.clone()].to_vec().into())
         .unwrap();
     if !buffer.positions().is_empty() {
-        piece.set_positions(buffer.positions()[places].to_vec().into());
+        assert!(piece.set_positions(buffer.positions()[places].to_vec().into()));
     }
     piece
 }
@@ -774,8 +774,8 @@ fn marked_text(numbers: &mut Numbers, classes: &[u8]) -> (Buffer, Range<usize>) 
 fn break_run(shaper: Shaper, buffer: &Buffer, run: &Range<usize>, counts: &mut Counts) {
     let plan = plan_of(shaper, script::HEBREW, &[]);
     let order = |buffer: &mut Buffer, run: Range<usize>| {
-        let outcome = shaper.reorder_marks(&plan, buffer, run.start, run.end);
-        assert!(outcome.is_done());
+        let done = shaper.reorder_marks(&plan, buffer, run.start, run.end);
+        assert_eq!(done, Some(()));
     };
     let mut whole = buffer.copy().unwrap();
     order(&mut whole, run.clone());
@@ -846,7 +846,7 @@ fn stretched_text(numbers: &mut Numbers) -> Buffer {
     let positions: Vec<_> = glyphs.iter().map(position).collect();
     let mut buffer = buffer_of(numbers, &glyphs);
     buffer.set_max_len(4096);
-    buffer.set_positions(positions.into());
+    assert!(buffer.set_positions(positions.into()));
     buffer.set_has_stch(true);
     buffer.set_direction(numbers.one_of(&[Direction::LeftToRight, Direction::RightToLeft]));
     buffer

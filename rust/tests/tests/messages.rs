@@ -28,10 +28,13 @@ fn each_message_is_that_of_the_source() {
     let source = fs::read_to_string(path).unwrap();
     let messages = ERRORS.map(|error| error.to_string());
     assert_eq!(messages.as_slice(), declared(&source));
-    for message in messages {
-        assert!(
-            message.contains(' ') && !message.ends_with('.'),
-            "{message}"
-        );
-    }
+    // The text of a refusal is its name, without the place.
+    let names = [
+        "Memory",
+        "TooLong",
+        "UnknownSyllable",
+        "SpansDontCover",
+        "StretchOverflow",
+    ];
+    assert_eq!(messages, names);
 }

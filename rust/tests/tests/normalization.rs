@@ -162,7 +162,7 @@ fn plan() -> Plan {
     Plan::new(None, map.unwrap().unwrap())
 }
 
-/// The smallest texts that aren't canonically equivalent to what they become (docs/LAWS.md).
+/// The smallest texts that aren't canonically equivalent to what they become (docs/PROOF.md).
 #[test]
 fn texts_that_change() {
     let below = "\u{316}".repeat(31);

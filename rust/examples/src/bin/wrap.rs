@@ -5,6 +5,7 @@
 //! ```text
 //! --anywhere        breaks between any two clusters, not only behind spaces
 //! --sound           by flags that are sound where letters join, too (`BreakFlags::Sound`)
+//! --concat          new pieces meet the old clusters only where none is unsafe to concat
 //! --svg FILE        draws the lines
 //! --script CODE, --direction ltr|rtl   instead of those of the first letter
 //! ```
@@ -30,7 +31,10 @@ fn main() -> Result<(), Box<dyn Error>> {
     if arguments.has("--sound") {
         plan = plan.break_flags(BreakFlags::Sound);
     }
-    let shaping = Shaping::new(&face, plan)?;
+    let mut shaping = Shaping::new(&face, plan)?;
+    if arguments.has("--concat") {
+        shaping = shaping.flagging_concat();
+    }
     let width = (ems.parse::<f32>()? * f32::from(face.units_per_em())) as i32;
     let breaks = if arguments.has("--anywhere") {
         Breaks::Anywhere

@@ -2,7 +2,7 @@ use super::*;
 use crate::alloc::Global;
 use crate::buffer::{Buffer, Script, ShaperError, Span, Tag};
 use crate::plan::{Pause, Plan, Planner, Request};
-use crate::shaper::{HookOutcome, Shaper, run_pause};
+use crate::shaper::{Shaper, run_pause};
 use std::string::ToString;
 use std::vec::Vec;
 
@@ -66,7 +66,7 @@ fn pauses_of(feature: Tag) -> usize {
     let mut planner = Planner::new(Global, Some(Script(*b"Arab")));
     let font = FeaturesOnly(|tag| tag == feature);
     let collected = Shaper::Arabic.collect_features(&font, &mut planner);
-    assert_eq!(collected, Ok(HookOutcome::Done));
+    assert_eq!(collected, Ok(Some(())));
     let is_pause = |request: &&Request| matches!(request, Request::Pause(_));
     planner.requests().iter().filter(is_pause).count()
 }

@@ -3,6 +3,7 @@
 pub use crate::generated::opentype_face::directory::FaceError;
 
 use super::scale::Scale;
+use crate::alloc::Global;
 use crate::font::GlyphId;
 use crate::generated::opentype_face::bytes::i16_at;
 use crate::generated::opentype_face::directory::{directory, face_count, table};
@@ -10,6 +11,7 @@ use crate::generated::opentype_face::face;
 use crate::generated::opentype_face::outlines::{box_bottom, box_top, box_width, has_box};
 use crate::generated::opentype_font::font::OpenTypeFont;
 use crate::generated::opentype_font::text_tags::TextTags;
+use crate::generated::opentype_layout::face_tables::{FaceTables, PreparedFace};
 use core::fmt;
 
 /// The tag `fvar` as a number: the table of a font's axes.
@@ -19,17 +21,18 @@ const FVAR: u32 = u32::from_be_bytes(*b"fvar");
 const KERN: u32 = u32::from_be_bytes(*b"kern");
 
 /// A font file, or one font of a collection, over its bytes. It is a few references: what a text needs
-/// is read from the bytes each time.
+/// is read from the bytes each time, unless [`prepare`](Self::prepare) has made tables of it.
 ///
 /// A variable font is its default instance (see [`is_variable`](Self::is_variable)). What only AAT's or
 /// Graphite's tables say isn't read.
-#[derive(Clone, Copy, Debug)]
+#[derive(Debug)]
 #[allow(
     clippy::struct_field_names,
     reason = "it is a face of the generated crate"
 )]
 pub struct Face<'a> {
     pub(super) face: face::Face<'a>,
+    prepared: Option<PreparedFace<'a>>,
     /// The table `kern`, empty where the font has none.
     pub(super) kern: &'a [u8],
     pub(super) scale: Option<Scale>,
@@ -46,6 +49,7 @@ impl<'a> Face<'a> {
         let directory = directory(data, index)?;
         Ok(Face {
             face: face::parse(data, index)?,
+            prepared: None,
             kern: table(data, directory, KERN),
             scale: None,
             is_variable: !table(data, directory, FVAR).is_empty(),
@@ -60,6 +64,16 @@ impl<'a> Face<'a> {
     /// How many fonts the bytes have: one, those of a collection, or none.
     pub fn count(data: &[u8]) -> u32 {
         face_count(data)
+    }
+
+    /// Makes tables of the font's characters, classes and lookups, by which texts are shaped faster, with
+    /// the same glyphs. It takes as long as a hundred words or so, in fonts of Chinese or Korean a
+    /// thousand, and some hundred kilobytes, so that it pays for a face that shapes many texts. Where
+    /// memory is refused there are fewer tables, or none.
+    pub fn prepare(&mut self) {
+        if self.prepared.is_none() {
+            self.prepared = Some(PreparedFace::new(Global, &self.face));
+        }
     }
 
     /// The same font in other units: an em has so many across and up. Advances, what lookups add to them,
@@ -151,11 +165,26 @@ impl<'a> Face<'a> {
     }
 
     /// The font as it is for texts with these tags of OpenType.
-    pub(super) fn for_tags(&self, tags: TextTags) -> OpenTypeFont<'a> {
-        OpenTypeFont {
-            face: self.face,
-            tags,
+    pub(super) fn for_tags(&self, tags: TextTags) -> OpenTypeFont<'_> {
+        let tables = match &self.prepared {
+            Some(prepared) => prepared.tables(),
+            None => FaceTables::of(&self.face),
+        };
+        OpenTypeFont { tables, tags }
+    }
+}
+
+/// A copy of a face that is prepared is prepared anew: it has tables of its own.
+impl Clone for Face<'_> {
+    fn clone(&self) -> Self {
+        let mut copy = Face {
+            prepared: None,
+            ..*self
+        };
+        if self.prepared.is_some() {
+            copy.prepare();
         }
+        copy
     }
 }
 

@@ -2,7 +2,8 @@
 
 use super::serialize::Serialized;
 use super::{Face, SerializeFlags, UnicodeBuffer};
-use crate::buffer::{Direction, GlyphInfo, GlyphPosition};
+use crate::buffer::{Direction, GlyphInfo, GlyphPosition, ShaperError};
+use crate::editing::{ShapedRun, Stretch, TextEdit};
 use core::fmt::Write;
 use rust_alloc::string::{String, ToString};
 
@@ -10,8 +11,8 @@ use rust_alloc::string::{String, ToString};
 /// drawn from left to right, or from top to bottom.
 #[derive(Debug)]
 pub struct GlyphBuffer {
-    text: UnicodeBuffer,
-    is_complete: bool,
+    pub(super) text: UnicodeBuffer,
+    pub(super) is_complete: bool,
 }
 
 impl GlyphBuffer {
@@ -49,6 +50,34 @@ impl GlyphBuffer {
     /// The direction in which the text was shaped.
     pub fn direction(&self) -> Direction {
         self.text.buffer.direction()
+    }
+
+    /// The glyphs and positions with the direction, as the module [`editing`](crate::editing) takes them.
+    pub fn run(&self) -> ShapedRun<'_> {
+        ShapedRun {
+            glyphs: self.glyph_infos(),
+            positions: self.glyph_positions(),
+            direction: self.direction(),
+        }
+    }
+
+    /// Puts the glyphs of a stretch of the edited text in the place of the old ones, as
+    /// [`Buffer::splice`](crate::Buffer::splice) does.
+    ///
+    /// # Errors
+    ///
+    /// [`ShaperError::Memory`] and [`ShaperError::TooLong`]; the glyphs are as they were then.
+    ///
+    /// # Panics
+    ///
+    /// If the stretch isn't one of these glyphs.
+    pub fn splice(
+        &mut self,
+        stretch: &Stretch,
+        edit: TextEdit,
+        piece: &GlyphBuffer,
+    ) -> Result<(), ShaperError> {
+        self.text.buffer.splice(stretch, edit, &piece.text.buffer)
     }
 
     /// The glyphs in one line, as hb-shape prints them: `[gid3=0+563|gid9=1@10,0+0]`.

@@ -19,9 +19,9 @@ use crate::unicode::UnicodeTables;
 use core::cell::Cell;
 use core::fmt;
 
-impl<'a> Face<'a> {
+impl Face<'_> {
     /// The face as the hooks and `ot_shape` read it, for texts of a script.
-    pub fn font(&self, script: Option<Script>) -> OpenTypeFont<'a> {
+    pub fn font(&self, script: Option<Script>) -> OpenTypeFont<'_> {
         self.for_tags(text_tags(script, None))
     }
 }

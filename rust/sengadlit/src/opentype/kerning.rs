@@ -4,7 +4,7 @@ use crate::buffer::{Buffer, Direction, Tag};
 use crate::generated::opentype_face::bytes::{part, u16_at};
 use crate::generated::opentype_gpos::kern::kern;
 use crate::map::TableIndex;
-use crate::ot_shape_plan::{FontFeatures, ShapePlan};
+use crate::ot_shape_plan::{EnginePlan, FontFeatures};
 use crate::ot_shape_position::{
     DefaultIgnorables, GlyphClasses, zero_mark_widths, zero_width_default_ignorables,
 };
@@ -19,7 +19,7 @@ const KERN: Tag = Tag(*b"kern");
 
 /// The bits of glyphs that the table `kern` moves by a plan; 0 where it moves none: GPOS has the feature, or
 /// the shaper is one that doesn't take the table. (HarfBuzz's `hb_ot_shape_planner_t::compile`.)
-pub(super) fn kern_mask(plan: &ShapePlan, features: &impl FontFeatures) -> u32 {
+pub(super) fn kern_mask(plan: &EnginePlan, features: &impl FontFeatures) -> u32 {
     let has_feature = features.feature_lookups(TableIndex::GPOS, KERN).is_some();
     let takes_table = positions_by_itself(plan.shaper());
     if has_feature && plan.applies_gpos() || !takes_table {
@@ -61,7 +61,7 @@ impl Kerning<'_> {
 
     /// Moves pairs of glyphs by the table. What marks and ignorable glyphs got they lose again, since they
     /// lost their advances before this.
-    pub fn apply(&self, plan: &ShapePlan, classes: &impl GlyphClasses, buffer: &mut Buffer) {
+    pub fn apply(&self, plan: &EnginePlan, classes: &impl GlyphClasses, buffer: &mut Buffer) {
         if self.mask == 0 || self.table.is_empty() {
             return;
         }

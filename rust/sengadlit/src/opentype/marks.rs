@@ -2,12 +2,12 @@
 
 use super::Face;
 use super::kerning::{Kerning, positions_by_itself};
-use crate::buffer::{Buffer, Direction, GeneralCategory, Script};
+use crate::buffer::{Buffer, Direction, GeneralCategory, GlyphInfo, Script};
 use crate::generated::opentype_gpos::fallback::{
     MarkMetrics, MarkSettings, mark_class, place_marks_by_boxes,
 };
 use crate::generated::opentype_gpos::mark_boxes::GlyphBox;
-use crate::ot_shape_plan::ShapePlan;
+use crate::ot_shape_plan::EnginePlan;
 
 /// The face of a text whose marks GPOS doesn't place.
 #[derive(Clone, Copy)]
@@ -19,7 +19,7 @@ pub(super) struct MarkPlacing<'a> {
 impl<'a> MarkPlacing<'a> {
     /// How marks are placed by a plan, if GPOS doesn't do it, the shaper wants it, and no pair is moved across
     /// the line. (HarfBuzz's `fallback_mark_positioning`.)
-    pub fn new(face: &'a Face<'a>, plan: &ShapePlan, kerning: &Kerning<'_>) -> Option<Self> {
+    pub fn new(face: &'a Face<'a>, plan: &EnginePlan, kerning: &Kerning<'_>) -> Option<Self> {
         let wants = positions_by_itself(plan.shaper());
         if plan.applies_gpos() || !wants || kerning.moves_across() {
             return None;
@@ -39,6 +39,14 @@ impl<'a> MarkPlacing<'a> {
 
     /// Places the marks of a text whose positions are done.
     pub fn apply(self, buffer: &mut Buffer) {
+        // (most texts have none, and no box of a glyph is read for them)
+        if !buffer.glyphs().iter().any(stays_with_base) {
+            return;
+        }
+        self.place(buffer);
+    }
+
+    fn place(self, buffer: &mut Buffer) {
         buffer.with_glyphs_mut(|glyphs| {
             let props = glyphs.iter_mut().map(|glyph| &mut glyph.unicode_props);
             for props in props.filter(|props| props.general_category() == GeneralCategory::Mn) {
@@ -60,6 +68,12 @@ impl<'a> MarkPlacing<'a> {
     }
 }
 
+/// Whether a glyph goes with the one before it: a mark, or a character that isn't drawn.
+fn stays_with_base(glyph: &GlyphInfo) -> bool {
+    let props = glyph.unicode_props;
+    props.general_category().is_mark() || props.is_hidden() || props.is_ignorable()
+}
+
 impl MarkMetrics for MarkPlacing<'_> {
     fn glyph_box(&self, glyph: u32) -> Option<GlyphBox> {
         let extents = self.face.glyph_extents(glyph)?;
@@ -73,5 +87,54 @@ impl MarkMetrics for MarkPlacing<'_> {
 
     fn glyph_advance(&self, glyph: u32) -> i32 {
         self.face.glyph_hor_advance(glyph)
+    }
+}
+
+#[cfg(test)]
+mod tests {
+    use super::*;
+    use crate::alloc::Global;
+    use crate::font::Font;
+    use crate::ot_shape_position::set_advances;
+    use crate::ot_shape_prepare::set_unicode_properties;
+    use crate::unicode::UnicodeTables;
+
+    /// The glyphs of a text in a face, with their advances.
+    fn text_of(face: &Face<'_>, text: &str) -> Buffer {
+        let mut buffer = Buffer::new(Global, 100);
+        buffer.push_str(text).unwrap();
+        set_unicode_properties(&UnicodeTables, &mut buffer);
+        let font = face.font(None);
+        buffer.with_glyphs_mut(|glyphs| {
+            for glyph in glyphs {
+                let found = font.nominal_glyph(glyph.glyph_id);
+                glyph.glyph_id = found.map_or(0, |found| found.0.into());
+            }
+        });
+        set_advances(&font, &mut buffer).unwrap();
+        buffer
+    }
+
+    // What is passed over is what placing would leave as it is; with a mark something is placed.
+    #[test]
+    fn a_text_without_marks_stays_as_placing_leaves_it() {
+        let data = std::fs::read("../../fonts/sample.ttf").unwrap();
+        let face = Face::parse(&data, 0).unwrap();
+        let placing = MarkPlacing {
+            face: &face,
+            from_right: false,
+        };
+        for (text, has_marks) in [
+            ("Tofi fe", false),
+            ("e\u{301}a", true),
+            ("e\u{200D}a", true),
+        ] {
+            let old = text_of(&face, text);
+            let (mut applied, mut placed) = (old.copy().unwrap(), old.copy().unwrap());
+            placing.apply(&mut applied);
+            placing.place(&mut placed);
+            assert_eq!(applied, placed, "{text}");
+            assert_eq!(applied != old, has_marks, "{text}");
+        }
     }
 }

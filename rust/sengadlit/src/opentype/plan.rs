@@ -9,14 +9,14 @@ use crate::generated::opentype_font::text_tags::TextTags;
 use crate::language::{Language, text_tags};
 use crate::ot_shape_normalize::Rounds;
 use crate::ot_shape_plan::{self, ShapeChoices};
-use crate::plan::{BaseSearch, BreakFlags};
+use crate::plan::{BaseSearch, BreakFlags, ZeroContext};
 use crate::shaper::Shaper;
 
 /// What a face, a script, a language, a direction and the user's features decide before a text is seen.
 /// It serves every text of this script, language and direction, in this face.
 #[derive(Debug)]
 pub struct ShapePlan {
-    pub(super) plan: ot_shape_plan::ShapePlan,
+    pub(super) plan: ot_shape_plan::EnginePlan,
     pub(super) rounds: Rounds,
     pub(super) tags: TextTags,
     pub(super) kern_mask: u32,
@@ -91,7 +91,11 @@ impl Default for ShapePlanBuilder<'_> {
             language: None,
             direction: Direction::LeftToRight,
             features: &[],
-            choices: ShapeChoices::default(),
+            choices: ShapeChoices {
+                base_search: BaseSearch::AllConsonants,
+                zero_context: ZeroContext::NewSpec,
+                ..ShapeChoices::default()
+            },
             rounds: Rounds::default(),
         }
     }
@@ -142,6 +146,13 @@ impl ShapePlanBuilder<'_> {
         self
     }
 
+    /// In which fonts Indic's questions leave out rules that need context.
+    #[must_use]
+    pub fn zero_context(mut self, zero_context: ZeroContext) -> Self {
+        self.choices.zero_context = zero_context;
+        self
+    }
+
     /// Which texts are normalized in all rounds.
     #[must_use]
     pub fn rounds(self, rounds: Rounds) -> Self {
@@ -158,7 +169,7 @@ impl ShapePlanBuilder<'_> {
         let font = face.for_tags(tags);
         let (gsub, gpos) = (face.face.gsub, face.face.gpos);
         let features = ScriptFeatures::new(gsub, gpos, &tags, Global)?;
-        let plan = ot_shape_plan::ShapePlan::with_choices(
+        let plan = ot_shape_plan::EnginePlan::with_choices(
             Global,
             self.script,
             self.direction,
@@ -175,5 +186,19 @@ impl ShapePlanBuilder<'_> {
             script: self.script,
             language: self.language,
         })
+    }
+}
+
+#[cfg(test)]
+mod tests {
+    use super::*;
+
+    #[test]
+    fn choices_are_harfbuzzs_unless_one_chooses() {
+        let choices = ShapePlan::builder().choices;
+        assert_eq!(choices.base_search, BaseSearch::AllConsonants);
+        assert_eq!(choices.zero_context, ZeroContext::NewSpec);
+        let chosen = ShapePlan::builder().zero_context(ZeroContext::OldSpec);
+        assert_eq!(chosen.choices.zero_context, ZeroContext::OldSpec);
     }
 }

@@ -2,7 +2,7 @@
 
 use super::steps::{ShapeStep, Told};
 use super::{Face, Feature, GlyphBuffer, PlanCache, ShapePlan, UnicodeBuffer};
-use crate::buffer::Buffer;
+use crate::buffer::{Buffer, Direction, Script};
 use crate::shaper::checked::CallError;
 use core::fmt;
 
@@ -48,12 +48,12 @@ pub fn shape(face: &Face<'_>, features: &[Feature], text: UnicodeBuffer) -> Glyp
 pub fn try_shape(
     face: &Face<'_>,
     features: &[Feature],
-    mut text: UnicodeBuffer,
+    text: UnicodeBuffer,
 ) -> Result<GlyphBuffer, ShapeError> {
-    text.guess_segment_properties();
+    let (direction, script) = segment_of(&text);
     let builder = ShapePlan::builder()
-        .direction(text.direction())
-        .script(text.script())
+        .direction(direction)
+        .script(script)
         .language(text.language());
     match builder.features(features).build(face) {
         Ok(plan) => try_shape_with_plan(face, &plan, text),
@@ -62,6 +62,16 @@ pub fn try_shape(
             text,
         }),
     }
+}
+
+/// Direction and script of a text: its own, and where it has none, those that are guessed.
+fn segment_of(text: &UnicodeBuffer) -> (Direction, Option<Script>) {
+    let script = text.script().or_else(|| text.guessed_script());
+    let direction = match text.direction() {
+        Direction::Invalid => script.map_or(Direction::LeftToRight, Script::direction),
+        known => known,
+    };
+    (direction, script)
 }
 
 /// Shapes a text with a plan that was made for its script and direction, and for this face.
@@ -116,11 +126,10 @@ pub fn try_shape_with_cache(
     face: &Face<'_>,
     cache: &mut PlanCache,
     features: &[Feature],
-    mut text: UnicodeBuffer,
+    text: UnicodeBuffer,
 ) -> Result<GlyphBuffer, ShapeError> {
-    text.guess_segment_properties();
-    let (direction, script, language) = (text.direction(), text.script(), text.language());
-    match cache.plan(face, direction, script, language, features) {
+    let (direction, script) = segment_of(&text);
+    match cache.plan(face, direction, script, text.language(), features) {
         Ok(plan) => try_shape_with_plan(face, plan, text),
         Err(refusal) => Err(ShapeError {
             error: refusal.into(),
@@ -160,11 +169,16 @@ fn shape_and_tell(
 ) -> Result<GlyphBuffer, ShapeError> {
     let font = face.for_tags(plan.tags);
     let buffer = &mut text.buffer;
+    let (direction, script) = (buffer.direction(), buffer.script());
     buffer.set_direction(plan.direction());
     buffer.set_script(plan.script());
     match plan.shape_and_tell(face, &font, &text.replacements, told, buffer) {
         Ok(()) => Ok(GlyphBuffer::new(text, true)),
-        Err(error) => Err(ShapeError { error, text }),
+        Err(error) => {
+            buffer.set_direction(direction);
+            buffer.set_script(script);
+            Err(ShapeError { error, text })
+        }
     }
 }
 
@@ -172,7 +186,7 @@ fn shape_and_tell(
 fn complete_or_empty(shaped: Result<GlyphBuffer, ShapeError>) -> GlyphBuffer {
     shaped.unwrap_or_else(|refused| {
         let mut text = refused.text;
-        let direction = text.direction();
+        let (direction, _) = segment_of(&text);
         text.buffer.clear();
         text.buffer.set_direction(direction);
         GlyphBuffer::new(text, false)
@@ -182,7 +196,7 @@ fn complete_or_empty(shaped: Result<GlyphBuffer, ShapeError>) -> GlyphBuffer {
 #[cfg(test)]
 mod tests {
     use super::*;
-    use crate::buffer::{Direction, ShaperError};
+    use crate::buffer::ShaperError;
 
     // What can't be shaped has no glyph, and is told; its direction is what it was.
     #[test]

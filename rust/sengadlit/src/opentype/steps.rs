@@ -7,7 +7,7 @@ use crate::buffer::{Buffer, GlyphInfo, GlyphProps, ShaperError};
 use crate::font::GlyphId;
 use crate::generated::opentype_font::font::OpenTypeFont;
 use crate::ot_shape::Lookups;
-use crate::ot_shape_plan::{ShapePlan, StageLookup};
+use crate::ot_shape_plan::{EnginePlan, StageLookup};
 use crate::ot_shape_position::GlyphClasses;
 use core::cell::Cell;
 use core::ptr;
@@ -34,7 +34,7 @@ pub(super) type Told<'a> = Option<&'a dyn Fn(ShapeStep, &Buffer)>;
 /// positions are scaled, and marks placed in a font without GPOS.
 pub(super) struct Steps<'a> {
     pub font: &'a OpenTypeFont<'a>,
-    pub plan: &'a ShapePlan,
+    pub plan: &'a EnginePlan,
     pub not_found: Option<GlyphId>,
     pub kerning: Kerning<'a>,
     pub marks: Option<MarkPlacing<'a>>,

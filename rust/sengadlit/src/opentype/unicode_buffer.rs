@@ -158,17 +158,22 @@ impl UnicodeBuffer {
     /// `hb_buffer_guess_segment_properties`).
     pub fn guess_segment_properties(&mut self) {
         if self.script().is_none() {
-            let mut characters = self
-                .buffer
-                .iter()
-                .filter_map(|glyph| char::from_u32(glyph.glyph_id));
-            let script = characters.find_map(Script::of_char);
+            let script = self.guessed_script();
             self.buffer.set_script(script);
         }
         if self.direction() == Direction::Invalid {
             let direction = self.script().map(Script::direction);
             self.set_direction(direction.unwrap_or(Direction::LeftToRight));
         }
+    }
+
+    // The script of the first character that has one of its own.
+    pub(super) fn guessed_script(&self) -> Option<Script> {
+        let mut characters = self
+            .buffer
+            .iter()
+            .filter_map(|glyph| char::from_u32(glyph.glyph_id));
+        characters.find_map(Script::of_char)
     }
 
     /// Brings the characters of each grapheme, as a letter with its accents, into one cluster. With the

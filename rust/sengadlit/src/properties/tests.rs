@@ -108,3 +108,43 @@ fn properties_are_shown_by_their_names() {
          auxiliary: 0 }"
     );
 }
+
+// The rules name these parts of a glyph, and a reader finds each under that name.
+#[test]
+fn a_glyph_answers_to_the_names_of_its_parts() {
+    let mut glyph = GlyphInfo {
+        unicode_props: UnicodeProps::new(GeneralCategory::Mn, 230),
+        ..GlyphInfo::DEFAULT
+    };
+    assert_eq!(glyph.general_category(), GeneralCategory::Mn);
+    assert_eq!(glyph.modified_combining_class(), 230);
+    glyph.set_modified_combining_class(220);
+    glyph.set_lig_comp(18);
+    assert_eq!(
+        (glyph.modified_combining_class(), glyph.lig_comp()),
+        (220, 2)
+    );
+    for on in [true, false] {
+        glyph.set_substituted(on);
+        glyph.set_ligated(on);
+        glyph.set_multiplied(on);
+        glyph.set_ignorable(on);
+        glyph.set_continuation(on);
+        let marks = [
+            glyph.substituted(),
+            glyph.ligated(),
+            glyph.multiplied(),
+            glyph.ignorable(),
+            glyph.continuation(),
+        ];
+        assert_eq!(marks, [on; 5]);
+    }
+    glyph.set_general_category(GeneralCategory::Zs);
+    let space = UnicodeProps::new(GeneralCategory::Zs, 0);
+    let expected = GlyphInfo {
+        unicode_props: space,
+        lig_props: LigProps(2),
+        ..GlyphInfo::DEFAULT
+    };
+    assert_eq!(glyph, expected);
+}

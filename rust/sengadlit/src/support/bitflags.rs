@@ -1,129 +1,186 @@
-//! Flag types with the methods, operators and traits that the crate bitflags 2 gives them.
+//! What the crate bitflags writes for a flag type, as far as anyone here takes it.
 
-use core::ops::{BitAnd, BitOr, BitXor, Not};
+/// Writes the constants of a flag type, its list of them, its methods, operators and formats.
+macro_rules! bitflag_items {
+    (impl $name:ident: $bits:ty {
+        $($(#[$attribute:meta])* const $flag:ident = $value:expr;)*
+    }) => {
+        impl $name {
+            $($(#[$attribute])* pub const $flag: Self = $name($value);)*
 
-pub(crate) mod items;
-mod iter;
+            /// The flags that there are, with their names.
+            pub const FLAGS: &'static [(&'static str, Self)] = &[$((stringify!($flag), Self::$flag)),*];
 
-pub(crate) use items::bitflag_items;
-pub use iter::{Iter, IterNames};
+            const KNOWN: $bits = 0 $(| Self::$flag.0)*;
 
-/// The numbers that flags are bits of.
-pub trait Bits:
-    Copy
-    + PartialEq
-    + BitAnd<Output = Self>
-    + BitOr<Output = Self>
-    + BitXor<Output = Self>
-    + Not<Output = Self>
-    + 'static
-{
-    /// No bit.
-    const EMPTY: Self;
-    /// Every bit.
-    const ALL: Self;
+            /// No flag.
+            #[inline]
+            pub const fn empty() -> Self {
+                $name(0)
+            }
+
+            /// Every flag.
+            #[inline]
+            pub const fn all() -> Self {
+                $name(Self::KNOWN)
+            }
+
+            /// The bits of the set.
+            #[inline]
+            pub const fn bits(&self) -> $bits {
+                self.0
+            }
+
+            /// The set of these bits; None if one of them belongs to no flag.
+            #[inline]
+            pub const fn from_bits(bits: $bits) -> Option<Self> {
+                if bits & !Self::KNOWN == 0 { Some($name(bits)) } else { None }
+            }
+
+            /// The set of these bits without those that belong to no flag.
+            #[inline]
+            pub const fn from_bits_truncate(bits: $bits) -> Self {
+                $name(bits & Self::KNOWN)
+            }
+
+            /// The set of exactly these bits, also of those that belong to no flag.
+            #[inline]
+            pub const fn from_bits_retain(bits: $bits) -> Self {
+                $name(bits)
+            }
+
+            /// Whether no bit is set.
+            #[inline]
+            pub const fn is_empty(&self) -> bool {
+                self.0 == 0
+            }
+
+            /// Whether every flag is set.
+            #[inline]
+            pub const fn is_all(&self) -> bool {
+                self.0 & Self::KNOWN == Self::KNOWN
+            }
+
+            /// Whether some bit of `other` is set.
+            #[inline]
+            pub const fn intersects(&self, other: Self) -> bool {
+                self.0 & other.0 != 0
+            }
+
+            /// Whether every bit of `other` is set.
+            #[inline]
+            pub const fn contains(&self, other: Self) -> bool {
+                self.0 & other.0 == other.0
+            }
+
+            /// Adds the bits of `other`.
+            #[inline]
+            pub const fn insert(&mut self, other: Self) {
+                self.0 |= other.0;
+            }
+
+            /// Takes the bits of `other` away.
+            #[inline]
+            pub const fn remove(&mut self, other: Self) {
+                self.0 &= !other.0;
+            }
+
+            /// Adds the bits of `other`, or takes them away.
+            #[inline]
+            pub const fn set(&mut self, other: Self, value: bool) {
+                if value { self.insert(other) } else { self.remove(other) }
+            }
+
+            /// The bits that one set has, or both.
+            #[inline]
+            #[must_use]
+            pub const fn union(self, other: Self) -> Self {
+                $name(self.0 | other.0)
+            }
+
+            /// The bits that both sets have.
+            #[inline]
+            #[must_use]
+            pub const fn intersection(self, other: Self) -> Self {
+                $name(self.0 & other.0)
+            }
+
+            /// The bits that this set has and `other` hasn't.
+            #[inline]
+            #[must_use]
+            pub const fn difference(self, other: Self) -> Self {
+                $name(self.0 & !other.0)
+            }
+
+            /// The bits that one set has and not both.
+            #[inline]
+            #[must_use]
+            pub const fn symmetric_difference(self, other: Self) -> Self {
+                $name(self.0 ^ other.0)
+            }
+
+            /// The flags that the set hasn't.
+            #[inline]
+            #[must_use]
+            pub const fn complement(self) -> Self {
+                Self::from_bits_truncate(!self.0)
+            }
+        }
+
+        impl core::ops::Not for $name {
+            type Output = Self;
+
+            #[inline]
+            fn not(self) -> Self {
+                self.complement()
+            }
+        }
+
+        $crate::support::bitflags::bitflag_operators! { $name:
+            BitOr, bitor, union, BitOrAssign, bitor_assign;
+            BitAnd, bitand, intersection, BitAndAssign, bitand_assign;
+            BitXor, bitxor, symmetric_difference, BitXorAssign, bitxor_assign;
+            Sub, sub, difference, SubAssign, sub_assign;
+        }
+        $crate::support::bitflags::bitflag_formats! { $name: Binary, Octal, LowerHex, UpperHex }
+    };
 }
 
-macro_rules! impl_bits {
-    ($($number:ty),*) => {
-        $(impl Bits for $number {
-            const EMPTY: Self = 0;
-            const ALL: Self = <$number>::MAX;
+/// Writes the operators of a flag type: those of its methods.
+macro_rules! bitflag_operators {
+    ($name:ident: $($operator:ident, $call:ident, $method:ident, $assign:ident, $assign_call:ident;)*) => {
+        $(
+            impl core::ops::$operator for $name {
+                type Output = Self;
+
+                #[inline]
+                fn $call(self, other: Self) -> Self {
+                    self.$method(other)
+                }
+            }
+
+            impl core::ops::$assign for $name {
+                #[inline]
+                fn $assign_call(&mut self, other: Self) {
+                    *self = self.$method(other);
+                }
+            }
+        )*
+    };
+}
+
+/// Writes the formats of a flag type: those of its number.
+macro_rules! bitflag_formats {
+    ($name:ident: $($format:ident),*) => {
+        $(impl core::fmt::$format for $name {
+            fn fmt(&self, f: &mut core::fmt::Formatter<'_>) -> core::fmt::Result {
+                core::fmt::$format::fmt(&self.0, f)
+            }
         })*
     };
 }
 
-impl_bits!(u8, u16, u32, u64, u128, usize);
-
-/// A flag with its name; the empty name is none.
-#[derive(Clone, Copy, Debug, PartialEq, Eq)]
-pub struct Flag<B> {
-    name: &'static str,
-    value: B,
-}
-
-impl<B> Flag<B> {
-    /// A flag by this name.
-    pub const fn new(name: &'static str, value: B) -> Self {
-        Flag { name, value }
-    }
-
-    /// Its name.
-    pub const fn name(&self) -> &'static str {
-        self.name
-    }
-
-    /// Its value.
-    pub const fn value(&self) -> &B {
-        &self.value
-    }
-
-    /// Whether it has a name.
-    pub const fn is_named(&self) -> bool {
-        !self.name.is_empty()
-    }
-
-    /// Whether it has no name.
-    pub const fn is_unnamed(&self) -> bool {
-        self.name.is_empty()
-    }
-}
-
-/// A set of flags. Each method is also one of the type itself.
-pub trait Flags: Sized + 'static {
-    /// The number that the flags are bits of.
-    type Bits: Bits;
-
-    /// The flags that there are.
-    fn flags<'a>() -> &'a [Flag<Self>];
-
-    /// The bits of the set.
-    fn bits(&self) -> Self::Bits;
-
-    /// The set of exactly these bits, also of those that no flag has.
-    fn from_bits_retain(bits: Self::Bits) -> Self;
-
-    /// No flag.
-    fn empty() -> Self {
-        Self::from_bits_retain(Self::Bits::EMPTY)
-    }
-
-    /// Every flag.
-    fn all() -> Self {
-        let all = Self::flags().iter().map(|flag| flag.value().bits());
-        Self::from_bits_retain(all.fold(Self::Bits::EMPTY, |all, bits| all | bits))
-    }
-
-    /// Whether no bit is set.
-    fn is_empty(&self) -> bool {
-        self.bits() == Self::Bits::EMPTY
-    }
-
-    /// Whether every bit of `other` is set.
-    fn contains(&self, other: Self) -> bool {
-        self.bits() & other.bits() == other.bits()
-    }
-
-    /// Whether some bit of `other` is set.
-    fn intersects(&self, other: Self) -> bool {
-        self.bits() & other.bits() != Self::Bits::EMPTY
-    }
-
-    /// Takes the bits of `other` away.
-    fn remove(&mut self, other: Self) {
-        *self = Self::from_bits_retain(self.bits() & !other.bits());
-    }
-
-    /// The flags of the set, one at a time, and then what other bits are left.
-    fn iter(&self) -> Iter<Self> {
-        Iter::new(self)
-    }
-
-    /// The named flags of the set, one at a time.
-    fn iter_names(&self) -> IterNames<Self> {
-        IterNames::new(self)
-    }
-}
+pub(crate) use {bitflag_formats, bitflag_items, bitflag_operators};
 
 #[cfg(test)]
 mod tests;

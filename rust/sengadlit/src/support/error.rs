@@ -8,15 +8,11 @@ use core::fmt;
 impl fmt::Display for ShaperError {
     fn fmt(&self, f: &mut fmt::Formatter<'_>) -> fmt::Result {
         f.write_str(match self {
-            ShaperError::Memory => "memory was refused",
-            ShaperError::TooLong => "the text would be longer than the buffer's limit",
-            ShaperError::UnknownSyllable(_) => {
-                "a syllable is of a kind that the shaper doesn't know"
-            }
-            ShaperError::SpansDontCover => {
-                "a span is empty, or spans don't add up to the buffer's length"
-            }
-            ShaperError::StretchOverflow => "a number of a stretched mark doesn't fit 32 bits",
+            ShaperError::Memory => "Memory",
+            ShaperError::TooLong => "TooLong",
+            ShaperError::UnknownSyllable(_) => "UnknownSyllable",
+            ShaperError::SpansDontCover => "SpansDontCover",
+            ShaperError::StretchOverflow => "StretchOverflow",
         })
     }
 }

@@ -132,8 +132,8 @@ fn categories_are_those_of_the_tables() {
     buffer.push(surrogate).unwrap();
     buffer.with_glyphs_mut(|glyphs| glyphs[1].unicode_props = UnicodeProps(0xDCA0));
     buffer.set_general_categories(&Letters);
-    // (the bits IGNORABLE and CONTINUATION stay)
-    assert_eq!(buffer.get(1).unicode_props, UnicodeProps(0x00A7));
+    // (the class and the bits IGNORABLE and CONTINUATION stay)
+    assert_eq!(buffer.get(1).unicode_props, UnicodeProps(0xDCA7));
     let categories = buffer
         .into_iter()
         .map(|glyph| glyph.unicode_props.general_category());

@@ -12,7 +12,6 @@ use sengadlit::buffer::{
 pub struct Contents {
     pub glyphs: Vec<GlyphInfo>,
     pub positions: Vec<GlyphPosition>,
-    places: Vec<usize>,
     contexts: (Vec<char>, Vec<char>),
     settings: (Direction, Option<Script>, BufferClusterLevel, BufferFlags),
     marks: (bool, bool),
@@ -20,12 +19,11 @@ pub struct Contents {
 }
 
 impl Contents {
-    /// What a buffer holds, the list of places left out.
+    /// What a buffer holds.
     pub fn of(buffer: &Buffer) -> Self {
         Contents {
             glyphs: buffer.glyphs().to_vec(),
             positions: buffer.positions().to_vec(),
-            places: Vec::new(),
             contexts: (
                 buffer.pre_context().to_vec(),
                 buffer.post_context().to_vec(),
@@ -38,14 +36,6 @@ impl Contents {
             ),
             marks: (buffer.has_broken_syllable(), buffer.has_stch()),
             max_len: buffer.max_len(),
-        }
-    }
-
-    /// The same with the list of places, which a refused call leaves too.
-    pub fn with_places(buffer: &Buffer) -> Self {
-        Contents {
-            places: (0..buffer.len()).map(|i| buffer.place(i)).collect(),
-            ..Contents::of(buffer)
         }
     }
 

@@ -6,7 +6,7 @@ use sengadlit::buffer::{Buffer, GlyphInfo, ShaperError, Span};
 use sengadlit::font::{Font, Tables};
 use sengadlit::plan::{Pause, Plan, PlanData, Preprocess};
 use sengadlit::shaper::checked::{CallError, checked_run_pause};
-use sengadlit::shaper::{Composition, Decomposition, HookOutcome, Shaper, run_pause};
+use sengadlit::shaper::{Shaper, run_pause};
 
 /// A hook, or a pause, with its arguments.
 #[derive(Clone, Copy, Debug, PartialEq, Eq)]
@@ -212,27 +212,16 @@ fn preprocessed(returned: Option<Preprocess>) -> Returned {
     }
 }
 
-fn done(outcome: HookOutcome) -> Returned {
-    match outcome {
-        HookOutcome::Done => Returned::Done,
-        HookOutcome::NoHook => Returned::Absent,
-    }
+fn done(returned: Option<()>) -> Returned {
+    returned.map_or(Returned::Absent, |()| Returned::Done)
 }
 
-fn composed(composition: Composition) -> Returned {
-    match composition {
-        Composition::Whole(whole) => Returned::Character(Some(whole)),
-        Composition::Apart => Returned::Character(None),
-        Composition::NoHook => Returned::Absent,
-    }
+fn composed(returned: Option<Option<char>>) -> Returned {
+    returned.map_or(Returned::Absent, Returned::Character)
 }
 
-fn decomposed(decomposition: Decomposition) -> Returned {
-    match decomposition {
-        Decomposition::Parts(a, b) => Returned::Characters(Some((a, b))),
-        Decomposition::Whole => Returned::Characters(None),
-        Decomposition::NoHook => Returned::Absent,
-    }
+fn decomposed(returned: Option<Option<(char, char)>>) -> Returned {
+    returned.map_or(Returned::Absent, Returned::Characters)
 }
 
 fn random_char(numbers: &mut Numbers) -> char {

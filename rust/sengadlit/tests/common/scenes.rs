@@ -63,10 +63,10 @@ impl Scene {
     /// refuses must have left the buffer as it was.
     pub fn play(&self) -> (Result<Returned, ShaperError>, Contents) {
         let mut buffer = copy_of(&self.buffer);
-        let before = Contents::with_places(&buffer);
+        let before = Contents::of(&buffer);
         let returned = self.call.make(&self.setting(), &mut buffer);
         if returned.is_err() {
-            assert_eq!(Contents::with_places(&buffer), before, "{:?}", self.call);
+            assert_eq!(Contents::of(&buffer), before, "{:?}", self.call);
         }
         (returned, Contents::of(&buffer))
     }

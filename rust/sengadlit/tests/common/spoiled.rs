@@ -4,8 +4,8 @@ use super::buffers::{letter, set_random_positions};
 use super::numbers::Numbers;
 use sengadlit::alloc::Vec as List;
 use sengadlit::buffer::{
-    Buffer, BufferClusterLevel, BufferFlags, BufferSettings, Direction, GlyphInfo, GlyphPosition,
-    GlyphProps, GlyphRewriting, LigProps, Script, UnicodeProps,
+    Buffer, BufferClusterLevel, BufferFlags, BufferSettings, Direction, GlyphInfo, GlyphProps,
+    GlyphRewriting, LigProps, Script, UnicodeProps,
 };
 
 /// Gives the glyphs any fields, and makes up to three calls, whether their conditions hold or not.
@@ -24,22 +24,20 @@ pub fn spoil(numbers: &mut Numbers, buffer: &mut Buffer) {
 
 fn spoil_once(numbers: &mut Numbers, buffer: &mut Buffer) {
     let len = buffer.len();
-    match numbers.below(14) {
+    match numbers.below(9) {
         0..=3 => set_settings(numbers, buffer),
-        4..=7 => list_places(numbers, buffer),
-        8 => buffer.truncate(numbers.below(len + 3)),
-        9 => {
+        4 => buffer.truncate(numbers.below(len + 3)),
+        5 => {
             // positions may be there, of which there is one too few then; or it's too long
             let _ = buffer.push(letter(numbers.number(), numbers.number()));
         }
-        10 => {
+        6 => {
             let glyphs: Vec<_> = (0..numbers.below(9))
                 .map(|i| letter(0x627, i as u32))
                 .collect();
             let _ = buffer.replace_glyphs(List::from(glyphs));
         }
-        11 => exchange(numbers, buffer),
-        12 => {
+        7 => {
             let wanted = numbers.below(len + 9);
             let _ = buffer.rewrite(wanted, &Wrong(numbers.below(30)));
         }
@@ -65,26 +63,6 @@ fn set_settings(numbers: &mut Numbers, buffer: &mut Buffer) {
         has_stch: numbers.once_in(2),
         max_len: numbers.below(len + 1) * numbers.below(3),
     });
-}
-
-fn list_places(numbers: &mut Numbers, buffer: &mut Buffer) {
-    for i in 0..buffer.len() {
-        if numbers.once_in(3) {
-            let places = [0, i, buffer.len(), usize::MAX, numbers.below(90)];
-            buffer.set_place(i, numbers.one_of(&places));
-        }
-    }
-}
-
-/// Another text, whose positions may be too few or too many.
-fn exchange(numbers: &mut Numbers, buffer: &mut Buffer) {
-    let glyphs: Vec<_> = (0..numbers.below(6))
-        .map(|i| letter(0x712, i as u32))
-        .collect();
-    let positions = vec![GlyphPosition::ZERO; numbers.below(6)];
-    let (mut glyphs, mut positions) = (List::from(glyphs), List::from(positions));
-    let settings = BufferSettings::new(numbers.below(9));
-    let _ = buffer.exchange_text(&mut glyphs, &mut positions, &settings);
 }
 
 /// A rewriting that writes so many glyphs, whatever it reads, to a list that it made itself.

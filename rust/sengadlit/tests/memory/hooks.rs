@@ -3,6 +3,7 @@
 use crate::common::buffers::{buffer_of, letter, set_advances};
 use crate::common::calls::{Call, Setting};
 use crate::common::fonts::{PlainFont, PlainTables};
+use crate::common::numbers::Numbers;
 use crate::common::plans::{PAUSES, plan_of};
 use crate::trial::{Subject, Trial};
 use sengadlit::buffer::{Buffer, Direction, GlyphInfo, Span};
@@ -188,17 +189,8 @@ pub fn standing(length: usize) -> Vec<Trial> {
     trials
 }
 
-/// A pause on a text without a broken syllable.
+/// A pause on a text without a broken syllable, in which nothing moves.
 fn standing_pause(pause: Pause, length: usize) -> Trial {
-    let shaper = match pause {
-        Pause::SetupSyllablesIndic | Pause::InitialReordering | Pause::FinalReordering => {
-            Shaper::Indic
-        }
-        Pause::SetupSyllablesUse | Pause::RecordRphf | Pause::ReorderUse => Shaper::Universal,
-        Pause::SetupSyllablesKhmer | Pause::ReorderKhmer => Shaper::Khmer,
-        Pause::RecordStch => Shaper::Arabic,
-        _ => Shaper::Myanmar,
-    };
     let glyph = |i| GlyphInfo {
         syllable: 0x10,
         category: 1,
@@ -207,5 +199,138 @@ fn standing_pause(pause: Pause, length: usize) -> Trial {
     };
     let spans = vec![Span { len: 2, kind: 0 }; length / 2];
     let text = text(length, glyph);
+    let shaper = shaper_of(pause);
     trial(STANDING, Call::Pause(pause), shaper, spans, text)
+}
+
+/// Each pause on texts drawn by lot without a broken syllable, whose clusters rise, fall, are shared or
+/// mixed: where they fall, merges of neighbouring syllables flood each other.
+pub fn moving(texts: u64) -> Vec<Trial> {
+    let mut trials = Vec::new();
+    for seed in 0..texts {
+        for pause in PAUSES {
+            let mut numbers = Numbers::new(seed);
+            let length = numbers.below(300);
+            let spans = covering_spans(&mut numbers, length);
+            let text = moving_text(&mut numbers, shaper_of(pause), length);
+            trials.push(trial(
+                STANDING,
+                Call::Pause(pause),
+                shaper_of(pause),
+                spans,
+                text,
+            ));
+        }
+    }
+    trials
+}
+
+/// Spans of one to five glyphs that cover so many.
+fn covering_spans(numbers: &mut Numbers, length: usize) -> Vec<Span> {
+    let (mut spans, mut rest) = (Vec::new(), length);
+    while rest > 0 {
+        let len = rest.min(1 + numbers.below(5));
+        spans.push(Span { len, kind: 0 });
+        rest -= len;
+    }
+    spans
+}
+
+/// How the clusters of a text follow one another.
+#[derive(Clone, Copy)]
+enum Clusters {
+    Rise,
+    Fall,
+    FallShared,
+    Mixed,
+}
+
+/// A text of syllables of one to five glyphs, with categories and positions of the shaper.
+fn moving_text(numbers: &mut Numbers, shaper: Shaper, length: usize) -> Buffer {
+    use Clusters::{Fall, FallShared, Mixed, Rise};
+    let clusters = numbers.one_of(&[Rise, Fall, FallShared, Mixed]);
+    let (mut glyphs, mut serial): (Vec<GlyphInfo>, u8) = (Vec::new(), 1);
+    while glyphs.len() < length {
+        for _ in 0..1 + numbers.below(5) {
+            let cluster = match clusters {
+                Rise => glyphs.len(),
+                Fall => 1000 - glyphs.len(),
+                FallShared => (1000 - glyphs.len()) / 2,
+                Mixed => numbers.below(9),
+            };
+            let (category, auxiliary) = numbers.one_of(moving_glyphs(shaper));
+            glyphs.push(GlyphInfo {
+                syllable: serial << 4,
+                category,
+                auxiliary,
+                ..letter(0x915, cluster as u32)
+            });
+        }
+        serial = serial % 15 + 1;
+    }
+    glyphs.truncate(length);
+    buffer_of(&glyphs, 100_000)
+}
+
+/// Categories of a consonant, of vowels that go before it, and of signs; for Indic with their positions.
+fn moving_glyphs(shaper: Shaper) -> &'static [(u8, u8)] {
+    match shaper {
+        // (C, H, M before the base, M behind it, Ra, SM)
+        Shaper::Indic => &[
+            (1, 4),
+            (1, 4),
+            (4, 14),
+            (7, 2),
+            (7, 2),
+            (7, 11),
+            (15, 4),
+            (8, 13),
+        ],
+        // (C, VAbv, VPre, VPst, Ra, Coeng)
+        Shaper::Khmer => &[
+            (1, 0),
+            (1, 0),
+            (20, 0),
+            (22, 0),
+            (22, 0),
+            (23, 0),
+            (15, 0),
+            (4, 0),
+        ],
+        // (C, VAbv, VPre, VPst, MR, A)
+        Shaper::Myanmar => &[
+            (1, 0),
+            (1, 0),
+            (20, 0),
+            (22, 0),
+            (22, 0),
+            (23, 0),
+            (36, 0),
+            (9, 0),
+        ],
+        // (B, VPre, VPre, VPst, MPre, R, H)
+        _ => &[
+            (1, 0),
+            (1, 0),
+            (22, 0),
+            (22, 0),
+            (24, 0),
+            (28, 0),
+            (18, 0),
+            (12, 0),
+        ],
+    }
+}
+
+/// The shaper that makes a pause.
+fn shaper_of(pause: Pause) -> Shaper {
+    match pause {
+        Pause::SetupSyllablesIndic | Pause::InitialReordering | Pause::FinalReordering => {
+            Shaper::Indic
+        }
+        Pause::SetupSyllablesUse | Pause::RecordRphf | Pause::ReorderUse => Shaper::Universal,
+        Pause::SetupSyllablesKhmer | Pause::ReorderKhmer => Shaper::Khmer,
+        Pause::RecordStch => Shaper::Arabic,
+        _ => Shaper::Myanmar,
+    }
 }

@@ -4,9 +4,7 @@ use crate::common::buffers::{buffer_of, letter, set_advances};
 use crate::common::fonts::PlainFont;
 use crate::trial::{Subject, Trial};
 use sengadlit::alloc::{Global, Vec as List};
-use sengadlit::buffer::{
-    Buffer, BufferSettings, GlyphInfo, GlyphPosition, Script, ShaperError, Tag,
-};
+use sengadlit::buffer::{Buffer, GlyphInfo, Script, ShaperError, Tag};
 use sengadlit::map::{F_NONE, FeatureMap, Map};
 use sengadlit::plan::{Pause, Plan, PlanError, Planner, Request};
 use sengadlit::shaper::Shaper;
@@ -59,6 +57,11 @@ pub fn of_the_buffer(length: usize) -> Vec<Trial> {
             *subject.buffer() = subject.buffer().copy()?;
             Ok(())
         }),
+        trial(named("keep"), Subject::Buffer(text(length)), |subject| {
+            let kept = subject.buffer().keep()?;
+            subject.buffer().restore(kept);
+            Ok(())
+        }),
         trial(
             named("push_str"),
             Subject::Buffer(text(length)),
@@ -71,32 +74,16 @@ pub fn of_the_buffer(length: usize) -> Vec<Trial> {
 /// back as they were.
 pub fn exchanging(length: usize) -> Vec<Trial> {
     let named = |call: &str| format!("{call} with {length} glyphs");
-    vec![
-        trial(
-            named("exchange_glyphs"),
-            Subject::Buffer(text(length)),
-            |subject| {
-                let mut glyphs = List::from_elem(Global, letter(7, 7), 3000)?;
-                let returned = subject.buffer().exchange_glyphs(&mut glyphs);
-                assert_eq!(glyphs.len() == 3000, returned.is_err());
-                returned
-            },
-        ),
-        trial(
-            named("exchange_text"),
-            Subject::Buffer(text(length)),
-            |subject| {
-                let mut glyphs = List::from_elem(Global, letter(7, 7), 3000)?;
-                let mut positions = List::from_elem(Global, GlyphPosition::ZERO, 3000)?;
-                let settings = BufferSettings::new(5000);
-                let buffer = subject.buffer();
-                let returned = buffer.exchange_text(&mut glyphs, &mut positions, &settings);
-                let are_kept = glyphs.len() == 3000 && positions.len() == 3000;
-                assert_eq!(are_kept, returned.is_err());
-                returned
-            },
-        ),
-    ]
+    vec![trial(
+        named("exchange_glyphs"),
+        Subject::Buffer(text(length)),
+        |subject| {
+            let mut glyphs = List::from_elem(Global, letter(7, 7), 3000)?;
+            let returned = subject.buffer().exchange_glyphs(&mut glyphs);
+            assert_eq!(glyphs.len() == 3000, returned.is_err());
+            returned
+        },
+    )]
 }
 
 const TAG: Tag = Tag(*b"rphf");

@@ -1,6 +1,8 @@
 //! Memory refused at each request in turn: the call returns `Memory`, all is as it was before, and
 //! made again it does what it does without a refusal.
 
+#[cfg(feature = "opentype")]
+mod again;
 mod allocator;
 #[path = "../common/mod.rs"]
 mod common;
@@ -8,6 +10,8 @@ mod common;
 mod found;
 mod hooks;
 mod lists;
+#[cfg(feature = "opentype")]
+mod one_call;
 mod trial;
 
 use allocator::Refusing;
@@ -46,6 +50,7 @@ fn hooks_and_pauses_that_take_no_memory() {
     for length in LENGTHS {
         run(&hooks::standing(length));
     }
+    run(&hooks::moving(200));
 }
 
 #[cfg(feature = "tables")]
@@ -55,6 +60,19 @@ fn calls_that_find_syllables_or_take_a_text() {
         run(&found::growing(length));
         run(&found::standing(length));
     }
+}
+
+#[cfg(feature = "opentype")]
+#[test]
+fn texts_of_one_call_are_given_back() {
+    one_call::texts_are_given_back();
+}
+
+#[cfg(feature = "opentype")]
+#[test]
+fn texts_shaped_again_take_no_memory() {
+    again::the_fifth_text_takes_no_memory();
+    again::a_rule_of_a_context_takes_a_stack();
 }
 
 #[test]
@@ -114,10 +132,7 @@ fn refuse_each(scene: &Scene) -> usize {
             _ => ShaperError::Memory,
         };
         assert_eq!(returned, Err(expected));
-        assert_eq!(
-            Contents::with_places(&again),
-            Contents::with_places(&scene.buffer)
-        );
+        assert_eq!(Contents::of(&again), Contents::of(&scene.buffer));
         assert_eq!(scene.call.make(&setting, &mut again), wanted);
         assert_eq!(Contents::of(&again), Contents::of(&buffer));
     }

@@ -6,6 +6,7 @@ use sengadlit::buffer::{Buffer, ShaperError};
 use sengadlit::plan::{Planner, Request};
 
 /// What a call changes.
+#[allow(clippy::large_enum_variant, reason = "each trial has one alone")]
 pub enum Subject {
     Buffer(Buffer),
     Planner(Planner),
@@ -57,14 +58,6 @@ impl Subject {
             Subject::Nothing => Held::Nothing,
         }
     }
-
-    /// The same with the buffer's list of places.
-    fn held_with_places(&self) -> Held {
-        match self {
-            Subject::Buffer(buffer) => Held::Buffer(Box::new(Contents::with_places(buffer))),
-            _ => self.held(),
-        }
-    }
 }
 
 /// What a trial calls.
@@ -86,10 +79,10 @@ pub fn refused_requests(trial: &Trial) -> usize {
     assert_eq!(returned, Ok(()), "{}", trial.name);
     for refused in 1..=requests {
         let mut subject = trial.subject.copy();
-        let before = subject.held_with_places();
+        let before = subject.held();
         let (returned, _) = refusing(refused, || (trial.call)(&mut subject));
         assert_eq!(returned, Err(ShaperError::Memory), "{}", trial.name);
-        assert_eq!(subject.held_with_places(), before, "{}", trial.name);
+        assert_eq!(subject.held(), before, "{}", trial.name);
         assert_eq!((trial.call)(&mut subject), Ok(()), "{}", trial.name);
         assert_eq!(subject.held(), done.held(), "{}", trial.name);
     }

@@ -445,7 +445,7 @@ const OUTPUT_SYNTAX: &[Entry] = &[
 const OWN: &[Entry] = &[
     flag(
         "sound",
-        "Flag each place at which a break would change the text (docs/BREAKS.md)",
+        "Flag each place at which a break would change the text (docs/PROOF.md)",
         |settings| {
             settings.break_flags = BreakFlags::Sound;
         },

@@ -36,13 +36,12 @@ pub fn u16_at(bytes: &[u8], at: usize) -> u16 {
     if at >= bytes.len() {
         return 0;
     }
-    let high = bytes[at];
-    let low = if at + 1 < bytes.len() {
-        bytes[at + 1]
-    } else {
-        0
-    };
-    256 * u16::from(high) + u16::from(low)
+    // (a slice of two bytes and more has a test less for the second one)
+    let rest = &bytes[at..];
+    if rest.len() < 2 {
+        return 256 * u16::from(rest[0]);
+    }
+    256 * u16::from(rest[0]) + u16::from(rest[1])
 }
 
 /// The number of two bytes at a place, with its sign.

@@ -202,6 +202,10 @@ impl Face<'_> {
     ///
     /// </details>
     pub fn h_advance(&self, glyph: u16) -> u16 {
+        let long = metrics::long_metrics(self.hhea, self.hmtx);
+        if u32::from(glyph) < long {
+            return u16_at(self.hmtx, usize::from(glyph) * 4);
+        }
         match metrics::advance(self.hhea, self.hmtx, self.glyph_count(), glyph) {
             Some(advance) => advance,
             None => self.units_per_em() / 2,

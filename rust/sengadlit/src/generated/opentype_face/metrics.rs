@@ -59,6 +59,7 @@ pub fn glyph_count(maxp: &[u8]) -> u16 {
 /// - `long_metrics_in`: `crates/opentype_face/specs/Metrics.antt`
 ///
 /// </details>
+#[inline]
 pub fn long_metrics(header: &[u8], metrics: &[u8]) -> u32 {
     capped(u32::from(u16_at(header, 34)), metrics.len() / 4)
 }

@@ -3,12 +3,16 @@
 //! The tables of an OpenType font over its bytes.
 
 pub mod bytes;
+mod character_pages;
+pub mod character_table;
 pub mod characters;
+pub mod class_table;
 pub mod classes;
 pub mod cmap;
 pub mod directory;
 pub mod face;
 pub mod glyph_sets;
+pub mod glyph_tables;
 mod ignored;
 mod legacy_tables;
 pub mod lookup;

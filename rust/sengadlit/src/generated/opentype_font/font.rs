@@ -7,16 +7,17 @@ use crate::generated::opentype_face::metrics::advance;
 use crate::generated::opentype_font::script_features::has_feature;
 use crate::generated::opentype_font::text_tags::TextTags;
 use crate::generated::opentype_font::would_apply::would_apply;
+use crate::generated::opentype_layout::face_tables::FaceTables;
 use crate::generated::shapers_base::buffer::Tag;
 use crate::generated::shapers_base::font::{Font, GlyphId};
 use crate::generated::shapers_normalize::NormalizeFont;
 use crate::generated::shapers_position::ot_shape_position::MetricsFont;
 
 /// A face, for texts of a script and a language.
-#[derive(Clone, Copy, Debug)]
+#[derive(Debug)]
 pub struct OpenTypeFont<'a> {
-    /// The face.
-    pub face: Face<'a>,
+    /// The face, with what was prepared of it.
+    pub tables: FaceTables<'a>,
     /// The tags of the texts' script and language.
     pub tags: TextTags,
 }
@@ -33,7 +34,7 @@ fn v_advance(face: &Face<'_>, glyph: u16) -> i32 {
 impl<'a> Font for OpenTypeFont<'a> {
     #[inline]
     fn nominal_glyph(&self, c: u32) -> Option<GlyphId> {
-        match self.face.nominal_glyph(c) {
+        match self.tables.nominal_glyph(c) {
             Some(glyph) => Some(GlyphId(glyph)),
             None => None,
         }
@@ -41,22 +42,23 @@ impl<'a> Font for OpenTypeFont<'a> {
 
     #[inline]
     fn glyph_h_advance(&self, glyph: GlyphId) -> i32 {
-        i32::from(self.face.h_advance(glyph.0))
+        i32::from(self.tables.face.h_advance(glyph.0))
     }
 
     fn would_apply(&self, lookup: u16, glyphs: &[GlyphId], zero_context: bool) -> bool {
-        would_apply(self.face.gsub, lookup, glyphs, zero_context)
+        would_apply(self.tables.face.gsub, lookup, glyphs, zero_context)
     }
 
     fn has_feature(&self, tag: Tag) -> bool {
-        has_feature(self.face.gsub, &self.tags, tag) || has_feature(self.face.gpos, &self.tags, tag)
+        has_feature(self.tables.face.gsub, &self.tags, tag)
+            || has_feature(self.tables.face.gpos, &self.tags, tag)
     }
 }
 
 impl<'a> NormalizeFont for OpenTypeFont<'a> {
     #[inline]
     fn variation_glyph(&self, c: u32, selector: u32) -> Option<GlyphId> {
-        match self.face.variation_glyph(c, selector) {
+        match self.tables.face.variation_glyph(c, selector) {
             Some(glyph) => Some(GlyphId(glyph)),
             None => None,
         }
@@ -66,17 +68,17 @@ impl<'a> NormalizeFont for OpenTypeFont<'a> {
 impl<'a> MetricsFont for OpenTypeFont<'a> {
     #[inline]
     fn units_per_em(&self) -> u16 {
-        self.face.units_per_em()
+        self.tables.face.units_per_em()
     }
 
     #[inline]
     fn glyph_v_advance(&self, glyph: GlyphId) -> i32 {
-        v_advance(&self.face, glyph.0)
+        v_advance(&self.tables.face, glyph.0)
     }
 
     // (half of the horizontal advance to the right, as no table says otherwise)
     fn glyph_v_origin(&self, glyph: GlyphId) -> (i32, i32) {
-        let across = self.face.h_advance(glyph.0) / 2;
-        (i32::from(across), self.face.v_origin(glyph.0))
+        let across = self.tables.face.h_advance(glyph.0) / 2;
+        (i32::from(across), self.tables.face.v_origin(glyph.0))
     }
 }

@@ -2,13 +2,13 @@
 
 //! The lookups of a font file.
 
-use crate::generated::opentype_face::classes::{glyph_props, has_glyph_classes};
 use crate::generated::opentype_font::font::OpenTypeFont;
 use crate::generated::opentype_gpos::finish::finish_positions;
 use crate::generated::opentype_gpos::walk::position;
 use crate::generated::opentype_gsub::growth::growth;
 use crate::generated::opentype_gsub::pass::LookupUse;
 use crate::generated::opentype_gsub::substitute::substitute;
+use crate::generated::opentype_layout::face_tables::FaceTables;
 use crate::generated::opentype_layout::sight::Application;
 use crate::generated::shapers_base::buffer::{Buffer, GlyphInfo, GlyphProps, ShaperError};
 use crate::generated::shapers_pipeline::Lookups;
@@ -46,9 +46,9 @@ fn application_for(lookup: &StageLookup) -> Application {
 // What lookups keep of a glyph: its class by GDEF. In a font without classes nonspacing marks are
 // marks, unless they need not be drawn, and all else is a base. (HarfBuzz's
 // `hb_synthesize_glyph_classes`.)
-fn noted_by(gdef: &[u8], glyph: &GlyphInfo) -> GlyphProps {
-    if has_glyph_classes(gdef) {
-        return GlyphProps(glyph_props(gdef, (glyph.glyph_id % 65536) as u16));
+fn noted_by(tables: &FaceTables<'_>, glyph: &GlyphInfo) -> GlyphProps {
+    if let Some(props) = tables.glyph_props((glyph.glyph_id % 65536) as u16) {
+        return GlyphProps(props);
     }
     if glyph.unicode_props.0 % 32 == NONSPACING_MARK && !glyph.unicode_props.is_ignorable() {
         GlyphProps(8)
@@ -67,21 +67,32 @@ impl<'a> GlyphClasses for OpenTypeFont<'a> {
 impl<'a> Lookups for OpenTypeFont<'a> {
     #[inline]
     fn glyph_props(&self, glyph: &GlyphInfo) -> GlyphProps {
-        noted_by(self.face.gdef, glyph)
+        noted_by(&self.tables, glyph)
     }
 
     #[inline]
     fn growth(&self, lookup: &StageLookup) -> usize {
-        growth(self.face.gsub, lookup.index)
+        growth(self.tables.face.gsub, lookup.index)
     }
 
     fn substitute(&self, lookup: &StageLookup, buffer: &mut Buffer) -> Result<(), ShaperError> {
-        substitute(self.face.gdef, self.face.gsub, &use_for(lookup), buffer)
+        substitute(
+            self.tables.face.gdef,
+            self.tables.gsub(),
+            &use_for(lookup),
+            buffer,
+        )
     }
 
     fn position(&self, lookup: &StageLookup, buffer: &mut Buffer) -> Result<(), ShaperError> {
         let how = application_for(lookup);
-        position(self.face.gdef, self.face.gpos, lookup.index, &how, buffer);
+        position(
+            self.tables.face.gdef,
+            self.tables.gpos(),
+            lookup.index,
+            &how,
+            buffer,
+        );
         Ok(())
     }
 

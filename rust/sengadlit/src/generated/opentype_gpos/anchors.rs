@@ -58,24 +58,24 @@ fn of_numbers(
     Some((point_at(anchor), point_at(own)))
 }
 
-/// The points of a base and a mark that come together, by a subtable of type 4 or 6.
+/// The points of a base and a mark that come together, by a subtable of type 4 or 6 and by the place of
+/// the mark in its set.
 ///
 /// <details><summary>Contract</summary>
 ///
 /// # Contract
 ///
 /// ```text
-/// ensures { result ≡ points_in bytes.now mark base }
+/// ensures { result ≡ points_by bytes.now (Some mark) base }
 /// ```
 ///
-/// - `points_in`: `crates/opentype_gpos/specs/Anchors.antt`
+/// - `points_by`: `crates/opentype_gpos/specs/Anchors.antt`
 ///
 /// </details>
-pub fn points(bytes: &[u8], mark: u16, base: u16) -> Option<(Point, Point)> {
+pub fn points(bytes: &[u8], mark: u32, base: u16) -> Option<(Point, Point)> {
     if u16_at(bytes, 0) != 1 {
         return None;
     }
-    let mark = coverage(part(bytes, usize::from(u16_at(bytes, 2))), mark)?;
     let base = coverage(part(bytes, usize::from(u16_at(bytes, 4))), base)?;
     let marks = part(bytes, usize::from(u16_at(bytes, 8)));
     let bases = part(bytes, usize::from(u16_at(bytes, 10)));
@@ -125,7 +125,8 @@ fn of_ligature(bytes: &[u8], component: u16, mark: u32, i: u32) -> Option<(Point
     of_component(marks, ligature, u16_at(bytes, 6), mark, component)
 }
 
-/// The points of a component of a ligature and of a mark that come together, by a subtable of type 5.
+/// The points of a component of a ligature and of a mark that come together, by a subtable of type 5
+/// and by the place of the mark in its set.
 /// Components count from 1 on; 0, and a number beyond the last one, mean the last one.
 ///
 /// <details><summary>Contract</summary>
@@ -133,22 +134,21 @@ fn of_ligature(bytes: &[u8], component: u16, mark: u32, i: u32) -> Option<(Point
 /// # Contract
 ///
 /// ```text
-/// ensures { result ≡ ligature_points_in bytes.now mark ligature component }
+/// ensures { result ≡ ligature_points_by bytes.now (Some mark) ligature component }
 /// ```
 ///
-/// - `ligature_points_in`: `crates/opentype_gpos/specs/Anchors.antt`
+/// - `ligature_points_by`: `crates/opentype_gpos/specs/Anchors.antt`
 ///
 /// </details>
 pub fn ligature_points(
     bytes: &[u8],
-    mark: u16,
+    mark: u32,
     ligature: u16,
     component: u16,
 ) -> Option<(Point, Point)> {
     if u16_at(bytes, 0) != 1 {
         return None;
     }
-    let mark = coverage(part(bytes, usize::from(u16_at(bytes, 2))), mark)?;
     let ligature = coverage(part(bytes, usize::from(u16_at(bytes, 4))), ligature)?;
     of_ligature(bytes, component, mark, ligature)
 }

@@ -3,13 +3,13 @@
 //! Rules of contexts that fit, and the lookups that they apply.
 
 use crate::generated::opentype_face::bytes::u16_at;
-use crate::generated::opentype_face::lookup::lookup;
 use crate::generated::opentype_gpos::coming::{Came, come_to};
 use crate::generated::opentype_gpos::making::make_move;
 use crate::generated::opentype_gpos::moved::flag_up_to;
 use crate::generated::opentype_gpos::pass::Pass;
 use crate::generated::opentype_layout::places::Places;
 use crate::generated::opentype_layout::rules::Matched;
+use crate::generated::opentype_layout::starts::LookupTable;
 use crate::generated::shapers_buffer::buffer::{GlyphInfo, GlyphPosition};
 use crate::support::arrayvec::ArrayVec;
 
@@ -30,12 +30,12 @@ pub type Frames<'a> = ArrayVec<Frame<'a>, 63>;
 // Applies a lookup at a place; the rule that fits there, if one does.
 fn call<'a>(
     pass: &Pass<'_>,
-    lookup: &'a [u8],
+    lookup: &LookupTable<'a>,
     at: usize,
     glyphs: &mut [GlyphInfo],
     positions: &mut [GlyphPosition],
 ) -> Option<Matched<'a>> {
-    let sights = pass.sights(lookup);
+    let sights = pass.sights(lookup.bytes());
     match come_to(pass, &sights, lookup, glyphs, at) {
         Some(Came::Moves(change)) => {
             make_move(pass.direction, &change, at, glyphs, positions);
@@ -60,8 +60,8 @@ fn call_record<'a>(
     if sequence >= places.len() {
         return None;
     }
-    let called = lookup(pass.gpos, u16_at(records, record + 2));
-    call(pass, called, places[sequence], glyphs, positions)
+    let called = pass.gpos.lookup(u16_at(records, record + 2));
+    call(pass, &called, places[sequence], glyphs, positions)
 }
 
 // Flags what a rule looked at.

@@ -3,9 +3,11 @@
 //! What a lookup of GPOS comes to at a place of a text.
 
 use crate::generated::opentype_face::lookup::{subtable, subtable_count, subtable_type};
-use crate::generated::opentype_gpos::moves::{Move, move_by};
+use crate::generated::opentype_gpos::moves::{Move, move_by, pair_by_table};
+use crate::generated::opentype_gpos::nearby::number;
 use crate::generated::opentype_gpos::pass::{Pass, Sights};
 use crate::generated::opentype_layout::rules::{Matched, find_rule};
+use crate::generated::opentype_layout::starts::LookupTable;
 use crate::generated::shapers_buffer::buffer::GlyphInfo;
 
 /// What a lookup comes to at a place.
@@ -21,11 +23,18 @@ pub enum Came<'a> {
 fn come_by<'a>(
     pass: &Pass<'_>,
     sights: &Sights,
-    lookup: &'a [u8],
+    table: &LookupTable<'a>,
     i: u16,
     glyphs: &[GlyphInfo],
     at: usize,
 ) -> Option<Came<'a>> {
+    if let Some(pairs) = table.pair_table(i) {
+        return match pair_by_table(pass.gdef, &sights.input, pairs, glyphs, at) {
+            Some(change) => Some(Came::Moves(change)),
+            None => None,
+        };
+    }
+    let lookup = table.bytes();
     let kind = subtable_type(9, lookup, i);
     let bytes = subtable(9, lookup, i);
     let (input, context) = (&sights.input, &sights.context);
@@ -45,15 +54,19 @@ fn come_by<'a>(
 fn come_among<'a>(
     pass: &Pass<'_>,
     sights: &Sights,
-    lookup: &'a [u8],
+    lookup: &LookupTable<'a>,
     glyphs: &[GlyphInfo],
     at: usize,
 ) -> Option<Came<'a>> {
-    for i in 0..subtable_count(lookup) {
+    let glyph = number(&glyphs[at]);
+    let (count, mut from) = (subtable_count(lookup.bytes()), 0);
+    while from < count {
+        let i = lookup.next_start(true, glyph, from)?;
         let found = come_by(pass, sights, lookup, i, glyphs, at);
         if found.is_some() {
             return found;
         }
+        from = i + 1;
     }
     None
 }
@@ -76,7 +89,7 @@ fn come_among<'a>(
 pub fn come_to<'a>(
     pass: &Pass<'_>,
     sights: &Sights,
-    lookup: &'a [u8],
+    lookup: &LookupTable<'a>,
     glyphs: &[GlyphInfo],
     at: usize,
 ) -> Option<Came<'a>> {

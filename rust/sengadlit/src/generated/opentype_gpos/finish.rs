@@ -176,10 +176,37 @@ fn settle(direction: Direction, links: &[Attachment], positions: &mut [GlyphPosi
     }
 }
 
-// Moves a glyph with those that it hangs on.
-fn follow(direction: Direction, at: usize, positions: &mut [GlyphPosition]) {
+// Whether a glyph is attached to none.
+#[inline]
+fn is_loose(position: &GlyphPosition) -> bool {
+    position.var % 65536 == 0
+}
+
+// Moves a glyph with those that it hangs on, more than one in a row.
+fn follow_chain(direction: Direction, at: usize, positions: &mut [GlyphPosition]) {
     let links = climb(at, positions);
     settle(direction, links.as_slice(), positions);
+}
+
+// Moves a glyph with the ones that it hangs on; mostly that is one, which hangs on none.
+fn follow_link(direction: Direction, at: usize, positions: &mut [GlyphPosition]) {
+    if let Some(link) = attachment_of(positions, at) {
+        if is_loose(&positions[link.to]) {
+            let_go(positions, at);
+            place_on(direction, &link, positions);
+            return;
+        }
+    }
+    follow_chain(direction, at, positions);
+}
+
+// Moves a glyph with those that it hangs on, if there are some.
+#[inline]
+fn follow(direction: Direction, at: usize, positions: &mut [GlyphPosition]) {
+    if is_loose(&positions[at]) {
+        return;
+    }
+    follow_link(direction, at, positions);
 }
 
 #[inline]

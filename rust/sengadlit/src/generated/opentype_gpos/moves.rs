@@ -11,7 +11,8 @@ use crate::generated::opentype_gpos::nearby::{
     are_beside, base_glyph, glyph_before_mark, is_mark_glyph, ligature_number, next_glyph, number,
     previous_glyph,
 };
-use crate::generated::opentype_gpos::values::{Value, pair, single, size, value_at};
+use crate::generated::opentype_gpos::values::{Value, pair, pair_in_table, single, size, value_at};
+use crate::generated::opentype_layout::pair_tables::PairTable;
 use crate::generated::opentype_layout::sight::Sight;
 use crate::generated::shapers_buffer::buffer::GlyphInfo;
 
@@ -88,17 +89,18 @@ fn values_of(bytes: &[u8], second: usize, place: usize) -> Move {
     })
 }
 
-fn pair_of(bytes: &[u8], glyphs: &[GlyphInfo], at: usize, second: usize) -> Option<Move> {
-    match pair(bytes, number(&glyphs[at]), number(&glyphs[second])) {
+// The place of a glyph in a subtable's set, which stands at the same place in each type.
+#[inline]
+fn place_in_set(bytes: &[u8], glyph: &GlyphInfo) -> Option<u32> {
+    coverage(part(bytes, usize::from(u16_at(bytes, 2))), number(glyph))
+}
+
+// The values of a pair, by the place of the first glyph in the subtable's set.
+fn pair_of(bytes: &[u8], i: u32, glyphs: &[GlyphInfo], at: usize, second: usize) -> Option<Move> {
+    match pair(bytes, i, number(&glyphs[at]), number(&glyphs[second])) {
         Some(place) => Some(values_of(bytes, second, place)),
         None => None,
     }
-}
-
-// Whether a subtable is for a glyph; its set stands at the same place in each type.
-#[inline]
-fn is_covered(bytes: &[u8], glyph: &GlyphInfo) -> bool {
-    coverage(part(bytes, usize::from(u16_at(bytes, 2))), number(glyph)).is_some()
 }
 
 fn pair_at(
@@ -108,17 +110,58 @@ fn pair_at(
     glyphs: &[GlyphInfo],
     at: usize,
 ) -> Option<Move> {
-    if !is_covered(bytes, &glyphs[at]) {
-        return None;
-    }
+    let i = place_in_set(bytes, &glyphs[at])?;
     match next_glyph(gdef, sight, glyphs, at + 1) {
-        Some(second) => pair_of(bytes, glyphs, at, second),
+        Some(second) => pair_of(bytes, i, glyphs, at, second),
         None => None,
     }
 }
 
-fn attached(bytes: &[u8], glyphs: &[GlyphInfo], at: usize, to: usize) -> Option<Move> {
-    match points(bytes, number(&glyphs[at]), number(&glyphs[to])) {
+// The same by tables of the subtable's glyphs.
+fn pair_of_table(
+    table: &PairTable<'_>,
+    i: u32,
+    glyphs: &[GlyphInfo],
+    at: usize,
+    second: usize,
+) -> Option<Move> {
+    match pair_in_table(table, i, number(&glyphs[at]), number(&glyphs[second])) {
+        Some(place) => Some(values_of(table.bytes(), second, place)),
+        None => None,
+    }
+}
+
+/// What a subtable of type 2 does at a place, by tables of its glyphs.
+///
+/// <details><summary>Contract</summary>
+///
+/// # Contract
+///
+/// ```text
+/// requires { at < length glyphs.now }
+/// ensures { result ≡ pair_move gdef.now sight.now table.now glyphs.now at }
+/// ```
+///
+/// - `pair_move`: `crates/opentype_gpos/specs/Moves.antt`
+///
+/// </details>
+pub fn pair_by_table(
+    gdef: &[u8],
+    sight: &Sight,
+    table: &PairTable<'_>,
+    glyphs: &[GlyphInfo],
+    at: usize,
+) -> Option<Move> {
+    let i = table.place(number(&glyphs[at]))?;
+    match next_glyph(gdef, sight, glyphs, at + 1) {
+        Some(second) => pair_of_table(table, i, glyphs, at, second),
+        None => None,
+    }
+}
+
+// A mark, by its place in the subtable's set, upon another glyph.
+fn attached(bytes: &[u8], mark: u32, glyphs: &[GlyphInfo], to: usize) -> Option<Move> {
+    match points(bytes, mark, number(&glyphs[to])) {
         Some((point, own)) => Some(attach(to, point, own)),
         None => None,
     }
@@ -140,19 +183,17 @@ fn mark_to_base(
     glyphs: &[GlyphInfo],
     at: usize,
 ) -> Option<Move> {
-    if !is_covered(bytes, &glyphs[at]) {
-        return None;
-    }
+    let mark = place_in_set(bytes, &glyphs[at])?;
     let bases = part(bytes, usize::from(u16_at(bytes, 4)));
     match base_glyph(gdef, sight, false, bases, glyphs, at) {
-        Some(base) => attached(bytes, glyphs, at, base),
+        Some(base) => attached(bytes, mark, glyphs, base),
         None => None,
     }
 }
 
-fn mark_to(bytes: &[u8], glyphs: &[GlyphInfo], at: usize, to: usize) -> Option<Move> {
+fn mark_to(bytes: &[u8], mark: u32, glyphs: &[GlyphInfo], at: usize, to: usize) -> Option<Move> {
     if is_mark_glyph(&glyphs[to]) && are_beside(&glyphs[at], &glyphs[to]) {
-        attached(bytes, glyphs, at, to)
+        attached(bytes, mark, glyphs, to)
     } else {
         None
     }
@@ -165,11 +206,9 @@ fn mark_to_mark(
     glyphs: &[GlyphInfo],
     at: usize,
 ) -> Option<Move> {
-    if !is_covered(bytes, &glyphs[at]) {
-        return None;
-    }
+    let mark = place_in_set(bytes, &glyphs[at])?;
     match glyph_before_mark(gdef, sight, glyphs, at) {
-        Some(other) => mark_to(bytes, glyphs, at, other),
+        Some(other) => mark_to(bytes, mark, glyphs, at, other),
         None => None,
     }
 }
@@ -183,9 +222,15 @@ fn component_for(mark: &GlyphInfo, ligature: &GlyphInfo) -> u8 {
     }
 }
 
-fn attached_to_ligature(bytes: &[u8], glyphs: &[GlyphInfo], at: usize, to: usize) -> Option<Move> {
+fn attached_to_ligature(
+    bytes: &[u8],
+    mark: u32,
+    glyphs: &[GlyphInfo],
+    at: usize,
+    to: usize,
+) -> Option<Move> {
     let component = u16::from(component_for(&glyphs[at], &glyphs[to]));
-    match ligature_points(bytes, number(&glyphs[at]), number(&glyphs[to]), component) {
+    match ligature_points(bytes, mark, number(&glyphs[to]), component) {
         Some((point, own)) => Some(attach(to, point, own)),
         None => None,
     }
@@ -198,11 +243,9 @@ fn mark_to_ligature(
     glyphs: &[GlyphInfo],
     at: usize,
 ) -> Option<Move> {
-    if !is_covered(bytes, &glyphs[at]) {
-        return None;
-    }
+    let mark = place_in_set(bytes, &glyphs[at])?;
     match base_glyph(gdef, sight, true, &[], glyphs, at) {
-        Some(ligature) => attached_to_ligature(bytes, glyphs, at, ligature),
+        Some(ligature) => attached_to_ligature(bytes, mark, glyphs, at, ligature),
         None => None,
     }
 }

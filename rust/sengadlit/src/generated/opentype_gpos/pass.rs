@@ -3,6 +3,7 @@
 //! What a lookup of GPOS is applied by, and which glyphs it sees.
 
 use crate::generated::opentype_layout::sight::{Application, Sight};
+use crate::generated::opentype_layout::tables::LayoutTable;
 use crate::generated::shapers_buffer::buffer::Direction;
 
 /// What a lookup is applied by.
@@ -11,7 +12,7 @@ pub struct Pass<'a> {
     /// The table GDEF.
     pub gdef: &'a [u8],
     /// The table GPOS.
-    pub gpos: &'a [u8],
+    pub gpos: &'a LayoutTable<'a>,
     /// The direction of the line.
     pub direction: Direction,
     /// How the plan has the lookup applied.
@@ -43,9 +44,13 @@ impl<'a> Pass<'a> {
     /// </details>
     #[inline]
     pub fn sights(&self, lookup: &[u8]) -> Sights {
-        Sights {
-            input: Sight::of_input(self.gdef, lookup, &self.how, 0),
-            context: Sight::of_context(self.gdef, lookup, &self.how, 0),
-        }
+        let input = Sight::of_input(self.gdef, lookup, &self.how, 0);
+        let context = Sight {
+            mask: 0xFFFF_FFFF,
+            over_zwnj: self.how.of_gpos || self.how.auto_zwnj,
+            over_zwj: true,
+            ..input
+        };
+        Sights { input, context }
     }
 }

@@ -7,6 +7,7 @@ use crate::support::prelude::*;
 use crate::generated::opentype_face::bytes::{part, u16_at};
 use crate::generated::opentype_face::glyph_sets::{class, coverage};
 use crate::generated::opentype_face::ranges::Ranges;
+use crate::generated::opentype_layout::pair_tables::PairTable;
 
 /// What a glyph's position gets, in font units.
 #[derive(Clone, Copy, Debug, PartialEq, Eq, Hash)]
@@ -132,51 +133,97 @@ pub fn single(bytes: &[u8], glyph: u16) -> Option<usize> {
     }
 }
 
-/// Where a subtable of type 2 has the values of a pair.
+// How many bytes the values of a pair take.
+#[inline]
+fn pair_size(bytes: &[u8]) -> u32 {
+    u32::from(size(u16_at(bytes, 4))) + u32::from(size(u16_at(bytes, 6)))
+}
+
+// Where the set of a first glyph has the values of a pair.
+fn pair_in_set(bytes: &[u8], offset: u16, second: u16) -> Option<usize> {
+    let size = pair_size(bytes) + 2;
+    let set = part(bytes, usize::from(offset));
+    let pairs = Ranges {
+        bytes: set,
+        first: 2,
+        last: 2,
+        size,
+        count: u32::from(u16_at(set, 0)),
+    };
+    match pairs.find(second) {
+        Some(k) => Some(usize::from(offset) + 4 + k as usize * size as usize),
+        None => None,
+    }
+}
+
+// Where the values stand of a pair, by its classes.
+#[inline]
+fn cell(bytes: &[u8], row: u16, column: u16) -> Option<usize> {
+    let columns = u16_at(bytes, 14);
+    if row >= u16_at(bytes, 12) || column >= columns {
+        return None;
+    }
+    let cell = usize::from(row) * usize::from(columns) + usize::from(column);
+    Some(16 + cell * pair_size(bytes) as usize)
+}
+
+// Where the values stand of the classes of a pair.
+fn pair_of_classes(bytes: &[u8], first: u16, second: u16) -> Option<usize> {
+    let row = class(part(bytes, usize::from(u16_at(bytes, 8))), first);
+    let column = class(part(bytes, usize::from(u16_at(bytes, 10))), second);
+    cell(bytes, row, column)
+}
+
+// Where a set has the values of a second glyph, by the set's number.
+#[inline]
+fn pair_of_set(bytes: &[u8], i: u32, second: u16) -> Option<usize> {
+    if i < u32::from(u16_at(bytes, 8)) {
+        pair_in_set(bytes, u16_at(bytes, 10 + i as usize * 2), second)
+    } else {
+        None
+    }
+}
+
+/// Where a subtable of type 2 has the values of a pair, by tables of its glyphs and by the place of the first glyph in
+/// its set.
 ///
 /// <details><summary>Contract</summary>
 ///
 /// # Contract
 ///
 /// ```text
-/// ensures { result ≡ pair_in bytes.now first second }
+/// ensures { result ≡ pair_place table.now first second (Some i) }
 /// ```
 ///
-/// - `pair_in`: `crates/opentype_gpos/specs/Values.antt`
+/// - `pair_place`: `crates/opentype_gpos/specs/Values.antt`
 ///
 /// </details>
-pub fn pair(bytes: &[u8], first: u16, second: u16) -> Option<usize> {
-    let i = coverage(part(bytes, usize::from(u16_at(bytes, 2))), first)?;
-    let size = u32::from(size(u16_at(bytes, 4))) + u32::from(size(u16_at(bytes, 6)));
+pub fn pair_in_table(table: &PairTable<'_>, i: u32, first: u16, second: u16) -> Option<usize> {
+    let bytes = table.bytes();
     match u16_at(bytes, 0) {
-        1 => {
-            if i >= u32::from(u16_at(bytes, 8)) {
-                return None;
-            }
-            let offset = usize::from(u16_at(bytes, 10 + i as usize * 2));
-            let set = part(bytes, offset);
-            let pairs = Ranges {
-                bytes: set,
-                first: 2,
-                last: 2,
-                size: size + 2,
-                count: u32::from(u16_at(set, 0)),
-            };
-            match pairs.find(second) {
-                Some(k) => Some(offset + 4 + k as usize * (size as usize + 2)),
-                None => None,
-            }
-        }
-        2 => {
-            let row = class(part(bytes, usize::from(u16_at(bytes, 8))), first);
-            let column = class(part(bytes, usize::from(u16_at(bytes, 10))), second);
-            let columns = u16_at(bytes, 14);
-            if row < u16_at(bytes, 12) && column < columns {
-                let cell = usize::from(row) * usize::from(columns) + usize::from(column);
-                return Some(16 + cell * size as usize);
-            }
-            None
-        }
+        1 => pair_of_set(bytes, i, second),
+        2 => cell(bytes, table.first_class(first), table.second_class(second)),
+        _ => None,
+    }
+}
+
+/// Where a subtable of type 2 has the values of a pair, by the place of the first glyph in its set.
+///
+/// <details><summary>Contract</summary>
+///
+/// # Contract
+///
+/// ```text
+/// ensures { result ≡ pair_place bytes.now first second (Some i) }
+/// ```
+///
+/// - `pair_place`: `crates/opentype_gpos/specs/Values.antt`
+///
+/// </details>
+pub fn pair(bytes: &[u8], i: u32, first: u16, second: u16) -> Option<usize> {
+    match u16_at(bytes, 0) {
+        1 => pair_of_set(bytes, i, second),
+        2 => pair_of_classes(bytes, first, second),
         _ => None,
     }
 }

@@ -2,24 +2,29 @@
 
 //! Lookups along a text.
 
-use crate::generated::opentype_face::lookup::lookup;
 use crate::generated::opentype_gpos::calling::apply_rule;
 use crate::generated::opentype_gpos::coming::{Came, come_to};
 use crate::generated::opentype_gpos::making::make_move;
+use crate::generated::opentype_gpos::nearby::number;
 use crate::generated::opentype_gpos::pass::{Pass, Sights};
 use crate::generated::opentype_layout::sight::{Application, ignores_glyph};
+use crate::generated::opentype_layout::starts::LookupTable;
+use crate::generated::opentype_layout::tables::LayoutTable;
 use crate::generated::shapers_buffer::buffer::{Buffer, GlyphInfo, GlyphPosition, PositionedWalk};
 
 // What a lookup does at a place; returns the place that comes next.
 fn step(
     pass: &Pass<'_>,
     sights: &Sights,
-    lookup: &[u8],
+    lookup: &LookupTable<'_>,
     glyphs: &mut [GlyphInfo],
     positions: &mut [GlyphPosition],
     at: usize,
 ) -> usize {
     let (sight, glyph) = (&sights.input, &glyphs[at]);
+    if lookup.next_start(true, number(glyph), 0).is_none() {
+        return at + 1;
+    }
     if glyph.mask & sight.mask == 0 || ignores_glyph(pass.gdef, sight.flag, sight.set, glyph) {
         return at + 1;
     }
@@ -33,11 +38,30 @@ fn step(
     }
 }
 
-// Applies a lookup along a text.
-fn walk(pass: &Pass<'_>, lookup: &[u8], glyphs: &mut [GlyphInfo], positions: &mut [GlyphPosition]) {
-    let sights = pass.sights(lookup);
-    let mut at = 0;
-    for _ in 0..glyphs.len() {
+// A place of a text that a lookup doesn't begin before; the text's length, if it begins nowhere.
+fn first_place(lookup: &LookupTable<'_>, glyphs: &[GlyphInfo]) -> usize {
+    for at in 0..glyphs.len() {
+        if lookup.next_start(true, number(&glyphs[at]), 0).is_some() {
+            return at;
+        }
+    }
+    glyphs.len()
+}
+
+// Applies a lookup along a text. Most lookups begin nowhere in it.
+fn walk(
+    pass: &Pass<'_>,
+    lookup: &LookupTable<'_>,
+    glyphs: &mut [GlyphInfo],
+    positions: &mut [GlyphPosition],
+) {
+    let first = first_place(lookup, glyphs);
+    if first >= glyphs.len() {
+        return;
+    }
+    let sights = pass.sights(lookup.bytes());
+    let mut at = first;
+    for _ in first..glyphs.len() {
         if at >= glyphs.len() {
             return;
         }
@@ -48,12 +72,12 @@ fn walk(pass: &Pass<'_>, lookup: &[u8], glyphs: &mut [GlyphInfo], positions: &mu
 // A lookup over a text with positions.
 struct Walking<'a> {
     pass: Pass<'a>,
-    lookup: &'a [u8],
+    lookup: LookupTable<'a>,
 }
 
 impl<'a> PositionedWalk for Walking<'a> {
     fn walk(&self, glyphs: &mut [GlyphInfo], positions: &mut [GlyphPosition]) {
-        walk(&self.pass, self.lookup, glyphs, positions);
+        walk(&self.pass, &self.lookup, glyphs, positions);
     }
 }
 
@@ -72,7 +96,13 @@ impl<'a> PositionedWalk for Walking<'a> {
 /// - `positioned`: `crates/opentype_gpos/specs/Walked.antt`
 ///
 /// </details>
-pub fn position(gdef: &[u8], gpos: &[u8], index: u16, how: &Application, buffer: &mut Buffer) {
+pub fn position(
+    gdef: &[u8],
+    gpos: &LayoutTable<'_>,
+    index: u16,
+    how: &Application,
+    buffer: &mut Buffer,
+) {
     let walking = Walking {
         pass: Pass {
             gdef,
@@ -80,7 +110,7 @@ pub fn position(gdef: &[u8], gpos: &[u8], index: u16, how: &Application, buffer:
             direction: buffer.direction(),
             how: *how,
         },
-        lookup: lookup(gpos, index),
+        lookup: gpos.lookup(index),
     };
     buffer.walk_positioned(&walking);
 }

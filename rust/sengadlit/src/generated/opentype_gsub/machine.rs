@@ -5,13 +5,14 @@
 use crate::support::prelude::*;
 
 use crate::generated::opentype_face::bytes::u16_at;
-use crate::generated::opentype_face::lookup::{lookup, subtable, subtable_count, subtable_type};
-use crate::generated::opentype_gsub::apply::apply_one;
+use crate::generated::opentype_face::lookup::{subtable, subtable_count, subtable_type};
+use crate::generated::opentype_gsub::apply::{apply_one, number};
 use crate::generated::opentype_gsub::flagging::flag_stretch;
 use crate::generated::opentype_gsub::pass::{Pass, Sights};
 use crate::generated::opentype_gsub::settling::Rule;
 use crate::generated::opentype_gsub::trying::flag_tried;
 use crate::generated::opentype_layout::rules::{Matched, find_rule};
+use crate::generated::opentype_layout::starts::LookupTable;
 use crate::generated::shapers_buffer::buffer::{GlyphInfo, ShaperError};
 
 /// How deep lookups may apply lookups.
@@ -69,13 +70,18 @@ fn come_by<'a>(
 fn come_among<'a>(
     pass: &Pass<'_>,
     sights: &Sights,
-    lookup: &'a [u8],
+    lookup: &LookupTable<'a>,
     text: &mut Vec<GlyphInfo>,
     at: usize,
 ) -> Result<Outcome<'a>, ShaperError> {
-    for i in 0..subtable_count(lookup) {
-        match come_by(pass, sights, lookup, i, text, at) {
-            Ok(Outcome::Nothing) => {}
+    let bytes = lookup.bytes();
+    let (count, mut from) = (subtable_count(bytes), 0);
+    while from < count {
+        let Some(i) = lookup.next_start(false, number(text, at), from) else {
+            return Ok(Outcome::Nothing);
+        };
+        match come_by(pass, sights, bytes, i, text, at) {
+            Ok(Outcome::Nothing) => from = i + 1,
             Ok(Outcome::Done(next)) => return Ok(Outcome::Done(next)),
             Ok(Outcome::Fits(rule)) => return Ok(Outcome::Fits(rule)),
             Err(e) => return Err(e),
@@ -92,25 +98,25 @@ fn seen_from(pass: &Pass<'_>, lookup: &[u8], glyphs: &[GlyphInfo], at: usize) ->
 // What a lookup comes to at a place.
 fn come_to<'a>(
     pass: &Pass<'_>,
-    lookup: &'a [u8],
+    lookup: &LookupTable<'a>,
     text: &mut Vec<GlyphInfo>,
     at: usize,
 ) -> Result<Outcome<'a>, ShaperError> {
     if at >= text.len() {
         return Ok(Outcome::Nothing);
     }
-    let seen = seen_from(pass, lookup, text, at);
+    let seen = seen_from(pass, lookup.bytes(), text, at);
     come_among(pass, &seen, lookup, text, at)
 }
 
 // The same behind the flags of what is tried in vain.
 fn try_at<'a>(
     pass: &Pass<'_>,
-    lookup: &'a [u8],
+    lookup: &LookupTable<'a>,
     text: &mut Vec<GlyphInfo>,
     at: usize,
 ) -> Result<Outcome<'a>, ShaperError> {
-    flag_tried(pass, lookup, text, at);
+    flag_tried(pass, lookup.bytes(), text, at);
     come_to(pass, lookup, text, at)
 }
 
@@ -122,7 +128,7 @@ fn call<'a>(
 ) -> Result<Option<Rule<'a>>, ShaperError> {
     let record = usize::from(rule.next) * 4;
     let sequence = usize::from(u16_at(rule.records, record));
-    let called = lookup(pass.gsub, u16_at(rule.records, record + 2));
+    let called = pass.gsub.lookup(u16_at(rule.records, record + 2));
     rule.next += 1;
     if sequence >= rule.places.len() {
         return Ok(None);
@@ -130,13 +136,14 @@ fn call<'a>(
     let place = rule.places[sequence];
     rule.sequence = sequence;
     rule.before = text.len();
-    match try_at(pass, called, text, place)? {
-        Outcome::Nothing => Ok(None),
-        Outcome::Done(_) => {
+    match try_at(pass, &called, text, place) {
+        Ok(Outcome::Nothing) => Ok(None),
+        Ok(Outcome::Done(_)) => {
             rule.settle(text.len());
             Ok(None)
         }
-        Outcome::Fits(called_rule) => Ok(Some(called_rule)),
+        Ok(Outcome::Fits(called_rule)) => Ok(Some(called_rule)),
+        Err(e) => Err(e),
     }
 }
 
@@ -238,20 +245,22 @@ fn run<'a>(
 /// [`Memory`]: crate::ShaperError::Memory
 pub fn apply_nested<'a>(
     pass: &Pass<'a>,
-    lookup: &'a [u8],
+    lookup: &LookupTable<'a>,
     text: &mut Vec<GlyphInfo>,
     at: usize,
     operations: usize,
 ) -> Result<Reached, ShaperError> {
-    match try_at(pass, lookup, text, at)? {
-        Outcome::Nothing => Ok(Reached {
+    // (`?` would move the rule once more, with the room for its places)
+    match try_at(pass, lookup, text, at) {
+        Ok(Outcome::Nothing) => Ok(Reached {
             end: None,
             left: operations,
         }),
-        Outcome::Done(next) => Ok(Reached {
+        Ok(Outcome::Done(next)) => Ok(Reached {
             end: Some(next),
             left: operations,
         }),
-        Outcome::Fits(rule) => run(pass, text, rule, operations),
+        Ok(Outcome::Fits(rule)) => run(pass, text, rule, operations),
+        Err(e) => Err(e),
     }
 }

@@ -4,6 +4,7 @@
 
 use crate::generated::opentype_face::bytes::{part, u16_at};
 use crate::generated::opentype_layout::input::input_places;
+use crate::generated::opentype_layout::keys::{Key, key_behind};
 use crate::generated::opentype_layout::pattern::Pattern;
 use crate::generated::opentype_layout::places::Places;
 use crate::generated::opentype_layout::sight::Sight;
@@ -18,16 +19,20 @@ pub struct Fitting {
     pub places: Places,
 }
 
-// A ligature, if it fits.
+// A ligature, if it fits a place with a key for the rest of its glyphs.
 fn fit_ligature(
     gdef: &[u8],
     sight: &Sight,
+    key: &Key,
     ligature: &[u8],
     glyphs: &[GlyphInfo],
     at: usize,
 ) -> Option<Fitting> {
     let count = u16_at(ligature, 2);
     if count == 0 || count > 64 {
+        return None;
+    }
+    if count > 1 && key.bars(u16_at(ligature, 4)) {
         return None;
     }
     let pattern = Pattern::Glyphs(part(ligature, 4));
@@ -66,9 +71,10 @@ pub fn first_fitting(
     glyphs: &[GlyphInfo],
     at: usize,
 ) -> Option<Fitting> {
+    let key = key_behind(gdef, sight, glyphs, at + 1);
     for i in 0..u16_at(set, 0) {
         let ligature = part(set, usize::from(u16_at(set, 2 + usize::from(i) * 2)));
-        let found = fit_ligature(gdef, sight, ligature, glyphs, at);
+        let found = fit_ligature(gdef, sight, &key, ligature, glyphs, at);
         if found.is_some() {
             return found;
         }

@@ -3,6 +3,7 @@
 //! A lookup of GSUB as it is applied to a text, and which glyphs it sees.
 
 use crate::generated::opentype_layout::sight::{Application, Sight, ignores_glyph};
+use crate::generated::opentype_layout::tables::LayoutTable;
 use crate::generated::shapers_buffer::buffer::{BufferClusterLevel, GlyphInfo};
 
 /// A lookup as a plan applies it.
@@ -28,7 +29,7 @@ pub struct Pass<'a> {
     /// The table GDEF.
     pub gdef: &'a [u8],
     /// The table GSUB.
-    pub gsub: &'a [u8],
+    pub gsub: &'a LayoutTable<'a>,
     /// The level of the text's clusters.
     pub level: BufferClusterLevel,
     /// Whether flags of concatenation are wanted.

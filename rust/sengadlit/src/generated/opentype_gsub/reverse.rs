@@ -12,9 +12,11 @@ use crate::generated::opentype_gsub::edits::replace;
 use crate::generated::opentype_gsub::flagging::flag_stretch;
 use crate::generated::opentype_gsub::looking::{Stretch, count, sweep_back, sweep_behind};
 use crate::generated::opentype_gsub::pass::{Pass, Sights};
+use crate::generated::opentype_gsub::presence::is_passed;
 use crate::generated::opentype_gsub::trying::flag_joins;
 use crate::generated::opentype_layout::pattern::Pattern;
 use crate::generated::opentype_layout::rules::Rule;
+use crate::generated::opentype_layout::starts::LookupTable;
 use crate::generated::shapers_buffer::buffer::GlyphInfo;
 
 // The glyphs before and behind the one.
@@ -199,14 +201,18 @@ fn first(
 }
 
 // What a lookup does at a place.
-fn step_back(pass: &Pass<'_>, lookup: &[u8], text: &mut Vec<GlyphInfo>, at: usize) {
+fn step_back(pass: &Pass<'_>, lookup: &LookupTable<'_>, text: &mut Vec<GlyphInfo>, at: usize) {
     let glyph = text[at];
-    if !pass.lookup.sees(pass.gdef, lookup, &glyph) {
+    if is_passed(&pass.lookup, lookup, &glyph) {
         return;
     }
-    let sights = pass.lookup.sights(pass.gdef, lookup, &glyph);
-    flag_tried(pass, lookup, text, at);
-    if let Some(it) = first(pass.gdef, &sights, lookup, text, at) {
+    let bytes = lookup.bytes();
+    if !pass.lookup.sees(pass.gdef, bytes, &glyph) {
+        return;
+    }
+    let sights = pass.lookup.sights(pass.gdef, bytes, &glyph);
+    flag_tried(pass, bytes, text, at);
+    if let Some(it) = first(pass.gdef, &sights, bytes, text, at) {
         let len = text.len();
         flag_stretch(text, len, it.start, it.stop);
         replace(pass.gdef, text, at, it.glyph, 0);
@@ -228,7 +234,7 @@ fn step_back(pass: &Pass<'_>, lookup: &[u8], text: &mut Vec<GlyphInfo>, at: usiz
 /// - `setting_of`: `crates/opentype_gsub/specs/Setting.antt`
 ///
 /// </details>
-pub fn walk_back(pass: &Pass<'_>, lookup: &[u8], text: &mut Vec<GlyphInfo>) {
+pub fn walk_back(pass: &Pass<'_>, lookup: &LookupTable<'_>, text: &mut Vec<GlyphInfo>) {
     for at in (0..text.len()).rev() {
         step_back(pass, lookup, text, at);
     }

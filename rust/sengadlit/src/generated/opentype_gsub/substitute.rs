@@ -4,13 +4,14 @@
 
 use crate::support::prelude::*;
 
-use crate::generated::opentype_face::lookup::{lookup, subtable_type};
+use crate::generated::opentype_face::lookup::subtable_type;
 use crate::generated::opentype_gsub::pass::{LookupUse, Pass};
 use crate::generated::opentype_gsub::presence::first_place;
 use crate::generated::opentype_gsub::reverse::walk_back;
 use crate::generated::opentype_gsub::walk::walk;
+use crate::generated::opentype_layout::starts::LookupTable;
+use crate::generated::opentype_layout::tables::LayoutTable;
 use crate::generated::shapers_buffer::buffer::{Buffer, BufferFlags, GlyphInfo, ShaperError};
-use crate::support::alloc::Global;
 
 // How many glyphs a text may get.
 #[inline]
@@ -33,11 +34,11 @@ fn wants_concat(flags: BufferFlags) -> bool {
 // Applies a lookup by its table to a list of glyphs, from a place on.
 fn apply_from<'a>(
     pass: &Pass<'a>,
-    table: &'a [u8],
+    table: &LookupTable<'a>,
     first: usize,
     text: &mut Vec<GlyphInfo>,
 ) -> Result<(), ShaperError> {
-    if subtable_type(7, table, 0) == 8 {
+    if subtable_type(7, table.bytes(), 0) == 8 {
         walk_back(pass, table, text);
         return Ok(());
     }
@@ -52,20 +53,17 @@ fn apply_from<'a>(
     )
 }
 
-// Applies a lookup to a list of glyphs. There is no new list where the lookup can't begin anywhere.
+// A new list of glyphs, in the buffer's room: what a lookup makes of the buffer's from a place on.
 fn apply(
     pass: &Pass<'_>,
-    alloc: Global,
-    glyphs: &[GlyphInfo],
-) -> Result<Option<Vec<GlyphInfo>>, ShaperError> {
-    let table = lookup(pass.gsub, pass.lookup.index);
-    let first = first_place(&pass.lookup, table, glyphs);
-    if first >= glyphs.len() {
-        return Ok(None);
-    }
-    let mut text = Vec::from_slice(alloc, glyphs)?;
+    table: &LookupTable<'_>,
+    first: usize,
+    buffer: &mut Buffer,
+) -> Result<Vec<GlyphInfo>, ShaperError> {
+    let mut text = buffer.take_list();
+    text.extend_from_slice(buffer.glyphs())?;
     apply_from(pass, table, first, &mut text)?;
-    Ok(Some(text))
+    Ok(text)
 }
 
 /// Applies a lookup of GSUB, as a plan has it, to a text of glyphs without positions. The text gets
@@ -93,11 +91,17 @@ fn apply(
 /// [`Memory`]: crate::ShaperError::Memory
 pub fn substitute(
     gdef: &[u8],
-    gsub: &[u8],
+    gsub: &LayoutTable<'_>,
     lookup_use: &LookupUse,
     buffer: &mut Buffer,
 ) -> Result<(), ShaperError> {
+    // (most lookups have nothing to do in a text)
+    let table = gsub.lookup(lookup_use.index);
+    let first = first_place(lookup_use, &table, buffer.glyphs());
     let len = buffer.len();
+    if first >= len {
+        return Ok(());
+    }
     let pass = Pass {
         gdef,
         gsub,
@@ -107,9 +111,8 @@ pub fn substitute(
         limit: limit(len, buffer.max_len()),
         lookup: *lookup_use,
     };
-    match apply(&pass, buffer.alloc(), buffer.glyphs()) {
-        Ok(Some(text)) => buffer.replace_glyphs(text),
-        Ok(None) => Ok(()),
+    match apply(&pass, &table, first, buffer) {
+        Ok(text) => buffer.replace_glyphs(text),
         Err(_) => Err(ShaperError::Memory),
     }
 }

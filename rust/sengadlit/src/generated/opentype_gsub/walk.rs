@@ -6,6 +6,8 @@ use crate::support::prelude::*;
 
 use crate::generated::opentype_gsub::machine::apply_nested;
 use crate::generated::opentype_gsub::pass::Pass;
+use crate::generated::opentype_gsub::presence::next_place;
+use crate::generated::opentype_layout::starts::LookupTable;
 use crate::generated::shapers_buffer::buffer::{GlyphInfo, ShaperError};
 
 /// How far a lookup has come.
@@ -20,13 +22,13 @@ struct Progress {
 // What a lookup does at a place.
 fn step<'a>(
     pass: &Pass<'a>,
-    lookup: &'a [u8],
+    lookup: &LookupTable<'a>,
     text: &mut Vec<GlyphInfo>,
     at: usize,
     left: usize,
 ) -> Result<Progress, ShaperError> {
     let next = at + 1;
-    if !pass.lookup.sees(pass.gdef, lookup, &text[at]) {
+    if !pass.lookup.sees(pass.gdef, lookup.bytes(), &text[at]) {
         return Ok(Progress { next, left });
     }
     let reached = apply_nested(pass, lookup, text, at, left)?;
@@ -61,18 +63,24 @@ fn step<'a>(
 /// [`Memory`]: crate::ShaperError::Memory
 pub fn walk<'a>(
     pass: &Pass<'a>,
-    lookup: &'a [u8],
+    lookup: &LookupTable<'a>,
     text: &mut Vec<GlyphInfo>,
     first: usize,
     steps: usize,
     operations: usize,
 ) -> Result<(), ShaperError> {
-    let (mut at, mut left) = (first, operations);
-    for _ in 0..steps {
-        if at >= text.len() {
+    let (mut at, mut left, mut steps) = (first, operations, steps);
+    while steps > 0 {
+        let place = next_place(&pass.lookup, lookup, text, at);
+        if place >= text.len() {
             return Ok(());
         }
-        let progress = step(pass, lookup, text, at, left)?;
+        let passed = place - at;
+        if passed >= steps {
+            return Ok(());
+        }
+        let progress = step(pass, lookup, text, place, left)?;
+        steps -= passed + 1;
         at = progress.next;
         left = progress.left;
     }

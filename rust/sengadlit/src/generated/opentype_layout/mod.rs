@@ -1,10 +1,19 @@
 // Generated from crates/opentype_layout/src/lib.rt by rust/erase; edit the source.
 
-//! What lookups of GSUB and GPOS have in common: which glyphs they see, and what their rules look for.
+//! What lookups of GSUB and GPOS have in common: which glyphs they see, where they may begin, and what their rules look for.
 
+pub mod bits;
+pub mod face_tables;
 pub mod features;
+pub mod grid;
+pub mod heads;
 pub mod input;
+pub mod keys;
+pub mod pair_tables;
 pub mod pattern;
 pub mod places;
 pub mod rules;
+pub mod sets;
 pub mod sight;
+pub mod starts;
+pub mod tables;

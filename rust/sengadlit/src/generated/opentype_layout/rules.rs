@@ -7,6 +7,7 @@ use crate::support::prelude::*;
 use crate::generated::opentype_face::bytes::{part, u16_at};
 use crate::generated::opentype_face::glyph_sets::{class, coverage};
 use crate::generated::opentype_layout::input::input_places;
+use crate::generated::opentype_layout::keys::{Keys, key_before, key_behind};
 use crate::generated::opentype_layout::pattern::Pattern;
 use crate::generated::opentype_layout::places::Places;
 use crate::generated::opentype_layout::sight::{Sight, number};
@@ -125,14 +126,14 @@ impl<'a> Rule<'a> {
         context: &Sight,
         glyphs: &[GlyphInfo],
         at: usize,
-        behind: &Places,
+        behind: &[usize],
     ) -> Option<Matched<'a>> {
-        let end = end_of(at, behind.as_slice());
+        let end = end_of(at, behind);
         let stop = look_ahead(gdef, context, &self.behind, self.behind_count, glyphs, end)?;
         let back = look_back(gdef, context, &self.before, self.before_count, glyphs, at)?;
         let mut places = Places::new();
         places.push(at);
-        places.try_extend_from_slice(behind.as_slice()).unwrap();
+        places.try_extend_from_slice(behind).unwrap();
         Some(Matched {
             records: self.records,
             count: self.count,
@@ -173,8 +174,11 @@ impl<'a> Rule<'a> {
         if self.input_count > 64 {
             return None;
         }
+        if self.input_count == 1 {
+            return self.fit_around(gdef, context, glyphs, at, &[]);
+        }
         match input_places(gdef, input, &self.input, self.input_count - 1, glyphs, at) {
-            Some(behind) => self.fit_around(gdef, context, glyphs, at, &behind),
+            Some(behind) => self.fit_around(gdef, context, glyphs, at, behind.as_slice()),
             None => None,
         }
     }
@@ -298,6 +302,76 @@ impl<'a> Tables<'a> {
         }
     }
 
+    // What rules must look for beside a place to fit there.
+    fn keys(
+        &self,
+        gdef: &[u8],
+        input: &Sight,
+        context: &Sight,
+        glyphs: &[GlyphInfo],
+        at: usize,
+    ) -> Keys {
+        let (format, end) = (self.format, end_of(at, &[]));
+        Keys {
+            before: key_before(gdef, context, glyphs, at).by(format, self.before),
+            input: key_behind(gdef, input, glyphs, at + 1).by(format, self.input),
+            behind: key_behind(gdef, context, glyphs, end).by(format, self.behind),
+        }
+    }
+
+    // Whether a rule can't fit a place with these keys.
+    #[inline]
+    fn is_barred(&self, keys: &Keys, bytes: &[u8]) -> bool {
+        if self.format == 3 {
+            return false;
+        }
+        if self.chained {
+            keys.bar_chained(bytes)
+        } else {
+            keys.bar_unchained(bytes)
+        }
+    }
+
+    // Whether the glyphs beside a place bar the rule of a chained context of format 3.
+    fn are_sets_barred(
+        &self,
+        gdef: &[u8],
+        input: &Sight,
+        context: &Sight,
+        bytes: &[u8],
+        glyphs: &[GlyphInfo],
+        at: usize,
+    ) -> bool {
+        if !self.chained {
+            return false;
+        }
+        if self.format != 3 {
+            return false;
+        }
+        let before_count = u16_at(bytes, 2);
+        let input_at = 4 + usize::from(before_count) * 2;
+        let input_count = u16_at(bytes, input_at);
+        if input_count != 1 {
+            return input_count > 1
+                && key_behind(gdef, input, glyphs, at + 1).bars_set(set_at(
+                    self.input,
+                    bytes,
+                    input_at + 4,
+                ));
+        }
+        if before_count > 0
+            && key_before(gdef, context, glyphs, at).bars_set(set_at(self.before, bytes, 4))
+        {
+            return true;
+        }
+        u16_at(bytes, input_at + 4) > 0
+            && key_behind(gdef, context, glyphs, end_of(at, &[])).bars_set(set_at(
+                self.behind,
+                bytes,
+                input_at + 6,
+            ))
+    }
+
     // The first rule of a set that fits.
     fn first_rule(
         &self,
@@ -308,15 +382,25 @@ impl<'a> Tables<'a> {
         glyphs: &[GlyphInfo],
         at: usize,
     ) -> Option<Matched<'a>> {
+        let keys = self.keys(gdef, input, context, glyphs, at);
         for i in 0..u16_at(set, 0) {
-            let rule = self.rule(part(set, usize::from(u16_at(set, 2 + usize::from(i) * 2))));
-            let found = rule.fit(gdef, input, context, glyphs, at);
+            let bytes = part(set, usize::from(u16_at(set, 2 + usize::from(i) * 2)));
+            if self.is_barred(&keys, bytes) {
+                continue;
+            }
+            let found = self.rule(bytes).fit(gdef, input, context, glyphs, at);
             if found.is_some() {
                 return found;
             }
         }
         None
     }
+}
+
+// The set of glyphs whose offset from the start of a table stands at a place of a rule.
+#[inline]
+fn set_at<'a>(table: &'a [u8], rule: &[u8], at: usize) -> &'a [u8] {
+    part(table, usize::from(u16_at(rule, at)))
 }
 
 // A set of rules of a context, by its number.
@@ -369,6 +453,10 @@ pub fn find_rule<'a>(
     let tables = Tables::of(chained, bytes);
     let format = u16_at(bytes, 0);
     if format == 3 {
+        // (a glyph that the context doesn't begin with seldom comes here, where a lookup has bits)
+        if tables.are_sets_barred(gdef, input, context, bytes, glyphs, at) {
+            return None;
+        }
         let set = u16_at(bytes, place_of_first(chained, bytes));
         coverage(part(bytes, usize::from(set)), glyph)?;
         return tables.rule(bytes).fit(gdef, input, context, glyphs, at);

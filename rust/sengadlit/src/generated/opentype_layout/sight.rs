@@ -54,6 +54,10 @@ fn mark_set_count(gdef: &[u8]) -> u16 {
 // The flag of a lookup; where its set of marks isn't there, it has none.
 fn sound_flag(gdef: &[u8], lookup: &[u8]) -> u16 {
     let flag = lookup_flag(lookup);
+    // (most lookups have no set of marks)
+    if flag & 16 == 0 {
+        return flag;
+    }
     if mark_set(lookup) < mark_set_count(gdef) {
         return flag;
     }

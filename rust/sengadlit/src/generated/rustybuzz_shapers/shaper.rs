@@ -1,7 +1,7 @@
 // Generated from crates/rustybuzz_shapers/src/shaper.rt by rust/erase; edit the source.
 
 //! The shapers behind one enum, one method per hook. Where a shaper lacks a hook, its method
-//! tells so and changes nothing.
+//! returns `None` and changes nothing.
 
 use crate::generated::shapers_base::buffer::{Buffer, ShaperError, Tag};
 use crate::generated::shapers_base::font::{Font, Tables};
@@ -9,7 +9,6 @@ use crate::generated::shapers_base::plan::{Plan, Planner};
 
 pub mod checked;
 mod conditions;
-mod outcomes;
 mod pauses;
 
 use crate::generated::shapers_arabic::ot_shaper_arabic;
@@ -25,11 +24,10 @@ use crate::generated::shapers_text::{ot_shaper_hebrew, ot_shaper_thai};
 use crate::generated::shapers_universal::ot_shaper_use;
 pub use conditions::{has_positions, kinds_fit, lacks_positions, pause_fits};
 use core::mem;
-pub use outcomes::{Composition, Decomposition, HookOutcome};
 pub use pauses::{pause_may_change, run_pause};
 
-/// A script shaper. Where it lacks a hook, a dash here, the method returns `NoHook`, or `None`, and
-/// changes nothing; [`has_hook`] is this table. What runs between two stages of lookups is a [`Pause`].
+/// A script shaper. Where it lacks a hook, a dash here, the method returns `None` and changes
+/// nothing; [`has_hook`] is this table. What runs between two stages of lookups is a [`Pause`].
 ///
 /// | hook | Arabic | Hangul | Hebrew | Indic | Khmer | Myanmar | Zawgyi | Thai | universal |
 /// |---|---|---|---|---|---|---|---|---|---|
@@ -303,7 +301,7 @@ impl Shaper {
     ///
     /// ```text
     /// ensures answer { let there = has_hook self CollectFeatures in
-    ///     IfOk result (λ answer. answer ≡ outcome there) }
+    ///     IfOk result (λ answer. is_some answer ≡ there) }
     /// ensures ok { let has_rclt = (F.font face.now).offers rclt in
     ///     let list = collected self planner.old.script has_rclt in
     ///     OnOk result (planner.new ≡ asked list planner.old) }
@@ -312,7 +310,6 @@ impl Shaper {
     /// ensures absent { has_hook self CollectFeatures ≡ false → IsOk result }
     /// ```
     ///
-    /// - `outcome`: `crates/rustybuzz_shapers/specs/Outcomes.antt`
     /// - `asked`, `collected`: `crates/rustybuzz_shapers/specs/Records.antt`
     /// - `has_hook`: `crates/rustybuzz_shapers/specs/Standing.antt`
     /// - `rclt`: `crates/shapers_arabic/specs/Requests.antt`
@@ -324,7 +321,7 @@ impl Shaper {
         self,
         face: &F,
         planner: &mut Planner,
-    ) -> Result<HookOutcome, ShaperError> {
+    ) -> Result<Option<()>, ShaperError> {
         match self {
             Self::Arabic => ot_shaper_arabic::collect_features(face, planner)?,
             Self::Hangul => ot_shaper_hangul::collect_features(planner)?,
@@ -332,9 +329,9 @@ impl Shaper {
             Self::Khmer => ot_shaper_khmer::collect_features(planner)?,
             Self::Myanmar => ot_shaper_myanmar::collect_features(planner)?,
             Self::Universal => ot_shaper_use::collect_features(planner)?,
-            Self::Hebrew | Self::MyanmarZawgyi | Self::Thai => return Ok(HookOutcome::NoHook),
+            Self::Hebrew | Self::MyanmarZawgyi | Self::Thai => return Ok(None),
         }
-        Ok(HookOutcome::Done)
+        Ok(Some(()))
     }
 
     /// Requests what comes after the features of all shapers: all of it, or nothing where memory is
@@ -350,28 +347,27 @@ impl Shaper {
     ///
     /// ```text
     /// ensures answer { let there = has_hook self OverrideFeatures in
-    ///     IfOk result (λ answer. answer ≡ outcome there) }
+    ///     IfOk result (λ answer. is_some answer ≡ there) }
     /// ensures ok { OnOk result (planner.new ≡ asked (overridden self) planner.old) }
     /// ensures refusal { IsOkUnless result Memory }
     /// ensures err { OnErr result (planner.new ≡ planner.old) }
     /// ensures absent { has_hook self OverrideFeatures ≡ false → IsOk result }
     /// ```
     ///
-    /// - `outcome`: `crates/rustybuzz_shapers/specs/Outcomes.antt`
     /// - `asked`, `overridden`: `crates/rustybuzz_shapers/specs/Records.antt`
     /// - `has_hook`: `crates/rustybuzz_shapers/specs/Standing.antt`
     ///
     /// </details>
     ///
     /// [`Memory`]: crate::ShaperError::Memory
-    pub fn override_features(self, planner: &mut Planner) -> Result<HookOutcome, ShaperError> {
+    pub fn override_features(self, planner: &mut Planner) -> Result<Option<()>, ShaperError> {
         match self {
             Self::Hangul => ot_shaper_hangul::override_features(planner)?,
             Self::Indic => ot_shaper_indic::override_features(planner)?,
             Self::Khmer => ot_shaper_khmer::override_features(planner)?,
-            _ => return Ok(HookOutcome::NoHook),
+            _ => return Ok(None),
         }
-        Ok(HookOutcome::Done)
+        Ok(Some(()))
     }
 
     /// What the shaper keeps in the plan. No mask in it touches a glyph flag bit.
@@ -484,7 +480,7 @@ impl Shaper {
     /// requires with_positions { length buffer.old.positions ≡ length buffer.old.glyphs }
     /// requires fits { PostprocessFits self plan.now buffer.old.glyphs }
     /// ensures answer { let there = has_hook self PostprocessGlyphs in
-    ///     IfOk result (λ answer. answer ≡ outcome there) }
+    ///     IfOk result (λ answer. is_some answer ≡ there) }
     /// ensures ok { let font = F.font face.now in
     ///     OnOk result (Postprocessed self plan.now font buffer.old buffer.new) }
     /// ensures laws { let font = F.font face.now in
@@ -496,7 +492,6 @@ impl Shaper {
     /// ```
     ///
     /// - `PostprocessFits`, `PostprocessKeeps`, `Postprocessed`, `RefusesPostprocess`: `crates/rustybuzz_shapers/specs/Hooks.antt`
-    /// - `outcome`: `crates/rustybuzz_shapers/specs/Outcomes.antt`
     /// - `has_hook`: `crates/rustybuzz_shapers/specs/Standing.antt`
     /// - `glyphs_added`: `crates/rustybuzz_shapers/specs/Stretched.antt`
     ///
@@ -511,11 +506,11 @@ impl Shaper {
         plan: &Plan,
         face: &F,
         buffer: &mut Buffer,
-    ) -> Result<HookOutcome, ShaperError> {
+    ) -> Result<Option<()>, ShaperError> {
         match self {
             Self::Arabic => {
                 ot_shaper_arabic_stretch::postprocess_glyphs(plan, face, buffer)?;
-                Ok(HookOutcome::Done)
+                Ok(Some(()))
             }
             Self::Hangul
             | Self::Hebrew
@@ -524,64 +519,79 @@ impl Shaper {
             | Self::Myanmar
             | Self::MyanmarZawgyi
             | Self::Thai
-            | Self::Universal => Ok(HookOutcome::NoHook),
+            | Self::Universal => Ok(None),
         }
     }
 
-    /// The character that two characters compose to for this shaper: for Hebrew also, where GPOS
-    /// places no marks, the form of a letter and a point; for Indic, Khmer and the universal shaper
-    /// none behind a mark, and for Indic also YA with its nukta.
+    /// The character that two characters compose to for this shaper, or `Some(None)` where they stay
+    /// apart: for Hebrew also, where GPOS places no marks, the form of a letter and a point; for
+    /// Indic, Khmer and the universal shaper none behind a mark, and for Indic also YA with its
+    /// nukta. `None` leaves it to Unicode's tables.
     ///
     /// <details><summary>Contract</summary>
     ///
     /// # Contract
     ///
     /// ```text
-    /// ensures pair { Composed self plan.now (T.tables tables.now) a b result }
+    /// ensures pair { result ≡ compose_answer self plan.now (T.tables tables.now) a b }
+    /// ensures answer { is_some result ≡ has_hook self Compose }
     /// ```
     ///
-    /// - `Composed`: `crates/rustybuzz_shapers/specs/Hooks.antt`
+    /// - `compose_answer`: `crates/rustybuzz_shapers/specs/Hooks.antt`
+    /// - `has_hook`: `crates/rustybuzz_shapers/specs/Standing.antt`
     ///
     /// </details>
     #[inline]
-    pub fn compose<T: Tables>(self, plan: &Plan, tables: &T, a: char, b: char) -> Composition {
+    pub fn compose<T: Tables>(
+        self,
+        plan: &Plan,
+        tables: &T,
+        a: char,
+        b: char,
+    ) -> Option<Option<char>> {
         match self {
-            Self::Hebrew => Composition::of(ot_shaper_hebrew::compose(plan, tables, a, b)),
-            Self::Indic => Composition::of(ot_shaper_indic::compose(tables, a, b)),
-            Self::Khmer => Composition::of(ot_shaper_khmer::compose(tables, a, b)),
-            Self::Universal => Composition::of(ot_shaper_use::compose(tables, a, b)),
-            Self::Arabic | Self::Hangul | Self::Myanmar | Self::MyanmarZawgyi | Self::Thai => {
-                Composition::NoHook
-            }
+            Self::Hebrew => Some(ot_shaper_hebrew::compose(plan, tables, a, b)),
+            Self::Indic => Some(ot_shaper_indic::compose(tables, a, b)),
+            Self::Khmer => Some(ot_shaper_khmer::compose(tables, a, b)),
+            Self::Universal => Some(ot_shaper_use::compose(tables, a, b)),
+            Self::Arabic | Self::Hangul | Self::Myanmar | Self::MyanmarZawgyi | Self::Thai => None,
         }
     }
 
-    /// The two characters that a character decomposes to for this shaper: for Indic not of letters
-    /// that fonts know whole, for Khmer also of split vowels.
+    /// The two characters that a character decomposes to for this shaper, or `Some(None)` where it
+    /// stays whole: for Indic not of letters that fonts know whole, for Khmer also of split vowels.
+    /// `None` leaves it to Unicode's tables.
     ///
     /// <details><summary>Contract</summary>
     ///
     /// # Contract
     ///
     /// ```text
-    /// ensures parts { Decomposed self _plan.now (T.tables tables.now) ab result }
+    /// ensures parts { result ≡ decompose_answer self (T.tables tables.now) ab }
+    /// ensures answer { is_some result ≡ has_hook self Decompose }
     /// ```
     ///
-    /// - `Decomposed`: `crates/rustybuzz_shapers/specs/Hooks.antt`
+    /// - `decompose_answer`: `crates/rustybuzz_shapers/specs/Hooks.antt`
+    /// - `has_hook`: `crates/rustybuzz_shapers/specs/Standing.antt`
     ///
     /// </details>
     #[inline]
-    pub fn decompose<T: Tables>(self, _plan: &Plan, tables: &T, ab: char) -> Decomposition {
+    pub fn decompose<T: Tables>(
+        self,
+        _plan: &Plan,
+        tables: &T,
+        ab: char,
+    ) -> Option<Option<(char, char)>> {
         match self {
-            Self::Indic => Decomposition::of(ot_shaper_indic::decompose(tables, ab)),
-            Self::Khmer => Decomposition::of(ot_shaper_khmer::decompose(tables, ab)),
+            Self::Indic => Some(ot_shaper_indic::decompose(tables, ab)),
+            Self::Khmer => Some(ot_shaper_khmer::decompose(tables, ab)),
             Self::Arabic
             | Self::Hangul
             | Self::Hebrew
             | Self::Myanmar
             | Self::MyanmarZawgyi
             | Self::Thai
-            | Self::Universal => Decomposition::NoHook,
+            | Self::Universal => None,
         }
     }
 
@@ -603,27 +613,27 @@ impl Shaper {
     /// requires without_positions { buffer.old.positions ≡ [] }
     /// requires data { PlanFits self plan.now }
     /// requires glyphs { GlyphsFit self plan.now buffer.old.glyphs }
-    /// ensures answer { result ≡ outcome (has_hook self SetupMasks) }
+    /// ensures answer { is_some result ≡ has_hook self SetupMasks }
     /// ensures masks { MasksSet self plan.now (T.tables tables.now) buffer.old buffer.new }
     /// ensures flags { OnlyFlagsAdded buffer.old.glyphs buffer.new.glyphs }
     /// ```
     ///
     /// - `GlyphsFit`, `MasksSet`, `PlanFits`: `crates/rustybuzz_shapers/specs/Hooks.antt`
-    /// - `outcome`: `crates/rustybuzz_shapers/specs/Outcomes.antt`
     /// - `has_hook`: `crates/rustybuzz_shapers/specs/Standing.antt`
     /// - `OnlyFlagsAdded`: `crates/shapers_clusters/specs/FlagLaw.antt`
     ///
     /// </details>
     #[inline]
+    #[must_use]
     pub fn setup_masks<F: Font, T: Tables>(
         self,
         plan: &Plan,
         _face: &F,
         tables: &T,
         buffer: &mut Buffer,
-    ) -> HookOutcome {
+    ) -> Option<()> {
         match self {
-            Self::Hebrew | Self::MyanmarZawgyi | Self::Thai => return HookOutcome::NoHook,
+            Self::Hebrew | Self::MyanmarZawgyi | Self::Thai => return None,
             Self::Arabic | Self::Hangul => self.set_masks(plan, tables, buffer),
             Self::Indic | Self::Khmer | Self::Myanmar | Self::Universal => {
                 // (tables that panic leave the empty buffer, and no text with some categories)
@@ -633,7 +643,7 @@ impl Shaper {
                 *buffer = text;
             }
         }
-        HookOutcome::Done
+        Some(())
     }
 
     // The masks of a shaper, where it sets any.
@@ -668,24 +678,24 @@ impl Shaper {
     /// requires in_order { start ≤ end }
     /// requires in_range { end ≤ length buffer.old.glyphs }
     /// requires few { MarksFit self start end }
-    /// ensures answer { result ≡ outcome (has_hook self ReorderMarks) }
+    /// ensures answer { is_some result ≡ has_hook self ReorderMarks }
     /// ensures marks { MarksReordered self start end buffer.old buffer.new }
     /// ensures laws { MarksKeep self start end buffer.old buffer.new }
     /// ```
     ///
     /// - `MarksFit`, `MarksKeep`, `MarksReordered`: `crates/rustybuzz_shapers/specs/Hooks.antt`
-    /// - `outcome`: `crates/rustybuzz_shapers/specs/Outcomes.antt`
     /// - `has_hook`: `crates/rustybuzz_shapers/specs/Standing.antt`
     ///
     /// </details>
     #[inline]
+    #[must_use]
     pub fn reorder_marks(
         self,
         plan: &Plan,
         buffer: &mut Buffer,
         start: usize,
         end: usize,
-    ) -> HookOutcome {
+    ) -> Option<()> {
         match self {
             Self::Arabic => ot_shaper_arabic::reorder_marks(plan, buffer, start, end),
             Self::Hebrew => ot_shaper_hebrew::reorder_marks(plan, buffer, start, end),
@@ -695,8 +705,8 @@ impl Shaper {
             | Self::Myanmar
             | Self::MyanmarZawgyi
             | Self::Thai
-            | Self::Universal => return HookOutcome::NoHook,
+            | Self::Universal => return None,
         }
-        HookOutcome::Done
+        Some(())
     }
 }

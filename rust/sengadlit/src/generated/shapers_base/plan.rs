@@ -25,7 +25,7 @@ pub use breaks::BreakFlags;
 pub use hangul::HangulPlan;
 pub use indic::{
     BaseSearch, BlwfMode, IndicConfig, IndicPlan, IndicWouldSubstituteFeature, RephMode,
-    RephPosition,
+    RephPosition, ZeroContext,
 };
 pub use joining::JoiningType;
 pub use khmer::KhmerPlan;
@@ -60,6 +60,8 @@ pub struct Plan {
     pub break_flags: BreakFlags,
     /// Among which consonants Indic looks for the base of a syllable.
     pub base_search: BaseSearch,
+    /// Where Indic's questions to the font leave out rules that need context.
+    pub zero_context: ZeroContext,
     /// What the shaper itself keeps.
     pub plan_data: PlanData,
 }
@@ -89,6 +91,7 @@ impl Plan {
             stretch_start: StretchStart::AsCode,
             break_flags: BreakFlags::AsCode,
             base_search: BaseSearch::WithoutMedials,
+            zero_context: ZeroContext::OldSpec,
             plan_data: PlanData::None,
         }
     }

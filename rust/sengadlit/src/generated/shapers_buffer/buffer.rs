@@ -6,7 +6,9 @@ use crate::support::prelude::*;
 
 use crate::support::alloc::Global;
 use crate::support::arrayvec::ArrayVec;
-use placement::{copy_places, make_room};
+use keeping::KeptRoom;
+use placement::make_room;
+use rooms::Rooms;
 
 mod bits;
 mod category;
@@ -17,14 +19,18 @@ mod flags;
 mod glyph;
 mod glyph_flags;
 mod glyph_props;
+mod group_room;
+mod keeping;
 mod level;
 mod lig_props;
 mod merging;
 pub mod modified_combining_class;
 mod placement;
+mod placements;
 mod refusal;
 mod replacing;
 mod reversing;
+mod rooms;
 mod settings;
 mod syllables;
 mod tag;
@@ -39,17 +45,19 @@ pub use glyph_flags::{
     glyph_flag, safe_to_insert_tatweel_in, unsafe_to_break_in, unsafe_to_concat_in,
 };
 pub use glyph_props::GlyphProps;
+pub use group_room::{ClusterGroup, GroupRoom};
 pub use level::{BufferClusterLevel, Direction};
 pub use lig_props::LigProps;
-pub use merging::{least_cluster, merge_clusters_in};
+pub use merging::{IntoCluster, least_cluster, merge_clusters_in, put_into_cluster};
 pub use placement::Placement;
+pub use placements::{Arranged, Placements, SyllableReading};
 pub use refusal::ShaperError;
 pub use replacing::GlyphRewriting;
 pub use settings::{BufferSettings, context_characters};
 pub use syllables::{Span, first_syllable_len, has_span_of_kind, set_syllable, spans_cover};
 pub use tag::{Script, Tag};
 pub use unicode_props::UnicodeProps;
-pub use walking::{GlyphChange, GlyphWalk, PositionedWalk, change_each_in};
+pub use walking::{GlyphChange, GlyphWalk, PositionedWalk, change_each_by_in, change_each_in};
 
 /// How many characters of context a buffer keeps on each side.
 pub const CONTEXT_LENGTH: usize = 5;
@@ -75,6 +83,10 @@ pub struct Buffer {
     // written as far as reorderings came
     places: Vec<usize>,
     spare: Vec<GlyphInfo>,
+    // room for one group of glyphs and one glyph more per glyph, lent to walks
+    group_room: GroupRoom,
+    // room that calls make when they first need it, so that the next text takes no memory
+    rooms: Rooms,
 }
 
 impl Buffer {
@@ -107,6 +119,8 @@ impl Buffer {
             max_len,
             places: Vec::new(alloc),
             spare: Vec::new(alloc),
+            group_room: GroupRoom::new(alloc),
+            rooms: Rooms::new(alloc),
         }
     }
 
@@ -207,7 +221,7 @@ impl Buffer {
         self.info[i] = glyph;
     }
 
-    /// Adds a glyph at the end of a buffer without positions.
+    /// Adds a glyph at the end. The buffer has no positions afterwards.
     ///
     /// # Errors
     ///
@@ -219,9 +233,8 @@ impl Buffer {
     /// # Contract
     ///
     /// ```text
-    /// requires { self.old.positions ≡ [] }
     /// ensures ok { OnOk result (self.new ≡
-    ///     record self.old { glyphs = self.old.glyphs ++ glyph ∷ [] }) }
+    ///     record self.old { glyphs = self.old.glyphs ++ glyph ∷ []; positions = [] }) }
     /// ensures length { RefusesLength self.old.max_len (length self.old.glyphs + 1) result }
     /// ensures err { OnErr result (self.new ≡ self.old) }
     /// ```
@@ -238,8 +251,14 @@ impl Buffer {
         if self.info.len() == self.max_len {
             return Err(ShaperError::TooLong);
         }
-        make_room(&mut self.places, &mut self.spare, self.info.len() + 1)?;
+        make_room(
+            &mut self.places,
+            &mut self.spare,
+            &mut self.group_room,
+            self.info.len() + 1,
+        )?;
         self.info.push(glyph).map_err(|_| ShaperError::Memory)?;
+        self.pos.clear();
         Ok(())
     }
 
@@ -274,11 +293,9 @@ impl Buffer {
             return Err(ShaperError::TooLong);
         }
         let len = self.info.len() + n;
-        make_room(&mut self.places, &mut self.spare, len)?;
+        make_room(&mut self.places, &mut self.spare, &mut self.group_room, len)?;
         self.info.reserve(n)?;
-        if !self.pos.is_empty() {
-            self.pos.resize(len, GlyphPosition::ZERO)?;
-        }
+        add_zero_positions(&mut self.pos, n)?;
         self.info.resize(len, GlyphInfo::DEFAULT)?;
         Ok(())
     }
@@ -325,9 +342,18 @@ impl Buffer {
     #[inline]
     pub fn copy(&self) -> Result<Self, ShaperError> {
         let alloc = self.alloc();
+        let groups = GroupRoom::with_capacity(alloc, self.info.len())?;
+        self.copy_into(KeptRoom::new(alloc), groups)
+    }
+
+    // An equal buffer, with its lists in this room and with this room for groups.
+    #[inline]
+    fn copy_into(&self, room: KeptRoom, group_room: GroupRoom) -> Result<Self, ShaperError> {
+        let alloc = self.alloc();
+        let lists = room.filled(&self.info, &self.pos, &self.places)?;
         Ok(Buffer {
-            info: Vec::from_slice(alloc, self.info.as_slice())?,
-            pos: Vec::from_slice(alloc, self.pos.as_slice())?,
+            info: lists.info,
+            pos: lists.pos,
             direction: self.direction,
             script: self.script,
             cluster_level: self.cluster_level,
@@ -337,10 +363,21 @@ impl Buffer {
             has_broken_syllable: self.has_broken_syllable,
             has_stch: self.has_stch,
             max_len: self.max_len,
-            places: copy_places(alloc, self.places.as_slice(), self.info.len())?,
-            spare: Vec::with_capacity(alloc, self.info.len())?,
+            places: lists.places,
+            spare: lists.spare,
+            group_room,
+            rooms: Rooms::new(alloc),
         })
     }
+}
+
+// Adds `n` zero positions, unless there are no positions.
+#[inline]
+fn add_zero_positions(positions: &mut Vec<GlyphPosition>, n: usize) -> Result<(), ShaperError> {
+    if !positions.is_empty() {
+        positions.resize(positions.len() + n, GlyphPosition::ZERO)?;
+    }
+    Ok(())
 }
 
 // The five nearest of these characters, which are nearest first.

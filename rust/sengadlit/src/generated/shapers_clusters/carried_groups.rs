@@ -5,16 +5,10 @@
 
 use crate::support::prelude::*;
 
-use crate::generated::shapers_buffer::buffer::{GlyphInfo, change_each_in, least_cluster};
-use crate::generated::shapers_clusters::into_cluster::IntoCluster;
+use crate::generated::shapers_buffer::buffer::{
+    ClusterGroup, GlyphInfo, GroupRoom, change_each_by_in, least_cluster, put_into_cluster,
+};
 use crate::support::alloc::{AllocError, Global};
-
-/// Glyphs that stand together in one cluster, which only the group has.
-#[derive(Clone, Copy, Debug)]
-pub struct Group {
-    len: usize,
-    cluster: u32,
-}
 
 /// Groups of glyphs, one behind the other, up to the place where merges go on. The clusters rise
 /// from each group to the next one: a group before one of a lower cluster can't be flooded from
@@ -22,12 +16,12 @@ pub struct Group {
 pub struct CarriedGroups {
     start: usize,
     end: usize,
-    groups: Vec<Group>,
+    groups: Vec<ClusterGroup>,
     kept: Vec<GlyphInfo>,
 }
 
 impl CarriedGroups {
-    /// No groups.
+    /// No groups, and no room for any.
     ///
     /// <details><summary>Contract</summary>
     ///
@@ -42,11 +36,41 @@ impl CarriedGroups {
     /// </details>
     #[inline]
     pub fn new(alloc: Global) -> Self {
+        CarriedGroups::with_room(GroupRoom::new(alloc))
+    }
+
+    /// No groups, with room that a buffer lends. Where it is enough for the text, carrying takes no
+    /// memory.
+    ///
+    /// <details><summary>Contract</summary>
+    ///
+    /// # Contract
+    ///
+    /// ```text
+    /// ensures start { result.start ≡ 0 }
+    /// ensures end { result.end ≡ 0 }
+    /// ensures none { result.groups.items ≡ [] }
+    /// ```
+    ///
+    /// </details>
+    #[inline]
+    pub fn with_room(room: GroupRoom) -> Self {
+        let mut groups = room.groups;
+        groups.clear();
         CarriedGroups {
             start: 0,
             end: 0,
-            groups: Vec::new(alloc),
-            kept: Vec::new(alloc),
+            groups,
+            kept: room.glyphs,
+        }
+    }
+
+    /// The room, for the buffer that lent it.
+    #[inline]
+    pub fn into_room(self) -> GroupRoom {
+        GroupRoom {
+            groups: self.groups,
+            glyphs: self.kept,
         }
     }
 
@@ -170,7 +194,7 @@ impl CarriedGroups {
 
     // A group.
     #[inline]
-    fn group(&self, index: usize) -> Group {
+    fn group(&self, index: usize) -> ClusterGroup {
         self.groups.as_slice()[index]
     }
 
@@ -189,7 +213,7 @@ impl CarriedGroups {
     // Adds the glyph behind the groups.
     #[inline]
     fn add(&mut self, glyphs: &mut [GlyphInfo]) -> Result<(), AllocError> {
-        let group = Group {
+        let group = ClusterGroup {
             len: 1,
             cluster: glyphs[self.end].cluster,
         };
@@ -238,7 +262,7 @@ impl CarriedGroups {
 
     // The groups from one on.
     #[inline]
-    fn groups_from(&self, index: usize) -> &[Group] {
+    fn groups_from(&self, index: usize) -> &[ClusterGroup] {
         &self.groups.as_slice()[index..]
     }
 
@@ -268,7 +292,7 @@ impl CarriedGroups {
         let last = self.group(count - 1);
         let before = self.group(count - 2);
         self.groups.truncate(count - 1);
-        self.groups[count - 2] = Group {
+        self.groups[count - 2] = ClusterGroup {
             len: before.len + last.len,
             ..before
         };
@@ -288,7 +312,7 @@ impl CarriedGroups {
 
 // Puts the glyphs of groups, which begin at a place, into their clusters.
 #[inline]
-fn write_groups(groups: &[Group], glyphs: &mut [GlyphInfo], start: usize) {
+fn write_groups(groups: &[ClusterGroup], glyphs: &mut [GlyphInfo], start: usize) {
     let mut place = start;
     for group in groups {
         let end = place + group.len;
@@ -300,7 +324,9 @@ fn write_groups(groups: &[Group], glyphs: &mut [GlyphInfo], start: usize) {
 // Puts glyphs into a cluster.
 #[inline]
 fn put_into(glyphs: &mut [GlyphInfo], place: usize, end: usize, cluster: u32) {
-    change_each_in(&mut glyphs[place..end], &IntoCluster(cluster));
+    change_each_by_in(&mut glyphs[place..end], |glyph| {
+        put_into_cluster(glyph, cluster)
+    });
 }
 
 // Puts other glyphs into a stretch.
@@ -319,7 +345,7 @@ fn put_before(glyphs: &mut [GlyphInfo], place: usize, cluster: u32) {
 
 // Lets glyphs stand for groups, one for each.
 #[inline]
-fn show_groups(groups: &[Group], glyphs: &mut [GlyphInfo]) {
+fn show_groups(groups: &[ClusterGroup], glyphs: &mut [GlyphInfo]) {
     for i in 0..groups.len() {
         glyphs[i].cluster = groups[i].cluster;
     }
@@ -327,7 +353,7 @@ fn show_groups(groups: &[Group], glyphs: &mut [GlyphInfo]) {
 
 // Puts groups into the clusters of glyphs, unless these are above their own.
 #[inline]
-fn read_groups(glyphs: &[GlyphInfo], groups: &mut [Group]) {
+fn read_groups(glyphs: &[GlyphInfo], groups: &mut [ClusterGroup]) {
     for i in 0..glyphs.len() {
         groups[i].cluster = groups[i].cluster.min(glyphs[i].cluster);
     }

@@ -5,4 +5,3 @@
 
 pub mod carried_groups;
 pub mod floods;
-pub mod into_cluster;

@@ -8,6 +8,7 @@ mod cycles;
 mod font_positions;
 mod halant;
 mod masks;
+mod moved;
 mod moving;
 mod order;
 mod ordered_base;

@@ -2,7 +2,7 @@
 
 //! What a shaper decides, and what the tables do where it lacks the hook.
 
-use crate::generated::rustybuzz_shapers::shaper::{Composition, Decomposition, Shaper};
+use crate::generated::rustybuzz_shapers::shaper::Shaper;
 use crate::generated::rustybuzz_shapers::{ot_shaper_arabic, ot_shaper_hebrew};
 use crate::generated::shapers_base::buffer::{BufferClusterLevel, GlyphInfo};
 use crate::generated::shapers_base::font::Tables;
@@ -26,9 +26,8 @@ pub(crate) fn decompose<T: Tables>(
         return tables.decompose(ab);
     };
     match shaper.decompose(plan, tables, ab) {
-        Decomposition::Parts(a, b) => Some((a, b)),
-        Decomposition::Whole => None,
-        Decomposition::NoHook => tables.decompose(ab),
+        Some(parts) => parts,
+        None => tables.decompose(ab),
     }
 }
 
@@ -45,9 +44,8 @@ pub(crate) fn compose<T: Tables>(
         return tables.compose(a, b);
     };
     match shaper.compose(plan, tables, a, b) {
-        Composition::Whole(whole) => Some(whole),
-        Composition::Apart => None,
-        Composition::NoHook => tables.compose(a, b),
+        Some(whole) => whole,
+        None => tables.compose(a, b),
     }
 }
 

@@ -24,6 +24,9 @@ pub(crate) fn set_fractions(masks: &DriverMasks, buffer: &mut Buffer) {
     if !has_fractions(masks) {
         return;
     }
+    if !has_slash(buffer.glyphs()) {
+        return;
+    }
     let masks = slash_masks(buffer.direction(), masks);
     let flags = buffer.flags();
     buffer.walk(&mut FractionWalk { masks, flags });
@@ -33,6 +36,12 @@ pub(crate) fn set_fractions(masks: &DriverMasks, buffer: &mut Buffer) {
 #[inline]
 fn has_fractions(masks: &DriverMasks) -> bool {
     masks.frac != 0 || (masks.numr != 0 && masks.dnom != 0)
+}
+
+// Whether a fraction's slash is among these glyphs.
+#[inline]
+fn has_slash(glyphs: &[GlyphInfo]) -> bool {
+    glyphs.iter().any(is_fraction_slash)
 }
 
 // Numerators stand first where the text runs forward.

@@ -8,7 +8,7 @@ use crate::generated::shapers_normal::ot_shape_normalize;
 use crate::generated::shapers_pipeline::lookups::Lookups;
 use crate::generated::shapers_pipeline::stages::lookups_of_stage;
 use crate::generated::shapers_plan::ot_map::{Stage, StageLookup};
-use crate::generated::shapers_plan::ot_shape_plan::ShapePlan;
+use crate::generated::shapers_plan::ot_shape_plan::EnginePlan;
 
 /// For how many glyphs a text of so many characters needs room, whatever becomes of it before Arabic
 /// marks stretch: with this [`max_len`] neither its preparation nor a stage refuses with [`TooLong`]. At
@@ -33,7 +33,7 @@ use crate::generated::shapers_plan::ot_shape_plan::ShapePlan;
 ///
 /// [`TooLong`]: crate::ShaperError::TooLong
 /// [`max_len`]: crate::Buffer::max_len
-pub fn length_bound<L: Lookups>(plan: &ShapePlan, lookups: &L, len: usize) -> usize {
+pub fn length_bound<L: Lookups>(plan: &EnginePlan, lookups: &L, len: usize) -> usize {
     let preprocessed = len
         .saturating_add(1)
         .saturating_mul(preprocess_growth(plan.shaper()));

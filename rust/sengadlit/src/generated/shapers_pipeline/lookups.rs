@@ -10,9 +10,7 @@ use crate::generated::shapers_base::buffer::{
 use crate::generated::shapers_base::plan::Pause;
 use crate::generated::shapers_plan::ot_map::StageLookup;
 use crate::generated::shapers_position::ot_shape_position::GlyphClasses;
-use crate::generated::shapers_spans::{Indic, Khmer, Myanmar, Universal, spans_of};
-use crate::support::alloc::Global;
-use core::mem;
+use crate::generated::shapers_spans::{Indic, Khmer, Machine, Myanmar, Universal, spans_into};
 
 /// The lookups of a font's GSUB and GPOS. Each is a function of the text: the same text becomes the
 /// same.
@@ -51,8 +49,8 @@ pub trait Lookups: GlyphClasses {
     ///
     /// # Errors
     ///
-    /// Why the text couldn't become longer; nothing has changed then. [`TooLong`] doesn't come where
-    /// the buffer has room for the text's growth.
+    /// [`TooLong`] or [`Memory`]; nothing has changed then. [`TooLong`] doesn't come where the buffer has
+    /// room for the text's growth.
     ///
     /// <details><summary>Contract</summary>
     ///
@@ -63,11 +61,16 @@ pub trait Lookups: GlyphClasses {
     /// ensures ok { OnOk result (buffer.new ≡ substituted self.now lookup.now buffer.old) }
     /// ensures room { let times = growth_of self.now lookup.now in
     ///     length buffer.old.glyphs * times ≤ buffer.old.max_len → result ≢ Err TooLong }
+    /// ensures refusal { let may = substituting_refuses self.now lookup.now buffer.old in
+    ///     IfErr result (λ e. MayRefuse may e) }
     /// ensures err { OnErr result (buffer.new ≡ buffer.old) }
     /// ```
     ///
+    /// - `MayRefuse`: `crates/shapers_pipeline/specs/Lookups.antt`
+    ///
     /// </details>
     ///
+    /// [`Memory`]: crate::ShaperError::Memory
     /// [`TooLong`]: crate::ShaperError::TooLong
     fn substitute(&self, lookup: &StageLookup, buffer: &mut Buffer) -> Result<(), ShaperError>;
 
@@ -76,7 +79,7 @@ pub trait Lookups: GlyphClasses {
     ///
     /// # Errors
     ///
-    /// Why it couldn't; nothing has changed then.
+    /// [`TooLong`] or [`Memory`]; nothing has changed then.
     ///
     /// <details><summary>Contract</summary>
     ///
@@ -85,10 +88,17 @@ pub trait Lookups: GlyphClasses {
     /// ```text
     /// requires { length buffer.old.positions ≡ length buffer.old.glyphs }
     /// ensures ok { OnOk result (buffer.new ≡ positioned self.now lookup.now buffer.old) }
+    /// ensures refusal { let may = positioning_refuses self.now lookup.now buffer.old in
+    ///     IfErr result (λ e. MayRefuse may e) }
     /// ensures err { OnErr result (buffer.new ≡ buffer.old) }
     /// ```
     ///
+    /// - `MayRefuse`: `crates/shapers_pipeline/specs/Lookups.antt`
+    ///
     /// </details>
+    ///
+    /// [`Memory`]: crate::ShaperError::Memory
+    /// [`TooLong`]: crate::ShaperError::TooLong
     fn position(&self, lookup: &StageLookup, buffer: &mut Buffer) -> Result<(), ShaperError>;
 
     /// Moves the glyphs that lookups attached to others, behind the last lookup of GPOS. It writes
@@ -110,11 +120,7 @@ pub trait Lookups: GlyphClasses {
 // Notes of each glyph what the lookups keep there; none is of a ligature yet.
 pub(crate) fn note_glyphs<L: Lookups>(lookups: &L, buffer: &mut Buffer) {
     // (lookups that panic leave the empty buffer, and no text with some of its glyphs noted)
-    let empty = Buffer::new(buffer.alloc(), buffer.max_len());
-    let mut text = mem::replace(buffer, empty);
-    let end = text.len();
-    text.change_each(0, end, &Noting { lookups });
-    *buffer = text;
+    buffer.change_outside(&Noting { lookups });
 }
 
 // The note beside one glyph.
@@ -142,17 +148,29 @@ pub(crate) fn apply_lookups<L: Lookups>(
     Ok(())
 }
 
-// The syllables that a pause writes into a text, found by its grammar; none for the other pauses.
+// The syllables that a pause writes into a text, found by its grammar, in a list that is empty; none
+// for the other pauses.
 pub(crate) fn found_spans(
     pause: Pause,
     glyphs: &[GlyphInfo],
-    alloc: Global,
+    list: Vec<Span>,
 ) -> Result<Vec<Span>, ShaperError> {
     match pause {
-        Pause::SetupSyllablesIndic => spans_of(&Indic, glyphs, alloc),
-        Pause::SetupSyllablesKhmer => spans_of(&Khmer, glyphs, alloc),
-        Pause::SetupSyllablesMyanmar => spans_of(&Myanmar, glyphs, alloc),
-        Pause::SetupSyllablesUse => spans_of(&Universal, glyphs, alloc),
-        _ => Ok(Vec::new(alloc)),
+        Pause::SetupSyllablesIndic => spans_in(&Indic, glyphs, list),
+        Pause::SetupSyllablesKhmer => spans_in(&Khmer, glyphs, list),
+        Pause::SetupSyllablesMyanmar => spans_in(&Myanmar, glyphs, list),
+        Pause::SetupSyllablesUse => spans_in(&Universal, glyphs, list),
+        _ => Ok(list),
     }
+}
+
+// The syllables of the glyphs, by a machine, in a list of which nothing stays but its room.
+#[inline]
+fn spans_in<M: Machine>(
+    machine: &M,
+    glyphs: &[GlyphInfo],
+    mut list: Vec<Span>,
+) -> Result<Vec<Span>, ShaperError> {
+    spans_into(machine, glyphs, &mut list)?;
+    Ok(list)
 }

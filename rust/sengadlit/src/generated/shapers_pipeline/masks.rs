@@ -26,6 +26,9 @@ impl GlyphChange for MaskAlone {
 
 // Sets the caller's features in their ranges, the later ones over the earlier.
 pub(crate) fn set_features(features: &[UserRange], buffer: &mut Buffer) {
+    if features.is_empty() {
+        return;
+    }
     let end = buffer.len();
     buffer.change_each(0, end, &Features { features });
 }

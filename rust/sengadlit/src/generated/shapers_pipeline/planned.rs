@@ -3,7 +3,7 @@
 //! The script and direction of a text: its plan's during a call, and then its own again.
 
 use crate::generated::shapers_base::buffer::{Buffer, Direction, Script};
-use crate::generated::shapers_plan::ot_shape_plan::ShapePlan;
+use crate::generated::shapers_plan::ot_shape_plan::EnginePlan;
 
 // Sets the script and direction of a text.
 #[inline]
@@ -18,7 +18,7 @@ pub(crate) fn set_script_and_direction(
 
 // Sets those of a plan.
 #[inline]
-pub(crate) fn set_to_plan(plan: &ShapePlan, buffer: &mut Buffer) {
+pub(crate) fn set_to_plan(plan: &EnginePlan, buffer: &mut Buffer) {
     set_script_and_direction(plan.plan().script, plan.direction(), buffer);
 }
 

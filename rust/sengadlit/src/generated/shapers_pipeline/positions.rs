@@ -9,7 +9,7 @@ use crate::generated::shapers_pipeline::fractions::runs_forward;
 use crate::generated::shapers_pipeline::lookups::Lookups;
 use crate::generated::shapers_pipeline::settings::ShapeSettings;
 use crate::generated::shapers_plan::ot_map::StageLookup;
-use crate::generated::shapers_plan::ot_shape_plan::ShapePlan;
+use crate::generated::shapers_plan::ot_shape_plan::EnginePlan;
 use crate::generated::shapers_position::ot_shape_position::{
     MetricsFont, hide_default_ignorables, set_advances, set_space_widths, zero_mark_widths,
     zero_width_default_ignorables,
@@ -18,7 +18,7 @@ use crate::generated::shapers_position::ot_shape_position::{
 // Gives the glyphs of a text positions, in the order that it is drawn in, and hides those that need
 // not be drawn.
 pub(crate) fn position_text<F: MetricsFont, L: Lookups>(
-    plan: &ShapePlan,
+    plan: &EnginePlan,
     settings: &ShapeSettings,
     font: &F,
     lookups: &L,

@@ -51,6 +51,7 @@ pub(crate) fn setup_masks<F: Font, T: Tables>(
     if !shaper.glyphs_fit(plan, buffer) {
         return Err(Condition::Glyphs);
     }
-    shaper.setup_masks(plan, face, tables, buffer);
+    // (a shaper that has no masks of its own leaves the glyphs as they are)
+    let _ = shaper.setup_masks(plan, face, tables, buffer);
     Ok(())
 }

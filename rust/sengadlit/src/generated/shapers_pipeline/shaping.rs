@@ -10,7 +10,7 @@ use crate::generated::shapers_pipeline::planned::{put_back, set_to_plan};
 use crate::generated::shapers_pipeline::positions::position_text;
 use crate::generated::shapers_pipeline::settings::ShapeSettings;
 use crate::generated::shapers_pipeline::substitution::substitute_planned;
-use crate::generated::shapers_plan::ot_shape_plan::ShapePlan;
+use crate::generated::shapers_plan::ot_shape_plan::EnginePlan;
 use crate::generated::shapers_position::ot_shape_position::{MetricsFont, propagate_flags};
 use crate::generated::shapers_prepare::ot_shape_prepare::UnicodeProperties;
 
@@ -58,11 +58,13 @@ const MAX_LEN_UNSET: usize = 0x3FFF_FFFF;
 ///     (L.marks lookups.now) (L.positioned lookups.now) (L.finished lookups.now) in
 ///     let text = text_to_shape plan.now buffer.old in
 ///     let noted = text_noted (L.noted lookups.now) (text_prepared p text) in
+///     let substituting = L.substituting_refuses lookups.now in
+///     let positioning = L.positioning_refuses lookups.now in
 ///     IfErr result (λ e. (e ≡ call.Refused Memory)
 ///     ⊎ ((left : Buffer) × (IsStopped p text left e
-///     ⊎ (StagesStopped r plan.now.stages noted left
+///     ⊎ (StagesStopped r substituting plan.now.stages noted left e
 ///     ⊎ ((mid : Buffer) × (StagesRun r plan.now.stages noted mid
-///     × FinishStopped q mid left e)))))) }
+///     × FinishStopped q positioning mid left e)))))) }
 /// ensures room { let p = preparation_by plan.now settings.now.normalize (F.font font.now)
 ///     (F.variants font.now) (T.properties tables.now) (T.tables tables.now)
 ///     (T.texts tables.now) in
@@ -72,12 +74,13 @@ const MAX_LEN_UNSET: usize = 0x3FFF_FFFF;
 ///     let text = text_to_shape plan.now buffer.old in
 ///     let noted = text_noted (L.noted lookups.now) (text_prepared p text) in
 ///     let growth = L.growth_of lookups.now in
+///     let refusals = L.positioning_refuses lookups.now in
 ///     PreparationGrows → PreparationHasRoom →
 ///     shaped_bound plan.now.shaper growth plan.now.lookups plan.now.stages
 ///     (length buffer.old.glyphs) ≤ shape_limit buffer.old.max_len (length buffer.old.glyphs) →
 ///     IfErr result (λ e. e ≡ call.Refused TooLong → (mid : Buffer)
 ///     × (StagesRun r plan.now.stages noted mid × ((left : Buffer)
-///     × FinishStopped q mid left e))) }
+///     × FinishStopped q refusals mid left e))) }
 /// ```
 ///
 /// - `Buffer`: `crates/shapers_buffer/specs/Buffer.antt`
@@ -97,22 +100,23 @@ const MAX_LEN_UNSET: usize = 0x3FFF_FFFF;
 /// [`TooLong`]: crate::ShaperError::TooLong
 /// [`max_len`]: crate::Buffer::max_len
 pub fn shape<F: NormalizeFont + MetricsFont, T: NormalizeTables + UnicodeProperties, L: Lookups>(
-    plan: &ShapePlan,
+    plan: &EnginePlan,
     settings: &ShapeSettings,
     font: &F,
     tables: &T,
     lookups: &L,
     buffer: &mut Buffer,
 ) -> Result<(), CallError> {
-    let kept = buffer.copy()?;
+    let kept = buffer.keep()?;
     set_to_shape(plan, buffer);
     match shape_planned(plan, settings, font, tables, lookups, buffer) {
         Ok(()) => {
             give_back(&kept, buffer);
+            buffer.recycle(kept);
             Ok(())
         }
         Err(error) => {
-            *buffer = kept;
+            buffer.restore(kept);
             Err(error)
         }
     }
@@ -128,7 +132,7 @@ fn shape_limit(max_len: usize, len: usize) -> usize {
 }
 
 // Sets the script, direction and greatest length by which a plan shapes the text.
-fn set_to_shape(plan: &ShapePlan, buffer: &mut Buffer) {
+fn set_to_shape(plan: &EnginePlan, buffer: &mut Buffer) {
     let limit = shape_limit(buffer.max_len(), buffer.len());
     buffer.set_max_len(limit);
     set_to_plan(plan, buffer);
@@ -146,7 +150,7 @@ fn shape_planned<
     T: NormalizeTables + UnicodeProperties,
     L: Lookups,
 >(
-    plan: &ShapePlan,
+    plan: &EnginePlan,
     settings: &ShapeSettings,
     font: &F,
     tables: &T,
@@ -161,7 +165,7 @@ fn shape_planned<
 
 // Gives glyphs positions, and stretches marks.
 fn finish_text<F: MetricsFont, L: Lookups>(
-    plan: &ShapePlan,
+    plan: &EnginePlan,
     settings: &ShapeSettings,
     font: &F,
     lookups: &L,

@@ -18,9 +18,10 @@ use crate::generated::shapers_plan::ot_map::{Stage, StageLookup};
 ///
 /// # Errors
 ///
-/// A condition of a pause that isn't met, or the refusal of a lookup or a pause. The glyphs are as
-/// they were before that one, and the script and direction of the buffer as they were. [`TooLong`]
-/// doesn't come where [`max_len`] is as much as the text may grow.
+/// The refusal of a lookup; or of a pause, the first of its conditions that isn't met, its refusal,
+/// or, where its spans are found, [`Memory`] for these. The glyphs are as they were before that lookup
+/// or pause, and the script and direction of the buffer as they were. [`TooLong`] doesn't come where
+/// [`max_len`] is as much as the text may grow.
 ///
 /// # Panics
 ///
@@ -48,7 +49,9 @@ use crate::generated::shapers_plan::ot_map::{Stage, StageLookup};
 ///   list = plan.now.lookups.now;
 /// } in
 ///     let text = as_planned plan.now.plan.now.script plan.now.direction buffer.old in
-///     OnErr result ((left : Buffer) × (StagesStopped r plan.now.stages.now text left
+///     let refusals = L.substituting_refuses lookups.now in
+///     IfErr result (λ e. (left : Buffer)
+///     × (StagesStopped r refusals plan.now.stages.now text left e
 ///     × (buffer.new ≡ put_back buffer.old left))) }
 /// ensures room { let growth = L.growth_of lookups.now in
 ///     stages_bound growth plan.now.lookups.now plan.now.stages.now (length buffer.old.glyphs)
@@ -63,6 +66,7 @@ use crate::generated::shapers_plan::ot_map::{Stage, StageLookup};
 ///
 /// </details>
 ///
+/// [`Memory`]: crate::ShaperError::Memory
 /// [`TooLong`]: crate::ShaperError::TooLong
 /// [`max_len`]: crate::Buffer::max_len
 pub fn run_stages<F: Font, L: Lookups>(
@@ -122,7 +126,9 @@ fn pause_with_spans<F: Font>(
     font: &F,
     buffer: &mut Buffer,
 ) -> Result<(), CallError> {
-    let spans = found_spans(pause, buffer.glyphs(), buffer.alloc())?;
+    let list = buffer.take_spans();
+    let spans = found_spans(pause, buffer.glyphs(), list)?;
     checked_run_pause(pause, plan, font, spans.as_slice(), buffer)?;
+    buffer.give_spans(spans);
     Ok(())
 }

@@ -10,7 +10,7 @@ use crate::generated::shapers_pipeline::plan::{StagePlan, TextPlan};
 use crate::generated::shapers_pipeline::planned::{put_back, set_to_plan};
 use crate::generated::shapers_pipeline::prepare::prepare_planned;
 use crate::generated::shapers_pipeline::stages::run_planned_stages;
-use crate::generated::shapers_plan::ot_shape_plan::ShapePlan;
+use crate::generated::shapers_plan::ot_shape_plan::EnginePlan;
 use crate::generated::shapers_prepare::ot_shape_prepare::UnicodeProperties;
 
 /// Makes glyphs of a text's characters, and substitutes them: `prepare_text`, what the lookups keep
@@ -43,8 +43,10 @@ use crate::generated::shapers_prepare::ot_shape_prepare::UnicodeProperties;
 ///     let r = substitution_by plan.now (F.font font.now) (L.substituted lookups.now) in
 ///     let text = as_planned plan.now.plan.script plan.now.direction buffer.old in
 ///     let noted = text_noted (L.noted lookups.now) (text_prepared p text) in
+///     let refusals = L.substituting_refuses lookups.now in
 ///     IfErr result (λ e. (e ≡ call.Refused Memory) ⊎ ((left : Buffer)
-///     × (IsStopped p text left e ⊎ StagesStopped r plan.now.stages noted left))) }
+///     × (IsStopped p text left e
+///     ⊎ StagesStopped r refusals plan.now.stages noted left e))) }
 /// ensures room { let growth = L.growth_of lookups.now in
 ///     PreparationGrows → PreparationHasRoom →
 ///     shaped_bound plan.now.shaper growth plan.now.lookups plan.now.stages
@@ -67,22 +69,23 @@ use crate::generated::shapers_prepare::ot_shape_prepare::UnicodeProperties;
 /// [`TooLong`]: crate::ShaperError::TooLong
 /// [`max_len`]: crate::Buffer::max_len
 pub fn substitute_text<F: NormalizeFont, T: NormalizeTables + UnicodeProperties, L: Lookups>(
-    plan: &ShapePlan,
+    plan: &EnginePlan,
     settings: &NormalizeSettings,
     font: &F,
     tables: &T,
     lookups: &L,
     buffer: &mut Buffer,
 ) -> Result<(), CallError> {
-    let kept = buffer.copy()?;
+    let kept = buffer.keep()?;
     set_to_plan(plan, buffer);
     match substitute_planned(plan, settings, font, tables, lookups, buffer) {
         Ok(()) => {
             put_back(&kept, buffer);
+            buffer.recycle(kept);
             Ok(())
         }
         Err(error) => {
-            *buffer = kept;
+            buffer.restore(kept);
             Err(error)
         }
     }
@@ -94,7 +97,7 @@ pub(crate) fn substitute_planned<
     T: NormalizeTables + UnicodeProperties,
     L: Lookups,
 >(
-    plan: &ShapePlan,
+    plan: &EnginePlan,
     settings: &NormalizeSettings,
     font: &F,
     tables: &T,

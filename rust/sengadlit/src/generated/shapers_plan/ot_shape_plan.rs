@@ -40,7 +40,7 @@ pub struct DriverMasks {
 
 /// What is decided for the texts of one script, direction and font before one is seen.
 #[derive(Debug, PartialEq, Eq)]
-pub struct ShapePlan {
+pub struct EnginePlan {
     pub(crate) shaper: Option<Shaper>,
     pub(crate) plan: Plan,
     pub(crate) direction: Direction,
@@ -52,7 +52,7 @@ pub struct ShapePlan {
     pub(crate) ranges: Vec<UserRange>,
 }
 
-impl ShapePlan {
+impl EnginePlan {
     /// The plan of a text of this script and direction in a font, with the user's features. The
     /// shaper follows from the script by which the font's features were found (HarfBuzz's planner).
     ///
@@ -128,7 +128,7 @@ impl ShapePlan {
         let compiled = CompiledMap::new(alloc, features, planner.requests())?;
         let ranges = user_ranges(alloc, compiled.features.as_slice(), users)?;
         let masks = driver_masks(&compiled.map);
-        Ok(ShapePlan {
+        Ok(EnginePlan {
             shaper,
             plan: hooks_plan(shaper, script, choices, compiled.map),
             direction,

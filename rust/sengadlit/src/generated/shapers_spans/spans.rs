@@ -66,6 +66,8 @@ fn push_lead(lead: usize, kind: u8, spans: &mut Vec<Span>) -> Result<(), ShaperE
 /// ```text
 /// ensures spans { OnOk result (AreSpansOf (M.grammar machine.now) glyphs.now spans.new.items) }
 /// ensures refusal { IsOkUnless result Memory }
+/// ensures room { (all : List Span) → AreSpansOf (M.grammar machine.now) glyphs.now all →
+///     length all ≤ vec_capacity spans.old → IsOk result }
 /// ```
 ///
 /// - `AreSpansOf`: `crates/shapers_spans/specs/Cuts.antt`

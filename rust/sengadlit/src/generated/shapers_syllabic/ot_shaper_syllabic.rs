@@ -25,5 +25,7 @@ pub use consonants::is_consonant;
 pub use kinds::{indic_syllable, khmer_syllable, myanmar_syllable, use_syllable};
 pub use moving::{move_before, place_among};
 pub use pause::reorder_pause;
-pub use reordering::{MayChange, Reorder, ReorderBySteps, reorder_syllables};
+pub use reordering::{
+    MayChange, Reorder, ReorderBySteps, reorder_syllables, reorder_syllables_by_steps,
+};
 pub use set_up::{flag_syllables_in, set_up_by_bytes, set_up_syllables};

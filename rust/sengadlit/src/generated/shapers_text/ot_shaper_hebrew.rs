@@ -116,7 +116,7 @@ fn find_triple(glyphs: &[GlyphInfo], start: usize, end: usize) -> Option<usize> 
     None
 }
 
-// Whether the first three are marks of which the last two change places.
+// Whether the first three are of such classes that the last two change places.
 #[inline]
 fn opens_triple(marks: &[GlyphInfo]) -> bool {
     let [a, b, c, ..] = marks else {

@@ -5,12 +5,8 @@
 use crate::generated::shapers_base::plan::{Category, JoiningType, Position};
 use crate::generated::shapers_buffer::buffer::GeneralCategory;
 use crate::generated::shapers_unicode::table::value_of;
-use crate::generated::shapers_unicode::tables::class::{CLASS_BLOCKS, CLASS_INDEX, CLASS_TAIL};
-use crate::generated::shapers_unicode::tables::general::{
-    GENERAL_BLOCKS, GENERAL_INDEX, GENERAL_TAIL,
-};
-use crate::generated::shapers_unicode::tables::ignorable::{
-    IGNORABLE_BLOCKS, IGNORABLE_INDEX, IGNORABLE_TAIL,
+use crate::generated::shapers_unicode::tables::character::{
+    CHARACTER_BLOCKS, CHARACTER_INDEX, CHARACTER_KINDS, CHARACTER_TAIL,
 };
 use crate::generated::shapers_unicode::tables::indic::{
     INDIC_BLOCKS, INDIC_INDEX, INDIC_PAIRS, INDIC_TAIL,
@@ -25,6 +21,19 @@ use crate::generated::shapers_unicode::tables::universal::{
     UNIVERSAL_BLOCKS, UNIVERSAL_INDEX, UNIVERSAL_TAIL,
 };
 
+// The general category of a character, whether a font need not draw it, and its class, in one number
+// that one look-up tells: callers that want several of them read it once.
+#[inline]
+fn character_bits(c: char) -> u16 {
+    let kind = value_of(
+        &CHARACTER_INDEX,
+        &CHARACTER_BLOCKS,
+        &CHARACTER_TAIL,
+        c as u32,
+    );
+    CHARACTER_KINDS[kind as usize]
+}
+
 /// The general category of a character.
 ///
 /// <details><summary>Contract</summary>
@@ -38,9 +47,10 @@ use crate::generated::shapers_unicode::tables::universal::{
 /// - `category_of_character`: `crates/shapers_unicode/specs/General.antt`
 ///
 /// </details>
+#[inline]
 pub fn general_category(c: char) -> GeneralCategory {
-    let number = value_of(&GENERAL_INDEX, &GENERAL_BLOCKS, &GENERAL_TAIL, c as u32);
-    GeneralCategory::from_number_or_unassigned(number)
+    let number = character_bits(c) % 32;
+    GeneralCategory::from_number_or_unassigned(number as u8)
 }
 
 /// How a character joins its neighbours.
@@ -74,8 +84,9 @@ pub fn joining_type(c: char) -> JoiningType {
 /// - `modified_class`: `crates/shapers_unicode/specs/Classes.antt`
 ///
 /// </details>
+#[inline]
 pub fn modified_combining_class(c: char) -> u8 {
-    value_of(&CLASS_INDEX, &CLASS_BLOCKS, &CLASS_TAIL, c as u32)
+    (character_bits(c) / 256) as u8
 }
 
 /// Whether a font need not draw a character: Unicode's default ignorable characters but Hangul's fillers
@@ -92,13 +103,9 @@ pub fn modified_combining_class(c: char) -> u8 {
 /// - `default_ignorable`: `crates/shapers_unicode/specs/Ignorable.antt`
 ///
 /// </details>
+#[inline]
 pub fn is_default_ignorable(c: char) -> bool {
-    value_of(
-        &IGNORABLE_INDEX,
-        &IGNORABLE_BLOCKS,
-        &IGNORABLE_TAIL,
-        c as u32,
-    ) == 1
+    character_bits(c) / 32 % 2 == 1
 }
 
 /// Whether a character is a pictograph that may be part of an emoji sequence (`Extended_Pictographic`).

@@ -2,10 +2,8 @@
 
 //! The tables in two levels: each property's blocks.
 
-pub(crate) mod class;
+pub(crate) mod character;
 pub(crate) mod composition;
-pub(crate) mod general;
-pub(crate) mod ignorable;
 pub(crate) mod indic;
 pub(crate) mod joining;
 pub(crate) mod mapping;

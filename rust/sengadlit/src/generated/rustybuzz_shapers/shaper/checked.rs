@@ -5,9 +5,7 @@
 //! is then unchanged. The hooks that aren't here have no conditions.
 
 use super::conditions::{are_glyph_numbers, is_arabic};
-use super::{
-    HookOutcome, Shaper, has_positions, kinds_fit, lacks_positions, pause_fits, run_pause,
-};
+use super::{Shaper, has_positions, kinds_fit, lacks_positions, pause_fits, run_pause};
 use crate::generated::shapers_base::buffer::{Buffer, ShaperError, Span};
 use crate::generated::shapers_base::font::{Font, Tables};
 use crate::generated::shapers_base::plan::{Pause, Plan, Preprocess};
@@ -112,7 +110,7 @@ impl Shaper {
     /// ```text
     /// ensures conditions { StopsAt (masks_ask self plan.now buffer.old) result }
     /// ensures answer { let there = has_hook self SetupMasks in
-    ///     IfOk result (λ answer. answer ≡ outcome there) }
+    ///     IfOk result (λ answer. is_some answer ≡ there) }
     /// ensures masks { let tables = T.tables tables.now in
     ///     OnOk result (MasksSet self plan.now tables buffer.old buffer.new) }
     /// ensures flags { OnOk result (OnlyFlagsAdded buffer.old.glyphs buffer.new.glyphs) }
@@ -122,7 +120,6 @@ impl Shaper {
     ///
     /// - `AsRefused`, `StopsAt`, `masks_ask`: `crates/rustybuzz_shapers/specs/Checked.antt`
     /// - `MasksSet`: `crates/rustybuzz_shapers/specs/Hooks.antt`
-    /// - `outcome`: `crates/rustybuzz_shapers/specs/Outcomes.antt`
     /// - `has_hook`: `crates/rustybuzz_shapers/specs/Standing.antt`
     /// - `OnlyFlagsAdded`: `crates/shapers_clusters/specs/FlagLaw.antt`
     ///
@@ -136,7 +133,7 @@ impl Shaper {
         face: &F,
         tables: &T,
         buffer: &mut Buffer,
-    ) -> Result<HookOutcome, CallError> {
+    ) -> Result<Option<()>, CallError> {
         self.check_masks(plan, buffer)?;
         Ok(self.setup_masks(plan, face, tables, buffer))
     }
@@ -154,7 +151,7 @@ impl Shaper {
     /// ```text
     /// ensures conditions { StopsAt (marks_ask self start end buffer.old) result }
     /// ensures answer { let there = has_hook self ReorderMarks in
-    ///     IfOk result (λ answer. answer ≡ outcome there) }
+    ///     IfOk result (λ answer. is_some answer ≡ there) }
     /// ensures marks { OnOk result (MarksReordered self start end buffer.old buffer.new) }
     /// ensures laws { OnOk result (MarksKeep self start end buffer.old buffer.new) }
     /// ensures refusal { AsRefused IsOk result }
@@ -163,7 +160,6 @@ impl Shaper {
     ///
     /// - `AsRefused`, `StopsAt`, `marks_ask`: `crates/rustybuzz_shapers/specs/Checked.antt`
     /// - `MarksKeep`, `MarksReordered`: `crates/rustybuzz_shapers/specs/Hooks.antt`
-    /// - `outcome`: `crates/rustybuzz_shapers/specs/Outcomes.antt`
     /// - `has_hook`: `crates/rustybuzz_shapers/specs/Standing.antt`
     ///
     /// </details>
@@ -176,7 +172,7 @@ impl Shaper {
         buffer: &mut Buffer,
         start: usize,
         end: usize,
-    ) -> Result<HookOutcome, CallError> {
+    ) -> Result<Option<()>, CallError> {
         self.check_marks(buffer, start, end)?;
         Ok(self.reorder_marks(plan, buffer, start, end))
     }
@@ -196,7 +192,7 @@ impl Shaper {
     /// ```text
     /// ensures conditions { StopsAt (postprocess_asks self plan.now buffer.old) result }
     /// ensures answer { let there = has_hook self PostprocessGlyphs in
-    ///     IfOk result (λ answer. answer ≡ outcome there) }
+    ///     IfOk result (λ answer. is_some answer ≡ there) }
     /// ensures ok { let font = F.font face.now in
     ///     OnOk result (Postprocessed self plan.now font buffer.old buffer.new) }
     /// ensures laws { let font = F.font face.now in
@@ -210,7 +206,6 @@ impl Shaper {
     ///
     /// - `AsRefused`, `StopsAt`, `postprocess_asks`: `crates/rustybuzz_shapers/specs/Checked.antt`
     /// - `PostprocessKeeps`, `Postprocessed`, `RefusesPostprocess`: `crates/rustybuzz_shapers/specs/Hooks.antt`
-    /// - `outcome`: `crates/rustybuzz_shapers/specs/Outcomes.antt`
     /// - `has_hook`: `crates/rustybuzz_shapers/specs/Standing.antt`
     /// - `glyphs_added`: `crates/rustybuzz_shapers/specs/Stretched.antt`
     ///
@@ -223,7 +218,7 @@ impl Shaper {
         plan: &Plan,
         face: &F,
         buffer: &mut Buffer,
-    ) -> Result<HookOutcome, CallError> {
+    ) -> Result<Option<()>, CallError> {
         self.check_postprocess(plan, buffer)?;
         Ok(self.postprocess_glyphs(plan, face, buffer)?)
     }

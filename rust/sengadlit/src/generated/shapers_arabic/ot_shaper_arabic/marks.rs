@@ -108,8 +108,8 @@ fn may_have_modifier(marks: &[GlyphInfo]) -> bool {
     marks.iter().any(may_modify)
 }
 
-// Whether the mark may modify a letter: by its class, if it has one, and by where its character
-// stands. (Few marks may, and it is faster to ask this of all marks first.)
+// Whether the mark may modify a letter: by its class, if its category has one, and by where its
+// character stands. (Few marks may, and it is faster to ask this of all marks first.)
 #[inline]
 fn may_modify(mark: &GlyphInfo) -> bool {
     matches!(mark.unicode_props.high_byte(), BELOW | ABOVE) && is_among_modifiers(mark.glyph_id)

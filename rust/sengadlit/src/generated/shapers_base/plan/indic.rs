@@ -52,6 +52,17 @@ pub enum BaseSearch {
     AllConsonants,
 }
 
+/// Where the questions to the font leave out rules that need context around the glyphs. For Malayalam
+/// they never do.
+#[derive(Clone, Copy, Debug, PartialEq, Eq, Default, Hash)]
+pub enum ZeroContext {
+    /// In fonts of the older specification, as in rustybuzz 0.20.1.
+    #[default]
+    OldSpec,
+    /// In fonts of the newer specification, as in HarfBuzz.
+    NewSpec,
+}
+
 /// The properties of one script that the rules depend on.
 #[derive(Clone, Copy, Debug, PartialEq, Eq, Hash)]
 pub struct IndicConfig {

@@ -211,4 +211,23 @@ impl GeneralCategory {
     pub fn is_mark(self) -> bool {
         matches!(self, Self::Mc | Self::Me | Self::Mn)
     }
+
+    /// Whether a character of this category has a combining class: any but Cf and Zs, of which that
+    /// byte says which joiner or which kind of space it is.
+    ///
+    /// <details><summary>Contract</summary>
+    ///
+    /// # Contract
+    ///
+    /// ```text
+    /// ensures { result ≡ has_class self }
+    /// ```
+    ///
+    /// - `has_class`: `crates/shapers_buffer/specs/Category.antt`
+    ///
+    /// </details>
+    #[inline]
+    pub fn has_class(self) -> bool {
+        !matches!(self, Self::Cf | Self::Zs)
+    }
 }

@@ -11,9 +11,9 @@ use super::{Buffer, BufferClusterLevel};
 /// place behind them, and their cluster.
 #[derive(Clone, Copy, Debug, PartialEq, Eq)]
 pub struct ClusterRun {
-    start: usize,
-    end: usize,
-    cluster: u32,
+    pub(super) start: usize,
+    pub(super) end: usize,
+    pub(super) cluster: u32,
 }
 
 impl ClusterRun {
@@ -54,7 +54,7 @@ impl Buffer {
     ///
     /// </details>
     #[inline]
-    pub fn merge_run(&mut self, run: ClusterRun, s: usize, e: usize) -> ClusterRun {
+    pub(crate) fn merge_run(&mut self, run: ClusterRun, s: usize, e: usize) -> ClusterRun {
         merge_run_in(self.cluster_level, &mut self.info, run, s, e)
     }
 
@@ -77,7 +77,7 @@ impl Buffer {
     ///
     /// </details>
     #[inline]
-    pub fn write_run(&mut self, run: ClusterRun) {
+    pub(crate) fn write_run(&mut self, run: ClusterRun) {
         write_run_in(&mut self.info, run);
     }
 }

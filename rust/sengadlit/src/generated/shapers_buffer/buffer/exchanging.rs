@@ -82,7 +82,12 @@ impl Buffer {
         if glyphs.len() > self.max_len {
             return Err(ShaperError::TooLong);
         }
-        make_room(&mut self.places, &mut self.spare, glyphs.len())?;
+        make_room(
+            &mut self.places,
+            &mut self.spare,
+            &mut self.group_room,
+            glyphs.len(),
+        )?;
         self.pos.clear();
         mem::swap(&mut self.info, glyphs);
         Ok(())
@@ -107,6 +112,7 @@ impl Buffer {
     ///
     /// </details>
     #[inline]
+    #[must_use]
     pub fn exchange_positions(&mut self, positions: &mut Vec<GlyphPosition>) -> bool {
         let fits = positions.is_empty() || positions.len() == self.info.len();
         if fits {
@@ -115,8 +121,9 @@ impl Buffer {
         fits
     }
 
-    /// Exchanges the buffer's text for another: its glyphs, its positions (none, or one per glyph)
-    /// and its settings. Refuses by the number of glyphs, and then all is as it was.
+    /// Exchanges the buffer's text for another: its glyphs, its positions and its settings. Positions
+    /// that are not one per glyph are dropped. Refuses by the number of glyphs, and then all is as
+    /// it was.
     ///
     /// # Errors
     ///
@@ -128,9 +135,8 @@ impl Buffer {
     /// # Contract
     ///
     /// ```text
-    /// requires paired { IsTrue (are_paired positions.old.items glyphs.old.items) }
-    /// ensures ok { OnOk result (self.new ≡
-    ///     with_text glyphs.old.items positions.old.items settings.now self.old) }
+    /// ensures ok { let placed = positions_of_text glyphs.old.items positions.old.items in
+    ///     OnOk result (self.new ≡ with_text glyphs.old.items placed settings.now self.old) }
     /// ensures glyphs_out { OnOk result (glyphs.new.items ≡ self.old.glyphs) }
     /// ensures positions_out { OnOk result (positions.new.items ≡ self.old.positions) }
     /// ensures length { RefusesLength settings.now.max_len (length glyphs.old.items) result }
@@ -140,7 +146,7 @@ impl Buffer {
     /// ```
     ///
     /// - `RefusesLength`: `crates/shapers_buffer/specs/Refusals.antt`
-    /// - `are_paired`, `with_text`: `crates/shapers_buffer/specs/Settings.antt`
+    /// - `positions_of_text`, `with_text`: `crates/shapers_buffer/specs/Settings.antt`
     ///
     /// </details>
     ///
@@ -148,7 +154,7 @@ impl Buffer {
     /// [`TooLong`]: crate::ShaperError::TooLong
     /// [`max_len`]: crate::Buffer::max_len
     #[inline]
-    pub fn exchange_text(
+    pub(crate) fn exchange_text(
         &mut self,
         glyphs: &mut Vec<GlyphInfo>,
         positions: &mut Vec<GlyphPosition>,
@@ -157,10 +163,19 @@ impl Buffer {
         if glyphs.len() > settings.max_len {
             return Err(ShaperError::TooLong);
         }
-        make_room(&mut self.places, &mut self.spare, glyphs.len())?;
+        make_room(
+            &mut self.places,
+            &mut self.spare,
+            &mut self.group_room,
+            glyphs.len(),
+        )?;
+        let paired = positions.len() == glyphs.len();
         self.max_len = settings.max_len;
         mem::swap(&mut self.info, glyphs);
         mem::swap(&mut self.pos, positions);
+        if !paired {
+            self.pos.clear();
+        }
         self.set_settings_within(settings);
         Ok(())
     }

@@ -100,6 +100,7 @@ impl Buffer {
     ///
     /// </details>
     #[inline]
+    #[must_use]
     pub fn set_positions(&mut self, positions: Vec<GlyphPosition>) -> bool {
         let fits = positions.is_empty() || positions.len() == self.info.len();
         if fits {

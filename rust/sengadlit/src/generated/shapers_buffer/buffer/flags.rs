@@ -1,6 +1,6 @@
 // Generated from crates/shapers_buffer/src/buffer/flags.rt by rust/erase; edit the source.
 
-use crate::support::bitflags::{Flag, Flags, bitflag_items};
+use crate::support::bitflags::bitflag_items;
 
 /// What the caller wants of the shapers; the numbers are this crate's own.
 #[repr(transparent)]
@@ -19,25 +19,6 @@ const PRODUCE_UNSAFE_TO_CONCAT = 0x40;
         ///
 /// [`SAFE_TO_INSERT_TATWEEL`]: crate::buffer::glyph_flag::SAFE_TO_INSERT_TATWEEL
 const PRODUCE_SAFE_TO_INSERT_TATWEEL = 0x80;
-    }
-}
-
-impl Flags for BufferFlags {
-    type Bits = u32;
-
-    #[inline]
-    fn flags<'a>() -> &'a [Flag<BufferFlags>] {
-        BufferFlags::FLAGS
-    }
-
-    #[inline]
-    fn bits(&self) -> u32 {
-        self.0
-    }
-
-    #[inline]
-    fn from_bits_retain(bits: u32) -> BufferFlags {
-        BufferFlags(bits)
     }
 }
 

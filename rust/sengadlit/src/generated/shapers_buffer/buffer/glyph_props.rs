@@ -3,7 +3,7 @@
 //! What lookups did to a glyph, in the bits in which HarfBuzz keeps it.
 
 use super::bits::set_bit;
-use crate::support::bitflags::{Flag, Flags, bitflag_items};
+use crate::support::bitflags::bitflag_items;
 
 /// What lookups did to the glyph, and its class, a bit for each (HarfBuzz's `glyph_props`). The hooks
 /// neither read nor write the class and the bits without a name. Between normalization and the glyphs
@@ -26,25 +26,6 @@ bitflag_items! {
         const LIGATED = 0x20;
         /// A lookup put the glyph in as one of several for one.
         const MULTIPLIED = 0x40;
-    }
-}
-
-impl Flags for GlyphProps {
-    type Bits = u16;
-
-    #[inline]
-    fn flags<'a>() -> &'a [Flag<GlyphProps>] {
-        GlyphProps::FLAGS
-    }
-
-    #[inline]
-    fn bits(&self) -> u16 {
-        self.0
-    }
-
-    #[inline]
-    fn from_bits_retain(bits: u16) -> GlyphProps {
-        GlyphProps(bits)
     }
 }
 

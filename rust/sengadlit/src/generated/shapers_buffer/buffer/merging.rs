@@ -3,6 +3,7 @@
 //! The merge rule over slices of glyphs.
 
 use super::glyph::GlyphInfo;
+use super::walking::GlyphChange;
 use super::{Buffer, BufferClusterLevel};
 
 impl Buffer {
@@ -111,12 +112,35 @@ pub fn least_cluster(stretch: &[GlyphInfo]) -> u32 {
     least
 }
 
-// Puts a glyph into a cluster; if that is another one, its glyph flags go.
+/// Puts a glyph into a cluster; if that is another one, its glyph flags go.
+///
+/// <details><summary>Contract</summary>
+///
+/// # Contract
+///
+/// ```text
+/// ensures { glyph.new ≡ in_cluster cluster glyph.old }
+/// ```
+///
+/// - `in_cluster`: `crates/shapers_buffer/specs/Clusters.antt`
+///
+/// </details>
 #[inline]
-fn move_to_cluster(glyph: &mut GlyphInfo, cluster: u32) {
+pub fn put_into_cluster(glyph: &mut GlyphInfo, cluster: u32) {
     if glyph.cluster != cluster {
         glyph.cluster = cluster;
         glyph.mask &= !7;
+    }
+}
+
+/// The change that puts each glyph into a cluster, where a change is asked for by its type.
+#[derive(Clone, Copy)]
+pub struct IntoCluster(pub u32);
+
+impl GlyphChange for IntoCluster {
+    #[inline]
+    fn change(&self, glyph: &mut GlyphInfo) {
+        put_into_cluster(glyph, self.0);
     }
 }
 
@@ -124,7 +148,7 @@ fn move_to_cluster(glyph: &mut GlyphInfo, cluster: u32) {
 #[inline]
 pub(super) fn set_cluster(stretch: &mut [GlyphInfo], cluster: u32) {
     for glyph in stretch.iter_mut() {
-        move_to_cluster(glyph, cluster);
+        put_into_cluster(glyph, cluster);
     }
 }
 
@@ -138,7 +162,7 @@ fn flood_after(glyphs: &mut [GlyphInfo], from: u32, to: u32) {
         if glyph.cluster != from {
             break;
         }
-        move_to_cluster(glyph, to);
+        put_into_cluster(glyph, to);
     }
 }
 
@@ -152,6 +176,6 @@ fn flood_before(glyphs: &mut [GlyphInfo], from: u32, to: u32) {
         if glyphs[i].cluster != from {
             break;
         }
-        move_to_cluster(&mut glyphs[i], to);
+        put_into_cluster(&mut glyphs[i], to);
     }
 }

@@ -9,8 +9,8 @@ use crate::support::prelude::*;
 
 use super::Buffer;
 use super::glyph::GlyphInfo;
+use super::group_room::GroupRoom;
 use super::refusal::ShaperError;
-use crate::support::alloc::Global;
 
 /// The old places of the glyphs of one syllable, in the forms that text has.
 #[derive(Clone, Copy, Debug, PartialEq, Eq, Hash)]
@@ -47,7 +47,7 @@ impl Buffer {
     ///
     /// </details>
     #[inline]
-    pub fn place(&self, i: usize) -> usize {
+    pub(crate) fn place(&self, i: usize) -> usize {
         self.places.get(i).copied().unwrap_or(0)
     }
 
@@ -70,7 +70,7 @@ impl Buffer {
     ///
     /// </details>
     #[inline]
-    pub fn set_place(&mut self, i: usize, place: usize) {
+    pub(crate) fn set_place(&mut self, i: usize, place: usize) {
         // the slice panics before room is taken for a place beyond the buffer
         open_places(&mut self.places, self.info[..i + 1].len());
         self.places[i] = place;
@@ -88,7 +88,7 @@ impl Buffer {
     ///
     /// </details>
     #[inline]
-    pub fn clear_places(&mut self) {
+    pub(crate) fn clear_places(&mut self) {
         self.places.clear();
     }
 
@@ -115,7 +115,7 @@ impl Buffer {
     ///
     /// </details>
     #[inline]
-    pub fn apply(&mut self, start: usize, end: usize, placement: Placement) {
+    pub(crate) fn apply(&mut self, start: usize, end: usize, placement: Placement) {
         match placement {
             Placement::Stays => {}
             Placement::Forward { to, from, count } => self.bring_forward(to, from, count),
@@ -126,7 +126,7 @@ impl Buffer {
     // Brings the `count` glyphs from place `from` on to the place `to`.
     #[inline]
     fn bring_forward(&mut self, to: usize, from: usize, count: usize) {
-        turn(&mut self.info[to..from + count], count);
+        bring_forward_in(&mut self.info, to, from, count);
     }
 
     // Gives each place from `start` to `end` the glyph of the place listed for it.
@@ -136,6 +136,12 @@ impl Buffer {
         open_spare(&mut self.spare, end - start);
         reorder(&mut self.info, &self.places, &mut self.spare, start, end);
     }
+}
+
+// The same in a list of glyphs.
+#[inline]
+fn bring_forward_in(glyphs: &mut [GlyphInfo], to: usize, from: usize, count: usize) {
+    turn(&mut glyphs[to..from + count], count);
 }
 
 // How many glyphs are moved one by one past others. Stretches are short, so neighbours are swapped:
@@ -226,20 +232,23 @@ fn open_places(places: &mut Vec<usize>, n: usize) {
 
 // Opens the first `n` glyphs of the room that is there.
 #[inline]
-fn open_spare(spare: &mut Vec<GlyphInfo>, n: usize) {
+pub(super) fn open_spare(spare: &mut Vec<GlyphInfo>, n: usize) {
     if spare.len() < n {
         spare.resize(n, GlyphInfo::DEFAULT).unwrap();
     }
 }
 
-// Makes room for `n` places and glyphs, and writes nothing there.
+// Makes room for `n` places, glyphs and groups, and writes nothing there. The places come last: where
+// they have room, so have the groups.
 #[inline]
 pub(super) fn make_room(
     places: &mut Vec<usize>,
     spare: &mut Vec<GlyphInfo>,
+    room: &mut GroupRoom,
     n: usize,
 ) -> Result<(), ShaperError> {
     if places.capacity() < n {
+        room.enlarge(n)?;
         enlarge(places, n)?;
     }
     if spare.capacity() < n {
@@ -251,7 +260,7 @@ pub(super) fn make_room(
 // Makes room for `n` items. An empty list takes new room, since making the old one larger copies
 // all of it.
 #[inline]
-fn enlarge<T: Copy>(list: &mut Vec<T>, n: usize) -> Result<(), ShaperError> {
+pub(super) fn enlarge<T: Copy>(list: &mut Vec<T>, n: usize) -> Result<(), ShaperError> {
     if list.is_empty() {
         let mut larger = Vec::new(*list.allocator());
         larger.reserve(n.max(list.capacity().saturating_mul(2)))?;
@@ -260,16 +269,4 @@ fn enlarge<T: Copy>(list: &mut Vec<T>, n: usize) -> Result<(), ShaperError> {
         list.reserve(n - list.len())?;
     }
     Ok(())
-}
-
-// These places, with room for `n`.
-#[inline]
-pub(super) fn copy_places(
-    alloc: Global,
-    places: &[usize],
-    n: usize,
-) -> Result<Vec<usize>, ShaperError> {
-    let mut copy = Vec::with_capacity(alloc, n.max(places.len()))?;
-    copy.extend_from_slice(places)?;
-    Ok(copy)
 }

@@ -2,7 +2,7 @@
 
 use crate::support::alloc::AllocError;
 
-/// Why a call refused. After a refusal what it was given is unchanged.
+/// Why a call refused. After a refusal what it was given is unchanged. Its text is the name alone.
 #[non_exhaustive]
 #[derive(Clone, Copy, Debug, PartialEq, Eq, Hash)]
 pub enum ShaperError {

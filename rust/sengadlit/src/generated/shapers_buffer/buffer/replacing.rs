@@ -31,8 +31,8 @@ pub trait GlyphRewriting {
 }
 
 impl Buffer {
-    /// Rewrites the text, which has no positions, to `len` glyphs. Refuses by their number, before
-    /// anything changes.
+    /// Rewrites the text to `len` glyphs; the buffer has no positions afterwards. Refuses by their
+    /// number, before anything changes.
     ///
     /// # Errors
     ///
@@ -47,11 +47,12 @@ impl Buffer {
     /// # Contract
     ///
     /// ```text
-    /// requires unplaced { self.old.positions ≡ [] }
     /// requires can { R.can_rewrite rewriting.now self.old.glyphs }
     /// requires length { length (R.rewrites rewriting.now self.old.glyphs) ≡ len }
-    /// ensures ok { OnOk result (self.new ≡
-    ///     record self.old { glyphs = R.rewrites rewriting.now self.old.glyphs }) }
+    /// ensures ok { OnOk result (self.new ≡ record self.old {
+    ///   glyphs = R.rewrites rewriting.now self.old.glyphs;
+    ///   positions = [];
+    /// }) }
     /// ensures length { RefusesLength self.old.max_len len result }
     /// ensures err { OnErr result (self.new ≡ self.old) }
     /// ```
@@ -71,9 +72,10 @@ impl Buffer {
         if len > self.max_len {
             return Err(ShaperError::TooLong);
         }
-        make_room(&mut self.places, &mut self.spare, len)?;
+        make_room(&mut self.places, &mut self.spare, &mut self.group_room, len)?;
         self.info.reserve(len.saturating_sub(self.info.len()))?;
         self.spare.clear();
+        self.pos.clear();
         rewriting.rewrite(&mut self.info, &mut self.spare);
         // (in plain Rust a caller's rewriting may write more than it should)
         self.spare.truncate(len);
@@ -81,7 +83,8 @@ impl Buffer {
         Ok(())
     }
 
-    /// Puts these glyphs in the place of the buffer's, which has no positions. Refuses by their
+    /// Puts these glyphs in the place of the buffer's, which has no positions afterwards, and keeps
+    /// the list that they replace as room for [`take_list`](Self::take_list). Refuses by their
     /// number, whatever the buffer held.
     ///
     /// # Errors
@@ -93,8 +96,8 @@ impl Buffer {
     /// # Contract
     ///
     /// ```text
-    /// requires { self.old.positions ≡ [] }
-    /// ensures ok { OnOk result (self.new ≡ record self.old { glyphs = glyphs.items }) }
+    /// ensures ok { OnOk result (self.new ≡
+    ///     record self.old { glyphs = glyphs.items; positions = [] }) }
     /// ensures length { RefusesLength self.old.max_len (length glyphs.items) result }
     /// ensures err { OnErr result (self.new ≡ self.old) }
     /// ```
@@ -110,8 +113,14 @@ impl Buffer {
         if glyphs.len() > self.max_len {
             return Err(ShaperError::TooLong);
         }
-        make_room(&mut self.places, &mut self.spare, glyphs.len())?;
-        self.info = glyphs;
+        make_room(
+            &mut self.places,
+            &mut self.spare,
+            &mut self.group_room,
+            glyphs.len(),
+        )?;
+        self.rooms.list = mem::replace(&mut self.info, glyphs);
+        self.pos.clear();
         Ok(())
     }
 
@@ -135,7 +144,7 @@ impl Buffer {
     ///
     /// </details>
     #[inline]
-    pub fn copy_glyph(&mut self, from: usize, to: usize) {
+    pub(crate) fn copy_glyph(&mut self, from: usize, to: usize) {
         self.info[to] = self.info[from];
         if !self.pos.is_empty() {
             self.pos[to] = self.pos[from];

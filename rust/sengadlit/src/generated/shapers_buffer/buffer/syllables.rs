@@ -39,7 +39,7 @@ impl Buffer {
     ///
     /// </details>
     #[inline]
-    pub fn next_syllable(&self, s: usize) -> usize {
+    pub(crate) fn next_syllable(&self, s: usize) -> usize {
         s + first_syllable_len(&self.info[s..])
     }
 
@@ -57,7 +57,7 @@ impl Buffer {
     ///
     /// </details>
     #[inline]
-    pub fn unknown_syllable(&self, last_kind: u8) -> Option<usize> {
+    pub(crate) fn unknown_syllable(&self, last_kind: u8) -> Option<usize> {
         first_above(&self.info, last_kind)
     }
 
@@ -92,7 +92,7 @@ impl Buffer {
     ///
     /// [`SpansDontCover`]: crate::ShaperError::SpansDontCover
     #[inline]
-    pub fn set_spans(&mut self, spans: &[Span], broken_kind: u8) -> Result<(), ShaperError> {
+    pub(crate) fn set_spans(&mut self, spans: &[Span], broken_kind: u8) -> Result<(), ShaperError> {
         if !spans_cover(self.info.len(), spans) {
             return Err(ShaperError::SpansDontCover);
         }

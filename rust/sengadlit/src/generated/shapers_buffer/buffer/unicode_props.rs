@@ -4,10 +4,10 @@
 
 use super::bits::set_bit;
 use super::category::GeneralCategory;
-use crate::support::bitflags::{Flag, Flags, bitflag_items};
+use crate::support::bitflags::bitflag_items;
 
 /// What the glyph's character is (HarfBuzz's `unicode_props`): its general category in the low five
-/// bits, three bits of their own, and in the high byte the canonical combining class of a mark.
+/// bits, three bits of their own, and in the high byte the canonical combining class.
 #[repr(transparent)]
 #[derive(Clone, Copy, PartialEq, Eq, Hash)]
 pub struct UnicodeProps(pub u16);
@@ -20,25 +20,6 @@ bitflag_items! {
         const HIDDEN = 0x40;
         /// The character carries on the grapheme of the one before it.
         const CONTINUATION = 0x80;
-    }
-}
-
-impl Flags for UnicodeProps {
-    type Bits = u16;
-
-    #[inline]
-    fn flags<'a>() -> &'a [Flag<UnicodeProps>] {
-        UnicodeProps::FLAGS
-    }
-
-    #[inline]
-    fn bits(&self) -> u16 {
-        self.0
-    }
-
-    #[inline]
-    fn from_bits_retain(bits: u16) -> UnicodeProps {
-        UnicodeProps(bits)
     }
 }
 
@@ -83,7 +64,7 @@ impl UnicodeProps {
         GeneralCategory::from_number_or_unassigned((self.0 % 32) as u8)
     }
 
-    /// The high byte: a mark's class, which joiner a format character is, a space's kind.
+    /// The high byte: the combining class, which joiner a format character is, a space's kind.
     ///
     /// <details><summary>Contract</summary>
     ///
@@ -102,7 +83,7 @@ impl UnicodeProps {
     }
 
     /// The canonical combining class, as HarfBuzz renumbers it (`modified_combining_class`): 0
-    /// unless the character is a mark.
+    /// where the category is Cf or Zs, which have none.
     ///
     /// <details><summary>Contract</summary>
     ///
@@ -117,7 +98,7 @@ impl UnicodeProps {
     /// </details>
     #[inline]
     pub fn modified_combining_class(self) -> u8 {
-        if self.general_category().is_mark() {
+        if self.general_category().has_class() {
             self.high_byte()
         } else {
             0
@@ -178,7 +159,8 @@ impl UnicodeProps {
         self.contains(UnicodeProps::CONTINUATION)
     }
 
-    /// Sets the category; the high byte is 0 then.
+    /// Sets the category. The combining class stays; where the old category or the new one is Cf or
+    /// Zs, which have none, the high byte is 0 then.
     ///
     /// <details><summary>Contract</summary>
     ///
@@ -193,7 +175,13 @@ impl UnicodeProps {
     /// </details>
     #[inline]
     pub fn set_general_category(&mut self, category: GeneralCategory) {
-        self.0 = self.0 / 32 % 8 * 32 + u16::from(category.number());
+        let class = if category.has_class() {
+            self.modified_combining_class()
+        } else {
+            0
+        };
+        let bits = self.0 / 32 % 8 * 32 + u16::from(category.number());
+        self.0 = bits + 256 * u16::from(class);
     }
 
     /// Sets the high byte.
@@ -214,7 +202,7 @@ impl UnicodeProps {
         self.0 = self.0 & 0xFF | u16::from(byte) << 8;
     }
 
-    /// Sets a mark's class; of another character nothing changes.
+    /// Sets the combining class; where the category is Cf or Zs, which have none, nothing changes.
     ///
     /// <details><summary>Contract</summary>
     ///
@@ -229,7 +217,7 @@ impl UnicodeProps {
     /// </details>
     #[inline]
     pub fn set_modified_combining_class(&mut self, class: u8) {
-        if self.general_category().is_mark() {
+        if self.general_category().has_class() {
             self.set_high_byte(class);
         }
     }

@@ -2,8 +2,11 @@
 
 //! Changes and walks of the glyphs in place, over the slice that the buffer keeps them in.
 
+use crate::support::prelude::*;
+
 use super::Buffer;
 use super::glyph::{GlyphInfo, GlyphPosition};
+use core::mem;
 
 /// A change of one glyph, which looks at nothing else.
 pub trait GlyphChange {
@@ -77,8 +80,106 @@ impl Buffer {
     ///
     /// </details>
     #[inline]
-    pub fn change_each<C: GlyphChange>(&mut self, s: usize, e: usize, change: &C) {
+    pub(crate) fn change_each<C: GlyphChange>(&mut self, s: usize, e: usize, change: &C) {
         change_each_in(&mut self.info[s..e], change);
+    }
+
+    /// Changes each glyph from `s` to `e` by a closure. It takes no memory.
+    ///
+    /// # Panics
+    ///
+    /// Where `s` is above `e`, or `e` above the length.
+    ///
+    /// <details><summary>Contract</summary>
+    ///
+    /// # Contract
+    ///
+    /// ```text
+    /// requires in_order { s ≤ e }
+    /// requires in_range { e ≤ length self.old.glyphs }
+    /// requires callable { F.IsAlwaysCallable change }
+    /// ensures { (f : Glyph → Glyph) → ChangesAs F.Fn change f → self.new ≡ record self.old {
+    ///   glyphs = with_stretch s e (map f) self.old.glyphs;
+    /// } }
+    /// ```
+    ///
+    /// - `ChangesAs`: `crates/shapers_buffer/specs/Changes.antt`
+    /// - `with_stretch`: `crates/shapers_buffer/specs/Clusters.antt`
+    /// - `Glyph`: `crates/shapers_buffer/specs/Glyphs.antt`
+    ///
+    /// </details>
+    #[inline]
+    pub fn change_each_by<F: Fn(&mut GlyphInfo)>(&mut self, s: usize, e: usize, change: F) {
+        change_each_by_in(&mut self.info[s..e], change);
+    }
+
+    /// Changes each glyph by a closure. It takes no memory.
+    ///
+    /// <details><summary>Contract</summary>
+    ///
+    /// # Contract
+    ///
+    /// ```text
+    /// requires callable { F.IsAlwaysCallable change }
+    /// ensures { (f : Glyph → Glyph) → ChangesAs F.Fn change f
+    ///     → self.new ≡ record self.old { glyphs = map f self.old.glyphs } }
+    /// ```
+    ///
+    /// - `ChangesAs`: `crates/shapers_buffer/specs/Changes.antt`
+    /// - `Glyph`: `crates/shapers_buffer/specs/Glyphs.antt`
+    ///
+    /// </details>
+    #[inline]
+    pub fn change_all_by<F: Fn(&mut GlyphInfo)>(&mut self, change: F) {
+        change_each_by_in(&mut self.info, change);
+    }
+
+    /// Changes each glyph, while the text is out of the buffer: a change that panics leaves the buffer
+    /// empty, and no text of which some glyphs have changed. It takes no memory.
+    ///
+    /// <details><summary>Contract</summary>
+    ///
+    /// # Contract
+    ///
+    /// ```text
+    /// ensures { self.new ≡
+    ///     record self.old { glyphs = map (C.changed change.now) self.old.glyphs } }
+    /// ```
+    ///
+    /// </details>
+    #[inline]
+    pub(crate) fn change_outside<C: GlyphChange>(&mut self, change: &C) {
+        let alloc = self.alloc();
+        let mut glyphs = mem::replace(&mut self.info, Vec::new(alloc));
+        let positions = mem::replace(&mut self.pos, Vec::new(alloc));
+        change_each_in(&mut glyphs, change);
+        self.info = glyphs;
+        self.pos = positions;
+    }
+
+    /// Walks over all glyphs, while the text is out of the buffer: a walk that panics leaves the buffer
+    /// empty, and no text that it went over in part. It takes no memory.
+    ///
+    /// <details><summary>Contract</summary>
+    ///
+    /// # Contract
+    ///
+    /// ```text
+    /// requires { W.can_walk walk.old self.old.glyphs }
+    /// ensures walked { W.walks walk.old walk.new self.old.glyphs self.new.glyphs }
+    /// ensures same_length { length self.new.glyphs ≡ length self.old.glyphs }
+    /// ensures others { self.new ≡ record self.old { glyphs = self.new.glyphs } }
+    /// ```
+    ///
+    /// </details>
+    #[inline]
+    pub(crate) fn walk_outside<W: GlyphWalk>(&mut self, walk: &mut W) {
+        let alloc = self.alloc();
+        let mut glyphs = mem::replace(&mut self.info, Vec::new(alloc));
+        let positions = mem::replace(&mut self.pos, Vec::new(alloc));
+        walk.walk(&mut glyphs);
+        self.info = glyphs;
+        self.pos = positions;
     }
 
     /// Walks over all glyphs. It takes no memory.
@@ -100,7 +201,7 @@ impl Buffer {
     ///
     /// </details>
     #[inline]
-    pub fn walk<W: GlyphWalk>(&mut self, walk: &mut W) {
+    pub(crate) fn walk<W: GlyphWalk>(&mut self, walk: &mut W) {
         walk.walk(&mut self.info);
     }
 
@@ -116,7 +217,7 @@ impl Buffer {
     /// # Contract
     ///
     /// ```text
-    /// requires { F.IsAlwaysCallable change }
+    /// requires { FnOnceTakesAtMut F.FnOnce change self.old.glyphs }
     /// ensures changed { let call = FnOnceReturnsAtMut F.FnOnce change in
     ///     call self.old.glyphs result self.new.glyphs }
     /// ensures same_length { length self.new.glyphs ≡ length self.old.glyphs }
@@ -141,7 +242,7 @@ impl Buffer {
     /// # Contract
     ///
     /// ```text
-    /// requires { F.IsAlwaysCallable change }
+    /// requires { FnOnceTakesAtMut F.FnOnce change self.old.positions }
     /// ensures changed { let call = FnOnceReturnsAtMut F.FnOnce change in
     ///     call self.old.positions result self.new.positions }
     /// ensures same_length { length self.new.positions ≡ length self.old.positions }
@@ -176,8 +277,36 @@ impl Buffer {
     ///
     /// </details>
     #[inline]
-    pub fn walk_positioned<W: PositionedWalk>(&mut self, walk: &W) {
+    pub(crate) fn walk_positioned<W: PositionedWalk>(&mut self, walk: &W) {
         walk.walk(&mut self.info, &mut self.pos);
+    }
+
+    /// Walks over all glyphs and their positions, while the text is out of the buffer: a walk that
+    /// panics leaves the buffer empty, and no text that it went over in part. It takes no memory.
+    ///
+    /// <details><summary>Contract</summary>
+    ///
+    /// # Contract
+    ///
+    /// ```text
+    /// requires { W.can_walk walk.now self.old.glyphs self.old.positions }
+    /// ensures walked { W.walks walk.now
+    ///     self.old.glyphs self.old.positions self.new.glyphs self.new.positions }
+    /// ensures others { self.new ≡ record self.old {
+    ///   glyphs = self.new.glyphs;
+    ///   positions = self.new.positions;
+    /// } }
+    /// ```
+    ///
+    /// </details>
+    #[inline]
+    pub(crate) fn walk_positioned_outside<W: PositionedWalk>(&mut self, walk: &W) {
+        let alloc = self.alloc();
+        let mut glyphs = mem::replace(&mut self.info, Vec::new(alloc));
+        let mut positions = mem::replace(&mut self.pos, Vec::new(alloc));
+        walk.walk(&mut glyphs, &mut positions);
+        self.info = glyphs;
+        self.pos = positions;
     }
 }
 
@@ -196,5 +325,27 @@ impl Buffer {
 pub fn change_each_in<C: GlyphChange>(glyphs: &mut [GlyphInfo], change: &C) {
     for glyph in glyphs.iter_mut() {
         change.change(glyph);
+    }
+}
+
+/// Changes each of these glyphs by a closure.
+///
+/// <details><summary>Contract</summary>
+///
+/// # Contract
+///
+/// ```text
+/// requires { F.IsAlwaysCallable change }
+/// ensures { (f : Glyph → Glyph) → ChangesAs F.Fn change f → glyphs.new ≡ map f glyphs.old }
+/// ```
+///
+/// - `ChangesAs`: `crates/shapers_buffer/specs/Changes.antt`
+/// - `Glyph`: `crates/shapers_buffer/specs/Glyphs.antt`
+///
+/// </details>
+#[inline]
+pub fn change_each_by_in<F: Fn(&mut GlyphInfo)>(glyphs: &mut [GlyphInfo], change: F) {
+    for glyph in glyphs.iter_mut() {
+        change(glyph);
     }
 }

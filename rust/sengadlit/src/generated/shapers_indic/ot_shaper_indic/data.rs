@@ -7,7 +7,7 @@ use crate::generated::shapers_base::font::{Font, GlyphId};
 use crate::generated::shapers_base::map::{Map, TableIndex};
 use crate::generated::shapers_base::plan::{
     BlwfMode, IndicConfig, IndicPlan, IndicWouldSubstituteFeature, Plan, PlanData, RephMode,
-    RephPosition,
+    RephPosition, ZeroContext,
 };
 use BlwfMode::{PostOnly, PreAndPost};
 use RephMode::{Explicit, Implicit, LogRepha};
@@ -159,28 +159,32 @@ fn masks_of(map: &Map) -> [u32; 17] {
 
 /// What the shaper keeps in the plan: the script's row of the table, whether the font follows the
 /// older specification, among which consonants the base is looked for, its questions to the font,
-/// and the masks of its features. Questions leave contexts out in the older specification, but for
-/// Malayalam. No mask touches a glyph flag bit. It can't refuse and takes no memory.
+/// and the masks of its features. Questions leave contexts out where the plan's `zero_context` says
+/// so. No mask touches a glyph flag bit. It can't refuse and takes no memory.
 ///
 /// <details><summary>Contract</summary>
 ///
 /// # Contract
 ///
 /// ```text
-/// ensures data { let search = plan.now.base_search in
-///     result ≡ Indic (indic_plan search plan.now.script plan.now.ot_map) }
+/// ensures data { let it = plan.now in
+///     result ≡ Indic (indic_plan it.base_search it.zero_context it.script it.ot_map) }
 /// ensures off_flags { AllByRecursion (λ mask. mask % 8 ≡ 0) (masks_kept result) }
 /// ```
 ///
 /// - `masks_kept`: `crates/shapers_base/specs/Masks.antt`
-/// - `indic_plan`: `crates/shapers_indic/specs/Plan.antt`
+/// - `indic_plan`, `zero_context`: `crates/shapers_indic/specs/Plan.antt`
 ///
 /// </details>
 pub fn create_data(plan: &Plan) -> PlanData {
     let map = &plan.ot_map;
     let config = config_of(plan.script);
     let is_old_spec = config.has_old_spec && is_old_script(map.chosen_script(TableIndex::GSUB));
-    let zero_context = is_old_spec && plan.script != Some(MALAYALAM);
+    // (Uniscribe counts rules with context in Malayalam's fonts of both specifications.)
+    let zero_context = match plan.zero_context {
+        ZeroContext::OldSpec => is_old_spec && plan.script != Some(MALAYALAM),
+        ZeroContext::NewSpec => !is_old_spec && plan.script != Some(MALAYALAM),
+    };
     let question = |tag: [u8; 4]| IndicWouldSubstituteFeature::new(map, Tag(tag), zero_context);
     PlanData::Indic(IndicPlan {
         config,

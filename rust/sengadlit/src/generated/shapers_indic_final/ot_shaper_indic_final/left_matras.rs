@@ -7,9 +7,11 @@
 //! move behind it.
 
 use super::matras::is_left;
-use super::moves::move_matra;
-use crate::generated::shapers_base::buffer::{Buffer, BufferClusterLevel, GlyphInfo, Placement};
-use crate::generated::shapers_clusters::into_cluster::IntoCluster;
+use super::moves::{matra_placements, move_matra, write_matra};
+use super::reph::is_moving_reph;
+use crate::generated::shapers_base::buffer::{
+    Arranged, Buffer, BufferClusterLevel, GlyphInfo, IntoCluster, Placement, Placements,
+};
 
 // What merges have put into two clusters, which aren't written yet: where the glyphs before the
 // matras start, up to these, and their cluster; the place behind the glyphs from the matras on, and
@@ -25,48 +27,98 @@ struct Runs {
 // Moves the left matras before place `p` of the syllable from `s` to `e` there, the last one first,
 // and merges each with all up to place `b`.
 #[inline]
-pub(super) fn part_matras(p: usize, b: usize, buffer: &mut Buffer, s: usize, e: usize) {
+pub(super) fn part_matras(
+    p: usize,
+    b: usize,
+    others: bool,
+    buffer: &mut Buffer,
+    s: usize,
+    e: usize,
+) -> Placements {
     for i in (0..p).rev() {
         if is_left(&buffer.glyphs()[s..e][i]) {
-            move_matra(buffer, s, b, i, p);
-            part_further(i, p, b, buffer, s);
-            return;
+            if !others && moves_alone(i, buffer.glyphs(), s) {
+                write_matra(buffer, s, e, b, i, p);
+                return Placements::STAY;
+            }
+            let moves = move_matra(buffer, s, e, b, i, p);
+            return part_further(i, p, b, moves, buffer, s, e);
         }
     }
+    Placements::STAY
 }
 
-// Moves the left matras before place `top` of the syllable from `s` on to the places before `p`,
-// where one stands that has merged with all up to place `b`, and merges each.
+// Whether the left matra of place `i` of the syllable from `s` on moves alone: none stands before it,
+// and what opens the syllable behind it is no reph that moves.
 #[inline]
-fn part_further(top: usize, p: usize, b: usize, buffer: &mut Buffer, s: usize) {
-    if !has_left(&buffer.glyphs()[s..s + top]) {
-        return;
-    }
-    let runs = merged_runs(top, p, b, buffer.glyphs(), s);
-    let len = len_staying(s, s + top, buffer.glyphs(), runs.start, s + p);
-    let at = move_matras(s + top, buffer, s, s + p);
-    put(buffer, at - len, at, runs.before);
-    put(buffer, at, runs.end, runs.cluster);
+fn moves_alone(i: usize, glyphs: &[GlyphInfo], s: usize) -> bool {
+    let first = if i == 0 { s + 1 } else { s };
+    !any_left(&glyphs[s..s + i]) && !is_moving_reph(&glyphs[first])
 }
 
 // Whether some glyph is a left matra.
 #[inline]
-fn has_left(glyphs: &[GlyphInfo]) -> bool {
+fn any_left(glyphs: &[GlyphInfo]) -> bool {
     glyphs.iter().any(is_left)
+}
+
+// Moves the left matras before place `top` of the syllable from `s` to `e` on to the places before
+// `p`, where one stands that has moved there from `top` and merged with all up to place `b`, and
+// merges each.
+fn part_further(
+    top: usize,
+    p: usize,
+    b: usize,
+    moves: Placements,
+    buffer: &mut Buffer,
+    s: usize,
+    e: usize,
+) -> Placements {
+    if !has_left(s, s + top, &buffer.arranged(&moves, s, e)) {
+        return moves;
+    }
+    let runs = merged_runs(top, p, b, &buffer.arranged(&moves, s, e), s);
+    let len = len_staying(
+        s,
+        s + top,
+        &buffer.arranged(&moves, s, e),
+        runs.start,
+        s + p,
+    );
+    let at = list_matras(top, p, buffer, s, e);
+    let listed = Placements {
+        first: Placement::Listed,
+        second: Placement::Stays,
+        third: Placement::Stays,
+    };
+    put(&listed, buffer, s, e, at - len, at, runs.before);
+    put(&listed, buffer, s, e, at, runs.end, runs.cluster);
+    listed
+}
+
+// Whether some glyph from place `s` to `e` is a left matra.
+#[inline]
+fn has_left(s: usize, e: usize, glyphs: &Arranged) -> bool {
+    for i in s..e {
+        if is_left(&glyphs.get(i)) {
+            return true;
+        }
+    }
+    false
 }
 
 // What the merges of the left matras before place `top` of the syllable from `s` on make, as
 // `part_further`.
 #[inline]
-fn merged_runs(top: usize, p: usize, b: usize, glyphs: &[GlyphInfo], s: usize) -> Runs {
+fn merged_runs(top: usize, p: usize, b: usize, glyphs: &Arranged, s: usize) -> Runs {
     let mut runs = Runs {
         start: s + p - 1,
-        before: glyphs[s + p - 1].cluster,
+        before: glyphs.get(s + p - 1).cluster,
         end: s + b,
-        cluster: glyphs[s + p].cluster,
+        cluster: glyphs.get(s + p).cluster,
     };
     for i in (0..top).rev() {
-        if is_left(&glyphs[s + i]) {
+        if is_left(&glyphs.get(s + i)) {
             runs = with_matra(s + i, s + top, glyphs, runs);
         }
     }
@@ -74,14 +126,14 @@ fn merged_runs(top: usize, p: usize, b: usize, glyphs: &[GlyphInfo], s: usize) -
 }
 
 // The runs after the merge of the left matra at place `i`; those between it and `top` have gone.
-fn with_matra(i: usize, top: usize, glyphs: &[GlyphInfo], runs: Runs) -> Runs {
+fn with_matra(i: usize, top: usize, glyphs: &Arranged, runs: Runs) -> Runs {
     let own = if i < runs.start {
-        glyphs[i].cluster
+        glyphs.get(i).cluster
     } else {
         runs.before
     };
     let cluster = own.min(runs.cluster);
-    let end = runs.end + len_in_front(&glyphs[runs.end..], runs.cluster);
+    let end = runs.end + glyphs.run_behind(runs.end, runs.cluster);
     if own == runs.before {
         let start = reached(i, top, glyphs, runs.start, own);
         Runs {
@@ -99,24 +151,15 @@ fn with_matra(i: usize, top: usize, glyphs: &[GlyphInfo], runs: Runs) -> Runs {
     }
 }
 
-// How many glyphs of a cluster open the list.
-#[inline]
-fn len_in_front(glyphs: &[GlyphInfo], cluster: u32) -> usize {
-    glyphs
-        .iter()
-        .take_while(|glyph| glyph.cluster == cluster)
-        .count()
-}
-
 // Whether a left matra that has gone stood at place `j`: those from `i` on and before `top` have.
 #[inline]
-fn has_gone(i: usize, top: usize, glyphs: &[GlyphInfo], j: usize) -> bool {
-    i <= j && j < top && is_left(&glyphs[j])
+fn has_gone(i: usize, top: usize, glyphs: &Arranged, j: usize) -> bool {
+    i <= j && j < top && is_left(&glyphs.get(j))
 }
 
 // How far to the left glyphs before place `start` are in a cluster, but for matras that have gone.
 #[inline]
-fn reached(i: usize, top: usize, glyphs: &[GlyphInfo], start: usize, cluster: u32) -> usize {
+fn reached(i: usize, top: usize, glyphs: &Arranged, start: usize, cluster: u32) -> usize {
     for j in (0..start).rev() {
         if !is_passed(i, top, glyphs, j, cluster) {
             return j + 1;
@@ -127,13 +170,13 @@ fn reached(i: usize, top: usize, glyphs: &[GlyphInfo], start: usize, cluster: u3
 
 // Whether what stood at place `j` has gone, or is in a cluster.
 #[inline]
-fn is_passed(i: usize, top: usize, glyphs: &[GlyphInfo], j: usize, cluster: u32) -> bool {
-    has_gone(i, top, glyphs, j) || glyphs[j].cluster == cluster
+fn is_passed(i: usize, top: usize, glyphs: &Arranged, j: usize, cluster: u32) -> bool {
+    has_gone(i, top, glyphs, j) || glyphs.get(j).cluster == cluster
 }
 
 // How many glyphs from place `s` to `e` have stayed.
 #[inline]
-fn len_staying(i: usize, top: usize, glyphs: &[GlyphInfo], s: usize, e: usize) -> usize {
+fn len_staying(i: usize, top: usize, glyphs: &Arranged, s: usize, e: usize) -> usize {
     let mut len = 0;
     for j in s..e {
         if !has_gone(i, top, glyphs, j) {
@@ -145,47 +188,59 @@ fn len_staying(i: usize, top: usize, glyphs: &[GlyphInfo], s: usize, e: usize) -
 
 // Whether place `j` is listed: of what has gone, or of what has stayed.
 #[inline]
-fn is_listed(gone: bool, i: usize, top: usize, glyphs: &[GlyphInfo], j: usize) -> bool {
+fn is_listed(gone: bool, i: usize, top: usize, glyphs: &Arranged, j: usize) -> bool {
     has_gone(i, top, glyphs, j) == gone
 }
 
-// Lists the places from `s` to `e` of what has gone, or of what has stayed, from place `at` on.
-// Returns the place behind them.
-#[inline]
+// In the syllable from `s` to `e`, where the glyph of place `i` has gone to `j`, lists where what has
+// gone of the left matras before it, or what has stayed, of the places from `from` to `to` came from,
+// from place `at` on. Returns the place behind them.
 fn list_places(
     gone: bool,
-    top: usize,
+    i: usize,
+    j: usize,
     buffer: &mut Buffer,
     s: usize,
     e: usize,
+    from: usize,
+    to: usize,
     at: usize,
 ) -> usize {
+    let moves = matra_placements(s, i, j);
     let mut at = at;
-    for j in s..e {
-        if is_listed(gone, s, top, buffer.glyphs(), j) {
-            buffer.set_place(at, j);
+    for k in from..to {
+        if is_listed(gone, s, s + i, &buffer.arranged(&moves, s, e), k) {
+            let place = buffer.arranged_place(&moves, s, e, k);
+            buffer.set_place(at, place);
             at += 1;
         }
     }
     at
 }
 
-// Moves the left matras before `top` of the stretch from `s` to `e` behind what stays. Returns the
-// place of the first of them.
-#[inline]
-fn move_matras(top: usize, buffer: &mut Buffer, s: usize, e: usize) -> usize {
-    let at = list_places(false, top, buffer, s, e, s);
-    list_places(true, top, buffer, s, e, at);
-    buffer.apply(s, e, Placement::Listed);
+// In the syllable from `s` to `e`, where the glyph of place `i` has gone to `j`, lists where each
+// comes from if the left matras before it go before it. Returns the place of the first of them.
+fn list_matras(i: usize, j: usize, buffer: &mut Buffer, s: usize, e: usize) -> usize {
+    let at = list_places(false, i, j, buffer, s, e, s, s + j, s);
+    let behind = list_places(true, i, j, buffer, s, e, s, s + j, at);
+    list_places(false, i, j, buffer, s, e, s + j, e, behind);
     at
 }
 
-// Puts the glyphs from `s` to `e` into a cluster, at a level that merges.
-#[inline]
-fn put(buffer: &mut Buffer, s: usize, e: usize, cluster: u32) {
+// Puts the glyphs from `from` to `to` of a text whose syllable from `s` to `e` has moved into a
+// cluster, at a level that merges.
+fn put(
+    moves: &Placements,
+    buffer: &mut Buffer,
+    s: usize,
+    e: usize,
+    from: usize,
+    to: usize,
+    cluster: u32,
+) {
     match buffer.cluster_level() {
         BufferClusterLevel::MonotoneGraphemes | BufferClusterLevel::MonotoneCharacters => {
-            buffer.change_each(s, e, &IntoCluster(cluster));
+            buffer.change_arranged(moves, s, e, from, to, &IntoCluster(cluster));
         }
         BufferClusterLevel::Characters => {}
     }

@@ -9,7 +9,7 @@ use crate::generated::shapers_base::buffer::Buffer;
 use crate::generated::shapers_base::font::Font;
 use crate::generated::shapers_base::plan::Plan;
 use crate::generated::shapers_indic::ot_shaper_indic::indic_in;
-use crate::generated::shapers_syllabic::ot_shaper_syllabic::reorder_syllables;
+use crate::generated::shapers_syllabic::ot_shaper_syllabic::reorder_syllables_by_steps;
 
 /// Reorders each syllable again, now that the basic features formed its glyphs: its base, its left
 /// matras, its reph and a glyph that `pref` formed; and gives a left matra at the start of a word
@@ -48,7 +48,7 @@ pub fn final_reordering<F: Font>(plan: &Plan, face: &F, buffer: &mut Buffer) {
         script: buffer.script(),
     };
     // (this order never refuses)
-    if reorder_syllables(&order, buffer).is_ok() {
+    if reorder_syllables_by_steps(&order, buffer).is_ok() {
         open_words(rules.init, buffer);
     }
 }

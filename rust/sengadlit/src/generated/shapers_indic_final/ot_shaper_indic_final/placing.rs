@@ -1,68 +1,171 @@
 // Generated from crates/shapers_indic_final/src/ot_shaper_indic_final/placing.rt by rust/erase; edit the source.
 
-//! Left matras, the reph and a formed pref glyph of one syllable, each put in its place.
+//! Left matras, the reph and a formed pref glyph of one syllable, each given its place: as three
+//! placements, one after another, since where one goes depends on where those before it went.
 
+use super::glyphs::has_mask;
 use super::left_matras::part_matras;
 use super::matras::{end_of_base, first_left, matra_target, matras_go};
 use super::moves::{move_pref, move_reph};
 use super::pref::{formed_pref, pref_target};
-use super::reph::{base_after_reph, opens_with_reph, reph_target};
-use crate::generated::shapers_base::buffer::{Buffer, Script};
+use super::reph::{base_after_reph, is_moving_reph, opens_with_reph, reph_target};
+use crate::generated::shapers_base::buffer::{
+    Arranged, Buffer, GlyphInfo, Placements, Script, SyllableReading,
+};
 use crate::generated::shapers_base::plan::RephPosition;
 
-// Puts the reph of the syllable from `s` to `e` in its place, and returns where the base is then.
+// Gives the reph of the syllable from `s` to `e`, moved so far, its place, and returns where the base
+// is then.
 #[inline]
 pub(super) fn place_reph(
     position: RephPosition,
     base: usize,
+    moves: &mut Placements,
     buffer: &mut Buffer,
     s: usize,
     e: usize,
 ) -> usize {
-    if !opens_with_reph(&buffer.glyphs()[s..e]) {
+    if !opens(moves, buffer, s, e) {
         return base;
     }
-    let target = reph_target(position, base, &buffer.glyphs()[s..e]);
-    move_reph(buffer, s, target);
-    base_after_reph(base, target)
+    let mut search = RephSearch {
+        position,
+        base,
+        target: None,
+    };
+    buffer.read_arranged(moves, s, e, &mut search);
+    match search.target {
+        None => base,
+        Some(target) => {
+            *moves = move_reph(*moves, buffer, s, e, target);
+            base_after_reph(base, target)
+        }
+    }
 }
 
-// Puts the glyph of the syllable from `s` to `e` that `pref` formed in its place.
+// Whether a reph that moves opens the syllable from `s` to `e`, moved so far.
+#[inline]
+fn opens(moves: &Placements, buffer: &Buffer, s: usize, e: usize) -> bool {
+    if moves.moves_nothing() {
+        return opens_with_reph(&buffer.glyphs()[s..e]);
+    }
+    opens_arranged(&buffer.arranged(moves, s, e), s, e)
+}
+
+// The same of the text so moved.
+#[inline]
+fn opens_arranged(glyphs: &Arranged, s: usize, e: usize) -> bool {
+    e - s >= 2 && is_moving_reph(&glyphs.get(s))
+}
+
+// A look for where the reph goes.
+struct RephSearch {
+    position: RephPosition,
+    base: usize,
+    target: Option<usize>,
+}
+
+impl SyllableReading for RephSearch {
+    #[inline]
+    fn read(&mut self, syllable: &[GlyphInfo]) {
+        self.target = reph_goes(self.position, self.base, syllable);
+    }
+}
+
+// Where the reph of a syllable goes, if one moves.
+#[inline]
+fn reph_goes(position: RephPosition, base: usize, glyphs: &[GlyphInfo]) -> Option<usize> {
+    if opens_with_reph(glyphs) {
+        Some(reph_target(position, base, glyphs))
+    } else {
+        None
+    }
+}
+
+// Gives the glyph of the syllable from `s` to `e`, moved so far, that `pref` formed its place, if one
+// is tried.
 #[inline]
 pub(super) fn place_pref(
+    tries: bool,
     script: Option<Script>,
     pref: u32,
     base: usize,
+    moves: &mut Placements,
     buffer: &mut Buffer,
     s: usize,
     e: usize,
 ) {
-    let formed = formed_pref(pref, base, &buffer.glyphs()[s..e]);
-    if let Some(i) = formed {
-        let target = pref_target(script, base, &buffer.glyphs()[s..e]);
-        move_pref(buffer, s, target, i);
+    if !tries {
+        return;
+    }
+    let mut search = PrefSearch {
+        script,
+        pref,
+        base,
+        places: None,
+    };
+    buffer.read_arranged(moves, s, e, &mut search);
+    if let Some((target, i)) = search.places {
+        *moves = move_pref(*moves, buffer, s, e, target, i);
     }
 }
 
-// Puts the left matras of the syllable from `s` to `e` in their place.
+// A look for a glyph that `pref` formed, and where it goes.
+struct PrefSearch {
+    script: Option<Script>,
+    pref: u32,
+    base: usize,
+    places: Option<(usize, usize)>,
+}
+
+impl SyllableReading for PrefSearch {
+    #[inline]
+    fn read(&mut self, syllable: &[GlyphInfo]) {
+        self.places = pref_goes(self.pref, self.script, self.base, syllable);
+    }
+}
+
+// Where a glyph that `pref` formed goes, and its place.
+#[inline]
+fn pref_goes(
+    pref: u32,
+    script: Option<Script>,
+    base: usize,
+    glyphs: &[GlyphInfo],
+) -> Option<(usize, usize)> {
+    let i = formed_pref(pref, base, glyphs)?;
+    Some((pref_target(script, base, glyphs), i))
+}
+
+// Gives the left matras of the syllable from `s` to `e` their place: written at once, if one moves
+// alone, and behind it nothing but a reph may, since no glyph has a bit of `forming`.
 #[inline]
 pub(super) fn place_matras(
     script: Option<Script>,
     base: usize,
+    forming: u32,
     buffer: &mut Buffer,
     s: usize,
     e: usize,
-) {
+) -> Placements {
     if base == 0 || e - s < 2 {
-        return;
+        return Placements::STAY;
     }
     let end = end_of_base(base, &buffer.glyphs()[s..e]);
     let target = matra_target(script, base, &buffer.glyphs()[s..e]);
     if matras_go(target, &buffer.glyphs()[s..e]) {
-        part_matras(target, end, buffer, s, e);
+        let others = has_any(forming, &buffer.glyphs()[s..e]);
+        part_matras(target, end, others, buffer, s, e)
     } else {
         merge_matras(base, end, buffer, s, e);
+        Placements::STAY
     }
+}
+
+// Whether some glyph has a bit of a mask.
+#[inline]
+fn has_any(bits: u32, glyphs: &[GlyphInfo]) -> bool {
+    glyphs.iter().any(|glyph| has_mask(bits, glyph))
 }
 
 // Merges the syllable from `s` to `e` from its first left matra before the base up to place `b`.

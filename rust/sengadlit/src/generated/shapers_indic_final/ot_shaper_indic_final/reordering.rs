@@ -33,11 +33,22 @@ impl<'a> Reorder for FinalOrder<'a> {
     fn reorder(&self, buffer: &mut Buffer, start: usize, end: usize) -> Result<(), ShaperError> {
         recover_viramas(self.rules.virama, buffer, start, end);
         let based = settle_base(self.rules, self.script, buffer, start, end);
-        place_matras(self.script, based.base, buffer, start, end);
-        let base = place_reph(self.rules.reph_pos, based.base, buffer, start, end);
-        if based.tries_pref {
-            place_pref(self.script, self.rules.pref, base, buffer, start, end);
-        }
+        let (tries, pref) = (based.tries_pref, self.rules.pref);
+        let forming = if tries { pref } else { 0 };
+        let mut moves = place_matras(self.script, based.base, forming, buffer, start, end);
+        let reph_pos = self.rules.reph_pos;
+        let base = place_reph(reph_pos, based.base, &mut moves, buffer, start, end);
+        place_pref(
+            tries,
+            self.script,
+            pref,
+            base,
+            &mut moves,
+            buffer,
+            start,
+            end,
+        );
+        buffer.apply_all(start, end, &moves);
         Ok(())
     }
 }

@@ -17,12 +17,15 @@ use crate::generated::shapers_indic::ot_shaper_indic::glyphs::{is_joiner, is_mat
 #[inline]
 pub(super) fn opens_with_reph(glyphs: &[GlyphInfo]) -> bool {
     match glyphs {
-        [first, _, ..] => {
-            first.auxiliary == POS_RA_TO_BECOME_REPH
-                && (first.category == OT_Repha) != is_formed(first)
-        }
+        [first, _, ..] => is_moving_reph(first),
         _ => false,
     }
+}
+
+// Whether a glyph is a reph that moves.
+#[inline]
+pub(super) fn is_moving_reph(glyph: &GlyphInfo) -> bool {
+    glyph.auxiliary == POS_RA_TO_BECOME_REPH && (glyph.category == OT_Repha) != is_formed(glyph)
 }
 
 // Where the reph goes: behind the first halant before the base, else by the script. A halant that

@@ -22,6 +22,14 @@ pub(super) struct Base {
     pub(super) has_reph: bool,
 }
 
+impl Base {
+    /// None yet.
+    pub(super) const NONE: Base = Base {
+        place: 0,
+        has_reph: false,
+    };
+}
+
 /// Finds the base of a syllable and its reph.
 ///
 /// Ra, H with no other consonant forms no reph (0930 094D): Ra is the base then. With a ZWJ it does

@@ -14,7 +14,9 @@ use crate::generated::shapers_indic::ot_shaper_indic::indic_in;
 use crate::generated::shapers_syllabic::ot_shaper_syllabic::indic_syllable::{
     BROKEN_CLUSTER, NON_INDIC_CLUSTER,
 };
-use crate::generated::shapers_syllabic::ot_shaper_syllabic::{ScriptCircles, reorder_syllables};
+use crate::generated::shapers_syllabic::ot_shaper_syllabic::{
+    ScriptCircles, reorder_syllables_by_steps,
+};
 
 // The dotted circles of Indic scripts.
 const CIRCLES: ScriptCircles = ScriptCircles {
@@ -102,6 +104,6 @@ pub fn initial_reordering<F: Font>(
     };
     update_consonant_positions(&rules, buffer);
     let order = InitialOrder { rules: &rules };
-    reorder_syllables(&order, buffer)?;
+    reorder_syllables_by_steps(&order, buffer)?;
     Ok(circles)
 }

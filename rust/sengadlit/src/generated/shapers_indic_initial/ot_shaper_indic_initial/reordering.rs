@@ -34,8 +34,8 @@ impl<'a, F: Font> Reorder for InitialOrder<'a, F> {
             return Ok(());
         }
         if is_reordered(&buffer.glyphs()[start..end]) {
-            prepare_for_order(self.rules, buffer, start, end);
-            let base = order_syllable(self.rules.plan.is_old_spec, buffer, start, end);
+            let moved = prepare_for_order(self.rules, buffer, start, end);
+            let base = order_syllable(self.rules.plan.is_old_spec, &moved, buffer);
             self.mask_syllable(buffer, base, start, end);
         }
         Ok(())

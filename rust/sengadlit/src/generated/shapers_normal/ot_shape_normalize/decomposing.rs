@@ -17,7 +17,6 @@ use crate::generated::shapers_base::buffer::{
 use crate::generated::shapers_base::font::GlyphId;
 use crate::generated::shapers_base::plan::NormalizationMode;
 use crate::support::arrayvec::ArrayVec;
-use core::mem;
 
 /// How many steps a character comes apart in at most: Unicode's longest canonical decomposition
 /// takes three.
@@ -79,27 +78,17 @@ type Parts = ArrayVec<u32, MAX_PARTS>;
 /// [`TooLong`]: crate::ShaperError::TooLong
 pub fn decompose<C: NormalizeContext>(context: &C, buffer: &mut Buffer) -> Result<(), ShaperError> {
     if is_whole(context, buffer.glyphs()) {
-        change_all(buffer, &Numbering { context });
+        // (a context that panics leaves the empty buffer, and no text with some of its numbers)
+        buffer.change_outside(&Numbering { context });
         return Ok(());
     }
     if stays_together(context, buffer.glyphs()) {
-        change_all(buffer, &Settling { context });
+        buffer.change_outside(&Settling { context });
         return Ok(());
     }
     let len = measure(context, buffer.glyphs(), buffer.max_len())?;
     let level = buffer.cluster_level();
     buffer.rewrite(len, &Decomposing { context, level })
-}
-
-// Changes each glyph where it stands. A context that panics leaves the empty buffer, and no text of
-// which some glyphs have changed.
-#[inline]
-fn change_all<G: GlyphChange>(buffer: &mut Buffer, change: &G) {
-    let empty = Buffer::new(buffer.alloc(), buffer.max_len());
-    let mut text = mem::replace(buffer, empty);
-    let len = text.len();
-    text.change_each(0, len, change);
-    *buffer = text;
 }
 
 // Whether a text gets its glyphs and nothing else: no glyph is a mark, the font has each character,

@@ -11,7 +11,6 @@ use crate::generated::shapers_base::buffer::{
     Buffer, BufferClusterLevel, GlyphInfo, GlyphWalk, ShaperError,
 };
 use crate::generated::shapers_base::plan::NormalizationMode;
-use core::mem;
 
 /// When marks are ordered and composed.
 #[derive(Clone, Copy, Debug, PartialEq, Eq, Default, Hash)]
@@ -71,6 +70,9 @@ pub fn normalize<C: NormalizeContext>(
 ) -> Result<(), ShaperError> {
     let runs = has_rounds(rounds, buffer.glyphs());
     decompose(context, buffer)?;
+    if !runs && !has_joiner(buffer.glyphs()) {
+        return Ok(());
+    }
     let level = buffer.cluster_level();
     let mut later = LaterRounds {
         context,
@@ -79,11 +81,8 @@ pub fn normalize<C: NormalizeContext>(
         len: 0,
     };
     // (a context that panics leaves the empty buffer, and no text with marks half ordered)
-    let empty = Buffer::new(buffer.alloc(), buffer.max_len());
-    let mut text = mem::replace(buffer, empty);
-    text.walk(&mut later);
-    text.truncate(later.len);
-    *buffer = text;
+    buffer.walk_outside(&mut later);
+    buffer.truncate(later.len);
     Ok(())
 }
 
@@ -155,8 +154,17 @@ fn composes(mode: NormalizationMode) -> bool {
     }
 }
 
+// Whether one of these glyphs is a grapheme joiner.
+#[inline]
+fn has_joiner(glyphs: &[GlyphInfo]) -> bool {
+    glyphs.iter().any(|glyph| glyph.glyph_id == GRAPHEME_JOINER)
+}
+
 // Lets lookups pass over the grapheme joiners that kept no marks apart.
 fn show_joiners(glyphs: &mut [GlyphInfo]) {
+    if !has_joiner(glyphs) {
+        return;
+    }
     for i in 1..glyphs.len().max(1) - 1 {
         let (before, behind) = (class(&glyphs[i - 1]), class(&glyphs[i + 1]));
         glyphs[i] = pass_over(before, behind, glyphs[i]);

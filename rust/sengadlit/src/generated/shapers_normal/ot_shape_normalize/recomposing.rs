@@ -7,10 +7,9 @@ use super::context::NormalizeContext;
 use super::properties::set_character;
 use super::sorting::{class, is_mark, merges};
 use crate::generated::shapers_base::buffer::{
-    BufferClusterLevel, GlyphInfo, change_each_in, merge_clusters_in,
+    BufferClusterLevel, GlyphInfo, IntoCluster, change_each_in, merge_clusters_in,
 };
 use crate::generated::shapers_base::font::GlyphId;
-use crate::generated::shapers_clusters::into_cluster::IntoCluster;
 
 /// Composes each starter with the marks behind it that nothing keeps apart from it, as far as the
 /// shaper composes them and the font has the character. A mark that is taken in comes into one

@@ -1,6 +1,6 @@
 // Generated from crates/shapers_plan/src/ot_shape_plan/choices.rt by rust/erase; edit the source.
 
-use crate::generated::shapers_base::plan::{BaseSearch, BreakFlags, StretchStart};
+use crate::generated::shapers_base::plan::{BaseSearch, BreakFlags, StretchStart, ZeroContext};
 
 /// What a caller chooses where a shaper can go more than one way.
 #[derive(Clone, Copy, Debug, PartialEq, Eq, Default, Hash)]
@@ -11,4 +11,6 @@ pub struct ShapeChoices {
     pub break_flags: BreakFlags,
     /// Among which consonants Indic looks for the base of a syllable.
     pub base_search: BaseSearch,
+    /// Where Indic's questions to the font leave out rules that need context.
+    pub zero_context: ZeroContext,
 }

@@ -49,6 +49,7 @@ pub(super) fn hooks_plan(
     plan.stretch_start = choices.stretch_start;
     plan.break_flags = choices.break_flags;
     plan.base_search = choices.base_search;
+    plan.zero_context = choices.zero_context;
     match shaper {
         Some(shaper) => shaper.with_data(plan),
         None => plan,

@@ -5,9 +5,9 @@
 use crate::support::prelude::*;
 
 use super::metrics::{MetricsFont, is_horizontal};
+use super::positions::{PositionChange, change_each_position};
 use crate::generated::shapers_base::buffer::{Buffer, GlyphInfo, GlyphPosition, ShaperError};
 use crate::generated::shapers_base::font::GlyphId;
-use crate::support::alloc::Global;
 
 /// Gives each glyph a position of its own: its advance in the font, no offset, and `var` 0; in
 /// vertical text it is drawn by its origin for that. What positions there were are gone. A font has
@@ -38,25 +38,40 @@ use crate::support::alloc::Global;
 /// [`Memory`]: crate::ShaperError::Memory
 pub fn set_advances<F: MetricsFont>(font: &F, buffer: &mut Buffer) -> Result<(), ShaperError> {
     let is_horizontal = is_horizontal(buffer.direction());
-    let positions = advances(font, is_horizontal, buffer.glyphs(), buffer.alloc())?;
-    buffer.set_positions(positions);
+    let room = buffer.take_position_list();
+    let positions = advances(font, is_horizontal, buffer.glyphs(), room)?;
+    // (one for each glyph, so the buffer takes them)
+    let _ = buffer.set_positions(positions);
     Ok(())
 }
 
-// A position for each of these glyphs.
+// A position for each of these glyphs, in a list that is empty.
 fn advances<F: MetricsFont>(
     font: &F,
     is_horizontal: bool,
     glyphs: &[GlyphInfo],
-    alloc: Global,
+    mut positions: Vec<GlyphPosition>,
 ) -> Result<Vec<GlyphPosition>, ShaperError> {
-    let mut positions = Vec::with_capacity(alloc, glyphs.len())?;
-    for glyph in glyphs {
-        positions
-            .push(advanced(font, is_horizontal, glyph))
-            .map_err(|_| ShaperError::Memory)?;
-    }
+    positions.resize(glyphs.len(), GlyphPosition::ZERO)?;
+    let advancing = Advancing {
+        font,
+        is_horizontal,
+    };
+    change_each_position(&advancing, glyphs, positions.as_mut_slice());
     Ok(positions)
+}
+
+// Gives a glyph the position that it has by itself.
+struct Advancing<'a, F: MetricsFont> {
+    font: &'a F,
+    is_horizontal: bool,
+}
+
+impl<'a, F: MetricsFont> PositionChange for Advancing<'a, F> {
+    #[inline]
+    fn change(&self, glyph: &GlyphInfo, position: &mut GlyphPosition) {
+        *position = advanced(self.font, self.is_horizontal, glyph);
+    }
 }
 
 // The position of a glyph that no lookup has moved.

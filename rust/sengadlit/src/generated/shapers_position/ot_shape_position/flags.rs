@@ -27,8 +27,22 @@ use glyph_flag::{SAFE_TO_INSERT_TATWEEL, UNSAFE_TO_BREAK, UNSAFE_TO_CONCAT};
 ///
 /// [`UNSAFE_TO_CONCAT`]: crate::buffer::glyph_flag::UNSAFE_TO_CONCAT
 pub fn propagate_flags(buffer: &mut Buffer) {
+    if !has_flags(buffer.glyphs()) {
+        return;
+    }
     let flags = buffer.flags();
     buffer.walk(&mut FlagPropagation { flags });
+}
+
+// Whether one of these glyphs has flags.
+#[inline]
+fn has_flags(glyphs: &[GlyphInfo]) -> bool {
+    glyphs.iter().any(is_flagged)
+}
+
+#[inline]
+fn is_flagged(glyph: &GlyphInfo) -> bool {
+    glyph.mask & 7 != 0
 }
 
 // The walk over the clusters of a text.
@@ -83,6 +97,11 @@ fn share_flags_from(wanted: BufferFlags, glyphs: &mut [GlyphInfo], s: usize, e: 
 // Gives the glyphs of a cluster the same flags.
 #[inline]
 fn share_flags(wanted: BufferFlags, cluster: &mut [GlyphInfo]) {
+    if cluster.len() == 1 {
+        let flags = flags_wanted(wanted, cluster[0].mask & 7);
+        put_flags(&mut cluster[0], flags);
+        return;
+    }
     let flags = flags_wanted(wanted, flags_of(cluster));
     set_flags(cluster, flags);
 }

@@ -2,7 +2,7 @@
 
 //! Ignorable glyphs that are drawn by an invisible one, or go.
 
-use super::ignorables::{DefaultIgnorables, is_default_ignorable};
+use super::ignorables::{DefaultIgnorables, has_ignorable, is_default_ignorable};
 use crate::generated::shapers_base::buffer::{
     Buffer, BufferClusterLevel, GlyphChange, GlyphInfo, GlyphPosition, GlyphWalk, PositionedWalk,
     merge_clusters_in,
@@ -35,6 +35,9 @@ pub fn hide_default_ignorables<F: Font>(
     font: &F,
     buffer: &mut Buffer,
 ) {
+    if !has_ignorable(buffer.glyphs()) {
+        return;
+    }
     match ignorables {
         DefaultIgnorables::Hide => match invisible_glyph.or_else(|| font.nominal_glyph(SPACE)) {
             Some(glyph) => draw_by(glyph, buffer),

@@ -53,3 +53,9 @@ impl DefaultIgnorables {
 pub(super) fn is_default_ignorable(glyph: &GlyphInfo) -> bool {
     glyph.unicode_props.is_ignorable() && !glyph.glyph_props.is_substituted()
 }
+
+// Whether a text has such a glyph: what is done to these leaves a text without one as it is.
+#[inline]
+pub(super) fn has_ignorable(glyphs: &[GlyphInfo]) -> bool {
+    glyphs.iter().any(is_default_ignorable)
+}

@@ -10,11 +10,12 @@ pub(super) trait PositionChange {
     fn change(&self, glyph: &GlyphInfo, position: &mut GlyphPosition);
 }
 
-// Changes each position of the buffer.
+// Changes each position of the buffer. A change that panics leaves the empty buffer, and no text with
+// some of its positions changed.
 #[inline]
 pub(super) fn change_positions<C: PositionChange>(change: &C, buffer: &mut Buffer) {
     if buffer.positions_len() > 0 {
-        buffer.walk_positioned(&Changing { change });
+        buffer.walk_positioned_outside(&Changing { change });
     }
 }
 
@@ -32,7 +33,7 @@ impl<'a, C: PositionChange> PositionedWalk for Changing<'a, C> {
 
 // Changes the position of each of these glyphs.
 #[inline]
-fn change_each_position<C: PositionChange>(
+pub(super) fn change_each_position<C: PositionChange>(
     change: &C,
     glyphs: &[GlyphInfo],
     positions: &mut [GlyphPosition],

@@ -5,7 +5,6 @@
 use super::metrics::{MetricsFont, along_line, is_horizontal, line_advance};
 use super::positions::{PositionChange, change_positions};
 use crate::generated::shapers_base::buffer::{Buffer, GeneralCategory, GlyphInfo, GlyphPosition};
-use core::mem;
 
 // The kinds of spaces that are no part of an em, by HarfBuzz's numbers.
 const SPACE_4_EM_18: u8 = 17;
@@ -45,16 +44,15 @@ const STOPS: [u32; 2] = [0x2E, 0x2C];
 ///
 /// </details>
 pub fn set_space_widths<F: MetricsFont>(font: &F, buffer: &mut Buffer) {
+    if !has_space(buffer.glyphs()) {
+        return;
+    }
     let is_horizontal = is_horizontal(buffer.direction());
-    // (a font that panics leaves the empty buffer, and no text with some of its spaces changed)
-    let empty = Buffer::new(buffer.alloc(), buffer.max_len());
-    let mut text = mem::replace(buffer, empty);
     let widths = SpaceWidths {
         font,
         is_horizontal,
     };
-    change_positions(&widths, &mut text);
-    *buffer = text;
+    change_positions(&widths, buffer);
 }
 
 // Gives a space its width.
@@ -76,6 +74,12 @@ impl<'a, F: MetricsFont> PositionChange for SpaceWidths<'a, F> {
             position.y_advance = space_width(self.font, false, kind, position.y_advance);
         }
     }
+}
+
+// Whether one of these glyphs is such a space.
+#[inline]
+fn has_space(glyphs: &[GlyphInfo]) -> bool {
+    glyphs.iter().any(is_space_glyph)
 }
 
 // Whether a glyph is a space, and no lookup put it in for several.

@@ -2,11 +2,10 @@
 
 //! Glyphs that don't move the pen.
 
-use super::ignorables::{DefaultIgnorables, is_default_ignorable};
+use super::ignorables::{DefaultIgnorables, has_ignorable, is_default_ignorable};
 use super::metrics::is_horizontal;
 use super::positions::{PositionChange, change_positions};
 use crate::generated::shapers_base::buffer::{Buffer, GlyphInfo, GlyphPosition};
-use core::mem;
 
 /// The classes of glyphs by a font's GDEF, as far as positions read them.
 pub trait GlyphClasses {
@@ -44,15 +43,20 @@ pub trait GlyphClasses {
 ///
 /// </details>
 pub fn zero_mark_widths<C: GlyphClasses>(classes: &C, adjust_offsets: bool, buffer: &mut Buffer) {
-    // (classes that panic leave the empty buffer, and no text with some of its marks changed)
-    let empty = Buffer::new(buffer.alloc(), buffer.max_len());
-    let mut text = mem::replace(buffer, empty);
+    if !has_mark(classes, buffer.glyphs()) {
+        return;
+    }
     let change = ZeroMarks {
         classes,
         adjust_offsets,
     };
-    change_positions(&change, &mut text);
-    *buffer = text;
+    change_positions(&change, buffer);
+}
+
+// Whether one of these glyphs is a mark.
+#[inline]
+fn has_mark<C: GlyphClasses>(classes: &C, glyphs: &[GlyphInfo]) -> bool {
+    glyphs.iter().any(|glyph| classes.is_mark(glyph))
 }
 
 // Takes a mark its advance.
@@ -104,11 +108,11 @@ fn zero_advance(position: &mut GlyphPosition) {
 /// </details>
 pub fn zero_width_default_ignorables(ignorables: DefaultIgnorables, buffer: &mut Buffer) {
     match ignorables {
-        DefaultIgnorables::Hide => {
+        DefaultIgnorables::Hide if has_ignorable(buffer.glyphs()) => {
             let is_horizontal = is_horizontal(buffer.direction());
             change_positions(&ZeroIgnorables { is_horizontal }, buffer);
         }
-        DefaultIgnorables::Preserve | DefaultIgnorables::Remove => {}
+        DefaultIgnorables::Hide | DefaultIgnorables::Preserve | DefaultIgnorables::Remove => {}
     }
 }
 

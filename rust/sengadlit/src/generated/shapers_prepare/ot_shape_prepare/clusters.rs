@@ -23,8 +23,19 @@ use crate::generated::shapers_base::buffer::{
 ///
 /// </details>
 pub fn form_clusters(buffer: &mut Buffer) {
+    if !has_continuation(buffer.glyphs()) {
+        return;
+    }
     let level = buffer.cluster_level();
     buffer.walk(&mut Forming { level });
+}
+
+// Whether a glyph carries on the grapheme before it: else each is one of its own.
+#[inline]
+fn has_continuation(glyphs: &[GlyphInfo]) -> bool {
+    glyphs
+        .iter()
+        .any(|glyph| glyph.unicode_props.is_continuation())
 }
 
 // The walk over the graphemes of a text.

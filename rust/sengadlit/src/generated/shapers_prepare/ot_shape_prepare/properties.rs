@@ -3,8 +3,9 @@
 //! The properties of each character, as its glyph keeps them.
 
 use super::unicode::UnicodeProperties;
-use crate::generated::shapers_base::buffer::{Buffer, GlyphInfo, GlyphWalk, UnicodeProps};
-use core::mem;
+use crate::generated::shapers_base::buffer::{
+    Buffer, GeneralCategory, GlyphInfo, GlyphWalk, UnicodeProps,
+};
 
 // ZWJ, which joins pictographs.
 const ZERO_WIDTH_JOINER: u32 = 0x200D;
@@ -29,10 +30,7 @@ const ZERO_WIDTH_JOINER: u32 = 0x200D;
 /// </details>
 pub fn set_unicode_properties<U: UnicodeProperties>(unicode: &U, buffer: &mut Buffer) {
     // (properties that panic leave the empty buffer, and no text with some of them)
-    let empty = Buffer::new(buffer.alloc(), buffer.max_len());
-    let mut text = mem::replace(buffer, empty);
-    text.walk(&mut PropertyWalk { unicode });
-    *buffer = text;
+    buffer.walk_outside(&mut PropertyWalk { unicode });
 }
 
 // The walk that sets the properties of a text.
@@ -70,6 +68,10 @@ fn set_properties_in<U: UnicodeProperties>(unicode: &U, glyphs: &mut [GlyphInfo]
 // What is open behind a character, where this was open before it.
 #[inline]
 fn then_open(before: Open, c: u32) -> Open {
+    // (most characters have smaller numbers than any that leaves something open)
+    if c < ZERO_WIDTH_JOINER {
+        return Open::Nothing;
+    }
     if c == ZERO_WIDTH_JOINER {
         return Open::Joiner;
     }
@@ -87,15 +89,46 @@ pub(super) fn set_properties<U: UnicodeProperties>(
     glyph: &mut GlyphInfo,
 ) {
     let c = glyph.glyph_id;
+    let goes_on = goes_on_behind(unicode, before, c);
+    glyph.unicode_props = kept_properties(unicode, goes_on, c);
+}
+
+// What a glyph keeps of a character that carries on the grapheme before it if it is a mark or goes on.
+#[inline]
+fn kept_properties<U: UnicodeProperties>(unicode: &U, goes_on: bool, c: u32) -> UnicodeProps {
     let general = unicode.general_category(c);
     let is_mark = c >= 0x80 && general.is_mark();
     let is_ignorable = c >= 0x80 && unicode.is_default_ignorable(c);
-    let continues = is_mark || goes_on_behind(unicode, before, c);
-    let mut props = UnicodeProps::new(general, kept_class(unicode, c, is_mark, is_ignorable));
+    if !is_mark && !is_ignorable {
+        return plain_properties(general, goes_on);
+    }
+    let class = kept_class(unicode, c, is_mark, is_ignorable);
+    let is_hidden = is_ignorable && is_seen_by_lookups(c);
+    properties_with(general, class, is_ignorable, is_mark || goes_on, is_hidden)
+}
+
+// The properties of a category and a class, with these bits on or off.
+#[inline]
+fn properties_with(
+    general: GeneralCategory,
+    class: u8,
+    is_ignorable: bool,
+    continues: bool,
+    is_hidden: bool,
+) -> UnicodeProps {
+    let mut props = UnicodeProps::new(general, class);
     props.set_ignorable(is_ignorable);
     props.set_continuation(continues);
-    props.set_hidden(is_ignorable && is_seen_by_lookups(c));
-    glyph.unicode_props = props;
+    props.set_hidden(is_hidden);
+    props
+}
+
+// The same of a character that is no mark and is always drawn, as most are.
+#[inline]
+fn plain_properties(general: GeneralCategory, continues: bool) -> UnicodeProps {
+    let mut props = UnicodeProps::new(general, 0);
+    props.set_continuation(continues);
+    props
 }
 
 // Whether a character that is no mark carries on the grapheme before it.
@@ -112,6 +145,9 @@ fn goes_on_behind<U: UnicodeProperties>(unicode: &U, before: Open, c: u32) -> bo
 // modifiers of an emoji's skin, tags.
 #[inline]
 fn always_continues(c: u32) -> bool {
+    if c < ZERO_WIDTH_JOINER {
+        return false;
+    }
     matches!(c, ZERO_WIDTH_JOINER | 0xFF9E..=0xFF9F | 0x1F3FB..=0x1F3FF | 0xE0020..=0xE007F)
 }
 

@@ -5,7 +5,6 @@
 use super::unicode::UnicodeProperties;
 use crate::generated::shapers_base::buffer::{Buffer, Direction, GlyphChange, GlyphInfo};
 use crate::generated::shapers_base::font::Font;
-use core::mem;
 
 /// What characters are rotated by: the direction that the caller wants of the text, and of the plan
 /// the mask of the feature that mirrors (`rtlm`) and whether the font has a feature for vertical
@@ -44,18 +43,32 @@ pub fn rotate_chars<U: UnicodeProperties, F: Font>(
     rotation: &CharRotation,
     buffer: &mut Buffer,
 ) {
-    let rotation = *rotation;
+    if !rotates(*rotation) {
+        return;
+    }
+    rotate_each(unicode, face, *rotation, buffer);
+}
+
+// Rotates each character, in a text that runs in such a direction.
+fn rotate_each<U: UnicodeProperties, F: Font>(
+    unicode: &U,
+    face: &F,
+    rotation: CharRotation,
+    buffer: &mut Buffer,
+) {
     let rotating = Rotating {
         unicode,
         face,
         rotation,
     };
     // (a font that panics leaves the empty buffer, and no text with some characters rotated)
-    let empty = Buffer::new(buffer.alloc(), buffer.max_len());
-    let mut text = mem::replace(buffer, empty);
-    let len = text.len();
-    text.change_each(0, len, &rotating);
-    *buffer = text;
+    buffer.change_outside(&rotating);
+}
+
+// Whether a text runs in a direction for which characters are rotated.
+#[inline]
+fn rotates(rotation: CharRotation) -> bool {
+    runs_backward(rotation.direction) || (runs_vertically(rotation.direction) && !rotation.has_vert)
 }
 
 // The change of one glyph.

@@ -72,12 +72,22 @@ fn stretch_marks<F: Font>(
     // (a font that panics leaves the empty buffer, and none that is reversed or half laid)
     let empty = Buffer::new(buffer.alloc(), buffer.max_len());
     let mut text = mem::replace(buffer, empty);
-    let result = match text.direction() {
-        Direction::RightToLeft => stretch_text(face, choice, true, &mut text),
-        _ => stretch_backwards(face, choice, &mut text),
-    };
+    let result = stretch_in_order(face, choice, &mut text);
     *buffer = text;
     result
+}
+
+// Stretches a text that has tiles, in working order: from right to left it stands in it.
+#[inline]
+fn stretch_in_order<F: Font>(
+    face: &F,
+    choice: StretchStart,
+    buffer: &mut Buffer,
+) -> Result<(), ShaperError> {
+    match buffer.direction() {
+        Direction::RightToLeft => stretch_text(face, choice, true, buffer),
+        _ => stretch_backwards(face, choice, buffer),
+    }
 }
 
 // Stretches a text that is in working order backwards.

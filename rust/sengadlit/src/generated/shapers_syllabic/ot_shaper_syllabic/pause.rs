@@ -3,7 +3,7 @@
 //! A reordering pause: dotted circles, and then the order of each syllable.
 
 use super::circles::ScriptCircles;
-use super::reordering::{ReorderBySteps, reorder_syllables};
+use super::reordering::{ReorderBySteps, reorder_syllables_by_steps};
 use crate::generated::shapers_base::buffer::{Buffer, ShaperError};
 use crate::generated::shapers_base::font::Font;
 
@@ -69,7 +69,7 @@ pub fn reorder_pause<F: Font, R: ReorderBySteps>(
         return Err(ShaperError::UnknownSyllable(place));
     }
     let circles = script.insert(face, buffer)?;
-    reorder_syllables(order, buffer)?;
+    reorder_syllables_by_steps(order, buffer)?;
     Ok(circles)
 }
 

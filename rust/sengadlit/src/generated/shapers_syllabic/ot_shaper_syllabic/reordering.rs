@@ -2,10 +2,11 @@
 
 //! Reordering a text syllable by syllable.
 
-use crate::generated::shapers_base::buffer::{Buffer, GlyphInfo, GlyphWalk, ShaperError};
+use crate::generated::shapers_base::buffer::{
+    Buffer, GlyphInfo, GlyphWalk, GroupRoom, ShaperError,
+};
 use crate::generated::shapers_clusters::carried_groups::CarriedGroups;
 use crate::generated::shapers_clusters::floods::floods_again;
-use crate::support::alloc::Global;
 
 /// Which glyphs may change their syllable.
 pub trait MayChange {
@@ -72,6 +73,9 @@ pub trait ReorderBySteps: Reorder {}
 /// after another, and the order's relation leads there, one link a syllable. It refuses where the
 /// order does, and then nothing is said of the buffer.
 ///
+/// It is linear unless merges of many syllables flood what stands before them again and again, as
+/// they may where clusters fall: see [`reorder_syllables_by_steps`].
+///
 /// # Errors
 ///
 /// What the order returns; nothing is said of the buffer then.
@@ -98,20 +102,7 @@ pub trait ReorderBySteps: Reorder {}
 ///
 /// </details>
 #[inline]
-pub fn reorder_syllables<R: ReorderBySteps>(
-    order: &R,
-    buffer: &mut Buffer,
-) -> Result<(), ShaperError> {
-    if floods_again(buffer.glyphs()) {
-        reorder_carrying(order, buffer)
-    } else {
-        reorder_in_turn(order, buffer)
-    }
-}
-
-// Reorders the syllables one after another.
-#[inline]
-fn reorder_in_turn<R: ReorderBySteps>(order: &R, buffer: &mut Buffer) -> Result<(), ShaperError> {
+pub fn reorder_syllables<R: Reorder>(order: &R, buffer: &mut Buffer) -> Result<(), ShaperError> {
     let mut start = 0;
     while let Some(first) = next_changing(order, buffer.glyphs(), start) {
         let end = buffer.next_syllable(first);
@@ -122,15 +113,67 @@ fn reorder_in_turn<R: ReorderBySteps>(order: &R, buffer: &mut Buffer) -> Result<
     Ok(())
 }
 
-// The same in a text whose clusters fall: what merges flood before their syllables is carried along
-// and written once.
+/// Reorders each syllable of the text, as [`reorder_syllables`], by an order whose merges and moves
+/// are known: it is linear whatever the clusters are. It takes no memory but the order's.
+///
+/// # Errors
+///
+/// What the order returns; nothing is said of the buffer then.
+///
+/// # Panics
+///
+/// Where the order does, or takes glyphs out of the buffer.
+///
+/// <details><summary>Contract</summary>
+///
+/// # Contract
+///
+/// ```text
+/// requires without_positions { buffer.old.positions ≡ [] }
+/// requires takes { TakesText (R.takes order.now) buffer.old.glyphs }
+/// ensures ordered { OnOk result
+///     (TextOrdered (R.meaning order.now buffer.old.script) buffer.old buffer.new) }
+/// ensures linked { OnOk result
+///     (SyllablesLinked (R.relation order.now) buffer.old buffer.new) }
+/// ensures refusal { RefusesIf (R.may_refuse order.now) result }
+/// ```
+///
+/// - `RefusesIf`, `SyllablesLinked`, `TakesText`, `TextOrdered`: `crates/shapers_syllabic/specs/Reordering.antt`
+///
+/// </details>
+#[inline]
+pub fn reorder_syllables_by_steps<R: ReorderBySteps>(
+    order: &R,
+    buffer: &mut Buffer,
+) -> Result<(), ShaperError> {
+    if floods_again(buffer.glyphs()) {
+        reorder_carrying(order, buffer)
+    } else {
+        reorder_syllables(order, buffer)
+    }
+}
+
+// Reorders the syllables of a text whose clusters fall: what merges flood before their syllables is
+// carried along and written once, in room that the buffer lends.
 #[inline(never)]
 fn reorder_carrying<R: ReorderBySteps>(order: &R, buffer: &mut Buffer) -> Result<(), ShaperError> {
-    let mut carrying = Carrying::new(buffer.alloc());
+    let mut carrying = Carrying::with_room(buffer.take_group_room());
+    let reordered = reorder_along(order, &mut carrying, buffer);
+    buffer.put_group_room_back(carrying.groups.into_room());
+    reordered
+}
+
+// Reorders the syllables one after another behind what is carried, and writes that.
+#[inline]
+fn reorder_along<R: ReorderBySteps>(
+    order: &R,
+    carrying: &mut Carrying,
+    buffer: &mut Buffer,
+) -> Result<(), ShaperError> {
     let mut start = 0;
     while let Some(first) = next_changing(order, buffer.glyphs(), start) {
         let after = buffer.next_syllable(first);
-        reorder_behind(order, &mut carrying, buffer, first, after)?;
+        reorder_behind(order, carrying, buffer, first, after)?;
         start = after;
     }
     carrying.write(buffer);
@@ -162,11 +205,11 @@ impl GlyphWalk for Carrying {
 }
 
 impl Carrying {
-    // Nothing so far.
+    // Carries nothing.
     #[inline]
-    fn new(alloc: Global) -> Self {
+    fn with_room(room: GroupRoom) -> Self {
         Carrying {
-            groups: CarriedGroups::new(alloc),
+            groups: CarriedGroups::with_room(room),
             is_on: false,
             settles: false,
             count: 0,

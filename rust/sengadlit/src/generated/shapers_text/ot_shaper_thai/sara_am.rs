@@ -14,7 +14,12 @@ fn is_sara_am(u: u32) -> bool {
 
 // An above-base mark of Thai, or of Lao, which stands 0x80 higher.
 fn is_above_base_mark(u: u32) -> bool {
-    matches!(u & !0x80, 0x0E31 | 0x0E34..=0x0E37 | 0x0E3B | 0x0E47..=0x0E4E)
+    // consonants and tone marks first, which most glyphs before a SARA AM are
+    match u & !0x80 {
+        ..0x0E31 => false,
+        0x0E47..=0x0E4E => true,
+        thai => matches!(thai, 0x0E31 | 0x0E34..=0x0E37 | 0x0E3B),
+    }
 }
 
 // The NIKHAHIT of a SARA AM: a mark that its cluster's first glyph carries on.

@@ -1,0 +1,121 @@
+// Generated from crates/opentype_face/src/class_table.rt by rust/erase; edit the source.
+
+//! The classes of glyphs, by a table that is made once.
+
+use crate::support::prelude::*;
+
+use crate::generated::opentype_face::classes::{glyph_props, has_glyph_classes};
+use crate::support::alloc::{AllocError, Global};
+
+/// GDEF, with the classes of the first glyphs beside it.
+#[derive(Clone, Copy, Debug)]
+pub struct ClassTable<'a> {
+    /// GDEF.
+    pub gdef: &'a [u8],
+    props: &'a [u16],
+}
+
+impl<'a> ClassTable<'a> {
+    /// GDEF alone.
+    ///
+    /// <details><summary>Contract</summary>
+    ///
+    /// # Contract
+    ///
+    /// ```text
+    /// ensures { result.gdef.now ≡ gdef.now }
+    /// ```
+    ///
+    /// </details>
+    pub fn of(gdef: &'a [u8]) -> Self {
+        ClassTable { gdef, props: &[] }
+    }
+
+    /// The class of a glyph as lookups keep it, in a font that has classes; without a search where the table has the
+    /// glyph.
+    ///
+    /// <details><summary>Contract</summary>
+    ///
+    /// # Contract
+    ///
+    /// ```text
+    /// ensures { result ≡ props_if_any self.now.gdef.now glyph }
+    /// ```
+    ///
+    /// - `props_if_any`: `crates/opentype_face/specs/ClassTables.antt`
+    ///
+    /// </details>
+    #[inline]
+    pub fn glyph_props(&self, glyph: u16) -> Option<u16> {
+        let at = usize::from(glyph);
+        if at < self.props.len() {
+            return Some(self.props[at]);
+        }
+        if has_glyph_classes(self.gdef) {
+            Some(glyph_props(self.gdef, glyph))
+        } else {
+            None
+        }
+    }
+}
+
+/// GDEF, with a table of classes that was made of it.
+#[derive(Debug)]
+pub struct PreparedClasses<'a> {
+    /// GDEF.
+    pub gdef: &'a [u8],
+    props: Vec<u16>,
+}
+
+// Appends the classes of so many glyphs.
+fn fill(gdef: &[u8], count: u16, props: &mut Vec<u16>) -> Result<(), AllocError> {
+    for glyph in 0..count {
+        props.push(glyph_props(gdef, glyph))?;
+    }
+    Ok(())
+}
+
+impl<'a> PreparedClasses<'a> {
+    /// Makes a table of the classes of so many glyphs, of which each takes two bytes and a search or two. Where
+    /// memory is refused, or the font has no classes, there is none.
+    ///
+    /// <details><summary>Contract</summary>
+    ///
+    /// # Contract
+    ///
+    /// ```text
+    /// ensures { result.gdef.now ≡ gdef.now }
+    /// ```
+    ///
+    /// </details>
+    pub fn new(gdef: &'a [u8], count: u16, alloc: Global) -> Self {
+        let mut props = Vec::new(alloc);
+        if has_glyph_classes(gdef) && fill(gdef, count, &mut props).is_ok() {
+            PreparedClasses { gdef, props }
+        } else {
+            PreparedClasses {
+                gdef,
+                props: Vec::new(alloc),
+            }
+        }
+    }
+
+    /// GDEF with this table.
+    ///
+    /// <details><summary>Contract</summary>
+    ///
+    /// # Contract
+    ///
+    /// ```text
+    /// ensures { result.gdef.now ≡ self.now.gdef.now }
+    /// ```
+    ///
+    /// </details>
+    #[inline]
+    pub fn table(&self) -> ClassTable<'_> {
+        ClassTable {
+            gdef: self.gdef,
+            props: self.props.as_slice(),
+        }
+    }
+}

@@ -1,0 +1,157 @@
+// Generated from crates/opentype_layout/src/keys.rt by rust/erase; edit the source.
+
+//! What the glyphs beside a place say of the rules that may fit there.
+
+use crate::support::prelude::*;
+
+use crate::generated::opentype_face::bytes::u16_at;
+use crate::generated::opentype_face::glyph_sets::{class, coverage};
+use crate::generated::opentype_layout::sight::{Sight, ignores_glyph, number};
+use crate::generated::shapers_buffer::buffer::GlyphInfo;
+
+/// What a list of a rule's numbers must begin with, so that the rule may fit.
+#[derive(Clone, Copy, Debug)]
+pub enum Key {
+    /// With any number.
+    Any,
+    /// With this one.
+    Number(u16),
+    /// With none: no rule that has such a list fits.
+    Nothing,
+}
+
+impl Key {
+    /// Whether no rule fits whose list begins with a number.
+    ///
+    /// <details><summary>Contract</summary>
+    ///
+    /// # Contract
+    ///
+    /// ```text
+    /// ensures { result ≡ bars self.now (λ n. first == n) }
+    /// ```
+    ///
+    /// - `bars`: `crates/opentype_layout/specs/Keys.antt`
+    ///
+    /// </details>
+    #[inline]
+    pub fn bars(&self, first: u16) -> bool {
+        match *self {
+            Key::Any => false,
+            Key::Number(number) => first != number,
+            Key::Nothing => true,
+        }
+    }
+
+    /// Whether no rule fits whose list begins with a set of glyphs.
+    #[inline]
+    pub(crate) fn bars_set(&self, set: &[u8]) -> bool {
+        match *self {
+            Key::Any => false,
+            Key::Number(glyph) => coverage(set, glyph).is_none(),
+            Key::Nothing => true,
+        }
+    }
+
+    /// The key of a glyph for the numbers of a format: glyphs in format 1, classes of a table in
+    /// format 2.
+    #[inline]
+    pub(crate) fn by(&self, format: u16, of: &[u8]) -> Key {
+        match *self {
+            Key::Number(glyph) => match format {
+                1 => Key::Number(glyph),
+                2 => Key::Number(class(of, glyph)),
+                _ => Key::Any,
+            },
+            Key::Any => Key::Any,
+            Key::Nothing => Key::Nothing,
+        }
+    }
+}
+
+// What a pattern must look for to find a glyph; `None` where a search passes over it.
+#[inline]
+fn key_of(gdef: &[u8], sight: &Sight, glyph: &GlyphInfo) -> Option<Key> {
+    if ignores_glyph(gdef, sight.flag, sight.set, glyph) {
+        return None;
+    }
+    if sight.may_pass(glyph) {
+        return Some(Key::Any);
+    }
+    let is_inside = sight.syllable == 0 || sight.syllable == glyph.syllable;
+    if glyph.mask & sight.mask != 0 && is_inside {
+        Some(Key::Number(number(glyph)))
+    } else {
+        Some(Key::Nothing)
+    }
+}
+
+/// What a pattern must look for to find its next glyph from a place on.
+///
+/// <details><summary>Contract</summary>
+///
+/// # Contract
+///
+/// ```text
+/// ensures { (test : ℕ → ℕ → Bool) (k : ℕ) → bars result (test k) ≡ true →
+///     next_in gdef.now sight.now test glyphs.now k from ≡ None }
+/// ```
+///
+/// - `bars`: `crates/opentype_layout/specs/Keys.antt`
+/// - `next_in`: `crates/opentype_layout/specs/Pattern.antt`
+///
+/// </details>
+pub fn key_behind(gdef: &[u8], sight: &Sight, glyphs: &[GlyphInfo], from: usize) -> Key {
+    for i in from..glyphs.len() {
+        let key = key_of(gdef, sight, &glyphs[i]);
+        if let Some(key) = key {
+            return key;
+        }
+    }
+    Key::Nothing
+}
+
+/// What a pattern must look for to find the nearest glyph before a place.
+pub(crate) fn key_before(gdef: &[u8], sight: &Sight, glyphs: &[GlyphInfo], at: usize) -> Key {
+    for i in 0..at {
+        let key = key_of(gdef, sight, &glyphs[at - 1 - i]);
+        if let Some(key) = key {
+            return key;
+        }
+    }
+    Key::Nothing
+}
+
+/// What the lists of a rule must begin with, so that it may fit a place.
+#[derive(Clone, Copy, Debug)]
+pub(crate) struct Keys {
+    /// The glyphs before the place.
+    pub before: Key,
+    /// The input behind the place.
+    pub input: Key,
+    /// The glyphs behind an input of one glyph.
+    pub behind: Key,
+}
+
+impl Keys {
+    /// Whether they bar a rule of a chained context, of format 1 or 2.
+    #[inline]
+    pub(crate) fn bar_chained(&self, bytes: &[u8]) -> bool {
+        let before_count = u16_at(bytes, 0);
+        if before_count > 0 && self.before.bars(u16_at(bytes, 2)) {
+            return true;
+        }
+        let input_at = 2 + usize::from(before_count) * 2;
+        let input_count = u16_at(bytes, input_at);
+        if input_count != 1 {
+            return input_count > 1 && self.input.bars(u16_at(bytes, input_at + 2));
+        }
+        u16_at(bytes, input_at + 2) > 0 && self.behind.bars(u16_at(bytes, input_at + 4))
+    }
+
+    /// Whether they bar a rule of a context, of format 1 or 2.
+    #[inline]
+    pub(crate) fn bar_unchained(&self, bytes: &[u8]) -> bool {
+        u16_at(bytes, 0) > 1 && self.input.bars(u16_at(bytes, 4))
+    }
+}

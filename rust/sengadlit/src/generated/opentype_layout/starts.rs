@@ -1,0 +1,441 @@
+// Generated from crates/opentype_layout/src/starts.rt by rust/erase; edit the source.
+
+//! Which subtables of a lookup may begin at a glyph.
+
+use crate::support::prelude::*;
+
+use crate::generated::opentype_face::lookup::subtable_count;
+use crate::generated::opentype_layout::bits::first_bit;
+use crate::generated::opentype_layout::grid::Grid;
+use crate::generated::opentype_layout::heads::{headed_place, heads_of, masked_place};
+use crate::generated::opentype_layout::pair_tables::{LookupPairs, PairTable};
+use crate::generated::opentype_layout::sets::{span, start};
+use crate::generated::opentype_layout::sight::number;
+use crate::generated::shapers_buffer::buffer::GlyphInfo;
+use crate::support::alloc::Global;
+
+// The bits of a lookup's subtables.
+#[derive(Debug)]
+struct Marks {
+    grid: Grid,
+    words: Vec<u64>,
+}
+
+// The same with the bits of the glyphs that it may begin at.
+#[derive(Debug)]
+struct HeadedMarks {
+    marks: Marks,
+    heads: Vec<u64>,
+}
+
+// The bits of a lookup's subtables, if memory and a budget suffice.
+fn mark(alloc: Global, of_gpos: bool, lookup: &[u8], budget: &mut usize) -> Option<Marks> {
+    let glyphs = span(of_gpos, lookup, budget)?;
+    let grid = Grid::of(&glyphs, subtable_count(lookup));
+    let size = grid.word_count();
+    if size > *budget / 8 {
+        return None;
+    }
+    *budget -= size * 8;
+    let mut words = Vec::new(alloc);
+    if words.resize(size, 0u64).is_err() {
+        return None;
+    }
+    if grid.mark_lookup(&mut words, of_gpos, lookup) {
+        Some(Marks { grid, words })
+    } else {
+        None
+    }
+}
+
+// The bits of a lookup's subtables, and of the glyphs that it may begin at.
+fn mark_with_heads(
+    alloc: Global,
+    of_gpos: bool,
+    lookup: &[u8],
+    budget: &mut usize,
+) -> Option<HeadedMarks> {
+    let marks = mark(alloc, of_gpos, lookup, budget)?;
+    let count = subtable_count(lookup);
+    match heads_of(alloc, &marks.grid, &marks.words, count, budget) {
+        Some(heads) => Some(HeadedMarks { marks, heads }),
+        None => None,
+    }
+}
+
+/// The subtables of a lookup that may begin at each glyph, as bits: asking them costs no search in
+/// the font's bytes.
+#[derive(Debug)]
+pub struct Starts<'a> {
+    lookup: &'a [u8],
+    of_gpos: bool,
+    is_made: bool,
+    count: u16,
+    grid: Grid,
+    words: Vec<u64>,
+    heads: Vec<u64>,
+}
+
+impl<'a> Starts<'a> {
+    /// The bits of a lookup of GSUB, or of GPOS. It has none where memory doesn't suffice, or a budget
+    /// in bytes that pays for them, and one for each subtable and each range of glyphs that is read.
+    ///
+    /// <details><summary>Contract</summary>
+    ///
+    /// # Contract
+    ///
+    /// ```text
+    /// ensures { result ≡ lookup.now }
+    /// ```
+    ///
+    /// </details>
+    pub fn new(alloc: Global, of_gpos: bool, lookup: &'a [u8], budget: &mut usize) -> Self {
+        let count = subtable_count(lookup);
+        match mark_with_heads(alloc, of_gpos, lookup, budget) {
+            Some(HeadedMarks { marks, heads }) => Starts {
+                lookup,
+                of_gpos,
+                is_made: true,
+                count,
+                grid: marks.grid,
+                words: marks.words,
+                heads,
+            },
+            None => Starts {
+                lookup,
+                of_gpos,
+                is_made: false,
+                count,
+                grid: Grid {
+                    first: 0,
+                    rows: 0,
+                    width: 1,
+                },
+                words: Vec::new(alloc),
+                heads: Vec::new(alloc),
+            },
+        }
+    }
+
+    // Whether it has bits.
+    #[inline]
+    fn is_made(&self) -> bool {
+        self.is_made
+    }
+
+    /// The lookup's bytes.
+    ///
+    /// <details><summary>Contract</summary>
+    ///
+    /// # Contract
+    ///
+    /// ```text
+    /// ensures { result.now ≡ self.now }
+    /// ```
+    ///
+    /// </details>
+    #[inline]
+    pub fn lookup(&self) -> &'a [u8] {
+        self.lookup
+    }
+
+    /// The first subtable from one on that may begin at a glyph.
+    ///
+    /// <details><summary>Contract</summary>
+    ///
+    /// # Contract
+    ///
+    /// ```text
+    /// ensures within { IfSome result (λ next. (from ≤ next) × (next < u16_in self.now 4)) }
+    /// ensures passed { NoneStarts of_gpos self.now glyph from (unwrap_or result (u16_in self.now 4)) }
+    /// ```
+    ///
+    /// - `u16_in`: `crates/opentype_face/specs/Bytes.antt`
+    /// - `NoneStarts`: `crates/opentype_layout/specs/Starts.antt`
+    ///
+    /// </details>
+    #[inline]
+    pub fn next(&self, of_gpos: bool, glyph: u16, from: u16) -> Option<u16> {
+        if from >= self.count {
+            return None;
+        }
+        if of_gpos != self.of_gpos || !self.is_made {
+            return Some(from);
+        }
+        if !self.grid.has_row(glyph) {
+            return None;
+        }
+        let row = self.grid.place(glyph, 0);
+        let (from, end) = (row + usize::from(from), row + usize::from(self.count));
+        let place = first_bit(&self.words, from, end);
+        if place < end {
+            Some((place - row) as u16)
+        } else {
+            None
+        }
+    }
+
+    /// The first place of a text, from one on, where a subtable may begin at a glyph with a bit of a
+    /// mask; the text's length, if there is none.
+    ///
+    /// <details><summary>Contract</summary>
+    ///
+    /// # Contract
+    ///
+    /// ```text
+    /// ensures behind { min from (length glyphs.now) ≤ result }
+    /// ensures within { result ≤ length glyphs.now }
+    /// ensures passed { ArePassed of_gpos self.now mask glyphs.now from result }
+    /// ```
+    ///
+    /// - `ArePassed`: `crates/opentype_layout/specs/Starts.antt`
+    ///
+    /// </details>
+    #[inline]
+    pub fn next_place(&self, of_gpos: bool, mask: u32, glyphs: &[GlyphInfo], from: usize) -> usize {
+        if of_gpos != self.of_gpos || !self.is_made {
+            return masked_place(mask, glyphs, from);
+        }
+        headed_place(self.grid.first, &self.heads, mask, glyphs, from)
+    }
+}
+
+// Whether a subtable may begin at a glyph, by its bytes.
+fn is_start(of_gpos: bool, lookup: &[u8], glyph: u16) -> bool {
+    for i in 0..subtable_count(lookup) {
+        if start(of_gpos, lookup, glyph, i).is_some() {
+            return true;
+        }
+    }
+    false
+}
+
+// The first place of a text, from one on, where a subtable may begin, by its bytes, at a glyph with a
+// bit of a mask; the text's length, if there is none.
+fn search_place(
+    of_gpos: bool,
+    lookup: &[u8],
+    mask: u32,
+    glyphs: &[GlyphInfo],
+    from: usize,
+) -> usize {
+    for at in from..glyphs.len() {
+        let glyph = &glyphs[at];
+        if glyph.mask & mask != 0 && is_start(of_gpos, lookup, number(glyph)) {
+            return at;
+        }
+    }
+    glyphs.len()
+}
+
+/// A lookup's table, with the bits of its subtables, if it has them.
+#[derive(Debug)]
+pub struct LookupTable<'a> {
+    bytes: &'a [u8],
+    starts: Option<&'a Starts<'a>>,
+    pairs: &'a [PairTable<'a>],
+}
+
+impl<'a> LookupTable<'a> {
+    /// A table without bits: each question is a search in its bytes.
+    ///
+    /// <details><summary>Contract</summary>
+    ///
+    /// # Contract
+    ///
+    /// ```text
+    /// ensures { result ≡ bytes.now }
+    /// ```
+    ///
+    /// </details>
+    #[inline]
+    pub fn of(bytes: &'a [u8]) -> Self {
+        LookupTable {
+            bytes,
+            starts: None,
+            pairs: &[],
+        }
+    }
+
+    /// A table with bits, if these were made.
+    ///
+    /// <details><summary>Contract</summary>
+    ///
+    /// # Contract
+    ///
+    /// ```text
+    /// ensures { result ≡ starts.now }
+    /// ```
+    ///
+    /// </details>
+    #[inline]
+    pub fn prepared(starts: &'a Starts<'a>) -> Self {
+        let bytes = starts.lookup();
+        if !starts.is_made() {
+            return Self::of(bytes);
+        }
+        LookupTable {
+            bytes,
+            starts: Some(starts),
+            pairs: &[],
+        }
+    }
+
+    /// The same with tables of its subtables of pairs.
+    ///
+    /// <details><summary>Contract</summary>
+    ///
+    /// # Contract
+    ///
+    /// ```text
+    /// requires { pairs.now ≡ self }
+    /// ensures { result ≡ self.entry }
+    /// ```
+    ///
+    /// </details>
+    #[inline]
+    pub fn with_pairs(self, pairs: &'a LookupPairs<'a>) -> Self {
+        LookupTable {
+            pairs: pairs.tables(),
+            ..self
+        }
+    }
+
+    /// A subtable of pairs of a lookup of GPOS, if it has tables.
+    ///
+    /// <details><summary>Contract</summary>
+    ///
+    /// # Contract
+    ///
+    /// ```text
+    /// ensures { IfSome result (λ table.
+    ///     (type_in 9 self.now i ≡ 2) × (table.now ≡ subtable_in 9 self.now i)) }
+    /// ```
+    ///
+    /// - `subtable_in`, `type_in`: `crates/opentype_face/specs/Lookups.antt`
+    ///
+    /// </details>
+    #[inline]
+    pub fn pair_table(&self, i: u16) -> Option<&'a PairTable<'a>> {
+        self.pairs.get(usize::from(i))
+    }
+
+    /// Its bytes.
+    ///
+    /// <details><summary>Contract</summary>
+    ///
+    /// # Contract
+    ///
+    /// ```text
+    /// ensures { result.now ≡ self.now }
+    /// ```
+    ///
+    /// </details>
+    #[inline]
+    pub fn bytes(&self) -> &'a [u8] {
+        self.bytes
+    }
+
+    /// Whether a subtable may begin at a glyph, of a lookup of GSUB or of GPOS.
+    ///
+    /// <details><summary>Contract</summary>
+    ///
+    /// # Contract
+    ///
+    /// ```text
+    /// ensures { result ≡ false → NoneStarts of_gpos self.now glyph 0 (u16_in self.now 4) }
+    /// ```
+    ///
+    /// - `u16_in`: `crates/opentype_face/specs/Bytes.antt`
+    /// - `NoneStarts`: `crates/opentype_layout/specs/Starts.antt`
+    ///
+    /// </details>
+    #[inline]
+    pub fn may_begin(&self, of_gpos: bool, glyph: u16) -> bool {
+        match self.starts {
+            Some(starts) => starts.next(of_gpos, glyph, 0).is_some(),
+            None => is_start(of_gpos, self.bytes, glyph),
+        }
+    }
+
+    /// The next subtable from one on that is to be tried at a glyph; those between don't begin there.
+    ///
+    /// <details><summary>Contract</summary>
+    ///
+    /// # Contract
+    ///
+    /// ```text
+    /// ensures within { IfSome result (λ next. (from ≤ next) × (next < u16_in self.now 4)) }
+    /// ensures passed { NoneStarts of_gpos self.now glyph from (unwrap_or result (u16_in self.now 4)) }
+    /// ```
+    ///
+    /// - `u16_in`: `crates/opentype_face/specs/Bytes.antt`
+    /// - `NoneStarts`: `crates/opentype_layout/specs/Starts.antt`
+    ///
+    /// </details>
+    #[inline]
+    pub fn next_start(&self, of_gpos: bool, glyph: u16, from: u16) -> Option<u16> {
+        if let Some(starts) = self.starts {
+            return starts.next(of_gpos, glyph, from);
+        }
+        if from < subtable_count(self.bytes) {
+            Some(from)
+        } else {
+            None
+        }
+    }
+
+    /// The first place of a text, from one on, where a subtable may begin at a glyph with a bit of a
+    /// mask; the text's length, if there is none. A table without bits is searched.
+    ///
+    /// <details><summary>Contract</summary>
+    ///
+    /// # Contract
+    ///
+    /// ```text
+    /// ensures behind { min from (length glyphs.now) ≤ result }
+    /// ensures within { result ≤ length glyphs.now }
+    /// ensures passed { ArePassed of_gpos self.now mask glyphs.now from result }
+    /// ```
+    ///
+    /// - `ArePassed`: `crates/opentype_layout/specs/Starts.antt`
+    ///
+    /// </details>
+    #[inline]
+    pub fn first_place(
+        &self,
+        of_gpos: bool,
+        mask: u32,
+        glyphs: &[GlyphInfo],
+        from: usize,
+    ) -> usize {
+        match self.starts {
+            Some(starts) => starts.next_place(of_gpos, mask, glyphs, from),
+            None => search_place(of_gpos, self.bytes, mask, glyphs, from),
+        }
+    }
+
+    /// The next place of a text, from one on, that is to be tried; a lookup with this mask begins at
+    /// none before it. A table without bits isn't searched.
+    ///
+    /// <details><summary>Contract</summary>
+    ///
+    /// # Contract
+    ///
+    /// ```text
+    /// ensures behind { min from (length glyphs.now) ≤ result }
+    /// ensures within { result ≤ length glyphs.now }
+    /// ensures passed { ArePassed of_gpos self.now mask glyphs.now from result }
+    /// ```
+    ///
+    /// - `ArePassed`: `crates/opentype_layout/specs/Starts.antt`
+    ///
+    /// </details>
+    #[inline]
+    pub fn next_place(&self, of_gpos: bool, mask: u32, glyphs: &[GlyphInfo], from: usize) -> usize {
+        match self.starts {
+            Some(starts) => starts.next_place(of_gpos, mask, glyphs, from),
+            None => masked_place(mask, glyphs, from),
+        }
+    }
+}

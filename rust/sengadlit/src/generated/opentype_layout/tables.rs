@@ -1,0 +1,158 @@
+// Generated from crates/opentype_layout/src/tables.rt by rust/erase; edit the source.
+
+//! GSUB or GPOS, with the bits of its lookups.
+
+use crate::support::prelude::*;
+
+use crate::generated::opentype_face::bytes::{offset16, part, u16_at};
+use crate::generated::opentype_face::lookup::lookup;
+use crate::generated::opentype_layout::pair_tables::LookupPairs;
+use crate::generated::opentype_layout::starts::{LookupTable, Starts};
+use crate::support::alloc::Global;
+
+// How many lookups there are.
+fn lookup_count(bytes: &[u8]) -> u16 {
+    u16_at(part(bytes, offset16(bytes, 8)), 0)
+}
+
+// The bits of each lookup.
+fn lookup_starts<'a>(
+    alloc: Global,
+    of_gpos: bool,
+    bytes: &'a [u8],
+    budget: &mut usize,
+) -> Vec<Starts<'a>> {
+    let mut starts = Vec::new(alloc);
+    for index in 0..lookup_count(bytes) {
+        let table = Starts::new(alloc, of_gpos, lookup(bytes, index), budget);
+        if starts.push(table).is_err() {
+            return starts;
+        }
+    }
+    starts
+}
+
+// The tables of the pairs of each lookup.
+fn lookup_pairs<'a>(alloc: Global, bytes: &'a [u8], budget: &mut usize) -> Vec<LookupPairs<'a>> {
+    let mut pairs = Vec::new(alloc);
+    for index in 0..lookup_count(bytes) {
+        let table = LookupPairs::new(alloc, lookup(bytes, index), budget);
+        if pairs.push(table).is_err() {
+            return pairs;
+        }
+    }
+    pairs
+}
+
+/// A table with the bits of its lookups.
+#[derive(Debug)]
+pub struct PreparedTable<'a> {
+    bytes: &'a [u8],
+    starts: Vec<Starts<'a>>,
+    pairs: Vec<LookupPairs<'a>>,
+}
+
+impl<'a> PreparedTable<'a> {
+    /// GSUB or GPOS. Lookups for which memory or a budget in bytes doesn't suffice have no bits, and their pairs no
+    /// tables.
+    ///
+    /// <details><summary>Contract</summary>
+    ///
+    /// # Contract
+    ///
+    /// ```text
+    /// ensures { result ≡ bytes.now }
+    /// ```
+    ///
+    /// </details>
+    pub fn new(alloc: Global, of_gpos: bool, bytes: &'a [u8], budget: usize) -> Self {
+        let mut left = budget;
+        let starts = lookup_starts(alloc, of_gpos, bytes, &mut left);
+        let pairs = if of_gpos {
+            lookup_pairs(alloc, bytes, &mut left)
+        } else {
+            Vec::new(alloc)
+        };
+        PreparedTable {
+            bytes,
+            starts,
+            pairs,
+        }
+    }
+
+    /// A view of it.
+    ///
+    /// <details><summary>Contract</summary>
+    ///
+    /// # Contract
+    ///
+    /// ```text
+    /// ensures { result ≡ self.now }
+    /// ```
+    ///
+    /// </details>
+    #[inline]
+    pub fn table(&self) -> LayoutTable<'_> {
+        LayoutTable {
+            bytes: self.bytes,
+            starts: self.starts.as_slice(),
+            pairs: self.pairs.as_slice(),
+        }
+    }
+}
+
+/// GSUB or GPOS, with the bits of its lookups, if it has them.
+#[derive(Debug)]
+pub struct LayoutTable<'a> {
+    bytes: &'a [u8],
+    starts: &'a [Starts<'a>],
+    pairs: &'a [LookupPairs<'a>],
+}
+
+impl<'a> LayoutTable<'a> {
+    /// A table without bits.
+    ///
+    /// <details><summary>Contract</summary>
+    ///
+    /// # Contract
+    ///
+    /// ```text
+    /// ensures { result ≡ bytes.now }
+    /// ```
+    ///
+    /// </details>
+    #[inline]
+    pub fn of(bytes: &'a [u8]) -> Self {
+        LayoutTable {
+            bytes,
+            starts: &[],
+            pairs: &[],
+        }
+    }
+
+    /// A lookup's table; an empty one, if there is none with that number.
+    ///
+    /// <details><summary>Contract</summary>
+    ///
+    /// # Contract
+    ///
+    /// ```text
+    /// ensures { result ≡ lookup_in self.now index }
+    /// ```
+    ///
+    /// - `lookup_in`: `crates/opentype_face/specs/Lookups.antt`
+    ///
+    /// </details>
+    #[inline]
+    pub fn lookup(&self, index: u16) -> LookupTable<'a> {
+        let at = usize::from(index);
+        if at >= self.starts.len() {
+            return LookupTable::of(lookup(self.bytes, index));
+        }
+        let table = LookupTable::prepared(&self.starts[at]);
+        if at >= self.pairs.len() {
+            return table;
+        }
+        table.with_pairs(&self.pairs[at])
+    }
+}

@@ -1,0 +1,100 @@
+// Generated from crates/shapers_buffer/src/buffer/group_room.rt by rust/erase; edit the source.
+
+//! Room that the buffer lends to a walk over its text, so that the walk takes no memory.
+
+use crate::support::prelude::*;
+
+use super::Buffer;
+use super::glyph::GlyphInfo;
+use super::placement::enlarge;
+use super::refusal::ShaperError;
+use crate::support::alloc::Global;
+use core::mem;
+
+/// Glyphs that stand together in one cluster: how many they are, and the cluster.
+#[derive(Clone, Copy, Debug)]
+pub struct ClusterGroup {
+    /// How many glyphs they are.
+    pub len: usize,
+    /// Their cluster.
+    pub cluster: u32,
+}
+
+/// Room for a group of glyphs and for one glyph per glyph of a text. Where the clusters of syllables
+/// fall, merges flood what stands before them again and again: a walk that writes it once keeps
+/// these groups and the glyphs that it writes over.
+#[derive(Debug)]
+pub struct GroupRoom {
+    /// Room for groups.
+    pub groups: Vec<ClusterGroup>,
+    /// Room for glyphs.
+    pub glyphs: Vec<GlyphInfo>,
+}
+
+impl GroupRoom {
+    /// No room; it takes no memory.
+    #[inline]
+    pub fn new(alloc: Global) -> Self {
+        GroupRoom {
+            groups: Vec::new(alloc),
+            glyphs: Vec::new(alloc),
+        }
+    }
+
+    // Room for a text of `n` glyphs.
+    #[inline]
+    pub(super) fn with_capacity(alloc: Global, n: usize) -> Result<Self, ShaperError> {
+        Ok(GroupRoom {
+            groups: Vec::with_capacity(alloc, n)?,
+            glyphs: Vec::with_capacity(alloc, n)?,
+        })
+    }
+
+    // Makes room for a text of `n` glyphs.
+    #[inline]
+    pub(super) fn enlarge(&mut self, n: usize) -> Result<(), ShaperError> {
+        if self.groups.capacity() < n {
+            enlarge(&mut self.groups, n)?;
+        }
+        if self.glyphs.capacity() < n {
+            enlarge(&mut self.glyphs, n)?;
+        }
+        Ok(())
+    }
+}
+
+impl Buffer {
+    /// Takes out the room for groups, which is enough for the buffer's glyphs unless it is out
+    /// already. Nothing else changes.
+    ///
+    /// <details><summary>Contract</summary>
+    ///
+    /// # Contract
+    ///
+    /// ```text
+    /// ensures { self.new ≡ self.old }
+    /// ```
+    ///
+    /// </details>
+    #[inline]
+    pub(crate) fn take_group_room(&mut self) -> GroupRoom {
+        let none = GroupRoom::new(self.alloc());
+        mem::replace(&mut self.group_room, none)
+    }
+
+    /// Puts the room back that was taken out. Nothing else changes.
+    ///
+    /// <details><summary>Contract</summary>
+    ///
+    /// # Contract
+    ///
+    /// ```text
+    /// ensures { self.new ≡ self.old }
+    /// ```
+    ///
+    /// </details>
+    #[inline]
+    pub(crate) fn put_group_room_back(&mut self, room: GroupRoom) {
+        self.group_room = room;
+    }
+}

@@ -1,0 +1,59 @@
+//! A text shaped in one call, of which each request for memory is refused in turn.
+#![allow(clippy::result_large_err, reason = "the error of a call has its text")]
+
+use crate::allocator::refusing;
+use crate::common::lookup_font::font;
+use sengadlit::buffer::ShaperError;
+use sengadlit::shaper::checked::CallError;
+use sengadlit::{
+    Direction, Face, GlyphBuffer, PlanCache, Script, ShapeError, ShapePlan, UnicodeBuffer, script,
+    try_shape, try_shape_with_cache, try_shape_with_plan,
+};
+
+/// Hebrew, whose script and direction are guessed where none is set.
+const TEXT: &str = "\u{05D0}\u{05B7}\u{05D1}";
+
+fn unicode_buffer() -> UnicodeBuffer {
+    let mut text = UnicodeBuffer::new();
+    text.push_str(TEXT);
+    text
+}
+
+/// What a caller sees of a text.
+fn seen(text: &UnicodeBuffer) -> (Direction, Option<Script>, Vec<(char, u32)>) {
+    (text.direction(), text.script(), text.characters().collect())
+}
+
+/// Shapes the text with each request refused in turn, until none is: it is given back as it was.
+fn is_given_back(mut call: impl FnMut(UnicodeBuffer) -> Result<GlyphBuffer, ShapeError>) {
+    let before = seen(&unicode_buffer());
+    for request in 1.. {
+        let text = unicode_buffer();
+        let (shaped, requests) = refusing(request, || call(text));
+        match shaped {
+            Ok(glyphs) => {
+                assert!(glyphs.is_complete() && requests < request);
+                break;
+            }
+            Err(refused) => {
+                assert_eq!(refused.error, CallError::Refused(ShaperError::Memory));
+                assert_eq!(seen(&refused.text), before, "request {request}");
+            }
+        }
+    }
+}
+
+pub fn texts_are_given_back() {
+    let data = font();
+    let face = Face::parse(&data, 0).unwrap();
+    is_given_back(|text| try_shape(&face, &[], text));
+    is_given_back(|text| try_shape_with_cache(&face, &mut PlanCache::new(), &[], text));
+    let plan = ShapePlan::new(
+        &face,
+        Direction::LeftToRight,
+        Some(script::LATIN),
+        None,
+        &[],
+    );
+    is_given_back(|text| try_shape_with_plan(&face, &plan, text));
+}
