@@ -79,9 +79,9 @@ typedef void (*sengadlit_destroy_func_t)(void *user_data);
 /* ---- Version ---- */
 
 #define SENGADLIT_VERSION_MAJOR 0
-#define SENGADLIT_VERSION_MINOR 1
+#define SENGADLIT_VERSION_MINOR 2
 #define SENGADLIT_VERSION_MICRO 0
-#define SENGADLIT_VERSION_STRING "0.1.0"
+#define SENGADLIT_VERSION_STRING "0.2.0"
 
 /* Whether this header is of the given version or a later one. */
 #define SENGADLIT_VERSION_ATLEAST(major, minor, micro) \
@@ -92,7 +92,7 @@ typedef void (*sengadlit_destroy_func_t)(void *user_data);
 sengadlit_bool_t sengadlit_version_atleast(unsigned int major, unsigned int minor, unsigned int micro);
 /* The version of the library that runs, which may be later than the header's. Each pointer may be null. */
 void sengadlit_version(unsigned int *major, unsigned int *minor, unsigned int *micro);
-/* The same as text, "0.1.0". The text is the library's and stays. */
+/* The same as text, "0.2.0". The text is the library's and stays. */
 const char *sengadlit_version_string(void);
 
 /* ---- Errors ---- */
@@ -524,6 +524,9 @@ typedef struct sengadlit_plan_input_t {
     void *user_data;                 /* Kept by the plan; may be null. */
     sengadlit_destroy_func_t destroy; /* Called once with `user_data`: when the last reference to the plan is dropped,
                                         on that thread, or before sengadlit_plan_create returns null; may be null. */
+    sengadlit_bool_t new_spec_zero_context; /* Whether Indic asks the font for rules without context in fonts of the newer
+                                        specification, as HarfBuzz does; else in those of the older one, as rustybuzz does. For
+                                        Malayalam it never does. */
 } sengadlit_plan_input_t;
 
 typedef struct sengadlit_plan_t sengadlit_plan_t;
@@ -583,16 +586,17 @@ enum {
     SENGADLIT_UNICODE_PROPS_IGNORABLE = 0x20,    /* Default_Ignorable_Code_Point. */
     SENGADLIT_UNICODE_PROPS_HIDDEN = 0x40,       /* Lookups see it, though it is ignorable. No hook reads or writes it. */
     SENGADLIT_UNICODE_PROPS_CONTINUATION = 0x80, /* It continues the grapheme of the one before. */
-    SENGADLIT_UNICODE_PROPS_HIGH_BYTE = 0xFF00   /* Of a mark (Mc, Me, Mn) its modified combining class. */
+    SENGADLIT_UNICODE_PROPS_HIGH_BYTE = 0xFF00   /* The modified combining class, but of FORMAT and SPACE_SEPARATOR. */
 };
 
 /* `unicode_props` of this general category with this high byte, and none of the three bits between. */
 #define SENGADLIT_UNICODE_PROPS(general_category, high_byte) \
     ((uint16_t)((unsigned int)(general_category) | (unsigned int)(high_byte) << 8))
-/* The general category in `unicode_props`, and the modified combining class, which is 0 unless the character is a mark. */
+/* The general category in `unicode_props`, and the modified combining class, which is 0 for FORMAT and SPACE_SEPARATOR: their
+   high byte says which joiner or which kind of space it is. */
 #define SENGADLIT_UNICODE_PROPS_GET_GENERAL_CATEGORY(unicode_props) ((uint8_t)((unicode_props) & 0x1F))
 #define SENGADLIT_UNICODE_PROPS_GET_COMBINING_CLASS(unicode_props) \
-    ((uint8_t)((0x1C00u >> ((unicode_props) & 0x1F) & 1u) != 0 ? (unsigned int)(unicode_props) >> 8 : 0u))
+    ((uint8_t)((0x20000002u >> ((unicode_props) & 0x1F) & 1u) != 0 ? 0u : (unsigned int)(unicode_props) >> 8))
 
 /* As hb_unicode_general_category_t. */
 enum {
@@ -870,7 +874,7 @@ void sengadlit_buffer_get_error(const sengadlit_buffer_t *buffer, sengadlit_erro
    INITIAL_REORDERING takes `half` from consonants before a ZWNJ, and SETUP_SYLLABLES_USE replaces isol, init, medi and fina
    where letters don't join.
 
-   preprocess_text THAI: glyph_id -> glyph_id general_category combining_class unicode_props
+   preprocess_text THAI: glyph_id general_category -> glyph_id general_category combining_class unicode_props
    preprocess_text HANGUL: glyph_id -> glyph_id auxiliary
    preprocess_text INDIC: - -> -
    preprocess_text UNIVERSAL: - -> -
@@ -1068,9 +1072,11 @@ typedef struct sengadlit_shape_plan_input_t {
     const sengadlit_user_feature_t *user_features;
     unsigned int user_features_length;
     unsigned int units_per_em;       /* Of the font, at most 65535; 0 stands for 1000. For spaces that the font lacks. */
-    sengadlit_bool_t centres_stretch; /* These three as in sengadlit_plan_input_t. */
+    sengadlit_bool_t centres_stretch; /* These four as in sengadlit_plan_input_t. */
     sengadlit_bool_t sound_breaks;
     sengadlit_bool_t searches_medials;
+    uint32_t reserved;               /* 0. */
+    sengadlit_bool_t new_spec_zero_context;
 } sengadlit_shape_plan_input_t;
 
 typedef struct sengadlit_shape_plan_t sengadlit_shape_plan_t;
@@ -1173,6 +1179,11 @@ sengadlit_face_t *sengadlit_face_create(const void *data, size_t length, unsigne
 sengadlit_face_t *sengadlit_face_reference(sengadlit_face_t *face);
 /* Drops a reference; the last one frees the face. `face` may be null. */
 void sengadlit_face_destroy(sengadlit_face_t *face);
+/* Makes tables of the face's characters, classes and lookups, by which texts are shaped faster, to the same glyphs. It takes as
+   long as a hundred words or so, in fonts of Chinese or Korean a thousand, and some hundred kilobytes, and so it pays for a face
+   that shapes many texts. Where memory is refused there are fewer tables, or none. Any thread may call it at any time; a second
+   call does nothing. `face` may be null. */
+void sengadlit_face_prepare(const sengadlit_face_t *face);
 /* What the face was made with; null for a null face. */
 void *sengadlit_face_get_user_data(const sengadlit_face_t *face);
 
@@ -1239,6 +1250,8 @@ typedef struct sengadlit_shape_options_t {
     const sengadlit_font_t *font;    /* Its nominal_glyph and glyph_h_advance, where there are, in the place of the face's: widths
                                         by hinting, or another cmap. In font units. Null: the face's own. */
     sengadlit_plan_cache_t *cache;   /* Null: a plan is made for the call. */
+    sengadlit_bool_t old_spec_zero_context; /* Whether Indic asks the font for rules without context in fonts of the older
+                                        specification, as rustybuzz does. */
 } sengadlit_shape_options_t;
 
 /* Reads a feature as hb_feature_from_string, `kern`, `-liga`, `aalt[3:5]=2`, of a text of `length` bytes, or with -1 of one that
@@ -1264,6 +1277,31 @@ sengadlit_status_t sengadlit_shape_utf32(const sengadlit_face_t *face, const uin
    ARGUMENT as above, and POSITIONS; CONTENT: the buffer has glyphs; GLYPH_ID: not a scalar value. */
 sengadlit_status_t sengadlit_shape_buffer(const sengadlit_face_t *face, const sengadlit_shape_options_t *options,
                                           sengadlit_buffer_t *buffer);
+
+/* Shapes again what an edit changes of a text that sengadlit_shape_utf8, _utf16, _utf32 or _shape_buffer has shaped into the
+   buffer by this face and these options: `text` is the text as it is now, the units from `start` to before `new_end` stand in
+   the place of those from `start` to before `old_end` of the text as it was, and clusters are places in it. The glyphs are then
+   those of the whole text, with the flags; `again_start` and `again_end`, which may be null, get between which units it was
+   shaped again. As long as the clusters are in the text's order (that is, not at the levels CHARACTERS and GRAPHEMES) these are
+   a few around the edit; what stands behind it only moves. Script and direction are those that the buffer has; one without a
+   script is shaped whole. Set `normalizes_always`: without it a letter that comes apart depends on the whole text. What is
+   tested of this, and where it doesn't hold, is in docs/GUIDE.md.
+   ATOMIC: unless DONE is returned, the buffer has the glyphs that it had. ARGUMENT as for sengadlit_shape_utf8, and CONTENT:
+   the buffer's text isn't complete (sengadlit_buffer_is_complete); RANGE: `start` is behind `old_end` or `new_end`, or that
+   behind the text; OPTIONS: they choose another script or direction. MEMORY. TOO_LONG. STRETCH_OVERFLOW. INTERNAL: only where
+   `font` changes its results, or the glyphs aren't those of the text. */
+sengadlit_status_t sengadlit_reshape_utf8(const sengadlit_face_t *face, const char *text, int text_length,
+                                          unsigned int start, unsigned int old_end, unsigned int new_end,
+                                          const sengadlit_shape_options_t *options, sengadlit_buffer_t *buffer,
+                                          unsigned int *again_start, unsigned int *again_end);
+sengadlit_status_t sengadlit_reshape_utf16(const sengadlit_face_t *face, const uint16_t *text, int text_length,
+                                          unsigned int start, unsigned int old_end, unsigned int new_end,
+                                          const sengadlit_shape_options_t *options, sengadlit_buffer_t *buffer,
+                                          unsigned int *again_start, unsigned int *again_end);
+sengadlit_status_t sengadlit_reshape_utf32(const sengadlit_face_t *face, const uint32_t *text, int text_length,
+                                          unsigned int start, unsigned int old_end, unsigned int new_end,
+                                          const sengadlit_shape_options_t *options, sengadlit_buffer_t *buffer,
+                                          unsigned int *again_start, unsigned int *again_end);
 
 /* As hb_buffer_serialize_format_t. */
 typedef enum sengadlit_serialize_format_t {

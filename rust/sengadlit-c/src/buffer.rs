@@ -8,11 +8,15 @@ use core::mem::replace;
 use core::ops::Range;
 use sengadlit::Shaper;
 use sengadlit::alloc::{AllocError, Global, Vec as List};
+#[cfg(feature = "opentype")]
+use sengadlit::buffer::BufferClusterLevel;
 use sengadlit::buffer::{
     Buffer as Inner, BufferSettings, CONTEXT_LENGTH, Direction, GlyphInfo, GlyphPosition, Script,
     ShaperError, Span,
 };
 use sengadlit::editing::caret_stops;
+#[cfg(feature = "opentype")]
+use sengadlit::editing::{EditedText, ShapedRun, Stretch, TextEdit, reshape};
 use sengadlit::ot_shape_position::DefaultIgnorables;
 use sengadlit::unicode::UnicodeTables;
 
@@ -172,7 +176,8 @@ impl Buffer {
         if positions.len() != text.len() {
             return Err(Error::argument(Argument::Positions));
         }
-        text.set_positions(positions);
+        let are_taken = text.set_positions(positions);
+        debug_assert!(are_taken);
         Ok(())
     }
 
@@ -462,6 +467,123 @@ impl Buffer {
         Ok(())
     }
 
+    /// Shapes again what an edit of its text changes, by the units of the text as it is now, and returns between which of them.
+    /// The text has to be one that was shaped whole. Where that is refused, all stays.
+    #[cfg(feature = "opentype")]
+    pub fn reshape<U: Unit>(
+        &mut self,
+        units: &[U],
+        edit: TextEdit,
+        shape: impl Fn(Segment, &mut Inner) -> Result<Segment, Error>,
+    ) -> Result<Range<usize>, Error> {
+        if !self.is_complete || self.positions.len() != self.text.len() {
+            return Err(Error::argument(Argument::Content));
+        }
+        if u32::try_from(units.len()).is_err() {
+            return Err(ShaperError::TooLong.into());
+        }
+        let text = Units(units);
+        let is_in_order = self.text.settings().cluster_level != BufferClusterLevel::Characters;
+        let known = self.segment();
+        let mut stretch = if is_in_order && known.script.is_some() {
+            reshape(&text, edit, self.shaped_run())
+        } else {
+            Stretch {
+                text: 0..units.len(),
+                glyphs: 0..self.text.len(),
+            }
+        };
+        loop {
+            let (segment, positions) = self.shape_stretch(units, &stretch.text, &shape)?;
+            if known.script.is_some() && segment != known {
+                return Err(Error::argument(Argument::Options));
+            }
+            let piece = ShapedRun {
+                glyphs: self.spare.glyphs(),
+                positions: positions.as_slice(),
+                direction: self.text.settings().direction,
+            };
+            let is_whole = stretch.text == (0..units.len());
+            let widened = stretch.widened(&text, edit, self.shaped_run(), piece);
+            match widened.filter(|_| !is_whole) {
+                Some(widened) => stretch = widened,
+                None => {
+                    self.splice(&stretch, edit, positions)?;
+                    self.set_segment(segment);
+                    return Ok(stretch.text);
+                }
+            }
+        }
+    }
+
+    #[cfg(feature = "opentype")]
+    fn shaped_run(&self) -> ShapedRun<'_> {
+        ShapedRun {
+            glyphs: self.text.glyphs(),
+            positions: self.positions.as_slice(),
+            direction: self.text.settings().direction,
+        }
+    }
+
+    // Shapes a stretch of a text in the spare one, whose clusters then count from its start, and returns the positions, with the
+    // script and direction: those of the buffer, or where it has no script those that the text has.
+    #[cfg(feature = "opentype")]
+    fn shape_stretch<U: Unit>(
+        &mut self,
+        units: &[U],
+        stretch: &Range<usize>,
+        shape: impl Fn(Segment, &mut Inner) -> Result<Segment, Error>,
+    ) -> Result<(Segment, List<GlyphPosition>), Error> {
+        let known = match self.segment() {
+            known if known.script.is_some() => known,
+            _ => Segment::UNKNOWN,
+        };
+        self.empty_spare();
+        add(&mut self.spare, units, stretch.clone())?;
+        // (what stood around the text stands around its first and its last stretch)
+        let (pre, post) = self.text.contexts();
+        let (own_pre, own_post) = self.spare.contexts();
+        let (mut before, mut after) = (['\0'; CONTEXT_LENGTH], ['\0'; CONTEXT_LENGTH]);
+        let before = fill(&mut before, own_pre.iter().chain(pre).copied());
+        let after = fill(&mut after, own_post.iter().chain(post).copied());
+        self.spare.set_pre_context(before);
+        self.spare.set_post_context(after);
+        self.spare.with_glyphs_mut(|glyphs| {
+            for glyph in glyphs {
+                glyph.cluster -= stretch.start as u32;
+            }
+        });
+        let merges_graphemes = self.merges_graphemes;
+        self.spare.run(Takes::Numbers, |text| {
+            if merges_graphemes {
+                text.merge_graphemes();
+            }
+            let segment = shape(known, text)?;
+            Ok((segment, text.take_positions()))
+        })
+    }
+
+    // Puts the spare text's glyphs, with these positions, in the place of those of a stretch.
+    #[cfg(feature = "opentype")]
+    fn splice(
+        &mut self,
+        stretch: &Stretch,
+        edit: TextEdit,
+        positions: List<GlyphPosition>,
+    ) -> Result<(), Error> {
+        let mut spare = replace(&mut self.spare, Text::new());
+        let spliced = spare.run(Takes::Numbers, |piece| {
+            let are_set = piece.set_positions(positions);
+            debug_assert!(are_set);
+            self.run_positioned(
+                Takes::Numbers,
+                |text| Ok(text.splice(stretch, edit, piece)?),
+            )
+        });
+        self.spare = spare;
+        spliced
+    }
+
     /// The syllables of the text by the shaper's grammar, none for a shaper that has no grammar.
     pub fn find_spans(&mut self, shaper: Shaper) -> Result<&[Span], Error> {
         let spans = &mut self.spans;
@@ -625,11 +747,28 @@ impl Buffer {
         }
         let positions = &mut self.positions;
         self.text.run(takes, |inner| {
-            inner.exchange_positions(positions);
+            let are_taken = inner.exchange_positions(positions);
+            debug_assert!(are_taken);
             let ended = hook(inner);
             *positions = inner.take_positions();
             ended
         })
+    }
+}
+
+/// A text of C's, as edits read it.
+#[cfg(feature = "opentype")]
+struct Units<'a, U>(&'a [U]);
+
+#[cfg(feature = "opentype")]
+impl<U: Unit> EditedText for Units<'_, U> {
+    fn len(&self) -> usize {
+        self.0.len()
+    }
+
+    fn character(&self, offset: usize) -> Option<char> {
+        let left = self.0.get(offset..).filter(|left| !left.is_empty())?;
+        Some(U::first(left).0)
     }
 }
 

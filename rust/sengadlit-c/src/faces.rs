@@ -9,15 +9,17 @@ use crate::plan::list;
 use crate::plan_cache::{Entry, PlanCache, PlanOf};
 use crate::shaping::of_call;
 use crate::status::{Argument, Error};
+use core::ops::Range;
 use sengadlit::Language;
 use sengadlit::alloc::Vec as List;
 use sengadlit::buffer::{Buffer as Inner, ShaperError, Tag};
+use sengadlit::editing::TextEdit;
 use sengadlit::font::{Font as AnswersFont, GlyphId};
 use sengadlit::opentype::{OpenTypeFont, Replacements, ShapePlan};
 use sengadlit::ot_shape_normalize::{NormalizeFont, Rounds};
 use sengadlit::ot_shape_plan::UserFeature as Wanted;
 use sengadlit::ot_shape_position::MetricsFont;
-use sengadlit::plan::{BaseSearch, BreakFlags};
+use sengadlit::plan::{BaseSearch, BreakFlags, ZeroContext};
 
 /// What the caller of a text chose.
 pub struct Chosen<'a> {
@@ -28,6 +30,7 @@ pub struct Chosen<'a> {
     rounds: Rounds,
     break_flags: BreakFlags,
     base_search: BaseSearch,
+    zero_context: ZeroContext,
     replacements: Replacements,
     cache: Option<&'a PlanCache>,
 }
@@ -74,6 +77,10 @@ impl<'a> Chosen<'a> {
                 0 => BaseSearch::AllConsonants,
                 _ => BaseSearch::WithoutMedials,
             },
+            zero_context: match options.old_spec_zero_context {
+                0 => ZeroContext::NewSpec,
+                _ => ZeroContext::OldSpec,
+            },
             replacements: Replacements {
                 invisible: glyph(options.invisible_glyph)?,
                 not_found: glyph(options.not_found_glyph)?,
@@ -93,6 +100,7 @@ impl<'a> Chosen<'a> {
             rounds: self.rounds,
             break_flags: self.break_flags,
             base_search: self.base_search,
+            zero_context: self.zero_context,
         };
         let features = self.features.as_slice();
         if let Some(entry) = self.cache.and_then(|cache| cache.take(&of, features)) {
@@ -105,8 +113,9 @@ impl<'a> Chosen<'a> {
             .features(features)
             .rounds(of.rounds)
             .break_flags(of.break_flags)
-            .base_search(of.base_search);
-        Entry::new(of, features, builder.build(&face.parsed)?)
+            .base_search(of.base_search)
+            .zero_context(of.zero_context);
+        Entry::new(of, features, builder.build(face.parsed())?)
     }
 
     // Shapes characters, whose script and direction become those by which they are shaped: what was chosen, and else what was
@@ -116,11 +125,11 @@ impl<'a> Chosen<'a> {
         let entry = self.plan(face, segment)?;
         let font = ShapedFace {
             asked: self.font,
-            own: face.parsed.font(segment.script),
+            own: face.parsed().font(segment.script),
         };
         let shaped = entry
             .plan
-            .shape_buffer_with(&face.parsed, &font, &self.replacements, text);
+            .shape_buffer_with(face.parsed(), &font, &self.replacements, text);
         if let Some(cache) = self.cache {
             cache.put(entry);
         }
@@ -142,6 +151,20 @@ pub fn shape_text<U: Unit>(
 /// `sengadlit_shape_buffer`.
 pub fn shape_buffer(face: &Face, chosen: &Chosen<'_>, buffer: &mut Buffer) -> Result<(), Error> {
     buffer.shape_characters(|known, text| chosen.shape(face, known, text))
+}
+
+/// `sengadlit_reshape_utf8` and its siblings.
+pub fn reshape_text<U: Unit>(
+    face: &Face,
+    text: &[U],
+    edit: TextEdit,
+    chosen: &Chosen<'_>,
+    buffer: &mut Buffer,
+) -> Result<Range<usize>, Error> {
+    if edit.start > edit.old_end || edit.start > edit.new_end || edit.new_end > text.len() {
+        return Err(Error::argument(Argument::Range));
+    }
+    buffer.reshape(text, edit, |known, text| chosen.shape(face, known, text))
 }
 
 /// A face, with those functions of C's that there are in the place of its own.
@@ -207,33 +230,46 @@ mod tests {
     use super::*;
     use crate::border::faces::ShapeOptions;
 
-    type Choices = (Rounds, BreakFlags, BaseSearch);
+    type Choices = (Rounds, BreakFlags, BaseSearch, ZeroContext);
 
     fn chosen(options: &ShapeOptions<'_>) -> Choices {
         let chosen = Chosen::of(options, None, &[]).ok().unwrap();
-        (chosen.rounds, chosen.break_flags, chosen.base_search)
+        (
+            chosen.rounds,
+            chosen.break_flags,
+            chosen.base_search,
+            chosen.zero_context,
+        )
     }
 
     #[test]
     fn each_choice_of_the_options_is_the_plans() {
         use BaseSearch::{AllConsonants, WithoutMedials};
+        use ZeroContext::{NewSpec, OldSpec};
         let none = ShapeOptions::NONE;
         let (code, rounds) = (BreakFlags::AsCode, Rounds::AsCode);
-        assert_eq!(chosen(&none), (rounds, code, AllConsonants));
+        assert_eq!(chosen(&none), (rounds, code, AllConsonants, NewSpec));
         let always = ShapeOptions {
             normalizes_always: 1,
             ..none
         };
-        assert_eq!(chosen(&always), (Rounds::Always, code, AllConsonants));
+        let wanted = (Rounds::Always, code, AllConsonants, NewSpec);
+        assert_eq!(chosen(&always), wanted);
         let sound = ShapeOptions {
             sound_breaks: 1,
             ..none
         };
-        assert_eq!(chosen(&sound), (rounds, BreakFlags::Sound, AllConsonants));
+        let wanted = (rounds, BreakFlags::Sound, AllConsonants, NewSpec);
+        assert_eq!(chosen(&sound), wanted);
         let skips = ShapeOptions {
             skips_medials: 1,
             ..none
         };
-        assert_eq!(chosen(&skips), (rounds, code, WithoutMedials));
+        assert_eq!(chosen(&skips), (rounds, code, WithoutMedials, NewSpec));
+        let older = ShapeOptions {
+            old_spec_zero_context: 1,
+            ..none
+        };
+        assert_eq!(chosen(&older), (rounds, code, AllConsonants, OldSpec));
     }
 }

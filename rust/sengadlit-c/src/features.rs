@@ -16,14 +16,14 @@ pub fn collect(shaper: u32, script: u32, font: Option<&Font>) -> Result<Option<P
     };
     let font = Asked::font(font, asks)?;
     let mut planner = Planner::new(Global, numbers::script(script));
-    let outcome = shaper.collect_features(&font, &mut planner)?;
-    Ok(outcome.is_done().then_some(planner))
+    let done = shaper.collect_features(&font, &mut planner)?;
+    Ok(done.map(|()| planner))
 }
 
 /// Those that stand behind them.
 pub fn collect_overriding(shaper: u32, script: u32) -> Result<Option<Planner>, Error> {
     let shaper = numbers::shaper(shaper).ok_or_else(|| Error::argument(Argument::Shaper))?;
     let mut planner = Planner::new(Global, numbers::script(script));
-    let outcome = shaper.override_features(&mut planner)?;
-    Ok(outcome.is_done().then_some(planner))
+    let done = shaper.override_features(&mut planner)?;
+    Ok(done.map(|()| planner))
 }

@@ -17,7 +17,7 @@ use sengadlit::ot_shaper_syllabic::{
 };
 use sengadlit::ot_shaper_use;
 use sengadlit::plan::{Pause, Preprocess};
-use sengadlit::shaper::{Composition, Decomposition, Shaper, pause_fits, run_pause as run};
+use sengadlit::shaper::{Shaper, pause_fits, run_pause as run};
 use sengadlit::spans::setup_syllables_found as set_up_found;
 
 /// The greatest kind of a syllable.
@@ -52,8 +52,13 @@ pub fn preprocess_text(
     ))
 }
 
-/// What two characters compose to.
-pub fn compose(plan: &Plan, tables: Option<&Tables>, a: u32, b: u32) -> Result<Composition, Error> {
+/// What two characters compose to, if they do; none where the shaper leaves it to the tables.
+pub fn compose(
+    plan: &Plan,
+    tables: Option<&Tables>,
+    a: u32,
+    b: u32,
+) -> Result<Option<Option<char>>, Error> {
     let asks = match plan.shaper {
         Shaper::Hebrew => TABLES_COMPOSE,
         Shaper::Indic | Shaper::Khmer | Shaper::Universal => TABLES_COMPOSE | TABLES_GENERAL,
@@ -64,8 +69,13 @@ pub fn compose(plan: &Plan, tables: Option<&Tables>, a: u32, b: u32) -> Result<C
     Ok(plan.shaper.compose(&plan.inner, &tables, a, b))
 }
 
-/// The two characters that one decomposes to.
-pub fn decompose(plan: &Plan, tables: Option<&Tables>, ab: u32) -> Result<Decomposition, Error> {
+/// The two characters that one decomposes to, if it does; none where the shaper leaves it to the
+/// tables.
+pub fn decompose(
+    plan: &Plan,
+    tables: Option<&Tables>,
+    ab: u32,
+) -> Result<Option<Option<(char, char)>>, Error> {
     let asks = match plan.shaper {
         Shaper::Indic | Shaper::Khmer => TABLES_DECOMPOSE,
         _ => 0,
@@ -92,7 +102,7 @@ pub fn reorder_marks(
     let done = buffer.run(Takes::Numbers, |inner| {
         Ok(plan.shaper.reorder_marks(&plan.inner, inner, start, end))
     })?;
-    Ok(done_if(done.is_done()))
+    Ok(done_if(done.is_some()))
 }
 
 /// `sengadlit_setup_masks`.
@@ -123,7 +133,7 @@ pub fn setup_masks(
             || plan
                 .shaper
                 .setup_masks(&plan.inner, &font, &tables, inner)
-                .is_done())
+                .is_some())
     })?;
     Ok(done_if(done))
 }
@@ -275,7 +285,7 @@ pub fn postprocess_glyphs(
     let done = buffer.run_positioned(takes, |inner| {
         Ok(plan.shaper.postprocess_glyphs(&plan.inner, &font, inner)?)
     })?;
-    Ok(done_if(done.is_done()))
+    Ok(done_if(done.is_some()))
 }
 
 /// `sengadlit_affected`.

@@ -178,7 +178,8 @@ mod tests {
         layout!("feature", Feature: tag, mask, stage);
         layout!("stage", Stage: start, end);
         layout!("plan_input", PlanInput: size, script, chosen_script, found_script, has_gpos_mark, centres_stretch, sound_breaks,
-        global_mask, searches_medials, features, features_length, stages, stages_length, lookups, lookups_length, kept.user_data = "user_data", kept.destroy = "destroy");
+        global_mask, searches_medials, features, features_length, stages, stages_length, lookups, lookups_length, kept.user_data = "user_data", kept.destroy = "destroy",
+        new_spec_zero_context);
         layout!("plan_data", Data: size, shaper, joins, has_stch, rphf_mask, masks);
         layout!("glyph_info", GlyphInfo: glyph_id, mask, cluster, glyph_props, lig_props, syllable, unicode_props, category,
         auxiliary);
@@ -190,7 +191,7 @@ mod tests {
         anywhere_length, required);
         layout!("user_feature", UserFeature: tag, value, start, end);
         layout!("shape_plan_input", ShapePlanInput: size, script, direction, gsub, gpos, user_features, user_features_length,
-        units_per_em, centres_stretch, sound_breaks, searches_medials);
+        units_per_em, centres_stretch, sound_breaks, searches_medials, reserved, new_spec_zero_context);
         layout!("lookup", Lookup: index, mask, auto_zwnj, auto_zwj, random, per_syllable);
         layout!("lookups_funcs", LookupsFuncs: size, variation_glyph, glyph_props, substitute, is_mark, position, finish_positions,
         glyph_v_advance, glyph_v_origin);
@@ -198,7 +199,8 @@ mod tests {
         layout!("unaffected", Unaffected: front, back);
         #[cfg(feature = "opentype")]
         layout!("shape_options", ShapeOptions<'static>: size, script, direction, language, features, features_length, sound_breaks,
-        skips_medials, normalizes_always, invisible_glyph, not_found_glyph, not_found_selector_glyph, font, cache);
+        skips_medials, normalizes_always, invisible_glyph, not_found_glyph, not_found_selector_glyph, font, cache,
+        old_spec_zero_context);
         #[cfg(feature = "opentype")]
         layout!("glyph_extents", GlyphExtents: x_bearing, y_bearing, width, height);
         lines

@@ -9,7 +9,9 @@ use sengadlit::alloc::{AllocError, Global, Vec as List};
 use sengadlit::buffer::ShaperError;
 use sengadlit::map::{FeatureMap, Map, TableIndex};
 use sengadlit::ot_shape_plan::ShapeChoices;
-use sengadlit::plan::{ArabicPlan, BaseSearch, BreakFlags, Plan as Inner, StretchStart};
+use sengadlit::plan::{
+    ArabicPlan, BaseSearch, BreakFlags, Plan as Inner, StretchStart, ZeroContext,
+};
 use sengadlit::script::THAI;
 use sengadlit::shaper::Shaper;
 
@@ -50,10 +52,12 @@ pub fn make(
         input.centres_stretch,
         input.sound_breaks,
         input.searches_medials,
+        input.new_spec_zero_context,
     );
     plan.stretch_start = choices.stretch_start;
     plan.break_flags = choices.break_flags;
     plan.base_search = choices.base_search;
+    plan.zero_context = choices.zero_context;
     Ok(Plan {
         references: AtomicUsize::new(1),
         shaper,
@@ -64,7 +68,12 @@ pub fn make(
 }
 
 /// What these fields of a plan's input choose.
-pub fn choices(centres_stretch: Bool, sound_breaks: Bool, searches_medials: Bool) -> ShapeChoices {
+pub fn choices(
+    centres_stretch: Bool,
+    sound_breaks: Bool,
+    searches_medials: Bool,
+    new_spec_zero_context: Bool,
+) -> ShapeChoices {
     let mut choices = ShapeChoices::default();
     if centres_stretch != 0 {
         choices.stretch_start = StretchStart::Centred;
@@ -74,6 +83,9 @@ pub fn choices(centres_stretch: Bool, sound_breaks: Bool, searches_medials: Bool
     }
     if searches_medials != 0 {
         choices.base_search = BaseSearch::AllConsonants;
+    }
+    if new_spec_zero_context != 0 {
+        choices.zero_context = ZeroContext::NewSpec;
     }
     choices
 }
@@ -200,23 +212,38 @@ mod tests {
                 user_data: null_mut(),
                 destroy: None,
             },
+            new_spec_zero_context: 0,
         }
     }
 
-    fn chosen(input: &PlanInput) -> (StretchStart, BreakFlags, BaseSearch) {
-        let plan = make(Shaper::Indic, input, &[], &[], &[]).ok().unwrap();
-        let kept = plan.inner.plan_data.indic().unwrap();
-        assert_eq!(kept.base_search, plan.inner.base_search);
+    type Choices = (StretchStart, BreakFlags, BaseSearch, ZeroContext);
+
+    fn chosen(input: &PlanInput) -> Choices {
+        let plan = make(Shaper::Indic, input, &[], &[], &[])
+            .ok()
+            .unwrap()
+            .inner;
+        let kept = plan.plan_data.indic().unwrap();
+        assert_eq!(kept.base_search, plan.base_search);
+        // (the font has no script: one of the older specification)
+        assert_eq!(
+            kept.rphf.zero_context(),
+            plan.zero_context == ZeroContext::OldSpec
+        );
         (
-            plan.inner.stretch_start,
-            plan.inner.break_flags,
-            plan.inner.base_search,
+            plan.stretch_start,
+            plan.break_flags,
+            plan.base_search,
+            plan.zero_context,
         )
     }
 
     #[test]
     fn each_choice_of_the_input_is_the_plans() {
-        const CODE: (StretchStart, BreakFlags) = (StretchStart::AsCode, BreakFlags::AsCode);
+        use BaseSearch::{AllConsonants, WithoutMedials};
+        use StretchStart::{AsCode, Centred};
+        use ZeroContext::{NewSpec, OldSpec};
+        const CODE: BreakFlags = BreakFlags::AsCode;
         let medials = PlanInput {
             searches_medials: 1,
             ..input()
@@ -229,15 +256,18 @@ mod tests {
             centres_stretch: 1,
             ..input()
         };
-        let without = BaseSearch::WithoutMedials;
-        assert_eq!(chosen(&input()), (CODE.0, CODE.1, without));
-        assert_eq!(
-            chosen(&medials),
-            (CODE.0, CODE.1, BaseSearch::AllConsonants)
-        );
-        assert_eq!(chosen(&sound), (CODE.0, BreakFlags::Sound, without));
-        assert_eq!(chosen(&centred), (StretchStart::Centred, CODE.1, without));
+        let newer = PlanInput {
+            new_spec_zero_context: 1,
+            ..input()
+        };
+        let none = (AsCode, CODE, WithoutMedials, OldSpec);
+        assert_eq!(chosen(&input()), none);
+        assert_eq!(chosen(&medials), (AsCode, CODE, AllConsonants, OldSpec));
+        assert_eq!(chosen(&sound), (AsCode, BreakFlags::Sound, none.2, OldSpec));
+        assert_eq!(chosen(&centred), (Centred, CODE, none.2, OldSpec));
+        assert_eq!(chosen(&newer), (AsCode, CODE, none.2, NewSpec));
     }
+
     // Marks stretch in a font that has `stch`; letters join, whatever it has.
     #[test]
     fn data_tell_whether_marks_stretch() {

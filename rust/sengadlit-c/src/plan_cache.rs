@@ -7,7 +7,7 @@ use sengadlit::buffer::{Direction, Script, ShaperError};
 use sengadlit::opentype::ShapePlan;
 use sengadlit::ot_shape_normalize::Rounds;
 use sengadlit::ot_shape_plan::UserFeature;
-use sengadlit::plan::{BaseSearch, BreakFlags};
+use sengadlit::plan::{BaseSearch, BreakFlags, ZeroContext};
 
 /// How many plans a cache keeps: those that were used last.
 const MOST_PLANS: usize = 64;
@@ -23,6 +23,7 @@ pub struct PlanOf {
     pub rounds: Rounds,
     pub break_flags: BreakFlags,
     pub base_search: BaseSearch,
+    pub zero_context: ZeroContext,
 }
 
 /// A plan, and what it was made of.
@@ -84,7 +85,7 @@ mod tests {
     use sengadlit::buffer::Direction;
     use sengadlit::opentype::{Face, ShapePlan};
     use sengadlit::ot_shape_normalize::Rounds;
-    use sengadlit::plan::{BaseSearch, BreakFlags};
+    use sengadlit::plan::{BaseSearch, BreakFlags, ZeroContext};
 
     fn of(face: u64) -> PlanOf {
         PlanOf {
@@ -95,6 +96,7 @@ mod tests {
             rounds: Rounds::AsCode,
             break_flags: BreakFlags::AsCode,
             base_search: BaseSearch::AllConsonants,
+            zero_context: ZeroContext::NewSpec,
         }
     }
 

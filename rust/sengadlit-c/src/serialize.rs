@@ -34,7 +34,7 @@ pub fn write(
     flags: SerializeFlags,
 ) -> fmt::Result {
     let glyphs = buffer.text.glyphs();
-    let face = face.map(|face| &face.parsed);
+    let face = face.map(Face::parsed);
     match (buffer.content(), format) {
         (Content::Characters, Format::Text) => write_characters(to, glyphs, flags),
         (Content::Characters, Format::Json) => write_objects(to, glyphs, flags),

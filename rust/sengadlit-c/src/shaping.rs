@@ -16,7 +16,7 @@ use sengadlit::font::{FeaturesOnly, Font as AnswersFont, GlyphId};
 use sengadlit::map::TableIndex;
 use sengadlit::ot_shape::{self, ShapeSettings};
 use sengadlit::ot_shape_normalize::{NormalizeFont, NormalizeSettings, Rounds};
-use sengadlit::ot_shape_plan::{FontFeatures, ShapePlan as Plan};
+use sengadlit::ot_shape_plan::{EnginePlan as Plan, FontFeatures};
 use sengadlit::ot_shape_position::{DefaultIgnorables, MetricsFont};
 use sengadlit::shaper::Shaper;
 use sengadlit::shaper::checked::CallError;
@@ -122,6 +122,7 @@ pub fn make(
         input.centres_stretch,
         input.sound_breaks,
         input.searches_medials,
+        input.new_spec_zero_context,
     );
     let (script, users) = (script(input.script), wanted.as_slice());
     let inner = Plan::with_choices(Global, script, direction, &font, &layout, users, choices)?;
@@ -296,7 +297,7 @@ mod tests {
     use super::*;
     use crate::border::shaping::{LayoutTableInput, TableFeatureInput};
     use core::ptr::null;
-    use sengadlit::plan::{BaseSearch, BreakFlags, StretchStart};
+    use sengadlit::plan::{BaseSearch, BreakFlags, StretchStart, ZeroContext};
 
     fn no_table() -> LayoutTableInput {
         LayoutTableInput {
@@ -315,9 +316,16 @@ mod tests {
         }
     }
 
+    type Choices = (StretchStart, BreakFlags, BaseSearch, ZeroContext);
+
     // The units of an em, and the choices, of the plan for these fields.
-    fn made(units_per_em: u32, bits: [i32; 3]) -> (u16, (StretchStart, BreakFlags, BaseSearch)) {
-        let [centres_stretch, sound_breaks, searches_medials] = bits;
+    fn made(units_per_em: u32, bits: [i32; 4]) -> (u16, Choices) {
+        let [
+            centres_stretch,
+            sound_breaks,
+            searches_medials,
+            new_spec_zero_context,
+        ] = bits;
         let input = ShapePlanInput {
             size: 0,
             script: u32::from_be_bytes(*b"Deva"),
@@ -330,6 +338,8 @@ mod tests {
             centres_stretch,
             sound_breaks,
             searches_medials,
+            reserved: 0,
+            new_spec_zero_context,
         };
         let empty = || LayoutTable {
             has_table: false,
@@ -341,24 +351,33 @@ mod tests {
         };
         let plan = make(&input, &empty(), &empty(), &[]).ok().unwrap();
         let kept = plan.inner.plan();
-        let choices = (kept.stretch_start, kept.break_flags, kept.base_search);
+        let choices = (
+            kept.stretch_start,
+            kept.break_flags,
+            kept.base_search,
+            kept.zero_context,
+        );
         (plan.units_per_em, choices)
     }
 
     #[test]
     fn each_choice_of_the_input_is_the_plans() {
         use BaseSearch::{AllConsonants, WithoutMedials};
+        use BreakFlags::Sound;
         use StretchStart::{AsCode, Centred};
+        use ZeroContext::{NewSpec, OldSpec};
         let code = BreakFlags::AsCode;
+        let none = (AsCode, code, WithoutMedials, OldSpec);
         let rows = [
-            (0, [0, 0, 0], (1000, (AsCode, code, WithoutMedials))),
-            (1, [1, 0, 0], (1, (Centred, code, WithoutMedials))),
+            (0, [0, 0, 0, 0], (1000, none)),
+            (1, [1, 0, 0, 0], (1, (Centred, code, none.2, OldSpec))),
+            (2048, [0, 1, 0, 0], (2048, (AsCode, Sound, none.2, OldSpec))),
             (
-                2048,
-                [0, 1, 0],
-                (2048, (AsCode, BreakFlags::Sound, WithoutMedials)),
+                65535,
+                [0, 0, 1, 0],
+                (65535, (AsCode, code, AllConsonants, OldSpec)),
             ),
-            (65535, [0, 0, 1], (65535, (AsCode, code, AllConsonants))),
+            (1, [0, 0, 0, 1], (1, (AsCode, code, none.2, NewSpec))),
         ];
         for (units, bits, wanted) in rows {
             assert_eq!(made(units, bits), wanted);

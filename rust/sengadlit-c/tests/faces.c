@@ -2,6 +2,7 @@
    have hb-shape's answers. The last line is 'N passed, M failed'. */
 #include "world.h"
 
+#include <stddef.h>
 #include <stdio.h>
 #include <stdlib.h>
 #include <string.h>
@@ -214,6 +215,16 @@ static void try_words(void)
         check(words[i].text, sengadlit_shape_buffer(face, &options, buffer) == SENGADLIT_DONE && is_line(words[i].wanted));
     }
     check("plans of five scripts and more", sengadlit_plan_cache_get_length(cache) >= 5);
+}
+
+/* A face with tables shapes each word as it did without; a second call, or none of a face, does nothing. */
+static void try_prepared(void)
+{
+    sengadlit_face_prepare(NULL);
+    sengadlit_face_prepare(face);
+    try_words();
+    sengadlit_face_prepare(face);
+    try_words();
 }
 
 static void try_encodings(void)
@@ -535,8 +546,11 @@ static void try_refusals(void)
                            sengadlit_shape_buffer(face, NULL, NULL) == SENGADLIT_ARGUMENT);
     options.size = 0;
     REFUSES("no size", OPTIONS);
-    options.size = sizeof options - 1;
+    options.size = offsetof(sengadlit_shape_options_t, old_spec_zero_context) - 1;
     REFUSES("a size of none", OPTIONS);
+    options.size = offsetof(sengadlit_shape_options_t, old_spec_zero_context);
+    options.old_spec_zero_context = 1;
+    check("an earlier header", sengadlit_shape_utf8(face, "Tofi", -1, &options, buffer) == SENGADLIT_DONE);
     options = no_options();
     options.direction = (sengadlit_direction_t)3;
     REFUSES("no direction", DIRECTION);
@@ -576,6 +590,122 @@ static void try_refusals(void)
     check("no character", sengadlit_shape_buffer(face, NULL, buffer) == SENGADLIT_ARGUMENT);
 }
 
+/* ---- Edits ---- */
+
+/* What the buffer has, with flags. */
+static void keep_line(char *to)
+{
+    check("flags", sengadlit_buffer_serialize(buffer, face, SENGADLIT_SERIALIZE_FORMAT_TEXT, SENGADLIT_SERIALIZE_FLAG_GLYPH_FLAGS, to,
+                                              LONGEST_LINE, NULL) == SENGADLIT_DONE);
+}
+
+/* A text, and what an edit makes of it: the glyphs are those of the new text, shaped whole. */
+static void expect_edit(const char *before, const char *after, unsigned int start, unsigned int old_end, unsigned int new_end)
+{
+    static char found[LONGEST_LINE], wanted[LONGEST_LINE];
+    sengadlit_shape_options_t options = no_options();
+    unsigned int again_start = 77, again_end = 77;
+
+    options.normalizes_always = 1;
+    options.cache = cache;
+    check(after, sengadlit_shape_utf8(face, before, -1, &options, buffer) == SENGADLIT_DONE);
+    check(after, sengadlit_reshape_utf8(face, after, -1, start, old_end, new_end, &options, buffer, &again_start,
+                                        &again_end) == SENGADLIT_DONE);
+    check(after, again_start <= start && new_end <= again_end && again_end <= strlen(after));
+    check(after, sengadlit_buffer_is_complete(buffer));
+    keep_line(found);
+    check(after, sengadlit_shape_utf8(face, after, -1, &options, buffer) == SENGADLIT_DONE);
+    keep_line(wanted);
+    check(after, strcmp(found, wanted) == 0);
+}
+
+/* Each word behind the word before it, and typed into the middle of a line. */
+static void try_edits(void)
+{
+    static char line_before[1024], line_after[1024];
+
+    sengadlit_buffer_reset(buffer);
+    for (unsigned int i = 1; i < words_length; i++) {
+        unsigned int length = (unsigned int)strlen(words[i].text), front = (unsigned int)strlen(words[i - 1].text) + 1;
+        snprintf(line_before, sizeof line_before, "%s %s %s", words[i - 1].text, words[i].text, words[i - 1].text);
+        snprintf(line_after, sizeof line_after, "%s %s%s %s", words[i - 1].text, words[i].text, words[i].text, words[i - 1].text);
+        expect_edit(line_before, line_after, front, front, front + length);
+        expect_edit(line_after, line_before, front, front + length, front);
+    }
+    expect_edit("", "Tofi", 0, 0, 4);
+    expect_edit("12", "1\u06282", 1, 1, 3);
+    expect_edit("Tofi", "", 0, 4, 0);
+}
+
+static void try_edits_of_units(void)
+{
+    static const uint16_t wide[] = {'T', 'o', 'f', 'f', 'i', ' ', 'T', 'o', 0xD83D, 0xDE00, 'T', 0};
+    static const uint32_t widest[] = {0x628, 0x20, 0x628, 0x628, 0};
+    sengadlit_buffer_properties_t properties = SENGADLIT_INIT(sengadlit_buffer_properties_t);
+    static char found[LONGEST_LINE], wanted[LONGEST_LINE];
+    unsigned int start, end;
+
+    check("units of 16 bits", sengadlit_shape_utf16(face, wide, 10, NULL, buffer) == SENGADLIT_DONE &&
+              sengadlit_reshape_utf16(face, wide, -1, 10, 10, 11, NULL, buffer, &start, &end) == SENGADLIT_DONE);
+    keep_line(found);
+    check("units of 16 bits", end == 11 && sengadlit_shape_utf16(face, wide, -1, NULL, buffer) == SENGADLIT_DONE);
+    keep_line(wanted);
+    check("units of 16 bits", strcmp(found, wanted) == 0);
+    /* In a context, which stays. */
+    sengadlit_buffer_clear_contents(buffer);
+    check("an item", sengadlit_buffer_add_utf8(buffer, "\u0628\u0628\u0628", 6, 2, 2) == SENGADLIT_DONE);
+    properties.script = SENGADLIT_TAG('A', 'r', 'a', 'b');
+    properties.direction = SENGADLIT_DIRECTION_RTL;
+    check("an item's properties", sengadlit_buffer_set_properties(buffer, &properties) == SENGADLIT_DONE);
+    sengadlit_buffer_get_glyph_infos(buffer, NULL)[0].cluster = 0;
+    check("an item, shaped", sengadlit_shape_buffer(face, NULL, buffer) == SENGADLIT_DONE && is_line("[beh-ar.medi=0+320]"));
+    check("an item's edit", sengadlit_reshape_utf32(face, widest, -1, 1, 1, 4, NULL, buffer, NULL, NULL) == SENGADLIT_DONE);
+    check("the context counts", is_line("[beh-ar.medi=3+320|beh-ar.init=2+280|space=1+250|beh-ar.fina=0+760]"));
+    /* Clusters in any order. */
+    sengadlit_buffer_reset(buffer);
+    properties = (sengadlit_buffer_properties_t)SENGADLIT_INIT(sengadlit_buffer_properties_t);
+    properties.cluster_level = SENGADLIT_BUFFER_CLUSTER_LEVEL_CHARACTERS;
+    check("a level", sengadlit_buffer_set_properties(buffer, &properties) == SENGADLIT_DONE);
+    check("any order", sengadlit_shape_utf8(face, "Tofi Tofi Tofi Tofi", -1, NULL, buffer) == SENGADLIT_DONE &&
+              sengadlit_reshape_utf8(face, "Tofi Tofi Tofi Tof", -1, 18, 19, 18, NULL, buffer, &start, &end) == SENGADLIT_DONE &&
+              start == 0 && end == 18);
+}
+
+#define REFUSES_EDIT(what, text, start, old_end, new_end, argument) \
+    refuse(what, sengadlit_reshape_utf8(face, text, -1, start, old_end, new_end, &options, buffer, NULL, NULL), SENGADLIT_ARGUMENT, \
+           SENGADLIT_ARGUMENT_##argument)
+
+static void try_refused_edits(void)
+{
+    sengadlit_shape_options_t options = no_options();
+    sengadlit_buffer_properties_t properties = SENGADLIT_INIT(sengadlit_buffer_properties_t);
+    unsigned int start = 77, end = 77;
+
+    sengadlit_buffer_reset(buffer);
+    properties.max_length = 4;
+    check("a greatest length", sengadlit_buffer_set_properties(buffer, &properties) == SENGADLIT_DONE);
+    check("no text of glyphs", sengadlit_reshape_utf8(face, "x", -1, 0, 0, 1, NULL, buffer, NULL, NULL) == SENGADLIT_ARGUMENT);
+    check("a text", sengadlit_shape_utf8(face, "Tofi", -1, NULL, buffer) == SENGADLIT_DONE);
+    REFUSES_EDIT("an end before the start", "Tofix", 4, 3, 5, RANGE);
+    REFUSES_EDIT("a new end before the start", "Tofix", 4, 4, 3, RANGE);
+    REFUSES_EDIT("an end behind the text", "Tofix", 4, 4, 6, RANGE);
+    REFUSES_EDIT("no text", NULL, 0, 0, 0, TEXT);
+    options.direction = SENGADLIT_DIRECTION_RTL;
+    REFUSES_EDIT("another direction", "Tofx", 3, 4, 4, OPTIONS);
+    options = no_options();
+    options.script = SENGADLIT_TAG('C', 'y', 'r', 'l');
+    REFUSES_EDIT("another script", "Tofx", 3, 4, 4, OPTIONS);
+    options.size = 0;
+    REFUSES_EDIT("no size", "Tofix", 4, 4, 5, OPTIONS);
+    refuse("no face", sengadlit_reshape_utf8(NULL, "Tofix", -1, 4, 4, 5, NULL, buffer, NULL, NULL), SENGADLIT_ARGUMENT,
+           SENGADLIT_ARGUMENT_FACE);
+    refuse("too long", sengadlit_reshape_utf8(face, "Tofixxx", -1, 4, 4, 7, NULL, buffer, &start, &end), SENGADLIT_TOO_LONG,
+           SENGADLIT_ARGUMENT_NONE);
+    check("nothing is told", start == 77 && end == 77);
+    check("no buffer", sengadlit_reshape_utf8(face, "x", -1, 0, 0, 1, NULL, NULL, NULL, NULL) == SENGADLIT_ARGUMENT);
+    sengadlit_buffer_reset(buffer);
+}
+
 /* ---- In an array that is lent ---- */
 
 static sengadlit_glyph_info_t array[8];
@@ -589,6 +719,11 @@ static void try_lent(void)
     check("lent, shaped", sengadlit_shape_utf8(face, "Tofi", -1, NULL, buffer) == SENGADLIT_DONE &&
               is_line("[T=0+490|o=1+560|fi=2+520]"));
     check("in the array", sengadlit_buffer_read_glyphs(buffer, NULL) == array);
+    check("edited", sengadlit_reshape_utf8(face, "TofiTo", -1, 4, 4, 6, NULL, buffer, NULL, NULL) == SENGADLIT_DONE &&
+              is_line("[T=0+490|o=1+560|fi=2+520|T=4+490|o=5+560]"));
+    check("edited in the array", sengadlit_buffer_read_glyphs(buffer, NULL) == array);
+    check("edited beyond the array", sengadlit_reshape_utf8(face, "TofiToTTTTT", -1, 6, 6, 11, NULL, buffer, NULL,
+              NULL) == SENGADLIT_DONE && sengadlit_buffer_get_length(buffer) == 10);
     check("longer than the array", sengadlit_shape_utf8(face, "TTTTTTTTT", -1, NULL, buffer) == SENGADLIT_DONE &&
               sengadlit_buffer_get_length(buffer) == 9);
     check("given back", sengadlit_buffer_give_back(buffer, &length, &room) != array && length == 9 && room == 0);
@@ -625,6 +760,7 @@ static void try_spoilt(unsigned int rounds)
         sengadlit_face_t *spoilt = sengadlit_face_create(bytes, i % 10 == 0 ? at_random(&state) % font_length : font_length, 0,
                                                          &destroyed, destroy, NULL);
         for (unsigned int j = 0; spoilt && j < 5; j++) {
+            if (j == 2) sengadlit_face_prepare(spoilt);
             const char *text = words[at_random(&state) % words_length].text;
             check("a spoilt font", may_end(sengadlit_shape_utf8(spoilt, text, -1, NULL, buffer)));
         }
@@ -648,6 +784,7 @@ int main(int argc, char **argv)
     try_copies();
     try_glyphs();
     try_words();
+    try_prepared();
     try_encodings();
     try_properties();
     try_precedence();
@@ -661,6 +798,9 @@ int main(int argc, char **argv)
     try_replaced_glyphs();
     try_cache();
     try_refusals();
+    try_edits();
+    try_edits_of_units();
+    try_refused_edits();
     try_lent();
     try_spoilt(argc > 3 ? (unsigned int)atoi(argv[3]) : 300);
     sengadlit_plan_cache_destroy(cache);

@@ -176,6 +176,7 @@ static sengadlit_plan_t *make_plan(unsigned int *destroyed)
     input.centres_stretch = settings & 16;
     input.sound_breaks = settings & 64;
     input.searches_medials = settings & 128;
+    input.new_spec_zero_context = settings & 16;
     input.global_mask = next();
     input.features = features;
     input.features_length = 8;
@@ -412,7 +413,15 @@ static sengadlit_status_t shape_by_face(sengadlit_buffer_t *buffer, const sengad
     options.cache = how & 64 ? sengadlit_plan_cache_create() : NULL;
     sengadlit_status_t status = how & 128 ? sengadlit_shape_buffer(face, &options, buffer)
                                           : sengadlit_shape_utf8(face, texts[next() % 6], -1, &options, buffer);
-    if (sengadlit_plan_cache_get_length(options.cache) > 1) abort();
+    if (status == SENGADLIT_DONE && next() % 2 == 0) {
+        unsigned int start = next() % 9, old_end = start + next() % 5, new_end = start + next() % 5;
+        const char *text = texts[next() % 6];
+        unsigned int from = 0, to = 0;
+        sengadlit_status_t again = sengadlit_reshape_utf8(face, text, -1, start, old_end, new_end, &options, buffer, &from, &to);
+        if (from > to || to > strlen(text)) abort();
+        if (again == SENGADLIT_INTERNAL) status = again;
+    }
+    if (sengadlit_plan_cache_get_length(options.cache) > 2) abort(); /* A text without a script may be edited to have one. */
     sengadlit_plan_cache_destroy(options.cache);
     sengadlit_face_destroy(face);
     if (face && destroyed != 1) abort();
@@ -642,6 +651,7 @@ static sengadlit_shape_plan_t *make_shape_plan(void)
     input.centres_stretch = settings & 2;
     input.sound_breaks = settings & 8;
     input.searches_medials = settings & 16;
+    input.new_spec_zero_context = settings & 32;
     sengadlit_shape_plan_t *plan = sengadlit_shape_plan_create(&input, &error);
     if (!plan && (error.status != SENGADLIT_ARGUMENT || error.argument != SENGADLIT_ARGUMENT_LOOKUPS)) abort();
     return plan;

@@ -80,6 +80,7 @@ static void print_plans(void)
     FIELD(plan_input, lookups_length);
     FIELD(plan_input, user_data);
     FIELD(plan_input, destroy);
+    FIELD(plan_input, new_spec_zero_context);
     STRUCT(plan_data);
     FIELD(plan_data, size);
     FIELD(plan_data, shaper);
@@ -151,6 +152,8 @@ static void print_shaping(void)
     FIELD(shape_plan_input, centres_stretch);
     FIELD(shape_plan_input, sound_breaks);
     FIELD(shape_plan_input, searches_medials);
+    FIELD(shape_plan_input, reserved);
+    FIELD(shape_plan_input, new_spec_zero_context);
     STRUCT(lookup);
     FIELD(lookup, index);
     FIELD(lookup, mask);
@@ -189,6 +192,7 @@ static void print_shaping(void)
     FIELD(shape_options, not_found_selector_glyph);
     FIELD(shape_options, font);
     FIELD(shape_options, cache);
+    FIELD(shape_options, old_spec_zero_context);
     STRUCT(glyph_extents);
     FIELD(glyph_extents, x_bearing);
     FIELD(glyph_extents, y_bearing);

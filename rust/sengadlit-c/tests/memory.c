@@ -240,6 +240,13 @@ static sengadlit_status_t make_face(void)
     return face ? SENGADLIT_DONE : SENGADLIT_MEMORY;
 }
 
+/* Where memory is refused there are fewer tables, and texts are shaped as with all. */
+static sengadlit_status_t prepare_face(void)
+{
+    sengadlit_face_prepare(face);
+    return SENGADLIT_DONE;
+}
+
 static sengadlit_status_t make_cache(void)
 {
     cache = sengadlit_plan_cache_create();
@@ -266,6 +273,12 @@ static sengadlit_status_t shape_syllables(void)
 static sengadlit_status_t shape_without_cache(void)
 {
     return sengadlit_shape_utf8(face, "Tofi", -1, NULL, world.buffer);
+}
+
+/* Of the text that was shaped without a cache. */
+static sengadlit_status_t reshape_text(void)
+{
+    return sengadlit_reshape_utf8(face, "Tofi To", -1, 4, 4, 7, NULL, world.buffer, NULL, NULL);
 }
 
 static sengadlit_status_t shape_own_text(void)
@@ -446,12 +459,14 @@ static void try_face(const char *path)
     font_length = length < 0 ? 0 : (size_t)length;
     begin_world(SENGADLIT_SHAPER_THAI, SENGADLIT_TAG('T', 'h', 'a', 'i'), 0x0E01, 4);
     try_call("face", make_face);
+    try_call("prepare", prepare_face);
     try_call("plan cache", make_cache);
     try_call("shape Latin", shape_latin);
     try_call("shape Latin again", shape_latin);
     try_call("shape Khmer", shape_khmer);
     try_call("shape Devanagari", shape_syllables);
     try_call("shape without cache", shape_without_cache);
+    try_call("reshape", reshape_text);
     try_call("shape own text", shape_own_text);
     printf("%u plans, complete: %d\n", sengadlit_plan_cache_get_length(cache) > 1, sengadlit_buffer_is_complete(world.buffer));
     sengadlit_plan_cache_destroy(cache);

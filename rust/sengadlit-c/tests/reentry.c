@@ -556,6 +556,9 @@ static void guess(void) { expect_status(sengadlit_buffer_guess_properties(world.
 static void shape_utf8(void) { expect_status(sengadlit_shape_utf8(NULL, "a", -1, NULL, world.buffer)); }
 static void shape_utf16(void) { expect_status(sengadlit_shape_utf16(NULL, NULL, 0, NULL, world.buffer)); }
 static void shape_utf32(void) { expect_status(sengadlit_shape_utf32(NULL, NULL, 0, NULL, world.buffer)); }
+static void reshape_utf8(void) { expect_status(sengadlit_reshape_utf8(NULL, "a", -1, 0, 0, 1, NULL, world.buffer, NULL, NULL)); }
+static void reshape_utf16(void) { expect_status(sengadlit_reshape_utf16(NULL, NULL, 0, 0, 0, 0, NULL, world.buffer, NULL, NULL)); }
+static void reshape_utf32(void) { expect_status(sengadlit_reshape_utf32(NULL, NULL, 0, 0, 0, 0, NULL, world.buffer, NULL, NULL)); }
 static void shape_buffer(void) { expect_status(sengadlit_shape_buffer(NULL, NULL, world.buffer)); }
 
 static void get_numbers(void)
@@ -625,6 +628,9 @@ static const struct intruder {
     {"shape_utf8", shape_utf8, 0},
     {"shape_utf16", shape_utf16, 0},
     {"shape_utf32", shape_utf32, 0},
+    {"reshape_utf8", reshape_utf8, 0},
+    {"reshape_utf16", reshape_utf16, 0},
+    {"reshape_utf32", reshape_utf32, 0},
     {"shape_buffer", shape_buffer, 0},
     {"getters of numbers", get_numbers, 0},
     {"caret_stops", stop_carets, 0},

@@ -117,7 +117,7 @@ static void names_and_versions(void)
                                             micro == SENGADLIT_VERSION_MICRO);
     sengadlit_version(NULL, NULL, NULL);
     check("the version", strcmp(sengadlit_version_string(), SENGADLIT_VERSION_STRING) == 0);
-    check("a later version", SENGADLIT_VERSION_ATLEAST(0, 1, 0) && !SENGADLIT_VERSION_ATLEAST(99, 0, 0));
+    check("a later version", SENGADLIT_VERSION_ATLEAST(0, 2, 0) && !SENGADLIT_VERSION_ATLEAST(99, 0, 0));
     check("this version", sengadlit_version_atleast(major, minor, micro) == 1 && sengadlit_version_atleast(0, 0, UINT_MAX) == 1);
     check("a later micro", !sengadlit_version_atleast(major, minor, micro + 1));
     check("a later minor", !sengadlit_version_atleast(major, minor + 1, 0));
@@ -138,8 +138,8 @@ static void numbers_of_harfbuzz(void)
     check("properties", SENGADLIT_UNICODE_PROPS(SENGADLIT_UNICODE_GENERAL_CATEGORY_NON_SPACING_MARK, 230) == 0xE60C);
     check("a category", SENGADLIT_UNICODE_PROPS_GET_GENERAL_CATEGORY(0xE6EC) == 12);
     for (unsigned int number = 0; number < 32; number++)
-        check("a class of marks alone", SENGADLIT_UNICODE_PROPS_GET_COMBINING_CLASS(0xE6E0 | number) ==
-                                            (number >= 10 && number <= 12 ? 230 : 0));
+        check("a class of all but two", SENGADLIT_UNICODE_PROPS_GET_COMBINING_CLASS(0xE6E0 | number) ==
+                                            (number == 1 || number == 29 ? 0 : 230));
     check("a consonant syllable of Myanmar",
           SENGADLIT_MYANMAR_SYLLABLE_FROM_HARFBUZZ(0) == SENGADLIT_MYANMAR_SYLLABLE_CONSONANT);
     check("a broken one", SENGADLIT_MYANMAR_SYLLABLE_FROM_HARFBUZZ(1) == SENGADLIT_MYANMAR_SYLLABLE_BROKEN);

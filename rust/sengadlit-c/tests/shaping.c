@@ -284,6 +284,23 @@ static void expect_after(const char *what, sengadlit_bool_t (*lookup)(const seng
     }
 }
 
+/* In an array that is lent the text stands behind each call, and so does one that is refused. */
+static void expect_in_array(const char *what, sengadlit_bool_t (*lookup)(const sengadlit_lookup_t *, sengadlit_buffer_t *),
+                            sengadlit_status_t status)
+{
+    static sengadlit_glyph_info_t array[16];
+    unsigned int length, room;
+
+    lookup_7 = lookup;
+    check(what, sengadlit_buffer_lend(world.buffer, array, 0, 16) == SENGADLIT_DONE);
+    set_text("\u1781\u17C2\u1784");
+    for (int whole = 0; whole < 2; whole++) {
+        check(what, (whole ? shape_whole(plan) : shape()) == status && glyphs() == array);
+        set_text("\u1781\u17C2\u1784");
+    }
+    check(what, sengadlit_buffer_give_back(world.buffer, &length, &room) == array && length == 3 && room == 16);
+}
+
 static void take_message(const char *message, void *user_data)
 {
     (void)message;
@@ -297,6 +314,9 @@ static void try_bad_lookups(void)
 
     expect_after("memory is refused", refuse, SENGADLIT_MEMORY);
     expect_after("too long", make_many, SENGADLIT_TOO_LONG);
+    expect_in_array("lent", count_up, SENGADLIT_DONE);
+    expect_in_array("lent, memory is refused", refuse, SENGADLIT_MEMORY);
+    expect_in_array("lent, too long", make_many, SENGADLIT_TOO_LONG);
     sengadlit_set_message_func(take_message, &messages);
     expect_after("a number that no glyph has", leave_great_number, SENGADLIT_ARGUMENT);
     sengadlit_buffer_get_error(world.buffer, &error);

@@ -58,27 +58,39 @@ static void *run(void *data)
 
 static void destroy(void *user_data) { ++*(unsigned int *)user_data; }
 
+/* Threads shape with a face; returns how many words failed. A face with tables is destroyed behind the threads: helgrind and drd
+   don't know that the count of references orders what each read before what the last one frees. */
+static unsigned int share(sengadlit_face_t *face, int is_prepared)
+{
+    struct work work[THREADS] = {{0}};
+    pthread_t threads[THREADS];
+    unsigned int failed = 0;
+
+    if (is_prepared) sengadlit_face_prepare(face);
+    for (unsigned int i = 0; i < THREADS; i++) {
+        work[i].face = sengadlit_face_reference(face);
+        if (pthread_create(&threads[i], NULL, run, &work[i]) != 0) exit(EXIT_FAILURE);
+    }
+    if (!is_prepared) sengadlit_face_destroy(face);
+    for (unsigned int i = 0; i < THREADS; i++) {
+        pthread_join(threads[i], NULL);
+        failed += work[i].failed;
+    }
+    if (is_prepared) sengadlit_face_destroy(face);
+    return failed;
+}
+
 int main(int argc, char **argv)
 {
     FILE *file = argc == 3 ? fopen(argv[1], "rb") : NULL;
-    struct work work[THREADS] = {{0}};
-    pthread_t threads[THREADS];
     unsigned int failed = 0;
 
     if (!file) return EXIT_FAILURE;
     size_t length = fread(font, 1, sizeof font, file);
     fclose(file);
     read_words(argv[2]);
-    sengadlit_face_t *face = sengadlit_face_create(font, length, 0, &destroyed, destroy, NULL);
-    for (unsigned int i = 0; i < THREADS; i++) {
-        work[i].face = sengadlit_face_reference(face);
-        if (pthread_create(&threads[i], NULL, run, &work[i]) != 0) return EXIT_FAILURE;
-    }
-    sengadlit_face_destroy(face);
-    for (unsigned int i = 0; i < THREADS; i++) {
-        pthread_join(threads[i], NULL);
-        failed += work[i].failed;
-    }
+    for (int is_prepared = 0; is_prepared < 2; is_prepared++)
+        failed += share(sengadlit_face_create(font, length, 0, &destroyed, destroy, NULL), is_prepared);
     printf("%u threads, %u words, %u failed, destroyed %u times\n", THREADS, words_length, failed, destroyed);
-    return failed == 0 && words_length > 40 && destroyed == 1 ? EXIT_SUCCESS : EXIT_FAILURE;
+    return failed == 0 && words_length > 40 && destroyed == 2 ? EXIT_SUCCESS : EXIT_FAILURE;
 }

@@ -17,9 +17,11 @@ use core::ptr::{null, null_mut};
 use core::slice;
 use core::sync::atomic::Ordering::{AcqRel, Relaxed};
 use core::sync::atomic::{AtomicU64, AtomicUsize};
+use sengadlit::editing::TextEdit;
 use sengadlit::font::{Font as _, GlyphId};
 use sengadlit::opentype::{Face as Parsed, FaceError, Feature, SerializeFlags};
 use sengadlit::ot_shape_normalize::NormalizeFont as _;
+use std::sync::OnceLock;
 
 // ---- Faces ----
 
@@ -28,13 +30,22 @@ pub struct Face {
     references: AtomicUsize,
     /// Its number, which no other face gets.
     pub serial: u64,
-    /// Over the bytes that are C's until the last reference goes, or over the copy.
-    pub parsed: Parsed<'static>,
+    // Over the bytes that are C's until the last reference goes, or over the copy.
+    parsed: Parsed<'static>,
+    // The same with tables, once C has asked for them.
+    prepared: OnceLock<Parsed<'static>>,
     kept: Kept,
     // The bytes, where they aren't C's.
     _copy: Vec<u8>,
     // Of which this is the user data.
     font: OwnFont,
+}
+
+impl Face {
+    /// The face, with tables if it is prepared.
+    pub fn parsed(&self) -> &Parsed<'static> {
+        self.prepared.get().unwrap_or(&self.parsed)
+    }
 }
 
 // The bytes of C's; none where they are null, or more than there can be.
@@ -90,6 +101,7 @@ fn make(data: Option<&'static [u8]>, index: c_uint, kept: Kept) -> Result<Box<Fa
         references: AtomicUsize::new(1),
         serial: NEXT.fetch_add(1, Relaxed),
         parsed,
+        prepared: OnceLock::new(),
         kept,
         _copy: copy,
         font: OwnFont(Font {
@@ -151,23 +163,38 @@ pub unsafe extern "C" fn sengadlit_face_destroy(face: *mut Face) {
 }
 
 #[unsafe(no_mangle)]
+pub extern "C" fn sengadlit_face_prepare(face: Option<&Face>) {
+    let Some(face) = face else { return };
+    let prepared = || {
+        face.prepared.get_or_init(|| {
+            let mut prepared = face.parsed.clone();
+            prepared.prepare();
+            prepared
+        });
+        Ok(())
+    };
+    // (a panic leaves the face as it was)
+    let _: Result<(), Error> = guarded(prepared);
+}
+
+#[unsafe(no_mangle)]
 pub extern "C" fn sengadlit_face_get_user_data(face: Option<&Face>) -> UserData {
     face.map_or(null_mut(), |face| face.kept.user_data)
 }
 
 #[unsafe(no_mangle)]
 pub extern "C" fn sengadlit_face_get_units_per_em(face: Option<&Face>) -> c_uint {
-    face.map_or(0, |face| face.parsed.units_per_em().into())
+    face.map_or(0, |face| face.parsed().units_per_em().into())
 }
 
 #[unsafe(no_mangle)]
 pub extern "C" fn sengadlit_face_get_glyph_count(face: Option<&Face>) -> c_uint {
-    face.map_or(0, |face| face.parsed.glyph_count().into())
+    face.map_or(0, |face| face.parsed().glyph_count().into())
 }
 
 #[unsafe(no_mangle)]
 pub extern "C" fn sengadlit_face_is_variable(face: Option<&Face>) -> Bool {
-    face.is_some_and(|face| face.parsed.is_variable()).into()
+    face.is_some_and(|face| face.parsed().is_variable()).into()
 }
 
 // Writes a glyph where there is one, and says whether.
@@ -183,7 +210,7 @@ pub extern "C" fn sengadlit_face_get_nominal_glyph(
     unicode: u32,
     glyph: Out<'_, u32>,
 ) -> Bool {
-    let found = face.and_then(|face| face.parsed.font(None).nominal_glyph(unicode));
+    let found = face.and_then(|face| face.parsed().font(None).nominal_glyph(unicode));
     put_glyph(glyph, found)
 }
 
@@ -194,7 +221,7 @@ pub extern "C" fn sengadlit_face_get_variation_glyph(
     selector: u32,
     glyph: Out<'_, u32>,
 ) -> Bool {
-    let font = face.map(|face| face.parsed.font(None));
+    let font = face.map(|face| face.parsed().font(None));
     let found = font.and_then(|font| font.variation_glyph(unicode, selector));
     put_glyph(glyph, found)
 }
@@ -203,7 +230,7 @@ pub extern "C" fn sengadlit_face_get_variation_glyph(
 pub extern "C" fn sengadlit_face_get_glyph_h_advance(face: Option<&Face>, glyph: u32) -> i32 {
     let glyph = u16::try_from(glyph).ok().map(GlyphId);
     face.zip(glyph).map_or(0, |(face, glyph)| {
-        face.parsed.font(None).glyph_h_advance(glyph)
+        face.parsed().font(None).glyph_h_advance(glyph)
     })
 }
 
@@ -213,7 +240,7 @@ pub extern "C" fn sengadlit_face_get_glyph_extents(
     glyph: u32,
     extents: Out<'_, GlyphExtents>,
 ) -> Bool {
-    let Some(found) = face.and_then(|face| face.parsed.glyph_extents(glyph)) else {
+    let Some(found) = face.and_then(|face| face.parsed().glyph_extents(glyph)) else {
         return 0;
     };
     put(
@@ -238,7 +265,7 @@ pub unsafe extern "C" fn sengadlit_face_get_glyph_name(
     name: *mut c_char,
     size: c_uint,
 ) -> Bool {
-    let Some(found) = face.and_then(|face| face.parsed.glyph_name(glyph)) else {
+    let Some(found) = face.and_then(|face| face.parsed().glyph_name(glyph)) else {
         return 0;
     };
     if !name.is_null() && size != 0 {
@@ -330,7 +357,7 @@ unsafe extern "C-unwind" fn would_substitute(
         };
         *to = GlyphId(glyph);
     }
-    let font = face.parsed.font(None);
+    let font = face.parsed().font(None);
     font.would_apply_any(lookups, glyphs, zero_context != 0)
         .into()
 }
@@ -338,7 +365,7 @@ unsafe extern "C-unwind" fn would_substitute(
 unsafe extern "C-unwind" fn has_feature(user_data: UserData, tag: u32) -> Bool {
     // SAFETY: what C was given.
     let face = unsafe { face_of(user_data) };
-    face.is_some_and(|face| face.parsed.font(None).has_feature(numbers::tag(tag)))
+    face.is_some_and(|face| face.parsed().font(None).has_feature(numbers::tag(tag)))
         .into()
 }
 
@@ -446,11 +473,12 @@ pub struct ShapeOptions<'a> {
     pub not_found_selector_glyph: u32,
     pub font: Option<&'a Font>,
     pub cache: Option<&'a PlanCache>,
+    pub old_spec_zero_context: Bool,
 }
 
 // SAFETY: it is C's, its size comes first, and null pointers and zeros are valid.
 unsafe impl Growing for ShapeOptions<'_> {
-    const LEAST: usize = size_of::<Self>();
+    const LEAST: usize = core::mem::offset_of!(Self, old_spec_zero_context);
 }
 
 impl ShapeOptions<'_> {
@@ -470,6 +498,7 @@ impl ShapeOptions<'_> {
         not_found_selector_glyph: 0,
         font: None,
         cache: None,
+        old_spec_zero_context: 0,
     };
 }
 
@@ -588,6 +617,123 @@ pub unsafe extern "C" fn sengadlit_shape_buffer(
             Ok(Status::Done)
         },
     )
+}
+
+// ---- Edits ----
+
+fn text_edit(start: c_uint, old_end: c_uint, new_end: c_uint) -> TextEdit {
+    TextEdit {
+        start: start as usize,
+        old_end: old_end as usize,
+        new_end: new_end as usize,
+    }
+}
+
+// Shapes again what an edit changes of a text whose glyphs are the buffer's, and tells between which units.
+//
+// # Safety
+//
+// The text has the length beside it, or ends with a zero; the options are C's.
+unsafe fn reshape_text<U: Unit>(
+    face: Option<&Face>,
+    first: *const U,
+    length: c_int,
+    edit: TextEdit,
+    options: *const ShapeOptions<'_>,
+    buffer: Pointer,
+    again: (Out<'_, c_uint>, Out<'_, c_uint>),
+) -> Status {
+    buffer.call(
+        |status| status,
+        |buffer| {
+            let face = face.ok_or_else(|| Error::argument(Argument::Face))?;
+            // SAFETY: a text of C's with its length, or one that ends with a zero.
+            let units = unsafe { text(first, length) }?;
+            // SAFETY: C's options, which last through the call.
+            let chosen = unsafe { chosen(options) }?;
+            let found = guarded(|| faces::reshape_text(face, units, edit, &chosen, buffer))?;
+            // (no text of C's has more units)
+            put(again.0, found.start as c_uint);
+            put(again.1, found.end as c_uint);
+            Ok(Status::Done)
+        },
+    )
+}
+
+/// # Safety
+///
+/// The text has the length beside it, or ends with a zero; the options are C's.
+#[unsafe(no_mangle)]
+pub unsafe extern "C" fn sengadlit_reshape_utf8(
+    face: Option<&Face>,
+    text: *const c_char,
+    text_length: c_int,
+    start: c_uint,
+    old_end: c_uint,
+    new_end: c_uint,
+    options: *const ShapeOptions<'_>,
+    buffer: Pointer,
+    again_start: Out<'_, c_uint>,
+    again_end: Out<'_, c_uint>,
+) -> Status {
+    let edit = text_edit(start, old_end, new_end);
+    let again = (again_start, again_end);
+    // SAFETY: the caller's promise.
+    unsafe {
+        reshape_text(
+            face,
+            text.cast::<u8>(),
+            text_length,
+            edit,
+            options,
+            buffer,
+            again,
+        )
+    }
+}
+
+/// # Safety
+///
+/// The text has the length beside it, or ends with a zero; the options are C's.
+#[unsafe(no_mangle)]
+pub unsafe extern "C" fn sengadlit_reshape_utf16(
+    face: Option<&Face>,
+    text: *const u16,
+    text_length: c_int,
+    start: c_uint,
+    old_end: c_uint,
+    new_end: c_uint,
+    options: *const ShapeOptions<'_>,
+    buffer: Pointer,
+    again_start: Out<'_, c_uint>,
+    again_end: Out<'_, c_uint>,
+) -> Status {
+    let edit = text_edit(start, old_end, new_end);
+    let again = (again_start, again_end);
+    // SAFETY: the caller's promise.
+    unsafe { reshape_text(face, text, text_length, edit, options, buffer, again) }
+}
+
+/// # Safety
+///
+/// The text has the length beside it, or ends with a zero; the options are C's.
+#[unsafe(no_mangle)]
+pub unsafe extern "C" fn sengadlit_reshape_utf32(
+    face: Option<&Face>,
+    text: *const u32,
+    text_length: c_int,
+    start: c_uint,
+    old_end: c_uint,
+    new_end: c_uint,
+    options: *const ShapeOptions<'_>,
+    buffer: Pointer,
+    again_start: Out<'_, c_uint>,
+    again_end: Out<'_, c_uint>,
+) -> Status {
+    let edit = text_edit(start, old_end, new_end);
+    let again = (again_start, again_end);
+    // SAFETY: the caller's promise.
+    unsafe { reshape_text(face, text, text_length, edit, options, buffer, again) }
 }
 
 // ---- In one line ----

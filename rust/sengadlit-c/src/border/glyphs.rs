@@ -174,8 +174,8 @@ impl Text {
         Ok(ended?)
     }
 
-    // Whether the list that works in C's array is that of spare glyphs, which a rewriting exchanges for that of the text. An
-    // array without room has no place of its own by which to tell.
+    // Whether the list that works in C's array is one that the crate has beside the text's. An array without room has no place
+    // of its own by which to tell.
     fn has_spare_in_array(&self) -> bool {
         self.array.as_ref().is_some_and(|array| {
             let is_text = self.inner.glyphs().as_ptr() == array.first() && array.room() != 0;
@@ -223,11 +223,18 @@ impl Text {
         };
         let length = self.inner.len();
         self.inner.set_max_len(length.max(self.max_length));
+        // The list in the array is one of three that the crate has beside the text's: the room for a lookup's list, ..
+        drop(self.inner.take_list());
         if array.is_used() {
-            // (the list in the array is that of spare glyphs, which a rewriting exchanges for that of the text)
+            // (.. that of spare glyphs, which a rewriting exchanges for that of the text, ..)
             let moved = self.inner.rewrite(length, &Same);
             debug_assert!(moved.is_ok());
-        } else if length <= array.room() {
+        }
+        if array.is_used() && self.inner.glyphs().as_ptr() != array.first() {
+            // (.. or the room for a copy, after a refused text was given back)
+            drop(self.inner.keep());
+        }
+        if !array.is_used() && length <= array.room() {
             // SAFETY: C lends the array, which has the room, and no list works in it. The new one is the text's, as in
             // `lend_array`.
             let mut list = unsafe {

@@ -10,7 +10,6 @@ use crate::{hooks, numbers};
 use core::ffi::c_uint;
 use core::ptr::null;
 use sengadlit::buffer::Span;
-use sengadlit::shaper::{Composition, Decomposition};
 
 // Runs a hook.
 #[inline]
@@ -66,13 +65,13 @@ pub extern "C" fn sengadlit_decompose(
         _ => Err(Error::argument(Argument::Result)),
     };
     let written = found.map(|parts| match parts {
-        Decomposition::Parts(first, second) => {
+        Some(Some((first, second))) => {
             put(a, u32::from(first));
             put(b, u32::from(second));
             Status::Done
         }
-        Decomposition::Whole => Status::NotFound,
-        Decomposition::NoHook => Status::Absent,
+        Some(None) => Status::NotFound,
+        None => Status::Absent,
     });
     ended(written, error)
 }
@@ -92,12 +91,12 @@ pub extern "C" fn sengadlit_compose(
         (_, None) => Err(Error::argument(Argument::Result)),
     };
     let written = found.map(|composed| match composed {
-        Composition::Whole(whole) => {
+        Some(Some(whole)) => {
             put(ab, u32::from(whole));
             Status::Done
         }
-        Composition::Apart => Status::NotFound,
-        Composition::NoHook => Status::Absent,
+        Some(None) => Status::NotFound,
+        None => Status::Absent,
     });
     ended(written, error)
 }

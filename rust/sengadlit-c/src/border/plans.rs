@@ -203,11 +203,12 @@ pub struct PlanInput {
     pub lookups: *const u16,
     pub lookups_length: c_uint,
     pub kept: Kept,
+    pub new_spec_zero_context: Bool,
 }
 
 // SAFETY: it is C's, its size comes first, and zeros and null pointers are valid.
 unsafe impl Growing for PlanInput {
-    const LEAST: usize = size_of::<Self>();
+    const LEAST: usize = core::mem::offset_of!(Self, new_spec_zero_context);
 }
 
 fn make(shaper: u32, input: &PlanInput) -> Result<Box<Plan>, Error> {

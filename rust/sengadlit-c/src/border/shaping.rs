@@ -60,11 +60,14 @@ pub struct ShapePlanInput {
     pub centres_stretch: Bool,
     pub sound_breaks: Bool,
     pub searches_medials: Bool,
+    /// What was padding before a field came behind it.
+    pub reserved: u32,
+    pub new_spec_zero_context: Bool,
 }
 
 // SAFETY: it is C's, its size comes first, and zeros and null pointers are valid.
 unsafe impl Growing for ShapePlanInput {
-    const LEAST: usize = size_of::<Self>();
+    const LEAST: usize = core::mem::offset_of!(Self, new_spec_zero_context);
 }
 
 /// A feature of a table, and its lookups.
