@@ -6,7 +6,7 @@ their sound flags.
 
 OUT is the folder that `build --sound` made, and ROOT that of unpacked fonts; fonts of a few glyphs are made here. A table
 goes to standard output: what broken text is shaped otherwise, though no flag says so. It fails where that isn't what
-docs/BREAKS.md tells. The last line is 'N passed, M failed'.
+docs/PROOF.md tells. The last line is 'N passed, M failed'.
 """
 
 import struct

@@ -12,6 +12,7 @@ pub const REASONS: &[&str] = &[
     "least-cluster",
     "long-stretch",
     "category-range",
+    "contexts",
     "copied-marks",
     "graphemes",
     "continuation",

@@ -179,6 +179,16 @@ fn the_base_is_looked_for_among_medials() {
     assert_eq!(stock, sengadlit);
 }
 
+/// Indic's questions to the font leave out rules with context in fonts of the newer specification, as
+/// HarfBuzz's do (12.3.2); the crate as it is leaves them out in those of the older one. FreeSerif has
+/// a form of GA below, for a rule with context alone.
+#[test]
+fn questions_leave_contexts_out_in_newer_fonts() {
+    let [stock, sengadlit] = both(&font("truetype/freefont/FreeSerif.ttf"), "0B19 0B4D 0B17", Setting::default());
+    assert_eq!(stock, "[ouno_ori=0+828|ori_gophola=0@-26,0+0]");
+    assert_eq!(sengadlit, "[ouno_ori=0+828|holonto=0@-67,0+0|go_ori=6+768#1]");
+}
+
 /// The hooks have three cluster levels, and for Thai, Lao and Hangul level Graphemes is MonotoneGraphemes: marks that Thai
 /// moves and jamo that are composed are merged, with what has their cluster.
 #[test]

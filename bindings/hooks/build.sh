@@ -57,7 +57,8 @@ need() {
 
 # Chooses unstable's package where Debian no longer has the one that the edits are made for.
 look_for_package() {
-    set_up_apt >"$made/step.log" 2>&1 || skip "Debian's lists of packages can't be read: $(tail -n 1 "$made/step.log")"
+    # (read by one run at a time; the second call tells apt where they are)
+    { locked set_up_apt && set_up_apt; } >"$made/step.log" 2>&1 || skip "Debian's lists of packages can't be read: $(tail -n 1 "$made/step.log")"
     name=${package%=*}
     versions=$(apt-cache madison "$name" | awk -F ' *[|] *' '{ print $2 }' | sort -u | tr '\n' ' ')
     case " $versions" in

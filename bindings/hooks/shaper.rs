@@ -18,7 +18,7 @@ use sengadlit::alloc::Global;
 use sengadlit::buffer::{GlyphProps, LigProps, UnicodeProps};
 use sengadlit::font::FeaturesOnly;
 use sengadlit::ot_shaper_syllabic::{clear_syllables_in, set_categories_and_positions_in, set_categories_in};
-use sengadlit::plan::{BaseSearch, BreakFlags, NormalizationMode, ZeroWidthMarks};
+use sengadlit::plan::{BaseSearch, BreakFlags, NormalizationMode, ZeroContext, ZeroWidthMarks};
 use sengadlit::shaper::{pause_may_change, Hook};
 use sengadlit::{
     ot_shaper_hangul, ot_shaper_indic, ot_shaper_khmer, ot_shaper_use, run_pause, Buffer, BufferFlags, Direction,
@@ -109,6 +109,7 @@ fn create_data<const S: usize>(from: &hb_ot_shape_plan_t) -> Box<dyn Any + Send 
     let mut plan = Plan::new(script_of(from.script), made.expect("stages are ranges, and masks touch no glyph flag"));
     plan.has_gpos_mark = from.has_gpos_mark;
     plan.base_search = BaseSearch::AllConsonants;
+    plan.zero_context = ZeroContext::NewSpec;
     plan.break_flags = BREAK_FLAGS;
     Box::new(ShaperPlan { shaper: Some(shaper), plan: shaper.with_data(plan), may_turn: parts::may_turn(from) })
 }
@@ -378,17 +379,13 @@ fn setup_joining_masks(shaper: Shaper, plan: &Plan, buffer: &mut hb_buffer_t) {
     on_text(buffer, |text| {
         text.set_pre_context(&parts::context(&before[..before_len]));
         text.set_post_context(&parts::context(&after[..after_len]));
-        shaper.setup_masks(plan, &FeaturesOnly(|_: Tag| false), &Ucd, text);
-        Ok(())
+        Ok(shaper.setup_masks(plan, &FeaturesOnly(|_: Tag| false), &Ucd, text))
     });
 }
 
 fn reorder_marks<const S: usize>(plan: &hb_ot_shape_plan_t, buffer: &mut hb_buffer_t, start: usize, end: usize) {
     if may_reorder(Shaper::ALL[S], &buffer.info[start..end]) {
-        on_text(buffer, |text| {
-            Shaper::ALL[S].reorder_marks(plan_of(plan), text, start, end);
-            Ok(())
-        });
+        on_text(buffer, |text| Ok(Shaper::ALL[S].reorder_marks(plan_of(plan), text, start, end)));
     }
 }
 
@@ -406,7 +403,7 @@ fn compose<const S: usize>(context: &hb_ot_shape_normalize_context_t, a: Codepoi
         Shaper::Indic => ot_shaper_indic::compose(&Ucd, a, b),
         Shaper::Khmer => ot_shaper_khmer::compose(&Ucd, a, b),
         Shaper::Universal => ot_shaper_use::compose(&Ucd, a, b),
-        shaper => shaper.compose(plan_of(context.plan), &Ucd, a, b).or_else(|| None),
+        shaper => shaper.compose(plan_of(context.plan), &Ucd, a, b).flatten(),
     };
     composed.map(parts::codepoint)
 }
@@ -427,7 +424,8 @@ fn postprocess_glyphs<const S: usize>(plan: &hb_ot_shape_plan_t, font: FontRef, 
     buffer.pos.truncate(buffer.len);
     let mut positions = positions_of(mem::take(&mut buffer.pos)).into();
     on_text(buffer, |text| {
-        text.exchange_positions(&mut positions);
+        let are_taken = text.exchange_positions(&mut positions);
+        debug_assert!(are_taken);
         let done = Shaper::ALL[S].postprocess_glyphs(plan_of(plan), &parts::font(font), text);
         positions = text.take_positions();
         done

@@ -19,6 +19,20 @@ async function loadFonts() {
   return Module.load(FONTS);
 }
 
+// Takes the font of the page, to compare the shapers with.
+async function takeSample(bytes) {
+  try {
+    fonts = await (loading ??= loadFonts());
+  } catch {
+    return; // (nothing is compared where fonts.js isn't beside the page)
+  }
+  if (metrics || fonts.font) return; // (another font came first)
+  fonts.takeFont(bytes);
+  metrics = fonts.ask("name");
+  showWithFont();
+  document.body.dataset.compared = "yes";
+}
+
 async function takeFont(file) {
   if (!file) return;
   try {
@@ -32,8 +46,9 @@ async function takeFont(file) {
     metrics = null;
     by("font-note").textContent = `${file.name}: ${error.message}`;
   }
-  showWithFont();
   if (metrics) showShapedBy(file.name, fonts.font);
+  else by("findings").replaceChildren(); // (an answer about another font would be taken for one about this file)
+  showWithFont();
 }
 
 // ---- Shaping ----
@@ -106,20 +121,23 @@ function told(name, glyphs) {
 
 // Both lines, each alone and one over the other.
 function showWithFont() {
-  by("outlines").replaceChildren();
+  for (const id of ["word", "outlines"]) by(id).replaceChildren();
   by("broken").hidden = true;
   const text = [...by("text").value].slice(0, MOST_DRAWN).join("").toWellFormed();
-  if (!metrics || text === "") return;
+  by("with-font").hidden = !metrics || text === "";
+  if (by("with-font").hidden) return;
   try {
     const [stock, sengadlit] = [placed(ask("shape", "stock", text)), placed(ask("shape", "sengadlit", text))];
     const width = Math.max(widthOf(stock), widthOf(sengadlit));
     const lines = [{ glyphs: stock, others: sengadlit, colour: "stock" }, { glyphs: sengadlit, others: stock, colour: "sengadlit" }];
     const differ = Math.max(withoutTwin(stock, sengadlit).size, withoutTwin(sengadlit, stock).size);
     by("outlines").append(
-      told("HarfRust", stock), drawn(lines.slice(0, 1), width), told("With the hooks", sengadlit), drawn(lines.slice(1), width),
+      told("HarfRust", stock), drawn(lines.slice(0, 1), width), told("HarfRust with Sengadlit's hooks", sengadlit), drawn(lines.slice(1), width),
       made("p", { id: "differ" }, differ ? `Glyphs that differ: ${differ}. One line over the other:` : "Both have the same glyphs at the same places."));
     if (differ) by("outlines").append(drawn(lines, width));
+    by("word").append(drawn([{ glyphs: sengadlit, others: sengadlit, colour: "sengadlit" }], widthOf(sengadlit)));
     showWidth(text, widthOf(sengadlit));
+    if (text === by("text").value) answer(differ);
   } catch (error) {
     by("outlines").append(`The program ended: ${error.message}`);
   }
@@ -160,3 +178,4 @@ for (const kind of ["dragover", "dragleave", "drop"]) {
     if (kind === "drop") takeFont(event.dataTransfer.files[0]);
   });
 }
+started.then(() => takeSample(decoded(TEXTS.font)));

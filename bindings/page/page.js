@@ -11,8 +11,11 @@ const FIELDS = ["script", "direction", "level"];
 const FLAGS = ["f20", "f40", "f80"];
 const OPTIONS = ["sound", "always", "gposmark", "beginning"];
 
+// The word that the page opens with.
+const FIRST_WORD = "\u1781\u17d2\u1798\u17c2\u179a";
+
 let hooks = null;
-let shown = null;
+let [shown, shaped] = [null, null];
 
 // ---- What is asked ----
 
@@ -58,23 +61,33 @@ function run() {
 
 // ---- The text in a font ----
 
+// The steps of a text in the font; null where the module ended (it is started anew then).
+function shapedText(text) {
+  try {
+    return hooks.ask(textRequest(text).replace("text", "shaped"));
+  } catch {
+    return null;
+  }
+}
+
 // Shows the steps of the text in the font: what is before its lookups, each lookup that changes the text, and the end.
 function showShaped() {
   const text = by("text").value;
-  let shaped = null;
-  try {
-    if (text !== "" && !isOfLines()) shaped = hooks.ask(textRequest(text).replace("text", "shaped"));
-  } catch {
-    // (the module is started anew, and there is nothing to show)
-  }
+  shaped = text !== "" && !isOfLines() ? shapedText(text) : null;
   by("in-font").hidden = !shaped;
   by("shaped").replaceChildren(...(shaped?.steps ?? []).map(shapedElement));
   by("shaped-legend").innerHTML = shaped?.legend ?? "";
+  answer(null);
+}
+
+// Shows the word and whose a difference is: with so many glyphs that HarfRust draws otherwise, or null as long as none is known.
+function answer(differ) {
+  showAnswer(isOfLines() ? "" : by("text").value, shown, shaped, hooks.font, differ);
 }
 
 function shapedElement(step) {
-  const element = made("section", { class: "shaped" });
-  element.append(made("h2", {}, made("code", {}, step.heads[0])), made("p", { class: "told" }, step.told));
+  const element = made("section", { class: "shaped", "data-head": step.heads[0] });
+  element.append(...headingElements(step.heads, "h3"), made("p", { class: "told" }, step.told));
   const row = made("div", { class: "drawn" });
   row.innerHTML = step.drawn;
   element.append(row, tableElement(step));
@@ -83,7 +96,8 @@ function shapedElement(step) {
 
 // Takes the font that is dropped on the page for these steps.
 function showShapedBy(name, bytes) {
-  by("shaped-font").textContent = name;
+  by("shaped-font").textContent = by("font-name").textContent = name;
+  by("font-has").textContent = "";
   hooks.takeFont(bytes);
   showShaped();
 }
@@ -128,7 +142,7 @@ function show(text, cut) {
 }
 
 function note(text) {
-  if (!shown) return text === "" ? "Type a text." : "No script with hooks is known of this text; choose one.";
+  if (!shown) return text === "" ? "Type a text, or choose an example." : "No script of this text has steps of its own; those of the font are below.";
   const parts = [];
   if (!isOfLines() && !text.isWellFormed()) parts.push("Unpaired surrogates are shaped as FFFD.");
   if (shown.script && shown.length > shown.most)
@@ -150,9 +164,8 @@ function breaks(pieces) {
 }
 
 function stepElement(step, number) {
-  const element = made("section", { class: "step", "data-step": number });
-  const heads = step.heads.slice(0, 6).map((head) => made("div", {}, made("code", {}, made("bdi", {}, head.slice(0, 120)))));
-  element.append(made("h2", {}, ...heads), made("p", { class: "told" }, step.told));
+  const element = made("section", { class: "step", "data-step": number, "data-head": step.heads[0] });
+  element.append(...headingElements(step.heads, "h3"), made("p", { class: "told" }, step.told));
   for (const answer of step.answers) element.append(made("p", { class: "answer" }, "answered ", made("code", {}, answer)));
   if (step.told !== "Nothing changed." || number === 0) element.append(drawing(step));
   element.append(tableElement(step));
@@ -212,7 +225,7 @@ function tableElement(step) {
   return details;
 }
 
-// An entry of docs/DEFINITIONS.md.
+// An entry of definitions.md.
 function definition([part, entry]) {
   const text = TEXTS.definitions.split(`\n## \`${part}\`\n`)[1]?.split("\n## ")[0] ?? "";
   const found = text.split("\n\n").find((block) => block.trimStart().startsWith(`**${entry}**`)) ?? "";
@@ -233,7 +246,7 @@ function showGlyph(box) {
   if (!moves.length) panel.append(made("p", {}, "Nothing so far has moved it."));
   for (const [mover, from, to] of moves) {
     const step = shown.steps[mover];
-    panel.append(made("p", {}, made("code", {}, step.heads[0]), ` moved it from place ${from} to place ${to}.`));
+    panel.append(made("p", {}, `${headingOf(step.heads[0])} (`, made("code", {}, step.heads[0]), `): this moved it from place ${from} to place ${to}.`));
     if (step.subject) panel.append(definition(step.subject));
   }
   document.querySelector(".glyph")?.remove();
@@ -301,7 +314,9 @@ async function start() {
   document.head.prepend(made("style", {}, hooks.ask("style")));
   for (const code of hooks.ask("scripts")) by("script").append(made("option", { value: code }, scriptName(code)));
   addExamples();
-  readAddress(new URLSearchParams(location.hash.slice(1)));
+  const kept = new URLSearchParams(location.hash.slice(1));
+  if (!kept.has("text") && !kept.has("lines")) kept.set("text", FIRST_WORD);
+  readAddress(kept);
   by("form").addEventListener("submit", (event) => event.preventDefault());
   for (const id of ["text", ...FIELDS, ...FLAGS, ...OPTIONS]) by(id).addEventListener("input", () => {
     by("by-lines").open = false;
@@ -320,4 +335,4 @@ async function start() {
   document.body.dataset.ready = "yes";
 }
 
-start();
+const started = start();

@@ -1,5 +1,5 @@
 #!/usr/bin/env python3
-"""Takes a picture of the page: picture.py PAGE FILE. A Khmer word, and the step that reorders it."""
+"""Takes a picture of the page: picture.py PAGE FILE. A Khmer word, the answer, and the step that reorders it."""
 
 import pathlib
 import sys
@@ -15,9 +15,8 @@ WIDTH = 760
 # The text and that step, without what is around.
 CHOOSE = """
 const between = [...by('form').children].slice(1);
-const steps = [...by('steps').children].filter((step) => step.querySelector('h2').textContent !== 'run pause reorder_khmer');
-for (const element of [...between, ...steps, by('legend'), by('with-font')]) element.style.display = 'none';
-by('text').rows = 1;
+const steps = [...by('steps').children].filter((step) => step.dataset.head !== 'run pause reorder_khmer');
+for (const element of [...between, ...steps, by('legend'), by('with-font'), by('in-font')]) element.style.display = 'none';
 """
 
 

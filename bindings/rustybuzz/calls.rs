@@ -12,6 +12,7 @@ pub const REASONS: &[&str] = &[
     "least-cluster",
     "front-of-a-merge",
     "category-range",
+    "contexts",
     "medial",
     "long-syllable",
     "copied-marks",

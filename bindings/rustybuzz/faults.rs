@@ -108,6 +108,16 @@ fn the_base_is_not_looked_for_among_medials() {
     assert_eq!(sengadlit, "[gur_ra.blwf=0+0|ra_gur=6+490#1|yakashsign_gur=6@-12,0+0#1]");
 }
 
+/// Indic's questions to the font leave out rules with context in fonts of the newer specification, as
+/// HarfBuzz's do (12.3.2), by a choice of the plan; the crate as it is leaves them out in those of the
+/// older one.
+#[test]
+fn questions_leave_contexts_out_in_newer_fonts() {
+    let [stock, sengadlit] = both(&font("truetype/freefont/FreeSerif.ttf"), "0B19 0B4D 0B17", Setting::default());
+    assert_eq!(stock, "[ouno_ori=0+828|ori_gophola=0@-26,0+0]");
+    assert_eq!(sengadlit, "[ouno_ori=0+828|holonto=0@-67,0+0|go_ori=6+768#1]");
+}
+
 // ---- Faults of other files ----
 
 /// The range of general categories has one bit more, of Control, which a dotted circle has for want

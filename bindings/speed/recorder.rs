@@ -340,7 +340,8 @@ impl<'f, 'a> Recorded<'f, 'a> {
         text.set_has_stch(from.scratch_flags & HAS_STCH != 0);
         text.replace_glyphs(glyphs.into()).expect("it isn't too long");
         if call.hook == Hook::PostprocessGlyphs {
-            text.set_positions(positions_of(from.pos[..from.len].to_vec()).into());
+            let are_taken = text.set_positions(positions_of(from.pos[..from.len].to_vec()).into());
+            assert!(are_taken, "a position for each glyph");
         }
     }
 
@@ -386,7 +387,7 @@ impl<'f, 'a> Recorded<'f, 'a> {
             Hook::PostprocessGlyphs => postprocess_ours(shaper, plan, self.face, text),
             Hook::ReorderMarks => {
                 for run in &call.marks {
-                    shaper.reorder_marks(plan, text, run.start, run.end);
+                    let _ = shaper.reorder_marks(plan, text, run.start, run.end);
                 }
             }
             Hook::Pause(
@@ -451,7 +452,7 @@ fn preprocess_ours(shaper: Shaper, plan: &Plan, face: &Face, text: &mut Buffer) 
 
 #[inline(never)]
 fn masks_ours(shaper: Shaper, plan: &Plan, face: &Face, text: &mut Buffer) {
-    shaper.setup_masks(plan, &parts::font(face), &UnicodeTables, text);
+    let _ = shaper.setup_masks(plan, &parts::font(face), &UnicodeTables, text);
 }
 
 #[inline(never)]
@@ -461,7 +462,7 @@ fn postprocess_ours(shaper: Shaper, plan: &Plan, face: &Face, text: &mut Buffer)
 
 #[inline(never)]
 fn set_up_ours(pause: Pause, plan: &Plan, text: &mut Buffer) {
-    setup_syllables_found(pause, plan, text);
+    assert!(setup_syllables_found(pause, plan, text), "a pause that sets syllables up");
 }
 
 #[inline(never)]

@@ -11,6 +11,7 @@ font and what is made once don't count. What all three print, the sum of the gly
 
 import concurrent.futures
 import math
+import operator
 import pathlib
 import re
 import subprocess
@@ -36,7 +37,9 @@ SCRIPTS = {
 # How many words and lines are counted, and how long a line is at least.
 WORDS, LINES, LENGTH = 60, 6, 130
 PROGRAMS = ["sengadlit", "harfrust", "harfbuzz"]
-WAYS = ["kept", "cache", "anew"]
+WAYS = ["kept", "cache", "anew", "parsed"]
+# The two others have no face that isn't prepared.
+PEERS_WAYS = {"parsed": "kept"}
 KINDS = ["words", "lines"]
 
 
@@ -97,6 +100,18 @@ class Count:
         return (three[0] - one[0]) / 2 / count, one[1]
 
 
+def jobs_of(rows):
+    """What is counted: program, way, script and kind of text."""
+    jobs = [(program, way, row, kind) for row in rows for kind in KINDS for way in WAYS for program in PROGRAMS]
+    return [job for job in jobs if job[0] == PROGRAMS[0] or job[1] not in PEERS_WAYS]
+
+
+def instructions(counts, program, way, row, kind):
+    """What a text takes in a program, by a way or by that which stands for it."""
+    way = way if program == PROGRAMS[0] else PEERS_WAYS.get(way, way)
+    return counts[program, way, row, kind][0]
+
+
 def mean(numbers):
     numbers = list(numbers)
     return math.exp(sum(map(math.log, numbers)) / len(numbers))
@@ -108,7 +123,7 @@ def rows_of(rows, counts):
         for kind in KINDS:
             cells = []
             for way in WAYS:
-                own, *peers = [counts[program, way, row, kind][0] for program in PROGRAMS]
+                own, *peers = [instructions(counts, program, way, row, kind) for program in PROGRAMS]
                 cells += [f"{own:.0f}", *(f"{own / peer:.2f}" for peer in peers)]
             yield [row[0], kind, *cells]
 
@@ -119,18 +134,24 @@ def print_table(rows, counts):
     for cells in rows_of(rows, counts):
         print("\t".join(cells))
     for kind in KINDS:
-        ratios = [f"{mean(counts['sengadlit', way, row, kind][0] / counts[peer, way, row, kind][0] for row in rows):.2f}" for way in WAYS for peer in PROGRAMS[1:]]
+        ratios = []
+        for way in WAYS:
+            own, *peers = [[instructions(counts, program, way, row, kind) for row in rows] for program in PROGRAMS]
+            ratios += [f"{mean(map(operator.truediv, own, peer)):.2f}" for peer in peers]
         print("\t".join(["mean", kind, *(cell for pair in zip(ratios[::2], ratios[1::2]) for cell in ("", *pair))]))
 
 
 def count(folder, loader, wanted):
     rows = [tuple(line.split("\t")) for line in (folder / "texts/scripts").read_text("utf-8").splitlines()]
     rows = [row for row in rows if not wanted or row[0] in wanted]
-    jobs = [(program, way, row, kind) for row in rows for kind in KINDS for way in WAYS for program in PROGRAMS]
+    jobs = jobs_of(rows)
     with concurrent.futures.ThreadPoolExecutor(2) as pool:
         counts = dict(zip(jobs, pool.map(Count(folder, loader).text, jobs)))
     print_table(rows, counts)
-    differ = sorted({(row[0], kind) for _, _, row, kind in jobs if len({counts[p, w, row, kind][1] for p in PROGRAMS for w in WAYS}) > 1})
+    sums = {}
+    for _, _, row, kind in jobs:
+        sums[row[0], kind] = {counts[job][1] for job in jobs if job[2:] == (row, kind)}
+    differ = sorted(which for which, found in sums.items() if len(found) > 1)
     for script, kind in differ:
         print(f"the glyphs of {script}, {kind}, aren't the same")
     print(f"{len(jobs)} passed, {len(differ)} failed")

@@ -16,7 +16,7 @@ enum Kept {
 fn main() {
     let arguments: Vec<String> = env::args().skip(1).collect();
     let [font, texts, times, how, script, direction] = &arguments[..] else {
-        eprintln!("usage: sengadlit FONT TEXTS TIMES anew|cache|kept SCRIPT ltr|rtl");
+        eprintln!("usage: sengadlit FONT TEXTS TIMES anew|cache|parsed|kept SCRIPT ltr|rtl");
         process::exit(2);
     };
     let data = fs::read(font).expect("the font can be read");
@@ -28,9 +28,12 @@ fn main() {
         "rtl" => Direction::RightToLeft,
         _ => Direction::LeftToRight,
     };
-    let face = Face::parse(&data, 0).expect("a font");
+    let mut face = Face::parse(&data, 0).expect("a font");
+    if matches!(how.as_str(), "kept" | "cache") {
+        face.prepare();
+    }
     let mut kept = match how.as_str() {
-        "kept" => Kept::Plan(ShapePlan::new(&face, direction, Some(script), None, &[])),
+        "kept" | "parsed" => Kept::Plan(ShapePlan::new(&face, direction, Some(script), None, &[])),
         "cache" => Kept::Plans(PlanCache::new()),
         _ => Kept::Nothing,
     };

@@ -13,7 +13,7 @@ use sengadlit::ot_shape_prepare::{
     ensure_native_direction, form_clusters, insert_dotted_circle, preprocess_text_vowel_constraints, rotate_chars,
     set_unicode_properties, CharRotation, BEGINNING_OF_TEXT,
 };
-use sengadlit::shaper::{Composition, Decomposition, Hook};
+use sengadlit::shaper::Hook;
 use sengadlit::unicode::{self, UnicodeTables};
 use sengadlit::{ot_shaper_arabic, ot_shaper_hebrew, BufferClusterLevel, GeneralCategory, GlyphId, Tables};
 
@@ -606,17 +606,15 @@ impl NormalizeContext for Context<'_, '_, '_, '_> {
             return None;
         }
         let ab = char::from_u32(ab)?;
-        let by_shaper =
-            self.shaper.map_or(Decomposition::NoHook, |shaper| shaper.decompose(self.plan, &UnicodeTables, ab));
-        let (a, b) = by_shaper.or_else(|| UnicodeTables.decompose(ab))?;
+        let by_shaper = self.shaper.and_then(|shaper| shaper.decompose(self.plan, &UnicodeTables, ab));
+        let (a, b) = by_shaper.unwrap_or_else(|| UnicodeTables.decompose(ab))?;
         Some((a.into(), b.into()))
     }
 
     fn compose(&self, a: u32, b: u32) -> Option<u32> {
         let (a, b) = (char::from_u32(a)?, char::from_u32(b)?);
-        let by_shaper =
-            self.shaper.map_or(Composition::NoHook, |shaper| shaper.compose(self.plan, &UnicodeTables, a, b));
-        by_shaper.or_else(|| UnicodeTables.compose(a, b)).map(u32::from)
+        let by_shaper = self.shaper.and_then(|shaper| shaper.compose(self.plan, &UnicodeTables, a, b));
+        by_shaper.unwrap_or_else(|| UnicodeTables.compose(a, b)).map(u32::from)
     }
 
     #[inline]

@@ -1,0 +1,182 @@
+"use strict";
+// Whose a difference is: what is unusual in the text, what the font lacks, and where a shaper draws otherwise, in sentences.
+
+// The tags by which a font has a script, where they aren't its code in small letters.
+const TAGS = {
+  Beng: ["bng3", "bng2", "beng"], Deva: ["dev3", "dev2", "deva"], Gujr: ["gjr3", "gjr2", "gujr"], Guru: ["gur3", "gur2", "guru"],
+  Knda: ["knd3", "knd2", "knda"], Mlym: ["mlm3", "mlm2", "mlym"], Mymr: ["mym2", "mymr"], Orya: ["ory3", "ory2", "orya"],
+  Taml: ["tml3", "tml2", "taml"], Telu: ["tel3", "tel2", "telu"], Laoo: ["lao "], Nkoo: ["nko "],
+};
+// The scripts whose letters join, and what a font needs for that.
+const JOINING = ["Adlm", "Arab", "Mand", "Mong", "Nkoo", "Syrc"];
+const JOINING_FEATURES = { init: "initial", medi: "medial", fina: "final" };
+// What HarfRust 0.12.0 is known to do to texts: of a script, with these characters in them.
+const SHAPER_FAULTS = [
+  ["Thai", /[\u0e31\u0e34-\u0e37\u0e47-\u0e4e]{2,}\u0e33/u, "In front of SARA AM it draws one mark twice and loses another."],
+  ["Laoo", /[\u0eb1\u0eb4-\u0eb7\u0ebb\u0ec8-\u0ecd]{2,}\u0eb3/u, "In front of SARA AM it draws one mark twice and loses another."],
+  ["Hebr", /\u05d9\u05b7/u, "In a font without marks in GPOS it draws YOD with PATAH as two YODs."],
+  ["Beng", /[\p{Cc}\u09bf]/u, "Behind a control character or a dotted circle it draws a vowel sign in the form for the middle of a word."],
+  ["Orya", /\u0b4d/u, "It asks the font's lookups with their context, so that another letter is the base."],
+];
+
+// How many characters are looked for in the font one by one.
+const MOST_ALONE = 100;
+
+// What was found: whose it is, and what; and whether it is why the word may look wrong.
+const finding = (whose, text, isFault = true) => ({ whose, text, isFault });
+
+const named = (c) => `${/\p{M}/u.test(c) ? "\u25cc" + c : c} (U+${c.codePointAt(0).toString(16).toUpperCase().padStart(4, "0")})`;
+
+// The glyphs that a step prints: their numbers and the places of their characters.
+function glyphsOf(step) {
+  const lines = (step?.printed ?? "").split("\n").filter((line) => line !== "");
+  return lines.map((line) => line.split(" ")).map(([number, cluster]) => ({ number, cluster: Number(cluster) }));
+}
+
+// ---- The text ----
+
+// The first mark that Unicode's order of marks puts elsewhere, unless the script's own order (as Hebrew's) leaves it there.
+function misplacedMark(text, steps) {
+  const normalized = steps.find((step) => step.heads[0] === "ot_shape_normalize");
+  if (normalized && !normalized.told.includes(" moved ")) return null;
+  const typed = [...text].map((c) => c.normalize("NFD")).join("");
+  const usual = text.normalize("NFD");
+  const place = [...typed].findIndex((c, i) => c !== [...usual][i]);
+  return place < 0 ? null : [[...typed][place], [...usual][place]];
+}
+
+// The characters before which the hooks put a dotted circle.
+function circled(text, steps) {
+  const characters = [...text];
+  const circles = glyphsOf(steps.at(-1)).filter(({ number }) => number === "25cc").map(({ cluster }) => cluster);
+  return [...new Set(circles)].map((place) => characters[place]).filter((c) => c !== undefined && c !== "\u25cc");
+}
+
+// The characters of the text that the script has drawn before what they follow.
+function movedCharacters(text, steps) {
+  const reorderings = steps.filter((step) => /reorder|preprocess/.test(step.heads[0]));
+  const moves = reorderings.flatMap((step) => [...step.told.matchAll(/([0-9A-F]{4,6}) moved from place (\d+) to place (\d+)/gi)]);
+  const forward = moves.filter(([, , from, to]) => Number(to) < Number(from));
+  return [...new Set(forward.map(([, number]) => String.fromCodePoint(parseInt(number, 16))))].filter((c) => text.includes(c));
+}
+
+function findingsOfText(text, shown) {
+  const found = [];
+  if (/\p{Cc}/u.test(text)) found.push(finding("text", "It has a control character, as a TAB or the end of a line; a box in the picture is the font's glyph for what it lacks. Try each line or column alone."));
+  const mark = misplacedMark(text, shown?.steps ?? []);
+  if (mark) found.push(finding("text", `Its marks stand in an unusual order: ${named(mark[0])} where ${named(mark[1])} is usual. It is drawn in the usual order.`));
+  const broken = circled(text, shown?.steps ?? []);
+  if (broken.length) found.push(finding("text", `It has a broken syllable: ${broken.map(named).join(", ")} stands where nothing is that it belongs to, and gets a dotted circle.`));
+  const moved = movedCharacters(text, shown?.steps ?? []);
+  if (moved.length) found.push(finding("script", `${moved.map(named).join(", ")} is drawn before what it follows in the text, as the script is written.`, false));
+  return found;
+}
+
+// ---- The font ----
+
+// The features of a script in a table of lookups: null where the font has no such table, or nothing for the script.
+function featuresOf(bytes, table, script) {
+  const view = new DataView(bytes.buffer, bytes.byteOffset, bytes.byteLength);
+  const tag = (at) => String.fromCharCode(...bytes.subarray(at, at + 4));
+  const records = (at, size) => Array.from({ length: view.getUint16(at) }, (_, i) => at + 2 + size * i);
+  const start = tag(0) === "ttcf" ? view.getUint32(12) : 0;
+  const tables = Array.from({ length: view.getUint16(start + 4) }, (_, i) => start + 12 + 16 * i);
+  const at = tables.filter((record) => tag(record) === table).map((record) => view.getUint32(record + 8))[0];
+  if (at === undefined) return null;
+  const scripts = at + view.getUint16(at + 4);
+  const wanted = [...(TAGS[script] ?? [script.toLowerCase()]), "DFLT"];
+  const found = wanted.map((name) => records(scripts, 6).find((record) => tag(record) === name)).find((record) => record !== undefined);
+  if (found === undefined) return null;
+  const entry = scripts + view.getUint16(found + 4);
+  const languages = [view.getUint16(entry), ...records(entry + 2, 6).map((record) => view.getUint16(record + 4))];
+  const list = at + view.getUint16(at + 6);
+  const numbers = languages.filter((offset) => offset !== 0).flatMap((offset) => records(entry + offset + 4, 2).map((place) => view.getUint16(place)));
+  return new Set(numbers.map((number) => tag(list + 2 + 6 * number)));
+}
+
+// The same, of a font whose table can't be read too: null.
+function safeFeaturesOf(bytes, table, script) {
+  try {
+    return featuresOf(bytes, table, script);
+  } catch {
+    return null;
+  }
+}
+
+// The characters without a glyph: each is shaped alone, since marks share the place of their letter.
+function lackingCharacters(text, shaped) {
+  const lacks = (steps) => glyphsOf(steps?.steps.at(-1)).some(({ number }) => number === "0000");
+  const characters = [...new Set(text)].filter((c) => !/[\p{Cc}\p{Cf}]/u.test(c)).slice(0, MOST_ALONE);
+  return lacks(shaped) ? characters.filter((c) => lacks(shapedText(c))) : [];
+}
+
+function findingsOfFont(text, script, bytes, shaped) {
+  const found = [];
+  const lacking = lackingCharacters(text, shaped);
+  if (lacking.length) found.push(finding("font", `It has no glyph for ${lacking.slice(0, 8).map(named).join(", ")}${lacking.length > 8 ? " and others" : ""}.`));
+  if (!script || lacking.length === new Set(text).size) return found;
+  const name = scriptName(script);
+  const [gsub, gpos] = ["GSUB", "GPOS"].map((table) => safeFeaturesOf(bytes, table, script));
+  const isSimple = script === "Hebr" || script === "Hang" || script === "Thai" || script === "Laoo";
+  if (!gsub && !isSimple) found.push(finding("font", `It has no substitutions for ${name}, so that letters don't take the forms that the script needs.`));
+  const forms = Object.keys(JOINING_FEATURES).filter((feature) => gsub && !gsub.has(feature));
+  if (JOINING.includes(script) && forms.length) found.push(finding("font", `It lacks the lookups for ${forms.map((form) => JOINING_FEATURES[form]).join(", ")} forms (${forms.join(", ")}).`));
+  const placesMarks = ["mark", "abvm", "blwm"].some((feature) => gpos?.has(feature));
+  if (/\p{Mn}/u.test(text) && !placesMarks) found.push(finding("font", "It places no marks for this script (GPOS lacks mark, abvm and blwm), so that they may stand beside their letters."));
+  return found;
+}
+
+// ---- Shapers ----
+
+// What HarfRust draws otherwise in the font, by the number of glyphs that differ; null where it isn't known yet.
+function findingsOfShapers(text, script, differ) {
+  if (differ === null) return [];
+  if (differ === 0) return [finding("shapers", "HarfRust 0.12.0 and Sengadlit, the shaper of this page, draw the word alike, so that a difference between these two isn't the cause.", false)];
+  const known = SHAPER_FAULTS.find(([of, characters]) => of === script && characters.test(text));
+  const count = differ === 1 ? "one glyph" : `${differ} glyphs`;
+  return [finding("shapers", `HarfRust 0.12.0 draws ${count} otherwise than Sengadlit, the shaper of this page, with the same text and font; both are drawn below. ${known ? known[2] : "The reason isn't known to this page."}`)];
+}
+
+// ---- The answer ----
+
+const WHOSE = { text: "The text", font: "The font", shapers: "A shaper", script: "The script" };
+
+// Shows the sentences.
+function showAnswer(text, shown, shaped, bytes, differ) {
+  const script = shown?.script ?? null;
+  const found = text === "" ? [] : [...findingsOfText(text, shown), ...findingsOfFont(text, script, bytes, shaped), ...findingsOfShapers(text, script, differ)];
+  found.sort((a, b) => Number(b.isFault) - Number(a.isFault));
+  const sentences = found.map(({ whose, text, isFault }) => made("li", { class: isFault ? "fault" : "fine", "data-whose": whose }, made("b", {}, WHOSE[whose] + ": "), text));
+  if (text !== "" && !found.some(({ isFault }) => isFault))
+    sentences.unshift(made("li", { class: "fine" }, "This page found no fault in the text or the font. It can't tell what the font's lookups should do: if the word still looks wrong, find the first step below where it does."));
+  by("findings").replaceChildren(...sentences);
+}
+
+// ---- Headings ----
+
+const HEADINGS = [
+  [/^text( |$)/, "The text"], [/^set_unicode_properties$/, "Characters get their properties"],
+  [/^insert_dotted_circle$/, "A mark without a letter gets a dotted circle"], [/^form_clusters$/, "Marks are kept with their letters"],
+  [/^ensure_native_direction$/, "The text is turned into its script's direction"], [/^rotate_chars$/, "Characters are mirrored or rotated"],
+  [/^ot_shape_normalize$/, "Characters are taken apart, sorted and composed"], [/^set_fractions$/, "Fractions are found"],
+  [/^map_glyphs$/, "Characters become glyphs"], [/vowel/, "Vowels that look like others get a dotted circle"],
+  [/^(run )?preprocess/, "The script's own characters are prepared"], [/^initialize_masks$/, "Features of the whole text are chosen"],
+  [/^(run |setup_)masks/, "Glyphs get their features and forms"],
+  [/^run marks/, "Marks are sorted as the script wants"], [/^run pause setup_syllables/, "Syllables are found"],
+  [/^run pause (reorder_|initial_reordering)/, "Glyphs are put into the order in which they are drawn"],
+  [/^run pause final_reordering/, "Glyphs are put into their last order"], [/^run pause record_(rphf|pref)/, "What the font formed is noted"],
+  [/^run pause record_stch/, "Marks that stretch are noted"], [/^run pause arabic_fallback/, "Forms of Unicode are taken where the font has none"],
+  [/^run pause (clear|syllabic)/, "What was noted is cleared"], [/^run postprocess/, "Marks are stretched over their words"],
+  [/^before lookups$/, "Before the font's lookups"], [/^lookup \d+ of GSUB$/, "The font substitutes glyphs"],
+  [/^the shaper between lookups$/, "The script's order, between lookups"], [/^advances$/, "Glyphs get their widths"],
+  [/^lookup \d+ of GPOS$/, "The font moves glyphs"], [/^shape$/, "The word as it is drawn"],
+];
+
+// A step in words.
+const headingOf = (head) => HEADINGS.find(([line]) => line.test(head))?.[1] ?? "Lines of the program";
+
+// A heading in words, and below it the lines of the program.
+function headingElements(heads, level) {
+  const lines = heads.slice(0, 6).map((head) => made("div", {}, made("code", {}, made("bdi", {}, head.slice(0, 120)))));
+  return [made(level, {}, headingOf(heads.at(-1) ?? "")), made("div", { class: "lines" }, ...lines)];
+}
