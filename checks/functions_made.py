@@ -1,5 +1,11 @@
 """Makes the two crates that checks/functions compares: the proved functions, written by mir_rust, and a copy of the
-generated modules in which each function has another beside it that draws its arguments and calls it."""
+generated modules in which each function has another beside it that draws its arguments and calls it.
+
+Of the toolchain's undocumented form (checks/mir_rust.py says why it is read, and what it would take to do without) this
+file takes the paths of the kit's libraries, a function's parameters and locals with their types, its bounds, which trait's
+or impl's method it is, and the layout of lists and of the buffer (words_of_type). A documented form would have to say
+these things, too.
+"""
 
 import os
 import pathlib
@@ -36,7 +42,10 @@ STANDARD = PRIMITIVE | set("Vec Option Result Range ArrayVec Global AllocError S
 # Types that the eraser deletes, which have no words: a count whose parts are all 0 counts nothing.
 ERASED = {"shapers_spans::reads::Reads"}
 # Types that harness.rs draws by hand.
-BY_HAND = set("Span GlyphInfo Buffer Script Tag Map Plan LotFont LotTables LotContext LotProperties".split())
+BY_HAND = set(
+    "Span GlyphInfo Buffer Script Tag Map Plan LotFont LotTables LotContext LotProperties"
+    " PreparedClassDef PreparedCoverage PairTable LookupPairs Starts LookupTable PreparedTable LayoutTable".split()
+)
 # The words with which a result begins that says that memory was refused, by the type of the error.
 MEMORY = {"ShaperError": [1, 0], "CallError": [1, 1, 0], "AllocError": [1]}
 # What stands for a type parameter, by its bound. (An unbounded F is a font in each of its impls.)
@@ -159,8 +168,8 @@ def words_of_type(program, kind, name):
         )
     fields = ", ".join(f"f{i}: Words::load(words)" for i in range(len(parts)))
     if kind[1] == "shapers_buffer::buffer::hb_buffer_t":
-        # (its last two lists are room, of which what is written so far counts)
-        parts = parts[:-2]
+        # (its last four fields are room, of which what is written so far counts)
+        parts = parts[:-4]
     return f"{name} {{ {fields} }}", " ".join(f"{{ let it = self.f{i}; it.dump(words); }}" for i in range(len(parts)))
 
 

@@ -3,6 +3,18 @@
 A built library holds its functions as lists of statements with every call resolved (toolchain/mir.json). A function
 with type parameters is written once for each choice of types and impls that something calls it with. Nothing of
 the sources' text has a part in this: no look-up of names, no inference, no syntax.
+
+No page of the toolchain describes mir.json, and the next kit may change it. It is read all the same, because it alone
+holds each function, private ones too, as the compiler resolved it. To parse the sources here instead would repeat the
+eraser's reading of them, and with it a mistake of the eraser's. checks/programs runs the proved program, which needs no
+such form, but calls few functions by themselves and counts no branch. A statement or a type that isn't known here raises
+Unwritten, so that after a change of the form functions are told as not compared, and checks/functions fails where they
+are more than a few; none is compared with something else.
+
+To do without it would take a description of the form by the toolchain, with a version; or its own output of each function
+as C or Rust; or, with what is documented, a crate of Rattle whose type is a static library, with a C function written
+by hand around each public function and each choice of its types. That leaves out private functions and counts of
+branches.
 """
 
 import json
@@ -427,7 +439,8 @@ class Writer:
             return f"{text}.wrapping_neg()"
         if how in ("TrailingZeros", "LeadingZeros", "CountOnes"):
             function = {"TrailingZeros": "trailing_zeros", "LeadingZeros": "leading_zeros", "CountOnes": "count_ones"}[how]
-            return f"{text}.{function}() as u{kind[1]}"
+            # (each returns a u32, whatever width it counts in, and so does what was proved)
+            return f"{text}.{function}()"
         if isinstance(how, dict) and "Cast" in how:
             source, _, width = how["Cast"]
             if source == "Signed":

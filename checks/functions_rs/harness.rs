@@ -7,6 +7,10 @@ use crate::buffer::{
     Script, Span, Tag, UnicodeProps,
 };
 use crate::font::{Font, GlyphId, Tables};
+use crate::generated::opentype_face::glyph_tables::{PreparedClassDef, PreparedCoverage};
+use crate::generated::opentype_layout::pair_tables::{LookupPairs, PairTable};
+use crate::generated::opentype_layout::starts::{LookupTable, Starts};
+use crate::generated::opentype_layout::tables::{LayoutTable, PreparedTable};
 use crate::map::{FeatureMap, Map};
 use crate::plan::{BaseSearch, BreakFlags, Category, JoiningType, Plan, Position, StretchStart};
 use crate::shaper::Shaper;
@@ -451,7 +455,7 @@ impl Draw for Buffer {
         buffer.set_max_len(glyphs.len() + choices.one_of(&[0, 1, 5, 1000]));
         if choices.once_in(4) {
             let positions: Vec<_> = glyphs.iter().map(|_| GlyphPosition::draw(choices)).collect();
-            buffer.set_positions(positions.into());
+            assert!(buffer.set_positions(positions.into()));
         }
         buffer.set_direction(Direction::ALL[choices.below(5) as usize]);
         buffer.set_script(Option::draw(choices));
@@ -475,6 +479,67 @@ const FEATURES: [&[u8; 4]; 32] = [
     b"abvf", b"half", b"pstf", b"vatu", b"cjct", b"cfar", b"nukt", b"akhn", b"rkrf", b"pres", b"abvs", b"blws", b"psts", b"haln",
     b"locl", b"ccmp", b"liga", b"calt",
 ];
+
+// The tables of a prepared face are made of bytes, so that they agree with these.
+impl Draw for PreparedClassDef<'static> {
+    fn draw(choices: &mut Choices) -> Self { PreparedClassDef::new(Draw::draw(choices), Global, &mut budget(choices)) }
+}
+
+impl Draw for PreparedCoverage<'static> {
+    fn draw(choices: &mut Choices) -> Self { PreparedCoverage::new(Draw::draw(choices), Global, &mut budget(choices)) }
+}
+
+impl Draw for PairTable<'static> {
+    fn draw(choices: &mut Choices) -> Self { PairTable::new(Global, Draw::draw(choices), &mut budget(choices)) }
+}
+
+impl Draw for LookupPairs<'static> {
+    fn draw(choices: &mut Choices) -> Self { LookupPairs::new(Global, Draw::draw(choices), &mut budget(choices)) }
+}
+
+impl Draw for Starts<'static> {
+    fn draw(choices: &mut Choices) -> Self {
+        let (of_gpos, lookup) = (bool::draw(choices), Draw::draw(choices));
+        Starts::new(Global, of_gpos, lookup, &mut budget(choices))
+    }
+}
+
+impl Draw for LookupTable<'static> {
+    fn draw(choices: &mut Choices) -> Self {
+        match choices.below(4) {
+            0 => LookupTable::of(Draw::draw(choices)),
+            1 => {
+                let lookup: &'static [u8] = Draw::draw(choices);
+                let pairs = std::boxed::Box::leak(std::boxed::Box::new(LookupPairs::new(Global, lookup, &mut budget(choices))));
+                LookupTable::of(lookup).with_pairs(pairs)
+            }
+            2 => LookupTable::prepared(Draw::draw(choices)),
+            _ => LayoutTable::draw(choices).lookup(choices.below(3) as u16),
+        }
+    }
+}
+
+impl Draw for PreparedTable<'static> {
+    fn draw(choices: &mut Choices) -> Self {
+        let (of_gpos, bytes) = (bool::draw(choices), Draw::draw(choices));
+        PreparedTable::new(Global, of_gpos, bytes, budget(choices))
+    }
+}
+
+impl Draw for LayoutTable<'static> {
+    fn draw(choices: &mut Choices) -> Self {
+        if choices.once_in(2) {
+            return LayoutTable::of(Draw::draw(choices));
+        }
+        let prepared: &'static PreparedTable<'static> = Draw::draw(choices);
+        prepared.table()
+    }
+}
+
+/// How many bytes the tables of a face may take.
+fn budget(choices: &mut Choices) -> usize {
+    choices.one_of(&[0, 100, 10_000])
+}
 
 impl Draw for Script {
     fn draw(choices: &mut Choices) -> Self { Script(*choices.one_of(&SCRIPTS)) }

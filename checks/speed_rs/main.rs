@@ -1,4 +1,5 @@
-//! Ten calls of the crate on made texts, each text of a hundred characters; `checks/speed` counts what runs within `counted`.
+//! Calls of the crate on made texts; `checks/speed` counts what runs within `counted`. Ten texts have a hundred characters, and
+//! two have two thousand whose clusters fall, where a walk that looks for a cluster's first glyph each time would be quadratic.
 //! For each call a line tells its name, the glyphs, and a sum of what it left.
 
 use std::hint::black_box;
@@ -88,6 +89,26 @@ const CASES: [Case; 10] = [
     ),
 ];
 
+/// Calls on long texts, as an engine that numbers clusters from the end makes them.
+const FALLING: [Case; 2] = [
+    (
+        "order, Khmer, clusters fall",
+        Shaper::Khmer,
+        script::KHMER,
+        "\u{1780}\u{17C1}\u{1781}\u{17D2}\u{179A}\u{1798} ",
+        &[Pause::SetupSyllablesKhmer],
+        Counted::Pause(Pause::ReorderKhmer),
+    ),
+    (
+        "order, Myanmar, clusters fall",
+        Shaper::Myanmar,
+        script::MYANMAR,
+        "\u{1019}\u{103C}\u{1031}\u{1000}\u{102C} ",
+        &[Pause::SetupSyllablesMyanmar],
+        Counted::Pause(Pause::ReorderMyanmar),
+    ),
+];
+
 /// The features that have masks, as a font with all of them has.
 const FEATURES: [&[u8; 4]; 16] = [
     b"isol", b"fina", b"fin2", b"fin3", b"medi", b"med2", b"init", b"rphf", b"half", b"pref", b"blwf", b"abvf",
@@ -119,10 +140,10 @@ fn call(how: Counted, shaper: Shaper, plan: &Plan, buffer: &mut Buffer) {
             shaper.preprocess_text(plan, &font, buffer).expect("there is memory");
         }
         Counted::SetupMasks => {
-            shaper.setup_masks(plan, &font, &UnicodeTables, buffer);
+            let _ = shaper.setup_masks(plan, &font, &UnicodeTables, buffer);
         }
         Counted::SetupSyllables(pause) => {
-            setup_syllables_found(pause, plan, buffer);
+            assert!(setup_syllables_found(pause, plan, buffer));
         }
         Counted::Pause(pause) => {
             run_pause(pause, plan, &font, &[], buffer).expect("there is memory");
@@ -136,12 +157,25 @@ fn case_ends() {
     black_box(());
 }
 
+fn let_clusters_fall(buffer: &mut Buffer) {
+    buffer.with_glyphs_mut(|glyphs| {
+        for (glyph, cluster) in glyphs.iter_mut().rev().zip(0..) {
+            glyph.cluster = cluster;
+        }
+    });
+}
+
 fn main() {
-    for (name, shaper, script, unit, before, how) in CASES {
+    let short = CASES.iter().map(|case| (case, 100, false));
+    let long = FALLING.iter().map(|case| (case, 2_000, true));
+    for (&(name, shaper, script, unit, before, how), length, falls) in short.chain(long) {
         let plan = plan(shaper, script);
-        let text: String = unit.chars().cycle().take(100).collect();
+        let text: String = unit.chars().cycle().take(length).collect();
         let mut buffer = Buffer::from_text(&text, &UnicodeTables).expect("there is memory");
         buffer.set_script(Some(script));
+        if falls {
+            let_clusters_fall(&mut buffer);
+        }
         if !matches!(how, Counted::PreprocessText | Counted::SetupMasks) {
             call(Counted::SetupMasks, shaper, &plan, &mut buffer);
         }
