@@ -53,6 +53,13 @@ pub trait hb_font_t {
     /// Whether the font has a feature by this tag.
     fn has_feature(&self, tag: hb_tag_t) -> bool
         ensures { result ≡ (font self.now).offers tag };
+
+    /// Whether a question to the font may panic. An impl overrides this where none does: then a text
+    /// needn't stand outside its buffer while the font is asked.
+    #[inline]
+    fn may_panic(&self) -> bool {
+        true
+    }
 }
 
 /// The tables of the Unicode Character Database and of the shapers, as far as they are read.
@@ -83,4 +90,10 @@ pub trait Tables {
     /// The two characters that a character decomposes to by Unicode's canonical decomposition.
     fn decompose(&self, ab: char) -> Option<(char, char)>
         ensures { result ≡ (tables self.now).decomposed ab };
+
+    /// Whether a question to the tables may panic. An impl overrides this where none does.
+    #[inline]
+    fn may_panic(&self) -> bool {
+        true
+    }
 }

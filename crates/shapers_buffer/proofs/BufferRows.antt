@@ -4,6 +4,7 @@ use Rattle.shapers_buffer.specs.declared.buffer.glyph.TheConstants.GlyphPosition
 use Rattle.shapers_buffer.specs.declared.buffer.glyph.TheConstants.hb_glyph_info_t as zeroes
 use Rattle.shapers_buffer.specs.declared.buffer.glyph.GlyphPosition.{GlyphPosition}
 use Rattle.shapers_buffer.specs.Glyphs.{Glyph}
+use Rattle.shapers_buffer.specs.LookupRecords.{operations_for, record_for}
 use Rattle.shapers_buffer.specs.declared.buffer.level.BufferClusterLevel.TheVariants.{Characters, MonotoneCharacters, MonotoneGraphemes}
 use Rattle.shapers_buffer.specs.declared.buffer.level.Direction.TheVariants.{LeftToRight, RightToLeft}
 use Rattle.shapers_buffer.specs.Buffer.{Buffer, but_places, can_be_positions, copied_to, grown, new_buffer}
@@ -57,7 +58,26 @@ position_by_default = refl
 ZERO : zero.ZERO ≡ nowhere
 ZERO = refl
 
--- a new buffer is empty, reads from left to right, and has the first level, no flag, no script, no context and no mark
+-- a text has 4,096 operations a glyph, and 65,536 at least: up to 16 glyphs
+operations_of_none : operations_for 0 ≡ 65536
+operations_of_none = refl
+
+operations_of_16 : operations_for 16 ≡ 65536
+operations_of_16 = refl
+
+operations_of_17 : operations_for 17 ≡ 69632
+operations_of_17 = refl
+
+-- .. and never more than a number can say
+operations_of_many : operations_for 0x10000000000000 ≡ 0xFFFFFFFFFFFFFFFF
+operations_of_many = refl
+
+record_of_17 : record_for 17
+    ≡ record { ligature_serial = 0; random_state = 1; operations_left = 69632; is_complete = true }
+record_of_17 = refl
+
+-- a new buffer is empty, reads from left to right, and has the first level, no flag, no script, no context, no mark, and
+-- nothing of lookups
 new : new_buffer 7
     ≡ record {
       glyphs = [];
@@ -71,6 +91,7 @@ new : new_buffer 7
       after = [];
       broken = false;
       stch = false;
+      lookups = record { ligature_serial = 0; random_state = 1; operations_left = 65536; is_complete = true };
       max_len = 7;
       places = [];
     }
@@ -90,6 +111,7 @@ whole = record {
   after = 3 ∷ [];
   broken = true;
   stch = true;
+  lookups = record { ligature_serial = 5; random_state = 9; operations_left = 7; is_complete = false };
   max_len = 50;
   places =
       1 ∷ [];

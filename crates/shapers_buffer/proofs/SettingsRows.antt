@@ -3,6 +3,7 @@ use Rattle.std.specs.Prelude.{◌≡◌, true, false, List, [], ◌∷◌, map, 
 use Rattle.std.specs.Borrow.{Bor}
 use Rattle.shapers_buffer.specs.Buffer.{Buffer, new_buffer}
 use Rattle.shapers_buffer.specs.Glyph.{default_glyph, default_position}
+use Rattle.shapers_buffer.specs.LookupRecords.{record_for}
 use Rattle.shapers_buffer.specs.Settings.{character_of, positions_of_text, with_settings, with_text}
 use Rattle.shapers_buffer.specs.declared.buffer.level.BufferClusterLevel.TheVariants.{Characters}
 use Rattle.shapers_buffer.specs.declared.buffer.level.Direction.TheVariants.{RightToLeft}
@@ -26,7 +27,7 @@ given before after = record {
 
 -- a buffer of one glyph, which is placed and listed
 abbrev one : Buffer
-one = record (new_buffer 7) { glyphs = default_glyph ∷ []; positions = default_position ∷ []; places = 1 ∷ [] }
+one = record (new_buffer 7) { glyphs = default_glyph ∷ []; positions = default_position ∷ []; lookups = record_for 17; places = 1 ∷ [] }
 
 -- each setting comes from them, of a context its five nearest characters; glyphs, positions and placement list stay
 settled : (before after : Bor (List ℕ)) → with_settings (given before after) one
@@ -42,6 +43,7 @@ settled : (before after : Bor (List ℕ)) → with_settings (given before after)
       after = take 5 after.now;
       broken = true;
       stch = true;
+      lookups = record_for 17;
       max_len =
           50;
       places = 1 ∷ [];
@@ -64,6 +66,7 @@ a_text : (before after : Bor (List ℕ))
       broken = true;
       stch =
           true;
+      lookups = record_for 17;
       max_len = 50;
       places = 1 ∷ [];
     }

@@ -8,10 +8,12 @@ use Rattle.shapers_buffer.specs.declared.buffer.level.BufferClusterLevel.{Buffer
 use Rattle.shapers_buffer.specs.declared.buffer.level.Direction.{Direction}
 use Rattle.shapers_buffer.specs.declared.buffer.level.Direction.TheVariants.{LeftToRight}
 use Rattle.shapers_buffer.specs.declared.buffer.level.BufferClusterLevel.TheVariants.{MonotoneGraphemes}
+use Rattle.shapers_buffer.specs.declared.buffer.lookup_record.LookupRecord.{LookupRecord}
 use Rattle.shapers_buffer.specs.declared.buffer.tag.Script.{Script}
 use Rattle.shapers_buffer.specs.Glyph.{default_glyph, default_position}
+use Rattle.shapers_buffer.specs.LookupRecords.{record_for}
 
--- a buffer: glyphs, positions (none, or one per glyph), settings, marks, and the placement list
+-- a buffer: glyphs, positions (none, or one per glyph), settings, marks, what lookups left, and the placement list
 pub record Buffer : Type 0 where
   pub glyphs : Glyphs
   pub positions : List GlyphPosition
@@ -23,6 +25,7 @@ pub record Buffer : Type 0 where
   pub after : List ℕ
   pub broken : Bool
   pub stch : Bool
+  pub lookups : LookupRecord
   pub max_len : ℕ
   pub places : List ℕ
 
@@ -91,6 +94,7 @@ new_buffer limit = record {
   after = [];
   broken = false;
   stch = false;
+  lookups = record_for 0;
   max_len = limit;
   places = [];
 }

@@ -8,6 +8,7 @@ pub mod Glyphs
 pub mod GlyphFlags
 pub mod ListingWalk
 pub mod Lists
+pub mod LookupRecords
 pub mod Numbers
 pub mod Placements
 pub mod Places

@@ -25,6 +25,7 @@ mod keeping;
 mod laws;
 mod level;
 mod lig_props;
+mod lookup_record;
 mod merging;
 pub mod modified_combining_class;
 mod placement;
@@ -54,6 +55,7 @@ pub use laws::{
 };
 pub use level::{BufferClusterLevel, Direction};
 pub use lig_props::LigProps;
+pub use lookup_record::LookupRecord;
 pub use merging::{IntoCluster, least_cluster, merge_clusters_in, put_into_cluster};
 pub use placement::Placement;
 pub use placements::{Arranged, Placements, SyllableReading};
@@ -68,8 +70,8 @@ pub use walking::{GlyphChange, GlyphWalk, PositionedWalk, change_each_by_in, cha
 /// How many characters of context a buffer keeps on each side.
 pub const CONTEXT_LENGTH: usize = 5;
 
-/// A list of glyphs, with positions or without, its settings, the text on both sides and marks
-/// that one hook leaves for a later one. Its length never passes `max_len`.
+/// A list of glyphs, with positions or without, its settings, the text on both sides and what one
+/// hook or lookup leaves for a later one. Its length never passes `max_len`.
 #[derive(Debug, Drop)]
 pub struct hb_buffer_t {
     info: Vec<hb_glyph_info_t>,
@@ -82,6 +84,7 @@ pub struct hb_buffer_t {
     post_context: ArrayVec<char, CONTEXT_LENGTH>,
     has_broken_syllable: bool,
     has_stch: bool,
+    lookup_record: LookupRecord,
     max_len: usize,
     // room for one place and one glyph per glyph, so that a reordering takes no memory; it is
     // written as far as reorderings came
@@ -111,6 +114,7 @@ impl Model for hb_buffer_t {
       after = b.post_context.items;
       broken = b.has_broken_syllable;
       stch = b.has_stch;
+      lookups = b.lookup_record;
       max_len = b.max_len;
       places = without_last_zeros b.places.items;
     } };
@@ -126,6 +130,7 @@ impl Model for hb_buffer_t {
       after = b.post_context.items;
       broken = b.has_broken_syllable;
       stch = b.has_stch;
+      lookups = b.lookup_record;
       max_len = b.max_len;
       places = without_last_zeros b.places.items;
     }) (vec_capacity b.places) (vec_capacity b.spare) };
@@ -148,6 +153,7 @@ impl hb_buffer_t {
             post_context: ArrayVec::new(),
             has_broken_syllable: false,
             has_stch: false,
+            lookup_record: LookupRecord::for_text(0),
             max_len,
             places: Vec::new(alloc),
             spare: Vec::new(alloc),
@@ -310,6 +316,7 @@ impl hb_buffer_t {
             post_context: context(self.post_context.as_slice()),
             has_broken_syllable: self.has_broken_syllable,
             has_stch: self.has_stch,
+            lookup_record: self.lookup_record,
             max_len: self.max_len,
             places: lists.places,
             spare: lists.spare,

@@ -5,6 +5,7 @@ use Rattle.shapers_base.specs.declared.plan.pause.Pause.TheVariants.{SetupSyllab
 use Rattle.shapers_buffer.specs.Buffer.{Buffer}
 use Rattle.shapers_buffer.specs.Clusters.{merges}
 use Rattle.shapers_buffer.specs.Glyph.{clusters, without_flags}
+use Rattle.shapers_buffer.specs.LookupRecords.{record_for}
 use Rattle.shapers_buffer.specs.Properties.{no_ligature}
 use Rattle.shapers_buffer.specs.Glyphs.{Glyph, Glyphs}
 use Rattle.shapers_buffer.specs.declared.buffer.glyph_props.GlyphProps.{GlyphProps}
@@ -21,10 +22,11 @@ use Rattle.shapers_spans.specs.Universal.{universal_grammar}
 use Rattle.shapers_plan.specs.declared.ot_map.lookups.Stage.{Stage}
 use Rattle.shapers_plan.specs.declared.ot_map.lookups.StageLookup.{StageLookup}
 
--- What a lookup of GSUB keeps of a text without positions: everything but its glyphs; each cluster
--- is one that the text had, and at the levels that merge clusters still rise, or fall.
+-- What a lookup of GSUB keeps of a text without positions: everything but its glyphs and the record
+-- of its lookups; each cluster is one that the text had, and at the levels that merge clusters still
+-- rise, or fall.
 pub record LookupKeeps (old new : Buffer) : Type 0 where
-  pub others : new ≡ record old { glyphs = new.glyphs }
+  pub others : new ≡ record old { glyphs = new.glyphs; lookups = new.lookups }
   pub old_clusters : NoNewCluster old.glyphs new.glyphs
   pub monotone : merges old.level ≡ true → IsMonotone (clusters old.glyphs) →
       IsMonotone (clusters new.glyphs)
@@ -43,12 +45,16 @@ pub record PositionKeeps (old new : Buffer) : Type 0 where
   pub glyphs : map unplaced new.glyphs ≡ map unplaced old.glyphs
   pub positions : length new.positions ≡ length old.positions
 
--- what the lookups keep of each glyph, once it is one; none is of a ligature yet
+-- what the lookups keep of each glyph, once it is one; none is of a ligature yet, and the record of
+-- the text's lookups begins
 abbrev pub with_note : (Glyph → GlyphProps) → Glyph → Glyph
 with_note noted g = record g { glyph_props = noted g; lig_props = no_ligature }
 
 abbrev pub text_noted : (Glyph → GlyphProps) → Buffer → Buffer
-text_noted noted b = record b { glyphs = map (with_note noted) b.glyphs }
+text_noted noted b = record b {
+  glyphs = map (with_note noted) b.glyphs;
+  lookups = record_for (length b.glyphs);
+}
 
 -- what these lookups make of a text, one after another
 abbrev pub looked_up : (StageLookup → Buffer → Buffer) → List StageLookup → Buffer → Buffer

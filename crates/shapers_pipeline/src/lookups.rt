@@ -6,7 +6,8 @@ ghost use Rattle.shapers_spans.specs.Cuts.{AreSpansOf};
 ghost use Rattle.shapers_pipeline.specs.Lookups.{FoundSpans, MayRefuse, SpansRefused, StoppedIn, looked_up, text_noted};
 
 use shapers_base::buffer::{
-    GlyphChange, GlyphProps, LigProps, ShaperError, Span, hb_buffer_t, hb_glyph_info_t,
+    GlyphChange, GlyphProps, LigProps, LookupRecord, ShaperError, Span, hb_buffer_t,
+    hb_glyph_info_t,
 };
 use shapers_base::plan::Pause;
 use shapers_plan::ot_map::StageLookup;
@@ -52,8 +53,8 @@ pub trait Lookups: GlyphClasses {
     fn growth(&self, lookup: &StageLookup) -> usize
         ensures { result ≡ growth_of self.now lookup.now };
 
-    /// Applies a lookup of GSUB to a text of glyphs without positions. It reads and writes glyphs alone. Each
-    /// cluster that it leaves is one that the text had, and at the levels that merge clusters that
+    /// Applies a lookup of GSUB to a text of glyphs without positions. It reads and writes glyphs and
+    /// the record of the text's lookups alone. Each cluster that it leaves is one that the text had, and at the levels that merge clusters that
     /// rise along the text, or fall, still do.
     ///
     /// # Errors
@@ -102,12 +103,14 @@ pub trait Lookups: GlyphClasses {
         PositionKeeps b (finished it b) };
 }
 
-// Notes of each glyph what the lookups keep there; none is of a ligature yet.
+// Notes of each glyph what the lookups keep there; none is of a ligature yet, and the record of the
+// text's lookups begins.
 pub(crate) fn note_glyphs<L: Lookups>(lookups: &L, buffer: &mut hb_buffer_t)
     ensures { buffer.new ≡ text_noted (L.noted lookups.now) buffer.old }
 {
     // (lookups that panic leave the empty buffer, and no text with some of its glyphs noted)
     buffer.change_outside(&Noting { lookups });
+    buffer.set_lookup_record(LookupRecord::for_text(buffer.len()));
 }
 
 // The note beside one glyph.

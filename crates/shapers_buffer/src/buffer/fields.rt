@@ -3,7 +3,8 @@ ghost use Rattle.std.specs.Prelude.{◌≡◌, ◌==◌, ◌||◌, ◌<◌, ◌�
 ghost use Rattle.shapers_buffer.specs.Buffer.{can_be_positions};
 
 use super::{
-    BufferClusterLevel, BufferFlags, Direction, GlyphPosition, Script, context, hb_buffer_t,
+    BufferClusterLevel, BufferFlags, Direction, GlyphPosition, LookupRecord, Script, context,
+    hb_buffer_t,
 };
 
 impl hb_buffer_t {
@@ -195,6 +196,22 @@ impl hb_buffer_t {
         ensures { self.new ≡ record self.old { stch = has_stch } }
     {
         self.has_stch = has_stch;
+    }
+
+    /// What the lookups left for those behind them.
+    #[inline]
+    pub fn lookup_record(&self) -> LookupRecord
+        ensures { result ≡ self.now.lookups }
+    {
+        self.lookup_record
+    }
+
+    /// Sets what the lookups left: a text begins with [`LookupRecord::for_text`].
+    #[inline]
+    pub fn set_lookup_record(&mut self, lookup_record: LookupRecord)
+        ensures { self.new ≡ record self.old { lookups = lookup_record } }
+    {
+        self.lookup_record = lookup_record;
     }
 
     /// The greatest length that the buffer may have.

@@ -63,7 +63,7 @@ impl hb_buffer_t {
 
     /// Gives each place from `start` to `end` the glyph of the place that the placement says for it;
     /// it says each of these places once. Positions stay. It takes no memory.
-    #[inline]
+    #[inline(always)]
     pub fn apply(&mut self, start: usize, end: usize, placement: Placement)
         requires in_order { start ≤ end }
         requires in_range { end ≤ length self.old.glyphs }
@@ -91,8 +91,9 @@ impl hb_buffer_t {
         bring_forward_in(&mut self.info, to, from, count);
     }
 
-    // Gives each place from `start` to `end` the glyph of the place listed for it.
-    #[inline]
+    // Gives each place from `start` to `end` the glyph of the place listed for it. A call of its own:
+    // most syllables stay, and what calls `apply` isn't made longer by this.
+    #[inline(never)]
     fn apply_list(&mut self, start: usize, end: usize)
         requires in_order { start ≤ end }
         requires in_range { end ≤ length self.old.glyphs }

@@ -1,6 +1,6 @@
 //! Other glyphs for the buffer's, texts rewritten, and glyphs copied with their positions.
 ghost use Rattle.std.specs.Prelude.{◌≡◌, ◌<◌, ◌≤◌, [], length, vec_capacity, OnOk, OnErr};
-ghost use Rattle.shapers_buffer.specs.Buffer.{copied_to};
+ghost use Rattle.shapers_buffer.specs.Buffer.{copied_to, with_copy};
 ghost use Rattle.shapers_buffer.specs.Refusals.{RefusesLength};
 ghost use Rattle.shapers_buffer.specs.Glyphs.{Glyphs};
 
@@ -102,9 +102,19 @@ impl hb_buffer_t {
         requires to_in_range { to < length self.old.glyphs }
         ensures { self.new ≡ copied_to from to self.old }
     {
-        self.info[to] = self.info[from];
+        copy_in(&mut self.info, from, to);
         if !self.pos.is_empty() {
-            self.pos[to] = self.pos[from];
+            copy_in(&mut self.pos, from, to);
         }
     }
+}
+
+// Puts a copy of the item at one place at another, too.
+#[inline]
+fn copy_in<T: Copy>(items: &mut [T], from: usize, to: usize)
+    requires from_in_range { from < length items.old }
+    requires to_in_range { to < length items.old }
+    ensures { items.new ≡ with_copy from to items.old }
+{
+    items[to] = items[from];
 }

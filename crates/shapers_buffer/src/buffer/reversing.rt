@@ -1,8 +1,8 @@
 //! The buffer backwards.
-ghost use Rattle.std.specs.Prelude.{◌≡◌, ◌≤◌, length, reverse};
+ghost use Rattle.std.specs.Prelude.{◌≡◌, ◌<◌, ◌≤◌, length, reverse};
 ghost use Rattle.shapers_buffer.specs.Clusters.{with_stretch};
 
-use super::hb_buffer_t;
+use super::{GlyphPosition, hb_buffer_t};
 
 impl hb_buffer_t {
     /// Turns the glyphs round, with their positions.
@@ -32,8 +32,18 @@ impl hb_buffer_t {
         } }
     {
         self.info[s..e].reverse();
-        if !self.pos.is_empty() {
-            self.pos[s..e].reverse();
-        }
+        reverse_positions(&mut self.pos, s, e);
+    }
+}
+
+// Turns the positions from `s` to `e` round, if there are any.
+#[inline]
+fn reverse_positions(positions: &mut [GlyphPosition], s: usize, e: usize)
+    requires in_order { s ≤ e }
+    requires in_range { 0 < length positions.old → e ≤ length positions.old }
+    ensures { positions.new ≡ with_stretch s e reverse positions.old }
+{
+    if !positions.is_empty() {
+        positions[s..e].reverse();
     }
 }
