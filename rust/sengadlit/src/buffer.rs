@@ -13,8 +13,9 @@
 pub use crate::generated::shapers_buffer::buffer::Buffer;
 pub use crate::generated::shapers_buffer::buffer::{
     BufferClusterLevel, BufferFlags, BufferSettings, CONTEXT_LENGTH, Direction, GeneralCategory,
-    GlyphInfo, GlyphPosition, GlyphProps, GlyphRewriting, LigProps, Script, ShaperError, Span, Tag,
-    UnicodeProps, context_characters, glyph_flag, modified_combining_class, spans_cover,
+    GlyphInfo, GlyphPosition, GlyphProps, GlyphRewriting, LigProps, LookupRecord, Script,
+    ShaperError, Span, Tag, UnicodeProps, context_characters, glyph_flag, modified_combining_class,
+    spans_cover,
 };
 
 #[cfg(test)]

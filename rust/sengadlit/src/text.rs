@@ -2,7 +2,8 @@
 
 use crate::alloc::{Global, Vec};
 use crate::buffer::{
-    Buffer, BufferSettings, Direction, GeneralCategory, GlyphInfo, GlyphPosition, ShaperError,
+    Buffer, BufferSettings, Direction, GeneralCategory, GlyphInfo, GlyphPosition, LookupRecord,
+    ShaperError,
 };
 use crate::font::Tables;
 use core::fmt;
@@ -94,6 +95,7 @@ impl Buffer {
         self.set_direction(Direction::LeftToRight);
         self.set_has_broken_syllable(false);
         self.set_has_stch(false);
+        self.set_lookup_record(LookupRecord::for_text(0));
     }
 
     /// Sets the text before the buffer's, of which the last five characters are kept, and the text

@@ -107,6 +107,13 @@ pub trait Font {
     ///
     /// </details>
     fn has_feature(&self, tag: Tag) -> bool;
+
+    /// Whether a question to the font may panic. An impl overrides this where none does: then a text
+    /// needn't stand outside its buffer while the font is asked.
+    #[inline]
+    fn may_panic(&self) -> bool {
+        true
+    }
 }
 
 /// The tables of the Unicode Character Database and of the shapers, as far as they are read.
@@ -188,4 +195,10 @@ pub trait Tables {
     ///
     /// </details>
     fn decompose(&self, ab: char) -> Option<(char, char)>;
+
+    /// Whether a question to the tables may panic. An impl overrides this where none does.
+    #[inline]
+    fn may_panic(&self) -> bool {
+        true
+    }
 }

@@ -23,6 +23,7 @@ mod group_room;
 mod keeping;
 mod level;
 mod lig_props;
+mod lookup_record;
 mod merging;
 pub mod modified_combining_class;
 mod placement;
@@ -48,6 +49,7 @@ pub use glyph_props::GlyphProps;
 pub use group_room::{ClusterGroup, GroupRoom};
 pub use level::{BufferClusterLevel, Direction};
 pub use lig_props::LigProps;
+pub use lookup_record::LookupRecord;
 pub use merging::{IntoCluster, least_cluster, merge_clusters_in, put_into_cluster};
 pub use placement::Placement;
 pub use placements::{Arranged, Placements, SyllableReading};
@@ -62,8 +64,8 @@ pub use walking::{GlyphChange, GlyphWalk, PositionedWalk, change_each_by_in, cha
 /// How many characters of context a buffer keeps on each side.
 pub const CONTEXT_LENGTH: usize = 5;
 
-/// A list of glyphs, with positions or without, its settings, the text on both sides and marks
-/// that one hook leaves for a later one. Its length never passes [`max_len`].
+/// A list of glyphs, with positions or without, its settings, the text on both sides and what one
+/// hook or lookup leaves for a later one. Its length never passes [`max_len`].
 ///
 /// [`max_len`]: crate::Buffer::max_len
 #[derive(Debug)]
@@ -78,6 +80,7 @@ pub struct Buffer {
     post_context: ArrayVec<char, CONTEXT_LENGTH>,
     has_broken_syllable: bool,
     has_stch: bool,
+    lookup_record: LookupRecord,
     max_len: usize,
     // room for one place and one glyph per glyph, so that a reordering takes no memory; it is
     // written as far as reorderings came
@@ -116,6 +119,7 @@ impl Buffer {
             post_context: ArrayVec::new(),
             has_broken_syllable: false,
             has_stch: false,
+            lookup_record: LookupRecord::for_text(0),
             max_len,
             places: Vec::new(alloc),
             spare: Vec::new(alloc),
@@ -362,6 +366,7 @@ impl Buffer {
             post_context: context(self.post_context.as_slice()),
             has_broken_syllable: self.has_broken_syllable,
             has_stch: self.has_stch,
+            lookup_record: self.lookup_record,
             max_len: self.max_len,
             places: lists.places,
             spare: lists.spare,

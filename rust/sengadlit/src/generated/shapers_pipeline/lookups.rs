@@ -5,7 +5,7 @@
 use crate::support::prelude::*;
 
 use crate::generated::shapers_base::buffer::{
-    Buffer, GlyphChange, GlyphInfo, GlyphProps, LigProps, ShaperError, Span,
+    Buffer, GlyphChange, GlyphInfo, GlyphProps, LigProps, LookupRecord, ShaperError, Span,
 };
 use crate::generated::shapers_base::plan::Pause;
 use crate::generated::shapers_plan::ot_map::StageLookup;
@@ -43,8 +43,8 @@ pub trait Lookups: GlyphClasses {
     /// </details>
     fn growth(&self, lookup: &StageLookup) -> usize;
 
-    /// Applies a lookup of GSUB to a text of glyphs without positions. It reads and writes glyphs alone. Each
-    /// cluster that it leaves is one that the text had, and at the levels that merge clusters that
+    /// Applies a lookup of GSUB to a text of glyphs without positions. It reads and writes glyphs and
+    /// the record of the text's lookups alone. Each cluster that it leaves is one that the text had, and at the levels that merge clusters that
     /// rise along the text, or fall, still do.
     ///
     /// # Errors
@@ -117,10 +117,12 @@ pub trait Lookups: GlyphClasses {
     fn finish_positions(&self, buffer: &mut Buffer);
 }
 
-// Notes of each glyph what the lookups keep there; none is of a ligature yet.
+// Notes of each glyph what the lookups keep there; none is of a ligature yet, and the record of the
+// text's lookups begins.
 pub(crate) fn note_glyphs<L: Lookups>(lookups: &L, buffer: &mut Buffer) {
     // (lookups that panic leave the empty buffer, and no text with some of its glyphs noted)
     buffer.change_outside(&Noting { lookups });
+    buffer.set_lookup_record(LookupRecord::for_text(buffer.len()));
 }
 
 // The note beside one glyph.

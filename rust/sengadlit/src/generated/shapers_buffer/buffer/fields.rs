@@ -4,7 +4,10 @@
 
 use crate::support::prelude::*;
 
-use super::{Buffer, BufferClusterLevel, BufferFlags, Direction, GlyphPosition, Script, context};
+use super::{
+    Buffer, BufferClusterLevel, BufferFlags, Direction, GlyphPosition, LookupRecord, Script,
+    context,
+};
 
 impl Buffer {
     /// Where the glyph at place `i` is drawn; `i` is below the number of positions.
@@ -365,6 +368,38 @@ impl Buffer {
     #[inline]
     pub fn set_has_stch(&mut self, has_stch: bool) {
         self.has_stch = has_stch;
+    }
+
+    /// What the lookups left for those behind them.
+    ///
+    /// <details><summary>Contract</summary>
+    ///
+    /// # Contract
+    ///
+    /// ```text
+    /// ensures { result ≡ self.now.lookups }
+    /// ```
+    ///
+    /// </details>
+    #[inline]
+    pub fn lookup_record(&self) -> LookupRecord {
+        self.lookup_record
+    }
+
+    /// Sets what the lookups left: a text begins with [`LookupRecord::for_text`].
+    ///
+    /// <details><summary>Contract</summary>
+    ///
+    /// # Contract
+    ///
+    /// ```text
+    /// ensures { self.new ≡ record self.old { lookups = lookup_record } }
+    /// ```
+    ///
+    /// </details>
+    #[inline]
+    pub fn set_lookup_record(&mut self, lookup_record: LookupRecord) {
+        self.lookup_record = lookup_record;
     }
 
     /// The greatest length that the buffer may have.

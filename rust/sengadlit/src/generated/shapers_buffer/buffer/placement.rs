@@ -114,7 +114,7 @@ impl Buffer {
     /// - `PlacesEachOnce`, `placed_by`: `crates/shapers_buffer/specs/Places.antt`
     ///
     /// </details>
-    #[inline]
+    #[inline(always)]
     pub(crate) fn apply(&mut self, start: usize, end: usize, placement: Placement) {
         match placement {
             Placement::Stays => {}
@@ -129,8 +129,9 @@ impl Buffer {
         bring_forward_in(&mut self.info, to, from, count);
     }
 
-    // Gives each place from `start` to `end` the glyph of the place listed for it.
-    #[inline]
+    // Gives each place from `start` to `end` the glyph of the place listed for it. A call of its own:
+    // most syllables stay, and what calls `apply` isn't made longer by this.
+    #[inline(never)]
     fn apply_list(&mut self, start: usize, end: usize) {
         open_places(&mut self.places, self.info[..end].len());
         open_spare(&mut self.spare, end - start);

@@ -145,9 +145,15 @@ impl Buffer {
     /// </details>
     #[inline]
     pub(crate) fn copy_glyph(&mut self, from: usize, to: usize) {
-        self.info[to] = self.info[from];
+        copy_in(&mut self.info, from, to);
         if !self.pos.is_empty() {
-            self.pos[to] = self.pos[from];
+            copy_in(&mut self.pos, from, to);
         }
     }
+}
+
+// Puts a copy of the item at one place at another, too.
+#[inline]
+fn copy_in<T: Copy>(items: &mut [T], from: usize, to: usize) {
+    items[to] = items[from];
 }

@@ -2,7 +2,7 @@
 
 //! The buffer backwards.
 
-use super::Buffer;
+use super::{Buffer, GlyphPosition};
 
 impl Buffer {
     /// Turns the glyphs round, with their positions.
@@ -50,8 +50,14 @@ impl Buffer {
     #[inline]
     pub fn reverse_range(&mut self, s: usize, e: usize) {
         self.info[s..e].reverse();
-        if !self.pos.is_empty() {
-            self.pos[s..e].reverse();
-        }
+        reverse_positions(&mut self.pos, s, e);
+    }
+}
+
+// Turns the positions from `s` to `e` round, if there are any.
+#[inline]
+fn reverse_positions(positions: &mut [GlyphPosition], s: usize, e: usize) {
+    if !positions.is_empty() {
+        positions[s..e].reverse();
     }
 }
