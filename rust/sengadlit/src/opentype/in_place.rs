@@ -91,13 +91,22 @@ impl ShapePlan {
         replacements: &Replacements,
         buffer: &mut Buffer,
     ) -> Result<(), CallError> {
-        self.shape_and_tell(face, font, replacements, None, buffer)
+        self.shape_and_tell(
+            face,
+            &face.for_tags(self.tags),
+            font,
+            replacements,
+            None,
+            buffer,
+        )
     }
 
-    /// The same, and tells the lookups as they are applied.
+    /// The same with the face's own font, [`Face::font`], whose lookups are applied, and told if there is
+    /// somebody to tell.
     pub(super) fn shape_and_tell<F: NormalizeFont + MetricsFont>(
         &self,
         face: &Face<'_>,
+        own: &OpenTypeFont<'_>,
         font: &F,
         replacements: &Replacements,
         told: Told<'_>,
@@ -111,7 +120,7 @@ impl ShapePlan {
             ignorables: settings.ignorables,
         };
         let steps = Steps {
-            font: &face.for_tags(self.tags),
+            font: own,
             plan: &self.plan,
             not_found: replacements.not_found,
             marks: MarkPlacing::new(face, &self.plan, &kerning),

@@ -111,7 +111,14 @@ impl GlyphBuffer {
         buffer.set_post_context(nearest(after, &mut room));
         buffer.push_str(&text[stretch.clone()])?;
         let font = face.for_tags(plan.tags);
-        plan.shape_buffer_with(face, &font, &self.text.replacements, &mut buffer)?;
+        plan.shape_and_tell(
+            face,
+            &font,
+            &font,
+            &self.text.replacements,
+            None,
+            &mut buffer,
+        )?;
         Ok(buffer)
     }
 }

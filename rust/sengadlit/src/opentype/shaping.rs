@@ -172,7 +172,7 @@ fn shape_and_tell(
     let (direction, script) = (buffer.direction(), buffer.script());
     buffer.set_direction(plan.direction());
     buffer.set_script(plan.script());
-    match plan.shape_and_tell(face, &font, &text.replacements, told, buffer) {
+    match plan.shape_and_tell(face, &font, &font, &text.replacements, told, buffer) {
         Ok(()) => Ok(GlyphBuffer::new(text, true)),
         Err(error) => {
             buffer.set_direction(direction);
