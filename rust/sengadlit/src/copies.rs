@@ -7,8 +7,8 @@ use crate::ot_shape_plan::EnginePlan;
 use crate::plan::{Plan, Planner};
 use core::ops::Range;
 
-/// Buffers are equal that hold the same glyphs, positions and settings. What room they have, and
-/// which places are listed in them, is of no account.
+/// Buffers are equal that hold the same glyphs, positions and settings. What room they have, which
+/// places are listed in them and what lookups have left is of no account.
 impl PartialEq for Buffer {
     fn eq(&self, other: &Self) -> bool {
         self.glyphs() == other.glyphs()

@@ -28,6 +28,10 @@ impl<F: Font + ?Sized> Font for &F {
     fn has_feature(&self, tag: Tag) -> bool {
         (**self).has_feature(tag)
     }
+
+    fn may_panic(&self) -> bool {
+        (**self).may_panic()
+    }
 }
 
 impl<T: Tables + ?Sized> Tables for &T {
@@ -53,5 +57,9 @@ impl<T: Tables + ?Sized> Tables for &T {
 
     fn decompose(&self, ab: char) -> Option<(char, char)> {
         (**self).decompose(ab)
+    }
+
+    fn may_panic(&self) -> bool {
+        (**self).may_panic()
     }
 }

@@ -84,9 +84,10 @@ impl Buffer {
         });
     }
 
-    /// Makes the buffer ready for another text: glyphs, positions and contexts go, script and
-    /// direction are those of a new buffer, and no syllable is broken and no mark stretched any more.
-    /// Cluster level, flags, `max_len` and memory stay, as in HarfBuzz's `hb_buffer_clear_contents`.
+    /// Makes the buffer ready for another text: glyphs, positions and contexts go, script, direction
+    /// and the record of lookups are those of a new buffer, and no syllable is broken and no mark
+    /// stretched any more. Cluster level, flags, `max_len` and memory stay, as in HarfBuzz's
+    /// `hb_buffer_clear_contents`.
     pub fn clear(&mut self) {
         self.truncate(0);
         self.set_pre_context(&[]);

@@ -252,8 +252,8 @@ mod text {
     use sengadlit::ot_shape_normalize::{NormalizeContext, Rounds, normalize};
     use sengadlit::plan::NormalizationMode;
 
-    /// A few of Unicode's letters and marks, and a font that has them all.
-    struct Latin;
+    /// A few of Unicode's letters and marks, a font that has them all, and how the shaper wants texts normalized.
+    struct Latin(NormalizationMode);
 
     const PAIRS: [(u32, u32, u32); 3] = [
         (0xE9, 0x65, 0x301),
@@ -263,7 +263,7 @@ mod text {
 
     impl NormalizeContext for Panicking<'_, Latin> {
         fn normalization_preference(&self) -> NormalizationMode {
-            self.ask(|_| NormalizationMode::CD)
+            self.ask(|latin| latin.0)
         }
 
         fn decompose(&self, ab: u32) -> Option<(u32, u32)> {
@@ -312,9 +312,10 @@ mod text {
     }
 
     /// Normalizes with a context that returns so many times; returns whether it did.
-    fn is_normalized(answers: usize, buffer: &mut Buffer) -> bool {
+    fn is_normalized(mode: NormalizationMode, answers: usize, buffer: &mut Buffer) -> bool {
         let left = &Cell::new(answers);
-        let context = Panicking { asked: Latin, left };
+        let asked = Latin(mode);
+        let context = Panicking { asked, left };
         caught(|| normalize(&context, Rounds::Always, buffer).unwrap()).is_ok()
     }
 
@@ -360,9 +361,12 @@ mod text {
         let apart = latin_text(&[0x1EBF, 0x323, 0x65, 0x301, 0x323, 0x34F, 0xEA, 0xE9]);
         let alone = latin_text(&[0x61, 0x62, 0x63, 0x64, 0x65, 0x66, 0x67, 0x68]);
         let staying = latin_text(&[0x61, 0x323, 0x62, 0x323, 0x63, 0x323, 0x64, 0x323]);
-        for text in [apart, alone, staying] {
-            let kinds = left_by(&text, is_normalized);
-            assert!(kinds.iter().all(|count| *count > 5), "{kinds:?}");
+        // (a shaper that leaves letters whole, and one that doesn't)
+        for mode in [NormalizationMode::AUTO, NormalizationMode::CD] {
+            for text in [&apart, &alone, &staying] {
+                let kinds = left_by(text, |answers, buffer| is_normalized(mode, answers, buffer));
+                assert!(kinds.iter().all(|count| *count > 5), "{kinds:?}");
+            }
         }
     }
 

@@ -331,8 +331,8 @@ impl MetricsFont for Panicking {
     }
 }
 
-/// A call of which the caller's code is asked so many questions.
-type Asking = (usize, fn(&Panicking, &mut Buffer));
+/// A call by its name, of which the caller's code is asked so many questions.
+type Asking = (&'static str, usize, fn(&Panicking, &mut Buffer));
 
 /// Whichever question is the one that panics: those before it were answered, so that some glyphs have been changed.
 #[test]
@@ -347,27 +347,37 @@ fn panics_leave_no_half() {
         buffer
     };
     let calls: [Asking; 4] = [
-        (3, |font, buffer| set_advances(font, buffer).unwrap()),
-        (2, |font, buffer| set_space_widths(font, buffer)),
+        ("advances", 3, |font, buffer| {
+            set_advances(font, buffer).unwrap();
+        }),
+        ("spaces", 2, |font, buffer| set_space_widths(font, buffer)),
         // (whether one is a mark, and then which)
-        (4, |font, buffer| zero_mark_widths(font, false, buffer)),
-        (1, |font, buffer| {
-            hide_default_ignorables(DefaultIgnorables::Hide, None, font, buffer)
+        ("marks", 4, |font, buffer| {
+            zero_mark_widths(font, false, buffer);
+        }),
+        ("ignorables", 1, |font, buffer| {
+            hide_default_ignorables(DefaultIgnorables::Hide, None, font, buffer);
         }),
     ];
-    for (questions, call) in calls {
+    let mut half_changed = Vec::new();
+    for (name, questions, call) in calls {
         for answers in 0..=questions {
             let asked = Panicking {
                 answers: Cell::new(answers),
             };
             let mut buffer = placed();
             let caught = panic::catch_unwind(panic::AssertUnwindSafe(|| call(&asked, &mut buffer)));
-            assert_eq!(caught.is_ok(), answers == questions);
+            assert_eq!(caught.is_ok(), answers == questions, "{name}");
             let old = placed();
             let is_old = buffer.glyphs() == old.glyphs() && buffer.positions() == old.positions();
-            assert!(caught.is_ok() != (buffer.is_empty() || is_old));
+            if caught.is_ok() {
+                assert!(!buffer.is_empty() && !is_old, "{name}");
+            } else if !buffer.is_empty() && !is_old {
+                half_changed.push((name, answers));
+            }
         }
     }
+    assert_eq!(half_changed, []);
 }
 
 #[test]

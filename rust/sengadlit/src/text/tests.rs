@@ -1,5 +1,7 @@
 use super::*;
-use crate::buffer::{BufferClusterLevel, BufferFlags, Direction, Script, UnicodeProps};
+use crate::buffer::{
+    BufferClusterLevel, BufferFlags, Direction, LookupRecord, Script, UnicodeProps,
+};
 use crate::plan::{Category, JoiningType, Position};
 use std::string::ToString;
 use std::vec::Vec as List;
@@ -53,6 +55,46 @@ fn read<T: Tables>(tables: T) -> std::string::String {
 fn tables_are_read_through_references() {
     let tables: &dyn Tables = &Letters;
     assert_eq!(read(tables), read(Letters));
+}
+
+/// Tables that say that they never panic.
+struct Calm;
+
+impl Tables for Calm {
+    fn joining_type(&self, c: char) -> JoiningType {
+        Letters.joining_type(c)
+    }
+
+    fn general_category(&self, c: char) -> GeneralCategory {
+        Letters.general_category(c)
+    }
+
+    fn indic_categories(&self, c: u32) -> (Category, Position) {
+        Letters.indic_categories(c)
+    }
+
+    fn use_category(&self, c: u32) -> Category {
+        Letters.use_category(c)
+    }
+
+    fn compose(&self, a: char, b: char) -> Option<char> {
+        Letters.compose(a, b)
+    }
+
+    fn decompose(&self, ab: char) -> Option<(char, char)> {
+        Letters.decompose(ab)
+    }
+
+    fn may_panic(&self) -> bool {
+        false
+    }
+}
+
+#[test]
+fn tables_may_panic_unless_they_say_otherwise() {
+    let (letters, calm): (&dyn Tables, &dyn Tables) = (&Letters, &Calm);
+    assert!(Letters.may_panic() && letters.may_panic());
+    assert!(!(&calm).may_panic() && !calm.may_panic());
 }
 
 fn clusters(buffer: &Buffer) -> List<(u32, u32)> {
@@ -177,7 +219,40 @@ fn a_cleared_buffer_is_a_new_one_but_for_level_flags_and_limit() {
     full.set_direction(Direction::RightToLeft);
     full.set_has_broken_syllable(true);
     full.set_has_stch(true);
+    full.set_lookup_record(USED);
     full.clear();
     assert!(full.is_empty());
     assert_eq!(full.settings(), buffer.settings());
+    assert_eq!(full.lookup_record(), LookupRecord::for_text(0));
+}
+
+/// What lookups may leave of a text.
+const USED: LookupRecord = LookupRecord {
+    ligature_serial: 3,
+    random_state: 48271,
+    operations_left: 65_000,
+    is_complete: false,
+};
+
+#[test]
+fn a_copy_has_the_record_of_the_lookups() {
+    let mut buffer = Buffer::from("ab");
+    assert_eq!(buffer.lookup_record(), LookupRecord::for_text(0));
+    buffer.set_lookup_record(USED);
+    assert_eq!(buffer.copy().unwrap().lookup_record(), USED);
+    assert_eq!(buffer.try_clone().unwrap().lookup_record(), USED);
+    // (a kept copy, too, and the buffer that it is put back into)
+    let kept = buffer.keep().unwrap();
+    buffer.set_lookup_record(LookupRecord::for_text(2));
+    assert_eq!(kept.lookup_record(), USED);
+    buffer.restore(kept);
+    assert_eq!(buffer.lookup_record(), USED);
+}
+
+#[test]
+fn a_text_has_as_many_operations_as_in_harfbuzz() {
+    let left = |len| LookupRecord::for_text(len).operations_left;
+    assert_eq!([0, 1, 16].map(left), [65_536; 3]);
+    assert_eq!(left(17), 69_632);
+    assert_eq!(left(usize::MAX), usize::MAX);
 }

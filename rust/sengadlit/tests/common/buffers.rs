@@ -4,7 +4,7 @@ use super::numbers::Numbers;
 use sengadlit::alloc::{Global, Vec as List};
 use sengadlit::buffer::{
     Buffer, BufferClusterLevel, BufferFlags, Direction, GeneralCategory, GlyphInfo, GlyphPosition,
-    GlyphProps, LigProps, Script, Span, UnicodeProps,
+    GlyphProps, LigProps, LookupRecord, Script, Span, UnicodeProps,
 };
 
 /// All that a caller can read of a buffer, to compare what was with what is.
@@ -15,6 +15,7 @@ pub struct Contents {
     contexts: (Vec<char>, Vec<char>),
     settings: (Direction, Option<Script>, BufferClusterLevel, BufferFlags),
     marks: (bool, bool),
+    lookups: LookupRecord,
     max_len: usize,
 }
 
@@ -35,6 +36,7 @@ impl Contents {
                 buffer.flags(),
             ),
             marks: (buffer.has_broken_syllable(), buffer.has_stch()),
+            lookups: buffer.lookup_record(),
             max_len: buffer.max_len(),
         }
     }
@@ -182,6 +184,13 @@ fn set_anything(numbers: &mut Numbers, buffer: &mut Buffer) {
     buffer.set_post_context(&['\u{64B}', '\u{628}'][..numbers.below(3)]);
     buffer.set_has_broken_syllable(numbers.once_in(2));
     buffer.set_has_stch(numbers.once_in(2));
+    // (another than that of a new buffer)
+    buffer.set_lookup_record(LookupRecord {
+        ligature_serial: 3,
+        random_state: 48271,
+        operations_left: 65_000,
+        is_complete: false,
+    });
 }
 
 /// Clusters drawn by lot: rising, falling, all the same, or in no order.
