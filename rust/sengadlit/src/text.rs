@@ -6,6 +6,7 @@ use crate::buffer::{
     ShaperError,
 };
 use crate::font::Tables;
+use crate::generated::shapers_buffer::buffer::GlyphChange;
 use core::fmt;
 use core::slice;
 
@@ -71,7 +72,8 @@ impl Buffer {
     /// [`UnicodeProps`](crate::buffer::UnicodeProps) is 0 then. Glyphs that are no characters stay as
     /// they are.
     pub fn set_general_categories<T: Tables>(&mut self, tables: &T) {
-        self.with_glyphs_mut(|glyphs| set_categories(tables, glyphs));
+        // (tables that panic leave the empty buffer, and no text with some categories)
+        self.change_outside(&Categorizing(tables));
     }
 
     /// Sets all settings. A greatest length below the buffer's length counts as its length, as for
@@ -186,11 +188,13 @@ pub(crate) fn nearest(characters: impl Iterator<Item = char>, room: &mut [char; 
     &room[..len]
 }
 
-// Sets the general category of each character.
-fn set_categories<T: Tables>(tables: &T, glyphs: &mut [GlyphInfo]) {
-    for glyph in glyphs {
+// Gives a character the general category that the tables have.
+struct Categorizing<'a, T>(&'a T);
+
+impl<T: Tables> GlyphChange for Categorizing<'_, T> {
+    fn change(&self, glyph: &mut GlyphInfo) {
         if let Some(character) = char::from_u32(glyph.glyph_id) {
-            let category = tables.general_category(character);
+            let category = self.0.general_category(character);
             glyph.unicode_props.set_general_category(category);
         }
     }

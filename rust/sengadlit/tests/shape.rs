@@ -35,6 +35,8 @@ struct TestFont {
     refuses: Vec<u16>,
     /// How many glyphs get their notes before one panics.
     notes: Cell<usize>,
+    /// How many questions have results before one panics.
+    answers: Cell<usize>,
     /// The direction and script of the text that each lookup was given.
     seen: RefCell<Vec<(Direction, Option<Script>)>>,
 }
@@ -47,6 +49,7 @@ impl TestFont {
             tile: 1,
             refuses: Vec::new(),
             notes: Cell::new(usize::MAX),
+            answers: Cell::new(usize::MAX),
             seen: RefCell::default(),
         }
     }
@@ -55,6 +58,12 @@ impl TestFont {
         let mut font = TestFont::of(500);
         font.refuses.push(lookup);
         font
+    }
+
+    /// Returns the result, or panics after so many.
+    fn ask<R>(&self, result: R) -> R {
+        count_down(&self.answers);
+        result
     }
 
     fn apply(&self, lookup: &StageLookup, text: &Buffer) -> Result<(), ShaperError> {
@@ -68,22 +77,30 @@ impl TestFont {
     }
 }
 
+/// Counts a question, or panics where none is left.
+fn count_down(left: &Cell<usize>) {
+    if left.get() == 0 {
+        panic::resume_unwind(Box::new("the caller's code"));
+    }
+    left.set(left.get() - 1);
+}
+
 impl Font for TestFont {
     fn nominal_glyph(&self, c: u32) -> Option<GlyphId> {
-        let number = u16::try_from(c).ok()?;
+        let number = self.ask(u16::try_from(c)).ok()?;
         (number != LETTER_WITH_POINT).then_some(GlyphId(number))
     }
 
     fn glyph_h_advance(&self, glyph: GlyphId) -> i32 {
-        match u32::from(glyph) {
+        self.ask(match u32::from(glyph) {
             ABBREVIATION_MARK => self.tile,
             0x715 => self.last_letter,
             _ => self.letter,
-        }
+        })
     }
 
     fn would_apply(&self, _: u16, _: &[GlyphId], _: bool) -> bool {
-        false
+        self.ask(false)
     }
 
     fn has_feature(&self, tag: Tag) -> bool {
@@ -93,21 +110,21 @@ impl Font for TestFont {
 
 impl NormalizeFont for TestFont {
     fn variation_glyph(&self, _: u32, _: u32) -> Option<GlyphId> {
-        None
+        self.ask(None)
     }
 }
 
 impl MetricsFont for TestFont {
     fn units_per_em(&self) -> u16 {
-        1000
+        self.ask(1000)
     }
 
     fn glyph_v_advance(&self, _: GlyphId) -> i32 {
-        0
+        self.ask(0)
     }
 
     fn glyph_v_origin(&self, _: GlyphId) -> (i32, i32) {
-        (0, 0)
+        self.ask((0, 0))
     }
 }
 
@@ -147,18 +164,14 @@ impl FontFeatures for TestFont {
 
 impl GlyphClasses for TestFont {
     fn is_mark(&self, _: &GlyphInfo) -> bool {
-        false
+        self.ask(false)
     }
 }
 
 impl Lookups for TestFont {
     fn glyph_props(&self, _: &GlyphInfo) -> GlyphProps {
-        let notes = self.notes.get();
-        if notes == 0 {
-            panic::resume_unwind(Box::new("the caller's code"));
-        }
-        self.notes.set(notes - 1);
-        GlyphProps::NONE
+        count_down(&self.notes);
+        self.ask(GlyphProps::NONE)
     }
 
     fn growth(&self, _: &StageLookup) -> usize {
@@ -344,6 +357,40 @@ fn notes_that_panic_leave_no_half() {
         let caught = panic::catch_unwind(call);
         assert_eq!(caught.is_ok(), notes == HEBREW.chars().count());
         assert_eq!(text.is_empty(), caught.is_err());
+    }
+}
+
+/// Whichever question is the one that panics: the glyphs have positions or none has, and the buffer, with its settings set
+/// again, shapes the next text as a new one does.
+#[test]
+fn a_buffer_is_used_again_after_a_panic() {
+    let font = TestFont::of(500);
+    for (script, text) in [
+        (script::HEBREW, "\u{5D0}\u{5B7}\u{FB2A}\u{2003}\u{200D}("),
+        (script::SYRIAC, "\u{70F}\u{712}\u{713}\u{715}"),
+    ] {
+        let plan = plan_of(script, Direction::RightToLeft, &font);
+        let mut whole = Buffer::from(text);
+        assert_eq!(run_shape(&plan, &font, &mut whole), Ok(()));
+        let mut panics = 0;
+        loop {
+            font.answers.set(panics);
+            let mut again = Buffer::from(text);
+            let call = panic::AssertUnwindSafe(|| run_shape(&plan, &font, &mut again));
+            let caught = panic::catch_unwind(call);
+            font.answers.set(usize::MAX);
+            if caught.is_ok() {
+                break;
+            }
+            assert!([0, again.len()].contains(&again.positions_len()));
+            again.clear();
+            again.set_settings(&Buffer::default().settings());
+            again.push_str(text).unwrap();
+            assert_eq!(run_shape(&plan, &font, &mut again), Ok(()));
+            assert_eq!(again, whole);
+            panics += 1;
+        }
+        assert!(panics > 20, "{panics}");
     }
 }
 

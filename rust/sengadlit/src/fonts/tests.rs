@@ -290,3 +290,13 @@ fn a_question_without_lookups_is_asked_of_no_wide_font() {
     let glyphs: &dyn Font = &GlyphsOnly(Overriding);
     assert!(glyphs.would_apply_any(&[], &[], true));
 }
+
+#[test]
+fn fonts_of_a_callers_code_may_panic() {
+    let nominal = NominalOnly(|_| None);
+    let font: &dyn Font = &nominal;
+    assert!(nominal.may_panic() && font.may_panic() && (&font).may_panic());
+    assert!(FeaturesOnly(|_: Tag| false).may_panic());
+    assert!(GlyphsOnly(3_u16).may_panic());
+    assert!(one_glyph(3).may_panic());
+}

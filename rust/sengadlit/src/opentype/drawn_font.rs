@@ -32,6 +32,10 @@ impl<F: Font> Font for DrawnFont<'_, F> {
         self.font.nominal_glyph(c)
     }
 
+    fn has_glyph(&self, c: u32) -> bool {
+        self.font.has_glyph(c)
+    }
+
     fn glyph_h_advance(&self, glyph: GlyphId) -> i32 {
         let advance = self.font.glyph_h_advance(self.drawn(glyph));
         let scale = self.scale.filter(|_| self.is_scaled.get());
@@ -42,8 +46,16 @@ impl<F: Font> Font for DrawnFont<'_, F> {
         self.font.would_apply(lookup, glyphs, zero_context)
     }
 
+    fn would_apply_any(&self, lookups: &[u16], glyphs: &[GlyphId], zero_context: bool) -> bool {
+        self.font.would_apply_any(lookups, glyphs, zero_context)
+    }
+
     fn has_feature(&self, tag: Tag) -> bool {
         self.font.has_feature(tag)
+    }
+
+    fn may_panic(&self) -> bool {
+        self.font.may_panic()
     }
 }
 

@@ -6,7 +6,7 @@ use crate::plan::{Category, JoiningType, Position};
 use std::string::ToString;
 use std::vec::Vec as List;
 
-/// Tables in which letters of Thai are Lo and all else Cn.
+/// Tables in which letters of Thai are Lo and all else Cn, and which panic at an exclamation mark.
 struct Letters;
 
 impl Tables for Letters {
@@ -17,6 +17,7 @@ impl Tables for Letters {
     fn general_category(&self, c: char) -> GeneralCategory {
         match c {
             '\u{0E01}'..='\u{0E2E}' => GeneralCategory::Lo,
+            '!' => std::panic::resume_unwind(std::boxed::Box::new("the caller's code")),
             _ => GeneralCategory::Cn,
         }
     }
@@ -181,6 +182,14 @@ fn categories_are_those_of_the_tables() {
         .map(|glyph| glyph.unicode_props.general_category());
     let (cn, lo) = (GeneralCategory::Cn, GeneralCategory::Lo);
     assert!(categories.eq([cn, lo, GeneralCategory::Cc]));
+}
+
+#[test]
+fn tables_that_panic_leave_no_text_with_some_categories() {
+    let mut buffer = Buffer::from("\u{0E01}!");
+    let call = std::panic::AssertUnwindSafe(|| buffer.set_general_categories(&Letters));
+    assert!(std::panic::catch_unwind(call).is_err());
+    assert!(buffer.is_empty());
 }
 
 #[test]
