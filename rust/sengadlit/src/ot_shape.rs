@@ -4,6 +4,16 @@
 //! with what the shaper does behind each stage, and [`substitute_text`] does both. [`length_bound`]
 //! tells for how many glyphs a text needs room.
 //!
+//! # What a panic leaves
+//!
+//! A font, tables or lookups that panic within one of these calls leave the buffer empty, or with what
+//! the text had become by then, without positions or with one for each glyph. Script, direction and
+//! greatest length may be those that the text was shaped by: make a new buffer, or clear it
+//! ([`Buffer::clear`](crate::Buffer::clear)) and set them again
+//! ([`Buffer::set_settings`](crate::Buffer::set_settings)).
+//!
+//! # An example
+//!
 //! A Khmer word, in a font of the caller's, whose lookup makes one glyph of COENG and MO:
 //!
 //! ```
