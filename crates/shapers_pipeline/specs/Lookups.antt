@@ -22,9 +22,9 @@ use Rattle.shapers_spans.specs.Universal.{universal_grammar}
 use Rattle.shapers_plan.specs.declared.ot_map.lookups.Stage.{Stage}
 use Rattle.shapers_plan.specs.declared.ot_map.lookups.StageLookup.{StageLookup}
 
--- What a lookup of GSUB keeps of a text without positions: everything but its glyphs and the record
--- of its lookups; each cluster is one that the text had, and at the levels that merge clusters still
--- rise, or fall.
+-- What a lookup of GSUB keeps of a text without positions: everything but its glyphs and the
+-- record of its lookups; each cluster is one that the text had, and at the levels that merge
+-- clusters still rise, or fall.
 pub record LookupKeeps (old new : Buffer) : Type 0 where
   pub others : new ≡ record old { glyphs = new.glyphs; lookups = new.lookups }
   pub old_clusters : NoNewCluster old.glyphs new.glyphs
