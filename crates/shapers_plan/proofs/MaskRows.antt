@@ -7,7 +7,15 @@ use Rattle.shapers_plan.specs.FontFeatures.{FontTables}
 use Rattle.shapers_plan.specs.Masks.{bit_count, global_mask, is_mapped, lookups_of, mapped, value_in}
 use Rattle.shapers_base.specs.declared.map.TableIndex.TheVariants.{GSUB}
 use Rattle.shapers_plan.specs.declared.ot_map.masks.MappedFeature.{MappedFeature}
+use Rattle.shapers_plan.specs.declared.ot_map.masks.TheConstants.{F_GLOBAL_SEARCH, F_RANDOM}
 use Rattle.shapers_plan.specs.declared.ot_map.requests.FeatureInfo.{FeatureInfo}
+
+-- the flags of a request, by the bits of HarfBuzz's hb_ot_map_feature_flags_t
+global_search_flag : F_GLOBAL_SEARCH ≡ 0x10
+global_search_flag = refl
+
+random_flag : F_RANDOM ≡ 0x20
+random_flag = refl
 
 abbrev is_tag : String → hb_tag_t → Bool
 is_tag tag t = pointwise nat_eq t.0 (codes tag)

@@ -35,6 +35,10 @@ bit_count info = if is_on_everywhere info then 0
 abbrev pub in_script : FontTables → hb_tag_t → Bool
 in_script tables tag = is_some (tables.lookups GSUB tag) || is_some (tables.lookups GPOS tag)
 
+-- whether some script has a feature
+abbrev pub in_any_script : FontTables → hb_tag_t → Bool
+in_any_script tables tag = is_some (tables.anywhere GSUB tag) || is_some (tables.anywhere GPOS tag)
+
 -- the lookups of a feature: those of the chosen script, or if the request says so of any script
 abbrev pub lookups_of : FontTables → TableIndex → hb_tag_t → ℕ → Option (List ℕ)
 lookups_of tables table tag flags =

@@ -112,7 +112,7 @@ fn features_of_map(
     ensures ok { IfOk result (λ list. list.items ≡ map as_feature features.now) }
     ensures refusal { IsOkUnless result Memory }
 {
-    let mut list = Vec::new(alloc);
+    let mut list = Vec::with_capacity(alloc, features.len())?;
     for feature in features {
         let entry = feature_map_t {
             tag: feature.tag,
@@ -128,7 +128,7 @@ fn ranges_of_map(alloc: Global, stages: &[Stage]) -> Result<Vec<Range<usize>>, S
     ensures ok { IfOk result (λ list. list.items ≡ map as_range stages.now) }
     ensures refusal { IsOkUnless result Memory }
 {
-    let mut list = Vec::new(alloc);
+    let mut list = Vec::with_capacity(alloc, stages.len())?;
     for stage in stages {
         list.push(stage.start..stage.end)
             .map_err(|_| ShaperError::Memory)?;
@@ -140,7 +140,7 @@ fn lookups_of_map(alloc: Global, lookups: &[StageLookup]) -> Result<Vec<u16>, Sh
     ensures ok { IfOk result (λ list. list.items ≡ map lookup_number lookups.now) }
     ensures refusal { IsOkUnless result Memory }
 {
-    let mut list = Vec::new(alloc);
+    let mut list = Vec::with_capacity(alloc, lookups.len())?;
     for lookup in lookups {
         list.push(lookup.index).map_err(|_| ShaperError::Memory)?;
     }

@@ -2,7 +2,7 @@
 ghost use Rattle.std.specs.Prelude.{◌≡◌, ◌+◌, ◌<◌, ◌≤◌, IfOk, IsOkUnless, IsTrue, is_some, option_map};
 ghost use Rattle.shapers_plan.specs.Compiling.{are_off_flags};
 ghost use Rattle.shapers_buffer.specs.declared.buffer.refusal.ShaperError.TheVariants.{Memory};
-ghost use Rattle.shapers_plan.specs.Masks.{bit_count, global_mask, in_script, is_served, is_on_everywhere, lookups_of, mapped, feature_at_bit, value_in};
+ghost use Rattle.shapers_plan.specs.Masks.{bit_count, global_mask, in_any_script, in_script, is_served, is_on_everywhere, lookups_of, mapped, feature_at_bit, value_in};
 
 use super::FontFeatures;
 use super::requests::FeatureInfo;
@@ -114,13 +114,22 @@ fn in_script<L: FontFeatures>(font: &L, tag: hb_tag_t) -> bool
         || font.feature_lookups(TableIndex::GPOS, tag).is_some()
 }
 
+// Whether some script has a feature.
+fn in_any_script<L: FontFeatures>(font: &L, tag: hb_tag_t) -> bool
+    ensures { result ≡ in_any_script (L.tables font.now) tag }
+{
+    font.any_feature_lookups(TableIndex::GSUB, tag).is_some()
+        || font.any_feature_lookups(TableIndex::GPOS, tag).is_some()
+}
+
 // Whether the font has a feature, or something stands in for it.
 fn is_served<L: FontFeatures>(font: &L, info: &FeatureInfo) -> bool
     ensures { result ≡ is_served (L.tables font.now) info.now }
 {
-    lookups_of(font, TableIndex::GSUB, info.tag, info.flags).is_some()
-        || lookups_of(font, TableIndex::GPOS, info.tag, info.flags).is_some()
-        || info.has_fallback
+    if info.has_fallback || in_script(font, info.tag) {
+        return true;
+    }
+    info.flags & F_GLOBAL_SEARCH != 0 && in_any_script(font, info.tag)
 }
 
 /// Gives bits to the features in their order: those that are on, have room, and that the font or
@@ -138,7 +147,7 @@ pub(super) fn mapped<L: FontFeatures>(
     ensures off_flags { IfOk result (λ features. IsTrue (are_off_flags features.items)) }
     ensures refusal { IsOkUnless result Memory }
 {
-    let mut features = Vec::new(alloc);
+    let mut features = Vec::with_capacity(alloc, infos.len())?;
     let mut next_bit = FIRST_BIT;
     for info in infos {
         let bits = count_bits(info);

@@ -89,7 +89,7 @@ pub(super) fn joined_by_tag(
     ensures ok { IfOk result (λ infos. infos.items ≡ joined_by_tag requests.now) }
     ensures refusal { IsOkUnless result Memory }
 {
-    let mut infos = Vec::new(alloc);
+    let mut infos = Vec::with_capacity(alloc, requests.len())?;
     let mut stage = 0;
     for request in requests {
         match *request {

@@ -89,7 +89,7 @@ fn features_of_map(
     alloc: Global,
     features: &[MappedFeature],
 ) -> Result<Vec<FeatureMap>, ShaperError> {
-    let mut list = Vec::new(alloc);
+    let mut list = Vec::with_capacity(alloc, features.len())?;
     for feature in features {
         let entry = FeatureMap {
             tag: feature.tag,
@@ -102,7 +102,7 @@ fn features_of_map(
 }
 
 fn ranges_of_map(alloc: Global, stages: &[Stage]) -> Result<Vec<Range<usize>>, ShaperError> {
-    let mut list = Vec::new(alloc);
+    let mut list = Vec::with_capacity(alloc, stages.len())?;
     for stage in stages {
         list.push(stage.start..stage.end)
             .map_err(|_| ShaperError::Memory)?;
@@ -111,7 +111,7 @@ fn ranges_of_map(alloc: Global, stages: &[Stage]) -> Result<Vec<Range<usize>>, S
 }
 
 fn lookups_of_map(alloc: Global, lookups: &[StageLookup]) -> Result<Vec<u16>, ShaperError> {
-    let mut list = Vec::new(alloc);
+    let mut list = Vec::with_capacity(alloc, lookups.len())?;
     for lookup in lookups {
         list.push(lookup.index).map_err(|_| ShaperError::Memory)?;
     }

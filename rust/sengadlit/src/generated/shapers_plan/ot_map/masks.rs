@@ -99,11 +99,18 @@ fn in_script<L: FontFeatures>(font: &L, tag: Tag) -> bool {
         || font.feature_lookups(TableIndex::GPOS, tag).is_some()
 }
 
+// Whether some script has a feature.
+fn in_any_script<L: FontFeatures>(font: &L, tag: Tag) -> bool {
+    font.any_feature_lookups(TableIndex::GSUB, tag).is_some()
+        || font.any_feature_lookups(TableIndex::GPOS, tag).is_some()
+}
+
 // Whether the font has a feature, or something stands in for it.
 fn is_served<L: FontFeatures>(font: &L, info: &FeatureInfo) -> bool {
-    lookups_of(font, TableIndex::GSUB, info.tag, info.flags).is_some()
-        || lookups_of(font, TableIndex::GPOS, info.tag, info.flags).is_some()
-        || info.has_fallback
+    if info.has_fallback || in_script(font, info.tag) {
+        return true;
+    }
+    info.flags & F_GLOBAL_SEARCH != 0 && in_any_script(font, info.tag)
 }
 
 /// Gives bits to the features in their order: those that are on, have room, and that the font or
@@ -119,7 +126,7 @@ pub(super) fn mapped<L: FontFeatures>(
     font: &L,
     infos: &[FeatureInfo],
 ) -> Result<Vec<MappedFeature>, ShaperError> {
-    let mut features = Vec::new(alloc);
+    let mut features = Vec::with_capacity(alloc, infos.len())?;
     let mut next_bit = FIRST_BIT;
     for info in infos {
         let bits = count_bits(info);

@@ -81,7 +81,7 @@ pub(super) fn joined_by_tag(
     alloc: Global,
     requests: &[Request],
 ) -> Result<Vec<FeatureInfo>, ShaperError> {
-    let mut infos = Vec::new(alloc);
+    let mut infos = Vec::with_capacity(alloc, requests.len())?;
     let mut stage = 0;
     for request in requests {
         match *request {
