@@ -44,6 +44,7 @@ use Rattle.shapers_text.proofs.ThaiFlags.{plain_flags, shaped_flags}
 use Rattle.shapers_text.proofs.ThaiKept.{kept_in_two, shaped_kept}
 use Rattle.shapers_universal.specs.PlanData.{arabic_of}
 use Rattle.shapers_universal.specs.UniversalMasks.{categorized, with_categories}
+use Rattle.shapers_buffer.specs.declared.buffer.glyph_props.GlyphProps.{GlyphProps}
 use Rattle.rustybuzz_shapers.specs.Hooks.{PreprocessKeeps}
 use Rattle.rustybuzz_shapers.specs.Monotone.{HangulStaysMonotone, ThaiStaysMonotone}
 use Rattle.rustybuzz_shapers.specs.declared.shaper.hb_ot_shaper_t.{hb_ot_shaper_t}
@@ -455,9 +456,16 @@ all_but_lookups laws p b =
     (after m u (text_prepared p b) (map_keeps (with_features p.ranges) (features_cluster p.ranges) m)
     (map_keeps as_glyph (λ g. refl) u))))))
 
+noted_keeps : (noted : Glyph → GlyphProps) (b : Buffer) → Keeps b (text_noted noted b)
+noted_keeps noted b = record {
+  level = refl;
+  glyphs = same (merges b.level) b.glyphs (map (with_note noted) b.glyphs)
+      (clusters-map (with_note noted) (λ g. refl) b.glyphs);
+}
+
 pub preparation_keeps : Laws → PreparationKeepsClusters
 preparation_keeps laws p noted b =
     let text = text_prepared p b in
     let keeps = after b text (text_noted noted text) (all_but_lookups laws p b)
-    (map_keeps (with_note noted) (λ g. refl) text) in
+    (noted_keeps noted text) in
     (record { level = keeps.level; old_clusters = keeps.glyphs.none }, keeps.glyphs.mono)
