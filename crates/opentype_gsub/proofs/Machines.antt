@@ -14,11 +14,12 @@ use Rattle.std.proofs.Common.{subst}
 use Rattle.shapers_buffer.specs.declared.buffer.refusal.ShaperError.{ShaperError}
 use Rattle.opentype_layout.specs.Text.{glyph_at}
 use Rattle.std.proofs.Common.{nat_lt}
-use Rattle.std.proofs.lemmas.List.{length-reverse}
-use Rattle.opentype_gsub.specs.Came.{Begun, came_in, nth_came, Frame, IsCome, frame_of}
-use Rattle.opentype_gsub.specs.Machine.{IsEnded, lookup_called, deeper, ended, turn_pushed, frame_settled, machine_turned, MachineTurn, capped, climbing, frames, goes_on_with, place_moved, ran, settled_places}
+use Rattle.std.specs.Option.{option_map}
+use Rattle.opentype_gsub.specs.Came.{Begun, came_in, nth_came, Frame, IsCome}
+use Rattle.opentype_gsub.specs.Machine.{IsEnded, lookup_called, deeper, ended, turn_pushed, frame_settled, machine_turned, MachineTurn, capped, climbing, goes_on_with, place_moved, ran, settled_places, stack_left, waiting, waiting_frame}
 use Rattle.opentype_gsub.specs.declared.settling.Rule.{Rule}
 use Rattle.opentype_gsub.specs.declared.machine.Outcome.{Outcome}
+use Rattle.opentype_gsub.specs.declared.machine.Reached.{Reached}
 use Rattle.opentype_gsub.specs.declared.machine.Outcome.TheVariants.{Nothing, Done, Fits}
 use Rattle.opentype_face.proofs.Foremost.{IsFirst, first_hit, first_out, first_passed, first_start}
 
@@ -164,6 +165,16 @@ pub running_end : (turn : Glyphs → List Frame → MachineTurn) (operations k :
     ran operations turn old start ≡ record { text = new; end = end; left = operations - (k + 1) }
 running_end turn operations k old gs new start fs next end r lt is = turn_is turn operations k old gs start fs _ r lt is
 
+pub running_called : (turn : Glyphs → List Frame → MachineTurn) (operations k : ℕ) (old gs text new : Glyphs) (start fs next : List Frame)
+    (result : Result Reached ShaperError) →
+    IsRunning turn operations old start k gs fs → k < operations →
+    turn gs fs ≡ record { text = text; stack = next; end = None } →
+    IfOk result (λ r. ran (operations - (k + 1)) turn text next ≡ record { text = new; end = r.end; left = r.left }) →
+    IfOk result (λ r. ran operations turn old start ≡ record { text = new; end = r.end; left = r.left })
+running_called turn operations k old gs text new start fs next result r lt is rest =
+    subst (λ all. IfOk result (λ r. all ≡ record { text = new; end = r.end; left = r.left }))
+    (sym (turn_is turn operations k old gs start fs _ r lt is)) rest
+
 pub running_out : (turn : Glyphs → List Frame → MachineTurn) (operations k : ℕ) (old gs : Glyphs) (start fs : List Frame) →
     IsRunning turn operations old start k gs fs → operations ≤ k →
     ran operations turn old start ≡ record { text = gs; end = None; left = 0 }
@@ -172,8 +183,10 @@ running_out turn operations k old gs start fs r le =
 
 -- ---- the stack, its top first
 
-pub top_first : (rules : List Rule) (rule : Rule) → frames (rules ++ rule ∷ []) ≡ frame_of rule ∷ frames rules
-top_first rules rule = ap reverse (map-append frame_of rules (rule ∷ [])) ∙ reverse-append (map frame_of rules) (frame_of rule ∷ [])
+pub top_first : (callers : List (Option Rule)) (caller : Option Rule) →
+    waiting (callers ++ caller ∷ []) ≡ waiting_frame caller ∷ waiting callers
+top_first callers caller =
+    ap reverse (map-append waiting_frame callers (caller ∷ [])) ∙ reverse-append (map waiting_frame callers) (waiting_frame caller ∷ [])
 
 -- ---- at the text's end
 
@@ -199,45 +212,36 @@ came_by s lookup gs new at sights result lt is come =
 
 -- ---- the arms of a turn
 
-pub turn_none : (s : Setting) (gs : Glyphs) (fs new : List Frame) → fs ≡ [] → new ≡ [] →
-    machine_turned s gs fs ≡ record { text = gs; stack = new; end = Some None }
-unfolding machine_turned
-turn_none s gs fs new is none = rw (is, none) refl
+ended_is : (gs : Glyphs) (f now : Frame) (below fs : List Frame) (it : Option ℕ) →
+    IsEnded (length gs) f below now fs it →
+    ended gs f below ≡ record { text = gs; stack = stack_left it now fs; end = option_map Some it }
+ended_is gs f now [] fs it e = rw e refl
+ended_is gs f now (outer ∷ below) fs it e = rw (e.1, e.0) refl
 
-ended_is : (gs : Glyphs) (f : Frame) (fs new : List Frame) (it : Option (Option ℕ)) → IsEnded (length gs) f.end fs new it →
-    ended gs f fs ≡ record { text = gs; stack = new; end = it }
-ended_is gs f [] new it e = rw (e.0, e.1) refl
-ended_is gs f (outer ∷ fs) new it e = rw (e.0, e.1) refl
-
-pub turn_ends : (s : Setting) (gs : Glyphs) (f : Frame) (all fs new : List Frame)
-    (it : Option (Option ℕ)) → all ≡ f ∷ fs → f.count ≤ f.next → IsEnded (length gs) f.end fs new it →
-    machine_turned s gs all ≡ record { text = gs; stack = new; end = it }
+pub turn_ends : (s : Setting) (gs : Glyphs) (f now : Frame) (below fs : List Frame) (it : Option ℕ) →
+    f.count ≤ f.next → IsEnded (length gs) f below now fs it →
+    machine_turned s gs (f ∷ below) ≡ record { text = gs; stack = stack_left it now fs; end = option_map Some it }
 unfolding machine_turned
-turn_ends s gs f all fs new it is le e =
-    let t : nat_lt f.next f.count ≡ false = grind (arith, nat_tests) in rw (is, t) (ended_is gs f fs new it e)
+turn_ends s gs f now below fs it le e =
+    let t : nat_lt f.next f.count ≡ false = grind (arith, nat_tests) in rw t (ended_is gs f now below fs it e)
 
 pub turn_calls : (s : Setting) (gs text : Glyphs) (f frame : Frame) (inner : Option Frame)
-    (all fs new : List Frame) → all ≡ f ∷ fs → f.next < f.count →
+    (below new : List Frame) → f.next < f.count →
     lookup_called s gs f ≡ record { text = text; frame = frame; inner = inner } →
-    new ≡ deeper inner (frame ∷ fs) →
-    machine_turned s gs all ≡ record { text = text; stack = new; end = None }
+    new ≡ deeper inner (frame ∷ below) →
+    machine_turned s gs (f ∷ below) ≡ record { text = text; stack = new; end = None }
 unfolding machine_turned
-turn_calls s gs text f frame inner all fs new is lt c made =
+turn_calls s gs text f frame inner below new lt c made =
     let t : nat_lt f.next f.count ≡ true = grind (arith, nat_tests) in
-    rw (is, t) (ap (λ x. turn_pushed x fs) c ∙ (let p : List Frame → MachineTurn = λ stack. record { text = text; stack = stack; end = None } in ap p (sym made)))
+    rw t (ap (λ x. turn_pushed x below) c ∙ (let p : List Frame → MachineTurn = λ stack. record { text = text; stack = stack; end = None } in ap p (sym made)))
 
--- ---- a stack that is pushed to
+-- ---- a rule's end
 
-length_mapped : (rules : List Rule) → length (map frame_of rules) ≡ length rules
-length_mapped [] = refl
-length_mapped (r ∷ rs) = ap suc (length_mapped rs)
-
-pub length_frames : (rules : List Rule) → length (frames rules) ≡ length rules
-length_frames rules = length-reverse (map frame_of rules) ∙ length_mapped rules
-
-pub ended_below : (len end : ℕ) (old new : List Frame) (outer settled_outer : Frame) (fs : List Frame) → old ≡ outer ∷ fs →
-    settled_outer ≡ frame_settled len outer → new ≡ settled_outer ∷ fs → IsEnded len end old new None
-ended_below len end old new outer settled_outer fs is s made = rw is (made ∙ ap (λ f. f ∷ fs) s, refl)
+pub ended_below : (len : ℕ) (f now : Frame) (old rest : List (Option Rule)) (waits : Option Rule) →
+    old ≡ rest ++ waits ∷ [] → now ≡ frame_settled len (waiting_frame waits) →
+    IsEnded len f (waiting old) now (waiting rest) None
+ended_below len f now old rest waits is s =
+    rw (ap waiting is ∙ top_first rest waits) (ap (λ g. g ∷ waiting rest) s, refl)
 
 pub settled_is : (first first_too behind sequence added removed : ℕ) (places front back one two three : List ℕ) →
     first ≡ min (sequence + 1) 18446744073709551615 → behind ≡ min (first + removed) 18446744073709551615 →

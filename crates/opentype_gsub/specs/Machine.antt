@@ -109,10 +109,16 @@ ended gs f (outer ∷ fs) = record {
       None;
 }
 
--- the same, as the code gives it
-abbrev pub IsEnded : ℕ → ℕ → List Frame → List Frame → Option (Option ℕ) → Type 0
-IsEnded len end [] new it = (new ≡ []) × (it ≡ Some (Some end))
-IsEnded len end (outer ∷ fs) new it = (new ≡ frame_settled len outer ∷ fs) × (it ≡ None)
+-- The same, as the code gives it: the rule in hand, those that wait below it, and where the machine
+-- ends, the place behind what was done.
+abbrev pub IsEnded : ℕ → Frame → List Frame → Frame → List Frame → Option ℕ → Type 0
+IsEnded len f [] now fs it = it ≡ Some f.end
+IsEnded len f (outer ∷ rest) now fs it = (now ∷ fs ≡ frame_settled len outer ∷ rest) × (it ≡ None)
+
+-- the stack after a turn, by the rule in hand and those that wait below it
+abbrev pub stack_left : Option ℕ → Frame → List Frame → List Frame
+stack_left None f fs = f ∷ fs
+stack_left (Some end) f fs = []
 
 abbrev pub deeper : Option Frame → List Frame → List Frame
 deeper None fs = fs
@@ -161,6 +167,19 @@ nested s lookup gs at operations =
     let flagged = tried s lookup gs at in
     started operations (machine_turned s) flagged (came_in s lookup flagged at)
 
--- the frames of a stack of the code, the top one first
-abbrev pub frames : List Rule → List Frame
-frames rules = reverse (map frame_of rules)
+-- The rules that wait in the code for the one in hand, the last one first. Each is there; what is
+-- left of the room has none.
+abbrev pub waiting_frame : Option Rule → Frame
+waiting_frame (Some rule) = frame_of rule
+waiting_frame None = record {
+  records = [];
+  count = 0;
+  next = 0;
+  places = [];
+  end = 0;
+  sequence = 0;
+  before = 0;
+}
+
+abbrev pub waiting : List (Option Rule) → List Frame
+waiting callers = reverse (map waiting_frame callers)

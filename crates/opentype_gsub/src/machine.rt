@@ -1,11 +1,11 @@
 //! Lookups that rules apply, on a stack in the place of a recursion.
-ghost use Rattle.std.specs.Prelude.{◌≡◌, ◌<◌, [], ◌∷◌, length, IfOk, OnOk};
+ghost use Rattle.std.specs.Prelude.{◌≡◌, ◌<◌, [], ◌∷◌, Some, length, IfOk};
 ghost use Rattle.std.specs.Option.{option_map};
 ghost use Rattle.opentype_layout.specs.Rules.{found};
 ghost use Rattle.opentype_face.specs.Bytes.{u16_in};
 ghost use Rattle.opentype_face.specs.Firsts.{first_from};
 ghost use Rattle.opentype_gsub.specs.Came.{IsCome, begun, came_in, frame_of, nth_came};
-ghost use Rattle.opentype_gsub.specs.Machine.{IsEnded, lookup_called, deeper, frames, nested, ran, machine_turned};
+ghost use Rattle.opentype_gsub.specs.Machine.{IsEnded, lookup_called, deeper, nested, ran, machine_turned, stack_left, waiting, waiting_frame};
 ghost use Rattle.opentype_gsub.specs.Setting.{setting_of, sights_of};
 ghost use Rattle.opentype_gsub.specs.Looked.{tried};
 ghost use Rattle.opentype_layout.specs.Text.{glyph_at};
@@ -15,14 +15,17 @@ use crate::flagging::flag_stretch;
 use crate::pass::{Pass, Sights};
 use crate::settling::Rule;
 use crate::trying::flag_tried;
+use arrayvec::ArrayVec;
 use opentype_face::bytes::u16_at;
 use opentype_face::lookup::{subtable, subtable_count, subtable_type};
 use opentype_layout::rules::{Matched, find_rule};
 use opentype_layout::starts::LookupTable;
 use shapers_buffer::buffer::{ShaperError, hb_glyph_info_t};
+use std::mem;
 
-/// How deep lookups may apply lookups.
-const MOST_DEEP: usize = 64;
+/// Rules that wait for the end of a rule that one of their lookups found. With that one they are at
+/// most 64: so deep lookups may apply lookups. (Each is there; `None` is quickly written where none is.)
+type Callers<'a> = ArrayVec<Option<Rule<'a>>, 63>;
 
 /// What a lookup came to at a place.
 #[derive(Debug, Drop)]
@@ -183,54 +186,60 @@ fn call<'a>(
     }
 }
 
-// A rule whose lookups are all applied, below which its caller goes on.
-fn end_rule(
-    len: usize,
-    end: usize,
-    stack: &mut Vec<Rule<'_>>,
-) -> Result<Option<Option<usize>>, ShaperError>
-    ensures { IfOk result (λ it. IsEnded len end (frames stack.old.items) (frames stack.new.items) it) }
+// A rule that waited.
+fn waited<'a>(caller: Option<Rule<'a>>) -> Rule<'a>
+    ensures { frame_of result ≡ waiting_frame caller.entry }
 {
-    let Some(mut outer) = stack.pop() else {
-        return Ok(Some(Some(end)));
-    };
-    outer.settle(len);
-    stack.push(outer).map_err(|_| ShaperError::Memory)?;
-    Ok(None)
+    match caller {
+        Some(rule) => rule,
+        None => Rule::default(),
+    }
 }
 
-// Puts a rule on its caller, if that isn't too deep.
-fn push_deeper<'a>(stack: &mut Vec<Rule<'a>>, rule: Option<Rule<'a>>) -> Result<(), ShaperError>
-    ensures { OnOk result (frames stack.new.items
-        ≡ deeper (option_map (λ r. frame_of r) rule.entry) (frames stack.old.items)) }
+// Where a rule ends, its caller is in hand again; where it has none, the place behind what was done.
+fn end_rule<'a>(len: usize, rule: &mut Rule<'a>, callers: &mut Callers<'a>) -> Option<usize>
+    ensures { IsEnded len (frame_of rule.old) (waiting callers.old.items) (frame_of rule.new)
+        (waiting callers.new.items) result }
 {
-    if let Some(rule) = rule {
-        if stack.len() < MOST_DEEP {
-            stack.push(rule).map_err(|_| ShaperError::Memory)?;
-        }
+    let Some(caller) = callers.pop() else {
+        return Some(rule.end);
+    };
+    let mut caller = waited(caller);
+    caller.settle(len);
+    *rule = caller;
+    None
+}
+
+// A rule that was called is in hand, and its caller waits, if that isn't too deep.
+fn go_deeper<'a>(called: Rule<'a>, rule: &mut Rule<'a>, callers: &mut Callers<'a>)
+    ensures { frame_of rule.new ∷ waiting callers.new.items
+        ≡ deeper (Some (frame_of called.entry)) (frame_of rule.old ∷ waiting callers.old.items) }
+{
+    if !callers.is_full() {
+        callers.push(Some(mem::replace(rule, called)));
     }
-    Ok(())
 }
 
 // One turn of the machine; where it ends, the place behind what was done.
 fn turn<'a>(
     pass: &Pass<'a>,
     text: &mut Vec<hb_glyph_info_t>,
-    stack: &mut Vec<Rule<'a>>,
-) -> Result<Option<Option<usize>>, ShaperError>
-    ensures { IfOk result (λ end. machine_turned (setting_of pass.now) text.old.items (frames stack.old.items)
-        ≡ record { text = text.new.items; stack = frames stack.new.items; end = end }) }
+    rule: &mut Rule<'a>,
+    callers: &mut Callers<'a>,
+) -> Result<Option<usize>, ShaperError>
+    ensures { IfOk result (λ end. machine_turned (setting_of pass.now) text.old.items
+        (frame_of rule.old ∷ waiting callers.old.items) ≡ record {
+          text = text.new.items;
+          stack = stack_left end (frame_of rule.new) (waiting callers.new.items);
+          end = option_map (λ e. Some e) end;
+        }) }
 {
-    let Some(mut rule) = stack.pop() else {
-        return Ok(Some(None));
-    };
     if rule.next >= rule.count {
-        let ended = end_rule(text.len(), rule.end, stack)?;
-        return Ok(ended);
+        return Ok(end_rule(text.len(), rule, callers));
     }
-    let inner = call(pass, text, &mut rule)?;
-    stack.push(rule).map_err(|_| ShaperError::Memory)?;
-    push_deeper(stack, inner)?;
+    if let Some(called) = call(pass, text, rule)? {
+        go_deeper(called, rule, callers);
+    }
     Ok(None)
 }
 
@@ -243,7 +252,40 @@ pub struct Reached {
     pub left: usize,
 }
 
-// The machine, in at most so many turns.
+// The machine, in at most so many turns, from a rule on that another one called. (Its stack of 36 KB
+// is no part of functions that run for each glyph.)
+#[inline(never)]
+fn run_called<'a>(
+    pass: &Pass<'a>,
+    text: &mut Vec<hb_glyph_info_t>,
+    caller: Rule<'a>,
+    called: Rule<'a>,
+    operations: usize,
+) -> Result<Reached, ShaperError>
+    ensures { IfOk result (λ r. ran operations (machine_turned (setting_of pass.now)) text.old.items
+        (frame_of called.entry ∷ frame_of caller.entry ∷ [])
+        ≡ record { text = text.new.items; end = r.end; left = r.left }) }
+{
+    let mut rule = called;
+    let mut callers = Callers::new();
+    callers.push(Some(caller));
+    for done in 0..operations {
+        match turn(pass, text, &mut rule, &mut callers) {
+            Ok(Some(end)) => {
+                let left = operations - (done + 1);
+                return Ok(Reached {
+                    end: Some(end),
+                    left,
+                });
+            }
+            Ok(None) => {}
+            Err(e) => return Err(e),
+        }
+    }
+    Ok(Reached { end: None, left: 0 })
+}
+
+// The same from a rule on that no other one called. (Most rules call none: they need no stack.)
 fn run<'a>(
     pass: &Pass<'a>,
     text: &mut Vec<hb_glyph_info_t>,
@@ -253,14 +295,15 @@ fn run<'a>(
     ensures { IfOk result (λ r. ran operations (machine_turned (setting_of pass.now)) text.old.items
         (frame_of rule.entry ∷ []) ≡ record { text = text.new.items; end = r.end; left = r.left }) }
 {
-    let mut stack = Vec::new(*text.allocator());
-    stack.push(rule).map_err(|_| ShaperError::Memory)?;
+    let mut rule = rule;
     for done in 0..operations {
-        match turn(pass, text, &mut stack) {
-            Ok(Some(end)) => {
-                let left = operations - (done + 1);
-                return Ok(Reached { end, left });
-            }
+        let left = operations - (done + 1);
+        if rule.next >= rule.count {
+            let end = Some(rule.end);
+            return Ok(Reached { end, left });
+        }
+        match call(pass, text, &mut rule) {
+            Ok(Some(called)) => return run_called(pass, text, rule, called, left),
             Ok(None) => {}
             Err(e) => return Err(e),
         }

@@ -11,7 +11,7 @@ use opentype_layout::rules::Matched;
 const MOST_PLACES: usize = 64;
 
 /// A rule that fits, whose lookups are applied one after another.
-#[derive(Debug, Drop)]
+#[derive(Debug, Default, Drop)]
 pub struct Rule<'a> {
     // the records of its lookups, how many they are, and which is next
     pub(crate) records: &'a [u8],

@@ -8,17 +8,13 @@ use sengadlit::{Face, Script, ShapePlan, UnicodeBuffer, script, shape_with_plan}
 const WORDS: [(Script, &[&str]); 8] = [
     (script::LATIN, &["Tofi", "LATVo", "fluffy", "née", "ẹ́ọ̀"]),
     (script::ARABIC, &["سلام", "العربية", "لا", "بِسْمِ", "لَّا"]),
-    (script::DEVANAGARI, &["हिन्दी", "कर्म", "क्षेत्र", "ि"]),
+    (script::DEVANAGARI, &["हिन्दी", "कर्म", "क्षेत्र", "र्कि", "ि"]),
     (script::KHMER, &["ខ្មែរ", "ក្រុង", "កោ", "ន្តី", "ំ"]),
     (script::THAI, &["ภาษาไทย", "ที่นี่", "น้ำ", "ำ"]),
     (script::HEBREW, &["שָׁלוֹם", "בּ"]),
     (script::MYANMAR, &["မြန်မာ", "ဦ"]),
     (script::HANGUL, &["한글", "각", "\u{1100}\u{1161}"]),
 ];
-
-/// A word in which a rule of a context applies lookups at its places. These are kept on a stack,
-/// which still takes memory, once for each place where a rule fits.
-const WITH_A_RULE: &str = "र्कि";
 
 /// How many requests for memory the fifth of five calls makes that shape this text.
 fn requests_of_the_fifth(face: &Face<'_>, plan: &ShapePlan, script: Script, text: &str) -> usize {
@@ -59,14 +55,4 @@ pub fn the_fifth_text_takes_no_memory() {
             }
         });
     }
-}
-
-pub fn a_rule_of_a_context_takes_a_stack() {
-    with_plans(script::DEVANAGARI, |face, plan| {
-        for count in [1, 2, 5] {
-            let text = WITH_A_RULE.repeat(count);
-            let requests = requests_of_the_fifth(face, plan, script::DEVANAGARI, &text);
-            assert_eq!(requests, count, "{text}");
-        }
-    });
 }

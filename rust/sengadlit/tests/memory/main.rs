@@ -72,7 +72,6 @@ fn texts_of_one_call_are_given_back() {
 #[test]
 fn texts_shaped_again_take_no_memory() {
     again::the_fifth_text_takes_no_memory();
-    again::a_rule_of_a_context_takes_a_stack();
 }
 
 #[test]

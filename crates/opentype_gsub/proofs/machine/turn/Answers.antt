@@ -1,26 +1,21 @@
-use Rattle.std.proofs.Common.{arith, rules, ap, ◌∙◌, [], ◌∷◌, ◌++◌, ◌≡◌, length}
-use Rattle.std.specs.Option.{option_map}
+use Rattle.std.proofs.Common.{arith, rules, refl, ◌≡◌, length}
 use Rattle.opentype_gsub.specs.Came.{frame_of}
-use Rattle.opentype_gsub.specs.Machine.{deeper, frames}
+use Rattle.opentype_gsub.specs.Machine.{waiting}
 use Rattle.opentype_gsub.specs.Setting.{setting_of}
-use Rattle.opentype_gsub.proofs.Machines.{top_first, turn_calls, turn_ends, turn_none}
+use Rattle.opentype_gsub.proofs.Machines.{turn_calls, turn_ends}
 use Rattle.opentype_gsub.proofs.machine.turn.Goals as goal
 
-pub returns-in_default : goal.returns-in_default
-returns-in_default c =
-    let e : c.args.stack.now.items ≡ [] = search rules in
-    let f : c.pop.new.self.items ≡ [] = search rules in
-    turn_none _ _ _ _ (ap frames e) (ap frames f)
-
 pub returns-then-rule : goal.returns-then-rule
-returns-then-rule c = turn_ends (setting_of c.args.pass.now) c.args.text.now.items (frame_of c.in-Some.rule)
-    (frames c.args.stack.now.items) (frames c.pop.new.self.items) _ _ (ap frames c.in-Some.ensures.items ∙ top_first c.pop.new.self.items c.in-Some.rule) (omega arith)
-    (let e : c.len.result ≡ length c.args.text.now.items = search rules in rw e at c.in_ok-ended.ensures)
+returns-then-rule c = turn_ends (setting_of c.args.pass.now) c.args.text.now.items (frame_of c.args.rule.now)
+    (frame_of c.end_rule.new.rule) (waiting c.args.callers.now.items) (waiting c.end_rule.new.callers.items) c.end_rule.result (omega arith)
+    (let e : c.len.result ≡ length c.args.text.now.items = search rules in rw e at c.end_rule.ensures)
 
-pub returns : goal.returns
-returns c = turn_calls (setting_of c.args.pass.now) c.args.text.now.items c.call.new.text.items
-    (frame_of c.in-Some.rule) (frame_of c.call.new.rule) (option_map frame_of c.in_ok-inner.inner) (frames c.args.stack.now.items)
-    (frames c.pop.new.self.items) (frames c.push_deeper.new.stack.items) (ap frames c.in-Some.ensures.items ∙ top_first c.pop.new.self.items c.in-Some.rule) (omega arith)
-    c.in_ok-inner.ensures
-    (let e : c.push.new.self.items ≡ c.pop.new.self.items ++ c.call.new.rule ∷ [] = search rules in
-    c.in_ok-push_deeper.ensures ∙ ap (deeper (option_map frame_of c.in_ok-inner.inner)) (ap frames e ∙ top_first c.pop.new.self.items c.call.new.rule))
+pub returns-in-Some : goal.returns-in-Some
+returns-in-Some c = turn_calls (setting_of c.args.pass.now) c.args.text.now.items c.call.new.text.items
+    (frame_of c.args.rule.now) (frame_of c.call.new.rule) _ (waiting c.args.callers.now.items) _ (omega arith)
+    (rw c.in-Some.is at c.in_ok-called.ensures) c.go_deeper.ensures
+
+pub returns-in_default : goal.returns-in_default
+returns-in_default c = turn_calls (setting_of c.args.pass.now) c.args.text.now.items c.call.new.text.items
+    (frame_of c.args.rule.now) (frame_of c.call.new.rule) _ (waiting c.args.callers.now.items) _ (omega arith)
+    (rw c.in_default.is at c.in_ok-called.ensures) refl

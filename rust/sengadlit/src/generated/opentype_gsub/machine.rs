@@ -14,9 +14,12 @@ use crate::generated::opentype_gsub::trying::flag_tried;
 use crate::generated::opentype_layout::rules::{Matched, find_rule};
 use crate::generated::opentype_layout::starts::LookupTable;
 use crate::generated::shapers_buffer::buffer::{GlyphInfo, ShaperError};
+use crate::support::arrayvec::ArrayVec;
+use core::mem;
 
-/// How deep lookups may apply lookups.
-const MOST_DEEP: usize = 64;
+/// Rules that wait for the end of a rule that one of their lookups found. With that one they are at
+/// most 64: so deep lookups may apply lookups. (Each is there; `None` is quickly written where none is.)
+type Callers<'a> = ArrayVec<Option<Rule<'a>>, 63>;
 
 /// What a lookup came to at a place.
 #[derive(Debug)]
@@ -147,46 +150,45 @@ fn call<'a>(
     }
 }
 
-// A rule whose lookups are all applied, below which its caller goes on.
-fn end_rule(
-    len: usize,
-    end: usize,
-    stack: &mut Vec<Rule<'_>>,
-) -> Result<Option<Option<usize>>, ShaperError> {
-    let Some(mut outer) = stack.pop() else {
-        return Ok(Some(Some(end)));
-    };
-    outer.settle(len);
-    stack.push(outer).map_err(|_| ShaperError::Memory)?;
-    Ok(None)
+// A rule that waited.
+fn waited<'a>(caller: Option<Rule<'a>>) -> Rule<'a> {
+    match caller {
+        Some(rule) => rule,
+        None => Rule::default(),
+    }
 }
 
-// Puts a rule on its caller, if that isn't too deep.
-fn push_deeper<'a>(stack: &mut Vec<Rule<'a>>, rule: Option<Rule<'a>>) -> Result<(), ShaperError> {
-    if let Some(rule) = rule {
-        if stack.len() < MOST_DEEP {
-            stack.push(rule).map_err(|_| ShaperError::Memory)?;
-        }
+// Where a rule ends, its caller is in hand again; where it has none, the place behind what was done.
+fn end_rule<'a>(len: usize, rule: &mut Rule<'a>, callers: &mut Callers<'a>) -> Option<usize> {
+    let Some(caller) = callers.pop() else {
+        return Some(rule.end);
+    };
+    let mut caller = waited(caller);
+    caller.settle(len);
+    *rule = caller;
+    None
+}
+
+// A rule that was called is in hand, and its caller waits, if that isn't too deep.
+fn go_deeper<'a>(called: Rule<'a>, rule: &mut Rule<'a>, callers: &mut Callers<'a>) {
+    if !callers.is_full() {
+        callers.push(Some(mem::replace(rule, called)));
     }
-    Ok(())
 }
 
 // One turn of the machine; where it ends, the place behind what was done.
 fn turn<'a>(
     pass: &Pass<'a>,
     text: &mut Vec<GlyphInfo>,
-    stack: &mut Vec<Rule<'a>>,
-) -> Result<Option<Option<usize>>, ShaperError> {
-    let Some(mut rule) = stack.pop() else {
-        return Ok(Some(None));
-    };
+    rule: &mut Rule<'a>,
+    callers: &mut Callers<'a>,
+) -> Result<Option<usize>, ShaperError> {
     if rule.next >= rule.count {
-        let ended = end_rule(text.len(), rule.end, stack)?;
-        return Ok(ended);
+        return Ok(end_rule(text.len(), rule, callers));
     }
-    let inner = call(pass, text, &mut rule)?;
-    stack.push(rule).map_err(|_| ShaperError::Memory)?;
-    push_deeper(stack, inner)?;
+    if let Some(called) = call(pass, text, rule)? {
+        go_deeper(called, rule, callers);
+    }
     Ok(None)
 }
 
@@ -199,21 +201,51 @@ pub struct Reached {
     pub left: usize,
 }
 
-// The machine, in at most so many turns.
+// The machine, in at most so many turns, from a rule on that another one called. (Its stack of 36 KB
+// is no part of functions that run for each glyph.)
+#[inline(never)]
+fn run_called<'a>(
+    pass: &Pass<'a>,
+    text: &mut Vec<GlyphInfo>,
+    caller: Rule<'a>,
+    called: Rule<'a>,
+    operations: usize,
+) -> Result<Reached, ShaperError> {
+    let mut rule = called;
+    let mut callers = Callers::new();
+    callers.push(Some(caller));
+    for done in 0..operations {
+        match turn(pass, text, &mut rule, &mut callers) {
+            Ok(Some(end)) => {
+                let left = operations - (done + 1);
+                return Ok(Reached {
+                    end: Some(end),
+                    left,
+                });
+            }
+            Ok(None) => {}
+            Err(e) => return Err(e),
+        }
+    }
+    Ok(Reached { end: None, left: 0 })
+}
+
+// The same from a rule on that no other one called. (Most rules call none: they need no stack.)
 fn run<'a>(
     pass: &Pass<'a>,
     text: &mut Vec<GlyphInfo>,
     rule: Rule<'a>,
     operations: usize,
 ) -> Result<Reached, ShaperError> {
-    let mut stack = Vec::new(*text.allocator());
-    stack.push(rule).map_err(|_| ShaperError::Memory)?;
+    let mut rule = rule;
     for done in 0..operations {
-        match turn(pass, text, &mut stack) {
-            Ok(Some(end)) => {
-                let left = operations - (done + 1);
-                return Ok(Reached { end, left });
-            }
+        let left = operations - (done + 1);
+        if rule.next >= rule.count {
+            let end = Some(rule.end);
+            return Ok(Reached { end, left });
+        }
+        match call(pass, text, &mut rule) {
+            Ok(Some(called)) => return run_called(pass, text, rule, called, left),
             Ok(None) => {}
             Err(e) => return Err(e),
         }
