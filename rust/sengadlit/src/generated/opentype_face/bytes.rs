@@ -33,15 +33,12 @@ pub fn u8_at(bytes: &[u8], at: usize) -> u8 {
 /// </details>
 #[inline]
 pub fn u16_at(bytes: &[u8], at: usize) -> u16 {
-    if at >= bytes.len() {
-        return 0;
+    let len = bytes.len();
+    // (one comparison, since a loop takes the first test out)
+    if len >= 2 && at <= len - 2 {
+        return 256 * u16::from(bytes[at]) + u16::from(bytes[at + 1]);
     }
-    // (a slice of two bytes and more has a test less for the second one)
-    let rest = &bytes[at..];
-    if rest.len() < 2 {
-        return 256 * u16::from(rest[0]);
-    }
-    256 * u16::from(rest[0]) + u16::from(rest[1])
+    256 * u16::from(u8_at(bytes, at))
 }
 
 /// The number of two bytes at a place, with its sign.
@@ -101,16 +98,15 @@ pub fn u24_at(bytes: &[u8], at: usize) -> u32 {
 /// </details>
 #[inline]
 pub fn u32_at(bytes: &[u8], at: usize) -> u32 {
-    if at >= bytes.len() {
+    let len = bytes.len();
+    // (the tests of both numbers fall into this one)
+    if len >= 4 && at <= len - 4 {
+        return 65536 * u32::from(u16_at(bytes, at)) + u32::from(u16_at(bytes, at + 2));
+    }
+    if at >= len {
         return 0;
     }
-    let high = u16_at(bytes, at);
-    let low = if at + 2 < bytes.len() {
-        u16_at(bytes, at + 2)
-    } else {
-        0
-    };
-    65536 * u32::from(high) + u32::from(low)
+    65536 * u32::from(u16_at(bytes, at)) + u32::from(u16_at(bytes, at + 2))
 }
 
 /// The number of four bytes at a place, as an offset.

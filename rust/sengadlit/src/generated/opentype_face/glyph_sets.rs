@@ -3,7 +3,7 @@
 //! Sets of glyphs, and classes of glyphs.
 
 use crate::generated::opentype_face::bytes::u16_at;
-use crate::generated::opentype_face::ranges::Ranges;
+use crate::generated::opentype_face::ranges::{find_number, find_range};
 
 /// The place of a glyph in a set, by its table.
 ///
@@ -20,35 +20,17 @@ use crate::generated::opentype_face::ranges::Ranges;
 /// </details>
 #[inline]
 pub fn coverage(bytes: &[u8], glyph: u16) -> Option<u32> {
-    let count = u32::from(u16_at(bytes, 2));
+    let count = u16_at(bytes, 2);
     match u16_at(bytes, 0) {
-        1 => {
-            let ranges = Ranges {
-                bytes,
-                first: 4,
-                last: 4,
-                size: 2,
-                count,
-            };
-            ranges.find(glyph)
-        }
-        2 => {
-            let ranges = Ranges {
-                bytes,
-                first: 4,
-                last: 6,
-                size: 6,
-                count,
-            };
-            match ranges.find(glyph) {
-                Some(i) => {
-                    let start = u16_at(bytes, 4 + i as usize * 6);
-                    let place = u16_at(bytes, 8 + i as usize * 6);
-                    Some(u32::from(place) + u32::from(glyph.saturating_sub(start)))
-                }
-                None => None,
+        1 => find_number(bytes, count, glyph),
+        2 => match find_range(bytes, count, glyph) {
+            Some(i) => {
+                let start = u16_at(bytes, 4 + i as usize * 6);
+                let place = u16_at(bytes, 8 + i as usize * 6);
+                Some(u32::from(place) + u32::from(glyph.saturating_sub(start)))
             }
-        }
+            None => None,
+        },
         _ => None,
     }
 }
@@ -78,15 +60,8 @@ pub fn class(bytes: &[u8], glyph: u16) -> u16 {
             }
         }
         2 => {
-            let count = u32::from(u16_at(bytes, 2));
-            let ranges = Ranges {
-                bytes,
-                first: 4,
-                last: 6,
-                size: 6,
-                count,
-            };
-            match ranges.find(glyph) {
+            let count = u16_at(bytes, 2);
+            match find_range(bytes, count, glyph) {
                 Some(i) => u16_at(bytes, 8 + i as usize * 6),
                 None => 0,
             }

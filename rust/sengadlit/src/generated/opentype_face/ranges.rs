@@ -25,6 +25,44 @@ fn counted_end(bytes: &[u8], first: usize, last: usize) -> u32 {
     u24_at(bytes, first) + u32::from(u8_at(bytes, last))
 }
 
+// (two searches apart, since distances that the code knows make a step half as long)
+
+/// The record that has a number, among so many of two bytes from byte 4 on.
+#[inline]
+pub(crate) fn find_number(bytes: &[u8], glyph_count: u16, number: u16) -> Option<u32> {
+    let (mut low, mut high) = (0, u32::from(glyph_count));
+    while low < high {
+        let middle = (low + high - 1) / 2;
+        let found = u16_at(bytes, 4 + middle as usize * 2);
+        if number < found {
+            high = middle;
+        } else if found < number {
+            low = middle + 1;
+        } else {
+            return Some(middle);
+        }
+    }
+    None
+}
+
+/// The record whose range holds a number, among so many of six bytes from byte 4 on.
+#[inline]
+pub(crate) fn find_range(bytes: &[u8], range_count: u16, number: u16) -> Option<u32> {
+    let (mut low, mut high) = (0, u32::from(range_count));
+    while low < high {
+        let middle = (low + high - 1) / 2;
+        let from = middle as usize * 6;
+        if number < u16_at(bytes, 4 + from) {
+            high = middle;
+        } else if u16_at(bytes, 6 + from) < number {
+            low = middle + 1;
+        } else {
+            return Some(middle);
+        }
+    }
+    None
+}
+
 impl<'a> Ranges<'a> {
     /// The range that holds a number, where they have 16 bits.
     ///
