@@ -22,9 +22,10 @@ pub enum Came<'a> {
     Fits(Matched<'a>),
 }
 
-// What one of a lookup's subtables comes to.
+// What one of a lookup's subtables comes to, by its bytes.
+#[inline(never)]
 #[tactic(auto, unfolding(crate::specs::Coming::nth_came))]
-fn come_by<'a>(
+fn come_by_bytes<'a>(
     pass: &Pass<'_>,
     sights: &Sights,
     table: &LookupTable<'a>,
@@ -36,12 +37,6 @@ fn come_by<'a>(
     ensures { option_map came result
         ≡ nth_came (setting_of pass.now) sights.now table.now glyphs.now at i }
 {
-    if let Some(pairs) = table.pair_table(i) {
-        return match pair_by_table(pass.gdef, &sights.input, pairs, glyphs, at) {
-            Some(change) => Some(Came::Moves(change)),
-            None => None,
-        };
-    }
     let lookup = table.bytes();
     let kind = subtable_type(9, lookup, i);
     let bytes = subtable(9, lookup, i);
@@ -55,6 +50,30 @@ fn come_by<'a>(
     match move_by(pass.gdef, input, kind, bytes, glyphs, at) {
         Some(change) => Some(Came::Moves(change)),
         None => None,
+    }
+}
+
+// What one of a lookup's subtables comes to.
+#[inline]
+#[tactic(auto, unfolding(crate::specs::Coming::nth_came))]
+fn come_by<'a>(
+    pass: &Pass<'_>,
+    sights: &Sights,
+    table: &LookupTable<'a>,
+    i: u16,
+    glyphs: &[hb_glyph_info_t],
+    at: usize,
+) -> Option<Came<'a>>
+    requires { at < length glyphs.now }
+    ensures { option_map came result
+        ≡ nth_came (setting_of pass.now) sights.now table.now glyphs.now at i }
+{
+    match table.pair_table(i) {
+        Some(pairs) => match pair_by_table(pass.gdef, &sights.input, pairs, glyphs, at) {
+            Some(change) => Some(Came::Moves(change)),
+            None => None,
+        },
+        None => come_by_bytes(pass, sights, table, i, glyphs, at),
     }
 }
 

@@ -25,13 +25,9 @@ fn any(gdef: &[u8], sight: &Sight, glyph: &hb_glyph_info_t) -> Option<bool>
     sight.sees(gdef, is_seen, glyph)
 }
 
-/// The next glyph from a place on that a lookup sees.
-pub fn next_glyph(
-    gdef: &[u8],
-    sight: &Sight,
-    glyphs: &[hb_glyph_info_t],
-    from: usize,
-) -> Option<usize>
+// The next glyph from a place on that a lookup sees, by a search.
+#[inline(never)]
+fn next_behind(gdef: &[u8], sight: &Sight, glyphs: &[hb_glyph_info_t], from: usize) -> Option<usize>
     ensures value { result ≡ next_any gdef.now sight.now glyphs.now from }
     ensures within { IfSome result (λ i. i < length glyphs.now) }
 {
@@ -42,6 +38,28 @@ pub fn next_glyph(
         }
     }
     None
+}
+
+/// The next glyph from a place on that a lookup sees. Most often it is the first one, which is looked
+/// at without a loop.
+#[inline]
+pub fn next_glyph(
+    gdef: &[u8],
+    sight: &Sight,
+    glyphs: &[hb_glyph_info_t],
+    from: usize,
+) -> Option<usize>
+    ensures value { result ≡ next_any gdef.now sight.now glyphs.now from }
+    ensures within { IfSome result (λ i. i < length glyphs.now) }
+{
+    if from >= glyphs.len() {
+        return None;
+    }
+    match any(gdef, sight, &glyphs[from]) {
+        Some(true) => Some(from),
+        Some(false) => None,
+        None => next_behind(gdef, sight, glyphs, from + 1),
+    }
 }
 
 // The nearest glyph before a place that a lookup sees, by how many glyphs stand between.

@@ -43,14 +43,28 @@ fn bit(format: u16, bit: u16) -> u16
     format / bit % 2
 }
 
-/// How many bytes the values of a format take.
-#[inline]
-pub fn size(format: u16) -> u16
+// How many bytes the values of a format take, bit by bit.
+#[inline(never)]
+fn size_by_bits(format: u16) -> u16
     ensures value { result ≡ size_of format }
     ensures few { result ≤ 16 }
 {
     let half = bit(format, 1) + bit(format, 2) + bit(format, 4) + bit(format, 8);
     2 * (half + bit(format, 16) + bit(format, 32) + bit(format, 64) + bit(format, 128))
+}
+
+/// How many bytes the values of a format take. Most fonts have nothing but advances along the line
+/// in pairs, which takes no look at each bit.
+#[inline]
+pub fn size(format: u16) -> u16
+    ensures value { result ≡ size_of format }
+    ensures few { result ≤ 16 }
+{
+    match format {
+        0 => 0,
+        4 => 2,
+        _ => size_by_bits(format),
+    }
 }
 
 #[inline]
@@ -65,8 +79,9 @@ fn field(bytes: &[u8], at: usize, format: u16, of: u16) -> i32
     }
 }
 
-/// The value at a place, of this format.
-pub fn value_at(bytes: &[u8], at: usize, format: u16) -> Value
+// The value at a place, of this format, bit by bit.
+#[inline(never)]
+fn value_by_bits(bytes: &[u8], at: usize, format: u16) -> Value
     requires { at < 2 ^ 63 }
     ensures { result ≡ value_in bytes.now at format }
 {
@@ -78,6 +93,29 @@ pub fn value_at(bytes: &[u8], at: usize, format: u16) -> Value
         y_placement: field(bytes, two, format, 2),
         x_advance: field(bytes, three, format, 4),
         y_advance: field(bytes, four, format, 8),
+    }
+}
+
+/// The value at a place, of this format; of the most frequent ones without a look at each bit.
+#[inline]
+pub fn value_at(bytes: &[u8], at: usize, format: u16) -> Value
+    requires { at < 2 ^ 63 }
+    ensures { result ≡ value_in bytes.now at format }
+{
+    match format {
+        0 => Value {
+            x_placement: 0,
+            y_placement: 0,
+            x_advance: 0,
+            y_advance: 0,
+        },
+        4 => Value {
+            x_placement: 0,
+            y_placement: 0,
+            x_advance: i16_at(bytes, at),
+            y_advance: 0,
+        },
+        _ => value_by_bits(bytes, at, format),
     }
 }
 

@@ -6,6 +6,6 @@ pub returns-in-Some-pair_by_table : goal.returns-in-Some-pair_by_table
 returns-in-Some-pair_by_table c = came_of_pairs (setting_of c.args.pass.now) c.args.sights.now c.args.table.now
     c.args.glyphs.now c.args.at c.args.i _ _ c.in-Some.ensures.0 c.in-Some.ensures.1 c.in-Some-pair_by_table.ensures
 
-pub returns-in-None : goal.returns-in-None
-returns-in-None c = came_of_pairs (setting_of c.args.pass.now) c.args.sights.now c.args.table.now
-    c.args.glyphs.now c.args.at c.args.i _ _ c.in-Some.ensures.0 c.in-Some.ensures.1 c.in-None.ensures
+pub returns-in-None-pair_by_table : goal.returns-in-None-pair_by_table
+returns-in-None-pair_by_table c = came_of_pairs (setting_of c.args.pass.now) c.args.sights.now c.args.table.now
+    c.args.glyphs.now c.args.at c.args.i _ _ c.in-Some.ensures.0 c.in-Some.ensures.1 c.in-None-pair_by_table.ensures

@@ -1,18 +1,17 @@
-use Rattle.std.proofs.Common.{refl, rules, sym}
+use Rattle.std.proofs.Common.{refl, sym, ◌∙◌}
 use Rattle.opentype_layout.proofs.Sights.{sought_hit, sought_miss, sought_out, sought_passed}
 use Rattle.opentype_gpos.proofs.nearby.next_glyph.Goals as goal
 
-pub loop-i-init : goal.loop-i-init
-loop-i-init c = record { rest = refl }
+pub returns-then-from-glyphs-clause-value : goal.returns-then-from-glyphs-clause-value
+returns-then-from-glyphs-clause-value c = sym (sought_out _ _ _ _ (record { rest = refl }) c.if-from-glyphs.true)
 
-pub returns-then-is_found : goal.returns-then-is_found
-returns-then-is_found c = record { value = sym (sought_hit _ _ _ _ c.loop-i.invariant c.loop-i-test.true (cc)); within = search rules }
+pub returns-in-Some-true-clause-value : goal.returns-in-Some-true-clause-value
+returns-in-Some-true-clause-value c = sym (sought_hit _ _ _ _ (record { rest = refl }) c.if-from-glyphs.false (cc))
 
-pub returns-else-is_found : goal.returns-else-is_found
-returns-else-is_found c = record { value = sym (sought_miss _ _ _ _ c.loop-i.invariant c.loop-i-test.true (cc)); within = search rules }
+pub returns-in-Some-false-clause-value : goal.returns-in-Some-false-clause-value
+returns-in-Some-false-clause-value c = sym (sought_miss _ _ _ _ (record { rest = refl }) c.if-from-glyphs.false (cc))
 
-pub loop-i-preserved : goal.loop-i-preserved
-loop-i-preserved c = sought_passed _ _ _ _ c.loop-i.invariant c.loop-i-test.true (cc)
-
-pub returns : goal.returns
-returns c = record { value = sym (sought_out _ _ _ _ c.loop-i.invariant c.loop-i-test.false); within = search rules }
+pub returns-in-None-clause-value : goal.returns-in-None-clause-value
+returns-in-None-clause-value c =
+    let behind = sought_passed _ _ _ _ (record { rest = refl }) c.if-from-glyphs.false (cc) in
+    c.next_behind.ensures.value ∙ sym behind.rest

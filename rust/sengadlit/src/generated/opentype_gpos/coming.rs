@@ -19,8 +19,9 @@ pub enum Came<'a> {
     Fits(Matched<'a>),
 }
 
-// What one of a lookup's subtables comes to.
-fn come_by<'a>(
+// What one of a lookup's subtables comes to, by its bytes.
+#[inline(never)]
+fn come_by_bytes<'a>(
     pass: &Pass<'_>,
     sights: &Sights,
     table: &LookupTable<'a>,
@@ -28,12 +29,6 @@ fn come_by<'a>(
     glyphs: &[GlyphInfo],
     at: usize,
 ) -> Option<Came<'a>> {
-    if let Some(pairs) = table.pair_table(i) {
-        return match pair_by_table(pass.gdef, &sights.input, pairs, glyphs, at) {
-            Some(change) => Some(Came::Moves(change)),
-            None => None,
-        };
-    }
     let lookup = table.bytes();
     let kind = subtable_type(9, lookup, i);
     let bytes = subtable(9, lookup, i);
@@ -47,6 +42,25 @@ fn come_by<'a>(
     match move_by(pass.gdef, input, kind, bytes, glyphs, at) {
         Some(change) => Some(Came::Moves(change)),
         None => None,
+    }
+}
+
+// What one of a lookup's subtables comes to.
+#[inline]
+fn come_by<'a>(
+    pass: &Pass<'_>,
+    sights: &Sights,
+    table: &LookupTable<'a>,
+    i: u16,
+    glyphs: &[GlyphInfo],
+    at: usize,
+) -> Option<Came<'a>> {
+    match table.pair_table(i) {
+        Some(pairs) => match pair_by_table(pass.gdef, &sights.input, pairs, glyphs, at) {
+            Some(change) => Some(Came::Moves(change)),
+            None => None,
+        },
+        None => come_by_bytes(pass, sights, table, i, glyphs, at),
     }
 }
 

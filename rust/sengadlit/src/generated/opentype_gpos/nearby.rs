@@ -31,7 +31,20 @@ fn any(gdef: &[u8], sight: &Sight, glyph: &GlyphInfo) -> Option<bool> {
     sight.sees(gdef, is_seen, glyph)
 }
 
-/// The next glyph from a place on that a lookup sees.
+// The next glyph from a place on that a lookup sees, by a search.
+#[inline(never)]
+fn next_behind(gdef: &[u8], sight: &Sight, glyphs: &[GlyphInfo], from: usize) -> Option<usize> {
+    for i in from..glyphs.len() {
+        let seen = any(gdef, sight, &glyphs[i]);
+        if let Some(is_found) = seen {
+            return if is_found { Some(i) } else { None };
+        }
+    }
+    None
+}
+
+/// The next glyph from a place on that a lookup sees. Most often it is the first one, which is looked
+/// at without a loop.
 ///
 /// <details><summary>Contract</summary>
 ///
@@ -45,14 +58,16 @@ fn any(gdef: &[u8], sight: &Sight, glyph: &GlyphInfo) -> Option<bool> {
 /// - `next_any`: `crates/opentype_gpos/specs/Nearby.antt`
 ///
 /// </details>
+#[inline]
 pub fn next_glyph(gdef: &[u8], sight: &Sight, glyphs: &[GlyphInfo], from: usize) -> Option<usize> {
-    for i in from..glyphs.len() {
-        let seen = any(gdef, sight, &glyphs[i]);
-        if let Some(is_found) = seen {
-            return if is_found { Some(i) } else { None };
-        }
+    if from >= glyphs.len() {
+        return None;
     }
-    None
+    match any(gdef, sight, &glyphs[from]) {
+        Some(true) => Some(from),
+        Some(false) => None,
+        None => next_behind(gdef, sight, glyphs, from + 1),
+    }
 }
 
 // The nearest glyph before a place that a lookup sees, by how many glyphs stand between.

@@ -2,7 +2,7 @@ use Rattle.std.proofs.Common.{length}
 use Rattle.opentype_layout.specs.Text.{glyph_at}
 use Rattle.opentype_layout.proofs.Sights.{IsSought}
 use Rattle.opentype_gpos.specs.Nearby.{any_seen}
-use Rattle.opentype_gpos.proofs.nearby.next_glyph.Given as goal
+use Rattle.opentype_gpos.proofs.nearby.next_behind.Given as goal
 
 abbrev pub invariant-loop-i : goal.invariant-loop-i
 invariant-loop-i l = IsSought (λ i. any_seen l.gdef l.sight (glyph_at l.glyphs i)) (length l.glyphs) l.from l.i
