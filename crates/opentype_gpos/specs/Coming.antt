@@ -10,9 +10,9 @@ use Rattle.opentype_face.specs.Lookups.{subtable_in, type_in}
 use Rattle.opentype_layout.specs.Rules.{Found, context_in, found}
 use Rattle.opentype_layout.specs.Sight.{sight_of_context, sight_of_input}
 use Rattle.opentype_layout.specs.declared.sight.Application.{Application}
-use Rattle.opentype_gpos.specs.Moves.{one_move}
+use Rattle.opentype_gpos.specs.Moves.{one_move, pair_found}
 use Rattle.opentype_gpos.specs.declared.coming.Came.{Came}
-use Rattle.opentype_gpos.specs.declared.coming.Came.TheVariants.{Fits, Moves}
+use Rattle.opentype_gpos.specs.declared.coming.Came.TheVariants.{Fits, Moves, Pairs}
 use Rattle.opentype_gpos.specs.declared.moves.Move.{Move}
 use Rattle.opentype_gpos.specs.declared.pass.Pass.{Pass}
 use Rattle.opentype_gpos.specs.declared.pass.Sights.{Sights}
@@ -42,6 +42,7 @@ sights_in s lookup = record {
 -- what code found: the same, with a rule as it is in the code
 abbrev pub came : Came → Move ⊎ Found
 came (Moves it) = inl it
+came (Pairs it) = inl (pair_found it)
 came (Fits rule) = inr (found rule)
 
 -- What one of a lookup's subtables comes to: types 7 and 8 are contexts and chained contexts, and

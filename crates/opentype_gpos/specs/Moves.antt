@@ -13,6 +13,7 @@ use Rattle.opentype_gpos.specs.Nearby.{are_beside, base_glyph_before, marks_glyp
 use Rattle.opentype_gpos.specs.Values.{pair_in, single_in, size_of, value_in}
 use Rattle.opentype_gpos.specs.declared.anchors.Point.{Point}
 use Rattle.opentype_gpos.specs.declared.moves.Move.{Move}
+use Rattle.opentype_gpos.specs.declared.moves.PairPlace.{PairPlace}
 use Rattle.opentype_gpos.specs.declared.moves.Move.TheVariants.{Adds, Attaches, Joins, Kerns}
 
 -- the number of the glyph at a place
@@ -41,6 +42,10 @@ pair_values bytes second place = Kerns (record {
   second_value = value_in (part_in bytes place) (size_of (u16_in bytes 4)) (u16_in bytes 6);
   has_second = not (u16_in bytes 6 == 0);
 })
+
+-- and of a pair that code found the place of
+abbrev pub pair_found : PairPlace → Move
+pair_found it = pair_values it.bytes.now it.second it.place
 
 unfoldable pub pair_with : List ℕ → Glyphs → ℕ → ℕ → Option Move
 pair_with bytes gs at second =

@@ -8,7 +8,7 @@ ghost use Rattle.opentype_gpos.specs.Coming.{Setting, setting_of};
 ghost use Rattle.opentype_gpos.specs.Moved.{Positions, flagged_up_to};
 
 use crate::coming::{Came, come_to};
-use crate::making::make_move;
+use crate::making::{make_move, make_pair};
 use crate::moved::flag_up_to;
 use crate::pass::Pass;
 use arrayvec::ArrayVec;
@@ -52,6 +52,10 @@ fn call<'a>(
     match come_to(pass, &sights, lookup, glyphs, at) {
         Some(Came::Moves(change)) => {
             make_move(pass.direction, &change, at, glyphs, positions);
+            None
+        }
+        Some(Came::Pairs(pair)) => {
+            make_pair(pass.direction, &pair, at, glyphs, positions);
             None
         }
         Some(Came::Fits(rule)) => Some(rule),

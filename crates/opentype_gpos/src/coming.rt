@@ -5,7 +5,7 @@ ghost use Rattle.opentype_face.specs.Bytes.{u16_in};
 ghost use Rattle.opentype_face.specs.Firsts.{first_from};
 ghost use Rattle.opentype_gpos.specs.Coming.{came, came_in, nth_came, setting_of};
 
-use crate::moves::{Move, move_by, pair_by_table};
+use crate::moves::{Move, PairPlace, move_by, pair_by_table};
 use crate::nearby::number;
 use crate::pass::{Pass, Sights};
 use opentype_face::lookup::{subtable, subtable_count, subtable_type};
@@ -18,6 +18,8 @@ use shapers_buffer::buffer::hb_glyph_info_t;
 pub enum Came<'a> {
     /// The glyph is moved.
     Moves(Move),
+    /// The values of a pair are added.
+    Pairs(PairPlace<'a>),
     /// A rule of a context fits.
     Fits(Matched<'a>),
 }
@@ -70,7 +72,7 @@ fn come_by<'a>(
 {
     match table.pair_table(i) {
         Some(pairs) => match pair_by_table(pass.gdef, &sights.input, pairs, glyphs, at) {
-            Some(change) => Some(Came::Moves(change)),
+            Some(pair) => Some(Came::Pairs(pair)),
             None => None,
         },
         None => come_by_bytes(pass, sights, table, i, glyphs, at),

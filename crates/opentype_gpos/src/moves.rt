@@ -2,8 +2,10 @@
 ghost use Rattle.std.specs.Prelude.{◌≡◌, ◌<◌, length, Some};
 ghost use Rattle.std.specs.Option.{option_map};
 ghost use Rattle.opentype_gpos.specs.Anchors.{points_by};
+ghost use Rattle.opentype_face.specs.Bytes.{u16_in};
+ghost use Rattle.opentype_gpos.specs.declared.moves.Move.TheVariants.{Kerns};
 ghost use Rattle.opentype_gpos.specs.Nearby.{number_in};
-ghost use Rattle.opentype_gpos.specs.Moves.{attaching, base_move, component_for, covered_by, cursive_move, joined_from, joined_with, ligature_move, ligature_with, mark_move, mark_with, number_at, one_move, pair_move, pair_values, pair_with, single_move};
+ghost use Rattle.opentype_gpos.specs.Moves.{attaching, base_move, component_for, covered_by, cursive_move, joined_from, joined_with, ligature_move, ligature_with, mark_move, mark_with, number_at, one_move, pair_found, pair_move, pair_with, single_move};
 
 use crate::anchors::{Point, joint_of, ligature_points, points};
 use crate::nearby::{
@@ -43,6 +45,17 @@ pub struct PairMove {
     pub has_second: bool,
 }
 
+/// Where a subtable has the values of a pair.
+#[derive(Clone, Copy, Debug)]
+pub struct PairPlace<'a> {
+    /// The subtable.
+    pub bytes: &'a [u8],
+    /// The place of the second glyph.
+    pub second: usize,
+    /// Where the values stand, from the subtable's start.
+    pub place: usize,
+}
+
 /// A mark upon another glyph.
 #[derive(Clone, Copy, Debug, PartialEq, Eq)]
 pub struct MarkMove {
@@ -78,18 +91,36 @@ fn single_of(bytes: &[u8], glyphs: &[hb_glyph_info_t], at: usize) -> Option<Move
     }
 }
 
-#[inline]
-fn values_of(bytes: &[u8], second: usize, place: usize) -> Move
-    ensures { result ≡ pair_values bytes.now second place }
+/// The values of a pair.
+pub fn values_of(pair: &PairPlace<'_>) -> PairMove
+    ensures value { Kerns result ≡ pair_found pair.now }
+    ensures second { result.second ≡ pair.now.second }
 {
-    let (format, second_format) = (u16_at(bytes, 4), u16_at(bytes, 6));
-    let values = part(bytes, place);
-    Move::Kerns(PairMove {
-        second,
+    let (format, second_format) = (u16_at(pair.bytes, 4), u16_at(pair.bytes, 6));
+    let values = part(pair.bytes, pair.place);
+    PairMove {
+        second: pair.second,
         first_value: value_at(values, 0, format),
         second_value: value_at(values, usize::from(size(format)), second_format),
         has_second: second_format != 0,
-    })
+    }
+}
+
+/// The same where the first glyph has an advance along the line, and the second one nothing.
+#[inline]
+pub fn advance_of(pair: &PairPlace<'_>) -> PairMove
+    requires first { u16_in pair.now.bytes.now 4 ≡ 4 }
+    requires second { u16_in pair.now.bytes.now 6 ≡ 0 }
+    ensures value { Kerns result ≡ pair_found pair.now }
+    ensures second { result.second ≡ pair.now.second }
+{
+    let values = part(pair.bytes, pair.place);
+    PairMove {
+        second: pair.second,
+        first_value: value_at(values, 0, 4),
+        second_value: value_at(values, 2, 0),
+        has_second: false,
+    }
 }
 
 // The place of a glyph in a subtable's set, which stands at the same place in each type.
@@ -115,7 +146,7 @@ fn pair_of(
     ensures { result ≡ pair_with bytes.now glyphs.now at second }
 {
     match pair(bytes, i, number(&glyphs[at]), number(&glyphs[second])) {
-        Some(place) => Some(values_of(bytes, second, place)),
+        Some(place) => Some(Move::Kerns(values_of(&PairPlace { bytes, second, place }))),
         None => None,
     }
 }
@@ -138,37 +169,40 @@ fn pair_at(
     }
 }
 
-// The same by tables of the subtable's glyphs.
+// Where the values are, by tables of the subtable's glyphs.
+#[inline]
 #[tactic(auto, unfolding(crate::specs::Moves::pair_with))]
-fn pair_of_table(
-    table: &PairTable<'_>,
+fn pair_of_table<'a>(
+    table: &PairTable<'a>,
     i: u32,
     glyphs: &[hb_glyph_info_t],
     at: usize,
     second: usize,
-) -> Option<Move>
+) -> Option<PairPlace<'a>>
     requires first { at < length glyphs.now }
     requires second { second < length glyphs.now }
     requires covered { covered_by table.now 2 (number_at glyphs.now at) ≡ Some i }
-    ensures { result ≡ pair_with table.now glyphs.now at second }
+    ensures { option_map pair_found result ≡ pair_with table.now glyphs.now at second }
 {
     match pair_in_table(table, i, number(&glyphs[at]), number(&glyphs[second])) {
-        Some(place) => Some(values_of(table.bytes(), second, place)),
+        Some(place) => Some(PairPlace { bytes: table.bytes(), second, place }),
         None => None,
     }
 }
 
-/// What a subtable of type 2 does at a place, by tables of its glyphs.
+/// The pair that a subtable of type 2 has at a place, by tables of its glyphs.
+#[inline]
 #[tactic(auto, unfolding(crate::specs::Moves::pair_move))]
-pub fn pair_by_table(
+pub fn pair_by_table<'a>(
     gdef: &[u8],
     sight: &Sight,
-    table: &PairTable<'_>,
+    table: &PairTable<'a>,
     glyphs: &[hb_glyph_info_t],
     at: usize,
-) -> Option<Move>
+) -> Option<PairPlace<'a>>
     requires { at < length glyphs.now }
-    ensures { result ≡ pair_move gdef.now sight.now table.now glyphs.now at }
+    ensures { option_map pair_found result
+        ≡ pair_move gdef.now sight.now table.now glyphs.now at }
 {
     let i = table.place(number(&glyphs[at]))?;
     match next_glyph(gdef, sight, glyphs, at + 1) {

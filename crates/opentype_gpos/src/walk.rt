@@ -8,7 +8,7 @@ ghost use Rattle.opentype_gpos.specs.Walked.{positioned, position_stepped, walke
 
 use crate::calling::apply_rule;
 use crate::coming::{Came, come_to};
-use crate::making::make_move;
+use crate::making::{make_move, make_pair};
 use crate::nearby::number;
 use crate::pass::{Pass, Sights};
 use opentype_layout::sight::{Application, ignores_glyph};
@@ -40,6 +40,7 @@ fn step(
     }
     match come_to(pass, sights, lookup, glyphs, at) {
         Some(Came::Moves(change)) => make_move(pass.direction, &change, at, glyphs, positions),
+        Some(Came::Pairs(pair)) => make_pair(pass.direction, &pair, at, glyphs, positions),
         Some(Came::Fits(rule)) => {
             apply_rule(pass, &rule, glyphs, positions);
             rule.end

@@ -4,7 +4,7 @@
 
 use crate::generated::opentype_face::bytes::u16_at;
 use crate::generated::opentype_gpos::coming::{Came, come_to};
-use crate::generated::opentype_gpos::making::make_move;
+use crate::generated::opentype_gpos::making::{make_move, make_pair};
 use crate::generated::opentype_gpos::moved::flag_up_to;
 use crate::generated::opentype_gpos::pass::Pass;
 use crate::generated::opentype_layout::places::Places;
@@ -39,6 +39,10 @@ fn call<'a>(
     match come_to(pass, &sights, lookup, glyphs, at) {
         Some(Came::Moves(change)) => {
             make_move(pass.direction, &change, at, glyphs, positions);
+            None
+        }
+        Some(Came::Pairs(pair)) => {
+            make_pair(pass.direction, &pair, at, glyphs, positions);
             None
         }
         Some(Came::Fits(rule)) => Some(rule),

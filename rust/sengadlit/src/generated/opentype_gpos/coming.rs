@@ -3,7 +3,7 @@
 //! What a lookup of GPOS comes to at a place of a text.
 
 use crate::generated::opentype_face::lookup::{subtable, subtable_count, subtable_type};
-use crate::generated::opentype_gpos::moves::{Move, move_by, pair_by_table};
+use crate::generated::opentype_gpos::moves::{Move, PairPlace, move_by, pair_by_table};
 use crate::generated::opentype_gpos::nearby::number;
 use crate::generated::opentype_gpos::pass::{Pass, Sights};
 use crate::generated::opentype_layout::rules::{Matched, find_rule};
@@ -15,6 +15,8 @@ use crate::generated::shapers_buffer::buffer::GlyphInfo;
 pub enum Came<'a> {
     /// The glyph is moved.
     Moves(Move),
+    /// The values of a pair are added.
+    Pairs(PairPlace<'a>),
     /// A rule of a context fits.
     Fits(Matched<'a>),
 }
@@ -57,7 +59,7 @@ fn come_by<'a>(
 ) -> Option<Came<'a>> {
     match table.pair_table(i) {
         Some(pairs) => match pair_by_table(pass.gdef, &sights.input, pairs, glyphs, at) {
-            Some(change) => Some(Came::Moves(change)),
+            Some(pair) => Some(Came::Pairs(pair)),
             None => None,
         },
         None => come_by_bytes(pass, sights, table, i, glyphs, at),

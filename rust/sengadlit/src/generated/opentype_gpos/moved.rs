@@ -87,7 +87,9 @@ pub(crate) fn flag_up_to(is_on: bool, start: usize, last: usize, glyphs: &mut [G
     }
 }
 
-// Adds the values of a pair, and returns the place that comes next.
+// Adds the values of a pair, and returns the place that comes next. Where its caller knows that some of
+// the values are 0, nothing is done for them.
+#[inline]
 pub(crate) fn move_pair(
     direction: Direction,
     pair: &PairMove,

@@ -42,6 +42,17 @@ pub struct PairMove {
     pub has_second: bool,
 }
 
+/// Where a subtable has the values of a pair.
+#[derive(Clone, Copy, Debug)]
+pub struct PairPlace<'a> {
+    /// The subtable.
+    pub bytes: &'a [u8],
+    /// The place of the second glyph.
+    pub second: usize,
+    /// Where the values stand, from the subtable's start.
+    pub place: usize,
+}
+
 /// A mark upon another glyph.
 #[derive(Clone, Copy, Debug, PartialEq, Eq, Hash)]
 pub struct MarkMove {
@@ -77,16 +88,57 @@ fn single_of(bytes: &[u8], glyphs: &[GlyphInfo], at: usize) -> Option<Move> {
     }
 }
 
-#[inline]
-fn values_of(bytes: &[u8], second: usize, place: usize) -> Move {
-    let (format, second_format) = (u16_at(bytes, 4), u16_at(bytes, 6));
-    let values = part(bytes, place);
-    Move::Kerns(PairMove {
-        second,
+/// The values of a pair.
+///
+/// <details><summary>Contract</summary>
+///
+/// # Contract
+///
+/// ```text
+/// ensures value { Kerns result ≡ pair_found pair.now }
+/// ensures second { result.second ≡ pair.now.second }
+/// ```
+///
+/// - `pair_found`: `crates/opentype_gpos/specs/Moves.antt`
+///
+/// </details>
+pub fn values_of(pair: &PairPlace<'_>) -> PairMove {
+    let (format, second_format) = (u16_at(pair.bytes, 4), u16_at(pair.bytes, 6));
+    let values = part(pair.bytes, pair.place);
+    PairMove {
+        second: pair.second,
         first_value: value_at(values, 0, format),
         second_value: value_at(values, usize::from(size(format)), second_format),
         has_second: second_format != 0,
-    })
+    }
+}
+
+/// The same where the first glyph has an advance along the line, and the second one nothing.
+///
+/// <details><summary>Contract</summary>
+///
+/// # Contract
+///
+/// ```text
+/// requires first { u16_in pair.now.bytes.now 4 ≡ 4 }
+/// requires second { u16_in pair.now.bytes.now 6 ≡ 0 }
+/// ensures value { Kerns result ≡ pair_found pair.now }
+/// ensures second { result.second ≡ pair.now.second }
+/// ```
+///
+/// - `u16_in`: `crates/opentype_face/specs/Bytes.antt`
+/// - `pair_found`: `crates/opentype_gpos/specs/Moves.antt`
+///
+/// </details>
+#[inline]
+pub fn advance_of(pair: &PairPlace<'_>) -> PairMove {
+    let values = part(pair.bytes, pair.place);
+    PairMove {
+        second: pair.second,
+        first_value: value_at(values, 0, 4),
+        second_value: value_at(values, 2, 0),
+        has_second: false,
+    }
 }
 
 // The place of a glyph in a subtable's set, which stands at the same place in each type.
@@ -98,7 +150,11 @@ fn place_in_set(bytes: &[u8], glyph: &GlyphInfo) -> Option<u32> {
 // The values of a pair, by the place of the first glyph in the subtable's set.
 fn pair_of(bytes: &[u8], i: u32, glyphs: &[GlyphInfo], at: usize, second: usize) -> Option<Move> {
     match pair(bytes, i, number(&glyphs[at]), number(&glyphs[second])) {
-        Some(place) => Some(values_of(bytes, second, place)),
+        Some(place) => Some(Move::Kerns(values_of(&PairPlace {
+            bytes,
+            second,
+            place,
+        }))),
         None => None,
     }
 }
@@ -117,21 +173,26 @@ fn pair_at(
     }
 }
 
-// The same by tables of the subtable's glyphs.
-fn pair_of_table(
-    table: &PairTable<'_>,
+// Where the values are, by tables of the subtable's glyphs.
+#[inline]
+fn pair_of_table<'a>(
+    table: &PairTable<'a>,
     i: u32,
     glyphs: &[GlyphInfo],
     at: usize,
     second: usize,
-) -> Option<Move> {
+) -> Option<PairPlace<'a>> {
     match pair_in_table(table, i, number(&glyphs[at]), number(&glyphs[second])) {
-        Some(place) => Some(values_of(table.bytes(), second, place)),
+        Some(place) => Some(PairPlace {
+            bytes: table.bytes(),
+            second,
+            place,
+        }),
         None => None,
     }
 }
 
-/// What a subtable of type 2 does at a place, by tables of its glyphs.
+/// The pair that a subtable of type 2 has at a place, by tables of its glyphs.
 ///
 /// <details><summary>Contract</summary>
 ///
@@ -139,19 +200,21 @@ fn pair_of_table(
 ///
 /// ```text
 /// requires { at < length glyphs.now }
-/// ensures { result ≡ pair_move gdef.now sight.now table.now glyphs.now at }
+/// ensures { option_map pair_found result
+///     ≡ pair_move gdef.now sight.now table.now glyphs.now at }
 /// ```
 ///
-/// - `pair_move`: `crates/opentype_gpos/specs/Moves.antt`
+/// - `pair_found`, `pair_move`: `crates/opentype_gpos/specs/Moves.antt`
 ///
 /// </details>
-pub fn pair_by_table(
+#[inline]
+pub fn pair_by_table<'a>(
     gdef: &[u8],
     sight: &Sight,
-    table: &PairTable<'_>,
+    table: &PairTable<'a>,
     glyphs: &[GlyphInfo],
     at: usize,
-) -> Option<Move> {
+) -> Option<PairPlace<'a>> {
     let i = table.place(number(&glyphs[at]))?;
     match next_glyph(gdef, sight, glyphs, at + 1) {
         Some(second) => pair_of_table(table, i, glyphs, at, second),

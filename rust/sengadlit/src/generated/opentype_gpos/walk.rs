@@ -4,7 +4,7 @@
 
 use crate::generated::opentype_gpos::calling::apply_rule;
 use crate::generated::opentype_gpos::coming::{Came, come_to};
-use crate::generated::opentype_gpos::making::make_move;
+use crate::generated::opentype_gpos::making::{make_move, make_pair};
 use crate::generated::opentype_gpos::nearby::number;
 use crate::generated::opentype_gpos::pass::{Pass, Sights};
 use crate::generated::opentype_layout::sight::{Application, ignores_glyph};
@@ -30,6 +30,7 @@ fn step(
     }
     match come_to(pass, sights, lookup, glyphs, at) {
         Some(Came::Moves(change)) => make_move(pass.direction, &change, at, glyphs, positions),
+        Some(Came::Pairs(pair)) => make_pair(pass.direction, &pair, at, glyphs, positions),
         Some(Came::Fits(rule)) => {
             apply_rule(pass, &rule, glyphs, positions);
             rule.end
