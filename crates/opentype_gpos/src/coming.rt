@@ -92,12 +92,15 @@ fn come_among<'a>(
         (nth_came (setting_of pass.now) sights.now lookup.now glyphs.now at) 0 }
 {
     let glyph = number(&glyphs[at]);
-    let (count, mut from) = (subtable_count(lookup.bytes()), 0);
-    while from < count {
-        let i = lookup.next_start(true, glyph, from)?;
+    let mut from = 0;
+    while let Some(i) = lookup.next_start(true, glyph, from) {
         let found = come_by(pass, sights, lookup, i, glyphs, at);
         if found.is_some() {
             return found;
+        }
+        let count = subtable_count(lookup.bytes());
+        if i + 1 >= count {
+            return None;
         }
         from = i + 1;
     }

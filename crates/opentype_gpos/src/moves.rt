@@ -146,7 +146,11 @@ fn pair_of(
     ensures { result ≡ pair_with bytes.now glyphs.now at second }
 {
     match pair(bytes, i, number(&glyphs[at]), number(&glyphs[second])) {
-        Some(place) => Some(Move::Kerns(values_of(&PairPlace { bytes, second, place }))),
+        Some(place) => Some(Move::Kerns(values_of(&PairPlace {
+            bytes,
+            second,
+            place,
+        }))),
         None => None,
     }
 }
@@ -185,7 +189,11 @@ fn pair_of_table<'a>(
     ensures { option_map pair_found result ≡ pair_with table.now glyphs.now at second }
 {
     match pair_in_table(table, i, number(&glyphs[at]), number(&glyphs[second])) {
-        Some(place) => Some(PairPlace { bytes: table.bytes(), second, place }),
+        Some(place) => Some(PairPlace {
+            bytes: table.bytes(),
+            second,
+            place,
+        }),
         None => None,
     }
 }

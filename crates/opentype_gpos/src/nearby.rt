@@ -1,5 +1,5 @@
 //! The glyphs near another one that lookups look at.
-ghost use Rattle.std.specs.Prelude.{◌≡◌, ◌<◌, ◌≤◌, length, IfSome};
+ghost use Rattle.std.specs.Prelude.{◌≡◌, ◌<◌, ◌≤◌, ℕ, List, Some, true, length, IfSome};
 ghost use Rattle.opentype_gpos.specs.Nearby.{any_seen, are_beside, base_glyph_before, base_behind, carries_on, glyphs_between, is_base_at, is_later_part, marks_glyph, is_whole_ligature, ligature_id, mark_sight, next_any, number_in, previous_any};
 ghost use Rattle.opentype_face.specs.Firsts.{first_from};
 
@@ -40,6 +40,22 @@ fn next_behind(gdef: &[u8], sight: &Sight, glyphs: &[hb_glyph_info_t], from: usi
     None
 }
 
+// Whether a lookup sees a glyph that is no mark, and that no search passes over: most glyphs are so.
+#[inline]
+#[tactic(auto, unfolding(crate::specs::Nearby::any_seen, opentype_layout::specs::Sight::seen_as, opentype_layout::specs::Sight::ignores, opentype_layout::specs::Sight::may_pass))]
+fn sees_plainly(sight: &Sight, glyph: &hb_glyph_info_t) -> bool
+    ensures { (gdef : List ℕ) → result ≡ true → any_seen gdef sight.now glyph.now ≡ Some true }
+{
+    let props = glyph.glyph_props.0;
+    if props & sight.flag & 0x0E != 0 || props & 8 == 8 {
+        return false;
+    }
+    if glyph.unicode_props.0 & 32 == 32 || sight.syllable != 0 {
+        return false;
+    }
+    glyph.mask & sight.mask != 0
+}
+
 /// The next glyph from a place on that a lookup sees. Most often it is the first one, which is looked
 /// at without a loop.
 #[inline]
@@ -55,11 +71,10 @@ pub fn next_glyph(
     if from >= glyphs.len() {
         return None;
     }
-    match any(gdef, sight, &glyphs[from]) {
-        Some(true) => Some(from),
-        Some(false) => None,
-        None => next_behind(gdef, sight, glyphs, from + 1),
+    if sees_plainly(sight, &glyphs[from]) {
+        return Some(from);
     }
+    next_behind(gdef, sight, glyphs, from)
 }
 
 // The nearest glyph before a place that a lookup sees, by how many glyphs stand between.

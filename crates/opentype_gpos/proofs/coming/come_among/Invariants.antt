@@ -4,8 +4,8 @@ use Rattle.opentype_gpos.specs.Coming.{setting_of}
 use Rattle.opentype_gpos.proofs.Unbegun.{IsTried}
 use Rattle.opentype_gpos.proofs.coming.come_among.Given as goal
 
-abbrev pub invariant-loop-from : goal.invariant-loop-from
-invariant-loop-from l = IsTried (setting_of l.pass) l.sights l.lookup l.glyphs l.at l.from
+abbrev pub invariant-loop-i : goal.invariant-loop-i
+invariant-loop-i l = IsTried (setting_of l.pass) l.sights l.lookup l.glyphs l.at l.from
 
-abbrev pub decreases-loop-from : goal.decreases-loop-from
-decreases-loop-from l = u16_in l.lookup 4 - l.from
+abbrev pub decreases-loop-i : goal.decreases-loop-i
+decreases-loop-i l = u16_in l.lookup 4 - l.from

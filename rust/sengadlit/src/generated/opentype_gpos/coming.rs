@@ -75,12 +75,15 @@ fn come_among<'a>(
     at: usize,
 ) -> Option<Came<'a>> {
     let glyph = number(&glyphs[at]);
-    let (count, mut from) = (subtable_count(lookup.bytes()), 0);
-    while from < count {
-        let i = lookup.next_start(true, glyph, from)?;
+    let mut from = 0;
+    while let Some(i) = lookup.next_start(true, glyph, from) {
         let found = come_by(pass, sights, lookup, i, glyphs, at);
         if found.is_some() {
             return found;
+        }
+        let count = subtable_count(lookup.bytes());
+        if i + 1 >= count {
+            return None;
         }
         from = i + 1;
     }

@@ -43,6 +43,19 @@ fn next_behind(gdef: &[u8], sight: &Sight, glyphs: &[GlyphInfo], from: usize) ->
     None
 }
 
+// Whether a lookup sees a glyph that is no mark, and that no search passes over: most glyphs are so.
+#[inline]
+fn sees_plainly(sight: &Sight, glyph: &GlyphInfo) -> bool {
+    let props = glyph.glyph_props.0;
+    if props & sight.flag & 0x0E != 0 || props & 8 == 8 {
+        return false;
+    }
+    if glyph.unicode_props.0 & 32 == 32 || sight.syllable != 0 {
+        return false;
+    }
+    glyph.mask & sight.mask != 0
+}
+
 /// The next glyph from a place on that a lookup sees. Most often it is the first one, which is looked
 /// at without a loop.
 ///
@@ -63,11 +76,10 @@ pub fn next_glyph(gdef: &[u8], sight: &Sight, glyphs: &[GlyphInfo], from: usize)
     if from >= glyphs.len() {
         return None;
     }
-    match any(gdef, sight, &glyphs[from]) {
-        Some(true) => Some(from),
-        Some(false) => None,
-        None => next_behind(gdef, sight, glyphs, from + 1),
+    if sees_plainly(sight, &glyphs[from]) {
+        return Some(from);
     }
+    next_behind(gdef, sight, glyphs, from)
 }
 
 // The nearest glyph before a place that a lookup sees, by how many glyphs stand between.
