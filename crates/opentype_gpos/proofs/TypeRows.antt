@@ -9,10 +9,12 @@ use Rattle.opentype_face.specs.Ranges.{bisect}
 use Rattle.opentype_gpos.specs.Anchors.{component_point, ligature_point, ligature_points_by, ligature_points_in, points_by, points_in}
 use Rattle.opentype_gpos.specs.Finished.{finished_from, chain_followed, hung_on, joined_to, let_go, link_at, pen_along, pen_behind, pen_between, placed_on, target_in}
 use Rattle.opentype_gpos.specs.Moved.{Positions, with_mark_move, with_value}
-use Rattle.opentype_gpos.specs.Moves.{component_for}
+use Rattle.opentype_gpos.specs.Moves.{component_for, pair_found}
 use Rattle.opentype_gpos.specs.Nearby.{are_beside, carries_on}
 use Rattle.opentype_gpos.specs.Values.{class_pair, pair_in, single_in, size_of, value_in}
 use Rattle.opentype_gpos.specs.declared.anchors.Point.{Point}
+use Rattle.opentype_gpos.specs.declared.moves.Move.TheVariants.{Kerns}
+use Rattle.opentype_gpos.specs.declared.moves.PairPlace.{PairPlace}
 use Rattle.opentype_gpos.specs.declared.values.Value.{Value}
 
 abbrev value : ℤ → ℤ → ℤ → ℤ → Value
@@ -73,6 +75,30 @@ pair_none = refl
 
 pair_value : value_in (part_in nearer 16) 0 4 ≡ value (pos 0) (pos 0) (negsuc 29) (pos 0)
 pair_value = refl
+
+-- a pair that code found the place of: glyph 7 stands at place 3, and has no value of its own
+found_nearer : (it : PairPlace) → it.bytes.now ≡ nearer → it.second ≡ 3 → it.place ≡ 16 →
+    pair_found it ≡ Kerns (record {
+      second = 3;
+      first_value = value (pos 0) (pos 0) (negsuc 29) (pos 0);
+      second_value = value (pos 0) (pos 0) (pos 0) (pos 0);
+      has_second = false;
+    })
+found_nearer it bytes second place = rw (bytes, second, place) refl
+
+-- and where each has a value: behind the first one's there is the second one's
+abbrev both_nearer : List ℕ
+both_nearer = 0 ∷ 1 ∷ 0 ∷ 20 ∷ 0 ∷ 5 ∷ 0 ∷ 8 ∷ 0 ∷ 1 ∷ 0 ∷ 12
+    ∷ 0 ∷ 1 ∷ 0 ∷ 7 ∷ 0 ∷ 9 ∷ 255 ∷ 226 ∷ 0 ∷ 2 ∷ []
+
+found_both : (it : PairPlace) → it.bytes.now ≡ both_nearer → it.second ≡ 1 → it.place ≡ 16 →
+    pair_found it ≡ Kerns (record {
+      second = 1;
+      first_value = value (pos 9) (pos 0) (negsuc 29) (pos 0);
+      second_value = value (pos 0) (pos 0) (pos 0) (pos 2);
+      has_second = true;
+    })
+found_both it bytes second place = rw (bytes, second, place) refl
 
 -- format 2: glyph 5 is of class 0, glyph 9 of class 1 as a second one, and others of class 0
 abbrev with_classes : ℕ → ℕ → List ℕ
