@@ -57,8 +57,8 @@ fn size_by_bits(format: u16) -> u16 {
     2 * (half + bit(format, 16) + bit(format, 32) + bit(format, 64) + bit(format, 128))
 }
 
-/// How many bytes the values of a format take. Most fonts have nothing but advances along the line
-/// in pairs, which takes no look at each bit.
+/// How many bytes the values of a format take: two for each bit. Those that fonts have are read from
+/// a table.
 ///
 /// <details><summary>Contract</summary>
 ///
@@ -76,7 +76,10 @@ fn size_by_bits(format: u16) -> u16 {
 pub fn size(format: u16) -> u16 {
     match format {
         0 => 0,
-        4 => 2,
+        1 | 2 | 4 | 8 => 2,
+        3 | 5 | 6 | 9 | 10 | 12 => 4,
+        7 | 11 | 13 | 14 => 6,
+        15 => 8,
         _ => size_by_bits(format),
     }
 }
