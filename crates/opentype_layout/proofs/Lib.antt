@@ -7,6 +7,7 @@ pub mod Keyed
 mod BitPlaces
 mod Grids
 mod Headed
+mod RowMarks
 mod Unfollowed
 mod Flags
 mod Listed
@@ -14,6 +15,7 @@ mod PairsListed
 mod RuleRows
 mod KeyRows
 mod StartRows
+mod LookupRowRows
 mod SightRows
 mod FeatureRows
 mod InputRows

@@ -8,3 +8,4 @@ pub mod Bits
 pub mod Starts
 pub mod Keys
 pub mod PairTables
+pub mod LookupRows

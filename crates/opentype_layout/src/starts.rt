@@ -2,12 +2,15 @@
 ghost use Rattle.std.specs.Prelude.{◌≡◌, ◌<◌, ◌≤◌, List, ℕ, false, true, length, min, IfSome, unwrap_or};
 ghost use Rattle.opentype_face.specs.Bytes.{u16_in};
 ghost use Rattle.opentype_face.specs.Lookups.{subtable_in, type_in};
+ghost use Rattle.opentype_layout.specs.Bits.{Grown};
+ghost use Rattle.opentype_layout.specs.LookupRows.{BeginsNot, row_bit};
 ghost use Rattle.opentype_layout.specs.PairTables.{ArePairTables};
 ghost use Rattle.opentype_layout.specs.Starts.{AreHeads, ArePassed, IsStarts, NoneStarts};
 
 use crate::bits::first_bit;
 use crate::grid::Grid;
 use crate::heads::{headed_place, heads_of, masked_place};
+use crate::lookup_rows::mark_column;
 use crate::pair_tables::{LookupPairs, PairTable};
 use crate::sets::{span, start};
 use crate::sight::number;
@@ -141,6 +144,25 @@ impl<'a> Starts<'a> {
         ensures { result.now ≡ self.now }
     {
         self.lookup
+    }
+
+    /// How many glyphs there are up to the last one that it may begin at.
+    pub(crate) fn end_of_heads(&self) -> usize {
+        usize::from(self.grid.first) + self.grid.rows as usize
+    }
+
+    /// Sets the lookup's bit in the rows of the glyphs that it may begin at. It can't where it has no
+    /// bits, is of GPOS, or such a glyph has no row.
+    pub(crate) fn mark_rows(&self, words: &mut [u64], index: usize) -> bool
+        requires { index < 128 }
+        ensures grown { Grown words.old words.new }
+        ensures out { result ≡ true → (glyph : ℕ) → row_bit words.new glyph index ≡ 0 →
+            BeginsNot self.now glyph }
+    {
+        if self.of_gpos || !self.is_made {
+            return false;
+        }
+        mark_column(words, index, self.grid.first, &self.heads)
     }
 
     /// The first subtable from one on that may begin at a glyph.

@@ -1,17 +1,23 @@
 //! GSUB or GPOS, with the bits of its lookups.
-ghost use Rattle.std.specs.Prelude.{◌≡◌, List, ℕ};
+ghost use Rattle.std.specs.Prelude.{◌≡◌, List, ℕ, IfSome};
+ghost use Rattle.opentype_face.specs.Bytes.{part_in, u16_in};
 ghost use Rattle.opentype_face.specs.Lookups.{lookup_in};
+ghost use Rattle.opentype_layout.specs.LookupRows.{AreAbsent, AreRows};
 ghost use Rattle.opentype_layout.specs.Starts.{AreStarts};
 
+use crate::lookup_rows::{LookupBits, lookup_rows, rows_of};
 use crate::pair_tables::LookupPairs;
 use crate::starts::{LookupTable, Starts};
 use opentype_face::bytes::{offset16, part, u16_at};
 use opentype_face::lookup::lookup;
+use shapers_buffer::buffer::hb_glyph_info_t;
 use std::alloc::Global;
 use std::marker::Model;
 
-// How many lookups there are.
-fn lookup_count(bytes: &[u8]) -> u16 {
+/// How many lookups there are.
+pub(crate) fn lookup_count(bytes: &[u8]) -> u16
+    ensures { result ≡ u16_in (part_in bytes.now (u16_in bytes.now 8)) 0 }
+{
     u16_at(part(bytes, offset16(bytes, 8)), 0)
 }
 
@@ -54,6 +60,7 @@ pub struct PreparedTable<'a> {
     bytes: &'a [u8],
     starts: Vec<Starts<'a>>,
     pairs: Vec<LookupPairs<'a>>,
+    rows: Option<Vec<u64>>,
 }
 
 impl<'a> Model for PreparedTable<'a> {
@@ -62,12 +69,13 @@ impl<'a> Model for PreparedTable<'a> {
     ghost view = { λ it. it.bytes.now };
 
     ghost invariant = { λ it. AreStarts it.bytes.now it.starts.items ×
-        AreStarts it.bytes.now it.pairs.items };
+        (AreStarts it.bytes.now it.pairs.items ×
+        IfSome it.rows (λ rows. AreRows it.bytes.now rows.items)) };
 }
 
 impl<'a> PreparedTable<'a> {
     /// GSUB or GPOS. Lookups for which memory or a budget in bytes doesn't suffice have no bits, and their pairs no
-    /// tables.
+    /// tables; GSUB has rows of bits by glyph where both suffice and all lookups have bits.
     pub fn new(alloc: Global, of_gpos: bool, bytes: &'a [u8], budget: usize) -> Self
         ensures { result ≡ bytes.now }
     {
@@ -78,10 +86,16 @@ impl<'a> PreparedTable<'a> {
         } else {
             Vec::new(alloc)
         };
+        let rows = if of_gpos {
+            None
+        } else {
+            lookup_rows(alloc, bytes, &starts, &mut left)
+        };
         PreparedTable {
             bytes,
             starts,
             pairs,
+            rows,
         }
     }
 
@@ -94,6 +108,10 @@ impl<'a> PreparedTable<'a> {
             bytes: self.bytes,
             starts: self.starts.as_slice(),
             pairs: self.pairs.as_slice(),
+            rows: match &self.rows {
+                Some(rows) => Some(rows.as_slice()),
+                None => None,
+            },
         }
     }
 }
@@ -104,6 +122,7 @@ pub struct LayoutTable<'a> {
     bytes: &'a [u8],
     starts: &'a [Starts<'a>],
     pairs: &'a [LookupPairs<'a>],
+    rows: Option<&'a [u64]>,
 }
 
 impl<'a> Model for LayoutTable<'a> {
@@ -112,7 +131,8 @@ impl<'a> Model for LayoutTable<'a> {
     ghost view = { λ it. it.bytes.now };
 
     ghost invariant = { λ it. AreStarts it.bytes.now it.starts.now ×
-        AreStarts it.bytes.now it.pairs.now };
+        (AreStarts it.bytes.now it.pairs.now ×
+        IfSome it.rows (λ rows. AreRows it.bytes.now rows.now)) };
 }
 
 impl<'a> LayoutTable<'a> {
@@ -125,6 +145,19 @@ impl<'a> LayoutTable<'a> {
             bytes,
             starts: &[],
             pairs: &[],
+            rows: None,
+        }
+    }
+
+    /// The lookups of GSUB that may begin in a text, as bits by their numbers, if they are known:
+    /// those of the first 128 whose bit isn't set begin at no glyph.
+    #[inline]
+    pub fn present(&self, glyphs: &[hb_glyph_info_t]) -> Option<LookupBits>
+        ensures { IfSome result (λ bits. AreAbsent self.now bits glyphs.now) }
+    {
+        match self.rows {
+            Some(rows) => Some(rows_of(rows, glyphs)),
+            None => None,
         }
     }
 

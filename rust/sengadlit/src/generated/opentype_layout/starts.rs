@@ -8,6 +8,7 @@ use crate::generated::opentype_face::lookup::subtable_count;
 use crate::generated::opentype_layout::bits::first_bit;
 use crate::generated::opentype_layout::grid::Grid;
 use crate::generated::opentype_layout::heads::{headed_place, heads_of, masked_place};
+use crate::generated::opentype_layout::lookup_rows::mark_column;
 use crate::generated::opentype_layout::pair_tables::{LookupPairs, PairTable};
 use crate::generated::opentype_layout::sets::{span, start};
 use crate::generated::opentype_layout::sight::number;
@@ -137,6 +138,20 @@ impl<'a> Starts<'a> {
     #[inline]
     pub fn lookup(&self) -> &'a [u8] {
         self.lookup
+    }
+
+    /// How many glyphs there are up to the last one that it may begin at.
+    pub(crate) fn end_of_heads(&self) -> usize {
+        usize::from(self.grid.first) + self.grid.rows as usize
+    }
+
+    /// Sets the lookup's bit in the rows of the glyphs that it may begin at. It can't where it has no
+    /// bits, is of GPOS, or such a glyph has no row.
+    pub(crate) fn mark_rows(&self, words: &mut [u64], index: usize) -> bool {
+        if self.of_gpos || !self.is_made {
+            return false;
+        }
+        mark_column(words, index, self.grid.first, &self.heads)
     }
 
     /// The first subtable from one on that may begin at a glyph.

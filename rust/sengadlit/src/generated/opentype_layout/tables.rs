@@ -6,12 +6,14 @@ use crate::support::prelude::*;
 
 use crate::generated::opentype_face::bytes::{offset16, part, u16_at};
 use crate::generated::opentype_face::lookup::lookup;
+use crate::generated::opentype_layout::lookup_rows::{LookupBits, lookup_rows, rows_of};
 use crate::generated::opentype_layout::pair_tables::LookupPairs;
 use crate::generated::opentype_layout::starts::{LookupTable, Starts};
+use crate::generated::shapers_buffer::buffer::GlyphInfo;
 use crate::support::alloc::Global;
 
-// How many lookups there are.
-fn lookup_count(bytes: &[u8]) -> u16 {
+/// How many lookups there are.
+pub(crate) fn lookup_count(bytes: &[u8]) -> u16 {
     u16_at(part(bytes, offset16(bytes, 8)), 0)
 }
 
@@ -50,11 +52,12 @@ pub struct PreparedTable<'a> {
     bytes: &'a [u8],
     starts: Vec<Starts<'a>>,
     pairs: Vec<LookupPairs<'a>>,
+    rows: Option<Vec<u64>>,
 }
 
 impl<'a> PreparedTable<'a> {
     /// GSUB or GPOS. Lookups for which memory or a budget in bytes doesn't suffice have no bits, and their pairs no
-    /// tables.
+    /// tables; GSUB has rows of bits by glyph where both suffice and all lookups have bits.
     ///
     /// <details><summary>Contract</summary>
     ///
@@ -73,10 +76,16 @@ impl<'a> PreparedTable<'a> {
         } else {
             Vec::new(alloc)
         };
+        let rows = if of_gpos {
+            None
+        } else {
+            lookup_rows(alloc, bytes, &starts, &mut left)
+        };
         PreparedTable {
             bytes,
             starts,
             pairs,
+            rows,
         }
     }
 
@@ -97,6 +106,10 @@ impl<'a> PreparedTable<'a> {
             bytes: self.bytes,
             starts: self.starts.as_slice(),
             pairs: self.pairs.as_slice(),
+            rows: match &self.rows {
+                Some(rows) => Some(rows.as_slice()),
+                None => None,
+            },
         }
     }
 }
@@ -107,6 +120,7 @@ pub struct LayoutTable<'a> {
     bytes: &'a [u8],
     starts: &'a [Starts<'a>],
     pairs: &'a [LookupPairs<'a>],
+    rows: Option<&'a [u64]>,
 }
 
 impl<'a> LayoutTable<'a> {
@@ -127,6 +141,29 @@ impl<'a> LayoutTable<'a> {
             bytes,
             starts: &[],
             pairs: &[],
+            rows: None,
+        }
+    }
+
+    /// The lookups of GSUB that may begin in a text, as bits by their numbers, if they are known:
+    /// those of the first 128 whose bit isn't set begin at no glyph.
+    ///
+    /// <details><summary>Contract</summary>
+    ///
+    /// # Contract
+    ///
+    /// ```text
+    /// ensures { IfSome result (λ bits. AreAbsent self.now bits glyphs.now) }
+    /// ```
+    ///
+    /// - `AreAbsent`: `crates/opentype_layout/specs/LookupRows.antt`
+    ///
+    /// </details>
+    #[inline]
+    pub fn present(&self, glyphs: &[GlyphInfo]) -> Option<LookupBits> {
+        match self.rows {
+            Some(rows) => Some(rows_of(rows, glyphs)),
+            None => None,
         }
     }
 

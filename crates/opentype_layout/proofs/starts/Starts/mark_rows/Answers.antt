@@ -1,0 +1,7 @@
+use Rattle.opentype_layout.proofs.RowMarks.{column_of}
+use Rattle.opentype_layout.proofs.starts.Starts.mark_rows.Goals as goal
+
+pub returns-clause-out : goal.returns-clause-out
+returns-clause-out c = λ on. column_of _ _ _ _ _
+    (rw (c.if-self.false, c.self.view_is) at (c.self.invariant.1.1 c.if-not-self.false))
+    (rw c.deref.ensures.value at (c.mark_column.ensures.out on))
