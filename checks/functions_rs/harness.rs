@@ -4,7 +4,7 @@
 use crate::alloc::{ArrayVec, Global, Vec as List};
 use crate::buffer::{
     Buffer, BufferClusterLevel, BufferFlags, Direction, GeneralCategory, GlyphInfo, GlyphPosition, GlyphProps, LigProps,
-    Script, Span, Tag, UnicodeProps,
+    LookupRecord, Script, Span, Tag, UnicodeProps,
 };
 use crate::font::{Font, GlyphId, Tables};
 use crate::generated::opentype_face::glyph_tables::{PreparedClassDef, PreparedCoverage};
@@ -465,6 +465,12 @@ impl Draw for Buffer {
         buffer.set_post_context(&Vec::draw(choices));
         buffer.set_has_broken_syllable(bool::draw(choices));
         buffer.set_has_stch(bool::draw(choices));
+        buffer.set_lookup_record(LookupRecord {
+            ligature_serial: u8::draw(choices),
+            random_state: u32::draw(choices),
+            operations_left: choices.one_of(&[0, 1, 5, 65536]),
+            is_complete: bool::draw(choices),
+        });
         buffer
     }
 }
