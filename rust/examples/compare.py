@@ -30,6 +30,9 @@ CODES = {
 FROM_RIGHT = {"Arab", "Syrc", "Hebr", "Nkoo", "Adlm", "Rohg", "Mand"}
 UNIVERSAL = {"Sinh", "Tibt", "Mong", "Nkoo", "Adlm", "Cakm", "Mtei", "Rohg", "Java", "Bali", "Lana", "Phag", "Mand", "Brah", "Gran"}
 
+# Fonts beside those of the texts: in this one a question to the font about rules with context decides which consonant is the base.
+MORE_FONTS = {"Oriya": ["usr/share/fonts/truetype/freefont/FreeSerif.ttf"]}
+
 KINDS = ["real", "torn", "random", "long"]
 
 REASONS = {
@@ -124,6 +127,7 @@ def main():
     work = []
     for line in pathlib.Path(folder, "scripts").read_text(encoding="utf-8").splitlines():
         script, *fonts = line.split("\t")
+        fonts += MORE_FONTS.get(script, [])
         work += [(script, Font(root, font, shape, hb_shape, CODES[script])) for font in fonts]
     paths = [(script, font, kind, f"{folder}/{script}.{kind}") for script, font in work for kind in KINDS]
     paths = [row for row in paths if os.path.getsize(row[3])]
