@@ -131,7 +131,7 @@
 //!   | [`checked_postprocess_glyphs`] | [`postprocess_glyphs`] | one position per glyph; for Arabic, its data in the plan, and glyph numbers of at most 65535 |
 //! - **Fonts and tables.** A [`Font`] and [`Tables`] return the same result for the same arguments. A
 //!   font that overrides [`Font::has_glyph`] or [`Font::would_apply_any`] returns what the provided
-//!   method would.
+//!   method would, and one that overrides [`Font::may_panic`] doesn't panic.
 //! - **Refusals.** A call that returns a [`ShaperError`] has changed nothing.
 //! - **Panics.** A hook or pause whose font or tables panic leaves the buffer as it was, or empty:
 //!   see [`Font`](crate::font::Font#what-a-panic-leaves).
