@@ -1,3 +1,4 @@
 pub mod Tests
 mod WouldApplyRows
 mod ScriptFeatureRows
+mod Absent

@@ -9,9 +9,10 @@ use opentype_gsub::growth::growth;
 use opentype_gsub::pass::LookupUse;
 use opentype_gsub::substitute::substitute;
 use opentype_layout::face_tables::FaceTables;
+use opentype_layout::lookup_rows::LookupBits;
 use opentype_layout::sight::Application;
 use shapers_base::buffer::{GlyphProps, ShaperError, hb_buffer_t, hb_glyph_info_t};
-use shapers_pipeline::Lookups;
+use shapers_pipeline::{Lookups, PresentLookups};
 use shapers_plan::ot_map::StageLookup;
 use shapers_position::ot_shape_position::GlyphClasses;
 
@@ -120,6 +121,13 @@ impl<'a> Lookups for OpenTypeFont<'a> {
             &use_for(lookup),
             buffer,
         )
+    }
+
+    fn present(&self, buffer: &hb_buffer_t) -> Option<PresentLookups> {
+        match self.tables.gsub().present(buffer.glyphs()) {
+            Some(LookupBits { low, high }) => Some(PresentLookups { low, high }),
+            None => None,
+        }
     }
 
     fn position(&self, lookup: &StageLookup, buffer: &mut hb_buffer_t) -> Result<(), ShaperError> {

@@ -14,6 +14,7 @@ mod PositionClusters
 mod PositionedRows
 mod PreparedClusters
 mod PreparedRows
+mod PresentRows
 mod PutBack
 mod RefusalRows
 mod StageClusters

@@ -140,14 +140,15 @@
 //! ```
 
 pub use crate::generated::shapers_pipeline::{
-    Lookups, ShapeSettings, Single, SingleLookups, StagePlan, TextPlan, length_bound, prepare_text,
-    run_stages, shape, substitute_text,
+    Lookups, PresentLookups, ShapeSettings, Single, SingleLookups, StagePlan, TextPlan,
+    length_bound, prepare_text, run_stages, shape, substitute_text,
 };
 
 #[cfg(test)]
 mod tests {
     use super::{
-        Lookups, ShapeSettings, Single, SingleLookups, length_bound, shape, substitute_text,
+        Lookups, PresentLookups, ShapeSettings, Single, SingleLookups, length_bound, shape,
+        substitute_text,
     };
     use crate::alloc::Global;
     use crate::buffer::{

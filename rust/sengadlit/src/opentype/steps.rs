@@ -6,7 +6,7 @@ use super::scale::Scale;
 use crate::buffer::{Buffer, GlyphInfo, GlyphProps, ShaperError};
 use crate::font::GlyphId;
 use crate::generated::opentype_font::font::OpenTypeFont;
-use crate::ot_shape::Lookups;
+use crate::ot_shape::{Lookups, PresentLookups};
 use crate::ot_shape_plan::{EnginePlan, StageLookup};
 use crate::ot_shape_position::GlyphClasses;
 use core::cell::Cell;
@@ -104,6 +104,16 @@ impl Lookups for Steps<'_> {
         self.font.substitute(lookup, buffer)?;
         self.tell(ShapeStep::SubstitutionEnds(lookup.index), buffer);
         Ok(())
+    }
+
+    // (all of them where somebody is told of each, and where glyph 0 is yet to be put out)
+    fn present(&self, buffer: &Buffer) -> Option<PresentLookups> {
+        let is_to_put =
+            self.not_found.is_some() && buffer.glyphs().iter().any(|glyph| glyph.glyph_id == 0);
+        if self.told.is_some() || is_to_put {
+            return None;
+        }
+        self.font.present(buffer)
     }
 
     fn position(&self, lookup: &StageLookup, buffer: &mut Buffer) -> Result<(), ShaperError> {

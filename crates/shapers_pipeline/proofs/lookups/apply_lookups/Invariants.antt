@@ -3,7 +3,7 @@ use Rattle.std.proofs.Common.{◌≡◌, ◌≤◌, [], drop, length}
 use Rattle.shapers_buffer.specs.Buffer.{Buffer}
 use Rattle.shapers_buffer.specs.declared.buffer.refusal.ShaperError.{ShaperError}
 use Rattle.shapers_pipeline.specs.Lengths.{looked_up_bound}
-use Rattle.shapers_pipeline.specs.Lookups.{StoppedIn, looked_up}
+use Rattle.shapers_pipeline.specs.Lookups.{AreSeen, StoppedIn, looked_up}
 use Rattle.shapers_pipeline.proofs.lookups.apply_lookups.Given as goal
 
 abbrev pub invariant-loop-lookup : goal.invariant-loop-lookup
@@ -14,6 +14,7 @@ invariant-loop-lookup g l =
     let rest = drop l.lookup-index l.list in
     record {
       positions : l.buffer.positions ≡ [];
+      seen : AreSeen f l.seen l.buffer;
       limit : l.buffer.max_len ≡ l.initial.buffer.max_len;
       few : looked_up_bound growth rest (length l.buffer.glyphs)
           ≤ looked_up_bound growth l.list (length l.initial.buffer.glyphs);

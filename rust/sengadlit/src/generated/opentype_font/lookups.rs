@@ -9,9 +9,10 @@ use crate::generated::opentype_gsub::growth::growth;
 use crate::generated::opentype_gsub::pass::LookupUse;
 use crate::generated::opentype_gsub::substitute::substitute;
 use crate::generated::opentype_layout::face_tables::FaceTables;
+use crate::generated::opentype_layout::lookup_rows::LookupBits;
 use crate::generated::opentype_layout::sight::Application;
 use crate::generated::shapers_base::buffer::{Buffer, GlyphInfo, GlyphProps, ShaperError};
-use crate::generated::shapers_pipeline::Lookups;
+use crate::generated::shapers_pipeline::{Lookups, PresentLookups};
 use crate::generated::shapers_plan::ot_map::StageLookup;
 use crate::generated::shapers_position::ot_shape_position::GlyphClasses;
 
@@ -82,6 +83,13 @@ impl<'a> Lookups for OpenTypeFont<'a> {
             &use_for(lookup),
             buffer,
         )
+    }
+
+    fn present(&self, buffer: &Buffer) -> Option<PresentLookups> {
+        match self.tables.gsub().present(buffer.glyphs()) {
+            Some(LookupBits { low, high }) => Some(PresentLookups { low, high }),
+            None => None,
+        }
     }
 
     fn position(&self, lookup: &StageLookup, buffer: &mut Buffer) -> Result<(), ShaperError> {

@@ -12,6 +12,27 @@ use crate::generated::shapers_plan::ot_map::StageLookup;
 use crate::generated::shapers_position::ot_shape_position::GlyphClasses;
 use crate::generated::shapers_spans::{Indic, Khmer, Machine, Myanmar, Universal, spans_into};
 
+/// Lookups of GSUB by their numbers: one from 128 on, or whose bit is set, may change a text.
+#[derive(Clone, Copy, Debug)]
+pub struct PresentLookups {
+    /// The bits of the first 64 lookups.
+    pub low: u64,
+    /// The bits of the next 64.
+    pub high: u64,
+}
+
+// Whether a lookup is none of these.
+#[inline]
+fn is_absent(present: Option<PresentLookups>, index: u16) -> bool {
+    match present {
+        Some(PresentLookups { low, high }) => {
+            let word = if index < 64 { low } else { high };
+            index < 128 && word >> (index % 64) & 1 == 0
+        }
+        None => false,
+    }
+}
+
 /// The lookups of a font's GSUB and GPOS. Each is a function of the text: the same text becomes the
 /// same.
 pub trait Lookups: GlyphClasses {
@@ -73,6 +94,27 @@ pub trait Lookups: GlyphClasses {
     /// [`Memory`]: crate::ShaperError::Memory
     /// [`TooLong`]: crate::ShaperError::TooLong
     fn substitute(&self, lookup: &StageLookup, buffer: &mut Buffer) -> Result<(), ShaperError>;
+
+    /// The lookups of GSUB that may change a text, if it is known at once which others leave it as it
+    /// is: shaping passes over these. They are asked for before the first lookup of a stage, and
+    /// behind each one that is applied.
+    ///
+    /// <details><summary>Contract</summary>
+    ///
+    /// # Contract
+    ///
+    /// ```text
+    /// ensures { IfSome result (λ present. (lookup : StageLookup) → IsAbsent present lookup.index →
+    ///     substituted self.now lookup _buffer.now ≡ _buffer.now) }
+    /// ```
+    ///
+    /// - `IsAbsent`: `crates/shapers_pipeline/specs/Lookups.antt`
+    ///
+    /// </details>
+    #[inline]
+    fn present(&self, _buffer: &Buffer) -> Option<PresentLookups> {
+        None
+    }
 
     /// Applies a lookup of GPOS to a text of glyphs with positions. It writes these and glyph
     /// flags alone.
@@ -138,14 +180,74 @@ impl<'a, L: Lookups> GlyphChange for Noting<'a, L> {
     }
 }
 
+// The lookups that may change a text, if they are known, and whether these are the ones of the text
+// as it is now.
+#[derive(Clone, Copy)]
+struct Seen {
+    present: Option<PresentLookups>,
+    is_fresh: bool,
+}
+
+// What is known before the first of these lookups. (A few are tried as soon as those that are present
+// are found.)
+#[inline]
+fn seen_before<L: Lookups>(lookups: &L, list: &[StageLookup], buffer: &Buffer) -> Seen {
+    let present = if list.len() > 2 {
+        lookups.present(buffer)
+    } else {
+        None
+    };
+    Seen {
+        present,
+        is_fresh: true,
+    }
+}
+
+// Whether a lookup is known to leave a text as it is; what was known before another lookup is asked
+// anew, if it says so.
+#[inline]
+fn is_left<L: Lookups>(
+    lookups: &L,
+    lookup: &StageLookup,
+    seen: &mut Seen,
+    buffer: &Buffer,
+) -> bool {
+    if !is_absent(seen.present, lookup.index) {
+        return false;
+    }
+    if seen.is_fresh {
+        return true;
+    }
+    seen.present = lookups.present(buffer);
+    seen.is_fresh = true;
+    is_absent(seen.present, lookup.index)
+}
+
+// Applies a lookup, unless it is known to leave the text as it is.
+#[inline]
+fn apply_present<L: Lookups>(
+    lookups: &L,
+    lookup: &StageLookup,
+    seen: &mut Seen,
+    buffer: &mut Buffer,
+) -> Result<(), ShaperError> {
+    if is_left(lookups, lookup, seen, buffer) {
+        return Ok(());
+    }
+    seen.is_fresh = false;
+    lookups.substitute(lookup, buffer)
+}
+
 // Applies lookups, one after another.
+#[inline]
 pub(crate) fn apply_lookups<L: Lookups>(
     lookups: &L,
     list: &[StageLookup],
     buffer: &mut Buffer,
 ) -> Result<(), ShaperError> {
+    let mut seen = seen_before(lookups, list, buffer);
     for lookup in list {
-        lookups.substitute(lookup, buffer)?;
+        apply_present(lookups, lookup, &mut seen, buffer)?;
     }
     Ok(())
 }
