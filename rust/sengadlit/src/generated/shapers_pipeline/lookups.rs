@@ -12,16 +12,16 @@ use crate::generated::shapers_plan::ot_map::StageLookup;
 use crate::generated::shapers_position::ot_shape_position::GlyphClasses;
 use crate::generated::shapers_spans::{Indic, Khmer, Machine, Myanmar, Universal, spans_into};
 
-/// Lookups of GSUB by their numbers: one from 128 on, or whose bit is set, may change a text.
+/// The lookups of GSUB that may change a text: those from number 128 on, and those whose bit is set.
 #[derive(Clone, Copy, Debug)]
 pub struct PresentLookups {
-    /// The bits of the first 64 lookups.
+    /// The bits of lookups 0 to 63, the lowest bit first.
     pub low: u64,
-    /// The bits of the next 64.
+    /// The bits of lookups 64 to 127.
     pub high: u64,
 }
 
-// Whether a lookup is none of these.
+// Whether a lookup is known to be none of these.
 #[inline]
 fn is_absent(present: Option<PresentLookups>, index: u16) -> bool {
     match present {
@@ -95,9 +95,9 @@ pub trait Lookups: GlyphClasses {
     /// [`TooLong`]: crate::ShaperError::TooLong
     fn substitute(&self, lookup: &StageLookup, buffer: &mut Buffer) -> Result<(), ShaperError>;
 
-    /// The lookups of GSUB that may change a text, if it is known at once which others leave it as it
-    /// is: shaping passes over these. They are asked for before the first lookup of a stage, and
-    /// behind each one that is applied.
+    /// The lookups of GSUB that may change a text, if it is known at once which others leave the text
+    /// as it is: shaping passes over these. It is asked for before the first lookup of a stage of
+    /// three or more, and anew behind lookups that were applied. By default nothing is known.
     ///
     /// <details><summary>Contract</summary>
     ///
@@ -105,14 +105,15 @@ pub trait Lookups: GlyphClasses {
     ///
     /// ```text
     /// ensures { IfSome result (λ present. (lookup : StageLookup) → IsAbsent present lookup.index →
-    ///     substituted self.now lookup _buffer.now ≡ _buffer.now) }
+    ///     substituted self.now lookup buffer.now ≡ buffer.now) }
     /// ```
     ///
     /// - `IsAbsent`: `crates/shapers_pipeline/specs/Lookups.antt`
     ///
     /// </details>
     #[inline]
-    fn present(&self, _buffer: &Buffer) -> Option<PresentLookups> {
+    fn present(&self, buffer: &Buffer) -> Option<PresentLookups> {
+        let _ = buffer;
         None
     }
 
