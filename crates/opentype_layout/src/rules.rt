@@ -268,6 +268,22 @@ impl<'a> Tables<'a> {
         }
     }
 
+    // The tables of a context of format 3, whose offsets are all from its start.
+    #[inline]
+    #[tactic(auto, unfolding(crate::specs::Rules::kind_in))]
+    fn of_sets(chained: bool, bytes: &'a [u8]) -> Self
+        requires { u16_in bytes.now 0 ≡ 3 }
+        ensures { kind result ≡ kind_in chained bytes.now }
+    {
+        Tables {
+            chained,
+            format: 3,
+            before: bytes,
+            input: bytes,
+            behind: bytes,
+        }
+    }
+
     /// The tables of a context.
     #[tactic(auto, unfolding(crate::specs::Rules::kind_in))]
     pub fn of(chained: bool, bytes: &'a [u8]) -> Self
@@ -342,6 +358,7 @@ impl<'a> Tables<'a> {
     }
 
     // Whether the glyphs beside a place bar the rule of a chained context of format 3.
+    #[inline]
     #[tactic(auto, unfolding(crate::specs::Rules::rule_in))]
     fn are_sets_barred(
         &self,
@@ -455,6 +472,33 @@ pub(crate) fn place_of_first(chained: bool, bytes: &[u8]) -> usize
     }
 }
 
+// The rule of a context of format 3, if it fits a place of a text.
+#[tactic(auto, unfolding(crate::specs::Rules::context_in))]
+fn find_by_sets<'a>(
+    chained: bool,
+    gdef: &[u8],
+    input: &Sight,
+    context: &Sight,
+    bytes: &'a [u8],
+    glyphs: &[hb_glyph_info_t],
+    at: usize,
+) -> Option<Matched<'a>>
+    requires inside { at < length glyphs.now }
+    requires format { u16_in bytes.now 0 ≡ 3 }
+    ensures { option_map (λ it. found it) result
+        ≡ context_in chained gdef.now input.now context.now bytes.now glyphs.now at }
+{
+    // (the first glyph is tested last: where a lookup has bits, few others come here; and the tables
+    // are made twice, so that a rule that is barred writes none)
+    if Tables::of_sets(chained, bytes).are_sets_barred(gdef, input, context, bytes, glyphs, at) {
+        return None;
+    }
+    let set = u16_at(bytes, place_of_first(chained, bytes));
+    coverage(part(bytes, usize::from(set)), number(&glyphs[at]))?;
+    let rule = Tables::of_sets(chained, bytes).rule(bytes);
+    rule.fit(gdef, input, context, glyphs, at)
+}
+
 /// The first rule of a context that fits a place of a text: its input by one sight, its context by
 /// another.
 #[tactic(auto, unfolding(crate::specs::Rules::context_in, crate::specs::Rules::by_glyphs))]
@@ -471,18 +515,12 @@ pub fn find_rule<'a>(
     ensures { option_map (λ it. found it) result
         ≡ context_in chained gdef.now input.now context.now bytes.now glyphs.now at }
 {
-    let glyph = number(&glyphs[at]);
-    let tables = Tables::of(chained, bytes);
     let format = u16_at(bytes, 0);
     if format == 3 {
-        // (a glyph that the context doesn't begin with seldom comes here, where a lookup has bits)
-        if tables.are_sets_barred(gdef, input, context, bytes, glyphs, at) {
-            return None;
-        }
-        let set = u16_at(bytes, place_of_first(chained, bytes));
-        coverage(part(bytes, usize::from(set)), glyph)?;
-        return tables.rule(bytes).fit(gdef, input, context, glyphs, at);
+        return find_by_sets(chained, gdef, input, context, bytes, glyphs, at);
     }
+    let glyph = number(&glyphs[at]);
+    let tables = Tables::of(chained, bytes);
     let covered = coverage(part(bytes, usize::from(u16_at(bytes, 2))), glyph);
     let set = match (format, covered) {
         (1, Some(number)) => rule_set(bytes, 4, number),

@@ -256,6 +256,18 @@ impl<'a> Tables<'a> {
         }
     }
 
+    // The tables of a context of format 3, whose offsets are all from its start.
+    #[inline]
+    fn of_sets(chained: bool, bytes: &'a [u8]) -> Self {
+        Tables {
+            chained,
+            format: 3,
+            before: bytes,
+            input: bytes,
+            behind: bytes,
+        }
+    }
+
     /// The tables of a context.
     ///
     /// <details><summary>Contract</summary>
@@ -333,6 +345,7 @@ impl<'a> Tables<'a> {
     }
 
     // Whether the glyphs beside a place bar the rule of a chained context of format 3.
+    #[inline]
     fn are_sets_barred(
         &self,
         gdef: &[u8],
@@ -424,6 +437,27 @@ pub(crate) fn place_of_first(chained: bool, bytes: &[u8]) -> usize {
     }
 }
 
+// The rule of a context of format 3, if it fits a place of a text.
+fn find_by_sets<'a>(
+    chained: bool,
+    gdef: &[u8],
+    input: &Sight,
+    context: &Sight,
+    bytes: &'a [u8],
+    glyphs: &[GlyphInfo],
+    at: usize,
+) -> Option<Matched<'a>> {
+    // (the first glyph is tested last: where a lookup has bits, few others come here; and the tables
+    // are made twice, so that a rule that is barred writes none)
+    if Tables::of_sets(chained, bytes).are_sets_barred(gdef, input, context, bytes, glyphs, at) {
+        return None;
+    }
+    let set = u16_at(bytes, place_of_first(chained, bytes));
+    coverage(part(bytes, usize::from(set)), number(&glyphs[at]))?;
+    let rule = Tables::of_sets(chained, bytes).rule(bytes);
+    rule.fit(gdef, input, context, glyphs, at)
+}
+
 /// The first rule of a context that fits a place of a text: its input by one sight, its context by
 /// another.
 ///
@@ -449,18 +483,12 @@ pub fn find_rule<'a>(
     glyphs: &[GlyphInfo],
     at: usize,
 ) -> Option<Matched<'a>> {
-    let glyph = number(&glyphs[at]);
-    let tables = Tables::of(chained, bytes);
     let format = u16_at(bytes, 0);
     if format == 3 {
-        // (a glyph that the context doesn't begin with seldom comes here, where a lookup has bits)
-        if tables.are_sets_barred(gdef, input, context, bytes, glyphs, at) {
-            return None;
-        }
-        let set = u16_at(bytes, place_of_first(chained, bytes));
-        coverage(part(bytes, usize::from(set)), glyph)?;
-        return tables.rule(bytes).fit(gdef, input, context, glyphs, at);
+        return find_by_sets(chained, gdef, input, context, bytes, glyphs, at);
     }
+    let glyph = number(&glyphs[at]);
+    let tables = Tables::of(chained, bytes);
     let covered = coverage(part(bytes, usize::from(u16_at(bytes, 2))), glyph);
     let set = match (format, covered) {
         (1, Some(number)) => rule_set(bytes, 4, number),
