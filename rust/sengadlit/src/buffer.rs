@@ -5,10 +5,11 @@
 /// # What a panic leaves
 ///
 /// Where a caller's font or tables panic, the hook or pause leaves the buffer as it was, or empty with
-/// the settings of a new one. So does [`normalize`] where its context panics, except at the form of a
-/// variation selector: then characters before it may have joined the clusters of their selectors. A
-/// change or a rewriting of the caller's own ([`Buffer::with_glyphs_mut`], [`Buffer::rewrite`]) that
-/// panics leaves what it wrote to the glyphs.
+/// the settings of a new one. Where the context of [`normalize`] panics, the buffer is as it was, or
+/// empty with its own settings; but a text that has forms for variation selectors may stay, with some
+/// of the characters joined with their selectors in one cluster. A change or a rewriting of the
+/// caller's own ([`Buffer::with_glyphs_mut`], [`Buffer::rewrite`]) that panics leaves what it wrote to
+/// the glyphs.
 ///
 /// [`normalize`]: crate::ot_shape_normalize::normalize
 pub use crate::generated::shapers_buffer::buffer::Buffer;
