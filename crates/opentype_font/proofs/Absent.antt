@@ -1,5 +1,5 @@
 -- A lookup that begins at no glyph of a text leaves it as it is.
-use Rattle.std.proofs.Common.{ℕ, ◌<◌, ◌≤◌, ◌≡◌, List, length, refl, sym, arith}
+use Rattle.std.proofs.Common.{ℕ, ◌<◌, ◌≡◌, List, length, refl, sym, arith}
 use Rattle.shapers_buffer.specs.Buffer.{Buffer}
 use Rattle.opentype_face.specs.Lookups.{lookup_in}
 use Rattle.opentype_layout.specs.LookupRows.{AreAbsent, lookup_bit}

@@ -123,7 +123,7 @@ impl<'a> Lookups for OpenTypeFont<'a> {
         )
     }
 
-    fn present(&self, buffer: &hb_buffer_t) -> Option<PresentLookups> {
+    fn present_lookups(&self, buffer: &hb_buffer_t) -> Option<PresentLookups> {
         match self.tables.gsub().present(buffer.glyphs()) {
             Some(LookupBits { low, high }) => Some(PresentLookups { low, high }),
             None => None,

@@ -1,6 +1,6 @@
 -- Worked rows: which lookups may change a text.
 use Rattle.std.proofs.Common.{arith}
-use Rattle.std.specs.Prelude.{◌≡◌, ℕ, [], ◌∷◌, map, refl}
+use Rattle.std.specs.Prelude.{◌≡◌, [], ◌∷◌, map, refl}
 use Rattle.shapers_pipeline.specs.Lookups.{IsAbsent, present_bit}
 use Rattle.shapers_pipeline.specs.declared.lookups.PresentLookups.{PresentLookups}
 

@@ -97,7 +97,7 @@ pub trait Lookups: GlyphClasses {
     /// as it is: shaping passes over these. It is asked for before the first lookup of a stage of
     /// three or more, and anew behind lookups that were applied. By default nothing is known.
     #[inline]
-    fn present(&self, buffer: &hb_buffer_t) -> Option<PresentLookups>
+    fn present_lookups(&self, buffer: &hb_buffer_t) -> Option<PresentLookups>
         ensures { IfSome result (λ present. (lookup : StageLookup) → IsAbsent present lookup.index →
             substituted self.now lookup buffer.now ≡ buffer.now) }
     {
@@ -181,7 +181,7 @@ fn seen_before<L: Lookups>(lookups: &L, list: &[StageLookup], buffer: &hb_buffer
     ensures { AreSeen (L.substituted lookups.now) result buffer.now }
 {
     let present = if list.len() > 2 {
-        lookups.present(buffer)
+        lookups.present_lookups(buffer)
     } else {
         None
     };
@@ -210,7 +210,7 @@ fn is_left<L: Lookups>(
     if seen.is_fresh {
         return true;
     }
-    seen.present = lookups.present(buffer);
+    seen.present = lookups.present_lookups(buffer);
     seen.is_fresh = true;
     is_absent(seen.present, lookup.index)
 }

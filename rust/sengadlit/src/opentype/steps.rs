@@ -107,13 +107,13 @@ impl Lookups for Steps<'_> {
     }
 
     // (all of them where somebody is told of each, and where glyph 0 is yet to be put out)
-    fn present(&self, buffer: &Buffer) -> Option<PresentLookups> {
+    fn present_lookups(&self, buffer: &Buffer) -> Option<PresentLookups> {
         let is_to_put =
             self.not_found.is_some() && buffer.glyphs().iter().any(|glyph| glyph.glyph_id == 0);
         if self.told.is_some() || is_to_put {
             return None;
         }
-        self.font.present(buffer)
+        self.font.present_lookups(buffer)
     }
 
     fn position(&self, lookup: &StageLookup, buffer: &mut Buffer) -> Result<(), ShaperError> {

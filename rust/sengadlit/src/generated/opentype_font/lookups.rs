@@ -85,7 +85,7 @@ impl<'a> Lookups for OpenTypeFont<'a> {
         )
     }
 
-    fn present(&self, buffer: &Buffer) -> Option<PresentLookups> {
+    fn present_lookups(&self, buffer: &Buffer) -> Option<PresentLookups> {
         match self.tables.gsub().present(buffer.glyphs()) {
             Some(LookupBits { low, high }) => Some(PresentLookups { low, high }),
             None => None,

@@ -112,7 +112,7 @@ pub trait Lookups: GlyphClasses {
     ///
     /// </details>
     #[inline]
-    fn present(&self, buffer: &Buffer) -> Option<PresentLookups> {
+    fn present_lookups(&self, buffer: &Buffer) -> Option<PresentLookups> {
         let _ = buffer;
         None
     }
@@ -194,7 +194,7 @@ struct Seen {
 #[inline]
 fn seen_before<L: Lookups>(lookups: &L, list: &[StageLookup], buffer: &Buffer) -> Seen {
     let present = if list.len() > 2 {
-        lookups.present(buffer)
+        lookups.present_lookups(buffer)
     } else {
         None
     };
@@ -219,7 +219,7 @@ fn is_left<L: Lookups>(
     if seen.is_fresh {
         return true;
     }
-    seen.present = lookups.present(buffer);
+    seen.present = lookups.present_lookups(buffer);
     seen.is_fresh = true;
     is_absent(seen.present, lookup.index)
 }
