@@ -2,12 +2,13 @@
 ghost use Rattle.std.specs.Prelude.{◌≡◌, ◌<◌, ◌≤◌, ◌+◌, ◌*◌, ◌^◌, Some, None, nat_lt, if◌then◌else◌};
 ghost use Rattle.opentype_face.specs.Bytes.{part_in, u16_in};
 ghost use Rattle.opentype_face.specs.Glyphs.{ranges_in};
+ghost use Rattle.opentype_layout.specs.PairTables.{header_in};
 ghost use Rattle.opentype_gpos.specs.Values.{bit_of, class_pair, field_in, signed_in, pair_of, pair_place, single_in, size_of, value_in};
 
 use opentype_face::bytes::{part, u16_at};
 use opentype_face::glyph_sets::{class, coverage};
 use opentype_face::ranges::Ranges;
-use opentype_layout::pair_tables::PairTable;
+use opentype_layout::pair_tables::{PairHeader, PairTable};
 
 /// What a glyph's position gets, in font units.
 #[derive(Clone, Copy, Debug, PartialEq, Eq)]
@@ -142,20 +143,20 @@ pub fn single(bytes: &[u8], glyph: u16) -> Option<usize>
 
 // How many bytes the values of a pair take.
 #[inline]
-fn pair_size(bytes: &[u8]) -> u32
-    ensures value { result ≡ size_of (u16_in bytes.now 4) + size_of (u16_in bytes.now 6) }
+fn pair_size(header: &PairHeader) -> u32
+    ensures value { result ≡ size_of header.now.first_format + size_of header.now.second_format }
     ensures few { result ≤ 32 }
 {
-    u32::from(size(u16_at(bytes, 4))) + u32::from(size(u16_at(bytes, 6)))
+    u32::from(size(header.first_format)) + u32::from(size(header.second_format))
 }
 
 // Where the set of a first glyph has the values of a pair.
-fn pair_in_set(bytes: &[u8], offset: u16, second: u16) -> Option<usize>
-    ensures { let size = size_of (u16_in bytes.now 4) + size_of (u16_in bytes.now 6) in
+fn pair_in_set(header: &PairHeader, bytes: &[u8], offset: u16, second: u16) -> Option<usize>
+    ensures { let size = size_of header.now.first_format + size_of header.now.second_format in
         let set = part_in bytes.now offset in
         result ≡ pair_of offset (size + 2) (ranges_in set 2 2 (size + 2) (u16_in set 0) second) }
 {
-    let size = pair_size(bytes) + 2;
+    let size = pair_size(header) + 2;
     let set = part(bytes, usize::from(offset));
     let pairs = Ranges {
         bytes: set,
@@ -172,34 +173,35 @@ fn pair_in_set(bytes: &[u8], offset: u16, second: u16) -> Option<usize>
 
 // Where the values stand of a pair, by its classes.
 #[inline]
-fn cell(bytes: &[u8], row: u16, column: u16) -> Option<usize>
-    ensures { let size = size_of (u16_in bytes.now 4) + size_of (u16_in bytes.now 6) in
-        result ≡ (if nat_lt row (u16_in bytes.now 12) then
-        (if nat_lt column (u16_in bytes.now 14) then
-        Some (16 + (row * u16_in bytes.now 14 + column) * size) else None)
+fn cell(header: &PairHeader, row: u16, column: u16) -> Option<usize>
+    ensures { let size = size_of header.now.first_format + size_of header.now.second_format in
+        result ≡ (if nat_lt row header.now.rows then
+        (if nat_lt column header.now.columns then
+        Some (16 + (row * header.now.columns + column) * size) else None)
         else None) }
 {
-    let columns = u16_at(bytes, 14);
-    if row >= u16_at(bytes, 12) || column >= columns {
+    let columns = header.columns;
+    if row >= header.rows || column >= columns {
         return None;
     }
     let cell = usize::from(row) * usize::from(columns) + usize::from(column);
-    Some(16 + cell * pair_size(bytes) as usize)
+    Some(16 + cell * pair_size(header) as usize)
 }
 
 // Where the values stand of the classes of a pair.
-fn pair_of_classes(bytes: &[u8], first: u16, second: u16) -> Option<usize>
+fn pair_of_classes(header: &PairHeader, bytes: &[u8], first: u16, second: u16) -> Option<usize>
+    requires { header.now ≡ header_in bytes.now }
     ensures { result ≡ class_pair bytes.now first second }
 {
     let row = class(part(bytes, usize::from(u16_at(bytes, 8))), first);
     let column = class(part(bytes, usize::from(u16_at(bytes, 10))), second);
-    cell(bytes, row, column)
+    cell(header, row, column)
 }
 
 // Where a set has the values of a second glyph, by the set's number.
 #[inline]
-fn pair_of_set(bytes: &[u8], i: u32, second: u16) -> Option<usize>
-    ensures { let size = size_of (u16_in bytes.now 4) + size_of (u16_in bytes.now 6) in
+fn pair_of_set(header: &PairHeader, bytes: &[u8], i: u32, second: u16) -> Option<usize>
+    ensures { let size = size_of header.now.first_format + size_of header.now.second_format in
         result ≡ (if nat_lt i (u16_in bytes.now 8) then
         (let offset = u16_in bytes.now (10 + i * 2) in
         let set = part_in bytes.now offset in
@@ -207,7 +209,7 @@ fn pair_of_set(bytes: &[u8], i: u32, second: u16) -> Option<usize>
         else None) }
 {
     if i < u32::from(u16_at(bytes, 8)) {
-        pair_in_set(bytes, u16_at(bytes, 10 + i as usize * 2), second)
+        pair_in_set(header, bytes, u16_at(bytes, 10 + i as usize * 2), second)
     } else {
         None
     }
@@ -218,10 +220,14 @@ fn pair_of_set(bytes: &[u8], i: u32, second: u16) -> Option<usize>
 pub fn pair_in_table(table: &PairTable<'_>, i: u32, first: u16, second: u16) -> Option<usize>
     ensures { result ≡ pair_place table.now first second (Some i) }
 {
-    let bytes = table.bytes();
-    match u16_at(bytes, 0) {
-        1 => pair_of_set(bytes, i, second),
-        2 => cell(bytes, table.first_class(first), table.second_class(second)),
+    let header = table.header();
+    match header.format {
+        1 => pair_of_set(&header, table.bytes(), i, second),
+        2 => cell(
+            &header,
+            table.first_class(first),
+            table.second_class(second),
+        ),
         _ => None,
     }
 }
@@ -230,9 +236,10 @@ pub fn pair_in_table(table: &PairTable<'_>, i: u32, first: u16, second: u16) -> 
 pub fn pair(bytes: &[u8], i: u32, first: u16, second: u16) -> Option<usize>
     ensures { result ≡ pair_place bytes.now first second (Some i) }
 {
-    match u16_at(bytes, 0) {
-        1 => pair_of_set(bytes, i, second),
-        2 => pair_of_classes(bytes, first, second),
+    let header = PairHeader::of(bytes);
+    match header.format {
+        1 => pair_of_set(&header, bytes, i, second),
+        2 => pair_of_classes(&header, bytes, first, second),
         _ => None,
     }
 }

@@ -19,3 +19,4 @@ mod LookupRowRows
 mod SightRows
 mod FeatureRows
 mod InputRows
+mod PairRows

@@ -2,18 +2,51 @@
 ghost use Rattle.std.specs.Prelude.{◌≡◌, List, ℕ};
 ghost use Rattle.opentype_face.specs.Bytes.{part_in, u16_in};
 ghost use Rattle.opentype_face.specs.Glyphs.{class_in, coverage_in};
-ghost use Rattle.opentype_layout.specs.PairTables.{ArePairTables};
+ghost use Rattle.opentype_layout.specs.PairTables.{ArePairTables, header_in};
 
-use opentype_face::bytes::{offset16, part};
+use opentype_face::bytes::{offset16, part, u16_at};
 use opentype_face::glyph_tables::{PreparedClassDef, PreparedCoverage};
 use opentype_face::lookup::{subtable, subtable_count, subtable_type};
 use std::alloc::Global;
 use std::marker::Model;
 
-/// A subtable of type 2 of GPOS, with tables of its first glyphs and of the classes of both.
+/// The numbers in the header of a subtable of type 2 of GPOS.
+#[derive(Clone, Copy, Debug)]
+pub struct PairHeader {
+    /// Its format.
+    pub format: u16,
+    /// The format of the first glyph's value.
+    pub first_format: u16,
+    /// The format of the second one's.
+    pub second_format: u16,
+    /// How many classes first glyphs have, in format 2.
+    pub rows: u16,
+    /// How many second ones have.
+    pub columns: u16,
+}
+
+impl PairHeader {
+    /// The header of a subtable.
+    #[inline]
+    pub fn of(bytes: &[u8]) -> Self
+        ensures { result ≡ header_in bytes.now }
+    {
+        PairHeader {
+            format: u16_at(bytes, 0),
+            first_format: u16_at(bytes, 4),
+            second_format: u16_at(bytes, 6),
+            rows: u16_at(bytes, 12),
+            columns: u16_at(bytes, 14),
+        }
+    }
+}
+
+/// A subtable of type 2 of GPOS, with its header, and with tables of its first glyphs and of the classes
+/// of both.
 #[derive(Debug, Drop)]
 pub struct PairTable<'a> {
     bytes: &'a [u8],
+    header: PairHeader,
     set: PreparedCoverage<'a>,
     first_classes: PreparedClassDef<'a>,
     second_classes: PreparedClassDef<'a>,
@@ -24,7 +57,8 @@ impl<'a> Model for PairTable<'a> {
 
     ghost view = { λ it. it.bytes.now };
 
-    ghost invariant = { λ it. (it.set.set.now ≡ part_in it.bytes.now (u16_in it.bytes.now 2)) ×
+    ghost invariant = { λ it. (it.header ≡ header_in it.bytes.now) ×
+        (it.set.set.now ≡ part_in it.bytes.now (u16_in it.bytes.now 2)) ×
         (it.first_classes.bytes.now ≡ part_in it.bytes.now (u16_in it.bytes.now 8)) ×
         (it.second_classes.bytes.now ≡ part_in it.bytes.now (u16_in it.bytes.now 10)) };
 }
@@ -36,6 +70,7 @@ impl<'a> PairTable<'a> {
     {
         PairTable {
             bytes,
+            header: PairHeader::of(bytes),
             set: PreparedCoverage::new(part(bytes, offset16(bytes, 2)), alloc, budget),
             first_classes: PreparedClassDef::new(part(bytes, offset16(bytes, 8)), alloc, budget),
             second_classes: PreparedClassDef::new(part(bytes, offset16(bytes, 10)), alloc, budget),
@@ -48,6 +83,14 @@ impl<'a> PairTable<'a> {
         ensures { result.now ≡ self.now }
     {
         self.bytes
+    }
+
+    /// The numbers in its header.
+    #[inline]
+    pub fn header(&self) -> PairHeader
+        ensures { result ≡ header_in self.now }
+    {
+        self.header
     }
 
     /// The place of a glyph in the set of first glyphs.

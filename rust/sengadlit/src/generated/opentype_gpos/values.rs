@@ -7,7 +7,7 @@ use crate::support::prelude::*;
 use crate::generated::opentype_face::bytes::{part, u16_at};
 use crate::generated::opentype_face::glyph_sets::{class, coverage};
 use crate::generated::opentype_face::ranges::Ranges;
-use crate::generated::opentype_layout::pair_tables::PairTable;
+use crate::generated::opentype_layout::pair_tables::{PairHeader, PairTable};
 
 /// What a glyph's position gets, in font units.
 #[derive(Clone, Copy, Debug, PartialEq, Eq, Hash)]
@@ -170,13 +170,13 @@ pub fn single(bytes: &[u8], glyph: u16) -> Option<usize> {
 
 // How many bytes the values of a pair take.
 #[inline]
-fn pair_size(bytes: &[u8]) -> u32 {
-    u32::from(size(u16_at(bytes, 4))) + u32::from(size(u16_at(bytes, 6)))
+fn pair_size(header: &PairHeader) -> u32 {
+    u32::from(size(header.first_format)) + u32::from(size(header.second_format))
 }
 
 // Where the set of a first glyph has the values of a pair.
-fn pair_in_set(bytes: &[u8], offset: u16, second: u16) -> Option<usize> {
-    let size = pair_size(bytes) + 2;
+fn pair_in_set(header: &PairHeader, bytes: &[u8], offset: u16, second: u16) -> Option<usize> {
+    let size = pair_size(header) + 2;
     let set = part(bytes, usize::from(offset));
     let pairs = Ranges {
         bytes: set,
@@ -193,27 +193,27 @@ fn pair_in_set(bytes: &[u8], offset: u16, second: u16) -> Option<usize> {
 
 // Where the values stand of a pair, by its classes.
 #[inline]
-fn cell(bytes: &[u8], row: u16, column: u16) -> Option<usize> {
-    let columns = u16_at(bytes, 14);
-    if row >= u16_at(bytes, 12) || column >= columns {
+fn cell(header: &PairHeader, row: u16, column: u16) -> Option<usize> {
+    let columns = header.columns;
+    if row >= header.rows || column >= columns {
         return None;
     }
     let cell = usize::from(row) * usize::from(columns) + usize::from(column);
-    Some(16 + cell * pair_size(bytes) as usize)
+    Some(16 + cell * pair_size(header) as usize)
 }
 
 // Where the values stand of the classes of a pair.
-fn pair_of_classes(bytes: &[u8], first: u16, second: u16) -> Option<usize> {
+fn pair_of_classes(header: &PairHeader, bytes: &[u8], first: u16, second: u16) -> Option<usize> {
     let row = class(part(bytes, usize::from(u16_at(bytes, 8))), first);
     let column = class(part(bytes, usize::from(u16_at(bytes, 10))), second);
-    cell(bytes, row, column)
+    cell(header, row, column)
 }
 
 // Where a set has the values of a second glyph, by the set's number.
 #[inline]
-fn pair_of_set(bytes: &[u8], i: u32, second: u16) -> Option<usize> {
+fn pair_of_set(header: &PairHeader, bytes: &[u8], i: u32, second: u16) -> Option<usize> {
     if i < u32::from(u16_at(bytes, 8)) {
-        pair_in_set(bytes, u16_at(bytes, 10 + i as usize * 2), second)
+        pair_in_set(header, bytes, u16_at(bytes, 10 + i as usize * 2), second)
     } else {
         None
     }
@@ -234,10 +234,14 @@ fn pair_of_set(bytes: &[u8], i: u32, second: u16) -> Option<usize> {
 ///
 /// </details>
 pub fn pair_in_table(table: &PairTable<'_>, i: u32, first: u16, second: u16) -> Option<usize> {
-    let bytes = table.bytes();
-    match u16_at(bytes, 0) {
-        1 => pair_of_set(bytes, i, second),
-        2 => cell(bytes, table.first_class(first), table.second_class(second)),
+    let header = table.header();
+    match header.format {
+        1 => pair_of_set(&header, table.bytes(), i, second),
+        2 => cell(
+            &header,
+            table.first_class(first),
+            table.second_class(second),
+        ),
         _ => None,
     }
 }
@@ -256,9 +260,10 @@ pub fn pair_in_table(table: &PairTable<'_>, i: u32, first: u16, second: u16) -> 
 ///
 /// </details>
 pub fn pair(bytes: &[u8], i: u32, first: u16, second: u16) -> Option<usize> {
-    match u16_at(bytes, 0) {
-        1 => pair_of_set(bytes, i, second),
-        2 => pair_of_classes(bytes, first, second),
+    let header = PairHeader::of(bytes);
+    match header.format {
+        1 => pair_of_set(&header, bytes, i, second),
+        2 => pair_of_classes(&header, bytes, first, second),
         _ => None,
     }
 }

@@ -4,15 +4,58 @@
 
 use crate::support::prelude::*;
 
-use crate::generated::opentype_face::bytes::{offset16, part};
+use crate::generated::opentype_face::bytes::{offset16, part, u16_at};
 use crate::generated::opentype_face::glyph_tables::{PreparedClassDef, PreparedCoverage};
 use crate::generated::opentype_face::lookup::{subtable, subtable_count, subtable_type};
 use crate::support::alloc::Global;
 
-/// A subtable of type 2 of GPOS, with tables of its first glyphs and of the classes of both.
+/// The numbers in the header of a subtable of type 2 of GPOS.
+#[derive(Clone, Copy, Debug)]
+pub struct PairHeader {
+    /// Its format.
+    pub format: u16,
+    /// The format of the first glyph's value.
+    pub first_format: u16,
+    /// The format of the second one's.
+    pub second_format: u16,
+    /// How many classes first glyphs have, in format 2.
+    pub rows: u16,
+    /// How many second ones have.
+    pub columns: u16,
+}
+
+impl PairHeader {
+    /// The header of a subtable.
+    ///
+    /// <details><summary>Contract</summary>
+    ///
+    /// # Contract
+    ///
+    /// ```text
+    /// ensures { result ≡ header_in bytes.now }
+    /// ```
+    ///
+    /// - `header_in`: `crates/opentype_layout/specs/PairTables.antt`
+    ///
+    /// </details>
+    #[inline]
+    pub fn of(bytes: &[u8]) -> Self {
+        PairHeader {
+            format: u16_at(bytes, 0),
+            first_format: u16_at(bytes, 4),
+            second_format: u16_at(bytes, 6),
+            rows: u16_at(bytes, 12),
+            columns: u16_at(bytes, 14),
+        }
+    }
+}
+
+/// A subtable of type 2 of GPOS, with its header, and with tables of its first glyphs and of the classes
+/// of both.
 #[derive(Debug)]
 pub struct PairTable<'a> {
     bytes: &'a [u8],
+    header: PairHeader,
     set: PreparedCoverage<'a>,
     first_classes: PreparedClassDef<'a>,
     second_classes: PreparedClassDef<'a>,
@@ -33,6 +76,7 @@ impl<'a> PairTable<'a> {
     pub fn new(alloc: Global, bytes: &'a [u8], budget: &mut usize) -> Self {
         PairTable {
             bytes,
+            header: PairHeader::of(bytes),
             set: PreparedCoverage::new(part(bytes, offset16(bytes, 2)), alloc, budget),
             first_classes: PreparedClassDef::new(part(bytes, offset16(bytes, 8)), alloc, budget),
             second_classes: PreparedClassDef::new(part(bytes, offset16(bytes, 10)), alloc, budget),
@@ -53,6 +97,24 @@ impl<'a> PairTable<'a> {
     #[inline]
     pub fn bytes(&self) -> &'a [u8] {
         self.bytes
+    }
+
+    /// The numbers in its header.
+    ///
+    /// <details><summary>Contract</summary>
+    ///
+    /// # Contract
+    ///
+    /// ```text
+    /// ensures { result ≡ header_in self.now }
+    /// ```
+    ///
+    /// - `header_in`: `crates/opentype_layout/specs/PairTables.antt`
+    ///
+    /// </details>
+    #[inline]
+    pub fn header(&self) -> PairHeader {
+        self.header
     }
 
     /// The place of a glyph in the set of first glyphs.
