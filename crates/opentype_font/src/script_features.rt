@@ -76,8 +76,9 @@ fn lookups_of(feature: &[u8], alloc: Global) -> Result<Vec<u16>, ShaperError>
     ensures lookups { IfOk result (λ lookups. lookups.items ≡ lookup_numbers feature.now) }
     ensures refusal { IsOkUnless result Memory }
 {
-    let mut lookups = Vec::new(alloc);
-    for i in 0..lookup_count(feature).min(MOST_LOOKUPS) {
+    let count = lookup_count(feature).min(MOST_LOOKUPS);
+    let mut lookups = Vec::with_capacity(alloc, usize::from(count))?;
+    for i in 0..count {
         lookups
             .push(nth_lookup(feature, i))
             .map_err(|_| ShaperError::Memory)?;
@@ -132,8 +133,9 @@ fn features_of(
         map feature_view features.items ≡ features_in_system table.now system.now) }
     ensures refusal { IsOkUnless result Memory }
 {
-    let mut features = Vec::new(alloc);
-    for i in 0..u16_at(system, 4).min(MOST_FEATURES) {
+    let count = u16_at(system, 4).min(MOST_FEATURES);
+    let mut features = Vec::with_capacity(alloc, usize::from(count))?;
+    for i in 0..count {
         let index = u16_at(system, 6 + usize::from(i) * 2);
         let feature = feature_at(table, substitutions, index, alloc)?;
         features.push(feature).map_err(|_| ShaperError::Memory)?;

@@ -78,8 +78,9 @@ pub fn has_feature(table: &[u8], tags: &TextTags, tag: Tag) -> bool {
 
 // The lookups of a feature's table.
 fn lookups_of(feature: &[u8], alloc: Global) -> Result<Vec<u16>, ShaperError> {
-    let mut lookups = Vec::new(alloc);
-    for i in 0..lookup_count(feature).min(MOST_LOOKUPS) {
+    let count = lookup_count(feature).min(MOST_LOOKUPS);
+    let mut lookups = Vec::with_capacity(alloc, usize::from(count))?;
+    for i in 0..count {
         lookups
             .push(nth_lookup(feature, i))
             .map_err(|_| ShaperError::Memory)?;
@@ -119,8 +120,9 @@ fn features_of(
     system: &[u8],
     alloc: Global,
 ) -> Result<Vec<ListedFeature>, ShaperError> {
-    let mut features = Vec::new(alloc);
-    for i in 0..u16_at(system, 4).min(MOST_FEATURES) {
+    let count = u16_at(system, 4).min(MOST_FEATURES);
+    let mut features = Vec::with_capacity(alloc, usize::from(count))?;
+    for i in 0..count {
         let index = u16_at(system, 6 + usize::from(i) * 2);
         let feature = feature_at(table, substitutions, index, alloc)?;
         features.push(feature).map_err(|_| ShaperError::Memory)?;
