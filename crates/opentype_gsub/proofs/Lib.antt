@@ -5,6 +5,7 @@ pub mod Marking
 mod LigatureKeys
 mod GsubRows
 mod FlagRows
+mod SightRows
 mod PresenceRows
 mod LookedRows
 pub mod Unbroken
@@ -19,3 +20,4 @@ pub mod Machines
 pub mod Untouched
 mod Started
 pub mod Lookings
+mod Sighted

@@ -1,5 +1,5 @@
 -- What a lookup is applied by, and which glyphs it sees.
-use Rattle.std.specs.Prelude.{ℕ, ◌==◌, ◌&&◌, not, Bool, false, bit_and, List}
+use Rattle.std.specs.Prelude.{ℕ, ◌==◌, ◌&&◌, not, Bool, false, bit_and, List, if◌then◌else◌}
 use Rattle.shapers_buffer.specs.Glyphs.{Glyph}
 use Rattle.shapers_buffer.specs.declared.buffer.level.BufferClusterLevel.{BufferClusterLevel}
 use Rattle.opentype_layout.specs.Sight.{ignores, sight_of_context, sight_of_input}
@@ -45,6 +45,17 @@ sights_of gdef use_of lookup g = record {
   input = sight_of_input gdef lookup (how_of use_of) g.syllable;
   context = sight_of_context gdef lookup (how_of use_of) g.syllable;
 }
+
+-- The same within a syllable, by its number. With 0 this is what the lookup sees wherever it is.
+unfoldable pub sights_within : List ℕ → LookupUse → List ℕ → ℕ → Sights
+sights_within gdef use_of lookup syllable = record {
+  input = sight_of_input gdef lookup (how_of use_of) syllable;
+  context = sight_of_context gdef lookup (how_of use_of) syllable;
+}
+
+-- the syllable that its rules stay in from a glyph on; 0 for none
+abbrev pub syllable_from : LookupUse → Glyph → ℕ
+syllable_from use_of g = if use_of.per_syllable then g.syllable else 0
 
 -- whether a lookup's table applies to a glyph: the glyph has a bit of the mask, and isn't ignored
 unfoldable pub is_seen : List ℕ → LookupUse → List ℕ → Glyph → Bool

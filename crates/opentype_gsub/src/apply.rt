@@ -111,6 +111,7 @@ fn apply_multiple(
     }
 }
 
+#[inline]
 #[tactic(auto, unfolding(crate::specs::Applied::ligated_put))]
 fn apply_ligature(
     gdef: &[u8],
@@ -173,6 +174,7 @@ pub(crate) fn value(random: bool, sight: &Sight, glyph: &hb_glyph_info_t) -> u32
 /// # Errors
 ///
 /// `Memory`.
+#[inline]
 #[tactic(auto, unfolding(crate::specs::Applied::one_put))]
 pub fn apply_one(
     pass: &Pass<'_>,

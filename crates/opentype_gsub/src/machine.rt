@@ -1,12 +1,12 @@
 //! Lookups that rules apply, on a stack in the place of a recursion.
-ghost use Rattle.std.specs.Prelude.{◌≡◌, ◌<◌, [], ◌∷◌, Some, length, IfOk};
+ghost use Rattle.std.specs.Prelude.{◌≡◌, ◌<◌, ℕ, List, [], ◌∷◌, Some, length, IfOk};
 ghost use Rattle.std.specs.Option.{option_map};
 ghost use Rattle.opentype_layout.specs.Rules.{found};
 ghost use Rattle.opentype_face.specs.Bytes.{u16_in};
 ghost use Rattle.opentype_face.specs.Firsts.{first_from};
 ghost use Rattle.opentype_gsub.specs.Came.{IsCome, begun, came_in, frame_of, nth_came};
 ghost use Rattle.opentype_gsub.specs.Machine.{IsEnded, lookup_called, deeper, nested, ran, machine_turned, stack_left, waiting, waiting_frame};
-ghost use Rattle.opentype_gsub.specs.Setting.{setting_of, sights_of};
+ghost use Rattle.opentype_gsub.specs.Setting.{setting_of, sights_of, sights_within};
 ghost use Rattle.opentype_gsub.specs.Looked.{tried};
 ghost use Rattle.opentype_layout.specs.Text.{glyph_at};
 
@@ -115,43 +115,51 @@ fn come_among<'a>(
 }
 
 // What a lookup sees from the glyph at a place on.
-fn seen_from(pass: &Pass<'_>, lookup: &[u8], glyphs: &[hb_glyph_info_t], at: usize) -> Sights
+#[inline]
+fn seen_from(pass: &Pass<'_>, sights: &Sights, glyphs: &[hb_glyph_info_t], at: usize) -> Sights
     requires { at < length glyphs.now }
-    ensures { let it = setting_of pass.now in
-        result ≡ sights_of it.gdef it.lookup lookup.now (glyph_at glyphs.now at) }
+    ensures { let it = setting_of pass.now in (lookup : List ℕ) →
+        sights.now ≡ sights_within it.gdef it.lookup lookup 0 →
+        result ≡ sights_of it.gdef it.lookup lookup (glyph_at glyphs.now at) }
 {
-    pass.lookup.sights(pass.gdef, lookup, &glyphs[at])
+    pass.lookup.sights_from(sights, &glyphs[at])
 }
 
 // What a lookup comes to at a place.
 fn come_to<'a>(
     pass: &Pass<'_>,
+    sights: &Sights,
     lookup: &LookupTable<'a>,
     text: &mut Vec<hb_glyph_info_t>,
     at: usize,
 ) -> Result<Outcome<'a>, ShaperError>
+    requires { let it = setting_of pass.now in
+        sights.now ≡ sights_within it.gdef it.lookup lookup.now 0 }
     ensures { IfOk result (λ outcome. IsCome (came_in (setting_of pass.now) lookup.now text.old.items at)
         text.old.items text.new.items outcome) }
 {
     if at >= text.len() {
         return Ok(Outcome::Nothing);
     }
-    let seen = seen_from(pass, lookup.bytes(), text, at);
+    let seen = seen_from(pass, sights, text, at);
     come_among(pass, &seen, lookup, text, at)
 }
 
 // The same behind the flags of what is tried in vain.
 fn try_at<'a>(
     pass: &Pass<'_>,
+    sights: &Sights,
     lookup: &LookupTable<'a>,
     text: &mut Vec<hb_glyph_info_t>,
     at: usize,
 ) -> Result<Outcome<'a>, ShaperError>
+    requires { let it = setting_of pass.now in
+        sights.now ≡ sights_within it.gdef it.lookup lookup.now 0 }
     ensures { IfOk result (λ outcome. let gs = tried (setting_of pass.now) lookup.now text.old.items at in
         IsCome (came_in (setting_of pass.now) lookup.now gs at) gs text.new.items outcome) }
 {
     flag_tried(pass, lookup.bytes(), text, at);
-    come_to(pass, lookup, text, at)
+    come_to(pass, sights, lookup, text, at)
 }
 
 // Applies the next lookup of a rule; the rule that fits there, if one does.
@@ -175,7 +183,8 @@ fn call<'a>(
     let place = rule.places[sequence];
     rule.sequence = sequence;
     rule.before = text.len();
-    match try_at(pass, &called, text, place) {
+    let sights = pass.lookup.sights_within(pass.gdef, called.bytes(), 0);
+    match try_at(pass, &sights, &called, text, place) {
         Ok(Outcome::Nothing) => Ok(None),
         Ok(Outcome::Done(_)) => {
             rule.settle(text.len());
@@ -285,7 +294,9 @@ fn run_called<'a>(
     Ok(Reached { end: None, left: 0 })
 }
 
-// The same from a rule on that no other one called. (Most rules call none: they need no stack.)
+// The same from a rule on that no other one called. (Most rules call none, and need no stack. Apart from
+// the walk, since a rule fits at few places.)
+#[inline(never)]
 fn run<'a>(
     pass: &Pass<'a>,
     text: &mut Vec<hb_glyph_info_t>,
@@ -312,24 +323,29 @@ fn run<'a>(
 }
 
 /// Applies a lookup by its table at a place, and the lookups that its rules apply, in at most so
-/// many operations: each call of a lookup is one, and so is the end of a rule.
+/// many operations: each call of a lookup is one, and so is the end of a rule. What the table sees is
+/// the same at each place of a text.
 ///
 /// # Errors
 ///
 /// `Memory`.
 #[tactic(auto, unfolding(crate::specs::Machine::nested))]
+#[inline]
 pub fn apply_nested<'a>(
     pass: &Pass<'a>,
+    sights: &Sights,
     lookup: &LookupTable<'a>,
     text: &mut Vec<hb_glyph_info_t>,
     at: usize,
     operations: usize,
 ) -> Result<Reached, ShaperError>
+    requires { let it = setting_of pass.now in
+        sights.now ≡ sights_within it.gdef it.lookup lookup.now 0 }
     ensures { IfOk result (λ r. nested (setting_of pass.now) lookup.now text.old.items at operations
         ≡ record { text = text.new.items; end = r.end; left = r.left }) }
 {
     // (`?` would move the rule once more, with the room for its places)
-    match try_at(pass, lookup, text, at) {
+    match try_at(pass, sights, lookup, text, at) {
         Ok(Outcome::Nothing) => Ok(Reached {
             end: None,
             left: operations,

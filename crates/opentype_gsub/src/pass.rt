@@ -1,6 +1,6 @@
 //! A lookup of GSUB as it is applied to a text, and which glyphs it sees.
-ghost use Rattle.std.specs.Prelude.{◌≡◌};
-ghost use Rattle.opentype_gsub.specs.Setting.{how_of, is_seen, sights_of};
+ghost use Rattle.std.specs.Prelude.{◌≡◌, ℕ, List};
+ghost use Rattle.opentype_gsub.specs.Setting.{how_of, is_seen, sights_of, sights_within, syllable_from};
 
 use opentype_layout::sight::{Application, Sight, ignores_glyph};
 use opentype_layout::tables::LayoutTable;
@@ -77,6 +77,60 @@ impl LookupUse {
             input: Sight::of_input(gdef, lookup, &how, glyph.syllable),
             context: Sight::of_context(gdef, lookup, &how, glyph.syllable),
         }
+    }
+
+    /// The same within a syllable, by its number. With 0 this is what the lookup sees wherever it is.
+    #[inline]
+    #[tactic(auto, unfolding(crate::specs::Setting::sights_within))]
+    pub(crate) fn sights_within(&self, gdef: &[u8], lookup: &[u8], syllable: u8) -> Sights
+        ensures { result ≡ sights_within gdef.now self.now lookup.now syllable }
+    {
+        let how = self.application();
+        Sights {
+            input: Sight::of_input(gdef, lookup, &how, syllable),
+            context: Sight::of_context(gdef, lookup, &how, syllable),
+        }
+    }
+
+    // The syllable that its rules stay in from a glyph on; 0 for none.
+    #[inline]
+    fn syllable_from(&self, glyph: &hb_glyph_info_t) -> u8
+        ensures { result ≡ syllable_from self.now glyph.now }
+    {
+        if self.per_syllable { glyph.syllable } else { 0 }
+    }
+
+    /// What a lookup's table sees from a glyph on, by what it sees wherever it is.
+    #[inline]
+    pub(crate) fn sights_from(&self, sights: &Sights, glyph: &hb_glyph_info_t) -> Sights
+        ensures { (gdef lookup : List ℕ) → sights.now ≡ sights_within gdef self.now lookup 0 →
+            result ≡ sights_of gdef self.now lookup glyph.now }
+    {
+        let syllable = self.syllable_from(glyph);
+        Sights {
+            input: Sight {
+                syllable,
+                ..sights.input
+            },
+            context: Sight {
+                syllable,
+                ..sights.context
+            },
+        }
+    }
+
+    /// Whether a lookup applies to a glyph, by what its table sees: the glyph has a bit of the mask, and
+    /// isn't ignored.
+    #[inline]
+    #[tactic(auto, unfolding(crate::specs::Setting::is_seen, crate::specs::Setting::sights_within))]
+    pub(crate) fn sees_by(&self, gdef: &[u8], sights: &Sights, glyph: &hb_glyph_info_t) -> bool
+        ensures { (lookup : List ℕ) → sights.now ≡ sights_within gdef.now self.now lookup 0 →
+            result ≡ is_seen gdef.now self.now lookup glyph.now }
+    {
+        if glyph.mask & self.mask == 0 {
+            return false;
+        }
+        !ignores_glyph(gdef, sights.input.flag, sights.input.set, glyph)
     }
 
     /// Whether a lookup, of this sight, applies to a glyph: the glyph has a bit of the mask, and isn't

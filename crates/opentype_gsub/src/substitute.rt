@@ -1,6 +1,8 @@
 //! A lookup of GSUB over a buffer.
-ghost use Rattle.std.specs.Prelude.{◌≡◌, [], IfOk, IsOkUnless, OnErr, OnOk};
-ghost use Rattle.opentype_gsub.specs.Presence.{applied_from};
+ghost use Rattle.std.specs.Prelude.{◌≡◌, ◌<◌, ◌≤◌, ℕ, true, [], length, IfOk, IsOkUnless, OnErr, OnOk};
+ghost use Rattle.opentype_face.specs.Lookups.{lookup_in};
+ghost use Rattle.opentype_layout.specs.Text.{glyph_at};
+ghost use Rattle.opentype_gsub.specs.Presence.{applied_from, is_left};
 ghost use Rattle.shapers_buffer.specs.Buffer.{flags_concat, has_flag};
 ghost use Rattle.shapers_buffer.specs.declared.buffer.refusal.ShaperError.TheVariants.{Memory};
 ghost use Rattle.opentype_gsub.specs.Setting.{setting_of};
@@ -40,6 +42,7 @@ fn wants_concat(flags: BufferFlags) -> bool
 }
 
 // Applies a lookup by its table to a list of glyphs, from a place on.
+#[inline]
 #[tactic(auto, unfolding(crate::specs::Presence::applied_from))]
 fn apply_from<'a>(
     pass: &Pass<'a>,
@@ -66,6 +69,7 @@ fn apply_from<'a>(
 }
 
 // A new list of glyphs, in the buffer's room: what a lookup makes of the buffer's from a place on.
+#[inline]
 fn apply(
     pass: &Pass<'_>,
     table: &LookupTable<'_>,
@@ -82,12 +86,49 @@ fn apply(
     Ok(text)
 }
 
+// The same from a place on, before which the lookup can't begin, by its table.
+#[inline(never)]
+#[tactic(auto, unfolding(crate::specs::Substituted::substituted))]
+fn substitute_from(
+    gdef: &[u8],
+    gsub: &LayoutTable<'_>,
+    lookup_use: &LookupUse,
+    table: &LookupTable<'_>,
+    first: usize,
+    buffer: &mut hb_buffer_t,
+) -> Result<(), ShaperError>
+    requires unplaced { buffer.old.positions ≡ [] }
+    requires table { table.now ≡ lookup_in gsub.now lookup_use.now.index }
+    requires left { (j : ℕ) → j < first →
+        is_left lookup_use.now table.now (glyph_at buffer.old.glyphs j) ≡ true }
+    requires within { first ≤ length buffer.old.glyphs }
+    ensures ok { OnOk result (buffer.new ≡ substituted gdef.now gsub.now lookup_use.now buffer.old) }
+    ensures refusal { IsOkUnless result Memory }
+    ensures err { OnErr result (buffer.new ≡ buffer.old) }
+{
+    let len = buffer.len();
+    let pass = Pass {
+        gdef,
+        gsub,
+        level: buffer.cluster_level(),
+        concat: wants_concat(buffer.flags()),
+        len,
+        limit: limit(len, buffer.max_len()),
+        lookup: *lookup_use,
+    };
+    match apply(&pass, table, first, buffer) {
+        Ok(text) => buffer.replace_glyphs(text),
+        Err(_) => Err(ShaperError::Memory),
+    }
+}
+
 /// Applies a lookup of GSUB, as a plan has it, to a text of glyphs without positions. The text gets
 /// at most `growth` times as long, and never longer than the buffer may get.
 ///
 /// # Errors
 ///
 /// `Memory`; nothing has changed then.
+#[inline]
 #[tactic(auto, unfolding(crate::specs::Substituted::substituted))]
 pub fn substitute(
     gdef: &[u8],
@@ -103,21 +144,8 @@ pub fn substitute(
     // (most lookups have nothing to do in a text)
     let table = gsub.lookup(lookup_use.index);
     let first = first_place(lookup_use, &table, buffer.glyphs());
-    let len = buffer.len();
-    if first >= len {
+    if first >= buffer.len() {
         return Ok(());
     }
-    let pass = Pass {
-        gdef,
-        gsub,
-        level: buffer.cluster_level(),
-        concat: wants_concat(buffer.flags()),
-        len,
-        limit: limit(len, buffer.max_len()),
-        lookup: *lookup_use,
-    };
-    match apply(&pass, &table, first, buffer) {
-        Ok(text) => buffer.replace_glyphs(text),
-        Err(_) => Err(ShaperError::Memory),
-    }
+    substitute_from(gdef, gsub, lookup_use, &table, first, buffer)
 }

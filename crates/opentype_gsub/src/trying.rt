@@ -3,7 +3,7 @@ ghost use Rattle.std.specs.Prelude.{◌≡◌, ◌<◌, length, is_some};
 ghost use Rattle.opentype_gsub.specs.Applied.{alternate_put, chosen_of, ligated_put, multiple_put, one_put, single_put};
 ghost use Rattle.opentype_gsub.specs.Looked.{lookup_looked, subtable_looked, tried, unjoined};
 ghost use Rattle.opentype_gsub.specs.Came.{nth_came};
-ghost use Rattle.opentype_gsub.specs.Setting.{setting_of};
+ghost use Rattle.opentype_gsub.specs.Setting.{setting_of, sights_of};
 ghost use Rattle.opentype_layout.specs.Text.{glyph_at};
 
 use crate::apply::{number, value};
@@ -148,7 +148,21 @@ pub(crate) fn flag_joins(glyphs: &mut [hb_glyph_info_t], looked: Stretch)
     }
 }
 
-/// Flags what a lookup's rules look at that don't fit a place, where that is wanted.
+// Flags what a lookup's rules look at that don't fit a place. (Few callers want that.)
+#[inline(never)]
+fn flag_looked(pass: &Pass<'_>, lookup: &[u8], glyphs: &mut [hb_glyph_info_t], at: usize)
+    requires { at < length glyphs.old }
+    ensures { let s = setting_of pass.now in
+        let sights = sights_of s.gdef s.lookup lookup.now (glyph_at glyphs.old at) in
+        glyphs.new ≡ unjoined (lookup_looked s sights lookup.now glyphs.old at) glyphs.old }
+{
+    let sights = pass.lookup.sights(pass.gdef, lookup, &glyphs[at]);
+    let looked = look_among(pass, &sights, lookup, glyphs, at);
+    flag_joins(glyphs, looked);
+}
+
+/// The same where that is wanted.
+#[inline]
 #[tactic(auto, unfolding(crate::specs::Looked::tried))]
 pub(crate) fn flag_tried(pass: &Pass<'_>, lookup: &[u8], glyphs: &mut [hb_glyph_info_t], at: usize)
     ensures { glyphs.new ≡ tried (setting_of pass.now) lookup.now glyphs.old at }
@@ -159,7 +173,5 @@ pub(crate) fn flag_tried(pass: &Pass<'_>, lookup: &[u8], glyphs: &mut [hb_glyph_
     if at >= glyphs.len() {
         return;
     }
-    let sights = pass.lookup.sights(pass.gdef, lookup, &glyphs[at]);
-    let looked = look_among(pass, &sights, lookup, glyphs, at);
-    flag_joins(glyphs, looked);
+    flag_looked(pass, lookup, glyphs, at);
 }

@@ -1,10 +1,10 @@
 //! A lookup along a text.
 ghost use Rattle.std.specs.Prelude.{◌≡◌, ◌<◌, length, IfOk, OnOk};
-ghost use Rattle.opentype_gsub.specs.Setting.{setting_of};
+ghost use Rattle.opentype_gsub.specs.Setting.{setting_of, sights_within};
 ghost use Rattle.opentype_gsub.specs.Walked.{lookup_stepped, lookup_walked};
 
 use crate::machine::apply_nested;
-use crate::pass::Pass;
+use crate::pass::{Pass, Sights};
 use crate::presence::next_place;
 use opentype_layout::starts::LookupTable;
 use shapers_buffer::buffer::{ShaperError, hb_glyph_info_t};
@@ -19,23 +19,27 @@ struct Progress {
 }
 
 // What a lookup does at a place.
+#[inline]
 #[tactic(auto, unfolding(crate::specs::Walked::lookup_stepped))]
 fn step<'a>(
     pass: &Pass<'a>,
+    sights: &Sights,
     lookup: &LookupTable<'a>,
     text: &mut Vec<hb_glyph_info_t>,
     at: usize,
     left: usize,
 ) -> Result<Progress, ShaperError>
-    requires { at < length text.old.items }
+    requires here { at < length text.old.items }
+    requires sights { let it = setting_of pass.now in
+        sights.now ≡ sights_within it.gdef it.lookup lookup.now 0 }
     ensures { IfOk result (λ it. lookup_stepped (setting_of pass.now) lookup.now text.old.items at left
         ≡ record { text = text.new.items; next = it.next; left = it.left }) }
 {
     let next = at + 1;
-    if !pass.lookup.sees(pass.gdef, lookup.bytes(), &text[at]) {
+    if !pass.lookup.sees_by(pass.gdef, sights, &text[at]) {
         return Ok(Progress { next, left });
     }
-    let reached = apply_nested(pass, lookup, text, at, left)?;
+    let reached = apply_nested(pass, sights, lookup, text, at, left)?;
     let left = reached.left;
     match reached.end {
         Some(next) => Ok(Progress { next, left }),
@@ -49,6 +53,7 @@ fn step<'a>(
 /// # Errors
 ///
 /// `Memory`.
+#[inline]
 pub fn walk<'a>(
     pass: &Pass<'a>,
     lookup: &LookupTable<'a>,
@@ -60,6 +65,7 @@ pub fn walk<'a>(
     ensures { OnOk result (text.new.items
         ≡ lookup_walked steps (lookup_stepped (setting_of pass.now) lookup.now) text.old.items first operations) }
 {
+    let sights = pass.lookup.sights_within(pass.gdef, lookup.bytes(), 0);
     let (mut at, mut left, mut steps) = (first, operations, steps);
     while steps > 0 {
         let place = next_place(&pass.lookup, lookup, text, at);
@@ -70,7 +76,7 @@ pub fn walk<'a>(
         if passed >= steps {
             return Ok(());
         }
-        let progress = step(pass, lookup, text, place, left)?;
+        let progress = step(pass, &sights, lookup, text, place, left)?;
         steps -= passed + 1;
         at = progress.next;
         left = progress.left;

@@ -1,4 +1,4 @@
-use Rattle.std.proofs.Common.{arith, refl, rules}
+use Rattle.std.proofs.Common.{arith, refl}
 use Rattle.opentype_gsub.proofs.Machines.{came_by, came_out}
 use Rattle.opentype_gsub.proofs.machine.come_to.Goals as goal
 
@@ -6,4 +6,5 @@ pub returns-then-at-len : goal.returns-then-at-len
 returns-then-at-len c = (came_out _ _ _ _ (omega arith), refl)
 
 pub returns : goal.returns
-returns c = came_by _ _ _ _ _ c.seen_from-seen.result _ (omega arith) (search rules) c.come_among.ensures
+returns c = came_by _ _ _ _ _ c.seen_from-seen.result _ (omega arith)
+    (rw c.deref.ensures.value at (c.seen_from-seen.ensures c.args.lookup.now c.requires)) c.come_among.ensures

@@ -102,6 +102,7 @@ fn apply_multiple(
     }
 }
 
+#[inline]
 fn apply_ligature(
     gdef: &[u8],
     level: BufferClusterLevel,
@@ -168,6 +169,7 @@ pub(crate) fn value(random: bool, sight: &Sight, glyph: &GlyphInfo) -> u32 {
 /// </details>
 ///
 /// [`Memory`]: crate::ShaperError::Memory
+#[inline]
 pub fn apply_one(
     pass: &Pass<'_>,
     sight: &Sight,

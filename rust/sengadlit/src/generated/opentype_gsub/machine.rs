@@ -94,13 +94,15 @@ fn come_among<'a>(
 }
 
 // What a lookup sees from the glyph at a place on.
-fn seen_from(pass: &Pass<'_>, lookup: &[u8], glyphs: &[GlyphInfo], at: usize) -> Sights {
-    pass.lookup.sights(pass.gdef, lookup, &glyphs[at])
+#[inline]
+fn seen_from(pass: &Pass<'_>, sights: &Sights, glyphs: &[GlyphInfo], at: usize) -> Sights {
+    pass.lookup.sights_from(sights, &glyphs[at])
 }
 
 // What a lookup comes to at a place.
 fn come_to<'a>(
     pass: &Pass<'_>,
+    sights: &Sights,
     lookup: &LookupTable<'a>,
     text: &mut Vec<GlyphInfo>,
     at: usize,
@@ -108,19 +110,20 @@ fn come_to<'a>(
     if at >= text.len() {
         return Ok(Outcome::Nothing);
     }
-    let seen = seen_from(pass, lookup.bytes(), text, at);
+    let seen = seen_from(pass, sights, text, at);
     come_among(pass, &seen, lookup, text, at)
 }
 
 // The same behind the flags of what is tried in vain.
 fn try_at<'a>(
     pass: &Pass<'_>,
+    sights: &Sights,
     lookup: &LookupTable<'a>,
     text: &mut Vec<GlyphInfo>,
     at: usize,
 ) -> Result<Outcome<'a>, ShaperError> {
     flag_tried(pass, lookup.bytes(), text, at);
-    come_to(pass, lookup, text, at)
+    come_to(pass, sights, lookup, text, at)
 }
 
 // Applies the next lookup of a rule; the rule that fits there, if one does.
@@ -139,7 +142,8 @@ fn call<'a>(
     let place = rule.places[sequence];
     rule.sequence = sequence;
     rule.before = text.len();
-    match try_at(pass, &called, text, place) {
+    let sights = pass.lookup.sights_within(pass.gdef, called.bytes(), 0);
+    match try_at(pass, &sights, &called, text, place) {
         Ok(Outcome::Nothing) => Ok(None),
         Ok(Outcome::Done(_)) => {
             rule.settle(text.len());
@@ -230,7 +234,9 @@ fn run_called<'a>(
     Ok(Reached { end: None, left: 0 })
 }
 
-// The same from a rule on that no other one called. (Most rules call none: they need no stack.)
+// The same from a rule on that no other one called. (Most rules call none, and need no stack. Apart from
+// the walk, since a rule fits at few places.)
+#[inline(never)]
 fn run<'a>(
     pass: &Pass<'a>,
     text: &mut Vec<GlyphInfo>,
@@ -254,7 +260,8 @@ fn run<'a>(
 }
 
 /// Applies a lookup by its table at a place, and the lookups that its rules apply, in at most so
-/// many operations: each call of a lookup is one, and so is the end of a rule.
+/// many operations: each call of a lookup is one, and so is the end of a rule. What the table sees is
+/// the same at each place of a text.
 ///
 /// # Errors
 ///
@@ -265,25 +272,29 @@ fn run<'a>(
 /// # Contract
 ///
 /// ```text
+/// requires { let it = setting_of pass.now in
+///     sights.now ≡ sights_within it.gdef it.lookup lookup.now 0 }
 /// ensures { IfOk result (λ r. nested (setting_of pass.now) lookup.now text.old.items at operations
 ///     ≡ record { text = text.new.items; end = r.end; left = r.left }) }
 /// ```
 ///
 /// - `nested`: `crates/opentype_gsub/specs/Machine.antt`
-/// - `setting_of`: `crates/opentype_gsub/specs/Setting.antt`
+/// - `setting_of`, `sights_within`: `crates/opentype_gsub/specs/Setting.antt`
 ///
 /// </details>
 ///
 /// [`Memory`]: crate::ShaperError::Memory
+#[inline]
 pub fn apply_nested<'a>(
     pass: &Pass<'a>,
+    sights: &Sights,
     lookup: &LookupTable<'a>,
     text: &mut Vec<GlyphInfo>,
     at: usize,
     operations: usize,
 ) -> Result<Reached, ShaperError> {
     // (`?` would move the rule once more, with the room for its places)
-    match try_at(pass, lookup, text, at) {
+    match try_at(pass, sights, lookup, text, at) {
         Ok(Outcome::Nothing) => Ok(Reached {
             end: None,
             left: operations,

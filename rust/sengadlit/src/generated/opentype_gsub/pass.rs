@@ -86,6 +86,48 @@ impl LookupUse {
         }
     }
 
+    /// The same within a syllable, by its number. With 0 this is what the lookup sees wherever it is.
+    #[inline]
+    pub(crate) fn sights_within(&self, gdef: &[u8], lookup: &[u8], syllable: u8) -> Sights {
+        let how = self.application();
+        Sights {
+            input: Sight::of_input(gdef, lookup, &how, syllable),
+            context: Sight::of_context(gdef, lookup, &how, syllable),
+        }
+    }
+
+    // The syllable that its rules stay in from a glyph on; 0 for none.
+    #[inline]
+    fn syllable_from(&self, glyph: &GlyphInfo) -> u8 {
+        if self.per_syllable { glyph.syllable } else { 0 }
+    }
+
+    /// What a lookup's table sees from a glyph on, by what it sees wherever it is.
+    #[inline]
+    pub(crate) fn sights_from(&self, sights: &Sights, glyph: &GlyphInfo) -> Sights {
+        let syllable = self.syllable_from(glyph);
+        Sights {
+            input: Sight {
+                syllable,
+                ..sights.input
+            },
+            context: Sight {
+                syllable,
+                ..sights.context
+            },
+        }
+    }
+
+    /// Whether a lookup applies to a glyph, by what its table sees: the glyph has a bit of the mask, and
+    /// isn't ignored.
+    #[inline]
+    pub(crate) fn sees_by(&self, gdef: &[u8], sights: &Sights, glyph: &GlyphInfo) -> bool {
+        if glyph.mask & self.mask == 0 {
+            return false;
+        }
+        !ignores_glyph(gdef, sights.input.flag, sights.input.set, glyph)
+    }
+
     /// Whether a lookup, of this sight, applies to a glyph: the glyph has a bit of the mask, and isn't
     /// ignored.
     ///

@@ -32,6 +32,7 @@ fn wants_concat(flags: BufferFlags) -> bool {
 }
 
 // Applies a lookup by its table to a list of glyphs, from a place on.
+#[inline]
 fn apply_from<'a>(
     pass: &Pass<'a>,
     table: &LookupTable<'a>,
@@ -54,6 +55,7 @@ fn apply_from<'a>(
 }
 
 // A new list of glyphs, in the buffer's room: what a lookup makes of the buffer's from a place on.
+#[inline]
 fn apply(
     pass: &Pass<'_>,
     table: &LookupTable<'_>,
@@ -64,6 +66,32 @@ fn apply(
     text.extend_from_slice(buffer.glyphs())?;
     apply_from(pass, table, first, &mut text)?;
     Ok(text)
+}
+
+// The same from a place on, before which the lookup can't begin, by its table.
+#[inline(never)]
+fn substitute_from(
+    gdef: &[u8],
+    gsub: &LayoutTable<'_>,
+    lookup_use: &LookupUse,
+    table: &LookupTable<'_>,
+    first: usize,
+    buffer: &mut Buffer,
+) -> Result<(), ShaperError> {
+    let len = buffer.len();
+    let pass = Pass {
+        gdef,
+        gsub,
+        level: buffer.cluster_level(),
+        concat: wants_concat(buffer.flags()),
+        len,
+        limit: limit(len, buffer.max_len()),
+        lookup: *lookup_use,
+    };
+    match apply(&pass, table, first, buffer) {
+        Ok(text) => buffer.replace_glyphs(text),
+        Err(_) => Err(ShaperError::Memory),
+    }
 }
 
 /// Applies a lookup of GSUB, as a plan has it, to a text of glyphs without positions. The text gets
@@ -89,6 +117,7 @@ fn apply(
 /// </details>
 ///
 /// [`Memory`]: crate::ShaperError::Memory
+#[inline]
 pub fn substitute(
     gdef: &[u8],
     gsub: &LayoutTable<'_>,
@@ -98,21 +127,8 @@ pub fn substitute(
     // (most lookups have nothing to do in a text)
     let table = gsub.lookup(lookup_use.index);
     let first = first_place(lookup_use, &table, buffer.glyphs());
-    let len = buffer.len();
-    if first >= len {
+    if first >= buffer.len() {
         return Ok(());
     }
-    let pass = Pass {
-        gdef,
-        gsub,
-        level: buffer.cluster_level(),
-        concat: wants_concat(buffer.flags()),
-        len,
-        limit: limit(len, buffer.max_len()),
-        lookup: *lookup_use,
-    };
-    match apply(&pass, &table, first, buffer) {
-        Ok(text) => buffer.replace_glyphs(text),
-        Err(_) => Err(ShaperError::Memory),
-    }
+    substitute_from(gdef, gsub, lookup_use, &table, first, buffer)
 }

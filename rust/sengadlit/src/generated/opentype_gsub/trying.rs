@@ -116,7 +116,16 @@ pub(crate) fn flag_joins(glyphs: &mut [GlyphInfo], looked: Stretch) {
     }
 }
 
-/// Flags what a lookup's rules look at that don't fit a place, where that is wanted.
+// Flags what a lookup's rules look at that don't fit a place. (Few callers want that.)
+#[inline(never)]
+fn flag_looked(pass: &Pass<'_>, lookup: &[u8], glyphs: &mut [GlyphInfo], at: usize) {
+    let sights = pass.lookup.sights(pass.gdef, lookup, &glyphs[at]);
+    let looked = look_among(pass, &sights, lookup, glyphs, at);
+    flag_joins(glyphs, looked);
+}
+
+/// The same where that is wanted.
+#[inline]
 pub(crate) fn flag_tried(pass: &Pass<'_>, lookup: &[u8], glyphs: &mut [GlyphInfo], at: usize) {
     if !pass.concat {
         return;
@@ -124,7 +133,5 @@ pub(crate) fn flag_tried(pass: &Pass<'_>, lookup: &[u8], glyphs: &mut [GlyphInfo
     if at >= glyphs.len() {
         return;
     }
-    let sights = pass.lookup.sights(pass.gdef, lookup, &glyphs[at]);
-    let looked = look_among(pass, &sights, lookup, glyphs, at);
-    flag_joins(glyphs, looked);
+    flag_looked(pass, lookup, glyphs, at);
 }

@@ -5,7 +5,7 @@
 use crate::support::prelude::*;
 
 use crate::generated::opentype_gsub::machine::apply_nested;
-use crate::generated::opentype_gsub::pass::Pass;
+use crate::generated::opentype_gsub::pass::{Pass, Sights};
 use crate::generated::opentype_gsub::presence::next_place;
 use crate::generated::opentype_layout::starts::LookupTable;
 use crate::generated::shapers_buffer::buffer::{GlyphInfo, ShaperError};
@@ -20,18 +20,20 @@ struct Progress {
 }
 
 // What a lookup does at a place.
+#[inline]
 fn step<'a>(
     pass: &Pass<'a>,
+    sights: &Sights,
     lookup: &LookupTable<'a>,
     text: &mut Vec<GlyphInfo>,
     at: usize,
     left: usize,
 ) -> Result<Progress, ShaperError> {
     let next = at + 1;
-    if !pass.lookup.sees(pass.gdef, lookup.bytes(), &text[at]) {
+    if !pass.lookup.sees_by(pass.gdef, sights, &text[at]) {
         return Ok(Progress { next, left });
     }
-    let reached = apply_nested(pass, lookup, text, at, left)?;
+    let reached = apply_nested(pass, sights, lookup, text, at, left)?;
     let left = reached.left;
     match reached.end {
         Some(next) => Ok(Progress { next, left }),
@@ -61,6 +63,7 @@ fn step<'a>(
 /// </details>
 ///
 /// [`Memory`]: crate::ShaperError::Memory
+#[inline]
 pub fn walk<'a>(
     pass: &Pass<'a>,
     lookup: &LookupTable<'a>,
@@ -69,6 +72,7 @@ pub fn walk<'a>(
     steps: usize,
     operations: usize,
 ) -> Result<(), ShaperError> {
+    let sights = pass.lookup.sights_within(pass.gdef, lookup.bytes(), 0);
     let (mut at, mut left, mut steps) = (first, operations, steps);
     while steps > 0 {
         let place = next_place(&pass.lookup, lookup, text, at);
@@ -79,7 +83,7 @@ pub fn walk<'a>(
         if passed >= steps {
             return Ok(());
         }
-        let progress = step(pass, lookup, text, place, left)?;
+        let progress = step(pass, &sights, lookup, text, place, left)?;
         steps -= passed + 1;
         at = progress.next;
         left = progress.left;
