@@ -1,6 +1,8 @@
 //! The lookups of a font file.
-ghost use Rattle.std.specs.Prelude.{◌≡◌};
+ghost use Rattle.std.specs.Prelude.{◌≡◌, IfSome};
 ghost use Rattle.opentype_font.specs.Lookups.{application_for, noted_by, use_for};
+ghost use Rattle.opentype_gsub.specs.Substituted.{substituted};
+ghost use Rattle.shapers_pipeline.specs.Lookups.{IsAbsent};
 
 use crate::font::OpenTypeFont;
 use opentype_gpos::finish::finish_positions;
@@ -64,6 +66,20 @@ fn noted_by(tables: &FaceTables<'_>, glyph: &hb_glyph_info_t) -> GlyphProps
     }
 }
 
+// The lookups of GSUB that may change a text, if they are known.
+#[inline]
+#[tactic(auto, using(crate::proofs::Absent::absent_left))]
+fn present_in(tables: &FaceTables<'_>, buffer: &hb_buffer_t) -> Option<PresentLookups>
+    ensures { let gdef = tables.now.face.gdef.now in let gsub = tables.now.face.gsub.now in
+        IfSome result (λ present. (lookup : StageLookup) → IsAbsent present lookup.index →
+        substituted gdef gsub (use_for lookup) buffer.now ≡ buffer.now) }
+{
+    match tables.gsub().present(buffer.glyphs()) {
+        Some(LookupBits { low, high }) => Some(PresentLookups { low, high }),
+        None => None,
+    }
+}
+
 impl<'a> GlyphClasses for OpenTypeFont<'a> {
     ghost use Rattle.opentype_font.specs.Lookups.{is_gdef_mark};
 
@@ -124,10 +140,7 @@ impl<'a> Lookups for OpenTypeFont<'a> {
     }
 
     fn present_lookups(&self, buffer: &hb_buffer_t) -> Option<PresentLookups> {
-        match self.tables.gsub().present(buffer.glyphs()) {
-            Some(LookupBits { low, high }) => Some(PresentLookups { low, high }),
-            None => None,
-        }
+        present_in(&self.tables, buffer)
     }
 
     fn position(&self, lookup: &StageLookup, buffer: &mut hb_buffer_t) -> Result<(), ShaperError> {

@@ -58,6 +58,15 @@ fn noted_by(tables: &FaceTables<'_>, glyph: &GlyphInfo) -> GlyphProps {
     }
 }
 
+// The lookups of GSUB that may change a text, if they are known.
+#[inline]
+fn present_in(tables: &FaceTables<'_>, buffer: &Buffer) -> Option<PresentLookups> {
+    match tables.gsub().present(buffer.glyphs()) {
+        Some(LookupBits { low, high }) => Some(PresentLookups { low, high }),
+        None => None,
+    }
+}
+
 impl<'a> GlyphClasses for OpenTypeFont<'a> {
     #[inline]
     fn is_mark(&self, glyph: &GlyphInfo) -> bool {
@@ -86,10 +95,7 @@ impl<'a> Lookups for OpenTypeFont<'a> {
     }
 
     fn present_lookups(&self, buffer: &Buffer) -> Option<PresentLookups> {
-        match self.tables.gsub().present(buffer.glyphs()) {
-            Some(LookupBits { low, high }) => Some(PresentLookups { low, high }),
-            None => None,
-        }
+        present_in(&self.tables, buffer)
     }
 
     fn position(&self, lookup: &StageLookup, buffer: &mut Buffer) -> Result<(), ShaperError> {
