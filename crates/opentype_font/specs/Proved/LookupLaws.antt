@@ -15,6 +15,7 @@ use Rattle.opentype_gpos.proofs.Keeping.{finish_keeps, position_keeps}
 
 pub substituting_keeps : (gdef gsub : List ℕ) (lookup : LookupUse) (b : Buffer) →
     LookupKeeps b (substituted gdef gsub lookup b)
+unfolding substituted
 substituting_keeps gdef gsub lookup b = let kept = glyphs_keep gdef gsub lookup b in record {
   others = others_keep gdef gsub lookup b;
   old_clusters = kept.none;
