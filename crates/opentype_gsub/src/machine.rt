@@ -199,10 +199,10 @@ fn call<'a>(
 fn waited<'a>(caller: Option<Rule<'a>>) -> Rule<'a>
     ensures { frame_of result ≡ waiting_frame caller.entry }
 {
-    match caller {
-        Some(rule) => rule,
-        None => Rule::default(),
+    if let Some(rule) = caller {
+        return rule;
     }
+    Rule::default()
 }
 
 // Where a rule ends, its caller is in hand again; where it has none, the place behind what was done.

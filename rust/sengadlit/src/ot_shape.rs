@@ -147,8 +147,7 @@ pub use crate::generated::shapers_pipeline::{
 #[cfg(test)]
 mod tests {
     use super::{
-        Lookups, PresentLookups, ShapeSettings, Single, SingleLookups, length_bound, shape,
-        substitute_text,
+        Lookups, ShapeSettings, Single, SingleLookups, length_bound, shape, substitute_text,
     };
     use crate::alloc::Global;
     use crate::buffer::{

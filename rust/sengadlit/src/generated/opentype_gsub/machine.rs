@@ -156,10 +156,10 @@ fn call<'a>(
 
 // A rule that waited.
 fn waited<'a>(caller: Option<Rule<'a>>) -> Rule<'a> {
-    match caller {
-        Some(rule) => rule,
-        None => Rule::default(),
+    if let Some(rule) = caller {
+        return rule;
     }
+    Rule::default()
 }
 
 // Where a rule ends, its caller is in hand again; where it has none, the place behind what was done.

@@ -223,7 +223,7 @@ impl Buffer {
     ///
     /// </details>
     #[inline]
-    pub fn arranged<'a>(
+    pub(crate) fn arranged<'a>(
         &'a self,
         placements: &Placements,
         start: usize,
@@ -255,7 +255,7 @@ impl Buffer {
     ///
     /// </details>
     #[inline]
-    pub fn apply_all(&mut self, start: usize, end: usize, placements: &Placements) {
+    pub(crate) fn apply_all(&mut self, start: usize, end: usize, placements: &Placements) {
         let Placements {
             first,
             second,
@@ -310,7 +310,7 @@ impl Buffer {
     ///
     /// </details>
     #[inline(always)]
-    pub fn read_arranged<R: SyllableReading>(
+    pub(crate) fn read_arranged<R: SyllableReading>(
         &mut self,
         placements: &Placements,
         start: usize,
@@ -360,7 +360,7 @@ impl Buffer {
     ///
     /// </details>
     #[inline(always)]
-    pub fn walk_arranged<W: GlyphWalk>(
+    pub(crate) fn walk_arranged<W: GlyphWalk>(
         &mut self,
         placements: &Placements,
         start: usize,
@@ -415,7 +415,7 @@ impl Buffer {
     ///
     /// </details>
     #[inline]
-    pub fn arranged_place(
+    pub(crate) fn arranged_place(
         &self,
         placements: &Placements,
         start: usize,
@@ -449,7 +449,7 @@ impl Buffer {
     ///
     /// </details>
     #[inline]
-    pub fn change_arranged<C: GlyphChange>(
+    pub(crate) fn change_arranged<C: GlyphChange>(
         &mut self,
         placements: &Placements,
         start: usize,
@@ -538,7 +538,7 @@ impl Buffer {
     ///
     /// </details>
     #[inline]
-    pub fn merge_arranged(
+    pub(crate) fn merge_arranged(
         &mut self,
         placements: &Placements,
         start: usize,
