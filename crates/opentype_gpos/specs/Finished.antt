@@ -87,8 +87,8 @@ unfoldable pub placed_on : Direction → Attachment → Positions → Positions
 placed_on direction link ps = if nat_lt link.at (length ps) && nat_lt link.to (length ps)
     then slice_set ps link.at (placed_along direction link ps) else ps
 
--- A glyph and those that it hangs on: the one that it is attached to moves first, at most so many
--- in a row. Each is attached no longer then.
+-- A glyph and its chain of attachments: the glyph that it is attached to moves first, at most so
+-- many in a row. Each is attached no longer then.
 abbrev pub on_link : Direction → Positions → (ℕ → Positions) → Option Attachment → Positions
 on_link direction ps settled None = ps
 on_link direction ps settled (Some link) = placed_on direction link (settled link.to)

@@ -231,7 +231,7 @@ fn is_loose(position: &GlyphPosition) -> bool
     position.var % 65536 == 0
 }
 
-// Moves a glyph with those that it hangs on, more than one in a row.
+// Moves a glyph behind those of its chain of attachments, which has more than one.
 fn follow_chain(direction: Direction, at: usize, positions: &mut [GlyphPosition])
     requires { at < length positions.old }
     ensures { positions.new ≡ chain_followed 64 direction positions.old at }
@@ -240,7 +240,7 @@ fn follow_chain(direction: Direction, at: usize, positions: &mut [GlyphPosition]
     settle(direction, links.as_slice(), positions);
 }
 
-// Moves a glyph with the ones that it hangs on; mostly that is one, which hangs on none.
+// Moves a glyph behind those of its chain; mostly that is one glyph, which isn't attached itself.
 fn follow_link(direction: Direction, at: usize, positions: &mut [GlyphPosition])
     requires { at < length positions.old }
     ensures { positions.new ≡ chain_followed 64 direction positions.old at }
@@ -255,7 +255,7 @@ fn follow_link(direction: Direction, at: usize, positions: &mut [GlyphPosition])
     follow_chain(direction, at, positions);
 }
 
-// Moves a glyph with those that it hangs on, if there are some.
+// Moves a glyph behind those of its chain, if it is attached to any.
 #[inline]
 fn follow(direction: Direction, at: usize, positions: &mut [GlyphPosition])
     requires { at < length positions.old }

@@ -182,13 +182,13 @@ fn is_loose(position: &GlyphPosition) -> bool {
     position.var % 65536 == 0
 }
 
-// Moves a glyph with those that it hangs on, more than one in a row.
+// Moves a glyph behind those of its chain of attachments, which has more than one.
 fn follow_chain(direction: Direction, at: usize, positions: &mut [GlyphPosition]) {
     let links = climb(at, positions);
     settle(direction, links.as_slice(), positions);
 }
 
-// Moves a glyph with the ones that it hangs on; mostly that is one, which hangs on none.
+// Moves a glyph behind those of its chain; mostly that is one glyph, which isn't attached itself.
 fn follow_link(direction: Direction, at: usize, positions: &mut [GlyphPosition]) {
     if let Some(link) = attachment_of(positions, at) {
         if is_loose(&positions[link.to]) {
@@ -200,7 +200,7 @@ fn follow_link(direction: Direction, at: usize, positions: &mut [GlyphPosition])
     follow_chain(direction, at, positions);
 }
 
-// Moves a glyph with those that it hangs on, if there are some.
+// Moves a glyph behind those of its chain, if it is attached to any.
 #[inline]
 fn follow(direction: Direction, at: usize, positions: &mut [GlyphPosition]) {
     if is_loose(&positions[at]) {
