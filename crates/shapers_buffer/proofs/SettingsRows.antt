@@ -1,5 +1,5 @@
 -- A whole text put into a buffer, each field; positions that go with glyphs; code points that are no characters.
-use Rattle.std.specs.Prelude.{◌≡◌, true, false, List, [], ◌∷◌, map, take, Some, codes, pos, ℕ, refl}
+use Rattle.std.specs.Prelude.{◌≡◌, true, List, [], ◌∷◌, map, take, Some, codes, pos, ℕ, refl}
 use Rattle.std.specs.Borrow.{Bor}
 use Rattle.shapers_buffer.specs.Buffer.{Buffer, new_buffer}
 use Rattle.shapers_buffer.specs.Glyph.{default_glyph, default_position}

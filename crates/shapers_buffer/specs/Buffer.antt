@@ -13,7 +13,8 @@ use Rattle.shapers_buffer.specs.declared.buffer.tag.Script.{Script}
 use Rattle.shapers_buffer.specs.Glyph.{default_glyph, default_position}
 use Rattle.shapers_buffer.specs.LookupRecords.{record_for}
 
--- a buffer: glyphs, positions (none, or one per glyph), settings, marks, what lookups left, and the placement list
+-- a buffer: glyphs, positions (none, or one per glyph), settings, marks, what lookups left, and the
+-- placement list
 pub record Buffer : Type 0 where
   pub glyphs : Glyphs
   pub positions : List GlyphPosition

@@ -2,7 +2,8 @@
 use Rattle.std.specs.Prelude.{ℕ, ◌-◌, ◌*◌, ◌^◌, max, min, true}
 use Rattle.shapers_buffer.specs.declared.buffer.lookup_record.LookupRecord.{LookupRecord}
 
--- how many operations a text of so many glyphs has for its lookups: 4,096 a glyph, and 65,536 at least
+-- how many operations a text of so many glyphs has for its lookups: 4,096 a glyph, and at least
+-- 65,536
 abbrev pub operations_for : ℕ → ℕ
 operations_for len = max (min (2 ^ 64 - 1) (len * 4096)) 65536
 

@@ -72,8 +72,8 @@ present_bit present index =
 abbrev pub IsAbsent : PresentLookups → ℕ → Type 0
 IsAbsent present index = (index < 128) × (present_bit present index ≡ 0)
 
--- what is known of the lookups that may change a text, if it is of the text as it is now: the others
--- leave it so
+-- what is known of the lookups that may change a text, if it is of the text as it is now: the
+-- others leave it so
 pub record AreSeen (substituted : StageLookup → Buffer → Buffer) (seen : Seen) (b : Buffer) :
     Type 0 where
   pub same : seen.is_fresh ≡ true → IfSome seen.present (λ present. (lookup : StageLookup) →
