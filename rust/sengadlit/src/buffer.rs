@@ -6,10 +6,8 @@
 ///
 /// Where a caller's font or tables panic, the hook or pause leaves the buffer as it was, or empty with
 /// the settings of a new one. Where the context of [`normalize`] panics, the buffer is as it was, or
-/// empty with its own settings; but a text that has forms for variation selectors may stay, with some
-/// of the characters joined with their selectors in one cluster. A change or a rewriting of the
-/// caller's own ([`Buffer::with_glyphs_mut`], [`Buffer::rewrite`]) that panics leaves what it wrote to
-/// the glyphs.
+/// empty with its own settings; so it is where a rewriting ([`Buffer::rewrite`]) panics. A change of
+/// the caller's own ([`Buffer::with_glyphs_mut`]) that panics leaves what it wrote to the glyphs.
 ///
 /// [`normalize`]: crate::ot_shape_normalize::normalize
 pub use crate::generated::shapers_buffer::buffer::Buffer;

@@ -280,8 +280,8 @@ mod text {
             self.ask(|_| u16::try_from(c).ok().map(GlyphId))
         }
 
-        fn variation_glyph(&self, _: u32, _: u32) -> Option<GlyphId> {
-            self.ask(|_| None)
+        fn variation_glyph(&self, c: u32, _: u32) -> Option<GlyphId> {
+            self.ask(|_| u16::try_from(c).ok().map(GlyphId))
         }
 
         fn draws_selectors(&self) -> bool {
@@ -289,9 +289,8 @@ mod text {
         }
 
         fn general_category(&self, c: u32) -> GeneralCategory {
-            let is_mark = (0x300..=0x36F).contains(&c);
             let categories = [GeneralCategory::Ll, GeneralCategory::Mn];
-            self.ask(|_| categories[usize::from(is_mark)])
+            self.ask(|_| categories[usize::from(mark_class(c).is_some())])
         }
 
         fn modified_combining_class(&self, c: u32) -> u8 {
@@ -319,16 +318,24 @@ mod text {
         caught(|| normalize(&context, Rounds::Always, buffer).unwrap()).is_ok()
     }
 
-    /// A text of Latin letters and marks.
+    /// The combining class of a mark or a variation selector.
+    fn mark_class(c: u32) -> Option<u8> {
+        match c {
+            0x323 => Some(220),
+            0x300..=0x36F => Some(230),
+            0xFE00..=0xFE0F => Some(0),
+            _ => None,
+        }
+    }
+
+    /// A text of Latin letters, marks and variation selectors.
     fn latin_text(characters: &[u32]) -> Buffer {
         let mut text = text_of(characters, 100);
         text.with_glyphs_mut(|glyphs| {
-            for glyph in glyphs
-                .iter_mut()
-                .filter(|glyph| (0x300..0x370).contains(&glyph.glyph_id))
-            {
-                let class = if glyph.glyph_id == 0x323 { 220 } else { 230 };
-                glyph.unicode_props = UnicodeProps::new(GeneralCategory::Mn, class);
+            for glyph in glyphs {
+                if let Some(class) = mark_class(glyph.glyph_id) {
+                    glyph.unicode_props = UnicodeProps::new(GeneralCategory::Mn, class);
+                }
             }
         });
         text
@@ -357,13 +364,15 @@ mod text {
 
     #[test]
     fn normalization_leaves_no_half_made_buffer() {
-        // letters that come apart; letters alone, which stay; letters with marks that stay
+        // letters that come apart; letters alone, which stay; letters with marks that stay; letters
+        // in the forms of their variation selectors
         let apart = latin_text(&[0x1EBF, 0x323, 0x65, 0x301, 0x323, 0x34F, 0xEA, 0xE9]);
         let alone = latin_text(&[0x61, 0x62, 0x63, 0x64, 0x65, 0x66, 0x67, 0x68]);
         let staying = latin_text(&[0x61, 0x323, 0x62, 0x323, 0x63, 0x323, 0x64, 0x323]);
+        let selected = latin_text(&[0x61, 0xFE00].repeat(6));
         // (a shaper that leaves letters whole, and one that doesn't)
         for mode in [NormalizationMode::AUTO, NormalizationMode::CD] {
-            for text in [&apart, &alone, &staying] {
+            for text in [&apart, &alone, &staying, &selected] {
                 let kinds = left_by(text, |answers, buffer| is_normalized(mode, answers, buffer));
                 assert!(kinds.iter().all(|count| *count > 5), "{kinds:?}");
             }

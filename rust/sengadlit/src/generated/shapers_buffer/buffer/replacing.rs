@@ -32,7 +32,8 @@ pub trait GlyphRewriting {
 
 impl Buffer {
     /// Rewrites the text to `len` glyphs; the buffer has no positions afterwards. Refuses by their
-    /// number, before anything changes.
+    /// number, before anything changes. The text is out of the buffer meanwhile: a rewriting that
+    /// panics leaves the buffer empty.
     ///
     /// # Errors
     ///
@@ -76,10 +77,12 @@ impl Buffer {
         self.info.reserve(len.saturating_sub(self.info.len()))?;
         self.spare.clear();
         self.pos.clear();
-        rewriting.rewrite(&mut self.info, &mut self.spare);
+        let alloc = self.alloc();
+        let mut glyphs = mem::replace(&mut self.info, Vec::new(alloc));
+        rewriting.rewrite(&mut glyphs, &mut self.spare);
         // (in plain Rust a caller's rewriting may write more than it should)
         self.spare.truncate(len);
-        mem::swap(&mut self.info, &mut self.spare);
+        self.info = mem::replace(&mut self.spare, glyphs);
         Ok(())
     }
 
