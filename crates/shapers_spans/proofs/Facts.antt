@@ -2,7 +2,7 @@
 use Rattle.std.proofs.Common.{◌≡◌, ℕ, zero, suc, ◌*◌, ◌<◌, Bool, true, false, ◌==◌, List, [], ◌∷◌, Some, None, cond, get_or, take, drop, length, refl, sym, ap, ◌∙◌, arith, eqb-true}
 use Rattle.std.specs.Prelude.{nat_lt}
 use Rattle.std.proofs.lemmas.Bool.{ltb-true, cond-false, ne_eqb}
-use Rattle.std.proofs.lemmas.List.{get_or-drop, get_or-take}
+use Rattle.std.proofs.lemmas.List.{get_or_default, get_or-drop, get_or-take}
 use Rattle.shapers_spans.specs.Machine.{Tables, state_behind, run, kind_or_none, ends_by}
 use Rattle.shapers_spans.proofs.StepLemmas.{cond_and}
 
@@ -80,8 +80,22 @@ dead-ends t d h w =
     let f = dead-facts t d h in
     ap (λ q. kind_or_none (get_or t.kind_in q 255)) (dead-run t d f.stays w) ∙ ap kind_or_none f.none
 
-pub some_kind : (k : ℕ) → (k ≡ 255 → ⊥) → Some k ≡ kind_or_none k
+some_kind : (k : ℕ) → (k ≡ 255 → ⊥) → Some k ≡ kind_or_none k
 some_kind k h = sym (cond-false (k == 255) None (Some k) (ne_eqb k 255 h))
 
-pub no_kind : (k : ℕ) → k ≡ 255 → None ≡ kind_or_none k
-no_kind k e = sym (ap kind_or_none e)
+-- the kind of what ends in a state, if anything does
+pub kind_none : (t : Tables) (q : ℕ) → q < length t.kind_in → get_or t.kind_in q 0 ≡ 255 → None ≡ ends_by t q []
+unfolding run
+kind_none t q l h = sym (ap kind_or_none (get_or_default t.kind_in q 255 0 l ∙ h))
+
+pub kind_some : (t : Tables) (q : ℕ) → q < length t.kind_in → (get_or t.kind_in q 0 ≡ 255 → ⊥)
+    → Some (get_or t.kind_in q 0) ≡ ends_by t q []
+unfolding run
+kind_some t q l h =
+    let e : get_or t.kind_in q 0 ≡ get_or t.kind_in q 255 = get_or_default t.kind_in q 0 255 l in
+    ap (λ k. Some k) e ∙ some_kind (get_or t.kind_in q 255) (λ f. h (e ∙ f))
+
+-- one category more
+pub ends_next : (t : Tables) (q k : ℕ) (w : List ℕ) → ends_by t q (k ∷ w) ≡ ends_by t (state_behind t q k) w
+unfolding run
+ends_next t q k w = refl

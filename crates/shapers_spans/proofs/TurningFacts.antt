@@ -6,7 +6,7 @@ use Rattle.std.proofs.lemmas.Bool.{ltb-true, cond_both, cases_lt, cond-false, co
 use Rattle.std.proofs.lemmas.List.{get_or-drop, get_or-take, length-drop, length-take-le}
 use Rattle.std.proofs.Math.Nat.{suc-mul, mul-le-mul_right}
 use Rattle.shapers_spans.specs.Machine.{Tables, run, ends_by}
-use Rattle.shapers_spans.specs.Turning.{Turning, joins, rank_of, has_begun, has_wait, has_turn}
+use Rattle.shapers_spans.specs.Turning.{CellTurns, Turning, joins, rank_of, has_begun, has_wait, has_turn}
 use Rattle.shapers_spans.proofs.StepLemmas.{cond_and}
 
 -- The test of a cell: the class c leads from the state q to p.
@@ -61,16 +61,6 @@ states_turn t f (suc q) = let rest = states_turn t f q in cond (state_turns t f 
 -- the whole test, of n states
 unfoldable pub turning_ok : Tables → Turning → ℕ → Bool
 turning_ok t f n = let states = states_turn t f n in cond (length t.rows == n * t.row_len) states false
-
--- what it shows of a cell, by category
-pub record CellTurns (t : Tables) (f : Turning) (q k p : ℕ) : Type 0 where
-  pub falls : 0 < rank_of f q → ends_by t p [] ≡ None → has_turn f p ≡ false → rank_of f p < rank_of f q
-  pub low : rank_of f p ≤ 2
-  pub one : q ≡ 0 → joins t f k ≡ true → has_begun f p ≡ true
-  pub begun : has_begun f p ≡ true → (has_turn f p ≡ false) × (rank_of f p ≤ 1)
-  pub two : has_begun f q ≡ true → joins t f k ≡ true → (p ≡ f.turned) × (ends_by t p [] ≡ None)
-  pub waits : has_wait f p ≡ true → (joins t f k ≡ true) × ((has_wait f q ≡ true) ⊎ (ends_by t q [] ≡ None → ⊥))
-  pub stays : has_turn f q ≡ true → joins t f k ≡ true → p ≡ q
 
 cond_then : (x y : Bool) → cond x y true ≡ true → x ≡ true → y ≡ true
 cond_then true y h e = h

@@ -1,80 +1,58 @@
 //! The machine for the syllables of Khmer, made by checks/machines from specs/Khmer.antt.
-use crate::machine::Machine;
+use crate::machine::MachineTables;
 use shapers_base::buffer::hb_glyph_info_t;
-
-// How long a row of the table is: a place for each class.
-const ROW_LEN: usize = 12;
-
-// The state from which nothing ends. Behind it are the states that turn.
-const DEAD: u8 = 32;
-
-// What stands for a kind where nothing ends.
-const NONE: u8 = 255;
 
 /// The machine for the syllables of Khmer.
 #[derive(Clone, Copy, Debug)]
 pub struct Khmer;
 
-impl Machine for Khmer {
-    ghost use Rattle.std.specs.Prelude.{◌<◌};
-    ghost use Rattle.shapers_spans.specs.Machine.{ends_by};
-    ghost use Rattle.shapers_spans.specs.Turning.{joins, rank_of, has_begun, has_turn, has_wait};
+impl MachineTables for Khmer {
     ghost use Rattle.shapers_spans.specs.Khmer.{khmer_grammar};
     ghost use Rattle.shapers_spans.specs.KhmerMachine.{khmer_tables, khmer_turning};
 
     ghost grammar = { λ _. khmer_grammar };
 
-    ghost ends = { λ _ state w. ends_by khmer_tables state w };
+    ghost tables = { λ _. khmer_tables };
 
-    ghost is_state = { λ _ state. state < 43 };
-
-    ghost first = { λ _. 0 };
-
-    ghost is_joiner = { λ _ category. joins khmer_tables khmer_turning category };
-
-    ghost rank = { λ _ state. rank_of khmer_turning state };
-
-    ghost waits = { λ _ state. has_wait khmer_turning state };
-
-    ghost turns = { λ _ state. has_turn khmer_turning state };
-
-    ghost begun = { λ _ state. has_begun khmer_turning state };
-
-    ghost turned = { λ _. 33 };
+    ghost turning = { λ _. khmer_turning };
 
     #[inline]
-    fn other(&self) -> u8 {
+    fn other_kind(&self) -> u8 {
         2
     }
 
     #[inline]
-    fn start(&self) -> u8 {
+    fn first_state(&self) -> u8 {
         0
     }
 
     #[inline]
-    fn next(&self, state: u8, category: u8) -> u8 {
-        ROWS[state as usize * ROW_LEN + CLASSES[category as usize] as usize]
+    fn dead_state(&self) -> u8 {
+        32
     }
 
     #[inline]
-    fn is_dead(&self, state: u8) -> bool {
-        state == DEAD
+    fn classes(&self) -> &[u8; 256] {
+        &CLASSES
     }
 
     #[inline]
-    fn kind(&self, state: u8) -> Option<u8> {
-        let kind = KINDS[state as usize];
-        if kind == NONE { None } else { Some(kind) }
+    fn row_len(&self) -> usize {
+        12
     }
 
     #[inline]
-    fn turns(&self, state: u8) -> bool {
-        state > DEAD
+    fn rows(&self) -> &[u8] {
+        &ROWS
     }
 
     #[inline]
-    fn next_read(&self, _glyphs: &[hb_glyph_info_t], n: usize) -> usize {
+    fn kinds(&self) -> &[u8] {
+        &KINDS
+    }
+
+    #[inline]
+    fn read_from(&self, _glyphs: &[hb_glyph_info_t], n: usize) -> usize {
         n
     }
 }

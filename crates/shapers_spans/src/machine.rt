@@ -1,8 +1,12 @@
-//! Machines that read categories, one after another.
+//! Machines that read categories, one after another, and machines by tables.
 ghost use Rattle.std.specs.Prelude.{◌≡◌, ◌+◌, ◌<◌, ◌≤◌, ◌⊎◌, ℕ, List, [], ◌∷◌, IsTrue, None, drop, length, true, false};
 ghost use Rattle.shapers_spans.specs.Grammar.{IsKind, KindsFit, reach_of};
+ghost use Rattle.shapers_spans.specs.Turning.{AreTablesOf};
 
 use shapers_base::buffer::hb_glyph_info_t;
+
+// What stands for a kind in a table where nothing ends.
+const NO_END: u8 = 255;
 
 /// A machine for a grammar: its state says what the rules take from there on.
 ///
@@ -97,4 +101,121 @@ pub trait Machine {
         ensures place { result ≡ n + reach_of (grammar self.now).passes (drop n glyphs.now) 0 }
         ensures within { result ≤ length glyphs.now }
         ensures end { (grammar self.now).passes [] ≡ false };
+}
+
+/// The tables of a machine, and what it passes over. A row of states, one for each class of
+/// categories, says what comes behind a state; behind the dead state are the states that turn.
+pub trait MachineTables {
+    ghost use Rattle.shapers_spans.specs.Grammar.{Grammar};
+    ghost use Rattle.shapers_spans.specs.Machine.{Tables};
+    ghost use Rattle.shapers_spans.specs.Turning.{Turning};
+
+    ghost grammar: { Self → Grammar };
+
+    ghost tables: { Self → Tables };
+
+    ghost turning: { Self → Turning };
+
+    /// The kind of a glyph that begins nothing that a rule takes.
+    fn other_kind(&self) -> u8
+        ensures kind { result ≡ (grammar self.now).other }
+        ensures fits { result ≤ 15 };
+
+    /// The state in front of a syllable.
+    fn first_state(&self) -> u8
+        ensures first { result ≡ 0 }
+        ensures passes { (grammar self.now).passes [] ≡ false }
+        ensures tables { AreTablesOf (grammar self.now) (tables self.now) (turning self.now) };
+
+    /// The state from which nothing ends.
+    fn dead_state(&self) -> u8
+        ensures state { result ≡ (turning self.now).dead }
+        ensures tables { AreTablesOf (grammar self.now) (tables self.now) (turning self.now) };
+
+    /// The class of each category.
+    fn classes(&self) -> &[u8; 256]
+        ensures classes { result.now ≡ (tables self.now).class_of }
+        ensures tables { AreTablesOf (grammar self.now) (tables self.now) (turning self.now) };
+
+    /// How long a row is: a place for each class.
+    fn row_len(&self) -> usize
+        ensures { result ≡ (tables self.now).row_len };
+
+    /// The next state, a row for each state.
+    fn rows(&self) -> &[u8]
+        ensures { result.now ≡ (tables self.now).rows };
+
+    /// The kind of what ends in each state, 255 where nothing does.
+    fn kinds(&self) -> &[u8]
+        ensures { result.now ≡ (tables self.now).kind_in };
+
+    /// The first place from `n` on whose glyph is read.
+    fn read_from(&self, glyphs: &[hb_glyph_info_t], n: usize) -> usize
+        requires { n ≤ length glyphs.now }
+        ensures place { result ≡ n + reach_of (grammar self.now).passes (drop n glyphs.now) 0 }
+        ensures within { result ≤ length glyphs.now }
+        ensures end { (grammar self.now).passes [] ≡ false };
+}
+
+impl<T: MachineTables> Machine for T {
+    ghost use Rattle.std.specs.Prelude.{◌<◌, length};
+    ghost use Rattle.shapers_spans.specs.Machine.{ends_by};
+    ghost use Rattle.shapers_spans.specs.Turning.{joins, rank_of, has_begun, has_turn, has_wait};
+
+    ghost grammar = { λ it. T.grammar it };
+
+    ghost ends = { λ it state w. ends_by (T.tables it) state w };
+
+    ghost is_state = { λ it state. state < length (T.tables it).kind_in };
+
+    ghost first = { λ _. 0 };
+
+    ghost is_joiner = { λ it category. joins (T.tables it) (T.turning it) category };
+
+    ghost rank = { λ it state. rank_of (T.turning it) state };
+
+    ghost waits = { λ it state. has_wait (T.turning it) state };
+
+    ghost turns = { λ it state. has_turn (T.turning it) state };
+
+    ghost begun = { λ it state. has_begun (T.turning it) state };
+
+    ghost turned = { λ it. (T.turning it).turned };
+
+    #[inline]
+    fn other(&self) -> u8 {
+        self.other_kind()
+    }
+
+    #[inline]
+    fn start(&self) -> u8 {
+        self.first_state()
+    }
+
+    #[inline]
+    fn next(&self, state: u8, category: u8) -> u8 {
+        let class = self.classes()[category as usize];
+        self.rows()[state as usize * self.row_len() + class as usize]
+    }
+
+    #[inline]
+    fn is_dead(&self, state: u8) -> bool {
+        state == self.dead_state()
+    }
+
+    #[inline]
+    fn kind(&self, state: u8) -> Option<u8> {
+        let kind = self.kinds()[state as usize];
+        if kind == NO_END { None } else { Some(kind) }
+    }
+
+    #[inline]
+    fn turns(&self, state: u8) -> bool {
+        state > self.dead_state()
+    }
+
+    #[inline]
+    fn next_read(&self, glyphs: &[hb_glyph_info_t], n: usize) -> usize {
+        self.read_from(glyphs, n)
+    }
 }

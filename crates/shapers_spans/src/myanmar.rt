@@ -1,80 +1,58 @@
 //! The machine for the syllables of Myanmar, made by checks/machines from specs/Myanmar.antt.
-use crate::machine::Machine;
+use crate::machine::MachineTables;
 use shapers_base::buffer::hb_glyph_info_t;
-
-// How long a row of the table is: a place for each class.
-const ROW_LEN: usize = 23;
-
-// The state from which nothing ends. Behind it are the states that turn.
-const DEAD: u8 = 57;
-
-// What stands for a kind where nothing ends.
-const NONE: u8 = 255;
 
 /// The machine for the syllables of Myanmar.
 #[derive(Clone, Copy, Debug)]
 pub struct Myanmar;
 
-impl Machine for Myanmar {
-    ghost use Rattle.std.specs.Prelude.{◌<◌};
-    ghost use Rattle.shapers_spans.specs.Machine.{ends_by};
-    ghost use Rattle.shapers_spans.specs.Turning.{joins, rank_of, has_begun, has_turn, has_wait};
+impl MachineTables for Myanmar {
     ghost use Rattle.shapers_spans.specs.Myanmar.{myanmar_grammar};
     ghost use Rattle.shapers_spans.specs.MyanmarMachine.{myanmar_tables, myanmar_turning};
 
     ghost grammar = { λ _. myanmar_grammar };
 
-    ghost ends = { λ _ state w. ends_by myanmar_tables state w };
+    ghost tables = { λ _. myanmar_tables };
 
-    ghost is_state = { λ _ state. state < 58 };
-
-    ghost first = { λ _. 0 };
-
-    ghost is_joiner = { λ _ category. joins myanmar_tables myanmar_turning category };
-
-    ghost rank = { λ _ state. rank_of myanmar_turning state };
-
-    ghost waits = { λ _ state. has_wait myanmar_turning state };
-
-    ghost turns = { λ _ state. has_turn myanmar_turning state };
-
-    ghost begun = { λ _ state. has_begun myanmar_turning state };
-
-    ghost turned = { λ _. 57 };
+    ghost turning = { λ _. myanmar_turning };
 
     #[inline]
-    fn other(&self) -> u8 {
+    fn other_kind(&self) -> u8 {
         3
     }
 
     #[inline]
-    fn start(&self) -> u8 {
+    fn first_state(&self) -> u8 {
         0
     }
 
     #[inline]
-    fn next(&self, state: u8, category: u8) -> u8 {
-        ROWS[state as usize * ROW_LEN + CLASSES[category as usize] as usize]
+    fn dead_state(&self) -> u8 {
+        57
     }
 
     #[inline]
-    fn is_dead(&self, state: u8) -> bool {
-        state == DEAD
+    fn classes(&self) -> &[u8; 256] {
+        &CLASSES
     }
 
     #[inline]
-    fn kind(&self, state: u8) -> Option<u8> {
-        let kind = KINDS[state as usize];
-        if kind == NONE { None } else { Some(kind) }
+    fn row_len(&self) -> usize {
+        23
     }
 
     #[inline]
-    fn turns(&self, state: u8) -> bool {
-        state > DEAD
+    fn rows(&self) -> &[u8] {
+        &ROWS
     }
 
     #[inline]
-    fn next_read(&self, _glyphs: &[hb_glyph_info_t], n: usize) -> usize {
+    fn kinds(&self) -> &[u8] {
+        &KINDS
+    }
+
+    #[inline]
+    fn read_from(&self, _glyphs: &[hb_glyph_info_t], n: usize) -> usize {
         n
     }
 }

@@ -50,7 +50,7 @@ pub(crate) fn next_read(glyphs: &[hb_glyph_info_t], n: usize) -> usize
     behind_passed(glyphs, n)
 }
 
-// The same, one glyph after another.
+// The first place from `n` on whose glyph isn't passed over, found glyph by glyph.
 #[inline(never)]
 fn behind_passed(glyphs: &[hb_glyph_info_t], n: usize) -> usize
     requires { n ≤ length glyphs.now }

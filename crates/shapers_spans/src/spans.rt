@@ -44,7 +44,7 @@ pub fn spans_into<M: Machine>(
     spans_into_with::<M, Brand>(machine, glyphs, spans, Blank::new(1))
 }
 
-// The same with a count of its own.
+// Fills the list as `spans_into`, with a count of reads of its own.
 #[inline]
 fn spans_into_with<M: Machine, L: Ledger>(
     machine: &M,

@@ -51,7 +51,7 @@ pub fn find_syllables<M: Machine>(machine: &M, glyphs: &mut [hb_glyph_info_t])
     find_syllables_with::<M, Brand>(machine, glyphs, Blank::new(1));
 }
 
-// The same with a count of its own.
+// Finds syllables as `find_syllables`, with a count of reads of its own.
 #[inline]
 fn find_syllables_with<M: Machine, L: Ledger>(
     machine: &M,

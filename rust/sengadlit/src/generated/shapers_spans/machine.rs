@@ -1,8 +1,11 @@
 // Generated from crates/shapers_spans/src/machine.rt by rust/erase; edit the source.
 
-//! Machines that read categories, one after another.
+//! Machines that read categories, one after another, and machines by tables.
 
 use crate::generated::shapers_base::buffer::GlyphInfo;
+
+// What stands for a kind in a table where nothing ends.
+const NO_END: u8 = 255;
 
 /// A machine for a grammar: its state says what the rules take from there on.
 ///
@@ -161,4 +164,167 @@ pub trait Machine {
     ///
     /// </details>
     fn next_read(&self, glyphs: &[GlyphInfo], n: usize) -> usize;
+}
+
+/// The tables of a machine, and what it passes over. A row of states, one for each class of
+/// categories, says what comes behind a state; behind the dead state are the states that turn.
+pub trait MachineTables {
+    /// The kind of a glyph that begins nothing that a rule takes.
+    ///
+    /// <details><summary>Contract</summary>
+    ///
+    /// # Contract
+    ///
+    /// ```text
+    /// ensures kind { result ≡ (grammar self.now).other }
+    /// ensures fits { result ≤ 15 }
+    /// ```
+    ///
+    /// </details>
+    fn other_kind(&self) -> u8;
+
+    /// The state in front of a syllable.
+    ///
+    /// <details><summary>Contract</summary>
+    ///
+    /// # Contract
+    ///
+    /// ```text
+    /// ensures first { result ≡ 0 }
+    /// ensures passes { (grammar self.now).passes [] ≡ false }
+    /// ensures tables { AreTablesOf (grammar self.now) (tables self.now) (turning self.now) }
+    /// ```
+    ///
+    /// - `AreTablesOf`: `crates/shapers_spans/specs/Turning.antt`
+    ///
+    /// </details>
+    fn first_state(&self) -> u8;
+
+    /// The state from which nothing ends.
+    ///
+    /// <details><summary>Contract</summary>
+    ///
+    /// # Contract
+    ///
+    /// ```text
+    /// ensures state { result ≡ (turning self.now).dead }
+    /// ensures tables { AreTablesOf (grammar self.now) (tables self.now) (turning self.now) }
+    /// ```
+    ///
+    /// - `AreTablesOf`: `crates/shapers_spans/specs/Turning.antt`
+    ///
+    /// </details>
+    fn dead_state(&self) -> u8;
+
+    /// The class of each category.
+    ///
+    /// <details><summary>Contract</summary>
+    ///
+    /// # Contract
+    ///
+    /// ```text
+    /// ensures classes { result.now ≡ (tables self.now).class_of }
+    /// ensures tables { AreTablesOf (grammar self.now) (tables self.now) (turning self.now) }
+    /// ```
+    ///
+    /// - `AreTablesOf`: `crates/shapers_spans/specs/Turning.antt`
+    ///
+    /// </details>
+    fn classes(&self) -> &[u8; 256];
+
+    /// How long a row is: a place for each class.
+    ///
+    /// <details><summary>Contract</summary>
+    ///
+    /// # Contract
+    ///
+    /// ```text
+    /// ensures { result ≡ (tables self.now).row_len }
+    /// ```
+    ///
+    /// </details>
+    fn row_len(&self) -> usize;
+
+    /// The next state, a row for each state.
+    ///
+    /// <details><summary>Contract</summary>
+    ///
+    /// # Contract
+    ///
+    /// ```text
+    /// ensures { result.now ≡ (tables self.now).rows }
+    /// ```
+    ///
+    /// </details>
+    fn rows(&self) -> &[u8];
+
+    /// The kind of what ends in each state, 255 where nothing does.
+    ///
+    /// <details><summary>Contract</summary>
+    ///
+    /// # Contract
+    ///
+    /// ```text
+    /// ensures { result.now ≡ (tables self.now).kind_in }
+    /// ```
+    ///
+    /// </details>
+    fn kinds(&self) -> &[u8];
+
+    /// The first place from `n` on whose glyph is read.
+    ///
+    /// <details><summary>Contract</summary>
+    ///
+    /// # Contract
+    ///
+    /// ```text
+    /// requires { n ≤ length glyphs.now }
+    /// ensures place { result ≡ n + reach_of (grammar self.now).passes (drop n glyphs.now) 0 }
+    /// ensures within { result ≤ length glyphs.now }
+    /// ensures end { (grammar self.now).passes [] ≡ false }
+    /// ```
+    ///
+    /// - `reach_of`: `crates/shapers_spans/specs/Grammar.antt`
+    ///
+    /// </details>
+    fn read_from(&self, glyphs: &[GlyphInfo], n: usize) -> usize;
+}
+
+impl<T: MachineTables> Machine for T {
+    #[inline]
+    fn other(&self) -> u8 {
+        self.other_kind()
+    }
+
+    #[inline]
+    fn start(&self) -> u8 {
+        self.first_state()
+    }
+
+    #[inline]
+    fn next(&self, state: u8, category: u8) -> u8 {
+        let class = self.classes()[category as usize];
+        self.rows()[state as usize * self.row_len() + class as usize]
+    }
+
+    #[inline]
+    fn is_dead(&self, state: u8) -> bool {
+        state == self.dead_state()
+    }
+
+    #[inline]
+    fn kind(&self, state: u8) -> Option<u8> {
+        let kind = self.kinds()[state as usize];
+        if kind == NO_END { None } else { Some(kind) }
+    }
+
+    #[inline]
+    fn turns(&self, state: u8) -> bool {
+        state > self.dead_state()
+    }
+
+    #[inline]
+    fn next_read(&self, glyphs: &[GlyphInfo], n: usize) -> usize {
+        self.read_from(glyphs, n)
+    }
 }

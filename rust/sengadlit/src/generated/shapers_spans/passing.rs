@@ -40,7 +40,7 @@ pub(crate) fn next_read(glyphs: &[GlyphInfo], n: usize) -> usize {
     behind_passed(glyphs, n)
 }
 
-// The same, one glyph after another.
+// The first place from `n` on whose glyph isn't passed over, found glyph by glyph.
 #[inline(never)]
 fn behind_passed(glyphs: &[GlyphInfo], n: usize) -> usize {
     for place in n..glyphs.len() {

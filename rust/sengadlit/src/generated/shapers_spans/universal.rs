@@ -3,56 +3,51 @@
 //! The machine for the syllables of the universal shaper, made by checks/machines from specs/Universal.antt.
 
 use crate::generated::shapers_base::buffer::GlyphInfo;
-use crate::generated::shapers_spans::machine::Machine;
+use crate::generated::shapers_spans::machine::MachineTables;
 use crate::generated::shapers_spans::passing::next_read;
-
-// How long a row of the table is: a place for each class.
-const ROW_LEN: usize = 43;
-
-// The state from which nothing ends. Behind it are the states that turn.
-const DEAD: u8 = 107;
-
-// What stands for a kind where nothing ends.
-const NONE: u8 = 255;
 
 /// The machine for the syllables of the universal shaper.
 #[derive(Clone, Copy, Debug, Default, PartialEq, Eq)]
 pub struct Universal;
 
-impl Machine for Universal {
+impl MachineTables for Universal {
     #[inline]
-    fn other(&self) -> u8 {
+    fn other_kind(&self) -> u8 {
         8
     }
 
     #[inline]
-    fn start(&self) -> u8 {
+    fn first_state(&self) -> u8 {
         0
     }
 
     #[inline]
-    fn next(&self, state: u8, category: u8) -> u8 {
-        ROWS[state as usize * ROW_LEN + CLASSES[category as usize] as usize]
+    fn dead_state(&self) -> u8 {
+        107
     }
 
     #[inline]
-    fn is_dead(&self, state: u8) -> bool {
-        state == DEAD
+    fn classes(&self) -> &[u8; 256] {
+        &CLASSES
     }
 
     #[inline]
-    fn kind(&self, state: u8) -> Option<u8> {
-        let kind = KINDS[state as usize];
-        if kind == NONE { None } else { Some(kind) }
+    fn row_len(&self) -> usize {
+        43
     }
 
     #[inline]
-    fn turns(&self, state: u8) -> bool {
-        state > DEAD
+    fn rows(&self) -> &[u8] {
+        &ROWS
     }
 
     #[inline]
-    fn next_read(&self, glyphs: &[GlyphInfo], n: usize) -> usize {
+    fn kinds(&self) -> &[u8] {
+        &KINDS
+    }
+
+    #[inline]
+    fn read_from(&self, glyphs: &[GlyphInfo], n: usize) -> usize {
         next_read(glyphs, n)
     }
 }
