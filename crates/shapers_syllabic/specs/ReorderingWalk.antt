@@ -1,11 +1,11 @@
 -- Words of the code's walk over syllables: groups of glyphs that aren't written yet.
-use Rattle.std.specs.Prelude.{ℕ, ◌<◌, ◌≡◌, ◌≤◌, Bool, false, true, [], drop, length, take, Option, MatchBool, MatchOption}
+use Rattle.std.specs.Prelude.{ℕ, ◌<◌, ◌≡◌, ◌≤◌, Bool, false, true, [], drop, length, take, Option, MatchOption}
 use Rattle.std.specs.List.{list_any}
 use Rattle.shapers_buffer.specs.Glyphs.{Glyph, Glyphs}
 use Rattle.shapers_buffer.specs.Buffer.{Buffer}
 use Rattle.shapers_buffer.specs.Clusters.{stretch_of}
 use Rattle.shapers_buffer.specs.Syllables.{first_syllable_len}
-use Rattle.shapers_clusters.specs.CarriedGroups.{AreCarried, CanSettle, GroupsGuarded, GroupsSettled, with_groups}
+use Rattle.shapers_clusters.specs.CarriedGroups.{AreCarried, with_groups}
 use Rattle.shapers_clusters.specs.declared.carried_groups.CarriedGroups.{CarriedGroups}
 use Rattle.shapers_syllabic.specs.declared.ot_shaper_syllabic.reordering.Carrying.{Carrying}
 use Rattle.shapers_syllabic.specs.Borders.{MeetAtBorder}
@@ -35,24 +35,15 @@ pub record CarryingFits (place : ℕ) (it : Carrying) (gs : Glyphs) : Type 0 whe
   pub ends : it.groups.end ≤ place
   pub off : it.is_on ≡ false → it.groups.groups.items ≡ []
 
--- The syllable from first to end is reordered, behind what is carried; and what is carried then.
-pub record ReorderedBehind (link : ℕ → ℕ → Buffer → Buffer → Type 0) (first end : ℕ) (it :
-    Carrying) (old : Buffer) (after : Carrying) (new : Buffer) : Type 0 where
-  pub linked : link first end (groups_written it.groups old) (groups_written after.groups new)
-  pub fits : CarryingFits first after new.glyphs
-
--- before a syllable, or behind it
+-- Before the syllable from first to end, what is carried fits these glyphs and ends before it.
 pub record CanGuard (first end : ℕ) (it : CarriedGroups) (gs : Glyphs) : Type 0 where
   pub fits : AreCarried it gs
   pub further : it.end ≤ first
   pub in_order : first ≤ end
   pub in_range : end ≤ length gs
 
-abbrev pub CanWalk : Carrying → Glyphs → Type 0
-CanWalk w gs =
-    MatchBool w.settles (CanSettle w.groups w.count gs) (CanGuard w.first w.end w.groups gs)
-
-pub record GroupsWalked (v : Carrying) (gs : Glyphs) (w : Carrying) (hs : Glyphs) : Type 0 where
-  pub on : w.is_on ≡ v.is_on
-  pub made : MatchBool v.settles (GroupsSettled v.groups v.count gs w.groups hs)
-      (GroupsGuarded v.first v.end v.groups gs w.groups w.count hs)
+-- The syllable from first to end is reordered, behind what is carried; and what is carried then.
+pub record ReorderedBehind (link : ℕ → ℕ → Buffer → Buffer → Type 0) (first end : ℕ) (it :
+    Carrying) (old : Buffer) (after : Carrying) (new : Buffer) : Type 0 where
+  pub linked : link first end (groups_written it.groups old) (groups_written after.groups new)
+  pub fits : CarryingFits first after new.glyphs

@@ -1,12 +1,12 @@
 -- What the shapers of syllabic scripts do to the whole text.
-use Rattle.std.specs.Prelude.{ℕ, ◌≤◌, ◌==◌, ◌||◌, List, length, map, All, IsTrue}
+use Rattle.std.specs.Prelude.{ℕ, ◌==◌, ◌||◌, List, map}
 use Rattle.std.specs.List.{flat_map, list_any}
 use Rattle.shapers_buffer.specs.Glyphs.{Glyph, Glyphs}
 use Rattle.shapers_buffer.specs.declared.buffer.syllables.Span.{Span}
 use Rattle.shapers_buffer.specs.Buffer.{Buffer}
 use Rattle.shapers_buffer.specs.GlyphFlags.{flagged}
 use Rattle.shapers_buffer.specs.Properties.{SUBSTITUTED, without_mark}
-use Rattle.shapers_buffer.specs.Syllables.{kind_of, syllables, in_syllable, span_bytes, spans_cover, with_bytes}
+use Rattle.shapers_buffer.specs.Syllables.{kind_of, syllables, in_syllable, span_bytes, with_bytes}
 
 -- the glyphs with the inside of each syllable unsafe to break and to concatenate
 abbrev pub unsafe_syllables : Glyphs → Glyphs
@@ -23,10 +23,6 @@ set_up_by_bytes kind b = record b {
   glyphs = unsafe_syllables b.glyphs;
   broken = b.broken || list_any (λ g. kind_of g.syllable == kind) b.glyphs;
 }
-
--- whether spans cut these glyphs: they cover them, and each has a kind that fits its four bits
-abbrev pub CanCut : List Span → Glyphs → Type 0
-CanCut spans gs = IsTrue (spans_cover (length gs) spans) × All (λ span. span.kind ≤ 15) spans
 
 -- the glyphs cut into these spans, with the inside of each syllable unsafe
 abbrev pub unsafe_spans : List Span → Glyphs → Glyphs

@@ -2,7 +2,7 @@
 ghost use Rattle.std.specs.Prelude.{◌≡◌, map};
 ghost use Rattle.shapers_syllabic.specs.Characters.{composed_behind, with_category, with_category_and_position};
 
-use shapers_base::buffer::{GlyphChange, change_each_in, hb_buffer_t, hb_glyph_info_t};
+use shapers_base::buffer::{change_each_by_in, hb_buffer_t, hb_glyph_info_t};
 use shapers_base::font::Tables;
 
 /// The composition of two characters by the table. A mark composes with nothing behind it, so that
@@ -24,8 +24,7 @@ pub fn set_categories<T: Tables>(tables: &T, buffer: &mut hb_buffer_t)
     ensures { buffer.new ≡
         record buffer.old { glyphs = map (with_category (T.tables tables.now)) buffer.old.glyphs } }
 {
-    let len = buffer.len();
-    buffer.change_each(0, len, &ByTable { tables });
+    buffer.change_all_by(|glyph| set_category(tables, glyph));
 }
 
 /// `set_categories` for the glyphs of a slice.
@@ -33,7 +32,7 @@ pub fn set_categories<T: Tables>(tables: &T, buffer: &mut hb_buffer_t)
 pub fn set_categories_in<T: Tables>(tables: &T, glyphs: &mut [hb_glyph_info_t])
     ensures { glyphs.new ≡ map (with_category (T.tables tables.now)) glyphs.old }
 {
-    change_each_in(glyphs, &ByTable { tables });
+    change_each_by_in(glyphs, |glyph| set_category(tables, glyph));
 }
 
 /// Gives each glyph the category and, as its auxiliary byte, the position that the table of the
@@ -44,8 +43,7 @@ pub fn set_categories_and_positions<T: Tables>(tables: &T, buffer: &mut hb_buffe
         let changed = map with_both buffer.old.glyphs in
         buffer.new ≡ record buffer.old { glyphs = changed } }
 {
-    let len = buffer.len();
-    buffer.change_each(0, len, &PlacedByTable { tables });
+    buffer.change_all_by(|glyph| set_category_and_position(tables, glyph));
 }
 
 /// `set_categories_and_positions` for the glyphs of a slice.
@@ -53,42 +51,23 @@ pub fn set_categories_and_positions<T: Tables>(tables: &T, buffer: &mut hb_buffe
 pub fn set_categories_and_positions_in<T: Tables>(tables: &T, glyphs: &mut [hb_glyph_info_t])
     ensures { glyphs.new ≡ map (with_category_and_position (T.tables tables.now)) glyphs.old }
 {
-    change_each_in(glyphs, &PlacedByTable { tables });
+    change_each_by_in(glyphs, |glyph| set_category_and_position(tables, glyph));
 }
 
-// The category by a table.
-#[derive(Drop)]
-struct ByTable<'a, T: Tables> {
-    tables: &'a T,
+// Gives a glyph the category of its character.
+#[inline]
+fn set_category<T: Tables>(tables: &T, glyph: &mut hb_glyph_info_t)
+    ensures { glyph.new ≡ with_category (T.tables tables.now) glyph.old }
+{
+    glyph.category = tables.indic_categories(glyph.glyph_id).0;
 }
 
-impl<'a, T: Tables> GlyphChange for ByTable<'a, T> {
-    ghost use Rattle.shapers_syllabic.specs.Characters.{with_category};
-
-    ghost changed = { λ change glyph. with_category (T.tables change.tables.now) glyph };
-
-    #[inline]
-    fn change(&self, glyph: &mut hb_glyph_info_t) {
-        glyph.category = self.tables.indic_categories(glyph.glyph_id).0;
-    }
-}
-
-// Category and position by a table.
-#[derive(Drop)]
-struct PlacedByTable<'a, T: Tables> {
-    tables: &'a T,
-}
-
-impl<'a, T: Tables> GlyphChange for PlacedByTable<'a, T> {
-    ghost use Rattle.shapers_syllabic.specs.Characters.{with_category_and_position};
-
-    ghost changed = { λ change glyph.
-        with_category_and_position (T.tables change.tables.now) glyph };
-
-    #[inline]
-    fn change(&self, glyph: &mut hb_glyph_info_t) {
-        let (category, position) = self.tables.indic_categories(glyph.glyph_id);
-        glyph.category = category;
-        glyph.auxiliary = position;
-    }
+// Gives a glyph the category and the position of its character.
+#[inline]
+fn set_category_and_position<T: Tables>(tables: &T, glyph: &mut hb_glyph_info_t)
+    ensures { glyph.new ≡ with_category_and_position (T.tables tables.now) glyph.old }
+{
+    let (category, position) = tables.indic_categories(glyph.glyph_id);
+    glyph.category = category;
+    glyph.auxiliary = position;
 }

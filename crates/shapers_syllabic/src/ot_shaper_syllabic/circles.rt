@@ -12,7 +12,7 @@ ghost use Rattle.shapers_buffer.specs.Syllables.{first_syllable_len, has_byte};
 
 use bitflags::Flags;
 use shapers_base::buffer::{
-    BufferFlags, GlyphWalk, ShaperError, first_syllable_len, hb_buffer_t, hb_glyph_info_t,
+    BufferFlags, ShaperError, first_syllable_len, hb_buffer_t, hb_glyph_info_t,
 };
 use shapers_base::font::hb_font_t;
 
@@ -54,8 +54,8 @@ struct Places {
 /// Gives each broken syllable a dotted circle, behind its leading glyphs of the repha category
 /// where one is given, else in front. Returns false, with nothing changed, where no syllable is
 /// broken, the caller forbids circles or the font has none. Without its circles the text is what it
-/// was. Refuses with `TooLong` where the text
-/// would be longer than `max_len`, and with `Memory`; where no circle opens it takes none.
+/// was. Refuses with `TooLong` where the text would be longer than `max_len`, and with `Memory`;
+/// where no circle opens it takes none.
 ///
 /// # Errors
 ///
@@ -185,10 +185,7 @@ impl DottedCircles {
             return Ok(());
         }
         buffer.grow(count)?;
-        buffer.walk(&mut CircleWalk {
-            circles: *self,
-            len,
-        });
+        buffer.with_glyphs_mut(|glyphs| self.open_all(glyphs, len));
         Ok(())
     }
 
@@ -294,28 +291,6 @@ impl DottedCircles {
             None => 0,
             Some(repha) => category_len(syllable, repha),
         }
-    }
-}
-
-// The walk that opens the broken syllables of a text of `len` glyphs.
-#[derive(Drop)]
-struct CircleWalk {
-    circles: DottedCircles,
-    len: usize,
-}
-
-impl GlyphWalk for CircleWalk {
-    ghost use Rattle.std.specs.Prelude.{◌≡◌, ◌+◌, ◌≤◌, length, take};
-    ghost use Rattle.shapers_syllabic.specs.Circles.{count_of_kind, with_circles};
-
-    ghost can_walk = { λ w gs. (w.len ≤ length gs)
-        × (length gs ≡ w.len + count_of_kind w.circles.broken_kind (take w.len gs)) };
-
-    ghost walks = { λ v w gs hs. hs ≡ with_circles v.circles (take v.len gs) };
-
-    #[inline]
-    fn walk(&mut self, glyphs: &mut [hb_glyph_info_t]) {
-        self.circles.open_all(glyphs, self.len);
     }
 }
 

@@ -204,33 +204,61 @@ fn reorder_along<R: ReorderBySteps>(
     Ok(())
 }
 
-// What the walk carries along, from the first syllable on that floods what stands before it: groups
-// of glyphs that aren't written yet. The rest is of one syllable.
+// What is carried along: groups of glyphs that aren't written yet, from the first syllable on that
+// floods what stands before it.
 #[derive(Drop)]
 struct Carrying {
     groups: CarriedGroups,
+    // whether a syllable has flooded what stands before it
     is_on: bool,
-    settles: bool,
-    count: usize,
-    first: usize,
-    end: usize,
 }
 
-impl GlyphWalk for Carrying {
-    ghost use Rattle.shapers_syllabic.specs.ReorderingWalk.{CanWalk, GroupsWalked};
+// The walk before a syllable. (A closure would do, but what it leaves in the groups that it borrows
+// isn't known behind its call.)
+#[derive(Drop)]
+struct Guarding<'a> {
+    groups: &'a mut CarriedGroups,
+    first: usize,
+    end: usize,
+    count: usize,
+}
 
-    ghost can_walk = { λ w gs. CanWalk w gs };
+impl<'a> GlyphWalk for Guarding<'a> {
+    ghost use Rattle.std.specs.Prelude.{◌≡◌};
+    ghost use Rattle.shapers_clusters.specs.CarriedGroups.{GroupsGuarded};
+    ghost use Rattle.shapers_syllabic.specs.ReorderingWalk.{CanGuard};
 
-    ghost walks = { λ v w gs hs. GroupsWalked v gs w hs };
+    ghost can_walk = { λ w gs. CanGuard w.first w.end w.groups.now gs };
 
-    // Before a syllable and behind it.
+    ghost walks = { λ v w gs hs.
+        GroupsGuarded v.first v.end v.groups.now gs w.groups.now w.count hs
+        × (w.groups.ghost_name ≡ v.groups.ghost_name) };
+
     #[inline]
     fn walk(&mut self, glyphs: &mut [hb_glyph_info_t]) {
-        if self.settles {
-            self.groups.settle(glyphs, self.count);
-        } else {
-            self.count = self.groups.guard(glyphs, self.first, self.end);
-        }
+        self.count = self.groups.guard(glyphs, self.first, self.end);
+    }
+}
+
+// The walk behind a syllable.
+#[derive(Drop)]
+struct Settling<'a> {
+    groups: &'a mut CarriedGroups,
+    count: usize,
+}
+
+impl<'a> GlyphWalk for Settling<'a> {
+    ghost use Rattle.std.specs.Prelude.{◌≡◌};
+    ghost use Rattle.shapers_clusters.specs.CarriedGroups.{CanSettle, GroupsSettled};
+
+    ghost can_walk = { λ w gs. CanSettle w.groups.now w.count gs };
+
+    ghost walks = { λ v w gs hs. GroupsSettled v.groups.now v.count gs w.groups.now hs
+        × (w.groups.ghost_name ≡ v.groups.ghost_name) };
+
+    #[inline]
+    fn walk(&mut self, glyphs: &mut [hb_glyph_info_t]) {
+        self.groups.settle(glyphs, self.count);
     }
 }
 
@@ -246,45 +274,49 @@ impl Carrying {
         Carrying {
             groups: CarriedGroups::with_room(room),
             is_on: false,
-            settles: false,
-            count: 0,
-            first: 0,
-            end: 0,
         }
     }
 
-    // Before a syllable.
+    // Lets one glyph stand for each group that the syllable from `first` to `end` could flood, and
+    // returns how many these are.
     #[inline]
-    fn guard(&mut self, buffer: &mut hb_buffer_t, first: usize, end: usize)
+    fn guard(&mut self, buffer: &mut hb_buffer_t, first: usize, end: usize) -> usize
         requires in_order { first ≤ end }
         requires in_range { end ≤ length buffer.old.glyphs }
         requires fits { AreCarried self.old.groups buffer.old.glyphs }
         requires further { self.old.groups.end ≤ first }
         ensures guarded { GroupsGuarded first end self.old.groups buffer.old.glyphs
-            self.new.groups self.new.count buffer.new.glyphs }
+            self.new.groups result buffer.new.glyphs }
         ensures on { self.new.is_on ≡ self.old.is_on }
         ensures others { buffer.new ≡ record buffer.old { glyphs = buffer.new.glyphs } }
     {
-        self.first = first;
-        self.end = end;
-        self.settles = false;
-        buffer.walk(self);
+        let mut guarding = Guarding {
+            groups: &mut self.groups,
+            first,
+            end,
+            count: 0,
+        };
+        buffer.walk(&mut guarding);
+        guarding.count
     }
 
-    // Behind it.
+    // Takes back the glyphs that stood for so many groups while a syllable was reordered, and
+    // carries what it flooded.
     #[inline]
-    fn settle(&mut self, buffer: &mut hb_buffer_t)
-        requires fits { CanSettle self.old.groups self.old.count buffer.old.glyphs }
-        ensures settled { GroupsSettled self.old.groups self.old.count buffer.old.glyphs
+    fn settle(&mut self, buffer: &mut hb_buffer_t, count: usize)
+        requires fits { CanSettle self.old.groups count buffer.old.glyphs }
+        ensures settled { GroupsSettled self.old.groups count buffer.old.glyphs
             self.new.groups buffer.new.glyphs }
         ensures on { self.new.is_on ≡ self.old.is_on }
         ensures others { buffer.new ≡ record buffer.old { glyphs = buffer.new.glyphs } }
     {
-        self.settles = true;
-        buffer.walk(self);
+        buffer.walk(&mut Settling {
+            groups: &mut self.groups,
+            count,
+        });
     }
 
-    // Writes what is carried.
+    // Writes what is carried into the glyphs.
     #[inline]
     fn write(&mut self, buffer: &mut hb_buffer_t)
         requires { AreCarried self.old.groups buffer.old.glyphs }
@@ -320,7 +352,8 @@ fn reorder_behind<R: ReorderBySteps>(
     }
 }
 
-// As long as no syllable floods what stands before it.
+// Reorders a syllable, as long as none has flooded what stands before it, and sees whether this one
+// does.
 #[inline]
 fn reorder_watched<R: ReorderBySteps>(
     order: &R,
@@ -355,7 +388,8 @@ fn cluster_before(glyphs: &[hb_glyph_info_t], place: usize) -> u32 {
     }
 }
 
-// From the first one on that does.
+// Reorders a syllable behind the first one that flooded what stands before it, while one glyph stands
+// for each group that it could flood.
 #[inline(never)]
 fn reorder_guarded<R: ReorderBySteps>(
     order: &R,
@@ -374,9 +408,9 @@ fn reorder_guarded<R: ReorderBySteps>(
         carrying.old buffer.old carrying.new buffer.new) }
     ensures refusal { RefusesIf (R.may_refuse order.now) result }
 {
-    carrying.guard(buffer, first, end);
+    let count = carrying.guard(buffer, first, end);
     order.reorder(buffer, first, end)?;
-    carrying.settle(buffer);
+    carrying.settle(buffer, count);
     Ok(())
 }
 

@@ -11,8 +11,8 @@ ghost use Rattle.shapers_buffer.specs.Syllables.{in_syllable, kind_of, spans_cov
 
 use shapers_base::buffer::glyph_flag::{UNSAFE_TO_BREAK, UNSAFE_TO_CONCAT};
 use shapers_base::buffer::{
-    GlyphWalk, ShaperError, Span, first_syllable_len, has_span_of_kind, hb_buffer_t,
-    hb_glyph_info_t, least_cluster, spans_cover, unsafe_to_break_in,
+    ShaperError, Span, first_syllable_len, has_span_of_kind, hb_buffer_t, hb_glyph_info_t,
+    least_cluster, spans_cover, unsafe_to_break_in,
 };
 
 /// Cuts the text into the syllables of these spans, marks whether one is of the broken kind, and
@@ -37,7 +37,7 @@ pub fn set_up_syllables(
     if !spans_cover(buffer.len(), spans) {
         return Err(ShaperError::SpansDontCover);
     }
-    buffer.walk(&mut SetUp { spans });
+    buffer.with_glyphs_mut(|glyphs| set_up_spans(glyphs, spans));
     if has_span_of_kind(spans, broken_kind) {
         buffer.set_has_broken_syllable(true);
     }
@@ -53,7 +53,7 @@ pub fn set_up_by_bytes(broken_kind: u8, buffer: &mut hb_buffer_t)
     if has_syllable_of_kind(buffer.glyphs(), broken_kind) {
         buffer.set_has_broken_syllable(true);
     }
-    buffer.walk(&mut FlagSyllables);
+    buffer.with_glyphs_mut(flag_syllables_in);
 }
 
 /// Flags the inside of each syllable of these glyphs as unsafe to break and to concatenate.
@@ -75,44 +75,6 @@ fn has_syllable_of_kind(glyphs: &[hb_glyph_info_t], kind: u8) -> bool
     ensures { result ≡ list_any (λ g. kind_of g.syllable == kind) glyphs.now }
 {
     glyphs.iter().any(|glyph| glyph.syllable % 16 == kind)
-}
-
-// The walk that flags the inside of each syllable.
-#[derive(Clone, Copy)]
-struct FlagSyllables;
-
-impl GlyphWalk for FlagSyllables {
-    ghost use Rattle.std.specs.Prelude.{◌≡◌, ⊤};
-    ghost use Rattle.shapers_syllabic.specs.Syllabic.{unsafe_syllables};
-
-    ghost can_walk = { λ _ _. ⊤ };
-
-    ghost walks = { λ _ _ old new. new ≡ unsafe_syllables old };
-
-    #[inline]
-    fn walk(&mut self, glyphs: &mut [hb_glyph_info_t]) {
-        flag_syllables_in(glyphs);
-    }
-}
-
-// The spans that a text is cut into.
-#[derive(Clone, Copy)]
-struct SetUp<'a> {
-    spans: &'a [Span],
-}
-
-impl<'a> GlyphWalk for SetUp<'a> {
-    ghost use Rattle.std.specs.Prelude.{◌≡◌};
-    ghost use Rattle.shapers_syllabic.specs.Syllabic.{CanCut, unsafe_spans};
-
-    ghost can_walk = { λ walk glyphs. CanCut walk.spans.now glyphs };
-
-    ghost walks = { λ walk _ old new. new ≡ unsafe_spans walk.spans.now old };
-
-    #[inline]
-    fn walk(&mut self, glyphs: &mut [hb_glyph_info_t]) {
-        set_up_spans(glyphs, self.spans);
-    }
 }
 
 // Gives each place the byte of the span that covers it, and flags the inside of each span.

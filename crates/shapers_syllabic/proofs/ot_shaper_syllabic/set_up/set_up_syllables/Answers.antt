@@ -18,7 +18,7 @@ returns-else-has_span_of_kind-clause-cut c =
     let spans = c.args.spans.now in
     let kind = c.args.broken_kind in
     let old = c.args.buffer.now in
-    let set : c.walk.new.self ≡ spans_set_up spans kind old = search rules in
+    let set : c.with_glyphs_mut.new.self ≡ spans_set_up spans kind old = search rules in
     search (arith, spans_cut spans kind old c.requires)
 
 pub returns-then-has_span_of_kind-clause-clusters : goal.returns-then-has_span_of_kind-clause-clusters

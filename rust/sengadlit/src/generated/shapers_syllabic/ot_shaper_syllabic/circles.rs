@@ -3,7 +3,7 @@
 //! Dotted circles: the base of a broken syllable.
 
 use crate::generated::shapers_base::buffer::{
-    Buffer, BufferFlags, GlyphInfo, GlyphWalk, ShaperError, first_syllable_len,
+    Buffer, BufferFlags, GlyphInfo, ShaperError, first_syllable_len,
 };
 use crate::generated::shapers_base::font::Font;
 
@@ -45,8 +45,8 @@ struct Places {
 /// Gives each broken syllable a dotted circle, behind its leading glyphs of the repha category
 /// where one is given, else in front. Returns false, with nothing changed, where no syllable is
 /// broken, the caller forbids circles or the font has none. Without its circles the text is what it
-/// was. Refuses with [`TooLong`] where the text
-/// would be longer than [`max_len`], and with [`Memory`]; where no circle opens it takes none.
+/// was. Refuses with [`TooLong`] where the text would be longer than [`max_len`], and with [`Memory`];
+/// where no circle opens it takes none.
 ///
 /// # Errors
 ///
@@ -198,10 +198,7 @@ impl DottedCircles {
             return Ok(());
         }
         buffer.grow(count)?;
-        buffer.walk(&mut CircleWalk {
-            circles: *self,
-            len,
-        });
+        buffer.with_glyphs_mut(|glyphs| self.open_all(glyphs, len));
         Ok(())
     }
 
@@ -277,19 +274,6 @@ impl DottedCircles {
             None => 0,
             Some(repha) => category_len(syllable, repha),
         }
-    }
-}
-
-// The walk that opens the broken syllables of a text of `len` glyphs.
-struct CircleWalk {
-    circles: DottedCircles,
-    len: usize,
-}
-
-impl GlyphWalk for CircleWalk {
-    #[inline]
-    fn walk(&mut self, glyphs: &mut [GlyphInfo]) {
-        self.circles.open_all(glyphs, self.len);
     }
 }
 

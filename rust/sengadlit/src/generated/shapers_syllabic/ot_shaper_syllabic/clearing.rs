@@ -2,7 +2,7 @@
 
 //! Clearing what one pause left on the glyphs for another.
 
-use crate::generated::shapers_base::buffer::{Buffer, GlyphChange, GlyphInfo, change_each_in};
+use crate::generated::shapers_base::buffer::{Buffer, GlyphInfo, change_each_by_in};
 
 /// Takes every glyph out of its syllable: its syllable byte becomes 0. It takes no memory.
 ///
@@ -19,8 +19,7 @@ use crate::generated::shapers_base::buffer::{Buffer, GlyphChange, GlyphInfo, cha
 /// </details>
 #[inline]
 pub fn clear_syllables(buffer: &mut Buffer) {
-    let len = buffer.len();
-    buffer.change_each(0, len, &OutOfSyllable);
+    buffer.change_all_by(|glyph| glyph.syllable = 0);
 }
 
 /// Takes these glyphs out of their syllables, as `clear_syllables` does those of a buffer.
@@ -38,7 +37,7 @@ pub fn clear_syllables(buffer: &mut Buffer) {
 /// </details>
 #[inline]
 pub fn clear_syllables_in(glyphs: &mut [GlyphInfo]) {
-    change_each_in(glyphs, &OutOfSyllable);
+    change_each_by_in(glyphs, |glyph| glyph.syllable = 0);
 }
 
 /// Takes back from every glyph the mark that a lookup substituted it. It takes no memory.
@@ -56,8 +55,7 @@ pub fn clear_syllables_in(glyphs: &mut [GlyphInfo]) {
 /// </details>
 #[inline]
 pub fn clear_substitution_flags(buffer: &mut Buffer) {
-    let len = buffer.len();
-    buffer.change_each(0, len, &Unsubstituted);
+    buffer.change_all_by(|glyph| glyph.glyph_props.set_substituted(false));
 }
 
 /// Takes back from these glyphs the mark that a lookup substituted them.
@@ -75,27 +73,5 @@ pub fn clear_substitution_flags(buffer: &mut Buffer) {
 /// </details>
 #[inline]
 pub fn clear_substitution_flags_in(glyphs: &mut [GlyphInfo]) {
-    change_each_in(glyphs, &Unsubstituted);
-}
-
-// Out of its syllable.
-#[derive(Clone, Copy)]
-struct OutOfSyllable;
-
-impl GlyphChange for OutOfSyllable {
-    #[inline]
-    fn change(&self, glyph: &mut GlyphInfo) {
-        glyph.syllable = 0;
-    }
-}
-
-// Without the mark of a substitution.
-#[derive(Clone, Copy)]
-struct Unsubstituted;
-
-impl GlyphChange for Unsubstituted {
-    #[inline]
-    fn change(&self, glyph: &mut GlyphInfo) {
-        glyph.glyph_props.set_substituted(false);
-    }
+    change_each_by_in(glyphs, |glyph| glyph.glyph_props.set_substituted(false));
 }

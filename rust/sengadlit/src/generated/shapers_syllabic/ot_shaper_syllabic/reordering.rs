@@ -181,26 +181,40 @@ fn reorder_along<R: ReorderBySteps>(
     Ok(())
 }
 
-// What the walk carries along, from the first syllable on that floods what stands before it: groups
-// of glyphs that aren't written yet. The rest is of one syllable.
+// What is carried along: groups of glyphs that aren't written yet, from the first syllable on that
+// floods what stands before it.
 struct Carrying {
     groups: CarriedGroups,
+    // whether a syllable has flooded what stands before it
     is_on: bool,
-    settles: bool,
-    count: usize,
-    first: usize,
-    end: usize,
 }
 
-impl GlyphWalk for Carrying {
-    // Before a syllable and behind it.
+// The walk before a syllable. (A closure would do, but what it leaves in the groups that it borrows
+// isn't known behind its call.)
+struct Guarding<'a> {
+    groups: &'a mut CarriedGroups,
+    first: usize,
+    end: usize,
+    count: usize,
+}
+
+impl<'a> GlyphWalk for Guarding<'a> {
     #[inline]
     fn walk(&mut self, glyphs: &mut [GlyphInfo]) {
-        if self.settles {
-            self.groups.settle(glyphs, self.count);
-        } else {
-            self.count = self.groups.guard(glyphs, self.first, self.end);
-        }
+        self.count = self.groups.guard(glyphs, self.first, self.end);
+    }
+}
+
+// The walk behind a syllable.
+struct Settling<'a> {
+    groups: &'a mut CarriedGroups,
+    count: usize,
+}
+
+impl<'a> GlyphWalk for Settling<'a> {
+    #[inline]
+    fn walk(&mut self, glyphs: &mut [GlyphInfo]) {
+        self.groups.settle(glyphs, self.count);
     }
 }
 
@@ -211,30 +225,34 @@ impl Carrying {
         Carrying {
             groups: CarriedGroups::with_room(room),
             is_on: false,
-            settles: false,
-            count: 0,
-            first: 0,
-            end: 0,
         }
     }
 
-    // Before a syllable.
+    // Lets one glyph stand for each group that the syllable from `first` to `end` could flood, and
+    // returns how many these are.
     #[inline]
-    fn guard(&mut self, buffer: &mut Buffer, first: usize, end: usize) {
-        self.first = first;
-        self.end = end;
-        self.settles = false;
-        buffer.walk(self);
+    fn guard(&mut self, buffer: &mut Buffer, first: usize, end: usize) -> usize {
+        let mut guarding = Guarding {
+            groups: &mut self.groups,
+            first,
+            end,
+            count: 0,
+        };
+        buffer.walk(&mut guarding);
+        guarding.count
     }
 
-    // Behind it.
+    // Takes back the glyphs that stood for so many groups while a syllable was reordered, and
+    // carries what it flooded.
     #[inline]
-    fn settle(&mut self, buffer: &mut Buffer) {
-        self.settles = true;
-        buffer.walk(self);
+    fn settle(&mut self, buffer: &mut Buffer, count: usize) {
+        buffer.walk(&mut Settling {
+            groups: &mut self.groups,
+            count,
+        });
     }
 
-    // Writes what is carried.
+    // Writes what is carried into the glyphs.
     #[inline]
     fn write(&mut self, buffer: &mut Buffer) {
         let len = buffer.len();
@@ -258,7 +276,8 @@ fn reorder_behind<R: ReorderBySteps>(
     }
 }
 
-// As long as no syllable floods what stands before it.
+// Reorders a syllable, as long as none has flooded what stands before it, and sees whether this one
+// does.
 #[inline]
 fn reorder_watched<R: ReorderBySteps>(
     order: &R,
@@ -283,7 +302,8 @@ fn cluster_before(glyphs: &[GlyphInfo], place: usize) -> u32 {
     }
 }
 
-// From the first one on that does.
+// Reorders a syllable behind the first one that flooded what stands before it, while one glyph stands
+// for each group that it could flood.
 #[inline(never)]
 fn reorder_guarded<R: ReorderBySteps>(
     order: &R,
@@ -292,9 +312,9 @@ fn reorder_guarded<R: ReorderBySteps>(
     first: usize,
     end: usize,
 ) -> Result<(), ShaperError> {
-    carrying.guard(buffer, first, end);
+    let count = carrying.guard(buffer, first, end);
     order.reorder(buffer, first, end)?;
-    carrying.settle(buffer);
+    carrying.settle(buffer, count);
     Ok(())
 }
 

@@ -4,8 +4,8 @@
 
 use crate::generated::shapers_base::buffer::glyph_flag::{UNSAFE_TO_BREAK, UNSAFE_TO_CONCAT};
 use crate::generated::shapers_base::buffer::{
-    Buffer, GlyphInfo, GlyphWalk, ShaperError, Span, first_syllable_len, has_span_of_kind,
-    least_cluster, spans_cover, unsafe_to_break_in,
+    Buffer, GlyphInfo, ShaperError, Span, first_syllable_len, has_span_of_kind, least_cluster,
+    spans_cover, unsafe_to_break_in,
 };
 
 /// Cuts the text into the syllables of these spans, marks whether one is of the broken kind, and
@@ -46,7 +46,7 @@ pub fn set_up_syllables(
     if !spans_cover(buffer.len(), spans) {
         return Err(ShaperError::SpansDontCover);
     }
-    buffer.walk(&mut SetUp { spans });
+    buffer.with_glyphs_mut(|glyphs| set_up_spans(glyphs, spans));
     if has_span_of_kind(spans, broken_kind) {
         buffer.set_has_broken_syllable(true);
     }
@@ -72,7 +72,7 @@ pub fn set_up_by_bytes(broken_kind: u8, buffer: &mut Buffer) {
     if has_syllable_of_kind(buffer.glyphs(), broken_kind) {
         buffer.set_has_broken_syllable(true);
     }
-    buffer.walk(&mut FlagSyllables);
+    buffer.with_glyphs_mut(flag_syllables_in);
 }
 
 /// Flags the inside of each syllable of these glyphs as unsafe to break and to concatenate.
@@ -102,30 +102,6 @@ pub fn flag_syllables_in(glyphs: &mut [GlyphInfo]) {
 #[inline]
 fn has_syllable_of_kind(glyphs: &[GlyphInfo], kind: u8) -> bool {
     glyphs.iter().any(|glyph| glyph.syllable % 16 == kind)
-}
-
-// The walk that flags the inside of each syllable.
-#[derive(Clone, Copy)]
-struct FlagSyllables;
-
-impl GlyphWalk for FlagSyllables {
-    #[inline]
-    fn walk(&mut self, glyphs: &mut [GlyphInfo]) {
-        flag_syllables_in(glyphs);
-    }
-}
-
-// The spans that a text is cut into.
-#[derive(Clone, Copy)]
-struct SetUp<'a> {
-    spans: &'a [Span],
-}
-
-impl<'a> GlyphWalk for SetUp<'a> {
-    #[inline]
-    fn walk(&mut self, glyphs: &mut [GlyphInfo]) {
-        set_up_spans(glyphs, self.spans);
-    }
 }
 
 // Gives each place the byte of the span that covers it, and flags the inside of each span.
