@@ -7,9 +7,7 @@ ghost use Rattle.shapers_clusters.specs.Steps.{run_step};
 ghost use Rattle.shapers_text.specs.Hebrew.{hebrew_mark_step, marks_swapped, HebrewMarksReordered, second_of_triple, opens_triple, hebrew_form, composed_in_hebrew, lacks_dagesh, is_in_dagesh_row, pairs};
 
 use shapers_base::buffer::modified_combining_class::{BELOW, CCC10, CCC14, CCC17, CCC18, CCC22};
-use shapers_base::buffer::{
-    BufferClusterLevel, GlyphWalk, hb_buffer_t, hb_glyph_info_t, merge_clusters_in,
-};
+use shapers_base::buffer::{BufferClusterLevel, hb_buffer_t, hb_glyph_info_t, merge_clusters_in};
 use shapers_base::font::Tables;
 use shapers_base::plan::hb_ot_shape_plan_t;
 
@@ -28,7 +26,7 @@ pub fn reorder_marks(_plan: &hb_ot_shape_plan_t, buffer: &mut hb_buffer_t, start
     ensures laws { HebrewMarksReordered start end buffer.old buffer.new }
 {
     let level = buffer.cluster_level();
-    buffer.walk(&mut MarkOrder { level, start, end });
+    buffer.with_glyphs_mut(|glyphs| reorder_marks_in(level, glyphs, start, end));
 }
 
 /// `reorder_marks` of glyphs in a slice, whose clusters merge at this level. Returns whether marks
@@ -50,29 +48,6 @@ pub fn reorder_marks_in(
     };
     merge_and_swap(level, glyphs, i);
     true
-}
-
-// Where the marks stand, and whether clusters merge.
-#[derive(Drop)]
-struct MarkOrder {
-    level: BufferClusterLevel,
-    start: usize,
-    end: usize,
-}
-
-impl GlyphWalk for MarkOrder {
-    ghost use Rattle.std.specs.Prelude.{◌≡◌, ◌≤◌, length};
-    ghost use Rattle.shapers_clusters.specs.Steps.{run_step};
-    ghost use Rattle.shapers_text.specs.Hebrew.{hebrew_mark_step};
-
-    ghost can_walk = { λ w gs. (w.start ≤ w.end) × (w.end ≤ length gs) };
-
-    ghost walks = { λ v w gs hs. hs ≡ run_step v.level (hebrew_mark_step v.start v.end gs) gs };
-
-    #[inline]
-    fn walk(&mut self, glyphs: &mut [hb_glyph_info_t]) {
-        reorder_marks_in(self.level, glyphs, self.start, self.end);
-    }
 }
 
 // Merges the glyphs at `i` and behind it, and swaps them.

@@ -199,28 +199,15 @@ fn write_in_two(glyphs: &mut [hb_glyph_info_t], len: usize)
     }
 }
 
-// The walk over a grown buffer, whose text is its first `len` glyphs.
-#[derive(Clone, Copy)]
-struct Rewriting {
-    level: BufferClusterLevel,
-    len: usize,
-}
-
-impl GlyphWalk for Rewriting {
-    ghost use Rattle.std.specs.Prelude.{◌≡◌, take};
-    ghost use Rattle.shapers_text.specs.Thai.{glyphs_in_two};
-    ghost use Rattle.shapers_text.specs.ThaiWalk.{HasRoomForSaraAms, merged_front};
-
-    ghost can_walk = { λ walk glyphs. HasRoomForSaraAms walk.len glyphs };
-
-    ghost walks = { λ walk _ old new.
-        new ≡ glyphs_in_two (take walk.len (merged_front walk.level walk.len old)) };
-
-    #[inline]
-    fn walk(&mut self, glyphs: &mut [hb_glyph_info_t]) {
-        merge_all_sara_am(self.level, glyphs, self.len);
-        write_in_two(glyphs, self.len);
-    }
+// Merges each SARA AM of a text with its marks, and writes it in two: the text is the first `len` of
+// these glyphs, and the others are the room that it grows into.
+#[inline]
+fn rewrite_in_room(level: BufferClusterLevel, glyphs: &mut [hb_glyph_info_t], len: usize)
+    requires { HasRoomForSaraAms len glyphs.old }
+    ensures { glyphs.new ≡ glyphs_in_two (take len (merged_front level len glyphs.old)) }
+{
+    merge_all_sara_am(level, glyphs, len);
+    write_in_two(glyphs, len);
 }
 
 /// Puts each SARA AM in two: NIKHAHIT, before the above-base marks that stand before it, and SARA
@@ -246,6 +233,6 @@ pub fn rewrite_sara_am(buffer: &mut hb_buffer_t) -> Result<(), ShaperError>
     }
     buffer.grow(count)?;
     let level = buffer.cluster_level();
-    buffer.walk(&mut Rewriting { level, len });
+    buffer.with_glyphs_mut(|glyphs| rewrite_in_room(level, glyphs, len));
     Ok(())
 }

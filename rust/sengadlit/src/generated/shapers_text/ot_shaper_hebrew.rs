@@ -7,7 +7,7 @@ use crate::generated::shapers_base::buffer::modified_combining_class::{
     BELOW, CCC10, CCC14, CCC17, CCC18, CCC22,
 };
 use crate::generated::shapers_base::buffer::{
-    Buffer, BufferClusterLevel, GlyphInfo, GlyphWalk, merge_clusters_in,
+    Buffer, BufferClusterLevel, GlyphInfo, merge_clusters_in,
 };
 use crate::generated::shapers_base::font::Tables;
 use crate::generated::shapers_base::plan::Plan;
@@ -39,7 +39,7 @@ use crate::generated::shapers_base::plan::Plan;
 #[inline]
 pub fn reorder_marks(_plan: &Plan, buffer: &mut Buffer, start: usize, end: usize) {
     let level = buffer.cluster_level();
-    buffer.walk(&mut MarkOrder { level, start, end });
+    buffer.with_glyphs_mut(|glyphs| reorder_marks_in(level, glyphs, start, end));
 }
 
 /// [`reorder_marks`] of glyphs in a slice, whose clusters merge at this level. Returns whether marks
@@ -78,20 +78,6 @@ pub fn reorder_marks_in(
     };
     merge_and_swap(level, glyphs, i);
     true
-}
-
-// Where the marks stand, and whether clusters merge.
-struct MarkOrder {
-    level: BufferClusterLevel,
-    start: usize,
-    end: usize,
-}
-
-impl GlyphWalk for MarkOrder {
-    #[inline]
-    fn walk(&mut self, glyphs: &mut [GlyphInfo]) {
-        reorder_marks_in(self.level, glyphs, self.start, self.end);
-    }
 }
 
 // Merges the glyphs at `i` and behind it, and swaps them.

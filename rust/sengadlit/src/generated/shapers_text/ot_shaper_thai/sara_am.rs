@@ -147,19 +147,12 @@ fn write_in_two(glyphs: &mut [GlyphInfo], len: usize) {
     }
 }
 
-// The walk over a grown buffer, whose text is its first `len` glyphs.
-#[derive(Clone, Copy)]
-struct Rewriting {
-    level: BufferClusterLevel,
-    len: usize,
-}
-
-impl GlyphWalk for Rewriting {
-    #[inline]
-    fn walk(&mut self, glyphs: &mut [GlyphInfo]) {
-        merge_all_sara_am(self.level, glyphs, self.len);
-        write_in_two(glyphs, self.len);
-    }
+// Merges each SARA AM of a text with its marks, and writes it in two: the text is the first `len` of
+// these glyphs, and the others are the room that it grows into.
+#[inline]
+fn rewrite_in_room(level: BufferClusterLevel, glyphs: &mut [GlyphInfo], len: usize) {
+    merge_all_sara_am(level, glyphs, len);
+    write_in_two(glyphs, len);
 }
 
 /// Puts each SARA AM in two: NIKHAHIT, before the above-base marks that stand before it, and SARA
@@ -200,6 +193,6 @@ pub fn rewrite_sara_am(buffer: &mut Buffer) -> Result<(), ShaperError> {
     }
     buffer.grow(count)?;
     let level = buffer.cluster_level();
-    buffer.walk(&mut Rewriting { level, len });
+    buffer.with_glyphs_mut(|glyphs| rewrite_in_room(level, glyphs, len));
     Ok(())
 }
