@@ -222,7 +222,7 @@ pub fn setup_masks_inner<T: Tables>(
     setup_masks_with::<T, Brand>(arabic_plan, script, buffer, tables, Blank::new(1));
 }
 
-// The same with a count of its own.
+// Sets masks up as `setup_masks_inner`, with a count of look-ups of its own.
 #[inline]
 fn setup_masks_with<T: Tables, L: Ledger>(
     arabic_plan: &arabic_shape_plan_t,

@@ -14,7 +14,7 @@ ghost use Rattle.shapers_hangul.specs.Requests.{hangul_list, hangul_overrides};
 
 pub use laws::{rewriting_law, spelling_law};
 use rewriting::{rewrite, rewrite_changes};
-use shapers_base::buffer::{GlyphChange, change_each_in, hb_buffer_t, hb_glyph_info_t, hb_tag_t};
+use shapers_base::buffer::{change_each_by_in, hb_buffer_t, hb_glyph_info_t, hb_tag_t};
 use shapers_base::font::hb_font_t;
 use shapers_base::map::{F_GLOBAL, F_NONE};
 use shapers_base::plan::{
@@ -129,25 +129,13 @@ pub fn create_data(plan: &hb_ot_shape_plan_t) -> PlanData
     })
 }
 
-// The masks of jamo, by their auxiliary bytes.
-#[derive(Drop)]
-struct JamoMasks {
-    masks: [u32; 4],
-}
-
-impl GlyphChange for JamoMasks {
-    ghost use Rattle.std.specs.Prelude.{◌≡◌};
-    ghost use Rattle.shapers_buffer.specs.Refusals.{RefusesLength};
-    ghost use Rattle.shapers_hangul.specs.Hangul.{rewritten};
-    ghost use Rattle.shapers_base.specs.Masks.{with_numbered_mask};
-
-    ghost changed = { λ m g. with_numbered_mask m.masks g };
-
-    #[inline]
-    fn change(&self, glyph: &mut hb_glyph_info_t) {
-        let feature = usize::from(glyph.auxiliary);
-        glyph.mask |= self.masks.get(feature).copied().unwrap_or(0);
-    }
+// Gives a glyph, besides its own mask, the one of the feature in its auxiliary byte.
+#[inline]
+fn add_numbered_mask(masks: &[u32; 4], glyph: &mut hb_glyph_info_t)
+    ensures { glyph.new ≡ with_numbered_mask masks.now glyph.old }
+{
+    let feature = usize::from(glyph.auxiliary);
+    glyph.mask |= masks.get(feature).copied().unwrap_or(0);
 }
 
 /// Gives each of these glyphs, besides its own mask, the one of the feature in its auxiliary byte.
@@ -155,10 +143,8 @@ impl GlyphChange for JamoMasks {
 pub fn setup_masks_in(hangul_plan: &hangul_shape_plan_t, glyphs: &mut [hb_glyph_info_t])
     ensures { glyphs.new ≡ map (with_numbered_mask hangul_plan.now.mask_array) glyphs.old }
 {
-    let masks = JamoMasks {
-        masks: hangul_plan.mask_array,
-    };
-    change_each_in(glyphs, &masks);
+    let masks = &hangul_plan.mask_array;
+    change_each_by_in(glyphs, |glyph| add_numbered_mask(masks, glyph));
 }
 
 /// Gives each glyph, besides its own mask, the one of the feature in its auxiliary byte: none for
@@ -171,10 +157,8 @@ pub fn setup_masks(plan: &hb_ot_shape_plan_t, buffer: &mut hb_buffer_t)
 {
     match &plan.plan_data {
         PlanData::Hangul(data) => {
-            let masks = JamoMasks {
-                masks: data.mask_array,
-            };
-            buffer.change_each(0, buffer.len(), &masks);
+            let masks = &data.mask_array;
+            buffer.change_all_by(|glyph| add_numbered_mask(masks, glyph));
         }
         _ => unreachable!("the plan has no data of the Hangul shaper"),
     }

@@ -8,9 +8,7 @@ ghost use Rattle.shapers_arabic.specs.MarkParts.{is_among_modifiers, is_modifier
 ghost use Rattle.shapers_arabic.specs.Marks.{ArabicMarksReordered, ModifiersTakeClasses, in_class, has_lower_class, is_modifier_of, marks_merged, marks_reordered, merged_for, modifiers, split_marks, with_modifiers_first};
 
 use shapers_base::buffer::modified_combining_class::{BELOW, CCC22, CCC26};
-use shapers_base::buffer::{
-    BufferClusterLevel, GlyphWalk, hb_buffer_t, hb_glyph_info_t, merge_clusters_in,
-};
+use shapers_base::buffer::{BufferClusterLevel, hb_buffer_t, hb_glyph_info_t, merge_clusters_in};
 use shapers_base::plan::hb_ot_shape_plan_t;
 
 /// The marks that modify a letter.
@@ -38,30 +36,7 @@ pub fn reorder_marks(_plan: &hb_ot_shape_plan_t, buffer: &mut hb_buffer_t, start
     ensures laws { ArabicMarksReordered start end buffer.old buffer.new }
 {
     let level = buffer.cluster_level();
-    buffer.walk(&mut MarkOrder { level, start, end });
-}
-
-// Where the marks stand, and whether clusters merge.
-#[derive(Drop)]
-struct MarkOrder {
-    level: BufferClusterLevel,
-    start: usize,
-    end: usize,
-}
-
-impl GlyphWalk for MarkOrder {
-    ghost use Rattle.std.specs.Prelude.{◌≡◌, ◌≤◌, length};
-    ghost use Rattle.shapers_arabic.specs.Marks.{marks_merged, marks_reordered};
-
-    ghost can_walk = { λ w gs. (w.start ≤ w.end) × (w.end ≤ length gs) };
-
-    ghost walks = { λ v w gs hs.
-        hs ≡ marks_reordered v.start v.end (marks_merged v.level v.start v.end gs) };
-
-    #[inline]
-    fn walk(&mut self, glyphs: &mut [hb_glyph_info_t]) {
-        reorder_marks_in(self.level, glyphs, self.start, self.end);
-    }
+    buffer.with_glyphs_mut(|glyphs| reorder_marks_in(level, glyphs, start, end));
 }
 
 /// `reorder_marks` of glyphs in a slice, whose clusters merge at this level. Returns whether one of

@@ -222,7 +222,8 @@ fn join_items(
     }
 }
 
-// The same in a text that merges don't flood again and again.
+// Flags and merges what each item flags and merges, in a text that merges don't flood again and
+// again.
 #[inline]
 fn join_in_turn(cut: &[(usize, Item)], level: BufferClusterLevel, glyphs: &mut [hb_glyph_info_t])
     requires { Fit (length glyphs.old) cut.now }
@@ -233,7 +234,8 @@ fn join_in_turn(cut: &[(usize, Item)], level: BufferClusterLevel, glyphs: &mut [
     }
 }
 
-// Only up to the first item that floods what stands before it. Returns how many items these are.
+// Does so up to the first item that floods what stands before it, that one included. Returns how many
+// items these are.
 #[inline]
 fn join_to_flood(
     cut: &[(usize, Item)],
@@ -270,7 +272,8 @@ fn cluster_before(glyphs: &[hb_glyph_info_t], place: usize) -> u32
     }
 }
 
-// The same in any text: what merges flood before their items is carried along, and written once.
+// Flags and merges what each item flags and merges, in any text: what merges flood before their items
+// is carried along, and written once.
 #[inline(never)]
 fn join_carrying(
     cut: &[(usize, Item)],

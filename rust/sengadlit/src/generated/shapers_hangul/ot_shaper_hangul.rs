@@ -2,7 +2,7 @@
 
 //! The shaper of Hangul.
 
-use crate::generated::shapers_base::buffer::{Buffer, GlyphChange, GlyphInfo, Tag, change_each_in};
+use crate::generated::shapers_base::buffer::{Buffer, GlyphInfo, Tag, change_each_by_in};
 use crate::generated::shapers_base::font::Font;
 use crate::generated::shapers_base::map::{F_GLOBAL, F_NONE};
 use crate::generated::shapers_base::plan::{
@@ -187,17 +187,11 @@ pub fn create_data(plan: &Plan) -> PlanData {
     })
 }
 
-// The masks of jamo, by their auxiliary bytes.
-struct JamoMasks {
-    masks: [u32; 4],
-}
-
-impl GlyphChange for JamoMasks {
-    #[inline]
-    fn change(&self, glyph: &mut GlyphInfo) {
-        let feature = usize::from(glyph.auxiliary);
-        glyph.mask |= self.masks.get(feature).copied().unwrap_or(0);
-    }
+// Gives a glyph, besides its own mask, the one of the feature in its auxiliary byte.
+#[inline]
+fn add_numbered_mask(masks: &[u32; 4], glyph: &mut GlyphInfo) {
+    let feature = usize::from(glyph.auxiliary);
+    glyph.mask |= masks.get(feature).copied().unwrap_or(0);
 }
 
 /// Gives each of these glyphs, besides its own mask, the one of the feature in its auxiliary byte.
@@ -215,10 +209,8 @@ impl GlyphChange for JamoMasks {
 /// </details>
 #[inline]
 pub fn setup_masks_in(hangul_plan: &HangulPlan, glyphs: &mut [GlyphInfo]) {
-    let masks = JamoMasks {
-        masks: hangul_plan.mask_array,
-    };
-    change_each_in(glyphs, &masks);
+    let masks = &hangul_plan.mask_array;
+    change_each_by_in(glyphs, |glyph| add_numbered_mask(masks, glyph));
 }
 
 /// Gives each glyph, besides its own mask, the one of the feature in its auxiliary byte: none for
@@ -242,10 +234,8 @@ pub fn setup_masks_in(hangul_plan: &HangulPlan, glyphs: &mut [GlyphInfo]) {
 pub fn setup_masks(plan: &Plan, buffer: &mut Buffer) {
     match &plan.plan_data {
         PlanData::Hangul(data) => {
-            let masks = JamoMasks {
-                masks: data.mask_array,
-            };
-            buffer.change_each(0, buffer.len(), &masks);
+            let masks = &data.mask_array;
+            buffer.change_all_by(|glyph| add_numbered_mask(masks, glyph));
         }
         _ => unreachable!("the plan has no data of the Hangul shaper"),
     }

@@ -14,7 +14,7 @@ returns-clause-laws c =
     let b = c.args.buffer.now in
     search (
       arith,
-      c.walk.ensures.walked,
+      c.with_glyphs_mut.ensures.changed,
       c.cluster_level-level.ensures,
       mark_laws b.level c.args.start c.args.end b.glyphs c.requires.in_order c.requires.in_range,
     )

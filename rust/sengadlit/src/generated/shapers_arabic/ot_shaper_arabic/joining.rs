@@ -354,8 +354,8 @@ fn join_letters<T: Tables>(
     letters
 }
 
-// The same, as a copy of the loop for the flags of concatenation and one without them: few texts
-// want these, and the others take no test for them at each letter.
+// Joins the letters of a text, by a copy of the loop for the flags of concatenation or by one without
+// them: few texts want these, and the others take no test for them at each letter.
 #[inline]
 fn join_text<T: Tables>(
     flags: BufferFlags,

@@ -4,7 +4,7 @@
 
 use crate::generated::shapers_base::buffer::modified_combining_class::{BELOW, CCC22, CCC26};
 use crate::generated::shapers_base::buffer::{
-    Buffer, BufferClusterLevel, GlyphInfo, GlyphWalk, merge_clusters_in,
+    Buffer, BufferClusterLevel, GlyphInfo, merge_clusters_in,
 };
 use crate::generated::shapers_base::plan::Plan;
 
@@ -44,21 +44,7 @@ const ABOVE: u8 = 230;
 #[inline]
 pub fn reorder_marks(_plan: &Plan, buffer: &mut Buffer, start: usize, end: usize) {
     let level = buffer.cluster_level();
-    buffer.walk(&mut MarkOrder { level, start, end });
-}
-
-// Where the marks stand, and whether clusters merge.
-struct MarkOrder {
-    level: BufferClusterLevel,
-    start: usize,
-    end: usize,
-}
-
-impl GlyphWalk for MarkOrder {
-    #[inline]
-    fn walk(&mut self, glyphs: &mut [GlyphInfo]) {
-        reorder_marks_in(self.level, glyphs, self.start, self.end);
-    }
+    buffer.with_glyphs_mut(|glyphs| reorder_marks_in(level, glyphs, start, end));
 }
 
 /// [`reorder_marks`] of glyphs in a slice, whose clusters merge at this level. Returns whether one of
