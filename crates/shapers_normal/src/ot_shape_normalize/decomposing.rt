@@ -1,5 +1,5 @@
 //! The first round: characters come apart, as far as the font has the parts, and get their glyphs.
-ghost use Rattle.std.specs.Prelude.{◌≡◌, ◌<◌, ◌≤◌, ◌+◌, ◌++◌, ◌∷◌, [], length, map, drop, vec_capacity, if◌then◌else◌, ◌==◌, ◌||◌, ◌&&◌, None, IfSome, IfOk, IfErr, IsOk, OnOk, OnErr, true};
+ghost use Rattle.std.specs.Prelude.{◌≡◌, ◌<◌, ◌≤◌, ◌+◌, ◌++◌, ◌∷◌, [], length, map, drop, vec_capacity, if◌then◌else◌, ◌==◌, ◌||◌, ◌&&◌, false, None, IfSome, IfOk, IfErr, IsOk, OnOk, OnErr, true};
 ghost use Rattle.std.specs.List.{flat_map, list_all, prefix_len};
 ghost use Rattle.shapers_buffer.specs.Refusals.{RefusesLength};
 ghost use Rattle.shapers_buffer.specs.declared.buffer.refusal.ShaperError.TheVariants.{TooLong};
@@ -468,8 +468,20 @@ fn image<C: NormalizeContext>(context: &C, way: Way, c: u32) -> Parts
                 come_apart(context, true, c, MAX_STEPS)
             }
         }
-        Way::Whole => come_apart(context, false, c, MAX_STEPS),
+        Way::Whole => come_apart_if(context, c),
     }
+}
+
+// What a character comes apart into in as many steps as it may. Most characters don't: the question
+// is put before the call.
+#[inline]
+fn come_apart_if<C: NormalizeContext>(context: &C, c: u32) -> Parts
+    ensures { result.items ≡ apart_in (C.context context.now) false 8 c }
+{
+    if context.decompose(c).is_none() {
+        return ArrayVec::new();
+    }
+    come_apart(context, false, c, MAX_STEPS)
 }
 
 // What a character comes apart into in so many steps, none where the font lacks each base. The font

@@ -365,8 +365,18 @@ fn image<C: NormalizeContext>(context: &C, way: Way, c: u32) -> Parts {
                 come_apart(context, true, c, MAX_STEPS)
             }
         }
-        Way::Whole => come_apart(context, false, c, MAX_STEPS),
+        Way::Whole => come_apart_if(context, c),
     }
+}
+
+// What a character comes apart into in as many steps as it may. Most characters don't: the question
+// is put before the call.
+#[inline]
+fn come_apart_if<C: NormalizeContext>(context: &C, c: u32) -> Parts {
+    if context.decompose(c).is_none() {
+        return ArrayVec::new();
+    }
+    come_apart(context, false, c, MAX_STEPS)
 }
 
 // What a character comes apart into in so many steps, none where the font lacks each base. The font
