@@ -3,9 +3,10 @@
 use core::ops::Deref;
 
 use sengadlit::font::{Glyphs, GlyphsOnly};
-use sengadlit::ot_shaper_syllabic::{indic_syllable, khmer_syllable, myanmar_syllable, set_up_by_bytes, use_syllable};
+use sengadlit::ot_shaper_syllabic::use_syllable;
+use sengadlit::spans::setup_syllables_written;
 use sengadlit::{
-    ot_shaper_use, Buffer, BufferClusterLevel, GeneralCategory, GlyphId, JoiningType, Pause, Plan, Shaper, Tables, Tag,
+    Buffer, BufferClusterLevel, GeneralCategory, GlyphId, JoiningType, Pause, Plan, Shaper, Tables, Tag,
 };
 
 use crate::hb::buffer::*;
@@ -180,14 +181,7 @@ pub fn find_syllables(pause: Pause, buffer: &mut hb_buffer_t) {
 
 /// Sets the syllables up that the machine has found. Returns whether the pause does so.
 pub fn set_up(pause: Pause, plan: &Plan, text: &mut Buffer) -> bool {
-    match pause {
-        Pause::SetupSyllablesIndic => set_up_by_bytes(indic_syllable::BROKEN_CLUSTER, text),
-        Pause::SetupSyllablesKhmer => set_up_by_bytes(khmer_syllable::BROKEN_CLUSTER, text),
-        Pause::SetupSyllablesMyanmar => set_up_by_bytes(myanmar_syllable::BROKEN_CLUSTER, text),
-        Pause::SetupSyllablesUse => ot_shaper_use::setup_syllables_use_by_bytes(plan, text),
-        _ => return false,
-    }
-    true
+    setup_syllables_written(pause, plan, text)
 }
 
 /// The vowel constraints of Indic and the universal shaper.

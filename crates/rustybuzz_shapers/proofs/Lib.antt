@@ -5,6 +5,8 @@ mod Breaks
 mod CheckedRows
 mod Cuts
 mod Edited
+mod FoundRows
+mod FoundSyllables
 mod FlagLaws
 pub mod HangulHalves
 mod HangulItems

@@ -4,6 +4,7 @@ pub mod Breaks
 pub mod Checked
 pub mod Cuts
 pub mod Edited
+pub mod FoundSyllables
 pub mod Headline
 pub mod Hooks
 pub mod Lengths

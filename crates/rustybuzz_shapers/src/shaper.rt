@@ -18,6 +18,7 @@ pub mod checked;
 mod conditions;
 mod laws;
 mod pauses;
+mod syllables;
 
 pub use conditions::{has_positions, kinds_fit, lacks_positions, pause_fits};
 pub use laws::{
@@ -35,6 +36,7 @@ use shapers_stretch::ot_shaper_arabic_stretch;
 use shapers_text::{ot_shaper_hebrew, ot_shaper_thai};
 use shapers_universal::ot_shaper_use;
 use std::mem;
+pub use syllables::{setup_syllables_found, setup_syllables_written};
 
 /// A script shaper. Where it lacks a hook, a dash here, the method returns `None` and changes
 /// nothing; `has_hook` is this table. What runs between two stages of lookups is a [`Pause`].

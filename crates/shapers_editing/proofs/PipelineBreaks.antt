@@ -20,6 +20,7 @@ use Rattle.shapers_clusters.proofs.FlagLaw.{added_same}
 use Rattle.shapers_syllabic.specs.Borders.{unnumbered}
 use Rattle.shapers_universal.specs.PlanData.{arabic_of}
 use Rattle.shapers_syllabic.specs.Syllabic.{unsafe_spans}
+use Rattle.rustybuzz_shapers.specs.FoundSyllables.{PauseRun}
 use Rattle.rustybuzz_shapers.specs.Hooks.{MasksOffFlags, MasksSet}
 use Rattle.rustybuzz_shapers.specs.Pauses.{Paused, Reordered, Reordering, by_initial, by_khmer, by_myanmar}
 use Rattle.rustybuzz_shapers.specs.declared.shaper.hb_ot_shaper_t.{hb_ot_shaper_t}
@@ -36,7 +37,7 @@ use Rattle.shapers_pipeline.specs.Lookups.{looked_up, lookups_of_stage, with_not
 use Rattle.shapers_pipeline.specs.Masks.{as_glyph, with_features}
 use Rattle.shapers_pipeline.specs.Prepared.{Preparation, text_in_fractions}
 use Rattle.shapers_pipeline.specs.ShaperSteps.{masks_set_by, masks_set_for, universal_masks_set}
-use Rattle.shapers_pipeline.specs.Stages.{PauseRun, PauseRunIf, StageRun, StagesRun, Substitution, stage_looked_up}
+use Rattle.shapers_pipeline.specs.Stages.{PauseRunIf, StageRun, StagesRun, Substitution, stage_looked_up}
 use Rattle.shapers_pipeline.proofs.Pausing.{pause_positions}
 use Rattle.shapers_editing.specs.PipelineBreaks.{CutBufferWhereClear, LookupsLeavePieces, MakesSame, MasksInPieces, MasksSetInPieces, NotesReadOrder, PauseLeaves, PipelineBreaks, ShaperStagesBreak, ShapingBreaks, StagedPiece, StagesLeavePieces, StepLeavesPieces, SyllabicStagesBreak, glyphs_looked_up, glyphs_made}
 

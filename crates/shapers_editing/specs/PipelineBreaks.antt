@@ -13,6 +13,7 @@ use Rattle.shapers_buffer.specs.declared.buffer.syllables.Span.{Span}
 use Rattle.shapers_clusters.specs.Breaks.{IsClear}
 use Rattle.shapers_syllabic.specs.Borders.{unnumbered}
 use Rattle.shapers_syllabic.specs.Syllabic.{unsafe_spans}
+use Rattle.rustybuzz_shapers.specs.FoundSyllables.{PauseRun}
 use Rattle.rustybuzz_shapers.specs.Hooks.{MasksOffFlags}
 use Rattle.rustybuzz_shapers.specs.Pauses.{Paused, Reordered, Reordering, by_initial, by_khmer, by_myanmar}
 use Rattle.rustybuzz_shapers.specs.declared.shaper.hb_ot_shaper_t.{hb_ot_shaper_t}
@@ -28,7 +29,7 @@ use Rattle.shapers_pipeline.specs.Lookups.{text_noted}
 use Rattle.shapers_pipeline.specs.Masks.{as_glyph, with_features}
 use Rattle.shapers_pipeline.specs.Prepared.{Preparation, text_in_fractions, text_prepared}
 use Rattle.shapers_pipeline.specs.ShaperSteps.{masks_set_for}
-use Rattle.shapers_pipeline.specs.Stages.{PauseRun, StagesRun, Substitution, stage_looked_up}
+use Rattle.shapers_pipeline.specs.Stages.{StagesRun, Substitution, stage_looked_up}
 
 -- Of every text without positions that is the same as a piece, whatever else its buffer has, a step
 -- makes the same as what it made of the piece.

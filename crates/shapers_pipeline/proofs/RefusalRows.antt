@@ -5,18 +5,19 @@ use Rattle.std.proofs.lemmas.Bool.{false≢true}
 use Rattle.shapers_arabic.specs.PlanData.{IsArabic}
 use Rattle.shapers_base.specs.Font.{Font}
 use Rattle.shapers_base.specs.declared.plan.hb_ot_shape_plan_t.{hb_ot_shape_plan_t}
-use Rattle.shapers_base.specs.declared.plan.pause.Pause.TheVariants.{InitialReordering, RecordStch, ReorderKhmer, SetupSyllablesIndic, SetupSyllablesKhmer, SetupSyllablesMyanmar, SetupSyllablesUse, SyllabicClearVar}
+use Rattle.shapers_base.specs.declared.plan.pause.Pause.TheVariants.{RecordStch, ReorderKhmer, SetupSyllablesIndic, SetupSyllablesKhmer, SetupSyllablesMyanmar, SetupSyllablesUse}
 use Rattle.shapers_buffer.specs.Buffer.{Buffer, new_buffer}
 use Rattle.shapers_buffer.specs.declared.buffer.refusal.ShaperError.{ShaperError}
 use Rattle.shapers_buffer.specs.declared.buffer.refusal.ShaperError.TheVariants.{Memory, TooLong, UnknownSyllable, SpansDontCover, StretchOverflow}
 use Rattle.shapers_khmer.specs.Plan.{is_khmer_data}
+use Rattle.shapers_universal.specs.PlanData.{is_universal}
 use Rattle.shapers_plan.specs.declared.ot_map.lookups.Stage.{Stage}
 use Rattle.shapers_plan.specs.declared.ot_map.lookups.StageLookup.{StageLookup}
 use Rattle.rustybuzz_shapers.specs.declared.shaper.checked.CallError.{CallError}
 use Rattle.rustybuzz_shapers.specs.declared.shaper.checked.CallError.TheVariants as call
-use Rattle.rustybuzz_shapers.specs.declared.shaper.checked.Condition.TheVariants.{Positions, PlanData, Glyphs}
+use Rattle.rustybuzz_shapers.specs.declared.shaper.checked.Condition.TheVariants.{Positions, PlanData, Glyphs, SpanKinds}
 use Rattle.rustybuzz_shapers.specs.declared.shaper.hb_ot_shaper_t.TheVariants.{Arabic}
-use Rattle.shapers_pipeline.specs.Lookups.{LookupRefusals, MayRefuse, SpansRefused, StoppedIn}
+use Rattle.shapers_pipeline.specs.Lookups.{LookupRefusals, MayRefuse, StoppedIn}
 use Rattle.shapers_pipeline.specs.Positioned.{Positioning, text_advanced, text_positioned}
 use Rattle.shapers_pipeline.specs.Prepared.{Preparation, growths, text_in_fractions}
 use Rattle.shapers_pipeline.specs.Refusals.{AllHadRoom, IsStopped}
@@ -80,37 +81,35 @@ no_condition k = k
 
 -- ---- pauses
 
--- spans are refused memory by the four grammars, and nothing else; the other pauses take none
-spans : SpansRefused SetupSyllablesIndic Memory × (SpansRefused SetupSyllablesKhmer Memory
-    × (SpansRefused SetupSyllablesMyanmar Memory × SpansRefused SetupSyllablesUse Memory))
-spans = (refl, (refl, (refl, refl)))
-
-spans_alike : (e : ShaperError) → SpansRefused SetupSyllablesKhmer e → e ≡ Memory
-spans_alike e k = k
-
-no_spans : (e : ShaperError) → (SpansRefused InitialReordering e → ⊥) × ((SpansRefused RecordStch e → ⊥)
-    × (SpansRefused SyllabicClearVar e → ⊥))
-no_spans e = ((λ k. k), ((λ k. k), (λ k. k)))
-
--- memory for spans; data that aren't the pause's
-without_spans : (plan : hb_ot_shape_plan_t) (font : Font) (b : Buffer) →
-    PauseStopped SetupSyllablesKhmer plan font b (call.Refused Memory)
-without_spans plan font b = inl refl
-
+-- data that aren't the pause's
 without_data : (plan : hb_ot_shape_plan_t) (font : Font) (b : Buffer) → b.positions ≡ [] →
     (IsArabic plan.plan_data → ⊥) → PauseStopped RecordStch plan font b (call.Condition PlanData)
-without_data plan font b unplaced other = inr ([], (refl, (((unplaced, tt, tt), other), tt)))
+without_data plan font b unplaced other = (((unplaced, tt, tt), other), tt)
 
--- a record refuses nothing, of memory least of all; nor does a reordering whose data are another's
+-- what sets up syllables refuses nothing, memory for their spans least of all
+set_up_refuses_none : (plan : hb_ot_shape_plan_t) (font : Font) (b : Buffer) (e : ShaperError) →
+    (PauseStopped SetupSyllablesIndic plan font b (call.Refused e) → ⊥)
+    × ((PauseStopped SetupSyllablesKhmer plan font b (call.Refused e) → ⊥)
+    × ((PauseStopped SetupSyllablesMyanmar plan font b (call.Refused e) → ⊥)
+    × (PauseStopped SetupSyllablesUse plan font b (call.Refused e) → ⊥)))
+set_up_refuses_none plan font b e =
+    ((λ k. false≢true k.1), ((λ k. false≢true k.1), ((λ k. false≢true k.1), (λ k. false≢true k.1))))
+
+-- its spans fit their condition, so that it stops at no other than the plan's
+set_up_stops : (plan : hb_ot_shape_plan_t) (font : Font) (b : Buffer) → b.positions ≡ [] →
+    (is_universal plan.plan_data ≡ true → ⊥) →
+    PauseStopped SetupSyllablesUse plan font b (call.Condition PlanData)
+    × (PauseStopped SetupSyllablesUse plan font b (call.Condition SpanKinds) → ⊥)
+set_up_stops plan font b unplaced other = ((((unplaced, tt, tt), other), tt), (λ k. other k.0.0.3))
+
+-- a record refuses nothing; nor does a reordering whose data are another's
 record_refuses_none : (plan : hb_ot_shape_plan_t) (font : Font) (b : Buffer) (e : ShaperError) →
     PauseStopped RecordStch plan font b (call.Refused e) → ⊥
-record_refuses_none plan font b e (inl k) = k
-record_refuses_none plan font b e (inr k) = false≢true k.1.1.1
+record_refuses_none plan font b e k = false≢true k.1
 
 data_before_memory : (plan : hb_ot_shape_plan_t) (font : Font) (b : Buffer) (e : ShaperError) →
     (is_khmer_data plan.plan_data ≡ true → ⊥) → PauseStopped ReorderKhmer plan font b (call.Refused e) → ⊥
-data_before_memory plan font b e other (inl k) = k
-data_before_memory plan font b e other (inr (taken, (found, ((before, kinds), refused)))) = other before.3
+data_before_memory plan font b e other k = other k.0.0.3
 
 -- ---- stages
 

@@ -12,13 +12,14 @@ use Rattle.shapers_clusters.specs.Cuts.{IsMonotone}
 use Rattle.shapers_syllabic.specs.Circles.{circled}
 use Rattle.shapers_syllabic.specs.declared.ot_shaper_syllabic.circles.DottedCircles.{DottedCircles}
 use Rattle.rustybuzz_shapers.specs.Apart.{PausesMakeNoCluster}
+use Rattle.rustybuzz_shapers.specs.FoundSyllables.{PauseRun}
 use Rattle.rustybuzz_shapers.specs.Monotone.{AtMostOneRepha, CirclesStayMonotone, PausesStayMonotone, StaysMonotone}
 use Rattle.rustybuzz_shapers.specs.Pauses.{pause_circles}
 use Rattle.shapers_plan.specs.declared.ot_map.lookups.Stage.{Stage}
 use Rattle.shapers_plan.specs.declared.ot_map.lookups.StageLookup.{StageLookup}
 use Rattle.shapers_pipeline.specs.ClusterLaws.{AtPauses, IfPaused, LookupsKeep, NoneMade, PauseSorts, StagesKeepClusters, StayMonotone}
 use Rattle.shapers_pipeline.specs.Lookups.{looked_up, lookups_of_stage}
-use Rattle.shapers_pipeline.specs.Stages.{PauseRun, PauseRunIf, StageRun, StagesRun, Substitution, stage_looked_up}
+use Rattle.shapers_pipeline.specs.Stages.{PauseRunIf, StageRun, StagesRun, Substitution, stage_looked_up}
 use Rattle.shapers_pipeline.proofs.ClustersKept.{itself, none_then}
 use Rattle.shapers_pipeline.proofs.Pausing.{pause_level, pause_positions}
 

@@ -1,6 +1,6 @@
 -- How long stages make a text, and what comes behind them.
 use Rattle.std.proofs.Common.{◌≡◌, ◌∙◌, ℕ, ◌+◌, ◌*◌, ◌<◌, ◌≤◌, ◌≢◌, Bool, true, false, List, [], ◌∷◌, drop, get_or, inl, inr, length, map, sym, ap, subst, arith}
-use Rattle.std.specs.Prelude.{IfErr, IsOk, Option, None, Some, Result, Err, if◌then◌else◌, option_map}
+use Rattle.std.specs.Prelude.{IfErr, IsOk, Option, None, Some, Result, Err, option_map}
 use Rattle.std.specs.Option.{option_map_or}
 use Rattle.std.specs.Result.{IsErrAnd}
 use Rattle.std.proofs.Math.Nat.{le-mul_of_pos_right, le_refl, le_trans, mul-le-mul_right}
@@ -14,8 +14,8 @@ use Rattle.shapers_base.specs.declared.plan.hb_ot_shape_plan_t.{hb_ot_shape_plan
 use Rattle.shapers_base.specs.declared.plan.pause.Pause.{Pause}
 use Rattle.shapers_base.specs.declared.plan.pause.Pause.TheVariants.{SetupSyllablesIndic, SetupSyllablesKhmer, SetupSyllablesMyanmar, SetupSyllablesUse, InitialReordering, ReorderKhmer, ReorderMyanmar, ReorderUse, FinalReordering, RecordStch, RecordRphf, RecordPref, SyllabicClearVar, ClearSubstitutionFlags, ArabicFallbackShape}
 use Rattle.shapers_buffer.specs.Buffer.{Buffer}
-use Rattle.shapers_buffer.specs.Refusals.{RefusesInput, RefusesLength}
-use Rattle.shapers_buffer.specs.Syllables.{spans_cover, unknown_syllable}
+use Rattle.shapers_buffer.specs.Refusals.{RefusesLength}
+use Rattle.shapers_buffer.specs.Syllables.{unknown_syllable}
 use Rattle.shapers_buffer.specs.Glyphs.{Glyph, Glyphs}
 use Rattle.shapers_buffer.specs.declared.buffer.refusal.ShaperError.{ShaperError}
 use Rattle.shapers_buffer.specs.declared.buffer.refusal.ShaperError.TheVariants.{Memory, TooLong, UnknownSyllable, SpansDontCover, StretchOverflow}
@@ -29,7 +29,8 @@ use Rattle.shapers_plan.specs.declared.ot_map.lookups.Stage.{Stage}
 use Rattle.shapers_plan.specs.declared.ot_map.lookups.StageLookup.{StageLookup}
 use Rattle.rustybuzz_shapers.specs.Lengths.{pause_growth}
 use Rattle.rustybuzz_shapers.specs.Checked.{AsRefused}
-use Rattle.rustybuzz_shapers.specs.Pauses.{PauseKeeps, RefusesPause, RefusesReordering, pause_circles}
+use Rattle.rustybuzz_shapers.specs.FoundSyllables.{RefusesFound}
+use Rattle.rustybuzz_shapers.specs.Pauses.{PauseKeeps, RefusesReordering, pause_circles}
 use Rattle.rustybuzz_shapers.specs.declared.shaper.checked.CallError.{CallError}
 use Rattle.rustybuzz_shapers.specs.declared.shaper.checked.CallError.TheVariants as call
 use Rattle.rustybuzz_shapers.specs.declared.shaper.hb_ot_shaper_t.{hb_ot_shaper_t}
@@ -268,11 +269,6 @@ room_for_stages growth shaper list lists ss ts n m limit own a b few same fits =
     subst (λ xs. stages_bound growth xs ts m ≤ own) (sym a)
     (subst (λ ys. stages_bound growth list ys m ≤ own) (sym b) whole)
 
-by_spans : (covers : Bool) (e : ShaperError) →
-    RefusesInput {T = Bool} (if covers then None else Some SpansDontCover) (Err e) → e ≢ TooLong
-by_spans true e k = absurd (false≢true k)
-by_spans false e k = λ is. absurd cc
-
 circles_fit : (circles : Option DottedCircles) (gs : Glyphs) → length (circled circles gs) ≤ length gs * 2
 circles_fit None gs = omega arith
 circles_fit (Some rule) gs = omega (arith, few_circles (Some rule) gs, length-with_circles rule gs)
@@ -295,34 +291,34 @@ reordering (Some place) circles old e room k = λ is. absurd cc
 never : (e : ShaperError) → IsOk {T = Bool} (Err e) → e ≢ TooLong
 never e k = absurd (false≢true k)
 
-refused : (pause : Pause) (font : Font) (spans : List Span) (old : Buffer) (e : ShaperError) →
-    length old.glyphs * pause_growth pause ≤ old.max_len → RefusesPause {T = Bool} pause font spans old (Err e) →
+refused : (pause : Pause) (font : Font) (old : Buffer) (e : ShaperError) →
+    length old.glyphs * pause_growth pause ≤ old.max_len → RefusesFound {T = Bool} pause font old (Err e) →
     e ≢ TooLong
-refused SetupSyllablesIndic font spans old e room k = by_spans (spans_cover (length old.glyphs) spans) e k
-refused SetupSyllablesKhmer font spans old e room k = by_spans (spans_cover (length old.glyphs) spans) e k
-refused SetupSyllablesMyanmar font spans old e room k = by_spans (spans_cover (length old.glyphs) spans) e k
-refused SetupSyllablesUse font spans old e room k = by_spans (spans_cover (length old.glyphs) spans) e k
-refused InitialReordering font spans old e room k = reordering (unknown_syllable 5 old.glyphs) _ old e room k
-refused ReorderKhmer font spans old e room k = reordering (unknown_syllable 2 old.glyphs) _ old e room k
-refused ReorderMyanmar font spans old e room k = reordering (unknown_syllable 3 old.glyphs) _ old e room k
-refused ReorderUse font spans old e room k = reordering None _ old e room k
-refused FinalReordering font spans old e room k = never e k
-refused RecordStch font spans old e room k = never e k
-refused RecordRphf font spans old e room k = never e k
-refused RecordPref font spans old e room k = never e k
-refused SyllabicClearVar font spans old e room k = never e k
-refused ClearSubstitutionFlags font spans old e room k = never e k
-refused ArabicFallbackShape font spans old e room k = never e k
+refused SetupSyllablesIndic font old e room k = never e k
+refused SetupSyllablesKhmer font old e room k = never e k
+refused SetupSyllablesMyanmar font old e room k = never e k
+refused SetupSyllablesUse font old e room k = never e k
+refused InitialReordering font old e room k = reordering (unknown_syllable 5 old.glyphs) _ old e room k
+refused ReorderKhmer font old e room k = reordering (unknown_syllable 2 old.glyphs) _ old e room k
+refused ReorderMyanmar font old e room k = reordering (unknown_syllable 3 old.glyphs) _ old e room k
+refused ReorderUse font old e room k = reordering None _ old e room k
+refused FinalReordering font old e room k = never e k
+refused RecordStch font old e room k = never e k
+refused RecordRphf font old e room k = never e k
+refused RecordPref font old e room k = never e k
+refused SyllabicClearVar font old e room k = never e k
+refused ClearSubstitutionFlags font old e room k = never e k
+refused ArabicFallbackShape font old e room k = never e k
 
 same_refusal : (e f : ShaperError) → call.Refused e ≡ call.Refused f → e ≡ f
 same_refusal e f is = cc
 
-pub pause_room : (pause : Pause) (font : Font) (spans : List Span) (old : Buffer) (x : CallError) →
+pub pause_room : (pause : Pause) (font : Font) (old : Buffer) (x : CallError) →
     length old.glyphs * pause_growth pause ≤ old.max_len →
-    AsRefused {T = Bool} (RefusesPause pause font spans old) (Err x) → x ≢ call.Refused TooLong
-pause_room pause font spans old (call.Condition c) room k = λ is. absurd cc
-pause_room pause font spans old (call.Refused e) room k =
-    λ is. refused pause font spans old e room k (same_refusal e TooLong is)
+    AsRefused {T = Bool} (RefusesFound pause font old) (Err x) → x ≢ call.Refused TooLong
+pause_room pause font old (call.Condition c) room k = λ is. absurd cc
+pause_room pause font old (call.Refused e) room k =
+    λ is. refused pause font old e room k (same_refusal e TooLong is)
 
 -- ---- stages
 

@@ -1,25 +1,17 @@
 -- What lookups keep of a text, and stages of them, each with a pause behind it.
 use Rattle.std.specs.Prelude.{ℕ, ◌≡◌, ◌<◌, ◌≤◌, ◌-◌, ◌*◌, ◌/◌, ◌%◌, ◌⊎◌, Bool, true, List, [], ◌∷◌, drop, fold, length, map, slice_index, take, IfSome}
 use Rattle.std.specs.Int.{bit_at}
-use Rattle.shapers_base.specs.declared.plan.pause.Pause.{Pause}
-use Rattle.shapers_base.specs.declared.plan.pause.Pause.TheVariants.{SetupSyllablesIndic, SetupSyllablesKhmer, SetupSyllablesMyanmar, SetupSyllablesUse}
 use Rattle.shapers_buffer.specs.Buffer.{Buffer}
 use Rattle.shapers_buffer.specs.Clusters.{merges}
 use Rattle.shapers_buffer.specs.Glyph.{clusters, without_flags}
 use Rattle.shapers_buffer.specs.LookupRecords.{record_for}
 use Rattle.shapers_buffer.specs.Properties.{no_ligature}
-use Rattle.shapers_buffer.specs.Glyphs.{Glyph, Glyphs}
+use Rattle.shapers_buffer.specs.Glyphs.{Glyph}
 use Rattle.shapers_buffer.specs.declared.buffer.glyph_props.GlyphProps.{GlyphProps}
 use Rattle.shapers_buffer.specs.declared.buffer.refusal.ShaperError.{ShaperError}
 use Rattle.shapers_buffer.specs.declared.buffer.refusal.ShaperError.TheVariants.{Memory, TooLong}
-use Rattle.shapers_buffer.specs.declared.buffer.syllables.Span.{Span}
 use Rattle.shapers_clusters.specs.Cuts.{IsMonotone}
 use Rattle.shapers_syllabic.specs.CircleLaws.{NoNewCluster}
-use Rattle.shapers_spans.specs.Cuts.{AreSpansOf}
-use Rattle.shapers_spans.specs.Indic.{indic_grammar}
-use Rattle.shapers_spans.specs.Khmer.{khmer_grammar}
-use Rattle.shapers_spans.specs.Myanmar.{myanmar_grammar}
-use Rattle.shapers_spans.specs.Universal.{universal_grammar}
 use Rattle.shapers_plan.specs.declared.ot_map.lookups.Stage.{Stage}
 use Rattle.shapers_plan.specs.declared.ot_map.lookups.StageLookup.{StageLookup}
 use Rattle.shapers_pipeline.specs.declared.lookups.PresentLookups.{PresentLookups}
@@ -102,19 +94,3 @@ StoppedIn substituted refusals (x ∷ xs) old new e =
 -- the lookups of a stage, as far as the list goes
 abbrev pub lookups_of_stage : Stage → List StageLookup → List StageLookup
 lookups_of_stage s list = take (s.end - s.start) (drop s.start list)
-
--- the spans that a pause takes: those of its grammar, if it writes syllables
-abbrev pub FoundSpans : Pause → Glyphs → List Span → Type 0
-FoundSpans SetupSyllablesIndic gs spans = AreSpansOf indic_grammar gs spans
-FoundSpans SetupSyllablesKhmer gs spans = AreSpansOf khmer_grammar gs spans
-FoundSpans SetupSyllablesMyanmar gs spans = AreSpansOf myanmar_grammar gs spans
-FoundSpans SetupSyllablesUse gs spans = AreSpansOf universal_grammar gs spans
-FoundSpans _ gs spans = spans ≡ []
-
--- the refusal of a pause's spans: of memory, where a grammar finds them
-abbrev pub SpansRefused : Pause → ShaperError → Type 0
-SpansRefused SetupSyllablesIndic e = e ≡ Memory
-SpansRefused SetupSyllablesKhmer e = e ≡ Memory
-SpansRefused SetupSyllablesMyanmar e = e ≡ Memory
-SpansRefused SetupSyllablesUse e = e ≡ Memory
-SpansRefused _ e = ⊥

@@ -5,14 +5,13 @@ use Rattle.shapers_base.specs.declared.plan.hb_ot_shape_plan_t.{hb_ot_shape_plan
 use Rattle.shapers_base.specs.declared.plan.pause.Pause.{Pause}
 use Rattle.shapers_buffer.specs.Buffer.{Buffer}
 use Rattle.shapers_buffer.specs.declared.buffer.refusal.ShaperError.{ShaperError}
-use Rattle.shapers_buffer.specs.declared.buffer.syllables.Span.{Span}
 use Rattle.rustybuzz_shapers.specs.Checked.{AsRefused, StopsAt, pause_asks}
-use Rattle.rustybuzz_shapers.specs.Pauses.{PauseKeeps, Paused, RefusesPause}
+use Rattle.rustybuzz_shapers.specs.FoundSyllables.{PauseRun, RefusesFound}
 use Rattle.rustybuzz_shapers.specs.declared.shaper.checked.CallError.{CallError}
 use Rattle.rustybuzz_shapers.specs.declared.shaper.checked.CallError.TheVariants as call
 use Rattle.shapers_plan.specs.declared.ot_map.lookups.Stage.{Stage}
 use Rattle.shapers_plan.specs.declared.ot_map.lookups.StageLookup.{StageLookup}
-use Rattle.shapers_pipeline.specs.Lookups.{FoundSpans, LookupRefusals, SpansRefused, StoppedIn, looked_up, lookups_of_stage}
+use Rattle.shapers_pipeline.specs.Lookups.{LookupRefusals, StoppedIn, looked_up, lookups_of_stage}
 
 -- what stages read: the plan of the hooks, the font, what each lookup makes of a text, and the list
 -- of lookups that the stages are ranges of
@@ -22,15 +21,7 @@ pub record Substitution : Type 0 where
   pub substituted : StageLookup → Buffer → Buffer
   pub list : List StageLookup
 
--- the buffer before and after a pause, whose spans are found by its grammar
-pub record PauseRun (pause : Pause) (plan : hb_ot_shape_plan_t) (font : Font) (old new : Buffer)
-    : Type 0 where
-  pub spans : List Span
-  pub found : FoundSpans pause old.glyphs spans
-  pub paused : Paused pause plan font spans old new
-  pub kept : PauseKeeps pause plan font spans old new
-
--- before and after the pause that a stage has, if it has one
+-- the buffer before and after the pause that a stage has, if it has one
 abbrev pub PauseRunIf : Option Pause → hb_ot_shape_plan_t → Font → Buffer → Buffer → Type 0
 PauseRunIf None plan font old new = new ≡ old
 PauseRunIf (Some pause) plan font old new = PauseRun pause plan font old new
@@ -53,15 +44,12 @@ abbrev pub IsRefusal : (ShaperError → Type 0) → CallError → Type 0
 IsRefusal Refused (call.Refused e) = Refused e
 IsRefusal Refused (call.Condition _) = ⊥
 
--- Why a pause didn't run: the spans of its grammar were refused; or there are spans, and this is
--- the first of the pause's conditions that isn't met, or, where all are met, the pause's own
--- refusal.
+-- why a pause didn't run: the first of its conditions that isn't met, where found spans meet
+-- theirs; or, where all are met, its own refusal
 abbrev pub PauseStopped : Pause → hb_ot_shape_plan_t → Font → Buffer → CallError → Type 0
 PauseStopped pause plan font b e =
-    IsRefusal (SpansRefused pause) e
-    ⊎ ((spans : List Span) × (FoundSpans pause b.glyphs spans
-    × (StopsAt {T = Bool} (pause_asks pause plan spans b) (Err e)
-    × AsRefused {T = Bool} (RefusesPause pause font spans b) (Err e))))
+    StopsAt {T = Bool} (pause_asks pause plan [] b) (Err e)
+    × AsRefused {T = Bool} (RefusesFound pause font b) (Err e)
 
 -- why the pause that a stage has didn't run; a stage without one doesn't stop there
 abbrev pub PauseStoppedIf :

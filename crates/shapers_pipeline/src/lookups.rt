@@ -1,18 +1,14 @@
 //! The lookups of a font, stage by stage, with what the shaper does behind each stage.
-ghost use Rattle.std.specs.Prelude.{ℕ, ◌≡◌, ◌≢◌, ◌≤◌, ◌*◌, [], length, true, Err, IfErr, IfOk, IfSome, IsOkUnless, IsSomeAnd, OnErr, OnOk};
-ghost use Rattle.shapers_buffer.specs.declared.buffer.refusal.ShaperError.TheVariants.{Memory, TooLong};
+ghost use Rattle.std.specs.Prelude.{ℕ, ◌≡◌, ◌≢◌, ◌≤◌, ◌*◌, [], length, true, Err, IfErr, IfSome, IsSomeAnd, OnErr, OnOk};
+ghost use Rattle.shapers_buffer.specs.declared.buffer.refusal.ShaperError.TheVariants.{TooLong};
 ghost use Rattle.shapers_pipeline.specs.Lengths.{looked_up_bound};
-ghost use Rattle.shapers_spans.specs.Cuts.{AreSpansOf};
-ghost use Rattle.shapers_pipeline.specs.Lookups.{AreSeen, FoundSpans, IsAbsent, MayRefuse, SpansRefused, StoppedIn, looked_up, text_noted};
+ghost use Rattle.shapers_pipeline.specs.Lookups.{AreSeen, IsAbsent, MayRefuse, StoppedIn, looked_up, text_noted};
 
 use shapers_base::buffer::{
-    GlyphChange, GlyphProps, LigProps, LookupRecord, ShaperError, Span, hb_buffer_t,
-    hb_glyph_info_t,
+    GlyphChange, GlyphProps, LigProps, LookupRecord, ShaperError, hb_buffer_t, hb_glyph_info_t,
 };
-use shapers_base::plan::Pause;
 use shapers_plan::ot_map::StageLookup;
 use shapers_position::ot_shape_position::GlyphClasses;
-use shapers_spans::{Indic, Khmer, Machine, Myanmar, Universal, spans_into};
 
 /// The lookups of GSUB that may change a text: those from number 128 on, and those whose bit is set.
 #[derive(Clone, Copy, Debug)]
@@ -267,39 +263,4 @@ pub(crate) fn apply_lookups<L: Lookups>(
         apply_present(lookups, lookup, &mut seen, buffer)?;
     }
     Ok(())
-}
-
-// The syllables that a pause writes into a text, found by its grammar, in a list that is empty; none
-// for the other pauses.
-pub(crate) fn found_spans(
-    pause: Pause,
-    glyphs: &[hb_glyph_info_t],
-    list: Vec<Span>,
-) -> Result<Vec<Span>, ShaperError>
-    requires { list.items ≡ [] }
-    ensures spans { IfOk result (λ spans. FoundSpans pause glyphs.now spans.items) }
-    ensures refusal { IfErr result (λ e. SpansRefused pause e) }
-{
-    match pause {
-        Pause::SetupSyllablesIndic => spans_in(&Indic, glyphs, list),
-        Pause::SetupSyllablesKhmer => spans_in(&Khmer, glyphs, list),
-        Pause::SetupSyllablesMyanmar => spans_in(&Myanmar, glyphs, list),
-        Pause::SetupSyllablesUse => spans_in(&Universal, glyphs, list),
-        _ => Ok(list),
-    }
-}
-
-// The syllables of the glyphs, by a machine, in a list of which nothing stays but its room.
-#[inline]
-fn spans_in<M: Machine>(
-    machine: &M,
-    glyphs: &[hb_glyph_info_t],
-    mut list: Vec<Span>,
-) -> Result<Vec<Span>, ShaperError>
-    ensures spans { IfOk result
-        (λ spans. AreSpansOf (M.grammar machine.now) glyphs.now spans.items) }
-    ensures refusal { IsOkUnless result Memory }
-{
-    spans_into(machine, glyphs, &mut list)?;
-    Ok(list)
 }

@@ -1,16 +1,17 @@
 //! The stages of a plan: the lookups of each, and what the shaper does behind them.
 ghost use Rattle.std.specs.Prelude.{◌≡◌, ◌≤◌, ◌*◌, [], length, IfErr, OnErr, OnOk};
+ghost use Rattle.rustybuzz_shapers.specs.FoundSyllables.{PauseRun};
 ghost use Rattle.rustybuzz_shapers.specs.Lengths.{pause_growth};
 ghost use Rattle.shapers_pipeline.specs.Lengths.{NotTooLong, stage_bound, stages_bound};
 ghost use Rattle.shapers_buffer.specs.Buffer.{Buffer};
 ghost use Rattle.shapers_pipeline.specs.Lookups.{lookups_of_stage};
 ghost use Rattle.shapers_pipeline.specs.Planned.{as_planned, put_back};
-ghost use Rattle.shapers_pipeline.specs.Stages.{PauseRun, PauseStopped, StageRun, StageStopped, StagesRun, StagesStopped, Substitution};
+ghost use Rattle.shapers_pipeline.specs.Stages.{PauseStopped, StageRun, StageStopped, StagesRun, StagesStopped, Substitution};
 
-use crate::lookups::{Lookups, apply_lookups, found_spans};
+use crate::lookups::{Lookups, apply_lookups};
 use crate::plan::StagePlan;
 use crate::planned::set_script_and_direction;
-use rustybuzz_shapers::shaper::checked::{CallError, checked_run_pause};
+use rustybuzz_shapers::shaper::checked::{CallError, checked_run_pause_found};
 use shapers_base::buffer::hb_buffer_t;
 use shapers_base::font::hb_font_t;
 use shapers_base::plan::{Pause, hb_ot_shape_plan_t};
@@ -23,10 +24,10 @@ use shapers_plan::ot_map::{Stage, StageLookup};
 ///
 /// # Errors
 ///
-/// The refusal of a lookup; or of a pause, the first of its conditions that isn't met, its refusal,
-/// or, where its spans are found, `Memory` for these. The glyphs are as they were before that lookup
-/// or pause, and the script and direction of the buffer as they were. `TooLong` doesn't come where
-/// `max_len` is as much as the text may grow.
+/// The refusal of a lookup; or of a pause, the first of its conditions that isn't met, or its
+/// refusal, which a pause that sets up syllables doesn't have. The glyphs are as they were before
+/// that lookup or pause, and the script and direction of the buffer as they were. `TooLong` doesn't
+/// come where `max_len` is as much as the text may grow.
 pub fn run_stages<F: hb_font_t, L: Lookups>(
     plan: &StagePlan,
     font: &F,
@@ -138,7 +139,7 @@ fn run_stage<F: hb_font_t, L: Lookups>(
 {
     apply_lookups(lookups, lookups_of_stage(stage, plan.lookups), buffer)?;
     match stage.pause {
-        Some(pause) => pause_with_spans(pause, plan.plan, font, buffer),
+        Some(pause) => run_stage_pause(pause, plan.plan, font, buffer),
         None => Ok(()),
     }
 }
@@ -153,9 +154,9 @@ pub(crate) fn lookups_of_stage(stage: Stage, list: &[StageLookup]) -> &[StageLoo
     &list[start..end]
 }
 
-// Runs a pause, whose spans are found by its grammar.
+// Runs the pause of a stage.
 #[tactic(auto, using(crate::proofs::Pausing::pause_positions))]
-fn pause_with_spans<F: hb_font_t>(
+fn run_stage_pause<F: hb_font_t>(
     pause: Pause,
     plan: &hb_ot_shape_plan_t,
     font: &F,
@@ -173,9 +174,6 @@ fn pause_with_spans<F: hb_font_t>(
     ensures positions { OnOk result (buffer.new.positions ≡ []) }
     ensures limit { buffer.new.max_len ≡ buffer.old.max_len }
 {
-    let list = buffer.take_spans();
-    let spans = found_spans(pause, buffer.glyphs(), list)?;
-    checked_run_pause(pause, plan, font, spans.as_slice(), buffer)?;
-    buffer.give_spans(spans);
+    checked_run_pause_found(pause, plan, font, buffer)?;
     Ok(())
 }

@@ -7,8 +7,8 @@ mod RequestRows
 mod SyllableRows
 mod SyllableWalks
 pub mod TornPairs
-mod UniversalCuts
-mod UniversalFlags
+pub mod UniversalCuts
+pub mod UniversalFlags
 mod UniversalListing
 mod UniversalRows
 pub mod UniversalSerials

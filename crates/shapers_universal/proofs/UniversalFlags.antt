@@ -1,16 +1,19 @@
 -- The set-up of syllables in the universal shaper only adds glyph flags.
 use Rattle.std.proofs.Common.{arith}
-use Rattle.std.proofs.Common.{ℕ, ◌-◌, ◌%◌, ◌≤◌, ◌≡◌, bit_and, Bool, false, List, [], ◌∷◌, map, flat_map, take, drop}
+use Rattle.std.proofs.Common.{ℕ, ◌-◌, ◌%◌, ◌≤◌, ◌≡◌, bit_and, Bool, false, List, [], ◌∷◌, map, flat_map, take, drop, refl, subst}
 use Rattle.std.proofs.lemmas.List.{take-append-drop}
+use Rattle.shapers_buffer.specs.Buffer.{Buffer, new_buffer}
 use Rattle.shapers_buffer.specs.Glyphs.{Glyphs}
 use Rattle.shapers_buffer.specs.GlyphFlags.{with_bits}
-use Rattle.shapers_buffer.specs.Syllables.{syllables}
+use Rattle.shapers_buffer.specs.Syllables.{syllables, with_bytes}
 use Rattle.shapers_clusters.specs.FlagLaw.{FlagsAdded, OnlyFlagsAdded}
 use Rattle.shapers_clusters.proofs.Falls.{all_append}
 use Rattle.shapers_clusters.proofs.FlagCalls.{flags-and}
 use Rattle.shapers_clusters.proofs.FlagLaw.{added_on, changed_added, flags_kept}
+use Rattle.shapers_syllabic.specs.Borders.{spans_set_up}
+use Rattle.shapers_syllabic.specs.Syllabic.{unsafe_syllables}
 use Rattle.shapers_syllabic.proofs.CircleLaws.{joined-syllables}
-use Rattle.shapers_syllabic.proofs.SetUpFlags.{bits_added, by_syllables, same_added}
+use Rattle.shapers_syllabic.proofs.SetUpFlags.{bits_added, by_syllables, same_added, set_up_added}
 use Rattle.shapers_universal.specs.UniversalSyllables.{all_forms, formed, in_forms, joins_runs, mask_between, rphf_len, with_instead, with_rphf}
 use Rattle.shapers_universal.specs.declared.ot_shaper_use.forms.FormMasks.{FormMasks}
 
@@ -38,6 +41,17 @@ pub in_forms_added : (masks : FormMasks) → all_forms masks % 8 ≡ 0 → all_f
     → (gs : Glyphs) → OnlyFlagsAdded gs (in_forms masks false (syllables gs))
 in_forms_added masks off fits gs =
     search (arith, joined-syllables gs, forms_added masks false off fits (syllables gs))
+
+-- the insides of syllables
+no_bytes : (gs : Glyphs) → with_bytes gs [] ≡ gs
+no_bytes [] = refl
+no_bytes (g ∷ gs) = refl
+
+pub syllables_added : (gs : Glyphs) → OnlyFlagsAdded gs (unsafe_syllables gs)
+syllables_added gs =
+    let b : Buffer = record (new_buffer 0) { glyphs = gs } in
+    subst (λ ms. OnlyFlagsAdded gs (unsafe_syllables ms)) (no_bytes gs)
+    (set_up_added [] 0 b (spans_set_up [] 0 b) refl)
 
 -- the mask of rphf
 rphf_syllable_added : (mask : ℕ) (gs : Glyphs) → OnlyFlagsAdded gs (with_rphf mask gs)

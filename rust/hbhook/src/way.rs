@@ -8,9 +8,9 @@ use sengadlit::ot_shape::{SingleLookups, TextPlan, prepare_text, substitute_text
 use sengadlit::ot_shape_normalize::{NormalizeSettings, Rounds};
 use sengadlit::ot_shape_plan::{EnginePlan, ShapeChoices};
 use sengadlit::shaper::checked::CallError;
-use sengadlit::spans::setup_syllables_found;
+use sengadlit::spans::checked_run_pause_found;
 use sengadlit::unicode::UnicodeTables;
-use sengadlit::{Buffer, Direction, Pause, Script, ShaperError, Tag, run_pause};
+use sengadlit::{Buffer, Direction, Pause, Script, ShaperError, Tag};
 
 /// What is chosen for a text besides its script.
 #[derive(Clone, Copy, Default)]
@@ -130,9 +130,7 @@ impl Way {
     pub(crate) fn pause(&self, pause: Pause, buffer: &mut Buffer) -> Result<(), ShaperError> {
         let plan = self.plan.plan();
         self.font.on_glyphs(buffer, |buffer| {
-            if !setup_syllables_found(pause, plan, buffer) {
-                run_pause(pause, plan, &self.font, &[], buffer)?;
-            }
+            checked_run_pause_found(pause, plan, &self.font, buffer).map_err(refusal_of)?;
             Ok(())
         })
     }

@@ -11,14 +11,11 @@ use crate::plan::Plan;
 use crate::status::{Argument, Error, Status};
 use sengadlit::buffer::{Buffer as Inner, Span};
 use sengadlit::editing;
-use sengadlit::ot_shaper_syllabic::{
-    indic_syllable, khmer_syllable, myanmar_syllable, set_categories_and_positions_in,
-    set_categories_in, set_up_by_bytes,
-};
+use sengadlit::ot_shaper_syllabic::{set_categories_and_positions_in, set_categories_in};
 use sengadlit::ot_shaper_use;
 use sengadlit::plan::{Pause, Preprocess};
 use sengadlit::shaper::{Shaper, pause_fits, run_pause as run};
-use sengadlit::spans::setup_syllables_found as set_up_found;
+use sengadlit::spans;
 
 /// The greatest kind of a syllable.
 const GREATEST_KIND: u8 = 15;
@@ -187,7 +184,7 @@ pub fn setup_syllables_found(
 ) -> Result<Status, Error> {
     let pause = pause_of(plan, pause)?;
     let done = buffer.run(Takes::Numbers, |inner| {
-        Ok(set_up_found(pause, &plan.inner, inner))
+        Ok(spans::setup_syllables_found(pause, &plan.inner, inner))
     })?;
     Ok(done_if(done))
 }
@@ -201,18 +198,7 @@ pub fn setup_syllables_written(
 ) -> Result<Status, Error> {
     let pause = pause_of(plan, pause)?;
     let done = buffer.run(Takes::Numbers, |inner| {
-        match pause {
-            Pause::SetupSyllablesIndic => set_up_by_bytes(indic_syllable::BROKEN_CLUSTER, inner),
-            Pause::SetupSyllablesKhmer => set_up_by_bytes(khmer_syllable::BROKEN_CLUSTER, inner),
-            Pause::SetupSyllablesMyanmar => {
-                set_up_by_bytes(myanmar_syllable::BROKEN_CLUSTER, inner);
-            }
-            Pause::SetupSyllablesUse => {
-                ot_shaper_use::setup_syllables_use_by_bytes(&plan.inner, inner);
-            }
-            _ => return Ok(false),
-        }
-        Ok(true)
+        Ok(spans::setup_syllables_written(pause, &plan.inner, inner))
     })?;
     Ok(done_if(done))
 }

@@ -1,49 +1,17 @@
 //! The syllables of a text, found by the grammars of its script: the [`Span`]s that the pauses which
-//! set syllables up take, and [`find_syllables_in`], which writes them into the buffer at once.
+//! set syllables up take, and [`setup_syllables_found`], which finds them and sets them up at once.
 
+pub use crate::generated::rustybuzz_shapers::shaper::checked::checked_run_pause_found;
+pub use crate::generated::rustybuzz_shapers::shaper::{
+    setup_syllables_found, setup_syllables_written,
+};
 pub use crate::generated::shapers_spans::{
     Indic, Khmer, Machine, Myanmar, Universal, find_syllables, find_syllables_in, spans_into,
     spans_of,
 };
 
 use crate::alloc::{Global, Vec};
-use crate::generated::shapers_syllabic::ot_shaper_syllabic::{
-    indic_syllable, khmer_syllable, myanmar_syllable, set_up_by_bytes,
-};
-use crate::generated::shapers_universal::ot_shaper_use::setup_syllables_use_by_bytes;
-use crate::{Buffer, Pause, Plan, Shaper, ShaperError, Span};
-
-/// Finds the syllables of the buffer's text and sets them up in one pass; the plan isn't tested.
-///
-/// It does what [`run_pause`] does with the [`Shaper::spans_of`] that text, and takes no memory. It
-/// returns false, and changes nothing, where the pause isn't one that sets syllables up. As for
-/// [`run_pause`], the plan has the data that the pause reads.
-///
-/// [`run_pause`]: crate::run_pause
-#[inline]
-#[must_use]
-pub fn setup_syllables_found(pause: Pause, plan: &Plan, buffer: &mut Buffer) -> bool {
-    match pause {
-        Pause::SetupSyllablesIndic => {
-            find_syllables_in(&Indic, buffer);
-            set_up_by_bytes(indic_syllable::BROKEN_CLUSTER, buffer);
-        }
-        Pause::SetupSyllablesKhmer => {
-            find_syllables_in(&Khmer, buffer);
-            set_up_by_bytes(khmer_syllable::BROKEN_CLUSTER, buffer);
-        }
-        Pause::SetupSyllablesMyanmar => {
-            find_syllables_in(&Myanmar, buffer);
-            set_up_by_bytes(myanmar_syllable::BROKEN_CLUSTER, buffer);
-        }
-        Pause::SetupSyllablesUse => {
-            find_syllables_in(&Universal, buffer);
-            setup_syllables_use_by_bytes(plan, buffer);
-        }
-        _ => return false,
-    }
-    true
-}
+use crate::{Buffer, Shaper, ShaperError, Span};
 
 impl Shaper {
     /// The syllables of the buffer's text, by the shaper's grammar; they cover it. Empty for a shaper

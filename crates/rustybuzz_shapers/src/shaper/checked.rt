@@ -1,12 +1,16 @@
 //! Calls for callers that can't know whether a hook's conditions are met. Each tests them in the
 //! order of `Condition` before it writes anything, and returns the first that isn't met; the buffer
 //! is then unchanged. The hooks that aren't here have no conditions.
-ghost use Rattle.std.specs.Prelude.{◌≡◌, OnOk, OnErr, IfOk, Ok, Err, is_some, if◌then◌else◌};
+ghost use Rattle.std.specs.Prelude.{◌≡◌, [], OnOk, OnErr, IfOk, Ok, Err, is_some, if◌then◌else◌};
 ghost use Rattle.rustybuzz_shapers.specs.Checked.{AsRefused, FirstUnmet, StopsAt, pause_asks};
+ghost use Rattle.rustybuzz_shapers.specs.FoundSyllables.{PauseRun, RefusesFound};
 ghost use Rattle.rustybuzz_shapers.specs.Pauses.{PauseKeeps, Paused, RefusesPause, pause_circles};
 
 use super::conditions::{are_glyph_numbers, is_arabic};
-use super::{has_positions, hb_ot_shaper_t, kinds_fit, lacks_positions, pause_fits, run_pause};
+use super::{
+    has_positions, hb_ot_shaper_t, kinds_fit, lacks_positions, pause_fits, run_pause,
+    setup_syllables_found,
+};
 use shapers_base::buffer::{ShaperError, Span, hb_buffer_t};
 use shapers_base::font::{Tables, hb_font_t};
 use shapers_base::plan::{Pause, Preprocess, hb_ot_shape_plan_t};
@@ -253,6 +257,35 @@ pub fn checked_run_pause<F: hb_font_t>(
 {
     check_pause(pause, plan, spans, buffer)?;
     Ok(run_pause(pause, plan, face, spans, buffer)?)
+}
+
+/// Tests the conditions of `run_pause`, in constant time, and runs the pause. The syllables that it
+/// sets up are found by its grammar: that is never refused and takes no memory.
+///
+/// # Errors
+///
+/// The first condition that isn't met, or the refusal of a pause that reorders; nothing has changed
+/// then.
+#[inline]
+pub fn checked_run_pause_found<F: hb_font_t>(
+    pause: Pause,
+    plan: &hb_ot_shape_plan_t,
+    face: &F,
+    buffer: &mut hb_buffer_t,
+) -> Result<bool, CallError>
+    ensures conditions { StopsAt (pause_asks pause plan.now [] buffer.old) result }
+    ensures answer { let circles = pause_circles pause plan.now (F.font face.now) buffer.old in
+        IfOk result (λ answer. answer ≡ is_some circles) }
+    ensures ok { OnOk result (PauseRun pause plan.now (F.font face.now) buffer.old buffer.new) }
+    ensures refusal { let font = F.font face.now in
+        AsRefused (RefusesFound pause font buffer.old) result }
+    ensures err { OnErr result (buffer.new ≡ buffer.old) }
+{
+    check_pause(pause, plan, &[], buffer)?;
+    if setup_syllables_found(pause, plan, buffer) {
+        return Ok(false);
+    }
+    Ok(run_pause(pause, plan, face, &[], buffer)?)
 }
 
 // The first condition of `run_pause` that isn't met.

@@ -55,13 +55,15 @@ pub fn setup_syllables_use(
 }
 
 /// Sets up a text whose glyphs have their syllable bytes already, with the flags, marks and masks
-/// of [`setup_syllables_use`]. It takes no memory and leaves the clusters as they are.
+/// of [`setup_syllables_use`]. It takes no memory, leaves the clusters as they are and only adds
+/// glyph flags.
 #[inline]
 pub fn setup_syllables_use_by_bytes(plan: &hb_ot_shape_plan_t, buffer: &mut hb_buffer_t)
     requires { is_universal plan.now.plan_data ≡ true }
-    ensures { let kept = plan.now.plan_data in
+    ensures set_up { let kept = plan.now.plan_data in
         let set_up = set_up_by_its_bytes kept plan.now.ot_map buffer.old in
         buffer.new ≡ with_forms_flagged plan.now.break_flags kept plan.now.ot_map set_up }
+    ensures flags { OnlyFlagsAdded buffer.old.glyphs buffer.new.glyphs }
 {
     set_up_by_bytes(BROKEN_CLUSTER, buffer);
     set_masks(plan, buffer);

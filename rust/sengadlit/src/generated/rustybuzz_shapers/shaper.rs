@@ -10,6 +10,7 @@ use crate::generated::shapers_base::plan::{Plan, Planner};
 pub mod checked;
 mod conditions;
 mod pauses;
+mod syllables;
 
 use crate::generated::shapers_arabic::ot_shaper_arabic;
 pub use crate::generated::shapers_base::plan::{
@@ -25,6 +26,7 @@ use crate::generated::shapers_universal::ot_shaper_use;
 pub use conditions::{has_positions, kinds_fit, lacks_positions, pause_fits};
 use core::mem;
 pub use pauses::{pause_may_change, run_pause};
+pub use syllables::{setup_syllables_found, setup_syllables_written};
 
 /// A script shaper. Where it lacks a hook, a dash here, the method returns `None` and changes
 /// nothing; [`has_hook`] is this table. What runs between two stages of lookups is a [`Pause`].

@@ -2,15 +2,11 @@
 
 //! The lookups of a font, stage by stage, with what the shaper does behind each stage.
 
-use crate::support::prelude::*;
-
 use crate::generated::shapers_base::buffer::{
-    Buffer, GlyphChange, GlyphInfo, GlyphProps, LigProps, LookupRecord, ShaperError, Span,
+    Buffer, GlyphChange, GlyphInfo, GlyphProps, LigProps, LookupRecord, ShaperError,
 };
-use crate::generated::shapers_base::plan::Pause;
 use crate::generated::shapers_plan::ot_map::StageLookup;
 use crate::generated::shapers_position::ot_shape_position::GlyphClasses;
-use crate::generated::shapers_spans::{Indic, Khmer, Machine, Myanmar, Universal, spans_into};
 
 /// The lookups of GSUB that may change a text: those from number 128 on, and those whose bit is set.
 #[derive(Clone, Copy, Debug)]
@@ -251,31 +247,4 @@ pub(crate) fn apply_lookups<L: Lookups>(
         apply_present(lookups, lookup, &mut seen, buffer)?;
     }
     Ok(())
-}
-
-// The syllables that a pause writes into a text, found by its grammar, in a list that is empty; none
-// for the other pauses.
-pub(crate) fn found_spans(
-    pause: Pause,
-    glyphs: &[GlyphInfo],
-    list: Vec<Span>,
-) -> Result<Vec<Span>, ShaperError> {
-    match pause {
-        Pause::SetupSyllablesIndic => spans_in(&Indic, glyphs, list),
-        Pause::SetupSyllablesKhmer => spans_in(&Khmer, glyphs, list),
-        Pause::SetupSyllablesMyanmar => spans_in(&Myanmar, glyphs, list),
-        Pause::SetupSyllablesUse => spans_in(&Universal, glyphs, list),
-        _ => Ok(list),
-    }
-}
-
-// The syllables of the glyphs, by a machine, in a list of which nothing stays but its room.
-#[inline]
-fn spans_in<M: Machine>(
-    machine: &M,
-    glyphs: &[GlyphInfo],
-    mut list: Vec<Span>,
-) -> Result<Vec<Span>, ShaperError> {
-    spans_into(machine, glyphs, &mut list)?;
-    Ok(list)
 }

@@ -2,11 +2,11 @@
 
 //! The stages of a plan: the lookups of each, and what the shaper does behind them.
 
-use crate::generated::rustybuzz_shapers::shaper::checked::{CallError, checked_run_pause};
+use crate::generated::rustybuzz_shapers::shaper::checked::{CallError, checked_run_pause_found};
 use crate::generated::shapers_base::buffer::Buffer;
 use crate::generated::shapers_base::font::Font;
 use crate::generated::shapers_base::plan::{Pause, Plan};
-use crate::generated::shapers_pipeline::lookups::{Lookups, apply_lookups, found_spans};
+use crate::generated::shapers_pipeline::lookups::{Lookups, apply_lookups};
 use crate::generated::shapers_pipeline::plan::StagePlan;
 use crate::generated::shapers_pipeline::planned::set_script_and_direction;
 use crate::generated::shapers_plan::ot_map::{Stage, StageLookup};
@@ -18,10 +18,10 @@ use crate::generated::shapers_plan::ot_map::{Stage, StageLookup};
 ///
 /// # Errors
 ///
-/// The refusal of a lookup; or of a pause, the first of its conditions that isn't met, its refusal,
-/// or, where its spans are found, [`Memory`] for these. The glyphs are as they were before that lookup
-/// or pause, and the script and direction of the buffer as they were. [`TooLong`] doesn't come where
-/// [`max_len`] is as much as the text may grow.
+/// The refusal of a lookup; or of a pause, the first of its conditions that isn't met, or its
+/// refusal, which a pause that sets up syllables doesn't have. The glyphs are as they were before
+/// that lookup or pause, and the script and direction of the buffer as they were. [`TooLong`] doesn't
+/// come where [`max_len`] is as much as the text may grow.
 ///
 /// # Panics
 ///
@@ -66,7 +66,6 @@ use crate::generated::shapers_plan::ot_map::{Stage, StageLookup};
 ///
 /// </details>
 ///
-/// [`Memory`]: crate::ShaperError::Memory
 /// [`TooLong`]: crate::ShaperError::TooLong
 /// [`max_len`]: crate::Buffer::max_len
 pub fn run_stages<F: Font, L: Lookups>(
@@ -106,7 +105,7 @@ fn run_stage<F: Font, L: Lookups>(
 ) -> Result<(), CallError> {
     apply_lookups(lookups, lookups_of_stage(stage, plan.lookups), buffer)?;
     match stage.pause {
-        Some(pause) => pause_with_spans(pause, plan.plan, font, buffer),
+        Some(pause) => run_stage_pause(pause, plan.plan, font, buffer),
         None => Ok(()),
     }
 }
@@ -119,16 +118,13 @@ pub(crate) fn lookups_of_stage(stage: Stage, list: &[StageLookup]) -> &[StageLoo
     &list[start..end]
 }
 
-// Runs a pause, whose spans are found by its grammar.
-fn pause_with_spans<F: Font>(
+// Runs the pause of a stage.
+fn run_stage_pause<F: Font>(
     pause: Pause,
     plan: &Plan,
     font: &F,
     buffer: &mut Buffer,
 ) -> Result<(), CallError> {
-    let list = buffer.take_spans();
-    let spans = found_spans(pause, buffer.glyphs(), list)?;
-    checked_run_pause(pause, plan, font, spans.as_slice(), buffer)?;
-    buffer.give_spans(spans);
+    checked_run_pause_found(pause, plan, font, buffer)?;
     Ok(())
 }

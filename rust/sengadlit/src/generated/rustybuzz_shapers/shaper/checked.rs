@@ -5,7 +5,9 @@
 //! is then unchanged. The hooks that aren't here have no conditions.
 
 use super::conditions::{are_glyph_numbers, is_arabic};
-use super::{Shaper, has_positions, kinds_fit, lacks_positions, pause_fits, run_pause};
+use super::{
+    Shaper, has_positions, kinds_fit, lacks_positions, pause_fits, run_pause, setup_syllables_found,
+};
 use crate::generated::shapers_base::buffer::{Buffer, ShaperError, Span};
 use crate::generated::shapers_base::font::{Font, Tables};
 use crate::generated::shapers_base::plan::{Pause, Plan, Preprocess};
@@ -299,6 +301,49 @@ pub fn checked_run_pause<F: Font>(
 ) -> Result<bool, CallError> {
     check_pause(pause, plan, spans, buffer)?;
     Ok(run_pause(pause, plan, face, spans, buffer)?)
+}
+
+/// Tests the conditions of [`run_pause`], in constant time, and runs the pause. The syllables that it
+/// sets up are found by its grammar: that is never refused and takes no memory.
+///
+/// # Errors
+///
+/// The first condition that isn't met, or the refusal of a pause that reorders; nothing has changed
+/// then.
+///
+/// <details><summary>Contract</summary>
+///
+/// # Contract
+///
+/// ```text
+/// ensures conditions { StopsAt (pause_asks pause plan.now [] buffer.old) result }
+/// ensures answer { let circles = pause_circles pause plan.now (F.font face.now) buffer.old in
+///     IfOk result (λ answer. answer ≡ is_some circles) }
+/// ensures ok { OnOk result (PauseRun pause plan.now (F.font face.now) buffer.old buffer.new) }
+/// ensures refusal { let font = F.font face.now in
+///     AsRefused (RefusesFound pause font buffer.old) result }
+/// ensures err { OnErr result (buffer.new ≡ buffer.old) }
+/// ```
+///
+/// - `AsRefused`, `StopsAt`, `pause_asks`: `crates/rustybuzz_shapers/specs/Checked.antt`
+/// - `PauseRun`, `RefusesFound`: `crates/rustybuzz_shapers/specs/FoundSyllables.antt`
+/// - `pause_circles`: `crates/rustybuzz_shapers/specs/Pauses.antt`
+///
+/// </details>
+///
+/// [`run_pause`]: crate::run_pause
+#[inline]
+pub fn checked_run_pause_found<F: Font>(
+    pause: Pause,
+    plan: &Plan,
+    face: &F,
+    buffer: &mut Buffer,
+) -> Result<bool, CallError> {
+    check_pause(pause, plan, &[], buffer)?;
+    if setup_syllables_found(pause, plan, buffer) {
+        return Ok(false);
+    }
+    Ok(run_pause(pause, plan, face, &[], buffer)?)
 }
 
 // The first condition of `run_pause` that isn't met.

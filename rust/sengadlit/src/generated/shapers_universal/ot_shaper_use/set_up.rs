@@ -69,7 +69,8 @@ pub fn setup_syllables_use(
 }
 
 /// Sets up a text whose glyphs have their syllable bytes already, with the flags, marks and masks
-/// of [`setup_syllables_use`]. It takes no memory and leaves the clusters as they are.
+/// of [`setup_syllables_use`]. It takes no memory, leaves the clusters as they are and only adds
+/// glyph flags.
 ///
 /// # Panics
 ///
@@ -81,11 +82,13 @@ pub fn setup_syllables_use(
 ///
 /// ```text
 /// requires { is_universal plan.now.plan_data ≡ true }
-/// ensures { let kept = plan.now.plan_data in
+/// ensures set_up { let kept = plan.now.plan_data in
 ///     let set_up = set_up_by_its_bytes kept plan.now.ot_map buffer.old in
 ///     buffer.new ≡ with_forms_flagged plan.now.break_flags kept plan.now.ot_map set_up }
+/// ensures flags { OnlyFlagsAdded buffer.old.glyphs buffer.new.glyphs }
 /// ```
 ///
+/// - `OnlyFlagsAdded`: `crates/shapers_clusters/specs/FlagLaw.antt`
 /// - `is_universal`: `crates/shapers_universal/specs/PlanData.antt`
 /// - `set_up_by_its_bytes`, `with_forms_flagged`: `crates/shapers_universal/specs/UniversalSyllables.antt`
 ///
