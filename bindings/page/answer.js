@@ -12,11 +12,11 @@ const JOINING = ["Adlm", "Arab", "Mand", "Mong", "Nkoo", "Syrc"];
 const JOINING_FEATURES = { init: "initial", medi: "medial", fina: "final" };
 // What HarfRust 0.12.0 is known to do to texts: of a script, with these characters in them.
 const SHAPER_FAULTS = [
-  ["Thai", /[\u0e31\u0e34-\u0e37\u0e47-\u0e4e]{2,}\u0e33/u, "In front of SARA AM it draws one mark twice and loses another."],
-  ["Laoo", /[\u0eb1\u0eb4-\u0eb7\u0ebb\u0ec8-\u0ecd]{2,}\u0eb3/u, "In front of SARA AM it draws one mark twice and loses another."],
+  ["Thai", /[\u0e31\u0e34-\u0e37\u0e47-\u0e4e]{2,}\u0e33/u, "Before SARA AM it draws one mark twice and loses another."],
+  ["Laoo", /[\u0eb1\u0eb4-\u0eb7\u0ebb\u0ec8-\u0ecd]{2,}\u0eb3/u, "Before SARA AM it draws one mark twice and loses another."],
   ["Hebr", /\u05d9\u05b7/u, "In a font without marks in GPOS it draws YOD with PATAH as two YODs."],
-  ["Beng", /[\p{Cc}\u09bf]/u, "Behind a control character or a dotted circle it draws a vowel sign in the form for the middle of a word."],
-  ["Orya", /\u0b4d/u, "It asks the font's lookups with their context, so that another letter is the base."],
+  ["Beng", /[\p{Cc}\u09bf]/u, "After a control character or a dotted circle it draws a vowel sign in the form for the middle of a word."],
+  ["Orya", /\u0b4d/u, "It takes rules with context into account when it looks for the base, so that another letter becomes the base."],
 ];
 
 // How many characters are looked for in the font one by one.
@@ -62,13 +62,13 @@ function movedCharacters(text, steps) {
 
 function findingsOfText(text, shown) {
   const found = [];
-  if (/\p{Cc}/u.test(text)) found.push(finding("text", "It has a control character, as a TAB or the end of a line; a box in the picture is the font's glyph for what it lacks. Try each line or column alone."));
+  if (/\p{Cc}/u.test(text)) found.push(finding("text", "It has a control character, such as a TAB or the end of a line. A box in the picture is the font's glyph for a character that it lacks. Try each line or column alone."));
   const mark = misplacedMark(text, shown?.steps ?? []);
-  if (mark) found.push(finding("text", `Its marks stand in an unusual order: ${named(mark[0])} where ${named(mark[1])} is usual. It is drawn in the usual order.`));
+  if (mark) found.push(finding("text", `Its marks stand in an unusual order: ${named(mark[0])} stands where ${named(mark[1])} is usual. The word is drawn in the usual order.`));
   const broken = circled(text, shown?.steps ?? []);
-  if (broken.length) found.push(finding("text", `It has a broken syllable: ${broken.map(named).join(", ")} stands where nothing is that it belongs to, and gets a dotted circle.`));
+  if (broken.length) found.push(finding("text", `It has a broken syllable: ${broken.map(named).join(", ")} has no letter to belong to, and gets a dotted circle.`));
   const moved = movedCharacters(text, shown?.steps ?? []);
-  if (moved.length) found.push(finding("script", `${moved.map(named).join(", ")} is drawn before what it follows in the text, as the script is written.`, false));
+  if (moved.length) found.push(finding("script", `${moved.map(named).join(", ")} is drawn before the letters that it follows in the text; that is how the script is written.`, false));
   return found;
 }
 
@@ -118,11 +118,11 @@ function findingsOfFont(text, script, bytes, shaped) {
   const name = scriptName(script);
   const [gsub, gpos] = ["GSUB", "GPOS"].map((table) => safeFeaturesOf(bytes, table, script));
   const isSimple = script === "Hebr" || script === "Hang" || script === "Thai" || script === "Laoo";
-  if (!gsub && !isSimple) found.push(finding("font", `It has no substitutions for ${name}, so that letters don't take the forms that the script needs.`));
+  if (!gsub && !isSimple) found.push(finding("font", `It has no substitutions for ${name}, so letters don't take the forms that the script needs.`));
   const forms = Object.keys(JOINING_FEATURES).filter((feature) => gsub && !gsub.has(feature));
   if (JOINING.includes(script) && forms.length) found.push(finding("font", `It lacks the lookups for ${forms.map((form) => JOINING_FEATURES[form]).join(", ")} forms (${forms.join(", ")}).`));
   const placesMarks = ["mark", "abvm", "blwm"].some((feature) => gpos?.has(feature));
-  if (/\p{Mn}/u.test(text) && !placesMarks) found.push(finding("font", "It places no marks for this script (GPOS lacks mark, abvm and blwm), so that they may stand beside their letters."));
+  if (/\p{Mn}/u.test(text) && !placesMarks) found.push(finding("font", "It doesn't place marks for this script (GPOS lacks mark, abvm and blwm), so they may stand beside their letters."));
   return found;
 }
 
@@ -131,15 +131,15 @@ function findingsOfFont(text, script, bytes, shaped) {
 // What HarfRust draws otherwise in the font, by the number of glyphs that differ; null where it isn't known yet.
 function findingsOfShapers(text, script, differ) {
   if (differ === null) return [];
-  if (differ === 0) return [finding("shapers", "HarfRust 0.12.0 and Sengadlit, the shaper of this page, draw the word alike, so that a difference between these two isn't the cause.", false)];
+  if (differ === 0) return [finding("shapers", "HarfRust 0.12.0 and Sengadlit, the shaper of this page, draw the word alike, so a fault of a shaper is unlikely.", false)];
   const known = SHAPER_FAULTS.find(([of, characters]) => of === script && characters.test(text));
   const count = differ === 1 ? "one glyph" : `${differ} glyphs`;
-  return [finding("shapers", `HarfRust 0.12.0 draws ${count} otherwise than Sengadlit, the shaper of this page, with the same text and font; both are drawn below. ${known ? known[2] : "The reason isn't known to this page."}`)];
+  return [finding("shapers", `HarfRust 0.12.0 draws ${count} differently from Sengadlit, the shaper of this page, with the same text and font; both are drawn below. ${known ? known[2] : "This page doesn't know the reason."}`)];
 }
 
 // ---- The answer ----
 
-const WHOSE = { text: "The text", font: "The font", shapers: "A shaper", script: "The script" };
+const WHOSE = { text: "The text", font: "The font", shapers: "The shapers", script: "The script" };
 
 // Shows the sentences.
 function showAnswer(text, shown, shaped, bytes, differ) {
@@ -148,7 +148,7 @@ function showAnswer(text, shown, shaped, bytes, differ) {
   found.sort((a, b) => Number(b.isFault) - Number(a.isFault));
   const sentences = found.map(({ whose, text, isFault }) => made("li", { class: isFault ? "fault" : "fine", "data-whose": whose }, made("b", {}, WHOSE[whose] + ": "), text));
   if (text !== "" && !found.some(({ isFault }) => isFault))
-    sentences.unshift(made("li", { class: "fine" }, "This page found no fault in the text or the font. It can't tell what the font's lookups should do: if the word still looks wrong, find the first step below where it does."));
+    sentences.unshift(made("li", { class: "fine" }, "This page found no fault in the text or the font. It can't tell what the font's lookups should do: if the word still looks wrong, look below for the first step in which it does."));
   by("findings").replaceChildren(...sentences);
 }
 
@@ -157,15 +157,15 @@ function showAnswer(text, shown, shaped, bytes, differ) {
 const HEADINGS = [
   [/^text( |$)/, "The text"], [/^set_unicode_properties$/, "Characters get their properties"],
   [/^insert_dotted_circle$/, "A mark without a letter gets a dotted circle"], [/^form_clusters$/, "Marks are kept with their letters"],
-  [/^ensure_native_direction$/, "The text is turned into its script's direction"], [/^rotate_chars$/, "Characters are mirrored or rotated"],
-  [/^ot_shape_normalize$/, "Characters are taken apart, sorted and composed"], [/^set_fractions$/, "Fractions are found"],
+  [/^ensure_native_direction$/, "The text is put into its script's direction"], [/^rotate_chars$/, "Characters are mirrored or rotated"],
+  [/^ot_shape_normalize$/, "Characters are decomposed, sorted and composed"], [/^set_fractions$/, "Fractions are found"],
   [/^map_glyphs$/, "Characters become glyphs"], [/vowel/, "Vowels that look like others get a dotted circle"],
   [/^(run )?preprocess/, "The script's own characters are prepared"], [/^initialize_masks$/, "Features of the whole text are chosen"],
   [/^(run |setup_)masks/, "Glyphs get their features and forms"],
-  [/^run marks/, "Marks are sorted as the script wants"], [/^run pause setup_syllables/, "Syllables are found"],
+  [/^run marks/, "Marks are sorted as the script needs"], [/^run pause setup_syllables/, "Syllables are found"],
   [/^run pause (reorder_|initial_reordering)/, "Glyphs are put into the order in which they are drawn"],
   [/^run pause final_reordering/, "Glyphs are put into their last order"], [/^run pause record_(rphf|pref)/, "What the font formed is noted"],
-  [/^run pause record_stch/, "Marks that stretch are noted"], [/^run pause arabic_fallback/, "Forms of Unicode are taken where the font has none"],
+  [/^run pause record_stch/, "Marks that stretch are noted"], [/^run pause arabic_fallback/, "Unicode's own forms are used where the font has none"],
   [/^run pause (clear|syllabic)/, "What was noted is cleared"], [/^run postprocess/, "Marks are stretched over their words"],
   [/^before lookups$/, "Before the font's lookups"], [/^lookup \d+ of GSUB$/, "The font substitutes glyphs"],
   [/^the shaper between lookups$/, "The script's order, between lookups"], [/^advances$/, "Glyphs get their widths"],

@@ -132,7 +132,7 @@ function showWithFont() {
     const lines = [{ glyphs: stock, others: sengadlit, colour: "stock" }, { glyphs: sengadlit, others: stock, colour: "sengadlit" }];
     const differ = Math.max(withoutTwin(stock, sengadlit).size, withoutTwin(sengadlit, stock).size);
     by("outlines").append(
-      told("HarfRust", stock), drawn(lines.slice(0, 1), width), told("HarfRust with Sengadlit's hooks", sengadlit), drawn(lines.slice(1), width),
+      told("HarfRust: glyphs", stock), drawn(lines.slice(0, 1), width), told("HarfRust with Sengadlit's hooks: glyphs", sengadlit), drawn(lines.slice(1), width),
       made("p", { id: "differ" }, differ ? `Glyphs that differ: ${differ}. One line over the other:` : "Both have the same glyphs at the same places."));
     if (differ) by("outlines").append(drawn(lines, width));
     by("word").append(drawn([{ glyphs: sengadlit, others: sengadlit, colour: "sengadlit" }], widthOf(sengadlit)));
@@ -162,7 +162,7 @@ function showPieces() {
     const width = Math.max(widthOf(one), widthOf(other));
     const same = withoutTwin(one, other).size + withoutTwin(other, one).size === 0;
     return made("div", { class: "piece" },
-      made("p", {}, `In the whole, and alone: ${same ? "the same" : "they differ"}.`),
+      made("p", {}, `This piece as part of the whole text, and shaped alone: ${same ? "the same" : "they differ"}.`),
       drawn([{ glyphs: one, others: other, colour: "stock" }], width),
       drawn([{ glyphs: other, others: one, colour: "sengadlit" }], width));
   }));

@@ -94,8 +94,21 @@ function shapedElement(step) {
   return element;
 }
 
+// Lends a font to the browser, which draws the text by it where no font of the system has the characters. A file that the
+// browser refuses isn't lent.
+async function lendFont(bytes) {
+  try {
+    const face = await new FontFace("chosen", bytes).load();
+    document.fonts.clear();
+    document.fonts.add(face);
+  } catch {
+    document.fonts.clear();
+  }
+}
+
 // Takes the font that is dropped on the page for these steps.
 function showShapedBy(name, bytes) {
+  lendFont(bytes);
   by("shaped-font").textContent = by("font-name").textContent = name;
   by("font-has").textContent = "";
   hooks.takeFont(bytes);
@@ -142,7 +155,7 @@ function show(text, cut) {
 }
 
 function note(text) {
-  if (!shown) return text === "" ? "Type a text, or choose an example." : "No script of this text has steps of its own; those of the font are below.";
+  if (!shown) return text === "" ? "Type a text, or choose an example." : "No script of this text has steps of its own; the font’s steps are below.";
   const parts = [];
   if (!isOfLines() && !text.isWellFormed()) parts.push("Unpaired surrogates are shaped as FFFD.");
   if (shown.script && shown.length > shown.most)
@@ -160,7 +173,7 @@ function scriptName(code) {
 // The text with a bar where no flag forbids a line break.
 function breaks(pieces) {
   const bar = () => made("span", { class: "may" }, "|");
-  return ["No flag forbids a line break at ", bar(), ": ", made("bdi", {}, ...pieces.flatMap((piece, i) => (i ? [bar(), piece] : [piece])))];
+  return ["A line may be broken at ", bar(), " without shaping again: ", made("bdi", {}, ...pieces.flatMap((piece, i) => (i ? [bar(), piece] : [piece])))];
 }
 
 function stepElement(step, number) {
@@ -229,7 +242,7 @@ function tableElement(step) {
 function definition([part, entry]) {
   const text = TEXTS.definitions.split(`\n## \`${part}\`\n`)[1]?.split("\n## ")[0] ?? "";
   const found = text.split("\n\n").find((block) => block.trimStart().startsWith(`**${entry}**`)) ?? "";
-  const body = found.slice(found.indexOf(":\n") + 2).replaceAll("\n", " ");
+  const body = found.replace(/^\s*\*\*\w+\*\* `\w+`:\s+/, "").replaceAll("\n", " ");
   return made("p", { class: "definition" }, made("b", {}, `${part}, ${entry}`), "\n", body);
 }
 
@@ -311,6 +324,7 @@ function addExamples() {
 async function start() {
   hooks = await Module.load(HOOKS);
   hooks.takeFont(decoded(TEXTS.font));
+  lendFont(decoded(TEXTS.font));
   document.head.prepend(made("style", {}, hooks.ask("style")));
   for (const code of hooks.ask("scripts")) by("script").append(made("option", { value: code }, scriptName(code)));
   addExamples();

@@ -160,9 +160,17 @@ class Tests:
         self.page.run("by('steps').lastChild.querySelector('.row g').dispatchEvent(new MouseEvent('click', { bubbles: true }))")
         glyph = self.page.run("document.querySelector('.glyph').textContent")
         definition = (TOP / "bindings/page/definitions.md").read_text("utf-8").split("## `shapers_universal`")[1]
-        definition = definition.split("\n**Universal** ")[1].split(":\n")[1].split("\n\n")[0]
+        definition = re.split(r":\s+", definition.split("\n**Universal** ")[1], maxsplit=1)[1].split("\n\n")[0]
         assert "order in which they are drawn (run pause reorder_use): this moved it from place 1 to place 0." in glyph, glyph
         assert definition.replace("\n", " ") in glyph.replace("\n", " "), glyph
+
+    def test_definitions_are_sentences(self):
+        """No step shows marks of definitions.md in its definition, whichever script a word is of."""
+        for line in (TOP / "bindings/page/examples.txt").read_text("utf-8").splitlines():
+            if len(line.split("\t")[0]) == 4:
+                self.type(line.split("\t")[2])
+                texts = self.page.run("[...document.querySelectorAll('.definition')].map((it) => it.lastChild.textContent)")
+                assert texts and all(re.match("[A-Z`]", text) and "**" not in text for text in texts), (line, texts)
 
     def test_360_pixels(self):
         """No bar at the width of a small telephone, with anything open."""
