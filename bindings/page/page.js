@@ -94,7 +94,7 @@ function shapedElement(step) {
   return element;
 }
 
-// Lends a font to the browser, which draws the text by it where no font of the system has the characters. A file that the
+// Lends a font to the browser, which draws characters by it that the font of the page's sentences lacks. A file that the
 // browser refuses isn't lent.
 async function lendFont(bytes) {
   try {
