@@ -110,6 +110,12 @@ function lackingCharacters(text, shaped) {
   return lacks(shaped) ? characters.filter((c) => lacks(shapedText(c))) : [];
 }
 
+// By which features a script's glyphs are substituted and moved; nothing where there are none.
+function featuresInWords(gsub, gpos) {
+  const parts = [["substitutes glyphs", gsub], ["moves glyphs", gpos]].filter(([, features]) => features?.size);
+  return parts.map(([does, features]) => `${does} by the features ${[...features].map((tag) => tag.trim()).sort().join(", ")}`).join(", and ");
+}
+
 function findingsOfFont(text, script, bytes, shaped) {
   const found = [];
   const lacking = lackingCharacters(text, shaped);
@@ -123,6 +129,8 @@ function findingsOfFont(text, script, bytes, shaped) {
   if (JOINING.includes(script) && forms.length) found.push(finding("font", `It lacks the lookups for ${forms.map((form) => JOINING_FEATURES[form]).join(", ")} forms (${forms.join(", ")}).`));
   const placesMarks = ["mark", "abvm", "blwm"].some((feature) => gpos?.has(feature));
   if (/\p{Mn}/u.test(text) && !placesMarks) found.push(finding("font", "It doesn't place marks for this script (GPOS lacks mark, abvm and blwm), so they may stand beside their letters."));
+  const used = featuresInWords(gsub, gpos);
+  if (used) found.push(finding("font", `For ${name} it ${used}. If a form is missing in the picture, the font may lack its feature.`, false));
   return found;
 }
 

@@ -326,7 +326,7 @@ class Tests:
         assert self.page.run("by('text').value") == "\u1781\u17d2\u1798\u17c2\u179a"
         assert self.page.run("document.querySelectorAll('#word svg path').length") >= 4
         found = self.findings()
-        assert [whose for whose, *_ in found] == ["", "script", "shapers"] and all(kind == "fine" for _, kind, _ in found), found
+        assert [whose for whose, *_ in found] == ["", "script", "font", "shapers"] and all(kind == "fine" for _, kind, _ in found), found
         assert "(U+17C2) is drawn before" in found[1][2], found
         assert self.page.run("by('drop').getBoundingClientRect().bottom <= by('text').getBoundingClientRect().top")
 
@@ -340,6 +340,7 @@ class Tests:
             (noto("Bengali"), "\u0995\u093f", "font", "no glyph for \u25cc\u093f (U+093F)"),
             (noto("Devanagari"), "\u093e\u0915", "text", "broken syllable"),
             (noto("Devanagari"), "\u0915\u093f", "script", "(U+093F) is drawn before"),
+            (noto("Devanagari"), "\u0915\u093f", "font", "substitutes glyphs by the features abvs, "),
             (noto("Thai"), "\u0e14\u0e34\u0e48\u0e33", "shapers", "loses another"),
             (noto("Devanagari"), "\u0915\u094d\u093c", "text", "unusual order"),
             (noto("Hebrew"), "\u05d9\u05bc\u05b7", None, None),
