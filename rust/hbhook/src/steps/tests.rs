@@ -40,7 +40,25 @@ fn a_step_is_told_in_sentences() {
         told(&before, &after, &[0, 0, 1]),
         "0041 became 0044; 0042 became 0045; 0044 came in; 0043 went into another."
     );
+}
+
+#[test]
+fn where_no_origin_is_known_others_are_counted() {
+    let before = [glyph(0x41, 0), glyph(0x42, 1), glyph(0x43, 2)];
+    let after = [glyph(0x44, 0), glyph(0x45, 1), glyph(0x43, 2)];
     assert_eq!(told(&before, &after[..1], &[]), "3 glyphs became 1.");
+    assert_eq!(told(&before[..1], &after, &[]), "1 glyph became 3.");
+    assert_eq!(told(&before, &before, &[]), "The glyphs are the same.");
+    assert_eq!(
+        told(&before[1..], &after[1..], &[]),
+        "1 glyph became another."
+    );
+    assert_eq!(told(&before, &after, &[]), "2 glyphs became others.");
+    let turned = [before[1], before[2], before[0]];
+    assert_eq!(
+        told(&before, &turned, &[]),
+        "The same glyphs stand in another order."
+    );
 }
 
 #[test]

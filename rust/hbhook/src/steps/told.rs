@@ -13,7 +13,7 @@ const GLYPH_FLAGS: u32 = 7;
 /// nothing where that isn't known.
 pub(super) fn told(before: &[GlyphInfo], after: &[GlyphInfo], origins: &[usize]) -> String {
     if origins.len() != after.len() {
-        return format!("{} glyphs became {}.", before.len(), after.len());
+        return counted(before, after);
     }
     let pairs: Vec<Pair> = origins
         .iter()
@@ -29,6 +29,30 @@ pub(super) fn told(before: &[GlyphInfo], after: &[GlyphInfo], origins: &[usize])
         return "Nothing changed.".into();
     }
     capitalized(&parts.join("; ")) + "."
+}
+
+// How many glyphs are others, where it isn't known what each came from.
+fn counted(before: &[GlyphInfo], after: &[GlyphInfo]) -> String {
+    if before.len() != after.len() {
+        let glyphs = if before.len() == 1 { "glyph" } else { "glyphs" };
+        return format!("{} {glyphs} became {}.", before.len(), after.len());
+    }
+    let pairs = before.iter().zip(after);
+    let count = pairs.filter(|(a, b)| a.glyph_id != b.glyph_id).count();
+    match count {
+        0 => "The glyphs are the same.".into(),
+        1 => "1 glyph became another.".into(),
+        _ if sorted_numbers(before) == sorted_numbers(after) => {
+            "The same glyphs stand in another order.".into()
+        }
+        _ => format!("{count} glyphs became others."),
+    }
+}
+
+fn sorted_numbers(glyphs: &[GlyphInfo]) -> Vec<u32> {
+    let mut numbers: Vec<u32> = glyphs.iter().map(|glyph| glyph.glyph_id).collect();
+    numbers.sort_unstable();
+    numbers
 }
 
 // A sentence's first letter as a capital.
