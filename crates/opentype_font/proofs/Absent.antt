@@ -1,5 +1,5 @@
 -- A lookup that begins at no glyph of a text leaves it as it is.
-use Rattle.std.proofs.Common.{ℕ, ◌<◌, ◌≡◌, List, length, refl, sym, arith}
+use Rattle.std.proofs.Common.{ℕ, ◌<◌, ◌≡◌, List, length, refl, sym, arith, false}
 use Rattle.shapers_buffer.specs.Buffer.{Buffer}
 use Rattle.opentype_face.specs.Lookups.{lookup_in}
 use Rattle.opentype_layout.specs.LookupRows.{AreAbsent, lookup_bit}
@@ -10,7 +10,7 @@ use Rattle.opentype_gsub.specs.declared.pass.LookupUse.{LookupUse}
 use Rattle.opentype_gsub.proofs.Untouched.{buffer_left, left_none}
 
 pub absent_left : (gdef gsub : List ℕ) (bits : LookupBits) (use_of : LookupUse) (b : Buffer) →
-    AreAbsent gsub bits b.glyphs → use_of.index < 128 → lookup_bit bits use_of.index ≡ 0 →
+    AreAbsent false gsub bits b.glyphs → use_of.index < 128 → lookup_bit bits use_of.index ≡ 0 →
     substituted gdef gsub use_of b ≡ b
 absent_left gdef gsub bits use_of b absent few off =
     let lookup = lookup_in gsub use_of.index in

@@ -74,7 +74,7 @@ fn present_in(tables: &FaceTables<'_>, buffer: &hb_buffer_t) -> Option<PresentLo
         IfSome result (λ present. (lookup : StageLookup) → IsAbsent present lookup.index →
         substituted gdef gsub (use_for lookup) buffer.now ≡ buffer.now) }
 {
-    match tables.gsub().present(buffer.glyphs()) {
+    match tables.gsub().present(false, buffer.glyphs()) {
         Some(LookupBits { low, high }) => Some(PresentLookups { low, high }),
         None => None,
     }

@@ -1,5 +1,5 @@
 -- The rows of bits by glyph.
-use Rattle.std.proofs.Common.{ℕ, ◌+◌, ◌-◌, ◌*◌, ◌/◌, ◌%◌, ◌<◌, ◌≤◌, ◌≡◌, ◌∙◌, inl, inr, false, List, [], ◌∷◌, length, get_or, min, bit_or, refl, sym, subst, arith}
+use Rattle.std.proofs.Common.{ℕ, ◌+◌, ◌-◌, ◌*◌, ◌/◌, ◌%◌, ◌<◌, ◌≤◌, ◌≡◌, ◌∙◌, inl, inr, Bool, List, [], ◌∷◌, length, get_or, min, bit_or, refl, sym, subst, arith}
 use Rattle.std.specs.Int.{bit_at}
 use Rattle.std.proofs.lemmas.Nat.Bits.{bit_at_or, bit_at-zero}
 use Rattle.std.proofs.lemmas.Grind.{common_steps}
@@ -60,30 +60,30 @@ column_all old words heads first index k m le j unset = elim (before_or_not j k)
 ]
 
 -- and so of a lookup, which begins at no glyph whose own bit isn't set
-pub column_of : (lookup heads words : List ℕ) (first index : ℕ) → AreHeads false lookup first heads →
+pub column_of : (of_gpos : Bool) (lookup heads words : List ℕ) (first index : ℕ) → AreHeads of_gpos lookup first heads →
     ((k : ℕ) → row_bit words (first + k) index ≡ 0 → bit_in heads k ≡ 0) →
-    (glyph : ℕ) → row_bit words glyph index ≡ 0 → BeginsNot lookup glyph
-column_of lookup heads words first index h out glyph unset =
+    (glyph : ℕ) → row_bit words glyph index ≡ 0 → BeginsNot of_gpos lookup glyph
+column_of of_gpos lookup heads words first index h out glyph unset =
     h.out glyph (λ le. (let e : glyph ≡ first + (glyph - first) = omega arith in
     out (glyph - first) (subst (λ n. row_bit words n index ≡ 0) e unset)))
 
 -- ---- all lookups
 
-pub record IsMarking (old : List ℕ) (lookups : List (List ℕ)) (words : List ℕ) (index : ℕ) : Type 0 where
+pub record IsMarking (of_gpos : Bool) (old : List ℕ) (lookups : List (List ℕ)) (words : List ℕ) (index : ℕ) : Type 0 where
   pub len : length words ≡ length old
-  pub marked : AreMarked lookups words index
+  pub marked : AreMarked of_gpos lookups words index
 
-pub marking_start : (lookups : List (List ℕ)) (words : List ℕ) → IsMarking words lookups words 0
-marking_start lookups words = record {
+pub marking_start : (of_gpos : Bool) (lookups : List (List ℕ)) (words : List ℕ) → IsMarking of_gpos words lookups words 0
+marking_start of_gpos lookups words = record {
   len = refl;
   marked = record { out = λ index glyph lt unset. absurd (omega arith) };
 }
 
-pub marking_next : (old : List ℕ) (lookups : List (List ℕ)) (words new lookup : List ℕ) (index : ℕ) →
-    IsMarking old lookups words index → Grown words new → lookup ≡ get_or lookups index [] →
-    ((glyph : ℕ) → row_bit new glyph index ≡ 0 → BeginsNot lookup glyph) →
-    IsMarking old lookups new (index + 1)
-marking_next old lookups words new lookup index m g is out = record {
+pub marking_next : (of_gpos : Bool) (old : List ℕ) (lookups : List (List ℕ)) (words new lookup : List ℕ) (index : ℕ) →
+    IsMarking of_gpos old lookups words index → Grown words new → lookup ≡ get_or lookups index [] →
+    ((glyph : ℕ) → row_bit new glyph index ≡ 0 → BeginsNot of_gpos lookup glyph) →
+    IsMarking of_gpos old lookups new (index + 1)
+marking_next of_gpos old lookups words new lookup index m g is out = record {
   len = g.len ∙ m.len;
   marked = record {
     out = λ i glyph lt unset. elim (before_or_at i index lt) [
@@ -94,19 +94,19 @@ marking_next old lookups words new lookup index m g is out = record {
 }
 
 -- a lookup that isn't there begins at no glyph
-no_lookup : (table : List ℕ) (count index glyph : ℕ) → count ≡ u16_in (part_in table (u16_in table 8)) 0 →
-    count ≤ index → BeginsNot (lookup_in table index) glyph
-no_lookup table count index glyph is le =
+no_lookup : (of_gpos : Bool) (table : List ℕ) (count index glyph : ℕ) → count ≡ u16_in (part_in table (u16_in table 8)) 0 →
+    count ≤ index → BeginsNot of_gpos (lookup_in table index) glyph
+no_lookup of_gpos table count index glyph is le =
     let e : lookup_in table index ≡ [] = grind (arith, nat_tests) in
-    rw e (none_from false [] glyph 0 0 (omega arith))
+    rw e (none_from of_gpos [] glyph 0 0 (omega arith))
 
-pub rows_by : (table : List ℕ) (lookups : List (List ℕ)) (words : List ℕ) (count : ℕ) → AreStarts table lookups →
-    AreMarked lookups words (min (length lookups) 128) → count ≡ u16_in (part_in table (u16_in table 8)) 0 →
-    length lookups ≡ count → AreRows table words
-rows_by table lookups words count s m is all = record {
+pub rows_by : (of_gpos : Bool) (table : List ℕ) (lookups : List (List ℕ)) (words : List ℕ) (count : ℕ) → AreStarts table lookups →
+    AreMarked of_gpos lookups words (min (length lookups) 128) → count ≡ u16_in (part_in table (u16_in table 8)) 0 →
+    length lookups ≡ count → AreRows of_gpos table words
+rows_by of_gpos table lookups words count s m is all = record {
   out = λ index glyph lt unset. elim (before_or_not index count) [
     | inl less ↦ (let o = m.out index glyph (omega arith) unset in rw (s.each index (omega arith)) at o)
-    | inr le ↦ no_lookup table count index glyph is le
+    | inr le ↦ no_lookup of_gpos table count index glyph is le
   ];
 }
 
@@ -161,8 +161,8 @@ unset_next words bits new gs at number g u kept row is own within = record {
   ];
 }
 
-pub absent_by : (table words : List ℕ) (bits : LookupBits) (gs : Glyphs) → AreRows table words → AreUnset words bits gs (length gs) →
-    AreAbsent table bits gs
-absent_by table words bits gs r u = record {
+pub absent_by : (of_gpos : Bool) (table words : List ℕ) (bits : LookupBits) (gs : Glyphs) → AreRows of_gpos table words → AreUnset words bits gs (length gs) →
+    AreAbsent of_gpos table bits gs
+absent_by of_gpos table words bits gs r u = record {
   each = λ index j few lt off. r.out index _ few (u.each index j few lt off);
 }

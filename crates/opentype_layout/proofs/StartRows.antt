@@ -72,6 +72,17 @@ other_in_gpos : map (λ glyph. starting true (extended 9 5) glyph 0) (5 ∷ 7 �
 unfolding starting starts_at first_at bisect
 other_in_gpos = refl
 
+-- in GPOS marks upon bases, type 4, begin at the mark: the set at byte 12 has mark 9, and that at byte
+-- 18 base 5
+abbrev of_marks : List ℕ
+of_marks = (0 ∷ 4 ∷ 0 ∷ 0 ∷ 0 ∷ 1 ∷ 0 ∷ 8 ∷ [])
+    ++ ((0 ∷ 1 ∷ 0 ∷ 12 ∷ 0 ∷ 18 ∷ 0 ∷ 1 ∷ 0 ∷ 0 ∷ 0 ∷ 0 ∷ [])
+    ++ (0 ∷ 1 ∷ 0 ∷ 1 ∷ 0 ∷ 9 ∷ 0 ∷ 1 ∷ 0 ∷ 1 ∷ 0 ∷ 5 ∷ []))
+
+marks_start : map (λ glyph. starting true of_marks glyph 0) (5 ∷ 9 ∷ 10 ∷ []) ≡ None ∷ Some 0 ∷ None ∷ []
+unfolding starting starts_at bisect
+marks_start = refl
+
 -- ---- bits
 
 -- rows for glyphs 5 to 7, of 65 bits in two words

@@ -1,5 +1,5 @@
--- For each glyph a row of bits: the lookups of GSUB that may begin at the glyph.
-use Rattle.std.specs.Prelude.{ℕ, ◌+◌, ◌*◌, ◌%◌, ◌<◌, ◌≡◌, false, List, [], ◌∷◌, length, slice_index_or}
+-- For each glyph a row of bits: the lookups of GSUB, or of GPOS, that may begin at the glyph.
+use Rattle.std.specs.Prelude.{ℕ, ◌+◌, ◌*◌, ◌%◌, ◌<◌, ◌≡◌, Bool, List, [], ◌∷◌, length, slice_index_or}
 use Rattle.shapers_buffer.specs.Glyphs.{Glyphs}
 use Rattle.opentype_face.specs.Bytes.{u16_in}
 use Rattle.opentype_face.specs.Lookups.{lookup_in}
@@ -16,19 +16,20 @@ row_bit words glyph index = bit_in words (glyph * 128 + index)
 abbrev pub lookup_bit : LookupBits → ℕ → ℕ
 lookup_bit bits index = bit_in (bits.low ∷ bits.high ∷ []) index
 
--- a lookup of GSUB, by its table, doesn't begin at a glyph
-abbrev pub BeginsNot : List ℕ → ℕ → Type 0
-BeginsNot lookup glyph = NoneStarts false lookup glyph 0 (u16_in lookup 4)
+-- a lookup of GSUB or of GPOS, by its table, doesn't begin at a glyph
+abbrev pub BeginsNot : Bool → List ℕ → ℕ → Type 0
+BeginsNot of_gpos lookup glyph = NoneStarts of_gpos lookup glyph 0 (u16_in lookup 4)
 
 -- each of the first lookups, up to one, begins at no glyph in whose row its bit isn't set
-pub record AreMarked (lookups : List (List ℕ)) (words : List ℕ) (end : ℕ) : Type 0 where
+pub record AreMarked (of_gpos : Bool) (lookups : List (List ℕ)) (words : List ℕ) (end : ℕ) :
+    Type 0 where
   pub out : (index glyph : ℕ) → index < end → row_bit words glyph index ≡ 0 →
-      BeginsNot (slice_index_or lookups index []) glyph
+      BeginsNot of_gpos (slice_index_or lookups index []) glyph
 
 -- so each of the first 128 lookups of a table
-pub record AreRows (table words : List ℕ) : Type 0 where
+pub record AreRows (of_gpos : Bool) (table words : List ℕ) : Type 0 where
   pub out : (index glyph : ℕ) → index < 128 → row_bit words glyph index ≡ 0 →
-      BeginsNot (lookup_in table index) glyph
+      BeginsNot of_gpos (lookup_in table index) glyph
 
 -- a bit that isn't set among these isn't set in the rows of the first glyphs of a text, up to one
 pub record AreUnset (words : List ℕ) (bits : LookupBits) (gs : Glyphs) (end : ℕ) : Type 0 where
@@ -36,6 +37,7 @@ pub record AreUnset (words : List ℕ) (bits : LookupBits) (gs : Glyphs) (end : 
       row_bit words ((glyph_at gs j).glyph_id % 65536) index ≡ 0
 
 -- each of the first 128 lookups whose bit isn't set begins at no glyph of a text
-pub record AreAbsent (table : List ℕ) (bits : LookupBits) (gs : Glyphs) : Type 0 where
+pub record AreAbsent (of_gpos : Bool) (table : List ℕ) (bits : LookupBits) (gs : Glyphs) :
+    Type 0 where
   pub each : (index j : ℕ) → index < 128 → j < length gs → lookup_bit bits index ≡ 0 →
-      BeginsNot (lookup_in table index) ((glyph_at gs j).glyph_id % 65536)
+      BeginsNot of_gpos (lookup_in table index) ((glyph_at gs j).glyph_id % 65536)

@@ -1,4 +1,4 @@
-//! A row of bits for each glyph: the lookups of GSUB that may begin at the glyph.
+//! A row of bits for each glyph: the lookups of GSUB, or of GPOS, that may begin at the glyph.
 ghost use Rattle.std.specs.Prelude.{◌≡◌, ◌<◌, ◌+◌, ℕ, length, true, min, slice_index, IfSome};
 ghost use Rattle.opentype_layout.specs.Bits.{Grown, bit_in};
 ghost use Rattle.opentype_layout.specs.LookupRows.{AreMarked, AreRows, AreUnset, lookup_bit, row_bit};
@@ -46,12 +46,13 @@ fn word_count(starts: &[Starts<'_>]) -> usize {
 }
 
 // Sets the bits of the first 128 lookups, if all can be set.
-fn mark_rows(words: &mut [u64], starts: &[Starts<'_>]) -> bool
+fn mark_rows(of_gpos: bool, words: &mut [u64], starts: &[Starts<'_>]) -> bool
     ensures len { length words.new ≡ length words.old }
-    ensures out { result ≡ true → AreMarked starts.now words.new (min (length starts.now) 128) }
+    ensures out { result ≡ true →
+        AreMarked of_gpos starts.now words.new (min (length starts.now) 128) }
 {
     for index in 0..starts.len().min(128) {
-        if !starts[index].mark_rows(words, index) {
+        if !starts[index].mark_rows(of_gpos, words, index) {
             return false;
         }
     }
@@ -61,12 +62,13 @@ fn mark_rows(words: &mut [u64], starts: &[Starts<'_>]) -> bool
 /// The rows of a table, if each of its lookups has bits, and memory and a budget suffice.
 pub(crate) fn lookup_rows(
     alloc: Global,
+    of_gpos: bool,
     bytes: &[u8],
     starts: &[Starts<'_>],
     budget: &mut usize,
 ) -> Option<Vec<u64>>
     requires { AreStarts bytes.now starts.now }
-    ensures { IfSome result (λ words. AreRows bytes.now words.items) }
+    ensures { IfSome result (λ words. AreRows of_gpos bytes.now words.items) }
 {
     if starts.len() != usize::from(lookup_count(bytes)) {
         return None;
@@ -80,7 +82,7 @@ pub(crate) fn lookup_rows(
     if words.resize(size, 0u64).is_err() {
         return None;
     }
-    if mark_rows(&mut words, starts) {
+    if mark_rows(of_gpos, &mut words, starts) {
         Some(words)
     } else {
         None

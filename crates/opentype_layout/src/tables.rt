@@ -60,6 +60,7 @@ pub struct PreparedTable<'a> {
     bytes: &'a [u8],
     starts: Vec<Starts<'a>>,
     pairs: Vec<LookupPairs<'a>>,
+    of_gpos: bool,
     rows: Option<Vec<u64>>,
 }
 
@@ -70,12 +71,13 @@ impl<'a> Model for PreparedTable<'a> {
 
     ghost invariant = { λ it. AreStarts it.bytes.now it.starts.items ×
         (AreStarts it.bytes.now it.pairs.items ×
-        IfSome it.rows (λ rows. AreRows it.bytes.now rows.items)) };
+        IfSome it.rows (λ rows. AreRows it.of_gpos it.bytes.now rows.items)) };
 }
 
 impl<'a> PreparedTable<'a> {
-    /// GSUB or GPOS. Lookups for which memory or a budget in bytes doesn't suffice have no bits, and their pairs no
-    /// tables; GSUB has rows of bits by glyph where both suffice and all lookups have bits.
+    /// GSUB or GPOS. Lookups for which memory or a budget in bytes doesn't suffice have no bits, and
+    /// their pairs no tables; the table has rows of bits by glyph where both suffice and all lookups
+    /// have bits.
     pub fn new(alloc: Global, of_gpos: bool, bytes: &'a [u8], budget: usize) -> Self
         ensures { result ≡ bytes.now }
     {
@@ -86,15 +88,12 @@ impl<'a> PreparedTable<'a> {
         } else {
             Vec::new(alloc)
         };
-        let rows = if of_gpos {
-            None
-        } else {
-            lookup_rows(alloc, bytes, &starts, &mut left)
-        };
+        let rows = lookup_rows(alloc, of_gpos, bytes, &starts, &mut left);
         PreparedTable {
             bytes,
             starts,
             pairs,
+            of_gpos,
             rows,
         }
     }
@@ -108,6 +107,7 @@ impl<'a> PreparedTable<'a> {
             bytes: self.bytes,
             starts: self.starts.as_slice(),
             pairs: self.pairs.as_slice(),
+            of_gpos: self.of_gpos,
             rows: match &self.rows {
                 Some(rows) => Some(rows.as_slice()),
                 None => None,
@@ -122,6 +122,7 @@ pub struct LayoutTable<'a> {
     bytes: &'a [u8],
     starts: &'a [Starts<'a>],
     pairs: &'a [LookupPairs<'a>],
+    of_gpos: bool,
     rows: Option<&'a [u64]>,
 }
 
@@ -132,7 +133,7 @@ impl<'a> Model for LayoutTable<'a> {
 
     ghost invariant = { λ it. AreStarts it.bytes.now it.starts.now ×
         (AreStarts it.bytes.now it.pairs.now ×
-        IfSome it.rows (λ rows. AreRows it.bytes.now rows.now)) };
+        IfSome it.rows (λ rows. AreRows it.of_gpos it.bytes.now rows.now)) };
 }
 
 impl<'a> LayoutTable<'a> {
@@ -145,16 +146,20 @@ impl<'a> LayoutTable<'a> {
             bytes,
             starts: &[],
             pairs: &[],
+            of_gpos: false,
             rows: None,
         }
     }
 
-    /// The lookups of GSUB that may begin in a text, as bits by their numbers, if they are known:
-    /// those of the first 128 whose bit isn't set begin at no glyph.
+    /// The lookups of GSUB, or of GPOS, that may begin in a text, as bits by their numbers, if they
+    /// are known: those of the first 128 whose bit isn't set begin at no glyph.
     #[inline]
-    pub fn present(&self, glyphs: &[hb_glyph_info_t]) -> Option<LookupBits>
-        ensures { IfSome result (λ bits. AreAbsent self.now bits glyphs.now) }
+    pub fn present(&self, of_gpos: bool, glyphs: &[hb_glyph_info_t]) -> Option<LookupBits>
+        ensures { IfSome result (λ bits. AreAbsent of_gpos self.now bits glyphs.now) }
     {
+        if of_gpos != self.of_gpos {
+            return None;
+        }
         match self.rows {
             Some(rows) => Some(rows_of(rows, glyphs)),
             None => None,

@@ -61,7 +61,7 @@ fn noted_by(tables: &FaceTables<'_>, glyph: &GlyphInfo) -> GlyphProps {
 // The lookups of GSUB that may change a text, if they are known.
 #[inline]
 fn present_in(tables: &FaceTables<'_>, buffer: &Buffer) -> Option<PresentLookups> {
-    match tables.gsub().present(buffer.glyphs()) {
+    match tables.gsub().present(false, buffer.glyphs()) {
         Some(LookupBits { low, high }) => Some(PresentLookups { low, high }),
         None => None,
     }

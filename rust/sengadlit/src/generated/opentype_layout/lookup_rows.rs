@@ -1,6 +1,6 @@
 // Generated from crates/opentype_layout/src/lookup_rows.rt by rust/erase; edit the source.
 
-//! A row of bits for each glyph: the lookups of GSUB that may begin at the glyph.
+//! A row of bits for each glyph: the lookups of GSUB, or of GPOS, that may begin at the glyph.
 
 use crate::support::prelude::*;
 
@@ -41,9 +41,9 @@ fn word_count(starts: &[Starts<'_>]) -> usize {
 }
 
 // Sets the bits of the first 128 lookups, if all can be set.
-fn mark_rows(words: &mut [u64], starts: &[Starts<'_>]) -> bool {
+fn mark_rows(of_gpos: bool, words: &mut [u64], starts: &[Starts<'_>]) -> bool {
     for index in 0..starts.len().min(128) {
-        if !starts[index].mark_rows(words, index) {
+        if !starts[index].mark_rows(of_gpos, words, index) {
             return false;
         }
     }
@@ -53,6 +53,7 @@ fn mark_rows(words: &mut [u64], starts: &[Starts<'_>]) -> bool {
 /// The rows of a table, if each of its lookups has bits, and memory and a budget suffice.
 pub(crate) fn lookup_rows(
     alloc: Global,
+    of_gpos: bool,
     bytes: &[u8],
     starts: &[Starts<'_>],
     budget: &mut usize,
@@ -69,7 +70,7 @@ pub(crate) fn lookup_rows(
     if words.resize(size, 0u64).is_err() {
         return None;
     }
-    if mark_rows(&mut words, starts) {
+    if mark_rows(of_gpos, &mut words, starts) {
         Some(words)
     } else {
         None

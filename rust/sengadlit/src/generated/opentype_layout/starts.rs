@@ -145,10 +145,10 @@ impl<'a> Starts<'a> {
         usize::from(self.grid.first) + self.grid.rows as usize
     }
 
-    /// Sets the lookup's bit in the rows of the glyphs that it may begin at. It can't where it has no
-    /// bits, is of GPOS, or such a glyph has no row.
-    pub(crate) fn mark_rows(&self, words: &mut [u64], index: usize) -> bool {
-        if self.of_gpos || !self.is_made {
+    /// Sets the lookup's bit in the rows of the glyphs that it may begin at, as a lookup of GSUB or of
+    /// GPOS. It can't where it has no bits, those of the other table, or such a glyph has no row.
+    pub(crate) fn mark_rows(&self, of_gpos: bool, words: &mut [u64], index: usize) -> bool {
+        if of_gpos != self.of_gpos || !self.is_made {
             return false;
         }
         mark_column(words, index, self.grid.first, &self.heads)

@@ -52,12 +52,14 @@ pub struct PreparedTable<'a> {
     bytes: &'a [u8],
     starts: Vec<Starts<'a>>,
     pairs: Vec<LookupPairs<'a>>,
+    of_gpos: bool,
     rows: Option<Vec<u64>>,
 }
 
 impl<'a> PreparedTable<'a> {
-    /// GSUB or GPOS. Lookups for which memory or a budget in bytes doesn't suffice have no bits, and their pairs no
-    /// tables; GSUB has rows of bits by glyph where both suffice and all lookups have bits.
+    /// GSUB or GPOS. Lookups for which memory or a budget in bytes doesn't suffice have no bits, and
+    /// their pairs no tables; the table has rows of bits by glyph where both suffice and all lookups
+    /// have bits.
     ///
     /// <details><summary>Contract</summary>
     ///
@@ -76,15 +78,12 @@ impl<'a> PreparedTable<'a> {
         } else {
             Vec::new(alloc)
         };
-        let rows = if of_gpos {
-            None
-        } else {
-            lookup_rows(alloc, bytes, &starts, &mut left)
-        };
+        let rows = lookup_rows(alloc, of_gpos, bytes, &starts, &mut left);
         PreparedTable {
             bytes,
             starts,
             pairs,
+            of_gpos,
             rows,
         }
     }
@@ -106,6 +105,7 @@ impl<'a> PreparedTable<'a> {
             bytes: self.bytes,
             starts: self.starts.as_slice(),
             pairs: self.pairs.as_slice(),
+            of_gpos: self.of_gpos,
             rows: match &self.rows {
                 Some(rows) => Some(rows.as_slice()),
                 None => None,
@@ -120,6 +120,7 @@ pub struct LayoutTable<'a> {
     bytes: &'a [u8],
     starts: &'a [Starts<'a>],
     pairs: &'a [LookupPairs<'a>],
+    of_gpos: bool,
     rows: Option<&'a [u64]>,
 }
 
@@ -141,26 +142,30 @@ impl<'a> LayoutTable<'a> {
             bytes,
             starts: &[],
             pairs: &[],
+            of_gpos: false,
             rows: None,
         }
     }
 
-    /// The lookups of GSUB that may begin in a text, as bits by their numbers, if they are known:
-    /// those of the first 128 whose bit isn't set begin at no glyph.
+    /// The lookups of GSUB, or of GPOS, that may begin in a text, as bits by their numbers, if they
+    /// are known: those of the first 128 whose bit isn't set begin at no glyph.
     ///
     /// <details><summary>Contract</summary>
     ///
     /// # Contract
     ///
     /// ```text
-    /// ensures { IfSome result (λ bits. AreAbsent self.now bits glyphs.now) }
+    /// ensures { IfSome result (λ bits. AreAbsent of_gpos self.now bits glyphs.now) }
     /// ```
     ///
     /// - `AreAbsent`: `crates/opentype_layout/specs/LookupRows.antt`
     ///
     /// </details>
     #[inline]
-    pub fn present(&self, glyphs: &[GlyphInfo]) -> Option<LookupBits> {
+    pub fn present(&self, of_gpos: bool, glyphs: &[GlyphInfo]) -> Option<LookupBits> {
+        if of_gpos != self.of_gpos {
+            return None;
+        }
         match self.rows {
             Some(rows) => Some(rows_of(rows, glyphs)),
             None => None,
