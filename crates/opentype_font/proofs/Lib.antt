@@ -2,3 +2,4 @@ pub mod Tests
 mod WouldApplyRows
 mod ScriptFeatureRows
 mod Absent
+mod PresenceRows

@@ -4,4 +4,5 @@ pub mod WouldApply
 pub mod ScriptFeatures
 pub mod Fonts
 pub mod Lookups
+pub mod Presence
 pub mod Proved

@@ -1,12 +1,16 @@
 -- A font file's lookups, as a plan applies them.
 use Rattle.std.specs.Prelude.{ℕ, ◌%◌, ◌==◌, ◌&&◌, not, Bool, true, false, List, if◌then◌else◌}
+use Rattle.shapers_buffer.specs.Buffer.{Buffer}
 use Rattle.shapers_buffer.specs.Glyphs.{Glyph}
 use Rattle.shapers_buffer.specs.Properties.{has_bit, is_ignorable}
 use Rattle.shapers_buffer.specs.declared.buffer.glyph_props.GlyphProps.{GlyphProps}
 use Rattle.shapers_plan.specs.declared.ot_map.lookups.StageLookup.{StageLookup}
+use Rattle.shapers_pipeline.specs.Lookups.{LookupRefusals}
 use Rattle.opentype_face.specs.Classes.{has_classes, props_of}
 use Rattle.opentype_layout.specs.declared.sight.Application.{Application}
+use Rattle.opentype_gsub.specs.Substituted.{substituted}
 use Rattle.opentype_gsub.specs.declared.pass.LookupUse.{LookupUse}
+use Rattle.opentype_gpos.specs.Walked.{positioned}
 
 abbrev pub use_for : StageLookup → LookupUse
 use_for l = record {
@@ -26,6 +30,17 @@ application_for l = record {
   auto_zwj = l.auto_zwj;
   per_syllable = false;
 }
+
+-- what a lookup of a plan makes of a text, by the bytes of GDEF and GSUB, or of GDEF and GPOS
+abbrev pub substituted_by : List ℕ → List ℕ → StageLookup → Buffer → Buffer
+substituted_by gdef gsub l b = substituted gdef gsub (use_for l) b
+
+abbrev pub positioned_by : List ℕ → List ℕ → StageLookup → Buffer → Buffer
+positioned_by gdef gpos l b = positioned gdef gpos l.index (application_for l) b
+
+-- a lookup of GSUB may be refused memory, and nothing else
+abbrev pub may_lack_memory : StageLookup → Buffer → LookupRefusals
+may_lack_memory l b = record { too_long = false; memory = true }
 
 -- a glyph is a mark by the bit of its class
 abbrev pub is_gdef_mark : Glyph → Bool

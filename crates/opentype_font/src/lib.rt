@@ -4,5 +4,6 @@
 pub mod font;
 pub mod lookups;
 pub mod script_features;
+mod stages;
 pub mod text_tags;
 pub mod would_apply;

@@ -1,54 +1,19 @@
 //! The lookups of a font file.
-ghost use Rattle.std.specs.Prelude.{◌≡◌, IfSome};
-ghost use Rattle.opentype_font.specs.Lookups.{application_for, noted_by, use_for};
-ghost use Rattle.opentype_gsub.specs.Substituted.{substituted};
-ghost use Rattle.shapers_pipeline.specs.Lookups.{IsAbsent};
+ghost use Rattle.std.specs.Prelude.{◌≡◌};
+ghost use Rattle.opentype_font.specs.Lookups.{noted_by};
 
 use crate::font::OpenTypeFont;
+use crate::stages::{position_by, substitute_all, substitute_by};
 use opentype_gpos::finish::finish_positions;
-use opentype_gpos::walk::position;
 use opentype_gsub::growth::growth;
-use opentype_gsub::pass::LookupUse;
-use opentype_gsub::substitute::substitute;
 use opentype_layout::face_tables::FaceTables;
-use opentype_layout::lookup_rows::LookupBits;
-use opentype_layout::sight::Application;
 use shapers_base::buffer::{GlyphProps, ShaperError, hb_buffer_t, hb_glyph_info_t};
-use shapers_pipeline::{Lookups, PresentLookups};
+use shapers_pipeline::Lookups;
 use shapers_plan::ot_map::StageLookup;
 use shapers_position::ot_shape_position::GlyphClasses;
 
 /// The number of the category Mn.
 const NONSPACING_MARK: u16 = 12;
-
-// How GSUB applies a lookup of a plan.
-#[inline]
-fn use_for(lookup: &StageLookup) -> LookupUse
-    ensures { result ≡ use_for lookup.now }
-{
-    LookupUse {
-        index: lookup.index,
-        mask: lookup.mask,
-        auto_zwnj: lookup.auto_zwnj,
-        auto_zwj: lookup.auto_zwj,
-        random: lookup.random,
-        per_syllable: lookup.per_syllable,
-    }
-}
-
-// How GPOS applies a lookup of a plan, which reaches over syllables.
-#[inline]
-fn application_for(lookup: &StageLookup) -> Application
-    ensures { result ≡ application_for lookup.now }
-{
-    Application {
-        of_gpos: true,
-        mask: lookup.mask,
-        auto_zwnj: lookup.auto_zwnj,
-        auto_zwj: lookup.auto_zwj,
-        per_syllable: false,
-    }
-}
 
 // What lookups keep of a glyph: its class by GDEF. In a font without classes nonspacing marks are
 // marks, unless they need not be drawn, and all else is a base. (HarfBuzz's
@@ -66,20 +31,6 @@ fn noted_by(tables: &FaceTables<'_>, glyph: &hb_glyph_info_t) -> GlyphProps
     }
 }
 
-// The lookups of GSUB that may change a text, if they are known.
-#[inline]
-#[tactic(auto, using(crate::proofs::Absent::absent_left))]
-fn present_in(tables: &FaceTables<'_>, buffer: &hb_buffer_t) -> Option<PresentLookups>
-    ensures { let gdef = tables.now.face.gdef.now in let gsub = tables.now.face.gsub.now in
-        IfSome result (λ present. (lookup : StageLookup) → IsAbsent present lookup.index →
-        substituted gdef gsub (use_for lookup) buffer.now ≡ buffer.now) }
-{
-    match tables.gsub().present(false, buffer.glyphs()) {
-        Some(LookupBits { low, high }) => Some(PresentLookups { low, high }),
-        None => None,
-    }
-}
-
 impl<'a> GlyphClasses for OpenTypeFont<'a> {
     ghost use Rattle.opentype_font.specs.Lookups.{is_gdef_mark};
 
@@ -92,25 +43,23 @@ impl<'a> GlyphClasses for OpenTypeFont<'a> {
 }
 
 impl<'a> Lookups for OpenTypeFont<'a> {
-    ghost use Rattle.std.specs.Prelude.{false, true};
+    ghost use Rattle.std.specs.Prelude.{false};
     ghost use Rattle.opentype_gsub.specs.Growth.{growth_in};
-    ghost use Rattle.opentype_gsub.specs.Substituted.{substituted};
     ghost use Rattle.opentype_gpos.specs.Finished.{finished};
-    ghost use Rattle.opentype_gpos.specs.Walked.{positioned};
-    ghost use Rattle.opentype_font.specs.Lookups.{application_for, noted_by, use_for};
+    ghost use Rattle.opentype_font.specs.Lookups.{application_for, may_lack_memory, noted_by, positioned_by, substituted_by, use_for};
     ghost use Rattle.opentype_font.specs.Proved.LookupLaws.{finishing_keeps, positioning_keeps, substituting_grows, substituting_keeps};
 
     ghost noted = { λ it g. noted_by it.tables.face.gdef.now g };
 
     ghost substituted = { λ it lookup b.
-        substituted it.tables.face.gdef.now it.tables.face.gsub.now (use_for lookup) b };
+        substituted_by it.tables.face.gdef.now it.tables.face.gsub.now lookup b };
 
     ghost growth_of = { λ it lookup. growth_in it.tables.face.gsub.now lookup.index };
 
-    ghost substituting_refuses = { λ it lookup b. record { too_long = false; memory = true } };
+    ghost substituting_refuses = { λ it lookup b. may_lack_memory lookup b };
 
     ghost positioned = { λ it lookup b.
-        positioned it.tables.face.gdef.now it.tables.face.gpos.now lookup.index (application_for lookup) b };
+        positioned_by it.tables.face.gdef.now it.tables.face.gpos.now lookup b };
 
     ghost finished = { λ it b. finished b };
 
@@ -131,27 +80,19 @@ impl<'a> Lookups for OpenTypeFont<'a> {
         lookup: &StageLookup,
         buffer: &mut hb_buffer_t,
     ) -> Result<(), ShaperError> {
-        substitute(
-            self.tables.face.gdef,
-            self.tables.gsub(),
-            &use_for(lookup),
-            buffer,
-        )
+        substitute_by(&self.tables, lookup, buffer)
     }
 
-    fn present_lookups(&self, buffer: &hb_buffer_t) -> Option<PresentLookups> {
-        present_in(&self.tables, buffer)
+    fn substitute_all(
+        &self,
+        list: &[StageLookup],
+        buffer: &mut hb_buffer_t,
+    ) -> Result<(), ShaperError> {
+        substitute_all(&self.tables, list, buffer)
     }
 
     fn position(&self, lookup: &StageLookup, buffer: &mut hb_buffer_t) -> Result<(), ShaperError> {
-        let how = application_for(lookup);
-        position(
-            self.tables.face.gdef,
-            self.tables.gpos(),
-            lookup.index,
-            &how,
-            buffer,
-        );
+        position_by(&self.tables, lookup, buffer);
         Ok(())
     }
 

@@ -14,12 +14,11 @@ mod PositionClusters
 mod PositionedRows
 mod PreparedClusters
 mod PreparedRows
-mod PresentRows
 mod PutBack
 mod RefusalRows
 mod StageClusters
 pub mod Substituting
-mod StageLengths
+pub mod StageLengths
 mod TextLengths
 mod TurnedGraphemes
 mod Untouched

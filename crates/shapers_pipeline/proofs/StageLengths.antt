@@ -1,6 +1,6 @@
 -- How long stages make a text, and what comes behind them.
-use Rattle.std.proofs.Common.{◌≡◌, ◌∙◌, ℕ, ◌+◌, ◌*◌, ◌<◌, ◌≤◌, ◌≢◌, Bool, true, false, List, [], ◌∷◌, drop, get_or, inl, inr, length, map, sym, ap, subst, arith}
-use Rattle.std.specs.Prelude.{IfErr, IsOk, Option, None, Some, Result, Err, option_map}
+use Rattle.std.proofs.Common.{◌≡◌, ◌∙◌, ℕ, ◌+◌, ◌*◌, ◌<◌, ◌≤◌, ◌≢◌, Bool, true, false, List, [], ◌∷◌, drop, get_or, inl, inr, length, map, refl, sym, ap, subst, arith}
+use Rattle.std.specs.Prelude.{IfErr, IsOk, OnOk, Option, None, Some, Result, Ok, Err, if◌then◌else◌, option_map}
 use Rattle.std.specs.Option.{option_map_or}
 use Rattle.std.specs.Result.{IsErrAnd}
 use Rattle.std.proofs.Math.Nat.{le-mul_of_pos_right, le_refl, le_trans, mul-le-mul_right}
@@ -115,6 +115,48 @@ looked_long f growth keeps grows (x ∷ xs) b none =
       le_trans rest.1
           (looked_up_more growth xs (length (f x b).glyphs) (length b.glyphs * growth x) (grows x b none).few),
     )
+
+-- the limit on its length stays, as far as the lookups went
+looked_limit : (f : StageLookup → Buffer → Buffer) → LookupsKeep f → (list : List StageLookup) (b : Buffer) →
+    b.positions ≡ [] → (looked_up f list b).max_len ≡ b.max_len
+looked_limit f keeps [] b none = refl
+looked_limit f keeps (x ∷ xs) b none =
+    let kept = (keeps x b none).others in
+    looked_limit f keeps xs (f x b) (ap (λ c. c.positions) kept ∙ none) ∙ ap (λ c. c.max_len) kept
+
+stopped_limit : (f : StageLookup → Buffer → Buffer) (refusals : StageLookup → Buffer → LookupRefusals) → LookupsKeep f →
+    (list : List StageLookup) (old new : Buffer) (e : ShaperError) → old.positions ≡ [] →
+    StoppedIn f refusals list old new e → new.max_len ≡ old.max_len
+stopped_limit f refusals keeps [] old new e none stopped = absurd stopped
+stopped_limit f refusals keeps (x ∷ xs) old new e none stopped =
+    let kept = (keeps x old none).others in elim stopped [
+      | inl here ↦ ap (λ (c : Buffer). c.max_len) here.1
+      | inr later ↦ stopped_limit f refusals keeps xs (f x old) new e (ap (λ c. c.positions) kept ∙ none) later
+          ∙ ap (λ c. c.max_len) kept
+    ]
+
+pub all_limit : (f : StageLookup → Buffer → Buffer) (refusals : StageLookup → Buffer → LookupRefusals) → LookupsKeep f →
+    (list : List StageLookup) (old new : Buffer) (r : Result (Unit {0}) ShaperError) → old.positions ≡ [] →
+    OnOk r (new ≡ looked_up f list old) → IfErr r (λ e. StoppedIn f refusals list old new e) → new.max_len ≡ old.max_len
+all_limit f refusals keeps list old new (Ok x) none done stopped =
+    ap (λ (c : Buffer). c.max_len) done ∙ looked_limit f keeps list old none
+all_limit f refusals keeps list old new (Err e) none done stopped =
+    stopped_limit f refusals keeps list old new e none stopped
+
+pub all_unplaced : (f : StageLookup → Buffer → Buffer) (growth : StageLookup → ℕ) → LookupsKeep f → LookupsGrow growth f →
+    (list : List StageLookup) (old new : Buffer) (r : Result (Unit {0}) ShaperError) → old.positions ≡ [] →
+    OnOk r (new ≡ looked_up f list old) → OnOk r (new.positions ≡ [])
+all_unplaced f growth keeps grows list old new (Ok x) none done =
+    ap (λ (c : Buffer). c.positions) done ∙ (looked_long f growth keeps grows list old none).0
+all_unplaced f growth keeps grows list old new (Err e) none done = tt
+
+pub all_long : (f : StageLookup → Buffer → Buffer) (growth : StageLookup → ℕ) → LookupsKeep f → LookupsGrow growth f →
+    (list : List StageLookup) (old new : Buffer) (r : Result (Unit {0}) ShaperError) → old.positions ≡ [] →
+    OnOk r (new ≡ looked_up f list old) → OnOk r (length new.glyphs ≤ looked_up_bound growth list (length old.glyphs))
+all_long f growth keeps grows list old new (Ok x) none done =
+    subst (λ (c : Buffer). length c.glyphs ≤ looked_up_bound growth list (length old.glyphs)) (sym done)
+    (looked_long f growth keeps grows list old none).1
+all_long f growth keeps grows list old new (Err e) none done = tt
 
 -- ---- pauses
 

@@ -1,6 +1,5 @@
 -- What lookups keep of a text, and stages of them, each with a pause behind it.
-use Rattle.std.specs.Prelude.{ℕ, ◌≡◌, ◌<◌, ◌≤◌, ◌-◌, ◌*◌, ◌/◌, ◌%◌, ◌⊎◌, Bool, true, List, [], ◌∷◌, drop, fold, length, map, slice_index, take, IfSome}
-use Rattle.std.specs.Int.{bit_at}
+use Rattle.std.specs.Prelude.{ℕ, ◌≡◌, ◌≤◌, ◌-◌, ◌*◌, ◌⊎◌, Bool, true, List, [], ◌∷◌, drop, fold, length, map, take}
 use Rattle.shapers_buffer.specs.Buffer.{Buffer}
 use Rattle.shapers_buffer.specs.Clusters.{merges}
 use Rattle.shapers_buffer.specs.Glyph.{clusters, without_flags}
@@ -14,8 +13,6 @@ use Rattle.shapers_clusters.specs.Cuts.{IsMonotone}
 use Rattle.shapers_syllabic.specs.CircleLaws.{NoNewCluster}
 use Rattle.shapers_plan.specs.declared.ot_map.lookups.Stage.{Stage}
 use Rattle.shapers_plan.specs.declared.ot_map.lookups.StageLookup.{StageLookup}
-use Rattle.shapers_pipeline.specs.declared.lookups.PresentLookups.{PresentLookups}
-use Rattle.shapers_pipeline.specs.declared.lookups.Seen.{Seen}
 
 -- What a lookup of GSUB keeps of a text without positions: everything but its glyphs and the
 -- record of its lookups; each cluster is one that the text had, and at the levels that merge
@@ -54,22 +51,6 @@ text_noted noted b = record b {
 -- what these lookups make of a text, one after another
 abbrev pub looked_up : (StageLookup → Buffer → Buffer) → List StageLookup → Buffer → Buffer
 looked_up substituted list b = fold (λ text lookup. substituted lookup text) b list
-
--- the bit of one of the first 128 lookups
-abbrev pub present_bit : PresentLookups → ℕ → ℕ
-present_bit present index =
-    bit_at (slice_index (present.low ∷ present.high ∷ []) (index / 64)) (index % 64)
-
--- a lookup is one of these 128, and its bit isn't set
-abbrev pub IsAbsent : PresentLookups → ℕ → Type 0
-IsAbsent present index = (index < 128) × (present_bit present index ≡ 0)
-
--- what is known of the lookups that may change a text, if it is of the text as it is now: the
--- others leave it so
-pub record AreSeen (substituted : StageLookup → Buffer → Buffer) (seen : Seen) (b : Buffer) :
-    Type 0 where
-  pub same : seen.is_fresh ≡ true → IfSome seen.present (λ present. (lookup : StageLookup) →
-      IsAbsent present lookup.index → substituted lookup b ≡ b)
 
 -- whether a lookup may find a text too long, and whether it may be refused memory for the text
 pub record LookupRefusals : Type 0 where

@@ -20,7 +20,7 @@ mod substitution;
 
 pub use laws::pipeline_clusters_law;
 pub use lengths::{length_bound, pipeline_lengths_law};
-pub use lookups::{Lookups, PresentLookups};
+pub use lookups::Lookups;
 pub use plan::{StagePlan, TextPlan};
 pub use prepare::prepare_text;
 pub use settings::ShapeSettings;

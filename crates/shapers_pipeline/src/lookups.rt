@@ -1,8 +1,8 @@
 //! The lookups of a font, stage by stage, with what the shaper does behind each stage.
-ghost use Rattle.std.specs.Prelude.{ℕ, ◌≡◌, ◌≢◌, ◌≤◌, ◌*◌, [], length, true, Err, IfErr, IfSome, IsSomeAnd, OnErr, OnOk};
+ghost use Rattle.std.specs.Prelude.{ℕ, ◌≡◌, ◌≢◌, ◌≤◌, ◌*◌, [], length, Err, IfErr, OnErr, OnOk};
 ghost use Rattle.shapers_buffer.specs.declared.buffer.refusal.ShaperError.TheVariants.{TooLong};
 ghost use Rattle.shapers_pipeline.specs.Lengths.{looked_up_bound};
-ghost use Rattle.shapers_pipeline.specs.Lookups.{AreSeen, IsAbsent, MayRefuse, StoppedIn, looked_up, text_noted};
+ghost use Rattle.shapers_pipeline.specs.Lookups.{MayRefuse, StoppedIn, looked_up, text_noted};
 
 use shapers_base::buffer::{
     GlyphChange, GlyphProps, LigProps, LookupRecord, ShaperError, hb_buffer_t, hb_glyph_info_t,
@@ -10,36 +10,13 @@ use shapers_base::buffer::{
 use shapers_plan::ot_map::StageLookup;
 use shapers_position::ot_shape_position::GlyphClasses;
 
-/// The lookups of GSUB that may change a text: those from number 128 on, and those whose bit is set.
-#[derive(Clone, Copy, Debug)]
-pub struct PresentLookups {
-    /// The bits of lookups 0 to 63, the lowest bit first.
-    pub low: u64,
-    /// The bits of lookups 64 to 127.
-    pub high: u64,
-}
-
-// Whether a lookup is known to be none of these.
-#[inline]
-fn is_absent(present: Option<PresentLookups>, index: u16) -> bool
-    ensures { result ≡ true → IsSomeAnd present (λ it. IsAbsent it index) }
-{
-    match present {
-        Some(PresentLookups { low, high }) => {
-            let word = if index < 64 { low } else { high };
-            index < 128 && word >> (index % 64) & 1 == 0
-        }
-        None => false,
-    }
-}
-
 /// The lookups of a font's GSUB and GPOS. Each is a function of the text: the same text becomes the
 /// same.
 pub trait Lookups: GlyphClasses {
     ghost use Rattle.shapers_buffer.specs.Buffer.{Buffer};
     ghost use Rattle.shapers_buffer.specs.declared.buffer.glyph.hb_glyph_info_t.{hb_glyph_info_t};
     ghost use Rattle.shapers_buffer.specs.declared.buffer.glyph_props.GlyphProps.{GlyphProps};
-    ghost use Rattle.shapers_pipeline.specs.Lookups.{IsAbsent, LookupGrows, LookupKeeps, LookupRefusals, PositionKeeps};
+    ghost use Rattle.shapers_pipeline.specs.Lookups.{LookupGrows, LookupKeeps, LookupRefusals, PositionKeeps};
     ghost use Rattle.shapers_plan.specs.declared.ot_map.lookups.StageLookup.{StageLookup};
 
     /// What is kept of a glyph.
@@ -89,16 +66,34 @@ pub trait Lookups: GlyphClasses {
             IfErr result (λ e. MayRefuse may e) }
         ensures err { OnErr result (buffer.new ≡ buffer.old) };
 
-    /// The lookups of GSUB that may change a text, if it is known at once which others leave the text
-    /// as it is: shaping passes over these. It is asked for before the first lookup of a stage of
-    /// three or more, and anew behind lookups that were applied. By default nothing is known.
+    /// Applies lookups of GSUB, those of a stage, one after another. By default each is applied by
+    /// `substitute`. Write it where it can be known at once that some of the lookups leave the text
+    /// as it is, and pass over these.
+    ///
+    /// # Errors
+    ///
+    /// That of the first lookup that refuses; the text is what the lookups before that one made of
+    /// it. `TooLong` doesn't come where the buffer has room for the growth of all lookups.
     #[inline]
-    fn present_lookups(&self, buffer: &hb_buffer_t) -> Option<PresentLookups>
-        ensures { IfSome result (λ present. (lookup : StageLookup) → IsAbsent present lookup.index →
-            substituted self.now lookup buffer.now ≡ buffer.now) }
+    fn substitute_all(
+        &self,
+        list: &[StageLookup],
+        buffer: &mut hb_buffer_t,
+    ) -> Result<(), ShaperError>
+        requires { buffer.old.positions ≡ [] }
+        ensures ok { let f = substituted self.now in
+            OnOk result (buffer.new ≡ looked_up f list.now buffer.old) }
+        ensures room { let growth = growth_of self.now in
+            looked_up_bound growth list.now (length buffer.old.glyphs) ≤ buffer.old.max_len →
+            result ≢ Err TooLong }
+        ensures err { let f = substituted self.now in
+            let refusals = substituting_refuses self.now in
+            IfErr result (λ e. StoppedIn f refusals list.now buffer.old buffer.new e) }
     {
-        let _ = buffer;
-        None
+        for lookup in list {
+            self.substitute(lookup, buffer)?;
+        }
+        Ok(())
     }
 
     /// Applies a lookup of GPOS to a text of glyphs with positions. It writes these and glyph
@@ -113,6 +108,33 @@ pub trait Lookups: GlyphClasses {
         ensures refusal { let may = positioning_refuses self.now lookup.now buffer.old in
             IfErr result (λ e. MayRefuse may e) }
         ensures err { OnErr result (buffer.new ≡ buffer.old) };
+
+    /// Applies lookups of GPOS, one after another. By default each is applied by `position`. Write
+    /// it where it can be known at once that some of the lookups leave the text as it is, and pass
+    /// over these.
+    ///
+    /// # Errors
+    ///
+    /// That of the first lookup that refuses; the text is what the lookups before that one made of
+    /// it.
+    #[inline]
+    fn position_all(
+        &self,
+        list: &[StageLookup],
+        buffer: &mut hb_buffer_t,
+    ) -> Result<(), ShaperError>
+        requires { length buffer.old.positions ≡ length buffer.old.glyphs }
+        ensures ok { let f = positioned self.now in
+            OnOk result (buffer.new ≡ looked_up f list.now buffer.old) }
+        ensures err { let f = positioned self.now in
+            let refusals = positioning_refuses self.now in
+            IfErr result (λ e. StoppedIn f refusals list.now buffer.old buffer.new e) }
+    {
+        for lookup in list {
+            self.position(lookup, buffer)?;
+        }
+        Ok(())
+    }
 
     /// Moves the glyphs that lookups attached to others, behind the last lookup of GPOS. It writes
     /// what a lookup of GPOS writes.
@@ -162,81 +184,7 @@ impl<'a, L: Lookups> GlyphChange for Noting<'a, L> {
     }
 }
 
-// The lookups that may change a text, if they are known, and whether these are the ones of the text
-// as it is now.
-#[derive(Clone, Copy)]
-struct Seen {
-    present: Option<PresentLookups>,
-    is_fresh: bool,
-}
-
-// What is known before the first of these lookups. (A few are tried as soon as those that are present
-// are found.)
-#[inline]
-fn seen_before<L: Lookups>(lookups: &L, list: &[StageLookup], buffer: &hb_buffer_t) -> Seen
-    ensures { AreSeen (L.substituted lookups.now) result buffer.now }
-{
-    let present = if list.len() > 2 {
-        lookups.present_lookups(buffer)
-    } else {
-        None
-    };
-    Seen {
-        present,
-        is_fresh: true,
-    }
-}
-
-// Whether a lookup is known to leave a text as it is; what was known before another lookup is asked
-// anew, if it says so.
-#[inline]
-fn is_left<L: Lookups>(
-    lookups: &L,
-    lookup: &StageLookup,
-    seen: &mut Seen,
-    buffer: &hb_buffer_t,
-) -> bool
-    requires { AreSeen (L.substituted lookups.now) seen.old buffer.now }
-    ensures seen { AreSeen (L.substituted lookups.now) seen.new buffer.now }
-    ensures same { result ≡ true → L.substituted lookups.now lookup.now buffer.now ≡ buffer.now }
-{
-    if !is_absent(seen.present, lookup.index) {
-        return false;
-    }
-    if seen.is_fresh {
-        return true;
-    }
-    seen.present = lookups.present_lookups(buffer);
-    seen.is_fresh = true;
-    is_absent(seen.present, lookup.index)
-}
-
-// Applies a lookup, unless it is known to leave the text as it is.
-#[inline]
-fn apply_present<L: Lookups>(
-    lookups: &L,
-    lookup: &StageLookup,
-    seen: &mut Seen,
-    buffer: &mut hb_buffer_t,
-) -> Result<(), ShaperError>
-    requires positions { buffer.old.positions ≡ [] }
-    requires seen { AreSeen (L.substituted lookups.now) seen.old buffer.old }
-    ensures ok { OnOk result (buffer.new ≡ L.substituted lookups.now lookup.now buffer.old) }
-    ensures room { let times = L.growth_of lookups.now lookup.now in
-        length buffer.old.glyphs * times ≤ buffer.old.max_len → result ≢ Err TooLong }
-    ensures refusal { let may = L.substituting_refuses lookups.now lookup.now buffer.old in
-        IfErr result (λ e. MayRefuse may e) }
-    ensures err { OnErr result (buffer.new ≡ buffer.old) }
-    ensures seen { AreSeen (L.substituted lookups.now) seen.new buffer.new }
-{
-    if is_left(lookups, lookup, seen, buffer) {
-        return Ok(());
-    }
-    seen.is_fresh = false;
-    lookups.substitute(lookup, buffer)
-}
-
-// Applies lookups, one after another.
+// Applies the lookups of a stage, and tells how long the text gets.
 #[inline]
 pub(crate) fn apply_lookups<L: Lookups>(
     lookups: &L,
@@ -258,9 +206,5 @@ pub(crate) fn apply_lookups<L: Lookups>(
     ensures positions { OnOk result (buffer.new.positions ≡ []) }
     ensures limit { buffer.new.max_len ≡ buffer.old.max_len }
 {
-    let mut seen = seen_before(lookups, list, buffer);
-    for lookup in list {
-        apply_present(lookups, lookup, &mut seen, buffer)?;
-    }
-    Ok(())
+    lookups.substitute_all(list, buffer)
 }

@@ -131,29 +131,10 @@ fn apply_positioning_if<L: Lookups>(
     ensures paired { OnOk result (length buffer.new.positions ≡ length buffer.new.glyphs) }
 {
     if applies_gpos {
-        apply_positioning(lookups, list, buffer)
+        lookups.position_all(list, buffer)
     } else {
         Ok(())
     }
-}
-
-fn apply_positioning<L: Lookups>(
-    lookups: &L,
-    list: &[StageLookup],
-    buffer: &mut hb_buffer_t,
-) -> Result<(), ShaperError>
-    requires { length buffer.old.positions ≡ length buffer.old.glyphs }
-    ensures ok { let f = L.positioned lookups.now in
-        OnOk result (buffer.new ≡ looked_up f list.now buffer.old) }
-    ensures err { let f = L.positioned lookups.now in
-        let refusals = L.positioning_refuses lookups.now in
-        IfErr result (λ e. StoppedIn f refusals list.now buffer.old buffer.new e) }
-    ensures paired { OnOk result (length buffer.new.positions ≡ length buffer.new.glyphs) }
-{
-    for lookup in list {
-        lookups.position(lookup, buffer)?;
-    }
-    Ok(())
 }
 
 // Turns a text to the order that it is drawn in.

@@ -140,8 +140,8 @@
 //! ```
 
 pub use crate::generated::shapers_pipeline::{
-    Lookups, PresentLookups, ShapeSettings, Single, SingleLookups, StagePlan, TextPlan,
-    length_bound, prepare_text, run_stages, shape, substitute_text,
+    Lookups, ShapeSettings, Single, SingleLookups, StagePlan, TextPlan, length_bound, prepare_text,
+    run_stages, shape, substitute_text,
 };
 
 #[cfg(test)]

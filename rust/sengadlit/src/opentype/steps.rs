@@ -6,7 +6,7 @@ use super::scale::Scale;
 use crate::buffer::{Buffer, GlyphInfo, GlyphProps, ShaperError};
 use crate::font::GlyphId;
 use crate::generated::opentype_font::font::OpenTypeFont;
-use crate::ot_shape::{Lookups, PresentLookups};
+use crate::ot_shape::Lookups;
 use crate::ot_shape_plan::{EnginePlan, StageLookup};
 use crate::ot_shape_position::GlyphClasses;
 use core::cell::Cell;
@@ -55,11 +55,13 @@ impl Steps<'_> {
         !self.plan.lookups().is_empty()
     }
 
-    /// Puts the glyph for missing characters in place of glyph 0, where a lookup is the plan's first.
-    fn put_not_found_before(&self, lookup: &StageLookup, buffer: &mut Buffer) {
+    /// Puts the glyph for missing characters in place of glyph 0, where lookups are the plan's first.
+    fn put_not_found_before(&self, list: &[StageLookup], buffer: &mut Buffer) {
         let (lookups, positioning) = (self.plan.lookups(), self.plan.positioning());
-        let first = lookups.first().or(positioning.first());
-        if first.is_some_and(|first| ptr::eq(first, lookup)) {
+        let Some(first) = lookups.first().or(positioning.first()) else {
+            return;
+        };
+        if list.first().is_some_and(|next| ptr::eq(first, next)) {
             self.put_not_found(buffer);
         }
     }
@@ -99,29 +101,36 @@ impl Lookups for Steps<'_> {
     }
 
     fn substitute(&self, lookup: &StageLookup, buffer: &mut Buffer) -> Result<(), ShaperError> {
-        self.put_not_found_before(lookup, buffer);
         self.tell(ShapeStep::SubstitutionStarts(lookup.index), buffer);
         self.font.substitute(lookup, buffer)?;
         self.tell(ShapeStep::SubstitutionEnds(lookup.index), buffer);
         Ok(())
     }
 
-    // (all of them where somebody is told of each, and where glyph 0 is yet to be put out)
-    fn present_lookups(&self, buffer: &Buffer) -> Option<PresentLookups> {
-        let is_to_put =
-            self.not_found.is_some() && buffer.glyphs().iter().any(|glyph| glyph.glyph_id == 0);
-        if self.told.is_some() || is_to_put {
-            return None;
+    // (one by one where somebody is told of each)
+    fn substitute_all(&self, list: &[StageLookup], buffer: &mut Buffer) -> Result<(), ShaperError> {
+        self.put_not_found_before(list, buffer);
+        if self.told.is_none() {
+            return self.font.substitute_all(list, buffer);
         }
-        self.font.present_lookups(buffer)
+        list.iter()
+            .try_for_each(|lookup| self.substitute(lookup, buffer))
     }
 
     fn position(&self, lookup: &StageLookup, buffer: &mut Buffer) -> Result<(), ShaperError> {
-        self.put_not_found_before(lookup, buffer);
         self.tell(ShapeStep::PositioningStarts(lookup.index), buffer);
         self.font.position(lookup, buffer)?;
         self.tell(ShapeStep::PositioningEnds(lookup.index), buffer);
         Ok(())
+    }
+
+    fn position_all(&self, list: &[StageLookup], buffer: &mut Buffer) -> Result<(), ShaperError> {
+        self.put_not_found_before(list, buffer);
+        if self.told.is_none() {
+            return self.font.position_all(list, buffer);
+        }
+        list.iter()
+            .try_for_each(|lookup| self.position(lookup, buffer))
     }
 
     fn finish_positions(&self, buffer: &mut Buffer) {

@@ -1,58 +1,21 @@
--- One more lookup, and the room that it has.
-use Rattle.std.proofs.Common.{rules, ◌∙◌, ◌<◌, Err, ap, arith, length}
-use Rattle.std.specs.Prelude.{Result}
-use Rattle.shapers_buffer.specs.declared.buffer.refusal.ShaperError.{ShaperError}
-use Rattle.shapers_buffer.specs.declared.buffer.refusal.ShaperError.TheVariants.{TooLong}
-use Rattle.shapers_plan.specs.declared.ot_map.lookups.StageLookup.{StageLookup}
-use Rattle.shapers_pipeline.proofs.StageLengths.{lookup_fits, lookup_step, looked_next, looked_refused, looked_stopped, passed_on, told_error}
+-- What follows from what all the lookups make of a text.
+use Rattle.shapers_pipeline.proofs.StageLengths.{all_limit, all_long, all_unplaced}
 use Rattle.shapers_pipeline.proofs.lookups.apply_lookups.Goals as goal
 
-pub returns-in_err-apply_present-clause-room : goal.returns-in_err-apply_present-clause-room
-returns-in_err-apply_present-clause-room g c fits e =
-    let l = c.loop-lookup in
+pub returns-clause-length : goal.returns-clause-length
+returns-clause-length g c =
     let it = c.args.lookups.now in
-    let growth = g.L.Lookups.growth_of it in
-    let list = c.args.list.now in
-    let some : (lookup : StageLookup) → 0 < growth lookup =
-    λ x. omega (arith, (g.met.L.Lookups.substituting_grows it x l.buffer l.invariant.positions).one) in
-    let within : l.lookup-index < length list = omega (arith, c.loop-lookup-test.true) in
-    let x = c.in_err-apply_present.field-0.0 in
-    let room = c.in_err-apply_present.ensures.room
-    (lookup_fits growth some list l.lookup-index (length l.buffer.glyphs) l.buffer.max_len _ within
-    (omega (arith, l.invariant.few, l.invariant.limit, fits))) in
-    room (ap (λ (y : ShaperError). let r : Result (Unit {0}) ShaperError = Err y in r)
-    (passed_on c.from_residual.result x TooLong c.from_residual.ensures.1 e))
+    all_long (g.L.Lookups.substituted it) (g.L.Lookups.growth_of it) (g.met.L.Lookups.substituting_keeps it)
+    (g.met.L.Lookups.substituting_grows it) c.args.list.now _ _ _ c.requires c.substitute_all.ensures.ok
 
-pub returns-in_err-apply_present-clause-err : goal.returns-in_err-apply_present-clause-err
-returns-in_err-apply_present-clause-err g c =
-    let l = c.loop-lookup in
+pub returns-clause-positions : goal.returns-clause-positions
+returns-clause-positions g c =
     let it = c.args.lookups.now in
-    let list = c.args.list.now in
-    let x = c.in_err-apply_present.field-0.0 in
-    let new = c.apply_present.new.buffer in
-    let within : l.lookup-index < length list = omega (arith, c.loop-lookup-test.true) in
-    told_error c.from_residual.result x _ c.from_residual.ensures.1
-    (l.invariant.stopped new x (looked_refused (g.L.Lookups.substituted it) (g.L.Lookups.substituting_refuses it) list l.lookup-index _
-    l.buffer new x within c.in_err-apply_present.ensures.refusal c.in_err-apply_present.ensures.err))
+    all_unplaced (g.L.Lookups.substituted it) (g.L.Lookups.growth_of it) (g.met.L.Lookups.substituting_keeps it)
+    (g.met.L.Lookups.substituting_grows it) c.args.list.now _ _ _ c.requires c.substitute_all.ensures.ok
 
-pub loop-lookup-preserved : goal.loop-lookup-preserved
-loop-lookup-preserved g c =
-    let l = c.loop-lookup in
+pub returns-clause-limit : goal.returns-clause-limit
+returns-clause-limit g c =
     let it = c.args.lookups.now in
-    let f = g.L.Lookups.substituted it in
-    let list = c.args.list.now in
-    let i = l.lookup-index in
-    let new = c.apply_present.new.buffer in
-    let within : i < length list = omega (arith, c.loop-lookup-test.true) in
-    let step = lookup_step f (g.L.Lookups.growth_of it) (g.met.L.Lookups.substituting_keeps it)
-    (g.met.L.Lookups.substituting_grows it) list i _ _ l.buffer new within l.invariant.positions
-    c.in_ok-apply_present.ensures.ok l.invariant.few in
-    record {
-      positions = search rules;
-      seen = c.in_ok-apply_present.ensures.seen;
-      limit = step.0 ∙ l.invariant.limit;
-      few = step.1;
-      done = looked_next f list i _ l.buffer new within c.in_ok-apply_present.ensures.ok ∙ l.invariant.done;
-      stopped = λ end e rest. l.invariant.stopped end e
-          (looked_stopped f (g.L.Lookups.substituting_refuses it) list i _ l.buffer new end e within c.in_ok-apply_present.ensures.ok rest);
-    }
+    all_limit (g.L.Lookups.substituted it) (g.L.Lookups.substituting_refuses it) (g.met.L.Lookups.substituting_keeps it)
+    c.args.list.now _ _ _ c.requires c.substitute_all.ensures.ok c.substitute_all.ensures.err

@@ -8,27 +8,6 @@ use crate::generated::shapers_base::buffer::{
 use crate::generated::shapers_plan::ot_map::StageLookup;
 use crate::generated::shapers_position::ot_shape_position::GlyphClasses;
 
-/// The lookups of GSUB that may change a text: those from number 128 on, and those whose bit is set.
-#[derive(Clone, Copy, Debug)]
-pub struct PresentLookups {
-    /// The bits of lookups 0 to 63, the lowest bit first.
-    pub low: u64,
-    /// The bits of lookups 64 to 127.
-    pub high: u64,
-}
-
-// Whether a lookup is known to be none of these.
-#[inline]
-fn is_absent(present: Option<PresentLookups>, index: u16) -> bool {
-    match present {
-        Some(PresentLookups { low, high }) => {
-            let word = if index < 64 { low } else { high };
-            index < 128 && word >> (index % 64) & 1 == 0
-        }
-        None => false,
-    }
-}
-
 /// The lookups of a font's GSUB and GPOS. Each is a function of the text: the same text becomes the
 /// same.
 pub trait Lookups: GlyphClasses {
@@ -91,26 +70,43 @@ pub trait Lookups: GlyphClasses {
     /// [`TooLong`]: crate::ShaperError::TooLong
     fn substitute(&self, lookup: &StageLookup, buffer: &mut Buffer) -> Result<(), ShaperError>;
 
-    /// The lookups of GSUB that may change a text, if it is known at once which others leave the text
-    /// as it is: shaping passes over these. It is asked for before the first lookup of a stage of
-    /// three or more, and anew behind lookups that were applied. By default nothing is known.
+    /// Applies lookups of GSUB, those of a stage, one after another. By default each is applied by
+    /// `substitute`. Write it where it can be known at once that some of the lookups leave the text
+    /// as it is, and pass over these.
+    ///
+    /// # Errors
+    ///
+    /// That of the first lookup that refuses; the text is what the lookups before that one made of
+    /// it. [`TooLong`] doesn't come where the buffer has room for the growth of all lookups.
     ///
     /// <details><summary>Contract</summary>
     ///
     /// # Contract
     ///
     /// ```text
-    /// ensures { IfSome result (λ present. (lookup : StageLookup) → IsAbsent present lookup.index →
-    ///     substituted self.now lookup buffer.now ≡ buffer.now) }
+    /// requires { buffer.old.positions ≡ [] }
+    /// ensures ok { let f = substituted self.now in
+    ///     OnOk result (buffer.new ≡ looked_up f list.now buffer.old) }
+    /// ensures room { let growth = growth_of self.now in
+    ///     looked_up_bound growth list.now (length buffer.old.glyphs) ≤ buffer.old.max_len →
+    ///     result ≢ Err TooLong }
+    /// ensures err { let f = substituted self.now in
+    ///     let refusals = substituting_refuses self.now in
+    ///     IfErr result (λ e. StoppedIn f refusals list.now buffer.old buffer.new e) }
     /// ```
     ///
-    /// - `IsAbsent`: `crates/shapers_pipeline/specs/Lookups.antt`
+    /// - `looked_up_bound`: `crates/shapers_pipeline/specs/Lengths.antt`
+    /// - `StoppedIn`, `looked_up`: `crates/shapers_pipeline/specs/Lookups.antt`
     ///
     /// </details>
+    ///
+    /// [`TooLong`]: crate::ShaperError::TooLong
     #[inline]
-    fn present_lookups(&self, buffer: &Buffer) -> Option<PresentLookups> {
-        let _ = buffer;
-        None
+    fn substitute_all(&self, list: &[StageLookup], buffer: &mut Buffer) -> Result<(), ShaperError> {
+        for lookup in list {
+            self.substitute(lookup, buffer)?;
+        }
+        Ok(())
     }
 
     /// Applies a lookup of GPOS to a text of glyphs with positions. It writes these and glyph
@@ -139,6 +135,39 @@ pub trait Lookups: GlyphClasses {
     /// [`Memory`]: crate::ShaperError::Memory
     /// [`TooLong`]: crate::ShaperError::TooLong
     fn position(&self, lookup: &StageLookup, buffer: &mut Buffer) -> Result<(), ShaperError>;
+
+    /// Applies lookups of GPOS, one after another. By default each is applied by `position`. Write
+    /// it where it can be known at once that some of the lookups leave the text as it is, and pass
+    /// over these.
+    ///
+    /// # Errors
+    ///
+    /// That of the first lookup that refuses; the text is what the lookups before that one made of
+    /// it.
+    ///
+    /// <details><summary>Contract</summary>
+    ///
+    /// # Contract
+    ///
+    /// ```text
+    /// requires { length buffer.old.positions ≡ length buffer.old.glyphs }
+    /// ensures ok { let f = positioned self.now in
+    ///     OnOk result (buffer.new ≡ looked_up f list.now buffer.old) }
+    /// ensures err { let f = positioned self.now in
+    ///     let refusals = positioning_refuses self.now in
+    ///     IfErr result (λ e. StoppedIn f refusals list.now buffer.old buffer.new e) }
+    /// ```
+    ///
+    /// - `StoppedIn`, `looked_up`: `crates/shapers_pipeline/specs/Lookups.antt`
+    ///
+    /// </details>
+    #[inline]
+    fn position_all(&self, list: &[StageLookup], buffer: &mut Buffer) -> Result<(), ShaperError> {
+        for lookup in list {
+            self.position(lookup, buffer)?;
+        }
+        Ok(())
+    }
 
     /// Moves the glyphs that lookups attached to others, behind the last lookup of GPOS. It writes
     /// what a lookup of GPOS writes.
@@ -177,74 +206,12 @@ impl<'a, L: Lookups> GlyphChange for Noting<'a, L> {
     }
 }
 
-// The lookups that may change a text, if they are known, and whether these are the ones of the text
-// as it is now.
-#[derive(Clone, Copy)]
-struct Seen {
-    present: Option<PresentLookups>,
-    is_fresh: bool,
-}
-
-// What is known before the first of these lookups. (A few are tried as soon as those that are present
-// are found.)
-#[inline]
-fn seen_before<L: Lookups>(lookups: &L, list: &[StageLookup], buffer: &Buffer) -> Seen {
-    let present = if list.len() > 2 {
-        lookups.present_lookups(buffer)
-    } else {
-        None
-    };
-    Seen {
-        present,
-        is_fresh: true,
-    }
-}
-
-// Whether a lookup is known to leave a text as it is; what was known before another lookup is asked
-// anew, if it says so.
-#[inline]
-fn is_left<L: Lookups>(
-    lookups: &L,
-    lookup: &StageLookup,
-    seen: &mut Seen,
-    buffer: &Buffer,
-) -> bool {
-    if !is_absent(seen.present, lookup.index) {
-        return false;
-    }
-    if seen.is_fresh {
-        return true;
-    }
-    seen.present = lookups.present_lookups(buffer);
-    seen.is_fresh = true;
-    is_absent(seen.present, lookup.index)
-}
-
-// Applies a lookup, unless it is known to leave the text as it is.
-#[inline]
-fn apply_present<L: Lookups>(
-    lookups: &L,
-    lookup: &StageLookup,
-    seen: &mut Seen,
-    buffer: &mut Buffer,
-) -> Result<(), ShaperError> {
-    if is_left(lookups, lookup, seen, buffer) {
-        return Ok(());
-    }
-    seen.is_fresh = false;
-    lookups.substitute(lookup, buffer)
-}
-
-// Applies lookups, one after another.
+// Applies the lookups of a stage, and tells how long the text gets.
 #[inline]
 pub(crate) fn apply_lookups<L: Lookups>(
     lookups: &L,
     list: &[StageLookup],
     buffer: &mut Buffer,
 ) -> Result<(), ShaperError> {
-    let mut seen = seen_before(lookups, list, buffer);
-    for lookup in list {
-        apply_present(lookups, lookup, &mut seen, buffer)?;
-    }
-    Ok(())
+    lookups.substitute_all(list, buffer)
 }

@@ -18,7 +18,7 @@ mod singles;
 mod stages;
 mod substitution;
 pub use lengths::length_bound;
-pub use lookups::{Lookups, PresentLookups};
+pub use lookups::Lookups;
 pub use plan::{StagePlan, TextPlan};
 pub use prepare::prepare_text;
 pub use settings::ShapeSettings;

@@ -88,21 +88,10 @@ fn apply_positioning_if<L: Lookups>(
     buffer: &mut Buffer,
 ) -> Result<(), ShaperError> {
     if applies_gpos {
-        apply_positioning(lookups, list, buffer)
+        lookups.position_all(list, buffer)
     } else {
         Ok(())
     }
-}
-
-fn apply_positioning<L: Lookups>(
-    lookups: &L,
-    list: &[StageLookup],
-    buffer: &mut Buffer,
-) -> Result<(), ShaperError> {
-    for lookup in list {
-        lookups.position(lookup, buffer)?;
-    }
-    Ok(())
 }
 
 // Turns a text to the order that it is drawn in.
