@@ -3,7 +3,7 @@ ghost use Rattle.std.specs.Prelude.{◌≡◌};
 ghost use Rattle.opentype_font.specs.Lookups.{noted_by};
 
 use crate::font::OpenTypeFont;
-use crate::stages::{position_by, substitute_all, substitute_by};
+use crate::stages::{position_all, position_by, substitute_all, substitute_by};
 use opentype_gpos::finish::finish_positions;
 use opentype_gsub::growth::growth;
 use opentype_layout::face_tables::FaceTables;
@@ -93,6 +93,15 @@ impl<'a> Lookups for OpenTypeFont<'a> {
 
     fn position(&self, lookup: &StageLookup, buffer: &mut hb_buffer_t) -> Result<(), ShaperError> {
         position_by(&self.tables, lookup, buffer);
+        Ok(())
+    }
+
+    fn position_all(
+        &self,
+        list: &[StageLookup],
+        buffer: &mut hb_buffer_t,
+    ) -> Result<(), ShaperError> {
+        position_all(&self.tables, list, buffer);
         Ok(())
     }
 

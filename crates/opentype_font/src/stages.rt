@@ -1,6 +1,6 @@
 //! The lookups of a stage, one after another: those that can begin nowhere in the text are passed
 //! over.
-ghost use Rattle.std.specs.Prelude.{◌≡◌, [], false, length, true, IfErr, IfSome, IsOkUnless, IsSomeAnd, OnErr, OnOk};
+ghost use Rattle.std.specs.Prelude.{◌≡◌, [], length, true, IfErr, IfSome, IsOkUnless, IsSomeAnd, OnErr, OnOk};
 ghost use Rattle.shapers_buffer.specs.declared.buffer.refusal.ShaperError.TheVariants.{Memory};
 ghost use Rattle.shapers_pipeline.specs.Lookups.{StoppedIn, looked_up};
 ghost use Rattle.opentype_layout.specs.LookupRows.{AreAbsent};
@@ -73,18 +73,19 @@ pub(crate) fn position_by(tables: &FaceTables<'_>, lookup: &StageLookup, buffer:
     position(tables.face.gdef, tables.gpos(), lookup.index, &how, buffer);
 }
 
-// The lookups of GSUB that may begin in a text, if they are known, and if more than two are to be
-// applied. (Two are tried as soon as those that may begin are found.)
+// The lookups that may begin in a text, if they are known, and if more than two are to be applied.
+// (Two are tried as soon as those that may begin are found.)
 #[inline]
 fn present_among(
+    of_gpos: bool,
     table: &LayoutTable<'_>,
     list: &[StageLookup],
     buffer: &hb_buffer_t,
 ) -> Option<LookupBits>
-    ensures { IfSome result (λ bits. AreAbsent false table.now bits buffer.now.glyphs) }
+    ensures { IfSome result (λ bits. AreAbsent of_gpos table.now bits buffer.now.glyphs) }
 {
     if list.len() > 2 {
-        table.present(false, buffer.glyphs())
+        table.present(of_gpos, buffer.glyphs())
     } else {
         None
     }
@@ -173,7 +174,7 @@ pub(crate) fn substitute_all(
     ensures err { let f = substituted_by tables.now.face.gdef.now tables.now.face.gsub.now in
         IfErr result (λ e. StoppedIn f may_lack_memory list.now buffer.old buffer.new e) }
 {
-    let present = present_among(tables.gsub(), list, buffer);
+    let present = present_among(false, tables.gsub(), list, buffer);
     let mut seen = Seen {
         present,
         is_fresh: true,
@@ -182,4 +183,37 @@ pub(crate) fn substitute_all(
         substitute_seen(tables, lookup, &mut seen, buffer)?;
     }
     Ok(())
+}
+
+// Applies a lookup of GPOS, unless it can begin nowhere in the text.
+#[inline]
+fn position_present(
+    tables: &FaceTables<'_>,
+    lookup: &StageLookup,
+    present: Option<LookupBits>,
+    buffer: &mut hb_buffer_t,
+)
+    requires paired { length buffer.old.positions ≡ length buffer.old.glyphs }
+    requires absent { let gpos = tables.now.face.gpos.now in
+        IfSome present (λ bits. AreAbsent true gpos bits buffer.old.glyphs) }
+    ensures { let f = positioned_by tables.now.face.gdef.now tables.now.face.gpos.now in
+        buffer.new ≡ f lookup.now buffer.old }
+{
+    if is_absent(present, lookup.index) {
+        return;
+    }
+    position_by(tables, lookup, buffer);
+}
+
+/// Applies lookups of GPOS, one after another. (No lookup changes what glyphs there are, so those that
+/// may begin are found once.)
+pub(crate) fn position_all(tables: &FaceTables<'_>, list: &[StageLookup], buffer: &mut hb_buffer_t)
+    requires { length buffer.old.positions ≡ length buffer.old.glyphs }
+    ensures { let f = positioned_by tables.now.face.gdef.now tables.now.face.gpos.now in
+        buffer.new ≡ looked_up f list.now buffer.old }
+{
+    let present = present_among(true, tables.gpos(), list, buffer);
+    for lookup in list {
+        position_present(tables, lookup, present, buffer);
+    }
 }

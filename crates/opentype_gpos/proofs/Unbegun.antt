@@ -1,16 +1,18 @@
 -- A lookup does nothing where none of its subtables begins.
-use Rattle.std.proofs.Common.{◌≡◌, ℕ, zero, suc, ◌+◌, ◌-◌, ◌==◌, ◌<◌, ◌≤◌, ◌||◌, not, IfSome, unwrap_or, Bool, true, false, nat_lt, Option, None, Some, List, length, refl, sym, ap, subst, arith, if◌then◌else◌}
+use Rattle.std.proofs.Common.{◌≡◌, ◌∙◌, ℕ, zero, suc, ◌+◌, ◌-◌, ◌==◌, ◌<◌, ◌≤◌, ◌||◌, not, IfSome, unwrap_or, Bool, true, false, nat_lt, Option, None, Some, List, length, refl, sym, ap, subst, arith, if◌then◌else◌}
 use Rattle.std.specs.Option.{is_some, option_map}
 use Rattle.std.proofs.lemmas.Bool.Decides.{nat_tests}
 use Rattle.std.proofs.lemmas.Grind.{common_steps}
+use Rattle.shapers_buffer.specs.Buffer.{Buffer}
 use Rattle.shapers_buffer.specs.Glyphs.{Glyphs}
 use Rattle.opentype_face.specs.Bytes.{u16_in, part_in}
 use Rattle.opentype_face.specs.Firsts.{first_from}
 use Rattle.opentype_face.specs.Glyphs.{coverage_in}
-use Rattle.opentype_face.specs.Lookups.{subtable_in, type_in}
+use Rattle.opentype_face.specs.Lookups.{lookup_in, subtable_in, type_in}
 use Rattle.opentype_face.proofs.Foremost.{IsFirst, first_found, first_missed, first_out, first_start}
 use Rattle.opentype_layout.specs.Rules.{first_at}
 use Rattle.opentype_layout.specs.Starts.{NoneStarts, starting, starts_at}
+use Rattle.opentype_layout.specs.declared.sight.Application.{Application}
 use Rattle.opentype_layout.specs.declared.sight.Sight.{Sight}
 use Rattle.opentype_layout.proofs.NoneFits.{no_rule, none_if, none_mapped, none_of, none_then}
 use Rattle.opentype_layout.proofs.Skipped.{over}
@@ -18,10 +20,10 @@ use Rattle.opentype_gpos.specs.Anchors.{joint_in}
 use Rattle.opentype_gpos.specs.Coming.{Setting, came, came_in, nth_came, sights_in}
 use Rattle.opentype_gpos.specs.Moved.{Positions, Progress}
 use Rattle.opentype_gpos.specs.Moves.{base_move, covered_by, cursive_move, ligature_move, mark_move, number_at, one_move, pair_move, single_move}
-use Rattle.opentype_gpos.specs.Walked.{passed, position_stepped, stepped_by}
+use Rattle.opentype_gpos.specs.Walked.{passed, position_stepped, positioned, setting_for, stepped_by}
 use Rattle.opentype_gpos.specs.declared.coming.Came.{Came}
 use Rattle.opentype_gpos.specs.declared.pass.Sights.{Sights}
-use Rattle.opentype_gpos.proofs.Walks.{IsWalked, walked_next, walked_start}
+use Rattle.opentype_gpos.proofs.Walks.{IsWalked, glyphs_out, positions_out, walked_next, walked_start}
 
 is_none : {X : Type 0} (o : Option X) → is_some o ≡ false → o ≡ None
 is_none None e = refl
@@ -199,3 +201,17 @@ pub unstarted_step : (s : Setting) (sights : Sights) (lookup : List ℕ) (gs : G
     position_stepped s sights lookup gs ps at ≡ record { glyphs = gs; positions = ps; next = at + 1 }
 unstarted_step s sights lookup gs ps at glyph None missed is none e t = step_passed s sights lookup gs ps at glyph is none
 unstarted_step s sights lookup gs ps at glyph (Some i) missed is none e t = absurd (cc)
+
+-- ---- and a text that it begins nowhere in
+
+pub positioned_nowhere : (gdef gpos : List ℕ) (index : ℕ) (how : Application) (b : Buffer) → length b.positions ≡ length b.glyphs →
+    ((i : ℕ) → i < length b.glyphs →
+    NoneStarts true (lookup_in gpos index) (number_at b.glyphs i) 0 (u16_in (lookup_in gpos index) 4)) →
+    positioned gdef gpos index how b ≡ b
+unfolding positioned
+positioned_nowhere gdef gpos index how b paired none =
+    let walk = walked_first (setting_for gdef gpos how b) (lookup_in gpos index) b.glyphs b.positions (length b.glyphs) paired
+    (omega arith) none in
+    let put : Glyphs → Positions → Buffer = λ gs ps. (let r : Buffer = record b { glyphs = gs; positions = ps } in r) in
+    sym (ap (λ gs. put gs b.positions) (glyphs_out _ _ _ _ _ _ _ _ walk (omega arith))
+    ∙ ap (put _) (positions_out _ _ _ _ _ _ _ _ walk (omega arith)))

@@ -1,6 +1,6 @@
 -- How long stages make a text, and what comes behind them.
 use Rattle.std.proofs.Common.{◌≡◌, ◌∙◌, ℕ, ◌+◌, ◌*◌, ◌<◌, ◌≤◌, ◌≢◌, Bool, true, false, List, [], ◌∷◌, drop, get_or, inl, inr, length, map, refl, sym, ap, subst, arith}
-use Rattle.std.specs.Prelude.{IfErr, IsOk, OnOk, Option, None, Some, Result, Ok, Err, if◌then◌else◌, option_map}
+use Rattle.std.specs.Prelude.{IfErr, IsOk, OnOk, Option, None, Some, Result, Ok, Err, option_map}
 use Rattle.std.specs.Option.{option_map_or}
 use Rattle.std.specs.Result.{IsErrAnd}
 use Rattle.std.proofs.Math.Nat.{le-mul_of_pos_right, le_refl, le_trans, mul-le-mul_right}

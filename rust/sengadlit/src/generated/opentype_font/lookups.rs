@@ -3,7 +3,9 @@
 //! The lookups of a font file.
 
 use crate::generated::opentype_font::font::OpenTypeFont;
-use crate::generated::opentype_font::stages::{position_by, substitute_all, substitute_by};
+use crate::generated::opentype_font::stages::{
+    position_all, position_by, substitute_all, substitute_by,
+};
 use crate::generated::opentype_gpos::finish::finish_positions;
 use crate::generated::opentype_gsub::growth::growth;
 use crate::generated::opentype_layout::face_tables::FaceTables;
@@ -57,6 +59,11 @@ impl<'a> Lookups for OpenTypeFont<'a> {
 
     fn position(&self, lookup: &StageLookup, buffer: &mut Buffer) -> Result<(), ShaperError> {
         position_by(&self.tables, lookup, buffer);
+        Ok(())
+    }
+
+    fn position_all(&self, list: &[StageLookup], buffer: &mut Buffer) -> Result<(), ShaperError> {
+        position_all(&self.tables, list, buffer);
         Ok(())
     }
 

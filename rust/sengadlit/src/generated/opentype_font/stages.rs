@@ -55,16 +55,17 @@ pub(crate) fn position_by(tables: &FaceTables<'_>, lookup: &StageLookup, buffer:
     position(tables.face.gdef, tables.gpos(), lookup.index, &how, buffer);
 }
 
-// The lookups of GSUB that may begin in a text, if they are known, and if more than two are to be
-// applied. (Two are tried as soon as those that may begin are found.)
+// The lookups that may begin in a text, if they are known, and if more than two are to be applied.
+// (Two are tried as soon as those that may begin are found.)
 #[inline]
 fn present_among(
+    of_gpos: bool,
     table: &LayoutTable<'_>,
     list: &[StageLookup],
     buffer: &Buffer,
 ) -> Option<LookupBits> {
     if list.len() > 2 {
-        table.present(false, buffer.glyphs())
+        table.present(of_gpos, buffer.glyphs())
     } else {
         None
     }
@@ -131,7 +132,7 @@ pub(crate) fn substitute_all(
     list: &[StageLookup],
     buffer: &mut Buffer,
 ) -> Result<(), ShaperError> {
-    let present = present_among(tables.gsub(), list, buffer);
+    let present = present_among(false, tables.gsub(), list, buffer);
     let mut seen = Seen {
         present,
         is_fresh: true,
@@ -140,4 +141,27 @@ pub(crate) fn substitute_all(
         substitute_seen(tables, lookup, &mut seen, buffer)?;
     }
     Ok(())
+}
+
+// Applies a lookup of GPOS, unless it can begin nowhere in the text.
+#[inline]
+fn position_present(
+    tables: &FaceTables<'_>,
+    lookup: &StageLookup,
+    present: Option<LookupBits>,
+    buffer: &mut Buffer,
+) {
+    if is_absent(present, lookup.index) {
+        return;
+    }
+    position_by(tables, lookup, buffer);
+}
+
+/// Applies lookups of GPOS, one after another. (No lookup changes what glyphs there are, so those that
+/// may begin are found once.)
+pub(crate) fn position_all(tables: &FaceTables<'_>, list: &[StageLookup], buffer: &mut Buffer) {
+    let present = present_among(true, tables.gpos(), list, buffer);
+    for lookup in list {
+        position_present(tables, lookup, present, buffer);
+    }
 }
