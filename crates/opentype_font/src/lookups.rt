@@ -83,6 +83,7 @@ impl<'a> Lookups for OpenTypeFont<'a> {
         substitute_by(&self.tables, lookup, buffer)
     }
 
+    #[inline]
     fn substitute_all(
         &self,
         list: &[StageLookup],

@@ -162,6 +162,7 @@ fn substitute_seen(
 }
 
 /// Applies lookups of GSUB, one after another.
+#[inline]
 pub(crate) fn substitute_all(
     tables: &FaceTables<'_>,
     list: &[StageLookup],

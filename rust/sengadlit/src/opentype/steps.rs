@@ -107,7 +107,8 @@ impl Lookups for Steps<'_> {
         Ok(())
     }
 
-    // (one by one where somebody is told of each)
+    // (one by one where somebody is told of each; in line, since a plan may have many short stages)
+    #[inline]
     fn substitute_all(&self, list: &[StageLookup], buffer: &mut Buffer) -> Result<(), ShaperError> {
         self.put_not_found_before(list, buffer);
         if self.told.is_none() {

@@ -53,6 +53,7 @@ impl<'a> Lookups for OpenTypeFont<'a> {
         substitute_by(&self.tables, lookup, buffer)
     }
 
+    #[inline]
     fn substitute_all(&self, list: &[StageLookup], buffer: &mut Buffer) -> Result<(), ShaperError> {
         substitute_all(&self.tables, list, buffer)
     }
