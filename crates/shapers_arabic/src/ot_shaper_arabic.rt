@@ -95,6 +95,7 @@ fn arabic_requests(is_arabic: bool, has_rclt: bool) -> ArrayVec<Request, 26>
         requests.push(Request::Pause(Some(Pause::ArabicFallbackShape)));
     }
     requests.push(Request::Feature(hb_tag_t(*b"calt"), GLOBAL_ZWJ, 1));
+    // (KFGQPC's fonts want the pause, and those with `rclt` none: HarfBuzz's issues 505 and 1573)
     if !has_rclt {
         requests.push(Request::Pause(None));
     }

@@ -108,7 +108,7 @@ pub fn decompose<T: Tables>(tables: &T, ab: char) -> Option<(char, char)>
     ensures { result ≡ decomposed_in_indic (T.tables tables.now) ab }
 {
     match ab {
-        // Devanagari RRA, Bengali RRA and RHA, Tamil AU.
+        // Devanagari RRA, Bengali RRA and RHA (HarfBuzz's issue 779), Tamil AU.
         '\u{0931}' | '\u{09DC}' | '\u{09DD}' | '\u{0B94}' => None,
         _ => tables.decompose(ab),
     }

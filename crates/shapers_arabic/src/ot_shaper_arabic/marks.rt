@@ -257,7 +257,8 @@ fn bring_forward(marks: &mut [hb_glyph_info_t], parts: Parts)
     bring_last(&mut marks[first..last], parts.modifiers_above, CCC26);
 }
 
-// Brings the last `count` marks before the others, and gives them a class.
+// Brings the last `count` marks before the others, and gives them a class below all others of Arabic:
+// normalization relies on classes that rise along the marks (HarfBuzz's issue 554).
 #[inline]
 fn bring_last(marks: &mut [hb_glyph_info_t], count: usize, class: u8)
     requires { count ≤ length marks.old }

@@ -105,7 +105,7 @@ pub(super) fn merges_all(is_old_spec: bool, len: usize) -> bool
 
 /// What merges once the glyphs from `start` to `end` are in their new order: in the older
 /// specification, and in a syllable of more than 127 glyphs, all from the base on, else each cycle
-/// of the order. `base` counts from `start`. It takes no memory.
+/// of the order. `base` counts from `start`. It takes no memory. (HarfBuzz's issue 2272.)
 #[inline]
 pub(super) fn merge_ordered(
     is_old_spec: bool,

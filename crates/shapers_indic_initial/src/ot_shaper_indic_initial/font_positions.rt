@@ -61,7 +61,8 @@ struct ByVirama<'a, F: hb_font_t> {
 }
 
 impl<'a, F: hb_font_t> ByVirama<'a, F> {
-    // The position of a consonant. Below-base forms of Ra may be in `vatu` alone.
+    // The position of a consonant. Below-base forms of Ra may be in `vatu` alone (HarfBuzz's issue
+    // 1587).
     #[inline]
     fn consonant_position_from_face(&self, consonant: GlyphId) -> Position
         ensures { let r = self.now.rules.now in

@@ -18,7 +18,8 @@ const KANNADA: Option<Script> = Some(Script(*b"Knda"));
 /// Fonts of the older specification have their lookups for a consonant with its H behind it, where
 /// text has H first. Uniscribe moves H also where the syllable ends in another one, in Malayalam
 /// (0D38 0D4D 0D31 0D4D 0D31 0D4D), Bengali (0998 09CD 09AF 09CD) and Devanagari
-/// (091F 094D 0930 094D); in Kannada (0C9A 0CCD 0C9A 0CCD) it then leaves it.
+/// (091F 094D 0930 094D); in Kannada (0C9A 0CCD 0C9A 0CCD) it then leaves it. (HarfBuzz's issues 1071
+/// and 1073.)
 #[inline]
 pub(super) fn halant_move(
     script: Option<Script>,
@@ -82,7 +83,8 @@ fn is_passed_by_halant(script: Option<Script>, glyph: &hb_glyph_info_t) -> bool
 /// Whether Kannada's opening Ra, H, ZWJ stands for Ra, ZWJ, H.
 ///
 /// Either requests a whole Ra with what follows below it (0CB0 200D 0CCD 0C95); older texts have the
-/// ZWJ last (0CB0 0CCD 200D 0C95), where in other scripts it requests a half form.
+/// ZWJ last (0CB0 0CCD 200D 0C95), where in other scripts it requests a half form. (HarfBuzz's issue
+/// 435.)
 #[inline]
 pub(super) fn joiner_comes_first(script: Option<Script>, glyphs: &[hb_glyph_info_t]) -> bool
     ensures { result ≡ joiner_comes_first script glyphs.now }

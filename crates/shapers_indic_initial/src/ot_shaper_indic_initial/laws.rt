@@ -26,12 +26,12 @@ pub fn order_merges()
     ensures { OrderMergesLaw }
 {}
 
-/// The same of each syllable in its text, by its order view and clusters.
+/// What the order merges of each syllable in its text, by its order view and clusters.
 pub fn initial_clusters()
     ensures { InitialClustersLaw }
 {}
 
-/// The same of each syllable after the pause.
+/// What the order merges of each syllable after the pause.
 pub fn initial_text_merges()
     ensures { InitialTextMerges }
 {}

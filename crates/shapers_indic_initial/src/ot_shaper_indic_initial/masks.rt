@@ -263,7 +263,7 @@ fn has_non_joiner(glyphs: &[hb_glyph_info_t]) -> bool
     glyphs.iter().any(is_non_joiner)
 }
 
-// The same, glyph by glyph, from the last one on.
+// Takes the bits of half forms from the glyphs before each ZWNJ, from the last glyph on.
 #[inline]
 fn clear_half_each(bits: u32, glyphs: &mut [hb_glyph_info_t])
     ensures { glyphs.new ≡ without_half bits glyphs.old }

@@ -150,7 +150,7 @@ pub fn compose<T: Tables>(tables: &T, a: char, b: char) -> Option<char> {
 #[inline]
 pub fn decompose<T: Tables>(tables: &T, ab: char) -> Option<(char, char)> {
     match ab {
-        // Devanagari RRA, Bengali RRA and RHA, Tamil AU.
+        // Devanagari RRA, Bengali RRA and RHA (HarfBuzz's issue 779), Tamil AU.
         '\u{0931}' | '\u{09DC}' | '\u{09DD}' | '\u{0B94}' => None,
         _ => tables.decompose(ab),
     }

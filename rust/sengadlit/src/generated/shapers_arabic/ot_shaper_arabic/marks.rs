@@ -232,7 +232,8 @@ fn bring_forward(marks: &mut [GlyphInfo], parts: Parts) {
     bring_last(&mut marks[first..last], parts.modifiers_above, CCC26);
 }
 
-// Brings the last `count` marks before the others, and gives them a class.
+// Brings the last `count` marks before the others, and gives them a class below all others of Arabic:
+// normalization relies on classes that rise along the marks (HarfBuzz's issue 554).
 #[inline]
 fn bring_last(marks: &mut [GlyphInfo], count: usize, class: u8) {
     if count == 0 {

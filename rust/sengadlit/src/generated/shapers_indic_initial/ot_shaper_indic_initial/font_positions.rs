@@ -50,7 +50,8 @@ struct ByVirama<'a, F: Font> {
 }
 
 impl<'a, F: Font> ByVirama<'a, F> {
-    // The position of a consonant. Below-base forms of Ra may be in `vatu` alone.
+    // The position of a consonant. Below-base forms of Ra may be in `vatu` alone (HarfBuzz's issue
+    // 1587).
     #[inline]
     fn consonant_position_from_face(&self, consonant: GlyphId) -> Position {
         let plan = self.rules.plan;

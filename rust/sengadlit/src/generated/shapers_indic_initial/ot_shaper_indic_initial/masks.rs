@@ -188,7 +188,7 @@ fn has_non_joiner(glyphs: &[GlyphInfo]) -> bool {
     glyphs.iter().any(is_non_joiner)
 }
 
-// The same, glyph by glyph, from the last one on.
+// Takes the bits of half forms from the glyphs before each ZWNJ, from the last glyph on.
 #[inline]
 fn clear_half_each(bits: u32, glyphs: &mut [GlyphInfo]) {
     let mut loses = false;

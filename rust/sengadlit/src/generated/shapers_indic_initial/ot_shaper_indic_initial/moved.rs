@@ -43,8 +43,8 @@ impl MovedSyllable {
         }
     }
 
-    // The same where one of them moves something. It takes a copy, so that the syllable needs no
-    // place in memory where it is known.
+    // Writes the moves as `write_then`, where one of the first two moves something. It takes a copy, so
+    // that the syllable needs no place in memory where it is known.
     #[cold]
     #[inline(never)]
     fn write_moved(self, buffer: &mut Buffer, third: Placement) {
