@@ -63,7 +63,7 @@ pub(super) fn measure<F: hb_font_t>(
 // The sum of so many numbers of 32 bits fits 64.
 const SHORT: usize = 0x7FFF_FFFF;
 
-// The same of few tiles behind a short word.
+// What few tiles and a short word before them measure, whose sums always fit.
 #[inline]
 fn measure_short<F: hb_font_t>(face: &F, word: &[GlyphPosition], tiles: &[hb_glyph_info_t]) -> Run
     requires word { length word.now < 2 ^ 31 }

@@ -6,7 +6,7 @@ ghost use Rattle.shapers_arabic.specs.PlanData.{IsArabic};
 ghost use Rattle.shapers_stretch.specs.Recorded.{recorded, tile_action, tiles_recorded, with_tiles};
 
 use shapers_arabic::ot_shaper_arabic::arabic_action_t::{STRETCHING_FIXED, STRETCHING_REPEATING};
-use shapers_base::buffer::{GlyphWalk, hb_buffer_t, hb_glyph_info_t};
+use shapers_base::buffer::{hb_buffer_t, hb_glyph_info_t};
 use shapers_base::plan::{PlanData, hb_ot_shape_plan_t};
 
 /// Where the font stretches marks, gives each multiplied glyph the action of its tile, which
@@ -27,38 +27,13 @@ pub fn record_stch(plan: &hb_ot_shape_plan_t, buffer: &mut hb_buffer_t)
     }
 }
 
-// The same where the font stretches marks.
+// Gives each multiplied glyph the action of its tile, and marks the buffer if there is one.
 #[inline]
 fn record_tiles(buffer: &mut hb_buffer_t)
     ensures { buffer.new ≡ with_tiles buffer.old }
 {
-    let mut recorder = TileRecorder { has_stch: false };
-    buffer.walk(&mut recorder);
-    if recorder.has_stch {
+    if buffer.with_glyphs_mut(record_stch_in) {
         buffer.set_has_stch(true);
-    }
-}
-
-// Whether there was a tile.
-#[derive(Drop)]
-struct TileRecorder {
-    has_stch: bool,
-}
-
-impl GlyphWalk for TileRecorder {
-    ghost use Rattle.std.specs.Prelude.{◌≡◌, ⊤, map};
-    ghost use Rattle.std.specs.List.{list_any};
-    ghost use Rattle.shapers_buffer.specs.Properties.{is_multiplied};
-    ghost use Rattle.shapers_stretch.specs.Recorded.{recorded};
-
-    ghost can_walk = { λ _ _. ⊤ };
-
-    ghost walks = { λ v w gs hs. (hs ≡ map recorded gs) × (w.has_stch ≡ list_any
-        (λ g. is_multiplied g.glyph_props) gs) };
-
-    #[inline]
-    fn walk(&mut self, glyphs: &mut [hb_glyph_info_t]) {
-        self.has_stch = record_stch_in(glyphs);
     }
 }
 

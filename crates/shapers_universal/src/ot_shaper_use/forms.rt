@@ -7,7 +7,7 @@ ghost use Rattle.shapers_clusters.specs.FlagLaw.{OnlyFlagsAdded};
 ghost use Rattle.shapers_universal.specs.UniversalSyllables.{all_forms, form_mask, form_masks, formed, forms_flagged, in_forms, is_torn, joins_runs, mask_between, torn_pair, torn_pairs, with_form_masks, with_instead};
 
 use shapers_base::buffer::{
-    GlyphWalk, first_syllable_len, hb_buffer_t, hb_glyph_info_t, hb_tag_t, unsafe_to_break_in,
+    first_syllable_len, hb_buffer_t, hb_glyph_info_t, hb_tag_t, unsafe_to_break_in,
 };
 use shapers_base::map::hb_ot_map_t;
 use shapers_base::plan::BreakFlags;
@@ -30,9 +30,9 @@ pub(super) fn set_forms(map: &hb_ot_map_t, buffer: &mut hb_buffer_t)
         buffer.new ≡ record buffer.old { glyphs = with_form_masks masks buffer.old.glyphs } }
     ensures flags { OnlyFlagsAdded buffer.old.glyphs buffer.new.glyphs }
 {
-    let mut masks = FormMasks::of(map);
+    let masks = FormMasks::of(map);
     if masks.all() != 0 {
-        buffer.walk(&mut masks);
+        buffer.with_glyphs_mut(|glyphs| masks.set_in(glyphs));
     }
 }
 
@@ -45,9 +45,10 @@ pub(super) fn flag_forms(breaks: BreakFlags, map: &hb_ot_map_t, buffer: &mut hb_
 {
     match breaks {
         BreakFlags::AsCode => {}
-        BreakFlags::Sound => buffer.walk(&mut TornPairs {
-            masks: FormMasks::of(map),
-        }),
+        BreakFlags::Sound => {
+            let masks = FormMasks::of(map);
+            buffer.with_glyphs_mut(|glyphs| masks.flag_pairs(glyphs));
+        }
     }
 }
 
@@ -185,44 +186,6 @@ impl FormMasks {
         if joins_runs(syllable) {
             replace_forms(syllable, self.all(), self.between(before, behind));
         }
-    }
-}
-
-impl GlyphWalk for FormMasks {
-    ghost use Rattle.std.specs.Prelude.{◌≡◌, ⊤, false};
-    ghost use Rattle.shapers_buffer.specs.Syllables.{syllables};
-    ghost use Rattle.shapers_universal.specs.UniversalSyllables.{in_forms};
-
-    ghost can_walk = { λ _ _. ⊤ };
-
-    ghost walks = { λ masks _ old new. new ≡ in_forms masks false (syllables old) };
-
-    #[inline]
-    fn walk(&mut self, glyphs: &mut [hb_glyph_info_t]) {
-        self.set_in(glyphs);
-    }
-}
-
-// The walk that flags pairs by the masks of forms.
-#[derive(Clone, Copy)]
-struct TornPairs {
-    masks: FormMasks,
-}
-
-impl GlyphWalk for TornPairs {
-    ghost use Rattle.std.specs.Prelude.{◌≡◌, ⊤, false};
-    ghost use Rattle.shapers_buffer.specs.GlyphFlags.{unsafe_all};
-    ghost use Rattle.shapers_buffer.specs.Syllables.{syllables};
-    ghost use Rattle.shapers_universal.specs.UniversalSyllables.{torn_pairs};
-
-    ghost can_walk = { λ _ _. ⊤ };
-
-    ghost walks = { λ walk _ old new.
-        new ≡ unsafe_all (torn_pairs walk.masks false 0 (syllables old)) old };
-
-    #[inline]
-    fn walk(&mut self, glyphs: &mut [hb_glyph_info_t]) {
-        self.masks.flag_pairs(glyphs);
     }
 }
 

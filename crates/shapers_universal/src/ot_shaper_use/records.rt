@@ -9,7 +9,7 @@ ghost use Rattle.shapers_universal.specs.UniversalSyllables.{first_recorded, rph
 ghost use Rattle.shapers_buffer.specs.Glyphs.{Glyphs};
 
 use super::category;
-use super::syllable_walk::{EachFront, FrontChange, change_fronts};
+use super::syllable_walk::{FrontChange, change_fronts};
 use shapers_base::buffer::{hb_buffer_t, hb_glyph_info_t};
 use shapers_base::plan::{PlanData, hb_ot_shape_plan_t};
 
@@ -26,10 +26,8 @@ pub fn record_rphf(plan: &hb_ot_shape_plan_t, buffer: &mut hb_buffer_t)
             if universal_plan.rphf_mask == 0 {
                 return;
             }
-            let record = RecordRphf {
-                mask: universal_plan.rphf_mask,
-            };
-            buffer.walk(&mut EachFront { change: &record });
+            let mask = universal_plan.rphf_mask;
+            buffer.with_glyphs_mut(|glyphs| record_rphf_in(mask, glyphs));
         }
         _ => unreachable!("the plan has no data of the universal shaper"),
     }
@@ -41,9 +39,7 @@ pub fn record_rphf(plan: &hb_ot_shape_plan_t, buffer: &mut hb_buffer_t)
 pub fn record_pref(buffer: &mut hb_buffer_t)
     ensures { buffer.new ≡ with_pref_recorded buffer.old }
 {
-    buffer.walk(&mut EachFront {
-        change: &RecordPref,
-    });
+    buffer.with_glyphs_mut(record_pref_in);
 }
 
 /// `record_rphf` for the syllables of a slice, where `mask` is that of `rphf`.

@@ -1,6 +1,7 @@
 //! Cutting a text into the syllables of the universal shaper.
 ghost use Rattle.std.specs.Prelude.{◌≡◌, ◌≤◌, All, OnErr, OnOk, length, map, true};
 ghost use Rattle.std.specs.List.{flat_map};
+ghost use Rattle.shapers_buffer.specs.Clusters.{with_stretch};
 ghost use Rattle.shapers_buffer.specs.Glyph.{clusters};
 ghost use Rattle.shapers_buffer.specs.GlyphFlags.{with_bits};
 ghost use Rattle.shapers_buffer.specs.Refusals.{RefusesInput};
@@ -12,8 +13,7 @@ ghost use Rattle.shapers_universal.specs.UniversalSyllables.{rphf_len, set_up_by
 
 use super::category;
 use super::forms::{flag_forms, set_forms};
-use super::syllable_walk::{EachSyllable, SyllableChange};
-use shapers_base::buffer::{ShaperError, Span, hb_buffer_t, hb_glyph_info_t};
+use shapers_base::buffer::{ShaperError, Span, first_syllable_len, hb_buffer_t, hb_glyph_info_t};
 use shapers_base::plan::{PlanData, hb_ot_shape_plan_t};
 use shapers_syllabic::ot_shaper_syllabic::use_syllable::BROKEN_CLUSTER;
 use shapers_syllabic::ot_shaper_syllabic::{set_up_by_bytes, set_up_syllables};
@@ -101,27 +101,39 @@ fn set_rphf(mask: u32, buffer: &mut hb_buffer_t)
     if mask == 0 {
         return;
     }
-    buffer.walk(&mut EachSyllable {
-        change: &RphfMask { mask },
-    });
+    buffer.with_glyphs_mut(|glyphs| set_rphf_in(mask, glyphs));
 }
 
-// The mask of `rphf`.
-#[derive(Clone, Copy)]
-struct RphfMask {
-    mask: u32,
-}
-
-impl SyllableChange for RphfMask {
-    ghost use Rattle.shapers_universal.specs.UniversalSyllables.{with_rphf};
-
-    ghost changed = { λ change glyphs. with_rphf change.mask glyphs };
-
-    #[inline]
-    fn change(&self, syllable: &mut [hb_glyph_info_t]) {
-        let len = reph_len(syllable);
-        add_mask(&mut syllable[..len], self.mask);
+// Gives each syllable of these glyphs the mask of `rphf`.
+#[inline]
+fn set_rphf_in(mask: u32, glyphs: &mut [hb_glyph_info_t])
+    ensures { glyphs.new ≡ flat_map (with_rphf mask) (syllables glyphs.old) }
+{
+    let mut start = 0;
+    while start < glyphs.len() {
+        let end = start + first_syllable_len(&glyphs[start..]);
+        set_rphf_at(mask, glyphs, start, end);
+        start = end;
     }
+}
+
+// Gives the syllable from `start` to `end` the mask of `rphf`.
+#[inline]
+fn set_rphf_at(mask: u32, glyphs: &mut [hb_glyph_info_t], start: usize, end: usize)
+    requires in_order { start ≤ end }
+    requires in_range { end ≤ length glyphs.old }
+    ensures { glyphs.new ≡ with_stretch start end (with_rphf mask) glyphs.old }
+{
+    set_rphf_of(mask, &mut glyphs[start..end]);
+}
+
+// Gives a syllable the mask of `rphf`.
+#[inline]
+fn set_rphf_of(mask: u32, syllable: &mut [hb_glyph_info_t])
+    ensures { syllable.new ≡ with_rphf mask syllable.old }
+{
+    let len = reph_len(syllable);
+    add_mask(&mut syllable[..len], mask);
 }
 
 // How many glyphs in front get the mask of `rphf`: a reph alone, else three or all. Fonts make

@@ -51,7 +51,7 @@ pub(super) fn measure<F: Font>(
 // The sum of so many numbers of 32 bits fits 64.
 const SHORT: usize = 0x7FFF_FFFF;
 
-// The same of few tiles behind a short word.
+// What few tiles and a short word before them measure, whose sums always fit.
 #[inline]
 fn measure_short<F: Font>(face: &F, word: &[GlyphPosition], tiles: &[GlyphInfo]) -> Run {
     let word = short_advance(word);

@@ -5,7 +5,7 @@
 use crate::generated::shapers_arabic::ot_shaper_arabic::arabic_action_t::{
     STRETCHING_FIXED, STRETCHING_REPEATING,
 };
-use crate::generated::shapers_base::buffer::{Buffer, GlyphInfo, GlyphWalk};
+use crate::generated::shapers_base::buffer::{Buffer, GlyphInfo};
 use crate::generated::shapers_base::plan::{Plan, PlanData};
 
 /// Where the font stretches marks, gives each multiplied glyph the action of its tile, which
@@ -37,25 +37,11 @@ pub fn record_stch(plan: &Plan, buffer: &mut Buffer) {
     }
 }
 
-// The same where the font stretches marks.
+// Gives each multiplied glyph the action of its tile, and marks the buffer if there is one.
 #[inline]
 fn record_tiles(buffer: &mut Buffer) {
-    let mut recorder = TileRecorder { has_stch: false };
-    buffer.walk(&mut recorder);
-    if recorder.has_stch {
+    if buffer.with_glyphs_mut(record_stch_in) {
         buffer.set_has_stch(true);
-    }
-}
-
-// Whether there was a tile.
-struct TileRecorder {
-    has_stch: bool,
-}
-
-impl GlyphWalk for TileRecorder {
-    #[inline]
-    fn walk(&mut self, glyphs: &mut [GlyphInfo]) {
-        self.has_stch = record_stch_in(glyphs);
     }
 }
 

@@ -3,7 +3,7 @@
 //! The forms of syllables by their places in runs.
 
 use crate::generated::shapers_base::buffer::{
-    Buffer, GlyphInfo, GlyphWalk, Tag, first_syllable_len, unsafe_to_break_in,
+    Buffer, GlyphInfo, Tag, first_syllable_len, unsafe_to_break_in,
 };
 use crate::generated::shapers_base::map::Map;
 use crate::generated::shapers_base::plan::BreakFlags;
@@ -24,9 +24,9 @@ pub(super) struct FormMasks {
 // is isolated, the first initial, the last final, the others medial.
 #[inline]
 pub(super) fn set_forms(map: &Map, buffer: &mut Buffer) {
-    let mut masks = FormMasks::of(map);
+    let masks = FormMasks::of(map);
     if masks.all() != 0 {
-        buffer.walk(&mut masks);
+        buffer.with_glyphs_mut(|glyphs| masks.set_in(glyphs));
     }
 }
 
@@ -36,9 +36,10 @@ pub(super) fn set_forms(map: &Map, buffer: &mut Buffer) {
 pub(super) fn flag_forms(breaks: BreakFlags, map: &Map, buffer: &mut Buffer) {
     match breaks {
         BreakFlags::AsCode => {}
-        BreakFlags::Sound => buffer.walk(&mut TornPairs {
-            masks: FormMasks::of(map),
-        }),
+        BreakFlags::Sound => {
+            let masks = FormMasks::of(map);
+            buffer.with_glyphs_mut(|glyphs| masks.flag_pairs(glyphs));
+        }
     }
 }
 
@@ -139,26 +140,6 @@ impl FormMasks {
         if joins_runs(syllable) {
             replace_forms(syllable, self.all(), self.between(before, behind));
         }
-    }
-}
-
-impl GlyphWalk for FormMasks {
-    #[inline]
-    fn walk(&mut self, glyphs: &mut [GlyphInfo]) {
-        self.set_in(glyphs);
-    }
-}
-
-// The walk that flags pairs by the masks of forms.
-#[derive(Clone, Copy)]
-struct TornPairs {
-    masks: FormMasks,
-}
-
-impl GlyphWalk for TornPairs {
-    #[inline]
-    fn walk(&mut self, glyphs: &mut [GlyphInfo]) {
-        self.masks.flag_pairs(glyphs);
     }
 }
 

@@ -3,7 +3,7 @@
 //! What lookups did, kept as categories for the reordering.
 
 use super::category;
-use super::syllable_walk::{EachFront, FrontChange, change_fronts};
+use super::syllable_walk::{FrontChange, change_fronts};
 use crate::generated::shapers_base::buffer::{Buffer, GlyphInfo};
 use crate::generated::shapers_base::plan::{Plan, PlanData};
 
@@ -31,10 +31,8 @@ pub fn record_rphf(plan: &Plan, buffer: &mut Buffer) {
             if universal_plan.rphf_mask == 0 {
                 return;
             }
-            let record = RecordRphf {
-                mask: universal_plan.rphf_mask,
-            };
-            buffer.walk(&mut EachFront { change: &record });
+            let mask = universal_plan.rphf_mask;
+            buffer.with_glyphs_mut(|glyphs| record_rphf_in(mask, glyphs));
         }
         _ => unreachable!("the plan has no data of the universal shaper"),
     }
@@ -56,9 +54,7 @@ pub fn record_rphf(plan: &Plan, buffer: &mut Buffer) {
 /// </details>
 #[inline]
 pub fn record_pref(buffer: &mut Buffer) {
-    buffer.walk(&mut EachFront {
-        change: &RecordPref,
-    });
+    buffer.with_glyphs_mut(record_pref_in);
 }
 
 /// `record_rphf` for the syllables of a slice, where `mask` is that of `rphf`.

@@ -4,8 +4,9 @@
 
 use super::category;
 use super::forms::{flag_forms, set_forms};
-use super::syllable_walk::{EachSyllable, SyllableChange};
-use crate::generated::shapers_base::buffer::{Buffer, GlyphInfo, ShaperError, Span};
+use crate::generated::shapers_base::buffer::{
+    Buffer, GlyphInfo, ShaperError, Span, first_syllable_len,
+};
 use crate::generated::shapers_base::plan::{Plan, PlanData};
 use crate::generated::shapers_syllabic::ot_shaper_syllabic::use_syllable::BROKEN_CLUSTER;
 use crate::generated::shapers_syllabic::ot_shaper_syllabic::{set_up_by_bytes, set_up_syllables};
@@ -120,23 +121,31 @@ fn set_rphf(mask: u32, buffer: &mut Buffer) {
     if mask == 0 {
         return;
     }
-    buffer.walk(&mut EachSyllable {
-        change: &RphfMask { mask },
-    });
+    buffer.with_glyphs_mut(|glyphs| set_rphf_in(mask, glyphs));
 }
 
-// The mask of `rphf`.
-#[derive(Clone, Copy)]
-struct RphfMask {
-    mask: u32,
-}
-
-impl SyllableChange for RphfMask {
-    #[inline]
-    fn change(&self, syllable: &mut [GlyphInfo]) {
-        let len = reph_len(syllable);
-        add_mask(&mut syllable[..len], self.mask);
+// Gives each syllable of these glyphs the mask of `rphf`.
+#[inline]
+fn set_rphf_in(mask: u32, glyphs: &mut [GlyphInfo]) {
+    let mut start = 0;
+    while start < glyphs.len() {
+        let end = start + first_syllable_len(&glyphs[start..]);
+        set_rphf_at(mask, glyphs, start, end);
+        start = end;
     }
+}
+
+// Gives the syllable from `start` to `end` the mask of `rphf`.
+#[inline]
+fn set_rphf_at(mask: u32, glyphs: &mut [GlyphInfo], start: usize, end: usize) {
+    set_rphf_of(mask, &mut glyphs[start..end]);
+}
+
+// Gives a syllable the mask of `rphf`.
+#[inline]
+fn set_rphf_of(mask: u32, syllable: &mut [GlyphInfo]) {
+    let len = reph_len(syllable);
+    add_mask(&mut syllable[..len], mask);
 }
 
 // How many glyphs in front get the mask of `rphf`: a reph alone, else three or all. Fonts make
