@@ -1,6 +1,6 @@
 -- Syllables that are found, written and set up are those of a set-up by spans.
 use Rattle.std.proofs.Common.{◌≡◌, ◌∙◌, ℕ, suc, ◌<◌, ◌≤◌, ◌==◌, ◌||◌, Bool, true, false, List, [], ◌∷◌, length, length-take-le, map, take, drop, refl, sym, ap, subst, arith}
-use Rattle.std.specs.Prelude.{All, Result, is_some}
+use Rattle.std.specs.Prelude.{All}
 use Rattle.std.specs.List.{list_any}
 use Rattle.std.proofs.Math.Bool.{or-false, or_comm, or_self}
 use Rattle.std.proofs.lemmas.Bool.{false≢true}
@@ -12,7 +12,6 @@ use Rattle.shapers_buffer.specs.Buffer.{Buffer}
 use Rattle.shapers_buffer.specs.Glyph.{clusters}
 use Rattle.shapers_buffer.specs.Glyphs.{Glyph, Glyphs}
 use Rattle.shapers_buffer.specs.Syllables.{in_syllable, kind_of, span_byte, span_bytes, spans_cover, with_bytes}
-use Rattle.shapers_buffer.specs.declared.buffer.refusal.ShaperError.{ShaperError}
 use Rattle.shapers_buffer.specs.declared.buffer.syllables.Span.{Span}
 use Rattle.shapers_buffer.proofs.SyllableLemmas.{with_bytes-replicate}
 use Rattle.shapers_base.specs.Font.{Font}
@@ -38,8 +37,8 @@ use Rattle.shapers_universal.specs.UniversalCuts.{UniversalSetUpCutsAtSpans}
 use Rattle.shapers_universal.specs.UniversalSyllables.{with_forms_flagged, with_syllable_masks}
 use Rattle.shapers_universal.proofs.TornPairs.{map-forms_flagged}
 use Rattle.shapers_universal.proofs.UniversalCuts.{clusters-masks, universal_set_up_cuts}
-use Rattle.rustybuzz_shapers.specs.FoundSyllables.{FoundSpans, PauseRun, RefusesFound, SpansWritten, set_up_written, sets_up}
-use Rattle.rustybuzz_shapers.specs.Pauses.{PauseKeeps, Paused, RefusesPause, pause_circles}
+use Rattle.rustybuzz_shapers.specs.FoundSyllables.{FoundSpans, PauseRun, SpansWritten, set_up_written, sets_up}
+use Rattle.rustybuzz_shapers.specs.Pauses.{PauseKeeps, Paused}
 
 -- ---- a syllable of some kind, among bytes and among the spans that they are of
 
@@ -240,20 +239,3 @@ nothing_written pause b indic khmer myanmar universal = record {
     others SetupSyllablesMyanmar indic khmer myanmar universal = absurd (myanmar refl)
     others SetupSyllablesUse indic khmer myanmar universal = absurd (universal refl)
     others _ indic khmer myanmar universal = refl
-
-pub refuses_alike : {T : Type 0} (pause : Pause) (font : Font) (old : Buffer) (r : Result T ShaperError) →
-    sets_up pause ≡ false → RefusesPause pause font [] old r → RefusesFound pause font old r
-refuses_alike SetupSyllablesIndic font old r none refuses = absurd (false≢true (sym none))
-refuses_alike SetupSyllablesKhmer font old r none refuses = absurd (false≢true (sym none))
-refuses_alike SetupSyllablesMyanmar font old r none refuses = absurd (false≢true (sym none))
-refuses_alike SetupSyllablesUse font old r none refuses = absurd (false≢true (sym none))
-refuses_alike _ font old r none refuses = refuses
-
--- what sets up syllables opens no circles
-pub no_circles : (pause : Pause) (plan : hb_ot_shape_plan_t) (font : Font) (old : Buffer) → sets_up pause ≡ true →
-    is_some (pause_circles pause plan font old) ≡ false
-no_circles SetupSyllablesIndic plan font old sets = refl
-no_circles SetupSyllablesKhmer plan font old sets = refl
-no_circles SetupSyllablesMyanmar plan font old sets = refl
-no_circles SetupSyllablesUse plan font old sets = refl
-no_circles _ plan font old sets = absurd (false≢true sets)
