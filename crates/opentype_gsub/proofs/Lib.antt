@@ -2,6 +2,7 @@ pub mod Inserted
 pub mod Walks
 pub mod Backwards
 pub mod Marking
+mod Subtables
 mod LigatureKeys
 mod GsubRows
 mod FlagRows

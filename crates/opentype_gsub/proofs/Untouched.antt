@@ -32,6 +32,7 @@ use Rattle.opentype_gsub.specs.Walked.{WalkStep, lookup_stepped, lookup_walked}
 use Rattle.opentype_gsub.specs.declared.pass.LookupUse.{LookupUse}
 use Rattle.opentype_gsub.specs.declared.pass.Sights.{Sights}
 use Rattle.opentype_layout.proofs.NoneFits.{no_rule, none_if, none_mapped, none_of, none_then}
+use Rattle.opentype_layout.proofs.SubtableStarts.{starts_plain}
 use Rattle.opentype_gsub.proofs.LawGrows.{none_each}
 
 none_by : {X : Type 0} (o : Option X) → is_some o ≡ false → o ≡ None
@@ -39,14 +40,6 @@ none_by None e = refl
 none_by (Some x) e = absurd (cc)
 
 -- ---- a subtable that doesn't begin with a glyph
-
-same_else : (test : Bool) (n : ℕ) → (if test then n else n) ≡ n
-same_else true n = refl
-same_else false n = refl
-
-at_two : (kind : ℕ) (bytes : List ℕ) → (kind == 5) ≡ false → (kind == 6) ≡ false → starts_at false kind bytes ≡ 2
-unfolding starts_at
-at_two kind bytes five six = rw (five, six) (same_else (u16_in bytes 0 == 3) 2)
 
 at_start : (kind : ℕ) (bytes : List ℕ) → (u16_in bytes 0 == 3) ≡ false → starts_at false kind bytes ≡ 2
 unfolding starts_at
@@ -92,7 +85,7 @@ nth_none s sights lookup at gs i none =
     (λ e. covered_by kind bytes glyph _ none (at_first kind bytes t e))
     (λ e. covered_by kind bytes glyph 2 none (at_start kind bytes e))))
     (λ t. none_mapped _ _ (no_change s sights.input kind bytes gs at
-    (covered_by kind bytes glyph 2 none (at_two kind bytes (grind (arith, common_steps, t)) (grind (arith, common_steps, t))))))
+    (covered_by kind bytes glyph 2 none (starts_plain kind bytes (grind (arith, common_steps, t)) (grind (arith, common_steps, t))))))
 
 nth_reversed_none : (gdef : List ℕ) (sights : Sights) (lookup : List ℕ) (gs : Glyphs) (at i : ℕ) →
     starts_with false (type_in 7 lookup i) (subtable_in 7 lookup i) (two_byte_number gs at) ≡ false →
@@ -153,7 +146,7 @@ no_rules : (kind : ℕ) (bytes : List ℕ) (glyph : ℕ) → starts_with false k
 unfolding rules_in
 no_rules kind bytes glyph none =
     none_if (kind == 4) _ _
-    (λ t. none_mapped _ _ (no_set bytes glyph (covered_by kind bytes glyph 2 none (at_two kind bytes (grind (arith, nat_tests)) (grind (arith, nat_tests))))))
+    (λ t. none_mapped _ _ (no_set bytes glyph (covered_by kind bytes glyph 2 none (starts_plain kind bytes (grind (arith, nat_tests)) (grind (arith, nat_tests))))))
     (λ t. none_if (kind == 5) _ _
     (λ t. no_context false bytes glyph
     (λ e. covered_by kind bytes glyph _ none (at_first kind bytes (grind (arith, common_steps, nat_tests)) e ∙ first_of kind false bytes (grind (arith, nat_tests))))

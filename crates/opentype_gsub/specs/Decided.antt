@@ -26,6 +26,10 @@ set_at bytes None = None
 set_at bytes (Some i) =
     if nat_lt i (u16_in bytes 4) then Some (part_in bytes (u16_in bytes (6 + i * 2))) else None
 
+-- the same where the table's format is 1
+abbrev pub set_by : List ℕ → Option ℕ → Option (List ℕ)
+set_by bytes place = if u16_in bytes 0 == 1 then set_at bytes place else None
+
 abbrev pub set_for_glyph : List ℕ → ℕ → Option (List ℕ)
 set_for_glyph bytes glyph =
     if u16_in bytes 0 == 1 then set_at bytes (covered_in bytes glyph) else None

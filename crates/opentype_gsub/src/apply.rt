@@ -1,15 +1,18 @@
 //! What subtables make of a text at a place.
 ghost use Rattle.std.specs.Prelude.{◌≡◌, ◌<◌, ◌-◌, ◌+◌, ℕ, length, slice_index, IfOk};
+ghost use Rattle.opentype_gsub.specs.Decided.{covered_in};
+ghost use Rattle.opentype_layout.specs.SubstitutionTables.{first_place};
 ghost use Rattle.opentype_gsub.specs.Applied.{IsChange, alternate_put, chosen_of, ligature_put, ligated_put, multiple_put, two_byte_number, one_put, sequence_put, single_put};
 ghost use Rattle.opentype_gsub.specs.Setting.{setting_of};
 
-use crate::decided::{alternate, set_of, single};
+use crate::decided::{alternate_at, set_by, single_at};
 use crate::edits::{count_of, delete, multiply, replace};
 use crate::ligating::ligate;
 use crate::matching::{Fitting, first_fitting};
 use crate::pass::Pass;
 use opentype_face::bytes::u16_at;
 use opentype_layout::sight::Sight;
+use opentype_layout::substitution_tables::SubtableAt;
 use shapers_buffer::buffer::{BufferClusterLevel, ShaperError, hb_glyph_info_t};
 
 /// Puts the glyphs of a sequence in for one, and returns the place behind them. More than the text
@@ -57,14 +60,16 @@ pub(crate) fn number(text: &[hb_glyph_info_t], at: usize) -> u16
 fn apply_single(
     gdef: &[u8],
     bytes: &[u8],
+    place: Option<u32>,
     text: &mut Vec<hb_glyph_info_t>,
     at: usize,
 ) -> Option<usize>
-    requires { at < length text.old.items }
+    requires here { at < length text.old.items }
+    requires place { place ≡ covered_in bytes.now (two_byte_number text.old.items at) }
     ensures { IsChange (single_put gdef.now bytes.now text.old.items at) text.old.items
         text.new.items result }
 {
-    match single(bytes, number(text, at)) {
+    match single_at(bytes, number(text, at), place) {
         Some(to) => {
             replace(gdef, text, at, to, 0);
             Some(at + 1)
@@ -77,15 +82,17 @@ fn apply_single(
 fn apply_alternate(
     gdef: &[u8],
     bytes: &[u8],
+    place: Option<u32>,
     value: u32,
     text: &mut Vec<hb_glyph_info_t>,
     at: usize,
 ) -> Option<usize>
-    requires { at < length text.old.items }
+    requires here { at < length text.old.items }
+    requires place { place ≡ covered_in bytes.now (two_byte_number text.old.items at) }
     ensures { IsChange (alternate_put gdef.now bytes.now value text.old.items at) text.old.items
         text.new.items result }
 {
-    match alternate(bytes, number(text, at), value) {
+    match alternate_at(value, set_by(bytes, place)) {
         Some(to) => {
             replace(gdef, text, at, to, 0);
             Some(at + 1)
@@ -98,14 +105,16 @@ fn apply_alternate(
 fn apply_multiple(
     pass: &Pass<'_>,
     bytes: &[u8],
+    place: Option<u32>,
     text: &mut Vec<hb_glyph_info_t>,
     at: usize,
 ) -> Result<Option<usize>, ShaperError>
-    requires { at < length text.old.items }
+    requires here { at < length text.old.items }
+    requires place { place ≡ covered_in bytes.now (two_byte_number text.old.items at) }
     ensures { IfOk result (λ next. IsChange (multiple_put (setting_of pass.now) bytes.now text.old.items at)
         text.old.items text.new.items next) }
 {
-    match set_of(bytes, number(text, at)) {
+    match set_by(bytes, place) {
         Some(sequence) => Ok(Some(put_sequence(pass, text, at, sequence)?)),
         None => Ok(None),
     }
@@ -118,14 +127,16 @@ fn apply_ligature(
     level: BufferClusterLevel,
     sight: &Sight,
     bytes: &[u8],
+    place: Option<u32>,
     text: &mut Vec<hb_glyph_info_t>,
     at: usize,
 ) -> Option<usize>
-    requires { at < length text.old.items }
+    requires here { at < length text.old.items }
+    requires place { place ≡ covered_in bytes.now (two_byte_number text.old.items at) }
     ensures { IsChange (ligated_put gdef.now level sight.now bytes.now text.old.items at)
         text.old.items text.new.items result }
 {
-    let set = set_of(bytes, number(text, at))?;
+    let set = set_by(bytes, place)?;
     match first_fitting(gdef, sight, set, text, at) {
         Some(fitting) => Some(put_ligature(gdef, level, text, at, &fitting)),
         None => None,
@@ -169,7 +180,8 @@ pub(crate) fn value(random: bool, sight: &Sight, glyph: &hb_glyph_info_t) -> u32
     value as u32
 }
 
-/// What a subtable of a type makes of a text at a place: the place behind it, if it fits.
+/// What a subtable makes of a text at a place, by the place of the glyph there in the set that it
+/// begins with: the place behind what it did, if it fits.
 ///
 /// # Errors
 ///
@@ -179,23 +191,28 @@ pub(crate) fn value(random: bool, sight: &Sight, glyph: &hb_glyph_info_t) -> u32
 pub fn apply_one(
     pass: &Pass<'_>,
     sight: &Sight,
-    kind: u16,
-    bytes: &[u8],
+    subtable: &SubtableAt<'_>,
     text: &mut Vec<hb_glyph_info_t>,
     at: usize,
 ) -> Result<Option<usize>, ShaperError>
-    requires { at < length text.old.items }
-    ensures { IfOk result (λ next. IsChange (one_put (setting_of pass.now) sight.now kind bytes.now
-        text.old.items at) text.old.items text.new.items next) }
+    requires here { at < length text.old.items }
+    requires place { subtable.now.place ≡ first_place (record {
+      kind = subtable.now.kind;
+      bytes = subtable.now.bytes.now;
+    }) (two_byte_number text.old.items at) }
+    ensures { IfOk result (λ next. IsChange (one_put (setting_of pass.now) sight.now
+        subtable.now.kind subtable.now.bytes.now text.old.items at) text.old.items text.new.items
+        next) }
 {
-    match kind {
-        1 => Ok(apply_single(pass.gdef, bytes, text, at)),
-        2 => apply_multiple(pass, bytes, text, at),
+    let (bytes, place) = (subtable.bytes, subtable.place);
+    match subtable.kind {
+        1 => Ok(apply_single(pass.gdef, bytes, place, text, at)),
+        2 => apply_multiple(pass, bytes, place, text, at),
         3 => {
             let value = value(pass.lookup.random, sight, &text[at]);
-            Ok(apply_alternate(pass.gdef, bytes, value, text, at))
+            Ok(apply_alternate(pass.gdef, bytes, place, value, text, at))
         }
-        4 => Ok(apply_ligature(pass.gdef, pass.level, sight, bytes, text, at)),
+        4 => Ok(apply_ligature(pass.gdef, pass.level, sight, bytes, place, text, at)),
         _ => Ok(None),
     }
 }

@@ -17,8 +17,8 @@ use crate::settling::Rule;
 use crate::trying::flag_tried;
 use arrayvec::ArrayVec;
 use opentype_face::bytes::u16_at;
-use opentype_face::lookup::{subtable, subtable_count, subtable_type};
-use opentype_layout::rules::{Matched, find_rule};
+use opentype_face::lookup::subtable_count;
+use opentype_layout::rules::{Matched, find_rule_at};
 use opentype_layout::starts::LookupTable;
 use shapers_buffer::buffer::{ShaperError, hb_glyph_info_t};
 use std::mem;
@@ -60,7 +60,7 @@ fn begin<'a>(
 fn come_by<'a>(
     pass: &Pass<'_>,
     sights: &Sights,
-    lookup: &'a [u8],
+    lookup: &LookupTable<'a>,
     i: u16,
     text: &mut Vec<hb_glyph_info_t>,
     at: usize,
@@ -70,16 +70,16 @@ fn come_by<'a>(
         (nth_came (setting_of pass.now) sights.now lookup.now at text.old.items i)
         text.old.items text.new.items outcome) }
 {
-    let kind = subtable_type(7, lookup, i);
-    let bytes = subtable(7, lookup, i);
+    let subtable = lookup.subtable_at(i, number(text, at));
+    let (kind, bytes, place) = (subtable.kind, subtable.bytes, subtable.place);
     if kind == 5 || kind == 6 {
         let (input, context) = (&sights.input, &sights.context);
-        return match find_rule(kind == 6, pass.gdef, input, context, bytes, text, at) {
+        return match find_rule_at(kind == 6, pass.gdef, input, context, bytes, place, text, at) {
             Some(matched) => Ok(Outcome::Fits(begin(pass, kind == 6, matched, text))),
             None => Ok(Outcome::Nothing),
         };
     }
-    match apply_one(pass, &sights.input, kind, bytes, text, at)? {
+    match apply_one(pass, &sights.input, &subtable, text, at)? {
         Some(next) => Ok(Outcome::Done(next)),
         None => Ok(Outcome::Nothing),
     }
@@ -104,7 +104,7 @@ fn come_among<'a>(
         let Some(i) = lookup.next_start(false, number(text, at), from) else {
             return Ok(Outcome::Nothing);
         };
-        match come_by(pass, sights, bytes, i, text, at) {
+        match come_by(pass, sights, lookup, i, text, at) {
             Ok(Outcome::Nothing) => from = i + 1,
             Ok(Outcome::Done(next)) => return Ok(Outcome::Done(next)),
             Ok(Outcome::Fits(rule)) => return Ok(Outcome::Fits(rule)),

@@ -4,6 +4,7 @@ pub mod Reached
 pub mod Skipped
 pub mod NoneFits
 pub mod Keyed
+pub mod SubtableStarts
 mod BitPlaces
 mod Grids
 mod Headed
@@ -12,6 +13,7 @@ mod Unfollowed
 mod Flags
 mod Listed
 mod PairsListed
+mod SubtablesListed
 mod RuleRows
 mod KeyRows
 mod StartRows
@@ -20,3 +22,4 @@ mod SightRows
 mod FeatureRows
 mod InputRows
 mod PairRows
+mod SubstitutionRows

@@ -6,6 +6,7 @@ pub mod Rules
 pub mod Features
 pub mod Bits
 pub mod Starts
+pub mod SubstitutionTables
 pub mod Keys
 pub mod PairTables
 pub mod LookupRows

@@ -1,10 +1,12 @@
 //! Rules of contexts and of chained contexts: what they look for, and where they fit.
-ghost use Rattle.std.specs.Prelude.{◌≡◌, ◌<◌, ◌≤◌, true, length, None};
+ghost use Rattle.std.specs.Prelude.{◌≡◌, ◌<◌, ◌≤◌, ◌%◌, ◌==◌, false, true, length, is_some, None};
+ghost use Rattle.opentype_face.specs.Glyphs.{coverage_in};
 ghost use Rattle.opentype_face.specs.Bytes.{part_in, u16_in};
 ghost use Rattle.std.specs.Option.{option_map};
 ghost use Rattle.opentype_layout.specs.Keys.{AreKeys, IsBarred};
 ghost use Rattle.opentype_layout.specs.Pattern.{fits};
-ghost use Rattle.opentype_layout.specs.Rules.{around, chained_in, context_in, end_in, first_at, first_in, found, found_at, kind, kind_in, reach_before, reach_behind, rule_in, set_in, sets_at, shift_in, sought, test_in, unchained_in};
+ghost use Rattle.opentype_layout.specs.Text.{glyph_at};
+ghost use Rattle.opentype_layout.specs.Rules.{around, chained_in, context_in, end_in, first_at, first_in, found, found_at, kind, kind_in, reach_before, reach_behind, rule_in, set_in, sets_at, shift_in, sought, start_place, test_in, unchained_in};
 
 use crate::input::input_places;
 use crate::keys::{Keys, key_before, key_behind};
@@ -472,7 +474,26 @@ pub(crate) fn place_of_first(chained: bool, bytes: &[u8]) -> usize
     }
 }
 
-// The rule of a context of format 3, if it fits a place of a text.
+// Whether the set that a context of format 3 begins with has a glyph; it is asked unless that is
+// known.
+#[inline]
+fn is_begun(chained: bool, bytes: &[u8], glyph: u16, is_known: bool) -> bool
+    requires { is_known ≡ true →
+        is_some (coverage_in (part_in bytes.now (u16_in bytes.now (first_at chained bytes.now)))
+        glyph) ≡ true }
+    ensures { result
+        ≡ is_some (coverage_in (part_in bytes.now (u16_in bytes.now (first_at chained bytes.now)))
+        glyph) }
+{
+    if is_known {
+        return true;
+    }
+    let set = u16_at(bytes, place_of_first(chained, bytes));
+    coverage(part(bytes, usize::from(set)), glyph).is_some()
+}
+
+// The rule of a context of format 3, if it fits a place of a text; the set that it begins with is
+// asked unless it is known to have the glyph there.
 #[tactic(auto, unfolding(crate::specs::Rules::context_in))]
 fn find_by_sets<'a>(
     chained: bool,
@@ -480,11 +501,15 @@ fn find_by_sets<'a>(
     input: &Sight,
     context: &Sight,
     bytes: &'a [u8],
+    is_known: bool,
     glyphs: &[hb_glyph_info_t],
     at: usize,
 ) -> Option<Matched<'a>>
     requires inside { at < length glyphs.now }
     requires format { u16_in bytes.now 0 ≡ 3 }
+    requires known { is_known ≡ true →
+        is_some (coverage_in (part_in bytes.now (u16_in bytes.now (first_at chained bytes.now)))
+        ((glyph_at glyphs.now at).glyph_id % 65536)) ≡ true }
     ensures { option_map (λ it. found it) result
         ≡ context_in chained gdef.now input.now context.now bytes.now glyphs.now at }
 {
@@ -493,15 +518,74 @@ fn find_by_sets<'a>(
     if Tables::of_sets(chained, bytes).are_sets_barred(gdef, input, context, bytes, glyphs, at) {
         return None;
     }
-    let set = u16_at(bytes, place_of_first(chained, bytes));
-    coverage(part(bytes, usize::from(set)), number(&glyphs[at]))?;
+    if !is_begun(chained, bytes, number(&glyphs[at]), is_known) {
+        return None;
+    }
     let rule = Tables::of_sets(chained, bytes).rule(bytes);
     rule.fit(gdef, input, context, glyphs, at)
 }
 
+// The same by the place of the glyph in the set that the rule begins with.
+#[inline]
+#[tactic(auto, unfolding(crate::specs::Rules::context_in))]
+fn find_by_first<'a>(
+    chained: bool,
+    gdef: &[u8],
+    input: &Sight,
+    context: &Sight,
+    bytes: &'a [u8],
+    place: Option<u32>,
+    glyphs: &[hb_glyph_info_t],
+    at: usize,
+) -> Option<Matched<'a>>
+    requires inside { at < length glyphs.now }
+    requires format { u16_in bytes.now 0 ≡ 3 }
+    requires place { place
+        ≡ coverage_in (part_in bytes.now (u16_in bytes.now (first_at chained bytes.now)))
+        ((glyph_at glyphs.now at).glyph_id % 65536) }
+    ensures { option_map (λ it. found it) result
+        ≡ context_in chained gdef.now input.now context.now bytes.now glyphs.now at }
+{
+    place?;
+    find_by_sets(chained, gdef, input, context, bytes, true, glyphs, at)
+}
+
+// The first rule of a context of format 1 or 2 that fits a place of a text, by the place of the
+// glyph there in the set that the context begins with.
+#[tactic(auto, unfolding(crate::specs::Rules::context_in, crate::specs::Rules::by_glyphs))]
+fn find_by_place<'a>(
+    chained: bool,
+    gdef: &[u8],
+    input: &Sight,
+    context: &Sight,
+    bytes: &'a [u8],
+    covered: Option<u32>,
+    glyphs: &[hb_glyph_info_t],
+    at: usize,
+) -> Option<Matched<'a>>
+    requires inside { at < length glyphs.now }
+    requires format { (u16_in bytes.now 0 == 3) ≡ false }
+    requires covered { covered ≡ coverage_in (part_in bytes.now (u16_in bytes.now 2))
+        ((glyph_at glyphs.now at).glyph_id % 65536) }
+    ensures { option_map (λ it. found it) result
+        ≡ context_in chained gdef.now input.now context.now bytes.now glyphs.now at }
+{
+    let format = u16_at(bytes, 0);
+    let glyph = number(&glyphs[at]);
+    let tables = Tables::of(chained, bytes);
+    let set = match (format, covered) {
+        (1, Some(number)) => rule_set(bytes, 4, number),
+        (2, Some(_)) => {
+            let number = class(tables.input, glyph);
+            rule_set(bytes, place_of_sets(chained), u32::from(number))
+        }
+        _ => return None,
+    };
+    tables.first_rule(gdef, input, context, set, glyphs, at)
+}
+
 /// The first rule of a context that fits a place of a text: its input by one sight, its context by
 /// another.
-#[tactic(auto, unfolding(crate::specs::Rules::context_in, crate::specs::Rules::by_glyphs))]
 pub fn find_rule<'a>(
     chained: bool,
     gdef: &[u8],
@@ -515,20 +599,36 @@ pub fn find_rule<'a>(
     ensures { option_map (λ it. found it) result
         ≡ context_in chained gdef.now input.now context.now bytes.now glyphs.now at }
 {
-    let format = u16_at(bytes, 0);
-    if format == 3 {
-        return find_by_sets(chained, gdef, input, context, bytes, glyphs, at);
+    if u16_at(bytes, 0) == 3 {
+        return find_by_sets(chained, gdef, input, context, bytes, false, glyphs, at);
     }
-    let glyph = number(&glyphs[at]);
-    let tables = Tables::of(chained, bytes);
-    let covered = coverage(part(bytes, usize::from(u16_at(bytes, 2))), glyph);
-    let set = match (format, covered) {
-        (1, Some(number)) => rule_set(bytes, 4, number),
-        (2, Some(_)) => {
-            let number = class(tables.input, glyph);
-            rule_set(bytes, place_of_sets(chained), u32::from(number))
-        }
-        _ => return None,
-    };
-    tables.first_rule(gdef, input, context, set, glyphs, at)
+    let covered = coverage(
+        part(bytes, usize::from(u16_at(bytes, 2))),
+        number(&glyphs[at]),
+    );
+    find_by_place(chained, gdef, input, context, bytes, covered, glyphs, at)
+}
+
+/// The same by the place of the glyph there in the set that the context begins with.
+#[inline]
+pub fn find_rule_at<'a>(
+    chained: bool,
+    gdef: &[u8],
+    input: &Sight,
+    context: &Sight,
+    bytes: &'a [u8],
+    place: Option<u32>,
+    glyphs: &[hb_glyph_info_t],
+    at: usize,
+) -> Option<Matched<'a>>
+    requires inside { at < length glyphs.now }
+    requires place { place
+        ≡ start_place chained bytes.now ((glyph_at glyphs.now at).glyph_id % 65536) }
+    ensures { option_map (λ it. found it) result
+        ≡ context_in chained gdef.now input.now context.now bytes.now glyphs.now at }
+{
+    if u16_at(bytes, 0) == 3 {
+        return find_by_first(chained, gdef, input, context, bytes, place, glyphs, at);
+    }
+    find_by_place(chained, gdef, input, context, bytes, place, glyphs, at)
 }

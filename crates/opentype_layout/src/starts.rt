@@ -5,6 +5,7 @@ ghost use Rattle.opentype_face.specs.Lookups.{subtable_in, type_in};
 ghost use Rattle.opentype_layout.specs.Bits.{Grown};
 ghost use Rattle.opentype_layout.specs.LookupRows.{BeginsNot, row_bit};
 ghost use Rattle.opentype_layout.specs.PairTables.{ArePairTables};
+ghost use Rattle.opentype_layout.specs.SubstitutionTables.{AreSubtables, first_place, nth_subtable};
 ghost use Rattle.opentype_layout.specs.Starts.{AreHeads, ArePassed, IsStarts, NoneStarts};
 
 use crate::bits::first_bit;
@@ -14,6 +15,7 @@ use crate::lookup_rows::mark_column;
 use crate::pair_tables::{LookupPairs, PairTable};
 use crate::sets::{span, start};
 use crate::sight::number;
+use crate::substitution_tables::{LookupSubstitutions, SubstitutionTable, SubtableAt, subtable_at};
 use opentype_face::lookup::subtable_count;
 use shapers_buffer::buffer::hb_glyph_info_t;
 use std::alloc::Global;
@@ -251,6 +253,7 @@ pub struct LookupTable<'a> {
     bytes: &'a [u8],
     starts: Option<&'a Starts<'a>>,
     pairs: &'a [PairTable<'a>],
+    substitutions: &'a [SubstitutionTable<'a>],
 }
 
 impl<'a> Model for LookupTable<'a> {
@@ -259,7 +262,8 @@ impl<'a> Model for LookupTable<'a> {
     ghost view = { λ it. it.bytes.now };
 
     ghost invariant = { λ it. IfSome it.starts (λ starts. starts.now ≡ it.bytes.now) ×
-        ArePairTables it.bytes.now it.pairs.now };
+        (ArePairTables it.bytes.now it.pairs.now ×
+        AreSubtables it.bytes.now it.substitutions.now) };
 }
 
 impl<'a> LookupTable<'a> {
@@ -272,6 +276,7 @@ impl<'a> LookupTable<'a> {
             bytes,
             starts: None,
             pairs: &[],
+            substitutions: &[],
         }
     }
 
@@ -288,6 +293,7 @@ impl<'a> LookupTable<'a> {
             bytes,
             starts: Some(starts),
             pairs: &[],
+            substitutions: &[],
         }
     }
 
@@ -300,6 +306,31 @@ impl<'a> LookupTable<'a> {
         LookupTable {
             pairs: pairs.tables(),
             ..self
+        }
+    }
+
+    /// The same with tables of its subtables of GSUB.
+    #[inline]
+    pub fn with_substitutions(self, substitutions: &'a LookupSubstitutions<'a>) -> Self
+        requires { substitutions.now ≡ self }
+        ensures { result ≡ self.entry }
+    {
+        LookupTable {
+            substitutions: substitutions.tables(),
+            ..self
+        }
+    }
+
+    /// A subtable of a lookup of GSUB at a glyph; without a search where it has a table.
+    #[inline]
+    pub fn subtable_at(&self, i: u16, glyph: u16) -> SubtableAt<'a>
+        ensures kind { result.kind ≡ (nth_subtable self.now i).kind }
+        ensures bytes { result.bytes.now ≡ (nth_subtable self.now i).bytes }
+        ensures place { result.place ≡ first_place (nth_subtable self.now i) glyph }
+    {
+        match self.substitutions.get(usize::from(i)) {
+            Some(table) => table.at(glyph),
+            None => subtable_at(self.bytes, i, glyph),
         }
     }
 

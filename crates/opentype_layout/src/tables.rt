@@ -8,6 +8,7 @@ ghost use Rattle.opentype_layout.specs.Starts.{AreStarts};
 use crate::lookup_rows::{LookupBits, lookup_rows, rows_of};
 use crate::pair_tables::LookupPairs;
 use crate::starts::{LookupTable, Starts};
+use crate::substitution_tables::LookupSubstitutions;
 use opentype_face::bytes::{offset16, part, u16_at};
 use opentype_face::lookup::lookup;
 use shapers_buffer::buffer::hb_glyph_info_t;
@@ -54,12 +55,31 @@ fn lookup_pairs<'a>(alloc: Global, bytes: &'a [u8], budget: &mut usize) -> Vec<L
     pairs
 }
 
+// The tables of the subtables of each lookup of GSUB.
+fn lookup_substitutions<'a>(
+    alloc: Global,
+    bytes: &'a [u8],
+    budget: &mut usize,
+) -> Vec<LookupSubstitutions<'a>>
+    ensures { AreStarts bytes.now result.items }
+{
+    let mut substitutions = Vec::new(alloc);
+    for index in 0..lookup_count(bytes) {
+        let table = LookupSubstitutions::new(alloc, lookup(bytes, index), budget);
+        if substitutions.push(table).is_err() {
+            return substitutions;
+        }
+    }
+    substitutions
+}
+
 /// A table with the bits of its lookups.
 #[derive(Debug, Drop)]
 pub struct PreparedTable<'a> {
     bytes: &'a [u8],
     starts: Vec<Starts<'a>>,
     pairs: Vec<LookupPairs<'a>>,
+    substitutions: Vec<LookupSubstitutions<'a>>,
     of_gpos: bool,
     rows: Option<Vec<u64>>,
 }
@@ -71,13 +91,14 @@ impl<'a> Model for PreparedTable<'a> {
 
     ghost invariant = { λ it. AreStarts it.bytes.now it.starts.items ×
         (AreStarts it.bytes.now it.pairs.items ×
-        IfSome it.rows (λ rows. AreRows it.of_gpos it.bytes.now rows.items)) };
+        (AreStarts it.bytes.now it.substitutions.items ×
+        IfSome it.rows (λ rows. AreRows it.of_gpos it.bytes.now rows.items))) };
 }
 
 impl<'a> PreparedTable<'a> {
     /// GSUB or GPOS. Lookups for which memory or a budget in bytes doesn't suffice have no bits, and
-    /// their pairs no tables; the table has rows of bits by glyph where both suffice and all lookups
-    /// have bits.
+    /// their pairs and subtables of GSUB no tables; the table has rows of bits by glyph where both
+    /// suffice and all lookups have bits.
     pub fn new(alloc: Global, of_gpos: bool, bytes: &'a [u8], budget: usize) -> Self
         ensures { result ≡ bytes.now }
     {
@@ -89,10 +110,17 @@ impl<'a> PreparedTable<'a> {
             Vec::new(alloc)
         };
         let rows = lookup_rows(alloc, of_gpos, bytes, &starts, &mut left);
+        // (last, since bits save more than these do)
+        let substitutions = if of_gpos {
+            Vec::new(alloc)
+        } else {
+            lookup_substitutions(alloc, bytes, &mut left)
+        };
         PreparedTable {
             bytes,
             starts,
             pairs,
+            substitutions,
             of_gpos,
             rows,
         }
@@ -107,6 +135,7 @@ impl<'a> PreparedTable<'a> {
             bytes: self.bytes,
             starts: self.starts.as_slice(),
             pairs: self.pairs.as_slice(),
+            substitutions: self.substitutions.as_slice(),
             of_gpos: self.of_gpos,
             rows: match &self.rows {
                 Some(rows) => Some(rows.as_slice()),
@@ -122,6 +151,7 @@ pub struct LayoutTable<'a> {
     bytes: &'a [u8],
     starts: &'a [Starts<'a>],
     pairs: &'a [LookupPairs<'a>],
+    substitutions: &'a [LookupSubstitutions<'a>],
     of_gpos: bool,
     rows: Option<&'a [u64]>,
 }
@@ -133,7 +163,8 @@ impl<'a> Model for LayoutTable<'a> {
 
     ghost invariant = { λ it. AreStarts it.bytes.now it.starts.now ×
         (AreStarts it.bytes.now it.pairs.now ×
-        IfSome it.rows (λ rows. AreRows it.of_gpos it.bytes.now rows.now)) };
+        (AreStarts it.bytes.now it.substitutions.now ×
+        IfSome it.rows (λ rows. AreRows it.of_gpos it.bytes.now rows.now))) };
 }
 
 impl<'a> LayoutTable<'a> {
@@ -146,6 +177,7 @@ impl<'a> LayoutTable<'a> {
             bytes,
             starts: &[],
             pairs: &[],
+            substitutions: &[],
             of_gpos: false,
             rows: None,
         }
@@ -176,6 +208,9 @@ impl<'a> LayoutTable<'a> {
             return LookupTable::of(lookup(self.bytes, index));
         }
         let table = LookupTable::prepared(&self.starts[at]);
+        if at < self.substitutions.len() {
+            return table.with_substitutions(&self.substitutions[at]);
+        }
         if at >= self.pairs.len() {
             return table;
         }

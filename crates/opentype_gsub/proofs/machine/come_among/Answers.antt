@@ -12,21 +12,21 @@ returns-in-Ok-Done c =
     let within = c.in-Some.ensures.within in
     let started = coming_started (setting_of c.args.pass.now) c.args.sights.now c.args.lookup.now c.args.at _ _ c.in-Some.i _ _ _
     c.loop-from.invariant c.in-Some.ensures.passed (rw c.deref.ensures.value at c.number.ensures) within.0 (omega (arith, within.1)) in
-    coming_done _ _ _ _ _ _ _ started within.1 (rw (c.bytes-bytes.ensures, c.in-Ok-Done.field-0-is) at c.in-Ok-Done.ensures)
+    coming_done _ _ _ _ _ _ _ started within.1 (rw c.in-Ok-Done.field-0-is at c.in-Ok-Done.ensures)
 
 pub returns-in-Ok-Fits : goal.returns-in-Ok-Fits
 returns-in-Ok-Fits c =
     let within = c.in-Some.ensures.within in
     let started = coming_started (setting_of c.args.pass.now) c.args.sights.now c.args.lookup.now c.args.at _ _ c.in-Some.i _ _ _
     c.loop-from.invariant c.in-Some.ensures.passed (rw c.deref.ensures.value at c.number.ensures) within.0 (omega (arith, within.1)) in
-    coming_fits _ _ _ _ _ _ c.in-Ok-Fits.rule started within.1 (rw (c.bytes-bytes.ensures, c.in-Ok-Fits.field-0-is) at c.in-Ok-Fits.ensures)
+    coming_fits _ _ _ _ _ _ c.in-Ok-Fits.rule started within.1 (rw c.in-Ok-Fits.field-0-is at c.in-Ok-Fits.ensures)
 
 pub loop-from-preserved : goal.loop-from-preserved
 loop-from-preserved c =
     let within = c.in-Some.ensures.within in
     let started = coming_started (setting_of c.args.pass.now) c.args.sights.now c.args.lookup.now c.args.at _ _ c.in-Some.i _ _ _
     c.loop-from.invariant c.in-Some.ensures.passed (rw c.deref.ensures.value at c.number.ensures) within.0 (omega (arith, within.1)) in
-    coming_next _ _ _ _ _ _ started within.1 (rw (c.bytes-bytes.ensures, c.in-Ok-Nothing.field-0-is) at c.in-Ok-Nothing.ensures)
+    coming_next _ _ _ _ _ _ started within.1 (rw c.in-Ok-Nothing.field-0-is at c.in-Ok-Nothing.ensures)
 
 pub returns-in_default : goal.returns-in_default
 returns-in_default c = coming_ended (setting_of c.args.pass.now) c.args.sights.now c.args.lookup.now c.args.at _ _ _ _ _

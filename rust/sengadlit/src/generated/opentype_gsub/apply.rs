@@ -5,12 +5,13 @@
 use crate::support::prelude::*;
 
 use crate::generated::opentype_face::bytes::u16_at;
-use crate::generated::opentype_gsub::decided::{alternate, set_of, single};
+use crate::generated::opentype_gsub::decided::{alternate_at, set_by, single_at};
 use crate::generated::opentype_gsub::edits::{count_of, delete, multiply, replace};
 use crate::generated::opentype_gsub::ligating::ligate;
 use crate::generated::opentype_gsub::matching::{Fitting, first_fitting};
 use crate::generated::opentype_gsub::pass::Pass;
 use crate::generated::opentype_layout::sight::Sight;
+use crate::generated::opentype_layout::substitution_tables::SubtableAt;
 use crate::generated::shapers_buffer::buffer::{BufferClusterLevel, GlyphInfo, ShaperError};
 
 /// Puts the glyphs of a sequence in for one, and returns the place behind them. More than the text
@@ -64,8 +65,14 @@ pub(crate) fn number(text: &[GlyphInfo], at: usize) -> u16 {
     (text[at].glyph_id % 65536) as u16
 }
 
-fn apply_single(gdef: &[u8], bytes: &[u8], text: &mut Vec<GlyphInfo>, at: usize) -> Option<usize> {
-    match single(bytes, number(text, at)) {
+fn apply_single(
+    gdef: &[u8],
+    bytes: &[u8],
+    place: Option<u32>,
+    text: &mut Vec<GlyphInfo>,
+    at: usize,
+) -> Option<usize> {
+    match single_at(bytes, number(text, at), place) {
         Some(to) => {
             replace(gdef, text, at, to, 0);
             Some(at + 1)
@@ -77,11 +84,12 @@ fn apply_single(gdef: &[u8], bytes: &[u8], text: &mut Vec<GlyphInfo>, at: usize)
 fn apply_alternate(
     gdef: &[u8],
     bytes: &[u8],
+    place: Option<u32>,
     value: u32,
     text: &mut Vec<GlyphInfo>,
     at: usize,
 ) -> Option<usize> {
-    match alternate(bytes, number(text, at), value) {
+    match alternate_at(value, set_by(bytes, place)) {
         Some(to) => {
             replace(gdef, text, at, to, 0);
             Some(at + 1)
@@ -93,10 +101,11 @@ fn apply_alternate(
 fn apply_multiple(
     pass: &Pass<'_>,
     bytes: &[u8],
+    place: Option<u32>,
     text: &mut Vec<GlyphInfo>,
     at: usize,
 ) -> Result<Option<usize>, ShaperError> {
-    match set_of(bytes, number(text, at)) {
+    match set_by(bytes, place) {
         Some(sequence) => Ok(Some(put_sequence(pass, text, at, sequence)?)),
         None => Ok(None),
     }
@@ -108,10 +117,11 @@ fn apply_ligature(
     level: BufferClusterLevel,
     sight: &Sight,
     bytes: &[u8],
+    place: Option<u32>,
     text: &mut Vec<GlyphInfo>,
     at: usize,
 ) -> Option<usize> {
-    let set = set_of(bytes, number(text, at))?;
+    let set = set_by(bytes, place)?;
     match first_fitting(gdef, sight, set, text, at) {
         Some(fitting) => Some(put_ligature(gdef, level, text, at, &fitting)),
         None => None,
@@ -147,7 +157,8 @@ pub(crate) fn value(random: bool, sight: &Sight, glyph: &GlyphInfo) -> u32 {
     value as u32
 }
 
-/// What a subtable of a type makes of a text at a place: the place behind it, if it fits.
+/// What a subtable makes of a text at a place, by the place of the glyph there in the set that it
+/// begins with: the place behind what it did, if it fits.
 ///
 /// # Errors
 ///
@@ -158,13 +169,19 @@ pub(crate) fn value(random: bool, sight: &Sight, glyph: &GlyphInfo) -> u32 {
 /// # Contract
 ///
 /// ```text
-/// requires { at < length text.old.items }
-/// ensures { IfOk result (λ next. IsChange (one_put (setting_of pass.now) sight.now kind bytes.now
-///     text.old.items at) text.old.items text.new.items next) }
+/// requires here { at < length text.old.items }
+/// requires place { subtable.now.place ≡ first_place (record {
+///   kind = subtable.now.kind;
+///   bytes = subtable.now.bytes.now;
+/// }) (two_byte_number text.old.items at) }
+/// ensures { IfOk result (λ next. IsChange (one_put (setting_of pass.now) sight.now
+///     subtable.now.kind subtable.now.bytes.now text.old.items at) text.old.items text.new.items
+///     next) }
 /// ```
 ///
-/// - `IsChange`, `one_put`: `crates/opentype_gsub/specs/Applied.antt`
+/// - `IsChange`, `one_put`, `two_byte_number`: `crates/opentype_gsub/specs/Applied.antt`
 /// - `setting_of`: `crates/opentype_gsub/specs/Setting.antt`
+/// - `first_place`: `crates/opentype_layout/specs/SubstitutionTables.antt`
 ///
 /// </details>
 ///
@@ -173,20 +190,20 @@ pub(crate) fn value(random: bool, sight: &Sight, glyph: &GlyphInfo) -> u32 {
 pub fn apply_one(
     pass: &Pass<'_>,
     sight: &Sight,
-    kind: u16,
-    bytes: &[u8],
+    subtable: &SubtableAt<'_>,
     text: &mut Vec<GlyphInfo>,
     at: usize,
 ) -> Result<Option<usize>, ShaperError> {
-    match kind {
-        1 => Ok(apply_single(pass.gdef, bytes, text, at)),
-        2 => apply_multiple(pass, bytes, text, at),
+    let (bytes, place) = (subtable.bytes, subtable.place);
+    match subtable.kind {
+        1 => Ok(apply_single(pass.gdef, bytes, place, text, at)),
+        2 => apply_multiple(pass, bytes, place, text, at),
         3 => {
             let value = value(pass.lookup.random, sight, &text[at]);
-            Ok(apply_alternate(pass.gdef, bytes, value, text, at))
+            Ok(apply_alternate(pass.gdef, bytes, place, value, text, at))
         }
         4 => Ok(apply_ligature(
-            pass.gdef, pass.level, sight, bytes, text, at,
+            pass.gdef, pass.level, sight, bytes, place, text, at,
         )),
         _ => Ok(None),
     }

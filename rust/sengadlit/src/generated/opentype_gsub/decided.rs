@@ -37,7 +37,13 @@ pub fn covered(bytes: &[u8], glyph: u16) -> Option<u32> {
 ///
 /// </details>
 pub fn single(bytes: &[u8], glyph: u16) -> Option<u16> {
-    let i = covered(bytes, glyph)?;
+    single_at(bytes, glyph, covered(bytes, glyph))
+}
+
+/// The same by the place of the glyph in the set that the subtable begins with.
+#[inline]
+pub(crate) fn single_at(bytes: &[u8], glyph: u16, place: Option<u32>) -> Option<u16> {
+    let i = place?;
     match u16_at(bytes, 0) {
         1 => Some(((u32::from(glyph) + u32::from(u16_at(bytes, 4))) % 65536) as u16),
         2 => {
@@ -65,10 +71,16 @@ pub fn single(bytes: &[u8], glyph: u16) -> Option<u16> {
 ///
 /// </details>
 pub fn set_of(bytes: &[u8], glyph: u16) -> Option<&[u8]> {
+    set_by(bytes, covered(bytes, glyph))
+}
+
+/// The same by the place of the glyph in the set that the subtable begins with.
+#[inline]
+pub(crate) fn set_by(bytes: &[u8], place: Option<u32>) -> Option<&[u8]> {
     if u16_at(bytes, 0) != 1 {
         return None;
     }
-    let i = covered(bytes, glyph)?;
+    let i = place?;
     if i < u32::from(u16_at(bytes, 4)) {
         Some(part(bytes, usize::from(u16_at(bytes, 6 + i as usize * 2))))
     } else {
@@ -90,7 +102,13 @@ pub fn set_of(bytes: &[u8], glyph: u16) -> Option<&[u8]> {
 ///
 /// </details>
 pub fn alternate(bytes: &[u8], glyph: u16, value: u32) -> Option<u16> {
-    let set = set_of(bytes, glyph)?;
+    alternate_at(value, set_of(bytes, glyph))
+}
+
+/// The same by the table that the subtable has for the glyph.
+#[inline]
+pub(crate) fn alternate_at(value: u32, set: Option<&[u8]>) -> Option<u16> {
+    let set = set?;
     if value == 0 || value > u32::from(u16_at(set, 0)) {
         None
     } else {

@@ -5,13 +5,13 @@
 use crate::support::prelude::*;
 
 use crate::generated::opentype_face::bytes::u16_at;
-use crate::generated::opentype_face::lookup::{subtable, subtable_count, subtable_type};
+use crate::generated::opentype_face::lookup::subtable_count;
 use crate::generated::opentype_gsub::apply::{apply_one, number};
 use crate::generated::opentype_gsub::flagging::flag_stretch;
 use crate::generated::opentype_gsub::pass::{Pass, Sights};
 use crate::generated::opentype_gsub::settling::Rule;
 use crate::generated::opentype_gsub::trying::flag_tried;
-use crate::generated::opentype_layout::rules::{Matched, find_rule};
+use crate::generated::opentype_layout::rules::{Matched, find_rule_at};
 use crate::generated::opentype_layout::starts::LookupTable;
 use crate::generated::shapers_buffer::buffer::{GlyphInfo, ShaperError};
 use crate::support::arrayvec::ArrayVec;
@@ -49,21 +49,21 @@ fn begin<'a>(
 fn come_by<'a>(
     pass: &Pass<'_>,
     sights: &Sights,
-    lookup: &'a [u8],
+    lookup: &LookupTable<'a>,
     i: u16,
     text: &mut Vec<GlyphInfo>,
     at: usize,
 ) -> Result<Outcome<'a>, ShaperError> {
-    let kind = subtable_type(7, lookup, i);
-    let bytes = subtable(7, lookup, i);
+    let subtable = lookup.subtable_at(i, number(text, at));
+    let (kind, bytes, place) = (subtable.kind, subtable.bytes, subtable.place);
     if kind == 5 || kind == 6 {
         let (input, context) = (&sights.input, &sights.context);
-        return match find_rule(kind == 6, pass.gdef, input, context, bytes, text, at) {
+        return match find_rule_at(kind == 6, pass.gdef, input, context, bytes, place, text, at) {
             Some(matched) => Ok(Outcome::Fits(begin(pass, kind == 6, matched, text))),
             None => Ok(Outcome::Nothing),
         };
     }
-    match apply_one(pass, &sights.input, kind, bytes, text, at)? {
+    match apply_one(pass, &sights.input, &subtable, text, at)? {
         Some(next) => Ok(Outcome::Done(next)),
         None => Ok(Outcome::Nothing),
     }
@@ -83,7 +83,7 @@ fn come_among<'a>(
         let Some(i) = lookup.next_start(false, number(text, at), from) else {
             return Ok(Outcome::Nothing);
         };
-        match come_by(pass, sights, bytes, i, text, at) {
+        match come_by(pass, sights, lookup, i, text, at) {
             Ok(Outcome::Nothing) => from = i + 1,
             Ok(Outcome::Done(next)) => return Ok(Outcome::Done(next)),
             Ok(Outcome::Fits(rule)) => return Ok(Outcome::Fits(rule)),

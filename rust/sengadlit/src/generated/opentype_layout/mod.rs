@@ -17,4 +17,5 @@ pub mod rules;
 pub mod sets;
 pub mod sight;
 pub mod starts;
+pub mod substitution_tables;
 pub mod tables;

@@ -437,13 +437,26 @@ pub(crate) fn place_of_first(chained: bool, bytes: &[u8]) -> usize {
     }
 }
 
-// The rule of a context of format 3, if it fits a place of a text.
+// Whether the set that a context of format 3 begins with has a glyph; it is asked unless that is
+// known.
+#[inline]
+fn is_begun(chained: bool, bytes: &[u8], glyph: u16, is_known: bool) -> bool {
+    if is_known {
+        return true;
+    }
+    let set = u16_at(bytes, place_of_first(chained, bytes));
+    coverage(part(bytes, usize::from(set)), glyph).is_some()
+}
+
+// The rule of a context of format 3, if it fits a place of a text; the set that it begins with is
+// asked unless it is known to have the glyph there.
 fn find_by_sets<'a>(
     chained: bool,
     gdef: &[u8],
     input: &Sight,
     context: &Sight,
     bytes: &'a [u8],
+    is_known: bool,
     glyphs: &[GlyphInfo],
     at: usize,
 ) -> Option<Matched<'a>> {
@@ -452,10 +465,53 @@ fn find_by_sets<'a>(
     if Tables::of_sets(chained, bytes).are_sets_barred(gdef, input, context, bytes, glyphs, at) {
         return None;
     }
-    let set = u16_at(bytes, place_of_first(chained, bytes));
-    coverage(part(bytes, usize::from(set)), number(&glyphs[at]))?;
+    if !is_begun(chained, bytes, number(&glyphs[at]), is_known) {
+        return None;
+    }
     let rule = Tables::of_sets(chained, bytes).rule(bytes);
     rule.fit(gdef, input, context, glyphs, at)
+}
+
+// The same by the place of the glyph in the set that the rule begins with.
+#[inline]
+fn find_by_first<'a>(
+    chained: bool,
+    gdef: &[u8],
+    input: &Sight,
+    context: &Sight,
+    bytes: &'a [u8],
+    place: Option<u32>,
+    glyphs: &[GlyphInfo],
+    at: usize,
+) -> Option<Matched<'a>> {
+    place?;
+    find_by_sets(chained, gdef, input, context, bytes, true, glyphs, at)
+}
+
+// The first rule of a context of format 1 or 2 that fits a place of a text, by the place of the
+// glyph there in the set that the context begins with.
+fn find_by_place<'a>(
+    chained: bool,
+    gdef: &[u8],
+    input: &Sight,
+    context: &Sight,
+    bytes: &'a [u8],
+    covered: Option<u32>,
+    glyphs: &[GlyphInfo],
+    at: usize,
+) -> Option<Matched<'a>> {
+    let format = u16_at(bytes, 0);
+    let glyph = number(&glyphs[at]);
+    let tables = Tables::of(chained, bytes);
+    let set = match (format, covered) {
+        (1, Some(number)) => rule_set(bytes, 4, number),
+        (2, Some(_)) => {
+            let number = class(tables.input, glyph);
+            rule_set(bytes, place_of_sets(chained), u32::from(number))
+        }
+        _ => return None,
+    };
+    tables.first_rule(gdef, input, context, set, glyphs, at)
 }
 
 /// The first rule of a context that fits a place of a text: its input by one sight, its context by
@@ -483,20 +539,47 @@ pub fn find_rule<'a>(
     glyphs: &[GlyphInfo],
     at: usize,
 ) -> Option<Matched<'a>> {
-    let format = u16_at(bytes, 0);
-    if format == 3 {
-        return find_by_sets(chained, gdef, input, context, bytes, glyphs, at);
+    if u16_at(bytes, 0) == 3 {
+        return find_by_sets(chained, gdef, input, context, bytes, false, glyphs, at);
     }
-    let glyph = number(&glyphs[at]);
-    let tables = Tables::of(chained, bytes);
-    let covered = coverage(part(bytes, usize::from(u16_at(bytes, 2))), glyph);
-    let set = match (format, covered) {
-        (1, Some(number)) => rule_set(bytes, 4, number),
-        (2, Some(_)) => {
-            let number = class(tables.input, glyph);
-            rule_set(bytes, place_of_sets(chained), u32::from(number))
-        }
-        _ => return None,
-    };
-    tables.first_rule(gdef, input, context, set, glyphs, at)
+    let covered = coverage(
+        part(bytes, usize::from(u16_at(bytes, 2))),
+        number(&glyphs[at]),
+    );
+    find_by_place(chained, gdef, input, context, bytes, covered, glyphs, at)
+}
+
+/// The same by the place of the glyph there in the set that the context begins with.
+///
+/// <details><summary>Contract</summary>
+///
+/// # Contract
+///
+/// ```text
+/// requires inside { at < length glyphs.now }
+/// requires place { place
+///     ≡ start_place chained bytes.now ((glyph_at glyphs.now at).glyph_id % 65536) }
+/// ensures { option_map (λ it. found it) result
+///     ≡ context_in chained gdef.now input.now context.now bytes.now glyphs.now at }
+/// ```
+///
+/// - `context_in`, `found`, `start_place`: `crates/opentype_layout/specs/Rules.antt`
+/// - `glyph_at`: `crates/opentype_layout/specs/Text.antt`
+///
+/// </details>
+#[inline]
+pub fn find_rule_at<'a>(
+    chained: bool,
+    gdef: &[u8],
+    input: &Sight,
+    context: &Sight,
+    bytes: &'a [u8],
+    place: Option<u32>,
+    glyphs: &[GlyphInfo],
+    at: usize,
+) -> Option<Matched<'a>> {
+    if u16_at(bytes, 0) == 3 {
+        return find_by_first(chained, gdef, input, context, bytes, place, glyphs, at);
+    }
+    find_by_place(chained, gdef, input, context, bytes, place, glyphs, at)
 }

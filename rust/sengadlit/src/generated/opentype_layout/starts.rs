@@ -12,6 +12,9 @@ use crate::generated::opentype_layout::lookup_rows::mark_column;
 use crate::generated::opentype_layout::pair_tables::{LookupPairs, PairTable};
 use crate::generated::opentype_layout::sets::{span, start};
 use crate::generated::opentype_layout::sight::number;
+use crate::generated::opentype_layout::substitution_tables::{
+    LookupSubstitutions, SubstitutionTable, SubtableAt, subtable_at,
+};
 use crate::generated::shapers_buffer::buffer::GlyphInfo;
 use crate::support::alloc::Global;
 
@@ -249,6 +252,7 @@ pub struct LookupTable<'a> {
     bytes: &'a [u8],
     starts: Option<&'a Starts<'a>>,
     pairs: &'a [PairTable<'a>],
+    substitutions: &'a [SubstitutionTable<'a>],
 }
 
 impl<'a> LookupTable<'a> {
@@ -269,6 +273,7 @@ impl<'a> LookupTable<'a> {
             bytes,
             starts: None,
             pairs: &[],
+            substitutions: &[],
         }
     }
 
@@ -293,6 +298,7 @@ impl<'a> LookupTable<'a> {
             bytes,
             starts: Some(starts),
             pairs: &[],
+            substitutions: &[],
         }
     }
 
@@ -313,6 +319,49 @@ impl<'a> LookupTable<'a> {
         LookupTable {
             pairs: pairs.tables(),
             ..self
+        }
+    }
+
+    /// The same with tables of its subtables of GSUB.
+    ///
+    /// <details><summary>Contract</summary>
+    ///
+    /// # Contract
+    ///
+    /// ```text
+    /// requires { substitutions.now ≡ self }
+    /// ensures { result ≡ self.entry }
+    /// ```
+    ///
+    /// </details>
+    #[inline]
+    pub fn with_substitutions(self, substitutions: &'a LookupSubstitutions<'a>) -> Self {
+        LookupTable {
+            substitutions: substitutions.tables(),
+            ..self
+        }
+    }
+
+    /// A subtable of a lookup of GSUB at a glyph; without a search where it has a table.
+    ///
+    /// <details><summary>Contract</summary>
+    ///
+    /// # Contract
+    ///
+    /// ```text
+    /// ensures kind { result.kind ≡ (nth_subtable self.now i).kind }
+    /// ensures bytes { result.bytes.now ≡ (nth_subtable self.now i).bytes }
+    /// ensures place { result.place ≡ first_place (nth_subtable self.now i) glyph }
+    /// ```
+    ///
+    /// - `first_place`, `nth_subtable`: `crates/opentype_layout/specs/SubstitutionTables.antt`
+    ///
+    /// </details>
+    #[inline]
+    pub fn subtable_at(&self, i: u16, glyph: u16) -> SubtableAt<'a> {
+        match self.substitutions.get(usize::from(i)) {
+            Some(table) => table.at(glyph),
+            None => subtable_at(self.bytes, i, glyph),
         }
     }
 

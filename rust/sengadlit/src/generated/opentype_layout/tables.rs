@@ -9,6 +9,7 @@ use crate::generated::opentype_face::lookup::lookup;
 use crate::generated::opentype_layout::lookup_rows::{LookupBits, lookup_rows, rows_of};
 use crate::generated::opentype_layout::pair_tables::LookupPairs;
 use crate::generated::opentype_layout::starts::{LookupTable, Starts};
+use crate::generated::opentype_layout::substitution_tables::LookupSubstitutions;
 use crate::generated::shapers_buffer::buffer::GlyphInfo;
 use crate::support::alloc::Global;
 
@@ -46,20 +47,37 @@ fn lookup_pairs<'a>(alloc: Global, bytes: &'a [u8], budget: &mut usize) -> Vec<L
     pairs
 }
 
+// The tables of the subtables of each lookup of GSUB.
+fn lookup_substitutions<'a>(
+    alloc: Global,
+    bytes: &'a [u8],
+    budget: &mut usize,
+) -> Vec<LookupSubstitutions<'a>> {
+    let mut substitutions = Vec::new(alloc);
+    for index in 0..lookup_count(bytes) {
+        let table = LookupSubstitutions::new(alloc, lookup(bytes, index), budget);
+        if substitutions.push(table).is_err() {
+            return substitutions;
+        }
+    }
+    substitutions
+}
+
 /// A table with the bits of its lookups.
 #[derive(Debug)]
 pub struct PreparedTable<'a> {
     bytes: &'a [u8],
     starts: Vec<Starts<'a>>,
     pairs: Vec<LookupPairs<'a>>,
+    substitutions: Vec<LookupSubstitutions<'a>>,
     of_gpos: bool,
     rows: Option<Vec<u64>>,
 }
 
 impl<'a> PreparedTable<'a> {
     /// GSUB or GPOS. Lookups for which memory or a budget in bytes doesn't suffice have no bits, and
-    /// their pairs no tables; the table has rows of bits by glyph where both suffice and all lookups
-    /// have bits.
+    /// their pairs and subtables of GSUB no tables; the table has rows of bits by glyph where both
+    /// suffice and all lookups have bits.
     ///
     /// <details><summary>Contract</summary>
     ///
@@ -79,10 +97,17 @@ impl<'a> PreparedTable<'a> {
             Vec::new(alloc)
         };
         let rows = lookup_rows(alloc, of_gpos, bytes, &starts, &mut left);
+        // (last, since bits save more than these do)
+        let substitutions = if of_gpos {
+            Vec::new(alloc)
+        } else {
+            lookup_substitutions(alloc, bytes, &mut left)
+        };
         PreparedTable {
             bytes,
             starts,
             pairs,
+            substitutions,
             of_gpos,
             rows,
         }
@@ -105,6 +130,7 @@ impl<'a> PreparedTable<'a> {
             bytes: self.bytes,
             starts: self.starts.as_slice(),
             pairs: self.pairs.as_slice(),
+            substitutions: self.substitutions.as_slice(),
             of_gpos: self.of_gpos,
             rows: match &self.rows {
                 Some(rows) => Some(rows.as_slice()),
@@ -120,6 +146,7 @@ pub struct LayoutTable<'a> {
     bytes: &'a [u8],
     starts: &'a [Starts<'a>],
     pairs: &'a [LookupPairs<'a>],
+    substitutions: &'a [LookupSubstitutions<'a>],
     of_gpos: bool,
     rows: Option<&'a [u64]>,
 }
@@ -142,6 +169,7 @@ impl<'a> LayoutTable<'a> {
             bytes,
             starts: &[],
             pairs: &[],
+            substitutions: &[],
             of_gpos: false,
             rows: None,
         }
@@ -192,6 +220,9 @@ impl<'a> LayoutTable<'a> {
             return LookupTable::of(lookup(self.bytes, index));
         }
         let table = LookupTable::prepared(&self.starts[at]);
+        if at < self.substitutions.len() {
+            return table.with_substitutions(&self.substitutions[at]);
+        }
         if at >= self.pairs.len() {
             return table;
         }
