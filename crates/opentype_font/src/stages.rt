@@ -59,7 +59,7 @@ pub(crate) fn substitute_by(
     ensures refusal { IsOkUnless result Memory }
     ensures err { OnErr result (buffer.new ≡ buffer.old) }
 {
-    substitute(tables.face.gdef, tables.gsub(), &use_for(lookup), buffer)
+    substitute(tables.classes(), tables.gsub(), &use_for(lookup), buffer)
 }
 
 /// Applies a lookup of GPOS.

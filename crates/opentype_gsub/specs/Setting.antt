@@ -21,7 +21,7 @@ pub record Setting : Type 0 where
 
 abbrev pub setting_of : Pass → Setting
 setting_of pass = record {
-  gdef = pass.gdef.now;
+  gdef = pass.classes.gdef.now;
   gsub = pass.gsub.now;
   level = pass.level;
   concat = pass.concat;

@@ -11,6 +11,7 @@ use crate::ligating::ligate;
 use crate::matching::{Fitting, first_fitting};
 use crate::pass::Pass;
 use opentype_face::bytes::u16_at;
+use opentype_face::class_table::ClassTable;
 use opentype_layout::sight::Sight;
 use opentype_layout::substitution_tables::SubtableAt;
 use shapers_buffer::buffer::{BufferClusterLevel, ShaperError, hb_glyph_info_t};
@@ -37,13 +38,13 @@ pub fn put_sequence(
         return Ok(at);
     }
     if count == 1 {
-        replace(pass.gdef, text, at, u16_at(sequence, 2), 0);
+        replace(&pass.classes, text, at, u16_at(sequence, 2), 0);
         return Ok(at + 1);
     }
     if usize::from(count) - 1 > pass.limit.saturating_sub(text.len()) {
         return Ok(at + 1);
     }
-    multiply(pass.gdef, text, at, sequence)?;
+    multiply(&pass.classes, text, at, sequence)?;
     Ok(at.saturating_add(usize::from(count)))
 }
 
@@ -58,7 +59,7 @@ pub(crate) fn number(text: &[hb_glyph_info_t], at: usize) -> u16
 
 #[tactic(auto, unfolding(crate::specs::Applied::single_put))]
 fn apply_single(
-    gdef: &[u8],
+    classes: &ClassTable<'_>,
     bytes: &[u8],
     place: Option<u32>,
     text: &mut Vec<hb_glyph_info_t>,
@@ -66,12 +67,12 @@ fn apply_single(
 ) -> Option<usize>
     requires here { at < length text.old.items }
     requires place { place ≡ covered_in bytes.now (two_byte_number text.old.items at) }
-    ensures { IsChange (single_put gdef.now bytes.now text.old.items at) text.old.items
+    ensures { IsChange (single_put classes.now.gdef.now bytes.now text.old.items at) text.old.items
         text.new.items result }
 {
     match single_at(bytes, number(text, at), place) {
         Some(to) => {
-            replace(gdef, text, at, to, 0);
+            replace(classes, text, at, to, 0);
             Some(at + 1)
         }
         None => None,
@@ -80,7 +81,7 @@ fn apply_single(
 
 #[tactic(auto, unfolding(crate::specs::Applied::alternate_put))]
 fn apply_alternate(
-    gdef: &[u8],
+    classes: &ClassTable<'_>,
     bytes: &[u8],
     place: Option<u32>,
     value: u32,
@@ -89,12 +90,12 @@ fn apply_alternate(
 ) -> Option<usize>
     requires here { at < length text.old.items }
     requires place { place ≡ covered_in bytes.now (two_byte_number text.old.items at) }
-    ensures { IsChange (alternate_put gdef.now bytes.now value text.old.items at) text.old.items
+    ensures { IsChange (alternate_put classes.now.gdef.now bytes.now value text.old.items at) text.old.items
         text.new.items result }
 {
     match alternate_at(value, set_by(bytes, place)) {
         Some(to) => {
-            replace(gdef, text, at, to, 0);
+            replace(classes, text, at, to, 0);
             Some(at + 1)
         }
         None => None,
@@ -123,7 +124,7 @@ fn apply_multiple(
 #[inline]
 #[tactic(auto, unfolding(crate::specs::Applied::ligated_put))]
 fn apply_ligature(
-    gdef: &[u8],
+    classes: &ClassTable<'_>,
     level: BufferClusterLevel,
     sight: &Sight,
     bytes: &[u8],
@@ -133,19 +134,19 @@ fn apply_ligature(
 ) -> Option<usize>
     requires here { at < length text.old.items }
     requires place { place ≡ covered_in bytes.now (two_byte_number text.old.items at) }
-    ensures { IsChange (ligated_put gdef.now level sight.now bytes.now text.old.items at)
+    ensures { IsChange (ligated_put classes.now.gdef.now level sight.now bytes.now text.old.items at)
         text.old.items text.new.items result }
 {
     let set = set_by(bytes, place)?;
-    match first_fitting(gdef, sight, set, text, at) {
-        Some(fitting) => Some(put_ligature(gdef, level, text, at, &fitting)),
+    match first_fitting(classes.gdef, sight, set, text, at) {
+        Some(fitting) => Some(put_ligature(classes, level, text, at, &fitting)),
         None => None,
     }
 }
 
 // Puts a ligature in.
 fn put_ligature(
-    gdef: &[u8],
+    classes: &ClassTable<'_>,
     level: BufferClusterLevel,
     text: &mut Vec<hb_glyph_info_t>,
     at: usize,
@@ -154,16 +155,16 @@ fn put_ligature(
     requires here { at < length text.old.items }
     requires within { (j : ℕ) → j < length fitting.now.places.items →
         slice_index fitting.now.places.items j < length text.old.items }
-    ensures { ligature_put gdef.now level at text.old.items
+    ensures { ligature_put classes.now.gdef.now level at text.old.items
         (fitting.now.glyph, fitting.now.places.items) ≡ record { text = text.new.items; next = result } }
 {
     let places = fitting.places.as_slice();
     if places.is_empty() {
-        replace(gdef, text, at, fitting.glyph, 0);
+        replace(classes, text, at, fitting.glyph, 0);
         return at + 1;
     }
     let last = places[places.len() - 1];
-    ligate(gdef, level, text, at, places, fitting.glyph);
+    ligate(classes, level, text, at, places, fitting.glyph);
     (last + 1).saturating_sub(places.len())
 }
 
@@ -206,13 +207,13 @@ pub fn apply_one(
 {
     let (bytes, place) = (subtable.bytes, subtable.place);
     match subtable.kind {
-        1 => Ok(apply_single(pass.gdef, bytes, place, text, at)),
+        1 => Ok(apply_single(&pass.classes, bytes, place, text, at)),
         2 => apply_multiple(pass, bytes, place, text, at),
         3 => {
             let value = value(pass.lookup.random, sight, &text[at]);
-            Ok(apply_alternate(pass.gdef, bytes, place, value, text, at))
+            Ok(apply_alternate(&pass.classes, bytes, place, value, text, at))
         }
-        4 => Ok(apply_ligature(pass.gdef, pass.level, sight, bytes, place, text, at)),
+        4 => Ok(apply_ligature(&pass.classes, pass.level, sight, bytes, place, text, at)),
         _ => Ok(None),
     }
 }

@@ -5,7 +5,7 @@ ghost use Rattle.opentype_layout.specs.Text.{glyph_at};
 ghost use Rattle.std.specs.List.{remove};
 
 use opentype_face::bytes::u16_at;
-use opentype_face::classes::{glyph_props, has_glyph_classes};
+use opentype_face::class_table::ClassTable;
 use shapers_buffer::buffer::{
     BufferClusterLevel, GlyphProps, LigProps, ShaperError, hb_glyph_info_t, merge_clusters_in,
 };
@@ -13,50 +13,64 @@ use shapers_buffer::buffer::{
 // The properties of a glyph that is put in.
 #[inline]
 #[tactic(auto, unfolding(crate::specs::Edits::new_props))]
-fn props_for(gdef: &[u8], to: u16, guess: u16, old: u16) -> u16
-    ensures { result ≡ new_props gdef.now to guess old }
+fn props_for(classes: &ClassTable<'_>, to: u16, guess: u16, old: u16) -> u16
+    ensures { result ≡ new_props classes.now.gdef.now to guess old }
 {
     let props = old | 16;
-    if has_glyph_classes(gdef) {
-        props & 112 | glyph_props(gdef, to)
-    } else if guess == 0 {
-        props
-    } else {
-        props & 112 | guess
+    match classes.glyph_props(to) {
+        Some(class) => props & 112 | class,
+        None if guess == 0 => props,
+        None => props & 112 | guess,
     }
 }
 
 /// A glyph with another number; `guess` is its class where the font has none.
 #[inline]
 #[tactic(auto, unfolding(crate::specs::Edits::replaced))]
-pub fn replacement(gdef: &[u8], to: u16, guess: u16, glyph: hb_glyph_info_t) -> hb_glyph_info_t
-    ensures { result ≡ replaced gdef.now to guess glyph }
+pub fn replacement(
+    classes: &ClassTable<'_>,
+    to: u16,
+    guess: u16,
+    glyph: hb_glyph_info_t,
+) -> hb_glyph_info_t
+    ensures { result ≡ replaced classes.now.gdef.now to guess glyph }
 {
     let mut new = glyph;
     new.glyph_id = u32::from(to);
-    new.glyph_props = GlyphProps(props_for(gdef, to, guess, glyph.glyph_props.0));
+    new.glyph_props = GlyphProps(props_for(classes, to, guess, glyph.glyph_props.0));
     new
 }
 
 /// Puts another glyph in.
-pub fn replace(gdef: &[u8], text: &mut Vec<hb_glyph_info_t>, at: usize, to: u16, guess: u16)
+pub fn replace(
+    classes: &ClassTable<'_>,
+    text: &mut Vec<hb_glyph_info_t>,
+    at: usize,
+    to: u16,
+    guess: u16,
+)
     requires { at < length text.old.items }
-    ensures { text.new.items ≡
-        slice_set text.old.items at (replaced gdef.now to guess (glyph_at text.old.items at)) }
+    ensures { let gdef = classes.now.gdef.now in text.new.items ≡
+        slice_set text.old.items at (replaced gdef to guess (glyph_at text.old.items at)) }
 {
     let glyph = text[at];
-    text[at] = replacement(gdef, to, guess, glyph);
+    text[at] = replacement(classes, to, guess, glyph);
 }
 
 // One of a sequence of glyphs that come in for one.
 #[inline]
 #[tactic(auto, unfolding(crate::specs::Edits::sequence_part, crate::specs::Edits::replaced))]
-fn part_for(gdef: &[u8], sequence: &[u8], glyph: hb_glyph_info_t, k: u16) -> hb_glyph_info_t
-    ensures { result ≡ sequence_part gdef.now sequence.now glyph k }
+fn part_for(
+    classes: &ClassTable<'_>,
+    sequence: &[u8],
+    glyph: hb_glyph_info_t,
+    k: u16,
+) -> hb_glyph_info_t
+    ensures { result ≡ sequence_part classes.now.gdef.now sequence.now glyph k }
 {
     let guess = if glyph.glyph_props.0 & 4 == 0 { 0 } else { 2 };
     let to = u16_at(sequence, 2 + usize::from(k) * 2);
-    let mut new = replacement(gdef, to, guess, glyph);
+    let mut new = replacement(classes, to, guess, glyph);
     new.glyph_props = GlyphProps(new.glyph_props.0 | 64);
     if glyph.lig_props.0 < 32 {
         new.lig_props = LigProps((k % 16) as u8);
@@ -78,18 +92,18 @@ pub fn count_of(sequence: &[u8]) -> u16
 ///
 /// `Memory`.
 pub fn multiply(
-    gdef: &[u8],
+    classes: &ClassTable<'_>,
     text: &mut Vec<hb_glyph_info_t>,
     at: usize,
     sequence: &[u8],
 ) -> Result<(), ShaperError>
     requires { at < length text.old.items }
-    ensures { OnOk result (text.new.items ≡ multiplied gdef.now sequence.now at text.old.items) }
+    ensures { OnOk result (text.new.items ≡ multiplied classes.now.gdef.now sequence.now at text.old.items) }
 {
     let glyph = text.remove(at);
     let count = count_of(sequence);
     for k in (0..count).rev() {
-        let part = part_for(gdef, sequence, glyph, k);
+        let part = part_for(classes, sequence, glyph, k);
         text.insert(at, part).map_err(|_| ShaperError::Memory)?;
     }
     Ok(())

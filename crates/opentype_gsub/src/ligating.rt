@@ -6,6 +6,7 @@ ghost use Rattle.opentype_gsub.specs.Ligated.{as_letter, as_mark, components_of,
 ghost use Rattle.opentype_layout.specs.Text.{glyph_at};
 
 use crate::edits::{last_of, merge_up_to, remove_all, replacement};
+use opentype_face::class_table::ClassTable;
 use shapers_buffer::buffer::{
     BufferClusterLevel, GlyphProps, LigProps, UnicodeProps, hb_glyph_info_t,
 };
@@ -282,16 +283,16 @@ fn guess(number: u8) -> u16
 // A glyph that comes in for several.
 #[tactic(auto, unfolding(crate::specs::Ligated::ligature_glyph))]
 fn ligature(
-    gdef: &[u8],
+    classes: &ClassTable<'_>,
     to: u16,
     number: u8,
     count: usize,
     glyph: hb_glyph_info_t,
 ) -> hb_glyph_info_t
     requires { number < 8 }
-    ensures { result ≡ ligature_glyph gdef.now to number count glyph }
+    ensures { result ≡ ligature_glyph classes.now.gdef.now to number count glyph }
 {
-    let mut new = replacement(gdef, to, guess(number), glyph);
+    let mut new = replacement(classes, to, guess(number), glyph);
     new.glyph_props = GlyphProps((new.glyph_props.0 | 32) & 65471);
     if number == 0 {
         return new;
@@ -304,7 +305,7 @@ fn ligature(
 // The ligature in the place of the first glyph, in the cluster of all.
 #[tactic(auto, unfolding(crate::specs::Ligated::ligature_joined))]
 fn join(
-    gdef: &[u8],
+    classes: &ClassTable<'_>,
     level: BufferClusterLevel,
     text: &mut [hb_glyph_info_t],
     at: usize,
@@ -313,7 +314,7 @@ fn join(
 )
     requires here { at < length text.old }
     requires behind { last_place at places.now < length text.old }
-    ensures { text.new ≡ ligature_joined gdef.now level at places.now to text.old }
+    ensures { text.new ≡ ligature_joined classes.now.gdef.now level at places.now to text.old }
 {
     let last = last_of(at, places);
     merge_up_to(level, text, at, last);
@@ -327,12 +328,12 @@ fn join(
     };
     let counted = mark_inside(text, at, last, places, number, none.with(&first));
     mark_behind(text, of_marks, last + 1, number, counted);
-    text[at] = ligature(gdef, to, number, counted.all, first);
+    text[at] = ligature(classes, to, number, counted.all, first);
 }
 
 /// Puts one glyph in for the one at a place and those at other places behind it.
 pub fn ligate(
-    gdef: &[u8],
+    classes: &ClassTable<'_>,
     level: BufferClusterLevel,
     text: &mut Vec<hb_glyph_info_t>,
     at: usize,
@@ -341,8 +342,8 @@ pub fn ligate(
 )
     requires here { at < length text.old.items }
     requires behind { last_place at places.now < length text.old.items }
-    ensures { text.new.items ≡ ligated gdef.now level at places.now to text.old.items }
+    ensures { text.new.items ≡ ligated classes.now.gdef.now level at places.now to text.old.items }
 {
-    join(gdef, level, text, at, places, to);
+    join(classes, level, text, at, places, to);
     remove_all(text, places);
 }

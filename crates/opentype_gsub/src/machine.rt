@@ -74,7 +74,16 @@ fn come_by<'a>(
     let (kind, bytes, place) = (subtable.kind, subtable.bytes, subtable.place);
     if kind == 5 || kind == 6 {
         let (input, context) = (&sights.input, &sights.context);
-        return match find_rule_at(kind == 6, pass.gdef, input, context, bytes, place, text, at) {
+        return match find_rule_at(
+            kind == 6,
+            pass.classes.gdef,
+            input,
+            context,
+            bytes,
+            place,
+            text,
+            at,
+        ) {
             Some(matched) => Ok(Outcome::Fits(begin(pass, kind == 6, matched, text))),
             None => Ok(Outcome::Nothing),
         };
@@ -183,7 +192,9 @@ fn call<'a>(
     let place = rule.places[sequence];
     rule.sequence = sequence;
     rule.before = text.len();
-    let sights = pass.lookup.sights_within(pass.gdef, called.bytes(), 0);
+    let sights = pass
+        .lookup
+        .sights_within(pass.classes.gdef, called.bytes(), 0);
     match try_at(pass, &sights, &called, text, place) {
         Ok(Outcome::Nothing) => Ok(None),
         Ok(Outcome::Done(_)) => {

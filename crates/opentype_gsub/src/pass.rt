@@ -2,6 +2,7 @@
 ghost use Rattle.std.specs.Prelude.{◌≡◌, ℕ, List};
 ghost use Rattle.opentype_gsub.specs.Setting.{how_of, is_seen, sights_of, sights_within, syllable_from};
 
+use opentype_face::class_table::ClassTable;
 use opentype_layout::sight::{Application, Sight, ignores_glyph};
 use opentype_layout::tables::LayoutTable;
 use shapers_buffer::buffer::{BufferClusterLevel, hb_glyph_info_t};
@@ -26,8 +27,8 @@ pub struct LookupUse {
 /// What a lookup is applied by.
 #[derive(Clone, Copy, Debug)]
 pub struct Pass<'a> {
-    /// The table GDEF.
-    pub gdef: &'a [u8],
+    /// The table GDEF, with its classes.
+    pub classes: ClassTable<'a>,
     /// The table GSUB.
     pub gsub: &'a LayoutTable<'a>,
     /// The level of the text's clusters.

@@ -194,8 +194,8 @@ fn flag_tried(pass: &Pass<'_>, lookup: &[u8], glyphs: &mut [hb_glyph_info_t], at
     if !pass.concat {
         return;
     }
-    let sights = pass.lookup.sights(pass.gdef, lookup, &glyphs[at]);
-    let looked = look_among(pass.gdef, &sights, lookup, glyphs, at);
+    let sights = pass.lookup.sights(pass.classes.gdef, lookup, &glyphs[at]);
+    let looked = look_among(pass.classes.gdef, &sights, lookup, glyphs, at);
     flag_joins(glyphs, looked);
 }
 
@@ -251,15 +251,15 @@ fn step_back(pass: &Pass<'_>, lookup: &LookupTable<'_>, text: &mut Vec<hb_glyph_
         return;
     }
     let bytes = lookup.bytes();
-    if !pass.lookup.sees(pass.gdef, bytes, &glyph) {
+    if !pass.lookup.sees(pass.classes.gdef, bytes, &glyph) {
         return;
     }
-    let sights = pass.lookup.sights(pass.gdef, bytes, &glyph);
+    let sights = pass.lookup.sights(pass.classes.gdef, bytes, &glyph);
     flag_tried(pass, bytes, text, at);
-    if let Some(it) = first(pass.gdef, &sights, bytes, text, at) {
+    if let Some(it) = first(pass.classes.gdef, &sights, bytes, text, at) {
         let len = text.len();
         flag_stretch(text, len, it.start, it.stop);
-        replace(pass.gdef, text, at, it.glyph, 0);
+        replace(&pass.classes, text, at, it.glyph, 0);
     }
 }
 

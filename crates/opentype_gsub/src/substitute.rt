@@ -12,6 +12,7 @@ use crate::pass::{LookupUse, Pass};
 use crate::presence::first_place;
 use crate::reverse::walk_back;
 use crate::walk::walk;
+use opentype_face::class_table::ClassTable;
 use opentype_face::lookup::subtable_type;
 use opentype_layout::starts::LookupTable;
 use opentype_layout::tables::LayoutTable;
@@ -90,7 +91,7 @@ fn apply(
 #[inline(never)]
 #[tactic(auto, unfolding(crate::specs::Substituted::substituted))]
 fn substitute_from(
-    gdef: &[u8],
+    classes: &ClassTable<'_>,
     gsub: &LayoutTable<'_>,
     lookup_use: &LookupUse,
     table: &LookupTable<'_>,
@@ -102,13 +103,13 @@ fn substitute_from(
     requires left { (j : ℕ) → j < first →
         is_left lookup_use.now table.now (glyph_at buffer.old.glyphs j) ≡ true }
     requires within { first ≤ length buffer.old.glyphs }
-    ensures ok { OnOk result (buffer.new ≡ substituted gdef.now gsub.now lookup_use.now buffer.old) }
+    ensures ok { OnOk result (buffer.new ≡ substituted classes.now.gdef.now gsub.now lookup_use.now buffer.old) }
     ensures refusal { IsOkUnless result Memory }
     ensures err { OnErr result (buffer.new ≡ buffer.old) }
 {
     let len = buffer.len();
     let pass = Pass {
-        gdef,
+        classes: *classes,
         gsub,
         level: buffer.cluster_level(),
         concat: wants_concat(buffer.flags()),
@@ -131,13 +132,13 @@ fn substitute_from(
 #[inline]
 #[tactic(auto, unfolding(crate::specs::Substituted::substituted))]
 pub fn substitute(
-    gdef: &[u8],
+    classes: &ClassTable<'_>,
     gsub: &LayoutTable<'_>,
     lookup_use: &LookupUse,
     buffer: &mut hb_buffer_t,
 ) -> Result<(), ShaperError>
     requires { buffer.old.positions ≡ [] }
-    ensures ok { OnOk result (buffer.new ≡ substituted gdef.now gsub.now lookup_use.now buffer.old) }
+    ensures ok { OnOk result (buffer.new ≡ substituted classes.now.gdef.now gsub.now lookup_use.now buffer.old) }
     ensures refusal { IsOkUnless result Memory }
     ensures err { OnErr result (buffer.new ≡ buffer.old) }
 {
@@ -147,5 +148,5 @@ pub fn substitute(
     if first >= buffer.len() {
         return Ok(());
     }
-    substitute_from(gdef, gsub, lookup_use, &table, first, buffer)
+    substitute_from(classes, gsub, lookup_use, &table, first, buffer)
 }

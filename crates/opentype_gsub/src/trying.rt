@@ -29,7 +29,7 @@ fn ligates(
         result ≡ is_some (ligated_put s.gdef s.level sights.now.input bytes.now glyphs.now at) }
 {
     match set_of(bytes, number(glyphs, at)) {
-        Some(set) => first_fitting(pass.gdef, &sights.input, set, glyphs, at).is_some(),
+        Some(set) => first_fitting(pass.classes.gdef, &sights.input, set, glyphs, at).is_some(),
         None => false,
     }
 }
@@ -90,7 +90,16 @@ fn comes(
     let bytes = subtable(7, lookup, i);
     if kind == 5 || kind == 6 {
         let (input, context) = (&sights.input, &sights.context);
-        return find_rule(kind == 6, pass.gdef, input, context, bytes, glyphs, at).is_some();
+        return find_rule(
+            kind == 6,
+            pass.classes.gdef,
+            input,
+            context,
+            bytes,
+            glyphs,
+            at,
+        )
+        .is_some();
     }
     applies(pass, sights, kind, bytes, glyphs, at)
 }
@@ -110,7 +119,7 @@ fn look_by(
 {
     let kind = subtable_type(7, lookup, i);
     match rules(kind, subtable(7, lookup, i), number(glyphs, at)) {
-        Some(rules) => rules.look(pass.gdef, sights, pass.len, glyphs, at),
+        Some(rules) => rules.look(pass.classes.gdef, sights, pass.len, glyphs, at),
         None => Stretch::none(at),
     }
 }
@@ -156,7 +165,7 @@ fn flag_looked(pass: &Pass<'_>, lookup: &[u8], glyphs: &mut [hb_glyph_info_t], a
         let sights = sights_of s.gdef s.lookup lookup.now (glyph_at glyphs.old at) in
         glyphs.new ≡ unjoined (lookup_looked s sights lookup.now glyphs.old at) glyphs.old }
 {
-    let sights = pass.lookup.sights(pass.gdef, lookup, &glyphs[at]);
+    let sights = pass.lookup.sights(pass.classes.gdef, lookup, &glyphs[at]);
     let looked = look_among(pass, &sights, lookup, glyphs, at);
     flag_joins(glyphs, looked);
 }

@@ -36,7 +36,7 @@ fn step<'a>(
         ≡ record { text = text.new.items; next = it.next; left = it.left }) }
 {
     let next = at + 1;
-    if !pass.lookup.sees_by(pass.gdef, sights, &text[at]) {
+    if !pass.lookup.sees_by(pass.classes.gdef, sights, &text[at]) {
         return Ok(Progress { next, left });
     }
     let reached = apply_nested(pass, sights, lookup, text, at, left)?;
@@ -65,7 +65,9 @@ pub fn walk<'a>(
     ensures { OnOk result (text.new.items
         ≡ lookup_walked steps (lookup_stepped (setting_of pass.now) lookup.now) text.old.items first operations) }
 {
-    let sights = pass.lookup.sights_within(pass.gdef, lookup.bytes(), 0);
+    let sights = pass
+        .lookup
+        .sights_within(pass.classes.gdef, lookup.bytes(), 0);
     let (mut at, mut left, mut steps) = (first, operations, steps);
     while steps > 0 {
         let place = next_place(&pass.lookup, lookup, text, at);

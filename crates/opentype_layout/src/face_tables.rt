@@ -61,6 +61,14 @@ impl<'a> FaceTables<'a> {
         self.classes.glyph_props(glyph)
     }
 
+    /// GDEF, with its classes.
+    #[inline]
+    pub fn classes(&self) -> &ClassTable<'a>
+        ensures { result.now.gdef.now ≡ self.now.face.gdef.now }
+    {
+        &self.classes
+    }
+
     /// GSUB.
     #[inline]
     pub fn gsub(&self) -> &LayoutTable<'a>

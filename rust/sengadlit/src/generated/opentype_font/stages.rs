@@ -45,7 +45,7 @@ pub(crate) fn substitute_by(
     lookup: &StageLookup,
     buffer: &mut Buffer,
 ) -> Result<(), ShaperError> {
-    substitute(tables.face.gdef, tables.gsub(), &use_for(lookup), buffer)
+    substitute(tables.classes(), tables.gsub(), &use_for(lookup), buffer)
 }
 
 /// Applies a lookup of GPOS.

@@ -5,6 +5,7 @@
 use crate::support::prelude::*;
 
 use crate::generated::opentype_face::bytes::u16_at;
+use crate::generated::opentype_face::class_table::ClassTable;
 use crate::generated::opentype_gsub::decided::{alternate_at, set_by, single_at};
 use crate::generated::opentype_gsub::edits::{count_of, delete, multiply, replace};
 use crate::generated::opentype_gsub::ligating::ligate;
@@ -49,13 +50,13 @@ pub fn put_sequence(
         return Ok(at);
     }
     if count == 1 {
-        replace(pass.gdef, text, at, u16_at(sequence, 2), 0);
+        replace(&pass.classes, text, at, u16_at(sequence, 2), 0);
         return Ok(at + 1);
     }
     if usize::from(count) - 1 > pass.limit.saturating_sub(text.len()) {
         return Ok(at + 1);
     }
-    multiply(pass.gdef, text, at, sequence)?;
+    multiply(&pass.classes, text, at, sequence)?;
     Ok(at.saturating_add(usize::from(count)))
 }
 
@@ -66,7 +67,7 @@ pub(crate) fn number(text: &[GlyphInfo], at: usize) -> u16 {
 }
 
 fn apply_single(
-    gdef: &[u8],
+    classes: &ClassTable<'_>,
     bytes: &[u8],
     place: Option<u32>,
     text: &mut Vec<GlyphInfo>,
@@ -74,7 +75,7 @@ fn apply_single(
 ) -> Option<usize> {
     match single_at(bytes, number(text, at), place) {
         Some(to) => {
-            replace(gdef, text, at, to, 0);
+            replace(classes, text, at, to, 0);
             Some(at + 1)
         }
         None => None,
@@ -82,7 +83,7 @@ fn apply_single(
 }
 
 fn apply_alternate(
-    gdef: &[u8],
+    classes: &ClassTable<'_>,
     bytes: &[u8],
     place: Option<u32>,
     value: u32,
@@ -91,7 +92,7 @@ fn apply_alternate(
 ) -> Option<usize> {
     match alternate_at(value, set_by(bytes, place)) {
         Some(to) => {
-            replace(gdef, text, at, to, 0);
+            replace(classes, text, at, to, 0);
             Some(at + 1)
         }
         None => None,
@@ -113,7 +114,7 @@ fn apply_multiple(
 
 #[inline]
 fn apply_ligature(
-    gdef: &[u8],
+    classes: &ClassTable<'_>,
     level: BufferClusterLevel,
     sight: &Sight,
     bytes: &[u8],
@@ -122,15 +123,15 @@ fn apply_ligature(
     at: usize,
 ) -> Option<usize> {
     let set = set_by(bytes, place)?;
-    match first_fitting(gdef, sight, set, text, at) {
-        Some(fitting) => Some(put_ligature(gdef, level, text, at, &fitting)),
+    match first_fitting(classes.gdef, sight, set, text, at) {
+        Some(fitting) => Some(put_ligature(classes, level, text, at, &fitting)),
         None => None,
     }
 }
 
 // Puts a ligature in.
 fn put_ligature(
-    gdef: &[u8],
+    classes: &ClassTable<'_>,
     level: BufferClusterLevel,
     text: &mut Vec<GlyphInfo>,
     at: usize,
@@ -138,11 +139,11 @@ fn put_ligature(
 ) -> usize {
     let places = fitting.places.as_slice();
     if places.is_empty() {
-        replace(gdef, text, at, fitting.glyph, 0);
+        replace(classes, text, at, fitting.glyph, 0);
         return at + 1;
     }
     let last = places[places.len() - 1];
-    ligate(gdef, level, text, at, places, fitting.glyph);
+    ligate(classes, level, text, at, places, fitting.glyph);
     (last + 1).saturating_sub(places.len())
 }
 
@@ -196,14 +197,27 @@ pub fn apply_one(
 ) -> Result<Option<usize>, ShaperError> {
     let (bytes, place) = (subtable.bytes, subtable.place);
     match subtable.kind {
-        1 => Ok(apply_single(pass.gdef, bytes, place, text, at)),
+        1 => Ok(apply_single(&pass.classes, bytes, place, text, at)),
         2 => apply_multiple(pass, bytes, place, text, at),
         3 => {
             let value = value(pass.lookup.random, sight, &text[at]);
-            Ok(apply_alternate(pass.gdef, bytes, place, value, text, at))
+            Ok(apply_alternate(
+                &pass.classes,
+                bytes,
+                place,
+                value,
+                text,
+                at,
+            ))
         }
         4 => Ok(apply_ligature(
-            pass.gdef, pass.level, sight, bytes, place, text, at,
+            &pass.classes,
+            pass.level,
+            sight,
+            bytes,
+            place,
+            text,
+            at,
         )),
         _ => Ok(None),
     }

@@ -5,21 +5,19 @@
 use crate::support::prelude::*;
 
 use crate::generated::opentype_face::bytes::u16_at;
-use crate::generated::opentype_face::classes::{glyph_props, has_glyph_classes};
+use crate::generated::opentype_face::class_table::ClassTable;
 use crate::generated::shapers_buffer::buffer::{
     BufferClusterLevel, GlyphInfo, GlyphProps, LigProps, ShaperError, merge_clusters_in,
 };
 
 // The properties of a glyph that is put in.
 #[inline]
-fn props_for(gdef: &[u8], to: u16, guess: u16, old: u16) -> u16 {
+fn props_for(classes: &ClassTable<'_>, to: u16, guess: u16, old: u16) -> u16 {
     let props = old | 16;
-    if has_glyph_classes(gdef) {
-        props & 112 | glyph_props(gdef, to)
-    } else if guess == 0 {
-        props
-    } else {
-        props & 112 | guess
+    match classes.glyph_props(to) {
+        Some(class) => props & 112 | class,
+        None if guess == 0 => props,
+        None => props & 112 | guess,
     }
 }
 
@@ -30,17 +28,17 @@ fn props_for(gdef: &[u8], to: u16, guess: u16, old: u16) -> u16 {
 /// # Contract
 ///
 /// ```text
-/// ensures { result ≡ replaced gdef.now to guess glyph }
+/// ensures { result ≡ replaced classes.now.gdef.now to guess glyph }
 /// ```
 ///
 /// - `replaced`: `crates/opentype_gsub/specs/Edits.antt`
 ///
 /// </details>
 #[inline]
-pub fn replacement(gdef: &[u8], to: u16, guess: u16, glyph: GlyphInfo) -> GlyphInfo {
+pub fn replacement(classes: &ClassTable<'_>, to: u16, guess: u16, glyph: GlyphInfo) -> GlyphInfo {
     let mut new = glyph;
     new.glyph_id = u32::from(to);
-    new.glyph_props = GlyphProps(props_for(gdef, to, guess, glyph.glyph_props.0));
+    new.glyph_props = GlyphProps(props_for(classes, to, guess, glyph.glyph_props.0));
     new
 }
 
@@ -52,25 +50,31 @@ pub fn replacement(gdef: &[u8], to: u16, guess: u16, glyph: GlyphInfo) -> GlyphI
 ///
 /// ```text
 /// requires { at < length text.old.items }
-/// ensures { text.new.items ≡
-///     slice_set text.old.items at (replaced gdef.now to guess (glyph_at text.old.items at)) }
+/// ensures { let gdef = classes.now.gdef.now in text.new.items ≡
+///     slice_set text.old.items at (replaced gdef to guess (glyph_at text.old.items at)) }
 /// ```
 ///
 /// - `replaced`: `crates/opentype_gsub/specs/Edits.antt`
 /// - `glyph_at`: `crates/opentype_layout/specs/Text.antt`
 ///
 /// </details>
-pub fn replace(gdef: &[u8], text: &mut Vec<GlyphInfo>, at: usize, to: u16, guess: u16) {
+pub fn replace(
+    classes: &ClassTable<'_>,
+    text: &mut Vec<GlyphInfo>,
+    at: usize,
+    to: u16,
+    guess: u16,
+) {
     let glyph = text[at];
-    text[at] = replacement(gdef, to, guess, glyph);
+    text[at] = replacement(classes, to, guess, glyph);
 }
 
 // One of a sequence of glyphs that come in for one.
 #[inline]
-fn part_for(gdef: &[u8], sequence: &[u8], glyph: GlyphInfo, k: u16) -> GlyphInfo {
+fn part_for(classes: &ClassTable<'_>, sequence: &[u8], glyph: GlyphInfo, k: u16) -> GlyphInfo {
     let guess = if glyph.glyph_props.0 & 4 == 0 { 0 } else { 2 };
     let to = u16_at(sequence, 2 + usize::from(k) * 2);
-    let mut new = replacement(gdef, to, guess, glyph);
+    let mut new = replacement(classes, to, guess, glyph);
     new.glyph_props = GlyphProps(new.glyph_props.0 | 64);
     if glyph.lig_props.0 < 32 {
         new.lig_props = LigProps((k % 16) as u8);
@@ -108,7 +112,7 @@ pub fn count_of(sequence: &[u8]) -> u16 {
 ///
 /// ```text
 /// requires { at < length text.old.items }
-/// ensures { OnOk result (text.new.items ≡ multiplied gdef.now sequence.now at text.old.items) }
+/// ensures { OnOk result (text.new.items ≡ multiplied classes.now.gdef.now sequence.now at text.old.items) }
 /// ```
 ///
 /// - `multiplied`: `crates/opentype_gsub/specs/Edits.antt`
@@ -117,7 +121,7 @@ pub fn count_of(sequence: &[u8]) -> u16 {
 ///
 /// [`Memory`]: crate::ShaperError::Memory
 pub fn multiply(
-    gdef: &[u8],
+    classes: &ClassTable<'_>,
     text: &mut Vec<GlyphInfo>,
     at: usize,
     sequence: &[u8],
@@ -125,7 +129,7 @@ pub fn multiply(
     let glyph = text.remove(at);
     let count = count_of(sequence);
     for k in (0..count).rev() {
-        let part = part_for(gdef, sequence, glyph, k);
+        let part = part_for(classes, sequence, glyph, k);
         text.insert(at, part).map_err(|_| ShaperError::Memory)?;
     }
     Ok(())

@@ -4,6 +4,7 @@
 
 use crate::support::prelude::*;
 
+use crate::generated::opentype_face::class_table::ClassTable;
 use crate::generated::opentype_gsub::edits::{last_of, merge_up_to, remove_all, replacement};
 use crate::generated::shapers_buffer::buffer::{
     BufferClusterLevel, GlyphInfo, GlyphProps, LigProps, UnicodeProps,
@@ -206,8 +207,14 @@ fn guess(number: u8) -> u16 {
 }
 
 // A glyph that comes in for several.
-fn ligature(gdef: &[u8], to: u16, number: u8, count: usize, glyph: GlyphInfo) -> GlyphInfo {
-    let mut new = replacement(gdef, to, guess(number), glyph);
+fn ligature(
+    classes: &ClassTable<'_>,
+    to: u16,
+    number: u8,
+    count: usize,
+    glyph: GlyphInfo,
+) -> GlyphInfo {
+    let mut new = replacement(classes, to, guess(number), glyph);
     new.glyph_props = GlyphProps((new.glyph_props.0 | 32) & 65471);
     if number == 0 {
         return new;
@@ -219,7 +226,7 @@ fn ligature(gdef: &[u8], to: u16, number: u8, count: usize, glyph: GlyphInfo) ->
 
 // The ligature in the place of the first glyph, in the cluster of all.
 fn join(
-    gdef: &[u8],
+    classes: &ClassTable<'_>,
     level: BufferClusterLevel,
     text: &mut [GlyphInfo],
     at: usize,
@@ -238,7 +245,7 @@ fn join(
     };
     let counted = mark_inside(text, at, last, places, number, none.with(&first));
     mark_behind(text, of_marks, last + 1, number, counted);
-    text[at] = ligature(gdef, to, number, counted.all, first);
+    text[at] = ligature(classes, to, number, counted.all, first);
 }
 
 /// Puts one glyph in for the one at a place and those at other places behind it.
@@ -250,7 +257,7 @@ fn join(
 /// ```text
 /// requires here { at < length text.old.items }
 /// requires behind { last_place at places.now < length text.old.items }
-/// ensures { text.new.items ≡ ligated gdef.now level at places.now to text.old.items }
+/// ensures { text.new.items ≡ ligated classes.now.gdef.now level at places.now to text.old.items }
 /// ```
 ///
 /// - `last_place`: `crates/opentype_gsub/specs/Edits.antt`
@@ -258,13 +265,13 @@ fn join(
 ///
 /// </details>
 pub fn ligate(
-    gdef: &[u8],
+    classes: &ClassTable<'_>,
     level: BufferClusterLevel,
     text: &mut Vec<GlyphInfo>,
     at: usize,
     places: &[usize],
     to: u16,
 ) {
-    join(gdef, level, text, at, places, to);
+    join(classes, level, text, at, places, to);
     remove_all(text, places);
 }

@@ -2,6 +2,7 @@
 
 //! A lookup of GSUB as it is applied to a text, and which glyphs it sees.
 
+use crate::generated::opentype_face::class_table::ClassTable;
 use crate::generated::opentype_layout::sight::{Application, Sight, ignores_glyph};
 use crate::generated::opentype_layout::tables::LayoutTable;
 use crate::generated::shapers_buffer::buffer::{BufferClusterLevel, GlyphInfo};
@@ -26,8 +27,8 @@ pub struct LookupUse {
 /// What a lookup is applied by.
 #[derive(Clone, Copy, Debug)]
 pub struct Pass<'a> {
-    /// The table GDEF.
-    pub gdef: &'a [u8],
+    /// The table GDEF, with its classes.
+    pub classes: ClassTable<'a>,
     /// The table GSUB.
     pub gsub: &'a LayoutTable<'a>,
     /// The level of the text's clusters.

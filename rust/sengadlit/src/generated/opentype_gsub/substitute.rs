@@ -4,6 +4,7 @@
 
 use crate::support::prelude::*;
 
+use crate::generated::opentype_face::class_table::ClassTable;
 use crate::generated::opentype_face::lookup::subtable_type;
 use crate::generated::opentype_gsub::pass::{LookupUse, Pass};
 use crate::generated::opentype_gsub::presence::first_place;
@@ -71,7 +72,7 @@ fn apply(
 // The same from a place on, before which the lookup can't begin, by its table.
 #[inline(never)]
 fn substitute_from(
-    gdef: &[u8],
+    classes: &ClassTable<'_>,
     gsub: &LayoutTable<'_>,
     lookup_use: &LookupUse,
     table: &LookupTable<'_>,
@@ -80,7 +81,7 @@ fn substitute_from(
 ) -> Result<(), ShaperError> {
     let len = buffer.len();
     let pass = Pass {
-        gdef,
+        classes: *classes,
         gsub,
         level: buffer.cluster_level(),
         concat: wants_concat(buffer.flags()),
@@ -107,7 +108,7 @@ fn substitute_from(
 ///
 /// ```text
 /// requires { buffer.old.positions ≡ [] }
-/// ensures ok { OnOk result (buffer.new ≡ substituted gdef.now gsub.now lookup_use.now buffer.old) }
+/// ensures ok { OnOk result (buffer.new ≡ substituted classes.now.gdef.now gsub.now lookup_use.now buffer.old) }
 /// ensures refusal { IsOkUnless result Memory }
 /// ensures err { OnErr result (buffer.new ≡ buffer.old) }
 /// ```
@@ -119,7 +120,7 @@ fn substitute_from(
 /// [`Memory`]: crate::ShaperError::Memory
 #[inline]
 pub fn substitute(
-    gdef: &[u8],
+    classes: &ClassTable<'_>,
     gsub: &LayoutTable<'_>,
     lookup_use: &LookupUse,
     buffer: &mut Buffer,
@@ -130,5 +131,5 @@ pub fn substitute(
     if first >= buffer.len() {
         return Ok(());
     }
-    substitute_from(gdef, gsub, lookup_use, &table, first, buffer)
+    substitute_from(classes, gsub, lookup_use, &table, first, buffer)
 }

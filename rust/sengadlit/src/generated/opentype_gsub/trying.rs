@@ -20,7 +20,7 @@ fn ligates(
     at: usize,
 ) -> bool {
     match set_of(bytes, number(glyphs, at)) {
-        Some(set) => first_fitting(pass.gdef, &sights.input, set, glyphs, at).is_some(),
+        Some(set) => first_fitting(pass.classes.gdef, &sights.input, set, glyphs, at).is_some(),
         None => false,
     }
 }
@@ -68,7 +68,16 @@ fn comes(
     let bytes = subtable(7, lookup, i);
     if kind == 5 || kind == 6 {
         let (input, context) = (&sights.input, &sights.context);
-        return find_rule(kind == 6, pass.gdef, input, context, bytes, glyphs, at).is_some();
+        return find_rule(
+            kind == 6,
+            pass.classes.gdef,
+            input,
+            context,
+            bytes,
+            glyphs,
+            at,
+        )
+        .is_some();
     }
     applies(pass, sights, kind, bytes, glyphs, at)
 }
@@ -84,7 +93,7 @@ fn look_by(
 ) -> Stretch {
     let kind = subtable_type(7, lookup, i);
     match rules(kind, subtable(7, lookup, i), number(glyphs, at)) {
-        Some(rules) => rules.look(pass.gdef, sights, pass.len, glyphs, at),
+        Some(rules) => rules.look(pass.classes.gdef, sights, pass.len, glyphs, at),
         None => Stretch::none(at),
     }
 }
@@ -119,7 +128,7 @@ pub(crate) fn flag_joins(glyphs: &mut [GlyphInfo], looked: Stretch) {
 // Flags what a lookup's rules look at that don't fit a place. (Few callers want that.)
 #[inline(never)]
 fn flag_looked(pass: &Pass<'_>, lookup: &[u8], glyphs: &mut [GlyphInfo], at: usize) {
-    let sights = pass.lookup.sights(pass.gdef, lookup, &glyphs[at]);
+    let sights = pass.lookup.sights(pass.classes.gdef, lookup, &glyphs[at]);
     let looked = look_among(pass, &sights, lookup, glyphs, at);
     flag_joins(glyphs, looked);
 }

@@ -30,7 +30,7 @@ fn step<'a>(
     left: usize,
 ) -> Result<Progress, ShaperError> {
     let next = at + 1;
-    if !pass.lookup.sees_by(pass.gdef, sights, &text[at]) {
+    if !pass.lookup.sees_by(pass.classes.gdef, sights, &text[at]) {
         return Ok(Progress { next, left });
     }
     let reached = apply_nested(pass, sights, lookup, text, at, left)?;
@@ -72,7 +72,9 @@ pub fn walk<'a>(
     steps: usize,
     operations: usize,
 ) -> Result<(), ShaperError> {
-    let sights = pass.lookup.sights_within(pass.gdef, lookup.bytes(), 0);
+    let sights = pass
+        .lookup
+        .sights_within(pass.classes.gdef, lookup.bytes(), 0);
     let (mut at, mut left, mut steps) = (first, operations, steps);
     while steps > 0 {
         let place = next_place(&pass.lookup, lookup, text, at);

@@ -83,6 +83,22 @@ impl<'a> FaceTables<'a> {
         self.classes.glyph_props(glyph)
     }
 
+    /// GDEF, with its classes.
+    ///
+    /// <details><summary>Contract</summary>
+    ///
+    /// # Contract
+    ///
+    /// ```text
+    /// ensures { result.now.gdef.now ≡ self.now.face.gdef.now }
+    /// ```
+    ///
+    /// </details>
+    #[inline]
+    pub fn classes(&self) -> &ClassTable<'a> {
+        &self.classes
+    }
+
     /// GSUB.
     ///
     /// <details><summary>Contract</summary>
