@@ -9,6 +9,7 @@ pub mod MasksAgain
 pub mod ShapedCarets
 pub mod Shared
 pub mod SpanEdits
+pub mod StopRooms
 pub mod Stops
 pub mod PipelineBreaks
 mod PipelineBreakRows

@@ -1,5 +1,5 @@
 //! Where a caret may stand in a shaped text.
-ghost use Rattle.std.specs.Prelude.{◌≡◌, List, ◌∷◌, [], ℕ, map, nat_lt, reverse, IsOkUnless, OnErr, OnOk};
+ghost use Rattle.std.specs.Prelude.{◌≡◌, ◌<◌, ◌≤◌, List, ◌∷◌, [], ℕ, length, nat_lt, reverse, vec_capacity, IsOk, IsOkUnless, OnErr, OnOk};
 ghost use Rattle.std.specs.List.{list_all};
 ghost use Rattle.shapers_buffer.specs.declared.buffer.refusal.ShaperError.TheVariants.{Memory};
 ghost use Rattle.shapers_buffer.specs.Glyph.{clusters};
@@ -30,6 +30,7 @@ pub fn caret_stops(
 ) -> Result<(), ShaperError>
     ensures stops { OnOk result (stops.new.items ≡ caret_stops direction glyphs.now) }
     ensures refusal { IsOkUnless result Memory }
+    ensures room { length (caret_stops direction glyphs.now) ≤ vec_capacity stops.old → IsOk result }
     ensures err { OnErr result (stops.new.items ≡ []) }
 {
     stops.clear();
@@ -50,6 +51,8 @@ fn push_from_start(glyphs: &[hb_glyph_info_t], stops: &mut Vec<u32>) -> Result<(
     ensures stops { OnOk result
         (stops.new.items ≡ reverse (lesser (reverse (clusters glyphs.now)))) }
     ensures refusal { IsOkUnless result Memory }
+    ensures full { OnErr result
+        (vec_capacity stops.old < length (lesser (reverse (clusters glyphs.now)))) }
 {
     for glyph in glyphs {
         push_lesser(glyph.cluster, stops)?;
@@ -57,14 +60,17 @@ fn push_from_start(glyphs: &[hb_glyph_info_t], stops: &mut Vec<u32>) -> Result<(
     Ok(())
 }
 
-// The same of a text whose last glyph is the list's last.
+// Pushes the stops of a text whose last glyph is the list's last, the last stop first.
 fn push_from_end(glyphs: &[hb_glyph_info_t], stops: &mut Vec<u32>) -> Result<(), ShaperError>
     requires { stops.old.items ≡ [] }
     ensures stops { OnOk result (stops.new.items ≡ reverse (lesser (clusters glyphs.now))) }
     ensures refusal { IsOkUnless result Memory }
+    ensures full { OnErr result (vec_capacity stops.old < length (lesser (clusters glyphs.now))) }
 {
-    for glyph in glyphs.iter().rev() {
-        push_lesser(glyph.cluster, stops)?;
+    let mut behind = glyphs.len();
+    while behind > 0 {
+        behind -= 1;
+        push_lesser(glyphs[behind].cluster, stops)?;
     }
     Ok(())
 }
@@ -74,6 +80,9 @@ fn push_lesser(cluster: u32, stops: &mut Vec<u32>) -> Result<(), ShaperError>
     ensures stops { OnOk result ((behind : List ℕ) → stops.old.items ≡ reverse (lesser behind) →
         stops.new.items ≡ reverse (lesser (cluster ∷ behind))) }
     ensures refusal { IsOkUnless result Memory }
+    ensures full { OnErr result ((behind : List ℕ) → stops.old.items ≡ reverse (lesser behind) →
+        vec_capacity stops.old < length (lesser (cluster ∷ behind))) }
+    ensures capacity { vec_capacity stops.old ≤ vec_capacity stops.new }
 {
     if is_lesser(cluster, stops) {
         stops.push(cluster).map_err(|_| ShaperError::Memory)?;

@@ -30,6 +30,7 @@ use crate::generated::shapers_buffer::buffer::{Direction, GlyphInfo, ShaperError
 /// ```text
 /// ensures stops { OnOk result (stops.new.items ≡ caret_stops direction glyphs.now) }
 /// ensures refusal { IsOkUnless result Memory }
+/// ensures room { length (caret_stops direction glyphs.now) ≤ vec_capacity stops.old → IsOk result }
 /// ensures err { OnErr result (stops.new.items ≡ []) }
 /// ```
 ///
@@ -63,10 +64,12 @@ fn push_from_start(glyphs: &[GlyphInfo], stops: &mut Vec<u32>) -> Result<(), Sha
     Ok(())
 }
 
-// The same of a text whose last glyph is the list's last.
+// Pushes the stops of a text whose last glyph is the list's last, the last stop first.
 fn push_from_end(glyphs: &[GlyphInfo], stops: &mut Vec<u32>) -> Result<(), ShaperError> {
-    for glyph in glyphs.iter().rev() {
-        push_lesser(glyph.cluster, stops)?;
+    let mut behind = glyphs.len();
+    while behind > 0 {
+        behind -= 1;
+        push_lesser(glyphs[behind].cluster, stops)?;
     }
     Ok(())
 }
