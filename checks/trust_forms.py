@@ -268,13 +268,24 @@ def head_of(words):
     return name
 
 
+def bounds_of(tokens, first):
+    """The bounds of the parameters of the impl at a place, by the parameters' names, where each has one."""
+    texts = [token.text for token in tokens[first + 1 : behind_generics(tokens, first + 1)]]
+    return {texts[at - 1]: texts[at + 1] for at, text in enumerate(texts) if text == ":"}
+
+
 def foreign_impls(files):
-    """An impl of a trait of these files for a type that isn't theirs: there a call could choose another method."""
+    """An impl of a trait of these files for a type that isn't theirs: there a call could choose another method.
+
+    An impl for each type with a trait of these files is for theirs, since the impls of that trait are."""
     traits = {name for tokens in files.values() for _, _, name, of in blocks(tokens) if of is None}
     types = {name for tokens in files.values() for name in types_of(tokens)}
     for path, tokens in files.items():
         for first, _, trait, of in blocks(tokens):
-            if of and trait in traits and (of[0] in ("&", "&&", "(", "[", "*") or head_of(of) not in types):
+            if not of or trait not in traits:
+                continue
+            is_bound = len(of) == 1 and bounds_of(tokens, first).get(of[0]) in traits
+            if not is_bound and (of[0] in ("&", "&&", "(", "[", "*") or head_of(of) not in types):
                 yield path, first, f"the trait {trait} for {''.join(of)}"
 
 
