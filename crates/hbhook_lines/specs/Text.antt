@@ -3,8 +3,8 @@ use Rattle.std.specs.Prelude.{None, false}
 use Rattle.shapers_base.specs.Font.{CharacterTables, Font}
 use Rattle.shapers_buffer.specs.Settings.{character_of}
 use Rattle.shapers_normal.specs.declared.ot_shape_normalize.normalizing.Rounds.TheVariants.{AsCode}
-use Rattle.shapers_normalize.specs.TextTables.{TextTables, VariantForms}
-use Rattle.shapers_normalize.specs.declared.normalizing.NormalizeSettings.{NormalizeSettings}
+use Rattle.shapers_pipeline.specs.TextTables.{TextTables, VariantForms}
+use Rattle.shapers_pipeline.specs.declared.normalizing.NormalizeSettings.{NormalizeSettings}
 use Rattle.shapers_pipeline.specs.Prepared.{Preparation, preparation}
 use Rattle.shapers_pipeline.specs.declared.plan.TextPlan.{TextPlan}
 use Rattle.shapers_prepare.specs.CharacterProperties.{CharacterProperties}

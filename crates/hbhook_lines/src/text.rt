@@ -14,8 +14,7 @@ use rustybuzz_shapers::font::{GlyphId, Tables, hb_font_t};
 use rustybuzz_shapers::plan::{Category, Position, hb_arabic_joining_type_t};
 use rustybuzz_shapers::shaper::checked::CallError;
 use shapers_normal::ot_shape_normalize::Rounds;
-use shapers_normalize::{NormalizeFont, NormalizeSettings, NormalizeTables};
-use shapers_pipeline::{TextPlan, prepare_text};
+use shapers_pipeline::{NormalizeFont, NormalizeSettings, NormalizeTables, TextPlan, prepare_text};
 use shapers_prepare::ot_shape_prepare::UnicodeProperties;
 use shapers_unicode::{UnicodeTables, is_default_ignorable, modified_combining_class};
 

@@ -4,7 +4,7 @@ use Rattle.std.specs.Int.{saturate_to_bits}
 use Rattle.std.specs.Option.{option_map}
 use Rattle.shapers_base.specs.Font.{Font}
 use Rattle.shapers_base.specs.declared.font.GlyphId.{GlyphId}
-use Rattle.shapers_normalize.specs.TextTables.{VariantForms}
+use Rattle.shapers_pipeline.specs.TextTables.{VariantForms}
 use Rattle.shapers_position.specs.Metrics.{Metrics}
 use Rattle.opentype_face.specs.Faces.{Tables, ascender_of, descender_of, glyph_count_of, h_advance_of, nominal_glyph_of, v_origin_of, variation_glyph_of}
 use Rattle.opentype_face.specs.Metrics.{advance_in, units_in}

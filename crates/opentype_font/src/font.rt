@@ -11,7 +11,7 @@ use opentype_face::metrics::advance;
 use opentype_layout::face_tables::FaceTables;
 use shapers_base::buffer::hb_tag_t;
 use shapers_base::font::{GlyphId, hb_font_t};
-use shapers_normalize::NormalizeFont;
+use shapers_pipeline::NormalizeFont;
 use shapers_position::ot_shape_position::MetricsFont;
 
 /// A face, for texts of a script and a language.

@@ -13,7 +13,7 @@ use Rattle.shapers_buffer.proofs.MappedLists.{all-append, map-hidden}
 use Rattle.shapers_normal.specs.Context.{Context}
 use Rattle.shapers_normal.specs.Sorting.{class_of}
 use Rattle.shapers_normal.proofs.CharacterProperties.{class_counted}
-use Rattle.shapers_normalize.proofs.ArabicAlone.{sum_joined}
+use Rattle.shapers_pipeline.proofs.ArabicAlone.{sum_joined}
 use Rattle.shapers_equivalence.specs.Equivalence.{SameButForOrder}
 use Rattle.shapers_equivalence.specs.Laws.{mark_class}
 use Rattle.shapers_equivalence.proofs.Projections as order

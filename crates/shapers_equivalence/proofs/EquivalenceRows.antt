@@ -16,7 +16,7 @@ use Rattle.shapers_normal.specs.Normalization.{normalized}
 use Rattle.shapers_normal.specs.Properties.{as_character}
 use Rattle.shapers_normal.specs.Sorting.{class_of_mark}
 use Rattle.shapers_normal.specs.declared.ot_shape_normalize.normalizing.Rounds.TheVariants.{Always}
-use Rattle.shapers_normalize.specs.ByShaper.{ordered_for}
+use Rattle.shapers_pipeline.specs.ByShaper.{ordered_for}
 use Rattle.shapers_equivalence.specs.Equivalence.{apart_in_steps, full_decomposition, fully_decomposed, ordered_by_classes, with_marks_of}
 use Rattle.shapers_equivalence.specs.Laws.{has_short_runs, in_canonical_order, mark_class}
 use Rattle.shapers_buffer.specs.Properties.{with_high_byte, general_category, modified_combining_class}

@@ -16,7 +16,7 @@ use Rattle.shapers_clusters.specs.Steps.{run_step}
 use Rattle.shapers_normal.specs.Context.{Context}
 use Rattle.shapers_normal.specs.Sorting.{class_of}
 use Rattle.shapers_normal.proofs.CharacterProperties.{class_counted}
-use Rattle.shapers_normalize.proofs.HebrewAlone.{within}
+use Rattle.shapers_pipeline.proofs.HebrewAlone.{within}
 use Rattle.shapers_text.specs.Hebrew.{hebrew_mark_step, is_meteg_or_below, is_patah_or_qamats, is_sheva_or_hiriq, opens_triple, triple_place}
 use Rattle.shapers_text.proofs.HebrewLemmas.{marks_view, swapped}
 use Rattle.shapers_equivalence.specs.Equivalence.{SameButForOrder}

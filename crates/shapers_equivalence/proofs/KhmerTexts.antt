@@ -21,7 +21,7 @@ use Rattle.shapers_normal.specs.Variants.{forms_written, is_kept_cluster, varian
 use Rattle.shapers_normal.proofs.Monotone.{together_cut}
 use Rattle.shapers_normal.proofs.Pairs.{together}
 use Rattle.shapers_normal.proofs.Viewed.{variants-view}
-use Rattle.shapers_normalize.specs.ByShaper.{is_character}
+use Rattle.shapers_pipeline.specs.ByShaper.{is_character}
 use Rattle.shapers_unicode.specs.Answers.{unicode_tables}
 use Rattle.shapers_unicode.specs.Pairs.{as_pair, canonical_mapping, decomposed, hangul_parts}
 use Rattle.shapers_unicode.proofs.CompositionLemmas.{is_empty}

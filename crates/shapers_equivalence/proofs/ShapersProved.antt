@@ -20,8 +20,8 @@ use Rattle.shapers_normal.specs.Sorting.{class_of, classes, marks_ordered}
 use Rattle.shapers_normal.specs.declared.ot_shape_normalize.normalizing.Rounds.{Rounds}
 use Rattle.shapers_buffer.specs.Category.{is_mark}
 use Rattle.shapers_indic.specs.Characters.{is_ya_nukta, whole_letters}
-use Rattle.shapers_normalize.specs.ByShaper.{composed_for, decomposed_for, is_character}
-use Rattle.shapers_normalize.specs.TextTables.{VariantForms}
+use Rattle.shapers_pipeline.specs.ByShaper.{composed_for, decomposed_for, is_character}
+use Rattle.shapers_pipeline.specs.TextTables.{VariantForms}
 use Rattle.shapers_syllabic.specs.Characters.{composed_behind}
 use Rattle.shapers_unicode.specs.Answers.{unicode_tables}
 use Rattle.shapers_unicode.specs.General.{category_of_character}

@@ -16,7 +16,7 @@ use Rattle.shapers_buffer.specs.Category.{is_mark}
 use Rattle.shapers_buffer.proofs.MappedLists.{all-append}
 use Rattle.shapers_hangul.specs.Hangul.{combines_l, combines_t, combines_v, is_between, is_lv, is_s, lead, trail, vowel, with_t, with_v}
 use Rattle.shapers_normal.specs.Decomposition.{come_off}
-use Rattle.shapers_normalize.specs.ByShaper.{is_character}
+use Rattle.shapers_pipeline.specs.ByShaper.{is_character}
 use Rattle.shapers_unicode.specs.Classes.{modified_class}
 use Rattle.shapers_unicode.specs.General.{category_of_character}
 use Rattle.shapers_unicode.specs.Pairs.{as_pair, canonical_mapping, composed, compositions, decomposed, hangul_parts, paired_with, primary_composite}

@@ -14,8 +14,8 @@ use Rattle.shapers_normal.specs.Context.{Context}
 use Rattle.shapers_normal.specs.Decomposition.{first_round}
 use Rattle.shapers_normal.specs.Normalization.{composes, has_rounds, normalized}
 use Rattle.shapers_normal.specs.declared.ot_shape_normalize.normalizing.Rounds.{Rounds}
-use Rattle.shapers_normalize.specs.ByShaper.{shaper_context}
-use Rattle.shapers_normalize.specs.TextTables.{TextTables, VariantForms}
+use Rattle.shapers_pipeline.specs.ByShaper.{shaper_context}
+use Rattle.shapers_pipeline.specs.TextTables.{TextTables, VariantForms}
 use Rattle.shapers_unicode.specs.Answers.{unicode_tables}
 use Rattle.shapers_unicode.specs.Classes.{modified_class}
 use Rattle.shapers_unicode.specs.Ignorable.{default_ignorable}

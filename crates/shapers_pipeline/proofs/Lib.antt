@@ -1,11 +1,15 @@
+pub mod ArabicAlone
 mod ClustersKept
 mod Directed
 mod FractionRows
 mod Growing
 mod HookResults
+pub mod HebrewAlone
 mod LengthBounds
 mod LengthRows
 mod LookupRows
+pub mod OrderLaws
+pub mod OrderMonotone
 mod MaskRows
 pub mod Pausing
 pub mod Placing

@@ -24,7 +24,7 @@ use Rattle.shapers_hangul.specs.HangulLaws.{KeepsClusters}
 use Rattle.shapers_hangul.proofs.HangulClusters.{on_rewritten}
 use Rattle.shapers_normal.specs.Laws.{MakesNoCluster, NormalizesMonotone}
 use Rattle.shapers_normal.proofs.Pairs.{Pairs}
-use Rattle.shapers_normalize.specs.Laws.{ShapersOrderAlone, ShapersOrderMonotone}
+use Rattle.shapers_pipeline.specs.NormalizeLaws.{ShapersOrderAlone, ShapersOrderMonotone}
 use Rattle.shapers_plan.specs.declared.ot_shape_plan.DriverMasks.{DriverMasks}
 use Rattle.shapers_plan.specs.declared.ot_shape_plan.user.UserRange.{UserRange}
 use Rattle.shapers_prepare.specs.CharacterProperties.{CharacterProperties}

@@ -41,7 +41,7 @@ use Rattle.shapers_normal.specs.Sorting.{class_of, classes, mark_runs, marks_ord
 use Rattle.shapers_normal.proofs.RecompositionHalves.{Walking, left_over, length-left, walk_start, walking_by, walking_start}
 use Rattle.shapers_normal.proofs.SortingHalves.{run_alone, runs_within}
 use Rattle.shapers_normal.proofs.VariantHalves.{grows_ninefold}
-use Rattle.shapers_normalize.specs.Laws.{ShapersOrderAlone}
+use Rattle.shapers_pipeline.specs.NormalizeLaws.{ShapersOrderAlone}
 use Rattle.shapers_prepare.specs.CharacterProperties.{CharacterProperties}
 use Rattle.shapers_prepare.specs.FirstCircle.{behind_circle, wants_first_circle}
 use Rattle.shapers_prepare.specs.GraphemeLaws.{GraphemesCover}

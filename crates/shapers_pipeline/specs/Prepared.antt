@@ -7,9 +7,9 @@ use Rattle.shapers_buffer.specs.declared.buffer.level.Direction.{Direction}
 use Rattle.shapers_normal.specs.Context.{Context}
 use Rattle.shapers_normal.specs.Decomposition.{first_round}
 use Rattle.shapers_normal.specs.Normalization.{normalized}
-use Rattle.shapers_normalize.specs.ByShaper.{shaper_context}
-use Rattle.shapers_normalize.specs.TextTables.{TextTables, VariantForms}
-use Rattle.shapers_normalize.specs.declared.normalizing.NormalizeSettings.{NormalizeSettings}
+use Rattle.shapers_pipeline.specs.ByShaper.{shaper_context}
+use Rattle.shapers_pipeline.specs.TextTables.{TextTables, VariantForms}
+use Rattle.shapers_pipeline.specs.declared.normalizing.NormalizeSettings.{NormalizeSettings}
 use Rattle.shapers_prepare.specs.CharacterProperties.{CharacterProperties}
 use Rattle.shapers_prepare.specs.FirstCircle.{with_first_circle}
 use Rattle.shapers_prepare.specs.GlyphProperties.{properties_set}

@@ -1,8 +1,8 @@
 -- What shaping a text reads of a plan.
 use Rattle.shapers_base.specs.Font.{CharacterTables, Font}
 use Rattle.shapers_buffer.specs.Buffer.{Buffer}
-use Rattle.shapers_normalize.specs.TextTables.{TextTables, VariantForms}
-use Rattle.shapers_normalize.specs.declared.normalizing.NormalizeSettings.{NormalizeSettings}
+use Rattle.shapers_pipeline.specs.TextTables.{TextTables, VariantForms}
+use Rattle.shapers_pipeline.specs.declared.normalizing.NormalizeSettings.{NormalizeSettings}
 use Rattle.shapers_plan.specs.EnginePlan.{PlanView}
 use Rattle.shapers_plan.specs.declared.ot_map.lookups.StageLookup.{StageLookup}
 use Rattle.shapers_prepare.specs.CharacterProperties.{CharacterProperties}

@@ -1,10 +1,11 @@
-//! Laws of the whole: what becomes of a text's clusters.
+//! Laws: of the order of marks that normalization takes from the shapers, and of the whole, what
+//! becomes of a text's clusters.
 ghost use Rattle.shapers_pipeline.specs.ClusterLaws.{PreparationKeepsClusters, StagesKeepClusters};
+ghost use Rattle.shapers_pipeline.specs.NormalizeLaws.{ShapersOrderAlone, ShapersOrderMonotone};
 ghost use Rattle.shapers_pipeline.specs.ShapeLaws.{FinishKeepsClusters, ShapingKeepsClusters};
 
 use rustybuzz_shapers::shaper::{apart_law, monotone_law};
 use shapers_normal::ot_shape_normalize;
-use shapers_normalize::{orders_alone_law, orders_monotone_law};
 use shapers_position::ot_shape_position::{flags_law, hiding_law};
 use shapers_prepare::ot_shape_prepare::graphemes_law;
 
@@ -28,3 +29,15 @@ pub fn pipeline_clusters_law()
     hiding_law();
     flags_law();
 }
+
+/// Each shaper's order of marks is as the law of halves requires: with the later rounds in each
+/// text, halves are normalized as the whole is, where the second one begins with no mark.
+pub fn orders_alone_law()
+    ensures { ShapersOrderAlone }
+{}
+
+/// Each shaper's order of marks keeps clusters rising, or falling, at the levels that merge; so
+/// does normalization.
+pub fn orders_monotone_law()
+    ensures { ShapersOrderMonotone }
+{}

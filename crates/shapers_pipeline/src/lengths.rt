@@ -4,12 +4,12 @@ ghost use Rattle.std.specs.Option.{option_map_or};
 ghost use Rattle.rustybuzz_shapers.specs.Lengths.{pause_growth};
 ghost use Rattle.shapers_pipeline.specs.Lengths.{FinishGrows, PreparationGrows, PreparationHasRoom, ShapingGrows, StagesGrow, looked_up_bound, preprocess_growth, shaped_bound, stages_bound};
 
+use crate::laws::orders_alone_law;
 use crate::lookups::Lookups;
 use crate::stages::lookups_of_stage;
 use rustybuzz_shapers::shaper::{hb_ot_shaper_t, lengths_law};
 use shapers_base::plan::Pause;
 use shapers_normal::ot_shape_normalize;
-use shapers_normalize::orders_alone_law;
 use shapers_plan::ot_map::{Stage, StageLookup};
 use shapers_plan::ot_shape_plan::EnginePlan;
 use shapers_position::ot_shape_position::{flags_law, hiding_law};

@@ -11,13 +11,13 @@ ghost use Rattle.shapers_pipeline.specs.Refusals.{AllHadRoom, IsPrepared, IsStop
 
 use crate::fractions::set_fractions;
 use crate::masks::{initialize_masks, map_glyphs, set_features};
+use crate::normalizing::{NormalizeFont, NormalizeSettings, NormalizeTables, ot_shape_normalize};
 use crate::plan::TextPlan;
 use crate::planned::set_script_and_direction;
 use crate::preprocessing::{plan_fits, preprocess_text, setup_masks};
 use rustybuzz_shapers::shaper::checked::{CallError, Condition};
 use rustybuzz_shapers::shaper::lacks_positions;
 use shapers_base::buffer::{Direction, ShaperError, hb_buffer_t};
-use shapers_normalize::{NormalizeFont, NormalizeSettings, NormalizeTables, ot_shape_normalize};
 use shapers_plan::ot_shape_plan::DriverMasks;
 use shapers_prepare::ot_shape_prepare::{
     CharRotation, UnicodeProperties, ensure_native_direction, form_clusters, insert_dotted_circle,

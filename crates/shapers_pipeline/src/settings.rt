@@ -1,6 +1,6 @@
 //! The caller's settings.
 
-use shapers_normalize::NormalizeSettings;
+use crate::normalizing::NormalizeSettings;
 use shapers_position::ot_shape_position::DefaultIgnorables;
 
 /// The caller's settings of `shape`.

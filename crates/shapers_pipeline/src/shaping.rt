@@ -14,13 +14,13 @@ ghost use Rattle.shapers_pipeline.specs.Stages.{StagesRun, StagesStopped};
 ghost use Rattle.shapers_pipeline.specs.Substituted.{preparation_by, substitution_by};
 
 use crate::lookups::Lookups;
+use crate::normalizing::{NormalizeFont, NormalizeTables};
 use crate::planned::{put_back, set_to_plan};
 use crate::positions::position_text;
 use crate::settings::ShapeSettings;
 use crate::substitution::substitute_planned;
 use rustybuzz_shapers::shaper::checked::CallError;
 use shapers_base::buffer::hb_buffer_t;
-use shapers_normalize::{NormalizeFont, NormalizeTables};
 use shapers_plan::ot_shape_plan::EnginePlan;
 use shapers_position::ot_shape_position::{MetricsFont, propagate_flags};
 use shapers_prepare::ot_shape_prepare::UnicodeProperties;

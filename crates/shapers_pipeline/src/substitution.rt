@@ -12,13 +12,13 @@ ghost use Rattle.shapers_pipeline.specs.Stages.{StagesRun, StagesStopped};
 ghost use Rattle.shapers_pipeline.specs.Substituted.{preparation_by, substitution_by};
 
 use crate::lookups::{Lookups, note_glyphs};
+use crate::normalizing::{NormalizeFont, NormalizeSettings, NormalizeTables};
 use crate::plan::{StagePlan, TextPlan};
 use crate::planned::{put_back, set_to_plan};
 use crate::prepare::prepare_planned;
 use crate::stages::run_planned_stages;
 use rustybuzz_shapers::shaper::checked::CallError;
 use shapers_base::buffer::hb_buffer_t;
-use shapers_normalize::{NormalizeFont, NormalizeSettings, NormalizeTables};
 use shapers_plan::ot_shape_plan::EnginePlan;
 use shapers_prepare::ot_shape_prepare::UnicodeProperties;
 

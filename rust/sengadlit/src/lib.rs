@@ -275,8 +275,6 @@ mod generated {
     #[cfg(feature = "text")]
     pub(crate) mod shapers_normal;
     #[cfg(feature = "text")]
-    pub(crate) mod shapers_normalize;
-    #[cfg(feature = "text")]
     pub(crate) mod shapers_pipeline;
     pub(crate) mod shapers_plan;
     #[cfg(feature = "text")]

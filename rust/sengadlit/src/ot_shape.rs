@@ -140,8 +140,9 @@
 //! ```
 
 pub use crate::generated::shapers_pipeline::{
-    Lookups, ShapeSettings, Single, SingleLookups, StagePlan, TextPlan, length_bound, prepare_text,
-    run_stages, shape, substitute_text,
+    Lookups, NormalizeFont, NormalizeSettings, NormalizeTables, ShapeSettings, Single,
+    SingleLookups, StagePlan, TextPlan, length_bound, prepare_text, run_stages, shape,
+    substitute_text,
 };
 
 #[cfg(test)]

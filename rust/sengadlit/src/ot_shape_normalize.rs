@@ -49,6 +49,6 @@ pub use crate::generated::shapers_normal::ot_shape_normalize::{
     MAX_COMBINING_MARKS, MAX_STEPS, NormalizeContext, Rounds, decompose, length_bound, normalize,
     order_marks_in, recompose_in, sort_marks_in,
 };
-pub use crate::generated::shapers_normalize::{
+pub use crate::generated::shapers_pipeline::{
     NormalizeFont, NormalizeSettings, NormalizeTables, ot_shape_normalize,
 };

@@ -6,9 +6,10 @@
 use crate::generated::hbhook_commands::{LineFont, LineTables};
 use sengadlit::buffer::{Buffer, GeneralCategory, Tag};
 use sengadlit::font::{Font, GlyphId, Tables};
-use sengadlit::ot_shape::{TextPlan, prepare_text};
+use sengadlit::ot_shape::{
+    NormalizeFont, NormalizeSettings, NormalizeTables, TextPlan, prepare_text,
+};
 use sengadlit::ot_shape_normalize::Rounds;
-use sengadlit::ot_shape_normalize::{NormalizeFont, NormalizeSettings, NormalizeTables};
 use sengadlit::ot_shape_prepare::UnicodeProperties;
 use sengadlit::plan::{Category, JoiningType, Position};
 use sengadlit::shaper::checked::CallError;

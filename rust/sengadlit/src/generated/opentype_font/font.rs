@@ -10,7 +10,7 @@ use crate::generated::opentype_font::would_apply::would_apply;
 use crate::generated::opentype_layout::face_tables::FaceTables;
 use crate::generated::shapers_base::buffer::Tag;
 use crate::generated::shapers_base::font::{Font, GlyphId};
-use crate::generated::shapers_normalize::NormalizeFont;
+use crate::generated::shapers_pipeline::NormalizeFont;
 use crate::generated::shapers_position::ot_shape_position::MetricsFont;
 
 /// A face, for texts of a script and a language.

@@ -1,12 +1,13 @@
 // Generated from crates/shapers_pipeline/src/lib.rt by rust/erase; edit the source.
 
-//! From a text to glyphs: all that comes before the font's lookups as one call, and the stages of
-//! lookups with what the shaper does behind them.
+//! From a text to glyphs: normalization for a shaper, all that comes before the font's lookups as
+//! one call, and the stages of lookups with what the shaper does behind them.
 
 mod fractions;
 mod lengths;
 mod lookups;
 mod masks;
+mod normalizing;
 mod plan;
 mod planned;
 mod positions;
@@ -19,6 +20,7 @@ mod stages;
 mod substitution;
 pub use lengths::length_bound;
 pub use lookups::Lookups;
+pub use normalizing::{NormalizeFont, NormalizeSettings, NormalizeTables, ot_shape_normalize};
 pub use plan::{StagePlan, TextPlan};
 pub use prepare::prepare_text;
 pub use settings::ShapeSettings;

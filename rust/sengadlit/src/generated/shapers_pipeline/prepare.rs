@@ -5,11 +5,11 @@
 use crate::generated::rustybuzz_shapers::shaper::checked::{CallError, Condition};
 use crate::generated::rustybuzz_shapers::shaper::lacks_positions;
 use crate::generated::shapers_base::buffer::{Buffer, Direction, ShaperError};
-use crate::generated::shapers_normalize::{
-    NormalizeFont, NormalizeSettings, NormalizeTables, ot_shape_normalize,
-};
 use crate::generated::shapers_pipeline::fractions::set_fractions;
 use crate::generated::shapers_pipeline::masks::{initialize_masks, map_glyphs, set_features};
+use crate::generated::shapers_pipeline::normalizing::{
+    NormalizeFont, NormalizeSettings, NormalizeTables, ot_shape_normalize,
+};
 use crate::generated::shapers_pipeline::plan::TextPlan;
 use crate::generated::shapers_pipeline::planned::set_script_and_direction;
 use crate::generated::shapers_pipeline::preprocessing::{plan_fits, preprocess_text, setup_masks};

@@ -2,7 +2,7 @@
 
 //! The caller's settings.
 
-use crate::generated::shapers_normalize::NormalizeSettings;
+use crate::generated::shapers_pipeline::normalizing::NormalizeSettings;
 use crate::generated::shapers_position::ot_shape_position::DefaultIgnorables;
 
 /// The caller's settings of `shape`.

@@ -4,8 +4,8 @@
 
 use crate::generated::rustybuzz_shapers::shaper::checked::CallError;
 use crate::generated::shapers_base::buffer::Buffer;
-use crate::generated::shapers_normalize::{NormalizeFont, NormalizeTables};
 use crate::generated::shapers_pipeline::lookups::Lookups;
+use crate::generated::shapers_pipeline::normalizing::{NormalizeFont, NormalizeTables};
 use crate::generated::shapers_pipeline::planned::{put_back, set_to_plan};
 use crate::generated::shapers_pipeline::positions::position_text;
 use crate::generated::shapers_pipeline::settings::ShapeSettings;

@@ -4,8 +4,10 @@
 
 use crate::generated::rustybuzz_shapers::shaper::checked::CallError;
 use crate::generated::shapers_base::buffer::Buffer;
-use crate::generated::shapers_normalize::{NormalizeFont, NormalizeSettings, NormalizeTables};
 use crate::generated::shapers_pipeline::lookups::{Lookups, note_glyphs};
+use crate::generated::shapers_pipeline::normalizing::{
+    NormalizeFont, NormalizeSettings, NormalizeTables,
+};
 use crate::generated::shapers_pipeline::plan::{StagePlan, TextPlan};
 use crate::generated::shapers_pipeline::planned::{put_back, set_to_plan};
 use crate::generated::shapers_pipeline::prepare::prepare_planned;

@@ -3,10 +3,15 @@ ghost use Rattle.std.specs.Prelude.{◌≡◌, [], length, IsOk, OnOk, OnErr, tr
 ghost use Rattle.shapers_buffer.specs.Refusals.{RefusesLength};
 ghost use Rattle.shapers_normal.specs.Decomposition.{first_round, is_whole, stays_together};
 ghost use Rattle.shapers_normal.specs.Normalization.{normalized};
-ghost use Rattle.shapers_normalize.specs.ByShaper.{shaper_context};
+ghost use Rattle.shapers_pipeline.specs.ByShaper.{shaper_context};
 
-use crate::context::ShaperContext;
-use crate::tables::{NormalizeFont, NormalizeTables};
+mod context;
+mod hooks;
+mod tables;
+
+pub use tables::{NormalizeFont, NormalizeTables};
+
+use context::ShaperContext;
 use rustybuzz_shapers::shaper::hb_ot_shaper_t;
 use shapers_base::buffer::{ShaperError, hb_buffer_t};
 use shapers_base::font::GlyphId;

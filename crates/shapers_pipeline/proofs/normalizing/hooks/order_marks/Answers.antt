@@ -1,9 +1,9 @@
 -- What stands behind the marks keeps its classes.
 use Rattle.std.proofs.Common.{◌∙◌, ap, drop}
 use Rattle.shapers_normal.specs.Sorting.{classes}
-use Rattle.shapers_normalize.proofs.ArabicAlone.{arabic_behind}
-use Rattle.shapers_normalize.proofs.HebrewAlone.{hebrew_behind}
-use Rattle.shapers_normalize.proofs.hooks.order_marks.Goals as goal
+use Rattle.shapers_pipeline.proofs.ArabicAlone.{arabic_behind}
+use Rattle.shapers_pipeline.proofs.HebrewAlone.{hebrew_behind}
+use Rattle.shapers_pipeline.proofs.normalizing.hooks.order_marks.Goals as goal
 
 pub returns-in-Some-Arabic-clause-behind : goal.returns-in-Some-Arabic-clause-behind
 returns-in-Some-Arabic-clause-behind c =

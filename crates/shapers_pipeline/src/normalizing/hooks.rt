@@ -1,7 +1,7 @@
 //! What a shaper decides, and what the tables do where it lacks the hook.
 ghost use Rattle.std.specs.Prelude.{◌≡◌, ◌<◌, ◌≤◌, drop, length, if◌then◌else◌, None, Some};
 ghost use Rattle.shapers_normal.specs.Sorting.{classes};
-ghost use Rattle.shapers_normalize.specs.ByShaper.{composed_for, decomposed_for, is_character, ordered_for};
+ghost use Rattle.shapers_pipeline.specs.ByShaper.{composed_for, decomposed_for, is_character, ordered_for};
 
 use rustybuzz_shapers::shaper::hb_ot_shaper_t;
 use rustybuzz_shapers::{ot_shaper_arabic, ot_shaper_hebrew};

@@ -1,6 +1,6 @@
 //! What normalization reads of a font and of Unicode besides what the shapers read.
 ghost use Rattle.std.specs.Prelude.{◌≡◌};
-ghost use Rattle.shapers_normalize.specs.TextTables.{TextTables, VariantForms};
+ghost use Rattle.shapers_pipeline.specs.TextTables.{TextTables, VariantForms};
 
 use shapers_base::font::{GlyphId, Tables, hb_font_t};
 use shapers_unicode::{UnicodeTables, is_default_ignorable, modified_combining_class};

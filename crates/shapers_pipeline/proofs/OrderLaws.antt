@@ -8,9 +8,9 @@ use Rattle.shapers_buffer.specs.Glyph.{clusters}
 use Rattle.shapers_clusters.proofs.Halves.{Each}
 use Rattle.shapers_normal.proofs.Beside.{each_of}
 use Rattle.shapers_normal.proofs.Halves.{apart}
-use Rattle.shapers_normalize.specs.Laws.{ShapersOrderAlone}
-use Rattle.shapers_normalize.proofs.ArabicAlone.{arabic_alone, arabic_in_front, arabic_old_clusters, arabic_same_length}
-use Rattle.shapers_normalize.proofs.HebrewAlone.{hebrew_alone, hebrew_in_front, hebrew_old_clusters, hebrew_same_length}
+use Rattle.shapers_pipeline.specs.NormalizeLaws.{ShapersOrderAlone}
+use Rattle.shapers_pipeline.proofs.ArabicAlone.{arabic_alone, arabic_in_front, arabic_old_clusters, arabic_same_length}
+use Rattle.shapers_pipeline.proofs.HebrewAlone.{hebrew_alone, hebrew_in_front, hebrew_old_clusters, hebrew_same_length}
 
 own : (gs : Glyphs) → Each (Contains (clusters gs)) gs
 own gs = each_of (Contains (clusters gs)) gs (All-contains_itself (clusters gs))

@@ -19,9 +19,9 @@ use Rattle.shapers_clusters.proofs.Proved.{exact_cuts_hold}
 use Rattle.shapers_clusters.proofs.Widened.{moves-widened}
 use Rattle.shapers_text.specs.Hebrew.{hebrew_mark_step}
 use Rattle.shapers_text.proofs.HebrewLemmas as hebrew
-use Rattle.shapers_normalize.specs.Laws.{ShapersOrderMonotone}
-use Rattle.shapers_normalize.proofs.ArabicAlone.{sum_joined}
-use Rattle.shapers_normalize.proofs.HebrewAlone.{within}
+use Rattle.shapers_pipeline.specs.NormalizeLaws.{ShapersOrderMonotone}
+use Rattle.shapers_pipeline.proofs.ArabicAlone.{sum_joined}
+use Rattle.shapers_pipeline.proofs.HebrewAlone.{within}
 
 -- a step that moves inside what it merges
 by_step : (level : BufferClusterLevel) (view : Glyph → Glyph) (step : Step)

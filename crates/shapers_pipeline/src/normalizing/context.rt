@@ -1,7 +1,7 @@
 //! A shaper with its plan, a font and Unicode's tables, as normalization reads them.
 
-use crate::hooks::{character, compose, decompose, order_marks};
-use crate::tables::{NormalizeFont, NormalizeTables};
+use super::hooks::{character, compose, decompose, order_marks};
+use super::tables::{NormalizeFont, NormalizeTables};
 use rustybuzz_shapers::shaper::hb_ot_shaper_t;
 use shapers_base::buffer::{BufferClusterLevel, hb_glyph_info_t, hb_unicode_general_category_t};
 use shapers_base::font::GlyphId;
@@ -20,7 +20,7 @@ pub(crate) struct ShaperContext<'a, F: NormalizeFont, T: NormalizeTables> {
 }
 
 impl<'a, F: NormalizeFont, T: NormalizeTables> NormalizeContext for ShaperContext<'a, F, T> {
-    ghost use Rattle.shapers_normalize.specs.ByShaper.{shaper_context};
+    ghost use Rattle.shapers_pipeline.specs.ByShaper.{shaper_context};
 
     ghost context = { λ c. shaper_context c.shaper c.plan.now (F.font c.font.now)
         (F.variants c.font.now) (T.tables c.tables.now) (T.texts c.tables.now) c.invisible_glyph

@@ -19,7 +19,7 @@ use Rattle.shapers_khmer.specs.Khmer.{decomposed_in_khmer}
 use Rattle.shapers_syllabic.specs.Characters.{composed_behind}
 use Rattle.shapers_text.specs.Hebrew.{composed_in_hebrew, hebrew_mark_step}
 use Rattle.shapers_normal.specs.Context.{Context}
-use Rattle.shapers_normalize.specs.TextTables.{TextTables, VariantForms}
+use Rattle.shapers_pipeline.specs.TextTables.{TextTables, VariantForms}
 
 -- whether a number is that of a character: at most 10FFFF, and no surrogate
 abbrev pub is_character : ℕ → Bool

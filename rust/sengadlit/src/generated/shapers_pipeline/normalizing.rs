@@ -1,14 +1,19 @@
-// Generated from crates/shapers_normalize/src/normalizing.rt by rust/erase; edit the source.
+// Generated from crates/shapers_pipeline/src/normalizing.rt by rust/erase; edit the source.
 
 //! Normalization of a text for a shaper.
+
+mod context;
+mod hooks;
+mod tables;
+
+pub use tables::{NormalizeFont, NormalizeTables};
 
 use crate::generated::rustybuzz_shapers::shaper::Shaper;
 use crate::generated::shapers_base::buffer::{Buffer, ShaperError};
 use crate::generated::shapers_base::font::GlyphId;
 use crate::generated::shapers_base::plan::Plan;
 use crate::generated::shapers_normal::ot_shape_normalize::{Rounds, normalize};
-use crate::generated::shapers_normalize::context::ShaperContext;
-use crate::generated::shapers_normalize::tables::{NormalizeFont, NormalizeTables};
+use context::ShaperContext;
 
 /// The caller's settings.
 #[derive(Clone, Copy, Debug, PartialEq, Eq, Default, Hash)]
@@ -69,7 +74,7 @@ pub struct NormalizeSettings {
 /// - `RefusesLength`: `crates/shapers_buffer/specs/Refusals.antt`
 /// - `first_round`, `is_whole`, `stays_together`: `crates/shapers_normal/specs/Decomposition.antt`
 /// - `normalized`: `crates/shapers_normal/specs/Normalization.antt`
-/// - `shaper_context`: `crates/shapers_normalize/specs/ByShaper.antt`
+/// - `shaper_context`: `crates/shapers_pipeline/specs/ByShaper.antt`
 ///
 /// </details>
 ///

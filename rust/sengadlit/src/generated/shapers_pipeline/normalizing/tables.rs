@@ -1,4 +1,4 @@
-// Generated from crates/shapers_normalize/src/tables.rt by rust/erase; edit the source.
+// Generated from crates/shapers_pipeline/src/normalizing/tables.rt by rust/erase; edit the source.
 
 //! What normalization reads of a font and of Unicode besides what the shapers read.
 

@@ -1,14 +1,14 @@
-// Generated from crates/shapers_normalize/src/context.rt by rust/erase; edit the source.
+// Generated from crates/shapers_pipeline/src/normalizing/context.rt by rust/erase; edit the source.
 
 //! A shaper with its plan, a font and Unicode's tables, as normalization reads them.
 
+use super::hooks::{character, compose, decompose, order_marks};
+use super::tables::{NormalizeFont, NormalizeTables};
 use crate::generated::rustybuzz_shapers::shaper::Shaper;
 use crate::generated::shapers_base::buffer::{BufferClusterLevel, GeneralCategory, GlyphInfo};
 use crate::generated::shapers_base::font::GlyphId;
 use crate::generated::shapers_base::plan::{NormalizationMode, Plan};
 use crate::generated::shapers_normal::ot_shape_normalize::NormalizeContext;
-use crate::generated::shapers_normalize::hooks::{character, compose, decompose, order_marks};
-use crate::generated::shapers_normalize::tables::{NormalizeFont, NormalizeTables};
 
 // What normalization reads: a shaper, its plan, a font, tables, and two of the caller's settings.
 #[derive(Clone, Copy)]

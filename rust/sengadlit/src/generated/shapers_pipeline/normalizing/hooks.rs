@@ -1,4 +1,4 @@
-// Generated from crates/shapers_normalize/src/hooks.rt by rust/erase; edit the source.
+// Generated from crates/shapers_pipeline/src/normalizing/hooks.rt by rust/erase; edit the source.
 
 //! What a shaper decides, and what the tables do where it lacks the hook.
 

@@ -5,8 +5,8 @@ use Rattle.shapers_base.specs.Font.{CharacterTables, Font}
 use Rattle.shapers_base.specs.declared.font.GlyphId.{GlyphId}
 use Rattle.shapers_base.specs.declared.plan.hb_ot_shape_plan_t.{hb_ot_shape_plan_t}
 use Rattle.shapers_normal.specs.Laws.{OrdersAlone, OrdersMonotone}
-use Rattle.shapers_normalize.specs.ByShaper.{shaper_context}
-use Rattle.shapers_normalize.specs.TextTables.{TextTables, VariantForms}
+use Rattle.shapers_pipeline.specs.ByShaper.{shaper_context}
+use Rattle.shapers_pipeline.specs.TextTables.{TextTables, VariantForms}
 
 -- The order of marks of each shaper is as the law of halves requires.
 abbrev pub ShapersOrderAlone : Type 0

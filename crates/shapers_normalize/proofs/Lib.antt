@@ -1,4 +1,0 @@
-pub mod ArabicAlone
-pub mod HebrewAlone
-pub mod OrderLaws
-pub mod OrderMonotone

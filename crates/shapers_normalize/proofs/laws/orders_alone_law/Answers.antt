@@ -1,5 +1,0 @@
-use Rattle.shapers_normalize.proofs.OrderLaws.{order_alone}
-use Rattle.shapers_normalize.proofs.laws.orders_alone_law.Goals as goal
-
-pub returns : goal.returns
-returns c = order_alone

@@ -1,5 +1,0 @@
-use Rattle.shapers_normalize.proofs.OrderMonotone.{order_monotone}
-use Rattle.shapers_normalize.proofs.laws.orders_monotone_law.Goals as goal
-
-pub returns : goal.returns
-returns c = order_monotone
