@@ -2,7 +2,7 @@
 use Rattle.std.specs.Prelude.{◌≡◌, [], ◌∷◌, map, codes, None, Some, refl}
 use Rattle.shapers_buffer.specs.declared.buffer.level.Direction.TheVariants as directions
 use Rattle.shapers_choice.specs.Choice.{shaper_for}
-use Rattle.shapers_choice.specs.declared.ScriptShaper.TheVariants as shapers
+use Rattle.rustybuzz_shapers.specs.declared.shaper.hb_ot_shaper_t.TheVariants as shapers
 
 -- each script of its own, whatever the font offers, and Latin, which has none
 by_script : map (λ code. shaper_for (record { 0 = codes code }) directions.LeftToRight None)

@@ -6,8 +6,8 @@ use Rattle.shapers_buffer.specs.declared.buffer.level.Direction.{Direction}
 use Rattle.shapers_buffer.specs.declared.buffer.level.Direction.TheVariants as directions
 use Rattle.shapers_buffer.specs.declared.buffer.tag.Script.{Script}
 use Rattle.shapers_buffer.specs.declared.buffer.tag.hb_tag_t.{hb_tag_t}
-use Rattle.shapers_choice.specs.declared.ScriptShaper.{ScriptShaper}
-use Rattle.shapers_choice.specs.declared.ScriptShaper.TheVariants as shapers
+use Rattle.rustybuzz_shapers.specs.declared.shaper.hb_ot_shaper_t.{hb_ot_shaper_t}
+use Rattle.rustybuzz_shapers.specs.declared.shaper.hb_ot_shaper_t.TheVariants as shapers
 
 -- scripts by their codes in ISO 15924
 abbrev pub indic_scripts : List Script
@@ -53,27 +53,27 @@ is_horizontal directions.LeftToRight = true
 is_horizontal directions.RightToLeft = true
 is_horizontal _ = false
 
-abbrev pub arabic_for : Direction → Option ScriptShaper
+abbrev pub arabic_for : Direction → Option hb_ot_shaper_t
 arabic_for direction = if is_horizontal direction then Some shapers.Arabic else None
 
-abbrev pub syriac_for : Direction → Option hb_tag_t → Option ScriptShaper
+abbrev pub syriac_for : Direction → Option hb_tag_t → Option hb_ot_shaper_t
 syriac_for direction chosen = if is_tag (codes "DFLT") chosen then None else arabic_for direction
 
-abbrev pub myanmar_for : Option hb_tag_t → Option ScriptShaper
+abbrev pub myanmar_for : Option hb_tag_t → Option hb_ot_shaper_t
 myanmar_for chosen =
     if is_default chosen || is_tag (codes "mymr") chosen then None else Some shapers.Myanmar
 
-abbrev pub indic_for : Option hb_tag_t → Option ScriptShaper
+abbrev pub indic_for : Option hb_tag_t → Option hb_ot_shaper_t
 indic_for chosen =
     if is_default chosen then None
     else if is_newest chosen then Some shapers.Universal
     else Some shapers.Indic
 
-abbrev pub universal_for : Option hb_tag_t → Option ScriptShaper
+abbrev pub universal_for : Option hb_tag_t → Option hb_ot_shaper_t
 universal_for chosen = if is_default chosen then None else Some shapers.Universal
 
 -- the scripts that take their shaper whatever the font offers
-abbrev pub own_for : Script → Option ScriptShaper
+abbrev pub own_for : Script → Option hb_ot_shaper_t
 own_for s =
     if is_code (codes "Thai") s || is_code (codes "Laoo") s then Some shapers.Thai
     else if is_code (codes "Hang") s then Some shapers.Hangul
@@ -82,7 +82,7 @@ own_for s =
     else if is_code (codes "Qaag") s then Some shapers.MyanmarZawgyi
     else None
 
-unfoldable pub shaper_for : Script → Direction → Option hb_tag_t → Option ScriptShaper
+unfoldable pub shaper_for : Script → Direction → Option hb_tag_t → Option hb_ot_shaper_t
 shaper_for s direction chosen =
     if is_code (codes "Arab") s then arabic_for direction
     else if is_code (codes "Syrc") s then syriac_for direction chosen

@@ -5,30 +5,8 @@
 ghost use Rattle.std.specs.Prelude.{◌≡◌};
 ghost use Rattle.shapers_choice.specs.Choice.{arabic_for, indic_for, indic_scripts, is_among, is_default, is_newest, is_tag, myanmar_for, own_for, shaper_for, syriac_for, universal_for, universal_scripts};
 
+use rustybuzz_shapers::shaper::hb_ot_shaper_t;
 use shapers_buffer::buffer::{Direction, Script, hb_tag_t};
-
-/// The shaper of a script, by the names of the shapers.
-#[derive(Clone, Copy, Debug, PartialEq, Eq)]
-pub enum ScriptShaper {
-    /// Arabic and Syriac.
-    Arabic,
-    /// Korean.
-    Hangul,
-    /// Hebrew.
-    Hebrew,
-    /// The scripts of India that have specifications of their own.
-    Indic,
-    /// Khmer.
-    Khmer,
-    /// Myanmar.
-    Myanmar,
-    /// Myanmar in the encoding of Zawgyi.
-    MyanmarZawgyi,
-    /// Thai and Lao.
-    Thai,
-    /// The scripts of the universal shaping engine.
-    Universal,
-}
 
 // The scripts that have a specification of their own among OpenType's of India.
 const INDIC_SCRIPTS: [Script; 9] = [
@@ -146,7 +124,7 @@ pub fn shaper_for_script(
     script: Script,
     direction: Direction,
     chosen: Option<hb_tag_t>,
-) -> Option<ScriptShaper>
+) -> Option<hb_ot_shaper_t>
     ensures { result ≡ shaper_for script direction chosen }
 {
     if script == Script(*b"Arab") {
@@ -204,16 +182,16 @@ fn is_newest(chosen: Option<hb_tag_t>) -> bool
 }
 
 // Arabic joins in horizontal text alone.
-fn arabic_for(direction: Direction) -> Option<ScriptShaper>
+fn arabic_for(direction: Direction) -> Option<hb_ot_shaper_t>
     ensures { result ≡ arabic_for direction }
 {
     match direction {
-        Direction::LeftToRight | Direction::RightToLeft => Some(ScriptShaper::Arabic),
+        Direction::LeftToRight | Direction::RightToLeft => Some(hb_ot_shaper_t::Arabic),
         _ => None,
     }
 }
 
-fn syriac_for(direction: Direction, chosen: Option<hb_tag_t>) -> Option<ScriptShaper>
+fn syriac_for(direction: Direction, chosen: Option<hb_tag_t>) -> Option<hb_ot_shaper_t>
     ensures { result ≡ syriac_for direction chosen }
 {
     if is_found_by(hb_tag_t(*b"DFLT"), chosen) {
@@ -222,54 +200,54 @@ fn syriac_for(direction: Direction, chosen: Option<hb_tag_t>) -> Option<ScriptSh
     arabic_for(direction)
 }
 
-fn myanmar_for(chosen: Option<hb_tag_t>) -> Option<ScriptShaper>
+fn myanmar_for(chosen: Option<hb_tag_t>) -> Option<hb_ot_shaper_t>
     ensures { result ≡ myanmar_for chosen }
 {
     if is_default(chosen) || is_found_by(hb_tag_t(*b"mymr"), chosen) {
         return None;
     }
-    Some(ScriptShaper::Myanmar)
+    Some(hb_ot_shaper_t::Myanmar)
 }
 
-fn indic_for(chosen: Option<hb_tag_t>) -> Option<ScriptShaper>
+fn indic_for(chosen: Option<hb_tag_t>) -> Option<hb_ot_shaper_t>
     ensures { result ≡ indic_for chosen }
 {
     if is_default(chosen) {
         return None;
     }
     if is_newest(chosen) {
-        return Some(ScriptShaper::Universal);
+        return Some(hb_ot_shaper_t::Universal);
     }
-    Some(ScriptShaper::Indic)
+    Some(hb_ot_shaper_t::Indic)
 }
 
-fn universal_for(chosen: Option<hb_tag_t>) -> Option<ScriptShaper>
+fn universal_for(chosen: Option<hb_tag_t>) -> Option<hb_ot_shaper_t>
     ensures { result ≡ universal_for chosen }
 {
     if is_default(chosen) {
         return None;
     }
-    Some(ScriptShaper::Universal)
+    Some(hb_ot_shaper_t::Universal)
 }
 
 // The scripts that take their shaper whatever the font offers.
-fn own_for(script: Script) -> Option<ScriptShaper>
+fn own_for(script: Script) -> Option<hb_ot_shaper_t>
     ensures { result ≡ own_for script }
 {
     if script == Script(*b"Thai") || script == Script(*b"Laoo") {
-        return Some(ScriptShaper::Thai);
+        return Some(hb_ot_shaper_t::Thai);
     }
     if script == Script(*b"Hang") {
-        return Some(ScriptShaper::Hangul);
+        return Some(hb_ot_shaper_t::Hangul);
     }
     if script == Script(*b"Hebr") {
-        return Some(ScriptShaper::Hebrew);
+        return Some(hb_ot_shaper_t::Hebrew);
     }
     if script == Script(*b"Khmr") {
-        return Some(ScriptShaper::Khmer);
+        return Some(hb_ot_shaper_t::Khmer);
     }
     if script == Script(*b"Qaag") {
-        return Some(ScriptShaper::MyanmarZawgyi);
+        return Some(hb_ot_shaper_t::MyanmarZawgyi);
     }
     None
 }

@@ -1,5 +1,5 @@
 -- What is requested of a font for a text (HarfBuzz, hb-ot-shape.cc).
-use Rattle.std.specs.Prelude.{◌==◌, Bool, ◌&&◌, List, [], ◌∷◌, ◌++◌, map, Option, None, Some, option_map, bit_or, codes, if◌then◌else◌}
+use Rattle.std.specs.Prelude.{◌==◌, Bool, ◌&&◌, List, [], ◌∷◌, ◌++◌, map, Option, None, Some, bit_or, codes, if◌then◌else◌}
 use Rattle.std.specs.Option.{option_map_or}
 use Rattle.shapers_buffer.specs.declared.buffer.level.Direction.{Direction}
 use Rattle.shapers_buffer.specs.declared.buffer.level.Direction.TheVariants.{LeftToRight, RightToLeft}
@@ -10,31 +10,15 @@ use Rattle.shapers_base.specs.declared.plan.planner.Request.{Request}
 use Rattle.shapers_base.specs.declared.plan.planner.Request.TheVariants.{Feature}
 use Rattle.shapers_base.specs.Planner.{added, bare_pause, enabled}
 use Rattle.shapers_choice.specs.Choice.{is_horizontal, shaper_for}
-use Rattle.shapers_choice.specs.declared.ScriptShaper.{ScriptShaper}
-use Rattle.shapers_choice.specs.declared.ScriptShaper.TheVariants as choices
 use Rattle.rustybuzz_shapers.specs.declared.shaper.hb_ot_shaper_t.{hb_ot_shaper_t}
-use Rattle.rustybuzz_shapers.specs.declared.shaper.hb_ot_shaper_t.TheVariants as shapers
 use Rattle.rustybuzz_shapers.specs.Records.{collected, overridden}
 use Rattle.shapers_plan.specs.declared.ot_map.masks.TheConstants.{F_GLOBAL_SEARCH, F_RANDOM}
 use Rattle.shapers_plan.specs.declared.ot_shape_plan.user.UserFeature.{UserFeature}
 
--- the shaper of a choice
-abbrev pub shaper_of_choice : ScriptShaper → hb_ot_shaper_t
-shaper_of_choice choices.Arabic = shapers.Arabic
-shaper_of_choice choices.Hangul = shapers.Hangul
-shaper_of_choice choices.Hebrew = shapers.Hebrew
-shaper_of_choice choices.Indic = shapers.Indic
-shaper_of_choice choices.Khmer = shapers.Khmer
-shaper_of_choice choices.Myanmar = shapers.Myanmar
-shaper_of_choice choices.MyanmarZawgyi = shapers.MyanmarZawgyi
-shaper_of_choice choices.Thai = shapers.Thai
-shaper_of_choice choices.Universal = shapers.Universal
-
 -- the shaper of a text, if its script is known and takes one
 abbrev pub text_shaper : Option Script → Direction → Option hb_tag_t → Option hb_ot_shaper_t
 text_shaper None direction found = None
-text_shaper (Some script) direction found =
-    option_map shaper_of_choice (shaper_for script direction found)
+text_shaper (Some script) direction found = shaper_for script direction found
 
 -- forms for the direction; mirrored ones from right to left are turned on by glyph
 abbrev pub directed : Direction → List Request

@@ -11,7 +11,7 @@ pub use crate::generated::rustybuzz_shapers::shaper::{
 pub use crate::plan::{NormalizationMode, Pause, PlanData, Preprocess, ZeroWidthMarks};
 
 use crate::buffer::{Direction, Script, Tag};
-use crate::generated::shapers_choice::{ScriptShaper, shaper_for_script};
+use crate::generated::shapers_choice::shaper_for_script;
 
 impl Shaper {
     /// The shaper for a text, as HarfBuzz chooses it: by its script, its direction, and the script by
@@ -38,7 +38,7 @@ impl Shaper {
     /// assert_eq!(shaper(b"DFLT"), None);
     /// ```
     pub fn for_script(script: Script, direction: Direction, chosen: Option<Tag>) -> Option<Shaper> {
-        shaper_for_script(script, direction, chosen).map(Shaper::from)
+        shaper_for_script(script, direction, chosen)
     }
 
     /// All shapers, in the order of their declaration.
@@ -53,22 +53,6 @@ impl Shaper {
         Shaper::Thai,
         Shaper::Universal,
     ];
-}
-
-impl From<ScriptShaper> for Shaper {
-    fn from(shaper: ScriptShaper) -> Self {
-        match shaper {
-            ScriptShaper::Arabic => Shaper::Arabic,
-            ScriptShaper::Hangul => Shaper::Hangul,
-            ScriptShaper::Hebrew => Shaper::Hebrew,
-            ScriptShaper::Indic => Shaper::Indic,
-            ScriptShaper::Khmer => Shaper::Khmer,
-            ScriptShaper::Myanmar => Shaper::Myanmar,
-            ScriptShaper::MyanmarZawgyi => Shaper::MyanmarZawgyi,
-            ScriptShaper::Thai => Shaper::Thai,
-            ScriptShaper::Universal => Shaper::Universal,
-        }
-    }
 }
 
 #[cfg(test)]

@@ -4,7 +4,7 @@ ghost use Rattle.shapers_arabic.specs.Requests.{rclt};
 ghost use Rattle.shapers_base.specs.Planner.{with_requests};
 ghost use Rattle.shapers_buffer.specs.declared.buffer.refusal.ShaperError.TheVariants.{Memory};
 ghost use Rattle.shapers_choice.specs.Choice.{is_horizontal};
-ghost use Rattle.shapers_plan.specs.Collecting.{along_lines, request_of_user, before_shaper, behind_shaper, shaper_of_choice, is_for_all, requests_for, text_shaper};
+ghost use Rattle.shapers_plan.specs.Collecting.{along_lines, request_of_user, before_shaper, behind_shaper, is_for_all, requests_for, text_shaper};
 
 use super::UserFeature;
 use crate::ot_map::{F_GLOBAL_SEARCH, F_RANDOM};
@@ -13,7 +13,7 @@ use shapers_base::buffer::{Direction, Script, ShaperError, hb_tag_t};
 use shapers_base::font::hb_font_t;
 use shapers_base::map::{F_GLOBAL, F_HAS_FALLBACK, F_MANUAL_JOINERS, F_NONE};
 use shapers_base::plan::{Request, hb_ot_shape_planner_t};
-use shapers_choice::{ScriptShaper, shaper_for_script};
+use shapers_choice::shaper_for_script;
 use std::alloc::Global;
 
 // Variations of the font stand in a stage of their own.
@@ -81,25 +81,7 @@ pub(super) fn text_shaper(
 ) -> Option<hb_ot_shaper_t>
     ensures { result ≡ text_shaper script direction found }
 {
-    let choice = shaper_for_script(script?, direction, found)?;
-    Some(shaper_of_choice(choice))
-}
-
-// The shaper of a choice.
-fn shaper_of_choice(choice: ScriptShaper) -> hb_ot_shaper_t
-    ensures { result ≡ shaper_of_choice choice }
-{
-    match choice {
-        ScriptShaper::Arabic => hb_ot_shaper_t::Arabic,
-        ScriptShaper::Hangul => hb_ot_shaper_t::Hangul,
-        ScriptShaper::Hebrew => hb_ot_shaper_t::Hebrew,
-        ScriptShaper::Indic => hb_ot_shaper_t::Indic,
-        ScriptShaper::Khmer => hb_ot_shaper_t::Khmer,
-        ScriptShaper::Myanmar => hb_ot_shaper_t::Myanmar,
-        ScriptShaper::MyanmarZawgyi => hb_ot_shaper_t::MyanmarZawgyi,
-        ScriptShaper::Thai => hb_ot_shaper_t::Thai,
-        ScriptShaper::Universal => hb_ot_shaper_t::Universal,
-    }
+    shaper_for_script(script?, direction, found)
 }
 
 /// All that is requested for a text, in HarfBuzz's order: for every text, by the shaper, for every

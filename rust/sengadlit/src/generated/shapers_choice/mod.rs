@@ -3,30 +3,8 @@
 //! Which shaper a text takes: by its script and direction, and by the script that was found in the
 //! font (HarfBuzz's choice).
 
+use crate::generated::rustybuzz_shapers::shaper::Shaper;
 use crate::generated::shapers_buffer::buffer::{Direction, Script, Tag};
-
-/// The shaper of a script, by the names of the shapers.
-#[derive(Clone, Copy, Debug, PartialEq, Eq, Hash)]
-pub enum ScriptShaper {
-    /// Arabic and Syriac.
-    Arabic,
-    /// Korean.
-    Hangul,
-    /// Hebrew.
-    Hebrew,
-    /// The scripts of India that have specifications of their own.
-    Indic,
-    /// Khmer.
-    Khmer,
-    /// Myanmar.
-    Myanmar,
-    /// Myanmar in the encoding of Zawgyi.
-    MyanmarZawgyi,
-    /// Thai and Lao.
-    Thai,
-    /// The scripts of the universal shaping engine.
-    Universal,
-}
 
 // The scripts that have a specification of their own among OpenType's of India.
 const INDIC_SCRIPTS: [Script; 9] = [
@@ -155,7 +133,7 @@ pub fn shaper_for_script(
     script: Script,
     direction: Direction,
     chosen: Option<Tag>,
-) -> Option<ScriptShaper> {
+) -> Option<Shaper> {
     if script == Script(*b"Arab") {
         return arabic_for(direction);
     }
@@ -201,60 +179,60 @@ fn is_newest(chosen: Option<Tag>) -> bool {
 }
 
 // Arabic joins in horizontal text alone.
-fn arabic_for(direction: Direction) -> Option<ScriptShaper> {
+fn arabic_for(direction: Direction) -> Option<Shaper> {
     match direction {
-        Direction::LeftToRight | Direction::RightToLeft => Some(ScriptShaper::Arabic),
+        Direction::LeftToRight | Direction::RightToLeft => Some(Shaper::Arabic),
         _ => None,
     }
 }
 
-fn syriac_for(direction: Direction, chosen: Option<Tag>) -> Option<ScriptShaper> {
+fn syriac_for(direction: Direction, chosen: Option<Tag>) -> Option<Shaper> {
     if is_found_by(Tag(*b"DFLT"), chosen) {
         return None;
     }
     arabic_for(direction)
 }
 
-fn myanmar_for(chosen: Option<Tag>) -> Option<ScriptShaper> {
+fn myanmar_for(chosen: Option<Tag>) -> Option<Shaper> {
     if is_default(chosen) || is_found_by(Tag(*b"mymr"), chosen) {
         return None;
     }
-    Some(ScriptShaper::Myanmar)
+    Some(Shaper::Myanmar)
 }
 
-fn indic_for(chosen: Option<Tag>) -> Option<ScriptShaper> {
+fn indic_for(chosen: Option<Tag>) -> Option<Shaper> {
     if is_default(chosen) {
         return None;
     }
     if is_newest(chosen) {
-        return Some(ScriptShaper::Universal);
+        return Some(Shaper::Universal);
     }
-    Some(ScriptShaper::Indic)
+    Some(Shaper::Indic)
 }
 
-fn universal_for(chosen: Option<Tag>) -> Option<ScriptShaper> {
+fn universal_for(chosen: Option<Tag>) -> Option<Shaper> {
     if is_default(chosen) {
         return None;
     }
-    Some(ScriptShaper::Universal)
+    Some(Shaper::Universal)
 }
 
 // The scripts that take their shaper whatever the font offers.
-fn own_for(script: Script) -> Option<ScriptShaper> {
+fn own_for(script: Script) -> Option<Shaper> {
     if script == Script(*b"Thai") || script == Script(*b"Laoo") {
-        return Some(ScriptShaper::Thai);
+        return Some(Shaper::Thai);
     }
     if script == Script(*b"Hang") {
-        return Some(ScriptShaper::Hangul);
+        return Some(Shaper::Hangul);
     }
     if script == Script(*b"Hebr") {
-        return Some(ScriptShaper::Hebrew);
+        return Some(Shaper::Hebrew);
     }
     if script == Script(*b"Khmr") {
-        return Some(ScriptShaper::Khmer);
+        return Some(Shaper::Khmer);
     }
     if script == Script(*b"Qaag") {
-        return Some(ScriptShaper::MyanmarZawgyi);
+        return Some(Shaper::MyanmarZawgyi);
     }
     None
 }

@@ -8,7 +8,7 @@ use crate::generated::shapers_base::buffer::{Direction, Script, ShaperError, Tag
 use crate::generated::shapers_base::font::Font;
 use crate::generated::shapers_base::map::{F_GLOBAL, F_HAS_FALLBACK, F_MANUAL_JOINERS, F_NONE};
 use crate::generated::shapers_base::plan::{Planner, Request};
-use crate::generated::shapers_choice::{ScriptShaper, shaper_for_script};
+use crate::generated::shapers_choice::shaper_for_script;
 use crate::generated::shapers_plan::ot_map::{F_GLOBAL_SEARCH, F_RANDOM};
 use crate::support::alloc::Global;
 
@@ -75,23 +75,7 @@ pub(super) fn text_shaper(
     direction: Direction,
     found: Option<Tag>,
 ) -> Option<Shaper> {
-    let choice = shaper_for_script(script?, direction, found)?;
-    Some(shaper_of_choice(choice))
-}
-
-// The shaper of a choice.
-fn shaper_of_choice(choice: ScriptShaper) -> Shaper {
-    match choice {
-        ScriptShaper::Arabic => Shaper::Arabic,
-        ScriptShaper::Hangul => Shaper::Hangul,
-        ScriptShaper::Hebrew => Shaper::Hebrew,
-        ScriptShaper::Indic => Shaper::Indic,
-        ScriptShaper::Khmer => Shaper::Khmer,
-        ScriptShaper::Myanmar => Shaper::Myanmar,
-        ScriptShaper::MyanmarZawgyi => Shaper::MyanmarZawgyi,
-        ScriptShaper::Thai => Shaper::Thai,
-        ScriptShaper::Universal => Shaper::Universal,
-    }
+    shaper_for_script(script?, direction, found)
 }
 
 /// All that is requested for a text, in HarfBuzz's order: for every text, by the shaper, for every
