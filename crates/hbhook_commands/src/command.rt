@@ -12,7 +12,7 @@ use fields::{
 };
 pub use glyph_field::GlyphField;
 pub use hook::HookCall;
-pub use setting::{Setting, ShaperName};
+pub use setting::Setting;
 use shapers_base::buffer::{CONTEXT_LENGTH, Span, hb_tag_t};
 use shapers_base::font::GlyphId;
 use shapers_base::plan::hb_arabic_joining_type_t;

@@ -1,11 +1,11 @@
 //! What the lines have set so far, but for what the buffer keeps.
 ghost use Rattle.std.specs.Prelude.{◌≡◌, IfOk};
 
-use crate::command::ShaperName;
 use crate::expected::Expected;
 use crate::fault::LineFault;
 use crate::font::LineFont;
 use crate::tables::LineTables;
+use rustybuzz_shapers::shaper::hb_ot_shaper_t;
 use shapers_base::buffer::{Script, Span, hb_tag_t};
 use shapers_base::map::{feature_map_t, hb_ot_map_t};
 use shapers_base::plan::{BaseSearch, BreakFlags, StretchStart, hb_ot_shape_plan_t};
@@ -25,7 +25,7 @@ pub struct Feature {
 /// The settings so far.
 #[derive(Drop)]
 pub struct Settings {
-    pub shaper: Option<ShaperName>,
+    pub shaper: Option<hb_ot_shaper_t>,
     pub script: Option<Script>,
     pub chosen: Option<hb_tag_t>,
     pub found: bool,

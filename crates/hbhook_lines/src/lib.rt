@@ -2,7 +2,6 @@
 #![tactic(auto)]
 
 mod session;
-mod shapers;
 mod text;
 
 ghost use Rattle.std.specs.Prelude.{◌≤◌};

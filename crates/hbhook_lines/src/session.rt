@@ -3,10 +3,9 @@ mod hooks;
 
 ghost use Rattle.std.specs.Prelude.{◌≡◌, []};
 
-use crate::shapers::shaper_of;
 use hbhook_commands::{
-    Command, Expected, Feature, GlyphField, LineFault, LineFont, Setting, Settings, ShaperName,
-    Side, print_buffer, read_line,
+    Command, Expected, Feature, GlyphField, LineFault, LineFont, Setting, Settings, Side,
+    print_buffer, read_line,
 };
 use rustybuzz_shapers::buffer::{GlyphPosition, UnicodeProps, hb_buffer_t, hb_glyph_info_t};
 use rustybuzz_shapers::font::Tables;
@@ -56,11 +55,6 @@ impl Session {
 
     /// The shaper, once a line has set one.
     pub fn shaper(&self) -> Option<hb_ot_shaper_t> {
-        self.settings.shaper.map(shaper_of)
-    }
-
-    /// The name of the shaper, once a line has set one.
-    pub fn shaper_name(&self) -> Option<ShaperName> {
         self.settings.shaper
     }
 
@@ -194,15 +188,15 @@ impl Session {
             .shaper
             .ok_or(LineFault::Unreadable(SYLLABLES))?
         {
-            ShaperName::Indic => spans_into(&Indic, glyphs, spans)?,
-            ShaperName::Khmer => spans_into(&Khmer, glyphs, spans)?,
-            ShaperName::Myanmar => spans_into(&Myanmar, glyphs, spans)?,
-            ShaperName::Universal => spans_into(&Universal, glyphs, spans)?,
-            ShaperName::Arabic
-            | ShaperName::Hangul
-            | ShaperName::Hebrew
-            | ShaperName::Thai
-            | ShaperName::Zawgyi => return Err(LineFault::Unreadable(SYLLABLES)),
+            hb_ot_shaper_t::Indic => spans_into(&Indic, glyphs, spans)?,
+            hb_ot_shaper_t::Khmer => spans_into(&Khmer, glyphs, spans)?,
+            hb_ot_shaper_t::Myanmar => spans_into(&Myanmar, glyphs, spans)?,
+            hb_ot_shaper_t::Universal => spans_into(&Universal, glyphs, spans)?,
+            hb_ot_shaper_t::Arabic
+            | hb_ot_shaper_t::Hangul
+            | hb_ot_shaper_t::Hebrew
+            | hb_ot_shaper_t::Thai
+            | hb_ot_shaper_t::MyanmarZawgyi => return Err(LineFault::Unreadable(SYLLABLES)),
         }
         Ok(())
     }

@@ -18,13 +18,12 @@ mod row;
 mod scale;
 mod shown;
 
-use crate::generated::hbhook_commands::ShaperName;
 use crate::generated::hbhook_lines::Session;
 use boxes::Boxes;
 use glyphs::Glyphs;
 use page::Note;
 use scale::Positions;
-use sengadlit::{Direction, Face, GlyphInfo, GlyphPosition};
+use sengadlit::{Direction, Face, GlyphInfo, GlyphPosition, Shaper};
 
 pub(crate) use legend::Legend;
 pub use lines::draw_lines;
@@ -50,7 +49,7 @@ pub(crate) fn draw_row(
 pub(crate) fn draw_glyphs(
     legend: &mut Legend,
     face: &Face<'_>,
-    shaper: Option<ShaperName>,
+    shaper: Option<Shaper>,
     glyphs: &[GlyphInfo],
     positions: &[GlyphPosition],
     is_rtl: bool,
@@ -97,7 +96,7 @@ pub(crate) fn row_of<'a>(
         positions: session.buffer.positions(),
         before: &origins.before,
         origins: &origins.places,
-        shaper: session.shaper_name(),
+        shaper: session.shaper(),
         features: session.features(),
         numbers,
         face: None,

@@ -4,6 +4,7 @@ use crate::expected::{COUNT, Expected};
 use crate::fault::LineFault;
 use crate::tables::OtherCharacters;
 use bitflags::Flags;
+use rustybuzz_shapers::shaper::hb_ot_shaper_t;
 use shapers_base::buffer::{BufferClusterLevel, BufferFlags, Direction, Script, hb_tag_t};
 use shapers_base::plan::{BaseSearch, BreakFlags, StretchStart};
 
@@ -17,25 +18,10 @@ const SHAPERS: &str = "arabic, hangul, hebrew, indic, khmer, myanmar, zawgyi, th
 // The levels of clusters.
 const LEVEL: Expected = Expected::Number(2);
 
-/// A shaper, by the name that lines give it.
-#[derive(Clone, Copy)]
-pub enum ShaperName {
-    Arabic,
-    Hangul,
-    Hebrew,
-    Indic,
-    Khmer,
-    Myanmar,
-    /// Myanmar in the encoding of Zawgyi.
-    Zawgyi,
-    Thai,
-    Universal,
-}
-
 /// A setting and its value.
 #[derive(Clone, Copy)]
 pub enum Setting {
-    Shaper(ShaperName),
+    Shaper(hb_ot_shaper_t),
     /// The script of the plan and of the buffer.
     Script(Script),
     /// The script chosen in the font.
@@ -86,17 +72,17 @@ impl Setting {
     }
 }
 
-fn named_shaper(name: &str) -> Result<ShaperName, LineFault> {
+fn named_shaper(name: &str) -> Result<hb_ot_shaper_t, LineFault> {
     match name {
-        "arabic" => Ok(ShaperName::Arabic),
-        "hangul" => Ok(ShaperName::Hangul),
-        "hebrew" => Ok(ShaperName::Hebrew),
-        "indic" => Ok(ShaperName::Indic),
-        "khmer" => Ok(ShaperName::Khmer),
-        "myanmar" => Ok(ShaperName::Myanmar),
-        "zawgyi" => Ok(ShaperName::Zawgyi),
-        "thai" => Ok(ShaperName::Thai),
-        "universal" => Ok(ShaperName::Universal),
+        "arabic" => Ok(hb_ot_shaper_t::Arabic),
+        "hangul" => Ok(hb_ot_shaper_t::Hangul),
+        "hebrew" => Ok(hb_ot_shaper_t::Hebrew),
+        "indic" => Ok(hb_ot_shaper_t::Indic),
+        "khmer" => Ok(hb_ot_shaper_t::Khmer),
+        "myanmar" => Ok(hb_ot_shaper_t::Myanmar),
+        "zawgyi" => Ok(hb_ot_shaper_t::MyanmarZawgyi),
+        "thai" => Ok(hb_ot_shaper_t::Thai),
+        "universal" => Ok(hb_ot_shaper_t::Universal),
         _ => Err(LineFault::Unreadable(Expected::Word(SHAPERS))),
     }
 }

@@ -1,13 +1,12 @@
 //! The names that shapers have for categories, auxiliary bytes and kinds of syllables.
 
-use crate::generated::hbhook_commands::ShaperName;
-use sengadlit::Tag;
 use sengadlit::ot_shaper_arabic::arabic_action_t;
 use sengadlit::ot_shaper_syllabic::{
     indic_syllable, khmer_syllable, myanmar_syllable, use_syllable,
 };
 use sengadlit::ot_shaper_use::category as use_category;
 use sengadlit::plan::{ot_category_t, ot_position_t};
+use sengadlit::{Shaper, Tag};
 
 /// What a shaper calls something, and what that means.
 #[derive(Clone, Copy, PartialEq, Eq)]
@@ -17,22 +16,20 @@ pub(crate) struct Name {
 }
 
 /// What a shaper calls a category.
-pub(super) fn category_name(shaper: ShaperName, category: u8) -> Option<Name> {
+pub(super) fn category_name(shaper: Shaper, category: u8) -> Option<Name> {
     match shaper {
-        ShaperName::Indic | ShaperName::Khmer | ShaperName::Myanmar => {
-            name_in(&OT_CATEGORIES, category)
-        }
-        ShaperName::Universal => name_in(&USE_CATEGORIES, category),
+        Shaper::Indic | Shaper::Khmer | Shaper::Myanmar => name_in(&OT_CATEGORIES, category),
+        Shaper::Universal => name_in(&USE_CATEGORIES, category),
         _ => None,
     }
 }
 
 /// What a shaper calls a value of the auxiliary byte.
-pub(super) fn auxiliary_name(shaper: ShaperName, auxiliary: u8) -> Option<Name> {
+pub(super) fn auxiliary_name(shaper: Shaper, auxiliary: u8) -> Option<Name> {
     match shaper {
-        ShaperName::Indic | ShaperName::Myanmar => name_in(&POSITIONS, auxiliary),
-        ShaperName::Arabic | ShaperName::Universal => name_in(&ACTIONS, auxiliary),
-        ShaperName::Hangul => name_in(&JAMO, auxiliary),
+        Shaper::Indic | Shaper::Myanmar => name_in(&POSITIONS, auxiliary),
+        Shaper::Arabic | Shaper::Universal => name_in(&ACTIONS, auxiliary),
+        Shaper::Hangul => name_in(&JAMO, auxiliary),
         _ => None,
     }
 }
@@ -85,12 +82,12 @@ pub(super) fn feature_meaning(tag: Tag) -> &'static str {
 }
 
 /// What a shaper calls a kind of syllable; broken ones are called so by all.
-pub(super) fn kind_name(shaper: ShaperName, kind: u8) -> Option<&'static str> {
+pub(super) fn kind_name(shaper: Shaper, kind: u8) -> Option<&'static str> {
     match shaper {
-        ShaperName::Indic => kind_in(&INDIC_KINDS, kind),
-        ShaperName::Khmer => kind_in(&KHMER_KINDS, kind),
-        ShaperName::Myanmar => kind_in(&MYANMAR_KINDS, kind),
-        ShaperName::Universal => kind_in(&USE_KINDS, kind),
+        Shaper::Indic => kind_in(&INDIC_KINDS, kind),
+        Shaper::Khmer => kind_in(&KHMER_KINDS, kind),
+        Shaper::Myanmar => kind_in(&MYANMAR_KINDS, kind),
+        Shaper::Universal => kind_in(&USE_KINDS, kind),
         _ => None,
     }
 }

@@ -3,8 +3,8 @@
 use super::label::Style;
 use super::names::{Name, auxiliary_name, category_name};
 use super::numbers::Numbers;
-use crate::generated::hbhook_commands::{Feature, ShaperName};
-use sengadlit::{Face, GlyphInfo, GlyphPosition, Tag};
+use crate::generated::hbhook_commands::Feature;
+use sengadlit::{Face, GlyphInfo, GlyphPosition, Shaper, Tag};
 
 /// The glyph flags among the bits of a mask.
 pub(super) const GLYPH_FLAGS: u32 = 7;
@@ -18,7 +18,7 @@ pub(crate) struct Row<'a> {
     pub before: &'a [GlyphInfo],
     /// For each glyph its place before the hook; none where nothing is to be shown of it.
     pub origins: &'a [usize],
-    pub shaper: Option<ShaperName>,
+    pub shaper: Option<Shaper>,
     pub features: &'a [Feature],
     pub numbers: &'a Numbers,
     /// The font whose glyphs these are; none where they are still characters, or of lines.

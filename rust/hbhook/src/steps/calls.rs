@@ -4,7 +4,6 @@
 use super::fractions::set_fractions;
 use super::subjects::{Subject, subject_of};
 use super::{Shaper, ShaperError};
-use crate::generated::hbhook_commands::ShaperName;
 use crate::way::Way;
 use crate::whole_font::WholeFont;
 use crate::word::{PREPROCESS, name_of_pause};
@@ -73,7 +72,7 @@ impl Call {
     }
 
     /// Where bindings/page/definitions.md defines it for a shaper.
-    pub(super) fn subject(self, shaper: Option<ShaperName>) -> Option<Subject> {
+    pub(super) fn subject(self, shaper: Option<Shaper>) -> Option<Subject> {
         match self {
             Call::GlobalMask | Call::Glyphs => Some(("shapers_pipeline", "Masks")),
             Call::Properties => Some(("shapers_prepare", "GlyphProperties")),

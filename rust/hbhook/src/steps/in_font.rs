@@ -5,10 +5,6 @@ use super::glyph::Names;
 use super::told::told;
 use super::{Choices, MOST_IN_ALL, MOST_SHOWN, Step, Steps, wanted_of};
 use crate::drawing::{Legend, draw_glyphs};
-use crate::generated::hbhook_commands::ShaperName;
-use crate::generated::hbhook_lines::Session;
-use crate::word::name_of;
-use sengadlit::alloc::Global;
 use sengadlit::buffer::BufferFlags;
 use sengadlit::opentype::{ShapeStep, try_shape_in_steps};
 use sengadlit::shaper::checked::CallError;
@@ -121,7 +117,7 @@ impl Steps {
             is_rtl: false,
         });
         let mut legend = Legend::default();
-        let shaper = plan.shaper().and_then(shaper_name);
+        let shaper = plan.shaper();
         let steps = steps_of(&snapshots, face, shaper, &mut legend);
         Ok(Steps {
             steps,
@@ -156,18 +152,10 @@ fn buffer_of(text: &str, choices: &Choices) -> UnicodeBuffer {
     buffer
 }
 
-// The name by which lines choose a shaper, whose names for categories and syllables are shown.
-fn shaper_name(shaper: Shaper) -> Option<ShaperName> {
-    let mut session = Session::new(Global);
-    let line = format!("set shaper {}", name_of(shaper));
-    session.carry_out(line.as_bytes()).ok()?;
-    session.shaper_name()
-}
-
 fn steps_of(
     snapshots: &[Snapshot],
     face: &Face<'_>,
-    shaper: Option<ShaperName>,
+    shaper: Option<Shaper>,
     legend: &mut Legend,
 ) -> Vec<Step> {
     let befores = [None].into_iter().chain(snapshots.iter().map(Some));

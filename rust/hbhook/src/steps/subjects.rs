@@ -1,32 +1,32 @@
 //! Where bindings/page/definitions.md defines what a line runs.
 
-use crate::generated::hbhook_commands::ShaperName;
+use sengadlit::Shaper;
 
 /// A crate, and the entry of a definition there.
 pub(super) type Subject = (&'static str, &'static str);
 
 /// The definition of a line of this shaper, if it runs a hook or a pause.
-pub(super) fn subject_of(line: &str, shaper: ShaperName) -> Option<Subject> {
+pub(super) fn subject_of(line: &str, shaper: Shaper) -> Option<Subject> {
     let mut fields = line.strip_prefix("run ")?.split(' ');
     match fields.next()? {
         "pause" => subject_of_pause(fields.next()?),
         "text" => Some(("shapers_pipeline", "Prepared")),
         "preprocess" => match shaper {
-            ShaperName::Thai => Some(("shapers_text", "Thai")),
-            ShaperName::Hangul => Some(("shapers_hangul", "Hangul")),
+            Shaper::Thai => Some(("shapers_text", "Thai")),
+            Shaper::Hangul => Some(("shapers_hangul", "Hangul")),
             _ => None,
         },
         "masks" => subject_of_masks(shaper),
         "marks" => match shaper {
-            ShaperName::Hebrew => Some(("shapers_text", "Hebrew")),
-            ShaperName::Arabic => Some(("shapers_arabic", "Marks")),
+            Shaper::Hebrew => Some(("shapers_text", "Hebrew")),
+            Shaper::Arabic => Some(("shapers_arabic", "Marks")),
             _ => None,
         },
         "compose" | "decompose" => match shaper {
-            ShaperName::Hebrew => Some(("shapers_text", "Hebrew")),
-            ShaperName::Indic => Some(("shapers_indic", "Characters")),
-            ShaperName::Khmer => Some(("shapers_khmer", "Khmer")),
-            ShaperName::Universal => Some(("shapers_syllabic", "Characters")),
+            Shaper::Hebrew => Some(("shapers_text", "Hebrew")),
+            Shaper::Indic => Some(("shapers_indic", "Characters")),
+            Shaper::Khmer => Some(("shapers_khmer", "Khmer")),
+            Shaper::Universal => Some(("shapers_syllabic", "Characters")),
             _ => None,
         },
         "postprocess" => Some(("shapers_stretch", "Stretch")),
@@ -35,15 +35,13 @@ pub(super) fn subject_of(line: &str, shaper: ShaperName) -> Option<Subject> {
 }
 
 // By shaper, what sets masks.
-fn subject_of_masks(shaper: ShaperName) -> Option<Subject> {
+fn subject_of_masks(shaper: Shaper) -> Option<Subject> {
     match shaper {
-        ShaperName::Arabic => Some(("shapers_arabic", "Joining")),
-        ShaperName::Hangul => Some(("shapers_hangul", "Masks")),
-        ShaperName::Indic | ShaperName::Khmer | ShaperName::Myanmar => {
-            Some(("shapers_syllabic", "Characters"))
-        }
-        ShaperName::Universal => Some(("shapers_universal", "UniversalMasks")),
-        ShaperName::Hebrew | ShaperName::Thai | ShaperName::Zawgyi => None,
+        Shaper::Arabic => Some(("shapers_arabic", "Joining")),
+        Shaper::Hangul => Some(("shapers_hangul", "Masks")),
+        Shaper::Indic | Shaper::Khmer | Shaper::Myanmar => Some(("shapers_syllabic", "Characters")),
+        Shaper::Universal => Some(("shapers_universal", "UniversalMasks")),
+        Shaper::Hebrew | Shaper::Thai | Shaper::MyanmarZawgyi => None,
     }
 }
 

@@ -71,7 +71,7 @@ impl Walk {
     /// Takes a step of the pipeline.
     pub(super) fn call(&mut self, call: Call, way: &Way) -> Result<(), String> {
         let name = call.name();
-        let subject = call.subject(self.session.shaper_name());
+        let subject = call.subject(self.session.shaper());
         let run = |buffer: &mut Buffer| call.run(way, buffer);
         self.take_step(&name, subject, call.leaves_numbers(), run)
             .map_err(|fault| format!("{name}: {}", fault.told()))
@@ -146,7 +146,7 @@ impl Walk {
         self.session.carry_out(line.as_bytes())?;
         self.check_length()?;
         let origins = traced.origins(self.session.buffer.glyphs());
-        let shaper = self.session.shaper_name();
+        let shaper = self.session.shaper();
         let subject = shaper.and_then(|shaper| subject_of(line, shaper));
         self.show(vec![line.into()], &origins, subject)
     }

@@ -22,7 +22,7 @@ pub use hook::HookCall;
 use sengadlit::buffer::{CONTEXT_LENGTH, Span, Tag};
 use sengadlit::font::GlyphId;
 use sengadlit::plan::JoiningType;
-pub use setting::{Setting, ShaperName};
+pub use setting::Setting;
 
 // The first words of lines.
 const COMMANDS: &str =

@@ -13,7 +13,7 @@ mod settings;
 mod tables;
 
 pub use command::{
-    Command, GlyphField, HookCall, LineKind, Setting, ShaperName, Side, kind_of_line, read_line,
+    Command, GlyphField, HookCall, LineKind, Setting, Side, kind_of_line, read_line,
 };
 pub use expected::Expected;
 pub use fault::{Fault, LineFault};

@@ -4,7 +4,6 @@
 
 use crate::support::prelude::*;
 
-use crate::generated::hbhook_commands::command::ShaperName;
 use crate::generated::hbhook_commands::expected::Expected;
 use crate::generated::hbhook_commands::fault::LineFault;
 use crate::generated::hbhook_commands::font::LineFont;
@@ -14,6 +13,7 @@ use core::ops::Range;
 use sengadlit::buffer::{Script, Span, Tag};
 use sengadlit::map::{FeatureMap, Map};
 use sengadlit::plan::{BaseSearch, BreakFlags, Plan, StretchStart};
+use sengadlit::shaper::Shaper;
 
 /// A feature's mask and lookups.
 pub struct Feature {
@@ -26,7 +26,7 @@ pub struct Feature {
 
 /// The settings so far.
 pub struct Settings {
-    pub shaper: Option<ShaperName>,
+    pub shaper: Option<Shaper>,
     pub script: Option<Script>,
     pub chosen: Option<Tag>,
     pub found: bool,

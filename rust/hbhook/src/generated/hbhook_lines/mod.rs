@@ -3,7 +3,6 @@
 //! The program: carries out the lines of an input on a buffer of glyphs and prints the buffer.
 
 mod session;
-mod shapers;
 mod text;
 
 use crate::generated::hbhook_commands::{Fault, explain, lines_of, read_input, report, write_text};

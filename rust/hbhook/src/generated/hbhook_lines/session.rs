@@ -7,10 +7,9 @@ use crate::support::prelude::*;
 mod hooks;
 
 use crate::generated::hbhook_commands::{
-    Command, Expected, Feature, GlyphField, LineFault, LineFont, Setting, Settings, ShaperName,
-    Side, print_buffer, read_line,
+    Command, Expected, Feature, GlyphField, LineFault, LineFont, Setting, Settings, Side,
+    print_buffer, read_line,
 };
-use crate::generated::hbhook_lines::shapers::shaper_of;
 use crate::support::alloc::{AllocError, Global};
 use core::mem;
 use sengadlit::buffer::{Buffer, GlyphInfo, GlyphPosition, UnicodeProps};
@@ -65,11 +64,6 @@ impl Session {
 
     /// The shaper, once a line has set one.
     pub fn shaper(&self) -> Option<Shaper> {
-        self.settings.shaper.map(shaper_of)
-    }
-
-    /// The name of the shaper, once a line has set one.
-    pub fn shaper_name(&self) -> Option<ShaperName> {
         self.settings.shaper
     }
 
@@ -203,15 +197,15 @@ impl Session {
             .shaper
             .ok_or(LineFault::Unreadable(SYLLABLES))?
         {
-            ShaperName::Indic => spans_into(&Indic, glyphs, spans)?,
-            ShaperName::Khmer => spans_into(&Khmer, glyphs, spans)?,
-            ShaperName::Myanmar => spans_into(&Myanmar, glyphs, spans)?,
-            ShaperName::Universal => spans_into(&Universal, glyphs, spans)?,
-            ShaperName::Arabic
-            | ShaperName::Hangul
-            | ShaperName::Hebrew
-            | ShaperName::Thai
-            | ShaperName::Zawgyi => return Err(LineFault::Unreadable(SYLLABLES)),
+            Shaper::Indic => spans_into(&Indic, glyphs, spans)?,
+            Shaper::Khmer => spans_into(&Khmer, glyphs, spans)?,
+            Shaper::Myanmar => spans_into(&Myanmar, glyphs, spans)?,
+            Shaper::Universal => spans_into(&Universal, glyphs, spans)?,
+            Shaper::Arabic
+            | Shaper::Hangul
+            | Shaper::Hebrew
+            | Shaper::Thai
+            | Shaper::MyanmarZawgyi => return Err(LineFault::Unreadable(SYLLABLES)),
         }
         Ok(())
     }

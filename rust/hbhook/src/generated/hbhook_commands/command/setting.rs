@@ -8,6 +8,7 @@ use crate::generated::hbhook_commands::fault::LineFault;
 use crate::generated::hbhook_commands::tables::OtherCharacters;
 use sengadlit::buffer::{BufferClusterLevel, BufferFlags, Direction, Script, Tag};
 use sengadlit::plan::{BaseSearch, BreakFlags, StretchStart};
+use sengadlit::shaper::Shaper;
 
 // The names of the settings.
 const KEYS: &str = "shaper, script, chosen, found, gposmark, direction, level, flags, maxlen, \
@@ -19,25 +20,10 @@ const SHAPERS: &str = "arabic, hangul, hebrew, indic, khmer, myanmar, zawgyi, th
 // The levels of clusters.
 const LEVEL: Expected = Expected::Number(2);
 
-/// A shaper, by the name that lines give it.
-#[derive(Clone, Copy)]
-pub enum ShaperName {
-    Arabic,
-    Hangul,
-    Hebrew,
-    Indic,
-    Khmer,
-    Myanmar,
-    /// Myanmar in the encoding of Zawgyi.
-    Zawgyi,
-    Thai,
-    Universal,
-}
-
 /// A setting and its value.
 #[derive(Clone, Copy)]
 pub enum Setting {
-    Shaper(ShaperName),
+    Shaper(Shaper),
     /// The script of the plan and of the buffer.
     Script(Script),
     /// The script chosen in the font.
@@ -88,17 +74,17 @@ impl Setting {
     }
 }
 
-fn named_shaper(name: &str) -> Result<ShaperName, LineFault> {
+fn named_shaper(name: &str) -> Result<Shaper, LineFault> {
     match name {
-        "arabic" => Ok(ShaperName::Arabic),
-        "hangul" => Ok(ShaperName::Hangul),
-        "hebrew" => Ok(ShaperName::Hebrew),
-        "indic" => Ok(ShaperName::Indic),
-        "khmer" => Ok(ShaperName::Khmer),
-        "myanmar" => Ok(ShaperName::Myanmar),
-        "zawgyi" => Ok(ShaperName::Zawgyi),
-        "thai" => Ok(ShaperName::Thai),
-        "universal" => Ok(ShaperName::Universal),
+        "arabic" => Ok(Shaper::Arabic),
+        "hangul" => Ok(Shaper::Hangul),
+        "hebrew" => Ok(Shaper::Hebrew),
+        "indic" => Ok(Shaper::Indic),
+        "khmer" => Ok(Shaper::Khmer),
+        "myanmar" => Ok(Shaper::Myanmar),
+        "zawgyi" => Ok(Shaper::MyanmarZawgyi),
+        "thai" => Ok(Shaper::Thai),
+        "universal" => Ok(Shaper::Universal),
         _ => Err(LineFault::Unreadable(Expected::Word(SHAPERS))),
     }
 }
