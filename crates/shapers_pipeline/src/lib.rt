@@ -22,9 +22,7 @@ mod substitution;
 pub use laws::{orders_alone_law, orders_monotone_law, pipeline_clusters_law};
 pub use lengths::{length_bound, pipeline_lengths_law};
 pub use lookups::Lookups;
-pub use normalizing::{
-    NormalizeFont, NormalizeSettings, NormalizeTables, ot_shape_normalize,
-};
+pub use normalizing::{NormalizeFont, NormalizeSettings, NormalizeTables, ot_shape_normalize};
 pub use plan::{StagePlan, TextPlan};
 pub use prepare::prepare_text;
 pub use settings::ShapeSettings;

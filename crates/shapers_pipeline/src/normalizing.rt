@@ -9,14 +9,13 @@ mod context;
 mod hooks;
 mod tables;
 
-pub use tables::{NormalizeFont, NormalizeTables};
-
 use context::ShaperContext;
 use rustybuzz_shapers::shaper::hb_ot_shaper_t;
 use shapers_base::buffer::{ShaperError, hb_buffer_t};
 use shapers_base::font::GlyphId;
 use shapers_base::plan::hb_ot_shape_plan_t;
 use shapers_normal::ot_shape_normalize::{Rounds, normalize};
+pub use tables::{NormalizeFont, NormalizeTables};
 
 /// The caller's settings.
 #[derive(Clone, Copy, Debug, PartialEq, Eq, Default)]

@@ -92,7 +92,7 @@ pub(crate) fn prepare_planned<F: NormalizeFont, T: NormalizeTables + UnicodeProp
     if !plan_fits(plan.shaper, plan.plan) {
         return Err(CallError::Condition(Condition::PlanData));
     }
-    normalize_text(plan, settings, font, tables, buffer)?;
+    prepare_characters(plan, settings, font, tables, buffer)?;
     set_fractions(&plan.masks, buffer);
     setup_masks(plan.shaper, plan.plan, font, tables, buffer)?;
     set_features(plan.ranges, buffer);
@@ -100,8 +100,8 @@ pub(crate) fn prepare_planned<F: NormalizeFont, T: NormalizeTables + UnicodeProp
     Ok(())
 }
 
-// Does all up to normalization, which ends it.
-fn normalize_text<F: NormalizeFont, T: NormalizeTables + UnicodeProperties>(
+// Does all that is done to the characters: from their masks and properties to normalization.
+fn prepare_characters<F: NormalizeFont, T: NormalizeTables + UnicodeProperties>(
     plan: &TextPlan,
     settings: &NormalizeSettings,
     font: &F,
@@ -121,14 +121,15 @@ fn normalize_text<F: NormalizeFont, T: NormalizeTables + UnicodeProperties>(
     ensures positions { OnOk result (buffer.new.positions ≡ []) }
 {
     let direction = buffer.direction();
-    begin_text(plan, tables, buffer);
+    set_masks_and_properties(plan, tables, buffer);
     insert_dotted_circle(tables, font, buffer)?;
-    direct_text(buffer);
-    normalize_directed(plan, settings, font, tables, direction, buffer)
+    form_clusters_and_direct(buffer);
+    preprocess_and_normalize(plan, settings, font, tables, direction, buffer)
 }
 
-// The same from a text in its own direction on, for a caller who wants this one.
-fn normalize_directed<F: NormalizeFont, T: NormalizeTables + UnicodeProperties>(
+// Lets the shaper rewrite a text that stands in its own direction, rotates its characters and
+// normalizes it, for a caller who wants `direction`.
+fn preprocess_and_normalize<F: NormalizeFont, T: NormalizeTables + UnicodeProperties>(
     plan: &TextPlan,
     settings: &NormalizeSettings,
     font: &F,
@@ -168,7 +169,11 @@ fn rotation_to(masks: &DriverMasks, direction: Direction) -> CharRotation
 
 // Sets the features of the whole text and the properties of its characters.
 #[inline]
-fn begin_text<T: UnicodeProperties>(plan: &TextPlan, tables: &T, buffer: &mut hb_buffer_t)
+fn set_masks_and_properties<T: UnicodeProperties>(
+    plan: &TextPlan,
+    tables: &T,
+    buffer: &mut hb_buffer_t,
+)
     ensures { let global = plan.now.plan.now.ot_map.global in
         let masked = map (with_mask_alone global) buffer.old.glyphs in
         let text = properties_set (T.properties tables.now) masked in
@@ -180,7 +185,7 @@ fn begin_text<T: UnicodeProperties>(plan: &TextPlan, tables: &T, buffer: &mut hb
 
 // Forms the clusters of the graphemes, and turns the text to its own direction.
 #[tactic(auto, using(crate::proofs::Directed::positions_stay, crate::proofs::Directed::limit_stays))]
-fn direct_text(buffer: &mut hb_buffer_t)
+fn form_clusters_and_direct(buffer: &mut hb_buffer_t)
     requires { buffer.old.positions ≡ [] }
     ensures text { let formed : Buffer = record buffer.old {
       glyphs = clusters_formed buffer.old.level buffer.old.glyphs;

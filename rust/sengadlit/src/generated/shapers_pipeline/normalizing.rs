@@ -6,14 +6,13 @@ mod context;
 mod hooks;
 mod tables;
 
-pub use tables::{NormalizeFont, NormalizeTables};
-
 use crate::generated::rustybuzz_shapers::shaper::Shaper;
 use crate::generated::shapers_base::buffer::{Buffer, ShaperError};
 use crate::generated::shapers_base::font::GlyphId;
 use crate::generated::shapers_base::plan::Plan;
 use crate::generated::shapers_normal::ot_shape_normalize::{Rounds, normalize};
 use context::ShaperContext;
+pub use tables::{NormalizeFont, NormalizeTables};
 
 /// The caller's settings.
 #[derive(Clone, Copy, Debug, PartialEq, Eq, Default, Hash)]

@@ -93,7 +93,7 @@ pub(crate) fn prepare_planned<F: NormalizeFont, T: NormalizeTables + UnicodeProp
     if !plan_fits(plan.shaper, plan.plan) {
         return Err(CallError::Condition(Condition::PlanData));
     }
-    normalize_text(plan, settings, font, tables, buffer)?;
+    prepare_characters(plan, settings, font, tables, buffer)?;
     set_fractions(&plan.masks, buffer);
     setup_masks(plan.shaper, plan.plan, font, tables, buffer)?;
     set_features(plan.ranges, buffer);
@@ -101,8 +101,8 @@ pub(crate) fn prepare_planned<F: NormalizeFont, T: NormalizeTables + UnicodeProp
     Ok(())
 }
 
-// Does all up to normalization, which ends it.
-fn normalize_text<F: NormalizeFont, T: NormalizeTables + UnicodeProperties>(
+// Does all that is done to the characters: from their masks and properties to normalization.
+fn prepare_characters<F: NormalizeFont, T: NormalizeTables + UnicodeProperties>(
     plan: &TextPlan,
     settings: &NormalizeSettings,
     font: &F,
@@ -110,14 +110,15 @@ fn normalize_text<F: NormalizeFont, T: NormalizeTables + UnicodeProperties>(
     buffer: &mut Buffer,
 ) -> Result<(), ShaperError> {
     let direction = buffer.direction();
-    begin_text(plan, tables, buffer);
+    set_masks_and_properties(plan, tables, buffer);
     insert_dotted_circle(tables, font, buffer)?;
-    direct_text(buffer);
-    normalize_directed(plan, settings, font, tables, direction, buffer)
+    form_clusters_and_direct(buffer);
+    preprocess_and_normalize(plan, settings, font, tables, direction, buffer)
 }
 
-// The same from a text in its own direction on, for a caller who wants this one.
-fn normalize_directed<F: NormalizeFont, T: NormalizeTables + UnicodeProperties>(
+// Lets the shaper rewrite a text that stands in its own direction, rotates its characters and
+// normalizes it, for a caller who wants `direction`.
+fn preprocess_and_normalize<F: NormalizeFont, T: NormalizeTables + UnicodeProperties>(
     plan: &TextPlan,
     settings: &NormalizeSettings,
     font: &F,
@@ -142,13 +143,17 @@ fn rotation_to(masks: &DriverMasks, direction: Direction) -> CharRotation {
 
 // Sets the features of the whole text and the properties of its characters.
 #[inline]
-fn begin_text<T: UnicodeProperties>(plan: &TextPlan, tables: &T, buffer: &mut Buffer) {
+fn set_masks_and_properties<T: UnicodeProperties>(
+    plan: &TextPlan,
+    tables: &T,
+    buffer: &mut Buffer,
+) {
     initialize_masks(plan.plan.ot_map.global_bits(), buffer);
     set_unicode_properties(tables, buffer);
 }
 
 // Forms the clusters of the graphemes, and turns the text to its own direction.
-fn direct_text(buffer: &mut Buffer) {
+fn form_clusters_and_direct(buffer: &mut Buffer) {
     form_clusters(buffer);
     ensure_native_direction(buffer);
 }

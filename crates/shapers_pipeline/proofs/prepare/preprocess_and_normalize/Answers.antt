@@ -4,7 +4,7 @@ use Rattle.shapers_prepare.specs.Rotation.{rotated_glyph}
 use Rattle.shapers_buffer.specs.Buffer.{Buffer}
 use Rattle.shapers_pipeline.specs.Prepared.{preparation}
 use Rattle.shapers_pipeline.proofs.Growing.{normalized_refused, normalized_room}
-use Rattle.shapers_pipeline.proofs.prepare.normalize_directed.Goals as goal
+use Rattle.shapers_pipeline.proofs.prepare.preprocess_and_normalize.Goals as goal
 
 pub returns-clause-room : goal.returns-clause-room
 returns-clause-room g c =

@@ -1,52 +1,52 @@
 -- The steps before the text is in its own direction, and those behind.
 use Rattle.shapers_pipeline.specs.Prepared.{preparation}
 use Rattle.shapers_pipeline.proofs.Growing.{all_room, is_normalized, one_refused}
-use Rattle.shapers_pipeline.proofs.prepare.normalize_text.Goals as goal
+use Rattle.shapers_pipeline.proofs.prepare.prepare_characters.Goals as goal
 
 pub returns-clause-ok : goal.returns-clause-ok
 returns-clause-ok g c =
     let p = preparation c.args.plan.now c.args.settings.now (g.F.hb_font_t.font c.args.font.now) (g.F.NormalizeFont.variants c.args.font.now) (g.T.UnicodeProperties.properties c.args.tables.now) (g.T.Tables.tables c.args.tables.now) (g.T.NormalizeTables.texts c.args.tables.now) in
-    let a = c.begin_text.new.buffer in
+    let a = c.set_masks_and_properties.new.buffer in
     let b = c.insert_dotted_circle.new.buffer in
-    let d = c.direct_text.new.buffer in
-    is_normalized p c.args.buffer.now a b d c.normalize_directed.new.buffer c.direction-direction.result c.normalize_directed.result
+    let d = c.form_clusters_and_direct.new.buffer in
+    is_normalized p c.args.buffer.now a b d c.preprocess_and_normalize.new.buffer c.direction-direction.result c.preprocess_and_normalize.result
     (record {
-      begun = c.begin_text.ensures;
+      begun = c.set_masks_and_properties.ensures;
       opened = c.in_ok-insert_dotted_circle.ensures.ok;
       room = c.in_ok-insert_dotted_circle.ensures.length;
-      turned = c.direct_text.ensures.text;
+      turned = c.form_clusters_and_direct.ensures.text;
       wanted = c.direction-direction.ensures;
     })
-    c.normalize_directed.ensures.ok
+    c.preprocess_and_normalize.ensures.ok
 
 pub returns-clause-room : goal.returns-clause-room
 returns-clause-room g c =
     let p = preparation c.args.plan.now c.args.settings.now (g.F.hb_font_t.font c.args.font.now) (g.F.NormalizeFont.variants c.args.font.now) (g.T.UnicodeProperties.properties c.args.tables.now) (g.T.Tables.tables c.args.tables.now) (g.T.NormalizeTables.texts c.args.tables.now) in
-    let a = c.begin_text.new.buffer in
+    let a = c.set_masks_and_properties.new.buffer in
     let b = c.insert_dotted_circle.new.buffer in
-    let d = c.direct_text.new.buffer in
-    all_room p c.args.buffer.now a b d c.direction-direction.result c.normalize_directed.result
+    let d = c.form_clusters_and_direct.new.buffer in
+    all_room p c.args.buffer.now a b d c.direction-direction.result c.preprocess_and_normalize.result
     (record {
-      begun = c.begin_text.ensures;
+      begun = c.set_masks_and_properties.ensures;
       opened = c.in_ok-insert_dotted_circle.ensures.ok;
       room = c.in_ok-insert_dotted_circle.ensures.length;
-      turned = c.direct_text.ensures.text;
+      turned = c.form_clusters_and_direct.ensures.text;
       wanted = c.direction-direction.ensures;
     })
-    c.normalize_directed.ensures.room
+    c.preprocess_and_normalize.ensures.room
 
 pub returns-clause-err : goal.returns-clause-err
 returns-clause-err g c =
     let p = preparation c.args.plan.now c.args.settings.now (g.F.hb_font_t.font c.args.font.now) (g.F.NormalizeFont.variants c.args.font.now) (g.T.UnicodeProperties.properties c.args.tables.now) (g.T.Tables.tables c.args.tables.now) (g.T.NormalizeTables.texts c.args.tables.now) in
-    let a = c.begin_text.new.buffer in
+    let a = c.set_masks_and_properties.new.buffer in
     let b = c.insert_dotted_circle.new.buffer in
-    let d = c.direct_text.new.buffer in
-    one_refused p c.args.buffer.now a b d c.normalize_directed.new.buffer c.direction-direction.result c.normalize_directed.result
+    let d = c.form_clusters_and_direct.new.buffer in
+    one_refused p c.args.buffer.now a b d c.preprocess_and_normalize.new.buffer c.direction-direction.result c.preprocess_and_normalize.result
     (record {
-      begun = c.begin_text.ensures;
+      begun = c.set_masks_and_properties.ensures;
       opened = c.in_ok-insert_dotted_circle.ensures.ok;
       room = c.in_ok-insert_dotted_circle.ensures.length;
-      turned = c.direct_text.ensures.text;
+      turned = c.form_clusters_and_direct.ensures.text;
       wanted = c.direction-direction.ensures;
     })
-    c.normalize_directed.ensures.err
+    c.preprocess_and_normalize.ensures.err
