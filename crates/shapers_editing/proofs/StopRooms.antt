@@ -1,8 +1,7 @@
 -- A list with room for the stops of a text has room for those of each end of it.
-use Rattle.std.proofs.Common.{◌≡◌, ℕ, suc, ◌+◌, ◌<◌, ◌≤◌, true, false, append_assoc, cond, List, [], ◌∷◌, ◌++◌, drop, get_or, length, map, reverse, take, refl, sym, ap, subst, ◌∙◌, arith}
+use Rattle.std.proofs.Common.{◌≡◌, ℕ, suc, ◌+◌, ◌<◌, ◌≤◌, true, false, append_assoc, cond, List, [], ◌∷◌, ◌++◌, drop, get_or, length, map, reverse, take, sym, ap, subst, ◌∙◌, arith}
 use Rattle.std.proofs.Math.Seq.{drop-cons}
-use Rattle.std.proofs.lemmas.List.{drop-map, get_or-map, length-map, reverse-append, take-append-drop, take-map}
-use Rattle.std.proofs.lemmas.Grind.{reverse_onto}
+use Rattle.std.proofs.lemmas.List.{drop-map, reverse-append, take-append-drop, take-map}
 use Rattle.std.specs.List.{list_all}
 use Rattle.std.specs.Prelude.{nat_lt, Err, Ok, OnErr, Result}
 use Rattle.shapers_buffer.specs.Glyph.{clusters}
