@@ -1,8 +1,7 @@
 -- What the walks over a text and over a syllable look for.
-use Rattle.std.specs.Prelude.{ℕ, ◌-◌, ◌≤◌, ◌≡◌, ◌&&◌, ◌||◌, Bool, Option}
+use Rattle.std.specs.Prelude.{◌&&◌, ◌||◌, Bool, Option}
 use Rattle.shapers_buffer.specs.Glyphs.{Glyph, Glyphs}
 use Rattle.shapers_buffer.specs.declared.buffer.tag.Script.{Script}
-use Rattle.shapers_buffer.specs.Clusters.{stretch_of, with_stretch}
 use Rattle.shapers_indic_final.specs.declared.ot_shaper_indic_final.rules.Rules.{Rules}
 use Rattle.shapers_base.specs.Masks.{has_bits}
 use Rattle.shapers_base.specs.declared.plan.ot_position_t.TheConstants.{POS_BELOW_C, POS_RA_TO_BECOME_REPH}
@@ -22,12 +21,3 @@ changes_syllable r script g = is_left g || has_position POS_RA_TO_BECOME_REPH g
 -- the glyphs of a syllable with the positions that the search for its base gives
 abbrev pub settled : Rules → Option Script → Glyphs → Glyphs
 settled r script gs = (with_final_base r script gs).glyphs
-
--- the glyphs before and after, of a syllable from s to e whose base is found, and whether a formed
--- pref glyph may go before it
-pub record Settles (r : Rules) (script : Option Script) (s e base : ℕ) (tries : Bool)
-    (gs hs : Glyphs) : Type 0 where
-  pub glyphs : hs ≡ with_stretch s e (settled r script) gs
-  pub base_is : base ≡ (with_final_base r script (stretch_of s e gs)).base
-  pub tries_is : tries ≡ (with_final_base r script (stretch_of s e gs)).tries_pref
-  pub within : base ≤ e - s

@@ -1,9 +1,8 @@
 //! The base of a syllable after substitutions. (OpenType, development of Indic scripts: "Final
 //! reordering".)
-ghost use Rattle.std.specs.Prelude.{if◌then◌else◌, ◌-◌, ◌≡◌, ◌<◌, ◌≤◌, ◌+◌, is_some, length, map, unwrap_or};
+ghost use Rattle.std.specs.Prelude.{if◌then◌else◌, ◌-◌, ◌≡◌, ◌<◌, ◌≤◌, ◌+◌, is_some, length, unwrap_or};
 ghost use Rattle.std.specs.List.{prefix_len};
 ghost use Rattle.std.specs.Option.{IfSome};
-ghost use Rattle.shapers_buffer.specs.Glyph.{at_position};
 ghost use Rattle.shapers_buffer.specs.Clusters.{stretch_of, with_stretch};
 ghost use Rattle.shapers_indic.specs.Glyphs.{greatest_place, passes};
 ghost use Rattle.shapers_indic_final.specs.FinalBase.{as_linked, base_by_links, base_by_pref, before_halants, before_joiner, behind_halants, first_base, is_from_base_on, is_unformed_below, last_link, links_written, may_be_settled, stepped_back, unformed_pref, with_final_base, with_base_at, with_links, with_pref_base};
@@ -13,7 +12,7 @@ ghost use Rattle.shapers_indic_final.specs.FinalWalk.{settled};
 use super::glyphs::{is_formed, is_halant};
 use super::pref::pref_place;
 use super::rules::{Rules, is_malayalam};
-use shapers_base::buffer::{GlyphWalk, Script, hb_buffer_t, hb_glyph_info_t};
+use shapers_base::buffer::{Script, hb_buffer_t, hb_glyph_info_t};
 use shapers_base::plan::ot_category_t::{OT_H, OT_N, OT_ZWJ};
 use shapers_base::plan::ot_position_t::{POS_BASE_C, POS_BELOW_C};
 use shapers_indic::ot_shaper_indic::glyphs::is_joiner;
@@ -48,43 +47,7 @@ pub(super) fn settle_base(
     ensures same_length { length buffer.new.glyphs ≡ length buffer.old.glyphs }
     ensures within { result.base ≤ end - start }
 {
-    let mut walk = BaseWalk {
-        rules: *rules,
-        script,
-        start,
-        end,
-        based: Based {
-            base: 0,
-            tries_pref: false,
-        },
-    };
-    buffer.walk(&mut walk);
-    walk.based
-}
-
-// The syllable whose base is looked for, and what was found.
-#[derive(Clone, Copy)]
-struct BaseWalk {
-    rules: Rules,
-    script: Option<Script>,
-    start: usize,
-    end: usize,
-    based: Based,
-}
-
-impl GlyphWalk for BaseWalk {
-    ghost use Rattle.std.specs.Prelude.{◌≡◌, ◌≤◌, length};
-    ghost use Rattle.shapers_indic_final.specs.FinalWalk.{Settles};
-
-    ghost can_walk = { λ w gs. (w.start ≤ w.end) × (w.end ≤ length gs) };
-
-    ghost walks = { λ v w gs hs.
-        Settles v.rules v.script v.start v.end w.based.base w.based.tries_pref gs hs };
-
-    #[inline]
-    fn walk(&mut self, glyphs: &mut [hb_glyph_info_t]) {
-        self.based = find_base(&self.rules, self.script, &mut glyphs[self.start..self.end]);
-    }
+    buffer.with_glyphs_mut(|glyphs| find_base(rules, script, &mut glyphs[start..end]))
 }
 
 // Finds the base of a syllable, and gives the glyphs that become it the base's position.
@@ -190,17 +153,7 @@ fn set_base_at(i: usize, glyphs: &mut [hb_glyph_info_t])
     ensures same_length { length glyphs.new ≡ length glyphs.old }
 {
     if i < glyphs.len() {
-        set_base(&mut glyphs[i..i + 1]);
-    }
-}
-
-// Gives these glyphs the base's position.
-#[inline]
-fn set_base(glyphs: &mut [hb_glyph_info_t])
-    ensures { glyphs.new ≡ map (at_position POS_BASE_C) glyphs.old }
-{
-    for glyph in glyphs.iter_mut() {
-        glyph.auxiliary = POS_BASE_C;
+        glyphs[i].auxiliary = POS_BASE_C;
     }
 }
 
@@ -291,7 +244,7 @@ fn set_links(script: Option<Script>, base: usize, glyphs: &mut [hb_glyph_info_t]
     }
 }
 
-// The same in Malayalam.
+// The base by links, whose last glyphs get the base's position.
 #[allow(clippy::needless_range_loop)]
 fn set_along_links(base: usize, glyphs: &mut [hb_glyph_info_t]) -> usize
     requires in_range { base ≤ length glyphs.old }

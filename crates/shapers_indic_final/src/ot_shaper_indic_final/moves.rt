@@ -106,7 +106,8 @@ pub(super) fn move_matra(
     moves
 }
 
-// The same written at once, where nothing else of the syllable moves.
+// Moves and merges one left matra as `move_matra`, and writes it at once, where nothing else of the
+// syllable moves.
 #[inline]
 pub(super) fn write_matra(
     buffer: &mut hb_buffer_t,

@@ -38,7 +38,6 @@ pub fn final_reordering<F: hb_font_t>(plan: &hb_ot_shape_plan_t, face: &F, buffe
         script: buffer.script(),
     };
     // (this order never refuses)
-    if reorder_syllables_by_steps(&order, buffer).is_ok() {
-        open_words(rules.init, buffer);
-    }
+    reorder_syllables_by_steps(&order, buffer).unwrap();
+    open_words(rules.init, buffer);
 }

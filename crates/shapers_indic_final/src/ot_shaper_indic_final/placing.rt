@@ -82,7 +82,7 @@ fn opens(moves: &Placements, buffer: &hb_buffer_t, s: usize, e: usize) -> bool
     opens_arranged(&buffer.arranged(moves, s, e), s, e)
 }
 
-// The same of the text so moved.
+// Whether a reph that moves opens the syllable from `s` to `e` of a text that is seen as moved.
 #[inline]
 fn opens_arranged(glyphs: &Arranged, s: usize, e: usize) -> bool
     requires in_order { s ≤ e }

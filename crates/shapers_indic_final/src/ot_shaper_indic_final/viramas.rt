@@ -6,7 +6,7 @@ ghost use Rattle.std.specs.Prelude.{◌≡◌, ◌≤◌, length, map};
 ghost use Rattle.shapers_buffer.specs.Clusters.{with_stretch};
 ghost use Rattle.shapers_indic_final.specs.FinalGlyphs.{is_lost_virama, recovered};
 
-use shapers_base::buffer::{GlyphChange, hb_buffer_t, hb_glyph_info_t};
+use shapers_base::buffer::{hb_buffer_t, hb_glyph_info_t};
 use shapers_base::font::GlyphId;
 use shapers_base::plan::ot_category_t::OT_H;
 
@@ -18,27 +18,18 @@ pub(super) fn recover_viramas(virama: Option<GlyphId>, buffer: &mut hb_buffer_t,
     ensures { let change = with_stretch s e (map (recovered virama)) in
         buffer.new ≡ record buffer.old { glyphs = change buffer.old.glyphs } }
 {
-    buffer.change_each(s, e, &Recover { virama });
+    buffer.change_each_by(s, e, |glyph| recover(virama, glyph));
 }
 
-// The virama to be recovered, if there is one.
-#[derive(Clone, Copy)]
-struct Recover {
-    virama: Option<GlyphId>,
-}
-
-impl GlyphChange for Recover {
-    ghost use Rattle.shapers_indic_final.specs.FinalGlyphs.{recovered};
-
-    ghost changed = { λ change glyph. recovered change.virama glyph };
-
-    #[inline]
-    fn change(&self, glyph: &mut hb_glyph_info_t) {
-        if is_lost_virama(self.virama, glyph) {
-            glyph.category = OT_H;
-            glyph.glyph_props.set_ligated(false);
-            glyph.glyph_props.set_multiplied(false);
-        }
+// Makes a virama that was taken apart a halant again.
+#[inline]
+fn recover(virama: Option<GlyphId>, glyph: &mut hb_glyph_info_t)
+    ensures { glyph.new ≡ recovered virama glyph.old }
+{
+    if is_lost_virama(virama, glyph) {
+        glyph.category = OT_H;
+        glyph.glyph_props.set_ligated(false);
+        glyph.glyph_props.set_multiplied(false);
     }
 }
 

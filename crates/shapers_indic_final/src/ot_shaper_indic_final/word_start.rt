@@ -5,9 +5,7 @@ ghost use Rattle.std.specs.Prelude.{◌%◌, ◌≡◌, ◌<◌, ◌≤◌, leng
 ghost use Rattle.shapers_indic_final.specs.FinalWordStart.{WordsOpened, before_place, continues_word, opened, starts_syllable, word_goes_on};
 
 use super::matras::is_left;
-use shapers_base::buffer::{
-    GlyphChange, hb_buffer_t, hb_glyph_info_t, hb_unicode_general_category_t,
-};
+use shapers_base::buffer::{hb_buffer_t, hb_glyph_info_t, hb_unicode_general_category_t};
 
 // Opens each syllable of the text.
 #[inline]
@@ -44,7 +42,7 @@ fn open_syllable(init: u32, buffer: &mut hb_buffer_t, s: usize)
         buffer.unsafe_to_break(s.saturating_sub(1), s + 1);
         return;
     }
-    buffer.change_each(s, s + 1, &AddInit { init });
+    buffer.change_each_by(s, s + 1, |glyph| glyph.mask |= init);
 }
 
 // Whether a word goes on behind what stands before a place.
@@ -57,23 +55,6 @@ fn goes_on(glyphs: &[hb_glyph_info_t], s: usize) -> bool
         return false;
     }
     continues_word(glyphs[s - 1].unicode_props.general_category())
-}
-
-// The mask of `init` to be added.
-#[derive(Clone, Copy)]
-struct AddInit {
-    init: u32,
-}
-
-impl GlyphChange for AddInit {
-    ghost use Rattle.shapers_buffer.specs.GlyphFlags.{with_bits};
-
-    ghost changed = { λ change glyph. with_bits change.init glyph };
-
-    #[inline]
-    fn change(&self, glyph: &mut hb_glyph_info_t) {
-        glyph.mask |= self.init;
-    }
 }
 
 // Whether a word goes on behind a glyph of this category.

@@ -1,7 +1,9 @@
 -- By whether a left matra opens it, and a word goes on.
 use Rattle.std.proofs.Common.{arith}
 use Rattle.std.proofs.Common.{get_or, sym, ap, ◌∙◌}
+use Rattle.std.proofs.lemmas.Grind.{common_steps}
 use Rattle.shapers_buffer.specs.Glyph.{default_glyph}
+use Rattle.shapers_buffer.specs.GlyphFlags.{with_bits}
 use Rattle.shapers_indic_final.specs.FinalMatras.{is_left}
 use Rattle.shapers_indic_final.specs.FinalWordStart.{before_place, word_goes_on}
 use Rattle.shapers_indic_final.proofs.FinalWordStartCases.{opened_bound, opened_init, opened_other}
@@ -20,4 +22,5 @@ returns c =
     ∙ c.if-not-is_left.false in
     let word =
     sym (c.goes_on.ensures ∙ ap (λ xs. word_goes_on (before_place s xs)) c.glyphs-2.ensures) ∙ c.if-goes_on.false in
-    cc (opened_init c.args.init s default_glyph c.args.buffer.now.glyphs c.requires left word)
+    let masked = c.change_each_by.ensures (with_bits c.args.init) (λ p q e. grind (arith, common_steps, e)) in
+    cc (masked, opened_init c.args.init s default_glyph c.args.buffer.now.glyphs c.requires left word)

@@ -6,7 +6,7 @@
 use super::glyphs::{is_formed, is_halant};
 use super::pref::pref_place;
 use super::rules::{Rules, is_malayalam};
-use crate::generated::shapers_base::buffer::{Buffer, GlyphInfo, GlyphWalk, Script};
+use crate::generated::shapers_base::buffer::{Buffer, GlyphInfo, Script};
 use crate::generated::shapers_base::plan::ot_category_t::{OT_H, OT_N, OT_ZWJ};
 use crate::generated::shapers_base::plan::ot_position_t::{POS_BASE_C, POS_BELOW_C};
 use crate::generated::shapers_indic::ot_shaper_indic::glyphs::is_joiner;
@@ -30,35 +30,7 @@ pub(super) fn settle_base(
     start: usize,
     end: usize,
 ) -> Based {
-    let mut walk = BaseWalk {
-        rules: *rules,
-        script,
-        start,
-        end,
-        based: Based {
-            base: 0,
-            tries_pref: false,
-        },
-    };
-    buffer.walk(&mut walk);
-    walk.based
-}
-
-// The syllable whose base is looked for, and what was found.
-#[derive(Clone, Copy)]
-struct BaseWalk {
-    rules: Rules,
-    script: Option<Script>,
-    start: usize,
-    end: usize,
-    based: Based,
-}
-
-impl GlyphWalk for BaseWalk {
-    #[inline]
-    fn walk(&mut self, glyphs: &mut [GlyphInfo]) {
-        self.based = find_base(&self.rules, self.script, &mut glyphs[self.start..self.end]);
-    }
+    buffer.with_glyphs_mut(|glyphs| find_base(rules, script, &mut glyphs[start..end]))
 }
 
 // Finds the base of a syllable, and gives the glyphs that become it the base's position.
@@ -132,15 +104,7 @@ fn halants_len(glyphs: &[GlyphInfo]) -> usize {
 #[inline]
 fn set_base_at(i: usize, glyphs: &mut [GlyphInfo]) {
     if i < glyphs.len() {
-        set_base(&mut glyphs[i..i + 1]);
-    }
-}
-
-// Gives these glyphs the base's position.
-#[inline]
-fn set_base(glyphs: &mut [GlyphInfo]) {
-    for glyph in glyphs.iter_mut() {
-        glyph.auxiliary = POS_BASE_C;
+        glyphs[i].auxiliary = POS_BASE_C;
     }
 }
 
@@ -211,7 +175,7 @@ fn set_links(script: Option<Script>, base: usize, glyphs: &mut [GlyphInfo]) -> u
     }
 }
 
-// The same in Malayalam.
+// The base by links, whose last glyphs get the base's position.
 #[allow(clippy::needless_range_loop)]
 fn set_along_links(base: usize, glyphs: &mut [GlyphInfo]) -> usize {
     let mut last = base;

@@ -85,7 +85,8 @@ fn search_end(p: usize, glyphs: &[GlyphInfo]) -> usize {
 // Whether the glyph at place `i` ends the search for a halant. One before a ZWJ doesn't: the
 // specification has left matras go behind a joiner, but Uniscribe leaves them where they are, so
 // that 091F 094D 200D 092F 093F begins with the vowel sign. In 091F 094D 200C 092F 093F it stands
-// in the middle; no ZWNJ need be looked for, since behind a halant it ends the syllable.
+// in the middle; no ZWNJ need be looked for, since behind a halant it ends the syllable. (Fonts that
+// show it are Adobe Devanagari and Nirmala UI: HarfBuzz's issue 1070.)
 #[inline]
 fn ends_search(glyphs: &[GlyphInfo], i: usize) -> bool {
     is_matra_or_halant(&glyphs[i])

@@ -48,7 +48,6 @@ pub fn final_reordering<F: Font>(plan: &Plan, face: &F, buffer: &mut Buffer) {
         script: buffer.script(),
     };
     // (this order never refuses)
-    if reorder_syllables_by_steps(&order, buffer).is_ok() {
-        open_words(rules.init, buffer);
-    }
+    reorder_syllables_by_steps(&order, buffer).unwrap();
+    open_words(rules.init, buffer);
 }

@@ -52,7 +52,7 @@ fn opens(moves: &Placements, buffer: &Buffer, s: usize, e: usize) -> bool {
     opens_arranged(&buffer.arranged(moves, s, e), s, e)
 }
 
-// The same of the text so moved.
+// Whether a reph that moves opens the syllable from `s` to `e` of a text that is seen as moved.
 #[inline]
 fn opens_arranged(glyphs: &Arranged, s: usize, e: usize) -> bool {
     e - s >= 2 && is_moving_reph(&glyphs.get(s))

@@ -109,7 +109,7 @@ fn with_sub_len(glyphs: &[GlyphInfo]) -> usize {
 // The last glyph that is no sign; where it is a halant, less the vowel signs between the base and
 // it. So the reph of 0930 094D 0915 094B 094D goes before the halant and can join the vowel sign,
 // which Uniscribe doesn't do. Behind a consonant with a halant and no vowel sign it goes to the
-// end.
+// end. (HarfBuzz's issue 2298.)
 #[inline]
 fn at_end(base: usize, glyphs: &[GlyphInfo]) -> usize {
     let last = last_but_signs(glyphs);

@@ -5,30 +5,23 @@
 //! them in a later one, and the parts then have the category of the first character, which is no
 //! halant.
 
-use crate::generated::shapers_base::buffer::{Buffer, GlyphChange, GlyphInfo};
+use crate::generated::shapers_base::buffer::{Buffer, GlyphInfo};
 use crate::generated::shapers_base::font::GlyphId;
 use crate::generated::shapers_base::plan::ot_category_t::OT_H;
 
 // Recovers the viramas of the syllable from `s` to `e`.
 #[inline]
 pub(super) fn recover_viramas(virama: Option<GlyphId>, buffer: &mut Buffer, s: usize, e: usize) {
-    buffer.change_each(s, e, &Recover { virama });
+    buffer.change_each_by(s, e, |glyph| recover(virama, glyph));
 }
 
-// The virama to be recovered, if there is one.
-#[derive(Clone, Copy)]
-struct Recover {
-    virama: Option<GlyphId>,
-}
-
-impl GlyphChange for Recover {
-    #[inline]
-    fn change(&self, glyph: &mut GlyphInfo) {
-        if is_lost_virama(self.virama, glyph) {
-            glyph.category = OT_H;
-            glyph.glyph_props.set_ligated(false);
-            glyph.glyph_props.set_multiplied(false);
-        }
+// Makes a virama that was taken apart a halant again.
+#[inline]
+fn recover(virama: Option<GlyphId>, glyph: &mut GlyphInfo) {
+    if is_lost_virama(virama, glyph) {
+        glyph.category = OT_H;
+        glyph.glyph_props.set_ligated(false);
+        glyph.glyph_props.set_multiplied(false);
     }
 }
 

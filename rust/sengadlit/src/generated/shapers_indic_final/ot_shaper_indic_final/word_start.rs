@@ -5,7 +5,7 @@
 //! piece of text that begins there would be drawn.
 
 use super::matras::is_left;
-use crate::generated::shapers_base::buffer::{Buffer, GeneralCategory, GlyphChange, GlyphInfo};
+use crate::generated::shapers_base::buffer::{Buffer, GeneralCategory, GlyphInfo};
 
 // Opens each syllable of the text.
 #[inline]
@@ -33,7 +33,7 @@ fn open_syllable(init: u32, buffer: &mut Buffer, s: usize) {
         buffer.unsafe_to_break(s.saturating_sub(1), s + 1);
         return;
     }
-    buffer.change_each(s, s + 1, &AddInit { init });
+    buffer.change_each_by(s, s + 1, |glyph| glyph.mask |= init);
 }
 
 // Whether a word goes on behind what stands before a place.
@@ -43,19 +43,6 @@ fn goes_on(glyphs: &[GlyphInfo], s: usize) -> bool {
         return false;
     }
     continues_word(glyphs[s - 1].unicode_props.general_category())
-}
-
-// The mask of `init` to be added.
-#[derive(Clone, Copy)]
-struct AddInit {
-    init: u32,
-}
-
-impl GlyphChange for AddInit {
-    #[inline]
-    fn change(&self, glyph: &mut GlyphInfo) {
-        glyph.mask |= self.init;
-    }
 }
 
 // Whether a word goes on behind a glyph of this category.
