@@ -26,6 +26,7 @@ DRIVERS = [
 SEED = ("Int", 64)
 # The machines that find syllables: a function for every machine is compared with each of them.
 MACHINE = "shapers_spans::machine::Machine"
+MACHINE_TABLES = "shapers_spans::machine::MachineTables"
 MACHINES = ["Indic", "Khmer", "Myanmar", "Universal"]
 
 # Traits that a library writes or derives: how their methods are called, each argument by value, & or &mut.
@@ -49,7 +50,7 @@ BY_HAND = set(
 # The words with which a result begins that says that memory was refused, by the type of the error.
 MEMORY = {"ShaperError": [1, 0], "CallError": [1, 1, 0], "AllocError": [1]}
 # What stands for a type parameter, by its bound. (An unbounded F is a font in each of its impls.)
-CHOSEN = {trait: of for _, _, trait, of in DRIVERS} | {"": "LotFont", "Machine": MACHINES[0]}
+CHOSEN = {trait: of for _, _, trait, of in DRIVERS} | {"": "LotFont", "Machine": MACHINES[0], "MachineTables": MACHINES[0]}
 
 
 # -- the proved functions
@@ -88,7 +89,8 @@ def proved(libraries, kit):
 def machines_of(program, name):
     """The machines that a function is compared with, and what stands behind its name then."""
     bounds = [bound["of"] for bound in program.functions[name]["generics"]["bounds"]]
-    return [(f"[{machine}]", machine) for machine in MACHINES] if MACHINE in bounds else [("", None)]
+    is_for_each = MACHINE in bounds or MACHINE_TABLES in bounds
+    return [(f"[{machine}]", machine) for machine in MACHINES] if is_for_each else [("", None)]
 
 
 def instance_of(program, name, machine):
@@ -97,8 +99,9 @@ def instance_of(program, name, machine):
     types, dicts = [None] * len(generics["types"]), []
     for bound in generics["bounds"]:
         given = next((it for it, trait, _, _ in DRIVERS if trait == bound["of"]), None)
-        if bound["of"] in ("core::ledger::Ledger", MACHINE):
-            impl, kind = machine_impl(program, machine) if bound["of"] == MACHINE else blank_ledger(program)
+        made = MADE_IMPLS.get(bound["of"])
+        if made is not None:
+            impl, kind = made(program, machine)
             types[bound["types"][0]["Param"]] = kind
             dicts.append(impl)
             continue
@@ -120,11 +123,25 @@ def blank_ledger(program):
     raise mir_rust.Unwritten("no library has a ledger")
 
 
-def machine_impl(program, machine):
-    """The impl of a machine, and its type."""
-    impl = f"shapers_spans::{machine.lower()}::{machine}Machine"
-    itself = program.functions[f"{impl}::next"]["locals"][1]["ty"]
+def machine_tables(program, machine):
+    """The impl of a machine's tables, and its type."""
+    impl = f"shapers_spans::{machine.lower()}::{machine}MachineTables"
+    itself = program.functions[f"{impl}::rows"]["locals"][1]["ty"]
     return (impl, (), ()), program.type_of(itself, ())[1]
+
+
+def machine_impl(program, machine):
+    """The impl by which a machine reads its tables, and its type."""
+    tables, kind = machine_tables(program, machine)
+    return ("shapers_spans::machine::AnyMachine", (kind,), (tables,)), kind
+
+
+# The bounds for which an impl of the program stands: how it is found.
+MADE_IMPLS = {
+    "core::ledger::Ledger": lambda program, machine: blank_ledger(program),
+    MACHINE: machine_impl,
+    MACHINE_TABLES: machine_tables,
+}
 
 
 def words_of(program):
@@ -348,7 +365,9 @@ class Copy:
         here = "::".join(module.place)
         if owner is None:
             return [f"{here}::{self.old_name(name)}"]
-        kind = self.old_name(owner) + (self.old_name(trait) if trait else "") + "".join(map(self.old_name, arguments))
+        # (an impl for each type has its parameter here)
+        itself = "Any" if len(owner) == 1 else self.old_name(owner)
+        kind = itself + (self.old_name(trait) if trait else "") + "".join(map(self.old_name, arguments))
         homes = ["::".join(it.module.place) for it in self.home.get(owner, []) if it.module.place[0] == module.place[0]]
         return [f"{place}::{kind}::{self.old_name(name)}" for place in [here, *homes]]
 
@@ -386,7 +405,7 @@ class Copy:
             return [make("")]
         made = []
         for machine in MACHINES:
-            CHOSEN["Machine"] = machine
+            CHOSEN["Machine"] = CHOSEN["MachineTables"] = machine
             made.append(make(f"[{machine}]"))
         return made
 
