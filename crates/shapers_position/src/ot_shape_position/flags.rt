@@ -6,7 +6,7 @@ ghost use Rattle.shapers_position.specs.ClusterFlags.{flags_wanted, flags_of, fl
 
 use bitflags::Flags;
 use glyph_flag::{SAFE_TO_INSERT_TATWEEL, UNSAFE_TO_BREAK, UNSAFE_TO_CONCAT};
-use shapers_base::buffer::{BufferFlags, GlyphWalk, glyph_flag, hb_buffer_t, hb_glyph_info_t};
+use shapers_base::buffer::{BufferFlags, glyph_flag, hb_buffer_t, hb_glyph_info_t};
 
 /// Gives all glyphs of a cluster the flags that one of them has, so that a line breaker may read
 /// any. `UNSAFE_TO_CONCAT` is kept where the buffer wants it. Where it wants tatweels, a cluster
@@ -20,7 +20,7 @@ pub fn propagate_flags(buffer: &mut hb_buffer_t)
         return;
     }
     let flags = buffer.flags();
-    buffer.walk(&mut FlagPropagation { flags });
+    buffer.with_glyphs_mut(|glyphs| propagate_in(flags, glyphs));
 }
 
 // Whether one of these glyphs has flags.
@@ -36,26 +36,6 @@ fn is_flagged(glyph: &hb_glyph_info_t) -> bool
     ensures { result ≡ is_flagged glyph.now }
 {
     glyph.mask & 7 != 0
-}
-
-// The walk over the clusters of a text.
-#[derive(Drop)]
-struct FlagPropagation {
-    flags: BufferFlags,
-}
-
-impl GlyphWalk for FlagPropagation {
-    ghost use Rattle.std.specs.Prelude.{⊤, ◌≡◌};
-    ghost use Rattle.shapers_position.specs.ClusterFlags.{flags_propagated};
-
-    ghost can_walk = { λ w gs. ⊤ };
-
-    ghost walks = { λ v w gs hs. hs ≡ flags_propagated v.flags gs };
-
-    #[inline]
-    fn walk(&mut self, glyphs: &mut [hb_glyph_info_t]) {
-        propagate_in(self.flags, glyphs);
-    }
 }
 
 // Gives all glyphs of each cluster the same flags.

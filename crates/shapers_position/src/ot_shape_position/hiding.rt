@@ -3,12 +3,12 @@ ghost use Rattle.std.specs.Prelude.{◌≡◌, ◌<◌, ◌≤◌, ◌+◌, [], 
 ghost use Rattle.std.specs.List.{prefix_len, suffix_len};
 ghost use Rattle.std.specs.Option.{option_or};
 ghost use Rattle.shapers_buffer.specs.Clusters.{has_cluster, merge};
-ghost use Rattle.shapers_position.specs.Ignorables.{covering, drawn_by, goes_on, ignorables_hidden, ignorables_removed, in_place_of, is_default_ignorable, stays_in_text, positions_kept, removed_behind};
+ghost use Rattle.shapers_position.specs.Ignorables.{covering, drawn_by, goes_on, ignorables_hidden, ignorables_removed, in_place_of, is_default_ignorable, stays_in_text, positions_kept, removed, removed_behind};
 
 use super::ignorables::{DefaultIgnorables, has_ignorable, is_default_ignorable};
 use shapers_base::buffer::{
-    BufferClusterLevel, GlyphChange, GlyphPosition, GlyphWalk, PositionedWalk, hb_buffer_t,
-    hb_glyph_info_t, merge_clusters_in,
+    BufferClusterLevel, GlyphPosition, PositionedWalk, hb_buffer_t, hb_glyph_info_t,
+    merge_clusters_in,
 };
 use shapers_base::font::{GlyphId, hb_font_t};
 
@@ -47,25 +47,11 @@ pub fn hide_default_ignorables<F: hb_font_t>(
 fn draw_by(glyph: GlyphId, buffer: &mut hb_buffer_t)
     ensures { buffer.new ≡ record buffer.old { glyphs = map (drawn_by glyph) buffer.old.glyphs } }
 {
-    buffer.change_each(0, buffer.len(), &Drawing { glyph });
-}
-
-#[derive(Drop)]
-struct Drawing {
-    glyph: GlyphId,
-}
-
-impl GlyphChange for Drawing {
-    ghost use Rattle.shapers_position.specs.Ignorables.{drawn_by};
-
-    ghost changed = { λ d g. drawn_by d.glyph g };
-
-    #[inline]
-    fn change(&self, glyph: &mut hb_glyph_info_t) {
-        if is_default_ignorable(glyph) {
-            glyph.glyph_id = u32::from(self.glyph.0);
+    buffer.change_all_by(|info| {
+        if is_default_ignorable(info) {
+            info.glyph_id = u32::from(glyph.0);
         }
-    }
+    });
 }
 
 // Takes the ignorable glyphs out of a text, with their positions.
@@ -77,7 +63,7 @@ fn remove_ignorables(buffer: &mut hb_buffer_t)
     if buffer.positions_len() > 0 {
         buffer.walk_positioned(&PositionRemoval {});
     }
-    buffer.walk(&mut GlyphRemoval { level });
+    buffer.with_glyphs_mut(|glyphs| remove_ignorables_in(level, glyphs));
     buffer.truncate(kept);
 }
 
@@ -126,25 +112,13 @@ fn remove_positions(glyphs: &[hb_glyph_info_t], positions: &mut [GlyphPosition])
     }
 }
 
-// The walk that brings the glyphs that stay to the front.
-#[derive(Drop)]
-struct GlyphRemoval {
-    level: BufferClusterLevel,
-}
-
-impl GlyphWalk for GlyphRemoval {
-    ghost use Rattle.std.specs.Prelude.{⊤, ◌≡◌, count_by, take};
-    ghost use Rattle.shapers_position.specs.Ignorables.{stays_in_text, removed};
-
-    ghost can_walk = { λ w gs. ⊤ };
-
-    ghost walks = { λ v w gs hs. take (count_by stays_in_text gs) hs ≡ removed v.level gs };
-
-    #[inline]
-    fn walk(&mut self, glyphs: &mut [hb_glyph_info_t]) {
-        merge_opening(self.level, glyphs);
-        remove_glyphs(glyphs);
-    }
+// Brings the glyphs that stay to the front, in the clusters of those that go.
+#[inline]
+fn remove_ignorables_in(level: BufferClusterLevel, glyphs: &mut [hb_glyph_info_t])
+    ensures { take (count_by stays_in_text glyphs.old) glyphs.new ≡ removed level glyphs.old }
+{
+    merge_opening(level, glyphs);
+    remove_glyphs(glyphs);
 }
 
 // Merges the ignorable glyphs that open a text with the first one that stays.

@@ -6,7 +6,7 @@ ghost use Rattle.shapers_prepare.specs.FirstCircle.{begins_with_mark, first_circ
 use super::properties::{Open, set_properties};
 use super::unicode::UnicodeProperties;
 use bitflags::Flags;
-use shapers_base::buffer::{BufferFlags, GlyphWalk, ShaperError, hb_buffer_t, hb_glyph_info_t};
+use shapers_base::buffer::{BufferFlags, ShaperError, hb_buffer_t, hb_glyph_info_t};
 use shapers_base::font::hb_font_t;
 
 /// The flag of a buffer whose text is the beginning of one, as a paragraph's. No other crate reads
@@ -48,7 +48,7 @@ pub fn insert_dotted_circle<U: UnicodeProperties, F: hb_font_t>(
     }
     let circle = first_circle(unicode, buffer.get(0));
     buffer.grow(1)?;
-    buffer.walk(&mut InFront { circle });
+    buffer.with_glyphs_mut(|glyphs| put_in_front(circle, glyphs));
     Ok(())
 }
 
@@ -85,25 +85,6 @@ fn first_circle<U: UnicodeProperties>(unicode: &U, glyph: hb_glyph_info_t) -> hb
     };
     set_properties(unicode, Open::Nothing, &mut circle);
     circle
-}
-
-// The walk that moves all glyphs but the last up by one place and puts a circle in front.
-#[derive(Drop)]
-struct InFront {
-    circle: hb_glyph_info_t,
-}
-
-impl GlyphWalk for InFront {
-    ghost use Rattle.std.specs.Prelude.{◌≡◌, ◌<◌, ◌-◌, ◌∷◌, length, take};
-
-    ghost can_walk = { λ w gs. 0 < length gs };
-
-    ghost walks = { λ v w gs hs. hs ≡ v.circle ∷ take (length gs - 1) gs };
-
-    #[inline]
-    fn walk(&mut self, glyphs: &mut [hb_glyph_info_t]) {
-        put_in_front(self.circle, glyphs);
-    }
 }
 
 // Moves all glyphs but the last up by one place and puts one in front.

@@ -7,8 +7,8 @@ ghost use Rattle.shapers_buffer.specs.Properties.{is_continuation};
 ghost use Rattle.shapers_prepare.specs.Graphemes.{clusters_formed, graphemes};
 
 use shapers_base::buffer::{
-    BufferClusterLevel, ClusterRun, GlyphWalk, hb_buffer_t, hb_glyph_info_t, merge_run_in,
-    unsafe_to_break_in, write_run_in,
+    BufferClusterLevel, ClusterRun, hb_buffer_t, hb_glyph_info_t, merge_run_in, unsafe_to_break_in,
+    write_run_in,
 };
 
 /// Brings each grapheme into one cluster where that is the level, and else flags it unsafe to break
@@ -21,7 +21,7 @@ pub fn form_clusters(buffer: &mut hb_buffer_t)
         return;
     }
     let level = buffer.cluster_level();
-    buffer.walk(&mut Forming { level });
+    buffer.with_glyphs_mut(|glyphs| form_clusters_in(level, glyphs));
 }
 
 // Whether a glyph carries on the grapheme before it: else each is one of its own.
@@ -34,27 +34,15 @@ fn has_continuation(glyphs: &[hb_glyph_info_t]) -> bool
         .any(|glyph| glyph.unicode_props.is_continuation())
 }
 
-// The walk over the graphemes of a text.
-#[derive(Drop)]
-struct Forming {
-    level: BufferClusterLevel,
-}
-
-impl GlyphWalk for Forming {
-    ghost use Rattle.std.specs.Prelude.{⊤, ◌≡◌};
-    ghost use Rattle.shapers_prepare.specs.Graphemes.{clusters_formed};
-
-    ghost can_walk = { λ w gs. ⊤ };
-
-    ghost walks = { λ v w gs hs. hs ≡ clusters_formed v.level gs };
-
-    #[inline]
-    fn walk(&mut self, glyphs: &mut [hb_glyph_info_t]) {
-        match self.level {
-            BufferClusterLevel::MonotoneGraphemes => merge_graphemes_in(self.level, glyphs),
-            BufferClusterLevel::MonotoneCharacters | BufferClusterLevel::Characters => {
-                flag_graphemes_in(glyphs)
-            }
+// Brings each grapheme of these glyphs into one cluster at the level of graphemes, and else flags it.
+#[inline]
+fn form_clusters_in(level: BufferClusterLevel, glyphs: &mut [hb_glyph_info_t])
+    ensures { glyphs.new ≡ clusters_formed level glyphs.old }
+{
+    match level {
+        BufferClusterLevel::MonotoneGraphemes => merge_graphemes_in(level, glyphs),
+        BufferClusterLevel::MonotoneCharacters | BufferClusterLevel::Characters => {
+            flag_graphemes_in(glyphs)
         }
     }
 }

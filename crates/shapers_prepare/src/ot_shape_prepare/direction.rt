@@ -8,7 +8,7 @@ ghost use Rattle.shapers_prepare.specs.NativeDirection.{are_numbers_or_flags, ei
 use super::clusters::merge_graphemes_in;
 use super::properties::is_regional_indicator;
 use shapers_base::buffer::{
-    BufferClusterLevel, Direction, GlyphWalk, Script, hb_buffer_t, hb_glyph_info_t,
+    BufferClusterLevel, Direction, Script, hb_buffer_t, hb_glyph_info_t,
     hb_unicode_general_category_t,
 };
 
@@ -75,7 +75,7 @@ pub fn ensure_native_direction(buffer: &mut hb_buffer_t)
         text_direction(direction, native, buffer.glyphs()),
     ) {
         let level = buffer.cluster_level();
-        buffer.walk(&mut Turning { level });
+        buffer.with_glyphs_mut(|glyphs| turn_in(level, glyphs));
         buffer.set_direction(opposite_direction(direction));
     }
 }
@@ -199,25 +199,13 @@ fn opposite_direction(direction: Direction) -> Direction
     }
 }
 
-// The walk that turns a text by its graphemes.
-#[derive(Drop)]
-struct Turning {
-    level: BufferClusterLevel,
-}
-
-impl GlyphWalk for Turning {
-    ghost use Rattle.std.specs.Prelude.{⊤, ◌≡◌};
-    ghost use Rattle.shapers_prepare.specs.NativeDirection.{graphemes_turned, graphemes_whole};
-
-    ghost can_walk = { λ w gs. ⊤ };
-
-    ghost walks = { λ v w gs hs. hs ≡ graphemes_turned (graphemes_whole v.level gs) };
-
-    #[inline]
-    fn walk(&mut self, glyphs: &mut [hb_glyph_info_t]) {
-        make_graphemes_whole_in(self.level, glyphs);
-        turn_graphemes_in(glyphs);
-    }
+// Turns a text by its graphemes.
+#[inline]
+fn turn_in(level: BufferClusterLevel, glyphs: &mut [hb_glyph_info_t])
+    ensures { glyphs.new ≡ graphemes_turned (graphemes_whole level glyphs.old) }
+{
+    make_graphemes_whole_in(level, glyphs);
+    turn_graphemes_in(glyphs);
 }
 
 // Brings each grapheme into one cluster at the level of characters; at that of graphemes it is in

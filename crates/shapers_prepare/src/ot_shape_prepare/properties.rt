@@ -137,7 +137,7 @@ fn properties_with(
     props
 }
 
-// The same of a character that is no mark and is always drawn, as most are.
+// The properties of a character that is no mark and is always drawn, as most are.
 #[inline]
 #[tactic(auto, using(crate::proofs::PropertySteps::plain_properties))]
 fn plain_properties(general: hb_unicode_general_category_t, continues: bool) -> UnicodeProps

@@ -2,9 +2,7 @@
 
 //! The glyph flags of whole clusters.
 
-use crate::generated::shapers_base::buffer::{
-    Buffer, BufferFlags, GlyphInfo, GlyphWalk, glyph_flag,
-};
+use crate::generated::shapers_base::buffer::{Buffer, BufferFlags, GlyphInfo, glyph_flag};
 use glyph_flag::{SAFE_TO_INSERT_TATWEEL, UNSAFE_TO_BREAK, UNSAFE_TO_CONCAT};
 
 /// Gives all glyphs of a cluster the flags that one of them has, so that a line breaker may read
@@ -31,7 +29,7 @@ pub fn propagate_flags(buffer: &mut Buffer) {
         return;
     }
     let flags = buffer.flags();
-    buffer.walk(&mut FlagPropagation { flags });
+    buffer.with_glyphs_mut(|glyphs| propagate_in(flags, glyphs));
 }
 
 // Whether one of these glyphs has flags.
@@ -43,18 +41,6 @@ fn has_flags(glyphs: &[GlyphInfo]) -> bool {
 #[inline]
 fn is_flagged(glyph: &GlyphInfo) -> bool {
     glyph.mask & 7 != 0
-}
-
-// The walk over the clusters of a text.
-struct FlagPropagation {
-    flags: BufferFlags,
-}
-
-impl GlyphWalk for FlagPropagation {
-    #[inline]
-    fn walk(&mut self, glyphs: &mut [GlyphInfo]) {
-        propagate_in(self.flags, glyphs);
-    }
 }
 
 // Gives all glyphs of each cluster the same flags.

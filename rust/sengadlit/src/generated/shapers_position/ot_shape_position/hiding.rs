@@ -4,8 +4,7 @@
 
 use super::ignorables::{DefaultIgnorables, has_ignorable, is_default_ignorable};
 use crate::generated::shapers_base::buffer::{
-    Buffer, BufferClusterLevel, GlyphChange, GlyphInfo, GlyphPosition, GlyphWalk, PositionedWalk,
-    merge_clusters_in,
+    Buffer, BufferClusterLevel, GlyphInfo, GlyphPosition, PositionedWalk, merge_clusters_in,
 };
 use crate::generated::shapers_base::font::{Font, GlyphId};
 
@@ -50,20 +49,11 @@ pub fn hide_default_ignorables<F: Font>(
 
 // Draws each ignorable glyph by this one.
 fn draw_by(glyph: GlyphId, buffer: &mut Buffer) {
-    buffer.change_each(0, buffer.len(), &Drawing { glyph });
-}
-
-struct Drawing {
-    glyph: GlyphId,
-}
-
-impl GlyphChange for Drawing {
-    #[inline]
-    fn change(&self, glyph: &mut GlyphInfo) {
-        if is_default_ignorable(glyph) {
-            glyph.glyph_id = u32::from(self.glyph.0);
+    buffer.change_all_by(|info| {
+        if is_default_ignorable(info) {
+            info.glyph_id = u32::from(glyph.0);
         }
-    }
+    });
 }
 
 // Takes the ignorable glyphs out of a text, with their positions.
@@ -73,7 +63,7 @@ fn remove_ignorables(buffer: &mut Buffer) {
     if buffer.positions_len() > 0 {
         buffer.walk_positioned(&PositionRemoval {});
     }
-    buffer.walk(&mut GlyphRemoval { level });
+    buffer.with_glyphs_mut(|glyphs| remove_ignorables_in(level, glyphs));
     buffer.truncate(kept);
 }
 
@@ -106,17 +96,11 @@ fn remove_positions(glyphs: &[GlyphInfo], positions: &mut [GlyphPosition]) {
     }
 }
 
-// The walk that brings the glyphs that stay to the front.
-struct GlyphRemoval {
-    level: BufferClusterLevel,
-}
-
-impl GlyphWalk for GlyphRemoval {
-    #[inline]
-    fn walk(&mut self, glyphs: &mut [GlyphInfo]) {
-        merge_opening(self.level, glyphs);
-        remove_glyphs(glyphs);
-    }
+// Brings the glyphs that stay to the front, in the clusters of those that go.
+#[inline]
+fn remove_ignorables_in(level: BufferClusterLevel, glyphs: &mut [GlyphInfo]) {
+    merge_opening(level, glyphs);
+    remove_glyphs(glyphs);
 }
 
 // Merges the ignorable glyphs that open a text with the first one that stays.

@@ -4,9 +4,7 @@
 
 use super::properties::{Open, set_properties};
 use super::unicode::UnicodeProperties;
-use crate::generated::shapers_base::buffer::{
-    Buffer, BufferFlags, GlyphInfo, GlyphWalk, ShaperError,
-};
+use crate::generated::shapers_base::buffer::{Buffer, BufferFlags, GlyphInfo, ShaperError};
 use crate::generated::shapers_base::font::Font;
 
 /// The flag of a buffer whose text is the beginning of one, as a paragraph's. No other crate reads
@@ -65,7 +63,7 @@ pub fn insert_dotted_circle<U: UnicodeProperties, F: Font>(
     }
     let circle = first_circle(unicode, buffer.get(0));
     buffer.grow(1)?;
-    buffer.walk(&mut InFront { circle });
+    buffer.with_glyphs_mut(|glyphs| put_in_front(circle, glyphs));
     Ok(())
 }
 
@@ -96,18 +94,6 @@ fn first_circle<U: UnicodeProperties>(unicode: &U, glyph: GlyphInfo) -> GlyphInf
     };
     set_properties(unicode, Open::Nothing, &mut circle);
     circle
-}
-
-// The walk that moves all glyphs but the last up by one place and puts a circle in front.
-struct InFront {
-    circle: GlyphInfo,
-}
-
-impl GlyphWalk for InFront {
-    #[inline]
-    fn walk(&mut self, glyphs: &mut [GlyphInfo]) {
-        put_in_front(self.circle, glyphs);
-    }
 }
 
 // Moves all glyphs but the last up by one place and puts one in front.

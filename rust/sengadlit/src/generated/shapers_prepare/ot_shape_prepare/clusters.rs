@@ -3,7 +3,7 @@
 //! Clusters by graphemes.
 
 use crate::generated::shapers_base::buffer::{
-    Buffer, BufferClusterLevel, ClusterRun, GlyphInfo, GlyphWalk, merge_run_in, unsafe_to_break_in,
+    Buffer, BufferClusterLevel, ClusterRun, GlyphInfo, merge_run_in, unsafe_to_break_in,
     write_run_in,
 };
 
@@ -27,7 +27,7 @@ pub fn form_clusters(buffer: &mut Buffer) {
         return;
     }
     let level = buffer.cluster_level();
-    buffer.walk(&mut Forming { level });
+    buffer.with_glyphs_mut(|glyphs| form_clusters_in(level, glyphs));
 }
 
 // Whether a glyph carries on the grapheme before it: else each is one of its own.
@@ -38,19 +38,13 @@ fn has_continuation(glyphs: &[GlyphInfo]) -> bool {
         .any(|glyph| glyph.unicode_props.is_continuation())
 }
 
-// The walk over the graphemes of a text.
-struct Forming {
-    level: BufferClusterLevel,
-}
-
-impl GlyphWalk for Forming {
-    #[inline]
-    fn walk(&mut self, glyphs: &mut [GlyphInfo]) {
-        match self.level {
-            BufferClusterLevel::MonotoneGraphemes => merge_graphemes_in(self.level, glyphs),
-            BufferClusterLevel::MonotoneCharacters | BufferClusterLevel::Characters => {
-                flag_graphemes_in(glyphs)
-            }
+// Brings each grapheme of these glyphs into one cluster at the level of graphemes, and else flags it.
+#[inline]
+fn form_clusters_in(level: BufferClusterLevel, glyphs: &mut [GlyphInfo]) {
+    match level {
+        BufferClusterLevel::MonotoneGraphemes => merge_graphemes_in(level, glyphs),
+        BufferClusterLevel::MonotoneCharacters | BufferClusterLevel::Characters => {
+            flag_graphemes_in(glyphs)
         }
     }
 }

@@ -5,7 +5,7 @@
 use super::clusters::merge_graphemes_in;
 use super::properties::is_regional_indicator;
 use crate::generated::shapers_base::buffer::{
-    Buffer, BufferClusterLevel, Direction, GeneralCategory, GlyphInfo, GlyphWalk, Script,
+    Buffer, BufferClusterLevel, Direction, GeneralCategory, GlyphInfo, Script,
 };
 
 // The scripts that run from right to left.
@@ -81,7 +81,7 @@ pub fn ensure_native_direction(buffer: &mut Buffer) {
         text_direction(direction, native, buffer.glyphs()),
     ) {
         let level = buffer.cluster_level();
-        buffer.walk(&mut Turning { level });
+        buffer.with_glyphs_mut(|glyphs| turn_in(level, glyphs));
         buffer.set_direction(opposite_direction(direction));
     }
 }
@@ -179,17 +179,11 @@ fn opposite_direction(direction: Direction) -> Direction {
     }
 }
 
-// The walk that turns a text by its graphemes.
-struct Turning {
-    level: BufferClusterLevel,
-}
-
-impl GlyphWalk for Turning {
-    #[inline]
-    fn walk(&mut self, glyphs: &mut [GlyphInfo]) {
-        make_graphemes_whole_in(self.level, glyphs);
-        turn_graphemes_in(glyphs);
-    }
+// Turns a text by its graphemes.
+#[inline]
+fn turn_in(level: BufferClusterLevel, glyphs: &mut [GlyphInfo]) {
+    make_graphemes_whole_in(level, glyphs);
+    turn_graphemes_in(glyphs);
 }
 
 // Brings each grapheme into one cluster at the level of characters; at that of graphemes it is in

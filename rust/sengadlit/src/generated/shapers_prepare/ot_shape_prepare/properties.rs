@@ -123,7 +123,7 @@ fn properties_with(
     props
 }
 
-// The same of a character that is no mark and is always drawn, as most are.
+// The properties of a character that is no mark and is always drawn, as most are.
 #[inline]
 fn plain_properties(general: GeneralCategory, continues: bool) -> UnicodeProps {
     let mut props = UnicodeProps::new(general, 0);

@@ -118,7 +118,7 @@ fn vowel_script(script: Script) -> Option<VowelScript> {
     }
 }
 
-// The same for scripts of the universal shaper.
+// The script of this code, if it is one of the universal shaper's that have such vowels.
 fn universal_vowel_script(script: Script) -> Option<VowelScript> {
     if script == Script(*b"Sinh") {
         Some(VowelScript::Sinhala)

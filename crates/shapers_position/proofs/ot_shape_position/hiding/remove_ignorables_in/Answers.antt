@@ -4,12 +4,12 @@ use Rattle.std.specs.Prelude.{count_by}
 use Rattle.std.specs.List.{prefix_len}
 use Rattle.shapers_position.specs.Ignorables.{is_default_ignorable, stays_in_text, removed_behind}
 use Rattle.shapers_position.proofs.RemovalSteps.{count_merged}
-use Rattle.shapers_position.proofs.ot_shape_position.hiding.GlyphRemovalGlyphWalk.walk.Goals as goal
+use Rattle.shapers_position.proofs.ot_shape_position.hiding.remove_ignorables_in.Goals as goal
 
 pub returns : goal.returns
 returns c =
     let gs = c.args.glyphs.now in
-    let level = c.args.self.now.level in
+    let level = c.args.level in
     let e = min (prefix_len is_default_ignorable gs + 1) (length gs) in
     ap (λ n. take n c.remove_glyphs.new.glyphs) (sym (count_merged level 0 e gs))
     ∙ ap (λ gs. take (count_by stays_in_text gs) c.remove_glyphs.new.glyphs) (sym c.merge_opening.ensures)
