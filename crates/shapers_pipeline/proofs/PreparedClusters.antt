@@ -51,7 +51,7 @@ use Rattle.rustybuzz_shapers.specs.declared.shaper.hb_ot_shaper_t.{hb_ot_shaper_
 use Rattle.rustybuzz_shapers.specs.declared.shaper.hb_ot_shaper_t.TheVariants.{Arabic, Hangul, Hebrew, Indic, Khmer, Myanmar, MyanmarZawgyi, Thai, Universal}
 use Rattle.rustybuzz_shapers.proofs.Monotone.{same_clusters}
 use Rattle.shapers_pipeline.specs.ClusterLaws.{PreparationKeepsClusters}
-use Rattle.shapers_pipeline.specs.Fractions.{decimals_before, decimals_behind, fraction_around, fraction_marked, fractions_around, fractions_set, has_fractions, is_fraction_slash, slash_alone, slash_masks}
+use Rattle.shapers_pipeline.specs.Fractions.{decimals_before, decimals_behind, fraction_around, fraction_marked, fractions_around, fractions_set, has_fractions, is_fraction_slash, slash_masks}
 use Rattle.shapers_pipeline.specs.Lookups.{text_noted, with_note}
 use Rattle.shapers_pipeline.specs.Masks.{as_glyph, with_feature, with_features, with_mask_alone}
 use Rattle.shapers_pipeline.specs.Prepared.{Preparation, context_of, normalized_from, rotated_from, rotation_to, text_begun, text_directed, text_in_fractions, text_normalized, text_opened, text_prepared}
@@ -312,17 +312,6 @@ concat_clusters : (concat : Bool) (i : ℕ) (gs : Glyphs) → clusters
     (unsafe_to_concat_in concat i (i + 1) gs) ≡ clusters gs
 concat_clusters concat i gs = map-unsafe_to_concat_in (λ g. g.cluster) (λ g. refl) concat i (i + 1) gs (omega arith)
 
-if_clusters : (test : Bool) (concat : Bool) (i : ℕ) (gs : Glyphs) → clusters
-    (if test then unsafe_to_concat_in concat i (i + 1) gs else gs) ≡ clusters gs
-if_clusters true concat i gs = concat_clusters concat i gs
-if_clusters false concat i gs = refl
-
-alone_clusters : (concat : Bool) (i before behind : ℕ) (gs : Glyphs) → clusters
-    (slash_alone concat i before behind gs) ≡ clusters gs
-alone_clusters concat i before behind gs =
-    let left = if before == 0 then unsafe_to_concat_in concat i (i + 1) gs else gs in
-    if_clusters (behind == 0) concat i left ∙ if_clusters (before == 0) concat i gs
-
 bits_clusters : (bits s e : ℕ) (gs : Glyphs) → s ≤ e → clusters
     (with_stretch s e (map (with_bits bits)) gs) ≡ clusters gs
 bits_clusters bits s e gs order = map-with_stretch (λ g. g.cluster) s e (map (with_bits bits)) gs order
@@ -344,12 +333,12 @@ around_clusters : (m : SlashMasks) (concat : Bool) (i : ℕ) (gs : Glyphs) → c
 around_clusters m concat i gs =
     let before = decimals_before i gs in
     let behind = decimals_behind i gs in
-    let made = if before == 0 || behind == 0 then slash_alone concat i before behind gs else fraction_marked m i before
+    let made = if before == 0 || behind == 0 then unsafe_to_concat_in concat i (i + 1) gs else fraction_marked m i before
     behind gs in
     let inner : clusters made ≡ clusters gs =
     elim (before == 0 || behind == 0) as (λ test. clusters
-    (if test then slash_alone concat i before behind gs else fraction_marked m i before behind gs) ≡ clusters gs) [
-      | true ↦ alone_clusters concat i before behind gs
+    (if test then unsafe_to_concat_in concat i (i + 1) gs else fraction_marked m i before behind gs) ≡ clusters gs) [
+      | true ↦ concat_clusters concat i gs
       | false ↦ marked_clusters m i before behind gs
     ] in
     elim (not (is_fraction_slash (get_or gs i default_glyph))) as

@@ -1,5 +1,5 @@
 -- Steps that leave a text as it is: no slash of a fraction stands in it, and the caller has no features in ranges.
-use Rattle.std.proofs.Common.{◌≡◌, ◌==◌, ℕ, zero, suc, Bool, true, false, ◌||◌, cond, List, [], ◌∷◌, length, map, get_or, refl, ap, ◌∙◌, arith}
+use Rattle.std.proofs.Common.{◌≡◌, ◌==◌, ◌+◌, ℕ, zero, suc, Bool, true, false, ◌||◌, cond, List, [], ◌∷◌, length, map, get_or, refl, ap, ◌∙◌, arith}
 use Rattle.std.specs.Prelude.{not}
 use Rattle.std.specs.List.{list_any}
 use Rattle.std.proofs.lemmas.Bool.{or_parts}
@@ -7,10 +7,11 @@ use Rattle.std.proofs.lemmas.List.{map-id}
 use Rattle.shapers_buffer.specs.Buffer.{Buffer, asks, flags_concat}
 use Rattle.shapers_buffer.specs.Glyphs.{Glyphs}
 use Rattle.shapers_buffer.specs.Glyph.{default_glyph}
+use Rattle.shapers_buffer.specs.GlyphFlags.{unsafe_to_concat_in}
 use Rattle.shapers_plan.specs.declared.ot_shape_plan.DriverMasks.{DriverMasks}
 use Rattle.shapers_plan.specs.declared.ot_shape_plan.user.UserRange.{UserRange}
 use Rattle.shapers_pipeline.specs.declared.fractions.SlashMasks.{SlashMasks}
-use Rattle.shapers_pipeline.specs.Fractions.{decimals_before, decimals_behind, fraction_around, fraction_marked, fractions_around, fractions_set, has_fractions, is_fraction_slash, slash_alone, slash_masks}
+use Rattle.shapers_pipeline.specs.Fractions.{decimals_before, decimals_behind, fraction_around, fraction_marked, fractions_around, fractions_set, has_fractions, is_fraction_slash, slash_masks}
 use Rattle.shapers_pipeline.specs.Masks.{with_features}
 
 no_slash_at : (gs : Glyphs) (i : ℕ) → list_any is_fraction_slash gs ≡ false
@@ -25,7 +26,7 @@ no_fraction : (m : SlashMasks) (concat : Bool) (i : ℕ) (gs : Glyphs) → list_
 no_fraction m concat i gs none =
     let before = decimals_before i gs in
     let behind = decimals_behind i gs in
-    ap (λ b. cond (not b) gs (cond (before == 0 || behind == 0) (slash_alone concat i before behind gs)
+    ap (λ b. cond (not b) gs (cond (before == 0 || behind == 0) (unsafe_to_concat_in concat i (i + 1) gs)
     (fraction_marked m i before behind gs)))
     (no_slash_at gs i none)
 

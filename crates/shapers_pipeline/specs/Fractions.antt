@@ -50,20 +50,15 @@ fraction_marked m i before behind gs =
     let slash = with_stretch i (i + 1) (map (with_bits m.slash)) first in
     with_stretch (i + 1) (i + 1 + behind) (map (with_bits m.behind)) slash
 
--- a slash at place i that lacks numbers on one side at least: a text that brings them there changes
--- what is on the other side
-abbrev pub slash_alone : Bool → ℕ → ℕ → ℕ → Glyphs → Glyphs
-slash_alone concat i before behind gs =
-    let left = if before == 0 then unsafe_to_concat_in concat i (i + 1) gs else gs in
-    if behind == 0 then unsafe_to_concat_in concat i (i + 1) left else left
-
--- the text with the features of the fraction whose slash stands at place i, if one does
+-- The text with the features of the fraction whose slash stands at place i, if one does. A slash
+-- that lacks numbers on one side is flagged: a text that brings them there changes what is on the
+-- other.
 abbrev pub fraction_around : SlashMasks → Bool → ℕ → Glyphs → Glyphs
 fraction_around m concat i gs =
     let before = decimals_before i gs in
     let behind = decimals_behind i gs in
     if not (is_fraction_slash (slice_index_or gs i default_glyph)) then gs
-    else if before == 0 || behind == 0 then slash_alone concat i before behind gs
+    else if before == 0 || behind == 0 then unsafe_to_concat_in concat i (i + 1) gs
     else fraction_marked m i before behind gs
 
 -- so for each of the first n places

@@ -8,14 +8,17 @@ pub mod NormalizeLaws
 pub mod Planned
 pub mod Positioned
 pub mod Prepared
+pub mod Preparing
 pub mod Refusals
 pub mod ShapeLaws
 pub mod Shaped
+pub mod Shaping
 pub mod ShaperSteps
 pub mod SingleLaws
 pub mod Singles
 pub mod Stages
 pub mod Substituted
+pub mod Substituting
 pub mod TextTables
 -- what the public clauses cite of the crates below
 pub use Rattle.shapers_normal.specs.Context

@@ -4,10 +4,10 @@ ghost use Rattle.shapers_buffer.specs.Buffer.{flags_concat, has_flag};
 ghost use Rattle.std.specs.List.{list_any, prefix_len};
 ghost use Rattle.shapers_buffer.specs.Clusters.{with_stretch};
 ghost use Rattle.shapers_buffer.specs.GlyphFlags.{with_bits};
-ghost use Rattle.shapers_pipeline.specs.Fractions.{fraction_around, fraction_marked, fractions_around, fractions_set, has_fractions, is_decimal_glyph, is_fraction_slash, decimals_before, decimals_behind, runs_forward, slash_alone, slash_masks};
+ghost use Rattle.shapers_pipeline.specs.Fractions.{fraction_around, fraction_marked, fractions_around, fractions_set, has_fractions, is_decimal_glyph, is_fraction_slash, decimals_before, decimals_behind, runs_forward, slash_masks};
 
 use shapers_base::buffer::{
-    BufferFlags, Direction, GlyphChange, GlyphWalk, change_each_in, hb_buffer_t, hb_glyph_info_t,
+    BufferFlags, Direction, change_each_by_in, hb_buffer_t, hb_glyph_info_t,
     hb_unicode_general_category_t, unsafe_to_break_in, unsafe_to_concat_in,
 };
 use shapers_plan::ot_shape_plan::DriverMasks;
@@ -36,7 +36,7 @@ pub(crate) fn set_fractions(masks: &DriverMasks, buffer: &mut hb_buffer_t)
     }
     let masks = slash_masks(buffer.direction(), masks);
     let flags = buffer.flags();
-    buffer.walk(&mut FractionWalk { masks, flags });
+    buffer.with_glyphs_mut(|glyphs| set_fractions_in(masks, flags, glyphs));
 }
 
 // Whether the font has features for fractions.
@@ -81,29 +81,6 @@ pub(crate) fn runs_forward(direction: Direction) -> bool
     matches!(direction, Direction::LeftToRight | Direction::TopToBottom)
 }
 
-// The walk over the slashes of a text.
-#[derive(Clone, Copy)]
-struct FractionWalk {
-    masks: SlashMasks,
-    flags: BufferFlags,
-}
-
-impl GlyphWalk for FractionWalk {
-    ghost use Rattle.std.specs.Prelude.{⊤, ◌≡◌, length};
-    ghost use Rattle.shapers_buffer.specs.Buffer.{flags_concat, has_flag};
-    ghost use Rattle.shapers_pipeline.specs.Fractions.{fractions_around};
-
-    ghost can_walk = { λ w gs. ⊤ };
-
-    ghost walks = { λ v w gs hs. hs ≡ fractions_around v.masks (has_flag flags_concat v.flags)
-        (length gs) gs };
-
-    #[inline]
-    fn walk(&mut self, glyphs: &mut [hb_glyph_info_t]) {
-        set_fractions_in(self.masks, self.flags, glyphs);
-    }
-}
-
 // Sets the features of each fraction.
 fn set_fractions_in(masks: SlashMasks, flags: BufferFlags, glyphs: &mut [hb_glyph_info_t])
     ensures { let concat = has_flag flags_concat flags in
@@ -127,7 +104,8 @@ fn set_fraction(masks: SlashMasks, flags: BufferFlags, i: usize, glyphs: &mut [h
     let before = decimals_before(i, glyphs);
     let behind = decimals_behind(i, glyphs);
     if before == 0 || behind == 0 {
-        flag_slash(flags, i, before, behind, glyphs);
+        // a text that brings numbers to this side changes what is on the other one
+        unsafe_to_concat_in(flags, glyphs, i, i + 1);
     } else {
         mark_fraction(masks, i, before, behind, glyphs);
     }
@@ -186,27 +164,6 @@ fn is_decimal_glyph(glyph: &hb_glyph_info_t) -> bool
     )
 }
 
-// Flags a slash that lacks numbers on one side.
-#[inline]
-fn flag_slash(
-    flags: BufferFlags,
-    i: usize,
-    before: usize,
-    behind: usize,
-    glyphs: &mut [hb_glyph_info_t],
-)
-    requires { i < length glyphs.old }
-    ensures { let concat = has_flag flags_concat flags in
-        glyphs.new ≡ slash_alone concat i before behind glyphs.old }
-{
-    if before == 0 {
-        unsafe_to_concat_in(flags, glyphs, i, i + 1);
-    }
-    if behind == 0 {
-        unsafe_to_concat_in(flags, glyphs, i, i + 1);
-    }
-}
-
 // Gives the numbers of a fraction and its slash their features; nothing may be broken in it.
 #[inline]
 fn mark_fraction(
@@ -235,22 +192,5 @@ fn add_bits(bits: u32, start: usize, end: usize, glyphs: &mut [hb_glyph_info_t])
     requires in_range { end ≤ length glyphs.old }
     ensures { glyphs.new ≡ with_stretch start end (map (with_bits bits)) glyphs.old }
 {
-    change_each_in(&mut glyphs[start..end], &AddBits { bits });
-}
-
-// Mask bits for one glyph, besides its own.
-#[derive(Clone, Copy)]
-struct AddBits {
-    bits: u32,
-}
-
-impl GlyphChange for AddBits {
-    ghost use Rattle.shapers_buffer.specs.GlyphFlags.{with_bits};
-
-    ghost changed = { λ change g. with_bits change.bits g };
-
-    #[inline]
-    fn change(&self, glyph: &mut hb_glyph_info_t) {
-        glyph.mask |= self.bits;
-    }
+    change_each_by_in(&mut glyphs[start..end], |glyph| glyph.mask |= bits);
 }

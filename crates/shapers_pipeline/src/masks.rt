@@ -2,7 +2,7 @@
 ghost use Rattle.std.specs.Prelude.{◌≡◌, map};
 ghost use Rattle.shapers_pipeline.specs.Masks.{as_glyph, with_feature, with_features, with_mask_alone};
 
-use shapers_base::buffer::{GlyphChange, GlyphProps, hb_buffer_t, hb_glyph_info_t};
+use shapers_base::buffer::{GlyphProps, hb_buffer_t, hb_glyph_info_t};
 use shapers_plan::ot_shape_plan::UserRange;
 
 // Gives each glyph the features that hold for the whole text, and no others.
@@ -10,25 +10,7 @@ pub(crate) fn initialize_masks(mask: u32, buffer: &mut hb_buffer_t)
     ensures { let text = map (with_mask_alone mask) buffer.old.glyphs in
         buffer.new ≡ record buffer.old { glyphs = text } }
 {
-    let end = buffer.len();
-    buffer.change_each(0, end, &MaskAlone { mask });
-}
-
-// The mask of one glyph.
-#[derive(Clone, Copy)]
-struct MaskAlone {
-    mask: u32,
-}
-
-impl GlyphChange for MaskAlone {
-    ghost use Rattle.shapers_pipeline.specs.Masks.{with_mask_alone};
-
-    ghost changed = { λ change g. with_mask_alone change.mask g };
-
-    #[inline]
-    fn change(&self, glyph: &mut hb_glyph_info_t) {
-        glyph.mask = self.mask;
-    }
+    buffer.change_all_by(|glyph| glyph.mask = mask);
 }
 
 // Sets the caller's features in their ranges, the later ones over the earlier.
@@ -39,26 +21,16 @@ pub(crate) fn set_features(features: &[UserRange], buffer: &mut hb_buffer_t)
     if features.is_empty() {
         return;
     }
-    let end = buffer.len();
-    buffer.change_each(0, end, &Features { features });
+    buffer.change_all_by(|glyph| set_features_of(features, glyph));
 }
 
-// The features of one glyph.
-#[derive(Clone, Copy)]
-struct Features<'a> {
-    features: &'a [UserRange],
-}
-
-impl<'a> GlyphChange for Features<'a> {
-    ghost use Rattle.shapers_pipeline.specs.Masks.{with_features};
-
-    ghost changed = { λ change g. with_features change.features.now g };
-
-    #[inline]
-    fn change(&self, glyph: &mut hb_glyph_info_t) {
-        for feature in self.features {
-            set_feature(*feature, glyph);
-        }
+// Sets the features in whose ranges the glyph is.
+#[inline]
+fn set_features_of(features: &[UserRange], glyph: &mut hb_glyph_info_t)
+    ensures { glyph.new ≡ with_features features.now glyph.old }
+{
+    for feature in features {
+        set_feature(*feature, glyph);
     }
 }
 
@@ -76,22 +48,8 @@ fn set_feature(feature: UserRange, glyph: &mut hb_glyph_info_t)
 pub(crate) fn map_glyphs(buffer: &mut hb_buffer_t)
     ensures { buffer.new ≡ record buffer.old { glyphs = map as_glyph buffer.old.glyphs } }
 {
-    let end = buffer.len();
-    buffer.change_each(0, end, &AsGlyph);
-}
-
-// The glyph of one character.
-#[derive(Clone, Copy)]
-struct AsGlyph;
-
-impl GlyphChange for AsGlyph {
-    ghost use Rattle.shapers_pipeline.specs.Masks.{as_glyph};
-
-    ghost changed = { λ change g. as_glyph g };
-
-    #[inline]
-    fn change(&self, glyph: &mut hb_glyph_info_t) {
+    buffer.change_all_by(|glyph| {
         glyph.glyph_id = u32::from(glyph.glyph_props.0);
         glyph.glyph_props = GlyphProps::NONE;
-    }
+    });
 }

@@ -21,7 +21,7 @@ pub struct TextPlan<'a> {
     pub ranges: &'a [UserRange],
 }
 
-/// The same as far as the stages of lookups read it.
+/// What is decided for a text before it is seen, as far as the stages of lookups read it.
 #[derive(Clone, Copy, Debug)]
 pub struct StagePlan<'a> {
     /// The plan that the shaper's hooks read, with the text's script.

@@ -7,6 +7,7 @@ ghost use Rattle.shapers_buffer.specs.Buffer.{Buffer};
 ghost use Rattle.shapers_pipeline.specs.Masks.{with_mask_alone};
 ghost use Rattle.shapers_pipeline.specs.Planned.{as_planned, put_back};
 ghost use Rattle.shapers_pipeline.specs.Prepared.{growths, growths_from, normalized_from, preparation, rotation_to, text_normalized, text_prepared};
+ghost use Rattle.shapers_pipeline.specs.Preparing.{prepared_by};
 ghost use Rattle.shapers_pipeline.specs.Refusals.{AllHadRoom, IsPrepared, IsStopped, OneRefused};
 
 use crate::fractions::set_fractions;
@@ -62,97 +63,100 @@ pub fn prepare_text<F: NormalizeFont, T: NormalizeTables + UnicodeProperties>(
     let script = buffer.script();
     let direction = buffer.direction();
     set_script_and_direction(plan.plan.script, plan.direction, buffer);
-    let prepared = prepare_planned(plan, settings, font, tables, buffer);
+    let preparing = Preparing {
+        plan,
+        settings,
+        font,
+        tables,
+    };
+    let prepared = preparing.prepare(buffer);
     set_script_and_direction(script, direction, buffer);
     prepared
 }
 
-// The same of a text in the script and direction of the plan, whose direction is then its script's.
-pub(crate) fn prepare_planned<F: NormalizeFont, T: NormalizeTables + UnicodeProperties>(
-    plan: &TextPlan,
-    settings: &NormalizeSettings,
-    font: &F,
-    tables: &T,
-    buffer: &mut hb_buffer_t,
-) -> Result<(), CallError>
-    ensures ok { let p = preparation plan.now settings.now (F.font font.now) (F.variants font.now)
-        (T.properties tables.now) (T.tables tables.now) (T.texts tables.now) in
-        OnOk result (buffer.new ≡ text_prepared p buffer.old) }
-    ensures met { let p = preparation plan.now settings.now (F.font font.now) (F.variants font.now)
-        (T.properties tables.now) (T.tables tables.now) (T.texts tables.now) in
-        OnOk result (IsPrepared p buffer.old) }
-    ensures err { let p = preparation plan.now settings.now (F.font font.now) (F.variants font.now)
-        (T.properties tables.now) (T.tables tables.now) (T.texts tables.now) in
-        IfErr result (λ e. IsStopped p buffer.old buffer.new e) }
-    ensures positions { OnOk result (buffer.new.positions ≡ []) }
-{
-    if !lacks_positions(buffer) {
-        return Err(CallError::Condition(Condition::Positions));
-    }
-    if !plan_fits(plan.shaper, plan.plan) {
-        return Err(CallError::Condition(Condition::PlanData));
-    }
-    prepare_characters(plan, settings, font, tables, buffer)?;
-    set_fractions(&plan.masks, buffer);
-    setup_masks(plan.shaper, plan.plan, font, tables, buffer)?;
-    set_features(plan.ranges, buffer);
-    map_glyphs(buffer);
-    Ok(())
+// What a text is prepared by.
+#[derive(Drop)]
+pub(crate) struct Preparing<'a, F, T> {
+    pub(crate) plan: &'a TextPlan<'a>,
+    pub(crate) settings: &'a NormalizeSettings,
+    pub(crate) font: &'a F,
+    pub(crate) tables: &'a T,
 }
 
-// Does all that is done to the characters: from their masks and properties to normalization.
-fn prepare_characters<F: NormalizeFont, T: NormalizeTables + UnicodeProperties>(
-    plan: &TextPlan,
-    settings: &NormalizeSettings,
-    font: &F,
-    tables: &T,
-    buffer: &mut hb_buffer_t,
-) -> Result<(), ShaperError>
-    requires { buffer.old.positions ≡ [] }
-    ensures ok { let p = preparation plan.now settings.now (F.font font.now) (F.variants font.now)
-        (T.properties tables.now) (T.tables tables.now) (T.texts tables.now) in
-        OnOk result (buffer.new ≡ text_normalized p buffer.old) }
-    ensures room { let p = preparation plan.now settings.now (F.font font.now) (F.variants font.now)
-        (T.properties tables.now) (T.tables tables.now) (T.texts tables.now) in
-        OnOk result (AllHadRoom buffer.old.max_len (growths p buffer.old)) }
-    ensures err { let p = preparation plan.now settings.now (F.font font.now) (F.variants font.now)
-        (T.properties tables.now) (T.tables tables.now) (T.texts tables.now) in
-        IfErr result (λ e. OneRefused buffer.old.max_len (growths p buffer.old) e buffer.new) }
-    ensures positions { OnOk result (buffer.new.positions ≡ []) }
-{
-    let direction = buffer.direction();
-    set_masks_and_properties(plan, tables, buffer);
-    insert_dotted_circle(tables, font, buffer)?;
-    form_clusters_and_direct(buffer);
-    preprocess_and_normalize(plan, settings, font, tables, direction, buffer)
-}
+impl<'a, F: NormalizeFont, T: NormalizeTables + UnicodeProperties> Preparing<'a, F, T> {
+    // Prepares a text in the script and direction of the plan, whose direction is then its script's.
+    pub(crate) fn prepare(&self, buffer: &mut hb_buffer_t) -> Result<(), CallError>
+        ensures ok { let p = prepared_by F.font F.variants T.properties T.tables T.texts self.now in
+            OnOk result (buffer.new ≡ text_prepared p buffer.old) }
+        ensures met { let p = prepared_by F.font F.variants T.properties T.tables T.texts self.now in
+            OnOk result (IsPrepared p buffer.old) }
+        ensures err { let p = prepared_by F.font F.variants T.properties T.tables T.texts self.now in
+            IfErr result (λ e. IsStopped p buffer.old buffer.new e) }
+        ensures positions { OnOk result (buffer.new.positions ≡ []) }
+    {
+        let plan = self.plan;
+        if !lacks_positions(buffer) {
+            return Err(CallError::Condition(Condition::Positions));
+        }
+        if !plan_fits(plan.shaper, plan.plan) {
+            return Err(CallError::Condition(Condition::PlanData));
+        }
+        self.prepare_characters(buffer)?;
+        set_fractions(&plan.masks, buffer);
+        setup_masks(plan.shaper, plan.plan, self.font, self.tables, buffer)?;
+        set_features(plan.ranges, buffer);
+        map_glyphs(buffer);
+        Ok(())
+    }
 
-// Lets the shaper rewrite a text that stands in its own direction, rotates its characters and
-// normalizes it, for a caller who wants `direction`.
-fn preprocess_and_normalize<F: NormalizeFont, T: NormalizeTables + UnicodeProperties>(
-    plan: &TextPlan,
-    settings: &NormalizeSettings,
-    font: &F,
-    tables: &T,
-    direction: Direction,
-    buffer: &mut hb_buffer_t,
-) -> Result<(), ShaperError>
-    requires { buffer.old.positions ≡ [] }
-    ensures ok { let p = preparation plan.now settings.now (F.font font.now) (F.variants font.now)
-        (T.properties tables.now) (T.tables tables.now) (T.texts tables.now) in
-        OnOk result (buffer.new ≡ normalized_from p direction buffer.old) }
-    ensures room { let p = preparation plan.now settings.now (F.font font.now) (F.variants font.now)
-        (T.properties tables.now) (T.tables tables.now) (T.texts tables.now) in
-        OnOk result (AllHadRoom buffer.old.max_len (growths_from p direction buffer.old)) }
-    ensures err { let p = preparation plan.now settings.now (F.font font.now) (F.variants font.now)
-        (T.properties tables.now) (T.tables tables.now) (T.texts tables.now) in
-        let growths = growths_from p direction buffer.old in
-        IfErr result (λ e. OneRefused buffer.old.max_len growths e buffer.new) }
-    ensures positions { OnOk result (buffer.new.positions ≡ []) }
-{
-    preprocess_text(plan.shaper, plan.plan, font, buffer)?;
-    rotate_chars(tables, font, &rotation_to(&plan.masks, direction), buffer);
-    ot_shape_normalize(plan.shaper, plan.plan, font, tables, settings, buffer)
+    // Does all that is done to the characters: from their masks and properties to normalization.
+    fn prepare_characters(&self, buffer: &mut hb_buffer_t) -> Result<(), ShaperError>
+        requires { buffer.old.positions ≡ [] }
+        ensures ok { let p = prepared_by F.font F.variants T.properties T.tables T.texts self.now in
+            OnOk result (buffer.new ≡ text_normalized p buffer.old) }
+        ensures room { let p = prepared_by F.font F.variants T.properties T.tables T.texts self.now in
+            OnOk result (AllHadRoom buffer.old.max_len (growths p buffer.old)) }
+        ensures err { let p = prepared_by F.font F.variants T.properties T.tables T.texts self.now in
+            IfErr result (λ e. OneRefused buffer.old.max_len (growths p buffer.old) e buffer.new) }
+        ensures positions { OnOk result (buffer.new.positions ≡ []) }
+    {
+        let direction = buffer.direction();
+        set_masks_and_properties(self.plan, self.tables, buffer);
+        insert_dotted_circle(self.tables, self.font, buffer)?;
+        form_clusters_and_direct(buffer);
+        self.preprocess_and_normalize(direction, buffer)
+    }
+
+    // Lets the shaper rewrite a text that stands in its own direction, rotates its characters and
+    // normalizes it, for a caller who wants `direction`.
+    fn preprocess_and_normalize(
+        &self,
+        direction: Direction,
+        buffer: &mut hb_buffer_t,
+    ) -> Result<(), ShaperError>
+        requires { buffer.old.positions ≡ [] }
+        ensures ok { let p = prepared_by F.font F.variants T.properties T.tables T.texts self.now in
+            OnOk result (buffer.new ≡ normalized_from p direction buffer.old) }
+        ensures room { let p = prepared_by F.font F.variants T.properties T.tables T.texts self.now in
+            OnOk result (AllHadRoom buffer.old.max_len (growths_from p direction buffer.old)) }
+        ensures err { let p = prepared_by F.font F.variants T.properties T.tables T.texts self.now in
+            let growths = growths_from p direction buffer.old in
+            IfErr result (λ e. OneRefused buffer.old.max_len growths e buffer.new) }
+        ensures positions { OnOk result (buffer.new.positions ≡ []) }
+    {
+        let plan = self.plan;
+        preprocess_text(plan.shaper, plan.plan, self.font, buffer)?;
+        let rotation = rotation_to(&plan.masks, direction);
+        rotate_chars(self.tables, self.font, &rotation, buffer);
+        ot_shape_normalize(
+            plan.shaper,
+            plan.plan,
+            self.font,
+            self.tables,
+            self.settings,
+            buffer,
+        )
+    }
 }
 
 // What characters are rotated by, where the caller wants this direction.

@@ -10,6 +10,7 @@ ghost use Rattle.shapers_pipeline.specs.Positioned.{text_flagged, text_postproce
 ghost use Rattle.shapers_pipeline.specs.Prepared.{text_prepared};
 ghost use Rattle.shapers_pipeline.specs.Refusals.{IsStopped};
 ghost use Rattle.shapers_pipeline.specs.Shaped.{FinishStopped, positioning_by};
+ghost use Rattle.shapers_pipeline.specs.Shaping.{to_position, to_shape};
 ghost use Rattle.shapers_pipeline.specs.Stages.{StagesRun, StagesStopped};
 ghost use Rattle.shapers_pipeline.specs.Substituted.{preparation_by, substitution_by};
 
@@ -18,7 +19,7 @@ use crate::normalizing::{NormalizeFont, NormalizeTables};
 use crate::planned::{put_back, set_to_plan};
 use crate::positions::position_text;
 use crate::settings::ShapeSettings;
-use crate::substitution::substitute_planned;
+use crate::substitution::Substituting;
 use rustybuzz_shapers::shaper::checked::CallError;
 use shapers_base::buffer::hb_buffer_t;
 use shapers_plan::ot_shape_plan::EnginePlan;
@@ -97,7 +98,14 @@ pub fn shape<F: NormalizeFont + MetricsFont, T: NormalizeTables + UnicodePropert
 {
     let kept = buffer.keep()?;
     set_to_shape(plan, buffer);
-    match shape_planned(plan, settings, font, tables, lookups, buffer) {
+    let shaping = Shaping {
+        plan,
+        settings,
+        font,
+        tables,
+        lookups,
+    };
+    match shaping.shape(buffer) {
         Ok(()) => {
             give_back(&kept, buffer);
             buffer.recycle(kept);
@@ -144,65 +152,85 @@ fn give_back(kept: &hb_buffer_t, buffer: &mut hb_buffer_t)
     put_back(kept, buffer);
 }
 
-// Shapes a text in the script and direction of the plan; its direction is then its script's.
-fn shape_planned<
+// What a text is shaped by.
+#[derive(Drop)]
+struct Shaping<'a, F, T, L> {
+    plan: &'a EnginePlan,
+    settings: &'a ShapeSettings,
+    font: &'a F,
+    tables: &'a T,
+    lookups: &'a L,
+}
+
+impl<
+    'a,
     F: NormalizeFont + MetricsFont,
     T: NormalizeTables + UnicodeProperties,
     L: Lookups,
->(
-    plan: &EnginePlan,
-    settings: &ShapeSettings,
-    font: &F,
-    tables: &T,
-    lookups: &L,
-    buffer: &mut hb_buffer_t,
-) -> Result<(), CallError>
-    ensures ok { let p = preparation_by plan.now settings.now.normalize (F.font font.now)
-        (F.variants font.now) (T.properties tables.now) (T.tables tables.now)
-        (T.texts tables.now) in
-        let r = substitution_by plan.now (F.font font.now) (L.substituted lookups.now) in
-        let q = positioning_by plan.now settings.now (F.font font.now) (F.metrics font.now)
-        (L.marks lookups.now) (L.positioned lookups.now) (L.finished lookups.now) in
-        let noted = text_noted (L.noted lookups.now) (text_prepared p buffer.old) in
-        OnOk result ((mid : Buffer) × (StagesRun r plan.now.stages noted mid
-        × (buffer.new ≡ text_flagged q mid))) }
-    ensures err { let p = preparation_by plan.now settings.now.normalize (F.font font.now)
-        (F.variants font.now) (T.properties tables.now) (T.tables tables.now)
-        (T.texts tables.now) in
-        let r = substitution_by plan.now (F.font font.now) (L.substituted lookups.now) in
-        let q = positioning_by plan.now settings.now (F.font font.now) (F.metrics font.now)
-        (L.marks lookups.now) (L.positioned lookups.now) (L.finished lookups.now) in
-        let noted = text_noted (L.noted lookups.now) (text_prepared p buffer.old) in
-        let substituting = L.substituting_refuses lookups.now in
-        let positioning = L.positioning_refuses lookups.now in
-        IfErr result (λ e. IsStopped p buffer.old buffer.new e
-        ⊎ (StagesStopped r substituting plan.now.stages noted buffer.new e
-        ⊎ ((mid : Buffer) × (StagesRun r plan.now.stages noted mid
-        × FinishStopped q positioning mid buffer.new e)))) }
-    ensures room { let p = preparation_by plan.now settings.now.normalize (F.font font.now)
-        (F.variants font.now) (T.properties tables.now) (T.tables tables.now)
-        (T.texts tables.now) in
-        let r = substitution_by plan.now (F.font font.now) (L.substituted lookups.now) in
-        let q = positioning_by plan.now settings.now (F.font font.now) (F.metrics font.now)
-        (L.marks lookups.now) (L.positioned lookups.now) (L.finished lookups.now) in
-        let noted = text_noted (L.noted lookups.now) (text_prepared p buffer.old) in
-        let growth = L.growth_of lookups.now in
-        let refusals = L.positioning_refuses lookups.now in
-        PreparationGrows → PreparationHasRoom →
-        shaped_bound plan.now.shaper growth plan.now.lookups plan.now.stages
-        (length buffer.old.glyphs) ≤ buffer.old.max_len →
-        IfErr result (λ e. e ≡ call.Refused TooLong → (mid : Buffer)
-        × (StagesRun r plan.now.stages noted mid
-        × FinishStopped q refusals mid buffer.new e)) }
-    ensures limit { OnOk result (buffer.new.max_len ≡ buffer.old.max_len) }
-{
-    substitute_planned(plan, &settings.normalize, font, tables, lookups, buffer)?;
-    finish_text(plan, settings, font, lookups, buffer)?;
-    propagate_flags(buffer);
-    Ok(())
+> Shaping<'a, F, T, L> {
+    // Shapes a text in the script and direction of the plan; its direction is then its script's.
+    fn shape(&self, buffer: &mut hb_buffer_t) -> Result<(), CallError>
+        ensures ok { let p = to_shape F.font F.variants T.properties T.tables T.texts self.now in
+            let r = substitution_by self.now.plan.now (F.font self.now.font.now)
+            (L.substituted self.now.lookups.now) in
+            let q = to_position F.font F.metrics L.marks L.positioned L.finished self.now in
+            let noted = text_noted (L.noted self.now.lookups.now) (text_prepared p buffer.old) in
+            OnOk result ((mid : Buffer) × (StagesRun r self.now.plan.now.stages noted mid
+            × (buffer.new ≡ text_flagged q mid))) }
+        ensures err { let p = to_shape F.font F.variants T.properties T.tables T.texts self.now in
+            let r = substitution_by self.now.plan.now (F.font self.now.font.now)
+            (L.substituted self.now.lookups.now) in
+            let q = to_position F.font F.metrics L.marks L.positioned L.finished self.now in
+            let noted = text_noted (L.noted self.now.lookups.now) (text_prepared p buffer.old) in
+            let substituting = L.substituting_refuses self.now.lookups.now in
+            let positioning = L.positioning_refuses self.now.lookups.now in
+            let stages = self.now.plan.now.stages in
+            IfErr result (λ e. IsStopped p buffer.old buffer.new e
+            ⊎ (StagesStopped r substituting stages noted buffer.new e
+            ⊎ ((mid : Buffer) × (StagesRun r stages noted mid
+            × FinishStopped q positioning mid buffer.new e)))) }
+        ensures room { let p = to_shape F.font F.variants T.properties T.tables T.texts self.now in
+            let r = substitution_by self.now.plan.now (F.font self.now.font.now)
+            (L.substituted self.now.lookups.now) in
+            let q = to_position F.font F.metrics L.marks L.positioned L.finished self.now in
+            let noted = text_noted (L.noted self.now.lookups.now) (text_prepared p buffer.old) in
+            let growth = L.growth_of self.now.lookups.now in
+            let refusals = L.positioning_refuses self.now.lookups.now in
+            let plan = self.now.plan.now in
+            PreparationGrows → PreparationHasRoom →
+            shaped_bound plan.shaper growth plan.lookups plan.stages (length buffer.old.glyphs)
+            ≤ buffer.old.max_len →
+            IfErr result (λ e. e ≡ call.Refused TooLong → (mid : Buffer)
+            × (StagesRun r plan.stages noted mid × FinishStopped q refusals mid buffer.new e)) }
+        ensures limit { OnOk result (buffer.new.max_len ≡ buffer.old.max_len) }
+    {
+        let substituting = Substituting {
+            plan: self.plan,
+            settings: &self.settings.normalize,
+            font: self.font,
+            tables: self.tables,
+            lookups: self.lookups,
+        };
+        substituting.substitute(buffer)?;
+        self.finish(buffer)?;
+        propagate_flags(buffer);
+        Ok(())
+    }
+
+    // Gives glyphs positions, and stretches marks.
+    fn finish(&self, buffer: &mut hb_buffer_t) -> Result<(), CallError>
+        ensures ok { let q = to_position F.font F.metrics L.marks L.positioned L.finished self.now in
+            OnOk result (buffer.new ≡ text_postprocessed q buffer.old) }
+        ensures err { let q = to_position F.font F.metrics L.marks L.positioned L.finished self.now in
+            let refusals = L.positioning_refuses self.now.lookups.now in
+            IfErr result (λ e. FinishStopped q refusals buffer.old buffer.new e) }
+    {
+        finish_text(self.plan, self.settings, self.font, self.lookups, buffer)
+    }
 }
 
-// Gives glyphs positions, and stretches marks.
+// Gives glyphs positions by a plan, and stretches marks.
+#[inline]
 fn finish_text<F: MetricsFont, L: Lookups>(
     plan: &EnginePlan,
     settings: &ShapeSettings,
@@ -213,9 +241,8 @@ fn finish_text<F: MetricsFont, L: Lookups>(
     ensures ok { let q = positioning_by plan.now settings.now (F.font font.now) (F.metrics font.now)
         (L.marks lookups.now) (L.positioned lookups.now) (L.finished lookups.now) in
         OnOk result (buffer.new ≡ text_postprocessed q buffer.old) }
-    ensures err { let q = positioning_by
-        plan.now settings.now (F.font font.now) (F.metrics font.now) (L.marks lookups.now)
-        (L.positioned lookups.now) (L.finished lookups.now) in
+    ensures err { let q = positioning_by plan.now settings.now (F.font font.now) (F.metrics font.now)
+        (L.marks lookups.now) (L.positioned lookups.now) (L.finished lookups.now) in
         let refusals = L.positioning_refuses lookups.now in
         IfErr result (λ e. FinishStopped q refusals buffer.old buffer.new e) }
 {

@@ -10,20 +10,20 @@ use Rattle.shapers_pipeline.proofs.prepare.prepare_text.Goals as goal
 pub returns-clause-ok : goal.returns-clause-ok
 returns-clause-ok g c =
     let p = preparation c.args.plan.now c.args.settings.now (g.F.hb_font_t.font c.args.font.now) (g.F.NormalizeFont.variants c.args.font.now) (g.T.UnicodeProperties.properties c.args.tables.now) (g.T.Tables.tables c.args.tables.now) (g.T.NormalizeTables.texts c.args.tables.now) in
-    let call = c.prepare_planned-prepared in
+    let call = c.prepare-prepared in
     on_ok_weaker call.result (λ made. is_put_back c.args.buffer.now call.new.buffer _ _ c.script-script.ensures
     c.direction-direction.ensures c.set_script_and_direction-2.ensures (made ∙ ap (text_prepared p) c.set_script_and_direction.ensures)) call.ensures.ok
 
 pub returns-clause-met : goal.returns-clause-met
 returns-clause-met g c =
     let p = preparation c.args.plan.now c.args.settings.now (g.F.hb_font_t.font c.args.font.now) (g.F.NormalizeFont.variants c.args.font.now) (g.T.UnicodeProperties.properties c.args.tables.now) (g.T.Tables.tables c.args.tables.now) (g.T.NormalizeTables.texts c.args.tables.now) in
-    let call = c.prepare_planned-prepared in
+    let call = c.prepare-prepared in
     on_ok_weaker call.result (subst (IsPrepared p) c.set_script_and_direction.ensures) call.ensures.met
 
 pub returns-clause-err : goal.returns-clause-err
 returns-clause-err g c =
     let p = preparation c.args.plan.now c.args.settings.now (g.F.hb_font_t.font c.args.font.now) (g.F.NormalizeFont.variants c.args.font.now) (g.T.UnicodeProperties.properties c.args.tables.now) (g.T.Tables.tables c.args.tables.now) (g.T.NormalizeTables.texts c.args.tables.now) in
-    let call = c.prepare_planned-prepared in
+    let call = c.prepare-prepared in
     let left = call.new.buffer in
     if_err_weaker call.result (λ e stopped. (
       left,
@@ -36,5 +36,5 @@ returns-clause-err g c =
 
 pub returns-clause-positions : goal.returns-clause-positions
 returns-clause-positions g c =
-    let call = c.prepare_planned-prepared in
+    let call = c.prepare-prepared in
     on_ok_weaker call.result (λ none. ap (λ (b : Buffer). b.positions) c.set_script_and_direction-2.ensures ∙ none) call.ensures.positions

@@ -37,7 +37,7 @@ returns-in-Ok-clause-ok g c =
         subst (λ b. StagesRun r plan.stages (noted (text_prepared p b)) ran.0) (c.set_to_shape.ensures.text ∙ ap (text_to_shape plan) c.keep.ensures.same) ran.1.0,
         c.recycle.ensures
             ∙ c.give_back.ensures
-            ∙ ap (λ (k : Buffer). given_back k c.shape_planned.new.buffer) c.in_ok-kept.ensures.ok
+            ∙ ap (λ (k : Buffer). given_back k c.shape.new.buffer) c.in_ok-kept.ensures.ok
             ∙ ap (given_back old) ran.1.1,
       ),
     )
@@ -53,7 +53,7 @@ returns-in-Err-clause-refusal g c =
     let q = positioning_by plan c.args.settings.now font (g.F.MetricsFont.metrics c.args.font.now)
     (g.L.GlyphClasses.marks it) (g.L.Lookups.positioned it) (g.L.Lookups.finished it) in
     let noted = text_noted (g.L.Lookups.noted it) in
-    let left = c.shape_planned.new.buffer in
+    let left = c.shape.new.buffer in
     let e = c.in-Err.error in
     let substituting = g.L.Lookups.substituting_refuses it in
     let positioning = g.L.Lookups.positioning_refuses it in
@@ -81,6 +81,6 @@ returns-in-Err-clause-room g c grows room fits is =
       found.0,
       (
         subst (λ b. StagesRun r plan.stages (noted (text_prepared p b)) found.0) set found.1.0,
-        (c.shape_planned.new.buffer, found.1.1),
+        (c.shape.new.buffer, found.1.1),
       ),
     )

@@ -19,7 +19,7 @@ returns-in-Ok-clause-ok g c =
     (g.T.UnicodeProperties.properties c.args.tables.now) (g.T.Tables.tables c.args.tables.now) (g.T.NormalizeTables.texts c.args.tables.now) in
     let r = substitution_by plan font (g.L.Lookups.substituted it) in
     let noted = text_noted (g.L.Lookups.noted it) in
-    let last = c.substitute_planned.new.buffer in (
+    let last = c.substitute.new.buffer in (
       last,
       (
         subst (λ b. StagesRun r plan.stages (noted (text_prepared p b)) last) (c.set_to_plan.ensures ∙ ap (as_planned plan.plan.script plan.direction) c.keep.ensures.same) c.in-Ok.ensures.ok,
@@ -40,7 +40,7 @@ returns-in-Err-clause-refusal g c =
     (g.T.UnicodeProperties.properties c.args.tables.now) (g.T.Tables.tables c.args.tables.now) (g.T.NormalizeTables.texts c.args.tables.now) in
     let r = substitution_by plan font (g.L.Lookups.substituted it) in
     let noted = text_noted (g.L.Lookups.noted it) in
-    let left = c.substitute_planned.new.buffer in
+    let left = c.substitute.new.buffer in
     let refusals = g.L.Lookups.substituting_refuses it in
     let e = c.in-Err.error in
     inr (

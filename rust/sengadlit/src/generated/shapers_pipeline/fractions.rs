@@ -3,8 +3,8 @@
 //! The features of fractions.
 
 use crate::generated::shapers_base::buffer::{
-    Buffer, BufferFlags, Direction, GeneralCategory, GlyphChange, GlyphInfo, GlyphWalk,
-    change_each_in, unsafe_to_break_in, unsafe_to_concat_in,
+    Buffer, BufferFlags, Direction, GeneralCategory, GlyphInfo, change_each_by_in,
+    unsafe_to_break_in, unsafe_to_concat_in,
 };
 use crate::generated::shapers_plan::ot_shape_plan::DriverMasks;
 
@@ -29,7 +29,7 @@ pub(crate) fn set_fractions(masks: &DriverMasks, buffer: &mut Buffer) {
     }
     let masks = slash_masks(buffer.direction(), masks);
     let flags = buffer.flags();
-    buffer.walk(&mut FractionWalk { masks, flags });
+    buffer.with_glyphs_mut(|glyphs| set_fractions_in(masks, flags, glyphs));
 }
 
 // Whether the font has features for fractions.
@@ -66,20 +66,6 @@ pub(crate) fn runs_forward(direction: Direction) -> bool {
     matches!(direction, Direction::LeftToRight | Direction::TopToBottom)
 }
 
-// The walk over the slashes of a text.
-#[derive(Clone, Copy)]
-struct FractionWalk {
-    masks: SlashMasks,
-    flags: BufferFlags,
-}
-
-impl GlyphWalk for FractionWalk {
-    #[inline]
-    fn walk(&mut self, glyphs: &mut [GlyphInfo]) {
-        set_fractions_in(self.masks, self.flags, glyphs);
-    }
-}
-
 // Sets the features of each fraction.
 fn set_fractions_in(masks: SlashMasks, flags: BufferFlags, glyphs: &mut [GlyphInfo]) {
     for i in 0..glyphs.len() {
@@ -96,7 +82,8 @@ fn set_fraction(masks: SlashMasks, flags: BufferFlags, i: usize, glyphs: &mut [G
     let before = decimals_before(i, glyphs);
     let behind = decimals_behind(i, glyphs);
     if before == 0 || behind == 0 {
-        flag_slash(flags, i, before, behind, glyphs);
+        // a text that brings numbers to this side changes what is on the other one
+        unsafe_to_concat_in(flags, glyphs, i, i + 1);
     } else {
         mark_fraction(masks, i, before, behind, glyphs);
     }
@@ -137,23 +124,6 @@ fn is_decimal_glyph(glyph: &GlyphInfo) -> bool {
     matches!(glyph.unicode_props.general_category(), GeneralCategory::Nd)
 }
 
-// Flags a slash that lacks numbers on one side.
-#[inline]
-fn flag_slash(
-    flags: BufferFlags,
-    i: usize,
-    before: usize,
-    behind: usize,
-    glyphs: &mut [GlyphInfo],
-) {
-    if before == 0 {
-        unsafe_to_concat_in(flags, glyphs, i, i + 1);
-    }
-    if behind == 0 {
-        unsafe_to_concat_in(flags, glyphs, i, i + 1);
-    }
-}
-
 // Gives the numbers of a fraction and its slash their features; nothing may be broken in it.
 #[inline]
 fn mark_fraction(
@@ -174,18 +144,5 @@ fn mark_fraction(
 // Gives the glyphs from `start` to `end` mask bits besides their own.
 #[inline]
 fn add_bits(bits: u32, start: usize, end: usize, glyphs: &mut [GlyphInfo]) {
-    change_each_in(&mut glyphs[start..end], &AddBits { bits });
-}
-
-// Mask bits for one glyph, besides its own.
-#[derive(Clone, Copy)]
-struct AddBits {
-    bits: u32,
-}
-
-impl GlyphChange for AddBits {
-    #[inline]
-    fn change(&self, glyph: &mut GlyphInfo) {
-        glyph.mask |= self.bits;
-    }
+    change_each_by_in(&mut glyphs[start..end], |glyph| glyph.mask |= bits);
 }

@@ -2,26 +2,12 @@
 
 //! The masks that the plan gives a text, besides those of its shaper.
 
-use crate::generated::shapers_base::buffer::{Buffer, GlyphChange, GlyphInfo, GlyphProps};
+use crate::generated::shapers_base::buffer::{Buffer, GlyphInfo, GlyphProps};
 use crate::generated::shapers_plan::ot_shape_plan::UserRange;
 
 // Gives each glyph the features that hold for the whole text, and no others.
 pub(crate) fn initialize_masks(mask: u32, buffer: &mut Buffer) {
-    let end = buffer.len();
-    buffer.change_each(0, end, &MaskAlone { mask });
-}
-
-// The mask of one glyph.
-#[derive(Clone, Copy)]
-struct MaskAlone {
-    mask: u32,
-}
-
-impl GlyphChange for MaskAlone {
-    #[inline]
-    fn change(&self, glyph: &mut GlyphInfo) {
-        glyph.mask = self.mask;
-    }
+    buffer.change_all_by(|glyph| glyph.mask = mask);
 }
 
 // Sets the caller's features in their ranges, the later ones over the earlier.
@@ -29,22 +15,14 @@ pub(crate) fn set_features(features: &[UserRange], buffer: &mut Buffer) {
     if features.is_empty() {
         return;
     }
-    let end = buffer.len();
-    buffer.change_each(0, end, &Features { features });
+    buffer.change_all_by(|glyph| set_features_of(features, glyph));
 }
 
-// The features of one glyph.
-#[derive(Clone, Copy)]
-struct Features<'a> {
-    features: &'a [UserRange],
-}
-
-impl<'a> GlyphChange for Features<'a> {
-    #[inline]
-    fn change(&self, glyph: &mut GlyphInfo) {
-        for feature in self.features {
-            set_feature(*feature, glyph);
-        }
+// Sets the features in whose ranges the glyph is.
+#[inline]
+fn set_features_of(features: &[UserRange], glyph: &mut GlyphInfo) {
+    for feature in features {
+        set_feature(*feature, glyph);
     }
 }
 
@@ -58,18 +36,8 @@ fn set_feature(feature: UserRange, glyph: &mut GlyphInfo) {
 
 // Each character becomes the glyph that normalization kept beside it.
 pub(crate) fn map_glyphs(buffer: &mut Buffer) {
-    let end = buffer.len();
-    buffer.change_each(0, end, &AsGlyph);
-}
-
-// The glyph of one character.
-#[derive(Clone, Copy)]
-struct AsGlyph;
-
-impl GlyphChange for AsGlyph {
-    #[inline]
-    fn change(&self, glyph: &mut GlyphInfo) {
+    buffer.change_all_by(|glyph| {
         glyph.glyph_id = u32::from(glyph.glyph_props.0);
         glyph.glyph_props = GlyphProps::NONE;
-    }
+    });
 }

@@ -74,61 +74,72 @@ pub fn prepare_text<F: NormalizeFont, T: NormalizeTables + UnicodeProperties>(
     let script = buffer.script();
     let direction = buffer.direction();
     set_script_and_direction(plan.plan.script, plan.direction, buffer);
-    let prepared = prepare_planned(plan, settings, font, tables, buffer);
+    let preparing = Preparing {
+        plan,
+        settings,
+        font,
+        tables,
+    };
+    let prepared = preparing.prepare(buffer);
     set_script_and_direction(script, direction, buffer);
     prepared
 }
 
-// The same of a text in the script and direction of the plan, whose direction is then its script's.
-pub(crate) fn prepare_planned<F: NormalizeFont, T: NormalizeTables + UnicodeProperties>(
-    plan: &TextPlan,
-    settings: &NormalizeSettings,
-    font: &F,
-    tables: &T,
-    buffer: &mut Buffer,
-) -> Result<(), CallError> {
-    if !lacks_positions(buffer) {
-        return Err(CallError::Condition(Condition::Positions));
-    }
-    if !plan_fits(plan.shaper, plan.plan) {
-        return Err(CallError::Condition(Condition::PlanData));
-    }
-    prepare_characters(plan, settings, font, tables, buffer)?;
-    set_fractions(&plan.masks, buffer);
-    setup_masks(plan.shaper, plan.plan, font, tables, buffer)?;
-    set_features(plan.ranges, buffer);
-    map_glyphs(buffer);
-    Ok(())
+// What a text is prepared by.
+pub(crate) struct Preparing<'a, F, T> {
+    pub(crate) plan: &'a TextPlan<'a>,
+    pub(crate) settings: &'a NormalizeSettings,
+    pub(crate) font: &'a F,
+    pub(crate) tables: &'a T,
 }
 
-// Does all that is done to the characters: from their masks and properties to normalization.
-fn prepare_characters<F: NormalizeFont, T: NormalizeTables + UnicodeProperties>(
-    plan: &TextPlan,
-    settings: &NormalizeSettings,
-    font: &F,
-    tables: &T,
-    buffer: &mut Buffer,
-) -> Result<(), ShaperError> {
-    let direction = buffer.direction();
-    set_masks_and_properties(plan, tables, buffer);
-    insert_dotted_circle(tables, font, buffer)?;
-    form_clusters_and_direct(buffer);
-    preprocess_and_normalize(plan, settings, font, tables, direction, buffer)
-}
+impl<'a, F: NormalizeFont, T: NormalizeTables + UnicodeProperties> Preparing<'a, F, T> {
+    // Prepares a text in the script and direction of the plan, whose direction is then its script's.
+    pub(crate) fn prepare(&self, buffer: &mut Buffer) -> Result<(), CallError> {
+        let plan = self.plan;
+        if !lacks_positions(buffer) {
+            return Err(CallError::Condition(Condition::Positions));
+        }
+        if !plan_fits(plan.shaper, plan.plan) {
+            return Err(CallError::Condition(Condition::PlanData));
+        }
+        self.prepare_characters(buffer)?;
+        set_fractions(&plan.masks, buffer);
+        setup_masks(plan.shaper, plan.plan, self.font, self.tables, buffer)?;
+        set_features(plan.ranges, buffer);
+        map_glyphs(buffer);
+        Ok(())
+    }
 
-// Lets the shaper rewrite a text that stands in its own direction, rotates its characters and
-// normalizes it, for a caller who wants `direction`.
-fn preprocess_and_normalize<F: NormalizeFont, T: NormalizeTables + UnicodeProperties>(
-    plan: &TextPlan,
-    settings: &NormalizeSettings,
-    font: &F,
-    tables: &T,
-    direction: Direction,
-    buffer: &mut Buffer,
-) -> Result<(), ShaperError> {
-    preprocess_text(plan.shaper, plan.plan, font, buffer)?;
-    rotate_chars(tables, font, &rotation_to(&plan.masks, direction), buffer);
-    ot_shape_normalize(plan.shaper, plan.plan, font, tables, settings, buffer)
+    // Does all that is done to the characters: from their masks and properties to normalization.
+    fn prepare_characters(&self, buffer: &mut Buffer) -> Result<(), ShaperError> {
+        let direction = buffer.direction();
+        set_masks_and_properties(self.plan, self.tables, buffer);
+        insert_dotted_circle(self.tables, self.font, buffer)?;
+        form_clusters_and_direct(buffer);
+        self.preprocess_and_normalize(direction, buffer)
+    }
+
+    // Lets the shaper rewrite a text that stands in its own direction, rotates its characters and
+    // normalizes it, for a caller who wants `direction`.
+    fn preprocess_and_normalize(
+        &self,
+        direction: Direction,
+        buffer: &mut Buffer,
+    ) -> Result<(), ShaperError> {
+        let plan = self.plan;
+        preprocess_text(plan.shaper, plan.plan, self.font, buffer)?;
+        let rotation = rotation_to(&plan.masks, direction);
+        rotate_chars(self.tables, self.font, &rotation, buffer);
+        ot_shape_normalize(
+            plan.shaper,
+            plan.plan,
+            self.font,
+            self.tables,
+            self.settings,
+            buffer,
+        )
+    }
 }
 
 // What characters are rotated by, where the caller wants this direction.

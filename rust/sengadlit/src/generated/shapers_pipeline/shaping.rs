@@ -9,7 +9,7 @@ use crate::generated::shapers_pipeline::normalizing::{NormalizeFont, NormalizeTa
 use crate::generated::shapers_pipeline::planned::{put_back, set_to_plan};
 use crate::generated::shapers_pipeline::positions::position_text;
 use crate::generated::shapers_pipeline::settings::ShapeSettings;
-use crate::generated::shapers_pipeline::substitution::substitute_planned;
+use crate::generated::shapers_pipeline::substitution::Substituting;
 use crate::generated::shapers_plan::ot_shape_plan::EnginePlan;
 use crate::generated::shapers_position::ot_shape_position::{MetricsFont, propagate_flags};
 use crate::generated::shapers_prepare::ot_shape_prepare::UnicodeProperties;
@@ -109,7 +109,14 @@ pub fn shape<F: NormalizeFont + MetricsFont, T: NormalizeTables + UnicodePropert
 ) -> Result<(), CallError> {
     let kept = buffer.keep()?;
     set_to_shape(plan, buffer);
-    match shape_planned(plan, settings, font, tables, lookups, buffer) {
+    let shaping = Shaping {
+        plan,
+        settings,
+        font,
+        tables,
+        lookups,
+    };
+    match shaping.shape(buffer) {
         Ok(()) => {
             give_back(&kept, buffer);
             buffer.recycle(kept);
@@ -144,26 +151,41 @@ fn give_back(kept: &Buffer, buffer: &mut Buffer) {
     put_back(kept, buffer);
 }
 
-// Shapes a text in the script and direction of the plan; its direction is then its script's.
-fn shape_planned<
-    F: NormalizeFont + MetricsFont,
-    T: NormalizeTables + UnicodeProperties,
-    L: Lookups,
->(
-    plan: &EnginePlan,
-    settings: &ShapeSettings,
-    font: &F,
-    tables: &T,
-    lookups: &L,
-    buffer: &mut Buffer,
-) -> Result<(), CallError> {
-    substitute_planned(plan, &settings.normalize, font, tables, lookups, buffer)?;
-    finish_text(plan, settings, font, lookups, buffer)?;
-    propagate_flags(buffer);
-    Ok(())
+// What a text is shaped by.
+struct Shaping<'a, F, T, L> {
+    plan: &'a EnginePlan,
+    settings: &'a ShapeSettings,
+    font: &'a F,
+    tables: &'a T,
+    lookups: &'a L,
 }
 
-// Gives glyphs positions, and stretches marks.
+impl<'a, F: NormalizeFont + MetricsFont, T: NormalizeTables + UnicodeProperties, L: Lookups>
+    Shaping<'a, F, T, L>
+{
+    // Shapes a text in the script and direction of the plan; its direction is then its script's.
+    fn shape(&self, buffer: &mut Buffer) -> Result<(), CallError> {
+        let substituting = Substituting {
+            plan: self.plan,
+            settings: &self.settings.normalize,
+            font: self.font,
+            tables: self.tables,
+            lookups: self.lookups,
+        };
+        substituting.substitute(buffer)?;
+        self.finish(buffer)?;
+        propagate_flags(buffer);
+        Ok(())
+    }
+
+    // Gives glyphs positions, and stretches marks.
+    fn finish(&self, buffer: &mut Buffer) -> Result<(), CallError> {
+        finish_text(self.plan, self.settings, self.font, self.lookups, buffer)
+    }
+}
+
+// Gives glyphs positions by a plan, and stretches marks.
+#[inline]
 fn finish_text<F: MetricsFont, L: Lookups>(
     plan: &EnginePlan,
     settings: &ShapeSettings,

@@ -10,7 +10,7 @@ use crate::generated::shapers_pipeline::normalizing::{
 };
 use crate::generated::shapers_pipeline::plan::{StagePlan, TextPlan};
 use crate::generated::shapers_pipeline::planned::{put_back, set_to_plan};
-use crate::generated::shapers_pipeline::prepare::prepare_planned;
+use crate::generated::shapers_pipeline::prepare::Preparing;
 use crate::generated::shapers_pipeline::stages::run_planned_stages;
 use crate::generated::shapers_plan::ot_shape_plan::EnginePlan;
 use crate::generated::shapers_prepare::ot_shape_prepare::UnicodeProperties;
@@ -80,7 +80,14 @@ pub fn substitute_text<F: NormalizeFont, T: NormalizeTables + UnicodeProperties,
 ) -> Result<(), CallError> {
     let kept = buffer.keep()?;
     set_to_plan(plan, buffer);
-    match substitute_planned(plan, settings, font, tables, lookups, buffer) {
+    let substituting = Substituting {
+        plan,
+        settings,
+        font,
+        tables,
+        lookups,
+    };
+    match substituting.substitute(buffer) {
         Ok(()) => {
             put_back(&kept, buffer);
             buffer.recycle(kept);
@@ -93,33 +100,43 @@ pub fn substitute_text<F: NormalizeFont, T: NormalizeTables + UnicodeProperties,
     }
 }
 
-// The same of a text in the script and direction of the plan, whose direction is then its script's.
-pub(crate) fn substitute_planned<
-    F: NormalizeFont,
-    T: NormalizeTables + UnicodeProperties,
-    L: Lookups,
->(
-    plan: &EnginePlan,
-    settings: &NormalizeSettings,
-    font: &F,
-    tables: &T,
-    lookups: &L,
-    buffer: &mut Buffer,
-) -> Result<(), CallError> {
-    let text = TextPlan {
-        shaper: plan.shaper(),
-        plan: plan.plan(),
-        direction: plan.direction(),
-        masks: plan.masks(),
-        ranges: plan.ranges(),
-    };
-    prepare_planned(&text, settings, font, tables, buffer)?;
-    note_glyphs(lookups, buffer);
-    let stages = StagePlan {
-        plan: plan.plan(),
-        direction: plan.direction(),
-        stages: plan.stages(),
-        lookups: plan.lookups(),
-    };
-    run_planned_stages(&stages, font, lookups, buffer)
+// What a text is substituted by.
+pub(crate) struct Substituting<'a, F, T, L> {
+    pub(crate) plan: &'a EnginePlan,
+    pub(crate) settings: &'a NormalizeSettings,
+    pub(crate) font: &'a F,
+    pub(crate) tables: &'a T,
+    pub(crate) lookups: &'a L,
+}
+
+impl<'a, F: NormalizeFont, T: NormalizeTables + UnicodeProperties, L: Lookups>
+    Substituting<'a, F, T, L>
+{
+    // Substitutes a text in the script and direction of the plan, whose direction is then its
+    // script's.
+    pub(crate) fn substitute(&self, buffer: &mut Buffer) -> Result<(), CallError> {
+        let plan = self.plan;
+        let text = TextPlan {
+            shaper: plan.shaper(),
+            plan: plan.plan(),
+            direction: plan.direction(),
+            masks: plan.masks(),
+            ranges: plan.ranges(),
+        };
+        let preparing = Preparing {
+            plan: &text,
+            settings: self.settings,
+            font: self.font,
+            tables: self.tables,
+        };
+        preparing.prepare(buffer)?;
+        note_glyphs(self.lookups, buffer);
+        let stages = StagePlan {
+            plan: plan.plan(),
+            direction: plan.direction(),
+            stages: plan.stages(),
+            lookups: plan.lookups(),
+        };
+        run_planned_stages(&stages, self.font, self.lookups, buffer)
+    }
 }

@@ -1,11 +1,11 @@
 -- The steps before the text is in its own direction, and those behind.
 use Rattle.shapers_pipeline.specs.Prepared.{preparation}
 use Rattle.shapers_pipeline.proofs.Growing.{all_room, is_normalized, one_refused}
-use Rattle.shapers_pipeline.proofs.prepare.prepare_characters.Goals as goal
+use Rattle.shapers_pipeline.proofs.prepare.Preparing.prepare_characters.Goals as goal
 
 pub returns-clause-ok : goal.returns-clause-ok
 returns-clause-ok g c =
-    let p = preparation c.args.plan.now c.args.settings.now (g.F.hb_font_t.font c.args.font.now) (g.F.NormalizeFont.variants c.args.font.now) (g.T.UnicodeProperties.properties c.args.tables.now) (g.T.Tables.tables c.args.tables.now) (g.T.NormalizeTables.texts c.args.tables.now) in
+    let p = preparation c.args.self.now.plan.now c.args.self.now.settings.now (g.F.hb_font_t.font c.args.self.now.font.now) (g.F.NormalizeFont.variants c.args.self.now.font.now) (g.T.UnicodeProperties.properties c.args.self.now.tables.now) (g.T.Tables.tables c.args.self.now.tables.now) (g.T.NormalizeTables.texts c.args.self.now.tables.now) in
     let a = c.set_masks_and_properties.new.buffer in
     let b = c.insert_dotted_circle.new.buffer in
     let d = c.form_clusters_and_direct.new.buffer in
@@ -21,7 +21,7 @@ returns-clause-ok g c =
 
 pub returns-clause-room : goal.returns-clause-room
 returns-clause-room g c =
-    let p = preparation c.args.plan.now c.args.settings.now (g.F.hb_font_t.font c.args.font.now) (g.F.NormalizeFont.variants c.args.font.now) (g.T.UnicodeProperties.properties c.args.tables.now) (g.T.Tables.tables c.args.tables.now) (g.T.NormalizeTables.texts c.args.tables.now) in
+    let p = preparation c.args.self.now.plan.now c.args.self.now.settings.now (g.F.hb_font_t.font c.args.self.now.font.now) (g.F.NormalizeFont.variants c.args.self.now.font.now) (g.T.UnicodeProperties.properties c.args.self.now.tables.now) (g.T.Tables.tables c.args.self.now.tables.now) (g.T.NormalizeTables.texts c.args.self.now.tables.now) in
     let a = c.set_masks_and_properties.new.buffer in
     let b = c.insert_dotted_circle.new.buffer in
     let d = c.form_clusters_and_direct.new.buffer in
@@ -37,7 +37,7 @@ returns-clause-room g c =
 
 pub returns-clause-err : goal.returns-clause-err
 returns-clause-err g c =
-    let p = preparation c.args.plan.now c.args.settings.now (g.F.hb_font_t.font c.args.font.now) (g.F.NormalizeFont.variants c.args.font.now) (g.T.UnicodeProperties.properties c.args.tables.now) (g.T.Tables.tables c.args.tables.now) (g.T.NormalizeTables.texts c.args.tables.now) in
+    let p = preparation c.args.self.now.plan.now c.args.self.now.settings.now (g.F.hb_font_t.font c.args.self.now.font.now) (g.F.NormalizeFont.variants c.args.self.now.font.now) (g.T.UnicodeProperties.properties c.args.self.now.tables.now) (g.T.Tables.tables c.args.self.now.tables.now) (g.T.NormalizeTables.texts c.args.self.now.tables.now) in
     let a = c.set_masks_and_properties.new.buffer in
     let b = c.insert_dotted_circle.new.buffer in
     let d = c.form_clusters_and_direct.new.buffer in
