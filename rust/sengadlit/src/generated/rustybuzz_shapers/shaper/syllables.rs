@@ -21,6 +21,8 @@ use crate::generated::shapers_universal::ot_shaper_use::setup_syllables_use_by_b
 /// Where the pause is [`SetupSyllablesUse`](crate::Pause::SetupSyllablesUse) and the plan has no data of the universal
 /// shaper.
 ///
+/// [`run_pause`]: crate::run_pause
+///
 /// <details><summary>Contract</summary>
 ///
 /// # Contract
@@ -54,6 +56,8 @@ pub fn setup_syllables_found(pause: Pause, plan: &Plan, buffer: &mut Buffer) -> 
 ///
 /// Where the pause is [`SetupSyllablesUse`](crate::Pause::SetupSyllablesUse) and the plan has no data of the universal
 /// shaper.
+///
+/// [`run_pause`]: crate::run_pause
 ///
 /// <details><summary>Contract</summary>
 ///
