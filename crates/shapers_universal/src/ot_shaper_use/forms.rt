@@ -105,16 +105,16 @@ impl FormMasks {
         }
     }
 
-    // Gives the syllable from `s` to `e` the mask of its form.
+    // Gives the syllable from `start` to `end` the mask of its form.
     #[inline]
-    fn set_at(self, glyphs: &mut [hb_glyph_info_t], s: usize, e: usize, before: bool)
-        requires in_order { s ≤ e }
-        requires in_range { e ≤ length glyphs.old }
-        ensures { let behind = joins_runs (drop e glyphs.old) in
-            glyphs.new ≡ with_stretch s e (formed self before behind) glyphs.old }
+    fn set_at(self, glyphs: &mut [hb_glyph_info_t], start: usize, end: usize, before: bool)
+        requires in_order { start ≤ end }
+        requires in_range { end ≤ length glyphs.old }
+        ensures { let behind = joins_runs (drop end glyphs.old) in
+            glyphs.new ≡ with_stretch start end (formed self before behind) glyphs.old }
     {
-        let behind = joins_runs(&glyphs[e..]);
-        self.set(&mut glyphs[s..e], before, behind);
+        let behind = joins_runs(&glyphs[end..]);
+        self.set(&mut glyphs[start..end], before, behind);
     }
 
     // Whether a break between two syllables of a run would change the mask of one, by whether one
@@ -142,22 +142,23 @@ impl FormMasks {
         joins_runs(syllable) && joins_runs(rest) && self.is_torn(before, behind)
     }
 
-    // Flags the syllable from `s` to `e` and the next one, where a break between them would do so.
+    // Flags the syllable from `start` to `end` and the next one, where a break between them would
+    // do so.
     #[inline]
-    fn flag_pair(self, glyphs: &mut [hb_glyph_info_t], s: usize, e: usize, before: bool)
-        requires in_order { s ≤ e }
-        requires in_range { e ≤ length glyphs.old }
-        ensures { let behind = syllables (drop e glyphs.old) in
-            let stretches = torn_pair self before s (stretch_of s e glyphs.old) behind in
+    fn flag_pair(self, glyphs: &mut [hb_glyph_info_t], start: usize, end: usize, before: bool)
+        requires in_order { start ≤ end }
+        requires in_range { end ≤ length glyphs.old }
+        ensures { let behind = syllables (drop end glyphs.old) in
+            let stretches = torn_pair self before start (stretch_of start end glyphs.old) behind in
             glyphs.new ≡ unsafe_all stretches glyphs.old }
     {
-        if e == glyphs.len() {
+        if end == glyphs.len() {
             return;
         }
-        let end = e + first_syllable_len(&glyphs[e..]);
-        let behind = joins_runs(&glyphs[end..]);
-        if self.tears(&glyphs[s..e], &glyphs[e..], before, behind) {
-            unsafe_to_break_in(glyphs, s, end);
+        let next = end + first_syllable_len(&glyphs[end..]);
+        let behind = joins_runs(&glyphs[next..]);
+        if self.tears(&glyphs[start..end], &glyphs[end..], before, behind) {
+            unsafe_to_break_in(glyphs, start, next);
         }
     }
 

@@ -88,77 +88,80 @@ impl ReorderBySteps for UniversalOrder {
     ghost suffices = { λ _ _ _ _ _ done. done };
 }
 
-// Reorders the syllable from `s` to `e`, in which no reph stands in front.
+// Reorders the syllable from `start` to `end`, in which no reph stands in front.
 #[inline]
-fn reorder_fronts(buffer: &mut hb_buffer_t, s: usize, e: usize)
-    requires in_order { s ≤ e }
-    requires in_range { e ≤ length buffer.old.glyphs }
-    requires kind { is_reordered_in_universal (stretch_of s e buffer.old.glyphs) ≡ true }
-    requires no_reph { has_universal_reph (stretch_of s e buffer.old.glyphs) ≡ false }
-    ensures { SyllableReordered universal_order universal_steps s e buffer.old buffer.new }
+fn reorder_fronts(buffer: &mut hb_buffer_t, start: usize, end: usize)
+    requires in_order { start ≤ end }
+    requires in_range { end ≤ length buffer.old.glyphs }
+    requires kind { is_reordered_in_universal (stretch_of start end buffer.old.glyphs) ≡ true }
+    requires no_reph { has_universal_reph (stretch_of start end buffer.old.glyphs) ≡ false }
+    ensures { SyllableReordered universal_order universal_steps start end buffer.old buffer.new }
 {
-    if let Some((start, behind)) = first_front(buffer.glyphs(), s, e) {
-        if some_go_front(&buffer.glyphs()[behind..e]) {
-            reorder_syllable(buffer, s, e);
+    if let Some((front, behind)) = first_front(buffer.glyphs(), start, end) {
+        if some_go_front(&buffer.glyphs()[behind..end]) {
+            reorder_syllable(buffer, start, end);
         } else {
-            move_to_front(buffer, s, e, start, behind);
+            move_to_front(buffer, start, end, front, behind);
         }
     }
 }
 
-// The first glyph from `s` to `e` that goes to the front: where its piece starts, and the place
-// behind it.
+// The first glyph from `start` to `end` that goes to the front: where its piece starts, and the
+// place behind it.
 #[inline]
-fn first_front(glyphs: &[hb_glyph_info_t], s: usize, e: usize) -> Option<(usize, usize)>
-    requires in_order { s ≤ e }
-    requires in_range { e ≤ length glyphs.now }
-    ensures first { MergesFirst s e glyphs.now result }
-    ensures inside { IfSome result (λ p. s ≤ p.0 × p.0 < p.1 × p.1 ≤ e) }
+fn first_front(glyphs: &[hb_glyph_info_t], start: usize, end: usize) -> Option<(usize, usize)>
+    requires in_order { start ≤ end }
+    requires in_range { end ≤ length glyphs.now }
+    ensures first { MergesFirst start end glyphs.now result }
+    ensures inside { IfSome result (λ p. start ≤ p.0 × p.0 < p.1 × p.1 ≤ end) }
 {
-    for i in s..e {
+    for i in start..end {
         if goes_front(&glyphs[i]) {
-            return Some((piece_start(glyphs, s, i), i + 1));
+            return Some((piece_start(glyphs, start, i), i + 1));
         }
     }
     None
 }
 
-// Where the piece starts in which place `i` of a syllable from `s` on stands.
+// Where the piece starts in which place `index` of a syllable from `start` on stands.
 #[inline]
-fn piece_start(glyphs: &[hb_glyph_info_t], s: usize, i: usize) -> usize
-    requires in_order { s ≤ i }
-    requires in_range { i ≤ length glyphs.now }
-    ensures start { result ≡ start_from s s (stretch_of s i glyphs.now) }
-    ensures from { s ≤ result }
-    ensures before { result ≤ i }
+fn piece_start(glyphs: &[hb_glyph_info_t], start: usize, index: usize) -> usize
+    requires in_order { start ≤ index }
+    requires in_range { index ≤ length glyphs.now }
+    ensures start { result ≡ start_from start start (stretch_of start index glyphs.now) }
+    ensures from { start ≤ result }
+    ensures before { result ≤ index }
 {
-    for end in (s + 1..i + 1).rev() {
+    for end in (start + 1..index + 1).rev() {
         if is_halant(&glyphs[end - 1]) {
             return end;
         }
     }
-    s
+    start
 }
 
-// Merges the glyphs from `start` to `end`, of the syllable from `s` to `e`, and moves the last of
-// them to their front.
+// Merges the glyphs from `front` to `behind`, of the syllable from `start` to `end`, and moves the
+// last of them to their front.
 #[inline]
-fn move_to_front(buffer: &mut hb_buffer_t, s: usize, e: usize, start: usize, end: usize)
-    requires from { s ≤ start }
-    requires some { start < end }
-    requires to { end ≤ e }
-    requires in_range { e ≤ length buffer.old.glyphs }
-    ensures { let merged = merge buffer.old.level start end buffer.old.glyphs in
-        let moved = with_stretch start end (λ _. pick (last_place_first start end) merged) merged in
-        buffer.new ≡ record buffer.old { glyphs = moved; places = buffer.new.places } }
+fn move_to_front(buffer: &mut hb_buffer_t, start: usize, end: usize, front: usize, behind: usize)
+    requires from { start ≤ front }
+    requires some { front < behind }
+    requires to { behind ≤ end }
+    requires in_range { end ≤ length buffer.old.glyphs }
+    ensures { let merged = merge buffer.old.level front behind buffer.old.glyphs in
+        let moved = pick (last_place_first front behind) merged in
+        buffer.new ≡ record buffer.old {
+          glyphs = with_stretch front behind (λ _. moved) merged;
+          places = buffer.new.places;
+        } }
 {
-    buffer.merge_clusters(start, end);
+    buffer.merge_clusters(front, behind);
     let to_front = Placement::Forward {
-        to: start,
-        from: end - 1,
+        to: front,
+        from: behind - 1,
         count: 1,
     };
-    buffer.apply(s, e, to_front);
+    buffer.apply(start, end, to_front);
 }
 
 // Whether some glyph goes to the front of its piece.
@@ -180,110 +183,111 @@ fn has_reph(syllable: &[hb_glyph_info_t]) -> bool
     }
 }
 
-// Reorders the syllable from `s` to `e`.
+// Reorders the syllable from `start` to `end`.
 #[inline]
-fn reorder_syllable(buffer: &mut hb_buffer_t, s: usize, e: usize)
-    requires in_order { s ≤ e }
-    requires in_range { e ≤ length buffer.old.glyphs }
-    requires kind { is_reordered_in_universal (stretch_of s e buffer.old.glyphs) ≡ true }
-    ensures { SyllableReordered universal_order universal_steps s e buffer.old buffer.new }
+fn reorder_syllable(buffer: &mut hb_buffer_t, start: usize, end: usize)
+    requires in_order { start ≤ end }
+    requires in_range { end ≤ length buffer.old.glyphs }
+    requires kind { is_reordered_in_universal (stretch_of start end buffer.old.glyphs) ≡ true }
+    ensures { SyllableReordered universal_order universal_steps start end buffer.old buffer.new }
 {
-    let behind = s + reph_run(&buffer.glyphs()[s..e]);
-    list_order(buffer, s, behind, e);
-    buffer.merge_clusters(s, behind);
-    merge_fronts(buffer, s, behind, e);
-    buffer.apply(s, e, Placement::Listed);
+    let behind = start + reph_run(&buffer.glyphs()[start..end]);
+    list_order(buffer, start, behind, end);
+    buffer.merge_clusters(start, behind);
+    merge_fronts(buffer, start, behind, end);
+    buffer.apply(start, end, Placement::Listed);
 }
 
-// Merges each glyph from `behind` to `e` that goes to the front with all of its piece before it,
-// where the first piece starts at `s`.
+// Merges each glyph from `behind` to `end` that goes to the front with all of its piece before it,
+// where the first piece starts at `start`.
 #[inline]
-fn merge_fronts(buffer: &mut hb_buffer_t, s: usize, behind: usize, e: usize)
-    requires in_order { s ≤ behind }
-    requires inside { behind ≤ e }
-    requires in_range { e ≤ length buffer.old.glyphs }
-    ensures { let fronts = fronts_from s behind (stretch_of behind e buffer.old.glyphs) in
+fn merge_fronts(buffer: &mut hb_buffer_t, start: usize, behind: usize, end: usize)
+    requires in_order { start ≤ behind }
+    requires inside { behind ≤ end }
+    requires in_range { end ≤ length buffer.old.glyphs }
+    ensures { let fronts = fronts_from start behind (stretch_of behind end buffer.old.glyphs) in
         buffer.new ≡ record buffer.old {
           glyphs = merge_all buffer.old.level fronts buffer.old.glyphs;
         } }
 {
     // where the piece starts, and what has merged but isn't written
-    let mut start = s;
+    let mut front = start;
     let mut run = ClusterRun::NONE;
-    for i in behind..e {
+    for i in behind..end {
         if goes_front(&buffer.glyphs()[i]) {
-            run = buffer.merge_run(run, start, i + 1);
+            run = buffer.merge_run(run, front, i + 1);
         } else if is_halant(&buffer.glyphs()[i]) {
-            start = i + 1;
+            front = i + 1;
         }
     }
     buffer.write_run(run);
 }
 
-// Lists the order of the syllable from `s` to `e`, of which the reph and what it passes end at
-// `behind`.
+// Lists the order of the syllable from `start` to `end`, of which the reph and what it passes end
+// at `behind`.
 #[inline]
-fn list_order(buffer: &mut hb_buffer_t, s: usize, behind: usize, e: usize)
-    requires in_order { s < e }
-    requires in_range { e ≤ length buffer.old.glyphs }
-    requires reph { behind ≡ s + reph_run (stretch_of s e buffer.old.glyphs) }
-    requires inside { behind ≤ e }
-    ensures { let order = syllable_places_in_order s behind e buffer.old.glyphs in
-        buffer.new ≡ record buffer.old { places = with_listed s order buffer.old.places } }
+fn list_order(buffer: &mut hb_buffer_t, start: usize, behind: usize, end: usize)
+    requires in_order { start < end }
+    requires in_range { end ≤ length buffer.old.glyphs }
+    requires reph { behind ≡ start + reph_run (stretch_of start end buffer.old.glyphs) }
+    requires inside { behind ≤ end }
+    ensures { let order = syllable_places_in_order start behind end buffer.old.glyphs in
+        buffer.new ≡ record buffer.old { places = with_listed start order buffer.old.places } }
 {
-    let end = behind + piece_len(&buffer.glyphs()[behind..e]);
-    list_piece(buffer, s, behind, end);
-    list_pieces(buffer, end, e);
+    let next = behind + piece_len(&buffer.glyphs()[behind..end]);
+    list_piece(buffer, start, behind, next);
+    list_pieces(buffer, next, end);
 }
 
-// Lists the order of the pieces from `s` to `e`, where a piece ends with a halant: what stands
-// before a halant that is still seen is drawn apart, and a vowel stands before its own consonants.
+// Lists the order of the pieces from `start` to `end`, where a piece ends with a halant: what
+// stands before a halant that is still seen is drawn apart, and a vowel stands before its own
+// consonants.
 #[inline]
-fn list_pieces(buffer: &mut hb_buffer_t, s: usize, e: usize)
-    requires in_order { s ≤ e }
-    requires in_range { e ≤ length buffer.old.glyphs }
-    ensures { let order = syllable_places_in_order s s e buffer.old.glyphs in
-        buffer.new ≡ record buffer.old { places = with_listed s order buffer.old.places } }
+fn list_pieces(buffer: &mut hb_buffer_t, start: usize, end: usize)
+    requires in_order { start ≤ end }
+    requires in_range { end ≤ length buffer.old.glyphs }
+    ensures { let order = syllable_places_in_order start start end buffer.old.glyphs in
+        buffer.new ≡ record buffer.old { places = with_listed start order buffer.old.places } }
 {
-    let mut start = s;
-    while start < e {
-        let end = start + piece_len(&buffer.glyphs()[start..e]);
-        list_piece(buffer, start, start, end);
-        start = end;
+    let mut front = start;
+    while front < end {
+        let behind = front + piece_len(&buffer.glyphs()[front..end]);
+        list_piece(buffer, front, front, behind);
+        front = behind;
     }
 }
 
-// Lists the order of the piece from `s` to `e`: what goes to the front, last first; the reph and
-// what it passes, which end at `behind`, with the reph last; and the rest.
+// Lists the order of the piece from `start` to `end`: what goes to the front, last first; the reph
+// and what it passes, which end at `behind`, with the reph last; and the rest.
 #[inline]
-fn list_piece(buffer: &mut hb_buffer_t, s: usize, behind: usize, e: usize)
-    requires in_order { s ≤ behind }
-    requires inside { behind ≤ e }
-    requires in_range { e ≤ length buffer.old.glyphs }
-    ensures { let order = piece_places s behind e buffer.old.glyphs in
-        buffer.new ≡ record buffer.old { places = with_listed s order buffer.old.places } }
+fn list_piece(buffer: &mut hb_buffer_t, start: usize, behind: usize, end: usize)
+    requires in_order { start ≤ behind }
+    requires inside { behind ≤ end }
+    requires in_range { end ≤ length buffer.old.glyphs }
+    ensures { let order = piece_places start behind end buffer.old.glyphs in
+        buffer.new ≡ record buffer.old { places = with_listed start order buffer.old.places } }
 {
-    let at = list_fronts(buffer, s, behind, e);
-    let at = list_reph(buffer, s, behind, at);
-    list_rest(buffer, behind, e, at);
+    let at = list_fronts(buffer, start, behind, end);
+    let at = list_reph(buffer, start, behind, at);
+    list_rest(buffer, behind, end, at);
 }
 
-// Lists what goes to the front of those from `behind` to `e`, last first, from place `s` on.
+// Lists what goes to the front of those from `behind` to `end`, last first, from place `start` on.
 // Returns the place behind them.
 #[inline]
-fn list_fronts(buffer: &mut hb_buffer_t, s: usize, behind: usize, e: usize) -> usize
-    requires in_order { s ≤ behind }
-    requires inside { behind ≤ e }
-    requires in_range { e ≤ length buffer.old.glyphs }
-    ensures listed { let places = range_with_len behind (e - behind) in
+fn list_fronts(buffer: &mut hb_buffer_t, start: usize, behind: usize, end: usize) -> usize
+    requires in_order { start ≤ behind }
+    requires inside { behind ≤ end }
+    requires in_range { end ≤ length buffer.old.glyphs }
+    ensures listed { let places = range_with_len behind (end - behind) in
         let fronts = reverse (filter (goes_front_at buffer.old.glyphs) places) in
-        buffer.new ≡ record buffer.old { places = with_listed s fronts buffer.old.places } }
-    ensures behind { let places = range_with_len behind (e - behind) in
+        buffer.new ≡ record buffer.old { places = with_listed start fronts buffer.old.places } }
+    ensures behind { let places = range_with_len behind (end - behind) in
         let fronts = reverse (filter (goes_front_at buffer.old.glyphs) places) in
-        result ≡ s + length fronts }
+        result ≡ start + length fronts }
 {
-    let mut at = s;
-    for i in (behind..e).rev() {
+    let mut at = start;
+    for i in (behind..end).rev() {
         if goes_front(&buffer.glyphs()[i]) {
             buffer.set_place(at, i);
             at += 1;
@@ -292,41 +296,43 @@ fn list_fronts(buffer: &mut hb_buffer_t, s: usize, behind: usize, e: usize) -> u
     at
 }
 
-// Lists the places from `s` to `behind` from place `at` on, the first of them last. Returns the
+// Lists the places from `start` to `behind` from place `at` on, the first of them last. Returns the
 // place behind them.
 #[inline]
-fn list_reph(buffer: &mut hb_buffer_t, s: usize, behind: usize, at: usize) -> usize
-    requires in_order { s ≤ behind }
-    requires in_range { at + (behind - s) ≤ length buffer.old.glyphs }
-    requires fits { at + (behind - s) < 2 ^ 64 }
-    ensures listed { let run = first_last (range_with_len s (behind - s)) in
+fn list_reph(buffer: &mut hb_buffer_t, start: usize, behind: usize, at: usize) -> usize
+    requires in_order { start ≤ behind }
+    requires in_range { at + (behind - start) ≤ length buffer.old.glyphs }
+    requires fits { at + (behind - start) < 2 ^ 64 }
+    ensures listed { let run = first_last (range_with_len start (behind - start)) in
         buffer.new ≡ record buffer.old { places = with_listed at run buffer.old.places } }
-    ensures behind { result ≡ at + (behind - s) }
+    ensures behind { result ≡ at + (behind - start) }
 {
-    if s == behind {
+    if start == behind {
         return at;
     }
     let mut at = at;
-    for i in s + 1..behind {
+    for i in start + 1..behind {
         buffer.set_place(at, i);
         at += 1;
     }
-    buffer.set_place(at, s);
+    buffer.set_place(at, start);
     at + 1
 }
 
-// Lists what doesn't go to the front of those from `s` to `e`, from place `at` on.
+// Lists what doesn't go to the front of those from `start` to `end`, from place `at` on.
 #[inline]
-fn list_rest(buffer: &mut hb_buffer_t, s: usize, e: usize, at: usize)
-    requires in_order { s ≤ e }
-    requires in_range { e ≤ length buffer.old.glyphs }
-    requires room { let rest = filter (stays_at buffer.old.glyphs) (range_with_len s (e - s)) in
-        at + length rest ≤ e }
-    ensures { let rest = filter (stays_at buffer.old.glyphs) (range_with_len s (e - s)) in
+fn list_rest(buffer: &mut hb_buffer_t, start: usize, end: usize, at: usize)
+    requires in_order { start ≤ end }
+    requires in_range { end ≤ length buffer.old.glyphs }
+    requires room { let places = range_with_len start (end - start) in
+        let rest = filter (stays_at buffer.old.glyphs) places in
+        at + length rest ≤ end }
+    ensures { let places = range_with_len start (end - start) in
+        let rest = filter (stays_at buffer.old.glyphs) places in
         buffer.new ≡ record buffer.old { places = with_listed at rest buffer.old.places } }
 {
     let mut at = at;
-    for i in s..e {
+    for i in start..end {
         if !goes_front(&buffer.glyphs()[i]) {
             buffer.set_place(at, i);
             at += 1;

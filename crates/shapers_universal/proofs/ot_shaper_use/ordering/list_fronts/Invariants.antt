@@ -9,11 +9,11 @@ use Rattle.shapers_universal.proofs.ot_shaper_use.ordering.list_fronts.Given as 
 abbrev pub invariant-loop-i : goal.invariant-loop-i
 invariant-loop-i l =
     let t = goes_front_at l.initial.buffer.glyphs in
-    let all = reverse (filter t (range_with_len l.behind (l.e - l.behind))) in
+    let all = reverse (filter t (range_with_len l.behind (l.end - l.behind))) in
     record {
       left : Left (reverse (filter t (range_with_len l.behind (l.i - l.behind)))) l.at
-          (with_listed l.fn.s all l.initial.buffer.places) (l.fn.s + length all) l.initial.buffer l.buffer;
+          (with_listed l.fn.start all l.initial.buffer.places) (l.fn.start + length all) l.initial.buffer l.buffer;
       from : l.behind ≤ l.i;
-      within : l.i ≤ l.e;
-      room : l.at + (l.i - l.behind) ≤ l.e;
+      within : l.i ≤ l.end;
+      room : l.at + (l.i - l.behind) ≤ l.end;
     }

@@ -10,8 +10,8 @@ use Rattle.shapers_universal.proofs.ot_shaper_use.ordering.list_order.Goals as g
 
 pub returns : goal.returns
 returns c =
-    let s = c.args.s in
-    let e = c.args.e in
+    let s = c.args.start in
+    let e = c.args.end in
     let behind = c.args.behind in
     let b0 = c.args.buffer.now in
     let gs = b0.glyphs in

@@ -25,8 +25,8 @@ overflow_add-result = search (arith, reph_counted)
 pub returns-clause-listed : goal.returns-clause-listed
 returns-clause-listed c =
     let l = c.loop-i in
-    let left = left_as _ (c.args.s ∷ []) l.at _ _ c.args.buffer.now l.buffer (search arith) l.invariant.left in
-    (left_ends [] (l.at + 1) _ _ c.args.buffer.now c.set_place-2.new.self refl (left_one c.args.s
+    let left = left_as _ (c.args.start ∷ []) l.at _ _ c.args.buffer.now l.buffer (search arith) l.invariant.left in
+    (left_ends [] (l.at + 1) _ _ c.args.buffer.now c.set_place-2.new.self refl (left_one c.args.start
     [] l.at _ _ c.args.buffer.now l.buffer c.set_place-2.new.self left c.set_place-2.ensures)).0
 
 pub returns-clause-behind : goal.returns-clause-behind

@@ -8,10 +8,10 @@ use Rattle.shapers_universal.proofs.ot_shaper_use.ordering.list_reph.Given as go
 
 abbrev pub invariant-loop-i : goal.invariant-loop-i
 invariant-loop-i l =
-    let all = first_last (range_with_len l.s (l.behind - l.s)) in
+    let all = first_last (range_with_len l.start (l.behind - l.start)) in
     record {
-      left : Left (range_with_len l.i (l.behind - l.i) ++ l.s ∷ []) l.at
+      left : Left (range_with_len l.i (l.behind - l.i) ++ l.start ∷ []) l.at
           (with_listed l.fn.at all l.initial.buffer.places) (l.fn.at + length all) l.initial.buffer l.buffer;
-      from : suc l.s ≤ l.i;
+      from : suc l.start ≤ l.i;
       within : l.i ≤ l.behind;
     }

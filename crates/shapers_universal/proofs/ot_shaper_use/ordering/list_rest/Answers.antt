@@ -15,7 +15,7 @@ set_place-requires c =
     let stays : t l.i ≡ true = ap not (goes_front_is gs l.i ∙ sym
     (ap (λ xs. goes_front (at xs l.i)) (c.glyphs.ensures ∙ same_when_placed c.args.buffer.now l.buffer
     l.invariant.others)) ∙ sym c.goes_front.ensures ∙ c.if-not-goes_front.true) in
-    let rest = filter t (range_with_len (l.i + 1) (c.args.e - (l.i + 1))) in
+    let rest = filter t (range_with_len (l.i + 1) (c.args.end - (l.i + 1))) in
     search arith
 
 pub loop-i-preserved : goal.loop-i-preserved

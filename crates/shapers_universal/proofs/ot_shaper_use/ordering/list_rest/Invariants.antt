@@ -8,6 +8,6 @@ use Rattle.shapers_universal.proofs.ot_shaper_use.ordering.list_rest.Given as go
 
 abbrev pub invariant-loop-i : goal.invariant-loop-i
 invariant-loop-i l =
-    let all = filter (stays_at l.initial.buffer.glyphs) (range_with_len l.s (l.e - l.s)) in
-    Left (filter (stays_at l.initial.buffer.glyphs) (range_with_len l.i (l.e - l.i))) l.at
+    let all = filter (stays_at l.initial.buffer.glyphs) (range_with_len l.start (l.end - l.start)) in
+    Left (filter (stays_at l.initial.buffer.glyphs) (range_with_len l.i (l.end - l.i))) l.at
     (with_listed l.fn.at all l.initial.buffer.places) (l.fn.at + length all) l.initial.buffer l.buffer

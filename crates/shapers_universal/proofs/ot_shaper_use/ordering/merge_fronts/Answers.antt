@@ -12,27 +12,27 @@ loop-i-init = search arith
 pub loop-i-preserved : goal.loop-i-preserved
 loop-i-preserved c =
     let l = c.loop-i in
-    let s = c.args.s in
+    let s = c.args.start in
     let behind = c.args.behind in
-    let e = c.args.e in
+    let e = c.args.end in
     let b0 = c.args.buffer.now in
     let b1 = c.if-goes_front.buffer in
     elim c.if-goes_front.branch [
       | then-goes_front w ↦
-          rw (w.start-is, w.run-is, w.buffer-is)
-          (merging_front s behind e l.start l.i l.run w.merge_run-run.result b0 l.buffer w.merge_run-run.new.self
+          rw (w.front-is, w.run-is, w.buffer-is)
+          (merging_front s behind e l.front l.i l.run w.merge_run-run.result b0 l.buffer w.merge_run-run.new.self
           c.loop-i-test.true c.requires.in_range l.invariant
           (ap (λ xs. goes_front (at xs l.i)) (sym c.glyphs.ensures) ∙ sym c.goes_front.ensures
           ∙ w.if-goes_front.true) w.merge_run-run.ensures.others w.merge_run-run.ensures.merged
           w.merge_run-run.ensures.fits w.merge_run-run.ensures.same_length)
       | else-goes_front+then-is_halant w ↦
-          rw (w.start-is, w.run-is) (merging_halant s behind e l.start l.i l.run b0 l.buffer b1 c.loop-i-test.true
+          rw (w.front-is, w.run-is) (merging_halant s behind e l.front l.i l.run b0 l.buffer b1 c.loop-i-test.true
           c.requires.in_range l.invariant (ap (λ xs. goes_front (at xs l.i)) (sym c.glyphs.ensures)
           ∙ sym c.goes_front.ensures ∙ w.if-goes_front.false)
           (ap (λ xs. is_universal_halant (at xs l.i)) (sym w.glyphs-else-goes_front.ensures)
           ∙ sym w.is_halant.ensures ∙ w.if-is_halant.true) w.buffer-is)
       | else-goes_front+else-is_halant w ↦
-          rw (w.start-is, w.run-is) (merging_rest s behind e l.start l.i l.run b0 l.buffer b1 c.loop-i-test.true
+          rw (w.front-is, w.run-is) (merging_rest s behind e l.front l.i l.run b0 l.buffer b1 c.loop-i-test.true
           c.requires.in_range l.invariant (ap (λ xs. goes_front (at xs l.i)) (sym c.glyphs.ensures)
           ∙ sym c.goes_front.ensures ∙ w.if-goes_front.false)
           (ap (λ xs. is_universal_halant (at xs l.i)) (sym w.glyphs-else-goes_front.ensures)

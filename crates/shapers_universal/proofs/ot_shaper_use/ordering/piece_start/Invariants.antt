@@ -6,7 +6,7 @@ use Rattle.shapers_universal.proofs.ot_shaper_use.ordering.piece_start.Given as 
 
 abbrev pub invariant-loop-end : goal.invariant-loop-end
 invariant-loop-end l = record {
-  so : start_from l.s l.s (stretch_of l.s l.i l.glyphs) ≡ start_from l.s l.s (stretch_of l.s (l.end - 1) l.glyphs);
-  from : l.s + 1 ≤ l.end;
-  within : l.end ≤ l.i + 1;
+  so : start_from l.start l.start (stretch_of l.start l.index l.glyphs) ≡ start_from l.start l.start (stretch_of l.start (l.end - 1) l.glyphs);
+  from : l.start + 1 ≤ l.end;
+  within : l.end ≤ l.index + 1;
 }

@@ -8,8 +8,8 @@ use Rattle.shapers_universal.proofs.ot_shaper_use.ordering.reorder_syllable.Goal
 
 pub apply-requires-clause-in_range : goal.apply-requires-clause-in_range
 apply-requires-clause-in_range c =
-    let s = c.args.s in
-    let e = c.args.e in
+    let s = c.args.start in
+    let e = c.args.end in
     let behind = s + c.reph_run.result in
     let parts : Parts s e behind c.args.buffer.now c.list_order.new.buffer c.merge_clusters.new.self
     c.merge_fronts.new.buffer =
@@ -26,8 +26,8 @@ apply-requires-clause-in_range c =
 
 pub apply-requires-clause-permutes : goal.apply-requires-clause-permutes
 apply-requires-clause-permutes c =
-    let s = c.args.s in
-    let parts : Parts s c.args.e
+    let s = c.args.start in
+    let parts : Parts s c.args.end
     (s + c.reph_run.result) c.args.buffer.now c.list_order.new.buffer c.merge_clusters.new.self
     c.merge_fronts.new.buffer =
     record {
@@ -41,8 +41,8 @@ apply-requires-clause-permutes c =
 
 pub returns : goal.returns
 returns c =
-    let s = c.args.s in
-    let e = c.args.e in
+    let s = c.args.start in
+    let e = c.args.end in
     let behind = s + c.reph_run.result in
     let parts : Parts s e behind c.args.buffer.now c.list_order.new.buffer c.merge_clusters.new.self
     c.merge_fronts.new.buffer =

@@ -86,11 +86,11 @@ impl FormMasks {
         }
     }
 
-    // Gives the syllable from `s` to `e` the mask of its form.
+    // Gives the syllable from `start` to `end` the mask of its form.
     #[inline]
-    fn set_at(self, glyphs: &mut [GlyphInfo], s: usize, e: usize, before: bool) {
-        let behind = joins_runs(&glyphs[e..]);
-        self.set(&mut glyphs[s..e], before, behind);
+    fn set_at(self, glyphs: &mut [GlyphInfo], start: usize, end: usize, before: bool) {
+        let behind = joins_runs(&glyphs[end..]);
+        self.set(&mut glyphs[start..end], before, behind);
     }
 
     // Whether a break between two syllables of a run would change the mask of one, by whether one
@@ -107,16 +107,17 @@ impl FormMasks {
         joins_runs(syllable) && joins_runs(rest) && self.is_torn(before, behind)
     }
 
-    // Flags the syllable from `s` to `e` and the next one, where a break between them would do so.
+    // Flags the syllable from `start` to `end` and the next one, where a break between them would
+    // do so.
     #[inline]
-    fn flag_pair(self, glyphs: &mut [GlyphInfo], s: usize, e: usize, before: bool) {
-        if e == glyphs.len() {
+    fn flag_pair(self, glyphs: &mut [GlyphInfo], start: usize, end: usize, before: bool) {
+        if end == glyphs.len() {
             return;
         }
-        let end = e + first_syllable_len(&glyphs[e..]);
-        let behind = joins_runs(&glyphs[end..]);
-        if self.tears(&glyphs[s..e], &glyphs[e..], before, behind) {
-            unsafe_to_break_in(glyphs, s, end);
+        let next = end + first_syllable_len(&glyphs[end..]);
+        let behind = joins_runs(&glyphs[next..]);
+        if self.tears(&glyphs[start..end], &glyphs[end..], before, behind) {
+            unsafe_to_break_in(glyphs, start, next);
         }
     }
 

@@ -41,52 +41,52 @@ impl Reorder for UniversalOrder {
 
 impl ReorderBySteps for UniversalOrder {}
 
-// Reorders the syllable from `s` to `e`, in which no reph stands in front.
+// Reorders the syllable from `start` to `end`, in which no reph stands in front.
 #[inline]
-fn reorder_fronts(buffer: &mut Buffer, s: usize, e: usize) {
-    if let Some((start, behind)) = first_front(buffer.glyphs(), s, e) {
-        if some_go_front(&buffer.glyphs()[behind..e]) {
-            reorder_syllable(buffer, s, e);
+fn reorder_fronts(buffer: &mut Buffer, start: usize, end: usize) {
+    if let Some((front, behind)) = first_front(buffer.glyphs(), start, end) {
+        if some_go_front(&buffer.glyphs()[behind..end]) {
+            reorder_syllable(buffer, start, end);
         } else {
-            move_to_front(buffer, s, e, start, behind);
+            move_to_front(buffer, start, end, front, behind);
         }
     }
 }
 
-// The first glyph from `s` to `e` that goes to the front: where its piece starts, and the place
-// behind it.
+// The first glyph from `start` to `end` that goes to the front: where its piece starts, and the
+// place behind it.
 #[inline]
-fn first_front(glyphs: &[GlyphInfo], s: usize, e: usize) -> Option<(usize, usize)> {
-    for i in s..e {
+fn first_front(glyphs: &[GlyphInfo], start: usize, end: usize) -> Option<(usize, usize)> {
+    for i in start..end {
         if goes_front(&glyphs[i]) {
-            return Some((piece_start(glyphs, s, i), i + 1));
+            return Some((piece_start(glyphs, start, i), i + 1));
         }
     }
     None
 }
 
-// Where the piece starts in which place `i` of a syllable from `s` on stands.
+// Where the piece starts in which place `index` of a syllable from `start` on stands.
 #[inline]
-fn piece_start(glyphs: &[GlyphInfo], s: usize, i: usize) -> usize {
-    for end in (s + 1..i + 1).rev() {
+fn piece_start(glyphs: &[GlyphInfo], start: usize, index: usize) -> usize {
+    for end in (start + 1..index + 1).rev() {
         if is_halant(&glyphs[end - 1]) {
             return end;
         }
     }
-    s
+    start
 }
 
-// Merges the glyphs from `start` to `end`, of the syllable from `s` to `e`, and moves the last of
-// them to their front.
+// Merges the glyphs from `front` to `behind`, of the syllable from `start` to `end`, and moves the
+// last of them to their front.
 #[inline]
-fn move_to_front(buffer: &mut Buffer, s: usize, e: usize, start: usize, end: usize) {
-    buffer.merge_clusters(start, end);
+fn move_to_front(buffer: &mut Buffer, start: usize, end: usize, front: usize, behind: usize) {
+    buffer.merge_clusters(front, behind);
     let to_front = Placement::Forward {
-        to: start,
-        from: end - 1,
+        to: front,
+        from: behind - 1,
         count: 1,
     };
-    buffer.apply(s, e, to_front);
+    buffer.apply(start, end, to_front);
 }
 
 // Whether some glyph goes to the front of its piece.
@@ -104,69 +104,70 @@ fn has_reph(syllable: &[GlyphInfo]) -> bool {
     }
 }
 
-// Reorders the syllable from `s` to `e`.
+// Reorders the syllable from `start` to `end`.
 #[inline]
-fn reorder_syllable(buffer: &mut Buffer, s: usize, e: usize) {
-    let behind = s + reph_run(&buffer.glyphs()[s..e]);
-    list_order(buffer, s, behind, e);
-    buffer.merge_clusters(s, behind);
-    merge_fronts(buffer, s, behind, e);
-    buffer.apply(s, e, Placement::Listed);
+fn reorder_syllable(buffer: &mut Buffer, start: usize, end: usize) {
+    let behind = start + reph_run(&buffer.glyphs()[start..end]);
+    list_order(buffer, start, behind, end);
+    buffer.merge_clusters(start, behind);
+    merge_fronts(buffer, start, behind, end);
+    buffer.apply(start, end, Placement::Listed);
 }
 
-// Merges each glyph from `behind` to `e` that goes to the front with all of its piece before it,
-// where the first piece starts at `s`.
+// Merges each glyph from `behind` to `end` that goes to the front with all of its piece before it,
+// where the first piece starts at `start`.
 #[inline]
-fn merge_fronts(buffer: &mut Buffer, s: usize, behind: usize, e: usize) {
+fn merge_fronts(buffer: &mut Buffer, start: usize, behind: usize, end: usize) {
     // where the piece starts, and what has merged but isn't written
-    let mut start = s;
+    let mut front = start;
     let mut run = ClusterRun::NONE;
-    for i in behind..e {
+    for i in behind..end {
         if goes_front(&buffer.glyphs()[i]) {
-            run = buffer.merge_run(run, start, i + 1);
+            run = buffer.merge_run(run, front, i + 1);
         } else if is_halant(&buffer.glyphs()[i]) {
-            start = i + 1;
+            front = i + 1;
         }
     }
     buffer.write_run(run);
 }
 
-// Lists the order of the syllable from `s` to `e`, of which the reph and what it passes end at
-// `behind`.
+// Lists the order of the syllable from `start` to `end`, of which the reph and what it passes end
+// at `behind`.
 #[inline]
-fn list_order(buffer: &mut Buffer, s: usize, behind: usize, e: usize) {
-    let end = behind + piece_len(&buffer.glyphs()[behind..e]);
-    list_piece(buffer, s, behind, end);
-    list_pieces(buffer, end, e);
+fn list_order(buffer: &mut Buffer, start: usize, behind: usize, end: usize) {
+    let next = behind + piece_len(&buffer.glyphs()[behind..end]);
+    list_piece(buffer, start, behind, next);
+    list_pieces(buffer, next, end);
 }
 
-// Lists the order of the pieces from `s` to `e`, where a piece ends with a halant: what stands
-// before a halant that is still seen is drawn apart, and a vowel stands before its own consonants.
+// Lists the order of the pieces from `start` to `end`, where a piece ends with a halant: what
+// stands before a halant that is still seen is drawn apart, and a vowel stands before its own
+// consonants.
 #[inline]
-fn list_pieces(buffer: &mut Buffer, s: usize, e: usize) {
-    let mut start = s;
-    while start < e {
-        let end = start + piece_len(&buffer.glyphs()[start..e]);
-        list_piece(buffer, start, start, end);
-        start = end;
+fn list_pieces(buffer: &mut Buffer, start: usize, end: usize) {
+    let mut front = start;
+    while front < end {
+        let behind = front + piece_len(&buffer.glyphs()[front..end]);
+        list_piece(buffer, front, front, behind);
+        front = behind;
     }
 }
 
-// Lists the order of the piece from `s` to `e`: what goes to the front, last first; the reph and
-// what it passes, which end at `behind`, with the reph last; and the rest.
+// Lists the order of the piece from `start` to `end`: what goes to the front, last first; the reph
+// and what it passes, which end at `behind`, with the reph last; and the rest.
 #[inline]
-fn list_piece(buffer: &mut Buffer, s: usize, behind: usize, e: usize) {
-    let at = list_fronts(buffer, s, behind, e);
-    let at = list_reph(buffer, s, behind, at);
-    list_rest(buffer, behind, e, at);
+fn list_piece(buffer: &mut Buffer, start: usize, behind: usize, end: usize) {
+    let at = list_fronts(buffer, start, behind, end);
+    let at = list_reph(buffer, start, behind, at);
+    list_rest(buffer, behind, end, at);
 }
 
-// Lists what goes to the front of those from `behind` to `e`, last first, from place `s` on.
+// Lists what goes to the front of those from `behind` to `end`, last first, from place `start` on.
 // Returns the place behind them.
 #[inline]
-fn list_fronts(buffer: &mut Buffer, s: usize, behind: usize, e: usize) -> usize {
-    let mut at = s;
-    for i in (behind..e).rev() {
+fn list_fronts(buffer: &mut Buffer, start: usize, behind: usize, end: usize) -> usize {
+    let mut at = start;
+    for i in (behind..end).rev() {
         if goes_front(&buffer.glyphs()[i]) {
             buffer.set_place(at, i);
             at += 1;
@@ -175,27 +176,27 @@ fn list_fronts(buffer: &mut Buffer, s: usize, behind: usize, e: usize) -> usize 
     at
 }
 
-// Lists the places from `s` to `behind` from place `at` on, the first of them last. Returns the
+// Lists the places from `start` to `behind` from place `at` on, the first of them last. Returns the
 // place behind them.
 #[inline]
-fn list_reph(buffer: &mut Buffer, s: usize, behind: usize, at: usize) -> usize {
-    if s == behind {
+fn list_reph(buffer: &mut Buffer, start: usize, behind: usize, at: usize) -> usize {
+    if start == behind {
         return at;
     }
     let mut at = at;
-    for i in s + 1..behind {
+    for i in start + 1..behind {
         buffer.set_place(at, i);
         at += 1;
     }
-    buffer.set_place(at, s);
+    buffer.set_place(at, start);
     at + 1
 }
 
-// Lists what doesn't go to the front of those from `s` to `e`, from place `at` on.
+// Lists what doesn't go to the front of those from `start` to `end`, from place `at` on.
 #[inline]
-fn list_rest(buffer: &mut Buffer, s: usize, e: usize, at: usize) {
+fn list_rest(buffer: &mut Buffer, start: usize, end: usize, at: usize) {
     let mut at = at;
-    for i in s..e {
+    for i in start..end {
         if !goes_front(&buffer.glyphs()[i]) {
             buffer.set_place(at, i);
             at += 1;
