@@ -183,25 +183,26 @@ fn set_eyelash_bits(bits: u32, base: usize, glyphs: &mut [hb_glyph_info_t])
     }
 }
 
-// Whether the glyph at `i` belongs to an eyelash Ra.
+// Whether the glyph at `index` belongs to an eyelash Ra.
 #[inline]
-fn is_in_eyelash(base: usize, glyphs: &[hb_glyph_info_t], i: usize) -> bool
-    requires { i < length glyphs.now }
-    ensures { result ≡ is_in_eyelash base glyphs.now i }
+fn is_in_eyelash(base: usize, glyphs: &[hb_glyph_info_t], index: usize) -> bool
+    requires { index < length glyphs.now }
+    ensures { result ≡ is_in_eyelash base glyphs.now index }
 {
-    opens_eyelash(base, glyphs, i) || (0 < i && opens_eyelash(base, glyphs, i - 1))
+    opens_eyelash(base, glyphs, index) || (0 < index && opens_eyelash(base, glyphs, index - 1))
 }
 
-// Whether an eyelash Ra stands at `i`: Ra and H before the base, and no ZWJ behind them before it.
+// Whether an eyelash Ra stands at `index`: Ra and H before the base, and no ZWJ behind them before
+// it.
 #[inline]
-fn opens_eyelash(base: usize, glyphs: &[hb_glyph_info_t], i: usize) -> bool
-    requires { i < length glyphs.now }
-    ensures { result ≡ opens_eyelash base glyphs.now i }
+fn opens_eyelash(base: usize, glyphs: &[hb_glyph_info_t], index: usize) -> bool
+    requires { index < length glyphs.now }
+    ensures { result ≡ opens_eyelash base glyphs.now index }
 {
-    i + 1 < base
-        && is_of_category(glyphs, i, OT_Ra)
-        && is_of_category(glyphs, i + 1, OT_H)
-        && !(i + 2 < base && is_of_category(glyphs, i + 2, OT_ZWJ))
+    index + 1 < base
+        && is_of_category(glyphs, index, OT_Ra)
+        && is_of_category(glyphs, index + 1, OT_H)
+        && !(index + 2 < base && is_of_category(glyphs, index + 2, OT_ZWJ))
 }
 
 // Gives the first two neighbours after the base that pref would substitute its mask: the H and Ra of

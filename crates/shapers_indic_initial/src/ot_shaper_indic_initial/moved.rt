@@ -72,20 +72,20 @@ impl MovedSyllable {
         buffer.apply_all(self.start, self.end, &self.moves_then(third));
     }
 
-    /// The glyph at place `i` of the text so moved.
+    /// The glyph at `index` of the text so moved.
     #[inline]
-    pub(super) fn glyph(&self, buffer: &hb_buffer_t, i: usize) -> hb_glyph_info_t
+    pub(super) fn glyph(&self, buffer: &hb_buffer_t, index: usize) -> hb_glyph_info_t
         requires unlisted { MovesUnlisted self.now }
         requires in_order { self.now.start ≤ self.now.end }
         requires in_range { self.now.end ≤ length buffer.now.glyphs }
-        requires inside { i < length buffer.now.glyphs }
+        requires inside { index < length buffer.now.glyphs }
         ensures { let gs = as_moved self.now buffer.now.glyphs in
-            result ≡ slice_index_or gs i result }
+            result ≡ slice_index_or gs index result }
     {
         let moves = self.moves_then(Placement::Stays);
         if moves.moves_nothing() {
-            return buffer.get(i);
+            return buffer.get(index);
         }
-        buffer.arranged(&moves, self.start, self.end).get(i)
+        buffer.arranged(&moves, self.start, self.end).get(index)
     }
 }

@@ -33,16 +33,16 @@ pub(super) fn set_positions_by_base(glyphs: &mut [hb_glyph_info_t], base: Base)
     }
 }
 
-// The position of the glyph at place `i`, where it has this one so far.
+// The position of the glyph at `index`, where it has this one so far.
 #[inline]
-fn position_by_base(base: Base, i: usize, position: u8) -> u8
-    ensures { result ≡ position_by_base base.place base.has_reph i position }
+fn position_by_base(base: Base, index: usize, position: u8) -> u8
+    ensures { result ≡ position_by_base base.place base.has_reph index position }
 {
-    if base.has_reph && i == 0 {
+    if base.has_reph && index == 0 {
         POS_RA_TO_BECOME_REPH
-    } else if i < base.place {
+    } else if index < base.place {
         position.min(POS_PRE_C)
-    } else if i == base.place {
+    } else if index == base.place {
         POS_BASE_C
     } else {
         position
@@ -68,17 +68,17 @@ pub(super) fn attach_marks(glyphs: &mut [hb_glyph_info_t])
     }
 }
 
-// The position of the glyph at place `i` behind a carrier of this position: that of its carrier, if
+// The position of the glyph at `index` behind a carrier of this position: that of its carrier, if
 // it is attached, and that of the matra directly behind it, if it is a sign that goes with it. And
 // the position of the nearest carrier before what follows the glyph.
 #[inline]
-fn drawn_position(glyphs: &[hb_glyph_info_t], i: usize, carrier: u8) -> (u8, u8)
-    requires { i < length glyphs.now }
-    ensures position { let g = get_or glyphs.now i default_glyph in
-        result.0 ≡ drawn_position carrier g (drop (i + 1) glyphs.now) }
-    ensures carrier { result.1 ≡ next_carrier carrier (get_or glyphs.now i default_glyph) }
+fn drawn_position(glyphs: &[hb_glyph_info_t], index: usize, carrier: u8) -> (u8, u8)
+    requires { index < length glyphs.now }
+    ensures position { let g = get_or glyphs.now index default_glyph in
+        result.0 ≡ drawn_position carrier g (drop (index + 1) glyphs.now) }
+    ensures carrier { result.1 ≡ next_carrier carrier (get_or glyphs.now index default_glyph) }
 {
-    let glyph = &glyphs[i];
+    let glyph = &glyphs[index];
     if is_attached(glyph) {
         return (carrier, carrier);
     }
@@ -88,8 +88,8 @@ fn drawn_position(glyphs: &[hb_glyph_info_t], i: usize, carrier: u8) -> (u8, u8)
     } else {
         position
     };
-    if i + 1 < glyphs.len() && draws_sign(glyph, &glyphs[i + 1]) {
-        return (glyphs[i + 1].auxiliary, carrier);
+    if index + 1 < glyphs.len() && draws_sign(glyph, &glyphs[index + 1]) {
+        return (glyphs[index + 1].auxiliary, carrier);
     }
     (position, carrier)
 }

@@ -51,13 +51,13 @@ impl MovedSyllable {
         buffer.apply_all(self.start, self.end, &self.moves_then(third));
     }
 
-    /// The glyph at place `i` of the text so moved.
+    /// The glyph at `index` of the text so moved.
     #[inline]
-    pub(super) fn glyph(&self, buffer: &Buffer, i: usize) -> GlyphInfo {
+    pub(super) fn glyph(&self, buffer: &Buffer, index: usize) -> GlyphInfo {
         let moves = self.moves_then(Placement::Stays);
         if moves.moves_nothing() {
-            return buffer.get(i);
+            return buffer.get(index);
         }
-        buffer.arranged(&moves, self.start, self.end).get(i)
+        buffer.arranged(&moves, self.start, self.end).get(index)
     }
 }

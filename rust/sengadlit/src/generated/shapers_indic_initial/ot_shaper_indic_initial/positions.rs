@@ -28,14 +28,14 @@ pub(super) fn set_positions_by_base(glyphs: &mut [GlyphInfo], base: Base) {
     }
 }
 
-// The position of the glyph at place `i`, where it has this one so far.
+// The position of the glyph at `index`, where it has this one so far.
 #[inline]
-fn position_by_base(base: Base, i: usize, position: u8) -> u8 {
-    if base.has_reph && i == 0 {
+fn position_by_base(base: Base, index: usize, position: u8) -> u8 {
+    if base.has_reph && index == 0 {
         POS_RA_TO_BECOME_REPH
-    } else if i < base.place {
+    } else if index < base.place {
         position.min(POS_PRE_C)
-    } else if i == base.place {
+    } else if index == base.place {
         POS_BASE_C
     } else {
         position
@@ -59,12 +59,12 @@ pub(super) fn attach_marks(glyphs: &mut [GlyphInfo]) {
     }
 }
 
-// The position of the glyph at place `i` behind a carrier of this position: that of its carrier, if
+// The position of the glyph at `index` behind a carrier of this position: that of its carrier, if
 // it is attached, and that of the matra directly behind it, if it is a sign that goes with it. And
 // the position of the nearest carrier before what follows the glyph.
 #[inline]
-fn drawn_position(glyphs: &[GlyphInfo], i: usize, carrier: u8) -> (u8, u8) {
-    let glyph = &glyphs[i];
+fn drawn_position(glyphs: &[GlyphInfo], index: usize, carrier: u8) -> (u8, u8) {
+    let glyph = &glyphs[index];
     if is_attached(glyph) {
         return (carrier, carrier);
     }
@@ -74,8 +74,8 @@ fn drawn_position(glyphs: &[GlyphInfo], i: usize, carrier: u8) -> (u8, u8) {
     } else {
         position
     };
-    if i + 1 < glyphs.len() && draws_sign(glyph, &glyphs[i + 1]) {
-        return (glyphs[i + 1].auxiliary, carrier);
+    if index + 1 < glyphs.len() && draws_sign(glyph, &glyphs[index + 1]) {
+        return (glyphs[index + 1].auxiliary, carrier);
     }
     (position, carrier)
 }

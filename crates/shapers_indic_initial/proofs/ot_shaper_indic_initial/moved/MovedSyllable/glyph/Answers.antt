@@ -26,7 +26,7 @@ returns-then-moves_nothing c =
     nothing_moved (moves_then m Stays) m.start m.end [] gs
     (moved_fits m Stays (length gs) [] c.requires.unlisted c.requires.in_order c.requires.in_range
     (stays_each m.start m.end [])) test in
-    c.get.ensures ∙ ap (λ (hs : Glyphs). get_or hs c.args.i c.get.result) (sym same)
+    c.get.ensures ∙ ap (λ (hs : Glyphs). get_or hs c.args.index c.get.result) (sym same)
 
 pub returns : goal.returns
 returns c =
@@ -38,5 +38,5 @@ returns c =
     c.arranged.ensures.text
     ∙ ap (λ ps. placed_by_all ps m.start m.end b.places b.glyphs) c.moves_then-moves.ensures
     ∙ moved_alone m b.places b.glyphs c.requires.unlisted c.requires.in_order c.requires.in_range in
-    c.get-2.ensures ∙ ap (λ (hs : Glyphs). get_or hs c.args.i default_glyph) text
-    ∙ get_or-default gs c.args.i default_glyph c.get-2.result (omega (arith, n, c.requires.inside))
+    c.get-2.ensures ∙ ap (λ (hs : Glyphs). get_or hs c.args.index default_glyph) text
+    ∙ get_or-default gs c.args.index default_glyph c.get-2.result (omega (arith, n, c.requires.inside))
