@@ -129,12 +129,12 @@ fn set_pref_base(pref: u32, base: usize, glyphs: &mut [hb_glyph_info_t]) -> Opti
 
 // The first glyph from a place on that is no halant, else the end.
 #[inline]
-fn behind_halants(glyphs: &[hb_glyph_info_t], i: usize) -> usize
-    requires { i ≤ length glyphs.now }
-    ensures place { result ≡ behind_halants glyphs.now i }
+fn behind_halants(glyphs: &[hb_glyph_info_t], start: usize) -> usize
+    requires { start ≤ length glyphs.now }
+    ensures place { result ≡ behind_halants glyphs.now start }
     ensures within { result ≤ length glyphs.now }
 {
-    i + halants_len(&glyphs[i..])
+    start + halants_len(&glyphs[start..])
 }
 
 // How many halants stand in front.
@@ -148,12 +148,12 @@ fn halants_len(glyphs: &[hb_glyph_info_t]) -> usize
 
 // Gives the glyph of a place, if there is one, the base's position.
 #[inline]
-fn set_base_at(i: usize, glyphs: &mut [hb_glyph_info_t])
-    ensures glyphs { glyphs.new ≡ with_base_at i glyphs.old }
+fn set_base_at(index: usize, glyphs: &mut [hb_glyph_info_t])
+    ensures glyphs { glyphs.new ≡ with_base_at index glyphs.old }
     ensures same_length { length glyphs.new ≡ length glyphs.old }
 {
-    if i < glyphs.len() {
-        glyphs[i].auxiliary = POS_BASE_C;
+    if index < glyphs.len() {
+        glyphs[index].auxiliary = POS_BASE_C;
     }
 }
 
@@ -272,16 +272,16 @@ fn set_along_links(base: usize, glyphs: &mut [hb_glyph_info_t]) -> usize
     last
 }
 
-// Gives the last glyph of a link, of place `i`, the base's position, if its below-base form was not
+// Gives the last glyph of a link, at `index`, the base's position, if its below-base form was not
 // made. Returns the base then, which was `last` before.
 #[inline]
-fn set_link(glyph: &mut hb_glyph_info_t, i: usize, last: usize) -> usize
+fn set_link(glyph: &mut hb_glyph_info_t, index: usize, last: usize) -> usize
     ensures glyph { glyph.new ≡ as_linked glyph.old }
-    ensures base { result ≡ (if is_unformed_below glyph.old then i else last) }
+    ensures base { result ≡ (if is_unformed_below glyph.old then index else last) }
 {
     if is_unformed_below(glyph) {
         glyph.auxiliary = POS_BASE_C;
-        i
+        index
     } else {
         last
     }

@@ -35,54 +35,55 @@ struct Runs {
     cluster: u32,
 }
 
-// Moves the left matras before place `p` of the syllable from `s` to `e` there, the last one first,
-// and merges each with all up to place `b`.
+// Moves the left matras before place `target` of the syllable from `start` to `end` there, the last
+// one first, and merges each with all up to place `base_end`.
 #[inline]
 pub(super) fn part_matras(
-    p: usize,
-    b: usize,
+    target: usize,
+    base_end: usize,
     others: bool,
     buffer: &mut hb_buffer_t,
-    s: usize,
-    e: usize,
+    start: usize,
+    end: usize,
 ) -> Placements
-    requires in_range { e ≤ length buffer.old.glyphs }
-    requires before { p < b }
-    requires base_in_order { s + b ≤ e }
-    ensures glyphs { let new = arranged result s e buffer.new in
-        let steps = parting_steps p b (stretch_of s e buffer.old.glyphs) in
-        let wide = map (widened s e (length buffer.old.glyphs)) steps in
+    requires in_range { end ≤ length buffer.old.glyphs }
+    requires before { target < base_end }
+    requires base_in_order { start + base_end ≤ end }
+    ensures glyphs { let new = arranged result start end buffer.new in
+        let steps = parting_steps target base_end (stretch_of start end buffer.old.glyphs) in
+        let wide = map (widened start end (length buffer.old.glyphs)) steps in
         new ≡ record buffer.old {
           glyphs = run_steps buffer.old.level wide buffer.old.glyphs;
           places = new.places;
         } }
-    ensures fits { MayArrange result s e (length buffer.new.glyphs) buffer.new.places }
+    ensures fits { MayArrange result start end (length buffer.new.glyphs) buffer.new.places }
     ensures second { result.second ≡ Stays }
     ensures third { result.third ≡ Stays }
     ensures same_length { length buffer.new.glyphs ≡ length buffer.old.glyphs }
 {
-    for i in (0..p).rev() {
-        if is_left(&buffer.glyphs()[s..e][i]) {
-            if !others && moves_alone(i, buffer.glyphs(), s) {
-                write_matra(buffer, s, e, b, i, p);
+    for i in (0..target).rev() {
+        if is_left(&buffer.glyphs()[start..end][i]) {
+            if !others && moves_alone(i, buffer.glyphs(), start) {
+                write_matra(buffer, start, end, base_end, i, target);
                 return Placements::STAY;
             }
-            let moves = move_matra(buffer, s, e, b, i, p);
-            return part_further(i, p, b, moves, buffer, s, e);
+            let moves = move_matra(buffer, start, end, base_end, i, target);
+            return part_further(i, target, base_end, moves, buffer, start, end);
         }
     }
     Placements::STAY
 }
 
-// Whether the left matra of place `i` of the syllable from `s` on moves alone: none stands before it,
-// and what opens the syllable behind it is no reph that moves.
+// Whether the left matra of place `matra` of the syllable from `start` on moves alone: none stands
+// before it, and what opens the syllable behind it is no reph that moves.
 #[inline]
-fn moves_alone(i: usize, glyphs: &[hb_glyph_info_t], s: usize) -> bool
-    requires { s + i + 1 < length glyphs.now }
-    ensures { result ≡ true → list_any is_left (stretch_of s (s + i) glyphs.now) ≡ false }
+fn moves_alone(matra: usize, glyphs: &[hb_glyph_info_t], start: usize) -> bool
+    requires { start + matra + 1 < length glyphs.now }
+    ensures { let before = stretch_of start (start + matra) glyphs.now in
+        result ≡ true → list_any is_left before ≡ false }
 {
-    let first = if i == 0 { s + 1 } else { s };
-    !any_left(&glyphs[s..s + i]) && !is_moving_reph(&glyphs[first])
+    let first = if matra == 0 { start + 1 } else { start };
+    !any_left(&glyphs[start..start + matra]) && !is_moving_reph(&glyphs[first])
 }
 
 // Whether some glyph is a left matra.
@@ -93,65 +94,71 @@ fn any_left(glyphs: &[hb_glyph_info_t]) -> bool
     glyphs.iter().any(is_left)
 }
 
-// Moves the left matras before place `top` of the syllable from `s` to `e` on to the places before
-// `p`, where one stands that has moved there from `top` and merged with all up to place `b`, and
-// merges each.
+// Moves the left matras before place `top` of the syllable from `start` to `end` on to the places
+// before `target`, where one stands that has moved there from `top` and merged with all up to place
+// `base_end`, and merges each.
 fn part_further(
     top: usize,
-    p: usize,
-    b: usize,
+    target: usize,
+    base_end: usize,
     moves: Placements,
     buffer: &mut hb_buffer_t,
-    s: usize,
-    e: usize,
+    start: usize,
+    end: usize,
 ) -> Placements
-    requires behind { top < p }
-    requires before { p < b }
-    requires in_order { s + b ≤ e }
-    requires moved { moves ≡ matra_placements s top p }
-    requires fits { MayArrange moves s e (length buffer.old.glyphs) buffer.old.places }
-    requires one { let old = arranged moves s e buffer.old in merges buffer.old.level ≡ true
-        → in_one_cluster (stretch_of (s + p) (s + b) old.glyphs) ≡ true }
-    ensures glyphs { let old = arranged moves s e buffer.old in
-        let new = arranged result s e buffer.new in
-        let steps = steps_to top (p - 1) b (stretch_of s e old.glyphs) in
-        let wide = map (widened s e (length old.glyphs)) steps in
+    requires behind { top < target }
+    requires before { target < base_end }
+    requires in_order { start + base_end ≤ end }
+    requires moved { moves ≡ matra_placements start top target }
+    requires fits { MayArrange moves start end (length buffer.old.glyphs) buffer.old.places }
+    requires one { let old = arranged moves start end buffer.old in merges buffer.old.level ≡ true
+        → in_one_cluster (stretch_of (start + target) (start + base_end) old.glyphs) ≡ true }
+    ensures glyphs { let old = arranged moves start end buffer.old in
+        let new = arranged result start end buffer.new in
+        let steps = steps_to top (target - 1) base_end (stretch_of start end old.glyphs) in
+        let wide = map (widened start end (length old.glyphs)) steps in
         new ≡ record old { glyphs = run_steps old.level wide old.glyphs; places = new.places } }
-    ensures fits { MayArrange result s e (length buffer.new.glyphs) buffer.new.places }
+    ensures fits { MayArrange result start end (length buffer.new.glyphs) buffer.new.places }
     ensures second { result.second ≡ Stays }
     ensures third { result.third ≡ Stays }
     ensures same_length { length buffer.new.glyphs ≡ length buffer.old.glyphs }
 {
-    if !has_left(s, s + top, &buffer.arranged(&moves, s, e)) {
+    if !has_left(start, start + top, &buffer.arranged(&moves, start, end)) {
         return moves;
     }
-    let runs = merged_runs(top, p, b, &buffer.arranged(&moves, s, e), s);
-    let len = len_staying(
-        s,
-        s + top,
-        &buffer.arranged(&moves, s, e),
-        runs.start,
-        s + p,
+    let runs = merged_runs(
+        top,
+        target,
+        base_end,
+        &buffer.arranged(&moves, start, end),
+        start,
     );
-    let at = list_matras(top, p, buffer, s, e);
+    let len = len_staying(
+        start,
+        start + top,
+        &buffer.arranged(&moves, start, end),
+        runs.start,
+        start + target,
+    );
+    let at = list_matras(top, target, buffer, start, end);
     let listed = Placements {
         first: Placement::Listed,
         second: Placement::Stays,
         third: Placement::Stays,
     };
-    put(&listed, buffer, s, e, at - len, at, runs.before);
-    put(&listed, buffer, s, e, at, runs.end, runs.cluster);
+    put(&listed, buffer, start, end, at - len, at, runs.before);
+    put(&listed, buffer, start, end, at, runs.end, runs.cluster);
     listed
 }
 
-// Whether some glyph from place `s` to `e` is a left matra.
+// Whether some glyph from place `start` to `end` is a left matra.
 #[inline]
-fn has_left(s: usize, e: usize, glyphs: &Arranged) -> bool
-    requires in_order { s ≤ e }
-    requires in_range { e ≤ length glyphs.now }
-    ensures { result ≡ list_any is_left (stretch_of s e glyphs.now) }
+fn has_left(start: usize, end: usize, glyphs: &Arranged) -> bool
+    requires in_order { start ≤ end }
+    requires in_range { end ≤ length glyphs.now }
+    ensures { result ≡ list_any is_left (stretch_of start end glyphs.now) }
 {
-    for i in s..e {
+    for i in start..end {
         if is_left(&glyphs.get(i)) {
             return true;
         }
@@ -159,56 +166,58 @@ fn has_left(s: usize, e: usize, glyphs: &Arranged) -> bool
     false
 }
 
-// What the merges of the left matras before place `top` of the syllable from `s` on make, as
+// What the merges of the left matras before place `top` of the syllable from `start` on make, as
 // `part_further`.
 #[inline]
-fn merged_runs(top: usize, p: usize, b: usize, glyphs: &Arranged, s: usize) -> Runs
-    requires in_range { s + b ≤ length glyphs.now }
-    requires fits { s + b < 2 ^ 64 }
-    requires behind { top < p }
-    requires before { p < b }
-    ensures start { result.start < s + p }
-    ensures from { s + b ≤ result.end }
+fn merged_runs(top: usize, target: usize, base_end: usize, glyphs: &Arranged, start: usize) -> Runs
+    requires in_range { start + base_end ≤ length glyphs.now }
+    requires fits { start + base_end < 2 ^ 64 }
+    requires behind { top < target }
+    requires before { target < base_end }
+    ensures start { result.start < start + target }
+    ensures from { start + base_end ≤ result.end }
     ensures end { result.end ≤ length glyphs.now }
-    ensures parted { (level : BufferClusterLevel) (e : ℕ) → s + b ≤ e → e ≤ length glyphs.now
+    ensures parted { (level : BufferClusterLevel) (end : ℕ)
+        → start + base_end ≤ end → end ≤ length glyphs.now
         → (merges level ≡ true
-        → in_one_cluster (stretch_of (s + p) (s + b) glyphs.now) ≡ true)
-        → let steps = steps_to top (p - 1) b (stretch_of s e glyphs.now) in
-        let wide = map (widened s e (length glyphs.now)) steps in
-        as_parted level s (s + top) (s + p) result glyphs.now
+        → in_one_cluster (stretch_of (start + target) (start + base_end) glyphs.now) ≡ true)
+        → let steps = steps_to top (target - 1) base_end (stretch_of start end glyphs.now) in
+        let wide = map (widened start end (length glyphs.now)) steps in
+        as_parted level start (start + top) (start + target) result glyphs.now
         ≡ run_steps level wide glyphs.now }
 {
     let mut runs = Runs {
-        start: s + p - 1,
-        before: glyphs.get(s + p - 1).cluster,
-        end: s + b,
-        cluster: glyphs.get(s + p).cluster,
+        start: start + target - 1,
+        before: glyphs.get(start + target - 1).cluster,
+        end: start + base_end,
+        cluster: glyphs.get(start + target).cluster,
     };
     for i in (0..top).rev() {
-        if is_left(&glyphs.get(s + i)) {
-            runs = with_matra(s + i, s + top, glyphs, runs);
+        if is_left(&glyphs.get(start + i)) {
+            runs = with_matra(start + i, start + top, glyphs, runs);
         }
     }
     runs
 }
 
-// The runs after the merge of the left matra at place `i`; those between it and `top` have gone.
-fn with_matra(i: usize, top: usize, glyphs: &Arranged, runs: Runs) -> Runs
-    requires inside { i < length glyphs.now }
+// The runs after the merge of the left matra at place `matra`; those between it and `top` have
+// gone.
+fn with_matra(matra: usize, top: usize, glyphs: &Arranged, runs: Runs) -> Runs
+    requires inside { matra < length glyphs.now }
     requires start { runs.start ≤ length glyphs.now }
     requires end { runs.end ≤ length glyphs.now }
-    ensures merged { Merged i top runs result glyphs.now }
+    ensures merged { Merged matra top runs result glyphs.now }
     ensures end { result.end ≤ length glyphs.now }
 {
-    let own = if i < runs.start {
-        glyphs.get(i).cluster
+    let own = if matra < runs.start {
+        glyphs.get(matra).cluster
     } else {
         runs.before
     };
     let cluster = own.min(runs.cluster);
     let end = runs.end + glyphs.run_behind(runs.end, runs.cluster);
     if own == runs.before {
-        let start = reached(i, top, glyphs, runs.start, own);
+        let start = reached(matra, top, glyphs, runs.start, own);
         Runs {
             start,
             before: cluster,
@@ -224,96 +233,105 @@ fn with_matra(i: usize, top: usize, glyphs: &Arranged, runs: Runs) -> Runs
     }
 }
 
-// Whether a left matra that has gone stood at place `j`: those from `i` on and before `top` have.
+// Whether a left matra that has gone stood at `index`: those from `from` on and before `top` have.
 #[inline]
-fn has_gone(i: usize, top: usize, glyphs: &Arranged, j: usize) -> bool
-    requires { j < length glyphs.now }
-    ensures { result ≡ has_gone i top glyphs.now j }
+fn has_gone(from: usize, top: usize, glyphs: &Arranged, index: usize) -> bool
+    requires { index < length glyphs.now }
+    ensures { result ≡ has_gone from top glyphs.now index }
 {
-    i <= j && j < top && is_left(&glyphs.get(j))
+    from <= index && index < top && is_left(&glyphs.get(index))
 }
 
 // How far to the left glyphs before place `start` are in a cluster, but for matras that have gone.
 #[inline]
-fn reached(i: usize, top: usize, glyphs: &Arranged, start: usize, cluster: u32) -> usize
+fn reached(from: usize, top: usize, glyphs: &Arranged, start: usize, cluster: u32) -> usize
     requires { start ≤ length glyphs.now }
-    ensures { Reaches i top cluster start result glyphs.now }
+    ensures { Reaches from top cluster start result glyphs.now }
 {
     for j in (0..start).rev() {
-        if !is_passed(i, top, glyphs, j, cluster) {
+        if !is_passed(from, top, glyphs, j, cluster) {
             return j + 1;
         }
     }
     0
 }
 
-// Whether what stood at place `j` has gone, or is in a cluster.
+// Whether what stood at `index` has gone, or is in a cluster.
 #[inline]
-fn is_passed(i: usize, top: usize, glyphs: &Arranged, j: usize, cluster: u32) -> bool
-    requires { j < length glyphs.now }
-    ensures { result ≡ flood_passes i top cluster glyphs.now j }
+fn is_passed(from: usize, top: usize, glyphs: &Arranged, index: usize, cluster: u32) -> bool
+    requires { index < length glyphs.now }
+    ensures { result ≡ flood_passes from top cluster glyphs.now index }
 {
-    has_gone(i, top, glyphs, j) || glyphs.get(j).cluster == cluster
+    has_gone(from, top, glyphs, index) || glyphs.get(index).cluster == cluster
 }
 
-// How many glyphs from place `s` to `e` have stayed.
+// How many glyphs from place `start` to `end` have stayed.
 #[inline]
-fn len_staying(i: usize, top: usize, glyphs: &Arranged, s: usize, e: usize) -> usize
-    requires in_order { s ≤ e }
-    requires in_range { e ≤ length glyphs.now }
-    ensures { result ≡ length (filter (has_stayed i top glyphs.now) (places s e)) }
+fn len_staying(from: usize, top: usize, glyphs: &Arranged, start: usize, end: usize) -> usize
+    requires in_order { start ≤ end }
+    requires in_range { end ≤ length glyphs.now }
+    ensures { result ≡ length (filter (has_stayed from top glyphs.now) (places start end)) }
 {
     let mut len = 0;
-    for j in s..e {
-        if !has_gone(i, top, glyphs, j) {
+    for j in start..end {
+        if !has_gone(from, top, glyphs, j) {
             len += 1;
         }
     }
     len
 }
 
-// Whether place `j` is listed: of what has gone, or of what has stayed.
+// Whether place `index` is listed: of what has gone, or of what has stayed.
 #[inline]
-fn is_listed(gone: bool, i: usize, top: usize, glyphs: &Arranged, j: usize) -> bool
-    requires { j < length glyphs.now }
-    ensures { result ≡ is_listed gone i top glyphs.now j }
+fn is_listed(gone: bool, from: usize, top: usize, glyphs: &Arranged, index: usize) -> bool
+    requires { index < length glyphs.now }
+    ensures { result ≡ is_listed gone from top glyphs.now index }
 {
-    has_gone(i, top, glyphs, j) == gone
+    has_gone(from, top, glyphs, index) == gone
 }
 
-// In the syllable from `s` to `e`, where the glyph of place `i` has gone to `j`, lists where what has
-// gone of the left matras before it, or what has stayed, of the places from `from` to `to` came from,
-// from place `at` on. Returns the place behind them.
+// In the syllable from `start` to `end`, where the glyph of place `matra` has gone to `target`,
+// lists where what has gone of the left matras before it, or what has stayed, of the places from
+// `from` to `to` came from, from place `at` on. Returns the place behind them.
 fn list_places(
     gone: bool,
-    i: usize,
-    j: usize,
+    matra: usize,
+    target: usize,
     buffer: &mut hb_buffer_t,
-    s: usize,
-    e: usize,
+    start: usize,
+    end: usize,
     from: usize,
     to: usize,
     at: usize,
 ) -> usize
-    requires before { i ≤ j }
-    requires inside { s + j < e }
-    requires in_range { e ≤ length buffer.old.glyphs }
+    requires before { matra ≤ target }
+    requires inside { start + target < end }
+    requires in_range { end ≤ length buffer.old.glyphs }
     requires in_order { from ≤ to }
-    requires within { to ≤ e }
-    requires room { let gs = placed_by_all (matra_placements s i j) s e [] buffer.old.glyphs in
-        at + length (filter (is_listed gone s (s + i) gs) (places from to)) ≤ e }
-    ensures listed { let gs = placed_by_all (matra_placements s i j) s e [] buffer.old.glyphs in
-        let all = filter (is_listed gone s (s + i) gs) (places from to) in
-        let old = map (old_place_by_all (matra_placements s i j) s e []) all in
+    requires within { to ≤ end }
+    requires room { let moves = matra_placements start matra target in
+        let gs = placed_by_all moves start end [] buffer.old.glyphs in
+        at + length (filter (is_listed gone start (start + matra) gs) (places from to)) ≤ end }
+    ensures listed { let moves = matra_placements start matra target in
+        let gs = placed_by_all moves start end [] buffer.old.glyphs in
+        let all = filter (is_listed gone start (start + matra) gs) (places from to) in
+        let old = map (old_place_by_all moves start end []) all in
         buffer.new ≡ record buffer.old { places = with_listed at old buffer.old.places } }
-    ensures behind { let gs = placed_by_all (matra_placements s i j) s e [] buffer.old.glyphs in
-        result ≡ at + length (filter (is_listed gone s (s + i) gs) (places from to)) }
+    ensures behind { let moves = matra_placements start matra target in
+        let gs = placed_by_all moves start end [] buffer.old.glyphs in
+        result ≡ at + length (filter (is_listed gone start (start + matra) gs) (places from to)) }
 {
-    let moves = matra_placements(s, i, j);
+    let moves = matra_placements(start, matra, target);
     let mut at = at;
     for k in from..to {
-        if is_listed(gone, s, s + i, &buffer.arranged(&moves, s, e), k) {
-            let place = buffer.arranged_place(&moves, s, e, k);
+        if is_listed(
+            gone,
+            start,
+            start + matra,
+            &buffer.arranged(&moves, start, end),
+            k,
+        ) {
+            let place = buffer.arranged_place(&moves, start, end, k);
             buffer.set_place(at, place);
             at += 1;
         }
@@ -321,42 +339,83 @@ fn list_places(
     at
 }
 
-// In the syllable from `s` to `e`, where the glyph of place `i` has gone to `j`, lists where each
-// comes from if the left matras before it go before it. Returns the place of the first of them.
-fn list_matras(i: usize, j: usize, buffer: &mut hb_buffer_t, s: usize, e: usize) -> usize
-    requires before { i ≤ j }
-    requires inside { s + j < e }
-    requires in_range { e ≤ length buffer.old.glyphs }
-    ensures moved { let gs = placed_by_all (matra_placements s i j) s e [] buffer.old.glyphs in
-        placed_by Listed s e buffer.new.places buffer.old.glyphs
-        ≡ staying s (s + i) gs 0 (s + j) ++ (gone s (s + i) gs 0 (s + j) ++ drop (s + j) gs) }
+// In the syllable from `start` to `end`, where the glyph of place `matra` has gone to `target`,
+// lists where each comes from if the left matras before it go before it. Returns the place of the
+// first of them.
+fn list_matras(
+    matra: usize,
+    target: usize,
+    buffer: &mut hb_buffer_t,
+    start: usize,
+    end: usize,
+) -> usize
+    requires before { matra ≤ target }
+    requires inside { start + target < end }
+    requires in_range { end ≤ length buffer.old.glyphs }
+    ensures moved { let moves = matra_placements start matra target in
+        let gs = placed_by_all moves start end [] buffer.old.glyphs in
+        placed_by Listed start end buffer.new.places buffer.old.glyphs
+        ≡ staying start (start + matra) gs 0 (start + target)
+        ++ (gone start (start + matra) gs 0 (start + target) ++ drop (start + target) gs) }
     ensures others { buffer.new ≡ record buffer.old { places = buffer.new.places } }
-    ensures each { PlacesEachOnce Listed s e buffer.new.places }
-    ensures at { let gs = placed_by_all (matra_placements s i j) s e [] buffer.old.glyphs in
-        result ≡ s + length (filter (has_stayed s (s + i) gs) (places s (s + j))) }
+    ensures each { PlacesEachOnce Listed start end buffer.new.places }
+    ensures at { let moves = matra_placements start matra target in
+        let gs = placed_by_all moves start end [] buffer.old.glyphs in
+        let all = places start (start + target) in
+        result ≡ start + length (filter (has_stayed start (start + matra) gs) all) }
 {
-    let at = list_places(false, i, j, buffer, s, e, s, s + j, s);
-    let behind = list_places(true, i, j, buffer, s, e, s, s + j, at);
-    list_places(false, i, j, buffer, s, e, s + j, e, behind);
+    let at = list_places(
+        false,
+        matra,
+        target,
+        buffer,
+        start,
+        end,
+        start,
+        start + target,
+        start,
+    );
+    let behind = list_places(
+        true,
+        matra,
+        target,
+        buffer,
+        start,
+        end,
+        start,
+        start + target,
+        at,
+    );
+    list_places(
+        false,
+        matra,
+        target,
+        buffer,
+        start,
+        end,
+        start + target,
+        end,
+        behind,
+    );
     at
 }
 
-// Puts the glyphs from `from` to `to` of a text whose syllable from `s` to `e` has moved into a
-// cluster, at a level that merges.
+// Puts the glyphs from `from` to `to` of a text whose syllable from `start` to `end` has moved into
+// a cluster, at a level that merges.
 fn put(
     moves: &Placements,
     buffer: &mut hb_buffer_t,
-    s: usize,
-    e: usize,
+    start: usize,
+    end: usize,
     from: usize,
     to: usize,
     cluster: u32,
 )
-    requires fits { MayArrange moves.now s e (length buffer.old.glyphs) buffer.old.places }
+    requires fits { MayArrange moves.now start end (length buffer.old.glyphs) buffer.old.places }
     requires in_order { from ≤ to }
     requires in_range { to ≤ length buffer.old.glyphs }
-    ensures glyphs { let old = arranged moves.now s e buffer.old in
-        arranged moves.now s e buffer.new ≡ record old {
+    ensures glyphs { let old = arranged moves.now start end buffer.old in
+        arranged moves.now start end buffer.new ≡ record old {
           glyphs = with_stretch from to (put buffer.old.level cluster) old.glyphs;
         } }
     ensures others { buffer.new ≡ record buffer.old { glyphs = buffer.new.glyphs } }
@@ -364,7 +423,7 @@ fn put(
 {
     match buffer.cluster_level() {
         BufferClusterLevel::MonotoneGraphemes | BufferClusterLevel::MonotoneCharacters => {
-            buffer.change_arranged(moves, s, e, from, to, &IntoCluster(cluster));
+            buffer.change_arranged(moves, start, end, from, to, &IntoCluster(cluster));
         }
         BufferClusterLevel::Characters => {}
     }

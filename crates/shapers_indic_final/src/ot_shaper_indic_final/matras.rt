@@ -21,11 +21,11 @@ pub(super) fn is_left(glyph: &hb_glyph_info_t) -> bool
 
 // Whether left matras go to a place: one past the start, where none stands.
 #[inline]
-pub(super) fn matras_go(p: usize, glyphs: &[hb_glyph_info_t]) -> bool
-    requires { p < length glyphs.now }
-    ensures { result ≡ matras_go p glyphs.now }
+pub(super) fn matras_go(target: usize, glyphs: &[hb_glyph_info_t]) -> bool
+    requires { target < length glyphs.now }
+    ensures { result ≡ matras_go target glyphs.now }
 {
-    p > 0 && !is_left(&glyphs[p])
+    target > 0 && !is_left(&glyphs[target])
 }
 
 // The end of what merges with a left matra: the base with it, if there is one.
@@ -89,23 +89,23 @@ pub(super) fn matra_target(script: Option<Script>, base: usize, glyphs: &[hb_gly
 // search before it; else the start. A halant with the position of a left matra came to the front
 // with one, and says nothing of the consonants.
 #[inline]
-fn nearest_halant(p: usize, glyphs: &[hb_glyph_info_t]) -> usize
-    requires in_range { p + 1 < length glyphs.now }
-    ensures target { result ≡ nearest_halant p glyphs.now }
-    ensures within { result ≤ p }
+fn nearest_halant(from: usize, glyphs: &[hb_glyph_info_t]) -> usize
+    requires in_range { from + 1 < length glyphs.now }
+    ensures target { result ≡ nearest_halant from glyphs.now }
+    ensures within { result ≤ from }
 {
-    let end = search_end(p, glyphs);
+    let end = search_end(from, glyphs);
     if is_free_halant(&glyphs[end]) { end } else { 0 }
 }
 
 // Where the search for a halant ends, else the start.
 #[inline]
-fn search_end(p: usize, glyphs: &[hb_glyph_info_t]) -> usize
-    requires in_range { p + 1 < length glyphs.now }
-    ensures end { result ≡ unwrap_or (greatest_place (ends_search glyphs.now) 0 (p + 1)) 0 }
-    ensures within { result ≤ p }
+fn search_end(from: usize, glyphs: &[hb_glyph_info_t]) -> usize
+    requires in_range { from + 1 < length glyphs.now }
+    ensures end { result ≡ unwrap_or (greatest_place (ends_search glyphs.now) 0 (from + 1)) 0 }
+    ensures within { result ≤ from }
 {
-    for i in (0..p + 1).rev() {
+    for i in (0..from + 1).rev() {
         if ends_search(glyphs, i) {
             return i;
         }
@@ -113,18 +113,18 @@ fn search_end(p: usize, glyphs: &[hb_glyph_info_t]) -> usize
     0
 }
 
-// Whether the glyph at place `i` ends the search for a halant. One before a ZWJ doesn't: the
+// Whether the glyph at `index` ends the search for a halant. One before a ZWJ doesn't: the
 // specification has left matras go behind a joiner, but Uniscribe leaves them where they are, so
 // that 091F 094D 200D 092F 093F begins with the vowel sign. In 091F 094D 200C 092F 093F it stands
 // in the middle; no ZWNJ need be looked for, since behind a halant it ends the syllable. (Fonts that
 // show it are Adobe Devanagari and Nirmala UI: HarfBuzz's issue 1070.)
 #[inline]
-fn ends_search(glyphs: &[hb_glyph_info_t], i: usize) -> bool
-    requires { i + 1 < length glyphs.now }
-    ensures { result ≡ ends_search glyphs.now i }
+fn ends_search(glyphs: &[hb_glyph_info_t], index: usize) -> bool
+    requires { index + 1 < length glyphs.now }
+    ensures { result ≡ ends_search glyphs.now index }
 {
-    is_matra_or_halant(&glyphs[i])
-        && !(is_free_halant(&glyphs[i]) && glyphs[i + 1].category == OT_ZWJ)
+    is_matra_or_halant(&glyphs[index])
+        && !(is_free_halant(&glyphs[index]) && glyphs[index + 1].category == OT_ZWJ)
 }
 
 // Whether a glyph is a halant that belongs to no left matra.

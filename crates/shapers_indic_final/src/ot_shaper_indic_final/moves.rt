@@ -10,99 +10,100 @@ ghost use Rattle.shapers_indic_final.specs.FinalReph.{final_reph_step};
 
 use shapers_base::buffer::{Placement, Placements, hb_buffer_t};
 
-// Merges the syllable from `s` to `e`, moved so far, up to its place `j`, and moves its first glyph,
-// the reph, there.
+// Merges the syllable from `start` to `end`, moved so far, up to its place `target`, and moves its
+// first glyph, the reph, there.
 #[inline]
 pub(super) fn move_reph(
     moves: Placements,
     buffer: &mut hb_buffer_t,
-    s: usize,
-    e: usize,
-    j: usize,
+    start: usize,
+    end: usize,
+    target: usize,
 ) -> Placements
-    requires fits { MayArrange moves s e (length buffer.old.glyphs) buffer.old.places }
+    requires fits { MayArrange moves start end (length buffer.old.glyphs) buffer.old.places }
     requires second { moves.second ≡ Stays }
     requires third { moves.third ≡ Stays }
-    requires inside { s + j < e }
-    ensures glyphs { let old = arranged moves s e buffer.old in
-        let new = arranged result s e buffer.new in
-        let step = widened s e (length old.glyphs) (final_reph_step (e - s) j) in
+    requires inside { start + target < end }
+    ensures glyphs { let old = arranged moves start end buffer.old in
+        let new = arranged result start end buffer.new in
+        let step = widened start end (length old.glyphs) (final_reph_step (end - start) target) in
         new ≡ record old {
           glyphs = run_step old.level step old.glyphs;
           places = new.places;
         } }
-    ensures fits { MayArrange result s e (length buffer.new.glyphs) buffer.new.places }
+    ensures fits { MayArrange result start end (length buffer.new.glyphs) buffer.new.places }
     ensures third { result.third ≡ Stays }
     ensures same_length { length buffer.new.glyphs ≡ length buffer.old.glyphs }
 {
-    buffer.merge_arranged(&moves, s, e, s, s + j + 1);
+    buffer.merge_arranged(&moves, start, end, start, start + target + 1);
     Placements {
         first: moves.first,
-        second: first_last(s, s + j + 1),
+        second: first_last(start, start + target + 1),
         third: moves.third,
     }
 }
 
-// Merges the syllable from `s` to `e`, moved so far, from its place `j` up to its place `i`, and
-// moves the glyph of place `i`, which `pref` formed, to `j`.
+// Merges the syllable from `start` to `end`, moved so far, from its place `target` up to its place
+// `from`, and moves the glyph of place `from`, which `pref` formed, to `target`.
 #[inline]
 pub(super) fn move_pref(
     moves: Placements,
     buffer: &mut hb_buffer_t,
-    s: usize,
-    e: usize,
-    j: usize,
-    i: usize,
+    start: usize,
+    end: usize,
+    target: usize,
+    from: usize,
 ) -> Placements
-    requires fits { MayArrange moves s e (length buffer.old.glyphs) buffer.old.places }
+    requires fits { MayArrange moves start end (length buffer.old.glyphs) buffer.old.places }
     requires third { moves.third ≡ Stays }
-    requires before { j ≤ i }
-    requires inside { s + i < e }
-    ensures glyphs { let old = arranged moves s e buffer.old in
-        let new = arranged result s e buffer.new in
-        let step = widened s e (length old.glyphs) (pref_move (e - s) j i) in
+    requires before { target ≤ from }
+    requires inside { start + from < end }
+    ensures glyphs { let old = arranged moves start end buffer.old in
+        let new = arranged result start end buffer.new in
+        let step = widened start end (length old.glyphs) (pref_move (end - start) target from) in
         new ≡ record old {
           glyphs = run_step old.level step old.glyphs;
           places = new.places;
         } }
-    ensures fits { MayArrange result s e (length buffer.new.glyphs) buffer.new.places }
+    ensures fits { MayArrange result start end (length buffer.new.glyphs) buffer.new.places }
     ensures same_length { length buffer.new.glyphs ≡ length buffer.old.glyphs }
 {
-    buffer.merge_arranged(&moves, s, e, s + j, s + i + 1);
+    buffer.merge_arranged(&moves, start, end, start + target, start + from + 1);
     Placements {
         first: moves.first,
         second: moves.second,
-        third: last_first(s + j, s + i + 1),
+        third: last_first(start + target, start + from + 1),
     }
 }
 
-// Moves the glyph of place `i` of the syllable from `s` to `e`, a left matra, to its place `j`, and
-// merges from there up to its place `base_end`.
+// Moves the glyph of place `matra` of the syllable from `start` to `end`, a left matra, to its
+// place `target`, and merges from there up to its place `base_end`.
 #[inline]
 pub(super) fn move_matra(
     buffer: &mut hb_buffer_t,
-    s: usize,
-    e: usize,
+    start: usize,
+    end: usize,
     base_end: usize,
-    i: usize,
-    j: usize,
+    matra: usize,
+    target: usize,
 ) -> Placements
-    requires before { i ≤ j }
-    requires base { j < base_end }
-    requires in_order { s + base_end ≤ e }
-    requires in_range { e ≤ length buffer.old.glyphs }
-    ensures glyphs { let new = arranged result s e buffer.new in
-        let step = widened s e (length buffer.old.glyphs) (matra_step (e - s) base_end i j) in
+    requires before { matra ≤ target }
+    requires base { target < base_end }
+    requires in_order { start + base_end ≤ end }
+    requires in_range { end ≤ length buffer.old.glyphs }
+    ensures glyphs { let new = arranged result start end buffer.new in
+        let step = matra_step (end - start) base_end matra target in
+        let wide = widened start end (length buffer.old.glyphs) step in
         new ≡ record buffer.old {
-          glyphs = run_step buffer.old.level step buffer.old.glyphs;
+          glyphs = run_step buffer.old.level wide buffer.old.glyphs;
           places = new.places;
         } }
-    ensures moves { result ≡ matra_placements s i j }
-    ensures fits { MayArrange result s e (length buffer.new.glyphs) buffer.new.places }
+    ensures moves { result ≡ matra_placements start matra target }
+    ensures fits { MayArrange result start end (length buffer.new.glyphs) buffer.new.places }
     ensures same_length { length buffer.new.glyphs ≡ length buffer.old.glyphs }
 {
-    let moves = matra_placements(s, i, j);
-    buffer.merge_arranged(&moves, s, e, s + j, s + base_end);
+    let moves = matra_placements(start, matra, target);
+    buffer.merge_arranged(&moves, start, end, start + target, start + base_end);
     moves
 }
 
@@ -111,60 +112,64 @@ pub(super) fn move_matra(
 #[inline]
 pub(super) fn write_matra(
     buffer: &mut hb_buffer_t,
-    s: usize,
-    e: usize,
+    start: usize,
+    end: usize,
     base_end: usize,
-    i: usize,
-    j: usize,
+    matra: usize,
+    target: usize,
 )
-    requires before { i ≤ j }
-    requires base { j < base_end }
-    requires in_order { s + base_end ≤ e }
-    requires in_range { e ≤ length buffer.old.glyphs }
-    ensures glyphs { let step = widened s e (length buffer.old.glyphs) (matra_step (e - s) base_end i j) in
-        buffer.new ≡ record buffer.old { glyphs = run_step buffer.old.level step buffer.old.glyphs } }
+    requires before { matra ≤ target }
+    requires base { target < base_end }
+    requires in_order { start + base_end ≤ end }
+    requires in_range { end ≤ length buffer.old.glyphs }
+    ensures glyphs { let step = matra_step (end - start) base_end matra target in
+        let wide = widened start end (length buffer.old.glyphs) step in
+        buffer.new ≡ record buffer.old {
+          glyphs = run_step buffer.old.level wide buffer.old.glyphs;
+        } }
     ensures same_length { length buffer.new.glyphs ≡ length buffer.old.glyphs }
 {
-    buffer.apply(s, e, first_last(s + i, s + j + 1));
-    buffer.merge_clusters(s + j, s + base_end);
+    buffer.apply(start, end, first_last(start + matra, start + target + 1));
+    buffer.merge_clusters(start + target, start + base_end);
 }
 
-// The glyph of place `i` of a syllable from `s` on moved to its place `j`, behind others.
+// The glyph of place `matra` of a syllable from `start` on moved to its place `target`, behind
+// others.
 #[inline]
-pub(super) fn matra_placements(s: usize, i: usize, j: usize) -> Placements
-    requires before { i ≤ j }
-    requires fits { s + j + 1 < 2 ^ 64 }
-    ensures { result ≡ matra_placements s i j }
+pub(super) fn matra_placements(start: usize, matra: usize, target: usize) -> Placements
+    requires before { matra ≤ target }
+    requires fits { start + target + 1 < 2 ^ 64 }
+    ensures { result ≡ matra_placements start matra target }
 {
     Placements {
-        first: first_last(s + i, s + j + 1),
+        first: first_last(start + matra, start + target + 1),
         second: Placement::Stays,
         third: Placement::Stays,
     }
 }
 
-// The first glyph of the stretch from `s` to `e` behind the others.
+// The first glyph of the stretch from `start` to `end` behind the others.
 #[inline]
-fn first_last(s: usize, e: usize) -> Placement
-    requires { s < e }
-    ensures { result ≡ Forward s (s + 1) (e - s - 1) }
+fn first_last(start: usize, end: usize) -> Placement
+    requires { start < end }
+    ensures { result ≡ Forward start (start + 1) (end - start - 1) }
 {
     Placement::Forward {
-        to: s,
-        from: s + 1,
-        count: e - s - 1,
+        to: start,
+        from: start + 1,
+        count: end - start - 1,
     }
 }
 
-// The last glyph of the stretch from `s` to `e` before the others.
+// The last glyph of the stretch from `start` to `end` before the others.
 #[inline]
-fn last_first(s: usize, e: usize) -> Placement
-    requires { s < e }
-    ensures { result ≡ Forward s (e - 1) 1 }
+fn last_first(start: usize, end: usize) -> Placement
+    requires { start < end }
+    ensures { result ≡ Forward start (end - 1) 1 }
 {
     Placement::Forward {
-        to: s,
-        from: e - 1,
+        to: start,
+        from: end - 1,
         count: 1,
     }
 }

@@ -24,34 +24,34 @@ use shapers_base::buffer::{
 };
 use shapers_base::plan::RephPosition;
 
-// Gives the reph of the syllable from `s` to `e`, moved so far, its place, and returns where the base
-// is then.
+// Gives the reph of the syllable from `start` to `end`, moved so far, its place, and returns where
+// the base is then.
 #[inline]
 pub(super) fn place_reph(
     position: RephPosition,
     base: usize,
     moves: &mut Placements,
     buffer: &mut hb_buffer_t,
-    s: usize,
-    e: usize,
+    start: usize,
+    end: usize,
 ) -> usize
-    requires fits { MayArrange moves.old s e (length buffer.old.glyphs) buffer.old.places }
+    requires fits { MayArrange moves.old start end (length buffer.old.glyphs) buffer.old.places }
     requires second { moves.old.second ≡ Stays }
     requires third { moves.old.third ≡ Stays }
-    requires in_syllable { base ≤ e - s }
-    ensures glyphs { let old = arranged moves.old s e buffer.old in
-        let new = arranged moves.new s e buffer.new in
-        let steps = reph_steps position base (stretch_of s e old.glyphs) in
-        let wide = map (widened s e (length old.glyphs)) steps in
+    requires in_syllable { base ≤ end - start }
+    ensures glyphs { let old = arranged moves.old start end buffer.old in
+        let new = arranged moves.new start end buffer.new in
+        let steps = reph_steps position base (stretch_of start end old.glyphs) in
+        let wide = map (widened start end (length old.glyphs)) steps in
         new ≡ record old { glyphs = run_steps old.level wide old.glyphs; places = new.places } }
-    ensures fits { MayArrange moves.new s e (length buffer.new.glyphs) buffer.new.places }
+    ensures fits { MayArrange moves.new start end (length buffer.new.glyphs) buffer.new.places }
     ensures third { moves.new.third ≡ Stays }
     ensures same_length { length buffer.new.glyphs ≡ length buffer.old.glyphs }
-    ensures place { let old = arranged moves.old s e buffer.old in
-        result ≡ base_after_reph position base (stretch_of s e old.glyphs) }
-    ensures within { result ≤ e - s }
+    ensures place { let old = arranged moves.old start end buffer.old in
+        result ≡ base_after_reph position base (stretch_of start end old.glyphs) }
+    ensures within { result ≤ end - start }
 {
-    if !opens(moves, buffer, s, e) {
+    if !opens(moves, buffer, start, end) {
         return base;
     }
     let mut search = RephSearch {
@@ -59,37 +59,38 @@ pub(super) fn place_reph(
         base,
         target: None,
     };
-    buffer.read_arranged(moves, s, e, &mut search);
+    buffer.read_arranged(moves, start, end, &mut search);
     match search.target {
         None => base,
         Some(target) => {
-            *moves = move_reph(*moves, buffer, s, e, target);
+            *moves = move_reph(*moves, buffer, start, end, target);
             base_after_reph(base, target)
         }
     }
 }
 
-// Whether a reph that moves opens the syllable from `s` to `e`, moved so far.
+// Whether a reph that moves opens the syllable from `start` to `end`, moved so far.
 #[inline]
-fn opens(moves: &Placements, buffer: &hb_buffer_t, s: usize, e: usize) -> bool
-    requires { MayArrange moves.now s e (length buffer.now.glyphs) buffer.now.places }
-    ensures { let gs = placed_by_all moves.now s e buffer.now.places buffer.now.glyphs in
-        result ≡ opens_with_reph (stretch_of s e gs) }
+fn opens(moves: &Placements, buffer: &hb_buffer_t, start: usize, end: usize) -> bool
+    requires { MayArrange moves.now start end (length buffer.now.glyphs) buffer.now.places }
+    ensures { let gs = placed_by_all moves.now start end buffer.now.places buffer.now.glyphs in
+        result ≡ opens_with_reph (stretch_of start end gs) }
 {
     if moves.moves_nothing() {
-        return opens_with_reph(&buffer.glyphs()[s..e]);
+        return opens_with_reph(&buffer.glyphs()[start..end]);
     }
-    opens_arranged(&buffer.arranged(moves, s, e), s, e)
+    opens_arranged(&buffer.arranged(moves, start, end), start, end)
 }
 
-// Whether a reph that moves opens the syllable from `s` to `e` of a text that is seen as moved.
+// Whether a reph that moves opens the syllable from `start` to `end` of a text that is seen as
+// moved.
 #[inline]
-fn opens_arranged(glyphs: &Arranged, s: usize, e: usize) -> bool
-    requires in_order { s ≤ e }
-    requires in_range { e ≤ length glyphs.now }
-    ensures { result ≡ opens_with_reph (stretch_of s e glyphs.now) }
+fn opens_arranged(glyphs: &Arranged, start: usize, end: usize) -> bool
+    requires in_order { start ≤ end }
+    requires in_range { end ≤ length glyphs.now }
+    ensures { result ≡ opens_with_reph (stretch_of start end glyphs.now) }
 {
-    e - s >= 2 && is_moving_reph(&glyphs.get(s))
+    end - start >= 2 && is_moving_reph(&glyphs.get(start))
 }
 
 // A look for where the reph goes.
@@ -130,8 +131,8 @@ fn reph_goes(position: RephPosition, base: usize, glyphs: &[hb_glyph_info_t]) ->
     }
 }
 
-// Gives the glyph of the syllable from `s` to `e`, moved so far, that `pref` formed its place, if one
-// is tried.
+// Gives the glyph of the syllable from `start` to `end`, moved so far, that `pref` formed its
+// place, if one is tried.
 #[inline]
 pub(super) fn place_pref(
     tries: bool,
@@ -140,19 +141,19 @@ pub(super) fn place_pref(
     base: usize,
     moves: &mut Placements,
     buffer: &mut hb_buffer_t,
-    s: usize,
-    e: usize,
+    start: usize,
+    end: usize,
 )
-    requires fits { MayArrange moves.old s e (length buffer.old.glyphs) buffer.old.places }
+    requires fits { MayArrange moves.old start end (length buffer.old.glyphs) buffer.old.places }
     requires third { moves.old.third ≡ Stays }
-    requires in_syllable { base ≤ e - s }
-    ensures glyphs { let old = arranged moves.old s e buffer.old in
-        let new = arranged moves.new s e buffer.new in
-        let part = stretch_of s e old.glyphs in
+    requires in_syllable { base ≤ end - start }
+    ensures glyphs { let old = arranged moves.old start end buffer.old in
+        let new = arranged moves.new start end buffer.new in
+        let part = stretch_of start end old.glyphs in
         let steps = if tries then pref_steps pref script base part else [] in
-        let wide = map (widened s e (length old.glyphs)) steps in
+        let wide = map (widened start end (length old.glyphs)) steps in
         new ≡ record old { glyphs = run_steps old.level wide old.glyphs; places = new.places } }
-    ensures fits { MayArrange moves.new s e (length buffer.new.glyphs) buffer.new.places }
+    ensures fits { MayArrange moves.new start end (length buffer.new.glyphs) buffer.new.places }
     ensures same_length { length buffer.new.glyphs ≡ length buffer.old.glyphs }
 {
     if !tries {
@@ -164,9 +165,9 @@ pub(super) fn place_pref(
         base,
         places: None,
     };
-    buffer.read_arranged(moves, s, e, &mut search);
+    buffer.read_arranged(moves, start, end, &mut search);
     if let Some((target, i)) = search.places {
-        *moves = move_pref(*moves, buffer, s, e, target, i);
+        *moves = move_pref(*moves, buffer, start, end, target, i);
     }
 }
 
@@ -211,42 +212,42 @@ fn pref_goes(
     Some((pref_target(script, base, glyphs), i))
 }
 
-// Gives the left matras of the syllable from `s` to `e` their place: written at once, if one moves
-// alone, and behind it nothing but a reph may, since no glyph has a bit of `forming`.
+// Gives the left matras of the syllable from `start` to `end` their place: written at once, if one
+// moves alone, and behind it nothing but a reph may, since no glyph has a bit of `forming`.
 #[inline]
 pub(super) fn place_matras(
     script: Option<Script>,
     base: usize,
     forming: u32,
     buffer: &mut hb_buffer_t,
-    s: usize,
-    e: usize,
+    start: usize,
+    end: usize,
 ) -> Placements
-    requires in_order { s ≤ e }
-    requires in_range { e ≤ length buffer.old.glyphs }
-    requires in_syllable { base ≤ e - s }
-    ensures glyphs { let new = arranged result s e buffer.new in
-        let steps = matra_steps script base (stretch_of s e buffer.old.glyphs) in
-        let wide = map (widened s e (length buffer.old.glyphs)) steps in
+    requires in_order { start ≤ end }
+    requires in_range { end ≤ length buffer.old.glyphs }
+    requires in_syllable { base ≤ end - start }
+    ensures glyphs { let new = arranged result start end buffer.new in
+        let steps = matra_steps script base (stretch_of start end buffer.old.glyphs) in
+        let wide = map (widened start end (length buffer.old.glyphs)) steps in
         new ≡ record buffer.old {
           glyphs = run_steps buffer.old.level wide buffer.old.glyphs;
           places = new.places;
         } }
-    ensures fits { MayArrange result s e (length buffer.new.glyphs) buffer.new.places }
+    ensures fits { MayArrange result start end (length buffer.new.glyphs) buffer.new.places }
     ensures second { result.second ≡ Stays }
     ensures third { result.third ≡ Stays }
     ensures same_length { length buffer.new.glyphs ≡ length buffer.old.glyphs }
 {
-    if base == 0 || e - s < 2 {
+    if base == 0 || end - start < 2 {
         return Placements::STAY;
     }
-    let end = end_of_base(base, &buffer.glyphs()[s..e]);
-    let target = matra_target(script, base, &buffer.glyphs()[s..e]);
-    if matras_go(target, &buffer.glyphs()[s..e]) {
-        let others = has_any(forming, &buffer.glyphs()[s..e]);
-        part_matras(target, end, others, buffer, s, e)
+    let base_end = end_of_base(base, &buffer.glyphs()[start..end]);
+    let target = matra_target(script, base, &buffer.glyphs()[start..end]);
+    if matras_go(target, &buffer.glyphs()[start..end]) {
+        let others = has_any(forming, &buffer.glyphs()[start..end]);
+        part_matras(target, base_end, others, buffer, start, end)
     } else {
-        merge_matras(base, end, buffer, s, e);
+        merge_matras(base, base_end, buffer, start, end);
         Placements::STAY
     }
 }
@@ -259,23 +260,24 @@ fn has_any(bits: u32, glyphs: &[hb_glyph_info_t]) -> bool
     glyphs.iter().any(|glyph| has_mask(bits, glyph))
 }
 
-// Merges the syllable from `s` to `e` from its first left matra before the base up to place `b`.
+// Merges the syllable from `start` to `end` from its first left matra before the base up to place
+// `base_end`.
 #[inline]
-fn merge_matras(base: usize, b: usize, buffer: &mut hb_buffer_t, s: usize, e: usize)
-    requires in_order { s ≤ e }
-    requires in_range { e ≤ length buffer.old.glyphs }
-    requires in_syllable { base ≤ e - s }
-    requires end { b ≡ end_of_base base (stretch_of s e buffer.old.glyphs) }
-    ensures glyphs { let steps = staying_steps base (stretch_of s e buffer.old.glyphs) in
-        let wide = map (widened s e (length buffer.old.glyphs)) steps in
+fn merge_matras(base: usize, base_end: usize, buffer: &mut hb_buffer_t, start: usize, end: usize)
+    requires in_order { start ≤ end }
+    requires in_range { end ≤ length buffer.old.glyphs }
+    requires in_syllable { base ≤ end - start }
+    requires end { base_end ≡ end_of_base base (stretch_of start end buffer.old.glyphs) }
+    ensures glyphs { let steps = staying_steps base (stretch_of start end buffer.old.glyphs) in
+        let wide = map (widened start end (length buffer.old.glyphs)) steps in
         buffer.new ≡ record buffer.old {
           glyphs = run_steps buffer.old.level wide buffer.old.glyphs;
           places = buffer.new.places;
         } }
     ensures same_length { length buffer.new.glyphs ≡ length buffer.old.glyphs }
 {
-    let first = first_left(base, &buffer.glyphs()[s..e]);
+    let first = first_left(base, &buffer.glyphs()[start..end]);
     if let Some(i) = first {
-        buffer.merge_clusters(s + i, s + b);
+        buffer.merge_clusters(start + i, start + base_end);
     }
 }

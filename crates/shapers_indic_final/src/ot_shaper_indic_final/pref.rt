@@ -85,9 +85,9 @@ fn behind_sign(base: usize, glyphs: &[hb_glyph_info_t]) -> usize
 
 // Whether a joiner stands at a place, and a halant before it.
 #[inline]
-fn is_joiner_behind_halant(glyphs: &[hb_glyph_info_t], i: usize) -> bool
-    requires { i < length glyphs.now }
-    ensures { result ≡ is_joiner_behind_halant glyphs.now i }
+fn is_joiner_behind_halant(glyphs: &[hb_glyph_info_t], index: usize) -> bool
+    requires { index < length glyphs.now }
+    ensures { result ≡ is_joiner_behind_halant glyphs.now index }
 {
-    i > 0 && is_halant(&glyphs[i - 1]) && is_joiner(&glyphs[i])
+    index > 0 && is_halant(&glyphs[index - 1]) && is_joiner(&glyphs[index])
 }

@@ -10,15 +10,20 @@ use shapers_base::buffer::{hb_buffer_t, hb_glyph_info_t};
 use shapers_base::font::GlyphId;
 use shapers_base::plan::ot_category_t::OT_H;
 
-// Recovers the viramas of the syllable from `s` to `e`.
+// Recovers the viramas of the syllable from `start` to `end`.
 #[inline]
-pub(super) fn recover_viramas(virama: Option<GlyphId>, buffer: &mut hb_buffer_t, s: usize, e: usize)
-    requires in_order { s ≤ e }
-    requires in_range { e ≤ length buffer.old.glyphs }
-    ensures { let change = with_stretch s e (map (recovered virama)) in
+pub(super) fn recover_viramas(
+    virama: Option<GlyphId>,
+    buffer: &mut hb_buffer_t,
+    start: usize,
+    end: usize,
+)
+    requires in_order { start ≤ end }
+    requires in_range { end ≤ length buffer.old.glyphs }
+    ensures { let change = with_stretch start end (map (recovered virama)) in
         buffer.new ≡ record buffer.old { glyphs = change buffer.old.glyphs } }
 {
-    buffer.change_each_by(s, e, |glyph| recover(virama, glyph));
+    buffer.change_each_by(start, end, |glyph| recover(virama, glyph));
 }
 
 // Makes a virama that was taken apart a halant again.

@@ -20,41 +20,41 @@ pub(super) fn open_words(init: u32, buffer: &mut hb_buffer_t)
     }
 }
 
-// Whether a syllable starts at place `s`.
+// Whether a syllable starts at `place`.
 #[inline]
-fn starts_syllable(glyphs: &[hb_glyph_info_t], s: usize) -> bool
-    requires { s < length glyphs.now }
-    ensures { result ≡ starts_syllable s glyphs.now }
+fn starts_syllable(glyphs: &[hb_glyph_info_t], place: usize) -> bool
+    requires { place < length glyphs.now }
+    ensures { result ≡ starts_syllable place glyphs.now }
 {
-    s == 0 || glyphs[s].syllable != glyphs[s - 1].syllable
+    place == 0 || glyphs[place].syllable != glyphs[place - 1].syllable
 }
 
-// Opens the syllable at place `s`.
+// Opens the syllable at `place`.
 #[inline]
-fn open_syllable(init: u32, buffer: &mut hb_buffer_t, s: usize)
-    requires { s < length buffer.old.glyphs }
-    ensures { buffer.new ≡ record buffer.old { glyphs = opened init s buffer.old.glyphs } }
+fn open_syllable(init: u32, buffer: &mut hb_buffer_t, place: usize)
+    requires { place < length buffer.old.glyphs }
+    ensures { buffer.new ≡ record buffer.old { glyphs = opened init place buffer.old.glyphs } }
 {
-    if !is_left(&buffer.glyphs()[s]) {
+    if !is_left(&buffer.glyphs()[place]) {
         return;
     }
-    if goes_on(buffer.glyphs(), s) {
-        buffer.unsafe_to_break(s.saturating_sub(1), s + 1);
+    if goes_on(buffer.glyphs(), place) {
+        buffer.unsafe_to_break(place.saturating_sub(1), place + 1);
         return;
     }
-    buffer.change_each_by(s, s + 1, |glyph| glyph.mask |= init);
+    buffer.change_each_by(place, place + 1, |glyph| glyph.mask |= init);
 }
 
 // Whether a word goes on behind what stands before a place.
 #[inline]
-fn goes_on(glyphs: &[hb_glyph_info_t], s: usize) -> bool
-    requires { s ≤ length glyphs.now }
-    ensures { result ≡ word_goes_on (before_place s glyphs.now) }
+fn goes_on(glyphs: &[hb_glyph_info_t], place: usize) -> bool
+    requires { place ≤ length glyphs.now }
+    ensures { result ≡ word_goes_on (before_place place glyphs.now) }
 {
-    if s == 0 {
+    if place == 0 {
         return false;
     }
-    continues_word(glyphs[s - 1].unicode_props.general_category())
+    continues_word(glyphs[place - 1].unicode_props.general_category())
 }
 
 // Whether a word goes on behind a glyph of this category.

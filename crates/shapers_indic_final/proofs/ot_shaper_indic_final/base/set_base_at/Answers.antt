@@ -13,5 +13,5 @@ one_changed f [] i d h = absurd (omega arith)
 one_changed f (g ∷ gs) zero d h = grind (arith, common_steps)
 one_changed f (g ∷ gs) (suc i) d h = grind (arith, common_steps, one_changed f gs i d (omega arith))
 
-pub returns-then-i-glyphs-clause-glyphs : goal.returns-then-i-glyphs-clause-glyphs
-returns-then-i-glyphs-clause-glyphs c = search (arith, one_changed (at_position 4) c.args.glyphs.now c.args.i default_glyph)
+pub returns-then-index-glyphs-clause-glyphs : goal.returns-then-index-glyphs-clause-glyphs
+returns-then-index-glyphs-clause-glyphs c = search (arith, one_changed (at_position 4) c.args.glyphs.now c.args.index default_glyph)

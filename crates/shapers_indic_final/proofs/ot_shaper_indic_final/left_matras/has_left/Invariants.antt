@@ -6,5 +6,5 @@ use Rattle.shapers_indic_final.specs.FinalMatras.{is_left}
 use Rattle.shapers_indic_final.proofs.ot_shaper_indic_final.left_matras.has_left.Given as goal
 
 abbrev pub invariant-loop-i : goal.invariant-loop-i
-invariant-loop-i l = (l.s ≤ l.i)
-    × (list_any is_left (stretch_of l.i l.e l.glyphs) ≡ list_any is_left (stretch_of l.s l.e l.glyphs))
+invariant-loop-i l = (l.start ≤ l.i)
+    × (list_any is_left (stretch_of l.i l.end l.glyphs) ≡ list_any is_left (stretch_of l.start l.end l.glyphs))

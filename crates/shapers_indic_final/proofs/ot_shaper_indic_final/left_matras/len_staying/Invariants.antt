@@ -4,4 +4,4 @@ use Rattle.shapers_indic_final.proofs.LeftMatraPlaces.{Counted}
 use Rattle.shapers_indic_final.proofs.ot_shaper_indic_final.left_matras.len_staying.Given as goal
 
 abbrev pub invariant-loop-j : goal.invariant-loop-j
-invariant-loop-j l = Counted (has_stayed l.i l.top l.glyphs) l.s l.j l.len
+invariant-loop-j l = Counted (has_stayed l.from l.top l.glyphs) l.start l.j l.len

@@ -14,49 +14,49 @@ use Rattle.shapers_indic_final.proofs.ot_shaper_indic_final.left_matras.list_mat
 pub list_places-at-requires-clause-room : goal.list_places-at-requires-clause-room
 list_places-at-requires-clause-room c =
     let a = c.args in
-    let gs = placed_by_all (matra_placements a.s a.i a.j) a.s a.e [] a.buffer.now.glyphs in
-    omega (arith, parted_count a.s a.i a.j gs)
+    let gs = placed_by_all (matra_placements a.start a.matra a.target) a.start a.end [] a.buffer.now.glyphs in
+    omega (arith, parted_count a.start a.matra a.target gs)
 
 pub list_places-behind-requires-clause-room : goal.list_places-behind-requires-clause-room
 list_places-behind-requires-clause-room c =
     let a = c.args in
-    let view : Glyphs → Glyphs = λ gs. placed_by_all (matra_placements a.s a.i a.j) a.s a.e [] gs in
+    let view : Glyphs → Glyphs = λ gs. placed_by_all (matra_placements a.start a.matra a.target) a.start a.end [] gs in
     let same = ap (λ (b : Buffer). view b.glyphs) c.list_places-at.ensures.listed in
     let w = c.list_places-at.ensures.behind in
-    subst (λ gs. c.list_places-at.result + length (filter (is_listed true a.s (a.s + a.i) gs) (places a.s (a.s + a.j))) ≤ a.e)
-    (sym same) (omega (arith, parted_count a.s a.i a.j (view a.buffer.now.glyphs)))
+    subst (λ gs. c.list_places-at.result + length (filter (is_listed true a.start (a.start + a.matra) gs) (places a.start (a.start + a.target))) ≤ a.end)
+    (sym same) (omega (arith, parted_count a.start a.matra a.target (view a.buffer.now.glyphs)))
 
 pub list_places-requires-clause-room : goal.list_places-requires-clause-room
 list_places-requires-clause-room c =
     let a = c.args in
-    let view : Glyphs → Glyphs = λ gs. placed_by_all (matra_placements a.s a.i a.j) a.s a.e [] gs in
+    let view : Glyphs → Glyphs = λ gs. placed_by_all (matra_placements a.start a.matra a.target) a.start a.end [] gs in
     let same = ap (λ (b : Buffer). view b.glyphs) c.list_places-at.ensures.listed in
-    let gone = ap (λ gs. length (filter (is_listed true a.s (a.s + a.i) gs) (places a.s (a.s + a.j)))) same in
-    let rest = ap length (rest_stays a.s a.e a.i a.j (view c.list_places-behind.new.buffer.glyphs) c.requires.before)
-    ∙ length-range_with_len (a.s + a.j) (a.e - (a.s + a.j)) in
+    let gone = ap (λ gs. length (filter (is_listed true a.start (a.start + a.matra) gs) (places a.start (a.start + a.target)))) same in
+    let rest = ap length (rest_stays a.start a.end a.matra a.target (view c.list_places-behind.new.buffer.glyphs) c.requires.before)
+    ∙ length-range_with_len (a.start + a.target) (a.end - (a.start + a.target)) in
     let at = c.list_places-at.ensures.behind in
     let behind = c.list_places-behind.ensures.behind in
-    omega (arith, parted_count a.s a.i a.j (view a.buffer.now.glyphs))
+    omega (arith, parted_count a.start a.matra a.target (view a.buffer.now.glyphs))
 
 pub returns-clause-moved : goal.returns-clause-moved
 returns-clause-moved c =
     let a = c.args in
     let b = a.buffer.now in
-    let w = three_walks a.s a.e a.i a.j c.list_places-at.result c.list_places-behind.result b
+    let w = three_walks a.start a.end a.matra a.target c.list_places-at.result c.list_places-behind.result b
     c.list_places-at.new.buffer c.list_places-behind.new.buffer c.list_places.new.buffer c.requires.before
     c.requires.inside c.list_places-at.ensures.listed c.list_places-at.ensures.behind
     c.list_places-behind.ensures.listed c.list_places-behind.ensures.behind c.list_places.ensures.listed in
-    list_moved a.s a.e a.i a.j c.list_places.new.buffer.places b.glyphs c.requires.before c.requires.inside
+    list_moved a.start a.end a.matra a.target c.list_places.new.buffer.places b.glyphs c.requires.before c.requires.inside
     c.requires.in_range w.listed_are
 
 pub returns-clause-each : goal.returns-clause-each
 returns-clause-each c =
     let a = c.args in
     let b = a.buffer.now in
-    let w = three_walks a.s a.e a.i a.j c.list_places-at.result c.list_places-behind.result b
+    let w = three_walks a.start a.end a.matra a.target c.list_places-at.result c.list_places-behind.result b
     c.list_places-at.new.buffer c.list_places-behind.new.buffer c.list_places.new.buffer c.requires.before
     c.requires.inside c.list_places-at.ensures.listed c.list_places-at.ensures.behind
     c.list_places-behind.ensures.listed c.list_places-behind.ensures.behind c.list_places.ensures.listed in
-    subst (IsPermutation (places a.s a.e)) (sym w.listed_are)
-    (list_each a.s a.e (length b.glyphs) a.i a.j (placed_by_all (matra_placements a.s a.i a.j) a.s a.e [] b.glyphs)
+    subst (IsPermutation (places a.start a.end)) (sym w.listed_are)
+    (list_each a.start a.end (length b.glyphs) a.matra a.target (placed_by_all (matra_placements a.start a.matra a.target) a.start a.end [] b.glyphs)
     c.requires.before c.requires.inside c.requires.in_range)

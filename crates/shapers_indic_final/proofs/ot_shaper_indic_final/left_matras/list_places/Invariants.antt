@@ -10,9 +10,9 @@ use Rattle.shapers_indic_final.proofs.ot_shaper_indic_final.left_matras.list_pla
 
 abbrev pub invariant-loop-k : goal.invariant-loop-k
 invariant-loop-k l =
-    let gs = placed_by_all (matra_placements l.s l.i l.j) l.s l.e [] l.fn.buffer.glyphs in
-    let t = is_listed l.gone l.s (l.s + l.i) gs in
-    let from = map (old_place_by_all (matra_placements l.s l.i l.j) l.s l.e []) in
+    let gs = placed_by_all (matra_placements l.start l.matra l.target) l.start l.end [] l.fn.buffer.glyphs in
+    let t = is_listed l.gone l.start (l.start + l.matra) gs in
+    let from = map (old_place_by_all (matra_placements l.start l.matra l.target) l.start l.end []) in
     let all = filter t (places l.from l.to) in
     Left (from (filter t (places l.k l.to))) l.at (with_listed l.fn.at (from all) l.fn.buffer.places)
     (l.fn.at + length (from all)) l.fn.buffer l.buffer

@@ -11,7 +11,7 @@ loop-i-init c =
     let a = c.args in
     let r = c.requires in (
       omega arith,
-      walk_start a.s a.top a.p a.b _ a.glyphs.now r.behind r.before r.in_range refl
+      walk_start a.start a.top a.target a.base_end _ a.glyphs.now r.behind r.before r.in_range refl
           (ap (λ (g : Glyph). g.cluster) c.get.ensures) refl (ap (λ (g : Glyph). g.cluster) c.get-2.ensures),
     )
 
@@ -21,10 +21,10 @@ loop-i-preserved-then-is_left c =
     let l = c.loop-i in
     let r = c.requires in
     let w = c.with_matra-runs in
-    let lies = lies_on (a.s + (l.i - 1)) (a.s + a.top) (a.s + a.p) (a.s + a.b) l.runs w.result a.glyphs.now
+    let lies = lies_on (a.start + (l.i - 1)) (a.start + a.top) (a.start + a.target) (a.start + a.base_end) l.runs w.result a.glyphs.now
     w.ensures.merged w.ensures.end l.invariant.1.lies in (
       omega arith,
-      walk_yes a.s l.i (l.i - 1) a.top a.p a.b l.runs w.result a.glyphs.now
+      walk_yes a.start l.i (l.i - 1) a.top a.target a.base_end l.runs w.result a.glyphs.now
           (omega arith) l.invariant.0 r.behind r.before r.in_range (ap is_left (sym c.get-in-loop-i.ensures) ∙ sym c.is_left.ensures
           ∙ c.if-is_left.true) w.ensures.merged w.ensures.end lies l.invariant.1,
     )
@@ -35,7 +35,7 @@ loop-i-preserved c =
     let l = c.loop-i in
     let r = c.requires in (
       omega arith,
-      walk_no a.s l.i (l.i - 1) a.top a.p a.b l.runs a.glyphs.now
+      walk_no a.start l.i (l.i - 1) a.top a.target a.base_end l.runs a.glyphs.now
           (omega arith) l.invariant.0 r.behind r.before r.in_range (ap is_left (sym c.get-in-loop-i.ensures) ∙ sym c.is_left.ensures
           ∙ c.if-is_left.false) l.invariant.1,
     )
@@ -44,4 +44,4 @@ pub returns-clause-parted : goal.returns-clause-parted
 returns-clause-parted c =
     let a = c.args in
     let l = c.loop-i in
-    walk_end a.s l.i a.top a.p a.b l.runs a.glyphs.now (omega arith) l.invariant.1
+    walk_end a.start l.i a.top a.target a.base_end l.runs a.glyphs.now (omega arith) l.invariant.1

@@ -4,4 +4,4 @@ use Rattle.shapers_indic_final.proofs.LeftMatraWalks.{Walk}
 use Rattle.shapers_indic_final.proofs.ot_shaper_indic_final.left_matras.merged_runs.Given as goal
 
 abbrev pub invariant-loop-i : goal.invariant-loop-i
-invariant-loop-i l = (l.i ≤ l.top) × Walk l.s l.i l.top l.p l.b l.runs l.glyphs
+invariant-loop-i l = (l.i ≤ l.top) × Walk l.start l.i l.top l.target l.base_end l.runs l.glyphs

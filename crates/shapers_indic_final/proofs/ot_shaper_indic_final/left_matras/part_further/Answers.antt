@@ -21,8 +21,8 @@ returns-then-not-has_left-clause-glyphs c =
     let a = c.args in
     let r = c.requires in
     let b0 = a.buffer.now in
-    let old = arranged a.moves a.s a.e b0 in
-    let long : length old.glyphs ≡ length b0.glyphs = all_long a.moves a.s a.e b0.places b0.glyphs r.fits in
+    let old = arranged a.moves a.start a.end b0 in
+    let long : length old.glyphs ≡ length b0.glyphs = all_long a.moves a.start a.end b0.places b0.glyphs r.fits in
     let text = c.arranged.ensures.text in
     search (arith, no_lefts)
 
@@ -31,24 +31,24 @@ overflow_sub-at c =
     let a = c.args in
     let r = c.requires in
     let b0 = a.buffer.now in
-    let old = arranged a.moves a.s a.e b0 in
+    let old = arranged a.moves a.start a.end b0 in
     let gs = old.glyphs in
-    let long : length gs ≡ length b0.glyphs = all_long a.moves a.s a.e b0.places b0.glyphs r.fits in
+    let long : length gs ≡ length b0.glyphs = all_long a.moves a.start a.end b0.places b0.glyphs r.fits in
     let w = c.merged_runs-runs in
-    let lies : Lies (a.s + a.p) (a.s + a.b) w.result gs =
+    let lies : Lies (a.start + a.target) (a.start + a.base_end) w.result gs =
     record {
       start = w.ensures.start;
       from = w.ensures.from;
       end = omega (arith, w.ensures.end, c.arranged-2.ensures.same_length, long);
     } in
     let many = c.len_staying-len.ensures
-    ∙ ap (λ xs. length (filter (has_stayed a.s (a.s + a.top) xs) (places w.result.start (a.s + a.p))))
+    ∙ ap (λ xs. length (filter (has_stayed a.start (a.start + a.top) xs) (places w.result.start (a.start + a.target))))
     c.arranged-3.ensures.text in
-    let view : placed_by_all (matra_placements a.s a.top a.p) a.s a.e [] b0.glyphs ≡ gs =
-    ap (λ ps. placed_by_all ps a.s a.e b0.places b0.glyphs) (sym r.moved) in
+    let view : placed_by_all (matra_placements a.start a.top a.target) a.start a.end [] b0.glyphs ≡ gs =
+    ap (λ ps. placed_by_all ps a.start a.end b0.places b0.glyphs) (sym r.moved) in
     let at = c.list_matras-at.ensures.at
-    ∙ ap (λ xs. a.s + length (filter (has_stayed a.s (a.s + a.top) xs) (places a.s (a.s + a.p)))) view in
-    let parted = parted_written b0.level a.s (a.s + a.top) (a.s + a.p) (a.s + a.b) c.list_matras-at.result
+    ∙ ap (λ xs. a.start + length (filter (has_stayed a.start (a.start + a.top) xs) (places a.start (a.start + a.target)))) view in
+    let parted = parted_written b0.level a.start (a.start + a.top) (a.start + a.target) (a.start + a.base_end) c.list_matras-at.result
     c.len_staying-len.result w.result gs (omega arith) (omega (arith, r.before)) lies at many in
     parted.0
 
@@ -57,36 +57,36 @@ put-requires-clause-fits c =
     let a = c.args in
     let r = c.requires in
     let b0 = a.buffer.now in
-    let old = arranged a.moves a.s a.e b0 in
+    let old = arranged a.moves a.start a.end b0 in
     let gs = old.glyphs in
-    let long : length gs ≡ length b0.glyphs = all_long a.moves a.s a.e b0.places b0.glyphs r.fits in
+    let long : length gs ≡ length b0.glyphs = all_long a.moves a.start a.end b0.places b0.glyphs r.fits in
     let w = c.merged_runs-runs in
-    let lies : Lies (a.s + a.p) (a.s + a.b) w.result gs =
+    let lies : Lies (a.start + a.target) (a.start + a.base_end) w.result gs =
     record {
       start = w.ensures.start;
       from = w.ensures.from;
       end = omega (arith, w.ensures.end, c.arranged-2.ensures.same_length, long);
     } in
     let many = c.len_staying-len.ensures
-    ∙ ap (λ xs. length (filter (has_stayed a.s (a.s + a.top) xs) (places w.result.start (a.s + a.p))))
+    ∙ ap (λ xs. length (filter (has_stayed a.start (a.start + a.top) xs) (places w.result.start (a.start + a.target))))
     c.arranged-3.ensures.text in
-    let view : placed_by_all (matra_placements a.s a.top a.p) a.s a.e [] b0.glyphs ≡ gs =
-    ap (λ ps. placed_by_all ps a.s a.e b0.places b0.glyphs) (sym r.moved) in
+    let view : placed_by_all (matra_placements a.start a.top a.target) a.start a.end [] b0.glyphs ≡ gs =
+    ap (λ ps. placed_by_all ps a.start a.end b0.places b0.glyphs) (sym r.moved) in
     let at = c.list_matras-at.ensures.at
-    ∙ ap (λ xs. a.s + length (filter (has_stayed a.s (a.s + a.top) xs) (places a.s (a.s + a.p)))) view in
-    let parted = parted_written b0.level a.s (a.s + a.top) (a.s + a.p) (a.s + a.b) c.list_matras-at.result
+    ∙ ap (λ xs. a.start + length (filter (has_stayed a.start (a.start + a.top) xs) (places a.start (a.start + a.target)))) view in
+    let parted = parted_written b0.level a.start (a.start + a.top) (a.start + a.target) (a.start + a.base_end) c.list_matras-at.result
     c.len_staying-len.result w.result gs (omega arith) (omega (arith, r.before)) lies at many in
     let listed : Placements = record { first = Listed; second = Stays; third = Stays } in
     let b1 = c.list_matras-at.new.buffer in
     let same : length b1.glyphs ≡ length b0.glyphs =
     ap (λ (b : Buffer). length b.glyphs) c.list_matras-at.ensures.others in
-    let fits1 : MayArrange listed a.s a.e (length b1.glyphs) b1.places =
+    let fits1 : MayArrange listed a.start a.end (length b1.glyphs) b1.places =
     record {
       in_order = r.fits.in_order;
       in_range = omega (arith, r.fits.in_range);
       first = c.list_matras-at.ensures.each;
-      second = stay_fits a.s a.e b1.places;
-      third = stay_fits a.s a.e b1.places;
+      second = stay_fits a.start a.end b1.places;
+      third = stay_fits a.start a.end b1.places;
     } in
     fits1
 
@@ -95,36 +95,36 @@ put-requires-clause-in_range c =
     let a = c.args in
     let r = c.requires in
     let b0 = a.buffer.now in
-    let old = arranged a.moves a.s a.e b0 in
+    let old = arranged a.moves a.start a.end b0 in
     let gs = old.glyphs in
-    let long : length gs ≡ length b0.glyphs = all_long a.moves a.s a.e b0.places b0.glyphs r.fits in
+    let long : length gs ≡ length b0.glyphs = all_long a.moves a.start a.end b0.places b0.glyphs r.fits in
     let w = c.merged_runs-runs in
-    let lies : Lies (a.s + a.p) (a.s + a.b) w.result gs =
+    let lies : Lies (a.start + a.target) (a.start + a.base_end) w.result gs =
     record {
       start = w.ensures.start;
       from = w.ensures.from;
       end = omega (arith, w.ensures.end, c.arranged-2.ensures.same_length, long);
     } in
     let many = c.len_staying-len.ensures
-    ∙ ap (λ xs. length (filter (has_stayed a.s (a.s + a.top) xs) (places w.result.start (a.s + a.p))))
+    ∙ ap (λ xs. length (filter (has_stayed a.start (a.start + a.top) xs) (places w.result.start (a.start + a.target))))
     c.arranged-3.ensures.text in
-    let view : placed_by_all (matra_placements a.s a.top a.p) a.s a.e [] b0.glyphs ≡ gs =
-    ap (λ ps. placed_by_all ps a.s a.e b0.places b0.glyphs) (sym r.moved) in
+    let view : placed_by_all (matra_placements a.start a.top a.target) a.start a.end [] b0.glyphs ≡ gs =
+    ap (λ ps. placed_by_all ps a.start a.end b0.places b0.glyphs) (sym r.moved) in
     let at = c.list_matras-at.ensures.at
-    ∙ ap (λ xs. a.s + length (filter (has_stayed a.s (a.s + a.top) xs) (places a.s (a.s + a.p)))) view in
-    let parted = parted_written b0.level a.s (a.s + a.top) (a.s + a.p) (a.s + a.b) c.list_matras-at.result
+    ∙ ap (λ xs. a.start + length (filter (has_stayed a.start (a.start + a.top) xs) (places a.start (a.start + a.target)))) view in
+    let parted = parted_written b0.level a.start (a.start + a.top) (a.start + a.target) (a.start + a.base_end) c.list_matras-at.result
     c.len_staying-len.result w.result gs (omega arith) (omega (arith, r.before)) lies at many in
     let listed : Placements = record { first = Listed; second = Stays; third = Stays } in
     let b1 = c.list_matras-at.new.buffer in
     let same : length b1.glyphs ≡ length b0.glyphs =
     ap (λ (b : Buffer). length b.glyphs) c.list_matras-at.ensures.others in
-    let fits1 : MayArrange listed a.s a.e (length b1.glyphs) b1.places =
+    let fits1 : MayArrange listed a.start a.end (length b1.glyphs) b1.places =
     record {
       in_order = r.fits.in_order;
       in_range = omega (arith, r.fits.in_range);
       first = c.list_matras-at.ensures.each;
-      second = stay_fits a.s a.e b1.places;
-      third = stay_fits a.s a.e b1.places;
+      second = stay_fits a.start a.end b1.places;
+      third = stay_fits a.start a.end b1.places;
     } in
     omega (arith, parted.1, w.ensures.end, c.arranged-2.ensures.same_length)
 
@@ -133,42 +133,42 @@ put-requires-2-clause-fits c =
     let a = c.args in
     let r = c.requires in
     let b0 = a.buffer.now in
-    let old = arranged a.moves a.s a.e b0 in
+    let old = arranged a.moves a.start a.end b0 in
     let gs = old.glyphs in
-    let long : length gs ≡ length b0.glyphs = all_long a.moves a.s a.e b0.places b0.glyphs r.fits in
+    let long : length gs ≡ length b0.glyphs = all_long a.moves a.start a.end b0.places b0.glyphs r.fits in
     let w = c.merged_runs-runs in
-    let lies : Lies (a.s + a.p) (a.s + a.b) w.result gs =
+    let lies : Lies (a.start + a.target) (a.start + a.base_end) w.result gs =
     record {
       start = w.ensures.start;
       from = w.ensures.from;
       end = omega (arith, w.ensures.end, c.arranged-2.ensures.same_length, long);
     } in
     let many = c.len_staying-len.ensures
-    ∙ ap (λ xs. length (filter (has_stayed a.s (a.s + a.top) xs) (places w.result.start (a.s + a.p))))
+    ∙ ap (λ xs. length (filter (has_stayed a.start (a.start + a.top) xs) (places w.result.start (a.start + a.target))))
     c.arranged-3.ensures.text in
-    let view : placed_by_all (matra_placements a.s a.top a.p) a.s a.e [] b0.glyphs ≡ gs =
-    ap (λ ps. placed_by_all ps a.s a.e b0.places b0.glyphs) (sym r.moved) in
+    let view : placed_by_all (matra_placements a.start a.top a.target) a.start a.end [] b0.glyphs ≡ gs =
+    ap (λ ps. placed_by_all ps a.start a.end b0.places b0.glyphs) (sym r.moved) in
     let at = c.list_matras-at.ensures.at
-    ∙ ap (λ xs. a.s + length (filter (has_stayed a.s (a.s + a.top) xs) (places a.s (a.s + a.p)))) view in
-    let parted = parted_written b0.level a.s (a.s + a.top) (a.s + a.p) (a.s + a.b) c.list_matras-at.result
+    ∙ ap (λ xs. a.start + length (filter (has_stayed a.start (a.start + a.top) xs) (places a.start (a.start + a.target)))) view in
+    let parted = parted_written b0.level a.start (a.start + a.top) (a.start + a.target) (a.start + a.base_end) c.list_matras-at.result
     c.len_staying-len.result w.result gs (omega arith) (omega (arith, r.before)) lies at many in
     let listed : Placements = record { first = Listed; second = Stays; third = Stays } in
     let b1 = c.list_matras-at.new.buffer in
     let same : length b1.glyphs ≡ length b0.glyphs =
     ap (λ (b : Buffer). length b.glyphs) c.list_matras-at.ensures.others in
-    let fits1 : MayArrange listed a.s a.e (length b1.glyphs) b1.places =
+    let fits1 : MayArrange listed a.start a.end (length b1.glyphs) b1.places =
     record {
       in_order = r.fits.in_order;
       in_range = omega (arith, r.fits.in_range);
       first = c.list_matras-at.ensures.each;
-      second = stay_fits a.s a.e b1.places;
-      third = stay_fits a.s a.e b1.places;
+      second = stay_fits a.start a.end b1.places;
+      third = stay_fits a.start a.end b1.places;
     } in
     let b2 = c.put.new.buffer in
-    let fits2 : MayArrange listed a.s a.e (length b2.glyphs) b2.places =
-    subst (λ ps. MayArrange listed a.s a.e (length b2.glyphs) ps)
+    let fits2 : MayArrange listed a.start a.end (length b2.glyphs) b2.places =
+    subst (λ ps. MayArrange listed a.start a.end (length b2.glyphs) ps)
     (sym (ap (λ (b : Buffer). b.places) c.put.ensures.others))
-    (subst (λ n. MayArrange listed a.s a.e n b1.places) (sym c.put.ensures.same_length) fits1) in
+    (subst (λ n. MayArrange listed a.start a.end n b1.places) (sym c.put.ensures.same_length) fits1) in
     fits2
 
 pub put-requires-2-clause-in_order : goal.put-requires-2-clause-in_order
@@ -176,24 +176,24 @@ put-requires-2-clause-in_order c =
     let a = c.args in
     let r = c.requires in
     let b0 = a.buffer.now in
-    let old = arranged a.moves a.s a.e b0 in
+    let old = arranged a.moves a.start a.end b0 in
     let gs = old.glyphs in
-    let long : length gs ≡ length b0.glyphs = all_long a.moves a.s a.e b0.places b0.glyphs r.fits in
+    let long : length gs ≡ length b0.glyphs = all_long a.moves a.start a.end b0.places b0.glyphs r.fits in
     let w = c.merged_runs-runs in
-    let lies : Lies (a.s + a.p) (a.s + a.b) w.result gs =
+    let lies : Lies (a.start + a.target) (a.start + a.base_end) w.result gs =
     record {
       start = w.ensures.start;
       from = w.ensures.from;
       end = omega (arith, w.ensures.end, c.arranged-2.ensures.same_length, long);
     } in
     let many = c.len_staying-len.ensures
-    ∙ ap (λ xs. length (filter (has_stayed a.s (a.s + a.top) xs) (places w.result.start (a.s + a.p))))
+    ∙ ap (λ xs. length (filter (has_stayed a.start (a.start + a.top) xs) (places w.result.start (a.start + a.target))))
     c.arranged-3.ensures.text in
-    let view : placed_by_all (matra_placements a.s a.top a.p) a.s a.e [] b0.glyphs ≡ gs =
-    ap (λ ps. placed_by_all ps a.s a.e b0.places b0.glyphs) (sym r.moved) in
+    let view : placed_by_all (matra_placements a.start a.top a.target) a.start a.end [] b0.glyphs ≡ gs =
+    ap (λ ps. placed_by_all ps a.start a.end b0.places b0.glyphs) (sym r.moved) in
     let at = c.list_matras-at.ensures.at
-    ∙ ap (λ xs. a.s + length (filter (has_stayed a.s (a.s + a.top) xs) (places a.s (a.s + a.p)))) view in
-    let parted = parted_written b0.level a.s (a.s + a.top) (a.s + a.p) (a.s + a.b) c.list_matras-at.result
+    ∙ ap (λ xs. a.start + length (filter (has_stayed a.start (a.start + a.top) xs) (places a.start (a.start + a.target)))) view in
+    let parted = parted_written b0.level a.start (a.start + a.top) (a.start + a.target) (a.start + a.base_end) c.list_matras-at.result
     c.len_staying-len.result w.result gs (omega arith) (omega (arith, r.before)) lies at many in
     parted.1
 
@@ -202,36 +202,36 @@ put-requires-2-clause-in_range c =
     let a = c.args in
     let r = c.requires in
     let b0 = a.buffer.now in
-    let old = arranged a.moves a.s a.e b0 in
+    let old = arranged a.moves a.start a.end b0 in
     let gs = old.glyphs in
-    let long : length gs ≡ length b0.glyphs = all_long a.moves a.s a.e b0.places b0.glyphs r.fits in
+    let long : length gs ≡ length b0.glyphs = all_long a.moves a.start a.end b0.places b0.glyphs r.fits in
     let w = c.merged_runs-runs in
-    let lies : Lies (a.s + a.p) (a.s + a.b) w.result gs =
+    let lies : Lies (a.start + a.target) (a.start + a.base_end) w.result gs =
     record {
       start = w.ensures.start;
       from = w.ensures.from;
       end = omega (arith, w.ensures.end, c.arranged-2.ensures.same_length, long);
     } in
     let many = c.len_staying-len.ensures
-    ∙ ap (λ xs. length (filter (has_stayed a.s (a.s + a.top) xs) (places w.result.start (a.s + a.p))))
+    ∙ ap (λ xs. length (filter (has_stayed a.start (a.start + a.top) xs) (places w.result.start (a.start + a.target))))
     c.arranged-3.ensures.text in
-    let view : placed_by_all (matra_placements a.s a.top a.p) a.s a.e [] b0.glyphs ≡ gs =
-    ap (λ ps. placed_by_all ps a.s a.e b0.places b0.glyphs) (sym r.moved) in
+    let view : placed_by_all (matra_placements a.start a.top a.target) a.start a.end [] b0.glyphs ≡ gs =
+    ap (λ ps. placed_by_all ps a.start a.end b0.places b0.glyphs) (sym r.moved) in
     let at = c.list_matras-at.ensures.at
-    ∙ ap (λ xs. a.s + length (filter (has_stayed a.s (a.s + a.top) xs) (places a.s (a.s + a.p)))) view in
-    let parted = parted_written b0.level a.s (a.s + a.top) (a.s + a.p) (a.s + a.b) c.list_matras-at.result
+    ∙ ap (λ xs. a.start + length (filter (has_stayed a.start (a.start + a.top) xs) (places a.start (a.start + a.target)))) view in
+    let parted = parted_written b0.level a.start (a.start + a.top) (a.start + a.target) (a.start + a.base_end) c.list_matras-at.result
     c.len_staying-len.result w.result gs (omega arith) (omega (arith, r.before)) lies at many in
     let listed : Placements = record { first = Listed; second = Stays; third = Stays } in
     let b1 = c.list_matras-at.new.buffer in
     let same : length b1.glyphs ≡ length b0.glyphs =
     ap (λ (b : Buffer). length b.glyphs) c.list_matras-at.ensures.others in
-    let fits1 : MayArrange listed a.s a.e (length b1.glyphs) b1.places =
+    let fits1 : MayArrange listed a.start a.end (length b1.glyphs) b1.places =
     record {
       in_order = r.fits.in_order;
       in_range = omega (arith, r.fits.in_range);
       first = c.list_matras-at.ensures.each;
-      second = stay_fits a.s a.e b1.places;
-      third = stay_fits a.s a.e b1.places;
+      second = stay_fits a.start a.end b1.places;
+      third = stay_fits a.start a.end b1.places;
     } in
     omega (arith, w.ensures.end, c.arranged-2.ensures.same_length, c.put.ensures.same_length)
 
@@ -240,63 +240,63 @@ returns-clause-glyphs c =
     let a = c.args in
     let r = c.requires in
     let b0 = a.buffer.now in
-    let old = arranged a.moves a.s a.e b0 in
+    let old = arranged a.moves a.start a.end b0 in
     let gs = old.glyphs in
-    let long : length gs ≡ length b0.glyphs = all_long a.moves a.s a.e b0.places b0.glyphs r.fits in
+    let long : length gs ≡ length b0.glyphs = all_long a.moves a.start a.end b0.places b0.glyphs r.fits in
     let w = c.merged_runs-runs in
-    let lies : Lies (a.s + a.p) (a.s + a.b) w.result gs =
+    let lies : Lies (a.start + a.target) (a.start + a.base_end) w.result gs =
     record {
       start = w.ensures.start;
       from = w.ensures.from;
       end = omega (arith, w.ensures.end, c.arranged-2.ensures.same_length, long);
     } in
     let many = c.len_staying-len.ensures
-    ∙ ap (λ xs. length (filter (has_stayed a.s (a.s + a.top) xs) (places w.result.start (a.s + a.p))))
+    ∙ ap (λ xs. length (filter (has_stayed a.start (a.start + a.top) xs) (places w.result.start (a.start + a.target))))
     c.arranged-3.ensures.text in
-    let view : placed_by_all (matra_placements a.s a.top a.p) a.s a.e [] b0.glyphs ≡ gs =
-    ap (λ ps. placed_by_all ps a.s a.e b0.places b0.glyphs) (sym r.moved) in
+    let view : placed_by_all (matra_placements a.start a.top a.target) a.start a.end [] b0.glyphs ≡ gs =
+    ap (λ ps. placed_by_all ps a.start a.end b0.places b0.glyphs) (sym r.moved) in
     let at = c.list_matras-at.ensures.at
-    ∙ ap (λ xs. a.s + length (filter (has_stayed a.s (a.s + a.top) xs) (places a.s (a.s + a.p)))) view in
-    let parted = parted_written b0.level a.s (a.s + a.top) (a.s + a.p) (a.s + a.b) c.list_matras-at.result
+    ∙ ap (λ xs. a.start + length (filter (has_stayed a.start (a.start + a.top) xs) (places a.start (a.start + a.target)))) view in
+    let parted = parted_written b0.level a.start (a.start + a.top) (a.start + a.target) (a.start + a.base_end) c.list_matras-at.result
     c.len_staying-len.result w.result gs (omega arith) (omega (arith, r.before)) lies at many in
     let listed : Placements = record { first = Listed; second = Stays; third = Stays } in
     let b1 = c.list_matras-at.new.buffer in
     let same : length b1.glyphs ≡ length b0.glyphs =
     ap (λ (b : Buffer). length b.glyphs) c.list_matras-at.ensures.others in
-    let fits1 : MayArrange listed a.s a.e (length b1.glyphs) b1.places =
+    let fits1 : MayArrange listed a.start a.end (length b1.glyphs) b1.places =
     record {
       in_order = r.fits.in_order;
       in_range = omega (arith, r.fits.in_range);
       first = c.list_matras-at.ensures.each;
-      second = stay_fits a.s a.e b1.places;
-      third = stay_fits a.s a.e b1.places;
+      second = stay_fits a.start a.end b1.places;
+      third = stay_fits a.start a.end b1.places;
     } in
     let b2 = c.put.new.buffer in
-    let fits2 : MayArrange listed a.s a.e (length b2.glyphs) b2.places =
-    subst (λ ps. MayArrange listed a.s a.e (length b2.glyphs) ps)
+    let fits2 : MayArrange listed a.start a.end (length b2.glyphs) b2.places =
+    subst (λ ps. MayArrange listed a.start a.end (length b2.glyphs) ps)
     (sym (ap (λ (b : Buffer). b.places) c.put.ensures.others))
-    (subst (λ n. MayArrange listed a.s a.e n b1.places) (sym c.put.ensures.same_length) fits1) in
+    (subst (λ n. MayArrange listed a.start a.end n b1.places) (sym c.put.ensures.same_length) fits1) in
     let b3 = c.put-2.new.buffer in
-    let mid = arranged listed a.s a.e b1 in
-    let alone = (only_one listed a.s a.e b1.places b1.glyphs fits1).0 refl refl in
-    let text : mid.glyphs ≡ staying a.s (a.s + a.top) gs 0 (a.s + a.p)
-    ++ (gone a.s (a.s + a.top) gs 0 (a.s + a.p) ++ drop (a.s + a.p) gs) =
-    alone ∙ ap (λ xs. placed_by Listed a.s a.e b1.places xs) (ap (λ (b : Buffer). b.glyphs) c.list_matras-at.ensures.others)
+    let mid = arranged listed a.start a.end b1 in
+    let alone = (only_one listed a.start a.end b1.places b1.glyphs fits1).0 refl refl in
+    let text : mid.glyphs ≡ staying a.start (a.start + a.top) gs 0 (a.start + a.target)
+    ++ (gone a.start (a.start + a.top) gs 0 (a.start + a.target) ++ drop (a.start + a.target) gs) =
+    alone ∙ ap (λ xs. placed_by Listed a.start a.end b1.places xs) (ap (λ (b : Buffer). b.glyphs) c.list_matras-at.ensures.others)
     ∙ c.list_matras-at.ensures.moved
-    ∙ ap (λ xs. staying a.s (a.s + a.top) xs 0 (a.s + a.p)
-    ++ (gone a.s (a.s + a.top) xs 0 (a.s + a.p) ++ drop (a.s + a.p) xs)) view in
+    ∙ ap (λ xs. staying a.start (a.start + a.top) xs 0 (a.start + a.target)
+    ++ (gone a.start (a.start + a.top) xs 0 (a.start + a.target) ++ drop (a.start + a.target) xs)) view in
     let moved = ap (λ (xs : Glyphs). let y : Buffer = record mid { glyphs = xs } in y) text
     ∙ ap (λ (x : Buffer). let y : Buffer = record x {
-      glyphs = staying a.s (a.s + a.top) gs 0 (a.s + a.p)
-          ++ (gone a.s (a.s + a.top) gs 0 (a.s + a.p) ++ drop (a.s + a.p) gs);
+      glyphs = staying a.start (a.start + a.top) gs 0 (a.start + a.target)
+          ++ (gone a.start (a.start + a.top) gs 0 (a.start + a.target) ++ drop (a.start + a.target) gs);
       places = [];
     } in y) c.list_matras-at.ensures.others in
-    let written = written_there old mid (arranged listed a.s a.e b2) (arranged listed a.s a.e b3) a.s (a.s + a.top)
-    (a.s + a.p) (a.s + a.b) c.list_matras-at.result c.len_staying-len.result w.result (omega arith)
+    let written = written_there old mid (arranged listed a.start a.end b2) (arranged listed a.start a.end b3) a.start (a.start + a.top)
+    (a.start + a.target) (a.start + a.base_end) c.list_matras-at.result c.len_staying-len.result w.result (omega arith)
     (omega (arith, r.before)) lies moved at many c.put.ensures.glyphs c.put-2.ensures.glyphs in
-    let walked = found b0.level a.s a.e a.top a.p a.b w.result c.arranged-2.result gs c.arranged-2.ensures.text
-    (w.ensures.parted b0.level a.e r.in_order (omega (arith, c.arranged-2.ensures.same_length, r.fits.in_range))
-    (one_there b0.level (a.s + a.p) (a.s + a.b) c.arranged-2.result gs c.arranged-2.ensures.text r.one)) in
+    let walked = found b0.level a.start a.end a.top a.target a.base_end w.result c.arranged-2.result gs c.arranged-2.ensures.text
+    (w.ensures.parted b0.level a.end r.in_order (omega (arith, c.arranged-2.ensures.same_length, r.fits.in_range))
+    (one_there b0.level (a.start + a.target) (a.start + a.base_end) c.arranged-2.result gs c.arranged-2.ensures.text r.one)) in
     written ∙ ap (λ (xs : Glyphs). let y : Buffer = record old { glyphs = xs } in y) walked
 
 pub returns-clause-fits : goal.returns-clause-fits
@@ -304,46 +304,46 @@ returns-clause-fits c =
     let a = c.args in
     let r = c.requires in
     let b0 = a.buffer.now in
-    let old = arranged a.moves a.s a.e b0 in
+    let old = arranged a.moves a.start a.end b0 in
     let gs = old.glyphs in
-    let long : length gs ≡ length b0.glyphs = all_long a.moves a.s a.e b0.places b0.glyphs r.fits in
+    let long : length gs ≡ length b0.glyphs = all_long a.moves a.start a.end b0.places b0.glyphs r.fits in
     let w = c.merged_runs-runs in
-    let lies : Lies (a.s + a.p) (a.s + a.b) w.result gs =
+    let lies : Lies (a.start + a.target) (a.start + a.base_end) w.result gs =
     record {
       start = w.ensures.start;
       from = w.ensures.from;
       end = omega (arith, w.ensures.end, c.arranged-2.ensures.same_length, long);
     } in
     let many = c.len_staying-len.ensures
-    ∙ ap (λ xs. length (filter (has_stayed a.s (a.s + a.top) xs) (places w.result.start (a.s + a.p))))
+    ∙ ap (λ xs. length (filter (has_stayed a.start (a.start + a.top) xs) (places w.result.start (a.start + a.target))))
     c.arranged-3.ensures.text in
-    let view : placed_by_all (matra_placements a.s a.top a.p) a.s a.e [] b0.glyphs ≡ gs =
-    ap (λ ps. placed_by_all ps a.s a.e b0.places b0.glyphs) (sym r.moved) in
+    let view : placed_by_all (matra_placements a.start a.top a.target) a.start a.end [] b0.glyphs ≡ gs =
+    ap (λ ps. placed_by_all ps a.start a.end b0.places b0.glyphs) (sym r.moved) in
     let at = c.list_matras-at.ensures.at
-    ∙ ap (λ xs. a.s + length (filter (has_stayed a.s (a.s + a.top) xs) (places a.s (a.s + a.p)))) view in
-    let parted = parted_written b0.level a.s (a.s + a.top) (a.s + a.p) (a.s + a.b) c.list_matras-at.result
+    ∙ ap (λ xs. a.start + length (filter (has_stayed a.start (a.start + a.top) xs) (places a.start (a.start + a.target)))) view in
+    let parted = parted_written b0.level a.start (a.start + a.top) (a.start + a.target) (a.start + a.base_end) c.list_matras-at.result
     c.len_staying-len.result w.result gs (omega arith) (omega (arith, r.before)) lies at many in
     let listed : Placements = record { first = Listed; second = Stays; third = Stays } in
     let b1 = c.list_matras-at.new.buffer in
     let same : length b1.glyphs ≡ length b0.glyphs =
     ap (λ (b : Buffer). length b.glyphs) c.list_matras-at.ensures.others in
-    let fits1 : MayArrange listed a.s a.e (length b1.glyphs) b1.places =
+    let fits1 : MayArrange listed a.start a.end (length b1.glyphs) b1.places =
     record {
       in_order = r.fits.in_order;
       in_range = omega (arith, r.fits.in_range);
       first = c.list_matras-at.ensures.each;
-      second = stay_fits a.s a.e b1.places;
-      third = stay_fits a.s a.e b1.places;
+      second = stay_fits a.start a.end b1.places;
+      third = stay_fits a.start a.end b1.places;
     } in
     let b2 = c.put.new.buffer in
-    let fits2 : MayArrange listed a.s a.e (length b2.glyphs) b2.places =
-    subst (λ ps. MayArrange listed a.s a.e (length b2.glyphs) ps)
+    let fits2 : MayArrange listed a.start a.end (length b2.glyphs) b2.places =
+    subst (λ ps. MayArrange listed a.start a.end (length b2.glyphs) ps)
     (sym (ap (λ (b : Buffer). b.places) c.put.ensures.others))
-    (subst (λ n. MayArrange listed a.s a.e n b1.places) (sym c.put.ensures.same_length) fits1) in
+    (subst (λ n. MayArrange listed a.start a.end n b1.places) (sym c.put.ensures.same_length) fits1) in
     let b3 = c.put-2.new.buffer in
-    subst (λ ps. MayArrange listed a.s a.e (length b3.glyphs) ps)
+    subst (λ ps. MayArrange listed a.start a.end (length b3.glyphs) ps)
     (sym (ap (λ (b : Buffer). b.places) c.put-2.ensures.others))
-    (subst (λ n. MayArrange listed a.s a.e n b2.places) (sym c.put-2.ensures.same_length) fits2)
+    (subst (λ n. MayArrange listed a.start a.end n b2.places) (sym c.put-2.ensures.same_length) fits2)
 
 pub returns-clause-same_length : goal.returns-clause-same_length
 returns-clause-same_length c =

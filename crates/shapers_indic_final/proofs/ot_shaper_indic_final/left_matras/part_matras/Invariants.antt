@@ -6,4 +6,4 @@ use Rattle.shapers_indic_final.proofs.ot_shaper_indic_final.left_matras.part_mat
 
 abbrev pub invariant-loop-i : goal.invariant-loop-i
 invariant-loop-i l =
-    (l.i ≤ l.p) × ((l.buffer ≡ l.fn.buffer) × (lefts_from l.i l.p (stretch_of l.s l.e l.fn.buffer.glyphs) ≡ []))
+    (l.i ≤ l.target) × ((l.buffer ≡ l.fn.buffer) × (lefts_from l.i l.target (stretch_of l.start l.end l.fn.buffer.glyphs) ≡ []))

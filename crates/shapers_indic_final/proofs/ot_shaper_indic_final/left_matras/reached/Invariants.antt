@@ -7,4 +7,4 @@ use Rattle.shapers_indic_final.proofs.ot_shaper_indic_final.left_matras.reached.
 
 abbrev pub invariant-loop-j : goal.invariant-loop-j
 invariant-loop-j l =
-    (l.j ≤ l.start) × (list_all (has_cluster l.cluster) (staying l.i l.top l.glyphs l.j l.start) ≡ true)
+    (l.j ≤ l.start) × (list_all (has_cluster l.cluster) (staying l.from l.top l.glyphs l.j l.start) ≡ true)

@@ -12,15 +12,15 @@ pub merge_arranged-requires-clause-arranges : goal.merge_arranged-requires-claus
 merge_arranged-requires-clause-arranges c =
     let a = c.args in
     let b = a.buffer.now in
-    subst (λ ps. MayArrange ps a.s a.e (length b.glyphs) b.places) (sym c.matra_placements-moves.ensures)
-    (matra_fits a.s a.e (length b.glyphs) a.i a.j b.places c.requires.before (omega arith) c.requires.in_range)
+    subst (λ ps. MayArrange ps a.start a.end (length b.glyphs) b.places) (sym c.matra_placements-moves.ensures)
+    (matra_fits a.start a.end (length b.glyphs) a.matra a.target b.places c.requires.before (omega arith) c.requires.in_range)
 
 pub returns-clause-fits : goal.returns-clause-fits
 returns-clause-fits c =
     let a = c.args in
     let b = c.merge_arranged.new.self in
-    subst (λ ps. MayArrange ps a.s a.e (length b.glyphs) b.places) (sym c.matra_placements-moves.ensures)
-    (matra_fits a.s a.e (length b.glyphs) a.i a.j b.places c.requires.before (omega arith)
+    subst (λ ps. MayArrange ps a.start a.end (length b.glyphs) b.places) (sym c.matra_placements-moves.ensures)
+    (matra_fits a.start a.end (length b.glyphs) a.matra a.target b.places c.requires.before (omega arith)
     (omega (arith, c.merge_arranged.ensures.same_length)))
 
 pub returns-clause-glyphs : goal.returns-clause-glyphs
@@ -28,12 +28,12 @@ returns-clause-glyphs c =
     let a = c.args in
     let r = c.requires in
     let b0 = a.buffer.now in
-    let moved = matra_moved a.s a.e a.i a.j b0.places b0.glyphs r.before (omega arith) r.in_range in
+    let moved = matra_moved a.start a.end a.matra a.target b0.places b0.glyphs r.before (omega arith) r.in_range in
     c.merge_arranged.ensures.glyphs
-    ∙ ap (λ ps. let old = arranged ps a.s a.e b0 in
-    let y : Buffer = record old { glyphs = merge b0.level (a.s + a.j) (a.s + a.base_end) old.glyphs } in y)
+    ∙ ap (λ ps. let old = arranged ps a.start a.end b0 in
+    let y : Buffer = record old { glyphs = merge b0.level (a.start + a.target) (a.start + a.base_end) old.glyphs } in y)
     c.matra_placements-moves.ensures
-    ∙ ap (λ (gs : Glyphs). let y : Buffer = record b0 { glyphs = merge b0.level (a.s + a.j) (a.s + a.base_end) gs; places = [] } in y)
+    ∙ ap (λ (gs : Glyphs). let y : Buffer = record b0 { glyphs = merge b0.level (a.start + a.target) (a.start + a.base_end) gs; places = [] } in y)
     moved
     ∙ ap (λ (gs : Glyphs). let y : Buffer = record b0 { glyphs = gs; places = [] } in y)
-    (matra_stepped b0.level a.s a.e a.base_end a.i a.j b0.glyphs r.before (omega arith) r.in_range)
+    (matra_stepped b0.level a.start a.end a.base_end a.matra a.target b0.glyphs r.before (omega arith) r.in_range)

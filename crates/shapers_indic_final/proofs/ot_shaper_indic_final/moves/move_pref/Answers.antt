@@ -15,14 +15,14 @@ returns-clause-glyphs c =
     let ps = a.moves in
     let r = c.requires in
     let b0 = a.buffer.now in
-    let old = arranged ps a.s a.e b0 in
-    let long : length old.glyphs ≡ length b0.glyphs = all_long ps a.s a.e b0.places b0.glyphs r.fits in
-    let hs = merge b0.level (a.s + a.j) (a.s + a.i + 1) old.glyphs in
-    let done = moved_third ps _ a.s a.e (a.s + a.j) (a.s + a.i + 1) b0 c.merge_arranged.new.self hs r.fits r.third
+    let old = arranged ps a.start a.end b0 in
+    let long : length old.glyphs ≡ length b0.glyphs = all_long ps a.start a.end b0.places b0.glyphs r.fits in
+    let hs = merge b0.level (a.start + a.target) (a.start + a.from + 1) old.glyphs in
+    let done = moved_third ps _ a.start a.end (a.start + a.target) (a.start + a.from + 1) b0 c.merge_arranged.new.self hs r.fits r.third
     (omega arith) (omega (arith, r.before)) (omega (arith, r.inside)) (ap (λ p. with_third ps p) c.last_first.ensures)
     c.merge_arranged.ensures.others c.merge_arranged.ensures.same_length c.merge_arranged.ensures.glyphs in
     done.0 ∙ ap (λ (gs : Glyphs). let y : Buffer = record old { glyphs = gs } in y)
-    (pref_stepped b0.level a.s a.e a.j a.i old.glyphs r.before r.inside (omega (arith, r.fits.in_range)))
+    (pref_stepped b0.level a.start a.end a.target a.from old.glyphs r.before r.inside (omega (arith, r.fits.in_range)))
 
 pub returns-clause-fits : goal.returns-clause-fits
 returns-clause-fits c =
@@ -30,10 +30,10 @@ returns-clause-fits c =
     let ps = a.moves in
     let r = c.requires in
     let b0 = a.buffer.now in
-    let old = arranged ps a.s a.e b0 in
-    let long : length old.glyphs ≡ length b0.glyphs = all_long ps a.s a.e b0.places b0.glyphs r.fits in
-    let hs = merge b0.level (a.s + a.j) (a.s + a.i + 1) old.glyphs in
-    let done = moved_third ps _ a.s a.e (a.s + a.j) (a.s + a.i + 1) b0 c.merge_arranged.new.self hs r.fits r.third
+    let old = arranged ps a.start a.end b0 in
+    let long : length old.glyphs ≡ length b0.glyphs = all_long ps a.start a.end b0.places b0.glyphs r.fits in
+    let hs = merge b0.level (a.start + a.target) (a.start + a.from + 1) old.glyphs in
+    let done = moved_third ps _ a.start a.end (a.start + a.target) (a.start + a.from + 1) b0 c.merge_arranged.new.self hs r.fits r.third
     (omega arith) (omega (arith, r.before)) (omega (arith, r.inside)) (ap (λ p. with_third ps p) c.last_first.ensures)
     c.merge_arranged.ensures.others c.merge_arranged.ensures.same_length c.merge_arranged.ensures.glyphs in
     done.1

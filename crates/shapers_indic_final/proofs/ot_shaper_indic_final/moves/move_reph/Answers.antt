@@ -15,14 +15,14 @@ returns-clause-glyphs c =
     let ps = a.moves in
     let r = c.requires in
     let b0 = a.buffer.now in
-    let old = arranged ps a.s a.e b0 in
-    let long : length old.glyphs ≡ length b0.glyphs = all_long ps a.s a.e b0.places b0.glyphs r.fits in
-    let hs = merge b0.level a.s (a.s + a.j + 1) old.glyphs in
-    let done = moved_second ps _ a.s a.e a.s (a.s + a.j + 1) b0 c.merge_arranged.new.self hs r.fits r.second r.third
+    let old = arranged ps a.start a.end b0 in
+    let long : length old.glyphs ≡ length b0.glyphs = all_long ps a.start a.end b0.places b0.glyphs r.fits in
+    let hs = merge b0.level a.start (a.start + a.target + 1) old.glyphs in
+    let done = moved_second ps _ a.start a.end a.start (a.start + a.target + 1) b0 c.merge_arranged.new.self hs r.fits r.second r.third
     (omega arith) (omega arith) (omega (arith, r.inside)) (ap (λ p. with_second ps p) c.first_last.ensures)
     c.merge_arranged.ensures.others c.merge_arranged.ensures.same_length c.merge_arranged.ensures.glyphs in
     done.0 ∙ ap (λ (gs : Glyphs). let y : Buffer = record old { glyphs = gs } in y)
-    (reph_stepped b0.level a.s a.e a.j old.glyphs r.inside (omega (arith, r.fits.in_range)))
+    (reph_stepped b0.level a.start a.end a.target old.glyphs r.inside (omega (arith, r.fits.in_range)))
 
 pub returns-clause-fits : goal.returns-clause-fits
 returns-clause-fits c =
@@ -30,10 +30,10 @@ returns-clause-fits c =
     let ps = a.moves in
     let r = c.requires in
     let b0 = a.buffer.now in
-    let old = arranged ps a.s a.e b0 in
-    let long : length old.glyphs ≡ length b0.glyphs = all_long ps a.s a.e b0.places b0.glyphs r.fits in
-    let hs = merge b0.level a.s (a.s + a.j + 1) old.glyphs in
-    let done = moved_second ps _ a.s a.e a.s (a.s + a.j + 1) b0 c.merge_arranged.new.self hs r.fits r.second r.third
+    let old = arranged ps a.start a.end b0 in
+    let long : length old.glyphs ≡ length b0.glyphs = all_long ps a.start a.end b0.places b0.glyphs r.fits in
+    let hs = merge b0.level a.start (a.start + a.target + 1) old.glyphs in
+    let done = moved_second ps _ a.start a.end a.start (a.start + a.target + 1) b0 c.merge_arranged.new.self hs r.fits r.second r.third
     (omega arith) (omega arith) (omega (arith, r.inside)) (ap (λ p. with_second ps p) c.first_last.ensures)
     c.merge_arranged.ensures.others c.merge_arranged.ensures.same_length c.merge_arranged.ensures.glyphs in
     done.1

@@ -10,6 +10,6 @@ returns-in-Some-clause-glyphs c =
     let old = a.buffer.now in
     let r = c.requires in
     let end = r.end in
-    stayed_in old c.merge_clusters.new.self a.s a.e a.base a.b c.in-Some.i r.in_order
-    (omega (arith, length-stretch a.s a.e old.glyphs r.in_range)) r.in_range end
+    stayed_in old c.merge_clusters.new.self a.start a.end a.base a.base_end c.in-Some.i r.in_order
+    (omega (arith, length-stretch a.start a.end old.glyphs r.in_range)) r.in_range end
     (search arith) c.merge_clusters.ensures

@@ -9,5 +9,5 @@ pub returns-then-moves_nothing : goal.returns-then-moves_nothing
 returns-then-moves_nothing c =
     let a = c.args in
     let b = a.buffer.now in
-    let none = nothing_moved a.moves.now a.s a.e b.places b.glyphs c.requires (sym c.moves_nothing.ensures ∙ c.if-moves_nothing.true) in
-    c.opens_with_reph.ensures ∙ ap (λ gs. opens_with_reph (stretch_of a.s a.e gs)) (c.glyphs.ensures ∙ sym none)
+    let none = nothing_moved a.moves.now a.start a.end b.places b.glyphs c.requires (sym c.moves_nothing.ensures ∙ c.if-moves_nothing.true) in
+    c.opens_with_reph.ensures ∙ ap (λ gs. opens_with_reph (stretch_of a.start a.end gs)) (c.glyphs.ensures ∙ sym none)

@@ -3,8 +3,8 @@ use Rattle.std.proofs.Common.{arith}
 use Rattle.shapers_indic_final.proofs.FinalArranged.{opens_by_first, opens_none}
 use Rattle.shapers_indic_final.proofs.ot_shaper_indic_final.placing.opens_arranged.Goals as goal
 
-pub returns-then-e-s-ge2 : goal.returns-then-e-s-ge2
-returns-then-e-s-ge2 = search (arith, opens_by_first)
+pub returns-then-end-start-ge2 : goal.returns-then-end-start-ge2
+returns-then-end-start-ge2 = search (arith, opens_by_first)
 
-pub returns-else-e-s-ge2 : goal.returns-else-e-s-ge2
-returns-else-e-s-ge2 = search (arith, opens_none)
+pub returns-else-end-start-ge2 : goal.returns-else-end-start-ge2
+returns-else-end-start-ge2 = search (arith, opens_none)

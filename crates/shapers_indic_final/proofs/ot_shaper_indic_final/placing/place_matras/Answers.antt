@@ -13,8 +13,8 @@ pub returns-then-base-eq0-clause-glyphs : goal.returns-then-base-eq0-clause-glyp
 returns-then-base-eq0-clause-glyphs c =
     let a = c.args in
     let b = a.buffer.now in
-    let still = stay_all a.s a.e b.places b.glyphs c.requires.in_order c.requires.in_range in
-    let n = length-stretch a.s a.e b.glyphs c.requires.in_range in
+    let still = stay_all a.start a.end b.places b.glyphs c.requires.in_order c.requires.in_range in
+    let n = length-stretch a.start a.end b.glyphs c.requires.in_range in
     search arith
 
 pub returns-else-matras_go-clause-glyphs : goal.returns-else-matras_go-clause-glyphs
@@ -22,17 +22,17 @@ returns-else-matras_go-clause-glyphs c =
     let a = c.args in
     let b = c.merge_matras.new.buffer in
     let old = a.buffer.now in
-    let part = stretch_of a.s a.e old.glyphs in
-    let n = length-stretch a.s a.e old.glyphs c.requires.in_range in
+    let part = stretch_of a.start a.end old.glyphs in
+    let n = length-stretch a.start a.end old.glyphs c.requires.in_range in
     let go : matras_go (matra_target a.script a.base part) part ≡ false = search arith in
     let room : has_room a.base part ≡ true = grind (arith, nat_tests) in
     let steps : matra_steps a.script a.base part ≡ staying_steps a.base part =
     ap (λ t. if t then steps_before a.script a.base part else []) room
     ∙ ap (λ t. if t then parting_steps (matra_target a.script a.base part) (end_of_base a.base part) part
     else staying_steps a.base part) go in
-    stay_stepped a.s a.e old b _ c.requires.in_order (omega (arith, c.merge_matras.ensures.same_length))
+    stay_stepped a.start a.end old b _ c.requires.in_order (omega (arith, c.merge_matras.ensures.same_length))
     c.merge_matras.ensures.glyphs
     ∙ ap (λ (sts : List Step). let y : Buffer = record old {
-      glyphs = run_steps old.level (map (widened a.s a.e (length old.glyphs)) sts) old.glyphs;
+      glyphs = run_steps old.level (map (widened a.start a.end (length old.glyphs)) sts) old.glyphs;
       places = [];
     } in y) (sym steps)

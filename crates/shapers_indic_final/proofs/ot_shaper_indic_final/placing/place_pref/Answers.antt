@@ -15,9 +15,9 @@ pub read_arranged-requires-clause-readable : goal.read_arranged-requires-clause-
 read_arranged-requires-clause-readable c =
     let a = c.args in
     let b = a.buffer.now in
-    let old = arranged a.moves.now a.s a.e b in
-    let long : length old.glyphs ≡ length b.glyphs = all_long a.moves.now a.s a.e b.places b.glyphs c.requires.fits in
-    subst (λ n. a.base ≤ n) (sym (length-stretch a.s a.e old.glyphs (omega (arith, c.requires.fits.in_range))))
+    let old = arranged a.moves.now a.start a.end b in
+    let long : length old.glyphs ≡ length b.glyphs = all_long a.moves.now a.start a.end b.places b.glyphs c.requires.fits in
+    subst (λ n. a.base ≤ n) (sym (length-stretch a.start a.end old.glyphs (omega (arith, c.requires.fits.in_range))))
     c.requires.in_syllable
 
 pub returns-in-Some-clause-glyphs : goal.returns-in-Some-clause-glyphs
@@ -25,20 +25,20 @@ returns-in-Some-clause-glyphs c =
     let a = c.args in
     let ps = a.moves.now in
     let b = a.buffer.now in
-    let old = arranged ps a.s a.e b in
-    let new = arranged c.move_pref.result a.s a.e c.move_pref.new.buffer in
+    let old = arranged ps a.start a.end b in
+    let new = arranged c.move_pref.result a.start a.end c.move_pref.new.buffer in
     let j = c.in-Some.target in
     let i = c.in-Some.i in
-    let long : length old.glyphs ≡ length b.glyphs = all_long ps a.s a.e b.places b.glyphs c.requires.fits in
-    let part = length-stretch a.s a.e old.glyphs (omega (arith, c.requires.fits.in_range)) in
-    let step = pref_move (a.e - a.s) j i in
-    let moved = subst (λ (x : Buffer). let old = arranged ps a.s a.e x in
+    let long : length old.glyphs ≡ length b.glyphs = all_long ps a.start a.end b.places b.glyphs c.requires.fits in
+    let part = length-stretch a.start a.end old.glyphs (omega (arith, c.requires.fits.in_range)) in
+    let step = pref_move (a.end - a.start) j i in
+    let moved = subst (λ (x : Buffer). let old = arranged ps a.start a.end x in
     let y : Buffer = record old {
-      glyphs = run_step old.level (widened a.s a.e (length old.glyphs) step) old.glyphs;
+      glyphs = run_step old.level (widened a.start a.end (length old.glyphs) step) old.glyphs;
       places = new.places;
     } in new ≡ y) c.read_arranged.ensures.same c.move_pref.ensures.glyphs in
     let tries : a.tries ≡ true = search arith in
-    let steps = pref_steps a.pref a.script a.base (stretch_of a.s a.e old.glyphs) in
-    one_step old new a.s a.e (if a.tries then steps else []) step
-    (ap (λ t. if t then steps else []) tries ∙ pref_one a.pref a.script a.base (a.e - a.s) j i (stretch_of a.s a.e old.glyphs)
+    let steps = pref_steps a.pref a.script a.base (stretch_of a.start a.end old.glyphs) in
+    one_step old new a.start a.end (if a.tries then steps else []) step
+    (ap (λ t. if t then steps else []) tries ∙ pref_one a.pref a.script a.base (a.end - a.start) j i (stretch_of a.start a.end old.glyphs)
     (sym c.read_arranged.ensures.read.0 ∙ c.in-Some.is) part) moved

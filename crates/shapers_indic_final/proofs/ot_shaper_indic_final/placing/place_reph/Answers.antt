@@ -15,9 +15,9 @@ pub read_arranged-requires-clause-readable : goal.read_arranged-requires-clause-
 read_arranged-requires-clause-readable c =
     let a = c.args in
     let b = a.buffer.now in
-    let old = arranged a.moves.now a.s a.e b in
-    let long : length old.glyphs ≡ length b.glyphs = all_long a.moves.now a.s a.e b.places b.glyphs c.requires.fits in
-    subst (λ n. a.base ≤ n) (sym (length-stretch a.s a.e old.glyphs (omega (arith, c.requires.fits.in_range))))
+    let old = arranged a.moves.now a.start a.end b in
+    let long : length old.glyphs ≡ length b.glyphs = all_long a.moves.now a.start a.end b.places b.glyphs c.requires.fits in
+    subst (λ n. a.base ≤ n) (sym (length-stretch a.start a.end old.glyphs (omega (arith, c.requires.fits.in_range))))
     c.requires.in_syllable
 
 pub returns-in-Some-clause-glyphs : goal.returns-in-Some-clause-glyphs
@@ -25,17 +25,17 @@ returns-in-Some-clause-glyphs c =
     let a = c.args in
     let ps = a.moves.now in
     let b = a.buffer.now in
-    let old = arranged ps a.s a.e b in
-    let new = arranged c.move_reph.result a.s a.e c.move_reph.new.buffer in
+    let old = arranged ps a.start a.end b in
+    let new = arranged c.move_reph.result a.start a.end c.move_reph.new.buffer in
     let j = c.in-Some.target in
-    let long : length old.glyphs ≡ length b.glyphs = all_long ps a.s a.e b.places b.glyphs c.requires.fits in
-    let part = length-stretch a.s a.e old.glyphs (omega (arith, c.requires.fits.in_range)) in
-    let step = final_reph_step (a.e - a.s) j in
-    let moved = subst (λ (x : Buffer). let old = arranged ps a.s a.e x in
+    let long : length old.glyphs ≡ length b.glyphs = all_long ps a.start a.end b.places b.glyphs c.requires.fits in
+    let part = length-stretch a.start a.end old.glyphs (omega (arith, c.requires.fits.in_range)) in
+    let step = final_reph_step (a.end - a.start) j in
+    let moved = subst (λ (x : Buffer). let old = arranged ps a.start a.end x in
     let y : Buffer = record old {
-      glyphs = run_step old.level (widened a.s a.e (length old.glyphs) step) old.glyphs;
+      glyphs = run_step old.level (widened a.start a.end (length old.glyphs) step) old.glyphs;
       places = new.places;
     } in new ≡ y) c.read_arranged.ensures.same c.move_reph.ensures.glyphs in
-    one_step old new a.s a.e (reph_steps a.position a.base (stretch_of a.s a.e old.glyphs)) step
-    (reph_one a.position a.base (a.e - a.s) j (stretch_of a.s a.e old.glyphs)
+    one_step old new a.start a.end (reph_steps a.position a.base (stretch_of a.start a.end old.glyphs)) step
+    (reph_one a.position a.base (a.end - a.start) j (stretch_of a.start a.end old.glyphs)
     (sym c.read_arranged.ensures.read.0 ∙ c.in-Some.is) part) moved

@@ -17,7 +17,7 @@ returns-then-goes_on = search (arith, opened_bound)
 
 pub returns : goal.returns
 returns c =
-    let s = c.args.s in
+    let s = c.args.place in
     let left = sym (c.is_left.ensures ∙ ap (λ xs. is_left (get_or xs s default_glyph)) c.glyphs.ensures)
     ∙ c.if-not-is_left.false in
     let word =

@@ -90,8 +90,8 @@ fn set_pref_base(pref: u32, base: usize, glyphs: &mut [GlyphInfo]) -> Option<usi
 
 // The first glyph from a place on that is no halant, else the end.
 #[inline]
-fn behind_halants(glyphs: &[GlyphInfo], i: usize) -> usize {
-    i + halants_len(&glyphs[i..])
+fn behind_halants(glyphs: &[GlyphInfo], start: usize) -> usize {
+    start + halants_len(&glyphs[start..])
 }
 
 // How many halants stand in front.
@@ -102,9 +102,9 @@ fn halants_len(glyphs: &[GlyphInfo]) -> usize {
 
 // Gives the glyph of a place, if there is one, the base's position.
 #[inline]
-fn set_base_at(i: usize, glyphs: &mut [GlyphInfo]) {
-    if i < glyphs.len() {
-        glyphs[i].auxiliary = POS_BASE_C;
+fn set_base_at(index: usize, glyphs: &mut [GlyphInfo]) {
+    if index < glyphs.len() {
+        glyphs[index].auxiliary = POS_BASE_C;
     }
 }
 
@@ -197,13 +197,13 @@ fn set_along_links(base: usize, glyphs: &mut [GlyphInfo]) -> usize {
     last
 }
 
-// Gives the last glyph of a link, of place `i`, the base's position, if its below-base form was not
+// Gives the last glyph of a link, at `index`, the base's position, if its below-base form was not
 // made. Returns the base then, which was `last` before.
 #[inline]
-fn set_link(glyph: &mut GlyphInfo, i: usize, last: usize) -> usize {
+fn set_link(glyph: &mut GlyphInfo, index: usize, last: usize) -> usize {
     if is_unformed_below(glyph) {
         glyph.auxiliary = POS_BASE_C;
-        i
+        index
     } else {
         last
     }

@@ -24,36 +24,36 @@ struct Runs {
     cluster: u32,
 }
 
-// Moves the left matras before place `p` of the syllable from `s` to `e` there, the last one first,
-// and merges each with all up to place `b`.
+// Moves the left matras before place `target` of the syllable from `start` to `end` there, the last
+// one first, and merges each with all up to place `base_end`.
 #[inline]
 pub(super) fn part_matras(
-    p: usize,
-    b: usize,
+    target: usize,
+    base_end: usize,
     others: bool,
     buffer: &mut Buffer,
-    s: usize,
-    e: usize,
+    start: usize,
+    end: usize,
 ) -> Placements {
-    for i in (0..p).rev() {
-        if is_left(&buffer.glyphs()[s..e][i]) {
-            if !others && moves_alone(i, buffer.glyphs(), s) {
-                write_matra(buffer, s, e, b, i, p);
+    for i in (0..target).rev() {
+        if is_left(&buffer.glyphs()[start..end][i]) {
+            if !others && moves_alone(i, buffer.glyphs(), start) {
+                write_matra(buffer, start, end, base_end, i, target);
                 return Placements::STAY;
             }
-            let moves = move_matra(buffer, s, e, b, i, p);
-            return part_further(i, p, b, moves, buffer, s, e);
+            let moves = move_matra(buffer, start, end, base_end, i, target);
+            return part_further(i, target, base_end, moves, buffer, start, end);
         }
     }
     Placements::STAY
 }
 
-// Whether the left matra of place `i` of the syllable from `s` on moves alone: none stands before it,
-// and what opens the syllable behind it is no reph that moves.
+// Whether the left matra of place `matra` of the syllable from `start` on moves alone: none stands
+// before it, and what opens the syllable behind it is no reph that moves.
 #[inline]
-fn moves_alone(i: usize, glyphs: &[GlyphInfo], s: usize) -> bool {
-    let first = if i == 0 { s + 1 } else { s };
-    !any_left(&glyphs[s..s + i]) && !is_moving_reph(&glyphs[first])
+fn moves_alone(matra: usize, glyphs: &[GlyphInfo], start: usize) -> bool {
+    let first = if matra == 0 { start + 1 } else { start };
+    !any_left(&glyphs[start..start + matra]) && !is_moving_reph(&glyphs[first])
 }
 
 // Whether some glyph is a left matra.
@@ -62,44 +62,50 @@ fn any_left(glyphs: &[GlyphInfo]) -> bool {
     glyphs.iter().any(is_left)
 }
 
-// Moves the left matras before place `top` of the syllable from `s` to `e` on to the places before
-// `p`, where one stands that has moved there from `top` and merged with all up to place `b`, and
-// merges each.
+// Moves the left matras before place `top` of the syllable from `start` to `end` on to the places
+// before `target`, where one stands that has moved there from `top` and merged with all up to place
+// `base_end`, and merges each.
 fn part_further(
     top: usize,
-    p: usize,
-    b: usize,
+    target: usize,
+    base_end: usize,
     moves: Placements,
     buffer: &mut Buffer,
-    s: usize,
-    e: usize,
+    start: usize,
+    end: usize,
 ) -> Placements {
-    if !has_left(s, s + top, &buffer.arranged(&moves, s, e)) {
+    if !has_left(start, start + top, &buffer.arranged(&moves, start, end)) {
         return moves;
     }
-    let runs = merged_runs(top, p, b, &buffer.arranged(&moves, s, e), s);
-    let len = len_staying(
-        s,
-        s + top,
-        &buffer.arranged(&moves, s, e),
-        runs.start,
-        s + p,
+    let runs = merged_runs(
+        top,
+        target,
+        base_end,
+        &buffer.arranged(&moves, start, end),
+        start,
     );
-    let at = list_matras(top, p, buffer, s, e);
+    let len = len_staying(
+        start,
+        start + top,
+        &buffer.arranged(&moves, start, end),
+        runs.start,
+        start + target,
+    );
+    let at = list_matras(top, target, buffer, start, end);
     let listed = Placements {
         first: Placement::Listed,
         second: Placement::Stays,
         third: Placement::Stays,
     };
-    put(&listed, buffer, s, e, at - len, at, runs.before);
-    put(&listed, buffer, s, e, at, runs.end, runs.cluster);
+    put(&listed, buffer, start, end, at - len, at, runs.before);
+    put(&listed, buffer, start, end, at, runs.end, runs.cluster);
     listed
 }
 
-// Whether some glyph from place `s` to `e` is a left matra.
+// Whether some glyph from place `start` to `end` is a left matra.
 #[inline]
-fn has_left(s: usize, e: usize, glyphs: &Arranged) -> bool {
-    for i in s..e {
+fn has_left(start: usize, end: usize, glyphs: &Arranged) -> bool {
+    for i in start..end {
         if is_left(&glyphs.get(i)) {
             return true;
         }
@@ -107,35 +113,42 @@ fn has_left(s: usize, e: usize, glyphs: &Arranged) -> bool {
     false
 }
 
-// What the merges of the left matras before place `top` of the syllable from `s` on make, as
+// What the merges of the left matras before place `top` of the syllable from `start` on make, as
 // `part_further`.
 #[inline]
-fn merged_runs(top: usize, p: usize, b: usize, glyphs: &Arranged, s: usize) -> Runs {
+fn merged_runs(
+    top: usize,
+    target: usize,
+    base_end: usize,
+    glyphs: &Arranged,
+    start: usize,
+) -> Runs {
     let mut runs = Runs {
-        start: s + p - 1,
-        before: glyphs.get(s + p - 1).cluster,
-        end: s + b,
-        cluster: glyphs.get(s + p).cluster,
+        start: start + target - 1,
+        before: glyphs.get(start + target - 1).cluster,
+        end: start + base_end,
+        cluster: glyphs.get(start + target).cluster,
     };
     for i in (0..top).rev() {
-        if is_left(&glyphs.get(s + i)) {
-            runs = with_matra(s + i, s + top, glyphs, runs);
+        if is_left(&glyphs.get(start + i)) {
+            runs = with_matra(start + i, start + top, glyphs, runs);
         }
     }
     runs
 }
 
-// The runs after the merge of the left matra at place `i`; those between it and `top` have gone.
-fn with_matra(i: usize, top: usize, glyphs: &Arranged, runs: Runs) -> Runs {
-    let own = if i < runs.start {
-        glyphs.get(i).cluster
+// The runs after the merge of the left matra at place `matra`; those between it and `top` have
+// gone.
+fn with_matra(matra: usize, top: usize, glyphs: &Arranged, runs: Runs) -> Runs {
+    let own = if matra < runs.start {
+        glyphs.get(matra).cluster
     } else {
         runs.before
     };
     let cluster = own.min(runs.cluster);
     let end = runs.end + glyphs.run_behind(runs.end, runs.cluster);
     if own == runs.before {
-        let start = reached(i, top, glyphs, runs.start, own);
+        let start = reached(matra, top, glyphs, runs.start, own);
         Runs {
             start,
             before: cluster,
@@ -151,66 +164,72 @@ fn with_matra(i: usize, top: usize, glyphs: &Arranged, runs: Runs) -> Runs {
     }
 }
 
-// Whether a left matra that has gone stood at place `j`: those from `i` on and before `top` have.
+// Whether a left matra that has gone stood at `index`: those from `from` on and before `top` have.
 #[inline]
-fn has_gone(i: usize, top: usize, glyphs: &Arranged, j: usize) -> bool {
-    i <= j && j < top && is_left(&glyphs.get(j))
+fn has_gone(from: usize, top: usize, glyphs: &Arranged, index: usize) -> bool {
+    from <= index && index < top && is_left(&glyphs.get(index))
 }
 
 // How far to the left glyphs before place `start` are in a cluster, but for matras that have gone.
 #[inline]
-fn reached(i: usize, top: usize, glyphs: &Arranged, start: usize, cluster: u32) -> usize {
+fn reached(from: usize, top: usize, glyphs: &Arranged, start: usize, cluster: u32) -> usize {
     for j in (0..start).rev() {
-        if !is_passed(i, top, glyphs, j, cluster) {
+        if !is_passed(from, top, glyphs, j, cluster) {
             return j + 1;
         }
     }
     0
 }
 
-// Whether what stood at place `j` has gone, or is in a cluster.
+// Whether what stood at `index` has gone, or is in a cluster.
 #[inline]
-fn is_passed(i: usize, top: usize, glyphs: &Arranged, j: usize, cluster: u32) -> bool {
-    has_gone(i, top, glyphs, j) || glyphs.get(j).cluster == cluster
+fn is_passed(from: usize, top: usize, glyphs: &Arranged, index: usize, cluster: u32) -> bool {
+    has_gone(from, top, glyphs, index) || glyphs.get(index).cluster == cluster
 }
 
-// How many glyphs from place `s` to `e` have stayed.
+// How many glyphs from place `start` to `end` have stayed.
 #[inline]
-fn len_staying(i: usize, top: usize, glyphs: &Arranged, s: usize, e: usize) -> usize {
+fn len_staying(from: usize, top: usize, glyphs: &Arranged, start: usize, end: usize) -> usize {
     let mut len = 0;
-    for j in s..e {
-        if !has_gone(i, top, glyphs, j) {
+    for j in start..end {
+        if !has_gone(from, top, glyphs, j) {
             len += 1;
         }
     }
     len
 }
 
-// Whether place `j` is listed: of what has gone, or of what has stayed.
+// Whether place `index` is listed: of what has gone, or of what has stayed.
 #[inline]
-fn is_listed(gone: bool, i: usize, top: usize, glyphs: &Arranged, j: usize) -> bool {
-    has_gone(i, top, glyphs, j) == gone
+fn is_listed(gone: bool, from: usize, top: usize, glyphs: &Arranged, index: usize) -> bool {
+    has_gone(from, top, glyphs, index) == gone
 }
 
-// In the syllable from `s` to `e`, where the glyph of place `i` has gone to `j`, lists where what has
-// gone of the left matras before it, or what has stayed, of the places from `from` to `to` came from,
-// from place `at` on. Returns the place behind them.
+// In the syllable from `start` to `end`, where the glyph of place `matra` has gone to `target`,
+// lists where what has gone of the left matras before it, or what has stayed, of the places from
+// `from` to `to` came from, from place `at` on. Returns the place behind them.
 fn list_places(
     gone: bool,
-    i: usize,
-    j: usize,
+    matra: usize,
+    target: usize,
     buffer: &mut Buffer,
-    s: usize,
-    e: usize,
+    start: usize,
+    end: usize,
     from: usize,
     to: usize,
     at: usize,
 ) -> usize {
-    let moves = matra_placements(s, i, j);
+    let moves = matra_placements(start, matra, target);
     let mut at = at;
     for k in from..to {
-        if is_listed(gone, s, s + i, &buffer.arranged(&moves, s, e), k) {
-            let place = buffer.arranged_place(&moves, s, e, k);
+        if is_listed(
+            gone,
+            start,
+            start + matra,
+            &buffer.arranged(&moves, start, end),
+            k,
+        ) {
+            let place = buffer.arranged_place(&moves, start, end, k);
             buffer.set_place(at, place);
             at += 1;
         }
@@ -218,29 +237,66 @@ fn list_places(
     at
 }
 
-// In the syllable from `s` to `e`, where the glyph of place `i` has gone to `j`, lists where each
-// comes from if the left matras before it go before it. Returns the place of the first of them.
-fn list_matras(i: usize, j: usize, buffer: &mut Buffer, s: usize, e: usize) -> usize {
-    let at = list_places(false, i, j, buffer, s, e, s, s + j, s);
-    let behind = list_places(true, i, j, buffer, s, e, s, s + j, at);
-    list_places(false, i, j, buffer, s, e, s + j, e, behind);
+// In the syllable from `start` to `end`, where the glyph of place `matra` has gone to `target`,
+// lists where each comes from if the left matras before it go before it. Returns the place of the
+// first of them.
+fn list_matras(
+    matra: usize,
+    target: usize,
+    buffer: &mut Buffer,
+    start: usize,
+    end: usize,
+) -> usize {
+    let at = list_places(
+        false,
+        matra,
+        target,
+        buffer,
+        start,
+        end,
+        start,
+        start + target,
+        start,
+    );
+    let behind = list_places(
+        true,
+        matra,
+        target,
+        buffer,
+        start,
+        end,
+        start,
+        start + target,
+        at,
+    );
+    list_places(
+        false,
+        matra,
+        target,
+        buffer,
+        start,
+        end,
+        start + target,
+        end,
+        behind,
+    );
     at
 }
 
-// Puts the glyphs from `from` to `to` of a text whose syllable from `s` to `e` has moved into a
-// cluster, at a level that merges.
+// Puts the glyphs from `from` to `to` of a text whose syllable from `start` to `end` has moved into
+// a cluster, at a level that merges.
 fn put(
     moves: &Placements,
     buffer: &mut Buffer,
-    s: usize,
-    e: usize,
+    start: usize,
+    end: usize,
     from: usize,
     to: usize,
     cluster: u32,
 ) {
     match buffer.cluster_level() {
         BufferClusterLevel::MonotoneGraphemes | BufferClusterLevel::MonotoneCharacters => {
-            buffer.change_arranged(moves, s, e, from, to, &IntoCluster(cluster));
+            buffer.change_arranged(moves, start, end, from, to, &IntoCluster(cluster));
         }
         BufferClusterLevel::Characters => {}
     }

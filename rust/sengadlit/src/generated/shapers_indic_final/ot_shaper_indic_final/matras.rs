@@ -17,8 +17,8 @@ pub(super) fn is_left(glyph: &GlyphInfo) -> bool {
 
 // Whether left matras go to a place: one past the start, where none stands.
 #[inline]
-pub(super) fn matras_go(p: usize, glyphs: &[GlyphInfo]) -> bool {
-    p > 0 && !is_left(&glyphs[p])
+pub(super) fn matras_go(target: usize, glyphs: &[GlyphInfo]) -> bool {
+    target > 0 && !is_left(&glyphs[target])
 }
 
 // The end of what merges with a left matra: the base with it, if there is one.
@@ -66,15 +66,15 @@ pub(super) fn matra_target(script: Option<Script>, base: usize, glyphs: &[GlyphI
 // search before it; else the start. A halant with the position of a left matra came to the front
 // with one, and says nothing of the consonants.
 #[inline]
-fn nearest_halant(p: usize, glyphs: &[GlyphInfo]) -> usize {
-    let end = search_end(p, glyphs);
+fn nearest_halant(from: usize, glyphs: &[GlyphInfo]) -> usize {
+    let end = search_end(from, glyphs);
     if is_free_halant(&glyphs[end]) { end } else { 0 }
 }
 
 // Where the search for a halant ends, else the start.
 #[inline]
-fn search_end(p: usize, glyphs: &[GlyphInfo]) -> usize {
-    for i in (0..p + 1).rev() {
+fn search_end(from: usize, glyphs: &[GlyphInfo]) -> usize {
+    for i in (0..from + 1).rev() {
         if ends_search(glyphs, i) {
             return i;
         }
@@ -82,15 +82,15 @@ fn search_end(p: usize, glyphs: &[GlyphInfo]) -> usize {
     0
 }
 
-// Whether the glyph at place `i` ends the search for a halant. One before a ZWJ doesn't: the
+// Whether the glyph at `index` ends the search for a halant. One before a ZWJ doesn't: the
 // specification has left matras go behind a joiner, but Uniscribe leaves them where they are, so
 // that 091F 094D 200D 092F 093F begins with the vowel sign. In 091F 094D 200C 092F 093F it stands
 // in the middle; no ZWNJ need be looked for, since behind a halant it ends the syllable. (Fonts that
 // show it are Adobe Devanagari and Nirmala UI: HarfBuzz's issue 1070.)
 #[inline]
-fn ends_search(glyphs: &[GlyphInfo], i: usize) -> bool {
-    is_matra_or_halant(&glyphs[i])
-        && !(is_free_halant(&glyphs[i]) && glyphs[i + 1].category == OT_ZWJ)
+fn ends_search(glyphs: &[GlyphInfo], index: usize) -> bool {
+    is_matra_or_halant(&glyphs[index])
+        && !(is_free_halant(&glyphs[index]) && glyphs[index + 1].category == OT_ZWJ)
 }
 
 // Whether a glyph is a halant that belongs to no left matra.

@@ -4,56 +4,56 @@
 
 use crate::generated::shapers_base::buffer::{Buffer, Placement, Placements};
 
-// Merges the syllable from `s` to `e`, moved so far, up to its place `j`, and moves its first glyph,
-// the reph, there.
+// Merges the syllable from `start` to `end`, moved so far, up to its place `target`, and moves its
+// first glyph, the reph, there.
 #[inline]
 pub(super) fn move_reph(
     moves: Placements,
     buffer: &mut Buffer,
-    s: usize,
-    e: usize,
-    j: usize,
+    start: usize,
+    end: usize,
+    target: usize,
 ) -> Placements {
-    buffer.merge_arranged(&moves, s, e, s, s + j + 1);
+    buffer.merge_arranged(&moves, start, end, start, start + target + 1);
     Placements {
         first: moves.first,
-        second: first_last(s, s + j + 1),
+        second: first_last(start, start + target + 1),
         third: moves.third,
     }
 }
 
-// Merges the syllable from `s` to `e`, moved so far, from its place `j` up to its place `i`, and
-// moves the glyph of place `i`, which `pref` formed, to `j`.
+// Merges the syllable from `start` to `end`, moved so far, from its place `target` up to its place
+// `from`, and moves the glyph of place `from`, which `pref` formed, to `target`.
 #[inline]
 pub(super) fn move_pref(
     moves: Placements,
     buffer: &mut Buffer,
-    s: usize,
-    e: usize,
-    j: usize,
-    i: usize,
+    start: usize,
+    end: usize,
+    target: usize,
+    from: usize,
 ) -> Placements {
-    buffer.merge_arranged(&moves, s, e, s + j, s + i + 1);
+    buffer.merge_arranged(&moves, start, end, start + target, start + from + 1);
     Placements {
         first: moves.first,
         second: moves.second,
-        third: last_first(s + j, s + i + 1),
+        third: last_first(start + target, start + from + 1),
     }
 }
 
-// Moves the glyph of place `i` of the syllable from `s` to `e`, a left matra, to its place `j`, and
-// merges from there up to its place `base_end`.
+// Moves the glyph of place `matra` of the syllable from `start` to `end`, a left matra, to its
+// place `target`, and merges from there up to its place `base_end`.
 #[inline]
 pub(super) fn move_matra(
     buffer: &mut Buffer,
-    s: usize,
-    e: usize,
+    start: usize,
+    end: usize,
     base_end: usize,
-    i: usize,
-    j: usize,
+    matra: usize,
+    target: usize,
 ) -> Placements {
-    let moves = matra_placements(s, i, j);
-    buffer.merge_arranged(&moves, s, e, s + j, s + base_end);
+    let moves = matra_placements(start, matra, target);
+    buffer.merge_arranged(&moves, start, end, start + target, start + base_end);
     moves
 }
 
@@ -62,42 +62,43 @@ pub(super) fn move_matra(
 #[inline]
 pub(super) fn write_matra(
     buffer: &mut Buffer,
-    s: usize,
-    e: usize,
+    start: usize,
+    end: usize,
     base_end: usize,
-    i: usize,
-    j: usize,
+    matra: usize,
+    target: usize,
 ) {
-    buffer.apply(s, e, first_last(s + i, s + j + 1));
-    buffer.merge_clusters(s + j, s + base_end);
+    buffer.apply(start, end, first_last(start + matra, start + target + 1));
+    buffer.merge_clusters(start + target, start + base_end);
 }
 
-// The glyph of place `i` of a syllable from `s` on moved to its place `j`, behind others.
+// The glyph of place `matra` of a syllable from `start` on moved to its place `target`, behind
+// others.
 #[inline]
-pub(super) fn matra_placements(s: usize, i: usize, j: usize) -> Placements {
+pub(super) fn matra_placements(start: usize, matra: usize, target: usize) -> Placements {
     Placements {
-        first: first_last(s + i, s + j + 1),
+        first: first_last(start + matra, start + target + 1),
         second: Placement::Stays,
         third: Placement::Stays,
     }
 }
 
-// The first glyph of the stretch from `s` to `e` behind the others.
+// The first glyph of the stretch from `start` to `end` behind the others.
 #[inline]
-fn first_last(s: usize, e: usize) -> Placement {
+fn first_last(start: usize, end: usize) -> Placement {
     Placement::Forward {
-        to: s,
-        from: s + 1,
-        count: e - s - 1,
+        to: start,
+        from: start + 1,
+        count: end - start - 1,
     }
 }
 
-// The last glyph of the stretch from `s` to `e` before the others.
+// The last glyph of the stretch from `start` to `end` before the others.
 #[inline]
-fn last_first(s: usize, e: usize) -> Placement {
+fn last_first(start: usize, end: usize) -> Placement {
     Placement::Forward {
-        to: s,
-        from: e - 1,
+        to: start,
+        from: end - 1,
         count: 1,
     }
 }

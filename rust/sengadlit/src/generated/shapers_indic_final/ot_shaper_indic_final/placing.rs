@@ -14,18 +14,18 @@ use crate::generated::shapers_base::buffer::{
 };
 use crate::generated::shapers_base::plan::RephPosition;
 
-// Gives the reph of the syllable from `s` to `e`, moved so far, its place, and returns where the base
-// is then.
+// Gives the reph of the syllable from `start` to `end`, moved so far, its place, and returns where
+// the base is then.
 #[inline]
 pub(super) fn place_reph(
     position: RephPosition,
     base: usize,
     moves: &mut Placements,
     buffer: &mut Buffer,
-    s: usize,
-    e: usize,
+    start: usize,
+    end: usize,
 ) -> usize {
-    if !opens(moves, buffer, s, e) {
+    if !opens(moves, buffer, start, end) {
         return base;
     }
     let mut search = RephSearch {
@@ -33,29 +33,30 @@ pub(super) fn place_reph(
         base,
         target: None,
     };
-    buffer.read_arranged(moves, s, e, &mut search);
+    buffer.read_arranged(moves, start, end, &mut search);
     match search.target {
         None => base,
         Some(target) => {
-            *moves = move_reph(*moves, buffer, s, e, target);
+            *moves = move_reph(*moves, buffer, start, end, target);
             base_after_reph(base, target)
         }
     }
 }
 
-// Whether a reph that moves opens the syllable from `s` to `e`, moved so far.
+// Whether a reph that moves opens the syllable from `start` to `end`, moved so far.
 #[inline]
-fn opens(moves: &Placements, buffer: &Buffer, s: usize, e: usize) -> bool {
+fn opens(moves: &Placements, buffer: &Buffer, start: usize, end: usize) -> bool {
     if moves.moves_nothing() {
-        return opens_with_reph(&buffer.glyphs()[s..e]);
+        return opens_with_reph(&buffer.glyphs()[start..end]);
     }
-    opens_arranged(&buffer.arranged(moves, s, e), s, e)
+    opens_arranged(&buffer.arranged(moves, start, end), start, end)
 }
 
-// Whether a reph that moves opens the syllable from `s` to `e` of a text that is seen as moved.
+// Whether a reph that moves opens the syllable from `start` to `end` of a text that is seen as
+// moved.
 #[inline]
-fn opens_arranged(glyphs: &Arranged, s: usize, e: usize) -> bool {
-    e - s >= 2 && is_moving_reph(&glyphs.get(s))
+fn opens_arranged(glyphs: &Arranged, start: usize, end: usize) -> bool {
+    end - start >= 2 && is_moving_reph(&glyphs.get(start))
 }
 
 // A look for where the reph goes.
@@ -82,8 +83,8 @@ fn reph_goes(position: RephPosition, base: usize, glyphs: &[GlyphInfo]) -> Optio
     }
 }
 
-// Gives the glyph of the syllable from `s` to `e`, moved so far, that `pref` formed its place, if one
-// is tried.
+// Gives the glyph of the syllable from `start` to `end`, moved so far, that `pref` formed its
+// place, if one is tried.
 #[inline]
 pub(super) fn place_pref(
     tries: bool,
@@ -92,8 +93,8 @@ pub(super) fn place_pref(
     base: usize,
     moves: &mut Placements,
     buffer: &mut Buffer,
-    s: usize,
-    e: usize,
+    start: usize,
+    end: usize,
 ) {
     if !tries {
         return;
@@ -104,9 +105,9 @@ pub(super) fn place_pref(
         base,
         places: None,
     };
-    buffer.read_arranged(moves, s, e, &mut search);
+    buffer.read_arranged(moves, start, end, &mut search);
     if let Some((target, i)) = search.places {
-        *moves = move_pref(*moves, buffer, s, e, target, i);
+        *moves = move_pref(*moves, buffer, start, end, target, i);
     }
 }
 
@@ -137,27 +138,27 @@ fn pref_goes(
     Some((pref_target(script, base, glyphs), i))
 }
 
-// Gives the left matras of the syllable from `s` to `e` their place: written at once, if one moves
-// alone, and behind it nothing but a reph may, since no glyph has a bit of `forming`.
+// Gives the left matras of the syllable from `start` to `end` their place: written at once, if one
+// moves alone, and behind it nothing but a reph may, since no glyph has a bit of `forming`.
 #[inline]
 pub(super) fn place_matras(
     script: Option<Script>,
     base: usize,
     forming: u32,
     buffer: &mut Buffer,
-    s: usize,
-    e: usize,
+    start: usize,
+    end: usize,
 ) -> Placements {
-    if base == 0 || e - s < 2 {
+    if base == 0 || end - start < 2 {
         return Placements::STAY;
     }
-    let end = end_of_base(base, &buffer.glyphs()[s..e]);
-    let target = matra_target(script, base, &buffer.glyphs()[s..e]);
-    if matras_go(target, &buffer.glyphs()[s..e]) {
-        let others = has_any(forming, &buffer.glyphs()[s..e]);
-        part_matras(target, end, others, buffer, s, e)
+    let base_end = end_of_base(base, &buffer.glyphs()[start..end]);
+    let target = matra_target(script, base, &buffer.glyphs()[start..end]);
+    if matras_go(target, &buffer.glyphs()[start..end]) {
+        let others = has_any(forming, &buffer.glyphs()[start..end]);
+        part_matras(target, base_end, others, buffer, start, end)
     } else {
-        merge_matras(base, end, buffer, s, e);
+        merge_matras(base, base_end, buffer, start, end);
         Placements::STAY
     }
 }
@@ -168,11 +169,12 @@ fn has_any(bits: u32, glyphs: &[GlyphInfo]) -> bool {
     glyphs.iter().any(|glyph| has_mask(bits, glyph))
 }
 
-// Merges the syllable from `s` to `e` from its first left matra before the base up to place `b`.
+// Merges the syllable from `start` to `end` from its first left matra before the base up to place
+// `base_end`.
 #[inline]
-fn merge_matras(base: usize, b: usize, buffer: &mut Buffer, s: usize, e: usize) {
-    let first = first_left(base, &buffer.glyphs()[s..e]);
+fn merge_matras(base: usize, base_end: usize, buffer: &mut Buffer, start: usize, end: usize) {
+    let first = first_left(base, &buffer.glyphs()[start..end]);
     if let Some(i) = first {
-        buffer.merge_clusters(s + i, s + b);
+        buffer.merge_clusters(start + i, start + base_end);
     }
 }

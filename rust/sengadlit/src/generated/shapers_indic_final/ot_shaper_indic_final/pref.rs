@@ -62,6 +62,6 @@ fn behind_sign(base: usize, glyphs: &[GlyphInfo]) -> usize {
 
 // Whether a joiner stands at a place, and a halant before it.
 #[inline]
-fn is_joiner_behind_halant(glyphs: &[GlyphInfo], i: usize) -> bool {
-    i > 0 && is_halant(&glyphs[i - 1]) && is_joiner(&glyphs[i])
+fn is_joiner_behind_halant(glyphs: &[GlyphInfo], index: usize) -> bool {
+    index > 0 && is_halant(&glyphs[index - 1]) && is_joiner(&glyphs[index])
 }

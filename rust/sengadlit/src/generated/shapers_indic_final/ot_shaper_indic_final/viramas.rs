@@ -9,10 +9,15 @@ use crate::generated::shapers_base::buffer::{Buffer, GlyphInfo};
 use crate::generated::shapers_base::font::GlyphId;
 use crate::generated::shapers_base::plan::ot_category_t::OT_H;
 
-// Recovers the viramas of the syllable from `s` to `e`.
+// Recovers the viramas of the syllable from `start` to `end`.
 #[inline]
-pub(super) fn recover_viramas(virama: Option<GlyphId>, buffer: &mut Buffer, s: usize, e: usize) {
-    buffer.change_each_by(s, e, |glyph| recover(virama, glyph));
+pub(super) fn recover_viramas(
+    virama: Option<GlyphId>,
+    buffer: &mut Buffer,
+    start: usize,
+    end: usize,
+) {
+    buffer.change_each_by(start, end, |glyph| recover(virama, glyph));
 }
 
 // Makes a virama that was taken apart a halant again.

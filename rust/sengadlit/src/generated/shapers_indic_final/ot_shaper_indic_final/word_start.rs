@@ -17,32 +17,32 @@ pub(super) fn open_words(init: u32, buffer: &mut Buffer) {
     }
 }
 
-// Whether a syllable starts at place `s`.
+// Whether a syllable starts at `place`.
 #[inline]
-fn starts_syllable(glyphs: &[GlyphInfo], s: usize) -> bool {
-    s == 0 || glyphs[s].syllable != glyphs[s - 1].syllable
+fn starts_syllable(glyphs: &[GlyphInfo], place: usize) -> bool {
+    place == 0 || glyphs[place].syllable != glyphs[place - 1].syllable
 }
 
-// Opens the syllable at place `s`.
+// Opens the syllable at `place`.
 #[inline]
-fn open_syllable(init: u32, buffer: &mut Buffer, s: usize) {
-    if !is_left(&buffer.glyphs()[s]) {
+fn open_syllable(init: u32, buffer: &mut Buffer, place: usize) {
+    if !is_left(&buffer.glyphs()[place]) {
         return;
     }
-    if goes_on(buffer.glyphs(), s) {
-        buffer.unsafe_to_break(s.saturating_sub(1), s + 1);
+    if goes_on(buffer.glyphs(), place) {
+        buffer.unsafe_to_break(place.saturating_sub(1), place + 1);
         return;
     }
-    buffer.change_each_by(s, s + 1, |glyph| glyph.mask |= init);
+    buffer.change_each_by(place, place + 1, |glyph| glyph.mask |= init);
 }
 
 // Whether a word goes on behind what stands before a place.
 #[inline]
-fn goes_on(glyphs: &[GlyphInfo], s: usize) -> bool {
-    if s == 0 {
+fn goes_on(glyphs: &[GlyphInfo], place: usize) -> bool {
+    if place == 0 {
         return false;
     }
-    continues_word(glyphs[s - 1].unicode_props.general_category())
+    continues_word(glyphs[place - 1].unicode_props.general_category())
 }
 
 // Whether a word goes on behind a glyph of this category.
