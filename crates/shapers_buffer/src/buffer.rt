@@ -193,30 +193,30 @@ impl hb_buffer_t {
         self.info.as_slice()
     }
 
-    /// The glyph at place `i`.
+    /// The glyph at `index`.
     ///
     /// # Panics
     ///
-    /// Where `i` is no place of the buffer.
+    /// Where `index` is no place of the buffer.
     #[inline]
-    pub fn get(&self, i: usize) -> hb_glyph_info_t
-        requires { i < length self.now.glyphs }
-        ensures { result ≡ slice_index_or self.now.glyphs i result }
+    pub fn get(&self, index: usize) -> hb_glyph_info_t
+        requires { index < length self.now.glyphs }
+        ensures { result ≡ slice_index_or self.now.glyphs index result }
     {
-        self.info[i]
+        self.info[index]
     }
 
-    /// Puts a glyph at place `i`.
+    /// Puts a glyph at `index`.
     ///
     /// # Panics
     ///
-    /// Where `i` is no place of the buffer.
+    /// Where `index` is no place of the buffer.
     #[inline]
-    pub fn set(&mut self, i: usize, glyph: hb_glyph_info_t)
-        requires { i < length self.old.glyphs }
-        ensures { self.new ≡ record self.old { glyphs = slice_set self.old.glyphs i glyph } }
+    pub fn set(&mut self, index: usize, glyph: hb_glyph_info_t)
+        requires { index < length self.old.glyphs }
+        ensures { self.new ≡ record self.old { glyphs = slice_set self.old.glyphs index glyph } }
     {
-        self.info[i] = glyph;
+        self.info[index] = glyph;
     }
 
     /// Adds a glyph at the end. The buffer has no positions afterwards.
@@ -246,40 +246,41 @@ impl hb_buffer_t {
         Ok(())
     }
 
-    /// Adds `n` default glyphs at the end and, unless there are no positions, `n` zero positions.
+    /// Adds `count` default glyphs at the end and, unless there are no positions, `count` zero
+    /// positions.
     ///
     /// # Errors
     ///
     /// `TooLong` where the buffer would be longer than `max_len`, `Memory` where memory is
     /// refused; nothing has changed then.
     #[inline]
-    pub fn grow(&mut self, n: usize) -> Result<(), ShaperError>
-        ensures ok { OnOk result (self.new ≡ grown n self.old) }
-        ensures length { RefusesLength self.old.max_len (length self.old.glyphs + n) result }
+    pub fn grow(&mut self, count: usize) -> Result<(), ShaperError>
+        ensures ok { OnOk result (self.new ≡ grown count self.old) }
+        ensures length { RefusesLength self.old.max_len (length self.old.glyphs + count) result }
         ensures err { OnErr result (self.new ≡ self.old) }
     {
-        if self.max_len - self.info.len() < n {
+        if self.max_len - self.info.len() < count {
             return Err(ShaperError::TooLong);
         }
-        let len = self.info.len() + n;
+        let len = self.info.len() + count;
         make_room(&mut self.places, &mut self.spare, &mut self.group_room, len)?;
-        self.info.reserve(n)?;
-        add_zero_positions(&mut self.pos, n)?;
+        self.info.reserve(count)?;
+        add_zero_positions(&mut self.pos, count)?;
         self.info.resize(len, hb_glyph_info_t::DEFAULT)?;
         Ok(())
     }
 
-    /// Keeps the first `n` glyphs, with their positions.
+    /// Keeps the first `len` glyphs, with their positions.
     #[inline]
-    pub fn truncate(&mut self, n: usize)
-        requires { n ≤ length self.old.glyphs }
+    pub fn truncate(&mut self, len: usize)
+        requires { len ≤ length self.old.glyphs }
         ensures { self.new ≡ record self.old {
-          glyphs = take n self.old.glyphs;
-          positions = take n self.old.positions;
+          glyphs = take len self.old.glyphs;
+          positions = take len self.old.positions;
         } }
     {
-        self.info.truncate(n);
-        self.pos.truncate(n);
+        self.info.truncate(len);
+        self.pos.truncate(len);
     }
 
     /// An equal buffer.
@@ -326,20 +327,20 @@ impl hb_buffer_t {
     }
 }
 
-// Adds `n` zero positions, unless there are no positions.
+// Adds `count` zero positions, unless there are no positions.
 #[inline]
-fn add_zero_positions(positions: &mut Vec<GlyphPosition>, n: usize) -> Result<(), ShaperError>
-    requires { length positions.old.items + n < 2 ^ 64 }
-    ensures ok { OnOk result (positions.new.items ≡ more_positions n positions.old.items) }
+fn add_zero_positions(positions: &mut Vec<GlyphPosition>, count: usize) -> Result<(), ShaperError>
+    requires { length positions.old.items + count < 2 ^ 64 }
+    ensures ok { OnOk result (positions.new.items ≡ more_positions count positions.old.items) }
     ensures none { OnOk result (length positions.old.items ≡ 0
         → length positions.new.items ≡ 0) }
     ensures length { OnOk result (0 < length positions.old.items
-        → length positions.new.items ≡ length positions.old.items + n) }
+        → length positions.new.items ≡ length positions.old.items + count) }
     ensures refusal { IsOkUnless result Memory }
     ensures err { OnErr result (positions.new.items ≡ positions.old.items) }
 {
     if !positions.is_empty() {
-        positions.resize(positions.len() + n, GlyphPosition::ZERO)?;
+        positions.resize(positions.len() + count, GlyphPosition::ZERO)?;
     }
     Ok(())
 }

@@ -29,21 +29,21 @@ impl ClusterRun {
 }
 
 impl hb_buffer_t {
-    /// Merges the glyphs from `s` to `e`, as `merge_clusters`, of the buffer with a run in its
-    /// cluster. Where they start in the run nothing is written and only what is new is read, else
-    /// the run is written and another begins. Returns the run that is to be written then.
+    /// Merges the glyphs from `start` to `end`, as `merge_clusters`, of the buffer with a run in
+    /// its cluster. Where they start in the run nothing is written and only what is new is read,
+    /// else the run is written and another begins. Returns the run that is to be written then.
     #[inline]
-    pub fn merge_run(&mut self, run: ClusterRun, s: usize, e: usize) -> ClusterRun
-        requires in_order { s ≤ e }
-        requires in_range { e ≤ length self.old.glyphs }
+    pub fn merge_run(&mut self, run: ClusterRun, start: usize, end: usize) -> ClusterRun
+        requires in_order { start ≤ end }
+        requires in_range { end ≤ length self.old.glyphs }
         requires fits { RunFits run self.old.glyphs }
         ensures others { self.new ≡ record self.old { glyphs = self.new.glyphs } }
         ensures merged { with_run result self.new.glyphs
-            ≡ merge self.old.level s e (with_run run self.old.glyphs) }
+            ≡ merge self.old.level start end (with_run run self.old.glyphs) }
         ensures fits { RunFits result self.new.glyphs }
         ensures same_length { length self.new.glyphs ≡ length self.old.glyphs }
     {
-        merge_run_in(self.cluster_level, &mut self.info, run, s, e)
+        merge_run_in(self.cluster_level, &mut self.info, run, start, end)
     }
 
     /// Puts the glyphs of a run into its cluster.
@@ -62,17 +62,17 @@ pub fn merge_run_in(
     level: BufferClusterLevel,
     glyphs: &mut [hb_glyph_info_t],
     run: ClusterRun,
-    s: usize,
-    e: usize,
+    start: usize,
+    end: usize,
 ) -> ClusterRun
-    requires in_order { s ≤ e }
-    requires in_range { e ≤ length glyphs.old }
+    requires in_order { start ≤ end }
+    requires in_range { end ≤ length glyphs.old }
     requires fits { RunFits run glyphs.old }
-    ensures merged { with_run result glyphs.new ≡ merge level s e (with_run run glyphs.old) }
+    ensures merged { with_run result glyphs.new ≡ merge level start end (with_run run glyphs.old) }
     ensures fits { RunFits result glyphs.new }
 {
-    if merges(level) && e - s >= 2 {
-        merge_two(glyphs, run, s, e)
+    if merges(level) && end - start >= 2 {
+        merge_two(glyphs, run, start, end)
     } else {
         run
     }
@@ -87,39 +87,47 @@ pub fn write_run_in(glyphs: &mut [hb_glyph_info_t], run: ClusterRun)
     set_cluster(&mut glyphs[run.start..run.end], run.cluster);
 }
 
-// Merges the glyphs from `s` to `e`, of at least two places.
+// Merges the glyphs from `start` to `end`, of at least two places.
 #[inline]
-fn merge_two(glyphs: &mut [hb_glyph_info_t], run: ClusterRun, s: usize, e: usize) -> ClusterRun
-    requires two { s + 1 < e }
-    requires in_range { e ≤ length glyphs.old }
+fn merge_two(
+    glyphs: &mut [hb_glyph_info_t],
+    run: ClusterRun,
+    start: usize,
+    end: usize,
+) -> ClusterRun
+    requires two { start + 1 < end }
+    requires in_range { end ≤ length glyphs.old }
     requires fits { RunFits run glyphs.old }
-    ensures merged { with_run result glyphs.new ≡ merged s e (with_run run glyphs.old) }
+    ensures merged { with_run result glyphs.new ≡ merged start end (with_run run glyphs.old) }
     ensures fits { RunFits result glyphs.new }
 {
-    let run = reaching(glyphs, run, s);
-    if run.start <= s && s < run.end {
-        return if e <= run.end {
+    let run = reaching(glyphs, run, start);
+    if run.start <= start && start < run.end {
+        return if end <= run.end {
             run
         } else {
-            grown(glyphs, run, e)
+            grown(glyphs, run, end)
         };
     }
     write_run_in(glyphs, run);
-    grown(glyphs, run_of_one(glyphs, s), e)
+    grown(glyphs, run_of_one(glyphs, start), end)
 }
 
-// The run with the glyphs behind it up to place `s`, if these are all in its cluster.
+// The run with the glyphs behind it up to `index`, if these are all in its cluster.
 #[inline]
-fn reaching(glyphs: &[hb_glyph_info_t], run: ClusterRun, s: usize) -> ClusterRun
-    requires inside { s + 1 < length glyphs.now }
-    requires room { s + 1 < 2 ^ 64 }
+fn reaching(glyphs: &[hb_glyph_info_t], run: ClusterRun, index: usize) -> ClusterRun
+    requires inside { index + 1 < length glyphs.now }
+    requires room { index + 1 < 2 ^ 64 }
     requires fits { RunFits run glyphs.now }
-    ensures reached { ReachesGlyph s run glyphs.now result }
+    ensures reached { ReachesGlyph index run glyphs.now result }
     ensures same { with_run result glyphs.now ≡ with_run run glyphs.now }
     ensures fits { RunFits result glyphs.now }
 {
-    if run.start < run.end && run.end <= s && are_in(&glyphs[run.end..s + 1], run.cluster) {
-        ClusterRun { end: s + 1, ..run }
+    if run.start < run.end && run.end <= index && are_in(&glyphs[run.end..index + 1], run.cluster) {
+        ClusterRun {
+            end: index + 1,
+            ..run
+        }
     } else {
         run
     }
@@ -135,40 +143,40 @@ fn are_in(glyphs: &[hb_glyph_info_t], cluster: u32) -> bool
 
 // One glyph as a run.
 #[inline]
-fn run_of_one(glyphs: &[hb_glyph_info_t], s: usize) -> ClusterRun
-    requires inside { s + 1 < length glyphs.now }
-    requires fits { s + 1 < 2 ^ 64 }
-    ensures start { result.start ≡ s }
-    ensures end { result.end ≡ s + 1 }
+fn run_of_one(glyphs: &[hb_glyph_info_t], index: usize) -> ClusterRun
+    requires inside { index + 1 < length glyphs.now }
+    requires fits { index + 1 < 2 ^ 64 }
+    ensures start { result.start ≡ index }
+    ensures end { result.end ≡ index + 1 }
     ensures same { with_run result glyphs.now ≡ glyphs.now }
     ensures fits { RunFits result glyphs.now }
 {
     ClusterRun {
-        start: s,
-        end: s + 1,
-        cluster: glyphs[s].cluster,
+        start: index,
+        end: index + 1,
+        cluster: glyphs[index].cluster,
     }
 }
 
-// The run that a merge from a place of this one to `e` makes, if that lies behind it.
+// The run that a merge from a place of this one to `end` makes, if that lies behind it.
 #[inline]
-fn grown(glyphs: &[hb_glyph_info_t], run: ClusterRun, e: usize) -> ClusterRun
+fn grown(glyphs: &[hb_glyph_info_t], run: ClusterRun, end: usize) -> ClusterRun
     requires some { run.start < run.end }
-    requires further { run.end < e }
-    requires in_range { e ≤ length glyphs.now }
+    requires further { run.end < end }
+    requires in_range { end ≤ length glyphs.now }
     requires fits { RunFits run glyphs.now }
-    ensures merged { (s : ℕ) → run.start ≤ s → s < run.end
-        → with_run result glyphs.now ≡ merged s e (with_run run glyphs.now) }
+    ensures merged { (start : ℕ) → run.start ≤ start → start < run.end
+        → with_run result glyphs.now ≡ merged start end (with_run run glyphs.now) }
     ensures fits { RunFits result glyphs.now }
 {
-    let added = &glyphs[run.end..e];
+    let added = &glyphs[run.end..end];
     let last = added[added.len() - 1].cluster;
     let cluster = least_cluster(added).min(run.cluster);
     let before = equal_before(&glyphs[..run.start], run.cluster, cluster);
-    let behind = equal_behind(&glyphs[e..], last, cluster);
+    let behind = equal_behind(&glyphs[end..], last, cluster);
     ClusterRun {
         start: run.start - before,
-        end: e + behind,
+        end: end + behind,
         cluster,
     }
 }

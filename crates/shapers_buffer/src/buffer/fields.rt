@@ -8,31 +8,31 @@ use super::{
 };
 
 impl hb_buffer_t {
-    /// Where the glyph at place `i` is drawn; `i` is below the number of positions.
+    /// Where the glyph at `index` is drawn; `index` is below the number of positions.
     ///
     /// # Panics
     ///
-    /// Where there is no position at place `i`.
+    /// Where there is no position at `index`.
     #[inline]
-    pub fn position(&self, i: usize) -> GlyphPosition
-        requires { i < length self.now.positions }
-        ensures { result ≡ slice_index_or self.now.positions i result }
+    pub fn position(&self, index: usize) -> GlyphPosition
+        requires { index < length self.now.positions }
+        ensures { result ≡ slice_index_or self.now.positions index result }
     {
-        self.pos[i]
+        self.pos[index]
     }
 
-    /// Sets where the glyph at place `i` is drawn; `i` is below the number of positions.
+    /// Sets where the glyph at `index` is drawn; `index` is below the number of positions.
     ///
     /// # Panics
     ///
-    /// Where there is no position at place `i`.
+    /// Where there is no position at `index`.
     #[inline]
-    pub fn set_position(&mut self, i: usize, position: GlyphPosition)
-        requires { i < length self.old.positions }
+    pub fn set_position(&mut self, index: usize, position: GlyphPosition)
+        requires { index < length self.old.positions }
         ensures { self.new ≡
-            record self.old { positions = slice_set self.old.positions i position } }
+            record self.old { positions = slice_set self.old.positions index position } }
     {
-        self.pos[i] = position;
+        self.pos[index] = position;
     }
 
     /// Where the glyphs are drawn: none, or one per glyph.

@@ -22,52 +22,53 @@ pub mod glyph_flag {
 use glyph_flag::{SAFE_TO_INSERT_TATWEEL, UNSAFE_TO_BREAK, UNSAFE_TO_CONCAT};
 
 impl hb_buffer_t {
-    /// Flags the places from `s` to `e` whose cluster isn't the least one there: unsafe to break,
-    /// and unsafe to concatenate.
+    /// Flags the places from `start` to `end` whose cluster isn't the least one there: unsafe to
+    /// break, and unsafe to concatenate.
     ///
     /// # Panics
     ///
-    /// Where `s` is above `e`, or `e` above the length.
+    /// Where `start` is above `end`, or `end` above the length.
     #[inline]
-    pub fn unsafe_to_break(&mut self, s: usize, e: usize)
-        requires in_order { s ≤ e }
-        requires in_range { e ≤ length self.old.glyphs }
-        ensures { self.new ≡ record self.old { glyphs = unsafe_inside s e self.old.glyphs } }
+    pub fn unsafe_to_break(&mut self, start: usize, end: usize)
+        requires in_order { start ≤ end }
+        requires in_range { end ≤ length self.old.glyphs }
+        ensures { self.new ≡ record self.old { glyphs = unsafe_inside start end self.old.glyphs } }
     {
-        unsafe_to_break_in(&mut self.info, s, e);
+        unsafe_to_break_in(&mut self.info, start, end);
     }
 
-    /// Flags every place from `s` to `e` as unsafe to concatenate, where the buffer wants that
-    /// flag.
+    /// Flags every place from `start` to `end` as unsafe to concatenate, where the buffer wants
+    /// that flag.
     ///
     /// # Panics
     ///
-    /// Where `s` is above `e`, or `e` above the length.
+    /// Where `start` is above `end`, or `end` above the length.
     #[inline]
-    pub fn unsafe_to_concat(&mut self, s: usize, e: usize)
-        requires in_order { s ≤ e }
-        requires in_range { e ≤ length self.old.glyphs }
+    pub fn unsafe_to_concat(&mut self, start: usize, end: usize)
+        requires in_order { start ≤ end }
+        requires in_range { end ≤ length self.old.glyphs }
         ensures { let asked = asks flags_concat self.old in
-            let flagged = unsafe_to_concat_in asked s e self.old.glyphs in
+            let flagged = unsafe_to_concat_in asked start end self.old.glyphs in
             self.new ≡ record self.old { glyphs = flagged } }
     {
-        unsafe_to_concat_in(self.flags, &mut self.info, s, e);
+        unsafe_to_concat_in(self.flags, &mut self.info, start, end);
     }
 
-    /// Flags the places from `s` to `e` whose cluster isn't the least one there: safe to insert a
-    /// tatweel, where the buffer wants that flag, else as `unsafe_to_break`.
+    /// Flags the places from `start` to `end` whose cluster isn't the least one there: safe to
+    /// insert a tatweel, where the buffer wants that flag, else as `unsafe_to_break`.
     ///
     /// # Panics
     ///
-    /// Where `s` is above `e`, or `e` above the length.
+    /// Where `start` is above `end`, or `end` above the length.
     #[inline]
-    pub fn safe_to_insert_tatweel(&mut self, s: usize, e: usize)
-        requires in_order { s ≤ e }
-        requires in_range { e ≤ length self.old.glyphs }
-        ensures { let flagged = tatweel_inside (asks flags_tatweel self.old) s e self.old.glyphs in
+    pub fn safe_to_insert_tatweel(&mut self, start: usize, end: usize)
+        requires in_order { start ≤ end }
+        requires in_range { end ≤ length self.old.glyphs }
+        ensures { let asked = asks flags_tatweel self.old in
+            let flagged = tatweel_inside asked start end self.old.glyphs in
             self.new ≡ record self.old { glyphs = flagged } }
     {
-        safe_to_insert_tatweel_in(self.flags, &mut self.info, s, e);
+        safe_to_insert_tatweel_in(self.flags, &mut self.info, start, end);
     }
 }
 
@@ -75,14 +76,14 @@ impl hb_buffer_t {
 ///
 /// # Panics
 ///
-/// Where `s` is above `e`, or `e` above the length.
+/// Where `start` is above `end`, or `end` above the length.
 #[inline]
-pub fn unsafe_to_break_in(glyphs: &mut [hb_glyph_info_t], s: usize, e: usize)
-    requires in_order { s ≤ e }
-    requires in_range { e ≤ length glyphs.old }
-    ensures { glyphs.new ≡ unsafe_inside s e glyphs.old }
+pub fn unsafe_to_break_in(glyphs: &mut [hb_glyph_info_t], start: usize, end: usize)
+    requires in_order { start ≤ end }
+    requires in_range { end ≤ length glyphs.old }
+    ensures { glyphs.new ≡ unsafe_inside start end glyphs.old }
 {
-    flag(&mut glyphs[s..e], UNSAFE_TO_BREAK | UNSAFE_TO_CONCAT);
+    flag(&mut glyphs[start..end], UNSAFE_TO_BREAK | UNSAFE_TO_CONCAT);
 }
 
 /// No concatenation in the stretch, where the flags want that, over glyphs in a slice, as
@@ -90,15 +91,20 @@ pub fn unsafe_to_break_in(glyphs: &mut [hb_glyph_info_t], s: usize, e: usize)
 ///
 /// # Panics
 ///
-/// Where `s` is above `e`, or `e` above the length.
+/// Where `start` is above `end`, or `end` above the length.
 #[inline]
-pub fn unsafe_to_concat_in(flags: BufferFlags, glyphs: &mut [hb_glyph_info_t], s: usize, e: usize)
-    requires in_order { s ≤ e }
-    requires in_range { e ≤ length glyphs.old }
-    ensures { glyphs.new ≡ unsafe_to_concat_in (has_flag flags_concat flags) s e glyphs.old }
+pub fn unsafe_to_concat_in(
+    flags: BufferFlags,
+    glyphs: &mut [hb_glyph_info_t],
+    start: usize,
+    end: usize,
+)
+    requires in_order { start ≤ end }
+    requires in_range { end ≤ length glyphs.old }
+    ensures { glyphs.new ≡ unsafe_to_concat_in (has_flag flags_concat flags) start end glyphs.old }
 {
     if flags.contains(BufferFlags::PRODUCE_UNSAFE_TO_CONCAT) {
-        flag_all(&mut glyphs[s..e], UNSAFE_TO_CONCAT);
+        flag_all(&mut glyphs[start..end], UNSAFE_TO_CONCAT);
     }
 }
 
@@ -106,24 +112,24 @@ pub fn unsafe_to_concat_in(flags: BufferFlags, glyphs: &mut [hb_glyph_info_t], s
 ///
 /// # Panics
 ///
-/// Where `s` is above `e`, or `e` above the length.
+/// Where `start` is above `end`, or `end` above the length.
 #[inline]
 pub fn safe_to_insert_tatweel_in(
     flags: BufferFlags,
     glyphs: &mut [hb_glyph_info_t],
-    s: usize,
-    e: usize,
+    start: usize,
+    end: usize,
 )
-    requires in_order { s ≤ e }
-    requires in_range { e ≤ length glyphs.old }
-    ensures { glyphs.new ≡ tatweel_inside (has_flag flags_tatweel flags) s e glyphs.old }
+    requires in_order { start ≤ end }
+    requires in_range { end ≤ length glyphs.old }
+    ensures { glyphs.new ≡ tatweel_inside (has_flag flags_tatweel flags) start end glyphs.old }
 {
     let bits = if flags.contains(BufferFlags::PRODUCE_SAFE_TO_INSERT_TATWEEL) {
         SAFE_TO_INSERT_TATWEEL
     } else {
         UNSAFE_TO_BREAK | UNSAFE_TO_CONCAT
     };
-    flag(&mut glyphs[s..e], bits);
+    flag(&mut glyphs[start..end], bits);
 }
 
 // Adds mask bits to every glyph whose cluster isn't the least one of the stretch.

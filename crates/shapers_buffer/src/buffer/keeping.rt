@@ -103,21 +103,21 @@ impl hb_buffer_t {
     }
 }
 
-// The list with these items alone, and with room for `n`.
+// The list with these items alone, and with room for `len`.
 #[inline]
 pub(super) fn refilled<T: Copy>(
     mut list: Vec<T>,
     items: &[T],
-    n: usize,
+    len: usize,
 ) -> Result<Vec<T>, ShaperError>
     ensures items { IfOk result (λ list. list.items ≡ items.now) }
-    ensures room { IfOk result (λ list. n ≤ vec_capacity list) }
+    ensures room { IfOk result (λ list. len ≤ vec_capacity list) }
     ensures refusal { IfErr result (λ e. e ≡ Memory) }
 {
-    let n = n.max(items.len());
+    let len = len.max(items.len());
     list.clear();
-    if list.capacity() < n {
-        enlarge(&mut list, n)?;
+    if list.capacity() < len {
+        enlarge(&mut list, len)?;
     }
     list.extend_from_slice(items).unwrap();
     Ok(list)

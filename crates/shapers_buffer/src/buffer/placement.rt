@@ -33,24 +33,25 @@ pub enum Placement {
 }
 
 impl hb_buffer_t {
-    /// The place whose glyph is listed to come to `i`.
+    /// The place whose glyph is listed to come to `index`.
     #[inline]
-    pub fn place(&self, i: usize) -> usize
-        requires { i < length self.now.glyphs }
-        ensures { result ≡ place_at self.now.places i }
+    pub fn place(&self, index: usize) -> usize
+        requires { index < length self.now.glyphs }
+        ensures { result ≡ place_at self.now.places index }
     {
-        self.places.get(i).copied().unwrap_or(0)
+        self.places.get(index).copied().unwrap_or(0)
     }
 
-    /// Lists that the glyph of place `place` is to come to `i`. Panics if `i` is beyond the buffer.
+    /// Lists that the glyph at `place` is to come to `index`. Panics if `index` is beyond the
+    /// buffer.
     #[inline]
-    pub fn set_place(&mut self, i: usize, place: usize)
-        requires { i < length self.old.glyphs }
-        ensures { self.new ≡ record self.old { places = with_place i place self.old.places } }
+    pub fn set_place(&mut self, index: usize, place: usize)
+        requires { index < length self.old.glyphs }
+        ensures { self.new ≡ record self.old { places = with_place index place self.old.places } }
     {
         // the slice panics before room is taken for a place beyond the buffer
-        open_places(&mut self.places, self.info[..i + 1].len());
-        self.places[i] = place;
+        open_places(&mut self.places, self.info[..index + 1].len());
+        self.places[index] = place;
     }
 
     /// Empties the list, so that each place reads 0. It takes no memory.
@@ -219,76 +220,76 @@ fn gather(glyphs: &[hb_glyph_info_t], places: &[usize], to: &mut [hb_glyph_info_
 // How many places are opened at once.
 const OPENED: usize = 64;
 
-// Opens the first `n` places of the room that is there, and some more. What is opened reads 0, as
+// Opens the first `len` places of the room that is there, and some more. What is opened reads 0, as
 // it did.
 #[inline]
-fn open_places(places: &mut Vec<usize>, n: usize)
-    requires room { n ≤ vec_capacity places.old }
+fn open_places(places: &mut Vec<usize>, len: usize)
+    requires room { len ≤ vec_capacity places.old }
     ensures places { without_last_zeros places.new.items ≡ without_last_zeros places.old.items }
-    ensures opened { n ≤ length places.new.items }
+    ensures opened { len ≤ length places.new.items }
     ensures capacity { vec_capacity places.old ≤ vec_capacity places.new }
 {
-    if places.len() < n {
-        let ahead = n.max(places.capacity().min(n.saturating_add(OPENED)));
+    if places.len() < len {
+        let ahead = len.max(places.capacity().min(len.saturating_add(OPENED)));
         places.resize(ahead, 0).unwrap();
     }
 }
 
-// Opens the first `n` glyphs of the room that is there.
+// Opens the first `len` glyphs of the room that is there.
 #[inline]
-pub(super) fn open_spare(spare: &mut Vec<hb_glyph_info_t>, n: usize)
-    requires room { n ≤ vec_capacity spare.old }
-    ensures opened { n ≤ length spare.new.items }
+pub(super) fn open_spare(spare: &mut Vec<hb_glyph_info_t>, len: usize)
+    requires room { len ≤ vec_capacity spare.old }
+    ensures opened { len ≤ length spare.new.items }
     ensures capacity { vec_capacity spare.old ≤ vec_capacity spare.new }
 {
-    if spare.len() < n {
-        spare.resize(n, hb_glyph_info_t::DEFAULT).unwrap();
+    if spare.len() < len {
+        spare.resize(len, hb_glyph_info_t::DEFAULT).unwrap();
     }
 }
 
-// Makes room for `n` places, glyphs and groups, and writes nothing there. The places come last: where
-// they have room, so have the groups.
+// Makes room for `len` places, glyphs and groups, and writes nothing there. The places come last:
+// where they have room, so have the groups.
 #[inline]
 pub(super) fn make_room(
     places: &mut Vec<usize>,
     spare: &mut Vec<hb_glyph_info_t>,
     room: &mut GroupRoom,
-    n: usize,
+    len: usize,
 ) -> Result<(), ShaperError>
     ensures places { places.new.items ≡ places.old.items }
     ensures spare { spare.new.items ≡ spare.old.items }
     ensures more_places { vec_capacity places.old ≤ vec_capacity places.new }
     ensures more_spare { vec_capacity spare.old ≤ vec_capacity spare.new }
-    ensures places_room { OnOk result (n ≤ vec_capacity places.new) }
-    ensures spare_room { OnOk result (n ≤ vec_capacity spare.new) }
+    ensures places_room { OnOk result (len ≤ vec_capacity places.new) }
+    ensures spare_room { OnOk result (len ≤ vec_capacity spare.new) }
     ensures refusal { IsOkUnless result Memory }
 {
-    if places.capacity() < n {
-        room.enlarge(n)?;
-        enlarge(places, n)?;
+    if places.capacity() < len {
+        room.enlarge(len)?;
+        enlarge(places, len)?;
     }
-    if spare.capacity() < n {
-        enlarge(spare, n)?;
+    if spare.capacity() < len {
+        enlarge(spare, len)?;
     }
     Ok(())
 }
 
-// Makes room for `n` items. An empty list takes new room, since making the old one larger copies
+// Makes room for `len` items. An empty list takes new room, since making the old one larger copies
 // all of it.
 #[inline]
-pub(super) fn enlarge<T: Copy>(list: &mut Vec<T>, n: usize) -> Result<(), ShaperError>
-    requires less { vec_capacity list.old < n }
+pub(super) fn enlarge<T: Copy>(list: &mut Vec<T>, len: usize) -> Result<(), ShaperError>
+    requires less { vec_capacity list.old < len }
     ensures items { list.new.items ≡ list.old.items }
     ensures more { vec_capacity list.old ≤ vec_capacity list.new }
-    ensures room { OnOk result (n ≤ vec_capacity list.new) }
+    ensures room { OnOk result (len ≤ vec_capacity list.new) }
     ensures refusal { IsOkUnless result Memory }
 {
     if list.is_empty() {
         let mut larger = Vec::new(*list.allocator());
-        larger.reserve(n.max(list.capacity().saturating_mul(2)))?;
+        larger.reserve(len.max(list.capacity().saturating_mul(2)))?;
         *list = larger;
     } else {
-        list.reserve(n - list.len())?;
+        list.reserve(len - list.len())?;
     }
     Ok(())
 }

@@ -20,20 +20,20 @@ pub struct Span {
 }
 
 impl hb_buffer_t {
-    /// Where the syllable ends that place `s` stands in: behind the longest run of its byte from
-    /// `s` on.
+    /// Where the syllable ends that place `start` stands in: behind the longest run of its byte
+    /// from `start` on.
     ///
     /// # Panics
     ///
-    /// Where `s` is no place of the buffer.
+    /// Where `start` is no place of the buffer.
     #[inline]
-    pub fn next_syllable(&self, s: usize) -> usize
-        requires { s < length self.now.glyphs }
-        ensures end { result ≡ s + first_syllable_len (drop s self.now.glyphs) }
+    pub fn next_syllable(&self, start: usize) -> usize
+        requires { start < length self.now.glyphs }
+        ensures end { result ≡ start + first_syllable_len (drop start self.now.glyphs) }
         ensures within { result ≤ length self.now.glyphs }
-        ensures further { s < result }
+        ensures further { start < result }
     {
-        s + first_syllable_len(&self.info[s..])
+        start + first_syllable_len(&self.info[start..])
     }
 
     /// The first place of the first syllable whose kind is above `last_kind`: one of unknown kind.
@@ -141,14 +141,14 @@ fn set_bytes(glyphs: &mut [hb_glyph_info_t], spans: &[Span])
     }
 }
 
-// Gives the glyphs from `s` to `e` one syllable byte.
+// Gives the glyphs from `start` to `end` one syllable byte.
 #[inline]
-fn set_syllable_in(glyphs: &mut [hb_glyph_info_t], s: usize, e: usize, byte: u8)
-    requires in_order { s ≤ e }
-    requires in_range { e ≤ length glyphs.old }
-    ensures { glyphs.new ≡ with_stretch s e (map (in_syllable byte)) glyphs.old }
+fn set_syllable_in(glyphs: &mut [hb_glyph_info_t], start: usize, end: usize, byte: u8)
+    requires in_order { start ≤ end }
+    requires in_range { end ≤ length glyphs.old }
+    ensures { glyphs.new ≡ with_stretch start end (map (in_syllable byte)) glyphs.old }
 {
-    set_syllable(&mut glyphs[s..e], byte);
+    set_syllable(&mut glyphs[start..end], byte);
 }
 
 /// Gives all these glyphs one syllable byte.

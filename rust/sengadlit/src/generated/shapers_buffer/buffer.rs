@@ -183,46 +183,46 @@ impl Buffer {
         self.info.as_slice()
     }
 
-    /// The glyph at place `i`.
+    /// The glyph at `index`.
     ///
     /// # Panics
     ///
-    /// Where `i` is no place of the buffer.
+    /// Where `index` is no place of the buffer.
     ///
     /// <details><summary>Contract</summary>
     ///
     /// # Contract
     ///
     /// ```text
-    /// requires { i < length self.now.glyphs }
-    /// ensures { result ≡ slice_index_or self.now.glyphs i result }
+    /// requires { index < length self.now.glyphs }
+    /// ensures { result ≡ slice_index_or self.now.glyphs index result }
     /// ```
     ///
     /// </details>
     #[inline]
-    pub fn get(&self, i: usize) -> GlyphInfo {
-        self.info[i]
+    pub fn get(&self, index: usize) -> GlyphInfo {
+        self.info[index]
     }
 
-    /// Puts a glyph at place `i`.
+    /// Puts a glyph at `index`.
     ///
     /// # Panics
     ///
-    /// Where `i` is no place of the buffer.
+    /// Where `index` is no place of the buffer.
     ///
     /// <details><summary>Contract</summary>
     ///
     /// # Contract
     ///
     /// ```text
-    /// requires { i < length self.old.glyphs }
-    /// ensures { self.new ≡ record self.old { glyphs = slice_set self.old.glyphs i glyph } }
+    /// requires { index < length self.old.glyphs }
+    /// ensures { self.new ≡ record self.old { glyphs = slice_set self.old.glyphs index glyph } }
     /// ```
     ///
     /// </details>
     #[inline]
-    pub fn set(&mut self, i: usize, glyph: GlyphInfo) {
-        self.info[i] = glyph;
+    pub fn set(&mut self, index: usize, glyph: GlyphInfo) {
+        self.info[index] = glyph;
     }
 
     /// Adds a glyph at the end. The buffer has no positions afterwards.
@@ -266,7 +266,8 @@ impl Buffer {
         Ok(())
     }
 
-    /// Adds `n` default glyphs at the end and, unless there are no positions, `n` zero positions.
+    /// Adds `count` default glyphs at the end and, unless there are no positions, `count` zero
+    /// positions.
     ///
     /// # Errors
     ///
@@ -278,8 +279,8 @@ impl Buffer {
     /// # Contract
     ///
     /// ```text
-    /// ensures ok { OnOk result (self.new ≡ grown n self.old) }
-    /// ensures length { RefusesLength self.old.max_len (length self.old.glyphs + n) result }
+    /// ensures ok { OnOk result (self.new ≡ grown count self.old) }
+    /// ensures length { RefusesLength self.old.max_len (length self.old.glyphs + count) result }
     /// ensures err { OnErr result (self.new ≡ self.old) }
     /// ```
     ///
@@ -292,37 +293,37 @@ impl Buffer {
     /// [`TooLong`]: crate::ShaperError::TooLong
     /// [`max_len`]: crate::Buffer::max_len
     #[inline]
-    pub fn grow(&mut self, n: usize) -> Result<(), ShaperError> {
-        if self.max_len - self.info.len() < n {
+    pub fn grow(&mut self, count: usize) -> Result<(), ShaperError> {
+        if self.max_len - self.info.len() < count {
             return Err(ShaperError::TooLong);
         }
-        let len = self.info.len() + n;
+        let len = self.info.len() + count;
         make_room(&mut self.places, &mut self.spare, &mut self.group_room, len)?;
-        self.info.reserve(n)?;
-        add_zero_positions(&mut self.pos, n)?;
+        self.info.reserve(count)?;
+        add_zero_positions(&mut self.pos, count)?;
         self.info.resize(len, GlyphInfo::DEFAULT)?;
         Ok(())
     }
 
-    /// Keeps the first `n` glyphs, with their positions.
+    /// Keeps the first `len` glyphs, with their positions.
     ///
     /// <details><summary>Contract</summary>
     ///
     /// # Contract
     ///
     /// ```text
-    /// requires { n ≤ length self.old.glyphs }
+    /// requires { len ≤ length self.old.glyphs }
     /// ensures { self.new ≡ record self.old {
-    ///   glyphs = take n self.old.glyphs;
-    ///   positions = take n self.old.positions;
+    ///   glyphs = take len self.old.glyphs;
+    ///   positions = take len self.old.positions;
     /// } }
     /// ```
     ///
     /// </details>
     #[inline]
-    pub fn truncate(&mut self, n: usize) {
-        self.info.truncate(n);
-        self.pos.truncate(n);
+    pub fn truncate(&mut self, len: usize) {
+        self.info.truncate(len);
+        self.pos.truncate(len);
     }
 
     /// An equal buffer.
@@ -376,11 +377,11 @@ impl Buffer {
     }
 }
 
-// Adds `n` zero positions, unless there are no positions.
+// Adds `count` zero positions, unless there are no positions.
 #[inline]
-fn add_zero_positions(positions: &mut Vec<GlyphPosition>, n: usize) -> Result<(), ShaperError> {
+fn add_zero_positions(positions: &mut Vec<GlyphPosition>, count: usize) -> Result<(), ShaperError> {
     if !positions.is_empty() {
-        positions.resize(positions.len() + n, GlyphPosition::ZERO)?;
+        positions.resize(positions.len() + count, GlyphPosition::ZERO)?;
     }
     Ok(())
 }

@@ -11,7 +11,7 @@ pub returns-clause-merged : goal.returns-clause-merged
 returns-clause-merged c =
     let gs = c.args.glyphs.now in
     let b = c.args.run.end in
-    let e = c.args.e in
+    let e = c.args.end in
     let more = stretch_of b e gs in
     λ s from inside. grown_merged c.args.run.start b c.args.run.cluster s e _ _ _ _ gs from inside c.requires.further
     c.requires.in_range c.requires.fits.least

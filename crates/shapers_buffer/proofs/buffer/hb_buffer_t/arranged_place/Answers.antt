@@ -32,7 +32,7 @@ returns-clause-place c =
     let raw : a.self.now.places ≡ without_last_zeros c.deref.result.now =
     sym (ap without_last_zeros c.deref.ensures.value ∙ ap (λ (b : Buffer). b.places) c.self.view_is) in
     c.old_place_by_all.ensures
-    ∙ sym (all_raw a.placements.now a.start a.end a.self.now.places c.deref.result.now a.i raw)
+    ∙ sym (all_raw a.placements.now a.start a.end a.self.now.places c.deref.result.now a.index raw)
 
 pub returns-clause-within : goal.returns-clause-within
 returns-clause-within c =
@@ -40,8 +40,8 @@ returns-clause-within c =
     let raw : a.self.now.places ≡ without_last_zeros c.deref.result.now =
     sym (ap without_last_zeros c.deref.ensures.value ∙ ap (λ (b : Buffer). b.places) c.self.view_is) in
     subst (λ q. q < length a.self.now.glyphs) (all_raw a.placements.now a.start a.end a.self.now.places
-    c.deref.result.now a.i raw ∙ sym c.old_place_by_all.ensures)
-    (all_within a.placements.now a.start a.end (length a.self.now.glyphs) a.self.now.places a.i c.requires.arranges
+    c.deref.result.now a.index raw ∙ sym c.old_place_by_all.ensures)
+    (all_within a.placements.now a.start a.end (length a.self.now.glyphs) a.self.now.places a.index c.requires.arranges
     c.requires.inside)
 
 pub returns-clause-fits : goal.returns-clause-fits

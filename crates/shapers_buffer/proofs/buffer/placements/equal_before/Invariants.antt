@@ -5,5 +5,5 @@ use Rattle.shapers_buffer.specs.Clusters.{has_cluster}
 use Rattle.shapers_buffer.proofs.buffer.placements.equal_before.Given as goal
 
 abbrev pub invariant-loop-i : goal.invariant-loop-i
-invariant-loop-i l = (l.i ≤ l.n) × (suffix_len (has_cluster l.from) (take l.n l.glyphs)
-    ≡ (l.n - l.i) + suffix_len (has_cluster l.from) (take l.i l.glyphs))
+invariant-loop-i l = (l.i ≤ l.end) × (suffix_len (has_cluster l.from) (take l.end l.glyphs)
+    ≡ (l.end - l.i) + suffix_len (has_cluster l.from) (take l.i l.glyphs))

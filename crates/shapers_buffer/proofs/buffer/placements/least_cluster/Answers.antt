@@ -9,7 +9,7 @@ loop-i-init c = search (arith, least_from default_glyph)
 
 pub loop-i-preserved : goal.loop-i-preserved
 loop-i-preserved c =
-    let next = clusters_from default_glyph c.loop-i.i c.args.e c.args.glyphs.now (omega arith) (omega arith) in
+    let next = clusters_from default_glyph c.loop-i.i c.args.end c.args.glyphs.now (omega arith) (omega arith) in
     search arith
 
 pub returns : goal.returns

@@ -6,4 +6,4 @@ use Rattle.shapers_buffer.specs.Glyph.{clusters}
 use Rattle.shapers_buffer.proofs.buffer.placements.least_cluster.Given as goal
 
 abbrev pub invariant-loop-i : goal.invariant-loop-i
-invariant-loop-i l = (l.s < l.i) × (fold min l.least (clusters (stretch_of l.i l.e l.glyphs)) ≡ least (clusters (stretch_of l.s l.e l.glyphs)))
+invariant-loop-i l = (l.start < l.i) × (fold min l.least (clusters (stretch_of l.i l.end l.glyphs)) ≡ least (clusters (stretch_of l.start l.end l.glyphs)))

@@ -8,7 +8,7 @@ use Rattle.shapers_buffer.proofs.buffer.placements.merged_run.Goals as goal
 pub returns-clause-merged : goal.returns-clause-merged
 returns-clause-merged c =
     let gs = c.args.glyphs.now in
-    merged_by_ends default_glyph c.args.s c.args.e c.get-first.result.cluster c.min-cluster.result
+    merged_by_ends default_glyph c.args.start c.args.end c.get-first.result.cluster c.min-cluster.result
     c.get-last.result.cluster c.equal_before-before.result c.equal_behind-behind.result gs c.requires.two
     c.requires.in_range (ap (λ (g : Glyph). g.cluster) c.get-first.ensures)
     (ap (λ (g : Glyph). g.cluster) c.get-last.ensures)

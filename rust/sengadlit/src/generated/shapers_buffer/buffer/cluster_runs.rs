@@ -26,9 +26,9 @@ impl ClusterRun {
 }
 
 impl Buffer {
-    /// Merges the glyphs from `s` to `e`, as `merge_clusters`, of the buffer with a run in its
-    /// cluster. Where they start in the run nothing is written and only what is new is read, else
-    /// the run is written and another begins. Returns the run that is to be written then.
+    /// Merges the glyphs from `start` to `end`, as `merge_clusters`, of the buffer with a run in
+    /// its cluster. Where they start in the run nothing is written and only what is new is read,
+    /// else the run is written and another begins. Returns the run that is to be written then.
     ///
     /// # Panics
     ///
@@ -39,12 +39,12 @@ impl Buffer {
     /// # Contract
     ///
     /// ```text
-    /// requires in_order { s ≤ e }
-    /// requires in_range { e ≤ length self.old.glyphs }
+    /// requires in_order { start ≤ end }
+    /// requires in_range { end ≤ length self.old.glyphs }
     /// requires fits { RunFits run self.old.glyphs }
     /// ensures others { self.new ≡ record self.old { glyphs = self.new.glyphs } }
     /// ensures merged { with_run result self.new.glyphs
-    ///     ≡ merge self.old.level s e (with_run run self.old.glyphs) }
+    ///     ≡ merge self.old.level start end (with_run run self.old.glyphs) }
     /// ensures fits { RunFits result self.new.glyphs }
     /// ensures same_length { length self.new.glyphs ≡ length self.old.glyphs }
     /// ```
@@ -54,8 +54,8 @@ impl Buffer {
     ///
     /// </details>
     #[inline]
-    pub(crate) fn merge_run(&mut self, run: ClusterRun, s: usize, e: usize) -> ClusterRun {
-        merge_run_in(self.cluster_level, &mut self.info, run, s, e)
+    pub(crate) fn merge_run(&mut self, run: ClusterRun, start: usize, end: usize) -> ClusterRun {
+        merge_run_in(self.cluster_level, &mut self.info, run, start, end)
     }
 
     /// Puts the glyphs of a run into its cluster.
@@ -89,10 +89,10 @@ impl Buffer {
 /// # Contract
 ///
 /// ```text
-/// requires in_order { s ≤ e }
-/// requires in_range { e ≤ length glyphs.old }
+/// requires in_order { start ≤ end }
+/// requires in_range { end ≤ length glyphs.old }
 /// requires fits { RunFits run glyphs.old }
-/// ensures merged { with_run result glyphs.new ≡ merge level s e (with_run run glyphs.old) }
+/// ensures merged { with_run result glyphs.new ≡ merge level start end (with_run run glyphs.old) }
 /// ensures fits { RunFits result glyphs.new }
 /// ```
 ///
@@ -107,11 +107,11 @@ pub fn merge_run_in(
     level: BufferClusterLevel,
     glyphs: &mut [GlyphInfo],
     run: ClusterRun,
-    s: usize,
-    e: usize,
+    start: usize,
+    end: usize,
 ) -> ClusterRun {
-    if merges(level) && e - s >= 2 {
-        merge_two(glyphs, run, s, e)
+    if merges(level) && end - start >= 2 {
+        merge_two(glyphs, run, start, end)
     } else {
         run
     }
@@ -136,26 +136,29 @@ pub fn write_run_in(glyphs: &mut [GlyphInfo], run: ClusterRun) {
     set_cluster(&mut glyphs[run.start..run.end], run.cluster);
 }
 
-// Merges the glyphs from `s` to `e`, of at least two places.
+// Merges the glyphs from `start` to `end`, of at least two places.
 #[inline]
-fn merge_two(glyphs: &mut [GlyphInfo], run: ClusterRun, s: usize, e: usize) -> ClusterRun {
-    let run = reaching(glyphs, run, s);
-    if run.start <= s && s < run.end {
-        return if e <= run.end {
+fn merge_two(glyphs: &mut [GlyphInfo], run: ClusterRun, start: usize, end: usize) -> ClusterRun {
+    let run = reaching(glyphs, run, start);
+    if run.start <= start && start < run.end {
+        return if end <= run.end {
             run
         } else {
-            grown(glyphs, run, e)
+            grown(glyphs, run, end)
         };
     }
     write_run_in(glyphs, run);
-    grown(glyphs, run_of_one(glyphs, s), e)
+    grown(glyphs, run_of_one(glyphs, start), end)
 }
 
-// The run with the glyphs behind it up to place `s`, if these are all in its cluster.
+// The run with the glyphs behind it up to `index`, if these are all in its cluster.
 #[inline]
-fn reaching(glyphs: &[GlyphInfo], run: ClusterRun, s: usize) -> ClusterRun {
-    if run.start < run.end && run.end <= s && are_in(&glyphs[run.end..s + 1], run.cluster) {
-        ClusterRun { end: s + 1, ..run }
+fn reaching(glyphs: &[GlyphInfo], run: ClusterRun, index: usize) -> ClusterRun {
+    if run.start < run.end && run.end <= index && are_in(&glyphs[run.end..index + 1], run.cluster) {
+        ClusterRun {
+            end: index + 1,
+            ..run
+        }
     } else {
         run
     }
@@ -169,25 +172,25 @@ fn are_in(glyphs: &[GlyphInfo], cluster: u32) -> bool {
 
 // One glyph as a run.
 #[inline]
-fn run_of_one(glyphs: &[GlyphInfo], s: usize) -> ClusterRun {
+fn run_of_one(glyphs: &[GlyphInfo], index: usize) -> ClusterRun {
     ClusterRun {
-        start: s,
-        end: s + 1,
-        cluster: glyphs[s].cluster,
+        start: index,
+        end: index + 1,
+        cluster: glyphs[index].cluster,
     }
 }
 
-// The run that a merge from a place of this one to `e` makes, if that lies behind it.
+// The run that a merge from a place of this one to `end` makes, if that lies behind it.
 #[inline]
-fn grown(glyphs: &[GlyphInfo], run: ClusterRun, e: usize) -> ClusterRun {
-    let added = &glyphs[run.end..e];
+fn grown(glyphs: &[GlyphInfo], run: ClusterRun, end: usize) -> ClusterRun {
+    let added = &glyphs[run.end..end];
     let last = added[added.len() - 1].cluster;
     let cluster = least_cluster(added).min(run.cluster);
     let before = equal_before(&glyphs[..run.start], run.cluster, cluster);
-    let behind = equal_behind(&glyphs[e..], last, cluster);
+    let behind = equal_behind(&glyphs[end..], last, cluster);
     ClusterRun {
         start: run.start - before,
-        end: e + behind,
+        end: end + behind,
         cluster,
     }
 }

@@ -10,47 +10,47 @@ use super::{
 };
 
 impl Buffer {
-    /// Where the glyph at place `i` is drawn; `i` is below the number of positions.
+    /// Where the glyph at `index` is drawn; `index` is below the number of positions.
     ///
     /// # Panics
     ///
-    /// Where there is no position at place `i`.
+    /// Where there is no position at `index`.
     ///
     /// <details><summary>Contract</summary>
     ///
     /// # Contract
     ///
     /// ```text
-    /// requires { i < length self.now.positions }
-    /// ensures { result ≡ slice_index_or self.now.positions i result }
+    /// requires { index < length self.now.positions }
+    /// ensures { result ≡ slice_index_or self.now.positions index result }
     /// ```
     ///
     /// </details>
     #[inline]
-    pub fn position(&self, i: usize) -> GlyphPosition {
-        self.pos[i]
+    pub fn position(&self, index: usize) -> GlyphPosition {
+        self.pos[index]
     }
 
-    /// Sets where the glyph at place `i` is drawn; `i` is below the number of positions.
+    /// Sets where the glyph at `index` is drawn; `index` is below the number of positions.
     ///
     /// # Panics
     ///
-    /// Where there is no position at place `i`.
+    /// Where there is no position at `index`.
     ///
     /// <details><summary>Contract</summary>
     ///
     /// # Contract
     ///
     /// ```text
-    /// requires { i < length self.old.positions }
+    /// requires { index < length self.old.positions }
     /// ensures { self.new ≡
-    ///     record self.old { positions = slice_set self.old.positions i position } }
+    ///     record self.old { positions = slice_set self.old.positions index position } }
     /// ```
     ///
     /// </details>
     #[inline]
-    pub fn set_position(&mut self, i: usize, position: GlyphPosition) {
-        self.pos[i] = position;
+    pub fn set_position(&mut self, index: usize, position: GlyphPosition) {
+        self.pos[index] = position;
     }
 
     /// Where the glyphs are drawn: none, or one per glyph.

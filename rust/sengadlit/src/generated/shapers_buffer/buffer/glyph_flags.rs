@@ -20,47 +20,47 @@ pub mod glyph_flag {
 use glyph_flag::{SAFE_TO_INSERT_TATWEEL, UNSAFE_TO_BREAK, UNSAFE_TO_CONCAT};
 
 impl Buffer {
-    /// Flags the places from `s` to `e` whose cluster isn't the least one there: unsafe to break,
-    /// and unsafe to concatenate.
+    /// Flags the places from `start` to `end` whose cluster isn't the least one there: unsafe to
+    /// break, and unsafe to concatenate.
     ///
     /// # Panics
     ///
-    /// Where `s` is above `e`, or `e` above the length.
+    /// Where `start` is above `end`, or `end` above the length.
     ///
     /// <details><summary>Contract</summary>
     ///
     /// # Contract
     ///
     /// ```text
-    /// requires in_order { s ≤ e }
-    /// requires in_range { e ≤ length self.old.glyphs }
-    /// ensures { self.new ≡ record self.old { glyphs = unsafe_inside s e self.old.glyphs } }
+    /// requires in_order { start ≤ end }
+    /// requires in_range { end ≤ length self.old.glyphs }
+    /// ensures { self.new ≡ record self.old { glyphs = unsafe_inside start end self.old.glyphs } }
     /// ```
     ///
     /// - `unsafe_inside`: `crates/shapers_buffer/specs/GlyphFlags.antt`
     ///
     /// </details>
     #[inline]
-    pub fn unsafe_to_break(&mut self, s: usize, e: usize) {
-        unsafe_to_break_in(&mut self.info, s, e);
+    pub fn unsafe_to_break(&mut self, start: usize, end: usize) {
+        unsafe_to_break_in(&mut self.info, start, end);
     }
 
-    /// Flags every place from `s` to `e` as unsafe to concatenate, where the buffer wants that
-    /// flag.
+    /// Flags every place from `start` to `end` as unsafe to concatenate, where the buffer wants
+    /// that flag.
     ///
     /// # Panics
     ///
-    /// Where `s` is above `e`, or `e` above the length.
+    /// Where `start` is above `end`, or `end` above the length.
     ///
     /// <details><summary>Contract</summary>
     ///
     /// # Contract
     ///
     /// ```text
-    /// requires in_order { s ≤ e }
-    /// requires in_range { e ≤ length self.old.glyphs }
+    /// requires in_order { start ≤ end }
+    /// requires in_range { end ≤ length self.old.glyphs }
     /// ensures { let asked = asks flags_concat self.old in
-    ///     let flagged = unsafe_to_concat_in asked s e self.old.glyphs in
+    ///     let flagged = unsafe_to_concat_in asked start end self.old.glyphs in
     ///     self.new ≡ record self.old { glyphs = flagged } }
     /// ```
     ///
@@ -69,25 +69,26 @@ impl Buffer {
     ///
     /// </details>
     #[inline]
-    pub fn unsafe_to_concat(&mut self, s: usize, e: usize) {
-        unsafe_to_concat_in(self.flags, &mut self.info, s, e);
+    pub fn unsafe_to_concat(&mut self, start: usize, end: usize) {
+        unsafe_to_concat_in(self.flags, &mut self.info, start, end);
     }
 
-    /// Flags the places from `s` to `e` whose cluster isn't the least one there: safe to insert a
-    /// tatweel, where the buffer wants that flag, else as `unsafe_to_break`.
+    /// Flags the places from `start` to `end` whose cluster isn't the least one there: safe to
+    /// insert a tatweel, where the buffer wants that flag, else as `unsafe_to_break`.
     ///
     /// # Panics
     ///
-    /// Where `s` is above `e`, or `e` above the length.
+    /// Where `start` is above `end`, or `end` above the length.
     ///
     /// <details><summary>Contract</summary>
     ///
     /// # Contract
     ///
     /// ```text
-    /// requires in_order { s ≤ e }
-    /// requires in_range { e ≤ length self.old.glyphs }
-    /// ensures { let flagged = tatweel_inside (asks flags_tatweel self.old) s e self.old.glyphs in
+    /// requires in_order { start ≤ end }
+    /// requires in_range { end ≤ length self.old.glyphs }
+    /// ensures { let asked = asks flags_tatweel self.old in
+    ///     let flagged = tatweel_inside asked start end self.old.glyphs in
     ///     self.new ≡ record self.old { glyphs = flagged } }
     /// ```
     ///
@@ -96,8 +97,8 @@ impl Buffer {
     ///
     /// </details>
     #[inline]
-    pub fn safe_to_insert_tatweel(&mut self, s: usize, e: usize) {
-        safe_to_insert_tatweel_in(self.flags, &mut self.info, s, e);
+    pub fn safe_to_insert_tatweel(&mut self, start: usize, end: usize) {
+        safe_to_insert_tatweel_in(self.flags, &mut self.info, start, end);
     }
 }
 
@@ -105,16 +106,16 @@ impl Buffer {
 ///
 /// # Panics
 ///
-/// Where `s` is above `e`, or `e` above the length.
+/// Where `start` is above `end`, or `end` above the length.
 ///
 /// <details><summary>Contract</summary>
 ///
 /// # Contract
 ///
 /// ```text
-/// requires in_order { s ≤ e }
-/// requires in_range { e ≤ length glyphs.old }
-/// ensures { glyphs.new ≡ unsafe_inside s e glyphs.old }
+/// requires in_order { start ≤ end }
+/// requires in_range { end ≤ length glyphs.old }
+/// ensures { glyphs.new ≡ unsafe_inside start end glyphs.old }
 /// ```
 ///
 /// - `unsafe_inside`: `crates/shapers_buffer/specs/GlyphFlags.antt`
@@ -123,8 +124,8 @@ impl Buffer {
 ///
 /// [`Buffer::unsafe_to_break`]: crate::Buffer::unsafe_to_break
 #[inline]
-pub fn unsafe_to_break_in(glyphs: &mut [GlyphInfo], s: usize, e: usize) {
-    flag(&mut glyphs[s..e], UNSAFE_TO_BREAK | UNSAFE_TO_CONCAT);
+pub fn unsafe_to_break_in(glyphs: &mut [GlyphInfo], start: usize, end: usize) {
+    flag(&mut glyphs[start..end], UNSAFE_TO_BREAK | UNSAFE_TO_CONCAT);
 }
 
 /// No concatenation in the stretch, where the flags want that, over glyphs in a slice, as
@@ -132,16 +133,16 @@ pub fn unsafe_to_break_in(glyphs: &mut [GlyphInfo], s: usize, e: usize) {
 ///
 /// # Panics
 ///
-/// Where `s` is above `e`, or `e` above the length.
+/// Where `start` is above `end`, or `end` above the length.
 ///
 /// <details><summary>Contract</summary>
 ///
 /// # Contract
 ///
 /// ```text
-/// requires in_order { s ≤ e }
-/// requires in_range { e ≤ length glyphs.old }
-/// ensures { glyphs.new ≡ unsafe_to_concat_in (has_flag flags_concat flags) s e glyphs.old }
+/// requires in_order { start ≤ end }
+/// requires in_range { end ≤ length glyphs.old }
+/// ensures { glyphs.new ≡ unsafe_to_concat_in (has_flag flags_concat flags) start end glyphs.old }
 /// ```
 ///
 /// - `flags_concat`, `has_flag`: `crates/shapers_buffer/specs/Buffer.antt`
@@ -151,9 +152,9 @@ pub fn unsafe_to_break_in(glyphs: &mut [GlyphInfo], s: usize, e: usize) {
 ///
 /// [`Buffer::unsafe_to_concat`]: crate::Buffer::unsafe_to_concat
 #[inline]
-pub fn unsafe_to_concat_in(flags: BufferFlags, glyphs: &mut [GlyphInfo], s: usize, e: usize) {
+pub fn unsafe_to_concat_in(flags: BufferFlags, glyphs: &mut [GlyphInfo], start: usize, end: usize) {
     if flags.contains(BufferFlags::PRODUCE_UNSAFE_TO_CONCAT) {
-        flag_all(&mut glyphs[s..e], UNSAFE_TO_CONCAT);
+        flag_all(&mut glyphs[start..end], UNSAFE_TO_CONCAT);
     }
 }
 
@@ -161,16 +162,16 @@ pub fn unsafe_to_concat_in(flags: BufferFlags, glyphs: &mut [GlyphInfo], s: usiz
 ///
 /// # Panics
 ///
-/// Where `s` is above `e`, or `e` above the length.
+/// Where `start` is above `end`, or `end` above the length.
 ///
 /// <details><summary>Contract</summary>
 ///
 /// # Contract
 ///
 /// ```text
-/// requires in_order { s ≤ e }
-/// requires in_range { e ≤ length glyphs.old }
-/// ensures { glyphs.new ≡ tatweel_inside (has_flag flags_tatweel flags) s e glyphs.old }
+/// requires in_order { start ≤ end }
+/// requires in_range { end ≤ length glyphs.old }
+/// ensures { glyphs.new ≡ tatweel_inside (has_flag flags_tatweel flags) start end glyphs.old }
 /// ```
 ///
 /// - `flags_tatweel`, `has_flag`: `crates/shapers_buffer/specs/Buffer.antt`
@@ -180,13 +181,18 @@ pub fn unsafe_to_concat_in(flags: BufferFlags, glyphs: &mut [GlyphInfo], s: usiz
 ///
 /// [`Buffer::safe_to_insert_tatweel`]: crate::Buffer::safe_to_insert_tatweel
 #[inline]
-pub fn safe_to_insert_tatweel_in(flags: BufferFlags, glyphs: &mut [GlyphInfo], s: usize, e: usize) {
+pub fn safe_to_insert_tatweel_in(
+    flags: BufferFlags,
+    glyphs: &mut [GlyphInfo],
+    start: usize,
+    end: usize,
+) {
     let bits = if flags.contains(BufferFlags::PRODUCE_SAFE_TO_INSERT_TATWEEL) {
         SAFE_TO_INSERT_TATWEEL
     } else {
         UNSAFE_TO_BREAK | UNSAFE_TO_CONCAT
     };
-    flag(&mut glyphs[s..e], bits);
+    flag(&mut glyphs[start..end], bits);
 }
 
 // Adds mask bits to every glyph whose cluster isn't the least one of the stretch.

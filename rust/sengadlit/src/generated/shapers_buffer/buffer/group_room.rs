@@ -41,23 +41,23 @@ impl GroupRoom {
         }
     }
 
-    // Room for a text of `n` glyphs.
+    // Room for a text of `len` glyphs.
     #[inline]
-    pub(super) fn with_capacity(alloc: Global, n: usize) -> Result<Self, ShaperError> {
+    pub(super) fn with_capacity(alloc: Global, len: usize) -> Result<Self, ShaperError> {
         Ok(GroupRoom {
-            groups: Vec::with_capacity(alloc, n)?,
-            glyphs: Vec::with_capacity(alloc, n)?,
+            groups: Vec::with_capacity(alloc, len)?,
+            glyphs: Vec::with_capacity(alloc, len)?,
         })
     }
 
-    // Makes room for a text of `n` glyphs.
+    // Makes room for a text of `len` glyphs.
     #[inline]
-    pub(super) fn enlarge(&mut self, n: usize) -> Result<(), ShaperError> {
-        if self.groups.capacity() < n {
-            enlarge(&mut self.groups, n)?;
+    pub(super) fn enlarge(&mut self, len: usize) -> Result<(), ShaperError> {
+        if self.groups.capacity() < len {
+            enlarge(&mut self.groups, len)?;
         }
-        if self.glyphs.capacity() < n {
-            enlarge(&mut self.glyphs, n)?;
+        if self.glyphs.capacity() < len {
+            enlarge(&mut self.glyphs, len)?;
         }
         Ok(())
     }

@@ -124,17 +124,17 @@ impl Buffer {
     }
 }
 
-// The list with these items alone, and with room for `n`.
+// The list with these items alone, and with room for `len`.
 #[inline]
 pub(super) fn refilled<T: Copy>(
     mut list: Vec<T>,
     items: &[T],
-    n: usize,
+    len: usize,
 ) -> Result<Vec<T>, ShaperError> {
-    let n = n.max(items.len());
+    let len = len.max(items.len());
     list.clear();
-    if list.capacity() < n {
-        enlarge(&mut list, n)?;
+    if list.capacity() < len {
+        enlarge(&mut list, len)?;
     }
     list.extend_from_slice(items).unwrap();
     Ok(list)

@@ -7,30 +7,31 @@ use super::walking::GlyphChange;
 use super::{Buffer, BufferClusterLevel};
 
 impl Buffer {
-    /// Gives the glyphs from `s` to `e` their least cluster, and with them the neighbours on both
-    /// sides that share the cluster of its ends. A glyph whose cluster changes loses its glyph
+    /// Gives the glyphs from `start` to `end` their least cluster, and with them the neighbours on
+    /// both sides that share the cluster of its ends. A glyph whose cluster changes loses its glyph
     /// flags. Nothing for fewer than two places, and nothing at level Characters.
     ///
     /// # Panics
     ///
-    /// Where `s` is above `e`, or `e` above the length.
+    /// Where `start` is above `end`, or `end` above the length.
     ///
     /// <details><summary>Contract</summary>
     ///
     /// # Contract
     ///
     /// ```text
-    /// requires in_order { s ≤ e }
-    /// requires in_range { e ≤ length self.old.glyphs }
-    /// ensures { self.new ≡ record self.old { glyphs = merge self.old.level s e self.old.glyphs } }
+    /// requires in_order { start ≤ end }
+    /// requires in_range { end ≤ length self.old.glyphs }
+    /// ensures { let merged = merge self.old.level start end self.old.glyphs in
+    ///     self.new ≡ record self.old { glyphs = merged } }
     /// ```
     ///
-    /// - `merge`: `crates/shapers_buffer/specs/Clusters.antt`
+    /// - `merge`, `merged`: `crates/shapers_buffer/specs/Clusters.antt`
     ///
     /// </details>
     #[inline]
-    pub fn merge_clusters(&mut self, s: usize, e: usize) {
-        merge_clusters_in(self.cluster_level, &mut self.info, s, e);
+    pub fn merge_clusters(&mut self, start: usize, end: usize) {
+        merge_clusters_in(self.cluster_level, &mut self.info, start, end);
     }
 }
 
@@ -38,16 +39,16 @@ impl Buffer {
 ///
 /// # Panics
 ///
-/// Where `s` is above `e`, or `e` above the length.
+/// Where `start` is above `end`, or `end` above the length.
 ///
 /// <details><summary>Contract</summary>
 ///
 /// # Contract
 ///
 /// ```text
-/// requires in_order { s ≤ e }
-/// requires in_range { e ≤ length glyphs.old }
-/// ensures { glyphs.new ≡ merge level s e glyphs.old }
+/// requires in_order { start ≤ end }
+/// requires in_range { end ≤ length glyphs.old }
+/// ensures { glyphs.new ≡ merge level start end glyphs.old }
 /// ```
 ///
 /// - `merge`: `crates/shapers_buffer/specs/Clusters.antt`
@@ -56,9 +57,14 @@ impl Buffer {
 ///
 /// [`Buffer::merge_clusters`]: crate::Buffer::merge_clusters
 #[inline]
-pub fn merge_clusters_in(level: BufferClusterLevel, glyphs: &mut [GlyphInfo], s: usize, e: usize) {
-    if merges(level) && e - s >= 2 {
-        merge_stretch(glyphs, s, e);
+pub fn merge_clusters_in(
+    level: BufferClusterLevel,
+    glyphs: &mut [GlyphInfo],
+    start: usize,
+    end: usize,
+) {
+    if merges(level) && end - start >= 2 {
+        merge_stretch(glyphs, start, end);
     }
 }
 
@@ -71,11 +77,11 @@ pub(super) fn merges(level: BufferClusterLevel) -> bool {
     }
 }
 
-// Merges the stretch from `s` to `e`, of at least two places.
+// Merges the stretch from `start` to `end`, of at least two places.
 #[inline]
-fn merge_stretch(info: &mut [GlyphInfo], s: usize, e: usize) {
-    let (before, rest) = info.split_at_mut(s);
-    let (stretch, after) = rest.split_at_mut(e - s);
+fn merge_stretch(info: &mut [GlyphInfo], start: usize, end: usize) {
+    let (before, rest) = info.split_at_mut(start);
+    let (stretch, after) = rest.split_at_mut(end - start);
     let first = stretch[0].cluster;
     let last = stretch[stretch.len() - 1].cluster;
     let least = least_cluster(stretch);

@@ -32,26 +32,27 @@ pub enum Placement {
 }
 
 impl Buffer {
-    /// The place whose glyph is listed to come to `i`.
+    /// The place whose glyph is listed to come to `index`.
     ///
     /// <details><summary>Contract</summary>
     ///
     /// # Contract
     ///
     /// ```text
-    /// requires { i < length self.now.glyphs }
-    /// ensures { result ≡ place_at self.now.places i }
+    /// requires { index < length self.now.glyphs }
+    /// ensures { result ≡ place_at self.now.places index }
     /// ```
     ///
     /// - `place_at`: `crates/shapers_buffer/specs/Places.antt`
     ///
     /// </details>
     #[inline]
-    pub(crate) fn place(&self, i: usize) -> usize {
-        self.places.get(i).copied().unwrap_or(0)
+    pub(crate) fn place(&self, index: usize) -> usize {
+        self.places.get(index).copied().unwrap_or(0)
     }
 
-    /// Lists that the glyph of place `place` is to come to `i`. Panics if `i` is beyond the buffer.
+    /// Lists that the glyph at `place` is to come to `index`. Panics if `index` is beyond the
+    /// buffer.
     ///
     /// # Panics
     ///
@@ -62,18 +63,18 @@ impl Buffer {
     /// # Contract
     ///
     /// ```text
-    /// requires { i < length self.old.glyphs }
-    /// ensures { self.new ≡ record self.old { places = with_place i place self.old.places } }
+    /// requires { index < length self.old.glyphs }
+    /// ensures { self.new ≡ record self.old { places = with_place index place self.old.places } }
     /// ```
     ///
     /// - `with_place`: `crates/shapers_buffer/specs/Places.antt`
     ///
     /// </details>
     #[inline]
-    pub(crate) fn set_place(&mut self, i: usize, place: usize) {
+    pub(crate) fn set_place(&mut self, index: usize, place: usize) {
         // the slice panics before room is taken for a place beyond the buffer
-        open_places(&mut self.places, self.info[..i + 1].len());
-        self.places[i] = place;
+        open_places(&mut self.places, self.info[..index + 1].len());
+        self.places[index] = place;
     }
 
     /// Empties the list, so that each place reads 0. It takes no memory.
@@ -221,53 +222,53 @@ fn gather(glyphs: &[GlyphInfo], places: &[usize], to: &mut [GlyphInfo]) {
 // How many places are opened at once.
 const OPENED: usize = 64;
 
-// Opens the first `n` places of the room that is there, and some more. What is opened reads 0, as
+// Opens the first `len` places of the room that is there, and some more. What is opened reads 0, as
 // it did.
 #[inline]
-fn open_places(places: &mut Vec<usize>, n: usize) {
-    if places.len() < n {
-        let ahead = n.max(places.capacity().min(n.saturating_add(OPENED)));
+fn open_places(places: &mut Vec<usize>, len: usize) {
+    if places.len() < len {
+        let ahead = len.max(places.capacity().min(len.saturating_add(OPENED)));
         places.resize(ahead, 0).unwrap();
     }
 }
 
-// Opens the first `n` glyphs of the room that is there.
+// Opens the first `len` glyphs of the room that is there.
 #[inline]
-pub(super) fn open_spare(spare: &mut Vec<GlyphInfo>, n: usize) {
-    if spare.len() < n {
-        spare.resize(n, GlyphInfo::DEFAULT).unwrap();
+pub(super) fn open_spare(spare: &mut Vec<GlyphInfo>, len: usize) {
+    if spare.len() < len {
+        spare.resize(len, GlyphInfo::DEFAULT).unwrap();
     }
 }
 
-// Makes room for `n` places, glyphs and groups, and writes nothing there. The places come last: where
-// they have room, so have the groups.
+// Makes room for `len` places, glyphs and groups, and writes nothing there. The places come last:
+// where they have room, so have the groups.
 #[inline]
 pub(super) fn make_room(
     places: &mut Vec<usize>,
     spare: &mut Vec<GlyphInfo>,
     room: &mut GroupRoom,
-    n: usize,
+    len: usize,
 ) -> Result<(), ShaperError> {
-    if places.capacity() < n {
-        room.enlarge(n)?;
-        enlarge(places, n)?;
+    if places.capacity() < len {
+        room.enlarge(len)?;
+        enlarge(places, len)?;
     }
-    if spare.capacity() < n {
-        enlarge(spare, n)?;
+    if spare.capacity() < len {
+        enlarge(spare, len)?;
     }
     Ok(())
 }
 
-// Makes room for `n` items. An empty list takes new room, since making the old one larger copies
+// Makes room for `len` items. An empty list takes new room, since making the old one larger copies
 // all of it.
 #[inline]
-pub(super) fn enlarge<T: Copy>(list: &mut Vec<T>, n: usize) -> Result<(), ShaperError> {
+pub(super) fn enlarge<T: Copy>(list: &mut Vec<T>, len: usize) -> Result<(), ShaperError> {
     if list.is_empty() {
         let mut larger = Vec::new(*list.allocator());
-        larger.reserve(n.max(list.capacity().saturating_mul(2)))?;
+        larger.reserve(len.max(list.capacity().saturating_mul(2)))?;
         *list = larger;
     } else {
-        list.reserve(n - list.len())?;
+        list.reserve(len - list.len())?;
     }
     Ok(())
 }

@@ -61,53 +61,59 @@ fn is_still(placement: Placement) -> bool {
     }
 }
 
-// The place that the list says for place `i`.
+// The place that the list says for `index`.
 #[inline]
-fn place_in(places: &[usize], i: usize) -> usize {
-    places.get(i).copied().unwrap_or(0)
+fn place_in(places: &[usize], index: usize) -> usize {
+    places.get(index).copied().unwrap_or(0)
 }
 
-// The place from which a glyph comes to place `i`, where the `count` glyphs from place `from` on come
+// The place from which a glyph comes to `index`, where the `count` glyphs from place `from` on come
 // to the place `to`.
 #[inline]
-fn forward_place(to: usize, from: usize, count: usize, i: usize) -> usize {
-    if i < to {
-        i
-    } else if i < to + count {
-        from + (i - to)
-    } else if i < from + count {
-        i - count
+fn forward_place(to: usize, from: usize, count: usize, index: usize) -> usize {
+    if index < to {
+        index
+    } else if index < to + count {
+        from + (index - to)
+    } else if index < from + count {
+        index - count
     } else {
-        i
+        index
     }
 }
 
-// The place from which a placement brings a glyph to place `i`.
+// The place from which a placement brings a glyph to `index`.
 #[inline]
-fn old_place(placement: Placement, places: &[usize], start: usize, end: usize, i: usize) -> usize {
+fn old_place(
+    placement: Placement,
+    places: &[usize],
+    start: usize,
+    end: usize,
+    index: usize,
+) -> usize {
     match placement {
-        Placement::Stays => i,
-        Placement::Forward { to, from, count } => forward_place(to, from, count, i),
+        Placement::Stays => index,
+        Placement::Forward { to, from, count } => forward_place(to, from, count, index),
         Placement::Listed => {
-            if start <= i && i < end {
-                place_in(places, i)
+            if start <= index && index < end {
+                place_in(places, index)
             } else {
-                i
+                index
             }
         }
     }
 }
 
-// The place from which the placements, one after another, bring a glyph to place `i`.
+// The place from which the placements, one after another, bring a glyph to `index`.
 #[inline]
 fn old_place_by_all(
     placements: &Placements,
     places: &[usize],
     start: usize,
     end: usize,
-    i: usize,
+    index: usize,
 ) -> usize {
-    let third = old_place(placements.third, places, start, end, i);
+    let third = old_place(placements.third, places, start, end, index);
     let second = old_place(placements.second, places, start, end, third);
     old_place(placements.first, places, start, end, second)
 }
@@ -155,52 +161,52 @@ impl<'a> Arranged<'a> {
         self.buffer.len()
     }
 
-    /// How many glyphs of a cluster stand from place `n` on.
+    /// How many glyphs of a cluster stand from place `start` on.
     ///
     /// <details><summary>Contract</summary>
     ///
     /// # Contract
     ///
     /// ```text
-    /// requires { n ≤ length self.now }
-    /// ensures len { result ≡ prefix_len (has_cluster cluster) (drop n self.now) }
-    /// ensures within { n + result ≤ length self.now }
-    /// ensures fits { n + result < 2 ^ 64 }
+    /// requires { start ≤ length self.now }
+    /// ensures len { result ≡ prefix_len (has_cluster cluster) (drop start self.now) }
+    /// ensures within { start + result ≤ length self.now }
+    /// ensures fits { start + result < 2 ^ 64 }
     /// ```
     ///
     /// - `has_cluster`: `crates/shapers_buffer/specs/Clusters.antt`
     ///
     /// </details>
     #[inline]
-    pub fn run_behind(&self, n: usize, cluster: u32) -> usize {
-        let len = self.len();
-        for i in n..len {
+    pub fn run_behind(&self, start: usize, cluster: u32) -> usize {
+        let end = self.len();
+        for i in start..end {
             if self.get(i).cluster != cluster {
-                return i - n;
+                return i - start;
             }
         }
-        len - n
+        end - start
     }
 
-    /// The glyph at place `i`.
+    /// The glyph at `index`.
     ///
     /// <details><summary>Contract</summary>
     ///
     /// # Contract
     ///
     /// ```text
-    /// requires { i < length self.now }
-    /// ensures { result ≡ slice_index_or self.now i default_glyph }
+    /// requires { index < length self.now }
+    /// ensures { result ≡ slice_index_or self.now index default_glyph }
     /// ```
     ///
     /// - `default_glyph`: `crates/shapers_buffer/specs/Glyph.antt`
     ///
     /// </details>
     #[inline]
-    pub fn get(&self, i: usize) -> GlyphInfo {
+    pub fn get(&self, index: usize) -> GlyphInfo {
         let place = self
             .buffer
-            .arranged_place(&self.placements, self.start, self.end, i);
+            .arranged_place(&self.placements, self.start, self.end, index);
         self.buffer.get(place)
     }
 }
@@ -396,7 +402,7 @@ impl Buffer {
         );
     }
 
-    /// The place from which placements bring a glyph to place `i`.
+    /// The place from which placements bring a glyph to `index`.
     ///
     /// <details><summary>Contract</summary>
     ///
@@ -405,8 +411,8 @@ impl Buffer {
     /// ```text
     /// requires arranges { MayArrange placements.now start end
     ///     (length self.now.glyphs) self.now.places }
-    /// requires inside { i < length self.now.glyphs }
-    /// ensures place { result ≡ old_place_by_all placements.now start end self.now.places i }
+    /// requires inside { index < length self.now.glyphs }
+    /// ensures place { result ≡ old_place_by_all placements.now start end self.now.places index }
     /// ensures within { result < length self.now.glyphs }
     /// ensures fits { result + 1 < 2 ^ 64 }
     /// ```
@@ -420,9 +426,9 @@ impl Buffer {
         placements: &Placements,
         start: usize,
         end: usize,
-        i: usize,
+        index: usize,
     ) -> usize {
-        old_place_by_all(placements, &self.places, start, end, i)
+        old_place_by_all(placements, &self.places, start, end, index)
     }
 
     /// Changes each glyph that stands from `from` to `to` once the placements are applied.
@@ -465,50 +471,50 @@ impl Buffer {
     }
 }
 
-// The least cluster of the glyphs from `s` to `e`.
+// The least cluster of the glyphs from `start` to `end`.
 #[inline]
-fn least_cluster(glyphs: &Arranged, s: usize, e: usize) -> u32 {
-    let mut least = glyphs.get(s).cluster;
-    for i in s + 1..e {
+fn least_cluster(glyphs: &Arranged, start: usize, end: usize) -> u32 {
+    let mut least = glyphs.get(start).cluster;
+    for i in start + 1..end {
         least = least.min(glyphs.get(i).cluster);
     }
     least
 }
 
-// How many glyphs of cluster `from` stand directly before place `n`, if that becomes another one.
+// How many glyphs of cluster `from` stand directly before place `end`, if that becomes another one.
 #[inline]
-fn equal_before(glyphs: &Arranged, n: usize, from: u32, to: u32) -> usize {
+fn equal_before(glyphs: &Arranged, end: usize, from: u32, to: u32) -> usize {
     if from == to {
         return 0;
     }
-    for i in (0..n).rev() {
+    for i in (0..end).rev() {
         if glyphs.get(i).cluster != from {
-            return n - i - 1;
+            return end - i - 1;
         }
     }
-    n
+    end
 }
 
-// How many glyphs of cluster `from` stand from place `n` on, if that becomes another one.
+// How many glyphs of cluster `from` stand from place `start` on, if that becomes another one.
 #[inline]
-fn equal_behind(glyphs: &Arranged, n: usize, from: u32, to: u32) -> usize {
+fn equal_behind(glyphs: &Arranged, start: usize, from: u32, to: u32) -> usize {
     if from == to {
         return 0;
     }
-    glyphs.run_behind(n, from)
+    glyphs.run_behind(start, from)
 }
 
-// What a merge of the glyphs from `s` to `e`, of at least two places, puts into one cluster.
+// What a merge of the glyphs from `start` to `end`, of at least two places, puts into one cluster.
 #[inline]
-fn merged_run(glyphs: &Arranged, s: usize, e: usize) -> ClusterRun {
-    let first = glyphs.get(s).cluster;
-    let last = glyphs.get(e - 1).cluster;
-    let cluster = least_cluster(glyphs, s + 1, e).min(first);
-    let before = equal_before(glyphs, s, first, cluster);
-    let behind = equal_behind(glyphs, e, last, cluster);
+fn merged_run(glyphs: &Arranged, start: usize, end: usize) -> ClusterRun {
+    let first = glyphs.get(start).cluster;
+    let last = glyphs.get(end - 1).cluster;
+    let cluster = least_cluster(glyphs, start + 1, end).min(first);
+    let before = equal_before(glyphs, start, first, cluster);
+    let behind = equal_behind(glyphs, end, last, cluster);
     ClusterRun {
-        start: s - before,
-        end: e + behind,
+        start: start - before,
+        end: end + behind,
         cluster,
     }
 }

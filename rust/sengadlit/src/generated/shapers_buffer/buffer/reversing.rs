@@ -25,22 +25,22 @@ impl Buffer {
         self.pos.reverse();
     }
 
-    /// Turns the glyphs from `s` to `e` round, with their positions.
+    /// Turns the glyphs from `start` to `end` round, with their positions.
     ///
     /// # Panics
     ///
-    /// Where `s` is above `e`, or `e` above the length.
+    /// Where `start` is above `end`, or `end` above the length.
     ///
     /// <details><summary>Contract</summary>
     ///
     /// # Contract
     ///
     /// ```text
-    /// requires in_order { s ≤ e }
-    /// requires in_range { e ≤ length self.old.glyphs }
+    /// requires in_order { start ≤ end }
+    /// requires in_range { end ≤ length self.old.glyphs }
     /// ensures { self.new ≡ record self.old {
-    ///   glyphs = with_stretch s e reverse self.old.glyphs;
-    ///   positions = with_stretch s e reverse self.old.positions;
+    ///   glyphs = with_stretch start end reverse self.old.glyphs;
+    ///   positions = with_stretch start end reverse self.old.positions;
     /// } }
     /// ```
     ///
@@ -48,16 +48,16 @@ impl Buffer {
     ///
     /// </details>
     #[inline]
-    pub fn reverse_range(&mut self, s: usize, e: usize) {
-        self.info[s..e].reverse();
-        reverse_positions(&mut self.pos, s, e);
+    pub fn reverse_range(&mut self, start: usize, end: usize) {
+        self.info[start..end].reverse();
+        reverse_positions(&mut self.pos, start, end);
     }
 }
 
-// Turns the positions from `s` to `e` round, if there are any.
+// Turns the positions from `start` to `end` round, if there are any.
 #[inline]
-fn reverse_positions(positions: &mut [GlyphPosition], s: usize, e: usize) {
+fn reverse_positions(positions: &mut [GlyphPosition], start: usize, end: usize) {
     if !positions.is_empty() {
-        positions[s..e].reverse();
+        positions[start..end].reverse();
     }
 }

@@ -17,30 +17,30 @@ pub struct Span {
 }
 
 impl Buffer {
-    /// Where the syllable ends that place `s` stands in: behind the longest run of its byte from
-    /// `s` on.
+    /// Where the syllable ends that place `start` stands in: behind the longest run of its byte
+    /// from `start` on.
     ///
     /// # Panics
     ///
-    /// Where `s` is no place of the buffer.
+    /// Where `start` is no place of the buffer.
     ///
     /// <details><summary>Contract</summary>
     ///
     /// # Contract
     ///
     /// ```text
-    /// requires { s < length self.now.glyphs }
-    /// ensures end { result ≡ s + first_syllable_len (drop s self.now.glyphs) }
+    /// requires { start < length self.now.glyphs }
+    /// ensures end { result ≡ start + first_syllable_len (drop start self.now.glyphs) }
     /// ensures within { result ≤ length self.now.glyphs }
-    /// ensures further { s < result }
+    /// ensures further { start < result }
     /// ```
     ///
     /// - `first_syllable_len`: `crates/shapers_buffer/specs/Syllables.antt`
     ///
     /// </details>
     #[inline]
-    pub(crate) fn next_syllable(&self, s: usize) -> usize {
-        s + first_syllable_len(&self.info[s..])
+    pub(crate) fn next_syllable(&self, start: usize) -> usize {
+        start + first_syllable_len(&self.info[start..])
     }
 
     /// The first place of the first syllable whose kind is above `last_kind`: one of unknown kind.
@@ -195,10 +195,10 @@ fn set_bytes(glyphs: &mut [GlyphInfo], spans: &[Span]) {
     }
 }
 
-// Gives the glyphs from `s` to `e` one syllable byte.
+// Gives the glyphs from `start` to `end` one syllable byte.
 #[inline]
-fn set_syllable_in(glyphs: &mut [GlyphInfo], s: usize, e: usize, byte: u8) {
-    set_syllable(&mut glyphs[s..e], byte);
+fn set_syllable_in(glyphs: &mut [GlyphInfo], start: usize, end: usize, byte: u8) {
+    set_syllable(&mut glyphs[start..end], byte);
 }
 
 /// Gives all these glyphs one syllable byte.

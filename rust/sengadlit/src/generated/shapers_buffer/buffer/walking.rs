@@ -59,47 +59,49 @@ pub trait PositionedWalk {
 }
 
 impl Buffer {
-    /// Changes each glyph from `s` to `e`. It takes no memory.
+    /// Changes each glyph from `start` to `end`. It takes no memory.
     ///
     /// # Panics
     ///
-    /// Where `s` is above `e`, or `e` above the length.
+    /// Where `start` is above `end`, or `end` above the length.
     ///
     /// <details><summary>Contract</summary>
     ///
     /// # Contract
     ///
     /// ```text
-    /// requires in_order { s ≤ e }
-    /// requires in_range { e ≤ length self.old.glyphs }
-    /// ensures { let changed = with_stretch s e (map (C.changed change.now)) self.old.glyphs in
-    ///     self.new ≡ record self.old { glyphs = changed } }
+    /// requires in_order { start ≤ end }
+    /// requires in_range { end ≤ length self.old.glyphs }
+    /// ensures { let changed = map (C.changed change.now) in
+    ///     self.new ≡ record self.old {
+    ///       glyphs = with_stretch start end changed self.old.glyphs;
+    ///     } }
     /// ```
     ///
     /// - `with_stretch`: `crates/shapers_buffer/specs/Clusters.antt`
     ///
     /// </details>
     #[inline]
-    pub(crate) fn change_each<C: GlyphChange>(&mut self, s: usize, e: usize, change: &C) {
-        change_each_in(&mut self.info[s..e], change);
+    pub(crate) fn change_each<C: GlyphChange>(&mut self, start: usize, end: usize, change: &C) {
+        change_each_in(&mut self.info[start..end], change);
     }
 
-    /// Changes each glyph from `s` to `e` by a closure. It takes no memory.
+    /// Changes each glyph from `start` to `end` by a closure. It takes no memory.
     ///
     /// # Panics
     ///
-    /// Where `s` is above `e`, or `e` above the length.
+    /// Where `start` is above `end`, or `end` above the length.
     ///
     /// <details><summary>Contract</summary>
     ///
     /// # Contract
     ///
     /// ```text
-    /// requires in_order { s ≤ e }
-    /// requires in_range { e ≤ length self.old.glyphs }
+    /// requires in_order { start ≤ end }
+    /// requires in_range { end ≤ length self.old.glyphs }
     /// requires callable { F.IsAlwaysCallable change }
     /// ensures { (f : Glyph → Glyph) → ChangesAs F.Fn change f → self.new ≡ record self.old {
-    ///   glyphs = with_stretch s e (map f) self.old.glyphs;
+    ///   glyphs = with_stretch start end (map f) self.old.glyphs;
     /// } }
     /// ```
     ///
@@ -109,8 +111,8 @@ impl Buffer {
     ///
     /// </details>
     #[inline]
-    pub fn change_each_by<F: Fn(&mut GlyphInfo)>(&mut self, s: usize, e: usize, change: F) {
-        change_each_by_in(&mut self.info[s..e], change);
+    pub fn change_each_by<F: Fn(&mut GlyphInfo)>(&mut self, start: usize, end: usize, change: F) {
+        change_each_by_in(&mut self.info[start..end], change);
     }
 
     /// Changes each glyph by a closure. It takes no memory.

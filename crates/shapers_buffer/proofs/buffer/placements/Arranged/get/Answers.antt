@@ -19,7 +19,7 @@ returns c =
     let long = all_long a.placements a.start a.end a.buffer.now.places a.buffer.now.glyphs c.self.invariant in
     let n : length c.args.self.now ≡ length a.buffer.now.glyphs = sym (ap length c.self.view_is) ∙ long in
     c.get.ensures ∙ ap (λ q. get_or a.buffer.now.glyphs q d) c.arranged_place-place.ensures.place
-    ∙ sym (all_reads d a.placements a.start a.end a.buffer.now.places a.buffer.now.glyphs c.args.i c.self.invariant
+    ∙ sym (all_reads d a.placements a.start a.end a.buffer.now.places a.buffer.now.glyphs c.args.index c.self.invariant
     (omega arith))
-    ∙ ap (λ (gs : Glyphs). get_or gs c.args.i d) c.self.view_is
-    ∙ get_or-default c.args.self.now c.args.i d default_glyph c.requires
+    ∙ ap (λ (gs : Glyphs). get_or gs c.args.index d) c.self.view_is
+    ∙ get_or-default c.args.self.now c.args.index d default_glyph c.requires

@@ -5,5 +5,5 @@ use Rattle.shapers_buffer.specs.Clusters.{has_cluster}
 use Rattle.shapers_buffer.proofs.buffer.placements.Arranged.run_behind.Given as goal
 
 abbrev pub invariant-loop-i : goal.invariant-loop-i
-invariant-loop-i l = (l.n ≤ l.i) × (prefix_len (has_cluster l.cluster) (drop l.n l.self)
-    ≡ (l.i - l.n) + prefix_len (has_cluster l.cluster) (drop l.i l.self))
+invariant-loop-i l = (l.start ≤ l.i) × (prefix_len (has_cluster l.cluster) (drop l.start l.self)
+    ≡ (l.i - l.start) + prefix_len (has_cluster l.cluster) (drop l.i l.self))
