@@ -103,12 +103,12 @@ pub fn reserve_syllables(pause: Pause, buffer: &mut hb_buffer_t) {
 pub fn find_syllables(_: Pause, _: &mut hb_buffer_t) {}
 
 /// Finds the syllables of a text and sets them up. Returns whether the pause does so.
-pub fn set_up(pause: Pause, plan: &Plan, text: &mut Buffer) -> bool {
+pub fn setup(pause: Pause, plan: &Plan, text: &mut Buffer) -> bool {
     setup_syllables_found(pause, plan, text)
 }
 
 /// Vowels are parted before (`text.rs`); in the shadow, where this is called, as the host does.
-pub fn part_vowels(_buffer: &mut hb_buffer_t) {
+pub fn circle_vowels(_buffer: &mut hb_buffer_t) {
     #[cfg(feature = "shadow")]
     crate::hb::ot_shaper_vowel_constraints::preprocess_text_vowel_constraints(_buffer);
 }

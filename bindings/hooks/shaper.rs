@@ -324,7 +324,7 @@ fn direction_of(direction: super::Direction) -> Direction {
 fn preprocess_text<const S: usize>(plan: &hb_ot_shape_plan_t, font: FontRef, buffer: &mut hb_buffer_t) {
     let shaper = Shaper::ALL[S];
     if matches!(shaper, Shaper::Indic | Shaper::Universal) {
-        parts::part_vowels(buffer);
+        parts::circle_vowels(buffer);
         return;
     }
     let characters = buffer.info[..buffer.len].iter().map(|info| info.glyph_id);
@@ -471,7 +471,7 @@ fn pause<const P: usize>(plan: &hb_ot_shape_plan_t, font: FontRef, buffer: &mut 
 
 /// Does what the pause does on the text.
 fn run(pause: Pause, plan: &Plan, font: FontRef, text: &mut Buffer) -> Result<bool, ShaperError> {
-    if parts::set_up(pause, plan, text) {
+    if parts::setup(pause, plan, text) {
         return Ok(false);
     }
     run_pause(pause, plan, &parts::font(font), &[], text)

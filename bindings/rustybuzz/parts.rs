@@ -180,12 +180,12 @@ pub fn find_syllables(pause: Pause, buffer: &mut hb_buffer_t) {
 }
 
 /// Sets the syllables up that the machine has found. Returns whether the pause does so.
-pub fn set_up(pause: Pause, plan: &Plan, text: &mut Buffer) -> bool {
+pub fn setup(pause: Pause, plan: &Plan, text: &mut Buffer) -> bool {
     setup_syllables_written(pause, plan, text)
 }
 
 /// The vowel constraints of Indic and the universal shaper.
-pub fn part_vowels(buffer: &mut hb_buffer_t) {
+pub fn circle_vowels(buffer: &mut hb_buffer_t) {
     crate::hb::ot_shaper_vowel_constraints::preprocess_text_vowel_constraints(buffer);
 }
 

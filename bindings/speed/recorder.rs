@@ -395,7 +395,7 @@ impl<'f, 'a> Recorded<'f, 'a> {
                 | Pause::SetupSyllablesKhmer
                 | Pause::SetupSyllablesMyanmar
                 | Pause::SetupSyllablesUse),
-            ) => set_up_ours(pause, plan, text),
+            ) => setup_ours(pause, plan, text),
             Hook::Pause(pause) => pause_ours(pause, plan, self.face, text),
         }
     }
@@ -461,7 +461,7 @@ fn postprocess_ours(shaper: Shaper, plan: &Plan, face: &Face, text: &mut Buffer)
 }
 
 #[inline(never)]
-fn set_up_ours(pause: Pause, plan: &Plan, text: &mut Buffer) {
+fn setup_ours(pause: Pause, plan: &Plan, text: &mut Buffer) {
     assert!(setup_syllables_found(pause, plan, text), "a pause that sets syllables up");
 }
 

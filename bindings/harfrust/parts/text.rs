@@ -319,7 +319,7 @@ impl<'p, 'f, 'a, 'u> Steps<'p, 'f, 'a, 'u> {
         if !stays || self.rotates() || self.may_preprocess(infos.iter().map(|info| info.glyph_id)) {
             return false;
         }
-        let mask = if self.runs_backward() { self.rotation.rtlm_mask } else { 0 };
+        let mask = if self.goes_backward() { self.rotation.rtlm_mask } else { 0 };
         let has_all = infos.iter_mut().all(|info| {
             let number = self.font.nominal_glyph(info.glyph_id);
             info.set_normalizer_glyph_index(number.map_or(0, crate::GlyphId::to_u32));
@@ -406,7 +406,7 @@ impl<'p, 'f, 'a, 'u> Steps<'p, 'f, 'a, 'u> {
         }
     }
 
-    fn runs_backward(&self) -> bool {
+    fn goes_backward(&self) -> bool {
         matches!(self.rotation.direction, Direction::RightToLeft | Direction::BottomToTop)
     }
 
@@ -418,7 +418,7 @@ impl<'p, 'f, 'a, 'u> Steps<'p, 'f, 'a, 'u> {
     fn rotate(&mut self, text: &mut Buffer) {
         if self.rotates() {
             rotate_chars(&UnicodeTables, &parts::font(self.font), &self.rotation, text);
-        } else if self.runs_backward() {
+        } else if self.goes_backward() {
             let mask = self.rotation.rtlm_mask;
             text.with_glyphs_mut(|glyphs| glyphs.iter_mut().for_each(|glyph| glyph.mask |= mask));
         }

@@ -25,14 +25,14 @@ Part = ℕ × ℕ × List ℕ
 -- the records of tables that stand one behind the other from a place of the file on
 records : ℕ → List Part → List ℕ
 records at [] = []
-records at (part ∷ parts) =
-    words (part.0 ∷ part.1 ∷ 0 ∷ 0 ∷ at / 65536 ∷ at % 65536 ∷ 0 ∷ length part.2 ∷ []) ++ records (at + length part.2) parts
+records at (table_at ∷ parts) =
+    words (table_at.0 ∷ table_at.1 ∷ 0 ∷ 0 ∷ at / 65536 ∷ at % 65536 ∷ 0 ∷ length table_at.2 ∷ []) ++ records (at + length table_at.2) parts
 
 -- a directory, with so many bytes before it, and its tables
 abbrev font : ℕ → ℕ → ℕ → List Part → List ℕ
 font before high low parts =
     words (high ∷ low ∷ length parts ∷ 0 ∷ 0 ∷ 0 ∷ []) ++ records (before + 12 + 16 * length parts) parts
-    ++ flat_map (λ part. part.2) parts
+    ++ flat_map (λ table_at. table_at.2) parts
 
 -- ---- the font: its glyphs are none, A, a mark, and A with that mark
 

@@ -1,6 +1,6 @@
 -- Tables written out from OpenType's specification, and what they say.
 use Rattle.std.specs.Prelude.{ℕ, ◌/◌, ◌%◌, ◌≡◌, refl, List, [], ◌∷◌, ◌++◌, map, flat_map, replicate, None, Some, true, false, pos, negsuc}
-use Rattle.opentype_face.specs.Bytes.{u16_in, u32_in, u24_in, i16_in, part_in, stretch_bytes}
+use Rattle.opentype_face.specs.Bytes.{u16_in, u32_in, u24_in, i16_in, table_at, stretch_bytes}
 use Rattle.opentype_face.specs.Classes.{is_in_set, mark_set_count_in, props_of}
 use Rattle.opentype_face.specs.Cmap.{cmap_in}
 use Rattle.opentype_face.specs.Glyphs.{class_in, coverage_in}
@@ -22,7 +22,7 @@ signed : map (i16_in (words (0 ∷ 1 ∷ 32767 ∷ 32768 ∷ 65535 ∷ []))) (0 
     ≡ pos 0 ∷ pos 1 ∷ pos 32767 ∷ negsuc 32767 ∷ negsuc 0 ∷ []
 signed = refl
 
-parts : part_in (1 ∷ 2 ∷ 3 ∷ []) 0 ∷ part_in (1 ∷ 2 ∷ 3 ∷ []) 2 ∷ part_in (1 ∷ 2 ∷ 3 ∷ []) 3
+parts : table_at (1 ∷ 2 ∷ 3 ∷ []) 0 ∷ table_at (1 ∷ 2 ∷ 3 ∷ []) 2 ∷ table_at (1 ∷ 2 ∷ 3 ∷ []) 3
     ∷ stretch_bytes (1 ∷ 2 ∷ 3 ∷ []) 1 1 ∷ stretch_bytes (1 ∷ 2 ∷ 3 ∷ []) 1 9 ∷ []
     ≡ [] ∷ (3 ∷ []) ∷ [] ∷ (2 ∷ []) ∷ (2 ∷ 3 ∷ []) ∷ []
 parts = refl

@@ -1,7 +1,7 @@
 -- cmap: which subtable a font's characters are looked up in, and how.
 use Rattle.std.specs.Prelude.{ℕ, ◌+◌, ◌*◌, ◌/◌, ◌==◌, nat_lt, List, [], length, Option, None, if◌then◌else◌}
 use Rattle.std.specs.Option.{option_map, unwrap_or}
-use Rattle.opentype_face.specs.Bytes.{part_in, u16_in, u32_in, capped_in}
+use Rattle.opentype_face.specs.Bytes.{table_at, u16_in, u32_in, capped_in}
 use Rattle.opentype_face.specs.Cmap.{cmap_in}
 use Rattle.opentype_face.specs.Firsts.{or_else}
 use Rattle.opentype_face.specs.Glyphs.{ranges_in}
@@ -16,7 +16,8 @@ records_in cmap = if u16_in cmap 0 == 0 then u16_in cmap 2 else 0
 
 -- the subtable of a record, nothing where there is none
 abbrev pub of_record : List ℕ → Option ℕ → List ℕ
-of_record cmap found = unwrap_or (option_map (λ i. part_in cmap (u32_in cmap (8 + i * 8))) found) []
+of_record cmap found =
+    unwrap_or (option_map (λ i. table_at cmap (u32_in cmap (8 + i * 8))) found) []
 
 -- the subtable of a platform and an encoding of it: of 65536 times the one and the other
 abbrev pub subtable_of : List ℕ → ℕ → List ℕ

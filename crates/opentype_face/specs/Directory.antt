@@ -1,7 +1,7 @@
 -- The faces of a font file and the tables of a face.
 use Rattle.std.specs.Prelude.{ℕ, ◌+◌, ◌*◌, ◌/◌, ◌==◌, ◌||◌, Bool, nat_lt, List, [], length, Option, None, Some, Result, Ok, Err, if◌then◌else◌}
 use Rattle.std.specs.Option.{option_map, unwrap_or}
-use Rattle.opentype_face.specs.Bytes.{capped_in, part_in, stretch_bytes, u16_in, u32_in}
+use Rattle.opentype_face.specs.Bytes.{capped_in, table_at, stretch_bytes, u16_in, u32_in}
 use Rattle.opentype_face.specs.Firsts.{first_from}
 use Rattle.opentype_face.specs.Ranges.{bisect}
 use Rattle.opentype_face.specs.declared.directory.FaceError.{FaceError}
@@ -30,7 +30,7 @@ abbrev pub directory_in : List ℕ → ℕ → Result (List ℕ) FaceError
 directory_in bytes index =
     if is_single (u32_in bytes 0) then (if index == 0 then Ok bytes else Err IndexOutOfRange)
     else (if is_collection bytes then
-    (if nat_lt index (face_count_in bytes) then Ok (part_in bytes (u32_in bytes (12 + index * 4)))
+    (if nat_lt index (face_count_in bytes) then Ok (table_at bytes (u32_in bytes (12 + index * 4)))
     else Err IndexOutOfRange)
     else Err UnknownMagic)
 

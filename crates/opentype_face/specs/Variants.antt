@@ -1,7 +1,7 @@
 -- cmap format 14: the glyph of a character with a selector behind it.
 use Rattle.std.specs.Prelude.{ℕ, ◌+◌, ◌*◌, ◌/◌, ◌==◌, List, length, slice_index, Option, is_some, if◌then◌else◌}
 use Rattle.std.specs.Option.{option_map, unwrap_or}
-use Rattle.opentype_face.specs.Bytes.{capped_in, part_in, u16_in, u24_in, u32_in}
+use Rattle.opentype_face.specs.Bytes.{capped_in, table_at, u16_in, u24_in, u32_in}
 use Rattle.opentype_face.specs.Ranges.{bisect}
 use Rattle.opentype_face.specs.declared.variants.GlyphVariant.{GlyphVariant}
 use Rattle.opentype_face.specs.declared.variants.GlyphVariant.TheVariants.{NotFound, Found, UseDefault}
@@ -28,8 +28,8 @@ mapped_in bytes c =
 -- a selector's record: what it says of a character
 abbrev pub in_record : List ℕ → ℕ → ℕ → GlyphVariant
 in_record bytes c i =
-    let glyph = mapped_in (part_in bytes (u32_in bytes (17 + i * 11))) c in
-    if is_some (default_range_in (part_in bytes (u32_in bytes (13 + i * 11))) c) then UseDefault
+    let glyph = mapped_in (table_at bytes (u32_in bytes (17 + i * 11))) c in
+    if is_some (default_range_in (table_at bytes (u32_in bytes (13 + i * 11))) c) then UseDefault
     else (if glyph == 0 then NotFound else Found glyph)
 
 abbrev pub variant_in : List ℕ → ℕ → ℕ → GlyphVariant

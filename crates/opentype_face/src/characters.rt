@@ -16,7 +16,7 @@ ghost use Rattle.opentype_face.specs.Characters.{
   unicode_in,
 };
 
-use crate::bytes::{capped, low16, offset32, part, u16_at};
+use crate::bytes::{capped, low16, offset32, table_at, u16_at};
 use crate::cmap::glyph_of;
 use crate::legacy_tables::{MAC_ROMAN, SIMPLIFIED_ARABIC, TRADITIONAL_ARABIC};
 use crate::ranges::Ranges;
@@ -61,7 +61,7 @@ fn table_of_record(cmap: &[u8], found: Option<u32>) -> &[u8]
     ensures { result.now ≡ of_record cmap.now found }
 {
     match found {
-        Some(i) => part(cmap, offset32(cmap, 8 + i as usize * 8)),
+        Some(i) => table_at(cmap, offset32(cmap, 8 + i as usize * 8)),
         None => &[],
     }
 }

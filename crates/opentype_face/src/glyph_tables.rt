@@ -123,7 +123,7 @@ pub struct PreparedCoverage<'a> {
 }
 
 // What the table keeps of a glyph, unless it is too great.
-fn kept_place(set: &[u8], glyph: u16) -> Option<u16>
+fn stored_place(set: &[u8], glyph: u16) -> Option<u16>
     ensures { IfSome result (λ kept. place_before kept ≡ coverage_in set.now glyph) }
 {
     match coverage(set, glyph) {
@@ -144,7 +144,7 @@ fn fill_places(set: &[u8], glyphs: Stretch, places: &mut Vec<u16>) -> Result<(),
     ensures { IfOk result (λ _. TellsCoverage set.now glyphs.first places.new.items) }
 {
     for i in 0..glyphs.count {
-        match kept_place(set, glyphs.first + i) {
+        match stored_place(set, glyphs.first + i) {
             Some(kept) => places.push(kept)?,
             None => return Ok(()),
         }

@@ -2,7 +2,7 @@
 ghost use Rattle.std.specs.Prelude.{◌≡◌, is_some};
 ghost use Rattle.opentype_face.specs.Variants.{in_record, default_range_in, mapped_in, variant_in};
 
-use crate::bytes::{capped, offset32, part, u16_at, u32_at};
+use crate::bytes::{capped, offset32, table_at, u16_at, u32_at};
 use crate::ranges::Ranges;
 
 /// What a font says of a character and a selector.
@@ -40,10 +40,10 @@ fn of_record(bytes: &[u8], c: u32, i: u32) -> GlyphVariant
     ensures { result ≡ in_record bytes.now c i }
 {
     let at = i as usize * 11;
-    if is_default(part(bytes, offset32(bytes, 13 + at)), c) {
+    if is_default(table_at(bytes, offset32(bytes, 13 + at)), c) {
         return GlyphVariant::UseDefault;
     }
-    let glyph = mapped(part(bytes, offset32(bytes, 17 + at)), c);
+    let glyph = mapped(table_at(bytes, offset32(bytes, 17 + at)), c);
     if glyph == 0 {
         GlyphVariant::NotFound
     } else {

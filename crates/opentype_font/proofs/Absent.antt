@@ -16,7 +16,7 @@ use Rattle.opentype_gsub.specs.Substituted.{substituted}
 use Rattle.opentype_gsub.specs.declared.pass.LookupUse.{LookupUse}
 use Rattle.opentype_gsub.proofs.Untouched.{buffer_left, left_none}
 use Rattle.opentype_gpos.specs.Laws.{without_its_flags}
-use Rattle.opentype_gpos.specs.Walked.{positioned}
+use Rattle.opentype_gpos.specs.Along.{positioned}
 use Rattle.opentype_gpos.proofs.Keeping.{position_keeps}
 use Rattle.opentype_gpos.proofs.Unbegun.{positioned_nowhere}
 use Rattle.opentype_font.specs.Lookups.{application_for, positioned_by, substituted_by, use_for}

@@ -10,7 +10,7 @@ use Rattle.opentype_face.specs.Classes.{has_classes, props_of}
 use Rattle.opentype_layout.specs.declared.sight.Application.{Application}
 use Rattle.opentype_gsub.specs.Substituted.{substituted}
 use Rattle.opentype_gsub.specs.declared.pass.LookupUse.{LookupUse}
-use Rattle.opentype_gpos.specs.Walked.{positioned}
+use Rattle.opentype_gpos.specs.Along.{positioned}
 
 abbrev pub use_for : StageLookup → LookupUse
 use_for l = record {

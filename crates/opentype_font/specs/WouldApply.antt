@@ -1,7 +1,7 @@
 -- Whether a lookup of GSUB would apply to exactly some glyphs, by the bytes of its table.
 use Rattle.std.specs.Prelude.{ℕ, ◌+◌, ◌-◌, ◌*◌, min, ◌==◌, ◌&&◌, ◌||◌, not, nat_lt, Bool, false, is_some, length, List, Option, None, Some, slice_index_or, if◌then◌else◌}
 use Rattle.shapers_base.specs.declared.font.GlyphId.{GlyphId}
-use Rattle.opentype_face.specs.Bytes.{u16_in, part_in}
+use Rattle.opentype_face.specs.Bytes.{u16_in, table_at}
 use Rattle.opentype_face.specs.Glyphs.{class_in, coverage_in}
 use Rattle.opentype_face.specs.Lookups.{lookup_in, subtable_in, type_in}
 use Rattle.opentype_layout.specs.Pattern.{is_in_sets, is_number}
@@ -14,7 +14,7 @@ nth_number glyphs k = (slice_index_or glyphs k (record { 0 = 0 })).0
 
 -- the place of the first glyph in the set that a subtable begins with
 abbrev pub place_of_first : List ℕ → List GlyphId → Option ℕ
-place_of_first bytes glyphs = coverage_in (part_in bytes (u16_in bytes 2)) (nth_number glyphs 0)
+place_of_first bytes glyphs = coverage_in (table_at bytes (u16_in bytes 2)) (nth_number glyphs 0)
 
 -- whether the glyphs from one on fit places 0, 1, 2 .. of a rule, by a test
 abbrev pub fit_each : (ℕ → ℕ → Bool) → ℕ → List GlyphId → Bool
@@ -33,7 +33,7 @@ rule_count set = min (u16_in set 0) 256
 
 -- one of a set's rules or ligatures
 abbrev pub rule_of_set : List ℕ → ℕ → List ℕ
-rule_of_set set i = part_in set (u16_in set (2 + i * 2))
+rule_of_set set i = table_at set (u16_in set (2 + i * 2))
 
 -- types 1, 2, 3 and 8: one glyph, which is covered
 unfoldable pub one_fits : ℕ → List ℕ → List GlyphId → Bool
@@ -45,7 +45,7 @@ one_fits kind bytes glyphs =
 unfoldable pub ligature_fits : List ℕ → List GlyphId → ℕ → Bool
 ligature_fits set glyphs i =
     if u16_in (rule_of_set set i) 2 == length glyphs
-    then fit_each (is_number (part_in (rule_of_set set i) 4)) 1 glyphs else false
+    then fit_each (is_number (table_at (rule_of_set set i) 4)) 1 glyphs else false
 
 abbrev pub has_ligature : List GlyphId → List ℕ → Bool
 has_ligature glyphs set = some_of (rule_count set) (ligature_fits set glyphs)
@@ -64,21 +64,21 @@ ligatures_fit bytes glyphs =
 unfoldable pub rule_fits : List ℕ → Option (List ℕ) → List GlyphId → ℕ → Bool
 rule_fits set classes glyphs i =
     if u16_in (rule_of_set set i) 0 == length glyphs
-    then fit_numbers (part_in (rule_of_set set i) 4) classes glyphs else false
+    then fit_numbers (table_at (rule_of_set set i) 4) classes glyphs else false
 
 abbrev pub rules_fit : Option (List ℕ) → List GlyphId → List ℕ → Bool
 rules_fit classes glyphs set = some_of (rule_count set) (rule_fits set classes glyphs)
 
 unfoldable pub sets_fit : List ℕ → List GlyphId → Bool
 sets_fit bytes glyphs =
-    if u16_in bytes 2 == length glyphs then fit_each (is_in_sets (part_in bytes 6) bytes) 0 glyphs
+    if u16_in bytes 2 == length glyphs then fit_each (is_in_sets (table_at bytes 6) bytes) 0 glyphs
     else false
 
 unfoldable pub context_fits : List ℕ → List GlyphId → Bool
 context_fits bytes glyphs =
     if u16_in bytes 0 == 1 then if_set bytes 4 (rules_fit None glyphs) (place_of_first bytes glyphs)
     else (if u16_in bytes 0 == 2 then
-    (let classes = part_in bytes (u16_in bytes 4) in
+    (let classes = table_at bytes (u16_in bytes 4) in
     if is_some (place_of_first bytes glyphs)
     then rules_fit (Some classes) glyphs (set_in bytes 6 (class_in classes (nth_number glyphs
     0))) else false)
@@ -97,7 +97,7 @@ chained_rule_fits set classes glyphs zero_context i =
     let behind = input + u16_in rule input * 2 in
     if is_barred zero_context (u16_in rule 0) (u16_in rule behind) then false
     else (if u16_in rule input == length glyphs
-    then fit_numbers (part_in rule (input + 2)) classes glyphs else false)
+    then fit_numbers (table_at rule (input + 2)) classes glyphs else false)
 
 abbrev pub chained_rules_fit : Option (List ℕ) → List GlyphId → Bool → List ℕ → Bool
 chained_rules_fit classes glyphs zero_context set =
@@ -109,14 +109,14 @@ chained_sets_fit bytes glyphs zero_context =
     let behind = input + 2 + u16_in bytes input * 2 in
     if is_barred zero_context (u16_in bytes 2) (u16_in bytes behind) then false
     else (if u16_in bytes input == length glyphs
-    then fit_each (is_in_sets (part_in bytes (input + 2)) bytes) 0 glyphs else false)
+    then fit_each (is_in_sets (table_at bytes (input + 2)) bytes) 0 glyphs else false)
 
 unfoldable pub chained_fits : List ℕ → List GlyphId → Bool → Bool
 chained_fits bytes glyphs zero_context =
     if u16_in bytes 0 == 1 then
     if_set bytes 4 (chained_rules_fit None glyphs zero_context) (place_of_first bytes glyphs)
     else (if u16_in bytes 0 == 2 then
-    (let classes = part_in bytes (u16_in bytes 6) in
+    (let classes = table_at bytes (u16_in bytes 6) in
     if is_some (place_of_first bytes glyphs)
     then chained_rules_fit (Some classes) glyphs zero_context
     (set_in bytes 10 (class_in classes (nth_number glyphs 0))) else false)

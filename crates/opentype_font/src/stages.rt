@@ -7,7 +7,7 @@ ghost use Rattle.opentype_layout.specs.LookupRows.{AreAbsent};
 ghost use Rattle.opentype_font.specs.Lookups.{application_for, may_lack_memory, positioned_by, substituted_by, use_for};
 ghost use Rattle.opentype_font.specs.Presence.{AreSeen, IsAbsent};
 
-use opentype_gpos::walk::position;
+use opentype_gpos::apply_along::position;
 use opentype_gsub::pass::LookupUse;
 use opentype_gsub::substitute::substitute;
 use opentype_layout::face_tables::FaceTables;

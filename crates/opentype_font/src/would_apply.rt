@@ -4,7 +4,7 @@ ghost use Rattle.opentype_layout.specs.Pattern.{fits};
 ghost use Rattle.opentype_layout.specs.Rules.{set_in};
 ghost use Rattle.opentype_font.specs.WouldApply.{chained_fits, chained_rule_fits, chained_rules_fit, chained_sets_fit, context_fits, fit_each, fit_numbers, has_ligature, is_barred, ligature_fits, ligatures_fit, lookup_applies, nth_applies, rule_count, rule_of_set, one_fits, place_of_first, rule_fits, rules_fit, sets_fit, subtable_applies, would_apply};
 
-use opentype_face::bytes::{part, u16_at};
+use opentype_face::bytes::{table_at, u16_at};
 use opentype_face::glyph_sets::{class, coverage};
 use opentype_face::lookup::{lookup, subtable, subtable_count, subtable_type};
 use opentype_layout::pattern::Pattern;
@@ -67,7 +67,7 @@ fn place_of_first(bytes: &[u8], glyphs: &[GlyphId]) -> Option<u32>
     requires { 0 < length glyphs.now }
     ensures { result ≡ place_of_first bytes.now glyphs.now }
 {
-    coverage(part(bytes, usize::from(u16_at(bytes, 2))), glyphs[0].0)
+    coverage(table_at(bytes, usize::from(u16_at(bytes, 2))), glyphs[0].0)
 }
 
 // Types that look at one glyph.
@@ -102,7 +102,7 @@ fn rule_set(bytes: &[u8], at: usize, index: u32) -> &[u8]
     ensures { result.now ≡ set_in bytes.now at index }
 {
     if index < u32::from(u16_at(bytes, at)) {
-        part(
+        table_at(
             bytes,
             usize::from(u16_at(bytes, at + 2 + index as usize * 2)),
         )
@@ -148,7 +148,7 @@ fn ligature_fits(set: &[u8], glyphs: &[GlyphId], i: u16) -> bool
     if usize::from(u16_at(ligature, 2)) != glyphs.len() {
         return false;
     }
-    fit_each(&Pattern::Glyphs(part(ligature, 4)), 1, glyphs)
+    fit_each(&Pattern::Glyphs(table_at(ligature, 4)), 1, glyphs)
 }
 
 // How many of a set's rules or ligatures are asked.
@@ -164,7 +164,7 @@ fn rule_count(set: &[u8]) -> u16
 fn nth(set: &[u8], i: u16) -> &[u8]
     ensures { result.now ≡ rule_of_set set.now i }
 {
-    part(set, usize::from(u16_at(set, 2 + usize::from(i) * 2)))
+    table_at(set, usize::from(u16_at(set, 2 + usize::from(i) * 2)))
 }
 
 // Whether the glyphs behind the first one are these, or of these classes.
@@ -193,7 +193,7 @@ fn context_fits(bytes: &[u8], glyphs: &[GlyphId]) -> bool
             None => false,
         },
         2 if place.is_some() => {
-            let classes = part(bytes, usize::from(u16_at(bytes, 4)));
+            let classes = table_at(bytes, usize::from(u16_at(bytes, 4)));
             let set = rule_set(bytes, 6, u32::from(class(classes, glyphs[0].0)));
             rules_fit(set, Some(classes), glyphs)
         }
@@ -211,7 +211,7 @@ fn sets_fit(bytes: &[u8], glyphs: &[GlyphId]) -> bool
     if usize::from(u16_at(bytes, 2)) != glyphs.len() {
         return false;
     }
-    fit_each(&Pattern::Sets(part(bytes, 6), bytes), 0, glyphs)
+    fit_each(&Pattern::Sets(table_at(bytes, 6), bytes), 0, glyphs)
 }
 
 // Whether a rule of a set of contexts has exactly these glyphs.
@@ -236,7 +236,7 @@ fn rule_fits(set: &[u8], classes: Option<&[u8]>, glyphs: &[GlyphId], i: u16) -> 
     if usize::from(u16_at(rule, 0)) != glyphs.len() {
         return false;
     }
-    fit_numbers(part(rule, 4), classes, glyphs)
+    fit_numbers(table_at(rule, 4), classes, glyphs)
 }
 
 // Chained contexts.
@@ -255,7 +255,7 @@ fn chained_fits(bytes: &[u8], glyphs: &[GlyphId], zero_context: bool) -> bool
             None => false,
         },
         2 if place.is_some() => {
-            let classes = part(bytes, usize::from(u16_at(bytes, 6)));
+            let classes = table_at(bytes, usize::from(u16_at(bytes, 6)));
             let set = rule_set(bytes, 10, u32::from(class(classes, glyphs[0].0)));
             chained_rules_fit(set, Some(classes), glyphs, zero_context)
         }
@@ -307,7 +307,7 @@ fn chained_rule_fits(
     if count != glyphs.len() {
         return false;
     }
-    fit_numbers(part(rule, input + 2), classes, glyphs)
+    fit_numbers(table_at(rule, input + 2), classes, glyphs)
 }
 
 // Whether a rule that looks at so many glyphs before its input and behind is barred, since no glyphs
@@ -335,5 +335,5 @@ fn chained_sets_fit(bytes: &[u8], glyphs: &[GlyphId], zero_context: bool) -> boo
     if count != glyphs.len() {
         return false;
     }
-    fit_each(&Pattern::Sets(part(bytes, input + 2), bytes), 0, glyphs)
+    fit_each(&Pattern::Sets(table_at(bytes, input + 2), bytes), 0, glyphs)
 }

@@ -129,7 +129,7 @@ is_full b stack is e = grind (arith, nat_tests)
 pub not_full : (b : Bool) (stack : List Frame) → b ≡ (length stack == 63) → b ≡ false → length stack ≤ 63 → length stack < 63
 not_full b stack is e few = grind (arith, nat_tests)
 
--- ---- the arms of a turn
+-- ---- the arms of a step
 pub turn_ended : (s : Setting) (old stack : List Frame) (frame : Frame) (w : Work) → old ≡ stack ++ frame ∷ [] →
     frame.count ≤ frame.next → rest_made s (begun_on stack) w ≡ rest_made s (begun_on old) w
 turn_ended s old stack frame w is le =

@@ -17,7 +17,7 @@ use Rattle.opentype_gpos.specs.Coming.{Setting, came_in, nth_came, sights_in}
 use Rattle.opentype_gpos.specs.Making.{moved}
 use Rattle.opentype_gpos.specs.Moved.{Positions, Progress, flagged_up_to, value_added, with_value}
 use Rattle.opentype_gpos.specs.Moves.{one_move, single_move}
-use Rattle.opentype_gpos.specs.Walked.{position_stepped}
+use Rattle.opentype_gpos.specs.Along.{position_stepped}
 
 abbrev glyph : ℕ → ℕ → Glyph
 glyph number cluster = record default_glyph { glyph_id = number; cluster = cluster; mask = 16 }

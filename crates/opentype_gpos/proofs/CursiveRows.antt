@@ -5,7 +5,7 @@ use Rattle.shapers_buffer.specs.declared.buffer.level.Direction.TheVariants.{Lef
 use Rattle.opentype_face.specs.Ranges.{bisect}
 use Rattle.opentype_gpos.specs.Anchors.{joint_in, joint_point}
 use Rattle.opentype_gpos.specs.Finished.{let_go, target_in}
-use Rattle.opentype_gpos.specs.Joined.{aligned, beginning_at, begun, between, ended, ending_at, hung, cursive_joined, line_var, cursive_linked, next_in_line, off_line, separated, turned, turned_on, with_across}
+use Rattle.opentype_gpos.specs.Joined.{aligned, beginning_at, begun, between, ended, ending_at, hung, cursive_joined, line_var, cursive_linked, next_in_line, off_line, separated, reversed, reversed_on, with_across}
 use Rattle.opentype_gpos.specs.Moved.{Positions}
 use Rattle.opentype_gpos.specs.declared.anchors.Point.{Point}
 use Rattle.opentype_gpos.specs.declared.moves.CursiveMove.{CursiveMove}
@@ -49,19 +49,19 @@ two = position (pos 500) (pos 0) (pos 0) 0 ∷ position (pos 400) (pos 0) (pos 0
 -- the later glyph goes down to the one before it: 65535 is -1 in 16 bits, and 2 says that it is a line
 forwards : cursive_joined LeftToRight join 1 two
     ≡ position (pos 300) (pos 0) (pos 0) 0 ∷ position (pos 390) (negsuc 9) (negsuc 19) 196607 ∷ []
-unfolding aligned beginning_at begun between ended ending_at hung cursive_joined let_go line_var cursive_linked next_in_line off_line separated target_in turned turned_on with_across
+unfolding aligned beginning_at begun between ended ending_at hung cursive_joined let_go line_var cursive_linked next_in_line off_line separated target_in reversed reversed_on with_across
 forwards = refl
 
 -- or the glyph before it goes up to the later one
 from_end : cursive_joined LeftToRight (record join { from_end = true }) 1 two
     ≡ position (pos 300) (pos 0) (pos 20) 131073 ∷ position (pos 390) (negsuc 9) (pos 0) 0 ∷ []
-unfolding aligned beginning_at begun between ended ending_at hung cursive_joined let_go line_var cursive_linked next_in_line off_line separated target_in turned turned_on with_across
+unfolding aligned beginning_at begun between ended ending_at hung cursive_joined let_go line_var cursive_linked next_in_line off_line separated target_in reversed reversed_on with_across
 from_end = refl
 
 -- from right to left the glyph before stands at the right of the later one
 backwards : cursive_joined RightToLeft join 1 two
     ≡ position (pos 200) (negsuc 299) (pos 0) 0 ∷ position (pos 10) (pos 0) (negsuc 19) 196607 ∷ []
-unfolding aligned beginning_at begun between ended ending_at hung cursive_joined let_go line_var cursive_linked next_in_line off_line separated target_in turned turned_on with_across
+unfolding aligned beginning_at begun between ended ending_at hung cursive_joined let_go line_var cursive_linked next_in_line off_line separated target_in reversed reversed_on with_across
 backwards = refl
 
 -- the first of three was attached to the second: that is attached to it then, as far off the other way
@@ -69,11 +69,11 @@ turns : cursive_linked false 0 2 (pos 5)
     (position (pos 0) (pos 0) (pos 7) 131073 ∷ position (pos 0) (pos 0) (pos 0) 0 ∷ position (pos 0) (pos 0) (pos 0) 0 ∷ [])
     ≡ position (pos 0) (pos 0) (pos 5) 131074 ∷ position (pos 0) (pos 0) (negsuc 6) 196607
     ∷ position (pos 0) (pos 0) (pos 0) 0 ∷ []
-unfolding hung let_go line_var cursive_linked next_in_line off_line separated target_in turned turned_on with_across
+unfolding hung let_go line_var cursive_linked next_in_line off_line separated target_in reversed reversed_on with_across
 turns = refl
 
 -- a ring of two is cut
 cut : cursive_linked false 1 0 (pos 5) (position (pos 0) (pos 0) (pos 7) 131073 ∷ position (pos 0) (pos 0) (pos 0) 0 ∷ [])
     ≡ position (pos 0) (pos 0) (pos 0) 131072 ∷ position (pos 0) (pos 0) (pos 5) 196607 ∷ []
-unfolding hung let_go line_var cursive_linked next_in_line off_line separated target_in turned turned_on with_across
+unfolding hung let_go line_var cursive_linked next_in_line off_line separated target_in reversed reversed_on with_across
 cut = refl

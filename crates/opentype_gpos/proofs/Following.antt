@@ -6,7 +6,7 @@ use Rattle.std.proofs.lemmas.List.{get_or-set_other, get_or-set_same, set-get_or
 use Rattle.shapers_buffer.specs.Glyph.{default_position}
 use Rattle.shapers_buffer.specs.declared.buffer.glyph.GlyphPosition.{GlyphPosition}
 use Rattle.shapers_buffer.specs.declared.buffer.level.Direction.{Direction}
-use Rattle.opentype_gpos.specs.Finished.{drawn_place, finished_from, chain_followed, is_backward, let_go, link_at, pen_along, pen_behind, placed_on, settled, target_in}
+use Rattle.opentype_gpos.specs.Finished.{drawn_place, finished_from, chain_followed, is_backward, let_go, link_at, pen_along, pen_behind, placed_on, attached_moved, target_in}
 use Rattle.opentype_gpos.specs.Moved.{Positions, detached, position_at}
 use Rattle.opentype_gpos.specs.declared.finish.Attachment.{Attachment}
 
@@ -39,8 +39,8 @@ pen_all ps start end i pen is le =
 
 -- ---- attachments in a row
 settled_more : (d : Direction) (links : List Attachment) (link : Attachment) (ps : Positions) →
-    settled d (links ++ link ∷ []) ps ≡ settled d links (placed_on d link ps)
-unfolding settled
+    attached_moved d (links ++ link ∷ []) ps ≡ attached_moved d links (placed_on d link ps)
+unfolding attached_moved
 settled_more d [] link ps = refl
 settled_more d (l ∷ links) link ps = ap (placed_on d l) (settled_more d links link ps)
 
@@ -62,10 +62,10 @@ pub record IsClimbed (old : Positions) (start : ℕ) (i : ℕ) (links : List Att
     Type 0 where
   pub number : length links ≡ i
   pub inside : at < length ps
-  pub rest : (d : Direction) → settled d links (chain_followed (64 - i) d ps at) ≡ chain_followed 64 d old start
+  pub rest : (d : Direction) → attached_moved d links (chain_followed (64 - i) d ps at) ≡ chain_followed 64 d old start
 
 pub climbed_start : (old : Positions) (start : ℕ) → start < length old → IsClimbed old start 0 [] old start
-unfolding settled
+unfolding attached_moved
 climbed_start old start lt = record { number = refl; inside = lt; rest = λ d. refl }
 
 let_go_length : (ps : Positions) (at : ℕ) → length (let_go ps at) ≡ length ps
@@ -90,48 +90,48 @@ climbed_next old start i links ps at found link new is lt there within some e =
       inside = rw (sym same) at inside;
       rest = λ d.
           settled_more d links link (chain_followed (64 - (i + 1)) d new link.to)
-          ∙ ap (λ p. settled d links (placed_on d link (chain_followed (64 - (i + 1)) d p link.to))) e
-          ∙ ap (settled d links) (sym (follow_some (64 - (i + 1)) d ps at link (sym there ∙ some)))
+          ∙ ap (λ p. attached_moved d links (placed_on d link (chain_followed (64 - (i + 1)) d p link.to))) e
+          ∙ ap (attached_moved d links) (sym (follow_some (64 - (i + 1)) d ps at link (sym there ∙ some)))
           ∙ rw n at is.rest d;
     }
 
 pub climbed_end : (old : Positions) (start i : ℕ) (links : List Attachment) (ps : Positions) (at : ℕ)
     (found : Option Attachment) (new : Positions) → IsClimbed old start i links ps at → i < 64 →
     found ≡ link_at ps at → found ≡ None → new ≡ let_go ps at →
-    (d : Direction) → settled d links new ≡ chain_followed 64 d old start
+    (d : Direction) → attached_moved d links new ≡ chain_followed 64 d old start
 climbed_end old start i links ps at found new is lt there none e d =
     let n : 64 - i ≡ suc (64 - (i + 1)) = omega arith in
-    ap (settled d links) (e ∙ sym (follow_none (64 - (i + 1)) d ps at (sym there ∙ none))) ∙ rw n at is.rest d
+    ap (attached_moved d links) (e ∙ sym (follow_none (64 - (i + 1)) d ps at (sym there ∙ none))) ∙ rw n at is.rest d
 
 pub climbed_all : (old : Positions) (start i : ℕ) (links : List Attachment) (ps : Positions) (at : ℕ)
     (new : Positions) → IsClimbed old start i links ps at → 64 ≤ i → new ≡ let_go ps at →
-    (d : Direction) → settled d links new ≡ chain_followed 64 d old start
+    (d : Direction) → attached_moved d links new ≡ chain_followed 64 d old start
 climbed_all old start i links ps at new is le e d =
     let n : 64 - i ≡ 0 = omega arith in
-    ap (settled d links) (e ∙ sym (follow_zero d ps at)) ∙ rw n at is.rest d
+    ap (attached_moved d links) (e ∙ sym (follow_zero d ps at)) ∙ rw n at is.rest d
 
 -- ---- and moved, the last one first
 pub record IsSettling (d : Direction) (links : List Attachment) (old : Positions) (i : ℕ) (ps : Positions) :
     Type 0 where
-  pub rest : settled d (take (length links - i) links) ps ≡ settled d links old
+  pub rest : attached_moved d (take (length links - i) links) ps ≡ attached_moved d links old
 
 settled_take : (d : Direction) (links : List Attachment) (ps : Positions) (k : ℕ) (link : Attachment) → k < length links →
     link ≡ slice_index_or links k link →
-    settled d (take (suc k) links) ps ≡ settled d (take k links) (placed_on d link ps)
-unfolding settled
+    attached_moved d (take (suc k) links) ps ≡ attached_moved d (take k links) (placed_on d link ps)
+unfolding attached_moved
 settled_take d [] ps k link lt e = absurd (omega arith)
 settled_take d (l ∷ links) ps zero link lt e = ap (λ x. placed_on d x ps) (sym e)
 settled_take d (l ∷ links) ps (suc k) link lt e =
     ap (placed_on d l) (settled_take d links ps k link (omega arith) e)
 
-take_none : (d : Direction) (links : List Attachment) (ps : Positions) → settled d (take 0 links) ps ≡ ps
-unfolding settled
+take_none : (d : Direction) (links : List Attachment) (ps : Positions) → attached_moved d (take 0 links) ps ≡ ps
+unfolding attached_moved
 take_none d links ps = refl
 
 pub settling_start : (d : Direction) (links : List Attachment) (old : Positions) → IsSettling d links old 0 old
 settling_start d links old =
     let n : length links - 0 ≡ length links = omega arith in
-    record { rest = rw n (ap (λ ls. settled d ls old) (grind (arith, common_steps))) }
+    record { rest = rw n (ap (λ ls. attached_moved d ls old) (grind (arith, common_steps))) }
 
 pub settling_next : (d : Direction) (links : List Attachment) (old : Positions) (i : ℕ) (ps : Positions) (link : Attachment)
     (new : Positions) → IsSettling d links old i ps → i < length links →
@@ -141,13 +141,13 @@ settling_next d links old i ps link new is lt e done =
     let n : length links - i ≡ suc (length links - (i + 1)) = omega arith in
     let k : length links - 1 - i ≡ length links - (i + 1) = omega arith in
     record {
-      rest = ap (settled d (take (length links - (i + 1)) links)) done
+      rest = ap (attached_moved d (take (length links - (i + 1)) links)) done
           ∙ sym (settled_take d links ps (length links - (i + 1)) link (omega arith) (rw k at e))
           ∙ rw n at is.rest;
     }
 
 pub settling_all : (d : Direction) (links : List Attachment) (old : Positions) (i : ℕ) (ps : Positions) →
-    IsSettling d links old i ps → length links ≤ i → ps ≡ settled d links old
+    IsSettling d links old i ps → length links ≤ i → ps ≡ attached_moved d links old
 settling_all d links old i ps is le =
     let n : length links - i ≡ 0 = omega arith in sym (take_none d links ps) ∙ rw n at is.rest
 

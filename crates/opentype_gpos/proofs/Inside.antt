@@ -10,11 +10,11 @@ use Rattle.shapers_buffer.specs.declared.buffer.level.Direction.{Direction}
 use Rattle.opentype_layout.specs.declared.sight.Application.{Application}
 use Rattle.opentype_gpos.proofs.Keeping.{Keeps, align_length, flag, move as keeps, turn_length}
 use Rattle.opentype_gpos.specs.Finished.{is_backward, let_go, target_in}
-use Rattle.opentype_gpos.specs.Joined.{aligned, beginning_at, begun, cursive_moved, ended, ending_at, hung, is_at, cursive_joined, line_var, cursive_linked, next_in_line, other_than, separated, turn_to, turned, turned_on, with_across}
+use Rattle.opentype_gpos.specs.Joined.{aligned, beginning_at, begun, cursive_moved, ended, ending_at, hung, is_at, cursive_joined, line_var, cursive_linked, next_in_line, other_than, separated, reverse_to, reversed, reversed_on, with_across}
 use Rattle.opentype_gpos.specs.Laws.{AreInside, is_inside, without_its_flags}
 use Rattle.opentype_gpos.specs.Moved.{Positions, Progress, detached, flagged_up_to, is_vertical, mark_moved, pair_moved, position_at, value_added, with_mark_move, with_value}
 use Rattle.opentype_gpos.specs.Making.{moved}
-use Rattle.opentype_gpos.specs.Walked.{positioned}
+use Rattle.opentype_gpos.specs.Along.{positioned}
 use Rattle.opentype_gpos.proofs.Preserved.{IsKept, positioned_keeps}
 use Rattle.opentype_gpos.specs.declared.anchors.Point.{Point}
 use Rattle.opentype_gpos.specs.declared.moves.CursiveMove.{CursiveMove}
@@ -211,24 +211,24 @@ next_below var at parent len inside = below_if (var / 65536 % 256 == 2) len _ _
     (λ t. other_below parent len (target_in var at len) (target_below var at len inside)) (λ t. tt)
 
 turned_inside : (v : Bool) (old : GlyphPosition) (at to len : ℕ) (p : GlyphPosition) → at < len →
-    is_inside len to (turned_on v old at to p).var ≡ true
-unfolding turned_on
+    is_inside len to (reversed_on v old at to p).var ≡ true
+unfolding reversed_on
 turned_inside v old at to len p inside = line_inside len to at inside
 
 turn_to_inside : (ps : Positions) (f : ℕ → Positions) (o : Option ℕ) → IfSome o (λ to. to < length ps) →
-    AreInside ps → ((to : ℕ) → to < length ps → AreInside (f to)) → AreInside (turn_to ps f o)
+    AreInside ps → ((to : ℕ) → to < length ps → AreInside (f to)) → AreInside (reverse_to ps f o)
 turn_to_inside ps f None h all each = all
 turn_to_inside ps f (Some to) h all each = each to h
 
 turn_inside : (n : ℕ) (v : Bool) (parent : ℕ) (ps : Positions) (at : ℕ) (old : GlyphPosition) →
-    at < length ps → AreInside ps → AreInside (turned n v parent ps at old)
-unfolding turned
+    at < length ps → AreInside ps → AreInside (reversed n v parent ps at old)
+unfolding reversed
 turn_inside zero v parent ps at old inside all = all
 turn_inside (suc n) v parent ps at old inside all =
     turn_to_inside ps _ (next_in_line old.var at parent (length ps))
     (next_below old.var at parent (length ps) inside) all (λ to below.
-    turn_inside n v parent _ to _ (rw (sym (length-set ps to (turned_on v old at to (position_at ps to)))) at below)
-    (set_one ps to (turned_on v old at to (position_at ps to)) below (turned_inside v old at to (length ps) _ inside) all))
+    turn_inside n v parent _ to _ (rw (sym (length-set ps to (reversed_on v old at to (position_at ps to)))) at below)
+    (set_one ps to (reversed_on v old at to (position_at ps to)) below (turned_inside v old at to (length ps) _ inside) all))
 
 set_any : (test : Bool) (ps : Positions) (at : ℕ) (p : GlyphPosition) → test ≡ nat_lt at (length ps) →
     is_inside (length ps) at p.var ≡ true → AreInside ps → AreInside (slice_set ps at p)

@@ -13,9 +13,9 @@ use Rattle.opentype_layout.specs.declared.sight.Application.{Application}
 use Rattle.opentype_gpos.specs.Finished.{drawn_place, finished, finished_from, chain_followed, is_backward, let_go, link_at, on_link, placed_on}
 use Rattle.opentype_gpos.specs.Laws.{PlacesAlone, without_its_flags}
 use Rattle.opentype_gpos.specs.Moved.{Positions, Progress, end_behind, flagged_up_to, mark_moved, pair_moved, value_added}
-use Rattle.opentype_gpos.specs.Joined.{aligned, begun, cursive_moved, ended, hung, cursive_joined, cursive_linked, next_in_line, separated, turn_to, turned}
+use Rattle.opentype_gpos.specs.Joined.{aligned, begun, cursive_moved, ended, hung, cursive_joined, cursive_linked, next_in_line, separated, reverse_to, reversed}
 use Rattle.opentype_gpos.specs.Making.{moved}
-use Rattle.opentype_gpos.specs.Walked.{positioned}
+use Rattle.opentype_gpos.specs.Along.{positioned}
 use Rattle.opentype_gpos.proofs.Preserved.{IsKept, positioned_keeps}
 use Rattle.opentype_gpos.specs.declared.finish.Attachment.{Attachment}
 use Rattle.opentype_gpos.specs.declared.moves.CursiveMove.{CursiveMove}
@@ -82,13 +82,13 @@ unfolding let_go
 let_go_length ps at = grind (arith, common_steps)
 
 turn_to_length : (ps : Positions) (f : ℕ → Positions) (n : ℕ) → length ps ≡ n →
-    ((to : ℕ) → length (f to) ≡ n) → (o : Option ℕ) → length (turn_to ps f o) ≡ n
+    ((to : ℕ) → length (f to) ≡ n) → (o : Option ℕ) → length (reverse_to ps f o) ≡ n
 turn_to_length ps f n e each None = e
 turn_to_length ps f n e each (Some to) = each to
 
 pub turn_length : (n : ℕ) (v : Bool) (parent : ℕ) (ps : Positions) (at : ℕ) (old : GlyphPosition) →
-    length (turned n v parent ps at old) ≡ length ps
-unfolding turned
+    length (reversed n v parent ps at old) ≡ length ps
+unfolding reversed
 turn_length zero v parent ps at old = refl
 turn_length (suc n) v parent ps at old = turn_to_length ps _ (length ps) refl
     (λ to. turn_length n v parent _ to _ ∙ length-set ps to _) (next_in_line old.var at parent (length ps))

@@ -7,10 +7,10 @@ use Rattle.shapers_buffer.specs.GlyphFlags.{unsafe_to_concat_in, with_bits}
 use Rattle.shapers_buffer.specs.Glyphs.{Glyph, Glyphs}
 use Rattle.shapers_buffer.specs.declared.buffer.level.Direction.{Direction}
 use Rattle.shapers_clusters.proofs.FlagCalls.{map-unsafe_to_concat_in, without_flags-or}
-use Rattle.opentype_face.specs.Bytes.{part_in, u16_in}
+use Rattle.opentype_face.specs.Bytes.{table_at, u16_in}
 use Rattle.opentype_layout.specs.Text.{glyph_at}
 use Rattle.opentype_gpos.specs.Finished.{is_backward}
-use Rattle.opentype_gpos.specs.Kerned.{PlacedText, in_one_line, is_across, kern_sight, kern_stepped, kerned, kerned_along, kerned_by, kerned_in_turn, kerned_text, kerned_with, line_step, pair_kerned, with_step}
+use Rattle.opentype_gpos.specs.Kerned.{PlacedText, in_one_line, is_across, kern_sight, kern_stepped, kerned, kerned_along, kerned_by, kerned_by_subtables, kerned_text, kerned_with, line_step, pair_kerned, with_step}
 use Rattle.opentype_gpos.specs.Laws.{PlacesAlone, without_its_flags}
 use Rattle.opentype_gpos.specs.Moved.{Positions, is_vertical}
 use Rattle.opentype_gpos.specs.Nearby.{next_any}
@@ -67,11 +67,11 @@ by_keeps mask d bytes xs n t h = choose _ xs n _ t (along_keeps bytes mask d xs 
 
 turns_keep : (k : ℕ) (each : List ℕ → PlacedText → PlacedText) (xs : Glyphs) (n : ℕ) →
     ((bytes : List ℕ) (t : PlacedText) → IsLike xs n t → IsLike xs n (each bytes t)) → (bytes : List ℕ) (t : PlacedText) →
-    IsLike xs n t → IsLike xs n (kerned_in_turn k each bytes t)
-unfolding kerned_in_turn
+    IsLike xs n t → IsLike xs n (kerned_by_subtables k each bytes t)
+unfolding kerned_by_subtables
 turns_keep zero each xs n keeps bytes t h = h
 turns_keep (suc k) each xs n keeps bytes t h = choose (nat_lt (u16_in bytes 2) 6) xs n t _ h
-    (turns_keep k each xs n keeps (part_in bytes (u16_in bytes 2)) (each bytes t) (keeps bytes t h))
+    (turns_keep k each xs n keeps (table_at bytes (u16_in bytes 2)) (each bytes t) (keeps bytes t h))
 
 -- a text that is turned around, changed, and turned back
 abbrev turned_if : Bool → PlacedText → PlacedText
@@ -90,9 +90,9 @@ text_keeps : (table : List ℕ) (mask : ℕ) (d : Direction) (xs : Glyphs) (n : 
     IsLike xs n (kerned_text table mask d t)
 unfolding kerned_text
 text_keeps table mask d xs n t h = choose (u16_in table 0 == 0) xs n _ t
-    (turned_keeps (is_backward d) (kerned_in_turn (u16_in table 2) (kerned_by mask d) (part_in table 4))
+    (turned_keeps (is_backward d) (kerned_by_subtables (u16_in table 2) (kerned_by mask d) (table_at table 4))
     (λ ys m u g. turns_keep (u16_in table 2) (kerned_by mask d) ys m (λ bytes v k. by_keeps mask d bytes ys m v k)
-    (part_in table 4) u g) xs n t h) h
+    (table_at table 4) u g) xs n t h) h
 
 concat_bits : (g : Glyph) → without_its_flags (with_bits 2 g) ≡ without_its_flags g
 concat_bits g = ap (λ (m : ℕ). (record g { mask = m })) (without_flags-or g.mask 2 refl)

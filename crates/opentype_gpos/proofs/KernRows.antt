@@ -8,10 +8,10 @@ use Rattle.opentype_face.specs.Ranges.{bisect}
 use Rattle.opentype_layout.specs.Sight.{ignores, may_pass, next_from, seen_as}
 use Rattle.opentype_gpos.specs.Finished.{let_go}
 use Rattle.opentype_gpos.specs.Joined.{with_across}
-use Rattle.opentype_gpos.specs.Kerned.{PlacedText, in_one_line, kern_class, kern_half, kern_rest, kern_stepped, kern_value, kern_whole, kerned_along, kerned_by, kerned_in_turn, kerned_text, pair_kerned, value_of_pair, with_half, with_rest}
+use Rattle.opentype_gpos.specs.Kerned.{PlacedText, in_one_line, kern_class, kern_half, kern_rest, kern_stepped, kern_value, kern_whole, kerned_along, kerned_by, kerned_by_subtables, kerned_text, pair_kerned, value_of_pair, with_half, with_rest}
 use Rattle.opentype_gpos.specs.Moved.{Positions, flagged_up_to}
 use Rattle.opentype_gpos.specs.Nearby.{any_seen}
-use Rattle.opentype_gpos.specs.Walked.{walked}
+use Rattle.opentype_gpos.specs.Along.{applied_along}
 
 -- format 0, for horizontal lines: glyphs 5 and 6 come 31 units nearer, 6 and 7 four farther
 abbrev listed : ℕ → List ℕ
@@ -26,9 +26,9 @@ listed-last : kern_value (listed 1) 6 7 ≡ 4
 unfolding kern_value value_of_pair bisect
 listed-last = refl
 
-listed-turned : kern_value (listed 1) 6 5 ≡ 0
+listed-reversed : kern_value (listed 1) 6 5 ≡ 0
 unfolding kern_value value_of_pair bisect
-listed-turned = refl
+listed-reversed = refl
 
 listed-none : kern_value (listed 1) 5 7 ≡ 0
 unfolding kern_value value_of_pair bisect
@@ -120,39 +120,39 @@ placed gs ps = record { glyphs = gs; positions = ps }
 over_mark : kerned_text (table (listed 1)) 16 LeftToRight (placed (glyph 5 0 ∷ mark 9 1 ∷ glyph 6 2 ∷ []) (wide ∷ wide ∷ wide ∷ []))
     ≡ placed (glyph 5 0 ∷ bound_mark 9 1 ∷ bound 6 2 ∷ [])
     (record wide { x_advance = pos 484 } ∷ wide ∷ record wide { x_advance = pos 485; x_offset = negsuc 14 } ∷ [])
-unfolding kerned_text kerned_in_turn kerned_by kerned_along walked kern_stepped kern_value value_of_pair bisect any_seen seen_as ignores may_pass next_from pair_kerned with_half with_rest flagged_up_to
+unfolding kerned_text kerned_by_subtables kerned_by kerned_along applied_along kern_stepped kern_value value_of_pair bisect any_seen seen_as ignores may_pass next_from pair_kerned with_half with_rest flagged_up_to
 over_mark = refl
 
 -- Backward text is drawn from its end on: glyph 5 behind glyph 6 is the left one.
 from_right : kerned_text (table (listed 1)) 16 RightToLeft (placed (glyph 6 0 ∷ glyph 5 1 ∷ []) (wide ∷ wide ∷ []))
     ≡ placed (glyph 6 0 ∷ bound 5 1 ∷ [])
     (record wide { x_advance = pos 485; x_offset = negsuc 14 } ∷ record wide { x_advance = pos 484 } ∷ [])
-unfolding kerned_text kerned_in_turn kerned_by kerned_along walked kern_stepped kern_value value_of_pair bisect any_seen seen_as ignores may_pass next_from pair_kerned with_half with_rest flagged_up_to
+unfolding kerned_text kerned_by_subtables kerned_by kerned_along applied_along kern_stepped kern_value value_of_pair bisect any_seen seen_as ignores may_pass next_from pair_kerned with_half with_rest flagged_up_to
 from_right = refl
 
 -- not so without the feature, whichever of the two has none
 first_off : kerned_text (table (listed 1)) 16 LeftToRight
     (placed (record (glyph 5 0) { mask = 8 } ∷ glyph 6 1 ∷ []) (wide ∷ wide ∷ []))
     ≡ placed (record (glyph 5 0) { mask = 8 } ∷ glyph 6 1 ∷ []) (wide ∷ wide ∷ [])
-unfolding kerned_text kerned_in_turn kerned_by kerned_along walked kern_stepped kern_value value_of_pair bisect any_seen seen_as ignores may_pass next_from pair_kerned with_half with_rest flagged_up_to
+unfolding kerned_text kerned_by_subtables kerned_by kerned_along applied_along kern_stepped kern_value value_of_pair bisect any_seen seen_as ignores may_pass next_from pair_kerned with_half with_rest flagged_up_to
 first_off = refl
 
 second_off : kerned_text (table (listed 1)) 16 LeftToRight
     (placed (glyph 5 0 ∷ record (glyph 6 1) { mask = 8 } ∷ []) (wide ∷ wide ∷ []))
     ≡ placed (glyph 5 0 ∷ record (glyph 6 1) { mask = 8 } ∷ []) (wide ∷ wide ∷ [])
-unfolding kerned_text kerned_in_turn kerned_by kerned_along walked kern_stepped kern_value value_of_pair bisect any_seen seen_as ignores may_pass next_from pair_kerned with_half with_rest flagged_up_to
+unfolding kerned_text kerned_by_subtables kerned_by kerned_along applied_along kern_stepped kern_value value_of_pair bisect any_seen seen_as ignores may_pass next_from pair_kerned with_half with_rest flagged_up_to
 second_off = refl
 
 -- downwards a subtable for horizontal lines does nothing, and one for others does
 not_upright : kerned_text (table (listed 1)) 16 TopToBottom (placed (glyph 5 0 ∷ glyph 6 1 ∷ []) (wide ∷ wide ∷ []))
     ≡ placed (glyph 5 0 ∷ glyph 6 1 ∷ []) (wide ∷ wide ∷ [])
-unfolding kerned_text kerned_in_turn kerned_by
+unfolding kerned_text kerned_by_subtables kerned_by
 not_upright = refl
 
 upright : kerned_text (table (listed 0)) 16 TopToBottom (placed (glyph 5 0 ∷ glyph 6 1 ∷ []) (wide ∷ wide ∷ []))
     ≡ placed (glyph 5 0 ∷ bound 6 1 ∷ [])
     (record wide { y_advance = pos 684 } ∷ record wide { y_advance = pos 685; y_offset = negsuc 14 } ∷ [])
-unfolding kerned_text kerned_in_turn kerned_by kerned_along walked kern_stepped kern_value value_of_pair bisect any_seen seen_as ignores may_pass next_from pair_kerned with_half with_rest flagged_up_to
+unfolding kerned_text kerned_by_subtables kerned_by kerned_along applied_along kern_stepped kern_value value_of_pair bisect any_seen seen_as ignores may_pass next_from pair_kerned with_half with_rest flagged_up_to
 upright = refl
 
 -- across the line: each glyph is attached to the one drawn before it, 65535 is -1; of three bits Minimum and Override
@@ -160,13 +160,13 @@ upright = refl
 across : kerned_text (table (listed 15)) 16 LeftToRight (placed (glyph 5 0 ∷ glyph 6 1 ∷ []) (wide ∷ wide ∷ []))
     ≡ placed (glyph 5 0 ∷ bound 6 1 ∷ [])
     (record wide { var = 131072 } ∷ record wide { y_offset = negsuc 30; var = 196607 } ∷ [])
-unfolding kerned_text kerned_in_turn kerned_by kerned_along in_one_line let_go walked kern_stepped kern_value value_of_pair bisect any_seen seen_as ignores may_pass next_from pair_kerned with_across flagged_up_to
+unfolding kerned_text kerned_by_subtables kerned_by kerned_along in_one_line let_go applied_along kern_stepped kern_value value_of_pair bisect any_seen seen_as ignores may_pass next_from pair_kerned with_across flagged_up_to
 across = refl
 
 across_from_right : kerned_text (table (listed 5)) 16 RightToLeft (placed (glyph 6 0 ∷ glyph 5 1 ∷ []) (wide ∷ wide ∷ []))
     ≡ placed (glyph 6 0 ∷ bound 5 1 ∷ [])
     (record wide { y_offset = negsuc 30; var = 131073 } ∷ record wide { var = 131072 } ∷ [])
-unfolding kerned_text kerned_in_turn kerned_by kerned_along in_one_line let_go walked kern_stepped kern_value value_of_pair bisect any_seen seen_as ignores may_pass next_from pair_kerned with_across flagged_up_to
+unfolding kerned_text kerned_by_subtables kerned_by kerned_along in_one_line let_go applied_along kern_stepped kern_value value_of_pair bisect any_seen seen_as ignores may_pass next_from pair_kerned with_across flagged_up_to
 across_from_right = refl
 
 -- a subtable of format 3, which says nothing, and then one with 4 units for glyphs 6 and 7; one shorter than its header
@@ -176,12 +176,12 @@ two_tables len = (0 ∷ 0 ∷ 0 ∷ 2 ∷ 0 ∷ 0 ∷ 0 ∷ len ∷ 3 ∷ 1 ∷ 
 
 second_table : kerned_text (two_tables 6) 16 LeftToRight (placed (glyph 6 0 ∷ glyph 7 1 ∷ []) (wide ∷ wide ∷ []))
     ≡ placed (glyph 6 0 ∷ bound 7 1 ∷ []) (record wide { x_advance = pos 502 } ∷ record wide { x_advance = pos 502; x_offset = pos 2 } ∷ [])
-unfolding kerned_text kerned_in_turn kerned_by kerned_along walked kern_stepped kern_value value_of_pair bisect any_seen seen_as ignores may_pass next_from pair_kerned with_half with_rest flagged_up_to
+unfolding kerned_text kerned_by_subtables kerned_by kerned_along applied_along kern_stepped kern_value value_of_pair bisect any_seen seen_as ignores may_pass next_from pair_kerned with_half with_rest flagged_up_to
 second_table = refl
 
 short_table : kerned_text (two_tables 5) 16 LeftToRight (placed (glyph 6 0 ∷ glyph 7 1 ∷ []) (wide ∷ wide ∷ []))
     ≡ placed (glyph 6 0 ∷ glyph 7 1 ∷ []) (wide ∷ wide ∷ [])
-unfolding kerned_text kerned_in_turn
+unfolding kerned_text kerned_by_subtables
 short_table = refl
 
 -- version 1 isn't read

@@ -7,7 +7,7 @@ use Rattle.shapers_buffer.specs.declared.buffer.glyph.GlyphPosition.{GlyphPositi
 use Rattle.shapers_buffer.specs.declared.buffer.level.Direction.{Direction}
 use Rattle.shapers_buffer.specs.declared.buffer.level.Direction.TheVariants.{LeftToRight, RightToLeft, TopToBottom}
 use Rattle.opentype_gpos.specs.Fallback.{MarkFont, at_class, at_component, brought_back, glyph_around, mark_class, mark_upon, marks_around, marks_stepped, marks_without_box, placed_around, upon_box, without_box}
-use Rattle.opentype_gpos.specs.MarkBoxes.{across_place, part_of_box, placed_above, placed_below, upright_place}
+use Rattle.opentype_gpos.specs.MarkBoxes.{across_place, component_box, placed_above, placed_below, upright_place}
 use Rattle.opentype_gpos.specs.Moved.{flagged_up_to}
 use Rattle.opentype_gpos.specs.declared.mark_boxes.GlyphBox.{GlyphBox}
 
@@ -107,16 +107,16 @@ unfolding upright_place
 stays = refl
 
 -- ---- parts of a ligature of three components, 600 wide
-first_part : part_of_box false 3 1 base ≡ box (pos 0) (pos 700) (pos 200) (negsuc 699)
-unfolding part_of_box
+first_part : component_box false 3 1 base ≡ box (pos 0) (pos 700) (pos 200) (negsuc 699)
+unfolding component_box
 first_part = refl
 
-last_part : part_of_box false 3 3 base ≡ box (pos 400) (pos 700) (pos 200) (negsuc 699)
-unfolding part_of_box
+last_part : component_box false 3 3 base ≡ box (pos 400) (pos 700) (pos 200) (negsuc 699)
+unfolding component_box
 last_part = refl
 
-first_from_right : part_of_box true 3 1 base ≡ box (pos 400) (pos 700) (pos 200) (negsuc 699)
-unfolding part_of_box
+first_from_right : component_box true 3 1 base ≡ box (pos 400) (pos 700) (pos 200) (negsuc 699)
+unfolding component_box
 first_from_right = refl
 
 -- ---- classes: the lists' ends and what stands beside them
@@ -312,7 +312,7 @@ no_base_box_backwards : marks_stepped (font RightToLeft) (record (letter 0) { gl
 unfolding marks_stepped general_category flagged_up_to placed_around marks_without_box without_box
 no_base_box_backwards = refl
 
--- marks that open a text have no base
+-- marks that begin a text have no base
 no_base : marks_stepped (font LeftToRight) (sign 20 0 ∷ sign 20 1 ∷ []) (narrow ∷ narrow ∷ []) 0
     ≡ record { glyphs = sign 20 0 ∷ sign 20 1 ∷ []; positions = narrow ∷ narrow ∷ []; next = 2 }
 unfolding marks_stepped general_category

@@ -10,7 +10,7 @@ use Rattle.opentype_gpos.specs.Called.{Work, lookup_made, made_of, record_made, 
 use Rattle.opentype_gpos.specs.Coming.{Setting, came_in, sights_in}
 use Rattle.opentype_gpos.specs.Making.{moved}
 use Rattle.opentype_gpos.specs.Moved.{Positions, Progress, flagged_up_to}
-use Rattle.opentype_gpos.specs.Walked.{position_stepped, positioned, setting_for, stepped_by, walked}
+use Rattle.opentype_gpos.specs.Along.{position_stepped, positioned, setting_for, stepped_by, applied_along}
 use Rattle.opentype_gpos.specs.declared.moves.Move.{Move}
 use Rattle.opentype_gpos.specs.declared.pass.Sights.{Sights}
 
@@ -99,8 +99,8 @@ step_keeps s P k sights lookup gs ps at h =
 
 pub walk_keeps : (n : ℕ) (P : Glyphs → Positions → Type 0) (f : Glyphs → Positions → ℕ → Progress) →
     ((gs : Glyphs) (ps : Positions) (at : ℕ) → P gs ps → Stays P (f gs ps at)) →
-    (gs : Glyphs) (ps : Positions) (at : ℕ) → P gs ps → Stays P (walked n f gs ps at)
-unfolding walked
+    (gs : Glyphs) (ps : Positions) (at : ℕ) → P gs ps → Stays P (applied_along n f gs ps at)
+unfolding applied_along
 walk_keeps zero P f each gs ps at h = h
 walk_keeps (suc n) P f each gs ps at h = choose_step (nat_lt at (length gs)) P _ _
     (walk_keeps n P f each (f gs ps at).glyphs (f gs ps at).positions (f gs ps at).next (each gs ps at h)) h

@@ -4,7 +4,7 @@ use Rattle.shapers_buffer.specs.Glyph.{default_glyph}
 use Rattle.shapers_buffer.specs.Glyphs.{Glyph}
 use Rattle.shapers_buffer.specs.declared.buffer.glyph.GlyphPosition.{GlyphPosition}
 use Rattle.shapers_buffer.specs.declared.buffer.level.Direction.TheVariants.{LeftToRight, RightToLeft}
-use Rattle.opentype_face.specs.Bytes.{part_in}
+use Rattle.opentype_face.specs.Bytes.{table_at}
 use Rattle.opentype_face.specs.Ranges.{bisect}
 use Rattle.opentype_gpos.specs.Anchors.{component_point, ligature_point, ligature_points_by, ligature_points_in, points_by, points_in}
 use Rattle.opentype_gpos.specs.Finished.{finished_from, chain_followed, hung_on, joined_to, let_go, link_at, pen_along, pen_behind, pen_between, placed_on, target_in}
@@ -36,7 +36,7 @@ single_none : single_in narrower 6 ≡ None
 unfolding bisect
 single_none = refl
 
-single_value : value_in (part_in narrower 6) 0 4 ≡ value (pos 0) (pos 0) (negsuc 9) (pos 0)
+single_value : value_in (table_at narrower 6) 0 4 ≡ value (pos 0) (pos 0) (negsuc 9) (pos 0)
 single_value = refl
 
 -- format 2: glyphs 5 and 6 have each a value of x placement and y advance
@@ -48,7 +48,7 @@ second_place : single_in each_own 6 ≡ Some 12
 unfolding bisect
 second_place = refl
 
-second_value : value_in (part_in each_own 12) 0 9 ≡ value (pos 3) (pos 0) (pos 0) (pos 4)
+second_value : value_in (table_at each_own 12) 0 9 ≡ value (pos 3) (pos 0) (pos 0) (pos 4)
 second_value = refl
 
 -- each bit of a format is two bytes
@@ -73,7 +73,7 @@ pair_none : pair_in nearer 7 5 ≡ None
 unfolding bisect
 pair_none = refl
 
-pair_value : value_in (part_in nearer 16) 0 4 ≡ value (pos 0) (pos 0) (negsuc 29) (pos 0)
+pair_value : value_in (table_at nearer 16) 0 4 ≡ value (pos 0) (pos 0) (negsuc 29) (pos 0)
 pair_value = refl
 
 -- a pair that code found the place of: glyph 7 stands at place 3, and has no value of its own

@@ -5,7 +5,7 @@ use Rattle.std.proofs.lemmas.Bool.Decides.{nat_tests}
 use Rattle.std.proofs.lemmas.Grind.{common_steps}
 use Rattle.shapers_buffer.specs.Buffer.{Buffer}
 use Rattle.shapers_buffer.specs.Glyphs.{Glyphs}
-use Rattle.opentype_face.specs.Bytes.{u16_in, part_in}
+use Rattle.opentype_face.specs.Bytes.{u16_in, table_at}
 use Rattle.opentype_face.specs.Firsts.{first_from}
 use Rattle.opentype_face.specs.Glyphs.{coverage_in}
 use Rattle.opentype_face.specs.Lookups.{lookup_in, subtable_in, type_in}
@@ -20,7 +20,7 @@ use Rattle.opentype_gpos.specs.Anchors.{joint_in}
 use Rattle.opentype_gpos.specs.Coming.{Setting, came, came_in, nth_came, sights_in}
 use Rattle.opentype_gpos.specs.Moved.{Positions, Progress}
 use Rattle.opentype_gpos.specs.Moves.{base_move, covered_by, cursive_move, ligature_move, mark_move, number_at, one_move, pair_move, single_move}
-use Rattle.opentype_gpos.specs.Walked.{passed, position_stepped, positioned, setting_for, stepped_by}
+use Rattle.opentype_gpos.specs.Along.{passed, position_stepped, positioned, setting_for, stepped_by}
 use Rattle.opentype_gpos.specs.declared.coming.Came.{Came}
 use Rattle.opentype_gpos.specs.declared.pass.Sights.{Sights}
 use Rattle.opentype_gpos.proofs.Walks.{IsWalked, glyphs_out, positions_out, walked_next, walked_start}
@@ -54,15 +54,15 @@ not_started false i e = refl
 
 uncovered : (lookup : List ℕ) (glyph i at : ℕ) → starting true lookup glyph i ≡ None →
     starts_at true (type_in 9 lookup i) (subtable_in 9 lookup i) ≡ at →
-    coverage_in (part_in (subtable_in 9 lookup i) (u16_in (subtable_in 9 lookup i) at)) glyph ≡ None
+    coverage_in (table_at (subtable_in 9 lookup i) (u16_in (subtable_in 9 lookup i) at)) glyph ≡ None
 unfolding starting
 uncovered lookup glyph i at none e =
     let bytes = subtable_in 9 lookup i in
-    is_none _ (subst (λ n. is_some (coverage_in (part_in bytes (u16_in bytes n)) glyph) ≡ false) e (not_started _ i none))
+    is_none _ (subst (λ n. is_some (coverage_in (table_at bytes (u16_in bytes n)) glyph) ≡ false) e (not_started _ i none))
 
 -- ---- and does nothing there
 
-no_joint : (bytes : List ℕ) (side glyph : ℕ) → coverage_in (part_in bytes (u16_in bytes 2)) glyph ≡ None →
+no_joint : (bytes : List ℕ) (side glyph : ℕ) → coverage_in (table_at bytes (u16_in bytes 2)) glyph ≡ None →
     joint_in bytes side glyph ≡ None
 unfolding joint_in
 no_joint bytes side glyph e = none_if (u16_in bytes 0 == 1) _ None (λ t. none_then _ _ e) (λ t. refl)

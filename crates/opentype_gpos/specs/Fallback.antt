@@ -10,17 +10,17 @@ use Rattle.shapers_buffer.specs.declared.buffer.glyph.GlyphPosition.{GlyphPositi
 use Rattle.shapers_buffer.specs.declared.buffer.level.Direction.{Direction}
 use Rattle.opentype_layout.specs.Text.{glyph_at}
 use Rattle.opentype_gpos.specs.Finished.{is_backward}
-use Rattle.opentype_gpos.specs.MarkBoxes.{across_place, part_of_box, upright_place}
+use Rattle.opentype_gpos.specs.MarkBoxes.{across_place, component_box, upright_place}
 use Rattle.opentype_gpos.specs.Moved.{Positions, Progress, flagged_up_to, minus, plus, position_at}
 use Rattle.opentype_gpos.specs.Nearby.{ligature_id}
-use Rattle.opentype_gpos.specs.Walked.{walked}
+use Rattle.opentype_gpos.specs.Along.{applied_along}
 use Rattle.opentype_gpos.specs.declared.fallback.Around.{Around}
 use Rattle.opentype_gpos.specs.declared.fallback.PenWay.{PenWay}
 use Rattle.opentype_gpos.specs.declared.fallback.MarkSettings.{MarkSettings}
 use Rattle.opentype_gpos.specs.declared.mark_boxes.GlyphBox.{GlyphBox}
 
 -- What marks are placed by: the boxes of glyphs and their advances, the gap between a mark and its
--- base, the direction of the line, and whether the script runs from right to left.
+-- base, the direction of the line, and whether the script goes from right to left.
 pub record MarkFont : Type 0 where
   pub box : ℕ → Option GlyphBox
   pub advance : ℕ → ℤ
@@ -58,11 +58,11 @@ at_component from_right base box mark a =
     else record a {
       component = it;
       class = 255;
-      part = part_of_box from_right (components_of base) it box;
+      table_at = component_box from_right (components_of base) it box;
     }
 
 unfoldable pub at_class : ℕ → Around → Around
-at_class class a = if class == a.class then a else record a { class = class; rest = a.part }
+at_class class a = if class == a.class then a else record a { class = class; rest = a.table_at }
 
 -- without an advance, and as far back as the pen has come
 unfoldable pub brought_back : Around → GlyphPosition → GlyphPosition
@@ -156,7 +156,7 @@ first_around direction box p = record {
   pen = first_pen direction p;
   component = 0;
   class = 255;
-  part = box;
+  table_at = box;
   rest = box;
 }
 
@@ -195,7 +195,7 @@ marks_stepped f gs ps at =
 
 unfoldable pub marks_placed : MarkFont → Buffer → Buffer
 marks_placed f b =
-    let end = walked (length b.glyphs) (marks_stepped f) b.glyphs b.positions 0 in
+    let end = applied_along (length b.glyphs) (marks_stepped f) b.glyphs b.positions 0 in
     record b { glyphs = end.glyphs; positions = end.positions }
 
 -- ---- classes of marks

@@ -90,8 +90,8 @@ placed_on direction link ps = if nat_lt link.at (length ps) && nat_lt link.to (l
 -- A glyph and its chain of attachments: the glyph that it is attached to moves first, at most so
 -- many in a row. Each is attached no longer then.
 abbrev pub on_link : Direction → Positions → (ℕ → Positions) → Option Attachment → Positions
-on_link direction ps settled None = ps
-on_link direction ps settled (Some link) = placed_on direction link (settled link.to)
+on_link direction ps attached_moved None = ps
+on_link direction ps attached_moved (Some link) = placed_on direction link (attached_moved link.to)
 
 unfoldable pub chain_followed : ℕ → Direction → Positions → ℕ → Positions
 chain_followed zero direction ps at = let_go ps at
@@ -100,9 +100,10 @@ chain_followed (suc n) direction ps at =
     ps at)
 
 -- the glyphs of these attachments, the last one first
-unfoldable pub settled : Direction → List Attachment → Positions → Positions
-settled direction [] ps = ps
-settled direction (link ∷ links) ps = placed_on direction link (settled direction links ps)
+unfoldable pub attached_moved : Direction → List Attachment → Positions → Positions
+attached_moved direction [] ps = ps
+attached_moved direction (link ∷ links) ps =
+    placed_on direction link (attached_moved direction links ps)
 
 -- all glyphs in the order in which they are drawn
 abbrev pub drawn_place : Bool → ℕ → ℕ → ℕ

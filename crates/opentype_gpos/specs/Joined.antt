@@ -4,7 +4,7 @@ use Rattle.shapers_buffer.specs.Glyphs.{Glyphs}
 use Rattle.shapers_buffer.specs.declared.buffer.glyph.GlyphPosition.{GlyphPosition}
 use Rattle.shapers_buffer.specs.declared.buffer.level.Direction.{Direction}
 use Rattle.opentype_gpos.specs.Finished.{is_backward, let_go, target_in}
-use Rattle.opentype_gpos.specs.Moved.{Positions, Progress, detached, flagged_up_to, is_vertical, kept_attachment, minus, plus, position_at}
+use Rattle.opentype_gpos.specs.Moved.{Positions, Progress, detached, flagged_up_to, is_vertical, stored_attachment, minus, plus, position_at}
 use Rattle.opentype_gpos.specs.declared.anchors.Point.{Point}
 use Rattle.opentype_gpos.specs.declared.moves.CursiveMove.{CursiveMove}
 
@@ -51,9 +51,9 @@ between vertical a b = if vertical then minus a.x b.x else minus a.y b.y
 -- what is kept of an attachment from one place to another; nothing where 16 bits don't tell it
 unfoldable pub line_var : ℕ → ℕ → ℕ
 line_var at to =
-    if nat_lt at to then (if nat_lt (to - at) 32768 then kept_attachment (to - at) 2 else 0)
-    else (if nat_lt to at && nat_le (at - to) 32768 then kept_attachment (65536 - (at - to)) 2 else
-    0)
+    if nat_lt at to then (if nat_lt (to - at) 32768 then stored_attachment (to - at) 2 else 0)
+    else (if nat_lt to at && nat_le (at - to) 32768
+    then stored_attachment (65536 - (at - to)) 2 else 0)
 
 -- the place that a glyph of a line is attached to, if that isn't this one
 abbrev pub other_than : ℕ → Option ℕ → Option ℕ
@@ -64,21 +64,22 @@ unfoldable pub next_in_line : ℕ → ℕ → ℕ → ℕ → Option ℕ
 next_in_line var at parent len =
     if var / 65536 % 256 == 2 then other_than parent (target_in var at len) else None
 
--- Where a glyph was attached to another already, the line from it on turns around: the other one is
+-- Where a glyph was attached to another already, the line from it on is reversed: the other one is
 -- attached to it, and so on, up to the new one; at most 64 glyphs (HarfBuzz,
 -- `reverse_cursive_minor_offset`).
-unfoldable pub turned_on : Bool → GlyphPosition → ℕ → ℕ → GlyphPosition → GlyphPosition
-turned_on vertical old at to p =
+unfoldable pub reversed_on : Bool → GlyphPosition → ℕ → ℕ → GlyphPosition → GlyphPosition
+reversed_on vertical old at to p =
     record (with_across vertical (minus (pos 0) (off_line vertical old)) p) { var = line_var to at }
 
-abbrev pub turn_to : Positions → (ℕ → Positions) → Option ℕ → Positions
-turn_to ps rest None = ps
-turn_to ps rest (Some to) = rest to
+abbrev pub reverse_to : Positions → (ℕ → Positions) → Option ℕ → Positions
+reverse_to ps rest None = ps
+reverse_to ps rest (Some to) = rest to
 
-unfoldable pub turned : ℕ → Bool → ℕ → Positions → ℕ → GlyphPosition → Positions
-turned zero vertical parent ps at old = ps
-turned (suc n) vertical parent ps at old = turn_to ps (λ to.
-    turned n vertical parent (slice_set ps to (turned_on vertical old at to (position_at ps to)))
+unfoldable pub reversed : ℕ → Bool → ℕ → Positions → ℕ → GlyphPosition → Positions
+reversed zero vertical parent ps at old = ps
+reversed (suc n) vertical parent ps at old = reverse_to ps (λ to.
+    reversed n vertical parent
+    (slice_set ps to (reversed_on vertical old at to (position_at ps to)))
     to (position_at ps to)) (next_in_line old.var at parent (length ps))
 
 -- where the other one was attached to the glyph, it is no longer: no line is a ring
@@ -99,7 +100,7 @@ hung vertical child parent off ps = if line_var child parent == 0 then let_go ps
 
 unfoldable pub cursive_linked : Bool → ℕ → ℕ → ℤ → Positions → Positions
 cursive_linked vertical child parent off ps =
-    hung vertical child parent off (turned 64 vertical parent ps child (position_at ps child))
+    hung vertical child parent off (reversed 64 vertical parent ps child (position_at ps child))
 
 unfoldable pub cursive_joined : Direction → CursiveMove → ℕ → Positions → Positions
 cursive_joined direction it at ps =

@@ -6,16 +6,16 @@ use Rattle.shapers_buffer.specs.GlyphFlags.{unsafe_to_concat_in}
 use Rattle.shapers_buffer.specs.Glyphs.{Glyphs}
 use Rattle.shapers_buffer.specs.declared.buffer.glyph.GlyphPosition.{GlyphPosition}
 use Rattle.shapers_buffer.specs.declared.buffer.level.Direction.{Direction}
-use Rattle.opentype_face.specs.Bytes.{part_in, u16_in, u32_in}
+use Rattle.opentype_face.specs.Bytes.{table_at, u16_in, u32_in}
 use Rattle.opentype_face.specs.Ranges.{bisect}
 use Rattle.opentype_layout.specs.Text.{glyph_at}
 use Rattle.opentype_layout.specs.declared.sight.Sight.{Sight}
 use Rattle.opentype_gpos.specs.Finished.{is_backward, let_go}
 use Rattle.opentype_gpos.specs.Joined.{with_across}
-use Rattle.opentype_gpos.specs.Moved.{Positions, Progress, flagged_up_to, is_vertical, kept_attachment, plus, position_at}
+use Rattle.opentype_gpos.specs.Moved.{Positions, Progress, flagged_up_to, is_vertical, stored_attachment, plus, position_at}
 use Rattle.opentype_gpos.specs.Moves.{number_at}
 use Rattle.opentype_gpos.specs.Nearby.{next_any}
-use Rattle.opentype_gpos.specs.Walked.{passed, walked}
+use Rattle.opentype_gpos.specs.Along.{passed, applied_along}
 
 -- ---- what a subtable says of a pair: two bytes, and 0 is nothing
 
@@ -54,8 +54,8 @@ unfoldable pub kern_value : List ℕ → ℕ → ℕ → ℕ
 kern_value bytes left right =
     if slice_index bytes 4 == 0 then value_of_pair bytes left right
     else (if slice_index bytes 4 == 2
-    then value_of_classes bytes (kern_class (part_in bytes (u16_in bytes 8)) left)
-    (kern_class (part_in bytes (u16_in bytes 10)) right) else 0)
+    then value_of_classes bytes (kern_class (table_at bytes (u16_in bytes 8)) left)
+    (kern_class (table_at bytes (u16_in bytes 10)) right) else 0)
 
 -- ---- what it makes of two positions
 
@@ -131,7 +131,7 @@ kern_stepped bytes mask vertical gs ps at =
 -- Where values are across the line, all glyphs are attached into one, each to the one that is drawn
 -- before it: `step` is how many places away that is, in 16 bits.
 abbrev pub with_step : ℕ → GlyphPosition → GlyphPosition
-with_step step p = record p { var = kept_attachment step 2 }
+with_step step p = record p { var = stored_attachment step 2 }
 
 unfoldable pub in_one_line : ℕ → Positions → Positions
 in_one_line step ps = let_go (map (with_step step) ps) 0
@@ -148,8 +148,8 @@ pub record PlacedText : Type 0 where
 unfoldable pub kerned_along : List ℕ → ℕ → Direction → PlacedText → PlacedText
 kerned_along bytes mask direction t =
     let ps = if is_across bytes then in_one_line (line_step direction) t.positions else t.positions
-    in let end = walked (length t.glyphs) (kern_stepped bytes mask (is_vertical direction)) t.glyphs
-    ps 0 in
+    in let end = applied_along (length t.glyphs)
+    (kern_stepped bytes mask (is_vertical direction)) t.glyphs ps 0 in
     record { glyphs = end.glyphs; positions = end.positions }
 
 -- Bit 1 of byte 5: it is for horizontal lines. A subtable for other lines does nothing.
@@ -162,11 +162,11 @@ kerned_by mask direction bytes t =
     if is_for direction bytes then kerned_along bytes mask direction t else t
 
 -- so many subtables, each with its length at byte 2; one shorter than its header is the last one
-unfoldable pub kerned_in_turn : ℕ → (List ℕ → PlacedText → PlacedText) → List ℕ → PlacedText →
+unfoldable pub kerned_by_subtables : ℕ → (List ℕ → PlacedText → PlacedText) → List ℕ → PlacedText →
     PlacedText
-kerned_in_turn zero each bytes t = t
-kerned_in_turn (suc n) each bytes t = if nat_lt (u16_in bytes 2) 6 then t
-    else kerned_in_turn n each (part_in bytes (u16_in bytes 2)) (each bytes t)
+kerned_by_subtables zero each bytes t = t
+kerned_by_subtables (suc n) each bytes t = if nat_lt (u16_in bytes 2) 6 then t
+    else kerned_by_subtables n each (table_at bytes (u16_in bytes 2)) (each bytes t)
 
 -- backward text as it is drawn
 abbrev pub as_drawn : Direction → PlacedText → PlacedText
@@ -177,8 +177,8 @@ as_drawn direction t = if is_backward direction
 unfoldable pub kerned_text : List ℕ → ℕ → Direction → PlacedText → PlacedText
 kerned_text table mask direction t =
     if u16_in table 0 == 0
-    then as_drawn direction (kerned_in_turn (u16_in table 2) (kerned_by mask direction) (part_in
-    table 4) (as_drawn direction t))
+    then as_drawn direction (kerned_by_subtables (u16_in table 2) (kerned_by mask direction)
+    (table_at table 4) (as_drawn direction t))
     else t
 
 -- No text can be joined there, where the buffer wants to know.

@@ -8,7 +8,7 @@ use Rattle.opentype_gpos.specs.Fallback.{MarkFont, marks_placed}
 use Rattle.opentype_gpos.specs.Finished.{finished, target_in}
 use Rattle.opentype_gpos.specs.Kerned.{kerned}
 use Rattle.opentype_gpos.specs.Moved.{Positions, position_at}
-use Rattle.opentype_gpos.specs.Walked.{positioned}
+use Rattle.opentype_gpos.specs.Along.{positioned}
 
 -- a glyph without its glyph flags
 abbrev pub without_its_flags : Glyph → Glyph

@@ -7,7 +7,7 @@ pub mod Making
 pub mod Coming
 pub mod Called
 pub mod CalledWalk
-pub mod Walked
+pub mod Along
 pub mod Kerned
 pub mod MarkBoxes
 pub mod Fallback

@@ -118,11 +118,11 @@ steps_before from_right count component =
     if from_right then minus (pos count) (pos component) else minus (pos component) (pos 1)
 
 -- where a component's part begins
-abbrev pub part_start : ℤ → ℕ → GlyphBox → ℤ
-part_start steps count box = plus box.x_bearing (int_div (times steps box.width) (pos count))
+abbrev pub component_start : ℤ → ℕ → GlyphBox → ℤ
+component_start steps count box = plus box.x_bearing (int_div (times steps box.width) (pos count))
 
-unfoldable pub part_of_box : Bool → ℕ → ℕ → GlyphBox → GlyphBox
-part_of_box from_right count component box = record box {
-  x_bearing = part_start (steps_before from_right count component) count box;
+unfoldable pub component_box : Bool → ℕ → ℕ → GlyphBox → GlyphBox
+component_box from_right count component box = record box {
+  x_bearing = component_start (steps_before from_right count component) count box;
   width = int_div box.width (pos count);
 }

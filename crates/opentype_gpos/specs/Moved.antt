@@ -24,7 +24,7 @@ pub record Progress : Type 0 where
   pub positions : Positions
   pub next : ℕ
 
--- whether a line runs from top to bottom, or upwards
+-- whether a line goes from top to bottom, or upwards
 abbrev pub is_vertical : Direction → Bool
 is_vertical TopToBottom = true
 is_vertical BottomToTop = true
@@ -98,8 +98,8 @@ pair_moved direction pair at gs ps =
 -- ATTACHMENTS, as HarfBuzz keeps them in `var`: in its low 16 bits how many places behind a glyph
 -- the one stands that it is attached to, below 0 for one before it, and above them in 8 bits how:
 -- 1 as a mark, 2 in a cursive line. 0 places is no attachment.
-abbrev pub kept_attachment : ℕ → ℕ → ℕ
-kept_attachment places kind = places + 65536 * kind
+abbrev pub stored_attachment : ℕ → ℕ → ℕ
+stored_attachment places kind = places + 65536 * kind
 
 abbrev pub detached : GlyphPosition → GlyphPosition
 detached p = record p { var = p.var / 65536 * 65536 }
@@ -112,7 +112,7 @@ with_mark_move mark at p =
     then record p {
       x_offset = mark.x;
       y_offset = mark.y;
-      var = kept_attachment (65536 - (at - mark.to)) 1;
+      var = stored_attachment (65536 - (at - mark.to)) 1;
     }
     else detached p
 

@@ -4,7 +4,7 @@ use Rattle.std.specs.Int.{saturate_to_bits}
 use Rattle.std.specs.Option.{option_and_then, option_map}
 use Rattle.shapers_buffer.specs.Glyphs.{Glyph, Glyphs}
 use Rattle.shapers_buffer.specs.Properties.{component, has_bit}
-use Rattle.opentype_face.specs.Bytes.{u16_in, part_in}
+use Rattle.opentype_face.specs.Bytes.{u16_in, table_at}
 use Rattle.opentype_face.specs.Glyphs.{coverage_in}
 use Rattle.opentype_layout.specs.Text.{glyph_at}
 use Rattle.opentype_layout.specs.declared.sight.Sight.{Sight}
@@ -22,7 +22,7 @@ number_at gs at = number_in (glyph_at gs at)
 
 -- the place of a glyph in the set whose offset stands so many bytes behind a subtable's start
 abbrev pub covered_by : List ℕ → ℕ → ℕ → Option ℕ
-covered_by bytes offset glyph = coverage_in (part_in bytes (u16_in bytes offset)) glyph
+covered_by bytes offset glyph = coverage_in (table_at bytes (u16_in bytes offset)) glyph
 
 -- whether a subtable is for a glyph
 abbrev pub is_first_in : List ℕ → Glyph → Bool
@@ -31,15 +31,15 @@ is_first_in bytes g = is_some (covered_by bytes 2 (number_in g))
 -- type 1: a value for the glyph
 unfoldable pub single_move : List ℕ → Glyphs → ℕ → Option Move
 single_move bytes gs at = option_map (λ place.
-    Adds (value_in (part_in bytes place) 0 (u16_in bytes 4)))
+    Adds (value_in (table_at bytes place) 0 (u16_in bytes 4)))
     (single_in bytes (number_at gs at))
 
 -- type 2: values for the glyph and the next one
 abbrev pub pair_values : List ℕ → ℕ → ℕ → Move
 pair_values bytes second place = Kerns (record {
   second = second;
-  first_value = value_in (part_in bytes place) 0 (u16_in bytes 4);
-  second_value = value_in (part_in bytes place) (size_of (u16_in bytes 4)) (u16_in bytes 6);
+  first_value = value_in (table_at bytes place) 0 (u16_in bytes 4);
+  second_value = value_in (table_at bytes place) (size_of (u16_in bytes 4)) (u16_in bytes 6);
   has_second = not (u16_in bytes 6 == 0);
 })
 
@@ -73,7 +73,7 @@ unfoldable pub base_move : List ℕ → Sight → List ℕ → Glyphs → ℕ �
 base_move gdef sight bytes gs at =
     if is_first_in bytes (glyph_at gs at)
     then option_and_then (attached_by bytes gs at)
-    (base_glyph_before gdef sight false (part_in bytes (u16_in bytes 4)) gs at) else None
+    (base_glyph_before gdef sight false (table_at bytes (u16_in bytes 4)) gs at) else None
 
 -- type 6: a mark upon another mark
 unfoldable pub mark_with : List ℕ → Glyphs → ℕ → ℕ → Option Move

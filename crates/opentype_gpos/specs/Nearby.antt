@@ -45,15 +45,16 @@ carries_on before g =
     && is_multiplied before.glyph_props && (ligature_id before == ligature_id g)
     && (component g.lig_props == component before.lig_props + 1)
 
-unfoldable pub is_later_part : Glyphs → ℕ → Bool
-is_later_part gs at = if at == 0 then false else carries_on (glyph_at gs (at - 1)) (glyph_at gs at)
+unfoldable pub is_later_multiple : Glyphs → ℕ → Bool
+is_later_multiple gs at =
+    if at == 0 then false else carries_on (glyph_at gs (at - 1)) (glyph_at gs at)
 
 -- The nearest glyph before a mark that is no mark itself; of glyphs that came in for one the
 -- first, but for those that are in a set. The mark of a ligature takes any.
 unfoldable pub is_base_at : List ℕ → Sight → Bool → List ℕ → Glyphs → ℕ → Bool
 is_base_at gdef sight any bases gs at =
     is_hit (any_seen gdef sight (glyph_at gs at))
-    && (any || not (is_later_part gs at) || is_some (coverage_in bases (number_in (glyph_at gs
+    && (any || not (is_later_multiple gs at) || is_some (coverage_in bases (number_in (glyph_at gs
     at))))
 
 unfoldable pub base_behind : List ℕ → Sight → Bool → List ℕ → Glyphs → ℕ → ℕ → Option ℕ

@@ -1,6 +1,6 @@
 -- What GPOS adds to positions: values of glyphs and of pairs.
 use Rattle.std.specs.Prelude.{ℕ, ℤ, pos, ◌+◌, ◌*◌, ◌/◌, ◌%◌, ◌==◌, ◌-ℤ◌, nat_lt, List, Option, None, Some, if◌then◌else◌}
-use Rattle.opentype_face.specs.Bytes.{u16_in, part_in}
+use Rattle.opentype_face.specs.Bytes.{u16_in, table_at}
 use Rattle.opentype_face.specs.Glyphs.{class_in, coverage_in, ranges_in}
 use Rattle.opentype_gpos.specs.declared.values.Value.{Value}
 
@@ -42,7 +42,7 @@ single_place bytes (Some i) =
     else None)
 
 abbrev pub single_in : List ℕ → ℕ → Option ℕ
-single_in bytes glyph = single_place bytes (coverage_in (part_in bytes (u16_in bytes 2)) glyph)
+single_in bytes glyph = single_place bytes (coverage_in (table_at bytes (u16_in bytes 2)) glyph)
 
 -- type 2: where the values of a pair stand, from the start of the subtable: behind the second
 -- glyph's number, in the set of the first one
@@ -54,8 +54,8 @@ pair_of set size (Some k) = Some (set + 4 + k * size)
 abbrev pub class_pair : List ℕ → ℕ → ℕ → Option ℕ
 class_pair bytes first second =
     let size = size_of (u16_in bytes 4) + size_of (u16_in bytes 6) in
-    let row = class_in (part_in bytes (u16_in bytes 8)) first in
-    let column = class_in (part_in bytes (u16_in bytes 10)) second in
+    let row = class_in (table_at bytes (u16_in bytes 8)) first in
+    let column = class_in (table_at bytes (u16_in bytes 10)) second in
     if nat_lt row (u16_in bytes 12) then
     (if nat_lt column (u16_in bytes 14) then
     Some (16 + (row * u16_in bytes 14 + column) * size) else None)
@@ -68,11 +68,11 @@ pair_place bytes first second (Some i) =
     if u16_in bytes 0 == 1 then
     (if nat_lt i (u16_in bytes 8) then
     (let offset = u16_in bytes (10 + i * 2) in
-    let set = part_in bytes offset in
+    let set = table_at bytes offset in
     pair_of offset (size + 2) (ranges_in set 2 2 (size + 2) (u16_in set 0) second))
     else None)
     else (if u16_in bytes 0 == 2 then class_pair bytes first second else None)
 
 abbrev pub pair_in : List ℕ → ℕ → ℕ → Option ℕ
 pair_in bytes first second =
-    pair_place bytes first second (coverage_in (part_in bytes (u16_in bytes 2)) first)
+    pair_place bytes first second (coverage_in (table_at bytes (u16_in bytes 2)) first)

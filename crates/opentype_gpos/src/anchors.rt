@@ -3,7 +3,7 @@ ghost use Rattle.std.specs.Prelude.{◌≡◌, ◌<◌, Some};
 ghost use Rattle.opentype_gpos.specs.Anchors.{base_point, component_point, joint_in, joint_point, ligature_point, ligature_points_by, point_in, points_by, row_of};
 
 use crate::values::i16_at;
-use opentype_face::bytes::{part, u16_at};
+use opentype_face::bytes::{table_at, u16_at};
 use opentype_face::glyph_sets::coverage;
 
 /// A point of a glyph, in font units.
@@ -38,7 +38,7 @@ fn of_numbers(
 {
     let class = u16_at(marks, 2 + mark as usize * 4);
     let cell = base as usize * usize::from(classes) + usize::from(class);
-    let anchor = part(bases, usize::from(u16_at(bases, 2 + cell * 2)));
+    let anchor = table_at(bases, usize::from(u16_at(bases, 2 + cell * 2)));
     if mark >= u32::from(u16_at(marks, 0))
         || base >= u32::from(u16_at(bases, 0))
         || class >= classes
@@ -46,7 +46,7 @@ fn of_numbers(
     {
         return None;
     }
-    let own = part(marks, usize::from(u16_at(marks, 4 + mark as usize * 4)));
+    let own = table_at(marks, usize::from(u16_at(marks, 4 + mark as usize * 4)));
     Some((point_at(anchor), point_at(own)))
 }
 
@@ -58,9 +58,9 @@ pub fn points(bytes: &[u8], mark: u32, base: u16) -> Option<(Point, Point)>
     if u16_at(bytes, 0) != 1 {
         return None;
     }
-    let base = coverage(part(bytes, usize::from(u16_at(bytes, 4))), base)?;
-    let marks = part(bytes, usize::from(u16_at(bytes, 8)));
-    let bases = part(bytes, usize::from(u16_at(bytes, 10)));
+    let base = coverage(table_at(bytes, usize::from(u16_at(bytes, 4))), base)?;
+    let marks = table_at(bytes, usize::from(u16_at(bytes, 8)));
+    let bases = table_at(bytes, usize::from(u16_at(bytes, 10)));
     of_numbers(marks, bases, u16_at(bytes, 6), mark, base)
 }
 
@@ -104,15 +104,15 @@ fn of_component(
 fn of_ligature(bytes: &[u8], component: u16, mark: u32, i: u32) -> Option<(Point, Point)>
     ensures { result ≡ ligature_point bytes.now component mark i }
 {
-    let ligatures = part(bytes, usize::from(u16_at(bytes, 10)));
+    let ligatures = table_at(bytes, usize::from(u16_at(bytes, 10)));
     if i >= u32::from(u16_at(ligatures, 0)) {
         return None;
     }
-    let ligature = part(
+    let ligature = table_at(
         ligatures,
         usize::from(u16_at(ligatures, 2 + i as usize * 2)),
     );
-    let marks = part(bytes, usize::from(u16_at(bytes, 8)));
+    let marks = table_at(bytes, usize::from(u16_at(bytes, 8)));
     of_component(marks, ligature, u16_at(bytes, 6), mark, component)
 }
 
@@ -130,7 +130,7 @@ pub fn ligature_points(
     if u16_at(bytes, 0) != 1 {
         return None;
     }
-    let ligature = coverage(part(bytes, usize::from(u16_at(bytes, 4))), ligature)?;
+    let ligature = coverage(table_at(bytes, usize::from(u16_at(bytes, 4))), ligature)?;
     of_ligature(bytes, component, mark, ligature)
 }
 
@@ -139,7 +139,7 @@ fn joint(bytes: &[u8], side: u16, i: u32) -> Option<Point>
     ensures { result ≡ joint_point bytes.now side i }
 {
     let place = 6 + i as usize * 4 + usize::from(side);
-    let anchor = part(bytes, usize::from(u16_at(bytes, place)));
+    let anchor = table_at(bytes, usize::from(u16_at(bytes, place)));
     if i >= u32::from(u16_at(bytes, 4)) || u16_at(anchor, 0) == 0 {
         return None;
     }
@@ -155,7 +155,7 @@ pub fn joint_of(bytes: &[u8], side: u16, glyph: u16) -> Option<Point>
     if u16_at(bytes, 0) != 1 {
         return None;
     }
-    match coverage(part(bytes, usize::from(u16_at(bytes, 2))), glyph) {
+    match coverage(table_at(bytes, usize::from(u16_at(bytes, 2))), glyph) {
         Some(i) => joint(bytes, side, i),
         None => None,
     }

@@ -3,11 +3,11 @@ ghost use Rattle.std.specs.Prelude.{ℕ, ◌≡◌, ◌<◌, ◌≤◌, ◌+◌,
 ghost use Rattle.opentype_gpos.specs.Moved.{position_at};
 ghost use Rattle.std.specs.List.{prefix_len};
 ghost use Rattle.opentype_gpos.specs.Fallback.{at_class, at_component, box_for_marks, brought_back, class_of_character, class_of_script, component_under, components_of, first_around, first_pen, glyph_around, mark_class, mark_font, mark_upon, marks_around, marks_character, marks_placed, marks_stepped, marks_without_box, pen_past, placed_around, stays_with_base, upon_box, with_offsets, without_box};
-ghost use Rattle.opentype_gpos.specs.Walked.{walked};
+ghost use Rattle.opentype_gpos.specs.Along.{applied_along};
 ghost use Rattle.opentype_layout.specs.Text.{glyph_at};
 
 use crate::finish::is_backward;
-use crate::mark_boxes::{GlyphBox, across_place, part_of_box, upright_place};
+use crate::mark_boxes::{GlyphBox, across_place, component_box, upright_place};
 use crate::moved::flag_up_to;
 use crate::nearby::ligature_number;
 use shapers_buffer::buffer::{
@@ -65,7 +65,7 @@ pub struct Around {
     /// Its class.
     pub class: u8,
     /// The box of that component.
-    pub part: GlyphBox,
+    pub table_at: GlyphBox,
     /// What is left of it for marks of that class.
     pub rest: GlyphBox,
 }
@@ -124,7 +124,7 @@ fn at_component(
     Around {
         component,
         class: 255,
-        part: part_of_box(from_right, count, component, whole),
+        table_at: component_box(from_right, count, component, whole),
         ..around
     }
 }
@@ -139,7 +139,7 @@ fn at_class(class: u8, around: Around) -> Around
     }
     Around {
         class,
-        rest: around.part,
+        rest: around.table_at,
         ..around
     }
 }
@@ -400,7 +400,7 @@ fn first_around(direction: Direction, whole: &GlyphBox, position: &GlyphPosition
         pen: first_pen(direction, position),
         component: 0,
         class: 255,
-        part: *whole,
+        table_at: *whole,
         rest: *whole,
     }
 }
@@ -466,9 +466,9 @@ fn follower_count(glyphs: &[hb_glyph_info_t]) -> usize
         .count()
 }
 
-// How many marks open a text.
+// How many marks begin a text.
 #[inline]
-fn opening_count(glyphs: &[hb_glyph_info_t]) -> usize
+fn leading_count(glyphs: &[hb_glyph_info_t]) -> usize
     ensures len { result ≡ prefix_len marks_character glyphs.now }
     ensures within { result ≤ length glyphs.now }
 {
@@ -491,7 +491,7 @@ fn step<M: MarkMetrics>(
         ≡ record { glyphs = glyphs.new; positions = positions.new; next = result } }
 {
     let end = at + 1 + follower_count(&glyphs[at + 1..]);
-    let base = at + opening_count(&glyphs[at..]);
+    let base = at + leading_count(&glyphs[at..]);
     if base < end {
         place_around(font, settings, glyphs, base, end, positions);
         flag_up_to(true, base, end - 1, glyphs);
@@ -500,7 +500,7 @@ fn step<M: MarkMetrics>(
 }
 
 // Places the marks of a text.
-fn walk<M: MarkMetrics>(
+fn place_along<M: MarkMetrics>(
     font: &M,
     settings: &MarkSettings,
     glyphs: &mut [hb_glyph_info_t],
@@ -508,10 +508,10 @@ fn walk<M: MarkMetrics>(
 )
     requires { length positions.old ≡ length glyphs.old }
     ensures glyphs { let f = mark_font (M.box_of font.now) (M.advance_of font.now) settings.now in
-        let end = walked (length glyphs.old) (marks_stepped f) glyphs.old positions.old 0 in
+        let end = applied_along (length glyphs.old) (marks_stepped f) glyphs.old positions.old 0 in
         glyphs.new ≡ end.glyphs }
     ensures positions { let f = mark_font (M.box_of font.now) (M.advance_of font.now) settings.now in
-        let end = walked (length glyphs.old) (marks_stepped f) glyphs.old positions.old 0 in
+        let end = applied_along (length glyphs.old) (marks_stepped f) glyphs.old positions.old 0 in
         positions.new ≡ end.positions }
 {
     let mut at = 0;
@@ -533,17 +533,17 @@ struct Placing<'a, M: MarkMetrics> {
 impl<'a, M: MarkMetrics> PositionedWalk for Placing<'a, M> {
     ghost use Rattle.std.specs.Prelude.{◌≡◌, length};
     ghost use Rattle.opentype_gpos.specs.Fallback.{mark_font, marks_stepped};
-    ghost use Rattle.opentype_gpos.specs.Walked.{walked};
+    ghost use Rattle.opentype_gpos.specs.Along.{applied_along};
 
     ghost can_walk = { λ w gs ps. length ps ≡ length gs };
 
     ghost walks = { λ w gs ps hs qs.
         let f = mark_font (M.box_of w.font.now) (M.advance_of w.font.now) w.settings in
-        let end = walked (length gs) (marks_stepped f) gs ps 0 in
+        let end = applied_along (length gs) (marks_stepped f) gs ps 0 in
         (hs ≡ end.glyphs) × (qs ≡ end.positions) };
 
     fn walk(&self, glyphs: &mut [hb_glyph_info_t], positions: &mut [GlyphPosition]) {
-        walk(self.font, &self.settings, glyphs, positions);
+        place_along(self.font, &self.settings, glyphs, positions);
     }
 }
 

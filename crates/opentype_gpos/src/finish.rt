@@ -1,7 +1,7 @@
 //! What attachments do behind the last lookup.
 ghost use Rattle.std.specs.Prelude.{◌≡◌, ◌<◌, ◌≤◌, ◌-◌, ◌%◌, ◌==◌, length, IfSome};
 ghost use Rattle.shapers_buffer.specs.declared.buffer.level.Direction.{Direction as TextDirection};
-ghost use Rattle.opentype_gpos.specs.Finished.{drawn_place, finished, finished_from, chain_followed, hung_on, is_backward, joined_to, let_go, link_at, pen_behind, pen_between, pen_from, placed_along, placed_on, settled, target_in};
+ghost use Rattle.opentype_gpos.specs.Finished.{drawn_place, finished, finished_from, chain_followed, hung_on, is_backward, joined_to, let_go, link_at, pen_behind, pen_between, pen_from, placed_along, placed_on, attached_moved, target_in};
 
 use crate::moved::is_vertical;
 use arrayvec::ArrayVec;
@@ -193,7 +193,7 @@ fn place_on(direction: Direction, link: &Attachment, positions: &mut [GlyphPosit
 // The attachments in a row from a glyph on. The glyphs aren't attached any longer.
 fn climb(start: usize, positions: &mut [GlyphPosition]) -> ArrayVec<Attachment, 64>
     requires { start < length positions.old }
-    ensures { (direction : TextDirection) → settled direction result.items positions.new
+    ensures { (direction : TextDirection) → attached_moved direction result.items positions.new
         ≡ chain_followed 64 direction positions.old start }
 {
     let mut links = ArrayVec::new();
@@ -214,8 +214,8 @@ fn climb(start: usize, positions: &mut [GlyphPosition]) -> ArrayVec<Attachment, 
 }
 
 // Moves the glyphs of these attachments, the last one first.
-fn settle(direction: Direction, links: &[Attachment], positions: &mut [GlyphPosition])
-    ensures { positions.new ≡ settled direction links.now positions.old }
+fn move_attached(direction: Direction, links: &[Attachment], positions: &mut [GlyphPosition])
+    ensures { positions.new ≡ attached_moved direction links.now positions.old }
 {
     for i in 0..links.len() {
         let link = links[links.len() - 1 - i];
@@ -237,7 +237,7 @@ fn follow_chain(direction: Direction, at: usize, positions: &mut [GlyphPosition]
     ensures { positions.new ≡ chain_followed 64 direction positions.old at }
 {
     let links = climb(at, positions);
-    settle(direction, links.as_slice(), positions);
+    move_attached(direction, links.as_slice(), positions);
 }
 
 // Moves a glyph behind those of its chain; mostly that is one glyph, which isn't attached itself.

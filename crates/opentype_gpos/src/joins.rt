@@ -1,7 +1,7 @@
 //! Cursive lines: what moves of type 3 make of positions.
 ghost use Rattle.std.specs.Prelude.{◌≡◌, ◌<◌, length, IfSome};
 ghost use Rattle.opentype_gpos.specs.Moved.{position_at};
-ghost use Rattle.opentype_gpos.specs.Joined.{aligned, beginning_at, begun, between, cursive_moved, ended, ending_at, hung, is_at, cursive_joined, line_var, cursive_linked, next_in_line, off_line, separated, turned, turned_on, with_across};
+ghost use Rattle.opentype_gpos.specs.Joined.{aligned, beginning_at, begun, between, cursive_moved, ended, ending_at, hung, is_at, cursive_joined, line_var, cursive_linked, next_in_line, off_line, separated, reversed, reversed_on, with_across};
 
 use crate::anchors::Point;
 use crate::finish::{is_backward, let_go, target};
@@ -158,15 +158,15 @@ fn next_in_line(var: u32, at: usize, parent: usize, len: usize) -> Option<usize>
 }
 
 #[inline]
-#[tactic(auto, unfolding(crate::specs::Joined::turned_on))]
-fn turned_on(
+#[tactic(auto, unfolding(crate::specs::Joined::reversed_on))]
+fn reversed_on(
     vertical: bool,
     old: &GlyphPosition,
     at: usize,
     to: usize,
     position: GlyphPosition,
 ) -> GlyphPosition
-    ensures { result ≡ turned_on vertical old.now at to position }
+    ensures { result ≡ reversed_on vertical old.now at to position }
 {
     let off = 0_i32.saturating_sub(off_line(vertical, old));
     let across = with_across(vertical, off, position);
@@ -176,11 +176,11 @@ fn turned_on(
     }
 }
 
-// Turns the line from a glyph on around, up to its new parent.
-fn turn(vertical: bool, parent: usize, start: usize, positions: &mut [GlyphPosition])
+// Reverses the line from a glyph on, up to its new parent.
+fn reverse_line(vertical: bool, parent: usize, start: usize, positions: &mut [GlyphPosition])
     requires { start < length positions.old }
     ensures { positions.new
-        ≡ turned 64 vertical parent positions.old start (position_at positions.old start) }
+        ≡ reversed 64 vertical parent positions.old start (position_at positions.old start) }
 {
     let mut at = start;
     let mut old = positions[start];
@@ -189,7 +189,7 @@ fn turn(vertical: bool, parent: usize, start: usize, positions: &mut [GlyphPosit
         match found {
             Some(to) => {
                 let next = positions[to];
-                positions[to] = turned_on(vertical, &old, at, to, next);
+                positions[to] = reversed_on(vertical, &old, at, to, next);
                 old = next;
                 at = to;
             }
@@ -245,7 +245,7 @@ fn link(vertical: bool, child: usize, parent: usize, off: i32, positions: &mut [
     requires parent { parent < length positions.old }
     ensures { positions.new ≡ cursive_linked vertical child parent off positions.old }
 {
-    turn(vertical, parent, child, positions);
+    reverse_line(vertical, parent, child, positions);
     hang(vertical, child, parent, off, positions);
 }
 

@@ -1,13 +1,13 @@
 //! Pairs of glyphs by the table `kern`.
 ghost use Rattle.std.specs.Prelude.{◌≡◌, ◌<◌, length, map, reverse};
-ghost use Rattle.opentype_gpos.specs.Kerned.{as_drawn, in_one_line, is_across, is_for, kern_class, kern_half, kern_rest, kern_sight, kern_stepped, kern_value, kern_whole, kerned, kerned_along, kerned_by, kerned_in_turn, kerned_text, line_step, pair_kerned, value_of_pair, with_half, with_rest, with_step};
-ghost use Rattle.opentype_gpos.specs.Walked.{walked};
+ghost use Rattle.opentype_gpos.specs.Kerned.{as_drawn, in_one_line, is_across, is_for, kern_class, kern_half, kern_rest, kern_sight, kern_stepped, kern_value, kern_whole, kerned, kerned_along, kerned_by, kerned_by_subtables, kerned_text, line_step, pair_kerned, value_of_pair, with_half, with_rest, with_step};
+ghost use Rattle.opentype_gpos.specs.Along.{applied_along};
 
 use crate::finish::{is_backward, let_go};
 use crate::joins::with_across;
 use crate::moved::{flag_up_to, is_vertical};
 use crate::nearby::{next_glyph, number};
-use opentype_face::bytes::{part, u8_at, u16_at};
+use opentype_face::bytes::{table_at, u8_at, u16_at};
 use opentype_face::ranges::Ranges;
 use opentype_layout::sight::Sight;
 use shapers_buffer::buffer::{
@@ -55,8 +55,8 @@ fn value(bytes: &[u8], left: u16, right: u16) -> u16
     match u8_at(bytes, 4) {
         0 => listed_value(bytes, left, right),
         2 => {
-            let left = class_of(part(bytes, usize::from(u16_at(bytes, 8))), left);
-            let right = class_of(part(bytes, usize::from(u16_at(bytes, 10))), right);
+            let left = class_of(table_at(bytes, usize::from(u16_at(bytes, 8))), left);
+            let right = class_of(table_at(bytes, usize::from(u16_at(bytes, 10))), right);
             let array = usize::from(u16_at(bytes, 12));
             match (left, right) {
                 (Some(left), Some(right)) => {
@@ -227,7 +227,7 @@ fn step(
 }
 
 // Moves pairs along a text.
-fn walk(
+fn move_pairs(
     bytes: &[u8],
     mask: u32,
     vertical: bool,
@@ -235,9 +235,9 @@ fn walk(
     positions: &mut [GlyphPosition],
 )
     requires { length positions.old ≡ length glyphs.old }
-    ensures glyphs { let end = walked (length glyphs.old) (kern_stepped bytes.now mask vertical)
+    ensures glyphs { let end = applied_along (length glyphs.old) (kern_stepped bytes.now mask vertical)
         glyphs.old positions.old 0 in glyphs.new ≡ end.glyphs }
-    ensures positions { let end = walked (length glyphs.old) (kern_stepped bytes.now mask vertical)
+    ensures positions { let end = applied_along (length glyphs.old) (kern_stepped bytes.now mask vertical)
         glyphs.old positions.old 0 in positions.new ≡ end.positions }
 {
     let mut at = 0;
@@ -296,7 +296,7 @@ fn kern_along(
     if is_across(bytes) {
         line_up(line_step(direction), positions);
     }
-    walk(bytes, mask, is_vertical(direction), glyphs, positions);
+    move_pairs(bytes, mask, is_vertical(direction), glyphs, positions);
 }
 
 // The same, if the subtable is for lines of this direction.
@@ -319,7 +319,7 @@ fn kern_by(
 }
 
 // The subtables, one after another.
-fn kern_in_turn(
+fn kern_by_subtables(
     count: u16,
     mask: u32,
     direction: Direction,
@@ -328,7 +328,7 @@ fn kern_in_turn(
     positions: &mut [GlyphPosition],
 )
     requires { length positions.old ≡ length glyphs.old }
-    ensures { kerned_in_turn count (kerned_by mask direction) bytes.now
+    ensures { kerned_by_subtables count (kerned_by mask direction) bytes.now
         (record { glyphs = glyphs.old; positions = positions.old })
         ≡ record { glyphs = glyphs.new; positions = positions.new } }
 {
@@ -339,13 +339,13 @@ fn kern_in_turn(
             return;
         }
         kern_by(mask, direction, bytes, glyphs, positions);
-        bytes = part(bytes, usize::from(len));
+        bytes = table_at(bytes, usize::from(len));
     }
 }
 
-// Turns a backward text around.
+// Reverses a backward text.
 #[inline]
-fn turn_backward(
+fn reverse_backward(
     direction: Direction,
     glyphs: &mut [hb_glyph_info_t],
     positions: &mut [GlyphPosition],
@@ -377,10 +377,10 @@ fn kern_text(
     if u16_at(table, 0) != 0 {
         return;
     }
-    turn_backward(direction, glyphs, positions);
-    let (count, bytes) = (u16_at(table, 2), part(table, 4));
-    kern_in_turn(count, mask, direction, bytes, glyphs, positions);
-    turn_backward(direction, glyphs, positions);
+    reverse_backward(direction, glyphs, positions);
+    let (count, bytes) = (u16_at(table, 2), table_at(table, 4));
+    kern_by_subtables(count, mask, direction, bytes, glyphs, positions);
+    reverse_backward(direction, glyphs, positions);
 }
 
 // A walk that moves pairs.

@@ -9,6 +9,7 @@
 #![tactic(auto)]
 
 pub mod anchors;
+pub mod apply_along;
 pub mod calling;
 pub mod coming;
 pub mod fallback;
@@ -23,4 +24,3 @@ pub mod moves;
 pub mod nearby;
 pub mod pass;
 pub mod values;
-pub mod walk;

@@ -1,6 +1,6 @@
 //! Where marks come in a font without GPOS, by their classes and the boxes of glyphs.
 ghost use Rattle.std.specs.Prelude.{◌≡◌, ◌<◌};
-ghost use Rattle.opentype_gpos.specs.MarkBoxes.{across_place, at_middle, between_letters, down_half, is_as_gap, part_of_box, part_start, placed_above, placed_below, steps_before, upon_edge, upright_place, with_above, with_below, with_gap_above, with_gap_below};
+ghost use Rattle.opentype_gpos.specs.MarkBoxes.{across_place, at_middle, between_letters, down_half, is_as_gap, component_box, component_start, placed_above, placed_below, steps_before, upon_edge, upright_place, with_above, with_below, with_gap_above, with_gap_below};
 
 use shapers_buffer::buffer::Direction;
 
@@ -197,21 +197,26 @@ fn steps_before(from_right: bool, count: u8, component: u8) -> i32
 }
 
 #[inline]
-fn part_start(steps: i32, count: u8, whole: &GlyphBox) -> i32
+fn component_start(steps: i32, count: u8, whole: &GlyphBox) -> i32
     requires { 0 < count }
-    ensures { result ≡ part_start steps count whole.now }
+    ensures { result ≡ component_start steps count whole.now }
 {
     let before = steps.saturating_mul(whole.width) / i32::from(count);
     whole.x_bearing.saturating_add(before)
 }
 
 /// The part of a ligature's box that one of its components has.
-#[tactic(auto, unfolding(crate::specs::MarkBoxes::part_of_box))]
-pub(crate) fn part_of_box(from_right: bool, count: u8, component: u8, whole: &GlyphBox) -> GlyphBox
+#[tactic(auto, unfolding(crate::specs::MarkBoxes::component_box))]
+pub(crate) fn component_box(
+    from_right: bool,
+    count: u8,
+    component: u8,
+    whole: &GlyphBox,
+) -> GlyphBox
     requires { 0 < count }
-    ensures { result ≡ part_of_box from_right count component whole.now }
+    ensures { result ≡ component_box from_right count component whole.now }
 {
-    let x_bearing = part_start(steps_before(from_right, count, component), count, whole);
+    let x_bearing = component_start(steps_before(from_right, count, component), count, whole);
     let width = whole.width / i32::from(count);
     GlyphBox {
         x_bearing,

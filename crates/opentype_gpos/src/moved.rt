@@ -6,7 +6,7 @@ use crate::moves::{MarkMove, PairMove};
 use crate::values::Value;
 use shapers_buffer::buffer::{Direction, GlyphPosition, hb_glyph_info_t, unsafe_to_break_in};
 
-/// Whether a line runs from top to bottom, or upwards.
+/// Whether a line goes from top to bottom, or upwards.
 #[inline]
 pub fn is_vertical(direction: Direction) -> bool
     ensures { result ≡ is_vertical direction }

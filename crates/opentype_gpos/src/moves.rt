@@ -13,7 +13,7 @@ use crate::nearby::{
     previous_glyph,
 };
 use crate::values::{Value, pair, pair_in_table, single, size, value_at};
-use opentype_face::bytes::{part, u16_at};
+use opentype_face::bytes::{table_at, u16_at};
 use opentype_face::glyph_sets::coverage;
 use opentype_layout::pair_tables::PairTable;
 use opentype_layout::sight::Sight;
@@ -86,7 +86,7 @@ fn single_of(bytes: &[u8], glyphs: &[hb_glyph_info_t], at: usize) -> Option<Move
     ensures { result ≡ single_move bytes.now glyphs.now at }
 {
     match single(bytes, number(&glyphs[at])) {
-        Some(place) => Some(Move::Adds(value_at(part(bytes, place), 0, u16_at(bytes, 4)))),
+        Some(place) => Some(Move::Adds(value_at(table_at(bytes, place), 0, u16_at(bytes, 4)))),
         None => None,
     }
 }
@@ -97,7 +97,7 @@ pub fn values_of(pair: &PairPlace<'_>) -> PairMove
     ensures second { result.second ≡ pair.now.second }
 {
     let (format, second_format) = (u16_at(pair.bytes, 4), u16_at(pair.bytes, 6));
-    let values = part(pair.bytes, pair.place);
+    let values = table_at(pair.bytes, pair.place);
     PairMove {
         second: pair.second,
         first_value: value_at(values, 0, format),
@@ -114,7 +114,7 @@ pub fn advance_of(pair: &PairPlace<'_>) -> PairMove
     ensures value { Kerns result ≡ pair_found pair.now }
     ensures second { result.second ≡ pair.now.second }
 {
-    let values = part(pair.bytes, pair.place);
+    let values = table_at(pair.bytes, pair.place);
     PairMove {
         second: pair.second,
         first_value: value_at(values, 0, 4),
@@ -128,7 +128,10 @@ pub fn advance_of(pair: &PairPlace<'_>) -> PairMove
 fn place_in_set(bytes: &[u8], glyph: &hb_glyph_info_t) -> Option<u32>
     ensures { result ≡ covered_by bytes.now 2 (number_in glyph.now) }
 {
-    coverage(part(bytes, usize::from(u16_at(bytes, 2))), number(glyph))
+    coverage(
+        table_at(bytes, usize::from(u16_at(bytes, 2))),
+        number(glyph),
+    )
 }
 
 // The values of a pair, by the place of the first glyph in the subtable's set.
@@ -254,7 +257,7 @@ fn mark_to_base(
     ensures { result ≡ base_move gdef.now sight.now bytes.now glyphs.now at }
 {
     let mark = place_in_set(bytes, &glyphs[at])?;
-    let bases = part(bytes, usize::from(u16_at(bytes, 4)));
+    let bases = table_at(bytes, usize::from(u16_at(bytes, 4)));
     match base_glyph(gdef, sight, false, bases, glyphs, at) {
         Some(base) => attached(bytes, mark, glyphs, base),
         None => None,

@@ -1,6 +1,6 @@
 //! The glyphs near another one that lookups look at.
 ghost use Rattle.std.specs.Prelude.{◌≡◌, ◌<◌, ◌≤◌, ℕ, List, Some, true, length, IfSome};
-ghost use Rattle.opentype_gpos.specs.Nearby.{any_seen, are_beside, base_glyph_before, base_behind, carries_on, glyphs_between, is_base_at, is_later_part, marks_glyph, is_whole_ligature, ligature_id, mark_sight, next_any, number_in, previous_any};
+ghost use Rattle.opentype_gpos.specs.Nearby.{any_seen, are_beside, base_glyph_before, base_behind, carries_on, glyphs_between, is_base_at, is_later_multiple, marks_glyph, is_whole_ligature, ligature_id, mark_sight, next_any, number_in, previous_any};
 ghost use Rattle.opentype_face.specs.Firsts.{first_from};
 
 use opentype_face::glyph_sets::coverage;
@@ -142,10 +142,10 @@ fn carries_on(before: &hb_glyph_info_t, glyph: &hb_glyph_info_t) -> bool
 
 // Whether a glyph is one that a lookup put in for another with more, and not the first.
 #[inline]
-#[tactic(auto, unfolding(crate::specs::Nearby::is_later_part))]
-fn is_later_part(glyphs: &[hb_glyph_info_t], at: usize) -> bool
+#[tactic(auto, unfolding(crate::specs::Nearby::is_later_multiple))]
+fn is_later_multiple(glyphs: &[hb_glyph_info_t], at: usize) -> bool
     requires { at < length glyphs.now }
-    ensures { result ≡ is_later_part glyphs.now at }
+    ensures { result ≡ is_later_multiple glyphs.now at }
 {
     if at == 0 {
         return false;
@@ -168,7 +168,9 @@ fn is_base_at(
 {
     match any(gdef, sight, &glyphs[at]) {
         Some(true) => {
-            is_any || !is_later_part(glyphs, at) || coverage(bases, number(&glyphs[at])).is_some()
+            is_any
+                || !is_later_multiple(glyphs, at)
+                || coverage(bases, number(&glyphs[at])).is_some()
         }
         _ => false,
     }

@@ -1,11 +1,11 @@
 //! Values of glyphs and of pairs.
 ghost use Rattle.std.specs.Prelude.{◌≡◌, ◌<◌, ◌≤◌, ◌+◌, ◌*◌, ◌^◌, Some, None, nat_lt, if◌then◌else◌};
-ghost use Rattle.opentype_face.specs.Bytes.{part_in, u16_in};
+ghost use Rattle.opentype_face.specs.Bytes.{table_at, u16_in};
 ghost use Rattle.opentype_face.specs.Glyphs.{ranges_in};
 ghost use Rattle.opentype_layout.specs.PairTables.{header_in};
 ghost use Rattle.opentype_gpos.specs.Values.{bit_of, class_pair, field_in, signed_in, pair_of, pair_place, single_in, size_of, value_in};
 
-use opentype_face::bytes::{part, u16_at};
+use opentype_face::bytes::{table_at, u16_at};
 use opentype_face::glyph_sets::{class, coverage};
 use opentype_face::ranges::Ranges;
 use opentype_layout::pair_tables::{PairHeader, PairTable};
@@ -127,7 +127,7 @@ pub fn value_at(bytes: &[u8], at: usize, format: u16) -> Value
 pub fn single(bytes: &[u8], glyph: u16) -> Option<usize>
     ensures { result ≡ single_in bytes.now glyph }
 {
-    let i = coverage(part(bytes, usize::from(u16_at(bytes, 2))), glyph)?;
+    let i = coverage(table_at(bytes, usize::from(u16_at(bytes, 2))), glyph)?;
     match u16_at(bytes, 0) {
         1 => Some(6),
         2 => {
@@ -153,11 +153,11 @@ fn pair_size(header: &PairHeader) -> u32
 // Where the set of a first glyph has the values of a pair.
 fn pair_in_set(header: &PairHeader, bytes: &[u8], offset: u16, second: u16) -> Option<usize>
     ensures { let size = size_of header.now.first_format + size_of header.now.second_format in
-        let set = part_in bytes.now offset in
+        let set = table_at bytes.now offset in
         result ≡ pair_of offset (size + 2) (ranges_in set 2 2 (size + 2) (u16_in set 0) second) }
 {
     let size = pair_size(header) + 2;
-    let set = part(bytes, usize::from(offset));
+    let set = table_at(bytes, usize::from(offset));
     let pairs = Ranges {
         bytes: set,
         first: 2,
@@ -193,8 +193,8 @@ fn pair_of_classes(header: &PairHeader, bytes: &[u8], first: u16, second: u16) -
     requires { header.now ≡ header_in bytes.now }
     ensures { result ≡ class_pair bytes.now first second }
 {
-    let row = class(part(bytes, usize::from(u16_at(bytes, 8))), first);
-    let column = class(part(bytes, usize::from(u16_at(bytes, 10))), second);
+    let row = class(table_at(bytes, usize::from(u16_at(bytes, 8))), first);
+    let column = class(table_at(bytes, usize::from(u16_at(bytes, 10))), second);
     cell(header, row, column)
 }
 
@@ -204,7 +204,7 @@ fn pair_of_set(header: &PairHeader, bytes: &[u8], i: u32, second: u16) -> Option
     ensures { let size = size_of header.now.first_format + size_of header.now.second_format in
         result ≡ (if nat_lt i (u16_in bytes.now 8) then
         (let offset = u16_in bytes.now (10 + i * 2) in
-        let set = part_in bytes.now offset in
+        let set = table_at bytes.now offset in
         pair_of offset (size + 2) (ranges_in set 2 2 (size + 2) (u16_in set 0) second))
         else None) }
 {

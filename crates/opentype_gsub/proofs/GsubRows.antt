@@ -10,18 +10,18 @@ use Rattle.opentype_layout.specs.Pattern.{places_from, seen_by}
 use Rattle.opentype_layout.specs.Rules.{around, chained_in, context_in, end_in, first_at, found_at, kind_in, reach_before, reach_behind, reach_from, rule_in, test_in}
 use Rattle.opentype_layout.specs.Sight.{flag_in, ignores, may_pass, next_from, seen_as, sight_of_context, sight_of_input}
 use Rattle.opentype_gsub.specs.Applied.{one_put, sequence_put, single_put}
-use Rattle.opentype_gsub.specs.Edits.{handed_on, merged_up_to, multiplied, new_props, sequence_part, sequence_parts, removed_all, replaced}
+use Rattle.opentype_gsub.specs.Edits.{handed_on, merged_up_to, multiplied, new_props, sequence_glyph, sequence_glyphs, removed_all, replaced}
 use Rattle.opentype_gsub.specs.Flagged.{is_short, unbroken}
 use Rattle.opentype_gsub.specs.Looked.{tried}
 use Rattle.opentype_gsub.specs.Ligated.{as_letter, as_mark, components_of, counted_too, followed_by_marks, is_of_base, is_of_last, is_of_marks, ligature_joined, ligated, ligature_glyph, marks_inside, marked_one, number_before, number_for, with_followers}
 use Rattle.opentype_gsub.specs.Came.{begun, came_in, nth_came}
-use Rattle.opentype_gsub.specs.Machine.{lookup_called, nested, ran, machine_turned}
+use Rattle.opentype_gsub.specs.Machine.{lookup_called, nested, ran, machine_stepped}
 use Rattle.opentype_gsub.specs.Reversed.{tried_back, around_in, glyphs_at, nth_reversed, reversed_in, lookup_stepped_back}
 use Rattle.opentype_gsub.specs.Setting.{Setting, is_seen, sights_of}
 use Rattle.opentype_face.specs.Ranges.{bisect}
 use Rattle.opentype_gsub.specs.Decided.{alternate_in, single_in}
 use Rattle.opentype_gsub.specs.Came.{Frame}
-use Rattle.opentype_gsub.specs.Machine.{climbing, frame_settled, settled_places}
+use Rattle.opentype_gsub.specs.Machine.{climbing, frame_shifted, places_shifted}
 
 -- a coverage, format 1: glyphs 5 and 9
 abbrev covered : List ℕ
@@ -87,27 +87,27 @@ at_second places end = record {
 }
 
 -- nothing added
-settled_same : (frame_settled 10 (at_second (2 ∷ 4 ∷ 5 ∷ []) 6)) ≡ at_second (2 ∷ 4 ∷ 5 ∷ []) 6
-unfolding frame_settled settled_places climbing
+settled_same : (frame_shifted 10 (at_second (2 ∷ 4 ∷ 5 ∷ []) 6)) ≡ at_second (2 ∷ 4 ∷ 5 ∷ []) 6
+unfolding frame_shifted places_shifted climbing
 settled_same = refl
 
 -- two added: they are places, and those behind move
-settled_added : (frame_settled 12 (at_second (2 ∷ 4 ∷ 5 ∷ []) 6)) ≡ at_second (2 ∷ 4 ∷ 5 ∷ 6 ∷ 7 ∷ []) 8
-unfolding frame_settled settled_places climbing
+settled_added : (frame_shifted 12 (at_second (2 ∷ 4 ∷ 5 ∷ []) 6)) ≡ at_second (2 ∷ 4 ∷ 5 ∷ 6 ∷ 7 ∷ []) 8
+unfolding frame_shifted places_shifted climbing
 settled_added = refl
 
 -- one gone: the next place goes, and those behind move
-settled_gone : (frame_settled 9 (at_second (2 ∷ 4 ∷ 5 ∷ 7 ∷ []) 8)) ≡ at_second (2 ∷ 4 ∷ 6 ∷ []) 7
-unfolding frame_settled settled_places climbing
+settled_gone : (frame_shifted 9 (at_second (2 ∷ 4 ∷ 5 ∷ 7 ∷ []) 8)) ≡ at_second (2 ∷ 4 ∷ 6 ∷ []) 7
+unfolding frame_shifted places_shifted climbing
 settled_gone = refl
 
 -- more gone than stand up to the end: the end is the lookup's place
-settled_end : (frame_settled 5 (at_second (2 ∷ 4 ∷ 5 ∷ []) 6)) ≡ at_second (2 ∷ 4 ∷ []) 4
-unfolding frame_settled settled_places climbing
+settled_end : (frame_shifted 5 (at_second (2 ∷ 4 ∷ 5 ∷ []) 6)) ≡ at_second (2 ∷ 4 ∷ []) 4
+unfolding frame_shifted places_shifted climbing
 settled_end = refl
 
 -- 61 added to 3 places are 64; 62 are too many: the rule has no further lookup
-settled_many : (frame_settled 72 (at_second (2 ∷ 4 ∷ 5 ∷ []) 6)) ≡ record {
+settled_many : (frame_shifted 72 (at_second (2 ∷ 4 ∷ 5 ∷ []) 6)) ≡ record {
   records = [];
   count = 3;
   next = 3;
@@ -116,7 +116,7 @@ settled_many : (frame_settled 72 (at_second (2 ∷ 4 ∷ 5 ∷ []) 6)) ≡ recor
   sequence = 1;
   before = 10;
 }
-unfolding frame_settled settled_places climbing
+unfolding frame_shifted places_shifted climbing
 settled_many = refl
 
 -- ---- TEXTS
@@ -163,13 +163,13 @@ replaced_by_one = refl
 -- two: parts 0 and 1, in its cluster
 multiplied_by_two : sequence_put (set_for 9 []) 0 (glyph 5 1 ∷ glyph 9 2 ∷ []) (0 ∷ 2 ∷ 0 ∷ 20 ∷ 0 ∷ 21 ∷ [])
     ≡ record { text = with_props 80 0 (glyph 20 1) ∷ with_props 80 1 (glyph 21 1) ∷ glyph 9 2 ∷ []; next = 2 }
-unfolding multiplied sequence_parts sequence_part replaced new_props
+unfolding multiplied sequence_glyphs sequence_glyph replaced new_props
 multiplied_by_two = refl
 
 -- two where the text may have three glyphs, and where it may have two
 just_room : sequence_put (set_for 3 []) 0 (glyph 5 1 ∷ glyph 9 2 ∷ []) (0 ∷ 2 ∷ 0 ∷ 20 ∷ 0 ∷ 21 ∷ [])
     ≡ record { text = with_props 80 0 (glyph 20 1) ∷ with_props 80 1 (glyph 21 1) ∷ glyph 9 2 ∷ []; next = 2 }
-unfolding multiplied sequence_parts sequence_part replaced new_props
+unfolding multiplied sequence_glyphs sequence_glyph replaced new_props
 just_room = refl
 
 no_room : sequence_put (set_for 2 []) 0 (glyph 5 1 ∷ glyph 9 2 ∷ []) (0 ∷ 2 ∷ 0 ∷ 20 ∷ 0 ∷ 21 ∷ [])
@@ -211,12 +211,12 @@ context = lookup_of 6 0 (0 ∷ 3 ∷ 0 ∷ 0 ∷ 0 ∷ 1 ∷ 0 ∷ 18 ∷ 0 ∷ 
 
 in_context : nested (set_for 9 (gsub_of (lookup_of 1 0 by_delta))) context (glyph 5 1 ∷ glyph 9 2 ∷ []) 0 100
     ≡ record { text = with_props 16 0 (glyph 7 1) ∷ with_flags 3 (glyph 9 2) ∷ []; end = Some 1; left = 98 }
-unfolding nested tried came_in nth_came begun unbroken is_short sights_of sight_of_input sight_of_context flag_in context_in kind_in first_at found_at around rule_in chained_in test_in reach_behind reach_before reach_from end_in input_in places_from next_from seen_by seen_as ignores may_pass bisect first_from ran machine_turned lookup_called one_put single_put replaced new_props frame_settled settled_places climbing
+unfolding nested tried came_in nth_came begun unbroken is_short sights_of sight_of_input sight_of_context flag_in context_in kind_in first_at found_at around rule_in chained_in test_in reach_behind reach_before reach_from end_in input_in places_from next_from seen_by seen_as ignores may_pass bisect first_from ran machine_stepped lookup_called one_put single_put replaced new_props frame_shifted places_shifted climbing
 in_context = refl
 
 out_of_context : nested (set_for 9 (gsub_of (lookup_of 1 0 by_delta))) context (glyph 5 1 ∷ glyph 8 2 ∷ []) 0 100
     ≡ record { text = glyph 5 1 ∷ glyph 8 2 ∷ []; end = None; left = 100 }
-unfolding nested tried came_in nth_came begun unbroken is_short sights_of sight_of_input sight_of_context flag_in context_in kind_in first_at found_at around rule_in chained_in test_in reach_behind reach_before reach_from end_in input_in places_from next_from seen_by seen_as ignores may_pass bisect first_from ran machine_turned lookup_called one_put single_put replaced new_props frame_settled settled_places climbing
+unfolding nested tried came_in nth_came begun unbroken is_short sights_of sight_of_input sight_of_context flag_in context_in kind_in first_at found_at around rule_in chained_in test_in reach_behind reach_before reach_from end_in input_in places_from next_from seen_by seen_as ignores may_pass bisect first_from ran machine_stepped lookup_called one_put single_put replaced new_props frame_shifted places_shifted climbing
 out_of_context = refl
 
 -- type 8: glyph 5 becomes 6 before glyph 9

@@ -6,7 +6,7 @@ use Rattle.std.proofs.Math.Seq.{drop-cons}
 use Rattle.std.proofs.Math.Seq.{drop-length}
 use Rattle.std.proofs.lemmas.Grind.{common_steps}
 use Rattle.shapers_buffer.specs.Glyphs.{Glyph, Glyphs}
-use Rattle.opentype_gsub.specs.Edits.{count_in, multiplied, sequence_parts, sequence_part, removed_all}
+use Rattle.opentype_gsub.specs.Edits.{count_in, multiplied, sequence_glyphs, sequence_glyph, removed_all}
 use Rattle.opentype_gsub.specs.Ligated.{ligature_joined, ligated}
 use Rattle.shapers_buffer.specs.declared.buffer.level.BufferClusterLevel.{BufferClusterLevel}
 use Rattle.shapers_buffer.specs.Glyph.{default_glyph}
@@ -16,7 +16,7 @@ use Rattle.std.proofs.lemmas.List.{get_or_default}
 pub record ArePut (gdef sequence : List ℕ) (g : Glyph) (count at k : ℕ) (old new : Glyphs) : Type 0 where
   pub among : at < length old
   pub few : k ≤ count
-  pub put : new ≡ take at old ++ (sequence_parts (count - k) gdef sequence g k ++ drop (at + 1) old)
+  pub put : new ≡ take at old ++ (sequence_glyphs (count - k) gdef sequence g k ++ drop (at + 1) old)
 
 pub take_front : {X : Type 0} (xs ys : List X) (n : ℕ) → length xs ≡ n → take n (xs ++ ys) ≡ xs
 take_front xs ys n e = grind (arith, common_steps)
@@ -24,13 +24,13 @@ take_front xs ys n e = grind (arith, common_steps)
 drop_front : {X : Type 0} (xs ys : List X) (n : ℕ) → length xs ≡ n → drop n (xs ++ ys) ≡ ys
 drop_front xs ys n e = grind (arith, common_steps)
 
-one_more : (gdef sequence : List ℕ) (g : Glyph) (n k : ℕ) → sequence_parts (suc n) gdef sequence g k
-    ≡ sequence_part gdef sequence g k ∷ sequence_parts n gdef sequence g (k + 1)
-unfolding sequence_parts
+one_more : (gdef sequence : List ℕ) (g : Glyph) (n k : ℕ) → sequence_glyphs (suc n) gdef sequence g k
+    ≡ sequence_glyph gdef sequence g k ∷ sequence_glyphs n gdef sequence g (k + 1)
+unfolding sequence_glyphs
 one_more gdef sequence g n k = refl
 
-none : (gdef sequence : List ℕ) (g : Glyph) (k : ℕ) → sequence_parts 0 gdef sequence g k ≡ []
-unfolding sequence_parts
+none : (gdef sequence : List ℕ) (g : Glyph) (k : ℕ) → sequence_glyphs 0 gdef sequence g k ≡ []
+unfolding sequence_glyphs
 none gdef sequence g k = refl
 
 pub put_start : (gdef sequence : List ℕ) (g : Glyph) (count at : ℕ) (old new : Glyphs) → at < length old →
@@ -44,16 +44,16 @@ put_start gdef sequence g count at old new lt is = record {
 
 pub put_next : (gdef sequence : List ℕ) (g : Glyph) (count at k : ℕ) (old new : Glyphs) →
     ArePut gdef sequence g count at (k + 1) old new →
-    ArePut gdef sequence g count at k old (insert new at (sequence_part gdef sequence g k))
+    ArePut gdef sequence g count at k old (insert new at (sequence_glyph gdef sequence g k))
 put_next gdef sequence g count at k old new p =
-    let parts = sequence_parts (count - (k + 1)) gdef sequence g (k + 1) in
+    let parts = sequence_glyphs (count - (k + 1)) gdef sequence g (k + 1) in
     let lt : at < length old = p.among in
     let len : length (take at old) ≡ at = omega (arith, length-take at old) in
     let less : count - k ≡ suc (count - (k + 1)) = (let f = p.few in omega arith) in
     record {
       among = lt;
       few = (let f = p.few in omega arith);
-      put = ap (λ xs. insert xs at (sequence_part gdef sequence g k)) p.put
+      put = ap (λ xs. insert xs at (sequence_glyph gdef sequence g k)) p.put
           ∙ (rw (
             take_front (take at old) (parts ++ drop (at + 1) old) at len,
             drop_front (take at old) (parts ++ drop (at + 1) old) at len,
@@ -100,7 +100,7 @@ removed_skip ps gs text i lt le is out =
     removed_step ps gs text text i lt le is (sym (removed_none text (get_or ps (i - 1) 0) out))
 
 pub put_step : (gdef sequence : List ℕ) (g : Glyph) (count at k : ℕ) (old new next : Glyphs) → 0 < k →
-    ArePut gdef sequence g count at k old new → next ≡ insert new at (sequence_part gdef sequence g (k - 1)) →
+    ArePut gdef sequence g count at k old new → next ≡ insert new at (sequence_glyph gdef sequence g (k - 1)) →
     ArePut gdef sequence g count at (k - 1) old next
 put_step gdef sequence g count at zero old new next lt p is = absurd (omega arith)
 put_step gdef sequence g count at (suc k) old new next lt p is =
@@ -111,7 +111,7 @@ put_step gdef sequence g count at (suc k) old new next lt p is =
 
 pub put_end : (gdef sequence : List ℕ) (g : Glyph) (count at : ℕ) (old new : Glyphs) →
     ArePut gdef sequence g count at 0 old new →
-    new ≡ take at old ++ (sequence_parts count gdef sequence g 0 ++ drop (at + 1) old)
+    new ≡ take at old ++ (sequence_glyphs count gdef sequence g 0 ++ drop (at + 1) old)
 put_end gdef sequence g count at old new p =
     let e : count - 0 ≡ count = omega arith in rw e at p.put
 

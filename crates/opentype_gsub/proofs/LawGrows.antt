@@ -13,11 +13,11 @@ use Rattle.opentype_gsub.specs.Applied.{PlaceChange, alternate_put, ligated_put,
 use Rattle.opentype_gsub.specs.Growth.{adding, growth_in, may_add}
 use Rattle.opentype_gsub.specs.Ligatures.{nth_ligature}
 use Rattle.opentype_gsub.specs.Came.{Begun, Frame, came_in, nth_came}
-use Rattle.opentype_gsub.specs.Machine.{MachineTurn, nested, started, machine_turned}
-use Rattle.opentype_gsub.specs.Reversed.{nth_reversed, tried_back, lookup_stepped_back, walked_back, with_glyph}
+use Rattle.opentype_gsub.specs.Machine.{MachineStep, nested, started, machine_stepped}
+use Rattle.opentype_gsub.specs.Reversed.{nth_reversed, tried_back, lookup_stepped_back, applied_backward, with_glyph}
 use Rattle.opentype_gsub.specs.Setting.{Setting, is_seen, sights_of}
 use Rattle.opentype_gsub.specs.Substituted.{applied, operations_in, setting_for, substituted}
-use Rattle.opentype_gsub.specs.Walked.{WalkStep, lookup_stepped, lookup_walked, went_on}
+use Rattle.opentype_gsub.specs.Along.{LookupStep, lookup_stepped, lookup_applied, went_on}
 use Rattle.opentype_gsub.specs.declared.pass.LookupUse.{LookupUse}
 use Rattle.opentype_gsub.specs.declared.pass.Sights.{Sights}
 use Rattle.opentype_gsub.proofs.LawKeeps.{ForEach, AreWithin, each_when, first_each, glyphs_grow, if_each, last_within, ligature_within, each_mapped, mapped_if, or_each, then_each}
@@ -131,13 +131,13 @@ came_less s lookup gs at none = each_when (CameLess gs) (nat_lt at (length gs)) 
     (λ d lt. nth_less s (sights_of s.gdef s.lookup lookup (glyph_at gs at)) lookup at gs (0 + d) (ltb-true at (length gs) e)
     (not_adding lookup (0 + d) (none_each (adding lookup) (u16_in lookup 4) 0 none d lt))))
 
-started_less : (operations : ℕ) (turn : Glyphs → List Frame → MachineTurn) (gs : Glyphs) (came : Option (PlaceChange ⊎ Begun)) →
-    ForEach (CameLess gs) came → length (started operations turn gs came).text ≤ length gs
-started_less operations turn gs None h = omega arith
-started_less operations turn gs (Some (inl change)) h = h
-started_less operations turn gs (Some (inr b)) h = absurd h
+started_less : (operations : ℕ) (step : Glyphs → List Frame → MachineStep) (gs : Glyphs) (came : Option (PlaceChange ⊎ Begun)) →
+    ForEach (CameLess gs) came → length (started operations step gs came).text ≤ length gs
+started_less operations step gs None h = omega arith
+started_less operations step gs (Some (inl change)) h = h
+started_less operations step gs (Some (inr b)) h = absurd h
 
-if_step : (gs : Glyphs) (test : Bool) (x y : WalkStep) → length x.text ≤ length gs → length y.text ≤ length gs →
+if_step : (gs : Glyphs) (test : Bool) (x y : LookupStep) → length x.text ≤ length gs → length y.text ≤ length gs →
     length (if test then x else y).text ≤ length gs
 if_step gs true x y one two = one
 if_step gs false x y one two = two
@@ -147,17 +147,17 @@ step_less : (s : Setting) (lookup : List ℕ) → is_some (first_from (u16_in lo
 unfolding lookup_stepped nested
 step_less s lookup none gs at left = let flagged = tried s lookup gs at in
     if_step gs (is_seen s.gdef s.lookup lookup (glyph_at gs at))
-    (went_on at (started left (machine_turned s) flagged (came_in s lookup flagged at))) _
-    (let less = started_less left (machine_turned s) flagged (came_in s lookup flagged at) (came_less s lookup flagged at none) in
+    (went_on at (started left (machine_stepped s) flagged (came_in s lookup flagged at))) _
+    (let less = started_less left (machine_stepped s) flagged (came_in s lookup flagged at) (came_less s lookup flagged at none) in
     let same = same_length flagged gs (tried_same s lookup gs at) in omega arith) (omega arith)
 
 if_text : (n : ℕ) (test : Bool) (x y : Glyphs) → length x ≤ n → length y ≤ n → length (if test then x else y) ≤ n
 if_text n true x y one two = one
 if_text n false x y one two = two
 
-walk_less : (f : Glyphs → ℕ → ℕ → WalkStep) → ((gs : Glyphs) (at left : ℕ) → length (f gs at left).text ≤ length gs) →
-    (n : ℕ) (gs : Glyphs) (at left : ℕ) → length (lookup_walked n f gs at left) ≤ length gs
-unfolding lookup_walked
+walk_less : (f : Glyphs → ℕ → ℕ → LookupStep) → ((gs : Glyphs) (at left : ℕ) → length (f gs at left).text ≤ length gs) →
+    (n : ℕ) (gs : Glyphs) (at left : ℕ) → length (lookup_applied n f gs at left) ≤ length gs
+unfolding lookup_applied
 walk_less f h zero gs at left = omega arith
 walk_less f h (suc n) gs at left = if_text (length gs) (nat_lt at (length gs)) _ gs
     (let one = h gs at left in
@@ -180,8 +180,8 @@ back_less s lookup gs at = let flagged = tried_back s lookup gs at in
     )) (omega arith)
 
 walk_back_less : (f : Glyphs → ℕ → Glyphs) → ((gs : Glyphs) (at : ℕ) → length (f gs at) ≤ length gs) →
-    (n : ℕ) (gs : Glyphs) → length (walked_back n f gs) ≤ length gs
-unfolding walked_back
+    (n : ℕ) (gs : Glyphs) → length (applied_backward n f gs) ≤ length gs
+unfolding applied_backward
 walk_back_less f h zero gs = omega arith
 walk_back_less f h (suc n) gs = (let one = h gs n in let more = walk_back_less f h n (f gs n) in omega arith)
 

@@ -4,7 +4,7 @@ use Rattle.std.specs.List.{AllByRecursion, list_any}
 use Rattle.std.specs.Option.{option_and_then, option_map}
 use Rattle.std.proofs.lemmas.Bool.{ltb-true}
 use Rattle.shapers_buffer.specs.Glyphs.{Glyphs}
-use Rattle.opentype_face.specs.Bytes.{u16_in, part_in}
+use Rattle.opentype_face.specs.Bytes.{u16_in, table_at}
 use Rattle.opentype_gsub.specs.Kept.{KeepsTextClusters}
 use Rattle.opentype_gsub.specs.Edits.{last_place}
 use Rattle.opentype_layout.specs.Text.{glyph_at}
@@ -15,9 +15,9 @@ use Rattle.opentype_layout.specs.Ligatures.{if_together, input_in, is_apart}
 use Rattle.opentype_gsub.specs.Ligatures.{nth_ligature, ligature_of}
 use Rattle.opentype_gsub.specs.Applied.{PlaceChange, alternate_put, ligated_put, ligature_put, multiple_put, one_put, put_in, sequence_put, single_put}
 use Rattle.opentype_gsub.specs.Came.{Begun, Frame, begun, came_in, nth_came}
-use Rattle.opentype_gsub.specs.Machine.{AfterCall, Nested, MachineTurn, lookup_called, called_by, ended, goes_on_with, nested, turn_pushed, ran, started, machine_turned}
+use Rattle.opentype_gsub.specs.Machine.{AfterCall, Nested, MachineStep, lookup_called, called_by, ended, goes_on_with, nested, step_pushed, ran, started, machine_stepped}
 use Rattle.opentype_gsub.specs.Setting.{Setting, is_seen, sights_of}
-use Rattle.opentype_gsub.specs.Walked.{WalkStep, lookup_stepped, lookup_walked, went_on}
+use Rattle.opentype_gsub.specs.Along.{LookupStep, lookup_stepped, lookup_applied, went_on}
 use Rattle.opentype_gsub.specs.Substituted.{applied, limit_in, operations_in, setting_for, substituted}
 use Rattle.opentype_gsub.specs.declared.pass.LookupUse.{LookupUse}
 use Rattle.opentype_gsub.specs.declared.pass.Sights.{Sights}
@@ -28,7 +28,7 @@ use Rattle.shapers_buffer.specs.declared.buffer.refusal.ShaperError.{ShaperError
 use Rattle.shapers_buffer.specs.declared.buffer.refusal.ShaperError.TheVariants.{Memory, TooLong}
 use Rattle.opentype_face.specs.Lookups.{lookup_in, subtable_in, type_in}
 use Rattle.opentype_layout.specs.Rules.{Found, context_in}
-use Rattle.opentype_gsub.specs.Reversed.{tried_back, lookup_stepped_back, walked_back, with_glyph}
+use Rattle.opentype_gsub.specs.Reversed.{tried_back, lookup_stepped_back, applied_backward, with_glyph}
 use Rattle.opentype_layout.specs.declared.sight.Sight.{Sight}
 use Rattle.opentype_gsub.specs.Flagged.{unbroken}
 use Rattle.opentype_gsub.specs.Looked.{tried}
@@ -150,8 +150,8 @@ unfolding ligature_of
 ligature_within gdef sight gs at ligature =
     if_each (AreWithin (length gs)) _ None _ tt
     (mapped_if (AllByRecursion (λ p. p < length gs)) (AreWithin (length gs)) (λ ps. (u16_in ligature 0, ps))
-    (input_in gdef sight (is_number (part_in ligature 4)) (u16_in ligature 2 - 1) gs at)
-    (input_within gdef sight (is_number (part_in ligature 4)) (u16_in ligature 2 - 1) gs at)
+    (input_in gdef sight (is_number (table_at ligature 4)) (u16_in ligature 2 - 1) gs at)
+    (input_within gdef sight (is_number (table_at ligature 4)) (u16_in ligature 2 - 1) gs at)
     (λ ps all. all))
 
 -- ---- what lookups keep
@@ -277,30 +277,30 @@ ended_keeps : (s : Setting) (gs : Glyphs) (f : Frame) (fs : List Frame) → Keep
 ended_keeps s gs f [] = unchanged s gs
 ended_keeps s gs f (outer ∷ fs) = unchanged s gs
 
-if_turn : (s : Setting) (gs : Glyphs) (test : Bool) (x y : MachineTurn) → Keeps s gs x.text → Keeps s gs y.text →
+if_turn : (s : Setting) (gs : Glyphs) (test : Bool) (x y : MachineStep) → Keeps s gs x.text → Keeps s gs y.text →
     Keeps s gs (if test then x else y).text
 if_turn s gs true x y one two = one
 if_turn s gs false x y one two = two
 
-turned_keeps : (s : Setting) (gs : Glyphs) (fs : List Frame) → Keeps s gs (machine_turned s gs fs).text
-unfolding machine_turned
+turned_keeps : (s : Setting) (gs : Glyphs) (fs : List Frame) → Keeps s gs (machine_stepped s gs fs).text
+unfolding machine_stepped
 turned_keeps s gs [] = unchanged s gs
 turned_keeps s gs (f ∷ fs) =
-    if_turn s gs _ (turn_pushed (lookup_called s gs f) fs) (ended gs f fs) (called_keeps s gs f) (ended_keeps s gs f fs)
+    if_turn s gs _ (step_pushed (lookup_called s gs f) fs) (ended gs f fs) (called_keeps s gs f) (ended_keeps s gs f fs)
 
-goes_keeps : (s : Setting) (gs : Glyphs) (left : ℕ) (rest : Glyphs → List Frame → Nested) (t : MachineTurn) (end : Option (Option ℕ)) →
+goes_keeps : (s : Setting) (gs : Glyphs) (left : ℕ) (rest : Glyphs → List Frame → Nested) (t : MachineStep) (end : Option (Option ℕ)) →
     Keeps s gs t.text → ((hs : Glyphs) (fs : List Frame) → Keeps s hs (rest hs fs).text) →
     Keeps s gs (goes_on_with left rest t end).text
 goes_keeps s gs left rest t None one more = keeps_then s gs t.text _ one (more t.text t.stack)
 goes_keeps s gs left rest t (Some end) one more = one
 
-ran_keeps : (s : Setting) (n : ℕ) (gs : Glyphs) (fs : List Frame) → Keeps s gs (ran n (machine_turned s) gs fs).text
+ran_keeps : (s : Setting) (n : ℕ) (gs : Glyphs) (fs : List Frame) → Keeps s gs (ran n (machine_stepped s) gs fs).text
 unfolding ran
 ran_keeps s zero gs fs = unchanged s gs
-ran_keeps s (suc n) gs fs = goes_keeps s gs n (ran n (machine_turned s)) (machine_turned s gs fs) (machine_turned s gs fs).end (turned_keeps s gs fs) (ran_keeps s n)
+ran_keeps s (suc n) gs fs = goes_keeps s gs n (ran n (machine_stepped s)) (machine_stepped s gs fs) (machine_stepped s gs fs).end (turned_keeps s gs fs) (ran_keeps s n)
 
 started_keeps : (s : Setting) (operations : ℕ) (gs : Glyphs) (came : Option (PlaceChange ⊎ Begun)) → ForEach (CameKeeps s gs) came →
-    Keeps s gs (started operations (machine_turned s) gs came).text
+    Keeps s gs (started operations (machine_stepped s) gs came).text
 started_keeps s operations gs None h = unchanged s gs
 started_keeps s operations gs (Some (inl change)) h = h
 started_keeps s operations gs (Some (inr b)) h =
@@ -314,7 +314,7 @@ nested_keeps s lookup gs at operations = let flagged = tried s lookup gs at in
 
 -- ---- along the text
 
-if_step : (s : Setting) (gs : Glyphs) (test : Bool) (x y : WalkStep) → Keeps s gs x.text → Keeps s gs y.text →
+if_step : (s : Setting) (gs : Glyphs) (test : Bool) (x y : LookupStep) → Keeps s gs x.text → Keeps s gs y.text →
     Keeps s gs (if test then x else y).text
 if_step s gs true x y one two = one
 if_step s gs false x y one two = two
@@ -329,9 +329,9 @@ if_text : (s : Setting) (gs x y : Glyphs) (test : Bool) → Keeps s gs x → Kee
 if_text s gs x y true one two = one
 if_text s gs x y false one two = two
 
-pub walk_keeps : (s : Setting) (f : Glyphs → ℕ → ℕ → WalkStep) → ((gs : Glyphs) (at left : ℕ) → Keeps s gs (f gs at left).text) →
-    (n : ℕ) (gs : Glyphs) (at left : ℕ) → Keeps s gs (lookup_walked n f gs at left)
-unfolding lookup_walked
+pub walk_keeps : (s : Setting) (f : Glyphs → ℕ → ℕ → LookupStep) → ((gs : Glyphs) (at left : ℕ) → Keeps s gs (f gs at left).text) →
+    (n : ℕ) (gs : Glyphs) (at left : ℕ) → Keeps s gs (lookup_applied n f gs at left)
+unfolding lookup_applied
 walk_keeps s f h zero gs at left = unchanged s gs
 walk_keeps s f h (suc n) gs at left = if_text s gs _ gs (nat_lt at (length gs))
     (keeps_then s gs (f gs at left).text _ (h gs at left) (walk_keeps s f h n (f gs at left).text (f gs at left).next (f gs at left).left))
@@ -351,8 +351,8 @@ back_keeps s lookup gs at = let flagged = tried_back s lookup gs at in
     (with_keeps s flagged at _)) (unchanged s gs)
 
 walk_back_keeps : (s : Setting) (f : Glyphs → ℕ → Glyphs) → ((gs : Glyphs) (at : ℕ) → Keeps s gs (f gs at)) →
-    (n : ℕ) (gs : Glyphs) → Keeps s gs (walked_back n f gs)
-unfolding walked_back
+    (n : ℕ) (gs : Glyphs) → Keeps s gs (applied_backward n f gs)
+unfolding applied_backward
 walk_back_keeps s f h zero gs = unchanged s gs
 walk_back_keeps s f h (suc n) gs = keeps_then s gs (f gs n) _ (h gs n) (walk_back_keeps s f h n (f gs n))
 
@@ -401,7 +401,7 @@ few_text gs false = omega arith
 
 grown_by : (s : Setting) (gs : Glyphs) (max_len : ℕ) → s.limit ≡ limit_in (length gs) max_len →
     length (applied s gs) ≤ length gs * 65536
-unfolding applied lookup_walked walked_back
+unfolding applied lookup_applied applied_backward
 grown_by s [] max_len is = few_text [] (type_in 7 (lookup_in s.gsub s.lookup.index) 0 == 8)
 grown_by s (g ∷ gs) max_len is =
     let few : s.limit ≤ length (g ∷ gs) * 65536 = omega (arith, is, limited (length (g ∷ gs)) max_len (omega arith)) in

@@ -8,15 +8,15 @@ use Rattle.shapers_buffer.specs.Clusters.{merge}
 use Rattle.shapers_buffer.specs.declared.buffer.level.BufferClusterLevel.{BufferClusterLevel}
 use Rattle.shapers_clusters.proofs.Merging.{length-merge}
 use Rattle.opentype_face.specs.Bytes.{u16_in}
-use Rattle.opentype_gsub.specs.Edits.{count_in, handed_on, last_place, merged_up_to, multiplied, sequence_parts, removed_all, replaced}
+use Rattle.opentype_gsub.specs.Edits.{count_in, handed_on, last_place, merged_up_to, multiplied, sequence_glyphs, removed_all, replaced}
 use Rattle.opentype_gsub.specs.Ligated.{ligature_joined, ligated}
 use Rattle.opentype_gsub.proofs.LigatureKeeps.{joined_same, same_length}
 use Rattle.opentype_layout.specs.Text.{glyph_at}
 use Rattle.opentype_gsub.specs.Applied.{PlaceChange, put_in, sequence_put}
 use Rattle.opentype_gsub.specs.Setting.{Setting}
 
-length-parts : (gdef sequence : List ℕ) (g : Glyph) (n k : ℕ) → length (sequence_parts n gdef sequence g k) ≡ n
-unfolding sequence_parts
+length-parts : (gdef sequence : List ℕ) (g : Glyph) (n k : ℕ) → length (sequence_glyphs n gdef sequence g k) ≡ n
+unfolding sequence_glyphs
 length-parts gdef sequence g zero k = refl
 length-parts gdef sequence g (suc n) k = ap suc (length-parts gdef sequence g n (k + 1))
 
@@ -29,7 +29,7 @@ length-multiplied : (gdef sequence : List ℕ) (at : ℕ) (gs : Glyphs) → at <
 unfolding multiplied
 length-multiplied gdef sequence at gs lt =
     let g = glyph_at gs at in
-    let parts = sequence_parts (count_in sequence) gdef sequence g 0 in
+    let parts = sequence_glyphs (count_in sequence) gdef sequence g 0 in
     omega (
       arith,
       length-append (take at gs) (parts ++ drop (at + 1) gs),

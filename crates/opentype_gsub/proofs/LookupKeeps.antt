@@ -8,7 +8,7 @@ use Rattle.shapers_clusters.proofs.Halves.{Each}
 use Rattle.opentype_face.specs.Bytes.{u16_in}
 use Rattle.shapers_buffer.specs.Clusters.{merge}
 use Rattle.opentype_gsub.specs.Kept.{KeepsTextClusters}
-use Rattle.opentype_gsub.specs.Edits.{count_in, handed_on, last_place, merged_up_to, multiplied, sequence_part, sequence_parts, removed_all, replaced}
+use Rattle.opentype_gsub.specs.Edits.{count_in, handed_on, last_place, merged_up_to, multiplied, sequence_glyph, sequence_glyphs, removed_all, replaced}
 use Rattle.opentype_gsub.specs.Ligated.{ligature_joined, ligated}
 use Rattle.opentype_gsub.proofs.LigatureKeeps.{joined_same}
 use Rattle.opentype_layout.specs.Text.{glyph_at}
@@ -20,9 +20,9 @@ cluster-replaced : (gdef : List ℕ) (to guess : ℕ) (g : Glyph) → (replaced 
 unfolding replaced
 cluster-replaced gdef to guess g = refl
 
-cluster-part : (gdef sequence : List ℕ) (g : Glyph) (k : ℕ) → (sequence_part gdef sequence g k).cluster ≡ g.cluster
-unfolding sequence_part replaced
-cluster-part gdef sequence g k = refl
+cluster-table_at : (gdef sequence : List ℕ) (g : Glyph) (k : ℕ) → (sequence_glyph gdef sequence g k).cluster ≡ g.cluster
+unfolding sequence_glyph replaced
+cluster-table_at gdef sequence g k = refl
 
 pub put_keeps : (level : BufferClusterLevel) (gdef : List ℕ) (at : ℕ) (gs : Glyphs) (to : ℕ) →
     KeepsTextClusters level gs (put_in gdef at gs to).text
@@ -30,16 +30,16 @@ put_keeps level gdef at gs to =
     set_keeps level at gs (replaced gdef to 0 (glyph_at gs at)) (λ lt. cluster-replaced gdef to 0 (glyph_at gs at))
 
 parts_each : (gdef sequence : List ℕ) (g : Glyph) (n k : ℕ) →
-    Each (λ c. c ≡ g.cluster) (sequence_parts n gdef sequence g k)
-unfolding sequence_parts
+    Each (λ c. c ≡ g.cluster) (sequence_glyphs n gdef sequence g k)
+unfolding sequence_glyphs
 parts_each gdef sequence g zero k = tt
-parts_each gdef sequence g (suc n) k = (cluster-part gdef sequence g k, parts_each gdef sequence g n (k + 1))
+parts_each gdef sequence g (suc n) k = (cluster-table_at gdef sequence g k, parts_each gdef sequence g n (k + 1))
 
 multiplied_keeps : (level : BufferClusterLevel) (gdef sequence : List ℕ) (at : ℕ) (gs : Glyphs) → at < length gs →
     KeepsTextClusters level gs (multiplied gdef sequence at gs)
 unfolding multiplied
 multiplied_keeps level gdef sequence at gs lt =
-    parts_keep level at gs (sequence_parts (count_in sequence) gdef sequence (glyph_at gs at) 0) lt
+    parts_keep level at gs (sequence_glyphs (count_in sequence) gdef sequence (glyph_at gs at) 0) lt
     (parts_each gdef sequence (glyph_at gs at) (count_in sequence) 0)
 
 -- a choice of two texts, by a test

@@ -16,8 +16,8 @@ use Rattle.opentype_layout.specs.Text.{glyph_at}
 use Rattle.std.proofs.Common.{nat_lt}
 use Rattle.std.specs.Option.{option_map}
 use Rattle.opentype_gsub.specs.Came.{Begun, came_in, nth_came, Frame, IsCome}
-use Rattle.opentype_gsub.specs.Machine.{IsEnded, lookup_called, deeper, ended, turn_pushed, frame_settled, machine_turned, MachineTurn, capped, climbing, goes_on_with, place_moved, ran, settled_places, stack_left, waiting, waiting_frame}
-use Rattle.opentype_gsub.specs.declared.settling.Rule.{Rule}
+use Rattle.opentype_gsub.specs.Machine.{IsEnded, lookup_called, deeper, ended, step_pushed, frame_shifted, machine_stepped, MachineStep, capped, climbing, goes_on_with, place_moved, ran, places_shifted, stack_left, waiting, waiting_frame}
+use Rattle.opentype_gsub.specs.declared.shifting.Rule.{Rule}
 use Rattle.opentype_gsub.specs.declared.machine.Outcome.{Outcome}
 use Rattle.opentype_gsub.specs.declared.machine.Reached.{Reached}
 use Rattle.opentype_gsub.specs.declared.machine.Outcome.TheVariants.{Nothing, Done, Fits}
@@ -126,60 +126,60 @@ coming_none f count i old gs t le = (first_out (f old) count i t.first le, t.sam
 
 -- ---- turns
 
-pub record IsRunning (turn : Glyphs → List Frame → MachineTurn) (operations : ℕ) (old : Glyphs) (start : List Frame) (k : ℕ)
+pub record IsRunning (step : Glyphs → List Frame → MachineStep) (operations : ℕ) (old : Glyphs) (start : List Frame) (k : ℕ)
     (gs : Glyphs) (fs : List Frame) : Type 0 where
-  pub rest : ran operations turn old start ≡ ran (operations - k) turn gs fs
+  pub rest : ran operations step old start ≡ ran (operations - k) step gs fs
 
-one_turn : (turn : Glyphs → List Frame → MachineTurn) (n : ℕ) (gs : Glyphs) (fs : List Frame) →
-    ran (suc n) turn gs fs ≡ goes_on_with n (ran n turn) (turn gs fs) (turn gs fs).end
+one_turn : (step : Glyphs → List Frame → MachineStep) (n : ℕ) (gs : Glyphs) (fs : List Frame) →
+    ran (suc n) step gs fs ≡ goes_on_with n (ran n step) (step gs fs) (step gs fs).end
 unfolding ran
-one_turn turn n gs fs = refl
+one_turn step n gs fs = refl
 
-no_turn : (turn : Glyphs → List Frame → MachineTurn) (gs : Glyphs) (fs : List Frame) →
-    ran 0 turn gs fs ≡ record { text = gs; end = None; left = 0 }
+no_turn : (step : Glyphs → List Frame → MachineStep) (gs : Glyphs) (fs : List Frame) →
+    ran 0 step gs fs ≡ record { text = gs; end = None; left = 0 }
 unfolding ran
-no_turn turn gs fs = refl
+no_turn step gs fs = refl
 
-pub running_start : (turn : Glyphs → List Frame → MachineTurn) (operations : ℕ) (old : Glyphs) (start fs : List Frame) → fs ≡ start →
-    IsRunning turn operations old start 0 old fs
-running_start turn operations old start fs is =
+pub running_start : (step : Glyphs → List Frame → MachineStep) (operations : ℕ) (old : Glyphs) (start fs : List Frame) → fs ≡ start →
+    IsRunning step operations old start 0 old fs
+running_start step operations old start fs is =
     let e : operations - 0 ≡ operations = omega arith in rw is (record { rest = rw e refl })
 
-turn_is : (turn : Glyphs → List Frame → MachineTurn) (operations k : ℕ) (old gs : Glyphs) (start fs : List Frame) (t : MachineTurn) →
-    IsRunning turn operations old start k gs fs → k < operations → turn gs fs ≡ t →
-    ran operations turn old start ≡ goes_on_with (operations - (k + 1)) (ran (operations - (k + 1)) turn) t t.end
-turn_is turn operations k old gs start fs t r lt is =
+turn_is : (step : Glyphs → List Frame → MachineStep) (operations k : ℕ) (old gs : Glyphs) (start fs : List Frame) (t : MachineStep) →
+    IsRunning step operations old start k gs fs → k < operations → step gs fs ≡ t →
+    ran operations step old start ≡ goes_on_with (operations - (k + 1)) (ran (operations - (k + 1)) step) t t.end
+turn_is step operations k old gs start fs t r lt is =
     let e : operations - k ≡ suc (operations - (k + 1)) = omega arith in
-    r.rest ∙ ap (λ n. ran n turn gs fs) e ∙ one_turn turn (operations - (k + 1)) gs fs
-    ∙ ap (λ x. goes_on_with (operations - (k + 1)) (ran (operations - (k + 1)) turn) x x.end) is
+    r.rest ∙ ap (λ n. ran n step gs fs) e ∙ one_turn step (operations - (k + 1)) gs fs
+    ∙ ap (λ x. goes_on_with (operations - (k + 1)) (ran (operations - (k + 1)) step) x x.end) is
 
-pub running_next : (turn : Glyphs → List Frame → MachineTurn) (operations k : ℕ) (old gs new : Glyphs) (start fs next : List Frame) →
-    IsRunning turn operations old start k gs fs → k < operations →
-    turn gs fs ≡ record { text = new; stack = next; end = None } → IsRunning turn operations old start (k + 1) new next
-running_next turn operations k old gs new start fs next r lt is =
-    record { rest = turn_is turn operations k old gs start fs _ r lt is }
+pub running_next : (step : Glyphs → List Frame → MachineStep) (operations k : ℕ) (old gs new : Glyphs) (start fs next : List Frame) →
+    IsRunning step operations old start k gs fs → k < operations →
+    step gs fs ≡ record { text = new; stack = next; end = None } → IsRunning step operations old start (k + 1) new next
+running_next step operations k old gs new start fs next r lt is =
+    record { rest = turn_is step operations k old gs start fs _ r lt is }
 
-pub running_end : (turn : Glyphs → List Frame → MachineTurn) (operations k : ℕ) (old gs new : Glyphs) (start fs next : List Frame) (end : Option ℕ) →
-    IsRunning turn operations old start k gs fs → k < operations →
-    turn gs fs ≡ record { text = new; stack = next; end = Some end } →
-    ran operations turn old start ≡ record { text = new; end = end; left = operations - (k + 1) }
-running_end turn operations k old gs new start fs next end r lt is = turn_is turn operations k old gs start fs _ r lt is
+pub running_end : (step : Glyphs → List Frame → MachineStep) (operations k : ℕ) (old gs new : Glyphs) (start fs next : List Frame) (end : Option ℕ) →
+    IsRunning step operations old start k gs fs → k < operations →
+    step gs fs ≡ record { text = new; stack = next; end = Some end } →
+    ran operations step old start ≡ record { text = new; end = end; left = operations - (k + 1) }
+running_end step operations k old gs new start fs next end r lt is = turn_is step operations k old gs start fs _ r lt is
 
-pub running_called : (turn : Glyphs → List Frame → MachineTurn) (operations k : ℕ) (old gs text new : Glyphs) (start fs next : List Frame)
+pub running_called : (step : Glyphs → List Frame → MachineStep) (operations k : ℕ) (old gs text new : Glyphs) (start fs next : List Frame)
     (result : Result Reached ShaperError) →
-    IsRunning turn operations old start k gs fs → k < operations →
-    turn gs fs ≡ record { text = text; stack = next; end = None } →
-    IfOk result (λ r. ran (operations - (k + 1)) turn text next ≡ record { text = new; end = r.end; left = r.left }) →
-    IfOk result (λ r. ran operations turn old start ≡ record { text = new; end = r.end; left = r.left })
-running_called turn operations k old gs text new start fs next result r lt is rest =
+    IsRunning step operations old start k gs fs → k < operations →
+    step gs fs ≡ record { text = text; stack = next; end = None } →
+    IfOk result (λ r. ran (operations - (k + 1)) step text next ≡ record { text = new; end = r.end; left = r.left }) →
+    IfOk result (λ r. ran operations step old start ≡ record { text = new; end = r.end; left = r.left })
+running_called step operations k old gs text new start fs next result r lt is rest =
     subst (λ all. IfOk result (λ r. all ≡ record { text = new; end = r.end; left = r.left }))
-    (sym (turn_is turn operations k old gs start fs _ r lt is)) rest
+    (sym (turn_is step operations k old gs start fs _ r lt is)) rest
 
-pub running_out : (turn : Glyphs → List Frame → MachineTurn) (operations k : ℕ) (old gs : Glyphs) (start fs : List Frame) →
-    IsRunning turn operations old start k gs fs → operations ≤ k →
-    ran operations turn old start ≡ record { text = gs; end = None; left = 0 }
-running_out turn operations k old gs start fs r le =
-    let e : operations - k ≡ 0 = omega arith in r.rest ∙ ap (λ n. ran n turn gs fs) e ∙ no_turn turn gs fs
+pub running_out : (step : Glyphs → List Frame → MachineStep) (operations k : ℕ) (old gs : Glyphs) (start fs : List Frame) →
+    IsRunning step operations old start k gs fs → operations ≤ k →
+    ran operations step old start ≡ record { text = gs; end = None; left = 0 }
+running_out step operations k old gs start fs r le =
+    let e : operations - k ≡ 0 = omega arith in r.rest ∙ ap (λ n. ran n step gs fs) e ∙ no_turn step gs fs
 
 -- ---- the stack, its top first
 
@@ -220,8 +220,8 @@ ended_is gs f now (outer ∷ below) fs it e = rw (e.1, e.0) refl
 
 pub turn_ends : (s : Setting) (gs : Glyphs) (f now : Frame) (below fs : List Frame) (it : Option ℕ) →
     f.count ≤ f.next → IsEnded (length gs) f below now fs it →
-    machine_turned s gs (f ∷ below) ≡ record { text = gs; stack = stack_left it now fs; end = option_map Some it }
-unfolding machine_turned
+    machine_stepped s gs (f ∷ below) ≡ record { text = gs; stack = stack_left it now fs; end = option_map Some it }
+unfolding machine_stepped
 turn_ends s gs f now below fs it le e =
     let t : nat_lt f.next f.count ≡ false = grind (arith, nat_tests) in rw t (ended_is gs f now below fs it e)
 
@@ -229,16 +229,16 @@ pub turn_calls : (s : Setting) (gs text : Glyphs) (f frame : Frame) (inner : Opt
     (below new : List Frame) → f.next < f.count →
     lookup_called s gs f ≡ record { text = text; frame = frame; inner = inner } →
     new ≡ deeper inner (frame ∷ below) →
-    machine_turned s gs (f ∷ below) ≡ record { text = text; stack = new; end = None }
-unfolding machine_turned
+    machine_stepped s gs (f ∷ below) ≡ record { text = text; stack = new; end = None }
+unfolding machine_stepped
 turn_calls s gs text f frame inner below new lt c made =
     let t : nat_lt f.next f.count ≡ true = grind (arith, nat_tests) in
-    rw t (ap (λ x. turn_pushed x below) c ∙ (let p : List Frame → MachineTurn = λ stack. record { text = text; stack = stack; end = None } in ap p (sym made)))
+    rw t (ap (λ x. step_pushed x below) c ∙ (let p : List Frame → MachineStep = λ stack. record { text = text; stack = stack; end = None } in ap p (sym made)))
 
 -- ---- a rule's end
 
 pub ended_below : (len : ℕ) (f now : Frame) (old rest : List (Option Rule)) (waits : Option Rule) →
-    old ≡ rest ++ waits ∷ [] → now ≡ frame_settled len (waiting_frame waits) →
+    old ≡ rest ++ waits ∷ [] → now ≡ frame_shifted len (waiting_frame waits) →
     IsEnded len f (waiting old) now (waiting rest) None
 ended_below len f now old rest waits is s =
     rw (ap waiting is ∙ top_first rest waits) (ap (λ g. g ∷ waiting rest) s, refl)
@@ -248,8 +248,8 @@ pub settled_is : (first first_too behind sequence added removed : ℕ) (places f
     front ≡ take first places → back ≡ drop behind places →
     one ≡ take 64 ([] ++ front) → two ≡ take 64 (one ++ climbing added (get_or places sequence 0)) →
     three ≡ take 64 (two ++ map (place_moved added removed) back) →
-    three ≡ settled_places sequence added removed places
-unfolding settled_places
+    three ≡ places_shifted sequence added removed places
+unfolding places_shifted
 settled_is first first_too behind sequence added removed places front back one two three f b x y p q r =
     let first_is : first ≡ capped (sequence + 1) = omega arith in
     let behind_is : behind ≡ capped (capped (sequence + 1) + removed) = omega arith in

@@ -10,7 +10,7 @@ use Rattle.shapers_buffer.specs.declared.buffer.glyph.GlyphPosition.{GlyphPositi
 use Rattle.shapers_buffer.specs.declared.buffer.refusal.ShaperError.{ShaperError}
 use Rattle.shapers_buffer.specs.Glyph.{default_glyph}
 use Rattle.shapers_buffer.specs.Glyphs.{Glyph, Glyphs}
-use Rattle.opentype_face.specs.Bytes.{u16_in, part_in}
+use Rattle.opentype_face.specs.Bytes.{u16_in, table_at}
 use Rattle.opentype_face.specs.Firsts.{first_from}
 use Rattle.opentype_face.specs.Glyphs.{coverage_in}
 use Rattle.opentype_face.specs.Lookups.{lookup_in, subtable_in, type_in}
@@ -25,10 +25,10 @@ use Rattle.opentype_gsub.specs.Looked.{all_looked, context_rules, spanned, looku
 use Rattle.opentype_gsub.specs.declared.looking.Stretch.{Stretch}
 use Rattle.opentype_layout.specs.Starts.{ArePassed, IsPassed, NoneStarts, starting, starts_at, starts_with}
 use Rattle.opentype_gsub.specs.Presence.{applied_from, is_left}
-use Rattle.opentype_gsub.specs.Reversed.{all_looked_back, nth_looked_back, tried_back, lookup_stepped_back, nth_reversed, reversed_at, reversed_in, walked_back, with_glyph}
+use Rattle.opentype_gsub.specs.Reversed.{all_looked_back, nth_looked_back, tried_back, lookup_stepped_back, nth_reversed, reversed_at, reversed_in, applied_backward, with_glyph}
 use Rattle.opentype_gsub.specs.Setting.{Setting, is_seen, sights_of}
 use Rattle.opentype_gsub.specs.Substituted.{applied, operations_in, setting_for, substituted}
-use Rattle.opentype_gsub.specs.Walked.{WalkStep, lookup_stepped, lookup_walked}
+use Rattle.opentype_gsub.specs.Along.{LookupStep, lookup_stepped, lookup_applied}
 use Rattle.opentype_gsub.specs.declared.pass.LookupUse.{LookupUse}
 use Rattle.opentype_gsub.specs.declared.pass.Sights.{Sights}
 use Rattle.opentype_layout.proofs.NoneFits.{no_rule, none_if, none_mapped, none_of, none_then}
@@ -55,9 +55,9 @@ first_of : (kind : ℕ) (chained : Bool) (bytes : List ℕ) → (kind == 6) ≡ 
 first_of kind chained bytes e = rw e refl
 
 covered_by : (kind : ℕ) (bytes : List ℕ) (glyph at : ℕ) → starts_with false kind bytes glyph ≡ false →
-    starts_at false kind bytes ≡ at → coverage_in (part_in bytes (u16_in bytes at)) glyph ≡ None
+    starts_at false kind bytes ≡ at → coverage_in (table_at bytes (u16_in bytes at)) glyph ≡ None
 covered_by kind bytes glyph at none e =
-    none_by _ (subst (λ n. is_some (coverage_in (part_in bytes (u16_in bytes n)) glyph) ≡ false) e none)
+    none_by _ (subst (λ n. is_some (coverage_in (table_at bytes (u16_in bytes n)) glyph) ≡ false) e none)
 
 no_set : (bytes : List ℕ) (glyph : ℕ) → covered_in bytes glyph ≡ None → set_for_glyph bytes glyph ≡ None
 no_set bytes glyph e = none_if (u16_in bytes 0 == 1) _ None (λ t. ap (set_at bytes) e) (λ t. refl)
@@ -130,8 +130,8 @@ came_none s lookup gs at none = let sights = sights_of s.gdef s.lookup lookup (g
 -- ---- nothing is looked at either
 
 no_context : (chained : Bool) (bytes : List ℕ) (glyph : ℕ) →
-    ((u16_in bytes 0 == 3) ≡ true → coverage_in (part_in bytes (u16_in bytes (first_at chained bytes))) glyph ≡ None) →
-    ((u16_in bytes 0 == 3) ≡ false → coverage_in (part_in bytes (u16_in bytes 2)) glyph ≡ None) →
+    ((u16_in bytes 0 == 3) ≡ true → coverage_in (table_at bytes (u16_in bytes (first_at chained bytes))) glyph ≡ None) →
+    ((u16_in bytes 0 == 3) ≡ false → coverage_in (table_at bytes (u16_in bytes 2)) glyph ≡ None) →
     context_rules chained bytes glyph ≡ None
 unfolding context_rules
 no_context chained bytes glyph third other =
@@ -219,7 +219,7 @@ tried_none s lookup gs at none = let sights = sights_of s.gdef s.lookup lookup (
     kept_if (s.concat && nat_lt at (length gs)) _ gs
     (ap (λ x. unjoined x gs) (looked_none s sights lookup gs at none) ∙ unflagged at gs)
 
-still_by : (test : Bool) (x : WalkStep) → (if test then x else x) ≡ x
+still_by : (test : Bool) (x : LookupStep) → (if test then x else x) ≡ x
 still_by true x = refl
 still_by false x = refl
 
@@ -319,25 +319,25 @@ step_left s lookup gs at left e = elim (why_left s lookup (glyph_at gs at) e) [
 abbrev pub AreLeft : LookupUse → List ℕ → Glyphs → ℕ → Type 0
 AreLeft use_of lookup gs first = (j : ℕ) → j < first → is_left use_of lookup (glyph_at gs j) ≡ true
 
-pub step_on : (f : Glyphs → ℕ → ℕ → WalkStep) (n : ℕ) (gs : Glyphs) (at left : ℕ) → at < length gs →
+pub step_on : (f : Glyphs → ℕ → ℕ → LookupStep) (n : ℕ) (gs : Glyphs) (at left : ℕ) → at < length gs →
     f gs at left ≡ record { text = gs; next = at + 1; left = left } →
-    lookup_walked (suc n) f gs at left ≡ lookup_walked n f gs (at + 1) left
-unfolding lookup_walked
+    lookup_applied (suc n) f gs at left ≡ lookup_applied n f gs (at + 1) left
+unfolding lookup_applied
 step_on f n gs at left lt e =
     let t : nat_lt at (length gs) ≡ true = grind (arith, nat_tests) in rw (t, e) refl
 
-pub walk_on : (f : Glyphs → ℕ → ℕ → WalkStep) (p n : ℕ) (gs : Glyphs) (at left : ℕ) → at + p ≤ length gs →
+pub walk_on : (f : Glyphs → ℕ → ℕ → LookupStep) (p n : ℕ) (gs : Glyphs) (at left : ℕ) → at + p ≤ length gs →
     ((j : ℕ) → at ≤ j → j < at + p → f gs j left ≡ record { text = gs; next = j + 1; left = left }) →
-    lookup_walked (p + n) f gs at left ≡ lookup_walked n f gs (at + p) left
+    lookup_applied (p + n) f gs at left ≡ lookup_applied n f gs (at + p) left
 walk_on f zero n gs at left within h =
     let z : 0 + n ≡ n = omega arith in
     let e : at + 0 ≡ at = omega arith in rw (z, e) refl
 walk_on f (suc p) n gs at left within h =
     let e : at + 1 + p ≡ at + suc p = omega arith in
     let m : suc p + n ≡ suc (p + n) = omega arith in
-    ap (λ k. lookup_walked k f gs at left) m ∙ step_on f (p + n) gs at left (omega arith) (h at (omega arith) (omega arith))
+    ap (λ k. lookup_applied k f gs at left) m ∙ step_on f (p + n) gs at left (omega arith) (h at (omega arith) (omega arith))
     ∙ walk_on f p n gs (at + 1) left (omega arith) (λ j le lt. h j (omega arith) (omega arith))
-    ∙ ap (λ k. lookup_walked n f gs k left) e
+    ∙ ap (λ k. lookup_applied n f gs k left) e
 
 pub applied_is : (s : Setting) (gs : Glyphs) (first : ℕ) → AreLeft s.lookup (lookup_in s.gsub s.lookup.index) gs first →
     first ≤ length gs →
@@ -349,7 +349,7 @@ applied_is s gs first left within =
     let z : 0 + first ≡ first = omega arith in
     let walks = walk_on (lookup_stepped s lookup) first (length gs - first) gs 0 (operations_in (length gs)) (omega arith)
     (λ j le lt. step_left s lookup gs j (operations_in (length gs)) (left j (omega arith))) in
-    ap (λ x. if type_in 7 lookup 0 == 8 then walked_back (length gs) (lookup_stepped_back s lookup) gs else x)
+    ap (λ x. if type_in 7 lookup 0 == 8 then applied_backward (length gs) (lookup_stepped_back s lookup) gs else x)
     (sym (rw (e, z) at walks))
 
 -- ---- nothing to do
@@ -395,14 +395,14 @@ back_left s lookup gs at e = same_if (is_seen s.gdef s.lookup lookup (glyph_at g
       | inr none ↦ (let e = back_untried s lookup gs at none in rw e (kept_back s lookup gs at none))
     ])
 
-walk_back_left : (f : Glyphs → ℕ → Glyphs) (n : ℕ) (gs : Glyphs) → ((j : ℕ) → j < n → f gs j ≡ gs) → walked_back n f gs ≡ gs
-unfolding walked_back
+walk_back_left : (f : Glyphs → ℕ → Glyphs) (n : ℕ) (gs : Glyphs) → ((j : ℕ) → j < n → f gs j ≡ gs) → applied_backward n f gs ≡ gs
+unfolding applied_backward
 walk_back_left f zero gs h = refl
 walk_back_left f (suc n) gs h =
-    ap (walked_back n f) (h n (omega arith)) ∙ walk_back_left f n gs (λ j lt. h j (omega arith))
+    ap (applied_backward n f) (h n (omega arith)) ∙ walk_back_left f n gs (λ j lt. h j (omega arith))
 
-no_steps : (f : Glyphs → ℕ → ℕ → WalkStep) (gs : Glyphs) (at left : ℕ) → lookup_walked 0 f gs at left ≡ gs
-unfolding lookup_walked
+no_steps : (f : Glyphs → ℕ → ℕ → LookupStep) (gs : Glyphs) (at left : ℕ) → lookup_applied 0 f gs at left ≡ gs
+unfolding lookup_applied
 no_steps f gs at left = refl
 
 both_same : (test : Bool) (x y gs : Glyphs) → x ≡ gs → y ≡ gs → (if test then x else y) ≡ gs

@@ -14,7 +14,7 @@ use Rattle.opentype_gsub.specs.Setting.{Setting, sights_of}
 use Rattle.opentype_gsub.specs.declared.machine.Outcome.{Outcome}
 use Rattle.opentype_gsub.specs.declared.machine.Outcome.TheVariants.{Nothing, Done, Fits}
 use Rattle.opentype_gsub.specs.declared.pass.Sights.{Sights}
-use Rattle.opentype_gsub.specs.declared.settling.Rule.{Rule}
+use Rattle.opentype_gsub.specs.declared.shifting.Rule.{Rule}
 
 -- a rule that fits, and how far its lookups are applied
 pub record Frame : Type 0 where

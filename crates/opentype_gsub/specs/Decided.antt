@@ -1,11 +1,11 @@
 -- What the subtables of GSUB that look at one glyph put in its place.
 use Rattle.std.specs.Prelude.{ℕ, ◌+◌, ◌*◌, ◌%◌, ◌==◌, ◌||◌, nat_lt, List, Option, None, Some, if◌then◌else◌}
-use Rattle.opentype_face.specs.Bytes.{u16_in, part_in}
+use Rattle.opentype_face.specs.Bytes.{u16_in, table_at}
 use Rattle.opentype_face.specs.Glyphs.{coverage_in}
 
 -- the place of a glyph in the set that most subtables begin with
 abbrev pub covered_in : List ℕ → ℕ → Option ℕ
-covered_in bytes glyph = coverage_in (part_in bytes (u16_in bytes 2)) glyph
+covered_in bytes glyph = coverage_in (table_at bytes (u16_in bytes 2)) glyph
 
 -- type 1: one glyph for one
 abbrev pub single_at : List ℕ → ℕ → Option ℕ → Option ℕ
@@ -24,7 +24,7 @@ single_in bytes glyph = single_at bytes glyph (covered_in bytes glyph)
 abbrev pub set_at : List ℕ → Option ℕ → Option (List ℕ)
 set_at bytes None = None
 set_at bytes (Some i) =
-    if nat_lt i (u16_in bytes 4) then Some (part_in bytes (u16_in bytes (6 + i * 2))) else None
+    if nat_lt i (u16_in bytes 4) then Some (table_at bytes (u16_in bytes (6 + i * 2))) else None
 
 -- the same where the table's format is 1
 abbrev pub set_by : List ℕ → Option ℕ → Option (List ℕ)

@@ -23,8 +23,8 @@ replaced gdef to guess g = record g {
 }
 
 -- the glyphs of a sequence in the place of one, from a number on
-unfoldable pub sequence_part : List ℕ → List ℕ → Glyph → ℕ → Glyph
-sequence_part gdef sequence g k =
+unfoldable pub sequence_glyph : List ℕ → List ℕ → Glyph → ℕ → Glyph
+sequence_glyph gdef sequence g k =
     let guess = (if bit_and g.glyph_props.0 4 == 0 then 0 else 2) in
     let r = replaced gdef (u16_in sequence (2 + k * 2)) guess g in
     record r {
@@ -32,10 +32,10 @@ sequence_part gdef sequence g k =
       lig_props = if nat_lt g.lig_props.0 32 then record { 0 = k % 16 } else g.lig_props;
     }
 
-unfoldable pub sequence_parts : ℕ → List ℕ → List ℕ → Glyph → ℕ → Glyphs
-sequence_parts zero gdef sequence g k = []
-sequence_parts (suc n) gdef sequence g k = sequence_part gdef sequence g k ∷ sequence_parts n gdef
-    sequence g (k + 1)
+unfoldable pub sequence_glyphs : ℕ → List ℕ → List ℕ → Glyph → ℕ → Glyphs
+sequence_glyphs zero gdef sequence g k = []
+sequence_glyphs (suc n) gdef sequence g k =
+    sequence_glyph gdef sequence g k ∷ sequence_glyphs n gdef sequence g (k + 1)
 
 -- how many glyphs a sequence has; a number of two bytes is below 65536
 abbrev pub count_in : List ℕ → ℕ
@@ -43,7 +43,7 @@ count_in sequence = min 65535 (u16_in sequence 0)
 
 unfoldable pub multiplied : List ℕ → List ℕ → ℕ → Glyphs → Glyphs
 multiplied gdef sequence at gs =
-    take at gs ++ (sequence_parts (count_in sequence) gdef sequence (glyph_at gs at) 0 ++ drop (at
+    take at gs ++ (sequence_glyphs (count_in sequence) gdef sequence (glyph_at gs at) 0 ++ drop (at
     + 1) gs)
 
 -- a glyph goes; its cluster stays with a neighbour

@@ -7,7 +7,7 @@ pub mod Applied
 pub mod Came
 pub mod Ligatures
 pub mod Reversed
-pub mod Walked
+pub mod Along
 pub mod Growth
 pub mod Kept
 pub mod Laws

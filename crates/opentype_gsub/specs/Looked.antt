@@ -4,7 +4,7 @@ use Rattle.std.specs.Prelude.{ℕ, zero, suc, ◌+◌, ◌-◌, ◌*◌, ◌==�
 use Rattle.std.specs.Option.{option_map}
 use Rattle.shapers_buffer.specs.Glyphs.{Glyphs}
 use Rattle.shapers_buffer.specs.GlyphFlags.{unsafe_to_concat_in}
-use Rattle.opentype_face.specs.Bytes.{u16_in, part_in}
+use Rattle.opentype_face.specs.Bytes.{u16_in, table_at}
 use Rattle.opentype_face.specs.Glyphs.{class_in, coverage_in}
 use Rattle.opentype_face.specs.Lookups.{subtable_in, type_in}
 use Rattle.opentype_layout.specs.Ligatures.{input_in}
@@ -98,14 +98,14 @@ rule_looked gdef sights old_len gs at rule =
 
 -- entry i of a list of offsets behind its count
 abbrev pub nth_part : List ℕ → ℕ → List ℕ
-nth_part set i = part_in set (u16_in set (2 + i * 2))
+nth_part set i = table_at set (u16_in set (2 + i * 2))
 
 -- a ligature as a rule
 abbrev pub ligature_sought : List ℕ → Sought
 ligature_sought bytes = record {
   before = is_number [];
   before_count = 0;
-  input = is_number (part_in bytes 4);
+  input = is_number (table_at bytes 4);
   input_count = u16_in bytes 2;
   behind = is_number [];
   behind_count = 0;
@@ -143,12 +143,12 @@ unfoldable pub context_rules : Bool → List ℕ → ℕ → Option RuleList
 context_rules chained bytes glyph =
     let tables = kind_in chained bytes in
     let format = u16_in bytes 0 in
-    let covered = coverage_in (part_in bytes (u16_in bytes 2)) glyph in
+    let covered = coverage_in (table_at bytes (u16_in bytes 2)) glyph in
     if format == 1 then option_map (λ number. entries_in tables (set_in bytes 4 number)) covered
     else (if format == 2 then (if is_some covered
     then Some (entries_in tables (set_in bytes (sets_at chained) (class_in tables.input glyph)))
     else None)
-    else (if format == 3 then (if is_some (coverage_in (part_in bytes (u16_in bytes (first_at
+    else (if format == 3 then (if is_some (coverage_in (table_at bytes (u16_in bytes (first_at
     chained bytes))) glyph) then Some (one_in tables bytes) else None)
     else None))
 

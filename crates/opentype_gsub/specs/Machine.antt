@@ -8,7 +8,7 @@ use Rattle.opentype_gsub.specs.Applied.{PlaceChange}
 use Rattle.opentype_gsub.specs.Came.{Begun, Frame, came_in, frame_of}
 use Rattle.opentype_gsub.specs.Looked.{tried}
 use Rattle.opentype_gsub.specs.Setting.{Setting}
-use Rattle.opentype_gsub.specs.declared.settling.Rule.{Rule}
+use Rattle.opentype_gsub.specs.declared.shifting.Rule.{Rule}
 
 -- ---- what an applied lookup added or took away moves the places behind it
 
@@ -24,15 +24,15 @@ climbing zero place = []
 climbing (suc n) place = capped (place + 1) ∷ climbing n (capped (place + 1))
 
 -- of at most 64
-unfoldable pub settled_places : ℕ → ℕ → ℕ → List ℕ → List ℕ
-settled_places sequence added removed places =
+unfoldable pub places_shifted : ℕ → ℕ → ℕ → List ℕ → List ℕ
+places_shifted sequence added removed places =
     take 64 ((take (capped (sequence + 1)) places ++ climbing added (slice_index places sequence))
     ++ map (place_moved added removed) (drop (capped (capped (sequence + 1) + removed)) places))
 
 -- How many glyphs went, but no more than stand from the lookup's place up to the end. Where the
 -- places become more than 64, the rule has no further lookup.
-unfoldable pub frame_settled : ℕ → Frame → Frame
-frame_settled len f =
+unfoldable pub frame_shifted : ℕ → Frame → Frame
+frame_shifted len f =
     let added = len - f.before in
     let removed = min (f.before - len) (f.end - slice_index f.places f.sequence) in
     if nat_lt 64 (length f.places + added) then record {
@@ -48,7 +48,7 @@ frame_settled len f =
       records = f.records;
       count = f.count;
       next = f.next;
-      places = settled_places f.sequence added removed f.places;
+      places = places_shifted f.sequence added removed f.places;
       end = place_moved added removed f.end;
       sequence = f.sequence;
       before = f.before;
@@ -65,7 +65,7 @@ abbrev pub called_by : Glyphs → Frame → Option (PlaceChange ⊎ Begun) → A
 called_by gs f None = record { text = gs; frame = f; inner = None }
 called_by gs f (Some (inl change)) = record {
   text = change.text;
-  frame = frame_settled (length
+  frame = frame_shifted (length
       change.text) f;
   inner = None;
 }
@@ -95,16 +95,16 @@ lookup_called s gs f =
 
 -- ---- one turn of the machine
 
-pub record MachineTurn : Type 0 where
+pub record MachineStep : Type 0 where
   pub text : Glyphs
   pub stack : List Frame
   pub end : Option (Option ℕ)
 
-abbrev pub ended : Glyphs → Frame → List Frame → MachineTurn
+abbrev pub ended : Glyphs → Frame → List Frame → MachineStep
 ended gs f [] = record { text = gs; stack = []; end = Some (Some f.end) }
 ended gs f (outer ∷ fs) = record {
   text = gs;
-  stack = frame_settled (length gs) outer ∷ fs;
+  stack = frame_shifted (length gs) outer ∷ fs;
   end =
       None;
 }
@@ -113,7 +113,7 @@ ended gs f (outer ∷ fs) = record {
 -- ends, the place behind what was done.
 abbrev pub IsEnded : ℕ → Frame → List Frame → Frame → List Frame → Option ℕ → Type 0
 IsEnded len f [] now fs it = it ≡ Some f.end
-IsEnded len f (outer ∷ rest) now fs it = (now ∷ fs ≡ frame_settled len outer ∷ rest) × (it ≡ None)
+IsEnded len f (outer ∷ rest) now fs it = (now ∷ fs ≡ frame_shifted len outer ∷ rest) × (it ≡ None)
 
 -- the stack after a turn, by the rule in hand and those that wait below it
 abbrev pub stack_left : Option ℕ → Frame → List Frame → List Frame
@@ -124,13 +124,13 @@ abbrev pub deeper : Option Frame → List Frame → List Frame
 deeper None fs = fs
 deeper (Some f) fs = if nat_lt (length fs) 64 then f ∷ fs else fs
 
-abbrev pub turn_pushed : AfterCall → List Frame → MachineTurn
-turn_pushed c fs = record { text = c.text; stack = deeper c.inner (c.frame ∷ fs); end = None }
+abbrev pub step_pushed : AfterCall → List Frame → MachineStep
+step_pushed c fs = record { text = c.text; stack = deeper c.inner (c.frame ∷ fs); end = None }
 
-unfoldable pub machine_turned : Setting → Glyphs → List Frame → MachineTurn
-machine_turned s gs [] = record { text = gs; stack = []; end = Some None }
-machine_turned s gs (f ∷ fs) =
-    if nat_lt f.next f.count then turn_pushed (lookup_called s gs f) fs else ended gs f fs
+unfoldable pub machine_stepped : Setting → Glyphs → List Frame → MachineStep
+machine_stepped s gs [] = record { text = gs; stack = []; end = Some None }
+machine_stepped s gs (f ∷ fs) =
+    if nat_lt f.next f.count then step_pushed (lookup_called s gs f) fs else ended gs f fs
 
 -- ---- the machine
 
@@ -140,32 +140,32 @@ pub record Nested : Type 0 where
   pub end : Option ℕ
   pub left : ℕ
 
-abbrev pub goes_on_with : ℕ → (Glyphs → List Frame → Nested) → MachineTurn → Option (Option ℕ) →
+abbrev pub goes_on_with : ℕ → (Glyphs → List Frame → Nested) → MachineStep → Option (Option ℕ) →
     Nested
 goes_on_with left rest t None = rest t.text t.stack
 goes_on_with left rest t (Some end) = record { text = t.text; end = end; left = left }
 
 -- in at most so many turns
-unfoldable pub ran : ℕ → (Glyphs → List Frame → MachineTurn) → Glyphs → List Frame → Nested
-ran zero turn gs fs = record { text = gs; end = None; left = 0 }
-ran (suc n) turn gs fs = goes_on_with n (ran n turn) (turn gs fs) (turn gs fs).end
+unfoldable pub ran : ℕ → (Glyphs → List Frame → MachineStep) → Glyphs → List Frame → Nested
+ran zero step gs fs = record { text = gs; end = None; left = 0 }
+ran (suc n) step gs fs = goes_on_with n (ran n step) (step gs fs) (step gs fs).end
 
-abbrev pub started : ℕ → (Glyphs → List Frame → MachineTurn) → Glyphs → Option (PlaceChange ⊎
+abbrev pub started : ℕ → (Glyphs → List Frame → MachineStep) → Glyphs → Option (PlaceChange ⊎
     Begun) → Nested
-started operations turn gs None = record { text = gs; end = None; left = operations }
-started operations turn gs (Some (inl change)) = record {
+started operations step gs None = record { text = gs; end = None; left = operations }
+started operations step gs (Some (inl change)) = record {
   text = change.text;
   end = Some
       change.next;
   left = operations;
 }
-started operations turn gs (Some (inr b)) = ran operations turn b.text (b.frame ∷ [])
+started operations step gs (Some (inr b)) = ran operations step b.text (b.frame ∷ [])
 
 -- a lookup's table at a place, and the lookups that its rules apply
 unfoldable pub nested : Setting → List ℕ → Glyphs → ℕ → ℕ → Nested
 nested s lookup gs at operations =
     let flagged = tried s lookup gs at in
-    started operations (machine_turned s) flagged (came_in s lookup flagged at)
+    started operations (machine_stepped s) flagged (came_in s lookup flagged at)
 
 -- The rules that wait in the code for the one in hand, the last one first. Each is there; what is
 -- left of the room has none.

@@ -5,10 +5,10 @@ use Rattle.opentype_face.specs.Bytes.{u16_in}
 use Rattle.opentype_face.specs.Firsts.{first_from}
 use Rattle.opentype_face.specs.Lookups.{type_in}
 use Rattle.opentype_layout.specs.Starts.{starting}
-use Rattle.opentype_gsub.specs.Reversed.{lookup_stepped_back, walked_back}
+use Rattle.opentype_gsub.specs.Reversed.{lookup_stepped_back, applied_backward}
 use Rattle.opentype_gsub.specs.Setting.{Setting}
 use Rattle.opentype_gsub.specs.Substituted.{operations_in}
-use Rattle.opentype_gsub.specs.Walked.{lookup_stepped, lookup_walked}
+use Rattle.opentype_gsub.specs.Along.{lookup_stepped, lookup_applied}
 use Rattle.opentype_gsub.specs.declared.pass.LookupUse.{LookupUse}
 
 -- Whether a lookup can't begin at a glyph: the glyph has no bit of its mask, or no subtable begins
@@ -21,6 +21,6 @@ is_left use_of lookup g =
 -- a lookup's table along a text from a place on; one of type 8 from the end
 unfoldable pub applied_from : Setting → List ℕ → ℕ → Glyphs → Glyphs
 applied_from s lookup first gs =
-    if type_in 7 lookup 0 == 8 then walked_back (length gs) (lookup_stepped_back s lookup) gs
-    else lookup_walked (length gs - first) (lookup_stepped s lookup) gs first (operations_in
+    if type_in 7 lookup 0 == 8 then applied_backward (length gs) (lookup_stepped_back s lookup) gs
+    else lookup_applied (length gs - first) (lookup_stepped s lookup) gs first (operations_in
     (length gs))

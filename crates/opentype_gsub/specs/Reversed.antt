@@ -3,7 +3,7 @@
 use Rattle.std.specs.Prelude.{ℕ, zero, suc, ◌+◌, ◌*◌, ◌-◌, ◌==◌, not, nat_lt, Bool, false, is_some, List, [], length, slice_set, Option, None, Some, if◌then◌else◌}
 use Rattle.std.specs.Option.{option_map}
 use Rattle.shapers_buffer.specs.Glyphs.{Glyphs}
-use Rattle.opentype_face.specs.Bytes.{u16_in, part_in}
+use Rattle.opentype_face.specs.Bytes.{u16_in, table_at}
 use Rattle.opentype_face.specs.Lookups.{subtable_in, type_in}
 use Rattle.opentype_face.specs.Firsts.{first_from}
 use Rattle.opentype_layout.specs.Pattern.{is_in_sets, is_number}
@@ -24,11 +24,11 @@ unfoldable pub around_in : List ℕ → Sought
 around_in bytes =
     let behind_at = 6 + u16_in bytes 4 * 2 in
     record {
-      before = is_in_sets (part_in bytes 6) bytes;
+      before = is_in_sets (table_at bytes 6) bytes;
       before_count = u16_in bytes 4;
       input = is_number [];
       input_count = 1;
-      behind = is_in_sets (part_in bytes (behind_at + 2)) bytes;
+      behind = is_in_sets (table_at bytes (behind_at + 2)) bytes;
       behind_count = u16_in bytes behind_at;
       records = [];
       count = 0;
@@ -112,6 +112,6 @@ lookup_stepped_back s lookup gs at =
     else gs
 
 -- the places below one, the last of them first
-unfoldable pub walked_back : ℕ → (Glyphs → ℕ → Glyphs) → Glyphs → Glyphs
-walked_back zero f gs = gs
-walked_back (suc n) f gs = walked_back n f (f gs n)
+unfoldable pub applied_backward : ℕ → (Glyphs → ℕ → Glyphs) → Glyphs → Glyphs
+applied_backward zero f gs = gs
+applied_backward (suc n) f gs = applied_backward n f (f gs n)

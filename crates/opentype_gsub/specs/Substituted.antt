@@ -3,9 +3,9 @@ use Rattle.std.specs.Prelude.{ℕ, ◌-◌, ◌*◌, ◌^◌, ◌==◌, max, min
 use Rattle.shapers_buffer.specs.Buffer.{Buffer, asks, flags_concat}
 use Rattle.shapers_buffer.specs.Glyphs.{Glyphs}
 use Rattle.opentype_face.specs.Lookups.{lookup_in, type_in}
-use Rattle.opentype_gsub.specs.Reversed.{lookup_stepped_back, walked_back}
+use Rattle.opentype_gsub.specs.Reversed.{lookup_stepped_back, applied_backward}
 use Rattle.opentype_gsub.specs.Setting.{Setting}
-use Rattle.opentype_gsub.specs.Walked.{lookup_stepped, lookup_walked}
+use Rattle.opentype_gsub.specs.Along.{lookup_stepped, lookup_applied}
 use Rattle.opentype_gsub.specs.declared.pass.LookupUse.{LookupUse}
 
 -- how many glyphs a text of so many may get: 256 times as many, and 65,536 at least, but no more
@@ -32,8 +32,8 @@ setting_for gdef gsub use_of b = record {
 unfoldable pub applied : Setting → Glyphs → Glyphs
 applied s gs =
     let lookup = lookup_in s.gsub s.lookup.index in
-    if type_in 7 lookup 0 == 8 then walked_back (length gs) (lookup_stepped_back s lookup) gs
-    else lookup_walked (length gs) (lookup_stepped s lookup) gs 0 (operations_in (length gs))
+    if type_in 7 lookup 0 == 8 then applied_backward (length gs) (lookup_stepped_back s lookup) gs
+    else lookup_applied (length gs) (lookup_stepped s lookup) gs 0 (operations_in (length gs))
 
 unfoldable pub substituted : List ℕ → List ℕ → LookupUse → Buffer → Buffer
 substituted gdef gsub use_of b = record b {

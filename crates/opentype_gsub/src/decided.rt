@@ -3,7 +3,7 @@ ghost use Rattle.std.specs.Prelude.{◌≡◌};
 ghost use Rattle.std.specs.Option.{option_map};
 ghost use Rattle.opentype_gsub.specs.Decided.{alternate_at, alternate_in, covered_in, set_by, set_for_glyph, single_at, single_in};
 
-use opentype_face::bytes::{part, u16_at};
+use opentype_face::bytes::{table_at, u16_at};
 use opentype_face::glyph_sets::coverage;
 
 /// The place of a glyph in the set that a subtable begins with.
@@ -11,7 +11,7 @@ use opentype_face::glyph_sets::coverage;
 pub fn covered(bytes: &[u8], glyph: u16) -> Option<u32>
     ensures { result ≡ covered_in bytes.now glyph }
 {
-    coverage(part(bytes, usize::from(u16_at(bytes, 2))), glyph)
+    coverage(table_at(bytes, usize::from(u16_at(bytes, 2))), glyph)
 }
 
 /// One glyph for another, by a subtable of type 1.
@@ -57,7 +57,7 @@ pub(crate) fn set_by(bytes: &[u8], place: Option<u32>) -> Option<&[u8]>
     }
     let i = place?;
     if i < u32::from(u16_at(bytes, 4)) {
-        Some(part(bytes, usize::from(u16_at(bytes, 6 + i as usize * 2))))
+        Some(table_at(bytes, usize::from(u16_at(bytes, 6 + i as usize * 2))))
     } else {
         None
     }

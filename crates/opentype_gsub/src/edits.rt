@@ -1,6 +1,6 @@
 //! What lookups do to glyphs.
 ghost use Rattle.std.specs.Prelude.{◌≡◌, ◌<◌, length, OnOk, slice_set};
-ghost use Rattle.opentype_gsub.specs.Edits.{count_in, handed_on, last_place, merged_up_to, multiplied, new_props, sequence_part, removed_all, replaced};
+ghost use Rattle.opentype_gsub.specs.Edits.{count_in, handed_on, last_place, merged_up_to, multiplied, new_props, sequence_glyph, removed_all, replaced};
 ghost use Rattle.opentype_layout.specs.Text.{glyph_at};
 ghost use Rattle.std.specs.List.{remove};
 
@@ -59,14 +59,14 @@ pub fn replace(
 
 // One of a sequence of glyphs that come in for one.
 #[inline]
-#[tactic(auto, unfolding(crate::specs::Edits::sequence_part, crate::specs::Edits::replaced))]
-fn part_for(
+#[tactic(auto, unfolding(crate::specs::Edits::sequence_glyph, crate::specs::Edits::replaced))]
+fn glyph_of_sequence(
     classes: &ClassTable<'_>,
     sequence: &[u8],
     glyph: hb_glyph_info_t,
     k: u16,
 ) -> hb_glyph_info_t
-    ensures { result ≡ sequence_part classes.now.gdef.now sequence.now glyph k }
+    ensures { result ≡ sequence_glyph classes.now.gdef.now sequence.now glyph k }
 {
     let guess = if glyph.glyph_props.0 & 4 == 0 { 0 } else { 2 };
     let to = u16_at(sequence, 2 + usize::from(k) * 2);
@@ -103,8 +103,8 @@ pub fn multiply(
     let glyph = text.remove(at);
     let count = count_of(sequence);
     for k in (0..count).rev() {
-        let part = part_for(classes, sequence, glyph, k);
-        text.insert(at, part).map_err(|_| ShaperError::Memory)?;
+        let table_at = glyph_of_sequence(classes, sequence, glyph, k);
+        text.insert(at, table_at).map_err(|_| ShaperError::Memory)?;
     }
     Ok(())
 }

@@ -11,7 +11,7 @@ ghost use Rattle.opentype_layout.specs.Ligatures.{input_in};
 use crate::decided::set_of;
 use crate::flagging::is_short;
 use crate::pass::Sights;
-use opentype_face::bytes::{part, u16_at};
+use opentype_face::bytes::{table_at, u16_at};
 use opentype_face::glyph_sets::{class, coverage};
 use opentype_layout::input::input_places;
 use opentype_layout::pattern::Pattern;
@@ -328,7 +328,7 @@ impl<'a> RuleSet<'a> {
 fn nth(set: &[u8], i: u16) -> &[u8]
     ensures { result.now ≡ nth_part set.now i }
 {
-    part(set, usize::from(u16_at(set, 2 + usize::from(i) * 2)))
+    table_at(set, usize::from(u16_at(set, 2 + usize::from(i) * 2)))
 }
 
 // A ligature as a rule.
@@ -339,7 +339,7 @@ fn ligature_rule(bytes: &[u8]) -> Rule<'_>
     Rule {
         before: Pattern::Glyphs(&[]),
         before_count: 0,
-        input: Pattern::Glyphs(part(bytes, 4)),
+        input: Pattern::Glyphs(table_at(bytes, 4)),
         input_count: u16_at(bytes, 2),
         behind: Pattern::Glyphs(&[]),
         behind_count: 0,
@@ -357,7 +357,7 @@ fn rule_set(bytes: &[u8], at: usize, number: u32) -> &[u8]
     if number >= u32::from(u16_at(bytes, at)) {
         return &[];
     }
-    part(
+    table_at(
         bytes,
         usize::from(u16_at(bytes, at + 2 + number as usize * 2)),
     )
@@ -385,10 +385,10 @@ fn context_rules<'a>(chained: bool, bytes: &'a [u8], glyph: u16) -> Option<RuleS
     let format = u16_at(bytes, 0);
     if format == 3 {
         let first = u16_at(bytes, place_of_first(chained, bytes));
-        coverage(part(bytes, usize::from(first)), glyph)?;
+        coverage(table_at(bytes, usize::from(first)), glyph)?;
         return Some(RuleSet::One(tables, bytes));
     }
-    let covered = coverage(part(bytes, usize::from(u16_at(bytes, 2))), glyph);
+    let covered = coverage(table_at(bytes, usize::from(u16_at(bytes, 2))), glyph);
     match (format, covered) {
         (1, Some(number)) => Some(RuleSet::Rules(tables, rule_set(bytes, 4, number))),
         (2, Some(_)) => {

@@ -5,7 +5,7 @@ ghost use Rattle.opentype_layout.specs.Rules.{found};
 ghost use Rattle.opentype_face.specs.Bytes.{u16_in};
 ghost use Rattle.opentype_face.specs.Firsts.{first_from};
 ghost use Rattle.opentype_gsub.specs.Came.{IsCome, begun, came_in, frame_of, nth_came};
-ghost use Rattle.opentype_gsub.specs.Machine.{IsEnded, lookup_called, deeper, nested, ran, machine_turned, stack_left, waiting, waiting_frame};
+ghost use Rattle.opentype_gsub.specs.Machine.{IsEnded, lookup_called, deeper, nested, ran, machine_stepped, stack_left, waiting, waiting_frame};
 ghost use Rattle.opentype_gsub.specs.Setting.{setting_of, sights_of, sights_within};
 ghost use Rattle.opentype_gsub.specs.Looked.{tried};
 ghost use Rattle.opentype_layout.specs.Text.{glyph_at};
@@ -13,7 +13,7 @@ ghost use Rattle.opentype_layout.specs.Text.{glyph_at};
 use crate::apply::{apply_one, number};
 use crate::flagging::flag_stretch;
 use crate::pass::{Pass, Sights};
-use crate::settling::Rule;
+use crate::shifting::Rule;
 use crate::trying::flag_tried;
 use arrayvec::ArrayVec;
 use opentype_face::bytes::u16_at;
@@ -198,7 +198,7 @@ fn call<'a>(
     match try_at(pass, &sights, &called, text, place) {
         Ok(Outcome::Nothing) => Ok(None),
         Ok(Outcome::Done(_)) => {
-            rule.settle(text.len());
+            rule.shift_behind(text.len());
             Ok(None)
         }
         Ok(Outcome::Fits(called_rule)) => Ok(Some(called_rule)),
@@ -225,7 +225,7 @@ fn end_rule<'a>(len: usize, rule: &mut Rule<'a>, callers: &mut Callers<'a>) -> O
         return Some(rule.end);
     };
     let mut caller = waited(caller);
-    caller.settle(len);
+    caller.shift_behind(len);
     *rule = caller;
     None
 }
@@ -241,13 +241,13 @@ fn go_deeper<'a>(called: Rule<'a>, rule: &mut Rule<'a>, callers: &mut Callers<'a
 }
 
 // One turn of the machine; where it ends, the place behind what was done.
-fn turn<'a>(
+fn step<'a>(
     pass: &Pass<'a>,
     text: &mut Vec<hb_glyph_info_t>,
     rule: &mut Rule<'a>,
     callers: &mut Callers<'a>,
 ) -> Result<Option<usize>, ShaperError>
-    ensures { IfOk result (λ end. machine_turned (setting_of pass.now) text.old.items
+    ensures { IfOk result (λ end. machine_stepped (setting_of pass.now) text.old.items
         (frame_of rule.old ∷ waiting callers.old.items) ≡ record {
           text = text.new.items;
           stack = stack_left end (frame_of rule.new) (waiting callers.new.items);
@@ -282,7 +282,7 @@ fn run_called<'a>(
     called: Rule<'a>,
     operations: usize,
 ) -> Result<Reached, ShaperError>
-    ensures { IfOk result (λ r. ran operations (machine_turned (setting_of pass.now)) text.old.items
+    ensures { IfOk result (λ r. ran operations (machine_stepped (setting_of pass.now)) text.old.items
         (frame_of called.entry ∷ frame_of caller.entry ∷ [])
         ≡ record { text = text.new.items; end = r.end; left = r.left }) }
 {
@@ -290,7 +290,7 @@ fn run_called<'a>(
     let mut callers = Callers::new();
     callers.push(Some(caller));
     for done in 0..operations {
-        match turn(pass, text, &mut rule, &mut callers) {
+        match step(pass, text, &mut rule, &mut callers) {
             Ok(Some(end)) => {
                 let left = operations - (done + 1);
                 return Ok(Reached {
@@ -314,7 +314,7 @@ fn run<'a>(
     rule: Rule<'a>,
     operations: usize,
 ) -> Result<Reached, ShaperError>
-    ensures { IfOk result (λ r. ran operations (machine_turned (setting_of pass.now)) text.old.items
+    ensures { IfOk result (λ r. ran operations (machine_stepped (setting_of pass.now)) text.old.items
         (frame_of rule.entry ∷ []) ≡ record { text = text.new.items; end = r.end; left = r.left }) }
 {
     let mut rule = rule;

@@ -7,7 +7,7 @@ ghost use Rattle.opentype_gsub.specs.Ligatures.{nth_ligature, ligature_of};
 ghost use Rattle.opentype_layout.specs.Keys.{bars};
 ghost use Rattle.opentype_layout.specs.Pattern.{fits, next_in};
 
-use opentype_face::bytes::{part, u16_at};
+use opentype_face::bytes::{table_at, u16_at};
 use opentype_layout::input::input_places;
 use opentype_layout::keys::{Key, key_behind};
 use opentype_layout::pattern::Pattern;
@@ -49,7 +49,7 @@ fn fit_ligature(
     if count > 1 && key.bars(u16_at(ligature, 4)) {
         return None;
     }
-    let pattern = Pattern::Glyphs(part(ligature, 4));
+    let pattern = Pattern::Glyphs(table_at(ligature, 4));
     match input_places(gdef, sight, &pattern, count - 1, glyphs, at) {
         Some(places) => Some(Fitting {
             glyph: u16_at(ligature, 0),
@@ -75,7 +75,7 @@ pub fn first_fitting(
 {
     let key = key_behind(gdef, sight, glyphs, at + 1);
     for i in 0..u16_at(set, 0) {
-        let ligature = part(set, usize::from(u16_at(set, 2 + usize::from(i) * 2)));
+        let ligature = table_at(set, usize::from(u16_at(set, 2 + usize::from(i) * 2)));
         let found = fit_ligature(gdef, sight, &key, ligature, glyphs, at);
         if found.is_some() {
             return found;

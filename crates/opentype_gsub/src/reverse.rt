@@ -3,7 +3,7 @@ ghost use Rattle.std.specs.Prelude.{◌≡◌, ◌<◌, length};
 ghost use Rattle.opentype_face.specs.Bytes.{u16_in};
 ghost use Rattle.opentype_face.specs.Firsts.{first_from};
 ghost use Rattle.opentype_layout.specs.Rules.{sought};
-ghost use Rattle.opentype_gsub.specs.Reversed.{all_looked_back, around_in, is_replaced, nth_looked_back, reverse_looked, tried_back, glyphs_at, nth_reversed, reversed_in, lookup_stepped_back, walked_back};
+ghost use Rattle.opentype_gsub.specs.Reversed.{all_looked_back, around_in, is_replaced, nth_looked_back, reverse_looked, tried_back, glyphs_at, nth_reversed, reversed_in, lookup_stepped_back, applied_backward};
 ghost use Rattle.opentype_gsub.specs.Decided.{covered_in};
 ghost use Rattle.opentype_gsub.specs.Setting.{setting_of};
 
@@ -15,7 +15,7 @@ use crate::looking::{Stretch, count, sweep_back, sweep_behind};
 use crate::pass::{Pass, Sights};
 use crate::presence::is_passed;
 use crate::trying::flag_joins;
-use opentype_face::bytes::{part, u16_at};
+use opentype_face::bytes::{table_at, u16_at};
 use opentype_face::lookup::{subtable, subtable_count, subtable_type};
 use opentype_layout::pattern::Pattern;
 use opentype_layout::rules::Rule;
@@ -30,11 +30,11 @@ fn around(bytes: &[u8]) -> Rule<'_>
     let before_count = u16_at(bytes, 4);
     let behind_at = 6 + usize::from(before_count) * 2;
     Rule {
-        before: Pattern::Sets(part(bytes, 6), bytes),
+        before: Pattern::Sets(table_at(bytes, 6), bytes),
         before_count,
         input: Pattern::Glyphs(&[]),
         input_count: 1,
-        behind: Pattern::Sets(part(bytes, behind_at + 2), bytes),
+        behind: Pattern::Sets(table_at(bytes, behind_at + 2), bytes),
         behind_count: u16_at(bytes, behind_at),
         records: &[],
         count: 0,
@@ -264,8 +264,8 @@ fn step_back(pass: &Pass<'_>, lookup: &LookupTable<'_>, text: &mut Vec<hb_glyph_
 }
 
 /// Applies a lookup by its table from the last glyph of a text to its first one.
-pub fn walk_back(pass: &Pass<'_>, lookup: &LookupTable<'_>, text: &mut Vec<hb_glyph_info_t>)
-    ensures { text.new.items ≡ walked_back (length text.old.items)
+pub fn apply_backward(pass: &Pass<'_>, lookup: &LookupTable<'_>, text: &mut Vec<hb_glyph_info_t>)
+    ensures { text.new.items ≡ applied_backward (length text.old.items)
         (lookup_stepped_back (setting_of pass.now) lookup.now) text.old.items }
 {
     for at in (0..text.len()).rev() {

@@ -8,10 +8,10 @@ ghost use Rattle.shapers_buffer.specs.declared.buffer.refusal.ShaperError.TheVar
 ghost use Rattle.opentype_gsub.specs.Setting.{setting_of};
 ghost use Rattle.opentype_gsub.specs.Substituted.{limit_in, operations_in, substituted};
 
+use crate::apply_along::apply_along;
 use crate::pass::{LookupUse, Pass};
 use crate::presence::first_place;
-use crate::reverse::walk_back;
-use crate::walk::walk;
+use crate::reverse::apply_backward;
 use opentype_face::class_table::ClassTable;
 use opentype_face::lookup::subtable_type;
 use opentype_layout::starts::LookupTable;
@@ -55,11 +55,11 @@ fn apply_from<'a>(
         ≡ applied_from (setting_of pass.now) table.now first text.old.items) }
 {
     if subtable_type(7, table.bytes(), 0) == 8 {
-        walk_back(pass, table, text);
+        apply_backward(pass, table, text);
         return Ok(());
     }
     let len = text.len();
-    walk(
+    apply_along(
         pass,
         table,
         text,

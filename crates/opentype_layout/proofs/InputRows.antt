@@ -73,14 +73,14 @@ before-start = refl
 
 -- ---- marks of ligatures: `lig_props` of ligature 1 itself, of marks of its components 1 and 2, and of one of ligature 2
 
-abbrev part : ℕ → Glyph
-part props = record default_glyph { lig_props = record { 0 = props }; glyph_props = record { 0 = 8 } }
+abbrev table_at : ℕ → Glyph
+table_at props = record default_glyph { lig_props = record { 0 = props }; glyph_props = record { 0 = 8 } }
 
 abbrev itself : Glyph
 itself = record default_glyph { lig_props = record { 0 = 50 }; glyph_props = record { 0 = 4 } }
 
 abbrev ligated : ℕ → ℕ → Glyphs
-ligated first other = itself ∷ part first ∷ part other ∷ []
+ligated first other = itself ∷ table_at first ∷ table_at other ∷ []
 
 -- a lookup that ignores ligatures
 abbrev ignoring : Sight
@@ -107,7 +107,7 @@ two-ligatures : is_apart [] sight (ligated 33 65) 1 2 ≡ true
 unfolding is_apart next_from ignores
 two-ligatures = refl
 
-no-ligature-before : is_apart [] ignoring (part 65 ∷ part 33 ∷ part 34 ∷ []) 1 2 ≡ true
+no-ligature-before : is_apart [] ignoring (table_at 65 ∷ table_at 33 ∷ table_at 34 ∷ []) 1 2 ≡ true
 unfolding is_apart next_from ignores
 no-ligature-before = refl
 

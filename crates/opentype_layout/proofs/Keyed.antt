@@ -3,7 +3,7 @@ use Rattle.std.proofs.Common.{ℕ, zero, suc, ◌+◌, ◌-◌, ◌*◌, ◌==�
 use Rattle.std.specs.Prelude.{nat_lt}
 use Rattle.shapers_buffer.specs.Glyphs.{Glyphs}
 use Rattle.std.specs.Option.{is_some}
-use Rattle.opentype_face.specs.Bytes.{u16_in, part_in}
+use Rattle.opentype_face.specs.Bytes.{u16_in, table_at}
 use Rattle.opentype_face.specs.Glyphs.{coverage_in}
 use Rattle.opentype_layout.specs.Keys.{IsBarred, bars, begins_with}
 use Rattle.opentype_layout.specs.Ligatures.{input_in}
@@ -67,7 +67,7 @@ none_behind gdef input context gs at rule one lt e =
 
 -- ---- the first number of a list, in a rule's bytes
 
-pub part_first : (bytes : List ℕ) (at : ℕ) → 0 < at → u16_in (part_in bytes at) 0 ≡ u16_in bytes at
+pub part_first : (bytes : List ℕ) (at : ℕ) → 0 < at → u16_in (table_at bytes at) 0 ≡ u16_in bytes at
 part_first bytes zero lt = absurd (omega arith)
 part_first bytes (suc at) lt =
     let one = get_or-drop (suc at) bytes 0 0 in
@@ -75,9 +75,9 @@ part_first bytes (suc at) lt =
     grind (arith, one, two)
 
 pub barred_at : (key : Key) (bytes : List ℕ) (at from : ℕ) → at ≡ from → 0 < from →
-    bars key (λ n. u16_in bytes from == n) ≡ true → bars key (begins_with (part_in bytes at)) ≡ true
+    bars key (λ n. u16_in bytes from == n) ≡ true → bars key (begins_with (table_at bytes at)) ≡ true
 barred_at key bytes at from e lt b =
-    ap (λ place. bars key (begins_with (part_in bytes place))) e
+    ap (λ place. bars key (begins_with (table_at bytes place))) e
     ∙ ap (λ first. bars key (λ n. first == n)) (part_first bytes from lt) ∙ b
 
 -- ---- rules in bytes
@@ -87,7 +87,7 @@ pub chained_before : (kind : Kind) (keys : Keys) (bytes : List ℕ) → (kind.fo
 unfolding chained_in
 chained_before kind keys bytes t lt b = rw t (record {
   none = λ gdef input context gs at are. none_before gdef input context gs at _ lt
-      (are.no_before (part_in bytes 2) (barred_at keys.before bytes 2 2 refl (omega arith) b));
+      (are.no_before (table_at bytes 2) (barred_at keys.before bytes 2 2 refl (omega arith) b));
 })
 
 pub chained_input : (kind : Kind) (keys : Keys) (bytes : List ℕ) → (kind.format == 3) ≡ false →
@@ -118,51 +118,51 @@ pub unchained_input : (kind : Kind) (keys : Keys) (bytes : List ℕ) → (kind.f
 unfolding unchained_in
 unchained_input kind keys bytes t lt b = rw t (record {
   none = λ gdef input context gs at are. none_input gdef input context gs at _ lt
-      (are.no_input (part_in bytes 4) (barred_at keys.input bytes 4 4 refl (omega arith) b));
+      (are.no_input (table_at bytes 4) (barred_at keys.input bytes 4 4 refl (omega arith) b));
 })
 
 -- ---- contexts of format 3, whose numbers are offsets of sets
 
 barred_set : (key : Key) (of bytes : List ℕ) (at from : ℕ) → at ≡ from → 0 < from →
-    bars key (λ n. is_some (coverage_in (part_in of (u16_in bytes from)) n)) ≡ true →
-    bars key (test_in 3 (part_in bytes at) of 0) ≡ true
+    bars key (λ n. is_some (coverage_in (table_at of (u16_in bytes from)) n)) ≡ true →
+    bars key (test_in 3 (table_at bytes at) of 0) ≡ true
 unfolding test_in
 barred_set key of bytes at from e lt b =
-    ap (λ place. bars key (test_in 3 (part_in bytes place) of 0)) e
-    ∙ ap (λ offset. bars key (λ n. is_some (coverage_in (part_in of offset) n))) (part_first bytes from lt) ∙ b
+    ap (λ place. bars key (test_in 3 (table_at bytes place) of 0)) e
+    ∙ ap (λ offset. bars key (λ n. is_some (coverage_in (table_at of offset) n))) (part_first bytes from lt) ∙ b
 
 pub sets_before : (gdef : List ℕ) (input context : Sight) (kind : Kind) (bytes : List ℕ) (gs : Glyphs) (at : ℕ) (key : Key) →
     kind.format ≡ 3 → 0 < u16_in bytes 2 →
     ((test : ℕ → ℕ → Bool) (k : ℕ) → bars key (test k) ≡ true → previous_in gdef context test gs at k 0 ≡ None) →
-    bars key (λ n. is_some (coverage_in (part_in kind.before (u16_in bytes 4)) n)) ≡ true →
+    bars key (λ n. is_some (coverage_in (table_at kind.before (u16_in bytes 4)) n)) ≡ true →
     found_at gdef input context gs at (chained_in kind bytes) ≡ None
 unfolding chained_in
 sets_before gdef input context kind bytes gs at key t lt none b =
     rw t (none_before gdef input context gs at _ lt
-    (none (test_in 3 (part_in bytes 4) kind.before) 0 (barred_set key kind.before bytes 4 4 refl (omega arith) b)))
+    (none (test_in 3 (table_at bytes 4) kind.before) 0 (barred_set key kind.before bytes 4 4 refl (omega arith) b)))
 
 pub sets_input : (gdef : List ℕ) (input context : Sight) (kind : Kind) (bytes : List ℕ) (gs : Glyphs) (at : ℕ) (key : Key) →
     kind.format ≡ 3 → 1 < u16_in bytes (4 + u16_in bytes 2 * 2) →
     ((test : ℕ → ℕ → Bool) (k : ℕ) → bars key (test k) ≡ true → next_in gdef input test gs k (at + 1) ≡ None) →
-    bars key (λ n. is_some (coverage_in (part_in kind.input (u16_in bytes (4 + u16_in bytes 2 * 2 + 4))) n)) ≡ true →
+    bars key (λ n. is_some (coverage_in (table_at kind.input (u16_in bytes (4 + u16_in bytes 2 * 2 + 4))) n)) ≡ true →
     found_at gdef input context gs at (chained_in kind bytes) ≡ None
 unfolding chained_in
 sets_input gdef input context kind bytes gs at key t lt none b =
     let place = 4 + u16_in bytes 2 * 2 + 2 + 2 in
-    rw t (none_input gdef input context gs at _ lt (none (test_in 3 (part_in bytes place) kind.input) 0
+    rw t (none_input gdef input context gs at _ lt (none (test_in 3 (table_at bytes place) kind.input) 0
     (barred_set key kind.input bytes place (4 + u16_in bytes 2 * 2 + 4) (omega arith) (omega arith) b)))
 
 pub sets_behind : (gdef : List ℕ) (input context : Sight) (kind : Kind) (bytes : List ℕ) (gs : Glyphs) (at : ℕ) (key : Key) →
     kind.format ≡ 3 → u16_in bytes (4 + u16_in bytes 2 * 2) ≡ 1 → 0 < u16_in bytes (4 + u16_in bytes 2 * 2 + 4) →
     ((test : ℕ → ℕ → Bool) (k : ℕ) → bars key (test k) ≡ true → next_in gdef context test gs k (end_in at []) ≡ None) →
-    bars key (λ n. is_some (coverage_in (part_in kind.behind (u16_in bytes (4 + u16_in bytes 2 * 2 + 6))) n)) ≡ true →
+    bars key (λ n. is_some (coverage_in (table_at kind.behind (u16_in bytes (4 + u16_in bytes 2 * 2 + 6))) n)) ≡ true →
     found_at gdef input context gs at (chained_in kind bytes) ≡ None
 unfolding chained_in
 sets_behind gdef input context kind bytes gs at key t one lt none b =
     let e : 4 + u16_in bytes 2 * 2 + 2 + 2 ≡ 4 + u16_in bytes 2 * 2 + 4 = omega arith in
     let some : 0 < u16_in bytes (4 + u16_in bytes 2 * 2 + 2 + 2) = rw e lt in
     let place = 4 + u16_in bytes 2 * 2 + 2 + 2 + 2 in
-    rw (t, one) (none_behind gdef input context gs at _ refl some (none (test_in 3 (part_in bytes place) kind.behind) 0
+    rw (t, one) (none_behind gdef input context gs at _ refl some (none (test_in 3 (table_at bytes place) kind.behind) 0
     (barred_set key kind.behind bytes place (4 + u16_in bytes 2 * 2 + 6) (omega arith) (omega arith) b)))
 
 pub none_chained : (gdef : List ℕ) (input context : Sight) (kind : Kind) (bytes : List ℕ) (gs : Glyphs) (at : ℕ) →

@@ -4,7 +4,7 @@ use Rattle.std.proofs.Common.{◌≡◌, ◌∙◌, ℕ, zero, suc, ◌+◌, ◌
 use Rattle.std.specs.Option.{option_and_then, option_map}
 use Rattle.std.proofs.lemmas.Bool.Decides.{nat_tests}
 use Rattle.shapers_buffer.specs.Glyphs.{Glyphs}
-use Rattle.opentype_face.specs.Bytes.{u16_in, part_in}
+use Rattle.opentype_face.specs.Bytes.{u16_in, table_at}
 use Rattle.opentype_face.specs.Firsts.{first_from, or_else}
 use Rattle.opentype_face.specs.Glyphs.{coverage_in}
 use Rattle.opentype_layout.specs.Rules.{by_glyphs, context_in, first_at}
@@ -36,8 +36,8 @@ none_of f (suc n) i h =
 
 pub no_rule : (chained : Bool) (gdef : List ℕ) (input context : Sight) (bytes : List ℕ) (gs : Glyphs) (at : ℕ) →
     let glyph = (glyph_at gs at).glyph_id % 65536 in
-    ((u16_in bytes 0 == 3) ≡ true → coverage_in (part_in bytes (u16_in bytes (first_at chained bytes))) glyph ≡ None) →
-    ((u16_in bytes 0 == 3) ≡ false → coverage_in (part_in bytes (u16_in bytes 2)) glyph ≡ None) →
+    ((u16_in bytes 0 == 3) ≡ true → coverage_in (table_at bytes (u16_in bytes (first_at chained bytes))) glyph ≡ None) →
+    ((u16_in bytes 0 == 3) ≡ false → coverage_in (table_at bytes (u16_in bytes 2)) glyph ≡ None) →
     context_in chained gdef input context bytes gs at ≡ None
 unfolding context_in by_glyphs
 no_rule chained gdef input context bytes gs at third other =

@@ -7,7 +7,7 @@ use Rattle.std.proofs.lemmas.Bool.Decides.{nat_tests}
 use Rattle.std.proofs.lemmas.List.{get_or_default}
 use Rattle.shapers_buffer.specs.Glyph.{default_glyph}
 use Rattle.shapers_buffer.specs.Glyphs.{Glyph, Glyphs}
-use Rattle.opentype_face.specs.Bytes.{part_in, u16_in}
+use Rattle.opentype_face.specs.Bytes.{table_at, u16_in}
 use Rattle.opentype_face.specs.Lookups.{lookup_in}
 use Rattle.opentype_layout.specs.Bits.{Grown, IsClear, bit_in}
 use Rattle.opentype_layout.specs.LookupRows.{AreAbsent, AreMarked, AreRows, AreUnset, BeginsNot, lookup_bit, row_bit}
@@ -94,14 +94,14 @@ marking_next of_gpos old lookups words new lookup index m g is out = record {
 }
 
 -- a lookup that isn't there begins at no glyph
-no_lookup : (of_gpos : Bool) (table : List ℕ) (count index glyph : ℕ) → count ≡ u16_in (part_in table (u16_in table 8)) 0 →
+no_lookup : (of_gpos : Bool) (table : List ℕ) (count index glyph : ℕ) → count ≡ u16_in (table_at table (u16_in table 8)) 0 →
     count ≤ index → BeginsNot of_gpos (lookup_in table index) glyph
 no_lookup of_gpos table count index glyph is le =
     let e : lookup_in table index ≡ [] = grind (arith, nat_tests) in
     rw e (none_from of_gpos [] glyph 0 0 (omega arith))
 
 pub rows_by : (of_gpos : Bool) (table : List ℕ) (lookups : List (List ℕ)) (words : List ℕ) (count : ℕ) → AreStarts table lookups →
-    AreMarked of_gpos lookups words (min (length lookups) 128) → count ≡ u16_in (part_in table (u16_in table 8)) 0 →
+    AreMarked of_gpos lookups words (min (length lookups) 128) → count ≡ u16_in (table_at table (u16_in table 8)) 0 →
     length lookups ≡ count → AreRows of_gpos table words
 rows_by of_gpos table lookups words count s m is all = record {
   out = λ index glyph lt unset. elim (before_or_not index count) [

@@ -1,6 +1,6 @@
 -- Where the sets stand that subtables of GSUB begin with, by their types.
 use Rattle.std.proofs.Common.{ℕ, ◌==◌, ◌≡◌, Bool, true, false, List, refl, ap, if◌then◌else◌}
-use Rattle.opentype_face.specs.Bytes.{u16_in, part_in}
+use Rattle.opentype_face.specs.Bytes.{u16_in, table_at}
 use Rattle.opentype_face.specs.Glyphs.{coverage_in}
 use Rattle.opentype_layout.specs.Rules.{first_at, start_place}
 use Rattle.opentype_layout.specs.Starts.{starts_at}
@@ -18,8 +18,8 @@ starts_plain kind bytes e f =
     plain_start (u16_in bytes 0 == 3) (kind == 5) (kind == 6) (first_at false bytes) (first_at true bytes) e f
 
 pub place_plain : (kind : ℕ) (bytes : List ℕ) (glyph : ℕ) → (kind == 5) ≡ false → (kind == 6) ≡ false →
-    first_place (record { kind = kind; bytes = bytes }) glyph ≡ coverage_in (part_in bytes (u16_in bytes 2)) glyph
-place_plain kind bytes glyph e f = ap (λ at. coverage_in (part_in bytes (u16_in bytes at)) glyph) (starts_plain kind bytes e f)
+    first_place (record { kind = kind; bytes = bytes }) glyph ≡ coverage_in (table_at bytes (u16_in bytes 2)) glyph
+place_plain kind bytes glyph e f = ap (λ at. coverage_in (table_at bytes (u16_in bytes at)) glyph) (starts_plain kind bytes e f)
 
 pub place_context : (bytes : List ℕ) (glyph : ℕ) →
     first_place (record { kind = 5; bytes = bytes }) glyph ≡ start_place false bytes glyph
@@ -33,9 +33,9 @@ place_chained bytes glyph = refl
 
 -- the set that a context of format 3 begins with, and one of another format
 pub place_by_sets : (chained : Bool) (bytes : List ℕ) (glyph : ℕ) → u16_in bytes 0 ≡ 3 →
-    start_place chained bytes glyph ≡ coverage_in (part_in bytes (u16_in bytes (first_at chained bytes))) glyph
+    start_place chained bytes glyph ≡ coverage_in (table_at bytes (u16_in bytes (first_at chained bytes))) glyph
 place_by_sets chained bytes glyph e = rw e refl
 
 pub place_by_glyphs : (chained : Bool) (bytes : List ℕ) (glyph : ℕ) → (u16_in bytes 0 == 3) ≡ false →
-    start_place chained bytes glyph ≡ coverage_in (part_in bytes (u16_in bytes 2)) glyph
+    start_place chained bytes glyph ≡ coverage_in (table_at bytes (u16_in bytes 2)) glyph
 place_by_glyphs chained bytes glyph e = rw e refl

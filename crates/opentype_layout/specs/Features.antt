@@ -1,7 +1,7 @@
 -- Scripts, language systems and features of GSUB or GPOS (OpenType, Common Table Formats), chosen
 -- as HarfBuzz chooses them. Tags are the numbers of their four letters.
 use Rattle.std.specs.Prelude.{ℕ, ◌+◌, ◌*◌, ◌==◌, ◌&&◌, ◌||◌, not, nat_lt, nat_le, is_some, bit_or, slice_index, length, min, Bool, true, false, List, [], ◌∷◌, ◌++◌, Option, None, Some, if◌then◌else◌}
-use Rattle.opentype_face.specs.Bytes.{u16_in, u32_in, part_in}
+use Rattle.opentype_face.specs.Bytes.{u16_in, u32_in, table_at}
 use Rattle.opentype_face.specs.Ranges.{bisect}
 use Rattle.opentype_layout.specs.declared.features.Chosen.{Chosen}
 use Rattle.opentype_face.specs.Firsts.{first_from, or_else}
@@ -16,13 +16,13 @@ tagged_in bytes first count tag =
 -- ---- scripts
 
 abbrev pub scripts_in : List ℕ → List ℕ
-scripts_in table = part_in table (u16_in table 4)
+scripts_in table = table_at table (u16_in table 4)
 
 abbrev pub script_in : List ℕ → ℕ → Option ℕ
 script_in table tag = tagged_in (scripts_in table) 2 (u16_in (scripts_in table) 0) tag
 
 abbrev pub script_table_in : List ℕ → ℕ → List ℕ
-script_table_in table number = part_in (scripts_in table) (u16_in (scripts_in table) (6 + number *
+script_table_in table number = table_at (scripts_in table) (u16_in (scripts_in table) (6 + number *
     6))
 
 -- the script of a tag, as one that is the text's own or a default
@@ -107,8 +107,8 @@ first_language_in script tags = first_from (length tags) (nth_language script ta
 
 -- the language system with a number; the default one where there is none
 abbrev pub system_of : List ℕ → Option ℕ → List ℕ
-system_of script None = part_in script (u16_in script 0)
-system_of script (Some number) = part_in script (u16_in script (8 + number * 6))
+system_of script None = table_at script (u16_in script 0)
+system_of script (Some number) = table_at script (u16_in script (8 + number * 6))
 
 -- The language system of the first of these tags that a script has; then that of dflt, then the
 -- default one.
@@ -119,7 +119,7 @@ system_in script tags =
 -- ---- features
 
 abbrev pub features_in : List ℕ → List ℕ
-features_in table = part_in table (u16_in table 6)
+features_in table = table_at table (u16_in table 6)
 
 -- the tag of a feature; 0 where there is none
 unfoldable pub feature_tag_in : List ℕ → ℕ → ℕ
@@ -163,7 +163,7 @@ condition_holds condition =
     else false)
 
 unfoldable pub nth_failing : List ℕ → ℕ → Option ℕ
-nth_failing set i = if condition_holds (part_in set (u32_in set (2 + i * 4))) then None else Some i
+nth_failing set i = if condition_holds (table_at set (u32_in set (2 + i * 4))) then None else Some i
 
 -- whether all conditions of a set hold, of which 256 are read at most
 unfoldable pub set_holds : List ℕ → Bool
@@ -172,11 +172,11 @@ set_holds set = not (is_some (first_from (min (u16_in set 0) 256) (nth_failing s
 -- the feature variations of a table of version 1.1 or later
 unfoldable pub variations_in : List ℕ → List ℕ
 variations_in table =
-    if nat_lt (u32_in table 0) 0x00010001 then [] else part_in table (u32_in table 10)
+    if nat_lt (u32_in table 0) 0x00010001 then [] else table_at table (u32_in table 10)
 
 unfoldable pub nth_holding : List ℕ → ℕ → Option ℕ
 nth_holding variations i =
-    if set_holds (part_in variations (u32_in variations (8 + i * 8))) then Some i else None
+    if set_holds (table_at variations (u32_in variations (8 + i * 8))) then Some i else None
 
 -- the first record whose conditions hold, of 512 at most
 unfoldable pub variation_in : List ℕ → Option ℕ
@@ -184,7 +184,7 @@ variation_in variations = first_from (min (u32_in variations 4) 512) (nth_holdin
 
 abbrev pub substitutions_of : List ℕ → Option ℕ → List ℕ
 substitutions_of variations None = []
-substitutions_of variations (Some i) = part_in variations (u32_in variations (12 + i * 8))
+substitutions_of variations (Some i) = table_at variations (u32_in variations (12 + i * 8))
 
 -- the substitutions of features that hold at the default instance
 unfoldable pub substitutions_in : List ℕ → List ℕ
@@ -204,12 +204,12 @@ substitute_in substitutions index =
 abbrev pub plain_feature_in : List ℕ → ℕ → List ℕ
 plain_feature_in table index =
     let list = features_in table in
-    if nat_lt index (u16_in list 0) then part_in list (u16_in list (6 + index * 6)) else []
+    if nat_lt index (u16_in list 0) then table_at list (u16_in list (6 + index * 6)) else []
 
 -- the table of a feature: the one that its substitution names, or its own
 abbrev pub feature_or : List ℕ → ℕ → List ℕ → Option ℕ → List ℕ
 feature_or table index substitutions None = plain_feature_in table index
-feature_or table index substitutions (Some i) = part_in substitutions (u32_in substitutions (8 + i
+feature_or table index substitutions (Some i) = table_at substitutions (u32_in substitutions (8 + i
     * 6))
 
 -- the table that a variation has for a feature, or its own

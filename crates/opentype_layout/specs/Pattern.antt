@@ -2,7 +2,7 @@
 use Rattle.std.specs.Prelude.{ℕ, zero, suc, ◌+◌, ◌-◌, ◌*◌, ◌%◌, ◌==◌, Bool, is_some, length, List, [], ◌∷◌, Option, Some}
 use Rattle.std.specs.Option.{option_and_then, option_map}
 use Rattle.shapers_buffer.specs.Glyphs.{Glyph, Glyphs}
-use Rattle.opentype_face.specs.Bytes.{u16_in, part_in}
+use Rattle.opentype_face.specs.Bytes.{u16_in, table_at}
 use Rattle.opentype_face.specs.Glyphs.{class_in, coverage_in}
 use Rattle.opentype_layout.specs.declared.pattern.Pattern.{Pattern}
 use Rattle.opentype_layout.specs.declared.pattern.Pattern.TheVariants.{Glyphs as Numbers, Classes, Sets}
@@ -12,7 +12,7 @@ use Rattle.opentype_layout.specs.Sight.{next_from, seen_as}
 
 -- whether a glyph is in set k of these, whose offsets are from the start of a table
 abbrev pub is_in_sets : List ℕ → List ℕ → ℕ → ℕ → Bool
-is_in_sets offsets table k glyph = is_some (coverage_in (part_in table (u16_in offsets (k * 2)))
+is_in_sets offsets table k glyph = is_some (coverage_in (table_at table (u16_in offsets (k * 2)))
     glyph)
 
 -- whether a glyph is number k of these

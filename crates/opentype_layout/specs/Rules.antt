@@ -3,7 +3,7 @@
 use Rattle.std.specs.Prelude.{zero, suc, ◌^◌, ℕ, ◌+◌, ◌-◌, ◌*◌, ◌%◌, ◌==◌, min, nat_lt, is_some, slice_index, length, Bool, true, false, List, [], ◌∷◌, Option, None, Some, if◌then◌else◌}
 use Rattle.std.specs.Option.{option_and_then}
 use Rattle.shapers_buffer.specs.Glyphs.{Glyphs}
-use Rattle.opentype_face.specs.Bytes.{u16_in, part_in}
+use Rattle.opentype_face.specs.Bytes.{u16_in, table_at}
 use Rattle.opentype_face.specs.Glyphs.{class_in, coverage_in}
 use Rattle.opentype_layout.specs.declared.rules.Matched.{Matched}
 use Rattle.opentype_layout.specs.declared.rules.Rule.{Rule}
@@ -154,13 +154,13 @@ chained_in kind bytes =
     let behind_at = input_at + shift + u16_in bytes input_at * 2 in
     let records_at = behind_at + 2 + u16_in bytes behind_at * 2 in
     record {
-      before = test_in kind.format (part_in bytes (shift + 2)) kind.before;
+      before = test_in kind.format (table_at bytes (shift + 2)) kind.before;
       before_count = u16_in bytes shift;
-      input = test_in kind.format (part_in bytes (input_at + shift + 2)) kind.input;
+      input = test_in kind.format (table_at bytes (input_at + shift + 2)) kind.input;
       input_count = u16_in bytes input_at;
-      behind = test_in kind.format (part_in bytes (behind_at + 2)) kind.behind;
+      behind = test_in kind.format (table_at bytes (behind_at + 2)) kind.behind;
       behind_count = u16_in bytes behind_at;
-      records = part_in bytes (records_at + 2);
+      records = table_at bytes (records_at + 2);
       count = u16_in bytes records_at;
     }
 
@@ -171,11 +171,11 @@ unchained_in kind bytes =
     record {
       before = test_in 1 [] [];
       before_count = 0;
-      input = test_in kind.format (part_in bytes (shift + shift + 4)) kind.input;
+      input = test_in kind.format (table_at bytes (shift + shift + 4)) kind.input;
       input_count = u16_in bytes shift;
       behind = test_in 1 [] [];
       behind_count = 0;
-      records = part_in bytes (shift + shift + 2 + u16_in bytes shift * 2);
+      records = table_at bytes (shift + shift + 2 + u16_in bytes shift * 2);
       count = u16_in bytes (shift + 2);
     }
 
@@ -185,7 +185,7 @@ rule_in kind bytes = if kind.chained then chained_in kind bytes else unchained_i
 -- what rule i of a set comes to
 unfoldable pub nth_in : List ℕ → Sight → Sight → Kind → List ℕ → Glyphs → ℕ → ℕ → Option Found
 nth_in gdef input context kind set gs at i =
-    found_at gdef input context gs at (rule_in kind (part_in set (u16_in set (2 + i * 2))))
+    found_at gdef input context gs at (rule_in kind (table_at set (u16_in set (2 + i * 2))))
 
 -- the first rule of a set that fits
 unfoldable pub first_in : List ℕ → Sight → Sight → Kind → List ℕ → Glyphs → ℕ → Option Found
@@ -217,14 +217,14 @@ kind_in chained bytes =
     else (if format == 2 then (if chained then record {
       chained = true;
       format = 2;
-      before = part_in bytes (u16_in bytes 4);
-      input = part_in bytes (u16_in bytes 6);
-      behind = part_in bytes (u16_in bytes 8);
+      before = table_at bytes (u16_in bytes 4);
+      input = table_at bytes (u16_in bytes 6);
+      behind = table_at bytes (u16_in bytes 8);
     } else record {
       chained = false;
       format = 2;
       before = [];
-      input = part_in bytes (u16_in bytes 4);
+      input = table_at bytes (u16_in bytes 4);
       behind = [];
     })
     else no_tables chained 1)
@@ -232,7 +232,7 @@ kind_in chained bytes =
 -- the set of rules with a number, of those whose count stands at a place
 unfoldable pub set_in : List ℕ → ℕ → ℕ → List ℕ
 set_in bytes at number =
-    if nat_lt number (u16_in bytes at) then part_in bytes (u16_in bytes (at + 2 + number * 2)) else
+    if nat_lt number (u16_in bytes at) then table_at bytes (u16_in bytes (at + 2 + number * 2)) else
     []
 
 -- where the count of format 2's sets stands
@@ -250,7 +250,7 @@ start_at chained bytes = if u16_in bytes 0 == 3 then first_at chained bytes else
 -- the place of a glyph in that set
 abbrev pub start_place : Bool → List ℕ → ℕ → Option ℕ
 start_place chained bytes glyph =
-    coverage_in (part_in bytes (u16_in bytes (start_at chained bytes))) glyph
+    coverage_in (table_at bytes (u16_in bytes (start_at chained bytes))) glyph
 
 unfoldable pub by_glyphs : List ℕ → Sight → Sight → Kind → List ℕ → Glyphs → ℕ → Option ℕ → Option
     Found
@@ -264,13 +264,13 @@ context_in chained gdef input context bytes gs at =
     let glyph = (glyph_at gs at).glyph_id % 65536 in
     let kind = kind_in chained bytes in
     let format = u16_in bytes 0 in
-    let covered = coverage_in (part_in bytes (u16_in bytes 2)) glyph in
+    let covered = coverage_in (table_at bytes (u16_in bytes 2)) glyph in
     if format == 1 then by_glyphs gdef input context kind bytes gs at covered
     else (if format == 2 then (if is_some covered
     then first_in gdef input context kind (set_in bytes (sets_at chained) (class_in kind.input
     glyph)) gs at
     else None)
-    else (if format == 3 then (if is_some (coverage_in (part_in bytes (u16_in bytes (first_at
+    else (if format == 3 then (if is_some (coverage_in (table_at bytes (u16_in bytes (first_at
     chained bytes))) glyph)
     then found_at gdef input context gs at (rule_in kind bytes) else None)
     else None))

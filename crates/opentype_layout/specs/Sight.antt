@@ -2,7 +2,7 @@
 use Rattle.std.specs.Prelude.{ℕ, zero, suc, ◌+◌, ◌/◌, ◌%◌, ◌==◌, ◌&&◌, ◌||◌, not, nat_lt, Bool, true, false, bit_and, List, Option, None, Some, if◌then◌else◌}
 use Rattle.shapers_buffer.specs.Glyphs.{Glyph}
 use Rattle.shapers_buffer.specs.Properties.{has_bit}
-use Rattle.opentype_face.specs.Bytes.{u16_in, part_in}
+use Rattle.opentype_face.specs.Bytes.{u16_in, table_at}
 use Rattle.opentype_face.specs.Classes.{is_in_set}
 use Rattle.opentype_face.specs.Lookups.{mark_set_in}
 use Rattle.opentype_layout.specs.declared.sight.Application.{Application}
@@ -19,7 +19,7 @@ ignores gdef flag set g =
 
 -- how many sets of marks GDEF has (from version 1.2 on)
 abbrev pub set_count : List ℕ → ℕ
-set_count gdef = u16_in (if u16_in gdef 2 == 0 then part_in gdef 0 else part_in gdef (u16_in gdef
+set_count gdef = u16_in (if u16_in gdef 2 == 0 then table_at gdef 0 else table_at gdef (u16_in gdef
     12)) 2
 
 -- A lookup's flag. One with a set of marks that isn't there is read without bit 16, as in HarfBuzz.

@@ -1,7 +1,7 @@
 -- Where a lookup of GSUB or of GPOS may begin: with the glyphs of the first set of a subtable.
 use Rattle.std.specs.Prelude.{ℕ, ◌+◌, ◌-◌, ◌*◌, ◌%◌, ◌==◌, ◌<◌, ◌≤◌, ◌≡◌, ◌&&◌, ◌⊎◌, not, nat_lt, Bool, true, false, bit_and, is_some, List, [], length, slice_index_or, Option, None, Some, if◌then◌else◌}
 use Rattle.shapers_buffer.specs.Glyphs.{Glyph, Glyphs}
-use Rattle.opentype_face.specs.Bytes.{u16_in, part_in}
+use Rattle.opentype_face.specs.Bytes.{u16_in, table_at}
 use Rattle.opentype_face.specs.Glyphs.{coverage_in}
 use Rattle.opentype_face.specs.Lookups.{lookup_in, subtable_in, type_in}
 use Rattle.opentype_layout.specs.Bits.{bit_in}
@@ -30,7 +30,7 @@ starts_at of_gpos kind bytes =
 
 -- the set of a subtable's first glyphs
 abbrev pub first_set_in : Bool → ℕ → List ℕ → List ℕ
-first_set_in of_gpos kind bytes = part_in bytes (u16_in bytes (starts_at of_gpos kind bytes))
+first_set_in of_gpos kind bytes = table_at bytes (u16_in bytes (starts_at of_gpos kind bytes))
 
 abbrev pub starts_with : Bool → ℕ → List ℕ → ℕ → Bool
 starts_with of_gpos kind bytes glyph = is_some (coverage_in (first_set_in of_gpos kind bytes) glyph)

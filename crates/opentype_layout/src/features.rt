@@ -6,7 +6,7 @@ ghost use Rattle.opentype_face.specs.Firsts.{first_from};
 ghost use Rattle.opentype_face.specs.Bytes.{u16_in, u32_in};
 
 use arrayvec::ArrayVec;
-use opentype_face::bytes::{part, u16_at, u32_at};
+use opentype_face::bytes::{table_at, u16_at, u32_at};
 use opentype_face::ranges::Ranges;
 
 /// How many records of feature variations are read at most, which is more than any font has.
@@ -54,7 +54,7 @@ fn tagged(bytes: &[u8], first: u32, count: u16, tag: u32) -> Option<u32>
 fn scripts(table: &[u8]) -> &[u8]
     ensures { result.now ≡ scripts_in table.now }
 {
-    part(table, usize::from(u16_at(table, 4)))
+    table_at(table, usize::from(u16_at(table, 4)))
 }
 
 // The script of a tag.
@@ -116,7 +116,7 @@ pub fn script_table(table: &[u8], i: u32) -> &[u8]
     ensures { result.now ≡ script_table_in table.now i }
 {
     let list = scripts(table);
-    part(list, usize::from(u16_at(list, 6 + i as usize * 6)))
+    table_at(list, usize::from(u16_at(list, 6 + i as usize * 6)))
 }
 
 #[tactic(auto, unfolding(crate::specs::Features::new_tag_in))]
@@ -214,8 +214,8 @@ fn system_at(script: &[u8], number: Option<u32>) -> &[u8]
     ensures { result.now ≡ system_of script.now number }
 {
     match number {
-        Some(i) => part(script, usize::from(u16_at(script, 8 + i as usize * 6))),
-        None => part(script, usize::from(u16_at(script, 0))),
+        Some(i) => table_at(script, usize::from(u16_at(script, 8 + i as usize * 6))),
+        None => table_at(script, usize::from(u16_at(script, 0))),
     }
 }
 
@@ -235,7 +235,7 @@ pub fn language_system<'a>(script: &'a [u8], tags: &[u32]) -> &'a [u8]
 fn features(table: &[u8]) -> &[u8]
     ensures { result.now ≡ features_in table.now }
 {
-    part(table, usize::from(u16_at(table, 6)))
+    table_at(table, usize::from(u16_at(table, 6)))
 }
 
 fn feature_count(table: &[u8]) -> u16
@@ -341,7 +341,7 @@ fn holds(condition: &[u8]) -> bool
 fn failing(set: &[u8], i: u16) -> Option<u16>
     ensures { result ≡ nth_failing set.now i }
 {
-    if holds(part(set, offset32(set, 2 + usize::from(i) * 4))) {
+    if holds(table_at(set, offset32(set, 2 + usize::from(i) * 4))) {
         None
     } else {
         Some(i)
@@ -375,14 +375,14 @@ fn variations(table: &[u8]) -> &[u8]
     if u32_at(table, 0) < 0x0001_0001 {
         return &[];
     }
-    part(table, offset32(table, 10))
+    table_at(table, offset32(table, 10))
 }
 
 #[tactic(auto, unfolding(crate::specs::Features::nth_holding))]
 fn holding(variations: &[u8], i: u32) -> Option<u32>
     ensures { result ≡ nth_holding variations.now i }
 {
-    if all_hold(part(variations, offset32(variations, 8 + i as usize * 8))) {
+    if all_hold(table_at(variations, offset32(variations, 8 + i as usize * 8))) {
         Some(i)
     } else {
         None
@@ -411,7 +411,7 @@ pub fn substitutions(table: &[u8]) -> &[u8]
 {
     let variations = variations(table);
     match find_variation(variations) {
-        Some(i) => part(variations, offset32(variations, 12 + i as usize * 8)),
+        Some(i) => table_at(variations, offset32(variations, 12 + i as usize * 8)),
         None => &[],
     }
 }
@@ -448,7 +448,7 @@ fn plain_feature(table: &[u8], index: u16) -> &[u8]
     if index >= u16_at(list, 0) {
         return &[];
     }
-    part(list, usize::from(u16_at(list, 6 + usize::from(index) * 6)))
+    table_at(list, usize::from(u16_at(list, 6 + usize::from(index) * 6)))
 }
 
 /// A feature's table by its number, or what stands for it among these substitutions.
@@ -458,7 +458,7 @@ pub fn feature_by<'a>(table: &'a [u8], substitutions: &'a [u8], index: u16) -> &
     match find_substitute(substitutions, index) {
         Some(i) => {
             let at = offset32(substitutions, 8 + usize::from(i) * 6);
-            part(substitutions, at)
+            table_at(substitutions, at)
         }
         None => plain_feature(table, index),
     }

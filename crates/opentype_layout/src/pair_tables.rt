@@ -1,10 +1,10 @@
 //! Subtables of pairs, with tables of their glyphs.
 ghost use Rattle.std.specs.Prelude.{◌≡◌, List, ℕ};
-ghost use Rattle.opentype_face.specs.Bytes.{part_in, u16_in};
+ghost use Rattle.opentype_face.specs.Bytes.{table_at, u16_in};
 ghost use Rattle.opentype_face.specs.Glyphs.{class_in, coverage_in};
 ghost use Rattle.opentype_layout.specs.PairTables.{ArePairTables, header_in};
 
-use opentype_face::bytes::{offset16, part, u16_at};
+use opentype_face::bytes::{offset16, table_at, u16_at};
 use opentype_face::glyph_tables::{PreparedClassDef, PreparedCoverage};
 use opentype_face::lookup::{subtable, subtable_count, subtable_type};
 use std::alloc::Global;
@@ -58,9 +58,9 @@ impl<'a> Model for PairTable<'a> {
     ghost view = { λ it. it.bytes.now };
 
     ghost invariant = { λ it. (it.header ≡ header_in it.bytes.now) ×
-        (it.set.set.now ≡ part_in it.bytes.now (u16_in it.bytes.now 2)) ×
-        (it.first_classes.bytes.now ≡ part_in it.bytes.now (u16_in it.bytes.now 8)) ×
-        (it.second_classes.bytes.now ≡ part_in it.bytes.now (u16_in it.bytes.now 10)) };
+        (it.set.set.now ≡ table_at it.bytes.now (u16_in it.bytes.now 2)) ×
+        (it.first_classes.bytes.now ≡ table_at it.bytes.now (u16_in it.bytes.now 8)) ×
+        (it.second_classes.bytes.now ≡ table_at it.bytes.now (u16_in it.bytes.now 10)) };
 }
 
 impl<'a> PairTable<'a> {
@@ -71,9 +71,17 @@ impl<'a> PairTable<'a> {
         PairTable {
             bytes,
             header: PairHeader::of(bytes),
-            set: PreparedCoverage::new(part(bytes, offset16(bytes, 2)), alloc, budget),
-            first_classes: PreparedClassDef::new(part(bytes, offset16(bytes, 8)), alloc, budget),
-            second_classes: PreparedClassDef::new(part(bytes, offset16(bytes, 10)), alloc, budget),
+            set: PreparedCoverage::new(table_at(bytes, offset16(bytes, 2)), alloc, budget),
+            first_classes: PreparedClassDef::new(
+                table_at(bytes, offset16(bytes, 8)),
+                alloc,
+                budget,
+            ),
+            second_classes: PreparedClassDef::new(
+                table_at(bytes, offset16(bytes, 10)),
+                alloc,
+                budget,
+            ),
         }
     }
 
@@ -96,7 +104,7 @@ impl<'a> PairTable<'a> {
     /// The place of a glyph in the set of first glyphs.
     #[inline]
     pub fn place(&self, glyph: u16) -> Option<u32>
-        ensures { result ≡ coverage_in (part_in self.now (u16_in self.now 2)) glyph }
+        ensures { result ≡ coverage_in (table_at self.now (u16_in self.now 2)) glyph }
     {
         self.set.place(glyph)
     }
@@ -104,7 +112,7 @@ impl<'a> PairTable<'a> {
     /// The class of a first glyph, in format 2.
     #[inline]
     pub fn first_class(&self, glyph: u16) -> u16
-        ensures { result ≡ class_in (part_in self.now (u16_in self.now 8)) glyph }
+        ensures { result ≡ class_in (table_at self.now (u16_in self.now 8)) glyph }
     {
         self.first_classes.class(glyph)
     }
@@ -112,7 +120,7 @@ impl<'a> PairTable<'a> {
     /// The class of a second one.
     #[inline]
     pub fn second_class(&self, glyph: u16) -> u16
-        ensures { result ≡ class_in (part_in self.now (u16_in self.now 10)) glyph }
+        ensures { result ≡ class_in (table_at self.now (u16_in self.now 10)) glyph }
     {
         self.second_classes.class(glyph)
     }

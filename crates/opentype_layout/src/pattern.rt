@@ -4,7 +4,7 @@ ghost use Rattle.opentype_layout.specs.Pattern.{fits, next_in, previous_in, seen
 ghost use Rattle.opentype_layout.specs.Text.{glyph_at};
 
 use crate::sight::{Sight, number};
-use opentype_face::bytes::{part, u16_at};
+use opentype_face::bytes::{table_at, u16_at};
 use opentype_face::glyph_sets::{class, coverage};
 use shapers_buffer::buffer::hb_glyph_info_t;
 
@@ -32,7 +32,7 @@ impl<'a> Pattern<'a> {
                 == class(of, glyph),
             Pattern::Sets(offsets, table) => {
                 let offset = usize::from(u16_at(offsets, usize::from(k) * 2));
-                coverage(part(table, offset), glyph).is_some()
+                coverage(table_at(table, offset), glyph).is_some()
             }
         }
     }

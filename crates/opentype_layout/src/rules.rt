@@ -1,7 +1,7 @@
 //! Rules of contexts and of chained contexts: what they look for, and where they fit.
 ghost use Rattle.std.specs.Prelude.{◌≡◌, ◌<◌, ◌≤◌, ◌%◌, ◌==◌, false, true, length, is_some, None};
 ghost use Rattle.opentype_face.specs.Glyphs.{coverage_in};
-ghost use Rattle.opentype_face.specs.Bytes.{part_in, u16_in};
+ghost use Rattle.opentype_face.specs.Bytes.{table_at, u16_in};
 ghost use Rattle.std.specs.Option.{option_map};
 ghost use Rattle.opentype_layout.specs.Keys.{AreKeys, IsBarred};
 ghost use Rattle.opentype_layout.specs.Pattern.{fits};
@@ -13,7 +13,7 @@ use crate::keys::{Keys, key_before, key_behind};
 use crate::pattern::Pattern;
 use crate::places::Places;
 use crate::sight::{Sight, number};
-use opentype_face::bytes::{part, u16_at};
+use opentype_face::bytes::{table_at, u16_at};
 use opentype_face::glyph_sets::{class, coverage};
 use shapers_buffer::buffer::hb_glyph_info_t;
 
@@ -228,13 +228,17 @@ impl<'a> Tables<'a> {
         let behind_count = u16_at(bytes, behind_at);
         let records_at = behind_at + 2 + usize::from(behind_count) * 2;
         Rule {
-            before: pattern(self.format, part(bytes, shift + 2), self.before),
+            before: pattern(self.format, table_at(bytes, shift + 2), self.before),
             before_count,
-            input: pattern(self.format, part(bytes, input_at + shift + 2), self.input),
+            input: pattern(
+                self.format,
+                table_at(bytes, input_at + shift + 2),
+                self.input,
+            ),
             input_count,
-            behind: pattern(self.format, part(bytes, behind_at + 2), self.behind),
+            behind: pattern(self.format, table_at(bytes, behind_at + 2), self.behind),
             behind_count,
-            records: part(bytes, records_at + 2),
+            records: table_at(bytes, records_at + 2),
             count: u16_at(bytes, records_at),
         }
     }
@@ -249,11 +253,11 @@ impl<'a> Tables<'a> {
         Rule {
             before: pattern(1, &[], &[]),
             before_count: 0,
-            input: pattern(self.format, part(bytes, shift + shift + 4), self.input),
+            input: pattern(self.format, table_at(bytes, shift + shift + 4), self.input),
             input_count,
             behind: pattern(1, &[], &[]),
             behind_count: 0,
-            records: part(bytes, shift + shift + 2 + usize::from(input_count) * 2),
+            records: table_at(bytes, shift + shift + 2 + usize::from(input_count) * 2),
             count: u16_at(bytes, shift + 2),
         }
     }
@@ -302,15 +306,15 @@ impl<'a> Tables<'a> {
             2 if chained => Tables {
                 chained: true,
                 format: 2,
-                before: part(bytes, usize::from(u16_at(bytes, 4))),
-                input: part(bytes, usize::from(u16_at(bytes, 6))),
-                behind: part(bytes, usize::from(u16_at(bytes, 8))),
+                before: table_at(bytes, usize::from(u16_at(bytes, 4))),
+                input: table_at(bytes, usize::from(u16_at(bytes, 6))),
+                behind: table_at(bytes, usize::from(u16_at(bytes, 8))),
             },
             2 => Tables {
                 chained: false,
                 format: 2,
                 before: &[],
-                input: part(bytes, usize::from(u16_at(bytes, 4))),
+                input: table_at(bytes, usize::from(u16_at(bytes, 4))),
                 behind: &[],
             },
             _ => Tables {
@@ -422,7 +426,7 @@ impl<'a> Tables<'a> {
     {
         let keys = self.keys(gdef, input, context, glyphs, at);
         for i in 0..u16_at(set, 0) {
-            let bytes = part(set, usize::from(u16_at(set, 2 + usize::from(i) * 2)));
+            let bytes = table_at(set, usize::from(u16_at(set, 2 + usize::from(i) * 2)));
             if self.is_barred(&keys, bytes) {
                 continue;
             }
@@ -438,9 +442,9 @@ impl<'a> Tables<'a> {
 // The set of glyphs whose offset from the start of a table stands at a place of a rule.
 #[inline]
 fn set_at<'a>(table: &'a [u8], rule: &[u8], at: usize) -> &'a [u8]
-    ensures { result.now ≡ part_in table.now (u16_in rule.now at) }
+    ensures { result.now ≡ table_at table.now (u16_in rule.now at) }
 {
-    part(table, usize::from(u16_at(rule, at)))
+    table_at(table, usize::from(u16_at(rule, at)))
 }
 
 // A set of rules of a context, by its number.
@@ -452,7 +456,7 @@ pub(crate) fn rule_set(bytes: &[u8], at: usize, i: u32) -> &[u8]
     if i >= u32::from(u16_at(bytes, at)) {
         return &[];
     }
-    part(bytes, usize::from(u16_at(bytes, at + 2 + i as usize * 2)))
+    table_at(bytes, usize::from(u16_at(bytes, at + 2 + i as usize * 2)))
 }
 
 pub(crate) fn place_of_sets(chained: bool) -> usize
@@ -479,17 +483,17 @@ pub(crate) fn place_of_first(chained: bool, bytes: &[u8]) -> usize
 #[inline]
 fn is_begun(chained: bool, bytes: &[u8], glyph: u16, is_known: bool) -> bool
     requires { is_known ≡ true →
-        is_some (coverage_in (part_in bytes.now (u16_in bytes.now (first_at chained bytes.now)))
+        is_some (coverage_in (table_at bytes.now (u16_in bytes.now (first_at chained bytes.now)))
         glyph) ≡ true }
     ensures { result
-        ≡ is_some (coverage_in (part_in bytes.now (u16_in bytes.now (first_at chained bytes.now)))
+        ≡ is_some (coverage_in (table_at bytes.now (u16_in bytes.now (first_at chained bytes.now)))
         glyph) }
 {
     if is_known {
         return true;
     }
     let set = u16_at(bytes, place_of_first(chained, bytes));
-    coverage(part(bytes, usize::from(set)), glyph).is_some()
+    coverage(table_at(bytes, usize::from(set)), glyph).is_some()
 }
 
 // The rule of a context of format 3, if it fits a place of a text; the set that it begins with is
@@ -508,7 +512,7 @@ fn find_by_sets<'a>(
     requires inside { at < length glyphs.now }
     requires format { u16_in bytes.now 0 ≡ 3 }
     requires known { is_known ≡ true →
-        is_some (coverage_in (part_in bytes.now (u16_in bytes.now (first_at chained bytes.now)))
+        is_some (coverage_in (table_at bytes.now (u16_in bytes.now (first_at chained bytes.now)))
         ((glyph_at glyphs.now at).glyph_id % 65536)) ≡ true }
     ensures { option_map (λ it. found it) result
         ≡ context_in chained gdef.now input.now context.now bytes.now glyphs.now at }
@@ -541,7 +545,7 @@ fn find_by_first<'a>(
     requires inside { at < length glyphs.now }
     requires format { u16_in bytes.now 0 ≡ 3 }
     requires place { place
-        ≡ coverage_in (part_in bytes.now (u16_in bytes.now (first_at chained bytes.now)))
+        ≡ coverage_in (table_at bytes.now (u16_in bytes.now (first_at chained bytes.now)))
         ((glyph_at glyphs.now at).glyph_id % 65536) }
     ensures { option_map (λ it. found it) result
         ≡ context_in chained gdef.now input.now context.now bytes.now glyphs.now at }
@@ -565,7 +569,7 @@ fn find_by_place<'a>(
 ) -> Option<Matched<'a>>
     requires inside { at < length glyphs.now }
     requires format { (u16_in bytes.now 0 == 3) ≡ false }
-    requires covered { covered ≡ coverage_in (part_in bytes.now (u16_in bytes.now 2))
+    requires covered { covered ≡ coverage_in (table_at bytes.now (u16_in bytes.now 2))
         ((glyph_at glyphs.now at).glyph_id % 65536) }
     ensures { option_map (λ it. found it) result
         ≡ context_in chained gdef.now input.now context.now bytes.now glyphs.now at }
@@ -603,7 +607,7 @@ pub fn find_rule<'a>(
         return find_by_sets(chained, gdef, input, context, bytes, false, glyphs, at);
     }
     let covered = coverage(
-        part(bytes, usize::from(u16_at(bytes, 2))),
+        table_at(bytes, usize::from(u16_at(bytes, 2))),
         number(&glyphs[at]),
     );
     find_by_place(chained, gdef, input, context, bytes, covered, glyphs, at)

@@ -5,7 +5,7 @@ ghost use Rattle.opentype_face.specs.Glyphs.{coverage_in, ranges_in};
 ghost use Rattle.opentype_face.specs.Lookups.{subtable_in, type_in};
 ghost use Rattle.opentype_layout.specs.Starts.{extension_type, first_set_in, starting, starts_at};
 
-use opentype_face::bytes::{part, u16_at};
+use opentype_face::bytes::{table_at, u16_at};
 use opentype_face::glyph_sets::coverage;
 use opentype_face::lookup::{subtable, subtable_count, subtable_type};
 use opentype_face::ranges::Ranges;
@@ -39,7 +39,7 @@ pub(crate) fn first_set(of_gpos: bool, lookup: &[u8], i: u16) -> &[u8]
     let extension = if of_gpos { 9 } else { 7 };
     let bytes = subtable(extension, lookup, i);
     let at = place_of_set(of_gpos, subtable_type(extension, lookup, i), bytes);
-    part(bytes, usize::from(u16_at(bytes, at)))
+    table_at(bytes, usize::from(u16_at(bytes, at)))
 }
 
 /// The number of a subtable that may begin at a glyph.

@@ -2,7 +2,7 @@
 ghost use Rattle.std.specs.Prelude.{◌≡◌, ◌%◌};
 ghost use Rattle.opentype_layout.specs.Sight.{flag_in, ignores, is_joiner, may_pass, seen_as, set_count, sight_of_context, sight_of_input, syllable_in};
 
-use opentype_face::bytes::{part, u16_at};
+use opentype_face::bytes::{table_at, u16_at};
 use opentype_face::classes::is_in_mark_set;
 use opentype_face::lookup::{lookup_flag, mark_set};
 use shapers_buffer::buffer::hb_glyph_info_t;
@@ -50,7 +50,7 @@ fn mark_set_count(gdef: &[u8]) -> u16
     } else {
         usize::from(u16_at(gdef, 12))
     };
-    u16_at(part(gdef, at), 2)
+    u16_at(table_at(gdef, at), 2)
 }
 
 // The flag of a lookup; where its set of marks isn't there, it has none.

@@ -1,6 +1,6 @@
 //! GSUB or GPOS, with the bits of its lookups.
 ghost use Rattle.std.specs.Prelude.{◌≡◌, List, ℕ, IfSome};
-ghost use Rattle.opentype_face.specs.Bytes.{part_in, u16_in};
+ghost use Rattle.opentype_face.specs.Bytes.{table_at, u16_in};
 ghost use Rattle.opentype_face.specs.Lookups.{lookup_in};
 ghost use Rattle.opentype_layout.specs.LookupRows.{AreAbsent, AreRows};
 ghost use Rattle.opentype_layout.specs.Starts.{AreStarts};
@@ -9,7 +9,7 @@ use crate::lookup_rows::{LookupBits, lookup_rows, rows_of};
 use crate::pair_tables::LookupPairs;
 use crate::starts::{LookupTable, Starts};
 use crate::substitution_tables::LookupSubstitutions;
-use opentype_face::bytes::{offset16, part, u16_at};
+use opentype_face::bytes::{offset16, table_at, u16_at};
 use opentype_face::lookup::lookup;
 use shapers_buffer::buffer::hb_glyph_info_t;
 use std::alloc::Global;
@@ -17,9 +17,9 @@ use std::marker::Model;
 
 /// How many lookups there are.
 pub(crate) fn lookup_count(bytes: &[u8]) -> u16
-    ensures { result ≡ u16_in (part_in bytes.now (u16_in bytes.now 8)) 0 }
+    ensures { result ≡ u16_in (table_at bytes.now (u16_in bytes.now 8)) 0 }
 {
-    u16_at(part(bytes, offset16(bytes, 8)), 0)
+    u16_at(table_at(bytes, offset16(bytes, 8)), 0)
 }
 
 // The bits of each lookup.

@@ -14,7 +14,7 @@ use Rattle.shapers_buffer.specs.Properties.{component, is_multiplied, is_substit
 use Rattle.shapers_buffer.specs.Syllables.{syllables, with_bytes}
 use Rattle.shapers_base.specs.Masks.{has_bits}
 use Rattle.shapers_stretch.specs.Recorded.{recorded, tile_action, with_tiles}
-use Rattle.shapers_syllabic.specs.Borders.{spans_set_up}
+use Rattle.shapers_syllabic.specs.Borders.{spans_setup}
 use Rattle.shapers_syllabic.proofs.Borders.{OfByte, syllables-mapped}
 use Rattle.shapers_syllabic.proofs.CircleLaws.{joined-syllables}
 use Rattle.shapers_universal.specs.UniversalSyllables.{first_recorded, in_category, rphf_recorded}
@@ -180,9 +180,9 @@ pieces_bytes : (pieces : List Glyphs) → map (λ g. g.syllable) (flat_map (flag
 pieces_bytes [] = refl
 pieces_bytes (p ∷ ps) = search (arith, map-append, same_field, pieces_bytes ps)
 
-set_up_once : (spans : List Span) (kind : ℕ) (old mid new : Buffer) → mid ≡ spans_set_up spans kind old
-    → new ≡ spans_set_up spans kind mid → new ≡ mid
-set_up_once = search (
+setup_once : (spans : List Span) (kind : ℕ) (old mid new : Buffer) → mid ≡ spans_setup spans kind old
+    → new ≡ spans_setup spans kind mid → new ≡ mid
+setup_once = search (
   arith,
   bytes_stay,
   pieces_bytes,
@@ -209,9 +209,9 @@ pauses_once SyllabicClearVar plan font spans old mid new only first second = sea
 pauses_once ClearSubstitutionFlags plan font spans old mid new only first second =
     search (arith, glyphs_once, each_once, taken_once)
 pauses_once ArabicFallbackShape plan font spans old mid new only first second = second
-pauses_once SetupSyllablesIndic plan font spans old mid new only first second = search (arith, set_up_once)
-pauses_once SetupSyllablesKhmer plan font spans old mid new only first second = search (arith, set_up_once)
-pauses_once SetupSyllablesMyanmar plan font spans old mid new only first second = search (arith, set_up_once)
+pauses_once SetupSyllablesIndic plan font spans old mid new only first second = search (arith, setup_once)
+pauses_once SetupSyllablesKhmer plan font spans old mid new only first second = search (arith, setup_once)
+pauses_once SetupSyllablesMyanmar plan font spans old mid new only first second = search (arith, setup_once)
 pauses_once _ plan font spans old mid new only first second = absurd cc
 
 pub masks_once : MasksOnce

@@ -8,7 +8,7 @@ use Rattle.shapers_buffer.specs.Glyphs.{Glyph, Glyphs}
 use Rattle.shapers_buffer.specs.declared.buffer.level.BufferClusterLevel.TheVariants.{MonotoneGraphemes}
 use Rattle.shapers_buffer.specs.Glyph.{characters, default_glyph}
 use Rattle.shapers_buffer.specs.Properties.{general_category, modified_combining_class, properties}
-use Rattle.shapers_clusters.specs.Steps.{run_step}
+use Rattle.shapers_clusters.specs.Steps.{after_step}
 use Rattle.shapers_hangul.specs.Hangul.{preprocessed}
 use Rattle.shapers_universal.specs.Universal.{universal_order}
 use Rattle.shapers_text.specs.Hebrew.{hebrew_mark_step}
@@ -54,7 +54,7 @@ abbrev classes : Glyphs → List ℕ
 classes gs = map (λ g. modified_combining_class g.unicode_props) gs
 
 abbrev swapped : Glyphs → Glyphs
-swapped gs = run_step MonotoneGraphemes (hebrew_mark_step 0 6 gs) gs
+swapped gs = after_step MonotoneGraphemes (hebrew_mark_step 0 6 gs) gs
 
 hebrew_marks : classes (swapped (of_classes (20 ∷ 22 ∷ 25 ∷ 20 ∷ 22 ∷ 25 ∷ []))) ≡ 20 ∷ 25 ∷ 22 ∷ 20 ∷ 22 ∷ 25 ∷ []
 unfolding modified_combining_class general_category

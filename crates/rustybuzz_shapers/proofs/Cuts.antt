@@ -19,25 +19,25 @@ use Rattle.rustybuzz_shapers.specs.Cuts.{IndicIsCutAfterBoth, IsCut, UniversalIs
 use Rattle.rustybuzz_shapers.specs.Pauses.{by_initial, by_khmer, by_myanmar, by_universal}
 
 pub khmer_is_cut : KhmerCutsBetweenSpans → IsCut SetupSyllablesKhmer ReorderKhmer by_khmer
-khmer_is_cut law plan font spans unread old mid new kinds set_up reordered =
+khmer_is_cut law plan font spans unread old mid new kinds setup reordered =
     law (order_in plan.plan_data) (by_khmer plan font mid).circles spans old new kinds (search arith)
 
 pub myanmar_is_cut : MyanmarCutsBetweenSpans → IsCut SetupSyllablesMyanmar ReorderMyanmar (λ plan. by_myanmar)
-myanmar_is_cut law plan font spans unread old mid new kinds set_up reordered =
+myanmar_is_cut law plan font spans unread old mid new kinds setup reordered =
     law (by_myanmar font mid).circles spans old new kinds (search arith)
 
 pub universal_is_cut : UniversalCutsBetweenSpans → UniversalIsCut
-universal_is_cut law plan font spans unread old mid new kinds set_up reordered =
+universal_is_cut law plan font spans unread old mid new kinds setup reordered =
     law plan.break_flags plan.plan_data plan.ot_map (by_universal font mid).circles spans old new kinds (search arith)
 
 pub indic_is_cut : InitialCutsBetweenSpans → IsCut SetupSyllablesIndic InitialReordering by_initial
-indic_is_cut law plan font spans unread old mid new kinds set_up reordered =
+indic_is_cut law plan font spans unread old mid new kinds setup reordered =
     subst (λ (b : Buffer). let r = by_initial plan font b in CutsBetweenSpans unnumbered unsafe_spans
     (paused_order r.circles r.order) (paused_clusters r.circles r.steps old.level) spans old.glyphs new.glyphs)
-    (sym set_up) (law font plan.ot_map (indic_in plan) spans old new kinds (search arith))
+    (sym setup) (law font plan.ot_map (indic_in plan) spans old new kinds (search arith))
 
 pub indic_is_cut_after_both : OrderByFontLaws → OrderByFontReadsNoSerials → FinalCutsBetweenSpans → IndicIsCutAfterBoth
-indic_is_cut_after_both laws reads law plan font spans unread old mid reordered new kinds set_up first last =
+indic_is_cut_after_both laws reads law plan font spans unread old mid reordered new kinds setup first last =
     let m = plan.ot_map in
     let p = indic_in plan in
     let r = by_initial plan font mid in

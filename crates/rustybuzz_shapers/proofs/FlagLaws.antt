@@ -8,7 +8,7 @@ use Rattle.shapers_base.specs.declared.plan.PlanData.{PlanData}
 use Rattle.shapers_clusters.proofs.Falls.{all_append}
 use Rattle.shapers_stretch.specs.Recorded.{recorded, tiles_recorded}
 use Rattle.shapers_syllabic.specs.Syllabic.{unsubstituted}
-use Rattle.shapers_syllabic.proofs.SetUpFlags.{by_syllables, same_added}
+use Rattle.shapers_syllabic.proofs.SetupFlags.{by_syllables, same_added}
 use Rattle.shapers_universal.specs.declared.ot_shaper_use.category.TheConstants.{R}
 use Rattle.shapers_universal.specs.UniversalSyllables.{first_recorded, rphf_recorded, with_pref_recorded, with_rphf_recorded}
 use Rattle.shapers_base.specs.Masks.{has_bits}

@@ -17,7 +17,7 @@ use Rattle.shapers_spans.specs.Indic.{indic_grammar}
 use Rattle.shapers_spans.specs.Khmer.{khmer_grammar}
 use Rattle.shapers_spans.specs.Myanmar.{myanmar_grammar}
 use Rattle.shapers_spans.specs.Universal.{universal_grammar}
-use Rattle.rustybuzz_shapers.specs.FoundSyllables.{FoundSpans, RefusesFound, set_up_written, sets_up}
+use Rattle.rustybuzz_shapers.specs.FoundSyllables.{FoundSpans, RefusesFound, setup_written, sets_up}
 
 -- four pauses of fifteen
 four : map sets_up (SetupSyllablesIndic ∷ SetupSyllablesKhmer ∷ SetupSyllablesMyanmar ∷ SetupSyllablesUse ∷ [])
@@ -56,7 +56,7 @@ broken k = record (whole k) { broken = true }
 
 -- what the bytes make of the text
 abbrev Sets : Pause → ℕ → Buffer → Type 0
-Sets pause k new = (plan : hb_ot_shape_plan_t) → set_up_written pause plan (text k) ≡ new
+Sets pause k new = (plan : hb_ot_shape_plan_t) → setup_written pause plan (text k) ≡ new
 
 indic_broken : Sets SetupSyllablesIndic 1 (whole 1) × Sets SetupSyllablesIndic 2 (whole 2)
     × Sets SetupSyllablesIndic 3 (whole 3) × Sets SetupSyllablesIndic 4 (broken 4)

@@ -22,22 +22,22 @@ use Rattle.shapers_clusters.specs.FlagLaw.{OnlyFlagsAdded}
 use Rattle.shapers_clusters.proofs.FlagLaw.{all_added_on}
 use Rattle.shapers_spans.specs.Cuts.{AreSpansOf}
 use Rattle.shapers_spans.specs.Grammar.{Grammar}
-use Rattle.shapers_syllabic.specs.Borders.{SetUpCutsAtSpans, spans_set_up}
-use Rattle.shapers_syllabic.specs.Syllabic.{set_up_by_bytes}
+use Rattle.shapers_syllabic.specs.Borders.{SetupCutsAtSpans, spans_setup}
+use Rattle.shapers_syllabic.specs.Syllabic.{setup_by_bytes}
 use Rattle.shapers_syllabic.specs.declared.ot_shaper_syllabic.kinds.indic_syllable.TheConstants as indic_syllable
 use Rattle.shapers_syllabic.specs.declared.ot_shaper_syllabic.kinds.khmer_syllable.TheConstants as khmer_syllable
 use Rattle.shapers_syllabic.specs.declared.ot_shaper_syllabic.kinds.myanmar_syllable.TheConstants as myanmar_syllable
 use Rattle.shapers_syllabic.specs.declared.ot_shaper_syllabic.kinds.use_syllable.TheConstants as use_syllable
-use Rattle.shapers_syllabic.proofs.PauseCuts.{clusters-set_up}
+use Rattle.shapers_syllabic.proofs.PauseCuts.{clusters-setup}
 use Rattle.shapers_syllabic.proofs.SyllabicLemmas.{covers_first}
-use Rattle.shapers_syllabic.proofs.SetUpFlags.{same_added, set_up_added}
+use Rattle.shapers_syllabic.proofs.SetupFlags.{same_added, setup_added}
 use Rattle.shapers_syllabic.proofs.SpanCuts.{spans_cut}
 use Rattle.shapers_universal.specs.PlanData.{arabic_of}
-use Rattle.shapers_universal.specs.UniversalCuts.{UniversalSetUpCutsAtSpans}
+use Rattle.shapers_universal.specs.UniversalCuts.{UniversalSetupCutsAtSpans}
 use Rattle.shapers_universal.specs.UniversalSyllables.{with_forms_flagged, with_syllable_masks}
 use Rattle.shapers_universal.proofs.TornPairs.{map-forms_flagged}
-use Rattle.shapers_universal.proofs.UniversalCuts.{clusters-masks, universal_set_up_cuts}
-use Rattle.rustybuzz_shapers.specs.FoundSyllables.{FoundSpans, PauseRun, SpansWritten, set_up_written, sets_up}
+use Rattle.shapers_universal.proofs.UniversalCuts.{clusters-masks, universal_setup_cuts}
+use Rattle.rustybuzz_shapers.specs.FoundSyllables.{FoundSpans, PauseRun, SpansWritten, setup_written, sets_up}
 use Rattle.rustybuzz_shapers.specs.Pauses.{PauseKeeps, Paused}
 
 -- ---- a syllable of some kind, among bytes and among the spans that they are of
@@ -80,11 +80,11 @@ kinds_written kind i (s ∷ ss) gs covers kinds =
 
 -- ---- the set-up by bytes is that by spans
 
-written_is_set_up : (g : Grammar) (spans : List Span) (kind : ℕ) (old : Buffer) → AreSpansOf g old.glyphs spans →
-    set_up_by_bytes kind (record old { glyphs = with_bytes old.glyphs (span_bytes 0 spans) })
-    ≡ spans_set_up spans kind old
-written_is_set_up g spans kind old are =
-    let mid : Buffer = spans_set_up spans kind old in
+written_is_setup : (g : Grammar) (spans : List Span) (kind : ℕ) (old : Buffer) → AreSpansOf g old.glyphs spans →
+    setup_by_bytes kind (record old { glyphs = with_bytes old.glyphs (span_bytes 0 spans) })
+    ≡ spans_setup spans kind old
+written_is_setup g spans kind old are =
+    let mid : Buffer = spans_setup spans kind old in
     ap (λ (b : Bool). (let c : Buffer = record mid { broken = b } in c))
     (ap (λ b. old.broken || b) (kinds_written kind 0 spans old.glyphs are.cover are.kinds)
     ∙ or_comm old.broken (list_any (λ (s : Span). s.kind == kind) spans))
@@ -93,18 +93,18 @@ written_is_set_up g spans kind old are =
 pub written_is_paused : (pause : Pause) (plan : hb_ot_shape_plan_t) (font : Font) (spans : List Span) (old : Buffer) →
     sets_up pause ≡ true → FoundSpans pause old.glyphs spans →
     Paused pause plan font spans old
-    (set_up_written pause plan (record old { glyphs = with_bytes old.glyphs (span_bytes 0 spans) }))
+    (setup_written pause plan (record old { glyphs = with_bytes old.glyphs (span_bytes 0 spans) }))
 written_is_paused SetupSyllablesIndic plan font spans old sets found =
-    written_is_set_up _ spans indic_syllable.BROKEN_CLUSTER old found
+    written_is_setup _ spans indic_syllable.BROKEN_CLUSTER old found
 written_is_paused SetupSyllablesKhmer plan font spans old sets found =
-    written_is_set_up _ spans khmer_syllable.BROKEN_CLUSTER old found
+    written_is_setup _ spans khmer_syllable.BROKEN_CLUSTER old found
 written_is_paused SetupSyllablesMyanmar plan font spans old sets found =
-    written_is_set_up _ spans myanmar_syllable.BROKEN_CLUSTER old found
+    written_is_setup _ spans myanmar_syllable.BROKEN_CLUSTER old found
 written_is_paused SetupSyllablesUse plan font spans old sets found =
     let kept = plan.plan_data in
     ap (λ (b : Buffer). with_forms_flagged plan.break_flags kept plan.ot_map
     (record b { glyphs = with_syllable_masks kept plan.ot_map b.glyphs }))
-    (written_is_set_up _ spans use_syllable.BROKEN_CLUSTER old found)
+    (written_is_setup _ spans use_syllable.BROKEN_CLUSTER old found)
 written_is_paused _ plan font spans old sets found = absurd (false≢true sets)
 
 -- ---- what it keeps
@@ -119,40 +119,40 @@ found_kinds _ gs spans sets found = absurd (false≢true sets)
 
 abbrev PauseKept : List Span → ℕ → Buffer → Buffer → Type 0
 PauseKept spans kind old new =
-    SetUpCutsAtSpans spans kind old new × (clusters new.glyphs ≡ clusters old.glyphs)
+    SetupCutsAtSpans spans kind old new × (clusters new.glyphs ≡ clusters old.glyphs)
     × OnlyFlagsAdded old.glyphs new.glyphs
 
 spans_kept : (spans : List Span) (kind : ℕ) (old new : Buffer) → All (λ (s : Span). s.kind ≤ 15) spans →
-    new ≡ spans_set_up spans kind old →
+    new ≡ spans_setup spans kind old →
     PauseKept spans kind old new
 spans_kept spans kind old new kinds is = subst (PauseKept spans kind old) (sym is) (
   spans_cut spans kind old kinds,
-  clusters-set_up spans kind old,
-  set_up_added spans kind old (spans_set_up spans kind old) refl,
+  clusters-setup spans kind old,
+  setup_added spans kind old (spans_setup spans kind old) refl,
 )
 
-pub set_up_kept : (pause : Pause) (plan : hb_ot_shape_plan_t) (font : Font) (spans : List Span) (old new : Buffer) →
+pub setup_kept : (pause : Pause) (plan : hb_ot_shape_plan_t) (font : Font) (spans : List Span) (old new : Buffer) →
     sets_up pause ≡ true → All (λ (s : Span). s.kind ≤ 15) spans → Paused pause plan font spans old new →
     OnlyFlagsAdded old.glyphs new.glyphs → PauseKeeps pause plan font spans old new
-set_up_kept SetupSyllablesIndic plan font spans old new sets kinds paused added =
+setup_kept SetupSyllablesIndic plan font spans old new sets kinds paused added =
     spans_kept spans indic_syllable.BROKEN_CLUSTER old new kinds paused
-set_up_kept SetupSyllablesKhmer plan font spans old new sets kinds paused added =
+setup_kept SetupSyllablesKhmer plan font spans old new sets kinds paused added =
     spans_kept spans khmer_syllable.BROKEN_CLUSTER old new kinds paused
-set_up_kept SetupSyllablesMyanmar plan font spans old new sets kinds paused added =
+setup_kept SetupSyllablesMyanmar plan font spans old new sets kinds paused added =
     spans_kept spans myanmar_syllable.BROKEN_CLUSTER old new kinds paused
-set_up_kept SetupSyllablesUse plan font spans old new sets kinds paused added =
+setup_kept SetupSyllablesUse plan font spans old new sets kinds paused added =
     let kept = plan.plan_data in
     let m = plan.ot_map in
-    let set_up = spans_set_up spans use_syllable.BROKEN_CLUSTER old in
-    let masked = with_syllable_masks kept m set_up.glyphs in (
-      subst (UniversalSetUpCutsAtSpans plan.break_flags kept m spans old) (sym paused)
-          (universal_set_up_cuts plan.break_flags kept m spans old kinds),
+    let setup = spans_setup spans use_syllable.BROKEN_CLUSTER old in
+    let masked = with_syllable_masks kept m setup.glyphs in (
+      subst (UniversalSetupCutsAtSpans plan.break_flags kept m spans old) (sym paused)
+          (universal_setup_cuts plan.break_flags kept m spans old kinds),
       ap (λ (b : Buffer). clusters b.glyphs) paused
           ∙ map-forms_flagged (λ g. g.cluster) (λ g. refl) (arabic_of kept) plan.break_flags m masked
-          ∙ clusters-masks kept m set_up.glyphs ∙ clusters-set_up spans use_syllable.BROKEN_CLUSTER old,
+          ∙ clusters-masks kept m setup.glyphs ∙ clusters-setup spans use_syllable.BROKEN_CLUSTER old,
       added,
     )
-set_up_kept _ plan font spans old new sets kinds paused added = absurd (false≢true sets)
+setup_kept _ plan font spans old new sets kinds paused added = absurd (false≢true sets)
 
 -- ---- glyphs that get their bytes
 
@@ -172,33 +172,33 @@ no_bytes old = ap (λ (gs : Glyphs). (let b : Buffer = record old { glyphs = gs 
 
 -- spans that are written and set up
 pub found_run : (pause : Pause) (plan : hb_ot_shape_plan_t) (old mid new : Buffer) → SpansWritten pause old mid →
-    new ≡ set_up_written pause plan mid → OnlyFlagsAdded mid.glyphs new.glyphs → sets_up pause ≡ true →
+    new ≡ setup_written pause plan mid → OnlyFlagsAdded mid.glyphs new.glyphs → sets_up pause ≡ true →
     (font : Font) → PauseRun pause plan font old new
 found_run pause plan old mid new written is added sets font =
     let spans = written.spans in
     let bytes = with_bytes old.glyphs (span_bytes 0 spans) in
     let paused : Paused pause plan font spans old new =
-    subst (Paused pause plan font spans old) (sym (is ∙ ap (set_up_written pause plan) written.bytes))
+    subst (Paused pause plan font spans old) (sym (is ∙ ap (setup_written pause plan) written.bytes))
     (written_is_paused pause plan font spans old sets written.found) in
     record {
       spans = spans;
       found = written.found;
       paused = paused;
-      kept = set_up_kept pause plan font spans old new sets (found_kinds pause old.glyphs spans sets written.found) paused
+      kept = setup_kept pause plan font spans old new sets (found_kinds pause old.glyphs spans sets written.found) paused
           (all_added_on old.glyphs bytes new.glyphs (bytes_added old.glyphs (span_bytes 0 spans))
           (subst (λ (b : Buffer). OnlyFlagsAdded b.glyphs new.glyphs) written.bytes added));
     }
 
 -- where the pause sets up none, nothing is written and nothing set up
-pub none_set_up : (pause : Pause) (plan : hb_ot_shape_plan_t) (old mid new : Buffer) → SpansWritten pause old mid →
-    new ≡ set_up_written pause plan mid → sets_up pause ≡ false → new ≡ old
-none_set_up pause plan old mid new written is none =
+pub none_setup : (pause : Pause) (plan : hb_ot_shape_plan_t) (old mid new : Buffer) → SpansWritten pause old mid →
+    new ≡ setup_written pause plan mid → sets_up pause ≡ false → new ≡ old
+none_setup pause plan old mid new written is none =
     is ∙ stays pause none mid ∙ written.bytes
     ∙ ap (λ (ss : List Span). (let b : Buffer = record old { glyphs = with_bytes old.glyphs (span_bytes 0 ss) } in b))
     (no_spans pause old.glyphs written.spans none written.found)
     ∙ no_bytes old
   where
-    stays : (pause : Pause) → sets_up pause ≡ false → (b : Buffer) → set_up_written pause plan b ≡ b
+    stays : (pause : Pause) → sets_up pause ≡ false → (b : Buffer) → setup_written pause plan b ≡ b
     stays SetupSyllablesIndic none b = absurd (false≢true (sym none))
     stays SetupSyllablesKhmer none b = absurd (false≢true (sym none))
     stays SetupSyllablesMyanmar none b = absurd (false≢true (sym none))

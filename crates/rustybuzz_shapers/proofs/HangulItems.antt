@@ -7,7 +7,7 @@ use Rattle.std.proofs.lemmas.List.{append_assoc, drop-append-le, length-drop, ma
 use Rattle.shapers_buffer.specs.declared.buffer.level.BufferClusterLevel.{BufferClusterLevel}
 use Rattle.shapers_base.specs.Font.{Font, has_nominal}
 use Rattle.shapers_clusters.specs.Steps.{shifted}
-use Rattle.shapers_hangul.specs.Hangul.{Copying, combines_t, first_item, first_unit, has_jamo_of, is_l, is_lv, is_merged, is_narrow, is_s, is_syllable, is_t, is_tone, is_v, item_len, item_output, item_stretches, items_from, jamo_three, jamo_two, jamo_unit, joined_tone, opening_unit, outputs, stretches, syllable_unit, taken, tone_len, tone_stretch, unit_output, unit_stretch, with_t, with_tone}
+use Rattle.shapers_hangul.specs.Hangul.{Copying, combines_t, first_item, first_unit, has_jamo_of, is_l, is_lv, is_merged, is_narrow, is_s, is_syllable, is_t, is_tone, is_v, item_len, item_output, item_stretches, items_from, jamo_three, jamo_two, jamo_unit, joined_tone, leading_unit, outputs, stretches, syllable_unit, taken, tone_len, tone_stretch, unit_output, unit_stretch, with_t, with_tone}
 use Rattle.shapers_hangul.proofs.Items.{either, first_item-within, taken_some}
 
 none_added : (n : ℕ) → 0 + n ≡ n
@@ -81,8 +81,8 @@ one_read font circles u v t few =
     (syllable_read font u v) few
 
 unit_read : (font : Font) (circles : Bool) (xs ys : List ℕ) → 0 < length xs
-    → taken (opening_unit font circles (xs ++ ys)) ≤ length xs → opening_unit font circles xs
-    ≡ opening_unit font circles (xs ++ ys)
+    → taken (leading_unit font circles (xs ++ ys)) ≤ length xs → leading_unit font circles xs
+    ≡ leading_unit font circles (xs ++ ys)
 unit_read font circles [] ys some few = absurd (omega arith)
 unit_read font circles (u ∷ []) ys some few = search (arith, one_read)
 unit_read font circles (u ∷ (v ∷ [])) ys some few = search (arith, two_read)
@@ -113,8 +113,8 @@ past_read (x ∷ xs) zero past = search arith
 past_read (x ∷ xs) (suc i) past = past_read xs i (omega (arith, past))
 
 tone_read : (font : Font) (circles : Bool) (us : List ℕ) (w : ℕ)
-    → tone_len (joined_tone font (opening_unit font circles us) w) ≡ 0
-    → joined_tone font (opening_unit font circles us) 0 ≡ joined_tone font (opening_unit font circles us) w
+    → tone_len (joined_tone font (leading_unit font circles us) w) ≡ 0
+    → joined_tone font (leading_unit font circles us) 0 ≡ joined_tone font (leading_unit font circles us) w
 tone_read font circles us w none = search (arith, absent_tone, and_false)
 
 -- the unit and the tone of an item, where it ends within xs
@@ -150,20 +150,20 @@ item_local : {X : Type 0} (c : Copying X) (font : Font) (circles : Bool) (us : L
     → item_len (first_item font circles us) ≤ length xs → item_output c (first_item font circles us) (xs ++ ys)
     ≡ item_output c (first_item font circles us) xs
 item_local c font circles us xs ys within =
-    let n = taken (opening_unit font circles us) in
+    let n = taken (leading_unit font circles us) in
     let w = get_or us n 0 in
     ap (λ out. with_tone (first_item font circles us).tone (take 1 (drop n (xs ++ ys))) out)
     (unit_local c font circles (get_or us 0 0) (get_or us 1 0) (get_or us 2 0) xs ys (omega (arith, within)))
     ∙ elim (cases_lt n (length xs)) [
       | inl less ↦ ap
-          (λ ts. with_tone (first_item font circles us).tone ts (unit_output c (opening_unit font circles us) xs))
+          (λ ts. with_tone (first_item font circles us).tone ts (unit_output c (leading_unit font circles us) xs))
           (ap (take 1) (drop-append-le n xs ys (omega (arith, less)))
           ∙ front_taken 1 (drop n xs) ys (omega (arith, less, length-drop n xs)))
       | inr past ↦
           no_tone tone_len
-          (λ tone. with_tone tone (take 1 (drop n (xs ++ ys))) (unit_output c (opening_unit font circles us) xs))
-          (λ tone. with_tone tone (take 1 (drop n xs)) (unit_output c (opening_unit font circles us) xs))
-          (is_syllable (opening_unit font circles us) && is_tone w) (is_narrow font w) _ _ _ (omega arith) (omega arith)
+          (λ tone. with_tone tone (take 1 (drop n (xs ++ ys))) (unit_output c (leading_unit font circles us) xs))
+          (λ tone. with_tone tone (take 1 (drop n xs)) (unit_output c (leading_unit font circles us) xs))
+          (is_syllable (leading_unit font circles us) && is_tone w) (is_narrow font w) _ _ _ (omega arith) (omega arith)
           refl (omega (arith, within, past))
     ]
 
@@ -220,14 +220,14 @@ item_past : (level : BufferClusterLevel) (font : Font) (circles : Bool) (us : Li
     → item_stretches level (first_item font circles us) (n + s)
     ≡ shifted n (item_stretches level (first_item font circles us) s)
 item_past level font circles us n s =
-    let k = taken (opening_unit font circles us) in
+    let k = taken (leading_unit font circles us) in
     let w = get_or us k 0 in
     ap (λ sts. sts ++ tone_stretch (first_item font circles us).tone (n + s) (n + s + k))
-    (merged_past (is_merged level (opening_unit font circles us)) n s k)
-    ∙ ap (λ sts. shifted n (unit_stretch level (opening_unit font circles us) s) ++ sts)
+    (merged_past (is_merged level (leading_unit font circles us)) n s k)
+    ∙ ap (λ sts. shifted n (unit_stretch level (leading_unit font circles us) s) ++ sts)
     (of_three (λ tone. tone_stretch tone (n + s) (n + s + k) ≡ shifted n (tone_stretch tone s (s + k)))
-    (is_syllable (opening_unit font circles us) && is_tone w) (is_narrow font w) _ _ _ refl (search arith) refl)
-    ∙ sym (map-append (λ (st : ℕ × ℕ). (n + st.0, n + st.1)) (unit_stretch level (opening_unit font circles us) s)
+    (is_syllable (leading_unit font circles us) && is_tone w) (is_narrow font w) _ _ _ refl (search arith) refl)
+    ∙ sym (map-append (λ (st : ℕ × ℕ). (n + st.0, n + st.1)) (unit_stretch level (leading_unit font circles us) s)
     (tone_stretch (first_item font circles us).tone s (s + k)))
 
 pub stretches_past : (level : BufferClusterLevel) (font : Font) (circles : Bool) (n place skip : ℕ) (vs : List ℕ)
@@ -273,13 +273,13 @@ split_there c level font circles zs place zero n (u ∷ us) vs here few beside =
     search arith in
     let unit = item_unit font circles (u ∷ us) vs (omega arith) fits in
     let tone =
-    let n = taken (opening_unit font circles ((u ∷ us) ++ vs)) in
+    let n = taken (leading_unit font circles ((u ∷ us) ++ vs)) in
     ap (λ x. joined_tone font x (get_or (u ∷ us) (taken x) 0))
     (unit_read font circles (u ∷ us) vs (omega arith) (omega (arith, fits)))
     ∙ elim (cases_lt n (length (u ∷ us))) [
-      | inl less ↦ ap (joined_tone font (opening_unit font circles ((u ∷ us) ++ vs))) (sym (front_read (u ∷ us) vs n
+      | inl less ↦ ap (joined_tone font (leading_unit font circles ((u ∷ us) ++ vs))) (sym (front_read (u ∷ us) vs n
           less))
-      | inr past ↦ ap (joined_tone font (opening_unit font circles ((u ∷ us) ++ vs))) (past_read (u ∷ us) n
+      | inr past ↦ ap (joined_tone font (leading_unit font circles ((u ∷ us) ++ vs))) (past_read (u ∷ us) n
           past) ∙ tone_read font circles ((u ∷ us) ++ vs) (get_or ((u ∷ us) ++ vs) n 0) (omega (arith, fits, past))
     ] in
     let long =

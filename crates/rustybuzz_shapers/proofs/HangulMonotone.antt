@@ -14,7 +14,7 @@ use Rattle.shapers_clusters.proofs.Cuts.{stays_falling, stays_rising}
 use Rattle.shapers_clusters.proofs.LabelsAsMerged.{all_split}
 use Rattle.shapers_clusters.proofs.Merging.{length-merge_all}
 use Rattle.shapers_clusters.proofs.Moves.{HeldIn, all_held, clusters-merge_all, held_share}
-use Rattle.shapers_hangul.specs.Hangul.{allows_circles, combines_t, first_item, first_unit, has_jamo_of, is_l, is_lv, is_narrow, is_s, is_syllable, is_t, is_tone, is_v, item_len, item_output, item_stretches, items, items_from, marked_from, opening_unit, outputs, stretches, taken, tone_len, tone_stretch, unit_output, unit_stretch, with_t, with_tone}
+use Rattle.shapers_hangul.specs.Hangul.{allows_circles, combines_t, first_item, first_unit, has_jamo_of, is_l, is_lv, is_narrow, is_s, is_syllable, is_t, is_tone, is_v, item_len, item_output, item_stretches, items, items_from, marked_from, leading_unit, outputs, stretches, taken, tone_len, tone_stretch, unit_output, unit_stretch, with_t, with_tone}
 use Rattle.shapers_hangul.specs.HangulLaws.{place_copies}
 use Rattle.shapers_hangul.proofs.HangulClusters.{clusters-rewritten}
 use Rattle.shapers_hangul.proofs.Items.{either, first_item-within, taken_some}
@@ -179,19 +179,19 @@ along xs s n y ys one at =
 
 item_keeps : (R : ℕ → ℕ → Type 0) → OfItself R → (font : Font) (circles : Bool) (us : List ℕ) (s : ℕ) (xs : List ℕ)
     → AllByRecursion (OneAlong xs)
-    (tone_stretch (first_item font circles us).tone s (s + taken (opening_unit font circles us)))
+    (tone_stretch (first_item font circles us).tone s (s + taken (leading_unit font circles us)))
     → KeepsEach R (take (item_len (first_item font circles us)) (drop s xs))
     (item_output place_copies (first_item font circles us) (drop s xs))
 item_keeps R self font circles us s xs one P =
-    let n = taken (opening_unit font circles us) in
+    let n = taken (leading_unit font circles us) in
     let w = get_or us n 0 in
     let ws = drop s xs in
-    let out = unit_output place_copies (opening_unit font circles us) ws in
+    let out = unit_output place_copies (leading_unit font circles us) ws in
     let own : KeepsEach R (take n ws) out =
     λ Q. unit_keeps Q R self font circles (get_or us 0 0) (get_or us 1 0) (get_or us 2 0) ws in
     of_three (λ tone. AllByRecursion (OneAlong xs) (tone_stretch tone s (s + n))
     → Keeps P R (take (n + tone_len tone) ws) (with_tone tone (take 1 (drop n ws)) out))
-    (is_syllable (opening_unit font circles us) && is_tone w) (is_narrow font w) _ _ _
+    (is_syllable (leading_unit font circles us) && is_tone w) (is_narrow font w) _ _ _
     (λ along_tone. search (arith, keeps_by, one_taken, keeps_both, keeps_itself))
     (λ along_tone. before_keeps R self n ws out (drop n ws) refl own (λ y ys at. along xs s n y ys along_tone.0 at) P)
     (λ along_tone. keeps_by R (take (n + 0) ws) (take n ws) out (ap (λ k. take k ws) (omega arith)) own P) one

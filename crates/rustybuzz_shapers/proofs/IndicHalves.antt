@@ -9,8 +9,8 @@ use Rattle.shapers_buffer.specs.Glyphs.{Glyph, Glyphs}
 use Rattle.shapers_buffer.specs.declared.buffer.level.BufferClusterLevel.{BufferClusterLevel}
 use Rattle.shapers_buffer.specs.Glyph.{clusters, order_view, plain}
 use Rattle.shapers_buffer.specs.Syllables.{syllables}
-use Rattle.shapers_clusters.specs.Steps.{FitSteps, FitsStep, Step, joined_steps, run_steps}
-use Rattle.shapers_clusters.proofs.Moves.{all-joined_steps, clusters-run_steps}
+use Rattle.shapers_clusters.specs.Steps.{FitSteps, FitsStep, Step, joined_steps, after_steps}
+use Rattle.shapers_clusters.proofs.Moves.{all-joined_steps, clusters-after_steps}
 use Rattle.shapers_clusters.proofs.Proved.{along_holds}
 use Rattle.shapers_indic.specs.Plan.{indic_in}
 use Rattle.shapers_indic_final.specs.FinalLaws.{final_text_steps}
@@ -40,8 +40,8 @@ paused_own : (circles : Option DottedCircles) (order : Glyphs → Glyphs)
 paused_own circles order steps level gs laws =
     let opened = circled circles gs in
     let sts = text_steps steps (order_view opened) in
-    let are = clusters-run_steps level sts opened in
-    subst (All (Contains (clusters gs))) are (no_new_cluster circles gs (run_steps level sts opened)
+    let are = clusters-after_steps level sts opened in
+    subst (All (Contains (clusters gs))) are (no_new_cluster circles gs (after_steps level sts opened)
     (subst (All (Contains (clusters opened))) (sym are)
     (own level sts opened (
     let pieces = pieces_of steps (syllables (order_view opened)) in subst (FitSteps (length opened)) (sym

@@ -12,7 +12,7 @@ use Rattle.shapers_buffer.specs.Glyphs.{Glyphs}
 use Rattle.shapers_stretch.specs.Cells.{Cell, before_tiles, positions_of, tiles_of}
 use Rattle.shapers_stretch.specs.Measure.{total}
 use Rattle.shapers_stretch.specs.Recorded.{start_of}
-use Rattle.shapers_stretch.specs.Stretch.{Laying, cells_in_order, has_run, in_working_order, laying}
+use Rattle.shapers_stretch.specs.Stretch.{Laying, cells_in_order, has_sequence, in_working_order, laying}
 use Rattle.shapers_stretch.specs.StretchLaws.{PartIsLaid}
 use Rattle.shapers_stretch.proofs.LaidText.{stretch_is_as_wide}
 use Rattle.shapers_stretch.proofs.Sums.{total-append, total_cons}
@@ -50,7 +50,7 @@ none_there (x ∷ xs) none = search (arith, false≢true, lt-ltb)
 -- a part: what it became is as wide as what stands before its tiles
 part_advance : (how : Laying) (part piece : List Cell) → PartIsLaid how part piece
     → advance_of piece +ℤ advance_of (tiles_of part) ≡ advance_of part
-part_advance how part piece laid = elim (cases_Bool (has_run part)) [
+part_advance how part piece laid = elim (cases_Bool (has_sequence part)) [
   | inl some ↦
       let run = laid.1 some in
       let whole = ap advance_of (sym (take-append-drop _ part))

@@ -21,7 +21,7 @@ use Rattle.shapers_indic_final.specs.FinalWordStart.{FinallyLinked}
 use Rattle.shapers_indic_final.specs.Proved.FinalLaws.{final_laws}
 use Rattle.shapers_indic_final.proofs.FinalSerials.{final_reads_no_serials}
 use Rattle.shapers_indic_final.proofs.FinalText.{reordered_by_chain}
-use Rattle.rustybuzz_shapers.specs.Pauses.{CarriedAtBorders, OneByOne, Reordered, Reordering, ReorderingKeeps, ThenOpened, by_final}
+use Rattle.rustybuzz_shapers.specs.Pauses.{CarriedAtBorders, OneByOne, Reordered, Reordering, ReorderingKeeps, ThenStarted, by_final}
 
 carried_at_borders : (r : Reordering) (old new : Buffer) → ReadsNoSerials r.order r.steps
     → PauseCutsAtBorders r.circles r.order r.steps old new → CarriedAtBorders r old new
@@ -54,6 +54,6 @@ both P Q (Err _) p q = tt
 -- the final reordering of Indic, by its chain
 pub final_keeps : (plan : hb_ot_shape_plan_t) (font : Font) (old new : Buffer)
     → FinallyLinked (final_rules font (indic_in plan)) old new
-    → ThenOpened plan font (λ mid. ReorderingKeeps (by_final plan font old) old mid × OneByOne (by_final plan font old)
+    → ThenStarted plan font (λ mid. ReorderingKeeps (by_final plan font old) old mid × OneByOne (by_final plan font old)
     old mid) new
 final_keeps plan font old new linked = search (arith, reordering_keeps, final_laws, final_reads_no_serials, reordered_by_chain)

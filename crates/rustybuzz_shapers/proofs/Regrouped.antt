@@ -9,7 +9,7 @@ use Rattle.shapers_base.specs.declared.plan.pause.Pause.TheVariants.{InitialReor
 use Rattle.shapers_clusters.specs.Flags.{seen}
 use Rattle.shapers_buffer.specs.declared.buffer.level.BufferClusterLevel.TheVariants.{Characters}
 use Rattle.shapers_clusters.specs.Steps.{Step}
-use Rattle.shapers_clusters.proofs.Views.{seen-permuted, seen-run_steps}
+use Rattle.shapers_clusters.proofs.Views.{seen-permuted, seen-after_steps}
 use Rattle.shapers_syllabic.specs.Reordering.{SyllablesReordered, carried}
 use Rattle.shapers_syllabic.specs.ReorderingLaws.{ReorderLaws}
 use Rattle.shapers_syllabic.proofs.ReorderingLemmas.{carried_hides}
@@ -49,7 +49,7 @@ each_kept meaning steps laws syl =
     (
     search (
       arith,
-      seen-run_steps carried carried_hides Characters (steps syl) syl,
+      seen-after_steps carried carried_hides Characters (steps syl) syl,
       laws.agrees syl,
       seen-permuted carried carried_hides Characters (steps syl) syl (laws.fits syl) (laws.permutes syl),
     ))

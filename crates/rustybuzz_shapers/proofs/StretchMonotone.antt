@@ -17,7 +17,7 @@ use Rattle.shapers_buffer.proofs.MappedLists.{map-reverse}
 use Rattle.shapers_stretch.specs.Cells.{Cell, before_tiles, before_word, parts_of_text, repeats, tiles_of, word_of}
 use Rattle.shapers_stretch.specs.Measure.{overlap, times_added}
 use Rattle.shapers_stretch.specs.Recorded.{start_of}
-use Rattle.shapers_stretch.specs.Stretch.{Copy, Laying, cells_in_order, copies, copies_of, has_run, in_working_order, laid_at, laid_run, laying, offset, run_of_part, runs_leftward, stretched, stretched_over, stretched_part, unbroken, width_of, with_cells}
+use Rattle.shapers_stretch.specs.Stretch.{Copy, Laying, cells_in_order, copies, copies_of, has_sequence, in_working_order, laid_at, laid_sequence, laying, offset, sequence_of_part, goes_leftward, stretched, stretched_over, stretched_part, unbroken, width_of, with_cells}
 use Rattle.shapers_stretch.proofs.Flagging.{flag_cell, tiles_are, unbroken_is}
 use Rattle.shapers_stretch.proofs.LaidText.{stretch_is_as_wide}
 use Rattle.rustybuzz_shapers.specs.Monotone.{StaysMonotone, StretchStaysMonotone}
@@ -57,21 +57,21 @@ many_copies zero c = tt
 many_copies (suc n) c = (refl, many_copies n c)
 
 tile_copies : (font : Font) (part : List Cell) (c : Cell)
-    → AllByRecursion (λ y. y ≡ c.0.cluster) (of_copies (copies_of font (run_of_part font part) c))
+    → AllByRecursion (λ y. y ≡ c.0.cluster) (of_copies (copies_of font (sequence_of_part font part) c))
 tile_copies font part c = (
   refl,
   elim (repeats c.0) as (λ b. AllByRecursion (λ y. y ≡ c.0.cluster)
-      (of_copies (cond b (replicate (times_added (run_of_part font part))
-      (record { tile = c; move = width_of font c.0 -ℤ overlap (run_of_part font part) })) [])))
+      (of_copies (cond b (replicate (times_added (sequence_of_part font part))
+      (record { tile = c; move = width_of font c.0 -ℤ overlap (sequence_of_part font part) })) [])))
       [ true ↦ search (arith, many_copies) | false ↦ tt ],
 )
 
 -- those of all tiles, the last ones first, turned round
 tiles_keep : (R : ℕ → ℕ → Type 0) → OfItself R → (font : Font) (part : List Cell) (ts : List Cell)
-    → KeepsEach R (of_cells ts) (reverse (of_copies (flat_map (copies_of font (run_of_part font part)) (reverse ts))))
+    → KeepsEach R (of_cells ts) (reverse (of_copies (flat_map (copies_of font (sequence_of_part font part)) (reverse ts))))
 tiles_keep R self font part [] = λ P. keeps_itself P R [] [] refl
 tiles_keep R self font part (t ∷ ts) =
-    let f = copies_of font (run_of_part font part) in
+    let f = copies_of font (sequence_of_part font part) in
     let one = of_copies (f t) in
     let rest = of_copies (flat_map f (reverse ts)) in
     let is : reverse (of_copies (flat_map f (reverse (t ∷ ts)))) ≡ reverse one ++ reverse rest =
@@ -94,10 +94,10 @@ laid_clusters right_to_left from before [] = refl
 laid_clusters right_to_left from before (c ∷ cs) = cc (laid_clusters right_to_left from (before ++ c ∷ []) cs)
 
 run_keeps : (R : ℕ → ℕ → Type 0) → OfItself R → (how : Laying) (part : List Cell) (ts : List Cell)
-    → KeepsEach R (of_cells ts) (of_cells (reverse (laid_run how (run_of_part how.font part) ts)))
+    → KeepsEach R (of_cells ts) (of_cells (reverse (laid_sequence how (sequence_of_part how.font part) ts)))
 run_keeps R self how part ts =
-    keeps_becomes R (of_cells ts) (reverse (of_copies (copies how.font (run_of_part how.font part) ts)))
-    (of_cells (reverse (laid_run how (run_of_part how.font part) ts))) (search (arith, laid_clusters, map-reverse))
+    keeps_becomes R (of_cells ts) (reverse (of_copies (copies how.font (sequence_of_part how.font part) ts)))
+    (of_cells (reverse (laid_sequence how (sequence_of_part how.font part) ts))) (search (arith, laid_clusters, map-reverse))
     (search (arith, tiles_keep))
 
 -- flags change no cluster
@@ -112,7 +112,7 @@ flagged_clusters m (c ∷ cs) = search (arith, flag_if, flagged_clusters m cs)
 -- A PART
 over_keeps : (R : ℕ → ℕ → Type 0) → OfItself R → (how : Laying) (part : List Cell) (word tiles : List Cell)
     → KeepsEach R (of_cells word ++ of_cells tiles)
-    (of_cells (stretched_over how (run_of_part how.font part) word tiles))
+    (of_cells (stretched_over how (sequence_of_part how.font part) word tiles))
 over_keeps R self how part word tiles =
     let whole = unbroken (word ++ tiles) in
     let front = take (length word) whole in
@@ -122,18 +122,18 @@ over_keeps R self how part word tiles =
     let tiles_are_so : of_cells tiles ≡ of_cells back =
     search (arith, tiles_are, flagged_clusters) in
     keeps_becomes R (of_cells word ++ of_cells tiles)
-    (of_cells front ++ of_cells (reverse (laid_run how (run_of_part how.font part) back)))
-    (of_cells (stretched_over how (run_of_part how.font part) word tiles)) (search (arith, map-append))
+    (of_cells front ++ of_cells (reverse (laid_sequence how (sequence_of_part how.font part) back)))
+    (of_cells (stretched_over how (sequence_of_part how.font part) word tiles)) (search (arith, map-append))
     (search (arith, keeps_both, keeps_itself, keeps_by, run_keeps))
 
 part_keeps : (R : ℕ → ℕ → Type 0) → OfItself R → (how : Laying) (part : List Cell)
     → KeepsEach R (of_cells part) (of_cells (stretched_part how part))
 part_keeps R self how part P =
-    let z = run_of_part how.font part in
+    let z = sequence_of_part how.font part in
     let front = before_word part in
     let word = word_of part in
     let tiles = tiles_of part in
-    elim (cases_Bool (has_run part)) [
+    elim (cases_Bool (has_sequence part)) [
       | inl some ↦
           let is : stretched_part how part ≡ (front ++ stretched_over how z word tiles) = cc in
           let whole : part ≡ front ++ (word ++ tiles) =
@@ -200,14 +200,14 @@ in_order R self how false cells whole own =
 
 arabic_monotone : (plan : hb_ot_shape_plan_t) (font : Font) (old new : Buffer)
     → length old.positions ≡ length old.glyphs → (b : Bool) → old.stch ≡ b → new ≡ cond b
-    (with_cells (in_working_order (runs_leftward old.direction)
+    (with_cells (in_working_order (goes_leftward old.direction)
     (stretched (laying font (start_of plan.plan_data) old) (cells_in_order old))) old) old → new ≡ cond old.stch
-    (with_cells (in_working_order (runs_leftward old.direction)
+    (with_cells (in_working_order (goes_leftward old.direction)
     (stretched (laying font (start_of plan.plan_data) old) (cells_in_order old))) old) old
     → StaysMonotone (clusters old.glyphs) (clusters new.glyphs)
 arabic_monotone plan font old new both false marked is done = unchanged_monotone old new is
 arabic_monotone plan font old new both true marked is done =
-    let r = runs_leftward old.direction in
+    let r = goes_leftward old.direction in
     let cells = zip old.glyphs old.positions in
     let how = laying font (start_of plan.plan_data) old in
     let now : clusters new.glyphs ≡ of_cells

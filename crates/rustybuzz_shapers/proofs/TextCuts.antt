@@ -10,7 +10,7 @@ use Rattle.shapers_hangul.specs.Hangul.{allows_circles}
 use Rattle.shapers_hangul.proofs.HangulClusters.{clusters-rewritten}
 use Rattle.shapers_text.specs.ThaiForms.{asks_for_forms, preprocessed_flagged, preprocessed_text}
 use Rattle.shapers_text.proofs.ThaiWholeMarks.{clusters-flagged, order_view-flagged}
-use Rattle.rustybuzz_shapers.specs.TextCuts.{HangulCuts, OpensFreely, PreprocessedHalves, ThaiCuts}
+use Rattle.rustybuzz_shapers.specs.TextCuts.{HangulCuts, BeginsFreely, PreprocessedHalves, ThaiCuts}
 use Rattle.rustybuzz_shapers.proofs.HangulHalves.{hangul_clusters_halves, hangul_order-flagged, hangul_order_halves}
 use Rattle.rustybuzz_shapers.proofs.ThaiClusterHalves.{thai_clusters_halves}
 use Rattle.rustybuzz_shapers.proofs.ThaiHalves.{thai_order_halves}
@@ -19,7 +19,7 @@ nothing_made : (forms : Bool) (has : ℕ → Bool) (level : BufferClusterLevel) 
 nothing_made true has level = refl
 nothing_made false has level = refl
 
-made_halves : (forms : Bool) (has : ℕ → Bool) (level : BufferClusterLevel) (gs hs : Glyphs) → OpensFreely forms hs
+made_halves : (forms : Bool) (has : ℕ → Bool) (level : BufferClusterLevel) (gs hs : Glyphs) → BeginsFreely forms hs
     → PreprocessedHalves gs hs (preprocessed_text forms has level gs) (preprocessed_text forms has level hs)
     (preprocessed_text forms has level (gs ++ hs))
 made_halves forms has level gs [] = search (arith, append-nil, nothing_made)
@@ -27,7 +27,7 @@ made_halves forms has level gs (h ∷ hs) = search (arith, thai_order_halves, th
 
 -- the choice flags nothing that the order or clusters show
 flagged_halves : (breaks : BreakFlags) (forms : Bool) (has : ℕ → Bool) (level : BufferClusterLevel)
-    (gs hs : Glyphs) → OpensFreely forms hs
+    (gs hs : Glyphs) → BeginsFreely forms hs
     → PreprocessedHalves gs hs (preprocessed_flagged breaks forms has level gs)
     (preprocessed_flagged breaks forms has level hs) (preprocessed_flagged breaks forms has level (gs ++ hs))
 flagged_halves breaks forms has level gs hs free =

@@ -17,7 +17,7 @@ use Rattle.shapers_buffer.proofs.ListLaws.{suffix_len_stop}
 use Rattle.shapers_buffer.proofs.MappedLists.{all-range}
 use Rattle.shapers_buffer.proofs.Picks.{pick-range}
 use Rattle.shapers_clusters.specs.Cuts.{EndWithin, ShareNone}
-use Rattle.shapers_clusters.specs.Steps.{FitsStep, Step, run_step, run_steps, shifted, widened}
+use Rattle.shapers_clusters.specs.Steps.{FitsStep, Step, after_step, after_steps, shifted, widened}
 use Rattle.shapers_clusters.proofs.Halves.{halves}
 use Rattle.shapers_clusters.proofs.Merging.{length-merge_all, merge_all-append}
 use Rattle.shapers_clusters.proofs.Widened.{range-three}
@@ -40,7 +40,7 @@ all_picked : (n : ℕ) (gs : Glyphs) → length gs ≡ n → pick (range_with_le
 all_picked n gs same = pick-range 0 n gs (omega (arith, same)) ∙ take_all n gs (omega (arith, same))
 
 only_merged : (level : BufferClusterLevel) (n : ℕ) (sts : List (ℕ × ℕ)) (gs : Glyphs) → length gs ≡ n
-    → EndWithin n sts → run_step level (merging n sts) gs ≡ merge_all level sts gs
+    → EndWithin n sts → after_step level (merging n sts) gs ≡ merge_all level sts gs
 only_merged level n sts gs same within =
     all_picked n (merge_all level sts gs)
     (length-merge_all level sts gs (subst (λ k. EndWithin k sts) (sym same) within) ∙ same)
@@ -78,18 +78,18 @@ merged_halves level one two gs hs first second none =
     ∙ long in
     merge_all-append level one (shifted a two) (gs ++ hs)
     ∙ sym (only_merged level n (shifted a two) mid ms there)
-    ∙ ap (run_step level (merging n (shifted a two))) (sym (only_merged level n one (gs ++ hs) long wide))
-    ∙ ap (λ (step : Step). run_steps level (merging n one ∷ step ∷ []) (gs ++ hs))
+    ∙ ap (after_step level (merging n (shifted a two))) (sym (only_merged level n one (gs ++ hs) long wide))
+    ∙ ap (λ (step : Step). after_steps level (merging n one ∷ step ∷ []) (gs ++ hs))
     (sym (widened_is a n n two (omega arith) (omega arith)))
-    ∙ ap (λ (sts : List (ℕ × ℕ)). run_steps level (merging n sts ∷ widened a n n (merging (n - a) two) ∷ []) (gs ++ hs))
+    ∙ ap (λ (sts : List (ℕ × ℕ)). after_steps level (merging n sts ∷ widened a n n (merging (n - a) two) ∷ []) (gs ++ hs))
     (sym (unshifted one))
-    ∙ ap (λ (step : Step). run_steps level (step ∷ widened a n n (merging (n - a) two) ∷ []) (gs ++ hs))
+    ∙ ap (λ (step : Step). after_steps level (step ∷ widened a n n (merging (n - a) two) ∷ []) (gs ++ hs))
     (sym (widened_is 0 a n one (omega arith) (omega arith)))
-    ∙ ap (λ (m : ℕ). run_steps level (widened 0 a n (merging m one) ∷ widened a n n (merging (n - a) two) ∷ [])
+    ∙ ap (λ (m : ℕ). after_steps level (widened 0 a n (merging m one) ∷ widened a n n (merging (n - a) two) ∷ [])
     (gs ++ hs)) (none_taken a)
     ∙ halves level a n (merging a one ∷ []) (merging (n - a) two ∷ []) gs hs refl refl (merging_fits a one first, tt)
     (merging_fits (n - a) two (subst (λ k. EndWithin k two) (sym b) second), tt) none
-    ∙ ap (λ xs. xs ++ run_steps level (merging (n - a) two ∷ []) hs) (only_merged level a one gs refl first)
+    ∙ ap (λ xs. xs ++ after_steps level (merging (n - a) two ∷ []) hs) (only_merged level a one gs refl first)
     ∙ ap (λ xs. merge_all level one gs ++ xs)
     (only_merged level (n - a) two hs (sym b) (subst (λ k. EndWithin k two) (sym b) second))
   where

@@ -7,7 +7,7 @@ use Rattle.shapers_buffer.specs.Glyphs.{Glyph, Glyphs}
 use Rattle.shapers_buffer.specs.declared.buffer.level.BufferClusterLevel.{BufferClusterLevel}
 use Rattle.shapers_buffer.specs.Clusters.{merge_all}
 use Rattle.shapers_buffer.specs.Glyph.{order_view, plain}
-use Rattle.shapers_buffer.specs.Lists.{before_last_run}
+use Rattle.shapers_buffer.specs.Lists.{before_last_stretch}
 use Rattle.shapers_buffer.proofs.ListLaws.{before_last_run_stop, from_end, last_run_stop}
 use Rattle.shapers_clusters.proofs.FlagCalls.{map-unsafe_all, without_flags-or}
 use Rattle.shapers_clusters.proofs.Merging.{order_view-merge_all}
@@ -114,7 +114,7 @@ last_in_front (x ∷ xs) ys some = refl
 same_action : (us : List ℕ) (v : ℕ) (ms : List ℕ) (w : ℕ) → is_thai_mark v ≡ false → action_after (us ++ v ∷ ms) w
     ≡ action_after (v ∷ ms) w
 same_action us v ms w h =
-    let b = before_last_run is_thai_mark ms in
+    let b = before_last_stretch is_thai_mark ms in
     cc (
       before_last_run_stop is_thai_mark us v ms h,
       reverse-append us (v ∷ b),

@@ -8,10 +8,10 @@ use Rattle.shapers_buffer.specs.Glyphs.{Glyph, Glyphs}
 use Rattle.shapers_buffer.specs.declared.buffer.level.BufferClusterLevel.{BufferClusterLevel}
 use Rattle.shapers_buffer.specs.Clusters.{merges}
 use Rattle.shapers_buffer.specs.Glyph.{characters, clusters}
-use Rattle.shapers_buffer.specs.Lists.{before_last_run, each_after}
+use Rattle.shapers_buffer.specs.Lists.{before_last_stretch, each_after}
 use Rattle.shapers_buffer.specs.Places.{pick}
 use Rattle.shapers_buffer.proofs.ListLaws.{before_last_run_no, before_last_run_yes, from_end}
-use Rattle.shapers_buffer.proofs.MappedLists.{Contains-each_after, Contains-flat_map, all-range, before_last_run-enumerate_from, enumerate-append, places-last_run}
+use Rattle.shapers_buffer.proofs.MappedLists.{Contains-each_after, Contains-flat_map, all-range, before_last_stretch-enumerate_from, enumerate-append, places-last_stretch}
 use Rattle.shapers_buffer.proofs.Picks.{pick-within}
 use Rattle.shapers_clusters.specs.ClusterMerges.{joined_all}
 use Rattle.shapers_clusters.specs.Cuts.{EndWithin}
@@ -60,7 +60,7 @@ record Fronted (R : ℕ → ℕ → Type 0) (us : List ℕ) : Type 0 where
 -- and so of the front without its last above-base marks
 record Fronts (R : ℕ → ℕ → Type 0) (us : List ℕ) : Type 0 where
   whole : Fronted R us
-  before : Fronted R (before_last_run is_above_base us)
+  before : Fronted R (before_last_stretch is_above_base us)
 
 -- places that a SARA AM moves over
 abbrev Together : (ℕ → ℕ → Type 0) → List ℕ → Type 0
@@ -69,13 +69,13 @@ Together R all = (xs : List ℕ) (u : ℕ) (ys : List ℕ) → all ≡ xs ++ u �
 
 fronted_am : (R : ℕ → ℕ → Type 0) (n : ℕ) → Climbs R n → (us : List ℕ) (u : ℕ) → length us < n → is_sara_am u ≡ true
     → ((q : ℕ) → length us - suffix_len is_above_base us ≤ q → q < length us → R (length us) q)
-    → Fronted R (before_last_run is_above_base us) → Fronted R (us ++ u ∷ [])
+    → Fronted R (before_last_stretch is_above_base us) → Fronted R (us ++ u ∷ [])
 fronted_am R n climbs us u inside am near f =
     let k = length us in
     let w = suffix_len is_above_base us in
     let few = suffix_len-le-length is_above_base us in
     let more = length_push us u in
-    let b = before_last_run is_above_base us in
+    let b = before_last_stretch is_above_base us in
     let short : length b ≡ k - w = search (arith, length-take-le) in
     let run = range_with_len (k - w) w in
     let src = sara_am_sources b in
@@ -107,8 +107,8 @@ fronted_am R n climbs us u inside am near f =
       enumerate-append us (u ∷ []),
       in_two_at place_rule (enumerate_from 0 us) (length us, u) [] am,
       map-append,
-      before_last_run-enumerate_from is_above_base 0 us,
-      places-last_run is_above_base us,
+      before_last_stretch-enumerate_from is_above_base 0 us,
+      places-last_stretch is_above_base us,
     ))
     (λ both. record { ordered = both.0; below = both.1 }) (
       ordered_append R src last f.ordered here (all_weaker (λ p. p < length b) (λ p. AllByRecursion (R p) last)
@@ -135,7 +135,7 @@ fronts_push R all climbs near us u earlier ys split =
       whole = whole;
       before =
           elim (is_above_base u) as (λ b. is_above_base u ≡ b
-          → Fronted R (before_last_run is_above_base (us ++ u ∷ []))) [
+          → Fronted R (before_last_stretch is_above_base (us ++ u ∷ []))) [
             | true ↦ λ mark. subst (Fronted R) (sym (before_last_run_yes is_above_base us u mark)) f.before
             | false ↦ λ letter. subst (Fronted R) (sym (before_last_run_no is_above_base us u letter)) whole
           ] refl;

@@ -12,21 +12,21 @@ use Rattle.rustybuzz_shapers.specs.declared.shaper.hb_ot_shaper_t.{hb_ot_shaper_
 use Rattle.rustybuzz_shapers.specs.declared.shaper.hb_ot_shaper_t.TheVariants.{Arabic, Universal}
 
 -- the pauses that set syllables by spans alone, and those that record or clear what a lookup did
-abbrev pub settles : Pause → Bool
-settles SetupSyllablesIndic = true
-settles SetupSyllablesKhmer = true
-settles SetupSyllablesMyanmar = true
-settles RecordStch = true
-settles RecordRphf = true
-settles RecordPref = true
-settles SyllabicClearVar = true
-settles ClearSubstitutionFlags = true
-settles ArabicFallbackShape = true
-settles _ = false
+abbrev pub sets_or_records : Pause → Bool
+sets_or_records SetupSyllablesIndic = true
+sets_or_records SetupSyllablesKhmer = true
+sets_or_records SetupSyllablesMyanmar = true
+sets_or_records RecordStch = true
+sets_or_records RecordRphf = true
+sets_or_records RecordPref = true
+sets_or_records SyllabicClearVar = true
+sets_or_records ClearSubstitutionFlags = true
+sets_or_records ArabicFallbackShape = true
+sets_or_records _ = false
 
 abbrev pub PausesOnce : Type 0
 PausesOnce = (pause : Pause) (plan : hb_ot_shape_plan_t) (font : Font) (spans : List Span)
-    (old mid new : Buffer) → settles pause ≡ true →
+    (old mid new : Buffer) → sets_or_records pause ≡ true →
     Paused pause plan font spans old mid → Paused pause plan font spans mid new → new ≡ mid
 
 -- the shapers whose setting of masks looks at each glyph alone, or does nothing

@@ -17,14 +17,14 @@ use Rattle.shapers_syllabic.specs.Borders.{unnumbered}
 use Rattle.shapers_syllabic.specs.ReorderingLaws.{paused_clusters, paused_order}
 use Rattle.shapers_syllabic.specs.SpanCuts.{CutsBetweenSpans}
 use Rattle.shapers_syllabic.specs.Syllabic.{unsafe_spans}
-use Rattle.shapers_universal.specs.UniversalLaws.{set_up_by_spans, without_serial_or_forms}
+use Rattle.shapers_universal.specs.UniversalLaws.{setup_by_spans, without_serial_or_forms}
 use Rattle.rustybuzz_shapers.specs.Pauses.{Paused, Reordering, by_initial, by_universal}
 
 -- a set-up by spans and the reordering that runs directly after it, with what it goes by
 abbrev pub IsCut : Pause → Pause → (hb_ot_shape_plan_t → Font → Buffer → Reordering) → Type 0
-IsCut set_up pause by = (plan : hb_ot_shape_plan_t) (font : Font) (spans unread : List Span)
+IsCut setup pause by = (plan : hb_ot_shape_plan_t) (font : Font) (spans unread : List Span)
     (old mid new : Buffer) → All (λ span. span.kind ≤ 15) spans →
-    Paused set_up plan font spans old mid →
+    Paused setup plan font spans old mid →
     Paused pause plan font unread mid new →
     let r = by plan font mid in
     CutsBetweenSpans unnumbered unsafe_spans (paused_order r.circles r.order)
@@ -38,7 +38,7 @@ UniversalIsCut = (plan : hb_ot_shape_plan_t) (font : Font) (spans unread : List 
     Paused ReorderUse plan font unread mid new →
     let r = by_universal font mid in
     CutsBetweenSpans (without_serial_or_forms plan.plan_data plan.ot_map)
-    (set_up_by_spans plan.plan_data plan.ot_map) (paused_order r.circles r.order)
+    (setup_by_spans plan.plan_data plan.ot_map) (paused_order r.circles r.order)
     (paused_clusters r.circles r.steps old.level) spans old.glyphs new.glyphs
 
 -- in Indic after both reorderings

@@ -15,11 +15,11 @@ use Rattle.shapers_spans.specs.Indic.{indic_grammar}
 use Rattle.shapers_spans.specs.Khmer.{khmer_grammar}
 use Rattle.shapers_spans.specs.Myanmar.{myanmar_grammar}
 use Rattle.shapers_spans.specs.Universal.{universal_grammar}
-use Rattle.shapers_syllabic.specs.Syllabic.{set_up_by_bytes}
+use Rattle.shapers_syllabic.specs.Syllabic.{setup_by_bytes}
 use Rattle.shapers_syllabic.specs.declared.ot_shaper_syllabic.kinds.indic_syllable.TheConstants as indic_syllable
 use Rattle.shapers_syllabic.specs.declared.ot_shaper_syllabic.kinds.khmer_syllable.TheConstants as khmer_syllable
 use Rattle.shapers_syllabic.specs.declared.ot_shaper_syllabic.kinds.myanmar_syllable.TheConstants as myanmar_syllable
-use Rattle.shapers_universal.specs.UniversalSyllables.{set_up_by_its_bytes, with_forms_flagged}
+use Rattle.shapers_universal.specs.UniversalSyllables.{setup_by_its_bytes, with_forms_flagged}
 use Rattle.rustybuzz_shapers.specs.Pauses.{PauseKeeps, Paused, RefusesPause}
 
 -- whether the pause sets up syllables
@@ -45,14 +45,14 @@ pub record SpansWritten (pause : Pause) (old new : Buffer) : Type 0 where
   pub bytes : new ≡ record old { glyphs = with_bytes old.glyphs (span_bytes 0 spans) }
 
 -- the buffer set up by the syllable bytes that its glyphs have, if the pause sets up syllables
-abbrev pub set_up_written : Pause → hb_ot_shape_plan_t → Buffer → Buffer
-set_up_written SetupSyllablesIndic plan b = set_up_by_bytes indic_syllable.BROKEN_CLUSTER b
-set_up_written SetupSyllablesKhmer plan b = set_up_by_bytes khmer_syllable.BROKEN_CLUSTER b
-set_up_written SetupSyllablesMyanmar plan b = set_up_by_bytes myanmar_syllable.BROKEN_CLUSTER b
-set_up_written SetupSyllablesUse plan b =
+abbrev pub setup_written : Pause → hb_ot_shape_plan_t → Buffer → Buffer
+setup_written SetupSyllablesIndic plan b = setup_by_bytes indic_syllable.BROKEN_CLUSTER b
+setup_written SetupSyllablesKhmer plan b = setup_by_bytes khmer_syllable.BROKEN_CLUSTER b
+setup_written SetupSyllablesMyanmar plan b = setup_by_bytes myanmar_syllable.BROKEN_CLUSTER b
+setup_written SetupSyllablesUse plan b =
     with_forms_flagged plan.break_flags plan.plan_data plan.ot_map
-    (set_up_by_its_bytes plan.plan_data plan.ot_map b)
-set_up_written _ plan b = b
+    (setup_by_its_bytes plan.plan_data plan.ot_map b)
+setup_written _ plan b = b
 
 -- the buffer before and after a pause, whose spans are found by its grammar
 pub record PauseRun (pause : Pause) (plan : hb_ot_shape_plan_t) (font : Font) (old new : Buffer)

@@ -14,7 +14,7 @@ use Rattle.rustybuzz_shapers.specs.declared.shaper.hb_ot_shaper_t.TheVariants.{A
 -- The action of each glyph is the one that the joining rule and the selector rule give it in its
 -- text. Cut anywhere, the halves act as the whole, if their inner contexts show the neighbours.
 -- Contexts copied from the text do, if in each one of at most five characters isn't transparent, or
--- the text ends there. Only Mongolian selectors that open the second half may differ.
+-- the text ends there. Only Mongolian selectors that begin the second half may differ.
 pub record ActsByRule (script : Option Script) (tables : CharacterTables)
     (old new : Buffer) : Type 0 where
   pub rule : map (λ g. g.auxiliary) new.glyphs

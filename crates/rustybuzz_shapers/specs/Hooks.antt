@@ -4,7 +4,7 @@ use Rattle.std.specs.Prelude.{ℕ, ◌+◌, ◌≤◌, ◌%◌, map, true, false
 use Rattle.std.specs.List.{All, AllByRecursion, list_any}
 use Rattle.shapers_buffer.specs.Buffer.{Buffer}
 use Rattle.shapers_base.specs.Font.{CharacterTables, Font}
-use Rattle.shapers_base.specs.Masks.{masks_kept}
+use Rattle.shapers_base.specs.Masks.{masks_stored}
 use Rattle.shapers_buffer.specs.Glyph.{clusters, characters}
 use Rattle.shapers_buffer.specs.Refusals.{Refuses, RefusesLength}
 use Rattle.shapers_arabic.specs.Marks as arabic
@@ -18,7 +18,7 @@ use Rattle.shapers_base.specs.declared.plan.PlanData.{PlanData}
 use Rattle.shapers_base.specs.declared.plan.PlanData.TheVariants as data_of
 use Rattle.shapers_base.specs.declared.plan.Preprocess.{Preprocess}
 use Rattle.shapers_base.specs.declared.plan.Preprocess.TheVariants.{Done, CallerRunsVowelConstraints}
-use Rattle.shapers_clusters.specs.Steps.{run_step}
+use Rattle.shapers_clusters.specs.Steps.{after_step}
 use Rattle.shapers_hangul.specs.Hangul as hangul
 use Rattle.shapers_hangul.specs.HangulLaws.{AllKept, KeepsClusters, KeepsGlyphFlags, SpellsByUnits, SpellsSame}
 use Rattle.shapers_hangul.specs.Masks.{is_hangul_data, jamo_masks, with_jamo_masks}
@@ -57,7 +57,7 @@ data_created _ plan = None
 
 -- none of the masks in a plan's data touches a glyph flag bit
 abbrev pub MasksOffFlags : PlanData → Type 0
-MasksOffFlags kept = AllByRecursion (λ mask. mask % 8 ≡ 0) (masks_kept kept)
+MasksOffFlags kept = AllByRecursion (λ mask. mask % 8 ≡ 0) (masks_stored kept)
 
 -- the plan with these data, if there are any
 abbrev pub with_created : Option PlanData → hb_ot_shape_plan_t → hb_ot_shape_plan_t
@@ -195,7 +195,7 @@ MarksReordered Arabic start end old new =
     { glyphs = marks_reordered start end (marks_merged old.level start end old.glyphs) }
 MarksReordered Hebrew start end old new =
     new ≡ record old
-    { glyphs = run_step old.level (hebrew_mark_step start end old.glyphs) old.glyphs }
+    { glyphs = after_step old.level (hebrew_mark_step start end old.glyphs) old.glyphs }
 MarksReordered shaper start end old new = Lacking (has_hook shaper ReorderMarks) (new ≡ old)
 
 -- that no mark is lost, exact cuts, the cluster law and the flag law

@@ -30,7 +30,7 @@ abbrev pub ExactCutsStayMonotone : Type 0
 ExactCutsStayMonotone = (cs : List ℕ) (sts : List (ℕ × ℕ)) (after : List ℕ) →
     ExactCuts cs sts after → StaysMonotone cs after
 
--- no syllable opens with two rephas, where circles open behind these: the second could be in a
+-- no syllable begins with two rephas, where circles open behind these: the second could be in a
 -- greater cluster than the circle behind it
 abbrev pub AtMostOneRepha : Option DottedCircles → Glyphs → Type 0
 AtMostOneRepha None gs = Unit {0}

@@ -10,7 +10,7 @@ use Rattle.shapers_clusters.specs.Laws.{ReorderedHold}
 use Rattle.shapers_clusters.specs.Steps.{Step}
 use Rattle.shapers_indic.specs.Plan.{indic_in, is_indic_data}
 use Rattle.shapers_indic_final.specs.FinalLaws.{FinallyKept}
-use Rattle.shapers_indic_final.specs.FinalWordStart.{WordsOpened}
+use Rattle.shapers_indic_final.specs.FinalWordStart.{WordsStarted}
 use Rattle.shapers_indic_final.specs.FinalReordering.{final_order, final_steps}
 use Rattle.shapers_indic_final.specs.FinalRules as final
 use Rattle.shapers_indic_initial.specs.InitialLaws.{InitiallyMerged}
@@ -20,7 +20,7 @@ use Rattle.shapers_khmer.specs.KhmerMovers.{ordered_by_movers, steps_by_movers}
 use Rattle.shapers_khmer.specs.Plan.{is_khmer_data}
 use Rattle.shapers_myanmar.specs.Myanmar.{myanmar_circles, myanmar_order, myanmar_steps}
 use Rattle.shapers_stretch.specs.Recorded.{has_stch, tiles_recorded}
-use Rattle.shapers_syllabic.specs.Borders.{MeetAtBorder, SameButSerials, SetUpCutsAtSpans, spans_set_up, unnumbered}
+use Rattle.shapers_syllabic.specs.Borders.{MeetAtBorder, SameButSerials, SetupCutsAtSpans, spans_setup, unnumbered}
 use Rattle.shapers_syllabic.specs.CircleLaws.{NoNewCluster}
 use Rattle.shapers_syllabic.specs.Circles.{circled}
 use Rattle.shapers_syllabic.specs.Reordering.{PauseLinked, PauseReordered, SyllableReordered, carried, script_circles, text_steps}
@@ -32,8 +32,8 @@ use Rattle.shapers_syllabic.specs.declared.ot_shaper_syllabic.kinds.khmer_syllab
 use Rattle.shapers_syllabic.specs.declared.ot_shaper_syllabic.kinds.myanmar_syllable.TheConstants as myanmar_syllable
 use Rattle.shapers_universal.specs.PlanData.{is_universal, rphf_of}
 use Rattle.shapers_universal.specs.Universal.{universal_order, universal_steps}
-use Rattle.shapers_universal.specs.UniversalCuts.{UniversalSetUpCutsAtSpans}
-use Rattle.shapers_universal.specs.UniversalSyllables.{syllables_set_up, with_forms_flagged, with_pref_recorded, with_rphf_recorded}
+use Rattle.shapers_universal.specs.UniversalCuts.{UniversalSetupCutsAtSpans}
+use Rattle.shapers_universal.specs.UniversalSyllables.{syllables_setup, with_forms_flagged, with_pref_recorded, with_rphf_recorded}
 use Rattle.shapers_universal.specs.UniversalText.{universal_circles}
 use Rattle.shapers_buffer.specs.Buffer.{Buffer}
 use Rattle.shapers_base.specs.Font.{Font}
@@ -142,21 +142,21 @@ abbrev pub Reordered : Reordering → Buffer → Buffer → Type 0
 Reordered r old new = PauseReordered r.circles r.order r.steps old new
 
 -- the buffer after the final reordering of Indic: what that made of it, each syllable then opened
-abbrev pub ThenOpened : hb_ot_shape_plan_t → Font → (Buffer → Type 0) → Buffer → Type 0
-ThenOpened plan font made new =
-    (mid : Buffer) × made mid × WordsOpened (final.final_rules font (indic_in plan)).init mid new
+abbrev pub ThenStarted : hb_ot_shape_plan_t → Font → (Buffer → Type 0) → Buffer → Type 0
+ThenStarted plan font made new =
+    (mid : Buffer) × made mid × WordsStarted (final.final_rules font (indic_in plan)).init mid new
 
 -- the buffer before and after the pause; where it reorders, the placement list is empty then
 abbrev pub Paused : Pause → hb_ot_shape_plan_t → Font → List Span → Buffer → Buffer → Type 0
 Paused SetupSyllablesIndic plan font spans old new =
-    new ≡ spans_set_up spans indic_syllable.BROKEN_CLUSTER old
+    new ≡ spans_setup spans indic_syllable.BROKEN_CLUSTER old
 Paused SetupSyllablesKhmer plan font spans old new =
-    new ≡ spans_set_up spans khmer_syllable.BROKEN_CLUSTER old
+    new ≡ spans_setup spans khmer_syllable.BROKEN_CLUSTER old
 Paused SetupSyllablesMyanmar plan font spans old new =
-    new ≡ spans_set_up spans myanmar_syllable.BROKEN_CLUSTER old
+    new ≡ spans_setup spans myanmar_syllable.BROKEN_CLUSTER old
 Paused SetupSyllablesUse plan font spans old new =
     new ≡ with_forms_flagged plan.break_flags plan.plan_data plan.ot_map
-    (syllables_set_up plan.plan_data plan.ot_map spans old)
+    (syllables_setup plan.plan_data plan.ot_map spans old)
 Paused InitialReordering plan font spans old new =
     Reordered (by_initial plan font old) old new
     × InitiallyReordered font plan.ot_map (indic_in plan) old new
@@ -164,7 +164,7 @@ Paused ReorderKhmer plan font spans old new = Reordered (by_khmer plan font old)
 Paused ReorderMyanmar plan font spans old new = Reordered (by_myanmar font old) old new
 Paused ReorderUse plan font spans old new = Reordered (by_universal font old) old new
 Paused FinalReordering plan font spans old new =
-    ThenOpened plan font (Reordered (by_final plan font old) old) new
+    ThenStarted plan font (Reordered (by_final plan font old) old) new
 Paused RecordStch plan font spans old new = new ≡ tiles_recorded plan.plan_data old
 Paused RecordRphf plan font spans old new = new ≡ with_rphf_recorded (rphf_of plan.plan_data) old
 Paused RecordPref plan font spans old new = new ≡ with_pref_recorded old
@@ -238,16 +238,16 @@ OneByOne r old new = PauseLinked r.circles (SyllableReordered r.order r.steps) o
 -- regular syllable come to its front.
 abbrev pub PauseKeeps : Pause → hb_ot_shape_plan_t → Font → List Span → Buffer → Buffer → Type 0
 PauseKeeps SetupSyllablesIndic plan font spans old new =
-    SetUpCutsAtSpans spans indic_syllable.BROKEN_CLUSTER old new
+    SetupCutsAtSpans spans indic_syllable.BROKEN_CLUSTER old new
     × (clusters new.glyphs ≡ clusters old.glyphs) × OnlyFlagsAdded old.glyphs new.glyphs
 PauseKeeps SetupSyllablesKhmer plan font spans old new =
-    SetUpCutsAtSpans spans khmer_syllable.BROKEN_CLUSTER old new
+    SetupCutsAtSpans spans khmer_syllable.BROKEN_CLUSTER old new
     × (clusters new.glyphs ≡ clusters old.glyphs) × OnlyFlagsAdded old.glyphs new.glyphs
 PauseKeeps SetupSyllablesMyanmar plan font spans old new =
-    SetUpCutsAtSpans spans myanmar_syllable.BROKEN_CLUSTER old new
+    SetupCutsAtSpans spans myanmar_syllable.BROKEN_CLUSTER old new
     × (clusters new.glyphs ≡ clusters old.glyphs) × OnlyFlagsAdded old.glyphs new.glyphs
 PauseKeeps SetupSyllablesUse plan font spans old new =
-    UniversalSetUpCutsAtSpans plan.break_flags plan.plan_data plan.ot_map spans old new
+    UniversalSetupCutsAtSpans plan.break_flags plan.plan_data plan.ot_map spans old new
     × (clusters new.glyphs ≡ clusters old.glyphs) × OnlyFlagsAdded old.glyphs new.glyphs
 PauseKeeps InitialReordering plan font spans old new =
     ReorderingKeeps (by_initial plan font old) old new
@@ -266,7 +266,7 @@ PauseKeeps ReorderUse plan font spans old new =
     × (OneByOne (by_universal font old) old new × MergedFirst (by_universal font old) old new)
 PauseKeeps FinalReordering plan font spans old new =
     FinallyKept (final.final_rules font (indic_in plan)) old new
-    × (ThenOpened plan font (λ mid. ReorderingKeeps (by_final plan font old) old mid
+    × (ThenStarted plan font (λ mid. ReorderingKeeps (by_final plan font old) old mid
     × OneByOne (by_final plan font old) old mid) new
     × NoNewCluster old.glyphs new.glyphs)
 PauseKeeps _ plan font spans old new = OnlyFlagsAdded old.glyphs new.glyphs

@@ -18,8 +18,8 @@ abbrev pub glyphs_added : hb_ot_shaper_t → Font → Buffer → ℕ
 glyphs_added Arabic font old = copies_in font old
 glyphs_added _ font old = 0
 
--- The text after is the parts of the text before, each with its run laid: as wide as its numbers
--- say, and where its tiles fit, as the word, or wider by less than a unit per added copy.
+-- The text after is the parts of the text before, each with its sequence laid: as wide as its
+-- numbers say, and where its tiles fit, as the word, or wider by less than a unit per added copy.
 abbrev pub StretchesCover : Type 0
 StretchesCover = (plan : hb_ot_shape_plan_t) (font : Font) (old new : Buffer) →
     old.stch ≡ true → length old.positions ≡ length old.glyphs →

@@ -15,9 +15,9 @@ use Rattle.rustybuzz_shapers.specs.Hooks.{Preprocessed}
 use Rattle.rustybuzz_shapers.specs.declared.shaper.hb_ot_shaper_t.TheVariants.{Hangul, Thai}
 
 -- A Thai text opens freely with no above-base mark or SARA AM; where forms follow, with no mark.
-abbrev pub OpensFreely : Bool → Glyphs → Type 0
-OpensFreely forms [] = Unit {0}
-OpensFreely forms (g ∷ gs) =
+abbrev pub BeginsFreely : Bool → Glyphs → Type 0
+BeginsFreely forms [] = Unit {0}
+BeginsFreely forms (g ∷ gs) =
     (is_above_base g.glyph_id ≡ false)
     × ((is_sara_am g.glyph_id ≡ false) × (forms ≡ true → is_thai_mark g.glyph_id ≡ false))
 
@@ -30,7 +30,7 @@ pub record PreprocessedHalves (gs hs one two new : Glyphs) : Type 0 where
 abbrev pub ThaiCuts : Type 0
 ThaiCuts = (plan : hb_ot_shape_plan_t) (font : Font) (gs hs : Glyphs)
     (old one two new : Buffer) →
-    OpensFreely (asks_for_forms plan) hs →
+    BeginsFreely (asks_for_forms plan) hs →
     Preprocessed Thai plan font (record old { glyphs = gs }) one →
     Preprocessed Thai plan font (record old { glyphs = hs }) two →
     Preprocessed Thai plan font (record old { glyphs = gs ++ hs }) new →

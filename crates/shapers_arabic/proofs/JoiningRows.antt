@@ -228,7 +228,7 @@ selectors_in_a_row : forms_of mong (plain_text (1 ∷ 0x180B ∷ 0x180F ∷ 0x18
     ≡ INIT ∷ INIT ∷ INIT ∷ INIT ∷ FINA ∷ []
 selectors_in_a_row = refl
 
--- selectors that open a text have the form of its first place, also where that is a letter by its type
+-- selectors that begin a text have the form of its first place, also where that is a letter by its type
 opening_selectors : forms_of mong (plain_text (0x180B ∷ 0x180C ∷ 1 ∷ []) [] (D ∷ T ∷ D ∷ []) []) ≡ INIT ∷ INIT ∷ FINA
     ∷ []
 opening_selectors = refl

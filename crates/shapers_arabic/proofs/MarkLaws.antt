@@ -9,12 +9,12 @@ use Rattle.shapers_buffer.proofs.MappedLists.{prefix_len-seen}
 use Rattle.shapers_buffer.proofs.ClusterLemmas.{map-stretch}
 use Rattle.shapers_clusters.specs.Flags.{HidesFields}
 use Rattle.shapers_clusters.specs.Laws.{ReorderedHold}
-use Rattle.shapers_clusters.specs.Steps.{run_step, shifted, MovesMerged, Permutes}
+use Rattle.shapers_clusters.specs.Steps.{after_step, shifted, MovesMerged, Permutes}
 use Rattle.shapers_clusters.proofs.Merging.{length-merge_all, order_view-merge_all}
 use Rattle.shapers_clusters.proofs.Permuted.{permutes-widened}
 use Rattle.shapers_clusters.proofs.Proved.{reordered_hold}
 use Rattle.shapers_clusters.proofs.Widened.{moves-widened, pick-widened}
-use Rattle.shapers_arabic.specs.declared.ot_shaper_arabic.marks.Parts.{Parts}
+use Rattle.shapers_arabic.specs.declared.ot_shaper_arabic.marks.Lengths.{Lengths}
 use Rattle.shapers_arabic.specs.MarkParts.{lengths_of}
 use Rattle.shapers_arabic.specs.Marks.{Marks, ModifiersTakeClasses, combining_classes, split_marks, in_class, marks_reordered, merged_for, passed, arabic_mark_step, text_step, marks_merged, without_class}
 use Rattle.shapers_arabic.proofs.MarkClasses.{class-hidden, reordered_classes}
@@ -67,7 +67,7 @@ view-merged_stretch : (level : BufferClusterLevel) (sts : List (ℕ × ℕ)) (s 
 view-merged_stretch = search (arith, map-stretch, order_view-merge_all)
 
 pub lengths-merged : (level : BufferClusterLevel) (sts : List (ℕ × ℕ)) (s e : ℕ) (gs ms : Glyphs)
-    (p : Parts) → ms ≡ merge_all level sts gs → p ≡ lengths_of (split_marks (stretch_of s e gs))
+    (p : Lengths) → ms ≡ merge_all level sts gs → p ≡ lengths_of (split_marks (stretch_of s e gs))
     → p ≡ lengths_of (split_marks (stretch_of s e ms))
 lengths-merged = search (arith, same_lengths, view-merged_stretch)
 
@@ -163,7 +163,7 @@ step_permutes = search (arith, length-parts, moves-permute)
 -- but for the classes the step gives the reordered marks
 step_gives : (level : BufferClusterLevel) (s e : ℕ) (gs : Glyphs) → s ≤ e → e ≤ length gs
     → map without_class (marks_reordered s e (marks_merged level s e gs))
-    ≡ map without_class (run_step level (text_step s e gs) gs)
+    ≡ map without_class (after_step level (text_step s e gs) gs)
 step_gives level s e gs h l =
     let step = arabic_mark_step (split_marks (stretch_of s e gs)) in
     let ms = marks_merged level s e gs in

@@ -8,7 +8,7 @@ use Rattle.shapers_buffer.specs.Glyphs.{Glyph, Glyphs}
 use Rattle.shapers_buffer.specs.declared.buffer.level.BufferClusterLevel.{BufferClusterLevel}
 use Rattle.shapers_buffer.specs.declared.buffer.level.BufferClusterLevel.TheVariants.{MonotoneGraphemes, MonotoneCharacters, Characters}
 use Rattle.shapers_buffer.specs.declared.buffer.modified_combining_class.TheConstants.{CCC22, CCC26}
-use Rattle.shapers_clusters.specs.Steps.{run_step}
+use Rattle.shapers_clusters.specs.Steps.{after_step}
 use Rattle.shapers_arabic.specs.declared.ot_shaper_arabic.marks.TheConstants.{ABOVE}
 use Rattle.shapers_arabic.specs.MarkParts.{is_among_modifiers, lengths_of, may_modify, passed_by, last_marks_first}
 use Rattle.shapers_arabic.specs.Marks.{ModifiersTakeClasses, classes_moved, combining_classes, modifiers, has_lower_class, is_modifier_of, split_marks, with_modifiers_first, marks_reordered, marks_merged, merged_for, passed, places_moved, arabic_mark_step, text_step, without_class}
@@ -43,17 +43,17 @@ both_hamzas : view (with_modifiers_first (split_marks five)) ≡ (0x0655, 25) �
 unfolding modified_combining_class general_category
 both_hamzas = refl
 
-their_clusters : clusters (run_step MonotoneGraphemes (arabic_mark_step (split_marks five)) five) ≡ 0 ∷ 0 ∷ 0 ∷ 0 ∷ 4
+their_clusters : clusters (after_step MonotoneGraphemes (arabic_mark_step (split_marks five)) five) ≡ 0 ∷ 0 ∷ 0 ∷ 0 ∷ 4
     ∷ []
 unfolding modified_combining_class general_category
 their_clusters = refl
 
-their_places : map (λ g. g.glyph_id) (run_step MonotoneGraphemes (arabic_mark_step (split_marks five)) five)
+their_places : map (λ g. g.glyph_id) (after_step MonotoneGraphemes (arabic_mark_step (split_marks five)) five)
     ≡ 0x0655 ∷ 0x0654 ∷ 0x064E ∷ 0x065C ∷ 0x0653 ∷ []
 unfolding modified_combining_class general_category
 their_places = refl
 
-clusters_at_characters : clusters (run_step Characters (arabic_mark_step (split_marks five)) five) ≡ 1 ∷ 3 ∷ 0 ∷ 2 ∷ 4
+clusters_at_characters : clusters (after_step Characters (arabic_mark_step (split_marks five)) five) ≡ 1 ∷ 3 ∷ 0 ∷ 2 ∷ 4
     ∷ []
 unfolding modified_combining_class general_category
 clusters_at_characters = refl

@@ -87,7 +87,7 @@ row_second_mask : KeepsParts None 1 1 (glyph 1 0 8 0 ∷ []) (glyph 9 9 9 9 ∷ 
     (glyph 1 0 8 0 ∷ glyph 2 1 8 1 ∷ []) → ⊥
 row_second_mask = search arith
 
--- selectors that open the second part may differ with the script Mongolian, a later one and other scripts' may not
+-- selectors that begin the second part may differ with the script Mongolian, a later one and other scripts' may not
 row_selector : KeepsParts mong 1 1 (glyph 1 0 8 0 ∷ []) (glyph 9 9 9 9 ∷ glyph 0x180B 7 0 1 ∷ glyph 1 0 8 2 ∷ [])
     (glyph 1 0 8 0 ∷ glyph 0x180B 0 8 1 ∷ glyph 1 0 8 2 ∷ [])
 row_selector = search arith

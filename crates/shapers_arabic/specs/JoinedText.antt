@@ -124,11 +124,11 @@ pub record ShowNeighbours (n : ℕ) (text : Text) (inner_after inner_before : Li
   pub onward : nearest inner_after ≡ nearest (drop n text.types ++ text.after)
   pub backward : nearest inner_before ≡ nearest (reverse (take n text.types) ++ text.before)
 
--- how many selectors open the second half, with the script Mongolian alone
+-- how many selectors begin the second half, with the script Mongolian alone
 abbrev pub opening : Option Script → List ℕ → ℕ
 opening script characters = if is_mongolian script then prefix_len is_selector characters else 0
 
--- these forms are the halves' joined; only the selectors that open the second half may differ
+-- these forms are the halves' joined; only the selectors that begin the second half may differ
 pub record ActAsHalves (script : Option Script) (n : ℕ) (text : Text) (inner_after inner_before :
     List hb_arabic_joining_type_t) (whole : List ℕ) : Type 0 where
   pub first : take n whole ≡ forms_of script (first_half n inner_after text)
@@ -178,7 +178,7 @@ second_of n b = record b {
   before = take 5 (reverse (map (λ g. g.glyph_id) (take n b.glyphs)) ++ b.before);
 }
 
--- the forms of the whole are those of these halves, selectors that open the second apart
+-- the forms of the whole are those of these halves, selectors that begin the second apart
 pub record HalvesAgree (script : Option Script) (joining : ℕ →
     hb_arabic_joining_type_t) (general : ℕ →
     hb_unicode_general_category_t) (n : ℕ) (b : Buffer) : Type 0 where

@@ -2,11 +2,11 @@
 use Rattle.std.specs.Prelude.{ℕ, ◌+◌, ◌-◌, ◌==◌, nat_le, Bool, ◌&&◌, ◌||◌, List, ◌++◌, length, map, take, drop}
 use Rattle.shapers_buffer.specs.Glyphs.{Glyph, Glyphs}
 use Rattle.shapers_buffer.specs.Properties.{high_byte}
-use Rattle.shapers_arabic.specs.declared.ot_shaper_arabic.marks.Parts.{Parts}
+use Rattle.shapers_arabic.specs.declared.ot_shaper_arabic.marks.Lengths.{Lengths}
 use Rattle.shapers_arabic.specs.Marks.{Marks, in_class, is_modifier_of, passed}
 
 -- the lengths of the first four parts
-abbrev pub lengths_of : Marks → Parts
+abbrev pub lengths_of : Marks → Lengths
 lengths_of s = record {
   low = length s.low;
   modifiers_below = length s.modifiers_below;
@@ -15,11 +15,11 @@ lengths_of s = record {
 }
 
 -- where the last of these parts ends
-abbrev pub end_of : Parts → ℕ
+abbrev pub end_of : Lengths → ℕ
 end_of p = p.low + p.modifiers_below + p.middle + p.modifiers_above
 
 -- what merges of the marks
-abbrev pub passed_by : Parts → List (ℕ × ℕ)
+abbrev pub passed_by : Lengths → List (ℕ × ℕ)
 passed_by p = passed p.low p.modifiers_below p.middle p.modifiers_above
 
 -- whether a mark modifies a letter, from below or from above

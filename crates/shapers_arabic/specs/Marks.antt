@@ -32,8 +32,9 @@ front_of test gs = take (prefix_len test gs) gs
 abbrev pub behind : (Glyph → Bool) → Glyphs → Glyphs
 behind test gs = drop (prefix_len test gs) gs
 
--- marks in five parts: the longest front of classes below 220, the longest run of modifiers of 220
--- behind it, the longest run of classes below 230, the modifiers of 230 behind it, and the rest
+-- marks in five parts: the longest front of classes below 220, the longest sequence of modifiers of
+-- 220 behind it, the longest sequence of classes below 230, the modifiers of 230 behind it, and the
+-- rest
 pub record Marks : Type 0 where
   pub low : Glyphs
   pub modifiers_below : Glyphs

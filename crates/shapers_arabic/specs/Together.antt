@@ -25,7 +25,7 @@ HasOwnLetter joining general m b =
     nearest (context_types joining general b.after) ≡ None
 
 -- the glyphs put together are what they were in the two texts, up to place n and from place m on,
--- all but clusters and glyph flags; only Mongolian selectors that open the second part may differ
+-- all but clusters and glyph flags; only Mongolian selectors that begin the second part may differ
 pub record KeepsParts (script : Option Script) (n m : ℕ)
     (one two whole : Glyphs) : Type 0 where
   pub first : order_view (take n whole) ≡ order_view (take n one)

@@ -11,13 +11,13 @@ joining_masks None = []
 joining_masks (Some p) = p.mask_array
 
 -- the masks in these data, whichever shaper's they are
-abbrev pub masks_kept : PlanData → List ℕ
-masks_kept (data_of.Arabic kept) = kept.mask_array
-masks_kept (data_of.Hangul kept) = kept.mask_array
-masks_kept (data_of.Indic kept) = kept.mask_array
-masks_kept (data_of.Khmer kept) = kept.mask_array
-masks_kept (data_of.Universal kept) = kept.rphf_mask ∷ joining_masks kept.arabic_plan
-masks_kept _ = []
+abbrev pub masks_stored : PlanData → List ℕ
+masks_stored (data_of.Arabic kept) = kept.mask_array
+masks_stored (data_of.Hangul kept) = kept.mask_array
+masks_stored (data_of.Indic kept) = kept.mask_array
+masks_stored (data_of.Khmer kept) = kept.mask_array
+masks_stored (data_of.Universal kept) = kept.rphf_mask ∷ joining_masks kept.arabic_plan
+masks_stored _ = []
 
 -- the glyph with the mask of its auxiliary byte's number, if there is one, besides its own
 abbrev pub with_numbered_mask : List ℕ → Glyph → Glyph

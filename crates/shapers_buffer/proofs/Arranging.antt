@@ -14,8 +14,8 @@ use Rattle.std.proofs.lemmas.Map.Made.{AllPairs-from_IsDistinct, IsDistinct-from
 use Rattle.shapers_buffer.specs.Buffer.{Buffer}
 use Rattle.shapers_buffer.specs.Clusters.{has_cluster, high, in_cluster, last_cluster, least, low, merge, merged, merges, stretch_of, with_stretch}
 use Rattle.shapers_buffer.specs.declared.buffer.level.BufferClusterLevel.{BufferClusterLevel}
-use Rattle.shapers_buffer.specs.ClusterRuns.{none_below}
-use Rattle.shapers_buffer.specs.RunWalk.{equal_before, equal_behind}
+use Rattle.shapers_buffer.specs.ClusterRanges.{none_below}
+use Rattle.shapers_buffer.specs.RangeWalk.{equal_before, equal_behind}
 use Rattle.shapers_buffer.proofs.RunLemmas.{grown_merged}
 use Rattle.shapers_buffer.specs.Glyph.{clusters, default_glyph}
 use Rattle.shapers_buffer.specs.Glyphs.{Glyph, Glyphs}

@@ -7,7 +7,7 @@ use Rattle.std.proofs.Math.Seq.{drop-append-add, take-append-add}
 use Rattle.std.proofs.lemmas.Bool.{or_parts, or_from}
 use Rattle.std.proofs.lemmas.List.Folds.{list_any-append}
 use Rattle.std.proofs.lemmas.Grind.{reverse_onto}
-use Rattle.shapers_buffer.specs.Lists.{cut_after, last_run, before_last_run}
+use Rattle.shapers_buffer.specs.Lists.{cut_after, last_stretch, before_last_stretch}
 
 -- the longest end, where one more element stands at the end
 pub suffix_len_yes : {X : Type 0} (test : X → Bool) (xs : List X) (x : X) → test x ≡ true
@@ -28,30 +28,30 @@ pub suffix_len_stop : {X : Type 0} (test : X → Bool) (xs : List X) (a : X) (ys
     → suffix_len test (xs ++ a ∷ ys) ≡ suffix_len test ys
 suffix_len_stop = search (arith, reverse-append, reverse_onto, append_assoc, prefix_len_stop)
 
-pub last_run_yes : {X : Type 0} (test : X → Bool) (xs : List X) (x : X) → test x ≡ true → last_run test (xs ++ x ∷ [])
-    ≡ last_run test xs ++ x ∷ []
+pub last_run_yes : {X : Type 0} (test : X → Bool) (xs : List X) (x : X) → test x ≡ true → last_stretch test (xs ++ x ∷ [])
+    ≡ last_stretch test xs ++ x ∷ []
 last_run_yes = search (arith, length_push, suffix_len_yes, drop-append-le)
 
 pub before_last_run_yes : {X : Type 0} (test : X → Bool) (xs : List X) (x : X) → test x ≡ true
-    → before_last_run test (xs ++ x ∷ []) ≡ before_last_run test xs
+    → before_last_stretch test (xs ++ x ∷ []) ≡ before_last_stretch test xs
 before_last_run_yes = search (arith, length_push, suffix_len_yes, take-append-le)
 
-pub last_run_no : {X : Type 0} (test : X → Bool) (xs : List X) (x : X) → test x ≡ false → last_run test (xs ++ x ∷ [])
+pub last_run_no : {X : Type 0} (test : X → Bool) (xs : List X) (x : X) → test x ≡ false → last_stretch test (xs ++ x ∷ [])
     ≡ []
 last_run_no = search (arith, drop_all, suffix_len_no)
 
 pub before_last_run_no : {X : Type 0} (test : X → Bool) (xs : List X) (x : X) → test x ≡ false
-    → before_last_run test (xs ++ x ∷ []) ≡ xs ++ x ∷ []
+    → before_last_stretch test (xs ++ x ∷ []) ≡ xs ++ x ∷ []
 before_last_run_no = search (arith, take_all, suffix_len_no)
 
 pub last_run_stop : {X : Type 0} (test : X → Bool) (xs : List X) (a : X) (ys : List X) → test a ≡ false
-    → last_run test (xs ++ a ∷ ys) ≡ last_run test ys
+    → last_stretch test (xs ++ a ∷ ys) ≡ last_stretch test ys
 last_run_stop test xs a ys h =
     ap (λ k. drop k (xs ++ a ∷ ys)) (omega (arith, length-append xs (a ∷ ys), suffix_len_stop, suffix_len-le-length))
     ∙ drop-append-add xs (a ∷ ys) (suc (length ys - suffix_len test ys))
 
 pub before_last_run_stop : {X : Type 0} (test : X → Bool) (xs : List X) (a : X) (ys : List X) → test a ≡ false
-    → before_last_run test (xs ++ a ∷ ys) ≡ xs ++ a ∷ before_last_run test ys
+    → before_last_stretch test (xs ++ a ∷ ys) ≡ xs ++ a ∷ before_last_stretch test ys
 before_last_run_stop test xs a ys h =
     ap (λ k. take k (xs ++ a ∷ ys)) (omega (arith, length-append xs (a ∷ ys), suffix_len_stop, suffix_len-le-length))
     ∙ take-append-add xs (a ∷ ys) (suc (length ys - suffix_len test ys))

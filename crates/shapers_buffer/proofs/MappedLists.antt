@@ -5,7 +5,7 @@ use Rattle.std.proofs.lemmas.List.{append_assoc, append-nil, get_or-map, length_
 use Rattle.std.proofs.lemmas.List.Elements.{Contains-append_left, Contains-append_right}
 use Rattle.std.proofs.lemmas.List.FromFn.{length-enumerate_from}
 use Rattle.std.proofs.lemmas.List.Sums.{suffix_len-le-length}
-use Rattle.shapers_buffer.specs.Lists.{cut_after, last_run, before_last_run, each_after}
+use Rattle.shapers_buffer.specs.Lists.{cut_after, last_stretch, before_last_stretch, each_after}
 
 pub map-reverse : {X Y : Type 0} (f : X → Y) (xs : List X) → map f (reverse xs) ≡ reverse (map f xs)
 map-reverse f [] = refl
@@ -42,13 +42,13 @@ run_start : {X Y : Type 0} (test : Y → Bool) (f : X → Y) (xs : List X) → l
     ≡ length xs - suffix_len (λ x. test (f x)) xs
 run_start = search (arith, length-map, suffix_len-map)
 
-pub last_run-map : {X Y : Type 0} (test : Y → Bool) (f : X → Y) (xs : List X)
-    → last_run test (map f xs) ≡ map f (last_run (λ x. test (f x)) xs)
-last_run-map = search (arith, run_start, drop-map)
+pub last_stretch-map : {X Y : Type 0} (test : Y → Bool) (f : X → Y) (xs : List X)
+    → last_stretch test (map f xs) ≡ map f (last_stretch (λ x. test (f x)) xs)
+last_stretch-map = search (arith, run_start, drop-map)
 
-pub before_last_run-map : {X Y : Type 0} (test : Y → Bool) (f : X → Y) (xs : List X) → before_last_run test (map f xs)
-    ≡ map f (before_last_run (λ x. test (f x)) xs)
-before_last_run-map test f xs = ap (λ n. take n (map f xs)) (run_start test f xs) ∙ take-map f _ xs
+pub before_last_stretch-map : {X Y : Type 0} (test : Y → Bool) (f : X → Y) (xs : List X) → before_last_stretch test (map f xs)
+    ≡ map f (before_last_stretch (λ x. test (f x)) xs)
+before_last_stretch-map test f xs = ap (λ n. take n (map f xs)) (run_start test f xs) ∙ take-map f _ xs
 
 pub cut_after-map : {X Y : Type 0} (test : Y → Bool) (f : X → Y) (xs : List X)
     → cut_after test (map f xs) ≡ map (map f) (cut_after (λ x. test (f x)) xs)
@@ -93,14 +93,14 @@ numbered_run_start test n xs = omega (
   sym (suffix_len-map test (λ p. p.1) (enumerate_from n xs)) ∙ ap (suffix_len test) (values-enumerate_from n xs),
 )
 
-pub before_last_run-enumerate_from : {X : Type 0} (test : X → Bool) (n : ℕ) (xs : List X)
-    → before_last_run (λ p. test p.1) (enumerate_from n xs) ≡ enumerate_from n (before_last_run test xs)
-before_last_run-enumerate_from = search (arith, numbered_run_start, take-enumerate_from)
+pub before_last_stretch-enumerate_from : {X : Type 0} (test : X → Bool) (n : ℕ) (xs : List X)
+    → before_last_stretch (λ p. test p.1) (enumerate_from n xs) ≡ enumerate_from n (before_last_stretch test xs)
+before_last_stretch-enumerate_from = search (arith, numbered_run_start, take-enumerate_from)
 
-pub places-last_run : {X : Type 0} (test : X → Bool) (xs : List X)
-    → map (λ p. p.0) (last_run (λ p. test p.1) (enumerate_from 0 xs))
+pub places-last_stretch : {X : Type 0} (test : X → Bool) (xs : List X)
+    → map (λ p. p.0) (last_stretch (λ p. test p.1) (enumerate_from 0 xs))
     ≡ range_with_len (length xs - suffix_len test xs) (suffix_len test xs)
-places-last_run test xs =
+places-last_stretch test xs =
     let start = length xs - suffix_len test xs in
     search (
       arith,

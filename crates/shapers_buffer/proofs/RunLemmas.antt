@@ -10,9 +10,9 @@ use Rattle.std.proofs.lemmas.Grind.{fold-append}
 use Rattle.shapers_buffer.specs.Glyphs.{Glyph, Glyphs}
 use Rattle.shapers_buffer.specs.Glyph.{clusters}
 use Rattle.shapers_buffer.specs.Clusters.{least, first_cluster, last_cluster, has_cluster, in_cluster, flooded, merged, stretch_of, with_stretch}
-use Rattle.shapers_buffer.specs.ClusterRuns.{none_below}
-use Rattle.shapers_buffer.specs.RunWalk.{equal_before, equal_behind}
-use Rattle.shapers_buffer.specs.Lists.{last_run}
+use Rattle.shapers_buffer.specs.ClusterRanges.{none_below}
+use Rattle.shapers_buffer.specs.RangeWalk.{equal_before, equal_behind}
+use Rattle.shapers_buffer.specs.Lists.{last_stretch}
 use Rattle.shapers_buffer.proofs.ListLaws.{from_end, last_run_no, last_run_yes}
 use Rattle.shapers_buffer.proofs.ClusterLemmas.{flooded-parts, flooded_before, flooded_itself, length-stretch, merged_is, stretch_widened, stretched_parts, three_parts}
 use Rattle.shapers_buffer.proofs.OneCluster.{all_in_cluster, in_cluster_stays, last_of_end, least_stays, one_stays, stretch_in_two}
@@ -59,11 +59,11 @@ last_not_below m (g ∷ (k ∷ gs)) some none = search (
 )
 
 -- the glyphs of a cluster that end a list, or open it
-last_run_passes : (test : Glyph → Bool) (gs : Glyphs) → list_all test (last_run test gs) ≡ true
+last_run_passes : (test : Glyph → Bool) (gs : Glyphs) → list_all test (last_stretch test gs) ≡ true
 last_run_passes test =
-    from_end (λ gs. list_all test (last_run test gs) ≡ true) refl (λ gs g here. elim (cases_Bool (test g)) [
+    from_end (λ gs. list_all test (last_stretch test gs) ≡ true) refl (λ gs g here. elim (cases_Bool (test g)) [
       | inl passes ↦ ap (list_all test) (last_run_yes test gs g passes)
-          ∙ list_all-append test (last_run test gs) (g ∷ []) ∙ rw (here, passes) refl
+          ∙ list_all-append test (last_stretch test gs) (g ∷ []) ∙ rw (here, passes) refl
       | inr fails ↦ ap (list_all test) (last_run_no test gs g fails)
     ])
 
@@ -241,7 +241,7 @@ grown_least a b c e k m l j gs some further within none is last before behind =
       list_all-append (λ g. nat_le m g.cluster) (drop (a - k) (take a gs)) (stretch_of a e gs ++ take j (drop e gs)),
       list_all-append (λ g. nat_le m g.cluster) (stretch_of a e gs) (take j (drop e gs)),
       drop_all,
-      none_of_cluster m c (last_run (has_cluster c) (take a gs)) low (last_run_passes (has_cluster c) (take a gs)),
+      none_of_cluster m c (last_stretch (has_cluster c) (take a gs)) low (last_run_passes (has_cluster c) (take a gs)),
       stretch_in_two a b e gs (omega arith) (omega arith),
       list_all-append (λ g. nat_le m g.cluster) (stretch_of a b gs) (stretch_of b e gs),
       none_lower m c (stretch_of a b gs) low none,

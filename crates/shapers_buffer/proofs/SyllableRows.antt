@@ -38,7 +38,7 @@ full = record {
   unicode_props = record { 0 = 0x09AC };
 }
 
--- syllables are longest runs of equal bytes; a byte that comes again is a syllable of its own
+-- syllables are longest sequences of equal bytes; a byte that comes again is a syllable of its own
 cut : map bytes (syllables (of_bytes (0x10 ∷ 0x10 ∷ 0x24 ∷ 0x10 ∷ 0x14 ∷ 0x14 ∷ 0x14 ∷ []))) ≡ (0x10 ∷ 0x10 ∷ [])
     ∷ (0x24 ∷ []) ∷ (0x10 ∷ []) ∷ (0x14 ∷ 0x14 ∷ 0x14 ∷ []) ∷ []
 cut = refl

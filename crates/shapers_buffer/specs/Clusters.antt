@@ -66,7 +66,7 @@ merge_all level (st ∷ sts) gs = merge_all level sts (merge level st.0 st.1 gs)
 abbrev pub in_one_cluster : Glyphs → Bool
 in_one_cluster gs = list_all (has_cluster (first_cluster gs)) gs
 
--- in the code: the glyphs of cluster c that open the list, in cluster m
+-- in the code: the glyphs of cluster c that begin the list, in cluster m
 abbrev pub flooded : ℕ → ℕ → Glyphs → Glyphs
 flooded c m [] = []
 flooded c m (g ∷ gs) = if g.cluster == c then in_cluster m g ∷ flooded c m gs else g ∷ gs

@@ -1,7 +1,7 @@
 pub mod Buffer
 pub mod Category
 pub mod Changes
-pub mod ClusterRuns
+pub mod ClusterRanges
 pub mod Clusters
 pub mod Glyph
 pub mod Glyphs
@@ -15,6 +15,6 @@ pub mod Places
 pub mod Properties
 pub mod Refusals
 pub mod Settings
-pub mod RunWalk
+pub mod RangeWalk
 pub mod SyllableLaws
 pub mod Syllables

@@ -1,4 +1,4 @@
--- Syllables: longest runs of equal syllable bytes, and the spans that set them.
+-- Syllables: longest sequences of equal syllable bytes, and the spans that set them.
 use Rattle.std.specs.Prelude.{ℕ, suc, ◌+◌, ◌*◌, ◌%◌, ◌==◌, nat_lt, Bool, ◌&&◌, ◌||◌, List, [], ◌∷◌, ◌++◌, length, position, replicate, sum_by, None, Option, option_map, Some, if◌then◌else◌}
 use Rattle.std.specs.List.{list_all, list_any, prefix_len}
 use Rattle.shapers_buffer.specs.Glyphs.{Glyph, Glyphs}
@@ -11,24 +11,24 @@ use Rattle.shapers_buffer.specs.Buffer.{Buffer}
 abbrev pub has_byte : ℕ → Glyph → Bool
 has_byte byte g = g.syllable == byte
 
--- how long the syllable is that opens the list: the longest run of its first byte
+-- how long the syllable is that begins the list: the longest sequence of its first byte
 abbrev pub first_syllable_len : Glyphs → ℕ
 first_syllable_len [] = 0
 first_syllable_len (g ∷ gs) = suc (prefix_len (has_byte g.syllable) gs)
 
 -- these pieces with g in front: in the first piece, if that has g's byte, else by itself
-abbrev pub with_opening : Glyph → List Glyphs →
+abbrev pub with_in_front : Glyph → List Glyphs →
     List Glyphs
-with_opening g [] = (g ∷ []) ∷ []
-with_opening g ([] ∷ pieces) = (g ∷ []) ∷ pieces
-with_opening g ((h ∷ piece) ∷ pieces) =
+with_in_front g [] = (g ∷ []) ∷ []
+with_in_front g ([] ∷ pieces) = (g ∷ []) ∷ pieces
+with_in_front g ((h ∷ piece) ∷ pieces) =
     if h.syllable == g.syllable then (g ∷ (h ∷ piece)) ∷ pieces
     else (g ∷ []) ∷ ((h ∷ piece) ∷ pieces)
 
 -- the syllables: the list cut between neighbours of different bytes
 abbrev pub syllables : Glyphs → List Glyphs
 syllables [] = []
-syllables (g ∷ gs) = with_opening g (syllables gs)
+syllables (g ∷ gs) = with_in_front g (syllables gs)
 
 -- the kind of a syllable byte: its low four bits
 abbrev pub kind_of : ℕ → ℕ

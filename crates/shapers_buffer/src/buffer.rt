@@ -13,7 +13,7 @@ use std::marker::Model;
 
 mod bits;
 mod category;
-mod cluster_runs;
+mod cluster_ranges;
 mod exchanging;
 mod fields;
 mod flags;
@@ -41,7 +41,7 @@ mod unicode_props;
 mod walking;
 
 pub use category::hb_unicode_general_category_t;
-pub use cluster_runs::{ClusterRun, merge_run_in, write_run_in};
+pub use cluster_ranges::{ClusterRange, merge_range_in, write_range_in};
 pub use flags::BufferFlags;
 pub use glyph::{GlyphPosition, hb_glyph_info_t};
 pub use glyph_flags::{
@@ -51,7 +51,7 @@ pub use glyph_props::GlyphProps;
 pub use group_room::{ClusterGroup, GroupRoom};
 pub use laws::{
     bits_are_set_alone, parts_change_places, places_are_written, properties_are_set,
-    syllables_are_runs,
+    syllables_are_longest,
 };
 pub use level::{BufferClusterLevel, Direction};
 pub use lig_props::LigProps;
@@ -137,7 +137,7 @@ impl Model for hb_buffer_t {
 }
 
 impl hb_buffer_t {
-    /// An empty buffer, whose text runs from left to right. It takes no memory.
+    /// An empty buffer, whose text goes from left to right. It takes no memory.
     #[inline]
     pub fn new(alloc: Global, max_len: usize) -> Self
         ensures { result ≡ new_buffer max_len }

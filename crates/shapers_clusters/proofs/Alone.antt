@@ -8,11 +8,11 @@ use Rattle.shapers_buffer.specs.Clusters.{stretch_of}
 use Rattle.shapers_buffer.proofs.ClusterLemmas.{three_parts}
 use Rattle.shapers_clusters.specs.Cuts.{ShareNone, StandsApart}
 use Rattle.shapers_clusters.specs.ClusterMerges.{of_cluster}
-use Rattle.shapers_clusters.specs.Steps.{FitSteps, Step, joined_step, joined_steps, run_steps, steps_along, widened}
+use Rattle.shapers_clusters.specs.Steps.{FitSteps, Step, joined_step, joined_steps, after_steps, steps_along, widened}
 use Rattle.shapers_clusters.proofs.StepsOutside.{along_elsewhere, leaves_elsewhere}
 use Rattle.shapers_clusters.proofs.Halves.{along-append, steps_alone}
 use Rattle.shapers_clusters.proofs.ClusterMerges.{clusters-of_clusters}
-use Rattle.shapers_clusters.proofs.Moves.{all-joined_steps, clusters-run_steps}
+use Rattle.shapers_clusters.proofs.Moves.{all-joined_steps, clusters-after_steps}
 use Rattle.shapers_clusters.proofs.Widened.{all_fit-widened}
 use Rattle.shapers_clusters.proofs.Spread.{length-stretch, stretch-at}
 use Rattle.std.proofs.lemmas.List.Elements.{All-contains_itself}
@@ -59,12 +59,12 @@ steps_own level s e steps cs h l f apart =
       clusters-of_clusters a,
       clusters-of_clusters c,
       three_parts s e cs h,
-      clusters-run_steps level (map (widened s e n) steps) (ga ++ (gb ++ gc)),
+      clusters-after_steps level (map (widened s e n) steps) (ga ++ (gb ++ gc)),
       steps_alone level s e n steps ga gb gc h (length-map a of_cluster ∙ an) (length-map b of_cluster ∙ bn)
           (omega (arith, length-map c of_cluster)) f none_before none_behind,
-      map-append (λ g. g.cluster) ga (run_steps level steps gb ++ gc),
-      map-append (λ g. g.cluster) (run_steps level steps gb) gc,
-      clusters-run_steps level steps gb,
+      map-append (λ g. g.cluster) ga (after_steps level steps gb ++ gc),
+      map-append (λ g. g.cluster) (after_steps level steps gb) gc,
+      clusters-after_steps level steps gb,
     )
 
 -- what they make of the stretch

@@ -6,7 +6,7 @@ use Rattle.std.proofs.Math.Bool.{and-true}
 use Rattle.std.proofs.lemmas.Bool.{cases_Bool, eqb-true}
 use Rattle.shapers_buffer.specs.Glyphs.{Glyph, Glyphs}
 use Rattle.shapers_buffer.specs.declared.buffer.level.BufferClusterLevel.{BufferClusterLevel}
-use Rattle.shapers_buffer.specs.ClusterRuns.{none_below}
+use Rattle.shapers_buffer.specs.ClusterRanges.{none_below}
 use Rattle.shapers_buffer.specs.Glyph.{clusters}
 use Rattle.shapers_buffer.specs.Clusters.{least, first_cluster, last_cluster, has_cluster, in_cluster, flooded, merge, merge_all, merges, stretch_of, with_stretch}
 use Rattle.shapers_buffer.specs.Places.{pick}
@@ -16,7 +16,7 @@ use Rattle.shapers_buffer.proofs.RunLemmas.{ended_all, none_lower, puts_twice}
 use Rattle.shapers_clusters.specs.CarriedGroups.{EndsAbove, StandFor, StopsBefore, groups_len, spread_groups}
 use Rattle.shapers_clusters.specs.Cuts.{EndWithin}
 use Rattle.shapers_clusters.specs.Flags.{FallsTo}
-use Rattle.shapers_clusters.specs.Steps.{Step, run_step, run_steps, FitsStep, FitSteps, shifted, widened}
+use Rattle.shapers_clusters.specs.Steps.{Step, after_step, after_steps, FitsStep, FitSteps, shifted, widened}
 use Rattle.shapers_clusters.proofs.Appended.{assembled, flooded-same, two_sides}
 use Rattle.shapers_clusters.proofs.FloodsBack.{Change, back_stays, back_within, first_taken, flooded_back}
 use Rattle.shapers_clusters.proofs.ClusterMerges.{least-among, least-le}
@@ -339,8 +339,8 @@ pick_spreads k j s e n step some order within fits P Gs ys kn jn yn stand =
     )
 
 step_spreads : (level : BufferClusterLevel) (k j s e n : ℕ) (step : Step) → 0 < j → s ≤ e → e ≤ n →
-    FitsStep (e - s) step → Spreads k j n (run_step level (widened (k + s) (k + e) (k + n) step))
-    (run_step level (widened (j + s) (j + e) (j + n) step))
+    FitsStep (e - s) step → Spreads k j n (after_step level (widened (k + s) (k + e) (k + n) step))
+    (after_step level (widened (j + s) (j + e) (j + n) step))
 step_spreads level k j s e n step some order within fits =
     let wide = fits-widened s e n step order within fits in
     let merging : (sts : List (ℕ × ℕ)) → EndWithin n (shifted s sts) →
@@ -362,14 +362,14 @@ step_spreads level k j s e n step some order within fits =
 
 -- steps over a stretch behind them
 pub steps_spread : (level : BufferClusterLevel) (k j s e n : ℕ) (steps : List Step) → 0 < j → s ≤ e → e ≤ n →
-    FitSteps (e - s) steps → Spreads k j n (run_steps level (map (widened (k + s) (k + e) (k + n)) steps))
-    (run_steps level (map (widened (j + s) (j + e) (j + n)) steps))
+    FitSteps (e - s) steps → Spreads k j n (after_steps level (map (widened (k + s) (k + e) (k + n)) steps))
+    (after_steps level (map (widened (j + s) (j + e) (j + n)) steps))
 steps_spread level k j s e n [] some order within fits = spreads_nothing k j n
 steps_spread level k j s e n (step ∷ steps) some order within fits =
-    spreads_then k j n (run_step level (widened (k + s) (k + e) (k + n) step))
-    (run_step level (widened (j + s) (j + e) (j + n) step))
-    (run_steps level (map (widened (k + s) (k + e) (k + n)) steps))
-    (run_steps level (map (widened (j + s) (j + e) (j + n)) steps)) (search step_spreads)
+    spreads_then k j n (after_step level (widened (k + s) (k + e) (k + n) step))
+    (after_step level (widened (j + s) (j + e) (j + n) step))
+    (after_steps level (map (widened (k + s) (k + e) (k + n)) steps))
+    (after_steps level (map (widened (j + s) (j + e) (j + n)) steps)) (search step_spreads)
     (steps_spread level k j s e n steps some order within fits.1)
 
 -- BELOW ALL CLUSTERS of the stretch that the steps change no glyph changes
@@ -537,12 +537,12 @@ pick_keeps low a b n step some within fits gs gn from less =
     )
 
 pub steps_keep : (level : BufferClusterLevel) (low a b n : ℕ) (steps : List Step) → 0 < a → a + b ≤ n →
-    FitSteps b steps → Keeps low a (a + b) n (run_steps level (map (widened a (a + b) n) steps))
+    FitSteps b steps → Keeps low a (a + b) n (after_steps level (map (widened a (a + b) n) steps))
 steps_keep level low a b n [] some within fits = keeps_nothing low a (a + b) n
 steps_keep level low a b n (step ∷ steps) some within fits =
     let move = pick (widened a (a + b) n step).places in
-    keeps_then low a (a + b) n (run_step level (widened a (a + b) n step))
-    (run_steps level (map (widened a (a + b) n) steps))
+    keeps_then low a (a + b) n (after_step level (widened a (a + b) n step))
+    (after_steps level (map (widened a (a + b) n) steps))
     (keeps_then low a (a + b) n (λ gs. move (merge_all level (shifted a step.merged_first) gs))
     (merge_all level (shifted a step.merged_then))
     (keeps_then low a (a + b) n (merge_all level (shifted a step.merged_first)) move (search merge_all_keeps)

@@ -15,7 +15,7 @@ abbrev pub opening_run : List ℕ → ℕ
 opening_run [] = 0
 opening_run (c ∷ cs) = c
 
--- the numbers c that open the list, made m
+-- the numbers c that begin the list, made m
 abbrev pub flood : ℕ → ℕ → List ℕ → List ℕ
 flood c m [] = []
 flood c m (x ∷ xs) = if x == c then m ∷ flood c m xs else x ∷ xs

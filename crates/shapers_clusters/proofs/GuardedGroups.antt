@@ -5,19 +5,19 @@ use Rattle.std.specs.List.{AllZip}
 use Rattle.std.proofs.lemmas.List.{append-nil, drop-drop, drop_at, length-map, take-append-drop, take-take, take_at}
 use Rattle.shapers_buffer.specs.Glyphs.{Glyph, Glyphs}
 use Rattle.shapers_buffer.specs.declared.buffer.level.BufferClusterLevel.{BufferClusterLevel}
-use Rattle.shapers_buffer.specs.ClusterRuns.{none_below}
+use Rattle.shapers_buffer.specs.ClusterRanges.{none_below}
 use Rattle.shapers_buffer.specs.Clusters.{first_cluster, in_cluster, least, stretch_of}
 use Rattle.shapers_buffer.specs.Glyph.{clusters, plain}
 use Rattle.shapers_clusters.specs.CarriedGroups.{AreCarried, AreShown, EndsAbove, LeastIn, StandFor, StopsBefore, groups_len, fallen_groups, first_group_cluster, grouped, last_groups, len_of, read_back, shown_groups, spread_groups, with_groups}
 use Rattle.shapers_clusters.specs.declared.carried_groups.CarriedGroups.{CarriedGroups}
 use Rattle.shapers_buffer.specs.declared.buffer.group_room.ClusterGroup.{ClusterGroup}
-use Rattle.shapers_clusters.specs.Steps.{FitSteps, Step, run_steps, widened}
+use Rattle.shapers_clusters.specs.Steps.{FitSteps, Step, after_steps, widened}
 use Rattle.shapers_clusters.proofs.CarriedGroups.{From, Keeps, NotAbove, Spreads, from_of_least, length-spread, spread_append, steps_keep, steps_spread}
 use Rattle.shapers_clusters.proofs.Falls.{in_cluster-same}
 use Rattle.shapers_clusters.proofs.FloodsBack.{Change}
 use Rattle.shapers_clusters.proofs.GroupWalk.{grouped-append, least_behind, length-grouped, len_of-append}
 
--- the glyphs of these groups, which open the list
+-- the glyphs of these groups, which begin the list
 abbrev pub cut_up : List ClusterGroup → Glyphs → List Glyphs
 cut_up [] gs = []
 cut_up (group ∷ groups) gs = take group.len gs ∷ cut_up groups (drop group.len gs)
@@ -141,19 +141,19 @@ pub record ChangesBehind (first end n count : ℕ) (over : Change) : Type 0 wher
 -- steps over a stretch are one
 pub steps_behind : (level : BufferClusterLevel) (first end n count : ℕ) (steps : List Step) → first ≤ end → end ≤ n →
     0 < count → FitSteps (end - first) steps →
-    ChangesBehind first end n count (run_steps level (map (widened first end n) steps))
+    ChangesBehind first end n count (after_steps level (map (widened first end n) steps))
 steps_behind level first end n count steps order within some fit =
     let e = end - first in
     let m = n - first in
     let placed : (a b c x y z : ℕ) → a ≡ x → b ≡ y → c ≡ z →
-    run_steps level (map (widened a b c) steps) ≡ run_steps level (map (widened x y z) steps) =
+    after_steps level (map (widened a b c) steps) ≡ after_steps level (map (widened x y z) steps) =
     λ a b c x y z p q r. cc in
-    let change = run_steps level (map (widened count (count + e) (count + m)) steps) in
+    let change = after_steps level (map (widened count (count + e) (count + m)) steps) in
     record {
       change = change;
       spreads = subst (λ f. Spreads first count m f change)
           (placed (first + 0) (first + e) (first + m) first end n (omega arith) (omega arith) (omega arith))
-          (subst (Spreads first count m (run_steps level (map (widened (first + 0) (first + e) (first + m)) steps)))
+          (subst (Spreads first count m (after_steps level (map (widened (first + 0) (first + e) (first + m)) steps)))
           (placed (count + 0) (count + e) (count + m) count (count + e) (count + m) (omega arith) refl refl)
           (steps_spread level first count 0 e m steps some (omega arith) (omega arith)
           (subst (λ k. FitSteps k steps) (omega arith) fit)));

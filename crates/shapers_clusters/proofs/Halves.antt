@@ -11,9 +11,9 @@ use Rattle.shapers_buffer.specs.Clusters.{least, first_cluster, last_cluster, fl
 use Rattle.shapers_clusters.proofs.Merging.{length-merge, length-merge_all}
 use Rattle.shapers_clusters.specs.Cuts.{EndWithin, ShareNone}
 use Rattle.shapers_buffer.specs.Places.{pick}
-use Rattle.shapers_clusters.specs.Steps.{Step, run_step, run_steps, FitsStep, FitSteps, shifted, widened, steps_along}
+use Rattle.shapers_clusters.specs.Steps.{Step, after_step, after_steps, FitsStep, FitSteps, shifted, widened, steps_along}
 use Rattle.shapers_clusters.proofs.Picks.{length-pick, pick-map}
-use Rattle.shapers_clusters.proofs.Moves.{clusters-merge_all, clusters-run_steps, all-joined, all-joined_steps, all-picked}
+use Rattle.shapers_clusters.proofs.Moves.{clusters-merge_all, clusters-after_steps, all-joined, all-joined_steps, all-picked}
 use Rattle.shapers_clusters.proofs.Widened.{pick-parts, fits-widened, range-append, map-range, all_along}
 use Rattle.shapers_clusters.proofs.Falls.{flooded-miss}
 use Rattle.shapers_clusters.proofs.Appended.{assembled, two_sides}
@@ -150,12 +150,12 @@ pub each-pick : (P : ℕ → Type 0) (ps : List ℕ) (gs : Glyphs) → AllByRecu
 each-pick P ps gs w p = search (each_of P (pick ps gs)
     (subst (All P) (pick-map (λ g. g.cluster) ps gs) (all-picked P ps (clusters gs) (search length-map) (all_of P gs p))))
 
-run_step-alone : (P : ℕ → Type 0) (level : BufferClusterLevel) (s e n : ℕ) (step : Step)
+after_step-alone : (P : ℕ → Type 0) (level : BufferClusterLevel) (s e n : ℕ) (step : Step)
     (before gs behind : Glyphs) → s ≤ e → length before ≡ s → length gs ≡ e - s → e + length behind ≡ n
     → FitsStep (e - s) step → Each P gs → Each (λ k. P k → ⊥) before → Each (λ k. P k → ⊥) behind
-    → (run_step level (widened s e n step) (before ++ (gs ++ behind)) ≡ before ++ (run_step level step gs ++ behind))
-    × (length (run_step level step gs) ≡ e - s) × Each P (run_step level step gs)
-run_step-alone P level s e n step before gs behind le a b c f p h i =
+    → (after_step level (widened s e n step) (before ++ (gs ++ behind)) ≡ before ++ (after_step level step gs ++ behind))
+    × (length (after_step level step gs) ≡ e - s) × Each P (after_step level step gs)
+after_step-alone P level s e n step before gs behind le a b c f p h i =
     let first = subst (λ n. EndWithin n step.merged_first) (sym b) f.first_within in
     let ms = merge_all level step.merged_first gs in
     let mn : length ms ≡ e - s = search length-merge_all in
@@ -166,15 +166,15 @@ run_step-alone P level s e n step before gs behind le a b c f p h i =
     (length-pick step.places ms within ∙ f.as_many)) f.then_within in
     search (merge_all-alone P level s step.merged_first before gs behind a first p h i, pick-parts s e n step before ms behind le a mn c f, merge_all-alone P level s step.merged_then before ps behind a last pp h i, length-merge_all level step.merged_then ps last, length-pick step.places ms within, each-merge_all P level step.merged_then ps last pp)
 
-run_steps-alone : (P : ℕ → Type 0) (level : BufferClusterLevel) (s e n : ℕ) (steps : List Step)
+after_steps-alone : (P : ℕ → Type 0) (level : BufferClusterLevel) (s e n : ℕ) (steps : List Step)
     (before gs behind : Glyphs) → s ≤ e → length before ≡ s → length gs ≡ e - s → e + length behind ≡ n
     → FitSteps (e - s) steps → Each P gs → Each (λ k. P k → ⊥) before → Each (λ k. P k → ⊥) behind
-    → run_steps level (map (widened s e n) steps) (before ++ (gs ++ behind))
-    ≡ before ++ (run_steps level steps gs ++ behind)
-run_steps-alone P level s e n [] before gs behind le a b c f p h i = refl
-run_steps-alone P level s e n (step ∷ steps) before gs behind le a b c f p h i =
-    let (is, many, each) = run_step-alone P level s e n step before gs behind le a b c f.0 p h i in
-    cc (run_steps-alone P level s e n steps before (run_step level step gs) behind le a many c f.1 each h i)
+    → after_steps level (map (widened s e n) steps) (before ++ (gs ++ behind))
+    ≡ before ++ (after_steps level steps gs ++ behind)
+after_steps-alone P level s e n [] before gs behind le a b c f p h i = refl
+after_steps-alone P level s e n (step ∷ steps) before gs behind le a b c f p h i =
+    let (is, many, each) = after_step-alone P level s e n step before gs behind le a b c f.0 p h i in
+    cc (after_steps-alone P level s e n steps before (after_step level step gs) behind le a many c f.1 each h i)
 
 apart : (gs hs : Glyphs) → ShareNone gs hs → Each (λ k. Contains (clusters gs) k → ⊥) hs
 apart gs hs h =
@@ -187,40 +187,40 @@ apart gs hs h =
 -- steps over glyphs that share no cluster with those before and behind: as over these glyphs alone
 pub steps_alone : (level : BufferClusterLevel) (s e n : ℕ) (steps : List Step) (before gs behind : Glyphs)
     → s ≤ e → length before ≡ s → length gs ≡ e - s → e + length behind ≡ n → FitSteps (e - s) steps
-    → ShareNone gs before → ShareNone gs behind → run_steps level (map (widened s e n) steps) (before ++ (gs ++ behind))
-    ≡ before ++ (run_steps level steps gs ++ behind)
+    → ShareNone gs before → ShareNone gs behind → after_steps level (map (widened s e n) steps) (before ++ (gs ++ behind))
+    ≡ before ++ (after_steps level steps gs ++ behind)
 steps_alone level s e n steps before gs behind le a b c f h i =
-    run_steps-alone (Contains (clusters gs)) level s e n steps before gs behind le a b c f
+    after_steps-alone (Contains (clusters gs)) level s e n steps before gs behind le a b c f
     (search (each_of, All-contains_itself)) (apart gs before h) (apart gs behind i)
 
 -- two halves that share no cluster: steps over each, one after another, give the halves' results joined
 pub halves : (level : BufferClusterLevel) (a n : ℕ) (xs ys : List Step) (gs hs : Glyphs) → length gs ≡ a
     → a + length hs ≡ n → FitSteps a xs → FitSteps (n - a) ys → ShareNone gs hs
-    → run_steps level (map (widened 0 a n) xs ++ map (widened a n n) ys) (gs ++ hs) ≡ run_steps level xs gs
-    ++ run_steps level ys hs
+    → after_steps level (map (widened 0 a n) xs ++ map (widened a n n) ys) (gs ++ hs) ≡ after_steps level xs gs
+    ++ after_steps level ys hs
 halves level a n xs ys gs hs ga hn f g h =
     let first = (let i : a ≡ a - 0 = omega arith in subst (λ k. FitSteps k xs) i f) in
     let later : (i j : ℕ) → i < length hs → j < length gs → slice_index (clusters hs) i ≢ slice_index (clusters gs) j
     = search arith in
-    let before = run_steps level xs gs in
+    let before = after_steps level xs gs in
     let cn : length (clusters gs) ≡ a = search length-map in
     let P : ℕ → Type 0 = λ k. Contains (clusters hs) k → ⊥ in
     let still = all-joined_steps P level a xs (clusters gs) cn f (all_of P gs (apart hs gs later)) in
-    let is = clusters-run_steps level xs gs in
+    let is = clusters-after_steps level xs gs in
     let A : List ℕ → Type 0 = All P in
     let many : length before ≡ a = sym (length-map before (λ g. g.cluster)) ∙ ap length is ∙ still.0 in
     cc (
       append-nil hs,
-      fold-append (λ gs step. run_step level step gs) (gs ++ (hs ++ [])) (map (widened 0 a n) xs)
+      fold-append (λ gs step. after_step level step gs) (gs ++ (hs ++ [])) (map (widened 0 a n) xs)
           (map (widened a n n) ys),
       steps_alone level 0 a n xs [] gs (hs ++ []) (omega arith) refl (omega arith)
           (omega (arith, ap length (append-nil hs))) first (λ i j il jl. absurd (omega arith))
           (λ i j il jl. let Q : Glyphs → Type 0 = λ ts. (j : ℕ) → j < length ts → slice_index (clusters
           gs) i ≢ slice_index (clusters ts) j in subst Q (sym (append-nil hs)) (λ j jl. h i j il jl) j jl),
-      run_steps-alone (Contains (clusters hs)) level a n n ys before hs [] (omega arith) many (omega arith)
+      after_steps-alone (Contains (clusters hs)) level a n n ys before hs [] (omega arith) many (omega arith)
           (omega arith) g (each_of (Contains (clusters hs)) hs (All-contains_itself (clusters hs)))
           (each_of P before (subst A (sym is) still.1)) tt,
-      append-nil (run_steps level ys hs),
+      append-nil (after_steps level ys hs),
     )
 
 -- a step over a stretch of a stretch
@@ -282,8 +282,8 @@ along-append n s (p ∷ ps) qs =
 pub halves_along : (level : BufferClusterLevel) (ps qs : List (ℕ × List Step)) (gs hs : Glyphs)
     → sum_by (λ piece. piece.0) ps ≡ length gs → sum_by (λ piece. piece.0) qs ≡ length hs
     → AllByRecursion (λ piece. FitSteps piece.0 piece.1) ps → AllByRecursion (λ piece. FitSteps piece.0 piece.1) qs
-    → ShareNone gs hs → run_steps level (steps_along (length gs + length hs) 0 (ps ++ qs)) (gs ++ hs)
-    ≡ run_steps level (steps_along (length gs) 0 ps) gs ++ run_steps level (steps_along (length hs) 0 qs) hs
+    → ShareNone gs hs → after_steps level (steps_along (length gs + length hs) 0 (ps ++ qs)) (gs ++ hs)
+    ≡ after_steps level (steps_along (length gs) 0 ps) gs ++ after_steps level (steps_along (length hs) 0 qs) hs
 halves_along level ps qs gs hs a b f g h =
     let xs = steps_along (length gs) 0 ps in
     let ys = steps_along (length gs + length hs - length gs) 0 qs in

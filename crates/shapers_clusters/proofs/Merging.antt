@@ -6,8 +6,8 @@ use Rattle.shapers_buffer.specs.Glyphs.{Glyph, Glyphs}
 use Rattle.shapers_buffer.specs.declared.buffer.level.BufferClusterLevel.{BufferClusterLevel}
 use Rattle.shapers_buffer.specs.Glyph.{plain, without_flags, order_view}
 use Rattle.shapers_buffer.proofs.MappedLists.{map-reverse}
-use Rattle.shapers_buffer.specs.declared.buffer.cluster_runs.ClusterRun.{ClusterRun}
-use Rattle.shapers_buffer.specs.ClusterRuns.{with_run}
+use Rattle.shapers_buffer.specs.declared.buffer.cluster_ranges.ClusterRange.{ClusterRange}
+use Rattle.shapers_buffer.specs.ClusterRanges.{with_range}
 use Rattle.shapers_buffer.specs.Clusters.{in_cluster, flooded, merge, merge_all, merges, stretch_of}
 use Rattle.shapers_buffer.proofs.ClusterLemmas.{flood_merged, merge_is, three_parts}
 use Rattle.shapers_buffer.proofs.OneCluster.{length-flooded}
@@ -89,16 +89,16 @@ map-merge_all f plainly level sts gs = cc (
 )
 
 -- the same where a run is written
-pub order_view-with_run : (run : ClusterRun) (gs : Glyphs) → run.start ≤ run.end
-    → order_view (with_run run gs) ≡ order_view gs
-order_view-with_run run gs h =
+pub order_view-with_range : (run : ClusterRange) (gs : Glyphs) → run.start ≤ run.end
+    → order_view (with_range run gs) ≡ order_view gs
+order_view-with_range run gs h =
     let s = run.start in
     let e = run.end in
     simp (map-append, order_view-put) (sym (map-append plain (take s gs) (stretch_of s e gs ++ drop e gs)
     ∙ ap (λ l. order_view (take s gs) ++ l) (map-append plain (stretch_of s e gs) (drop e gs)))
     ∙ ap order_view (three_parts s e gs h))
 
-pub map-with_run : {X : Type 0} (f : Glyph → X) → ((g : Glyph) → f (plain g) ≡ f g)
-    → (run : ClusterRun) (gs : Glyphs) → run.start ≤ run.end → map f (with_run run gs) ≡ map f gs
-map-with_run f plainly run gs h =
-    cc (map-order_view f plainly (with_run run gs), order_view-with_run run gs h, map-order_view f plainly gs)
+pub map-with_range : {X : Type 0} (f : Glyph → X) → ((g : Glyph) → f (plain g) ≡ f g)
+    → (run : ClusterRange) (gs : Glyphs) → run.start ≤ run.end → map f (with_range run gs) ≡ map f gs
+map-with_range f plainly run gs h =
+    cc (map-order_view f plainly (with_range run gs), order_view-with_range run gs h, map-order_view f plainly gs)

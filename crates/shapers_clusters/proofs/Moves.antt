@@ -16,7 +16,7 @@ use Rattle.shapers_clusters.specs.Cuts.{EndWithin, held, ShareCluster}
 use Rattle.shapers_clusters.proofs.Neighbours.{length-joined_all, joined_all-linked, joined_all-reached, share_all}
 use Rattle.std.proofs.lemmas.List.Sums.{fold-append}
 use Rattle.shapers_buffer.specs.Places.{pick}
-use Rattle.shapers_clusters.specs.Steps.{Step, run_step, run_steps, joined_step, joined_steps, moved_on, old_places, FitsStep, FitSteps, HeldBetween, MovesMerged, all_first}
+use Rattle.shapers_clusters.specs.Steps.{Step, after_step, after_steps, joined_step, joined_steps, moved_on, old_places, FitsStep, FitSteps, HeldBetween, MovesMerged, all_first}
 use Rattle.shapers_clusters.proofs.Picks.{length-pick, get_or-pick, pick-map, AllZip-pick, pick-all, pick-pick, within_picked, within_range, within_at}
 use Rattle.shapers_clusters.specs.Flags.{FallsTo}
 use Rattle.shapers_clusters.proofs.Falls.{all_on, all_same, merge_all-falls}
@@ -53,24 +53,24 @@ pub clusters-merge_all : (level : BufferClusterLevel) (sts : List (ℕ × ℕ)) 
 clusters-merge_all level [] gs = refl
 clusters-merge_all level (st ∷ sts) gs = cc (clusters-merge_all level sts _, clusters-merge level st.0 st.1 gs)
 
-clusters-run_step : (level : BufferClusterLevel) (step : Step) (gs : Glyphs)
-    → clusters (run_step level step gs) ≡ joined_step level step (clusters gs)
-clusters-run_step level step gs =
+clusters-after_step : (level : BufferClusterLevel) (step : Step) (gs : Glyphs)
+    → clusters (after_step level step gs) ≡ joined_step level step (clusters gs)
+clusters-after_step level step gs =
     clusters-merge_all level step.merged_then _
     ∙ ap (joined_all level step.merged_then) (sym (pick-map (λ g. g.cluster) step.places _)
     ∙ ap (pick step.places) (clusters-merge_all level step.merged_first gs))
 
 -- the clusters of the glyphs after the steps are those that the steps make of the clusters
-pub clusters-run_steps : (level : BufferClusterLevel) (steps : List Step) (gs : Glyphs)
-    → clusters (run_steps level steps gs) ≡ joined_steps level steps (clusters gs)
-clusters-run_steps level [] gs = refl
-clusters-run_steps level (step ∷ steps) gs =
-    search (clusters-run_step, clusters-run_steps level steps (run_step level step gs))
+pub clusters-after_steps : (level : BufferClusterLevel) (steps : List Step) (gs : Glyphs)
+    → clusters (after_steps level steps gs) ≡ joined_steps level steps (clusters gs)
+clusters-after_steps level [] gs = refl
+clusters-after_steps level (step ∷ steps) gs =
+    search (clusters-after_step, clusters-after_steps level steps (after_step level step gs))
 
 -- the order view after the steps: what stood at the old places
-order_view-run_step : (level : BufferClusterLevel) (step : Step) (gs : Glyphs)
-    → order_view (run_step level step gs) ≡ pick step.places (order_view gs)
-order_view-run_step level step gs = cc (
+order_view-after_step : (level : BufferClusterLevel) (step : Step) (gs : Glyphs)
+    → order_view (after_step level step gs) ≡ pick step.places (order_view gs)
+order_view-after_step level step gs = cc (
   order_view-merge_all level step.merged_then _,
   pick-map plain step.places _,
   order_view-merge_all level step.merged_first gs,
@@ -80,22 +80,22 @@ any_steps : (steps : List Step) → AllByRecursion (λ _. Unit {0}) steps
 any_steps [] = tt
 any_steps (step ∷ steps) = (tt, any_steps steps)
 
-pub order_view-run_steps : (level : BufferClusterLevel) (steps : List Step) (gs : Glyphs)
-    → order_view (run_steps level steps gs) ≡ pick (old_places (length gs) steps) (order_view gs)
-order_view-run_steps level steps gs =
-    followed_all (λ xs gs. order_view gs ≡ xs) (λ gs step. run_step level step gs) (λ _. Unit {0})
-    (λ step xs gs _ e. search (arith, order_view-run_step)) (length gs) (order_view gs) steps gs
+pub order_view-after_steps : (level : BufferClusterLevel) (steps : List Step) (gs : Glyphs)
+    → order_view (after_steps level steps gs) ≡ pick (old_places (length gs) steps) (order_view gs)
+order_view-after_steps level steps gs =
+    followed_all (λ xs gs. order_view gs ≡ xs) (λ gs step. after_step level step gs) (λ _. Unit {0})
+    (λ step xs gs _ e. search (arith, order_view-after_step)) (length gs) (order_view gs) steps gs
     (length-map gs plain) (any_steps steps) refl
 
 -- each glyph falls to what its place in the end has
-falls-run_step : (level : BufferClusterLevel) (step : Step) (gs : Glyphs) → FitsStep (length gs) step
-    → AllZip FallsTo (pick step.places gs) (run_step level step gs)
-falls-run_step level step gs f =
+falls-after_step : (level : BufferClusterLevel) (step : Step) (gs : Glyphs) → FitsStep (length gs) step
+    → AllZip FallsTo (pick step.places gs) (after_step level step gs)
+falls-after_step level step gs f =
     let ms = merge_all level step.merged_first gs in
     let n : length ms ≡ length gs = search length-merge_all in
     let k = length-pick step.places ms (subst (λ n. AllByRecursion (λ p. p < n) step.places) (sym n) f.within)
     ∙ f.as_many in
-    all_on (pick step.places gs) (pick step.places ms) (run_step level step gs)
+    all_on (pick step.places gs) (pick step.places ms) (after_step level step gs)
     (search (AllZip-pick, merge_all-falls)) (merge_all-falls level step.merged_then (pick step.places ms) (subst
     (λ n. EndWithin n step.merged_then) (sym k) f.then_within))
 
@@ -103,19 +103,19 @@ falls-run_step level step gs f =
 abbrev FallenFrom : ℕ → Glyphs → Glyphs → Type 0
 FallenFrom n xs gs = (length gs ≡ n) × AllZip FallsTo xs gs
 
-pub falls-run_steps : (level : BufferClusterLevel) (steps : List Step) (gs : Glyphs)
-    → FitSteps (length gs) steps → (length (run_steps level steps gs) ≡ length gs)
-    × AllZip FallsTo (pick (old_places (length gs) steps) gs) (run_steps level steps gs)
-falls-run_steps level steps gs f =
+pub falls-after_steps : (level : BufferClusterLevel) (steps : List Step) (gs : Glyphs)
+    → FitSteps (length gs) steps → (length (after_steps level steps gs) ≡ length gs)
+    × AllZip FallsTo (pick (old_places (length gs) steps) gs) (after_steps level steps gs)
+falls-after_steps level steps gs f =
     let n = length gs in
     let P : Step → ℕ → Type 0 = λ step n. FitsStep n step in
-    followed_all (FallenFrom (length gs)) (λ gs step. run_step level step gs) (FitsStep (length gs))
+    followed_all (FallenFrom (length gs)) (λ gs step. after_step level step gs) (FitsStep (length gs))
     (λ step xs ys g h.
-    let one = falls-run_step level step ys (subst (P step) (sym h.0) g) in (
-      sym (length_all_zip FallsTo (pick step.places ys) (run_step level step ys) one)
+    let one = falls-after_step level step ys (subst (P step) (sym h.0) g) in (
+      sym (length_all_zip FallsTo (pick step.places ys) (after_step level step ys) one)
           ∙ length-pick step.places ys (subst
           (λ n. AllByRecursion (λ p. p < n) step.places) (sym h.0) g.within) ∙ g.as_many,
-      all_on (pick step.places xs) (pick step.places ys) (run_step level step ys) (search AllZip-pick) one,
+      all_on (pick step.places xs) (pick step.places ys) (after_step level step ys) (search AllZip-pick) one,
     )) (length gs) gs steps gs refl f (refl, all_same gs)
 
 -- where nothing merges, glyphs only move
@@ -133,10 +133,10 @@ pub joined_all-unmerged : (level : BufferClusterLevel) → merges level ≡ fals
 joined_all-unmerged level m [] cs = refl
 joined_all-unmerged level m (st ∷ sts) cs = search (arith, clusters-of_clusters, joined_all-unmerged level m sts cs)
 
-pub run_steps-unmerged : (level : BufferClusterLevel) → merges level ≡ false → (steps : List Step) (gs : Glyphs)
-    → run_steps level steps gs ≡ pick (old_places (length gs) steps) gs
-run_steps-unmerged level m steps gs =
-    followed_all (λ xs gs. gs ≡ xs) (λ gs step. run_step level step gs) (λ _. Unit {0})
+pub after_steps-unmerged : (level : BufferClusterLevel) → merges level ≡ false → (steps : List Step) (gs : Glyphs)
+    → after_steps level steps gs ≡ pick (old_places (length gs) steps) gs
+after_steps-unmerged level m steps gs =
+    followed_all (λ xs gs. gs ≡ xs) (λ gs step. after_step level step gs) (λ _. Unit {0})
     (λ step xs gs _ e. search (arith, merge_all-unmerged)) (length gs) gs steps gs refl (any_steps steps) refl
 
 pub joined_steps-unmerged : (level : BufferClusterLevel) → merges level ≡ false → (steps : List Step) (cs : List ℕ)

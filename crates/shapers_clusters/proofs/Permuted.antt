@@ -9,9 +9,9 @@ use Rattle.shapers_buffer.specs.Glyphs.{Glyphs}
 use Rattle.shapers_buffer.specs.declared.buffer.level.BufferClusterLevel.{BufferClusterLevel}
 use Rattle.shapers_buffer.specs.Glyph.{plain, order_view}
 use Rattle.shapers_buffer.specs.Places.{pick}
-use Rattle.shapers_clusters.specs.Steps.{Step, run_steps, moved_on, old_places, FitSteps, widened, still_step, swap_step, Permutes, FitsStep}
+use Rattle.shapers_clusters.specs.Steps.{Step, after_steps, moved_on, old_places, FitSteps, widened, still_step, swap_step, Permutes, FitsStep}
 use Rattle.shapers_clusters.proofs.Picks.{pick-within, nothing_picked, some_element, length-pick, pick-all, within_range}
-use Rattle.shapers_clusters.proofs.Moves.{order_view-run_steps, within-old_places}
+use Rattle.shapers_clusters.proofs.Moves.{order_view-after_steps, within-old_places}
 use Rattle.shapers_clusters.proofs.Widened.{range-three}
 use Rattle.std.proofs.lemmas.List.Elements.{All-from_recursion, recursion_from_All}
 use Rattle.shapers_buffer.specs.Lists.{first_last}
@@ -52,12 +52,12 @@ moved-permuted n (step ∷ steps) olds e f h =
 -- the order view after the steps
 pub order_view-permuted : (level : BufferClusterLevel) (steps : List Step) (gs : Glyphs)
     → FitSteps (length gs) steps → AllByRecursion (Permutes (length gs)) steps
-    → IsPermutation (order_view gs) (order_view (run_steps level steps gs))
+    → IsPermutation (order_view gs) (order_view (after_steps level steps gs))
 order_view-permuted level steps gs =
     let n = length gs in
     let long : length (order_view gs) ≡ n = length-map gs plain in
     let old = subst (λ k. AllByRecursion (λ p. p < k) (old_places n steps)) (sym long) (within-old_places n steps) in
-    search (order_view-run_steps, picked-permuted, moved-permuted, length-range_with_len)
+    search (order_view-after_steps, picked-permuted, moved-permuted, length-range_with_len)
 
 -- widened steps, and the smallest
 pub permutes-widened : (s e n : ℕ) (step : Step) → s ≤ e → e ≤ n → Permutes (e - s) step

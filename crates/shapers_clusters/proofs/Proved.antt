@@ -15,14 +15,14 @@ use Rattle.shapers_clusters.specs.Cuts.{EndWithin, ShareCluster, IsMonotone, Exa
 use Rattle.shapers_clusters.proofs.Neighbours.{joined_all-share, length-joined_all}
 use Rattle.shapers_clusters.proofs.Cuts.{exact_cuts, one_exact, stays_rising, stays_falling}
 use Rattle.shapers_buffer.specs.Places.{pick}
-use Rattle.shapers_clusters.specs.Steps.{Step, run_steps, FitsStep, MovesMerged, Permutes}
+use Rattle.shapers_clusters.specs.Steps.{Step, after_steps, FitsStep, MovesMerged, Permutes}
 use Rattle.shapers_clusters.proofs.Picks.{pick-pick, AllZip-pick, length-pick, within_at}
 use Rattle.shapers_clusters.proofs.Falls.{merge_all-falls, merge-falls, all_flags_on, all_flags_fall}
 use Rattle.shapers_clusters.specs.Flags.{ShowsClusters, whole}
 use Rattle.shapers_clusters.proofs.Bounds.{merge-before, merge-behind, merge-inside}
-use Rattle.shapers_clusters.proofs.Views.{whole_hides, seen-same, seen-run_steps, seen-permuted}
+use Rattle.shapers_clusters.proofs.Views.{whole_hides, seen-same, seen-after_steps, seen-permuted}
 use Rattle.shapers_clusters.proofs.MadeGlyphs.{Made, AreMade, are_made, same_clusters, held_in_stretch}
-use Rattle.shapers_clusters.proofs.Moves.{clusters_stay, clusters-merge_all, clusters-run_steps, order_view-run_steps, falls-run_steps, joined-merged_steps, share-moved, merge-unmerged, merge_all-unmerged, joined_all-unmerged, run_steps-unmerged, joined_steps-unmerged, end_within-all_first, merged_fits, all-joined, all-picked, all-joined_steps}
+use Rattle.shapers_clusters.proofs.Moves.{clusters_stay, clusters-merge_all, clusters-after_steps, order_view-after_steps, falls-after_steps, joined-merged_steps, share-moved, merge-unmerged, merge_all-unmerged, joined_all-unmerged, after_steps-unmerged, joined_steps-unmerged, end_within-all_first, merged_fits, all-joined, all-picked, all-joined_steps}
 use Rattle.shapers_clusters.specs.Labels.{IsLabelled}
 use Rattle.shapers_clusters.proofs.Labels.{joined-labelled, joined_steps-labels}
 use Rattle.shapers_clusters.proofs.Sources.{exact_cuts_by, sources_share, clusters-picked}
@@ -74,8 +74,8 @@ exact_cuts_hold level sts gs m w mono =
 
 pub steps_hold : StepsLaw
 steps_hold level steps gs f =
-    let falls = falls-run_steps level steps gs f in
-    search (order_view-run_steps, clusters-run_steps, run_steps-unmerged)
+    let falls = falls-after_steps level steps gs f in
+    search (order_view-after_steps, clusters-after_steps, after_steps-unmerged)
 
 pub clusters_hold : ClustersLaw
 clusters_hold level steps cs f =
@@ -99,8 +99,8 @@ clusters_reordered = search (clusters_hold, merged_fits, merged_steps_hold)
 pub seen_steps_hold : SeenStepsLaw
 seen_steps_hold view hides level steps gs ms f same =
     let holds = steps_hold level steps gs f in
-    let c = same_clusters view hides.shows (run_steps level steps gs) ms same in
-    search (arith, length-map, seen-same view ms (run_steps level steps gs) same, seen-run_steps view hides level steps gs, all_flags_on, all_flags_fall, clusters_hold)
+    let c = same_clusters view hides.shows (after_steps level steps gs) ms same in
+    search (arith, length-map, seen-same view ms (after_steps level steps gs) same, seen-after_steps view hides level steps gs, all_flags_on, all_flags_fall, clusters_hold)
 
 pub reordered_hold : ReorderedLaw
 reordered_hold view hides level steps gs ms moves permutes same =
@@ -108,12 +108,12 @@ reordered_hold view hides level steps gs ms moves permutes same =
     let merged = subst (ClustersReordered level steps (clusters gs)) (sym
     (seen_steps_hold view hides level steps gs ms fits same).clusters_are) (clusters_reordered
     level steps (clusters gs) (search length-map)) in
-    search (seen-same view ms (run_steps level steps gs) same, seen-permuted view hides level steps gs fits permutes, seen_steps_hold view hides level steps gs ms fits same)
+    search (seen-same view ms (after_steps level steps gs) same, seen-permuted view hides level steps gs fits permutes, seen_steps_hold view hides level steps gs ms fits same)
 
 -- the same of the steps' own result, all of whose fields show
 pub reordered_whole : (level : BufferClusterLevel) (steps : List Step) (gs : Glyphs)
     → AllByRecursion (MovesMerged (length gs)) steps → AllByRecursion (Permutes (length gs)) steps
-    → ReorderedHold whole level steps gs (run_steps level steps gs)
+    → ReorderedHold whole level steps gs (after_steps level steps gs)
 reordered_whole = search (reordered_hold, whole_hides)
 
 pub along_holds : AlongLaw

@@ -6,7 +6,7 @@ use Rattle.shapers_buffer.specs.Glyphs.{Glyphs}
 use Rattle.shapers_buffer.specs.Clusters.{in_cluster, stretch_of}
 use Rattle.shapers_buffer.specs.Glyph.{order_view, plain}
 use Rattle.shapers_buffer.proofs.ClusterLemmas.{length-stretch}
-use Rattle.shapers_clusters.specs.CarriedGroups.{AreCarried, AreShown, CanSettle, GroupsGuarded, GroupsSettled, LeastIn, fallen_groups, grouped, len_of, taken_back, with_groups, with_list}
+use Rattle.shapers_clusters.specs.CarriedGroups.{AreCarried, AreShown, CanTakeBack, GroupsGuarded, GroupsTakenBack, LeastIn, fallen_groups, grouped, len_of, taken_back, with_groups, with_list}
 use Rattle.shapers_clusters.specs.declared.carried_groups.CarriedGroups.{CarriedGroups}
 use Rattle.shapers_buffer.specs.declared.buffer.group_room.ClusterGroup.{ClusterGroup}
 use Rattle.shapers_clusters.proofs.FloodsBack.{Change}
@@ -105,8 +105,8 @@ fallen_len count before Y many room within =
 
 -- SETTLED: other glyphs, as many, of which those before what was shown are the same
 pub record ShownSettles (first count : ℕ) (before after : CarriedGroups) (between new : Glyphs) : Type 0 where
-  pub can : CanSettle after count new
-  pub made : (final : CarriedGroups) (hs : Glyphs) → GroupsSettled after count new final hs →
+  pub can : CanTakeBack after count new
+  pub made : (final : CarriedGroups) (hs : Glyphs) → GroupsTakenBack after count new final hs →
       with_groups final hs ≡ groups_in_front before (fallen_groups count before new) between ++ drop first new
 
 pub shown_settles : (first count : ℕ) (before after : CarriedGroups) (between hs new : Glyphs) →
@@ -171,8 +171,8 @@ shown_settles first count before after between hs new fits at some many is same_
 
 -- A CHANGE of what is guarded, settled: the same change of the glyphs with the groups in their clusters
 pub record GuardedChange (after : CarriedGroups) (count : ℕ) (meant new : Glyphs) : Type 0 where
-  pub can : CanSettle after count new
-  pub made : (final : CarriedGroups) (hs : Glyphs) → GroupsSettled after count new final hs →
+  pub can : CanTakeBack after count new
+  pub made : (final : CarriedGroups) (hs : Glyphs) → GroupsTakenBack after count new final hs →
       with_groups final hs ≡ meant
 
 pub guarded_change : (first end count : ℕ) (over : Change) (it after : CarriedGroups) (gs hs : Glyphs) → first ≤ end

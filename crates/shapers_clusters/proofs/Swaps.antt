@@ -14,7 +14,7 @@ use Rattle.shapers_buffer.specs.Glyph.{order_view}
 use Rattle.shapers_clusters.proofs.Merging.{length-merge, order_view-merge}
 use Rattle.shapers_clusters.proofs.Picks.{length-pick, get_or-pick, pick-all, within_range}
 use Rattle.shapers_buffer.specs.Places.{pick}
-use Rattle.shapers_clusters.specs.Steps.{run_step, MovesMerged, still_step, swap_step}
+use Rattle.shapers_clusters.specs.Steps.{after_step, MovesMerged, still_step, swap_step}
 
 -- where what stands at place k comes from
 abbrev turned : ℕ → ℕ → ℕ
@@ -72,11 +72,11 @@ pick-swap n xs i e h =
 
 -- a swap step merges the two and swaps them
 pub run-swap_step : (level : BufferClusterLevel) (gs : Glyphs) (i : ℕ) → i + 1 < length gs
-    → run_step level (swap_step (length gs) i) gs ≡ swap (merge level i (i + 2) gs) i (i + 1)
+    → after_step level (swap_step (length gs) i) gs ≡ swap (merge level i (i + 2) gs) i (i + 1)
 run-swap_step level gs i h = pick-swap (length gs) (merge level i (i + 2) gs) i (search (arith, length-merge)) h
 
 -- a still step leaves the glyphs as they are
-pub run-still_step : (level : BufferClusterLevel) (gs : Glyphs) → run_step level (still_step (length gs)) gs ≡ gs
+pub run-still_step : (level : BufferClusterLevel) (gs : Glyphs) → after_step level (still_step (length gs)) gs ≡ gs
 run-still_step level gs = pick-all (length gs) gs refl
 
 -- in the order view they change places
@@ -85,7 +85,7 @@ order_view-swap : (ms : Glyphs) (i : ℕ) → i + 1 < length ms → order_view (
 order_view-swap = search (arith, map-set, get_or-map)
 
 pub order_view-swap_step : (level : BufferClusterLevel) (gs : Glyphs) (i : ℕ) → i + 1 < length gs
-    → order_view (run_step level (swap_step (length gs) i) gs) ≡ swap (order_view gs) i (i + 1)
+    → order_view (after_step level (swap_step (length gs) i) gs) ≡ swap (order_view gs) i (i + 1)
 order_view-swap_step level gs i within = cc (
   run-swap_step level gs i within,
   order_view-swap (merge level i (i + 2) gs) i (search (arith, length-merge)),

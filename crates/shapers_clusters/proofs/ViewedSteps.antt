@@ -9,7 +9,7 @@ use Rattle.shapers_buffer.specs.Clusters.{first_cluster, last_cluster, in_cluste
 use Rattle.shapers_buffer.specs.Places.{pick}
 use Rattle.shapers_buffer.proofs.MappedLists.{map-reverse}
 use Rattle.shapers_buffer.proofs.ClusterLemmas.{flood_merged, merge_is}
-use Rattle.shapers_clusters.specs.Steps.{Step, run_step, run_steps}
+use Rattle.shapers_clusters.specs.Steps.{Step, after_step, after_steps}
 use Rattle.shapers_clusters.proofs.Appended.{two_sides}
 use Rattle.shapers_clusters.proofs.Picks.{pick-map}
 
@@ -58,21 +58,21 @@ merge_all-through view passes level [] gs = refl
 merge_all-through view passes level (st ∷ sts) gs =
     search (merge-through, merge_all-through view passes level sts (merge level st.0 st.1 gs))
 
-pub run_step-through : (view : Glyph → Glyph) → PassesMerges view
-    → (level : BufferClusterLevel) (step : Step) (gs : Glyphs) → map view (run_step level step gs)
-    ≡ run_step level step (map view gs)
-run_step-through view passes level step gs = cc (
+pub after_step-through : (view : Glyph → Glyph) → PassesMerges view
+    → (level : BufferClusterLevel) (step : Step) (gs : Glyphs) → map view (after_step level step gs)
+    ≡ after_step level step (map view gs)
+after_step-through view passes level step gs = cc (
   merge_all-through view passes level step.merged_then (pick step.places (merge_all level step.merged_first gs)),
   pick-map view step.places (merge_all level step.merged_first gs),
   merge_all-through view passes level step.merged_first gs,
 )
 
-pub run_steps-through : (view : Glyph → Glyph) → PassesMerges view
-    → (level : BufferClusterLevel) (steps : List Step) (gs : Glyphs) → map view (run_steps level steps gs)
-    ≡ run_steps level steps (map view gs)
-run_steps-through view passes level [] gs = refl
-run_steps-through view passes level (step ∷ steps) gs =
-    search (run_step-through, run_steps-through view passes level steps (run_step level step gs))
+pub after_steps-through : (view : Glyph → Glyph) → PassesMerges view
+    → (level : BufferClusterLevel) (steps : List Step) (gs : Glyphs) → map view (after_steps level steps gs)
+    ≡ after_steps level steps (map view gs)
+after_steps-through view passes level [] gs = refl
+after_steps-through view passes level (step ∷ steps) gs =
+    search (after_step-through, after_steps-through view passes level steps (after_step level step gs))
 
 -- what looks the same through the view still does after the same merges, moves and steps
 pub merge-same : (view : Glyph → Glyph) → PassesMerges view → (level : BufferClusterLevel) (s e : ℕ) (xs ys : Glyphs)
@@ -89,10 +89,10 @@ pub pick-same : (view : Glyph → Glyph) (places : List ℕ) (xs ys : Glyphs)
     → map view xs ≡ map view ys → map view (pick places xs) ≡ map view (pick places ys)
 pick-same view places xs ys same = cc (pick-map view places xs, pick-map view places ys)
 
-pub run_steps-same : (view : Glyph → Glyph) → PassesMerges view
+pub after_steps-same : (view : Glyph → Glyph) → PassesMerges view
     → (level : BufferClusterLevel) (steps : List Step) (xs ys : Glyphs) → map view xs ≡ map view ys
-    → map view (run_steps level steps xs) ≡ map view (run_steps level steps ys)
-run_steps-same = search (arith, run_steps-through)
+    → map view (after_steps level steps xs) ≡ map view (after_steps level steps ys)
+after_steps-same = search (arith, after_steps-through)
 
 -- as many glyphs look the same
 pub length-same : (view : Glyph → Glyph) (xs ys : Glyphs) → map view xs ≡ map view ys → length xs ≡ length ys

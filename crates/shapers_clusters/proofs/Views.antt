@@ -8,10 +8,10 @@ use Rattle.shapers_buffer.specs.Glyphs.{Glyph, Glyphs}
 use Rattle.shapers_buffer.specs.declared.buffer.level.BufferClusterLevel.{BufferClusterLevel}
 use Rattle.shapers_buffer.specs.Glyph.{order_view, plain}
 use Rattle.shapers_buffer.specs.Places.{pick}
-use Rattle.shapers_clusters.specs.Steps.{Step, run_steps, old_places, FitSteps, Permutes}
+use Rattle.shapers_clusters.specs.Steps.{Step, after_steps, old_places, FitSteps, Permutes}
 use Rattle.shapers_clusters.specs.Flags.{HidesFields, whole, seen}
 use Rattle.shapers_clusters.proofs.Picks.{pick-map}
-use Rattle.shapers_clusters.proofs.Moves.{order_view-run_steps}
+use Rattle.shapers_clusters.proofs.Moves.{order_view-after_steps}
 use Rattle.shapers_clusters.proofs.Permuted.{order_view-permuted}
 
 -- the view that hides nothing
@@ -31,21 +31,21 @@ pub seen-order_view : (view : Glyph → Glyph) → HidesFields view → (gs : Gl
 seen-order_view view hides [] = refl
 seen-order_view view hides (g ∷ gs) = cc (hides.apart g, seen-order_view view hides gs)
 
-pub seen-run_steps : (view : Glyph → Glyph) → HidesFields view
+pub seen-after_steps : (view : Glyph → Glyph) → HidesFields view
     → (level : BufferClusterLevel) (steps : List Step) (gs : Glyphs)
-    → seen view (run_steps level steps gs) ≡ pick (old_places (length gs) steps) (seen view gs)
-seen-run_steps view hides level steps gs = cc (
-  seen-order_view view hides (run_steps level steps gs),
-  order_view-run_steps level steps gs,
+    → seen view (after_steps level steps gs) ≡ pick (old_places (length gs) steps) (seen view gs)
+seen-after_steps view hides level steps gs = cc (
+  seen-order_view view hides (after_steps level steps gs),
+  order_view-after_steps level steps gs,
   pick-map (λ g. plain (view g)) (old_places (length gs) steps) (order_view gs),
   seen-order_view view hides gs,
 )
 
 pub seen-permuted : (view : Glyph → Glyph) → HidesFields view
     → (level : BufferClusterLevel) (steps : List Step) (gs : Glyphs) → FitSteps (length gs) steps
-    → AllByRecursion (Permutes (length gs)) steps → IsPermutation (seen view gs) (seen view (run_steps level steps gs))
+    → AllByRecursion (Permutes (length gs)) steps → IsPermutation (seen view gs) (seen view (after_steps level steps gs))
 seen-permuted view hides level steps gs f h =
-    let rs = run_steps level steps gs in
+    let rs = after_steps level steps gs in
     search (
       arith,
       seen-order_view view hides gs,

@@ -11,11 +11,11 @@ use Rattle.shapers_buffer.specs.Glyph.{order_view, plain}
 use Rattle.shapers_buffer.specs.Clusters.{stretch_of}
 use Rattle.shapers_clusters.specs.Cuts.{EndWithin, held}
 use Rattle.shapers_buffer.specs.Places.{pick}
-use Rattle.shapers_clusters.specs.Steps.{Step, run_step, run_steps, moved_on, old_places, FitsStep, FitSteps, MovesInside, MovesMerged, shifted, widened, steps_along, reordered_along}
+use Rattle.shapers_clusters.specs.Steps.{Step, after_step, after_steps, moved_on, old_places, FitsStep, FitSteps, MovesInside, MovesMerged, shifted, widened, steps_along, reordered_along}
 use Rattle.shapers_buffer.proofs.MappedLists.{all-append, all-mapped, all-range}
 pub use Rattle.shapers_buffer.proofs.Ranges.{range-append}
 use Rattle.shapers_clusters.proofs.Picks.{length-pick, pick-map, pick-append, pick-range, pick-within, some_element}
-use Rattle.shapers_clusters.proofs.Moves.{order_view-run_steps, falls-run_steps, length-old_places, within-old_places}
+use Rattle.shapers_clusters.proofs.Moves.{order_view-after_steps, falls-after_steps, length-old_places, within-old_places}
 
 pick-shifted : {X : Type 0} (s e : ℕ) (ps : List ℕ) (xs : List X) → e ≤ length xs → AllByRecursion (λ p. p < e - s) ps
     → pick (map (λ p. s + p) ps) xs ≡ pick ps (stretch_of s e xs)
@@ -168,13 +168,13 @@ old_places-widened s e n steps h l f = cc (
 
 -- the order view after widened steps: the stretch is reordered by the steps, and nothing else
 pub order_view-widened : (level : BufferClusterLevel) (s e : ℕ) (steps : List Step) (gs : Glyphs) → s ≤ e
-    → e ≤ length gs → FitSteps (e - s) steps → order_view (run_steps level (map (widened s e (length gs)) steps) gs)
+    → e ≤ length gs → FitSteps (e - s) steps → order_view (after_steps level (map (widened s e (length gs)) steps) gs)
     ≡ take s (order_view gs)
     ++ (pick (old_places (e - s) steps) (stretch_of s e (order_view gs)) ++ drop e (order_view gs))
 order_view-widened level s e steps gs h l f =
     let n = length-map gs plain in
     cc (
-      order_view-run_steps level (map (widened s e (length gs)) steps) gs,
+      order_view-after_steps level (map (widened s e (length gs)) steps) gs,
       old_places-widened s e (length gs) steps h l f,
       pick-widened s e (record { merged_first = []; places = old_places (e - s) steps; merged_then = [] })
           (order_view gs) h (omega arith) (within-old_places (e - s) steps),
@@ -196,7 +196,7 @@ all_along P widens n s (piece ∷ rest) l h =
     (all_along P widens n (s + piece.0) rest (omega arith) h.1)
 
 order_view-stretch : (level : BufferClusterLevel) (s k : ℕ) (steps : List Step) (gs : Glyphs)
-    → s + k ≤ length gs → FitSteps k steps → order_view (run_steps level (map (widened s (s + k) (length gs)) steps) gs)
+    → s + k ≤ length gs → FitSteps k steps → order_view (after_steps level (map (widened s (s + k) (length gs)) steps) gs)
     ≡ take s (order_view gs)
     ++ (pick (old_places k steps) (take k (drop s (order_view gs))) ++ drop k (drop s (order_view gs)))
 order_view-stretch = search (arith, order_view-widened, drop-drop)
@@ -204,7 +204,7 @@ order_view-stretch = search (arith, order_view-widened, drop-drop)
 -- the order view after the steps of neighbouring stretches: each is reordered for itself
 pub order_view-along : (level : BufferClusterLevel) (s : ℕ) (pieces : List (ℕ × List Step)) (gs : Glyphs)
     → s + sum_by (λ piece. piece.0) pieces ≤ length gs → AllByRecursion (λ piece. FitSteps piece.0 piece.1) pieces
-    → order_view (run_steps level (steps_along (length gs) s pieces) gs) ≡ take s (order_view gs)
+    → order_view (after_steps level (steps_along (length gs) s pieces) gs) ≡ take s (order_view gs)
     ++ reordered_along pieces (drop s (order_view gs))
 order_view-along level s [] gs l f = search take-append-drop
 order_view-along level s (piece ∷ rest) gs l f =
@@ -212,9 +212,9 @@ order_view-along level s (piece ∷ rest) gs l f =
     let n = length gs in
     let sum = sum_by-cons (λ piece. piece.0) piece rest in
     let ws = map (widened s (s + piece.0) (length gs)) piece.1 in
-    let ms = run_steps level ws gs in
+    let ms = after_steps level ws gs in
     let kn =
-    (falls-run_steps level ws gs
+    (falls-after_steps level ws gs
     (all_fit-widened s (s + piece.0) (length gs) piece.1 (omega arith) (omega arith) (subst
     (λ k. FitSteps k piece.1) (omega arith) f.0))).0 in
     let a = take s (order_view gs) in
@@ -229,8 +229,8 @@ order_view-along level s (piece ∷ rest) gs l f =
       length-drop s (order_view gs),
     )) (within-old_places piece.0 piece.1)) ∙ length-old_places piece.0 piece.1 f.0 in
     let abn = length-append a b ∙ omega (arith, length-take s (order_view gs)) in
-    ap order_view (fold-append (λ gs step. run_step level step gs) gs ws (steps_along (length gs) (s + piece.0) rest))
-    ∙ ap (λ n. order_view (run_steps level (steps_along n (s + piece.0) rest) ms)) (sym kn)
+    ap order_view (fold-append (λ gs step. after_step level step gs) gs ws (steps_along (length gs) (s + piece.0) rest))
+    ∙ ap (λ n. order_view (after_steps level (steps_along n (s + piece.0) rest) ms)) (sym kn)
     ∙ order_view-along level (s + piece.0) rest ms (omega arith) f.1
     ∙ ap (λ ys. take (s + piece.0) ys ++ reordered_along rest (drop (s + piece.0) ys))
     (order_view-stretch level s piece.0 piece.1 gs (omega arith) f.0 ∙ sym (append_assoc a b c))

@@ -1,7 +1,7 @@
 -- Groups of glyphs in front of a place where merges go on, each of which one glyph stands for.
 use Rattle.std.specs.Prelude.{ℕ, zero, suc, ◌+◌, ◌-◌, ◌^◌, ◌≡◌, ◌<◌, ◌≤◌, ◌⊎◌, List, [], ◌∷◌, ◌++◌, drop, get_or, length, map, min, slice_set, take, true}
 use Rattle.shapers_buffer.specs.Glyphs.{Glyph, Glyphs}
-use Rattle.shapers_buffer.specs.ClusterRuns.{none_below}
+use Rattle.shapers_buffer.specs.ClusterRanges.{none_below}
 use Rattle.shapers_buffer.specs.Clusters.{first_cluster, in_cluster, last_cluster, least, stretch_of}
 use Rattle.shapers_buffer.specs.Glyph.{clusters, default_glyph, order_view}
 use Rattle.shapers_clusters.specs.declared.carried_groups.CarriedGroups.{CarriedGroups}
@@ -42,7 +42,7 @@ abbrev pub len_of : List ClusterGroup → ℕ
 len_of [] = 0
 len_of (group ∷ groups) = group.len + len_of groups
 
--- the glyphs of these groups, which open the list, each in the cluster of its group
+-- the glyphs of these groups, which begin the list, each in the cluster of its group
 abbrev pub grouped : List ClusterGroup → Glyphs → Glyphs
 grouped [] gs = []
 grouped (group ∷ groups) gs =
@@ -146,14 +146,14 @@ fallen_groups count it gs = take (length it.groups.items - count) it.groups.item
 
 -- Behind merges: what was kept comes back, and the groups come into the clusters of those that
 -- stood for them.
-pub record CanSettle (it : CarriedGroups) (count : ℕ) (gs : Glyphs) : Type 0 where
+pub record CanTakeBack (it : CarriedGroups) (count : ℕ) (gs : Glyphs) : Type 0 where
   pub within : count ≤ length it.groups.items
   pub in_range : it.end ≤ length gs
   pub kept : 0 < count → length it.kept.items ≡ it.end - (it.end - count - 1)
   pub none : count ≡ 0 → AreCarried it gs
   pub fits : 0 < count → AreCarried it (taken_back count it gs)
 
-pub record GroupsSettled (it : CarriedGroups) (count : ℕ) (gs : Glyphs) (after :
+pub record GroupsTakenBack (it : CarriedGroups) (count : ℕ) (gs : Glyphs) (after :
     CarriedGroups) (hs : Glyphs) : Type 0 where
   pub none : count ≡ 0 → hs ≡ gs
   pub still : count ≡ 0 → after ≡ it

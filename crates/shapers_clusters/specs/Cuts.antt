@@ -31,7 +31,7 @@ IsFalling cs = AllPairs (λ a b. b ≤ a) cs
 abbrev pub IsMonotone : List ℕ → Type 0
 IsMonotone cs = IsRising cs ⊎ IsFalling cs
 
--- all neighbours between p and q are linked: both stand in one block, a longest linked run
+-- all neighbours between p and q are linked: both stand in one block, a longest linked stretch
 abbrev pub SameBlock : List ℕ → List (ℕ × ℕ) → ℕ → ℕ → Type 0
 SameBlock cs sts p q = (r : ℕ) → min p q < r → r ≤ max p q → linked cs sts r ≡ true
 

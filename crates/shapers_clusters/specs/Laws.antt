@@ -10,7 +10,7 @@ use Rattle.shapers_buffer.specs.GlyphFlags.{unsafe_inside, unsafe_to_concat_in, 
 use Rattle.shapers_clusters.specs.ClusterMerges.{joined_all}
 use Rattle.shapers_clusters.specs.Cuts.{AllDifferent, EndWithin, ExactCuts, IsMonotone, OneAlong, ShareCluster, ShareNone, StandsApart}
 use Rattle.shapers_buffer.specs.Places.{pick}
-use Rattle.shapers_clusters.specs.Steps.{Step, run_steps, joined_steps, old_places, FitSteps, MovesMerged, all_first, all_merged, SpareMerged, widened, steps_along, reordered_along, Permutes}
+use Rattle.shapers_clusters.specs.Steps.{Step, after_steps, joined_steps, old_places, FitSteps, MovesMerged, all_first, all_merged, SpareMerged, widened, steps_along, reordered_along, Permutes}
 use Rattle.shapers_clusters.specs.Flags.{FallsTo, FlagsFall, FlagsAlone, InOrder, ShowsClusters, HidesFields, seen}
 use Rattle.shapers_clusters.specs.SourceCuts.{ExactCutsBy, HeldAlong, MovesInsideOf}
 use Rattle.shapers_clusters.specs.Labels.{IsLabelled, OfOldPlaces, OneLabelEach}
@@ -83,13 +83,13 @@ pub record StepsHold (level : BufferClusterLevel) (steps : List Step)
 abbrev pub StepsLaw : Type 0
 StepsLaw = (level : BufferClusterLevel) (steps : List Step) (gs : Glyphs) →
     FitSteps (length gs) steps →
-    StepsHold level steps gs (run_steps level steps gs)
+    StepsHold level steps gs (after_steps level steps gs)
 
 -- Steps that take each place once lose no glyph: the order view is the old one in some order.
 abbrev pub PermutedLaw : Type 0
 PermutedLaw = (level : BufferClusterLevel) (steps : List Step) (gs : Glyphs) →
     FitSteps (length gs) steps → AllByRecursion (Permutes (length gs)) steps →
-    IsPermutation (order_view gs) (order_view (run_steps level steps gs))
+    IsPermutation (order_view gs) (order_view (after_steps level steps gs))
 
 -- What any steps make of the clusters cs: js. Every cluster is one that was there. Labels that each
 -- stretch respects as it merges are respected in the end, and each cluster is then that of an old
@@ -125,8 +125,8 @@ MergedStepsLaw = (level : BufferClusterLevel) (steps : List Step) (cs : List ℕ
 
 -- What steps that take each place once and spare what those before them merged make of the clusters
 -- cs, at the levels that merge: js. Each stretch that they merge is in one cluster in the end.
--- Where all clusters are different no more is merged: the cuts are exact, and each run so joined
--- has the least cluster that the glyphs now in it had.
+-- Where all clusters are different no more is merged: the cuts are exact, and each stretch so
+-- joined has the least cluster that the glyphs now in it had.
 pub record SparedStepsHold (steps : List Step) (cs js : List ℕ) : Type 0 where
   pub merged : AllByRecursion (OneAlong js) (all_merged steps)
   pub exact : AllDifferent cs →
@@ -156,7 +156,7 @@ ClustersReorderedLaw = (level : BufferClusterLevel) (steps : List Step) (cs : Li
 -- fell. The clusters are what the steps make of the old ones.
 pub record SeenStepsHold (view : Glyph →
     Glyph) (level : BufferClusterLevel) (steps : List Step) (gs ms : Glyphs) : Type 0 where
-  pub result : map view ms ≡ map view (run_steps level steps gs)
+  pub result : map view ms ≡ map view (after_steps level steps gs)
   pub same_length : length ms ≡ length gs
   pub moved_view : seen view ms ≡ pick (old_places (length gs) steps) (seen view gs)
   pub falls : AllZip FlagsFall (pick (old_places (length gs) steps) gs) ms
@@ -169,7 +169,7 @@ abbrev pub SeenStepsLaw : Type 0
 SeenStepsLaw = (view : Glyph → Glyph) →
     HidesFields view →
     (level : BufferClusterLevel) (steps : List Step) (gs ms : Glyphs) →
-    FitSteps (length gs) steps → map view ms ≡ map view (run_steps level steps gs) →
+    FitSteps (length gs) steps → map view ms ≡ map view (after_steps level steps gs) →
     SeenStepsHold view level steps gs ms
 
 -- What a hook that reorders promises, through a view that hides what else it changes, by steps that
@@ -185,7 +185,7 @@ ReorderedLaw = (view : Glyph → Glyph) →
     HidesFields view →
     (level : BufferClusterLevel) (steps : List Step) (gs ms : Glyphs) →
     AllByRecursion (MovesMerged (length gs)) steps → AllByRecursion (Permutes (length gs)) steps →
-    map view ms ≡ map view (run_steps level steps gs) →
+    map view ms ≡ map view (after_steps level steps gs) →
     ReorderedHold view level steps gs ms
 
 -- Steps over the stretch s..e are steps over all places: they fit, they move only inside what they
@@ -198,7 +198,7 @@ pub record WidenedHolds (level : BufferClusterLevel) (s e : ℕ) (steps : List S
       AllByRecursion (MovesMerged (length gs)) (map (widened s e (length gs)) steps)
   pub permuted : AllByRecursion (Permutes (e - s)) steps →
       AllByRecursion (Permutes (length gs)) (map (widened s e (length gs)) steps)
-  pub view : order_view (run_steps level (map (widened s e (length gs)) steps) gs)
+  pub view : order_view (after_steps level (map (widened s e (length gs)) steps) gs)
       ≡ take s (order_view gs)
       ++ (pick (old_places (e - s) steps) (stretch_of s e (order_view gs))
       ++ drop e (order_view gs))
@@ -219,7 +219,7 @@ pub record AlongHolds (level : BufferClusterLevel) (pieces : List (ℕ × List S
       AllByRecursion (MovesMerged (length gs)) (steps_along (length gs) 0 pieces)
   pub permuted : AllByRecursion (λ piece. AllByRecursion (Permutes piece.0) piece.1) pieces →
       AllByRecursion (Permutes (length gs)) (steps_along (length gs) 0 pieces)
-  pub view : order_view (run_steps level (steps_along (length gs) 0 pieces) gs)
+  pub view : order_view (after_steps level (steps_along (length gs) 0 pieces) gs)
       ≡ reordered_along pieces (order_view gs)
 
 abbrev pub AlongLaw : Type 0
@@ -287,9 +287,9 @@ HalvesLaw =
     AllByRecursion (λ piece. FitSteps piece.0 piece.1) ps →
     AllByRecursion (λ piece. FitSteps piece.0 piece.1) qs →
     ShareNone gs hs →
-    run_steps level (steps_along (length gs + length hs) 0 (ps ++ qs)) (gs ++ hs)
-    ≡ run_steps level (steps_along (length gs) 0 ps) gs
-    ++ run_steps level (steps_along (length hs) 0 qs) hs
+    after_steps level (steps_along (length gs + length hs) 0 (ps ++ qs)) (gs ++ hs)
+    ≡ after_steps level (steps_along (length gs) 0 ps) gs
+    ++ after_steps level (steps_along (length hs) 0 qs) hs
 
 -- A stretch of a text whose clusters no place elsewhere has: the steps of the text, one stretch
 -- after another, make of its clusters what its own steps make of them alone.

@@ -17,12 +17,12 @@ pub record Step : Type 0 where
   pub merged_then : List (ℕ × ℕ)
 
 -- the glyphs after one step, and after several, one after another
-abbrev pub run_step : BufferClusterLevel → Step → Glyphs → Glyphs
-run_step level step gs =
+abbrev pub after_step : BufferClusterLevel → Step → Glyphs → Glyphs
+after_step level step gs =
     merge_all level step.merged_then (pick step.places (merge_all level step.merged_first gs))
 
-abbrev pub run_steps : BufferClusterLevel → List Step → Glyphs → Glyphs
-run_steps level steps gs = fold (λ gs step. run_step level step gs) gs steps
+abbrev pub after_steps : BufferClusterLevel → List Step → Glyphs → Glyphs
+after_steps level steps gs = fold (λ gs step. after_step level step gs) gs steps
 
 -- the same of clusters alone
 abbrev pub joined_step : BufferClusterLevel → Step → List ℕ → List ℕ

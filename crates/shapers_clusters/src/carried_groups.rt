@@ -1,8 +1,8 @@
-//! Runs of glyphs in front of a place where merges go on, each in one cluster, which are written
+//! Ranges of glyphs in front of a place where merges go on, each in one cluster, which are written
 //! once.
 ghost use Rattle.std.specs.Prelude.{◌≡◌, ◌<◌, ◌≤◌, ◌+◌, ◌-◌, ◌^◌, ◌++◌, [], OnOk, OnErr, drop, get_or, length, map, take, true};
 ghost use Rattle.shapers_buffer.specs.Clusters.{in_cluster, with_stretch};
-ghost use Rattle.shapers_clusters.specs.CarriedGroups.{AreCarried, AreShown, CanSettle, GroupsApart, GroupsGuarded, GroupsSettled, StillSame, first_group_cluster, grouped, joined_end, len_of, no_group, put_before, read_back, shown_groups, with_groups};
+ghost use Rattle.shapers_clusters.specs.CarriedGroups.{AreCarried, AreShown, CanTakeBack, GroupsApart, GroupsGuarded, GroupsTakenBack, StillSame, first_group_cluster, grouped, joined_end, len_of, no_group, put_before, read_back, shown_groups, with_groups};
 
 use shapers_buffer::buffer::{
     ClusterGroup, GroupRoom, change_each_by_in, hb_glyph_info_t, least_cluster, put_into_cluster,
@@ -106,14 +106,14 @@ impl CarriedGroups {
         if first == end || first < self.end {
             return 0;
         }
-        if !self.reach(glyphs, first) {
+        if !self.add_groups_to(glyphs, first) {
             return 0;
         }
         if !self.is_apart(glyphs) {
             return 0;
         }
         let count = self.count_from(least_cluster(&glyphs[first..end]));
-        match self.show(glyphs, count) {
+        match self.represent_groups(glyphs, count) {
             Ok(()) => count,
             Err(_) => 0,
         }
@@ -122,9 +122,9 @@ impl CarriedGroups {
     /// Behind these merges: takes back the glyphs that stood for `count` groups, and puts the
     /// groups into their clusters.
     #[inline]
-    pub fn settle(&mut self, glyphs: &mut [hb_glyph_info_t], count: usize)
-        requires fits { CanSettle self.old count glyphs.old }
-        ensures settled { GroupsSettled self.old count glyphs.old self.new glyphs.new }
+    pub fn take_back(&mut self, glyphs: &mut [hb_glyph_info_t], count: usize)
+        requires fits { CanTakeBack self.old count glyphs.old }
+        ensures settled { GroupsTakenBack self.old count glyphs.old self.new glyphs.new }
         ensures same_length { length glyphs.new ≡ length glyphs.old }
     {
         if count == 0 {
@@ -175,7 +175,7 @@ impl CarriedGroups {
     // Adds the glyphs up to a place, each as a group or to one. False where there is no memory, or
     // no group.
     #[inline]
-    fn reach(&mut self, glyphs: &mut [hb_glyph_info_t], place: usize) -> bool
+    fn add_groups_to(&mut self, glyphs: &mut [hb_glyph_info_t], place: usize) -> bool
         requires fits { AreCarried self.old glyphs.old }
         requires further { self.old.end ≤ place }
         requires in_range { place ≤ length glyphs.old }
@@ -246,7 +246,11 @@ impl CarriedGroups {
     // Lets one glyph stand for each of the last `count` groups, and one with another cluster before
     // these.
     #[inline]
-    fn show(&mut self, glyphs: &mut [hb_glyph_info_t], count: usize) -> Result<(), AllocError>
+    fn represent_groups(
+        &mut self,
+        glyphs: &mut [hb_glyph_info_t],
+        count: usize,
+    ) -> Result<(), AllocError>
         requires some { 0 < count }
         requires within { count ≤ length self.old.groups.items }
         requires fits { AreCarried self.old glyphs.old }

@@ -21,7 +21,7 @@ use Rattle.shapers_syllabic.specs.Borders.{unnumbered}
 use Rattle.shapers_syllabic.specs.ReorderingLaws.{paused_clusters, paused_order}
 use Rattle.shapers_syllabic.specs.SpanCuts.{CutsBetweenSpans, HalvesJoined}
 use Rattle.shapers_syllabic.specs.Syllabic.{unsafe_spans}
-use Rattle.shapers_universal.specs.UniversalLaws.{set_up_by_spans, without_serial_or_forms}
+use Rattle.shapers_universal.specs.UniversalLaws.{setup_by_spans, without_serial_or_forms}
 use Rattle.rustybuzz_shapers.specs.Cuts.{IndicIsCutAfterBoth, IsCut, UniversalIsCut}
 use Rattle.rustybuzz_shapers.specs.Pauses.{Reordering, by_initial, by_universal}
 use Rattle.shapers_editing.specs.EditedSyllables.{EditsStayOutside, IndicStaysOutside, TextPart, PausesStayOutside, AlikeAtEnds, UniversalStaysOutside, whole_glyphs, last_n, whole_spans}
@@ -73,20 +73,20 @@ same-ends f b one two three four xs ys a c d e =
 
 -- the two cuts of a text of three parts
 record TwoCuts (view : Glyph → Glyph) (made : Glyphs → Glyphs)
-    (clusters_made : Glyphs → List ℕ) (set_up : List Span → Glyphs → Glyphs)
+    (clusters_made : Glyphs → List ℕ) (setup : List Span → Glyphs → Glyphs)
     (front middle back : TextPart) (xs : Glyphs) : Type 0 where
   first : HalvesJoined view made clusters_made front.glyphs (middle.glyphs ++ back.glyphs)
-      (set_up front.spans front.glyphs) (set_up (middle.spans ++ back.spans) (middle.glyphs ++ back.glyphs)) xs
+      (setup front.spans front.glyphs) (setup (middle.spans ++ back.spans) (middle.glyphs ++ back.glyphs)) xs
   second : HalvesJoined view made clusters_made (front.glyphs ++ middle.glyphs) back.glyphs
-      (set_up (front.spans ++ middle.spans) (front.glyphs ++ middle.glyphs)) (set_up back.spans back.glyphs) xs
+      (setup (front.spans ++ middle.spans) (front.glyphs ++ middle.glyphs)) (setup back.spans back.glyphs) xs
 
 two-cuts : (view : Glyph → Glyph)
-    (set_up : List Span → Glyphs → Glyphs)
+    (setup : List Span → Glyphs → Glyphs)
     (made : Glyphs → Glyphs) (clusters_made : Glyphs → List ℕ)
-    (front middle back : TextPart) (xs : Glyphs) → CutsBetweenSpans view set_up made clusters_made
+    (front middle back : TextPart) (xs : Glyphs) → CutsBetweenSpans view setup made clusters_made
     (whole_spans front middle back) (whole_glyphs front middle back) xs
-    → TwoCuts view made clusters_made set_up front middle back xs
-two-cuts view set_up made clusters_made front middle back xs cut = record {
+    → TwoCuts view made clusters_made setup front middle back xs
+two-cuts view setup made clusters_made front middle back xs cut = record {
   first = cut front.spans (middle.spans ++ back.spans) front.glyphs
       (middle.glyphs ++ back.glyphs) _ _ refl refl front.covered
       (both-cover middle.glyphs back.glyphs middle.spans back.spans middle.covered back.covered) refl refl;
@@ -98,11 +98,11 @@ two-cuts view set_up made clusters_made front middle back xs cut = record {
 }
 
 pub outside : EditsStayOutside
-outside view set_up made clusters_made front old new back xs ys one two =
-    let a = two-cuts view set_up made clusters_made front old back xs one in
-    let b = two-cuts view set_up made clusters_made front new back ys two in
-    let front_up = set_up front.spans front.glyphs in
-    let back_up = set_up back.spans back.glyphs in
+outside view setup made clusters_made front old new back xs ys one two =
+    let a = two-cuts view setup made clusters_made front old back xs one in
+    let b = two-cuts view setup made clusters_made front new back ys two in
+    let front_up = setup front.spans front.glyphs in
+    let back_up = setup back.spans back.glyphs in
     record {
       order = subst (λ n. AlikeAtEnds n (length (made back_up)) (map view (order_view xs)) (map view (order_view ys)))
           (length-map (made front_up) view)
@@ -114,9 +114,9 @@ outside view set_up made clusters_made front old new back xs ys one two =
           (b.first.in_clusters k) (b.second.in_clusters l);
     }
 
-pub pauses-outside : (set_up pause : Pause) (by : hb_ot_shape_plan_t → Font → Buffer → Reordering)
-    → IsCut set_up pause by → PausesStayOutside set_up pause by
-pauses-outside set_up pause by law plan font unread front old new back b mid xs other ys fit fits a c d e same =
+pub pauses-outside : (setup pause : Pause) (by : hb_ot_shape_plan_t → Font → Buffer → Reordering)
+    → IsCut setup pause by → PausesStayOutside setup pause by
+pauses-outside setup pause by law plan font unread front old new back b mid xs other ys fit fits a c d e same =
     let r = by plan font mid in
     outside unnumbered unsafe_spans (paused_order r.circles r.order)
     (paused_clusters r.circles r.steps b.level) front old new back xs.glyphs ys.glyphs
@@ -130,11 +130,11 @@ pub universal-outside : UniversalIsCut → UniversalStaysOutside
 universal-outside law plan font unread front old new back b mid xs other ys fit fits a c d e same =
     let r = by_universal font mid in
     let view = without_serial_or_forms plan.plan_data plan.ot_map in
-    let set_up = set_up_by_spans plan.plan_data plan.ot_map in
-    outside view set_up (paused_order r.circles r.order)
+    let setup = setup_by_spans plan.plan_data plan.ot_map in
+    outside view setup (paused_order r.circles r.order)
     (paused_clusters r.circles r.steps b.level) front old new back xs.glyphs ys.glyphs
     (law plan font (whole_spans front old back) unread _ mid xs fit a c)
-    (subst (λ (s : Reordering). CutsBetweenSpans view set_up (paused_order s.circles s.order)
+    (subst (λ (s : Reordering). CutsBetweenSpans view setup (paused_order s.circles s.order)
     (paused_clusters s.circles s.steps b.level) (whole_spans front new back) (whole_glyphs front new back) ys.glyphs)
     (sym same)
     (law plan font (whole_spans front new back) unread _ other ys fits d e))

@@ -8,7 +8,7 @@ use Rattle.shapers_buffer.specs.Buffer.{Buffer, new_buffer}
 use Rattle.shapers_buffer.specs.Glyph.{default_glyph}
 use Rattle.shapers_buffer.specs.Glyphs.{Glyph}
 use Rattle.shapers_buffer.specs.declared.buffer.glyph_props.GlyphProps.{GlyphProps}
-use Rattle.shapers_breaks.specs.Pieces.{SameButFlags}
+use Rattle.shapers_break_laws.specs.Pieces.{SameButFlags}
 use Rattle.shapers_pipeline.specs.Lookups.{text_noted}
 use Rattle.shapers_pipeline.specs.Prepared.{Preparation, text_in_fractions, text_prepared}
 use Rattle.shapers_editing.specs.PipelineBreaks.{CutBufferWhereClear, LookupsLeavePieces, NotesReadOrder, PauseLeaves, glyphs_made}

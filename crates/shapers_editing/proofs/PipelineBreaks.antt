@@ -25,11 +25,11 @@ use Rattle.rustybuzz_shapers.specs.Hooks.{MasksOffFlags, MasksSet}
 use Rattle.rustybuzz_shapers.specs.Pauses.{Paused, Reordered, Reordering, by_initial, by_khmer, by_myanmar}
 use Rattle.rustybuzz_shapers.specs.declared.shaper.hb_ot_shaper_t.{hb_ot_shaper_t}
 use Rattle.rustybuzz_shapers.specs.declared.shaper.hb_ot_shaper_t.TheVariants.{Arabic, Hangul, Hebrew, Indic, Khmer, Myanmar, MyanmarZawgyi, Thai, Universal}
-use Rattle.shapers_breaks.specs.Pieces.{CutWhereClear, MadeOfPieces, MakesOf, SameButFlags, SpannedText}
-use Rattle.shapers_breaks.specs.ShaperBreaks.{IsApart, IsInOrder, MasksLeavePieces, PausesLeavePieces, ShapersBreakLaw, SyllabicBreaks, SyllabicPiece, glyph_paused, is_by_glyph, masked_by_glyph, masks_by_glyph}
-use Rattle.shapers_breaks.proofs.HookPieces.{joining_adds, joined_by, joined_in_two, within_parts}
-use Rattle.shapers_breaks.proofs.KeptFlags.{added_clear}
-use Rattle.shapers_breaks.proofs.Pieces.{ReadsOrder, flags-twice, kind-twice, leaves_by_glyph, own_text, reads_order}
+use Rattle.shapers_break_laws.specs.Pieces.{CutWhereClear, MadeOfPieces, MakesOf, SameButFlags, SpannedText}
+use Rattle.shapers_break_laws.specs.ShaperBreaks.{IsApart, IsInOrder, MasksLeavePieces, PausesLeavePieces, ShapersBreakLaw, SyllabicBreaks, SyllabicPiece, glyph_paused, is_by_glyph, masked_by_glyph, masks_by_glyph}
+use Rattle.shapers_break_laws.proofs.HookPieces.{joining_adds, joined_by, joined_in_two, within_parts}
+use Rattle.shapers_break_laws.proofs.KeptFlags.{added_clear}
+use Rattle.shapers_break_laws.proofs.Pieces.{ReadsOrder, flags-twice, kind-twice, leaves_by_glyph, own_text, reads_order}
 use Rattle.shapers_plan.specs.declared.ot_map.lookups.Stage.{Stage}
 use Rattle.shapers_plan.specs.declared.ot_map.lookups.StageLookup.{StageLookup}
 use Rattle.shapers_pipeline.specs.ClusterLaws.{IfPaused, LookupsKeep}
@@ -42,11 +42,11 @@ use Rattle.shapers_pipeline.proofs.Pausing.{pause_positions}
 use Rattle.shapers_editing.specs.PipelineBreaks.{CutBufferWhereClear, LookupsLeavePieces, MakesSame, MasksInPieces, MasksSetInPieces, NotesReadOrder, PauseLeaves, PipelineBreaks, ShaperStagesBreak, ShapingBreaks, StagedPiece, StagesLeavePieces, StepLeavesPieces, SyllabicStagesBreak, glyphs_looked_up, glyphs_made}
 
 -- STEPS one behind the other
-abbrev InTurn : (S T : Buffer → Buffer → Type 0) → Buffer → Buffer → Type 0
-InTurn S T old new = (mid : Buffer) × (S old mid × ((mid.positions ≡ []) × T mid new))
+abbrev Consecutive : (S T : Buffer → Buffer → Type 0) → Buffer → Buffer → Type 0
+Consecutive S T old new = (mid : Buffer) × (S old mid × ((mid.positions ≡ []) × T mid new))
 
 in_turn : (S T U : Buffer → Buffer → Type 0) → ((old new : Buffer) → old.positions ≡ [] → U old new
-    → InTurn S T old new)
+    → Consecutive S T old new)
     → (a b c : Buffer) → StepLeavesPieces S a b → StepLeavesPieces T b c → StepLeavesPieces U a c
 in_turn S T U apart a b c one two front back cut =
     let made = two front back cut in
@@ -359,14 +359,14 @@ one_unpositioned : (reordering : Reordering) (b one : Buffer) → Reordered reor
     → one.positions ≡ []
 one_unpositioned reordering b one done none = ap (λ (c : Buffer). c.positions) done.others ∙ none
 
-syllabic_stages : (set_up pause : Pause) (by : hb_ot_shape_plan_t → Font → Buffer → Reordering)
-    (IsSo : Reordering → Buffer → Type 0) → PausesLeavePieces → SyllabicBreaks set_up pause by IsSo
+syllabic_stages : (setup pause : Pause) (by : hb_ot_shape_plan_t → Font → Buffer → Reordering)
+    (IsSo : Reordering → Buffer → Type 0) → PausesLeavePieces → SyllabicBreaks setup pause by IsSo
     → ((plan : hb_ot_shape_plan_t) (font : Font) (spans : List Span) (old mid : Buffer)
-    → Paused set_up plan font spans old mid → mid.positions ≡ old.positions)
+    → Paused setup plan font spans old mid → mid.positions ≡ old.positions)
     → ((plan : hb_ot_shape_plan_t) (font : Font) (spans : List Span) (old new : Buffer)
     → Paused pause plan font spans old new → new.positions ≡ old.positions)
-    → SyllabicStagesBreak set_up pause by IsSo
-syllabic_stages set_up pause by IsSo law breaks first_keeps second_keeps r second ss spans unread old mid reordered new
+    → SyllabicStagesBreak setup pause by IsSo
+syllabic_stages setup pause by IsSo law breaks first_keeps second_keeps r second ss spans unread old mid reordered new
     keeps leaves none spanned done side flags so ordered run pauses front back cut =
     let between = stage_looked_up r second mid in
     let lookups = glyphs_looked_up r second mid in

@@ -6,7 +6,7 @@ use Rattle.std.proofs.lemmas.List.Sums.{sum_by-cons}
 use Rattle.shapers_buffer.specs.Glyphs.{Glyphs}
 use Rattle.shapers_buffer.specs.declared.buffer.syllables.Span.{Span}
 use Rattle.shapers_spans.specs.Cuts.{ReadsAlike}
-use Rattle.shapers_spans.specs.Grammar.{Grammar, IsCutFrom, IsFirst, IsSyllable, IsSyllableCut, NoneTakes, OpensWith, lead_spans, reach_of, read_of}
+use Rattle.shapers_spans.specs.Grammar.{Grammar, IsCutFrom, IsFirst, IsSyllable, IsSyllableCut, NoneTakes, BeginsWith, lead_spans, reach_of, read_of}
 use Rattle.shapers_spans.specs.Re.{Re}
 use Rattle.shapers_spans.proofs.Cutting.{alike_drop, alike_head, alike_tail, behind-reach, covered, read-append}
 use Rattle.shapers_spans.proofs.Reached.{behind-is-read, keep_reach, keep_read, reach-le, reach-zero, skip_reach, skip_read}
@@ -83,9 +83,9 @@ syllable-moved g w v u s d (inr y) =
       }),
     )
 
--- it opens a text whatever stands behind
+-- it begins a text whatever stands behind
 opens-moved : (g : Grammar) (gs hs ks : Glyphs) (s : Span) → ReadsAlike g gs hs → ReadsAlike g gs ks
-    → IsDone g (read_of g.passes gs) → OpensWith g (gs ++ hs) s → (s.len ≤ length gs) × OpensWith g (gs ++ ks) s
+    → IsDone g (read_of g.passes gs) → BeginsWith g (gs ++ hs) s → (s.len ≤ length gs) × BeginsWith g (gs ++ ks) s
 opens-moved g gs hs ks s a b d o =
     let p = g.passes in
     let m = syllable-moved g (read_of p gs) (read_of p hs) (read_of p ks) o.read d
@@ -127,21 +127,21 @@ one-syllable g w s t (inl y) (inr z) = absurd (z.none s.len y.some y.within y.ru
 one-syllable g w s t (inr y) (inl z) = absurd (y.none t.len z.some z.within z.rule z.first.takes)
 one-syllable g w s t (inr y) (inr z) = same-span s t (y.one ∙ sym z.one) (y.kind ∙ sym z.kind)
 
-opens-one : (g : Grammar) (gs : Glyphs) (s t : Span) → OpensWith g gs s → OpensWith g gs t → s ≡ t
+opens-one : (g : Grammar) (gs : Glyphs) (s t : Span) → BeginsWith g gs s → BeginsWith g gs t → s ≡ t
 opens-one g gs s t o q =
     let e = one-syllable g (read_of g.passes gs) o.read q.read o.syllable q.syllable in
     same-span s t
     (o.len ∙ ap (λ (u : Span). reach_of g.passes gs u.len) e ∙ sym q.len)
     (o.kind ∙ ap (λ (u : Span). u.kind) e ∙ sym q.kind)
 
-opens-none : (g : Grammar) (s : Span) → OpensWith g [] s → ⊥
+opens-none : (g : Grammar) (s : Span) → BeginsWith g [] s → ⊥
 opens-none g s o = let (a, b) = syllable_within g [] o.read o.syllable in omega arith
 
 one-cut-from : (g : Grammar) (gs : Glyphs) (ss ts : List Span) → IsCutFrom g gs ss → IsCutFrom g gs ts
     → ss ≡ ts
 one-cut-from g gs [] [] c d = refl
-one-cut-from g gs [] (t ∷ ts) c d = absurd (opens-none g t (subst (λ xs. OpensWith g xs t) c d.0))
-one-cut-from g gs (s ∷ ss) [] c d = absurd (opens-none g s (subst (λ xs. OpensWith g xs s) d c.0))
+one-cut-from g gs [] (t ∷ ts) c d = absurd (opens-none g t (subst (λ xs. BeginsWith g xs t) c d.0))
+one-cut-from g gs (s ∷ ss) [] c d = absurd (opens-none g s (subst (λ xs. BeginsWith g xs s) d c.0))
 one-cut-from g gs (s ∷ ss) (t ∷ ts) c d =
     let e = opens-one g gs s t c.0 d.0 in
     let later = one-cut-from g (drop t.len gs) ss ts (subst (λ (u : Span). IsCutFrom g (drop u.len gs) ss) e c.1) d.1 in
@@ -160,7 +160,7 @@ front-from : (g : Grammar) (gs hs ks : Glyphs) (ps ss ts : List Span) → ReadsA
 front-from g gs hs ks [] ss ts a b c d done = (ts, refl)
 front-from g gs hs ks (p ∷ ps) ss [] a b c d done =
     let o = opens-moved g gs hs ks p a b done.0 c.0 in
-    absurd (opens-none g p (subst (λ xs. OpensWith g xs p) d o.1))
+    absurd (opens-none g p (subst (λ xs. BeginsWith g xs p) d o.1))
 front-from g gs hs ks (p ∷ ps) ss (t ∷ ts) a b c d done =
     let o = opens-moved g gs hs ks p a b done.0 c.0 in
     let e = opens-one g (gs ++ ks) p t o.1 d.0 in

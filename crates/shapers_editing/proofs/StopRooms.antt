@@ -36,7 +36,7 @@ fewer-from gs i d lt =
     subst (λ xs. length (lesser behind) ≤ length (lesser xs)) (sym (from-glyph gs i d lt))
     (fewer-behind (take i (clusters gs)) behind)
 
--- and one that runs backward
+-- and one that goes backward
 pub fewer-up-to : (gs : Glyphs) (i : ℕ) (d : Glyph) → i < length gs →
     length (lesser ((get_or gs i d).cluster ∷ reverse (clusters (take i gs))))
     ≤ length (lesser (reverse (clusters gs)))

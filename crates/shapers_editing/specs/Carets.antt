@@ -1,6 +1,6 @@
 -- Where a caret may stand in a shaped text, and which part of the text each glyph stands for.
 -- (HarfBuzz's manual, "Clusters": glyphs of one cluster can't be told apart; clusters rise along a
--- text that runs forward and fall along one that runs backward.)
+-- text that goes forward and fall along one that goes backward.)
 use Rattle.std.specs.Prelude.{ℕ, ◌≡◌, ◌<◌, ◌≤◌, nat_le, nat_lt, Bool, true, false, ◌&&◌, List, [], ◌∷◌, reverse, if◌then◌else◌}
 use Rattle.std.specs.List.{All, AllPairs, Contains, count_by, list_all}
 use Rattle.shapers_buffer.specs.Glyphs.{Glyphs}

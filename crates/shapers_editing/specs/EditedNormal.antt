@@ -5,7 +5,7 @@ use Rattle.shapers_buffer.specs.declared.buffer.level.BufferClusterLevel.{Buffer
 use Rattle.shapers_clusters.specs.Cuts.{ShareNone}
 use Rattle.shapers_normal.specs.Context.{Context}
 use Rattle.shapers_normal.specs.Decomposition.{first_round}
-use Rattle.shapers_normal.specs.Laws.{OrdersAlone, ends_in_joiner, opens_anew}
+use Rattle.shapers_normal.specs.Laws.{OrdersAlone, ends_in_joiner, begins_anew}
 use Rattle.shapers_normal.specs.Normalization.{normalized}
 use Rattle.shapers_normal.specs.Sorting.{marks_ordered}
 use Rattle.shapers_normal.specs.declared.ot_shape_normalize.normalizing.Rounds.TheVariants.{Always}
@@ -18,7 +18,7 @@ pub record MayCut (context : Context) (level : BufferClusterLevel) (gs hs : Glyp
     : Type 0 where
   pub apart : ShareNone gs hs
   pub letter : begins_with_mark hs ≡ false
-  pub anew : opens_anew (first_round context level hs) ≡ true
+  pub anew : begins_anew (first_round context level hs) ≡ true
   pub no_joiner :
       ends_in_joiner (marks_ordered context level (first_round context level gs)) ≡ false
 

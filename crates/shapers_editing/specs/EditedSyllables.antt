@@ -18,7 +18,7 @@ use Rattle.shapers_syllabic.specs.Borders.{unnumbered}
 use Rattle.shapers_syllabic.specs.ReorderingLaws.{paused_clusters, paused_order}
 use Rattle.shapers_syllabic.specs.SpanCuts.{CutsBetweenSpans}
 use Rattle.shapers_syllabic.specs.Syllabic.{unsafe_spans}
-use Rattle.shapers_universal.specs.UniversalLaws.{set_up_by_spans, without_serial_or_forms}
+use Rattle.shapers_universal.specs.UniversalLaws.{setup_by_spans, without_serial_or_forms}
 use Rattle.rustybuzz_shapers.specs.Pauses.{Paused, Reordering, by_initial, by_universal}
 
 -- a part of a text, with the spans that cover it
@@ -62,29 +62,29 @@ pub record SameOutside (view : Glyph → Glyph) (made : TextPart →
 -- so of any set-up and pauses that can be cut between spans
 abbrev pub EditsStayOutside : Type 0
 EditsStayOutside = (view : Glyph → Glyph)
-    (set_up : List Span → Glyphs → Glyphs)
+    (setup : List Span → Glyphs → Glyphs)
     (made : Glyphs → Glyphs)
     (clusters_made : Glyphs → List ℕ)
     (front old new back : TextPart) (xs ys : Glyphs) →
-    CutsBetweenSpans view set_up made clusters_made (whole_spans front old back)
+    CutsBetweenSpans view setup made clusters_made (whole_spans front old back)
     (whole_glyphs front old back) xs →
-    CutsBetweenSpans view set_up made clusters_made (whole_spans front new back)
+    CutsBetweenSpans view setup made clusters_made (whole_spans front new back)
     (whole_glyphs front new back) ys →
-    SameOutside view (λ part. made (set_up part.spans part.glyphs))
-    (λ part. clusters_made (set_up part.spans part.glyphs)) front old new back xs ys
+    SameOutside view (λ part. made (setup part.spans part.glyphs))
+    (λ part. clusters_made (setup part.spans part.glyphs)) front old new back xs ys
 
 -- A set-up by the spans of a text, and of the text edited, and a reordering directly behind each,
 -- where both are reordered by the same rule: both marked broken, or neither.
 abbrev pub PausesStayOutside :
     Pause → Pause → (hb_ot_shape_plan_t → Font → Buffer → Reordering) → Type 0
-PausesStayOutside set_up pause by = (plan : hb_ot_shape_plan_t) (font : Font)
+PausesStayOutside setup pause by = (plan : hb_ot_shape_plan_t) (font : Font)
     (unread : List Span) (front old new back : TextPart) (b mid xs other ys : Buffer) →
     All (λ span. span.kind ≤ 15) (whole_spans front old back) →
     All (λ span. span.kind ≤ 15) (whole_spans front new back) →
-    Paused set_up plan font (whole_spans front old back)
+    Paused setup plan font (whole_spans front old back)
     (record b { glyphs = whole_glyphs front old back }) mid →
     Paused pause plan font unread mid xs →
-    Paused set_up plan font (whole_spans front new back)
+    Paused setup plan font (whole_spans front new back)
     (record b { glyphs = whole_glyphs front new back }) other →
     Paused pause plan font unread other ys →
     by plan font mid ≡ by plan font other →
@@ -108,10 +108,10 @@ UniversalStaysOutside = (plan : hb_ot_shape_plan_t) (font : Font)
     Paused ReorderUse plan font unread other ys →
     by_universal font mid ≡ by_universal font other →
     let r = by_universal font mid in
-    let set_up = set_up_by_spans plan.plan_data plan.ot_map in
+    let setup = setup_by_spans plan.plan_data plan.ot_map in
     SameOutside (without_serial_or_forms plan.plan_data plan.ot_map)
-    (λ part. paused_order r.circles r.order (set_up part.spans part.glyphs))
-    (λ part. paused_clusters r.circles r.steps b.level (set_up part.spans part.glyphs))
+    (λ part. paused_order r.circles r.order (setup part.spans part.glyphs))
+    (λ part. paused_clusters r.circles r.steps b.level (setup part.spans part.glyphs))
     front old new back xs.glyphs ys.glyphs
 
 -- in Indic after both reorderings

@@ -18,10 +18,10 @@ use Rattle.rustybuzz_shapers.specs.Hooks.{MasksOffFlags}
 use Rattle.rustybuzz_shapers.specs.Pauses.{Paused, Reordered, Reordering, by_initial, by_khmer, by_myanmar}
 use Rattle.rustybuzz_shapers.specs.declared.shaper.hb_ot_shaper_t.{hb_ot_shaper_t}
 use Rattle.rustybuzz_shapers.specs.declared.shaper.hb_ot_shaper_t.TheVariants.{Arabic}
-use Rattle.shapers_breaks.specs.ChainBreaks.{IsSpanned, LeavesSideBySide}
-use Rattle.shapers_breaks.specs.KeptTextBreaks.{FlagsKept}
-use Rattle.shapers_breaks.specs.Pieces.{BreaksWhereCleared, CutAtSpans, CutBuffer, CutWhereClear, SameButFlags, SpannedText}
-use Rattle.shapers_breaks.specs.ShaperBreaks.{IsApart, IsInOrder, IsSparedAll, is_by_glyph, masks_by_glyph}
+use Rattle.shapers_break_laws.specs.ChainBreaks.{IsSpanned, LeavesSideBySide}
+use Rattle.shapers_break_laws.specs.KeptTextBreaks.{FlagsKept}
+use Rattle.shapers_break_laws.specs.Pieces.{BreaksWhereCleared, CutAtSpans, CutBuffer, CutWhereClear, SameButFlags, SpannedText}
+use Rattle.shapers_break_laws.specs.ShaperBreaks.{IsApart, IsInOrder, IsSparedAll, is_by_glyph, masks_by_glyph}
 use Rattle.shapers_plan.specs.declared.ot_map.lookups.Stage.{Stage}
 use Rattle.shapers_plan.specs.declared.ot_map.lookups.StageLookup.{StageLookup}
 use Rattle.shapers_pipeline.specs.ClusterLaws.{AtPauses, LookupsKeep}
@@ -156,8 +156,8 @@ glyphs_looked_up r s b gs = (stage_looked_up r s (record b { glyphs = gs })).gly
 abbrev pub StagedPiece : Substitution → Stage → List Stage → Reordering → Buffer → SpannedText →
     Glyphs → Type 0
 StagedPiece r second ss reordering mid piece made = (one two : Buffer) →
-    let set_up = unsafe_spans piece.spans piece.glyphs in
-    let looked = glyphs_looked_up r second mid set_up in
+    let setup = unsafe_spans piece.spans piece.glyphs in
+    let looked = glyphs_looked_up r second mid setup in
     Reordered reordering (record (stage_looked_up r second mid) { glyphs = looked }) one →
     StagesRun r ss one two → SameButFlags two.glyphs made
 
@@ -166,12 +166,12 @@ StagedPiece r second ss reordering mid piece made = (one two : Buffer) →
 -- pauses leave halves side by side and take no flag.
 abbrev pub SyllabicStagesBreak : Pause → Pause →
     (hb_ot_shape_plan_t → Font → Buffer → Reordering) → (Reordering → Buffer → Type 0) → Type 0
-SyllabicStagesBreak set_up pause by IsSo =
+SyllabicStagesBreak setup pause by IsSo =
     (r : Substitution) (second : Stage) (ss : List Stage) (spans unread : List Span)
     (old mid reordered new : Buffer) → LookupsKeep r.substituted →
     LookupsLeavePieces r.substituted → old.positions ≡ [] →
     IsSpanned spans old →
-    Paused set_up r.plan r.font spans old mid →
+    Paused setup r.plan r.font spans old mid →
     let between = stage_looked_up r second mid in
     let reordering = by r.plan r.font between in
     LeavesSideBySide (glyphs_looked_up r second mid) mid.glyphs → FlagsKept between.glyphs →

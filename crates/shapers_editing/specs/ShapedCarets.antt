@@ -18,7 +18,7 @@ use Rattle.shapers_pipeline.specs.ShapeLaws.{PositionsKeep}
 use Rattle.shapers_pipeline.specs.Stages.{StagesRun, Substitution}
 use Rattle.shapers_editing.specs.Carets.{IsCaretMap, caret_stops}
 
--- The stops of shaped glyphs, new, whichever way they run, are a caret map of the text up to its
+-- The stops of shaped glyphs, new, whichever way they go, are a caret map of the text up to its
 -- end; and each is a border of the clusters that its characters, old, had in the order of the text.
 pub record StopsAreBorders (end : ℕ) (old new : Glyphs) (direction : Direction)
     : Type 0 where

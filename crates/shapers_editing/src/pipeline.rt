@@ -3,14 +3,14 @@ ghost use Rattle.shapers_editing.specs.EditedNormal.{NormalizedOutside};
 ghost use Rattle.shapers_editing.specs.PipelineBreaks.{MasksSetInPieces, PipelineBreaks, ShaperStagesBreak, ShapingBreaks, StagesLeavePieces};
 ghost use Rattle.shapers_editing.specs.ShapedCarets.{ShapedTextHasCarets};
 
-use shapers_breaks::shapers_break_law;
+use shapers_break_laws::shapers_break_law;
 use shapers_normal::ot_shape_normalize::normalization_halves_law;
 use shapers_pipeline::pipeline_clusters_law;
 
 /// The stops of a text whose clusters rose before it was shaped, from its characters to its glyphs
 /// with positions, map the text for a caret, and each was a border of clusters before; at the levels
 /// that merge, where each pause keeps clusters rising or falling, each cluster is a stop, in the
-/// direction that the clusters run in.
+/// direction that the clusters go in.
 pub fn pipeline_carets_law()
     ensures { ShapedTextHasCarets }
 {

@@ -14,7 +14,7 @@ use Rattle.shapers_base.specs.declared.plan.breaks.BreakFlags.{BreakFlags}
 use Rattle.shapers_base.specs.declared.plan.breaks.BreakFlags.TheVariants.{AsCode, Sound}
 use Rattle.shapers_hangul.specs.declared.ot_shaper_hangul.item.Item.{Item}
 use Rattle.shapers_hangul.specs.Hangul.{item_len, is_kept, first_item, items_from, items_at, Fit, item_output, outputs, item_joined, all_joined, glyph_copies, allows_circles, items, items_flagged, rewritten, rewritten_by, whole_items}
-use Rattle.shapers_hangul.specs.RewritingWalk.{KeptBefore, rewritten_items, InTurn, change_output, changed_from}
+use Rattle.shapers_hangul.specs.RewritingWalk.{KeptBefore, rewritten_items, Consecutive, change_output, changed_from}
 use Rattle.shapers_hangul.proofs.ItemFlags.{characters-items_flagged, length-items_flagged}
 use Rattle.shapers_hangul.proofs.Items.{taken_some, first_item-within}
 use Rattle.shapers_hangul.proofs.Outputs.{characters-outputs}
@@ -76,12 +76,12 @@ pub changes_fit : (n : ℕ) (cut : List (ℕ × Item)) → Fit n cut → Fit n (
 changes_fit n [] fit = fit
 changes_fit n (p ∷ cut) fit = search (arith, changes_fit n cut fit.1)
 
-sooner : (n a b : ℕ) (cut : List (ℕ × Item)) → a ≤ b → InTurn n b cut → InTurn n a cut
+sooner : (n a b : ℕ) (cut : List (ℕ × Item)) → a ≤ b → Consecutive n b cut → Consecutive n a cut
 sooner n a b [] less turn = omega arith
 sooner n a b (p ∷ cut) less turn = search arith
 
 turn_from : (font : Font) (circles : Bool) (place skip : ℕ) (us : List ℕ) → skip ≤ length us
-    → InTurn (place + length us) (place + skip) (rewritten_items (items_from (first_item font circles) place skip us))
+    → Consecutive (place + length us) (place + skip) (rewritten_items (items_from (first_item font circles) place skip us))
 turn_from font circles place skip [] inside = omega arith
 turn_from font circles place zero (u ∷ us) inside =
     let item = first_item font circles (u ∷ us) in
@@ -90,17 +90,17 @@ turn_from font circles place zero (u ∷ us) inside =
     let some : 1 ≤ item_len item = omega (arith, taken_some item.unit) in
     let within : item_len item ≤ length (u ∷ us) = search (arith, first_item-within) in
     let next =
-    subst (λ m. InTurn n m rest) (omega arith)
-    (subst (λ m. InTurn m (place + 1 + (item_len item - 1)) rest) (omega arith)
+    subst (λ m. Consecutive n m rest) (omega arith)
+    (subst (λ m. Consecutive m (place + 1 + (item_len item - 1)) rest) (omega arith)
     (turn_from font circles (place + 1) (item_len item - 1) us (omega arith))) in
-    by_kept (InTurn n (place + 0)) item rest ((place, item) ∷ rest)
+    by_kept (Consecutive n (place + 0)) item rest ((place, item) ∷ rest)
     (λ _. sooner n (place + 0) (place + item_len item) rest (omega arith) next) (λ _. (omega arith, next))
 turn_from font circles place (suc skip) (u ∷ us) inside =
     search (arith, turn_from font circles (place + 1) skip us (omega arith))
 
 -- WRITING
 -- a glyph before the next item stays
-one_stays : (n place : ℕ) (cut : List (ℕ × Item)) (gs : Glyphs) → InTurn n (place + 1) cut
+one_stays : (n place : ℕ) (cut : List (ℕ × Item)) (gs : Glyphs) → Consecutive n (place + 1) cut
     → changed_from place cut gs ≡ take 1 (drop place gs) ++ changed_from (place + 1) cut gs
 one_stays n place [] gs turn = cc (take-append-drop 1 (drop place gs), drop-drop 1 place gs)
 one_stays n place (p ∷ cut) gs turn =
@@ -129,7 +129,7 @@ changed_all font circles place zero (u ∷ us) gs inside long =
       by_kept (λ l. changed_from place l gs ≡ output ++ outputs glyph_copies cut gs) item (rewritten_items cut)
           ((place, item) ∷ rewritten_items cut)
           (λ stays. let keeps = kept_stays item stays in let one = ap (λ m. place + m) keeps.one in one_stays (place
-          + 1 + length us) place (rewritten_items cut) gs (subst (λ m. InTurn (place + 1 + length us) m
+          + 1 + length us) place (rewritten_items cut) gs (subst (λ m. Consecutive (place + 1 + length us) m
           (rewritten_items cut)) (on ∙ one) (turn_from font circles (place + 1) (item_len item - 1) us (omega
           arith))) ∙ ap (λ l. l ++ changed_from (place + 1) (rewritten_items cut) gs) (sym (keeps.itself (drop place
           gs))) ∙ ap (λ m. output ++ changed_from m (rewritten_items cut) gs) (sym one) ∙ ap (λ l. output ++ l) rest)
@@ -140,7 +140,7 @@ changed_all font circles place (suc skip) (u ∷ us) gs inside long =
     search (arith, changed_all font circles (place + 1) skip us gs (omega arith) (omega arith))
 
 pub items_at_turn : (font : Font) (circles : Bool) (gs : Glyphs) (place : ℕ) → place ≤ length gs
-    → InTurn (length gs) place (rewritten_items (items_at font circles (characters gs) place))
+    → Consecutive (length gs) place (rewritten_items (items_at font circles (characters gs) place))
 items_at_turn font circles gs place within =
     let us = characters gs in
     search (
@@ -151,11 +151,11 @@ items_at_turn font circles gs place within =
     )
 
 -- each item ends within the text
-turn_within : (n place : ℕ) (cut : List (ℕ × Item)) → InTurn n place cut → place ≤ n
+turn_within : (n place : ℕ) (cut : List (ℕ × Item)) → Consecutive n place cut → place ≤ n
 turn_within n place [] turn = turn
 turn_within n place (p ∷ cut) turn = search (arith, turn_within n (p.0 + item_len p.1) cut turn.1)
 
-pub turn-at : (n place : ℕ) (cut : List (ℕ × Item)) (k : ℕ) (p : ℕ × Item) → k < length cut → InTurn n place cut
+pub turn-at : (n place : ℕ) (cut : List (ℕ × Item)) (k : ℕ) (p : ℕ × Item) → k < length cut → Consecutive n place cut
     → (slice_index_or cut k p).0 + item_len (slice_index_or cut k p).1 ≤ n
 turn-at n place [] k p inside turn = absurd (omega arith)
 turn-at n place (q ∷ cut) zero p inside turn = search (arith, turn_within)

@@ -16,7 +16,7 @@ use Rattle.shapers_base.specs.declared.plan.breaks.BreakFlags.{BreakFlags}
 use Rattle.shapers_hangul.specs.declared.ot_shaper_hangul.item.JoinedTone.TheVariants.{Absent, Before, Behind}
 use Rattle.shapers_hangul.specs.declared.ot_shaper_hangul.item.Unit.{Unit}
 use Rattle.shapers_hangul.specs.declared.ot_shaper_hangul.item.Unit.TheVariants.{ComposedTwo, ComposedThree, JamoThree, PartsBeforeT, Syllable, Other}
-use Rattle.shapers_hangul.specs.Hangul.{is_between, is_l, is_v, is_t, combines_l, combines_v, combines_t, is_s, is_lv, is_tone, with_v, with_t, lead, vowel, trail, has_jamo_of, is_narrow, jamo_two, jamo_three, jamo_parts, syllable_unit, lone_tone, opening_unit, taken, is_syllable, joined_tone, first_item, tone_len, item_len, items_from, items, marked_from, unit_output, with_tone, item_output, outputs, all_joined, glyph_copies, character_copies, preprocessed, rewritten_by, text_rewritten}
+use Rattle.shapers_hangul.specs.Hangul.{is_between, is_l, is_v, is_t, combines_l, combines_v, combines_t, is_s, is_lv, is_tone, with_v, with_t, lead, vowel, trail, has_jamo_of, is_narrow, jamo_two, jamo_three, jamo_parts, syllable_unit, lone_tone, leading_unit, taken, is_syllable, joined_tone, first_item, tone_len, item_len, items_from, items, marked_from, unit_output, with_tone, item_output, outputs, all_joined, glyph_copies, character_copies, preprocessed, rewritten_by, text_rewritten}
 use Rattle.shapers_hangul.specs.HangulLaws.{jamo_of, full, spelled, SpellingLaw, SpellsByUnits, SpellsSame, UnitSpells}
 use Rattle.shapers_hangul.proofs.ItemFlags.{characters-items_flagged}
 use Rattle.shapers_hangul.proofs.Outputs.{characters-outputs, outputs-map}
@@ -204,7 +204,7 @@ rest_spells font circles all place zero (u ∷ us) is =
     spelled-append (item_output character_copies item (drop place all)) (outputs character_copies rest all)
     ∙ ap (λ xs. spelled (item_output character_copies item xs) ++ spelled (outputs character_copies rest all)) is
     ∙ ap (λ xs. xs ++ spelled (outputs character_copies rest all))
-    (tone_spells font (opening_unit font circles (u ∷ us)) (u ∷ us) (search (arith, unit_within)) (either
+    (tone_spells font (leading_unit font circles (u ∷ us)) (u ∷ us) (search (arith, unit_within)) (either
     (SpellsApart (u ∷ us)) (is_tone u) (lone_tone font circles u) (untoned font u (get_or us 0 0) (get_or us 1 0)) (λ
     _. lone_spells font circles u us) (λ _. ap (filter (λ (u : ℕ). not (is_tone u || u == 0x25CC))) (untoned_spells
     font (u ∷ us))))) ∙ ap (λ xs. spelled (take n (u ∷ us)) ++ xs)
@@ -241,7 +241,7 @@ on_spelled (Err e) breaks font old new is = tt
 units_spell : (font : Font) (circles : Bool) (all : List ℕ) (place skip : ℕ) (us : List ℕ) → drop place all ≡ us
     → AllByRecursion (UnitSpells all) (items_from (first_item font circles) place skip us)
 units_spell font circles all place skip [] is = tt
-units_spell font circles all place zero (u ∷ us) is = let unit = opening_unit font circles (u ∷ us) in (
+units_spell font circles all place zero (u ∷ us) is = let unit = leading_unit font circles (u ∷ us) in (
   subst (λ xs. is_tone (get_or xs 0 0) ≡ false → full (unit_output character_copies unit xs)
       ≡ full (take (taken unit) xs)) (sym is) (spells font circles (u ∷ us)).unit,
   units_spell font circles all (place + 1) (item_len (first_item font circles (u ∷ us)) - 1) us

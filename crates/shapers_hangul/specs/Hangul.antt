@@ -192,14 +192,14 @@ unsafe_len font unit tone u v =
     else if is_split font u v then 2
     else 0
 
--- the unit that opens a text, and the item
-abbrev pub opening_unit : Font → Bool → List ℕ → Unit
-opening_unit font circles us =
+-- the unit that begins a text, and the item
+abbrev pub leading_unit : Font → Bool → List ℕ → Unit
+leading_unit font circles us =
     first_unit font circles (get_or us 0 0) (get_or us 1 0) (get_or us 2 0)
 
 abbrev pub first_item : Font → Bool → List ℕ → Item
 first_item font circles us =
-    let opening = opening_unit font circles us in
+    let opening = leading_unit font circles us in
     let tone = joined_tone font opening (get_or us (taken opening) 0) in
     record {
       unit = opening;

@@ -13,7 +13,7 @@ use Rattle.shapers_clusters.specs.FlagLaw.{AllFlagsStay}
 use Rattle.shapers_clusters.specs.Laws.{ClustersMade}
 use Rattle.shapers_hangul.specs.declared.ot_shaper_hangul.item.Item.{Item}
 use Rattle.shapers_hangul.specs.declared.ot_shaper_hangul.item.JoinedTone.TheVariants.{Before}
-use Rattle.shapers_hangul.specs.Hangul.{lead, vowel, trail, is_s, is_lv, is_tone, opening_unit, taken, is_kept, Copying, unit_output, outputs, output_len, items, stretches, all_joined, character_copies, preprocessed, allows_circles}
+use Rattle.shapers_hangul.specs.Hangul.{lead, vowel, trail, is_s, is_lv, is_tone, leading_unit, taken, is_kept, Copying, unit_output, outputs, output_len, items, stretches, all_joined, character_copies, preprocessed, allows_circles}
 
 -- the rule on places: a copy has the place of what it copies
 abbrev pub place_copies : Copying ℕ
@@ -81,8 +81,8 @@ spelled us = filter (λ u. not (is_tone u || u == dotted_circle)) (full us)
 -- A unit that is no tone spells what it takes; the result spells the text, tones and circles apart.
 pub record Spells (font : Font) (circles : Bool) (us : List ℕ) : Type 0 where
   pub unit : is_tone (get_or us 0 0) ≡ false →
-      full (unit_output character_copies (opening_unit font circles us) us)
-      ≡ full (take (taken (opening_unit font circles us)) us)
+      full (unit_output character_copies (leading_unit font circles us) us)
+      ≡ full (take (taken (leading_unit font circles us)) us)
   pub whole : spelled (outputs character_copies (items font circles us) us) ≡ spelled us
 
 abbrev pub SpellingLaw : Type 0

@@ -4,7 +4,7 @@ use Rattle.shapers_base.specs.declared.plan.PlanData.{PlanData}
 use Rattle.shapers_base.specs.declared.plan.PlanData.TheVariants.{Hangul}
 use Rattle.shapers_buffer.specs.Buffer.{Buffer}
 use Rattle.shapers_base.specs.Map.{Map, mask_of}
-use Rattle.shapers_base.specs.Masks.{masks_kept, with_numbered_mask}
+use Rattle.shapers_base.specs.Masks.{masks_stored, with_numbered_mask}
 
 -- the masks that the plan keeps: none for unmarked glyphs, then those of the three kinds of jamo
 abbrev pub jamo_masks : Map → List ℕ
@@ -17,4 +17,4 @@ is_hangul_data _ = false
 
 -- the buffer with the masks in these plan data
 abbrev pub with_jamo_masks : PlanData → Buffer → Buffer
-with_jamo_masks kept b = record b { glyphs = map (with_numbered_mask (masks_kept kept)) b.glyphs }
+with_jamo_masks kept b = record b { glyphs = map (with_numbered_mask (masks_stored kept)) b.glyphs }

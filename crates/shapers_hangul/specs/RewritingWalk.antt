@@ -39,9 +39,9 @@ abbrev pub changes_in : Cut → List (ℕ × Item)
 changes_in cut = if length cut.many.items == 0 then cut.few.items else cut.many.items
 
 -- items that stand one behind the other, from a place on, within n characters
-abbrev pub InTurn : ℕ → ℕ → List (ℕ × Item) → Type 0
-InTurn n place [] = place ≤ n
-InTurn n place (p ∷ cut) = (place ≤ p.0) × InTurn n (p.0 + item_len p.1) cut
+abbrev pub Consecutive : ℕ → ℕ → List (ℕ × Item) → Type 0
+Consecutive n place [] = place ≤ n
+Consecutive n place (p ∷ cut) = (place ≤ p.0) × Consecutive n (p.0 + item_len p.1) cut
 
 -- the text from a place on up to an item, and what the item becomes
 abbrev pub change_output : ℕ → ℕ × Item → Glyphs → Glyphs

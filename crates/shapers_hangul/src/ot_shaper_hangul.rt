@@ -9,7 +9,7 @@ ghost use Rattle.shapers_hangul.specs.Hangul.{rewritten, rewritten_by};
 ghost use Rattle.shapers_hangul.specs.HangulLaws.{AllKept, KeepsClusters, KeepsGlyphFlags, SpellsByUnits, SpellsSame};
 ghost use Rattle.shapers_clusters.specs.FlagLaw.{OnlyFlagsAdded};
 ghost use Rattle.shapers_hangul.specs.Masks.{jamo_masks, is_hangul_data, with_jamo_masks};
-ghost use Rattle.shapers_base.specs.Masks.{masks_kept, with_numbered_mask};
+ghost use Rattle.shapers_base.specs.Masks.{masks_stored, with_numbered_mask};
 ghost use Rattle.shapers_hangul.specs.Requests.{hangul_list, hangul_overrides};
 
 pub use laws::{rewriting_law, spelling_law};
@@ -117,7 +117,7 @@ pub fn preprocess_text_changes<F: hb_font_t>(
 /// Keeps the masks of the features of jamo in the plan. None of them touches a glyph flag bit.
 pub fn create_data(plan: &hb_ot_shape_plan_t) -> PlanData
     ensures masks { result ≡ Hangul (record { mask_array = jamo_masks plan.now.ot_map }) }
-    ensures off_flags { All (λ mask. mask % 8 ≡ 0) (masks_kept result) }
+    ensures off_flags { All (λ mask. mask % 8 ≡ 0) (masks_stored result) }
 {
     PlanData::Hangul(hangul_shape_plan_t {
         mask_array: [

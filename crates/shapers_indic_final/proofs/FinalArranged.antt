@@ -23,7 +23,7 @@ use Rattle.shapers_base.specs.declared.plan.indic.RephPosition.{RephPosition}
 use Rattle.shapers_buffer.specs.declared.buffer.tag.Script.{Script}
 use Rattle.shapers_indic_final.specs.FinalMoveWalk.{matra_placements, pref_goes, reph_goes, with_target}
 use Rattle.shapers_indic_final.specs.FinalPref.{formed_pref, pref_move, pref_step, pref_steps, pref_target}
-use Rattle.shapers_indic_final.specs.FinalReph.{final_reph_step, is_moving_reph, opens_with_reph, reph_steps, reph_target}
+use Rattle.shapers_indic_final.specs.FinalReph.{final_reph_step, is_moving_reph, begins_with_reph, reph_steps, reph_target}
 use Rattle.shapers_indic_final.specs.Proved.FinalMoves.{placed_last_first}
 
 -- the placements, and a further one
@@ -178,8 +178,8 @@ by_test false j k n is = cc
 pub reph_one : (position : RephPosition) (base n j : ℕ) (part : Glyphs) → reph_goes position base part ≡ Some j
     → length part ≡ n → reph_steps position base part ≡ final_reph_step n j ∷ []
 reph_one position base n j part is long =
-    ap (λ n. if opens_with_reph part then final_reph_step n (reph_target position base part) ∷ [] else []) long
-    ∙ by_test (opens_with_reph part) j (reph_target position base part) n is
+    ap (λ n. if begins_with_reph part then final_reph_step n (reph_target position base part) ∷ [] else []) long
+    ∙ by_test (begins_with_reph part) j (reph_target position base part) n is
 
 by_place : (o : Option ℕ) (j k i n : ℕ) → with_target k o ≡ Some (j, i) → pref_step n k o ≡ pref_move n j i ∷ []
 by_place None j k i n is = cc
@@ -229,17 +229,17 @@ pub stay_stepped : (s e : ℕ) (old new : Buffer) (hs : Glyphs) → s ≤ e → 
 stay_stepped s e old new hs h l is =
     stay_buffer s e new h l ∙ ap (λ (x : Buffer). let y : Buffer = record x { places = [] } in y) is
 
--- whether a reph opens a syllable, by its first glyph
-pub opens_by_first : (s e : ℕ) (gs : Glyphs) → s + 2 ≤ e → e ≤ length gs → opens_with_reph (stretch_of s e gs)
+-- whether a reph begins a syllable, by its first glyph
+pub opens_by_first : (s e : ℕ) (gs : Glyphs) → s + 2 ≤ e → e ≤ length gs → begins_with_reph (stretch_of s e gs)
     ≡ is_moving_reph (get_or gs s default_glyph)
 opens_by_first s e gs l m =
-    ap opens_with_reph (first_of s e gs (omega arith) m
+    ap begins_with_reph (first_of s e gs (omega arith) m
     ∙ ap (λ (xs : Glyphs). get_or gs s default_glyph ∷ xs) (first_of (s + 1) e gs (omega arith) m))
 
-few : (gs : Glyphs) → length gs < 2 → opens_with_reph gs ≡ false
+few : (gs : Glyphs) → length gs < 2 → begins_with_reph gs ≡ false
 few [] l = refl
 few (g ∷ []) l = refl
 few (g ∷ (h ∷ gs)) l = absurd (omega arith)
 
-pub opens_none : (s e : ℕ) (gs : Glyphs) → e - s < 2 → e ≤ length gs → opens_with_reph (stretch_of s e gs) ≡ false
+pub opens_none : (s e : ℕ) (gs : Glyphs) → e - s < 2 → e ≤ length gs → begins_with_reph (stretch_of s e gs) ≡ false
 opens_none s e gs l m = few (stretch_of s e gs) (subst (λ n. n < 2) (sym (length-stretch s e gs m)) l)

@@ -6,7 +6,7 @@ use Rattle.shapers_buffer.specs.Glyphs.{Glyph, Glyphs}
 use Rattle.shapers_buffer.specs.Glyph.{default_glyph}
 use Rattle.shapers_indic.proofs.RowWords.{C, H, N, ZWNJ, ZWJ, M, Ra, CM, of, plainly, row_positions, script}
 use Rattle.shapers_indic_final.proofs.FinalWords.{formed_at, marks_at, mask_given, rules, unformed_at}
-use Rattle.shapers_indic_final.specs.FinalBase.{first_base, links_from, settled_base, with_final_base}
+use Rattle.shapers_indic_final.specs.FinalBase.{first_base, links_from, found_base, with_final_base}
 use Rattle.shapers_indic_final.specs.FinalGlyphs.{is_formed, recovered}
 use Rattle.shapers_indic_final.specs.FinalWalk.{changes_syllable}
 use Rattle.shapers_indic_final.specs.declared.ot_shaper_indic_final.rules.Rules.{Rules}
@@ -128,18 +128,18 @@ back : map deva (of ((C, 3) ∷ (C, 5) ∷ []) ∷ of ((C, 3) ∷ (C, 4) ∷ [])
 back = refl
 
 -- from the end over a ZWJ; over nuktas and halants, not past the start; a ligature stays
-from_end : map (settled_base 2) (plainly (C ∷ ZWJ ∷ []) ∷ plainly (C ∷ ZWNJ ∷ []) ∷ plainly (C ∷ H ∷ [])
+from_end : map (found_base 2) (plainly (C ∷ ZWJ ∷ []) ∷ plainly (C ∷ ZWNJ ∷ []) ∷ plainly (C ∷ H ∷ [])
     ∷ marks_at 1 0x20 (plainly (C ∷ ZWJ ∷ [])) ∷ plainly (H ∷ ZWJ ∷ []) ∷ []) ≡ 1 ∷ 2 ∷ 2 ∷ 2 ∷ 1 ∷ []
 from_end = refl
 
-over_nuktas : map (settled_base 2) (plainly (C ∷ C ∷ H ∷ C ∷ []) ∷ plainly (C ∷ C ∷ N ∷ C ∷ [])
+over_nuktas : map (found_base 2) (plainly (C ∷ C ∷ H ∷ C ∷ []) ∷ plainly (C ∷ C ∷ N ∷ C ∷ [])
     ∷ plainly (C ∷ H ∷ N ∷ C ∷ []) ∷ plainly (H ∷ N ∷ H ∷ C ∷ []) ∷ plainly (C ∷ C ∷ C ∷ H ∷ [])
     ∷ marks_at 2 0x20 (plainly (C ∷ C ∷ H ∷ C ∷ [])) ∷ marks_at 1 0x20 (plainly (C ∷ H ∷ N ∷ C ∷ [])) ∷ [])
     ≡ 1 ∷ 1 ∷ 0 ∷ 0 ∷ 2 ∷ 2 ∷ 1 ∷ []
 over_nuktas = refl
 
-of_few : settled_base 0 [] ∷ settled_base 0 (plainly (H ∷ [])) ∷ settled_base 1 (plainly (ZWJ ∷ []))
-    ∷ settled_base 1 (plainly (H ∷ [])) ∷ [] ≡ 0 ∷ 0 ∷ 0 ∷ 1 ∷ []
+of_few : found_base 0 [] ∷ found_base 0 (plainly (H ∷ [])) ∷ found_base 1 (plainly (ZWJ ∷ []))
+    ∷ found_base 1 (plainly (H ∷ [])) ∷ [] ≡ 0 ∷ 0 ∷ 0 ∷ 1 ∷ []
 of_few = refl
 
 none : deva [] ≡ (0, [], true)

@@ -33,7 +33,7 @@ use Rattle.shapers_clusters.specs.Labels.{MergedStay}
 use Rattle.shapers_indic_final.specs.FinalClusters.{EachSyllableCuts, FinalCutsLaw, FinalMergesLaw}
 use Rattle.shapers_clusters.proofs.SparedCuts.{exact_spared}
 use Rattle.shapers_indic_final.specs.FinalGlyphs.{last_goes_first}
-use Rattle.shapers_indic_final.specs.FinalMatras.{end_of_base, has_room, is_left, matra_steps, matra_target, matras_go, merging_step}
+use Rattle.shapers_indic_final.specs.FinalMatras.{end_of_base, has_room, is_left, matra_steps, matra_target, takes_matras, merging_step}
 use Rattle.shapers_indic_final.specs.Proved.FinalMoves.{permutes_last_first, picks_first_last, picks_last_first}
 use Rattle.shapers_indic_final.specs.Proved.LeftMatraMoves.{lefts, lefts_no, lefts_yes, steps_of}
 use Rattle.shapers_clusters.specs.Steps.{SpareMerged, Spares}
@@ -41,11 +41,11 @@ use Rattle.shapers_clusters.proofs.StaysMerged.{merged_stay, spare_moves, spare_
 use Rattle.shapers_indic_final.specs.FinalBase.{with_viramas}
 use Rattle.shapers_indic_final.specs.FinalPref.{formed_pref, pref_move, pref_step, pref_target}
 use Rattle.shapers_indic_final.specs.FinalReordering.{after_matras, after_reph, based, final_steps, steps_of_pref}
-use Rattle.shapers_indic_final.specs.FinalReph.{opens_with_reph, final_reph_step, reph_steps, reph_target}
+use Rattle.shapers_indic_final.specs.FinalReph.{begins_with_reph, final_reph_step, reph_steps, reph_target}
 use Rattle.shapers_indic_final.specs.declared.ot_shaper_indic_final.rules.Rules.{Rules}
 use Rattle.shapers_indic_final.specs.Proved.FinalHidden.{base_within, hidden-based, hidden-viramas}
 use Rattle.shapers_indic_final.specs.Proved.FinalLawsAt.{length_at, stretch_at}
-use Rattle.shapers_indic_final.specs.Proved.FinalTargets.{formed_pref_within, opens_some, pref_target_within, reph_target_within}
+use Rattle.shapers_indic_final.specs.Proved.FinalTargets.{formed_pref_within, begins_some, pref_target_within, reph_target_within}
 use Rattle.shapers_indic_final.specs.Proved.FinalLaws.{final_laws, matras_at, merging_at, reph_at, target_within}
 use Rattle.shapers_indic.proofs.PlaceSearch.{PlaceWithin}
 use Rattle.shapers_clusters.proofs.Permuted.{permuted-first_last}
@@ -149,7 +149,7 @@ spare_matras script base gs l =
     let ends : e ≤ length gs = omega arith in
     let low = target_within script base gs in
     elim (cases_Bool (has_room base gs)) [
-      | inl room ↦ rw room (elim (cases_Bool (matras_go p gs)) [
+      | inl room ↦ rw room (elim (cases_Bool (takes_matras p gs)) [
         | inl go ↦ rw go (
             spare_lefts gs (length gs) e p p 0 (omega arith)
             (let some_base : 0 < base = grind arith in omega arith) ends (omega arith))
@@ -196,9 +196,9 @@ spare_final r script gs =
     spare_then n ms (rs ++ ps)
     (subst (λ k. SpareMerged k ms) bn (spare_matras script b.base b.glyphs low)) (all-append (MovesMerged n) rs ps
     (subst (λ k. AllByRecursion (MovesMerged k) rs) pn (
-    let j = reph_target r.reph_pos p.base p.glyphs in elim (cases_Bool (opens_with_reph p.glyphs)) [
+    let j = reph_target r.reph_pos p.base p.glyphs in elim (cases_Bool (begins_with_reph p.glyphs)) [
       | inl on ↦ rw on
-          (let high : j < length p.glyphs = reph_target_within r.reph_pos p.base p.glyphs (opens_some p.glyphs on) in
+          (let high : j < length p.glyphs = reph_target_within r.reph_pos p.base p.glyphs (begins_some p.glyphs on) in
           let ends : j + 1 ≤ length p.glyphs = omega arith in
           let at = stretch_at first_last first_last picks_first_last permuted-first_last 0 (j + 1) (final_reph_step (length
           p.glyphs) j) p.glyphs (omega arith) ends refl (ends, tt) tt in (

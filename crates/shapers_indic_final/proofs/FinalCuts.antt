@@ -35,7 +35,7 @@ use Rattle.shapers_syllabic.specs.Syllabic.{unsafe_spans}
 use Rattle.shapers_syllabic.proofs.Borders.{SameEnds, border-view, border_by, ends-kept, syllables-mapped, syllables_cut}
 use Rattle.shapers_syllabic.proofs.CircleLaws.{joined-syllables, no_new_cluster}
 use Rattle.shapers_syllabic.proofs.HiddenCuts.{pauses_cut_between_spans, map-twice}
-use Rattle.shapers_syllabic.proofs.PauseCuts.{clusters-set_up}
+use Rattle.shapers_syllabic.proofs.PauseCuts.{clusters-setup}
 use Rattle.shapers_syllabic.proofs.ReorderingCuts.{border-circled, circled-append, text_order-append, text_order-halves}
 use Rattle.shapers_syllabic.proofs.ReorderingLaws.{each_piece, nothing_lost, sum-syllables, text_steps-long}
 use Rattle.shapers_syllabic.proofs.ReorderingWalk.{pieces_of}
@@ -229,9 +229,9 @@ final_cuts_between_spans r meaning steps circles spans old mid new laws reads ki
           let meet : MeetAtBorder G K = met G K (subst (λ zs. MeetAtBorder zs (order_view K)) (sym gv)
           (subst (MeetAtBorder (P F)) (sym kv) border)) in
           let xf : clusters xs ≡ clusters gs = sym (clusters-same F xs one)
-          ∙ clusters-set_up ss BROKEN_CLUSTER (record old { glyphs = gs }) in
+          ∙ clusters-setup ss BROKEN_CLUSTER (record old { glyphs = gs }) in
           let yh : clusters ys ≡ clusters hs = sym (clusters-same (unsafe_spans ts hs) ys two)
-          ∙ clusters-set_up ts BROKEN_CLUSTER (record old { glyphs = hs }) in
+          ∙ clusters-setup ts BROKEN_CLUSTER (record old { glyphs = hs }) in
           let ga : All (Contains (clusters gs)) (clusters G) =
           subst (λ cs. All (Contains cs) (clusters G)) xf (no_new_cluster circles xs G
           (subst (All (Contains (clusters (circled circles xs)))) (sym gc) one_facts.among)) in

@@ -5,7 +5,7 @@ use Rattle.std.proofs.lemmas.List.{get_or-append_right, get_or-drop, get_or-map,
 use Rattle.shapers_buffer.specs.Glyphs.{Glyph, Glyphs}
 use Rattle.shapers_buffer.specs.Glyph.{default_glyph}
 use Rattle.shapers_clusters.specs.Flags.{FlagsFall}
-use Rattle.shapers_indic_final.specs.FinalLaws.{BreaksNowhere, at_opening}
+use Rattle.shapers_indic_final.specs.FinalLaws.{BreaksNowhere, at_syllable_start}
 use Rattle.shapers_indic_final.specs.FinalWordStart.{bound_at, bound_from, is_bound, last_or}
 use Rattle.shapers_indic_final.proofs.FinalWordStartViews.{map-bound}
 use Rattle.shapers_syllabic.specs.Reordering.{carried}
@@ -17,14 +17,14 @@ bound_elsewhere s false gs i l none = refl
 bound_elsewhere s true gs i l none = search (arith, get_or_append_left, length-take, get_or-take, get_or-append_right, length-map, length-drop, get_or-drop)
 
 pub bound_from_elsewhere : (s : ℕ) (before : Option Glyph) (syls : List Glyphs)
-    (gs : Glyphs) (i : ℕ) → i < length gs → at_opening s before syls i ≡ false
+    (gs : Glyphs) (i : ℕ) → i < length gs → at_syllable_start s before syls i ≡ false
     → get_or (bound_from s before syls gs) i default_glyph ≡ get_or gs i default_glyph
 bound_from_elsewhere s before [] gs i l none = refl
 bound_from_elsewhere s before (syl ∷ syls) gs i l none =
     let b = is_bound before syl in
     let next = last_or before syl in
     let t = s + length syl in
-    let parts = or_parts (b && (i == s || i + 1 == s)) (at_opening t next syls i) none in
+    let parts = or_parts (b && (i == s || i + 1 == s)) (at_syllable_start t next syls i) none in
     bound_from_elsewhere t next syls (bound_at s b gs) i
     (search (
       arith,

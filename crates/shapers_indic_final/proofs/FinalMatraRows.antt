@@ -3,7 +3,7 @@ use Prim.Native.String.{String}
 use Rattle.std.specs.Prelude.{◌≡◌, ℕ, List, [], ◌∷◌, map, refl}
 use Rattle.shapers_buffer.specs.declared.buffer.level.BufferClusterLevel.TheVariants.{MonotoneGraphemes}
 use Rattle.shapers_buffer.specs.Glyph.{clusters}
-use Rattle.shapers_clusters.specs.Steps.{run_steps}
+use Rattle.shapers_clusters.specs.Steps.{after_steps}
 use Rattle.shapers_indic.proofs.RowWords.{C, H, ZWNJ, ZWJ, M, MPst, N, of, numbers_of, script}
 use Rattle.shapers_indic_final.proofs.FinalWords.{marks_at}
 use Rattle.shapers_indic_final.specs.FinalMatras.{matra_steps, matra_target, with_matras}
@@ -11,7 +11,7 @@ use Rattle.shapers_indic_final.specs.FinalMatras.{matra_steps, matra_target, wit
 -- order and clusters of a syllable with this base once its left matras are at their place
 abbrev at_place : String → ℕ → List (ℕ × ℕ) → List (List ℕ)
 at_place tag base ts = numbers_of (with_matras (script tag) base (of ts))
-    ∷ clusters (run_steps MonotoneGraphemes (matra_steps (script tag) base (of ts)) (of ts)) ∷ []
+    ∷ clusters (after_steps MonotoneGraphemes (matra_steps (script tag) base (of ts)) (of ts)) ∷ []
 
 -- behind the nearest halant before the base, in front of a ZWNJ
 behind_halant : at_place "Deva" 3 ((M, 2) ∷ (C, 3) ∷ (H, 3) ∷ (C, 4) ∷ (M, 9) ∷ [])

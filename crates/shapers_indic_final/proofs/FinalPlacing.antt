@@ -11,7 +11,7 @@ use Rattle.shapers_buffer.specs.Buffer.{Buffer}
 use Rattle.shapers_buffer.specs.Clusters.{merge, stretch_of, with_stretch}
 use Rattle.shapers_buffer.specs.Glyph.{order_view, plain}
 use Rattle.shapers_buffer.proofs.ClusterLemmas.{length-stretch, three_parts}
-use Rattle.shapers_clusters.specs.Steps.{Step, run_step, run_steps, widened}
+use Rattle.shapers_clusters.specs.Steps.{Step, after_step, after_steps, widened}
 use Rattle.shapers_clusters.proofs.Merging.{length-merge, order_view-merge}
 use Rattle.shapers_clusters.proofs.Picks.{pick-all, within_range}
 use Rattle.shapers_clusters.proofs.Widened.{pick-widened}
@@ -35,7 +35,7 @@ length-moved_back s e gs l =
     )
 
 pub length-pref : (level : BufferClusterLevel) (s e j i : ℕ) (gs : Glyphs) → j ≤ i → s + i < e
-    → e ≤ length gs → length (run_step level (widened s e (length gs) (pref_move (e - s) j i)) gs) ≡ length gs
+    → e ≤ length gs → length (after_step level (widened s e (length gs) (pref_move (e - s) j i)) gs) ≡ length gs
 length-pref level s e j i gs h l m = cc (
   pref_stepped level s e j i gs h l m,
   length-moved_back (s + j) (s + i + 1) (merge level (s + j) (s + i + 1) gs) (omega arith),
@@ -43,7 +43,7 @@ length-pref level s e j i gs h l m = cc (
 )
 
 pub length-matra : (level : BufferClusterLevel) (s e b i j : ℕ) (gs : Glyphs) → i ≤ j → s + j < e → s + b ≤ e
-    → e ≤ length gs → length (run_step level (widened s e (length gs) (matra_step (e - s) b i j)) gs) ≡ length gs
+    → e ≤ length gs → length (after_step level (widened s e (length gs) (matra_step (e - s) b i j)) gs) ≡ length gs
 length-matra level s e b i j gs h l w m =
     let n = length-moved (s + i) (s + j + 1) gs (omega arith) in
     cc (
@@ -57,7 +57,7 @@ left_seen gs q d = cc (get_or-map plain gs q d)
 
 pub left_read : (level : BufferClusterLevel) (s e b i j : ℕ) (gs : Glyphs) (d : Glyph) → i ≤ j
     → s + j < e → e ≤ length gs → (q : ℕ) → q < s + i
-    → is_left (get_or (run_step level (widened s e (length gs) (matra_step (e - s) b i j)) gs) q d)
+    → is_left (get_or (after_step level (widened s e (length gs) (matra_step (e - s) b i j)) gs) q d)
     ≡ is_left (get_or gs q d)
 left_read level s e b i j gs d h l m q k =
     let moved = with_stretch (s + i) (s + j + 1) first_last gs in
@@ -90,7 +90,7 @@ lefts_no i p gs l fails = cc (places_first i p l)
 
 -- the step of left matras that stay
 pub stayed : (level : BufferClusterLevel) (s e b i : ℕ) (gs : Glyphs) → s ≤ e → s + b ≤ e → e ≤ length gs
-    → merge level (s + i) (s + b) gs ≡ run_steps level (map (widened s e (length gs)) (merging_step (e - s) b (Some i)))
+    → merge level (s + i) (s + b) gs ≡ after_steps level (map (widened s e (length gs)) (merging_step (e - s) b (Some i)))
     gs
 stayed level s e b i gs h v w =
     let ms = merge level (s + i) (s + b) gs in
@@ -106,11 +106,11 @@ stayed level s e b i gs h v w =
 -- a single step on a buffer
 pub one_step : (old new : Buffer) (s e : ℕ) (steps : List Step) (step : Step) → steps ≡ step ∷ []
     → new ≡ record old {
-      glyphs = run_step old.level (widened s e (length old.glyphs) step) old.glyphs;
+      glyphs = after_step old.level (widened s e (length old.glyphs) step) old.glyphs;
       places = new.places;
     } → new
     ≡ record old {
-      glyphs = run_steps old.level (map (widened s e (length old.glyphs)) steps) old.glyphs;
+      glyphs = after_steps old.level (map (widened s e (length old.glyphs)) steps) old.glyphs;
       places = new.places;
     }
 one_step old new s e steps step only after = cc
@@ -120,7 +120,7 @@ pub stayed_in : (old new : Buffer) (s e base b i : ℕ) → s ≤ e → s + b �
     → b ≡ end_of_base base (stretch_of s e old.glyphs) → least_place (passes is_left (stretch_of s e old.glyphs)) 0 base
     ≡ Some i → new ≡ record old { glyphs = merge old.level (s + i) (s + b) old.glyphs }
     → new ≡ record old {
-      glyphs = run_steps old.level
+      glyphs = after_steps old.level
           (map (widened s e (length old.glyphs)) (staying_steps base (stretch_of s e old.glyphs))) old.glyphs;
       places = new.places;
     }

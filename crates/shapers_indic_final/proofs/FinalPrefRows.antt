@@ -4,7 +4,7 @@ use Rattle.std.specs.Prelude.{◌≡◌, ℕ, List, [], ◌∷◌, map, None, So
 use Rattle.shapers_buffer.specs.Glyphs.{Glyphs}
 use Rattle.shapers_buffer.specs.declared.buffer.level.BufferClusterLevel.TheVariants.{MonotoneGraphemes}
 use Rattle.shapers_buffer.specs.Glyph.{clusters}
-use Rattle.shapers_clusters.specs.Steps.{run_steps}
+use Rattle.shapers_clusters.specs.Steps.{after_steps}
 use Rattle.shapers_indic.proofs.RowWords.{C, H, ZWNJ, ZWJ, M, MPst, Ra, of, numbers_of, script}
 use Rattle.shapers_indic_final.proofs.FinalWords.{formed_at, marks_at, mask_given, unformed_at}
 use Rattle.shapers_indic_final.specs.FinalPref.{formed_pref, pref_steps, pref_target, with_pref}
@@ -52,7 +52,7 @@ ligatures = refl
 -- order and clusters
 abbrev moved : String → ℕ → Glyphs → List (List ℕ)
 moved tag base gs = numbers_of (with_pref 16 (script tag) base gs)
-    ∷ clusters (run_steps MonotoneGraphemes (pref_steps 16 (script tag) base gs) gs) ∷ []
+    ∷ clusters (after_steps MonotoneGraphemes (pref_steps 16 (script tag) base gs) gs) ∷ []
 
 abbrev behind_base : Glyphs
 behind_base = of ((C, 3) ∷ (H, 3) ∷ (C, 3) ∷ (C, 4) ∷ (C, 8) ∷ (Ra, 11) ∷ (M, 12) ∷ [])

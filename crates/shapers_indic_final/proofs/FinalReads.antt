@@ -20,13 +20,13 @@ use Rattle.shapers_base.specs.declared.plan.ot_category_t.TheConstants.{OT_ZWJ}
 use Rattle.shapers_base.specs.declared.plan.ot_position_t.TheConstants.{POS_BASE_C, POS_SMVD}
 use Rattle.shapers_clusters.specs.Steps.{Step}
 use Rattle.shapers_indic.specs.Glyphs.{greatest_place, has_category, has_position, is_joiner, is_matra, least_place, passes}
-use Rattle.shapers_indic_final.specs.FinalBase.{Based, along_links, as_linked, base_by_links, base_by_pref, before_halants, behind_halants, first_base, if_unformed, links_from, links_written, pref_place, settled_base, stepped_back, unformed_pref, with_final_base, with_base_at, with_links, with_pref_base, with_viramas}
+use Rattle.shapers_indic_final.specs.FinalBase.{Based, along_links, as_linked, base_by_links, base_by_pref, before_halants, behind_halants, first_base, if_unformed, links_from, links_written, pref_place, found_base, stepped_back, unformed_pref, with_final_base, with_base_at, with_links, with_pref_base, with_viramas}
 use Rattle.shapers_indic_final.specs.FinalGlyphs.{is_indic_halant, is_matra_or_halant, last_goes_first, recovered}
 use Rattle.shapers_base.specs.Masks.{has_bits}
-use Rattle.shapers_indic_final.specs.FinalMatras.{end_of_base, has_room, is_free_halant, is_left, matra_steps, matra_target, matras_go, nearest_halant, parted, parting_steps, staying_steps, steps_before, with_matras}
+use Rattle.shapers_indic_final.specs.FinalMatras.{end_of_base, has_room, is_free_halant, is_left, matra_steps, matra_target, takes_matras, nearest_halant, partitioned, partition_steps, staying_steps, steps_before, with_matras}
 use Rattle.shapers_indic_final.specs.FinalPref.{formed_pref, if_formed, moved_before, place_before_base, pref_step, pref_steps, pref_target, with_pref}
 use Rattle.shapers_indic_final.specs.FinalReordering.{after_matras, after_reph, based, final_order, final_steps, steps_of_based, steps_of_pref}
-use Rattle.shapers_indic_final.specs.FinalReph.{at_end, base_after_reph, behind_base, end_of_run, last_but_signs, opens_with_reph, reph_steps, reph_target, with_joiner, with_reph}
+use Rattle.shapers_indic_final.specs.FinalReph.{at_end, base_after_reph, behind_base, end_of_rephs, last_but_signs, begins_with_reph, reph_steps, reph_target, with_joiner, with_reph}
 use Rattle.shapers_indic_final.specs.declared.ot_shaper_indic_final.rules.Rules.{Rules}
 use Rattle.shapers_syllabic.proofs.Views.{View, seen_by, shown}
 use Rattle.shapers_clusters.proofs.EqualArguments.{same_two, same_three}
@@ -161,7 +161,7 @@ back_stays = search passes_at
 pub halants_stay : (v : View) (base : ℕ) (gs : Glyphs) → before_halants base (seen_by v gs) ≡ before_halants base gs
 halants_stay = search (length_stays, passes_stays)
 
-pub settled_stays : (v : View) (base : ℕ) (gs : Glyphs) → settled_base base (seen_by v gs) ≡ settled_base base gs
+pub settled_stays : (v : View) (base : ℕ) (gs : Glyphs) → found_base base (seen_by v gs) ≡ found_base base gs
 settled_stays = search (arith, length_stays, passes_at)
 
 abbrev pub base_seen : View → Based → Based
@@ -175,7 +175,7 @@ based_from r script first gs =
     let k = base_by_pref r.pref first gs in
     let opened = with_pref_base r.pref first gs in
     let linked = with_links script k opened in
-    made_of linked (settled_base (stepped_back (base_by_links script k opened) linked) linked)
+    made_of linked (found_base (stepped_back (base_by_links script k opened) linked) linked)
     (not (r.pref == 0) && not (is_some (unformed_pref r.pref first gs)))
 
 pub based_from_stays : (v : View) (r : Rules) → KeepsMask v r.pref
@@ -207,23 +207,23 @@ target_stays = search (length_stays, nearest_stays)
 pub room_stays : (v : View) (base : ℕ) (gs : Glyphs) → has_room base (seen_by v gs) ≡ has_room base gs
 room_stays v base gs = cc (length_stays v gs)
 
-pub go_stays : (v : View) (p : ℕ) (gs : Glyphs) → matras_go p (seen_by v gs) ≡ matras_go p gs
+pub go_stays : (v : View) (p : ℕ) (gs : Glyphs) → takes_matras p (seen_by v gs) ≡ takes_matras p gs
 go_stays = search passes_at
 
 pub with_matras_stays : (v : View) (script : Option Script) (base : ℕ) (gs : Glyphs)
     → seen_by v (with_matras script base gs) ≡ with_matras script base (seen_by v gs)
 with_matras_stays v script base gs =
     let p = matra_target script base gs in
-    (elim (has_room base gs && matras_go p gs) as (λ b. seen_by v (if b then with_stretch 0 (p + 1) (parted is_left)
-    gs else gs) ≡ (if b then with_stretch 0 (p + 1) (parted is_left) (seen_by v gs) else seen_by v gs)) [
+    (elim (has_room base gs && takes_matras p gs) as (λ b. seen_by v (if b then with_stretch 0 (p + 1) (partitioned is_left)
+    gs else gs) ≡ (if b then with_stretch 0 (p + 1) (partitioned is_left) (seen_by v gs) else seen_by v gs)) [
       | true ↦
-          stretch_stays v (parted is_left) (search (map-append, filter_stays)) 0 (p + 1) gs
+          stretch_stays v (partitioned is_left) (search (map-append, filter_stays)) 0 (p + 1) gs
       | false ↦ refl
     ]) ∙ same_two
-    (λ (q : ℕ) (b : Bool). if b then with_stretch 0 (q + 1) (parted is_left) (seen_by v gs) else seen_by v gs)
+    (λ (q : ℕ) (b : Bool). if b then with_stretch 0 (q + 1) (partitioned is_left) (seen_by v gs) else seen_by v gs)
     (sym (target_stays v script base gs)) (search (room_stays, target_stays, go_stays))
 
-pub parting_stays : (v : View) (p e : ℕ) (gs : Glyphs) → parting_steps p e (seen_by v gs) ≡ parting_steps p e gs
+pub parting_stays : (v : View) (p e : ℕ) (gs : Glyphs) → partition_steps p e (seen_by v gs) ≡ partition_steps p e gs
 parting_stays = search (length_stays, passes_stays)
 
 pub staying_stays : (v : View) (base : ℕ) (gs : Glyphs) → staying_steps base (seen_by v gs) ≡ staying_steps base gs
@@ -239,12 +239,12 @@ matra_steps_stay v script base gs =
     cc (
       target_stays v script base gs,
       same_three (λ (b : Bool) (ps ss : List Step). if b then ps else ss) (go_stays v p gs)
-          (ap (λ e. parting_steps p e us) ends ∙ parting_stays v p (end_of_base base gs) gs) (staying_stays v base gs),
+          (ap (λ e. partition_steps p e us) ends ∙ parting_stays v p (end_of_base base gs) gs) (staying_stays v base gs),
     ) in
     search (arith, room_stays)
 
 -- the reph
-pub opens_stays : (v : View) (gs : Glyphs) → opens_with_reph (seen_by v gs) ≡ opens_with_reph gs
+pub opens_stays : (v : View) (gs : Glyphs) → begins_with_reph (seen_by v gs) ≡ begins_with_reph gs
 opens_stays v [] = refl
 opens_stays v (g ∷ []) = refl
 opens_stays v (g ∷ (h ∷ gs)) = refl
@@ -265,8 +265,8 @@ pub at_end_stays : (v : View) (base : ℕ) (gs : Glyphs) → at_end base (seen_b
 at_end_stays = search (arith, last_stays, passes_at, stretch_read, count_stays)
 
 pub run_or_end_stays : (v : View) (test : Glyph → Bool) → ReadsShown v test → (base : ℕ) (gs : Glyphs)
-    → (if nat_lt base (length (seen_by v gs)) then end_of_run test base (seen_by v gs) else at_end base (seen_by v gs))
-    ≡ (if nat_lt base (length gs) then end_of_run test base gs else at_end base gs)
+    → (if nat_lt base (length (seen_by v gs)) then end_of_rephs test base (seen_by v gs) else at_end base (seen_by v gs))
+    ≡ (if nat_lt base (length gs) then end_of_rephs test base gs else at_end base gs)
 run_or_end_stays = search (arith, length_stays, drop-map, prefix_stays, at_end_stays)
 
 pub behind_base_stays : (v : View) (position : RephPosition) (base : ℕ) (gs : Glyphs)

@@ -5,17 +5,17 @@ use Rattle.shapers_buffer.specs.declared.buffer.level.BufferClusterLevel.TheVari
 use Rattle.shapers_buffer.specs.Glyph.{clusters}
 use Rattle.shapers_base.specs.declared.plan.indic.RephPosition.{RephPosition}
 use Rattle.shapers_base.specs.declared.plan.indic.RephPosition.TheVariants.{AfterMain, BeforeSub, AfterSub, BeforePost, AfterPost}
-use Rattle.shapers_clusters.specs.Steps.{run_steps}
+use Rattle.shapers_clusters.specs.Steps.{after_steps}
 use Rattle.shapers_indic.proofs.RowWords.{C, H, ZWNJ, ZWJ, M, MPst, SM, Repha, Ra, of, numbers_of}
 use Rattle.shapers_indic_final.proofs.FinalWords.{marks_at}
-use Rattle.shapers_indic_final.specs.FinalReph.{base_after_reph, opens_with_reph, reph_steps, reph_target, with_reph}
+use Rattle.shapers_indic_final.specs.FinalReph.{base_after_reph, begins_with_reph, reph_steps, reph_target, with_reph}
 
 -- a formed reph and then these glyphs
 abbrev behind_reph : List (ℕ × ℕ) → Glyphs
 behind_reph ts = marks_at 0 0x20 (of ((Ra, 1) ∷ ts))
 
 -- which rephs move: one formed, or a character of its own that is not; in a syllable of two or more, of its position
-moving : map opens_with_reph (behind_reph ((C, 4) ∷ []) ∷ of ((Ra, 1) ∷ (C, 4) ∷ []) ∷ of ((Repha, 1) ∷ (C, 4) ∷ [])
+moving : map begins_with_reph (behind_reph ((C, 4) ∷ []) ∷ of ((Ra, 1) ∷ (C, 4) ∷ []) ∷ of ((Repha, 1) ∷ (C, 4) ∷ [])
     ∷ marks_at 0 0x20 (of ((Repha, 1) ∷ (C, 4) ∷ [])) ∷ marks_at 0 0x60 (of ((Ra, 1) ∷ (C, 4) ∷ []))
     ∷ marks_at 0 0x60 (of ((Repha, 1) ∷ (C, 4) ∷ [])) ∷ behind_reph [] ∷ of ((Repha, 1) ∷ []) ∷ []
     ∷ marks_at 0 0x20 (of ((Ra, 2) ∷ (C, 4) ∷ [])) ∷ marks_at 0 0x20 (of ((Ra, 0) ∷ (C, 4) ∷ [])) ∷ [])
@@ -77,7 +77,7 @@ before_matras = refl
 -- order, clusters, and the base: one that is crossed is carried along, one in front stays
 abbrev moved : RephPosition → ℕ → Glyphs → List (List ℕ)
 moved position base gs =
-    numbers_of (with_reph position base gs) ∷ clusters (run_steps MonotoneGraphemes (reph_steps position base gs) gs)
+    numbers_of (with_reph position base gs) ∷ clusters (after_steps MonotoneGraphemes (reph_steps position base gs) gs)
     ∷ (base_after_reph position base gs ∷ []) ∷ []
 
 moves : moved BeforePost 1 (behind_reph ((C, 4) ∷ (M, 9) ∷ []))

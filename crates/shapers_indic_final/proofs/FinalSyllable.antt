@@ -10,7 +10,7 @@ use Rattle.shapers_buffer.specs.Buffer.{Buffer, but_places}
 use Rattle.shapers_buffer.specs.Clusters.{stretch_of, with_stretch}
 use Rattle.shapers_buffer.specs.Glyph.{order_view, plain}
 use Rattle.shapers_buffer.proofs.ClusterLemmas.{length-stretch, map-stretch}
-use Rattle.shapers_clusters.specs.Steps.{Step, run_steps, widened}
+use Rattle.shapers_clusters.specs.Steps.{Step, after_steps, widened}
 use Rattle.shapers_clusters.proofs.ViewedSteps.{length-same}
 use Rattle.shapers_clusters.proofs.Widened.{order_view-widened}
 use Rattle.shapers_indic_final.specs.FinalBase.{Based, with_final_base, with_viramas}
@@ -19,7 +19,7 @@ use Rattle.shapers_indic_final.specs.FinalMatras.{matra_steps, with_matras}
 use Rattle.shapers_indic_final.specs.FinalPref.{pref_steps, with_pref}
 use Rattle.shapers_indic_final.specs.FinalReordering.{based, final_order, final_steps}
 use Rattle.shapers_indic_final.specs.FinalReph.{base_after_reph, reph_steps, with_reph}
-use Rattle.shapers_indic_final.specs.FinalWalk.{settled}
+use Rattle.shapers_indic_final.specs.FinalWalk.{with_base_found}
 use Rattle.shapers_indic_final.specs.declared.ot_shaper_indic_final.rules.Rules.{Rules}
 use Rattle.shapers_indic_final.specs.Proved.FinalHidden.{base_within, hidden-based, hidden-viramas}
 use Rattle.shapers_indic_final.specs.Proved.FinalLaws.{matras_at, pref_at, reph_at}
@@ -40,7 +40,7 @@ pub part_by_steps : (meaning : Glyphs → Glyphs) (steps : Glyphs
     (steps (stretch_of s e (order_view old.glyphs))) → steps (order_view (stretch_of s e old.glyphs))
     ≡ steps (stretch_of s e old.glyphs)
     → new ≡ record old {
-      glyphs = run_steps old.level (map (widened s e (length old.glyphs)) (steps (stretch_of s e old.glyphs)))
+      glyphs = after_steps old.level (map (widened s e (length old.glyphs)) (steps (stretch_of s e old.glyphs)))
           old.glyphs;
       places = new.places;
     } → SyllableReordered meaning steps s e old new
@@ -89,18 +89,18 @@ recovered-stretch r s e gs h l =
 pub settled_part : (r : Rules) (script : Option Script) (s e : ℕ) (b0 b1 b2 : Buffer)
     → ((gs : Glyphs) → Viewed r script gs) → s ≤ e → e ≤ length b0.glyphs
     → b1 ≡ record b0 { glyphs = with_stretch s e (map (recovered r.virama)) b0.glyphs }
-    → b2 ≡ record b1 { glyphs = with_stretch s e (settled r script) b1.glyphs }
+    → b2 ≡ record b1 { glyphs = with_stretch s e (with_base_found r script) b1.glyphs }
     → SyllableReordered (λ gs. (based r script gs).glyphs) (λ _. []) s e b0 b2
 settled_part r script s e b0 b1 b2 viewed h l one two =
     let g1 : b1.glyphs ≡ with_stretch s e (map (recovered r.virama)) b0.glyphs = cc in
-    let g2 : b2.glyphs ≡ with_stretch s e (settled r script) b1.glyphs = cc in
+    let g2 : b2.glyphs ≡ with_stretch s e (with_base_found r script) b1.glyphs = cc in
     let k1 : but_places b1 ≡ record (but_places b0) { glyphs = b1.glyphs } = cc in
     let k2 : but_places b2 ≡ record (but_places b1) { glyphs = b2.glyphs } = cc in
     let n0 : length (with_viramas r
     (stretch_of s e (order_view b0.glyphs))) ≡ e - s = search (length-map, length-view) in
-    syllable_then (with_viramas r) (settled r script) (λ _. []) (λ _. []) s e b0 b1 b2 h l n0
+    syllable_then (with_viramas r) (with_base_found r script) (λ _. []) (λ _. []) s e b0 b1 b2 h l n0
     (search (syllable_mapped, recovered-carried, recovered-plain))
-    (syllable_changed (settled r script) (settled r script) s e b1 b2 h k2 g2
+    (syllable_changed (with_base_found r script) (with_base_found r script) s e b1 b2 h k2 g2
     (hidden-based r script (stretch_of s e b1.glyphs)) (sym (viewed (stretch_of s e b1.glyphs)).glyphs))
 
 -- What the parts behind it make of a syllable with its base, by where the base stands before and
@@ -127,18 +127,18 @@ pub record Calls (r : Rules) (script : Option Script) (s e base next : ℕ) (tri
   pub in_order : s ≤ e
   pub in_range : e ≤ length b0.glyphs
   pub viramas : b1 ≡ record b0 { glyphs = with_stretch s e (map (recovered r.virama)) b0.glyphs }
-  pub based_are : b2 ≡ record b1 { glyphs = with_stretch s e (settled r script) b1.glyphs }
+  pub based_are : b2 ≡ record b1 { glyphs = with_stretch s e (with_base_found r script) b1.glyphs }
   pub base_is : base ≡ (with_final_base r script (stretch_of s e b1.glyphs)).base
   pub tries_is : tries ≡ (with_final_base r script (stretch_of s e b1.glyphs)).tries_pref
   pub matras : b3
       ≡ record b2 {
-        glyphs = run_steps b2.level
+        glyphs = after_steps b2.level
             (map (widened s e (length b2.glyphs)) (matra_steps script base (stretch_of s e b2.glyphs))) b2.glyphs;
         places = b3.places;
       }
   pub reph : b4
       ≡ record b3 {
-        glyphs = run_steps b3.level
+        glyphs = after_steps b3.level
             (map (widened s e (length b3.glyphs)) (reph_steps r.reph_pos base (stretch_of s e b3.glyphs))) b3.glyphs;
         places = b4.places;
       }
@@ -152,7 +152,7 @@ pub record LastPart (r : Rules) (script : Option Script) (s e next : ℕ) (tries
 pub last_tried : (r : Rules) (script : Option Script) (s e next : ℕ) (tries : Bool) (b4 b5 : Buffer)
     → ((gs : Glyphs) → Viewed r script gs) → s ≤ e → tries ≡ true
     → b5 ≡ record b4 {
-      glyphs = run_steps b4.level
+      glyphs = after_steps b4.level
           (map (widened s e (length b4.glyphs)) (pref_steps r.pref script next (stretch_of s e b4.glyphs))) b4.glyphs;
       places = b5.places;
     } → LastPart r script s e next tries b4 b5
@@ -238,13 +238,13 @@ final_syllable r script s e base next tries b0 b1 b2 b3 b4 b5 viewed c last =
 pub last_part : (r : Rules) (script : Option Script) (s e next : ℕ) (tries : Bool) (b4 b5 : Buffer)
     → ((gs : Glyphs) → Viewed r script gs) → s ≤ e
     → b5 ≡ record b4 {
-      glyphs = run_steps b4.level
+      glyphs = after_steps b4.level
           (map (widened s e (length b4.glyphs)) (tried_steps r script tries next (stretch_of s e b4.glyphs))) b4.glyphs;
     } → LastPart r script s e next tries b4 b5
 last_part r script s e next true b4 b5 viewed h is =
     last_tried r script s e next true b4 b5 viewed h refl
     (is ∙ ap (λ ps. let y : Buffer = record b4 {
-      glyphs = run_steps b4.level (map (widened s e (length b4.glyphs))
+      glyphs = after_steps b4.level (map (widened s e (length b4.glyphs))
           (pref_steps r.pref script next (stretch_of s e b4.glyphs))) b4.glyphs;
       places = ps;
     } in y) (sym (ap (λ (b : Buffer). b.places) is)))

@@ -16,8 +16,8 @@ use Rattle.shapers_buffer.specs.GlyphFlags.{with_bits}
 use Rattle.shapers_buffer.specs.Syllables.{syllables}
 use Rattle.shapers_buffer.proofs.MaskBits.{or_twice}
 use Rattle.shapers_clusters.specs.Flags.{FlagsFall, seen}
-use Rattle.shapers_clusters.specs.Steps.{FitSteps, FitsStep, Step, run_steps}
-use Rattle.shapers_clusters.proofs.Moves.{clusters-run_steps}
+use Rattle.shapers_clusters.specs.Steps.{FitSteps, FitsStep, Step, after_steps}
+use Rattle.shapers_clusters.proofs.Moves.{clusters-after_steps}
 use Rattle.shapers_clusters.proofs.Proved.{along_holds}
 use Rattle.shapers_clusters.proofs.Views.{seen-same}
 use Rattle.shapers_indic_final.specs.FinalLaws.{FinallyOfHalves, SameButFirstBits, final_clusters, final_text_behind, final_text_steps, with_first_bits}
@@ -169,12 +169,12 @@ halves r script level all new gs hs order in_clusters is border =
       alone = search but_first;
       in_clusters = λ none.
           cc (
-            clusters-run_steps level (final_text_steps r script both) both,
+            clusters-after_steps level (final_text_steps r script both) both,
             steps-halves (final_order r script) (final_steps r script) level gs hs (final_laws r script) border none,
-            map-append (λ g. g.cluster) (run_steps level (final_text_steps r script gs) gs)
-                (run_steps level (final_text_steps r script hs) hs),
-            clusters-run_steps level (final_text_steps r script gs) gs,
-            clusters-run_steps level (final_text_steps r script hs) hs,
+            map-append (λ g. g.cluster) (after_steps level (final_text_steps r script gs) gs)
+                (after_steps level (final_text_steps r script hs) hs),
+            clusters-after_steps level (final_text_steps r script gs) gs,
+            clusters-after_steps level (final_text_steps r script hs) hs,
           );
     }
 

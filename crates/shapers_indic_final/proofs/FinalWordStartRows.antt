@@ -6,10 +6,10 @@ use Rattle.shapers_buffer.specs.Glyphs.{Glyph, Glyphs}
 use Rattle.shapers_buffer.specs.declared.buffer.level.BufferClusterLevel.TheVariants.{MonotoneGraphemes}
 use Rattle.shapers_buffer.specs.Glyph.{clusters, default_glyph}
 use Rattle.shapers_buffer.specs.Properties.{general_category, properties}
-use Rattle.shapers_clusters.specs.Steps.{run_steps}
+use Rattle.shapers_clusters.specs.Steps.{after_steps}
 use Rattle.shapers_indic.proofs.RowWords.{C, M, row_masks, numbers_of, script}
 use Rattle.shapers_indic_final.proofs.FinalWords.{rules}
-use Rattle.shapers_indic_final.specs.FinalLaws.{at_opening, SameButFirstBits, with_first_bits}
+use Rattle.shapers_indic_final.specs.FinalLaws.{at_syllable_start, SameButFirstBits, with_first_bits}
 use Rattle.shapers_indic_final.specs.FinalWordStart.{bound_from, continues_word, final_syllables, final_text, is_bound, last_or, starts_syllable, with_init}
 use Rattle.shapers_indic_final.specs.FinalReordering.{final_steps}
 use Rattle.shapers_syllabic.specs.Reordering.{text_steps}
@@ -76,12 +76,12 @@ lasts = refl
 -- a text: order, masks, clusters and glyph flags after
 abbrev after : Glyphs → List (List ℕ)
 after gs =
-    let run = run_steps MonotoneGraphemes (text_steps (final_steps (rules "Deva") (script "Deva")) gs) gs in
+    let run = after_steps MonotoneGraphemes (text_steps (final_steps (rules "Deva") (script "Deva")) gs) gs in
     let bound = bound_from 0 None (final_syllables (rules "Deva") (script "Deva") gs) run in
     numbers_of (final_text (rules "Deva") (script "Deva") gs) ∷ row_masks (final_text (rules "Deva") (script "Deva") gs)
     ∷ clusters bound ∷ numbers_of bound ∷ map (λ g. g.mask % 8) bound ∷ []
 
--- two syllables M C each behind a letter or a sign: the first opens the text; the second is bound
+-- two syllables M C each behind a letter or a sign: the first begins the text; the second is bound
 -- to a letter, and its own glyph is of a later cluster
 abbrev pair : ℕ → ℕ → Glyphs
 pair i byte = one i byte Mc M 2 ∷ one (i + 1) byte Lo C 4 ∷ []
@@ -120,7 +120,7 @@ breaks : map (λ g. g.mask % 8) (bound_from 1 (Some (one 0 0 Lo 0 0)) ((one 1 16
 unfolding general_category
 breaks = refl
 
-openings : map (at_opening 1 (Some (one 0 0 Lo 0 0)) ((one 1 16 Mc M 2 ∷ []) ∷ (one 2 32 Zs C 4 ∷ [])
+openings : map (at_syllable_start 1 (Some (one 0 0 Lo 0 0)) ((one 1 16 Mc M 2 ∷ []) ∷ (one 2 32 Zs C 4 ∷ [])
     ∷ (one 3 48 Mc M 2 ∷ []) ∷ [])) (0 ∷ 1 ∷ 2 ∷ 3 ∷ 4 ∷ []) ≡ true ∷ true ∷ false ∷ false ∷ false ∷ []
 unfolding general_category
 openings = refl

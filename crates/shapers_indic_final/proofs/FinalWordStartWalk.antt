@@ -12,7 +12,7 @@ use Rattle.shapers_buffer.specs.Glyphs.{Glyph, Glyphs}
 use Rattle.shapers_buffer.specs.Buffer.{Buffer}
 use Rattle.shapers_buffer.specs.Glyph.{default_glyph, order_view, plain}
 use Rattle.shapers_buffer.specs.Syllables.{first_syllable_len, has_byte, syllables}
-use Rattle.shapers_indic_final.specs.FinalWordStart.{WordsOpened, before_place, bound_at, bound_from, is_bound, last_or, opened, starts_syllable, with_init, with_inits}
+use Rattle.shapers_indic_final.specs.FinalWordStart.{WordsStarted, before_place, bound_at, bound_from, is_bound, last_or, opened, starts_syllable, with_init, with_inits}
 use Rattle.shapers_indic_final.proofs.FinalText.{last_or-append}
 use Rattle.shapers_indic_final.proofs.FinalWordStartViews.{bound-long, bound-plain, bound-view, bound-word, carried-bound, carried-bound_from, general, general-view, map-opened, init-long, init-plain, init-word, length-init, same_word}
 use Rattle.shapers_syllabic.specs.Reordering.{carried}
@@ -195,14 +195,14 @@ opening_starts bits old now new i off l here opens_it at =
     }
 
 -- at the end all are open
-pub all_opened : (bits : ℕ) (old now : Buffer) → ToOpen bits old now (length now.glyphs) → WordsOpened bits old now
+pub all_opened : (bits : ℕ) (old now : Buffer) → ToOpen bits old now (length now.glyphs) → WordsStarted bits old now
 all_opened = search (arith, append-nil, take_all, length-map, drop_all)
 
 pub as_long : (bits : ℕ) (old now : Buffer) (i : ℕ) → Opening bits old now i → length now.glyphs ≡ length old.glyphs
 as_long = search (arith, length-map)
 
 pub opened_whole : (bits : ℕ) (old now : Buffer) (i : ℕ) → length old.glyphs ≤ i → Opening bits old now i
-    → WordsOpened bits old now
+    → WordsStarted bits old now
 opened_whole bits old now i past at =
     let long = as_long bits old now i at in
     let is : at.border ≡ length now.glyphs = omega arith in

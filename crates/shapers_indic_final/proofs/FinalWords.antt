@@ -4,7 +4,7 @@ use Rattle.std.specs.Prelude.{ℕ, zero, suc, List, [], ◌∷◌, Some}
 use Rattle.shapers_buffer.specs.Glyphs.{Glyph, Glyphs}
 use Rattle.shapers_buffer.specs.declared.buffer.level.BufferClusterLevel.TheVariants.{MonotoneGraphemes}
 use Rattle.shapers_buffer.specs.Glyph.{clusters}
-use Rattle.shapers_clusters.specs.Steps.{run_steps}
+use Rattle.shapers_clusters.specs.Steps.{after_steps}
 use Rattle.shapers_indic.specs.Plan.{config_of}
 use Rattle.shapers_indic.proofs.RowWords.{numbers_of, row_positions, script}
 use Rattle.shapers_indic_final.specs.FinalReordering.{final_order, final_steps}
@@ -43,5 +43,5 @@ rules tag = record {
 abbrev pub reordered : String → Glyphs → List (List ℕ)
 reordered tag gs =
     numbers_of (final_order (rules tag) (script tag) gs)
-    ∷ clusters (run_steps MonotoneGraphemes (final_steps (rules tag) (script tag) gs) gs)
+    ∷ clusters (after_steps MonotoneGraphemes (final_steps (rules tag) (script tag) gs) gs)
     ∷ row_positions (final_order (rules tag) (script tag) gs) ∷ []

@@ -7,36 +7,36 @@ use Rattle.shapers_buffer.specs.Glyphs.{Glyph, Glyphs}
 use Rattle.shapers_buffer.specs.declared.buffer.level.BufferClusterLevel.{BufferClusterLevel}
 use Rattle.shapers_buffer.specs.Glyph.{clusters, default_glyph}
 use Rattle.shapers_buffer.specs.Clusters.{in_cluster, merges}
-use Rattle.shapers_buffer.specs.ClusterRuns.{none_below}
+use Rattle.shapers_buffer.specs.ClusterRanges.{none_below}
 use Rattle.shapers_buffer.proofs.ClusterLemmas.{length-stretch}
 use Rattle.shapers_indic.specs.Glyphs.{passes}
 use Rattle.shapers_indic_final.specs.FinalMatras.{is_left}
-use Rattle.shapers_indic_final.specs.LeftMatraWalk.{gone, has_gone, has_stayed, put, staying}
+use Rattle.shapers_indic_final.specs.LeftMatraWalk.{gone, has_gone, has_stayed, merge_stretch, staying}
 use Rattle.shapers_buffer.proofs.RunLemmas.{put_twice}
 use Rattle.shapers_indic_final.proofs.LeftMatraFloods.{cluster_read}
 use Rattle.shapers_indic_final.proofs.LeftMatraPlaces.{chosen, chosen-all, chosen-none, chosen-one, chosen-same, chosen-split, gone_before, gone_elsewhere, gone_here, one_before}
 
 -- glyphs put into a cluster
 pub put_on : (level : BufferClusterLevel) (m : ℕ) (gs : Glyphs) → merges level ≡ true
-    → put level m gs ≡ map (in_cluster m) gs
+    → merge_stretch level m gs ≡ map (in_cluster m) gs
 put_on level m gs on = cc
 
-pub put_off : (level : BufferClusterLevel) (m : ℕ) (gs : Glyphs) → merges level ≡ false → put level m gs ≡ gs
+pub put_off : (level : BufferClusterLevel) (m : ℕ) (gs : Glyphs) → merges level ≡ false → merge_stretch level m gs ≡ gs
 put_off level m gs off = cc
 
-pub put-append : (level : BufferClusterLevel) (m : ℕ) (xs ys : Glyphs)
-    → put level m (xs ++ ys) ≡ put level m xs ++ put level m ys
-put-append = search (arith, map-append)
+pub merge_stretch-append : (level : BufferClusterLevel) (m : ℕ) (xs ys : Glyphs)
+    → merge_stretch level m (xs ++ ys) ≡ merge_stretch level m xs ++ merge_stretch level m ys
+merge_stretch-append = search (arith, map-append)
 
-pub length-put : (level : BufferClusterLevel) (m : ℕ) (gs : Glyphs) → length (put level m gs) ≡ length gs
-length-put = search (arith, length-map)
+pub length-merge_stretch : (level : BufferClusterLevel) (m : ℕ) (gs : Glyphs) → length (merge_stretch level m gs) ≡ length gs
+length-merge_stretch = search (arith, length-map)
 
 abbrev pub put_one : BufferClusterLevel → ℕ → Glyph → Glyph
 put_one level m g = if merges level then in_cluster m g else g
 
-put-cons : (level : BufferClusterLevel) (m : ℕ) (g : Glyph) (gs : Glyphs)
-    → put level m (g ∷ gs) ≡ put_one level m g ∷ put level m gs
-put-cons = search arith
+merge_stretch-cons : (level : BufferClusterLevel) (m : ℕ) (g : Glyph) (gs : Glyphs)
+    → merge_stretch level m (g ∷ gs) ≡ put_one level m g ∷ merge_stretch level m gs
+merge_stretch-cons = search arith
 
 cluster_put : (m : ℕ) (g : Glyph) → (in_cluster m g).cluster ≡ m
 cluster_put = grind arith
@@ -77,8 +77,8 @@ pub record Split (level : BufferClusterLevel) (k top p q c : ℕ) (gs : Glyphs) 
   pub front : Glyphs
   pub back : Glyphs
   pub y : Glyph
-  pub before : staying (k + 1) top gs 0 q ++ put level c (staying (k + 1) top gs q p) ≡ front ++ (y ∷ back)
-  pub after : staying k top gs 0 q ++ put level c (staying k top gs q p) ≡ front ++ back
+  pub before : staying (k + 1) top gs 0 q ++ merge_stretch level c (staying (k + 1) top gs q p) ≡ front ++ (y ∷ back)
+  pub after : staying k top gs 0 q ++ merge_stretch level c (staying k top gs q p) ≡ front ++ back
   pub long : length front ≡ k
   pub own : merges level ≡ true → y.cluster ≡ (if nat_lt k q then slice_index (clusters gs) k else c)
   pub same : merges level ≡ true → (m : ℕ) → m ≤ y.cluster → in_cluster m y ≡ in_cluster m (get_or gs k default_glyph)
@@ -112,7 +112,7 @@ split level k top p q c gs h l w within left none =
       | inl less ↦
           record {
             front = staying k top gs 0 k;
-            back = staying k top gs (k + 1) q ++ put level c (staying k top gs q p);
+            back = staying k top gs (k + 1) q ++ merge_stretch level c (staying k top gs q p);
             y = g;
             before = search (arith, append_assoc);
             after = search (arith, append_assoc);
@@ -131,26 +131,26 @@ split level k top p q c gs h l w within left none =
           let high : merges level ≡ true → c ≤ g.cluster = search (arith, leb-true, and_parts) in
           let is : merges level ≡ true → put_one level c g ≡ in_cluster c g = search arith in
           record {
-            front = staying k top gs 0 q ++ put level c (staying k top gs q k);
-            back = put level c (staying k top gs (k + 1) p);
+            front = staying k top gs 0 q ++ merge_stretch level c (staying k top gs q k);
+            back = merge_stretch level c (staying k top gs (k + 1) p);
             y = put_one level c g;
             before = cc (
               same 0 q (λ j x z e. absurd (omega arith)),
               old q p (omega arith) (omega arith),
-              put-append level c A (g ∷ B),
-              put-cons level c g B,
-              append_assoc (staying k top gs 0 q) (put level c A) (put_one level c g ∷ put level c B),
+              merge_stretch-append level c A (g ∷ B),
+              merge_stretch-cons level c g B,
+              append_assoc (staying k top gs 0 q) (merge_stretch level c A) (put_one level c g ∷ merge_stretch level c B),
             );
             after = cc (
               new q p (omega arith) (omega arith),
-              put-append level c A B,
-              append_assoc (staying k top gs 0 q) (put level c A) (put level c B),
+              merge_stretch-append level c A B,
+              append_assoc (staying k top gs 0 q) (merge_stretch level c A) (merge_stretch level c B),
             );
-            long = length-append (staying k top gs 0 q) (put level c A)
+            long = length-append (staying k top gs 0 q) (merge_stretch level c A)
                 ∙ omega (
                   arith,
                   many 0 q (omega arith) (omega arith),
-                  length-put level c A,
+                  length-merge_stretch level c A,
                   many q k (omega arith) (omega arith),
                 );
             own = search (arith, cluster_put);

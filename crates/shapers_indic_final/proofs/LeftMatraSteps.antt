@@ -9,26 +9,26 @@ use Rattle.shapers_buffer.specs.declared.buffer.level.BufferClusterLevel.{Buffer
 use Rattle.shapers_buffer.specs.Lists.{first_last}
 use Rattle.shapers_buffer.specs.Glyph.{default_glyph}
 use Rattle.shapers_buffer.specs.Clusters.{flooded, has_cluster, in_cluster, merge, merged, merges, stretch_of, with_stretch}
-use Rattle.shapers_buffer.specs.ClusterRuns.{none_below}
+use Rattle.shapers_buffer.specs.ClusterRanges.{none_below}
 use Rattle.shapers_buffer.proofs.ClusterLemmas.{flooded-parts, length-stretch}
 use Rattle.shapers_buffer.proofs.OneCluster.{all_in_cluster, stretch_in_two}
 use Rattle.shapers_indic.specs.Glyphs.{passes}
-use Rattle.shapers_indic_final.specs.declared.ot_shaper_indic_final.left_matras.Runs.{Runs}
+use Rattle.shapers_indic_final.specs.declared.ot_shaper_indic_final.left_matras.MergedRanges.{MergedRanges}
 use Rattle.shapers_indic_final.specs.FinalMatras.{is_left}
-use Rattle.shapers_indic_final.specs.LeftMatraWalk.{Merged, Reaches, as_parted, gone, has_gone, has_stayed, put, staying}
+use Rattle.shapers_indic_final.specs.LeftMatraWalk.{Merged, Reaches, as_partitioned, gone, has_gone, has_stayed, merge_stretch, staying}
 use Rattle.shapers_indic_final.specs.Proved.LeftMatraMoves.{stretch_between}
 use Rattle.shapers_buffer.proofs.RunLemmas.{ended_all, first_run_passes, none_lower, none_of_cluster, puts_twice}
 use Rattle.shapers_indic_final.proofs.LeftMatraFloods.{back_none, flooded_all, merged_before}
 use Rattle.shapers_indic_final.proofs.LeftMatraPlaces.{chosen-one, chosen-split}
-use Rattle.shapers_indic_final.proofs.LeftMatraSplit.{both_long, gone_more, length-put, put_off, put_on, split}
+use Rattle.shapers_indic_final.proofs.LeftMatraSplit.{both_long, gone_more, length-merge_stretch, put_off, put_on, split}
 
 -- where the runs lie, and that none of their glyphs has a cluster below theirs
-pub record Lies (p b : ℕ) (runs : Runs) (gs : Glyphs) : Type 0 where
+pub record Lies (p b : ℕ) (runs : MergedRanges) (gs : Glyphs) : Type 0 where
   pub start : runs.start < p
   pub from : b ≤ runs.end
   pub end : runs.end ≤ length gs
 
-pub record Fits (i top p : ℕ) (runs : Runs) (gs : Glyphs) : Type 0 where
+pub record Fits (i top p : ℕ) (runs : MergedRanges) (gs : Glyphs) : Type 0 where
   pub before : none_below runs.before (staying i top gs runs.start p) ≡ true
   pub least : none_below runs.cluster (gone i top gs 0 p ++ stretch_of p runs.end gs) ≡ true
 
@@ -49,19 +49,19 @@ stays_some i top p q gs h l w =
 
 -- how many glyphs stand before the matras
 pub length-front : (level : BufferClusterLevel) (i top p q c : ℕ) (gs : Glyphs) → q ≤ p → p ≤ length gs
-    → length (staying i top gs 0 q ++ put level c (staying i top gs q p)) + length (gone i top gs 0 p) ≡ p
+    → length (staying i top gs 0 q ++ merge_stretch level c (staying i top gs q p)) + length (gone i top gs 0 p) ≡ p
 length-front level i top p q c gs h w = search (
   arith,
-  length-append (staying i top gs 0 q) (put level c (staying i top gs q p)),
-  length-put level c (staying i top gs q p),
+  length-append (staying i top gs 0 q) (merge_stretch level c (staying i top gs q p)),
+  length-merge_stretch level c (staying i top gs q p),
   chosen-split (has_stayed i top gs) gs 0 q p (omega arith) h,
   length-append (staying i top gs 0 q) (staying i top gs q p),
   both_long (has_gone i top gs) gs p w,
 )
 
-pub length-parted : (level : BufferClusterLevel) (i top p b : ℕ) (runs : Runs) (gs : Glyphs) → p ≤ b
-    → Lies p b runs gs → length (as_parted level i top p runs gs) ≡ length gs
-length-parted = search (arith, length-front, length-append, length-put, length-stretch, length-drop)
+pub length-partitioned : (level : BufferClusterLevel) (i top p b : ℕ) (runs : MergedRanges) (gs : Glyphs) → p ≤ b
+    → Lies p b runs gs → length (as_partitioned level i top p runs gs) ≡ length gs
+length-partitioned = search (arith, length-front, length-append, length-merge_stretch, length-stretch, length-drop)
 
 -- the matra goes behind what stood between
 rotated : (k at : ℕ) (front back c : Glyphs) (y : Glyph) → length front ≡ k → at ≡ k + length back
@@ -78,23 +78,23 @@ merge_on : (level : BufferClusterLevel) (at b : ℕ) (gs : Glyphs) → merges le
 merge_on = search arith
 
 -- at a level that doesn't merge, the runs mean nothing
-pub parted_off : (level : BufferClusterLevel) (i top p b : ℕ) (runs : Runs) (gs : Glyphs) → p ≤ b
-    → Lies p b runs gs → merges level ≡ false → as_parted level i top p runs gs ≡ staying i top gs 0 p
+pub parted_off : (level : BufferClusterLevel) (i top p b : ℕ) (runs : MergedRanges) (gs : Glyphs) → p ≤ b
+    → Lies p b runs gs → merges level ≡ false → as_partitioned level i top p runs gs ≡ staying i top gs 0 p
     ++ (gone i top gs 0 p ++ drop p gs)
 parted_off level i top p b runs gs h lies off = search (arith, chosen-split (has_stayed i top gs) gs 0 runs.start p (omega arith) (omega arith), append_assoc (gone i top gs 0 p) (stretch_of p runs.end gs) (drop runs.end gs), drop-drop (runs.end - p) p gs, take-append-drop (runs.end - p) (drop p gs))
 
 -- What the merge makes of what stands before the matra.
 pub record Fronted (level : BufferClusterLevel) (k top p m : ℕ) (y : Glyph) (front : Glyphs)
-    (new : Runs) (gs : Glyphs) : Type 0 where
+    (new : MergedRanges) (gs : Glyphs) : Type 0 where
   pub is : reverse (flooded y.cluster m (reverse front)) ≡ staying k top gs 0 new.start
-      ++ put level new.before (staying k top gs new.start p)
+      ++ merge_stretch level new.before (staying k top gs new.start p)
   pub none : none_below new.before (staying k top gs new.start p) ≡ true
 
-fronted_floods : (level : BufferClusterLevel) (k top p m : ℕ) (y : Glyph) (old new : Runs)
+fronted_floods : (level : BufferClusterLevel) (k top p m : ℕ) (y : Glyph) (old new : MergedRanges)
     (gs : Glyphs) → merges level ≡ true → old.start ≤ p → y.cluster ≡ old.before → m ≤ old.before
     → Reaches k top old.before old.start new.start gs → new.before ≡ m
     → none_below old.before (staying k top gs old.start p) ≡ true
-    → Fronted level k top p m y (staying k top gs 0 old.start ++ put level old.before (staying k top gs old.start p))
+    → Fronted level k top p m y (staying k top gs 0 old.start ++ merge_stretch level old.before (staying k top gs old.start p))
     new gs
 fronted_floods level k top p m y old new gs on within own low r to kept =
     let c = old.before in
@@ -123,11 +123,11 @@ behind_is level p b e n m l y g go gs h to low same none is =
     search (arith, flooded_all m l (map (in_cluster m) B) (drop e gs) (all_in_cluster m B), flooded-parts m l (drop e gs), puts_twice l m A low parts.0, puts_twice l m B low parts.1, append_assoc (f B) (f D) E, append_assoc (in_cluster l g ∷ f A) (f B ++ f D) E, map-append (in_cluster l) B D, map-append (in_cluster l) A (B ++ D), stretch_in_two p e (e + n) gs (omega arith) (omega arith), append_assoc go (stretch_of p e gs) D, append_assoc A B D, drop-drop n e gs)
 
 -- One more: the matra at place k goes to `at`, and merges up to b.
-pub one_more : (level : BufferClusterLevel) (k top p b at : ℕ) (old new : Runs) (gs : Glyphs) → k < top
+pub one_more : (level : BufferClusterLevel) (k top p b at : ℕ) (old new : MergedRanges) (gs : Glyphs) → k < top
     → top < p → p < b → Lies p b old gs → passes is_left gs k ≡ true → Merged k top old new gs
     → at + 1 + length (gone (k + 1) top gs 0 p) ≡ p → (merges level ≡ true → Fits (k + 1) top p old gs)
-    → Lies p b new gs → (merge level at b (with_stretch k (at + 1) first_last (as_parted level (k + 1) top p old gs))
-    ≡ as_parted level k top p new gs) × (merges level ≡ true → Fits k top p new gs)
+    → Lies p b new gs → (merge level at b (with_stretch k (at + 1) first_last (as_partitioned level (k + 1) top p old gs))
+    ≡ as_partitioned level k top p new gs) × (merges level ≡ true → Fits k top p new gs)
 one_more level k top p b at old new gs h behind before lies left r count fits lies_new =
     let q = old.start in
     let c = old.before in
@@ -146,14 +146,14 @@ one_more level k top p b at old new gs h behind before lies left r count fits li
       length-front level (k + 1) top p q c gs (omega arith) (omega arith),
       count,
     ) in
-    let C = put level m Z ++ drop e gs in
+    let C = merge_stretch level m Z ++ drop e gs in
     let moved = ap (λ xs. with_stretch k (at + 1) first_last (xs ++ C)) sp.before
     ∙ rotated k at sp.front sp.back C sp.y sp.long to in
     elim (cases_Bool (merges level)) [
       | inr off ↦
-          let same : with_stretch k (at + 1) first_last (as_parted level (k + 1) top p old gs)
-          ≡ as_parted level k top p old gs = moved ∙ ap (λ xs. xs ++ (sp.y ∷ C)) (sym sp.after)
-          ∙ ap (λ xs. (staying k top gs 0 q ++ put level c (staying k top gs q p)) ++ xs)
+          let same : with_stretch k (at + 1) first_last (as_partitioned level (k + 1) top p old gs)
+          ≡ as_partitioned level k top p old gs = moved ∙ ap (λ xs. xs ++ (sp.y ∷ C)) (sym sp.after)
+          ∙ ap (λ xs. (staying k top gs 0 q ++ merge_stretch level c (staying k top gs q p)) ++ xs)
           (ap (λ x. x ∷ C) (sp.plain off) ∙ ap (λ xs. g ∷ (xs ++ drop e gs)) (put_off level m Z off)
           ∙ sym (ap (λ xs. xs ++ drop e gs) (put_off level m (gone k top gs 0 p ++ stretch_of p e gs) off
           ∙ ap (λ xs. xs ++ stretch_of p e gs) more))) in (
@@ -170,7 +170,7 @@ one_more level k top p b at old new gs h behind before lies left r count fits li
           let B = stretch_of b e gs in
           let zs = map (in_cluster m) (G ++ stretch_of p b gs) in
           let behind_zs = map (in_cluster m) B ++ drop e gs in
-          let c_is : put level m Z ++ drop e gs ≡ zs ++ behind_zs = ap (λ xs. xs ++ drop e gs) (put_on level m Z on
+          let c_is : merge_stretch level m Z ++ drop e gs ≡ zs ++ behind_zs = ap (λ xs. xs ++ drop e gs) (put_on level m Z on
           ∙ ap (λ xs. map (in_cluster m) (G ++ xs)) (stretch_in_two p b e gs (omega arith) f0)
           ∙ ap (map (in_cluster m)) (sym (append_assoc G (stretch_of p b gs) B)) ∙ map-append (in_cluster m) A B)
           ∙ append_assoc zs (map (in_cluster m) B) (drop e gs) in
@@ -180,7 +180,7 @@ one_more level k top p b at old new gs h behind before lies left r count fits li
           (length-append sp.front sp.back ∙ omega (arith, sp.long, to))
           (omega (arith, count)) (omega arith) (all_in_cluster m A) in
           let fr : Fronted level k top p (min sp.y.cluster m) sp.y
-          (staying k top gs 0 old.start ++ put level old.before (staying k top gs old.start p)) new gs =
+          (staying k top gs 0 old.start ++ merge_stretch level old.before (staying k top gs old.start p)) new gs =
           elim (cases_eq sp.y.cluster c) [
             | inl same ↦
                 let fl2 = r.floods (sym own ∙ same) in
@@ -207,7 +207,7 @@ one_more level k top p b at old new gs h behind before lies left r count fits li
           let bh = behind_is level p b e n m l sp.y g G gs (omega arith) f0 (omega arith) (sp.same on l (omega arith))
           ft.least refl in
           let whole : map (in_cluster l) ((g ∷ G) ++ stretch_of p (e + n) gs) ++ drop (e + n) gs
-          ≡ put level new.cluster (gone k top gs 0 p ++ stretch_of p new.end gs) ++ drop new.end gs =
+          ≡ merge_stretch level new.cluster (gone k top gs 0 p ++ stretch_of p new.end gs) ++ drop new.end gs =
           ap (λ k2. map (in_cluster l) ((g ∷ G) ++ stretch_of p k2 gs) ++ drop k2 gs) (sym r.end)
           ∙ ap (λ xs. map (in_cluster l) (xs ++ stretch_of p new.end gs) ++ drop new.end gs) (sym more)
           ∙ ap (λ xs. xs ++ drop new.end gs)
@@ -217,9 +217,9 @@ one_more level k top p b at old new gs h behind before lies left r count fits li
                 ∙ merge_on level at b ((sp.front ++ sp.back) ++ (sp.y ∷ (zs ++ behind_zs))) on (omega arith) ∙ merged_it
                 ∙ ap (λ xs. (reverse (flooded sp.y.cluster l (reverse (sp.front ++ sp.back)))) ++ xs) (bh ∙ whole)
                 ∙ ap
-                (λ xs. reverse (flooded sp.y.cluster l (reverse xs)) ++ (put level new.cluster (gone k top gs 0 p ++
+                (λ xs. reverse (flooded sp.y.cluster l (reverse xs)) ++ (merge_stretch level new.cluster (gone k top gs 0 p ++
                 stretch_of p new.end gs) ++ drop new.end gs)) (sym sp.after) ∙ ap
-                (λ xs. xs ++ (put level new.cluster (gone k top gs 0 p ++ stretch_of p new.end gs) ++ drop new.end gs))
+                (λ xs. xs ++ (merge_stretch level new.cluster (gone k top gs 0 p ++ stretch_of p new.end gs) ++ drop new.end gs))
                 fr.is,
             λ on2. record {
               before = fr.none;
@@ -242,6 +242,6 @@ one_more level k top p b at old new gs h behind before lies left r count fits li
           )
     ]
 
-pub lies_on : (k top p b : ℕ) (old new : Runs) (gs : Glyphs) → Merged k top old new gs
+pub lies_on : (k top p b : ℕ) (old new : MergedRanges) (gs : Glyphs) → Merged k top old new gs
     → new.end ≤ length gs → Lies p b old gs → Lies p b new gs
 lies_on = search arith

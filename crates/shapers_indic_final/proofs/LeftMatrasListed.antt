@@ -18,11 +18,11 @@ use Rattle.shapers_buffer.proofs.ClusterLemmas.{length-stretch}
 use Rattle.shapers_buffer.proofs.Listing.{lists, with_listed-append}
 use Rattle.shapers_clusters.proofs.Picks.{pick-append}
 use Rattle.shapers_indic.specs.Glyphs.{places}
-use Rattle.shapers_indic_final.specs.declared.ot_shaper_indic_final.left_matras.Runs.{Runs}
-use Rattle.shapers_indic_final.specs.LeftMatraWalk.{as_parted, gone, has_gone, has_stayed, put, staying}
+use Rattle.shapers_indic_final.specs.declared.ot_shaper_indic_final.left_matras.MergedRanges.{MergedRanges}
+use Rattle.shapers_indic_final.specs.LeftMatraWalk.{as_partitioned, gone, has_gone, has_stayed, merge_stretch, staying}
 use Rattle.shapers_indic_final.specs.Proved.LeftMatraMoves.{stretch_between}
 use Rattle.shapers_indic_final.proofs.LeftMatraPlaces.{chosen, chosen-all, chosen-none, chosen-split, gone_before}
-use Rattle.shapers_indic_final.proofs.LeftMatraSplit.{both_long, length-put}
+use Rattle.shapers_indic_final.proofs.LeftMatraSplit.{both_long, length-merge_stretch}
 
 -- both lists have each place once
 pub parted_once : (s top e : ℕ) (gs : Glyphs)
@@ -83,12 +83,12 @@ pub length-chosen : (t : ℕ → Bool) (gs : Glyphs) (a b : ℕ) → a ≤ b →
 length-chosen = search (arith, length_pick)
 
 -- the clusters of the two runs written
-pub parted_written : (level : BufferClusterLevel) (s top p b at len : ℕ) (runs : Runs) (gs : Glyphs)
+pub parted_written : (level : BufferClusterLevel) (s top p b at len : ℕ) (runs : MergedRanges) (gs : Glyphs)
     → s ≤ p → p ≤ b → Lies p b runs gs → at ≡ s + length (filter (has_stayed s top gs) (places s p))
     → len ≡ length (filter (has_stayed s top gs) (places runs.start p)) → (len ≤ at) × (at ≤ runs.end)
-    × (with_stretch at runs.end (put level runs.cluster)
-    (with_stretch (at - len) at (put level runs.before) (staying s top gs 0 p ++ (gone s top gs 0 p ++ drop p gs)))
-    ≡ as_parted level s top p runs gs)
+    × (with_stretch at runs.end (merge_stretch level runs.cluster)
+    (with_stretch (at - len) at (merge_stretch level runs.before) (staying s top gs 0 p ++ (gone s top gs 0 p ++ drop p gs)))
+    ≡ as_partitioned level s top p runs gs)
 parted_written level s top p b at len runs gs h l lies to many =
     let t = has_stayed s top gs in
     let q = runs.start in
@@ -113,12 +113,12 @@ parted_written level s top p b at len runs gs h l lies to many =
       arith,
       chosen-split t gs 0 q p (omega arith) (omega arith),
       append_assoc S1 S2 (G ++ drop p gs),
-      stretch_between (put level c) (at - len) at S1 S2 (G ++ drop p gs) (omega (arith, sum, n, n2))
+      stretch_between (merge_stretch level c) (at - len) at S1 S2 (G ++ drop p gs) (omega (arith, sum, n, n2))
           (omega (arith, sum, n, n2)),
-      append_assoc S1 (put level c S2) (G ++ drop p gs),
+      append_assoc S1 (merge_stretch level c S2) (G ++ drop p gs),
       drop-drop (runs.end - p) p gs,
       take-append-drop (runs.end - p) (drop p gs),
       append_assoc G D H,
-      stretch_between (put level runs.cluster) at runs.end (S1 ++ put level c S2) (G ++ D) H
-          (length-append S1 (put level c S2) ∙ omega (arith, length-put level c S2, sum, n)) bn,
+      stretch_between (merge_stretch level runs.cluster) at runs.end (S1 ++ merge_stretch level c S2) (G ++ D) H
+          (length-append S1 (merge_stretch level c S2) ∙ omega (arith, length-merge_stretch level c S2, sum, n)) bn,
     )

@@ -109,16 +109,16 @@ abbrev pub before_joiner : ℕ → Glyphs → ℕ
 before_joiner base gs =
     if base == length gs && passes (is_one_of (OT_ZWJ ∷ [])) gs (base - 1) then base - 1 else base
 
-abbrev pub may_be_settled : Glyph → Bool
-may_be_settled g = not (is_one_of (OT_N ∷ OT_H ∷ []) g)
+abbrev pub is_base_like : Glyph → Bool
+is_base_like g = not (is_one_of (OT_N ∷ OT_H ∷ []) g)
 
 abbrev pub before_halants : ℕ → Glyphs → ℕ
 before_halants base gs =
     if base == length gs then base
-    else unwrap_or (greatest_place (passes may_be_settled gs) 1 (base + 1)) 0
+    else unwrap_or (greatest_place (passes is_base_like gs) 1 (base + 1)) 0
 
-abbrev pub settled_base : ℕ → Glyphs → ℕ
-settled_base base gs = before_halants (before_joiner base gs) gs
+abbrev pub found_base : ℕ → Glyphs → ℕ
+found_base base gs = before_halants (before_joiner base gs) gs
 
 -- the syllable with its viramas recovered
 abbrev pub with_viramas : Rules → Glyphs → Glyphs
@@ -140,6 +140,6 @@ with_final_base r script gs =
     let linked = with_links script by_pref opened in
     record {
       glyphs = linked;
-      base = settled_base (stepped_back (base_by_links script by_pref opened) linked) linked;
+      base = found_base (stepped_back (base_by_links script by_pref opened) linked) linked;
       tries_pref = not (r.pref == 0) && not (is_some (unformed_pref r.pref first gs));
     }

@@ -22,7 +22,7 @@ FinalMergesLaw = (r : Rules) (script : Option Script) (level : BufferClusterLeve
     MergedStay level (final_steps r script gs) cs
 
 -- and where all clusters are different no more is merged: neighbours share one then only if such a
--- stretch holds both, and each run so joined has the least that its glyphs had
+-- stretch holds both, and each stretch so joined has the least that its glyphs had
 abbrev pub FinalCutsLaw : Type 0
 FinalCutsLaw = (r : Rules) (script : Option Script) (level : BufferClusterLevel)
     (gs : Glyphs) (cs : List ℕ) →

@@ -13,7 +13,7 @@ use Rattle.shapers_indic_final.specs.FinalReordering.{final_steps}
 use Rattle.shapers_indic_final.specs.declared.ot_shaper_indic_final.rules.Rules.{Rules}
 use Rattle.shapers_syllabic.specs.declared.ot_shaper_syllabic.circles.DottedCircles.{DottedCircles}
 use Rattle.shapers_syllabic.specs.declared.ot_shaper_syllabic.kinds.indic_syllable.TheConstants.{BROKEN_CLUSTER}
-use Rattle.shapers_syllabic.specs.Borders.{spans_set_up, unnumbered}
+use Rattle.shapers_syllabic.specs.Borders.{spans_setup, unnumbered}
 use Rattle.shapers_syllabic.specs.Reordering.{PauseReordered, text_steps}
 use Rattle.shapers_syllabic.specs.ReorderingLaws.{ReadsNoSerials, ReorderLaws, paused_clusters, paused_order}
 use Rattle.shapers_syllabic.specs.SpanCuts.{CutsBetweenSpans}
@@ -43,7 +43,7 @@ FinalCutsBetweenSpans =
     (steps : Glyphs → List Step) (circles : Option DottedCircles) (spans : List Span)
     (old mid new : Buffer) →
     ReorderLaws meaning steps → ReadsNoSerials meaning steps → All (λ span. span.kind ≤ 15) spans →
-    PauseReordered circles meaning steps (spans_set_up spans BROKEN_CLUSTER old) mid →
+    PauseReordered circles meaning steps (spans_setup spans BROKEN_CLUSTER old) mid →
     FinallyReordered r mid new →
     CutsBetweenSpans (uninitiated r) unsafe_spans (final_after r old.script circles meaning)
     (final_clusters_after r old.script old.level circles meaning steps) spans old.glyphs

@@ -77,11 +77,11 @@ BreaksNowhere before (syl ∷ syls) =
     (is_bound before syl ≡ false) × BreaksNowhere (last_or before syl) syls
 
 -- whether place i is the first of a syllable, from place s on, opened inside a word, or before it
-abbrev pub at_opening : ℕ → Option Glyph → List Glyphs → ℕ → Bool
-at_opening s before [] i = false
-at_opening s before (syl ∷ syls) i =
+abbrev pub at_syllable_start : ℕ → Option Glyph → List Glyphs → ℕ → Bool
+at_syllable_start s before [] i = false
+at_syllable_start s before (syl ∷ syls) i =
     is_bound before syl && (i == s || i + 1 == s)
-    || at_opening (s + length syl) (last_or before syl) syls i
+    || at_syllable_start (s + length syl) (last_or before syl) syls i
 
 -- the glyphs with these bits in the mask of the first; lists that differ in these alone
 abbrev pub with_first_bits : ℕ → Glyphs → Glyphs
@@ -137,7 +137,7 @@ pub record FinallyKept (r : Rules) (old new : Buffer) : Type 0 where
       new.glyphs
   pub flags_elsewhere : (i : ℕ) →
       i < length new.glyphs →
-      at_opening 0 None (final_syllables r old.script (order_view old.glyphs)) i ≡ false →
+      at_syllable_start 0 None (final_syllables r old.script (order_view old.glyphs)) i ≡ false →
       FlagsFall (get_or (pick (old_places (length old.glyphs)
       (final_text_steps r old.script old.glyphs)) old.glyphs) i default_glyph)
       (get_or new.glyphs i default_glyph)

@@ -46,18 +46,19 @@ matra_target script base gs =
 abbrev pub has_room : ℕ → Glyphs → Bool
 has_room base gs = nat_lt 1 (length gs) && nat_lt 0 base
 
-abbrev pub matras_go : ℕ → Glyphs → Bool
-matras_go p gs = nat_lt 0 p && not (passes is_left gs p)
+abbrev pub takes_matras : ℕ → Glyphs → Bool
+takes_matras p gs = nat_lt 0 p && not (passes is_left gs p)
 
 -- a list parted: what doesn't pass the test, and then what does, both in their order
-abbrev pub parted : {X : Type 0} → (X → Bool) → List X → List X
-parted test xs = filter (λ x. not (test x)) xs ++ filter test xs
+abbrev pub partitioned : {X : Type 0} → (X → Bool) → List X → List X
+partitioned test xs = filter (λ x. not (test x)) xs ++ filter test xs
 
 -- the syllable with its left matras at their place
 abbrev pub with_matras : Option Script → ℕ → Glyphs → Glyphs
 with_matras script base gs =
     let p = matra_target script base gs in
-    if has_room base gs && matras_go p gs then with_stretch 0 (p + 1) (parted is_left) gs else gs
+    if has_room base gs && takes_matras p gs
+    then with_stretch 0 (p + 1) (partitioned is_left) gs else gs
 
 -- the end of what merges: the base with it, if there is one
 abbrev pub end_of_base : ℕ → Glyphs → ℕ
@@ -75,8 +76,8 @@ matra_step n e i j = record {
 abbrev pub left_places : ℕ → Glyphs → List ℕ
 left_places p gs = reverse (filter (passes is_left gs) (places 0 p))
 
-abbrev pub parting_steps : ℕ → ℕ → Glyphs → List Step
-parting_steps p e gs =
+abbrev pub partition_steps : ℕ → ℕ → Glyphs → List Step
+partition_steps p e gs =
     map (λ t. matra_step (length gs) e t.1 (p - t.0)) (enumerate_from 0 (left_places p gs))
 
 -- where they stay, the first one merges with all up to the base
@@ -93,7 +94,7 @@ staying_steps base gs =
 abbrev pub steps_before : Option Script → ℕ → Glyphs → List Step
 steps_before script base gs =
     let p = matra_target script base gs in
-    if matras_go p gs then parting_steps p (end_of_base base gs) gs else staying_steps base gs
+    if takes_matras p gs then partition_steps p (end_of_base base gs) gs else staying_steps base gs
 
 abbrev pub matra_steps : Option Script → ℕ → Glyphs → List Step
 matra_steps script base gs = if has_room base gs then steps_before script base gs else []

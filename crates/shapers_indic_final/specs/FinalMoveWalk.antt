@@ -7,7 +7,7 @@ use Rattle.shapers_buffer.specs.declared.buffer.placements.Placements.{Placement
 use Rattle.shapers_buffer.specs.declared.buffer.tag.Script.{Script}
 use Rattle.shapers_base.specs.declared.plan.indic.RephPosition.{RephPosition}
 use Rattle.shapers_indic_final.specs.FinalPref.{formed_pref, pref_target}
-use Rattle.shapers_indic_final.specs.FinalReph.{opens_with_reph, reph_target}
+use Rattle.shapers_indic_final.specs.FinalReph.{begins_with_reph, reph_target}
 
 -- the glyph of place i of a syllable from s on at its place j, behind others
 abbrev pub matra_placements : ℕ → ℕ → ℕ → Placements
@@ -20,7 +20,7 @@ matra_placements s i j = record {
 -- where the reph goes, if one moves
 abbrev pub reph_goes : RephPosition → ℕ → Glyphs → Option ℕ
 reph_goes position base gs =
-    if opens_with_reph gs then Some (reph_target position base gs) else None
+    if begins_with_reph gs then Some (reph_target position base gs) else None
 
 -- where a formed glyph goes, and its place
 abbrev pub with_target : ℕ → Option ℕ → Option (ℕ × ℕ)

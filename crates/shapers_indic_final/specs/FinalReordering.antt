@@ -41,10 +41,10 @@ steps_of_pref r script b = if b.tries_pref then pref_steps r.pref script b.base 
 
 abbrev pub steps_of_based : Rules → Option Script → Based → List Step
 steps_of_based r script b =
-    let parted = after_matras r script b in
+    let partitioned = after_matras r script b in
     matra_steps script b.base b.glyphs
-    ++ (reph_steps r.reph_pos parted.base parted.glyphs
-    ++ steps_of_pref r script (after_reph r parted))
+    ++ (reph_steps r.reph_pos partitioned.base partitioned.glyphs
+    ++ steps_of_pref r script (after_reph r partitioned))
 
 abbrev pub final_steps : Rules → Option Script → Glyphs → List Step
 final_steps r script gs = steps_of_based r script (based r script gs)

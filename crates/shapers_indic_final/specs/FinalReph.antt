@@ -19,10 +19,10 @@ abbrev pub is_moving_reph : Glyph → Bool
 is_moving_reph g = has_position POS_RA_TO_BECOME_REPH g
     && not (has_category OT_Repha g && is_formed g) && (has_category OT_Repha g || is_formed g)
 
--- whether it opens a syllable of two or more
-abbrev pub opens_with_reph : Glyphs → Bool
-opens_with_reph (g ∷ (h ∷ gs)) = is_moving_reph g
-opens_with_reph _ = false
+-- whether it begins a syllable of two or more
+abbrev pub begins_with_reph : Glyphs → Bool
+begins_with_reph (g ∷ (h ∷ gs)) = is_moving_reph g
+begins_with_reph _ = false
 
 -- the place behind the first halant before the base and a joiner there; by the halant's place
 abbrev pub halant_after_start : ℕ → Glyphs → Option ℕ
@@ -31,16 +31,16 @@ halant_after_start base gs = least_place (passes is_indic_halant gs) 1 base
 abbrev pub with_joiner : ℕ → Glyphs → ℕ → ℕ
 with_joiner base gs h = if nat_lt (h + 1) base && passes is_joiner gs (h + 1) then h + 1 else h
 
--- after the main consonant: the end of the run behind the base of positions up to AFTER_MAIN; after
--- below-base forms: of those that are not post-base, after it, or a sign's
+-- after the main consonant: the end of the stretch behind the base of positions up to AFTER_MAIN;
+-- after below-base forms: of those that are not post-base, after it, or a sign's
 abbrev pub is_with_main : Glyph → Bool
 is_with_main g = nat_le g.auxiliary POS_AFTER_MAIN
 
 abbrev pub is_with_sub : Glyph → Bool
 is_with_sub g = not (list_any (λ p. p == g.auxiliary) (POS_POST_C ∷ POS_AFTER_POST ∷ POS_SMVD ∷ []))
 
-abbrev pub end_of_run : (Glyph → Bool) → ℕ → Glyphs → ℕ
-end_of_run test base gs = base + prefix_len test (drop (base + 1) gs)
+abbrev pub end_of_rephs : (Glyph → Bool) → ℕ → Glyphs → ℕ
+end_of_rephs test base gs = base + prefix_len test (drop (base + 1) gs)
 
 -- the end of the syllable: its last glyph that is no sign, but not between matras and their halant
 abbrev pub last_but_signs : Glyphs → ℕ
@@ -58,9 +58,9 @@ at_end base gs =
 -- where the reph goes without a halant before the base, by the script
 abbrev pub behind_base : RephPosition → ℕ → Glyphs → ℕ
 behind_base AfterMain base gs =
-    if nat_lt base (length gs) then end_of_run is_with_main base gs else at_end base gs
+    if nat_lt base (length gs) then end_of_rephs is_with_main base gs else at_end base gs
 behind_base AfterSub base gs =
-    if nat_lt base (length gs) then end_of_run is_with_sub base gs else at_end base gs
+    if nat_lt base (length gs) then end_of_rephs is_with_sub base gs else at_end base gs
 behind_base _ base gs = at_end base gs
 
 -- where the reph goes
@@ -71,7 +71,7 @@ reph_target position base gs =
 -- the syllable with the reph there, and where its base stands then
 abbrev pub with_reph : RephPosition → ℕ → Glyphs → Glyphs
 with_reph position base gs =
-    if opens_with_reph gs then with_stretch 0 (reph_target position base gs + 1) first_last gs
+    if begins_with_reph gs then with_stretch 0 (reph_target position base gs + 1) first_last gs
     else gs
 
 abbrev pub carried_along : ℕ → ℕ → ℕ
@@ -79,7 +79,7 @@ carried_along base target = if nat_lt 0 base && nat_le base target then base - 1
 
 abbrev pub base_after_reph : RephPosition → ℕ → Glyphs → ℕ
 base_after_reph position base gs =
-    if opens_with_reph gs then carried_along base (reph_target position base gs) else base
+    if begins_with_reph gs then carried_along base (reph_target position base gs) else base
 
 -- the step of n places in which all up to place j merges, and the first glyph goes there
 abbrev pub final_reph_step : ℕ → ℕ → Step
@@ -91,5 +91,5 @@ final_reph_step n j = record {
 
 abbrev pub reph_steps : RephPosition → ℕ → Glyphs → List Step
 reph_steps position base gs =
-    if opens_with_reph gs then final_reph_step (length gs) (reph_target position base gs) ∷ []
+    if begins_with_reph gs then final_reph_step (length gs) (reph_target position base gs) ∷ []
     else []

@@ -19,5 +19,5 @@ changes_syllable r script g = is_left g || has_position POS_RA_TO_BECOME_REPH g
     || (has_position POS_BELOW_C g && is_malayalam script)
 
 -- the glyphs of a syllable with the positions that the search for its base gives
-abbrev pub settled : Rules → Option Script → Glyphs → Glyphs
-settled r script gs = (with_final_base r script gs).glyphs
+abbrev pub with_base_found : Rules → Option Script → Glyphs → Glyphs
+with_base_found r script gs = (with_final_base r script gs).glyphs

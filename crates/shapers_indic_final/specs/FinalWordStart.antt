@@ -1,5 +1,5 @@
--- A left matra that opens a syllable: init at the start of a word, else no break before it; and the
--- whole text.
+-- A left matra that begins a syllable: init at the start of a word, else no break before it; and
+-- the whole text.
 use Rattle.std.specs.Prelude.{ℕ, ◌+◌, ◌-◌, ◌==◌, ◌≡◌, Bool, ◌&&◌, ◌||◌, get_or, true, false, not, List, [], ◌∷◌, ◌++◌, length, map, take, drop, Option, None, Some, if◌then◌else◌}
 use Rattle.shapers_buffer.specs.declared.buffer.category.hb_unicode_general_category_t.{hb_unicode_general_category_t}
 use Rattle.shapers_buffer.specs.declared.buffer.category.hb_unicode_general_category_t.TheVariants.{Cf, Cn, Co, Cs, Ll, Lm, Lo, Lt, Lu, Mc, Me, Mn}
@@ -96,7 +96,7 @@ bound_from s before (syl ∷ syls) gs =
 
 -- The buffer before and after each of its syllables is opened: its order view has masks of init,
 -- and to the view of what is carried along, cluster and glyph flags among it, breaks are unsafe.
-pub record WordsOpened (bits : ℕ) (old new : Buffer) : Type 0 where
+pub record WordsStarted (bits : ℕ) (old new : Buffer) : Type 0 where
   pub others : new ≡ record old { glyphs = new.glyphs }
   pub order : order_view new.glyphs ≡ with_inits bits None (syllables (order_view old.glyphs))
   pub flags : map carried new.glyphs
@@ -107,10 +107,10 @@ abbrev pub FinallyReordered : Rules → Buffer → Buffer → Type 0
 FinallyReordered r old new =
     (mid : Buffer)
     × SyllablesReordered (final_order r old.script) (final_steps r old.script) old mid
-    × WordsOpened r.init mid new
+    × WordsStarted r.init mid new
 
 -- the same with the reordering as a chain, one link a syllable
 abbrev pub FinallyLinked : Rules → Buffer → Buffer → Type 0
 FinallyLinked r old new =
     let link = SyllableReordered (final_order r old.script) (final_steps r old.script) in
-    (mid : Buffer) × SyllablesLinked link old mid × WordsOpened r.init mid new
+    (mid : Buffer) × SyllablesLinked link old mid × WordsStarted r.init mid new

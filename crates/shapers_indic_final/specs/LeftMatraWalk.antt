@@ -9,7 +9,7 @@ use Rattle.shapers_buffer.specs.Glyph.{clusters}
 use Rattle.shapers_buffer.specs.Places.{pick}
 use Rattle.shapers_clusters.specs.Steps.{Step}
 use Rattle.shapers_indic.specs.Glyphs.{passes, places}
-use Rattle.shapers_indic_final.specs.declared.ot_shaper_indic_final.left_matras.Runs.{Runs}
+use Rattle.shapers_indic_final.specs.declared.ot_shaper_indic_final.left_matras.MergedRanges.{MergedRanges}
 use Rattle.shapers_indic_final.specs.FinalMatras.{is_left, left_places, matra_step}
 
 -- the steps of the left matras before place top, of which the last one goes to p, and each further
@@ -19,8 +19,8 @@ steps_to top p e gs =
     map (λ t. matra_step (length gs) e t.1 (p - t.0)) (enumerate_from 0 (left_places top gs))
 
 -- these glyphs in cluster m, at a level that merges
-abbrev pub put : BufferClusterLevel → ℕ → Glyphs → Glyphs
-put level m gs = if merges level then map (in_cluster m) gs else gs
+abbrev pub merge_stretch : BufferClusterLevel → ℕ → Glyphs → Glyphs
+merge_stretch level m gs = if merges level then map (in_cluster m) gs else gs
 
 -- whether a left matra stands at place j, if those from i on and before top have gone
 abbrev pub has_gone : ℕ → ℕ → Glyphs → ℕ → Bool
@@ -46,12 +46,12 @@ flood_passes i top c gs j = has_gone i top gs j || slice_index (clusters gs) j =
 
 -- the glyphs as they stand then, where the first to go went to p: what has stayed, and with it
 -- those in the one cluster; what has gone, and with what follows it those in the other
-abbrev pub as_parted : BufferClusterLevel → ℕ → ℕ → ℕ → Runs → Glyphs →
+abbrev pub as_partitioned : BufferClusterLevel → ℕ → ℕ → ℕ → MergedRanges → Glyphs →
     Glyphs
-as_parted level i top p runs gs =
+as_partitioned level i top p runs gs =
     (staying i top gs 0 runs.start
-    ++ put level runs.before (staying i top gs runs.start p))
-    ++ (put level runs.cluster (gone i top gs 0 p ++ stretch_of p runs.end gs)
+    ++ merge_stretch level runs.before (staying i top gs runs.start p))
+    ++ (merge_stretch level runs.cluster (gone i top gs 0 p ++ stretch_of p runs.end gs)
     ++ drop runs.end gs)
 
 -- from place q to `from` all that has stayed is in cluster c, and what has stayed before q doesn't
@@ -62,12 +62,12 @@ pub record Reaches (i top c from q : ℕ) (gs : Glyphs) : Type 0 where
   pub stops : (m : ℕ) → let front = reverse (staying i top gs 0 q) in flooded c m front ≡ front
 
 -- the cluster of the matra at place i
-abbrev pub own_cluster : ℕ → Runs → Glyphs → ℕ
+abbrev pub own_cluster : ℕ → MergedRanges → Glyphs → ℕ
 own_cluster i runs gs =
     if nat_lt i runs.start then slice_index (clusters gs) i else runs.before
 
--- what the merge of the matra at place i makes of the two runs, before it goes
-pub record Merged (i top : ℕ) (old new : Runs) (gs : Glyphs) : Type 0 where
+-- what the merge of the matra at place i makes of the two ranges, before it goes
+pub record Merged (i top : ℕ) (old new : MergedRanges) (gs : Glyphs) : Type 0 where
   pub cluster : new.cluster ≡ min (own_cluster i old gs) old.cluster
   pub end : new.end ≡ old.end + prefix_len (has_cluster old.cluster) (drop old.end gs)
   pub floods : own_cluster i old gs ≡ old.before →

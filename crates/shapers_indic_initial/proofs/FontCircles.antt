@@ -13,7 +13,7 @@ use Rattle.shapers_base.specs.declared.plan.ot_category_t.TheConstants.{OT_DOTTE
 use Rattle.shapers_syllabic.specs.declared.ot_shaper_syllabic.kinds.indic_syllable.TheConstants.{BROKEN_CLUSTER}
 use Rattle.shapers_base.specs.Font.{Font}
 use Rattle.shapers_base.specs.Map.{Map}
-use Rattle.shapers_clusters.specs.Steps.{Step, run_steps}
+use Rattle.shapers_clusters.specs.Steps.{Step, after_steps}
 use Rattle.shapers_indic_initial.specs.InitialFont.{all_by_virama, by_virama, positions_by_font}
 use Rattle.shapers_indic_initial.specs.InitialPause.{InitiallyLinked, InitiallyReordered, initial_circles, order_by_font, steps_by_font, with_positions_and_circles}
 use Rattle.shapers_indic_initial.specs.InitialLaws.{InitialCutsBetweenSpans, InitiallyAsPause}
@@ -29,8 +29,8 @@ use Rattle.shapers_syllabic.proofs.ReorderingLaws.{numbers_kept}
 use Rattle.shapers_syllabic.specs.Reordering.{PauseReordered, SyllablesLinked, carried, text_order, text_steps}
 use Rattle.shapers_syllabic.proofs.Borders.{syllables-viewed}
 use Rattle.shapers_syllabic.proofs.HiddenCuts.{pauses_cut_between_spans}
-use Rattle.shapers_syllabic.specs.Borders.{spans_set_up}
-use Rattle.shapers_syllabic.proofs.ReorderingLemmas.{run_steps-carried}
+use Rattle.shapers_syllabic.specs.Borders.{spans_setup}
+use Rattle.shapers_syllabic.proofs.ReorderingLemmas.{after_steps-carried}
 
 -- circles whose position isn't BASE_C, so that the font gives them none
 abbrev pub NotAtBase : Option DottedCircles → Type 0
@@ -105,12 +105,12 @@ record SamePause (font : Font) (m : Map) (p : indic_shape_plan_t) (old : Buffer)
       (order_view (with_positions_and_circles font m p old).glyphs)
       ≡ text_order (order_by_font font m p old.script) (order_view (circled (initial_circles font old) old.glyphs))
   pub moved :
-      map carried (run_steps old.level
+      map carried (after_steps old.level
       (text_steps (initial_steps (initial_rules font m p) old.script)
       (order_view (with_positions_and_circles font m p old).glyphs))
       (with_positions_and_circles font m p old).glyphs)
       ≡ map carried
-      (run_steps old.level
+      (after_steps old.level
       (text_steps (steps_by_font font m p old.script) (order_view (circled (initial_circles font old) old.glyphs)))
       (circled (initial_circles font old) old.glyphs))
 
@@ -122,7 +122,7 @@ same_pause = search (
   font_positions-viewed,
   syllables_by_font,
   joined_after,
-  run_steps-carried,
+  after_steps-carried,
   font_positions-carried,
   pieces_after,
   length-font_positions,
@@ -162,4 +162,4 @@ pub initial_cuts_between_spans : InitialCutsBetweenSpans
 initial_cuts_between_spans font m p spans old new kinds done =
     let script = old.script in
     pauses_cut_between_spans _ _ _ (laws_by_font font m p _ script) (order_by_font_reads_no_serials font m p script)
-    _ spans old new kinds (paused_by_font font m p (spans_set_up spans _ old) new done)
+    _ spans old new kinds (paused_by_font font m p (spans_setup spans _ old) new done)

@@ -5,7 +5,7 @@ use Rattle.shapers_buffer.specs.declared.buffer.level.BufferClusterLevel.TheVari
 use Rattle.shapers_clusters.specs.Steps.{joined_step}
 use Rattle.shapers_indic.proofs.RowWords.{C, M, of}
 use Rattle.shapers_indic_initial.proofs.InitialWords.{no_masks, rules}
-use Rattle.shapers_indic_initial.specs.InitialClusters.{all_ways, kept_together}
+use Rattle.shapers_indic_initial.specs.InitialClusters.{all_ways, joined_stretches}
 use Rattle.shapers_indic_initial.specs.InitialReordering.{indic_order_step}
 use Rattle.shapers_syllabic.specs.Reordering.{glyphs_before}
 
@@ -19,15 +19,15 @@ ways_from_base : all_ways (3 ∷ 0 ∷ 1 ∷ 2 ∷ []) 2 ∷ all_ways (1 ∷ 0 �
 ways_from_base = refl
 
 -- all from the base on in the older specification, and for more than 127 glyphs
-kept : kept_together (rules "Deva" true no_masks) (0 ∷ 2 ∷ 1 ∷ []) 1 ∷ kept_together (rules "Deva" false no_masks)
+kept : joined_stretches (rules "Deva" true no_masks) (0 ∷ 2 ∷ 1 ∷ []) 1 ∷ joined_stretches (rules "Deva" false no_masks)
     (0 ∷ 2 ∷ 1 ∷ []) 1 ∷ [] ≡ ((1, 3) ∷ []) ∷ ((1, 3) ∷ (1, 3) ∷ []) ∷ []
 kept = refl
 
-kept_long : map (λ n. length (kept_together (rules "Deva" false no_masks) (range_with_len 0 n) 0)) (127 ∷ 128 ∷ [])
+kept_long : map (λ n. length (joined_stretches (rules "Deva" false no_masks) (range_with_len 0 n) 0)) (127 ∷ 128 ∷ [])
     ≡ 127 ∷ 1 ∷ []
 kept_long = refl
 
-kept_longer : kept_together (rules "Deva" false no_masks) (range_with_len 0 300) 7 ≡ (7, 300) ∷ []
+kept_longer : joined_stretches (rules "Deva" false no_masks) (range_with_len 0 300) 7 ≡ (7, 300) ∷ []
 kept_longer = refl
 
 -- clusters after the order: B M(9) M(6) and B M(9) M(6) M(8), and with a left matra and one that moves before it

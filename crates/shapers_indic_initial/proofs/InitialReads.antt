@@ -18,7 +18,7 @@ use Rattle.shapers_clusters.proofs.EqualArguments.{same_two, same_three}
 use Rattle.shapers_indic.specs.declared.ot_shaper_indic.indic_feature.TheConstants.{RPHF}
 use Rattle.shapers_indic.specs.Glyphs.{greatest_place, has_category, has_position, is_joiner, least_place, number, numbers, passes, some_place, is_matra, places}
 use Rattle.shapers_base.specs.declared.plan.indic.BaseSearch.{BaseSearch}
-use Rattle.shapers_indic_initial.specs.InitialBase.{base_from, base_place, has_indic_reph, is_base, is_base_candidate, has_below_form, joiner_comes_first, limit, limit_behind, may_be_base, opens_with_repha, reph_is_formed, indic_reph_len, search_start, third_lets_reph}
+use Rattle.shapers_indic_initial.specs.InitialBase.{base_from, base_place, has_indic_reph, is_base, is_base_candidate, has_below_form, joiner_comes_first, limit, limit_behind, may_be_base, begins_with_repha, reph_is_formed, indic_reph_len, search_start, third_lets_reph}
 use Rattle.shapers_indic_initial.specs.InitialOrder.{group, group_in_order, indic_ordered_places, last_unit_first, ordered_base}
 use Rattle.shapers_indic_initial.specs.InitialRules.{Rules, mask_at}
 
@@ -85,8 +85,8 @@ module _ (v : View) where
   formed_stays Explicit forms gs = same_two (λ a b. forms a || forms b) (numbers_taken 2 gs) (numbers_taken 3 gs)
   formed_stays LogRepha forms gs = refl
 
-  repha_stays : (mode : RephMode) (gs : Glyphs) → opens_with_repha mode (map f gs)
-      ≡ opens_with_repha mode gs
+  repha_stays : (mode : RephMode) (gs : Glyphs) → begins_with_repha mode (map f gs)
+      ≡ begins_with_repha mode gs
   repha_stays LogRepha [] = refl
   repha_stays LogRepha (g ∷ gs) = refl
   repha_stays Implicit gs = refl

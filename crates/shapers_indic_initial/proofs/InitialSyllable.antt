@@ -9,7 +9,7 @@ use Rattle.shapers_buffer.specs.Glyph.{order_view, plain}
 use Rattle.shapers_buffer.proofs.ClusterLemmas.{map-stretch, three_parts}
 use Rattle.shapers_clusters.specs.Steps.{Step}
 use Rattle.shapers_clusters.proofs.Picks.{length-pick}
-use Rattle.shapers_indic_initial.specs.InitialReordering.{in_indic_order, initial_order, initial_steps, is_reordered_in_indic, masked_in_order, opening_steps, indic_order_step, positioned, steps_of_reordered}
+use Rattle.shapers_indic_initial.specs.InitialReordering.{in_indic_order, initial_order, initial_steps, is_reordered_in_indic, masked_in_order, first_steps, indic_order_step, positioned, steps_of_reordered}
 use Rattle.shapers_indic_initial.specs.InitialRules.{Rules}
 use Rattle.shapers_indic_initial.specs.Proved.InitialLaws.{halant_laws, joiner_laws}
 use Rattle.shapers_indic_initial.specs.Proved.InitialSteps.{order_fits}
@@ -61,7 +61,7 @@ after meaning steps s e old new h l k done =
 -- a syllable that is reordered
 pub initial_syllable : (r : Rules) (script : Option Script) (s e : ℕ) (b1 b2 b3 b4 : Buffer) → s ≤ e
     → e ≤ length b1.glyphs → is_reordered_in_indic (stretch_of s e b1.glyphs) ≡ true
-    → SyllableReordered (positioned r script) (opening_steps r script) s e b1 b2
+    → SyllableReordered (positioned r script) (first_steps r script) s e b1 b2
     → SyllableReordered in_indic_order (λ gs. indic_order_step r gs ∷ []) s e b2 b3
     → SyllableReordered (masked_in_order r script) (λ _. []) s e b3 b4
     → SyllableReordered (initial_order r script) (initial_steps r script) s e b1 b4

@@ -8,7 +8,7 @@ use Rattle.shapers_buffer.specs.declared.buffer.level.BufferClusterLevel.TheVari
 use Rattle.shapers_buffer.specs.Glyph.{clusters}
 use Rattle.shapers_base.specs.declared.font.GlyphId.{GlyphId}
 use Rattle.shapers_base.specs.declared.plan.indic.BaseSearch.TheVariants.{WithoutMedials}
-use Rattle.shapers_clusters.specs.Steps.{run_steps}
+use Rattle.shapers_clusters.specs.Steps.{after_steps}
 use Rattle.shapers_indic.specs.Plan.{config_of}
 use Rattle.shapers_indic.proofs.RowWords.{with_row_marks, row_masks, numbers_of, script}
 use Rattle.shapers_indic_initial.specs.InitialReordering.{initial_order, initial_steps}
@@ -47,7 +47,7 @@ abbrev pub with_pref_of : List ℕ → Rules → Rules
 with_pref_of ids r = record r { forms_pref = only ids }
 
 abbrev pub clusters_after : Rules → Option Script → Glyphs → List ℕ
-clusters_after r s gs = clusters (run_steps MonotoneGraphemes (initial_steps r s gs) gs)
+clusters_after r s gs = clusters (after_steps MonotoneGraphemes (initial_steps r s gs) gs)
 
 -- the glyph at a place put in by a lookup for several
 abbrev pub ligated_at : ℕ → Glyphs → Glyphs

@@ -19,7 +19,7 @@ use Rattle.shapers_clusters.proofs.EqualArguments.{same_three, same_two}
 use Rattle.shapers_clusters.proofs.FlagCalls.{flags-and, flags-or, plain-or}
 use Rattle.shapers_indic.specs.declared.ot_shaper_indic.indic_feature.TheConstants.{BLWF, HALF, PREF, RPHF}
 use Rattle.shapers_indic.specs.Glyphs.{has_category, has_position, is_one_of, least_place, numbers}
-use Rattle.shapers_indic_initial.specs.InitialMasks.{bits_of, has_eyelash, is_in_eyelash, loses_half, mask_after_base, mask_before_base, opens_eyelash, pref_pair, with_bits_on_pair, with_eyelash_mask, with_initial_masks, with_masks_around, with_pref_mask, with_reph_mask, without_bits, without_half}
+use Rattle.shapers_indic_initial.specs.InitialMasks.{bits_of, has_eyelash, is_in_eyelash, loses_half, mask_after_base, mask_before_base, begins_eyelash, pref_pair, with_bits_on_pair, with_eyelash_mask, with_initial_masks, with_masks_around, with_pref_mask, with_reph_mask, without_bits, without_half}
 use Rattle.shapers_indic_initial.specs.InitialOrder.{ordered_base}
 use Rattle.shapers_indic_initial.specs.InitialReordering.{masked_in_order}
 use Rattle.shapers_indic_initial.specs.InitialRules.{Rules, mask_at}
@@ -85,8 +85,8 @@ module _ (v : View) (r : Rules) (k : ShowsBits v (bits_of r HALF)) where
       ∙ same_two (λ n xs. with_stretch (base + 1) n (map (with_bits (mask_after_base r))) xs) (sym (length-map gs f))
       (stretch_shown (mask_before_base r) 0 base (before_off r) gs)
 
-  opens_eyelash_stays : (base : ℕ) (gs : Glyphs) → opens_eyelash base (map f gs)
-      ≡ opens_eyelash base gs
+  opens_eyelash_stays : (base : ℕ) (gs : Glyphs) → begins_eyelash base (map f gs)
+      ≡ begins_eyelash base gs
   opens_eyelash_stays base gs =
       same_three (λ (a b c : ℕ → Bool). λ i. nat_lt (i + 1) base && a i && b (i + 1)
       && not (nat_lt (i + 2) base && c (i + 2))) (passes_stays v (has_category OT_Ra) (λ g. refl) gs)

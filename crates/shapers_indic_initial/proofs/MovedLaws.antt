@@ -13,7 +13,7 @@ use Rattle.std.proofs.lemmas.Bool.{and_parts}
 use Rattle.std.specs.Prelude.{◌&&◌}
 use Rattle.shapers_buffer.proofs.Arranging.{all_long, only_one, placed_long, still}
 use Rattle.shapers_buffer.proofs.Placements.{forward_permutes, placed_forward, placed_stays}
-use Rattle.shapers_indic_initial.specs.MovedWalk.{IsUnlisted, MovesUnlisted, as_moved, moved_buffer, moves_then, opened_by}
+use Rattle.shapers_indic_initial.specs.MovedWalk.{IsUnlisted, MovesUnlisted, as_moved, moved_buffer, moves_then, moved_first_by}
 use Rattle.shapers_indic_initial.specs.declared.ot_shaper_indic_initial.moved.MovedSyllable.{MovedSyllable}
 use Rattle.shapers_indic_initial.specs.InitialPositions.{moved_behind}
 use Rattle.shapers_indic_initial.proofs.Moves.{moved_is}
@@ -113,7 +113,7 @@ behind_others from to s e places gs a b c l =
     ∙ ap (λ n. brought_forward from (from + 1) n gs) (omega arith) ∙ sym (moved_is from (to - 1) gs (omega arith))
 
 pub first_moved : (p : Placement) (s e : ℕ) (gs : Glyphs) → IsUnlisted p s e → s ≤ e → e ≤ length gs
-    → as_moved (opened_by p s e) gs ≡ placed_by p s e [] gs
+    → as_moved (moved_first_by p s e) gs ≡ placed_by p s e [] gs
 first_moved p s e gs u h l =
     let xs = placed_by p s e [] gs in
     let lx : length xs ≡ length gs = placed_long p s e [] gs h l (u.each []) in

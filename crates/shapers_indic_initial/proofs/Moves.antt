@@ -11,7 +11,7 @@ use Rattle.shapers_buffer.specs.Buffer.{Buffer, but_places}
 use Rattle.shapers_buffer.specs.Clusters.{merge_all, stretch_of, with_stretch}
 use Rattle.shapers_buffer.specs.Glyph.{order_view}
 use Rattle.shapers_buffer.specs.Places.{pick}
-use Rattle.shapers_clusters.specs.Steps.{FitsStep, Step, run_steps, shifted, widened}
+use Rattle.shapers_clusters.specs.Steps.{FitsStep, Step, after_steps, shifted, widened}
 use Rattle.shapers_clusters.proofs.Merging.{length-merge_all}
 use Rattle.shapers_clusters.proofs.Picks.{pick-append, pick-range}
 use Rattle.shapers_clusters.proofs.Widened.{fits-widened, order_view-widened, pick-widened, range-append}
@@ -82,7 +82,7 @@ stepped meaning steps s e step old new h l f nothing kept is meant leads =
           ∙ ap (λ ps. take s xs ++ (pick ps (stretch_of s e xs) ++ drop e xs)) (old_places_one (e - s) step f)
           ∙ ap (λ ys. take s xs ++ (ys ++ drop e xs)) (sym meant);
       moved = ap (map carried) run
-          ∙ sym (ap (λ sts. map carried (run_steps old.level (map (widened s e (length gs)) sts) gs)) leads);
+          ∙ sym (ap (λ sts. map carried (after_steps old.level (map (widened s e (length gs)) sts) gs)) leads);
     }
 
 -- the move as a placement

@@ -17,7 +17,7 @@ use Rattle.shapers_clusters.proofs.SparedCuts.{different_permuted}
 use Rattle.shapers_clusters.proofs.Picks.{length-pick}
 use Rattle.shapers_indic.specs.Glyphs.{places}
 use Rattle.shapers_indic_initial.specs.CycleWalk.{EachOnce}
-use Rattle.shapers_indic_initial.specs.InitialClusters.{OrderMergesLaw, kept_together, way_of}
+use Rattle.shapers_indic_initial.specs.InitialClusters.{OrderMergesLaw, joined_stretches, way_of}
 use Rattle.shapers_indic_initial.specs.InitialOrder.{ordered_base, indic_ordered_places, ordered_stretches}
 use Rattle.shapers_indic_initial.specs.InitialReordering.{in_indic_order}
 use Rattle.shapers_indic_initial.specs.InitialRules.{Rules}
@@ -35,7 +35,7 @@ once_permuted n from perm = IsPermutation-keeps _ _ (once_range n) (λ xs i j h 
 -- the stretches that are kept together hold the neighbours that those hold that merge; they begin
 -- at the base or behind it and end within
 pub held_together : (r : Rules) (from : List ℕ) (base i : ℕ) → EachOnce from → held (ordered_stretches r from base) i
-    ≡ held (kept_together r from base) i
+    ≡ held (joined_stretches r from base) i
 held_together = search (arith, held_by_ways)
 
 pub record Lies (base n : ℕ) (st : ℕ × ℕ) : Type 0 where
@@ -43,7 +43,7 @@ pub record Lies (base n : ℕ) (st : ℕ × ℕ) : Type 0 where
   pub high : st.1 ≤ n
 
 pub together_lies : (r : Rules) (from : List ℕ) (base : ℕ) → EachOnce from
-    → AllByRecursion (Lies base (length from)) (kept_together r from base)
+    → AllByRecursion (Lies base (length from)) (joined_stretches r from base)
 together_lies r from base o = search (
   arith,
   all-mapped (λ p. p < length from) (Lies base (length from)) (way_of from base) (places base (length from))
@@ -121,7 +121,7 @@ order_merges r level gs cs m long =
     let o = once_permuted n from perm in
     let fl = length_permuted n from perm in
     let sts = ordered_stretches r from base in
-    let ways = kept_together r from base in
+    let ways = joined_stretches r from base in
     let within =
     subst (λ k. AllByRecursion (λ p. p < k) from) (sym long) (within_permuted n from perm) in
     let xs = pick from cs in

@@ -12,7 +12,7 @@ use Rattle.shapers_buffer.specs.Clusters.{merge, stretch_of}
 use Rattle.shapers_buffer.specs.Glyph.{order_view, plain}
 use Rattle.shapers_buffer.specs.Places.{pick}
 use Rattle.shapers_buffer.proofs.ClusterLemmas.{length-stretch, map-stretch}
-use Rattle.shapers_clusters.specs.Steps.{Step, run_steps, widened}
+use Rattle.shapers_clusters.specs.Steps.{Step, after_steps, widened}
 use Rattle.shapers_clusters.proofs.Picks.{pick-all}
 use Rattle.shapers_clusters.proofs.Widened.{range-three}
 use Rattle.shapers_syllabic.specs.Reordering.{SyllableReordered, carried}
@@ -21,7 +21,7 @@ use Rattle.shapers_buffer.specs.Properties.{is_ligated}
 use Rattle.shapers_base.specs.declared.plan.indic.RephMode.{RephMode}
 use Rattle.shapers_base.specs.declared.plan.indic.RephMode.TheVariants.{Implicit, Explicit, LogRepha}
 use Rattle.shapers_indic.specs.Glyphs.{is_plain_consonant}
-use Rattle.shapers_indic_initial.specs.InitialBase.{base_place, joiner_comes_first, opens_with_repha, indic_reph_len}
+use Rattle.shapers_indic_initial.specs.InitialBase.{base_place, joiner_comes_first, begins_with_repha, indic_reph_len}
 use Rattle.shapers_indic_initial.specs.InitialMasks.{with_eyelash_mask, with_initial_masks, with_pref_mask}
 use Rattle.shapers_indic_initial.specs.InitialOrder.{ordered_stretches}
 use Rattle.shapers_indic_initial.specs.InitialPositions.{halant_places}
@@ -39,7 +39,7 @@ plain_consonant g = record g { category = 1; auxiliary = 4 }
 no_joiner : (script : Option Script) (g : Glyph) → joiner_comes_first script (plain_consonant g ∷ []) ≡ false
 no_joiner = search arith
 
-no_repha : (mode : RephMode) (g : Glyph) → opens_with_repha mode (plain_consonant g ∷ []) ≡ false
+no_repha : (mode : RephMode) (g : Glyph) → begins_with_repha mode (plain_consonant g ∷ []) ≡ false
 no_repha Implicit g = refl
 no_repha Explicit g = refl
 no_repha LogRepha g = refl
@@ -114,7 +114,7 @@ picks_all : (s n : ℕ) (gs : Glyphs) → s + 1 ≤ n → length gs ≡ n
 picks_all s n gs l long = search (arith, range-three s (s + 1) n (omega arith) l, pick-all n gs long)
 
 still_run : (level : BufferClusterLevel) (s : ℕ) (gs : Glyphs) → s + 1 ≤ length gs
-    → run_steps level (map (widened s (s + 1) (length gs)) plain_steps) gs ≡ gs
+    → after_steps level (map (widened s (s + 1) (length gs)) plain_steps) gs ≡ gs
 still_run level s gs l = cc (picks_all s (length gs) gs l refl, merge_one level (s + 0) (s + 1) gs (omega arith))
 
 pub plain_syllable : (r : Rules) (script : Option Script) (s e : ℕ) (g : Glyph) (b : Buffer) → s ≤ e
@@ -126,7 +126,7 @@ plain_syllable r script s e g b h l is m =
     let end : e ≡ s + 1 = omega arith in
     let x = plain_consonant g ∷ [] in
     let ran : List Step → Glyphs =
-    λ steps. run_steps b.level (map (widened s e (length b.glyphs)) steps) b.glyphs in
+    λ steps. after_steps b.level (map (widened s e (length b.glyphs)) steps) b.glyphs in
     record {
       others = refl;
       order = sym (stretch_stays s e (initial_order r script) v h (ap (initial_order r script) is

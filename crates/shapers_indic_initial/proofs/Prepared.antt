@@ -17,9 +17,9 @@ use Rattle.shapers_clusters.proofs.Picks.{length-pick, pick-all}
 use Rattle.shapers_indic.specs.Glyphs.{places}
 use Rattle.shapers_indic_initial.specs.InitialBase.{base_place, has_indic_reph, joiner_comes_first}
 use Rattle.shapers_indic_initial.specs.InitialPositions.{by_base, halant_after, halant_from, halant_places, moved_behind, with_marks_attached}
-use Rattle.shapers_indic_initial.specs.InitialReordering.{halant_step, halant_steps, joiner_step, joiner_steps, opening_steps, positioned, with_all_positions, with_base_positions, with_halant_moved, with_joiner_first, with_marks_and_owners}
+use Rattle.shapers_indic_initial.specs.InitialReordering.{halant_step, halant_steps, joiner_step, joiner_steps, first_steps, positioned, with_all_positions, with_base_positions, with_halant_moved, with_joiner_first, with_marks_and_owners}
 use Rattle.shapers_indic_initial.specs.InitialRules.{Rules}
-use Rattle.shapers_indic_initial.specs.MovedWalk.{PositionsSet, moved_buffer, opened_by}
+use Rattle.shapers_indic_initial.specs.MovedWalk.{PositionsSet, moved_buffer, moved_first_by}
 use Rattle.shapers_indic_initial.proofs.InitialReads.{plain_view, base_stays, joiner_first_stays}
 use Rattle.shapers_indic_initial.specs.Proved.InitialSteps.{halant_fits, joiner_fits, joiner_long}
 use Rattle.shapers_indic_initial.specs.Proved.InitialViews.{hidden-by_base, hidden-with_marks_attached, hidden-with_owners_after}
@@ -201,13 +201,13 @@ from_opened r script s e base reph b1 b2 b3 b4 h l base_is reph_is is2 walked2 t
 -- all of it
 pub opened_then : (r : Rules) (script : Option Script) (p q : Placement) (s e : ℕ) (b0 b1 b2 : Buffer) → s ≤ e
     → e ≤ length b0.glyphs → b1.script ≡ script
-    → SyllableReordered (with_joiner_first script) (joiner_steps script) s e b0 (moved_buffer (opened_by p s e) b1)
-    → PositionsSet r p q s e b1 b2 → SyllableReordered (positioned r script) (opening_steps r script) s e b0
-    (moved_buffer (record (opened_by p s e) { second = q }) b2)
+    → SyllableReordered (with_joiner_first script) (joiner_steps script) s e b0 (moved_buffer (moved_first_by p s e) b1)
+    → PositionsSet r p q s e b1 b2 → SyllableReordered (positioned r script) (first_steps r script) s e b0
+    (moved_buffer (record (moved_first_by p s e) { second = q }) b2)
 opened_then r script p q s e b0 b1 b2 h l same one two =
     let X = stretch_of s e (order_view b0.glyphs) in
-    let mid = moved_buffer (opened_by p s e) b1 in
-    let new = moved_buffer (record (opened_by p s e) { second = q }) b2 in
+    let mid = moved_buffer (moved_first_by p s e) b1 in
+    let new = moved_buffer (record (moved_first_by p s e) { second = q }) b2 in
     let next : Glyphs → Glyphs = λ gs. with_all_positions r script (base_place r gs) (with_base_positions r gs) in
     let steps : Glyphs → List Step = λ gs. halant_steps r script (base_place r gs) (with_base_positions r gs) in
     let rest : SyllableReordered next steps s e mid new =
@@ -215,6 +215,6 @@ opened_then r script p q s e b0 b1 b2 h l same one two =
     (λ gs. with_all_positions r script (base_place r gs) (with_base_positions r gs))
     (λ gs. halant_steps r script (base_place r gs) (with_base_positions r gs)) s e mid new) same two in
     syllable_as (λ gs. next (with_joiner_first script gs)) (positioned r script)
-    (λ gs. joiner_steps script gs ++ steps (with_joiner_first script gs)) (opening_steps r script) s e b0 new refl refl
+    (λ gs. joiner_steps script gs ++ steps (with_joiner_first script gs)) (first_steps r script) s e b0 new refl refl
     (syllable_then (with_joiner_first script) next (joiner_steps script) steps s e b0 mid new h l
     ((let f = joiner_fits script X in search length-pick) ∙ seen_long s e b0.glyphs h l) one rest)

@@ -19,7 +19,7 @@ use Rattle.shapers_clusters.proofs.Picks.{length-pick}
 use Rattle.shapers_clusters.proofs.Proved.{clusters_hold}
 use Rattle.shapers_clusters.proofs.Widened.{all_along, fits-widened, held-shifted}
 use Rattle.shapers_indic_initial.specs.InitialBase.{base_place}
-use Rattle.shapers_indic_initial.specs.InitialClusters.{EachSyllableMerges, InitialClustersLaw, OrderMerges, SyllableMerges, kept_together}
+use Rattle.shapers_indic_initial.specs.InitialClusters.{EachSyllableMerges, InitialClustersLaw, OrderMerges, SyllableMerges, joined_stretches}
 use Rattle.shapers_indic_initial.specs.InitialLaws.{InitialTextMerges}
 use Rattle.shapers_indic_initial.specs.InitialPause.{with_positions_and_circles}
 use Rattle.shapers_indic_initial.specs.InitialOrder.{ordered_base, indic_ordered_places, ordered_stretches}
@@ -55,9 +55,9 @@ held_in_text s sts st h i a b = search (arith, held-shifted s (i - s) sts)
 record OrderInText (r : Rules) (s e : ℕ) (xs : Glyphs) (cs ms : List ℕ) : Type 0 where
   pub same_length : length ms ≡ length cs
   pub together : AllByRecursion (λ st. OneAlong ms (s + st.0, s + st.1))
-      (kept_together r (indic_ordered_places xs) (ordered_base (in_indic_order xs)))
+      (joined_stretches r (indic_ordered_places xs) (ordered_base (in_indic_order xs)))
   pub lies : AllByRecursion (λ st. s + st.1 ≤ e)
-      (kept_together r (indic_ordered_places xs) (ordered_base (in_indic_order xs)))
+      (joined_stretches r (indic_ordered_places xs) (ordered_base (in_indic_order xs)))
 
 order_in_text : (r : Rules) (level : BufferClusterLevel) (s e : ℕ) (xs : Glyphs) (cs : List ℕ)
     → merges level ≡ true → s ≤ e → e ≤ length cs → length xs ≡ e - s
@@ -68,7 +68,7 @@ order_in_text r level s e xs cs m h l size =
     let perm = ordered_permutes xs in
     let o = once_permuted _ from perm in
     let sts = ordered_stretches r from base in
-    let ways = kept_together r from base in
+    let ways = joined_stretches r from base in
     let f =
     subst (λ k. FitsStep k (indic_order_step r xs)) size (order_fits r xs) in
     let w = widened s e _ (indic_order_step r xs) in
@@ -92,11 +92,11 @@ syllable_merges : (r : Rules) (level : BufferClusterLevel) (s e : ℕ) (xs : Gly
     → merges level ≡ true → s ≤ e → e ≤ length cs → length xs ≡ e - s
     → Leaves s e (joined_step level (widened s e (length cs) (indic_order_step r xs)) cs) js →
     SyllableMerges s e (ordered_base (in_indic_order xs))
-    (kept_together r (indic_ordered_places xs) (ordered_base (in_indic_order xs))) (indic_ordered_places xs) cs js
+    (joined_stretches r (indic_ordered_places xs) (ordered_base (in_indic_order xs))) (indic_ordered_places xs) cs js
 syllable_merges r level s e xs cs js m h l size left =
     let from = indic_ordered_places xs in
     let base = ordered_base (in_indic_order xs) in
-    let ways = kept_together r from base in
+    let ways = joined_stretches r from base in
     let step = indic_order_step r xs in
     let ms = joined_step level (widened s e _ step) cs in
     let done = order_in_text r level s e xs cs m h l size in
@@ -181,7 +181,7 @@ initial_clusters r script level gs cs m long before behind syl cut on =
     let result = syllable_merges r level s e xs c2 js m (omega arith) (omega arith) (length-positioned r script syl
     ∙ size) (subst (λ z. Leaves s e (joined_step level (widened s e z third) c2) js) (sym c2l) left) in
     let base = ordered_base (in_indic_order xs) in
-    let ways = kept_together r (indic_ordered_places xs) base in
+    let ways = joined_stretches r (indic_ordered_places xs) base in
     subst (λ z. SyllableMerges s e base ways (indic_ordered_places xs) z (joined_steps level (text_steps steps gs) cs))
     (sym (ap (λ sts. joined_steps level (front ++ map (widened s e n) (take 2 sts)) cs) is_on))
     (subst (λ z. SyllableMerges s e base ways (indic_ordered_places xs) c2 z) (sym ends) result)

@@ -17,16 +17,16 @@ use Rattle.shapers_indic.specs.Glyphs.{greatest_place, has_category, has_positio
 use Rattle.shapers_indic_initial.specs.InitialRules.{Rules, mask_at}
 use Rattle.shapers_indic.specs.Plan.{is_script}
 
--- whether a syllable opens with Ra, H, ZWJ
-abbrev pub opens_with_ra_h_zwj : Glyphs → Bool
-opens_with_ra_h_zwj (a ∷ (b ∷ (c ∷ gs))) =
+-- whether a syllable begins with Ra, H, ZWJ
+abbrev pub begins_with_ra_h_zwj : Glyphs → Bool
+begins_with_ra_h_zwj (a ∷ (b ∷ (c ∷ gs))) =
     is_one_of (OT_Ra ∷ []) a && is_one_of (OT_H ∷ []) b && is_one_of (OT_ZWJ ∷ []) c
-opens_with_ra_h_zwj _ = false
+begins_with_ra_h_zwj _ = false
 
 -- Kannada writes an opening Ra, H, ZWJ as it does Ra, ZWJ, H: the last two change places
 abbrev pub joiner_comes_first : Option Script → Glyphs → Bool
 joiner_comes_first script gs =
-    is_script script (Some (record { 0 = codes "Knda" })) && opens_with_ra_h_zwj gs
+    is_script script (Some (record { 0 = codes "Knda" })) && begins_with_ra_h_zwj gs
 
 -- whether a third glyph lets two be a reph: no joiner, if it is Ra, H; the ZWJ of Ra, H, ZWJ
 abbrev pub lets_reph : RephMode → Glyph → Bool
@@ -44,10 +44,10 @@ reph_is_formed Implicit forms gs = forms (numbers (take 2 gs))
 reph_is_formed Explicit forms gs = forms (numbers (take 2 gs)) || forms (numbers (take 3 gs))
 reph_is_formed LogRepha forms gs = false
 
--- whether a reph that is a character of its own opens the syllable, in a script that writes it so
-abbrev pub opens_with_repha : RephMode → Glyphs → Bool
-opens_with_repha LogRepha (g ∷ gs) = has_category OT_Repha g
-opens_with_repha _ _ = false
+-- whether a reph that is a character of its own begins the syllable, in a script that writes it so
+abbrev pub begins_with_repha : RephMode → Glyphs → Bool
+begins_with_repha LogRepha (g ∷ gs) = has_category OT_Repha g
+begins_with_repha _ _ = false
 
 -- whether it is up to the font: rphf has a mask, and the third glyph lets the first two be a reph
 abbrev pub font_decides_reph : Rules → Glyphs → Bool
@@ -58,7 +58,7 @@ abbrev pub indic_reph_len : Rules → Glyphs → ℕ
 indic_reph_len r gs =
     if font_decides_reph r gs then
     (if reph_is_formed r.config.reph_mode r.forms_reph gs then 2 else 0)
-    else if opens_with_repha r.config.reph_mode gs then 1 else 0
+    else if begins_with_repha r.config.reph_mode gs then 1 else 0
 
 -- the limit of the search: behind a reph of n glyphs and the joiners that follow it, or the start
 abbrev pub limit_behind : ℕ → Glyphs → ℕ

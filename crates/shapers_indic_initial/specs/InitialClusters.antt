@@ -24,13 +24,13 @@ all_ways from base = map (way_of from base) (places base (length from))
 
 -- the stretches of which each has to be in one cluster: in the older specification, and in a
 -- syllable of more than 127 glyphs, all from the base on; else those ways
-abbrev pub kept_together : Rules → List ℕ → ℕ → List (ℕ × ℕ)
-kept_together r from base =
+abbrev pub joined_stretches : Rules → List ℕ → ℕ → List (ℕ × ℕ)
+joined_stretches r from base =
     if r.old || nat_lt 127 (length from) then (base, length from) ∷ [] else all_ways from base
 
 -- From the clusters cs before to the clusters js after: each of these stretches is in one cluster.
 -- No more is merged: where all clusters are different, neighbours share one only if such a stretch
--- holds both, each run so joined has its least, and glyphs before the base keep their own.
+-- holds both, each stretch so joined has its least, and glyphs before the base keep their own.
 pub record OrderMerges (base : ℕ) (sts : List (ℕ × ℕ)) (from cs js : List ℕ) : Type 0 where
   pub together : AllByRecursion (OneAlong js) sts
   pub exact : AllDifferent cs → ExactCuts (pick from cs) sts js
@@ -44,7 +44,7 @@ OrderMergesLaw =
     (r : Rules) (level : BufferClusterLevel) (gs : Glyphs) (cs : List ℕ) →
     merges level ≡ true → length cs ≡ length gs →
     OrderMerges (ordered_base (in_indic_order gs))
-    (kept_together r (indic_ordered_places gs) (ordered_base (in_indic_order gs)))
+    (joined_stretches r (indic_ordered_places gs) (ordered_base (in_indic_order gs)))
     (indic_ordered_places gs) cs
     (joined_step level (indic_order_step r gs) cs)
 
@@ -73,7 +73,7 @@ EachSyllableMerges r script level gs cs js =
     let xs = positioned r script syl in
     let from = indic_ordered_places xs in
     let base = ordered_base (in_indic_order xs) in
-    SyllableMerges s (s + length syl) base (kept_together r from base) from
+    SyllableMerges s (s + length syl) base (joined_stretches r from base) from
     (as_order_begins r script level (length gs) before syl cs) js
 
 -- at the levels that merge

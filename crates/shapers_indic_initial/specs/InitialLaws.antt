@@ -12,7 +12,7 @@ use Rattle.shapers_indic_initial.specs.InitialPause.{InitiallyReordered, initial
 use Rattle.shapers_indic_initial.specs.InitialReordering.{initial_order, initial_steps}
 use Rattle.shapers_indic_initial.specs.InitialRules.{Rules, initial_rules}
 use Rattle.shapers_buffer.specs.declared.buffer.syllables.Span.{Span}
-use Rattle.shapers_syllabic.specs.Borders.{spans_set_up, unnumbered}
+use Rattle.shapers_syllabic.specs.Borders.{spans_setup, unnumbered}
 use Rattle.shapers_syllabic.specs.Reordering.{PauseReordered}
 use Rattle.shapers_syllabic.specs.ReorderingLaws.{ReadsNoSerials, ReorderLaws, paused_clusters, paused_order}
 use Rattle.shapers_syllabic.specs.SpanCuts.{CutsBetweenSpans}
@@ -41,7 +41,7 @@ InitiallyAsPause = (font : Font) (m : Map) (p : indic_shape_plan_t) (old new : B
 
 -- After the pause, at the levels that merge: each syllable's clusters by what its order moves. All
 -- places from the base on that a glyph moved over share one cluster; where the syllable's clusters
--- are its own no more is merged, and each run has its least.
+-- are its own no more is merged, and each stretch has its least.
 abbrev pub InitiallyMerged : Font → Map → indic_shape_plan_t → Buffer → Buffer → Type 0
 InitiallyMerged font m p old new =
     let gs = (with_positions_and_circles font m p old).glyphs in
@@ -65,7 +65,7 @@ abbrev pub InitialCutsBetweenSpans : Type 0
 InitialCutsBetweenSpans =
     (font : Font) (m : Map) (p : indic_shape_plan_t) (spans : List Span) (old new : Buffer) →
     All (λ span. span.kind ≤ 15) spans →
-    let mid = spans_set_up spans BROKEN_CLUSTER old in
+    let mid = spans_setup spans BROKEN_CLUSTER old in
     let circles = initial_circles font mid in
     InitiallyReordered font m p mid new →
     CutsBetweenSpans unnumbered unsafe_spans

@@ -46,13 +46,13 @@ with_masks_around r base gs =
     (with_stretch 0 base (map (with_bits (mask_before_base r))) gs)
 
 -- an eyelash Ra: at place i stand Ra and H, both before the base, and no ZWJ behind them before it
-abbrev pub opens_eyelash : ℕ → Glyphs → ℕ → Bool
-opens_eyelash base gs i =
+abbrev pub begins_eyelash : ℕ → Glyphs → ℕ → Bool
+begins_eyelash base gs i =
     nat_lt (i + 1) base && passes (has_category OT_Ra) gs i && passes (has_category OT_H) gs (i + 1)
     && not (nat_lt (i + 2) base && passes (has_category OT_ZWJ) gs (i + 2))
 
 abbrev pub is_in_eyelash : ℕ → Glyphs → ℕ → Bool
-is_in_eyelash base gs i = opens_eyelash base gs i || (nat_lt 0 i && opens_eyelash base gs (i - 1))
+is_in_eyelash base gs i = begins_eyelash base gs i || (nat_lt 0 i && begins_eyelash base gs (i - 1))
 
 -- in the older specification of Devanagari both glyphs of such a Ra get the mask of blwf
 abbrev pub has_eyelash : Rules → Option Script → Bool

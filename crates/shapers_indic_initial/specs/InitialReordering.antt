@@ -65,8 +65,8 @@ positioned r script gs =
     with_all_positions r script (base_place r opened) (with_base_positions r opened)
 
 -- the steps on the way there
-abbrev pub opening_steps : Rules → Option Script → Glyphs → List Step
-opening_steps r script gs =
+abbrev pub first_steps : Rules → Option Script → Glyphs → List Step
+first_steps r script gs =
     let opened = with_joiner_first script gs in
     joiner_step script gs
     ∷ halant_step r script (base_place r opened) (with_base_positions r opened) ∷ []
@@ -96,7 +96,7 @@ initial_order r script gs =
 -- the steps that lead there: those of the positions, and then that of the order
 abbrev pub steps_of_reordered : Rules → Option Script → Glyphs → List Step
 steps_of_reordered r script gs =
-    opening_steps r script gs ++ indic_order_step r (positioned r script gs) ∷ []
+    first_steps r script gs ++ indic_order_step r (positioned r script gs) ∷ []
 
 abbrev pub initial_steps : Rules → Option Script → Glyphs → List Step
 initial_steps r script gs = if is_reordered_in_indic gs then steps_of_reordered r script gs else []

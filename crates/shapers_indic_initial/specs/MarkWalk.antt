@@ -19,8 +19,8 @@ abbrev pub next_carrier : ℕ → Glyph → ℕ
 next_carrier c g = if carries g then g.auxiliary else c
 
 -- an H of position p that would go with a left matra goes with what stands behind it, of position b
-abbrev pub parted_position : ℕ → ℕ → Glyph → ℕ
-parted_position b p g = if has_category OT_H g && p == POS_PRE_M then b else p
+abbrev pub separated_position : ℕ → ℕ → Glyph → ℕ
+separated_position b p g = if has_category OT_H g && p == POS_PRE_M then b else p
 
 -- that position, b so far, behind a glyph of position p
 abbrev pub next_behind : ℕ → ℕ → ℕ
@@ -31,4 +31,4 @@ abbrev pub marks_from : ℕ → ℕ → Glyphs → Glyphs
 marks_from c b [] = []
 marks_from c b (g ∷ gs) =
     let p = drawn_position c g gs in
-    at_position (parted_position b p g) g ∷ marks_from (next_carrier c g) (next_behind b p) gs
+    at_position (separated_position b p g) g ∷ marks_from (next_carrier c g) (next_behind b p) gs

@@ -7,7 +7,7 @@ use Rattle.shapers_buffer.specs.declared.buffer.level.BufferClusterLevel.TheVari
 use Rattle.shapers_buffer.specs.Glyph.{default_glyph, clusters}
 use Rattle.shapers_base.specs.Font.{CharacterTables}
 use Rattle.shapers_base.specs.declared.plan.joining.hb_arabic_joining_type_t.TheVariants.{U}
-use Rattle.shapers_clusters.specs.Steps.{run_step}
+use Rattle.shapers_clusters.specs.Steps.{after_step}
 use Rattle.shapers_khmer.specs.declared.ot_shaper_khmer.reordering.KhmerOrder.{KhmerOrder}
 use Rattle.shapers_khmer.specs.Khmer.{decomposed_in_khmer, is_coeng, is_ro, is_left_vowel, is_reordered_in_khmer, khmer_circles, khmer_order, khmer_step, order_in, with_mask}
 use Rattle.shapers_base.specs.declared.plan.PlanData.TheVariants.{Khmer}
@@ -76,7 +76,7 @@ abbrev shown : ℕ → List (ℕ × ℕ) → List (ℕ × ℕ)
 shown kind gs = map (λ g. (g.glyph_id, g.mask)) (khmer_order by_masks (glyphs kind gs))
 
 abbrev clusters_after : ℕ → List (ℕ × ℕ) → List ℕ
-clusters_after kind gs = clusters (run_step MonotoneGraphemes (khmer_step (glyphs kind gs)) (glyphs kind gs))
+clusters_after kind gs = clusters (after_step MonotoneGraphemes (khmer_step (glyphs kind gs)) (glyphs kind gs))
 
 -- consonants, Coengs, Ros and left vowels, told apart by their numbers
 abbrev c : ℕ → ℕ × ℕ

@@ -5,7 +5,7 @@ ghost use Rattle.shapers_buffer.specs.declared.buffer.refusal.ShaperError.TheVar
 ghost use Rattle.shapers_base.specs.Planner.{with_requests};
 ghost use Rattle.shapers_khmer.specs.Khmer.{decomposed_in_khmer};
 ghost use Rattle.shapers_khmer.specs.Plan.{khmer_masks};
-ghost use Rattle.shapers_base.specs.Masks.{masks_kept};
+ghost use Rattle.shapers_base.specs.Masks.{masks_stored};
 ghost use Rattle.shapers_khmer.specs.Requests.{khmer_list, khmer_overrides};
 ghost use Rattle.shapers_syllabic.specs.Characters.{composed_behind, with_category};
 ghost use Rattle.shapers_base.specs.declared.plan.PlanData.TheVariants.{Khmer};
@@ -81,7 +81,7 @@ pub fn override_features(planner: &mut hb_ot_shape_planner_t) -> Result<(), Shap
 /// for the whole text. None of them touches a glyph flag bit.
 pub fn create_data(plan: &hb_ot_shape_plan_t) -> PlanData
     ensures masks { result ≡ Khmer (record { mask_array = khmer_masks plan.now.ot_map }) }
-    ensures off_flags { All (λ mask. mask % 8 ≡ 0) (masks_kept result) }
+    ensures off_flags { All (λ mask. mask % 8 ≡ 0) (masks_stored result) }
 {
     let map = &plan.ot_map;
     PlanData::Khmer(khmer_shape_plan_t {

@@ -89,7 +89,7 @@ const CIRCLES: ScriptCircles = ScriptCircles {
 /// Gives broken syllables their dotted circles, and then brings each syllable into the order in
 /// which it is drawn. (OpenType, Myanmar script development.) Returns whether circles were wanted.
 /// Every cluster afterwards is one that the text had. Refuses with `UnknownSyllable` where a kind
-/// is unknown, with `TooLong`, and with `Memory`, but not where no circle opens.
+/// is unknown, with `TooLong`, and with `Memory`, but not where no circle is put in.
 #[inline]
 pub fn reorder_myanmar<F: hb_font_t>(
     face: &F,

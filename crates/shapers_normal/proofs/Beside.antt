@@ -13,7 +13,7 @@ use Rattle.shapers_buffer.specs.GlyphFlags.{flagged, unsafe_inside, with_bits, w
 use Rattle.shapers_buffer.proofs.ClusterLemmas.{length-stretch}
 use Rattle.shapers_buffer.proofs.MappedLists.{all-range}
 use Rattle.shapers_clusters.specs.Cuts.{ShareNone}
-use Rattle.shapers_clusters.specs.Steps.{Step, FitsStep, run_steps, widened}
+use Rattle.shapers_clusters.specs.Steps.{Step, FitsStep, after_steps, widened}
 use Rattle.shapers_clusters.proofs.Halves.{Each, each-append, each-drop, each-take, steps_alone}
 use Rattle.shapers_clusters.proofs.Merging.{length-merge}
 use Rattle.shapers_clusters.proofs.Moves.{all-joined, clusters-merge_all}
@@ -172,7 +172,7 @@ abbrev merge_step : ℕ → ℕ → ℕ → Step
 merge_step s e n = record { merged_first = (s, e) ∷ []; places = range_with_len 0 n; merged_then = [] }
 
 as_step : (level : BufferClusterLevel) (s e : ℕ) (gs : Glyphs) → e ≤ length gs
-    → run_steps level (merge_step s e (length gs) ∷ []) gs ≡ merge level s e gs
+    → after_steps level (merge_step s e (length gs) ∷ []) gs ≡ merge level s e gs
 as_step level s e gs within = pick-all (length gs) (merge level s e gs) (length-merge level s e gs within)
 
 pub merge_alone : (P : ℕ → Type 0) (level : BufferClusterLevel) (s e : ℕ) (before gs behind : Glyphs)
@@ -198,8 +198,8 @@ merge_alone P level s e before gs behind within p x y =
     ap (λ k. make (range_with_len 0 a ++ (map (λ p. a + p) (range_with_len 0 k) ++ range_with_len b (n - b)))) wide
     ∙ ap make (sym (range-three a b n (omega arith) (omega arith))) in
     sym (as_step level (a + s) (a + e) whole (omega (arith, all)))
-    ∙ ap (λ k. run_steps level (merge_step (a + s) (a + e) k ∷ []) whole) all
-    ∙ ap (λ st. run_steps level (st ∷ []) whole) (sym same)
+    ∙ ap (λ k. after_steps level (merge_step (a + s) (a + e) k ∷ []) whole) all
+    ∙ ap (λ st. after_steps level (st ∷ []) whole) (sym same)
     ∙ steps_alone level a b n (step ∷ []) before gs behind (omega arith) refl wide refl (fits, tt)
     (share_none P gs before p x) (share_none P gs behind p y)
     ∙ ap (λ xs. before ++ (xs ++ behind)) (as_step level s e gs within)

@@ -175,7 +175,7 @@ behind_others : forms MonotoneGraphemes (0x41 ∷ 0x301 ∷ 0x65 ∷ 0xFE01 ∷ 
 unfolding general_category
 behind_others = refl
 
--- a selector that opens the text has a variant; one behind another selects nothing
+-- a selector that begins the text has a variant; one behind another selects nothing
 opens_text : forms MonotoneGraphemes (0xFE00 ∷ 0xFE01 ∷ []) ≡ (0xFE00, 7, 0) ∷ []
 unfolding general_category
 opens_text = refl

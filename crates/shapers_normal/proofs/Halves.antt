@@ -11,7 +11,7 @@ use Rattle.shapers_clusters.specs.Cuts.{ShareNone}
 use Rattle.shapers_clusters.proofs.Halves.{Each}
 use Rattle.shapers_normal.specs.Context.{Context}
 use Rattle.shapers_normal.specs.Decomposition.{first_round}
-use Rattle.shapers_normal.specs.Laws.{ComesApartInHalves, NormalizesInHalves, OrdersAlone, ends_in_joiner, opens_anew}
+use Rattle.shapers_normal.specs.Laws.{ComesApartInHalves, NormalizesInHalves, OrdersAlone, ends_in_joiner, begins_anew}
 use Rattle.shapers_normal.specs.Normalization.{composes, joiners_shown, later_rounds, passes_over, shown_behind, unseen}
 use Rattle.shapers_normal.specs.Recomposition.{recomposed}
 use Rattle.shapers_normal.specs.Sorting.{class_of, is_mark_glyph, marks_ordered}
@@ -112,7 +112,7 @@ in_order P context level composing front d (g ∷ gs) o first last p n =
     (record { letter = mark ∙ o.letter; other = number ∙ o.other }) last p n
 
 pub later_halves : (P : ℕ → Type 0) (context : Context) → OrdersAlone context
-    → (level : BufferClusterLevel) (front behind : Glyphs) → opens_anew behind ≡ true
+    → (level : BufferClusterLevel) (front behind : Glyphs) → begins_anew behind ≡ true
     → ends_in_joiner (marks_ordered context level front) ≡ false → Each P front → Each (Not P) behind
     → later_rounds context true level (front ++ behind) ≡ later_rounds context true level front
     ++ later_rounds context true level behind

@@ -23,7 +23,7 @@ use Rattle.shapers_normal.specs.Laws.{OrdersAlone, OrdersMonotone, NormalizesMon
 use Rattle.shapers_normal.specs.Normalization.{composes, has_rounds, joiners_shown, later_rounds, passes_over, shown_behind, unseen}
 use Rattle.shapers_normal.specs.Properties.{as_character, numbered_as}
 use Rattle.shapers_normal.specs.Recomposition.{StarterWalk, composition, left_as_is, next_glyph, recomposed, taken_in, walk_over}
-use Rattle.shapers_normal.specs.Sorting.{brought_before, class_of, classes, is_mark_glyph, mark_runs, marks_ordered, passed_marks, run_ordered, run_sorted, sorted_in, stay_together}
+use Rattle.shapers_normal.specs.Sorting.{brought_before, class_of, classes, is_mark_glyph, mark_sequences, marks_ordered, passed_marks, sequence_ordered, sequence_sorted, sorted_in, stay_together}
 use Rattle.shapers_normal.specs.Variants.{cut_before_others, form_written, forms_written, has_variant_at, is_kept_cluster, is_selector_glyph, selecting_nothing, variant_joined, variants_joined, with_first, with_number}
 use Rattle.shapers_normal.proofs.Beside.{each_of}
 use Rattle.shapers_normal.proofs.DecompositionClusters.{each-became, each-form, each-written}
@@ -253,7 +253,7 @@ sorted_keeps level s i gs m order within =
     brought_keeps level many i gs m some (omega (arith, passed_few s i gs (omega arith))) within)
 
 run_keeps : (level : BufferClusterLevel) (s e : ℕ) (gs : Glyphs) → merges level ≡ true → e ≤ length gs
-    → Keeps gs (run_sorted level s e gs)
+    → Keeps gs (sequence_sorted level s e gs)
 run_keeps level s e gs m within =
     folded e (λ i. (s ≤ i) × (i < e)) (λ gs i. sorted_in level s i gs)
     (λ xs i long q. sorted_keeps level s i xs m q.0 (omega arith)) gs (range_with_len (s + 1) (e - (s + 1))) within
@@ -261,11 +261,11 @@ run_keeps level s e gs m within =
 
 ordered_keeps : (context : Context) → OrdersAlone context → OrdersMonotone context
     → (level : BufferClusterLevel) (gs : Glyphs) (run : ℕ × ℕ) → merges level ≡ true → run.1 ≤ length gs
-    → Keeps gs (run_ordered context level run gs)
+    → Keeps gs (sequence_ordered context level run gs)
 ordered_keeps context o om level gs run m within =
     let s = run.0 in
     let e = run.1 in
-    let sorted = run_sorted level s e gs in
+    let sorted = sequence_sorted level s e gs in
     let one = run_keeps level s e gs m within in
     chosen (nat_lt s e && nat_le (e - s) 32) gs (context.reordered level s e sorted) (λ yes.
     let some : s < e = grind (arith, nat_tests) in
@@ -281,8 +281,8 @@ marks_keep : (context : Context) → OrdersAlone context → OrdersMonotone cont
     → (level : BufferClusterLevel) (gs : Glyphs) → merges level ≡ true
     → Keeps gs (marks_ordered context level gs)
 marks_keep context o om level gs m =
-    folded (length gs) (λ run. run.1 ≤ length gs) (λ gs run. run_ordered context level run gs)
-    (λ xs run long q. ordered_keeps context o om level xs run m (omega arith)) gs (mark_runs 0 0 (classes gs))
+    folded (length gs) (λ run. run.1 ≤ length gs) (λ gs run. sequence_ordered context level run gs)
+    (λ xs run long q. ordered_keeps context o om level xs run m (omega arith)) gs (mark_sequences 0 0 (classes gs))
     (omega arith)
     (runs_within 0 0 (length gs) (classes gs) (omega (arith, length-map gs class_of)))
 

@@ -121,9 +121,9 @@ taken_in_text P context level drawn before behind w order within p x y =
     let left = left_over level w in
     let new = λ (g : Glyph). as_character context drawn.0 drawn.1.0 g in
     let inside : st < length left = omega (arith, length-left level w within) in
-    let put = λ (xs : Glyphs). let v : StarterWalk =
+    let push_within = λ (xs : Glyphs). let v : StarterWalk =
     record { starter = a + st; place = a + w.place; glyphs = xs } in v in
-    ap put
+    ap push_within
     (ap (λ xs. set xs (a + st) (new (get_or xs (a + st) default_glyph)))
     (left_in_text P level before behind w within p x y)
     ∙ ap (λ g. set (before ++ (left ++ behind)) (a + st) (new g)) (glyph_in_part before left behind st inside)
@@ -166,12 +166,12 @@ left_as_is_in_text : (before behind : Glyphs) (w : StarterWalk) → w.place < le
 left_as_is_in_text before behind w within =
     let a = length before in
     let next : a + w.place + 1 ≡ a + (w.place + 1) = omega arith in
-    let put = λ (s p : ℕ). let v : StarterWalk =
+    let push_within = λ (s p : ℕ). let v : StarterWalk =
     record { starter = s; place = p; glyphs = before ++ (w.glyphs ++ behind) } in v in
-    ap (λ g. put (cond (eqb (class_of g) 0) (a + w.place) (a + w.starter)) (a + w.place + 1))
+    ap (λ g. push_within (cond (eqb (class_of g) 0) (a + w.place) (a + w.starter)) (a + w.place + 1))
     (glyph_in_text before behind w w.place within)
-    ∙ ap (put (cond (eqb (class_of (glyph_at w.glyphs w.place)) 0) (a + w.place) (a + w.starter))) next
-    ∙ ap (λ s. put s (a + (w.place + 1)))
+    ∙ ap (push_within (cond (eqb (class_of (glyph_at w.glyphs w.place)) 0) (a + w.place) (a + w.starter))) next
+    ∙ ap (λ s. push_within s (a + (w.place + 1)))
     (elim (eqb (class_of (glyph_at w.glyphs w.place)) 0) as (λ b. cond b (a + w.place) (a + w.starter)
     ≡ a + cond b w.place w.starter) [ true ↦ refl | false ↦ refl ])
 
@@ -269,16 +269,16 @@ letter_next context level s done g behind letter =
     let first = glyph_at w.glyphs s in
     let last = glyph_at w.glyphs (length done - 1) in
     let next = eqb (s + 1) (length done) in
-    let put = λ (a : ℕ) (xs : Glyphs). let v : StarterWalk =
+    let push_within = λ (a : ℕ) (xs : Glyphs). let v : StarterWalk =
     record { starter = a; place = length done + 1; glyphs = done ++ xs } in v in
     ap (λ o. option_map_or (λ drawn. taken_in context level drawn w) o (left_as_is w))
     (ap (λ h. composed_by context first last h next) here
     ∙ ap (λ b. cond (b && (next || nat_lt (class_of last) (class_of g)))
     (if_drawn context (context.composed first.glyph_id g.glyph_id)) None) letter)
-    ∙ ap (λ h. put (cond (eqb (class_of h) 0) (length done) s) (g ∷ behind)) here
-    ∙ ap (λ n. put (cond (eqb n 0) (length done) s) (g ∷ behind)) (class_of_other g letter)
-    ∙ ap (λ a. put a (g ∷ behind)) (sym none)
-    ∙ ap (put (length done + 0)) (sym (append-nil (g ∷ behind)))
+    ∙ ap (λ h. push_within (cond (eqb (class_of h) 0) (length done) s) (g ∷ behind)) here
+    ∙ ap (λ n. push_within (cond (eqb n 0) (length done) s) (g ∷ behind)) (class_of_other g letter)
+    ∙ ap (λ a. push_within a (g ∷ behind)) (sym none)
+    ∙ ap (push_within (length done + 0)) (sym (append-nil (g ∷ behind)))
 
 -- a text cut before a glyph that is no mark: its halves recomposed are the whole recomposed
 pub recomposed_halves : (P : ℕ → Type 0) (context : Context) (level : BufferClusterLevel) (front : Glyphs)

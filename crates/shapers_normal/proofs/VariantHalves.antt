@@ -51,7 +51,7 @@ nothing : (a b : Bool) → b ≡ false → (a && b) ≡ (nat_lt 0 0 && b)
 nothing true b none = none
 nothing false b none = refl
 
--- behind others, unless the glyph there is a selector that opens the text
+-- behind others, unless the glyph there is a selector that begins the text
 same_behind : (context : Context) (before gs : Glyphs) (i : ℕ) → i + 1 < length gs
     → (nat_lt 0 (length before + i) && is_mark_glyph (get_or gs i default_glyph))
     ≡ (nat_lt 0 i && is_mark_glyph (get_or gs i default_glyph))

@@ -17,7 +17,7 @@ use Rattle.shapers_normal.specs.Laws.{WholeTextsStay}
 use Rattle.shapers_normal.specs.Normalization.{composes, has_rounds, joiners_shown, later_rounds, normalized, shown_behind}
 use Rattle.shapers_normal.specs.Properties.{grapheme_joiner, numbered_as}
 use Rattle.shapers_normal.specs.Recomposition.{StarterWalk, is_free, if_drawn, left_as_is, recomposed, taken_in, walk_over}
-use Rattle.shapers_normal.specs.Sorting.{class_of, classes, is_mark_glyph, mark_runs, run_ordered, run_sorted, stay_together}
+use Rattle.shapers_normal.specs.Sorting.{class_of, classes, is_mark_glyph, mark_sequences, sequence_ordered, sequence_sorted, stay_together}
 use Rattle.shapers_normal.specs.Variants.{is_selector_glyph, is_selector_behind, variant_joined, with_first, with_number}
 use Rattle.shapers_normal.specs.declared.ot_shape_normalize.decomposing.Way.{Way}
 use Rattle.shapers_normal.specs.declared.ot_shape_normalize.normalizing.Rounds.{Rounds}
@@ -146,26 +146,26 @@ abbrev Empty : ℕ × ℕ → Type 0
 Empty run = run.0 ≡ run.1
 
 runs_empty : (context : Context) (i : ℕ) (gs : Glyphs) → AllByRecursion (Stays context) gs
-    → AllByRecursion Empty (mark_runs i i (classes gs))
+    → AllByRecursion Empty (mark_sequences i i (classes gs))
 runs_empty context i [] all = (refl, tt)
 runs_empty context i (g ∷ gs) all =
     let letter : class_of g ≡ 0 = class_of_other g all.0.no_mark in
     subst (λ c. AllByRecursion Empty
-    (cond (eqb c 0) ((i, i) ∷ mark_runs (i + 1) (i + 1) (classes gs)) (mark_runs i (i + 1) (classes gs))))
+    (cond (eqb c 0) ((i, i) ∷ mark_sequences (i + 1) (i + 1) (classes gs)) (mark_sequences i (i + 1) (classes gs))))
     (sym letter) (refl, runs_empty context (i + 1) gs all.1)
 
 empty_stays : (context : Context) (level : BufferClusterLevel) (gs : Glyphs) (run : ℕ × ℕ) → Empty run
-    → run_ordered context level run gs ≡ gs
+    → sequence_ordered context level run gs ≡ gs
 empty_stays context level gs run same =
     let none : nat_lt run.0 run.1 ≡ false = grind (arith, nat_tests) in
     ap (λ b. cond (b && nat_le (run.1 - run.0) 32)
-    (context.reordered level run.0 run.1 (run_sorted level run.0 run.1 gs)) gs) none
+    (context.reordered level run.0 run.1 (sequence_sorted level run.0 run.1 gs)) gs) none
 
 all_empty : (context : Context) (level : BufferClusterLevel) (gs : Glyphs) (runs : List (ℕ × ℕ))
-    → AllByRecursion Empty runs → fold (λ gs run. run_ordered context level run gs) gs runs ≡ gs
+    → AllByRecursion Empty runs → fold (λ gs run. sequence_ordered context level run gs) gs runs ≡ gs
 all_empty context level gs [] all = refl
 all_empty context level gs (run ∷ runs) all =
-    ap (λ xs. fold (λ gs run. run_ordered context level run gs) xs runs) (empty_stays context level gs run all.0)
+    ap (λ xs. fold (λ gs run. sequence_ordered context level run gs) xs runs) (empty_stays context level gs run all.0)
     ∙ all_empty context level gs runs all.1
 
 abbrev NoJoiner : Glyph → Type 0
@@ -231,7 +231,7 @@ nothing_later : (context : Context) (level : BufferClusterLevel) (runs : Bool) (
 nothing_later context level true gs all none =
     let round = λ (xs : Glyphs). cond (composes context.mode)
     (recomposed context level (joiners_shown xs)) (joiners_shown xs) in
-    ap round (all_empty context level gs (mark_runs 0 0 (classes gs)) (runs_empty context 0 gs all))
+    ap round (all_empty context level gs (mark_sequences 0 0 (classes gs)) (runs_empty context 0 gs all))
     ∙ ap (λ xs. cond (composes context.mode) (recomposed context level xs) xs) (no_joiner_shown gs none)
     ∙ nothing_composed context level (composes context.mode) gs all
 nothing_later context level false gs all none = no_joiner_shown gs none

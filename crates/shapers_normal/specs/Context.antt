@@ -7,12 +7,12 @@ use Rattle.shapers_buffer.specs.Glyphs.{Glyphs}
 use Rattle.shapers_buffer.specs.declared.buffer.level.BufferClusterLevel.{BufferClusterLevel}
 
 -- Of the shaper: which form it prefers, the two characters that one comes apart into (the second 0
--- where there is one alone), the character that two compose to, and its order of a run of marks,
--- from its first place to the place behind its last. Of the font: the glyph of a character, and of
--- a character in the form that a variation selector selects. Of Unicode: the general category of a
--- character, its combining class as the shapers renumber it, and whether it is ignored by default.
--- And the glyph that stands for what isn't drawn, if the caller has one, and whether the caller has
--- one for selectors that select nothing.
+-- where there is one alone), the character that two compose to, and its order of a sequence of
+-- marks, from its first place to the place behind its last. Of the font: the glyph of a character,
+-- and of a character in the form that a variation selector selects. Of Unicode: the general
+-- category of a character, its combining class as the shapers renumber it, and whether it is
+-- ignored by default. And the glyph that stands for what isn't drawn, if the caller has one, and
+-- whether the caller has one for selectors that select nothing.
 pub record Context : Type 0 where
   pub mode : NormalizationMode
   pub decomposed : ℕ → Option (ℕ × ℕ)

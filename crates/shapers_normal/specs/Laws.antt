@@ -53,9 +53,9 @@ pub record OrdersAlone (context : Context) : Type 0 where
       ≡ before ++ (context.reordered level s e gs ++ behind)
 
 -- whether a text begins with a glyph that is neither a mark nor a grapheme joiner
-abbrev pub opens_anew : Glyphs → Bool
-opens_anew [] = true
-opens_anew (g ∷ gs) = not (is_mark_glyph g) && not (g.glyph_id == grapheme_joiner)
+abbrev pub begins_anew : Glyphs → Bool
+begins_anew [] = true
+begins_anew (g ∷ gs) = not (is_mark_glyph g) && not (g.glyph_id == grapheme_joiner)
 
 -- whether it ends with a grapheme joiner
 abbrev pub ends_in_joiner : Glyphs → Bool
@@ -71,7 +71,7 @@ abbrev pub NormalizesInHalves : Type 0
 NormalizesInHalves = (context : Context) (level : BufferClusterLevel)
     (front : Glyphs) (g : Glyph) (behind : Glyphs) →
     OrdersAlone context → ShareNone front (g ∷ behind) → is_mark_glyph g ≡ false →
-    opens_anew (first_round context level (g ∷ behind)) ≡ true →
+    begins_anew (first_round context level (g ∷ behind)) ≡ true →
     ends_in_joiner (marks_ordered context level (first_round context level front)) ≡ false →
     normalized context Always level (front ++ g ∷ behind)
     ≡ normalized context Always level front ++ normalized context Always level (g ∷ behind)

@@ -39,7 +39,7 @@ whole = fraction_features 0x10 0x20 0x40
 abbrev one_23rd : List ℕ
 one_23rd = 0x61 ∷ 0x31 ∷ 0x2044 ∷ 0x32 ∷ 0x33 ∷ 0x62 ∷ []
 
--- a1⁄23b by direction: the numerator stands first where the text runs forward
+-- a1⁄23b by direction: the numerator stands first where the text goes forward
 forward : map (λ d. masks whole (buffer d 0 one_23rd)) (LeftToRight ∷ TopToBottom ∷ [])
     ≡ (0 ∷ 0x30 ∷ 0x13 ∷ 0x53 ∷ 0x53 ∷ 0 ∷ []) ∷ (0 ∷ 0x30 ∷ 0x13 ∷ 0x53 ∷ 0x53 ∷ 0 ∷ []) ∷ []
 unfolding general_category class_of_mark

@@ -11,7 +11,7 @@ use Rattle.shapers_prepare.specs.FirstCircle.{with_first_circle}
 use Rattle.shapers_prepare.specs.Graphemes.{clusters_formed}
 use Rattle.shapers_prepare.specs.NativeDirection.{in_native_direction}
 use Rattle.shapers_prepare.specs.Rotation.{rotated_glyph}
-use Rattle.shapers_pipeline.specs.Prepared.{Growth, Preparation, context_of, growth_of_normalization, growth_of_preprocessing, growths, growths_from, normalized_from, rotated_from, rotation_to, text_begun, text_directed, text_normalized, text_opened}
+use Rattle.shapers_pipeline.specs.Prepared.{Growth, Preparation, context_of, growth_of_normalization, growth_of_preprocessing, growths, growths_from, normalized_from, rotated_from, rotation_to, text_begun, text_directed, text_normalized, text_circled}
 use Rattle.shapers_pipeline.specs.Refusals.{AllHadRoom, OneRefused}
 use Rattle.shapers_pipeline.specs.ShaperSteps.{preprocessed_for, preprocessed_len}
 use Rattle.shapers_pipeline.proofs.Directed.{limit_stays}
@@ -79,7 +79,7 @@ is_directed p old a b d direction s = s.turned ∙ (ap directed_of s.opened ∙ 
 
 same_limit : (p : Preparation) (old a b d : Buffer) (direction : Direction) → Opened p old a b d direction → d.max_len ≡ old.max_len
 same_limit p old a b d direction s =
-    let opened = text_opened p old in
+    let opened = text_circled p old in
     let formed : Buffer = record opened { glyphs = clusters_formed opened.level opened.glyphs } in
     ap (λ x. x.max_len) (is_directed p old a b d direction s) ∙ limit_stays formed
 

@@ -8,7 +8,7 @@ use Rattle.shapers_buffer.specs.Glyphs.{Glyphs}
 use Rattle.shapers_buffer.specs.declared.buffer.level.BufferClusterLevel.{BufferClusterLevel}
 use Rattle.shapers_buffer.specs.Clusters.{merge, stretch_of}
 use Rattle.shapers_buffer.specs.Glyph.{clusters, default_glyph, order_view, plain}
-use Rattle.shapers_clusters.specs.Steps.{run_step, swap_step}
+use Rattle.shapers_clusters.specs.Steps.{after_step, swap_step}
 use Rattle.shapers_clusters.proofs.Halves.{Each}
 use Rattle.shapers_clusters.proofs.Merging.{length-merge, map-merge_all}
 use Rattle.shapers_clusters.proofs.Swaps.{run-still_step, run-swap_step}
@@ -52,9 +52,9 @@ within s e gs some long = second_within gs s e (omega arith) long
 alone_by : (P : ℕ → Type 0) (level : BufferClusterLevel) (s : ℕ) (before gs rest : Glyphs) (o : Option ℕ)
     → IfSome (option_map (λ i. s + i + 1) o) (λ i. i + 1 < length gs) → Each P gs → Each (Not P) before
     → Each (Not P) rest →
-    run_step level (step_at (length (before ++ (gs ++ rest))) (option_map (λ i. length before + s + i + 1) o))
+    after_step level (step_at (length (before ++ (gs ++ rest))) (option_map (λ i. length before + s + i + 1) o))
     (before ++ (gs ++ rest))
-    ≡ before ++ (run_step level (step_at (length gs) (option_map (λ i. s + i + 1) o)) gs ++ rest)
+    ≡ before ++ (after_step level (step_at (length gs) (option_map (λ i. s + i + 1) o)) gs ++ rest)
 alone_by P level s before gs rest None inside p x y =
     run-still_step level (before ++ (gs ++ rest)) ∙ ap (λ xs. before ++ (xs ++ rest)) (sym (run-still_step level gs))
 alone_by P level s before gs rest (Some j) inside p x y =
@@ -66,7 +66,7 @@ alone_by P level s before gs rest (Some j) inside p x y =
     let long : a + i + 1 < length whole =
     omega (arith, inside, length-append before (gs ++ rest), length-append gs rest) in
     let ms = merge level i (i + 2) gs in
-    ap (λ k. run_step level (swap_step (length whole) k) whole) place
+    ap (λ k. after_step level (swap_step (length whole) k) whole) place
     ∙ run-swap_step level whole (a + i) long
     ∙ ap (λ b. swap (merge level (a + i) b whole) (a + i) (a + i + 1)) end
     ∙ ap (λ xs. swap xs (a + i) (a + i + 1))
@@ -76,11 +76,11 @@ alone_by P level s before gs rest (Some j) inside p x y =
 
 pub hebrew_alone : (P : ℕ → Type 0) (level : BufferClusterLevel) (s e : ℕ) (before gs rest : Glyphs)
     → s < e → e ≤ length gs → Each P gs → Each (Not P) before → Each (Not P) rest →
-    run_step level (hebrew_mark_step (length before + s) (length before + e) (before ++ (gs ++ rest)))
-    (before ++ (gs ++ rest)) ≡ before ++ (run_step level (hebrew_mark_step s e gs) gs ++ rest)
+    after_step level (hebrew_mark_step (length before + s) (length before + e) (before ++ (gs ++ rest)))
+    (before ++ (gs ++ rest)) ≡ before ++ (after_step level (hebrew_mark_step s e gs) gs ++ rest)
 hebrew_alone P level s e before gs rest some long p x y =
     let whole = before ++ (gs ++ rest) in
-    ap (λ marks. run_step level
+    ap (λ marks. after_step level
     (step_at (length whole) (option_map (λ i. length before + s + i + 1) (triple_place marks))) whole)
     (within_part s e before gs rest (omega arith) long)
     ∙ alone_by P level s before gs rest (triple_place (stretch_of s e gs)) (within s e gs some long) p x y
@@ -97,7 +97,7 @@ front_by s view (Some j) inside =
     ∙ take-set-le s view i y (omega arith)
 
 pub hebrew_in_front : (level : BufferClusterLevel) (s e : ℕ) (gs : Glyphs) → s < e → e ≤ length gs
-    → take s (order_view (run_step level (hebrew_mark_step s e gs) gs)) ≡ take s (order_view gs)
+    → take s (order_view (after_step level (hebrew_mark_step s e gs) gs)) ≡ take s (order_view gs)
 hebrew_in_front level s e gs some long =
     let view = order_view gs in
     ap (take s) (marks_view level s e gs (within s e gs some long))
@@ -105,15 +105,15 @@ hebrew_in_front level s e gs some long =
     (second_within view s e (omega arith) (omega (arith, length-map gs plain)))
 
 pub hebrew_same_length : (level : BufferClusterLevel) (s e : ℕ) (gs : Glyphs) → s < e → e ≤ length gs
-    → length (run_step level (hebrew_mark_step s e gs) gs) ≡ length gs
+    → length (after_step level (hebrew_mark_step s e gs) gs) ≡ length gs
 hebrew_same_length level s e gs some long =
-    let new = run_step level (hebrew_mark_step s e gs) gs in
+    let new = after_step level (hebrew_mark_step s e gs) gs in
     sym (length-map new (λ g. g.cluster))
     ∙ (mark_laws level s e gs (within s e gs some long)).glyphs.in_clusters.same_length
     ∙ length-map gs (λ g. g.cluster)
 
 pub hebrew_old_clusters : (level : BufferClusterLevel) (s e : ℕ) (gs : Glyphs) → s < e → e ≤ length gs
-    → All (Contains (clusters gs)) (clusters (run_step level (hebrew_mark_step s e gs) gs))
+    → All (Contains (clusters gs)) (clusters (after_step level (hebrew_mark_step s e gs) gs))
 hebrew_old_clusters level s e gs some long =
     (mark_laws level s e gs (within s e gs some long)).glyphs.in_clusters.old_clusters
 
@@ -133,7 +133,7 @@ before_end s e gs some long =
 
 behind_by : (level : BufferClusterLevel) (s e : ℕ) (gs : Glyphs) (o : Option ℕ) → e ≤ length gs
     → IfSome (option_map (λ i. s + i + 1) o) (λ i. i + 1 < e)
-    → drop e (classes (run_step level (step_at (length gs) (option_map (λ i. s + i + 1) o)) gs)) ≡ drop e (classes gs)
+    → drop e (classes (after_step level (step_at (length gs) (option_map (λ i. s + i + 1) o)) gs)) ≡ drop e (classes gs)
 behind_by level s e gs None long inside = ap (λ xs. drop e (classes xs)) (run-still_step level gs)
 behind_by level s e gs (Some j) long inside =
     let i = s + j + 1 in
@@ -151,6 +151,6 @@ behind_by level s e gs (Some j) long inside =
     ∙ ap (drop e) seen
 
 pub hebrew_behind : (level : BufferClusterLevel) (s e : ℕ) (gs : Glyphs) → s < e → e ≤ length gs
-    → drop e (classes (run_step level (hebrew_mark_step s e gs) gs)) ≡ drop e (classes gs)
+    → drop e (classes (after_step level (hebrew_mark_step s e gs) gs)) ≡ drop e (classes gs)
 hebrew_behind level s e gs some long =
     behind_by level s e gs (triple_place (stretch_of s e gs)) long (before_end s e gs some long)

@@ -15,7 +15,7 @@ use Rattle.shapers_plan.specs.declared.ot_map.lookups.Stage.{Stage}
 use Rattle.shapers_plan.specs.declared.ot_map.lookups.StageLookup.{StageLookup}
 use Rattle.rustybuzz_shapers.specs.declared.shaper.hb_ot_shaper_t.TheVariants.{Arabic, Hangul, Hebrew, Indic, Khmer, Myanmar, MyanmarZawgyi, Thai, Universal}
 use Rattle.shapers_pipeline.specs.Lengths.{looked_up_bound, prepared_bound, preprocess_growth, shaped_bound, stage_bound, stages_bound}
-use Rattle.shapers_pipeline.specs.Prepared.{Preparation, text_opened, text_prepared}
+use Rattle.shapers_pipeline.specs.Prepared.{Preparation, text_circled, text_prepared}
 use Rattle.shapers_pipeline.specs.Stages.{Substitution, stage_looked_up}
 use Rattle.shapers_buffer.specs.Properties.{general_category}
 use Rattle.shapers_normal.specs.Sorting.{class_of_mark}
@@ -82,7 +82,7 @@ abbrev text : Buffer
 text = record (new_buffer 99) { glyphs = record default_glyph { glyph_id = 0xE008 } ∷ []; flags = record { 0 = 2 } }
 
 -- a circle comes in front, and each becomes nine
-opened : length (text_opened p text).glyphs ≡ 2
+opened : length (text_circled p text).glyphs ≡ 2
 unfolding general_category class_of_mark
 opened = refl
 

@@ -13,7 +13,7 @@ use Rattle.shapers_buffer.proofs.ClusterLemmas.{length-stretch}
 use Rattle.shapers_clusters.specs.Cuts.{IsMonotone}
 use Rattle.shapers_clusters.specs.Flags.{whole}
 use Rattle.shapers_clusters.specs.Laws.{ReorderedHold}
-use Rattle.shapers_clusters.specs.Steps.{MovesMerged, Step, all_first, run_step}
+use Rattle.shapers_clusters.specs.Steps.{MovesMerged, Step, all_first, after_step}
 use Rattle.shapers_clusters.proofs.Moves.{clusters-merge_all, end_within-all_first}
 use Rattle.shapers_clusters.proofs.Proved.{exact_cuts_hold}
 use Rattle.shapers_clusters.proofs.Widened.{moves-widened}
@@ -52,9 +52,9 @@ arabic_mono level s e gs m some long rises =
     (arabic.mark_laws level s e gs (omega arith) long) rises
 
 hebrew_mono : (level : BufferClusterLevel) (s e : ℕ) (gs : Glyphs) → merges level ≡ true → s < e
-    → e ≤ length gs → IsMonotone (clusters gs) → IsMonotone (clusters (run_step level (hebrew_mark_step s e gs) gs))
+    → e ≤ length gs → IsMonotone (clusters gs) → IsMonotone (clusters (after_step level (hebrew_mark_step s e gs) gs))
 hebrew_mono level s e gs m some long rises =
-    by_step level whole (hebrew_mark_step s e gs) gs (run_step level (hebrew_mark_step s e gs) gs) m
+    by_step level whole (hebrew_mark_step s e gs) gs (after_step level (hebrew_mark_step s e gs) gs) m
     (hebrew.mark_moves_merged s e gs (within s e gs some long))
     (hebrew.mark_laws level s e gs (within s e gs some long)) rises
 

@@ -22,7 +22,7 @@ use Rattle.shapers_position.specs.Widths.{advanced, mark_zeroed, positions_chang
 use Rattle.shapers_position.specs.declared.ot_shape_position.ignorables.DefaultIgnorables.{DefaultIgnorables}
 use Rattle.shapers_position.specs.declared.ot_shape_position.ignorables.DefaultIgnorables.TheVariants.{Hide, Preserve, Remove}
 use Rattle.shapers_choice.specs.Choice.{is_horizontal}
-use Rattle.shapers_prepare.specs.Rotation.{runs_backward}
+use Rattle.shapers_prepare.specs.Rotation.{goes_backward}
 use Rattle.shapers_stretch.specs.Recorded.{start_of}
 use Rattle.shapers_stretch.specs.Stretch.{marks_stretched, stretched_cells, with_cells}
 use Rattle.shapers_stretch.proofs.LaidText.{marks_longer}
@@ -114,7 +114,7 @@ looked f keeps (x ∷ xs) b pairs =
 in_order : (b : Buffer) → Placed b (ordered_for_drawing b)
 in_order b =
     let t : Buffer = record b { glyphs = reverse b.glyphs; positions = reverse b.positions } in
-    elim (runs_backward b.direction) as (λ test. Placed b (if test then t else b)) [
+    elim (goes_backward b.direction) as (λ test. Placed b (if test then t else b)) [
       | true ↦ record {
         keeps = record { level = refl; glyphs = turned (merges b.level) b.glyphs };
         paired = λ pairs. length-reverse b.positions ∙ pairs ∙ sym (length-reverse b.glyphs);
@@ -333,7 +333,7 @@ looked_limit f keeps (x ∷ xs) b pairs =
 order_limit : (b : Buffer) → (ordered_for_drawing b).max_len ≡ b.max_len
 order_limit b =
     let t : Buffer = record b { glyphs = reverse b.glyphs; positions = reverse b.positions } in
-    elim (runs_backward b.direction) as (λ test. (if test then t else b).max_len
+    elim (goes_backward b.direction) as (λ test. (if test then t else b).max_len
     ≡ b.max_len) [ true ↦ refl | false ↦ refl ]
 
 hidden_limit : (wanted : DefaultIgnorables) (glyph : Option GlyphId) (b : Buffer) →

@@ -6,7 +6,7 @@ use Rattle.std.specs.Option.{option_map_or}
 use Rattle.shapers_arabic.specs.PlanData.{breaks_of, masks_of}
 use Rattle.shapers_arabic.proofs.JoinedFlags.{joined_added}
 use Rattle.shapers_base.specs.Font.{CharacterTables, Font, dotted_circle, has_nominal}
-use Rattle.shapers_base.specs.Masks.{masks_kept, with_numbered_mask}
+use Rattle.shapers_base.specs.Masks.{masks_stored, with_numbered_mask}
 use Rattle.shapers_base.specs.declared.plan.arabic.arabic_shape_plan_t.{arabic_shape_plan_t}
 use Rattle.shapers_base.specs.declared.plan.hb_ot_shape_plan_t.{hb_ot_shape_plan_t}
 use Rattle.shapers_buffer.specs.Buffer.{Buffer, asks, flags_concat}
@@ -32,9 +32,9 @@ use Rattle.shapers_prepare.specs.FirstCircle.{behind_circle, first_circle, wants
 use Rattle.shapers_prepare.specs.GlyphProperties.{properties_set, with_properties_behind}
 use Rattle.shapers_prepare.specs.GraphemeLaws.{GraphemesCover, NoGraphemeSplits}
 use Rattle.shapers_prepare.specs.Graphemes.{clusters_formed}
-use Rattle.shapers_prepare.specs.NativeDirection.{graphemes_turned, graphemes_whole, in_native_direction, is_turned, native_direction, opposite_direction, text_direction}
-use Rattle.shapers_prepare.specs.Rotation.{as_other_character, mirrored_glyph, rotated_glyph, runs_backward, runs_vertically, upright_glyph, which_font_has}
-use Rattle.shapers_prepare.specs.Vowels.{circle_before_last, left_behind, vowel_circle, vowel_script_of, vowels_parted, vowels_parted_from, vowels_parted_in}
+use Rattle.shapers_prepare.specs.NativeDirection.{graphemes_reversed, graphemes_whole, in_native_direction, is_reversed, native_direction, opposite_direction, text_direction}
+use Rattle.shapers_prepare.specs.Rotation.{as_other_character, mirrored_glyph, rotated_glyph, goes_backward, goes_vertically, upright_glyph, which_font_has}
+use Rattle.shapers_prepare.specs.Vowels.{circle_before_last, left_behind, vowel_circle, vowel_script_of, vowels_circled, vowels_circled_from, vowels_circled_in}
 use Rattle.shapers_prepare.specs.declared.ot_shape_prepare.rotation.CharRotation.{CharRotation}
 use Rattle.shapers_syllabic.specs.Characters.{with_category, with_category_and_position}
 use Rattle.shapers_text.specs.ThaiForms.{asks_for_forms, marks_flagged, preprocessed_flagged, preprocessed_in_thai, preprocessed_text, pua_shaped}
@@ -54,7 +54,7 @@ use Rattle.shapers_pipeline.specs.ClusterLaws.{PreparationKeepsClusters}
 use Rattle.shapers_pipeline.specs.Fractions.{decimals_before, decimals_behind, fraction_around, fraction_marked, fractions_around, fractions_set, has_fractions, is_fraction_slash, slash_masks}
 use Rattle.shapers_pipeline.specs.Lookups.{text_noted, with_note}
 use Rattle.shapers_pipeline.specs.Masks.{as_glyph, with_feature, with_features, with_mask_alone}
-use Rattle.shapers_pipeline.specs.Prepared.{Preparation, context_of, normalized_from, rotated_from, rotation_to, text_begun, text_directed, text_in_fractions, text_normalized, text_opened, text_prepared}
+use Rattle.shapers_pipeline.specs.Prepared.{Preparation, context_of, normalized_from, rotated_from, rotation_to, text_begun, text_directed, text_in_fractions, text_normalized, text_circled, text_prepared}
 use Rattle.shapers_pipeline.specs.ShaperSteps.{masks_set_by, masks_set_for, preprocessed_by, preprocessed_for, universal_masks_set}
 use Rattle.shapers_pipeline.specs.declared.fractions.SlashMasks.{SlashMasks}
 use Rattle.shapers_pipeline.proofs.ClustersKept.{Kept, clusters-map, itself, kept_by, kept_sorted, kept_then, same}
@@ -97,10 +97,10 @@ circle_kept m p (g ∷ gs) =
     kept_by m (g ∷ gs) (first_circle p g ∷ (g ∷ gs)) (λ P own. (own.0, own))
     (λ R self own. ((self g.cluster, own.0), own))
 
-circle_opens : (p : Preparation) (b : Buffer) → Keeps b (text_opened p b)
+circle_opens : (p : Preparation) (b : Buffer) → Keeps b (text_circled p b)
 circle_opens p b =
     let t = text_begun p b in
-    after b t (text_opened p b) (begun p b) (record {
+    after b t (text_circled p b) (begun p b) (record {
       level = refl;
       glyphs = elim (wants_first_circle t && has_nominal p.font dotted_circle) as
           (λ test. Kept (merges t.level) t.glyphs (if test then behind_circle p.properties t.glyphs else t.glyphs)) [
@@ -118,10 +118,10 @@ directed_from cover splits b =
     let own = text_direction t.direction (native_direction t.script) t.glyphs in
     let turned : Buffer = record t {
       direction = opposite_direction t.direction;
-      glyphs = graphemes_turned
+      glyphs = graphemes_reversed
           (graphemes_whole t.level t.glyphs);
     } in
-    elim (is_turned t.direction own) as (λ test. Keeps b (if test then turned else t)) [
+    elim (is_reversed t.direction own) as (λ test. Keeps b (if test then turned else t)) [
       | true ↦ record { level = refl; glyphs = in_other_direction cover splits b.level b.glyphs }
       | false ↦ record { level = refl; glyphs = clusters_form b.level b.glyphs }
     ]
@@ -197,9 +197,9 @@ module _ {X : Type 0} (walk : X → ℕ → Glyphs → Glyphs)
   parted_by whole without by m (Some s) gs = subst (Kept m gs) (sym (by s gs))
       (kept_by m gs (walk s 0 gs) (λ P. each-parted P s 0 gs) (λ R self. pairs-parted R self s 0 gs))
 
-parted_kept : (m : Bool) (b : Buffer) → Kept m b.glyphs (vowels_parted b)
+parted_kept : (m : Bool) (b : Buffer) → Kept m b.glyphs (vowels_circled b)
 parted_kept m b =
-    parted_by vowels_parted_from left_behind (record { nil = λ s n. refl; cons = λ s n g gs. refl }) vowels_parted_in
+    parted_by vowels_circled_from left_behind (record { nil = λ s n. refl; cons = λ s n g gs. refl }) vowels_circled_in
     (λ gs. refl) (λ s gs. refl) m (vowel_script_of b) b.glyphs
 
 unchanged : (b : Buffer) → Keeps b b
@@ -257,9 +257,9 @@ mirrored_cluster p font false mask g = refl
 rotated_cluster : (p : CharacterProperties) (font : Font) (r : CharRotation) (g : Glyph) →
     (rotated_glyph p font r g).cluster ≡ g.cluster
 rotated_cluster p font r g =
-    let one = if runs_backward r.direction then mirrored_glyph p font r.rtlm_mask g else g in
-    let is = mirrored_cluster p font (runs_backward r.direction) r.rtlm_mask g in
-    elim (runs_vertically r.direction && not r.has_vert) as
+    let one = if goes_backward r.direction then mirrored_glyph p font r.rtlm_mask g else g in
+    let is = mirrored_cluster p font (goes_backward r.direction) r.rtlm_mask g in
+    elim (goes_vertically r.direction && not r.has_vert) as
     (λ test. (if test then upright_glyph p font one else one).cluster ≡ g.cluster) [
       | true ↦ upright_cluster p font one
           ∙ is
@@ -401,8 +401,8 @@ masks_keep plan tables b Arabic =
           (same_clusters b.glyphs new.glyphs (joined_added (breaks_of plan.plan_data)
           (masks_of plan.plan_data) plan.script tables.joining tables.general b new refl));
     }
-masks_keep plan tables b Hangul = map_keeps (with_numbered_mask (masks_kept plan.plan_data))
-    (numbered_cluster (masks_kept plan.plan_data)) b
+masks_keep plan tables b Hangul = map_keeps (with_numbered_mask (masks_stored plan.plan_data))
+    (numbered_cluster (masks_stored plan.plan_data)) b
 masks_keep plan tables b Indic = map_keeps (with_category_and_position tables) (λ g. refl) b
 masks_keep plan tables b Khmer = map_keeps (with_category tables) (λ g. refl) b
 masks_keep plan tables b Myanmar = map_keeps (with_category tables) (λ g. refl) b
@@ -432,7 +432,7 @@ features_cluster (f ∷ fs) g = features_cluster fs (with_feature g f) ∙ featu
 
 all_but_lookups : Laws → (p : Preparation) (b : Buffer) → Keeps b (text_prepared p b)
 all_but_lookups laws p b =
-    let o = text_opened p b in
+    let o = text_circled p b in
     let d = text_directed p b in
     let n = text_normalized p b in
     let f = text_in_fractions p b in

@@ -87,20 +87,20 @@ without_data : (plan : hb_ot_shape_plan_t) (font : Font) (b : Buffer) → b.posi
 without_data plan font b unplaced other = (((unplaced, tt, tt), other), tt)
 
 -- what sets up syllables refuses nothing, memory for their spans least of all
-set_up_refuses_none : (plan : hb_ot_shape_plan_t) (font : Font) (b : Buffer) (e : ShaperError) →
+setup_refuses_none : (plan : hb_ot_shape_plan_t) (font : Font) (b : Buffer) (e : ShaperError) →
     (PauseStopped SetupSyllablesIndic plan font b (call.Refused e) → ⊥)
     × ((PauseStopped SetupSyllablesKhmer plan font b (call.Refused e) → ⊥)
     × ((PauseStopped SetupSyllablesMyanmar plan font b (call.Refused e) → ⊥)
     × (PauseStopped SetupSyllablesUse plan font b (call.Refused e) → ⊥)))
-set_up_refuses_none plan font b e =
+setup_refuses_none plan font b e =
     ((λ k. false≢true k.1), ((λ k. false≢true k.1), ((λ k. false≢true k.1), (λ k. false≢true k.1))))
 
 -- its spans fit their condition, so that it stops at no other than the plan's
-set_up_stops : (plan : hb_ot_shape_plan_t) (font : Font) (b : Buffer) → b.positions ≡ [] →
+setup_stops : (plan : hb_ot_shape_plan_t) (font : Font) (b : Buffer) → b.positions ≡ [] →
     (is_universal plan.plan_data ≡ true → ⊥) →
     PauseStopped SetupSyllablesUse plan font b (call.Condition PlanData)
     × (PauseStopped SetupSyllablesUse plan font b (call.Condition SpanKinds) → ⊥)
-set_up_stops plan font b unplaced other = ((((unplaced, tt, tt), other), tt), (λ k. other k.0.0.3))
+setup_stops plan font b unplaced other = ((((unplaced, tt, tt), other), tt), (λ k. other k.0.0.3))
 
 -- a record refuses nothing; nor does a reordering whose data are another's
 record_refuses_none : (plan : hb_ot_shape_plan_t) (font : Font) (b : Buffer) (e : ShaperError) →

@@ -10,7 +10,7 @@ use Rattle.std.proofs.lemmas.List.Sorted.{length_permutation}
 use Rattle.std.proofs.lemmas.List.Sums.{count_by-le-length}
 use Rattle.shapers_arabic.specs.PlanData.{breaks_of, masks_of}
 use Rattle.shapers_arabic.proofs.JoinedFlags.{joined_added}
-use Rattle.shapers_base.specs.Masks.{masks_kept, with_numbered_mask}
+use Rattle.shapers_base.specs.Masks.{masks_stored, with_numbered_mask}
 use Rattle.shapers_base.specs.declared.plan.arabic.arabic_shape_plan_t.{arabic_shape_plan_t}
 use Rattle.shapers_base.specs.Font.{CharacterTables, Font, dotted_circle, has_nominal}
 use Rattle.shapers_base.specs.declared.font.GlyphId.{GlyphId}
@@ -37,7 +37,7 @@ use Rattle.shapers_normal.specs.Laws.{OrdersAlone}
 use Rattle.shapers_normal.specs.Normalization.{composes, has_rounds, joiners_shown, later_rounds, shown_behind}
 use Rattle.shapers_normal.specs.Properties.{as_character}
 use Rattle.shapers_normal.specs.Recomposition.{StarterWalk, composition, left_as_is, next_glyph, recomposed, taken_in, walk_over}
-use Rattle.shapers_normal.specs.Sorting.{class_of, classes, mark_runs, marks_ordered, max_marks, run_ordered, run_sorted}
+use Rattle.shapers_normal.specs.Sorting.{class_of, classes, mark_sequences, marks_ordered, max_marks, sequence_ordered, sequence_sorted}
 use Rattle.shapers_normal.proofs.RecompositionHalves.{Walking, left_over, length-left, walk_start, walking_by, walking_start}
 use Rattle.shapers_normal.proofs.SortingHalves.{run_alone, runs_within}
 use Rattle.shapers_normal.proofs.VariantHalves.{grows_ninefold}
@@ -46,9 +46,9 @@ use Rattle.shapers_prepare.specs.CharacterProperties.{CharacterProperties}
 use Rattle.shapers_prepare.specs.FirstCircle.{behind_circle, wants_first_circle}
 use Rattle.shapers_prepare.specs.GraphemeLaws.{GraphemesCover}
 use Rattle.shapers_prepare.specs.Graphemes.{clusters_formed, graphemes}
-use Rattle.shapers_prepare.specs.NativeDirection.{graphemes_turned, graphemes_whole, is_turned, native_direction, opposite_direction, text_direction}
+use Rattle.shapers_prepare.specs.NativeDirection.{graphemes_reversed, graphemes_whole, is_reversed, native_direction, opposite_direction, text_direction}
 use Rattle.shapers_prepare.specs.Rotation.{rotated_glyph}
-use Rattle.shapers_prepare.specs.Vowels.{left_behind, vowel_circle, vowel_script_of, vowels_parted, vowels_parted_from, vowels_parted_in}
+use Rattle.shapers_prepare.specs.Vowels.{left_behind, vowel_circle, vowel_script_of, vowels_circled, vowels_circled_from, vowels_circled_in}
 use Rattle.shapers_syllabic.specs.Characters.{with_category, with_category_and_position}
 use Rattle.shapers_text.specs.Thai.{glyph_rule, is_sara_am}
 use Rattle.shapers_text.specs.ThaiForms.{preprocessed_in_thai}
@@ -64,7 +64,7 @@ use Rattle.rustybuzz_shapers.proofs.Monotone.{same_clusters}
 use Rattle.shapers_pipeline.specs.Lengths.{PreparationGrows, PreparationHasRoom, prepared_bound, preprocess_growth}
 use Rattle.shapers_pipeline.specs.Lookups.{with_note}
 use Rattle.shapers_pipeline.specs.Masks.{as_glyph, with_features, with_mask_alone}
-use Rattle.shapers_pipeline.specs.Prepared.{Growth, Preparation, context_of, growths, rotated_from, rotation_to, text_begun, text_directed, text_in_fractions, text_normalized, text_opened, text_prepared}
+use Rattle.shapers_pipeline.specs.Prepared.{Growth, Preparation, context_of, growths, rotated_from, rotation_to, text_begun, text_directed, text_in_fractions, text_normalized, text_circled, text_prepared}
 use Rattle.shapers_pipeline.specs.Refusals.{OneRefused}
 use Rattle.shapers_pipeline.specs.ShaperSteps.{masks_set_by, masks_set_for, universal_masks_set, preprocessed_by, preprocessed_for, preprocessed_len, preprocessed_len_by}
 use Rattle.shapers_pipeline.proofs.PreparedClusters.{Parts, clusters-properties, fraction_clusters}
@@ -90,7 +90,7 @@ circle_long : (p : CharacterProperties) (gs : Glyphs) → length (behind_circle 
 circle_long p [] = omega arith
 circle_long p (g ∷ gs) = omega arith
 
-opened_long : (p : Preparation) (b : Buffer) → length (text_opened p b).glyphs ≤ length b.glyphs + 1
+opened_long : (p : Preparation) (b : Buffer) → length (text_circled p b).glyphs ≤ length b.glyphs + 1
 opened_long p b =
     let t = text_begun p b in
     let same = begun_long p b in
@@ -112,7 +112,7 @@ whole_long MonotoneGraphemes gs = refl
 whole_long MonotoneCharacters gs = length-merge_all MonotoneCharacters (graphemes gs) gs (ends_within gs)
 whole_long Characters gs = refl
 
-turned_long : GraphemesCover → (gs : Glyphs) → length (graphemes_turned gs) ≡ length gs
+turned_long : GraphemesCover → (gs : Glyphs) → length (graphemes_reversed gs) ≡ length gs
 turned_long cover gs =
     let part = λ (st : ℕ × ℕ). stretch_of st.0 st.1 gs in
     let sts = graphemes gs in
@@ -120,17 +120,17 @@ turned_long cover gs =
     ∙ ap length (cover gs)
 
 directed_long : GraphemesCover → (p : Preparation) (b : Buffer) → length (text_directed p b).glyphs
-    ≡ length (text_opened p b).glyphs
+    ≡ length (text_circled p b).glyphs
 directed_long cover p b =
-    let o = text_opened p b in
+    let o = text_circled p b in
     let t : Buffer = record o { glyphs = clusters_formed o.level o.glyphs } in
     let own = text_direction t.direction (native_direction t.script) t.glyphs in
     let turned : Buffer = record t {
       direction = opposite_direction t.direction;
-      glyphs = graphemes_turned (graphemes_whole t.level t.glyphs);
+      glyphs = graphemes_reversed (graphemes_whole t.level t.glyphs);
     } in
     let formed = formed_long o.level o.glyphs in
-    elim (is_turned t.direction own) as (λ test. length (if test then turned else t).glyphs ≡ length o.glyphs) [
+    elim (is_reversed t.direction own) as (λ test. length (if test then turned else t).glyphs ≡ length o.glyphs) [
       | true ↦ turned_long cover (graphemes_whole t.level t.glyphs) ∙ whole_long t.level t.glyphs ∙ formed
       | false ↦ formed
     ]
@@ -159,9 +159,9 @@ module _ {X : Type 0} (walk : X → ℕ → Glyphs → Glyphs)
   long_by whole without by None gs = omega (arith, ap length (without gs))
   long_by whole without by (Some s) gs = omega (arith, ap length (by s gs), long-walk s 0 gs)
 
-parted_long : (b : Buffer) → length (vowels_parted b) ≤ length b.glyphs * 2
+parted_long : (b : Buffer) → length (vowels_circled b) ≤ length b.glyphs * 2
 parted_long b =
-    long_by vowels_parted_from left_behind (record { nil = λ s n. refl; cons = λ s n g gs. refl }) vowels_parted_in
+    long_by vowels_circled_from left_behind (record { nil = λ s n. refl; cons = λ s n g gs. refl }) vowels_circled_in
     (λ gs. refl) (λ s gs. refl) (vowel_script_of b) b.glyphs
 
 few_ams : (gs : Glyphs) → count_by (λ g. is_sara_am g.glyph_id) gs ≤ length gs
@@ -222,9 +222,9 @@ any_each [] = tt
 any_each (g ∷ gs) = (tt, any_each gs)
 
 run_long : (context : Context) → OrdersAlone context → (level : BufferClusterLevel) (run : ℕ × ℕ)
-    (gs : Glyphs) → run.1 ≤ length gs → length (run_ordered context level run gs) ≡ length gs
+    (gs : Glyphs) → run.1 ≤ length gs → length (sequence_ordered context level run gs) ≡ length gs
 run_long context o level run gs within =
-    let sorted = run_sorted level run.0 run.1 gs in
+    let sorted = sequence_sorted level run.0 run.1 gs in
     let same = (run_alone Any level run.0 run.1 (length gs) within).same_length gs (le_refl (length gs)) in
     elim (nat_lt run.0 run.1) as (λ some. nat_lt run.0 run.1 ≡ some →
     length (if some && nat_le (run.1 - run.0) max_marks then context.reordered level run.0 run.1 sorted else gs)
@@ -240,16 +240,16 @@ run_long context o level run gs within =
 
 runs_long : (context : Context) → OrdersAlone context → (level : BufferClusterLevel) (n : ℕ) (runs : List (ℕ × ℕ))
     (gs : Glyphs) → n ≡ length gs → AllByRecursion (λ run. run.1 ≤ n) runs →
-    length (fold (λ gs run. run_ordered context level run gs) gs runs) ≡ n
+    length (fold (λ gs run. sequence_ordered context level run gs) gs runs) ≡ n
 runs_long context o level n [] gs long all = sym long
 runs_long context o level n (run ∷ runs) gs long all =
     let one = run_long context o level run gs (omega (arith, long, all.0)) in
-    runs_long context o level n runs (run_ordered context level run gs) (omega (arith, long, one)) all.1
+    runs_long context o level n runs (sequence_ordered context level run gs) (omega (arith, long, one)) all.1
 
 ordered_long : (context : Context) → OrdersAlone context → (level : BufferClusterLevel) (gs : Glyphs) →
     length (marks_ordered context level gs) ≡ length gs
 ordered_long context o level gs =
-    runs_long context o level (length gs) (mark_runs 0 0 (classes gs)) gs refl
+    runs_long context o level (length gs) (mark_sequences 0 0 (classes gs)) gs refl
     (runs_within 0 0 (length gs) (classes gs) (omega (arith, length-map gs class_of)))
 
 shown_behind_long : (before : ℕ) (gs : Glyphs) → length (shown_behind before gs) ≡ length gs
@@ -364,7 +364,7 @@ masked_with : (plan : hb_ot_shape_plan_t) (tables : CharacterTables) (b : Buffer
 masked_with plan tables b Arabic = joined_long b (masks_set_by plan tables b Arabic)
     (joined_added (breaks_of plan.plan_data) (masks_of plan.plan_data) plan.script tables.joining tables.general b _
     refl)
-masked_with plan tables b Hangul = length-map b.glyphs (with_numbered_mask (masks_kept plan.plan_data))
+masked_with plan tables b Hangul = length-map b.glyphs (with_numbered_mask (masks_stored plan.plan_data))
 masked_with plan tables b Indic = length-map b.glyphs (with_category_and_position tables)
 masked_with plan tables b Khmer = length-map b.glyphs (with_category tables)
 masked_with plan tables b Myanmar = length-map b.glyphs (with_category tables)
@@ -439,7 +439,7 @@ preparation_has_room laws p old new (call.Refused e) room stopped =
     let r = rotated_from p old.direction d in
     let bound = prepared_bound p.shaper n in
     let some = times_some p.shaper in
-    let opened : length (text_opened p old).glyphs ≤ bound =
+    let opened : length (text_circled p old).glyphs ≤ bound =
     omega (arith, opened_long p old, le-mul_of_pos_right (n + 1) some) in
     let preprocessed : preprocessed_len p.shaper p.font d ≤ bound =
     omega (arith, wanted_long laws.grows p.shaper p.plan p.font d, in_times laws p old) in
@@ -496,7 +496,7 @@ hook_limit_if (Some shaper) plan font b = hook_limit plan font b shaper
 
 pub prepared_limit : (p : Preparation) (b : Buffer) → (text_prepared p b).max_len ≡ b.max_len
 prepared_limit p b =
-    let o = text_opened p b in
+    let o = text_circled p b in
     let formed : Buffer = record o { glyphs = clusters_formed o.level o.glyphs } in
     masked_limit_if p.shaper p.plan p.tables (text_in_fractions p b)
     ∙ hook_limit_if p.shaper p.plan p.font (text_directed p b)

@@ -23,7 +23,7 @@ use Rattle.shapers_clusters.proofs.Proved.{exact_cuts_hold}
 use Rattle.shapers_normal.proofs.Beside.{all_of, each_of}
 use Rattle.shapers_prepare.specs.GraphemeLaws.{GraphemesCover, NoGraphemeSplits}
 use Rattle.shapers_prepare.specs.Graphemes.{clusters_formed, continuations, graphemes, graphemes_from}
-use Rattle.shapers_prepare.specs.NativeDirection.{graphemes_turned, graphemes_whole}
+use Rattle.shapers_prepare.specs.NativeDirection.{graphemes_reversed, graphemes_whole}
 use Rattle.shapers_pipeline.proofs.ClustersKept.{Kept, kept_then, same, turned}
 use Rattle.rustybuzz_shapers.proofs.Monotone.{all_from}
 
@@ -184,7 +184,7 @@ turned_parts f (st ∷ sts) own =
 
 -- ---- turned grapheme by grapheme
 
-turned_whole : GraphemesCover → (gs : Glyphs) → Whole gs → clusters (graphemes_turned gs) ≡ clusters
+turned_whole : GraphemesCover → (gs : Glyphs) → Whole gs → clusters (graphemes_reversed gs) ≡ clusters
     (reverse gs)
 turned_whole cover gs whole =
     turned_parts (λ st. stretch_of st.0 st.1 gs) (graphemes gs) (parts_reversed gs (graphemes gs) (ones gs whole))
@@ -198,11 +198,11 @@ each-parts P gs own (st ∷ sts) =
     (each-take P (st.1 - st.0) (drop st.0 gs) (each-drop P st.0 gs own)) (each-parts P gs own sts)
 
 turned_kept : GraphemesCover → (m : Bool) (gs : Glyphs) → (m ≡ true → Whole gs) → Kept m gs
-    (graphemes_turned gs)
+    (graphemes_reversed gs)
 turned_kept cover m gs whole =
     let P : ℕ → Type 0 = Contains (clusters gs) in
     record {
-      none = all_of P (graphemes_turned gs) (each-parts P gs (each_of P gs (All-contains_itself (clusters gs)))
+      none = all_of P (graphemes_reversed gs) (each-parts P gs (each_of P gs (All-contains_itself (clusters gs)))
           (reverse (graphemes gs)));
       mono = λ merging rises. subst IsMonotone (sym (turned_whole cover gs (whole merging)))
           ((turned m gs).mono merging rises);
@@ -210,19 +210,19 @@ turned_kept cover m gs whole =
 
 -- the text in the other direction
 pub in_other_direction : GraphemesCover → NoGraphemeSplits → (level : BufferClusterLevel) (gs : Glyphs) →
-    Kept (merges level) gs (graphemes_turned (graphemes_whole level (clusters_formed level gs)))
+    Kept (merges level) gs (graphemes_reversed (graphemes_whole level (clusters_formed level gs)))
 in_other_direction cover splits MonotoneGraphemes gs =
     let text = merge_all MonotoneGraphemes (graphemes gs) gs in
-    kept_then true gs text (graphemes_turned text) (graphemes_merge MonotoneGraphemes gs)
+    kept_then true gs text (graphemes_reversed text) (graphemes_merge MonotoneGraphemes gs)
     (turned_kept cover true text (λ _. merged_whole splits gs))
 in_other_direction cover splits MonotoneCharacters gs =
     let flags = unsafe_all (graphemes gs) gs in
     let text = merge_all MonotoneCharacters (graphemes flags) flags in
-    kept_then true gs text (graphemes_turned text)
+    kept_then true gs text (graphemes_reversed text)
     (kept_then true gs flags text (clusters_form MonotoneCharacters gs) (graphemes_merge MonotoneCharacters flags))
     (turned_kept cover true text (λ _. subst Whole (sym (merged_alike (graphemes flags) flags))
     (merged_whole splits flags)))
 in_other_direction cover splits Characters gs =
     let flags = unsafe_all (graphemes gs) gs in
-    kept_then false gs flags (graphemes_turned flags) (clusters_form Characters gs)
+    kept_then false gs flags (graphemes_reversed flags) (clusters_form Characters gs)
     (turned_kept cover false flags (λ never. absurd (false≢true never)))

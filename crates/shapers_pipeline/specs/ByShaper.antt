@@ -13,7 +13,7 @@ use Rattle.shapers_base.specs.declared.plan.record.NormalizationMode.TheVariants
 use Rattle.shapers_buffer.specs.declared.buffer.category.hb_unicode_general_category_t.TheVariants.{Cn}
 use Rattle.shapers_buffer.specs.Glyphs.{Glyphs}
 use Rattle.shapers_buffer.specs.declared.buffer.level.BufferClusterLevel.{BufferClusterLevel}
-use Rattle.shapers_clusters.specs.Steps.{run_step}
+use Rattle.shapers_clusters.specs.Steps.{after_step}
 use Rattle.shapers_indic.specs.Characters.{composed_in_indic, decomposed_in_indic}
 use Rattle.shapers_khmer.specs.Khmer.{decomposed_in_khmer}
 use Rattle.shapers_syllabic.specs.Characters.{composed_behind}
@@ -56,7 +56,7 @@ composed_for shaper plan tables a b =
 abbrev pub ordered_by : BufferClusterLevel → ℕ → ℕ → Glyphs → hb_ot_shaper_t →
     Glyphs
 ordered_by level s e gs Arabic = marks_reordered s e (marks_merged level s e gs)
-ordered_by level s e gs Hebrew = run_step level (hebrew_mark_step s e gs) gs
+ordered_by level s e gs Hebrew = after_step level (hebrew_mark_step s e gs) gs
 ordered_by level s e gs shaper = gs
 
 abbrev pub ordered_for : Option hb_ot_shaper_t → BufferClusterLevel → ℕ → ℕ →

@@ -27,17 +27,17 @@ decimals_before i gs = suffix_len is_decimal_glyph (take i gs)
 abbrev pub decimals_behind : ℕ → Glyphs → ℕ
 decimals_behind i gs = prefix_len is_decimal_glyph (drop (i + 1) gs)
 
-abbrev pub runs_forward : Direction → Bool
-runs_forward LeftToRight = true
-runs_forward TopToBottom = true
-runs_forward _ = false
+abbrev pub goes_forward : Direction → Bool
+goes_forward LeftToRight = true
+goes_forward TopToBottom = true
+goes_forward _ = false
 
--- numerators stand first where the text runs forward
+-- numerators stand first where the text goes forward
 abbrev pub slash_masks : Direction → DriverMasks → SlashMasks
 slash_masks direction m =
     let numerators = bit_or m.numr m.frac in
     let denominators = bit_or m.frac m.dnom in
-    if runs_forward direction
+    if goes_forward direction
     then record { before = numerators; slash = m.frac; behind = denominators }
     else record { before = denominators; slash = m.frac; behind = numerators }
 

@@ -18,13 +18,13 @@ use Rattle.shapers_position.specs.Metrics.{Metrics}
 use Rattle.shapers_position.specs.Spaces.{space_placed}
 use Rattle.shapers_position.specs.Widths.{advanced, marks_zeroed, positions_changed}
 use Rattle.shapers_position.specs.declared.ot_shape_position.ignorables.DefaultIgnorables.{DefaultIgnorables}
-use Rattle.shapers_prepare.specs.Rotation.{runs_backward}
+use Rattle.shapers_prepare.specs.Rotation.{goes_backward}
 use Rattle.shapers_stretch.specs.Recorded.{start_of}
 use Rattle.shapers_stretch.specs.Stretch.{marks_stretched}
 use Rattle.rustybuzz_shapers.specs.Records.{zeroes_marks}
 use Rattle.rustybuzz_shapers.specs.declared.shaper.hb_ot_shaper_t.{hb_ot_shaper_t}
 use Rattle.rustybuzz_shapers.specs.declared.shaper.hb_ot_shaper_t.TheVariants.{Arabic}
-use Rattle.shapers_pipeline.specs.Fractions.{runs_forward}
+use Rattle.shapers_pipeline.specs.Fractions.{goes_forward}
 use Rattle.shapers_pipeline.specs.Lookups.{looked_up}
 
 -- what a text is positioned by: the shaper and the plan that its hooks read, whether GPOS is
@@ -58,7 +58,7 @@ is_late _ = false
 -- whether marks without advances hang over the glyph before them: without GPOS, where the text runs
 -- forward
 abbrev pub hangs_marks : Bool → Direction → Bool
-hangs_marks applies_gpos direction = not applies_gpos && runs_forward direction
+hangs_marks applies_gpos direction = not applies_gpos && goes_forward direction
 
 -- marks without advances, if this is the time
 abbrev pub marks_zeroed_if : Bool → (Glyph → Bool) → Bool → Buffer → Buffer
@@ -100,7 +100,7 @@ abbrev pub ordered_for_drawing : Buffer → Buffer
 ordered_for_drawing b =
     let turned : Buffer =
     record b { glyphs = reverse b.glyphs; positions = reverse b.positions } in
-    if runs_backward b.direction then turned else b
+    if goes_backward b.direction then turned else b
 
 -- with what is attached to others in its place, in that order, and ignorable glyphs hidden
 abbrev pub text_positioned : Positioning → Buffer → Buffer

@@ -60,15 +60,15 @@ text_begun p b =
     record b { glyphs = properties_set p.properties masked }
 
 -- with a circle in front of a first mark
-abbrev pub text_opened : Preparation → Buffer → Buffer
-text_opened p b =
+abbrev pub text_circled : Preparation → Buffer → Buffer
+text_circled p b =
     let begun = text_begun p b in
     record begun { glyphs = with_first_circle p.properties p.font begun }
 
 -- in its own direction, each grapheme in its cluster
 abbrev pub text_directed : Preparation → Buffer → Buffer
 text_directed p b =
-    let opened = text_opened p b in
+    let opened = text_circled p b in
     let formed : Buffer = record opened { glyphs = clusters_formed opened.level opened.glyphs } in
     in_native_direction formed
 
@@ -111,7 +111,7 @@ pub record Growth : Type 0 where
 
 abbrev pub growth_of_circle : Preparation → Buffer → Growth
 growth_of_circle p b =
-    record { wanted = length (text_opened p b).glyphs; before = text_begun p b }
+    record { wanted = length (text_circled p b).glyphs; before = text_begun p b }
 
 -- and those behind it, once the text is in its own direction
 abbrev pub growth_of_preprocessing : Preparation → Buffer → Growth

@@ -11,7 +11,7 @@ use Rattle.shapers_buffer.specs.Glyphs.{Glyphs}
 use Rattle.shapers_buffer.specs.declared.buffer.tag.Script.{Script}
 use Rattle.shapers_hangul.specs.Hangul.{rewritten, rewritten_by}
 use Rattle.shapers_hangul.specs.Masks.{with_jamo_masks}
-use Rattle.shapers_prepare.specs.Vowels.{vowels_parted}
+use Rattle.shapers_prepare.specs.Vowels.{vowels_circled}
 use Rattle.shapers_syllabic.specs.Characters.{with_category, with_category_and_position}
 use Rattle.shapers_text.specs.Thai.{glyphs_in_two}
 use Rattle.shapers_text.specs.ThaiForms.{preprocessed_in_thai}
@@ -25,8 +25,8 @@ use Rattle.rustybuzz_shapers.specs.declared.shaper.hb_ot_shaper_t.TheVariants.{A
 abbrev pub preprocessed_by : hb_ot_shape_plan_t → Font → Buffer → hb_ot_shaper_t → Buffer
 preprocessed_by plan font b Hangul = rewritten_by plan.break_flags font b
 preprocessed_by plan font b Thai = preprocessed_in_thai plan font b
-preprocessed_by plan font b Indic = record b { glyphs = vowels_parted b }
-preprocessed_by plan font b Universal = record b { glyphs = vowels_parted b }
+preprocessed_by plan font b Indic = record b { glyphs = vowels_circled b }
+preprocessed_by plan font b Universal = record b { glyphs = vowels_circled b }
 preprocessed_by plan font b shaper = b
 
 abbrev pub preprocessed_for : Option hb_ot_shaper_t → hb_ot_shape_plan_t → Font → Buffer → Buffer
@@ -36,8 +36,8 @@ preprocessed_for shaper plan font b = option_map_or (preprocessed_by plan font b
 abbrev pub preprocessed_len_by : Font → Buffer → hb_ot_shaper_t → ℕ
 preprocessed_len_by font b Hangul = length (rewritten font b).glyphs
 preprocessed_len_by font b Thai = length (glyphs_in_two b.glyphs)
-preprocessed_len_by font b Indic = length (vowels_parted b)
-preprocessed_len_by font b Universal = length (vowels_parted b)
+preprocessed_len_by font b Indic = length (vowels_circled b)
+preprocessed_len_by font b Universal = length (vowels_circled b)
 preprocessed_len_by font b shaper = length b.glyphs
 
 abbrev pub preprocessed_len : Option hb_ot_shaper_t → Font → Buffer → ℕ

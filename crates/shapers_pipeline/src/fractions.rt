@@ -4,7 +4,7 @@ ghost use Rattle.shapers_buffer.specs.Buffer.{flags_concat, has_flag};
 ghost use Rattle.std.specs.List.{list_any, prefix_len};
 ghost use Rattle.shapers_buffer.specs.Clusters.{with_stretch};
 ghost use Rattle.shapers_buffer.specs.GlyphFlags.{with_bits};
-ghost use Rattle.shapers_pipeline.specs.Fractions.{fraction_around, fraction_marked, fractions_around, fractions_set, has_fractions, is_decimal_glyph, is_fraction_slash, decimals_before, decimals_behind, runs_forward, slash_masks};
+ghost use Rattle.shapers_pipeline.specs.Fractions.{fraction_around, fraction_marked, fractions_around, fractions_set, has_fractions, is_decimal_glyph, is_fraction_slash, decimals_before, decimals_behind, goes_forward, slash_masks};
 
 use shapers_base::buffer::{
     BufferFlags, Direction, change_each_by_in, hb_buffer_t, hb_glyph_info_t,
@@ -55,14 +55,14 @@ fn has_slash(glyphs: &[hb_glyph_info_t]) -> bool
     glyphs.iter().any(is_fraction_slash)
 }
 
-// Numerators stand first where the text runs forward.
+// Numerators stand first where the text goes forward.
 #[inline]
 fn slash_masks(direction: Direction, masks: &DriverMasks) -> SlashMasks
     ensures { result ≡ slash_masks direction masks.now }
 {
     let numerators = masks.numr | masks.frac;
     let denominators = masks.frac | masks.dnom;
-    let (before, behind) = if runs_forward(direction) {
+    let (before, behind) = if goes_forward(direction) {
         (numerators, denominators)
     } else {
         (denominators, numerators)
@@ -75,8 +75,8 @@ fn slash_masks(direction: Direction, masks: &DriverMasks) -> SlashMasks
 }
 
 #[inline]
-pub(crate) fn runs_forward(direction: Direction) -> bool
-    ensures { result ≡ runs_forward direction }
+pub(crate) fn goes_forward(direction: Direction) -> bool
+    ensures { result ≡ goes_forward direction }
 {
     matches!(direction, Direction::LeftToRight | Direction::TopToBottom)
 }

@@ -5,7 +5,7 @@ ghost use Rattle.shapers_pipeline.specs.Lookups.{StoppedIn, looked_up};
 ghost use Rattle.shapers_pipeline.specs.Positioned.{hangs_marks, ordered_for_drawing, is_early, is_late, lookups_if, marks_zeroed_if, text_positioned, text_spaced, zeroing_of};
 ghost use Rattle.shapers_pipeline.specs.Shaped.{PositionsStopped, positioning_by};
 
-use crate::fractions::runs_forward;
+use crate::fractions::goes_forward;
 use crate::lookups::Lookups;
 use crate::settings::ShapeSettings;
 use rustybuzz_shapers::shaper::hb_ot_shaper_t;
@@ -89,12 +89,12 @@ fn is_late(zeroing: ZeroWidthMarks) -> bool
 }
 
 // Whether marks without an advance hang over the glyph before them: without GPOS, where the text
-// runs forward. Where it runs backward they will hang over the one behind them.
+// goes forward. Where it goes backward they will hang over the one behind them.
 #[inline]
 fn hangs_marks(applies_gpos: bool, direction: Direction) -> bool
     ensures { result ≡ hangs_marks applies_gpos direction }
 {
-    !applies_gpos && runs_forward(direction)
+    !applies_gpos && goes_forward(direction)
 }
 
 // Takes marks their advances, if this is the time.

@@ -3,7 +3,7 @@ use Rattle.std.specs.Prelude.{◌≡◌, ℕ, true, false, List, [], ◌∷◌, 
 use Rattle.shapers_buffer.specs.declared.buffer.flags.BufferFlags.{BufferFlags}
 use Rattle.shapers_buffer.specs.Glyphs.{Glyph, Glyphs}
 use Rattle.shapers_buffer.specs.Glyph.{clusters, default_glyph}
-use Rattle.shapers_position.specs.ClusterFlags.{cluster_groups, flags_wanted, flags_of, flags_propagated, is_flagged, joins_settled, with_flags}
+use Rattle.shapers_position.specs.ClusterFlags.{cluster_groups, flags_wanted, flags_of, flags_propagated, is_flagged, joins_decided, with_flags}
 
 abbrev wanting : ℕ → BufferFlags
 wanting bits = record { 0 = bits }
@@ -24,7 +24,7 @@ flagged : map (λ m. is_flagged (glyph 0 m)) (0 ∷ 1 ∷ 2 ∷ 4 ∷ 7 ∷ 8 �
 flagged = refl
 
 -- unsafe to break takes the tatweel; a tatweel is unsafe to break and to concatenate
-settled : map joins_settled sets ≡ 0 ∷ 1 ∷ 2 ∷ 3 ∷ 7 ∷ 1 ∷ 7 ∷ 3 ∷ []
+settled : map joins_decided sets ≡ 0 ∷ 1 ∷ 2 ∷ 3 ∷ 7 ∷ 1 ∷ 7 ∷ 3 ∷ []
 settled = refl
 
 -- what a buffer keeps that wants neither flag: all but unsafe to concatenate

@@ -8,7 +8,7 @@ use Rattle.shapers_buffer.specs.Glyphs.{Glyph, Glyphs}
 use Rattle.shapers_buffer.specs.Clusters.{first_cluster, has_cluster, with_stretch}
 use Rattle.shapers_position.specs.ClusterFlags.{cluster_groups, flags_propagated, flags_shared, group_with_first}
 
--- the first group is the longest run of the first cluster
+-- the first group is the longest sequence of the first cluster
 pub opens_with_group : (g : Glyph) (gs : Glyphs) →
     cluster_groups (g ∷ gs) ≡ (g ∷ take (prefix_len (has_cluster g.cluster) gs) gs) ∷
     cluster_groups (drop (prefix_len (has_cluster g.cluster) gs) gs)

@@ -23,7 +23,7 @@ use Rattle.std.specs.List.{flat_map}
 abbrev pub more : Glyph → Glyphs → ℕ
 more g gs = prefix_len (has_cluster g.cluster) gs
 
--- the flags that the group that opens a text gets
+-- the flags that the group that begins a text gets
 abbrev pub opening_flags : BufferFlags → Glyph → Glyphs → ℕ
 opening_flags wanted g gs = flags_wanted wanted (flags_of (g ∷ take (more g gs) gs))
 

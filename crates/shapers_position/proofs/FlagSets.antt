@@ -13,7 +13,7 @@ use Rattle.shapers_clusters.specs.Breaks.{is_unsafe}
 use Rattle.shapers_clusters.specs.Flags.{bit_at}
 use Rattle.shapers_clusters.proofs.FlagCalls.{without_flags-or}
 use Rattle.shapers_clusters.proofs.Merging.{without_flags-twice}
-use Rattle.shapers_position.specs.ClusterFlags.{flags_wanted, flags_of, joins_settled, with_flags}
+use Rattle.shapers_position.specs.ClusterFlags.{flags_wanted, flags_of, joins_decided, with_flags}
 
 -- what holds of each set of flags
 pub eight : (P : ℕ → Type 0) → P 0 → P 1 → P 2 → P 3 → P 4 → P 5 → P 6 → P 7 → (f : ℕ) → f < 8 → P f
@@ -29,7 +29,7 @@ eight P a b c d e f g h (suc (suc (suc (suc (suc (suc (suc (suc n)))))))) small 
 
 -- the flags kept, by what is wanted
 abbrev kept_by : Bool → Bool → ℕ → ℕ
-kept_by tatweel concat f = let settled = cond tatweel (joins_settled f) f in cond concat settled (bit_and settled 5)
+kept_by tatweel concat f = let settled = cond tatweel (joins_decided f) f in cond concat settled (bit_and settled 5)
 
 small_by : (t c : Bool) (f : ℕ) → f < 8 → kept_by t c f < 8
 small_by true true f small = eight (λ f. kept_by true true f < 8) (omega arith) (omega arith) (omega arith)

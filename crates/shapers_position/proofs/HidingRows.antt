@@ -6,7 +6,7 @@ use Rattle.shapers_buffer.specs.declared.buffer.level.BufferClusterLevel.TheVari
 use Rattle.shapers_buffer.specs.Buffer.{Buffer, new_buffer}
 use Rattle.shapers_buffer.specs.Glyph.{clusters, default_glyph, default_position}
 use Rattle.shapers_position.specs.declared.ot_shape_position.ignorables.DefaultIgnorables.TheVariants.{Hide, Preserve, Remove}
-use Rattle.shapers_position.specs.Ignorables.{covering, drawn_by, goes_on, ignorables_hidden, in_place_of, positions_kept, removed}
+use Rattle.shapers_position.specs.Ignorables.{covering, drawn_by, is_of_cluster, ignorables_hidden, in_place_of, positions_kept, removed}
 
 -- a letter, an ignorable glyph, and one that a lookup put in, of a cluster and with a mask
 abbrev letter : ℕ → ℕ → Glyph
@@ -100,7 +100,7 @@ far = refl
 nothing_before : covering (joiner 0 0) [] ≡ []
 nothing_before = refl
 
-next : goes_on 1 (letter 1 0 ∷ []) ∷ goes_on 1 (letter 2 0 ∷ letter 1 0 ∷ []) ∷ goes_on 1 [] ∷ [] ≡ true ∷ false ∷
+next : is_of_cluster 1 (letter 1 0 ∷ []) ∷ is_of_cluster 1 (letter 2 0 ∷ letter 1 0 ∷ []) ∷ is_of_cluster 1 [] ∷ [] ≡ true ∷ false ∷
     false ∷ []
 next = refl
 

@@ -13,7 +13,7 @@ use Rattle.shapers_buffer.specs.Glyphs.{Glyph, Glyphs}
 use Rattle.shapers_buffer.specs.declared.buffer.level.BufferClusterLevel.{BufferClusterLevel}
 use Rattle.shapers_buffer.specs.Clusters.{has_cluster, last_cluster, merge, merged, merges}
 use Rattle.shapers_buffer.specs.Glyph.{clusters, default_glyph, default_position, order_view, plain, without_flags}
-use Rattle.shapers_buffer.specs.Lists.{before_last_run, last_run}
+use Rattle.shapers_buffer.specs.Lists.{before_last_stretch, last_stretch}
 use Rattle.shapers_buffer.proofs.MappedLists.{map-hidden}
 use Rattle.shapers_clusters.specs.Cuts.{IsFalling, IsMonotone, IsRising}
 use Rattle.shapers_clusters.proofs.ClusterMerges.{clusters-merge}
@@ -23,11 +23,11 @@ use Rattle.shapers_clusters.proofs.Halves.{Each, each-append}
 use Rattle.shapers_clusters.proofs.Merging.{order_view-merge, without_flags-twice}
 use Rattle.shapers_normal.proofs.Beside.{all_of, each-merge, each_of}
 use Rattle.shapers_normal.proofs.Pairs.{Cross, Pairs, each_as, from_pairs, pairs-append, pairs-cross, pairs-first, pairs-last, to_pairs}
-use Rattle.shapers_position.specs.Ignorables.{covering, drawn_by, goes_on, in_place_of, is_default_ignorable, stays_in_text, positions_kept, removed, removed_behind}
+use Rattle.shapers_position.specs.Ignorables.{covering, drawn_by, is_of_cluster, in_place_of, is_default_ignorable, stays_in_text, positions_kept, removed, removed_behind}
 use Rattle.shapers_position.specs.Laws.{DrawnLaw, PositionsLaw, RemovalLaw, with_glyph_id}
 
 -- a list in what stands before its last run, and that
-run_apart : {X : Type 0} (test : X → Bool) (xs : List X) → before_last_run test xs ++ last_run test xs ≡ xs
+run_apart : {X : Type 0} (test : X → Bool) (xs : List X) → before_last_stretch test xs ++ last_stretch test xs ≡ xs
 run_apart test xs = take-append-drop _ xs
 
 -- ---- what stays, but for its cluster and flags
@@ -50,7 +50,7 @@ view_by true gone front run gs is =
 view_covering : (gone : Glyph) (gs : Glyphs) → order_view (covering gone gs) ≡ order_view gs
 view_covering gone gs =
     let in_last = has_cluster (last_cluster gs) in
-    view_by (nat_lt gone.cluster (last_cluster gs)) gone (before_last_run in_last gs) (last_run in_last gs) gs
+    view_by (nat_lt gone.cluster (last_cluster gs)) gone (before_last_stretch in_last gs) (last_stretch in_last gs) gs
     (run_apart in_last gs)
 
 view_goes : (b : Bool) (gone : Glyph) (gs : Glyphs) →
@@ -62,13 +62,13 @@ view_removed : (kept gs : Glyphs) → order_view (removed_behind kept gs)
     ≡ order_view kept ++ filter stays_in_text (order_view gs)
 view_removed kept [] = sym (append-nil (order_view kept))
 view_removed kept (g ∷ gs) =
-    let after = cond (goes_on g.cluster gs) kept (covering g kept) in
+    let after = cond (is_of_cluster g.cluster gs) kept (covering g kept) in
     let here = order_view kept in
     let rest = filter stays_in_text (order_view gs) in
     elim (is_default_ignorable g) as (λ b. order_view
     (cond b (removed_behind after gs) (removed_behind (kept ++ g ∷ []) gs))
     ≡ here ++ cond (not b) (plain g ∷ rest) rest) [
-      | true ↦ view_removed after gs ∙ ap (λ xs. xs ++ rest) (view_goes (goes_on g.cluster gs) g kept)
+      | true ↦ view_removed after gs ∙ ap (λ xs. xs ++ rest) (view_goes (is_of_cluster g.cluster gs) g kept)
       | false ↦ view_removed (kept ++ g ∷ []) gs ∙ ap (λ xs. xs ++ rest) (map-append plain kept (g ∷ []))
           ∙ append_assoc here (plain g ∷ []) rest
     ]
@@ -108,17 +108,17 @@ each_goes : (P : ℕ → Type 0) (b : Bool) (gone : Glyph) (gs : Glyphs) → P g
 each_goes P true gone gs p all = all
 each_goes P false gone gs p all =
     let in_last = has_cluster (last_cluster gs) in
-    each_by P (nat_lt gone.cluster (last_cluster gs)) gone (before_last_run in_last gs) (last_run in_last gs) gs
+    each_by P (nat_lt gone.cluster (last_cluster gs)) gone (before_last_stretch in_last gs) (last_stretch in_last gs) gs
     (run_apart in_last gs) p all
 
 each_removed : (P : ℕ → Type 0) (kept gs : Glyphs) → Each P kept → Each P gs →
     Each P (removed_behind kept gs)
 each_removed P kept [] p q = p
 each_removed P kept (g ∷ gs) p q =
-    let after = cond (goes_on g.cluster gs) kept (covering g kept) in
+    let after = cond (is_of_cluster g.cluster gs) kept (covering g kept) in
     elim (is_default_ignorable g) as (λ b. Each P (cond b (removed_behind after gs)
     (removed_behind (kept ++ g ∷ []) gs))) [
-      | true ↦ each_removed P after gs (each_goes P (goes_on g.cluster gs) g kept q.0 p) q.1
+      | true ↦ each_removed P after gs (each_goes P (is_of_cluster g.cluster gs) g kept q.0 p) q.1
       | false ↦ each_removed P (kept ++ g ∷ []) gs (each-append P kept (g ∷ []) p (q.0, tt)) q.1
     ]
 
@@ -165,18 +165,18 @@ pairs_goes : (R : ℕ → ℕ → Type 0) (b : Bool) (gone : Glyph) (kept gs : G
 pairs_goes R true gone kept gs self all = pairs_gone R gone kept gs all
 pairs_goes R false gone kept gs self all =
     let in_last = has_cluster (last_cluster kept) in
-    pairs_by R (nat_lt gone.cluster (last_cluster kept)) gone (before_last_run in_last kept)
-    (last_run in_last kept) kept gs self (run_apart in_last kept) all
+    pairs_by R (nat_lt gone.cluster (last_cluster kept)) gone (before_last_stretch in_last kept)
+    (last_stretch in_last kept) kept gs self (run_apart in_last kept) all
 
 pairs_removed : (R : ℕ → ℕ → Type 0) → ((k : ℕ) → R k k) → (kept gs : Glyphs) → Pairs R (kept ++ gs) →
     Pairs R (removed_behind kept gs)
 pairs_removed R self kept [] all = let Q : Glyphs → Type 0 = Pairs R in subst Q (append-nil kept) all
 pairs_removed R self kept (g ∷ gs) all =
     let Q : Glyphs → Type 0 = Pairs R in
-    let after = cond (goes_on g.cluster gs) kept (covering g kept) in
+    let after = cond (is_of_cluster g.cluster gs) kept (covering g kept) in
     elim (is_default_ignorable g) as (λ b. Pairs R
     (cond b (removed_behind after gs) (removed_behind (kept ++ g ∷ []) gs))) [
-      | true ↦ pairs_removed R self after gs (pairs_goes R (goes_on g.cluster gs) g kept gs (self g.cluster) all)
+      | true ↦ pairs_removed R self after gs (pairs_goes R (is_of_cluster g.cluster gs) g kept gs (self g.cluster) all)
       | false ↦ pairs_removed R self (kept ++ g ∷ []) gs (subst Q (sym (append_assoc kept (g ∷ []) gs)) all)
     ]
 
@@ -190,7 +190,7 @@ none_goes : (kept gs : Glyphs) → list_any is_default_ignorable gs ≡ false �
     removed_behind kept gs ≡ kept ++ gs
 none_goes kept [] none = sym (append-nil kept)
 none_goes kept (g ∷ gs) none =
-    let after = cond (goes_on g.cluster gs) kept (covering g kept) in
+    let after = cond (is_of_cluster g.cluster gs) kept (covering g kept) in
     let both = or_parts (is_default_ignorable g) (list_any is_default_ignorable gs) none in
     ap (λ b. cond b (removed_behind after gs) (removed_behind (kept ++ g ∷ []) gs)) both.0
     ∙ none_goes (kept ++ g ∷ []) gs both.1

@@ -8,7 +8,7 @@ use Rattle.shapers_buffer.specs.declared.buffer.level.BufferClusterLevel.{Buffer
 use Rattle.shapers_buffer.specs.Clusters.{merge}
 use Rattle.shapers_clusters.proofs.Merging.{order_view-merge}
 use Rattle.shapers_buffer.specs.Glyph.{default_glyph, order_view, plain}
-use Rattle.shapers_position.specs.Ignorables.{covering, goes_on, is_default_ignorable, stays_in_text, removed_behind}
+use Rattle.shapers_position.specs.Ignorables.{covering, is_of_cluster, is_default_ignorable, stays_in_text, removed_behind}
 
 -- what lies behind a front that is written anew
 behind_front : {X : Type 0} (xs ys : List X) (k i : ℕ) → k ≤ i → length ys ≡ k →
@@ -47,7 +47,7 @@ stays_rest gs k i g few inside at is =
     ∙ ap (λ x. x ∷ drop (i + 1) gs) at in
     ap (λ xs. removed_behind xs (drop (i + 1) (set gs k g))) (take_more_set gs k g (omega arith))
     ∙ ap (removed_behind (take k gs ++ g ∷ [])) (drop-set-lt (i + 1) gs k g (omega arith))
-    ∙ sym (ap (λ b. cond b (removed_behind (cond (goes_on g.cluster (drop (i + 1) gs)) (take k gs)
+    ∙ sym (ap (λ b. cond b (removed_behind (cond (is_of_cluster g.cluster (drop (i + 1) gs)) (take k gs)
     (covering g (take k gs))) (drop (i + 1) gs)) (removed_behind (take k gs ++ g ∷ []) (drop (i + 1) gs))) is)
     ∙ sym (ap (removed_behind (take k gs)) more)
 
@@ -62,20 +62,20 @@ stays_count gs k i g few inside at is =
 -- ---- one that goes
 
 goes_by : (gs : Glyphs) (k i : ℕ) (g : Glyph) (b : Bool) → i < length gs →
-    get_or gs i default_glyph ≡ g → is_default_ignorable g ≡ true → goes_on g.cluster (drop (i + 1) gs) ≡ b →
+    get_or gs i default_glyph ≡ g → is_default_ignorable g ≡ true → is_of_cluster g.cluster (drop (i + 1) gs) ≡ b →
     removed_behind (cond b (take k gs) (covering g (take k gs))) (drop (i + 1) gs)
     ≡ removed_behind (take k gs) (drop i gs)
 goes_by gs k i g b inside at is on =
     let more : drop i gs ≡ g ∷ drop (i + 1) gs = drop_more gs i default_glyph inside
     ∙ ap (λ x. x ∷ drop (i + 1) gs) at in
     sym (ap (λ b. removed_behind (cond b (take k gs) (covering g (take k gs))) (drop (i + 1) gs)) on)
-    ∙ sym (ap (λ b. cond b (removed_behind (cond (goes_on g.cluster (drop (i + 1) gs)) (take k gs)
+    ∙ sym (ap (λ b. cond b (removed_behind (cond (is_of_cluster g.cluster (drop (i + 1) gs)) (take k gs)
     (covering g (take k gs))) (drop (i + 1) gs)) (removed_behind (take k gs ++ g ∷ []) (drop (i + 1) gs))) is)
     ∙ sym (ap (removed_behind (take k gs)) more)
 
 -- its cluster goes on behind it
 pub goes_rest : (gs : Glyphs) (k i : ℕ) (g : Glyph) → i < length gs →
-    get_or gs i default_glyph ≡ g → is_default_ignorable g ≡ true → goes_on g.cluster (drop (i + 1) gs) ≡ true →
+    get_or gs i default_glyph ≡ g → is_default_ignorable g ≡ true → is_of_cluster g.cluster (drop (i + 1) gs) ≡ true →
     removed_behind (take k gs) (drop (i + 1) gs) ≡ removed_behind (take k gs) (drop i gs)
 goes_rest gs k i g inside at is on = goes_by gs k i g true inside at is on
 
@@ -88,7 +88,7 @@ goes_count gs k i g inside at is =
 
 -- it doesn't, and those before take it in
 pub covered_rest : (gs new : Glyphs) (k i : ℕ) (g : Glyph) → k ≤ i → i < length gs →
-    get_or gs i default_glyph ≡ g → is_default_ignorable g ≡ true → goes_on g.cluster (drop (i + 1) gs) ≡ false →
+    get_or gs i default_glyph ≡ g → is_default_ignorable g ≡ true → is_of_cluster g.cluster (drop (i + 1) gs) ≡ false →
     new ≡ covering g (take k gs) → length new ≡ k →
     removed_behind (take k (new ++ drop k gs)) (drop (i + 1) (new ++ drop k gs))
     ≡ removed_behind (take k gs) (drop i gs)
@@ -103,7 +103,7 @@ pub covered_count : (gs new : Glyphs) (k i : ℕ) (g : Glyph) → k ≤ i → i 
 covered_count gs new k i g few inside at is long =
     ap (λ xs. k + count_by stays_in_text xs) (behind_front gs new k i few long) ∙ goes_count gs k i g inside at is
 
--- ---- the glyphs that open a text merged
+-- ---- the glyphs that begin a text merged
 
 count_view : (gs : Glyphs) → count_by stays_in_text (order_view gs) ≡ count_by stays_in_text gs
 count_view [] = refl

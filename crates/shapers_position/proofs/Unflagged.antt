@@ -10,7 +10,7 @@ use Rattle.shapers_buffer.specs.Buffer.{flags_concat, flags_tatweel, has_flag}
 use Rattle.shapers_buffer.specs.Glyphs.{Glyph, Glyphs}
 use Rattle.shapers_buffer.specs.Glyph.{default_glyph, without_flags}
 use Rattle.shapers_buffer.specs.Clusters.{has_cluster}
-use Rattle.shapers_position.specs.ClusterFlags.{cluster_groups, flags_propagated, flags_shared, flags_wanted, group_with_first, is_flagged, joins_settled, with_flags}
+use Rattle.shapers_position.specs.ClusterFlags.{cluster_groups, flags_propagated, flags_shared, flags_wanted, group_with_first, is_flagged, joins_decided, with_flags}
 use Rattle.shapers_position.proofs.Untouched.{map-none}
 
 without : (g : Glyph) → is_flagged g ≡ false → g.mask % 8 ≡ 0
@@ -29,7 +29,7 @@ gathered-none a (g ∷ gs) is none =
     let both = or_parts (is_flagged g) (list_any is_flagged gs) none in
     gathered-none (bit_or a (g.mask % 8)) gs (ap (bit_or a) (without g both.0) ∙ ap (λ n. bit_or n 0) is) both.1
 
-wanted_by : (tatweel concat : Bool) → (let settled = cond tatweel (joins_settled 0) 0 in
+wanted_by : (tatweel concat : Bool) → (let settled = cond tatweel (joins_decided 0) 0 in
     cond concat settled (bit_and settled 5)) ≡ 0
 wanted_by true true = refl
 wanted_by true false = refl

@@ -31,15 +31,15 @@ is_flagged g = not (g.mask % 8 == 0)
 
 -- Flags where tatweels are wanted: what is unsafe to break takes none, and what takes one is unsafe
 -- to break and to concatenate.
-abbrev pub joins_settled : ℕ → ℕ
-joins_settled flags =
+abbrev pub joins_decided : ℕ → ℕ
+joins_decided flags =
     if bit_and flags 1 == 1 then bit_and flags 3
     else if bit_and flags 4 == 4 then bit_or flags 3 else flags
 
 -- the flags of a cluster that a buffer with these flags of its own keeps
 abbrev pub flags_wanted : BufferFlags → ℕ → ℕ
 flags_wanted wanted flags =
-    let settled = if has_flag flags_tatweel wanted then joins_settled flags else flags in
+    let settled = if has_flag flags_tatweel wanted then joins_decided flags else flags in
     if has_flag flags_concat wanted then settled else bit_and settled 5
 
 -- a glyph with these flags in the place of its own

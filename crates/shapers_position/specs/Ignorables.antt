@@ -10,7 +10,7 @@ use Rattle.shapers_buffer.specs.declared.buffer.level.Direction.{Direction}
 use Rattle.shapers_buffer.specs.Buffer.{Buffer}
 use Rattle.shapers_buffer.specs.Clusters.{has_cluster, last_cluster, merge}
 use Rattle.shapers_buffer.specs.Glyph.{without_flags}
-use Rattle.shapers_buffer.specs.Lists.{before_last_run, last_run}
+use Rattle.shapers_buffer.specs.Lists.{before_last_stretch, last_stretch}
 use Rattle.shapers_buffer.specs.Properties.{is_ignorable, is_substituted}
 use Rattle.shapers_choice.specs.Choice.{is_horizontal}
 use Rattle.shapers_position.specs.declared.ot_shape_position.ignorables.DefaultIgnorables.{DefaultIgnorables}
@@ -68,19 +68,19 @@ abbrev pub covering : Glyph → Glyphs → Glyphs
 covering gone gs =
     let in_last = has_cluster (last_cluster gs) in
     if nat_lt gone.cluster (last_cluster gs)
-    then before_last_run in_last gs ++ map (in_place_of gone) (last_run in_last gs) else gs
+    then before_last_stretch in_last gs ++ map (in_place_of gone) (last_stretch in_last gs) else gs
 
 -- whether the next glyph is of this cluster
-abbrev pub goes_on : ℕ → Glyphs → Bool
-goes_on cluster [] = false
-goes_on cluster (g ∷ gs) = has_cluster cluster g
+abbrev pub is_of_cluster : ℕ → Glyphs → Bool
+is_of_cluster cluster [] = false
+is_of_cluster cluster (g ∷ gs) = has_cluster cluster g
 
 -- the glyphs that stay of a text, behind those that stay of what stands before it
 abbrev pub removed_behind : Glyphs → Glyphs → Glyphs
 removed_behind kept [] = kept
 removed_behind kept (g ∷ gs) =
     if is_default_ignorable g
-    then removed_behind (if goes_on g.cluster gs then kept else covering g kept) gs
+    then removed_behind (if is_of_cluster g.cluster gs then kept else covering g kept) gs
     else removed_behind (kept ++ g ∷ []) gs
 
 -- The glyphs of a text without the ignorable ones. Those that open it merge with the first glyph

@@ -11,7 +11,7 @@ use Rattle.shapers_buffer.specs.declared.buffer.tag.Script.{Script}
 use Rattle.shapers_buffer.specs.Buffer.{Buffer, new_buffer}
 use Rattle.shapers_buffer.specs.Glyph.{default_glyph}
 use Rattle.shapers_buffer.specs.Properties.{CONTINUATION, general_category, properties, set_property}
-use Rattle.shapers_prepare.specs.NativeDirection.{are_numbers_or_flags, graphemes_turned, in_native_direction, is_turned, native_direction, opposite_direction, script_direction, text_direction}
+use Rattle.shapers_prepare.specs.NativeDirection.{are_numbers_or_flags, graphemes_reversed, in_native_direction, is_reversed, native_direction, opposite_direction, script_direction, text_direction}
 
 abbrev direction_of : List ℕ → Direction
 direction_of code = let s : Script = record { 0 = code } in script_direction s
@@ -59,7 +59,7 @@ letters_first : are_numbers_or_flags (of_category Lo ∷ of_category Nd ∷ []) 
 unfolding general_category
 letters_first = refl
 
--- only a text from left to right whose script runs the other way keeps its direction by its numbers
+-- only a text from left to right whose script goes the other way keeps its direction by its numbers
 own : map (λ d. text_direction d RightToLeft (of_category Nd ∷ [])) (Invalid ∷ LeftToRight ∷ RightToLeft ∷ TopToBottom
     ∷ BottomToTop ∷ []) ≡ RightToLeft ∷ LeftToRight ∷ RightToLeft ∷ RightToLeft ∷ RightToLeft ∷ []
 unfolding general_category
@@ -72,7 +72,7 @@ own_letters = refl
 
 -- the other direction, for each direction of a text and of its script
 abbrev turned_for : Direction → List Bool
-turned_for native = map (λ d. is_turned d native) (Invalid ∷ LeftToRight ∷ RightToLeft ∷ TopToBottom ∷ BottomToTop ∷ [])
+turned_for native = map (λ d. is_reversed d native) (Invalid ∷ LeftToRight ∷ RightToLeft ∷ TopToBottom ∷ BottomToTop ∷ [])
 
 turned_by : map turned_for (Invalid ∷ LeftToRight ∷ RightToLeft ∷ []) ≡ (false ∷ false ∷ false ∷ false ∷ true ∷ [])
     ∷ (false ∷ false ∷ true ∷ false ∷ true ∷ []) ∷ (false ∷ true ∷ false ∷ false ∷ true ∷ []) ∷ []
@@ -97,13 +97,13 @@ six = text ((0, false) ∷ (1, true) ∷ (2, true) ∷ (3, false) ∷ (4, false)
 abbrev seen : Glyphs → List (ℕ × ℕ)
 seen gs = map (λ g. (g.glyph_id, g.cluster)) gs
 
-graphemes_stay : seen (graphemes_turned six) ≡ (4, 4) ∷ (5, 5) ∷ (3, 3) ∷ (0, 0) ∷ (1, 1) ∷ (2, 2) ∷ []
+graphemes_stay : seen (graphemes_reversed six) ≡ (4, 4) ∷ (5, 5) ∷ (3, 3) ∷ (0, 0) ∷ (1, 1) ∷ (2, 2) ∷ []
 graphemes_stay = refl
 
-begins_within : seen (graphemes_turned (text ((0, true) ∷ (1, true) ∷ (2, false) ∷ []))) ≡ (2, 2) ∷ (0, 0) ∷ (1, 1) ∷ []
+begins_within : seen (graphemes_reversed (text ((0, true) ∷ (1, true) ∷ (2, false) ∷ []))) ≡ (2, 2) ∷ (0, 0) ∷ (1, 1) ∷ []
 begins_within = refl
 
-nothing : graphemes_turned [] ≡ []
+nothing : graphemes_reversed [] ≡ []
 nothing = refl
 
 -- a text of Hebrew's from left to right at each level

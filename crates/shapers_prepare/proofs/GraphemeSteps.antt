@@ -1,15 +1,15 @@
 -- Graphemes, place after place.
 use Rattle.std.proofs.Common.{◌≡◌, ℕ, suc, ◌+◌, ◌<◌, ◌≤◌, Bool, true, false, [], ◌∷◌, length, map, drop, get_or, refl, sym, ap, ◌∙◌, arith, drop-cons}
 use Rattle.std.proofs.lemmas.List.{drop_all, get_or-map, length-map}
-use Rattle.shapers_buffer.specs.declared.buffer.cluster_runs.ClusterRun.{ClusterRun}
+use Rattle.shapers_buffer.specs.declared.buffer.cluster_ranges.ClusterRange.{ClusterRange}
 use Rattle.shapers_buffer.specs.Glyphs.{Glyph, Glyphs}
 use Rattle.shapers_buffer.specs.declared.buffer.level.BufferClusterLevel.{BufferClusterLevel}
-use Rattle.shapers_buffer.specs.ClusterRuns.{with_run}
+use Rattle.shapers_buffer.specs.ClusterRanges.{with_range}
 use Rattle.shapers_buffer.specs.Clusters.{merge}
 use Rattle.shapers_buffer.specs.Glyph.{default_glyph}
 use Rattle.shapers_buffer.specs.GlyphFlags.{unsafe_inside}
 use Rattle.shapers_buffer.specs.Properties.{is_continuation}
-use Rattle.shapers_clusters.proofs.Merging.{map-merge_all, map-with_run}
+use Rattle.shapers_clusters.proofs.Merging.{map-merge_all, map-with_range}
 use Rattle.shapers_clusters.proofs.FlagCalls.{map-unsafe_inside}
 use Rattle.shapers_prepare.specs.Graphemes.{continuations, graphemes, graphemes_from}
 
@@ -46,15 +46,15 @@ last_grapheme s i now all met same =
     ap (graphemes_from s i) (drop_all i (continuations all) (omega (arith, ap length same, length-map now f, met)))
 
 -- merges and flags keep what carries on a grapheme
-pub continuations-merged : (level : BufferClusterLevel) (s e : ℕ) (run next : ClusterRun)
+pub continuations-merged : (level : BufferClusterLevel) (s e : ℕ) (run next : ClusterRange)
     (now new : Glyphs) → run.start ≤ run.end → next.start ≤ next.end
-    → with_run next new ≡ merge level s e (with_run run now) → continuations new ≡ continuations now
+    → with_range next new ≡ merge level s e (with_range run now) → continuations new ≡ continuations now
 continuations-merged level s e run next now new fits fits_next is =
     let f : Glyph → Bool = λ g. is_continuation g.unicode_props in
-    sym (map-with_run f (λ g. refl) next new fits_next)
+    sym (map-with_range f (λ g. refl) next new fits_next)
     ∙ ap (map f) is
-    ∙ map-merge_all f (λ g. refl) level ((s, e) ∷ []) (with_run run now)
-    ∙ map-with_run f (λ g. refl) run now fits
+    ∙ map-merge_all f (λ g. refl) level ((s, e) ∷ []) (with_range run now)
+    ∙ map-with_range f (λ g. refl) run now fits
 
 pub continuations-flagged : (s e : ℕ) (gs : Glyphs) → s ≤ e → continuations (unsafe_inside s e gs)
     ≡ continuations gs

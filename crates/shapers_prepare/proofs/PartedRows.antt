@@ -7,7 +7,7 @@ use Rattle.shapers_buffer.specs.Glyph.{characters, default_glyph}
 use Rattle.shapers_prepare.specs.declared.ot_shape_prepare.vowels.VowelScript.{VowelScript}
 use Rattle.shapers_prepare.specs.declared.ot_shape_prepare.vowels.VowelScript.TheVariants as scripts
 use Rattle.shapers_prepare.specs.VowelRows.{devanagari_pairs, bengali_pairs, gurmukhi_pairs, gujarati_pairs, oriya_pairs, tamil_pairs, telugu_pairs, kannada_pairs, malayalam_pairs, sinhala_pairs, brahmi_pairs, khojki_pairs, khudawadi_pairs, tirhuta_pairs, modi_pairs, takri_pairs}
-use Rattle.shapers_prepare.specs.Vowels.{is_parted_pair, vowel_circle, vowel_script, vowels_parted}
+use Rattle.shapers_prepare.specs.Vowels.{is_vowel_pair, vowel_circle, vowel_script, vowels_circled}
 
 -- the scripts, and two without such vowels
 of_script : map (λ name. vowel_script (record { 0 = codes name })) ("Deva" ∷ "Beng" ∷ "Guru" ∷ "Gujr" ∷ "Orya" ∷ "Taml"
@@ -31,7 +31,7 @@ unfolding devanagari_pairs bengali_pairs gurmukhi_pairs gujarati_pairs oriya_pai
 counts = refl
 
 -- a pair of each script, as the file has it, and one of another script
-pairs : map (λ (p : VowelScript × (ℕ × ℕ)). is_parted_pair p.0 p.1.0 p.1.1) (
+pairs : map (λ (p : VowelScript × (ℕ × ℕ)). is_vowel_pair p.0 p.1.0 p.1.1) (
     (scripts.Devanagari, (0x0905, 0x0946)) ∷ (scripts.Bengali, (0x0985, 0x09BE)) ∷ (scripts.Gurmukhi, (0x0A73, 0x0A4B))
     ∷ (scripts.Gujarati, (0x0AC5, 0x0ABE))
     ∷ (scripts.Oriya, (0x0B13, 0x0B57)) ∷ (scripts.Tamil, (0x0B85, 0x0BC2)) ∷ (scripts.Telugu, (0x0C4A, 0x0C55))
@@ -63,7 +63,7 @@ buffer code flags cs =
     b
 
 abbrev parted : List ℕ → List ℕ → List ℕ
-parted code cs = characters (vowels_parted (buffer code 0 cs))
+parted code cs = characters (vowels_circled (buffer code 0 cs))
 
 -- A and short E, with letters around them; one after another
 between : parted (codes "Deva") (0x0915 ∷ 0x0905 ∷ 0x0946 ∷ 0x0915 ∷ 0x0905 ∷ 0x0946 ∷ [])
@@ -88,10 +88,10 @@ unfolding khojki_pairs
 longer = refl
 
 -- another script's text, one letter, none, and the caller's flag
-others : map characters (vowels_parted (buffer (codes "Beng") 0 (0x0905 ∷ 0x0946 ∷ []))
-    ∷ vowels_parted (buffer (codes "Latn") 0 (0x0905 ∷ 0x0946 ∷ []))
-    ∷ vowels_parted (buffer (codes "Deva") 0 (0x0905 ∷ [])) ∷ vowels_parted (buffer (codes "Deva") 0 [])
-    ∷ vowels_parted (buffer (codes "Deva") 0x20 (0x0905 ∷ 0x0946 ∷ [])) ∷ [])
+others : map characters (vowels_circled (buffer (codes "Beng") 0 (0x0905 ∷ 0x0946 ∷ []))
+    ∷ vowels_circled (buffer (codes "Latn") 0 (0x0905 ∷ 0x0946 ∷ []))
+    ∷ vowels_circled (buffer (codes "Deva") 0 (0x0905 ∷ [])) ∷ vowels_circled (buffer (codes "Deva") 0 [])
+    ∷ vowels_circled (buffer (codes "Deva") 0x20 (0x0905 ∷ 0x0946 ∷ [])) ∷ [])
     ≡ (0x0905 ∷ 0x0946 ∷ []) ∷ (0x0905 ∷ 0x0946 ∷ []) ∷ (0x0905 ∷ []) ∷ [] ∷ (0x0905 ∷ 0x0946 ∷ []) ∷ []
 unfolding devanagari_pairs bengali_pairs
 others = refl

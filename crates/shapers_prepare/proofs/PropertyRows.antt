@@ -8,7 +8,7 @@ use Rattle.shapers_buffer.specs.Properties.{is_continuation}
 use Rattle.shapers_normal.specs.Properties.{is_from_to}
 use Rattle.shapers_prepare.specs.CharacterProperties.{CharacterProperties}
 use Rattle.shapers_prepare.specs.PropertyWalk.{properties_with}
-use Rattle.shapers_prepare.specs.GlyphProperties.{kept_class, kept_properties, properties_set, with_properties}
+use Rattle.shapers_prepare.specs.GlyphProperties.{stored_class, stored_properties, properties_set, with_properties}
 
 -- some characters of Unicode, and in ASCII a mark that is ignorable, which there is none of
 abbrev category_of : ℕ → hb_unicode_general_category_t
@@ -69,11 +69,11 @@ as_mark = refl
 abbrev samples : List ℕ
 samples = 0x905 ∷ 0x301 ∷ 0xAD ∷ 0x200C ∷ 0x200D ∷ 0x34F ∷ 0x180B ∷ 0xE0020 ∷ 0xE001F ∷ 0x41 ∷ []
 
-properties_of : map (λ c. (kept_properties sample false c).0) samples ≡ 0x0007 ∷ 0xE60C ∷ 0x0021 ∷ 0x0221 ∷ 0x0121
+properties_of : map (λ c. (stored_properties sample false c).0) samples ≡ 0x0007 ∷ 0xE60C ∷ 0x0021 ∷ 0x0221 ∷ 0x0121
     ∷ 0x006C ∷ 0x006C ∷ 0x0061 ∷ 0x0021 ∷ 0x000C ∷ []
 properties_of = refl
 
-bytes_of : map (kept_class sample) samples ≡ 0 ∷ 230 ∷ 0 ∷ 2 ∷ 1 ∷ 0 ∷ 0 ∷ 0 ∷ 0 ∷ 0 ∷ []
+bytes_of : map (stored_class sample) samples ≡ 0 ∷ 230 ∷ 0 ∷ 2 ∷ 1 ∷ 0 ∷ 0 ∷ 0 ∷ 0 ∷ 0 ∷ []
 bytes_of = refl
 
 -- which of these characters carry on a grapheme

@@ -13,11 +13,11 @@ use Rattle.shapers_buffer.specs.Glyph.{characters}
 use Rattle.shapers_buffer.specs.Lists.{each_after}
 use Rattle.shapers_buffer.specs.Properties.{CONTINUATION, properties, set_property}
 use Rattle.shapers_buffer.proofs.ListLaws.{last_of, suffix_len_yes, suffix_len_no}
-use Rattle.shapers_prepare.specs.declared.ot_shape_prepare.properties.Open.{Open}
-use Rattle.shapers_prepare.specs.declared.ot_shape_prepare.properties.Open.TheVariants.{Joiner, HalfFlag, Nothing}
+use Rattle.shapers_prepare.specs.declared.ot_shape_prepare.properties.Awaited.{Awaited}
+use Rattle.shapers_prepare.specs.declared.ot_shape_prepare.properties.Awaited.TheVariants.{Joiner, HalfFlag, Nothing}
 use Rattle.shapers_prepare.specs.CharacterProperties.{CharacterProperties}
 use Rattle.shapers_prepare.specs.GlyphProperties.{always_continues, continues_grapheme, ends_in_half_flag, ends_joined, is_mark_character, is_regional_indicator, is_zero_width_joiner, properties_set, with_properties, with_properties_behind}
-use Rattle.shapers_prepare.specs.PropertyWalk.{goes_on_behind, half_flag_behind, left_open, properties_with, then_open}
+use Rattle.shapers_prepare.specs.PropertyWalk.{goes_on_behind, half_flag_behind, left_awaited, properties_with, then_awaited}
 
 -- a joiner is no half of a flag
 no_flag : (c : ℕ) → is_zero_width_joiner c ≡ true → is_regional_indicator c ≡ false
@@ -69,8 +69,8 @@ half_by true true false never = refl
 half_by true false true never = refl
 half_by true false false never = refl
 
--- what is open behind one more character
-pub open_next : (xs : List ℕ) (c : ℕ) → left_open (xs ++ c ∷ []) ≡ then_open (left_open xs) c
+-- what is awaited behind one more character
+pub open_next : (xs : List ℕ) (c : ℕ) → left_awaited (xs ++ c ∷ []) ≡ then_awaited (left_awaited xs) c
 open_next xs c =
     let all = xs ++ c ∷ [] in
     let half = ends_in_half_flag xs in
@@ -109,29 +109,29 @@ goes_on_by p c false false = refl
 
 -- the rule by what is open
 pub continues_open : (p : CharacterProperties) (xs : List ℕ) (c : ℕ)
-    → continues_grapheme p xs c ≡ (is_mark_character p c || goes_on_behind p (left_open xs) c)
+    → continues_grapheme p xs c ≡ (is_mark_character p c || goes_on_behind p (left_awaited xs) c)
 continues_open p xs c =
     goes_by (is_mark_character p c) (always_continues c) (p.pictographic c) (is_regional_indicator c) (ends_joined xs)
     (ends_in_half_flag xs) (not_both xs)
     ∙ ap (λ b. is_mark_character p c || b) (sym (goes_on_by p c (ends_joined xs) (ends_in_half_flag xs)))
 
 -- the walk over the glyphs that are left
-abbrev pub set_behind : CharacterProperties → Open → Glyphs → Glyphs
+abbrev pub set_behind : CharacterProperties → Awaited → Glyphs → Glyphs
 set_behind p o [] = []
 set_behind p o (g ∷ gs) =
     with_properties p (is_mark_character p g.glyph_id || goes_on_behind p o g.glyph_id) g
-    ∷ set_behind p (then_open o g.glyph_id) gs
+    ∷ set_behind p (then_awaited o g.glyph_id) gs
 
 set_from : (p : CharacterProperties) (before gs : Glyphs)
-    → set_behind p (left_open (characters before)) gs
+    → set_behind p (left_awaited (characters before)) gs
     ≡ map (λ x. with_properties_behind p x.0 x.1) (each_after before gs)
 set_from p before [] = refl
 set_from p before (g ∷ gs) =
     let c = g.glyph_id in
-    let o = left_open (characters before) in
-    let pushed : left_open (characters (before ++ g ∷ [])) ≡ then_open o c =
-    ap left_open (map_push (λ (h : Glyph). h.glyph_id) before g) ∙ open_next (characters before) c in
-    ap (λ b. with_properties p b g ∷ set_behind p (then_open o c) gs) (sym (continues_open p (characters before) c))
+    let o = left_awaited (characters before) in
+    let pushed : left_awaited (characters (before ++ g ∷ [])) ≡ then_awaited o c =
+    ap left_awaited (map_push (λ (h : Glyph). h.glyph_id) before g) ∙ open_next (characters before) c in
+    ap (λ b. with_properties p b g ∷ set_behind p (then_awaited o c) gs) (sym (continues_open p (characters before) c))
     ∙ ap (λ next. with_properties_behind p before g ∷ set_behind p next gs) (sym pushed)
     ∙ ap (λ gs. with_properties_behind p before g ∷ gs) (set_from p (before ++ g ∷ []) gs)
 

@@ -7,18 +7,18 @@ use Rattle.shapers_buffer.specs.Glyphs.{Glyphs}
 use Rattle.shapers_buffer.specs.Clusters.{stretch_of, with_stretch}
 use Rattle.shapers_buffer.specs.Glyph.{default_glyph}
 use Rattle.shapers_prepare.specs.Graphemes.{graphemes}
-use Rattle.shapers_prepare.specs.NativeDirection.{graphemes_turned}
+use Rattle.shapers_prepare.specs.NativeDirection.{graphemes_reversed}
 
 abbrev part_of : Glyphs → ℕ × ℕ → Glyphs
 part_of gs st = stretch_of st.0 st.1 gs
 
 -- the glyphs before s are graphemes that are turned by themselves, and these are the others
 pub record Turned (all now : Glyphs) (s : ℕ) (rest : List (ℕ × ℕ)) : Type 0 where
-  pub whole : flat_map (part_of all) (reverse rest) ++ reverse (take s now) ≡ graphemes_turned all
+  pub whole : flat_map (part_of all) (reverse rest) ++ reverse (take s now) ≡ graphemes_reversed all
   pub behind : drop s now ≡ drop s all
 
 pub turned_start : (gs : Glyphs) → Turned gs gs 0 (graphemes gs)
-turned_start gs = record { whole = append-nil (graphemes_turned gs); behind = refl }
+turned_start gs = record { whole = append-nil (graphemes_reversed gs); behind = refl }
 
 pub turned_next : (all now new : Glyphs) (s i : ℕ) (rest : List (ℕ × ℕ)) → s ≤ i → i ≤ length now
     → Turned all now s ((s, i) ∷ rest) → new ≡ with_stretch s i reverse now → Turned all new i rest
@@ -67,7 +67,7 @@ turned_next all now new s i rest order within t is =
     }
 
 pub turned_all : (all now : Glyphs) (n : ℕ) → length now ≤ n → Turned all now n []
-    → reverse now ≡ graphemes_turned all
+    → reverse now ≡ graphemes_reversed all
 turned_all all now n met t = ap reverse (sym (take_all n now met)) ∙ t.whole
 
 -- what is read behind there is the text's

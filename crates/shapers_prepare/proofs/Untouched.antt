@@ -15,23 +15,23 @@ use Rattle.shapers_buffer.specs.Properties.{is_continuation}
 use Rattle.shapers_prepare.specs.declared.ot_shape_prepare.rotation.CharRotation.{CharRotation}
 use Rattle.shapers_prepare.specs.CharacterProperties.{CharacterProperties}
 use Rattle.shapers_prepare.specs.Graphemes.{clusters_formed, continuations, graphemes_from}
-use Rattle.shapers_prepare.specs.Rotation.{mirrored_glyph, rotated_glyph, runs_backward, runs_vertically, upright_glyph}
+use Rattle.shapers_prepare.specs.Rotation.{mirrored_glyph, rotated_glyph, goes_backward, goes_vertically, upright_glyph}
 
 rotated-one : (p : CharacterProperties) (font : Font) (r : CharRotation) (g : Glyph)
-    → runs_backward r.direction ≡ false → (runs_vertically r.direction && not r.has_vert) ≡ false
+    → goes_backward r.direction ≡ false → (goes_vertically r.direction && not r.has_vert) ≡ false
     → rotated_glyph p font r g ≡ g
 rotated-one p font r g forward upright =
     ap (λ b. let m = cond b (mirrored_glyph p font r.rtlm_mask g) g in
-    cond (runs_vertically r.direction && not r.has_vert) (upright_glyph p font m) m) forward
+    cond (goes_vertically r.direction && not r.has_vert) (upright_glyph p font m) m) forward
     ∙ ap (λ b. cond b (upright_glyph p font g) g) upright
 
--- A text that runs forward along lines, or down in a font with vertical forms.
+-- A text that goes forward along lines, or down in a font with vertical forms.
 pub rotated-none : (p : CharacterProperties) (font : Font) (r : CharRotation)
-    → (runs_backward r.direction || (runs_vertically r.direction && not r.has_vert)) ≡ false → (gs : Glyphs)
+    → (goes_backward r.direction || (goes_vertically r.direction && not r.has_vert)) ≡ false → (gs : Glyphs)
     → map (rotated_glyph p font r) gs ≡ gs
 rotated-none p font r none [] = refl
 rotated-none p font r none (g ∷ gs) =
-    let both = or_parts (runs_backward r.direction) (runs_vertically r.direction && not r.has_vert) none in
+    let both = or_parts (goes_backward r.direction) (goes_vertically r.direction && not r.has_vert) none in
     cc (rotated-one p font r g both.0 both.1, rotated-none p font r none gs)
 
 -- one glyph is merged with none

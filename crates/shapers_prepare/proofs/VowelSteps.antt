@@ -4,7 +4,7 @@ use Rattle.std.proofs.lemmas.List.{length-append}
 use Rattle.shapers_buffer.specs.Glyphs.{Glyph, Glyphs}
 use Rattle.shapers_buffer.specs.Glyph.{default_glyph}
 use Rattle.shapers_prepare.specs.declared.ot_shape_prepare.vowels.VowelScript.{VowelScript}
-use Rattle.shapers_prepare.specs.Vowels.{circle_before_last, left_behind, vowel_circle, vowels_parted_from}
+use Rattle.shapers_prepare.specs.Vowels.{circle_before_last, left_behind, vowel_circle, vowels_circled_from}
 use Rattle.shapers_prepare.specs.VowelWalk.{vowel_circles}
 
 -- the text from a place on, by its first glyph
@@ -18,14 +18,14 @@ abbrev left_after : VowelScript → ℕ → Glyphs → ℕ → ℕ
 left_after s n gs i = left_behind s n (get_or gs i default_glyph) (drop (i + 1) gs)
 
 pub parted_next : (s : VowelScript) (n : ℕ) (gs : Glyphs) (i : ℕ) → i < length gs
-    → vowels_parted_from s n (drop i gs)
+    → vowels_circled_from s n (drop i gs)
     ≡ (circle_before_last n (get_or gs i default_glyph) ++ get_or gs i default_glyph ∷ [])
-    ++ vowels_parted_from s (left_behind s n (get_or gs i default_glyph) (drop (i + 1) gs)) (drop (i + 1) gs)
+    ++ vowels_circled_from s (left_behind s n (get_or gs i default_glyph) (drop (i + 1) gs)) (drop (i + 1) gs)
 parted_next s n gs i inside =
     let g = get_or gs i default_glyph in
-    ap (vowels_parted_from s n) (from_place gs i inside)
+    ap (vowels_circled_from s n) (from_place gs i inside)
     ∙ sym (append_assoc (circle_before_last n g) (g ∷ [])
-    (vowels_parted_from s (left_after s n gs i) (drop (i + 1) gs)))
+    (vowels_circled_from s (left_after s n gs i) (drop (i + 1) gs)))
 
 pub circles_next : (s : VowelScript) (n : ℕ) (gs : Glyphs) (i : ℕ) → i < length gs
     → vowel_circles s n (drop i gs)
@@ -41,27 +41,27 @@ circle_len : (n : ℕ) (g : Glyph) → length (circle_before_last n g) ≡ cond 
 circle_len n g = elim (eqb n 1) as (λ b. length (cond b (vowel_circle g ∷ []) []) ≡ cond b 1 0)
     [ true ↦ refl | false ↦ refl ]
 
-pub parted_len : (s : VowelScript) (n : ℕ) (gs : Glyphs) → length (vowels_parted_from s n gs)
+pub parted_len : (s : VowelScript) (n : ℕ) (gs : Glyphs) → length (vowels_circled_from s n gs)
     ≡ length gs + vowel_circles s n gs
 parted_len s n [] = refl
 parted_len s n (g ∷ gs) =
     let m = left_behind s n g gs in
     let rest = parted_len s m gs in
-    let whole = length-append (circle_before_last n g) (g ∷ vowels_parted_from s m gs) in
+    let whole = length-append (circle_before_last n g) (g ∷ vowels_circled_from s m gs) in
     let circles : vowel_circles s n (g ∷ gs) ≡ cond (eqb n 1) 1 0 + vowel_circles s m gs =
     elim (eqb n 1) as (λ b. cond b (suc (vowel_circles s m gs)) (vowel_circles s m gs)
     ≡ cond b 1 0 + vowel_circles s m gs) [ true ↦ omega arith | false ↦ omega arith ] in
     omega (arith, rest, whole, circle_len n g, circles)
 
 none_by : (b : Bool) (s : VowelScript) (m : ℕ) (g : Glyph) (gs : Glyphs)
-    → (vowel_circles s m gs ≡ 0 → vowels_parted_from s m gs ≡ gs)
+    → (vowel_circles s m gs ≡ 0 → vowels_circled_from s m gs ≡ gs)
     → cond b (suc (vowel_circles s m gs)) (vowel_circles s m gs) ≡ 0 → cond b (vowel_circle g ∷ [])
-    [] ++ g ∷ vowels_parted_from s m gs ≡ g ∷ gs
+    [] ++ g ∷ vowels_circled_from s m gs ≡ g ∷ gs
 none_by true s m g gs rest is = absurd (omega arith)
 none_by false s m g gs rest is = ap (λ gs. g ∷ gs) (rest is)
 
 pub none_parted : (s : VowelScript) (n : ℕ) (gs : Glyphs) → vowel_circles s n gs ≡ 0
-    → vowels_parted_from s n gs ≡ gs
+    → vowels_circled_from s n gs ≡ gs
 none_parted s n [] is = refl
 none_parted s n (g ∷ gs) is =
     none_by (eqb n 1) s (left_behind s n g gs) g gs (none_parted s (left_behind s n g gs) gs) is

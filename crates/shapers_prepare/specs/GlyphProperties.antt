@@ -54,23 +54,23 @@ continues_grapheme p before c =
 
 -- what the high byte of a character's properties holds: the class of a mark, or which joiner a
 -- character is that need not be drawn
-abbrev pub kept_class : CharacterProperties → ℕ → ℕ
-kept_class p c =
+abbrev pub stored_class : CharacterProperties → ℕ → ℕ
+stored_class p c =
     if is_mark_character p c then p.class c
     else if need_not_be_drawn p c then joiner_class c else 0
 
 -- what a glyph keeps of its character; lookups see some characters that need not be drawn
-abbrev pub kept_properties : CharacterProperties → Bool → ℕ → UnicodeProps
-kept_properties p continues c =
+abbrev pub stored_properties : CharacterProperties → Bool → ℕ → UnicodeProps
+stored_properties p continues c =
     set_property HIDDEN (need_not_be_drawn p c && is_seen_by_lookups c)
     (set_property CONTINUATION continues
     (set_property IGNORABLE (need_not_be_drawn p c)
-    (properties (p.general c) (kept_class p c))))
+    (properties (p.general c) (stored_class p c))))
 
 -- a glyph with the properties of its character
 abbrev pub with_properties : CharacterProperties → Bool → Glyph → Glyph
 with_properties p continues g =
-    record g { unicode_props = kept_properties p continues g.glyph_id }
+    record g { unicode_props = stored_properties p continues g.glyph_id }
 
 -- the same behind these glyphs
 abbrev pub with_properties_behind : CharacterProperties → Glyphs →

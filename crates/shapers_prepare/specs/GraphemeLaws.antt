@@ -8,7 +8,7 @@ use Rattle.shapers_buffer.specs.Properties.{is_continuation}
 use Rattle.shapers_clusters.specs.Cuts.{ExactCuts, IsMonotone, ShareCluster}
 use Rattle.shapers_prepare.specs.Graphemes.{clusters_formed, graphemes}
 
--- The graphemes, one after another, are the text: turning it loses none and takes none apart.
+-- The graphemes, one after another, are the text: reversing it loses none and takes none apart.
 abbrev pub GraphemesCover : Type 0
 GraphemesCover = (gs : Glyphs) →
     flat_map (λ st. stretch_of st.0 st.1 gs) (graphemes gs) ≡ gs

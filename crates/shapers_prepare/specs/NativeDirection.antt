@@ -16,7 +16,7 @@ use Rattle.shapers_choice.specs.Choice.{is_among}
 use Rattle.shapers_prepare.specs.GlyphProperties.{is_regional_indicator}
 use Rattle.shapers_prepare.specs.Graphemes.{graphemes}
 
--- the scripts that run from right to left, by their codes in ISO 15924, and those that run either
+-- the scripts that go from right to left, by their codes in ISO 15924, and those that run either
 -- way
 abbrev pub right_to_left_scripts : List Script
 right_to_left_scripts = map (λ code. record { 0 = codes code }) (
@@ -39,7 +39,7 @@ abbrev pub native_direction : Option Script → Direction
 native_direction None = Invalid
 native_direction (Some s) = script_direction s
 
--- letters, and what runs from left to right in any script: decimal numbers and flags
+-- letters, and what goes from left to right in any script: decimal numbers and flags
 abbrev pub is_letter_category : hb_unicode_general_category_t → Bool
 is_letter_category Ll = true
 is_letter_category Lm = true
@@ -72,11 +72,11 @@ text_direction _ native gs = native
 
 -- whether a text is shaped in the other direction: where its own is the other one, and from bottom
 -- to top always
-abbrev pub is_turned : Direction → Direction → Bool
-is_turned LeftToRight RightToLeft = true
-is_turned RightToLeft LeftToRight = true
-is_turned BottomToTop _ = true
-is_turned _ _ = false
+abbrev pub is_reversed : Direction → Direction → Bool
+is_reversed LeftToRight RightToLeft = true
+is_reversed RightToLeft LeftToRight = true
+is_reversed BottomToTop _ = true
+is_reversed _ _ = false
 
 abbrev pub opposite_direction : Direction → Direction
 opposite_direction Invalid = Invalid
@@ -85,15 +85,15 @@ opposite_direction RightToLeft = LeftToRight
 opposite_direction TopToBottom = BottomToTop
 opposite_direction BottomToTop = TopToBottom
 
--- at the level of characters each grapheme comes into one cluster before it is turned with others;
--- at that of graphemes it is in one
+-- at the level of characters each grapheme comes into one cluster before it is reversed with
+-- others; at that of graphemes it is in one
 abbrev pub graphemes_whole : BufferClusterLevel → Glyphs → Glyphs
 graphemes_whole MonotoneCharacters gs = merge_all MonotoneCharacters (graphemes gs) gs
 graphemes_whole _ gs = gs
 
 -- the graphemes from the last to the first, each as it is
-abbrev pub graphemes_turned : Glyphs → Glyphs
-graphemes_turned gs = flat_map (λ st. stretch_of st.0 st.1 gs) (reverse (graphemes gs))
+abbrev pub graphemes_reversed : Glyphs → Glyphs
+graphemes_reversed gs = flat_map (λ st. stretch_of st.0 st.1 gs) (reverse (graphemes gs))
 
 -- the buffer in its text's own direction
 abbrev pub in_native_direction : Buffer → Buffer
@@ -101,6 +101,6 @@ in_native_direction b =
     let own = text_direction b.direction (native_direction b.script) b.glyphs in
     let turned : Buffer = record b {
       direction = opposite_direction b.direction;
-      glyphs = graphemes_turned (graphemes_whole b.level b.glyphs);
+      glyphs = graphemes_reversed (graphemes_whole b.level b.glyphs);
     } in
-    if is_turned b.direction own then turned else b
+    if is_reversed b.direction own then turned else b

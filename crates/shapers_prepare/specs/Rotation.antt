@@ -9,15 +9,15 @@ use Rattle.shapers_buffer.specs.GlyphFlags.{with_bits}
 use Rattle.shapers_prepare.specs.declared.ot_shape_prepare.rotation.CharRotation.{CharRotation}
 use Rattle.shapers_prepare.specs.CharacterProperties.{CharacterProperties}
 
-abbrev pub runs_backward : Direction → Bool
-runs_backward RightToLeft = true
-runs_backward BottomToTop = true
-runs_backward _ = false
+abbrev pub goes_backward : Direction → Bool
+goes_backward RightToLeft = true
+goes_backward BottomToTop = true
+goes_backward _ = false
 
-abbrev pub runs_vertically : Direction → Bool
-runs_vertically TopToBottom = true
-runs_vertically BottomToTop = true
-runs_vertically _ = false
+abbrev pub goes_vertically : Direction → Bool
+goes_vertically TopToBottom = true
+goes_vertically BottomToTop = true
+goes_vertically _ = false
 
 -- a character that the font has, if there is one
 abbrev pub which_font_has : Font → Option ℕ → Option ℕ
@@ -27,7 +27,7 @@ which_font_has font (Some c) = if has_nominal font c then Some c else None
 abbrev pub as_other_character : Glyph → ℕ → Glyph
 as_other_character g c = record g { glyph_id = c }
 
--- in text that runs backward: the mirrored character where the font has it, else the feature that
+-- in text that goes backward: the mirrored character where the font has it, else the feature that
 -- mirrors
 abbrev pub mirrored_glyph : CharacterProperties → Font → ℕ → Glyph → Glyph
 mirrored_glyph p font mask g =
@@ -44,6 +44,6 @@ abbrev pub rotated_glyph : CharacterProperties → Font → CharRotation → Gly
     Glyph
 rotated_glyph p font r g =
     let mirrored_one =
-    if runs_backward r.direction then mirrored_glyph p font r.rtlm_mask g else g in
-    if runs_vertically r.direction && not r.has_vert then upright_glyph p font mirrored_one
+    if goes_backward r.direction then mirrored_glyph p font r.rtlm_mask g else g in
+    if goes_vertically r.direction && not r.has_vert then upright_glyph p font mirrored_one
     else mirrored_one

@@ -42,39 +42,39 @@ vowel_script s =
 abbrev pub is_among_pairs : List (ℕ × ℕ) → ℕ → ℕ → Bool
 is_among_pairs pairs a b = list_any (λ pair. pair.0 == a && pair.1 == b) pairs
 
-abbrev pub is_parted_pair : VowelScript → ℕ → ℕ → Bool
-is_parted_pair scripts.Devanagari a b = is_among_pairs rows.devanagari_pairs a b
-is_parted_pair scripts.Bengali a b = is_among_pairs rows.bengali_pairs a b
-is_parted_pair scripts.Gurmukhi a b = is_among_pairs rows.gurmukhi_pairs a b
-is_parted_pair scripts.Gujarati a b = is_among_pairs rows.gujarati_pairs a b
-is_parted_pair scripts.Oriya a b = is_among_pairs rows.oriya_pairs a b
-is_parted_pair scripts.Tamil a b = is_among_pairs rows.tamil_pairs a b
-is_parted_pair scripts.Telugu a b = is_among_pairs rows.telugu_pairs a b
-is_parted_pair scripts.Kannada a b = is_among_pairs rows.kannada_pairs a b
-is_parted_pair scripts.Malayalam a b = is_among_pairs rows.malayalam_pairs a b
-is_parted_pair scripts.Sinhala a b = is_among_pairs rows.sinhala_pairs a b
-is_parted_pair scripts.Brahmi a b = is_among_pairs rows.brahmi_pairs a b
-is_parted_pair scripts.Khojki a b = is_among_pairs rows.khojki_pairs a b
-is_parted_pair scripts.Khudawadi a b = is_among_pairs rows.khudawadi_pairs a b
-is_parted_pair scripts.Tirhuta a b = is_among_pairs rows.tirhuta_pairs a b
-is_parted_pair scripts.Modi a b = is_among_pairs rows.modi_pairs a b
-is_parted_pair scripts.Takri a b = is_among_pairs rows.takri_pairs a b
+abbrev pub is_vowel_pair : VowelScript → ℕ → ℕ → Bool
+is_vowel_pair scripts.Devanagari a b = is_among_pairs rows.devanagari_pairs a b
+is_vowel_pair scripts.Bengali a b = is_among_pairs rows.bengali_pairs a b
+is_vowel_pair scripts.Gurmukhi a b = is_among_pairs rows.gurmukhi_pairs a b
+is_vowel_pair scripts.Gujarati a b = is_among_pairs rows.gujarati_pairs a b
+is_vowel_pair scripts.Oriya a b = is_among_pairs rows.oriya_pairs a b
+is_vowel_pair scripts.Tamil a b = is_among_pairs rows.tamil_pairs a b
+is_vowel_pair scripts.Telugu a b = is_among_pairs rows.telugu_pairs a b
+is_vowel_pair scripts.Kannada a b = is_among_pairs rows.kannada_pairs a b
+is_vowel_pair scripts.Malayalam a b = is_among_pairs rows.malayalam_pairs a b
+is_vowel_pair scripts.Sinhala a b = is_among_pairs rows.sinhala_pairs a b
+is_vowel_pair scripts.Brahmi a b = is_among_pairs rows.brahmi_pairs a b
+is_vowel_pair scripts.Khojki a b = is_among_pairs rows.khojki_pairs a b
+is_vowel_pair scripts.Khudawadi a b = is_among_pairs rows.khudawadi_pairs a b
+is_vowel_pair scripts.Tirhuta a b = is_among_pairs rows.tirhuta_pairs a b
+is_vowel_pair scripts.Modi a b = is_among_pairs rows.modi_pairs a b
+is_vowel_pair scripts.Takri a b = is_among_pairs rows.takri_pairs a b
 
 -- Devanagari's RA, virama and I look like II
-abbrev pub is_parted_triple : VowelScript → ℕ → ℕ → ℕ → Bool
-is_parted_triple scripts.Devanagari a b c = a == 0x0930 && b == 0x094D && c == 0x0907
-is_parted_triple _ a b c = false
+abbrev pub is_vowel_triple : VowelScript → ℕ → ℕ → ℕ → Bool
+is_vowel_triple scripts.Devanagari a b c = a == 0x0930 && b == 0x094D && c == 0x0907
+is_vowel_triple _ a b c = false
 
--- how many glyphs behind the first one are of a pair or a triple that opens the text, 0 where none
+-- how many glyphs behind the first one are of a pair or a triple that begins the text, 0 where none
 -- does
 abbrev pub triple_behind : VowelScript → ℕ → ℕ → Glyphs → ℕ
 triple_behind s a b [] = 0
-triple_behind s a b (g ∷ gs) = if is_parted_triple s a b g.glyph_id then 2 else 0
+triple_behind s a b (g ∷ gs) = if is_vowel_triple s a b g.glyph_id then 2 else 0
 
 abbrev pub pair_behind : VowelScript → ℕ → Glyphs → ℕ
 pair_behind s a [] = 0
 pair_behind s a (g ∷ gs) =
-    if is_parted_pair s a g.glyph_id then 1 else triple_behind s a g.glyph_id gs
+    if is_vowel_pair s a g.glyph_id then 1 else triple_behind s a g.glyph_id gs
 
 -- how many glyphs behind this one are left of a pair or triple, if so many were left of one with it
 abbrev pub left_behind : VowelScript → ℕ → Glyph → Glyphs → ℕ
@@ -91,14 +91,14 @@ circle_before_last n g = if n == 1 then vowel_circle g ∷ [] else []
 
 -- a text with its circles, where so many glyphs in front are left of a pair or triple; the search
 -- for the next one goes on behind it
-abbrev pub vowels_parted_from : VowelScript → ℕ → Glyphs → Glyphs
-vowels_parted_from s n [] = []
-vowels_parted_from s n (g ∷ gs) =
-    circle_before_last n g ++ g ∷ vowels_parted_from s (left_behind s n g gs) gs
+abbrev pub vowels_circled_from : VowelScript → ℕ → Glyphs → Glyphs
+vowels_circled_from s n [] = []
+vowels_circled_from s n (g ∷ gs) =
+    circle_before_last n g ++ g ∷ vowels_circled_from s (left_behind s n g gs) gs
 
-abbrev pub vowels_parted_in : Option VowelScript → Glyphs → Glyphs
-vowels_parted_in None gs = gs
-vowels_parted_in (Some s) gs = vowels_parted_from s 0 gs
+abbrev pub vowels_circled_in : Option VowelScript → Glyphs → Glyphs
+vowels_circled_in None gs = gs
+vowels_circled_in (Some s) gs = vowels_circled_from s 0 gs
 
 -- the script of a buffer's text, if it has such vowels and circles are allowed
 abbrev pub script_if_known : Option Script → Option VowelScript
@@ -109,5 +109,5 @@ abbrev pub vowel_script_of : Buffer → Option VowelScript
 vowel_script_of b = if asks no_dotted_circle b then None else script_if_known b.script
 
 -- the text with its circles, where the caller allows them
-abbrev pub vowels_parted : Buffer → Glyphs
-vowels_parted b = vowels_parted_in (vowel_script_of b) b.glyphs
+abbrev pub vowels_circled : Buffer → Glyphs
+vowels_circled b = vowels_circled_in (vowel_script_of b) b.glyphs

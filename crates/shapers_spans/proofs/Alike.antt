@@ -5,7 +5,7 @@ use Rattle.std.specs.List.{list_all}
 use Rattle.shapers_buffer.specs.Glyphs.{Glyph, Glyphs}
 use Rattle.shapers_spans.specs.Cuts.{ReadsAlike, ends_with_joiner, joiner_waits}
 use Rattle.shapers_spans.specs.Grammar.{Grammar}
-use Rattle.shapers_spans.specs.Passing.{next_is_mark, opens_passed, none_passed}
+use Rattle.shapers_spans.specs.Passing.{next_is_mark, begins_passed, none_passed}
 
 pub none-alike : (g : Grammar) (gs hs : Glyphs) → g.passes ≡ none_passed → ReadsAlike g gs hs
 none-alike g gs hs e fs ks s l = ap (λ f. f (ks ++ hs)) e ∙ sym (ap (λ f. f ks) e)
@@ -49,7 +49,7 @@ no-joiner (f ∷ fs) ks h =
     (ends_with_joiner (fs ++ ks)) h).1
 
 opens-alike : (ks hs : Glyphs) → 0 < length ks → (ends_with_joiner ks ≡ false) ⊎ (next_is_mark hs ≡ false)
-    → opens_passed (ks ++ hs) ≡ opens_passed ks
+    → begins_passed (ks ++ hs) ≡ begins_passed ks
 opens-alike [] hs l s = absurd (omega arith)
 opens-alike (k ∷ ks) hs l s =
     ⊎_elim
@@ -59,7 +59,7 @@ opens-alike (k ∷ ks) hs l s =
     (mark-within ks hs))
     (λ h. ap (λ m. (k.category == 6) || ((k.category == 14) && m)) (mark-none ks hs h)) s
 
-pub universal-alike : (g : Grammar) (gs hs : Glyphs) → g.passes ≡ opens_passed
+pub universal-alike : (g : Grammar) (gs hs : Glyphs) → g.passes ≡ begins_passed
     → joiner_waits gs hs ≡ false → ReadsAlike g gs hs
 universal-alike g gs hs e w fs ks s l =
     let o = opens-alike ks hs l (⊎_elim (λ h. inl (no-joiner fs ks (ap ends_with_joiner (sym s) ∙ h))) (λ h. inr h)

@@ -10,7 +10,7 @@ use Rattle.shapers_buffer.specs.Glyphs.{Glyph, Glyphs}
 use Rattle.shapers_buffer.specs.declared.buffer.syllables.Span.{Span}
 use Rattle.shapers_buffer.specs.Syllables.{spans_cover}
 use Rattle.shapers_spans.specs.Cuts.{ReadsAlike, GrammarCutsBetweenSpans}
-use Rattle.shapers_spans.specs.Grammar.{Grammar, IsSyllable, OpensWith, IsCutFrom, IsSyllableCut, NoneTakes, IsFirst, read_of, reach_of, lead_spans}
+use Rattle.shapers_spans.specs.Grammar.{Grammar, IsSyllable, BeginsWith, IsCutFrom, IsSyllableCut, NoneTakes, IsFirst, read_of, reach_of, lead_spans}
 use Rattle.shapers_spans.proofs.Reading.{syllable_within}
 use Rattle.shapers_spans.proofs.Reached.{reach-zero}
 
@@ -160,7 +160,7 @@ shorter g u v s l y =
     y
 
 opens-shorter : (g : Grammar) (gs hs : Glyphs) (s : Span) → ReadsAlike g gs hs → s.len ≤ length gs
-    → OpensWith g (gs ++ hs) s → OpensWith g gs s
+    → BeginsWith g (gs ++ hs) s → BeginsWith g gs s
 opens-shorter g gs hs s a l o =
     let bound : reach_of g.passes (gs ++ hs) o.read.len ≤ length gs = (let e = o.len in omega (arith, e, l)) in
     let inside = read-within g gs hs o.read.len a (syllable_within g (read_of g.passes (gs ++ hs)) o.read o.syllable).1

@@ -10,7 +10,7 @@ use Rattle.std.proofs.lemmas.List.Sums.{sum_by-append}
 use Rattle.shapers_buffer.specs.Glyphs.{Glyphs}
 use Rattle.shapers_buffer.specs.declared.buffer.syllables.Span.{Span}
 use Rattle.shapers_spans.specs.Cuts.{AreSpansOf}
-use Rattle.shapers_spans.specs.Grammar.{Grammar, IsCutFrom, IsSyllable, OpensWith, lead_spans, reach_of, read_of}
+use Rattle.shapers_spans.specs.Grammar.{Grammar, IsCutFrom, IsSyllable, BeginsWith, lead_spans, reach_of, read_of}
 use Rattle.shapers_spans.specs.Joined.{Joined, KnowsJoiners}
 use Rattle.shapers_spans.specs.Watch.{Watch, IsWatched}
 use Rattle.shapers_spans.proofs.Reached.{reach-le, behind-is-read}
@@ -40,18 +40,18 @@ syllable_len g w s t (inl a) (inr b) = absurd (b.none s.len a.some a.within a.ru
 syllable_len g w s t (inr a) (inl b) = absurd (a.none t.len b.some b.within b.rule b.first.takes)
 syllable_len g w s t (inr a) (inr b) = a.one ∙ sym b.one
 
-opening_len : (g : Grammar) (gs : Glyphs) (s t : Span) → OpensWith g gs s → OpensWith g gs t → s.len ≡ t.len
-opening_len g gs s t a b =
+leading_len : (g : Grammar) (gs : Glyphs) (s t : Span) → BeginsWith g gs s → BeginsWith g gs t → s.len ≡ t.len
+leading_len g gs s t a b =
     a.len ∙ ap (reach_of g.passes gs) (syllable_len g (read_of g.passes gs) a.read b.read a.syllable b.syllable) ∙ sym b.len
 
 -- so behind the first span it cuts what is left
-next_cut : (g : Grammar) (gs : Glyphs) (span : Span) (more : List Span) → IsCutFrom g gs more → OpensWith g gs span
+next_cut : (g : Grammar) (gs : Glyphs) (span : Span) (more : List Span) → IsCutFrom g gs more → BeginsWith g gs span
     → 0 < span.len → span.len ≤ length gs
     → (rest : List Span) × (IsCutFrom g (drop span.len gs) rest × (length more ≡ length rest + 1))
 next_cut g gs span [] nil opens some within = absurd (omega (arith, some, within, ap length nil))
 next_cut g gs span (s ∷ rest) cut opens some within = (
   rest,
-  (subst (λ n. IsCutFrom g (drop n gs) rest) (opening_len g gs s span cut.0 opens) cut.1, omega arith),
+  (subst (λ n. IsCutFrom g (drop n gs) rest) (leading_len g gs s span cut.0 opens) cut.1, omega arith),
 )
 
 one_fits : (s : Span) → s.kind ≤ 15 → All (λ (t : Span). t.kind ≤ 15) (s ∷ [])
@@ -97,7 +97,7 @@ found_start g gs start spans z k e s = record {
 }
 
 pub found_next : (g : Grammar) (gs : Glyphs) (start : ℕ) (span : Span) (spans new : List Span)
-    → Found g gs start spans → OpensWith g (drop start gs) span → 0 < span.len → span.len ≤ length (drop start gs)
+    → Found g gs start spans → BeginsWith g (drop start gs) span → 0 < span.len → span.len ≤ length (drop start gs)
     → span.kind ≤ 15 → g.passes (drop span.len (drop start gs)) ≡ false → new ≡ spans ++ span ∷ []
     → Found g gs (start + span.len) new
 found_next g gs start span spans new f opens some within kind read e =
@@ -196,9 +196,9 @@ knows_none p j ends gs len stuck h e = record {
   ends_none = (λ l. absurd (omega (arith, l, e)));
 }
 
-pub watched_none : (p : Glyphs → Bool) (turned : ℕ) (gs : Glyphs) (len stuck before : ℕ)
-    (watch : Watch) → watch.reads ≡ before → IsWatched p turned gs len stuck before watch
-watched_none p turned gs len stuck before watch e = record {
+pub watched_none : (p : Glyphs → Bool) (cycled : ℕ) (gs : Glyphs) (len stuck before : ℕ)
+    (watch : Watch) → watch.reads ≡ before → IsWatched p cycled gs len stuck before watch
+watched_none p cycled gs len stuck before watch e = record {
   since = omega (arith, e);
   few = omega (arith, e);
   spent = (λ _. inl (omega (arith, e)));

@@ -6,7 +6,7 @@ use Rattle.shapers_buffer.specs.Glyph.{default_glyph}
 use Rattle.shapers_buffer.specs.Properties.{general_category, properties}
 use Rattle.shapers_spans.specs.Cuts.{joiner_waits}
 use Rattle.shapers_spans.specs.Grammar.{Grammar, lead_spans, reach_of, read_of}
-use Rattle.shapers_spans.specs.Passing.{none_passed, opens_passed}
+use Rattle.shapers_spans.specs.Passing.{none_passed, begins_passed}
 use Rattle.shapers_spans.proofs.Tables.{first_kind, after}
 
 -- the kind of the first rule that takes w, 255 if none does
@@ -20,13 +20,13 @@ mark : ℕ → Glyph
 mark c = record default_glyph { category = c; unicode_props = properties Mn 0 }
 
 -- CGJ is passed over, whatever is around it; ZWNJ before a mark, CGJs between them apart
-read : read_of opens_passed (letter 6 ∷ letter 1 ∷ letter 6 ∷ letter 14 ∷ letter 6 ∷ mark 33 ∷ letter 14 ∷ letter 1
+read : read_of begins_passed (letter 6 ∷ letter 1 ∷ letter 6 ∷ letter 14 ∷ letter 6 ∷ mark 33 ∷ letter 14 ∷ letter 1
     ∷ mark 6 ∷ letter 14 ∷ letter 6 ∷ []) ≡ 1 ∷ 33 ∷ 14 ∷ 1 ∷ 14 ∷ []
 unfolding letter mark general_category
 read = refl
 
 -- a ZWNJ before a ZWNJ is read, and so is ZWJ, or a ZWNJ before no mark
-zwnjs : read_of opens_passed (letter 14 ∷ letter 14 ∷ mark 33 ∷ letter 14 ∷ letter 33 ∷ []) ≡ 14 ∷ 33 ∷ 14 ∷ 33 ∷ []
+zwnjs : read_of begins_passed (letter 14 ∷ letter 14 ∷ mark 33 ∷ letter 14 ∷ letter 33 ∷ []) ≡ 14 ∷ 33 ∷ 14 ∷ 33 ∷ []
 unfolding letter mark general_category
 zwnjs = refl
 
@@ -40,8 +40,8 @@ reaches : List ℕ
 unfolding letter mark
 reaches =
     let text = letter 6 ∷ letter 6 ∷ letter 1 ∷ letter 6 ∷ letter 14 ∷ mark 33 ∷ letter 6 ∷ [] in
-    reach_of opens_passed text 0 ∷ reach_of opens_passed text 1 ∷ reach_of opens_passed text 2
-    ∷ reach_of opens_passed text 3 ∷ []
+    reach_of begins_passed text 0 ∷ reach_of begins_passed text 1 ∷ reach_of begins_passed text 2
+    ∷ reach_of begins_passed text 3 ∷ []
 
 reaches_are : reaches ≡ 2 ∷ 5 ∷ 7 ∷ 7 ∷ []
 unfolding reaches letter mark general_category

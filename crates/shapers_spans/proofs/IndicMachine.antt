@@ -1,17 +1,17 @@
 -- Made by checks/machines: the tables are those of the rules.
 use Rattle.std.proofs.Common.{◌≡◌, ℕ, ◌+◌, ◌*◌, ◌<◌, Bool, IsTrue, true, refl, List, [], ◌∷◌, get_or, arith, rules, lit<, lit≤, ◌≤◌}
-use Rattle.shapers_spans.specs.Turning.{AreTablesOf, CellTurns, has_turn}
+use Rattle.shapers_spans.specs.Cycling.{AreTablesOf, CellCycles, has_cycle}
 use Rattle.shapers_spans.proofs.Facts.{entries_below, entries_are, entry-below, dead_ok, dead-ends}
 use Rattle.shapers_spans.specs.Re.{Re}
 use Rattle.shapers_spans.specs.Grammar.{IsKind, KindsFit}
 use Rattle.shapers_spans.specs.Machine.{ends_by, state_behind}
 use Rattle.shapers_spans.specs.Indic.{indic_rules, indic_grammar}
-use Rattle.shapers_spans.specs.IndicMachine.{indic_tables, indic_turning}
+use Rattle.shapers_spans.specs.IndicMachine.{indic_tables, indic_cycling}
 use Rattle.shapers_spans.specs.declared.indic.TheConstants.{CLASSES, ROWS}
 use Rattle.shapers_spans.proofs.Steps.{nullable, same, chain, member, before, insert, union, step}
 use Rattle.shapers_spans.proofs.Tables.{first_kind, kinds_fit}
 use Rattle.shapers_spans.proofs.Simulation.{known_states, same_all, below, all_below, zeros, cell_ok, row_ok, state_ok, states_ok, machine_ok, machine-is}
-use Rattle.shapers_spans.proofs.TurningFacts.{cell_turns, row_turns, state_turns, states_turn, turning_ok, cell-turns, state-turns, state-lives}
+use Rattle.shapers_spans.proofs.CyclingFacts.{cell_cycles, row_cycles, state_cycles, states_cycle, cycling_ok, cell-cycles, state-cycles, state-lives}
 
 -- how what is left of the rules was found: from which state, by which category
 found : List (ℕ × ℕ)
@@ -234,16 +234,16 @@ pub indic_other : 5 ≡ indic_grammar.other
 unfolding indic_grammar
 indic_other = refl
 
-indic_turning_ok : turning_ok indic_tables indic_turning 135 ≡ true
-unfolding indic_turning cell_turns row_turns state_turns states_turn turning_ok
-indic_turning_ok = refl
+indic_cycling_ok : cycling_ok indic_tables indic_cycling 135 ≡ true
+unfolding indic_cycling cell_cycles row_cycles state_cycles states_cycle cycling_ok
+indic_cycling_ok = refl
 
-indic_turns : (q k : ℕ) → q < 135 → CellTurns indic_tables indic_turning q k (state_behind indic_tables q k)
-indic_turns q k h =
-    cell-turns indic_tables indic_turning 135 indic_turning_ok q k h (entry-below 20 CLASSES k (lit< tt) indic_classes_ok)
+indic_cycles : (q k : ℕ) → q < 135 → CellCycles indic_tables indic_cycling q k (state_behind indic_tables q k)
+indic_cycles q k h =
+    cell-cycles indic_tables indic_cycling 135 indic_cycling_ok q k h (entry-below 20 CLASSES k (lit< tt) indic_classes_ok)
 
-pub indic_are_tables : AreTablesOf indic_grammar indic_tables indic_turning
-unfolding indic_turning
+pub indic_are_tables : AreTablesOf indic_grammar indic_tables indic_cycling
+unfolding indic_cycling
 indic_are_tables = record {
   kinds = indic_machine-is;
   fit = indic_fit;
@@ -251,9 +251,9 @@ indic_are_tables = record {
   place = indic_place;
   next = λ q k. entry-below 135 ROWS (q * 20 + get_or CLASSES k 0) (lit< tt) indic_rows_ok;
   dead = dead-ends indic_tables 130 indic_dead_ok;
-  lives = state-lives indic_tables indic_turning 135 indic_turning_ok;
-  waits = λ q h t. state-turns indic_tables indic_turning 135 indic_turning_ok q h (is-test (has_turn indic_turning q) t);
-  turns = indic_turns;
+  lives = state-lives indic_tables indic_cycling 135 indic_cycling_ok;
+  waits = λ q h t. state-cycles indic_tables indic_cycling 135 indic_cycling_ok q h (is-test (has_cycle indic_cycling q) t);
+  cycles = indic_cycles;
   first_lives = lit< tt;
   first_low = lit≤ tt;
   first_waits = refl;

@@ -1,17 +1,17 @@
 -- Made by checks/machines: the tables are those of the rules.
 use Rattle.std.proofs.Common.{◌≡◌, ℕ, ◌+◌, ◌*◌, ◌<◌, Bool, IsTrue, true, refl, List, [], ◌∷◌, get_or, arith, rules, lit<, lit≤, ◌≤◌}
-use Rattle.shapers_spans.specs.Turning.{AreTablesOf, CellTurns, has_turn}
+use Rattle.shapers_spans.specs.Cycling.{AreTablesOf, CellCycles, has_cycle}
 use Rattle.shapers_spans.proofs.Facts.{entries_below, entries_are, entry-below, dead_ok, dead-ends}
 use Rattle.shapers_spans.specs.Re.{Re}
 use Rattle.shapers_spans.specs.Grammar.{IsKind, KindsFit}
 use Rattle.shapers_spans.specs.Machine.{ends_by, state_behind}
 use Rattle.shapers_spans.specs.Khmer.{khmer_rules, khmer_grammar}
-use Rattle.shapers_spans.specs.KhmerMachine.{khmer_tables, khmer_turning}
+use Rattle.shapers_spans.specs.KhmerMachine.{khmer_tables, khmer_cycling}
 use Rattle.shapers_spans.specs.declared.khmer.TheConstants.{CLASSES, ROWS}
 use Rattle.shapers_spans.proofs.Steps.{nullable, same, chain, member, before, insert, union, step}
 use Rattle.shapers_spans.proofs.Tables.{first_kind, kinds_fit}
 use Rattle.shapers_spans.proofs.Simulation.{known_states, same_all, below, all_below, zeros, cell_ok, row_ok, state_ok, states_ok, machine_ok, machine-is}
-use Rattle.shapers_spans.proofs.TurningFacts.{cell_turns, row_turns, state_turns, states_turn, turning_ok, cell-turns, state-turns, state-lives}
+use Rattle.shapers_spans.proofs.CyclingFacts.{cell_cycles, row_cycles, state_cycles, states_cycle, cycling_ok, cell-cycles, state-cycles, state-lives}
 
 -- how what is left of the rules was found: from which state, by which category
 found : List (ℕ × ℕ)
@@ -125,16 +125,16 @@ pub khmer_other : 2 ≡ khmer_grammar.other
 unfolding khmer_grammar
 khmer_other = refl
 
-khmer_turning_ok : turning_ok khmer_tables khmer_turning 43 ≡ true
-unfolding khmer_turning cell_turns row_turns state_turns states_turn turning_ok
-khmer_turning_ok = refl
+khmer_cycling_ok : cycling_ok khmer_tables khmer_cycling 43 ≡ true
+unfolding khmer_cycling cell_cycles row_cycles state_cycles states_cycle cycling_ok
+khmer_cycling_ok = refl
 
-khmer_turns : (q k : ℕ) → q < 43 → CellTurns khmer_tables khmer_turning q k (state_behind khmer_tables q k)
-khmer_turns q k h =
-    cell-turns khmer_tables khmer_turning 43 khmer_turning_ok q k h (entry-below 12 CLASSES k (lit< tt) khmer_classes_ok)
+khmer_cycles : (q k : ℕ) → q < 43 → CellCycles khmer_tables khmer_cycling q k (state_behind khmer_tables q k)
+khmer_cycles q k h =
+    cell-cycles khmer_tables khmer_cycling 43 khmer_cycling_ok q k h (entry-below 12 CLASSES k (lit< tt) khmer_classes_ok)
 
-pub khmer_are_tables : AreTablesOf khmer_grammar khmer_tables khmer_turning
-unfolding khmer_turning
+pub khmer_are_tables : AreTablesOf khmer_grammar khmer_tables khmer_cycling
+unfolding khmer_cycling
 khmer_are_tables = record {
   kinds = khmer_machine-is;
   fit = khmer_fit;
@@ -142,9 +142,9 @@ khmer_are_tables = record {
   place = khmer_place;
   next = λ q k. entry-below 43 ROWS (q * 12 + get_or CLASSES k 0) (lit< tt) khmer_rows_ok;
   dead = dead-ends khmer_tables 32 khmer_dead_ok;
-  lives = state-lives khmer_tables khmer_turning 43 khmer_turning_ok;
-  waits = λ q h t. state-turns khmer_tables khmer_turning 43 khmer_turning_ok q h (is-test (has_turn khmer_turning q) t);
-  turns = khmer_turns;
+  lives = state-lives khmer_tables khmer_cycling 43 khmer_cycling_ok;
+  waits = λ q h t. state-cycles khmer_tables khmer_cycling 43 khmer_cycling_ok q h (is-test (has_cycle khmer_cycling q) t);
+  cycles = khmer_cycles;
   first_lives = lit< tt;
   first_low = lit≤ tt;
   first_waits = refl;

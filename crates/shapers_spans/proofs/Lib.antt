@@ -3,7 +3,7 @@ pub mod StepLemmas
 pub mod Tables
 pub mod Simulation
 pub mod Facts
-pub mod TurningFacts
+pub mod CyclingFacts
 pub mod Reading
 pub mod Reached
 pub mod Joining

@@ -1,17 +1,17 @@
 -- Made by checks/machines: the tables are those of the rules.
 use Rattle.std.proofs.Common.{◌≡◌, ℕ, ◌+◌, ◌*◌, ◌<◌, Bool, IsTrue, true, refl, List, [], ◌∷◌, get_or, arith, rules, lit<, lit≤, ◌≤◌}
-use Rattle.shapers_spans.specs.Turning.{AreTablesOf, CellTurns, has_turn}
+use Rattle.shapers_spans.specs.Cycling.{AreTablesOf, CellCycles, has_cycle}
 use Rattle.shapers_spans.proofs.Facts.{entries_below, entries_are, entry-below, dead_ok, dead-ends}
 use Rattle.shapers_spans.specs.Re.{Re}
 use Rattle.shapers_spans.specs.Grammar.{IsKind, KindsFit}
 use Rattle.shapers_spans.specs.Machine.{ends_by, state_behind}
 use Rattle.shapers_spans.specs.Myanmar.{myanmar_rules, myanmar_grammar}
-use Rattle.shapers_spans.specs.MyanmarMachine.{myanmar_tables, myanmar_turning}
+use Rattle.shapers_spans.specs.MyanmarMachine.{myanmar_tables, myanmar_cycling}
 use Rattle.shapers_spans.specs.declared.myanmar.TheConstants.{CLASSES, ROWS}
 use Rattle.shapers_spans.proofs.Steps.{nullable, same, chain, member, before, insert, union, step}
 use Rattle.shapers_spans.proofs.Tables.{first_kind, kinds_fit}
 use Rattle.shapers_spans.proofs.Simulation.{known_states, same_all, below, all_below, zeros, cell_ok, row_ok, state_ok, states_ok, machine_ok, machine-is}
-use Rattle.shapers_spans.proofs.TurningFacts.{cell_turns, row_turns, state_turns, states_turn, turning_ok, cell-turns, state-turns, state-lives}
+use Rattle.shapers_spans.proofs.CyclingFacts.{cell_cycles, row_cycles, state_cycles, states_cycle, cycling_ok, cell-cycles, state-cycles, state-lives}
 
 -- how what is left of the rules was found: from which state, by which category
 found : List (ℕ × ℕ)
@@ -135,16 +135,16 @@ pub myanmar_other : 3 ≡ myanmar_grammar.other
 unfolding myanmar_grammar
 myanmar_other = refl
 
-myanmar_turning_ok : turning_ok myanmar_tables myanmar_turning 58 ≡ true
-unfolding myanmar_turning cell_turns row_turns state_turns states_turn turning_ok
-myanmar_turning_ok = refl
+myanmar_cycling_ok : cycling_ok myanmar_tables myanmar_cycling 58 ≡ true
+unfolding myanmar_cycling cell_cycles row_cycles state_cycles states_cycle cycling_ok
+myanmar_cycling_ok = refl
 
-myanmar_turns : (q k : ℕ) → q < 58 → CellTurns myanmar_tables myanmar_turning q k (state_behind myanmar_tables q k)
-myanmar_turns q k h =
-    cell-turns myanmar_tables myanmar_turning 58 myanmar_turning_ok q k h (entry-below 23 CLASSES k (lit< tt) myanmar_classes_ok)
+myanmar_cycles : (q k : ℕ) → q < 58 → CellCycles myanmar_tables myanmar_cycling q k (state_behind myanmar_tables q k)
+myanmar_cycles q k h =
+    cell-cycles myanmar_tables myanmar_cycling 58 myanmar_cycling_ok q k h (entry-below 23 CLASSES k (lit< tt) myanmar_classes_ok)
 
-pub myanmar_are_tables : AreTablesOf myanmar_grammar myanmar_tables myanmar_turning
-unfolding myanmar_turning
+pub myanmar_are_tables : AreTablesOf myanmar_grammar myanmar_tables myanmar_cycling
+unfolding myanmar_cycling
 myanmar_are_tables = record {
   kinds = myanmar_machine-is;
   fit = myanmar_fit;
@@ -152,9 +152,9 @@ myanmar_are_tables = record {
   place = myanmar_place;
   next = λ q k. entry-below 58 ROWS (q * 23 + get_or CLASSES k 0) (lit< tt) myanmar_rows_ok;
   dead = dead-ends myanmar_tables 57 myanmar_dead_ok;
-  lives = state-lives myanmar_tables myanmar_turning 58 myanmar_turning_ok;
-  waits = λ q h t. state-turns myanmar_tables myanmar_turning 58 myanmar_turning_ok q h (is-test (has_turn myanmar_turning q) t);
-  turns = myanmar_turns;
+  lives = state-lives myanmar_tables myanmar_cycling 58 myanmar_cycling_ok;
+  waits = λ q h t. state-cycles myanmar_tables myanmar_cycling 58 myanmar_cycling_ok q h (is-test (has_cycle myanmar_cycling q) t);
+  cycles = myanmar_cycles;
   first_lives = lit< tt;
   first_low = lit≤ tt;
   first_waits = refl;

@@ -5,7 +5,7 @@ use Rattle.std.proofs.lemmas.List.{drop_more, drop-drop}
 use Rattle.shapers_buffer.specs.Glyphs.{Glyph, Glyphs}
 use Rattle.shapers_spans.specs.Grammar.{read_of, reach_of}
 
--- the glyph that opens a text is passed over, or read
+-- the glyph that begins a text is passed over, or read
 
 pub skip_read : (p : Glyphs → Bool) (g : Glyph) (gs : Glyphs) → p (g ∷ gs) ≡ true
     → read_of p (g ∷ gs) ≡ read_of p gs

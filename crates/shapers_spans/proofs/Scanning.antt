@@ -3,7 +3,7 @@ use Rattle.std.proofs.Common.{◌≡◌, ℕ, suc, ◌+◌, ◌<◌, ◌≤◌, 
 use Rattle.std.proofs.lemmas.List.{drop_more, drop_all, length-drop, drop-drop, get_or-drop, length-append}
 use Rattle.shapers_buffer.specs.Glyphs.{Glyph, Glyphs}
 use Rattle.shapers_buffer.specs.declared.buffer.syllables.Span.{Span}
-use Rattle.shapers_spans.specs.Grammar.{Grammar, IsKind, read_of, reach_of, OpensWith}
+use Rattle.shapers_spans.specs.Grammar.{Grammar, IsKind, read_of, reach_of, BeginsWith}
 use Rattle.shapers_spans.specs.Joined.{Joined, EndsNothing}
 use Rattle.shapers_spans.proofs.Reading.{Reading, IsBest, reading_start, reading_none, reading_some, reading_dead, reading_stuck, best_is_syllable}
 use Rattle.shapers_spans.proofs.Reached.{keep_read, keep_reach, reach-zero, read-behind, reach-behind, behind-is-read, first-read}
@@ -135,9 +135,9 @@ reading_run : (ends : ℕ → List ℕ → Option ℕ) (start other : ℕ) (w : 
     → Bool) (ks rest : List ℕ) → Reading ends start other w n q span → drop n w ≡ ks ++ rest → n ≤ length w
     → AllJoin j ks → ((k : ℕ) → j k ≡ true → (v : List ℕ) → ends q (k ∷ v) ≡ ends q v) → ends q [] ≡ None
     → Reading ends start other w (n + length ks) q span
-reading_run ends start other w n q span j [] rest r e l a turns none =
+reading_run ends start other w n q span j [] rest r e l a cycles none =
     let z : n ≡ n + 0 = omega arith in subst (λ i. Reading ends start other w i q span) z r
-reading_run ends start other w n q span j (k ∷ ks) rest r e l a turns none =
+reading_run ends start other w n q span j (k ∷ ks) rest r e l a cycles none =
     let in_range : n < length w = omega (arith, length-drop n w, ap length e, l) in
     let value : get_or w n 0 ≡ k = sym (ap (λ i. get_or w i 0) (add-zero n)) ∙ sym (get_or-drop n w 0 0)
     ∙ ap (λ (xs : List ℕ). get_or xs 0 0) e in
@@ -145,15 +145,15 @@ reading_run ends start other w n q span j (k ∷ ks) rest r e l a turns none =
     let s : n + 1 + length ks ≡ n + suc (length ks) = omega arith in
     subst (λ i. Reading ends start other w i q span) s
     (reading_run ends start other w (n + 1) q span j ks rest
-    (reading_none ends start other w n q q k span r in_range value (turns k a.0) none) next (omega (arith, in_range))
-    a.1 turns none)
+    (reading_none ends start other w n q q k span r in_range value (cycles k a.0) none) next (omega (arith, in_range))
+    a.1 cycles none)
 
 pub scanning_run : (ends : ℕ → List ℕ → Option ℕ) (start other : ℕ) (p : Glyphs
     → Bool) (gs : Glyphs) (n q k : ℕ) (span : Span) (j : ℕ → Bool)
     → Scanning ends start other p gs n q span → Joined p j (drop n gs) k
     → ((c : ℕ) → j c ≡ true → (v : List ℕ) → ends q (c ∷ v) ≡ ends q v) → ends q [] ≡ None
     → Scanning ends start other p gs (n + k) q span
-scanning_run ends start other p gs n q k span j s h turns none =
+scanning_run ends start other p gs n q k span j s h cycles none =
     let r = run-read p j (drop n gs) k h in
     let on : drop k (drop n gs) ≡ drop (n + k) gs = drop-drop k n gs in
     let e : drop s.count (read_of p gs) ≡ r.joiners ++ read_of p (drop k (drop n gs)) = s.left ∙ r.read in
@@ -170,7 +170,7 @@ scanning_run ends start other p gs n q k span j s h turns none =
       count = s.count + length r.joiners;
       best = s.best;
       reading = reading_run ends start other (read_of p gs) s.count q s.best j r.joiners
-          (read_of p (drop k (drop n gs))) s.reading e s.some_read r.join turns none;
+          (read_of p (drop k (drop n gs))) s.reading e s.some_read r.join cycles none;
       left = sym (drop-drop (length r.joiners) s.count (read_of p gs))
           ∙ ap (λ (xs : List ℕ). drop (length r.joiners) xs) e ∙ drop_at r.joiners (read_of p (drop k (drop n gs)))
           ∙ ap (read_of p) on;
@@ -197,7 +197,7 @@ pub scanning_dead : (g : Grammar) (ends : ℕ → List ℕ → Option ℕ) (star
     (d : Glyph) (span : Span) → g.passes [] ≡ false → ((u : List ℕ) → IsKind g u (ends start u))
     → Scanning ends start g.other g.passes gs n q span → n < length gs
     → ((v : List ℕ) → ends q ((get_or gs n d).category ∷ v) ≡ ends r v) → ((v : List ℕ) → ends r v ≡ None)
-    → OpensWith g gs span
+    → BeginsWith g gs span
 scanning_dead g ends start gs n q r d span z kinds s l step dead =
     let x = next_is g.passes z gs n s.count (n + 1 + reach_of g.passes (drop (n + 1) gs) 0) d l s.here s.some_read
     s.left s.reaches refl in
@@ -213,7 +213,7 @@ scanning_dead g ends start gs n q r d span z kinds s l step dead =
 
 pub scanning_all : (g : Grammar) (ends : ℕ → List ℕ → Option ℕ) (start : ℕ) (gs : Glyphs) (n q : ℕ)
     (span : Span) → ((u : List ℕ) → IsKind g u (ends start u)) → Scanning ends start g.other g.passes gs n q span
-    → length gs ≤ n → 0 < length gs → g.passes gs ≡ false → OpensWith g gs span
+    → length gs ≤ n → 0 < length gs → g.passes gs ≡ false → BeginsWith g gs span
 scanning_all g ends start gs n q span kinds s a l h =
     let some : 0 < length (read_of g.passes gs) = first-read g.passes gs l h in
     let e : drop s.count (read_of g.passes gs) ≡ [] = s.left ∙ ap (read_of g.passes) (drop_all n gs a) in
@@ -229,7 +229,7 @@ scanning_all g ends start gs n q span kinds s a l h =
 
 pub scanning_stuck : (g : Grammar) (ends : ℕ → List ℕ → Option ℕ) (start : ℕ) (gs : Glyphs) (n q : ℕ)
     (span : Span) → ((u : List ℕ) → IsKind g u (ends start u)) → Scanning ends start g.other g.passes gs n q span
-    → EndsNothing g.passes ends (drop n gs) q → 0 < length gs → g.passes gs ≡ false → OpensWith g gs span
+    → EndsNothing g.passes ends (drop n gs) q → 0 < length gs → g.passes gs ≡ false → BeginsWith g gs span
 scanning_stuck g ends start gs n q span kinds s none l h =
     let some : 0 < length (read_of g.passes gs) = first-read g.passes gs l h in
     record {

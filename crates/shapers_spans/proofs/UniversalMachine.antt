@@ -1,17 +1,17 @@
 -- Made by checks/machines: the tables are those of the rules.
 use Rattle.std.proofs.Common.{◌≡◌, ℕ, ◌+◌, ◌*◌, ◌<◌, Bool, IsTrue, true, refl, List, [], ◌∷◌, get_or, arith, rules, lit<, lit≤, ◌≤◌}
-use Rattle.shapers_spans.specs.Turning.{AreTablesOf, CellTurns, has_turn}
+use Rattle.shapers_spans.specs.Cycling.{AreTablesOf, CellCycles, has_cycle}
 use Rattle.shapers_spans.proofs.Facts.{entries_below, entries_are, entry-below, dead_ok, dead-ends}
 use Rattle.shapers_spans.specs.Re.{Re}
 use Rattle.shapers_spans.specs.Grammar.{IsKind, KindsFit}
 use Rattle.shapers_spans.specs.Machine.{ends_by, state_behind}
 use Rattle.shapers_spans.specs.Universal.{universal_rules, universal_grammar}
-use Rattle.shapers_spans.specs.UniversalMachine.{universal_tables, universal_turning}
+use Rattle.shapers_spans.specs.UniversalMachine.{universal_tables, universal_cycling}
 use Rattle.shapers_spans.specs.declared.universal.TheConstants.{CLASSES, ROWS}
 use Rattle.shapers_spans.proofs.Steps.{nullable, same, chain, member, before, insert, union, step}
 use Rattle.shapers_spans.proofs.Tables.{first_kind, kinds_fit}
 use Rattle.shapers_spans.proofs.Simulation.{known_states, same_all, below, all_below, zeros, cell_ok, row_ok, state_ok, states_ok, machine_ok, machine-is}
-use Rattle.shapers_spans.proofs.TurningFacts.{cell_turns, row_turns, state_turns, states_turn, turning_ok, cell-turns, state-turns, state-lives}
+use Rattle.shapers_spans.proofs.CyclingFacts.{cell_cycles, row_cycles, state_cycles, states_cycle, cycling_ok, cell-cycles, state-cycles, state-lives}
 
 -- how what is left of the rules was found: from which state, by which category
 found : List (ℕ × ℕ)
@@ -239,16 +239,16 @@ pub universal_other : 8 ≡ universal_grammar.other
 unfolding universal_grammar
 universal_other = refl
 
-universal_turning_ok : turning_ok universal_tables universal_turning 109 ≡ true
-unfolding universal_turning cell_turns row_turns state_turns states_turn turning_ok
-universal_turning_ok = refl
+universal_cycling_ok : cycling_ok universal_tables universal_cycling 109 ≡ true
+unfolding universal_cycling cell_cycles row_cycles state_cycles states_cycle cycling_ok
+universal_cycling_ok = refl
 
-universal_turns : (q k : ℕ) → q < 109 → CellTurns universal_tables universal_turning q k (state_behind universal_tables q k)
-universal_turns q k h =
-    cell-turns universal_tables universal_turning 109 universal_turning_ok q k h (entry-below 43 CLASSES k (lit< tt) universal_classes_ok)
+universal_cycles : (q k : ℕ) → q < 109 → CellCycles universal_tables universal_cycling q k (state_behind universal_tables q k)
+universal_cycles q k h =
+    cell-cycles universal_tables universal_cycling 109 universal_cycling_ok q k h (entry-below 43 CLASSES k (lit< tt) universal_classes_ok)
 
-pub universal_are_tables : AreTablesOf universal_grammar universal_tables universal_turning
-unfolding universal_turning
+pub universal_are_tables : AreTablesOf universal_grammar universal_tables universal_cycling
+unfolding universal_cycling
 universal_are_tables = record {
   kinds = universal_machine-is;
   fit = universal_fit;
@@ -256,9 +256,9 @@ universal_are_tables = record {
   place = universal_place;
   next = λ q k. entry-below 109 ROWS (q * 43 + get_or CLASSES k 0) (lit< tt) universal_rows_ok;
   dead = dead-ends universal_tables 107 universal_dead_ok;
-  lives = state-lives universal_tables universal_turning 109 universal_turning_ok;
-  waits = λ q h t. state-turns universal_tables universal_turning 109 universal_turning_ok q h (is-test (has_turn universal_turning q) t);
-  turns = universal_turns;
+  lives = state-lives universal_tables universal_cycling 109 universal_cycling_ok;
+  waits = λ q h t. state-cycles universal_tables universal_cycling 109 universal_cycling_ok q h (is-test (has_cycle universal_cycling q) t);
+  cycles = universal_cycles;
   first_lives = lit< tt;
   first_low = lit≤ tt;
   first_waits = refl;

@@ -6,7 +6,7 @@ use Rattle.std.proofs.lemmas.List.{drop_more, drop-drop, drop_all}
 use Rattle.shapers_buffer.specs.Glyphs.{Glyphs}
 use Rattle.shapers_buffer.specs.declared.buffer.syllables.Span.{Span}
 use Rattle.shapers_buffer.specs.Glyph.{default_glyph}
-use Rattle.shapers_spans.specs.Grammar.{Grammar, IsKind, read_of, reach_of, OpensWith}
+use Rattle.shapers_spans.specs.Grammar.{Grammar, IsKind, read_of, reach_of, BeginsWith}
 use Rattle.shapers_spans.specs.Joined.{Joined, EndsNothing, KnowsJoiners}
 use Rattle.shapers_spans.specs.Watch.{Watch, IsSpent, IsWatched}
 use Rattle.shapers_spans.proofs.Reached.{behind-is-read, read-later, read-next, read-less}
@@ -21,19 +21,19 @@ pub record Ways : Type 0 where
   pub is_joiner : ℕ → Bool
   pub rank : ℕ → ℕ
   pub waits : ℕ → Bool
-  pub turns : ℕ → Bool
+  pub cycles : ℕ → Bool
   pub begun : ℕ → Bool
-  pub turned : ℕ
+  pub cycled : ℕ
 
 -- what it says of a step, by category k from q to r
 pub record Leads (w : Ways) (q k r : ℕ) : Type 0 where
   pub step : (v : List ℕ) → w.ends q (k ∷ v) ≡ w.ends r v
-  pub falls : 0 < w.rank q → w.ends r [] ≡ None → w.turns r ≡ false → w.rank r < w.rank q
+  pub falls : 0 < w.rank q → w.ends r [] ≡ None → w.cycles r ≡ false → w.rank r < w.rank q
   pub low : w.rank r ≤ 2
   pub one : q ≡ w.first → w.is_joiner k ≡ true → w.begun r ≡ true
-  pub begun : w.begun r ≡ true → (w.turns r ≡ false) × (w.rank r ≤ 1)
-  pub two : w.begun q ≡ true → w.is_joiner k ≡ true → (r ≡ w.turned) × (w.ends r [] ≡ None)
-  pub same : w.turns q ≡ true → w.is_joiner k ≡ true → r ≡ q
+  pub begun : w.begun r ≡ true → (w.cycles r ≡ false) × (w.rank r ≤ 1)
+  pub two : w.begun q ≡ true → w.is_joiner k ≡ true → (r ≡ w.cycled) × (w.ends r [] ≡ None)
+  pub same : w.cycles q ≡ true → w.is_joiner k ≡ true → r ≡ q
   pub waiting : w.waits r ≡ true → (w.is_joiner k ≡ true) × ((w.waits q ≡ true) ⊎ (w.ends q [] ≡ None → ⊥))
 
 -- the machine, the text, and what was known and counted in front of it
@@ -83,10 +83,10 @@ pub data Claim (t : Task) (n q : ℕ) (span : Span) (joined stuck : ℕ) : Type 
   sure : EndsNothing t.ways.grammar.passes t.ways.ends (drop joined t.gs) stuck → Claim t n q span joined stuck
   pending : Pending t n q joined stuck → Claim t n q span joined stuck
 
--- Two joiners had led to the state that turns, and before the walk it wasn't known that nothing ends
+-- Two joiners had led to the state that cycles, and before the walk it wasn't known that nothing ends
 -- from it; or there is one joiner alone.
 abbrev pub AtHome : Task → Type 0
-AtHome t = (t.stuck ≡ t.ways.turned → ⊥) ⊎ (left_at t 0 ≤ left_at t t.len + 1)
+AtHome t = (t.stuck ≡ t.ways.cycled → ⊥) ⊎ (left_at t 0 ≤ left_at t t.len + 1)
 
 -- how a walk that begins with known joiners has come to n
 pub data Way (t : Task) (n q : ℕ) (span : Span) (joined stuck : ℕ) : Type 0 where
@@ -94,12 +94,12 @@ pub data Way (t : Task) (n q : ℕ) (span : Span) (joined stuck : ℕ) : Type 0 
   at_start : joined ≡ t.len → stuck ≡ t.stuck → n ≡ 0 → Way t n q span joined stuck
   behind_one : joined ≡ t.len → stuck ≡ t.stuck → n ≤ t.len → left_at t n + 1 ≡ left_at t 0 → t.ways.begun q ≡ true
       → t.ways.rank q ≤ 1 → Way t n q span joined stuck
-  has_turned : stuck ≡ t.ways.turned → AtHome t → t.len ≤ n
-      → (t.ways.waits q ≡ true → (q ≡ t.ways.turned) × (t.ways.turns q ≡ true)) → t.ways.ends q [] ≡ None
+  has_cycled : stuck ≡ t.ways.cycled → AtHome t → t.len ≤ n
+      → (t.ways.waits q ≡ true → (q ≡ t.ways.cycled) × (t.ways.cycles q ≡ true)) → t.ways.ends q [] ≡ None
       → Way t n q span joined stuck
 
 abbrev pub Far : Task → Span → ℕ → Type 0
-Far t span stuck = 0 < t.len → (t.len < span.len) ⊎ ((stuck ≡ t.ways.turned) × AtHome t)
+Far t span stuck = 0 < t.len → (t.len < span.len) ⊎ ((stuck ≡ t.ways.cycled) × AtHome t)
 
 -- the watched glyph was read in this walk, near the span's end or behind the joiners
 pub record Seen (t : Task) (n : ℕ) (span : Span) (joined stuck : ℕ) (watch : Watch) : Type 0 where
@@ -352,20 +352,20 @@ claim_before t n q next span joined stuck l b m (over h) = absurd (omega (arith,
 claim_before t n q next span joined stuck l b m (sure h) = h
 claim_before t n q next span joined stuck l b m (pending p) = let f = p.from in absurd (omega (arith, f, l, m))
 
--- nothing ends from a state that turns in front of joiners, behind which nothing ends from it
+-- nothing ends from a state that cycles in front of joiners, behind which nothing ends from it
 run_stuck : (ends : ℕ → List ℕ → Option ℕ) (j : ℕ → Bool) (q : ℕ) (ks rest : List ℕ) → AllJoin j ks
     → ((k : ℕ) → j k ≡ true → (v : List ℕ) → ends q (k ∷ v) ≡ ends q v) → ((m : ℕ) → ends q (take m rest) ≡ None)
     → (m : ℕ) → ends q (take m (ks ++ rest)) ≡ None
-run_stuck ends j q [] rest a turns none m = none m
-run_stuck ends j q (k ∷ ks) rest a turns none zero = none 0
-run_stuck ends j q (k ∷ ks) rest a turns none (suc m) = turns k a.0 (take m (ks ++ rest))
-    ∙ run_stuck ends j q ks rest a.1 turns none m
+run_stuck ends j q [] rest a cycles none m = none m
+run_stuck ends j q (k ∷ ks) rest a cycles none zero = none 0
+run_stuck ends j q (k ∷ ks) rest a cycles none (suc m) = cycles k a.0 (take m (ks ++ rest))
+    ∙ run_stuck ends j q ks rest a.1 cycles none m
 
 joined_stuck : (t : Task) (n joined q : ℕ) → Joined t.ways.grammar.passes t.ways.is_joiner (drop n t.gs) (joined - n)
     → n ≤ joined → ((k : ℕ) → t.ways.is_joiner k ≡ true → (v : List ℕ) → t.ways.ends q (k ∷ v) ≡ t.ways.ends q v)
     → EndsNothing t.ways.grammar.passes t.ways.ends (drop joined t.gs) q
     → EndsNothing t.ways.grammar.passes t.ways.ends (drop n t.gs) q
-joined_stuck t n joined q h l turns none =
+joined_stuck t n joined q h l cycles none =
     let p = t.ways.grammar.passes in
     let r = run-read p t.ways.is_joiner (drop n t.gs) (joined - n) h in
     let e : n + (joined - n) ≡ joined = omega (arith, l) in
@@ -373,7 +373,7 @@ joined_stuck t n joined q h l turns none =
     ∙ ap (λ i. drop i t.gs) e in
     let read : read_from t n ≡ r.joiners ++ read_from t joined = r.read ∙ ap (λ xs. r.joiners ++ read_of p xs) on in
     (λ m. ap (λ (u : List ℕ). t.ways.ends q (take m u)) read
-    ∙ run_stuck t.ways.ends t.ways.is_joiner q r.joiners (read_from t joined) r.join turns none m)
+    ∙ run_stuck t.ways.ends t.ways.is_joiner q r.joiners (read_from t joined) r.join cycles none m)
 
 -- how a walk that begins with known joiners goes on
 
@@ -418,37 +418,37 @@ way_some t n q r next k span new joined stuck watch ready x s some ends len (beh
     ⊎_elim (λ i. let none = (s.leads.two begun (joiner_at t n q span joined stuck watch ready x i)).1 in absurd
     (cc (ends, none)))
     (λ i. beyond (omega (arith, i, is, len))) (cases_lt n t.len)
-way_some t n q r next k span new joined stuck watch ready x s some ends len (has_turned a b le c none) =
+way_some t n q r next k span new joined stuck watch ready x s some ends len (has_cycled a b le c none) =
     let is = s.next_is in beyond (omega (arith, le, is, len))
 
 way_none : (t : Task) (n q r next : ℕ) (span : Span) (joined stuck : ℕ) (watch : Watch) → Ready t
     → Walking t n q span joined stuck watch → GlyphStep t n q r next → 0 < t.len → t.ways.ends r [] ≡ None
-    → t.ways.turns r ≡ false → Way t n q span joined stuck → Way t next r span joined stuck
+    → t.ways.cycles r ≡ false → Way t n q span joined stuck → Way t next r span joined stuck
 way_none t n q r next span joined stuck watch ready x s some none still (beyond h) = beyond h
 way_none t n q r next span joined stuck watch ready x s some none still (at_start a b e) =
     way_one t n q r next span span joined stuck watch ready x s some a b e
 way_none t n q r next span joined stuck watch ready x s some none still (behind_one a b le down begun low) =
     let falls = s.leads.falls x.alive none still in
     let alive = s.alive in absurd (omega (arith, falls, alive, low))
-way_none t n q r next span joined stuck watch ready x s some none still (has_turned a b le c quiet) =
+way_none t n q r next span joined stuck watch ready x s some none still (has_cycled a b le c quiet) =
     let is = s.next_is in
-    has_turned a b (omega (arith, le, is))
+    has_cycled a b (omega (arith, le, is))
     (λ u. let m = s.leads.waiting u in
     ⊎_elim (λ i. let same = s.leads.same (c i).1 m.0 in absurd
-    (both_ways (t.ways.turns r) still (ap t.ways.turns same ∙ (c i).1))) (λ i. absurd (i quiet)) m.1)
+    (both_ways (t.ways.cycles r) still (ap t.ways.cycles same ∙ (c i).1))) (λ i. absurd (i quiet)) m.1)
     none
 
--- the state that the walk turns in
-home_turn : (t : Task) (n q r next : ℕ) (span : Span) (joined stuck : ℕ) (watch : Watch) → Ready t
-    → Walking t n q span joined stuck watch → GlyphStep t n q r next → 0 < t.len → t.ways.turns r ≡ true
+-- the state that the walk cycles in
+home_cycle : (t : Task) (n q r next : ℕ) (span : Span) (joined stuck : ℕ) (watch : Watch) → Ready t
+    → Walking t n q span joined stuck watch → GlyphStep t n q r next → 0 < t.len → t.ways.cycles r ≡ true
     → t.ways.waits r ≡ true → (next ≤ joined → r ≡ stuck → ⊥) → Way t n q span joined stuck → (t.len < span.len)
-    ⊎ ((r ≡ t.ways.turned) × AtHome t)
-home_turn t n q r next span joined stuck watch ready x s some turns waits free (beyond h) = inl h
-home_turn t n q r next span joined stuck watch ready x s some turns waits free (at_start a b e) =
+    ⊎ ((r ≡ t.ways.cycled) × AtHome t)
+home_cycle t n q r next span joined stuck watch ready x s some cycles waits free (beyond h) = inl h
+home_cycle t n q r next span joined stuck watch ready x s some cycles waits free (at_start a b e) =
     let begun = s.leads.one (x.at_first e).0
     (joiner_at t n q span joined stuck watch ready x (omega (arith, e, some))) in
-    absurd (both_ways (t.ways.turns r) (s.leads.begun begun).0 turns)
-home_turn t n q r next span joined stuck watch ready x s some turns waits free (behind_one a b le down begun low) =
+    absurd (both_ways (t.ways.cycles r) (s.leads.begun begun).0 cycles)
+home_cycle t n q r next span joined stuck watch ready x s some cycles waits free (behind_one a b le down begun low) =
     let home = (s.leads.two begun (s.leads.waiting waits).0).0 in
     let fewer = step_left t n q r next span joined stuck watch x s in
     inr (
@@ -457,7 +457,7 @@ home_turn t n q r next span joined stuck watch ready x s some turns waits free (
           (λ i. let f = less_behind t next ready i s.within in inr (omega (arith, f, fewer, down)))
           (λ i. inl (λ e. free (omega (arith, i, a)) (home ∙ sym e ∙ sym b))) (cases_lt t.len next),
     )
-home_turn t n q r next span joined stuck watch ready x s some turns waits free (has_turned a b le c quiet) =
+home_cycle t n q r next span joined stuck watch ready x s some cycles waits free (has_cycled a b le c quiet) =
     let m = s.leads.waiting waits in
     ⊎_elim (λ i. inr (s.leads.same (c i).1 m.0 ∙ (c i).0, b)) (λ i. absurd (i quiet)) m.1
 
@@ -506,10 +506,10 @@ walking_some t n q r next k span new joined stuck watch noted ready x o s some l
           (noted_counted t n q span joined stuck watch noted x o);
     }
 
--- nothing ends there, and the state doesn't turn
+-- nothing ends there, and the state doesn't cycle
 walking_none : (t : Task) (n q r next : ℕ) (span : Span) (joined stuck : ℕ) (watch noted : Watch) → Ready t
     → Walking t n q span joined stuck watch → Noted watch noted n → GlyphStep t n q r next → t.ways.ends r [] ≡ None
-    → t.ways.turns r ≡ false → Walking t next r span joined stuck noted
+    → t.ways.cycles r ≡ false → Walking t next r span joined stuck noted
 walking_none t n q r next span joined stuck watch noted ready x o s none still =
     let w = t.ways in
     let y = scanning_none w.ends w.first w.grammar.other w.grammar.passes ready.nothing t.gs n q r next default_glyph
@@ -542,13 +542,13 @@ walking_none t n q r next span joined stuck watch noted ready x o s none still =
           (noted_counted t n q span joined stuck watch noted x o);
     }
 
--- nothing ends there, and the state turns: the walk goes on behind the joiners that are known
-walking_turn : (t : Task) (n q r next place : ℕ) (span : Span) (joined stuck : ℕ) (watch noted : Watch) → Ready t
+-- nothing ends there, and the state cycles: the walk goes on behind the joiners that are known
+walking_cycle : (t : Task) (n q r next place : ℕ) (span : Span) (joined stuck : ℕ) (watch noted : Watch) → Ready t
     → Walking t n q span joined stuck watch → Noted watch noted n → GlyphStep t n q r next → t.ways.ends r [] ≡ None
-    → t.ways.turns r ≡ true → t.ways.waits r ≡ true
+    → t.ways.cycles r ≡ true → t.ways.waits r ≡ true
     → ((k : ℕ) → t.ways.is_joiner k ≡ true → (v : List ℕ) → t.ways.ends r (k ∷ v) ≡ t.ways.ends r v)
     → (next ≤ joined → r ≡ stuck → ⊥) → place ≡ next + (joined - next) → Walking t place r span place r noted
-walking_turn t n q r next place span joined stuck watch noted ready x o s none turns waits stays free on =
+walking_cycle t n q r next place span joined stuck watch noted ready x o s none cycles waits stays free on =
     let w = t.ways in
     let y = scanning_none w.ends w.first w.grammar.other w.grammar.passes ready.nothing t.gs n q r next default_glyph
     span x.scanning s.in_range s.next_is s.leads.step none in
@@ -566,7 +566,7 @@ walking_turn t n q r next place span joined stuck watch noted ready x o s none t
     let grows = x.grows in
     let fewer = read-later w.grammar.passes t.gs joined place grown in
     let home : Far t span r =
-    (λ i. home_turn t n q r next span joined stuck watch ready x s i turns waits free (x.way i)) in
+    (λ i. home_cycle t n q r next span joined stuck watch ready x s i cycles waits free (x.way i)) in
     let low = s.leads.low in
     record {
       scanning = y2;
@@ -581,7 +581,7 @@ walking_turn t n q r next place span joined stuck watch noted ready x o s none t
       grows = omega (arith, grows, grown);
       claim = pending (record { from = omega arith; quiet = none; on = (λ m. inr (m, refl)) });
       way = (λ i. ⊎_elim (λ h. beyond h)
-          (λ h. has_turned h.0 h.1 (omega (arith, grows, grown)) (λ _. (h.0, turns)) none) (home i));
+          (λ h. has_cycled h.0 h.1 (omega (arith, grows, grown)) (λ _. (h.0, cycles)) none) (home i));
       near = inr (omega (arith, low), home);
       ahead = o.ahead ∙ x.ahead;
       counted = ⊎_elim (λ i. inl i)
@@ -598,11 +598,11 @@ walking_turn t n q r next place span joined stuck watch noted ready x o s none t
 -- both: where the walk goes on
 pub walking_on : (t : Task) (n q r next place : ℕ) (span : Span) (joined stuck known left_by : ℕ) (watch noted : Watch)
     → Ready t → Walking t n q span joined stuck watch → Noted watch noted n → GlyphStep t n q r next → t.ways.ends r
-    [] ≡ None → (t.ways.turns r ≡ true → t.ways.waits r ≡ true)
-    → (t.ways.turns r ≡ true → (k : ℕ) → t.ways.is_joiner k ≡ true → (v : List ℕ)
+    [] ≡ None → (t.ways.cycles r ≡ true → t.ways.waits r ≡ true)
+    → (t.ways.cycles r ≡ true → (k : ℕ) → t.ways.is_joiner k ≡ true → (v : List ℕ)
     → t.ways.ends r (k ∷ v) ≡ t.ways.ends r v)
-    → ((t.ways.turns r ≡ false) × (place ≡ next) × (known ≡ joined) × (left_by ≡ stuck))
-    ⊎ ((t.ways.turns r ≡ true) × (place ≡ next + (joined - next)) × (known ≡ place) × (left_by ≡ r)
+    → ((t.ways.cycles r ≡ false) × (place ≡ next) × (known ≡ joined) × (left_by ≡ stuck))
+    ⊎ ((t.ways.cycles r ≡ true) × (place ≡ next + (joined - next)) × (known ≡ place) × (left_by ≡ r)
     × (next ≤ joined → r ≡ stuck → ⊥)) → Walking t place r span known left_by noted
 walking_on t n q r next place span joined stuck known left_by watch noted ready x o s none waits stays goes =
     ⊎_elim
@@ -612,7 +612,7 @@ walking_on t n q r next place span joined stuck known left_by watch noted ready 
     (walking_none t n q r next span joined stuck watch noted ready x o s none h.0))))
     (λ h. subst (λ i. Walking t place r span i left_by noted) (sym h.2)
     (subst (λ i. Walking t place r span place i noted) (sym h.3)
-    (walking_turn t n q r next place span joined stuck watch noted ready x o s none h.0 (waits h.0) (stays h.0) h.4
+    (walking_cycle t n q r next place span joined stuck watch noted ready x o s none h.0 (waits h.0) (stays h.0) h.4
     h.1)))
     goes
 
@@ -620,26 +620,26 @@ walking_on t n q r next place span joined stuck known left_by watch noted ready 
 
 -- what the walk comes to
 pub record Walked (t : Task) (span : Span) (joined stuck : ℕ) (watch : Watch) : Type 0 where
-  pub opens : OpensWith t.ways.grammar t.gs span
+  pub opens : BeginsWith t.ways.grammar t.gs span
   pub some : 0 < span.len
   pub stop : t.ways.grammar.passes (drop span.len t.gs) ≡ false
   pub known : KnowsJoiners t.ways.grammar.passes t.ways.is_joiner t.ways.ends (drop span.len t.gs) (joined - span.len)
       stuck
-  pub counted : (before : ℕ) → IsWatched t.ways.grammar.passes t.ways.turned t.gs t.len t.stuck before t.watch →
-      IsWatched t.ways.grammar.passes t.ways.turned (drop span.len t.gs) (joined - span.len) stuck before
+  pub counted : (before : ℕ) → IsWatched t.ways.grammar.passes t.ways.cycled t.gs t.len t.stuck before t.watch →
+      IsWatched t.ways.grammar.passes t.ways.cycled (drop span.len t.gs) (joined - span.len) stuck before
       (record watch { ahead = watch.ahead - span.len })
 
 -- how often the watched glyph may be read from a walk's end on, by how often before it
-spent_end : (all behind watched near far len old turned c0 c e joined stuck : ℕ)
-    → IsSpent all behind watched len old turned c0 → near + 1 ≤ all → far ≤ behind → (joined ≤ e → near ≤ far)
+spent_end : (all behind watched near far len old cycled c0 c e joined stuck : ℕ)
+    → IsSpent all behind watched len old cycled c0 → near + 1 ≤ all → far ≤ behind → (joined ≤ e → near ≤ far)
     → (len < e → near ≤ behind)
-    → (0 < len → (len < e) ⊎ ((stuck ≡ old) ⊎ (stuck ≡ turned)))
+    → (0 < len → (len < e) ⊎ ((stuck ≡ old) ⊎ (stuck ≡ cycled)))
     → (c ≡ c0) ⊎ ((c ≡ c0 + 1)
     × ((near ≤ watched + 1)
     ⊎ ((far ≤ watched + 1)
-    × (0 < len → (len < e) ⊎ ((stuck ≡ turned) × ((old ≡ turned → ⊥) ⊎ (all ≤ behind + 1)))))))
-    → IsSpent near far watched (joined - e) stuck turned c
-spent_end all behind watched near far len old turned c0 c e joined stuck spent less below even over_all way counted =
+    × (0 < len → (len < e) ⊎ ((stuck ≡ cycled) × ((old ≡ cycled → ⊥) ⊎ (all ≤ behind + 1)))))))
+    → IsSpent near far watched (joined - e) stuck cycled c
+spent_end all behind watched near far len old cycled c0 c e joined stuck spent less below even over_all way counted =
     ⊎_elim
     (λ same.
     ⊎_elim (λ h. inl (same ∙ h))
@@ -685,25 +685,25 @@ spent_end all behind watched near far len old turned c0 c e joined stuck spent l
     counted
 
 -- none of the walks before has read the watched glyph more than four times
-spent_few : (all behind watched len stuck turned times : ℕ) → watched ≤ all
-    → IsSpent all behind watched len stuck turned times → times ≤ 4
-spent_few all behind watched len stuck turned times l s =
+spent_few : (all behind watched len stuck cycled times : ℕ) → watched ≤ all
+    → IsSpent all behind watched len stuck cycled times → times ≤ 4
+spent_few all behind watched len stuck cycled times l s =
     ⊎_elim (λ h. omega (arith, h))
     (λ h. ⊎_elim (λ i. omega (arith, i, l))
     (λ i. ⊎_elim (λ k. omega (arith, k)) (λ k. let few = k.0 in omega (arith, few)) i.2) h) s
 
 way_end : (t : Task) (n q : ℕ) (span : Span) (joined stuck : ℕ) → Way t n q span joined stuck → (t.len < span.len)
-    ⊎ ((stuck ≡ t.stuck) ⊎ (stuck ≡ t.ways.turned))
+    ⊎ ((stuck ≡ t.stuck) ⊎ (stuck ≡ t.ways.cycled))
 way_end t n q span joined stuck (beyond h) = inl h
 way_end t n q span joined stuck (at_start a b e) = inr (inl b)
 way_end t n q span joined stuck (behind_one a b le down begun low) = inr (inl b)
-way_end t n q span joined stuck (has_turned a b le c none) = inr (inr a)
+way_end t n q span joined stuck (has_cycled a b le c none) = inr (inr a)
 
 -- what the count comes to
 counted_end : (t : Task) (n m q : ℕ) (span : Span) (joined stuck : ℕ) (watch noted : Watch) → Ready t
     → Walking t n q span joined stuck watch → noted.ahead ≡ t.watch.ahead → Counted t m span joined stuck noted
-    → (before : ℕ) → IsWatched t.ways.grammar.passes t.ways.turned t.gs t.len t.stuck before t.watch
-    → IsWatched t.ways.grammar.passes t.ways.turned (drop span.len t.gs) (joined - span.len) stuck before
+    → (before : ℕ) → IsWatched t.ways.grammar.passes t.ways.cycled t.gs t.len t.stuck before t.watch
+    → IsWatched t.ways.grammar.passes t.ways.cycled (drop span.len t.gs) (joined - span.len) stuck before
     (record noted { ahead = noted.ahead - span.len })
 counted_end t n m q span joined stuck watch noted ready x ahead counted before o = record {
   since = (let a = o.since in ⊎_elim (λ i. omega (arith, i, a)) (λ i. let b = i.once in omega (arith, a, b)) counted);
@@ -720,14 +720,14 @@ counted_end t n m q span joined stuck watch noted ready x ahead counted before o
         ⊎_elim (λ i. omega (arith, i, a))
         (λ i. let b = i.once in
         let w : watched t ≤ left_at t 0 = read-later p t.gs 0 (t.watch.ahead - 1) (omega arith) in
-        let c = spent_few (left_at t 0) (left_at t t.len) (watched t) t.len t.stuck t.ways.turned
+        let c = spent_few (left_at t 0) (left_at t t.len) (watched t) t.len t.stuck t.ways.cycled
         (t.watch.reads - before) w (o.spent i.come) in
         omega (arith, b, c, s)) counted
 
     spent : 0 < noted.ahead - span.len
         → IsSpent (left_at t span.len) (length (read_of p (drop (joined - span.len) (drop span.len t.gs))))
         (length (read_of p (drop (noted.ahead - span.len - 1) (drop span.len t.gs)))) (joined - span.len) stuck
-        t.ways.turned (noted.reads - before)
+        t.ways.cycled (noted.reads - before)
     spent l =
         let s = o.since in
         let end = span.len + (joined - span.len) in
@@ -740,11 +740,11 @@ counted_end t n m q span joined stuck watch noted ready x ahead counted before o
         let behind = read-later p t.gs t.len end (omega (arith, grows)) in
         let later = read-later p t.gs joined end (omega arith) in
         subst (λ xs. IsSpent (left_at t span.len) (length (read_of p (drop (joined - span.len) (drop span.len t.gs))))
-        (length (read_of p xs)) (joined - span.len) stuck t.ways.turned (noted.reads - before)) (sym at)
+        (length (read_of p xs)) (joined - span.len) stuck t.ways.cycled (noted.reads - before)) (sym at)
         (subst (λ xs. IsSpent (left_at t span.len) (length (read_of p xs)) (watched t) (joined - span.len) stuck
-        t.ways.turned (noted.reads - before)) (sym on)
+        t.ways.cycled (noted.reads - before)) (sym on)
         (spent_end (left_at t 0) (left_at t t.len) (watched t) (left_at t span.len) (left_at t end) t.len t.stuck
-        t.ways.turned (t.watch.reads - before) (noted.reads - before) span.len joined stuck
+        t.ways.cycled (t.watch.reads - before) (noted.reads - before) span.len joined stuck
         (o.spent (omega (arith, l, ahead)))
         (less_than_all t span.len ready x.some)
         behind

@@ -8,7 +8,7 @@ use Rattle.shapers_buffer.specs.declared.buffer.syllables.Span.{Span}
 use Rattle.shapers_buffer.specs.Clusters.{with_stretch}
 use Rattle.shapers_buffer.specs.Syllables.{in_syllable, span_byte, span_bytes, with_bytes}
 use Rattle.shapers_buffer.proofs.SyllableLemmas.{bytes_next}
-use Rattle.shapers_spans.specs.Grammar.{Grammar, OpensWith, lead_spans}
+use Rattle.shapers_spans.specs.Grammar.{Grammar, BeginsWith, lead_spans}
 use Rattle.shapers_spans.specs.Written.{AreInSyllables}
 use Rattle.shapers_spans.proofs.FoundSpans.{Found, found_next, found_all}
 
@@ -110,14 +110,14 @@ written_start g old new start n kind f k many e =
         (λ _. sym (append-nil (replicate m (span_byte 0 lead))))
 
 pub written_next : (g : Grammar) (old new next : Glyphs) (start n : ℕ) (span : Span)
-    → WrittenTo g old new start n → OpensWith g (drop start new) span → 0 < span.len
+    → WrittenTo g old new start n → BeginsWith g (drop start new) span → 0 < span.len
     → span.len ≤ length (drop start new) → span.kind ≤ 15 → g.passes (drop span.len (drop start new)) ≡ false
     → next ≡ with_stretch start (start + span.len) (map (in_syllable ((n % 15 + 1) * 16 + span.kind))) new
     → WrittenTo g old next (start + span.len) (n + 1)
 written_next g old new next start n span w opens some within kind read e =
     let on = w.rest in
     let f = found_next g old start span w.spans (w.spans ++ span ∷ []) w.found
-    (subst (λ xs. OpensWith g xs span) on opens) some
+    (subst (λ xs. BeginsWith g xs span) on opens) some
     (subst (λ (xs : Glyphs). span.len ≤ length xs) on within) kind
     (subst (λ (xs : Glyphs). g.passes (drop span.len xs) ≡ false) on read) refl in
     let room : start + span.len ≤ length new =

@@ -6,7 +6,7 @@ use Rattle.shapers_buffer.specs.declared.buffer.syllables.Span.{Span}
 use Rattle.shapers_spans.specs.Re.{Re, none, IsIn}
 
 -- The rules, in their order, the kind that each gives, the kind of a glyph that begins nothing that
--- a rule takes, and whether the glyph that opens a text is passed over.
+-- a rule takes, and whether the glyph that begins a text is passed over.
 pub record Grammar : Type 0 where
   pub rules : List Re
   pub kinds : List ℕ
@@ -61,7 +61,7 @@ reach_of passes (g ∷ gs) (suc n) =
 
 -- The span covers the syllable that begins what is read of the text, and the glyphs that are passed
 -- over within and behind it.
-pub record OpensWith (g : Grammar) (gs : Glyphs) (span : Span) : Type 0 where
+pub record BeginsWith (g : Grammar) (gs : Glyphs) (span : Span) : Type 0 where
   pub read : Span
   pub syllable : IsSyllable g (read_of g.passes gs) read
   pub kind : span.kind ≡ read.kind
@@ -71,7 +71,7 @@ pub record OpensWith (g : Grammar) (gs : Glyphs) (span : Span) : Type 0 where
 -- is left.
 abbrev pub IsCutFrom : Grammar → Glyphs → List Span → Type 0
 IsCutFrom g gs [] = gs ≡ []
-IsCutFrom g gs (span ∷ spans) = OpensWith g gs span × IsCutFrom g (drop span.len gs) spans
+IsCutFrom g gs (span ∷ spans) = BeginsWith g gs span × IsCutFrom g (drop span.len gs) spans
 
 -- the glyphs that are passed over in front of a text: a span of their own
 abbrev pub lead_spans : ℕ → ℕ → List Span

@@ -1,4 +1,4 @@
--- Runs of joiners, which the walk of the code goes on behind.
+-- Sequences of joiners, which the walk of the code goes on behind.
 use Rattle.std.specs.Prelude.{◌≡◌, ℕ, zero, suc, ◌<◌, Bool, true, false, List, [], ◌∷◌, drop, take, Option, None}
 use Rattle.shapers_buffer.specs.Glyphs.{Glyphs}
 use Rattle.shapers_spans.specs.Grammar.{read_of}

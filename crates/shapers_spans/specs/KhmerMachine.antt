@@ -1,14 +1,14 @@
--- Made by checks/machines: the tables of the machine, and which of its states turn and wait.
+-- Made by checks/machines: the tables of the machine, and which of its states cycle and wait.
 use Rattle.std.specs.Prelude.{[], ◌∷◌}
 use Rattle.shapers_spans.specs.Machine.{Tables}
-use Rattle.shapers_spans.specs.Turning.{Turning}
+use Rattle.shapers_spans.specs.Cycling.{Cycling}
 use Rattle.shapers_spans.specs.declared.khmer.TheConstants.{CLASSES, ROWS, KINDS}
 
 abbrev pub khmer_tables : Tables
 khmer_tables = record { class_of = CLASSES; row_len = 12; rows = ROWS; kind_in = KINDS }
 
-unfoldable pub khmer_turning : Turning
-khmer_turning = record {
+unfoldable pub khmer_cycling : Cycling
+khmer_cycling = record {
   dead = 32;
   joiners =
       0 ∷ 0 ∷ 0 ∷ 1 ∷ 0 ∷ 0 ∷ 0 ∷ 0 ∷ 0 ∷ 0 ∷ 0 ∷ 0 ∷
@@ -28,5 +28,5 @@ khmer_turning = record {
       0 ∷ 0 ∷ 0 ∷ 0 ∷ 0 ∷ 0 ∷ 0 ∷ 0 ∷ 0 ∷ 0 ∷ 0 ∷ 0 ∷ 0 ∷ 0 ∷ 0 ∷ 0 ∷ 0 ∷ 0 ∷ 0 ∷ 0 ∷
       0 ∷ 0 ∷ 0 ∷
       [];
-  turned = 33;
+  cycled = 33;
 }

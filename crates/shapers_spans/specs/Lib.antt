@@ -8,7 +8,7 @@ pub mod Khmer
 pub mod Myanmar
 pub mod Universal
 pub mod Machine
-pub mod Turning
+pub mod Cycling
 pub mod Joined
 pub mod Watch
 pub mod IndicMachine

@@ -11,9 +11,9 @@ next_is_mark (g ∷ gs) =
     if g.category == 6 then next_is_mark gs else is_mark (general_category g.unicode_props)
 
 -- whether the text begins with a glyph that is passed over
-abbrev pub opens_passed : Glyphs → Bool
-opens_passed [] = false
-opens_passed (g ∷ gs) = (g.category == 6) || ((g.category == 14) && next_is_mark gs)
+abbrev pub begins_passed : Glyphs → Bool
+begins_passed [] = false
+begins_passed (g ∷ gs) = (g.category == 6) || ((g.category == 14) && next_is_mark gs)
 
 -- for the grammars that read each glyph
 abbrev pub none_passed : Glyphs → Bool

@@ -2,7 +2,7 @@
 use Rattle.std.specs.Prelude.{List, [], ◌∷◌}
 use Rattle.shapers_spans.specs.Re.{Re, one, star, opt, sequence, any_of}
 use Rattle.shapers_spans.specs.Grammar.{Grammar}
-use Rattle.shapers_spans.specs.Passing.{opens_passed}
+use Rattle.shapers_spans.specs.Passing.{begins_passed}
 
 abbrev O : Re
 O = one 0
@@ -238,5 +238,5 @@ universal_grammar = record {
   rules = universal_rules;
   kinds = 0 ∷ 1 ∷ 2 ∷ 3 ∷ 4 ∷ 5 ∷ 6 ∷ 8 ∷ 7 ∷ [];
   other = 8;
-  passes = opens_passed;
+  passes = begins_passed;
 }

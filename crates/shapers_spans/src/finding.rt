@@ -1,6 +1,6 @@
 //! Finding the syllable that begins a text.
 ghost use Rattle.std.specs.Prelude.{◌≡◌, ◌+◌, ◌-◌, ◌<◌, ◌≤◌, ◌⊎◌, drop, false, length, true, ℕ, List, ◌∷◌, IfSome, IfNone};
-ghost use Rattle.shapers_spans.specs.Grammar.{OpensWith};
+ghost use Rattle.shapers_spans.specs.Grammar.{BeginsWith};
 ghost use Rattle.shapers_spans.specs.Joined.{KnowsJoiners};
 ghost use Rattle.shapers_spans.specs.Watch.{IsWatched};
 
@@ -11,7 +11,7 @@ use std::sync::ledger::Ledger;
 
 // What is known of the joiners that stand together in a text.
 //
-// The machine may turn in one state for as long as joiners stand there, and end nothing behind them:
+// The machine may cycle in one state for as long as joiners stand there, and end nothing behind them:
 // then each of them begins a syllable of its own. So that none of these walks goes over the joiners
 // again, it is known where they end; and so that none reads again what stands behind them, a state
 // from which nothing ends there.
@@ -32,10 +32,10 @@ impl Joiners {
         Joiners { end: 0, stuck: 0 }
     }
 
-    // Where a walk from `start` goes on that turns in a state with `n` glyphs behind it: behind the
+    // Where a walk from `start` goes on that cycles in a state with `n` glyphs behind it: behind the
     // joiners; nowhere, if nothing ends from that state behind them.
     //
-    // Few texts turn, and inlined this would slow down the others.
+    // Few texts cycle, and inlined this would slow down the others.
     #[inline(never)]
     fn behind(&mut self, start: usize, n: usize, state: u8) -> Option<usize>
         requires { start + n ≤ usize.MAX }
@@ -57,7 +57,7 @@ impl Joiners {
 }
 
 // Where the walk goes on in a state in which nothing ends: behind the joiners that are known, if
-// the state turns; and nowhere, if nothing ends behind them either.
+// the state cycles; and nowhere, if nothing ends behind them either.
 #[inline]
 fn behind_joiners<M: Machine>(
     machine: &M,
@@ -69,28 +69,28 @@ fn behind_joiners<M: Machine>(
     requires state { M.is_state machine.now state }
     requires fits { start + n ≤ usize.MAX }
     ensures goes { IfSome result (λ place.
-        (M.turns machine.now state ≡ false) × (place ≡ n) × (joiners.new ≡ joiners.old)
-        ⊎ (M.turns machine.now state ≡ true)
+        (M.cycles machine.now state ≡ false) × (place ≡ n) × (joiners.new ≡ joiners.old)
+        ⊎ (M.cycles machine.now state ≡ true)
         × (place ≡ n + (joiners.old.end - start - n)) × (joiners.new.end - start ≡ place)
         × (joiners.new.stuck ≡ state)
         × (start + n ≤ joiners.old.end → state ≡ joiners.old.stuck → ⊥)) }
     ensures stops { IfNone result
-        ((M.turns machine.now state ≡ true) × (start + n ≤ joiners.old.end)
+        ((M.cycles machine.now state ≡ true) × (start + n ≤ joiners.old.end)
         × (state ≡ joiners.old.stuck) × (joiners.new ≡ joiners.old)) }
-    ensures waits { M.turns machine.now state ≡ true → M.waits machine.now state ≡ true }
-    ensures stays { M.turns machine.now state ≡ true →
+    ensures waits { M.cycles machine.now state ≡ true → M.waits machine.now state ≡ true }
+    ensures stays { M.cycles machine.now state ≡ true →
         (k : ℕ) → M.is_joiner machine.now k ≡ true → (w : List ℕ) →
         M.ends machine.now state (k ∷ w) ≡ M.ends machine.now state w }
 {
-    if !machine.turns(state) {
+    if !machine.cycles(state) {
         return Some(n);
     }
     joiners.behind(start, n, state)
 }
 
 // The syllable that begins what is left of a text at `start`. A state that joiners don't leave goes
-// on behind the run of them that is known, so that a run is read once and not again for each of its
-// glyphs; and a state from which nothing ends behind the run goes no further.
+// on behind the sequence of them that is known, so that a sequence is read once and not again for
+// each of its glyphs; and a state from which nothing ends behind the sequence goes no further.
 #[inline]
 pub(crate) fn first_span<M: Machine, L: Ledger>(
     machine: &M,
@@ -105,7 +105,7 @@ pub(crate) fn first_span<M: Machine, L: Ledger>(
     requires joined { let passes = (M.grammar machine.now).passes in
         KnowsJoiners passes (M.is_joiner machine.now) (M.ends machine.now) glyphs.now
         (joiners.old.end - start) joiners.old.stuck }
-    ensures opens { OpensWith (M.grammar machine.now) glyphs.now result }
+    ensures opens { BeginsWith (M.grammar machine.now) glyphs.now result }
     ensures some { 0 < result.len }
     ensures within { result.len ≤ length glyphs.now }
     ensures kind { result.kind ≤ 15 }
@@ -114,12 +114,12 @@ pub(crate) fn first_span<M: Machine, L: Ledger>(
         KnowsJoiners passes (M.is_joiner machine.now) (M.ends machine.now)
         (drop result.len glyphs.now) (joiners.new.end - start - result.len) joiners.new.stuck }
     ensures counted { let passes = (M.grammar machine.now).passes in
-        let turned = M.turned machine.now in
+        let cycled = M.cycled machine.now in
         let left = record count.new { ahead = count.new.ahead - result.len } in
         (before : ℕ) →
-        IsWatched passes turned glyphs.now (joiners.old.end - start) joiners.old.stuck before
+        IsWatched passes cycled glyphs.now (joiners.old.end - start) joiners.old.stuck before
         count.old →
-        IsWatched passes turned (drop result.len glyphs.now)
+        IsWatched passes cycled (drop result.len glyphs.now)
         (joiners.new.end - start - result.len) joiners.new.stuck before left }
 {
     let mut span = Span {

@@ -8,13 +8,13 @@ pub struct Indic;
 
 impl MachineTables for Indic {
     ghost use Rattle.shapers_spans.specs.Indic.{indic_grammar};
-    ghost use Rattle.shapers_spans.specs.IndicMachine.{indic_tables, indic_turning};
+    ghost use Rattle.shapers_spans.specs.IndicMachine.{indic_tables, indic_cycling};
 
     ghost grammar = { λ _. indic_grammar };
 
     ghost tables = { λ _. indic_tables };
 
-    ghost turning = { λ _. indic_turning };
+    ghost cycling = { λ _. indic_cycling };
 
     #[inline]
     fn other_kind(&self) -> u8 {

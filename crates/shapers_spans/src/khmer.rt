@@ -8,13 +8,13 @@ pub struct Khmer;
 
 impl MachineTables for Khmer {
     ghost use Rattle.shapers_spans.specs.Khmer.{khmer_grammar};
-    ghost use Rattle.shapers_spans.specs.KhmerMachine.{khmer_tables, khmer_turning};
+    ghost use Rattle.shapers_spans.specs.KhmerMachine.{khmer_tables, khmer_cycling};
 
     ghost grammar = { λ _. khmer_grammar };
 
     ghost tables = { λ _. khmer_tables };
 
-    ghost turning = { λ _. khmer_turning };
+    ghost cycling = { λ _. khmer_cycling };
 
     #[inline]
     fn other_kind(&self) -> u8 {

@@ -1,7 +1,7 @@
 //! Machines that read categories, one after another, and machines by tables.
 ghost use Rattle.std.specs.Prelude.{◌≡◌, ◌+◌, ◌<◌, ◌≤◌, ◌⊎◌, ℕ, List, [], ◌∷◌, IsTrue, None, drop, length, true, false};
 ghost use Rattle.shapers_spans.specs.Grammar.{IsKind, KindsFit, reach_of};
-ghost use Rattle.shapers_spans.specs.Turning.{AreTablesOf};
+ghost use Rattle.shapers_spans.specs.Cycling.{AreTablesOf};
 
 use shapers_base::buffer::hb_glyph_info_t;
 
@@ -11,10 +11,10 @@ const NO_END: u8 = 255;
 /// A machine for a grammar: its state says what the rules take from there on.
 ///
 /// Where nothing ends in a state, its rank says how many more states at most come before one in
-/// which something does, one that turns, or the dead one. In a state that turns, each joiner leads
-/// back to it: as many joiners as there are may stand there. The waiting states are those that turn
+/// which something does, one that cycles, or the dead one. In a state that cycles, each joiner leads
+/// back to it: as many joiners as there are may stand there. The waiting states are those that cycle
 /// and those on the way to them, to which joiners alone lead. A text that begins with two joiners
-/// leads to one and the same state that turns, whichever joiners they are.
+/// leads to one and the same state that cycles, whichever joiners they are.
 pub trait Machine {
     ghost use Rattle.std.specs.Prelude.{ℕ, Bool, List, Option};
     ghost use Rattle.shapers_spans.specs.Grammar.{Grammar};
@@ -33,11 +33,11 @@ pub trait Machine {
 
     ghost waits: { Self → ℕ → Bool };
 
-    ghost turns: { Self → ℕ → Bool };
+    ghost cycles: { Self → ℕ → Bool };
 
     ghost begun: { Self → ℕ → Bool };
 
-    ghost turned: { Self → ℕ };
+    ghost cycled: { Self → ℕ };
 
     /// The kind of a glyph that begins nothing that a rule takes.
     fn other(&self) -> u8
@@ -62,15 +62,15 @@ pub trait Machine {
         ensures ends { (w : List ℕ) →
             ends self.now state (category ∷ w) ≡ ends self.now result w }
         ensures falls { 0 < rank self.now state → ends self.now result [] ≡ None →
-            turns self.now result ≡ false → rank self.now result < rank self.now state }
+            cycles self.now result ≡ false → rank self.now result < rank self.now state }
         ensures rank { rank self.now result ≤ 2 }
         ensures one { state ≡ first self.now → is_joiner self.now category ≡ true →
             begun self.now result ≡ true }
         ensures begun { begun self.now result ≡ true →
-            (turns self.now result ≡ false) × (rank self.now result ≤ 1) }
+            (cycles self.now result ≡ false) × (rank self.now result ≤ 1) }
         ensures two { begun self.now state ≡ true → is_joiner self.now category ≡ true →
-            (result ≡ turned self.now) × (ends self.now result [] ≡ None) }
-        ensures same { turns self.now state ≡ true → is_joiner self.now category ≡ true →
+            (result ≡ cycled self.now) × (ends self.now result [] ≡ None) }
+        ensures same { cycles self.now state ≡ true → is_joiner self.now category ≡ true →
             result ≡ state }
         ensures waits { waits self.now result ≡ true →
             (is_joiner self.now category ≡ true)
@@ -88,9 +88,9 @@ pub trait Machine {
         ensures { result ≡ ends self.now state [] };
 
     /// Whether joiners, as many as there are, lead from this state back to it.
-    fn turns(&self, state: u8) -> bool
+    fn cycles(&self, state: u8) -> bool
         requires { is_state self.now state }
-        ensures turns { result ≡ turns self.now state }
+        ensures cycles { result ≡ cycles self.now state }
         ensures waits { IsTrue result → waits self.now state ≡ true }
         ensures stays { IsTrue result → (k : ℕ) → is_joiner self.now k ≡ true → (w : List ℕ) →
             ends self.now state (k ∷ w) ≡ ends self.now state w };
@@ -104,17 +104,17 @@ pub trait Machine {
 }
 
 /// The tables of a machine, and what it passes over. A row of states, one for each class of
-/// categories, says what comes behind a state; behind the dead state are the states that turn.
+/// categories, says what comes behind a state; behind the dead state are the states that cycle.
 pub trait MachineTables {
     ghost use Rattle.shapers_spans.specs.Grammar.{Grammar};
     ghost use Rattle.shapers_spans.specs.Machine.{Tables};
-    ghost use Rattle.shapers_spans.specs.Turning.{Turning};
+    ghost use Rattle.shapers_spans.specs.Cycling.{Cycling};
 
     ghost grammar: { Self → Grammar };
 
     ghost tables: { Self → Tables };
 
-    ghost turning: { Self → Turning };
+    ghost cycling: { Self → Cycling };
 
     /// The kind of a glyph that begins nothing that a rule takes.
     fn other_kind(&self) -> u8
@@ -125,17 +125,17 @@ pub trait MachineTables {
     fn first_state(&self) -> u8
         ensures first { result ≡ 0 }
         ensures passes { (grammar self.now).passes [] ≡ false }
-        ensures tables { AreTablesOf (grammar self.now) (tables self.now) (turning self.now) };
+        ensures tables { AreTablesOf (grammar self.now) (tables self.now) (cycling self.now) };
 
     /// The state from which nothing ends.
     fn dead_state(&self) -> u8
-        ensures state { result ≡ (turning self.now).dead }
-        ensures tables { AreTablesOf (grammar self.now) (tables self.now) (turning self.now) };
+        ensures state { result ≡ (cycling self.now).dead }
+        ensures tables { AreTablesOf (grammar self.now) (tables self.now) (cycling self.now) };
 
     /// The class of each category.
     fn classes(&self) -> &[u8; 256]
         ensures classes { result.now ≡ (tables self.now).class_of }
-        ensures tables { AreTablesOf (grammar self.now) (tables self.now) (turning self.now) };
+        ensures tables { AreTablesOf (grammar self.now) (tables self.now) (cycling self.now) };
 
     /// How long a row is: a place for each class.
     fn row_len(&self) -> usize
@@ -160,7 +160,7 @@ pub trait MachineTables {
 impl<T: MachineTables> Machine for T {
     ghost use Rattle.std.specs.Prelude.{◌<◌, length};
     ghost use Rattle.shapers_spans.specs.Machine.{ends_by};
-    ghost use Rattle.shapers_spans.specs.Turning.{joins, rank_of, has_begun, has_turn, has_wait};
+    ghost use Rattle.shapers_spans.specs.Cycling.{joins, rank_of, has_begun, has_cycle, has_wait};
 
     ghost grammar = { λ it. T.grammar it };
 
@@ -170,17 +170,17 @@ impl<T: MachineTables> Machine for T {
 
     ghost first = { λ _. 0 };
 
-    ghost is_joiner = { λ it category. joins (T.tables it) (T.turning it) category };
+    ghost is_joiner = { λ it category. joins (T.tables it) (T.cycling it) category };
 
-    ghost rank = { λ it state. rank_of (T.turning it) state };
+    ghost rank = { λ it state. rank_of (T.cycling it) state };
 
-    ghost waits = { λ it state. has_wait (T.turning it) state };
+    ghost waits = { λ it state. has_wait (T.cycling it) state };
 
-    ghost turns = { λ it state. has_turn (T.turning it) state };
+    ghost cycles = { λ it state. has_cycle (T.cycling it) state };
 
-    ghost begun = { λ it state. has_begun (T.turning it) state };
+    ghost begun = { λ it state. has_begun (T.cycling it) state };
 
-    ghost turned = { λ it. (T.turning it).turned };
+    ghost cycled = { λ it. (T.cycling it).cycled };
 
     #[inline]
     fn other(&self) -> u8 {
@@ -210,7 +210,7 @@ impl<T: MachineTables> Machine for T {
     }
 
     #[inline]
-    fn turns(&self, state: u8) -> bool {
+    fn cycles(&self, state: u8) -> bool {
         state > self.dead_state()
     }
 

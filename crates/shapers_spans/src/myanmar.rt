@@ -8,13 +8,13 @@ pub struct Myanmar;
 
 impl MachineTables for Myanmar {
     ghost use Rattle.shapers_spans.specs.Myanmar.{myanmar_grammar};
-    ghost use Rattle.shapers_spans.specs.MyanmarMachine.{myanmar_tables, myanmar_turning};
+    ghost use Rattle.shapers_spans.specs.MyanmarMachine.{myanmar_tables, myanmar_cycling};
 
     ghost grammar = { λ _. myanmar_grammar };
 
     ghost tables = { λ _. myanmar_tables };
 
-    ghost turning = { λ _. myanmar_turning };
+    ghost cycling = { λ _. myanmar_cycling };
 
     #[inline]
     fn other_kind(&self) -> u8 {

@@ -1,7 +1,7 @@
 //! What the universal grammar passes over.
 ghost use Rattle.std.specs.Prelude.{◌≡◌, ◌+◌, ◌<◌, ◌≤◌, drop, length};
 ghost use Rattle.shapers_spans.specs.Grammar.{reach_of};
-ghost use Rattle.shapers_spans.specs.Passing.{next_is_mark, opens_passed};
+ghost use Rattle.shapers_spans.specs.Passing.{next_is_mark, begins_passed};
 
 use shapers_base::buffer::hb_glyph_info_t;
 
@@ -25,9 +25,9 @@ fn next_is_mark(glyphs: &[hb_glyph_info_t]) -> bool
 
 // Whether the text begins with a glyph that is passed over.
 #[inline]
-fn opens_passed(glyphs: &[hb_glyph_info_t]) -> bool
+fn begins_passed(glyphs: &[hb_glyph_info_t]) -> bool
     requires { 0 < length glyphs.now }
-    ensures { result ≡ opens_passed glyphs.now }
+    ensures { result ≡ begins_passed glyphs.now }
 {
     match glyphs[0].category {
         CGJ => true,
@@ -40,7 +40,7 @@ fn opens_passed(glyphs: &[hb_glyph_info_t]) -> bool
 #[inline]
 pub(crate) fn next_read(glyphs: &[hb_glyph_info_t], n: usize) -> usize
     requires { n ≤ length glyphs.now }
-    ensures place { result ≡ n + reach_of opens_passed (drop n glyphs.now) 0 }
+    ensures place { result ≡ n + reach_of begins_passed (drop n glyphs.now) 0 }
     ensures within { result ≤ length glyphs.now }
 {
     // nearly all glyphs are neither, and then a call would cost more than the answer
@@ -54,11 +54,11 @@ pub(crate) fn next_read(glyphs: &[hb_glyph_info_t], n: usize) -> usize
 #[inline(never)]
 fn behind_passed(glyphs: &[hb_glyph_info_t], n: usize) -> usize
     requires { n ≤ length glyphs.now }
-    ensures place { result ≡ n + reach_of opens_passed (drop n glyphs.now) 0 }
+    ensures place { result ≡ n + reach_of begins_passed (drop n glyphs.now) 0 }
     ensures within { result ≤ length glyphs.now }
 {
     for place in n..glyphs.len() {
-        if !opens_passed(&glyphs[place..]) {
+        if !begins_passed(&glyphs[place..]) {
             return place;
         }
     }

@@ -9,13 +9,13 @@ pub struct Universal;
 
 impl MachineTables for Universal {
     ghost use Rattle.shapers_spans.specs.Universal.{universal_grammar};
-    ghost use Rattle.shapers_spans.specs.UniversalMachine.{universal_tables, universal_turning};
+    ghost use Rattle.shapers_spans.specs.UniversalMachine.{universal_tables, universal_cycling};
 
     ghost grammar = { λ _. universal_grammar };
 
     ghost tables = { λ _. universal_tables };
 
-    ghost turning = { λ _. universal_turning };
+    ghost cycling = { λ _. universal_cycling };
 
     #[inline]
     fn other_kind(&self) -> u8 {

@@ -1,4 +1,4 @@
--- What the first pass finds: of copies at equal distances the ends tell, and a run's moves are those of its tiles.
+-- What the first pass finds: of copies at equal distances the ends tell, and a sequence's moves are those of its tiles.
 use Rattle.std.proofs.Common.{◌≡◌, ℕ, zero, suc, ◌+◌, ◌*◌, ◌^◌, ◌<◌, ◌≤◌, FitsSigned, ℤ, pos, negsuc, neg_ℤ, ◌+ℤ◌, ◌-ℤ◌, ◌*ℤ◌, ◌≤ℤ◌, Bool, true, false, cond, ◌&&◌, List, [], ◌∷◌, ◌++◌, length, replicate, Option, None, Some, take, get_or, refl, arith}
 use Rattle.std.proofs.lemmas.Int.{ints}
 use mir.Syntax.{w32}
@@ -9,7 +9,7 @@ use Rattle.shapers_base.specs.Font.{Font}
 use Rattle.shapers_stretch.specs.Cells.{repeats}
 use Rattle.shapers_stretch.specs.Stretch.{width_of}
 use Rattle.shapers_stretch.specs.declared.ot_shaper_arabic_stretch.measuring.Lay.{Lay}
-use Rattle.shapers_stretch.specs.CountingWalk.{IsNumber, WalksPen, last_at, moves_of, offsets_fit, offsets_on, pen_behind, run_moves, stands_at}
+use Rattle.shapers_stretch.specs.CountingWalk.{IsNumber, WalksPen, last_at, moves_of, offsets_fit, offsets_on, pen_behind, sequence_moves, stands_at}
 use Rattle.shapers_stretch.specs.Measure.{fits_i32, total}
 use Rattle.std.proofs.lemmas.List.Folds.{list_all-append}
 use Rattle.shapers_stretch.proofs.Steps.{stepping, stepping_fits}
@@ -121,20 +121,20 @@ pub tile_walked : (font : Font) (lay : Lay) (g : Glyph) (right_to_left : Bool) (
     → WalksPen right_to_left pen (moves_of font lay g) r
 tile_walked = search (arith, tile_if)
 
--- the last tile of a run is laid first
+-- the last tile of a sequence is laid first
 run_moves_more : (font : Font) (lay : Lay) (tiles : Glyphs) (i : ℕ) (d : Glyph)
-    → i < length tiles → run_moves font lay (take (i + 1) tiles) ≡ moves_of font lay (get_or tiles i d)
-    ++ run_moves font lay (take i tiles)
+    → i < length tiles → sequence_moves font lay (take (i + 1) tiles) ≡ moves_of font lay (get_or tiles i d)
+    ++ sequence_moves font lay (take i tiles)
 run_moves_more font lay tiles i d p = search (take_more tiles i d p, reverse-append)
 
 pub fits_next : (font : Font) (lay : Lay) (right_to_left : Bool) (pen behind : ℤ) (tiles : Glyphs) (i : ℕ) (d : Glyph)
     → i < length tiles → WalksPen right_to_left pen (moves_of font lay (get_or tiles i d)) (Some behind)
-    → offsets_fit right_to_left behind (run_moves font lay (take i tiles))
-    ≡ offsets_fit right_to_left pen (run_moves font lay (take (i + 1) tiles))
-fits_next font lay right_to_left pen behind tiles i d p w = cc (run_moves_more font lay tiles i d p, offsets_fit-append right_to_left pen (moves_of font lay (get_or tiles i d)) (run_moves font lay (take i tiles)))
+    → offsets_fit right_to_left behind (sequence_moves font lay (take i tiles))
+    ≡ offsets_fit right_to_left pen (sequence_moves font lay (take (i + 1) tiles))
+fits_next font lay right_to_left pen behind tiles i d p w = cc (run_moves_more font lay tiles i d p, offsets_fit-append right_to_left pen (moves_of font lay (get_or tiles i d)) (sequence_moves font lay (take i tiles)))
 
 pub fits_not : (font : Font) (lay : Lay) (right_to_left : Bool) (pen : ℤ) (tiles : Glyphs) (i : ℕ)
     (d : Glyph) → i < length tiles → offsets_fit right_to_left pen (moves_of font lay (get_or tiles i d))
-    ≡ false → offsets_fit right_to_left pen (run_moves font lay (take (i + 1) tiles)) ≡ false
+    ≡ false → offsets_fit right_to_left pen (sequence_moves font lay (take (i + 1) tiles)) ≡ false
 fits_not font lay right_to_left pen tiles i d p =
     search (arith, run_moves_more font lay tiles i d p, offsets_fit-append)

@@ -1,4 +1,4 @@
--- A word and its run, flagged together: nothing that is measured or laid changes but the masks.
+-- A word and its sequence, flagged together: nothing that is measured or laid changes but the masks.
 use Rattle.std.proofs.Common.{◌≡◌, ◌≤◌, ◌+◌, ◌-◌, ℕ, zero, suc, ℤ, Bool, true, false, cond, List, [], ◌∷◌, ◌++◌, length, map, take, drop, replicate, refl, sym, ◌∙◌, ap, arith}
 use Rattle.std.specs.List.{zip, AllByRecursion}
 use Rattle.std.proofs.lemmas.List.{drop-take, append_assoc, length-append, length-drop, length-map, length-take-le, map-append, take-append-drop, take-map, take_at, drop_at, drop-drop, take-take}
@@ -10,7 +10,7 @@ use Rattle.shapers_buffer.specs.Glyph.{clusters}
 use Rattle.shapers_buffer.specs.GlyphFlags.{flagged, unsafe_inside, with_bits_off}
 use Rattle.shapers_buffer.proofs.ClusterLemmas.{length-stretch}
 use Rattle.shapers_base.specs.Font.{Font}
-use Rattle.shapers_stretch.specs.declared.ot_shaper_arabic_stretch.measuring.Run.{Run}
+use Rattle.shapers_stretch.specs.declared.ot_shaper_arabic_stretch.measuring.TileSequence.{TileSequence}
 use Rattle.shapers_stretch.specs.Cells.{Cell, glyphs_of, positions_of, repeats}
 use Rattle.shapers_stretch.specs.CountingWalk.{pen_behind}
 use Rattle.shapers_stretch.specs.LayingWalk.{laid_on, offsets}
@@ -158,7 +158,7 @@ flag_copies_at : (m : ℕ) (w v : ℤ) (n : ℕ) (b : Bool) (c : Cell) → copie
 flag_copies_at m w v n true c = search (arith, map-replicate)
 flag_copies_at m w v n false c = refl
 
-pub flag_copies : (font : Font) (z : Run) (m : ℕ) (cs : List Cell) → copies font z (map (flag_cell m) cs)
+pub flag_copies : (font : Font) (z : TileSequence) (m : ℕ) (cs : List Cell) → copies font z (map (flag_cell m) cs)
     ≡ map (flag_copy m) (copies font z cs)
 flag_copies font z m [] = refl
 flag_copies font z m (c ∷ cs) = search (arith, copies-push, flag_copies_at, map-append, flag_copies font z m cs)

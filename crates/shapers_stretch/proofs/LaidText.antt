@@ -11,12 +11,12 @@ use Rattle.shapers_buffer.specs.Glyph.{clusters}
 use Rattle.shapers_buffer.specs.Lists.{each_after}
 use Rattle.shapers_base.specs.declared.plan.arabic.StretchStart.{StretchStart}
 use Rattle.shapers_base.specs.Font.{Font}
-use Rattle.shapers_stretch.specs.Cells.{Cell, before_tiles, before_word, cut_between, glyphs_of, parts_of_text, positions_of, run_ends, tiles_of, word_of}
+use Rattle.shapers_stretch.specs.Cells.{Cell, before_tiles, before_word, cut_between, glyphs_of, parts_of_text, positions_of, sequence_ends, tiles_of, word_of}
 use Rattle.shapers_stretch.specs.CountingWalk.{pen_behind}
 use Rattle.shapers_stretch.specs.LayingWalk.{laid_on, offsets}
 use Rattle.shapers_stretch.specs.Measure.{copies_added, start}
-use Rattle.shapers_stretch.specs.Stretch.{Copy, Laying, cells_in_order, copies, copies_in, has_run, in_working_order, laid_at, laid_run, laying, marks_stretched, offset, repeating, run_of_part, stretched, stretched_part, unbroken}
-use Rattle.shapers_stretch.specs.StretchLaws.{PartIsLaid, RunIsLaid, TextIsLaid, ids}
+use Rattle.shapers_stretch.specs.Stretch.{Copy, Laying, cells_in_order, copies, copies_in, has_sequence, in_working_order, laid_at, laid_sequence, laying, marks_stretched, offset, repeating, sequence_of_part, stretched, stretched_part, unbroken}
+use Rattle.shapers_stretch.specs.StretchLaws.{PartIsLaid, SequenceIsLaid, TextIsLaid, ids}
 use Rattle.shapers_stretch.proofs.Flagging.{flag_cell, flag_copies, flag_copy, flag_offsets, same_id, tiles_are, unbroken_is}
 use Rattle.shapers_stretch.proofs.Lengths.{length-copies, length-laid}
 use Rattle.shapers_stretch.proofs.Moves.{moves_hold, widths_hold}
@@ -41,23 +41,23 @@ pieces_join apart [] = refl
 pieces_join apart (x ∷ xs) = search (arith, pieces_join apart xs)
 
 -- how much longer each part is, and all of them
-no_tiles : (part : List Cell) → has_run part ≡ false → length (tiles_of part) ≡ 0
+no_tiles : (part : List Cell) → has_sequence part ≡ false → length (tiles_of part) ≡ 0
 no_tiles part e = grind arith
 
 none_repeat : (tiles : List Cell) → length tiles ≡ 0 → length (repeating (glyphs_of tiles)) ≡ 0
 none_repeat [] e = refl
 none_repeat (t ∷ ts) e = absurd (omega arith)
 
-no_copies : (font : Font) (part : List Cell) → has_run part ≡ false → copies_added (run_of_part font part) ≡ 0
+no_copies : (font : Font) (part : List Cell) → has_sequence part ≡ false → copies_added (sequence_of_part font part) ≡ 0
 no_copies = search (arith, none_repeat, no_tiles)
 
-longer_by : (how : Laying) (part : List Cell) (b : Bool) → has_run part ≡ b → length (stretched_part how part)
-    ≡ length part + copies_added (run_of_part how.font part)
+longer_by : (how : Laying) (part : List Cell) (b : Bool) → has_sequence part ≡ b → length (stretched_part how part)
+    ≡ length part + copies_added (sequence_of_part how.font part)
 longer_by how part true e = run_length how part e
 longer_by how part false e = search (arith, no_copies how.font part e)
 
 abbrev copies_of_run : Font → List Cell → ℕ
-copies_of_run font part = copies_added (run_of_part font part)
+copies_of_run font part = copies_added (sequence_of_part font part)
 
 parts_longer : (how : Laying) (ps : List (List Cell)) → length (flat_map (stretched_part how) ps)
     ≡ length (flat_map (λ p. p) ps) + sum_by (copies_of_run how.font) ps
@@ -66,7 +66,7 @@ parts_longer how (p ∷ ps) = omega (
   arith,
   length-append (stretched_part how p) (flat_map (stretched_part how) ps),
   length-append p (flat_map (λ p. p) ps),
-  longer_by how p (has_run p) refl,
+  longer_by how p (has_sequence p) refl,
   parts_longer how ps,
   sum_by-cons (copies_of_run how.font) p ps,
 )
@@ -121,10 +121,10 @@ laid-offsets : (r : Bool) (from : ℤ) (ps : List (List Copy × Copy))
 laid-offsets r from [] = refl
 laid-offsets r from (p ∷ ps) = cc (laid-offsets r from ps)
 
--- the flagged tiles of a run laid
-run_laid : (how : Laying) (part : List Cell) → has_run part ≡ true → RunIsLaid how part (stretched_part how part)
+-- the flagged tiles of a sequence laid
+run_laid : (how : Laying) (part : List Cell) → has_sequence part ≡ true → SequenceIsLaid how part (stretched_part how part)
 run_laid how part e =
-    let z = run_of_part how.font part in
+    let z = sequence_of_part how.font part in
     let word = word_of part in
     let tiles = tiles_of part in
     let whole = unbroken (word ++ tiles) in
@@ -132,7 +132,7 @@ run_laid how part e =
     let r = how.right_to_left in
     let from = start how.choice r z in
     let its = copies how.font z tiles in
-    let made = laid_run how z (drop (length word) whole) in
+    let made = laid_sequence how z (drop (length word) whole) in
     let is : made ≡ laid_on r from (map (flag_copy m) its) = search (tiles_are, laid_is, flag_copies) in
     let on = take (length word) whole in
     let over : on ≡ map (flag_cell m) word = search (arith, unbroken_is, map-append, take_at, length-map) in
@@ -164,7 +164,7 @@ parts_laid how (p ∷ ps) = (part_laid how p, parts_laid how ps)
 text_laid : (how : Laying) (cs : List Cell) → TextIsLaid how cs (stretched how cs)
 text_laid how cs = record {
   pieces = map (stretched_part how) (parts_of_text cs);
-  before = pieces_join run_ends cs;
+  before = pieces_join sequence_ends cs;
   after = search flat_map-map;
   each = search parts_laid;
 }

@@ -5,13 +5,13 @@ use Rattle.std.proofs.lemmas.List.{append_assoc, append-nil, length_push, length
 use Rattle.std.proofs.lemmas.List.Folds.{list_all-append}
 use Rattle.std.proofs.Math.Seq.{take-append_seam, drop-append_seam}
 use Rattle.std.proofs.lemmas.Bool.{and_from, not-true, and_parts}
-use Rattle.shapers_buffer.specs.Lists.{last_run, before_last_run}
+use Rattle.shapers_buffer.specs.Lists.{last_stretch, before_last_stretch}
 use Rattle.shapers_buffer.proofs.ListLaws.{suffix_len_yes, suffix_len_no, suffix_len_stop, from_end, last_of}
 use Rattle.shapers_buffer.proofs.MappedLists.{suffix_len-map}
-use Rattle.shapers_stretch.specs.Cells.{Cell, glyphs_of, before_tiles, before_word, cut_here, in_word, is_tile, parts_of_text, run_ends, tiles_of, word_of}
+use Rattle.shapers_stretch.specs.Cells.{Cell, glyphs_of, before_tiles, before_word, cut_here, in_word, is_tile, parts_of_text, sequence_ends, tiles_of, word_of}
 use Rattle.shapers_stretch.proofs.Parts.{parts-append}
 
--- a list as what stands before its last run, and that run
+-- a list as what stands before its last sequence, and that sequence
 pub record RunSplit {X : Type 0} (test : X → Bool) (xs : List X) : Type 0 where
   pub front : List X
   pub run : List X
@@ -36,7 +36,7 @@ run_split {X} test xs =
     from_end (RunSplit test) (record { front = []; run = []; whole = refl; stops = refl; passes = refl })
     (λ xs x r. one xs x (test x) refl r) xs
 
--- a list that ends with no run ends with an element that fails, or is empty
+-- a list that ends with no sequence ends with an element that fails, or is empty
 last_fails : {X : Type 0} (test : X → Bool) (xs : List X) (x : X) → suffix_len test (xs ++ x ∷ []) ≡ 0 → test x ≡ false
 last_fails test xs x h =
     elim (test x) as (λ b. test x ≡ b → b ≡ false) [
@@ -56,7 +56,7 @@ all_counts {X} test run =
     from_end P (λ h. refl)
     (λ xs x f h. let both = all_before test xs x h in search (arith, suffix_len_yes, length_push)) run
 
--- so a run behind such a list is its last run
+-- so a sequence behind such a list is its last sequence
 pub counts_after : {X : Type 0} (test : X → Bool) (front run : List X) → suffix_len test front ≡ 0
     → list_all test run ≡ true → suffix_len test (front ++ run) ≡ length run
 counts_after test front run stops passes =
@@ -67,7 +67,7 @@ counts_after test front run stops passes =
     ]
 
 pub last_run_after : {X : Type 0} (test : X → Bool) (front run : List X) → suffix_len test front ≡ 0
-    → list_all test run ≡ true → (last_run test (front ++ run) ≡ run) × (before_last_run test (front ++ run) ≡ front)
+    → list_all test run ≡ true → (last_stretch test (front ++ run) ≡ run) × (before_last_stretch test (front ++ run) ≡ front)
 last_run_after test front run stops passes =
     search (
       arith,
@@ -77,7 +77,7 @@ last_run_after test front run stops passes =
       take-append_seam front run,
     )
 
--- what stands before doesn't matter where a list ends with no run
+-- what stands before doesn't matter where a list ends with no sequence
 pub stops_behind : {X : Type 0} (test : X → Bool) (front back : List X) → suffix_len test (front ++ back) ≡ 0
     → suffix_len test back ≡ 0
 stops_behind test front back h =
@@ -106,11 +106,11 @@ other c = not (is_tile c.0)
 abbrev wordly : Cell → Bool
 wordly c = in_word c.0
 
-uncut : (x : Cell) (xs : List Cell) → cut_here run_ends x xs ≡ false → parts_of_text xs ≡ xs ∷ []
+uncut : (x : Cell) (xs : List Cell) → cut_here sequence_ends x xs ≡ false → parts_of_text xs ≡ xs ∷ []
     → parts_of_text (x ∷ xs) ≡ (x ∷ xs) ∷ []
 uncut x xs here rest = cc
 
-uncut_other : (x : Cell) (xs : List Cell) → other x ≡ true → cut_here run_ends x xs ≡ false
+uncut_other : (x : Cell) (xs : List Cell) → other x ≡ true → cut_here sequence_ends x xs ≡ false
 uncut_other x [] h = refl
 uncut_other x (y ∷ xs) h = search arith
 
@@ -145,7 +145,7 @@ pub record LastPartOf (cs : List Cell) : Type 0 where
   pub word_is : word_of ((before ++ word) ++ tiles) ≡ word
   pub before_is : before_word ((before ++ word) ++ tiles) ≡ before
 
--- what the three runs from the end are
+-- what the three sequences from the end are
 record Runs (cs : List Cell) : Type 0 where
   tiles : RunSplit tile cs
   word : RunSplit wordly tiles.front
@@ -157,7 +157,7 @@ runs_of cs =
     let word = run_split wordly tiles.front in
     record { tiles = tiles; word = word; before = run_split other word.front }
 
--- a list that ends with no run of others ends with a tile, or is empty
+-- a list that ends with no sequence of others ends with a tile, or is empty
 ends_with_tile : (front : List Cell) (a : Cell) → suffix_len other (front ++ a ∷ []) ≡ 0 → tile a ≡ true
 ends_with_tile = search (arith, last_fails)
 

@@ -1,11 +1,11 @@
--- How many copies a run is laid in.
+-- How many copies a sequence is laid in.
 use Rattle.std.proofs.Common.{◌≡◌, ℕ, suc, ◌+◌, ◌*◌, ℤ, ◌-ℤ◌, Bool, true, false, cond, List, [], ◌∷◌, ◌++◌, length, reverse, replicate, refl, ap, arith}
 use Rattle.std.proofs.lemmas.List.{append-nil, length-append, length-replicate}
 use Rattle.std.proofs.lemmas.List.Concat.{flat_map-append}
 use Rattle.std.proofs.lemmas.Grind.{reverse_onto}
 use Rattle.shapers_base.specs.Font.{Font}
 use Rattle.shapers_stretch.specs.Cells.{Cell, glyphs_of, repeats}
-use Rattle.shapers_stretch.specs.declared.ot_shaper_arabic_stretch.measuring.Run.{Run}
+use Rattle.shapers_stretch.specs.declared.ot_shaper_arabic_stretch.measuring.TileSequence.{TileSequence}
 use Rattle.shapers_stretch.specs.Measure.{times_added, overlap}
 use Rattle.shapers_stretch.specs.Stretch.{Copy, copies, copies_of, laid, repeating, width_of}
 use Rattle.shapers_stretch.proofs.Moves.{length_if}
@@ -20,7 +20,7 @@ count_if true n k = omega arith
 count_if false n k = omega arith
 
 -- one for each tile, and the added copies of those that repeat
-pub length-copies : (font : Font) (z : Run) (cs : List Cell)
+pub length-copies : (font : Font) (z : TileSequence) (cs : List Cell)
     → length (copies font z cs) ≡ length cs + times_added z * length (repeating (glyphs_of cs))
 length-copies font z [] = omega arith
 length-copies font z (c ∷ cs) =

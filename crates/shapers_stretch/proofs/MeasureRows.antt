@@ -1,15 +1,15 @@
 -- The numbers of a stretched mark, computed.
 use Rattle.std.specs.Prelude.{◌≡◌, ℕ, ℤ, pos, negsuc, true, false, List, [], ◌∷◌, map, refl}
 use Rattle.shapers_base.specs.declared.plan.arabic.StretchStart.TheVariants.{AsCode, Centred}
-use Rattle.shapers_stretch.specs.declared.ot_shaper_arabic_stretch.measuring.Run.{Run}
+use Rattle.shapers_stretch.specs.declared.ot_shaper_arabic_stretch.measuring.TileSequence.{TileSequence}
 use Rattle.shapers_stretch.specs.Measure.{copies_added, overlap, start, laid_width, numbers_to_fit, fits_i32}
 
--- a run by its word, its fixed and its repeating tiles, and how many of these there are
-abbrev run : ℤ → ℤ → ℤ → ℕ → Run
+-- a sequence by its word, its fixed and its repeating tiles, and how many of these there are
+abbrev run : ℤ → ℤ → ℤ → ℕ → TileSequence
 run t f r k = record { word = t; fixed = f; repeating = r; repeaters = k }
 
 -- overlap, start as the code has it, width, and the centred starts from left to right and from right to left
-abbrev numbers_of : Run → List ℤ
+abbrev numbers_of : TileSequence → List ℤ
 numbers_of z = overlap z ∷ start AsCode false z ∷ laid_width z ∷ start Centred false z ∷ start Centred true z ∷ []
 
 four_added-added : copies_added (run (pos 1000) (pos 100) (pos 200) 1) ≡ 4

@@ -1,4 +1,4 @@
--- The copies of a run move the pen by its laid width.
+-- The copies of a sequence move the pen by its laid width.
 use Rattle.std.proofs.Common.{◌≡◌, ◌<◌, ◌<ℤ◌, ℕ, zero, suc, ◌*◌, ℤ, pos, ◌+ℤ◌, ◌-ℤ◌, ◌*ℤ◌, neg_ℤ, Bool, true, false, cond, not, List, [], ◌∷◌, ◌++◌, length, map, reverse, replicate, refl, arith}
 use Rattle.std.proofs.lemmas.Int.{ints}
 use Rattle.std.proofs.lemmas.List.{append-nil, map-append}
@@ -9,9 +9,9 @@ use Rattle.shapers_stretch.proofs.Widths.{covers}
 use Rattle.shapers_buffer.specs.Glyphs.{Glyphs}
 use Rattle.shapers_base.specs.Font.{Font}
 use Rattle.shapers_stretch.specs.Cells.{Cell, repeats, tiles_of, glyphs_of}
-use Rattle.shapers_stretch.specs.declared.ot_shaper_arabic_stretch.measuring.Run.{Run}
+use Rattle.shapers_stretch.specs.declared.ot_shaper_arabic_stretch.measuring.TileSequence.{TileSequence}
 use Rattle.shapers_stretch.specs.Measure.{times_added, overlap, total, laid_width}
-use Rattle.shapers_stretch.specs.Stretch.{Copy, copies, copies_of, moves, width_of, repeating, fixed, run_of_part}
+use Rattle.shapers_stretch.specs.Stretch.{Copy, copies, copies_of, moves, width_of, repeating, fixed, sequence_of_part}
 use Rattle.shapers_stretch.proofs.Sums.{total_cons, total-append, times_sum, total-replicate, times_neg}
 
 -- the moves of one tile by whether it repeats
@@ -52,7 +52,7 @@ one_more : (b : Bool) (w F R M o : ℤ) (k n : ℕ) → M ≡ F +ℤ (pos (suc n
 one_more true w F R M o k n = omega (arith, ints, times_sum (suc n) w R)
 one_more false w F R M o k n = omega (arith, ints)
 
-tiles_moves : (font : Font) (z : Run) (cs : List Cell) → moves (copies font z cs)
+tiles_moves : (font : Font) (z : TileSequence) (cs : List Cell) → moves (copies font z cs)
     ≡ total (map (width_of font) (fixed (glyphs_of cs))) +ℤ
     (pos (suc (times_added z)) *ℤ total (map (width_of font) (repeating (glyphs_of cs))) -ℤ pos
     (times_added z * length (repeating (glyphs_of cs))) *ℤ overlap z)
@@ -73,15 +73,15 @@ tiles_moves font z (c ∷ cs) =
       length_if (repeats c.0) c.0 (repeating (glyphs_of cs)),
     )
 
-pub moves_hold : (font : Font) (part : List Cell) → moves (copies font (run_of_part font part) (tiles_of part))
-    ≡ laid_width (run_of_part font part)
-moves_hold font part = omega (arith, ints, tiles_moves font (run_of_part font part) (tiles_of part))
+pub moves_hold : (font : Font) (part : List Cell) → moves (copies font (sequence_of_part font part) (tiles_of part))
+    ≡ laid_width (sequence_of_part font part)
+moves_hold font part = omega (arith, ints, tiles_moves font (sequence_of_part font part) (tiles_of part))
 
 -- without a tile that repeats they have no width
 no_repeating : (font : Font) (gs : Glyphs) → pos 0 <ℤ total (map (width_of font) gs) → 0 < length gs
 no_repeating font [] = search arith
 no_repeating font (g ∷ gs) = omega arith
 
-pub widths_hold : (font : Font) (part : List Cell) → TilesFit (run_of_part font part)
-    → CoversTheWord (run_of_part font part)
+pub widths_hold : (font : Font) (part : List Cell) → TilesFit (sequence_of_part font part)
+    → CoversTheWord (sequence_of_part font part)
 widths_hold font part fits = search (covers, no_repeating)

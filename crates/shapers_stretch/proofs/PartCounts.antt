@@ -16,11 +16,11 @@ use Rattle.shapers_buffer.proofs.MappedLists.{map-reverse}
 use Rattle.shapers_base.specs.declared.plan.arabic.StretchStart.{StretchStart}
 use Rattle.shapers_base.specs.Font.{Font}
 use Rattle.shapers_stretch.specs.Cells.{Cell, before_tiles, before_word, glyphs_of, in_word, is_tile, parts_of_text, positions_of, repeats, tiles_of, word_of}
-use Rattle.shapers_stretch.specs.CountingWalk.{IsCounted, moves_of, offsets_fit, offsets_on, pen_behind, run_added, run_moves}
-use Rattle.shapers_stretch.specs.declared.ot_shaper_arabic_stretch.measuring.Run.{Run}
+use Rattle.shapers_stretch.specs.CountingWalk.{IsCounted, moves_of, offsets_fit, offsets_on, pen_behind, sequence_added, sequence_moves}
+use Rattle.shapers_stretch.specs.declared.ot_shaper_arabic_stretch.measuring.TileSequence.{TileSequence}
 use Rattle.shapers_stretch.specs.Lays.{lay_of}
 use Rattle.shapers_stretch.specs.Measure.{times_added, copies_added, fits_i32, numbers_to_fit, start}
-use Rattle.shapers_stretch.specs.Stretch.{Copy, Laying, copies, copies_of, has_run, measured, overflows, part_overflows, repeating, run_of_part, stretched, stretched_over, stretched_part, unbroken}
+use Rattle.shapers_stretch.specs.Stretch.{Copy, Laying, copies, copies_of, has_sequence, measured, overflows, part_overflows, repeating, sequence_of_part, stretched, stretched_over, stretched_part, unbroken}
 use Rattle.shapers_stretch.proofs.LastParts.{LastPartAt, last_part_at}
 use Rattle.shapers_stretch.proofs.Lengths.{length-copies, length-laid}
 use Rattle.shapers_stretch.proofs.Zips.{length-zipped, zip-take}
@@ -76,8 +76,8 @@ run_repeats word tiles =
       as_many_repeat 3 m (glyphs_of tiles),
     )
 
--- the word as long as before, and the run longer by its added copies
-over_length : (how : Laying) (z : Run) (word tiles : List Cell) → length (stretched_over how z word tiles)
+-- the word as long as before, and the sequence longer by its added copies
+over_length : (how : Laying) (z : TileSequence) (word tiles : List Cell) → length (stretched_over how z word tiles)
     ≡ length word + (length tiles + times_added z * length (repeating (glyphs_of tiles)))
 over_length how z word tiles =
     let whole = unbroken (word ++ tiles) in
@@ -93,10 +93,10 @@ part_length part =
     cc (length-append (before_word part) (word_of part), take-append-drop _ (before_tiles part)) in
     omega arith
 
-pub run_length : (how : Laying) (part : List Cell) → has_run part ≡ true → length (stretched_part how part)
-    ≡ length part + copies_added (run_of_part how.font part)
+pub run_length : (how : Laying) (part : List Cell) → has_sequence part ≡ true → length (stretched_part how part)
+    ≡ length part + copies_added (sequence_of_part how.font part)
 run_length how part =
-    let z = run_of_part how.font part in
+    let z = sequence_of_part how.font part in
     search (
       arith,
       length-append (before_word part) (stretched_over how z (word_of part) (tiles_of part)),
@@ -104,7 +104,7 @@ run_length how part =
       part_length part,
     )
 
-pub no_run_length : (how : Laying) (part : List Cell) → has_run part ≡ false → stretched_part how part ≡ part
+pub no_run_length : (how : Laying) (part : List Cell) → has_sequence part ≡ false → stretched_part how part ≡ part
 no_run_length how part e = cc
 
 -- the offsets of a laid list, from the moves of its copies alone
@@ -118,11 +118,11 @@ moves_if : (b : Bool) (n : ℕ) (copy : Copy) → map (λ copy. copy.move) (cond
 moves_if true n copy = search map-replicate
 moves_if false n copy = refl
 
-tile_moves : (choice : StretchStart) (right_to_left : Bool) (font : Font) (z : Run) (c : Cell)
+tile_moves : (choice : StretchStart) (right_to_left : Bool) (font : Font) (z : TileSequence) (c : Cell)
     → map (λ copy. copy.move) (copies_of font z c) ≡ moves_of font (lay_of choice right_to_left z) c.0
 tile_moves = search moves_if
 
-flat_moves : (choice : StretchStart) (right_to_left : Bool) (font : Font) (z : Run) (cs : List Cell)
+flat_moves : (choice : StretchStart) (right_to_left : Bool) (font : Font) (z : TileSequence) (cs : List Cell)
     → map (λ copy. copy.move) (flat_map (copies_of font z) cs)
     ≡ flat_map (moves_of font (lay_of choice right_to_left z)) (glyphs_of cs)
 flat_moves choice right_to_left font z [] = refl
@@ -132,15 +132,15 @@ flat_moves choice right_to_left font z (c ∷ cs) = cc (
   flat_moves choice right_to_left font z cs,
 )
 
-pub moved_copies : (how : Laying) (z : Run) (tiles : List Cell) → map (λ copy. copy.move) (copies how.font z tiles)
-    ≡ run_moves how.font (lay_of how.choice how.right_to_left z) (glyphs_of tiles)
+pub moved_copies : (how : Laying) (z : TileSequence) (tiles : List Cell) → map (λ copy. copy.move) (copies how.font z tiles)
+    ≡ sequence_moves how.font (lay_of how.choice how.right_to_left z) (glyphs_of tiles)
 moved_copies how z tiles = search (flat_moves, map-reverse)
 
--- whether all numbers of a part's run fit
-abbrev all_fit : Laying → Run → Glyphs → Bool
+-- whether all numbers of a part's sequence fit
+abbrev all_fit : Laying → TileSequence → Glyphs → Bool
 all_fit how z tiles = list_all fits_i32 (numbers_to_fit how.choice z)
     && offsets_fit how.right_to_left (start how.choice how.right_to_left z)
-    (run_moves how.font (lay_of how.choice how.right_to_left z) tiles)
+    (sequence_moves how.font (lay_of how.choice how.right_to_left z) tiles)
 
 lost_if : (b : Bool) (m : ℕ) → cond b (Some m) None ≡ None → b ≡ false
 lost_if true m e = absurd (none-some m (sym e))
@@ -164,10 +164,10 @@ counted_by how cs s n p e fits long =
     search (arith, flat_map-append, append-nil, length-append front (stretched_part how (drop s cs))) in
     search (arith, last_overflows how cs (take s cs) (drop s cs) e, length-drop s cs)
 
-has_tiles : (part tiles : List Cell) → tiles_of part ≡ tiles → 0 < length tiles → has_run part ≡ true
+has_tiles : (part tiles : List Cell) → tiles_of part ≡ tiles → 0 < length tiles → has_sequence part ≡ true
 has_tiles = search arith
 
-no_tiles : (part tiles : List Cell) → tiles_of part ≡ tiles → length tiles ≡ 0 → has_run part ≡ false
+no_tiles : (part tiles : List Cell) → tiles_of part ≡ tiles → length tiles ≡ 0 → has_sequence part ≡ false
 no_tiles part tiles e none = search
 
 -- a last part without tiles
@@ -175,13 +175,13 @@ pub counted_plain : (how : Laying) (cs : List Cell) (s w t : ℕ) → LastPartAt
     → IsCounted how cs s 0
 counted_plain how cs s w t at most =
     let part = drop s cs in
-    let without : has_run part ≡ false = search (arith, length-drop) in
+    let without : has_sequence part ≡ false = search (arith, length-drop) in
     let fits : part_overflows how part ≡ false =
     cc in
     counted_by how cs s 0 (omega arith) at.parted fits (search arith)
 
--- the run of a last part, by what the slices give of it
-run_at : (how : Laying) (cs : List Cell) (s w t : ℕ) → LastPartAt cs s w t → run_of_part how.font (drop s cs)
+-- the sequence of a last part, by what the slices give of it
+run_at : (how : Laying) (cs : List Cell) (s w t : ℕ) → LastPartAt cs s w t → sequence_of_part how.font (drop s cs)
     ≡ measured how.font (positions_of (drop w (take t cs))) (glyphs_of (drop t cs))
 run_at = search arith
 
@@ -192,18 +192,18 @@ fit_at : (how : Laying) (cs : List Cell) (s w t : ℕ) → LastPartAt cs s w t �
 fit_at = search (arith, list_all-append, laid_is, on_offsets, moved_copies, has_tiles, length-drop)
 
 pub counted_run : (how : Laying) (cs : List Cell) (s w t n : ℕ) → LastPartAt cs s w t → t < length cs
-    → run_added how.choice how.right_to_left how.font
+    → sequence_added how.choice how.right_to_left how.font
     (measured how.font (positions_of (drop w (take t cs))) (glyphs_of (drop t cs))) (glyphs_of (drop t cs)) ≡ Some n
     → IsCounted how cs s n
 counted_run how cs s w t n at less e =
     let part = drop s cs in
     let z = measured how.font (positions_of (drop w (take t cs))) (glyphs_of (drop t cs)) in
-    let many : copies_added (run_of_part how.font part) ≡ n = search arith in
+    let many : copies_added (sequence_of_part how.font part) ≡ n = search arith in
     counted_by how cs s n (omega arith) at.parted
     (search (arith, fit_at)) (omega (arith, run_length how part (search (arith, has_tiles, length-drop))))
 
 pub uncounted_run : (how : Laying) (cs : List Cell) (s w t : ℕ) → LastPartAt cs s w t → t < length cs
-    → run_added how.choice how.right_to_left how.font
+    → sequence_added how.choice how.right_to_left how.font
     (measured how.font (positions_of (drop w (take t cs))) (glyphs_of (drop t cs))) (glyphs_of (drop t cs)) ≡ None
     → overflows how cs ≡ true
 uncounted_run how cs s w t at less e =
@@ -228,9 +228,9 @@ sliced_word gs ps w t both h = sym (drop-take w (t - w) ps) ∙ ap (λ n. drop w
     (take t) (positions_zip gs ps both)))
 
 pub run_sliced : (how : Laying) (gs : Glyphs) (ps : List GlyphPosition) (w t : ℕ) → length gs ≡ length ps
-    → w ≤ t → run_added how.choice how.right_to_left how.font
+    → w ≤ t → sequence_added how.choice how.right_to_left how.font
     (measured how.font (positions_of (drop w (take t (zip gs ps)))) (glyphs_of (drop t (zip gs ps))))
-    (glyphs_of (drop t (zip gs ps))) ≡ run_added how.choice how.right_to_left how.font
+    (glyphs_of (drop t (zip gs ps))) ≡ sequence_added how.choice how.right_to_left how.font
     (measured how.font (take (t - w) (drop w ps)) (take (length gs - t) (drop t gs))) (take (length gs - t) (drop t gs))
 run_sliced = search (arith, take_all, length-drop, tiles_zipped, sliced_word)
 

@@ -11,11 +11,11 @@ use Rattle.shapers_buffer.specs.declared.buffer.glyph.GlyphPosition.{GlyphPositi
 use Rattle.shapers_buffer.specs.Glyphs.{Glyph, Glyphs}
 use Rattle.shapers_buffer.specs.Clusters.{stretch_of}
 use Rattle.shapers_buffer.proofs.ClusterLemmas.{length-stretch}
-use Rattle.shapers_stretch.specs.declared.ot_shaper_arabic_stretch.measuring.Run.{Run}
-use Rattle.shapers_stretch.specs.Cells.{Cell, before_tiles, before_word, cut_between, glyphs_of, in_word, is_tile, parts_of_text, positions_of, run_ends, tiles_of, word_of}
-use Rattle.shapers_stretch.specs.LayingWalk.{CanLayRun, HasRoomForTiles, IsLaidFrom, IsUnlaid, offsets, text_in_slices, stretched_whole}
+use Rattle.shapers_stretch.specs.declared.ot_shaper_arabic_stretch.measuring.TileSequence.{TileSequence}
+use Rattle.shapers_stretch.specs.Cells.{Cell, before_tiles, before_word, cut_between, glyphs_of, in_word, is_tile, parts_of_text, positions_of, sequence_ends, tiles_of, word_of}
+use Rattle.shapers_stretch.specs.LayingWalk.{CanLaySequence, HasRoomForTiles, IsLaidFrom, IsUnlaid, offsets, text_in_slices, stretched_whole}
 use Rattle.shapers_stretch.specs.Measure.{fits_i32, numbers_to_fit}
-use Rattle.shapers_stretch.specs.Stretch.{Laying, copies, has_run, laid_run, measured, overflows, part_overflows, run_of_part, stretched, stretched_over, stretched_part, unbroken}
+use Rattle.shapers_stretch.specs.Stretch.{Laying, copies, has_sequence, laid_sequence, measured, overflows, part_overflows, sequence_of_part, stretched, stretched_over, stretched_part, unbroken}
 use Rattle.shapers_stretch.proofs.Flagging.{unbroken_is}
 use Rattle.shapers_stretch.proofs.LastParts.{last_part_at}
 use Rattle.shapers_stretch.proofs.Lengths.{length-copies, length-laid}
@@ -42,17 +42,17 @@ flat_grows f [] h = omega arith
 flat_grows f (p ∷ ps) h = search (arith, length-append, flat_grows f ps h)
 
 -- how long a part becomes
-pub length-over : (how : Laying) (z : Run) (word tiles : List Cell) → length (stretched_over how z word tiles)
+pub length-over : (how : Laying) (z : TileSequence) (word tiles : List Cell) → length (stretched_over how z word tiles)
     ≡ length word + length (copies how.font z tiles)
 length-over =
     search (arith, length-append, length-take-le, unbroken_is, length-map, length-reverse, length-laid, flagged_length)
 
 part_grows_at : (how : Laying) (part : List Cell) (b : Bool) → length part
-    ≤ length (cond (not b) part (before_word part ++ stretched_over how (run_of_part how.font part) (word_of part)
+    ≤ length (cond (not b) part (before_word part ++ stretched_over how (sequence_of_part how.font part) (word_of part)
     (tiles_of part)))
 part_grows_at how part false = omega arith
 part_grows_at how part true =
-    let z = run_of_part how.font part in
+    let z = sequence_of_part how.font part in
     let outer : length part ≡ length (before_tiles part) + length (tiles_of part) =
     cc (take-append-drop _ part, length-append (before_tiles part) (tiles_of part)) in
     let inner : length (before_tiles part) ≡ length (before_word part) + length (word_of part) =
@@ -67,8 +67,8 @@ part_grows_at how part true =
 pub stretched_longer : (how : Laying) (cs : List Cell) → length cs ≤ length (stretched how cs)
 stretched_longer how cs = search (
   arith,
-  cut_joined run_ends cs,
-  flat_grows (stretched_part how) (parts_of_text cs) (λ part. part_grows_at how part (has_run part)),
+  cut_joined sequence_ends cs,
+  flat_grows (stretched_part how) (parts_of_text cs) (λ part. part_grows_at how part (has_sequence part)),
 )
 
 -- the parts before the last one, and it
@@ -95,7 +95,7 @@ pub record PartOf (how : Laying) (gs : Glyphs) (ps : List GlyphPosition) (s w t 
   pub fits : t < end →
       let z = measured how.font (positions_of (stretch_of w t (zip gs ps)))
       (glyphs_of (stretch_of t end (zip gs ps))) in
-      list_all fits_i32 (numbers_to_fit how.choice z ++ offsets (laid_run how z (stretch_of t end (zip gs ps)))) ≡ true
+      list_all fits_i32 (numbers_to_fit how.choice z ++ offsets (laid_sequence how z (stretch_of t end (zip gs ps)))) ≡ true
 
 same_takes : {X Y : Type 0} (n : ℕ) (xs : List X) (ys : List Y) → length xs ≡ length ys
     → length (take n xs) ≡ length (take n ys)
@@ -141,11 +141,11 @@ part_unlaid how gs ps s w t end place some u e f h =
     ∙ ap (λ x. stretched how x ++ stretched_part how (drop s cs)) front in
     let none = or_parts _ _ (sym (ap (list_any (part_overflows how)) l.parted
     ∙ list_any-append (part_overflows how) (parts_of_text (take s cs)) (drop s cs ∷ [])) ∙ u.fits) in
-    let has : t < end → has_run (drop s cs) ≡ true = λ p. ap (nat_lt 0) count
+    let has : t < end → has_sequence (drop s cs) ≡ true = λ p. ap (nat_lt 0) count
     ∙ sym (lt-true 0 (end - t) (omega arith)) in
-    let hasnt : t ≡ end → has_run (drop s cs) ≡ false = λ p. let zero : end - t ≡ 0 =
+    let hasnt : t ≡ end → has_sequence (drop s cs) ≡ false = λ p. let zero : end - t ≡ 0 =
     omega arith in ap (nat_lt 0) (count ∙ zero) in
-    let Z : List Cell → List Cell → Run = λ x y. measured how.font (positions_of x) (glyphs_of y) in
+    let Z : List Cell → List Cell → TileSequence = λ x y. measured how.font (positions_of x) (glyphs_of y) in
     record {
       less = omega arith;
       before_fits = l.before_fits;
@@ -158,25 +158,25 @@ part_unlaid how gs ps s w t end place some u e f h =
         length-take-le s cells (omega arith),
       );
       still = λ p. split ∙ ap (λ x. stretched how (take s cells) ++ x) (ap (λ b. cond (not b) (drop s cs)
-          (before_word (drop s cs) ++ stretched_over how (run_of_part how.font (drop s cs)) (word_of (drop s cs))
+          (before_word (drop s cs) ++ stretched_over how (sequence_of_part how.font (drop s cs)) (word_of (drop s cs))
           (tiles_of (drop s cs)))) (hasnt p) ∙ dropped_taken s end cells s_end);
       changed = λ p. split ∙ ap (λ x. stretched how (take s cells) ++ x)
-          (ap (λ b. cond (not b) (drop s cs) (before_word (drop s cs) ++ stretched_over how (run_of_part how.font (drop s
+          (ap (λ b. cond (not b) (drop s cs) (before_word (drop s cs) ++ stretched_over how (sequence_of_part how.font (drop s
           cs)) (word_of (drop s cs)) (tiles_of (drop s cs)))) (has p) ∙ ap (λ x. x ++ stretched_over how (Z (word_of
           (drop s cs)) (tiles_of (drop s cs))) (word_of (drop s cs)) (tiles_of (drop s cs))) before ∙ ap (λ x. stretch_of
           s w cells ++ stretched_over how (Z x (tiles_of (drop s cs))) x (tiles_of (drop s cs))) word ∙ ap (λ x.
           stretch_of s w cells ++ stretched_over how (Z (stretch_of w t cells) x) (stretch_of w t cells) x) tiles);
       fits = λ p. sym
-          (ap (λ x. list_all fits_i32 (numbers_to_fit how.choice (Z x (tiles_of (drop s cs))) ++ offsets (laid_run how (Z
+          (ap (λ x. list_all fits_i32 (numbers_to_fit how.choice (Z x (tiles_of (drop s cs))) ++ offsets (laid_sequence how (Z
           x (tiles_of (drop s cs))) (tiles_of (drop s cs))))) word ∙ ap (λ x. list_all fits_i32 (numbers_to_fit
-          how.choice (Z (stretch_of w t cells) x) ++ offsets (laid_run how (Z (stretch_of w t cells) x) x))) tiles)
-          ∙ not_false (has_run (drop s cs)) _ (has p) (or_parts _ _ none.1).0;
+          how.choice (Z (stretch_of w t cells) x) ++ offsets (laid_sequence how (Z (stretch_of w t cells) x) x))) tiles)
+          ∙ not_false (has_sequence (drop s cs)) _ (has p) (or_parts _ _ none.1).0;
     }
 
--- so its run can be laid
+-- so its sequence can be laid
 pub part_can : (how : Laying) (gs : Glyphs) (ps : List GlyphPosition) (s w t end place : ℕ) → t < end
     → IsUnlaid how gs ps end place → PartOf how gs ps s w t end place
-    → CanLayRun how (stretch_of w t (zip gs ps)) (stretch_of t end (zip gs ps)) t end place gs ps
+    → CanLaySequence how (stretch_of w t (zip gs ps)) (stretch_of t end (zip gs ps)) t end place gs ps
 part_can how gs ps s w t end place some u l =
     search (arith, length-append, length-stretch, length-zipped, length-over)
 
@@ -198,7 +198,7 @@ left_over how gs us ps vs s w t end place q became u l same both split count kep
     let front = stretched how (take s cells) in
     search (arith, length-append front became, text_glyphs s us vs both, text_glyphs s gs ps u.both, all_less (λ g. g.glyph_id ≤ 65535) s end gs (omega arith) u.glyph_numbers, append_assoc front became (drop place cells))
 
--- a part without a run moves up
+-- a part without a sequence moves up
 pub part_moved : (how : Laying) (gs us : Glyphs) (ps vs : List GlyphPosition) (s w t end place : ℕ) → t ≡ end
     → IsUnlaid how gs ps end place → PartOf how gs ps s w t end place → length us ≡ length gs → length us ≡ length vs
     → let q = place - (t - s) in take q (zip us vs) ≡ take q (zip gs ps)
@@ -214,7 +214,7 @@ part_moved how gs us ps vs s w t end place none u l same both kept up =
     left_over how gs us ps vs s w t end place q became u l same both (l.still none)
     (omega arith) (cc (take-take s q (zip us vs) below, take-take s q cells below)) (cc)
 
--- a part with a run: it is laid, and what stands before it moves up
+-- a part with a sequence: it is laid, and what stands before it moves up
 pub part_laid : (how : Laying) (gs hs us : Glyphs) (ps qs vs : List GlyphPosition) (s w t end place p : ℕ)
     → t < end → IsUnlaid how gs ps end place → PartOf how gs ps s w t end place → length hs ≡ length gs
     → length us ≡ length hs → length us ≡ length vs →
@@ -223,7 +223,7 @@ pub part_laid : (how : Laying) (gs hs us : Glyphs) (ps qs vs : List GlyphPositio
     let tiles = stretch_of t end (zip gs ps) in
     let z = measured how.font (positions_of word) (glyphs_of tiles) in
     take t (zip hs qs) ≡ take w (zip gs ps) ++ take (length word) (unbroken (word ++ tiles)) →
-    drop p (zip hs qs) ≡ reverse (laid_run how z (drop (length word) (unbroken (word ++ tiles))))
+    drop p (zip hs qs) ≡ reverse (laid_sequence how z (drop (length word) (unbroken (word ++ tiles))))
     ++ drop place (zip gs ps) → p + length (copies how.font z tiles) ≡ place →
     take q (zip us vs) ≡ take q (zip hs qs) → drop q (zip us vs) ≡ stretch_of s t (zip hs qs) ++ drop p (zip hs qs)
     → IsLaidFrom how (stretched_whole how gs ps end place) us vs s q

@@ -34,7 +34,7 @@ pub no_move : (right_to_left : Bool) (from : ℤ) → pen_behind right_to_left f
 no_move true = omega (arith, ints)
 no_move false = omega (arith, ints)
 
--- so the laid list of a run is laid from its start on
+-- so the laid list of a sequence is laid from its start on
 pub laid_is : (right_to_left : Bool) (from : ℤ) (cs : List Copy)
     → laid right_to_left from cs ≡ laid_on right_to_left from cs
 laid_is = search (arith, laid_after, no_move)

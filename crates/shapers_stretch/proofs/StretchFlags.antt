@@ -14,10 +14,10 @@ use Rattle.shapers_base.specs.declared.plan.arabic.StretchStart.{StretchStart}
 use Rattle.shapers_base.specs.Font.{Font}
 use Rattle.shapers_clusters.specs.FlagLaw.{FlagsAdded}
 use Rattle.shapers_clusters.proofs.FlagCalls.{keeps-with_bits}
-use Rattle.shapers_stretch.specs.declared.ot_shaper_arabic_stretch.measuring.Run.{Run}
+use Rattle.shapers_stretch.specs.declared.ot_shaper_arabic_stretch.measuring.TileSequence.{TileSequence}
 use Rattle.shapers_stretch.specs.Cells.{Cell, before_tiles, before_word, cut_between, glyphs_of, parts_of_text, positions_of, tiles_of, word_of}
 use Rattle.shapers_stretch.specs.Measure.{times_added, overlap, start}
-use Rattle.shapers_stretch.specs.Stretch.{Copy, Laying, cells, cells_in_order, copies, copies_of, has_run, in_working_order, laid, laid_at, laid_run, laying, marks_stretched, offset, run_of_part, runs_leftward, stretched, stretched_cells, stretched_over, stretched_part, unbroken, width_of}
+use Rattle.shapers_stretch.specs.Stretch.{Copy, Laying, cells, cells_in_order, copies, copies_of, has_sequence, in_working_order, laid, laid_at, laid_sequence, laying, marks_stretched, offset, sequence_of_part, goes_leftward, stretched, stretched_cells, stretched_over, stretched_part, unbroken, width_of}
 use Rattle.shapers_stretch.specs.StretchLaws.{AreCopies, IsLaidOver}
 use Rattle.shapers_stretch.proofs.LaidText.{stretch_is_as_wide}
 
@@ -73,7 +73,7 @@ every_unbroken : (Q : Glyph → Type 0) → Stays Q → (cs : List Cell) → Eve
 every_unbroken Q = search every_off
 
 -- copies of tiles
-every_copy_of : (Q : Glyph → Type 0) (font : Font) (z : Run) (c : Cell) → Q c.0
+every_copy_of : (Q : Glyph → Type 0) (font : Font) (z : TileSequence) (c : Cell) → Q c.0
     → AllByRecursion (λ (copy : Copy). Q copy.tile.0) (copies_of font z c)
 every_copy_of Q font z c is =
     let P : Copy → Type 0 = λ copy. Q copy.tile.0 in
@@ -86,15 +86,15 @@ every_laid Q right_to_left from cs all =
     (λ p. laid_at (offset right_to_left from p.0 p.1) p.1.tile) (each_after [] cs) (λ p is. is)
     (search (arith, every_after))
 
-every_laid_run : (Q : Glyph → Type 0) (how : Laying) (z : Run) (tiles : List Cell) → Every Q tiles
-    → Every Q (laid_run how z tiles)
+every_laid_run : (Q : Glyph → Type 0) (how : Laying) (z : TileSequence) (tiles : List Cell) → Every Q tiles
+    → Every Q (laid_sequence how z tiles)
 every_laid_run Q how z tiles all =
     every_laid Q how.right_to_left (start how.choice how.right_to_left z) (copies how.font z tiles)
     (all-flat_map (λ (c : Cell). Q c.0) (λ (copy : Copy). Q copy.tile.0) (copies_of how.font z)
     (λ c is. every_copy_of Q how.font z c is) (reverse tiles) (search every_reverse))
 
 -- a part, and a text
-every_over : (Q : Glyph → Type 0) → Stays Q → (how : Laying) (z : Run) (word tiles : List Cell) → Every Q word
+every_over : (Q : Glyph → Type 0) → Stays Q → (how : Laying) (z : TileSequence) (word tiles : List Cell) → Every Q word
     → Every Q tiles → Every Q (stretched_over how z word tiles)
 every_over Q stays how z word tiles first second =
     let all = every_unbroken Q stays (word ++ tiles) (search all-append) in
@@ -107,7 +107,7 @@ every_stretched Q stays how cs all =
     let P : Cell → Type 0 = λ c. Q c.0 in
     let before = before_tiles part in
     let front = every_take P _ part is in
-    let z = run_of_part how.font part in elim (not (has_run part)) as (λ b. Every Q (cond b part (before_word part ++
+    let z = sequence_of_part how.font part in elim (not (has_sequence part)) as (λ b. Every Q (cond b part (before_word part ++
     stretched_over how z (word_of part) (tiles_of part)))) [
       | true ↦ is
       | false ↦ all-append P (before_word part)
@@ -131,7 +131,7 @@ every_marked Q stays font choice b all =
     let how = laying font choice b in
     let each : Every Q (stretched_cells font choice b) = every_in_order Q how.right_to_left
     (stretched how (cells_in_order b)) (every_stretched Q
-    stays how (cells_in_order b) (every_in_order Q (runs_leftward b.direction) (cells b) (every_zip Q b.glyphs
+    stays how (cells_in_order b) (every_in_order Q (goes_leftward b.direction) (cells b) (every_zip Q b.glyphs
     b.positions all))) in
     search (arith, all-mapped (λ (c : Cell). Q c.0) Q (λ c. c.0) (stretched_cells font choice b) (λ c is. is) each)
 

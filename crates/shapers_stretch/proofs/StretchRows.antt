@@ -140,7 +140,7 @@ two_repeat : after AsCode (text LeftToRight (second_tile ∷ repeating_tile ∷ 
 unfolding general_category
 two_repeat = refl
 
--- word and run have no break, their clusters 0, 1 and 2; what stands before the word and behind the run is left alone
+-- word and sequence have no break, their clusters 0, 1 and 2; what stands before the word and behind the sequence is left alone
 flagged_word : after AsCode
     (text RightToLeft (cell 5 0 Zs 7 (pos 55) ∷ letter 0 (pos 200) ∷ letter 1 (pos 200) ∷ cell 3 2 Lo 9 (pos 200)
     ∷ cell 5 3 Zs 7 (pos 55) ∷ [])) ≡ cell 5 0 Zs 7 (pos 55) ∷ letter 0 (pos 200) ∷ flags 19 (letter 1 (pos 200))
@@ -167,7 +167,7 @@ two_clusters_backwards : after AsCode
 unfolding general_category
 two_clusters_backwards = refl
 
--- two runs, each with its own word; a run directly behind another has no word
+-- two sequences, each with its own word; a sequence directly behind another has no word
 two_runs : after AsCode
     (text RightToLeft (letter 0 (pos 300) ∷ repeating_tile ∷ letter 0 (pos 200) ∷ repeating_tile ∷ []))
     ≡ letter 0 (pos 300) ∷ at (negsuc 299) repeating_tile ∷ at (negsuc 199) repeating_tile ∷ letter 0 (pos 200)
@@ -175,13 +175,13 @@ two_runs : after AsCode
 unfolding general_category
 two_runs = refl
 
--- a run without a word
+-- a sequence without a word
 no_word : after AsCode (text RightToLeft (letter 0 (pos 300) ∷ space ∷ repeating_tile ∷ [])) ≡ letter 0 (pos 300)
     ∷ space ∷ at (negsuc 199) repeating_tile ∷ []
 unfolding general_category
 no_word = refl
 
--- no run, and no mark "has stch"
+-- no sequence, and no mark "has stch"
 no_run : after AsCode (text LeftToRight (letter 0 (pos 300) ∷ letter 1 (pos 300) ∷ [])) ≡ letter 0 (pos 300)
     ∷ letter 1 (pos 300) ∷ []
 no_run = refl
@@ -192,7 +192,7 @@ unmarked = record (text RightToLeft (letter 0 (pos 1000) ∷ fixed_tile ∷ repe
 not_marked : marks_stretched (font widths) AsCode unmarked ≡ unmarked
 not_marked = refl
 
--- the parts of a text: cut behind each run
+-- the parts of a text: cut behind each sequence
 text_parts : parts_of_text (letter 0 (pos 1) ∷ fixed_tile ∷ repeating_tile ∷ space ∷ letter 0 (pos 2) ∷ fixed_tile
     ∷ letter 0 (pos 3) ∷ []) ≡ (letter 0 (pos 1) ∷ fixed_tile ∷ repeating_tile ∷ [])
     ∷ (space ∷ letter 0 (pos 2) ∷ fixed_tile ∷ []) ∷ (letter 0 (pos 3) ∷ []) ∷ []
@@ -201,7 +201,7 @@ text_parts = refl
 tiles_first : parts_of_text (fixed_tile ∷ letter 0 (pos 1) ∷ []) ≡ (fixed_tile ∷ []) ∷ (letter 0 (pos 1) ∷ []) ∷ []
 tiles_first = refl
 
--- a part: its run, its word, what stands before
+-- a part: its sequence, its word, what stands before
 abbrev part : List Cell
 part = letter 0 (pos 1) ∷ space ∷ letter 0 (pos 2) ∷ letter 0 (pos 3) ∷ fixed_tile ∷ repeating_tile ∷ []
 
@@ -272,7 +272,7 @@ two_before_two : map (λ d. stretch_refusal (font (λ n. if n == 2 then pos 1500
     (RightToLeft ∷ LeftToRight ∷ []) ≡ Some StretchOverflow ∷ Some StretchOverflow ∷ []
 two_before_two = refl
 
--- of several runs one that overflows is enough, be it the first or the last
+-- of several sequences one that overflows is enough, be it the first or the last
 abbrev wide_run : List Cell
 wide_run = letter 0 (pos 2147483647) ∷ letter 1 (pos 2147483647) ∷ fixed_tile ∷ []
 
@@ -285,7 +285,7 @@ one_of_several : map (refusal AsCode RightToLeft) ((narrow_run ++ wide_run) ∷ 
 unfolding general_category
 one_of_several = refl
 
--- a word that isn't before a run is never summed
+-- a word that isn't before a sequence is never summed
 no_run_to_measure : refusal AsCode RightToLeft (letter 0 (pos 2147483647) ∷ letter 1 (pos 2147483647) ∷ []) ≡ None
 no_run_to_measure = refl
 

@@ -1,4 +1,4 @@
--- The walk over the tiles of a run, from its last to its first.
+-- The walk over the tiles of a sequence, from its last to its first.
 use Rattle.std.proofs.Common.{◌≡◌, ◌≤◌, ◌<◌, ◌+◌, ◌-◌, ℕ, zero, suc, Bool, List, [], ◌∷◌, ◌++◌, length, take, drop, get_or, reverse, flat_map, refl, arith, subst}
 use Rattle.std.specs.List.{zip, AllByRecursion}
 use Rattle.std.proofs.lemmas.List.{append-nil, length-append, length-drop, length-take-le, take_more, reverse-append}
@@ -10,9 +10,9 @@ use Rattle.shapers_buffer.specs.Clusters.{stretch_of}
 use Rattle.shapers_base.specs.Font.{Font}
 use Rattle.shapers_stretch.specs.declared.ot_shaper_arabic_stretch.tiles.Pen.{Pen}
 use Rattle.shapers_stretch.specs.declared.ot_shaper_arabic_stretch.measuring.Lay.{Lay}
-use Rattle.shapers_stretch.specs.declared.ot_shaper_arabic_stretch.measuring.Run.{Run}
+use Rattle.shapers_stretch.specs.declared.ot_shaper_arabic_stretch.measuring.TileSequence.{TileSequence}
 use Rattle.shapers_stretch.specs.Cells.{Cell}
-use Rattle.shapers_stretch.specs.LayingWalk.{CanLay, Lays, copies_by, run_copies}
+use Rattle.shapers_stretch.specs.LayingWalk.{CanLay, Lays, copies_by, sequence_copies}
 use Rattle.shapers_stretch.specs.Stretch.{Copy, copies, copies_of}
 use Rattle.shapers_stretch.proofs.LaidCopies.{can_first, can_rest, lays_then}
 use Rattle.shapers_stretch.proofs.Zips.{length-zipped}
@@ -24,9 +24,9 @@ pub record TilesLeft (right_to_left : Bool) (font : Font) (lay : Lay) (first end
   pub to : i ≤ end
   pub both : length gs ≡ length ps
   pub same : length gs ≡ length old
-  pub can : CanLay right_to_left (run_copies font lay (stretch_of first i old)) pen gs ps
-  pub lays : Lays right_to_left (run_copies font lay (stretch_of i end old)) start pen old (zip gs ps)
-  pub room : first + length (run_copies font lay (stretch_of first i old)) ≤ pen.place
+  pub can : CanLay right_to_left (sequence_copies font lay (stretch_of first i old)) pen gs ps
+  pub lays : Lays right_to_left (sequence_copies font lay (stretch_of i end old)) start pen old (zip gs ps)
+  pub room : first + length (sequence_copies font lay (stretch_of first i old)) ≤ pen.place
   pub within : end ≤ length old
 
 reverse_cons : {X : Type 0} (x : X) (xs : List X) → reverse (x ∷ xs) ≡ reverse xs ++ x ∷ []
@@ -36,7 +36,7 @@ pushed : (f : Cell → List Copy) (c : Cell) (cs : List Cell) → flat_map f (re
     ++ f c
 pushed = search (reverse_cons, flat_map-append, append-nil)
 
-pub copies-push : (font : Font) (z : Run) (c : Cell) (cs : List Cell)
+pub copies-push : (font : Font) (z : TileSequence) (c : Cell) (cs : List Cell)
     → copies font z (c ∷ cs) ≡ copies font z cs ++ copies_of font z c
 copies-push = search pushed
 
@@ -81,15 +81,15 @@ number_at P (suc end) (g ∷ gs) zero d all h w = all.0
 number_at P (suc end) (g ∷ gs) (suc i) d all h w = number_at P end gs i d all.1 (omega arith) (omega arith)
 number_at P _ _ i d all h w = absurd (omega arith)
 
-copies_many : (font : Font) (lay : Lay) (cs : List Cell) → length cs ≤ length (run_copies font lay cs)
+copies_many : (font : Font) (lay : Lay) (cs : List Cell) → length cs ≤ length (sequence_copies font lay cs)
 copies_many font lay [] = omega arith
 copies_many font lay (c ∷ cs) = search (arith, pushed, length-append, copies_many font lay cs)
 
 -- the start: all tiles are left
 pub tiles_start : (right_to_left : Bool) (font : Font) (lay : Lay) (first end : ℕ) (pen : Pen)
     (gs : Glyphs) (ps : List GlyphPosition) → first ≤ end → end ≤ length gs → length gs ≡ length ps
-    → CanLay right_to_left (run_copies font lay (stretch_of first end (zip gs ps))) pen gs ps
-    → first + length (run_copies font lay (stretch_of first end (zip gs ps))) ≤ pen.place
+    → CanLay right_to_left (sequence_copies font lay (stretch_of first end (zip gs ps))) pen gs ps
+    → first + length (sequence_copies font lay (stretch_of first end (zip gs ps))) ≤ pen.place
     → TilesLeft right_to_left font lay first end end pen pen (zip gs ps) gs ps
 tiles_start = search (arith, length-zipped)
 
@@ -99,15 +99,15 @@ pub tile_left : (right_to_left : Bool) (font : Font) (lay : Lay) (first end i : 
     → TilesLeft right_to_left font lay first end i start pen old gs ps → (get_or gs (i - 1) g, get_or ps (i - 1) q)
     ≡ get_or old (i - 1) (g, q)
 tile_left right_to_left font lay first end i start pen old gs ps g q p t =
-    let many : i - first ≤ length (run_copies font lay (stretch_of first i old)) =
+    let many : i - first ≤ length (sequence_copies font lay (stretch_of first i old)) =
     search (arith, copies_many, length-take-le, length-drop) in
     search (arith, get_or-zip, get_taken)
 
 tile_cell : (right_to_left : Bool) (font : Font) (lay : Lay) (first end i : ℕ) (start pen : Pen) (old : List Cell)
     (gs : Glyphs) (ps : List GlyphPosition) (g : Glyph) (q : GlyphPosition) → first < i
-    → TilesLeft right_to_left font lay first end i start pen old gs ps → run_copies font lay (stretch_of first i old)
+    → TilesLeft right_to_left font lay first end i start pen old gs ps → sequence_copies font lay (stretch_of first i old)
     ≡ copies_by font lay (get_or gs (i - 1) g, get_or ps (i - 1) q)
-    ++ run_copies font lay (stretch_of first (i - 1) old)
+    ++ sequence_copies font lay (stretch_of first (i - 1) old)
 tile_cell right_to_left font lay first end i start pen old gs ps g q p t = search (
   arith,
   stretch_last first i old (g, q) p (omega arith),
@@ -120,7 +120,7 @@ pub tile_can : (right_to_left : Bool) (font : Font) (lay : Lay) (first end i : �
     → TilesLeft right_to_left font lay first end i start pen old gs ps
     → CanLay right_to_left (copies_by font lay (get_or gs (i - 1) g, get_or ps (i - 1) q)) pen gs ps
 tile_can right_to_left font lay first end i start pen old gs ps g q p t =
-    can_first right_to_left _ (run_copies font lay (stretch_of first (i - 1) old)) pen gs ps
+    can_first right_to_left _ (sequence_copies font lay (stretch_of first (i - 1) old)) pen gs ps
     (search (arith, tile_cell))
 
 -- it is laid
@@ -131,7 +131,7 @@ pub tile_next : (right_to_left : Bool) (font : Font) (lay : Lay) (first end i : 
     (zip hs qs) → length hs ≡ length gs → length hs ≡ length qs
     → TilesLeft right_to_left font lay first end (i - 1) start after old hs qs
 tile_next right_to_left font lay first end i start pen after old gs hs ps qs g q p t laid same both =
-    let left = run_copies font lay (stretch_of first (i - 1) old) in
+    let left = sequence_copies font lay (stretch_of first (i - 1) old) in
     search (
       arith,
       can_rest right_to_left (copies_by font lay (get_or gs (i - 1) g, get_or ps (i - 1) q)) left pen after gs hs ps
@@ -141,7 +141,7 @@ tile_next right_to_left font lay first end i start pen after old gs hs ps qs g q
       stretch_first i end old (g, q) (omega arith) t.to t.within,
       pushed (copies_by font lay) (get_or old (i - 1) (g, q)) (stretch_of i end old),
       tile_left right_to_left font lay first end i start pen old gs ps g q p t,
-      lays_then right_to_left (run_copies font lay (stretch_of i end old))
+      lays_then right_to_left (sequence_copies font lay (stretch_of i end old))
           (copies_by font lay (get_or gs (i - 1) g, get_or ps (i - 1) q)) start pen after old (zip gs ps) (zip hs qs)
           t.lays laid,
       tile_cell right_to_left font lay first end i start pen old gs ps g q p t,

@@ -1,4 +1,4 @@
--- The law of widths, computed: what is laid for a run, how far each copy moves the pen, and where it stands.
+-- The law of widths, computed: what is laid for a sequence, how far each copy moves the pen, and where it stands.
 use Rattle.std.proofs.Common.{◌≡◌, ◌==◌, ℕ, ℤ, pos, negsuc, Bool, true, false, List, [], ◌∷◌, map, refl, arith, if◌then◌else◌}
 use Rattle.std.proofs.lemmas.Int.{ints}
 use Rattle.shapers_buffer.specs.declared.buffer.level.Direction.TheVariants.{LeftToRight, RightToLeft}
@@ -8,7 +8,7 @@ use Rattle.shapers_base.specs.declared.plan.arabic.StretchStart.{StretchStart}
 use Rattle.shapers_base.specs.declared.plan.arabic.StretchStart.TheVariants.{AsCode, Centred}
 use Rattle.shapers_stretch.specs.Cells.{Cell}
 use Rattle.shapers_stretch.specs.Measure.{copies_added, laid_width}
-use Rattle.shapers_stretch.specs.Stretch.{Laying, copies_in, moves, run_of_part}
+use Rattle.shapers_stretch.specs.Stretch.{Laying, copies_in, moves, sequence_of_part}
 use Rattle.shapers_stretch.specs.StretchLaws.{TilesFit, laid_copies, offsets_in}
 use Rattle.shapers_stretch.proofs.StretchRows.{fixed_tile, font, letter, repeating_tile, second_tile, space, text, widths}
 
@@ -25,7 +25,7 @@ pub record Row : Type 0 where
 abbrev row : (ℕ → ℤ) → StretchStart → Bool → List Cell → Row
 row widths choice right_to_left part =
     let how : Laying = record { font = font widths; choice = choice; right_to_left = right_to_left } in
-    let z = run_of_part how.font part in
+    let z = sequence_of_part how.font part in
     record {
       laid = map (λ copy. copy.tile.0.glyph_id) (laid_copies how part);
       moves = map (λ copy. copy.move) (laid_copies how part);
@@ -64,7 +64,7 @@ seven_rightward : row widths Centred false seven ≡ record {
 unfolding general_category
 seven_rightward = refl
 
-seven_fit : TilesFit (run_of_part (font widths) seven)
+seven_fit : TilesFit (sequence_of_part (font widths) seven)
 unfolding general_category
 seven_fit = search (arith, ints)
 
@@ -112,7 +112,7 @@ two_tiles : row widths AsCode true (letter 0 (pos 400) ∷ second_tile ∷ repea
 unfolding general_category
 two_tiles = refl
 
--- a run without a word: its tiles don't fit, and are laid once
+-- a sequence without a word: its tiles don't fit, and are laid once
 abbrev without_word : List Cell
 without_word = letter 0 (pos 300) ∷ space ∷ repeating_tile ∷ []
 
@@ -177,7 +177,7 @@ no_width : row (λ n. pos 0) AsCode false (letter 0 (pos 50) ∷ repeating_tile 
 unfolding general_category
 no_width = refl
 
--- how many copies a text adds: none without the mark, the sum of its runs, found in working order
+-- how many copies a text adds: none without the mark, the sum of its sequences, found in working order
 many : map (copies_in (font widths))
     (text RightToLeft seven ∷ (let b : Buffer = record (text RightToLeft seven) { stch = false } in b)
     ∷ text LeftToRight seven ∷ text LeftToRight (repeating_tile ∷ fixed_tile ∷ letter 0 (pos 1000) ∷ [])

@@ -2,7 +2,7 @@
 use Rattle.std.proofs.Common.{◌≡◌, ℕ, zero, suc, ◌+◌, ◌-◌, ◌*◌, ◌/◌, ◌%◌, ◌<◌, ◌≤◌, ℤ, pos, ◌+ℤ◌, ◌-ℤ◌, ◌*ℤ◌, ◌≤ℤ◌, ◌<ℤ◌, nat_abs, int_lt, int_div, Bool, true, false, cond, ◌&&◌, nat_lt, ◌⊎◌, inl, inr, subst, refl, sym, ◌∙◌, ap, arith, mul-pos}
 use Rattle.std.proofs.lemmas.Int.{ints}
 use borrow.Author.Tests.{ltb-true, ltb-false}
-use Rattle.shapers_stretch.specs.declared.ot_shaper_arabic_stretch.measuring.Run.{Run}
+use Rattle.shapers_stretch.specs.declared.ot_shaper_arabic_stretch.measuring.TileSequence.{TileSequence}
 use Rattle.shapers_stretch.specs.Measure.{fit, left, falls_short}
 use Rattle.shapers_stretch.specs.StretchLaws.{TilesFit, CoversTheWord}
 use lib.IntN.{pos-*ℤ-pos, *ℤ-zero}
@@ -31,7 +31,7 @@ fit_bounds (pos (suc R)) (pos M) p h =
     search (arith, ints)
 fit_bounds _ _ p h = search
 
--- a run whose added copies reach too far by a number E above 0
+-- a sequence whose added copies reach too far by a number E above 0
 abbrev overlap_if : Bool → ℤ → ℕ → ℤ
 overlap_if b ex n = cond (b && int_lt (pos 0) ex) (int_div ex (pos n)) (pos 0)
 
@@ -41,10 +41,10 @@ Covers word w n = (word ≤ℤ w) × ((w ≡ word) ⊎ (w <ℤ (word +ℤ pos n)
 over_is : (E N : ℕ) → overlap_if true (pos (suc E)) N ≡ pos (suc E / N)
 over_is E N = search arith
 
-squeezed : (f left ex reach : ℤ) (E N : ℕ) → 0 < N → ex ≡ pos (suc E) → reach ≡ left +ℤ ex
-    → Covers (left +ℤ f) ((f +ℤ reach) -ℤ pos N *ℤ overlap_if true ex N) N
-squeezed f left ex reach E N p e h =
-    let P : ℤ → Type 0 = λ x. reach ≡ left +ℤ x → Covers (left +ℤ f) ((f +ℤ reach) -ℤ pos N *ℤ overlap_if true x N) N in
+squeezed : (f left ex tiles_reach : ℤ) (E N : ℕ) → 0 < N → ex ≡ pos (suc E) → tiles_reach ≡ left +ℤ ex
+    → Covers (left +ℤ f) ((f +ℤ tiles_reach) -ℤ pos N *ℤ overlap_if true ex N) N
+squeezed f left ex tiles_reach E N p e h =
+    let P : ℤ → Type 0 = λ x. tiles_reach ≡ left +ℤ x → Covers (left +ℤ f) ((f +ℤ tiles_reach) -ℤ pos N *ℤ overlap_if true x N) N in
     let at : P (pos (suc E)) = λ h.
     let product : pos N *ℤ overlap_if true (pos (suc E)) N ≡ pos (N * (suc E / N)) = ap (λ o. pos N *ℤ o) (over_is E N)
     ∙ pos-*ℤ-pos _ _ in
@@ -79,7 +79,7 @@ short_most : (rest : ℤ) (k : ℕ) {P : Type 0} → 0 < k → (int_lt (pos 0) r
     → P
 short_most rest k some e then = then (grind arith)
 
-pub covers : (z : Run) → 0 < z.repeaters → TilesFit z → CoversTheWord z
+pub covers : (z : TileSequence) → 0 < z.repeaters → TilesFit z → CoversTheWord z
 covers z some fits =
     let bounds = fit_bounds z.repeating (left z) fits.0 fits.1 in
     let q = fit z.repeating (left z) in

@@ -1,12 +1,12 @@
--- A text in parts: each ends with a longest run of tiles, before which stands its word. A cell is a
--- glyph with its position.
+-- A text in parts: each ends with a longest sequence of tiles, before which stands its word. A cell
+-- is a glyph with its position.
 use Rattle.std.specs.Prelude.{◌==◌, Bool, false, not, ◌&&◌, ◌||◌, List, [], ◌∷◌, map, if◌then◌else◌}
 use Rattle.std.specs.List.{onto_first}
 use Rattle.shapers_buffer.specs.declared.buffer.category.hb_unicode_general_category_t.{hb_unicode_general_category_t}
 use Rattle.shapers_buffer.specs.declared.buffer.category.hb_unicode_general_category_t.TheVariants.{Cn, Co, Lm, Lo, Mc, Me, Mn, Nd, Nl, No, Sc, Sk, Sm, So}
 use Rattle.shapers_buffer.specs.declared.buffer.glyph.GlyphPosition.{GlyphPosition}
 use Rattle.shapers_buffer.specs.Glyphs.{Glyph, Glyphs}
-use Rattle.shapers_buffer.specs.Lists.{last_run, before_last_run}
+use Rattle.shapers_buffer.specs.Lists.{last_stretch, before_last_stretch}
 use Rattle.shapers_buffer.specs.Properties.{general_category, is_ignorable, is_substituted}
 use Rattle.shapers_arabic.specs.declared.ot_shaper_arabic.arabic_action_t.TheConstants.{STRETCHING_FIXED, STRETCHING_REPEATING}
 use Rattle.std.specs.Prelude.{true}
@@ -47,7 +47,8 @@ is_word_category Sm = true
 is_word_category So = true
 is_word_category _ = false
 
--- whether a glyph can be of the word before a run: no tile, undrawn by nature or of such a category
+-- whether a glyph can be of the word before a sequence: no tile, undrawn by nature or of such a
+-- category
 abbrev pub in_word : Glyph → Bool
 in_word g = not (is_tile g)
     && (is_ignorable g.unicode_props && not (is_substituted g.glyph_props)
@@ -64,23 +65,23 @@ cut_between apart (x ∷ xs) =
     if cut_here apart x xs then (x ∷ []) ∷ cut_between apart xs
     else onto_first x (cut_between apart xs)
 
--- whether a run of tiles ends between two cells
-abbrev pub run_ends : Cell → Cell → Bool
-run_ends a b = is_tile a.0 && not (is_tile b.0)
+-- whether a sequence of tiles ends between two cells
+abbrev pub sequence_ends : Cell → Cell → Bool
+sequence_ends a b = is_tile a.0 && not (is_tile b.0)
 
--- the parts of a text: cut behind each longest run of tiles
+-- the parts of a text: cut behind each longest sequence of tiles
 abbrev pub parts_of_text : List Cell → List (List Cell)
-parts_of_text cs = cut_between run_ends cs
+parts_of_text cs = cut_between sequence_ends cs
 
 -- the tiles at the end of a part, the word directly before them, and what stands before that
 abbrev pub tiles_of : List Cell → List Cell
-tiles_of part = last_run (λ c. is_tile c.0) part
+tiles_of part = last_stretch (λ c. is_tile c.0) part
 
 abbrev pub before_tiles : List Cell → List Cell
-before_tiles part = before_last_run (λ c. is_tile c.0) part
+before_tiles part = before_last_stretch (λ c. is_tile c.0) part
 
 abbrev pub word_of : List Cell → List Cell
-word_of part = last_run (λ c. in_word c.0) (before_tiles part)
+word_of part = last_stretch (λ c. in_word c.0) (before_tiles part)
 
 abbrev pub before_word : List Cell → List Cell
-before_word part = before_last_run (λ c. in_word c.0) (before_tiles part)
+before_word part = before_last_stretch (λ c. in_word c.0) (before_tiles part)

@@ -9,7 +9,7 @@ use Rattle.shapers_buffer.specs.declared.buffer.refusal.ShaperError.TheVariants.
 use Rattle.shapers_base.specs.Font.{Font}
 use Rattle.shapers_stretch.specs.Cells.{Cell, repeats}
 use Rattle.shapers_stretch.specs.declared.ot_shaper_arabic_stretch.measuring.Lay.{Lay}
-use Rattle.shapers_stretch.specs.declared.ot_shaper_arabic_stretch.measuring.Run.{Run}
+use Rattle.shapers_stretch.specs.declared.ot_shaper_arabic_stretch.measuring.TileSequence.{TileSequence}
 use Rattle.shapers_stretch.specs.Lays.{lay_of}
 use Rattle.shapers_stretch.specs.Measure.{copies_added, fits_i32, numbers_to_fit, start, total}
 use Rattle.shapers_stretch.specs.Stretch.{Laying, overflows, stretched, width_of}
@@ -35,14 +35,14 @@ offsets_on right_to_left pen (move ∷ moves) =
     stands_at right_to_left pen move
     ∷ offsets_on right_to_left (pen_behind right_to_left pen move) moves
 
--- how far the copies of a tile move it, and those of a run
+-- how far the copies of a tile move it, and those of a sequence
 abbrev pub moves_of : Font → Lay → Glyph → List ℤ
 moves_of font lay g =
     let width = width_of font g in
     width ∷ (if repeats g then replicate lay.added (width -ℤ lay.overlap) else [])
 
-abbrev pub run_moves : Font → Lay → Glyphs → List ℤ
-run_moves font lay tiles = flat_map (moves_of font lay) (reverse tiles)
+abbrev pub sequence_moves : Font → Lay → Glyphs → List ℤ
+sequence_moves font lay tiles = flat_map (moves_of font lay) (reverse tiles)
 
 -- whether the offsets of copies fit 32 bits
 abbrev pub offsets_fit : Bool → ℤ → List ℤ → Bool
@@ -69,12 +69,12 @@ WalksPen right_to_left pen moves (Some behind) =
     (offsets_fit right_to_left pen moves ≡ true)
     × (behind ≡ pen_behind right_to_left pen (total moves)) × IsNumber behind
 
--- how many copies a run adds, unless a number of it doesn't fit
-abbrev pub run_added : StretchStart → Bool → Font → Run → Glyphs → Option ℕ
-run_added choice right_to_left font z tiles =
+-- how many copies a sequence adds, unless a number of it doesn't fit
+abbrev pub sequence_added : StretchStart → Bool → Font → TileSequence → Glyphs → Option ℕ
+sequence_added choice right_to_left font z tiles =
     if list_all fits_i32 (numbers_to_fit choice z)
     && offsets_fit right_to_left (start choice right_to_left z)
-    (run_moves font (lay_of choice right_to_left z) tiles) then Some (copies_added z)
+    (sequence_moves font (lay_of choice right_to_left z) tiles) then Some (copies_added z)
     else None
 
 -- how many cells a stretched text has more, unless a number of it doesn't fit

@@ -1,4 +1,4 @@
--- How far the second pass has come, which lays the runs of a text from its end back.
+-- How far the second pass has come, which lays the sequences of a text from its end back.
 use Rattle.std.specs.Prelude.{◌≡◌, ◌≤◌, ◌≤ℤ◌, ◌^◌, pos, ◌+◌, ◌-ℤ◌, ◌++◌, ℕ, ℤ, Bool, true, false, if◌then◌else◌, List, [], ◌∷◌, length, map, flat_map, replicate, reverse, take, drop}
 use Rattle.std.specs.List.{AllByRecursion, list_all, zip}
 use Rattle.shapers_buffer.specs.declared.buffer.glyph.GlyphPosition.{GlyphPosition}
@@ -8,10 +8,10 @@ use Rattle.shapers_base.specs.Font.{Font}
 use Rattle.shapers_stretch.specs.Cells.{Cell, glyphs_of, positions_of, repeats}
 use Rattle.shapers_stretch.specs.CountingWalk.{pen_behind, stands_at}
 use Rattle.shapers_stretch.specs.Measure.{times_added, fits_i32, numbers_to_fit, overlap}
-use Rattle.shapers_stretch.specs.Stretch.{Copy, Laying, copies, laid_at, laid_run, measured, moves, overflows, stretched, width_of}
+use Rattle.shapers_stretch.specs.Stretch.{Copy, Laying, copies, laid_at, laid_sequence, measured, moves, overflows, stretched, width_of}
 use Rattle.shapers_stretch.specs.declared.ot_shaper_arabic_stretch.tiles.Pen.{Pen}
 use Rattle.shapers_stretch.specs.declared.ot_shaper_arabic_stretch.measuring.Lay.{Lay}
-use Rattle.shapers_stretch.specs.declared.ot_shaper_arabic_stretch.measuring.Run.{Run}
+use Rattle.shapers_stretch.specs.declared.ot_shaper_arabic_stretch.measuring.TileSequence.{TileSequence}
 
 -- copies laid from a pen on
 abbrev pub laid_on : Bool → ℤ → List Copy → List Cell
@@ -83,7 +83,8 @@ pub record HasRoomForTiles (how : Laying) (gs : Glyphs) (ps : List GlyphPosition
   pub glyph_numbers : AllByRecursion (λ g. g.glyph_id ≤ 65535) (take len gs)
   pub fits : overflows how (text_in_slices len gs ps) ≡ false
 
--- the copies of one tile by these numbers, and those of a run's tiles, from the last to the first
+-- the copies of one tile by these numbers, and those of a sequence's tiles, from the last to the
+-- first
 abbrev pub copies_with : Font → ℕ → ℤ → Cell → List Copy
 copies_with font n o c =
     let width = width_of font c.0 in
@@ -93,27 +94,28 @@ copies_with font n o c =
 abbrev pub copies_by : Font → Lay → Cell → List Copy
 copies_by font lay c = copies_with font lay.added lay.overlap c
 
-abbrev pub run_copies : Font → Lay → List Cell → List Copy
-run_copies font lay tiles = flat_map (copies_by font lay) (reverse tiles)
+abbrev pub sequence_copies : Font → Lay → List Cell → List Copy
+sequence_copies font lay tiles = flat_map (copies_by font lay) (reverse tiles)
 
--- the numbers by which the copies of a run are laid
-pub record IsLayOf (z : Run) (lay : Lay) : Type 0 where
+-- the numbers by which the copies of a sequence are laid
+pub record IsLayOf (z : TileSequence) (lay : Lay) : Type 0 where
   pub added : lay.added ≡ times_added z
   pub overlap : lay.overlap ≡ overlap z
   pub low : pos 0 ≤ℤ lay.overlap
   pub high : lay.overlap ≤ℤ pos (2 ^ 34)
 
--- What stands before `tiles` and what stands from there to `end` in slices: a word and its run,
--- where no number overflows and where there is room for the run's copies before `place`.
-pub record CanLayRun (how : Laying) (word tiles : List Cell) (first end place : ℕ) (gs : Glyphs)
-    (ps : List GlyphPosition) : Type 0 where
+-- What stands before `tiles` and what stands from there to `end` in slices: a word and its
+-- sequence, where no number overflows and where there is room for the sequence's copies before
+-- `place`.
+pub record CanLaySequence (how : Laying) (word tiles : List Cell) (first end place : ℕ)
+    (gs : Glyphs) (ps : List GlyphPosition) : Type 0 where
   pub order : first ≤ end
   pub ahead : end ≤ place
   pub within : place ≤ length gs
   pub both : length gs ≡ length ps
   pub glyph_numbers : AllByRecursion (λ g. g.glyph_id ≤ 65535) (take end gs)
   pub fits : let z = measured how.font (positions_of word) (glyphs_of tiles) in
-      list_all fits_i32 (numbers_to_fit how.choice z ++ offsets (laid_run how z tiles)) ≡ true
+      list_all fits_i32 (numbers_to_fit how.choice z ++ offsets (laid_sequence how z tiles)) ≡ true
   pub room : first
       + length (copies how.font (measured how.font (positions_of word) (glyphs_of tiles)) tiles)
       ≤ place

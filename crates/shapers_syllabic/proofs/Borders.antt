@@ -7,7 +7,7 @@ use Rattle.std.proofs.lemmas.List.Elements.{All-get_or, All-head, All-tail}
 use Rattle.std.proofs.lemmas.List.Folds.{flat_map-map}
 use Rattle.shapers_buffer.specs.Glyphs.{Glyph, Glyphs}
 use Rattle.shapers_buffer.specs.Glyph.{default_glyph, order_view}
-use Rattle.shapers_buffer.specs.Syllables.{syllables, with_opening}
+use Rattle.shapers_buffer.specs.Syllables.{syllables, with_in_front}
 use Rattle.shapers_syllabic.specs.Borders.{MeetAtBorder}
 
 -- the syllable bytes of glyphs, the first and the last
@@ -24,7 +24,7 @@ differ : (a b : ℕ) → a ≢ b → (b == a) ≡ false
 differ = grind arith
 
 one_before : (g : Glyph) (hs : Glyphs) → MeetAtBorder (g ∷ []) hs
-    → with_opening g (syllables hs) ≡ (g ∷ []) ∷ syllables hs
+    → with_in_front g (syllables hs) ≡ (g ∷ []) ∷ syllables hs
 one_before g [] border = refl
 one_before g (h ∷ hs) border = search (arith, differ)
 
@@ -120,7 +120,7 @@ cut_more g h piece pieces true test u =
     (uniform_longer g h piece test u.0, longer, u.2)
 cut_more g h piece pieces false test u = (uniform_one g, (λ some more. search arith), u)
 
-cut_opening : (g : Glyph) (pieces : List Glyphs) → Cut pieces → Cut (with_opening g pieces)
+cut_opening : (g : Glyph) (pieces : List Glyphs) → Cut pieces → Cut (with_in_front g pieces)
 cut_opening g [] u = (uniform_one g, (λ some more same. absurd (omega arith)), tt)
 cut_opening g ([] ∷ pieces) u = absurd (omega arith)
 cut_opening g ((h ∷ piece) ∷ pieces) u = cut_more g h piece pieces (h.syllable == g.syllable) refl u
@@ -187,8 +187,8 @@ cut_border (p ∷ (q ∷ ps)) qs u =
 
 -- a view that keeps the bytes keeps the syllables
 opening-viewed : (f : Glyph → Glyph) → ((g : Glyph) → (f g).syllable ≡ g.syllable)
-    → (g : Glyph) (pieces : List Glyphs) → with_opening (f g) (map (map f) pieces)
-    ≡ map (map f) (with_opening g pieces)
+    → (g : Glyph) (pieces : List Glyphs) → with_in_front (f g) (map (map f) pieces)
+    ≡ map (map f) (with_in_front g pieces)
 opening-viewed f keeps g ((h ∷ piece) ∷ pieces) = search arith
 opening-viewed f keeps g _ = refl
 

@@ -11,12 +11,12 @@ use Rattle.shapers_buffer.specs.Clusters.{least, stretch_of, with_stretch}
 use Rattle.shapers_buffer.specs.Glyph.{clusters, order_view, plain}
 use Rattle.shapers_buffer.specs.Syllables.{first_syllable_len}
 use Rattle.shapers_buffer.proofs.ClusterLemmas.{length-stretch, map-stretch}
-use Rattle.shapers_clusters.specs.CarriedGroups.{AreCarried, AreShown, CanSettle, EndsAbove, GroupsGuarded, GroupsSettled, fallen_groups, first_group_cluster, last_groups, len_of, with_groups}
+use Rattle.shapers_clusters.specs.CarriedGroups.{AreCarried, AreShown, CanTakeBack, EndsAbove, GroupsGuarded, GroupsTakenBack, fallen_groups, first_group_cluster, last_groups, len_of, with_groups}
 use Rattle.shapers_clusters.specs.declared.carried_groups.CarriedGroups.{CarriedGroups}
-use Rattle.shapers_clusters.specs.Steps.{FitSteps, Step, run_steps, widened}
+use Rattle.shapers_clusters.specs.Steps.{FitSteps, Step, after_steps, widened}
 use Rattle.shapers_clusters.proofs.GroupWalk.{none_carried, none_written}
 use Rattle.shapers_clusters.proofs.GuardedGroups.{changed_behind, groups_in_front, read_clusters, steps_behind}
-use Rattle.shapers_clusters.proofs.Moves.{falls-run_steps}
+use Rattle.shapers_clusters.proofs.Moves.{falls-after_steps}
 use Rattle.shapers_clusters.proofs.SettledGroups.{behind_groups, fallen_len, front_view, guarded_length, guarded_view, length_groups, order_view-groups, shown_settles}
 use Rattle.shapers_clusters.proofs.Widened.{all_fit-widened}
 use Rattle.shapers_syllabic.proofs.LinkedSyllables.{Leads, Link, Meaning, Orders, PermutesNumbers, Stays, ToLink, linked_end, linked_passes, next_syllable, numbers-view, past_changing, takes_next, to_changing, to_link_all}
@@ -86,8 +86,8 @@ take_front = search (arith, take-append-le, length-take, take-take)
 pub record ShownReordered (meaning : Glyphs → Glyphs) (steps : Glyphs →
     List Step) (first end count : ℕ) (before after : CarriedGroups) (old reordered : Buffer)
     (between : Glyphs) : Type 0 where
-  pub can : CanSettle after count reordered.glyphs
-  pub made : (final : CarriedGroups) (new : Buffer) → GroupsSettled after count reordered.glyphs final new.glyphs →
+  pub can : CanTakeBack after count reordered.glyphs
+  pub made : (final : CarriedGroups) (new : Buffer) → GroupsTakenBack after count reordered.glyphs final new.glyphs →
       new ≡ record reordered { glyphs = new.glyphs } → SyllableReordered meaning steps first end
       (record old { glyphs = with_groups before between }) (groups_written final new)
 
@@ -111,14 +111,14 @@ shown_reordered meaning steps first end count before after old reordered between
     let led = steps (stretch_of first end xs) in
     let fit : FitSteps (end - first) led = subst (λ j. FitSteps j led)
     (length-stretch first end xs (omega arith)) (laws.fits (stretch_of first end xs)) in
-    let over = run_steps old.level (map (widened first end (length between)) led) in
+    let over = after_steps old.level (map (widened first end (length between)) led) in
     let behind = changed_behind first end count over before after between hs order within
     (steps_behind old.level first end (length between) count led order within some fit) fits at some many is stops in
     let Y = over hs in
     let moved : map carried X ≡ map carried Y = done.moved
-    ∙ ap (λ j. map carried (run_steps old.level (map (widened first end j) (steps (stretch_of first end
+    ∙ ap (λ j. map carried (after_steps old.level (map (widened first end j) (steps (stretch_of first end
     (order_view hs)))) hs)) hn
-    ∙ ap (λ ys. map carried (run_steps old.level (map (widened first end (length between))
+    ∙ ap (λ ys. map carried (after_steps old.level (map (widened first end (length between))
     (steps (stretch_of first end ys))) hs)) is.view in
     let W = with_stretch first end meaning xs in
     let ordered : order_view X ≡ W = done.order ∙ ap (with_stretch first end meaning) is.view in
@@ -171,8 +171,8 @@ shown_reordered meaning steps first end count before after old reordered between
                 ∙ drop-map carried first Y)
                 ∙ sym (map-append carried C (drop first Y))
                 ∙ ap (map carried) (sym over_is)
-                ∙ ap (λ j. map carried (run_steps old.level (map (widened first end j) led) meant)) (sym meant_n)
-                ∙ ap (λ ys. map carried (run_steps old.level (map (widened first end (length meant))
+                ∙ ap (λ j. map carried (after_steps old.level (map (widened first end j) led) meant)) (sym meant_n)
+                ∙ ap (λ ys. map carried (after_steps old.level (map (widened first end (length meant))
                 (steps (stretch_of first end ys))) meant)) (sym meant_view);
           };
     }
@@ -180,8 +180,8 @@ shown_reordered meaning steps first end count before after old reordered between
 -- either way
 pub record BehindGroups (link : Link) (first end : ℕ) (it after : CarriedGroups) (count : ℕ)
     (old reordered : Buffer) : Type 0 where
-  pub can : CanSettle after count reordered.glyphs
-  pub linked : (final : CarriedGroups) (new : Buffer) → GroupsSettled after count reordered.glyphs final new.glyphs →
+  pub can : CanTakeBack after count reordered.glyphs
+  pub linked : (final : CarriedGroups) (new : Buffer) → GroupsTakenBack after count reordered.glyphs final new.glyphs →
       new ≡ record reordered { glyphs = new.glyphs } → link first end (groups_written it old) (groups_written final new)
   pub ends : after.end ≡ first
 
@@ -219,8 +219,8 @@ behind_guarded meaning steps link leads suffices laws first end count it after o
           arith)) ((laws old.script).fits (stretch_of first end xs)) in
           let ws = map (widened first end (length (record old { glyphs = hs }).glyphs)) led in
           sym (length-map reordered.glyphs carried) ∙ ap length done.moved
-          ∙ length-map (run_steps (record old { glyphs = hs }).level ws (record old { glyphs = hs }).glyphs) carried
-          ∙ (falls-run_steps (record old { glyphs = hs }).level ws (record old { glyphs = hs }).glyphs
+          ∙ length-map (after_steps (record old { glyphs = hs }).level ws (record old { glyphs = hs }).glyphs) carried
+          ∙ (falls-after_steps (record old { glyphs = hs }).level ws (record old { glyphs = hs }).glyphs
           (all_fit-widened first end (length (record old { glyphs = hs }).glyphs) led order (omega arith) fit)).0 in
           let ends = ap (λ (a : CarriedGroups). a.end) all.0 ∙ g.at in
           let none_after = ap (λ (a : CarriedGroups). a.groups.items) all.0 ∙ all.1 in

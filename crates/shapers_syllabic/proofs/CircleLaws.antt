@@ -9,12 +9,12 @@ use Rattle.std.proofs.lemmas.Bool.{not-false}
 use Rattle.shapers_buffer.specs.Glyphs.{Glyph, Glyphs}
 use Rattle.shapers_syllabic.specs.declared.ot_shaper_syllabic.circles.DottedCircles.{DottedCircles}
 use Rattle.shapers_buffer.specs.Glyph.{clusters, default_glyph}
-use Rattle.shapers_buffer.specs.Syllables.{syllables, with_opening, first_syllable_len, kind_of}
+use Rattle.shapers_buffer.specs.Syllables.{syllables, with_in_front, first_syllable_len, kind_of}
 use Rattle.shapers_syllabic.specs.Circles.{is_of_kind, rephas_len, circle_in, with_circle, with_circles, circled, circled_syllable, count_of_kind}
 use Rattle.shapers_syllabic.specs.CircleLaws.{unmarked, marked, none_marked, marks_in, CirclesCanBeErased, CirclesKeepClusters, NoNewCluster}
 use Rattle.shapers_syllabic.specs.FirstBroken.{IsFirstBroken, is_of_other_kind}
 use Rattle.shapers_buffer.proofs.MappedLists.{Contains-map}
-use Rattle.shapers_buffer.proofs.SyllableLaws.{syllables_are_runs}
+use Rattle.shapers_buffer.proofs.SyllableLaws.{syllables_are_longest}
 
 abbrev Pieces : Type 0
 Pieces = List Glyphs
@@ -72,9 +72,9 @@ none_opened rule (piece ∷ pieces) none =
     cc (none_opened rule pieces parts.1)
 
 -- cutting into syllables loses nothing
-joined-with_opening : (g : Glyph) (pieces : Pieces) → joined (with_opening g pieces) ≡ g ∷ joined pieces
-joined-with_opening g ((h ∷ piece) ∷ pieces) = search arith
-joined-with_opening g _ = refl
+joined-with_in_front : (g : Glyph) (pieces : Pieces) → joined (with_in_front g pieces) ≡ g ∷ joined pieces
+joined-with_in_front g ((h ∷ piece) ∷ pieces) = search arith
+joined-with_in_front g _ = refl
 
 pub joined-syllables : (gs : Glyphs) → flat_map (λ piece. piece) (syllables gs) ≡ gs
 joined-syllables [] = refl
@@ -108,7 +108,7 @@ spares_opening rule g h piece pieces true = search arith
 spares_opening rule g h piece pieces false = search arith
 
 spares : (rule : DottedCircles) (g : Glyph) (pieces : Pieces) → (kind_of g.syllable == rule.broken_kind)
-    ≡ false → Spares rule g pieces (with_opening g pieces)
+    ≡ false → Spares rule g pieces (with_in_front g pieces)
 spares rule g [] other = spares_alone rule g [] other
 spares rule g ([] ∷ pieces) other = search
 spares rule g ((h ∷ piece) ∷ pieces) other = search arith
@@ -141,7 +141,7 @@ opens_broken : (rule : DottedCircles) (g : Glyph) (gs : Glyphs)
 opens_broken rule g gs =
     let text = g ∷ gs in
     let n = first_syllable_len text in
-    search (arith, syllables_are_runs g gs, count_more rule (take n text) (syllables (drop n text)))
+    search (arith, syllables_are_longest g gs, count_more rule (take n text) (syllables (drop n text)))
 
 -- where the first broken syllable stands
 pub is_first_broken : (rule : DottedCircles) (gs : Glyphs) (start len : ℕ)

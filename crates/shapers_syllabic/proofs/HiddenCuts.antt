@@ -12,8 +12,8 @@ use Rattle.shapers_buffer.specs.Buffer.{Buffer}
 use Rattle.shapers_buffer.specs.Glyph.{clusters, order_view, without_flags}
 use Rattle.shapers_buffer.specs.Syllables.{syllables}
 use Rattle.shapers_buffer.proofs.MappedLists.{map-seen}
-use Rattle.shapers_clusters.specs.Steps.{Step, run_steps}
-use Rattle.shapers_clusters.proofs.Moves.{clusters-run_steps}
+use Rattle.shapers_clusters.specs.Steps.{Step, after_steps}
+use Rattle.shapers_clusters.proofs.Moves.{clusters-after_steps}
 use Rattle.shapers_syllabic.specs.declared.ot_shaper_syllabic.circles.DottedCircles.{DottedCircles}
 use Rattle.shapers_syllabic.specs.Borders.{MeetAtBorder, SameButSerials, unnumbered}
 use Rattle.shapers_syllabic.specs.Circles.{circled, circled_syllable, rephas_len, with_circle}
@@ -22,7 +22,7 @@ use Rattle.shapers_syllabic.specs.ReorderingLaws.{ReadsNoSerials, ReorderLaws, p
 use Rattle.shapers_syllabic.specs.SpanCuts.{CutsAtBorders, HalvesJoined, PausesCutBetweenSpans}
 use Rattle.shapers_syllabic.specs.Syllabic.{unsafe_spans}
 use Rattle.shapers_syllabic.proofs.Borders.{syllables-viewed}
-use Rattle.shapers_syllabic.proofs.PauseCuts.{apart_by, clusters-set_up}
+use Rattle.shapers_syllabic.proofs.PauseCuts.{apart_by, clusters-setup}
 use Rattle.shapers_syllabic.proofs.ReorderingCuts.{apart-circled, border-circled, circled-append, steps-halves, text_order-halves}
 use Rattle.shapers_syllabic.proofs.ReorderingWalk.{pieces_of}
 use Rattle.shapers_syllabic.proofs.Serials.{KeepsSame, pieces_same, serials_dont_count}
@@ -101,8 +101,8 @@ pub clusters_paused-same : (circles : Option DottedCircles) (meaning : Glyphs �
 clusters_paused-same circles meaning steps level gs hs reads same =
     let told : (xs : Glyphs) → clusters (map unnumbered (paused_carried circles steps level xs)) ≡ paused_clusters
     circles steps level xs = λ xs. clusters-seen
-    (run_steps level (text_steps steps (order_view (circled circles xs))) (circled circles xs))
-    ∙ clusters-run_steps level (text_steps steps (order_view (circled circles xs))) (circled circles xs) in
+    (after_steps level (text_steps steps (order_view (circled circles xs))) (circled circles xs))
+    ∙ clusters-after_steps level (text_steps steps (order_view (circled circles xs))) (circled circles xs) in
     cc (told gs, (serials_dont_count circles meaning steps level gs hs reads same).moved, told hs)
 
 -- a pause of two halves that meet at a border
@@ -112,7 +112,7 @@ paused_halves = search (circled-append, text_order-halves, border-circled)
 
 -- A text that is set up, and its halves: with other masks it is the first half, and behind it the
 -- second one but for serials.
-pub record SetUpParts (f : ℕ → ℕ) (gs hs whole front back : Glyphs) : Type 0 where
+pub record SetupParts (f : ℕ → ℕ) (gs hs whole front back : Glyphs) : Type 0 where
   pub behind : Glyphs
   pub parts : by f whole ≡ by f front ++ behind
   pub renumbered : SameButSerials behind (by f back)
@@ -134,7 +134,7 @@ pub joined_halves : (f : ℕ → ℕ) → MaskKeepsFlags f
     → (circles : Option DottedCircles) (meaning : Glyphs → Glyphs) (steps : Glyphs
     → List Step) (level : BufferClusterLevel) → ReorderLaws meaning steps → ReadsNoSerials meaning steps
     → ((gs : Glyphs) → meaning (by f gs) ≡ by f (meaning gs)) → ((gs : Glyphs) → steps (by f gs) ≡ steps gs) →
-    (gs hs whole front back xs ys new : Glyphs) → SetUpParts f gs hs whole front back → SameButSerials front xs
+    (gs hs whole front back xs ys new : Glyphs) → SetupParts f gs hs whole front back → SameButSerials front xs
     → SameButSerials back ys →
     order_view new ≡ paused_order circles meaning whole → clusters new ≡ paused_clusters circles steps level whole →
     HalvesJoined (λ g. unnumbered (with_mask_by f g)) (paused_order circles meaning)
@@ -169,14 +169,14 @@ joined_halves f keeps circles meaning steps level laws reads meant led gs hs who
           in_clusters ∙ sym (clusters_paused-by f keeps circles steps led level whole) ∙ ap C cut.parts
           ∙ (let xs = circled circles (by f front) in let ys = circled circles behind in cc (
             circled-append circles (by f front) behind cut.border,
-            clusters-run_steps level (text_steps steps (order_view (xs ++ ys))) (xs ++ ys),
+            clusters-after_steps level (text_steps steps (order_view (xs ++ ys))) (xs ++ ys),
             steps-halves meaning steps level xs ys laws (border-circled circles (by f front) behind cut.border)
                 (apart-circled circles (by f front) behind (apart_by (by f front) behind gs hs fl bl none)),
             map-append (λ
-                g. g.cluster) (run_steps level (text_steps steps (order_view xs)) xs) (run_steps level (text_steps steps
+                g. g.cluster) (after_steps level (text_steps steps (order_view xs)) xs) (after_steps level (text_steps steps
                 (order_view ys)) ys),
-            clusters-run_steps level (text_steps steps (order_view xs)) xs,
-            clusters-run_steps level (text_steps steps (order_view ys)) ys,
+            clusters-after_steps level (text_steps steps (order_view xs)) xs,
+            clusters-after_steps level (text_steps steps (order_view ys)) ys,
           )) ∙ ap (λ cs. cs ++ C behind)
           (clusters_paused-same circles meaning steps level (by f front) (by f xs) reads (same-by f front xs first) ∙
           clusters_paused-by f keeps circles steps led level xs) ∙ ap (λ cs. C xs ++ cs)
@@ -196,7 +196,7 @@ unchanged (g ∷ gs) = cc (unchanged gs)
 pub paused_clusters_are : (circles : Option DottedCircles) (meaning : Glyphs → Glyphs) (steps : Glyphs
     → List Step) (old new : Buffer) → PauseReordered circles meaning steps old new
     → clusters new.glyphs ≡ paused_clusters circles steps old.level old.glyphs
-paused_clusters_are = search (arith, clusters-carried, clusters-run_steps)
+paused_clusters_are = search (arith, clusters-carried, clusters-after_steps)
 
 pub pauses_cut_between_spans : PausesCutBetweenSpans
 pauses_cut_between_spans meaning steps broken_kind laws reads circles spans old new kinds done ss ts gs hs xs ys split
@@ -206,7 +206,7 @@ pauses_cut_between_spans meaning steps broken_kind laws reads circles spans old 
     gs hs (unsafe_spans spans old.glyphs) (unsafe_spans ss gs) (unsafe_spans ts hs) xs ys new.glyphs
     (
     let cut = spans_cut spans broken_kind old kinds ss ts gs hs split text first second in
-    search (arith, unchanged (unsafe_spans spans old.glyphs), unchanged (unsafe_spans ss gs), unchanged (unsafe_spans ts hs), clusters-set_up ss broken_kind (record old { glyphs = gs }), clusters-set_up spans broken_kind old)) one two done.order (search paused_clusters_are)
+    search (arith, unchanged (unsafe_spans spans old.glyphs), unchanged (unsafe_spans ss gs), unchanged (unsafe_spans ts hs), clusters-setup ss broken_kind (record old { glyphs = gs }), clusters-setup spans broken_kind old)) one two done.order (search paused_clusters_are)
 
 -- a pause cut at a border of syllables, of halves that may have other serials
 pub cuts_with_serials : (circles : Option DottedCircles) (meaning : Glyphs → Glyphs) (steps : Glyphs
@@ -216,7 +216,7 @@ pub cuts_with_serials : (circles : Option DottedCircles) (meaning : Glyphs → G
     new.glyphs
 cuts_with_serials circles meaning steps old new laws reads done gs hs xs ys text border one two =
     let f : ℕ → ℕ = λ m. m in
-    let parts : SetUpParts f gs hs old.glyphs gs hs = record {
+    let parts : SetupParts f gs hs old.glyphs gs hs = record {
       behind = hs;
       parts = unchanged old.glyphs ∙ text ∙ ap (λ zs. zs ++ hs) (sym (unchanged gs));
       renumbered = subst (SameButSerials hs) (sym (unchanged hs)) refl;

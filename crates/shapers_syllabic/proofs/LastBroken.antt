@@ -9,7 +9,7 @@ use Rattle.std.proofs.lemmas.List.Elements.{All-append, All-cons, All-head, All-
 use Rattle.std.proofs.lemmas.List.Sums.{sum_by-append, sum_by-cons}
 use Rattle.shapers_buffer.specs.Glyphs.{Glyph, Glyphs}
 use Rattle.shapers_buffer.specs.Glyph.{default_glyph}
-use Rattle.shapers_buffer.specs.Lists.{before_last_run, last_run}
+use Rattle.shapers_buffer.specs.Lists.{before_last_stretch, last_stretch}
 use Rattle.shapers_buffer.specs.Syllables.{has_byte, kind_of, syllables}
 use Rattle.shapers_buffer.proofs.ListLaws.{LastPass, before_last_run_no, before_last_run_yes, from_end, last_pass, last_run_no, last_run_yes, none_before_push, suffix_len_stop, suffix_len_yes}
 use Rattle.shapers_syllabic.specs.declared.ot_shaper_syllabic.circles.DottedCircles.{DottedCircles}
@@ -21,8 +21,8 @@ use Rattle.shapers_syllabic.proofs.CircleLaws.{none_broken, with_circles-none}
 
 -- the longest end of one byte, and that a syllable of that byte meets what stands before it at a border
 record EndsInRun (b : ℕ) (gs : Glyphs) : Type 0 where
-  all : All (λ g. g.syllable ≡ b) (last_run (has_byte b) gs)
-  border : (hs : Glyphs) → first_byte hs ≡ b → MeetAtBorder (before_last_run (has_byte b) gs) hs
+  all : All (λ g. g.syllable ≡ b) (last_stretch (has_byte b) gs)
+  border : (hs : Glyphs) → first_byte hs ≡ b → MeetAtBorder (before_last_stretch (has_byte b) gs) hs
 
 last_byte_is : (gs : Glyphs) (g : Glyph) → last_byte (gs ++ g ∷ []) ≡ g.syllable
 last_byte_is = search (arith, length-append, map-append, get_or-append_right, length-map)
@@ -98,7 +98,7 @@ none_counted : (rule : DottedCircles) (gs : Glyphs) → list_any (of_kind rule.b
     → count_of_kind rule.broken_kind gs ≡ 0
 none_counted rule gs none = let all = other_front rule.broken_kind gs none in search (arith, none_broken)
 
--- what stands behind a broken syllable opens with another byte
+-- what stands behind a broken syllable begins with another byte
 border_behind : (rule : DottedCircles) (b : ℕ) (front : Glyphs) (g : Glyph)
     (behind : Glyphs) → g.syllable ≡ b → (kind_of b == rule.broken_kind) ≡ true
     → list_any (of_kind rule.broken_kind) behind ≡ false → MeetAtBorder (front ++ g ∷ []) behind
@@ -113,7 +113,7 @@ first_of_run b (h ∷ run) g behind all = search All-head
 -- where the last broken syllable stands
 parted_at : (rule : DottedCircles) (before : Glyphs) (g : Glyph) (behind : Glyphs)
     → (kind_of g.syllable == rule.broken_kind) ≡ true → list_any (of_kind rule.broken_kind) behind ≡ false
-    → Parted rule g.syllable (before_last_run (has_byte g.syllable) before) (last_run (has_byte g.syllable) before ++ g
+    → Parted rule g.syllable (before_last_stretch (has_byte g.syllable) before) (last_stretch (has_byte g.syllable) before ++ g
     ∷ []) behind
 parted_at rule before g behind broken none =
     let b = g.syllable in
@@ -125,14 +125,14 @@ parted_at rule before g behind broken none =
         all = search (
           arith,
           last_run_yes (has_byte b) xs x has,
-          All-append P (last_run (has_byte b) xs) (x ∷ []) e.all (All-cons P x [] (grind arith) (All-nil P)),
+          All-append P (last_stretch (has_byte b) xs) (x ∷ []) e.all (All-cons P x [] (grind arith) (All-nil P)),
         );
         border = search (arith, before_last_run_yes);
       }
       | inr hasnt ↦
           search (arith, last_run_no, before_last_run_no, last_byte_is)
     ]) before in
-    let run = last_run (has_byte b) before in
+    let run = last_stretch (has_byte b) before in
     let all : All P (run ++ g ∷ []) = All-append P run (g ∷ []) e.all (All-cons P g [] refl (All-nil P)) in
     search (arith, length-append, first_of_run, border_behind, none_counted)
 
@@ -145,8 +145,8 @@ last_broken_at rule gs t n p t_is n_is =
     let a = p.before in
     let x = p.element in
     let b = x.syllable in
-    let run = last_run (has_byte b) a in
-    let front = before_last_run (has_byte b) a in
+    let run = last_stretch (has_byte b) a in
+    let front = before_last_stretch (has_byte b) a in
     let tail : t ≡ length p.after = t_is ∙ ap (suffix_len (is_of_other_kind k)) p.parts
     ∙ suffix_len_stop (is_of_other_kind k) a x p.after (ap not p.passes) ∙ other_end k p.after p.none_after in
     let size : length gs ≡ length a + suc (length p.after) = ap length p.parts ∙ length-append a (x ∷ p.after) in

@@ -19,7 +19,7 @@ pub mod ReorderingLemmas
 mod ReorderingRows
 pub mod ReorderingWalk
 pub mod Serials
-pub mod SetUpFlags
+pub mod SetupFlags
 pub mod Skipping
 pub mod SpanCuts
 pub mod SyllabicLemmas

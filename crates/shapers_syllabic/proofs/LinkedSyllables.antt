@@ -13,11 +13,11 @@ use Rattle.shapers_buffer.specs.Clusters.{stretch_of}
 use Rattle.shapers_buffer.specs.Glyph.{order_view, plain}
 use Rattle.shapers_buffer.specs.Syllables.{first_syllable_len, syllables}
 use Rattle.shapers_buffer.proofs.ClusterLemmas.{length-stretch, map-stretch}
-use Rattle.shapers_clusters.specs.Steps.{Step, run_steps, steps_along}
+use Rattle.shapers_clusters.specs.Steps.{Step, after_steps, steps_along}
 use Rattle.shapers_syllabic.specs.Reordering.{Chain, SyllableOrdered, SyllableReordered, SyllablesLinked, SyllablesReordered, TakesText, TextOrdered, carried, glyph_numbers, syllable_lens, text_order}
 use Rattle.shapers_syllabic.specs.ReorderingWalk.{IsNextChanging}
 use Rattle.shapers_syllabic.proofs.Borders.{syllables-viewed}
-use Rattle.shapers_syllabic.proofs.ReorderingLemmas.{run_steps-carried}
+use Rattle.shapers_syllabic.proofs.ReorderingLemmas.{after_steps-carried}
 use Rattle.shapers_syllabic.proofs.ReorderingWalk.{first_len-view, first_len-within, opens, pieces_of}
 use Rattle.shapers_syllabic.proofs.Skipping.{PassesOver, to_next}
 
@@ -314,7 +314,7 @@ moved_from : (meaning : Meaning) (steps : Option Script → Glyphs → List Step
     PermutesNumbers meaning → Leads meaning steps link → (pieces : List Glyphs) (now new : Buffer)
     (start : ℕ) → syllables (drop start (order_view now.glyphs)) ≡ pieces →
     Chain link start (map length pieces) now new → map carried new.glyphs ≡ map carried
-    (run_steps now.level (steps_along (length now.glyphs) start (pieces_of (steps now.script) pieces)) now.glyphs)
+    (after_steps now.level (steps_along (length now.glyphs) start (pieces_of (steps now.script) pieces)) now.glyphs)
 moved_from meaning steps link permutes leads [] now new start is chain = cc
 moved_from meaning steps link permutes leads (piece ∷ pieces) now new start is chain =
     let mid = chain.0 in
@@ -324,7 +324,7 @@ moved_from meaning steps link permutes leads (piece ∷ pieces) now new start is
     now.script) (steps now.script) start end now mid (leads start end now mid chain.1)) in
     search (
       arith,
-      run_steps-carried,
+      after_steps-carried,
       fold-append,
       moved_from meaning steps link permutes leads pieces mid new end (ap syllables done.after ∙ first.pieces_are)
           chain.2,

@@ -5,7 +5,7 @@ use Rattle.shapers_buffer.specs.Glyphs.{Glyphs}
 use Rattle.shapers_buffer.specs.Clusters.{stretch_of}
 use Rattle.shapers_syllabic.specs.declared.ot_shaper_syllabic.circles.DottedCircles.{DottedCircles}
 use Rattle.shapers_syllabic.specs.Circles.{circle_in, count_of_kind, rephas_len, with_circle, with_circles}
-use Rattle.shapers_syllabic.specs.FirstBroken.{IsLastBroken, IsOpened}
+use Rattle.shapers_syllabic.specs.FirstBroken.{IsLastBroken, IsCircled}
 
 -- stretches of fronts that agree
 front_taken : {X : Type 0} (s n : ℕ) (xs ys : List X) → s ≤ n → take n xs ≡ take n ys → take s xs ≡ take s ys
@@ -83,7 +83,7 @@ pub record Opened (rule : DottedCircles) (read left s e : ℕ) (gs hs ms : Glyph
   pub then_behind : drop (s + left - 1) ms ≡ with_circle rule (stretch_of s e hs) ++ drop (e + left) hs
 
 pub is_opened : (rule : DottedCircles) (read left s e : ℕ) (gs hs ms : Glyphs)
-    → Opened rule read left s e gs hs ms → IsOpened rule read left s gs ms
+    → Opened rule read left s e gs hs ms → IsCircled rule read left s gs ms
 is_opened rule read left s e gs hs ms o =
     let n : length (take read gs) ≡ read = search (arith, length-take-le) in
     let inside : e ≤ read = omega arith in

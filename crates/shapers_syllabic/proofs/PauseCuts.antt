@@ -10,7 +10,7 @@ use Rattle.shapers_buffer.specs.GlyphFlags.{flagged}
 use Rattle.shapers_buffer.specs.Syllables.{with_bytes}
 use Rattle.shapers_clusters.specs.Cuts.{ShareNone}
 use Rattle.shapers_clusters.proofs.FlagCalls.{map-flagged}
-use Rattle.shapers_syllabic.specs.Borders.{spans_set_up, unnumbered}
+use Rattle.shapers_syllabic.specs.Borders.{spans_setup, unnumbered}
 use Rattle.shapers_syllabic.specs.ReorderingLaws.{PausesCutAtSpans, paused_carried, paused_order}
 use Rattle.shapers_syllabic.proofs.CircleLaws.{joined-syllables}
 use Rattle.shapers_syllabic.proofs.ReorderingCuts.{cuts_at_borders}
@@ -27,9 +27,9 @@ clusters-with_bytes : (gs : Glyphs) (bytes : List ℕ) → clusters (with_bytes 
 clusters-with_bytes (g ∷ gs) (byte ∷ bytes) = cc (clusters-with_bytes gs bytes)
 clusters-with_bytes _ _ = refl
 
-pub clusters-set_up : (spans : List Span) (broken_kind : ℕ) (b : Buffer)
-    → clusters (spans_set_up spans broken_kind b).glyphs ≡ clusters b.glyphs
-clusters-set_up = search (clusters-flagged, joined-syllables, clusters-with_bytes)
+pub clusters-setup : (spans : List Span) (broken_kind : ℕ) (b : Buffer)
+    → clusters (spans_setup spans broken_kind b).glyphs ≡ clusters b.glyphs
+clusters-setup = search (clusters-flagged, joined-syllables, clusters-with_bytes)
 
 pub apart_by : (xs ys gs hs : Glyphs) → clusters xs ≡ clusters gs → clusters ys ≡ clusters hs
     → ShareNone gs hs → ShareNone xs ys
@@ -41,16 +41,16 @@ apart_by xs ys gs hs a b none i j il jl same =
 pub pauses_cut : PausesCutAtSpans
 pauses_cut circles meaning steps spans broken_kind old new laws reads kinds done ss ts gs hs split text first second =
     let cluster : Glyph → ℕ = λ g. g.cluster in
-    let before = (spans_set_up ss broken_kind (record old { glyphs = gs })).glyphs in
+    let before = (spans_setup ss broken_kind (record old { glyphs = gs })).glyphs in
     let cut = spans_cut spans broken_kind old kinds ss ts gs hs split text first second in
     let behind = cut.behind in
     let pause = cuts_at_borders circles meaning steps
-    (spans_set_up spans broken_kind old) new laws done before behind cut.parts cut.border in
+    (spans_setup spans broken_kind old) new laws done before behind cut.parts cut.border in
     let serials = serials_dont_count circles meaning steps old.level behind
-    ((spans_set_up ts broken_kind (record old { glyphs = hs })).glyphs) reads cut.renumbered in
-    let front = clusters-set_up ss broken_kind (record old { glyphs = gs }) in
+    ((spans_setup ts broken_kind (record old { glyphs = hs })).glyphs) reads cut.renumbered in
+    let front = clusters-setup ss broken_kind (record old { glyphs = gs }) in
     let whole : clusters before ++ clusters behind ≡ clusters gs ++ clusters hs =
-    sym (map-append cluster before behind) ∙ sym (ap clusters cut.parts) ∙ clusters-set_up spans broken_kind old
+    sym (map-append cluster before behind) ∙ sym (ap clusters cut.parts) ∙ clusters-setup spans broken_kind old
     ∙ ap clusters text ∙ map-append cluster gs hs in
     let n = length (clusters gs) in
     let back : clusters behind ≡ clusters hs =

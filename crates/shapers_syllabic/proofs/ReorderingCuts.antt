@@ -10,7 +10,7 @@ use Rattle.shapers_buffer.specs.declared.buffer.level.BufferClusterLevel.{Buffer
 use Rattle.shapers_buffer.specs.Glyph.{clusters, order_view, plain}
 use Rattle.shapers_buffer.specs.Syllables.{syllables}
 use Rattle.shapers_clusters.specs.Cuts.{ShareNone}
-use Rattle.shapers_clusters.specs.Steps.{FitsStep, Step, run_steps, steps_along}
+use Rattle.shapers_clusters.specs.Steps.{FitsStep, Step, after_steps, steps_along}
 use Rattle.shapers_clusters.proofs.Proved.{halves_hold}
 use Rattle.shapers_syllabic.specs.declared.ot_shaper_syllabic.circles.DottedCircles.{DottedCircles}
 use Rattle.shapers_syllabic.specs.Circles.{circle_in, circled, circled_syllable, rephas_len, with_circle, with_circles}
@@ -91,15 +91,15 @@ text_order-halves = search (map-append, text_order-append, border-view)
 
 pub steps-halves : (meaning : Glyphs → Glyphs) (steps : Glyphs
     → List Step) (level : BufferClusterLevel) (gs hs : Glyphs) → ReorderLaws meaning steps
-    → MeetAtBorder gs hs → ShareNone gs hs → run_steps level (text_steps steps (order_view (gs ++ hs))) (gs ++ hs)
-    ≡ run_steps level (text_steps steps (order_view gs)) gs ++ run_steps level (text_steps steps (order_view hs)) hs
+    → MeetAtBorder gs hs → ShareNone gs hs → after_steps level (text_steps steps (order_view (gs ++ hs))) (gs ++ hs)
+    ≡ after_steps level (text_steps steps (order_view gs)) gs ++ after_steps level (text_steps steps (order_view hs)) hs
 steps-halves meaning steps level gs hs laws border none =
     let xs = order_view gs in
     let ys = order_view hs in
     let ps = pieces_of steps (syllables xs) in
-    ap (λ sts. run_steps level sts (gs ++ hs)) (text_steps-long steps (gs ++ hs))
-    ∙ ap (λ n. run_steps level (steps_along n 0 (pieces_of steps (syllables (order_view (gs ++ hs))))) (gs ++ hs))
-    (length-append gs hs) ∙ ap (λ pieces. run_steps level (steps_along (length gs + length hs) 0 pieces) (gs ++ hs))
+    ap (λ sts. after_steps level sts (gs ++ hs)) (text_steps-long steps (gs ++ hs))
+    ∙ ap (λ n. after_steps level (steps_along n 0 (pieces_of steps (syllables (order_view (gs ++ hs))))) (gs ++ hs))
+    (length-append gs hs) ∙ ap (λ pieces. after_steps level (steps_along (length gs + length hs) 0 pieces) (gs ++ hs))
     (ap (pieces_of steps) (search (map-append, syllables-append, border-view)) ∙ map-append (λ syl. (
       length syl,
       steps syl,
@@ -107,8 +107,8 @@ steps-halves meaning steps level gs hs laws border none =
     ∙ halves_hold level ps (pieces_of steps (syllables ys)) gs hs (sum-syllables steps xs ∙ length-map gs plain)
     (sum-syllables steps ys ∙ length-map hs plain) (each_piece FitsStep steps laws.fits (syllables xs))
     (each_piece FitsStep steps laws.fits (syllables ys)) none ∙ sym
-    (ap (λ sts. run_steps level sts gs ++ run_steps level (text_steps steps ys) hs) (text_steps-long steps gs) ∙ ap
-    (λ sts. run_steps level (steps_along (length gs) 0 ps) gs ++ run_steps level sts hs) (text_steps-long steps hs))
+    (ap (λ sts. after_steps level sts gs ++ after_steps level (text_steps steps ys) hs) (text_steps-long steps gs) ∙ ap
+    (λ sts. after_steps level (steps_along (length gs) 0 ps) gs ++ after_steps level sts hs) (text_steps-long steps hs))
 
 -- a whole pause
 pub cuts_at_borders : ReorderingCutsAtBorders
@@ -122,7 +122,7 @@ cuts_at_borders circles meaning steps old new laws done gs hs whole border =
       moved = λ none.
           cc (
             steps-halves meaning steps old.level xs ys laws meet (apart-circled circles gs hs none),
-            map-append carried (run_steps old.level (text_steps steps (order_view xs)) xs)
-                (run_steps old.level (text_steps steps (order_view ys)) ys),
+            map-append carried (after_steps old.level (text_steps steps (order_view xs)) xs)
+                (after_steps old.level (text_steps steps (order_view ys)) ys),
           );
     }

@@ -10,9 +10,9 @@ use Rattle.shapers_buffer.specs.declared.buffer.level.BufferClusterLevel.TheVari
 use Rattle.shapers_buffer.specs.Glyph.{order_view, plain}
 use Rattle.shapers_buffer.specs.Syllables.{syllables}
 use Rattle.shapers_clusters.specs.Flags.{seen}
-use Rattle.shapers_clusters.specs.Steps.{run_steps, FitSteps, FitsStep, MovesMerged, Permutes, Step, steps_along}
+use Rattle.shapers_clusters.specs.Steps.{after_steps, FitSteps, FitsStep, MovesMerged, Permutes, Step, steps_along}
 use Rattle.shapers_clusters.proofs.Proved.{along_holds, reordered_hold, seen_steps_hold}
-use Rattle.shapers_clusters.proofs.Views.{seen-permuted, seen-run_steps, seen-same}
+use Rattle.shapers_clusters.proofs.Views.{seen-permuted, seen-after_steps, seen-same}
 use Rattle.shapers_syllabic.specs.Reordering.{carried, glyph_numbers, text_order, text_steps}
 use Rattle.shapers_syllabic.specs.ReorderingLaws.{ReorderLaws, ReorderingLosesNothing, TextReorderedLaw}
 use Rattle.shapers_syllabic.proofs.CircleLaws.{joined-syllables}
@@ -22,7 +22,7 @@ use Rattle.shapers_syllabic.proofs.ReorderingWalk.{pieces_of}
 -- what a syllable becomes has what it had
 kept_syllable : (meaning : Glyphs → Glyphs) (steps : Glyphs → List Step) → ReorderLaws meaning steps → (gs : Glyphs)
     → IsPermutation (seen carried gs) (seen carried (meaning gs))
-kept_syllable meaning steps laws gs = search (arith, seen-run_steps carried carried_hides Characters (steps gs) gs, seen-permuted carried carried_hides Characters (steps gs) gs (laws.fits gs) (laws.permutes gs))
+kept_syllable meaning steps laws gs = search (arith, seen-after_steps carried carried_hides Characters (steps gs) gs, seen-permuted carried carried_hides Characters (steps gs) gs (laws.fits gs) (laws.permutes gs))
 
 kept_pieces : (meaning : Glyphs → Glyphs) (steps : Glyphs → List Step)
     → ReorderLaws meaning steps → (pieces : List Glyphs)
@@ -93,7 +93,7 @@ text_reordered meaning steps old new laws done =
     (along.permuted (each_piece Permutes steps laws.permutes (syllables xs))) in
     record {
       kept = subst (IsPermutation (seen carried gs))
-          (sym (seen-same carried new.glyphs (run_steps old.level (text_steps steps xs) gs) done.moved))
+          (sym (seen-same carried new.glyphs (after_steps old.level (text_steps steps xs) gs) done.moved))
           (seen-permuted carried carried_hides old.level (text_steps steps xs) gs fits permutes);
       glyphs = seen_steps_hold carried carried_hides old.level (text_steps steps xs) gs new.glyphs fits done.moved;
       merged = λ inside. reordered_hold carried carried_hides old.level (text_steps steps xs) gs new.glyphs

@@ -11,10 +11,10 @@ use Rattle.shapers_buffer.specs.Glyph.{order_view, plain}
 use Rattle.shapers_buffer.specs.Places.{listed, pick, placed}
 use Rattle.shapers_buffer.proofs.ClusterLemmas.{three_parts}
 use Rattle.shapers_clusters.specs.Flags.{HidesFields, seen}
-use Rattle.shapers_clusters.specs.Steps.{FitsStep, Step, run_steps, old_places, shifted, still_step, widened}
+use Rattle.shapers_clusters.specs.Steps.{FitsStep, Step, after_steps, old_places, shifted, still_step, widened}
 use Rattle.shapers_clusters.proofs.Merging.{length-merge_all}
 use Rattle.shapers_clusters.proofs.Picks.{pick-append, pick-map, pick-range, pick-all, pick-within}
-use Rattle.shapers_clusters.proofs.ViewedSteps.{PassesMerges, merge-same, merge_all-same, pick-same, run_steps-same, length-same}
+use Rattle.shapers_clusters.proofs.ViewedSteps.{PassesMerges, merge-same, merge_all-same, pick-same, after_steps-same, length-same}
 use Rattle.shapers_clusters.proofs.Widened.{fits-widened, pick-parts, range-three}
 use Rattle.shapers_clusters.proofs.Swaps.{still_moves_merged}
 use Rattle.shapers_syllabic.specs.Reordering.{SyllableReordered, carried}
@@ -35,9 +35,9 @@ pub merge_all-carried : (level : BufferClusterLevel) (sts : List (ℕ × ℕ)) (
     → map carried xs ≡ map carried ys → map carried (merge_all level sts xs) ≡ map carried (merge_all level sts ys)
 merge_all-carried = search (arith, merge_all-same)
 
-pub run_steps-carried : (level : BufferClusterLevel) (steps : List Step) (xs ys : Glyphs)
-    → map carried xs ≡ map carried ys → map carried (run_steps level steps xs) ≡ map carried (run_steps level steps ys)
-run_steps-carried = search (arith, run_steps-same)
+pub after_steps-carried : (level : BufferClusterLevel) (steps : List Step) (xs ys : Glyphs)
+    → map carried xs ≡ map carried ys → map carried (after_steps level steps xs) ≡ map carried (after_steps level steps ys)
+after_steps-carried = search (arith, after_steps-same)
 
 -- what is placed, by the places of the whole
 pick-in_parts : {X : Type 0} (s e : ℕ) (ps : List ℕ) (xs : List X) → s ≤ e → e ≤ length xs
@@ -83,7 +83,7 @@ pub moved_by_places : (level : BufferClusterLevel) (s e : ℕ) (step : Step) (ps
     → e ≤ length gs → FitsStep (e - s) step → step.merged_then ≡ [] → ps ≡ map (λ p. s + p) step.places
     → map carried ms ≡ map carried (merge_all level (shifted s step.merged_first) gs)
     → ns ≡ with_stretch s e (λ _. pick ps ms) ms
-    → map carried ns ≡ map carried (run_steps level (map (widened s e (length gs)) (step ∷ [])) gs)
+    → map carried ns ≡ map carried (after_steps level (map (widened s e (length gs)) (step ∷ [])) gs)
 moved_by_places level s e step ps gs ms ns h l f nothing are same is =
     let k : length (merge_all level (shifted s step.merged_first) gs) ≡ length gs =
     length-merge_all level (shifted s step.merged_first) gs (fits-widened s e (length gs) step h l f).first_within in
@@ -137,7 +137,7 @@ reordered_by_places = search (arith, order_by_places, moved_by_places)
 pub moved_by_merges : (level : BufferClusterLevel) (s e : ℕ) (step : Step) (gs ns : Glyphs) → s ≤ e
     → e ≤ length gs → FitsStep (e - s) step → step.places ≡ range_with_len 0 (e - s) → step.merged_then ≡ []
     → map carried ns ≡ map carried (merge_all level (shifted s step.merged_first) gs)
-    → map carried ns ≡ map carried (run_steps level (map (widened s e (length gs)) (step ∷ [])) gs)
+    → map carried ns ≡ map carried (after_steps level (map (widened s e (length gs)) (step ∷ [])) gs)
 moved_by_merges level s e step gs ns h l f stay nothing same =
     let merged = merge_all level (shifted s step.merged_first) gs in
     let k : length merged ≡ length gs = length-merge_all level (shifted s step.merged_first) gs (fits-widened s e
@@ -150,7 +150,7 @@ still_fits n = (still_moves_merged n).fits
 
 pub still_moved : (level : BufferClusterLevel) (s e : ℕ) (gs ns : Glyphs) → s ≤ e → e ≤ length gs
     → map carried ns ≡ map carried gs
-    → map carried ns ≡ map carried (run_steps level (map (widened s e (length gs)) (still_step (e - s) ∷ [])) gs)
+    → map carried ns ≡ map carried (after_steps level (map (widened s e (length gs)) (still_step (e - s) ∷ [])) gs)
 still_moved = search (moved_by_merges, still_fits)
 
 -- What a body shows that changes its syllable alone, and moves and merges nothing.

@@ -7,14 +7,14 @@ use Rattle.shapers_buffer.specs.declared.buffer.level.BufferClusterLevel.TheVari
 use Rattle.shapers_buffer.specs.declared.buffer.syllables.Span.{Span}
 use Rattle.shapers_buffer.specs.Buffer.{Buffer, new_buffer}
 use Rattle.shapers_buffer.specs.Glyph.{clusters, default_glyph}
-use Rattle.shapers_clusters.specs.Steps.{Step, run_steps}
+use Rattle.shapers_clusters.specs.Steps.{Step, after_steps}
 use Rattle.shapers_syllabic.specs.declared.ot_shaper_syllabic.circles.DottedCircles.{DottedCircles}
 use Rattle.shapers_syllabic.specs.Reordering.{RefusesIf, SyllablesLinked, TakesText, carried, glyph_numbers, syllable_lens, script_circles, first_unknown, kind_refusal, text_order, text_steps}
 use Rattle.shapers_syllabic.specs.declared.ot_shaper_syllabic.circles.ScriptCircles.{ScriptCircles}
 use Rattle.shapers_base.specs.Font.{Font}
 use Rattle.shapers_base.specs.declared.font.GlyphId.{GlyphId}
 use Rattle.shapers_buffer.specs.declared.buffer.refusal.ShaperError.TheVariants.{Memory, TooLong, UnknownSyllable}
-use Rattle.shapers_syllabic.specs.Borders.{MeetAtBorder, SameButSerials, spans_set_up, unnumbered}
+use Rattle.shapers_syllabic.specs.Borders.{MeetAtBorder, SameButSerials, spans_setup, unnumbered}
 use Rattle.shapers_syllabic.specs.ReorderingLaws.{paused_carried, paused_order}
 
 -- what is carried along, and what is hidden, field by field
@@ -141,15 +141,15 @@ steps_of_nothing = refl
 
 -- where the steps lead, at a level that merges and at one that doesn't
 steps_lead : map (λ g. let row : ℕ × ℕ × ℕ = (g.glyph_id, g.cluster, g.mask) in row)
-    (run_steps MonotoneGraphemes (text_steps turned three) three) ≡ (2, 0, 8) ∷ (1, 0, 9) ∷ (3, 2, 9) ∷ (6, 3, 8)
+    (after_steps MonotoneGraphemes (text_steps turned three) three) ≡ (2, 0, 8) ∷ (1, 0, 9) ∷ (3, 2, 9) ∷ (6, 3, 8)
     ∷ (5, 3, 8) ∷ (4, 3, 9) ∷ []
 steps_lead = refl
 
-steps_move : clusters (run_steps Characters (text_steps turned three) three) ≡ 1 ∷ 0 ∷ 2 ∷ 5 ∷ 4 ∷ 3 ∷ []
+steps_move : clusters (after_steps Characters (text_steps turned three) three) ≡ 1 ∷ 0 ∷ 2 ∷ 5 ∷ 4 ∷ 3 ∷ []
 steps_move = refl
 
 -- syllables of equal clusters merge across their border
-steps_across : clusters (run_steps MonotoneGraphemes
+steps_across : clusters (after_steps MonotoneGraphemes
     (text_steps turned (text ((1, 0, 0x10) ∷ (2, 2, 0x20) ∷ (3, 2, 0x30) ∷ (4, 1, 0x30) ∷ [])))
     (text ((1, 0, 0x10) ∷ (2, 2, 0x20) ∷ (3, 2, 0x30) ∷ (4, 1, 0x30) ∷ []))) ≡ 0 ∷ 1 ∷ 1 ∷ 1 ∷ []
 steps_across = refl
@@ -208,20 +208,20 @@ other_cut same = cc
 abbrev spans_of : List (ℕ × ℕ) → List Span
 spans_of rows = map (λ row. let span : Span = record { len = row.0; kind = row.1 } in span) rows
 
-abbrev set_up_of : List (ℕ × ℕ) → List ℕ → List (ℕ × ℕ × ℕ)
-set_up_of spans cs =
-    map (λ g. let row : ℕ × ℕ × ℕ = (g.cluster, g.syllable, g.mask) in row) (spans_set_up (spans_of spans) 4
+abbrev setup_of : List (ℕ × ℕ) → List ℕ → List (ℕ × ℕ × ℕ)
+setup_of spans cs =
+    map (λ g. let row : ℕ × ℕ × ℕ = (g.cluster, g.syllable, g.mask) in row) (spans_setup (spans_of spans) 4
     (record (new_buffer 100) { glyphs = map (λ c. record default_glyph { cluster = c }) cs })).glyphs
 
-set_up_whole : set_up_of ((2, 0) ∷ (1, 4) ∷ (2, 1) ∷ []) (0 ∷ 1 ∷ 2 ∷ 3 ∷ 4 ∷ []) ≡ (0, 0x10, 0) ∷ (1, 0x10, 3)
+setup_whole : setup_of ((2, 0) ∷ (1, 4) ∷ (2, 1) ∷ []) (0 ∷ 1 ∷ 2 ∷ 3 ∷ 4 ∷ []) ≡ (0, 0x10, 0) ∷ (1, 0x10, 3)
     ∷ (2, 0x24, 0) ∷ (3, 0x31, 0) ∷ (4, 0x31, 3) ∷ []
-set_up_whole = refl
+setup_whole = refl
 
-set_up_first : set_up_of ((2, 0) ∷ (1, 4) ∷ []) (0 ∷ 1 ∷ 2 ∷ []) ≡ (0, 0x10, 0) ∷ (1, 0x10, 3) ∷ (2, 0x24, 0) ∷ []
-set_up_first = refl
+setup_first : setup_of ((2, 0) ∷ (1, 4) ∷ []) (0 ∷ 1 ∷ 2 ∷ []) ≡ (0, 0x10, 0) ∷ (1, 0x10, 3) ∷ (2, 0x24, 0) ∷ []
+setup_first = refl
 
-set_up_second : set_up_of ((2, 1) ∷ []) (3 ∷ 4 ∷ []) ≡ (3, 0x11, 0) ∷ (4, 0x11, 3) ∷ []
-set_up_second = refl
+setup_second : setup_of ((2, 1) ∷ []) (3 ∷ 4 ∷ []) ≡ (3, 0x11, 0) ∷ (4, 0x11, 3) ∷ []
+setup_second = refl
 
 -- the circles of a shaper in a buffer, by the font's glyph
 abbrev script : ScriptCircles

@@ -8,9 +8,9 @@ use Rattle.shapers_buffer.specs.Glyphs.{Glyphs}
 use Rattle.shapers_buffer.specs.declared.buffer.tag.Script.{Script}
 use Rattle.shapers_buffer.specs.Buffer.{Buffer}
 use Rattle.shapers_buffer.specs.Glyph.{order_view, plain}
-use Rattle.shapers_buffer.specs.SyllableLaws.{OpensWithSyllable}
+use Rattle.shapers_buffer.specs.SyllableLaws.{BeginsWithSyllable}
 use Rattle.shapers_buffer.specs.Syllables.{first_syllable_len, has_byte}
-use Rattle.shapers_buffer.proofs.SyllableLaws.{syllables_are_runs}
+use Rattle.shapers_buffer.proofs.SyllableLaws.{syllables_are_longest}
 use Rattle.shapers_clusters.specs.Flags.{seen}
 use Rattle.shapers_clusters.specs.Steps.{Step, old_places}
 use Rattle.shapers_clusters.proofs.Moves.{length-old_places, within-old_places}
@@ -48,9 +48,9 @@ first_len-view [] = refl
 first_len-view (g ∷ gs) = search (arith, prefix-view)
 
 -- a text that isn't empty opens with a syllable, which isn't longer than it
-pub opens : (gs : Glyphs) → 0 < length gs → OpensWithSyllable gs
+pub opens : (gs : Glyphs) → 0 < length gs → BeginsWithSyllable gs
 opens [] h = absurd (omega arith)
-opens (g ∷ gs) h = syllables_are_runs g gs
+opens (g ∷ gs) h = syllables_are_longest g gs
 
 pub first_len-within : (gs : Glyphs) → first_syllable_len gs ≤ length gs
 first_len-within [] = omega arith

@@ -8,7 +8,7 @@ use Rattle.shapers_buffer.specs.Glyph.{order_view}
 use Rattle.shapers_buffer.specs.GlyphFlags.{flagged, with_bits_off}
 use Rattle.shapers_buffer.specs.Syllables.{kind_of, syllables}
 use Rattle.shapers_clusters.specs.Steps.{Step}
-use Rattle.shapers_clusters.proofs.ViewedSteps.{PassesMerges, clusters-through, run_steps-same}
+use Rattle.shapers_clusters.proofs.ViewedSteps.{PassesMerges, clusters-through, after_steps-same}
 use Rattle.shapers_syllabic.specs.declared.ot_shaper_syllabic.circles.DottedCircles.{DottedCircles}
 use Rattle.shapers_syllabic.specs.Borders.{SameButSerials, unnumbered}
 use Rattle.shapers_syllabic.specs.Circles.{circle_in, circled, circled_syllable, is_of_kind, rephas_len, with_circle}
@@ -135,4 +135,4 @@ carried-unnumbered [] = refl
 carried-unnumbered (g ∷ gs) = cc (carried-unnumbered gs)
 
 pub serials_dont_count : SerialsDontCount
-serials_dont_count = search (arith, joined_same, same-view, same-circled, length-map, same_text, steps_same, carried-unnumbered, run_steps-same)
+serials_dont_count = search (arith, joined_same, same-view, same-circled, length-map, same_text, steps_same, carried-unnumbered, after_steps-same)

@@ -9,7 +9,7 @@ use Rattle.shapers_buffer.specs.Glyphs.{Glyph, Glyphs}
 use Rattle.shapers_buffer.specs.declared.buffer.syllables.Span.{Span}
 use Rattle.shapers_buffer.specs.Clusters.{with_stretch}
 use Rattle.shapers_syllabic.specs.Syllabic.{unsafe_syllables, in_unsafe_syllable}
-use Rattle.shapers_buffer.specs.Syllables.{syllables, with_opening, in_syllable, span_byte, span_bytes, spans_cover, with_bytes}
+use Rattle.shapers_buffer.specs.Syllables.{syllables, with_in_front, in_syllable, span_byte, span_bytes, spans_cover, with_bytes}
 use Rattle.shapers_buffer.proofs.SyllableLemmas.{with_bytes-replicate}
 
 -- whether a text opens with another byte, or is empty
@@ -18,7 +18,7 @@ opens_other byte [] = true
 opens_other byte (g ∷ gs) = not (g.syllable == byte)
 
 alone : (g : Glyph) (ys : Glyphs) → opens_other g.syllable ys ≡ true
-    → with_opening g (syllables ys) ≡ (g ∷ []) ∷ syllables ys
+    → with_in_front g (syllables ys) ≡ (g ∷ []) ∷ syllables ys
 alone g [] other = refl
 alone g (y ∷ ys) other = search (arith, not-true)
 
@@ -77,18 +77,18 @@ cut_next i span spans gs kinds covers =
     )
 
 -- after a span was set up
-pub record SetUpNext (i : ℕ) (span : Span) (spans : List Span) (gs hs : Glyphs) (start end : ℕ) : Type
+pub record SetupNext (i : ℕ) (span : Span) (spans : List Span) (gs hs : Glyphs) (start end : ℕ) : Type
     0 where
   pub done : take end hs ++ unsafe_syllables (with_bytes (drop end hs) (span_bytes (suc i) spans)) ≡ take start gs
       ++ unsafe_syllables (with_bytes (drop start gs) (span_bytes i (span ∷ spans)))
   pub covered : spans_cover (length (drop end hs)) spans ≡ true
   pub inside : end ≤ length hs
 
-pub set_up_next : (i : ℕ) (span : Span) (spans : List Span) (gs : Glyphs) (start end : ℕ)
+pub setup_next : (i : ℕ) (span : Span) (spans : List Span) (gs : Glyphs) (start end : ℕ)
     → end ≡ start + span.len → start ≤ length gs → All (λ s. s.kind ≤ 15) (span ∷ spans)
     → spans_cover (length (drop start gs)) (span ∷ spans) ≡ true
-    → SetUpNext i span spans gs (with_stretch start end (in_unsafe_syllable (span_byte i span)) gs) start end
-set_up_next i span spans gs start end end_is inside kinds covers =
+    → SetupNext i span spans gs (with_stretch start end (in_unsafe_syllable (span_byte i span)) gs) start end
+setup_next i span spans gs start end end_is inside kinds covers =
     let rest = drop start gs in
     let n = span.len in
     let first = covers_first (length rest) span spans covers in

@@ -8,7 +8,7 @@ use Rattle.shapers_syllabic.specs.declared.ot_shaper_syllabic.kinds.use_syllable
 use Rattle.shapers_buffer.specs.Buffer.{Buffer, new_buffer}
 use Rattle.shapers_buffer.specs.Glyph.{default_glyph}
 use Rattle.shapers_syllabic.specs.MovedForward.{moved_forward}
-use Rattle.shapers_syllabic.specs.Syllabic.{in_unsafe_syllable, set_up_by_bytes, unsafe_spans, unsafe_syllables, unsubstituted, with_unsafe_syllables}
+use Rattle.shapers_syllabic.specs.Syllabic.{in_unsafe_syllable, setup_by_bytes, unsafe_spans, unsafe_syllables, unsubstituted, with_unsafe_syllables}
 use Rattle.shapers_buffer.specs.Syllables.{in_syllable, kind_of, with_spans}
 
 -- the kinds, in the order of their numbers
@@ -59,18 +59,18 @@ cleared_of_others : unsubstituted (record full { glyph_props = record { 0 = 0xFF
 cleared_of_others = refl
 
 -- the span pause: bytes, flags inside each syllable, and the mark of a broken one
-abbrev set_up : Buffer
-set_up = with_unsafe_syllables (with_spans (record { len = 2; kind = 0 } ∷ record { len = 1; kind = 4 } ∷ []) 4
+abbrev setup : Buffer
+setup = with_unsafe_syllables (with_spans (record { len = 2; kind = 0 } ∷ record { len = 1; kind = 4 } ∷ []) 4
     (record (new_buffer 100) {
       glyphs = map (λ c. let g : Glyph = record default_glyph { cluster = c } in g) (0 ∷ 1 ∷ 2 ∷ []);
     }))
 
-set_up_bytes : map (λ g. let row : ℕ × ℕ = (g.syllable, g.mask) in row) set_up.glyphs ≡ (0x10, 0) ∷ (0x10, 3)
+setup_bytes : map (λ g. let row : ℕ × ℕ = (g.syllable, g.mask) in row) setup.glyphs ≡ (0x10, 0) ∷ (0x10, 3)
     ∷ (0x24, 0) ∷ []
-set_up_bytes = refl
+setup_bytes = refl
 
-set_up_broken : set_up.broken ≡ true
-set_up_broken = refl
+setup_broken : setup.broken ≡ true
+setup_broken = refl
 
 -- no break inside a syllable: each has its own least cluster, and bits 1 and 2 for the rest
 abbrev of_rows : List (ℕ × ℕ) → Glyphs
@@ -81,11 +81,11 @@ unsafe : map (λ g. g.mask)
     ≡ 3 ∷ 0 ∷ 0 ∷ 0 ∷ 3 ∷ 0 ∷ []
 unsafe = refl
 
-unsafe_set_up : unsafe_spans (record { len = 2; kind = 0 } ∷ record { len = 1; kind = 4 } ∷ [])
+unsafe_setup : unsafe_spans (record { len = 2; kind = 0 } ∷ record { len = 1; kind = 4 } ∷ [])
     (of_rows ((0, 0) ∷ (0, 1) ∷ (0, 2) ∷ [])) ≡ record default_glyph { syllable = 0x10 }
     ∷ record default_glyph { syllable = 0x10; cluster = 1; mask = 3 }
     ∷ record default_glyph { syllable = 0x24; cluster = 2 } ∷ []
-unsafe_set_up = refl
+unsafe_setup = refl
 
 unsafe_in_one : in_unsafe_syllable 0x24 (of_rows ((0, 0) ∷ (1, 1) ∷ [])) ≡ record default_glyph { syllable = 0x24 }
     ∷ record default_glyph { syllable = 0x24; cluster = 1; mask = 3 } ∷ []
@@ -95,7 +95,7 @@ unsafe_in_one = refl
 -- mark where one is of the broken kind
 abbrev by_bytes : ℕ → List (ℕ × ℕ) → Buffer
 by_bytes kind gs =
-    set_up_by_bytes kind
+    setup_by_bytes kind
     (record (new_buffer 9) { glyphs = map (λ (g : ℕ × ℕ). record default_glyph { cluster = g.0; syllable = g.1 }) gs })
 
 masks_by_bytes : map (λ (g : Glyph). g.mask)
@@ -109,7 +109,7 @@ marked_by_bytes = refl
 unmarked_by_bytes : (by_bytes 4 ((0, 0x10) ∷ (1, 0x45) ∷ [])).broken ≡ false
 unmarked_by_bytes = refl
 
-still_marked : (set_up_by_bytes 4 (record (new_buffer 9) { broken = true })).broken ≡ true
+still_marked : (setup_by_bytes 4 (record (new_buffer 9) { broken = true })).broken ≡ true
 still_marked = refl
 
 -- an element moved before others: to the start, past one and two, from the end, and to where it stands

@@ -8,9 +8,9 @@ use Rattle.shapers_buffer.specs.Clusters.{stretch_of, with_stretch}
 use Rattle.shapers_buffer.specs.Glyph.{order_view, plain}
 use Rattle.shapers_buffer.proofs.ClusterLemmas.{three_parts}
 use Rattle.shapers_buffer.proofs.MappedLists.{map-hidden, map-seen}
-use Rattle.shapers_clusters.specs.Steps.{Step, run_step, run_steps, widened}
+use Rattle.shapers_clusters.specs.Steps.{Step, after_step, after_steps, widened}
 use Rattle.shapers_syllabic.specs.Reordering.{SyllableReordered, carried}
-use Rattle.shapers_syllabic.proofs.ReorderingLemmas.{run_steps-carried, stretch-carried, stretch-viewed}
+use Rattle.shapers_syllabic.proofs.ReorderingLemmas.{after_steps-carried, stretch-carried, stretch-viewed}
 
 -- the parts of a list whose stretch from s to e was changed by what keeps its length
 pub record ChangedParts {X : Type 0} (s e : ℕ) (front middle back new : List X) : Type 0 where
@@ -39,7 +39,7 @@ syllable_then first next steps steps_then s e old mid new h l k one two =
     let parts = changed_parts s e front (first syl) back (order_view mid.glyphs) h fn k one.order in
     let ws = map (widened s e n) (steps syl) in
     let ts = map (widened s e n) (steps_then (first syl)) in
-    search (arith, length-map mid.glyphs plain, length-append front (first syl ++ back), length-append (first syl) back, length-drop e xs, run_steps-carried old.level ts mid.glyphs (run_steps old.level ws old.glyphs) one.moved, fold-append (λ gs step. run_step old.level step gs) old.glyphs ws ts, map-append (widened s e n) (steps syl) (steps_then (first syl)))
+    search (arith, length-map mid.glyphs plain, length-append front (first syl ++ back), length-append (first syl) back, length-drop e xs, after_steps-carried old.level ts mid.glyphs (after_steps old.level ws old.glyphs) one.moved, fold-append (λ gs step. after_step old.level step gs) old.glyphs ws ts, map-append (widened s e n) (steps syl) (steps_then (first syl)))
 
 -- what is said of a syllable by meanings and steps holds by others that are the same of it
 pub syllable_as : (meaning other : Glyphs → Glyphs) (steps others : Glyphs → List Step) (s e : ℕ) (old new : Buffer)

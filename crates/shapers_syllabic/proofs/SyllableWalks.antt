@@ -5,13 +5,13 @@ use Rattle.std.proofs.lemmas.List.{take_at, drop_at, drop-drop}
 use Rattle.shapers_buffer.specs.Glyphs.{Glyphs}
 use Rattle.shapers_buffer.specs.Clusters.{stretch_of, with_stretch}
 use Rattle.shapers_buffer.specs.Syllables.{first_syllable_len, syllables}
-use Rattle.shapers_buffer.proofs.SyllableLaws.{syllables_are_runs}
+use Rattle.shapers_buffer.proofs.SyllableLaws.{syllables_are_longest}
 
 -- a text, and one from place s on, by its first syllable
 by_first : (gs : Glyphs) (n : ℕ) → 0 < length gs → n ≡ first_syllable_len gs
     → syllables gs ≡ take n gs ∷ syllables (drop n gs)
 by_first [] n some is = absurd (omega arith)
-by_first (g ∷ gs) n some is = rw is (syllables_are_runs g gs)
+by_first (g ∷ gs) n some is = rw is (syllables_are_longest g gs)
 
 pub syllables_from : (s n : ℕ) (gs : Glyphs) → 0 < length (drop s gs) → n ≡ first_syllable_len (drop s gs)
     → syllables (drop s gs) ≡ take n (drop s gs) ∷ syllables (drop (s + n) gs)

@@ -22,12 +22,12 @@ abbrev pub SameButSerials : Glyphs → Glyphs → Type 0
 SameButSerials gs hs = map (map unnumbered) (syllables gs) ≡ map (map unnumbered) (syllables hs)
 
 -- the buffer set up by spans: their bytes, the mark of a broken one, no break inside a syllable
-abbrev pub spans_set_up : List Span → ℕ → Buffer → Buffer
-spans_set_up spans broken_kind b = with_unsafe_syllables (with_spans spans broken_kind b)
+abbrev pub spans_setup : List Span → ℕ → Buffer → Buffer
+spans_setup spans broken_kind b = with_unsafe_syllables (with_spans spans broken_kind b)
 
 -- Spans cut between two of them: what the first make of their glyphs, and behind it, serials apart,
 -- what the others make of theirs; the two meet at a border. It is broken where one of them is.
-pub record SetUpOfHalves (made : List Span → Glyphs → Glyphs) (broken_kind : ℕ) (ss ts : List Span)
+pub record SetupOfHalves (made : List Span → Glyphs → Glyphs) (broken_kind : ℕ) (ss ts : List Span)
     (gs hs shown : Glyphs) (old new : Buffer) : Type 0 where
   pub behind : Glyphs
   pub parts : shown ≡ made ss gs ++ behind
@@ -37,19 +37,19 @@ pub record SetUpOfHalves (made : List Span → Glyphs → Glyphs) (broken_kind :
       ≡ ((with_spans ss broken_kind old).broken || (with_spans ts broken_kind old).broken)
 
 -- so between any two spans, by what they make of glyphs, of the new glyphs as they are shown
-abbrev pub SetUpCuts : (List Span → Glyphs → Glyphs) → ℕ → List Span →
+abbrev pub SetupCuts : (List Span → Glyphs → Glyphs) → ℕ → List Span →
     Glyphs → Buffer → Buffer → Type 0
-SetUpCuts made broken_kind spans shown old new =
+SetupCuts made broken_kind spans shown old new =
     (ss ts : List Span) (gs hs : Glyphs) →
     spans ≡ ss ++ ts → old.glyphs ≡ gs ++ hs → spans_cover (length gs) ss ≡ true →
     spans_cover (length hs) ts ≡ true →
-    SetUpOfHalves made broken_kind ss ts gs hs shown old new
+    SetupOfHalves made broken_kind ss ts gs hs shown old new
 
-abbrev pub SetUpCutsAtSpans : List Span → ℕ → Buffer → Buffer → Type 0
-SetUpCutsAtSpans spans broken_kind old new =
-    SetUpCuts unsafe_spans broken_kind spans new.glyphs old new
+abbrev pub SetupCutsAtSpans : List Span → ℕ → Buffer → Buffer → Type 0
+SetupCutsAtSpans spans broken_kind old new =
+    SetupCuts unsafe_spans broken_kind spans new.glyphs old new
 
 abbrev pub SpansCutLaw : Type 0
 SpansCutLaw = (spans : List Span) (broken_kind : ℕ) (old : Buffer) →
     All (λ span. span.kind ≤ 15) spans →
-    SetUpCutsAtSpans spans broken_kind old (spans_set_up spans broken_kind old)
+    SetupCutsAtSpans spans broken_kind old (spans_setup spans broken_kind old)

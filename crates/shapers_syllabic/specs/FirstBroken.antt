@@ -35,7 +35,7 @@ pub record IsLastBroken (rule : DottedCircles) (gs : Glyphs) (start end :
 -- The glyphs before and after the last of so many broken syllables of the first `read` glyphs, at
 -- `start`, is opened: what stands before it is left, and what stands behind it from then on is what
 -- becomes of the rest.
-pub record IsOpened (rule : DottedCircles) (read left start : ℕ) (gs hs : Glyphs) : Type 0 where
+pub record IsCircled (rule : DottedCircles) (read left start : ℕ) (gs hs : Glyphs) : Type 0 where
   pub before : start < read
   pub same_length : length hs ≡ length gs
   pub front : take start hs ≡ take start gs

@@ -14,7 +14,7 @@ use Rattle.shapers_buffer.specs.declared.buffer.refusal.ShaperError.TheVariants.
 use Rattle.shapers_syllabic.specs.declared.ot_shaper_syllabic.circles.ScriptCircles.{ScriptCircles}
 use Rattle.shapers_syllabic.specs.declared.ot_shaper_syllabic.circles.DottedCircles.{DottedCircles}
 use Rattle.shapers_syllabic.specs.Circles.{circled, circles_for}
-use Rattle.shapers_clusters.specs.Steps.{Step, run_steps, steps_along, widened}
+use Rattle.shapers_clusters.specs.Steps.{Step, after_steps, steps_along, widened}
 
 -- What a reordering carries along: all but feature masks, category, auxiliary byte and what lookups
 -- did to the glyph.
@@ -83,7 +83,7 @@ pub record SyllableReordered (meaning : Glyphs →
   pub others : but_places new ≡ record (but_places old) { glyphs = new.glyphs }
   pub order : order_view new.glyphs ≡ with_stretch s e meaning (order_view old.glyphs)
   pub moved : map carried new.glyphs
-      ≡ map carried (run_steps old.level (map (widened s e (length old.glyphs))
+      ≡ map carried (after_steps old.level (map (widened s e (length old.glyphs))
       (steps (stretch_of s e (order_view old.glyphs)))) old.glyphs)
 
 -- The same of a whole text: its order view is the text order, and all steps lead to its glyphs.
@@ -93,7 +93,7 @@ pub record SyllablesReordered (meaning : Glyphs →
   pub others : new ≡ record old { glyphs = new.glyphs; places = [] }
   pub order : order_view new.glyphs ≡ text_order meaning (order_view old.glyphs)
   pub moved : map carried new.glyphs
-      ≡ map carried (run_steps old.level (text_steps steps (order_view old.glyphs)) old.glyphs)
+      ≡ map carried (after_steps old.level (text_steps steps (order_view old.glyphs)) old.glyphs)
 
 -- the circles that a buffer of a script gets, where the font has a glyph for them
 abbrev pub script_circles : ScriptCircles → Font → Buffer → Option DottedCircles

@@ -12,9 +12,9 @@ use Rattle.shapers_buffer.specs.Places.{pick}
 use Rattle.shapers_clusters.specs.Cuts.{ShareNone}
 use Rattle.shapers_clusters.specs.Flags.{seen}
 use Rattle.shapers_clusters.specs.Laws.{ReorderedHold, SeenStepsHold}
-use Rattle.shapers_clusters.specs.Steps.{FitSteps, MovesMerged, Permutes, Step, joined_steps, old_places, run_steps}
+use Rattle.shapers_clusters.specs.Steps.{FitSteps, MovesMerged, Permutes, Step, joined_steps, old_places, after_steps}
 use Rattle.shapers_syllabic.specs.declared.ot_shaper_syllabic.circles.DottedCircles.{DottedCircles}
-use Rattle.shapers_syllabic.specs.Borders.{MeetAtBorder, SameButSerials, spans_set_up, unnumbered}
+use Rattle.shapers_syllabic.specs.Borders.{MeetAtBorder, SameButSerials, spans_setup, unnumbered}
 use Rattle.shapers_syllabic.specs.Circles.{circled}
 use Rattle.shapers_syllabic.specs.Reordering.{PauseReordered, SyllablesReordered, carried, text_order, text_steps}
 
@@ -72,7 +72,7 @@ paused_order circles meaning gs = text_order meaning (order_view (circled circle
 abbrev pub paused_carried : Option DottedCircles → (Glyphs → List Step) →
     BufferClusterLevel → Glyphs → Glyphs
 paused_carried circles steps level gs =
-    map carried (run_steps level (text_steps steps (order_view (circled circles gs)))
+    map carried (after_steps level (text_steps steps (order_view (circled circles gs)))
     (circled circles gs))
 
 -- and its clusters
@@ -149,21 +149,21 @@ SerialsDontCount = (circles : Option DottedCircles)
 -- Spans set up, and a reordering pause directly after, cut between two spans: order view, and where
 -- the halves share no cluster all that is carried along, are those of the halves, set up and
 -- reordered each for itself, one after the other, but for serials.
-pub record SetUpAndPauseOfHalves (circles : Option DottedCircles) (meaning : Glyphs →
+pub record SetupAndPauseOfHalves (circles : Option DottedCircles) (meaning : Glyphs →
     Glyphs) (steps : Glyphs →
     List Step) (ss ts : List Span) (broken_kind : ℕ) (gs hs : Glyphs) (old new :
     Buffer) : Type 0 where
   pub order : map unnumbered (order_view new.glyphs)
       ≡ map unnumbered (paused_order circles meaning
-      (spans_set_up ss broken_kind (record old { glyphs = gs })).glyphs)
+      (spans_setup ss broken_kind (record old { glyphs = gs })).glyphs)
       ++ map unnumbered (paused_order circles meaning
-      (spans_set_up ts broken_kind (record old { glyphs = hs })).glyphs)
+      (spans_setup ts broken_kind (record old { glyphs = hs })).glyphs)
   pub moved : ShareNone gs hs →
       map unnumbered (map carried new.glyphs)
       ≡ map unnumbered (paused_carried circles steps old.level
-      (spans_set_up ss broken_kind (record old { glyphs = gs })).glyphs)
+      (spans_setup ss broken_kind (record old { glyphs = gs })).glyphs)
       ++ map unnumbered (paused_carried circles steps old.level
-      (spans_set_up ts broken_kind (record old { glyphs = hs })).glyphs)
+      (spans_setup ts broken_kind (record old { glyphs = hs })).glyphs)
 
 abbrev pub PausesCutAtSpans : Type 0
 PausesCutAtSpans = (circles : Option DottedCircles)
@@ -171,8 +171,8 @@ PausesCutAtSpans = (circles : Option DottedCircles)
     (steps : Glyphs → List Step) (spans : List Span) (broken_kind : ℕ)
     (old new : Buffer) →
     ReorderLaws meaning steps → ReadsNoSerials meaning steps → All (λ span. span.kind ≤ 15) spans →
-    PauseReordered circles meaning steps (spans_set_up spans broken_kind old) new →
+    PauseReordered circles meaning steps (spans_setup spans broken_kind old) new →
     (ss ts : List Span) (gs hs : Glyphs) →
     spans ≡ ss ++ ts → old.glyphs ≡ gs ++ hs → spans_cover (length gs) ss ≡ true →
     spans_cover (length hs) ts ≡ true →
-    SetUpAndPauseOfHalves circles meaning steps ss ts broken_kind gs hs old new
+    SetupAndPauseOfHalves circles meaning steps ss ts broken_kind gs hs old new

@@ -8,7 +8,7 @@ use Rattle.shapers_buffer.specs.Syllables.{spans_cover}
 use Rattle.shapers_clusters.specs.Cuts.{ShareNone}
 use Rattle.shapers_clusters.specs.Steps.{Step}
 use Rattle.shapers_syllabic.specs.declared.ot_shaper_syllabic.circles.DottedCircles.{DottedCircles}
-use Rattle.shapers_syllabic.specs.Borders.{MeetAtBorder, SameButSerials, spans_set_up, unnumbered}
+use Rattle.shapers_syllabic.specs.Borders.{MeetAtBorder, SameButSerials, spans_setup, unnumbered}
 use Rattle.shapers_syllabic.specs.Reordering.{PauseReordered}
 use Rattle.shapers_syllabic.specs.ReorderingLaws.{ReadsNoSerials, ReorderLaws, paused_clusters, paused_order}
 use Rattle.shapers_syllabic.specs.Syllabic.{unsafe_spans}
@@ -27,11 +27,11 @@ abbrev pub CutsBetweenSpans : (Glyph → Glyph) →
     (List Span → Glyphs → Glyphs) →
     (Glyphs → Glyphs) → (Glyphs → List ℕ) → List Span →
     Glyphs → Glyphs → Type 0
-CutsBetweenSpans view set_up made clusters_made spans old new =
+CutsBetweenSpans view setup made clusters_made spans old new =
     (ss ts : List Span) (gs hs xs ys : Glyphs) →
     spans ≡ ss ++ ts → old ≡ gs ++ hs → spans_cover (length gs) ss ≡ true →
     spans_cover (length hs) ts ≡ true →
-    SameButSerials (set_up ss gs) xs → SameButSerials (set_up ts hs) ys →
+    SameButSerials (setup ss gs) xs → SameButSerials (setup ts hs) ys →
     HalvesJoined view made clusters_made gs hs xs ys new
 
 -- So at every border of syllables: each half may have other serials, as long as neighbours differ.
@@ -49,7 +49,7 @@ abbrev pub PauseCutsBetweenSpans : (Glyphs → Glyphs) →
 PauseCutsBetweenSpans meaning steps broken_kind =
     (circles : Option DottedCircles) (spans : List Span) (old new : Buffer) →
     All (λ span. span.kind ≤ 15) spans →
-    PauseReordered circles meaning steps (spans_set_up spans broken_kind old) new →
+    PauseReordered circles meaning steps (spans_setup spans broken_kind old) new →
     CutsBetweenSpans unnumbered unsafe_spans (paused_order circles meaning)
     (paused_clusters circles steps old.level) spans old.glyphs new.glyphs
 

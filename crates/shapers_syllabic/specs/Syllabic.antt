@@ -18,8 +18,8 @@ with_unsafe_syllables b = record b { glyphs = unsafe_syllables b.glyphs }
 
 -- the buffer set up by the syllable bytes that it has: with a syllable of the broken kind, it is
 -- marked
-abbrev pub set_up_by_bytes : ℕ → Buffer → Buffer
-set_up_by_bytes kind b = record b {
+abbrev pub setup_by_bytes : ℕ → Buffer → Buffer
+setup_by_bytes kind b = record b {
   glyphs = unsafe_syllables b.glyphs;
   broken = b.broken || list_any (λ g. kind_of g.syllable == kind) b.glyphs;
 }

@@ -12,11 +12,11 @@ use Rattle.std.specs.Option.{option_map_or}
 use Rattle.shapers_buffer.specs.declared.buffer.level.BufferClusterLevel.{BufferClusterLevel}
 use Rattle.shapers_clusters.specs.Flags.{whole}
 use Rattle.shapers_clusters.specs.Laws.{ReorderedHold}
-use Rattle.shapers_clusters.specs.Steps.{Permutes, MovesMerged, run_step}
+use Rattle.shapers_clusters.specs.Steps.{Permutes, MovesMerged, after_step}
 use Rattle.shapers_clusters.proofs.Permuted.{still_permutes, swap_permutes}
 use Rattle.shapers_clusters.proofs.Proved.{reordered_whole}
 use Rattle.shapers_clusters.proofs.Swaps.{still_moves_merged, swap_moves_merged, run-still_step, order_view-swap_step}
-use Rattle.shapers_text.specs.Hebrew.{hebrew_mark_step, step_at, marks_swapped, opens_triple, triple_place, second_of_triple}
+use Rattle.shapers_text.specs.Hebrew.{hebrew_mark_step, step_at, marks_swapped, begins_triple, triple_place, second_of_triple}
 
 -- a turn over what is left: its first three glyphs are read, and one is passed
 pub record Turn (gs triple rest : Glyphs) : Type 0 where
@@ -36,13 +36,13 @@ pub short : (same : Type 0) (o : Option (Bor Glyphs)) (some : Bor Glyphs → Typ
 short = search arith
 
 -- one turn of the search: what is left opens with the three, or one glyph less is left
-pub triple_hit : (gs w : Glyphs) (second : ℕ) → w ≡ take 3 gs → opens_triple w ≡ true
+pub triple_hit : (gs w : Glyphs) (second : ℕ) → w ≡ take 3 gs → begins_triple w ≡ true
     → option_map (λ k. second + k) (triple_place gs) ≡ Some second
 triple_hit [] = search (arith, false≢true)
 triple_hit (g ∷ gs) = search arith
 
 pub triple_miss : (gs w rest : Glyphs) (second : ℕ) → 3 ≤ length gs → w ≡ take 3 gs → rest ≡ drop 1 gs
-    → opens_triple w ≡ false → option_map (λ k. second + 1 + k) (triple_place rest)
+    → begins_triple w ≡ false → option_map (λ k. second + 1 + k) (triple_place rest)
     ≡ option_map (λ k. second + k) (triple_place gs)
 triple_miss [] w rest second some is left fails = absurd (omega arith)
 triple_miss (g ∷ gs) w rest second some is left fails = search arith
@@ -89,7 +89,7 @@ mark_moves_merged start end gs within = elim (second_of_triple start end gs) as 
     ] within
 
 -- the classes of the marks show in the order view
-opens_plain : (gs : Glyphs) → opens_triple (order_view gs) ≡ opens_triple gs
+opens_plain : (gs : Glyphs) → begins_triple (order_view gs) ≡ begins_triple gs
 opens_plain [] = refl
 opens_plain (a ∷ []) = refl
 opens_plain (a ∷ (b ∷ [])) = refl
@@ -100,7 +100,7 @@ place_plain [] = refl
 place_plain (g ∷ gs) = cc (opens_plain (g ∷ gs), place_plain gs)
 
 marks_view_at : (level : BufferClusterLevel) (gs : Glyphs) (o : Option ℕ)
-    → IfSome o (λ i. i + 1 < length gs) → order_view (run_step level (step_at (length gs) o) gs)
+    → IfSome o (λ i. i + 1 < length gs) → order_view (after_step level (step_at (length gs) o) gs)
     ≡ option_map_or (λ i. swap (order_view gs) i (i + 1)) o (order_view gs)
 marks_view_at level gs None within = cc (run-still_step level gs)
 marks_view_at level gs (Some i) within = order_view-swap_step level gs i within
@@ -108,14 +108,14 @@ marks_view_at level gs (Some i) within = order_view-swap_step level gs i within
 -- the order view of the step is the rule's
 pub marks_view : (level : BufferClusterLevel) (start end : ℕ) (gs : Glyphs)
     → IfSome (second_of_triple start end gs) (λ i. i + 1 < length gs)
-    → order_view (run_step level (hebrew_mark_step start end gs) gs) ≡ marks_swapped start end (order_view gs)
+    → order_view (after_step level (hebrew_mark_step start end gs) gs) ≡ marks_swapped start end (order_view gs)
 marks_view = search (arith, marks_view_at, drop-map, take-map, place_plain)
 
 -- what the step leaves, by the laws
 pub mark_laws : (level : BufferClusterLevel) (start end : ℕ) (gs : Glyphs)
     → IfSome (second_of_triple start end gs) (λ i. i + 1 < length gs)
     → ReorderedHold whole level (hebrew_mark_step start end gs ∷ []) gs
-    (run_step level (hebrew_mark_step start end gs) gs)
+    (after_step level (hebrew_mark_step start end gs) gs)
 mark_laws level start end gs within =
     reordered_whole level (hebrew_mark_step start end gs ∷ []) gs (mark_moves_merged start end gs within, tt) (
       elim (second_of_triple start end gs) as (λ o. IfSome o (λ i. i + 1 < length gs) → Permutes (length gs) (step_at

@@ -7,7 +7,7 @@ use Rattle.shapers_buffer.specs.Glyphs.{Glyph, Glyphs}
 use Rattle.shapers_buffer.specs.declared.buffer.level.BufferClusterLevel.TheVariants.{MonotoneGraphemes, Characters}
 use Rattle.shapers_buffer.specs.Glyph.{default_glyph, clusters}
 use Rattle.shapers_buffer.specs.Properties.{CONTINUATION, IGNORABLE, general_category, modified_combining_class, properties, with_property}
-use Rattle.shapers_clusters.specs.Steps.{run_step}
+use Rattle.shapers_clusters.specs.Steps.{after_step}
 use Rattle.shapers_text.specs.Hebrew.{composed_in_hebrew, hebrew_form, is_meteg_or_below, is_patah_or_qamats, is_sheva_or_hiriq, hebrew_mark_step, marks_swapped, second_of_triple, triple_place}
 
 -- marks of these classes and clusters
@@ -22,16 +22,16 @@ abbrev twice : Glyphs
 twice = marks ((20, 0) ∷ (22, 1) ∷ (25, 2) ∷ (20, 3) ∷ (22, 4) ∷ (25, 5) ∷ [])
 
 -- of two triples the first
-first_alone : classes (run_step MonotoneGraphemes (hebrew_mark_step 0 6 twice) twice) ≡ 20 ∷ 25 ∷ 22 ∷ 20 ∷ 22 ∷ 25 ∷ []
+first_alone : classes (after_step MonotoneGraphemes (hebrew_mark_step 0 6 twice) twice) ≡ 20 ∷ 25 ∷ 22 ∷ 20 ∷ 22 ∷ 25 ∷ []
 unfolding modified_combining_class general_category
 first_alone = refl
 
-first_merges : clusters (run_step MonotoneGraphemes (hebrew_mark_step 0 6 twice) twice) ≡ 0 ∷ 1 ∷ 1 ∷ 3 ∷ 4 ∷ 5 ∷ []
+first_merges : clusters (after_step MonotoneGraphemes (hebrew_mark_step 0 6 twice) twice) ≡ 0 ∷ 1 ∷ 1 ∷ 3 ∷ 4 ∷ 5 ∷ []
 unfolding modified_combining_class general_category
 first_merges = refl
 
 -- at level Characters the marks take their clusters along
-characters : clusters (run_step Characters (hebrew_mark_step 0 6 twice) twice) ≡ 0 ∷ 2 ∷ 1 ∷ 3 ∷ 4 ∷ 5 ∷ []
+characters : clusters (after_step Characters (hebrew_mark_step 0 6 twice) twice) ≡ 0 ∷ 2 ∷ 1 ∷ 3 ∷ 4 ∷ 5 ∷ []
 unfolding modified_combining_class general_category
 characters = refl
 
@@ -217,7 +217,7 @@ full class c m = record {
   unicode_props = with_property CONTINUATION (with_property IGNORABLE (properties Mn class));
 }
 
-full_swapped : run_step MonotoneGraphemes
+full_swapped : after_step MonotoneGraphemes
     (hebrew_mark_step 1 4 (full 20 0 15 ∷ full 21 1 15 ∷ full 23 2 15 ∷ full 220 3 15 ∷ []))
     (full 20 0 15 ∷ full 21 1 15 ∷ full 23 2 15 ∷ full 220 3 15 ∷ []) ≡ full 20 0 15 ∷ full 21 1 15 ∷ full 220 2 8
     ∷ full 23 2 15 ∷ []

@@ -10,7 +10,7 @@ use Rattle.shapers_buffer.specs.Glyphs.{Glyph, Glyphs}
 use Rattle.shapers_buffer.specs.declared.buffer.level.BufferClusterLevel.{BufferClusterLevel}
 use Rattle.shapers_buffer.specs.Glyph.{clusters, characters}
 use Rattle.shapers_buffer.specs.Clusters.{merge_all, merges}
-use Rattle.shapers_buffer.specs.Lists.{before_last_run, each_after}
+use Rattle.shapers_buffer.specs.Lists.{before_last_stretch, each_after}
 use Rattle.shapers_buffer.proofs.MappedLists.{all-range, Contains-flat_map, Contains-each_after}
 use Rattle.shapers_base.specs.declared.plan.breaks.BreakFlags.{BreakFlags}
 use Rattle.shapers_clusters.specs.Cuts.{ShareCluster}
@@ -50,7 +50,7 @@ shares level us cs js made m xs u ys split is_am =
       is_am,
       lt-ltb 0 w some,
     ) (0, omega arith, refl) in
-    part_shares made m st (sara_am_sources (before_last_run is_above_base xs)) (n ∷ range_with_len (n - w) w) behind
+    part_shares made m st (sara_am_sources (before_last_stretch is_above_base xs)) (n ∷ range_with_len (n - w) w) behind
     (λ some. subst (λ vs. Contains (sara_am_stretches level vs) st) (sym split)
     (Contains-flat_map _ (each_after [] (xs ++ u ∷ ys)) (xs, u) st (Contains-each_after [] xs u ys)
     (merged (omega arith)))) (ap sara_am_sources split ∙ parts)

@@ -3,7 +3,7 @@ use Rattle.std.proofs.Common.{◌≡◌, ℕ, ◌-◌, ◌+◌, ◌*◌, ◌/◌
 use Rattle.std.specs.Int.Bits.{or_add_and}
 use Rattle.std.proofs.lemmas.Nat.Bits.{and_pow}
 use Rattle.shapers_buffer.specs.Glyphs.{Glyph}
-use Rattle.shapers_buffer.specs.Lists.{opened_back}
+use Rattle.shapers_buffer.specs.Lists.{changed_back}
 use Rattle.shapers_buffer.specs.declared.buffer.category.hb_unicode_general_category_t.TheVariants.{Cc, Mn}
 use Rattle.shapers_buffer.specs.declared.buffer.unicode_props.UnicodeProps.{UnicodeProps}
 use Rattle.shapers_buffer.specs.Properties.{CONTINUATION, modified_combining_class, set_property, with_bit, with_general_category, without_bit, without_property}
@@ -20,8 +20,8 @@ guarded rule = record {
 
 pieces_alike : {X : Type 0} (test : X → Bool) (rule other : List X → X → List X)
     → ((xs : List X) (x : X) → test x ≡ true → rule xs x ≡ other xs x) → (pieces : List (List X))
-    → flat_map (λ piece. opened_back test rule (reverse piece)) pieces
-    ≡ flat_map (λ piece. opened_back test other (reverse piece)) pieces
+    → flat_map (λ piece. changed_back test rule (reverse piece)) pieces
+    ≡ flat_map (λ piece. changed_back test other (reverse piece)) pieces
 pieces_alike test rule other agree [] = refl
 pieces_alike test rule other agree (piece ∷ pieces) = search (arith, pieces_alike test rule other agree pieces)
 

@@ -10,10 +10,10 @@ use Rattle.std.proofs.lemmas.Bool.{eqb-true}
 use Rattle.std.proofs.lemmas.List.{map-append, append_assoc, length_push}
 use Rattle.shapers_buffer.specs.Glyphs.{Glyphs}
 use Rattle.shapers_buffer.specs.Glyph.{characters}
-use Rattle.shapers_buffer.specs.Lists.{last_run, before_last_run}
+use Rattle.shapers_buffer.specs.Lists.{last_stretch, before_last_stretch}
 use Rattle.shapers_buffer.proofs.ListLaws.{from_end, count_push, last_pass, none_in_front, last_run_yes, before_last_run_yes, last_run_no, before_last_run_no, last_run_stop, before_last_run_stop}
-use Rattle.shapers_buffer.proofs.PieceLaws.{one_piece, opened_pieces-none, opened_pieces-append, opened_pieces-push, opened_pieces-map}
-use Rattle.shapers_buffer.proofs.MappedLists.{Contains-map, Contains-flat_map, suffix_len-map, last_run-map, before_last_run-map, enumerate-append, before_last_run-enumerate_from, places-last_run}
+use Rattle.shapers_buffer.proofs.PieceLaws.{one_piece, changed_pieces-none, changed_pieces-append, changed_pieces-push, changed_pieces-map}
+use Rattle.shapers_buffer.proofs.MappedLists.{Contains-map, Contains-flat_map, suffix_len-map, last_stretch-map, before_last_stretch-map, enumerate-append, before_last_stretch-enumerate_from, places-last_stretch}
 use Rattle.shapers_text.specs.Thai.{is_sara_am, is_above_base, is_am, is_above, SaraAmRule, piece_in_two, in_parts, in_two, place_rule, sara_am_sources}
 use Rattle.shapers_text.specs.ThaiWalk.{above_marks_before, text_with_pending}
 
@@ -24,17 +24,17 @@ apart = search (arith, eqb-true)
 -- a text without SARA AM stays
 pub in_two_plain : {X : Type 0} (rule : SaraAmRule X) (xs : List X) → list_any (is_am rule) xs ≡ false
     → in_two rule xs ≡ xs
-in_two_plain rule xs none = search (arith, opened_pieces-none)
+in_two_plain rule xs none = search (arith, changed_pieces-none)
 
 -- what stands before and after a SARA AM is rewritten for itself
 pub in_two-append : {X : Type 0} (rule : SaraAmRule X) (xs : List X) (am : X) (ys : List X) → is_am rule am ≡ true
     → in_two rule (xs ++ am ∷ ys) ≡ in_two rule (xs ++ am ∷ []) ++ in_two rule ys
-in_two-append = search (arith, opened_pieces-append)
+in_two-append = search (arith, changed_pieces-append)
 
 -- one more glyph that is no SARA AM
 pub in_two_push : {X : Type 0} (rule : SaraAmRule X) (xs : List X) (x : X) → is_am rule x ≡ false
     → in_two rule (xs ++ x ∷ []) ≡ in_two rule xs ++ x ∷ []
-in_two_push = search (arith, opened_pieces-push)
+in_two_push = search (arith, changed_pieces-push)
 
 in_two_push_am_first : {X : Type 0} (rule : SaraAmRule X) (xs : List X) (x : X) → list_any (is_am rule) xs ≡ false
     → is_am rule x ≡ true → in_two rule (xs ++ x ∷ []) ≡ text_with_pending rule xs (rule.nikhahit x) ++ rule.sara_aa x
@@ -67,8 +67,8 @@ no_am rule x h =
 
 -- at a SARA AM: what stands before its marks is rewritten for itself, and what stands behind it
 pub in_two_at : {X : Type 0} (rule : SaraAmRule X) (xs : List X) (am : X) (ys : List X) → is_am rule am ≡ true
-    → in_two rule (xs ++ am ∷ ys) ≡ in_two rule (before_last_run (is_above rule) xs)
-    ++ ((rule.nikhahit am ∷ last_run (is_above rule) xs) ++ (rule.sara_aa am ∷ in_two rule ys))
+    → in_two rule (xs ++ am ∷ ys) ≡ in_two rule (before_last_stretch (is_above rule) xs)
+    ++ ((rule.nikhahit am ∷ last_stretch (is_above rule) xs) ++ (rule.sara_aa am ∷ in_two rule ys))
 in_two_at = search (arith, in_two-append, in_two_push_am, append_assoc)
 
 -- the rule on what f reads as the other reads its own: what it makes leads to what the other makes,
@@ -81,12 +81,12 @@ pub in_two-map : {X Y : Type 0} (f : X → Y) (nikhahit sara_aa : X → X) (rule
     → ((x : X) → f (nikhahit x) ≡ rule.nikhahit (f x)) → ((x : X) → f (sara_aa x) ≡ rule.sara_aa (f x)) → (xs : List X)
     → map f (in_two (read_by f nikhahit sara_aa rule) xs) ≡ in_two rule (map f xs)
 in_two-map f nikhahit sara_aa rule first second xs =
-    opened_pieces-map f (is_am rule) (piece_in_two (read_by f nikhahit sara_aa rule)) (piece_in_two rule)
-    (λ before x. search (arith, map-append, before_last_run-map, last_run-map)) xs
+    changed_pieces-map f (is_am rule) (piece_in_two (read_by f nikhahit sara_aa rule)) (piece_in_two rule)
+    (λ before x. search (arith, map-append, before_last_stretch-map, last_stretch-map)) xs
 
 -- the sources at a SARA AM: those of the text before its marks, the SARA AM, its marks, the SARA AM again, and so on
 pub sources_at : (xs : List ℕ) (u : ℕ) (ys : List ℕ) → is_sara_am u ≡ true → (behind : List ℕ)
-    × (sara_am_sources (xs ++ u ∷ ys) ≡ sara_am_sources (before_last_run is_above_base xs)
+    × (sara_am_sources (xs ++ u ∷ ys) ≡ sara_am_sources (before_last_stretch is_above_base xs)
     ++ ((length xs ∷ range_with_len (length xs - suffix_len is_above_base xs) (suffix_len is_above_base xs)) ++ behind))
 sources_at xs u ys passes = let rest = enumerate_from (length xs + 1) ys in (
   length xs ∷ map (λ p. p.0) (in_two place_rule rest),
@@ -95,8 +95,8 @@ sources_at xs u ys passes = let rest = enumerate_from (length xs + 1) ys in (
     enumerate-append xs (u ∷ ys),
     in_two_at,
     map-append,
-    before_last_run-enumerate_from is_above_base 0 xs,
-    places-last_run is_above_base xs,
+    before_last_stretch-enumerate_from is_above_base 0 xs,
+    places-last_stretch is_above_base xs,
   ),
 )
 

@@ -13,9 +13,9 @@ use Rattle.shapers_buffer.specs.Clusters.{merge_all}
 use Rattle.shapers_buffer.specs.Lists.{each_after}
 use Rattle.shapers_buffer.proofs.MappedLists.{all-flat_map, all-each_after, each_after-push, list_any-map}
 use Rattle.shapers_buffer.proofs.ListLaws.{none_from_count}
-use Rattle.shapers_buffer.specs.declared.buffer.cluster_runs.ClusterRun.{ClusterRun}
-use Rattle.shapers_buffer.specs.ClusterRuns.{RunFits, with_run}
-use Rattle.shapers_clusters.proofs.Merging.{length-merge_all, merge_all-append, map-merge_all, map-with_run}
+use Rattle.shapers_buffer.specs.declared.buffer.cluster_ranges.ClusterRange.{ClusterRange}
+use Rattle.shapers_buffer.specs.ClusterRanges.{RangeFits, with_range}
+use Rattle.shapers_clusters.proofs.Merging.{length-merge_all, merge_all-append, map-merge_all, map-with_range}
 use Rattle.shapers_clusters.proofs.Appended.{merge_all-appended}
 use Rattle.shapers_base.specs.declared.plan.breaks.BreakFlags.{BreakFlags}
 use Rattle.shapers_text.specs.Thai.{is_sara_am, is_above_base, glyph_rule, glyphs_in_two, stretches_at, stretches_of_each, sara_am_stretches}
@@ -87,19 +87,19 @@ merging_next level start now len i c after within inside m at changed =
     )
 
 -- the same where a run isn't written yet
-characters-run : (run : ClusterRun) (gs : Glyphs) → RunFits run gs → characters (with_run run gs) ≡ characters gs
-characters-run = search (arith, map-with_run)
+characters-run : (run : ClusterRange) (gs : Glyphs) → RangeFits run gs → characters (with_range run gs) ≡ characters gs
+characters-run = search (arith, map-with_range)
 
-pub merging_turn : (level : BufferClusterLevel) (start now after : Glyphs) (run : ClusterRun)
-    (len i c : ℕ) → len ≤ length start → i < len → RunFits run now → Merging level start (with_run run now) len i
+pub merging_turn : (level : BufferClusterLevel) (start now after : Glyphs) (run : ClusterRange)
+    (len i c : ℕ) → len ≤ length start → i < len → RangeFits run now → Merging level start (with_range run now) len i
     → c ≡ get_or (characters now) i 0
-    → after ≡ merge_all level (stretches_at level i c (above_marks_before now i)) (with_run run now)
+    → after ≡ merge_all level (stretches_at level i c (above_marks_before now i)) (with_range run now)
     → Merging level start after len (i + 1)
 merging_turn level start now after run len i c within inside fits m at changed =
     let same = characters-run run now fits in
-    let marks : above_marks_before now i ≡ above_marks_before (with_run run now) i =
+    let marks : above_marks_before now i ≡ above_marks_before (with_range run now) i =
     search (arith, above_marks_before-characters) in
-    merging_next level start (with_run run now) len i c after within inside m (cc) (cc)
+    merging_next level start (with_range run now) len i c after within inside m (cc) (cc)
 
 -- the grown text, merged, is the merged text, grown
 pub merged_grown : (level : BufferClusterLevel) (gs : Glyphs) (n : ℕ)

@@ -22,17 +22,17 @@ is_meteg_or_below class = class == 25 || class == 220
 
 -- Whether the first three glyphs are of those classes, one of each, in that order. A glyph of such
 -- a class counts as a mark, whatever its category.
-abbrev pub opens_triple : Glyphs → Bool
-opens_triple (a ∷ (b ∷ (c ∷ gs))) =
+abbrev pub begins_triple : Glyphs → Bool
+begins_triple (a ∷ (b ∷ (c ∷ gs))) =
     is_patah_or_qamats (modified_combining_class a.unicode_props)
     && is_sheva_or_hiriq (modified_combining_class b.unicode_props)
     && is_meteg_or_below (modified_combining_class c.unicode_props)
-opens_triple _ = false
+begins_triple _ = false
 
 -- the first place at which three neighbours are such marks (HarfBuzz's order of Hebrew marks)
 abbrev pub triple_place : Glyphs → Option ℕ
 triple_place [] = None
-triple_place (g ∷ gs) = if opens_triple (g ∷ gs) then Some 0 else option_map suc (triple_place gs)
+triple_place (g ∷ gs) = if begins_triple (g ∷ gs) then Some 0 else option_map suc (triple_place gs)
 
 -- among the places from start to end, the place of the second of the first three
 abbrev pub second_of_triple : ℕ → ℕ → Glyphs → Option ℕ

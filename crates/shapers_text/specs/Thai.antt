@@ -7,7 +7,7 @@ use Rattle.shapers_buffer.specs.declared.buffer.level.BufferClusterLevel.{Buffer
 use Rattle.shapers_buffer.specs.declared.buffer.level.BufferClusterLevel.TheVariants.{MonotoneGraphemes}
 use Rattle.std.specs.Cmp.Lexicographic.{pointwise}
 use Rattle.shapers_buffer.specs.declared.buffer.tag.Script.{Script}
-use Rattle.shapers_buffer.specs.Lists.{last_run, before_last_run, each_after, opened_pieces}
+use Rattle.shapers_buffer.specs.Lists.{last_stretch, before_last_stretch, each_after, changed_pieces}
 use Rattle.shapers_buffer.specs.Properties.{CONTINUATION, with_general_category, with_property}
 
 -- SARA AM, of Thai and of Lao (Unicode: 0E33 and 0EB3)
@@ -50,15 +50,15 @@ is_am rule = λ x. is_sara_am (rule.character x)
 abbrev pub is_above : {X : Type 0} → SaraAmRule X → X → Bool
 is_above rule = λ x. is_above_base (rule.character x)
 
--- `.. W SARA_AM` as `.. NIKHAHIT W SARA_AA`, W the longest run of above-base marks (OpenType)
+-- `.. W SARA_AM` as `.. NIKHAHIT W SARA_AA`, W the longest sequence of above-base marks (OpenType)
 abbrev pub piece_in_two : {X : Type 0} → SaraAmRule X → List X → X → List X
 piece_in_two rule text am =
-    before_last_run (is_above rule) text
-    ++ (rule.nikhahit am ∷ (last_run (is_above rule) text ++ rule.sara_aa am ∷ []))
+    before_last_stretch (is_above rule) text
+    ++ (rule.nikhahit am ∷ (last_stretch (is_above rule) text ++ rule.sara_aa am ∷ []))
 
 -- the text cut after each SARA AM, with each piece that ends with one in two
 abbrev pub in_two : {X : Type 0} → SaraAmRule X → List X → List X
-in_two rule text = opened_pieces (is_am rule) (piece_in_two rule) text
+in_two rule text = changed_pieces (is_am rule) (piece_in_two rule) text
 
 -- what comes of one element: of a SARA AM its two parts, of another itself
 abbrev pub in_parts : {X : Type 0} → SaraAmRule X → X → List X

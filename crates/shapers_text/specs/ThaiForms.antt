@@ -11,7 +11,7 @@ use Rattle.shapers_buffer.specs.Buffer.{Buffer}
 use Rattle.shapers_base.specs.Font.{Font, has_nominal}
 use Rattle.shapers_buffer.specs.Clusters.{merge_all}
 use Rattle.shapers_buffer.specs.GlyphFlags.{unsafe_all}
-use Rattle.shapers_buffer.specs.Lists.{last_run, before_last_run, each_after}
+use Rattle.shapers_buffer.specs.Lists.{last_stretch, before_last_stretch, each_after}
 use Rattle.shapers_text.specs.Thai.{glyphs_in_two, sara_am_stretches, wants_forms}
 use Rattle.shapers_text.specs.declared.ot_shaper_thai.forms.Consonant.{Consonant}
 use Rattle.shapers_text.specs.declared.ot_shaper_thai.forms.Consonant.TheVariants.{NC, AC, RC, DC, NotConsonant}
@@ -125,14 +125,14 @@ last_type [] = NotConsonant
 last_type (u ∷ us) = consonant_type u
 
 abbrev pub base_type : List ℕ → Consonant
-base_type before = last_type (reverse (before_last_run is_thai_mark before))
+base_type before = last_type (reverse (before_last_stretch is_thai_mark before))
 
 -- the marks above and below since that base
 abbrev pub marks_above : List ℕ → ℕ
-marks_above before = count_by (λ u. stands_above (mark_type u)) (last_run is_thai_mark before)
+marks_above before = count_by (λ u. stands_above (mark_type u)) (last_stretch is_thai_mark before)
 
 abbrev pub marks_below : List ℕ → ℕ
-marks_below before = count_by (λ u. stands_below (mark_type u)) (last_run is_thai_mark before)
+marks_below before = count_by (λ u. stands_below (mark_type u)) (last_stretch is_thai_mark before)
 
 -- what a mark does after this text
 abbrev pub action_after : List ℕ → ℕ → Action
@@ -196,7 +196,7 @@ abbrev pub whole_mark_stretches : List ℕ → List (ℕ × ℕ)
 whole_mark_stretches us = map (λ st. (st.0, st.1 + 1)) (mark_stretches us)
 
 -- what the choice flags besides, before the forms: with Sound no break between a base and any mark
--- of it, since a piece that opens with marks forms them without their base
+-- of it, since a piece that begins with marks forms them without their base
 abbrev pub marks_flagged : BreakFlags → Glyphs → Glyphs
 marks_flagged AsCode gs = gs
 marks_flagged Sound gs = unsafe_all (whole_mark_stretches (characters gs)) gs

@@ -5,7 +5,7 @@ use Rattle.std.specs.List.Sorted.{IsPermutation}
 use Rattle.shapers_buffer.specs.Glyphs.{Glyph, Glyphs}
 use Rattle.shapers_buffer.specs.declared.buffer.level.BufferClusterLevel.{BufferClusterLevel}
 use Rattle.shapers_buffer.specs.declared.buffer.category.hb_unicode_general_category_t.TheVariants.{Cc}
-use Rattle.shapers_buffer.specs.Lists.{before_last_run}
+use Rattle.shapers_buffer.specs.Lists.{before_last_stretch}
 use Rattle.shapers_buffer.specs.Glyph.{clusters, plain, without_flags, characters}
 use Rattle.shapers_buffer.specs.Clusters.{merge_all, merges}
 use Rattle.shapers_clusters.specs.Cuts.{ShareCluster}
@@ -19,7 +19,7 @@ use Rattle.shapers_text.specs.Thai.{is_sara_am, is_above_base, in_parts, glyph_r
 
 -- where a SARA AM's NIKHAHIT stands behind the text xs: behind what comes of it before its marks
 abbrev pub new_place : List ℕ → ℕ
-new_place xs = length (sara_am_sources (before_last_run is_above_base xs))
+new_place xs = length (sara_am_sources (before_last_stretch is_above_base xs))
 
 -- What the rewriting of the characters us makes of their clusters cs: js. They are the clusters of
 -- made glyphs, each that of its source after the merges, with exact cuts; each place is the source

@@ -4,7 +4,7 @@ use Rattle.std.specs.Prelude.{ℕ, ◌+◌, ◌-◌, if◌then◌else◌, Bool, 
 use Rattle.std.specs.List.{suffix_len}
 use Rattle.shapers_buffer.specs.Glyphs.{Glyph, Glyphs}
 use Rattle.shapers_buffer.specs.Glyph.{default_glyph, characters}
-use Rattle.shapers_buffer.specs.Lists.{last_run, before_last_run}
+use Rattle.shapers_buffer.specs.Lists.{last_stretch, before_last_stretch}
 use Rattle.shapers_text.specs.declared.ot_shaper_thai.forms.Mark.{Mark}
 use Rattle.shapers_text.specs.declared.ot_shaper_thai.forms.Mark.TheVariants.{AV, BV, T, NotMark}
 use Rattle.shapers_text.specs.declared.ot_shaper_thai.forms.Action.{Action}
@@ -75,7 +75,8 @@ HasRoomForSaraAms len gs = (len ≤ length gs) × (length gs ≡ length (glyphs_
 -- marks
 abbrev pub text_with_pending : {X : Type 0} → SaraAmRule X → List X → X → List X
 text_with_pending rule text nikhahit =
-    in_two rule (before_last_run (is_above rule) text) ++ nikhahit ∷ last_run (is_above rule) text
+    in_two rule (before_last_stretch (is_above rule) text)
+    ++ nikhahit ∷ last_stretch (is_above rule) text
 
 -- what the text becomes on glyphs, with a NIKHAHIT pending or none
 abbrev pub text_to_write : Glyphs → Option Glyph → Glyphs

@@ -3,8 +3,8 @@
 ghost use Rattle.std.specs.Prelude.{◌≡◌, ◌==◌, ◌&&◌, ◌≤◌, find, length, option_map, is_some, false, swap, ◌+◌, ◌^◌, ◌<◌, IfSome};
 ghost use Rattle.shapers_buffer.specs.Clusters.{merge};
 ghost use Rattle.shapers_buffer.specs.Glyph.{order_view};
-ghost use Rattle.shapers_clusters.specs.Steps.{run_step};
-ghost use Rattle.shapers_text.specs.Hebrew.{hebrew_mark_step, marks_swapped, HebrewMarksReordered, second_of_triple, opens_triple, hebrew_form, composed_in_hebrew, lacks_dagesh, is_in_dagesh_row, pairs};
+ghost use Rattle.shapers_clusters.specs.Steps.{after_step};
+ghost use Rattle.shapers_text.specs.Hebrew.{hebrew_mark_step, marks_swapped, HebrewMarksReordered, second_of_triple, begins_triple, hebrew_form, composed_in_hebrew, lacks_dagesh, is_in_dagesh_row, pairs};
 
 use shapers_base::buffer::modified_combining_class::{BELOW, CCC10, CCC14, CCC17, CCC18, CCC22};
 use shapers_base::buffer::{BufferClusterLevel, hb_buffer_t, hb_glyph_info_t, merge_clusters_in};
@@ -19,7 +19,7 @@ pub fn reorder_marks(_plan: &hb_ot_shape_plan_t, buffer: &mut hb_buffer_t, start
     requires in_order { start ≤ end }
     requires in_range { end ≤ length buffer.old.glyphs }
     ensures step { let step = hebrew_mark_step start end buffer.old.glyphs in
-        let moved = run_step buffer.old.level step buffer.old.glyphs in
+        let moved = after_step buffer.old.level step buffer.old.glyphs in
         buffer.new ≡ record buffer.old { glyphs = moved } }
     ensures order { let old = order_view buffer.old.glyphs in
         order_view buffer.new.glyphs ≡ marks_swapped start end old }
@@ -39,7 +39,7 @@ pub fn reorder_marks_in(
 ) -> bool
     requires in_order { start ≤ end }
     requires in_range { end ≤ length glyphs.old }
-    ensures step { glyphs.new ≡ run_step level (hebrew_mark_step start end glyphs.old) glyphs.old }
+    ensures step { glyphs.new ≡ after_step level (hebrew_mark_step start end glyphs.old) glyphs.old }
     ensures moved { result ≡ is_some (second_of_triple start end glyphs.old) }
     ensures unchanged { result ≡ false → glyphs.new ≡ glyphs.old }
 {
@@ -73,7 +73,7 @@ fn find_triple(glyphs: &[hb_glyph_info_t], start: usize, end: usize) -> Option<u
     let marks = &glyphs[start..end];
     let mut second = start + 1;
     for triple in marks.windows(3) {
-        if opens_triple(triple) {
+        if begins_triple(triple) {
             return Some(second);
         }
         second += 1;
@@ -83,8 +83,8 @@ fn find_triple(glyphs: &[hb_glyph_info_t], start: usize, end: usize) -> Option<u
 
 // Whether the first three are of such classes that the last two change places.
 #[inline]
-fn opens_triple(marks: &[hb_glyph_info_t]) -> bool
-    ensures { result ≡ opens_triple marks.now }
+fn begins_triple(marks: &[hb_glyph_info_t]) -> bool
+    ensures { result ≡ begins_triple marks.now }
 {
     let [a, b, c, ..] = marks else {
         return false;

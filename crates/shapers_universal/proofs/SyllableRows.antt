@@ -23,7 +23,7 @@ use Rattle.shapers_universal.specs.declared.ot_shaper_use.forms.FormMasks.{FormM
 use Rattle.shapers_universal.specs.PlanData.{joins_letters, universal_plan}
 use Rattle.shapers_universal.specs.UniversalMasks.{categorized}
 use Rattle.shapers_universal.specs.UniversalCuts.{flagless_for, formless_for}
-use Rattle.shapers_universal.specs.UniversalSyllables.{all_forms, form_masks, forms_flagged, is_torn, mask_between, rphf_recorded, set_up_by_its_bytes, syllables_set_up, torn_pairs, with_form_masks, with_forms_flagged, with_instead, with_pref_recorded, with_rphf, with_rphf_recorded}
+use Rattle.shapers_universal.specs.UniversalSyllables.{all_forms, form_masks, forms_flagged, is_torn, mask_between, rphf_recorded, setup_by_its_bytes, syllables_setup, torn_pairs, with_form_masks, with_forms_flagged, with_instead, with_pref_recorded, with_rphf, with_rphf_recorded}
 
 -- a glyph whose fields are all set
 abbrev full : Glyph
@@ -53,7 +53,7 @@ of_byte byte = record default_glyph { syllable = byte }
 abbrev masks_in : FormMasks → List ℕ → List ℕ
 masks_in masks bytes = map (λ g. g.mask) (with_form_masks masks (map of_byte bytes))
 
--- the form by its place in a run: a lone one, two, three, four
+-- the form by its place in a sequence: a lone one, two, three, four
 runs : map (masks_in four) ((0x12 ∷ []) ∷ (0x12 ∷ 0x22 ∷ []) ∷ (0x12 ∷ 0x22 ∷ 0x32 ∷ [])
     ∷ (0x12 ∷ 0x22 ∷ 0x32 ∷ 0x42 ∷ []) ∷ []) ≡ (0x10 ∷ []) ∷ (0x20 ∷ 0x80 ∷ []) ∷ (0x20 ∷ 0x40 ∷ 0x80 ∷ [])
     ∷ (0x20 ∷ 0x40 ∷ 0x40 ∷ 0x80 ∷ []) ∷ []
@@ -162,51 +162,51 @@ five = record (new_buffer 9) { glyphs = map at_cluster (0 ∷ 1 ∷ 2 ∷ 3 ∷ 
 abbrev two_spans : List Span
 two_spans = record { len = 4; kind = 2 } ∷ record { len = 1; kind = 7 } ∷ []
 
-abbrev set_up_masks : String → List (ℕ × ℕ)
-set_up_masks tag =
+abbrev setup_masks : String → List (ℕ × ℕ)
+setup_masks tag =
     map (λ g. (g.mask, g.syllable))
-    (syllables_set_up (Universal (universal_plan starts.AsCode breaks.AsCode (script tag) font)) font two_spans
+    (syllables_setup (Universal (universal_plan starts.AsCode breaks.AsCode (script tag) font)) font two_spans
     five).glyphs
 
-set_up : set_up_masks "Bali" ≡ (0x120, 0x12) ∷ (0x123, 0x12) ∷ (0x123, 0x12) ∷ (0x23, 0x12) ∷ (0x180, 0x27) ∷ []
-set_up = refl
+setup : setup_masks "Bali" ≡ (0x120, 0x12) ∷ (0x123, 0x12) ∷ (0x123, 0x12) ∷ (0x23, 0x12) ∷ (0x180, 0x27) ∷ []
+setup = refl
 
 -- with Sound the pair too, where letters don't join
 abbrev sound_masks : String → List (ℕ × ℕ)
 sound_masks tag =
     let kept = Universal (universal_plan starts.AsCode breaks.Sound (script tag) font) in
     map (λ g. (g.mask, g.syllable))
-    (with_forms_flagged breaks.Sound kept font (syllables_set_up kept font two_spans five)).glyphs
+    (with_forms_flagged breaks.Sound kept font (syllables_setup kept font two_spans five)).glyphs
 
-sound_set_up : sound_masks "Bali" ≡ (0x120, 0x12) ∷ (0x123, 0x12) ∷ (0x123, 0x12) ∷ (0x23, 0x12) ∷ (0x183, 0x27) ∷ []
-sound_set_up = refl
+sound_setup : sound_masks "Bali" ≡ (0x120, 0x12) ∷ (0x123, 0x12) ∷ (0x123, 0x12) ∷ (0x23, 0x12) ∷ (0x183, 0x27) ∷ []
+sound_setup = refl
 
 sound_joining : sound_masks "Mong" ≡ (0x100, 0x12) ∷ (0x103, 0x12) ∷ (0x103, 0x12) ∷ (3, 0x12) ∷ (0x100, 0x27) ∷ []
 sound_joining = refl
 
-set_up_joining : set_up_masks "Mong" ≡ (0x100, 0x12) ∷ (0x103, 0x12) ∷ (0x103, 0x12) ∷ (3, 0x12) ∷ (0x100, 0x27) ∷ []
-set_up_joining = refl
+setup_joining : setup_masks "Mong" ≡ (0x100, 0x12) ∷ (0x103, 0x12) ∷ (0x103, 0x12) ∷ (3, 0x12) ∷ (0x100, 0x27) ∷ []
+setup_joining = refl
 
-set_up_broken : (syllables_set_up (Universal (universal_plan starts.AsCode breaks.AsCode None font)) font two_spans
+setup_broken : (syllables_setup (Universal (universal_plan starts.AsCode breaks.AsCode None font)) font two_spans
     five).broken ≡ true
-set_up_broken = refl
+setup_broken = refl
 
 -- the same by the bytes that the text has, with other serials, and its mark that stays
 abbrev by_bytes : String → List (ℕ × ℕ) → Buffer
-by_bytes tag rows = set_up_by_its_bytes (Universal (universal_plan starts.AsCode breaks.AsCode (script tag) font)) font
+by_bytes tag rows = setup_by_its_bytes (Universal (universal_plan starts.AsCode breaks.AsCode (script tag) font)) font
     (record (new_buffer 9)
     { glyphs = map (λ (row : ℕ × ℕ). record default_glyph { cluster = row.0; category = 1; syllable = row.1 }) rows })
 
 abbrev masks_by_bytes : String → List (ℕ × ℕ) → List (ℕ × ℕ)
 masks_by_bytes tag rows = map (λ g. (g.mask, g.syllable)) (by_bytes tag rows).glyphs
 
-set_up_of_bytes : masks_by_bytes "Bali" ((0, 0x52) ∷ (1, 0x52) ∷ (2, 0x52) ∷ (3, 0x52) ∷ (4, 0x27) ∷ [])
+setup_of_bytes : masks_by_bytes "Bali" ((0, 0x52) ∷ (1, 0x52) ∷ (2, 0x52) ∷ (3, 0x52) ∷ (4, 0x27) ∷ [])
     ≡ (0x120, 0x52) ∷ (0x123, 0x52) ∷ (0x123, 0x52) ∷ (0x23, 0x52) ∷ (0x180, 0x27) ∷ []
-set_up_of_bytes = refl
+setup_of_bytes = refl
 
-set_up_of_joining : map (λ g. g.mask) (by_bytes "Mong" ((3, 0x16) ∷ (3, 0x16) ∷ [])).glyphs ∷ []
+setup_of_joining : map (λ g. g.mask) (by_bytes "Mong" ((3, 0x16) ∷ (3, 0x16) ∷ [])).glyphs ∷ []
     ≡ (0x100 ∷ 0x100 ∷ []) ∷ []
-set_up_of_joining = refl
+setup_of_joining = refl
 
 -- the broken kind is 7
 broken_by_bytes : map (λ byte. (by_bytes "Bali" ((0, byte) ∷ [])).broken) (0x17 ∷ 0x16 ∷ 0x18 ∷ 0x71 ∷ [])
@@ -268,7 +268,7 @@ plans = refl
 category_keeps : categorized (λ c. c % 7) full ≡ record full { category = 0x916 % 7 }
 category_keeps = refl
 
--- Mongolian: a letter, a selector, a letter; a selector that opens a text behind a letter takes no form
+-- Mongolian: a letter, a selector, a letter; a selector that begins a text behind a letter takes no form
 abbrev joins : ℕ → hb_arabic_joining_type_t
 joins c = if c == 0x180B then T else D
 

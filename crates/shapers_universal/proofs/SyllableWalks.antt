@@ -4,10 +4,10 @@ use Rattle.std.proofs.lemmas.List.{take-append-drop}
 use Rattle.shapers_buffer.specs.Glyphs.{Glyph, Glyphs}
 use Rattle.shapers_buffer.specs.Clusters.{stretch_of, with_stretch}
 use Rattle.shapers_buffer.specs.Syllables.{first_syllable_len, syllables, has_byte}
-use Rattle.shapers_buffer.proofs.SyllableLaws.{syllables_are_runs}
+use Rattle.shapers_buffer.proofs.SyllableLaws.{syllables_are_longest}
 use Rattle.shapers_syllabic.proofs.SyllableWalks.{changed_stretch, syllables_from}
 use Rattle.shapers_universal.specs.declared.ot_shaper_use.forms.FormMasks.{FormMasks}
-use Rattle.shapers_universal.specs.UniversalSyllables.{first_joins, first_recorded, formed, in_forms, joins_runs, rphf_recorded}
+use Rattle.shapers_universal.specs.UniversalSyllables.{first_joins, first_recorded, formed, in_forms, may_join, rphf_recorded}
 use Rattle.shapers_base.specs.Masks.{has_bits}
 use Rattle.std.specs.Prelude.{◌==◌, if◌then◌else◌}
 use Rattle.std.specs.List.{flat_map, prefix_len}
@@ -26,7 +26,7 @@ resumed-by f none byte h hs true test =
     let by_byte : ℕ → Glyphs = λ b. let n = prefix_len (has_byte b) hs in f (h ∷ take n hs)
     ++ flat_map f (syllables (drop n hs)) in
     rw (test, one-add (prefix_len (has_byte byte) hs)) (ap by_byte (search arith)
-    ∙ sym (ap (flat_map f) (syllables_are_runs h hs)))
+    ∙ sym (ap (flat_map f) (syllables_are_longest h hs)))
 resumed-by f none byte h hs false test = rw (test, none) refl
 
 resumed : (f : Glyphs → Glyphs) → f [] ≡ [] → (byte : ℕ) (gs : Glyphs)
@@ -43,7 +43,7 @@ pub changed_first : (f : Glyphs → Glyphs) → f [] ≡ []
     → (g new : Glyph) (goes_on : Bool) (gs : Glyphs) → Continues f g new goes_on
     → new ∷ left_to_change f (if goes_on then None else Some g.syllable) gs ≡ flat_map f (syllables (g ∷ gs))
 changed_first f none g new true = search arith
-changed_first f none g new false = search (arith, syllables_are_runs)
+changed_first f none g new false = search (arith, syllables_are_longest)
 
 -- a glyph of a syllable whose changes have ended stays
 pub passed_next : (f : Glyphs → Glyphs) (passed : Option ℕ) (g : Glyph)
@@ -76,23 +76,23 @@ rphf_next mask g new false rest bits continues =
     ∙ ap (λ xs. new ∷ xs) (take-append-drop n rest))
 
 -- whether the first syllable joins is told by the first glyph
-pub first_joins-text : (gs : Glyphs) → first_joins (syllables gs) ≡ joins_runs gs
+pub first_joins-text : (gs : Glyphs) → first_joins (syllables gs) ≡ may_join gs
 first_joins-text [] = refl
-first_joins-text (g ∷ gs) = cc (syllables_are_runs g gs)
+first_joins-text (g ∷ gs) = cc (syllables_are_longest g gs)
 
 -- after one syllable in its form
 pub form_next : (masks : FormMasks) (before : Bool) (s e : ℕ) (gs hs : Glyphs) → s < length gs
     → e ≡ s + first_syllable_len (drop s gs) → e ≤ length gs
-    → hs ≡ with_stretch s e (formed masks before (joins_runs (drop e gs))) gs → length hs ≡ length gs
-    → take e hs ++ in_forms masks (joins_runs (stretch_of s e gs)) (syllables (drop e hs))
+    → hs ≡ with_stretch s e (formed masks before (may_join (drop e gs))) gs → length hs ≡ length gs
+    → take e hs ++ in_forms masks (may_join (stretch_of s e gs)) (syllables (drop e hs))
     ≡ take s gs ++ in_forms masks before (syllables (drop s gs))
 form_next masks before s e gs hs some is inside changed as_long =
     let n = first_syllable_len (drop s gs) in
-    let f = formed masks before (joins_runs (drop e gs)) in
+    let f = formed masks before (may_join (drop e gs)) in
     let step = changed_stretch f s e gs hs (omega arith) inside changed as_long in
     search (
       arith,
       append_assoc (take s gs) (f (stretch_of s e gs))
-          (in_forms masks (joins_runs (stretch_of s e gs)) (syllables (drop e hs))),
+          (in_forms masks (may_join (stretch_of s e gs)) (syllables (drop e hs))),
       syllables_from s n gs (omega (arith, length-drop s gs)) refl,
     )

@@ -7,7 +7,7 @@ use Rattle.shapers_buffer.specs.Glyphs.{Glyph, Glyphs}
 use Rattle.shapers_buffer.specs.Clusters.{stretch_of}
 use Rattle.shapers_buffer.specs.GlyphFlags.{unsafe_all, unsafe_inside, with_bits}
 use Rattle.shapers_buffer.specs.Syllables.{first_syllable_len, syllables}
-use Rattle.shapers_buffer.proofs.SyllableLaws.{syllables_are_runs}
+use Rattle.shapers_buffer.proofs.SyllableLaws.{syllables_are_longest}
 use Rattle.shapers_base.specs.Map.{Map}
 use Rattle.shapers_base.specs.declared.plan.arabic.arabic_shape_plan_t.{arabic_shape_plan_t}
 use Rattle.shapers_base.specs.declared.plan.breaks.BreakFlags.{BreakFlags}
@@ -17,9 +17,9 @@ use Rattle.shapers_clusters.proofs.FlagCalls.{map-unsafe_all, unsafe_inside-alon
 use Rattle.shapers_clusters.proofs.FlagLaw.{all_added_on, alone_added}
 use Rattle.shapers_clusters.proofs.Flagging.{unsafe_all-append}
 use Rattle.shapers_syllabic.proofs.Borders.{syllables-viewed}
-use Rattle.shapers_syllabic.proofs.SetUpFlags.{same_added}
+use Rattle.shapers_syllabic.proofs.SetupFlags.{same_added}
 use Rattle.shapers_syllabic.proofs.SyllableWalks.{syllables_from}
-use Rattle.shapers_universal.specs.UniversalSyllables.{first_joins, forms_flagged, is_torn, joins_runs, torn_pair, torn_pairs}
+use Rattle.shapers_universal.specs.UniversalSyllables.{first_joins, forms_flagged, is_torn, may_join, torn_pair, torn_pairs}
 use Rattle.shapers_universal.specs.declared.ot_shaper_use.forms.FormMasks.{FormMasks}
 use Rattle.shapers_universal.proofs.SyllableWalks.{first_joins-text}
 
@@ -30,23 +30,23 @@ nothing_and false sts = refl
 -- the stretch of a pair, by the rest of the text behind its first syllable
 rest_pair : (masks : FormMasks) (before : Bool) (i : ℕ) (syl rest : Glyphs)
     → torn_pair masks before i syl (syllables rest)
-    ≡ cond (joins_runs syl && (joins_runs rest && is_torn masks before (joins_runs (drop
+    ≡ cond (may_join syl && (may_join rest && is_torn masks before (may_join (drop
     (first_syllable_len rest) rest)))) ((i, i + (length syl + first_syllable_len rest)) ∷ []) []
 rest_pair masks before i syl [] = search arith
 rest_pair masks before i syl (g ∷ gs) =
-    search (arith, syllables_are_runs, first_joins-text, length-take-le, prefix_len-le-length)
+    search (arith, syllables_are_longest, first_joins-text, length-take-le, prefix_len-le-length)
 
 pair_at : (masks : FormMasks) (before : Bool) (s e : ℕ) (gs : Glyphs) → s ≤ e → e ≤ length gs → let end =
     e + first_syllable_len (drop e gs) in torn_pair masks before s (stretch_of s e gs) (syllables (drop e gs))
-    ≡ cond (joins_runs (stretch_of s e gs) && (joins_runs (drop e gs) && is_torn masks before (joins_runs
+    ≡ cond (may_join (stretch_of s e gs) && (may_join (drop e gs) && is_torn masks before (may_join
     (drop end gs)))) ((s, end) ∷ []) []
 pair_at = search (arith, rest_pair, drop-drop, length-take-le, length-drop)
 
 -- so with what the code reads
 pub pair_read : (masks : FormMasks) (before : Bool) (s e n : ℕ) (behind tears : Bool) (gs : Glyphs) → s ≤ e
     → e ≤ length gs → n ≡ first_syllable_len (take (length gs - e) (drop e gs))
-    → behind ≡ joins_runs (take (length gs - (e + n)) (drop (e + n) gs))
-    → tears ≡ (joins_runs (stretch_of s e gs) && (joins_runs (take (length gs - e)
+    → behind ≡ may_join (take (length gs - (e + n)) (drop (e + n) gs))
+    → tears ≡ (may_join (stretch_of s e gs) && (may_join (take (length gs - e)
     (drop e gs)) && is_torn masks before behind))
     → torn_pair masks before s (stretch_of s e gs) (syllables (drop e gs)) ≡ cond tears ((s, e + n) ∷ []) []
 pair_read = search (arith, pair_at, take_rest)
@@ -60,7 +60,7 @@ no_pair masks before s e gs past = cc (drop_all e gs past)
 abbrev bare : Glyph → Glyph
 bare g = record g { mask = 0 }
 
-bare_joins : (gs : Glyphs) → joins_runs (map bare gs) ≡ joins_runs gs
+bare_joins : (gs : Glyphs) → may_join (map bare gs) ≡ may_join gs
 bare_joins [] = refl
 bare_joins (g ∷ gs) = refl
 
@@ -76,7 +76,7 @@ bare_pair masks before i p (q ∷ ps) = search (arith, length-map)
 bare_pairs : (masks : FormMasks) (before : Bool) (i : ℕ) (ps : List Glyphs)
     → torn_pairs masks before i (map (map bare) ps) ≡ torn_pairs masks before i ps
 bare_pairs masks before i [] = refl
-bare_pairs masks before i (p ∷ ps) = search (arith, length-map, bare_pairs masks (joins_runs p) (i + length p) ps)
+bare_pairs masks before i (p ∷ ps) = search (arith, length-map, bare_pairs masks (may_join p) (i + length p) ps)
 
 pairs_alike : (masks : FormMasks) (before : Bool) (i : ℕ) (gs hs : Glyphs) → map bare gs ≡ map bare hs
     → torn_pairs masks before i (syllables gs) ≡ torn_pairs masks before i (syllables hs)
@@ -96,13 +96,13 @@ pair_in_order masks before i p (q ∷ ps) rest all = search arith
 pairs_in_order : (masks : FormMasks) (before : Bool) (i : ℕ) (ps : List Glyphs)
     → AllByRecursion (λ st. st.0 ≤ st.1) (torn_pairs masks before i ps)
 pairs_in_order masks before i [] = tt
-pairs_in_order masks before i (p ∷ ps) = search (arith, pairs_in_order masks (joins_runs p) (i + length p) ps)
+pairs_in_order masks before i (p ∷ ps) = search (arith, pairs_in_order masks (may_join p) (i + length p) ps)
 
 -- after one syllable
 pub pairs_next : (masks : FormMasks) (before : Bool) (s e : ℕ) (gs hs : Glyphs) → s < length gs
     → e ≡ s + first_syllable_len (drop s gs) → e ≤ length gs
     → hs ≡ unsafe_all (torn_pair masks before s (stretch_of s e gs) (syllables (drop e gs))) gs
-    → unsafe_all (torn_pairs masks (joins_runs (stretch_of s e gs)) e (syllables (drop e hs))) hs
+    → unsafe_all (torn_pairs masks (may_join (stretch_of s e gs)) e (syllables (drop e hs))) hs
     ≡ unsafe_all (torn_pairs masks before s (syllables (drop s gs))) gs
 pairs_next masks before s e gs hs some is inside flagged =
     let n = first_syllable_len (drop s gs) in
@@ -110,7 +110,7 @@ pairs_next masks before s e gs hs some is inside flagged =
     let rest = syllables (drop e gs) in
     let size : e - s ≡ n = omega arith in
     let pair = torn_pair masks before s syl rest in
-    let joins = joins_runs syl in
+    let joins = may_join syl in
     let same : map bare hs ≡ map bare gs =
     ap (map bare) flagged ∙ map-unsafe_all bare (λ g. refl) pair gs (search arith) in
     cc (

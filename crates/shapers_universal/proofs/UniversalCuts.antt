@@ -25,7 +25,7 @@ use Rattle.shapers_base.specs.declared.plan.arabic.arabic_shape_plan_t.{arabic_s
 use Rattle.shapers_base.specs.declared.plan.breaks.BreakFlags.{BreakFlags}
 use Rattle.shapers_base.specs.declared.plan.breaks.BreakFlags.TheVariants.{Sound}
 use Rattle.shapers_clusters.proofs.FlagCalls.{without_flags-or}
-use Rattle.shapers_syllabic.specs.Borders.{MeetAtBorder, SameButSerials, spans_set_up, unnumbered}
+use Rattle.shapers_syllabic.specs.Borders.{MeetAtBorder, SameButSerials, spans_setup, unnumbered}
 use Rattle.shapers_syllabic.specs.ReorderingLaws.{with_mask_by}
 use Rattle.shapers_syllabic.proofs.CircleLaws.{joined-syllables}
 use Rattle.shapers_syllabic.proofs.Borders.{OfByte, SameEnds, border_by, ends-kept, syllables-append, syllables-mapped, syllables_cut}
@@ -33,8 +33,8 @@ use Rattle.shapers_syllabic.proofs.HiddenCuts.{same-by}
 use Rattle.shapers_syllabic.proofs.Serials.{KeepsSame, pieces_same}
 use Rattle.shapers_syllabic.proofs.SpanCuts.{spans_cut}
 use Rattle.shapers_universal.specs.PlanData.{arabic_of, rphf_of}
-use Rattle.shapers_universal.specs.UniversalCuts.{UniversalSetUpCutsAtSpans, cut_view, flagless_for, formless_for}
-use Rattle.shapers_universal.specs.UniversalSyllables.{all_forms, form_masks, formed, forms_flagged, in_forms, joins_runs, mask_between, rphf_len, syllables_set_up, with_forms_flagged, with_forms_for, with_instead, with_rphf, with_syllable_masks}
+use Rattle.shapers_universal.specs.UniversalCuts.{UniversalSetupCutsAtSpans, cut_view, flagless_for, formless_for}
+use Rattle.shapers_universal.specs.UniversalSyllables.{all_forms, form_masks, formed, forms_flagged, in_forms, may_join, mask_between, rphf_len, syllables_setup, with_forms_flagged, with_forms_for, with_instead, with_rphf, with_syllable_masks}
 use Rattle.shapers_universal.specs.declared.ot_shaper_use.forms.FormMasks.{FormMasks}
 use Rattle.shapers_universal.proofs.TornPairs.{map-forms_flagged}
 
@@ -92,7 +92,7 @@ forms_hidden : (m : Map) (before : Bool) (syls : List Glyphs)
     → map (formless_for None m) (in_forms (form_masks m) before syls)
     ≡ map (formless_for None m) (flat_map (λ p. p) syls)
 forms_hidden m before [] = refl
-forms_hidden m before (syl ∷ syls) = search (map-append, syllable_hidden, forms_hidden m (joins_runs syl) syls)
+forms_hidden m before (syl ∷ syls) = search (map-append, syllable_hidden, forms_hidden m (may_join syl) syls)
 
 masks_hidden : (arabic : Option arabic_shape_plan_t) (m : Map) (gs : Glyphs)
     → map (formless_for arabic m) (with_forms_for arabic m gs) ≡ map (formless_for arabic m) gs
@@ -202,32 +202,32 @@ pub record FormlessHalves (kept : PlanData) (m : Map) (ss ts : List Span) (gs hs
     Buffer) : Type 0 where
   pub behind : Glyphs
   pub parts : map (formless_for (arabic_of kept) m) new.glyphs
-      ≡ map (formless_for (arabic_of kept) m) (syllables_set_up kept m ss (record old { glyphs = gs })).glyphs ++ behind
+      ≡ map (formless_for (arabic_of kept) m) (syllables_setup kept m ss (record old { glyphs = gs })).glyphs ++ behind
   pub renumbered : SameButSerials behind (map (formless_for (arabic_of kept) m)
-      (syllables_set_up kept m ts (record old { glyphs = hs })).glyphs)
+      (syllables_setup kept m ts (record old { glyphs = hs })).glyphs)
   pub border : MeetAtBorder (map (formless_for (arabic_of kept) m)
-      (syllables_set_up kept m ss (record old { glyphs = gs })).glyphs) behind
+      (syllables_setup kept m ss (record old { glyphs = gs })).glyphs) behind
   pub broken : new.broken
-      ≡ ((syllables_set_up kept m ss (record old { glyphs = gs })).broken
-      || (syllables_set_up kept m ts (record old { glyphs = hs })).broken)
+      ≡ ((syllables_setup kept m ss (record old { glyphs = gs })).broken
+      || (syllables_setup kept m ts (record old { glyphs = hs })).broken)
 
 pub formless_cuts : (kept : PlanData) (m : Map) (spans : List Span) (old : Buffer)
     → All (λ span. span.kind ≤ 15) spans → (ss ts : List Span) (gs hs : Glyphs) → spans ≡ ss ++ ts
     → old.glyphs ≡ gs ++ hs → spans_cover (length gs) ss ≡ true → spans_cover (length hs) ts ≡ true
-    → FormlessHalves kept m ss ts gs hs old (syllables_set_up kept m spans old)
+    → FormlessHalves kept m ss ts gs hs old (syllables_setup kept m spans old)
 formless_cuts kept m spans old kinds ss ts gs hs whole text first second =
     let plain = spans_cut spans BROKEN_CLUSTER old kinds ss ts gs hs whole text first second in
     let f = set_on (arabic_of kept) m (rphf_of kept) in
     let told = set_on_each (arabic_of kept) m (rphf_of kept) in
-    let front = (spans_set_up ss BROKEN_CLUSTER (record old { glyphs = gs })).glyphs in
-    let back = (spans_set_up ts BROKEN_CLUSTER (record old { glyphs = hs })).glyphs in
+    let front = (spans_setup ss BROKEN_CLUSTER (record old { glyphs = gs })).glyphs in
+    let back = (spans_setup ts BROKEN_CLUSTER (record old { glyphs = hs })).glyphs in
     let keeps = set_on_keeps (arabic_of kept) m (rphf_of kept) in
     let ends : (xs : Glyphs) → SameEnds (flat_map f (syllables xs)) xs =
     λ xs. subst (SameEnds (flat_map f (syllables xs))) (joined-syllables xs)
     (ends-kept f keeps (syllables xs) (syllables_cut xs)) in
     record {
       behind = flat_map f (syllables plain.behind);
-      parts = told (spans_set_up spans BROKEN_CLUSTER old).glyphs ∙ ap (λ xs. flat_map f (syllables xs)) plain.parts
+      parts = told (spans_setup spans BROKEN_CLUSTER old).glyphs ∙ ap (λ xs. flat_map f (syllables xs)) plain.parts
           ∙ ap (flat_map f) (syllables-append front plain.behind plain.border)
           ∙ flat_map-append f (syllables front) (syllables plain.behind)
           ∙ ap (λ l. l ++ flat_map f (syllables plain.behind)) (sym (told front));
@@ -262,20 +262,20 @@ view_by : (breaks : BreakFlags) (kept : PlanData) (m : Map) (gs : Glyphs)
     ≡ map (with_mask_by (flagless_for (arabic_of kept) breaks)) (map (formless_for (arabic_of kept) m) gs)
 view_by = search (flags_hidden, map-map)
 
-pub universal_set_up_cuts : (breaks : BreakFlags) (kept : PlanData) (m : Map) (spans : List Span) (old : Buffer)
-    → All (λ span. span.kind ≤ 15) spans → UniversalSetUpCutsAtSpans breaks kept m spans old
-    (with_forms_flagged breaks kept m (syllables_set_up kept m spans old))
-universal_set_up_cuts breaks kept m spans old kinds ss ts gs hs whole text first second =
+pub universal_setup_cuts : (breaks : BreakFlags) (kept : PlanData) (m : Map) (spans : List Span) (old : Buffer)
+    → All (λ span. span.kind ≤ 15) spans → UniversalSetupCutsAtSpans breaks kept m spans old
+    (with_forms_flagged breaks kept m (syllables_setup kept m spans old))
+universal_setup_cuts breaks kept m spans old kinds ss ts gs hs whole text first second =
     let cut = formless_cuts kept m spans old kinds ss ts gs hs whole text first second in
     let f = flagless_for (arabic_of kept) breaks in
     let hide = with_mask_by f in
     let formless = formless_for (arabic_of kept) m in
-    let front = (syllables_set_up kept m ss (record old { glyphs = gs })).glyphs in
-    let back = (syllables_set_up kept m ts (record old { glyphs = hs })).glyphs in
+    let front = (syllables_setup kept m ss (record old { glyphs = gs })).glyphs in
+    let back = (syllables_setup kept m ts (record old { glyphs = hs })).glyphs in
     let shown = view_by breaks kept m in
     record {
       behind = map hide cut.behind;
-      parts = shown ((syllables_set_up kept m spans old).glyphs) ∙ ap (map hide) cut.parts
+      parts = shown ((syllables_setup kept m spans old).glyphs) ∙ ap (map hide) cut.parts
           ∙ map-append hide (map formless front) cut.behind ∙ ap (λ l. l ++ map hide cut.behind) (sym (shown front));
       renumbered = subst (SameButSerials (map hide cut.behind)) (sym (shown back))
           (same-by f cut.behind (map formless back) cut.renumbered);

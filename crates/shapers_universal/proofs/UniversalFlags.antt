@@ -10,11 +10,11 @@ use Rattle.shapers_clusters.specs.FlagLaw.{FlagsAdded, OnlyFlagsAdded}
 use Rattle.shapers_clusters.proofs.Falls.{all_append}
 use Rattle.shapers_clusters.proofs.FlagCalls.{flags-and}
 use Rattle.shapers_clusters.proofs.FlagLaw.{added_on, changed_added, flags_kept}
-use Rattle.shapers_syllabic.specs.Borders.{spans_set_up}
+use Rattle.shapers_syllabic.specs.Borders.{spans_setup}
 use Rattle.shapers_syllabic.specs.Syllabic.{unsafe_syllables}
 use Rattle.shapers_syllabic.proofs.CircleLaws.{joined-syllables}
-use Rattle.shapers_syllabic.proofs.SetUpFlags.{bits_added, by_syllables, same_added, set_up_added}
-use Rattle.shapers_universal.specs.UniversalSyllables.{all_forms, formed, in_forms, joins_runs, mask_between, rphf_len, with_instead, with_rphf}
+use Rattle.shapers_syllabic.proofs.SetupFlags.{bits_added, by_syllables, same_added, setup_added}
+use Rattle.shapers_universal.specs.UniversalSyllables.{all_forms, formed, in_forms, may_join, mask_between, rphf_len, with_instead, with_rphf}
 use Rattle.shapers_universal.specs.declared.ot_shaper_use.forms.FormMasks.{FormMasks}
 
 -- syllables in their forms
@@ -35,7 +35,7 @@ forms_added : (masks : FormMasks) (before : Bool) → all_forms masks % 8 ≡ 0 
     → (syls : List Glyphs) → OnlyFlagsAdded (flat_map (λ syl. syl) syls) (in_forms masks before syls)
 forms_added masks before off fits [] = tt
 forms_added masks before off fits (syl ∷ syls) =
-    search (all_append, formed_added, forms_added masks (joins_runs syl) off fits syls)
+    search (all_append, formed_added, forms_added masks (may_join syl) off fits syls)
 
 pub in_forms_added : (masks : FormMasks) → all_forms masks % 8 ≡ 0 → all_forms masks ≤ 0xFFFFFFFF
     → (gs : Glyphs) → OnlyFlagsAdded gs (in_forms masks false (syllables gs))
@@ -51,7 +51,7 @@ pub syllables_added : (gs : Glyphs) → OnlyFlagsAdded gs (unsafe_syllables gs)
 syllables_added gs =
     let b : Buffer = record (new_buffer 0) { glyphs = gs } in
     subst (λ ms. OnlyFlagsAdded gs (unsafe_syllables ms)) (no_bytes gs)
-    (set_up_added [] 0 b (spans_set_up [] 0 b) refl)
+    (setup_added [] 0 b (spans_setup [] 0 b) refl)
 
 -- the mask of rphf
 rphf_syllable_added : (mask : ℕ) (gs : Glyphs) → OnlyFlagsAdded gs (with_rphf mask gs)

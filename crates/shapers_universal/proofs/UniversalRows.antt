@@ -4,7 +4,7 @@ use Rattle.std.specs.List.{range_with_len}
 use Rattle.shapers_buffer.specs.Glyphs.{Glyph, Glyphs}
 use Rattle.shapers_buffer.specs.declared.buffer.level.BufferClusterLevel.TheVariants.{MonotoneGraphemes}
 use Rattle.shapers_buffer.specs.Glyph.{clusters, default_glyph}
-use Rattle.shapers_clusters.specs.Steps.{run_steps}
+use Rattle.shapers_clusters.specs.Steps.{after_steps}
 use Rattle.shapers_universal.specs.UniversalText.{universal_circles}
 use Rattle.shapers_universal.specs.UniversalWalk.{may_reorder}
 use Rattle.shapers_universal.specs.Universal.{goes_front, is_universal_halant, reph_passes, is_reordered_in_universal, universal_order, universal_steps}
@@ -27,10 +27,10 @@ abbrev ordered : List ℕ → List ℕ
 ordered categories = numbers (universal_order (syl categories))
 
 abbrev in_clusters : List ℕ → List ℕ
-in_clusters categories = clusters (run_steps MonotoneGraphemes (universal_steps (syl categories)) (syl categories))
+in_clusters categories = clusters (after_steps MonotoneGraphemes (universal_steps (syl categories)) (syl categories))
 
 abbrev stepped : List ℕ → List ℕ
-stepped categories = numbers (run_steps MonotoneGraphemes (universal_steps (syl categories)) (syl categories))
+stepped categories = numbers (after_steps MonotoneGraphemes (universal_steps (syl categories)) (syl categories))
 
 -- R B VAbv; B VPre H B VPre VPre; R B B VAbv; R B H; R VAbv; R alone; R B; nothing
 order_rows : map ordered ((18 ∷ 1 ∷ 33 ∷ []) ∷ (1 ∷ 22 ∷ 12 ∷ 1 ∷ 22 ∷ 22 ∷ []) ∷ (18 ∷ 1 ∷ 1 ∷ 33 ∷ [])

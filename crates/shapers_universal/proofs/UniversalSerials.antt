@@ -10,20 +10,20 @@ use Rattle.shapers_clusters.specs.Steps.{Step}
 use Rattle.shapers_clusters.proofs.FlagCalls.{without_flags-or}
 use Rattle.shapers_clusters.proofs.Merging.{without_flags-twice}
 use Rattle.shapers_syllabic.specs.declared.ot_shaper_syllabic.circles.DottedCircles.{DottedCircles}
-use Rattle.shapers_syllabic.specs.Borders.{MeetAtBorder, SameButSerials, spans_set_up, unnumbered}
+use Rattle.shapers_syllabic.specs.Borders.{MeetAtBorder, SameButSerials, spans_setup, unnumbered}
 use Rattle.shapers_syllabic.specs.Circles.{circled}
 use Rattle.shapers_syllabic.specs.ReorderingLaws.{paused_clusters, paused_order, with_mask_by}
 use Rattle.shapers_syllabic.specs.SpanCuts.{HalvesJoined}
 use Rattle.shapers_syllabic.specs.declared.ot_shaper_syllabic.kinds.use_syllable.TheConstants.{BROKEN_CLUSTER}
-use Rattle.shapers_syllabic.proofs.HiddenCuts.{MaskKeepsFlags, SetUpParts, circled-by, clusters-by, joined_halves, paused_clusters_are}
+use Rattle.shapers_syllabic.proofs.HiddenCuts.{MaskKeepsFlags, SetupParts, circled-by, clusters-by, joined_halves, paused_clusters_are}
 use Rattle.shapers_syllabic.proofs.LawsThen.{reads_by_view}
-use Rattle.shapers_syllabic.proofs.PauseCuts.{clusters-set_up}
+use Rattle.shapers_syllabic.proofs.PauseCuts.{clusters-setup}
 use Rattle.shapers_syllabic.proofs.Views.{KeepsKinds, masks_view, unnumbered_view}
 use Rattle.shapers_universal.specs.PlanData.{arabic_of}
 use Rattle.shapers_universal.specs.Universal.{universal_order, universal_steps}
 use Rattle.shapers_universal.specs.UniversalCuts.{formless_for}
-use Rattle.shapers_universal.specs.UniversalLaws.{UniversalCutsBetweenSpans, UniversalReadsNoMasks, UniversalReadsNoSerials, set_up_by_spans}
-use Rattle.shapers_universal.specs.UniversalSyllables.{all_forms, form_masks, syllables_set_up, with_forms_flagged}
+use Rattle.shapers_universal.specs.UniversalLaws.{UniversalCutsBetweenSpans, UniversalReadsNoMasks, UniversalReadsNoSerials, setup_by_spans}
+use Rattle.shapers_universal.specs.UniversalSyllables.{all_forms, form_masks, syllables_setup, with_forms_flagged}
 use Rattle.shapers_universal.proofs.TornPairs.{map-forms_flagged}
 use Rattle.shapers_universal.proofs.UniversalCuts.{clusters-masks, flags-and, formless_cuts}
 use Rattle.shapers_universal.specs.Proved.UniversalView.{universal_laws, universal_order-seen, universal_steps-seen}
@@ -89,26 +89,26 @@ pub universal_cuts_between_spans : UniversalCutsBetweenSpans
 universal_cuts_between_spans breaks kept m circles spans old new kinds done ss ts gs hs xs ys split text first second
     one two =
     let f = without_forms (arabic_of kept) m in
-    let set = set_up_by_spans kept m in
+    let set = setup_by_spans kept m in
     let cut = formless_cuts kept m spans old kinds ss ts gs hs split text first second in
     let is = formless_all (arabic_of kept) m in
     let front = set ss gs in
     let back = set ts hs in
     let whole = set spans old.glyphs in
-    let flagged = with_forms_flagged breaks kept m (syllables_set_up kept m spans old) in
+    let flagged = with_forms_flagged breaks kept m (syllables_setup kept m spans old) in
     let alike =
     map-forms_flagged flagless (λ g. ap (λ n. (record g { mask = n }))
     (without_flags-or g.mask 3 refl)) (arabic_of kept) breaks m whole in
-    let parts : SetUpParts f gs hs whole front back = record {
+    let parts : SetupParts f gs hs whole front back = record {
       behind = cut.behind;
       parts = ap (λ (h : Glyph → Glyph). map h whole) (sym is) ∙ cut.parts
           ∙ ap (λ (h : Glyph → Glyph). map h front ++ cut.behind) is;
       renumbered = subst (λ (h : Glyph → Glyph). SameButSerials cut.behind (map h back)) is cut.renumbered;
       border = subst (λ (h : Glyph → Glyph). MeetAtBorder (map h front) cut.behind) is cut.border;
-      first = clusters-masks kept m (spans_set_up ss BROKEN_CLUSTER (record old { glyphs = gs })).glyphs
-          ∙ clusters-set_up ss BROKEN_CLUSTER (record old { glyphs = gs });
-      both = clusters-masks kept m (spans_set_up spans BROKEN_CLUSTER old).glyphs
-          ∙ clusters-set_up spans BROKEN_CLUSTER old ∙ ap clusters text;
+      first = clusters-masks kept m (spans_setup ss BROKEN_CLUSTER (record old { glyphs = gs })).glyphs
+          ∙ clusters-setup ss BROKEN_CLUSTER (record old { glyphs = gs });
+      both = clusters-masks kept m (spans_setup spans BROKEN_CLUSTER old).glyphs
+          ∙ clusters-setup spans BROKEN_CLUSTER old ∙ ap clusters text;
     } in
     let read = universal_reads_no_masks in
     subst (λ (h : Glyph → Glyph). HalvesJoined (λ g. unnumbered (h g))

@@ -29,9 +29,9 @@ abbrev pub reph_passes : Glyph → Bool
 reph_passes g = not (is_of_categories post_base g || is_universal_halant g)
 
 -- how many glyphs the reph in front and what it moves behind are, 0 where no reph stands in front
-abbrev pub reph_run : Glyphs → ℕ
-reph_run [] = 0
-reph_run (g ∷ gs) = if g.category == R then suc (prefix_len reph_passes gs) else 0
+abbrev pub leading_reph_len : Glyphs → ℕ
+leading_reph_len [] = 0
+leading_reph_len (g ∷ gs) = if g.category == R then suc (prefix_len reph_passes gs) else 0
 
 -- the list with the first of its first n elements as the last of them
 abbrev pub first_behind : {X : Type 0} → ℕ → List X → List X
@@ -39,7 +39,7 @@ first_behind n xs = first_last (take n xs) ++ drop n xs
 
 -- the syllable with its reph behind what it passes
 abbrev pub reph_moved : Glyphs → Glyphs
-reph_moved gs = first_behind (reph_run gs) gs
+reph_moved gs = first_behind (leading_reph_len gs) gs
 
 -- what goes to the front of its piece: VPre and VMPre, of those put in for one glyph the first
 abbrev pub goes_front : Glyph → Bool
@@ -66,8 +66,8 @@ universal_order gs =
 -- the step of the reph: it merges with what it passes
 abbrev pub universal_reph_step : Glyphs → Step
 universal_reph_step gs = record {
-  merged_first = (0, reph_run gs) ∷ [];
-  places = first_behind (reph_run gs) (range_with_len 0 (length gs));
+  merged_first = (0, leading_reph_len gs) ∷ [];
+  places = first_behind (leading_reph_len gs) (range_with_len 0 (length gs));
   merged_then = [];
 }
 

@@ -11,7 +11,7 @@ use Rattle.shapers_base.specs.declared.plan.arabic.arabic_shape_plan_t.{arabic_s
 use Rattle.shapers_base.specs.declared.plan.breaks.BreakFlags.{BreakFlags}
 use Rattle.shapers_base.specs.declared.plan.breaks.BreakFlags.TheVariants.{AsCode, Sound}
 use Rattle.shapers_syllabic.specs.declared.ot_shaper_syllabic.kinds.use_syllable.TheConstants.{BROKEN_CLUSTER}
-use Rattle.shapers_syllabic.specs.Borders.{SetUpCuts}
+use Rattle.shapers_syllabic.specs.Borders.{SetupCuts}
 use Rattle.shapers_syllabic.specs.ReorderingLaws.{with_mask_by}
 use Rattle.shapers_syllabic.specs.Syllabic.{unsafe_spans}
 use Rattle.shapers_universal.specs.PlanData.{arabic_of}
@@ -34,15 +34,15 @@ cut_view breaks kept m g =
     with_mask_by (flagless_for (arabic_of kept) breaks) (formless_for (arabic_of kept) m g)
 
 -- what spans set up of glyphs, as far as this view shows it
-abbrev pub formless_set_up : BreakFlags → PlanData → Map → List Span → Glyphs →
+abbrev pub formless_setup : BreakFlags → PlanData → Map → List Span → Glyphs →
     Glyphs
-formless_set_up breaks kept m spans gs =
-    let set_up = with_syllable_masks kept m (unsafe_spans spans gs) in
-    map (cut_view breaks kept m) (forms_flagged (arabic_of kept) breaks m set_up)
+formless_setup breaks kept m spans gs =
+    let setup = with_syllable_masks kept m (unsafe_spans spans gs) in
+    map (cut_view breaks kept m) (forms_flagged (arabic_of kept) breaks m setup)
 
 -- the set-up cut between any two spans, in this view
-abbrev pub UniversalSetUpCutsAtSpans : BreakFlags → PlanData → Map → List Span → Buffer → Buffer →
+abbrev pub UniversalSetupCutsAtSpans : BreakFlags → PlanData → Map → List Span → Buffer → Buffer →
     Type 0
-UniversalSetUpCutsAtSpans breaks kept m spans old new =
+UniversalSetupCutsAtSpans breaks kept m spans old new =
     let shown = map (cut_view breaks kept m) new.glyphs in
-    SetUpCuts (formless_set_up breaks kept m) BROKEN_CLUSTER spans shown old new
+    SetupCuts (formless_setup breaks kept m) BROKEN_CLUSTER spans shown old new

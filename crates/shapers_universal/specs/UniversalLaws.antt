@@ -15,7 +15,7 @@ use Rattle.shapers_syllabic.specs.Syllabic.{unsafe_spans}
 use Rattle.shapers_universal.specs.PlanData.{arabic_of}
 use Rattle.shapers_universal.specs.Universal.{universal_order, universal_steps}
 use Rattle.shapers_universal.specs.UniversalCuts.{formless_for}
-use Rattle.shapers_universal.specs.UniversalSyllables.{syllables_set_up, with_forms_flagged, with_syllable_masks}
+use Rattle.shapers_universal.specs.UniversalSyllables.{syllables_setup, with_forms_flagged, with_syllable_masks}
 
 -- the steps of a syllable take each of its places once and lead to its order
 abbrev pub UniversalReorderLaws : Type 0
@@ -34,9 +34,9 @@ abbrev pub UniversalReadsNoMasks : Type 0
 UniversalReadsNoMasks = ReadsNoMasks universal_order universal_steps
 
 -- the glyphs that spans set up: bytes, no break inside them, the masks of rphf and of forms
-abbrev pub set_up_by_spans : PlanData → Map → List Span → Glyphs →
+abbrev pub setup_by_spans : PlanData → Map → List Span → Glyphs →
     Glyphs
-set_up_by_spans kept m spans gs = with_syllable_masks kept m (unsafe_spans spans gs)
+setup_by_spans kept m spans gs = with_syllable_masks kept m (unsafe_spans spans gs)
 
 -- the glyph without what differs between a text and its halves: serial and masks of forms
 abbrev pub without_serial_or_forms : PlanData → Map → Glyph → Glyph
@@ -49,7 +49,7 @@ UniversalCutsBetweenSpans =
     (spans : List Span) (old new : Buffer) →
     All (λ span. span.kind ≤ 15) spans →
     PauseReordered circles universal_order universal_steps
-    (with_forms_flagged breaks kept m (syllables_set_up kept m spans old)) new →
-    CutsBetweenSpans (without_serial_or_forms kept m) (set_up_by_spans kept m)
+    (with_forms_flagged breaks kept m (syllables_setup kept m spans old)) new →
+    CutsBetweenSpans (without_serial_or_forms kept m) (setup_by_spans kept m)
     (paused_order circles universal_order) (paused_clusters circles universal_steps old.level)
     spans old.glyphs new.glyphs

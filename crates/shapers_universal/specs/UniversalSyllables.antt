@@ -14,7 +14,7 @@ use Rattle.shapers_buffer.specs.Buffer.{Buffer}
 use Rattle.shapers_buffer.specs.GlyphFlags.{unsafe_all, with_bits}
 use Rattle.shapers_buffer.specs.Properties.{is_substituted}
 use Rattle.shapers_buffer.specs.Syllables.{kind_of, syllables, with_spans}
-use Rattle.shapers_syllabic.specs.Syllabic.{set_up_by_bytes, with_unsafe_syllables}
+use Rattle.shapers_syllabic.specs.Syllabic.{setup_by_bytes, with_unsafe_syllables}
 use Rattle.shapers_syllabic.specs.declared.ot_shaper_syllabic.kinds.use_syllable.TheConstants.{BROKEN_CLUSTER, HIEROGLYPH_CLUSTER, NON_CLUSTER}
 use Rattle.shapers_universal.specs.declared.ot_shaper_use.category.TheConstants.{R, VPre}
 use Rattle.shapers_universal.specs.declared.ot_shaper_use.forms.FormMasks.{FormMasks}
@@ -45,18 +45,20 @@ form_masks m = record {
 abbrev pub all_forms : FormMasks → ℕ
 all_forms masks = bit_or (bit_or masks.isol masks.init) (bit_or masks.medi masks.fina)
 
--- whether a syllable stands in runs of joining ones: no hieroglyphs, and not what is in no cluster
-abbrev pub joins_runs : Glyphs → Bool
-joins_runs [] = false
-joins_runs (g ∷ gs) =
+-- whether a syllable stands in sequences of joining ones: no hieroglyphs, and not what is in no
+-- cluster
+abbrev pub may_join : Glyphs → Bool
+may_join [] = false
+may_join (g ∷ gs) =
     not (kind_of g.syllable == HIEROGLYPH_CLUSTER) && not (kind_of g.syllable == NON_CLUSTER)
 
 -- whether the first of these syllables does
 abbrev pub first_joins : List Glyphs → Bool
 first_joins [] = false
-first_joins (syl ∷ syls) = joins_runs syl
+first_joins (syl ∷ syls) = may_join syl
 
--- the form in a run: a lone syllable isolated, the first initial, the last final, others medial
+-- the form in a sequence: a lone syllable isolated, the first initial, the last final, others
+-- medial
 abbrev pub mask_between : FormMasks → Bool → Bool → ℕ
 mask_between masks false false = masks.isol
 mask_between masks false true = masks.init
@@ -70,14 +72,14 @@ with_instead bits mask g = record g { mask = bit_or (bit_and g.mask (0xFFFFFFFF 
 -- the syllable in its form, with its mask in place of the bits of all forms
 abbrev pub formed : FormMasks → Bool → Bool → Glyphs → Glyphs
 formed masks before behind gs =
-    if joins_runs gs then map (with_instead (all_forms masks) (mask_between masks before behind)) gs
+    if may_join gs then map (with_instead (all_forms masks) (mask_between masks before behind)) gs
     else gs
 
 -- these syllables in their forms, where a joining one stands before them or none
 abbrev pub in_forms : FormMasks → Bool → List Glyphs → Glyphs
 in_forms masks before [] = []
 in_forms masks before (syl ∷ syls) =
-    formed masks before (first_joins syls) syl ++ in_forms masks (joins_runs syl) syls
+    formed masks before (first_joins syls) syl ++ in_forms masks (may_join syl) syls
 
 -- the text in its forms, where there is a mask for one
 abbrev pub with_form_masks : FormMasks → Glyphs → Glyphs
@@ -89,7 +91,7 @@ abbrev pub with_forms_for : Option arabic_shape_plan_t → Map → Glyphs →
 with_forms_for None m gs = with_form_masks (form_masks m) gs
 with_forms_for (Some p) m gs = gs
 
--- whether a break between two neighbouring syllables of a run would change the mask of one, by
+-- whether a break between two neighbouring syllables of a sequence would change the mask of one, by
 -- whether a syllable of it stands before the first and whether one stands behind the second
 abbrev pub is_torn : FormMasks → Bool → Bool → Bool
 is_torn masks before behind =
@@ -102,7 +104,7 @@ abbrev pub torn_pair : FormMasks → Bool → ℕ → Glyphs → List Glyphs →
     List (ℕ × ℕ)
 torn_pair masks before i syl [] = []
 torn_pair masks before i syl (next ∷ syls) =
-    if joins_runs syl && (joins_runs next && is_torn masks before (first_joins syls)) then
+    if may_join syl && (may_join next && is_torn masks before (first_joins syls)) then
     (i, i + (length syl + length next)) ∷ []
     else []
 
@@ -110,7 +112,7 @@ torn_pair masks before i syl (next ∷ syls) =
 abbrev pub torn_pairs : FormMasks → Bool → ℕ → List Glyphs → List (ℕ × ℕ)
 torn_pairs masks before i [] = []
 torn_pairs masks before i (syl ∷ syls) =
-    torn_pair masks before i syl syls ++ torn_pairs masks (joins_runs syl) (i + length syl) syls
+    torn_pair masks before i syl syls ++ torn_pairs masks (may_join syl) (i + length syl) syls
 
 -- what the choice flags besides, where the plan has no plan of Arabic: with Sound no break between
 -- two syllables that would change the mask of one's form
@@ -130,15 +132,15 @@ with_syllable_masks kept m gs =
     with_forms_for (arabic_of kept) m (flat_map (with_rphf (rphf_of kept)) (syllables gs))
 
 -- the set-up of syllables: the spans, no break inside them, and these masks
-abbrev pub syllables_set_up : PlanData → Map → List Span → Buffer → Buffer
-syllables_set_up kept m spans b =
+abbrev pub syllables_setup : PlanData → Map → List Span → Buffer → Buffer
+syllables_setup kept m spans b =
     let cut : Buffer = with_unsafe_syllables (with_spans spans BROKEN_CLUSTER b) in
     record cut { glyphs = with_syllable_masks kept m cut.glyphs }
 
 -- so by the syllable bytes that the text has
-abbrev pub set_up_by_its_bytes : PlanData → Map → Buffer → Buffer
-set_up_by_its_bytes kept m b =
-    let marked : Buffer = set_up_by_bytes BROKEN_CLUSTER b in
+abbrev pub setup_by_its_bytes : PlanData → Map → Buffer → Buffer
+setup_by_its_bytes kept m b =
+    let marked : Buffer = setup_by_bytes BROKEN_CLUSTER b in
     record marked { glyphs = with_syllable_masks kept m marked.glyphs }
 
 -- the glyph of another category

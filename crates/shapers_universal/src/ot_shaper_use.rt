@@ -17,7 +17,7 @@ mod masks;
 mod ordering;
 mod records;
 mod reordering;
-mod set_up;
+mod setup;
 mod syllable_walk;
 
 pub use data::create_data;
@@ -26,7 +26,7 @@ pub use masks::{set_categories_in, setup_masks};
 pub use ordering::UniversalOrder;
 pub use records::{record_pref, record_pref_in, record_rphf, record_rphf_in};
 pub use reordering::reorder_use;
-pub use set_up::{setup_syllables_use, setup_syllables_use_by_bytes};
+pub use setup::{setup_syllables_use, setup_syllables_use_by_bytes};
 pub use shapers_base::plan::use_shape_plan_t;
 pub use shapers_syllabic::ot_shaper_syllabic::compose;
 

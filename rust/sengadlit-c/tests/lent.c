@@ -302,7 +302,7 @@ static void texts_that_are_rewritten_elsewhere(void)
 /* Reorderings of a text whose array grows need no other memory: the circle of Khmer. */
 static void circles(void)
 {
-    const sengadlit_pause_t set_up = SENGADLIT_PAUSE_SETUP_SYLLABLES_KHMER;
+    const sengadlit_pause_t setup = SENGADLIT_PAUSE_SETUP_SYLLABLES_KHMER;
 
     begin_world(SENGADLIT_SHAPER_KHMER, SENGADLIT_TAG('K', 'h', 'm', 'r'), 0, 0);
     check("a function", sengadlit_buffer_set_grow_func(world.buffer, grow, &growths) == SENGADLIT_DONE);
@@ -312,7 +312,7 @@ static void circles(void)
     array[0].syllable = 0x10 | SENGADLIT_KHMER_SYLLABLE_BROKEN;
     refuses = 0;
     check("lent", sengadlit_buffer_lend(world.buffer, array, 1, 1) == SENGADLIT_DONE);
-    check("set up", sengadlit_setup_syllables_written(world.plan, set_up, world.buffer) == SENGADLIT_DONE);
+    check("set up", sengadlit_setup_syllables_written(world.plan, setup, world.buffer) == SENGADLIT_DONE);
     check("in the array", glyphs() == array);
     check("a circle", sengadlit_run_pause(world.plan, SENGADLIT_PAUSE_REORDER_KHMER, &world.font, NULL, 0, world.buffer, NULL) ==
                           SENGADLIT_DONE);

@@ -86,7 +86,7 @@ static sengadlit_status_t stop(void)
     return sengadlit_caret_stops(world.buffer, SENGADLIT_DIRECTION_LTR, NULL) ? SENGADLIT_DONE : SENGADLIT_MEMORY;
 }
 
-static sengadlit_status_t set_up_found(void)
+static sengadlit_status_t setup_found(void)
 {
     return sengadlit_setup_syllables_found(world.plan, SENGADLIT_PAUSE_SETUP_SYLLABLES_KHMER, world.buffer);
 }
@@ -106,7 +106,7 @@ static sengadlit_status_t marks(void)
     return sengadlit_reorder_marks(world.plan, world.buffer, 0, 3);
 }
 
-static sengadlit_status_t set_up(void)
+static sengadlit_status_t setup(void)
 {
     static const sengadlit_span_t spans[] = {{3, 0}, {1, 1}};
 
@@ -402,8 +402,8 @@ static void try_khmer(void)
     try_call("override", override);
     try_call("spans", find);
     try_call("caret_stops", stop);
-    try_call("set up found", set_up_found);
-    try_call("set up", set_up);
+    try_call("set up found", setup_found);
+    try_call("set up", setup);
     try_call("reorder", reorder);
 }
 

@@ -473,12 +473,12 @@ static void call_pause(void) { expect_status(run(SENGADLIT_PAUSE_SYLLABIC_CLEAR_
 static void call_postprocess(void) { expect_status(postprocess()); }
 static void find_spans(void) { expect(sengadlit_spans(SENGADLIT_SHAPER_KHMER, world.buffer, NULL) == NULL); }
 
-static void set_up_found(void)
+static void setup_found(void)
 {
     expect_status(sengadlit_setup_syllables_found(world.plan, SENGADLIT_PAUSE_SETUP_SYLLABLES_KHMER, world.buffer));
 }
 
-static void set_up_written(void)
+static void setup_written(void)
 {
     expect_status(sengadlit_setup_syllables_written(world.plan, SENGADLIT_PAUSE_SETUP_SYLLABLES_KHMER, world.buffer));
 }
@@ -607,8 +607,8 @@ static const struct intruder {
     {"run_pause", call_pause, 0},
     {"postprocess_glyphs", call_postprocess, 0},
     {"spans", find_spans, 0},
-    {"setup_syllables_found", set_up_found, 0},
-    {"setup_syllables_written", set_up_written, 0},
+    {"setup_syllables_found", setup_found, 0},
+    {"setup_syllables_written", setup_written, 0},
     {"lend", lend, 0},
     {"set_grow_func", set_grow_func, 0},
     {"give_back", give_back, 0},

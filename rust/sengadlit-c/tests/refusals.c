@@ -96,7 +96,7 @@ static sengadlit_status_t run(unsigned int pause)
     return sengadlit_run_pause(world.plan, (sengadlit_pause_t)pause, &world.font, NULL, 0, world.buffer, NULL);
 }
 
-static sengadlit_status_t set_up(sengadlit_pause_t pause, const sengadlit_span_t *spans, unsigned int length)
+static sengadlit_status_t setup(sengadlit_pause_t pause, const sengadlit_span_t *spans, unsigned int length)
 {
     return sengadlit_run_pause(world.plan, pause, NULL, spans, length, world.buffer, NULL);
 }
@@ -586,10 +586,10 @@ static void texts_after_a_broken_one(void)
         begin_khmer();
         world.answers.glyph_of_circle = 7;
         check("a text", sengadlit_buffer_set_length(world.buffer, 1) != NULL);
-        expect("broken", set_up(SENGADLIT_PAUSE_SETUP_SYLLABLES_KHMER, broken, 1), SENGADLIT_DONE);
+        expect("broken", setup(SENGADLIT_PAUSE_SETUP_SYLLABLES_KHMER, broken, 1), SENGADLIT_DONE);
         if (clears) sengadlit_buffer_clear_contents(world.buffer);
         check("another", sengadlit_buffer_set_length(world.buffer, 1) != NULL);
-        expect("whole", set_up(SENGADLIT_PAUSE_SETUP_SYLLABLES_KHMER, whole, 1), SENGADLIT_DONE);
+        expect("whole", setup(SENGADLIT_PAUSE_SETUP_SYLLABLES_KHMER, whole, 1), SENGADLIT_DONE);
         expect("reordered",
                sengadlit_run_pause(world.plan, SENGADLIT_PAUSE_REORDER_KHMER, &world.font, NULL, 0, world.buffer, &circles),
                SENGADLIT_DONE);
@@ -944,21 +944,21 @@ static void spans_that_are_none(void)
     sengadlit_span_t spans[3] = {{1, 0}, {1, 0}, {1, 0}};
 
     begin_khmer();
-    FAILS("no spans", set_up(pause, NULL, 0), SENGADLIT_SPANS_DONT_COVER, SENGADLIT_ARGUMENT_NONE, 0);
-    FAILS("too few spans", set_up(pause, spans, 2), SENGADLIT_SPANS_DONT_COVER, SENGADLIT_ARGUMENT_NONE, 0);
-    REFUSES("spans nowhere", set_up(pause, NULL, 3), SPANS, 0);
+    FAILS("no spans", setup(pause, NULL, 0), SENGADLIT_SPANS_DONT_COVER, SENGADLIT_ARGUMENT_NONE, 0);
+    FAILS("too few spans", setup(pause, spans, 2), SENGADLIT_SPANS_DONT_COVER, SENGADLIT_ARGUMENT_NONE, 0);
+    REFUSES("spans nowhere", setup(pause, NULL, 3), SPANS, 0);
     spans[2].kind = 16;
-    REFUSES("a span of kind 16", set_up(pause, spans, 3), SPANS, 2);
+    REFUSES("a span of kind 16", setup(pause, spans, 3), SPANS, 2);
     spans[2].kind = 0;
     spans[0].length = 2;
-    FAILS("too long spans", set_up(pause, spans, 3), SENGADLIT_SPANS_DONT_COVER, SENGADLIT_ARGUMENT_NONE, 0);
+    FAILS("too long spans", setup(pause, spans, 3), SENGADLIT_SPANS_DONT_COVER, SENGADLIT_ARGUMENT_NONE, 0);
     spans[1].length = 0;
-    FAILS("an empty span", set_up(pause, spans, 3), SENGADLIT_SPANS_DONT_COVER, SENGADLIT_ARGUMENT_NONE, 0);
+    FAILS("an empty span", setup(pause, spans, 3), SENGADLIT_SPANS_DONT_COVER, SENGADLIT_ARGUMENT_NONE, 0);
     spans[0].length = SIZE_MAX;
     spans[1].length = 3;
-    FAILS("spans beyond any length", set_up(pause, spans, 3), SENGADLIT_SPANS_DONT_COVER, SENGADLIT_ARGUMENT_NONE, 0);
+    FAILS("spans beyond any length", setup(pause, spans, 3), SENGADLIT_SPANS_DONT_COVER, SENGADLIT_ARGUMENT_NONE, 0);
     check("no spans of an empty text", sengadlit_buffer_set_length(world.buffer, 0) != NULL);
-    expect("no spans of an empty text", set_up(pause, NULL, 0), SENGADLIT_DONE);
+    expect("no spans of an empty text", setup(pause, NULL, 0), SENGADLIT_DONE);
 }
 
 static void syllables_that_are_none(void)
@@ -967,7 +967,7 @@ static void syllables_that_are_none(void)
     sengadlit_bool_t circles = UNTOUCHED;
 
     begin_khmer();
-    expect("a span of kind 9", set_up(SENGADLIT_PAUSE_SETUP_SYLLABLES_KHMER, spans, 3), SENGADLIT_DONE);
+    expect("a span of kind 9", setup(SENGADLIT_PAUSE_SETUP_SYLLABLES_KHMER, spans, 3), SENGADLIT_DONE);
     check("a broken syllable", sengadlit_buffer_get_state(world.buffer) == SENGADLIT_BUFFER_STATE_HAS_BROKEN_SYLLABLE);
     FAILS("a syllable of kind 9",
           sengadlit_run_pause(world.plan, SENGADLIT_PAUSE_REORDER_KHMER, &world.font, NULL, 0, world.buffer, &circles),

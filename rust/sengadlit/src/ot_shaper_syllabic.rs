@@ -5,5 +5,5 @@ pub use crate::generated::shapers_syllabic::ot_shaper_syllabic::{
     MayChange, Reorder, ReorderBySteps, clear_substitution_flags_in, clear_syllables_in,
     flag_syllables_in, indic_syllable, insert_dotted_circles, khmer_syllable, myanmar_syllable,
     reorder_syllables, reorder_syllables_by_steps, set_categories_and_positions_in,
-    set_categories_in, set_up_by_bytes, use_syllable,
+    set_categories_in, setup_by_bytes, use_syllable,
 };

@@ -160,7 +160,7 @@ mod tests {
     }
 
     // What a set-up makes of a text in one pass, and by a list of spans.
-    fn set_up(
+    fn setup(
         shaper: Shaper,
         pause: Pause,
         script: crate::Script,
@@ -203,7 +203,7 @@ mod tests {
             ),
         ] {
             for text in texts {
-                let [found, set] = set_up(shaper, pause, script, text);
+                let [found, set] = setup(shaper, pause, script, text);
                 assert_eq!(found.glyphs(), set.glyphs());
                 assert_eq!(found.has_broken_syllable(), set.has_broken_syllable());
             }

@@ -109,7 +109,7 @@ fn sum_of_machine(machine: &impl Machine) -> u64 {
         at += 1;
         let kind = machine.kind(state).map_or(0x100, u64::from);
         numbers.push(
-            kind << 2 | u64::from(machine.is_dead(state)) << 1 | u64::from(machine.turns(state)),
+            kind << 2 | u64::from(machine.is_dead(state)) << 1 | u64::from(machine.cycles(state)),
         );
         if machine.is_dead(state) {
             continue;

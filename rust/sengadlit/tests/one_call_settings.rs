@@ -21,12 +21,12 @@ fn text(characters: &str) -> UnicodeBuffer {
 }
 
 /// The glyphs of a text with these features, once it is set up.
-fn shaped(characters: &str, features: &[&str], set_up: impl Fn(&mut UnicodeBuffer)) -> String {
+fn shaped(characters: &str, features: &[&str], setup: impl Fn(&mut UnicodeBuffer)) -> String {
     let data = font();
     let face = Face::parse(&data, 0).unwrap();
     let features: Vec<Feature> = features.iter().map(|tag| tag.parse().unwrap()).collect();
     let mut buffer = text(characters);
-    set_up(&mut buffer);
+    setup(&mut buffer);
     shape(&face, &features, buffer).serialize(&face, SerializeFlags::default())
 }
 
@@ -307,9 +307,9 @@ fn marks_without_gpos() {
     ];
     let data = font_without_gpos(&more);
     let face = Face::parse(&data, 0).unwrap();
-    let shaped = |face: &Face<'_>, characters: &str, set_up: fn(&mut UnicodeBuffer)| {
+    let shaped = |face: &Face<'_>, characters: &str, setup: fn(&mut UnicodeBuffer)| {
         let mut buffer = text(characters);
-        set_up(&mut buffer);
+        setup(&mut buffer);
         shape(face, &[], buffer).serialize(face, SerializeFlags::default())
     };
     let marked = "A\u{301}\u{302}\u{323}C";

@@ -207,7 +207,7 @@ fn rotated() {
 }
 
 #[test]
-fn vowels_parted() {
+fn vowels_circled() {
     let parted = |characters: &[u32], flags| {
         let mut buffer = text(characters);
         buffer.set_script(Some(script::DEVANAGARI));

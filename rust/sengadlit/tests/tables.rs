@@ -651,7 +651,7 @@ fn table_of_kinds() {
             Pause::ReorderUse,
         ),
     ];
-    for (shaper, script, set_up, reorder) in pauses {
+    for (shaper, script, setup, reorder) in pauses {
         let plan = plan_with_masks(shaper, script);
         for (kind, category) in (0..16).flat_map(|kind| (0..64).map(move |it| (kind, it))) {
             let letters = [category, 7, 1];
@@ -661,7 +661,7 @@ fn table_of_kinds() {
             });
             let mut buffer: Buffer = glyphs.collect();
             let spans = [Span { len: 3, kind }];
-            run_pause(set_up, &plan, &Whole, &spans, &mut buffer).unwrap();
+            run_pause(setup, &plan, &Whole, &spans, &mut buffer).unwrap();
             let returned = run_pause(reorder, &plan, &Whole, &[], &mut buffer);
             sum.add(u8::from(returned.is_ok()));
             sum.add_glyphs(buffer.glyphs());

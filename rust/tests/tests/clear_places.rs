@@ -372,13 +372,13 @@ fn no_flag_by_forms_is_needless() {
         let (code, sound) = (of(BreakFlags::AsCode), of(BreakFlags::Sound));
         for _ in 0..texts() {
             let (spans, buffer) = universal_text(&mut numbers);
-            let set_up = |plan: &Plan, buffer: &mut Buffer, spans: &[Span]| {
+            let setup = |plan: &Plan, buffer: &mut Buffer, spans: &[Span]| {
                 run_pause(Pause::SetupSyllablesUse, plan, &font, spans, buffer).unwrap();
             };
             let mut flagged = buffer.copy().unwrap();
             let mut whole = buffer.copy().unwrap();
-            set_up(&sound, &mut flagged, &spans);
-            set_up(&code, &mut whole, &spans);
+            setup(&sound, &mut flagged, &spans);
+            setup(&code, &mut whole, &spans);
             let mut cut = 0;
             for (count, span) in spans.iter().enumerate().skip(1) {
                 cut += spans[count - 1].len;
@@ -388,8 +388,8 @@ fn no_flag_by_forms_is_needless() {
                 added += 1;
                 let mut front = piece(&buffer, 0..cut);
                 let mut back = piece(&buffer, cut..buffer.len());
-                set_up(&code, &mut front, &spans[..count]);
-                set_up(&code, &mut back, &spans[count..]);
+                setup(&code, &mut front, &spans[..count]);
+                setup(&code, &mut back, &spans[count..]);
                 assert!(
                     !is_joined(&whole, &front, &back, 0),
                     "{:x?} by {spans:?} before {span:?}",

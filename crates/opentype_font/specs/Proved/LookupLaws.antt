@@ -10,7 +10,7 @@ use Rattle.opentype_gsub.proofs.LawGrows.{glyphs_grow_by}
 use Rattle.opentype_gsub.proofs.LawKeeps.{glyphs_keep, others_keep}
 use Rattle.opentype_gsub.specs.Growth.{growth_in}
 use Rattle.opentype_gpos.specs.Finished.{finished}
-use Rattle.opentype_gpos.specs.Walked.{positioned}
+use Rattle.opentype_gpos.specs.Along.{positioned}
 use Rattle.opentype_gpos.proofs.Keeping.{finish_keeps, position_keeps}
 
 pub substituting_keeps : (gdef gsub : List ℕ) (lookup : LookupUse) (b : Buffer) →

@@ -30,9 +30,9 @@ use shapers_universal::ot_shaper_use::universal_cuts_between_spans;
 
 /// The headline, of each call that didn't refuse, from what its contract says. Each Arabic action is
 /// the written rule of three joining types, so cut halves whose contexts show the neighbours act as
-/// the whole, one opening run of selectors apart. Every pause that reorders regroups each syllable
-/// by itself. A stretched mark that fits is as wide as its word, or wider by less than one unit
-/// per added copy.
+/// the whole, one leading sequence of selectors apart. Every pause that reorders regroups each
+/// syllable by itself. A stretched mark that fits is as wide as its word, or wider by less than one
+/// unit per added copy.
 #[inline]
 pub fn headline()
     ensures actions { ActionsByRule }
@@ -66,10 +66,11 @@ pub fn breaks_law()
     joining_edits_law();
 }
 
-/// What postprocessing makes of an Arabic text is its parts, one after another, each with its run
-/// of tiles laid: as wide as the numbers of the run say, and where the repeating tiles have a width
-/// and fit into what the fixed ones leave, as the word, or wider by less than one unit for each
-/// added copy. The line gets narrower by the tiles alone, since their copies have no advance.
+/// What postprocessing makes of an Arabic text is its parts, one after another, each with its
+/// sequence of tiles laid: as wide as the numbers of the sequence say, and where the repeating
+/// tiles have a width and fit into what the fixed ones leave, as the word, or wider by less than
+/// one unit for each added copy. The line gets narrower by the tiles alone, since their copies have
+/// no advance.
 pub fn stretches_cover_law()
     ensures cover { StretchesCover }
     ensures line { LineAdvances }
@@ -104,7 +105,7 @@ pub fn syllables_regrouped_law()
 
 /// Clusters that rise along the text before rise after it, and those that fall fall, at the levels
 /// that merge: after each hook, and after every pause but the reorderings of Indic, of the text with
-/// the circles that the pause opens; and circles leave them so, where no syllable opens with two
+/// the circles that the pause opens; and circles leave them so, where no syllable begins with two
 /// rephas. The reorderings of Indic leave them so across the borders of syllables: halves that share
 /// no cluster keep to their own.
 pub fn monotone_law()

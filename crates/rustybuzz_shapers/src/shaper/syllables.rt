@@ -1,7 +1,7 @@
 //! The set-up of syllables by pause: of those that its grammar finds, and of those that are written
 //! already.
 ghost use Rattle.std.specs.Prelude.{◌≡◌, false, true};
-ghost use Rattle.rustybuzz_shapers.specs.FoundSyllables.{PauseRun, SpansWritten, set_up_written, sets_up};
+ghost use Rattle.rustybuzz_shapers.specs.FoundSyllables.{PauseRun, SpansWritten, setup_written, sets_up};
 ghost use Rattle.rustybuzz_shapers.specs.Pauses.{PauseFits};
 ghost use Rattle.shapers_base.specs.Font.{Font};
 ghost use Rattle.shapers_clusters.specs.FlagLaw.{OnlyFlagsAdded};
@@ -10,7 +10,7 @@ use shapers_base::buffer::hb_buffer_t;
 use shapers_base::plan::{Pause, hb_ot_shape_plan_t};
 use shapers_spans::{Indic, Khmer, Myanmar, Universal, find_syllables_in};
 use shapers_syllabic::ot_shaper_syllabic::{
-    indic_syllable, khmer_syllable, myanmar_syllable, set_up_by_bytes,
+    indic_syllable, khmer_syllable, myanmar_syllable, setup_by_bytes,
 };
 use shapers_universal::ot_shaper_use::setup_syllables_use_by_bytes;
 
@@ -27,7 +27,7 @@ pub fn setup_syllables_found(
 ) -> bool
     requires { PauseFits pause plan.now }
     ensures answer { result ≡ sets_up pause }
-    ensures set_up { result ≡ true →
+    ensures setup { result ≡ true →
         (font : Font) → PauseRun pause plan.now font buffer.old buffer.new }
     ensures others { result ≡ false → buffer.new ≡ buffer.old }
 {
@@ -48,13 +48,13 @@ pub fn setup_syllables_written(
 ) -> bool
     requires { PauseFits pause plan.now }
     ensures answer { result ≡ sets_up pause }
-    ensures set_up { buffer.new ≡ set_up_written pause plan.now buffer.old }
+    ensures setup { buffer.new ≡ setup_written pause plan.now buffer.old }
     ensures flags { OnlyFlagsAdded buffer.old.glyphs buffer.new.glyphs }
 {
     match pause {
-        Pause::SetupSyllablesIndic => set_up_by_bytes(indic_syllable::BROKEN_CLUSTER, buffer),
-        Pause::SetupSyllablesKhmer => set_up_by_bytes(khmer_syllable::BROKEN_CLUSTER, buffer),
-        Pause::SetupSyllablesMyanmar => set_up_by_bytes(myanmar_syllable::BROKEN_CLUSTER, buffer),
+        Pause::SetupSyllablesIndic => setup_by_bytes(indic_syllable::BROKEN_CLUSTER, buffer),
+        Pause::SetupSyllablesKhmer => setup_by_bytes(khmer_syllable::BROKEN_CLUSTER, buffer),
+        Pause::SetupSyllablesMyanmar => setup_by_bytes(myanmar_syllable::BROKEN_CLUSTER, buffer),
         Pause::SetupSyllablesUse => setup_syllables_use_by_bytes(plan, buffer),
         _ => return false,
     }

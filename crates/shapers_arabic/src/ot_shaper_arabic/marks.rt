@@ -133,14 +133,14 @@ fn move_modifiers(
     requires in_range { end ≤ length glyphs.old }
     ensures { glyphs.new ≡ marks_reordered start end (marks_merged level start end glyphs.old) }
 {
-    let parts = parts_of(&glyphs[start..end]);
+    let parts = mark_lengths(&glyphs[start..end]);
     merge_passed(level, glyphs, start, parts);
     bring_forward(&mut glyphs[start..end], parts);
 }
 
 // How many marks stand in the first four of the five parts.
 #[derive(Clone, Copy)]
-struct Parts {
+struct Lengths {
     low: usize,
     modifiers_below: usize,
     middle: usize,
@@ -149,7 +149,7 @@ struct Parts {
 
 // The lengths of the parts of these marks.
 #[inline]
-fn parts_of(marks: &[hb_glyph_info_t]) -> Parts
+fn mark_lengths(marks: &[hb_glyph_info_t]) -> Lengths
     ensures lengths { result ≡ lengths_of (split_marks marks.now) }
     ensures within { end_of result ≤ length marks.now }
 {
@@ -159,7 +159,7 @@ fn parts_of(marks: &[hb_glyph_info_t]) -> Parts
     let third = &second[modifiers_below..];
     let middle = count_below(ABOVE, third);
     let modifiers_above = count_modifiers(ABOVE, &third[middle..]);
-    Parts {
+    Lengths {
         low,
         modifiers_below,
         middle,
@@ -213,7 +213,7 @@ fn merge_passed(
     level: BufferClusterLevel,
     glyphs: &mut [hb_glyph_info_t],
     start: usize,
-    parts: Parts,
+    parts: Lengths,
 )
     requires { start + end_of parts ≤ length glyphs.old }
     ensures { glyphs.new ≡ merge_all level (shifted start (passed_by parts)) glyphs.old }
@@ -246,7 +246,7 @@ fn merge_for(
 
 // Brings the modifiers to the front, those below first.
 #[inline]
-fn bring_forward(marks: &mut [hb_glyph_info_t], parts: Parts)
+fn bring_forward(marks: &mut [hb_glyph_info_t], parts: Lengths)
     requires { parts ≡ lengths_of (split_marks marks.old) }
     ensures { marks.new ≡ with_modifiers_first (split_marks marks.old) }
 {

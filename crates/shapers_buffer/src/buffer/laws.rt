@@ -1,7 +1,7 @@
 //! Laws of bits, places and syllables.
 ghost use Rattle.shapers_buffer.specs.Properties.{BitsAreSetAlone, PropertiesAreSet};
 ghost use Rattle.shapers_buffer.specs.Places.{PartsChangePlaces, PlacesAreWritten};
-ghost use Rattle.shapers_buffer.specs.SyllableLaws.{SyllablesAreRuns};
+ghost use Rattle.shapers_buffer.specs.SyllableLaws.{SyllablesAreLongest};
 
 /// A setter of one bit changes its own and no other.
 pub fn bits_are_set_alone()
@@ -23,8 +23,8 @@ pub fn parts_change_places()
     ensures { PartsChangePlaces }
 {}
 
-/// The first syllable of a text is the longest run of its byte, and the others are the syllables of
-/// what follows it.
-pub fn syllables_are_runs()
-    ensures { SyllablesAreRuns }
+/// The first syllable of a text is the longest sequence of its byte, and the others are the
+/// syllables of what follows it.
+pub fn syllables_are_longest()
+    ensures { SyllablesAreLongest }
 {}

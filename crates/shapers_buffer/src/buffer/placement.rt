@@ -50,7 +50,7 @@ impl hb_buffer_t {
         ensures { self.new ≡ record self.old { places = with_place index place self.old.places } }
     {
         // the slice panics before room is taken for a place beyond the buffer
-        open_places(&mut self.places, self.info[..index + 1].len());
+        make_places(&mut self.places, self.info[..index + 1].len());
         self.places[index] = place;
     }
 
@@ -102,8 +102,8 @@ impl hb_buffer_t {
         ensures { let moved = placed start end self.old.places self.old.glyphs in
             self.new ≡ record self.old { glyphs = moved } }
     {
-        open_places(&mut self.places, self.info[..end].len());
-        open_spare(&mut self.spare, end - start);
+        make_places(&mut self.places, self.info[..end].len());
+        make_spare(&mut self.spare, end - start);
         reorder(&mut self.info, &self.places, &mut self.spare, start, end);
     }
 }
@@ -116,7 +116,7 @@ fn bring_forward_in(glyphs: &mut [hb_glyph_info_t], to: usize, from: usize, coun
     ensures { glyphs.new
         ≡ with_stretch to (from + count) (λ gs. slice_rotate_right gs count) glyphs.old }
 {
-    turn(&mut glyphs[to..from + count], count);
+    bring_to_front(&mut glyphs[to..from + count], count);
 }
 
 // How many glyphs are moved one by one past others. Stretches are short, so neighbours are swapped:
@@ -125,17 +125,17 @@ const FEW: usize = 2;
 
 // Brings the last `count` glyphs before the others.
 #[inline]
-fn turn(glyphs: &mut [hb_glyph_info_t], count: usize)
+fn bring_to_front(glyphs: &mut [hb_glyph_info_t], count: usize)
     requires { count ≤ length glyphs.old }
     ensures { glyphs.new ≡ slice_rotate_right glyphs.old count }
 {
     let passed = glyphs.len() - count;
     if passed == 1 {
-        turn_left(glyphs);
+        first_to_end(glyphs);
     } else if count <= FEW {
-        turn_last(glyphs, count);
+        bring_last(glyphs, count);
     } else if passed <= FEW {
-        turn_first(glyphs, passed);
+        bring_first(glyphs, passed);
     } else {
         glyphs.rotate_right(count);
     }
@@ -143,29 +143,29 @@ fn turn(glyphs: &mut [hb_glyph_info_t], count: usize)
 
 // Brings the last `count` glyphs before the others, one after another.
 #[inline]
-fn turn_last(glyphs: &mut [hb_glyph_info_t], count: usize)
+fn bring_last(glyphs: &mut [hb_glyph_info_t], count: usize)
     requires { count ≤ length glyphs.old }
     ensures { glyphs.new ≡ slice_rotate_right glyphs.old count }
 {
     for _ in 0..count {
-        turn_right(glyphs);
+        last_to_front(glyphs);
     }
 }
 
 // Brings the first `count` glyphs behind the others, one after another.
 #[inline]
-fn turn_first(glyphs: &mut [hb_glyph_info_t], count: usize)
+fn bring_first(glyphs: &mut [hb_glyph_info_t], count: usize)
     requires { count ≤ length glyphs.old }
     ensures { glyphs.new ≡ drop count glyphs.old ++ take count glyphs.old }
 {
     for _ in 0..count {
-        turn_left(glyphs);
+        first_to_end(glyphs);
     }
 }
 
 // Moves the first glyph behind the others.
 #[inline]
-fn turn_left(glyphs: &mut [hb_glyph_info_t])
+fn first_to_end(glyphs: &mut [hb_glyph_info_t])
     ensures { glyphs.new ≡ drop 1 glyphs.old ++ take 1 glyphs.old }
 {
     for i in 1..glyphs.len() {
@@ -175,7 +175,7 @@ fn turn_left(glyphs: &mut [hb_glyph_info_t])
 
 // Moves the last glyph before the others.
 #[inline]
-fn turn_right(glyphs: &mut [hb_glyph_info_t])
+fn last_to_front(glyphs: &mut [hb_glyph_info_t])
     ensures { glyphs.new ≡ slice_rotate_right glyphs.old 1 }
 {
     for i in (1..glyphs.len()).rev() {
@@ -217,27 +217,27 @@ fn gather(glyphs: &[hb_glyph_info_t], places: &[usize], to: &mut [hb_glyph_info_
     }
 }
 
-// How many places are opened at once.
-const OPENED: usize = 64;
+// How many places are made at once.
+const MADE_AT_ONCE: usize = 64;
 
-// Opens the first `len` places of the room that is there, and some more. What is opened reads 0, as
+// Makes the first `len` places of the room that is there, and some more. What is made reads 0, as
 // it did.
 #[inline]
-fn open_places(places: &mut Vec<usize>, len: usize)
+fn make_places(places: &mut Vec<usize>, len: usize)
     requires room { len ≤ vec_capacity places.old }
     ensures places { without_last_zeros places.new.items ≡ without_last_zeros places.old.items }
     ensures opened { len ≤ length places.new.items }
     ensures capacity { vec_capacity places.old ≤ vec_capacity places.new }
 {
     if places.len() < len {
-        let ahead = len.max(places.capacity().min(len.saturating_add(OPENED)));
+        let ahead = len.max(places.capacity().min(len.saturating_add(MADE_AT_ONCE)));
         places.resize(ahead, 0).unwrap();
     }
 }
 
-// Opens the first `len` glyphs of the room that is there.
+// Makes the first `len` glyphs of the room that is there.
 #[inline]
-pub(super) fn open_spare(spare: &mut Vec<hb_glyph_info_t>, len: usize)
+pub(super) fn make_spare(spare: &mut Vec<hb_glyph_info_t>, len: usize)
     requires room { len ≤ vec_capacity spare.old }
     ensures opened { len ≤ length spare.new.items }
     ensures capacity { vec_capacity spare.old ≤ vec_capacity spare.new }

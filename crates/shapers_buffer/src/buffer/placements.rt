@@ -4,17 +4,17 @@
 ghost use Rattle.std.specs.Prelude.{◌≡◌, ◌+◌, ◌-◌, ◌<◌, ◌≤◌, ◌^◌, drop, length, map, take, slice_index_or, vec_capacity};
 ghost use Rattle.std.specs.List.{prefix_len};
 ghost use Rattle.shapers_buffer.specs.Glyph.{clusters, default_glyph};
-ghost use Rattle.shapers_buffer.specs.ClusterRuns.{with_run};
-ghost use Rattle.shapers_buffer.specs.RunWalk.{equal_before, equal_behind};
+ghost use Rattle.shapers_buffer.specs.ClusterRanges.{with_range};
+ghost use Rattle.shapers_buffer.specs.RangeWalk.{equal_before, equal_behind};
 ghost use Rattle.shapers_buffer.specs.Clusters.{has_cluster, least, merge, merged, stretch_of, with_stretch};
 ghost use Rattle.shapers_buffer.specs.Places.{PlacesEachOnce, place_at};
 ghost use Rattle.shapers_buffer.specs.Placements.{MayArrange, arranged, forward_place, is_still, moves_nothing, old_place, old_place_by_all, placed_by_all};
 
-use super::cluster_runs::ClusterRun;
+use super::cluster_ranges::ClusterRange;
 use super::glyph::hb_glyph_info_t;
 use super::hb_buffer_t;
 use super::merging::{IntoCluster, merges};
-use super::placement::{Placement, open_spare};
+use super::placement::{Placement, make_spare};
 use super::walking::{GlyphChange, GlyphWalk};
 use std::marker::Model;
 
@@ -180,7 +180,7 @@ impl<'a> Arranged<'a> {
 
     /// How many glyphs of a cluster stand from place `start` on.
     #[inline]
-    pub fn run_behind(&self, start: usize, cluster: u32) -> usize
+    pub fn cluster_behind(&self, start: usize, cluster: u32) -> usize
         requires { start ≤ length self.now }
         ensures len { result ≡ prefix_len (has_cluster cluster) (drop start self.now) }
         ensures within { start + result ≤ length self.now }
@@ -259,7 +259,7 @@ impl hb_buffer_t {
             let moved = placed_by_all ps start end self.old.places self.old.glyphs in
             self.new ≡ record self.old { glyphs = moved } }
     {
-        open_spare(&mut self.spare, self.info[start..end].len());
+        make_spare(&mut self.spare, self.info[start..end].len());
         reorder(
             &mut self.info,
             &self.places,
@@ -360,7 +360,7 @@ impl hb_buffer_t {
         ensures others { self.new ≡ record self.old { glyphs = self.new.glyphs } }
         ensures same_length { length self.new.glyphs ≡ length self.old.glyphs }
     {
-        open_spare(&mut self.spare, self.info[start..end].len());
+        make_spare(&mut self.spare, self.info[start..end].len());
         walk_copy(
             &mut self.info,
             &self.places,
@@ -463,15 +463,15 @@ fn equal_behind(glyphs: &Arranged, start: usize, from: u32, to: u32) -> usize
     if from == to {
         return 0;
     }
-    glyphs.run_behind(start, from)
+    glyphs.cluster_behind(start, from)
 }
 
 // What a merge of the glyphs from `start` to `end`, of at least two places, puts into one cluster.
 #[inline]
-fn merged_run(glyphs: &Arranged, start: usize, end: usize) -> ClusterRun
+fn merged_range(glyphs: &Arranged, start: usize, end: usize) -> ClusterRange
     requires two { start + 1 < end }
     requires in_range { end ≤ length glyphs.now }
-    ensures merged { with_run result glyphs.now ≡ merged start end glyphs.now }
+    ensures merged { with_range result glyphs.now ≡ merged start end glyphs.now }
     ensures in_order { result.start ≤ result.end }
     ensures in_range { result.end ≤ length glyphs.now }
 {
@@ -480,7 +480,7 @@ fn merged_run(glyphs: &Arranged, start: usize, end: usize) -> ClusterRun
     let cluster = least_cluster(glyphs, start + 1, end).min(first);
     let before = equal_before(glyphs, start, first, cluster);
     let behind = equal_behind(glyphs, end, last, cluster);
-    ClusterRun {
+    ClusterRange {
         start: start - before,
         end: end + behind,
         cluster,
@@ -536,7 +536,7 @@ impl hb_buffer_t {
         ensures same_length { length self.new.glyphs ≡ length self.old.glyphs }
     {
         if merges(self.cluster_level) && to - from >= 2 {
-            let run = merged_run(&self.arranged(placements, start, end), from, to);
+            let run = merged_range(&self.arranged(placements, start, end), from, to);
             let change = IntoCluster(run.cluster);
             self.change_arranged(placements, start, end, run.start, run.end, &change);
         }
@@ -601,7 +601,7 @@ fn gather_spare(
     ensures opened { end - start ≤ length spare.new.items }
     ensures capacity { vec_capacity spare.old ≤ vec_capacity spare.new }
 {
-    open_spare(spare, end - start);
+    make_spare(spare, end - start);
     gather_front(glyphs, places, spare, placements, start, end);
 }
 

@@ -5,7 +5,7 @@ ghost use Rattle.shapers_buffer.specs.Clusters.{with_stretch};
 use super::{GlyphPosition, hb_buffer_t};
 
 impl hb_buffer_t {
-    /// Turns the glyphs round, with their positions.
+    /// Reverses the glyphs, with their positions.
     #[inline]
     pub fn reverse(&mut self)
         ensures { self.new ≡ record self.old {
@@ -17,7 +17,7 @@ impl hb_buffer_t {
         self.pos.reverse();
     }
 
-    /// Turns the glyphs from `start` to `end` round, with their positions.
+    /// Reverses the glyphs from `start` to `end`, with their positions.
     ///
     /// # Panics
     ///
@@ -36,7 +36,7 @@ impl hb_buffer_t {
     }
 }
 
-// Turns the positions from `start` to `end` round, if there are any.
+// Reverses the positions from `start` to `end`, if there are any.
 #[inline]
 fn reverse_positions(positions: &mut [GlyphPosition], start: usize, end: usize)
     requires in_order { start ≤ end }

@@ -1,4 +1,4 @@
-//! Syllables in the buffer: longest runs of glyphs of equal syllable bytes.
+//! Syllables in the buffer: longest sequences of glyphs of equal syllable bytes.
 ghost use Rattle.std.specs.Prelude.{◌≡◌, ◌==◌, ◌+◌, ◌<◌, ◌≤◌, All, OnOk, OnErr, IsTrue, length, drop, map};
 ghost use Rattle.shapers_buffer.specs.Clusters.{with_stretch};
 ghost use Rattle.shapers_buffer.specs.Refusals.{RefusesInput};
@@ -20,8 +20,8 @@ pub struct Span {
 }
 
 impl hb_buffer_t {
-    /// Where the syllable ends that place `start` stands in: behind the longest run of its byte
-    /// from `start` on.
+    /// Where the syllable ends that place `start` stands in: behind the longest sequence of its
+    /// byte from `start` on.
     ///
     /// # Panics
     ///
@@ -69,7 +69,7 @@ impl hb_buffer_t {
     }
 }
 
-/// How long the syllable is that opens the text: the longest run of its first byte.
+/// How long the syllable is that begins the text: the longest sequence of its first byte.
 #[inline]
 pub fn first_syllable_len(glyphs: &[hb_glyph_info_t]) -> usize
     requires { 0 < length glyphs.now }
@@ -77,12 +77,12 @@ pub fn first_syllable_len(glyphs: &[hb_glyph_info_t]) -> usize
     ensures some { 0 < result }
     ensures within { result ≤ length glyphs.now }
 {
-    1 + syllable_run_len(&glyphs[1..], glyphs[0].syllable)
+    1 + leading_syllable_len(&glyphs[1..], glyphs[0].syllable)
 }
 
 // How many glyphs at the front have this syllable byte.
 #[inline]
-fn syllable_run_len(glyphs: &[hb_glyph_info_t], byte: u8) -> usize
+fn leading_syllable_len(glyphs: &[hb_glyph_info_t], byte: u8) -> usize
     ensures run { result ≡ prefix_len (has_byte byte) glyphs.now }
     ensures within { result ≤ length glyphs.now }
 {

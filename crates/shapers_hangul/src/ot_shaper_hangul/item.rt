@@ -276,7 +276,7 @@ fn unsafe_len<F: hb_font_t>(face: &F, unit: Unit, tone: JoinedTone, u: u32, v: u
     0
 }
 
-// The item that opens the text. A character that jamo or a tone doesn't follow decides by itself.
+// The item that begins the text. A character that jamo or a tone doesn't follow decides by itself.
 fn read_item<F: hb_font_t>(face: &F, circles: bool, glyphs: &[hb_glyph_info_t]) -> Item
     requires { 0 < length glyphs.now }
     ensures { result ≡ first_item (F.font face.now) circles (characters glyphs.now) }
@@ -308,7 +308,7 @@ fn read_item<F: hb_font_t>(face: &F, circles: bool, glyphs: &[hb_glyph_info_t]) 
     }
 }
 
-// Whether the character that opens the text stays as it is, as far as it and the next one decide.
+// Whether the character that begins the text stays as it is, as far as it and the next one decide.
 #[inline]
 pub(super) fn stays_alone<F: hb_font_t>(face: &F, circles: bool, glyphs: &[hb_glyph_info_t]) -> bool
     ensures kept { let us = characters glyphs.now in
@@ -327,7 +327,7 @@ pub(super) fn stays_alone<F: hb_font_t>(face: &F, circles: bool, glyphs: &[hb_gl
     !follows(v)
 }
 
-// The item that opens the text, which stands within it.
+// The item that begins the text, which stands within it.
 #[inline]
 pub(super) fn first_item<F: hb_font_t>(face: &F, circles: bool, glyphs: &[hb_glyph_info_t]) -> Item
     requires { 0 < length glyphs.now }
@@ -436,7 +436,7 @@ fn jamo_from(glyph: hb_glyph_info_t, u: u32, feature: u8) -> hb_glyph_info_t
 
 // Adds a glyph to a list that has room for it.
 #[inline]
-fn put(list: &mut Vec<hb_glyph_info_t>, glyph: hb_glyph_info_t)
+fn push_within(list: &mut Vec<hb_glyph_info_t>, glyph: hb_glyph_info_t)
     requires { length list.old.items < vec_capacity list.old }
     ensures added { list.new.items ≡ list.old.items ++ glyph ∷ [] }
     ensures capacity { vec_capacity list.old ≤ vec_capacity list.new }
@@ -452,11 +452,11 @@ fn put_from(glyphs: &[hb_glyph_info_t], i: usize, list: &mut Vec<hb_glyph_info_t
     ensures added { list.new.items ≡ list.old.items ++ take 1 (drop i glyphs.now) }
     ensures capacity { vec_capacity list.old ≤ vec_capacity list.new }
 {
-    put(list, glyphs[i]);
+    push_within(list, glyphs[i]);
 }
 
 impl Unit {
-    // Adds what the unit that opens the text becomes.
+    // Adds what the unit that begins the text becomes.
     fn write(self, glyphs: &[hb_glyph_info_t], list: &mut Vec<hb_glyph_info_t>)
         requires within { taken self ≤ length glyphs.now }
         requires room { length list.old.items + output_len self ≤ vec_capacity list.old }
@@ -467,41 +467,41 @@ impl Unit {
     {
         match self {
             Unit::ComposedTwo(s) | Unit::ComposedThree(s) => {
-                put(list, as_character(glyphs[0], s));
+                push_within(list, as_character(glyphs[0], s));
             }
             Unit::JamoTwo => {
-                put(list, as_jamo(glyphs[0], LJMO));
-                put(list, as_jamo(glyphs[1], VJMO));
+                push_within(list, as_jamo(glyphs[0], LJMO));
+                push_within(list, as_jamo(glyphs[1], VJMO));
             }
             Unit::JamoThree => {
-                put(list, as_jamo(glyphs[0], LJMO));
-                put(list, as_jamo(glyphs[1], VJMO));
-                put(list, as_jamo(glyphs[2], TJMO));
+                push_within(list, as_jamo(glyphs[0], LJMO));
+                push_within(list, as_jamo(glyphs[1], VJMO));
+                push_within(list, as_jamo(glyphs[2], TJMO));
             }
             Unit::PartsTwo(l, v) => {
-                put(list, jamo_from(glyphs[0], l, LJMO));
-                put(list, jamo_from(glyphs[0], v, VJMO));
+                push_within(list, jamo_from(glyphs[0], l, LJMO));
+                push_within(list, jamo_from(glyphs[0], v, VJMO));
             }
             Unit::PartsThree(l, v, t) => {
-                put(list, jamo_from(glyphs[0], l, LJMO));
-                put(list, jamo_from(glyphs[0], v, VJMO));
-                put(list, jamo_from(glyphs[0], t, TJMO));
+                push_within(list, jamo_from(glyphs[0], l, LJMO));
+                push_within(list, jamo_from(glyphs[0], v, VJMO));
+                push_within(list, jamo_from(glyphs[0], t, TJMO));
             }
             Unit::PartsBeforeT(l, v) => {
-                put(list, jamo_from(glyphs[0], l, LJMO));
-                put(list, jamo_from(glyphs[0], v, VJMO));
-                put(list, as_jamo(glyphs[1], TJMO));
+                push_within(list, jamo_from(glyphs[0], l, LJMO));
+                push_within(list, jamo_from(glyphs[0], v, VJMO));
+                push_within(list, as_jamo(glyphs[1], TJMO));
             }
             Unit::ToneCircle => {
-                put(list, glyphs[0]);
-                put(list, as_character(glyphs[0], DOTTED_CIRCLE));
+                push_within(list, glyphs[0]);
+                push_within(list, as_character(glyphs[0], DOTTED_CIRCLE));
             }
             Unit::CircleTone => {
-                put(list, as_character(glyphs[0], DOTTED_CIRCLE));
-                put(list, glyphs[0]);
+                push_within(list, as_character(glyphs[0], DOTTED_CIRCLE));
+                push_within(list, glyphs[0]);
             }
             Unit::Syllable | Unit::Other => {
-                put(list, glyphs[0]);
+                push_within(list, glyphs[0]);
             }
         }
     }
@@ -573,7 +573,7 @@ impl Item {
         }
     }
 
-    // Adds what the item that opens the text becomes.
+    // Adds what the item that begins the text becomes.
     #[inline]
     pub(super) fn write(self, glyphs: &[hb_glyph_info_t], list: &mut Vec<hb_glyph_info_t>)
         requires within { item_len self ≤ length glyphs.now }

@@ -4,7 +4,7 @@ ghost use Rattle.shapers_buffer.specs.Glyph.{characters};
 ghost use Rattle.shapers_buffer.specs.GlyphFlags.{unsafe_all};
 ghost use Rattle.shapers_clusters.specs.CarriedGroups.{AreCarried, with_groups};
 ghost use Rattle.shapers_hangul.specs.HangulLaws.{AllKept};
-ghost use Rattle.shapers_hangul.specs.RewritingWalk.{KeptBefore, changes_in, rewritten_items, InTurn, change_output, changed_from, cluster_before, flooding_len, stays_at_sight};
+ghost use Rattle.shapers_hangul.specs.RewritingWalk.{KeptBefore, changes_in, rewritten_items, Consecutive, change_output, changed_from, cluster_before, flooding_len, stays_at_sight};
 ghost use Rattle.shapers_buffer.specs.Refusals.{RefusesLength};
 ghost use Rattle.shapers_buffer.specs.declared.buffer.refusal.ShaperError.TheVariants.{TooLong};
 ghost use Rattle.shapers_hangul.specs.Hangul.{first_item, item_len, items_at, items_flagged, glyph_copies, outputs, Fit, all_joined, item_joined, rewritten, allows_circles, is_kept, whole_items, rewritten_by};
@@ -218,14 +218,14 @@ fn join_items(
         let done = join_to_flood(cut, level, glyphs);
         join_carrying(&cut[done..], level, glyphs, alloc);
     } else {
-        join_in_turn(cut, level, glyphs);
+        join_by_items(cut, level, glyphs);
     }
 }
 
 // Flags and merges what each item flags and merges, in a text that merges don't flood again and
 // again.
 #[inline]
-fn join_in_turn(cut: &[(usize, Item)], level: BufferClusterLevel, glyphs: &mut [hb_glyph_info_t])
+fn join_by_items(cut: &[(usize, Item)], level: BufferClusterLevel, glyphs: &mut [hb_glyph_info_t])
     requires { Fit (length glyphs.old) cut.now }
     ensures { glyphs.new ≡ all_joined level cut.now glyphs.old }
 {
@@ -311,7 +311,7 @@ fn join_behind(
 {
     let count = groups.guard(glyphs, place, place + item.len());
     item.join(level, glyphs, place);
-    groups.settle(glyphs, count);
+    groups.take_back(glyphs, count);
 }
 
 // Adds the text from one place to another.
@@ -358,7 +358,7 @@ fn write_change(
 // Adds the text, in which these items become what they become.
 #[inline]
 fn write_changes(cut: &[(usize, Item)], glyphs: &[hb_glyph_info_t], list: &mut Vec<hb_glyph_info_t>)
-    requires in_turn { InTurn (length glyphs.now) 0 cut.now }
+    requires in_turn { Consecutive (length glyphs.now) 0 cut.now }
     requires room { let text = changed_from 0 cut.now glyphs.now in
         length list.old.items + length text ≤ vec_capacity list.old }
     ensures added { let text = changed_from 0 cut.now glyphs.now in
@@ -385,9 +385,9 @@ struct Rewriting<'a> {
 impl<'a> GlyphRewriting for Rewriting<'a> {
     ghost use Rattle.std.specs.Prelude.{length};
     ghost use Rattle.shapers_hangul.specs.Hangul.{Fit, all_joined, items_flagged};
-    ghost use Rattle.shapers_hangul.specs.RewritingWalk.{InTurn, changed_from};
+    ghost use Rattle.shapers_hangul.specs.RewritingWalk.{Consecutive, changed_from};
 
-    ghost can_rewrite = { λ r gs. Fit (length gs) r.cut.now × InTurn (length gs) 0 r.cut.now };
+    ghost can_rewrite = { λ r gs. Fit (length gs) r.cut.now × Consecutive (length gs) 0 r.cut.now };
 
     ghost rewrites = { λ r gs. let joined = all_joined r.level r.cut.now gs in
         changed_from 0 r.cut.now (items_flagged r.breaks r.cut.now joined) };

@@ -3,7 +3,7 @@ ghost use Rattle.std.specs.Prelude.{◌≡◌, ◌%◌, find, true};
 ghost use Rattle.std.specs.List.{AllByRecursion};
 ghost use Rattle.shapers_base.specs.declared.plan.PlanData.TheVariants.{Indic};
 ghost use Rattle.shapers_indic.specs.Plan.{config_of, feature_masks, has_old_spec, indic_in, indic_plan, is_indic_data, is_old_script, is_script, scripts, virama_glyph, zero_context};
-ghost use Rattle.shapers_base.specs.Masks.{masks_kept};
+ghost use Rattle.shapers_base.specs.Masks.{masks_stored};
 
 use BlwfMode::{PostOnly, PreAndPost};
 use RephMode::{Explicit, Implicit, LogRepha};
@@ -176,7 +176,7 @@ fn masks_of(map: &hb_ot_map_t) -> [u32; 17]
 pub fn create_data(plan: &hb_ot_shape_plan_t) -> PlanData
     ensures data { let it = plan.now in
         result ≡ Indic (indic_plan it.base_search it.zero_context it.script it.ot_map) }
-    ensures off_flags { AllByRecursion (λ mask. mask % 8 ≡ 0) (masks_kept result) }
+    ensures off_flags { AllByRecursion (λ mask. mask % 8 ≡ 0) (masks_stored result) }
 {
     let map = &plan.ot_map;
     let config = config_of(plan.script);

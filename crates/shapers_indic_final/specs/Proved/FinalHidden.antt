@@ -13,12 +13,12 @@ use Rattle.shapers_base.specs.declared.plan.ot_position_t.TheConstants.{POS_BASE
 use Rattle.shapers_clusters.proofs.FlagCalls.{map-with_stretch}
 use Rattle.shapers_clusters.proofs.ViewedSteps.{length-same}
 use Rattle.shapers_indic.specs.Glyphs.{greatest_place, is_joiner, is_one_of, least_place, passes}
-use Rattle.shapers_indic_final.specs.FinalBase.{along_links, as_linked, base_by_links, base_by_pref, before_halants, before_joiner, behind_halants, first_base, if_unformed, is_behind_base, is_from_base_on, is_unformed, is_unformed_below, last_link, links_from, links_written, may_be_settled, pref_place, stepped_back, unformed_pref, with_final_base, with_base_at, with_links, with_pref_base, with_viramas}
+use Rattle.shapers_indic_final.specs.FinalBase.{along_links, as_linked, base_by_links, base_by_pref, before_halants, before_joiner, behind_halants, first_base, if_unformed, is_behind_base, is_from_base_on, is_unformed, is_unformed_below, last_link, links_from, links_written, is_base_like, pref_place, stepped_back, unformed_pref, with_final_base, with_base_at, with_links, with_pref_base, with_viramas}
 use Rattle.shapers_indic_final.specs.FinalGlyphs.{is_indic_halant, is_lost_virama, recovered}
 use Rattle.shapers_base.specs.Masks.{has_bits}
 use Rattle.shapers_indic.specs.Plan.{is_malayalam}
 use Rattle.shapers_indic_final.specs.declared.ot_shaper_indic_final.rules.Rules.{Rules}
-use Rattle.shapers_indic_final.specs.Proved.FinalTargets.{find_passes, passes_within, run_within}
+use Rattle.shapers_indic_final.specs.Proved.FinalTargets.{find_passes, passes_within, steps_within}
 use Rattle.shapers_syllabic.specs.Reordering.{carried}
 use Rattle.shapers_indic.proofs.PlaceSearch.{PlaceWithin, greatest_within, least_within}
 
@@ -117,7 +117,7 @@ first_within gs =
     (λ j found. least_within (passes is_from_base_on gs) 0 (length gs) j found)
 
 behind_within : (gs : Glyphs) (i : ℕ) → i < length gs → behind_halants gs i ≤ length gs
-behind_within gs i l = let rest = run_within is_indic_halant (drop i gs) in omega (arith, length-drop i gs)
+behind_within gs i l = let rest = steps_within is_indic_halant (drop i gs) in omega (arith, length-drop i gs)
 
 by_pref_from : (base : ℕ) (gs : Glyphs) (o : Option ℕ) → base ≤ length gs
     → ((j : ℕ) → o ≡ Some j → j < length gs) → option_map_or (behind_halants gs) (if_unformed gs o) base ≤ length gs
@@ -165,10 +165,10 @@ or_start base (Some j) within = let k = within j refl in omega (arith, k.high)
 halants_within : (base : ℕ) (gs : Glyphs) → before_halants base gs ≤ base
 halants_within base gs =
     elim (base == length gs) as (λ b.
-    (if b then base else unwrap_or (greatest_place (passes may_be_settled gs) 1 (base + 1)) 0) ≤ base) [
+    (if b then base else unwrap_or (greatest_place (passes is_base_like gs) 1 (base + 1)) 0) ≤ base) [
       | true ↦ omega arith
-      | false ↦ or_start base (greatest_place (passes may_be_settled gs) 1 (base + 1))
-          (λ j found. greatest_within (passes may_be_settled gs) 1 (base + 1) j found)
+      | false ↦ or_start base (greatest_place (passes is_base_like gs) 1 (base + 1))
+          (λ j found. greatest_within (passes is_base_like gs) 1 (base + 1) j found)
     ]
 
 pub base_within : (r : Rules) (script : Option Script) (gs : Glyphs) → (with_final_base r script gs).base

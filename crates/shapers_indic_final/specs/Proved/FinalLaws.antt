@@ -22,29 +22,29 @@ use Rattle.shapers_indic.specs.Glyphs.{greatest_place, least_place, passes, plac
 use Rattle.shapers_indic_final.specs.FinalBase.{Based, with_viramas}
 use Rattle.shapers_indic_final.specs.FinalGlyphs.{last_goes_first}
 use Rattle.shapers_indic_final.specs.FinalLaws.{FinalReorderLaws}
-use Rattle.shapers_indic_final.specs.FinalMatras.{end_of_base, ends_search, halant_or_start, has_room, is_free_halant, is_left, matra_steps, matra_target, matras_go, merging_step, nearest_halant, parted, parting_steps, place_before, with_matras}
+use Rattle.shapers_indic_final.specs.FinalMatras.{end_of_base, ends_search, halant_or_start, has_room, is_free_halant, is_left, matra_steps, matra_target, takes_matras, merging_step, nearest_halant, partitioned, partition_steps, place_before, with_matras}
 use Rattle.shapers_indic_final.specs.FinalPref.{formed_pref, moved_before, pref_move, pref_step, pref_steps, pref_target, with_pref}
 use Rattle.shapers_indic_final.specs.FinalReordering.{after_matras, after_pref, after_reph, based, final_order, final_steps, steps_of_pref}
-use Rattle.shapers_indic_final.specs.FinalReph.{opens_with_reph, final_reph_step, reph_steps, reph_target, with_reph}
+use Rattle.shapers_indic_final.specs.FinalReph.{begins_with_reph, final_reph_step, reph_steps, reph_target, with_reph}
 use Rattle.shapers_indic_final.specs.FinalRules.{has_no_half_forms}
 use Rattle.shapers_indic_final.specs.declared.ot_shaper_indic_final.rules.Rules.{Rules}
 use Rattle.shapers_indic_final.specs.Proved.FinalHidden.{base_within, hidden-based, hidden-viramas}
 use Rattle.shapers_indic_final.specs.Proved.FinalLawsAt.{LawsAt, agrees_at, same_at, step_laws_at, stretch_at, then_at}
 use Rattle.shapers_indic_final.specs.Proved.FinalMoves.{permutes_last_first, picks_first_last, picks_last_first}
 use Rattle.shapers_indic_final.specs.Proved.LeftMatraMoves.{all_at, is_other}
-use Rattle.shapers_indic_final.specs.Proved.FinalTargets.{formed_pref_within, opens_some, pref_target_within, reph_target_within}
+use Rattle.shapers_indic_final.specs.Proved.FinalTargets.{formed_pref_within, begins_some, pref_target_within, reph_target_within}
 use Rattle.shapers_indic.proofs.PlaceSearch.{passes_there, PlaceWithin, greatest_within}
 use Rattle.shapers_clusters.proofs.Permuted.{permuted-first_last}
 
 -- the left matras go to a place
 parting_at : (gs : Glyphs) (p e : ℕ) → p < length gs → passes is_left gs p ≡ false → e ≤ length gs
-    → LawsAt gs (with_stretch 0 (p + 1) (parted is_left) gs) (parting_steps p e gs)
+    → LawsAt gs (with_stretch 0 (p + 1) (partitioned is_left) gs) (partition_steps p e gs)
 parting_at gs p e l other ends =
     let d = default_glyph in
     let x = get_or gs p d in
     let a = take p gs in
     let c = drop (p + 1) gs in
-    let steps = parting_steps p e gs in
+    let steps = partition_steps p e gs in
     let is_not : is_left x ≡ false = sym (passes_there is_left gs p d l) ∙ other in
     let one : suc p ≡ p + 1 = omega arith in
     let many : p + 1 - 0 ≡ p + 1 = omega arith in
@@ -55,9 +55,9 @@ parting_at gs p e l other ends =
     ∙ ap (λ t. filter is_other a ++ cond (not t) (x ∷ []) []) is_not in
     let left : filter is_left (a ++ x ∷ []) ≡ filter is_left a = filter-append is_left a (x ∷ [])
     ∙ ap (λ t. filter is_left a ++ cond t (x ∷ []) []) is_not ∙ append-nil (filter is_left a) in
-    let end : with_stretch 0 (p + 1) (parted is_left) gs ≡ filter is_other a ++ (x ∷ (filter is_left a ++ c)) =
-    ap (λ k. parted is_left (take k gs) ++ c) many
-    ∙ ap (λ xs. parted is_left xs ++ c) front
+    let end : with_stretch 0 (p + 1) (partitioned is_left) gs ≡ filter is_other a ++ (x ∷ (filter is_left a ++ c)) =
+    ap (λ k. partitioned is_left (take k gs) ++ c) many
+    ∙ ap (λ xs. partitioned is_left xs ++ c) front
     ∙ ap (λ xs. (xs ++ filter is_left (a ++ x ∷ [])) ++ c) others
     ∙ ap (λ xs. ((filter is_other a ++ x ∷ []) ++ xs) ++ c) left
     ∙ append_assoc (filter is_other a ++ x ∷ []) (filter is_left a) c
@@ -120,7 +120,7 @@ matras_at script base gs l =
     let ends : e ≤ length gs = omega arith in
     let low = target_within script base gs in
     elim (cases_Bool (has_room base gs)) [
-      | inl room ↦ rw room (elim (cases_Bool (matras_go p gs)) [
+      | inl room ↦ rw room (elim (cases_Bool (takes_matras p gs)) [
         | inl go ↦ rw go (
             let some = (and_parts (nat_lt 1 (length gs)) (nat_lt 0 base) room).1 in
             let other = negated (passes is_left gs p) (and_parts (nat_lt 0 p) (not (passes is_left gs p)) go).1 in
@@ -136,9 +136,9 @@ pub reph_at : (position : RephPosition) (base : ℕ) (gs : Glyphs)
     → LawsAt gs (with_reph position base gs) (reph_steps position base gs)
 reph_at position base gs =
     let j = reph_target position base gs in
-    elim (cases_Bool (opens_with_reph gs)) [
+    elim (cases_Bool (begins_with_reph gs)) [
       | inl on ↦ rw on (
-          let high : j < length gs = reph_target_within position base gs (opens_some gs on) in
+          let high : j < length gs = reph_target_within position base gs (begins_some gs on) in
           let ends : j + 1 ≤ length gs = omega arith in
           stretch_at first_last first_last picks_first_last permuted-first_last 0 (j + 1)
           (final_reph_step (length gs) j) gs (omega arith) ends refl (ends, tt) tt)

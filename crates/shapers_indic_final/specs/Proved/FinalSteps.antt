@@ -14,7 +14,7 @@ use Rattle.shapers_buffer.specs.Clusters.{merge, stretch_of, with_stretch}
 use Rattle.shapers_buffer.specs.Places.{pick}
 use Rattle.shapers_buffer.proofs.MappedLists.{drop-range}
 use Rattle.shapers_buffer.proofs.ClusterLemmas.{three_parts}
-use Rattle.shapers_clusters.specs.Steps.{Step, run_step, widened}
+use Rattle.shapers_clusters.specs.Steps.{Step, after_step, widened}
 use Rattle.shapers_clusters.proofs.Merging.{length-merge}
 use Rattle.shapers_clusters.proofs.Picks.{pick-append, pick-range}
 use Rattle.shapers_clusters.proofs.Widened.{pick-widened, range-append}
@@ -124,7 +124,7 @@ moved_by f g picks permutes s e i k step gs h l m b is =
 -- The step of the reph: all up to place j of the syllable merges, and the first glyph goes there.
 pub reph_stepped : (level : BufferClusterLevel) (s e j : ℕ) (gs : Glyphs) → s + j < e → e ≤ length gs
     → with_stretch s (s + j + 1) first_last (merge level s (s + j + 1) gs)
-    ≡ run_step level (widened s e (length gs) (final_reph_step (e - s) j)) gs
+    ≡ after_step level (widened s e (length gs) (final_reph_step (e - s) j)) gs
 reph_stepped level s e j gs l m =
     let n = length-merge level (s + 0) (s + (j + 1)) gs (omega arith) in
     let ms = merge level (s + 0) (s + (j + 1)) gs in
@@ -139,7 +139,7 @@ reph_stepped level s e j gs l m =
 -- The step of a formed pref glyph: all from place j up to place i merges, and the glyph of place i goes to j.
 pub pref_stepped : (level : BufferClusterLevel) (s e j i : ℕ) (gs : Glyphs) → j ≤ i → s + i < e
     → e ≤ length gs → with_stretch (s + j) (s + i + 1) last_goes_first (merge level (s + j) (s + i + 1) gs)
-    ≡ run_step level (widened s e (length gs) (pref_move (e - s) j i)) gs
+    ≡ after_step level (widened s e (length gs) (pref_move (e - s) j i)) gs
 pref_stepped level s e j i gs h l m =
     let n = length-merge level (s + j) (s + (i + 1)) gs (omega arith) in
     let ms = merge level (s + j) (s + (i + 1)) gs in
@@ -152,7 +152,7 @@ pref_stepped level s e j i gs h l m =
 -- The step of a left matra: the glyph of place i goes behind those up to place j, and all from there to b merges.
 pub matra_stepped : (level : BufferClusterLevel) (s e b i j : ℕ) (gs : Glyphs) → i ≤ j → s + j < e
     → e ≤ length gs → merge level (s + j) (s + b) (with_stretch (s + i) (s + j + 1) first_last gs)
-    ≡ run_step level (widened s e (length gs) (matra_step (e - s) b i j)) gs
+    ≡ after_step level (widened s e (length gs) (matra_step (e - s) b i j)) gs
 matra_stepped level s e b i j gs h l m =
     let to : s + j + 1 ≡ s + (j + 1) = omega arith in
     ap (λ k. merge level (s + j) (s + b) (with_stretch (s + i) k first_last gs)) to

@@ -16,14 +16,14 @@ use Rattle.shapers_buffer.proofs.ListLaws.{none_in_front}
 use Rattle.shapers_base.specs.declared.font.GlyphId.{GlyphId}
 use Rattle.shapers_base.specs.declared.plan.ot_position_t.TheConstants.{POS_BASE_C, POS_BELOW_C, POS_RA_TO_BECOME_REPH}
 use Rattle.shapers_base.specs.Masks.{has_bits}
-use Rattle.shapers_clusters.specs.Steps.{Step, run_steps, widened}
+use Rattle.shapers_clusters.specs.Steps.{Step, after_steps, widened}
 use Rattle.shapers_indic.specs.Glyphs.{has_position, is_joiner, passes, places}
 use Rattle.shapers_indic_final.specs.FinalBase.{Based, along_links, as_linked, first_base, pref_place, with_final_base, with_links}
 use Rattle.shapers_indic_final.specs.FinalGlyphs.{is_indic_halant, is_lost_virama, recovered}
-use Rattle.shapers_indic_final.specs.FinalMatras.{end_of_base, has_room, is_left, left_places, matra_step, matra_steps, matra_target, matras_go, merging_step, parted, parting_steps, staying_steps, steps_before, with_matras}
+use Rattle.shapers_indic_final.specs.FinalMatras.{end_of_base, has_room, is_left, left_places, matra_step, matra_steps, matra_target, takes_matras, merging_step, partitioned, partition_steps, staying_steps, steps_before, with_matras}
 use Rattle.shapers_indic_final.specs.FinalPref.{formed_pref, if_formed, pref_step, pref_steps, pref_target}
 use Rattle.shapers_indic_final.specs.FinalReordering.{after_matras, after_pref, after_reph, based, final_order, final_steps, steps_of_based, steps_of_pref}
-use Rattle.shapers_indic_final.specs.FinalReph.{carried_along, final_reph_step, opens_with_reph, reph_steps, reph_target}
+use Rattle.shapers_indic_final.specs.FinalReph.{carried_along, final_reph_step, begins_with_reph, reph_steps, reph_target}
 use Rattle.shapers_indic.specs.Plan.{is_malayalam}
 use Rattle.shapers_indic_final.specs.FinalWalk.{changes_syllable}
 use Rattle.shapers_indic_final.specs.declared.ot_shaper_indic_final.rules.Rules.{Rules}
@@ -142,7 +142,7 @@ based_stay r script gs none = ap (λ xs. (with_final_base r script xs).glyphs) (
 
 -- NOTHING MOVES
 parted_stay : (test : Glyph → Bool) (xs : Glyphs) → list_any test xs ≡ false
-    → parted test xs ≡ xs
+    → partitioned test xs ≡ xs
 parted_stay test xs none = ap (λ ys. ys ++ filter test xs) (filter_not-none test xs none)
     ∙ ap (λ ys. xs ++ ys) (filter-none test xs none) ∙ append-nil xs
 
@@ -152,9 +152,9 @@ matras_stay script base gs none =
     let p = matra_target script base gs in
     let front : list_any is_left (stretch_of 0 (p + 1) gs) ≡ false =
     none_in_front is_left (p + 1 - 0) (drop 0 gs) none in
-    elim (has_room base gs && matras_go p gs) as (λ b. (if b then with_stretch 0 (p + 1) (parted is_left) gs else gs)
+    elim (has_room base gs && takes_matras p gs) as (λ b. (if b then with_stretch 0 (p + 1) (partitioned is_left) gs else gs)
     ≡ gs) [
-      | true ↦ stretch_stays 0 (p + 1) (parted is_left) gs (omega arith)
+      | true ↦ stretch_stays 0 (p + 1) (partitioned is_left) gs (omega arith)
           (parted_stay is_left (stretch_of 0 (p + 1) gs) front)
       | false ↦ refl
     ]
@@ -165,18 +165,18 @@ no_matra_steps script base gs none =
     let p = matra_target script base gs in
     let e = end_of_base base gs in
     let no_left : left_places p gs ≡ [] = ap reverse (none_kept is_left gs (places 0 p) none) in
-    let parting : parting_steps p e gs ≡ [] =
+    let parting : partition_steps p e gs ≡ [] =
     ap (λ ps. map (λ (t : ℕ × ℕ). matra_step (length gs) e t.1 (p - t.0)) (enumerate_from 0 ps)) no_left in
     let staying : staying_steps base gs ≡ [] =
     ap (merging_step (length gs) e) (no_place_of is_left gs (places 0 base) none) in
     elim (has_room base gs) as (λ b. (if b then steps_before script base gs else []) ≡ []) [
-      | true ↦ elim (matras_go p gs) as (λ b. (if b then parting_steps p e gs else staying_steps base gs) ≡ [])
+      | true ↦ elim (takes_matras p gs) as (λ b. (if b then partition_steps p e gs else staying_steps base gs) ≡ [])
           [ true ↦ parting | false ↦ staying ]
       | false ↦ refl
     ]
 
 no_reph : (gs : Glyphs) → list_any (has_position POS_RA_TO_BECOME_REPH) gs ≡ false
-    → opens_with_reph gs ≡ false
+    → begins_with_reph gs ≡ false
 no_reph [] none = refl
 no_reph (g ∷ []) none = refl
 no_reph (g ∷ (h ∷ gs)) none =
@@ -275,7 +275,7 @@ final_stays r script s e b h none =
     let steps : final_steps r script zs ≡ [] = ap (steps_of_based r script) at
     ∙ no_steps r script zs found.base found.tries_pref n in
     let ran : List Step → Glyphs =
-    λ sts. run_steps b.level (map (widened s e (length b.glyphs)) sts) b.glyphs in
+    λ sts. after_steps b.level (map (widened s e (length b.glyphs)) sts) b.glyphs in
     record {
       others = refl;
       order = sym (stretch_stays s e (final_order r script) (order_view b.glyphs) h order);

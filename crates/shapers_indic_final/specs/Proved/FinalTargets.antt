@@ -16,7 +16,7 @@ use Rattle.shapers_indic_final.specs.FinalBase.{pref_place}
 use Rattle.shapers_indic_final.specs.FinalGlyphs.{is_formed, is_indic_halant, is_matra_or_halant}
 use Rattle.shapers_base.specs.Masks.{has_bits}
 use Rattle.shapers_indic_final.specs.FinalPref.{formed_pref, if_formed, is_joiner_behind_halant, place_before_base, pref_target}
-use Rattle.shapers_indic_final.specs.FinalReph.{at_end, behind_base, end_of_run, halant_after_start, is_with_main, is_with_sub, last_but_signs, matras_between, opens_with_reph, reph_target, with_joiner}
+use Rattle.shapers_indic_final.specs.FinalReph.{at_end, behind_base, end_of_rephs, halant_after_start, is_with_main, is_with_sub, last_but_signs, matras_between, begins_with_reph, reph_target, with_joiner}
 use Rattle.shapers_indic_final.specs.FinalRules.{has_no_half_forms}
 use Rattle.shapers_indic.proofs.PlaceSearch.{PlaceWithin, least_within, greatest_within}
 
@@ -45,17 +45,17 @@ joiner_within base gs h l = elim (cases_Bool (nat_lt (h + 1) base && passes is_j
   | inr off ↦ rw off l
 ]
 
-pub run_within : (test : Glyph → Bool) (gs : Glyphs) → prefix_len test gs ≤ length gs
-run_within test [] = omega arith
-run_within test (g ∷ gs) = elim (test g) as (λ b. cond b (1 + prefix_len test gs) 0 ≤ suc (length gs)) [
-  | true ↦ (let rest = run_within test gs in omega arith)
+pub steps_within : (test : Glyph → Bool) (gs : Glyphs) → prefix_len test gs ≤ length gs
+steps_within test [] = omega arith
+steps_within test (g ∷ gs) = elim (test g) as (λ b. cond b (1 + prefix_len test gs) 0 ≤ suc (length gs)) [
+  | true ↦ (let rest = steps_within test gs in omega arith)
   | false ↦ omega arith
 ]
 
 run_end_within : (test : Glyph → Bool) (base : ℕ) (gs : Glyphs) → base < length gs
-    → end_of_run test base gs < length gs
+    → end_of_rephs test base gs < length gs
 run_end_within test base gs l = let rest =
-    run_within test (drop (base + 1) gs) in omega (arith, length-drop (base + 1) gs)
+    steps_within test (drop (base + 1) gs) in omega (arith, length-drop (base + 1) gs)
 
 last_within : (gs : Glyphs) (o : Option ℕ) → 0 < length gs
     → ((j : ℕ) → o ≡ Some j → PlaceWithin 0 (length gs) j) → unwrap_or o 0 < length gs
@@ -76,7 +76,7 @@ end_within base gs l =
     ]
 
 run_or_end : (test : Glyph → Bool) (base : ℕ) (gs : Glyphs) → 0 < length gs
-    → (if nat_lt base (length gs) then end_of_run test base gs else at_end base gs) < length gs
+    → (if nat_lt base (length gs) then end_of_rephs test base gs else at_end base gs) < length gs
 run_or_end test base gs l = elim (cases_Bool (nat_lt base (length gs))) [
   | inl on ↦ rw on (run_end_within test base gs (grind (arith, nat_tests)))
   | inr off ↦ rw off (end_within base gs l)
@@ -103,9 +103,9 @@ reph_target_within position base gs l =
     (λ h found. passes_within is_indic_halant gs h
     (find_passes (passes is_indic_halant gs) (places 1 base) h found))
 
-pub opens_some : (gs : Glyphs) → opens_with_reph gs ≡ true → 0 < length gs
-opens_some [] h = absurd (true≢false (sym h))
-opens_some (g ∷ gs) h = omega arith
+pub begins_some : (gs : Glyphs) → begins_with_reph gs ≡ true → 0 < length gs
+begins_some [] h = absurd (true≢false (sym h))
+begins_some (g ∷ gs) h = omega arith
 
 -- the formed pref glyph stands behind the place that it goes to
 formed_within : (gs : Glyphs) (s e : ℕ) (o : Option ℕ) → ((j : ℕ) → o ≡ Some j → PlaceWithin s e j)

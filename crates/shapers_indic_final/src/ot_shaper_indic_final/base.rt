@@ -5,9 +5,9 @@ ghost use Rattle.std.specs.List.{prefix_len};
 ghost use Rattle.std.specs.Option.{IfSome};
 ghost use Rattle.shapers_buffer.specs.Clusters.{stretch_of, with_stretch};
 ghost use Rattle.shapers_indic.specs.Glyphs.{greatest_place, passes};
-ghost use Rattle.shapers_indic_final.specs.FinalBase.{as_linked, base_by_links, base_by_pref, before_halants, before_joiner, behind_halants, first_base, is_from_base_on, is_unformed_below, last_link, links_written, may_be_settled, stepped_back, unformed_pref, with_final_base, with_base_at, with_links, with_pref_base};
+ghost use Rattle.shapers_indic_final.specs.FinalBase.{as_linked, base_by_links, base_by_pref, before_halants, before_joiner, behind_halants, first_base, is_from_base_on, is_unformed_below, last_link, links_written, is_base_like, stepped_back, unformed_pref, with_final_base, with_base_at, with_links, with_pref_base};
 ghost use Rattle.shapers_indic_final.specs.FinalGlyphs.{is_indic_halant};
-ghost use Rattle.shapers_indic_final.specs.FinalWalk.{settled};
+ghost use Rattle.shapers_indic_final.specs.FinalWalk.{with_base_found};
 
 use super::glyphs::{is_formed, is_halant};
 use super::pref::pref_place;
@@ -29,7 +29,7 @@ pub(super) struct Based {
 // Finds the base of the syllable from `start` to `end`, and gives the glyphs that become it the
 // base's position.
 #[inline]
-pub(super) fn settle_base(
+pub(super) fn search_base(
     rules: &Rules,
     script: Option<Script>,
     buffer: &mut hb_buffer_t,
@@ -38,7 +38,7 @@ pub(super) fn settle_base(
 ) -> Based
     requires in_order { start ≤ end }
     requires in_range { end ≤ length buffer.old.glyphs }
-    ensures glyphs { let changed = with_stretch start end (settled rules.now script) in
+    ensures glyphs { let changed = with_stretch start end (with_base_found rules.now script) in
         buffer.new ≡ record buffer.old { glyphs = changed buffer.old.glyphs } }
     ensures base { let syllable = stretch_of start end buffer.old.glyphs in
         result.base ≡ (with_final_base rules.now script syllable).base }
@@ -197,20 +197,20 @@ fn before_halants(base: usize, glyphs: &[hb_glyph_info_t]) -> usize
     if base == glyphs.len() {
         base
     } else {
-        nearest_settled(base, glyphs)
+        nearest_base_like(base, glyphs)
     }
 }
 
 // The nearest glyph from the base leftwards that is neither a nukta nor a halant, else the start.
 #[inline]
-fn nearest_settled(base: usize, glyphs: &[hb_glyph_info_t]) -> usize
+fn nearest_base_like(base: usize, glyphs: &[hb_glyph_info_t]) -> usize
     requires in_range { base < length glyphs.now }
     ensures place { let gs = glyphs.now in
-        result ≡ unwrap_or (greatest_place (passes may_be_settled gs) 1 (base + 1)) 0 }
+        result ≡ unwrap_or (greatest_place (passes is_base_like gs) 1 (base + 1)) 0 }
     ensures within { result ≤ base }
 {
     for i in (1..base + 1).rev() {
-        if may_be_settled(&glyphs[i]) {
+        if is_base_like(&glyphs[i]) {
             return i;
         }
     }
@@ -219,8 +219,8 @@ fn nearest_settled(base: usize, glyphs: &[hb_glyph_info_t]) -> usize
 
 // Whether a glyph is neither a nukta nor a halant.
 #[inline]
-fn may_be_settled(glyph: &hb_glyph_info_t) -> bool
-    ensures { result ≡ may_be_settled glyph.now }
+fn is_base_like(glyph: &hb_glyph_info_t) -> bool
+    ensures { result ≡ is_base_like glyph.now }
 {
     glyph.glyph_props.is_ligated() || !matches!(glyph.category, OT_N | OT_H)
 }

@@ -29,7 +29,7 @@ pub fn final_merges()
 {}
 
 /// No more is merged where all clusters are different: neighbours share one then only if such a
-/// stretch holds both, and each run so joined has the least cluster that its glyphs had.
+/// stretch holds both, and each stretch so joined has the least cluster that its glyphs had.
 pub fn final_cuts()
     ensures { FinalCutsLaw }
 {}

@@ -1,5 +1,5 @@
 //! The left matras of one syllable moved to their place, in time that is linear in the syllable.
-//! Each merges with all behind it up to the base. So at any time at most two runs of glyphs are in
+//! Each merges with all behind it up to the base. So at any time at most two ranges of glyphs are in
 //! clusters that merges have given them: the matras that have gone with what follows them, and
 //! glyphs directly before them. These clusters are written behind the last merge, as the matras
 //! move behind it.
@@ -12,10 +12,10 @@ ghost use Rattle.shapers_buffer.specs.Places.{PlacesEachOnce, placed_by};
 ghost use Rattle.shapers_buffer.specs.Placements.{MayArrange, arranged, old_place_by_all, placed_by_all};
 ghost use Rattle.shapers_buffer.specs.declared.buffer.placement.Placement.TheVariants.{Listed, Stays};
 ghost use Rattle.shapers_indic_final.specs.FinalMoveWalk.{matra_placements};
-ghost use Rattle.shapers_clusters.specs.Steps.{run_steps, widened};
+ghost use Rattle.shapers_clusters.specs.Steps.{after_steps, widened};
 ghost use Rattle.shapers_indic.specs.Glyphs.{places};
-ghost use Rattle.shapers_indic_final.specs.FinalMatras.{is_left, parting_steps};
-ghost use Rattle.shapers_indic_final.specs.LeftMatraWalk.{Merged, Reaches, as_parted, gone, has_gone, has_stayed, is_listed, flood_passes, put, staying, steps_to};
+ghost use Rattle.shapers_indic_final.specs.FinalMatras.{is_left, partition_steps};
+ghost use Rattle.shapers_indic_final.specs.LeftMatraWalk.{Merged, Reaches, as_partitioned, gone, has_gone, has_stayed, is_listed, flood_passes, merge_stretch, staying, steps_to};
 
 use super::matras::is_left;
 use super::moves::{matra_placements, move_matra, write_matra};
@@ -28,7 +28,7 @@ use shapers_base::buffer::{
 // matras start, up to these, and their cluster; the place behind the glyphs from the matras on, and
 // their cluster.
 #[derive(Clone, Copy)]
-struct Runs {
+struct MergedRanges {
     start: usize,
     before: u32,
     end: usize,
@@ -38,7 +38,7 @@ struct Runs {
 // Moves the left matras before place `target` of the syllable from `start` to `end` there, the last
 // one first, and merges each with all up to place `base_end`.
 #[inline]
-pub(super) fn part_matras(
+pub(super) fn gather_matras(
     target: usize,
     base_end: usize,
     others: bool,
@@ -50,10 +50,10 @@ pub(super) fn part_matras(
     requires before { target < base_end }
     requires base_in_order { start + base_end ≤ end }
     ensures glyphs { let new = arranged result start end buffer.new in
-        let steps = parting_steps target base_end (stretch_of start end buffer.old.glyphs) in
+        let steps = partition_steps target base_end (stretch_of start end buffer.old.glyphs) in
         let wide = map (widened start end (length buffer.old.glyphs)) steps in
         new ≡ record buffer.old {
-          glyphs = run_steps buffer.old.level wide buffer.old.glyphs;
+          glyphs = after_steps buffer.old.level wide buffer.old.glyphs;
           places = new.places;
         } }
     ensures fits { MayArrange result start end (length buffer.new.glyphs) buffer.new.places }
@@ -68,14 +68,14 @@ pub(super) fn part_matras(
                 return Placements::STAY;
             }
             let moves = move_matra(buffer, start, end, base_end, i, target);
-            return part_further(i, target, base_end, moves, buffer, start, end);
+            return bring_matras_on(i, target, base_end, moves, buffer, start, end);
         }
     }
     Placements::STAY
 }
 
 // Whether the left matra of place `matra` of the syllable from `start` on moves alone: none stands
-// before it, and what opens the syllable behind it is no reph that moves.
+// before it, and what begins the syllable behind it is no reph that moves.
 #[inline]
 fn moves_alone(matra: usize, glyphs: &[hb_glyph_info_t], start: usize) -> bool
     requires { start + matra + 1 < length glyphs.now }
@@ -97,7 +97,7 @@ fn any_left(glyphs: &[hb_glyph_info_t]) -> bool
 // Moves the left matras before place `top` of the syllable from `start` to `end` on to the places
 // before `target`, where one stands that has moved there from `top` and merged with all up to place
 // `base_end`, and merges each.
-fn part_further(
+fn bring_matras_on(
     top: usize,
     target: usize,
     base_end: usize,
@@ -117,7 +117,7 @@ fn part_further(
         let new = arranged result start end buffer.new in
         let steps = steps_to top (target - 1) base_end (stretch_of start end old.glyphs) in
         let wide = map (widened start end (length old.glyphs)) steps in
-        new ≡ record old { glyphs = run_steps old.level wide old.glyphs; places = new.places } }
+        new ≡ record old { glyphs = after_steps old.level wide old.glyphs; places = new.places } }
     ensures fits { MayArrange result start end (length buffer.new.glyphs) buffer.new.places }
     ensures second { result.second ≡ Stays }
     ensures third { result.third ≡ Stays }
@@ -126,7 +126,7 @@ fn part_further(
     if !has_left(start, start + top, &buffer.arranged(&moves, start, end)) {
         return moves;
     }
-    let runs = merged_runs(
+    let ranges = merged_ranges(
         top,
         target,
         base_end,
@@ -137,7 +137,7 @@ fn part_further(
         start,
         start + top,
         &buffer.arranged(&moves, start, end),
-        runs.start,
+        ranges.start,
         start + target,
     );
     let at = list_matras(top, target, buffer, start, end);
@@ -146,8 +146,8 @@ fn part_further(
         second: Placement::Stays,
         third: Placement::Stays,
     };
-    put(&listed, buffer, start, end, at - len, at, runs.before);
-    put(&listed, buffer, start, end, at, runs.end, runs.cluster);
+    merge_stretch(&listed, buffer, start, end, at - len, at, ranges.before);
+    merge_stretch(&listed, buffer, start, end, at, ranges.end, ranges.cluster);
     listed
 }
 
@@ -167,9 +167,15 @@ fn has_left(start: usize, end: usize, glyphs: &Arranged) -> bool
 }
 
 // What the merges of the left matras before place `top` of the syllable from `start` on make, as
-// `part_further`.
+// `bring_matras_on`.
 #[inline]
-fn merged_runs(top: usize, target: usize, base_end: usize, glyphs: &Arranged, start: usize) -> Runs
+fn merged_ranges(
+    top: usize,
+    target: usize,
+    base_end: usize,
+    glyphs: &Arranged,
+    start: usize,
+) -> MergedRanges
     requires in_range { start + base_end ≤ length glyphs.now }
     requires fits { start + base_end < 2 ^ 64 }
     requires behind { top < target }
@@ -177,16 +183,16 @@ fn merged_runs(top: usize, target: usize, base_end: usize, glyphs: &Arranged, st
     ensures start { result.start < start + target }
     ensures from { start + base_end ≤ result.end }
     ensures end { result.end ≤ length glyphs.now }
-    ensures parted { (level : BufferClusterLevel) (end : ℕ)
+    ensures partitioned { (level : BufferClusterLevel) (end : ℕ)
         → start + base_end ≤ end → end ≤ length glyphs.now
         → (merges level ≡ true
         → in_one_cluster (stretch_of (start + target) (start + base_end) glyphs.now) ≡ true)
         → let steps = steps_to top (target - 1) base_end (stretch_of start end glyphs.now) in
         let wide = map (widened start end (length glyphs.now)) steps in
-        as_parted level start (start + top) (start + target) result glyphs.now
-        ≡ run_steps level wide glyphs.now }
+        as_partitioned level start (start + top) (start + target) result glyphs.now
+        ≡ after_steps level wide glyphs.now }
 {
-    let mut runs = Runs {
+    let mut ranges = MergedRanges {
         start: start + target - 1,
         before: glyphs.get(start + target - 1).cluster,
         end: start + base_end,
@@ -194,41 +200,41 @@ fn merged_runs(top: usize, target: usize, base_end: usize, glyphs: &Arranged, st
     };
     for i in (0..top).rev() {
         if is_left(&glyphs.get(start + i)) {
-            runs = with_matra(start + i, start + top, glyphs, runs);
+            ranges = with_matra(start + i, start + top, glyphs, ranges);
         }
     }
-    runs
+    ranges
 }
 
-// The runs after the merge of the left matra at place `matra`; those between it and `top` have
+// The ranges after the merge of the left matra at place `matra`; those between it and `top` have
 // gone.
-fn with_matra(matra: usize, top: usize, glyphs: &Arranged, runs: Runs) -> Runs
+fn with_matra(matra: usize, top: usize, glyphs: &Arranged, ranges: MergedRanges) -> MergedRanges
     requires inside { matra < length glyphs.now }
-    requires start { runs.start ≤ length glyphs.now }
-    requires end { runs.end ≤ length glyphs.now }
-    ensures merged { Merged matra top runs result glyphs.now }
+    requires start { ranges.start ≤ length glyphs.now }
+    requires end { ranges.end ≤ length glyphs.now }
+    ensures merged { Merged matra top ranges result glyphs.now }
     ensures end { result.end ≤ length glyphs.now }
 {
-    let own = if matra < runs.start {
+    let own = if matra < ranges.start {
         glyphs.get(matra).cluster
     } else {
-        runs.before
+        ranges.before
     };
-    let cluster = own.min(runs.cluster);
-    let end = runs.end + glyphs.run_behind(runs.end, runs.cluster);
-    if own == runs.before {
-        let start = reached(matra, top, glyphs, runs.start, own);
-        Runs {
+    let cluster = own.min(ranges.cluster);
+    let end = ranges.end + glyphs.cluster_behind(ranges.end, ranges.cluster);
+    if own == ranges.before {
+        let start = reached(matra, top, glyphs, ranges.start, own);
+        MergedRanges {
             start,
             before: cluster,
             end,
             cluster,
         }
     } else {
-        Runs {
+        MergedRanges {
             end,
             cluster,
-            ..runs
+            ..ranges
         }
     }
 }
@@ -402,7 +408,7 @@ fn list_matras(
 
 // Puts the glyphs from `from` to `to` of a text whose syllable from `start` to `end` has moved into
 // a cluster, at a level that merges.
-fn put(
+fn merge_stretch(
     moves: &Placements,
     buffer: &mut hb_buffer_t,
     start: usize,
@@ -416,7 +422,7 @@ fn put(
     requires in_range { to ≤ length buffer.old.glyphs }
     ensures glyphs { let old = arranged moves.now start end buffer.old in
         arranged moves.now start end buffer.new ≡ record old {
-          glyphs = with_stretch from to (put buffer.old.level cluster) old.glyphs;
+          glyphs = with_stretch from to (merge_stretch buffer.old.level cluster) old.glyphs;
         } }
     ensures others { buffer.new ≡ record buffer.old { glyphs = buffer.new.glyphs } }
     ensures same_length { length buffer.new.glyphs ≡ length buffer.old.glyphs }

@@ -3,7 +3,7 @@
 ghost use Rattle.std.specs.Prelude.{◌≡◌, ◌<◌, ◌≤◌, ◌+◌, ◌-◌, length, unwrap_or};
 ghost use Rattle.std.specs.Option.{IfSome};
 ghost use Rattle.shapers_indic.specs.Glyphs.{greatest_place, least_place, passes};
-ghost use Rattle.shapers_indic_final.specs.FinalMatras.{end_of_base, ends_search, is_free_halant, is_left, matra_target, matras_go, nearest_halant};
+ghost use Rattle.shapers_indic_final.specs.FinalMatras.{end_of_base, ends_search, is_free_halant, is_left, matra_target, takes_matras, nearest_halant};
 
 use super::glyphs::{is_halant, is_matra_or_halant};
 use super::rules::has_no_half_forms;
@@ -21,9 +21,9 @@ pub(super) fn is_left(glyph: &hb_glyph_info_t) -> bool
 
 // Whether left matras go to a place: one past the start, where none stands.
 #[inline]
-pub(super) fn matras_go(target: usize, glyphs: &[hb_glyph_info_t]) -> bool
+pub(super) fn takes_matras(target: usize, glyphs: &[hb_glyph_info_t]) -> bool
     requires { target < length glyphs.now }
-    ensures { result ≡ matras_go target glyphs.now }
+    ensures { result ≡ takes_matras target glyphs.now }
 {
     target > 0 && !is_left(&glyphs[target])
 }

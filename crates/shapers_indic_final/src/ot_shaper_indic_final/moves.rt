@@ -2,7 +2,7 @@
 ghost use Rattle.std.specs.Prelude.{◌≡◌, ◌+◌, ◌-◌, ◌^◌, ◌<◌, ◌≤◌, length};
 ghost use Rattle.shapers_buffer.specs.Placements.{MayArrange, arranged};
 ghost use Rattle.shapers_buffer.specs.declared.buffer.placement.Placement.TheVariants.{Forward, Stays};
-ghost use Rattle.shapers_clusters.specs.Steps.{run_step, widened};
+ghost use Rattle.shapers_clusters.specs.Steps.{after_step, widened};
 ghost use Rattle.shapers_indic_final.specs.FinalMatras.{matra_step};
 ghost use Rattle.shapers_indic_final.specs.FinalMoveWalk.{matra_placements};
 ghost use Rattle.shapers_indic_final.specs.FinalPref.{pref_move};
@@ -28,7 +28,7 @@ pub(super) fn move_reph(
         let new = arranged result start end buffer.new in
         let step = widened start end (length old.glyphs) (final_reph_step (end - start) target) in
         new ≡ record old {
-          glyphs = run_step old.level step old.glyphs;
+          glyphs = after_step old.level step old.glyphs;
           places = new.places;
         } }
     ensures fits { MayArrange result start end (length buffer.new.glyphs) buffer.new.places }
@@ -62,7 +62,7 @@ pub(super) fn move_pref(
         let new = arranged result start end buffer.new in
         let step = widened start end (length old.glyphs) (pref_move (end - start) target from) in
         new ≡ record old {
-          glyphs = run_step old.level step old.glyphs;
+          glyphs = after_step old.level step old.glyphs;
           places = new.places;
         } }
     ensures fits { MayArrange result start end (length buffer.new.glyphs) buffer.new.places }
@@ -95,7 +95,7 @@ pub(super) fn move_matra(
         let step = matra_step (end - start) base_end matra target in
         let wide = widened start end (length buffer.old.glyphs) step in
         new ≡ record buffer.old {
-          glyphs = run_step buffer.old.level wide buffer.old.glyphs;
+          glyphs = after_step buffer.old.level wide buffer.old.glyphs;
           places = new.places;
         } }
     ensures moves { result ≡ matra_placements start matra target }
@@ -125,7 +125,7 @@ pub(super) fn write_matra(
     ensures glyphs { let step = matra_step (end - start) base_end matra target in
         let wide = widened start end (length buffer.old.glyphs) step in
         buffer.new ≡ record buffer.old {
-          glyphs = run_step buffer.old.level wide buffer.old.glyphs;
+          glyphs = after_step buffer.old.level wide buffer.old.glyphs;
         } }
     ensures same_length { length buffer.new.glyphs ≡ length buffer.old.glyphs }
 {

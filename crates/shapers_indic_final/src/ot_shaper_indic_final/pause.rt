@@ -8,7 +8,7 @@ ghost use Rattle.shapers_syllabic.specs.CircleLaws.{NoNewCluster};
 
 use super::reordering::FinalOrder;
 use super::rules::Rules;
-use super::word_start::open_words;
+use super::word_start::start_words;
 use shapers_base::buffer::hb_buffer_t;
 use shapers_base::font::hb_font_t;
 use shapers_base::plan::hb_ot_shape_plan_t;
@@ -39,5 +39,5 @@ pub fn final_reordering<F: hb_font_t>(plan: &hb_ot_shape_plan_t, face: &F, buffe
     };
     // (this order never refuses)
     reorder_syllables_by_steps(&order, buffer).unwrap();
-    open_words(rules.init, buffer);
+    start_words(rules.init, buffer);
 }

@@ -7,18 +7,18 @@ ghost use Rattle.shapers_base.specs.Masks.{has_bits};
 ghost use Rattle.shapers_buffer.specs.Clusters.{stretch_of};
 ghost use Rattle.shapers_buffer.specs.Placements.{MayArrange, arranged, placed_by_all};
 ghost use Rattle.shapers_buffer.specs.declared.buffer.placement.Placement.TheVariants.{Stays};
-ghost use Rattle.shapers_clusters.specs.Steps.{run_steps, widened};
+ghost use Rattle.shapers_clusters.specs.Steps.{after_steps, widened};
 ghost use Rattle.shapers_indic_final.specs.FinalMatras.{end_of_base, matra_steps, staying_steps};
 ghost use Rattle.shapers_indic_final.specs.FinalMoveWalk.{pref_goes, reph_goes};
 ghost use Rattle.shapers_indic_final.specs.FinalPref.{pref_steps};
-ghost use Rattle.shapers_indic_final.specs.FinalReph.{base_after_reph, opens_with_reph, reph_steps};
+ghost use Rattle.shapers_indic_final.specs.FinalReph.{base_after_reph, begins_with_reph, reph_steps};
 
 use super::glyphs::has_mask;
-use super::left_matras::part_matras;
-use super::matras::{end_of_base, first_left, matra_target, matras_go};
+use super::left_matras::gather_matras;
+use super::matras::{end_of_base, first_left, matra_target, takes_matras};
 use super::moves::{move_pref, move_reph};
 use super::pref::{formed_pref, pref_target};
-use super::reph::{base_after_reph, is_moving_reph, opens_with_reph, reph_target};
+use super::reph::{base_after_reph, begins_with_reph, is_moving_reph, reph_target};
 use shapers_base::buffer::{
     Arranged, Placements, Script, SyllableReading, hb_buffer_t, hb_glyph_info_t,
 };
@@ -43,7 +43,7 @@ pub(super) fn place_reph(
         let new = arranged moves.new start end buffer.new in
         let steps = reph_steps position base (stretch_of start end old.glyphs) in
         let wide = map (widened start end (length old.glyphs)) steps in
-        new ≡ record old { glyphs = run_steps old.level wide old.glyphs; places = new.places } }
+        new ≡ record old { glyphs = after_steps old.level wide old.glyphs; places = new.places } }
     ensures fits { MayArrange moves.new start end (length buffer.new.glyphs) buffer.new.places }
     ensures third { moves.new.third ≡ Stays }
     ensures same_length { length buffer.new.glyphs ≡ length buffer.old.glyphs }
@@ -51,7 +51,7 @@ pub(super) fn place_reph(
         result ≡ base_after_reph position base (stretch_of start end old.glyphs) }
     ensures within { result ≤ end - start }
 {
-    if !opens(moves, buffer, start, end) {
+    if !begins_moved(moves, buffer, start, end) {
         return base;
     }
     let mut search = RephSearch {
@@ -69,26 +69,26 @@ pub(super) fn place_reph(
     }
 }
 
-// Whether a reph that moves opens the syllable from `start` to `end`, moved so far.
+// Whether a reph that moves begins the syllable from `start` to `end`, moved so far.
 #[inline]
-fn opens(moves: &Placements, buffer: &hb_buffer_t, start: usize, end: usize) -> bool
+fn begins_moved(moves: &Placements, buffer: &hb_buffer_t, start: usize, end: usize) -> bool
     requires { MayArrange moves.now start end (length buffer.now.glyphs) buffer.now.places }
     ensures { let gs = placed_by_all moves.now start end buffer.now.places buffer.now.glyphs in
-        result ≡ opens_with_reph (stretch_of start end gs) }
+        result ≡ begins_with_reph (stretch_of start end gs) }
 {
     if moves.moves_nothing() {
-        return opens_with_reph(&buffer.glyphs()[start..end]);
+        return begins_with_reph(&buffer.glyphs()[start..end]);
     }
-    opens_arranged(&buffer.arranged(moves, start, end), start, end)
+    begins_arranged(&buffer.arranged(moves, start, end), start, end)
 }
 
-// Whether a reph that moves opens the syllable from `start` to `end` of a text that is seen as
+// Whether a reph that moves begins the syllable from `start` to `end` of a text that is seen as
 // moved.
 #[inline]
-fn opens_arranged(glyphs: &Arranged, start: usize, end: usize) -> bool
+fn begins_arranged(glyphs: &Arranged, start: usize, end: usize) -> bool
     requires in_order { start ≤ end }
     requires in_range { end ≤ length glyphs.now }
-    ensures { result ≡ opens_with_reph (stretch_of start end glyphs.now) }
+    ensures { result ≡ begins_with_reph (stretch_of start end glyphs.now) }
 {
     end - start >= 2 && is_moving_reph(&glyphs.get(start))
 }
@@ -124,7 +124,7 @@ fn reph_goes(position: RephPosition, base: usize, glyphs: &[hb_glyph_info_t]) ->
     ensures target { result ≡ reph_goes position base glyphs.now }
     ensures within { IfSome result (λ j. j < length glyphs.now) }
 {
-    if opens_with_reph(glyphs) {
+    if begins_with_reph(glyphs) {
         Some(reph_target(position, base, glyphs))
     } else {
         None
@@ -152,7 +152,7 @@ pub(super) fn place_pref(
         let part = stretch_of start end old.glyphs in
         let steps = if tries then pref_steps pref script base part else [] in
         let wide = map (widened start end (length old.glyphs)) steps in
-        new ≡ record old { glyphs = run_steps old.level wide old.glyphs; places = new.places } }
+        new ≡ record old { glyphs = after_steps old.level wide old.glyphs; places = new.places } }
     ensures fits { MayArrange moves.new start end (length buffer.new.glyphs) buffer.new.places }
     ensures same_length { length buffer.new.glyphs ≡ length buffer.old.glyphs }
 {
@@ -230,7 +230,7 @@ pub(super) fn place_matras(
         let steps = matra_steps script base (stretch_of start end buffer.old.glyphs) in
         let wide = map (widened start end (length buffer.old.glyphs)) steps in
         new ≡ record buffer.old {
-          glyphs = run_steps buffer.old.level wide buffer.old.glyphs;
+          glyphs = after_steps buffer.old.level wide buffer.old.glyphs;
           places = new.places;
         } }
     ensures fits { MayArrange result start end (length buffer.new.glyphs) buffer.new.places }
@@ -243,9 +243,9 @@ pub(super) fn place_matras(
     }
     let base_end = end_of_base(base, &buffer.glyphs()[start..end]);
     let target = matra_target(script, base, &buffer.glyphs()[start..end]);
-    if matras_go(target, &buffer.glyphs()[start..end]) {
+    if takes_matras(target, &buffer.glyphs()[start..end]) {
         let others = has_any(forming, &buffer.glyphs()[start..end]);
-        part_matras(target, base_end, others, buffer, start, end)
+        gather_matras(target, base_end, others, buffer, start, end)
     } else {
         merge_matras(base, base_end, buffer, start, end);
         Placements::STAY
@@ -271,7 +271,7 @@ fn merge_matras(base: usize, base_end: usize, buffer: &mut hb_buffer_t, start: u
     ensures glyphs { let steps = staying_steps base (stretch_of start end buffer.old.glyphs) in
         let wide = map (widened start end (length buffer.old.glyphs)) steps in
         buffer.new ≡ record buffer.old {
-          glyphs = run_steps buffer.old.level wide buffer.old.glyphs;
+          glyphs = after_steps buffer.old.level wide buffer.old.glyphs;
           places = buffer.new.places;
         } }
     ensures same_length { length buffer.new.glyphs ≡ length buffer.old.glyphs }

@@ -2,7 +2,7 @@
 ghost use Rattle.std.specs.Prelude.{◌≡◌};
 ghost use Rattle.shapers_indic_final.specs.FinalWalk.{changes_syllable};
 
-use super::base::settle_base;
+use super::base::search_base;
 use super::glyphs::has_mask;
 use super::placing::{place_matras, place_pref, place_reph};
 use super::rules::{Rules, is_malayalam};
@@ -58,7 +58,7 @@ impl<'a> Reorder for FinalOrder<'a> {
         end: usize,
     ) -> Result<(), ShaperError> {
         recover_viramas(self.rules.virama, buffer, start, end);
-        let based = settle_base(self.rules, self.script, buffer, start, end);
+        let based = search_base(self.rules, self.script, buffer, start, end);
         let (tries, pref) = (based.tries_pref, self.rules.pref);
         let forming = if tries { pref } else { 0 };
         let mut moves = place_matras(self.script, based.base, forming, buffer, start, end);

@@ -3,7 +3,7 @@ ghost use Rattle.std.specs.Prelude.{◌≡◌, ◌<◌, ◌≤◌, ◌+◌, leng
 ghost use Rattle.std.specs.List.{prefix_len};
 ghost use Rattle.std.specs.Option.{IfSome};
 ghost use Rattle.shapers_indic.specs.Glyphs.{has_position, is_matra};
-ghost use Rattle.shapers_indic_final.specs.FinalReph.{at_end, behind_base, carried_along, halant_after_start, is_moving_reph, is_with_main, is_with_sub, last_but_signs, opens_with_reph, reph_target, with_joiner};
+ghost use Rattle.shapers_indic_final.specs.FinalReph.{at_end, behind_base, carried_along, halant_after_start, is_moving_reph, is_with_main, is_with_sub, last_but_signs, begins_with_reph, reph_target, with_joiner};
 
 use super::glyphs::{is_formed, is_halant};
 use shapers_base::buffer::hb_glyph_info_t;
@@ -14,12 +14,12 @@ use shapers_base::plan::ot_position_t::{
 };
 use shapers_indic::ot_shaper_indic::glyphs::{is_joiner, is_matra};
 
-// Whether a reph that moves opens a syllable of two or more: a formed one, or a character of its own
-// that is not formed. Ra and a halant are a reph only in a font that forms one of them. A font that
-// forms a ligature of the character itself draws it where it is, and wants no reordering.
+// Whether a reph that moves begins a syllable of two or more: a formed one, or a character of its
+// own that is not formed. Ra and a halant are a reph only in a font that forms one of them. A font
+// that forms a ligature of the character itself draws it where it is, and wants no reordering.
 #[inline]
-pub(super) fn opens_with_reph(glyphs: &[hb_glyph_info_t]) -> bool
-    ensures { result ≡ opens_with_reph glyphs.now }
+pub(super) fn begins_with_reph(glyphs: &[hb_glyph_info_t]) -> bool
+    ensures { result ≡ begins_with_reph glyphs.now }
 {
     match glyphs {
         [first, _, ..] => is_moving_reph(first),

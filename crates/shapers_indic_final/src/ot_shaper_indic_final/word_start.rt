@@ -2,20 +2,20 @@
 //! a word a break before it is unsafe: Bengali's 09C7 has a form of its own at the start, in which a
 //! piece of text that begins there would be drawn.
 ghost use Rattle.std.specs.Prelude.{◌%◌, ◌≡◌, ◌<◌, ◌≤◌, length};
-ghost use Rattle.shapers_indic_final.specs.FinalWordStart.{WordsOpened, before_place, continues_word, opened, starts_syllable, word_goes_on};
+ghost use Rattle.shapers_indic_final.specs.FinalWordStart.{WordsStarted, before_place, continues_word, opened, starts_syllable, word_goes_on};
 
 use super::matras::is_left;
 use shapers_base::buffer::{hb_buffer_t, hb_glyph_info_t, hb_unicode_general_category_t};
 
 // Opens each syllable of the text.
 #[inline]
-pub(super) fn open_words(init: u32, buffer: &mut hb_buffer_t)
+pub(super) fn start_words(init: u32, buffer: &mut hb_buffer_t)
     requires init { init % 8 ≡ 0 }
-    ensures { WordsOpened init buffer.old buffer.new }
+    ensures { WordsStarted init buffer.old buffer.new }
 {
     for place in 0..buffer.len() {
         if starts_syllable(buffer.glyphs(), place) {
-            open_syllable(init, buffer, place);
+            start_syllable(init, buffer, place);
         }
     }
 }
@@ -31,14 +31,14 @@ fn starts_syllable(glyphs: &[hb_glyph_info_t], place: usize) -> bool
 
 // Opens the syllable at `place`.
 #[inline]
-fn open_syllable(init: u32, buffer: &mut hb_buffer_t, place: usize)
+fn start_syllable(init: u32, buffer: &mut hb_buffer_t, place: usize)
     requires { place < length buffer.old.glyphs }
     ensures { buffer.new ≡ record buffer.old { glyphs = opened init place buffer.old.glyphs } }
 {
     if !is_left(&buffer.glyphs()[place]) {
         return;
     }
-    if goes_on(buffer.glyphs(), place) {
+    if word_continues(buffer.glyphs(), place) {
         buffer.unsafe_to_break(place.saturating_sub(1), place + 1);
         return;
     }
@@ -47,7 +47,7 @@ fn open_syllable(init: u32, buffer: &mut hb_buffer_t, place: usize)
 
 // Whether a word goes on behind what stands before a place.
 #[inline]
-fn goes_on(glyphs: &[hb_glyph_info_t], place: usize) -> bool
+fn word_continues(glyphs: &[hb_glyph_info_t], place: usize) -> bool
     requires { place ≤ length glyphs.now }
     ensures { result ≡ word_goes_on (before_place place glyphs.now) }
 {

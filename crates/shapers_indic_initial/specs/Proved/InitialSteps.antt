@@ -19,7 +19,7 @@ use Rattle.shapers_clusters.proofs.Swaps.{still_moves_merged, swap_moves_merged}
 use Rattle.shapers_clusters.proofs.Widened.{stretch-rest}
 use Rattle.shapers_indic.specs.Glyphs.{has_category, passes, places}
 use Rattle.shapers_indic.proofs.PlaceSearch.{PlaceWithin, greatest_within}
-use Rattle.shapers_indic_initial.specs.InitialBase.{joiner_comes_first, opens_with_ra_h_zwj}
+use Rattle.shapers_indic_initial.specs.InitialBase.{joiner_comes_first, begins_with_ra_h_zwj}
 use Rattle.shapers_indic_initial.specs.InitialOrder.{cycle, cycle_stretch, cycle_stretches, leads_cycle, ordered_base, indic_ordered_places, ordered_stretches, way_to}
 use Rattle.shapers_indic_initial.specs.InitialPositions.{halant_after, halant_from, halant_places, halant_to, is_passed_by_halant, last_after_halant, moved_behind}
 use Rattle.shapers_indic_initial.specs.InitialReordering.{halant_step, in_indic_order, joiner_step, indic_order_step}
@@ -83,7 +83,7 @@ halant_fits r script base gs =
     fits_permuted (length gs) (halant_step r script base gs) (halant_permutes r script base gs) tt tt
 
 -- Kannada's step
-opens_long : (gs : Glyphs) → opens_with_ra_h_zwj gs ≡ true → 2 < length gs
+opens_long : (gs : Glyphs) → begins_with_ra_h_zwj gs ≡ true → 2 < length gs
 opens_long [] h = absurd (true≢false (sym h))
 opens_long (a ∷ []) h = absurd (true≢false (sym h))
 opens_long (a ∷ (b ∷ [])) h = absurd (true≢false (sym h))
@@ -91,7 +91,7 @@ opens_long (a ∷ (b ∷ (c ∷ gs))) h = omega arith
 
 pub joiner_long : (script : Option Script) (gs : Glyphs) → joiner_comes_first script gs ≡ true
     → 2 < length gs
-joiner_long script gs h = opens_long gs (and_parts _ (opens_with_ra_h_zwj gs) h).1
+joiner_long script gs h = opens_long gs (and_parts _ (begins_with_ra_h_zwj gs) h).1
 
 pub joiner_fits : (script : Option Script) (gs : Glyphs) → FitsStep (length gs) (joiner_step script gs)
 joiner_fits script gs = elim (cases_Bool (joiner_comes_first script gs)) [

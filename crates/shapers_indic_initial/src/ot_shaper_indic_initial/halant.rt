@@ -1,7 +1,7 @@
 //! The H that the older specification puts behind the last consonant, and the joiner that Kannada
 //! puts before it. (OpenType, development of Indic scripts.)
 ghost use Rattle.std.specs.Prelude.{◌≡◌, ◌<◌, IfSome, [], ◌∷◌, length};
-ghost use Rattle.shapers_indic_initial.specs.InitialBase.{joiner_comes_first, opens_with_ra_h_zwj};
+ghost use Rattle.shapers_indic_initial.specs.InitialBase.{joiner_comes_first, begins_with_ra_h_zwj};
 ghost use Rattle.shapers_indic_initial.specs.InitialPositions.{halant_after, halant_from, is_passed_by_halant, last_after_halant, moved_places};
 ghost use Rattle.shapers_indic.specs.Glyphs.{is_one_of};
 
@@ -89,13 +89,13 @@ fn is_passed_by_halant(script: Option<Script>, glyph: &hb_glyph_info_t) -> bool
 pub(super) fn joiner_comes_first(script: Option<Script>, glyphs: &[hb_glyph_info_t]) -> bool
     ensures { result ≡ joiner_comes_first script glyphs.now }
 {
-    script == KANNADA && opens_with_ra_h_zwj(glyphs)
+    script == KANNADA && begins_with_ra_h_zwj(glyphs)
 }
 
-// Whether a syllable opens with Ra, H, ZWJ.
+// Whether a syllable begins with Ra, H, ZWJ.
 #[inline]
-fn opens_with_ra_h_zwj(glyphs: &[hb_glyph_info_t]) -> bool
-    ensures { result ≡ opens_with_ra_h_zwj glyphs.now }
+fn begins_with_ra_h_zwj(glyphs: &[hb_glyph_info_t]) -> bool
+    ensures { result ≡ begins_with_ra_h_zwj glyphs.now }
 {
     match glyphs {
         [ra, halant, joiner, ..] => {

@@ -12,7 +12,7 @@ ghost use Rattle.shapers_base.specs.declared.plan.ot_position_t.TheConstants.{PO
 ghost use Rattle.shapers_indic.specs.declared.ot_shaper_indic.indic_feature.TheConstants.{HALF};
 ghost use Rattle.shapers_indic.specs.Glyphs.{has_position, is_one_of};
 ghost use Rattle.shapers_syllabic.specs.Consonants.{is_consonant};
-ghost use Rattle.shapers_indic_initial.specs.InitialMasks.{applies_before_base, bits_of, has_eyelash, is_in_eyelash, mask_after_base, mask_before_base, opens_eyelash, pref_pair, with_eyelash_mask, with_initial_masks, with_pref_mask, without_half};
+ghost use Rattle.shapers_indic_initial.specs.InitialMasks.{applies_before_base, bits_of, has_eyelash, is_in_eyelash, mask_after_base, mask_before_base, begins_eyelash, pref_pair, with_eyelash_mask, with_initial_masks, with_pref_mask, without_half};
 ghost use Rattle.shapers_indic_initial.specs.InitialRules.{initial_rules};
 
 use super::places::is_of_category;
@@ -72,19 +72,19 @@ fn add_bits(bits: u32, glyphs: &mut [hb_glyph_info_t])
     }
 }
 
-// Gives the glyphs of a reph that opens the syllable mask bits.
+// Gives the glyphs of a reph that begins the syllable mask bits.
 #[inline]
 fn set_reph_bits(bits: u32, glyphs: &mut [hb_glyph_info_t])
     ensures { let len = prefix_len (has_position POS_RA_TO_BECOME_REPH) glyphs.old in
         glyphs.new ≡ with_stretch 0 len (map (with_bits bits)) glyphs.old }
 {
-    let len = reph_run_len(glyphs);
+    let len = leading_reph_len(glyphs);
     add_bits(bits, &mut glyphs[..len]);
 }
 
 // How many glyphs of the reph's position stand in front.
 #[inline]
-fn reph_run_len(glyphs: &[hb_glyph_info_t]) -> usize
+fn leading_reph_len(glyphs: &[hb_glyph_info_t]) -> usize
     ensures len { result ≡ prefix_len (has_position POS_RA_TO_BECOME_REPH) glyphs.now }
     ensures within { result ≤ length glyphs.now }
 {
@@ -189,15 +189,15 @@ fn is_in_eyelash(base: usize, glyphs: &[hb_glyph_info_t], index: usize) -> bool
     requires { index < length glyphs.now }
     ensures { result ≡ is_in_eyelash base glyphs.now index }
 {
-    opens_eyelash(base, glyphs, index) || (0 < index && opens_eyelash(base, glyphs, index - 1))
+    begins_eyelash(base, glyphs, index) || (0 < index && begins_eyelash(base, glyphs, index - 1))
 }
 
 // Whether an eyelash Ra stands at `index`: Ra and H before the base, and no ZWJ behind them before
 // it.
 #[inline]
-fn opens_eyelash(base: usize, glyphs: &[hb_glyph_info_t], index: usize) -> bool
+fn begins_eyelash(base: usize, glyphs: &[hb_glyph_info_t], index: usize) -> bool
     requires { index < length glyphs.now }
-    ensures { result ≡ opens_eyelash base glyphs.now index }
+    ensures { result ≡ begins_eyelash base glyphs.now index }
 {
     index + 1 < base
         && is_of_category(glyphs, index, OT_Ra)

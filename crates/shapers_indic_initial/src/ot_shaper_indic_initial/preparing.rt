@@ -2,10 +2,10 @@
 //! (OpenType, development of Indic scripts: "Reorder characters".)
 ghost use Rattle.std.specs.Prelude.{◌≡◌, ◌+◌, ◌-◌, ◌<◌, ◌≤◌, length};
 ghost use Rattle.shapers_buffer.specs.declared.buffer.placement.Placement.TheVariants.{Forward, Stays};
-ghost use Rattle.shapers_indic_initial.specs.InitialReordering.{halant_steps, joiner_steps, opening_steps, positioned, with_halant_moved, with_joiner_first, with_marks_and_owners};
+ghost use Rattle.shapers_indic_initial.specs.InitialReordering.{halant_steps, joiner_steps, first_steps, positioned, with_halant_moved, with_joiner_first, with_marks_and_owners};
 ghost use Rattle.shapers_indic_initial.specs.InitialRules as initial;
 ghost use Rattle.shapers_indic_initial.specs.InitialRules.{initial_rules};
-ghost use Rattle.shapers_indic_initial.specs.MovedWalk.{IsUnlisted, MovesUnlisted, PositionsSet, moved_buffer, opened_by};
+ghost use Rattle.shapers_indic_initial.specs.MovedWalk.{IsUnlisted, MovesUnlisted, PositionsSet, moved_buffer, moved_first_by};
 ghost use Rattle.shapers_syllabic.specs.Reordering.{SyllableReordered};
 
 use super::base::{Base, find_base};
@@ -38,7 +38,7 @@ pub(super) fn prepare_for_order<F: hb_font_t>(
     ensures reordered { let font = F.font rules.now.face.now in
         let r = initial_rules font rules.now.map.now rules.now.plan.now in
         let meaning = positioned r buffer.old.script in
-        let steps = opening_steps r buffer.old.script in
+        let steps = first_steps r buffer.old.script in
         SyllableReordered meaning steps start end buffer.old (moved_buffer result buffer.new) }
 {
     let script = buffer.script();
@@ -160,7 +160,7 @@ fn put_joiner_first(
     ensures unlisted { IsUnlisted result start end }
     ensures others { buffer.new ≡ record buffer.old { glyphs = buffer.new.glyphs } }
     ensures same_length { length buffer.new.glyphs ≡ length buffer.old.glyphs }
-    ensures reordered { let opened = moved_buffer (opened_by result start end) buffer.new in
+    ensures reordered { let opened = moved_buffer (moved_first_by result start end) buffer.new in
         SyllableReordered (with_joiner_first script) (joiner_steps script)
         start end buffer.old opened }
 {

@@ -1,8 +1,8 @@
-//! The reph that opens a syllable, and the limit of the search for its base. (OpenType, development
-//! of Indic scripts.)
+//! The reph that begins a syllable, and the limit of the search for its base. (OpenType,
+//! development of Indic scripts.)
 ghost use Rattle.std.specs.Prelude.{◌≡◌, ◌≤◌, length};
 ghost use Rattle.std.specs.List.{prefix_len};
-ghost use Rattle.shapers_indic_initial.specs.InitialBase.{limit_behind, opens_with_repha, reph_is_formed, indic_reph_len, third_lets_reph};
+ghost use Rattle.shapers_indic_initial.specs.InitialBase.{limit_behind, begins_with_repha, reph_is_formed, indic_reph_len, third_lets_reph};
 ghost use Rattle.shapers_indic.specs.Glyphs.{is_joiner};
 ghost use Rattle.shapers_indic_initial.specs.InitialRules.{initial_rules};
 
@@ -14,7 +14,7 @@ use shapers_base::plan::ot_category_t::{OT_Repha, OT_ZWJ};
 use shapers_indic::ot_shaper_indic::glyphs::{is_joiner, number};
 use shapers_indic::ot_shaper_indic::indic_feature::RPHF;
 
-/// How many glyphs the reph that opens a syllable has, without joiners behind it; 0 if there is
+/// How many glyphs the reph that begins a syllable has, without joiners behind it; 0 if there is
 /// none. Most scripts have one where the font forms it of Ra, H (0930 094D 0915), Telugu of
 /// Ra, H, ZWJ (0C30 0C4D 200D 0C15), and Malayalam has a character for it (0D4E 0D15).
 #[inline]
@@ -28,7 +28,11 @@ pub(crate) fn reph_len<F: hb_font_t>(rules: &Rules<F>, glyphs: &[hb_glyph_info_t
     if rules.plan.mask_array[RPHF] != 0 && third_lets_reph(mode, glyphs) {
         return if is_formed(rules, glyphs) { 2 } else { 0 };
     }
-    if opens_with_repha(mode, glyphs) { 1 } else { 0 }
+    if begins_with_repha(mode, glyphs) {
+        1
+    } else {
+        0
+    }
 }
 
 /// Where the search for the base ends, if no ZWJ ends it before: behind the reph and the joiners
@@ -66,7 +70,7 @@ fn third_lets_reph(mode: RephMode, glyphs: &[hb_glyph_info_t]) -> bool
     }
 }
 
-// Whether the font forms a reph of what opens the syllable.
+// Whether the font forms a reph of what begins the syllable.
 #[inline]
 fn is_formed<F: hb_font_t>(rules: &Rules<F>, glyphs: &[hb_glyph_info_t]) -> bool
     requires { 3 ≤ length glyphs.now }
@@ -86,11 +90,11 @@ fn is_formed<F: hb_font_t>(rules: &Rules<F>, glyphs: &[hb_glyph_info_t]) -> bool
     }
 }
 
-// Whether the syllable opens with a reph that is a character of its own, in a script that writes it
-// so.
+// Whether the syllable begins with a reph that is a character of its own, in a script that writes
+// it so.
 #[inline]
-fn opens_with_repha(mode: RephMode, glyphs: &[hb_glyph_info_t]) -> bool
-    ensures { result ≡ opens_with_repha mode glyphs.now }
+fn begins_with_repha(mode: RephMode, glyphs: &[hb_glyph_info_t]) -> bool
+    ensures { result ≡ begins_with_repha mode glyphs.now }
 {
     match (glyphs, mode) {
         ([first, ..], RephMode::LogRepha) => first.category == OT_Repha,

@@ -23,7 +23,7 @@ pub fn myanmar_cuts_between_spans()
 
 /// The order of a syllable in the script's own words: left vowels, the last one first, each with its
 /// VS; what stood before the base; medial Ra; the base; the reph, and what follows it in its old
-/// order, but an anusvara in a run of vowels below stands before them.
+/// order, but an anusvara in a sequence of vowels below stands before them.
 pub fn myanmar_drawing_order()
     ensures { MyanmarDrawingOrder }
 {}

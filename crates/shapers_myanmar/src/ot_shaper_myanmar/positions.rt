@@ -2,7 +2,7 @@
 ghost use Rattle.std.specs.Prelude.{◌≡◌, ◌==◌, ◌≤◌, length, map, position};
 ghost use Rattle.shapers_buffer.specs.Glyph.{at_position};
 ghost use Rattle.shapers_myanmar.specs.Myanmar.{before_base, behind_reph, from_base, has_myanmar_reph, parts_positioned, own_position, myanmar_reph_len, with_own_positions, with_positions};
-ghost use Rattle.shapers_myanmar.specs.MyanmarWalk.{in_part, part_of};
+ghost use Rattle.shapers_myanmar.specs.MyanmarWalk.{in_part, position_behind_base};
 ghost use Rattle.shapers_syllabic.specs.Consonants.{is_consonant};
 
 use shapers_base::buffer::hb_glyph_info_t;
@@ -32,7 +32,7 @@ fn reph_len(syllable: &[hb_glyph_info_t]) -> usize
     if has_reph(syllable) { 3 } else { 0 }
 }
 
-// Whether a syllable opens with a reph.
+// Whether a syllable begins with a reph.
 #[inline]
 fn has_reph(syllable: &[hb_glyph_info_t]) -> bool
     ensures { result ≡ has_myanmar_reph syllable.now }
@@ -107,18 +107,18 @@ fn set_later(glyphs: &mut [hb_glyph_info_t])
     let mut part = POS_AFTER_MAIN;
     let mut before = POS_BASE_C;
     for glyph in glyphs.iter_mut() {
-        part = part_of(glyph, part);
+        part = position_behind_base(glyph, part);
         before = own_position(glyph, part, before);
         glyph.auxiliary = before;
     }
 }
 
 // The part of a glyph behind the base, by its position, behind a glyph of part `before`. The first
-// vowel below opens the run of vowels below and anusvaras, which what stands elsewhere by itself
-// doesn't end.
+// vowel below opens the sequence of vowels below and anusvaras, which what stands elsewhere by
+// itself doesn't end.
 #[inline]
-fn part_of(glyph: &hb_glyph_info_t, before: u8) -> u8
-    ensures { result ≡ part_of before glyph.now }
+fn position_behind_base(glyph: &hb_glyph_info_t, before: u8) -> u8
+    ensures { result ≡ position_behind_base before glyph.now }
 {
     match (before, glyph.category) {
         (POS_AFTER_MAIN, OT_VBlw) => POS_BELOW_C,

@@ -72,7 +72,7 @@ pub fn decompose<C: NormalizeContext>(
         return Ok(());
     }
     if stays_together(context, buffer.glyphs()) {
-        buffer.change_outside(&Settling { context });
+        buffer.change_outside(&Mapping { context });
         return Ok(());
     }
     let len = measure(context, buffer.glyphs(), buffer.max_len())?;
@@ -158,18 +158,18 @@ fn cluster_stays<C: NormalizeContext>(context: &C, cluster: &[hb_glyph_info_t]) 
 
 // Gives each character that stays its glyph.
 #[derive(Drop)]
-struct Settling<'a, C: NormalizeContext> {
+struct Mapping<'a, C: NormalizeContext> {
     context: &'a C,
 }
 
-impl<'a, C: NormalizeContext> GlyphChange for Settling<'a, C> {
+impl<'a, C: NormalizeContext> GlyphChange for Mapping<'a, C> {
     ghost use Rattle.shapers_normal.specs.Decomposition.{with_own_glyph};
 
     ghost changed = { λ s g. with_own_glyph (C.context s.context.now) g };
 
     #[inline]
     fn change(&self, glyph: &mut hb_glyph_info_t) {
-        *glyph = settled(self.context, *glyph);
+        *glyph = mapped(self.context, *glyph);
     }
 }
 
@@ -345,7 +345,7 @@ fn write<C: NormalizeContext>(
 {
     let parts = image(context, way, glyph.glyph_id);
     if parts.is_empty() {
-        put(to, settled(context, glyph));
+        push_within(to, mapped(context, glyph));
     } else {
         write_parts(context, glyph, parts.as_slice(), to);
     }
@@ -367,13 +367,13 @@ fn write_parts<C: NormalizeContext>(
     for c in parts {
         let mut part = glyph;
         set_character(context, &mut part, *c, number_of(context, *c));
-        put(to, part);
+        push_within(to, part);
     }
 }
 
 // Adds a glyph to a list that has room for it.
 #[inline]
-pub(super) fn put(list: &mut Vec<hb_glyph_info_t>, glyph: hb_glyph_info_t)
+pub(super) fn push_within(list: &mut Vec<hb_glyph_info_t>, glyph: hb_glyph_info_t)
     requires { length list.old.items < vec_capacity list.old }
     ensures added { list.new.items ≡ list.old.items ++ glyph ∷ [] }
     ensures capacity { vec_capacity list.old ≤ vec_capacity list.new }
@@ -390,7 +390,7 @@ pub(super) fn rest_from(glyphs: &[hb_glyph_info_t], place: usize) -> &[hb_glyph_
     &glyphs[place..]
 }
 
-// How long the cluster is that opens the text: a glyph and the marks behind it.
+// How long the cluster is that begins the text: a glyph and the marks behind it.
 #[inline]
 fn cluster_len(glyphs: &[hb_glyph_info_t]) -> usize
     requires { 0 < length glyphs.now }
@@ -400,7 +400,7 @@ fn cluster_len(glyphs: &[hb_glyph_info_t]) -> usize
     1 + count_marks(&glyphs[1..])
 }
 
-// How many marks open the list.
+// How many marks begin the list.
 #[inline]
 fn count_marks(glyphs: &[hb_glyph_info_t]) -> usize
     ensures count { result ≡ prefix_len is_mark_glyph glyphs.now }
@@ -567,7 +567,7 @@ fn number_of<C: NormalizeContext>(context: &C, c: u32) -> u16
 
 // A character that stays, with its glyph.
 #[inline]
-fn settled<C: NormalizeContext>(context: &C, glyph: hb_glyph_info_t) -> hb_glyph_info_t
+fn mapped<C: NormalizeContext>(context: &C, glyph: hb_glyph_info_t) -> hb_glyph_info_t
     ensures { result ≡ with_own_glyph (C.context context.now) glyph }
 {
     match context.get_nominal_glyph(glyph.glyph_id) {

@@ -176,7 +176,7 @@ fn merge_joined(
     }
 }
 
-// Puts the glyphs of cluster `from` that open the list into cluster `to`.
+// Puts the glyphs of cluster `from` that begin the list into cluster `to`.
 #[inline]
 fn flood_behind(glyphs: &mut [hb_glyph_info_t], from: u32, to: u32)
     ensures { glyphs.new ≡ flooded from to glyphs.old }
@@ -185,7 +185,7 @@ fn flood_behind(glyphs: &mut [hb_glyph_info_t], from: u32, to: u32)
     change_each_in(&mut glyphs[..count], &IntoCluster(to));
 }
 
-// How many glyphs of a cluster open the list.
+// How many glyphs of a cluster begin the list.
 #[inline]
 fn count_in(glyphs: &[hb_glyph_info_t], cluster: u32) -> usize
     ensures count { result ≡ prefix_len (has_cluster cluster) glyphs.now }

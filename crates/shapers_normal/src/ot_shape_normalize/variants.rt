@@ -4,7 +4,7 @@ ghost use Rattle.std.specs.List.{list_any, prefix_len};
 ghost use Rattle.shapers_normal.specs.Variants.{form_written, forms_written, has_variant_at, is_kept_cluster, is_selector_behind, is_selector_glyph, selecting_nothing, selects_form, variant_joined, variants_joined, with_number};
 
 use super::context::NormalizeContext;
-use super::decomposing::{put, rest_from};
+use super::decomposing::{push_within, rest_from};
 use super::sorting::{is_mark, join_in};
 use shapers_base::buffer::{
     BufferClusterLevel, GlyphProps, hb_glyph_info_t, hb_unicode_general_category_t,
@@ -154,7 +154,7 @@ fn form_len(glyphs: &[hb_glyph_info_t]) -> usize
     1 + count_selectors(&glyphs[1..])
 }
 
-// How many selectors open the list.
+// How many selectors begin the list.
 #[inline]
 fn count_selectors(glyphs: &[hb_glyph_info_t]) -> usize
     ensures count { result ≡ prefix_len is_selector_glyph glyphs.now }
@@ -196,7 +196,7 @@ fn write_form<C: NormalizeContext>(
     };
     match context.get_variation_glyph(glyph.glyph_id, selector.glyph_id) {
         Some(variant) => {
-            put(
+            push_within(
                 to,
                 hb_glyph_info_t {
                     glyph_props: GlyphProps(variant.0),
@@ -205,8 +205,8 @@ fn write_form<C: NormalizeContext>(
             );
         }
         None => {
-            put(to, with_number(context, *glyph));
-            put(
+            push_within(to, with_number(context, *glyph));
+            push_within(
                 to,
                 with_number(context, selecting_nothing(context, *selector)),
             );
@@ -228,7 +228,7 @@ fn write_kept<C: NormalizeContext>(
     ensures capacity { vec_capacity to.old ≤ vec_capacity to.new }
 {
     for glyph in glyphs {
-        put(to, with_number(context, *glyph));
+        push_within(to, with_number(context, *glyph));
     }
 }
 

@@ -2,7 +2,7 @@
 ghost use Rattle.std.specs.Prelude.{◌≡◌, ◌<◌, ◌≤◌, ◌+◌, drop, length, map};
 ghost use Rattle.std.specs.List.{list_any, prefix_len};
 ghost use Rattle.shapers_buffer.specs.Clusters.{first_cluster, has_cluster, with_stretch};
-ghost use Rattle.shapers_position.specs.ClusterFlags.{flags_wanted, flags_of, flags_propagated, flags_shared, is_flagged, joins_settled, with_flags};
+ghost use Rattle.shapers_position.specs.ClusterFlags.{flags_wanted, flags_of, flags_propagated, flags_shared, is_flagged, joins_decided, with_flags};
 
 use bitflags::Flags;
 use glyph_flag::{SAFE_TO_INSERT_TATWEEL, UNSAFE_TO_BREAK, UNSAFE_TO_CONCAT};
@@ -59,7 +59,7 @@ fn rest_from(glyphs: &[hb_glyph_info_t], start: usize) -> &[hb_glyph_info_t]
     &glyphs[start..]
 }
 
-// How many glyphs are in the cluster that opens the text.
+// How many glyphs are in the cluster that begins the text.
 #[inline]
 fn first_cluster_len(glyphs: &[hb_glyph_info_t]) -> usize
     requires { 0 < length glyphs.now }
@@ -70,7 +70,7 @@ fn first_cluster_len(glyphs: &[hb_glyph_info_t]) -> usize
     1 + len_in_front(&glyphs[1..], glyphs[0].cluster)
 }
 
-// How many glyphs of a cluster open the list.
+// How many glyphs of a cluster begin the list.
 #[inline]
 fn len_in_front(glyphs: &[hb_glyph_info_t], cluster: u32) -> usize
     ensures len { result ≡ prefix_len (has_cluster cluster) glyphs.now }
@@ -124,7 +124,7 @@ fn flags_wanted(wanted: BufferFlags, flags: u32) -> u32
     ensures { result ≡ flags_wanted wanted flags }
 {
     let settled = if wanted.contains(BufferFlags::PRODUCE_SAFE_TO_INSERT_TATWEEL) {
-        joins_settled(flags)
+        joins_decided(flags)
     } else {
         flags
     };
@@ -138,8 +138,8 @@ fn flags_wanted(wanted: BufferFlags, flags: u32) -> u32
 // These flags where tatweels are wanted: one put in breaks the line's shape, unless that is shaped
 // anew.
 #[inline]
-fn joins_settled(flags: u32) -> u32
-    ensures { result ≡ joins_settled flags }
+fn joins_decided(flags: u32) -> u32
+    ensures { result ≡ joins_decided flags }
 {
     if flags & UNSAFE_TO_BREAK == UNSAFE_TO_BREAK {
         flags & (UNSAFE_TO_BREAK | UNSAFE_TO_CONCAT)

@@ -3,7 +3,7 @@ ghost use Rattle.std.specs.Prelude.{◌≡◌, ◌<◌, ◌≤◌, ◌+◌, [], 
 ghost use Rattle.std.specs.List.{prefix_len, suffix_len};
 ghost use Rattle.std.specs.Option.{option_or};
 ghost use Rattle.shapers_buffer.specs.Clusters.{has_cluster, merge};
-ghost use Rattle.shapers_position.specs.Ignorables.{covering, drawn_by, goes_on, ignorables_hidden, ignorables_removed, in_place_of, is_default_ignorable, stays_in_text, positions_kept, removed, removed_behind};
+ghost use Rattle.shapers_position.specs.Ignorables.{covering, drawn_by, is_of_cluster, ignorables_hidden, ignorables_removed, in_place_of, is_default_ignorable, stays_in_text, positions_kept, removed, removed_behind};
 
 use super::ignorables::{DefaultIgnorables, has_ignorable, is_default_ignorable};
 use shapers_base::buffer::{
@@ -117,23 +117,23 @@ fn remove_positions(glyphs: &[hb_glyph_info_t], positions: &mut [GlyphPosition])
 fn remove_ignorables_in(level: BufferClusterLevel, glyphs: &mut [hb_glyph_info_t])
     ensures { take (count_by stays_in_text glyphs.old) glyphs.new ≡ removed level glyphs.old }
 {
-    merge_opening(level, glyphs);
+    merge_leading(level, glyphs);
     remove_glyphs(glyphs);
 }
 
-// Merges the ignorable glyphs that open a text with the first one that stays.
-fn merge_opening(level: BufferClusterLevel, glyphs: &mut [hb_glyph_info_t])
+// Merges the ignorable glyphs that begin a text with the first one that stays.
+fn merge_leading(level: BufferClusterLevel, glyphs: &mut [hb_glyph_info_t])
     ensures { let opening = prefix_len is_default_ignorable glyphs.old in
         glyphs.new ≡ merge level 0 (min (opening + 1) (length glyphs.old)) glyphs.old }
 {
-    let opening = opening_len(glyphs);
+    let opening = leading_len(glyphs);
     let end = (opening + 1).min(glyphs.len());
     merge_clusters_in(level, glyphs, 0, end);
 }
 
-// How many ignorable glyphs open a text.
+// How many ignorable glyphs begin a text.
 #[inline]
-fn opening_len(glyphs: &[hb_glyph_info_t]) -> usize
+fn leading_len(glyphs: &[hb_glyph_info_t]) -> usize
     ensures len { result ≡ prefix_len is_default_ignorable glyphs.now }
     ensures within { result ≤ length glyphs.now }
 {
@@ -149,14 +149,14 @@ fn remove_glyphs(glyphs: &mut [hb_glyph_info_t])
 {
     let mut kept = 0;
     for i in 0..glyphs.len() {
-        kept = keep_or_remove(glyphs, kept, i);
+        kept = move_or_remove(glyphs, kept, i);
     }
 }
 
 // Looks at the glyph at `i`, of those before which the first `kept` stay: it comes behind these, or
 // goes. One that goes, and is the last of its cluster there, leaves that to them. How many stay
 // then.
-fn keep_or_remove(glyphs: &mut [hb_glyph_info_t], kept: usize, i: usize) -> usize
+fn move_or_remove(glyphs: &mut [hb_glyph_info_t], kept: usize, i: usize) -> usize
     requires few { kept ≤ i }
     requires inside { i < length glyphs.old }
     ensures rest { removed_behind (take result glyphs.new) (drop (i + 1) glyphs.new)
@@ -170,7 +170,7 @@ fn keep_or_remove(glyphs: &mut [hb_glyph_info_t], kept: usize, i: usize) -> usiz
         glyphs[kept] = glyph;
         return kept + 1;
     }
-    if !goes_on(&glyphs[i + 1..], glyph.cluster) {
+    if !is_of_cluster(&glyphs[i + 1..], glyph.cluster) {
         cover(&mut glyphs[..kept], &glyph);
     }
     kept
@@ -178,8 +178,8 @@ fn keep_or_remove(glyphs: &mut [hb_glyph_info_t], kept: usize, i: usize) -> usiz
 
 // Whether the next glyph is of this cluster.
 #[inline]
-fn goes_on(behind: &[hb_glyph_info_t], cluster: u32) -> bool
-    ensures { result ≡ goes_on cluster behind.now }
+fn is_of_cluster(behind: &[hb_glyph_info_t], cluster: u32) -> bool
+    ensures { result ≡ is_of_cluster cluster behind.now }
 {
     match behind.first() {
         Some(next) => next.cluster == cluster,

@@ -3,7 +3,7 @@ ghost use Rattle.std.specs.Prelude.{◌≡◌, ◌&&◌, ◌<◌, ◌-◌, [], �
 ghost use Rattle.shapers_buffer.specs.Refusals.{RefusesLength};
 ghost use Rattle.shapers_prepare.specs.FirstCircle.{begins_with_mark, first_circle, wants_first_circle, with_first_circle};
 
-use super::properties::{Open, set_properties};
+use super::properties::{Awaited, set_properties};
 use super::unicode::UnicodeProperties;
 use bitflags::Flags;
 use shapers_base::buffer::{BufferFlags, ShaperError, hb_buffer_t, hb_glyph_info_t};
@@ -83,7 +83,7 @@ fn first_circle<U: UnicodeProperties>(unicode: &U, glyph: hb_glyph_info_t) -> hb
         mask: glyph.mask,
         ..hb_glyph_info_t::DEFAULT
     };
-    set_properties(unicode, Open::Nothing, &mut circle);
+    set_properties(unicode, Awaited::Nothing, &mut circle);
     circle
 }
 

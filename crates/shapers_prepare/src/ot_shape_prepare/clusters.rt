@@ -7,8 +7,8 @@ ghost use Rattle.shapers_buffer.specs.Properties.{is_continuation};
 ghost use Rattle.shapers_prepare.specs.Graphemes.{clusters_formed, graphemes};
 
 use shapers_base::buffer::{
-    BufferClusterLevel, ClusterRun, hb_buffer_t, hb_glyph_info_t, merge_run_in, unsafe_to_break_in,
-    write_run_in,
+    BufferClusterLevel, ClusterRange, hb_buffer_t, hb_glyph_info_t, merge_range_in,
+    unsafe_to_break_in, write_range_in,
 };
 
 /// Brings each grapheme into one cluster where that is the level, and else flags it unsafe to break
@@ -54,17 +54,17 @@ pub(super) fn merge_graphemes_in(level: BufferClusterLevel, glyphs: &mut [hb_gly
     if glyphs.is_empty() {
         return;
     }
-    let mut run = ClusterRun::NONE;
+    let mut run = ClusterRange::NONE;
     let mut start = 0;
     for i in 1..glyphs.len() {
         if !glyphs[i].unicode_props.is_continuation() {
-            run = merge_run_in(level, glyphs, run, start, i);
+            run = merge_range_in(level, glyphs, run, start, i);
             start = i;
         }
     }
     let end = glyphs.len();
-    run = merge_run_in(level, glyphs, run, start, end);
-    write_run_in(glyphs, run);
+    run = merge_range_in(level, glyphs, run, start, end);
+    write_range_in(glyphs, run);
 }
 
 // Flags each grapheme unsafe to break inside.

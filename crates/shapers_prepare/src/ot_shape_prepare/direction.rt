@@ -3,7 +3,7 @@ ghost use Rattle.std.specs.Prelude.{◌≡◌, ◌≤◌, [], length, reverse};
 ghost use Rattle.std.specs.List.{list_any};
 ghost use Rattle.shapers_buffer.specs.Clusters.{with_stretch};
 ghost use Rattle.shapers_choice.specs.Choice.{is_among};
-ghost use Rattle.shapers_prepare.specs.NativeDirection.{are_numbers_or_flags, either_way_scripts, graphemes_turned, graphemes_whole, in_native_direction, is_letter_glyph, is_number_or_flag, is_turned, native_direction, opposite_direction, right_to_left_scripts, script_direction, text_direction};
+ghost use Rattle.shapers_prepare.specs.NativeDirection.{are_numbers_or_flags, either_way_scripts, graphemes_reversed, graphemes_whole, in_native_direction, is_letter_glyph, is_number_or_flag, is_reversed, native_direction, opposite_direction, right_to_left_scripts, script_direction, text_direction};
 
 use super::clusters::merge_graphemes_in;
 use super::properties::is_regional_indicator;
@@ -12,7 +12,7 @@ use shapers_base::buffer::{
     hb_unicode_general_category_t,
 };
 
-// The scripts that run from right to left.
+// The scripts that go from right to left.
 const RIGHT_TO_LEFT_SCRIPTS: [Script; 36] = [
     Script(*b"Adlm"),
     Script(*b"Arab"),
@@ -52,7 +52,7 @@ const RIGHT_TO_LEFT_SCRIPTS: [Script; 36] = [
     Script(*b"Yezi"),
 ];
 
-// The scripts that run either way: Old Hungarian, Old Italic, runes, Tifinagh.
+// The scripts that go either way: Old Hungarian, Old Italic, runes, Tifinagh.
 const EITHER_WAY_SCRIPTS: [Script; 4] = [
     Script(*b"Hung"),
     Script(*b"Ital"),
@@ -60,22 +60,22 @@ const EITHER_WAY_SCRIPTS: [Script; 4] = [
     Script(*b"Tfng"),
 ];
 
-/// Turns a text, without positions, whose script runs the other way: its graphemes then stand from
-/// the last to the first, and the direction is the opposite one. A text from bottom to top is turned
-/// always; numbers and flags without letters stay from left to right. Where clusters merge by
-/// characters, each grapheme comes into one cluster.
+/// Reverses a text, without positions, whose script goes the other way: its graphemes then stand
+/// from the last to the first, and the direction is the opposite one. A text from bottom to top is
+/// reversed always; numbers and flags without letters stay from left to right. Where clusters merge
+/// by characters, each grapheme comes into one cluster.
 pub fn ensure_native_direction(buffer: &mut hb_buffer_t)
     requires { buffer.old.positions ≡ [] }
     ensures { buffer.new ≡ in_native_direction buffer.old }
 {
     let direction = buffer.direction();
     let native = native_direction(buffer.script());
-    if is_turned(
+    if is_reversed(
         direction,
         text_direction(direction, native, buffer.glyphs()),
     ) {
         let level = buffer.cluster_level();
-        buffer.with_glyphs_mut(|glyphs| turn_in(level, glyphs));
+        buffer.with_glyphs_mut(|glyphs| reverse_by_graphemes(level, glyphs));
         buffer.set_direction(opposite_direction(direction));
     }
 }
@@ -93,22 +93,22 @@ fn native_direction(script: Option<Script>) -> Direction
 fn script_direction(script: Script) -> Direction
     ensures { result ≡ script_direction script }
 {
-    if runs_right_to_left(script) {
+    if goes_right_to_left(script) {
         Direction::RightToLeft
-    } else if runs_either_way(script) {
+    } else if goes_either_way(script) {
         Direction::Invalid
     } else {
         Direction::LeftToRight
     }
 }
 
-fn runs_right_to_left(script: Script) -> bool
+fn goes_right_to_left(script: Script) -> bool
     ensures { result ≡ is_among right_to_left_scripts script }
 {
     RIGHT_TO_LEFT_SCRIPTS.contains(&script)
 }
 
-fn runs_either_way(script: Script) -> bool
+fn goes_either_way(script: Script) -> bool
     ensures { result ≡ is_among either_way_scripts script }
 {
     EITHER_WAY_SCRIPTS.contains(&script)
@@ -175,8 +175,8 @@ fn is_letter_glyph(glyph: &hb_glyph_info_t) -> bool
 
 // Whether a text is shaped in the other direction.
 #[inline]
-fn is_turned(direction: Direction, native: Direction) -> bool
-    ensures { result ≡ is_turned direction native }
+fn is_reversed(direction: Direction, native: Direction) -> bool
+    ensures { result ≡ is_reversed direction native }
 {
     match direction {
         Direction::LeftToRight => matches!(native, Direction::RightToLeft),
@@ -199,13 +199,13 @@ fn opposite_direction(direction: Direction) -> Direction
     }
 }
 
-// Turns a text by its graphemes.
+// Reverses a text by its graphemes.
 #[inline]
-fn turn_in(level: BufferClusterLevel, glyphs: &mut [hb_glyph_info_t])
-    ensures { glyphs.new ≡ graphemes_turned (graphemes_whole level glyphs.old) }
+fn reverse_by_graphemes(level: BufferClusterLevel, glyphs: &mut [hb_glyph_info_t])
+    ensures { glyphs.new ≡ graphemes_reversed (graphemes_whole level glyphs.old) }
 {
     make_graphemes_whole_in(level, glyphs);
-    turn_graphemes_in(glyphs);
+    reverse_graphemes_in(glyphs);
 }
 
 // Brings each grapheme into one cluster at the level of characters; at that of graphemes it is in
@@ -220,9 +220,9 @@ fn make_graphemes_whole_in(level: BufferClusterLevel, glyphs: &mut [hb_glyph_inf
     }
 }
 
-// Puts the graphemes from the last to the first: each is turned by itself, and then all are.
-fn turn_graphemes_in(glyphs: &mut [hb_glyph_info_t])
-    ensures { glyphs.new ≡ graphemes_turned glyphs.old }
+// Puts the graphemes from the last to the first: each is reversed by itself, and then all are.
+fn reverse_graphemes_in(glyphs: &mut [hb_glyph_info_t])
+    ensures { glyphs.new ≡ graphemes_reversed glyphs.old }
 {
     if glyphs.is_empty() {
         return;
@@ -230,18 +230,18 @@ fn turn_graphemes_in(glyphs: &mut [hb_glyph_info_t])
     let mut start = 0;
     for i in 1..glyphs.len() {
         if !glyphs[i].unicode_props.is_continuation() {
-            turn_stretch(glyphs, start, i);
+            reverse_stretch(glyphs, start, i);
             start = i;
         }
     }
     let end = glyphs.len();
-    turn_stretch(glyphs, start, end);
+    reverse_stretch(glyphs, start, end);
     glyphs.reverse();
 }
 
-// Turns the glyphs from `start` to `end` round.
+// Reverses the glyphs from `start` to `end`.
 #[inline]
-fn turn_stretch(glyphs: &mut [hb_glyph_info_t], start: usize, end: usize)
+fn reverse_stretch(glyphs: &mut [hb_glyph_info_t], start: usize, end: usize)
     requires in_order { start ≤ end }
     requires in_range { end ≤ length glyphs.old }
     ensures { glyphs.new ≡ with_stretch start end reverse glyphs.old }

@@ -1,8 +1,8 @@
 //! The properties of each character, as its glyph keeps them.
 ghost use Rattle.std.specs.Prelude.{◌≡◌, ◌&&◌, ◌||◌, false};
 ghost use Rattle.shapers_normal.specs.Properties.{is_seen_by_lookups, joiner_class};
-ghost use Rattle.shapers_prepare.specs.GlyphProperties.{always_continues, is_mark_character, is_regional_indicator, kept_class, kept_properties, need_not_be_drawn, properties_set, with_properties};
-ghost use Rattle.shapers_prepare.specs.PropertyWalk.{goes_on_behind, properties_with, then_open};
+ghost use Rattle.shapers_prepare.specs.GlyphProperties.{always_continues, is_mark_character, is_regional_indicator, stored_class, stored_properties, need_not_be_drawn, properties_set, with_properties};
+ghost use Rattle.shapers_prepare.specs.PropertyWalk.{goes_on_behind, properties_with, then_awaited};
 
 use super::unicode::UnicodeProperties;
 use shapers_base::buffer::{
@@ -45,9 +45,9 @@ impl<'a, U: UnicodeProperties> GlyphWalk for PropertyWalk<'a, U> {
     }
 }
 
-// What the characters before one leave open.
+// What is awaited behind the characters before one.
 #[derive(Clone, Copy)]
-pub(super) enum Open {
+pub(super) enum Awaited {
     // A joiner, behind which a pictograph goes on.
     Joiner,
     // Half a flag, which another regional indicator completes.
@@ -60,28 +60,28 @@ pub(super) enum Open {
 fn set_properties_in<U: UnicodeProperties>(unicode: &U, glyphs: &mut [hb_glyph_info_t])
     ensures { glyphs.new ≡ properties_set (U.properties unicode.now) glyphs.old }
 {
-    let mut before = Open::Nothing;
+    let mut before = Awaited::Nothing;
     for glyph in glyphs.iter_mut() {
         set_properties(unicode, before, glyph);
-        before = then_open(before, glyph.glyph_id);
+        before = then_awaited(before, glyph.glyph_id);
     }
 }
 
-// What is open behind a character, where this was open before it.
+// What is awaited behind a character, where this was awaited before it.
 #[inline]
-fn then_open(before: Open, c: u32) -> Open
-    ensures { result ≡ then_open before c }
+fn then_awaited(before: Awaited, c: u32) -> Awaited
+    ensures { result ≡ then_awaited before c }
 {
-    // (most characters have smaller numbers than any that leaves something open)
+    // (most characters have smaller numbers than any behind which something is awaited)
     if c < ZERO_WIDTH_JOINER {
-        return Open::Nothing;
+        return Awaited::Nothing;
     }
     if c == ZERO_WIDTH_JOINER {
-        return Open::Joiner;
+        return Awaited::Joiner;
     }
     match before {
-        Open::Joiner | Open::Nothing if is_regional_indicator(c) => Open::HalfFlag,
-        _ => Open::Nothing,
+        Awaited::Joiner | Awaited::Nothing if is_regional_indicator(c) => Awaited::HalfFlag,
+        _ => Awaited::Nothing,
     }
 }
 
@@ -89,7 +89,7 @@ fn then_open(before: Open, c: u32) -> Open
 #[inline]
 pub(super) fn set_properties<U: UnicodeProperties>(
     unicode: &U,
-    before: Open,
+    before: Awaited,
     glyph: &mut hb_glyph_info_t,
 )
     ensures { let p = U.properties unicode.now in
@@ -99,14 +99,14 @@ pub(super) fn set_properties<U: UnicodeProperties>(
 {
     let c = glyph.glyph_id;
     let goes_on = goes_on_behind(unicode, before, c);
-    glyph.unicode_props = kept_properties(unicode, goes_on, c);
+    glyph.unicode_props = stored_properties(unicode, goes_on, c);
 }
 
 // What a glyph keeps of a character that carries on the grapheme before it if it is a mark or goes on.
 #[inline]
-fn kept_properties<U: UnicodeProperties>(unicode: &U, goes_on: bool, c: u32) -> UnicodeProps
+fn stored_properties<U: UnicodeProperties>(unicode: &U, goes_on: bool, c: u32) -> UnicodeProps
     ensures { let p = U.properties unicode.now in
-        result ≡ kept_properties p (is_mark_character p c || goes_on) c }
+        result ≡ stored_properties p (is_mark_character p c || goes_on) c }
 {
     let general = unicode.general_category(c);
     let is_mark = c >= 0x80 && general.is_mark();
@@ -114,7 +114,7 @@ fn kept_properties<U: UnicodeProperties>(unicode: &U, goes_on: bool, c: u32) -> 
     if !is_mark && !is_ignorable {
         return plain_properties(general, goes_on);
     }
-    let class = kept_class(unicode, c, is_mark, is_ignorable);
+    let class = stored_class(unicode, c, is_mark, is_ignorable);
     let is_hidden = is_ignorable && is_seen_by_lookups(c);
     properties_with(general, class, is_ignorable, is_mark || goes_on, is_hidden)
 }
@@ -150,13 +150,13 @@ fn plain_properties(general: hb_unicode_general_category_t, continues: bool) -> 
 
 // Whether a character that is no mark carries on the grapheme before it.
 #[inline]
-fn goes_on_behind<U: UnicodeProperties>(unicode: &U, before: Open, c: u32) -> bool
+fn goes_on_behind<U: UnicodeProperties>(unicode: &U, before: Awaited, c: u32) -> bool
     ensures { result ≡ goes_on_behind (U.properties unicode.now) before c }
 {
     match before {
-        Open::Joiner => always_continues(c) || unicode.is_extended_pictographic(c),
-        Open::HalfFlag => always_continues(c) || is_regional_indicator(c),
-        Open::Nothing => always_continues(c),
+        Awaited::Joiner => always_continues(c) || unicode.is_extended_pictographic(c),
+        Awaited::HalfFlag => always_continues(c) || is_regional_indicator(c),
+        Awaited::Nothing => always_continues(c),
     }
 }
 
@@ -182,10 +182,10 @@ pub(super) fn is_regional_indicator(c: u32) -> bool
 
 // The class of a mark, or which joiner a character is that need not be drawn.
 #[inline]
-fn kept_class<U: UnicodeProperties>(unicode: &U, c: u32, is_mark: bool, is_ignorable: bool) -> u8
+fn stored_class<U: UnicodeProperties>(unicode: &U, c: u32, is_mark: bool, is_ignorable: bool) -> u8
     requires mark { is_mark ≡ is_mark_character (U.properties unicode.now) c }
     requires ignorable { is_ignorable ≡ need_not_be_drawn (U.properties unicode.now) c }
-    ensures { result ≡ kept_class (U.properties unicode.now) c }
+    ensures { result ≡ stored_class (U.properties unicode.now) c }
 {
     if is_mark {
         unicode.modified_combining_class(c)

@@ -1,6 +1,6 @@
 //! Characters for another direction.
 ghost use Rattle.std.specs.Prelude.{◌≡◌, ◌&&◌, ◌||◌, map, not};
-ghost use Rattle.shapers_prepare.specs.Rotation.{mirrored_glyph, rotated_glyph, runs_backward, runs_vertically, upright_glyph, which_font_has};
+ghost use Rattle.shapers_prepare.specs.Rotation.{mirrored_glyph, rotated_glyph, goes_backward, goes_vertically, upright_glyph, which_font_has};
 
 use super::unicode::UnicodeProperties;
 use shapers_base::buffer::{Direction, GlyphChange, hb_buffer_t, hb_glyph_info_t};
@@ -19,7 +19,7 @@ pub struct CharRotation {
     pub has_vert: bool,
 }
 
-/// In text that runs backward each character becomes its mirrored one where the font has that, and
+/// In text that goes backward each character becomes its mirrored one where the font has that, and
 /// else gets the mask of `rtlm`; in vertical text without `vert` its vertical form where the font
 /// has that. The properties of the characters stay. (Unicode's Bidi_Mirroring_Glyph and vertical
 /// compatibility mappings.)
@@ -39,7 +39,7 @@ pub fn rotate_chars<U: UnicodeProperties, F: hb_font_t>(
     rotate_each(unicode, face, *rotation, buffer);
 }
 
-// Rotates each character, in a text that runs in such a direction.
+// Rotates each character, in a text that goes in such a direction.
 fn rotate_each<U: UnicodeProperties, F: hb_font_t>(
     unicode: &U,
     face: &F,
@@ -59,14 +59,14 @@ fn rotate_each<U: UnicodeProperties, F: hb_font_t>(
     buffer.change_outside(&rotating);
 }
 
-// Whether a text runs in a direction for which characters are rotated.
+// Whether a text goes in a direction for which characters are rotated.
 #[inline]
 fn rotates(rotation: CharRotation) -> bool
     ensures { result ≡
-        (runs_backward rotation.direction
-        || (runs_vertically rotation.direction && not rotation.has_vert)) }
+        (goes_backward rotation.direction
+        || (goes_vertically rotation.direction && not rotation.has_vert)) }
 {
-    runs_backward(rotation.direction) || (runs_vertically(rotation.direction) && !rotation.has_vert)
+    goes_backward(rotation.direction) || (goes_vertically(rotation.direction) && !rotation.has_vert)
 }
 
 // The change of one glyph.
@@ -84,10 +84,10 @@ impl<'a, U: UnicodeProperties, F: hb_font_t> GlyphChange for Rotating<'a, U, F> 
 
     #[inline]
     fn change(&self, glyph: &mut hb_glyph_info_t) {
-        if runs_backward(self.rotation.direction) {
+        if goes_backward(self.rotation.direction) {
             mirror(self.unicode, self.face, self.rotation.rtlm_mask, glyph);
         }
-        if runs_vertically(self.rotation.direction) && !self.rotation.has_vert {
+        if goes_vertically(self.rotation.direction) && !self.rotation.has_vert {
             stand_upright(self.unicode, self.face, glyph);
         }
     }
@@ -137,15 +137,15 @@ fn which_font_has<F: hb_font_t>(face: &F, c: Option<u32>) -> Option<u32>
 }
 
 #[inline]
-fn runs_backward(direction: Direction) -> bool
-    ensures { result ≡ runs_backward direction }
+fn goes_backward(direction: Direction) -> bool
+    ensures { result ≡ goes_backward direction }
 {
     matches!(direction, Direction::RightToLeft | Direction::BottomToTop)
 }
 
 #[inline]
-fn runs_vertically(direction: Direction) -> bool
-    ensures { result ≡ runs_vertically direction }
+fn goes_vertically(direction: Direction) -> bool
+    ensures { result ≡ goes_vertically direction }
 {
     matches!(direction, Direction::TopToBottom | Direction::BottomToTop)
 }

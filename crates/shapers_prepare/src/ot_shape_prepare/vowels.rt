@@ -1,7 +1,7 @@
 //! Circles between vowels that look like another one together.
 ghost use Rattle.std.specs.Prelude.{◌≡◌, ◌≤◌, ◌<◌, ◌+◌, [], ◌∷◌, ◌++◌, IsOk, OnErr, OnOk, length, vec_capacity};
 ghost use Rattle.shapers_buffer.specs.Refusals.{RefusesLength};
-ghost use Rattle.shapers_prepare.specs.Vowels.{circle_before_last, is_parted_pair, is_parted_triple, left_behind, pair_behind, triple_behind, universal_vowel_script, vowel_circle, vowel_script, vowel_script_of, vowels_parted, vowels_parted_from};
+ghost use Rattle.shapers_prepare.specs.Vowels.{circle_before_last, is_vowel_pair, is_vowel_triple, left_behind, pair_behind, triple_behind, universal_vowel_script, vowel_circle, vowel_script, vowel_script_of, vowels_circled, vowels_circled_from};
 ghost use Rattle.shapers_prepare.specs.VowelWalk.{vowel_circles};
 
 use super::vowel_pairs::{
@@ -29,16 +29,16 @@ const DOTTED_CIRCLE: u32 = 0x25CC;
 pub fn preprocess_text_vowel_constraints(buffer: &mut hb_buffer_t) -> Result<(), ShaperError>
     requires { buffer.old.positions ≡ [] }
     ensures ok { OnOk result (buffer.new ≡
-        record buffer.old { glyphs = vowels_parted buffer.old }) }
-    ensures length { RefusesLength buffer.old.max_len (length (vowels_parted buffer.old)) result }
+        record buffer.old { glyphs = vowels_circled buffer.old }) }
+    ensures length { RefusesLength buffer.old.max_len (length (vowels_circled buffer.old)) result }
     ensures err { OnErr result (buffer.new ≡ buffer.old) }
-    ensures without_memory { vowels_parted buffer.old ≡ buffer.old.glyphs → IsOk result }
+    ensures without_memory { vowels_circled buffer.old ≡ buffer.old.glyphs → IsOk result }
 {
     // so that a return with nothing changed keeps the promise on lengths, too
     prove!(buffer.len() <= buffer.max_len());
     match vowel_script_of(buffer) {
         None => Ok(()),
-        Some(script) => part_vowels(script, buffer),
+        Some(script) => circle_vowels(script, buffer),
     }
 }
 
@@ -130,14 +130,14 @@ fn universal_vowel_script(script: Script) -> Option<VowelScript>
 }
 
 // Puts the circles into a text.
-fn part_vowels(script: VowelScript, buffer: &mut hb_buffer_t) -> Result<(), ShaperError>
+fn circle_vowels(script: VowelScript, buffer: &mut hb_buffer_t) -> Result<(), ShaperError>
     requires { buffer.old.positions ≡ [] }
-    ensures ok { let text = vowels_parted_from script 0 buffer.old.glyphs in
+    ensures ok { let text = vowels_circled_from script 0 buffer.old.glyphs in
         OnOk result (buffer.new ≡ record buffer.old { glyphs = text }) }
-    ensures length { let text = vowels_parted_from script 0 buffer.old.glyphs in
+    ensures length { let text = vowels_circled_from script 0 buffer.old.glyphs in
         RefusesLength buffer.old.max_len (length text) result }
     ensures err { OnErr result (buffer.new ≡ buffer.old) }
-    ensures without_memory { let text = vowels_parted_from script 0 buffer.old.glyphs in
+    ensures without_memory { let text = vowels_circled_from script 0 buffer.old.glyphs in
         text ≡ buffer.old.glyphs → IsOk result }
 {
     let len = buffer.len();
@@ -148,26 +148,26 @@ fn part_vowels(script: VowelScript, buffer: &mut hb_buffer_t) -> Result<(), Shap
     if buffer.max_len() - len < count {
         return Err(ShaperError::TooLong);
     }
-    buffer.rewrite(len + count, &PartVowels { script })
+    buffer.rewrite(len + count, &VowelCircles { script })
 }
 
 // The rewriting that puts the circles in.
 #[derive(Drop)]
-struct PartVowels {
+struct VowelCircles {
     script: VowelScript,
 }
 
-impl GlyphRewriting for PartVowels {
+impl GlyphRewriting for VowelCircles {
     ghost use Rattle.std.specs.Prelude.{⊤};
-    ghost use Rattle.shapers_prepare.specs.Vowels.{vowels_parted_from};
+    ghost use Rattle.shapers_prepare.specs.Vowels.{vowels_circled_from};
 
     ghost can_rewrite = { λ r gs. ⊤ };
 
-    ghost rewrites = { λ r gs. vowels_parted_from r.script 0 gs };
+    ghost rewrites = { λ r gs. vowels_circled_from r.script 0 gs };
 
     #[inline]
     fn rewrite(&self, glyphs: &mut [hb_glyph_info_t], to: &mut Vec<hb_glyph_info_t>) {
-        write_parted(self.script, glyphs, to);
+        write_circled(self.script, glyphs, to);
     }
 }
 
@@ -187,10 +187,10 @@ fn count_circles(script: VowelScript, glyphs: &[hb_glyph_info_t]) -> usize
 }
 
 // Writes a text with its circles to a list that has room for it.
-fn write_parted(script: VowelScript, glyphs: &[hb_glyph_info_t], to: &mut Vec<hb_glyph_info_t>)
-    requires room { length to.old.items + length (vowels_parted_from script 0 glyphs.now)
+fn write_circled(script: VowelScript, glyphs: &[hb_glyph_info_t], to: &mut Vec<hb_glyph_info_t>)
+    requires room { length to.old.items + length (vowels_circled_from script 0 glyphs.now)
         ≤ vec_capacity to.old }
-    ensures text { to.new.items ≡ to.old.items ++ vowels_parted_from script 0 glyphs.now }
+    ensures text { to.new.items ≡ to.old.items ++ vowels_circled_from script 0 glyphs.now }
     ensures capacity { vec_capacity to.old ≤ vec_capacity to.new }
 {
     let mut left = 0;
@@ -210,14 +210,14 @@ fn write_with_circle(left: usize, glyph: hb_glyph_info_t, to: &mut Vec<hb_glyph_
     ensures capacity { vec_capacity to.old ≤ vec_capacity to.new }
 {
     if left == 1 {
-        put(vowel_circle(glyph), to);
+        push_within(vowel_circle(glyph), to);
     }
-    put(glyph, to);
+    push_within(glyph, to);
 }
 
 // Adds a glyph to a list that has room for it.
 #[inline]
-fn put(glyph: hb_glyph_info_t, to: &mut Vec<hb_glyph_info_t>)
+fn push_within(glyph: hb_glyph_info_t, to: &mut Vec<hb_glyph_info_t>)
     requires { length to.old.items < vec_capacity to.old }
     ensures text { to.new.items ≡ to.old.items ++ glyph ∷ [] }
     ensures capacity { vec_capacity to.old ≤ vec_capacity to.new }
@@ -264,7 +264,7 @@ fn pair_behind(script: VowelScript, a: u32, behind: &[hb_glyph_info_t]) -> usize
     let Some((b, behind)) = behind.split_first() else {
         return 0;
     };
-    if is_parted_pair(script, a, b.glyph_id) {
+    if is_vowel_pair(script, a, b.glyph_id) {
         1
     } else {
         triple_behind(script, a, b.glyph_id, behind)
@@ -278,7 +278,7 @@ fn triple_behind(script: VowelScript, a: u32, b: u32, behind: &[hb_glyph_info_t]
     let Some((c, _)) = behind.split_first() else {
         return 0;
     };
-    if is_parted_triple(script, a, b, c.glyph_id) {
+    if is_vowel_triple(script, a, b, c.glyph_id) {
         2
     } else {
         0
@@ -287,8 +287,8 @@ fn triple_behind(script: VowelScript, a: u32, b: u32, behind: &[hb_glyph_info_t]
 
 // Whether Devanagari's RA, virama and I stand there, which look like II.
 #[inline]
-fn is_parted_triple(script: VowelScript, a: u32, b: u32, c: u32) -> bool
-    ensures { result ≡ is_parted_triple script a b c }
+fn is_vowel_triple(script: VowelScript, a: u32, b: u32, c: u32) -> bool
+    ensures { result ≡ is_vowel_triple script a b c }
 {
     match script {
         VowelScript::Devanagari => a == 0x0930 && b == 0x094D && c == 0x0907,
@@ -298,8 +298,8 @@ fn is_parted_triple(script: VowelScript, a: u32, b: u32, c: u32) -> bool
 
 // Whether two characters are a pair of the script's.
 #[inline]
-fn is_parted_pair(script: VowelScript, a: u32, b: u32) -> bool
-    ensures { result ≡ is_parted_pair script a b }
+fn is_vowel_pair(script: VowelScript, a: u32, b: u32) -> bool
+    ensures { result ≡ is_vowel_pair script a b }
 {
     match script {
         VowelScript::Devanagari => is_devanagari_pair(a, b),

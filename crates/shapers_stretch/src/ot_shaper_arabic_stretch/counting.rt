@@ -1,8 +1,8 @@
 //! The first pass over a text whose marks stretch: whether all its numbers fit, and how many cells
-//! it gains. A run takes a turn for each of its tiles, and none for a copy.
+//! it gains. A sequence takes one step for each of its tiles, and none for a copy.
 ghost use Rattle.std.specs.Prelude.{◌≡◌, ◌≤◌, ◌<◌, ◌+◌, ◌^◌, ◌*◌, ◌≤ℤ◌, ◌*ℤ◌, ◌-ℤ◌, ◌&&◌, [], ◌∷◌, true, pos, negsuc, MatchOption, length, replicate};
 ghost use Rattle.std.specs.List.{AllByRecursion, zip};
-ghost use Rattle.shapers_stretch.specs.CountingWalk.{CountsAdded, IsCounted, IsLay, IsNumber, WalksPen, moves_of, offsets_fit, last_at, pen_behind, run_added, run_moves, stands_at};
+ghost use Rattle.shapers_stretch.specs.CountingWalk.{CountsAdded, IsCounted, IsLay, IsNumber, WalksPen, moves_of, offsets_fit, last_at, pen_behind, sequence_added, sequence_moves, stands_at};
 ghost use Rattle.shapers_stretch.specs.Measure.{fits_i32};
 ghost use Rattle.shapers_stretch.specs.Stretch.{Laying, measured, overflows};
 
@@ -76,13 +76,13 @@ fn count_last<F: hb_font_t>(
         return Some(Counted { start, added: 0 });
     }
     let word = &positions[part.word..part.tiles];
-    let added = count_run(face, choice, right_to_left, word, tiles)?;
+    let added = count_sequence(face, choice, right_to_left, word, tiles)?;
     Some(Counted { start, added })
 }
 
-// How many copies a run adds, unless one of its numbers doesn't fit 32 bits.
+// How many copies a sequence adds, unless one of its numbers doesn't fit 32 bits.
 #[inline]
-fn count_run<F: hb_font_t>(
+fn count_sequence<F: hb_font_t>(
     face: &F,
     choice: StretchStart,
     right_to_left: bool,
@@ -91,7 +91,7 @@ fn count_run<F: hb_font_t>(
 ) -> Option<usize>
     requires numbers { AllByRecursion (λ g. g.glyph_id ≤ 65535) tiles.now }
     ensures added { let z = measured (F.font face.now) word.now tiles.now in
-        result ≡ run_added choice right_to_left (F.font face.now) z tiles.now }
+        result ≡ sequence_added choice right_to_left (F.font face.now) z tiles.now }
     ensures bound { MatchOption result (0 ≤ 0) (λ n. n < 2 ^ 31) }
 {
     let run = measure(face, word, tiles)?;
@@ -103,7 +103,7 @@ fn count_run<F: hb_font_t>(
     }
 }
 
-// Whether the offsets of all copies of a run fit 32 bits.
+// Whether the offsets of all copies of a sequence fit 32 bits.
 #[inline]
 fn offsets_fit<F: hb_font_t>(
     face: &F,
@@ -114,7 +114,7 @@ fn offsets_fit<F: hb_font_t>(
     requires lay { IsLay lay }
     requires numbers { AllByRecursion (λ g. g.glyph_id ≤ 65535) tiles.now }
     ensures { result ≡ offsets_fit right_to_left lay.start
-        (run_moves (F.font face.now) lay tiles.now) }
+        (sequence_moves (F.font face.now) lay tiles.now) }
 {
     let mut pen = lay.start;
     let mut left = tiles.len();

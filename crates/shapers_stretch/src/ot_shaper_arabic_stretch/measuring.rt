@@ -1,12 +1,12 @@
-//! The numbers of a run: what its word and tiles measure, how often the tiles repeat, and how they
-//! are laid.
+//! The numbers of a sequence: what its word and tiles measure, how often the tiles repeat, and how
+//! they are laid.
 ghost use Rattle.std.specs.Prelude.{◌≡◌, ◌≤◌, ◌<◌, ◌^◌, ◌*◌, ◌<ℤ◌, ◌≤ℤ◌, ◌-ℤ◌, ◌-◌, nat_abs, [], ◌∷◌, if◌then◌else◌, neg_ℤ, pos, negsuc, ◌*ℤ◌, false, int_div, FitsSigned, IsTrue, MatchOption, length, map};
 ghost use Rattle.std.specs.List.{list_all};
 ghost use mir.Syntax.{w32};
 ghost use Rattle.shapers_stretch.specs.Cells.{repeats};
-ghost use Rattle.shapers_stretch.specs.Measure.{times_added, fits_i32, fitting, laid_width, left, overlap, reach, squeezes, start, total};
+ghost use Rattle.shapers_stretch.specs.Measure.{times_added, fits_i32, fitting, laid_width, left, overlap, tiles_reach, squeezes, start, total};
 ghost use Rattle.shapers_stretch.specs.Stretch.{measured, width_of};
-ghost use Rattle.shapers_stretch.specs.Lays.{MeasuresRun, TileRunFits, lay_if_fits, start_if_fits};
+ghost use Rattle.shapers_stretch.specs.Lays.{MeasuresSequence, SequenceFits, lay_if_fits, start_if_fits};
 ghost use Rattle.std.specs.List.{AllByRecursion};
 
 use super::parts::repeats;
@@ -14,18 +14,18 @@ use shapers_base::buffer::{GlyphPosition, hb_glyph_info_t};
 use shapers_base::font::{GlyphId, hb_font_t};
 use shapers_base::plan::StretchStart;
 
-/// What a run measures: the advance of its word, of its fixed and of its repeating tiles, and how
-/// many tiles repeat.
+/// What a sequence measures: the advance of its word, of its fixed and of its repeating tiles, and
+/// how many tiles repeat.
 #[derive(Clone, Copy)]
-pub(super) struct Run {
+pub(super) struct TileSequence {
     pub(super) word: i64,
     pub(super) fixed: i64,
     pub(super) repeating: i64,
     pub(super) repeaters: usize,
 }
 
-/// How often the repeating tiles of a run are laid besides once, by how much each of these copies
-/// overlaps the one before it, and where the first tile begins.
+/// How often the repeating tiles of a sequence are laid besides once, by how much each of these
+/// copies overlaps the one before it, and where the first tile begins.
 #[derive(Clone, Copy)]
 pub(super) struct Lay {
     pub(super) added: usize,
@@ -49,9 +49,9 @@ pub(super) fn measure<F: hb_font_t>(
     face: &F,
     word: &[GlyphPosition],
     tiles: &[hb_glyph_info_t],
-) -> Option<Run>
+) -> Option<TileSequence>
     requires { AllByRecursion (λ g. g.glyph_id ≤ 65535) tiles.now }
-    ensures { MeasuresRun (measured (F.font face.now) word.now tiles.now) result }
+    ensures { MeasuresSequence (measured (F.font face.now) word.now tiles.now) result }
 {
     if word.len() <= SHORT && tiles.len() <= SHORT {
         Some(measure_short(face, word, tiles))
@@ -65,7 +65,11 @@ const SHORT: usize = 0x7FFF_FFFF;
 
 // What few tiles and a short word before them measure, whose sums always fit.
 #[inline]
-fn measure_short<F: hb_font_t>(face: &F, word: &[GlyphPosition], tiles: &[hb_glyph_info_t]) -> Run
+fn measure_short<F: hb_font_t>(
+    face: &F,
+    word: &[GlyphPosition],
+    tiles: &[hb_glyph_info_t],
+) -> TileSequence
     requires word { length word.now < 2 ^ 31 }
     requires tiles { length tiles.now < 2 ^ 31 }
     requires numbers { AllByRecursion (λ g. g.glyph_id ≤ 65535) tiles.now }
@@ -84,7 +88,7 @@ fn measure_short<F: hb_font_t>(face: &F, word: &[GlyphPosition], tiles: &[hb_gly
             fixed += width;
         }
     }
-    Run {
+    TileSequence {
         word,
         fixed,
         repeating,
@@ -98,9 +102,9 @@ fn measure_long<F: hb_font_t>(
     face: &F,
     word: &[GlyphPosition],
     tiles: &[hb_glyph_info_t],
-) -> Option<Run>
+) -> Option<TileSequence>
     requires { AllByRecursion (λ g. g.glyph_id ≤ 65535) tiles.now }
-    ensures { MeasuresRun (measured (F.font face.now) word.now tiles.now) result }
+    ensures { MeasuresSequence (measured (F.font face.now) word.now tiles.now) result }
 {
     let word = total_advance(word);
     let mut fixed = 0;
@@ -112,7 +116,7 @@ fn measure_long<F: hb_font_t>(
         repeating += i128::from(run.repeating);
         repeaters += run.repeaters;
     }
-    Some(Run {
+    Some(TileSequence {
         word: narrowed(word)?,
         fixed: narrowed(fixed)?,
         repeating: narrowed(repeating)?,
@@ -160,10 +164,10 @@ fn total_advance(word: &[GlyphPosition]) -> i128
     sum
 }
 
-/// How the run of these tiles behind this word is laid, unless one of its numbers doesn't fit 32
-/// bits.
+/// How the sequence of these tiles behind this word is laid, unless one of its numbers doesn't fit
+/// 32 bits.
 #[inline]
-pub(super) fn lay_of_run<F: hb_font_t>(
+pub(super) fn lay_of_sequence<F: hb_font_t>(
     face: &F,
     choice: StretchStart,
     right_to_left: bool,
@@ -178,12 +182,12 @@ pub(super) fn lay_of_run<F: hb_font_t>(
     lay_of(choice, right_to_left, run)
 }
 
-/// How a run is laid, unless one of its numbers doesn't fit 32 bits.
+/// How a sequence is laid, unless one of its numbers doesn't fit 32 bits.
 #[inline]
-pub(super) fn lay_of(choice: StretchStart, right_to_left: bool, run: Run) -> Option<Lay>
+pub(super) fn lay_of(choice: StretchStart, right_to_left: bool, run: TileSequence) -> Option<Lay>
     ensures { result ≡ lay_if_fits choice right_to_left run }
 {
-    if !run_fits(run) {
+    if !sequence_fits(run) {
         return None;
     }
     let rounds = rounds_of(run);
@@ -199,12 +203,12 @@ pub(super) fn lay_of(choice: StretchStart, right_to_left: bool, run: Run) -> Opt
     })
 }
 
-// Whether what a run measures fits 32 bits, and what its fixed tiles leave of the word.
+// Whether what a sequence measures fits 32 bits, and what its fixed tiles leave of the word.
 #[inline]
-fn run_fits(run: Run) -> bool
+fn sequence_fits(run: TileSequence) -> bool
     ensures value { result ≡ list_all fits_i32 (run.word ∷ run.fixed ∷ run.repeating
         ∷ left run ∷ []) }
-    ensures fits { IsTrue result → TileRunFits run }
+    ensures fits { IsTrue result → SequenceFits run }
 {
     fits_i32(run.word)
         && fits_i32(run.fixed)
@@ -212,11 +216,11 @@ fn run_fits(run: Run) -> bool
         && fits_i32(run.word - run.fixed)
 }
 
-// How many times more the repeating tiles of a run fit into what is left.
+// How many times more the repeating tiles of a sequence fit into what is left.
 #[tactic(auto, using(crate::proofs::Numbers::fit_yes, crate::proofs::Numbers::fit_room, crate::proofs::Numbers::fit_width))]
 #[inline]
-fn fitting(run: Run) -> usize
-    requires { TileRunFits run }
+fn fitting(run: TileSequence) -> usize
+    requires { SequenceFits run }
     ensures value { result ≡ fitting run }
     ensures bound { result < 2 ^ 31 }
 {
@@ -231,7 +235,7 @@ fn fitting(run: Run) -> usize
 // The same where they do fit.
 #[tactic(auto, using(crate::proofs::Numbers::quotient_abs))]
 #[inline]
-fn times_more(run: Run, left: i64) -> usize
+fn times_more(run: TileSequence, left: i64) -> usize
     requires fits { FitsSigned w32 left }
     requires some { pos 0 <ℤ run.repeating }
     requires room { run.repeating <ℤ left }
@@ -250,15 +254,15 @@ struct Rounds {
 
 // How many times more they are laid, and whether that is so much that the copies overlap.
 #[inline]
-fn rounds_of(run: Run) -> Rounds
-    requires { TileRunFits run }
+fn rounds_of(run: TileSequence) -> Rounds
+    requires { SequenceFits run }
     ensures added { result.added ≡ times_added run }
     ensures bound { result.added ≤ 2 ^ 31 }
     ensures squeezes { result.squeezes ≡ squeezes run }
 {
     let fitting = fitting(run);
     let left = run.word - run.fixed;
-    if left <= reach(run, fitting) || run.repeaters == 0 {
+    if left <= tiles_reach(run, fitting) || run.repeaters == 0 {
         return Rounds {
             added: fitting,
             squeezes: false,
@@ -273,10 +277,10 @@ fn rounds_of(run: Run) -> Rounds
 
 // How far the repeating tiles reach, laid once and these times more.
 #[inline]
-fn reach(run: Run, added: usize) -> i64
-    requires fits { TileRunFits run }
+fn tiles_reach(run: TileSequence, added: usize) -> i64
+    requires fits { SequenceFits run }
     requires bound { added ≤ 2 ^ 31 }
-    ensures value { result ≡ reach run added }
+    ensures value { result ≡ tiles_reach run added }
     ensures low { negsuc (3 * 2 ^ 61) ≤ℤ result }
     ensures high { result ≤ℤ pos (3 * 2 ^ 61) }
 {
@@ -285,17 +289,17 @@ fn reach(run: Run, added: usize) -> i64
 
 // How far they then reach too far.
 #[inline]
-fn excess(run: Run, added: usize) -> i64
-    requires fits { TileRunFits run }
+fn excess(run: TileSequence, added: usize) -> i64
+    requires fits { SequenceFits run }
     requires bound { added ≤ 2 ^ 31 }
-    ensures { result ≡ reach run added -ℤ left run }
+    ensures { result ≡ tiles_reach run added -ℤ left run }
 {
-    reach(run, added) - (run.word - run.fixed)
+    tiles_reach(run, added) - (run.word - run.fixed)
 }
 
 // How many copies that makes.
 #[inline]
-fn copies(run: Run, added: usize) -> i64
+fn copies(run: TileSequence, added: usize) -> i64
     requires { added * run.repeaters < 2 ^ 31 }
     ensures { result ≡ pos (added * run.repeaters) }
 {
@@ -304,19 +308,19 @@ fn copies(run: Run, added: usize) -> i64
 
 // Whether these numbers fit 32 bits.
 #[inline]
-fn added_fits(run: Run, added: usize) -> bool
-    requires fits { TileRunFits run }
+fn added_fits(run: TileSequence, added: usize) -> bool
+    requires fits { SequenceFits run }
     requires bound { added ≤ 2 ^ 31 }
-    ensures value { result ≡ list_all fits_i32 (reach run added ∷ pos (added * run.repeaters)
+    ensures value { result ≡ list_all fits_i32 (tiles_reach run added ∷ pos (added * run.repeaters)
         ∷ []) }
-    ensures reach { IsTrue result → FitsSigned w32 (reach run added) }
+    ensures tiles_reach { IsTrue result → FitsSigned w32 (tiles_reach run added) }
 {
-    fits_i32(reach(run, added)) && few_copies(run, added)
+    fits_i32(tiles_reach(run, added)) && few_copies(run, added)
 }
 
 // Whether the number of copies that this makes fits 32 bits.
 #[inline]
-fn few_copies(run: Run, added: usize) -> bool
+fn few_copies(run: TileSequence, added: usize) -> bool
     ensures { result ≡ fits_i32 (pos (added * run.repeaters)) }
 {
     added as u128 * (run.repeaters as u128) < 0x8000_0000
@@ -324,12 +328,12 @@ fn few_copies(run: Run, added: usize) -> bool
 
 // By how much each added copy overlaps the one before it.
 #[inline]
-fn overlap(run: Run, rounds: Rounds) -> i64
-    requires fits { TileRunFits run }
+fn overlap(run: TileSequence, rounds: Rounds) -> i64
+    requires fits { SequenceFits run }
     requires bound { rounds.added ≤ 2 ^ 31 }
     requires added { rounds.added ≡ times_added run }
     requires squeezes { rounds.squeezes ≡ squeezes run }
-    requires reach { FitsSigned w32 (reach run rounds.added) }
+    requires tiles_reach { FitsSigned w32 (tiles_reach run rounds.added) }
     requires copies { rounds.added * run.repeaters < 2 ^ 31 }
     ensures value { result ≡ overlap run }
     ensures low { pos 0 ≤ℤ result }
@@ -346,15 +350,15 @@ fn overlap(run: Run, rounds: Rounds) -> i64
 fn start(
     choice: StretchStart,
     right_to_left: bool,
-    run: Run,
+    run: TileSequence,
     rounds: Rounds,
     shared: i64,
 ) -> Option<i64>
-    requires fits { TileRunFits run }
+    requires fits { SequenceFits run }
     requires added { rounds.added ≡ times_added run }
     requires squeezes { rounds.squeezes ≡ squeezes run }
     requires bound { rounds.added ≤ 2 ^ 31 }
-    requires reach { FitsSigned w32 (reach run rounds.added) }
+    requires tiles_reach { FitsSigned w32 (tiles_reach run rounds.added) }
     requires copies { rounds.added * run.repeaters < 2 ^ 31 }
     requires overlap { shared ≡ overlap run }
     requires low { pos 0 ≤ℤ shared }
@@ -369,8 +373,8 @@ fn start(
 
 // The first choice of a start.
 #[inline]
-fn start_as_code(run: Run, shares: bool) -> i64
-    requires fits { TileRunFits run }
+fn start_as_code(run: TileSequence, shares: bool) -> i64
+    requires fits { SequenceFits run }
     requires squeezes { shares ≡ squeezes run }
     ensures { result ≡ start StretchStart.AsCode false run }
 {
@@ -379,8 +383,8 @@ fn start_as_code(run: Run, shares: bool) -> i64
 
 // What the fixed tiles leave of the word.
 #[inline]
-fn left_of(run: Run) -> i64
-    requires fits { TileRunFits run }
+fn left_of(run: TileSequence) -> i64
+    requires fits { SequenceFits run }
     ensures { result ≡ left run }
 {
     run.word - run.fixed
@@ -389,11 +393,11 @@ fn left_of(run: Run) -> i64
 // The second choice: what is laid is centred on the word, unless its width, or the word less that
 // width, doesn't fit 32 bits.
 #[inline]
-fn centred_start(right_to_left: bool, run: Run, times: usize, shared: i64) -> Option<i64>
-    requires fits { TileRunFits run }
+fn centred_start(right_to_left: bool, run: TileSequence, times: usize, shared: i64) -> Option<i64>
+    requires fits { SequenceFits run }
     requires added { times ≡ times_added run }
     requires bound { times ≤ 2 ^ 31 }
-    requires reach { FitsSigned w32 (reach run times) }
+    requires tiles_reach { FitsSigned w32 (tiles_reach run times) }
     requires copies { times * run.repeaters < 2 ^ 31 }
     requires overlap { shared ≡ overlap run }
     requires low { pos 0 ≤ℤ shared }
@@ -413,8 +417,8 @@ fn centred_start(right_to_left: bool, run: Run, times: usize, shared: i64) -> Op
 
 // How much wider the word is than what is laid.
 #[inline]
-fn gap(run: Run, width: i64) -> i64
-    requires word { TileRunFits run }
+fn gap(run: TileSequence, width: i64) -> i64
+    requires word { SequenceFits run }
     requires width { FitsSigned w32 width }
     ensures { result ≡ run.word -ℤ width }
 {
@@ -442,11 +446,11 @@ fn along(right_to_left: bool, x: i64) -> i64
 
 // The width that is laid.
 #[inline]
-fn width_of_laid(run: Run, times: usize, shared: i64) -> i64
-    requires fits { TileRunFits run }
+fn width_of_laid(run: TileSequence, times: usize, shared: i64) -> i64
+    requires fits { SequenceFits run }
     requires added { times ≡ times_added run }
     requires bound { times ≤ 2 ^ 31 }
-    requires reach { FitsSigned w32 (reach run times) }
+    requires tiles_reach { FitsSigned w32 (tiles_reach run times) }
     requires copies { times * run.repeaters < 2 ^ 31 }
     requires overlap { shared ≡ overlap run }
     requires low { pos 0 ≤ℤ shared }
@@ -455,7 +459,7 @@ fn width_of_laid(run: Run, times: usize, shared: i64) -> i64
     ensures low { negsuc (2 ^ 36) <ℤ result }
     ensures high { result <ℤ pos (2 ^ 36) }
 {
-    run.fixed + reach(run, times) - shared_by(copies(run, times), shared)
+    run.fixed + tiles_reach(run, times) - shared_by(copies(run, times), shared)
 }
 
 // What so many copies overlap together.

@@ -1,4 +1,4 @@
-//! The parts of a text: what stands before a word, the word, and the run of tiles behind it.
+//! The parts of a text: what stands before a word, the word, and the sequence of tiles behind it.
 ghost use Rattle.std.specs.Prelude.{◌≡◌, ◌≤◌, ◌+◌, not, length, take};
 ghost use Rattle.std.specs.List.{suffix_len};
 ghost use Rattle.shapers_stretch.specs.Cells.{in_word, is_tile, is_word_category, repeats};
@@ -41,7 +41,7 @@ fn count_last_tiles(glyphs: &[hb_glyph_info_t]) -> usize
         .count()
 }
 
-// How many glyphs at the end can belong to the word before a run.
+// How many glyphs at the end can belong to the word before a sequence.
 #[inline]
 fn count_last_in_word(glyphs: &[hb_glyph_info_t]) -> usize
     ensures counted { result ≡ suffix_len in_word glyphs.now }
@@ -83,7 +83,7 @@ pub(super) fn repeats(glyph: &hb_glyph_info_t) -> bool
     glyph.auxiliary == STRETCHING_REPEATING
 }
 
-// Whether a glyph can belong to the word before a run.
+// Whether a glyph can belong to the word before a sequence.
 #[inline]
 fn in_word(glyph: &hb_glyph_info_t) -> bool
     ensures { result ≡ in_word glyph.now }
@@ -92,7 +92,7 @@ fn in_word(glyph: &hb_glyph_info_t) -> bool
     !is_tile(glyph) && (ignorable || is_word_category(glyph.unicode_props.general_category()))
 }
 
-// Whether a character of this category can belong to the word before a run.
+// Whether a character of this category can belong to the word before a sequence.
 #[inline]
 fn is_word_category(category: hb_unicode_general_category_t) -> bool
     ensures { result ≡ is_word_category category }

@@ -16,9 +16,9 @@ use shapers_base::font::hb_font_t;
 use shapers_base::plan::{PlanData, StretchStart, hb_ot_shape_plan_t};
 use std::mem;
 
-/// Stretches marks: where the buffer is marked to have some, the tiles of each run of them are
+/// Stretches marks: where the buffer is marked to have some, the tiles of each sequence of them are
 /// laid, and laid again, over the word before it, and no break is left inside. Refuses with
-/// `StretchOverflow` where a number of a run doesn't fit 32 bits, and then as a growth to the
+/// `StretchOverflow` where a number of a sequence doesn't fit 32 bits, and then as a growth to the
 /// length of the result does: longer by the copies that are added. What is laid is as wide as
 /// `widths_law` says. (OpenType `stch`.)
 #[inline]

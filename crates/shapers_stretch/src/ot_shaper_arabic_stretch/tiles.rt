@@ -1,16 +1,16 @@
-//! The second pass over a text whose marks stretch: from behind, in place, each run is laid over
-//! its word. The writer never overtakes the reader.
+//! The second pass over a text whose marks stretch: from behind, in place, each sequence is laid
+//! over its word. The writer never overtakes the reader.
 ghost use Rattle.std.specs.Prelude.{◌≡◌, ◌≤◌, ◌<◌, ◌^◌, ◌+◌, ◌-◌, ◌≤ℤ◌, ◌++◌, [], ◌∷◌, pos, negsuc, true, length, replicate, reverse, take, drop};
 ghost use Rattle.std.specs.List.{AllByRecursion, zip};
 ghost use Rattle.shapers_buffer.specs.Clusters.{stretch_of};
 ghost use Rattle.shapers_stretch.specs.Cells.{Cell, glyphs_of, positions_of};
 ghost use Rattle.shapers_stretch.specs.CountingWalk.{IsNumber, stands_at};
-ghost use Rattle.shapers_stretch.specs.LayingWalk.{CanLay, CanLayRun, HasRoomForTiles, IsLaidFrom, IsUnlaid, Lays, copies_by, laying_by, run_copies, text_in_slices, stretched_whole};
+ghost use Rattle.shapers_stretch.specs.LayingWalk.{CanLay, CanLaySequence, HasRoomForTiles, IsLaidFrom, IsUnlaid, Lays, copies_by, laying_by, sequence_copies, text_in_slices, stretched_whole};
 ghost use Rattle.shapers_stretch.specs.Measure.{fits_i32};
-ghost use Rattle.shapers_stretch.specs.Stretch.{Copy, copies, laid_run, measured, stretched, unbroken};
+ghost use Rattle.shapers_stretch.specs.Stretch.{Copy, copies, laid_sequence, measured, stretched, unbroken};
 
 use super::counting::moved;
-use super::measuring::{Lay, advance_of, lay_of_run};
+use super::measuring::{Lay, advance_of, lay_of_sequence};
 use super::parts::{LastPart, last_part, repeats};
 use shapers_base::buffer::{GlyphPosition, PositionedWalk, hb_glyph_info_t, unsafe_to_break_in};
 use shapers_base::font::hb_font_t;
@@ -72,7 +72,8 @@ impl<'a, F: hb_font_t> TileLaying<'a, F> {
         }
     }
 
-    // Lays the last part of the unlaid text: its run first, then what stands before it moves up.
+    // Lays the last part of the unlaid text: its sequence first, then what stands before it moves
+    // up.
     #[inline]
     fn lay_last(
         &self,
@@ -98,7 +99,7 @@ impl<'a, F: hb_font_t> TileLaying<'a, F> {
                 place: unlaid.place - (part.tiles - part.start),
             };
         }
-        let place = self.lay_run(glyphs, positions, part, unlaid);
+        let place = self.lay_sequence(glyphs, positions, part, unlaid);
         move_up(glyphs, positions, part.start, part.tiles, place);
         Unlaid {
             end: part.start,
@@ -106,8 +107,8 @@ impl<'a, F: hb_font_t> TileLaying<'a, F> {
         }
     }
 
-    // Lays the run of the last part, and flags it and its word; where it then begins.
-    fn lay_run(
+    // Lays the sequence of the last part, and flags it and its word; where it then begins.
+    fn lay_sequence(
         &self,
         glyphs: &mut [hb_glyph_info_t],
         positions: &mut [GlyphPosition],
@@ -120,7 +121,7 @@ impl<'a, F: hb_font_t> TileLaying<'a, F> {
             let old = zip glyphs.old positions.old in
             let word = stretch_of part.word part.tiles old in
             let tiles = stretch_of part.tiles unlaid.end old in
-            CanLayRun how word tiles part.tiles unlaid.end unlaid.place glyphs.old positions.old }
+            CanLaySequence how word tiles part.tiles unlaid.end unlaid.place glyphs.old positions.old }
         ensures both { length glyphs.new ≡ length positions.new }
         ensures same_length { length glyphs.new ≡ length glyphs.old }
         ensures flagged { let old = zip glyphs.old positions.old in
@@ -135,7 +136,7 @@ impl<'a, F: hb_font_t> TileLaying<'a, F> {
             let tiles = stretch_of part.tiles unlaid.end old in
             let z = measured how.font (positions_of word) (glyphs_of tiles) in
             let run = drop (length word) (unbroken (word ++ tiles)) in
-            drop result (zip glyphs.new positions.new) ≡ reverse (laid_run how z run)
+            drop result (zip glyphs.new positions.new) ≡ reverse (laid_sequence how z run)
             ++ drop unlaid.place old }
         ensures place { let old = zip glyphs.old positions.old in
             let word = stretch_of part.word part.tiles old in
@@ -143,7 +144,7 @@ impl<'a, F: hb_font_t> TileLaying<'a, F> {
             let z = measured (F.font self.now.face.now) (positions_of word) (glyphs_of tiles) in
             result + length (copies (F.font self.now.face.now) z tiles) ≡ unlaid.place }
     {
-        let found = lay_of_run(
+        let found = lay_of_sequence(
             self.face,
             self.choice,
             self.right_to_left,
@@ -181,15 +182,15 @@ impl<'a, F: hb_font_t> TileLaying<'a, F> {
         requires ahead { tiles.end ≤ pen.place }
         requires numbers { AllByRecursion (λ g. g.glyph_id ≤ 65535) (take tiles.end glyphs.old) }
         requires can { let cs = stretch_of tiles.start tiles.end (zip glyphs.old positions.old) in
-            CanLay self.now.right_to_left (run_copies (F.font self.now.face.now) lay cs)
+            CanLay self.now.right_to_left (sequence_copies (F.font self.now.face.now) lay cs)
             pen glyphs.old positions.old }
         requires room { let cs = stretch_of tiles.start tiles.end (zip glyphs.old positions.old) in
-            tiles.start + length (run_copies (F.font self.now.face.now) lay cs) ≤ pen.place }
+            tiles.start + length (sequence_copies (F.font self.now.face.now) lay cs) ≤ pen.place }
         ensures both { length glyphs.new ≡ length positions.new }
         ensures same_length { length glyphs.new ≡ length glyphs.old }
         ensures lays { let old = zip glyphs.old positions.old in
             let laid =
-            run_copies (F.font self.now.face.now) lay (stretch_of tiles.start tiles.end old) in
+            sequence_copies (F.font self.now.face.now) lay (stretch_of tiles.start tiles.end old) in
             Lays self.now.right_to_left laid pen result old (zip glyphs.new positions.new) }
     {
         let mut pen = pen;

@@ -6,7 +6,7 @@ ghost use Rattle.shapers_base.specs.Font.{dotted_circle};
 ghost use Rattle.shapers_syllabic.specs.CircleLaws.{CirclesErased};
 ghost use Rattle.shapers_syllabic.specs.Circles.{circle_in, circled, circles_for, count_of_kind, rephas_len, with_circle, with_circles};
 ghost use Rattle.shapers_syllabic.specs.Reordering.{script_circles};
-ghost use Rattle.shapers_syllabic.specs.FirstBroken.{IsFirstBroken, IsLastBroken, IsOpened, is_of_other_kind};
+ghost use Rattle.shapers_syllabic.specs.FirstBroken.{IsFirstBroken, IsLastBroken, IsCircled, is_of_other_kind};
 ghost use Rattle.shapers_buffer.specs.Refusals.{RefusesLength};
 ghost use Rattle.shapers_buffer.specs.Syllables.{first_syllable_len, has_byte};
 
@@ -55,7 +55,7 @@ struct Places {
 /// where one is given, else in front. Returns false, with nothing changed, where no syllable is
 /// broken, the caller forbids circles or the font has none. Without its circles the text is what it
 /// was. Refuses with `TooLong` where the text would be longer than `max_len`, and with `Memory`;
-/// where no circle opens it takes none.
+/// where no circle is put in it takes none.
 ///
 /// # Errors
 ///
@@ -185,7 +185,7 @@ impl DottedCircles {
             return Ok(());
         }
         buffer.grow(count)?;
-        buffer.with_glyphs_mut(|glyphs| self.open_all(glyphs, len));
+        buffer.with_glyphs_mut(|glyphs| self.insert_all(glyphs, len));
         Ok(())
     }
 
@@ -203,10 +203,11 @@ impl DottedCircles {
         count
     }
 
-    // Opens each broken syllable of the text, of `len` glyphs, behind which stands room for as many
-    // circles. The text is written from behind, so that nothing is written over before it is read.
+    // Puts a circle into each broken syllable of the text, of `len` glyphs, behind which stands
+    // room for as many circles. The text is written from behind, so that nothing is written over
+    // before it is read.
     #[inline]
-    fn open_all(&self, glyphs: &mut [hb_glyph_info_t], len: usize)
+    fn insert_all(&self, glyphs: &mut [hb_glyph_info_t], len: usize)
         requires within { len ≤ length glyphs.old }
         requires room { let count = count_of_kind self.now.broken_kind (take len glyphs.old) in
             length glyphs.old ≡ len + count }
@@ -215,23 +216,23 @@ impl DottedCircles {
         let mut read = len;
         let mut left = glyphs.len() - len;
         while left > 0 {
-            read = self.open_last(glyphs, read, left);
+            read = self.insert_last(glyphs, read, left);
             left -= 1;
         }
     }
 
-    // Opens the last broken syllable of the first `read` glyphs, which move up, from it on, by as
-    // many places as they have broken syllables. Returns where it starts.
+    // Puts a circle into the last broken syllable of the first `read` glyphs, which move up, from
+    // it on, by as many places as they have broken syllables. Returns where it starts.
     #[inline]
-    fn open_last(&self, glyphs: &mut [hb_glyph_info_t], read: usize, left: usize) -> usize
+    fn insert_last(&self, glyphs: &mut [hb_glyph_info_t], read: usize, left: usize) -> usize
         requires some { 0 < left }
         requires in_range { read + left ≤ length glyphs.old }
         requires room { left ≡ count_of_kind self.now.broken_kind (take read glyphs.old) }
-        ensures { IsOpened self.now read left result glyphs.old glyphs.new }
+        ensures { IsCircled self.now read left result glyphs.old glyphs.new }
     {
         let broken = self.last_broken(&glyphs[..read]);
         move_up(glyphs, broken.end, read, left);
-        self.open(glyphs, broken, left);
+        self.insert_circle(glyphs, broken, left);
         broken.start
     }
 
@@ -249,7 +250,7 @@ impl DottedCircles {
 
     // Moves a syllable up by `left` places, and puts its circle into it, which takes one of them.
     #[inline]
-    fn open(&self, glyphs: &mut [hb_glyph_info_t], broken: Places, left: usize)
+    fn insert_circle(&self, glyphs: &mut [hb_glyph_info_t], broken: Places, left: usize)
         requires some { 0 < left }
         requires in_order { broken.start < broken.end }
         requires in_range { broken.end + left ≤ length glyphs.old }

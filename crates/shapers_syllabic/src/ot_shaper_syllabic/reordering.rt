@@ -5,7 +5,7 @@ ghost use Rattle.shapers_buffer.specs.Clusters.{stretch_of};
 ghost use Rattle.shapers_buffer.specs.Glyph.{default_glyph};
 ghost use Rattle.shapers_syllabic.specs.Borders.{MeetAtBorder};
 ghost use Rattle.shapers_syllabic.specs.Reordering.{RefusesIf, SyllablesLinked, TakesText, TextOrdered, glyph_numbers};
-ghost use Rattle.shapers_clusters.specs.CarriedGroups.{AreCarried, CanSettle, GroupsGuarded, GroupsSettled};
+ghost use Rattle.shapers_clusters.specs.CarriedGroups.{AreCarried, CanTakeBack, GroupsGuarded, GroupsTakenBack};
 ghost use Rattle.shapers_syllabic.specs.ReorderingWalk.{CarryingFits, NextChanging, ReorderedBehind, groups_written};
 ghost use Rattle.shapers_buffer.specs.Glyphs.{Glyphs};
 
@@ -242,23 +242,23 @@ impl<'a> GlyphWalk for Guarding<'a> {
 
 // The walk behind a syllable.
 #[derive(Drop)]
-struct Settling<'a> {
+struct TakingBack<'a> {
     groups: &'a mut CarriedGroups,
     count: usize,
 }
 
-impl<'a> GlyphWalk for Settling<'a> {
+impl<'a> GlyphWalk for TakingBack<'a> {
     ghost use Rattle.std.specs.Prelude.{◌≡◌};
-    ghost use Rattle.shapers_clusters.specs.CarriedGroups.{CanSettle, GroupsSettled};
+    ghost use Rattle.shapers_clusters.specs.CarriedGroups.{CanTakeBack, GroupsTakenBack};
 
-    ghost can_walk = { λ w gs. CanSettle w.groups.now w.count gs };
+    ghost can_walk = { λ w gs. CanTakeBack w.groups.now w.count gs };
 
-    ghost walks = { λ v w gs hs. GroupsSettled v.groups.now v.count gs w.groups.now hs
+    ghost walks = { λ v w gs hs. GroupsTakenBack v.groups.now v.count gs w.groups.now hs
         × (w.groups.ghost_name ≡ v.groups.ghost_name) };
 
     #[inline]
     fn walk(&mut self, glyphs: &mut [hb_glyph_info_t]) {
-        self.groups.settle(glyphs, self.count);
+        self.groups.take_back(glyphs, self.count);
     }
 }
 
@@ -303,14 +303,14 @@ impl Carrying {
     // Takes back the glyphs that stood for so many groups while a syllable was reordered, and
     // carries what it flooded.
     #[inline]
-    fn settle(&mut self, buffer: &mut hb_buffer_t, count: usize)
-        requires fits { CanSettle self.old.groups count buffer.old.glyphs }
-        ensures settled { GroupsSettled self.old.groups count buffer.old.glyphs
+    fn take_back(&mut self, buffer: &mut hb_buffer_t, count: usize)
+        requires fits { CanTakeBack self.old.groups count buffer.old.glyphs }
+        ensures settled { GroupsTakenBack self.old.groups count buffer.old.glyphs
             self.new.groups buffer.new.glyphs }
         ensures on { self.new.is_on ≡ self.old.is_on }
         ensures others { buffer.new ≡ record buffer.old { glyphs = buffer.new.glyphs } }
     {
-        buffer.walk(&mut Settling {
+        buffer.walk(&mut TakingBack {
             groups: &mut self.groups,
             count,
         });
@@ -410,7 +410,7 @@ fn reorder_guarded<R: ReorderBySteps>(
 {
     let count = carrying.guard(buffer, first, end);
     order.reorder(buffer, first, end)?;
-    carrying.settle(buffer, count);
+    carrying.take_back(buffer, count);
     Ok(())
 }
 

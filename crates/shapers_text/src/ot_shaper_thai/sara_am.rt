@@ -3,14 +3,14 @@ ghost use Rattle.std.specs.Prelude.{◌≡◌, ◌+◌, ◌^◌, ◌<◌, ◌≤
 ghost use Rattle.std.specs.List.{list_any};
 ghost use Rattle.shapers_buffer.specs.Glyph.{characters};
 ghost use Rattle.shapers_buffer.specs.Clusters.{merge_all};
-ghost use Rattle.shapers_buffer.specs.ClusterRuns.{RunFits, with_run};
+ghost use Rattle.shapers_buffer.specs.ClusterRanges.{RangeFits, with_range};
 ghost use Rattle.shapers_buffer.specs.Refusals.{RefusesLength};
 ghost use Rattle.shapers_text.specs.Thai.{is_sara_am, is_above_base, nikhahit, sara_aa, glyphs_in_two, stretch_of_sara_am, sara_am_stretches};
 ghost use Rattle.shapers_text.specs.ThaiWalk.{above_marks_before, merged_front, HasRoomForSaraAms, Written, IsUnwritten, rewritten_whole};
 
 use shapers_base::buffer::{
-    BufferClusterLevel, ClusterRun, GlyphWalk, ShaperError, hb_buffer_t, hb_glyph_info_t,
-    hb_unicode_general_category_t, merge_run_in, write_run_in,
+    BufferClusterLevel, ClusterRange, GlyphWalk, ShaperError, hb_buffer_t, hb_glyph_info_t,
+    hb_unicode_general_category_t, merge_range_in, write_range_in,
 };
 
 // SARA AM, of Thai and of Lao.
@@ -94,28 +94,28 @@ fn count_marks_before(glyphs: &[hb_glyph_info_t], place: usize) -> usize
 }
 
 // Merges what a SARA AM at `place` merges, its marks or, without any, the glyph before it, in the
-// glyphs with a run in its cluster. Returns the run that is to be written then.
+// glyphs with a range in its cluster. Returns the range that is to be written then.
 fn merge_sara_am(
     level: BufferClusterLevel,
     glyphs: &mut [hb_glyph_info_t],
-    run: ClusterRun,
+    run: ClusterRange,
     place: usize,
-) -> ClusterRun
+) -> ClusterRange
     requires in_range { place < length glyphs.old }
     requires room { place + 1 < 2 ^ 64 }
-    requires fits { RunFits run glyphs.old }
+    requires fits { RangeFits run glyphs.old }
     ensures merged { let stretches =
         stretch_of_sara_am level place (above_marks_before glyphs.old place) in
-        with_run result glyphs.new ≡ merge_all level stretches (with_run run glyphs.old) }
-    ensures fits { RunFits result glyphs.new }
+        with_range result glyphs.new ≡ merge_all level stretches (with_range run glyphs.old) }
+    ensures fits { RangeFits result glyphs.new }
 {
     let above = count_marks_before(glyphs, place);
     if above > 0 {
-        return merge_run_in(level, glyphs, run, place - above, place + 1);
+        return merge_range_in(level, glyphs, run, place - above, place + 1);
     }
     match level {
         BufferClusterLevel::MonotoneGraphemes if place > 0 => {
-            merge_run_in(level, glyphs, run, place - 1, place + 1)
+            merge_range_in(level, glyphs, run, place - 1, place + 1)
         }
         BufferClusterLevel::MonotoneGraphemes
         | BufferClusterLevel::MonotoneCharacters
@@ -128,13 +128,13 @@ fn merge_all_sara_am(level: BufferClusterLevel, glyphs: &mut [hb_glyph_info_t], 
     requires { len ≤ length glyphs.old }
     ensures { glyphs.new ≡ merged_front level len glyphs.old }
 {
-    let mut run = ClusterRun::NONE;
+    let mut run = ClusterRange::NONE;
     for i in 0..len {
         if is_sara_am(glyphs[i].glyph_id) {
             run = merge_sara_am(level, glyphs, run, i);
         }
     }
-    write_run_in(glyphs, run);
+    write_range_in(glyphs, run);
 }
 
 // What is still to be written: what the text before `end` becomes, over the places before `place`.

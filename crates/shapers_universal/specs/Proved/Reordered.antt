@@ -18,14 +18,14 @@ use Rattle.shapers_buffer.specs.Lists.{cut_after}
 use Rattle.shapers_buffer.specs.Places.{ListsEachOnce, listed, pick, placed}
 use Rattle.shapers_buffer.proofs.ClusterLemmas.{length-stretch, map-stretch, three_parts}
 use Rattle.shapers_buffer.proofs.Listing.{lists}
-use Rattle.shapers_clusters.specs.Steps.{FitSteps, MovesMerged, old_places, run_steps, widened}
+use Rattle.shapers_clusters.specs.Steps.{FitSteps, MovesMerged, old_places, after_steps, widened}
 use Rattle.shapers_clusters.proofs.Merging.{order_view-merge, order_view-merge_all}
 use Rattle.shapers_clusters.proofs.Moves.{within-old_places}
 use Rattle.shapers_clusters.proofs.Picks.{pick-pick, pick-range, within_range}
 use Rattle.shapers_clusters.proofs.Widened.{all_moves-widened, old_places-widened, order_view-widened, pick-widened}
 use Rattle.shapers_syllabic.specs.Reordering.{SyllableReordered, carried}
 use Rattle.shapers_syllabic.proofs.LinkedSyllables.{Stays}
-use Rattle.shapers_universal.specs.Universal.{goes_front, goes_front_at, is_reordered_in_universal, reph_run, reversed_first, universal_order, universal_steps}
+use Rattle.shapers_universal.specs.Universal.{goes_front, goes_front_at, is_reordered_in_universal, leading_reph_len, reversed_first, universal_order, universal_steps}
 use Rattle.shapers_universal.specs.UniversalWalk.{fronts_from, has_universal_reph, is_halant_at, may_reorder, syllable_places_in_order}
 use Rattle.shapers_universal.specs.declared.ot_shaper_use.category.TheConstants.{R}
 use Rattle.shapers_universal.specs.Proved.StepsAtOnce.{run_at_once}
@@ -43,7 +43,7 @@ map_same (x ∷ xs) = ap (λ ys. x ∷ ys) (map_same xs)
 
 pub syllable_reordered : (s e : ℕ) (old new : Buffer) → s ≤ e → e ≤ length old.glyphs
     → but_places new ≡ record (but_places old) { glyphs = new.glyphs }
-    → new.glyphs ≡ run_steps old.level
+    → new.glyphs ≡ after_steps old.level
     (map (widened s e (length old.glyphs)) (universal_steps (stretch_of s e old.glyphs))) old.glyphs
     → SyllableReordered universal_order universal_steps s e old new
 syllable_reordered s e old new h l others is =
@@ -65,7 +65,7 @@ syllable_reordered s e old new h l others is =
       order = ap order_view is ∙ order_view-widened old.level s e steps gs h l fits
           ∙ ap (λ ys. take s xs ++ (ys ++ drop e xs)) picked;
       moved = ap (map carried) (is
-          ∙ ap (λ sts. run_steps old.level (map (widened s e (length gs)) sts) gs) (sym (universal_steps-view zs)
+          ∙ ap (λ sts. after_steps old.level (map (widened s e (length gs)) sts) gs) (sym (universal_steps-view zs)
           ∙ ap universal_steps (map-stretch plain s e gs)));
     }
 
@@ -79,8 +79,8 @@ abbrev pub syllable_merges : ℕ → ℕ → ℕ → Glyphs → List (ℕ × ℕ
 syllable_merges s behind e gs = (s, behind) ∷ fronts_from s behind (stretch_of behind e gs)
 
 pub syllable_ran : (level : BufferClusterLevel) (s e behind : ℕ) (gs : Glyphs) → s ≤ e → e ≤ length gs
-    → is_reordered_in_universal (stretch_of s e gs) ≡ true → behind ≡ s + reph_run (stretch_of s e gs)
-    → run_steps level (map (widened s e (length gs)) (universal_steps (stretch_of s e gs))) gs
+    → is_reordered_in_universal (stretch_of s e gs) ≡ true → behind ≡ s + leading_reph_len (stretch_of s e gs)
+    → after_steps level (map (widened s e (length gs)) (universal_steps (stretch_of s e gs))) gs
     ≡ with_stretch s e
     (λ _. pick (syllable_places_in_order s behind e gs) (merge_all level (syllable_merges s behind e gs) gs))
     (merge_all level (syllable_merges s behind e gs) gs)
@@ -165,7 +165,7 @@ parts_permute s e behind b0 b3 m =
     subst (IsPermutation (range_with_len s (e - s))) (sym m.reads) (order-permuted s behind e b0.glyphs)
 
 pub parts_reordered : (s e behind : ℕ) (b0 b3 b4 : Buffer) → s ≤ e → e ≤ length b0.glyphs
-    → is_reordered_in_universal (stretch_of s e b0.glyphs) ≡ true → behind ≡ s + reph_run (stretch_of s e b0.glyphs)
+    → is_reordered_in_universal (stretch_of s e b0.glyphs) ≡ true → behind ≡ s + leading_reph_len (stretch_of s e b0.glyphs)
     → PartsMake s e behind b0 b3 → b4 ≡ record b3 { glyphs = placed s e b3.places b3.glyphs }
     → SyllableReordered universal_order universal_steps s e b0 b4
 parts_reordered s e behind b0 b3 b4 h l kind is m done =
@@ -206,7 +206,7 @@ still_order s e gs l none =
     ∙ still_pieces (goes_front_at gs) qs (ap (list_any (goes_front_at gs)) whole ∙ calm)
     ∙ whole
 
-pub no_reph : (gs : Glyphs) → has_universal_reph gs ≡ false → reph_run gs ≡ 0
+pub no_reph : (gs : Glyphs) → has_universal_reph gs ≡ false → leading_reph_len gs ≡ 0
 no_reph [] h = refl
 no_reph (g ∷ gs) h = rw h refl
 
@@ -219,9 +219,9 @@ merge_nothing level s gs =
 still_ran : (level : BufferClusterLevel) (s e : ℕ) (gs : Glyphs) → s ≤ e → e ≤ length gs
     → is_reordered_in_universal (stretch_of s e gs) ≡ true → has_universal_reph (stretch_of s e gs) ≡ false
     → list_any goes_front (stretch_of s e gs) ≡ false
-    → gs ≡ run_steps level (map (widened s e (length gs)) (universal_steps (stretch_of s e gs))) gs
+    → gs ≡ after_steps level (map (widened s e (length gs)) (universal_steps (stretch_of s e gs))) gs
 still_ran level s e gs h l kind reph none =
-    let is : s ≡ s + reph_run (stretch_of s e gs) = omega (arith, no_reph (stretch_of s e gs) reph) in
+    let is : s ≡ s + leading_reph_len (stretch_of s e gs) = omega (arith, no_reph (stretch_of s e gs) reph) in
     let nothing : merge_all level (syllable_merges s s e gs) gs ≡ gs =
     ap (λ sts. merge_all level sts (merge level s s gs)) (fronts_from-none s s (stretch_of s e gs) none)
     ∙ merge_nothing level s gs in
@@ -233,7 +233,7 @@ still_ran level s e gs h l kind reph none =
 
 other_kind : (level : BufferClusterLevel) (s e : ℕ) (gs : Glyphs)
     → is_reordered_in_universal (stretch_of s e gs) ≡ false
-    → gs ≡ run_steps level (map (widened s e (length gs)) (universal_steps (stretch_of s e gs))) gs
+    → gs ≡ after_steps level (map (widened s e (length gs)) (universal_steps (stretch_of s e gs))) gs
 other_kind level s e gs kind = rw kind refl
 
 pub still_reordered : (s e : ℕ) (b : Buffer) → s ≤ e → e ≤ length b.glyphs

@@ -11,9 +11,9 @@ use Rattle.shapers_buffer.specs.Places.{pick}
 use Rattle.shapers_clusters.specs.Cuts.{ShareCluster}
 use Rattle.shapers_clusters.specs.Flags.{FallsTo}
 use Rattle.shapers_clusters.specs.ClusterMerges.{joined_all}
-use Rattle.shapers_clusters.specs.Steps.{MovesMerged, Step, all_first, old_places, run_steps}
+use Rattle.shapers_clusters.specs.Steps.{MovesMerged, Step, all_first, old_places, after_steps}
 use Rattle.shapers_clusters.proofs.Falls.{merge_all-falls}
-use Rattle.shapers_clusters.proofs.Moves.{clusters-merge_all, clusters-run_steps, clusters_stay, end_within-all_first, falls-run_steps, joined-merged_steps, length-old_places, merge_all-unmerged, merged_fits, run_steps-unmerged, share-moved, within-old_places}
+use Rattle.shapers_clusters.proofs.Moves.{clusters-merge_all, clusters-after_steps, clusters_stay, end_within-all_first, falls-after_steps, joined-merged_steps, length-old_places, merge_all-unmerged, merged_fits, after_steps-unmerged, share-moved, within-old_places}
 use Rattle.shapers_clusters.proofs.Neighbours.{length-joined_all}
 use Rattle.shapers_clusters.proofs.Picks.{AllZip-pick, pick-map}
 
@@ -50,7 +50,7 @@ moved_clusters level m steps cs f =
 
 pub run_at_once : (level : BufferClusterLevel) (steps : List Step) (gs : Glyphs)
     → AllByRecursion (MovesMerged (length gs)) steps
-    → run_steps level steps gs ≡ pick (old_places (length gs) steps) (merge_all level (all_first steps) gs)
+    → after_steps level steps gs ≡ pick (old_places (length gs) steps) (merge_all level (all_first steps) gs)
 run_at_once level steps gs f =
     let n = length gs in
     let olds = old_places n steps in
@@ -60,17 +60,17 @@ run_at_once level steps gs f =
           let cs = clusters gs in
           let size : length cs ≡ n = length-map gs (λ g. g.cluster) in
           let g = subst (λ k. AllByRecursion (MovesMerged k) steps) (sym size) f in
-          let x = (falls-run_steps level steps gs (merged_fits n steps f)).1 in
+          let x = (falls-after_steps level steps gs (merged_fits n steps f)).1 in
           let y = AllZip-pick FallsTo olds gs ms
           (merge_all-falls level (all_first steps) gs (end_within-all_first n steps f)) in
-          let first : clusters (run_steps level steps gs) ≡ joined_all level (all_first steps) cs =
-          clusters-run_steps level steps gs ∙ joined-merged_steps level on steps cs g in
+          let first : clusters (after_steps level steps gs) ≡ joined_all level (all_first steps) cs =
+          clusters-after_steps level steps gs ∙ joined-merged_steps level on steps cs g in
           let second : clusters (pick olds ms) ≡ joined_all level (all_first steps) cs =
           sym (pick-map (λ (g : Glyph). g.cluster) olds ms)
           ∙ ap (pick olds) (clusters-merge_all level (all_first steps) gs)
           ∙ ap (λ k. pick (old_places k steps) (joined_all level (all_first steps) cs)) (sym size)
           ∙ moved_clusters level on steps cs g in
-          same_fall (pick olds gs) (run_steps level steps gs) (pick olds ms) x y (first ∙ sym second)
-      | inr off ↦ run_steps-unmerged level off steps gs
+          same_fall (pick olds gs) (after_steps level steps gs) (pick olds ms) x y (first ∙ sym second)
+      | inr off ↦ after_steps-unmerged level off steps gs
           ∙ ap (pick olds) (sym (merge_all-unmerged level off (all_first steps) gs))
     ]

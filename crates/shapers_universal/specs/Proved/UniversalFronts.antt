@@ -6,20 +6,20 @@ use Rattle.std.proofs.lemmas.Bool.Decides.{nat_tests}
 use Rattle.std.proofs.lemmas.List.{append-nil, get_or-map, length-map}
 use Rattle.std.proofs.lemmas.List.Folds.{list_any-append}
 use Rattle.shapers_buffer.specs.Glyphs.{Glyph, Glyphs}
-use Rattle.shapers_buffer.specs.declared.buffer.cluster_runs.ClusterRun.{ClusterRun}
-use Rattle.shapers_buffer.specs.ClusterRuns.{RunFits, with_run}
+use Rattle.shapers_buffer.specs.declared.buffer.cluster_ranges.ClusterRange.{ClusterRange}
+use Rattle.shapers_buffer.specs.ClusterRanges.{RangeFits, with_range}
 use Rattle.shapers_buffer.specs.Clusters.{merge, merge_all, stretch_of}
 use Rattle.shapers_buffer.specs.Buffer.{Buffer}
 use Rattle.shapers_buffer.specs.Glyph.{default_glyph, order_view, plain}
 use Rattle.shapers_buffer.specs.Lists.{cut_after, first_last}
 use Rattle.shapers_buffer.proofs.ClusterLemmas.{length-stretch}
 use Rattle.shapers_clusters.specs.Steps.{all_first, shifted, steps_along, widened}
-use Rattle.shapers_clusters.proofs.Merging.{order_view-merge, order_view-with_run}
-use Rattle.shapers_universal.specs.Universal.{goes_front, goes_front_at, is_universal_halant, is_reordered_in_universal, piece_step, piece_steps, reph_run, universal_steps}
+use Rattle.shapers_clusters.proofs.Merging.{order_view-merge, order_view-with_range}
+use Rattle.shapers_universal.specs.Universal.{goes_front, goes_front_at, is_universal_halant, is_reordered_in_universal, piece_step, piece_steps, leading_reph_len, universal_steps}
 use Rattle.shapers_universal.specs.UniversalWalk.{fronts_from}
 use Rattle.shapers_universal.specs.Proved.UniversalLists.{length-first_last}
 use Rattle.shapers_universal.specs.Proved.UniversalPlaces.{at, first_last-any, reph_calm, rest_of, stretch_more}
-use Rattle.shapers_universal.specs.Proved.UniversalSteps.{reph_run-within}
+use Rattle.shapers_universal.specs.Proved.UniversalSteps.{leading_reph_len-within}
 use Rattle.shapers_universal.specs.Proved.UniversalWalks.{steps_widened}
 
 -- what merges in a piece that starts at a, from place i on
@@ -176,19 +176,19 @@ fronts_pieces n a xs (y ∷ ys) none =
 
 -- all that a syllable merges
 pub all_merges : (s e behind : ℕ) (gs : Glyphs) → s ≤ e → e ≤ length gs
-    → is_reordered_in_universal (stretch_of s e gs) ≡ true → behind ≡ s + reph_run (stretch_of s e gs)
+    → is_reordered_in_universal (stretch_of s e gs) ≡ true → behind ≡ s + leading_reph_len (stretch_of s e gs)
     → all_first (map (widened s e (length gs)) (universal_steps (stretch_of s e gs)))
     ≡ (s, behind) ∷ fronts_from s behind (stretch_of behind e gs)
 all_merges s e behind gs h l kind is =
     let zs = stretch_of s e gs in
-    let r = reph_run zs in
+    let r = leading_reph_len zs in
     let run = first_last (take r zs) in
     let size = length-stretch s e gs l in
-    let within : r ≤ e - s = omega (arith, reph_run-within zs) in
+    let within : r ≤ e - s = omega (arith, leading_reph_len-within zs) in
     let calm = reph_calm zs in
     let rest : drop r zs ≡ stretch_of behind e gs = rest_of s e behind r gs is within in
     let long : s + length run ≡ behind =
-    omega (arith, length-first_last (take r zs), length-take-le r zs (omega (arith, reph_run-within zs))) in
+    omega (arith, length-first_last (take r zs), length-take-le r zs (omega (arith, leading_reph_len-within zs))) in
     let none : s + 0 ≡ s = omega arith in
     ap all_first (steps_widened s e gs h l kind)
     ∙ ap (λ k. (k, s + r) ∷ merges_along (length gs) s (first_last (take r zs) ++ drop r zs)) none
@@ -223,14 +223,14 @@ seen_at t blind i gs hs l same =
 
 -- The walk that merges, on its way: what is left to merge makes of the glyphs, with a run that isn't written yet, what
 -- they become.
-pub record Merging (s behind e start i : ℕ) (run : ClusterRun) (b0 b : Buffer) : Type 0 where
+pub record Merging (s behind e start i : ℕ) (run : ClusterRange) (b0 b : Buffer) : Type 0 where
   pub others : b ≡ record b0 { glyphs = b.glyphs }
-  pub left : merge_all b0.level (fronts_from start i (stretch_of i e b0.glyphs)) (with_run run b.glyphs)
+  pub left : merge_all b0.level (fronts_from start i (stretch_of i e b0.glyphs)) (with_range run b.glyphs)
       ≡ merge_all b0.level (fronts_from s behind (stretch_of behind e b0.glyphs)) b0.glyphs
   pub view : order_view b.glyphs ≡ order_view b0.glyphs
   pub as_long : length b.glyphs ≡ length b0.glyphs
   pub started : start ≤ i
-  pub fits : RunFits run b.glyphs
+  pub fits : RangeFits run b.glyphs
 
 pub merging_starts : (s behind e : ℕ) (b : Buffer) → s ≤ behind
     → Merging s behind e s behind (record { start = 0; end = 0; cluster = 0 }) b b
@@ -248,9 +248,9 @@ merging_starts s behind e b h =
 next_is : (i : ℕ) → suc i ≡ i + 1
 next_is i = omega arith
 
-pub merging_front : (s behind e start i : ℕ) (run next : ClusterRun) (b0 b b1 : Buffer) → i < e → e ≤ length b0.glyphs
+pub merging_front : (s behind e start i : ℕ) (run next : ClusterRange) (b0 b b1 : Buffer) → i < e → e ≤ length b0.glyphs
     → Merging s behind e start i run b0 b → goes_front (at b.glyphs i) ≡ true → b1 ≡ record b { glyphs = b1.glyphs }
-    → with_run next b1.glyphs ≡ merge b.level start (i + 1) (with_run run b.glyphs) → RunFits next b1.glyphs
+    → with_range next b1.glyphs ≡ merge b.level start (i + 1) (with_range run b.glyphs) → RangeFits next b1.glyphs
     → length b1.glyphs ≡ length b.glyphs → Merging s behind e start (i + 1) next b0 b1
 merging_front s behind e start i run next b0 b b1 h l m passes others merged fits long =
     let gs = b0.glyphs in
@@ -266,17 +266,17 @@ merging_front s behind e start i run next b0 b b1 h l m passes others merged fit
     record {
       others = others ∙ ap (λ (x : Buffer). let y : Buffer = record x { glyphs = b1.glyphs } in y) m.others;
       left = ap (merge_all b0.level (fronts_from start (i + 1) (stretch_of (i + 1) e gs))) (merged
-          ∙ ap (λ v. merge v start (i + 1) (with_run run b.glyphs)) level)
-          ∙ ap (λ sts. merge_all b0.level sts (with_run run b.glyphs)) (sym here) ∙ m.left;
-      view = sym (order_view-with_run next b1.glyphs fits.in_order) ∙ ap order_view merged
-          ∙ order_view-merge b.level start (i + 1) (with_run run b.glyphs)
-          ∙ order_view-with_run run b.glyphs m.fits.in_order ∙ m.view;
+          ∙ ap (λ v. merge v start (i + 1) (with_range run b.glyphs)) level)
+          ∙ ap (λ sts. merge_all b0.level sts (with_range run b.glyphs)) (sym here) ∙ m.left;
+      view = sym (order_view-with_range next b1.glyphs fits.in_order) ∙ ap order_view merged
+          ∙ order_view-merge b.level start (i + 1) (with_range run b.glyphs)
+          ∙ order_view-with_range run b.glyphs m.fits.in_order ∙ m.view;
       as_long = long ∙ m.as_long;
       started = omega (arith, m.started);
       fits = fits;
     }
 
-pub merging_halant : (s behind e start i : ℕ) (run : ClusterRun) (b0 b b1 : Buffer) → i < e → e ≤ length b0.glyphs
+pub merging_halant : (s behind e start i : ℕ) (run : ClusterRange) (b0 b b1 : Buffer) → i < e → e ≤ length b0.glyphs
     → Merging s behind e start i run b0 b → goes_front (at b.glyphs i) ≡ false → is_universal_halant (at b.glyphs i)
     ≡ true → b1 ≡ b → Merging s behind e (i + 1) (i + 1) run b0 b1
 merging_halant s behind e start i run b0 b b1 h l m fails ends same =
@@ -293,14 +293,14 @@ merging_halant s behind e start i run b0 b b1 h l m fails ends same =
     ∙ ap (λ k. fronts_from k k (stretch_of k e gs)) (next_is i) in
     subst (Merging s behind e (i + 1) (i + 1) run b0) (sym same) (record {
       others = m.others;
-      left = ap (λ sts. merge_all b0.level sts (with_run run b.glyphs)) (sym on) ∙ m.left;
+      left = ap (λ sts. merge_all b0.level sts (with_range run b.glyphs)) (sym on) ∙ m.left;
       view = m.view;
       as_long = m.as_long;
       started = omega arith;
       fits = m.fits;
     })
 
-pub merging_rest : (s behind e start i : ℕ) (run : ClusterRun) (b0 b b1 : Buffer) → i < e → e ≤ length b0.glyphs
+pub merging_rest : (s behind e start i : ℕ) (run : ClusterRange) (b0 b b1 : Buffer) → i < e → e ≤ length b0.glyphs
     → Merging s behind e start i run b0 b → goes_front (at b.glyphs i) ≡ false → is_universal_halant (at b.glyphs i)
     ≡ false → b1 ≡ b → Merging s behind e start (i + 1) run b0 b1
 merging_rest s behind e start i run b0 b b1 h l m fails goes same =
@@ -317,20 +317,20 @@ merging_rest s behind e start i run b0 b b1 h l m fails goes same =
     ∙ ap (λ k. fronts_from start k (stretch_of k e gs)) (next_is i) in
     subst (Merging s behind e start (i + 1) run b0) (sym same) (record {
       others = m.others;
-      left = ap (λ sts. merge_all b0.level sts (with_run run b.glyphs)) (sym on) ∙ m.left;
+      left = ap (λ sts. merge_all b0.level sts (with_range run b.glyphs)) (sym on) ∙ m.left;
       view = m.view;
       as_long = m.as_long;
       started = omega (arith, m.started);
       fits = m.fits;
     })
 
-pub merging_ends : (s behind e start i : ℕ) (run : ClusterRun) (b0 b b1 : Buffer) → e ≤ i
-    → Merging s behind e start i run b0 b → b1 ≡ record b { glyphs = with_run run b.glyphs }
+pub merging_ends : (s behind e start i : ℕ) (run : ClusterRange) (b0 b b1 : Buffer) → e ≤ i
+    → Merging s behind e start i run b0 b → b1 ≡ record b { glyphs = with_range run b.glyphs }
     → b1 ≡ record b0 { glyphs = merge_all b0.level (fronts_from s behind (stretch_of behind e b0.glyphs)) b0.glyphs }
 merging_ends s behind e start i run b0 b b1 h m is =
-    is ∙ ap (λ (x : Buffer). let y : Buffer = record x { glyphs = with_run run b.glyphs } in y) m.others
+    is ∙ ap (λ (x : Buffer). let y : Buffer = record x { glyphs = with_range run b.glyphs } in y) m.others
     ∙ ap (λ xs. let y : Buffer = record b0 { glyphs = xs } in y)
-    (ap (λ sts. merge_all b0.level sts (with_run run b.glyphs)) (sym (fronts_end start i e b0.glyphs h)) ∙ m.left)
+    (ap (λ sts. merge_all b0.level sts (with_range run b.glyphs)) (sym (fronts_end start i e b0.glyphs h)) ∙ m.left)
 
 -- what looks the same merges the same, and where nothing goes to the front nothing does
 pub fronts_from-view : (a i : ℕ) (gs : Glyphs) → fronts_from a i (order_view gs) ≡ fronts_from a i gs

@@ -24,12 +24,12 @@ use Rattle.shapers_clusters.proofs.Moves.{length-old_places, moved_by_old_places
 use Rattle.shapers_clusters.proofs.Picks.{length-pick}
 use Rattle.shapers_clusters.proofs.Widened.{old_places-widened, pick-widened, range-append}
 use Rattle.shapers_syllabic.proofs.ReorderingLemmas.{old_places_one}
-use Rattle.shapers_universal.specs.Universal.{first_behind, goes_front, goes_front_at, is_universal_halant, reph_passes, is_reordered_in_universal, piece_step, piece_steps, pieces, reph_moved, reph_run, universal_reph_step, reversed_first, universal_steps}
+use Rattle.shapers_universal.specs.Universal.{first_behind, goes_front, goes_front_at, is_universal_halant, reph_passes, is_reordered_in_universal, piece_step, piece_steps, pieces, reph_moved, leading_reph_len, universal_reph_step, reversed_first, universal_steps}
 use Rattle.shapers_universal.specs.UniversalWalk.{first_piece_len, is_halant_at, piece_places, syllable_places_in_order}
 use Rattle.shapers_syllabic.proofs.NonePass.{filter-none, filter_not-none}
 use Rattle.shapers_universal.specs.Proved.UniversalLists.{cut_after-concat, first_behind-map, length-first_behind, length-first_last, permuted-first_behind, permuted-reversed_first, pick-first_behind, pick-reversed_first}
 use Rattle.shapers_universal.specs.Proved.Pieces.{cut_first}
-use Rattle.shapers_universal.specs.Proved.UniversalSteps.{all_pieces, piece_fits, pieces_sum, reph_run-within}
+use Rattle.shapers_universal.specs.Proved.UniversalSteps.{all_pieces, piece_fits, pieces_sum, leading_reph_len-within}
 use Rattle.shapers_clusters.proofs.Permuted.{permuted-first_last}
 
 -- the glyph at a place, and the tests of what stands there
@@ -172,18 +172,18 @@ along_places gs (q ∷ qs) =
 
 -- the steps of a syllable lead to its places in order
 pub steps_place : (s e behind : ℕ) (gs : Glyphs) → s ≤ e → e ≤ length gs
-    → is_reordered_in_universal (stretch_of s e gs) ≡ true → behind ≡ s + reph_run (stretch_of s e gs)
+    → is_reordered_in_universal (stretch_of s e gs) ≡ true → behind ≡ s + leading_reph_len (stretch_of s e gs)
     → pick (old_places (e - s) (universal_steps (stretch_of s e gs))) (range_with_len s (e - s))
     ≡ syllable_places_in_order s behind e gs
 steps_place s e behind gs h l kind is =
     let zs = stretch_of s e gs in
     let n = e - s in
     let size : length zs ≡ n = length-stretch s e gs l in
-    let r = reph_run zs in
+    let r = leading_reph_len zs in
     let m : behind - s ≡ r = omega arith in
     let all = range_with_len s n in
     let long : length all ≡ n = length-range_with_len s n in
-    let within : r ≤ length all = omega (arith, reph_run-within zs) in
+    let within : r ≤ length all = omega (arith, leading_reph_len-within zs) in
     let labels = first_behind r all in
     let longer : length labels ≡ n = length-first_behind r all ∙ long in
     let qs = cut_after (is_halant_at gs) labels in
@@ -254,7 +254,7 @@ calm_passed (g ∷ gs) = elim (cases_Bool (reph_passes g)) [
   | inr fails ↦ rw fails (record { no_halant = refl; no_front = refl })
 ]
 
-pub reph_calm : (gs : Glyphs) → Calm (take (reph_run gs) gs)
+pub reph_calm : (gs : Glyphs) → Calm (take (leading_reph_len gs) gs)
 reph_calm [] = record { no_halant = refl; no_front = refl }
 reph_calm (g ∷ gs) = elim (cases_Bool (nat_eq g.category 18)) [
   | inl passes ↦ rw passes (calm_more g (take (prefix_len reph_passes gs) gs) (reph_is g passes) (calm_passed gs))
@@ -277,12 +277,12 @@ pub record CalmPlaces (s behind : ℕ) (gs : Glyphs) : Type 0 where
   pub no_front : list_any (goes_front_at gs) (first_last (range_with_len s (behind - s))) ≡ false
 
 pub calm_places : (s e behind : ℕ) (gs : Glyphs) → s ≤ e → e ≤ length gs
-    → behind ≡ s + reph_run (stretch_of s e gs) → CalmPlaces s behind gs
+    → behind ≡ s + leading_reph_len (stretch_of s e gs) → CalmPlaces s behind gs
 calm_places s e behind gs h l is =
     let zs = stretch_of s e gs in
-    let r = reph_run zs in
+    let r = leading_reph_len zs in
     let m : behind - s ≡ r = omega arith in
-    let within : r ≤ e - s = omega (arith, reph_run-within zs, length-stretch s e gs l) in
+    let within : r ≤ e - s = omega (arith, leading_reph_len-within zs, length-stretch s e gs l) in
     let first : take r zs ≡ map (at gs) (range_with_len s (behind - s)) =
     take-take r (e - s) (drop s gs) within ∙ ap (λ k. take k (drop s gs)) (sym m)
     ∙ stretch_at s behind gs (omega arith) in

@@ -20,7 +20,7 @@ use Rattle.shapers_clusters.proofs.Permuted.{permutes-widened, fits_permuted, le
 use Rattle.shapers_clusters.proofs.Picks.{within_at, within_range}
 use Rattle.shapers_clusters.proofs.Swaps.{still_moves_merged}
 use Rattle.shapers_clusters.proofs.Widened.{all_along, fits-widened, moves-widened}
-use Rattle.shapers_universal.specs.Universal.{first_behind, goes_front_at, is_universal_halant, reph_passes, is_reordered_in_universal, piece_step, piece_steps, pieces, places_within, reph_moved, reph_run, universal_reph_step, reversed_first, universal_steps}
+use Rattle.shapers_universal.specs.Universal.{first_behind, goes_front_at, is_universal_halant, reph_passes, is_reordered_in_universal, piece_step, piece_steps, pieces, places_within, reph_moved, leading_reph_len, universal_reph_step, reversed_first, universal_steps}
 use Rattle.shapers_syllabic.proofs.NonePass.{filter-none, filter_not-none}
 use Rattle.shapers_universal.specs.Proved.UniversalLists.{all-filter, cut_after-concat, length-first_behind, length-first_last, permuted-first_behind, permuted-reversed_first, reversed_first-append, take-range}
 
@@ -57,9 +57,9 @@ one_holds : (k r : ℕ) → 0 < r → r < k → (nat_lt 0 r && nat_lt r k) ≡ t
 one_holds k r a b = grind (arith, nat_tests)
 
 -- the step of the reph
-pub reph_run-within : (gs : Glyphs) → reph_run gs ≤ length gs
-reph_run-within [] = omega arith
-reph_run-within (g ∷ gs) =
+pub leading_reph_len-within : (gs : Glyphs) → leading_reph_len gs ≤ length gs
+leading_reph_len-within [] = omega arith
+leading_reph_len-within (g ∷ gs) =
     let l = prefix_len-le-length reph_passes gs in
     elim (nat_eq g.category 18) as (λ b. (if b then suc (prefix_len reph_passes gs) else 0) ≤ suc (length gs)) [
       | true ↦ omega arith
@@ -67,17 +67,17 @@ reph_run-within (g ∷ gs) =
     ]
 
 pub reph_permutes : (gs : Glyphs) → Permutes (length gs) (universal_reph_step gs)
-reph_permutes gs = permuted-first_behind (reph_run gs) (range_with_len 0 (length gs))
+reph_permutes gs = permuted-first_behind (leading_reph_len gs) (range_with_len 0 (length gs))
 
 pub reph_fits : (gs : Glyphs) → FitsStep (length gs) (universal_reph_step gs)
 reph_fits gs =
-    fits_permuted (length gs) (universal_reph_step gs) (reph_permutes gs) (reph_run-within gs, tt) tt
+    fits_permuted (length gs) (universal_reph_step gs) (reph_permutes gs) (leading_reph_len-within gs, tt) tt
 
 pub reph_moves : (gs : Glyphs) → MovesMerged (length gs) (universal_reph_step gs)
 reph_moves gs =
     let n = length gs in
-    let k = reph_run gs in
-    let l = reph_run-within gs in
+    let k = leading_reph_len gs in
+    let l = leading_reph_len-within gs in
     let front = first_last (take k (range_with_len 0 n)) in
     let long : length (take k (range_with_len 0 n)) ≡ k =
     length-take-le k (range_with_len 0 n) (omega (arith, length-range_with_len 0 n)) in
@@ -187,7 +187,7 @@ sum_pieces (piece ∷ ps) =
 
 pub pieces_sum : (gs : Glyphs) → sum_by (λ piece. piece.0) (piece_steps (pieces gs)) ≡ length gs
 pieces_sum gs = sum_pieces (pieces gs) ∙ ap length (cut_after-concat is_universal_halant (reph_moved gs))
-    ∙ length-first_behind (reph_run gs) gs
+    ∙ length-first_behind (leading_reph_len gs) gs
 
 pub all_pieces : (P : ℕ → Step → Type 0) → ((gs : Glyphs) → P (length gs) (piece_step gs))
     → (ps : List Glyphs) → AllByRecursion (λ piece. AllByRecursion (P piece.0) piece.1) (piece_steps ps)

@@ -11,23 +11,23 @@ use Rattle.shapers_buffer.specs.Lists.{cut_after}
 use Rattle.shapers_buffer.specs.Places.{pick}
 use Rattle.shapers_buffer.proofs.MappedLists.{cut_after-map, prefix_len-map}
 use Rattle.shapers_clusters.specs.Flags.{seen}
-use Rattle.shapers_clusters.specs.Steps.{FitsStep, Step, old_places, reordered_along, run_steps, steps_along}
-use Rattle.shapers_clusters.proofs.Moves.{order_view-run_steps}
+use Rattle.shapers_clusters.specs.Steps.{FitsStep, Step, old_places, reordered_along, after_steps, steps_along}
+use Rattle.shapers_clusters.proofs.Moves.{order_view-after_steps}
 use Rattle.shapers_clusters.proofs.Picks.{pick-all, pick-map}
 use Rattle.shapers_clusters.proofs.Widened.{order_view-along}
 use Rattle.shapers_syllabic.specs.Reordering.{carried}
 use Rattle.shapers_syllabic.specs.ReorderingLaws.{ReorderLaws}
 use Rattle.shapers_syllabic.proofs.ReorderingLemmas.{old_places_one}
 use Rattle.shapers_syllabic.proofs.Views.{KeepsKinds, View, plain_view, seen_by, shown}
-use Rattle.shapers_universal.specs.Universal.{first_behind, goes_front, goes_front_at, is_universal_halant, reph_passes, is_reordered_in_universal, piece_step, piece_steps, pieces, places_within, reph_moved, reph_run, universal_reph_step, reversed_first, universal_order, universal_steps}
+use Rattle.shapers_universal.specs.Universal.{first_behind, goes_front, goes_front_at, is_universal_halant, reph_passes, is_reordered_in_universal, piece_step, piece_steps, pieces, places_within, reph_moved, leading_reph_len, universal_reph_step, reversed_first, universal_order, universal_steps}
 use Rattle.shapers_universal.specs.Proved.UniversalLists.{cut_after-concat, filter-same, first_behind-map, length-first_behind, mapped_twice, pick-first_behind, pick-reversed_first, reversed_first-map}
-use Rattle.shapers_universal.specs.Proved.UniversalSteps.{all_pieces, piece_fits, pieces_sum, reph_run-within, universal_fits, universal_permutes}
+use Rattle.shapers_universal.specs.Proved.UniversalSteps.{all_pieces, piece_fits, pieces_sum, leading_reph_len-within, universal_fits, universal_permutes}
 
 -- what the step of the reph picks
 pub reph_picks : (h : Glyph → Glyph) (gs : Glyphs)
     → pick (universal_reph_step gs).places (map h gs) ≡ map h (reph_moved gs)
 reph_picks h gs = pick-map h (universal_reph_step gs).places gs
-    ∙ ap (map h) (pick-first_behind (reph_run gs) gs (reph_run-within gs))
+    ∙ ap (map h) (pick-first_behind (leading_reph_len gs) gs (leading_reph_len-within gs))
 
 -- and that of a piece
 front_told : (gs : Glyphs) (p : ℕ) (x : Glyph) → slice_get gs p ≡ Some x
@@ -62,17 +62,17 @@ along_pieces f (piece ∷ ps) =
 
 -- the steps of a syllable that is reordered, over what h makes of its glyphs
 steps_lead : (h : Glyph → Glyph) (gs : Glyphs)
-    → order_view (run_steps Characters (universal_reph_step gs ∷ steps_along (length gs) 0 (piece_steps (pieces gs)))
+    → order_view (after_steps Characters (universal_reph_step gs ∷ steps_along (length gs) 0 (piece_steps (pieces gs)))
     (map h gs)) ≡ order_view (map h (flat_map (reversed_first goes_front) (pieces gs)))
 steps_lead h gs =
     let ps = pieces gs in
     let zs = map h (reph_moved gs) in
-    let long : length zs ≡ length gs = length-map (reph_moved gs) h ∙ length-first_behind (reph_run gs) gs in
+    let long : length zs ≡ length gs = length-map (reph_moved gs) h ∙ length-first_behind (leading_reph_len gs) gs in
     let fit = all_pieces FitsStep piece_fits ps in
     let whole : zs ≡ map h (flat_map (λ piece. piece) ps) =
     ap (map h) (sym (cut_after-concat is_universal_halant (reph_moved gs))) in
-    ap (λ ys. order_view (run_steps Characters (steps_along (length gs) 0 (piece_steps ps)) ys)) (reph_picks h gs)
-    ∙ ap (λ n. order_view (run_steps Characters (steps_along n 0 (piece_steps ps)) zs)) (sym long)
+    ap (λ ys. order_view (after_steps Characters (steps_along (length gs) 0 (piece_steps ps)) ys)) (reph_picks h gs)
+    ∙ ap (λ n. order_view (after_steps Characters (steps_along n 0 (piece_steps ps)) zs)) (sym long)
     ∙ order_view-along Characters 0 (piece_steps ps) zs (omega (arith, pieces_sum gs)) fit
     ∙ ap (λ ys. reordered_along (piece_steps ps) (order_view ys)) whole
     ∙ ap (reordered_along (piece_steps ps)) (mapped_twice plain h (flat_map (λ piece. piece) ps))
@@ -93,7 +93,7 @@ picked_order h gs =
       | true ↦
           let steps = universal_reph_step gs ∷ steps_along n 0 (piece_steps (pieces gs)) in
           ap (λ k. pick (old_places k steps) (order_view (map h gs))) (sym long)
-          ∙ sym (order_view-run_steps Characters steps (map h gs))
+          ∙ sym (order_view-after_steps Characters steps (map h gs))
           ∙ steps_lead h gs
       | false ↦ pick-all n (order_view (map h gs)) (length-map (map h gs) plain ∙ long)
     ]
@@ -110,9 +110,9 @@ pub universal_laws : ReorderLaws universal_order universal_steps
 universal_laws = record { fits = universal_fits; permutes = universal_permutes; agrees = universal_agrees }
 
 -- clusters, masks and serials are not seen
-reph_run-seen : (v : View) (gs : Glyphs) → reph_run (seen_by v gs) ≡ reph_run gs
-reph_run-seen v [] = refl
-reph_run-seen v (g ∷ gs) = ap (λ k. if nat_eq g.category 18 then suc k else 0) (prefix_len-map reph_passes (shown v) gs)
+leading_reph_len-seen : (v : View) (gs : Glyphs) → leading_reph_len (seen_by v gs) ≡ leading_reph_len gs
+leading_reph_len-seen v [] = refl
+leading_reph_len-seen v (g ∷ gs) = ap (λ k. if nat_eq g.category 18 then suc k else 0) (prefix_len-map reph_passes (shown v) gs)
 
 is_reordered-seen : (v : View) → KeepsKinds v → (gs : Glyphs) → is_reordered_in_universal (seen_by v gs)
     ≡ is_reordered_in_universal gs
@@ -121,8 +121,8 @@ is_reordered-seen v kinds (g ∷ gs) =
     ap (λ k. list_any (λ category. category == k) (0 ∷ (1 ∷ (2 ∷ (7 ∷ []))))) (kinds g.syllable)
 
 reph_moved-seen : (v : View) (gs : Glyphs) → reph_moved (seen_by v gs) ≡ seen_by v (reph_moved gs)
-reph_moved-seen v gs = ap (λ k. first_behind k (seen_by v gs)) (reph_run-seen v gs)
-    ∙ first_behind-map (shown v) (reph_run gs) gs
+reph_moved-seen v gs = ap (λ k. first_behind k (seen_by v gs)) (leading_reph_len-seen v gs)
+    ∙ first_behind-map (shown v) (leading_reph_len gs) gs
 
 pub pieces_cut-seen : (v : View) (gs : Glyphs) → cut_after is_universal_halant (seen_by v gs)
     ≡ map (seen_by v) (cut_after is_universal_halant gs)
@@ -181,7 +181,7 @@ reph_step-seen v gs =
       merged_then =
           [];
     } in
-    ap (λ k. step k (length (seen_by v gs))) (reph_run-seen v gs) ∙ ap (step (reph_run gs)) (length-map gs (shown v))
+    ap (λ k. step k (length (seen_by v gs))) (leading_reph_len-seen v gs) ∙ ap (step (leading_reph_len gs)) (length-map gs (shown v))
 
 pub universal_steps-seen : (v : View) → KeepsKinds v → (gs : Glyphs) → universal_steps (seen_by v gs)
     ≡ universal_steps gs

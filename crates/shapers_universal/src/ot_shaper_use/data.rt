@@ -5,7 +5,7 @@ ghost use Rattle.shapers_base.specs.declared.plan.PlanData.TheVariants.{Universa
 ghost use Rattle.std.specs.List.{AllByRecursion, list_any};
 ghost use Rattle.std.specs.Cmp.Lexicographic.{pointwise};
 ghost use Rattle.shapers_universal.specs.PlanData.{joining_scripts, joins_letters, universal_plan};
-ghost use Rattle.shapers_base.specs.Masks.{joining_masks, masks_kept};
+ghost use Rattle.shapers_base.specs.Masks.{joining_masks, masks_stored};
 
 use shapers_arabic::ot_shaper_arabic::data_create_arabic;
 use shapers_base::buffer::{Script, hb_tag_t};
@@ -35,7 +35,7 @@ pub fn create_data(plan: &hb_ot_shape_plan_t) -> PlanData
     ensures data { let start = plan.now.stretch_start in
         let breaks = plan.now.break_flags in
         result ≡ Universal (universal_plan start breaks plan.now.script plan.now.ot_map) }
-    ensures off_flags { AllByRecursion (λ mask. mask % 8 ≡ 0) (masks_kept result) }
+    ensures off_flags { AllByRecursion (λ mask. mask % 8 ≡ 0) (masks_stored result) }
 {
     PlanData::Universal(use_shape_plan_t {
         rphf_mask: plan.ot_map.get_1_mask(hb_tag_t(*b"rphf")),

@@ -1,10 +1,10 @@
-//! The forms of syllables by their places in runs.
+//! The forms of syllables by their places in sequences.
 ghost use Rattle.std.specs.Prelude.{◌≡◌, ◌%◌, ◌<◌, ◌≤◌, ◌&&◌, length, map, drop, false, None};
 ghost use Rattle.shapers_buffer.specs.Clusters.{stretch_of, with_stretch};
 ghost use Rattle.shapers_buffer.specs.GlyphFlags.{unsafe_all};
 ghost use Rattle.shapers_buffer.specs.Syllables.{syllables};
 ghost use Rattle.shapers_clusters.specs.FlagLaw.{OnlyFlagsAdded};
-ghost use Rattle.shapers_universal.specs.UniversalSyllables.{all_forms, form_mask, form_masks, formed, forms_flagged, in_forms, is_torn, joins_runs, mask_between, torn_pair, torn_pairs, with_form_masks, with_instead};
+ghost use Rattle.shapers_universal.specs.UniversalSyllables.{all_forms, form_mask, form_masks, formed, forms_flagged, in_forms, is_torn, may_join, mask_between, torn_pair, torn_pairs, with_form_masks, with_instead};
 
 use shapers_base::buffer::{
     first_syllable_len, hb_buffer_t, hb_glyph_info_t, hb_tag_t, unsafe_to_break_in,
@@ -22,8 +22,8 @@ pub(super) struct FormMasks {
     fina: u32,
 }
 
-// Gives each syllable the mask of its form: in each unbroken run of syllables that join, a lone one
-// is isolated, the first initial, the last final, the others medial.
+// Gives each syllable the mask of its form: in each unbroken sequence of syllables that join, a
+// lone one is isolated, the first initial, the last final, the others medial.
 #[inline]
 pub(super) fn set_forms(map: &hb_ot_map_t, buffer: &mut hb_buffer_t)
     ensures forms { let masks = form_masks map.now in
@@ -37,7 +37,7 @@ pub(super) fn set_forms(map: &hb_ot_map_t, buffer: &mut hb_buffer_t)
 }
 
 // Flags what the choice adds, in a text whose syllables have their forms: with Sound any two
-// neighbours of a run between which a break would change a mask.
+// neighbours of a sequence between which a break would change a mask.
 #[inline]
 pub(super) fn flag_forms(breaks: BreakFlags, map: &hb_ot_map_t, buffer: &mut hb_buffer_t)
     ensures { let flagged = forms_flagged None breaks map.now buffer.old.glyphs in
@@ -76,7 +76,8 @@ impl FormMasks {
         (self.isol | self.init) | (self.medi | self.fina)
     }
 
-    // The mask in a run, by whether a syllable of it stands before and whether one stands behind.
+    // The mask in a sequence, by whether a syllable of it stands before and whether one stands
+    // behind.
     #[inline]
     fn between(self, before: bool, behind: bool) -> u32
         ensures { result ≡ mask_between self before behind }
@@ -98,7 +99,7 @@ impl FormMasks {
         let mut before = false;
         while start < glyphs.len() {
             let end = start + first_syllable_len(&glyphs[start..]);
-            let joins = joins_runs(&glyphs[start..end]);
+            let joins = may_join(&glyphs[start..end]);
             self.set_at(glyphs, start, end, before);
             before = joins;
             start = end;
@@ -110,15 +111,15 @@ impl FormMasks {
     fn set_at(self, glyphs: &mut [hb_glyph_info_t], start: usize, end: usize, before: bool)
         requires in_order { start ≤ end }
         requires in_range { end ≤ length glyphs.old }
-        ensures { let behind = joins_runs (drop end glyphs.old) in
+        ensures { let behind = may_join (drop end glyphs.old) in
             glyphs.new ≡ with_stretch start end (formed self before behind) glyphs.old }
     {
-        let behind = joins_runs(&glyphs[end..]);
+        let behind = may_join(&glyphs[end..]);
         self.set(&mut glyphs[start..end], before, behind);
     }
 
-    // Whether a break between two syllables of a run would change the mask of one, by whether one
-    // of it stands before them and whether one stands behind.
+    // Whether a break between two syllables of a sequence would change the mask of one, by whether
+    // one of it stands before them and whether one stands behind.
     #[inline]
     fn is_torn(self, before: bool, behind: bool) -> bool
         ensures { result ≡ is_torn self before behind }
@@ -137,9 +138,9 @@ impl FormMasks {
         behind: bool,
     ) -> bool
         ensures { let torn = is_torn self before behind in
-            result ≡ (joins_runs syllable.now && (joins_runs rest.now && torn)) }
+            result ≡ (may_join syllable.now && (may_join rest.now && torn)) }
     {
-        joins_runs(syllable) && joins_runs(rest) && self.is_torn(before, behind)
+        may_join(syllable) && may_join(rest) && self.is_torn(before, behind)
     }
 
     // Flags the syllable from `start` to `end` and the next one, where a break between them would
@@ -156,7 +157,7 @@ impl FormMasks {
             return;
         }
         let next = end + first_syllable_len(&glyphs[end..]);
-        let behind = joins_runs(&glyphs[next..]);
+        let behind = may_join(&glyphs[next..]);
         if self.tears(&glyphs[start..end], &glyphs[end..], before, behind) {
             unsafe_to_break_in(glyphs, start, next);
         }
@@ -172,7 +173,7 @@ impl FormMasks {
         let mut before = false;
         while start < glyphs.len() {
             let end = start + first_syllable_len(&glyphs[start..]);
-            let joins = joins_runs(&glyphs[start..end]);
+            let joins = may_join(&glyphs[start..end]);
             self.flag_pair(glyphs, start, end, before);
             before = joins;
             start = end;
@@ -184,7 +185,7 @@ impl FormMasks {
     fn set(self, syllable: &mut [hb_glyph_info_t], before: bool, behind: bool)
         ensures { syllable.new ≡ formed self before behind syllable.old }
     {
-        if joins_runs(syllable) {
+        if may_join(syllable) {
             replace_forms(syllable, self.all(), self.between(before, behind));
         }
     }
@@ -203,11 +204,11 @@ fn form_mask(map: &hb_ot_map_t, tag: hb_tag_t) -> u32
     mask
 }
 
-// Whether the syllable that opens the text stands in runs: hieroglyphs and what is no cluster have
-// no forms by their place.
+// Whether the syllable that begins the text stands in sequences: hieroglyphs and what is no cluster
+// have no forms by their place.
 #[inline]
-fn joins_runs(glyphs: &[hb_glyph_info_t]) -> bool
-    ensures { result ≡ joins_runs glyphs.now }
+fn may_join(glyphs: &[hb_glyph_info_t]) -> bool
+    ensures { result ≡ may_join glyphs.now }
 {
     match glyphs.first() {
         None => false,

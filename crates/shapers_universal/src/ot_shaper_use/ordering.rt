@@ -7,11 +7,11 @@ ghost use Rattle.shapers_buffer.specs.Clusters.{merge, merge_all, stretch_of, wi
 ghost use Rattle.shapers_buffer.specs.ListingWalk.{with_listed};
 ghost use Rattle.shapers_buffer.specs.Places.{pick};
 ghost use Rattle.shapers_syllabic.specs.Reordering.{SyllableReordered};
-ghost use Rattle.shapers_universal.specs.Universal.{goes_front, goes_front_at, is_universal_halant, reph_passes, is_reordered_in_universal, post_base, reph_run, universal_order, universal_steps};
+ghost use Rattle.shapers_universal.specs.Universal.{goes_front, goes_front_at, is_universal_halant, reph_passes, is_reordered_in_universal, post_base, leading_reph_len, universal_order, universal_steps};
 ghost use Rattle.shapers_universal.specs.UniversalWalk.{MergesFirst, first_piece_len, fronts_from, has_universal_reph, last_place_first, piece_places, syllable_places_in_order, start_from, stays_at};
 
 use super::category;
-use shapers_base::buffer::{ClusterRun, Placement, ShaperError, hb_buffer_t, hb_glyph_info_t};
+use shapers_base::buffer::{ClusterRange, Placement, ShaperError, hb_buffer_t, hb_glyph_info_t};
 use shapers_syllabic::ot_shaper_syllabic::use_syllable::{
     BROKEN_CLUSTER, SAKOT_TERMINATED_CLUSTER, STANDARD_CLUSTER, VIRAMA_TERMINATED_CLUSTER,
 };
@@ -191,7 +191,7 @@ fn reorder_syllable(buffer: &mut hb_buffer_t, start: usize, end: usize)
     requires kind { is_reordered_in_universal (stretch_of start end buffer.old.glyphs) ≡ true }
     ensures { SyllableReordered universal_order universal_steps start end buffer.old buffer.new }
 {
-    let behind = start + reph_run(&buffer.glyphs()[start..end]);
+    let behind = start + leading_reph_len(&buffer.glyphs()[start..end]);
     list_order(buffer, start, behind, end);
     buffer.merge_clusters(start, behind);
     merge_fronts(buffer, start, behind, end);
@@ -212,15 +212,15 @@ fn merge_fronts(buffer: &mut hb_buffer_t, start: usize, behind: usize, end: usiz
 {
     // where the piece starts, and what has merged but isn't written
     let mut front = start;
-    let mut run = ClusterRun::NONE;
+    let mut run = ClusterRange::NONE;
     for i in behind..end {
         if goes_front(&buffer.glyphs()[i]) {
-            run = buffer.merge_run(run, front, i + 1);
+            run = buffer.merge_range(run, front, i + 1);
         } else if is_halant(&buffer.glyphs()[i]) {
             front = i + 1;
         }
     }
-    buffer.write_run(run);
+    buffer.write_range(run);
 }
 
 // Lists the order of the syllable from `start` to `end`, of which the reph and what it passes end
@@ -229,7 +229,7 @@ fn merge_fronts(buffer: &mut hb_buffer_t, start: usize, behind: usize, end: usiz
 fn list_order(buffer: &mut hb_buffer_t, start: usize, behind: usize, end: usize)
     requires in_order { start < end }
     requires in_range { end ≤ length buffer.old.glyphs }
-    requires reph { behind ≡ start + reph_run (stretch_of start end buffer.old.glyphs) }
+    requires reph { behind ≡ start + leading_reph_len (stretch_of start end buffer.old.glyphs) }
     requires inside { behind ≤ end }
     ensures { let order = syllable_places_in_order start behind end buffer.old.glyphs in
         buffer.new ≡ record buffer.old { places = with_listed start order buffer.old.places } }
@@ -359,8 +359,8 @@ fn is_reordered(syllable: &[hb_glyph_info_t]) -> bool
 
 // How many glyphs the reph in front and what it passes are, 0 where no reph stands in front.
 #[inline]
-fn reph_run(syllable: &[hb_glyph_info_t]) -> usize
-    ensures len { result ≡ reph_run syllable.now }
+fn leading_reph_len(syllable: &[hb_glyph_info_t]) -> usize
+    ensures len { result ≡ leading_reph_len syllable.now }
     ensures within { result ≤ length syllable.now }
 {
     match syllable.split_first() {

@@ -28,7 +28,7 @@ const CIRCLES: ScriptCircles = ScriptCircles {
 /// Gives each broken syllable a dotted circle, behind its leading rephas, and then each syllable
 /// its order; returns whether circles are wanted. Every cluster afterwards is one that the text
 /// had. Refuses with `TooLong` where the text would be longer than `max_len`, and with `Memory`;
-/// where no circle opens it takes none. (OpenType, the Universal Shaping Engine.)
+/// where no circle is put in it takes none. (OpenType, the Universal Shaping Engine.)
 #[inline]
 pub fn reorder_use<F: hb_font_t>(face: &F, buffer: &mut hb_buffer_t) -> Result<bool, ShaperError>
     requires { buffer.old.positions ≡ [] }

@@ -1,7 +1,7 @@
 //! The table `kern`, in fonts whose GPOS doesn't kern.
 
 use crate::buffer::{Buffer, Direction, Tag};
-use crate::generated::opentype_face::bytes::{part, u16_at};
+use crate::generated::opentype_face::bytes::{table_at, u16_at};
 use crate::generated::opentype_gpos::kern::kern;
 use crate::map::TableIndex;
 use crate::ot_shape_plan::{EnginePlan, FontFeatures};
@@ -45,7 +45,7 @@ pub(super) struct Kerning<'a> {
 impl Kerning<'_> {
     /// Whether a subtable moves glyphs across their line.
     pub fn moves_across(&self) -> bool {
-        let mut rest = part(self.table, 4);
+        let mut rest = table_at(self.table, 4);
         for _ in 0..u16_at(self.table, 2) {
             let length = u16_at(rest, 2);
             if length < 6 {
@@ -54,7 +54,7 @@ impl Kerning<'_> {
             if u16_at(rest, 4) & ACROSS != 0 {
                 return true;
             }
-            rest = part(rest, length.into());
+            rest = table_at(rest, length.into());
         }
         false
     }

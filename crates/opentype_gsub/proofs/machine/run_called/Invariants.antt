@@ -1,10 +1,10 @@
 use Rattle.opentype_gsub.proofs.Machines.{IsRunning}
 use Rattle.opentype_gsub.specs.Came.{frame_of}
-use Rattle.opentype_gsub.specs.Machine.{machine_turned, waiting}
+use Rattle.opentype_gsub.specs.Machine.{machine_stepped, waiting}
 use Rattle.opentype_gsub.specs.Setting.{setting_of}
 use Rattle.std.proofs.Common.{[], ◌∷◌}
 use Rattle.opentype_gsub.proofs.machine.run_called.Given as goal
 
 abbrev pub invariant-loop-done : goal.invariant-loop-done
-invariant-loop-done l = IsRunning (machine_turned (setting_of l.pass)) l.operations l.fn.text.items
+invariant-loop-done l = IsRunning (machine_stepped (setting_of l.pass)) l.operations l.fn.text.items
     (frame_of l.fn.called ∷ frame_of l.fn.caller ∷ []) l.done l.text.items (frame_of l.rule ∷ waiting l.callers.items)

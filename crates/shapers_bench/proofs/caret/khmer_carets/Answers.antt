@@ -43,14 +43,14 @@ returns-in_err-run_pause-clause-room g c e =
 -- the word set up has as many glyphs, and room for twice as many
 pub returns-in_err-run_pause-2-clause-room : goal.returns-in_err-run_pause-2-clause-room
 returns-in_err-run_pause-2-clause-room g c e =
-    let set_up = c.run_pause.new.buffer in
+    let setup = c.run_pause.new.buffer in
     let before = c.in_ok-buffer.buffer in
     let stay = c.in_ok-run_pause.ensures.laws.1 in
     let cluster = λ (h : Glyph). h.cluster in
-    let long : length set_up.glyphs ≡ length before.glyphs =
-    omega (arith, ap length stay, length-map set_up.glyphs cluster, length-map before.glyphs cluster) in
-    let limit : set_up.max_len ≡ before.max_len = ap (λ (b : Buffer). b.max_len) c.in_ok-run_pause.ensures.ok in
-    let fits : length set_up.glyphs * 2 ≤ set_up.max_len =
+    let long : length setup.glyphs ≡ length before.glyphs =
+    omega (arith, ap length stay, length-map setup.glyphs cluster, length-map before.glyphs cluster) in
+    let limit : setup.max_len ≡ before.max_len = ap (λ (b : Buffer). b.max_len) c.in_ok-run_pause.ensures.ok in
+    let fits : length setup.glyphs * 2 ≤ setup.max_len =
     omega (
       arith,
       long,
@@ -61,7 +61,7 @@ returns-in_err-run_pause-2-clause-room g c e =
       c.requires.short,
     ) in
     let x = c.in_err-run_pause-2.field-0.0 in
-    let room = c.length_bound.ensures.pauses ReorderKhmer (g.F.hb_font_t.font c.args.face.now) c.args.spans.now set_up
+    let room = c.length_bound.ensures.pauses ReorderKhmer (g.F.hb_font_t.font c.args.face.now) c.args.spans.now setup
     (Err x) fits c.in_err-run_pause-2.ensures.refusal in
     let same = passed_on c.from_residual-in_err-run_pause-2.result x c.from_residual-in_err-run_pause-2.ensures.1 e in
     room (ap (λ (y : ShaperError). let r : Result Bool ShaperError = Err y in r) same)
@@ -77,10 +77,10 @@ pub returns-clause-map : goal.returns-clause-map
 returns-clause-map g c =
     let n = length c.args.word.now in
     let within : ℕ → Type 0 = λ d. d < n in
-    let set_up = c.run_pause.new.buffer in
+    let setup = c.run_pause.new.buffer in
     let final = c.run_pause-2.new.buffer in
     let stay = c.in_ok-run_pause.ensures.laws.1 in
-    let each : All within (clusters final.glyphs) = λ k d l. All-contains within (clusters set_up.glyphs) _
+    let each : All within (clusters final.glyphs) = λ k d l. All-contains within (clusters setup.glyphs) _
     (subst (All within) (sym stay) c.in_ok-buffer.ensures.places)
     (c.in_ok-run_pause-2.ensures.laws.0.old_clusters k d l) in
     let map = c.caret_law.ensures.map LeftToRight final.glyphs n each in (

@@ -15,9 +15,9 @@ loop-n-init g c =
       is_joiner = g.M.Machine.is_joiner c.args.machine.now;
       rank = g.M.Machine.rank c.args.machine.now;
       waits = g.M.Machine.waits c.args.machine.now;
-      turns = g.M.Machine.turns c.args.machine.now;
+      cycles = g.M.Machine.cycles c.args.machine.now;
       begun = g.M.Machine.begun c.args.machine.now;
-      turned = g.M.Machine.turned c.args.machine.now;
+      cycled = g.M.Machine.cycled c.args.machine.now;
     } in
     let t : Task =
     record {
@@ -50,9 +50,9 @@ loop-n-preserved-in-Some g c =
       is_joiner = g.M.Machine.is_joiner c.args.machine.now;
       rank = g.M.Machine.rank c.args.machine.now;
       waits = g.M.Machine.waits c.args.machine.now;
-      turns = g.M.Machine.turns c.args.machine.now;
+      cycles = g.M.Machine.cycles c.args.machine.now;
       begun = g.M.Machine.begun c.args.machine.now;
-      turned = g.M.Machine.turned c.args.machine.now;
+      cycled = g.M.Machine.cycled c.args.machine.now;
     } in
     let t : Task =
     record {
@@ -105,9 +105,9 @@ loop-n-preserved g c =
       is_joiner = g.M.Machine.is_joiner c.args.machine.now;
       rank = g.M.Machine.rank c.args.machine.now;
       waits = g.M.Machine.waits c.args.machine.now;
-      turns = g.M.Machine.turns c.args.machine.now;
+      cycles = g.M.Machine.cycles c.args.machine.now;
       begun = g.M.Machine.begun c.args.machine.now;
-      turned = g.M.Machine.turned c.args.machine.now;
+      cycled = g.M.Machine.cycled c.args.machine.now;
     } in
     let t : Task =
     record {
@@ -172,9 +172,9 @@ returns-then-is_dead-clause-opens g c =
       is_joiner = g.M.Machine.is_joiner c.args.machine.now;
       rank = g.M.Machine.rank c.args.machine.now;
       waits = g.M.Machine.waits c.args.machine.now;
-      turns = g.M.Machine.turns c.args.machine.now;
+      cycles = g.M.Machine.cycles c.args.machine.now;
       begun = g.M.Machine.begun c.args.machine.now;
-      turned = g.M.Machine.turned c.args.machine.now;
+      cycled = g.M.Machine.cycled c.args.machine.now;
     } in
     let t : Task =
     record {
@@ -221,9 +221,9 @@ returns-then-is_dead-clause-joined g c =
       is_joiner = g.M.Machine.is_joiner c.args.machine.now;
       rank = g.M.Machine.rank c.args.machine.now;
       waits = g.M.Machine.waits c.args.machine.now;
-      turns = g.M.Machine.turns c.args.machine.now;
+      cycles = g.M.Machine.cycles c.args.machine.now;
       begun = g.M.Machine.begun c.args.machine.now;
-      turned = g.M.Machine.turned c.args.machine.now;
+      cycled = g.M.Machine.cycled c.args.machine.now;
     } in
     let t : Task =
     record {
@@ -270,9 +270,9 @@ returns-then-is_dead-clause-counted g c =
       is_joiner = g.M.Machine.is_joiner c.args.machine.now;
       rank = g.M.Machine.rank c.args.machine.now;
       waits = g.M.Machine.waits c.args.machine.now;
-      turns = g.M.Machine.turns c.args.machine.now;
+      cycles = g.M.Machine.cycles c.args.machine.now;
       begun = g.M.Machine.begun c.args.machine.now;
-      turned = g.M.Machine.turned c.args.machine.now;
+      cycled = g.M.Machine.cycled c.args.machine.now;
     } in
     let t : Task =
     record {
@@ -319,9 +319,9 @@ returns-in-None-behind_joiners-clause-opens g c =
       is_joiner = g.M.Machine.is_joiner c.args.machine.now;
       rank = g.M.Machine.rank c.args.machine.now;
       waits = g.M.Machine.waits c.args.machine.now;
-      turns = g.M.Machine.turns c.args.machine.now;
+      cycles = g.M.Machine.cycles c.args.machine.now;
       begun = g.M.Machine.begun c.args.machine.now;
-      turned = g.M.Machine.turned c.args.machine.now;
+      cycled = g.M.Machine.cycled c.args.machine.now;
     } in
     let t : Task =
     record {
@@ -377,9 +377,9 @@ returns-in-None-behind_joiners-clause-joined g c =
       is_joiner = g.M.Machine.is_joiner c.args.machine.now;
       rank = g.M.Machine.rank c.args.machine.now;
       waits = g.M.Machine.waits c.args.machine.now;
-      turns = g.M.Machine.turns c.args.machine.now;
+      cycles = g.M.Machine.cycles c.args.machine.now;
       begun = g.M.Machine.begun c.args.machine.now;
-      turned = g.M.Machine.turned c.args.machine.now;
+      cycled = g.M.Machine.cycled c.args.machine.now;
     } in
     let t : Task =
     record {
@@ -435,9 +435,9 @@ returns-in-None-behind_joiners-clause-counted g c =
       is_joiner = g.M.Machine.is_joiner c.args.machine.now;
       rank = g.M.Machine.rank c.args.machine.now;
       waits = g.M.Machine.waits c.args.machine.now;
-      turns = g.M.Machine.turns c.args.machine.now;
+      cycles = g.M.Machine.cycles c.args.machine.now;
       begun = g.M.Machine.begun c.args.machine.now;
-      turned = g.M.Machine.turned c.args.machine.now;
+      cycled = g.M.Machine.cycled c.args.machine.now;
     } in
     let t : Task =
     record {
@@ -493,9 +493,9 @@ returns-clause-opens g c =
       is_joiner = g.M.Machine.is_joiner c.args.machine.now;
       rank = g.M.Machine.rank c.args.machine.now;
       waits = g.M.Machine.waits c.args.machine.now;
-      turns = g.M.Machine.turns c.args.machine.now;
+      cycles = g.M.Machine.cycles c.args.machine.now;
       begun = g.M.Machine.begun c.args.machine.now;
-      turned = g.M.Machine.turned c.args.machine.now;
+      cycled = g.M.Machine.cycled c.args.machine.now;
     } in
     let t : Task =
     record {
@@ -529,9 +529,9 @@ returns-clause-joined g c =
       is_joiner = g.M.Machine.is_joiner c.args.machine.now;
       rank = g.M.Machine.rank c.args.machine.now;
       waits = g.M.Machine.waits c.args.machine.now;
-      turns = g.M.Machine.turns c.args.machine.now;
+      cycles = g.M.Machine.cycles c.args.machine.now;
       begun = g.M.Machine.begun c.args.machine.now;
-      turned = g.M.Machine.turned c.args.machine.now;
+      cycled = g.M.Machine.cycled c.args.machine.now;
     } in
     let t : Task =
     record {
@@ -565,9 +565,9 @@ returns-clause-counted g c =
       is_joiner = g.M.Machine.is_joiner c.args.machine.now;
       rank = g.M.Machine.rank c.args.machine.now;
       waits = g.M.Machine.waits c.args.machine.now;
-      turns = g.M.Machine.turns c.args.machine.now;
+      cycles = g.M.Machine.cycles c.args.machine.now;
       begun = g.M.Machine.begun c.args.machine.now;
-      turned = g.M.Machine.turned c.args.machine.now;
+      cycled = g.M.Machine.cycled c.args.machine.now;
     } in
     let t : Task =
     record {

@@ -11,9 +11,9 @@ invariant-loop-n g l =
       is_joiner = g.M.Machine.is_joiner l.machine;
       rank = g.M.Machine.rank l.machine;
       waits = g.M.Machine.waits l.machine;
-      turns = g.M.Machine.turns l.machine;
+      cycles = g.M.Machine.cycles l.machine;
       begun = g.M.Machine.begun l.machine;
-      turned = g.M.Machine.turned l.machine;
+      cycled = g.M.Machine.cycled l.machine;
     } in
     let t : Task =
     record {

@@ -1,7 +1,7 @@
 use Rattle.std.proofs.Common.{◌≡◌, ◌+◌, ◌≤◌, ◌∙◌, ap, arith, drop, false, length, refl, rules, subst, ◌-◌, sym}
 use Rattle.std.proofs.lemmas.List.{drop-drop}
 use Rattle.shapers_buffer.specs.Glyphs.{Glyphs}
-use Rattle.shapers_spans.specs.Grammar.{OpensWith, lead_spans}
+use Rattle.shapers_spans.specs.Grammar.{BeginsWith, lead_spans}
 use Rattle.shapers_spans.specs.Joined.{KnowsJoiners}
 use Rattle.shapers_spans.specs.Watch.{Watch, IsWatched}
 use Rattle.shapers_spans.proofs.FoundSpans.{found_start, found_next, found_all, found_fewer, refused, knows_none, watched_none, sliced}
@@ -23,7 +23,7 @@ loop-start-init g c =
           (g.M.Machine.ends c.args.machine.now) (drop c.next_read-start.result c.args.glyphs.now)
           (c.none-joiners.result.end - c.next_read-start.result) c.none-joiners.result.stuck f.read
           (let e = c.none-joiners.ensures in omega (arith, e));
-      counted = watched_none grammar.passes (g.M.Machine.turned c.args.machine.now)
+      counted = watched_none grammar.passes (g.M.Machine.cycled c.args.machine.now)
           (drop c.next_read-start.result c.args.glyphs.now) (c.none-joiners.result.end - c.next_read-start.result)
           c.none-joiners.result.stuck c.pass.new.self.reads c.pass.new.self refl;
     }
@@ -46,7 +46,7 @@ loop-start-preserved g c =
     let i = c.loop-start.invariant in
     let joins = g.M.Machine.is_joiner c.args.machine.now in
     let ends = g.M.Machine.ends c.args.machine.now in
-    let turned = g.M.Machine.turned c.args.machine.now in
+    let cycled = g.M.Machine.cycled c.args.machine.now in
     let old = c.loop-start.joiners in
     let new = c.first_span-span.new.joiners in
     let before = c.pass.new.self.reads in
@@ -56,7 +56,7 @@ loop-start-preserved g c =
     record {
       capacity = omega (arith, i.capacity, c.push.ensures.capacity);
       found = found_next grammar gs start span c.loop-start.spans.items c.push.new.self.items i.found
-          (sliced (λ xs. OpensWith grammar xs span) gs start x.opens) x.some
+          (sliced (λ xs. BeginsWith grammar xs span) gs start x.opens) x.some
           (sliced (λ (xs : Glyphs). span.len ≤ length xs) gs start x.within) x.kind
           (sliced (λ (xs : Glyphs). grammar.passes (drop span.len xs) ≡ false) gs start x.read)
           (search rules);
@@ -64,13 +64,13 @@ loop-start-preserved g c =
           (subst (λ xs. KnowsJoiners grammar.passes joins ends xs (new.end - start - span.len) new.stuck) on
           (sliced (λ (xs : Glyphs). KnowsJoiners grammar.passes joins ends (drop span.len xs)
           (new.end - start - span.len) new.stuck) gs start x.joined));
-      counted = subst (λ (w : Watch). IsWatched grammar.passes turned (drop (start + span.len) gs)
+      counted = subst (λ (w : Watch). IsWatched grammar.passes cycled (drop (start + span.len) gs)
           (new.end - (start + span.len)) new.stuck before w) (sym c.pass-in-loop-start.ensures)
-          (subst (λ n. IsWatched grammar.passes turned (drop (start + span.len) gs) n new.stuck before left) less
-          (subst (λ xs. IsWatched grammar.passes turned xs (new.end - start - span.len) new.stuck before left) on
-          (sliced (λ (xs : Glyphs). IsWatched grammar.passes turned xs (old.end - start) old.stuck before
+          (subst (λ n. IsWatched grammar.passes cycled (drop (start + span.len) gs) n new.stuck before left) less
+          (subst (λ xs. IsWatched grammar.passes cycled xs (new.end - start - span.len) new.stuck before left) on
+          (sliced (λ (xs : Glyphs). IsWatched grammar.passes cycled xs (old.end - start) old.stuck before
           c.loop-start.count
-          → IsWatched grammar.passes turned (drop span.len xs) (new.end - start - span.len) new.stuck before left)
+          → IsWatched grammar.passes cycled (drop span.len xs) (new.end - start - span.len) new.stuck before left)
           gs start (x.counted before) i.counted)));
     }
 

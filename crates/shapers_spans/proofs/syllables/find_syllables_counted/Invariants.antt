@@ -10,7 +10,7 @@ invariant-loop-start g l = record {
   few : l.spans ≤ l.start;
   joined : KnowsJoiners (g.M.Machine.grammar l.machine).passes (g.M.Machine.is_joiner l.machine)
       (g.M.Machine.ends l.machine) (drop l.start l.glyphs) (l.joiners.end - l.start) l.joiners.stuck;
-  counted : IsWatched (g.M.Machine.grammar l.machine).passes (g.M.Machine.turned l.machine) (drop l.start l.glyphs)
+  counted : IsWatched (g.M.Machine.grammar l.machine).passes (g.M.Machine.cycled l.machine) (drop l.start l.glyphs)
       (l.joiners.end - l.start) l.joiners.stuck l.initial.count.reads l.count;
 }
 

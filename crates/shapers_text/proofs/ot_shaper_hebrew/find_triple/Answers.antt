@@ -7,11 +7,11 @@ use Rattle.shapers_text.proofs.ot_shaper_hebrew.find_triple.Goals as goal
 pub loop-triple-init : goal.loop-triple-init
 loop-triple-init = search arith
 
-pub returns-then-opens_triple-clause-first : goal.returns-then-opens_triple-clause-first
-returns-then-opens_triple-clause-first = search (arith, triple_hit, turn)
+pub returns-then-begins_triple-clause-first : goal.returns-then-begins_triple-clause-first
+returns-then-begins_triple-clause-first = search (arith, triple_hit, turn)
 
-pub returns-then-opens_triple-clause-within : goal.returns-then-opens_triple-clause-within
-returns-then-opens_triple-clause-within = search arith
+pub returns-then-begins_triple-clause-within : goal.returns-then-begins_triple-clause-within
+returns-then-begins_triple-clause-within = search arith
 
 pub overflow_add-second-in-loop-triple : goal.overflow_add-second-in-loop-triple
 overflow_add-second-in-loop-triple = search arith

@@ -168,14 +168,14 @@ pub fn low16(n: u32) -> u16 {
 /// # Contract
 ///
 /// ```text
-/// ensures { result.now ≡ part_in bytes.now offset }
+/// ensures { result.now ≡ table_at bytes.now offset }
 /// ```
 ///
-/// - `part_in`: `crates/opentype_face/specs/Bytes.antt`
+/// - `table_at`: `crates/opentype_face/specs/Bytes.antt`
 ///
 /// </details>
 #[inline]
-pub fn part(bytes: &[u8], offset: usize) -> &[u8] {
+pub fn table_at(bytes: &[u8], offset: usize) -> &[u8] {
     if offset == 0 || offset >= bytes.len() {
         return &[];
     }

@@ -2,7 +2,7 @@
 
 //! Which subtable of `cmap` a font's characters are looked up in, and how.
 
-use crate::generated::opentype_face::bytes::{capped, low16, offset32, part, u16_at};
+use crate::generated::opentype_face::bytes::{capped, low16, offset32, table_at, u16_at};
 use crate::generated::opentype_face::cmap::glyph_of;
 use crate::generated::opentype_face::legacy_tables::{
     MAC_ROMAN, SIMPLIFIED_ARABIC, TRADITIONAL_ARABIC,
@@ -45,7 +45,7 @@ fn records(cmap: &[u8]) -> u32 {
 
 fn table_of_record(cmap: &[u8], found: Option<u32>) -> &[u8] {
     match found {
-        Some(i) => part(cmap, offset32(cmap, 8 + i as usize * 8)),
+        Some(i) => table_at(cmap, offset32(cmap, 8 + i as usize * 8)),
         None => &[],
     }
 }

@@ -2,7 +2,7 @@
 
 //! GDEF: the classes of glyphs, and sets of marks.
 
-use crate::generated::opentype_face::bytes::{offset16, offset32, part, u16_at};
+use crate::generated::opentype_face::bytes::{offset16, offset32, table_at, u16_at};
 use crate::generated::opentype_face::glyph_sets::{class, coverage};
 
 /// Whether the font has classes.
@@ -38,11 +38,11 @@ pub fn has_glyph_classes(gdef: &[u8]) -> bool {
 /// </details>
 #[inline]
 pub fn glyph_props(gdef: &[u8], glyph: u16) -> u16 {
-    match class(part(gdef, offset16(gdef, 4)), glyph) {
+    match class(table_at(gdef, offset16(gdef, 4)), glyph) {
         1 => 2,
         2 => 4,
         3 => {
-            let mark = class(part(gdef, offset16(gdef, 10)), glyph);
+            let mark = class(table_at(gdef, offset16(gdef, 10)), glyph);
             8 + mark % 256 * 256
         }
         _ => 0,
@@ -53,7 +53,7 @@ fn mark_sets(gdef: &[u8]) -> &[u8] {
     if u16_at(gdef, 2) < 2 {
         return &[];
     }
-    let sets = part(gdef, offset16(gdef, 12));
+    let sets = table_at(gdef, offset16(gdef, 12));
     if u16_at(sets, 0) == 1 { sets } else { &[] }
 }
 
@@ -95,5 +95,5 @@ pub fn is_in_mark_set(gdef: &[u8], set: u16, glyph: u16) -> bool {
         return false;
     }
     let offset = offset32(sets, 4 + usize::from(set) * 4);
-    coverage(part(sets, offset), glyph).is_some()
+    coverage(table_at(sets, offset), glyph).is_some()
 }

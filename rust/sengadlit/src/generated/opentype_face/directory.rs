@@ -2,7 +2,7 @@
 
 //! The faces of a font file, and the tables of a face.
 
-use crate::generated::opentype_face::bytes::{capped, offset32, part, stretch, u16_at, u32_at};
+use crate::generated::opentype_face::bytes::{capped, offset32, stretch, table_at, u16_at, u32_at};
 use crate::generated::opentype_face::ranges::Ranges;
 
 /// Why bytes aren't a face.
@@ -83,7 +83,7 @@ pub fn directory(bytes: &[u8], index: u32) -> Result<&[u8], FaceError> {
     if index >= face_count(bytes) {
         return Err(FaceError::IndexOutOfRange);
     }
-    Ok(part(bytes, offset32(bytes, 12 + index as usize * 4)))
+    Ok(table_at(bytes, offset32(bytes, 12 + index as usize * 4)))
 }
 
 /// A table of a face by its tag, as far as the file has it; nothing where there is none. It looks at

@@ -136,7 +136,7 @@ pub struct PreparedCoverage<'a> {
 }
 
 // What the table keeps of a glyph, unless it is too great.
-fn kept_place(set: &[u8], glyph: u16) -> Option<u16> {
+fn stored_place(set: &[u8], glyph: u16) -> Option<u16> {
     match coverage(set, glyph) {
         Some(place) => {
             if place < 65535 {
@@ -152,7 +152,7 @@ fn kept_place(set: &[u8], glyph: u16) -> Option<u16> {
 // (a place that is too great ends the table: no font has one)
 fn fill_places(set: &[u8], glyphs: Stretch, places: &mut Vec<u16>) -> Result<(), AllocError> {
     for i in 0..glyphs.count {
-        match kept_place(set, glyphs.first + i) {
+        match stored_place(set, glyphs.first + i) {
             Some(kept) => places.push(kept)?,
             None => return Ok(()),
         }

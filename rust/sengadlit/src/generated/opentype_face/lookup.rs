@@ -2,7 +2,7 @@
 
 //! The lookups of GSUB and GPOS.
 
-use crate::generated::opentype_face::bytes::{offset16, offset32, part, u16_at};
+use crate::generated::opentype_face::bytes::{offset16, offset32, table_at, u16_at};
 
 /// A lookup's table.
 ///
@@ -19,11 +19,11 @@ use crate::generated::opentype_face::bytes::{offset16, offset32, part, u16_at};
 /// </details>
 #[inline]
 pub fn lookup(table: &[u8], index: u16) -> &[u8] {
-    let list = part(table, offset16(table, 8));
+    let list = table_at(table, offset16(table, 8));
     if index >= u16_at(list, 0) {
         return &[];
     }
-    part(list, offset16(list, 2 + usize::from(index) * 2))
+    table_at(list, offset16(list, 2 + usize::from(index) * 2))
 }
 
 /// How many subtables a lookup has.
@@ -77,9 +77,9 @@ pub fn lookup_flag(lookup: &[u8]) -> u16 {
 /// </details>
 #[inline]
 pub fn subtable(extension: u16, lookup: &[u8], i: u16) -> &[u8] {
-    let bytes = part(lookup, offset16(lookup, 6 + usize::from(i) * 2));
+    let bytes = table_at(lookup, offset16(lookup, 6 + usize::from(i) * 2));
     if u16_at(lookup, 0) == extension {
-        part(bytes, offset32(bytes, 4))
+        table_at(bytes, offset32(bytes, 4))
     } else {
         bytes
     }
@@ -104,7 +104,10 @@ pub fn subtable_type(extension: u16, lookup: &[u8], i: u16) -> u16 {
     if kind != extension {
         return kind;
     }
-    u16_at(part(lookup, offset16(lookup, 6 + usize::from(i) * 2)), 2)
+    u16_at(
+        table_at(lookup, offset16(lookup, 6 + usize::from(i) * 2)),
+        2,
+    )
 }
 
 /// The number of a lookup's set of marks.

@@ -2,7 +2,7 @@
 
 //! The glyphs of characters with a selector behind them, by `cmap` of format 14.
 
-use crate::generated::opentype_face::bytes::{capped, offset32, part, u16_at, u32_at};
+use crate::generated::opentype_face::bytes::{capped, offset32, table_at, u16_at, u32_at};
 use crate::generated::opentype_face::ranges::Ranges;
 
 /// What a font says of a character and a selector.
@@ -48,10 +48,10 @@ pub fn glyph_variant(bytes: &[u8], c: u32, selector: u32) -> GlyphVariant {
 
 fn of_record(bytes: &[u8], c: u32, i: u32) -> GlyphVariant {
     let at = i as usize * 11;
-    if is_default(part(bytes, offset32(bytes, 13 + at)), c) {
+    if is_default(table_at(bytes, offset32(bytes, 13 + at)), c) {
         return GlyphVariant::UseDefault;
     }
-    let glyph = mapped(part(bytes, offset32(bytes, 17 + at)), c);
+    let glyph = mapped(table_at(bytes, offset32(bytes, 17 + at)), c);
     if glyph == 0 {
         GlyphVariant::NotFound
     } else {

@@ -3,7 +3,7 @@
 //! The lookups of a stage, one after another: those that can begin nowhere in the text are passed
 //! over.
 
-use crate::generated::opentype_gpos::walk::position;
+use crate::generated::opentype_gpos::apply_along::position;
 use crate::generated::opentype_gsub::pass::LookupUse;
 use crate::generated::opentype_gsub::substitute::substitute;
 use crate::generated::opentype_layout::face_tables::FaceTables;

@@ -4,7 +4,7 @@
 
 use crate::support::prelude::*;
 
-use crate::generated::opentype_face::bytes::{part, u16_at};
+use crate::generated::opentype_face::bytes::{table_at, u16_at};
 use crate::generated::opentype_face::glyph_sets::{class, coverage};
 use crate::generated::opentype_face::lookup::{lookup, subtable, subtable_count, subtable_type};
 use crate::generated::opentype_layout::pattern::Pattern;
@@ -69,7 +69,7 @@ fn subtable_applies(kind: u16, bytes: &[u8], glyphs: &[GlyphId], zero_context: b
 // The place of the first of these glyphs in the set that a subtable begins with.
 #[inline]
 fn place_of_first(bytes: &[u8], glyphs: &[GlyphId]) -> Option<u32> {
-    coverage(part(bytes, usize::from(u16_at(bytes, 2))), glyphs[0].0)
+    coverage(table_at(bytes, usize::from(u16_at(bytes, 2))), glyphs[0].0)
 }
 
 // Types that look at one glyph.
@@ -93,7 +93,7 @@ fn fit_each(pattern: &Pattern<'_>, first: usize, glyphs: &[GlyphId]) -> bool {
 #[inline]
 fn rule_set(bytes: &[u8], at: usize, index: u32) -> &[u8] {
     if index < u32::from(u16_at(bytes, at)) {
-        part(
+        table_at(
             bytes,
             usize::from(u16_at(bytes, at + 2 + index as usize * 2)),
         )
@@ -127,7 +127,7 @@ fn ligature_fits(set: &[u8], glyphs: &[GlyphId], i: u16) -> bool {
     if usize::from(u16_at(ligature, 2)) != glyphs.len() {
         return false;
     }
-    fit_each(&Pattern::Glyphs(part(ligature, 4)), 1, glyphs)
+    fit_each(&Pattern::Glyphs(table_at(ligature, 4)), 1, glyphs)
 }
 
 // How many of a set's rules or ligatures are asked.
@@ -139,7 +139,7 @@ fn rule_count(set: &[u8]) -> u16 {
 // One of a set's rules or ligatures.
 #[inline]
 fn nth(set: &[u8], i: u16) -> &[u8] {
-    part(set, usize::from(u16_at(set, 2 + usize::from(i) * 2)))
+    table_at(set, usize::from(u16_at(set, 2 + usize::from(i) * 2)))
 }
 
 // Whether the glyphs behind the first one are these, or of these classes.
@@ -159,7 +159,7 @@ fn context_fits(bytes: &[u8], glyphs: &[GlyphId]) -> bool {
             None => false,
         },
         2 if place.is_some() => {
-            let classes = part(bytes, usize::from(u16_at(bytes, 4)));
+            let classes = table_at(bytes, usize::from(u16_at(bytes, 4)));
             let set = rule_set(bytes, 6, u32::from(class(classes, glyphs[0].0)));
             rules_fit(set, Some(classes), glyphs)
         }
@@ -173,7 +173,7 @@ fn sets_fit(bytes: &[u8], glyphs: &[GlyphId]) -> bool {
     if usize::from(u16_at(bytes, 2)) != glyphs.len() {
         return false;
     }
-    fit_each(&Pattern::Sets(part(bytes, 6), bytes), 0, glyphs)
+    fit_each(&Pattern::Sets(table_at(bytes, 6), bytes), 0, glyphs)
 }
 
 // Whether a rule of a set of contexts has exactly these glyphs.
@@ -191,7 +191,7 @@ fn rule_fits(set: &[u8], classes: Option<&[u8]>, glyphs: &[GlyphId], i: u16) -> 
     if usize::from(u16_at(rule, 0)) != glyphs.len() {
         return false;
     }
-    fit_numbers(part(rule, 4), classes, glyphs)
+    fit_numbers(table_at(rule, 4), classes, glyphs)
 }
 
 // Chained contexts.
@@ -203,7 +203,7 @@ fn chained_fits(bytes: &[u8], glyphs: &[GlyphId], zero_context: bool) -> bool {
             None => false,
         },
         2 if place.is_some() => {
-            let classes = part(bytes, usize::from(u16_at(bytes, 6)));
+            let classes = table_at(bytes, usize::from(u16_at(bytes, 6)));
             let set = rule_set(bytes, 10, u32::from(class(classes, glyphs[0].0)));
             chained_rules_fit(set, Some(classes), glyphs, zero_context)
         }
@@ -246,7 +246,7 @@ fn chained_rule_fits(
     if count != glyphs.len() {
         return false;
     }
-    fit_numbers(part(rule, input + 2), classes, glyphs)
+    fit_numbers(table_at(rule, input + 2), classes, glyphs)
 }
 
 // Whether a rule that looks at so many glyphs before its input and behind is barred, since no glyphs
@@ -268,5 +268,5 @@ fn chained_sets_fit(bytes: &[u8], glyphs: &[GlyphId], zero_context: bool) -> boo
     if count != glyphs.len() {
         return false;
     }
-    fit_each(&Pattern::Sets(part(bytes, input + 2), bytes), 0, glyphs)
+    fit_each(&Pattern::Sets(table_at(bytes, input + 2), bytes), 0, glyphs)
 }

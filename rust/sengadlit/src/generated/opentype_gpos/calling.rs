@@ -92,7 +92,7 @@ fn push_rule<'a>(frames: &mut Frames<'a>, rule: Option<Matched<'a>>, glyphs: &mu
 
 // The next record of the rule on top, or the end of that rule: how many lookups may still be applied,
 // or `None` where no rule is left.
-fn turn<'a>(
+fn step<'a>(
     pass: &Pass<'a>,
     left: usize,
     frames: &mut Frames<'a>,
@@ -133,7 +133,7 @@ fn run<'a>(
     push_rule(&mut frames, Some(rule), glyphs);
     let mut left = left;
     while left > 0 {
-        match turn(pass, left, &mut frames, glyphs, positions) {
+        match step(pass, left, &mut frames, glyphs, positions) {
             Some(fewer) => left = fewer,
             None => return left,
         }

@@ -4,7 +4,7 @@
 
 use crate::generated::opentype_gpos::finish::is_backward;
 use crate::generated::opentype_gpos::mark_boxes::{
-    GlyphBox, across_place, part_of_box, upright_place,
+    GlyphBox, across_place, component_box, upright_place,
 };
 use crate::generated::opentype_gpos::moved::flag_up_to;
 use crate::generated::opentype_gpos::nearby::ligature_number;
@@ -72,7 +72,7 @@ pub struct Around {
     /// Its class.
     pub class: u8,
     /// The box of that component.
-    pub part: GlyphBox,
+    pub table_at: GlyphBox,
     /// What is left of it for marks of that class.
     pub rest: GlyphBox,
 }
@@ -122,7 +122,7 @@ fn at_component(
     Around {
         component,
         class: 255,
-        part: part_of_box(from_right, count, component, whole),
+        table_at: component_box(from_right, count, component, whole),
         ..around
     }
 }
@@ -134,7 +134,7 @@ fn at_class(class: u8, around: Around) -> Around {
     }
     Around {
         class,
-        rest: around.part,
+        rest: around.table_at,
         ..around
     }
 }
@@ -338,7 +338,7 @@ fn first_around(direction: Direction, whole: &GlyphBox, position: &GlyphPosition
         pen: first_pen(direction, position),
         component: 0,
         class: 255,
-        part: *whole,
+        table_at: *whole,
         rest: *whole,
     }
 }
@@ -389,9 +389,9 @@ fn follower_count(glyphs: &[GlyphInfo]) -> usize {
         .count()
 }
 
-// How many marks open a text.
+// How many marks begin a text.
 #[inline]
-fn opening_count(glyphs: &[GlyphInfo]) -> usize {
+fn leading_count(glyphs: &[GlyphInfo]) -> usize {
     glyphs.iter().take_while(|glyph| is_mark(glyph)).count()
 }
 
@@ -404,7 +404,7 @@ fn step<M: MarkMetrics>(
     at: usize,
 ) -> usize {
     let end = at + 1 + follower_count(&glyphs[at + 1..]);
-    let base = at + opening_count(&glyphs[at..]);
+    let base = at + leading_count(&glyphs[at..]);
     if base < end {
         place_around(font, settings, glyphs, base, end, positions);
         flag_up_to(true, base, end - 1, glyphs);
@@ -413,7 +413,7 @@ fn step<M: MarkMetrics>(
 }
 
 // Places the marks of a text.
-fn walk<M: MarkMetrics>(
+fn place_along<M: MarkMetrics>(
     font: &M,
     settings: &MarkSettings,
     glyphs: &mut [GlyphInfo],
@@ -436,7 +436,7 @@ struct Placing<'a, M: MarkMetrics> {
 
 impl<'a, M: MarkMetrics> PositionedWalk for Placing<'a, M> {
     fn walk(&self, glyphs: &mut [GlyphInfo], positions: &mut [GlyphPosition]) {
-        walk(self.font, &self.settings, glyphs, positions);
+        place_along(self.font, &self.settings, glyphs, positions);
     }
 }
 

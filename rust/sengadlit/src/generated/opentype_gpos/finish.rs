@@ -169,7 +169,7 @@ fn climb(start: usize, positions: &mut [GlyphPosition]) -> ArrayVec<Attachment, 
 }
 
 // Moves the glyphs of these attachments, the last one first.
-fn settle(direction: Direction, links: &[Attachment], positions: &mut [GlyphPosition]) {
+fn move_attached(direction: Direction, links: &[Attachment], positions: &mut [GlyphPosition]) {
     for i in 0..links.len() {
         let link = links[links.len() - 1 - i];
         place_on(direction, &link, positions);
@@ -185,7 +185,7 @@ fn is_loose(position: &GlyphPosition) -> bool {
 // Moves a glyph behind those of its chain of attachments, which has more than one.
 fn follow_chain(direction: Direction, at: usize, positions: &mut [GlyphPosition]) {
     let links = climb(at, positions);
-    settle(direction, links.as_slice(), positions);
+    move_attached(direction, links.as_slice(), positions);
 }
 
 // Moves a glyph behind those of its chain; mostly that is one glyph, which isn't attached itself.

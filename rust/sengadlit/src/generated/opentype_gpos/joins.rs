@@ -121,7 +121,7 @@ fn next_in_line(var: u32, at: usize, parent: usize, len: usize) -> Option<usize>
 }
 
 #[inline]
-fn turned_on(
+fn reversed_on(
     vertical: bool,
     old: &GlyphPosition,
     at: usize,
@@ -136,8 +136,8 @@ fn turned_on(
     }
 }
 
-// Turns the line from a glyph on around, up to its new parent.
-fn turn(vertical: bool, parent: usize, start: usize, positions: &mut [GlyphPosition]) {
+// Reverses the line from a glyph on, up to its new parent.
+fn reverse_line(vertical: bool, parent: usize, start: usize, positions: &mut [GlyphPosition]) {
     let mut at = start;
     let mut old = positions[start];
     for _ in 0_usize..64 {
@@ -145,7 +145,7 @@ fn turn(vertical: bool, parent: usize, start: usize, positions: &mut [GlyphPosit
         match found {
             Some(to) => {
                 let next = positions[to];
-                positions[to] = turned_on(vertical, &old, at, to, next);
+                positions[to] = reversed_on(vertical, &old, at, to, next);
                 old = next;
                 at = to;
             }
@@ -185,7 +185,7 @@ fn hang(vertical: bool, child: usize, parent: usize, off: i32, positions: &mut [
 }
 
 fn link(vertical: bool, child: usize, parent: usize, off: i32, positions: &mut [GlyphPosition]) {
-    turn(vertical, parent, child, positions);
+    reverse_line(vertical, parent, child, positions);
     hang(vertical, child, parent, off, positions);
 }
 

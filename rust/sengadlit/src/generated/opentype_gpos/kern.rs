@@ -2,7 +2,7 @@
 
 //! Pairs of glyphs by the table `kern`.
 
-use crate::generated::opentype_face::bytes::{part, u8_at, u16_at};
+use crate::generated::opentype_face::bytes::{table_at, u8_at, u16_at};
 use crate::generated::opentype_face::ranges::Ranges;
 use crate::generated::opentype_gpos::finish::{is_backward, let_go};
 use crate::generated::opentype_gpos::joins::with_across;
@@ -45,8 +45,8 @@ fn value(bytes: &[u8], left: u16, right: u16) -> u16 {
     match u8_at(bytes, 4) {
         0 => listed_value(bytes, left, right),
         2 => {
-            let left = class_of(part(bytes, usize::from(u16_at(bytes, 8))), left);
-            let right = class_of(part(bytes, usize::from(u16_at(bytes, 10))), right);
+            let left = class_of(table_at(bytes, usize::from(u16_at(bytes, 8))), left);
+            let right = class_of(table_at(bytes, usize::from(u16_at(bytes, 10))), right);
             let array = usize::from(u16_at(bytes, 12));
             match (left, right) {
                 (Some(left), Some(right)) => {
@@ -188,7 +188,7 @@ fn step(
 }
 
 // Moves pairs along a text.
-fn walk(
+fn move_pairs(
     bytes: &[u8],
     mask: u32,
     vertical: bool,
@@ -235,7 +235,7 @@ fn kern_along(
     if is_across(bytes) {
         line_up(line_step(direction), positions);
     }
-    walk(bytes, mask, is_vertical(direction), glyphs, positions);
+    move_pairs(bytes, mask, is_vertical(direction), glyphs, positions);
 }
 
 // The same, if the subtable is for lines of this direction.
@@ -252,7 +252,7 @@ fn kern_by(
 }
 
 // The subtables, one after another.
-fn kern_in_turn(
+fn kern_by_subtables(
     count: u16,
     mask: u32,
     direction: Direction,
@@ -267,13 +267,17 @@ fn kern_in_turn(
             return;
         }
         kern_by(mask, direction, bytes, glyphs, positions);
-        bytes = part(bytes, usize::from(len));
+        bytes = table_at(bytes, usize::from(len));
     }
 }
 
-// Turns a backward text around.
+// Reverses a backward text.
 #[inline]
-fn turn_backward(direction: Direction, glyphs: &mut [GlyphInfo], positions: &mut [GlyphPosition]) {
+fn reverse_backward(
+    direction: Direction,
+    glyphs: &mut [GlyphInfo],
+    positions: &mut [GlyphPosition],
+) {
     if is_backward(direction) {
         glyphs.reverse();
         positions.reverse();
@@ -291,10 +295,10 @@ fn kern_text(
     if u16_at(table, 0) != 0 {
         return;
     }
-    turn_backward(direction, glyphs, positions);
-    let (count, bytes) = (u16_at(table, 2), part(table, 4));
-    kern_in_turn(count, mask, direction, bytes, glyphs, positions);
-    turn_backward(direction, glyphs, positions);
+    reverse_backward(direction, glyphs, positions);
+    let (count, bytes) = (u16_at(table, 2), table_at(table, 4));
+    kern_by_subtables(count, mask, direction, bytes, glyphs, positions);
+    reverse_backward(direction, glyphs, positions);
 }
 
 // A walk that moves pairs.

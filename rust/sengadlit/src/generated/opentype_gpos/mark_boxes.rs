@@ -170,19 +170,19 @@ fn steps_before(from_right: bool, count: u8, component: u8) -> i32 {
 }
 
 #[inline]
-fn part_start(steps: i32, count: u8, whole: &GlyphBox) -> i32 {
+fn component_start(steps: i32, count: u8, whole: &GlyphBox) -> i32 {
     let before = steps.saturating_mul(whole.width) / i32::from(count);
     whole.x_bearing.saturating_add(before)
 }
 
 /// The part of a ligature's box that one of its components has.
-pub(crate) fn part_of_box(
+pub(crate) fn component_box(
     from_right: bool,
     count: u8,
     component: u8,
     whole: &GlyphBox,
 ) -> GlyphBox {
-    let x_bearing = part_start(steps_before(from_right, count, component), count, whole);
+    let x_bearing = component_start(steps_before(from_right, count, component), count, whole);
     let width = whole.width / i32::from(count);
     GlyphBox {
         x_bearing,

@@ -10,6 +10,7 @@
 //! that it would be attached to isn't attached, and of attachments in a row 64 are followed.
 
 pub mod anchors;
+pub mod apply_along;
 pub mod calling;
 pub mod coming;
 pub mod fallback;
@@ -23,4 +24,3 @@ pub mod moves;
 pub mod nearby;
 pub mod pass;
 pub mod values;
-pub mod walk;

@@ -8,7 +8,7 @@ use crate::generated::shapers_buffer::buffer::{
     Direction, GlyphInfo, GlyphPosition, unsafe_to_break_in,
 };
 
-/// Whether a line runs from top to bottom, or upwards.
+/// Whether a line goes from top to bottom, or upwards.
 ///
 /// <details><summary>Contract</summary>
 ///

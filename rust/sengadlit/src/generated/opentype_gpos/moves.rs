@@ -4,7 +4,7 @@
 
 use crate::support::prelude::*;
 
-use crate::generated::opentype_face::bytes::{part, u16_at};
+use crate::generated::opentype_face::bytes::{table_at, u16_at};
 use crate::generated::opentype_face::glyph_sets::coverage;
 use crate::generated::opentype_gpos::anchors::{Point, joint_of, ligature_points, points};
 use crate::generated::opentype_gpos::nearby::{
@@ -80,7 +80,7 @@ pub struct CursiveMove {
 fn single_of(bytes: &[u8], glyphs: &[GlyphInfo], at: usize) -> Option<Move> {
     match single(bytes, number(&glyphs[at])) {
         Some(place) => Some(Move::Adds(value_at(
-            part(bytes, place),
+            table_at(bytes, place),
             0,
             u16_at(bytes, 4),
         ))),
@@ -104,7 +104,7 @@ fn single_of(bytes: &[u8], glyphs: &[GlyphInfo], at: usize) -> Option<Move> {
 /// </details>
 pub fn values_of(pair: &PairPlace<'_>) -> PairMove {
     let (format, second_format) = (u16_at(pair.bytes, 4), u16_at(pair.bytes, 6));
-    let values = part(pair.bytes, pair.place);
+    let values = table_at(pair.bytes, pair.place);
     PairMove {
         second: pair.second,
         first_value: value_at(values, 0, format),
@@ -132,7 +132,7 @@ pub fn values_of(pair: &PairPlace<'_>) -> PairMove {
 /// </details>
 #[inline]
 pub fn advance_of(pair: &PairPlace<'_>) -> PairMove {
-    let values = part(pair.bytes, pair.place);
+    let values = table_at(pair.bytes, pair.place);
     PairMove {
         second: pair.second,
         first_value: value_at(values, 0, 4),
@@ -144,7 +144,10 @@ pub fn advance_of(pair: &PairPlace<'_>) -> PairMove {
 // The place of a glyph in a subtable's set, which stands at the same place in each type.
 #[inline]
 fn place_in_set(bytes: &[u8], glyph: &GlyphInfo) -> Option<u32> {
-    coverage(part(bytes, usize::from(u16_at(bytes, 2))), number(glyph))
+    coverage(
+        table_at(bytes, usize::from(u16_at(bytes, 2))),
+        number(glyph),
+    )
 }
 
 // The values of a pair, by the place of the first glyph in the subtable's set.
@@ -247,7 +250,7 @@ fn mark_to_base(
     at: usize,
 ) -> Option<Move> {
     let mark = place_in_set(bytes, &glyphs[at])?;
-    let bases = part(bytes, usize::from(u16_at(bytes, 4)));
+    let bases = table_at(bytes, usize::from(u16_at(bytes, 4)));
     match base_glyph(gdef, sight, false, bases, glyphs, at) {
         Some(base) => attached(bytes, mark, glyphs, base),
         None => None,

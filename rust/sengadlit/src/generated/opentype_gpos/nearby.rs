@@ -169,7 +169,7 @@ fn carries_on(before: &GlyphInfo, glyph: &GlyphInfo) -> bool {
 
 // Whether a glyph is one that a lookup put in for another with more, and not the first.
 #[inline]
-fn is_later_part(glyphs: &[GlyphInfo], at: usize) -> bool {
+fn is_later_multiple(glyphs: &[GlyphInfo], at: usize) -> bool {
     if at == 0 {
         return false;
     }
@@ -187,7 +187,9 @@ fn is_base_at(
 ) -> bool {
     match any(gdef, sight, &glyphs[at]) {
         Some(true) => {
-            is_any || !is_later_part(glyphs, at) || coverage(bases, number(&glyphs[at])).is_some()
+            is_any
+                || !is_later_multiple(glyphs, at)
+                || coverage(bases, number(&glyphs[at])).is_some()
         }
         _ => false,
     }

@@ -4,7 +4,7 @@
 
 use crate::support::prelude::*;
 
-use crate::generated::opentype_face::bytes::{part, u16_at};
+use crate::generated::opentype_face::bytes::{table_at, u16_at};
 use crate::generated::opentype_face::glyph_sets::{class, coverage};
 use crate::generated::opentype_face::ranges::Ranges;
 use crate::generated::opentype_layout::pair_tables::{PairHeader, PairTable};
@@ -154,7 +154,7 @@ pub fn value_at(bytes: &[u8], at: usize, format: u16) -> Value {
 ///
 /// </details>
 pub fn single(bytes: &[u8], glyph: u16) -> Option<usize> {
-    let i = coverage(part(bytes, usize::from(u16_at(bytes, 2))), glyph)?;
+    let i = coverage(table_at(bytes, usize::from(u16_at(bytes, 2))), glyph)?;
     match u16_at(bytes, 0) {
         1 => Some(6),
         2 => {
@@ -177,7 +177,7 @@ fn pair_size(header: &PairHeader) -> u32 {
 // Where the set of a first glyph has the values of a pair.
 fn pair_in_set(header: &PairHeader, bytes: &[u8], offset: u16, second: u16) -> Option<usize> {
     let size = pair_size(header) + 2;
-    let set = part(bytes, usize::from(offset));
+    let set = table_at(bytes, usize::from(offset));
     let pairs = Ranges {
         bytes: set,
         first: 2,
@@ -204,8 +204,8 @@ fn cell(header: &PairHeader, row: u16, column: u16) -> Option<usize> {
 
 // Where the values stand of the classes of a pair.
 fn pair_of_classes(header: &PairHeader, bytes: &[u8], first: u16, second: u16) -> Option<usize> {
-    let row = class(part(bytes, usize::from(u16_at(bytes, 8))), first);
-    let column = class(part(bytes, usize::from(u16_at(bytes, 10))), second);
+    let row = class(table_at(bytes, usize::from(u16_at(bytes, 8))), first);
+    let column = class(table_at(bytes, usize::from(u16_at(bytes, 10))), second);
     cell(header, row, column)
 }
 

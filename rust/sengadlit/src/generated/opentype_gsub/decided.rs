@@ -2,7 +2,7 @@
 
 //! Subtables that look at one glyph.
 
-use crate::generated::opentype_face::bytes::{part, u16_at};
+use crate::generated::opentype_face::bytes::{table_at, u16_at};
 use crate::generated::opentype_face::glyph_sets::coverage;
 
 /// The place of a glyph in the set that a subtable begins with.
@@ -20,7 +20,7 @@ use crate::generated::opentype_face::glyph_sets::coverage;
 /// </details>
 #[inline]
 pub fn covered(bytes: &[u8], glyph: u16) -> Option<u32> {
-    coverage(part(bytes, usize::from(u16_at(bytes, 2))), glyph)
+    coverage(table_at(bytes, usize::from(u16_at(bytes, 2))), glyph)
 }
 
 /// One glyph for another, by a subtable of type 1.
@@ -82,7 +82,10 @@ pub(crate) fn set_by(bytes: &[u8], place: Option<u32>) -> Option<&[u8]> {
     }
     let i = place?;
     if i < u32::from(u16_at(bytes, 4)) {
-        Some(part(bytes, usize::from(u16_at(bytes, 6 + i as usize * 2))))
+        Some(table_at(
+            bytes,
+            usize::from(u16_at(bytes, 6 + i as usize * 2)),
+        ))
     } else {
         None
     }

@@ -71,7 +71,12 @@ pub fn replace(
 
 // One of a sequence of glyphs that come in for one.
 #[inline]
-fn part_for(classes: &ClassTable<'_>, sequence: &[u8], glyph: GlyphInfo, k: u16) -> GlyphInfo {
+fn glyph_of_sequence(
+    classes: &ClassTable<'_>,
+    sequence: &[u8],
+    glyph: GlyphInfo,
+    k: u16,
+) -> GlyphInfo {
     let guess = if glyph.glyph_props.0 & 4 == 0 { 0 } else { 2 };
     let to = u16_at(sequence, 2 + usize::from(k) * 2);
     let mut new = replacement(classes, to, guess, glyph);
@@ -129,8 +134,8 @@ pub fn multiply(
     let glyph = text.remove(at);
     let count = count_of(sequence);
     for k in (0..count).rev() {
-        let part = part_for(classes, sequence, glyph, k);
-        text.insert(at, part).map_err(|_| ShaperError::Memory)?;
+        let table_at = glyph_of_sequence(classes, sequence, glyph, k);
+        text.insert(at, table_at).map_err(|_| ShaperError::Memory)?;
     }
     Ok(())
 }

@@ -4,7 +4,7 @@
 
 use crate::support::prelude::*;
 
-use crate::generated::opentype_face::bytes::{part, u16_at};
+use crate::generated::opentype_face::bytes::{table_at, u16_at};
 use crate::generated::opentype_face::glyph_sets::{class, coverage};
 use crate::generated::opentype_gsub::decided::set_of;
 use crate::generated::opentype_gsub::flagging::is_short;
@@ -278,7 +278,7 @@ impl<'a> RuleSet<'a> {
 // Entry `i` of a list of offsets behind its count.
 #[inline]
 fn nth(set: &[u8], i: u16) -> &[u8] {
-    part(set, usize::from(u16_at(set, 2 + usize::from(i) * 2)))
+    table_at(set, usize::from(u16_at(set, 2 + usize::from(i) * 2)))
 }
 
 // A ligature as a rule.
@@ -286,7 +286,7 @@ fn ligature_rule(bytes: &[u8]) -> Rule<'_> {
     Rule {
         before: Pattern::Glyphs(&[]),
         before_count: 0,
-        input: Pattern::Glyphs(part(bytes, 4)),
+        input: Pattern::Glyphs(table_at(bytes, 4)),
         input_count: u16_at(bytes, 2),
         behind: Pattern::Glyphs(&[]),
         behind_count: 0,
@@ -300,7 +300,7 @@ fn rule_set(bytes: &[u8], at: usize, number: u32) -> &[u8] {
     if number >= u32::from(u16_at(bytes, at)) {
         return &[];
     }
-    part(
+    table_at(
         bytes,
         usize::from(u16_at(bytes, at + 2 + number as usize * 2)),
     )
@@ -322,10 +322,10 @@ fn context_rules<'a>(chained: bool, bytes: &'a [u8], glyph: u16) -> Option<RuleS
     let format = u16_at(bytes, 0);
     if format == 3 {
         let first = u16_at(bytes, place_of_first(chained, bytes));
-        coverage(part(bytes, usize::from(first)), glyph)?;
+        coverage(table_at(bytes, usize::from(first)), glyph)?;
         return Some(RuleSet::One(tables, bytes));
     }
-    let covered = coverage(part(bytes, usize::from(u16_at(bytes, 2))), glyph);
+    let covered = coverage(table_at(bytes, usize::from(u16_at(bytes, 2))), glyph);
     match (format, covered) {
         (1, Some(number)) => Some(RuleSet::Rules(tables, rule_set(bytes, 4, number))),
         (2, Some(_)) => {

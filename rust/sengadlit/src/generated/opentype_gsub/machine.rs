@@ -9,7 +9,7 @@ use crate::generated::opentype_face::lookup::subtable_count;
 use crate::generated::opentype_gsub::apply::{apply_one, number};
 use crate::generated::opentype_gsub::flagging::flag_stretch;
 use crate::generated::opentype_gsub::pass::{Pass, Sights};
-use crate::generated::opentype_gsub::settling::Rule;
+use crate::generated::opentype_gsub::shifting::Rule;
 use crate::generated::opentype_gsub::trying::flag_tried;
 use crate::generated::opentype_layout::rules::{Matched, find_rule_at};
 use crate::generated::opentype_layout::starts::LookupTable;
@@ -157,7 +157,7 @@ fn call<'a>(
     match try_at(pass, &sights, &called, text, place) {
         Ok(Outcome::Nothing) => Ok(None),
         Ok(Outcome::Done(_)) => {
-            rule.settle(text.len());
+            rule.shift_behind(text.len());
             Ok(None)
         }
         Ok(Outcome::Fits(called_rule)) => Ok(Some(called_rule)),
@@ -179,7 +179,7 @@ fn end_rule<'a>(len: usize, rule: &mut Rule<'a>, callers: &mut Callers<'a>) -> O
         return Some(rule.end);
     };
     let mut caller = waited(caller);
-    caller.settle(len);
+    caller.shift_behind(len);
     *rule = caller;
     None
 }
@@ -192,7 +192,7 @@ fn go_deeper<'a>(called: Rule<'a>, rule: &mut Rule<'a>, callers: &mut Callers<'a
 }
 
 // One turn of the machine; where it ends, the place behind what was done.
-fn turn<'a>(
+fn step<'a>(
     pass: &Pass<'a>,
     text: &mut Vec<GlyphInfo>,
     rule: &mut Rule<'a>,
@@ -230,7 +230,7 @@ fn run_called<'a>(
     let mut callers = Callers::new();
     callers.push(Some(caller));
     for done in 0..operations {
-        match turn(pass, text, &mut rule, &mut callers) {
+        match step(pass, text, &mut rule, &mut callers) {
             Ok(Some(end)) => {
                 let left = operations - (done + 1);
                 return Ok(Reached {

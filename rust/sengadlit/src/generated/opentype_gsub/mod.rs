@@ -3,6 +3,7 @@
 //! The lookups of GSUB.
 
 pub mod apply;
+pub mod apply_along;
 pub mod decided;
 pub mod edits;
 pub mod flagging;
@@ -14,7 +15,6 @@ pub mod matching;
 pub mod pass;
 pub mod presence;
 pub mod reverse;
-pub mod settling;
+pub mod shifting;
 pub mod substitute;
 pub mod trying;
-pub mod walk;

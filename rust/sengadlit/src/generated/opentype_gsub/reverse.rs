@@ -4,7 +4,7 @@
 
 use crate::support::prelude::*;
 
-use crate::generated::opentype_face::bytes::{part, u16_at};
+use crate::generated::opentype_face::bytes::{table_at, u16_at};
 use crate::generated::opentype_face::lookup::{subtable, subtable_count, subtable_type};
 use crate::generated::opentype_gsub::apply::number;
 use crate::generated::opentype_gsub::decided::covered;
@@ -24,11 +24,11 @@ fn around(bytes: &[u8]) -> Rule<'_> {
     let before_count = u16_at(bytes, 4);
     let behind_at = 6 + usize::from(before_count) * 2;
     Rule {
-        before: Pattern::Sets(part(bytes, 6), bytes),
+        before: Pattern::Sets(table_at(bytes, 6), bytes),
         before_count,
         input: Pattern::Glyphs(&[]),
         input_count: 1,
-        behind: Pattern::Sets(part(bytes, behind_at + 2), bytes),
+        behind: Pattern::Sets(table_at(bytes, behind_at + 2), bytes),
         behind_count: u16_at(bytes, behind_at),
         records: &[],
         count: 0,
@@ -226,15 +226,15 @@ fn step_back(pass: &Pass<'_>, lookup: &LookupTable<'_>, text: &mut Vec<GlyphInfo
 /// # Contract
 ///
 /// ```text
-/// ensures { text.new.items ≡ walked_back (length text.old.items)
+/// ensures { text.new.items ≡ applied_backward (length text.old.items)
 ///     (lookup_stepped_back (setting_of pass.now) lookup.now) text.old.items }
 /// ```
 ///
-/// - `lookup_stepped_back`, `walked_back`: `crates/opentype_gsub/specs/Reversed.antt`
+/// - `applied_backward`, `lookup_stepped_back`: `crates/opentype_gsub/specs/Reversed.antt`
 /// - `setting_of`: `crates/opentype_gsub/specs/Setting.antt`
 ///
 /// </details>
-pub fn walk_back(pass: &Pass<'_>, lookup: &LookupTable<'_>, text: &mut Vec<GlyphInfo>) {
+pub fn apply_backward(pass: &Pass<'_>, lookup: &LookupTable<'_>, text: &mut Vec<GlyphInfo>) {
     for at in (0..text.len()).rev() {
         step_back(pass, lookup, text, at);
     }

@@ -6,10 +6,10 @@ use crate::support::prelude::*;
 
 use crate::generated::opentype_face::class_table::ClassTable;
 use crate::generated::opentype_face::lookup::subtable_type;
+use crate::generated::opentype_gsub::apply_along::apply_along;
 use crate::generated::opentype_gsub::pass::{LookupUse, Pass};
 use crate::generated::opentype_gsub::presence::first_place;
-use crate::generated::opentype_gsub::reverse::walk_back;
-use crate::generated::opentype_gsub::walk::walk;
+use crate::generated::opentype_gsub::reverse::apply_backward;
 use crate::generated::opentype_layout::starts::LookupTable;
 use crate::generated::opentype_layout::tables::LayoutTable;
 use crate::generated::shapers_buffer::buffer::{Buffer, BufferFlags, GlyphInfo, ShaperError};
@@ -41,11 +41,11 @@ fn apply_from<'a>(
     text: &mut Vec<GlyphInfo>,
 ) -> Result<(), ShaperError> {
     if subtable_type(7, table.bytes(), 0) == 8 {
-        walk_back(pass, table, text);
+        apply_backward(pass, table, text);
         return Ok(());
     }
     let len = text.len();
-    walk(
+    apply_along(
         pass,
         table,
         text,

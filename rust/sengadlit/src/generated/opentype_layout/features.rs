@@ -3,7 +3,7 @@
 //! Scripts, language systems and features of GSUB or GPOS, over the bytes of the table. Tags are the
 //! numbers of their four letters.
 
-use crate::generated::opentype_face::bytes::{part, u16_at, u32_at};
+use crate::generated::opentype_face::bytes::{table_at, u16_at, u32_at};
 use crate::generated::opentype_face::ranges::Ranges;
 use crate::support::arrayvec::ArrayVec;
 
@@ -46,7 +46,7 @@ fn tagged(bytes: &[u8], first: u32, count: u16, tag: u32) -> Option<u32> {
 }
 
 fn scripts(table: &[u8]) -> &[u8] {
-    part(table, usize::from(u16_at(table, 4)))
+    table_at(table, usize::from(u16_at(table, 4)))
 }
 
 // The script of a tag.
@@ -117,7 +117,7 @@ pub fn choose_script(table: &[u8], tags: &[u32]) -> Option<Chosen> {
 /// </details>
 pub fn script_table(table: &[u8], i: u32) -> &[u8] {
     let list = scripts(table);
-    part(list, usize::from(u16_at(list, 6 + i as usize * 6)))
+    table_at(list, usize::from(u16_at(list, 6 + i as usize * 6)))
 }
 
 fn new_tag(script: u32) -> u32 {
@@ -204,8 +204,8 @@ fn first_language(script: &[u8], tags: &[u32]) -> Option<u32> {
 
 fn system_at(script: &[u8], number: Option<u32>) -> &[u8] {
     match number {
-        Some(i) => part(script, usize::from(u16_at(script, 8 + i as usize * 6))),
-        None => part(script, usize::from(u16_at(script, 0))),
+        Some(i) => table_at(script, usize::from(u16_at(script, 8 + i as usize * 6))),
+        None => table_at(script, usize::from(u16_at(script, 0))),
     }
 }
 
@@ -232,7 +232,7 @@ pub fn language_system<'a>(script: &'a [u8], tags: &[u32]) -> &'a [u8] {
 }
 
 fn features(table: &[u8]) -> &[u8] {
-    part(table, usize::from(u16_at(table, 6)))
+    table_at(table, usize::from(u16_at(table, 6)))
 }
 
 fn feature_count(table: &[u8]) -> u16 {
@@ -360,7 +360,7 @@ fn holds(condition: &[u8]) -> bool {
 }
 
 fn failing(set: &[u8], i: u16) -> Option<u16> {
-    if holds(part(set, offset32(set, 2 + usize::from(i) * 4))) {
+    if holds(table_at(set, offset32(set, 2 + usize::from(i) * 4))) {
         None
     } else {
         Some(i)
@@ -386,11 +386,14 @@ fn variations(table: &[u8]) -> &[u8] {
     if u32_at(table, 0) < 0x0001_0001 {
         return &[];
     }
-    part(table, offset32(table, 10))
+    table_at(table, offset32(table, 10))
 }
 
 fn holding(variations: &[u8], i: u32) -> Option<u32> {
-    if all_hold(part(variations, offset32(variations, 8 + i as usize * 8))) {
+    if all_hold(table_at(
+        variations,
+        offset32(variations, 8 + i as usize * 8),
+    )) {
         Some(i)
     } else {
         None
@@ -425,7 +428,7 @@ fn find_variation(variations: &[u8]) -> Option<u32> {
 pub fn substitutions(table: &[u8]) -> &[u8] {
     let variations = variations(table);
     match find_variation(variations) {
-        Some(i) => part(variations, offset32(variations, 12 + i as usize * 8)),
+        Some(i) => table_at(variations, offset32(variations, 12 + i as usize * 8)),
         None => &[],
     }
 }
@@ -454,7 +457,7 @@ fn plain_feature(table: &[u8], index: u16) -> &[u8] {
     if index >= u16_at(list, 0) {
         return &[];
     }
-    part(list, usize::from(u16_at(list, 6 + usize::from(index) * 6)))
+    table_at(list, usize::from(u16_at(list, 6 + usize::from(index) * 6)))
 }
 
 /// A feature's table by its number, or what stands for it among these substitutions.
@@ -474,7 +477,7 @@ pub fn feature_by<'a>(table: &'a [u8], substitutions: &'a [u8], index: u16) -> &
     match find_substitute(substitutions, index) {
         Some(i) => {
             let at = offset32(substitutions, 8 + usize::from(i) * 6);
-            part(substitutions, at)
+            table_at(substitutions, at)
         }
         None => plain_feature(table, index),
     }

@@ -4,7 +4,7 @@
 
 use crate::support::prelude::*;
 
-use crate::generated::opentype_face::bytes::{offset16, part, u16_at};
+use crate::generated::opentype_face::bytes::{offset16, table_at, u16_at};
 use crate::generated::opentype_face::glyph_tables::{PreparedClassDef, PreparedCoverage};
 use crate::generated::opentype_face::lookup::{subtable, subtable_count, subtable_type};
 use crate::support::alloc::Global;
@@ -77,9 +77,17 @@ impl<'a> PairTable<'a> {
         PairTable {
             bytes,
             header: PairHeader::of(bytes),
-            set: PreparedCoverage::new(part(bytes, offset16(bytes, 2)), alloc, budget),
-            first_classes: PreparedClassDef::new(part(bytes, offset16(bytes, 8)), alloc, budget),
-            second_classes: PreparedClassDef::new(part(bytes, offset16(bytes, 10)), alloc, budget),
+            set: PreparedCoverage::new(table_at(bytes, offset16(bytes, 2)), alloc, budget),
+            first_classes: PreparedClassDef::new(
+                table_at(bytes, offset16(bytes, 8)),
+                alloc,
+                budget,
+            ),
+            second_classes: PreparedClassDef::new(
+                table_at(bytes, offset16(bytes, 10)),
+                alloc,
+                budget,
+            ),
         }
     }
 
@@ -124,10 +132,10 @@ impl<'a> PairTable<'a> {
     /// # Contract
     ///
     /// ```text
-    /// ensures { result ≡ coverage_in (part_in self.now (u16_in self.now 2)) glyph }
+    /// ensures { result ≡ coverage_in (table_at self.now (u16_in self.now 2)) glyph }
     /// ```
     ///
-    /// - `part_in`, `u16_in`: `crates/opentype_face/specs/Bytes.antt`
+    /// - `table_at`, `u16_in`: `crates/opentype_face/specs/Bytes.antt`
     /// - `coverage_in`: `crates/opentype_face/specs/Glyphs.antt`
     ///
     /// </details>
@@ -143,10 +151,10 @@ impl<'a> PairTable<'a> {
     /// # Contract
     ///
     /// ```text
-    /// ensures { result ≡ class_in (part_in self.now (u16_in self.now 8)) glyph }
+    /// ensures { result ≡ class_in (table_at self.now (u16_in self.now 8)) glyph }
     /// ```
     ///
-    /// - `part_in`, `u16_in`: `crates/opentype_face/specs/Bytes.antt`
+    /// - `table_at`, `u16_in`: `crates/opentype_face/specs/Bytes.antt`
     /// - `class_in`: `crates/opentype_face/specs/Glyphs.antt`
     ///
     /// </details>
@@ -162,10 +170,10 @@ impl<'a> PairTable<'a> {
     /// # Contract
     ///
     /// ```text
-    /// ensures { result ≡ class_in (part_in self.now (u16_in self.now 10)) glyph }
+    /// ensures { result ≡ class_in (table_at self.now (u16_in self.now 10)) glyph }
     /// ```
     ///
-    /// - `part_in`, `u16_in`: `crates/opentype_face/specs/Bytes.antt`
+    /// - `table_at`, `u16_in`: `crates/opentype_face/specs/Bytes.antt`
     /// - `class_in`: `crates/opentype_face/specs/Glyphs.antt`
     ///
     /// </details>

@@ -2,7 +2,7 @@
 
 //! What places of a rule look for, and where they find it.
 
-use crate::generated::opentype_face::bytes::{part, u16_at};
+use crate::generated::opentype_face::bytes::{table_at, u16_at};
 use crate::generated::opentype_face::glyph_sets::{class, coverage};
 use crate::generated::opentype_layout::sight::{Sight, number};
 use crate::generated::shapers_buffer::buffer::GlyphInfo;
@@ -41,7 +41,7 @@ impl<'a> Pattern<'a> {
             }
             Pattern::Sets(offsets, table) => {
                 let offset = usize::from(u16_at(offsets, usize::from(k) * 2));
-                coverage(part(table, offset), glyph).is_some()
+                coverage(table_at(table, offset), glyph).is_some()
             }
         }
     }

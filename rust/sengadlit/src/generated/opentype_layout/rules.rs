@@ -4,7 +4,7 @@
 
 use crate::support::prelude::*;
 
-use crate::generated::opentype_face::bytes::{part, u16_at};
+use crate::generated::opentype_face::bytes::{table_at, u16_at};
 use crate::generated::opentype_face::glyph_sets::{class, coverage};
 use crate::generated::opentype_layout::input::input_places;
 use crate::generated::opentype_layout::keys::{Keys, key_before, key_behind};
@@ -208,13 +208,17 @@ impl<'a> Tables<'a> {
         let behind_count = u16_at(bytes, behind_at);
         let records_at = behind_at + 2 + usize::from(behind_count) * 2;
         Rule {
-            before: pattern(self.format, part(bytes, shift + 2), self.before),
+            before: pattern(self.format, table_at(bytes, shift + 2), self.before),
             before_count,
-            input: pattern(self.format, part(bytes, input_at + shift + 2), self.input),
+            input: pattern(
+                self.format,
+                table_at(bytes, input_at + shift + 2),
+                self.input,
+            ),
             input_count,
-            behind: pattern(self.format, part(bytes, behind_at + 2), self.behind),
+            behind: pattern(self.format, table_at(bytes, behind_at + 2), self.behind),
             behind_count,
-            records: part(bytes, records_at + 2),
+            records: table_at(bytes, records_at + 2),
             count: u16_at(bytes, records_at),
         }
     }
@@ -226,11 +230,11 @@ impl<'a> Tables<'a> {
         Rule {
             before: pattern(1, &[], &[]),
             before_count: 0,
-            input: pattern(self.format, part(bytes, shift + shift + 4), self.input),
+            input: pattern(self.format, table_at(bytes, shift + shift + 4), self.input),
             input_count,
             behind: pattern(1, &[], &[]),
             behind_count: 0,
-            records: part(bytes, shift + shift + 2 + usize::from(input_count) * 2),
+            records: table_at(bytes, shift + shift + 2 + usize::from(input_count) * 2),
             count: u16_at(bytes, shift + 2),
         }
     }
@@ -293,15 +297,15 @@ impl<'a> Tables<'a> {
             2 if chained => Tables {
                 chained: true,
                 format: 2,
-                before: part(bytes, usize::from(u16_at(bytes, 4))),
-                input: part(bytes, usize::from(u16_at(bytes, 6))),
-                behind: part(bytes, usize::from(u16_at(bytes, 8))),
+                before: table_at(bytes, usize::from(u16_at(bytes, 4))),
+                input: table_at(bytes, usize::from(u16_at(bytes, 6))),
+                behind: table_at(bytes, usize::from(u16_at(bytes, 8))),
             },
             2 => Tables {
                 chained: false,
                 format: 2,
                 before: &[],
-                input: part(bytes, usize::from(u16_at(bytes, 4))),
+                input: table_at(bytes, usize::from(u16_at(bytes, 4))),
                 behind: &[],
             },
             _ => Tables {
@@ -397,7 +401,7 @@ impl<'a> Tables<'a> {
     ) -> Option<Matched<'a>> {
         let keys = self.keys(gdef, input, context, glyphs, at);
         for i in 0..u16_at(set, 0) {
-            let bytes = part(set, usize::from(u16_at(set, 2 + usize::from(i) * 2)));
+            let bytes = table_at(set, usize::from(u16_at(set, 2 + usize::from(i) * 2)));
             if self.is_barred(&keys, bytes) {
                 continue;
             }
@@ -413,7 +417,7 @@ impl<'a> Tables<'a> {
 // The set of glyphs whose offset from the start of a table stands at a place of a rule.
 #[inline]
 fn set_at<'a>(table: &'a [u8], rule: &[u8], at: usize) -> &'a [u8] {
-    part(table, usize::from(u16_at(rule, at)))
+    table_at(table, usize::from(u16_at(rule, at)))
 }
 
 // A set of rules of a context, by its number.
@@ -421,7 +425,7 @@ pub(crate) fn rule_set(bytes: &[u8], at: usize, i: u32) -> &[u8] {
     if i >= u32::from(u16_at(bytes, at)) {
         return &[];
     }
-    part(bytes, usize::from(u16_at(bytes, at + 2 + i as usize * 2)))
+    table_at(bytes, usize::from(u16_at(bytes, at + 2 + i as usize * 2)))
 }
 
 pub(crate) fn place_of_sets(chained: bool) -> usize {
@@ -445,7 +449,7 @@ fn is_begun(chained: bool, bytes: &[u8], glyph: u16, is_known: bool) -> bool {
         return true;
     }
     let set = u16_at(bytes, place_of_first(chained, bytes));
-    coverage(part(bytes, usize::from(set)), glyph).is_some()
+    coverage(table_at(bytes, usize::from(set)), glyph).is_some()
 }
 
 // The rule of a context of format 3, if it fits a place of a text; the set that it begins with is
@@ -543,7 +547,7 @@ pub fn find_rule<'a>(
         return find_by_sets(chained, gdef, input, context, bytes, false, glyphs, at);
     }
     let covered = coverage(
-        part(bytes, usize::from(u16_at(bytes, 2))),
+        table_at(bytes, usize::from(u16_at(bytes, 2))),
         number(&glyphs[at]),
     );
     find_by_place(chained, gdef, input, context, bytes, covered, glyphs, at)

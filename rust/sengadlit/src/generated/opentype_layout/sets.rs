@@ -2,7 +2,7 @@
 
 //! The set of the glyphs that a subtable begins with.
 
-use crate::generated::opentype_face::bytes::{part, u16_at};
+use crate::generated::opentype_face::bytes::{table_at, u16_at};
 use crate::generated::opentype_face::glyph_sets::coverage;
 use crate::generated::opentype_face::lookup::{subtable, subtable_count, subtable_type};
 use crate::generated::opentype_face::ranges::Ranges;
@@ -30,7 +30,7 @@ pub(crate) fn first_set(of_gpos: bool, lookup: &[u8], i: u16) -> &[u8] {
     let extension = if of_gpos { 9 } else { 7 };
     let bytes = subtable(extension, lookup, i);
     let at = place_of_set(of_gpos, subtable_type(extension, lookup, i), bytes);
-    part(bytes, usize::from(u16_at(bytes, at)))
+    table_at(bytes, usize::from(u16_at(bytes, at)))
 }
 
 /// The number of a subtable that may begin at a glyph.

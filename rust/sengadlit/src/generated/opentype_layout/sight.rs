@@ -2,7 +2,7 @@
 
 //! Which glyphs a lookup sees.
 
-use crate::generated::opentype_face::bytes::{part, u16_at};
+use crate::generated::opentype_face::bytes::{table_at, u16_at};
 use crate::generated::opentype_face::classes::is_in_mark_set;
 use crate::generated::opentype_face::lookup::{lookup_flag, mark_set};
 use crate::generated::shapers_buffer::buffer::GlyphInfo;
@@ -48,7 +48,7 @@ fn mark_set_count(gdef: &[u8]) -> u16 {
     } else {
         usize::from(u16_at(gdef, 12))
     };
-    u16_at(part(gdef, at), 2)
+    u16_at(table_at(gdef, at), 2)
 }
 
 // The flag of a lookup; where its set of marks isn't there, it has none.

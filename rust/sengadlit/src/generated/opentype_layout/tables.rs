@@ -4,7 +4,7 @@
 
 use crate::support::prelude::*;
 
-use crate::generated::opentype_face::bytes::{offset16, part, u16_at};
+use crate::generated::opentype_face::bytes::{offset16, table_at, u16_at};
 use crate::generated::opentype_face::lookup::lookup;
 use crate::generated::opentype_layout::lookup_rows::{LookupBits, lookup_rows, rows_of};
 use crate::generated::opentype_layout::pair_tables::LookupPairs;
@@ -15,7 +15,7 @@ use crate::support::alloc::Global;
 
 /// How many lookups there are.
 pub(crate) fn lookup_count(bytes: &[u8]) -> u16 {
-    u16_at(part(bytes, offset16(bytes, 8)), 0)
+    u16_at(table_at(bytes, offset16(bytes, 8)), 0)
 }
 
 // The bits of each lookup.

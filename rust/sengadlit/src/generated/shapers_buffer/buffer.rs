@@ -12,7 +12,7 @@ use rooms::Rooms;
 
 mod bits;
 mod category;
-mod cluster_runs;
+mod cluster_ranges;
 mod exchanging;
 mod fields;
 mod flags;
@@ -39,7 +39,7 @@ mod unicode_props;
 mod walking;
 
 pub use category::GeneralCategory;
-pub use cluster_runs::{ClusterRun, merge_run_in, write_run_in};
+pub use cluster_ranges::{ClusterRange, merge_range_in, write_range_in};
 pub use flags::BufferFlags;
 pub use glyph::{GlyphInfo, GlyphPosition};
 pub use glyph_flags::{
@@ -93,7 +93,7 @@ pub struct Buffer {
 }
 
 impl Buffer {
-    /// An empty buffer, whose text runs from left to right. It takes no memory.
+    /// An empty buffer, whose text goes from left to right. It takes no memory.
     ///
     /// <details><summary>Contract</summary>
     ///

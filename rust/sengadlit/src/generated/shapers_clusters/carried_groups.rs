@@ -1,6 +1,6 @@
 // Generated from crates/shapers_clusters/src/carried_groups.rt by rust/erase; edit the source.
 
-//! Runs of glyphs in front of a place where merges go on, each in one cluster, which are written
+//! Ranges of glyphs in front of a place where merges go on, each in one cluster, which are written
 //! once.
 
 use crate::support::prelude::*;
@@ -134,14 +134,14 @@ impl CarriedGroups {
         if first == end || first < self.end {
             return 0;
         }
-        if !self.reach(glyphs, first) {
+        if !self.add_groups_to(glyphs, first) {
             return 0;
         }
         if !self.is_apart(glyphs) {
             return 0;
         }
         let count = self.count_from(least_cluster(&glyphs[first..end]));
-        match self.show(glyphs, count) {
+        match self.represent_groups(glyphs, count) {
             Ok(()) => count,
             Err(_) => 0,
         }
@@ -155,16 +155,16 @@ impl CarriedGroups {
     /// # Contract
     ///
     /// ```text
-    /// requires fits { CanSettle self.old count glyphs.old }
-    /// ensures settled { GroupsSettled self.old count glyphs.old self.new glyphs.new }
+    /// requires fits { CanTakeBack self.old count glyphs.old }
+    /// ensures settled { GroupsTakenBack self.old count glyphs.old self.new glyphs.new }
     /// ensures same_length { length glyphs.new ≡ length glyphs.old }
     /// ```
     ///
-    /// - `CanSettle`, `GroupsSettled`: `crates/shapers_clusters/specs/CarriedGroups.antt`
+    /// - `CanTakeBack`, `GroupsTakenBack`: `crates/shapers_clusters/specs/CarriedGroups.antt`
     ///
     /// </details>
     #[inline]
-    pub fn settle(&mut self, glyphs: &mut [GlyphInfo], count: usize) {
+    pub fn take_back(&mut self, glyphs: &mut [GlyphInfo], count: usize) {
         if count == 0 {
             return;
         }
@@ -201,7 +201,7 @@ impl CarriedGroups {
     // Adds the glyphs up to a place, each as a group or to one. False where there is no memory, or
     // no group.
     #[inline]
-    fn reach(&mut self, glyphs: &mut [GlyphInfo], place: usize) -> bool {
+    fn add_groups_to(&mut self, glyphs: &mut [GlyphInfo], place: usize) -> bool {
         while self.end < place {
             if self.add(glyphs).is_err() {
                 return false;
@@ -244,7 +244,11 @@ impl CarriedGroups {
     // Lets one glyph stand for each of the last `count` groups, and one with another cluster before
     // these.
     #[inline]
-    fn show(&mut self, glyphs: &mut [GlyphInfo], count: usize) -> Result<(), AllocError> {
+    fn represent_groups(
+        &mut self,
+        glyphs: &mut [GlyphInfo],
+        count: usize,
+    ) -> Result<(), AllocError> {
         let place = self.end - count;
         self.kept.truncate(0);
         self.kept

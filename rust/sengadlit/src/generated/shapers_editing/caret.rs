@@ -8,7 +8,7 @@ use crate::generated::shapers_buffer::buffer::{Direction, GlyphInfo, ShaperError
 
 /// Fills the list with the places of the text where a caret may stand before a glyph: the borders
 /// of clusters, in the order of the text. The glyphs are a shaped text, as they are drawn from left
-/// to right or from top to bottom, so the clusters of one that runs backward fall along them.
+/// to right or from top to bottom, so the clusters of one that goes backward fall along them.
 ///
 /// A caret also stands behind the text. A glyph stands for the text from the last stop that isn't
 /// above its cluster up to the next one, or to the text's end. Where clusters don't keep to the

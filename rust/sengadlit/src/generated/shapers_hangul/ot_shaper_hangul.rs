@@ -169,10 +169,10 @@ pub fn preprocess_text_changes<F: Font>(
 ///
 /// ```text
 /// ensures masks { result ≡ Hangul (record { mask_array = jamo_masks plan.now.ot_map }) }
-/// ensures off_flags { All (λ mask. mask % 8 ≡ 0) (masks_kept result) }
+/// ensures off_flags { All (λ mask. mask % 8 ≡ 0) (masks_stored result) }
 /// ```
 ///
-/// - `masks_kept`: `crates/shapers_base/specs/Masks.antt`
+/// - `masks_stored`: `crates/shapers_base/specs/Masks.antt`
 /// - `jamo_masks`: `crates/shapers_hangul/specs/Masks.antt`
 ///
 /// </details>

@@ -98,10 +98,10 @@ pub fn override_features(planner: &mut Planner) -> Result<(), ShaperError> {
 ///
 /// ```text
 /// ensures masks { result ≡ Khmer (record { mask_array = khmer_masks plan.now.ot_map }) }
-/// ensures off_flags { All (λ mask. mask % 8 ≡ 0) (masks_kept result) }
+/// ensures off_flags { All (λ mask. mask % 8 ≡ 0) (masks_stored result) }
 /// ```
 ///
-/// - `masks_kept`: `crates/shapers_base/specs/Masks.antt`
+/// - `masks_stored`: `crates/shapers_base/specs/Masks.antt`
 /// - `khmer_masks`: `crates/shapers_khmer/specs/Plan.antt`
 ///
 /// </details>

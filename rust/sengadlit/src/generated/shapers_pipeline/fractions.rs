@@ -44,12 +44,12 @@ fn has_slash(glyphs: &[GlyphInfo]) -> bool {
     glyphs.iter().any(is_fraction_slash)
 }
 
-// Numerators stand first where the text runs forward.
+// Numerators stand first where the text goes forward.
 #[inline]
 fn slash_masks(direction: Direction, masks: &DriverMasks) -> SlashMasks {
     let numerators = masks.numr | masks.frac;
     let denominators = masks.frac | masks.dnom;
-    let (before, behind) = if runs_forward(direction) {
+    let (before, behind) = if goes_forward(direction) {
         (numerators, denominators)
     } else {
         (denominators, numerators)
@@ -62,7 +62,7 @@ fn slash_masks(direction: Direction, masks: &DriverMasks) -> SlashMasks {
 }
 
 #[inline]
-pub(crate) fn runs_forward(direction: Direction) -> bool {
+pub(crate) fn goes_forward(direction: Direction) -> bool {
     matches!(direction, Direction::LeftToRight | Direction::TopToBottom)
 }
 

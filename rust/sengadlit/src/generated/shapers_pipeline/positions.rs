@@ -5,7 +5,7 @@
 use crate::generated::rustybuzz_shapers::shaper::Shaper;
 use crate::generated::shapers_base::buffer::{Buffer, Direction, ShaperError};
 use crate::generated::shapers_base::plan::ZeroWidthMarks;
-use crate::generated::shapers_pipeline::fractions::runs_forward;
+use crate::generated::shapers_pipeline::fractions::goes_forward;
 use crate::generated::shapers_pipeline::lookups::Lookups;
 use crate::generated::shapers_pipeline::settings::ShapeSettings;
 use crate::generated::shapers_plan::ot_map::StageLookup;
@@ -65,10 +65,10 @@ fn is_late(zeroing: ZeroWidthMarks) -> bool {
 }
 
 // Whether marks without an advance hang over the glyph before them: without GPOS, where the text
-// runs forward. Where it runs backward they will hang over the one behind them.
+// goes forward. Where it goes backward they will hang over the one behind them.
 #[inline]
 fn hangs_marks(applies_gpos: bool, direction: Direction) -> bool {
-    !applies_gpos && runs_forward(direction)
+    !applies_gpos && goes_forward(direction)
 }
 
 // Takes marks their advances, if this is the time.

@@ -7,7 +7,7 @@ use crate::generated::shapers_spans::machine::Machine;
 
 // What is known of the joiners that stand together in a text.
 //
-// The machine may turn in one state for as long as joiners stand there, and end nothing behind them:
+// The machine may cycle in one state for as long as joiners stand there, and end nothing behind them:
 // then each of them begins a syllable of its own. So that none of these walks goes over the joiners
 // again, it is known where they end; and so that none reads again what stands behind them, a state
 // from which nothing ends there.
@@ -26,10 +26,10 @@ impl Joiners {
         Joiners { end: 0, stuck: 0 }
     }
 
-    // Where a walk from `start` goes on that turns in a state with `n` glyphs behind it: behind the
+    // Where a walk from `start` goes on that cycles in a state with `n` glyphs behind it: behind the
     // joiners; nowhere, if nothing ends from that state behind them.
     //
-    // Few texts turn, and inlined this would slow down the others.
+    // Few texts cycle, and inlined this would slow down the others.
     #[inline(never)]
     fn behind(&mut self, start: usize, n: usize, state: u8) -> Option<usize> {
         let here = start + n;
@@ -43,7 +43,7 @@ impl Joiners {
 }
 
 // Where the walk goes on in a state in which nothing ends: behind the joiners that are known, if
-// the state turns; and nowhere, if nothing ends behind them either.
+// the state cycles; and nowhere, if nothing ends behind them either.
 #[inline]
 fn behind_joiners<M: Machine>(
     machine: &M,
@@ -52,15 +52,15 @@ fn behind_joiners<M: Machine>(
     n: usize,
     joiners: &mut Joiners,
 ) -> Option<usize> {
-    if !machine.turns(state) {
+    if !machine.cycles(state) {
         return Some(n);
     }
     joiners.behind(start, n, state)
 }
 
 // The syllable that begins what is left of a text at `start`. A state that joiners don't leave goes
-// on behind the run of them that is known, so that a run is read once and not again for each of its
-// glyphs; and a state from which nothing ends behind the run goes no further.
+// on behind the sequence of them that is known, so that a sequence is read once and not again for
+// each of its glyphs; and a state from which nothing ends behind the sequence goes no further.
 #[inline]
 pub(crate) fn first_span<M: Machine>(
     machine: &M,

@@ -10,10 +10,10 @@ const NO_END: u8 = 255;
 /// A machine for a grammar: its state says what the rules take from there on.
 ///
 /// Where nothing ends in a state, its rank says how many more states at most come before one in
-/// which something does, one that turns, or the dead one. In a state that turns, each joiner leads
-/// back to it: as many joiners as there are may stand there. The waiting states are those that turn
+/// which something does, one that cycles, or the dead one. In a state that cycles, each joiner leads
+/// back to it: as many joiners as there are may stand there. The waiting states are those that cycle
 /// and those on the way to them, to which joiners alone lead. A text that begins with two joiners
-/// leads to one and the same state that turns, whichever joiners they are.
+/// leads to one and the same state that cycles, whichever joiners they are.
 pub trait Machine {
     /// The kind of a glyph that begins nothing that a rule takes.
     ///
@@ -67,15 +67,15 @@ pub trait Machine {
     /// ensures ends { (w : List ℕ) →
     ///     ends self.now state (category ∷ w) ≡ ends self.now result w }
     /// ensures falls { 0 < rank self.now state → ends self.now result [] ≡ None →
-    ///     turns self.now result ≡ false → rank self.now result < rank self.now state }
+    ///     cycles self.now result ≡ false → rank self.now result < rank self.now state }
     /// ensures rank { rank self.now result ≤ 2 }
     /// ensures one { state ≡ first self.now → is_joiner self.now category ≡ true →
     ///     begun self.now result ≡ true }
     /// ensures begun { begun self.now result ≡ true →
-    ///     (turns self.now result ≡ false) × (rank self.now result ≤ 1) }
+    ///     (cycles self.now result ≡ false) × (rank self.now result ≤ 1) }
     /// ensures two { begun self.now state ≡ true → is_joiner self.now category ≡ true →
-    ///     (result ≡ turned self.now) × (ends self.now result [] ≡ None) }
-    /// ensures same { turns self.now state ≡ true → is_joiner self.now category ≡ true →
+    ///     (result ≡ cycled self.now) × (ends self.now result [] ≡ None) }
+    /// ensures same { cycles self.now state ≡ true → is_joiner self.now category ≡ true →
     ///     result ≡ state }
     /// ensures waits { waits self.now result ≡ true →
     ///     (is_joiner self.now category ≡ true)
@@ -124,24 +124,20 @@ pub trait Machine {
 
     /// Whether joiners, as many as there are, lead from this state back to it.
     ///
-    /// # Panics
-    ///
-    /// May panic where `state` is none of the machine's.
-    ///
     /// <details><summary>Contract</summary>
     ///
     /// # Contract
     ///
     /// ```text
     /// requires { is_state self.now state }
-    /// ensures turns { result ≡ turns self.now state }
+    /// ensures cycles { result ≡ cycles self.now state }
     /// ensures waits { IsTrue result → waits self.now state ≡ true }
     /// ensures stays { IsTrue result → (k : ℕ) → is_joiner self.now k ≡ true → (w : List ℕ) →
     ///     ends self.now state (k ∷ w) ≡ ends self.now state w }
     /// ```
     ///
     /// </details>
-    fn turns(&self, state: u8) -> bool;
+    fn cycles(&self, state: u8) -> bool;
 
     /// The first place from `n` on whose glyph is read.
     ///
@@ -167,7 +163,7 @@ pub trait Machine {
 }
 
 /// The tables of a machine, and what it passes over. A row of states, one for each class of
-/// categories, says what comes behind a state; behind the dead state are the states that turn.
+/// categories, says what comes behind a state; behind the dead state are the states that cycle.
 pub trait MachineTables {
     /// The kind of a glyph that begins nothing that a rule takes.
     ///
@@ -192,10 +188,10 @@ pub trait MachineTables {
     /// ```text
     /// ensures first { result ≡ 0 }
     /// ensures passes { (grammar self.now).passes [] ≡ false }
-    /// ensures tables { AreTablesOf (grammar self.now) (tables self.now) (turning self.now) }
+    /// ensures tables { AreTablesOf (grammar self.now) (tables self.now) (cycling self.now) }
     /// ```
     ///
-    /// - `AreTablesOf`: `crates/shapers_spans/specs/Turning.antt`
+    /// - `AreTablesOf`: `crates/shapers_spans/specs/Cycling.antt`
     ///
     /// </details>
     fn first_state(&self) -> u8;
@@ -207,11 +203,11 @@ pub trait MachineTables {
     /// # Contract
     ///
     /// ```text
-    /// ensures state { result ≡ (turning self.now).dead }
-    /// ensures tables { AreTablesOf (grammar self.now) (tables self.now) (turning self.now) }
+    /// ensures state { result ≡ (cycling self.now).dead }
+    /// ensures tables { AreTablesOf (grammar self.now) (tables self.now) (cycling self.now) }
     /// ```
     ///
-    /// - `AreTablesOf`: `crates/shapers_spans/specs/Turning.antt`
+    /// - `AreTablesOf`: `crates/shapers_spans/specs/Cycling.antt`
     ///
     /// </details>
     fn dead_state(&self) -> u8;
@@ -224,10 +220,10 @@ pub trait MachineTables {
     ///
     /// ```text
     /// ensures classes { result.now ≡ (tables self.now).class_of }
-    /// ensures tables { AreTablesOf (grammar self.now) (tables self.now) (turning self.now) }
+    /// ensures tables { AreTablesOf (grammar self.now) (tables self.now) (cycling self.now) }
     /// ```
     ///
-    /// - `AreTablesOf`: `crates/shapers_spans/specs/Turning.antt`
+    /// - `AreTablesOf`: `crates/shapers_spans/specs/Cycling.antt`
     ///
     /// </details>
     fn classes(&self) -> &[u8; 256];
@@ -319,7 +315,7 @@ impl<T: MachineTables> Machine for T {
     }
 
     #[inline]
-    fn turns(&self, state: u8) -> bool {
+    fn cycles(&self, state: u8) -> bool {
         state > self.dead_state()
     }
 

@@ -22,7 +22,7 @@ fn next_is_mark(glyphs: &[GlyphInfo]) -> bool {
 
 // Whether the text begins with a glyph that is passed over.
 #[inline]
-fn opens_passed(glyphs: &[GlyphInfo]) -> bool {
+fn begins_passed(glyphs: &[GlyphInfo]) -> bool {
     match glyphs[0].category {
         CGJ => true,
         ZWNJ => next_is_mark(&glyphs[1..]),
@@ -44,7 +44,7 @@ pub(crate) fn next_read(glyphs: &[GlyphInfo], n: usize) -> usize {
 #[inline(never)]
 fn behind_passed(glyphs: &[GlyphInfo], n: usize) -> usize {
     for place in n..glyphs.len() {
-        if !opens_passed(&glyphs[place..]) {
+        if !begins_passed(&glyphs[place..]) {
             return place;
         }
     }

@@ -11,7 +11,7 @@ mod kinds;
 mod moving;
 mod pause;
 mod reordering;
-mod set_up;
+mod setup;
 
 pub use characters::{
     compose, set_categories, set_categories_and_positions, set_categories_and_positions_in,
@@ -28,4 +28,4 @@ pub use pause::reorder_pause;
 pub use reordering::{
     MayChange, Reorder, ReorderBySteps, reorder_syllables, reorder_syllables_by_steps,
 };
-pub use set_up::{flag_syllables_in, set_up_by_bytes, set_up_syllables};
+pub use setup::{flag_syllables_in, setup_by_bytes, setup_syllables};

@@ -24,7 +24,7 @@ use crate::generated::shapers_base::plan::Plan;
 /// requires in_order { start ≤ end }
 /// requires in_range { end ≤ length buffer.old.glyphs }
 /// ensures step { let step = hebrew_mark_step start end buffer.old.glyphs in
-///     let moved = run_step buffer.old.level step buffer.old.glyphs in
+///     let moved = after_step buffer.old.level step buffer.old.glyphs in
 ///     buffer.new ≡ record buffer.old { glyphs = moved } }
 /// ensures order { let old = order_view buffer.old.glyphs in
 ///     order_view buffer.new.glyphs ≡ marks_swapped start end old }
@@ -32,7 +32,7 @@ use crate::generated::shapers_base::plan::Plan;
 /// ```
 ///
 /// - `order_view`: `crates/shapers_buffer/specs/Glyph.antt`
-/// - `run_step`: `crates/shapers_clusters/specs/Steps.antt`
+/// - `after_step`: `crates/shapers_clusters/specs/Steps.antt`
 /// - `HebrewMarksReordered`, `hebrew_mark_step`, `marks_swapped`: `crates/shapers_text/specs/Hebrew.antt`
 ///
 /// </details>
@@ -56,12 +56,12 @@ pub fn reorder_marks(_plan: &Plan, buffer: &mut Buffer, start: usize, end: usize
 /// ```text
 /// requires in_order { start ≤ end }
 /// requires in_range { end ≤ length glyphs.old }
-/// ensures step { glyphs.new ≡ run_step level (hebrew_mark_step start end glyphs.old) glyphs.old }
+/// ensures step { glyphs.new ≡ after_step level (hebrew_mark_step start end glyphs.old) glyphs.old }
 /// ensures moved { result ≡ is_some (second_of_triple start end glyphs.old) }
 /// ensures unchanged { result ≡ false → glyphs.new ≡ glyphs.old }
 /// ```
 ///
-/// - `run_step`: `crates/shapers_clusters/specs/Steps.antt`
+/// - `after_step`: `crates/shapers_clusters/specs/Steps.antt`
 /// - `hebrew_mark_step`, `second_of_triple`: `crates/shapers_text/specs/Hebrew.antt`
 ///
 /// </details>
@@ -94,7 +94,7 @@ fn find_triple(glyphs: &[GlyphInfo], start: usize, end: usize) -> Option<usize> 
     let marks = &glyphs[start..end];
     let mut second = start + 1;
     for triple in marks.windows(3) {
-        if opens_triple(triple) {
+        if begins_triple(triple) {
             return Some(second);
         }
         second += 1;
@@ -104,7 +104,7 @@ fn find_triple(glyphs: &[GlyphInfo], start: usize, end: usize) -> Option<usize> 
 
 // Whether the first three are of such classes that the last two change places.
 #[inline]
-fn opens_triple(marks: &[GlyphInfo]) -> bool {
+fn begins_triple(marks: &[GlyphInfo]) -> bool {
     let [a, b, c, ..] = marks else {
         return false;
     };

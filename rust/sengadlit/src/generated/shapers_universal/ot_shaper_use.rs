@@ -14,7 +14,7 @@ mod masks;
 mod ordering;
 mod records;
 mod reordering;
-mod set_up;
+mod setup;
 mod syllable_walk;
 
 pub use crate::generated::shapers_base::plan::UniversalPlan;
@@ -24,7 +24,7 @@ pub use masks::{set_categories_in, setup_masks};
 pub use ordering::UniversalOrder;
 pub use records::{record_pref, record_pref_in, record_rphf, record_rphf_in};
 pub use reordering::reorder_use;
-pub use set_up::{setup_syllables_use, setup_syllables_use_by_bytes};
+pub use setup::{setup_syllables_use, setup_syllables_use_by_bytes};
 
 // A basic feature: in the whole text, within syllables, and it sees joiners.
 const BASIC: u32 = F_GLOBAL | F_MANUAL_ZWJ | F_PER_SYLLABLE;

@@ -16,21 +16,21 @@ use Rattle.shapers_myanmar.proofs.MyanmarSerials.{myanmar_reads_no_serials}
 use Rattle.shapers_universal.proofs.UniversalSerials.{universal_reads_no_serials}
 use Rattle.shapers_universal.specs.Proved.UniversalView.{universal_laws}
 use Rattle.rustybuzz_shapers.specs.Pauses.{PauseKeeps, RefusesPause, by_initial, by_khmer, by_myanmar, by_universal}
-use Rattle.shapers_syllabic.proofs.SetUpFlags.{set_up_added}
+use Rattle.shapers_syllabic.proofs.SetupFlags.{setup_added}
 use Rattle.rustybuzz_shapers.proofs.PauseLaws.{both, final_keeps, on_kept}
 use Rattle.rustybuzz_shapers.proofs.shaper.pauses.run_syllabic_pause.Goals as goal
 
-pub returns-in_ok-set_up_syllables-in-SetupSyllablesIndic-clause-laws :
-    goal.returns-in_ok-set_up_syllables-in-SetupSyllablesIndic-clause-laws
-returns-in_ok-set_up_syllables-in-SetupSyllablesIndic-clause-laws = search (arith, set_up_added)
+pub returns-in_ok-setup_syllables-in-SetupSyllablesIndic-clause-laws :
+    goal.returns-in_ok-setup_syllables-in-SetupSyllablesIndic-clause-laws
+returns-in_ok-setup_syllables-in-SetupSyllablesIndic-clause-laws = search (arith, setup_added)
 
-pub returns-in_ok-set_up_syllables-in-SetupSyllablesKhmer-clause-laws :
-    goal.returns-in_ok-set_up_syllables-in-SetupSyllablesKhmer-clause-laws
-returns-in_ok-set_up_syllables-in-SetupSyllablesKhmer-clause-laws = search (arith, set_up_added)
+pub returns-in_ok-setup_syllables-in-SetupSyllablesKhmer-clause-laws :
+    goal.returns-in_ok-setup_syllables-in-SetupSyllablesKhmer-clause-laws
+returns-in_ok-setup_syllables-in-SetupSyllablesKhmer-clause-laws = search (arith, setup_added)
 
-pub returns-in_ok-set_up_syllables-in-SetupSyllablesMyanmar-clause-laws :
-    goal.returns-in_ok-set_up_syllables-in-SetupSyllablesMyanmar-clause-laws
-returns-in_ok-set_up_syllables-in-SetupSyllablesMyanmar-clause-laws = search (arith, set_up_added)
+pub returns-in_ok-setup_syllables-in-SetupSyllablesMyanmar-clause-laws :
+    goal.returns-in_ok-setup_syllables-in-SetupSyllablesMyanmar-clause-laws
+returns-in_ok-setup_syllables-in-SetupSyllablesMyanmar-clause-laws = search (arith, setup_added)
 
 pub returns-in-InitialReordering-clause-laws : goal.returns-in-InitialReordering-clause-laws
 returns-in-InitialReordering-clause-laws g c =

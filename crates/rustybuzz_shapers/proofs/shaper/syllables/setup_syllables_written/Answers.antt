@@ -1,6 +1,6 @@
 -- The insides of syllables only get flags.
 use Rattle.std.proofs.Common.{arith}
-use Rattle.shapers_syllabic.proofs.SetUpFlags.{same_added}
+use Rattle.shapers_syllabic.proofs.SetupFlags.{same_added}
 use Rattle.shapers_universal.proofs.UniversalFlags.{syllables_added}
 use Rattle.rustybuzz_shapers.proofs.shaper.syllables.setup_syllables_written.Goals as goal
 

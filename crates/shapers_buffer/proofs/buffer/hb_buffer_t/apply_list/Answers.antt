@@ -18,12 +18,12 @@ pub reorder-requires-clause-within : goal.reorder-requires-clause-within
 reorder-requires-clause-within c =
     let s = c.args.start in
     let e = c.args.end in
-    let places = c.open_places.new.places.items in
+    let places = c.make_places.new.places.items in
     let n = length c.deref_mut.result.now in
     let glyphs_are : length c.deref.result.now ≡ length c.args.self.now.glyphs = ap length c.deref.ensures.value
     ∙ ap (λ (b : Buffer). length b.glyphs) c.self.view_is in
-    let enough = all_opened e c.deref.result.now places (omega arith) c.open_places.ensures.opened in
-    let opened : without_last_zeros places ≡ c.args.self.now.places = c.open_places.ensures.places
+    let enough = all_opened e c.deref.result.now places (omega arith) c.make_places.ensures.opened in
+    let opened : without_last_zeros places ≡ c.args.self.now.places = c.make_places.ensures.places
     ∙ ap (λ (b : Buffer). b.places) c.self.view_is in
     let same : listed s e c.args.self.now.places ≡ stretch_of s e c.deref-2.result.now = ap (listed s e) (sym opened)
     ∙ listed-stretch s e places c.requires.in_order enough
@@ -35,15 +35,15 @@ pub returns : goal.returns
 returns c =
     let s = c.args.start in
     let e = c.args.end in
-    let places = c.open_places.new.places.items in
+    let places = c.make_places.new.places.items in
     let b = the_view c.self.inside in
     let glyphs_are : length c.deref.result.now ≡ length c.args.self.now.glyphs =
     search (arith, c.deref.ensures.value, c.self.view_is) in
-    let opened = c.open_places.ensures.places in
+    let opened = c.make_places.ensures.places in
     let read =
     ap (λ (ps : List ℕ). stretch_of s e ps) c.deref-2.ensures.value ∙ sym
     (listed-stretch s e places c.requires.in_order (all_opened e c.deref.result.now places (omega arith)
-    c.open_places.ensures.opened)) ∙ ap (listed s e) opened in
+    c.make_places.ensures.opened)) ∙ ap (listed s e) opened in
     let moved = λ (ps : List ℕ) (gs : Glyphs). with_stretch s e (λ (_ : Glyphs). pick ps gs) gs in
     ap (λ (gs : Glyphs). (record b { glyphs = gs; places = without_last_zeros places }))
     (take_at c.reorder.new.glyphs (drop (length c.reorder.new.glyphs) c.self.inside.info.items)

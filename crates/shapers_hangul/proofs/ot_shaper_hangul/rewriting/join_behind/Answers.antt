@@ -3,8 +3,8 @@ use Rattle.std.proofs.Common.{◌+◌, ap}
 use Rattle.shapers_hangul.proofs.HangulGroups.{item_behind}
 use Rattle.shapers_hangul.proofs.ot_shaper_hangul.rewriting.join_behind.Goals as goal
 
-pub settle-requires : goal.settle-requires
-settle-requires c = record {
+pub take_back-requires : goal.take_back-requires
+take_back-requires c = record {
   fits =
       let place = c.args.place in
       (item_behind c.args.level c.args.item place (place + c.len.result) c.guard-count.result c.args.groups.now
@@ -19,4 +19,4 @@ returns-clause-joined c =
     (item_behind c.args.level c.args.item place (place + c.len.result) c.guard-count.result c.args.groups.now
     c.guard-count.new.self c.args.glyphs.now c.guard-count.new.glyphs c.join.new.glyphs
     (ap (λ n. place + n) c.len.ensures) c.requires.item c.requires.torn c.requires.fits c.guard-count.ensures
-    c.join.ensures).made c.settle.new.self c.settle.new.glyphs c.settle.ensures.settled
+    c.join.ensures).made c.take_back.new.self c.take_back.new.glyphs c.take_back.ensures.settled

@@ -6,7 +6,7 @@ use Rattle.shapers_buffer.specs.Glyphs.{Glyphs}
 use Rattle.shapers_buffer.specs.Glyph.{characters}
 use Rattle.shapers_buffer.specs.Refusals.{RefusesLength}
 use Rattle.shapers_hangul.specs.Hangul.{items, glyph_copies, items_at, outputs, allows_circles, Fit}
-use Rattle.shapers_hangul.specs.RewritingWalk.{InTurn}
+use Rattle.shapers_hangul.specs.RewritingWalk.{Consecutive}
 use Rattle.shapers_hangul.proofs.Changes.{items_at_turn, changes_fit, buffer_changed, length-flagged}
 use Rattle.shapers_hangul.proofs.KeptTexts.{all_stay, nothing_listed, same_length, unchanged}
 use Rattle.shapers_hangul.proofs.Outputs.{length_read, told_by_text}
@@ -85,7 +85,7 @@ returns-then-not-cut-clause-length g c =
 pub rewrite-requires-clause-can : goal.rewrite-requires-clause-can
 rewrite-requires-clause-can g c =
     let cut = c.items-2.result.now in
-    subst (λ (xs : Glyphs). Fit (length xs) cut × InTurn (length xs) 0 cut) c.glyphs-glyphs.ensures
+    subst (λ (xs : Glyphs). Fit (length xs) cut × Consecutive (length xs) 0 cut) c.glyphs-glyphs.ensures
     (
     let whole = items (g.F.hb_font_t.font c.args.face.now) c.wants_circles-circles.result (characters
     c.glyphs-glyphs.result.now) in

@@ -21,19 +21,19 @@ returns-clause-linked g c =
     let mid = c.reorder_syllables_by_steps.new.buffer in
     let r = c.new-rules.result in
     let same = c.new-rules.ensures ∙ ap (final_rules (g.F.hb_font_t.font c.args.face.now)) c.indic_in.ensures in
-    subst (λ (r : Rules). FinallyLinked r old c.open_words.new.buffer) same (
+    subst (λ (r : Rules). FinallyLinked r old c.start_words.new.buffer) same (
       mid,
       subst (λ script. SyllablesLinked (SyllableReordered (final_order r script) (final_steps r script)) old mid)
           c.script.ensures (on_ok c.reorder_syllables_by_steps.result c.reorder_syllables_by_steps.ensures.refusal
           c.reorder_syllables_by_steps.ensures.linked),
-      c.open_words.ensures,
+      c.start_words.ensures,
     )
 
 pub returns-clause-reordered : goal.returns-clause-reordered
 returns-clause-reordered = search (reordered_by_links, returns-clause-linked)
 
 pub returns-clause-laws : goal.returns-clause-laws
-returns-clause-laws g c = finally_kept _ c.args.buffer.now c.open_words.new.buffer
+returns-clause-laws g c = finally_kept _ c.args.buffer.now c.start_words.new.buffer
     (returns-clause-reordered g c)
 
 pub returns-clause-clusters : goal.returns-clause-clusters

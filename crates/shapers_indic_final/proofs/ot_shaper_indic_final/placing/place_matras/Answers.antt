@@ -2,8 +2,8 @@
 use Rattle.std.proofs.Common.{◌≡◌, true, false, if◌then◌else◌, List, [], length, map, sym, ap, ◌∙◌, arith}
 use Rattle.std.proofs.lemmas.Bool.Decides.{nat_tests}
 use Rattle.shapers_buffer.specs.Clusters.{stretch_of}
-use Rattle.shapers_clusters.specs.Steps.{Step, run_steps, widened}
-use Rattle.shapers_indic_final.specs.FinalMatras.{end_of_base, has_room, matra_steps, matra_target, matras_go, parting_steps, staying_steps, steps_before}
+use Rattle.shapers_clusters.specs.Steps.{Step, after_steps, widened}
+use Rattle.shapers_indic_final.specs.FinalMatras.{end_of_base, has_room, matra_steps, matra_target, takes_matras, partition_steps, staying_steps, steps_before}
 use Rattle.shapers_buffer.specs.Buffer.{Buffer}
 use Rattle.shapers_buffer.proofs.ClusterLemmas.{length-stretch}
 use Rattle.shapers_indic_final.proofs.FinalArranged.{stay_all, stay_stepped}
@@ -17,22 +17,22 @@ returns-then-base-eq0-clause-glyphs c =
     let n = length-stretch a.start a.end b.glyphs c.requires.in_range in
     search arith
 
-pub returns-else-matras_go-clause-glyphs : goal.returns-else-matras_go-clause-glyphs
-returns-else-matras_go-clause-glyphs c =
+pub returns-else-takes_matras-clause-glyphs : goal.returns-else-takes_matras-clause-glyphs
+returns-else-takes_matras-clause-glyphs c =
     let a = c.args in
     let b = c.merge_matras.new.buffer in
     let old = a.buffer.now in
     let part = stretch_of a.start a.end old.glyphs in
     let n = length-stretch a.start a.end old.glyphs c.requires.in_range in
-    let go : matras_go (matra_target a.script a.base part) part ≡ false = search arith in
+    let go : takes_matras (matra_target a.script a.base part) part ≡ false = search arith in
     let room : has_room a.base part ≡ true = grind (arith, nat_tests) in
     let steps : matra_steps a.script a.base part ≡ staying_steps a.base part =
     ap (λ t. if t then steps_before a.script a.base part else []) room
-    ∙ ap (λ t. if t then parting_steps (matra_target a.script a.base part) (end_of_base a.base part) part
+    ∙ ap (λ t. if t then partition_steps (matra_target a.script a.base part) (end_of_base a.base part) part
     else staying_steps a.base part) go in
     stay_stepped a.start a.end old b _ c.requires.in_order (omega (arith, c.merge_matras.ensures.same_length))
     c.merge_matras.ensures.glyphs
     ∙ ap (λ (sts : List Step). let y : Buffer = record old {
-      glyphs = run_steps old.level (map (widened a.start a.end (length old.glyphs)) sts) old.glyphs;
+      glyphs = after_steps old.level (map (widened a.start a.end (length old.glyphs)) sts) old.glyphs;
       places = [];
     } in y) (sym steps)

@@ -5,7 +5,7 @@ use Rattle.shapers_buffer.specs.Clusters.{stretch_of}
 use Rattle.shapers_buffer.specs.Placements.{arranged}
 use Rattle.shapers_buffer.proofs.Arranging.{all_long}
 use Rattle.shapers_buffer.proofs.ClusterLemmas.{length-stretch}
-use Rattle.shapers_clusters.specs.Steps.{run_step, widened}
+use Rattle.shapers_clusters.specs.Steps.{after_step, widened}
 use Rattle.shapers_indic_final.specs.FinalPref.{pref_move, pref_steps}
 use Rattle.shapers_indic_final.proofs.FinalArranged.{pref_one}
 use Rattle.shapers_indic_final.proofs.FinalPlacing.{one_step}
@@ -34,7 +34,7 @@ returns-in-Some-clause-glyphs c =
     let step = pref_move (a.end - a.start) j i in
     let moved = subst (λ (x : Buffer). let old = arranged ps a.start a.end x in
     let y : Buffer = record old {
-      glyphs = run_step old.level (widened a.start a.end (length old.glyphs) step) old.glyphs;
+      glyphs = after_step old.level (widened a.start a.end (length old.glyphs) step) old.glyphs;
       places = new.places;
     } in new ≡ y) c.read_arranged.ensures.same c.move_pref.ensures.glyphs in
     let tries : a.tries ≡ true = search arith in

@@ -1,11 +1,11 @@
--- One step, if a reph opens the syllable.
+-- One step, if a reph begins the syllable.
 use Rattle.std.proofs.Common.{◌≡◌, ◌-◌, ◌≤◌, length, sym, subst, ◌∙◌, arith}
 use Rattle.shapers_buffer.specs.Buffer.{Buffer}
 use Rattle.shapers_buffer.specs.Clusters.{stretch_of}
 use Rattle.shapers_buffer.specs.Placements.{arranged}
 use Rattle.shapers_buffer.proofs.Arranging.{all_long}
 use Rattle.shapers_buffer.proofs.ClusterLemmas.{length-stretch}
-use Rattle.shapers_clusters.specs.Steps.{run_step, widened}
+use Rattle.shapers_clusters.specs.Steps.{after_step, widened}
 use Rattle.shapers_indic_final.specs.FinalReph.{final_reph_step, reph_steps}
 use Rattle.shapers_indic_final.proofs.FinalArranged.{reph_one}
 use Rattle.shapers_indic_final.proofs.FinalPlacing.{one_step}
@@ -33,7 +33,7 @@ returns-in-Some-clause-glyphs c =
     let step = final_reph_step (a.end - a.start) j in
     let moved = subst (λ (x : Buffer). let old = arranged ps a.start a.end x in
     let y : Buffer = record old {
-      glyphs = run_step old.level (widened a.start a.end (length old.glyphs) step) old.glyphs;
+      glyphs = after_step old.level (widened a.start a.end (length old.glyphs) step) old.glyphs;
       places = new.places;
     } in new ≡ y) c.read_arranged.ensures.same c.move_reph.ensures.glyphs in
     one_step old new a.start a.end (reph_steps a.position a.base (stretch_of a.start a.end old.glyphs)) step

@@ -3,7 +3,7 @@ use Rattle.std.proofs.Common.{ap, subst}
 use Rattle.shapers_buffer.specs.Buffer.{Buffer}
 use Rattle.shapers_indic_initial.specs.InitialReordering.{joiner_steps, with_joiner_first}
 use Rattle.shapers_indic_initial.specs.InitialRules.{initial_rules}
-use Rattle.shapers_indic_initial.specs.MovedWalk.{moved_buffer, opened_by}
+use Rattle.shapers_indic_initial.specs.MovedWalk.{moved_buffer, moved_first_by}
 use Rattle.shapers_indic_initial.proofs.Prepared.{opened_then}
 use Rattle.shapers_syllabic.specs.Reordering.{SyllableReordered}
 use Rattle.shapers_indic_initial.proofs.ot_shaper_indic_initial.preparing.prepare_for_order.Goals as goal
@@ -24,5 +24,5 @@ returns-clause-reordered g c =
     c.set_positions-second.new.buffer c.requires.in_order c.requires.in_range
     (ap (λ (x : Buffer). x.script) first.ensures.others)
     (subst (λ script. SyllableReordered (with_joiner_first script) (joiner_steps script) s e b
-    (moved_buffer (opened_by first.result s e) first.new.buffer)) c.script-script.ensures first.ensures.reordered)
+    (moved_buffer (moved_first_by first.result s e) first.new.buffer)) c.script-script.ensures first.ensures.reordered)
     c.set_positions-second.ensures.reordered

@@ -8,7 +8,7 @@ use Rattle.shapers_buffer.proofs.ClusterLemmas.{length-stretch}
 use Rattle.shapers_buffer.proofs.Placements.{placed_stays}
 use Rattle.shapers_clusters.proofs.Merging.{length-merge}
 use Rattle.shapers_indic_initial.specs.InitialReordering.{joiner_steps, with_joiner_first}
-use Rattle.shapers_indic_initial.specs.MovedWalk.{moved_buffer, opened_by}
+use Rattle.shapers_indic_initial.specs.MovedWalk.{moved_buffer, moved_first_by}
 use Rattle.shapers_indic_initial.specs.Proved.InitialSteps.{joiner_long}
 use Rattle.shapers_indic_initial.proofs.MovedLaws.{behind_others, behind_unlisted, first_moved, stays_unlisted}
 use Rattle.shapers_indic_initial.proofs.Prepared.{joiner_moves, joiner_stays_put}
@@ -30,7 +30,7 @@ returns-then-joiner_comes_first-clause-reordered c =
     let n : length mid.glyphs ≡ length c.args.buffer.now.glyphs =
     ap (λ (x : Buffer). length x.glyphs) c.merge_clusters.ensures
     ∙ length-merge c.args.buffer.now.level (s + 1) (s + 3) c.args.buffer.now.glyphs (omega arith) in
-    joiner_moves c.args.script s e c.args.buffer.now mid (moved_buffer (opened_by c.to_end.result s e) mid)
+    joiner_moves c.args.script s e c.args.buffer.now mid (moved_buffer (moved_first_by c.to_end.result s e) mid)
     c.requires.in_order c.requires.in_range (search arith) c.merge_clusters.ensures refl
     (first_moved c.to_end.result s e mid.glyphs (behind_unlisted c.to_end.result (s + 1) (s + 3) s e c.to_end.ensures (omega arith) (omega arith) l)
     c.requires.in_order (omega (arith, n, c.requires.in_range))
@@ -47,7 +47,7 @@ returns-clause-reordered c =
     let b = c.args.buffer.now in
     let h = c.requires.in_order in
     let l = c.requires.in_range in
-    let same : moved_buffer (opened_by Stays s e) b ≡ b =
+    let same : moved_buffer (moved_first_by Stays s e) b ≡ b =
     ap (λ (gs : Glyphs). let x : Buffer = record b { glyphs = gs } in x)
     (first_moved Stays s e b.glyphs (stays_unlisted s e) h l ∙ placed_stays s e [] b.glyphs h l) in
     subst (λ (x : Buffer). SyllableReordered (with_joiner_first c.args.script) (joiner_steps c.args.script) s e b x)

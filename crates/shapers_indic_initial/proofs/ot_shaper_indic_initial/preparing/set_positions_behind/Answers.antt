@@ -5,7 +5,7 @@ use Rattle.shapers_buffer.specs.declared.buffer.placement.Placement.TheVariants.
 use Rattle.shapers_indic_initial.specs.InitialBase.{base_place}
 use Rattle.shapers_indic_initial.specs.InitialReordering.{halant_steps, with_all_positions, with_base_positions}
 use Rattle.shapers_indic_initial.specs.InitialRules.{initial_rules}
-use Rattle.shapers_indic_initial.specs.MovedWalk.{moved_buffer, opened_by}
+use Rattle.shapers_indic_initial.specs.MovedWalk.{moved_buffer, moved_first_by}
 use Rattle.shapers_indic_initial.specs.declared.ot_shaper_indic_initial.moved.MovedSyllable.{MovedSyllable}
 use Rattle.shapers_indic_initial.proofs.MovedLaws.{fits_moved, stays_each, stays_unlisted}
 use Rattle.shapers_indic_initial.proofs.PreparedMoves.{positions_set}
@@ -17,7 +17,7 @@ walk_arranged-requires-clause-arranges g c =
     let s = c.args.start in
     let e = c.args.end in
     let b = c.args.buffer.now in
-    fits_moved (opened_by c.args.first s e) Stays c.moves_then.result b c.moves_then.ensures
+    fits_moved (moved_first_by c.args.first s e) Stays c.moves_then.result b c.moves_then.ensures
     (record { first = c.requires.unlisted; second = stays_unlisted s e }) c.requires.in_order c.requires.in_range
     (stays_each s e b.places)
 
@@ -46,7 +46,7 @@ returns-clause-reordered g c =
     let e = c.args.end in
     let script = c.script-script.result in
     let base = c.walk_arranged.new.walk.base in
-    let o = opened_by c.args.first s e in
+    let o = moved_first_by c.args.first s e in
     let m : MovedSyllable =
     record { first = c.args.first; second = c.place_halant-second.result; start = s; end = e } in
     let b1 = c.args.buffer.now in

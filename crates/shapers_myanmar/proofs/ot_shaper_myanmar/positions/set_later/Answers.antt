@@ -10,5 +10,5 @@ loop-glyph-init = search parts_behind
 pub loop-glyph-preserved : goal.loop-glyph-preserved
 loop-glyph-preserved c =
     let l = c.loop-glyph in
-    own_next l.before l.part l.glyphs _ l.glyph-index default_glyph c.part_of-part.result c.own_position-before.result
-    (search arith) l.invariant c.part_of-part.ensures c.own_position-before.ensures
+    own_next l.before l.part l.glyphs _ l.glyph-index default_glyph c.position_behind_base-part.result c.own_position-before.result
+    (search arith) l.invariant c.position_behind_base-part.ensures c.own_position-before.ensures

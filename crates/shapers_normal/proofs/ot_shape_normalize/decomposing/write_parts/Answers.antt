@@ -6,8 +6,8 @@ use Rattle.shapers_normal.specs.Decomposition.{as_part}
 use Rattle.shapers_normal.proofs.Clusters.{room_for}
 use Rattle.shapers_normal.proofs.ot_shape_normalize.decomposing.write_parts.Goals as goal
 
-pub put-requires : goal.put-requires
-put-requires g c =
+pub push_within-requires : goal.push_within-requires
+push_within-requires g c =
     let part = as_part (g.C.NormalizeContext.context c.args.context.now) c.args.glyph in
     let parts = c.args.parts.now in
     let l = c.loop-c in

@@ -15,9 +15,9 @@ returns-clause-next g c =
     let gs = c.merge_apart.new.glyphs in
     let drawn = c.args.drawn in
     let long : p.to ≤ length gs = omega (arith, c.merge_apart.auto.glyphs, c.requires.inside, c.requires.gap) in
-    let put = λ (xs : Glyphs). let w : StarterWalk =
+    let push_within = λ (xs : Glyphs). let w : StarterWalk =
     record { starter = s; place = p.to; glyphs = xs } in w in
-    ap put
+    ap push_within
     (apart-set p.to (p.from + 1) s gs c.set_character.new.glyph c.requires.starter (omega (arith, c.requires.gap)) long
     ∙ ap (set _ s) (c.set_character.ensures
     ∙ ap (as_character context drawn.0 drawn.1.0)

@@ -6,8 +6,8 @@ use Rattle.shapers_normal.specs.Variants.{with_number}
 use Rattle.shapers_normal.proofs.Clusters.{room_for}
 use Rattle.shapers_normal.proofs.ot_shape_normalize.variants.write_kept.Goals as goal
 
-pub put-requires : goal.put-requires
-put-requires g c =
+pub push_within-requires : goal.push_within-requires
+push_within-requires g c =
     let kept = with_number (g.C.NormalizeContext.context c.args.context.now) in
     let gs = c.args.glyphs.now in
     let l = c.loop-glyph in

@@ -12,6 +12,6 @@ returns c =
     let level = c.args.level in
     let e = min (prefix_len is_default_ignorable gs + 1) (length gs) in
     ap (λ n. take n c.remove_glyphs.new.glyphs) (sym (count_merged level 0 e gs))
-    ∙ ap (λ gs. take (count_by stays_in_text gs) c.remove_glyphs.new.glyphs) (sym c.merge_opening.ensures)
+    ∙ ap (λ gs. take (count_by stays_in_text gs) c.remove_glyphs.new.glyphs) (sym c.merge_leading.ensures)
     ∙ c.remove_glyphs.ensures
-    ∙ ap (removed_behind []) c.merge_opening.ensures
+    ∙ ap (removed_behind []) c.merge_leading.ensures

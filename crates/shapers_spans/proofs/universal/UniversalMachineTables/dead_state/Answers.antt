@@ -1,10 +1,10 @@
 use Rattle.std.proofs.Common.{refl}
-use Rattle.shapers_spans.specs.UniversalMachine.{universal_turning}
+use Rattle.shapers_spans.specs.UniversalMachine.{universal_cycling}
 use Rattle.shapers_spans.proofs.UniversalMachine.{universal_are_tables}
 use Rattle.shapers_spans.proofs.universal.UniversalMachineTables.dead_state.Goals as goal
 
 pub returns-clause-state : goal.returns-clause-state
-unfolding universal_turning
+unfolding universal_cycling
 returns-clause-state c = refl
 
 pub returns-clause-tables : goal.returns-clause-tables

@@ -49,7 +49,7 @@ returns-in_err-added g c =
       arith,
       c.from_residual.ensures,
       uncounted_run how (zip gs ps) p.start p.word p.tiles at (omega arith)
-          (run_sliced how gs ps p.word p.tiles c.requires.both at.word_fits ∙ sym c.count_run.ensures.added ∙
+          (run_sliced how gs ps p.word p.tiles c.requires.both at.word_fits ∙ sym c.count_sequence.ensures.added ∙
           c.in_err-added.was),
     )
 

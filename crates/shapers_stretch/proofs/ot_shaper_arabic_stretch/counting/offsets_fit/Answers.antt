@@ -2,7 +2,7 @@ use Rattle.std.proofs.Common.{◌-◌, take, sym, subst, ap, ◌∙◌, arith, r
 use Rattle.std.proofs.lemmas.Int.{to_z-of_z}
 use mir.Syntax.{w64}
 use Rattle.shapers_buffer.specs.Glyph.{default_glyph}
-use Rattle.shapers_stretch.specs.CountingWalk.{IsNumber, offsets_fit, run_moves}
+use Rattle.shapers_stretch.specs.CountingWalk.{IsNumber, offsets_fit, sequence_moves}
 use Rattle.shapers_stretch.proofs.Counts.{fits_next, fits_not}
 use Rattle.shapers_stretch.proofs.ot_shaper_arabic_stretch.counting.offsets_fit.Goals as goal
 
@@ -19,9 +19,9 @@ loop-left-preserved g c =
     record {
       within = omega arith;
       pen = subst IsNumber (sym same_behind) c.in-Some.ensures.2;
-      same = ap (λ p. offsets_fit rtl p (run_moves font lay (take i tiles))) same_behind
+      same = ap (λ p. offsets_fit rtl p (sequence_moves font lay (take i tiles))) same_behind
           ∙ fits_next font lay rtl pen behind tiles i default_glyph (omega arith) c.in-Some.ensures
-          ∙ ap (λ n. offsets_fit rtl pen (run_moves font lay (take n tiles)))
+          ∙ ap (λ n. offsets_fit rtl pen (sequence_moves font lay (take n tiles)))
           (omega arith) ∙ c.loop-left.invariant.same;
     }
 

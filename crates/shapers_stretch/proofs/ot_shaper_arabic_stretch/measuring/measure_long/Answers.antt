@@ -7,7 +7,7 @@ use Rattle.shapers_clusters.proofs.LabelsAsMerged.{all_split}
 use Rattle.shapers_stretch.specs.Cells.{repeats}
 use Rattle.shapers_stretch.specs.Measure.{fits_i32, left, total}
 use Rattle.shapers_stretch.specs.Stretch.{fixed, measured, repeating, width_of}
-use Rattle.shapers_stretch.specs.declared.ot_shaper_arabic_stretch.measuring.Run.{Run}
+use Rattle.shapers_stretch.specs.declared.ot_shaper_arabic_stretch.measuring.TileSequence.{TileSequence}
 use Rattle.shapers_stretch.proofs.Numbers.{repeating_apart, same_run}
 use Rattle.shapers_stretch.proofs.Sums.{kept_counted, kept_piece_counted, kept_piece_summed, kept_summed, length_kept, piece_bounds}
 use Rattle.shapers_stretch.proofs.ot_shaper_arabic_stretch.measuring.measure_long.Goals as goal
@@ -17,7 +17,7 @@ overflow_add-repeaters g c =
     let counted = kept_piece_counted repeats _ (chunks_rest c.loop-piece.piece-iterator) c.in-Some.piece.now
     (chunks_rest c.next.new.self) c.loop-piece.repeaters c.measure_short-run.result.repeaters
     c.in-Some.ensures.steps.1.0 c.loop-piece.invariant.7
-    (ap (λ (z : Run). z.repeaters) c.measure_short-run.ensures) in
+    (ap (λ (z : TileSequence). z.repeaters) c.measure_short-run.ensures) in
     let few : length (repeating c.args.tiles.now) ≤ length c.args.tiles.now = search length_kept in
     let fits : length c.args.tiles.now ≤ 18446744073709551615 = omega arith in
     omega arith
@@ -57,9 +57,9 @@ loop-piece-preserved g c =
     ap (λ x. to_z w128 (of_z w128 (second +ℤ x))) (to_z-of_z w128 more_2
     (record { sfits = c.from-in-loop-piece.type_inv })) ∙ to_z-of_z w128 (second +ℤ more_2) bounds_2.fits in
     let summed = kept_piece_summed (width_of font) (λ g. not (repeats g)) _ old piece rest first more steps.1.0 inv.5
-    (short ∙ ap (λ (z : Run). z.fixed) is) in
+    (short ∙ ap (λ (z : TileSequence). z.fixed) is) in
     let summed_2 = kept_piece_summed (width_of font) repeats _ old piece rest second more_2 steps.1.0 inv.6 (short_2
-    ∙ ap (λ (z : Run). z.repeating) is) in (
+    ∙ ap (λ (z : TileSequence). z.repeating) is) in (
       search rules,
       tt,
       steps.0 ∙ inv.2,
@@ -69,7 +69,7 @@ loop-piece-preserved g c =
       ap (λ x. x +ℤ total (map (width_of font) (fixed rest))) same ∙ summed,
       ap (λ x. x +ℤ total (map (width_of font) (repeating rest))) same_2 ∙ summed_2,
       kept_piece_counted repeats _ old piece rest c.loop-piece.repeaters part.repeaters steps.1.0 inv.7 (ap (λ (z :
-          Run). z.repeaters) is),
+          TileSequence). z.repeaters) is),
       subst (λ x. neg_ℤ (pos (9223372036854775808 * (all - length rest))) ≤ℤ x) (sym same) bounds.low,
       subst (λ x. x ≤ℤ pos (9223372036854775808 * (all - length rest))) (sym same) bounds.high,
       subst (λ x. neg_ℤ (pos (9223372036854775808 * (all - length rest))) ≤ℤ x) (sym same_2) bounds_2.low,
@@ -77,11 +77,11 @@ loop-piece-preserved g c =
     )
 
 -- a sum that doesn't fit
-word_apart : (z : Run) → fits_i32 z.word ≡ false → list_all fits_i32 (z.word ∷ z.fixed ∷ z.repeating ∷ left z ∷ [])
+word_apart : (z : TileSequence) → fits_i32 z.word ≡ false → list_all fits_i32 (z.word ∷ z.fixed ∷ z.repeating ∷ left z ∷ [])
     ≡ false
 word_apart z e = cc
 
-fixed_apart : (z : Run) → fits_i32 z.fixed ≡ false → list_all fits_i32 (z.word ∷ z.fixed ∷ z.repeating ∷ left z ∷ [])
+fixed_apart : (z : TileSequence) → fits_i32 z.fixed ≡ false → list_all fits_i32 (z.word ∷ z.fixed ∷ z.repeating ∷ left z ∷ [])
     ≡ false
 fixed_apart = search arith
 

@@ -1,39 +1,39 @@
 use Rattle.std.proofs.lemmas.Bool.{and_right}
 use Rattle.std.proofs.Common.{◌≡◌, ◌+◌, ◌-ℤ◌, ◌<ℤ◌, ◌≤ℤ◌, pos, arith}
 use Rattle.std.proofs.lemmas.Int.{ints, to_z-of_z}
-use Rattle.shapers_stretch.specs.Measure.{times_added, fitting, left, reach}
+use Rattle.shapers_stretch.specs.Measure.{times_added, fitting, left, tiles_reach}
 use Rattle.shapers_stretch.proofs.Numbers.{added_yes, added_full, added_none, rest_at, squeezes_full}
 use Rattle.shapers_stretch.proofs.ot_shaper_arabic_stretch.measuring.rounds_of.Goals as goal
-use Rattle.shapers_stretch.proofs.ot_shaper_arabic_stretch.measuring.rounds_of.Goals.{then-left-reach-via-then-left-reach, then-left-reach-via-else-left-reach+then-run-eq0}
+use Rattle.shapers_stretch.proofs.ot_shaper_arabic_stretch.measuring.rounds_of.Goals.{then-left-tiles_reach-via-then-left-tiles_reach, then-left-tiles_reach-via-else-left-tiles_reach+then-run-eq0}
 
-pub returns-then-left-reach-clause-added : goal.returns-then-left-reach-clause-added
-returns-then-left-reach-clause-added c = elim c.then-left-reach.branch [
-  | then-left-reach-via-then-left-reach w ↦
-      let full : (left c.args.run -ℤ reach c.args.run (fitting c.args.run)) ≤ℤ pos 0 =
+pub returns-then-left-tiles_reach-clause-added : goal.returns-then-left-tiles_reach-clause-added
+returns-then-left-tiles_reach-clause-added c = elim c.then-left-tiles_reach.branch [
+  | then-left-tiles_reach-via-then-left-tiles_reach w ↦
+      let full : (left c.args.run -ℤ tiles_reach c.args.run (fitting c.args.run)) ≤ℤ pos 0 =
       omega (arith, ints, rest_at c.args.run c.fitting-fitting.result c.fitting-fitting.ensures.value) in
       cc (added_full c.args.run full)
-  | then-left-reach-via-else-left-reach+then-run-eq0 w ↦ search added_none
+  | then-left-tiles_reach-via-else-left-tiles_reach+then-run-eq0 w ↦ search added_none
 ]
 
-pub returns-then-left-reach-clause-squeezes : goal.returns-then-left-reach-clause-squeezes
-returns-then-left-reach-clause-squeezes c = elim c.then-left-reach.branch [
-  | then-left-reach-via-then-left-reach w ↦
-      let full : (left c.args.run -ℤ reach c.args.run (fitting c.args.run)) ≤ℤ pos 0 =
+pub returns-then-left-tiles_reach-clause-squeezes : goal.returns-then-left-tiles_reach-clause-squeezes
+returns-then-left-tiles_reach-clause-squeezes c = elim c.then-left-tiles_reach.branch [
+  | then-left-tiles_reach-via-then-left-tiles_reach w ↦
+      let full : (left c.args.run -ℤ tiles_reach c.args.run (fitting c.args.run)) ≤ℤ pos 0 =
       omega (arith, ints, rest_at c.args.run c.fitting-fitting.result c.fitting-fitting.ensures.value) in
       search squeezes_full
-  | then-left-reach-via-else-left-reach+then-run-eq0 w ↦
+  | then-left-tiles_reach-via-else-left-tiles_reach+then-run-eq0 w ↦
       search (arith, and_right)
 ]
 
 pub returns-clause-added : goal.returns-clause-added
 returns-clause-added c =
-    let above : pos 0 <ℤ (left c.args.run -ℤ reach c.args.run (fitting c.args.run)) =
+    let above : pos 0 <ℤ (left c.args.run -ℤ tiles_reach c.args.run (fitting c.args.run)) =
     omega (arith, ints, rest_at c.args.run c.fitting-fitting.result c.fitting-fitting.ensures.value) in
     omega (arith, added_yes c.args.run above (omega arith))
 
 pub returns-clause-squeezes : goal.returns-clause-squeezes
 returns-clause-squeezes c =
-    let above : pos 0 <ℤ (left c.args.run -ℤ reach c.args.run (fitting c.args.run)) =
+    let above : pos 0 <ℤ (left c.args.run -ℤ tiles_reach c.args.run (fitting c.args.run)) =
     omega (arith, ints, rest_at c.args.run c.fitting-fitting.result c.fitting-fitting.ensures.value) in
     let at : c.fitting-fitting.result + 1 ≡ times_added c.args.run =
     omega (arith, added_yes c.args.run above (omega arith)) in

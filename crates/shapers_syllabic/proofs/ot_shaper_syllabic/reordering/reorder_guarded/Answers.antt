@@ -17,8 +17,8 @@ reorder-requires-clause-takes g c =
     c.guard-count.ensures.others in
     search (numbers_by_view c.args.first c.args.end c.guard-count.new.buffer.glyphs c.args.buffer.now.glyphs stands.view)
 
-pub settle-requires : goal.settle-requires
-settle-requires g c =
+pub take_back-requires : goal.take_back-requires
+take_back-requires g c =
     let order = c.args.order.now in
     record {
       fits = (behind_guarded (g.R.Reorder.meaning order) (g.R.ReorderBySteps.steps order) (g.R.Reorder.relation order)
@@ -36,9 +36,9 @@ returns-clause-behind g c =
     c.args.first c.args.end c.guard-count.result c.args.carrying.now.groups c.guard-count.new.self.groups c.args.buffer.now
     c.guard-count.new.buffer c.reorder.new.buffer c.requires.in_order c.requires.in_range c.requires.fits.fits
     c.guard-count.ensures.guarded c.guard-count.ensures.others c.in_ok-reorder.ensures.related in
-    let groups_settled = c.settle.ensures.settled in
+    let groups_settled = c.take_back.ensures.settled in
     record {
-      linked = behind.linked c.settle.new.self.groups c.settle.new.buffer groups_settled c.settle.ensures.others;
+      linked = behind.linked c.take_back.new.self.groups c.take_back.new.buffer groups_settled c.take_back.ensures.others;
       fits = record {
         fits = groups_settled.fits;
         ends = omega arith;

@@ -1,5 +1,5 @@
 use Rattle.std.proofs.Common.{arith}
-use Rattle.shapers_syllabic.proofs.SetUpFlags.{same_added}
+use Rattle.shapers_syllabic.proofs.SetupFlags.{same_added}
 use Rattle.shapers_universal.proofs.UniversalFlags.{in_forms_added}
 use Rattle.shapers_universal.proofs.ot_shaper_use.forms.set_forms.Goals as goal
 

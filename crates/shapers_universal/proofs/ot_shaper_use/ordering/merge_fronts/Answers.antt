@@ -20,11 +20,11 @@ loop-i-preserved c =
     elim c.if-goes_front.branch [
       | then-goes_front w ↦
           rw (w.front-is, w.run-is, w.buffer-is)
-          (merging_front s behind e l.front l.i l.run w.merge_run-run.result b0 l.buffer w.merge_run-run.new.self
+          (merging_front s behind e l.front l.i l.run w.merge_range-run.result b0 l.buffer w.merge_range-run.new.self
           c.loop-i-test.true c.requires.in_range l.invariant
           (ap (λ xs. goes_front (at xs l.i)) (sym c.glyphs.ensures) ∙ sym c.goes_front.ensures
-          ∙ w.if-goes_front.true) w.merge_run-run.ensures.others w.merge_run-run.ensures.merged
-          w.merge_run-run.ensures.fits w.merge_run-run.ensures.same_length)
+          ∙ w.if-goes_front.true) w.merge_range-run.ensures.others w.merge_range-run.ensures.merged
+          w.merge_range-run.ensures.fits w.merge_range-run.ensures.same_length)
       | else-goes_front+then-is_halant w ↦
           rw (w.front-is, w.run-is) (merging_halant s behind e l.front l.i l.run b0 l.buffer b1 c.loop-i-test.true
           c.requires.in_range l.invariant (ap (λ xs. goes_front (at xs l.i)) (sym c.glyphs.ensures)

@@ -2,7 +2,7 @@
 use Rattle.std.proofs.lemmas.Grind.{common_steps}
 use Rattle.std.proofs.Common.{◌≡◌, ◌+◌, arith}
 use Rattle.shapers_buffer.specs.Clusters.{stretch_of}
-use Rattle.shapers_universal.specs.Universal.{reph_run}
+use Rattle.shapers_universal.specs.Universal.{leading_reph_len}
 use Rattle.shapers_universal.specs.Proved.Reordered.{Parts, parts_make, parts_permute, parts_reordered}
 use Rattle.shapers_universal.proofs.ot_shaper_use.ordering.reorder_syllable.Goals as goal
 
@@ -10,7 +10,7 @@ pub apply-requires-clause-in_range : goal.apply-requires-clause-in_range
 apply-requires-clause-in_range c =
     let s = c.args.start in
     let e = c.args.end in
-    let behind = s + c.reph_run.result in
+    let behind = s + c.leading_reph_len.result in
     let parts : Parts s e behind c.args.buffer.now c.list_order.new.buffer c.merge_clusters.new.self
     c.merge_fronts.new.buffer =
     record {
@@ -28,7 +28,7 @@ pub apply-requires-clause-permutes : goal.apply-requires-clause-permutes
 apply-requires-clause-permutes c =
     let s = c.args.start in
     let parts : Parts s c.args.end
-    (s + c.reph_run.result) c.args.buffer.now c.list_order.new.buffer c.merge_clusters.new.self
+    (s + c.leading_reph_len.result) c.args.buffer.now c.list_order.new.buffer c.merge_clusters.new.self
     c.merge_fronts.new.buffer =
     record {
       in_order = c.requires.in_order;
@@ -43,7 +43,7 @@ pub returns : goal.returns
 returns c =
     let s = c.args.start in
     let e = c.args.end in
-    let behind = s + c.reph_run.result in
+    let behind = s + c.leading_reph_len.result in
     let parts : Parts s e behind c.args.buffer.now c.list_order.new.buffer c.merge_clusters.new.self
     c.merge_fronts.new.buffer =
     record {
@@ -55,7 +55,7 @@ returns c =
     } in
     let made = parts_make s e behind c.args.buffer.now c.list_order.new.buffer c.merge_clusters.new.self
     c.merge_fronts.new.buffer parts in
-    let run : behind ≡ s + reph_run (stretch_of s e c.args.buffer.now.glyphs) =
+    let run : behind ≡ s + leading_reph_len (stretch_of s e c.args.buffer.now.glyphs) =
     search arith in
     search parts_reordered
 

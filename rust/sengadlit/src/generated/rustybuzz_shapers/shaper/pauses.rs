@@ -12,7 +12,7 @@ use crate::generated::shapers_myanmar::ot_shaper_myanmar;
 use crate::generated::shapers_stretch::ot_shaper_arabic_stretch;
 use crate::generated::shapers_syllabic::ot_shaper_syllabic::{
     clear_substitution_flags, clear_syllables, indic_syllable, khmer_syllable, myanmar_syllable,
-    set_up_syllables,
+    setup_syllables,
 };
 use crate::generated::shapers_universal::ot_shaper_use;
 use core::mem;
@@ -102,13 +102,13 @@ fn run_syllabic_pause<F: Font>(
 ) -> Result<bool, ShaperError> {
     match pause {
         Pause::SetupSyllablesIndic => {
-            set_up_syllables(spans, indic_syllable::BROKEN_CLUSTER, buffer)?;
+            setup_syllables(spans, indic_syllable::BROKEN_CLUSTER, buffer)?;
         }
         Pause::SetupSyllablesKhmer => {
-            set_up_syllables(spans, khmer_syllable::BROKEN_CLUSTER, buffer)?;
+            setup_syllables(spans, khmer_syllable::BROKEN_CLUSTER, buffer)?;
         }
         Pause::SetupSyllablesMyanmar => {
-            set_up_syllables(spans, myanmar_syllable::BROKEN_CLUSTER, buffer)?;
+            setup_syllables(spans, myanmar_syllable::BROKEN_CLUSTER, buffer)?;
         }
         Pause::SetupSyllablesUse => ot_shaper_use::setup_syllables_use(plan, spans, buffer)?,
         Pause::InitialReordering => {

@@ -7,7 +7,7 @@ use crate::generated::shapers_base::buffer::Buffer;
 use crate::generated::shapers_base::plan::{Pause, Plan};
 use crate::generated::shapers_spans::{Indic, Khmer, Myanmar, Universal, find_syllables_in};
 use crate::generated::shapers_syllabic::ot_shaper_syllabic::{
-    indic_syllable, khmer_syllable, myanmar_syllable, set_up_by_bytes,
+    indic_syllable, khmer_syllable, myanmar_syllable, setup_by_bytes,
 };
 use crate::generated::shapers_universal::ot_shaper_use::setup_syllables_use_by_bytes;
 
@@ -30,7 +30,7 @@ use crate::generated::shapers_universal::ot_shaper_use::setup_syllables_use_by_b
 /// ```text
 /// requires { PauseFits pause plan.now }
 /// ensures answer { result ≡ sets_up pause }
-/// ensures set_up { result ≡ true →
+/// ensures setup { result ≡ true →
 ///     (font : Font) → PauseRun pause plan.now font buffer.old buffer.new }
 /// ensures others { result ≡ false → buffer.new ≡ buffer.old }
 /// ```
@@ -66,11 +66,11 @@ pub fn setup_syllables_found(pause: Pause, plan: &Plan, buffer: &mut Buffer) -> 
 /// ```text
 /// requires { PauseFits pause plan.now }
 /// ensures answer { result ≡ sets_up pause }
-/// ensures set_up { buffer.new ≡ set_up_written pause plan.now buffer.old }
+/// ensures setup { buffer.new ≡ setup_written pause plan.now buffer.old }
 /// ensures flags { OnlyFlagsAdded buffer.old.glyphs buffer.new.glyphs }
 /// ```
 ///
-/// - `set_up_written`, `sets_up`: `crates/rustybuzz_shapers/specs/FoundSyllables.antt`
+/// - `sets_up`, `setup_written`: `crates/rustybuzz_shapers/specs/FoundSyllables.antt`
 /// - `PauseFits`: `crates/rustybuzz_shapers/specs/Pauses.antt`
 /// - `OnlyFlagsAdded`: `crates/shapers_clusters/specs/FlagLaw.antt`
 ///
@@ -79,9 +79,9 @@ pub fn setup_syllables_found(pause: Pause, plan: &Plan, buffer: &mut Buffer) -> 
 #[must_use]
 pub fn setup_syllables_written(pause: Pause, plan: &Plan, buffer: &mut Buffer) -> bool {
     match pause {
-        Pause::SetupSyllablesIndic => set_up_by_bytes(indic_syllable::BROKEN_CLUSTER, buffer),
-        Pause::SetupSyllablesKhmer => set_up_by_bytes(khmer_syllable::BROKEN_CLUSTER, buffer),
-        Pause::SetupSyllablesMyanmar => set_up_by_bytes(myanmar_syllable::BROKEN_CLUSTER, buffer),
+        Pause::SetupSyllablesIndic => setup_by_bytes(indic_syllable::BROKEN_CLUSTER, buffer),
+        Pause::SetupSyllablesKhmer => setup_by_bytes(khmer_syllable::BROKEN_CLUSTER, buffer),
+        Pause::SetupSyllablesMyanmar => setup_by_bytes(myanmar_syllable::BROKEN_CLUSTER, buffer),
         Pause::SetupSyllablesUse => setup_syllables_use_by_bytes(plan, buffer),
         _ => return false,
     }

@@ -136,14 +136,14 @@ fn has_modifier(marks: &[GlyphInfo]) -> bool {
 // Merges what the modifiers pass with them, and brings them to the front.
 #[inline]
 fn move_modifiers(level: BufferClusterLevel, glyphs: &mut [GlyphInfo], start: usize, end: usize) {
-    let parts = parts_of(&glyphs[start..end]);
+    let parts = mark_lengths(&glyphs[start..end]);
     merge_passed(level, glyphs, start, parts);
     bring_forward(&mut glyphs[start..end], parts);
 }
 
 // How many marks stand in the first four of the five parts.
 #[derive(Clone, Copy)]
-struct Parts {
+struct Lengths {
     low: usize,
     modifiers_below: usize,
     middle: usize,
@@ -152,14 +152,14 @@ struct Parts {
 
 // The lengths of the parts of these marks.
 #[inline]
-fn parts_of(marks: &[GlyphInfo]) -> Parts {
+fn mark_lengths(marks: &[GlyphInfo]) -> Lengths {
     let low = count_below(BELOW, marks);
     let second = &marks[low..];
     let modifiers_below = count_modifiers(BELOW, second);
     let third = &second[modifiers_below..];
     let middle = count_below(ABOVE, third);
     let modifiers_above = count_modifiers(ABOVE, &third[middle..]);
-    Parts {
+    Lengths {
         low,
         modifiers_below,
         middle,
@@ -199,7 +199,7 @@ fn modifies(character: u32) -> bool {
 
 // Merges what the modifiers pass with them.
 #[inline]
-fn merge_passed(level: BufferClusterLevel, glyphs: &mut [GlyphInfo], start: usize, parts: Parts) {
+fn merge_passed(level: BufferClusterLevel, glyphs: &mut [GlyphInfo], start: usize, parts: Lengths) {
     let second = start + parts.modifiers_below;
     let third = start + parts.low + parts.modifiers_below;
     merge_for(level, glyphs, parts.modifiers_below, start, third);
@@ -224,7 +224,7 @@ fn merge_for(
 
 // Brings the modifiers to the front, those below first.
 #[inline]
-fn bring_forward(marks: &mut [GlyphInfo], parts: Parts) {
+fn bring_forward(marks: &mut [GlyphInfo], parts: Lengths) {
     let first = parts.modifiers_below;
     let passed = parts.low + parts.modifiers_below;
     bring_last(&mut marks[..passed], first, CCC22);

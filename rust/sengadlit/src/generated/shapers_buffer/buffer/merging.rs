@@ -158,7 +158,7 @@ pub(super) fn set_cluster(stretch: &mut [GlyphInfo], cluster: u32) {
     }
 }
 
-// Puts the glyphs of cluster `from` that open the list into cluster `to`.
+// Puts the glyphs of cluster `from` that begin the list into cluster `to`.
 #[inline]
 fn flood_after(glyphs: &mut [GlyphInfo], from: u32, to: u32) {
     if from == to {

@@ -73,7 +73,7 @@ impl Buffer {
     #[inline]
     pub(crate) fn set_place(&mut self, index: usize, place: usize) {
         // the slice panics before room is taken for a place beyond the buffer
-        open_places(&mut self.places, self.info[..index + 1].len());
+        make_places(&mut self.places, self.info[..index + 1].len());
         self.places[index] = place;
     }
 
@@ -134,8 +134,8 @@ impl Buffer {
     // most syllables stay, and what calls `apply` isn't made longer by this.
     #[inline(never)]
     fn apply_list(&mut self, start: usize, end: usize) {
-        open_places(&mut self.places, self.info[..end].len());
-        open_spare(&mut self.spare, end - start);
+        make_places(&mut self.places, self.info[..end].len());
+        make_spare(&mut self.spare, end - start);
         reorder(&mut self.info, &self.places, &mut self.spare, start, end);
     }
 }
@@ -143,7 +143,7 @@ impl Buffer {
 // The same in a list of glyphs.
 #[inline]
 fn bring_forward_in(glyphs: &mut [GlyphInfo], to: usize, from: usize, count: usize) {
-    turn(&mut glyphs[to..from + count], count);
+    bring_to_front(&mut glyphs[to..from + count], count);
 }
 
 // How many glyphs are moved one by one past others. Stretches are short, so neighbours are swapped:
@@ -152,14 +152,14 @@ const FEW: usize = 2;
 
 // Brings the last `count` glyphs before the others.
 #[inline]
-fn turn(glyphs: &mut [GlyphInfo], count: usize) {
+fn bring_to_front(glyphs: &mut [GlyphInfo], count: usize) {
     let passed = glyphs.len() - count;
     if passed == 1 {
-        turn_left(glyphs);
+        first_to_end(glyphs);
     } else if count <= FEW {
-        turn_last(glyphs, count);
+        bring_last(glyphs, count);
     } else if passed <= FEW {
-        turn_first(glyphs, passed);
+        bring_first(glyphs, passed);
     } else {
         glyphs.rotate_right(count);
     }
@@ -167,23 +167,23 @@ fn turn(glyphs: &mut [GlyphInfo], count: usize) {
 
 // Brings the last `count` glyphs before the others, one after another.
 #[inline]
-fn turn_last(glyphs: &mut [GlyphInfo], count: usize) {
+fn bring_last(glyphs: &mut [GlyphInfo], count: usize) {
     for _ in 0..count {
-        turn_right(glyphs);
+        last_to_front(glyphs);
     }
 }
 
 // Brings the first `count` glyphs behind the others, one after another.
 #[inline]
-fn turn_first(glyphs: &mut [GlyphInfo], count: usize) {
+fn bring_first(glyphs: &mut [GlyphInfo], count: usize) {
     for _ in 0..count {
-        turn_left(glyphs);
+        first_to_end(glyphs);
     }
 }
 
 // Moves the first glyph behind the others.
 #[inline]
-fn turn_left(glyphs: &mut [GlyphInfo]) {
+fn first_to_end(glyphs: &mut [GlyphInfo]) {
     for i in 1..glyphs.len() {
         glyphs.swap(i - 1, i);
     }
@@ -191,7 +191,7 @@ fn turn_left(glyphs: &mut [GlyphInfo]) {
 
 // Moves the last glyph before the others.
 #[inline]
-fn turn_right(glyphs: &mut [GlyphInfo]) {
+fn last_to_front(glyphs: &mut [GlyphInfo]) {
     for i in (1..glyphs.len()).rev() {
         glyphs.swap(i - 1, i);
     }
@@ -219,22 +219,22 @@ fn gather(glyphs: &[GlyphInfo], places: &[usize], to: &mut [GlyphInfo]) {
     }
 }
 
-// How many places are opened at once.
-const OPENED: usize = 64;
+// How many places are made at once.
+const MADE_AT_ONCE: usize = 64;
 
-// Opens the first `len` places of the room that is there, and some more. What is opened reads 0, as
+// Makes the first `len` places of the room that is there, and some more. What is made reads 0, as
 // it did.
 #[inline]
-fn open_places(places: &mut Vec<usize>, len: usize) {
+fn make_places(places: &mut Vec<usize>, len: usize) {
     if places.len() < len {
-        let ahead = len.max(places.capacity().min(len.saturating_add(OPENED)));
+        let ahead = len.max(places.capacity().min(len.saturating_add(MADE_AT_ONCE)));
         places.resize(ahead, 0).unwrap();
     }
 }
 
-// Opens the first `len` glyphs of the room that is there.
+// Makes the first `len` glyphs of the room that is there.
 #[inline]
-pub(super) fn open_spare(spare: &mut Vec<GlyphInfo>, len: usize) {
+pub(super) fn make_spare(spare: &mut Vec<GlyphInfo>, len: usize) {
     if spare.len() < len {
         spare.resize(len, GlyphInfo::DEFAULT).unwrap();
     }

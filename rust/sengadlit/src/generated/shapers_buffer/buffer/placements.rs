@@ -7,10 +7,10 @@
 use crate::support::prelude::*;
 
 use super::Buffer;
-use super::cluster_runs::ClusterRun;
+use super::cluster_ranges::ClusterRange;
 use super::glyph::GlyphInfo;
 use super::merging::{IntoCluster, merges};
-use super::placement::{Placement, open_spare};
+use super::placement::{Placement, make_spare};
 use super::walking::{GlyphChange, GlyphWalk};
 
 /// Three placements of one syllable, one after another. At most one of them should be
@@ -178,7 +178,7 @@ impl<'a> Arranged<'a> {
     ///
     /// </details>
     #[inline]
-    pub fn run_behind(&self, start: usize, cluster: u32) -> usize {
+    pub fn cluster_behind(&self, start: usize, cluster: u32) -> usize {
         let end = self.len();
         for i in start..end {
             if self.get(i).cluster != cluster {
@@ -282,7 +282,7 @@ impl Buffer {
     #[cold]
     #[inline(never)]
     fn apply_one_after_another(&mut self, start: usize, end: usize, placements: &Placements) {
-        open_spare(&mut self.spare, self.info[start..end].len());
+        make_spare(&mut self.spare, self.info[start..end].len());
         reorder(
             &mut self.info,
             &self.places,
@@ -390,7 +390,7 @@ impl Buffer {
         end: usize,
         walk: &mut W,
     ) {
-        open_spare(&mut self.spare, self.info[start..end].len());
+        make_spare(&mut self.spare, self.info[start..end].len());
         walk_copy(
             &mut self.info,
             &self.places,
@@ -501,18 +501,18 @@ fn equal_behind(glyphs: &Arranged, start: usize, from: u32, to: u32) -> usize {
     if from == to {
         return 0;
     }
-    glyphs.run_behind(start, from)
+    glyphs.cluster_behind(start, from)
 }
 
 // What a merge of the glyphs from `start` to `end`, of at least two places, puts into one cluster.
 #[inline]
-fn merged_run(glyphs: &Arranged, start: usize, end: usize) -> ClusterRun {
+fn merged_range(glyphs: &Arranged, start: usize, end: usize) -> ClusterRange {
     let first = glyphs.get(start).cluster;
     let last = glyphs.get(end - 1).cluster;
     let cluster = least_cluster(glyphs, start + 1, end).min(first);
     let before = equal_before(glyphs, start, first, cluster);
     let behind = equal_behind(glyphs, end, last, cluster);
-    ClusterRun {
+    ClusterRange {
         start: start - before,
         end: end + behind,
         cluster,
@@ -569,7 +569,7 @@ impl Buffer {
         to: usize,
     ) {
         if merges(self.cluster_level) && to - from >= 2 {
-            let run = merged_run(&self.arranged(placements, start, end), from, to);
+            let run = merged_range(&self.arranged(placements, start, end), from, to);
             let change = IntoCluster(run.cluster);
             self.change_arranged(placements, start, end, run.start, run.end, &change);
         }
@@ -617,7 +617,7 @@ fn gather_spare(
     start: usize,
     end: usize,
 ) {
-    open_spare(spare, end - start);
+    make_spare(spare, end - start);
     gather_front(glyphs, places, spare, placements, start, end);
 }
 

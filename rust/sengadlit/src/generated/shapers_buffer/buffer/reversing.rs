@@ -5,7 +5,7 @@
 use super::{Buffer, GlyphPosition};
 
 impl Buffer {
-    /// Turns the glyphs round, with their positions.
+    /// Reverses the glyphs, with their positions.
     ///
     /// <details><summary>Contract</summary>
     ///
@@ -25,7 +25,7 @@ impl Buffer {
         self.pos.reverse();
     }
 
-    /// Turns the glyphs from `start` to `end` round, with their positions.
+    /// Reverses the glyphs from `start` to `end`, with their positions.
     ///
     /// # Panics
     ///
@@ -54,7 +54,7 @@ impl Buffer {
     }
 }
 
-// Turns the positions from `start` to `end` round, if there are any.
+// Reverses the positions from `start` to `end`, if there are any.
 #[inline]
 fn reverse_positions(positions: &mut [GlyphPosition], start: usize, end: usize) {
     if !positions.is_empty() {

@@ -1,6 +1,6 @@
 // Generated from crates/shapers_buffer/src/buffer/syllables.rt by rust/erase; edit the source.
 
-//! Syllables in the buffer: longest runs of glyphs of equal syllable bytes.
+//! Syllables in the buffer: longest sequences of glyphs of equal syllable bytes.
 
 use super::glyph::GlyphInfo;
 use super::{Buffer, ShaperError};
@@ -17,8 +17,8 @@ pub struct Span {
 }
 
 impl Buffer {
-    /// Where the syllable ends that place `start` stands in: behind the longest run of its byte
-    /// from `start` on.
+    /// Where the syllable ends that place `start` stands in: behind the longest sequence of its
+    /// byte from `start` on.
     ///
     /// # Panics
     ///
@@ -104,7 +104,7 @@ impl Buffer {
     }
 }
 
-/// How long the syllable is that opens the text: the longest run of its first byte.
+/// How long the syllable is that begins the text: the longest sequence of its first byte.
 ///
 /// <details><summary>Contract</summary>
 ///
@@ -122,12 +122,12 @@ impl Buffer {
 /// </details>
 #[inline]
 pub fn first_syllable_len(glyphs: &[GlyphInfo]) -> usize {
-    1 + syllable_run_len(&glyphs[1..], glyphs[0].syllable)
+    1 + leading_syllable_len(&glyphs[1..], glyphs[0].syllable)
 }
 
 // How many glyphs at the front have this syllable byte.
 #[inline]
-fn syllable_run_len(glyphs: &[GlyphInfo], byte: u8) -> usize {
+fn leading_syllable_len(glyphs: &[GlyphInfo], byte: u8) -> usize {
     glyphs
         .iter()
         .take_while(|glyph| glyph.syllable == byte)

@@ -245,7 +245,7 @@ fn unsafe_len<F: Font>(face: &F, unit: Unit, tone: JoinedTone, u: u32, v: u32) -
     0
 }
 
-// The item that opens the text. A character that jamo or a tone doesn't follow decides by itself.
+// The item that begins the text. A character that jamo or a tone doesn't follow decides by itself.
 fn read_item<F: Font>(face: &F, circles: bool, glyphs: &[GlyphInfo]) -> Item {
     let u = character_at(glyphs, 0);
     let v = character_at(glyphs, 1);
@@ -274,7 +274,7 @@ fn read_item<F: Font>(face: &F, circles: bool, glyphs: &[GlyphInfo]) -> Item {
     }
 }
 
-// Whether the character that opens the text stays as it is, as far as it and the next one decide.
+// Whether the character that begins the text stays as it is, as far as it and the next one decide.
 #[inline]
 pub(super) fn stays_alone<F: Font>(face: &F, circles: bool, glyphs: &[GlyphInfo]) -> bool {
     let u = character_at(glyphs, 0);
@@ -289,7 +289,7 @@ pub(super) fn stays_alone<F: Font>(face: &F, circles: bool, glyphs: &[GlyphInfo]
     !follows(v)
 }
 
-// The item that opens the text, which stands within it.
+// The item that begins the text, which stands within it.
 #[inline]
 pub(super) fn first_item<F: Font>(face: &F, circles: bool, glyphs: &[GlyphInfo]) -> Item {
     read_item(face, circles, glyphs)
@@ -378,56 +378,56 @@ fn jamo_from(glyph: GlyphInfo, u: u32, feature: u8) -> GlyphInfo {
 
 // Adds a glyph to a list that has room for it.
 #[inline]
-fn put(list: &mut Vec<GlyphInfo>, glyph: GlyphInfo) {
+fn push_within(list: &mut Vec<GlyphInfo>, glyph: GlyphInfo) {
     list.push(glyph).unwrap();
 }
 
 // Adds the glyph at place `i`.
 #[inline]
 fn put_from(glyphs: &[GlyphInfo], i: usize, list: &mut Vec<GlyphInfo>) {
-    put(list, glyphs[i]);
+    push_within(list, glyphs[i]);
 }
 
 impl Unit {
-    // Adds what the unit that opens the text becomes.
+    // Adds what the unit that begins the text becomes.
     fn write(self, glyphs: &[GlyphInfo], list: &mut Vec<GlyphInfo>) {
         match self {
             Unit::ComposedTwo(s) | Unit::ComposedThree(s) => {
-                put(list, as_character(glyphs[0], s));
+                push_within(list, as_character(glyphs[0], s));
             }
             Unit::JamoTwo => {
-                put(list, as_jamo(glyphs[0], LJMO));
-                put(list, as_jamo(glyphs[1], VJMO));
+                push_within(list, as_jamo(glyphs[0], LJMO));
+                push_within(list, as_jamo(glyphs[1], VJMO));
             }
             Unit::JamoThree => {
-                put(list, as_jamo(glyphs[0], LJMO));
-                put(list, as_jamo(glyphs[1], VJMO));
-                put(list, as_jamo(glyphs[2], TJMO));
+                push_within(list, as_jamo(glyphs[0], LJMO));
+                push_within(list, as_jamo(glyphs[1], VJMO));
+                push_within(list, as_jamo(glyphs[2], TJMO));
             }
             Unit::PartsTwo(l, v) => {
-                put(list, jamo_from(glyphs[0], l, LJMO));
-                put(list, jamo_from(glyphs[0], v, VJMO));
+                push_within(list, jamo_from(glyphs[0], l, LJMO));
+                push_within(list, jamo_from(glyphs[0], v, VJMO));
             }
             Unit::PartsThree(l, v, t) => {
-                put(list, jamo_from(glyphs[0], l, LJMO));
-                put(list, jamo_from(glyphs[0], v, VJMO));
-                put(list, jamo_from(glyphs[0], t, TJMO));
+                push_within(list, jamo_from(glyphs[0], l, LJMO));
+                push_within(list, jamo_from(glyphs[0], v, VJMO));
+                push_within(list, jamo_from(glyphs[0], t, TJMO));
             }
             Unit::PartsBeforeT(l, v) => {
-                put(list, jamo_from(glyphs[0], l, LJMO));
-                put(list, jamo_from(glyphs[0], v, VJMO));
-                put(list, as_jamo(glyphs[1], TJMO));
+                push_within(list, jamo_from(glyphs[0], l, LJMO));
+                push_within(list, jamo_from(glyphs[0], v, VJMO));
+                push_within(list, as_jamo(glyphs[1], TJMO));
             }
             Unit::ToneCircle => {
-                put(list, glyphs[0]);
-                put(list, as_character(glyphs[0], DOTTED_CIRCLE));
+                push_within(list, glyphs[0]);
+                push_within(list, as_character(glyphs[0], DOTTED_CIRCLE));
             }
             Unit::CircleTone => {
-                put(list, as_character(glyphs[0], DOTTED_CIRCLE));
-                put(list, glyphs[0]);
+                push_within(list, as_character(glyphs[0], DOTTED_CIRCLE));
+                push_within(list, glyphs[0]);
             }
             Unit::Syllable | Unit::Other => {
-                put(list, glyphs[0]);
+                push_within(list, glyphs[0]);
             }
         }
     }
@@ -482,7 +482,7 @@ impl Item {
         }
     }
 
-    // Adds what the item that opens the text becomes.
+    // Adds what the item that begins the text becomes.
     #[inline]
     pub(super) fn write(self, glyphs: &[GlyphInfo], list: &mut Vec<GlyphInfo>) {
         let end = self.unit.taken();

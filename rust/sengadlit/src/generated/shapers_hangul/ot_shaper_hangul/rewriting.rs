@@ -161,14 +161,14 @@ fn join_items(
         let done = join_to_flood(cut, level, glyphs);
         join_carrying(&cut[done..], level, glyphs, alloc);
     } else {
-        join_in_turn(cut, level, glyphs);
+        join_by_items(cut, level, glyphs);
     }
 }
 
 // Flags and merges what each item flags and merges, in a text that merges don't flood again and
 // again.
 #[inline]
-fn join_in_turn(cut: &[(usize, Item)], level: BufferClusterLevel, glyphs: &mut [GlyphInfo]) {
+fn join_by_items(cut: &[(usize, Item)], level: BufferClusterLevel, glyphs: &mut [GlyphInfo]) {
     for entry in cut {
         entry.1.join(level, glyphs, entry.0);
     }
@@ -230,7 +230,7 @@ fn join_behind(
 ) {
     let count = groups.guard(glyphs, place, place + item.len());
     item.join(level, glyphs, place);
-    groups.settle(glyphs, count);
+    groups.take_back(glyphs, count);
 }
 
 // Adds the text from one place to another.

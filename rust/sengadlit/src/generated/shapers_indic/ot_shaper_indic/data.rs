@@ -169,10 +169,10 @@ fn masks_of(map: &Map) -> [u32; 17] {
 /// ```text
 /// ensures data { let it = plan.now in
 ///     result ≡ Indic (indic_plan it.base_search it.zero_context it.script it.ot_map) }
-/// ensures off_flags { AllByRecursion (λ mask. mask % 8 ≡ 0) (masks_kept result) }
+/// ensures off_flags { AllByRecursion (λ mask. mask % 8 ≡ 0) (masks_stored result) }
 /// ```
 ///
-/// - `masks_kept`: `crates/shapers_base/specs/Masks.antt`
+/// - `masks_stored`: `crates/shapers_base/specs/Masks.antt`
 /// - `indic_plan`, `zero_context`: `crates/shapers_indic/specs/Plan.antt`
 ///
 /// </details>

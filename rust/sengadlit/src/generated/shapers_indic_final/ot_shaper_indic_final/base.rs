@@ -23,7 +23,7 @@ pub(super) struct Based {
 // Finds the base of the syllable from `start` to `end`, and gives the glyphs that become it the
 // base's position.
 #[inline]
-pub(super) fn settle_base(
+pub(super) fn search_base(
     rules: &Rules,
     script: Option<Script>,
     buffer: &mut Buffer,
@@ -141,15 +141,15 @@ fn before_halants(base: usize, glyphs: &[GlyphInfo]) -> usize {
     if base == glyphs.len() {
         base
     } else {
-        nearest_settled(base, glyphs)
+        nearest_base_like(base, glyphs)
     }
 }
 
 // The nearest glyph from the base leftwards that is neither a nukta nor a halant, else the start.
 #[inline]
-fn nearest_settled(base: usize, glyphs: &[GlyphInfo]) -> usize {
+fn nearest_base_like(base: usize, glyphs: &[GlyphInfo]) -> usize {
     for i in (1..base + 1).rev() {
-        if may_be_settled(&glyphs[i]) {
+        if is_base_like(&glyphs[i]) {
             return i;
         }
     }
@@ -158,7 +158,7 @@ fn nearest_settled(base: usize, glyphs: &[GlyphInfo]) -> usize {
 
 // Whether a glyph is neither a nukta nor a halant.
 #[inline]
-fn may_be_settled(glyph: &GlyphInfo) -> bool {
+fn is_base_like(glyph: &GlyphInfo) -> bool {
     glyph.glyph_props.is_ligated() || !matches!(glyph.category, OT_N | OT_H)
 }
 

@@ -1,7 +1,7 @@
 // Generated from crates/shapers_indic_final/src/ot_shaper_indic_final/left_matras.rt by rust/erase; edit the source.
 
 //! The left matras of one syllable moved to their place, in time that is linear in the syllable.
-//! Each merges with all behind it up to the base. So at any time at most two runs of glyphs are in
+//! Each merges with all behind it up to the base. So at any time at most two ranges of glyphs are in
 //! clusters that merges have given them: the matras that have gone with what follows them, and
 //! glyphs directly before them. These clusters are written behind the last merge, as the matras
 //! move behind it.
@@ -17,7 +17,7 @@ use crate::generated::shapers_base::buffer::{
 // matras start, up to these, and their cluster; the place behind the glyphs from the matras on, and
 // their cluster.
 #[derive(Clone, Copy)]
-struct Runs {
+struct MergedRanges {
     start: usize,
     before: u32,
     end: usize,
@@ -27,7 +27,7 @@ struct Runs {
 // Moves the left matras before place `target` of the syllable from `start` to `end` there, the last
 // one first, and merges each with all up to place `base_end`.
 #[inline]
-pub(super) fn part_matras(
+pub(super) fn gather_matras(
     target: usize,
     base_end: usize,
     others: bool,
@@ -42,14 +42,14 @@ pub(super) fn part_matras(
                 return Placements::STAY;
             }
             let moves = move_matra(buffer, start, end, base_end, i, target);
-            return part_further(i, target, base_end, moves, buffer, start, end);
+            return bring_matras_on(i, target, base_end, moves, buffer, start, end);
         }
     }
     Placements::STAY
 }
 
 // Whether the left matra of place `matra` of the syllable from `start` on moves alone: none stands
-// before it, and what opens the syllable behind it is no reph that moves.
+// before it, and what begins the syllable behind it is no reph that moves.
 #[inline]
 fn moves_alone(matra: usize, glyphs: &[GlyphInfo], start: usize) -> bool {
     let first = if matra == 0 { start + 1 } else { start };
@@ -65,7 +65,7 @@ fn any_left(glyphs: &[GlyphInfo]) -> bool {
 // Moves the left matras before place `top` of the syllable from `start` to `end` on to the places
 // before `target`, where one stands that has moved there from `top` and merged with all up to place
 // `base_end`, and merges each.
-fn part_further(
+fn bring_matras_on(
     top: usize,
     target: usize,
     base_end: usize,
@@ -77,7 +77,7 @@ fn part_further(
     if !has_left(start, start + top, &buffer.arranged(&moves, start, end)) {
         return moves;
     }
-    let runs = merged_runs(
+    let ranges = merged_ranges(
         top,
         target,
         base_end,
@@ -88,7 +88,7 @@ fn part_further(
         start,
         start + top,
         &buffer.arranged(&moves, start, end),
-        runs.start,
+        ranges.start,
         start + target,
     );
     let at = list_matras(top, target, buffer, start, end);
@@ -97,8 +97,8 @@ fn part_further(
         second: Placement::Stays,
         third: Placement::Stays,
     };
-    put(&listed, buffer, start, end, at - len, at, runs.before);
-    put(&listed, buffer, start, end, at, runs.end, runs.cluster);
+    merge_stretch(&listed, buffer, start, end, at - len, at, ranges.before);
+    merge_stretch(&listed, buffer, start, end, at, ranges.end, ranges.cluster);
     listed
 }
 
@@ -114,16 +114,16 @@ fn has_left(start: usize, end: usize, glyphs: &Arranged) -> bool {
 }
 
 // What the merges of the left matras before place `top` of the syllable from `start` on make, as
-// `part_further`.
+// `bring_matras_on`.
 #[inline]
-fn merged_runs(
+fn merged_ranges(
     top: usize,
     target: usize,
     base_end: usize,
     glyphs: &Arranged,
     start: usize,
-) -> Runs {
-    let mut runs = Runs {
+) -> MergedRanges {
+    let mut ranges = MergedRanges {
         start: start + target - 1,
         before: glyphs.get(start + target - 1).cluster,
         end: start + base_end,
@@ -131,35 +131,35 @@ fn merged_runs(
     };
     for i in (0..top).rev() {
         if is_left(&glyphs.get(start + i)) {
-            runs = with_matra(start + i, start + top, glyphs, runs);
+            ranges = with_matra(start + i, start + top, glyphs, ranges);
         }
     }
-    runs
+    ranges
 }
 
-// The runs after the merge of the left matra at place `matra`; those between it and `top` have
+// The ranges after the merge of the left matra at place `matra`; those between it and `top` have
 // gone.
-fn with_matra(matra: usize, top: usize, glyphs: &Arranged, runs: Runs) -> Runs {
-    let own = if matra < runs.start {
+fn with_matra(matra: usize, top: usize, glyphs: &Arranged, ranges: MergedRanges) -> MergedRanges {
+    let own = if matra < ranges.start {
         glyphs.get(matra).cluster
     } else {
-        runs.before
+        ranges.before
     };
-    let cluster = own.min(runs.cluster);
-    let end = runs.end + glyphs.run_behind(runs.end, runs.cluster);
-    if own == runs.before {
-        let start = reached(matra, top, glyphs, runs.start, own);
-        Runs {
+    let cluster = own.min(ranges.cluster);
+    let end = ranges.end + glyphs.cluster_behind(ranges.end, ranges.cluster);
+    if own == ranges.before {
+        let start = reached(matra, top, glyphs, ranges.start, own);
+        MergedRanges {
             start,
             before: cluster,
             end,
             cluster,
         }
     } else {
-        Runs {
+        MergedRanges {
             end,
             cluster,
-            ..runs
+            ..ranges
         }
     }
 }
@@ -285,7 +285,7 @@ fn list_matras(
 
 // Puts the glyphs from `from` to `to` of a text whose syllable from `start` to `end` has moved into
 // a cluster, at a level that merges.
-fn put(
+fn merge_stretch(
     moves: &Placements,
     buffer: &mut Buffer,
     start: usize,

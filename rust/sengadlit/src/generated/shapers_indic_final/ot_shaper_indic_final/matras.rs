@@ -17,7 +17,7 @@ pub(super) fn is_left(glyph: &GlyphInfo) -> bool {
 
 // Whether left matras go to a place: one past the start, where none stands.
 #[inline]
-pub(super) fn matras_go(target: usize, glyphs: &[GlyphInfo]) -> bool {
+pub(super) fn takes_matras(target: usize, glyphs: &[GlyphInfo]) -> bool {
     target > 0 && !is_left(&glyphs[target])
 }
 

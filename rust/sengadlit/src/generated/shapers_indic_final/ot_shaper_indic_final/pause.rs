@@ -4,7 +4,7 @@
 
 use super::reordering::FinalOrder;
 use super::rules::Rules;
-use super::word_start::open_words;
+use super::word_start::start_words;
 use crate::generated::shapers_base::buffer::Buffer;
 use crate::generated::shapers_base::font::Font;
 use crate::generated::shapers_base::plan::Plan;
@@ -49,5 +49,5 @@ pub fn final_reordering<F: Font>(plan: &Plan, face: &F, buffer: &mut Buffer) {
     };
     // (this order never refuses)
     reorder_syllables_by_steps(&order, buffer).unwrap();
-    open_words(rules.init, buffer);
+    start_words(rules.init, buffer);
 }

@@ -4,11 +4,11 @@
 //! placements, one after another, since where one goes depends on where those before it went.
 
 use super::glyphs::has_mask;
-use super::left_matras::part_matras;
-use super::matras::{end_of_base, first_left, matra_target, matras_go};
+use super::left_matras::gather_matras;
+use super::matras::{end_of_base, first_left, matra_target, takes_matras};
 use super::moves::{move_pref, move_reph};
 use super::pref::{formed_pref, pref_target};
-use super::reph::{base_after_reph, is_moving_reph, opens_with_reph, reph_target};
+use super::reph::{base_after_reph, begins_with_reph, is_moving_reph, reph_target};
 use crate::generated::shapers_base::buffer::{
     Arranged, Buffer, GlyphInfo, Placements, Script, SyllableReading,
 };
@@ -25,7 +25,7 @@ pub(super) fn place_reph(
     start: usize,
     end: usize,
 ) -> usize {
-    if !opens(moves, buffer, start, end) {
+    if !begins_moved(moves, buffer, start, end) {
         return base;
     }
     let mut search = RephSearch {
@@ -43,19 +43,19 @@ pub(super) fn place_reph(
     }
 }
 
-// Whether a reph that moves opens the syllable from `start` to `end`, moved so far.
+// Whether a reph that moves begins the syllable from `start` to `end`, moved so far.
 #[inline]
-fn opens(moves: &Placements, buffer: &Buffer, start: usize, end: usize) -> bool {
+fn begins_moved(moves: &Placements, buffer: &Buffer, start: usize, end: usize) -> bool {
     if moves.moves_nothing() {
-        return opens_with_reph(&buffer.glyphs()[start..end]);
+        return begins_with_reph(&buffer.glyphs()[start..end]);
     }
-    opens_arranged(&buffer.arranged(moves, start, end), start, end)
+    begins_arranged(&buffer.arranged(moves, start, end), start, end)
 }
 
-// Whether a reph that moves opens the syllable from `start` to `end` of a text that is seen as
+// Whether a reph that moves begins the syllable from `start` to `end` of a text that is seen as
 // moved.
 #[inline]
-fn opens_arranged(glyphs: &Arranged, start: usize, end: usize) -> bool {
+fn begins_arranged(glyphs: &Arranged, start: usize, end: usize) -> bool {
     end - start >= 2 && is_moving_reph(&glyphs.get(start))
 }
 
@@ -76,7 +76,7 @@ impl SyllableReading for RephSearch {
 // Where the reph of a syllable goes, if one moves.
 #[inline]
 fn reph_goes(position: RephPosition, base: usize, glyphs: &[GlyphInfo]) -> Option<usize> {
-    if opens_with_reph(glyphs) {
+    if begins_with_reph(glyphs) {
         Some(reph_target(position, base, glyphs))
     } else {
         None
@@ -154,9 +154,9 @@ pub(super) fn place_matras(
     }
     let base_end = end_of_base(base, &buffer.glyphs()[start..end]);
     let target = matra_target(script, base, &buffer.glyphs()[start..end]);
-    if matras_go(target, &buffer.glyphs()[start..end]) {
+    if takes_matras(target, &buffer.glyphs()[start..end]) {
         let others = has_any(forming, &buffer.glyphs()[start..end]);
-        part_matras(target, base_end, others, buffer, start, end)
+        gather_matras(target, base_end, others, buffer, start, end)
     } else {
         merge_matras(base, base_end, buffer, start, end);
         Placements::STAY

@@ -11,11 +11,11 @@ use crate::generated::shapers_base::plan::ot_position_t::{
 };
 use crate::generated::shapers_indic::ot_shaper_indic::glyphs::{is_joiner, is_matra};
 
-// Whether a reph that moves opens a syllable of two or more: a formed one, or a character of its own
-// that is not formed. Ra and a halant are a reph only in a font that forms one of them. A font that
-// forms a ligature of the character itself draws it where it is, and wants no reordering.
+// Whether a reph that moves begins a syllable of two or more: a formed one, or a character of its
+// own that is not formed. Ra and a halant are a reph only in a font that forms one of them. A font
+// that forms a ligature of the character itself draws it where it is, and wants no reordering.
 #[inline]
-pub(super) fn opens_with_reph(glyphs: &[GlyphInfo]) -> bool {
+pub(super) fn begins_with_reph(glyphs: &[GlyphInfo]) -> bool {
     match glyphs {
         [first, _, ..] => is_moving_reph(first),
         _ => false,

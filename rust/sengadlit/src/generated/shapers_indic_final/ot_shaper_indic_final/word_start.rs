@@ -9,10 +9,10 @@ use crate::generated::shapers_base::buffer::{Buffer, GeneralCategory, GlyphInfo}
 
 // Opens each syllable of the text.
 #[inline]
-pub(super) fn open_words(init: u32, buffer: &mut Buffer) {
+pub(super) fn start_words(init: u32, buffer: &mut Buffer) {
     for place in 0..buffer.len() {
         if starts_syllable(buffer.glyphs(), place) {
-            open_syllable(init, buffer, place);
+            start_syllable(init, buffer, place);
         }
     }
 }
@@ -25,11 +25,11 @@ fn starts_syllable(glyphs: &[GlyphInfo], place: usize) -> bool {
 
 // Opens the syllable at `place`.
 #[inline]
-fn open_syllable(init: u32, buffer: &mut Buffer, place: usize) {
+fn start_syllable(init: u32, buffer: &mut Buffer, place: usize) {
     if !is_left(&buffer.glyphs()[place]) {
         return;
     }
-    if goes_on(buffer.glyphs(), place) {
+    if word_continues(buffer.glyphs(), place) {
         buffer.unsafe_to_break(place.saturating_sub(1), place + 1);
         return;
     }
@@ -38,7 +38,7 @@ fn open_syllable(init: u32, buffer: &mut Buffer, place: usize) {
 
 // Whether a word goes on behind what stands before a place.
 #[inline]
-fn goes_on(glyphs: &[GlyphInfo], place: usize) -> bool {
+fn word_continues(glyphs: &[GlyphInfo], place: usize) -> bool {
     if place == 0 {
         return false;
     }

@@ -66,12 +66,12 @@ fn is_passed_by_halant(script: Option<Script>, glyph: &GlyphInfo) -> bool {
 /// 435.)
 #[inline]
 pub(super) fn joiner_comes_first(script: Option<Script>, glyphs: &[GlyphInfo]) -> bool {
-    script == KANNADA && opens_with_ra_h_zwj(glyphs)
+    script == KANNADA && begins_with_ra_h_zwj(glyphs)
 }
 
-// Whether a syllable opens with Ra, H, ZWJ.
+// Whether a syllable begins with Ra, H, ZWJ.
 #[inline]
-fn opens_with_ra_h_zwj(glyphs: &[GlyphInfo]) -> bool {
+fn begins_with_ra_h_zwj(glyphs: &[GlyphInfo]) -> bool {
     match glyphs {
         [ra, halant, joiner, ..] => {
             is_plain(ra, OT_Ra) && is_plain(halant, OT_H) && is_plain(joiner, OT_ZWJ)

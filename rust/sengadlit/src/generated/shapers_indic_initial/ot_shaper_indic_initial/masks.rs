@@ -49,16 +49,16 @@ fn add_bits(bits: u32, glyphs: &mut [GlyphInfo]) {
     }
 }
 
-// Gives the glyphs of a reph that opens the syllable mask bits.
+// Gives the glyphs of a reph that begins the syllable mask bits.
 #[inline]
 fn set_reph_bits(bits: u32, glyphs: &mut [GlyphInfo]) {
-    let len = reph_run_len(glyphs);
+    let len = leading_reph_len(glyphs);
     add_bits(bits, &mut glyphs[..len]);
 }
 
 // How many glyphs of the reph's position stand in front.
 #[inline]
-fn reph_run_len(glyphs: &[GlyphInfo]) -> usize {
+fn leading_reph_len(glyphs: &[GlyphInfo]) -> usize {
     glyphs
         .iter()
         .take_while(|glyph| glyph.auxiliary == POS_RA_TO_BECOME_REPH)
@@ -136,13 +136,13 @@ fn set_eyelash_bits(bits: u32, base: usize, glyphs: &mut [GlyphInfo]) {
 // Whether the glyph at `index` belongs to an eyelash Ra.
 #[inline]
 fn is_in_eyelash(base: usize, glyphs: &[GlyphInfo], index: usize) -> bool {
-    opens_eyelash(base, glyphs, index) || (0 < index && opens_eyelash(base, glyphs, index - 1))
+    begins_eyelash(base, glyphs, index) || (0 < index && begins_eyelash(base, glyphs, index - 1))
 }
 
 // Whether an eyelash Ra stands at `index`: Ra and H before the base, and no ZWJ behind them before
 // it.
 #[inline]
-fn opens_eyelash(base: usize, glyphs: &[GlyphInfo], index: usize) -> bool {
+fn begins_eyelash(base: usize, glyphs: &[GlyphInfo], index: usize) -> bool {
     index + 1 < base
         && is_of_category(glyphs, index, OT_Ra)
         && is_of_category(glyphs, index + 1, OT_H)

@@ -1,7 +1,7 @@
 // Generated from crates/shapers_indic_initial/src/ot_shaper_indic_initial/reph.rt by rust/erase; edit the source.
 
-//! The reph that opens a syllable, and the limit of the search for its base. (OpenType, development
-//! of Indic scripts.)
+//! The reph that begins a syllable, and the limit of the search for its base. (OpenType,
+//! development of Indic scripts.)
 
 use super::rules::Rules;
 use crate::generated::shapers_base::buffer::GlyphInfo;
@@ -11,7 +11,7 @@ use crate::generated::shapers_base::plan::ot_category_t::{OT_Repha, OT_ZWJ};
 use crate::generated::shapers_indic::ot_shaper_indic::glyphs::{is_joiner, number};
 use crate::generated::shapers_indic::ot_shaper_indic::indic_feature::RPHF;
 
-/// How many glyphs the reph that opens a syllable has, without joiners behind it; 0 if there is
+/// How many glyphs the reph that begins a syllable has, without joiners behind it; 0 if there is
 /// none. Most scripts have one where the font forms it of Ra, H (0930 094D 0915), Telugu of
 /// Ra, H, ZWJ (0C30 0C4D 200D 0C15), and Malayalam has a character for it (0D4E 0D15).
 #[inline]
@@ -20,7 +20,11 @@ pub(crate) fn reph_len<F: Font>(rules: &Rules<F>, glyphs: &[GlyphInfo]) -> usize
     if rules.plan.mask_array[RPHF] != 0 && third_lets_reph(mode, glyphs) {
         return if is_formed(rules, glyphs) { 2 } else { 0 };
     }
-    if opens_with_repha(mode, glyphs) { 1 } else { 0 }
+    if begins_with_repha(mode, glyphs) {
+        1
+    } else {
+        0
+    }
 }
 
 /// Where the search for the base ends, if no ZWJ ends it before: behind the reph and the joiners
@@ -49,7 +53,7 @@ fn third_lets_reph(mode: RephMode, glyphs: &[GlyphInfo]) -> bool {
     }
 }
 
-// Whether the font forms a reph of what opens the syllable.
+// Whether the font forms a reph of what begins the syllable.
 #[inline]
 fn is_formed<F: Font>(rules: &Rules<F>, glyphs: &[GlyphInfo]) -> bool {
     let opening = [number(&glyphs[0]), number(&glyphs[1]), number(&glyphs[2])];
@@ -64,10 +68,10 @@ fn is_formed<F: Font>(rules: &Rules<F>, glyphs: &[GlyphInfo]) -> bool {
     }
 }
 
-// Whether the syllable opens with a reph that is a character of its own, in a script that writes it
-// so.
+// Whether the syllable begins with a reph that is a character of its own, in a script that writes
+// it so.
 #[inline]
-fn opens_with_repha(mode: RephMode, glyphs: &[GlyphInfo]) -> bool {
+fn begins_with_repha(mode: RephMode, glyphs: &[GlyphInfo]) -> bool {
     match (glyphs, mode) {
         ([first, ..], RephMode::LogRepha) => first.category == OT_Repha,
         _ => false,

@@ -25,7 +25,7 @@ const CIRCLES: ScriptCircles = ScriptCircles {
 /// before their base to the front of each syllable, with the masks of the plan; in a regular
 /// syllable these are its movers, the last one first. Returns whether circles were wanted. Every
 /// cluster afterwards is one that the text had. Refuses with [`UnknownSyllable`], before anything
-/// changes; with [`TooLong`]; and with [`Memory`], but not where no circle opens. (OpenType,
+/// changes; with [`TooLong`]; and with [`Memory`], but not where no circle is put in. (OpenType,
 /// "Developing OpenType Fonts for Khmer".)
 ///
 /// <details><summary>Contract</summary>

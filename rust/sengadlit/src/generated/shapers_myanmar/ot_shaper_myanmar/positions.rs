@@ -26,7 +26,7 @@ fn reph_len(syllable: &[GlyphInfo]) -> usize {
     if has_reph(syllable) { 3 } else { 0 }
 }
 
-// Whether a syllable opens with a reph.
+// Whether a syllable begins with a reph.
 #[inline]
 fn has_reph(syllable: &[GlyphInfo]) -> bool {
     match syllable {
@@ -84,17 +84,17 @@ fn set_later(glyphs: &mut [GlyphInfo]) {
     let mut part = POS_AFTER_MAIN;
     let mut before = POS_BASE_C;
     for glyph in glyphs.iter_mut() {
-        part = part_of(glyph, part);
+        part = position_behind_base(glyph, part);
         before = own_position(glyph, part, before);
         glyph.auxiliary = before;
     }
 }
 
 // The part of a glyph behind the base, by its position, behind a glyph of part `before`. The first
-// vowel below opens the run of vowels below and anusvaras, which what stands elsewhere by itself
-// doesn't end.
+// vowel below opens the sequence of vowels below and anusvaras, which what stands elsewhere by
+// itself doesn't end.
 #[inline]
-fn part_of(glyph: &GlyphInfo, before: u8) -> u8 {
+fn position_behind_base(glyph: &GlyphInfo, before: u8) -> u8 {
     match (before, glyph.category) {
         (POS_AFTER_MAIN, OT_VBlw) => POS_BELOW_C,
         (POS_BELOW_C, OT_VBlw | OT_A | OT_MR | OT_VPre | OT_VS) => POS_BELOW_C,

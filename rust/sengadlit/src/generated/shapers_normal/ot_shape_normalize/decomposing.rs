@@ -83,7 +83,7 @@ pub fn decompose<C: NormalizeContext>(context: &C, buffer: &mut Buffer) -> Resul
         return Ok(());
     }
     if stays_together(context, buffer.glyphs()) {
-        buffer.change_outside(&Settling { context });
+        buffer.change_outside(&Mapping { context });
         return Ok(());
     }
     let len = measure(context, buffer.glyphs(), buffer.max_len())?;
@@ -151,14 +151,14 @@ fn cluster_stays<C: NormalizeContext>(context: &C, cluster: &[GlyphInfo]) -> boo
 }
 
 // Gives each character that stays its glyph.
-struct Settling<'a, C: NormalizeContext> {
+struct Mapping<'a, C: NormalizeContext> {
     context: &'a C,
 }
 
-impl<'a, C: NormalizeContext> GlyphChange for Settling<'a, C> {
+impl<'a, C: NormalizeContext> GlyphChange for Mapping<'a, C> {
     #[inline]
     fn change(&self, glyph: &mut GlyphInfo) {
-        *glyph = settled(self.context, *glyph);
+        *glyph = mapped(self.context, *glyph);
     }
 }
 
@@ -271,7 +271,7 @@ fn write_each<C: NormalizeContext>(
 fn write<C: NormalizeContext>(context: &C, way: Way, glyph: GlyphInfo, to: &mut Vec<GlyphInfo>) {
     let parts = image(context, way, glyph.glyph_id);
     if parts.is_empty() {
-        put(to, settled(context, glyph));
+        push_within(to, mapped(context, glyph));
     } else {
         write_parts(context, glyph, parts.as_slice(), to);
     }
@@ -288,13 +288,13 @@ fn write_parts<C: NormalizeContext>(
     for c in parts {
         let mut part = glyph;
         set_character(context, &mut part, *c, number_of(context, *c));
-        put(to, part);
+        push_within(to, part);
     }
 }
 
 // Adds a glyph to a list that has room for it.
 #[inline]
-pub(super) fn put(list: &mut Vec<GlyphInfo>, glyph: GlyphInfo) {
+pub(super) fn push_within(list: &mut Vec<GlyphInfo>, glyph: GlyphInfo) {
     list.push(glyph).unwrap();
 }
 
@@ -304,13 +304,13 @@ pub(super) fn rest_from(glyphs: &[GlyphInfo], place: usize) -> &[GlyphInfo] {
     &glyphs[place..]
 }
 
-// How long the cluster is that opens the text: a glyph and the marks behind it.
+// How long the cluster is that begins the text: a glyph and the marks behind it.
 #[inline]
 fn cluster_len(glyphs: &[GlyphInfo]) -> usize {
     1 + count_marks(&glyphs[1..])
 }
 
-// How many marks open the list.
+// How many marks begin the list.
 #[inline]
 fn count_marks(glyphs: &[GlyphInfo]) -> usize {
     glyphs.iter().take_while(|glyph| is_mark(glyph)).count()
@@ -444,7 +444,7 @@ fn number_of<C: NormalizeContext>(context: &C, c: u32) -> u16 {
 
 // A character that stays, with its glyph.
 #[inline]
-fn settled<C: NormalizeContext>(context: &C, glyph: GlyphInfo) -> GlyphInfo {
+fn mapped<C: NormalizeContext>(context: &C, glyph: GlyphInfo) -> GlyphInfo {
     match context.nominal_glyph(glyph.glyph_id) {
         Some(own) => GlyphInfo {
             glyph_props: GlyphProps(own.0),

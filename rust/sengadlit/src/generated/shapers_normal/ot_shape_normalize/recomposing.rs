@@ -148,14 +148,14 @@ fn merge_joined(
     }
 }
 
-// Puts the glyphs of cluster `from` that open the list into cluster `to`.
+// Puts the glyphs of cluster `from` that begin the list into cluster `to`.
 #[inline]
 fn flood_behind(glyphs: &mut [GlyphInfo], from: u32, to: u32) {
     let count = count_in(glyphs, from);
     change_each_in(&mut glyphs[..count], &IntoCluster(to));
 }
 
-// How many glyphs of a cluster open the list.
+// How many glyphs of a cluster begin the list.
 #[inline]
 fn count_in(glyphs: &[GlyphInfo], cluster: u32) -> usize {
     glyphs

@@ -5,7 +5,7 @@
 use crate::support::prelude::*;
 
 use super::context::NormalizeContext;
-use super::decomposing::{put, rest_from};
+use super::decomposing::{push_within, rest_from};
 use super::sorting::{is_mark, join_in};
 use crate::generated::shapers_base::buffer::{
     BufferClusterLevel, GeneralCategory, GlyphInfo, GlyphProps,
@@ -121,7 +121,7 @@ fn form_len(glyphs: &[GlyphInfo]) -> usize {
     1 + count_selectors(&glyphs[1..])
 }
 
-// How many selectors open the list.
+// How many selectors begin the list.
 #[inline]
 fn count_selectors(glyphs: &[GlyphInfo]) -> usize {
     glyphs.iter().take_while(|glyph| is_selector(glyph)).count()
@@ -148,7 +148,7 @@ fn write_form<C: NormalizeContext>(context: &C, form: &[GlyphInfo], to: &mut Vec
     };
     match context.variation_glyph(glyph.glyph_id, selector.glyph_id) {
         Some(variant) => {
-            put(
+            push_within(
                 to,
                 GlyphInfo {
                     glyph_props: GlyphProps(variant.0),
@@ -157,8 +157,8 @@ fn write_form<C: NormalizeContext>(context: &C, form: &[GlyphInfo], to: &mut Vec
             );
         }
         None => {
-            put(to, with_number(context, *glyph));
-            put(
+            push_within(to, with_number(context, *glyph));
+            push_within(
                 to,
                 with_number(context, selecting_nothing(context, *selector)),
             );
@@ -171,7 +171,7 @@ fn write_form<C: NormalizeContext>(context: &C, form: &[GlyphInfo], to: &mut Vec
 #[inline]
 fn write_kept<C: NormalizeContext>(context: &C, glyphs: &[GlyphInfo], to: &mut Vec<GlyphInfo>) {
     for glyph in glyphs {
-        put(to, with_number(context, *glyph));
+        push_within(to, with_number(context, *glyph));
     }
 }
 

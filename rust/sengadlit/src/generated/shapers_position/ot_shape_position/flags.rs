@@ -59,13 +59,13 @@ fn rest_from(glyphs: &[GlyphInfo], start: usize) -> &[GlyphInfo] {
     &glyphs[start..]
 }
 
-// How many glyphs are in the cluster that opens the text.
+// How many glyphs are in the cluster that begins the text.
 #[inline]
 fn first_cluster_len(glyphs: &[GlyphInfo]) -> usize {
     1 + len_in_front(&glyphs[1..], glyphs[0].cluster)
 }
 
-// How many glyphs of a cluster open the list.
+// How many glyphs of a cluster begin the list.
 #[inline]
 fn len_in_front(glyphs: &[GlyphInfo], cluster: u32) -> usize {
     glyphs
@@ -106,7 +106,7 @@ fn flags_of(cluster: &[GlyphInfo]) -> u32 {
 #[inline]
 fn flags_wanted(wanted: BufferFlags, flags: u32) -> u32 {
     let settled = if wanted.contains(BufferFlags::PRODUCE_SAFE_TO_INSERT_TATWEEL) {
-        joins_settled(flags)
+        joins_decided(flags)
     } else {
         flags
     };
@@ -120,7 +120,7 @@ fn flags_wanted(wanted: BufferFlags, flags: u32) -> u32 {
 // These flags where tatweels are wanted: one put in breaks the line's shape, unless that is shaped
 // anew.
 #[inline]
-fn joins_settled(flags: u32) -> u32 {
+fn joins_decided(flags: u32) -> u32 {
     if flags & UNSAFE_TO_BREAK == UNSAFE_TO_BREAK {
         flags & (UNSAFE_TO_BREAK | UNSAFE_TO_CONCAT)
     } else if flags & SAFE_TO_INSERT_TATWEEL == SAFE_TO_INSERT_TATWEEL {

@@ -99,20 +99,20 @@ fn remove_positions(glyphs: &[GlyphInfo], positions: &mut [GlyphPosition]) {
 // Brings the glyphs that stay to the front, in the clusters of those that go.
 #[inline]
 fn remove_ignorables_in(level: BufferClusterLevel, glyphs: &mut [GlyphInfo]) {
-    merge_opening(level, glyphs);
+    merge_leading(level, glyphs);
     remove_glyphs(glyphs);
 }
 
-// Merges the ignorable glyphs that open a text with the first one that stays.
-fn merge_opening(level: BufferClusterLevel, glyphs: &mut [GlyphInfo]) {
-    let opening = opening_len(glyphs);
+// Merges the ignorable glyphs that begin a text with the first one that stays.
+fn merge_leading(level: BufferClusterLevel, glyphs: &mut [GlyphInfo]) {
+    let opening = leading_len(glyphs);
     let end = (opening + 1).min(glyphs.len());
     merge_clusters_in(level, glyphs, 0, end);
 }
 
-// How many ignorable glyphs open a text.
+// How many ignorable glyphs begin a text.
 #[inline]
-fn opening_len(glyphs: &[GlyphInfo]) -> usize {
+fn leading_len(glyphs: &[GlyphInfo]) -> usize {
     glyphs
         .iter()
         .take_while(|glyph| is_default_ignorable(glyph))
@@ -123,20 +123,20 @@ fn opening_len(glyphs: &[GlyphInfo]) -> usize {
 fn remove_glyphs(glyphs: &mut [GlyphInfo]) {
     let mut kept = 0;
     for i in 0..glyphs.len() {
-        kept = keep_or_remove(glyphs, kept, i);
+        kept = move_or_remove(glyphs, kept, i);
     }
 }
 
 // Looks at the glyph at `i`, of those before which the first `kept` stay: it comes behind these, or
 // goes. One that goes, and is the last of its cluster there, leaves that to them. How many stay
 // then.
-fn keep_or_remove(glyphs: &mut [GlyphInfo], kept: usize, i: usize) -> usize {
+fn move_or_remove(glyphs: &mut [GlyphInfo], kept: usize, i: usize) -> usize {
     let glyph = glyphs[i];
     if !is_default_ignorable(&glyph) {
         glyphs[kept] = glyph;
         return kept + 1;
     }
-    if !goes_on(&glyphs[i + 1..], glyph.cluster) {
+    if !is_of_cluster(&glyphs[i + 1..], glyph.cluster) {
         cover(&mut glyphs[..kept], &glyph);
     }
     kept
@@ -144,7 +144,7 @@ fn keep_or_remove(glyphs: &mut [GlyphInfo], kept: usize, i: usize) -> usize {
 
 // Whether the next glyph is of this cluster.
 #[inline]
-fn goes_on(behind: &[GlyphInfo], cluster: u32) -> bool {
+fn is_of_cluster(behind: &[GlyphInfo], cluster: u32) -> bool {
     match behind.first() {
         Some(next) => next.cluster == cluster,
         None => false,

@@ -24,7 +24,7 @@ pub trait GlyphClasses {
 }
 
 /// Takes marks their advance, so that they don't move the pen. With `adjust_offsets` they move back
-/// by it first, and hang over the glyph before them: for a text that runs forward in a font without
+/// by it first, and hang over the glyph before them: for a text that goes forward in a font without
 /// GPOS. Offsets that pass 32 bits stop at their bound. A buffer without positions keeps none.
 /// (HarfBuzz's `zero_mark_widths_by_gdef`.)
 ///

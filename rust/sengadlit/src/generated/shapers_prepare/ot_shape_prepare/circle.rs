@@ -2,7 +2,7 @@
 
 //! A dotted circle in front of a text that begins with a mark.
 
-use super::properties::{Open, set_properties};
+use super::properties::{Awaited, set_properties};
 use super::unicode::UnicodeProperties;
 use crate::generated::shapers_base::buffer::{Buffer, BufferFlags, GlyphInfo, ShaperError};
 use crate::generated::shapers_base::font::Font;
@@ -92,7 +92,7 @@ fn first_circle<U: UnicodeProperties>(unicode: &U, glyph: GlyphInfo) -> GlyphInf
         mask: glyph.mask,
         ..GlyphInfo::DEFAULT
     };
-    set_properties(unicode, Open::Nothing, &mut circle);
+    set_properties(unicode, Awaited::Nothing, &mut circle);
     circle
 }
 

@@ -8,7 +8,7 @@ use crate::generated::shapers_base::buffer::{
     Buffer, BufferClusterLevel, Direction, GeneralCategory, GlyphInfo, Script,
 };
 
-// The scripts that run from right to left.
+// The scripts that go from right to left.
 const RIGHT_TO_LEFT_SCRIPTS: [Script; 36] = [
     Script(*b"Adlm"),
     Script(*b"Arab"),
@@ -48,7 +48,7 @@ const RIGHT_TO_LEFT_SCRIPTS: [Script; 36] = [
     Script(*b"Yezi"),
 ];
 
-// The scripts that run either way: Old Hungarian, Old Italic, runes, Tifinagh.
+// The scripts that go either way: Old Hungarian, Old Italic, runes, Tifinagh.
 const EITHER_WAY_SCRIPTS: [Script; 4] = [
     Script(*b"Hung"),
     Script(*b"Ital"),
@@ -56,10 +56,10 @@ const EITHER_WAY_SCRIPTS: [Script; 4] = [
     Script(*b"Tfng"),
 ];
 
-/// Turns a text, without positions, whose script runs the other way: its graphemes then stand from
-/// the last to the first, and the direction is the opposite one. A text from bottom to top is turned
-/// always; numbers and flags without letters stay from left to right. Where clusters merge by
-/// characters, each grapheme comes into one cluster.
+/// Reverses a text, without positions, whose script goes the other way: its graphemes then stand
+/// from the last to the first, and the direction is the opposite one. A text from bottom to top is
+/// reversed always; numbers and flags without letters stay from left to right. Where clusters merge
+/// by characters, each grapheme comes into one cluster.
 ///
 /// <details><summary>Contract</summary>
 ///
@@ -76,12 +76,12 @@ const EITHER_WAY_SCRIPTS: [Script; 4] = [
 pub fn ensure_native_direction(buffer: &mut Buffer) {
     let direction = buffer.direction();
     let native = native_direction(buffer.script());
-    if is_turned(
+    if is_reversed(
         direction,
         text_direction(direction, native, buffer.glyphs()),
     ) {
         let level = buffer.cluster_level();
-        buffer.with_glyphs_mut(|glyphs| turn_in(level, glyphs));
+        buffer.with_glyphs_mut(|glyphs| reverse_by_graphemes(level, glyphs));
         buffer.set_direction(opposite_direction(direction));
     }
 }
@@ -95,20 +95,20 @@ fn native_direction(script: Option<Script>) -> Direction {
 }
 
 fn script_direction(script: Script) -> Direction {
-    if runs_right_to_left(script) {
+    if goes_right_to_left(script) {
         Direction::RightToLeft
-    } else if runs_either_way(script) {
+    } else if goes_either_way(script) {
         Direction::Invalid
     } else {
         Direction::LeftToRight
     }
 }
 
-fn runs_right_to_left(script: Script) -> bool {
+fn goes_right_to_left(script: Script) -> bool {
     RIGHT_TO_LEFT_SCRIPTS.contains(&script)
 }
 
-fn runs_either_way(script: Script) -> bool {
+fn goes_either_way(script: Script) -> bool {
     EITHER_WAY_SCRIPTS.contains(&script)
 }
 
@@ -159,7 +159,7 @@ fn is_letter_glyph(glyph: &GlyphInfo) -> bool {
 
 // Whether a text is shaped in the other direction.
 #[inline]
-fn is_turned(direction: Direction, native: Direction) -> bool {
+fn is_reversed(direction: Direction, native: Direction) -> bool {
     match direction {
         Direction::LeftToRight => matches!(native, Direction::RightToLeft),
         Direction::RightToLeft => matches!(native, Direction::LeftToRight),
@@ -179,11 +179,11 @@ fn opposite_direction(direction: Direction) -> Direction {
     }
 }
 
-// Turns a text by its graphemes.
+// Reverses a text by its graphemes.
 #[inline]
-fn turn_in(level: BufferClusterLevel, glyphs: &mut [GlyphInfo]) {
+fn reverse_by_graphemes(level: BufferClusterLevel, glyphs: &mut [GlyphInfo]) {
     make_graphemes_whole_in(level, glyphs);
-    turn_graphemes_in(glyphs);
+    reverse_graphemes_in(glyphs);
 }
 
 // Brings each grapheme into one cluster at the level of characters; at that of graphemes it is in
@@ -196,25 +196,25 @@ fn make_graphemes_whole_in(level: BufferClusterLevel, glyphs: &mut [GlyphInfo]) 
     }
 }
 
-// Puts the graphemes from the last to the first: each is turned by itself, and then all are.
-fn turn_graphemes_in(glyphs: &mut [GlyphInfo]) {
+// Puts the graphemes from the last to the first: each is reversed by itself, and then all are.
+fn reverse_graphemes_in(glyphs: &mut [GlyphInfo]) {
     if glyphs.is_empty() {
         return;
     }
     let mut start = 0;
     for i in 1..glyphs.len() {
         if !glyphs[i].unicode_props.is_continuation() {
-            turn_stretch(glyphs, start, i);
+            reverse_stretch(glyphs, start, i);
             start = i;
         }
     }
     let end = glyphs.len();
-    turn_stretch(glyphs, start, end);
+    reverse_stretch(glyphs, start, end);
     glyphs.reverse();
 }
 
-// Turns the glyphs from `start` to `end` round.
+// Reverses the glyphs from `start` to `end`.
 #[inline]
-fn turn_stretch(glyphs: &mut [GlyphInfo], start: usize, end: usize) {
+fn reverse_stretch(glyphs: &mut [GlyphInfo], start: usize, end: usize) {
     glyphs[start..end].reverse();
 }

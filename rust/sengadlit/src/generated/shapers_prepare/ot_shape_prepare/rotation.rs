@@ -19,7 +19,7 @@ pub struct CharRotation {
     pub has_vert: bool,
 }
 
-/// In text that runs backward each character becomes its mirrored one where the font has that, and
+/// In text that goes backward each character becomes its mirrored one where the font has that, and
 /// else gets the mask of `rtlm`; in vertical text without `vert` its vertical form where the font
 /// has that. The properties of the characters stay. (Unicode's Bidi_Mirroring_Glyph and vertical
 /// compatibility mappings.)
@@ -49,7 +49,7 @@ pub fn rotate_chars<U: UnicodeProperties, F: Font>(
     rotate_each(unicode, face, *rotation, buffer);
 }
 
-// Rotates each character, in a text that runs in such a direction.
+// Rotates each character, in a text that goes in such a direction.
 fn rotate_each<U: UnicodeProperties, F: Font>(
     unicode: &U,
     face: &F,
@@ -65,10 +65,10 @@ fn rotate_each<U: UnicodeProperties, F: Font>(
     buffer.change_outside(&rotating);
 }
 
-// Whether a text runs in a direction for which characters are rotated.
+// Whether a text goes in a direction for which characters are rotated.
 #[inline]
 fn rotates(rotation: CharRotation) -> bool {
-    runs_backward(rotation.direction) || (runs_vertically(rotation.direction) && !rotation.has_vert)
+    goes_backward(rotation.direction) || (goes_vertically(rotation.direction) && !rotation.has_vert)
 }
 
 // The change of one glyph.
@@ -81,10 +81,10 @@ struct Rotating<'a, U: UnicodeProperties, F: Font> {
 impl<'a, U: UnicodeProperties, F: Font> GlyphChange for Rotating<'a, U, F> {
     #[inline]
     fn change(&self, glyph: &mut GlyphInfo) {
-        if runs_backward(self.rotation.direction) {
+        if goes_backward(self.rotation.direction) {
             mirror(self.unicode, self.face, self.rotation.rtlm_mask, glyph);
         }
-        if runs_vertically(self.rotation.direction) && !self.rotation.has_vert {
+        if goes_vertically(self.rotation.direction) && !self.rotation.has_vert {
             stand_upright(self.unicode, self.face, glyph);
         }
     }
@@ -122,11 +122,11 @@ fn which_font_has<F: Font>(face: &F, c: Option<u32>) -> Option<u32> {
 }
 
 #[inline]
-fn runs_backward(direction: Direction) -> bool {
+fn goes_backward(direction: Direction) -> bool {
     matches!(direction, Direction::RightToLeft | Direction::BottomToTop)
 }
 
 #[inline]
-fn runs_vertically(direction: Direction) -> bool {
+fn goes_vertically(direction: Direction) -> bool {
     matches!(direction, Direction::TopToBottom | Direction::BottomToTop)
 }

@@ -37,14 +37,14 @@ const DOTTED_CIRCLE: u32 = 0x25CC;
 /// ```text
 /// requires { buffer.old.positions ≡ [] }
 /// ensures ok { OnOk result (buffer.new ≡
-///     record buffer.old { glyphs = vowels_parted buffer.old }) }
-/// ensures length { RefusesLength buffer.old.max_len (length (vowels_parted buffer.old)) result }
+///     record buffer.old { glyphs = vowels_circled buffer.old }) }
+/// ensures length { RefusesLength buffer.old.max_len (length (vowels_circled buffer.old)) result }
 /// ensures err { OnErr result (buffer.new ≡ buffer.old) }
-/// ensures without_memory { vowels_parted buffer.old ≡ buffer.old.glyphs → IsOk result }
+/// ensures without_memory { vowels_circled buffer.old ≡ buffer.old.glyphs → IsOk result }
 /// ```
 ///
 /// - `RefusesLength`: `crates/shapers_buffer/specs/Refusals.antt`
-/// - `vowels_parted`: `crates/shapers_prepare/specs/Vowels.antt`
+/// - `vowels_circled`: `crates/shapers_prepare/specs/Vowels.antt`
 ///
 /// </details>
 ///
@@ -54,7 +54,7 @@ const DOTTED_CIRCLE: u32 = 0x25CC;
 pub fn preprocess_text_vowel_constraints(buffer: &mut Buffer) -> Result<(), ShaperError> {
     match vowel_script_of(buffer) {
         None => Ok(()),
-        Some(script) => part_vowels(script, buffer),
+        Some(script) => circle_vowels(script, buffer),
     }
 }
 
@@ -140,7 +140,7 @@ fn universal_vowel_script(script: Script) -> Option<VowelScript> {
 }
 
 // Puts the circles into a text.
-fn part_vowels(script: VowelScript, buffer: &mut Buffer) -> Result<(), ShaperError> {
+fn circle_vowels(script: VowelScript, buffer: &mut Buffer) -> Result<(), ShaperError> {
     let len = buffer.len();
     let count = count_circles(script, buffer.glyphs());
     if count == 0 {
@@ -149,18 +149,18 @@ fn part_vowels(script: VowelScript, buffer: &mut Buffer) -> Result<(), ShaperErr
     if buffer.max_len() - len < count {
         return Err(ShaperError::TooLong);
     }
-    buffer.rewrite(len + count, &PartVowels { script })
+    buffer.rewrite(len + count, &VowelCircles { script })
 }
 
 // The rewriting that puts the circles in.
-struct PartVowels {
+struct VowelCircles {
     script: VowelScript,
 }
 
-impl GlyphRewriting for PartVowels {
+impl GlyphRewriting for VowelCircles {
     #[inline]
     fn rewrite(&self, glyphs: &mut [GlyphInfo], to: &mut Vec<GlyphInfo>) {
-        write_parted(self.script, glyphs, to);
+        write_circled(self.script, glyphs, to);
     }
 }
 
@@ -178,7 +178,7 @@ fn count_circles(script: VowelScript, glyphs: &[GlyphInfo]) -> usize {
 }
 
 // Writes a text with its circles to a list that has room for it.
-fn write_parted(script: VowelScript, glyphs: &[GlyphInfo], to: &mut Vec<GlyphInfo>) {
+fn write_circled(script: VowelScript, glyphs: &[GlyphInfo], to: &mut Vec<GlyphInfo>) {
     let mut left = 0;
     for i in 0..glyphs.len() {
         write_with_circle(left, glyphs[i], to);
@@ -191,14 +191,14 @@ fn write_parted(script: VowelScript, glyphs: &[GlyphInfo], to: &mut Vec<GlyphInf
 #[inline]
 fn write_with_circle(left: usize, glyph: GlyphInfo, to: &mut Vec<GlyphInfo>) {
     if left == 1 {
-        put(vowel_circle(glyph), to);
+        push_within(vowel_circle(glyph), to);
     }
-    put(glyph, to);
+    push_within(glyph, to);
 }
 
 // Adds a glyph to a list that has room for it.
 #[inline]
-fn put(glyph: GlyphInfo, to: &mut Vec<GlyphInfo>) {
+fn push_within(glyph: GlyphInfo, to: &mut Vec<GlyphInfo>) {
     to.push(glyph).unwrap();
 }
 
@@ -230,7 +230,7 @@ fn pair_behind(script: VowelScript, a: u32, behind: &[GlyphInfo]) -> usize {
     let Some((b, behind)) = behind.split_first() else {
         return 0;
     };
-    if is_parted_pair(script, a, b.glyph_id) {
+    if is_vowel_pair(script, a, b.glyph_id) {
         1
     } else {
         triple_behind(script, a, b.glyph_id, behind)
@@ -242,7 +242,7 @@ fn triple_behind(script: VowelScript, a: u32, b: u32, behind: &[GlyphInfo]) -> u
     let Some((c, _)) = behind.split_first() else {
         return 0;
     };
-    if is_parted_triple(script, a, b, c.glyph_id) {
+    if is_vowel_triple(script, a, b, c.glyph_id) {
         2
     } else {
         0
@@ -251,7 +251,7 @@ fn triple_behind(script: VowelScript, a: u32, b: u32, behind: &[GlyphInfo]) -> u
 
 // Whether Devanagari's RA, virama and I stand there, which look like II.
 #[inline]
-fn is_parted_triple(script: VowelScript, a: u32, b: u32, c: u32) -> bool {
+fn is_vowel_triple(script: VowelScript, a: u32, b: u32, c: u32) -> bool {
     match script {
         VowelScript::Devanagari => a == 0x0930 && b == 0x094D && c == 0x0907,
         _ => false,
@@ -260,7 +260,7 @@ fn is_parted_triple(script: VowelScript, a: u32, b: u32, c: u32) -> bool {
 
 // Whether two characters are a pair of the script's.
 #[inline]
-fn is_parted_pair(script: VowelScript, a: u32, b: u32) -> bool {
+fn is_vowel_pair(script: VowelScript, a: u32, b: u32) -> bool {
     match script {
         VowelScript::Devanagari => is_devanagari_pair(a, b),
         VowelScript::Bengali => is_bengali_pair(a, b),

@@ -1,7 +1,7 @@
 // Generated from crates/shapers_stretch/src/ot_shaper_arabic_stretch/counting.rt by rust/erase; edit the source.
 
 //! The first pass over a text whose marks stretch: whether all its numbers fit, and how many cells
-//! it gains. A run takes a turn for each of its tiles, and none for a copy.
+//! it gains. A sequence takes one step for each of its tiles, and none for a copy.
 
 use super::measuring::{Lay, advance_of, fits_i32, lay_of, measure};
 use super::parts::{last_part, repeats};
@@ -58,13 +58,13 @@ fn count_last<F: Font>(
         return Some(Counted { start, added: 0 });
     }
     let word = &positions[part.word..part.tiles];
-    let added = count_run(face, choice, right_to_left, word, tiles)?;
+    let added = count_sequence(face, choice, right_to_left, word, tiles)?;
     Some(Counted { start, added })
 }
 
-// How many copies a run adds, unless one of its numbers doesn't fit 32 bits.
+// How many copies a sequence adds, unless one of its numbers doesn't fit 32 bits.
 #[inline]
-fn count_run<F: Font>(
+fn count_sequence<F: Font>(
     face: &F,
     choice: StretchStart,
     right_to_left: bool,
@@ -80,7 +80,7 @@ fn count_run<F: Font>(
     }
 }
 
-// Whether the offsets of all copies of a run fit 32 bits.
+// Whether the offsets of all copies of a sequence fit 32 bits.
 #[inline]
 fn offsets_fit<F: Font>(face: &F, right_to_left: bool, lay: Lay, tiles: &[GlyphInfo]) -> bool {
     let mut pen = lay.start;

@@ -1,25 +1,25 @@
 // Generated from crates/shapers_stretch/src/ot_shaper_arabic_stretch/measuring.rt by rust/erase; edit the source.
 
-//! The numbers of a run: what its word and tiles measure, how often the tiles repeat, and how they
-//! are laid.
+//! The numbers of a sequence: what its word and tiles measure, how often the tiles repeat, and how
+//! they are laid.
 
 use super::parts::repeats;
 use crate::generated::shapers_base::buffer::{GlyphInfo, GlyphPosition};
 use crate::generated::shapers_base::font::{Font, GlyphId};
 use crate::generated::shapers_base::plan::StretchStart;
 
-/// What a run measures: the advance of its word, of its fixed and of its repeating tiles, and how
-/// many tiles repeat.
+/// What a sequence measures: the advance of its word, of its fixed and of its repeating tiles, and
+/// how many tiles repeat.
 #[derive(Clone, Copy)]
-pub(super) struct Run {
+pub(super) struct TileSequence {
     pub(super) word: i64,
     pub(super) fixed: i64,
     pub(super) repeating: i64,
     pub(super) repeaters: usize,
 }
 
-/// How often the repeating tiles of a run are laid besides once, by how much each of these copies
-/// overlaps the one before it, and where the first tile begins.
+/// How often the repeating tiles of a sequence are laid besides once, by how much each of these
+/// copies overlaps the one before it, and where the first tile begins.
 #[derive(Clone, Copy)]
 pub(super) struct Lay {
     pub(super) added: usize,
@@ -40,7 +40,7 @@ pub(super) fn measure<F: Font>(
     face: &F,
     word: &[GlyphPosition],
     tiles: &[GlyphInfo],
-) -> Option<Run> {
+) -> Option<TileSequence> {
     if word.len() <= SHORT && tiles.len() <= SHORT {
         Some(measure_short(face, word, tiles))
     } else {
@@ -53,7 +53,7 @@ const SHORT: usize = 0x7FFF_FFFF;
 
 // What few tiles and a short word before them measure, whose sums always fit.
 #[inline]
-fn measure_short<F: Font>(face: &F, word: &[GlyphPosition], tiles: &[GlyphInfo]) -> Run {
+fn measure_short<F: Font>(face: &F, word: &[GlyphPosition], tiles: &[GlyphInfo]) -> TileSequence {
     let word = short_advance(word);
     let mut fixed = 0;
     let mut repeating = 0;
@@ -67,7 +67,7 @@ fn measure_short<F: Font>(face: &F, word: &[GlyphPosition], tiles: &[GlyphInfo])
             fixed += width;
         }
     }
-    Run {
+    TileSequence {
         word,
         fixed,
         repeating,
@@ -77,7 +77,11 @@ fn measure_short<F: Font>(face: &F, word: &[GlyphPosition], tiles: &[GlyphInfo])
 
 // The same of any number of tiles, and a word of any length, piece by piece.
 #[inline(never)]
-fn measure_long<F: Font>(face: &F, word: &[GlyphPosition], tiles: &[GlyphInfo]) -> Option<Run> {
+fn measure_long<F: Font>(
+    face: &F,
+    word: &[GlyphPosition],
+    tiles: &[GlyphInfo],
+) -> Option<TileSequence> {
     let word = total_advance(word);
     let mut fixed = 0;
     let mut repeating = 0;
@@ -88,7 +92,7 @@ fn measure_long<F: Font>(face: &F, word: &[GlyphPosition], tiles: &[GlyphInfo]) 
         repeating += i128::from(run.repeating);
         repeaters += run.repeaters;
     }
-    Some(Run {
+    Some(TileSequence {
         word: narrowed(word)?,
         fixed: narrowed(fixed)?,
         repeating: narrowed(repeating)?,
@@ -126,10 +130,10 @@ fn total_advance(word: &[GlyphPosition]) -> i128 {
     sum
 }
 
-/// How the run of these tiles behind this word is laid, unless one of its numbers doesn't fit 32
-/// bits.
+/// How the sequence of these tiles behind this word is laid, unless one of its numbers doesn't fit
+/// 32 bits.
 #[inline]
-pub(super) fn lay_of_run<F: Font>(
+pub(super) fn lay_of_sequence<F: Font>(
     face: &F,
     choice: StretchStart,
     right_to_left: bool,
@@ -140,10 +144,10 @@ pub(super) fn lay_of_run<F: Font>(
     lay_of(choice, right_to_left, run)
 }
 
-/// How a run is laid, unless one of its numbers doesn't fit 32 bits.
+/// How a sequence is laid, unless one of its numbers doesn't fit 32 bits.
 #[inline]
-pub(super) fn lay_of(choice: StretchStart, right_to_left: bool, run: Run) -> Option<Lay> {
-    if !run_fits(run) {
+pub(super) fn lay_of(choice: StretchStart, right_to_left: bool, run: TileSequence) -> Option<Lay> {
+    if !sequence_fits(run) {
         return None;
     }
     let rounds = rounds_of(run);
@@ -159,18 +163,18 @@ pub(super) fn lay_of(choice: StretchStart, right_to_left: bool, run: Run) -> Opt
     })
 }
 
-// Whether what a run measures fits 32 bits, and what its fixed tiles leave of the word.
+// Whether what a sequence measures fits 32 bits, and what its fixed tiles leave of the word.
 #[inline]
-fn run_fits(run: Run) -> bool {
+fn sequence_fits(run: TileSequence) -> bool {
     fits_i32(run.word)
         && fits_i32(run.fixed)
         && fits_i32(run.repeating)
         && fits_i32(run.word - run.fixed)
 }
 
-// How many times more the repeating tiles of a run fit into what is left.
+// How many times more the repeating tiles of a sequence fit into what is left.
 #[inline]
-fn fitting(run: Run) -> usize {
+fn fitting(run: TileSequence) -> usize {
     let left = left_of(run);
     if run.repeating < left && 0 < run.repeating {
         times_more(run, left)
@@ -181,7 +185,7 @@ fn fitting(run: Run) -> usize {
 
 // The same where they do fit.
 #[inline]
-fn times_more(run: Run, left: i64) -> usize {
+fn times_more(run: TileSequence, left: i64) -> usize {
     (left.unsigned_abs() / run.repeating.unsigned_abs()) as usize - 1
 }
 
@@ -194,10 +198,10 @@ struct Rounds {
 
 // How many times more they are laid, and whether that is so much that the copies overlap.
 #[inline]
-fn rounds_of(run: Run) -> Rounds {
+fn rounds_of(run: TileSequence) -> Rounds {
     let fitting = fitting(run);
     let left = run.word - run.fixed;
-    if left <= reach(run, fitting) || run.repeaters == 0 {
+    if left <= tiles_reach(run, fitting) || run.repeaters == 0 {
         return Rounds {
             added: fitting,
             squeezes: false,
@@ -212,37 +216,37 @@ fn rounds_of(run: Run) -> Rounds {
 
 // How far the repeating tiles reach, laid once and these times more.
 #[inline]
-fn reach(run: Run, added: usize) -> i64 {
+fn tiles_reach(run: TileSequence, added: usize) -> i64 {
     (added as i64 + 1) * run.repeating
 }
 
 // How far they then reach too far.
 #[inline]
-fn excess(run: Run, added: usize) -> i64 {
-    reach(run, added) - (run.word - run.fixed)
+fn excess(run: TileSequence, added: usize) -> i64 {
+    tiles_reach(run, added) - (run.word - run.fixed)
 }
 
 // How many copies that makes.
 #[inline]
-fn copies(run: Run, added: usize) -> i64 {
+fn copies(run: TileSequence, added: usize) -> i64 {
     (added * run.repeaters) as i64
 }
 
 // Whether these numbers fit 32 bits.
 #[inline]
-fn added_fits(run: Run, added: usize) -> bool {
-    fits_i32(reach(run, added)) && few_copies(run, added)
+fn added_fits(run: TileSequence, added: usize) -> bool {
+    fits_i32(tiles_reach(run, added)) && few_copies(run, added)
 }
 
 // Whether the number of copies that this makes fits 32 bits.
 #[inline]
-fn few_copies(run: Run, added: usize) -> bool {
+fn few_copies(run: TileSequence, added: usize) -> bool {
     added as u128 * (run.repeaters as u128) < 0x8000_0000
 }
 
 // By how much each added copy overlaps the one before it.
 #[inline]
-fn overlap(run: Run, rounds: Rounds) -> i64 {
+fn overlap(run: TileSequence, rounds: Rounds) -> i64 {
     if !rounds.squeezes {
         return 0;
     }
@@ -254,7 +258,7 @@ fn overlap(run: Run, rounds: Rounds) -> i64 {
 fn start(
     choice: StretchStart,
     right_to_left: bool,
-    run: Run,
+    run: TileSequence,
     rounds: Rounds,
     shared: i64,
 ) -> Option<i64> {
@@ -266,20 +270,20 @@ fn start(
 
 // The first choice of a start.
 #[inline]
-fn start_as_code(run: Run, shares: bool) -> i64 {
+fn start_as_code(run: TileSequence, shares: bool) -> i64 {
     if shares { 0 } else { half(left_of(run)) }
 }
 
 // What the fixed tiles leave of the word.
 #[inline]
-fn left_of(run: Run) -> i64 {
+fn left_of(run: TileSequence) -> i64 {
     run.word - run.fixed
 }
 
 // The second choice: what is laid is centred on the word, unless its width, or the word less that
 // width, doesn't fit 32 bits.
 #[inline]
-fn centred_start(right_to_left: bool, run: Run, times: usize, shared: i64) -> Option<i64> {
+fn centred_start(right_to_left: bool, run: TileSequence, times: usize, shared: i64) -> Option<i64> {
     let width = width_of_laid(run, times, shared);
     if !fits_i32(width) {
         return None;
@@ -293,7 +297,7 @@ fn centred_start(right_to_left: bool, run: Run, times: usize, shared: i64) -> Op
 
 // How much wider the word is than what is laid.
 #[inline]
-fn gap(run: Run, width: i64) -> i64 {
+fn gap(run: TileSequence, width: i64) -> i64 {
     run.word - width
 }
 
@@ -311,8 +315,8 @@ fn along(right_to_left: bool, x: i64) -> i64 {
 
 // The width that is laid.
 #[inline]
-fn width_of_laid(run: Run, times: usize, shared: i64) -> i64 {
-    run.fixed + reach(run, times) - shared_by(copies(run, times), shared)
+fn width_of_laid(run: TileSequence, times: usize, shared: i64) -> i64 {
+    run.fixed + tiles_reach(run, times) - shared_by(copies(run, times), shared)
 }
 
 // What so many copies overlap together.

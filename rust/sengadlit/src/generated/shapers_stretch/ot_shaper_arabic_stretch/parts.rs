@@ -1,6 +1,6 @@
 // Generated from crates/shapers_stretch/src/ot_shaper_arabic_stretch/parts.rt by rust/erase; edit the source.
 
-//! The parts of a text: what stands before a word, the word, and the run of tiles behind it.
+//! The parts of a text: what stands before a word, the word, and the sequence of tiles behind it.
 
 use crate::generated::shapers_arabic::ot_shaper_arabic::arabic_action_t::{
     STRETCHING_REPEATING, is_stch,
@@ -34,7 +34,7 @@ fn count_last_tiles(glyphs: &[GlyphInfo]) -> usize {
         .count()
 }
 
-// How many glyphs at the end can belong to the word before a run.
+// How many glyphs at the end can belong to the word before a sequence.
 #[inline]
 fn count_last_in_word(glyphs: &[GlyphInfo]) -> usize {
     glyphs
@@ -66,14 +66,14 @@ pub(super) fn repeats(glyph: &GlyphInfo) -> bool {
     glyph.auxiliary == STRETCHING_REPEATING
 }
 
-// Whether a glyph can belong to the word before a run.
+// Whether a glyph can belong to the word before a sequence.
 #[inline]
 fn in_word(glyph: &GlyphInfo) -> bool {
     let ignorable = glyph.unicode_props.is_ignorable() && !glyph.glyph_props.is_substituted();
     !is_tile(glyph) && (ignorable || is_word_category(glyph.unicode_props.general_category()))
 }
 
-// Whether a character of this category can belong to the word before a run.
+// Whether a character of this category can belong to the word before a sequence.
 #[inline]
 fn is_word_category(category: GeneralCategory) -> bool {
     use GeneralCategory::{Cn, Co, Lm, Lo, Mc, Me, Mn, Nd, Nl, No, Sc, Sk, Sm, So};

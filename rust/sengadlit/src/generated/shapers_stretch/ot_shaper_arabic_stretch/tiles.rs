@@ -1,10 +1,10 @@
 // Generated from crates/shapers_stretch/src/ot_shaper_arabic_stretch/tiles.rt by rust/erase; edit the source.
 
-//! The second pass over a text whose marks stretch: from behind, in place, each run is laid over
-//! its word. The writer never overtakes the reader.
+//! The second pass over a text whose marks stretch: from behind, in place, each sequence is laid
+//! over its word. The writer never overtakes the reader.
 
 use super::counting::moved;
-use super::measuring::{Lay, advance_of, lay_of_run};
+use super::measuring::{Lay, advance_of, lay_of_sequence};
 use super::parts::{LastPart, last_part, repeats};
 use crate::generated::shapers_base::buffer::{
     GlyphInfo, GlyphPosition, PositionedWalk, unsafe_to_break_in,
@@ -43,7 +43,8 @@ impl<'a, F: Font> TileLaying<'a, F> {
         }
     }
 
-    // Lays the last part of the unlaid text: its run first, then what stands before it moves up.
+    // Lays the last part of the unlaid text: its sequence first, then what stands before it moves
+    // up.
     #[inline]
     fn lay_last(
         &self,
@@ -59,7 +60,7 @@ impl<'a, F: Font> TileLaying<'a, F> {
                 place: unlaid.place - (part.tiles - part.start),
             };
         }
-        let place = self.lay_run(glyphs, positions, part, unlaid);
+        let place = self.lay_sequence(glyphs, positions, part, unlaid);
         move_up(glyphs, positions, part.start, part.tiles, place);
         Unlaid {
             end: part.start,
@@ -67,15 +68,15 @@ impl<'a, F: Font> TileLaying<'a, F> {
         }
     }
 
-    // Lays the run of the last part, and flags it and its word; where it then begins.
-    fn lay_run(
+    // Lays the sequence of the last part, and flags it and its word; where it then begins.
+    fn lay_sequence(
         &self,
         glyphs: &mut [GlyphInfo],
         positions: &mut [GlyphPosition],
         part: LastPart,
         unlaid: Unlaid,
     ) -> usize {
-        let found = lay_of_run(
+        let found = lay_of_sequence(
             self.face,
             self.choice,
             self.right_to_left,

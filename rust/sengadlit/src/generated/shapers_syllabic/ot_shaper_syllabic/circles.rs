@@ -46,7 +46,7 @@ struct Places {
 /// where one is given, else in front. Returns false, with nothing changed, where no syllable is
 /// broken, the caller forbids circles or the font has none. Without its circles the text is what it
 /// was. Refuses with [`TooLong`] where the text would be longer than [`max_len`], and with [`Memory`];
-/// where no circle opens it takes none.
+/// where no circle is put in it takes none.
 ///
 /// # Errors
 ///
@@ -198,7 +198,7 @@ impl DottedCircles {
             return Ok(());
         }
         buffer.grow(count)?;
-        buffer.with_glyphs_mut(|glyphs| self.open_all(glyphs, len));
+        buffer.with_glyphs_mut(|glyphs| self.insert_all(glyphs, len));
         Ok(())
     }
 
@@ -214,25 +214,26 @@ impl DottedCircles {
         count
     }
 
-    // Opens each broken syllable of the text, of `len` glyphs, behind which stands room for as many
-    // circles. The text is written from behind, so that nothing is written over before it is read.
+    // Puts a circle into each broken syllable of the text, of `len` glyphs, behind which stands
+    // room for as many circles. The text is written from behind, so that nothing is written over
+    // before it is read.
     #[inline]
-    fn open_all(&self, glyphs: &mut [GlyphInfo], len: usize) {
+    fn insert_all(&self, glyphs: &mut [GlyphInfo], len: usize) {
         let mut read = len;
         let mut left = glyphs.len() - len;
         while left > 0 {
-            read = self.open_last(glyphs, read, left);
+            read = self.insert_last(glyphs, read, left);
             left -= 1;
         }
     }
 
-    // Opens the last broken syllable of the first `read` glyphs, which move up, from it on, by as
-    // many places as they have broken syllables. Returns where it starts.
+    // Puts a circle into the last broken syllable of the first `read` glyphs, which move up, from
+    // it on, by as many places as they have broken syllables. Returns where it starts.
     #[inline]
-    fn open_last(&self, glyphs: &mut [GlyphInfo], read: usize, left: usize) -> usize {
+    fn insert_last(&self, glyphs: &mut [GlyphInfo], read: usize, left: usize) -> usize {
         let broken = self.last_broken(&glyphs[..read]);
         move_up(glyphs, broken.end, read, left);
-        self.open(glyphs, broken, left);
+        self.insert_circle(glyphs, broken, left);
         broken.start
     }
 
@@ -247,7 +248,7 @@ impl DottedCircles {
 
     // Moves a syllable up by `left` places, and puts its circle into it, which takes one of them.
     #[inline]
-    fn open(&self, glyphs: &mut [GlyphInfo], broken: Places, left: usize) {
+    fn insert_circle(&self, glyphs: &mut [GlyphInfo], broken: Places, left: usize) {
         let syllable = &glyphs[broken.start..broken.end];
         let circle = circle_in(syllable, self.circle);
         let place = broken.start + self.rephas_len(syllable);

@@ -9,7 +9,7 @@ use crate::generated::shapers_base::font::Font;
 
 /// Gives broken syllables their dotted circles and then reorders each syllable. Returns whether
 /// circles were wanted. Refuses with [`UnknownSyllable`] where a kind is above the last known one, if
-/// there is one; with [`TooLong`]; and with [`Memory`], but not where no circle opens and the order
+/// there is one; with [`TooLong`]; and with [`Memory`], but not where no circle is put in and the order
 /// never refuses. After a refusal the buffer is as it was, unless it is the order's. Every cluster
 /// afterwards is one that the text had before its circles.
 ///

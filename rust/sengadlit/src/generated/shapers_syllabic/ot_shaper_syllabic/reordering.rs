@@ -206,15 +206,15 @@ impl<'a> GlyphWalk for Guarding<'a> {
 }
 
 // The walk behind a syllable.
-struct Settling<'a> {
+struct TakingBack<'a> {
     groups: &'a mut CarriedGroups,
     count: usize,
 }
 
-impl<'a> GlyphWalk for Settling<'a> {
+impl<'a> GlyphWalk for TakingBack<'a> {
     #[inline]
     fn walk(&mut self, glyphs: &mut [GlyphInfo]) {
-        self.groups.settle(glyphs, self.count);
+        self.groups.take_back(glyphs, self.count);
     }
 }
 
@@ -245,8 +245,8 @@ impl Carrying {
     // Takes back the glyphs that stood for so many groups while a syllable was reordered, and
     // carries what it flooded.
     #[inline]
-    fn settle(&mut self, buffer: &mut Buffer, count: usize) {
-        buffer.walk(&mut Settling {
+    fn take_back(&mut self, buffer: &mut Buffer, count: usize) {
+        buffer.walk(&mut TakingBack {
             groups: &mut self.groups,
             count,
         });
@@ -314,7 +314,7 @@ fn reorder_guarded<R: ReorderBySteps>(
 ) -> Result<(), ShaperError> {
     let count = carrying.guard(buffer, first, end);
     order.reorder(buffer, first, end)?;
-    carrying.settle(buffer, count);
+    carrying.take_back(buffer, count);
     Ok(())
 }
 

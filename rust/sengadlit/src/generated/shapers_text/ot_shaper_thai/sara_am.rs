@@ -3,8 +3,8 @@
 //! SARA AM in two: NIKHAHIT, which goes before the above-base marks, and SARA AA.
 
 use crate::generated::shapers_base::buffer::{
-    Buffer, BufferClusterLevel, ClusterRun, GeneralCategory, GlyphInfo, GlyphWalk, ShaperError,
-    merge_run_in, write_run_in,
+    Buffer, BufferClusterLevel, ClusterRange, GeneralCategory, GlyphInfo, GlyphWalk, ShaperError,
+    merge_range_in, write_range_in,
 };
 
 // SARA AM, of Thai and of Lao.
@@ -70,20 +70,20 @@ fn count_marks_before(glyphs: &[GlyphInfo], place: usize) -> usize {
 }
 
 // Merges what a SARA AM at `place` merges, its marks or, without any, the glyph before it, in the
-// glyphs with a run in its cluster. Returns the run that is to be written then.
+// glyphs with a range in its cluster. Returns the range that is to be written then.
 fn merge_sara_am(
     level: BufferClusterLevel,
     glyphs: &mut [GlyphInfo],
-    run: ClusterRun,
+    run: ClusterRange,
     place: usize,
-) -> ClusterRun {
+) -> ClusterRange {
     let above = count_marks_before(glyphs, place);
     if above > 0 {
-        return merge_run_in(level, glyphs, run, place - above, place + 1);
+        return merge_range_in(level, glyphs, run, place - above, place + 1);
     }
     match level {
         BufferClusterLevel::MonotoneGraphemes if place > 0 => {
-            merge_run_in(level, glyphs, run, place - 1, place + 1)
+            merge_range_in(level, glyphs, run, place - 1, place + 1)
         }
         BufferClusterLevel::MonotoneGraphemes
         | BufferClusterLevel::MonotoneCharacters
@@ -93,13 +93,13 @@ fn merge_sara_am(
 
 // Merges what each SARA AM of the first `len` glyphs merges, from the left.
 fn merge_all_sara_am(level: BufferClusterLevel, glyphs: &mut [GlyphInfo], len: usize) {
-    let mut run = ClusterRun::NONE;
+    let mut run = ClusterRange::NONE;
     for i in 0..len {
         if is_sara_am(glyphs[i].glyph_id) {
             run = merge_sara_am(level, glyphs, run, i);
         }
     }
-    write_run_in(glyphs, run);
+    write_range_in(glyphs, run);
 }
 
 // What is still to be written: what the text before `end` becomes, over the places before `place`.

@@ -35,10 +35,10 @@ const JOINING_SCRIPTS: [Script; 13] = [
 /// ensures data { let start = plan.now.stretch_start in
 ///     let breaks = plan.now.break_flags in
 ///     result ≡ Universal (universal_plan start breaks plan.now.script plan.now.ot_map) }
-/// ensures off_flags { AllByRecursion (λ mask. mask % 8 ≡ 0) (masks_kept result) }
+/// ensures off_flags { AllByRecursion (λ mask. mask % 8 ≡ 0) (masks_stored result) }
 /// ```
 ///
-/// - `masks_kept`: `crates/shapers_base/specs/Masks.antt`
+/// - `masks_stored`: `crates/shapers_base/specs/Masks.antt`
 /// - `universal_plan`: `crates/shapers_universal/specs/PlanData.antt`
 ///
 /// </details>

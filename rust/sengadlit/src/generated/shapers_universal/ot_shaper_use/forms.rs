@@ -1,6 +1,6 @@
 // Generated from crates/shapers_universal/src/ot_shaper_use/forms.rt by rust/erase; edit the source.
 
-//! The forms of syllables by their places in runs.
+//! The forms of syllables by their places in sequences.
 
 use crate::generated::shapers_base::buffer::{
     Buffer, GlyphInfo, Tag, first_syllable_len, unsafe_to_break_in,
@@ -20,8 +20,8 @@ pub(super) struct FormMasks {
     fina: u32,
 }
 
-// Gives each syllable the mask of its form: in each unbroken run of syllables that join, a lone one
-// is isolated, the first initial, the last final, the others medial.
+// Gives each syllable the mask of its form: in each unbroken sequence of syllables that join, a
+// lone one is isolated, the first initial, the last final, the others medial.
 #[inline]
 pub(super) fn set_forms(map: &Map, buffer: &mut Buffer) {
     let masks = FormMasks::of(map);
@@ -31,7 +31,7 @@ pub(super) fn set_forms(map: &Map, buffer: &mut Buffer) {
 }
 
 // Flags what the choice adds, in a text whose syllables have their forms: with Sound any two
-// neighbours of a run between which a break would change a mask.
+// neighbours of a sequence between which a break would change a mask.
 #[inline]
 pub(super) fn flag_forms(breaks: BreakFlags, map: &Map, buffer: &mut Buffer) {
     match breaks {
@@ -61,7 +61,8 @@ impl FormMasks {
         (self.isol | self.init) | (self.medi | self.fina)
     }
 
-    // The mask in a run, by whether a syllable of it stands before and whether one stands behind.
+    // The mask in a sequence, by whether a syllable of it stands before and whether one stands
+    // behind.
     #[inline]
     fn between(self, before: bool, behind: bool) -> u32 {
         match (before, behind) {
@@ -79,7 +80,7 @@ impl FormMasks {
         let mut before = false;
         while start < glyphs.len() {
             let end = start + first_syllable_len(&glyphs[start..]);
-            let joins = joins_runs(&glyphs[start..end]);
+            let joins = may_join(&glyphs[start..end]);
             self.set_at(glyphs, start, end, before);
             before = joins;
             start = end;
@@ -89,12 +90,12 @@ impl FormMasks {
     // Gives the syllable from `start` to `end` the mask of its form.
     #[inline]
     fn set_at(self, glyphs: &mut [GlyphInfo], start: usize, end: usize, before: bool) {
-        let behind = joins_runs(&glyphs[end..]);
+        let behind = may_join(&glyphs[end..]);
         self.set(&mut glyphs[start..end], before, behind);
     }
 
-    // Whether a break between two syllables of a run would change the mask of one, by whether one
-    // of it stands before them and whether one stands behind.
+    // Whether a break between two syllables of a sequence would change the mask of one, by whether
+    // one of it stands before them and whether one stands behind.
     #[inline]
     fn is_torn(self, before: bool, behind: bool) -> bool {
         self.between(before, true) != self.between(before, false)
@@ -104,7 +105,7 @@ impl FormMasks {
     // Whether a break between a syllable and the one that opens the rest would do so.
     #[inline]
     fn tears(self, syllable: &[GlyphInfo], rest: &[GlyphInfo], before: bool, behind: bool) -> bool {
-        joins_runs(syllable) && joins_runs(rest) && self.is_torn(before, behind)
+        may_join(syllable) && may_join(rest) && self.is_torn(before, behind)
     }
 
     // Flags the syllable from `start` to `end` and the next one, where a break between them would
@@ -115,7 +116,7 @@ impl FormMasks {
             return;
         }
         let next = end + first_syllable_len(&glyphs[end..]);
-        let behind = joins_runs(&glyphs[next..]);
+        let behind = may_join(&glyphs[next..]);
         if self.tears(&glyphs[start..end], &glyphs[end..], before, behind) {
             unsafe_to_break_in(glyphs, start, next);
         }
@@ -128,7 +129,7 @@ impl FormMasks {
         let mut before = false;
         while start < glyphs.len() {
             let end = start + first_syllable_len(&glyphs[start..]);
-            let joins = joins_runs(&glyphs[start..end]);
+            let joins = may_join(&glyphs[start..end]);
             self.flag_pair(glyphs, start, end, before);
             before = joins;
             start = end;
@@ -138,7 +139,7 @@ impl FormMasks {
     // Gives a syllable the mask of its form.
     #[inline]
     fn set(self, syllable: &mut [GlyphInfo], before: bool, behind: bool) {
-        if joins_runs(syllable) {
+        if may_join(syllable) {
             replace_forms(syllable, self.all(), self.between(before, behind));
         }
     }
@@ -154,10 +155,10 @@ fn form_mask(map: &Map, tag: Tag) -> u32 {
     mask
 }
 
-// Whether the syllable that opens the text stands in runs: hieroglyphs and what is no cluster have
-// no forms by their place.
+// Whether the syllable that begins the text stands in sequences: hieroglyphs and what is no cluster
+// have no forms by their place.
 #[inline]
-fn joins_runs(glyphs: &[GlyphInfo]) -> bool {
+fn may_join(glyphs: &[GlyphInfo]) -> bool {
     match glyphs.first() {
         None => false,
         Some(glyph) => {

@@ -5,7 +5,7 @@
 
 use super::category;
 use crate::generated::shapers_base::buffer::{
-    Buffer, ClusterRun, GlyphInfo, Placement, ShaperError,
+    Buffer, ClusterRange, GlyphInfo, Placement, ShaperError,
 };
 use crate::generated::shapers_syllabic::ot_shaper_syllabic::use_syllable::{
     BROKEN_CLUSTER, SAKOT_TERMINATED_CLUSTER, STANDARD_CLUSTER, VIRAMA_TERMINATED_CLUSTER,
@@ -107,7 +107,7 @@ fn has_reph(syllable: &[GlyphInfo]) -> bool {
 // Reorders the syllable from `start` to `end`.
 #[inline]
 fn reorder_syllable(buffer: &mut Buffer, start: usize, end: usize) {
-    let behind = start + reph_run(&buffer.glyphs()[start..end]);
+    let behind = start + leading_reph_len(&buffer.glyphs()[start..end]);
     list_order(buffer, start, behind, end);
     buffer.merge_clusters(start, behind);
     merge_fronts(buffer, start, behind, end);
@@ -120,15 +120,15 @@ fn reorder_syllable(buffer: &mut Buffer, start: usize, end: usize) {
 fn merge_fronts(buffer: &mut Buffer, start: usize, behind: usize, end: usize) {
     // where the piece starts, and what has merged but isn't written
     let mut front = start;
-    let mut run = ClusterRun::NONE;
+    let mut run = ClusterRange::NONE;
     for i in behind..end {
         if goes_front(&buffer.glyphs()[i]) {
-            run = buffer.merge_run(run, front, i + 1);
+            run = buffer.merge_range(run, front, i + 1);
         } else if is_halant(&buffer.glyphs()[i]) {
             front = i + 1;
         }
     }
-    buffer.write_run(run);
+    buffer.write_range(run);
 }
 
 // Lists the order of the syllable from `start` to `end`, of which the reph and what it passes end
@@ -221,7 +221,7 @@ fn is_reordered(syllable: &[GlyphInfo]) -> bool {
 
 // How many glyphs the reph in front and what it passes are, 0 where no reph stands in front.
 #[inline]
-fn reph_run(syllable: &[GlyphInfo]) -> usize {
+fn leading_reph_len(syllable: &[GlyphInfo]) -> usize {
     match syllable.split_first() {
         Some((first, others)) if first.category == category::R => 1 + passed_len(others),
         _ => 0,

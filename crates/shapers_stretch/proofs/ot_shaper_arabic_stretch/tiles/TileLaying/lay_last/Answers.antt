@@ -3,8 +3,8 @@ use Rattle.shapers_stretch.specs.LayingWalk.{laying_by}
 use Rattle.shapers_stretch.proofs.PartLaying.{part_can, part_laid, part_moved, part_unlaid}
 use Rattle.shapers_stretch.proofs.ot_shaper_arabic_stretch.tiles.TileLaying.lay_last.Goals as goal
 
-pub lay_run-place-requires-clause-run : goal.lay_run-place-requires-clause-run
-lay_run-place-requires-clause-run g c =
+pub lay_sequence-place-requires-clause-run : goal.lay_sequence-place-requires-clause-run
+lay_sequence-place-requires-clause-run g c =
     let how = laying_by (g.F.hb_font_t.font c.args.self.now.face.now) c.args.self.now.choice
     c.args.self.now.right_to_left in
     let p = c.last_part-part.result in
@@ -69,12 +69,12 @@ returns-clause-laid g c =
     let p = c.last_part-part.result in
     let e = c.last_part-part.ensures in
     let u = c.args.unlaid in
-    let r = c.lay_run-place.ensures in
-    let h = c.lay_run-place.new in
+    let r = c.lay_sequence-place.ensures in
+    let h = c.lay_sequence-place.new in
     let n = c.move_up-2.new in
     let l = part_unlaid how c.args.glyphs.now c.args.positions.now p.start p.word p.tiles u.end u.place c.requires.some
     c.requires.unlaid e.tiles e.word e.start in
     part_laid how c.args.glyphs.now h.glyphs n.glyphs c.args.positions.now h.positions n.positions p.start p.word
-    p.tiles u.end u.place c.lay_run-place.result (omega arith) c.requires.unlaid l r.same_length
+    p.tiles u.end u.place c.lay_sequence-place.result (omega arith) c.requires.unlaid l r.same_length
     c.move_up-2.ensures.same_length c.move_up-2.ensures.both r.flagged r.laid r.place c.move_up-2.ensures.kept
     c.move_up-2.ensures.up

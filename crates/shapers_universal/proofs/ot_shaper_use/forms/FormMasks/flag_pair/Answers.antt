@@ -11,9 +11,9 @@ returns-then-tears c =
     let a = c.args in
     search (
       arith,
-      pair_read a.self a.before a.start a.end c.first_syllable_len.result c.joins_runs-behind.result c.tears.result
+      pair_read a.self a.before a.start a.end c.first_syllable_len.result c.may_join-behind.result c.tears.result
           a.glyphs.now c.requires.in_order c.requires.in_range c.first_syllable_len.ensures.len
-          c.joins_runs-behind.ensures c.tears.ensures,
+          c.may_join-behind.ensures c.tears.ensures,
     )
 
 pub returns-else-tears : goal.returns-else-tears

@@ -1,0 +1,23 @@
+use Rattle.std.proofs.Common.{arith, inl, inr}
+use Rattle.opentype_gsub.specs.Setting.{setting_of}
+use Rattle.opentype_gsub.proofs.Walks.{still_left, walked_all, walked_next, walked_out, walked_start}
+use Rattle.opentype_gsub.proofs.apply_along.apply_along.Goals as goal
+
+pub loop-steps-init : goal.loop-steps-init
+loop-steps-init c = walked_start _ _ _ _ _
+
+pub returns-then-place-len : goal.returns-then-place-len
+returns-then-place-len c = walked_out _ _ _ _ _ _ _ _ _ c.next_place-place.result c.loop-steps.invariant
+    (still_left (setting_of c.args.pass.now) _ _ _ _ _ (rw c.deref.ensures.value at c.next_place-place.ensures.left)) (inl (omega arith))
+
+pub returns-then-passed-steps : goal.returns-then-passed-steps
+returns-then-passed-steps c = walked_out _ _ _ _ _ _ _ _ _ c.next_place-place.result c.loop-steps.invariant
+    (still_left (setting_of c.args.pass.now) _ _ _ _ _ (rw c.deref.ensures.value at c.next_place-place.ensures.left)) (inr (omega arith))
+
+pub loop-steps-preserved : goal.loop-steps-preserved
+loop-steps-preserved c = walked_next _ _ _ _ _ _ _ _ _ c.next_place-place.result _ _ _ c.loop-steps.invariant
+    (still_left (setting_of c.args.pass.now) _ _ _ _ _ (rw c.deref.ensures.value at c.next_place-place.ensures.left))
+    (omega arith) (omega arith) (omega arith) c.in_ok-progress.ensures
+
+pub returns : goal.returns
+returns c = walked_all _ _ _ _ _ _ _ _ _ c.loop-steps.invariant (omega arith)

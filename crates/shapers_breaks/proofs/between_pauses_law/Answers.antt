@@ -1,8 +1,0 @@
-use Rattle.shapers_breaks.proofs.BetweenPauses.{between_pauses, halves_then}
-use Rattle.shapers_breaks.proofs.between_pauses_law.Goals as goal
-
-pub returns-clause-pauses : goal.returns-clause-pauses
-returns-clause-pauses c = between_pauses
-
-pub returns-clause-several : goal.returns-clause-several
-returns-clause-several c = halves_then

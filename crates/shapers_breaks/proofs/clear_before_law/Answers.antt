@@ -1,5 +1,0 @@
-use Rattle.shapers_breaks.proofs.ClearSteps.{clear_before}
-use Rattle.shapers_breaks.proofs.clear_before_law.Goals as goal
-
-pub returns : goal.returns
-returns c = clear_before

@@ -1,9 +1,0 @@
-use Rattle.shapers_breaks.proofs.HangulBreaks.{hangul_breaks}
-use Rattle.shapers_breaks.proofs.HangulSound.{hangul_sound_breaks}
-use Rattle.shapers_breaks.proofs.hangul_breaks_law.Goals as goal
-
-pub returns-clause-graphemes : goal.returns-clause-graphemes
-returns-clause-graphemes c = hangul_breaks
-
-pub returns-clause-sound : goal.returns-clause-sound
-returns-clause-sound c = hangul_sound_breaks

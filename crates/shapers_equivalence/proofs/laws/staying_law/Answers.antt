@@ -1,5 +1,0 @@
-use Rattle.shapers_equivalence.proofs.StayingForms.{texts_stay}
-use Rattle.shapers_equivalence.proofs.laws.staying_law.Goals as goal
-
-pub returns : goal.returns
-returns c = texts_stay

@@ -1,6 +1,0 @@
-//! Normalization keeps a text canonically equivalent.
-#![tactic(auto)]
-
-mod laws;
-
-pub use laws::{equivalence_law, order_law, runs_law, shapers_law, staying_law};

@@ -1,8 +1,0 @@
-use Rattle.std.proofs.Common.{arith}
-use Rattle.shapers_stretch.proofs.ot_shaper_arabic_stretch.measuring.lay_of_run.Goals as goal
-
-pub returns-in_err-run : goal.returns-in_err-run
-returns-in_err-run = search arith
-
-pub returns : goal.returns
-returns = search arith

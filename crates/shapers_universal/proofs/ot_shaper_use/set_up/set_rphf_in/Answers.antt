@@ -1,8 +1,0 @@
--- One syllable more.
-use Rattle.std.proofs.Common.{arith}
-use Rattle.std.proofs.lemmas.List.{take_rest}
-use Rattle.shapers_syllabic.proofs.SyllableWalks.{change_next}
-use Rattle.shapers_universal.proofs.ot_shaper_use.set_up.set_rphf_in.Goals as goal
-
-pub loop-start-preserved : goal.loop-start-preserved
-loop-start-preserved = search (arith, change_next, take_rest)

@@ -1,0 +1,141 @@
+// Generated from crates/opentype_gsub/src/shifting.rt by rust/erase; edit the source.
+
+//! Rules whose lookups are being applied, and their places behind lookups that add or take glyphs.
+
+use crate::generated::opentype_layout::places::Places;
+use crate::generated::opentype_layout::rules::Matched;
+
+/// How many places a rule has at most.
+const MOST_PLACES: usize = 64;
+
+/// A rule that fits, whose lookups are applied one after another.
+#[derive(Debug, Default)]
+pub struct Rule<'a> {
+    // the records of its lookups, how many they are, and which is next
+    pub(crate) records: &'a [u8],
+    pub(crate) count: u16,
+    pub(crate) next: u16,
+    // the places of its input, and the one behind them
+    pub(crate) places: Places,
+    pub(crate) end: usize,
+    // of the lookup that is applied now, the number of its place, and how long the text was
+    pub(crate) sequence: usize,
+    pub(crate) before: usize,
+}
+
+// A place, as far as what came in and went before it moves it.
+#[inline]
+fn move_place(place: usize, added: usize, removed: usize) -> usize {
+    place.saturating_add(added).saturating_sub(removed)
+}
+
+// Puts places behind others, as many as there is room for.
+fn push_all(new: &mut Places, places: &[usize]) {
+    if new.is_full() {
+        return;
+    }
+    for k in 0..places.len() {
+        if new.is_full() {
+            return;
+        }
+        new.push(places[k]);
+    }
+}
+
+// The same, each place moved.
+fn push_moved(new: &mut Places, places: &[usize], added: usize, removed: usize) {
+    if new.is_full() {
+        return;
+    }
+    for k in 0..places.len() {
+        if new.is_full() {
+            return;
+        }
+        new.push(move_place(places[k], added, removed));
+    }
+}
+
+// The same for the places right behind one.
+fn climb(new: &mut Places, from: usize, count: usize) {
+    if new.is_full() {
+        return;
+    }
+    let mut from = from;
+    for _ in 0..count {
+        if new.is_full() {
+            return;
+        }
+        from = from.saturating_add(1);
+        new.push(from);
+    }
+}
+
+#[inline]
+fn place_of(places: &[usize], sequence: usize) -> usize {
+    if sequence < places.len() {
+        places[sequence]
+    } else {
+        0
+    }
+}
+
+#[inline]
+fn front_of(places: &[usize], count: usize) -> &[usize] {
+    if count < places.len() {
+        &places[..count]
+    } else {
+        places
+    }
+}
+
+#[inline]
+fn back_of(places: &[usize], count: usize) -> &[usize] {
+    if count < places.len() {
+        &places[count..]
+    } else {
+        &[]
+    }
+}
+
+// The places behind a lookup that added or took away so many glyphs.
+fn shift_places(places: &[usize], sequence: usize, added: usize, removed: usize) -> Places {
+    let mut new = Places::new();
+    let first = sequence.saturating_add(1);
+    push_all(&mut new, front_of(places, first));
+    climb(&mut new, place_of(places, sequence), added);
+    let behind = back_of(places, first.saturating_add(removed));
+    push_moved(&mut new, behind, added, removed);
+    new
+}
+
+impl<'a> Rule<'a> {
+    /// A rule that fits a text of so many glyphs, before its first lookup is applied.
+    pub(crate) fn begin(matched: Matched<'a>, len: usize) -> Self {
+        Rule {
+            records: matched.records,
+            count: matched.count,
+            next: 0,
+            places: matched.places,
+            end: matched.end,
+            sequence: 0,
+            before: len,
+        }
+    }
+
+    /// What an applied lookup added or took away moves the places behind it. Where there are too
+    /// many then, the rule has no further lookup.
+    pub(crate) fn shift_behind(&mut self, len: usize) {
+        let place = place_of(self.places.as_slice(), self.sequence);
+        let added = len.saturating_sub(self.before);
+        let removed = self
+            .before
+            .saturating_sub(len)
+            .min(self.end.saturating_sub(place));
+        self.end = move_place(self.end, added, removed);
+        if self.places.len().saturating_add(added) > MOST_PLACES {
+            self.next = self.count;
+            return;
+        }
+        self.places = shift_places(self.places.as_slice(), self.sequence, added, removed);
+    }
+}
