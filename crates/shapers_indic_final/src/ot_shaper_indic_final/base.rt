@@ -1,10 +1,11 @@
 //! The base of a syllable after substitutions. (OpenType, development of Indic scripts: "Final
 //! reordering".)
-ghost use Rattle.std.specs.Prelude.{if◌then◌else◌, ◌-◌, ◌≡◌, ◌<◌, ◌≤◌, ◌+◌, is_some, length, unwrap_or};
+ghost use Rattle.std.specs.Prelude.{if◌then◌else◌, ◌-◌, ◌≡◌, ◌<◌, ◌≤◌, ◌+◌, get_or, is_some, length, slice_set, unwrap_or};
 ghost use Rattle.std.specs.List.{prefix_len};
 ghost use Rattle.std.specs.Option.{IfSome};
 ghost use Rattle.shapers_buffer.specs.Clusters.{stretch_of, with_stretch};
-ghost use Rattle.shapers_indic.specs.Glyphs.{greatest_place, passes};
+ghost use Rattle.shapers_buffer.specs.Glyph.{default_glyph};
+ghost use Rattle.shapers_indic.specs.Glyphs.{greatest_place, least_place, passes};
 ghost use Rattle.shapers_indic_final.specs.FinalBase.{as_linked, base_by_links, base_by_pref, before_halants, before_joiner, behind_halants, first_base, is_from_base_on, is_unformed_below, last_link, links_written, is_base_like, stepped_back, unformed_pref, with_final_base, with_base_at, with_links, with_pref_base};
 ghost use Rattle.shapers_indic_final.specs.FinalGlyphs.{is_indic_halant};
 ghost use Rattle.shapers_indic_final.specs.FinalWalk.{with_base_found};
@@ -72,26 +73,32 @@ fn find_base(rules: &Rules, script: Option<Script>, glyphs: &mut [hb_glyph_info_
 }
 
 // The first glyph whose position is the base's or one after it, else the end.
-#[allow(clippy::needless_range_loop)]
 #[inline]
 fn first_base(glyphs: &[hb_glyph_info_t]) -> usize
     ensures place { result ≡ first_base glyphs.now }
     ensures within { result ≤ length glyphs.now }
 {
-    for i in 0..glyphs.len() {
-        if is_from_base_on(&glyphs[i]) {
-            return i;
-        }
-    }
-    glyphs.len()
+    first_from_base_on(glyphs).unwrap_or(glyphs.len())
 }
 
-// Whether a glyph has the base's position or one after it.
+// That glyph, if there is one.
 #[inline]
-fn is_from_base_on(glyph: &hb_glyph_info_t) -> bool
-    ensures { result ≡ is_from_base_on glyph.now }
+fn first_from_base_on(glyphs: &[hb_glyph_info_t]) -> Option<usize>
+    ensures place { let from_base_on = passes is_from_base_on glyphs.now in
+        result ≡ least_place from_base_on 0 (length glyphs.now) }
+    ensures within { IfSome result (λ i. i < length glyphs.now) }
 {
-    glyph.auxiliary >= POS_BASE_C
+    (0..glyphs.len()).find(|&place| is_from_base_on(glyphs, place))
+}
+
+// Whether the glyph at a place has the base's position or one after it.
+#[inline]
+fn is_from_base_on(glyphs: &[hb_glyph_info_t], place: usize) -> bool
+    ensures { result ≡ passes is_from_base_on glyphs.now place }
+{
+    glyphs
+        .get(place)
+        .is_some_and(|glyph| glyph.auxiliary >= POS_BASE_C)
 }
 
 // The first glyph after the base with the mask of `pref`, if it is not substituted and formed.
@@ -245,7 +252,6 @@ fn set_links(script: Option<Script>, base: usize, glyphs: &mut [hb_glyph_info_t]
 }
 
 // The base by links, whose last glyphs get the base's position.
-#[allow(clippy::needless_range_loop)]
 fn set_along_links(base: usize, glyphs: &mut [hb_glyph_info_t]) -> usize
     requires in_range { base ≤ length glyphs.old }
     ensures glyphs { glyphs.new ≡ links_written base glyphs.old }
@@ -260,7 +266,7 @@ fn set_along_links(base: usize, glyphs: &mut [hb_glyph_info_t]) -> usize
             continue;
         }
         if halant {
-            last = set_link(&mut glyphs[i], i, last);
+            last = set_link(glyphs, i, last);
             halant = false;
             continue;
         }
@@ -275,12 +281,15 @@ fn set_along_links(base: usize, glyphs: &mut [hb_glyph_info_t]) -> usize
 // Gives the last glyph of a link, at `index`, the base's position, if its below-base form was not
 // made. Returns the base then, which was `last` before.
 #[inline]
-fn set_link(glyph: &mut hb_glyph_info_t, index: usize, last: usize) -> usize
-    ensures glyph { glyph.new ≡ as_linked glyph.old }
-    ensures base { result ≡ (if is_unformed_below glyph.old then index else last) }
+fn set_link(glyphs: &mut [hb_glyph_info_t], index: usize, last: usize) -> usize
+    requires { index < length glyphs.old }
+    ensures glyphs { let linked = as_linked (get_or glyphs.old index default_glyph) in
+        glyphs.new ≡ slice_set glyphs.old index linked }
+    ensures base { let linked = is_unformed_below (get_or glyphs.old index default_glyph) in
+        result ≡ (if linked then index else last) }
 {
-    if is_unformed_below(glyph) {
-        glyph.auxiliary = POS_BASE_C;
+    if is_unformed_below(&glyphs[index]) {
+        glyphs[index].auxiliary = POS_BASE_C;
         index
     } else {
         last

@@ -44,19 +44,21 @@ pub(super) fn end_of_base(base: usize, glyphs: &[hb_glyph_info_t]) -> usize
 }
 
 // The first left matra before the base.
-#[allow(clippy::manual_find, clippy::needless_range_loop)]
 #[inline]
 pub(super) fn first_left(base: usize, glyphs: &[hb_glyph_info_t]) -> Option<usize>
     requires { base ≤ length glyphs.now }
     ensures place { result ≡ least_place (passes is_left glyphs.now) 0 base }
     ensures within { IfSome result (λ i. i < base) }
 {
-    for i in 0..base {
-        if is_left(&glyphs[i]) {
-            return Some(i);
-        }
-    }
-    None
+    (0..base).find(|&place| is_left_at(glyphs, place))
+}
+
+// Whether a left matra stands at a place.
+#[inline]
+fn is_left_at(glyphs: &[hb_glyph_info_t], place: usize) -> bool
+    ensures { result ≡ passes is_left glyphs.now place }
+{
+    glyphs.get(place).is_some_and(is_left)
 }
 
 // The place that left matras go to, the start if they stay. They were put in front of all half

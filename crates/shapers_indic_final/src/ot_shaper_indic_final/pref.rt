@@ -4,6 +4,7 @@
 //! at.
 ghost use Rattle.std.specs.Prelude.{◌≡◌, ◌<◌, ◌≤◌, ◌+◌, length, suc};
 ghost use Rattle.std.specs.Option.{IfSome, option_map_or};
+ghost use Rattle.shapers_base.specs.Masks.{has_bits};
 ghost use Rattle.shapers_indic.specs.Glyphs.{greatest_place, passes};
 ghost use Rattle.shapers_indic_final.specs.FinalBase.{pref_place};
 ghost use Rattle.shapers_indic_final.specs.FinalGlyphs.{is_matra_or_halant};
@@ -15,7 +16,6 @@ use shapers_base::buffer::{Script, hb_glyph_info_t};
 use shapers_indic::ot_shaper_indic::glyphs::is_joiner;
 
 // The first glyph after the base with the mask of `pref`, which some plans don't give.
-#[allow(clippy::manual_find, clippy::needless_range_loop)]
 #[inline]
 pub(super) fn pref_place(pref: u32, base: usize, glyphs: &[hb_glyph_info_t]) -> Option<usize>
     requires in_range { base ≤ length glyphs.now }
@@ -26,12 +26,15 @@ pub(super) fn pref_place(pref: u32, base: usize, glyphs: &[hb_glyph_info_t]) -> 
     if pref == 0 {
         return None;
     }
-    for i in base + 1..glyphs.len() {
-        if has_mask(pref, &glyphs[i]) {
-            return Some(i);
-        }
-    }
-    None
+    (base + 1..glyphs.len()).find(|&place| has_mask_at(pref, glyphs, place))
+}
+
+// Whether a glyph with some bit of a mask stands at a place.
+#[inline]
+fn has_mask_at(bits: u32, glyphs: &[hb_glyph_info_t], place: usize) -> bool
+    ensures { result ≡ passes (has_bits bits) glyphs.now place }
+{
+    glyphs.get(place).is_some_and(|glyph| has_mask(bits, glyph))
 }
 
 // That glyph, if it is formed.

@@ -5,7 +5,7 @@ ghost use Rattle.std.specs.Option.{IfSome};
 ghost use Rattle.shapers_indic.specs.Glyphs.{has_position, is_matra};
 ghost use Rattle.shapers_indic_final.specs.FinalReph.{at_end, behind_base, carried_along, halant_after_start, is_moving_reph, is_with_main, is_with_sub, last_but_signs, begins_with_reph, reph_target, with_joiner};
 
-use super::glyphs::{is_formed, is_halant};
+use super::glyphs::{is_formed, is_halant, is_halant_at};
 use shapers_base::buffer::hb_glyph_info_t;
 use shapers_base::plan::RephPosition;
 use shapers_base::plan::ot_category_t::OT_Repha;
@@ -66,19 +66,13 @@ pub(super) fn base_after_reph(base: usize, target: usize) -> usize
 }
 
 // The first halant between the start and the base.
-#[allow(clippy::manual_find, clippy::needless_range_loop)]
 #[inline]
 fn halant_after_start(base: usize, glyphs: &[hb_glyph_info_t]) -> Option<usize>
     requires { base ≤ length glyphs.now }
     ensures place { result ≡ halant_after_start base glyphs.now }
     ensures within { IfSome result (λ h. h < base) }
 {
-    for i in 1..base {
-        if is_halant(&glyphs[i]) {
-            return Some(i);
-        }
-    }
-    None
+    (1..base).find(|&place| is_halant_at(glyphs, place))
 }
 
 // A halant, or a joiner behind it that stands before the base.

@@ -18,18 +18,15 @@ use shapers_indic::ot_shaper_indic::glyphs::is_matra;
 use shapers_syllabic::ot_shaper_syllabic::is_consonant;
 
 /// Sets the positions of the reph, of what stands before the base, and of the base.
-#[allow(clippy::needless_range_loop)]
 #[inline]
 pub(super) fn set_positions_by_base(glyphs: &mut [hb_glyph_info_t], base: Base)
     ensures { glyphs.new ≡ by_base base.place base.has_reph glyphs.old }
 {
-    let end = if base.place < glyphs.len() {
-        base.place + 1
-    } else {
-        glyphs.len()
-    };
-    for i in 0..end {
-        glyphs[i].auxiliary = position_by_base(base, i, glyphs[i].auxiliary);
+    for (place, glyph) in glyphs.iter_mut().enumerate() {
+        if place > base.place {
+            return;
+        }
+        glyph.auxiliary = position_by_base(base, place, glyph.auxiliary);
     }
 }
 

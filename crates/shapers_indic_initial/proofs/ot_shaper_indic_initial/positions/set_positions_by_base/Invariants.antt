@@ -4,6 +4,6 @@ use Rattle.shapers_indic_initial.proofs.Walks.{walked}
 use Rattle.shapers_indic_initial.proofs.Positions.{base_step}
 use Rattle.shapers_indic_initial.proofs.ot_shaper_indic_initial.positions.set_positions_by_base.Given as goal
 
-abbrev pub invariant-loop-i : goal.invariant-loop-i
-invariant-loop-i l = take l.i l.glyphs ++ walked (base_step l.base.place l.base.has_reph) l.i (drop l.i l.glyphs)
+abbrev pub invariant-loop-place : goal.invariant-loop-place
+invariant-loop-place l = take l.place l.glyphs ++ walked (base_step l.base.place l.base.has_reph) l.place (drop l.place l.glyphs)
     ≡ walked (base_step l.base.place l.base.has_reph) 0 l.initial.glyphs

@@ -49,21 +49,23 @@ fn find_base(rules: &Rules, script: Option<Script>, glyphs: &mut [GlyphInfo]) ->
 }
 
 // The first glyph whose position is the base's or one after it, else the end.
-#[allow(clippy::needless_range_loop)]
 #[inline]
 fn first_base(glyphs: &[GlyphInfo]) -> usize {
-    for i in 0..glyphs.len() {
-        if is_from_base_on(&glyphs[i]) {
-            return i;
-        }
-    }
-    glyphs.len()
+    first_from_base_on(glyphs).unwrap_or(glyphs.len())
 }
 
-// Whether a glyph has the base's position or one after it.
+// That glyph, if there is one.
 #[inline]
-fn is_from_base_on(glyph: &GlyphInfo) -> bool {
-    glyph.auxiliary >= POS_BASE_C
+fn first_from_base_on(glyphs: &[GlyphInfo]) -> Option<usize> {
+    (0..glyphs.len()).find(|&place| is_from_base_on(glyphs, place))
+}
+
+// Whether the glyph at a place has the base's position or one after it.
+#[inline]
+fn is_from_base_on(glyphs: &[GlyphInfo], place: usize) -> bool {
+    glyphs
+        .get(place)
+        .is_some_and(|glyph| glyph.auxiliary >= POS_BASE_C)
 }
 
 // The first glyph after the base with the mask of `pref`, if it is not substituted and formed.
@@ -176,7 +178,6 @@ fn set_links(script: Option<Script>, base: usize, glyphs: &mut [GlyphInfo]) -> u
 }
 
 // The base by links, whose last glyphs get the base's position.
-#[allow(clippy::needless_range_loop)]
 fn set_along_links(base: usize, glyphs: &mut [GlyphInfo]) -> usize {
     let mut last = base;
     let mut halant = false;
@@ -185,7 +186,7 @@ fn set_along_links(base: usize, glyphs: &mut [GlyphInfo]) -> usize {
             continue;
         }
         if halant {
-            last = set_link(&mut glyphs[i], i, last);
+            last = set_link(glyphs, i, last);
             halant = false;
             continue;
         }
@@ -200,9 +201,9 @@ fn set_along_links(base: usize, glyphs: &mut [GlyphInfo]) -> usize {
 // Gives the last glyph of a link, at `index`, the base's position, if its below-base form was not
 // made. Returns the base then, which was `last` before.
 #[inline]
-fn set_link(glyph: &mut GlyphInfo, index: usize, last: usize) -> usize {
-    if is_unformed_below(glyph) {
-        glyph.auxiliary = POS_BASE_C;
+fn set_link(glyphs: &mut [GlyphInfo], index: usize, last: usize) -> usize {
+    if is_unformed_below(&glyphs[index]) {
+        glyphs[index].auxiliary = POS_BASE_C;
         index
     } else {
         last

@@ -11,6 +11,12 @@ pub(super) fn is_halant(glyph: &GlyphInfo) -> bool {
     !glyph.glyph_props.is_ligated() && glyph.category == OT_H
 }
 
+// Whether a halant stands at a place.
+#[inline]
+pub(super) fn is_halant_at(glyphs: &[GlyphInfo], place: usize) -> bool {
+    glyphs.get(place).is_some_and(is_halant)
+}
+
 // Whether a glyph is a vowel sign or a halant, and no lookup put it in for several.
 #[inline]
 pub(super) fn is_matra_or_halant(glyph: &GlyphInfo) -> bool {

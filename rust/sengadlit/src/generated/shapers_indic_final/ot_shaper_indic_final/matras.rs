@@ -32,15 +32,15 @@ pub(super) fn end_of_base(base: usize, glyphs: &[GlyphInfo]) -> usize {
 }
 
 // The first left matra before the base.
-#[allow(clippy::manual_find, clippy::needless_range_loop)]
 #[inline]
 pub(super) fn first_left(base: usize, glyphs: &[GlyphInfo]) -> Option<usize> {
-    for i in 0..base {
-        if is_left(&glyphs[i]) {
-            return Some(i);
-        }
-    }
-    None
+    (0..base).find(|&place| is_left_at(glyphs, place))
+}
+
+// Whether a left matra stands at a place.
+#[inline]
+fn is_left_at(glyphs: &[GlyphInfo], place: usize) -> bool {
+    glyphs.get(place).is_some_and(is_left)
 }
 
 // The place that left matras go to, the start if they stay. They were put in front of all half

@@ -11,18 +11,18 @@ use crate::generated::shapers_base::buffer::{GlyphInfo, Script};
 use crate::generated::shapers_indic::ot_shaper_indic::glyphs::is_joiner;
 
 // The first glyph after the base with the mask of `pref`, which some plans don't give.
-#[allow(clippy::manual_find, clippy::needless_range_loop)]
 #[inline]
 pub(super) fn pref_place(pref: u32, base: usize, glyphs: &[GlyphInfo]) -> Option<usize> {
     if pref == 0 {
         return None;
     }
-    for i in base + 1..glyphs.len() {
-        if has_mask(pref, &glyphs[i]) {
-            return Some(i);
-        }
-    }
-    None
+    (base + 1..glyphs.len()).find(|&place| has_mask_at(pref, glyphs, place))
+}
+
+// Whether a glyph with some bit of a mask stands at a place.
+#[inline]
+fn has_mask_at(bits: u32, glyphs: &[GlyphInfo], place: usize) -> bool {
+    glyphs.get(place).is_some_and(|glyph| has_mask(bits, glyph))
 }
 
 // That glyph, if it is formed.

@@ -2,7 +2,7 @@
 
 //! Where the reph of a syllable goes. (OpenType, development of Indic scripts: "Reorder reph".)
 
-use super::glyphs::{is_formed, is_halant};
+use super::glyphs::{is_formed, is_halant, is_halant_at};
 use crate::generated::shapers_base::buffer::GlyphInfo;
 use crate::generated::shapers_base::plan::RephPosition;
 use crate::generated::shapers_base::plan::ot_category_t::OT_Repha;
@@ -51,15 +51,9 @@ pub(super) fn base_after_reph(base: usize, target: usize) -> usize {
 }
 
 // The first halant between the start and the base.
-#[allow(clippy::manual_find, clippy::needless_range_loop)]
 #[inline]
 fn halant_after_start(base: usize, glyphs: &[GlyphInfo]) -> Option<usize> {
-    for i in 1..base {
-        if is_halant(&glyphs[i]) {
-            return Some(i);
-        }
-    }
-    None
+    (1..base).find(|&place| is_halant_at(glyphs, place))
 }
 
 // A halant, or a joiner behind it that stands before the base.
