@@ -1,23 +1,21 @@
 // Generated from crates/shapers_buffer/src/buffer/rooms.rt by rust/erase; edit the source.
 
-//! Room that the buffer lends to its callers, and keeps for the next text: lists of glyphs, of
-//! positions and of syllables. None is a part of the text.
+//! Room that the buffer lends to its callers, and keeps for the next text: lists of glyphs and of
+//! positions. None is a part of the text.
 
 use crate::support::prelude::*;
 
 use super::Buffer;
 use super::glyph::{GlyphInfo, GlyphPosition};
 use super::keeping::KeptRoom;
-use super::syllables::Span;
 use crate::support::alloc::Global;
 use core::mem;
 
-// Room for the copy that is kept of a text, for another list of glyphs, and for syllables.
+// Room for the copy that is kept of a text, and for another list of glyphs.
 #[derive(Debug)]
 pub(super) struct Rooms {
     pub(super) kept: KeptRoom,
     pub(super) list: Vec<GlyphInfo>,
-    pub(super) spans: Vec<Span>,
 }
 
 impl Rooms {
@@ -27,7 +25,6 @@ impl Rooms {
         Rooms {
             kept: KeptRoom::new(alloc),
             list: Vec::new(alloc),
-            spans: Vec::new(alloc),
         }
     }
 }
@@ -66,39 +63,6 @@ impl Buffer {
         self.rooms.list = list;
     }
 
-    /// Takes out an empty list of syllables, with the room that it has. Nothing else changes.
-    ///
-    /// <details><summary>Contract</summary>
-    ///
-    /// # Contract
-    ///
-    /// ```text
-    /// ensures empty { result.items ≡ [] }
-    /// ensures same { self.new ≡ self.old }
-    /// ```
-    ///
-    /// </details>
-    #[inline]
-    pub(crate) fn take_spans(&mut self) -> Vec<Span> {
-        emptied(&mut self.rooms.spans)
-    }
-
-    /// Keeps a list of syllables as room for the next. Nothing else changes.
-    ///
-    /// <details><summary>Contract</summary>
-    ///
-    /// # Contract
-    ///
-    /// ```text
-    /// ensures { self.new ≡ self.old }
-    /// ```
-    ///
-    /// </details>
-    #[inline]
-    pub(crate) fn give_spans(&mut self, spans: Vec<Span>) {
-        self.rooms.spans = spans;
-    }
-
     /// An empty list of positions: in a buffer without positions the one that the last positions
     /// stood in, with its room. Nothing else changes.
     ///
@@ -126,7 +90,7 @@ impl Buffer {
 // Takes out the list, which is empty then and keeps its room. A list without room stands in its
 // place.
 #[inline]
-fn emptied<T: Copy>(list: &mut Vec<T>) -> Vec<T> {
+fn emptied(list: &mut Vec<GlyphInfo>) -> Vec<GlyphInfo> {
     let none = Vec::new(*list.allocator());
     let mut taken = mem::replace(list, none);
     taken.clear();
