@@ -84,24 +84,24 @@ fn character_at(glyphs: &[hb_glyph_info_t], i: usize) -> u32
 
 // Whether the font has the character with advance 0.
 #[inline]
-fn is_zero_width_char<F: hb_font_t>(face: &F, u: u32) -> bool
-    ensures { result ≡ is_narrow (F.font face.now) u }
+fn is_zero_width_char<F: hb_font_t>(font: &F, u: u32) -> bool
+    ensures { result ≡ is_narrow (F.font font.now) u }
 {
-    match face.get_nominal_glyph(u) {
-        Some(glyph) => face.glyph_h_advance(glyph) == 0,
+    match font.get_nominal_glyph(u) {
+        Some(glyph) => font.glyph_h_advance(glyph) == 0,
         None => false,
     }
 }
 
 // A tone without a syllable before it.
 #[inline]
-fn lone_tone<F: hb_font_t>(face: &F, circles: bool, u: u32) -> Unit
-    ensures { result ≡ lone_tone (F.font face.now) circles u }
+fn lone_tone<F: hb_font_t>(font: &F, circles: bool, u: u32) -> Unit
+    ensures { result ≡ lone_tone (F.font font.now) circles u }
 {
-    if !circles || !face.has_glyph(DOTTED_CIRCLE) {
+    if !circles || !font.has_glyph(DOTTED_CIRCLE) {
         return Unit::Other;
     }
-    if is_zero_width_char(face, u) {
+    if is_zero_width_char(font, u) {
         return Unit::CircleTone;
     }
     Unit::ToneCircle
@@ -109,12 +109,12 @@ fn lone_tone<F: hb_font_t>(face: &F, circles: bool, u: u32) -> Unit
 
 // L V.
 #[inline]
-fn jamo_two<F: hb_font_t>(face: &F, l: u32, v: u32) -> Unit
-    ensures { result ≡ jamo_two (F.font face.now) l v }
+fn jamo_two<F: hb_font_t>(font: &F, l: u32, v: u32) -> Unit
+    ensures { result ≡ jamo_two (F.font font.now) l v }
 {
     if is_combining_l(l) && is_combining_v(v) {
         let lv = compose_two(l, v);
-        if face.has_glyph(lv) {
+        if font.has_glyph(lv) {
             return Unit::ComposedTwo(lv);
         }
     }
@@ -123,12 +123,12 @@ fn jamo_two<F: hb_font_t>(face: &F, l: u32, v: u32) -> Unit
 
 // L V T.
 #[inline]
-fn jamo_three<F: hb_font_t>(face: &F, l: u32, v: u32, t: u32) -> Unit
-    ensures { result ≡ jamo_three (F.font face.now) l v t }
+fn jamo_three<F: hb_font_t>(font: &F, l: u32, v: u32, t: u32) -> Unit
+    ensures { result ≡ jamo_three (F.font font.now) l v t }
 {
     if is_combining_l(l) && is_combining_v(v) && is_combining_t(t) {
         let lvt = compose_three(compose_two(l, v), t);
-        if face.has_glyph(lvt) {
+        if font.has_glyph(lvt) {
             return Unit::ComposedThree(lvt);
         }
     }
@@ -137,12 +137,12 @@ fn jamo_three<F: hb_font_t>(face: &F, l: u32, v: u32, t: u32) -> Unit
 
 // Whether the font has the jamo of a syllable character.
 #[inline]
-fn has_jamo_of<F: hb_font_t>(face: &F, s: u32) -> bool
+fn has_jamo_of<F: hb_font_t>(font: &F, s: u32) -> bool
     requires { is_s s ≡ true }
-    ensures { result ≡ has_jamo_of (F.font face.now) s }
+    ensures { result ≡ has_jamo_of (F.font font.now) s }
 {
     let [l, v, t] = decompose(s);
-    face.has_glyph(l) && face.has_glyph(v) && (is_lv(s) || face.has_glyph(t))
+    font.has_glyph(l) && font.has_glyph(v) && (is_lv(s) || font.has_glyph(t))
 }
 
 // A syllable character by its jamo.
@@ -159,21 +159,21 @@ fn parts(s: u32) -> Unit
 }
 
 // A syllable character before `v`.
-fn syllable_unit<F: hb_font_t>(face: &F, s: u32, v: u32) -> Unit
+fn syllable_unit<F: hb_font_t>(font: &F, s: u32, v: u32) -> Unit
     requires { is_s s ≡ true }
-    ensures { result ≡ syllable_unit (F.font face.now) s v }
+    ensures { result ≡ syllable_unit (F.font font.now) s v }
 {
     if is_lv(s) && is_combining_t(v) {
         let composed = compose_three(s, v);
-        if face.has_glyph(composed) {
+        if font.has_glyph(composed) {
             return Unit::ComposedTwo(composed);
         }
     }
-    let has_glyph = face.has_glyph(s);
-    if !has_glyph && has_jamo_of(face, s) {
+    let has_glyph = font.has_glyph(s);
+    if !has_glyph && has_jamo_of(font, s) {
         return parts(s);
     }
-    if is_lv(s) && is_t(v) && has_jamo_of(face, s) {
+    if is_lv(s) && is_t(v) && has_jamo_of(font, s) {
         let [l, v, _] = decompose(s);
         return Unit::PartsBeforeT(l, v);
     }
@@ -185,61 +185,61 @@ fn syllable_unit<F: hb_font_t>(face: &F, s: u32, v: u32) -> Unit
 
 // L V, and L V T.
 #[inline]
-fn jamo_unit<F: hb_font_t>(face: &F, l: u32, v: u32, t: u32) -> Unit
-    ensures { result ≡ jamo_unit (F.font face.now) l v t }
+fn jamo_unit<F: hb_font_t>(font: &F, l: u32, v: u32, t: u32) -> Unit
+    ensures { result ≡ jamo_unit (F.font font.now) l v t }
 {
     if is_t(t) {
-        return jamo_three(face, l, v, t);
+        return jamo_three(font, l, v, t);
     }
-    jamo_two(face, l, v)
+    jamo_two(font, l, v)
 }
 
 // The unit of a character that no jamo follows.
 #[inline]
-fn lone_unit<F: hb_font_t>(face: &F, circles: bool, u: u32) -> Unit
-    ensures { result ≡ lone_unit (F.font face.now) circles u }
+fn lone_unit<F: hb_font_t>(font: &F, circles: bool, u: u32) -> Unit
+    ensures { result ≡ lone_unit (F.font font.now) circles u }
 {
     if is_combined_s(u) {
-        if face.has_glyph(u) {
+        if font.has_glyph(u) {
             return Unit::Syllable;
         }
-        if has_jamo_of(face, u) {
+        if has_jamo_of(font, u) {
             return parts(u);
         }
         return Unit::Other;
     }
     if is_hangul_tone(u) {
-        return lone_tone(face, circles, u);
+        return lone_tone(font, circles, u);
     }
     Unit::Other
 }
 
 // The unit that the character `u` and the next two open.
 #[inline]
-fn first_unit<F: hb_font_t>(face: &F, circles: bool, u: u32, v: u32, t: u32) -> Unit
-    ensures { result ≡ first_unit (F.font face.now) circles u v t }
+fn first_unit<F: hb_font_t>(font: &F, circles: bool, u: u32, v: u32, t: u32) -> Unit
+    ensures { result ≡ first_unit (F.font font.now) circles u v t }
 {
     if is_hangul_tone(u) {
-        return lone_tone(face, circles, u);
+        return lone_tone(font, circles, u);
     }
     if is_l(u) && is_v(v) {
-        return jamo_unit(face, u, v, t);
+        return jamo_unit(font, u, v, t);
     }
     if is_combined_s(u) {
-        return syllable_unit(face, u, v);
+        return syllable_unit(font, u, v);
     }
     Unit::Other
 }
 
 // The tone `w` after a unit.
 #[inline]
-fn joined_tone<F: hb_font_t>(face: &F, unit: Unit, w: u32) -> JoinedTone
-    ensures { result ≡ joined_tone (F.font face.now) unit w }
+fn joined_tone<F: hb_font_t>(font: &F, unit: Unit, w: u32) -> JoinedTone
+    ensures { result ≡ joined_tone (F.font font.now) unit w }
 {
     if !unit.is_syllable() || !is_hangul_tone(w) {
         return JoinedTone::Absent;
     }
-    if is_zero_width_char(face, w) {
+    if is_zero_width_char(font, w) {
         return JoinedTone::Behind;
     }
     JoinedTone::Before
@@ -247,22 +247,22 @@ fn joined_tone<F: hb_font_t>(face: &F, unit: Unit, w: u32) -> JoinedTone
 
 // Whether the font can't join LV and the T `v` behind it, nor, where T doesn't combine, part LV.
 #[inline]
-fn is_split<F: hb_font_t>(face: &F, s: u32, v: u32) -> bool
-    ensures { result ≡ is_split (F.font face.now) s v }
+fn is_split<F: hb_font_t>(font: &F, s: u32, v: u32) -> bool
+    ensures { result ≡ is_split (F.font font.now) s v }
 {
     if !is_lv(s) || !is_t(v) {
         return false;
     }
     if is_combining_t(v) {
-        return !face.has_glyph(compose_three(s, v));
+        return !font.has_glyph(compose_three(s, v));
     }
-    !has_jamo_of(face, s)
+    !has_jamo_of(font, s)
 }
 
 // How many characters from `u` on are unsafe to break inside, `v` being the second.
 #[inline]
-fn unsafe_len<F: hb_font_t>(face: &F, unit: Unit, tone: JoinedTone, u: u32, v: u32) -> usize
-    ensures { result ≡ unsafe_len (F.font face.now) unit tone u v }
+fn unsafe_len<F: hb_font_t>(font: &F, unit: Unit, tone: JoinedTone, u: u32, v: u32) -> usize
+    ensures { result ≡ unsafe_len (F.font font.now) unit tone u v }
 {
     if is_l(u) && is_v(v) {
         return unit.taken();
@@ -270,22 +270,22 @@ fn unsafe_len<F: hb_font_t>(face: &F, unit: Unit, tone: JoinedTone, u: u32, v: u
     if unit.is_marked() && tone.len() == 1 {
         return unit.taken();
     }
-    if is_split(face, u, v) {
+    if is_split(font, u, v) {
         return 2;
     }
     0
 }
 
 // The item that begins the text. A character that jamo or a tone doesn't follow decides by itself.
-fn read_item<F: hb_font_t>(face: &F, circles: bool, glyphs: &[hb_glyph_info_t]) -> Item
+fn read_item<F: hb_font_t>(font: &F, circles: bool, glyphs: &[hb_glyph_info_t]) -> Item
     requires { 0 < length glyphs.now }
-    ensures { result ≡ first_item (F.font face.now) circles (characters glyphs.now) }
+    ensures { result ≡ first_item (F.font font.now) circles (characters glyphs.now) }
 {
     let u = character_at(glyphs, 0);
     let v = character_at(glyphs, 1);
     if is_l(u) && is_v(v) {
-        let unit = jamo_unit(face, u, v, character_at(glyphs, 2));
-        let tone = joined_tone(face, unit, character_at(glyphs, unit.taken()));
+        let unit = jamo_unit(font, u, v, character_at(glyphs, 2));
+        let tone = joined_tone(font, unit, character_at(glyphs, unit.taken()));
         return Item {
             unit,
             tone,
@@ -294,47 +294,47 @@ fn read_item<F: hb_font_t>(face: &F, circles: bool, glyphs: &[hb_glyph_info_t]) 
     }
     if !follows(v) {
         return Item {
-            unit: lone_unit(face, circles, u),
+            unit: lone_unit(font, circles, u),
             tone: JoinedTone::Absent,
             unsafe_len: 0,
         };
     }
-    let unit = first_unit(face, circles, u, v, character_at(glyphs, 2));
-    let tone = joined_tone(face, unit, character_at(glyphs, unit.taken()));
+    let unit = first_unit(font, circles, u, v, character_at(glyphs, 2));
+    let tone = joined_tone(font, unit, character_at(glyphs, unit.taken()));
     Item {
         unit,
         tone,
-        unsafe_len: unsafe_len(face, unit, tone, u, v),
+        unsafe_len: unsafe_len(font, unit, tone, u, v),
     }
 }
 
 // Whether the character that begins the text stays as it is, as far as it and the next one decide.
 #[inline]
-pub(super) fn stays_alone<F: hb_font_t>(face: &F, circles: bool, glyphs: &[hb_glyph_info_t]) -> bool
+pub(super) fn stays_alone<F: hb_font_t>(font: &F, circles: bool, glyphs: &[hb_glyph_info_t]) -> bool
     ensures kept { let us = characters glyphs.now in
-        result ≡ true → is_kept (first_item (F.font face.now) circles us) ≡ true }
-    ensures exact { result ≡ stays_at_sight (F.font face.now) circles (characters glyphs.now) }
+        result ≡ true → is_kept (first_item (F.font font.now) circles us) ≡ true }
+    ensures exact { result ≡ stays_at_sight (F.font font.now) circles (characters glyphs.now) }
 {
     let u = character_at(glyphs, 0);
     let v = character_at(glyphs, 1);
     if is_combined_s(u) {
-        return !follows(v) && face.has_glyph(u);
+        return !follows(v) && font.has_glyph(u);
     }
     if is_hangul_tone(u) {
         // it takes nothing along, and stays where it gets no circle
-        return !circles || !face.has_glyph(DOTTED_CIRCLE);
+        return !circles || !font.has_glyph(DOTTED_CIRCLE);
     }
     !follows(v)
 }
 
 // The item that begins the text, which stands within it.
 #[inline]
-pub(super) fn first_item<F: hb_font_t>(face: &F, circles: bool, glyphs: &[hb_glyph_info_t]) -> Item
+pub(super) fn first_item<F: hb_font_t>(font: &F, circles: bool, glyphs: &[hb_glyph_info_t]) -> Item
     requires { 0 < length glyphs.now }
-    ensures item { result ≡ first_item (F.font face.now) circles (characters glyphs.now) }
+    ensures item { result ≡ first_item (F.font font.now) circles (characters glyphs.now) }
     ensures within { item_len result ≤ length glyphs.now }
 {
-    read_item(face, circles, glyphs)
+    read_item(font, circles, glyphs)
 }
 
 impl JoinedTone {

@@ -24,14 +24,14 @@ use std::alloc::{AllocError, Global};
 
 // The item at a place of the text.
 #[inline]
-fn item_at<F: hb_font_t>(face: &F, circles: bool, glyphs: &[hb_glyph_info_t], place: usize) -> Item
+fn item_at<F: hb_font_t>(font: &F, circles: bool, glyphs: &[hb_glyph_info_t], place: usize) -> Item
     requires { place < length glyphs.now }
     ensures item { let us = characters (drop place glyphs.now) in
-        result ≡ first_item (F.font face.now) circles us }
+        result ≡ first_item (F.font font.now) circles us }
     ensures within { place + item_len result ≤ length glyphs.now }
     ensures in_rest { item_len result ≤ length (drop place glyphs.now) }
 {
-    first_item(face, circles, rest_from(glyphs, place))
+    first_item(font, circles, rest_from(glyphs, place))
 }
 
 // The text from a place on.
@@ -45,13 +45,13 @@ fn rest_from(glyphs: &[hb_glyph_info_t], place: usize) -> &[hb_glyph_info_t]
 
 // How far a look at each character tells that the text stays as it is.
 #[inline]
-fn kept_len<F: hb_font_t>(face: &F, circles: bool, glyphs: &[hb_glyph_info_t]) -> usize
-    ensures kept { KeptBefore (F.font face.now) circles glyphs.now result }
+fn kept_len<F: hb_font_t>(font: &F, circles: bool, glyphs: &[hb_glyph_info_t]) -> usize
+    ensures kept { KeptBefore (F.font font.now) circles glyphs.now result }
     ensures stops { let us = characters (drop result glyphs.now) in
-        result < length glyphs.now → stays_at_sight (F.font face.now) circles us ≡ false }
+        result < length glyphs.now → stays_at_sight (F.font font.now) circles us ≡ false }
 {
     let mut place = 0;
-    while place < glyphs.len() && stays_alone(face, circles, rest_from(glyphs, place)) {
+    while place < glyphs.len() && stays_alone(font, circles, rest_from(glyphs, place)) {
         place += 1;
     }
     place
@@ -138,7 +138,7 @@ impl Cut {
 // it from there on. Refuses where the result would be longer than `limit`, and for nothing else.
 #[inline]
 fn measure<F: hb_font_t>(
-    face: &F,
+    font: &F,
     circles: bool,
     glyphs: &[hb_glyph_info_t],
     kept: usize,
@@ -148,20 +148,20 @@ fn measure<F: hb_font_t>(
     requires none { changes_in cut.old ≡ [] }
     requires fits { kept ≤ limit }
     requires within { kept ≤ length glyphs.now }
-    ensures length { let cut = items_at (F.font face.now) circles (characters glyphs.now) kept in
+    ensures length { let cut = items_at (F.font font.now) circles (characters glyphs.now) kept in
         RefusesLength limit (kept + length (outputs glyph_copies cut glyphs.now)) result }
-    ensures items { let rest = items_at (F.font face.now) circles (characters glyphs.now) kept in
+    ensures items { let rest = items_at (F.font font.now) circles (characters glyphs.now) kept in
         IfOk result (λ len. cut.new.is_whole ≡ true → changes_in cut.new ≡ rewritten_items rest) }
-    ensures kept { let rest = items_at (F.font face.now) circles (characters glyphs.now) kept in
+    ensures kept { let rest = items_at (F.font font.now) circles (characters glyphs.now) kept in
         IfOk result (λ len. rewritten_items rest ≡ [] → cut.new.is_whole ≡ cut.old.is_whole) }
-    ensures exact { let cut = items_at (F.font face.now) circles (characters glyphs.now) kept in
+    ensures exact { let cut = items_at (F.font font.now) circles (characters glyphs.now) kept in
         IfOk result (λ len. len ≡ kept + length (outputs glyph_copies cut glyphs.now)) }
     ensures refusal { IfErr result (λ e. e ≡ TooLong) }
 {
     let mut room = limit - kept;
     let mut place = kept;
     while place < glyphs.len() {
-        if stays_alone(face, circles, rest_from(glyphs, place)) {
+        if stays_alone(font, circles, rest_from(glyphs, place)) {
             if room == 0 {
                 return Err(ShaperError::TooLong);
             }
@@ -169,7 +169,7 @@ fn measure<F: hb_font_t>(
             place += 1;
             continue;
         }
-        let item = item_at(face, circles, glyphs, place);
+        let item = item_at(font, circles, glyphs, place);
         if room < item.output_len() {
             return Err(ShaperError::TooLong);
         }
@@ -416,27 +416,27 @@ fn wants_circles(buffer: &hb_buffer_t) -> bool
 #[inline]
 pub(super) fn rewrite_changes<F: hb_font_t>(
     breaks: BreakFlags,
-    face: &F,
+    font: &F,
     buffer: &mut hb_buffer_t,
 ) -> Result<bool, ShaperError>
     requires { buffer.old.positions ≡ [] }
-    ensures ok { OnOk result (buffer.new ≡ rewritten_by breaks (F.font face.now) buffer.old) }
-    ensures kept { AllKept (F.font face.now) buffer.old → result ≡ Ok false }
-    ensures changes { result ≡ Ok false → AllKept (F.font face.now) buffer.old }
+    ensures ok { OnOk result (buffer.new ≡ rewritten_by breaks (F.font font.now) buffer.old) }
+    ensures kept { AllKept (F.font font.now) buffer.old → result ≡ Ok false }
+    ensures changes { result ≡ Ok false → AllKept (F.font font.now) buffer.old }
     ensures unchanged { result ≡ Ok false → buffer.new ≡ buffer.old }
-    ensures length { let text = (rewritten (F.font face.now) buffer.old).glyphs in
+    ensures length { let text = (rewritten (F.font font.now) buffer.old).glyphs in
         RefusesLength buffer.old.max_len (length text) result }
     ensures err { OnErr result (buffer.new ≡ buffer.old) }
 {
     let circles = wants_circles(buffer);
     let (level, alloc) = (buffer.cluster_level(), buffer.alloc());
     let glyphs = buffer.glyphs();
-    let kept = kept_len(face, circles, glyphs);
+    let kept = kept_len(font, circles, glyphs);
     if kept == buffer.len() {
         return Ok(false);
     }
     let mut cut = Cut::new(alloc);
-    let len = measure(face, circles, glyphs, kept, buffer.max_len(), &mut cut)?;
+    let len = measure(font, circles, glyphs, kept, buffer.max_len(), &mut cut)?;
     if !cut.is_whole {
         return Err(ShaperError::Memory);
     }
@@ -457,16 +457,16 @@ pub(super) fn rewrite_changes<F: hb_font_t>(
 #[inline]
 pub(super) fn rewrite<F: hb_font_t>(
     breaks: BreakFlags,
-    face: &F,
+    font: &F,
     buffer: &mut hb_buffer_t,
 ) -> Result<(), ShaperError>
     requires { buffer.old.positions ≡ [] }
-    ensures ok { OnOk result (buffer.new ≡ rewritten_by breaks (F.font face.now) buffer.old) }
-    ensures length { let text = (rewritten (F.font face.now) buffer.old).glyphs in
+    ensures ok { OnOk result (buffer.new ≡ rewritten_by breaks (F.font font.now) buffer.old) }
+    ensures length { let text = (rewritten (F.font font.now) buffer.old).glyphs in
         RefusesLength buffer.old.max_len (length text) result }
     ensures err { OnErr result (buffer.new ≡ buffer.old) }
-    ensures kept { AllKept (F.font face.now) buffer.old → IsOk result }
+    ensures kept { AllKept (F.font font.now) buffer.old → IsOk result }
 {
-    rewrite_changes(breaks, face, buffer)?;
+    rewrite_changes(breaks, font, buffer)?;
     Ok(())
 }

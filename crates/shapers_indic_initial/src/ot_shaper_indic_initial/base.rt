@@ -38,10 +38,10 @@ impl Base {
 /// (0C30 0C4D 200D), since that requests one.
 #[inline]
 pub(super) fn find_base<F: hb_font_t>(rules: &Rules<F>, glyphs: &[hb_glyph_info_t]) -> Base
-    ensures place { let font = F.font rules.now.face.now in
+    ensures place { let font = F.font rules.now.font.now in
         let r = initial_rules font rules.now.map.now rules.now.plan.now in
         result.place ≡ base_place r glyphs.now }
-    ensures reph { let font = F.font rules.now.face.now in
+    ensures reph { let font = F.font rules.now.font.now in
         let r = initial_rules font rules.now.map.now rules.now.plan.now in
         result.has_reph ≡ has_indic_reph r glyphs.now }
 {

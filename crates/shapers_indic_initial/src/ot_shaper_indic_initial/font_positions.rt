@@ -19,14 +19,14 @@ use shapers_indic::ot_shaper_indic::virama_glyph;
 #[inline]
 pub(super) fn update_consonant_positions<F: hb_font_t>(rules: &Rules<F>, buffer: &mut hb_buffer_t)
     ensures { let r = rules.now in
-        let font = F.font r.face.now in
+        let font = F.font r.font.now in
         let changed = positions_by_font font r.map.now r.plan.now buffer.old.glyphs in
         buffer.new ≡ record buffer.old { glyphs = changed } }
 {
     if !has_forms(rules.plan, rules.map) {
         return;
     }
-    if let Some(virama) = virama_glyph(rules.plan, rules.face) {
+    if let Some(virama) = virama_glyph(rules.plan, rules.font) {
         buffer.walk(&mut ByVirama { rules, virama });
     }
 }
@@ -66,7 +66,7 @@ impl<'a, F: hb_font_t> ByVirama<'a, F> {
     #[inline]
     fn consonant_position_from_face(&self, consonant: GlyphId) -> Position
         ensures { let r = self.now.rules.now in
-            let font = F.font r.face.now in
+            let font = F.font r.font.now in
             result ≡
             consonant_position font r.map.now r.plan.now self.now.virama consonant }
     {
@@ -85,7 +85,7 @@ impl<'a, F: hb_font_t> ByVirama<'a, F> {
     fn asked(&self, consonant: GlyphId) -> Known
         ensures consonant { result.consonant ≡ consonant }
         ensures known { let r = self.now.rules.now in
-            let font = F.font r.face.now in
+            let font = F.font r.font.now in
             IsKnown font r.map.now r.plan.now self.now.virama result }
     {
         Known {
@@ -98,13 +98,13 @@ impl<'a, F: hb_font_t> ByVirama<'a, F> {
     #[inline]
     fn position_of(&self, known: &mut [Known; KNOWN], consonant: GlyphId) -> Position
         requires { let r = self.now.rules.now in
-            let font = F.font r.face.now in
+            let font = F.font r.font.now in
             AllKnown font r.map.now r.plan.now self.now.virama known.old }
         ensures known { let r = self.now.rules.now in
-            let font = F.font r.face.now in
+            let font = F.font r.font.now in
             AllKnown font r.map.now r.plan.now self.now.virama known.new }
         ensures position { let r = self.now.rules.now in
-            let font = F.font r.face.now in
+            let font = F.font r.font.now in
             result ≡
             consonant_position font r.map.now r.plan.now self.now.virama consonant }
     {
@@ -122,13 +122,13 @@ impl<'a, F: hb_font_t> ByVirama<'a, F> {
     #[inline]
     fn position_one(&self, known: &mut [Known; KNOWN], glyph: &mut hb_glyph_info_t)
         requires { let r = self.now.rules.now in
-            let font = F.font r.face.now in
+            let font = F.font r.font.now in
             AllKnown font r.map.now r.plan.now self.now.virama known.old }
         ensures known { let r = self.now.rules.now in
-            let font = F.font r.face.now in
+            let font = F.font r.font.now in
             AllKnown font r.map.now r.plan.now self.now.virama known.new }
         ensures glyph { let r = self.now.rules.now in
-            let font = F.font r.face.now in
+            let font = F.font r.font.now in
             glyph.new ≡
             by_virama font r.map.now r.plan.now self.now.virama glyph.old }
     {
@@ -141,10 +141,10 @@ impl<'a, F: hb_font_t> ByVirama<'a, F> {
     #[inline]
     fn position_each(&self, first: Known, glyphs: &mut [hb_glyph_info_t])
         requires { let r = self.now.rules.now in
-            let font = F.font r.face.now in
+            let font = F.font r.font.now in
             IsKnown font r.map.now r.plan.now self.now.virama first }
         ensures { let r = self.now.rules.now in
-            let font = F.font r.face.now in
+            let font = F.font r.font.now in
             glyphs.new ≡
             map (by_virama font r.map.now r.plan.now self.now.virama) glyphs.old }
     {
@@ -158,7 +158,7 @@ impl<'a, F: hb_font_t> ByVirama<'a, F> {
     #[inline]
     fn position_all(&self, glyphs: &mut [hb_glyph_info_t])
         ensures { let r = self.now.rules.now in
-            let font = F.font r.face.now in
+            let font = F.font r.font.now in
             glyphs.new ≡
             map (by_virama font r.map.now r.plan.now self.now.virama) glyphs.old }
     {
@@ -174,11 +174,11 @@ impl<'a, F: hb_font_t> ByVirama<'a, F> {
     #[inline(always)]
     fn joins(&self, feature: &IndicWouldSubstituteFeature, consonant: GlyphId) -> bool
         ensures { let r = self.now.rules.now in
-            let font = F.font r.face.now in
+            let font = F.font r.font.now in
             result ≡ joins_virama font r.map.now feature.now self.now.virama consonant }
     {
-        feature.would_substitute(self.rules.map, self.rules.face, &[self.virama, consonant])
-            || feature.would_substitute(self.rules.map, self.rules.face, &[consonant, self.virama])
+        feature.would_substitute(self.rules.map, self.rules.font, &[self.virama, consonant])
+            || feature.would_substitute(self.rules.map, self.rules.font, &[consonant, self.virama])
     }
 }
 
@@ -190,7 +190,7 @@ impl<'a, F: hb_font_t> GlyphWalk for ByVirama<'a, F> {
 
     ghost walks = { λ v w gs hs.
         let r = v.rules.now in
-        hs ≡ map (by_virama (F.font r.face.now) r.map.now r.plan.now v.virama) gs };
+        hs ≡ map (by_virama (F.font r.font.now) r.map.now r.plan.now v.virama) gs };
 
     #[inline]
     fn walk(&mut self, glyphs: &mut [hb_glyph_info_t]) {

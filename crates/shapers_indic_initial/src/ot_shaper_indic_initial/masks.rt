@@ -38,10 +38,10 @@ pub(super) fn set_masks<F: hb_font_t>(
     glyphs: &mut [hb_glyph_info_t],
 )
     requires { base ≤ length glyphs.old }
-    ensures masks { let font = F.font rules.now.face.now in
+    ensures masks { let font = F.font rules.now.font.now in
         let r = initial_rules font rules.now.map.now rules.now.plan.now in
         glyphs.new ≡ with_initial_masks r script base glyphs.old }
-    ensures fits { let font = F.font rules.now.face.now in
+    ensures fits { let font = F.font rules.now.font.now in
         let r = initial_rules font rules.now.map.now rules.now.plan.now in
         bits_of r HALF < 2 ^ 32 }
 {
@@ -210,7 +210,7 @@ fn begins_eyelash(base: usize, glyphs: &[hb_glyph_info_t], index: usize) -> bool
 #[inline]
 fn set_pref_mask<F: hb_font_t>(rules: &Rules<F>, base: usize, glyphs: &mut [hb_glyph_info_t])
     requires { base ≤ length glyphs.old }
-    ensures { let font = F.font rules.now.face.now in
+    ensures { let font = F.font rules.now.font.now in
         let r = initial_rules font rules.now.map.now rules.now.plan.now in
         glyphs.new ≡ with_pref_mask r base glyphs.old }
 {
@@ -227,7 +227,7 @@ fn pref_pair<F: hb_font_t>(
     glyphs: &[hb_glyph_info_t],
 ) -> Option<usize>
     requires { base ≤ length glyphs.now }
-    ensures pair { let font = F.font rules.now.face.now in
+    ensures pair { let font = F.font rules.now.font.now in
         let r = initial_rules font rules.now.map.now rules.now.plan.now in
         result ≡ pref_pair r base glyphs.now }
     ensures within { MatchOption result (Unit {0}) (λ place. place + 2 ≤ length glyphs.now) }
@@ -238,7 +238,7 @@ fn pref_pair<F: hb_font_t>(
     }
     for i in base + 1..glyphs.len() - 1 {
         let pair = [number(&glyphs[i]), number(&glyphs[i + 1])];
-        if plan.pref.would_substitute(rules.map, rules.face, &pair) {
+        if plan.pref.would_substitute(rules.map, rules.font, &pair) {
             return Some(i);
         }
     }

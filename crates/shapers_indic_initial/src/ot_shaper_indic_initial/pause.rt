@@ -82,7 +82,7 @@ pub fn initial_reordering<F: hb_font_t>(
     let rules = Rules {
         plan: indic_in(plan),
         map: &plan.ot_map,
-        face,
+        font: face,
     };
     update_consonant_positions(&rules, buffer);
     let order = InitialOrder { rules: &rules };

@@ -35,7 +35,7 @@ pub(super) fn prepare_for_order<F: hb_font_t>(
     ensures end { result.end ≡ end }
     ensures unlisted { MovesUnlisted result }
     ensures same_length { length buffer.new.glyphs ≡ length buffer.old.glyphs }
-    ensures reordered { let font = F.font rules.now.face.now in
+    ensures reordered { let font = F.font rules.now.font.now in
         let r = initial_rules font rules.now.map.now rules.now.plan.now in
         let meaning = positioned r buffer.old.script in
         let steps = first_steps r buffer.old.script in
@@ -67,7 +67,7 @@ fn set_positions<F: hb_font_t>(
     requires unlisted { IsUnlisted first start end }
     ensures unlisted { IsUnlisted result start end }
     ensures same_length { length buffer.new.glyphs ≡ length buffer.old.glyphs }
-    ensures reordered { let font = F.font rules.now.face.now in
+    ensures reordered { let font = F.font rules.now.font.now in
         let r = initial_rules font rules.now.map.now rules.now.plan.now in
         PositionsSet r first result start end buffer.old buffer.new }
 {
@@ -92,7 +92,7 @@ fn set_positions_of_moved<F: hb_font_t>(
     requires unlisted { IsUnlisted first start end }
     ensures unlisted { IsUnlisted result start end }
     ensures same_length { length buffer.new.glyphs ≡ length buffer.old.glyphs }
-    ensures reordered { let font = F.font rules.now.face.now in
+    ensures reordered { let font = F.font rules.now.font.now in
         let r = initial_rules font rules.now.map.now rules.now.plan.now in
         PositionsSet r first result start end buffer.old buffer.new }
 {
@@ -113,7 +113,7 @@ fn set_positions_behind<F: hb_font_t>(
     requires unlisted { IsUnlisted first start end }
     ensures unlisted { IsUnlisted result start end }
     ensures same_length { length buffer.new.glyphs ≡ length buffer.old.glyphs }
-    ensures reordered { let font = F.font rules.now.face.now in
+    ensures reordered { let font = F.font rules.now.font.now in
         let r = initial_rules font rules.now.map.now rules.now.plan.now in
         PositionsSet r first result start end buffer.old buffer.new }
 {
@@ -265,7 +265,7 @@ impl<'a, F: hb_font_t> GlyphWalk for PositionsByBase<'a, F> {
 
     ghost walks = { λ v w gs hs.
         let rules = v.rules.now in
-        let r = initial_rules (F.font rules.face.now) rules.map.now rules.plan.now in
+        let r = initial_rules (F.font rules.font.now) rules.map.now rules.plan.now in
         (w.base.place ≡ base_place r gs) × (w.base.has_reph ≡ has_indic_reph r gs)
         × (hs ≡ by_base w.base.place w.base.has_reph gs) };
 

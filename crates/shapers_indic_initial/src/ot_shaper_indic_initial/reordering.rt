@@ -46,7 +46,7 @@ impl<'a, F: hb_font_t> Reorder for InitialOrder<'a, F> {
 
     ghost meaning = { λ it.
         let rules = it.rules.now in
-        initial_order (initial_rules (F.font rules.face.now) rules.map.now rules.plan.now) };
+        initial_order (initial_rules (F.font rules.font.now) rules.map.now rules.plan.now) };
 
     ghost takes = { λ _ _. Unit {0} };
 
@@ -54,7 +54,7 @@ impl<'a, F: hb_font_t> Reorder for InitialOrder<'a, F> {
 
     ghost relation = { λ it.
         let rules = it.rules.now in
-        InitialRelation (initial_rules (F.font rules.face.now) rules.map.now rules.plan.now) };
+        InitialRelation (initial_rules (F.font rules.font.now) rules.map.now rules.plan.now) };
 
     #[inline]
     fn reorder(
@@ -76,18 +76,18 @@ impl<'a, F: hb_font_t> Reorder for InitialOrder<'a, F> {
 
     ghost permutes = { λ it script.
         let rules = it.rules.now in
-        let r = initial_rules (F.font rules.face.now) rules.map.now rules.plan.now in
+        let r = initial_rules (F.font rules.font.now) rules.map.now rules.plan.now in
         numbers_kept (initial_order r script) (initial_steps r script) (initial_laws r script) };
 
     ghost orders = { λ it s e old new.
         let rules = it.rules.now in
-        let r = initial_rules (F.font rules.face.now) rules.map.now rules.plan.now in
+        let r = initial_rules (F.font rules.font.now) rules.map.now rules.plan.now in
         ordered_by_steps (initial_order r old.script) (initial_steps r old.script) s e old new };
 
     ghost stays = { λ it.
         let rules = it.rules.now in
         each_may (InitialRelation
-        (initial_rules (F.font rules.face.now) rules.map.now rules.plan.now)) };
+        (initial_rules (F.font rules.font.now) rules.map.now rules.plan.now)) };
 }
 
 impl<'a, F: hb_font_t> ReorderBySteps for InitialOrder<'a, F> {
@@ -97,11 +97,11 @@ impl<'a, F: hb_font_t> ReorderBySteps for InitialOrder<'a, F> {
 
     ghost steps = { λ it.
         let rules = it.rules.now in
-        initial_steps (initial_rules (F.font rules.face.now) rules.map.now rules.plan.now) };
+        initial_steps (initial_rules (F.font rules.font.now) rules.map.now rules.plan.now) };
 
     ghost laws = { λ it.
         let rules = it.rules.now in
-        initial_laws (initial_rules (F.font rules.face.now) rules.map.now rules.plan.now) };
+        initial_laws (initial_rules (F.font rules.font.now) rules.map.now rules.plan.now) };
 
     ghost leads = { λ _ _ _ _ _ done. done };
 
@@ -117,7 +117,7 @@ impl<'a, F: hb_font_t> InitialOrder<'a, F> {
         requires base { base ≡ ordered_base (stretch_of start end buffer.old.glyphs) }
         requires within { base ≤ end - start }
         ensures { let rules = self.now.rules.now in
-            let r = initial_rules (F.font rules.face.now) rules.map.now rules.plan.now in
+            let r = initial_rules (F.font rules.font.now) rules.map.now rules.plan.now in
             SyllableReordered (masked_in_order r buffer.old.script) (λ _. [])
             start end buffer.old buffer.new }
     {
@@ -156,7 +156,7 @@ impl<'a, F: hb_font_t> GlyphWalk for Masks<'a, F> {
 
     ghost walks = { λ v w gs hs.
         let rules = v.rules.now in
-        let r = initial_rules (F.font rules.face.now) rules.map.now rules.plan.now in
+        let r = initial_rules (F.font rules.font.now) rules.map.now rules.plan.now in
         (hs ≡ with_stretch v.start v.end (masked_in_order r v.script) gs)
         × (bits_of r HALF < 2 ^ 32) };
 

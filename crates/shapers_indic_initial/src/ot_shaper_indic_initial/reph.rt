@@ -19,7 +19,7 @@ use shapers_indic::ot_shaper_indic::indic_feature::RPHF;
 /// Ra, H, ZWJ (0C30 0C4D 200D 0C15), and Malayalam has a character for it (0D4E 0D15).
 #[inline]
 pub(crate) fn reph_len<F: hb_font_t>(rules: &Rules<F>, glyphs: &[hb_glyph_info_t]) -> usize
-    ensures len { let font = F.font rules.now.face.now in
+    ensures len { let font = F.font rules.now.font.now in
         let r = initial_rules font rules.now.map.now rules.now.plan.now in
         result ≡ indic_reph_len r glyphs.now }
     ensures within { result ≤ length glyphs.now }
@@ -74,17 +74,17 @@ fn third_lets_reph(mode: RephMode, glyphs: &[hb_glyph_info_t]) -> bool
 #[inline]
 fn is_formed<F: hb_font_t>(rules: &Rules<F>, glyphs: &[hb_glyph_info_t]) -> bool
     requires { 3 ≤ length glyphs.now }
-    ensures { let font = F.font rules.now.face.now in
+    ensures { let font = F.font rules.now.font.now in
         let r = initial_rules font rules.now.map.now rules.now.plan.now in
         result ≡ reph_is_formed r.config.reph_mode r.forms_reph glyphs.now }
 {
     let opening = [number(&glyphs[0]), number(&glyphs[1]), number(&glyphs[2])];
     let rphf = &rules.plan.rphf;
     match rules.plan.config.reph_mode {
-        RephMode::Implicit => rphf.would_substitute(rules.map, rules.face, &opening[..2]),
+        RephMode::Implicit => rphf.would_substitute(rules.map, rules.font, &opening[..2]),
         RephMode::Explicit => {
-            rphf.would_substitute(rules.map, rules.face, &opening[..2])
-                || rphf.would_substitute(rules.map, rules.face, &opening)
+            rphf.would_substitute(rules.map, rules.font, &opening[..2])
+                || rphf.would_substitute(rules.map, rules.font, &opening)
         }
         RephMode::LogRepha => false,
     }

@@ -9,5 +9,5 @@ use shapers_base::plan::indic_shape_plan_t;
 pub(super) struct Rules<'a, F: hb_font_t> {
     pub(super) plan: &'a indic_shape_plan_t,
     pub(super) map: &'a hb_ot_map_t,
-    pub(super) face: &'a F,
+    pub(super) font: &'a F,
 }

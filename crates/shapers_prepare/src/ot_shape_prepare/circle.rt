@@ -27,23 +27,23 @@ const DOTTED_CIRCLE: u32 = 0x25CC;
 /// nothing has changed then.
 pub fn insert_dotted_circle<U: UnicodeProperties, F: hb_font_t>(
     unicode: &U,
-    face: &F,
+    font: &F,
     buffer: &mut hb_buffer_t,
 ) -> Result<(), ShaperError>
     requires { buffer.old.positions ≡ [] }
     ensures ok { let p = U.properties unicode.now in
-        let text = with_first_circle p (F.font face.now) buffer.old in
+        let text = with_first_circle p (F.font font.now) buffer.old in
         OnOk result (buffer.new ≡ record buffer.old { glyphs = text }) }
     ensures length { let p = U.properties unicode.now in
-        let text = with_first_circle p (F.font face.now) buffer.old in
+        let text = with_first_circle p (F.font font.now) buffer.old in
         RefusesLength buffer.old.max_len (length text) result }
     ensures err { OnErr result (buffer.new ≡ buffer.old) }
     ensures without_memory { let p = U.properties unicode.now in
-        with_first_circle p (F.font face.now) buffer.old ≡ buffer.old.glyphs → IsOk result }
+        with_first_circle p (F.font font.now) buffer.old ≡ buffer.old.glyphs → IsOk result }
 {
     // so that a return with nothing changed keeps the promise on lengths, too
     prove!(buffer.len() <= buffer.max_len());
-    if !wants_first_circle(buffer) || !face.has_glyph(DOTTED_CIRCLE) {
+    if !wants_first_circle(buffer) || !font.has_glyph(DOTTED_CIRCLE) {
         return Ok(());
     }
     let circle = first_circle(unicode, buffer.get(0));

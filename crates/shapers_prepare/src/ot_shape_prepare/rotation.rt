@@ -25,34 +25,34 @@ pub struct CharRotation {
 /// compatibility mappings.)
 pub fn rotate_chars<U: UnicodeProperties, F: hb_font_t>(
     unicode: &U,
-    face: &F,
+    font: &F,
     rotation: &CharRotation,
     buffer: &mut hb_buffer_t,
 )
     ensures { let p = U.properties unicode.now in
-        let text = map (rotated_glyph p (F.font face.now) rotation.now) buffer.old.glyphs in
+        let text = map (rotated_glyph p (F.font font.now) rotation.now) buffer.old.glyphs in
         buffer.new ≡ record buffer.old { glyphs = text } }
 {
     if !rotates(*rotation) {
         return;
     }
-    rotate_each(unicode, face, *rotation, buffer);
+    rotate_each(unicode, font, *rotation, buffer);
 }
 
 // Rotates each character, in a text that goes in such a direction.
 fn rotate_each<U: UnicodeProperties, F: hb_font_t>(
     unicode: &U,
-    face: &F,
+    font: &F,
     rotation: CharRotation,
     buffer: &mut hb_buffer_t,
 )
     ensures { let p = U.properties unicode.now in
-        let text = map (rotated_glyph p (F.font face.now) rotation) buffer.old.glyphs in
+        let text = map (rotated_glyph p (F.font font.now) rotation) buffer.old.glyphs in
         buffer.new ≡ record buffer.old { glyphs = text } }
 {
     let rotating = Rotating {
         unicode,
-        face,
+        font,
         rotation,
     };
     // (a font that panics leaves the empty buffer, and no text with some characters rotated)
@@ -73,22 +73,22 @@ fn rotates(rotation: CharRotation) -> bool
 #[derive(Drop)]
 struct Rotating<'a, U: UnicodeProperties, F: hb_font_t> {
     unicode: &'a U,
-    face: &'a F,
+    font: &'a F,
     rotation: CharRotation,
 }
 
 impl<'a, U: UnicodeProperties, F: hb_font_t> GlyphChange for Rotating<'a, U, F> {
     ghost use Rattle.shapers_prepare.specs.Rotation.{rotated_glyph};
 
-    ghost changed = { λ r g. rotated_glyph (U.properties r.unicode.now) (F.font r.face.now) r.rotation g };
+    ghost changed = { λ r g. rotated_glyph (U.properties r.unicode.now) (F.font r.font.now) r.rotation g };
 
     #[inline]
     fn change(&self, glyph: &mut hb_glyph_info_t) {
         if goes_backward(self.rotation.direction) {
-            mirror(self.unicode, self.face, self.rotation.rtlm_mask, glyph);
+            mirror(self.unicode, self.font, self.rotation.rtlm_mask, glyph);
         }
         if goes_vertically(self.rotation.direction) && !self.rotation.has_vert {
-            stand_upright(self.unicode, self.face, glyph);
+            stand_upright(self.unicode, self.font, glyph);
         }
     }
 }
@@ -97,14 +97,14 @@ impl<'a, U: UnicodeProperties, F: hb_font_t> GlyphChange for Rotating<'a, U, F> 
 #[inline]
 fn mirror<U: UnicodeProperties, F: hb_font_t>(
     unicode: &U,
-    face: &F,
+    font: &F,
     rtlm_mask: u32,
     glyph: &mut hb_glyph_info_t,
 )
     ensures { let p = U.properties unicode.now in
-        glyph.new ≡ mirrored_glyph p (F.font face.now) rtlm_mask glyph.old }
+        glyph.new ≡ mirrored_glyph p (F.font font.now) rtlm_mask glyph.old }
 {
-    match which_font_has(face, unicode.mirrored(glyph.glyph_id)) {
+    match which_font_has(font, unicode.mirrored(glyph.glyph_id)) {
         Some(c) => glyph.glyph_id = c,
         None => glyph.mask |= rtlm_mask,
     }
@@ -114,24 +114,24 @@ fn mirror<U: UnicodeProperties, F: hb_font_t>(
 #[inline]
 fn stand_upright<U: UnicodeProperties, F: hb_font_t>(
     unicode: &U,
-    face: &F,
+    font: &F,
     glyph: &mut hb_glyph_info_t,
 )
     ensures { let p = U.properties unicode.now in
-        glyph.new ≡ upright_glyph p (F.font face.now) glyph.old }
+        glyph.new ≡ upright_glyph p (F.font font.now) glyph.old }
 {
-    if let Some(c) = which_font_has(face, unicode.vertical_form(glyph.glyph_id)) {
+    if let Some(c) = which_font_has(font, unicode.vertical_form(glyph.glyph_id)) {
         glyph.glyph_id = c;
     }
 }
 
 // A character that the font has, if there is one.
 #[inline]
-fn which_font_has<F: hb_font_t>(face: &F, c: Option<u32>) -> Option<u32>
-    ensures { result ≡ which_font_has (F.font face.now) c }
+fn which_font_has<F: hb_font_t>(font: &F, c: Option<u32>) -> Option<u32>
+    ensures { result ≡ which_font_has (F.font font.now) c }
 {
     match c {
-        Some(c) if face.has_glyph(c) => Some(c),
+        Some(c) if font.has_glyph(c) => Some(c),
         _ => None,
     }
 }

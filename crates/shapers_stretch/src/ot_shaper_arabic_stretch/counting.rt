@@ -16,7 +16,7 @@ use shapers_base::plan::StretchStart;
 /// bits.
 #[inline]
 pub(super) fn count_added<F: hb_font_t>(
-    face: &F,
+    font: &F,
     choice: StretchStart,
     right_to_left: bool,
     glyphs: &[hb_glyph_info_t],
@@ -25,14 +25,14 @@ pub(super) fn count_added<F: hb_font_t>(
     requires both { length glyphs.now ≡ length positions.now }
     requires numbers { AllByRecursion (λ g. g.glyph_id ≤ 65535) glyphs.now }
     ensures { let how : Laying =
-        record { font = F.font face.now; choice = choice; right_to_left = right_to_left } in
+        record { font = F.font font.now; choice = choice; right_to_left = right_to_left } in
         CountsAdded how (zip glyphs.now positions.now) result }
 {
     let mut added = 0;
     let mut end = glyphs.len();
     while 0 < end {
         let last = count_last(
-            face,
+            font,
             choice,
             right_to_left,
             &glyphs[..end],
@@ -54,7 +54,7 @@ struct Counted {
 // Counts the last part of a text, unless one of its numbers doesn't fit 32 bits.
 #[inline]
 fn count_last<F: hb_font_t>(
-    face: &F,
+    font: &F,
     choice: StretchStart,
     right_to_left: bool,
     glyphs: &[hb_glyph_info_t],
@@ -64,7 +64,7 @@ fn count_last<F: hb_font_t>(
     requires both { length glyphs.now ≡ length positions.now }
     requires numbers { AllByRecursion (λ g. g.glyph_id ≤ 65535) glyphs.now }
     ensures { let how : Laying =
-        record { font = F.font face.now; choice = choice; right_to_left = right_to_left } in
+        record { font = F.font font.now; choice = choice; right_to_left = right_to_left } in
         let cs = zip glyphs.now positions.now in
         MatchOption result (overflows how cs ≡ true) (λ c. IsCounted how cs c.start c.added
         × (c.start < length glyphs.now) × (c.added < 2 ^ 31)) }
@@ -76,27 +76,27 @@ fn count_last<F: hb_font_t>(
         return Some(Counted { start, added: 0 });
     }
     let word = &positions[part.word..part.tiles];
-    let added = count_sequence(face, choice, right_to_left, word, tiles)?;
+    let added = count_sequence(font, choice, right_to_left, word, tiles)?;
     Some(Counted { start, added })
 }
 
 // How many copies a sequence adds, unless one of its numbers doesn't fit 32 bits.
 #[inline]
 fn count_sequence<F: hb_font_t>(
-    face: &F,
+    font: &F,
     choice: StretchStart,
     right_to_left: bool,
     word: &[GlyphPosition],
     tiles: &[hb_glyph_info_t],
 ) -> Option<usize>
     requires numbers { AllByRecursion (λ g. g.glyph_id ≤ 65535) tiles.now }
-    ensures added { let z = measured (F.font face.now) word.now tiles.now in
-        result ≡ sequence_added choice right_to_left (F.font face.now) z tiles.now }
+    ensures added { let z = measured (F.font font.now) word.now tiles.now in
+        result ≡ sequence_added choice right_to_left (F.font font.now) z tiles.now }
     ensures bound { MatchOption result (0 ≤ 0) (λ n. n < 2 ^ 31) }
 {
-    let run = measure(face, word, tiles)?;
+    let run = measure(font, word, tiles)?;
     let lay = lay_of(choice, right_to_left, run)?;
-    if offsets_fit(face, right_to_left, lay, tiles) {
+    if offsets_fit(font, right_to_left, lay, tiles) {
         Some(lay.added * run.repeaters)
     } else {
         None
@@ -106,7 +106,7 @@ fn count_sequence<F: hb_font_t>(
 // Whether the offsets of all copies of a sequence fit 32 bits.
 #[inline]
 fn offsets_fit<F: hb_font_t>(
-    face: &F,
+    font: &F,
     right_to_left: bool,
     lay: Lay,
     tiles: &[hb_glyph_info_t],
@@ -114,13 +114,13 @@ fn offsets_fit<F: hb_font_t>(
     requires lay { IsLay lay }
     requires numbers { AllByRecursion (λ g. g.glyph_id ≤ 65535) tiles.now }
     ensures { result ≡ offsets_fit right_to_left lay.start
-        (sequence_moves (F.font face.now) lay tiles.now) }
+        (sequence_moves (F.font font.now) lay tiles.now) }
 {
     let mut pen = lay.start;
     let mut left = tiles.len();
     while 0 < left {
         left -= 1;
-        match behind_tile(face, right_to_left, lay, pen, &tiles[left]) {
+        match behind_tile(font, right_to_left, lay, pen, &tiles[left]) {
             Some(behind) => pen = behind,
             None => return false,
         }
@@ -131,7 +131,7 @@ fn offsets_fit<F: hb_font_t>(
 // Where the pen is behind the copies of a tile, unless an offset of theirs doesn't fit 32 bits.
 #[inline]
 fn behind_tile<F: hb_font_t>(
-    face: &F,
+    font: &F,
     right_to_left: bool,
     lay: Lay,
     pen: i64,
@@ -140,9 +140,9 @@ fn behind_tile<F: hb_font_t>(
     requires lay { IsLay lay }
     requires pen { IsNumber pen }
     requires number { tile.now.glyph_id ≤ 65535 }
-    ensures { WalksPen right_to_left pen (moves_of (F.font face.now) lay tile.now) result }
+    ensures { WalksPen right_to_left pen (moves_of (F.font font.now) lay tile.now) result }
 {
-    let width = advance_of(face, tile);
+    let width = advance_of(font, tile);
     let behind = behind_copy(right_to_left, pen, i64::from(width))?;
     if !repeats(tile) {
         return Some(behind);

@@ -46,17 +46,17 @@ pub(super) fn fits_i32(x: i64) -> bool
 /// what the fixed tiles leave of the word doesn't.
 #[inline]
 pub(super) fn measure<F: hb_font_t>(
-    face: &F,
+    font: &F,
     word: &[GlyphPosition],
     tiles: &[hb_glyph_info_t],
 ) -> Option<TileSequence>
     requires { AllByRecursion (λ g. g.glyph_id ≤ 65535) tiles.now }
-    ensures { MeasuresSequence (measured (F.font face.now) word.now tiles.now) result }
+    ensures { MeasuresSequence (measured (F.font font.now) word.now tiles.now) result }
 {
     if word.len() <= SHORT && tiles.len() <= SHORT {
-        Some(measure_short(face, word, tiles))
+        Some(measure_short(font, word, tiles))
     } else {
-        measure_long(face, word, tiles)
+        measure_long(font, word, tiles)
     }
 }
 
@@ -66,21 +66,21 @@ const SHORT: usize = 0x7FFF_FFFF;
 // What few tiles and a short word before them measure, whose sums always fit.
 #[inline]
 fn measure_short<F: hb_font_t>(
-    face: &F,
+    font: &F,
     word: &[GlyphPosition],
     tiles: &[hb_glyph_info_t],
 ) -> TileSequence
     requires word { length word.now < 2 ^ 31 }
     requires tiles { length tiles.now < 2 ^ 31 }
     requires numbers { AllByRecursion (λ g. g.glyph_id ≤ 65535) tiles.now }
-    ensures { result ≡ measured (F.font face.now) word.now tiles.now }
+    ensures { result ≡ measured (F.font font.now) word.now tiles.now }
 {
     let word = short_advance(word);
     let mut fixed = 0;
     let mut repeating = 0;
     let mut repeaters = 0;
     for glyph in tiles {
-        let width = i64::from(advance_of(face, glyph));
+        let width = i64::from(advance_of(font, glyph));
         if repeats(glyph) {
             repeating += width;
             repeaters += 1;
@@ -99,19 +99,19 @@ fn measure_short<F: hb_font_t>(
 // The same of any number of tiles, and a word of any length, piece by piece.
 #[inline(never)]
 fn measure_long<F: hb_font_t>(
-    face: &F,
+    font: &F,
     word: &[GlyphPosition],
     tiles: &[hb_glyph_info_t],
 ) -> Option<TileSequence>
     requires { AllByRecursion (λ g. g.glyph_id ≤ 65535) tiles.now }
-    ensures { MeasuresSequence (measured (F.font face.now) word.now tiles.now) result }
+    ensures { MeasuresSequence (measured (F.font font.now) word.now tiles.now) result }
 {
     let word = total_advance(word);
     let mut fixed = 0;
     let mut repeating = 0;
     let mut repeaters = 0;
     for piece in tiles.chunks(SHORT) {
-        let run = measure_short(face, &[], piece);
+        let run = measure_short(font, &[], piece);
         fixed += i128::from(run.fixed);
         repeating += i128::from(run.repeating);
         repeaters += run.repeaters;
@@ -133,11 +133,11 @@ fn narrowed(sum: i128) -> Option<i64>
 
 /// How far a glyph of the font moves the pen.
 #[inline]
-pub(super) fn advance_of<F: hb_font_t>(face: &F, glyph: &hb_glyph_info_t) -> i32
+pub(super) fn advance_of<F: hb_font_t>(font: &F, glyph: &hb_glyph_info_t) -> i32
     requires { glyph.now.glyph_id ≤ 65535 }
-    ensures { result ≡ width_of (F.font face.now) glyph.now }
+    ensures { result ≡ width_of (F.font font.now) glyph.now }
 {
-    face.glyph_h_advance(GlyphId(u16::try_from(glyph.glyph_id).unwrap()))
+    font.glyph_h_advance(GlyphId(u16::try_from(glyph.glyph_id).unwrap()))
 }
 
 // The advance of a short word.
@@ -168,17 +168,17 @@ fn total_advance(word: &[GlyphPosition]) -> i128
 /// 32 bits.
 #[inline]
 pub(super) fn lay_of_sequence<F: hb_font_t>(
-    face: &F,
+    font: &F,
     choice: StretchStart,
     right_to_left: bool,
     word: &[GlyphPosition],
     tiles: &[hb_glyph_info_t],
 ) -> Option<Lay>
     requires { AllByRecursion (λ g. g.glyph_id ≤ 65535) tiles.now }
-    ensures { let z = measured (F.font face.now) word.now tiles.now in
+    ensures { let z = measured (F.font font.now) word.now tiles.now in
         result ≡ lay_if_fits choice right_to_left z }
 {
-    let run = measure(face, word, tiles)?;
+    let run = measure(font, word, tiles)?;
     lay_of(choice, right_to_left, run)
 }
 

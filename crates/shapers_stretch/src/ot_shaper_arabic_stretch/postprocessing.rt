@@ -53,15 +53,15 @@ pub fn postprocess_glyphs<F: hb_font_t>(
 // The same, where stretches begin so.
 #[inline]
 fn stretch_marks<F: hb_font_t>(
-    face: &F,
+    font: &F,
     choice: StretchStart,
     buffer: &mut hb_buffer_t,
 ) -> Result<(), ShaperError>
     requires positions { length buffer.old.positions ≡ length buffer.old.glyphs }
     requires numbers { All (λ g. g.glyph_id ≤ 65535) buffer.old.glyphs }
-    ensures ok { OnOk result (buffer.new ≡ marks_stretched (F.font face.now) choice buffer.old) }
-    ensures refusal { let after = marks_stretched (F.font face.now) choice buffer.old in
-        Refuses (stretch_refusal (F.font face.now) choice buffer.old) buffer.old.max_len
+    ensures ok { OnOk result (buffer.new ≡ marks_stretched (F.font font.now) choice buffer.old) }
+    ensures refusal { let after = marks_stretched (F.font font.now) choice buffer.old in
+        Refuses (stretch_refusal (F.font font.now) choice buffer.old) buffer.old.max_len
         (length after.glyphs) result }
     ensures err { OnErr result (buffer.new ≡ buffer.old) }
     ensures unmarked { buffer.old.stch ≡ false → IsOk result }
@@ -73,7 +73,7 @@ fn stretch_marks<F: hb_font_t>(
     // (a font that panics leaves the empty buffer, and none that is reversed or half laid)
     let empty = hb_buffer_t::new(buffer.alloc(), buffer.max_len());
     let mut text = mem::replace(buffer, empty);
-    let result = stretch_in_order(face, choice, &mut text);
+    let result = stretch_in_order(font, choice, &mut text);
     *buffer = text;
     result
 }
@@ -81,60 +81,60 @@ fn stretch_marks<F: hb_font_t>(
 // Stretches a text that has tiles, in working order: from right to left it stands in it.
 #[inline]
 fn stretch_in_order<F: hb_font_t>(
-    face: &F,
+    font: &F,
     choice: StretchStart,
     buffer: &mut hb_buffer_t,
 ) -> Result<(), ShaperError>
     requires marked { buffer.old.stch ≡ true }
     requires positions { length buffer.old.positions ≡ length buffer.old.glyphs }
     requires numbers { All (λ g. g.glyph_id ≤ 65535) buffer.old.glyphs }
-    ensures ok { OnOk result (buffer.new ≡ marks_stretched (F.font face.now) choice buffer.old) }
-    ensures refusal { let after = marks_stretched (F.font face.now) choice buffer.old in
-        Refuses (stretch_refusal (F.font face.now) choice buffer.old) buffer.old.max_len
+    ensures ok { OnOk result (buffer.new ≡ marks_stretched (F.font font.now) choice buffer.old) }
+    ensures refusal { let after = marks_stretched (F.font font.now) choice buffer.old in
+        Refuses (stretch_refusal (F.font font.now) choice buffer.old) buffer.old.max_len
         (length after.glyphs) result }
     ensures err { OnErr result (buffer.new ≡ buffer.old) }
 {
     match buffer.direction() {
-        Direction::RightToLeft => stretch_text(face, choice, true, buffer),
-        _ => stretch_backwards(face, choice, buffer),
+        Direction::RightToLeft => stretch_text(font, choice, true, buffer),
+        _ => stretch_backwards(font, choice, buffer),
     }
 }
 
 // Stretches a text that is in working order backwards.
 #[inline]
 fn stretch_backwards<F: hb_font_t>(
-    face: &F,
+    font: &F,
     choice: StretchStart,
     buffer: &mut hb_buffer_t,
 ) -> Result<(), ShaperError>
     requires positions { length buffer.old.positions ≡ length buffer.old.glyphs }
     requires numbers { All (λ g. g.glyph_id ≤ 65535) buffer.old.glyphs }
-    ensures ok { let how = laying_by (F.font face.now) choice false in
+    ensures ok { let how = laying_by (F.font font.now) choice false in
         OnOk result (buffer.new ≡ with_cells (reverse (stretched how
         (reverse (cells buffer.old)))) buffer.old) }
-    ensures refusal { let how = laying_by (F.font face.now) choice false in
+    ensures refusal { let how = laying_by (F.font font.now) choice false in
         let cs = reverse (cells buffer.old) in
         Refuses (text_refusal how cs) buffer.old.max_len (length (stretched how cs)) result }
     ensures err { OnErr result (buffer.new ≡ buffer.old) }
 {
     buffer.reverse();
-    let result = stretch_text(face, choice, false, buffer);
+    let result = stretch_text(font, choice, false, buffer);
     buffer.reverse();
     result
 }
 
 // Stretches a text that stands in working order: all room is made before anything is written.
 fn stretch_text<F: hb_font_t>(
-    face: &F,
+    font: &F,
     choice: StretchStart,
     right_to_left: bool,
     buffer: &mut hb_buffer_t,
 ) -> Result<(), ShaperError>
     requires positions { length buffer.old.positions ≡ length buffer.old.glyphs }
     requires numbers { All (λ g. g.glyph_id ≤ 65535) buffer.old.glyphs }
-    ensures ok { let how = laying_by (F.font face.now) choice right_to_left in
+    ensures ok { let how = laying_by (F.font font.now) choice right_to_left in
         OnOk result (buffer.new ≡ with_cells (stretched how (cells buffer.old)) buffer.old) }
-    ensures refusal { let how = laying_by (F.font face.now) choice right_to_left in
+    ensures refusal { let how = laying_by (F.font font.now) choice right_to_left in
         let cs = cells buffer.old in
         Refuses (text_refusal how cs) buffer.old.max_len (length (stretched how cs)) result }
     ensures err { OnErr result (buffer.new ≡ buffer.old) }
@@ -142,13 +142,13 @@ fn stretch_text<F: hb_font_t>(
     let len = buffer.len();
     let glyphs = buffer.glyphs();
     let positions = buffer.positions();
-    let Some(added) = count_added(face, choice, right_to_left, glyphs, positions) else {
+    let Some(added) = count_added(font, choice, right_to_left, glyphs, positions) else {
         return Err(ShaperError::StretchOverflow);
     };
     match make_room(buffer, added) {
         Ok(()) => {
             buffer.walk_positioned(&TileLaying {
-                face,
+                font,
                 choice,
                 right_to_left,
                 len,

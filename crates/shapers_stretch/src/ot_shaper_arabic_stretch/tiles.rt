@@ -21,7 +21,7 @@ use std::ops::Range;
 /// order, and which are just as long as the stretched text.
 #[derive(Clone, Copy)]
 pub(super) struct TileLaying<'a, F> {
-    pub(super) face: &'a F,
+    pub(super) font: &'a F,
     pub(super) choice: StretchStart,
     pub(super) right_to_left: bool,
     pub(super) len: usize,
@@ -34,10 +34,10 @@ impl<'a, F: hb_font_t> PositionedWalk for TileLaying<'a, F> {
     ghost use Rattle.shapers_stretch.specs.Stretch.{stretched};
 
     ghost can_walk = { λ w gs ps.
-        HasRoomForTiles (laying_by (F.font w.face.now) w.choice w.right_to_left) gs ps w.len };
+        HasRoomForTiles (laying_by (F.font w.font.now) w.choice w.right_to_left) gs ps w.len };
 
     ghost walks = { λ w gs ps hs qs.
-        let how = laying_by (F.font w.face.now) w.choice w.right_to_left in
+        let how = laying_by (F.font w.font.now) w.choice w.right_to_left in
         let cs = stretched how (text_in_slices w.len gs ps) in
         (hs ≡ glyphs_of cs) × (qs ≡ positions_of cs) };
 
@@ -52,14 +52,14 @@ impl<'a, F: hb_font_t> TileLaying<'a, F> {
     #[inline]
     fn lay_all(&self, glyphs: &mut [hb_glyph_info_t], positions: &mut [GlyphPosition])
         requires { HasRoomForTiles
-            (laying_by (F.font self.now.face.now) self.now.choice self.now.right_to_left)
+            (laying_by (F.font self.now.font.now) self.now.choice self.now.right_to_left)
             glyphs.old positions.old self.now.len }
         ensures glyphs { let how =
-            laying_by (F.font self.now.face.now) self.now.choice self.now.right_to_left in
+            laying_by (F.font self.now.font.now) self.now.choice self.now.right_to_left in
             glyphs.new ≡ glyphs_of (stretched how
             (text_in_slices self.now.len glyphs.old positions.old)) }
         ensures positions { let how =
-            laying_by (F.font self.now.face.now) self.now.choice self.now.right_to_left in
+            laying_by (F.font self.now.font.now) self.now.choice self.now.right_to_left in
             positions.new ≡ positions_of (stretched how
             (text_in_slices self.now.len glyphs.old positions.old)) }
     {
@@ -83,10 +83,10 @@ impl<'a, F: hb_font_t> TileLaying<'a, F> {
     ) -> Unlaid
         requires some { 0 < unlaid.end }
         requires unlaid { IsUnlaid
-            (laying_by (F.font self.now.face.now) self.now.choice self.now.right_to_left)
+            (laying_by (F.font self.now.font.now) self.now.choice self.now.right_to_left)
             glyphs.old positions.old unlaid.end unlaid.place }
         ensures laid { let how =
-            laying_by (F.font self.now.face.now) self.now.choice self.now.right_to_left in
+            laying_by (F.font self.now.font.now) self.now.choice self.now.right_to_left in
             let whole = stretched_whole how glyphs.old positions.old unlaid.end unlaid.place in
             IsLaidFrom how whole glyphs.new positions.new result.end result.place }
         ensures shorter { result.end < unlaid.end }
@@ -117,7 +117,7 @@ impl<'a, F: hb_font_t> TileLaying<'a, F> {
     ) -> usize
         requires word { part.word ≤ part.tiles }
         requires run { let how =
-            laying_by (F.font self.now.face.now) self.now.choice self.now.right_to_left in
+            laying_by (F.font self.now.font.now) self.now.choice self.now.right_to_left in
             let old = zip glyphs.old positions.old in
             let word = stretch_of part.word part.tiles old in
             let tiles = stretch_of part.tiles unlaid.end old in
@@ -130,7 +130,7 @@ impl<'a, F: hb_font_t> TileLaying<'a, F> {
             take part.tiles (zip glyphs.new positions.new) ≡ take part.word old
             ++ take (length word) whole }
         ensures laid { let how =
-            laying_by (F.font self.now.face.now) self.now.choice self.now.right_to_left in
+            laying_by (F.font self.now.font.now) self.now.choice self.now.right_to_left in
             let old = zip glyphs.old positions.old in
             let word = stretch_of part.word part.tiles old in
             let tiles = stretch_of part.tiles unlaid.end old in
@@ -141,11 +141,11 @@ impl<'a, F: hb_font_t> TileLaying<'a, F> {
         ensures place { let old = zip glyphs.old positions.old in
             let word = stretch_of part.word part.tiles old in
             let tiles = stretch_of part.tiles unlaid.end old in
-            let z = measured (F.font self.now.face.now) (positions_of word) (glyphs_of tiles) in
-            result + length (copies (F.font self.now.face.now) z tiles) ≡ unlaid.place }
+            let z = measured (F.font self.now.font.now) (positions_of word) (glyphs_of tiles) in
+            result + length (copies (F.font self.now.font.now) z tiles) ≡ unlaid.place }
     {
         let found = lay_of_sequence(
-            self.face,
+            self.font,
             self.choice,
             self.right_to_left,
             &positions[part.word..part.tiles],
@@ -182,15 +182,15 @@ impl<'a, F: hb_font_t> TileLaying<'a, F> {
         requires ahead { tiles.end ≤ pen.place }
         requires numbers { AllByRecursion (λ g. g.glyph_id ≤ 65535) (take tiles.end glyphs.old) }
         requires can { let cs = stretch_of tiles.start tiles.end (zip glyphs.old positions.old) in
-            CanLay self.now.right_to_left (sequence_copies (F.font self.now.face.now) lay cs)
+            CanLay self.now.right_to_left (sequence_copies (F.font self.now.font.now) lay cs)
             pen glyphs.old positions.old }
         requires room { let cs = stretch_of tiles.start tiles.end (zip glyphs.old positions.old) in
-            tiles.start + length (sequence_copies (F.font self.now.face.now) lay cs) ≤ pen.place }
+            tiles.start + length (sequence_copies (F.font self.now.font.now) lay cs) ≤ pen.place }
         ensures both { length glyphs.new ≡ length positions.new }
         ensures same_length { length glyphs.new ≡ length glyphs.old }
         ensures lays { let old = zip glyphs.old positions.old in
             let laid =
-            sequence_copies (F.font self.now.face.now) lay (stretch_of tiles.start tiles.end old) in
+            sequence_copies (F.font self.now.font.now) lay (stretch_of tiles.start tiles.end old) in
             Lays self.now.right_to_left laid pen result old (zip glyphs.new positions.new) }
     {
         let mut pen = pen;
@@ -219,17 +219,17 @@ impl<'a, F: hb_font_t> TileLaying<'a, F> {
         requires near { IsNumber pen.at }
         requires number { tile.glyph.glyph_id ≤ 65535 }
         requires can { let cell : Cell = (tile.glyph, tile.position) in
-            CanLay self.now.right_to_left (copies_by (F.font self.now.face.now) lay cell)
+            CanLay self.now.right_to_left (copies_by (F.font self.now.font.now) lay cell)
             pen glyphs.old positions.old }
         ensures both { length glyphs.new ≡ length positions.new }
         ensures same_length { length glyphs.new ≡ length glyphs.old }
         ensures near { IsNumber result.at }
         ensures lays { let cell : Cell = (tile.glyph, tile.position) in
-            let laid = copies_by (F.font self.now.face.now) lay cell in
+            let laid = copies_by (F.font self.now.font.now) lay cell in
             Lays self.now.right_to_left laid pen result
             (zip glyphs.old positions.old) (zip glyphs.new positions.new) }
     {
-        let width = i64::from(advance_of(self.face, &tile.glyph));
+        let width = i64::from(advance_of(self.font, &tile.glyph));
         let pen = lay_copies(self.right_to_left, width, 1, glyphs, positions, tile, pen);
         if !repeats(&tile.glyph) {
             return pen;

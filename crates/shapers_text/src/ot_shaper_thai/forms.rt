@@ -179,15 +179,15 @@ fn find_mapping(mappings: &[PuaMapping], u: u32) -> Option<PuaMapping>
 }
 
 // The first form of a character that the font has, else the character itself.
-fn pua_shape<F: hb_font_t>(u: u32, action: Action, face: &F) -> u32
-    ensures { result ≡ shaped_by (has_nominal (F.font face.now)) u action }
+fn pua_shape<F: hb_font_t>(u: u32, action: Action, font: &F) -> u32
+    ensures { result ≡ shaped_by (has_nominal (F.font font.now)) u action }
 {
     match find_mapping(get_mappings(action), u) {
         None => u,
         Some(m) => {
-            if face.has_glyph(m.1) {
+            if font.has_glyph(m.1) {
                 m.1
-            } else if face.has_glyph(m.2) {
+            } else if font.has_glyph(m.2) {
                 m.2
             } else {
                 u
@@ -211,11 +211,11 @@ fn flag_marks(glyphs: &mut [hb_glyph_info_t], base: usize, end: usize)
 }
 
 // Gives the glyph at `place` its form.
-fn set_form<F: hb_font_t>(face: &F, glyphs: &mut [hb_glyph_info_t], place: usize, action: Action)
+fn set_form<F: hb_font_t>(font: &F, glyphs: &mut [hb_glyph_info_t], place: usize, action: Action)
     requires { place < length glyphs.old }
-    ensures { glyphs.new ≡ form_set (has_nominal (F.font face.now)) place action glyphs.old }
+    ensures { glyphs.new ≡ form_set (has_nominal (F.font font.now)) place action glyphs.old }
 {
-    glyphs[place].glyph_id = pua_shape(glyphs[place].glyph_id, action, face);
+    glyphs[place].glyph_id = pua_shape(glyphs[place].glyph_id, action, font);
 }
 
 /// The base of the marks that come next, and how many marks stand above and below it so far.
@@ -237,29 +237,29 @@ impl Base {
     };
 
     // Does what the mark at place `i` does: to itself, or to its base.
-    fn act<F: hb_font_t>(self, face: &F, glyphs: &mut [hb_glyph_info_t], i: usize, mark: Mark)
+    fn act<F: hb_font_t>(self, font: &F, glyphs: &mut [hb_glyph_info_t], i: usize, mark: Mark)
         requires place { self.place < length glyphs.old }
         requires in_range { i < length glyphs.old }
-        ensures { let has = has_nominal (F.font face.now) in
+        ensures { let has = has_nominal (F.font font.now) in
             glyphs.new ≡ after_action has self i mark glyphs.old }
     {
         let action = get_action(self.consonant, mark, self.above, self.below);
         match action {
             Action::NOP => {}
-            Action::RD => set_form(face, glyphs, self.place, action),
-            Action::SD | Action::SL | Action::SDL => set_form(face, glyphs, i, action),
+            Action::RD => set_form(font, glyphs, self.place, action),
+            Action::SD | Action::SL | Action::SDL => set_form(font, glyphs, i, action),
         }
     }
 
     // Does what the character at place `i` does, and gives the base of what follows: a mark does
     // its action, and another character flags the marks before it.
-    fn pass<F: hb_font_t>(self, face: &F, glyphs: &mut [hb_glyph_info_t], i: usize, u: u32) -> Base
+    fn pass<F: hb_font_t>(self, font: &F, glyphs: &mut [hb_glyph_info_t], i: usize, u: u32) -> Base
         requires place { self.place ≤ i - 1 }
         requires in_range { i < length glyphs.old }
         requires above { self.above + 1 < 2 ^ 64 }
         requires below { self.below + 1 < 2 ^ 64 }
         ensures base { result ≡ base_after self i u }
-        ensures glyphs { let has = has_nominal (F.font face.now) in
+        ensures glyphs { let has = has_nominal (F.font font.now) in
             glyphs.new ≡ after_character has self i u glyphs.old }
     {
         let Types(consonant, mark) = types_of(u);
@@ -271,7 +271,7 @@ impl Base {
                 ..Base::NONE
             };
         }
-        self.act(face, glyphs, i, mark);
+        self.act(font, glyphs, i, mark);
         if matches!(mark, Mark::BV) {
             Base {
                 below: self.below + 1,
@@ -287,13 +287,13 @@ impl Base {
 }
 
 // Gives each mark, or its base, its form, and flags the marks of each base.
-fn shape_marks<F: hb_font_t>(face: &F, glyphs: &mut [hb_glyph_info_t])
-    ensures { glyphs.new ≡ pua_shaped (has_nominal (F.font face.now)) glyphs.old }
+fn shape_marks<F: hb_font_t>(font: &F, glyphs: &mut [hb_glyph_info_t])
+    ensures { glyphs.new ≡ pua_shaped (has_nominal (F.font font.now)) glyphs.old }
 {
     let mut base = Base::NONE;
     for i in 0..glyphs.len() {
         let u = glyphs[i].glyph_id;
-        base = base.pass(face, glyphs, i, u);
+        base = base.pass(font, glyphs, i, u);
     }
     let end = glyphs.len();
     flag_marks(glyphs, base.place, end);
@@ -338,7 +338,7 @@ fn flag_breaks(breaks: BreakFlags, glyphs: &mut [hb_glyph_info_t])
 #[derive(Clone, Copy)]
 struct PuaShaping<'a, F> {
     breaks: BreakFlags,
-    face: &'a F,
+    font: &'a F,
 }
 
 impl<'a, F: hb_font_t> GlyphWalk for PuaShaping<'a, F> {
@@ -349,25 +349,25 @@ impl<'a, F: hb_font_t> GlyphWalk for PuaShaping<'a, F> {
     ghost can_walk = { λ walk glyphs. ⊤ };
 
     ghost walks = { λ walk _ old new.
-        new ≡ pua_shaped (has_nominal (F.font walk.face.now)) (marks_flagged walk.breaks old) };
+        new ≡ pua_shaped (has_nominal (F.font walk.font.now)) (marks_flagged walk.breaks old) };
 
     #[inline]
     fn walk(&mut self, glyphs: &mut [hb_glyph_info_t]) {
         flag_breaks(self.breaks, glyphs);
-        shape_marks(self.face, glyphs);
+        shape_marks(self.font, glyphs);
     }
 }
 
 /// Gives the marks of a Thai text, and bases with descenders, their private use forms, and flags
 /// what the choice adds.
-pub fn do_pua_shaping<F: hb_font_t>(breaks: BreakFlags, face: &F, buffer: &mut hb_buffer_t)
-    ensures { let has = has_nominal (F.font face.now) in
+pub fn do_pua_shaping<F: hb_font_t>(breaks: BreakFlags, font: &F, buffer: &mut hb_buffer_t)
+    ensures { let has = has_nominal (F.font font.now) in
         let flagged = marks_flagged breaks buffer.old.glyphs in
         buffer.new ≡ record buffer.old { glyphs = pua_shaped has flagged } }
 {
     // (a font that panics leaves the empty buffer, and no text with some of the forms)
     let empty = hb_buffer_t::new(buffer.alloc(), buffer.max_len());
     let mut text = mem::replace(buffer, empty);
-    text.walk(&mut PuaShaping { breaks, face });
+    text.walk(&mut PuaShaping { breaks, font });
     *buffer = text;
 }

@@ -124,6 +124,10 @@ pub trait Machine {
 
     /// Whether joiners, as many as there are, lead from this state back to it.
     ///
+    /// # Panics
+    ///
+    /// May panic where `state` is none of the machine's.
+    ///
     /// <details><summary>Contract</summary>
     ///
     /// # Contract

@@ -5,5 +5,5 @@ use Rattle.shapers_hangul.proofs.ot_shaper_hangul.rewriting.kept_len.Goals as go
 
 pub loop-place-preserved : goal.loop-place-preserved
 loop-place-preserved g c =
-    kept_next (g.F.hb_font_t.font c.args.face.now) c.args.circles
+    kept_next (g.F.hb_font_t.font c.args.font.now) c.args.circles
     c.args.glyphs.now c.loop-place.place c.loop-place-test.true (search arith) c.loop-place.invariant

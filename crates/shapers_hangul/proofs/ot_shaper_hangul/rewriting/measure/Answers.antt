@@ -14,14 +14,14 @@ returns-then-room-output_len-clause-length g c =
     let l = c.loop-place in
     omega (
       arith,
-      length_next (g.F.hb_font_t.font c.args.face.now) c.args.circles c.args.glyphs.now l.place
+      length_next (g.F.hb_font_t.font c.args.font.now) c.args.circles c.args.glyphs.now l.place
           c.item_at-item.result c.loop-place-test.true c.item_at-item.ensures.item c.item_at-item.ensures.in_rest,
     )
 
 pub loop-place-preserved : goal.loop-place-preserved
 loop-place-preserved g c =
     let l = c.loop-place in
-    let font = g.F.hb_font_t.font c.args.face.now in
+    let font = g.F.hb_font_t.font c.args.font.now in
     let gs = c.args.glyphs.now in
     let item = c.item_at-item.result in
     let circles = c.args.circles in
@@ -54,7 +54,7 @@ loop-place-preserved g c =
 
 pub returns-then-room-eq0-clause-length : goal.returns-then-room-eq0-clause-length
 returns-then-room-eq0-clause-length g c =
-    let font = g.F.hb_font_t.font c.args.face.now in
+    let font = g.F.hb_font_t.font c.args.font.now in
     let circles = c.args.circles in
     let stays : is_kept (first_item font circles (characters (drop c.loop-place.place c.args.glyphs.now))) ≡ true =
     subst (λ (xs : Glyphs). is_kept (first_item font circles (characters xs)) ≡ true) c.rest_from.ensures
@@ -64,7 +64,7 @@ returns-then-room-eq0-clause-length g c =
 pub loop-place-preserved-then-stays_alone : goal.loop-place-preserved-then-stays_alone
 loop-place-preserved-then-stays_alone g c =
     let l = c.loop-place in
-    let font = g.F.hb_font_t.font c.args.face.now in
+    let font = g.F.hb_font_t.font c.args.font.now in
     let gs = c.args.glyphs.now in
     let circles = c.args.circles in
     let stays : is_kept (first_item font circles (characters (drop l.place gs))) ≡ true =

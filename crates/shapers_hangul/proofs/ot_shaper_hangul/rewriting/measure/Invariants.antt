@@ -7,7 +7,7 @@ use Rattle.shapers_hangul.proofs.ot_shaper_hangul.rewriting.measure.Given as goa
 
 abbrev pub invariant-loop-place : goal.invariant-loop-place
 invariant-loop-place g l =
-    let cut = items_at (g.F.hb_font_t.font l.face) l.circles (characters l.glyphs) in
+    let cut = items_at (g.F.hb_font_t.font l.font) l.circles (characters l.glyphs) in
     record {
       within : l.place ≤ length l.glyphs;
       room_left : l.kept + length (outputs glyph_copies (cut l.kept) l.glyphs) + l.room

@@ -25,7 +25,7 @@ returns-then-kept-len-clause-length = search (arith, same_length, all_stay, glyp
 pub returns-then-is_empty-clause-ok : goal.returns-then-is_empty-clause-ok
 returns-then-is_empty-clause-ok g c =
     let none : c.items.result.now ≡ [] = nil_from_length c.items.result.now (grind arith) in
-    let all = all_stay (g.F.hb_font_t.font c.args.face.now) c.args.buffer.now c.wants_circles-circles.result
+    let all = all_stay (g.F.hb_font_t.font c.args.font.now) c.args.buffer.now c.wants_circles-circles.result
     c.glyphs-glyphs.result.now c.kept_len-kept.result c.wants_circles-circles.ensures c.glyphs-glyphs.ensures
     c.kept_len-kept.ensures.kept (cc (c.in_ok-len.ensures.items c.if-not-cut.false)) in
     search unchanged
@@ -33,7 +33,7 @@ returns-then-is_empty-clause-ok g c =
 pub returns-then-is_empty-clause-changes : goal.returns-then-is_empty-clause-changes
 returns-then-is_empty-clause-changes g c is =
     let none : c.items.result.now ≡ [] = nil_from_length c.items.result.now (grind arith) in
-    let all = all_stay (g.F.hb_font_t.font c.args.face.now) c.args.buffer.now c.wants_circles-circles.result
+    let all = all_stay (g.F.hb_font_t.font c.args.font.now) c.args.buffer.now c.wants_circles-circles.result
     c.glyphs-glyphs.result.now c.kept_len-kept.result c.wants_circles-circles.ensures c.glyphs-glyphs.ensures
     c.kept_len-kept.ensures.kept (cc (c.in_ok-len.ensures.items c.if-not-cut.false)) in
     all
@@ -41,14 +41,14 @@ returns-then-is_empty-clause-changes g c is =
 pub returns-then-is_empty-clause-length : goal.returns-then-is_empty-clause-length
 returns-then-is_empty-clause-length g c =
     let none : c.items.result.now ≡ [] = nil_from_length c.items.result.now (grind arith) in
-    let all = all_stay (g.F.hb_font_t.font c.args.face.now) c.args.buffer.now c.wants_circles-circles.result
+    let all = all_stay (g.F.hb_font_t.font c.args.font.now) c.args.buffer.now c.wants_circles-circles.result
     c.glyphs-glyphs.result.now c.kept_len-kept.result c.wants_circles-circles.ensures c.glyphs-glyphs.ensures
     c.kept_len-kept.ensures.kept (cc (c.in_ok-len.ensures.items c.if-not-cut.false)) in
     search same_length
 
 pub returns-in_err-len-clause-kept : goal.returns-in_err-len-clause-kept
 returns-in_err-len-clause-kept g c all =
-    let font = g.F.hb_font_t.font c.args.face.now in
+    let font = g.F.hb_font_t.font c.args.font.now in
     let b = c.args.buffer.now in
     search (
       arith,
@@ -62,7 +62,7 @@ returns-in_err-len-clause-length g c =
     let read = c.glyphs-glyphs.result.now in
     let kept = c.kept_len-kept.result in
     let told : RefusesLength c.max_len.result (kept + length (outputs glyph_copies (items_at
-    (g.F.hb_font_t.font c.args.face.now) c.wants_circles-circles.result (characters read) kept) read))
+    (g.F.hb_font_t.font c.args.font.now) c.wants_circles-circles.result (characters read) kept) read))
     c.from_residual.result = search rules in
     told_by_text c.args.buffer.now.max_len c.max_len.result _ _ c.from_residual.result c.max_len.ensures.limit
     (search length_read) told
@@ -76,7 +76,7 @@ returns-then-not-cut-clause-length g c =
     let b = c.args.buffer.now in
     omega (
       arith,
-      length_read (g.F.hb_font_t.font c.args.face.now) (allows_circles b) b.level b.glyphs
+      length_read (g.F.hb_font_t.font c.args.font.now) (allows_circles b) b.level b.glyphs
           c.wants_circles-circles.result c.glyphs-glyphs.result.now c.kept_len-kept.result
           c.wants_circles-circles.ensures c.glyphs-glyphs.ensures c.kept_len-kept.ensures.kept,
       c.in_ok-len.ensures.length,
@@ -87,20 +87,20 @@ rewrite-requires-clause-can g c =
     let cut = c.items-2.result.now in
     subst (λ (xs : Glyphs). Fit (length xs) cut × Consecutive (length xs) 0 cut) c.glyphs-glyphs.ensures
     (
-    let whole = items (g.F.hb_font_t.font c.args.face.now) c.wants_circles-circles.result (characters
+    let whole = items (g.F.hb_font_t.font c.args.font.now) c.wants_circles-circles.result (characters
     c.glyphs-glyphs.result.now) in
     search (
       arith,
       changes_fit (length c.glyphs-glyphs.result.now) whole
           (subst (λ n. Fit n whole) (length-characters c.glyphs-glyphs.result.now) (items_fit (g.F.hb_font_t.font
-          c.args.face.now) c.wants_circles-circles.result (characters c.glyphs-glyphs.result.now))),
-      items_at_turn (g.F.hb_font_t.font c.args.face.now) c.wants_circles-circles.result c.glyphs-glyphs.result.now 0
+          c.args.font.now) c.wants_circles-circles.result (characters c.glyphs-glyphs.result.now))),
+      items_at_turn (g.F.hb_font_t.font c.args.font.now) c.wants_circles-circles.result c.glyphs-glyphs.result.now 0
           (omega arith),
     ))
 
 pub rewrite-requires-clause-length : goal.rewrite-requires-clause-length
 rewrite-requires-clause-length g c =
-    let font = g.F.hb_font_t.font c.args.face.now in
+    let font = g.F.hb_font_t.font c.args.font.now in
     let b = c.args.buffer.now in
     let circles = c.wants_circles-circles.result in
     let read = c.glyphs-glyphs.result.now in
@@ -121,7 +121,7 @@ returns-in_err-rewrite-clause-kept g c all = search (
   c.is_empty.ensures,
   c.items.ensures,
   c.in_ok-len.ensures.items c.if-not-cut.false,
-  nothing_listed (g.F.hb_font_t.font c.args.face.now) c.args.buffer.now c.wants_circles-circles.result
+  nothing_listed (g.F.hb_font_t.font c.args.font.now) c.args.buffer.now c.wants_circles-circles.result
       c.glyphs-glyphs.result.now c.kept_len-kept.result c.wants_circles-circles.ensures c.glyphs-glyphs.ensures
       c.kept_len-kept.ensures.kept all,
 )
@@ -130,7 +130,7 @@ pub returns-clause-kept : goal.returns-clause-kept
 returns-clause-kept g c all = search (
   arith,
   c.in_ok-len.ensures.items c.if-not-cut.false,
-  nothing_listed (g.F.hb_font_t.font c.args.face.now) c.args.buffer.now c.wants_circles-circles.result
+  nothing_listed (g.F.hb_font_t.font c.args.font.now) c.args.buffer.now c.wants_circles-circles.result
       c.glyphs-glyphs.result.now c.kept_len-kept.result c.wants_circles-circles.ensures c.glyphs-glyphs.ensures
       c.kept_len-kept.ensures.kept all,
 )
@@ -139,7 +139,7 @@ pub returns-in_err-rewrite-clause-length : goal.returns-in_err-rewrite-clause-le
 returns-in_err-rewrite-clause-length g c =
     let b = c.args.buffer.now in
     subst (λ n. RefusesLength b.max_len n c.from_residual-in_err-rewrite.result) (c.in_ok-len.ensures.exact ∙ sym
-    (length_read (g.F.hb_font_t.font c.args.face.now) (allows_circles b) b.level b.glyphs
+    (length_read (g.F.hb_font_t.font c.args.font.now) (allows_circles b) b.level b.glyphs
     c.wants_circles-circles.result c.glyphs-glyphs.result.now c.kept_len-kept.result c.wants_circles-circles.ensures
     c.glyphs-glyphs.ensures c.kept_len-kept.ensures.kept)) (search rules)
 
@@ -150,7 +150,7 @@ returns-clause-length g c =
     omega (
       arith,
       c.in_ok-len.ensures.exact,
-      length_read (g.F.hb_font_t.font c.args.face.now) (allows_circles b) b.level b.glyphs
+      length_read (g.F.hb_font_t.font c.args.font.now) (allows_circles b) b.level b.glyphs
           c.wants_circles-circles.result c.glyphs-glyphs.result.now c.kept_len-kept.result
           c.wants_circles-circles.ensures c.glyphs-glyphs.ensures c.kept_len-kept.ensures.kept,
     )
@@ -159,7 +159,7 @@ pub returns-clause-ok : goal.returns-clause-ok
 returns-clause-ok g c = search (
   arith,
   c.in_ok-rewrite.ensures.ok,
-  buffer_changed c.args.breaks (g.F.hb_font_t.font c.args.face.now) c.args.buffer.now
+  buffer_changed c.args.breaks (g.F.hb_font_t.font c.args.font.now) c.args.buffer.now
       c.wants_circles-circles.result c.cluster_level-level.result c.glyphs-glyphs.result.now c.items-2.result.now
       c.wants_circles-circles.ensures c.cluster_level-level.ensures c.glyphs-glyphs.ensures
       (c.items-2.ensures ∙ (c.in_ok-len.ensures.items c.if-not-cut.false ∙ sym c.kept_len-kept.ensures.kept.listed)),

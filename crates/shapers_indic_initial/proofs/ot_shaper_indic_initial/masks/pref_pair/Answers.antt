@@ -10,7 +10,7 @@ pub returns-then-would_substitute-clause-pair : goal.returns-then-would_substitu
 returns-then-would_substitute-clause-pair g c =
     let l = c.loop-i in
     let gs = c.args.glyphs.now in
-    let r = initial_rules (g.F.hb_font_t.font c.args.rules.now.face.now) c.args.rules.now.map.now
+    let r = initial_rules (g.F.hb_font_t.font c.args.rules.now.font.now) c.args.rules.now.map.now
     c.args.rules.now.plan.now in
     search_found (λ i. r.forms_pref (numbers (stretch_of i (i + 2) gs))) l.i (length gs - 1) (omega arith)
     (asked_pair r.forms_pref gs l.i c.number.result c.number-in-loop-i.result c.would_substitute.result (omega
@@ -21,7 +21,7 @@ pub loop-i-preserved : goal.loop-i-preserved
 loop-i-preserved g c =
     let l = c.loop-i in
     let gs = c.args.glyphs.now in
-    let r = initial_rules (g.F.hb_font_t.font c.args.rules.now.face.now) c.args.rules.now.map.now
+    let r = initial_rules (g.F.hb_font_t.font c.args.rules.now.font.now) c.args.rules.now.map.now
     c.args.rules.now.plan.now in
     search (
       arith,

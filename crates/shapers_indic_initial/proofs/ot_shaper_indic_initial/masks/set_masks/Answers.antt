@@ -6,7 +6,7 @@ use Rattle.shapers_indic_initial.proofs.ot_shaper_indic_initial.masks.set_masks.
 
 pub returns-clause-masks : goal.returns-clause-masks
 returns-clause-masks g c =
-    let font = g.F.hb_font_t.font c.args.rules.now.face.now in
+    let font = g.F.hb_font_t.font c.args.rules.now.font.now in
     let m = c.args.rules.now.map.now in
     all_masks (initial_rules font m c.args.rules.now.plan.now) c.args.script c.args.base c.args.glyphs.now _ _ _ _ _ _ _
     _ _ c.bits_of.ensures c.set_reph_bits.ensures (c.bits_before_base.ensures font m)

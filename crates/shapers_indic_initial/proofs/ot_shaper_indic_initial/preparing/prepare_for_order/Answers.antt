@@ -14,7 +14,7 @@ returns-clause-unlisted g c =
 
 pub returns-clause-reordered : goal.returns-clause-reordered
 returns-clause-reordered g c =
-    let r = initial_rules (g.F.hb_font_t.font c.args.rules.now.face.now) c.args.rules.now.map.now
+    let r = initial_rules (g.F.hb_font_t.font c.args.rules.now.font.now) c.args.rules.now.map.now
     c.args.rules.now.plan.now in
     let s = c.args.start in
     let e = c.args.end in

@@ -41,7 +41,7 @@ returns g c =
     c.behind_copies.result) (to_z-of_z w64 c.step_of.result
     (record { sfits = c.step_of.type_inv })) c.behind_copies.ensures) in
     tile_walked
-    (g.F.hb_font_t.font c.args.face.now) c.args.lay c.args.tile.now rtl c.args.pen c.from.result c.step_of.result behind
+    (g.F.hb_font_t.font c.args.font.now) c.args.lay c.args.tile.now rtl c.args.pen c.from.result c.step_of.result behind
     c.behind_copies.result (sym c.repeats.ensures ∙ c.if-not-repeats.false) (
     (c.from.ensures ∙ advance) ∙ c.advance_of-width.ensures)
     (c.step_of.ensures.value ∙ ap (λ x. x -ℤ c.args.lay.overlap) (sym c.from.ensures)) first rest

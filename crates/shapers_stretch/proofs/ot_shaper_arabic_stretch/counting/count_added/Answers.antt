@@ -12,7 +12,7 @@ loop-end-init = search (arith, counted_start)
 pub returns-in_err-last : goal.returns-in_err-last
 returns-in_err-last g c =
     let how : Laying = record {
-      font = g.F.hb_font_t.font c.args.face.now;
+      font = g.F.hb_font_t.font c.args.font.now;
       choice = c.args.choice;
       right_to_left =
           c.args.right_to_left;
@@ -23,7 +23,7 @@ pub loop-end-preserved : goal.loop-end-preserved
 loop-end-preserved g c =
     let how : Laying =
     record {
-      font = g.F.hb_font_t.font c.args.face.now;
+      font = g.F.hb_font_t.font c.args.font.now;
       choice = c.args.choice;
       right_to_left =
           c.args.right_to_left;

@@ -8,7 +8,7 @@ use Rattle.shapers_stretch.proofs.ot_shaper_arabic_stretch.counting.count_added.
 abbrev pub invariant-loop-end : goal.invariant-loop-end
 invariant-loop-end g l =
     let how : Laying =
-    record { font = g.F.hb_font_t.font l.face; choice = l.choice; right_to_left = l.right_to_left } in
+    record { font = g.F.hb_font_t.font l.font; choice = l.choice; right_to_left = l.right_to_left } in
     record {
       within : l.end ≤ length l.glyphs;
       counted : IsCounted how (zip l.glyphs l.positions) l.end l.added;

@@ -13,7 +13,7 @@ pub returns-then-is_empty : goal.returns-then-is_empty
 returns-then-is_empty g c =
     let how : Laying =
     record {
-      font = g.F.hb_font_t.font c.args.face.now;
+      font = g.F.hb_font_t.font c.args.font.now;
       choice = c.args.choice;
       right_to_left =
           c.args.right_to_left;
@@ -32,7 +32,7 @@ pub returns-in_err-added : goal.returns-in_err-added
 returns-in_err-added g c =
     let how : Laying =
     record {
-      font = g.F.hb_font_t.font c.args.face.now;
+      font = g.F.hb_font_t.font c.args.font.now;
       choice = c.args.choice;
       right_to_left =
           c.args.right_to_left;
@@ -57,7 +57,7 @@ pub returns : goal.returns
 returns g c =
     let how : Laying =
     record {
-      font = g.F.hb_font_t.font c.args.face.now;
+      font = g.F.hb_font_t.font c.args.font.now;
       choice = c.args.choice;
       right_to_left =
           c.args.right_to_left;

@@ -8,7 +8,7 @@ use Rattle.shapers_stretch.proofs.ot_shaper_arabic_stretch.counting.offsets_fit.
 
 pub loop-left-preserved : goal.loop-left-preserved
 loop-left-preserved g c =
-    let font = g.F.hb_font_t.font c.args.face.now in
+    let font = g.F.hb_font_t.font c.args.font.now in
     let rtl = c.args.right_to_left in
     let lay = c.args.lay in
     let tiles = c.args.tiles.now in

@@ -5,7 +5,7 @@ use Rattle.shapers_stretch.proofs.ot_shaper_arabic_stretch.counting.offsets_fit.
 
 abbrev pub invariant-loop-left : goal.invariant-loop-left
 invariant-loop-left g l =
-    let font = g.F.hb_font_t.font l.face in
+    let font = g.F.hb_font_t.font l.font in
     record {
       within : l.left ≤ length l.tiles;
       pen : IsNumber l.pen;

@@ -24,7 +24,7 @@ overflow_add-repeaters g c =
 
 pub loop-piece-preserved : goal.loop-piece-preserved
 loop-piece-preserved g c =
-    let font = g.F.hb_font_t.font c.args.face.now in
+    let font = g.F.hb_font_t.font c.args.font.now in
     let steps = c.in-Some.ensures.steps in
     let inv = c.loop-piece.invariant in
     let all = length c.args.tiles.now in
@@ -90,7 +90,7 @@ returns-in_err-narrowed = search (arith, word_apart, to_z-of_z, w128)
 
 pub returns-in_err-narrowed-2 : goal.returns-in_err-narrowed-2
 returns-in_err-narrowed-2 g c =
-    let font = g.F.hb_font_t.font c.args.face.now in
+    let font = g.F.hb_font_t.font c.args.font.now in
     let z = measured font c.args.word.now c.args.tiles.now in
     let done : to_z w128 c.loop-piece.fixed-bits ≡ z.fixed = kept_summed (width_of font) (λ g. not (repeats g)) _
     (chunks_rest c.loop-piece.piece-iterator) (to_z w128 c.loop-piece.fixed-bits) c.in-None.ensures.steps.1.0
@@ -99,7 +99,7 @@ returns-in_err-narrowed-2 g c =
 
 pub returns-in_err-narrowed-3 : goal.returns-in_err-narrowed-3
 returns-in_err-narrowed-3 g c =
-    let font = g.F.hb_font_t.font c.args.face.now in
+    let font = g.F.hb_font_t.font c.args.font.now in
     let z = measured font c.args.word.now c.args.tiles.now in
     let done : to_z w128 c.loop-piece.repeating-bits ≡ z.repeating = kept_summed (width_of font) repeats _
     (chunks_rest c.loop-piece.piece-iterator) (to_z w128 c.loop-piece.repeating-bits) c.in-None.ensures.steps.1.0
@@ -108,7 +108,7 @@ returns-in_err-narrowed-3 g c =
 
 pub returns : goal.returns
 returns g c =
-    let font = g.F.hb_font_t.font c.args.face.now in
+    let font = g.F.hb_font_t.font c.args.font.now in
     let rest = chunks_rest c.loop-piece.piece-iterator in
     let none = c.in-None.ensures.steps.1.0 in
     let inv = c.loop-piece.invariant in

@@ -8,7 +8,7 @@ use Rattle.shapers_stretch.proofs.ot_shaper_arabic_stretch.measuring.measure_lon
 
 abbrev pub invariant-loop-piece : goal.invariant-loop-piece
 invariant-loop-piece g l =
-    let font = g.F.hb_font_t.font l.face in
+    let font = g.F.hb_font_t.font l.font in
     let rest = chunks_rest l.piece-iterator in
     (goal.iterator-loop-piece g).can_next l.piece-iterator × (goal.iterator-loop-piece g).is_finite l.piece-iterator
     × (chunks_size l.piece-iterator ≡ 2147483647) × (length rest ≤ length l.tiles)

@@ -8,7 +8,7 @@ use Rattle.shapers_stretch.proofs.ot_shaper_arabic_stretch.measuring.measure_sho
 
 pub loop-glyph-preserved : goal.loop-glyph-preserved
 loop-glyph-preserved g c =
-    let font = g.F.hb_font_t.font c.args.face.now in
+    let font = g.F.hb_font_t.font c.args.font.now in
     let i = c.loop-glyph.glyph-index in
     let ts = c.args.tiles.now in
     elim c.if-repeats.branch [

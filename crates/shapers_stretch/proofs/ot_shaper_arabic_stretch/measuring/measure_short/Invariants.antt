@@ -6,9 +6,9 @@ use Rattle.shapers_stretch.proofs.ot_shaper_arabic_stretch.measuring.measure_sho
 
 abbrev pub invariant-loop-glyph : goal.invariant-loop-glyph
 invariant-loop-glyph g l = record {
-  fixed_sum : l.fixed ≡ total (map (width_of (g.F.hb_font_t.font l.face)) (fixed (take l.glyph-index l.tiles)));
+  fixed_sum : l.fixed ≡ total (map (width_of (g.F.hb_font_t.font l.font)) (fixed (take l.glyph-index l.tiles)));
   repeating_sum : l.repeating
-      ≡ total (map (width_of (g.F.hb_font_t.font l.face)) (repeating (take l.glyph-index l.tiles)));
+      ≡ total (map (width_of (g.F.hb_font_t.font l.font)) (repeating (take l.glyph-index l.tiles)));
   count : l.repeaters ≡ length (repeating (take l.glyph-index l.tiles));
   few : l.repeaters ≤ l.glyph-index;
   low_fixed : neg_ℤ (pos (0x8000_0000 * l.glyph-index)) ≤ℤ l.fixed;

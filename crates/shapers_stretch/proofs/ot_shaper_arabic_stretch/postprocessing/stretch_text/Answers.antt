@@ -9,7 +9,7 @@ use Rattle.shapers_stretch.proofs.ot_shaper_arabic_stretch.postprocessing.stretc
 
 pub walk_positioned-requires : goal.walk_positioned-requires
 walk_positioned-requires g c =
-    let how = laying_by (g.F.hb_font_t.font c.args.face.now) c.args.choice c.args.right_to_left in
+    let how = laying_by (g.F.hb_font_t.font c.args.font.now) c.args.choice c.args.right_to_left in
     let b = c.args.buffer.now in
     let counted : CountsAdded how (cells b) (Some c.in-Some.added) =
     counted_in b how c.glyphs-glyphs.result.now c.positions-positions.result.now (Some c.in-Some.added)
@@ -19,7 +19,7 @@ walk_positioned-requires g c =
 
 pub returns-in-Ok-clause-ok : goal.returns-in-Ok-clause-ok
 returns-in-Ok-clause-ok g c =
-    let how = laying_by (g.F.hb_font_t.font c.args.face.now) c.args.choice c.args.right_to_left in
+    let how = laying_by (g.F.hb_font_t.font c.args.font.now) c.args.choice c.args.right_to_left in
     let b = c.args.buffer.now in
     let counted : CountsAdded how (cells b) (Some c.in-Some.added) =
     counted_in b how c.glyphs-glyphs.result.now c.positions-positions.result.now (Some c.in-Some.added)
@@ -28,7 +28,7 @@ returns-in-Ok-clause-ok g c =
 
 pub returns-in-Ok-clause-refusal : goal.returns-in-Ok-clause-refusal
 returns-in-Ok-clause-refusal g c =
-    let how = laying_by (g.F.hb_font_t.font c.args.face.now) c.args.choice c.args.right_to_left in
+    let how = laying_by (g.F.hb_font_t.font c.args.font.now) c.args.choice c.args.right_to_left in
     let b = c.args.buffer.now in
     let counted : CountsAdded how (cells b) (Some c.in-Some.added) =
     counted_in b how c.glyphs-glyphs.result.now c.positions-positions.result.now (Some c.in-Some.added)
@@ -38,7 +38,7 @@ returns-in-Ok-clause-refusal g c =
 
 pub returns-in-Err-clause-refusal : goal.returns-in-Err-clause-refusal
 returns-in-Err-clause-refusal g c =
-    let how = laying_by (g.F.hb_font_t.font c.args.face.now) c.args.choice c.args.right_to_left in
+    let how = laying_by (g.F.hb_font_t.font c.args.font.now) c.args.choice c.args.right_to_left in
     let b = c.args.buffer.now in
     let counted : CountsAdded how (cells b) (Some c.in-Some.added) =
     counted_in b how c.glyphs-glyphs.result.now c.positions-positions.result.now (Some c.in-Some.added)

@@ -16,6 +16,6 @@ returns g c =
     let l = c.loop-i in
     search (
       arith,
-      walking_all (has_nominal (g.F.hb_font_t.font c.args.face.now)) c.args.glyphs.now l.glyphs l.i l.base
+      walking_all (has_nominal (g.F.hb_font_t.font c.args.font.now)) c.args.glyphs.now l.glyphs l.i l.base
           (omega arith) l.invariant,
     )

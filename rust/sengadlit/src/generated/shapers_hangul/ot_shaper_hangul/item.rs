@@ -82,20 +82,20 @@ fn character_at(glyphs: &[GlyphInfo], i: usize) -> u32 {
 
 // Whether the font has the character with advance 0.
 #[inline]
-fn is_zero_width_char<F: Font>(face: &F, u: u32) -> bool {
-    match face.nominal_glyph(u) {
-        Some(glyph) => face.glyph_h_advance(glyph) == 0,
+fn is_zero_width_char<F: Font>(font: &F, u: u32) -> bool {
+    match font.nominal_glyph(u) {
+        Some(glyph) => font.glyph_h_advance(glyph) == 0,
         None => false,
     }
 }
 
 // A tone without a syllable before it.
 #[inline]
-fn lone_tone<F: Font>(face: &F, circles: bool, u: u32) -> Unit {
-    if !circles || !face.has_glyph(DOTTED_CIRCLE) {
+fn lone_tone<F: Font>(font: &F, circles: bool, u: u32) -> Unit {
+    if !circles || !font.has_glyph(DOTTED_CIRCLE) {
         return Unit::Other;
     }
-    if is_zero_width_char(face, u) {
+    if is_zero_width_char(font, u) {
         return Unit::CircleTone;
     }
     Unit::ToneCircle
@@ -103,10 +103,10 @@ fn lone_tone<F: Font>(face: &F, circles: bool, u: u32) -> Unit {
 
 // L V.
 #[inline]
-fn jamo_two<F: Font>(face: &F, l: u32, v: u32) -> Unit {
+fn jamo_two<F: Font>(font: &F, l: u32, v: u32) -> Unit {
     if is_combining_l(l) && is_combining_v(v) {
         let lv = compose_two(l, v);
-        if face.has_glyph(lv) {
+        if font.has_glyph(lv) {
             return Unit::ComposedTwo(lv);
         }
     }
@@ -115,10 +115,10 @@ fn jamo_two<F: Font>(face: &F, l: u32, v: u32) -> Unit {
 
 // L V T.
 #[inline]
-fn jamo_three<F: Font>(face: &F, l: u32, v: u32, t: u32) -> Unit {
+fn jamo_three<F: Font>(font: &F, l: u32, v: u32, t: u32) -> Unit {
     if is_combining_l(l) && is_combining_v(v) && is_combining_t(t) {
         let lvt = compose_three(compose_two(l, v), t);
-        if face.has_glyph(lvt) {
+        if font.has_glyph(lvt) {
             return Unit::ComposedThree(lvt);
         }
     }
@@ -127,9 +127,9 @@ fn jamo_three<F: Font>(face: &F, l: u32, v: u32, t: u32) -> Unit {
 
 // Whether the font has the jamo of a syllable character.
 #[inline]
-fn has_jamo_of<F: Font>(face: &F, s: u32) -> bool {
+fn has_jamo_of<F: Font>(font: &F, s: u32) -> bool {
     let [l, v, t] = decompose(s);
-    face.has_glyph(l) && face.has_glyph(v) && (is_lv(s) || face.has_glyph(t))
+    font.has_glyph(l) && font.has_glyph(v) && (is_lv(s) || font.has_glyph(t))
 }
 
 // A syllable character by its jamo.
@@ -143,18 +143,18 @@ fn parts(s: u32) -> Unit {
 }
 
 // A syllable character before `v`.
-fn syllable_unit<F: Font>(face: &F, s: u32, v: u32) -> Unit {
+fn syllable_unit<F: Font>(font: &F, s: u32, v: u32) -> Unit {
     if is_lv(s) && is_combining_t(v) {
         let composed = compose_three(s, v);
-        if face.has_glyph(composed) {
+        if font.has_glyph(composed) {
             return Unit::ComposedTwo(composed);
         }
     }
-    let has_glyph = face.has_glyph(s);
-    if !has_glyph && has_jamo_of(face, s) {
+    let has_glyph = font.has_glyph(s);
+    if !has_glyph && has_jamo_of(font, s) {
         return parts(s);
     }
-    if is_lv(s) && is_t(v) && has_jamo_of(face, s) {
+    if is_lv(s) && is_t(v) && has_jamo_of(font, s) {
         let [l, v, _] = decompose(s);
         return Unit::PartsBeforeT(l, v);
     }
@@ -166,53 +166,53 @@ fn syllable_unit<F: Font>(face: &F, s: u32, v: u32) -> Unit {
 
 // L V, and L V T.
 #[inline]
-fn jamo_unit<F: Font>(face: &F, l: u32, v: u32, t: u32) -> Unit {
+fn jamo_unit<F: Font>(font: &F, l: u32, v: u32, t: u32) -> Unit {
     if is_t(t) {
-        return jamo_three(face, l, v, t);
+        return jamo_three(font, l, v, t);
     }
-    jamo_two(face, l, v)
+    jamo_two(font, l, v)
 }
 
 // The unit of a character that no jamo follows.
 #[inline]
-fn lone_unit<F: Font>(face: &F, circles: bool, u: u32) -> Unit {
+fn lone_unit<F: Font>(font: &F, circles: bool, u: u32) -> Unit {
     if is_combined_s(u) {
-        if face.has_glyph(u) {
+        if font.has_glyph(u) {
             return Unit::Syllable;
         }
-        if has_jamo_of(face, u) {
+        if has_jamo_of(font, u) {
             return parts(u);
         }
         return Unit::Other;
     }
     if is_hangul_tone(u) {
-        return lone_tone(face, circles, u);
+        return lone_tone(font, circles, u);
     }
     Unit::Other
 }
 
 // The unit that the character `u` and the next two open.
 #[inline]
-fn first_unit<F: Font>(face: &F, circles: bool, u: u32, v: u32, t: u32) -> Unit {
+fn first_unit<F: Font>(font: &F, circles: bool, u: u32, v: u32, t: u32) -> Unit {
     if is_hangul_tone(u) {
-        return lone_tone(face, circles, u);
+        return lone_tone(font, circles, u);
     }
     if is_l(u) && is_v(v) {
-        return jamo_unit(face, u, v, t);
+        return jamo_unit(font, u, v, t);
     }
     if is_combined_s(u) {
-        return syllable_unit(face, u, v);
+        return syllable_unit(font, u, v);
     }
     Unit::Other
 }
 
 // The tone `w` after a unit.
 #[inline]
-fn joined_tone<F: Font>(face: &F, unit: Unit, w: u32) -> JoinedTone {
+fn joined_tone<F: Font>(font: &F, unit: Unit, w: u32) -> JoinedTone {
     if !unit.is_syllable() || !is_hangul_tone(w) {
         return JoinedTone::Absent;
     }
-    if is_zero_width_char(face, w) {
+    if is_zero_width_char(font, w) {
         return JoinedTone::Behind;
     }
     JoinedTone::Before
@@ -220,38 +220,38 @@ fn joined_tone<F: Font>(face: &F, unit: Unit, w: u32) -> JoinedTone {
 
 // Whether the font can't join LV and the T `v` behind it, nor, where T doesn't combine, part LV.
 #[inline]
-fn is_split<F: Font>(face: &F, s: u32, v: u32) -> bool {
+fn is_split<F: Font>(font: &F, s: u32, v: u32) -> bool {
     if !is_lv(s) || !is_t(v) {
         return false;
     }
     if is_combining_t(v) {
-        return !face.has_glyph(compose_three(s, v));
+        return !font.has_glyph(compose_three(s, v));
     }
-    !has_jamo_of(face, s)
+    !has_jamo_of(font, s)
 }
 
 // How many characters from `u` on are unsafe to break inside, `v` being the second.
 #[inline]
-fn unsafe_len<F: Font>(face: &F, unit: Unit, tone: JoinedTone, u: u32, v: u32) -> usize {
+fn unsafe_len<F: Font>(font: &F, unit: Unit, tone: JoinedTone, u: u32, v: u32) -> usize {
     if is_l(u) && is_v(v) {
         return unit.taken();
     }
     if unit.is_marked() && tone.len() == 1 {
         return unit.taken();
     }
-    if is_split(face, u, v) {
+    if is_split(font, u, v) {
         return 2;
     }
     0
 }
 
 // The item that begins the text. A character that jamo or a tone doesn't follow decides by itself.
-fn read_item<F: Font>(face: &F, circles: bool, glyphs: &[GlyphInfo]) -> Item {
+fn read_item<F: Font>(font: &F, circles: bool, glyphs: &[GlyphInfo]) -> Item {
     let u = character_at(glyphs, 0);
     let v = character_at(glyphs, 1);
     if is_l(u) && is_v(v) {
-        let unit = jamo_unit(face, u, v, character_at(glyphs, 2));
-        let tone = joined_tone(face, unit, character_at(glyphs, unit.taken()));
+        let unit = jamo_unit(font, u, v, character_at(glyphs, 2));
+        let tone = joined_tone(font, unit, character_at(glyphs, unit.taken()));
         return Item {
             unit,
             tone,
@@ -260,39 +260,39 @@ fn read_item<F: Font>(face: &F, circles: bool, glyphs: &[GlyphInfo]) -> Item {
     }
     if !follows(v) {
         return Item {
-            unit: lone_unit(face, circles, u),
+            unit: lone_unit(font, circles, u),
             tone: JoinedTone::Absent,
             unsafe_len: 0,
         };
     }
-    let unit = first_unit(face, circles, u, v, character_at(glyphs, 2));
-    let tone = joined_tone(face, unit, character_at(glyphs, unit.taken()));
+    let unit = first_unit(font, circles, u, v, character_at(glyphs, 2));
+    let tone = joined_tone(font, unit, character_at(glyphs, unit.taken()));
     Item {
         unit,
         tone,
-        unsafe_len: unsafe_len(face, unit, tone, u, v),
+        unsafe_len: unsafe_len(font, unit, tone, u, v),
     }
 }
 
 // Whether the character that begins the text stays as it is, as far as it and the next one decide.
 #[inline]
-pub(super) fn stays_alone<F: Font>(face: &F, circles: bool, glyphs: &[GlyphInfo]) -> bool {
+pub(super) fn stays_alone<F: Font>(font: &F, circles: bool, glyphs: &[GlyphInfo]) -> bool {
     let u = character_at(glyphs, 0);
     let v = character_at(glyphs, 1);
     if is_combined_s(u) {
-        return !follows(v) && face.has_glyph(u);
+        return !follows(v) && font.has_glyph(u);
     }
     if is_hangul_tone(u) {
         // it takes nothing along, and stays where it gets no circle
-        return !circles || !face.has_glyph(DOTTED_CIRCLE);
+        return !circles || !font.has_glyph(DOTTED_CIRCLE);
     }
     !follows(v)
 }
 
 // The item that begins the text, which stands within it.
 #[inline]
-pub(super) fn first_item<F: Font>(face: &F, circles: bool, glyphs: &[GlyphInfo]) -> Item {
-    read_item(face, circles, glyphs)
+pub(super) fn first_item<F: Font>(font: &F, circles: bool, glyphs: &[GlyphInfo]) -> Item {
+    read_item(font, circles, glyphs)
 }
 
 impl JoinedTone {

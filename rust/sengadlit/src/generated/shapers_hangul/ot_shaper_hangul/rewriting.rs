@@ -18,8 +18,8 @@ use crate::support::arrayvec::ArrayVec;
 
 // The item at a place of the text.
 #[inline]
-fn item_at<F: Font>(face: &F, circles: bool, glyphs: &[GlyphInfo], place: usize) -> Item {
-    first_item(face, circles, rest_from(glyphs, place))
+fn item_at<F: Font>(font: &F, circles: bool, glyphs: &[GlyphInfo], place: usize) -> Item {
+    first_item(font, circles, rest_from(glyphs, place))
 }
 
 // The text from a place on.
@@ -30,9 +30,9 @@ fn rest_from(glyphs: &[GlyphInfo], place: usize) -> &[GlyphInfo] {
 
 // How far a look at each character tells that the text stays as it is.
 #[inline]
-fn kept_len<F: Font>(face: &F, circles: bool, glyphs: &[GlyphInfo]) -> usize {
+fn kept_len<F: Font>(font: &F, circles: bool, glyphs: &[GlyphInfo]) -> usize {
     let mut place = 0;
-    while place < glyphs.len() && stays_alone(face, circles, rest_from(glyphs, place)) {
+    while place < glyphs.len() && stays_alone(font, circles, rest_from(glyphs, place)) {
         place += 1;
     }
     place
@@ -103,7 +103,7 @@ impl Cut {
 // it from there on. Refuses where the result would be longer than `limit`, and for nothing else.
 #[inline]
 fn measure<F: Font>(
-    face: &F,
+    font: &F,
     circles: bool,
     glyphs: &[GlyphInfo],
     kept: usize,
@@ -113,7 +113,7 @@ fn measure<F: Font>(
     let mut room = limit - kept;
     let mut place = kept;
     while place < glyphs.len() {
-        if stays_alone(face, circles, rest_from(glyphs, place)) {
+        if stays_alone(font, circles, rest_from(glyphs, place)) {
             if room == 0 {
                 return Err(ShaperError::TooLong);
             }
@@ -121,7 +121,7 @@ fn measure<F: Font>(
             place += 1;
             continue;
         }
-        let item = item_at(face, circles, glyphs, place);
+        let item = item_at(font, circles, glyphs, place);
         if room < item.output_len() {
             return Err(ShaperError::TooLong);
         }
@@ -295,18 +295,18 @@ fn wants_circles(buffer: &Buffer) -> bool {
 #[inline]
 pub(super) fn rewrite_changes<F: Font>(
     breaks: BreakFlags,
-    face: &F,
+    font: &F,
     buffer: &mut Buffer,
 ) -> Result<bool, ShaperError> {
     let circles = wants_circles(buffer);
     let (level, alloc) = (buffer.cluster_level(), buffer.alloc());
     let glyphs = buffer.glyphs();
-    let kept = kept_len(face, circles, glyphs);
+    let kept = kept_len(font, circles, glyphs);
     if kept == buffer.len() {
         return Ok(false);
     }
     let mut cut = Cut::new(alloc);
-    let len = measure(face, circles, glyphs, kept, buffer.max_len(), &mut cut)?;
+    let len = measure(font, circles, glyphs, kept, buffer.max_len(), &mut cut)?;
     if !cut.is_whole {
         return Err(ShaperError::Memory);
     }
@@ -327,9 +327,9 @@ pub(super) fn rewrite_changes<F: Font>(
 #[inline]
 pub(super) fn rewrite<F: Font>(
     breaks: BreakFlags,
-    face: &F,
+    font: &F,
     buffer: &mut Buffer,
 ) -> Result<(), ShaperError> {
-    rewrite_changes(breaks, face, buffer)?;
+    rewrite_changes(breaks, font, buffer)?;
     Ok(())
 }

@@ -18,7 +18,7 @@ pub(super) fn update_consonant_positions<F: Font>(rules: &Rules<F>, buffer: &mut
     if !has_forms(rules.plan, rules.map) {
         return;
     }
-    if let Some(virama) = virama_glyph(rules.plan, rules.face) {
+    if let Some(virama) = virama_glyph(rules.plan, rules.font) {
         buffer.walk(&mut ByVirama { rules, virama });
     }
 }
@@ -117,8 +117,8 @@ impl<'a, F: Font> ByVirama<'a, F> {
     // consonant.
     #[inline(always)]
     fn joins(&self, feature: &IndicWouldSubstituteFeature, consonant: GlyphId) -> bool {
-        feature.would_substitute(self.rules.map, self.rules.face, &[self.virama, consonant])
-            || feature.would_substitute(self.rules.map, self.rules.face, &[consonant, self.virama])
+        feature.would_substitute(self.rules.map, self.rules.font, &[self.virama, consonant])
+            || feature.would_substitute(self.rules.map, self.rules.font, &[consonant, self.virama])
     }
 }
 

@@ -167,7 +167,7 @@ fn pref_pair<F: Font>(rules: &Rules<F>, base: usize, glyphs: &[GlyphInfo]) -> Op
     }
     for i in base + 1..glyphs.len() - 1 {
         let pair = [number(&glyphs[i]), number(&glyphs[i + 1])];
-        if plan.pref.would_substitute(rules.map, rules.face, &pair) {
+        if plan.pref.would_substitute(rules.map, rules.font, &pair) {
             return Some(i);
         }
     }

@@ -59,10 +59,10 @@ fn is_formed<F: Font>(rules: &Rules<F>, glyphs: &[GlyphInfo]) -> bool {
     let opening = [number(&glyphs[0]), number(&glyphs[1]), number(&glyphs[2])];
     let rphf = &rules.plan.rphf;
     match rules.plan.config.reph_mode {
-        RephMode::Implicit => rphf.would_substitute(rules.map, rules.face, &opening[..2]),
+        RephMode::Implicit => rphf.would_substitute(rules.map, rules.font, &opening[..2]),
         RephMode::Explicit => {
-            rphf.would_substitute(rules.map, rules.face, &opening[..2])
-                || rphf.would_substitute(rules.map, rules.face, &opening)
+            rphf.would_substitute(rules.map, rules.font, &opening[..2])
+                || rphf.would_substitute(rules.map, rules.font, &opening)
         }
         RephMode::LogRepha => false,
     }

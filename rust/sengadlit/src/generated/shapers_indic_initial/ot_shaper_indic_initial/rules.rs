@@ -11,5 +11,5 @@ use crate::generated::shapers_base::plan::IndicPlan;
 pub(super) struct Rules<'a, F: Font> {
     pub(super) plan: &'a IndicPlan,
     pub(super) map: &'a Map,
-    pub(super) face: &'a F,
+    pub(super) font: &'a F,
 }

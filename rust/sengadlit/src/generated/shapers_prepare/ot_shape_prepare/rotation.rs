@@ -30,7 +30,7 @@ pub struct CharRotation {
 ///
 /// ```text
 /// ensures { let p = U.properties unicode.now in
-///     let text = map (rotated_glyph p (F.font face.now) rotation.now) buffer.old.glyphs in
+///     let text = map (rotated_glyph p (F.font font.now) rotation.now) buffer.old.glyphs in
 ///     buffer.new ≡ record buffer.old { glyphs = text } }
 /// ```
 ///
@@ -39,26 +39,26 @@ pub struct CharRotation {
 /// </details>
 pub fn rotate_chars<U: UnicodeProperties, F: Font>(
     unicode: &U,
-    face: &F,
+    font: &F,
     rotation: &CharRotation,
     buffer: &mut Buffer,
 ) {
     if !rotates(*rotation) {
         return;
     }
-    rotate_each(unicode, face, *rotation, buffer);
+    rotate_each(unicode, font, *rotation, buffer);
 }
 
 // Rotates each character, in a text that goes in such a direction.
 fn rotate_each<U: UnicodeProperties, F: Font>(
     unicode: &U,
-    face: &F,
+    font: &F,
     rotation: CharRotation,
     buffer: &mut Buffer,
 ) {
     let rotating = Rotating {
         unicode,
-        face,
+        font,
         rotation,
     };
     // (a font that panics leaves the empty buffer, and no text with some characters rotated)
@@ -74,7 +74,7 @@ fn rotates(rotation: CharRotation) -> bool {
 // The change of one glyph.
 struct Rotating<'a, U: UnicodeProperties, F: Font> {
     unicode: &'a U,
-    face: &'a F,
+    font: &'a F,
     rotation: CharRotation,
 }
 
@@ -82,10 +82,10 @@ impl<'a, U: UnicodeProperties, F: Font> GlyphChange for Rotating<'a, U, F> {
     #[inline]
     fn change(&self, glyph: &mut GlyphInfo) {
         if goes_backward(self.rotation.direction) {
-            mirror(self.unicode, self.face, self.rotation.rtlm_mask, glyph);
+            mirror(self.unicode, self.font, self.rotation.rtlm_mask, glyph);
         }
         if goes_vertically(self.rotation.direction) && !self.rotation.has_vert {
-            stand_upright(self.unicode, self.face, glyph);
+            stand_upright(self.unicode, self.font, glyph);
         }
     }
 }
@@ -94,11 +94,11 @@ impl<'a, U: UnicodeProperties, F: Font> GlyphChange for Rotating<'a, U, F> {
 #[inline]
 fn mirror<U: UnicodeProperties, F: Font>(
     unicode: &U,
-    face: &F,
+    font: &F,
     rtlm_mask: u32,
     glyph: &mut GlyphInfo,
 ) {
-    match which_font_has(face, unicode.mirrored(glyph.glyph_id)) {
+    match which_font_has(font, unicode.mirrored(glyph.glyph_id)) {
         Some(c) => glyph.glyph_id = c,
         None => glyph.mask |= rtlm_mask,
     }
@@ -106,17 +106,17 @@ fn mirror<U: UnicodeProperties, F: Font>(
 
 // The vertical form where the font has it.
 #[inline]
-fn stand_upright<U: UnicodeProperties, F: Font>(unicode: &U, face: &F, glyph: &mut GlyphInfo) {
-    if let Some(c) = which_font_has(face, unicode.vertical_form(glyph.glyph_id)) {
+fn stand_upright<U: UnicodeProperties, F: Font>(unicode: &U, font: &F, glyph: &mut GlyphInfo) {
+    if let Some(c) = which_font_has(font, unicode.vertical_form(glyph.glyph_id)) {
         glyph.glyph_id = c;
     }
 }
 
 // A character that the font has, if there is one.
 #[inline]
-fn which_font_has<F: Font>(face: &F, c: Option<u32>) -> Option<u32> {
+fn which_font_has<F: Font>(font: &F, c: Option<u32>) -> Option<u32> {
     match c {
-        Some(c) if face.has_glyph(c) => Some(c),
+        Some(c) if font.has_glyph(c) => Some(c),
         _ => None,
     }
 }

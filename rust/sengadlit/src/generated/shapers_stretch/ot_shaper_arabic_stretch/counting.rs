@@ -13,7 +13,7 @@ use crate::generated::shapers_base::plan::StretchStart;
 /// bits.
 #[inline]
 pub(super) fn count_added<F: Font>(
-    face: &F,
+    font: &F,
     choice: StretchStart,
     right_to_left: bool,
     glyphs: &[GlyphInfo],
@@ -23,7 +23,7 @@ pub(super) fn count_added<F: Font>(
     let mut end = glyphs.len();
     while 0 < end {
         let last = count_last(
-            face,
+            font,
             choice,
             right_to_left,
             &glyphs[..end],
@@ -45,7 +45,7 @@ struct Counted {
 // Counts the last part of a text, unless one of its numbers doesn't fit 32 bits.
 #[inline]
 fn count_last<F: Font>(
-    face: &F,
+    font: &F,
     choice: StretchStart,
     right_to_left: bool,
     glyphs: &[GlyphInfo],
@@ -58,22 +58,22 @@ fn count_last<F: Font>(
         return Some(Counted { start, added: 0 });
     }
     let word = &positions[part.word..part.tiles];
-    let added = count_sequence(face, choice, right_to_left, word, tiles)?;
+    let added = count_sequence(font, choice, right_to_left, word, tiles)?;
     Some(Counted { start, added })
 }
 
 // How many copies a sequence adds, unless one of its numbers doesn't fit 32 bits.
 #[inline]
 fn count_sequence<F: Font>(
-    face: &F,
+    font: &F,
     choice: StretchStart,
     right_to_left: bool,
     word: &[GlyphPosition],
     tiles: &[GlyphInfo],
 ) -> Option<usize> {
-    let run = measure(face, word, tiles)?;
+    let run = measure(font, word, tiles)?;
     let lay = lay_of(choice, right_to_left, run)?;
-    if offsets_fit(face, right_to_left, lay, tiles) {
+    if offsets_fit(font, right_to_left, lay, tiles) {
         Some(lay.added * run.repeaters)
     } else {
         None
@@ -82,12 +82,12 @@ fn count_sequence<F: Font>(
 
 // Whether the offsets of all copies of a sequence fit 32 bits.
 #[inline]
-fn offsets_fit<F: Font>(face: &F, right_to_left: bool, lay: Lay, tiles: &[GlyphInfo]) -> bool {
+fn offsets_fit<F: Font>(font: &F, right_to_left: bool, lay: Lay, tiles: &[GlyphInfo]) -> bool {
     let mut pen = lay.start;
     let mut left = tiles.len();
     while 0 < left {
         left -= 1;
-        match behind_tile(face, right_to_left, lay, pen, &tiles[left]) {
+        match behind_tile(font, right_to_left, lay, pen, &tiles[left]) {
             Some(behind) => pen = behind,
             None => return false,
         }
@@ -98,13 +98,13 @@ fn offsets_fit<F: Font>(face: &F, right_to_left: bool, lay: Lay, tiles: &[GlyphI
 // Where the pen is behind the copies of a tile, unless an offset of theirs doesn't fit 32 bits.
 #[inline]
 fn behind_tile<F: Font>(
-    face: &F,
+    font: &F,
     right_to_left: bool,
     lay: Lay,
     pen: i64,
     tile: &GlyphInfo,
 ) -> Option<i64> {
-    let width = advance_of(face, tile);
+    let width = advance_of(font, tile);
     let behind = behind_copy(right_to_left, pen, i64::from(width))?;
     if !repeats(tile) {
         return Some(behind);

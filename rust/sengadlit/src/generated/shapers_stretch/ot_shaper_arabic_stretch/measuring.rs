@@ -37,14 +37,14 @@ pub(super) fn fits_i32(x: i64) -> bool {
 /// what the fixed tiles leave of the word doesn't.
 #[inline]
 pub(super) fn measure<F: Font>(
-    face: &F,
+    font: &F,
     word: &[GlyphPosition],
     tiles: &[GlyphInfo],
 ) -> Option<TileSequence> {
     if word.len() <= SHORT && tiles.len() <= SHORT {
-        Some(measure_short(face, word, tiles))
+        Some(measure_short(font, word, tiles))
     } else {
-        measure_long(face, word, tiles)
+        measure_long(font, word, tiles)
     }
 }
 
@@ -53,13 +53,13 @@ const SHORT: usize = 0x7FFF_FFFF;
 
 // What few tiles and a short word before them measure, whose sums always fit.
 #[inline]
-fn measure_short<F: Font>(face: &F, word: &[GlyphPosition], tiles: &[GlyphInfo]) -> TileSequence {
+fn measure_short<F: Font>(font: &F, word: &[GlyphPosition], tiles: &[GlyphInfo]) -> TileSequence {
     let word = short_advance(word);
     let mut fixed = 0;
     let mut repeating = 0;
     let mut repeaters = 0;
     for glyph in tiles {
-        let width = i64::from(advance_of(face, glyph));
+        let width = i64::from(advance_of(font, glyph));
         if repeats(glyph) {
             repeating += width;
             repeaters += 1;
@@ -78,7 +78,7 @@ fn measure_short<F: Font>(face: &F, word: &[GlyphPosition], tiles: &[GlyphInfo])
 // The same of any number of tiles, and a word of any length, piece by piece.
 #[inline(never)]
 fn measure_long<F: Font>(
-    face: &F,
+    font: &F,
     word: &[GlyphPosition],
     tiles: &[GlyphInfo],
 ) -> Option<TileSequence> {
@@ -87,7 +87,7 @@ fn measure_long<F: Font>(
     let mut repeating = 0;
     let mut repeaters = 0;
     for piece in tiles.chunks(SHORT) {
-        let run = measure_short(face, &[], piece);
+        let run = measure_short(font, &[], piece);
         fixed += i128::from(run.fixed);
         repeating += i128::from(run.repeating);
         repeaters += run.repeaters;
@@ -107,8 +107,8 @@ fn narrowed(sum: i128) -> Option<i64> {
 
 /// How far a glyph of the font moves the pen.
 #[inline]
-pub(super) fn advance_of<F: Font>(face: &F, glyph: &GlyphInfo) -> i32 {
-    face.glyph_h_advance(GlyphId(u16::try_from(glyph.glyph_id).unwrap()))
+pub(super) fn advance_of<F: Font>(font: &F, glyph: &GlyphInfo) -> i32 {
+    font.glyph_h_advance(GlyphId(u16::try_from(glyph.glyph_id).unwrap()))
 }
 
 // The advance of a short word.
@@ -134,13 +134,13 @@ fn total_advance(word: &[GlyphPosition]) -> i128 {
 /// 32 bits.
 #[inline]
 pub(super) fn lay_of_sequence<F: Font>(
-    face: &F,
+    font: &F,
     choice: StretchStart,
     right_to_left: bool,
     word: &[GlyphPosition],
     tiles: &[GlyphInfo],
 ) -> Option<Lay> {
-    let run = measure(face, word, tiles)?;
+    let run = measure(font, word, tiles)?;
     lay_of(choice, right_to_left, run)
 }
 

@@ -62,7 +62,7 @@ pub fn postprocess_glyphs<F: Font>(
 // The same, where stretches begin so.
 #[inline]
 fn stretch_marks<F: Font>(
-    face: &F,
+    font: &F,
     choice: StretchStart,
     buffer: &mut Buffer,
 ) -> Result<(), ShaperError> {
@@ -72,7 +72,7 @@ fn stretch_marks<F: Font>(
     // (a font that panics leaves the empty buffer, and none that is reversed or half laid)
     let empty = Buffer::new(buffer.alloc(), buffer.max_len());
     let mut text = mem::replace(buffer, empty);
-    let result = stretch_in_order(face, choice, &mut text);
+    let result = stretch_in_order(font, choice, &mut text);
     *buffer = text;
     result
 }
@@ -80,32 +80,32 @@ fn stretch_marks<F: Font>(
 // Stretches a text that has tiles, in working order: from right to left it stands in it.
 #[inline]
 fn stretch_in_order<F: Font>(
-    face: &F,
+    font: &F,
     choice: StretchStart,
     buffer: &mut Buffer,
 ) -> Result<(), ShaperError> {
     match buffer.direction() {
-        Direction::RightToLeft => stretch_text(face, choice, true, buffer),
-        _ => stretch_backwards(face, choice, buffer),
+        Direction::RightToLeft => stretch_text(font, choice, true, buffer),
+        _ => stretch_backwards(font, choice, buffer),
     }
 }
 
 // Stretches a text that is in working order backwards.
 #[inline]
 fn stretch_backwards<F: Font>(
-    face: &F,
+    font: &F,
     choice: StretchStart,
     buffer: &mut Buffer,
 ) -> Result<(), ShaperError> {
     buffer.reverse();
-    let result = stretch_text(face, choice, false, buffer);
+    let result = stretch_text(font, choice, false, buffer);
     buffer.reverse();
     result
 }
 
 // Stretches a text that stands in working order: all room is made before anything is written.
 fn stretch_text<F: Font>(
-    face: &F,
+    font: &F,
     choice: StretchStart,
     right_to_left: bool,
     buffer: &mut Buffer,
@@ -113,13 +113,13 @@ fn stretch_text<F: Font>(
     let len = buffer.len();
     let glyphs = buffer.glyphs();
     let positions = buffer.positions();
-    let Some(added) = count_added(face, choice, right_to_left, glyphs, positions) else {
+    let Some(added) = count_added(font, choice, right_to_left, glyphs, positions) else {
         return Err(ShaperError::StretchOverflow);
     };
     match make_room(buffer, added) {
         Ok(()) => {
             buffer.walk_positioned(&TileLaying {
-                face,
+                font,
                 choice,
                 right_to_left,
                 len,

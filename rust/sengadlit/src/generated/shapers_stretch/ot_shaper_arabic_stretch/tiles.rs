@@ -17,7 +17,7 @@ use core::ops::Range;
 /// order, and which are just as long as the stretched text.
 #[derive(Clone, Copy)]
 pub(super) struct TileLaying<'a, F> {
-    pub(super) face: &'a F,
+    pub(super) font: &'a F,
     pub(super) choice: StretchStart,
     pub(super) right_to_left: bool,
     pub(super) len: usize,
@@ -77,7 +77,7 @@ impl<'a, F: Font> TileLaying<'a, F> {
         unlaid: Unlaid,
     ) -> usize {
         let found = lay_of_sequence(
-            self.face,
+            self.font,
             self.choice,
             self.right_to_left,
             &positions[part.word..part.tiles],
@@ -128,7 +128,7 @@ impl<'a, F: Font> TileLaying<'a, F> {
         tile: Tile,
         pen: Pen,
     ) -> Pen {
-        let width = i64::from(advance_of(self.face, &tile.glyph));
+        let width = i64::from(advance_of(self.font, &tile.glyph));
         let pen = lay_copies(self.right_to_left, width, 1, glyphs, positions, tile, pen);
         if !repeats(&tile.glyph) {
             return pen;

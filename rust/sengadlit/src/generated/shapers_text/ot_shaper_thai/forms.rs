@@ -164,13 +164,13 @@ fn find_mapping(mappings: &[PuaMapping], u: u32) -> Option<PuaMapping> {
 }
 
 // The first form of a character that the font has, else the character itself.
-fn pua_shape<F: Font>(u: u32, action: Action, face: &F) -> u32 {
+fn pua_shape<F: Font>(u: u32, action: Action, font: &F) -> u32 {
     match find_mapping(get_mappings(action), u) {
         None => u,
         Some(m) => {
-            if face.has_glyph(m.1) {
+            if font.has_glyph(m.1) {
                 m.1
-            } else if face.has_glyph(m.2) {
+            } else if font.has_glyph(m.2) {
                 m.2
             } else {
                 u
@@ -190,8 +190,8 @@ fn flag_marks(glyphs: &mut [GlyphInfo], base: usize, end: usize) {
 }
 
 // Gives the glyph at `place` its form.
-fn set_form<F: Font>(face: &F, glyphs: &mut [GlyphInfo], place: usize, action: Action) {
-    glyphs[place].glyph_id = pua_shape(glyphs[place].glyph_id, action, face);
+fn set_form<F: Font>(font: &F, glyphs: &mut [GlyphInfo], place: usize, action: Action) {
+    glyphs[place].glyph_id = pua_shape(glyphs[place].glyph_id, action, font);
 }
 
 /// The base of the marks that come next, and how many marks stand above and below it so far.
@@ -213,18 +213,18 @@ impl Base {
     };
 
     // Does what the mark at place `i` does: to itself, or to its base.
-    fn act<F: Font>(self, face: &F, glyphs: &mut [GlyphInfo], i: usize, mark: Mark) {
+    fn act<F: Font>(self, font: &F, glyphs: &mut [GlyphInfo], i: usize, mark: Mark) {
         let action = get_action(self.consonant, mark, self.above, self.below);
         match action {
             Action::NOP => {}
-            Action::RD => set_form(face, glyphs, self.place, action),
-            Action::SD | Action::SL | Action::SDL => set_form(face, glyphs, i, action),
+            Action::RD => set_form(font, glyphs, self.place, action),
+            Action::SD | Action::SL | Action::SDL => set_form(font, glyphs, i, action),
         }
     }
 
     // Does what the character at place `i` does, and gives the base of what follows: a mark does
     // its action, and another character flags the marks before it.
-    fn pass<F: Font>(self, face: &F, glyphs: &mut [GlyphInfo], i: usize, u: u32) -> Base {
+    fn pass<F: Font>(self, font: &F, glyphs: &mut [GlyphInfo], i: usize, u: u32) -> Base {
         let Types(consonant, mark) = types_of(u);
         if matches!(mark, Mark::NotMark) {
             flag_marks(glyphs, self.place, i);
@@ -234,7 +234,7 @@ impl Base {
                 ..Base::NONE
             };
         }
-        self.act(face, glyphs, i, mark);
+        self.act(font, glyphs, i, mark);
         if matches!(mark, Mark::BV) {
             Base {
                 below: self.below + 1,
@@ -250,11 +250,11 @@ impl Base {
 }
 
 // Gives each mark, or its base, its form, and flags the marks of each base.
-fn shape_marks<F: Font>(face: &F, glyphs: &mut [GlyphInfo]) {
+fn shape_marks<F: Font>(font: &F, glyphs: &mut [GlyphInfo]) {
     let mut base = Base::NONE;
     for i in 0..glyphs.len() {
         let u = glyphs[i].glyph_id;
-        base = base.pass(face, glyphs, i, u);
+        base = base.pass(font, glyphs, i, u);
     }
     let end = glyphs.len();
     flag_marks(glyphs, base.place, end);
@@ -293,14 +293,14 @@ fn flag_breaks(breaks: BreakFlags, glyphs: &mut [GlyphInfo]) {
 #[derive(Clone, Copy)]
 struct PuaShaping<'a, F> {
     breaks: BreakFlags,
-    face: &'a F,
+    font: &'a F,
 }
 
 impl<'a, F: Font> GlyphWalk for PuaShaping<'a, F> {
     #[inline]
     fn walk(&mut self, glyphs: &mut [GlyphInfo]) {
         flag_breaks(self.breaks, glyphs);
-        shape_marks(self.face, glyphs);
+        shape_marks(self.font, glyphs);
     }
 }
 
@@ -312,7 +312,7 @@ impl<'a, F: Font> GlyphWalk for PuaShaping<'a, F> {
 /// # Contract
 ///
 /// ```text
-/// ensures { let has = has_nominal (F.font face.now) in
+/// ensures { let has = has_nominal (F.font font.now) in
 ///     let flagged = marks_flagged breaks buffer.old.glyphs in
 ///     buffer.new ≡ record buffer.old { glyphs = pua_shaped has flagged } }
 /// ```
@@ -321,10 +321,10 @@ impl<'a, F: Font> GlyphWalk for PuaShaping<'a, F> {
 /// - `marks_flagged`, `pua_shaped`: `crates/shapers_text/specs/ThaiForms.antt`
 ///
 /// </details>
-pub fn do_pua_shaping<F: Font>(breaks: BreakFlags, face: &F, buffer: &mut Buffer) {
+pub fn do_pua_shaping<F: Font>(breaks: BreakFlags, font: &F, buffer: &mut Buffer) {
     // (a font that panics leaves the empty buffer, and no text with some of the forms)
     let empty = Buffer::new(buffer.alloc(), buffer.max_len());
     let mut text = mem::replace(buffer, empty);
-    text.walk(&mut PuaShaping { breaks, face });
+    text.walk(&mut PuaShaping { breaks, font });
     *buffer = text;
 }

@@ -6,7 +6,7 @@ use Rattle.shapers_indic_initial.proofs.ot_shaper_indic_initial.font_positions.B
 
 abbrev pub invariant-loop-glyph : goal.invariant-loop-glyph
 invariant-loop-glyph g l =
-    let font = g.F.hb_font_t.font l.self.rules.now.face.now in
+    let font = g.F.hb_font_t.font l.self.rules.now.font.now in
     let f = by_virama font l.self.rules.now.map.now l.self.rules.now.plan.now l.self.virama in
     record {
       glyphs : take l.glyph-index l.glyphs ++ map f (drop l.glyph-index l.glyphs) ≡ map f l.initial.glyphs;

@@ -7,7 +7,7 @@ use Rattle.shapers_indic_initial.proofs.ot_shaper_indic_initial.font_positions.B
 
 pub returns-then-kept-consonant-clause-position : goal.returns-then-kept-consonant-clause-position
 returns-then-kept-consonant-clause-position g c =
-    let font = g.F.hb_font_t.font c.args.self.now.rules.now.face.now in
+    let font = g.F.hb_font_t.font c.args.self.now.rules.now.font.now in
     let m = c.args.self.now.rules.now.map.now in
     let p = c.args.self.now.rules.now.plan.now in
     let v = c.args.self.now.virama in

@@ -8,6 +8,6 @@ pub returns : goal.returns
 returns g c =
     let b = c.args.buffer.now in
     syllable_masked
-    (initial_rules (g.F.hb_font_t.font c.args.self.now.rules.now.face.now) c.args.self.now.rules.now.map.now
+    (initial_rules (g.F.hb_font_t.font c.args.self.now.rules.now.font.now) c.args.self.now.rules.now.map.now
     c.args.self.now.rules.now.plan.now) b.script c.args.start c.args.end b c.walk.new.self c.requires.in_order
     (omega arith) (search arith) (search arith)

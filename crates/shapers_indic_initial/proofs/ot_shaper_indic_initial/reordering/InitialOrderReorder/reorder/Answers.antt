@@ -13,7 +13,7 @@ use Rattle.shapers_indic_initial.proofs.ot_shaper_indic_initial.reordering.Initi
 pub returns-then-is_reordered-clause-related : goal.returns-then-is_reordered-clause-related
 returns-then-is_reordered-clause-related g c =
     let instance = c.args.self.now.rules.now in
-    let r = initial_rules (g.F.hb_font_t.font instance.face.now) instance.map.now instance.plan.now in
+    let r = initial_rules (g.F.hb_font_t.font instance.font.now) instance.map.now instance.plan.now in
     let s = c.args.start in
     let e = c.args.end in
     let m = c.prepare_for_order-moved.result in
@@ -40,7 +40,7 @@ returns-else-is_reordered-clause-related g c =
     let e = c.args.end in
     let b = c.args.buffer.now in
     other_syllable
-    (initial_rules (g.F.hb_font_t.font instance.face.now) instance.map.now instance.plan.now) b.script s e b c.requires.in_order
+    (initial_rules (g.F.hb_font_t.font instance.font.now) instance.map.now instance.plan.now) b.script s e b c.requires.in_order
     (ap (λ gs. is_reordered_in_indic (stretch_of s e gs)) (sym c.glyphs-2.ensures) ∙ sym c.is_reordered.ensures
     ∙ c.if-is_reordered.false)
 
@@ -48,5 +48,5 @@ pub returns-then-is_plain_consonant-clause-related : goal.returns-then-is_plain_
 returns-then-is_plain_consonant-clause-related g c =
     let instance = c.args.self.now.rules.now in
     let b = c.args.buffer.now in
-    plain_here (initial_rules (g.F.hb_font_t.font instance.face.now) instance.map.now instance.plan.now) b.script
+    plain_here (initial_rules (g.F.hb_font_t.font instance.font.now) instance.map.now instance.plan.now) b.script
     c.args.start c.args.end b c.requires.in_order c.requires.in_range (search arith)

@@ -5,7 +5,7 @@ use Rattle.shapers_stretch.proofs.ot_shaper_arabic_stretch.tiles.TileLaying.lay_
 
 abbrev pub invariant-loop-unlaid : goal.invariant-loop-unlaid
 invariant-loop-unlaid g l =
-    let how = laying_by (g.F.hb_font_t.font l.self.face.now) l.self.choice l.self.right_to_left in
+    let how = laying_by (g.F.hb_font_t.font l.self.font.now) l.self.choice l.self.right_to_left in
     IsLaidFrom how (stretched how (text_in_slices l.self.len l.initial.glyphs l.initial.positions)) l.glyphs l.positions
     l.unlaid.end l.unlaid.place
 

@@ -5,7 +5,7 @@ use Rattle.shapers_stretch.proofs.ot_shaper_arabic_stretch.tiles.TileLaying.lay_
 
 pub lay_sequence-place-requires-clause-run : goal.lay_sequence-place-requires-clause-run
 lay_sequence-place-requires-clause-run g c =
-    let how = laying_by (g.F.hb_font_t.font c.args.self.now.face.now) c.args.self.now.choice
+    let how = laying_by (g.F.hb_font_t.font c.args.self.now.font.now) c.args.self.now.choice
     c.args.self.now.right_to_left in
     let p = c.last_part-part.result in
     let e = c.last_part-part.ensures in
@@ -17,7 +17,7 @@ lay_sequence-place-requires-clause-run g c =
 
 pub returns-then-part-unlaid-clause-laid : goal.returns-then-part-unlaid-clause-laid
 returns-then-part-unlaid-clause-laid g c =
-    let how = laying_by (g.F.hb_font_t.font c.args.self.now.face.now) c.args.self.now.choice
+    let how = laying_by (g.F.hb_font_t.font c.args.self.now.font.now) c.args.self.now.choice
     c.args.self.now.right_to_left in
     let p = c.last_part-part.result in
     let e = c.last_part-part.ensures in
@@ -28,7 +28,7 @@ returns-then-part-unlaid-clause-laid g c =
 
 pub returns-then-part-unlaid-clause-shorter : goal.returns-then-part-unlaid-clause-shorter
 returns-then-part-unlaid-clause-shorter g c =
-    let how = laying_by (g.F.hb_font_t.font c.args.self.now.face.now) c.args.self.now.choice
+    let how = laying_by (g.F.hb_font_t.font c.args.self.now.font.now) c.args.self.now.choice
     c.args.self.now.right_to_left in
     let p = c.last_part-part.result in
     let e = c.last_part-part.ensures in
@@ -38,7 +38,7 @@ returns-then-part-unlaid-clause-shorter g c =
 
 pub move_up-requires-2-clause-ahead : goal.move_up-requires-2-clause-ahead
 move_up-requires-2-clause-ahead g c =
-    let how = laying_by (g.F.hb_font_t.font c.args.self.now.face.now) c.args.self.now.choice
+    let how = laying_by (g.F.hb_font_t.font c.args.self.now.font.now) c.args.self.now.choice
     c.args.self.now.right_to_left in
     let p = c.last_part-part.result in
     let e = c.last_part-part.ensures in
@@ -51,7 +51,7 @@ move_up-requires-2-clause-ahead g c =
 
 pub overflow_sub-result-3 : goal.overflow_sub-result-3
 overflow_sub-result-3 g c =
-    let how = laying_by (g.F.hb_font_t.font c.args.self.now.face.now) c.args.self.now.choice
+    let how = laying_by (g.F.hb_font_t.font c.args.self.now.font.now) c.args.self.now.choice
     c.args.self.now.right_to_left in
     let p = c.last_part-part.result in
     let e = c.last_part-part.ensures in
@@ -64,7 +64,7 @@ overflow_sub-result-3 g c =
 
 pub returns-clause-laid : goal.returns-clause-laid
 returns-clause-laid g c =
-    let how = laying_by (g.F.hb_font_t.font c.args.self.now.face.now) c.args.self.now.choice
+    let how = laying_by (g.F.hb_font_t.font c.args.self.now.font.now) c.args.self.now.choice
     c.args.self.now.right_to_left in
     let p = c.last_part-part.result in
     let e = c.last_part-part.ensures in

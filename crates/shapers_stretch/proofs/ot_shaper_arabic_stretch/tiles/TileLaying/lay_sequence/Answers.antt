@@ -22,19 +22,19 @@ lay_of_sequence-found-requires g c = search all_stretch
 pub lay_tiles-requires-clause-overlap_low : goal.lay_tiles-requires-clause-overlap_low
 lay_tiles-requires-clause-overlap_low g c =
     (lay_is c.args.self.now.choice c.args.self.now.right_to_left
-    (measured_slices (g.F.hb_font_t.font c.args.self.now.face.now) c.args.part.word c.args.part.tiles c.args.unlaid.end
+    (measured_slices (g.F.hb_font_t.font c.args.self.now.font.now) c.args.part.word c.args.part.tiles c.args.unlaid.end
     c.args.glyphs.now c.args.positions.now) c.in-Some.lay (sym c.lay_of_sequence-found.ensures ∙ c.in-Some.is)).low
 
 pub lay_tiles-requires-clause-overlap_high : goal.lay_tiles-requires-clause-overlap_high
 lay_tiles-requires-clause-overlap_high g c =
     (lay_is c.args.self.now.choice c.args.self.now.right_to_left
-    (measured_slices (g.F.hb_font_t.font c.args.self.now.face.now) c.args.part.word c.args.part.tiles c.args.unlaid.end
+    (measured_slices (g.F.hb_font_t.font c.args.self.now.font.now) c.args.part.word c.args.part.tiles c.args.unlaid.end
     c.args.glyphs.now c.args.positions.now) c.in-Some.lay (sym c.lay_of_sequence-found.ensures ∙ c.in-Some.is)).high
 
 pub lay_tiles-requires-clause-near : goal.lay_tiles-requires-clause-near
 lay_tiles-requires-clause-near g c =
     start_read_near c.args.self.now.choice c.args.self.now.right_to_left
-    (measured_slices (g.F.hb_font_t.font c.args.self.now.face.now) c.args.part.word c.args.part.tiles c.args.unlaid.end
+    (measured_slices (g.F.hb_font_t.font c.args.self.now.font.now) c.args.part.word c.args.part.tiles c.args.unlaid.end
     c.args.glyphs.now c.args.positions.now) c.in-Some.lay (search arith)
 
 pub lay_tiles-requires-clause-numbers : goal.lay_tiles-requires-clause-numbers
@@ -44,7 +44,7 @@ lay_tiles-requires-clause-numbers g c =
 
 pub lay_tiles-requires-clause-can : goal.lay_tiles-requires-clause-can
 lay_tiles-requires-clause-can g c =
-    let font = g.F.hb_font_t.font c.args.self.now.face.now in
+    let font = g.F.hb_font_t.font c.args.self.now.font.now in
     let p = c.args.part in
     let u = c.args.unlaid in
     let r = c.requires.run in
@@ -52,24 +52,24 @@ lay_tiles-requires-clause-can g c =
     let word = stretch_of p.word p.tiles old in
     let tiles = stretch_of p.tiles u.end old in
     let within : u.end ≤ length c.args.glyphs.now = omega arith in
-    let is : (measured_slices (g.F.hb_font_t.font c.args.self.now.face.now) c.args.part.word c.args.part.tiles
+    let is : (measured_slices (g.F.hb_font_t.font c.args.self.now.font.now) c.args.part.word c.args.part.tiles
     c.args.unlaid.end c.args.glyphs.now c.args.positions.now) ≡
     (measured font (positions_of word) (glyphs_of tiles)) = measured_is font p.word p.tiles u.end c.args.glyphs.now c.args.positions.now r.order within r.both in
     let flags = flags_made p.word p.tiles u.end c.args.glyphs.now c.unsafe_to_break_in.new.glyphs c.args.positions.now
     c.requires.word r.order within r.both c.unsafe_to_break_in.ensures in
     let from = start_is c.args.self.now.choice c.args.self.now.right_to_left
-    (measured_slices (g.F.hb_font_t.font c.args.self.now.face.now) c.args.part.word c.args.part.tiles
+    (measured_slices (g.F.hb_font_t.font c.args.self.now.font.now) c.args.part.word c.args.part.tiles
     c.args.unlaid.end c.args.glyphs.now c.args.positions.now) c.in-Some.lay
     (sym c.lay_of_sequence-found.ensures ∙ c.in-Some.is)
     ∙ ap (start c.args.self.now.choice c.args.self.now.right_to_left) is in
     let cs = stretch_of p.tiles u.end (zip c.unsafe_to_break_in.new.glyphs c.args.positions.now) in
     let same : sequence_copies font c.in-Some.lay cs
-    ≡ copies font (measured_slices (g.F.hb_font_t.font c.args.self.now.face.now) c.args.part.word
+    ≡ copies font (measured_slices (g.F.hb_font_t.font c.args.self.now.font.now) c.args.part.word
     c.args.part.tiles c.args.unlaid.end c.args.glyphs.now c.args.positions.now) cs = copies_same font
-    (measured_slices (g.F.hb_font_t.font c.args.self.now.face.now) c.args.part.word c.args.part.tiles
+    (measured_slices (g.F.hb_font_t.font c.args.self.now.font.now) c.args.part.word c.args.part.tiles
     c.args.unlaid.end c.args.glyphs.now c.args.positions.now) c.in-Some.lay cs
     (lay_is c.args.self.now.choice c.args.self.now.right_to_left
-    (measured_slices (g.F.hb_font_t.font c.args.self.now.face.now) c.args.part.word c.args.part.tiles
+    (measured_slices (g.F.hb_font_t.font c.args.self.now.font.now) c.args.part.word c.args.part.tiles
     c.args.unlaid.end c.args.glyphs.now c.args.positions.now) c.in-Some.lay (sym c.lay_of_sequence-found.ensures
     ∙ c.in-Some.is)) in
     subst (λ run. CanLay c.args.self.now.right_to_left run
@@ -80,7 +80,7 @@ lay_tiles-requires-clause-can g c =
 
 pub lay_tiles-requires-clause-room : goal.lay_tiles-requires-clause-room
 lay_tiles-requires-clause-room g c =
-    let font = g.F.hb_font_t.font c.args.self.now.face.now in
+    let font = g.F.hb_font_t.font c.args.self.now.font.now in
     let p = c.args.part in
     let u = c.args.unlaid in
     let r = c.requires.run in
@@ -88,19 +88,19 @@ lay_tiles-requires-clause-room g c =
     let word = stretch_of p.word p.tiles old in
     let tiles = stretch_of p.tiles u.end old in
     let within : u.end ≤ length c.args.glyphs.now = omega arith in
-    let is : (measured_slices (g.F.hb_font_t.font c.args.self.now.face.now) c.args.part.word c.args.part.tiles
+    let is : (measured_slices (g.F.hb_font_t.font c.args.self.now.font.now) c.args.part.word c.args.part.tiles
     c.args.unlaid.end c.args.glyphs.now c.args.positions.now) ≡
     (measured font (positions_of word) (glyphs_of tiles)) = measured_is font p.word p.tiles u.end c.args.glyphs.now c.args.positions.now r.order within r.both in
     let flags = flags_made p.word p.tiles u.end c.args.glyphs.now c.unsafe_to_break_in.new.glyphs c.args.positions.now
     c.requires.word r.order within r.both c.unsafe_to_break_in.ensures in
     let cs = stretch_of p.tiles u.end (zip c.unsafe_to_break_in.new.glyphs c.args.positions.now) in
     let same : sequence_copies font c.in-Some.lay cs
-    ≡ copies font (measured_slices (g.F.hb_font_t.font c.args.self.now.face.now) c.args.part.word
+    ≡ copies font (measured_slices (g.F.hb_font_t.font c.args.self.now.font.now) c.args.part.word
     c.args.part.tiles c.args.unlaid.end c.args.glyphs.now c.args.positions.now) cs = copies_same font
-    (measured_slices (g.F.hb_font_t.font c.args.self.now.face.now) c.args.part.word c.args.part.tiles
+    (measured_slices (g.F.hb_font_t.font c.args.self.now.font.now) c.args.part.word c.args.part.tiles
     c.args.unlaid.end c.args.glyphs.now c.args.positions.now) c.in-Some.lay cs
     (lay_is c.args.self.now.choice c.args.self.now.right_to_left
-    (measured_slices (g.F.hb_font_t.font c.args.self.now.face.now) c.args.part.word c.args.part.tiles
+    (measured_slices (g.F.hb_font_t.font c.args.self.now.font.now) c.args.part.word c.args.part.tiles
     c.args.unlaid.end c.args.glyphs.now c.args.positions.now) c.in-Some.lay (sym c.lay_of_sequence-found.ensures
     ∙ c.in-Some.is)) in
     subst (λ run. p.tiles + length run ≤ u.place) (sym (same ∙ ap (λ run. copies font run cs) is)) (run_room
@@ -108,7 +108,7 @@ lay_tiles-requires-clause-room g c =
 
 pub unreachable-requires : goal.unreachable-requires
 unreachable-requires g c =
-    let font = g.F.hb_font_t.font c.args.self.now.face.now in
+    let font = g.F.hb_font_t.font c.args.self.now.font.now in
     let p = c.args.part in
     let u = c.args.unlaid in
     let r = c.requires.run in
@@ -123,7 +123,7 @@ unreachable-requires g c =
 
 pub returns-clause-flagged : goal.returns-clause-flagged
 returns-clause-flagged g c =
-    let font = g.F.hb_font_t.font c.args.self.now.face.now in
+    let font = g.F.hb_font_t.font c.args.self.now.font.now in
     let p = c.args.part in
     let u = c.args.unlaid in
     let r = c.requires.run in
@@ -131,19 +131,19 @@ returns-clause-flagged g c =
     let word = stretch_of p.word p.tiles old in
     let tiles = stretch_of p.tiles u.end old in
     let within : u.end ≤ length c.args.glyphs.now = omega arith in
-    let is : (measured_slices (g.F.hb_font_t.font c.args.self.now.face.now) c.args.part.word c.args.part.tiles
+    let is : (measured_slices (g.F.hb_font_t.font c.args.self.now.font.now) c.args.part.word c.args.part.tiles
     c.args.unlaid.end c.args.glyphs.now c.args.positions.now) ≡
     (measured font (positions_of word) (glyphs_of tiles)) = measured_is font p.word p.tiles u.end c.args.glyphs.now c.args.positions.now r.order within r.both in
     let flags = flags_made p.word p.tiles u.end c.args.glyphs.now c.unsafe_to_break_in.new.glyphs c.args.positions.now
     c.requires.word r.order within r.both c.unsafe_to_break_in.ensures in
     let cs = stretch_of p.tiles u.end (zip c.unsafe_to_break_in.new.glyphs c.args.positions.now) in
     let same : sequence_copies font c.in-Some.lay cs
-    ≡ copies font (measured_slices (g.F.hb_font_t.font c.args.self.now.face.now) c.args.part.word
+    ≡ copies font (measured_slices (g.F.hb_font_t.font c.args.self.now.font.now) c.args.part.word
     c.args.part.tiles c.args.unlaid.end c.args.glyphs.now c.args.positions.now) cs = copies_same font
-    (measured_slices (g.F.hb_font_t.font c.args.self.now.face.now) c.args.part.word c.args.part.tiles
+    (measured_slices (g.F.hb_font_t.font c.args.self.now.font.now) c.args.part.word c.args.part.tiles
     c.args.unlaid.end c.args.glyphs.now c.args.positions.now) c.in-Some.lay cs
     (lay_is c.args.self.now.choice c.args.self.now.right_to_left
-    (measured_slices (g.F.hb_font_t.font c.args.self.now.face.now) c.args.part.word c.args.part.tiles
+    (measured_slices (g.F.hb_font_t.font c.args.self.now.font.now) c.args.part.word c.args.part.tiles
     c.args.unlaid.end c.args.glyphs.now c.args.positions.now) c.in-Some.lay (sym c.lay_of_sequence-found.ensures
     ∙ c.in-Some.is)) in
     let room = subst (λ run. p.tiles + length run ≤ u.place) (sym (same ∙ ap (λ run. copies font run cs) is))
@@ -159,7 +159,7 @@ returns-clause-flagged g c =
 
 pub returns-clause-laid : goal.returns-clause-laid
 returns-clause-laid g c =
-    let font = g.F.hb_font_t.font c.args.self.now.face.now in
+    let font = g.F.hb_font_t.font c.args.self.now.font.now in
     let p = c.args.part in
     let u = c.args.unlaid in
     let r = c.requires.run in
@@ -167,13 +167,13 @@ returns-clause-laid g c =
     let word = stretch_of p.word p.tiles old in
     let tiles = stretch_of p.tiles u.end old in
     let within : u.end ≤ length c.args.glyphs.now = omega arith in
-    let is : (measured_slices (g.F.hb_font_t.font c.args.self.now.face.now) c.args.part.word c.args.part.tiles
+    let is : (measured_slices (g.F.hb_font_t.font c.args.self.now.font.now) c.args.part.word c.args.part.tiles
     c.args.unlaid.end c.args.glyphs.now c.args.positions.now) ≡
     (measured font (positions_of word) (glyphs_of tiles)) = measured_is font p.word p.tiles u.end c.args.glyphs.now c.args.positions.now r.order within r.both in
     let flags = flags_made p.word p.tiles u.end c.args.glyphs.now c.unsafe_to_break_in.new.glyphs c.args.positions.now
     c.requires.word r.order within r.both c.unsafe_to_break_in.ensures in
     let from = start_is c.args.self.now.choice c.args.self.now.right_to_left
-    (measured_slices (g.F.hb_font_t.font c.args.self.now.face.now) c.args.part.word c.args.part.tiles
+    (measured_slices (g.F.hb_font_t.font c.args.self.now.font.now) c.args.part.word c.args.part.tiles
     c.args.unlaid.end c.args.glyphs.now c.args.positions.now) c.in-Some.lay
     (sym c.lay_of_sequence-found.ensures ∙ c.in-Some.is)
     ∙ ap (start c.args.self.now.choice c.args.self.now.right_to_left) is in
@@ -181,12 +181,12 @@ returns-clause-laid g c =
     let cs = stretch_of p.tiles u.end mid in
     let n = c.lay_tiles.new in
     let same : sequence_copies font c.in-Some.lay cs
-    ≡ copies font (measured_slices (g.F.hb_font_t.font c.args.self.now.face.now) c.args.part.word
+    ≡ copies font (measured_slices (g.F.hb_font_t.font c.args.self.now.font.now) c.args.part.word
     c.args.part.tiles c.args.unlaid.end c.args.glyphs.now c.args.positions.now) cs = copies_same font
-    (measured_slices (g.F.hb_font_t.font c.args.self.now.face.now) c.args.part.word c.args.part.tiles
+    (measured_slices (g.F.hb_font_t.font c.args.self.now.font.now) c.args.part.word c.args.part.tiles
     c.args.unlaid.end c.args.glyphs.now c.args.positions.now) c.in-Some.lay cs
     (lay_is c.args.self.now.choice c.args.self.now.right_to_left
-    (measured_slices (g.F.hb_font_t.font c.args.self.now.face.now) c.args.part.word c.args.part.tiles
+    (measured_slices (g.F.hb_font_t.font c.args.self.now.font.now) c.args.part.word c.args.part.tiles
     c.args.unlaid.end c.args.glyphs.now c.args.positions.now) c.in-Some.lay (sym c.lay_of_sequence-found.ensures
     ∙ c.in-Some.is)) in
     let lays = subst (λ run. Lays c.args.self.now.right_to_left run
@@ -198,7 +198,7 @@ returns-clause-laid g c =
 
 pub returns-clause-place : goal.returns-clause-place
 returns-clause-place g c =
-    let font = g.F.hb_font_t.font c.args.self.now.face.now in
+    let font = g.F.hb_font_t.font c.args.self.now.font.now in
     let p = c.args.part in
     let u = c.args.unlaid in
     let r = c.requires.run in
@@ -206,7 +206,7 @@ returns-clause-place g c =
     let word = stretch_of p.word p.tiles old in
     let tiles = stretch_of p.tiles u.end old in
     let within : u.end ≤ length c.args.glyphs.now = omega arith in
-    let is : (measured_slices (g.F.hb_font_t.font c.args.self.now.face.now) c.args.part.word c.args.part.tiles
+    let is : (measured_slices (g.F.hb_font_t.font c.args.self.now.font.now) c.args.part.word c.args.part.tiles
     c.args.unlaid.end c.args.glyphs.now c.args.positions.now) ≡
     (measured font (positions_of word) (glyphs_of tiles)) = measured_is font p.word p.tiles u.end c.args.glyphs.now c.args.positions.now r.order within r.both in
     let flags = flags_made p.word p.tiles u.end c.args.glyphs.now c.unsafe_to_break_in.new.glyphs c.args.positions.now
@@ -215,12 +215,12 @@ returns-clause-place g c =
     let cs = stretch_of p.tiles u.end mid in
     let n = c.lay_tiles.new in
     let same : sequence_copies font c.in-Some.lay cs
-    ≡ copies font (measured_slices (g.F.hb_font_t.font c.args.self.now.face.now) c.args.part.word
+    ≡ copies font (measured_slices (g.F.hb_font_t.font c.args.self.now.font.now) c.args.part.word
     c.args.part.tiles c.args.unlaid.end c.args.glyphs.now c.args.positions.now) cs = copies_same font
-    (measured_slices (g.F.hb_font_t.font c.args.self.now.face.now) c.args.part.word c.args.part.tiles
+    (measured_slices (g.F.hb_font_t.font c.args.self.now.font.now) c.args.part.word c.args.part.tiles
     c.args.unlaid.end c.args.glyphs.now c.args.positions.now) c.in-Some.lay cs
     (lay_is c.args.self.now.choice c.args.self.now.right_to_left
-    (measured_slices (g.F.hb_font_t.font c.args.self.now.face.now) c.args.part.word c.args.part.tiles
+    (measured_slices (g.F.hb_font_t.font c.args.self.now.font.now) c.args.part.word c.args.part.tiles
     c.args.unlaid.end c.args.glyphs.now c.args.positions.now) c.in-Some.lay (sym c.lay_of_sequence-found.ensures
     ∙ c.in-Some.is)) in
     let lays = subst (λ run. Lays c.args.self.now.right_to_left run

@@ -10,20 +10,20 @@ use Rattle.shapers_stretch.proofs.ot_shaper_arabic_stretch.tiles.TileLaying.lay_
 pub lay_copies-pen-requires-clause-can : goal.lay_copies-pen-requires-clause-can
 lay_copies-pen-requires-clause-can g c =
     let width : to_z w64 (of_z w64 c.from-width.result) ≡ width_of
-    (g.F.hb_font_t.font c.args.self.now.face.now) c.args.tile.glyph =
+    (g.F.hb_font_t.font c.args.self.now.font.now) c.args.tile.glyph =
     to_z-of_z w64 c.from-width.result (record { sfits = c.from-width.type_inv }) ∙ grind arith in
     search arith
 
 pub returns-then-not-repeats-clause-lays : goal.returns-then-not-repeats-clause-lays
 returns-then-not-repeats-clause-lays g c =
     let width : to_z w64 (of_z w64 c.from-width.result) ≡ width_of
-    (g.F.hb_font_t.font c.args.self.now.face.now) c.args.tile.glyph =
+    (g.F.hb_font_t.font c.args.self.now.font.now) c.args.tile.glyph =
     to_z-of_z w64 c.from-width.result (record { sfits = c.from-width.type_inv }) ∙ grind (arith, ints) in
     search (arith, tile_once)
 
 pub lay_copies-requires-clause-can : goal.lay_copies-requires-clause-can
 lay_copies-requires-clause-can g c =
-    let font = g.F.hb_font_t.font c.args.self.now.face.now in
+    let font = g.F.hb_font_t.font c.args.self.now.font.now in
     let n = c.lay_copies-pen.new in
     let width =
     to_z-of_z w64 c.from-width.result (record { sfits = c.from-width.type_inv }) ∙ grind (arith, ints) in
@@ -44,7 +44,7 @@ lay_copies-requires-clause-can g c =
 
 pub returns-clause-lays : goal.returns-clause-lays
 returns-clause-lays g c =
-    let font = g.F.hb_font_t.font c.args.self.now.face.now in
+    let font = g.F.hb_font_t.font c.args.self.now.font.now in
     let n = c.lay_copies-pen.new in
     let m = c.lay_copies.new in
     let width =

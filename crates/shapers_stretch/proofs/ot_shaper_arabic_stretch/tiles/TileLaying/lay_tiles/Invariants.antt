@@ -9,6 +9,6 @@ abbrev pub invariant-loop-i : goal.invariant-loop-i
 invariant-loop-i g l = record {
   same_length : length l.glyphs ≡ length l.initial.glyphs;
   near : IsNumber l.pen.at;
-  walk : TilesLeft l.self.right_to_left (g.F.hb_font_t.font l.self.face.now) l.lay l.fn.tiles.start l.fn.tiles.end l.i
+  walk : TilesLeft l.self.right_to_left (g.F.hb_font_t.font l.self.font.now) l.lay l.fn.tiles.start l.fn.tiles.end l.i
       l.fn.pen l.pen (zip l.initial.glyphs l.initial.positions) l.glyphs l.positions;
 }
