@@ -8,8 +8,9 @@ use crate::buffer::{
 };
 use crate::font::{Font, GlyphId, Tables};
 use crate::generated::opentype_face::glyph_tables::{PreparedClassDef, PreparedCoverage};
-use crate::generated::opentype_layout::pair_tables::{LookupPairs, PairTable};
+use crate::generated::opentype_layout::pair_tables::PairTable;
 use crate::generated::opentype_layout::starts::{LookupTable, Starts};
+use crate::generated::opentype_layout::subtable_tables::SubtableTables;
 use crate::generated::opentype_layout::tables::{LayoutTable, PreparedTable};
 use crate::map::{FeatureMap, Map};
 use crate::plan::{BaseSearch, BreakFlags, Category, JoiningType, Plan, Position, StretchStart};
@@ -499,8 +500,11 @@ impl Draw for PairTable<'static> {
     fn draw(choices: &mut Choices) -> Self { PairTable::new(Global, Draw::draw(choices), &mut budget(choices)) }
 }
 
-impl Draw for LookupPairs<'static> {
-    fn draw(choices: &mut Choices) -> Self { LookupPairs::new(Global, Draw::draw(choices), &mut budget(choices)) }
+impl Draw for SubtableTables<'static> {
+    fn draw(choices: &mut Choices) -> Self {
+        let (of_gpos, lookup) = (bool::draw(choices), Draw::draw(choices));
+        SubtableTables::new(Global, of_gpos, lookup, &mut budget(choices))
+    }
 }
 
 impl Draw for Starts<'static> {
@@ -515,9 +519,9 @@ impl Draw for LookupTable<'static> {
         match choices.below(4) {
             0 => LookupTable::of(Draw::draw(choices)),
             1 => {
-                let lookup: &'static [u8] = Draw::draw(choices);
-                let pairs = std::boxed::Box::leak(std::boxed::Box::new(LookupPairs::new(Global, lookup, &mut budget(choices))));
-                LookupTable::of(lookup).with_pairs(pairs)
+                let (of_gpos, lookup): (bool, &'static [u8]) = (bool::draw(choices), Draw::draw(choices));
+                let tables = SubtableTables::new(Global, of_gpos, lookup, &mut budget(choices));
+                LookupTable::of(lookup).with_tables(std::boxed::Box::leak(std::boxed::Box::new(tables)))
             }
             2 => LookupTable::prepared(Draw::draw(choices)),
             _ => LayoutTable::draw(choices).lookup(choices.below(3) as u16),

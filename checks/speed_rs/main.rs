@@ -1,5 +1,6 @@
 //! Calls of the crate on made texts; `checks/speed` counts what runs within `counted`. Ten texts have a hundred characters, and
 //! two have two thousand whose clusters fall, where a walk that looks for a cluster's first glyph each time would be quadratic.
+//! Three texts of a hundred characters are shaped in a font, each by a face that is prepared and by one that is only parsed.
 //! For each call a line tells its name, the glyphs, and a sum of what it left.
 
 use std::hint::black_box;
@@ -7,7 +8,10 @@ use std::hint::black_box;
 use sengadlit::font::NominalOnly;
 use sengadlit::spans::setup_syllables_found;
 use sengadlit::unicode::UnicodeTables;
-use sengadlit::{Buffer, FeatureMap, GlyphId, Pause, Plan, Script, Shaper, Tag, run_pause, script};
+use sengadlit::{
+    Buffer, Direction, Face, FeatureMap, GlyphBuffer, GlyphId, Pause, Plan, Script, ShapePlan, Shaper, Tag,
+    UnicodeBuffer, run_pause, script, shape_with_plan,
+};
 
 /// A call: its name, the shaper and script, what the text repeats, the pauses before, and the hook or pause that is counted.
 type Case = (&'static str, Shaper, Script, &'static str, &'static [Pause], Counted);
@@ -109,6 +113,15 @@ const FALLING: [Case; 2] = [
     ),
 ];
 
+/// What a text in a font repeats, with its script and direction. In a prepared face each spares what no contract can promise:
+/// the first the lookups that can begin nowhere in a text, the second searches for the glyphs of pairs and their classes, the
+/// third searches for the glyphs that subtables of GSUB begin with.
+const IN_A_FONT: [(&str, Script, Direction, &str); 3] = [
+    ("no lookup, Latin", script::LATIN, Direction::LeftToRight, "n"),
+    ("kerning, Latin", script::LATIN, Direction::LeftToRight, "AVAWAY"),
+    ("forms, Arabic", script::ARABIC, Direction::RightToLeft, "\u{628}\u{628}\u{628}\u{628}\u{628} "),
+];
+
 /// The features that have masks, as a font with all of them has.
 const FEATURES: [&[u8; 4]; 16] = [
     b"isol", b"fina", b"fin2", b"fin3", b"medi", b"med2", b"init", b"rphf", b"half", b"pref", b"blwf", b"abvf",
@@ -151,6 +164,12 @@ fn call(how: Counted, shaper: Shaper, plan: &Plan, buffer: &mut Buffer) {
     }
 }
 
+/// Shapes the text that is counted.
+#[inline(never)]
+fn counted_in_a_font(face: &Face<'_>, plan: &ShapePlan, text: UnicodeBuffer) -> GlyphBuffer {
+    shape_with_plan(face, plan, text)
+}
+
 /// What was counted so far is dumped.
 #[inline(never)]
 fn case_ends() {
@@ -163,6 +182,39 @@ fn let_clusters_fall(buffer: &mut Buffer) {
             glyph.cluster = cluster;
         }
     });
+}
+
+/// Shapes a text by a face, once to have the buffer's room, and once more, which is counted.
+fn shape_in_a_font(face: &Face<'_>, script: Script, direction: Direction, text: &str) -> GlyphBuffer {
+    let plan = ShapePlan::new(face, direction, Some(script), None, &[]);
+    let filled = |mut buffer: UnicodeBuffer| {
+        buffer.push_str(text);
+        buffer.set_script(script);
+        buffer.set_direction(direction);
+        buffer
+    };
+    let first = shape_with_plan(face, &plan, filled(UnicodeBuffer::new()));
+    counted_in_a_font(face, &plan, filled(first.clear()))
+}
+
+fn shape_in_fonts() {
+    let [parsed, mut prepared] =
+        [(); 2].map(|()| Face::parse(include_bytes!("../../fonts/sample.ttf"), 0).expect("a font"));
+    prepared.prepare();
+    for (name, script, direction, unit) in IN_A_FONT {
+        let text: String = unit.chars().cycle().take(100).collect();
+        for (face, how) in [(&prepared, "prepared"), (&parsed, "parsed")] {
+            let glyphs = shape_in_a_font(face, script, direction, &text);
+            case_ends();
+            let left = glyphs.glyph_infos().iter().zip(glyphs.glyph_positions()).zip(1u64..);
+            let sum: u64 = left
+                .map(|((info, position), place)| {
+                    place * (u64::from(info.glyph_id ^ info.cluster) + u64::from(position.x_advance.unsigned_abs()))
+                })
+                .sum();
+            println!("{name}, {how}|{}|{sum}", glyphs.len());
+        }
+    }
 }
 
 fn main() {
@@ -195,4 +247,5 @@ fn main() {
         let sum: u64 = left.map(|(glyph, place)| place * u64::from(glyph.glyph_id ^ glyph.mask ^ glyph.cluster)).sum();
         println!("{name}|{}|{sum}", buffer.len());
     }
+    shape_in_fonts();
 }

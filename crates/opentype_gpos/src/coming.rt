@@ -44,7 +44,16 @@ fn come_by_bytes<'a>(
     let bytes = subtable(9, lookup, i);
     let (input, context) = (&sights.input, &sights.context);
     if kind == 7 || kind == 8 {
-        return match find_rule(kind == 8, pass.gdef, input, context, bytes, glyphs, at) {
+        return match find_rule(
+            kind == 8,
+            pass.gdef,
+            input,
+            context,
+            bytes,
+            None,
+            glyphs,
+            at,
+        ) {
             Some(matched) => Some(Came::Fits(matched)),
             None => None,
         };

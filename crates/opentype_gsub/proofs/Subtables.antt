@@ -1,38 +1,28 @@
--- The place of a glyph in the set that a subtable of GSUB begins with.
-use Rattle.std.proofs.Common.{ℕ, ◌==◌, ◌≡◌, false, List, Option, sym, ap, ◌∙◌}
-use Rattle.opentype_face.specs.Glyphs.{coverage_in}
-use Rattle.opentype_face.specs.Lookups.{subtable_in}
-use Rattle.opentype_layout.specs.Rules.{start_place}
+-- The tables of the sets that contexts among the subtables of GSUB begin with.
+use Rattle.std.proofs.Common.{ℕ, ◌==◌, ◌≡◌, false, List, Option, None, Some, refl, ap, ◌∙◌}
+use Rattle.std.specs.Option.{ForSome, IfSome}
+use Rattle.opentype_face.specs.Bytes.{table_at, u16_in}
+use Rattle.opentype_layout.specs.Rules.{start_at}
 use Rattle.opentype_layout.specs.Starts.{first_set_in}
-use Rattle.opentype_layout.specs.SubstitutionTables.{first_place, nth_subtable}
-use Rattle.opentype_layout.proofs.SubtableStarts.{place_chained, place_context}
+use Rattle.opentype_layout.proofs.SubtableStarts.{starts_chained, starts_context}
 
-place_of_5 : (kind : ℕ) (bytes : List ℕ) (glyph : ℕ) → kind ≡ 5 →
-    first_place (record { kind = kind; bytes = bytes }) glyph ≡ start_place (kind == 6) bytes glyph
-place_of_5 kind bytes glyph e = rw e (place_context bytes glyph)
+-- a table of a set, if there is one, is one of each set that has the same bytes
+same_set : {T : Type 0} (table : Option T) (bytes : T → List ℕ) (one other : List ℕ) → one ≡ other →
+    ForSome table (λ it. bytes it ≡ one) → IfSome table (λ it. bytes it ≡ other)
+same_set None bytes one other e of = tt
+same_set (Some it) bytes one other e of = of it refl ∙ e
 
-place_of_6 : (kind : ℕ) (bytes : List ℕ) (glyph : ℕ) → kind ≡ 6 →
-    first_place (record { kind = kind; bytes = bytes }) glyph ≡ start_place (kind == 6) bytes glyph
-place_of_6 kind bytes glyph e = rw e (place_chained bytes glyph)
+same_place : {T : Type 0} (table : Option T) (set : T → List ℕ) (bytes : List ℕ) (at place : ℕ) → at ≡ place →
+    ForSome table (λ it. set it ≡ table_at bytes (u16_in bytes at)) → IfSome table (λ it. set it ≡ table_at bytes (u16_in bytes place))
+same_place table set bytes at place e =
+    same_set table set _ _ (ap (λ k. table_at bytes (u16_in bytes k)) e)
 
-place_at : (kind : ℕ) (bytes : List ℕ) (place : Option ℕ) (lookup : List ℕ) (i number glyph : ℕ) →
-    kind ≡ (nth_subtable lookup i).kind → bytes ≡ (nth_subtable lookup i).bytes →
-    place ≡ first_place (nth_subtable lookup i) number → number ≡ glyph →
-    place ≡ first_place (record { kind = kind; bytes = bytes }) glyph
-place_at kind bytes place lookup i number glyph k b p n =
-    p ∙ ap (λ x. coverage_in (first_set_in false x (subtable_in 7 lookup i)) number) (sym k)
-    ∙ ap (λ x. coverage_in (first_set_in false kind x) number) (sym b)
-    ∙ ap (λ x. coverage_in (first_set_in false kind bytes) x) n
+pub set_of_context : {T : Type 0} (table : Option T) (set : T → List ℕ) (kind : ℕ) (bytes : List ℕ) → kind ≡ 5 →
+    ForSome table (λ it. set it ≡ first_set_in false kind bytes) →
+    IfSome table (λ it. set it ≡ table_at bytes (u16_in bytes (start_at (kind == 6) bytes)))
+set_of_context table set kind bytes e = same_place table set bytes _ _ (starts_context kind bytes e)
 
--- contexts and chained contexts
-pub place_by_context : (kind : ℕ) (bytes : List ℕ) (place : Option ℕ) (lookup : List ℕ) (i number glyph : ℕ) → kind ≡ 5 →
-    kind ≡ (nth_subtable lookup i).kind → bytes ≡ (nth_subtable lookup i).bytes →
-    place ≡ first_place (nth_subtable lookup i) number → number ≡ glyph → place ≡ start_place (kind == 6) bytes glyph
-place_by_context kind bytes place lookup i number glyph e k b p n =
-    place_at kind bytes place lookup i number glyph k b p n ∙ place_of_5 kind bytes glyph e
-
-pub place_by_chained : (kind : ℕ) (bytes : List ℕ) (place : Option ℕ) (lookup : List ℕ) (i number glyph : ℕ) → kind ≡ 6 →
-    kind ≡ (nth_subtable lookup i).kind → bytes ≡ (nth_subtable lookup i).bytes →
-    place ≡ first_place (nth_subtable lookup i) number → number ≡ glyph → place ≡ start_place (kind == 6) bytes glyph
-place_by_chained kind bytes place lookup i number glyph e k b p n =
-    place_at kind bytes place lookup i number glyph k b p n ∙ place_of_6 kind bytes glyph e
+pub set_of_chained : {T : Type 0} (table : Option T) (set : T → List ℕ) (kind : ℕ) (bytes : List ℕ) → kind ≡ 6 →
+    ForSome table (λ it. set it ≡ first_set_in false kind bytes) →
+    IfSome table (λ it. set it ≡ table_at bytes (u16_in bytes (start_at (kind == 6) bytes)))
+set_of_chained table set kind bytes e = same_place table set bytes _ _ (starts_chained kind bytes e)

@@ -18,7 +18,7 @@ use crate::trying::flag_tried;
 use arrayvec::ArrayVec;
 use opentype_face::bytes::u16_at;
 use opentype_face::lookup::subtable_count;
-use opentype_layout::rules::{Matched, find_rule_at};
+use opentype_layout::rules::{Matched, find_rule};
 use opentype_layout::starts::LookupTable;
 use shapers_buffer::buffer::{ShaperError, hb_glyph_info_t};
 use std::mem;
@@ -70,17 +70,17 @@ fn come_by<'a>(
         (nth_came (setting_of pass.now) sights.now lookup.now at text.old.items i)
         text.old.items text.new.items outcome) }
 {
-    let subtable = lookup.subtable_at(i, number(text, at));
-    let (kind, bytes, place) = (subtable.kind, subtable.bytes, subtable.place);
+    let subtable = lookup.subtable(i);
+    let (kind, bytes, set) = (subtable.kind, subtable.bytes, subtable.set);
     if kind == 5 || kind == 6 {
         let (input, context) = (&sights.input, &sights.context);
-        return match find_rule_at(
+        return match find_rule(
             kind == 6,
             pass.classes.gdef,
             input,
             context,
             bytes,
-            place,
+            set,
             text,
             at,
         ) {
@@ -88,7 +88,13 @@ fn come_by<'a>(
             None => Ok(Outcome::Nothing),
         };
     }
-    match apply_one(pass, &sights.input, &subtable, text, at)? {
+    match apply_one(
+        pass,
+        &sights.input,
+        &subtable.at(number(text, at)),
+        text,
+        at,
+    )? {
         Some(next) => Ok(Outcome::Done(next)),
         None => Ok(Outcome::Nothing),
     }

@@ -62,7 +62,8 @@ fn applies(
     at: usize,
 ) -> bool
     requires { at < length glyphs.now }
-    ensures { result ≡ is_some (one_put (setting_of pass.now) sights.now.input kind bytes.now glyphs.now at) }
+    ensures { let s = setting_of pass.now in
+        result ≡ is_some (one_put s sights.now.input kind bytes.now glyphs.now at) }
 {
     match kind {
         1 => single(bytes, number(glyphs, at)).is_some(),
@@ -84,7 +85,8 @@ fn comes(
     at: usize,
 ) -> bool
     requires { at < length glyphs.now }
-    ensures { result ≡ is_some (nth_came (setting_of pass.now) sights.now lookup.now at glyphs.now i) }
+    ensures { let s = setting_of pass.now in
+        result ≡ is_some (nth_came s sights.now lookup.now at glyphs.now i) }
 {
     let kind = subtable_type(7, lookup, i);
     let bytes = subtable(7, lookup, i);
@@ -96,6 +98,7 @@ fn comes(
             input,
             context,
             bytes,
+            None,
             glyphs,
             at,
         )

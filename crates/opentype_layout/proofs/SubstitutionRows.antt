@@ -1,7 +1,7 @@
 -- Worked rows: subtables of GSUB, and the places of glyphs in the sets that they begin with.
 use Rattle.std.specs.Prelude.{◌≡◌, ℕ, false, true, None, Some, List, [], ◌∷◌, ◌++◌, map, refl}
 use Rattle.opentype_face.specs.Ranges.{bisect}
-use Rattle.opentype_layout.specs.Rules.{first_at, start_at, start_place}
+use Rattle.opentype_layout.specs.Rules.{first_at, start_at}
 use Rattle.opentype_layout.specs.Starts.{starts_at}
 use Rattle.opentype_layout.specs.SubstitutionTables.{first_place, no_subtable, nth_subtable}
 
@@ -38,12 +38,6 @@ starts_of_contexts : start_at false plain ∷ start_at true plain ∷ start_at f
     ≡ 2 ∷ 2 ∷ 6 ∷ 8 ∷ []
 unfolding first_at
 starts_of_contexts = refl
-
-places_by_start : map (λ glyph. start_place true sets glyph) (5 ∷ 6 ∷ 7 ∷ [])
-    ++ map (λ glyph. start_place false sets glyph) (5 ∷ 6 ∷ 9 ∷ [])
-    ≡ None ∷ Some 0 ∷ Some 1 ∷ Some 0 ∷ None ∷ Some 1 ∷ []
-unfolding first_at bisect
-places_by_start = refl
 
 -- a lookup of type 4, and the same by way of type 7
 abbrev lookup : List ℕ

@@ -2,7 +2,7 @@
 use Rattle.std.proofs.Common.{ℕ, ◌==◌, ◌≡◌, Bool, true, false, List, refl, ap, if◌then◌else◌}
 use Rattle.opentype_face.specs.Bytes.{u16_in, table_at}
 use Rattle.opentype_face.specs.Glyphs.{coverage_in}
-use Rattle.opentype_layout.specs.Rules.{first_at, start_place}
+use Rattle.opentype_layout.specs.Rules.{first_at, start_at}
 use Rattle.opentype_layout.specs.Starts.{starts_at}
 use Rattle.opentype_layout.specs.SubstitutionTables.{first_place}
 
@@ -21,21 +21,11 @@ pub place_plain : (kind : ℕ) (bytes : List ℕ) (glyph : ℕ) → (kind == 5) 
     first_place (record { kind = kind; bytes = bytes }) glyph ≡ coverage_in (table_at bytes (u16_in bytes 2)) glyph
 place_plain kind bytes glyph e f = ap (λ at. coverage_in (table_at bytes (u16_in bytes at)) glyph) (starts_plain kind bytes e f)
 
-pub place_context : (bytes : List ℕ) (glyph : ℕ) →
-    first_place (record { kind = 5; bytes = bytes }) glyph ≡ start_place false bytes glyph
+-- contexts and chained contexts begin with the set that their rules do
+pub starts_context : (kind : ℕ) (bytes : List ℕ) → kind ≡ 5 → starts_at false kind bytes ≡ start_at (kind == 6) bytes
 unfolding starts_at
-place_context bytes glyph = refl
+starts_context kind bytes e = rw e refl
 
-pub place_chained : (bytes : List ℕ) (glyph : ℕ) →
-    first_place (record { kind = 6; bytes = bytes }) glyph ≡ start_place true bytes glyph
+pub starts_chained : (kind : ℕ) (bytes : List ℕ) → kind ≡ 6 → starts_at false kind bytes ≡ start_at (kind == 6) bytes
 unfolding starts_at
-place_chained bytes glyph = refl
-
--- the set that a context of format 3 begins with, and one of another format
-pub place_by_sets : (chained : Bool) (bytes : List ℕ) (glyph : ℕ) → u16_in bytes 0 ≡ 3 →
-    start_place chained bytes glyph ≡ coverage_in (table_at bytes (u16_in bytes (first_at chained bytes))) glyph
-place_by_sets chained bytes glyph e = rw e refl
-
-pub place_by_glyphs : (chained : Bool) (bytes : List ℕ) (glyph : ℕ) → (u16_in bytes 0 == 3) ≡ false →
-    start_place chained bytes glyph ≡ coverage_in (table_at bytes (u16_in bytes 2)) glyph
-place_by_glyphs chained bytes glyph e = rw e refl
+starts_chained kind bytes e = rw e refl

@@ -247,11 +247,6 @@ first_at chained bytes = if chained then u16_in bytes 2 * 2 + 6 else 6
 abbrev pub start_at : Bool → List ℕ → ℕ
 start_at chained bytes = if u16_in bytes 0 == 3 then first_at chained bytes else 2
 
--- the place of a glyph in that set
-abbrev pub start_place : Bool → List ℕ → ℕ → Option ℕ
-start_place chained bytes glyph =
-    coverage_in (table_at bytes (u16_in bytes (start_at chained bytes))) glyph
-
 unfoldable pub by_glyphs : List ℕ → Sight → Sight → Kind → List ℕ → Glyphs → ℕ → Option ℕ → Option
     Found
 by_glyphs gdef input context kind bytes gs at None = None

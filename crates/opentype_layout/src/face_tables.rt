@@ -48,7 +48,8 @@ impl<'a> FaceTables<'a> {
     /// The glyph of a character.
     #[inline]
     pub fn get_nominal_glyph(&self, c: u32) -> Option<u16>
-        ensures { let it = self.now.face.characters in result ≡ nominal_in it.encoding it.subtable.now c }
+        ensures { let it = self.now.face.characters in
+            result ≡ nominal_in it.encoding it.subtable.now c }
     {
         self.characters.get_nominal_glyph(c)
     }
@@ -103,7 +104,8 @@ pub struct PreparedFace<'a> {
 }
 
 impl<'a> PreparedFace<'a> {
-    /// Makes tables of a face's characters, classes and lookups. Where memory is refused there are fewer or none.
+    /// Makes tables of a face's characters, classes and lookups. Where memory is refused there are
+    /// fewer or none.
     pub fn new(alloc: Global, face: &Face<'a>) -> Self
         ensures { result.face ≡ face.now }
     {

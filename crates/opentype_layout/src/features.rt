@@ -1,5 +1,5 @@
-//! Scripts, language systems and features of GSUB or GPOS, over the bytes of the table. Tags are the
-//! numbers of their four letters.
+//! Scripts, language systems and features of GSUB or GPOS, over the bytes of the table. Tags are
+//! the numbers of their four letters.
 ghost use Rattle.std.specs.Prelude.{◌≡◌, ◌≤◌, ◌+◌, ◌++◌, length, min, slice_index};
 ghost use Rattle.opentype_layout.specs.Features.{any_feature_in, chosen_as, chosen_script_in, condition_holds, feature_in, feature_or, feature_table_in, feature_tag_in, features_in, first_language_in, first_script_in, language_in, lookup_count_in, new_tag_in, nth_any, nth_failing, nth_feature, nth_holding, nth_language, nth_lookup_in, nth_script, nth_substitute, old_tag_in, plain_feature_in, required_in, script_in, script_table_in, script_tags_in, scripts_in, set_holds, substitute_in, substitutions_in, system_in, system_of, tag_list, tagged_in, third_tag_in, variation_in, variations_in};
 ghost use Rattle.opentype_face.specs.Firsts.{first_from};
@@ -176,8 +176,8 @@ fn push_tag(tags: &mut ArrayVec<u32, 3>, tag: u32)
     tags.push(tag);
 }
 
-/// The tags of a script by its ISO 15924 code, the newest first: for `Deva` these are `dev3`, `dev2`
-/// and `deva`.
+/// The tags of a script by its ISO 15924 code, the newest first: for `Deva` these are `dev3`,
+/// `dev2` and `deva`.
 #[tactic(auto, unfolding(crate::specs::Features::script_tags_in))]
 pub fn script_tags(script: u32) -> ArrayVec<u32, 3>
     ensures { result.items ≡ script_tags_in script }
@@ -453,7 +453,8 @@ fn plain_feature(table: &[u8], index: u16) -> &[u8]
 
 /// A feature's table by its number, or what stands for it among these substitutions.
 pub fn feature_by<'a>(table: &'a [u8], substitutions: &'a [u8], index: u16) -> &'a [u8]
-    ensures { result.now ≡ feature_or table.now index substitutions.now (substitute_in substitutions.now index) }
+    ensures { result.now ≡ feature_or table.now index substitutions.now
+        (substitute_in substitutions.now index) }
 {
     match find_substitute(substitutions, index) {
         Some(i) => {

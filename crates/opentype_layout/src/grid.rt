@@ -21,8 +21,8 @@ pub(crate) struct Grid {
     pub width: u32,
 }
 
-// How many bits a row of so many columns has: a power of two or whole words, so that up to 64 columns
-// are in one word.
+// How many bits a row of so many columns has: a power of two or whole words, so that up to 64
+// columns are in one word.
 fn row_width(columns: u16) -> u32
     ensures wide { columns ≤ result }
     ensures few { result ≤ 65536 }
@@ -111,7 +111,8 @@ impl Grid {
         requires column { i < self.now.width }
         requires room { HasRoom self.now words.old }
         ensures grown { Grown words.old words.new }
-        ensures out { result ≡ true → LeavesOut self.now words.new i (λ glyph. let it = ranges.now in
+        ensures out { result ≡ true → LeavesOut self.now words.new i (λ glyph.
+            let it = ranges.now in
             ranges_in it.bytes.now it.first it.last it.size it.count glyph ≡ None) }
     {
         let mut left = self.rows;

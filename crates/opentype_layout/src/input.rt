@@ -121,8 +121,8 @@ fn is_any_apart(
         .any(|place| apart(gdef, sight, glyphs, at, *place))
 }
 
-/// Where the glyphs of an input are behind its first one, at `at`: so many places of a pattern, from
-/// place 0. Marks of different components of a ligature aren't of one input.
+/// Where the glyphs of an input are behind its first one, at `at`: so many places of a pattern,
+/// from place 0. Marks of different components of a ligature aren't of one input.
 #[tactic(auto, unfolding(crate::specs::Ligatures::input_in))]
 pub fn input_places(
     gdef: &[u8],

@@ -72,7 +72,8 @@ impl Key {
 #[inline]
 #[tactic(auto, unfolding(crate::specs::Keys::bars, crate::specs::Sight::seen_as))]
 fn key_of(gdef: &[u8], sight: &Sight, glyph: &hb_glyph_info_t) -> Option<Key>
-    ensures passed { IfNone result ((fits : Bool) → seen_as gdef.now sight.now fits glyph.now ≡ None) }
+    ensures passed { IfNone result ((fits : Bool) →
+        seen_as gdef.now sight.now fits glyph.now ≡ None) }
     ensures barred { IfSome result (λ key. (test : ℕ → Bool) → bars key test ≡ true →
         seen_as gdef.now sight.now (test (glyph.now.glyph_id % 65536)) glyph.now ≡ Some false) }
 {

@@ -1,4 +1,5 @@
-//! What lookups of GSUB and GPOS have in common: which glyphs they see, where they may begin, and what their rules look for.
+//! What lookups of GSUB and GPOS have in common: which glyphs they see, where they may begin, and
+//! what their rules look for.
 #![tactic(auto)]
 
 pub mod bits;
@@ -17,4 +18,5 @@ pub mod sets;
 pub mod sight;
 pub mod starts;
 pub mod substitution_tables;
+pub mod subtable_tables;
 pub mod tables;

@@ -11,8 +11,8 @@ use crate::tables::lookup_count;
 use shapers_buffer::buffer::hb_glyph_info_t;
 use std::alloc::Global;
 
-/// Sets a lookup's bit in the rows of the glyphs from a first one on whose own bits are set, if they
-/// all have a row.
+/// Sets a lookup's bit in the rows of the glyphs from a first one on whose own bits are set, if
+/// they all have a row.
 pub(crate) fn mark_column(words: &mut [u64], index: usize, first: u16, heads: &[u64]) -> bool
     requires { index < 128 }
     ensures grown { Grown words.old words.new }
@@ -36,13 +36,14 @@ pub(crate) fn mark_column(words: &mut [u64], index: usize, first: u16, heads: &[
     true
 }
 
-// How many words the rows take: two for each glyph up to the last one that a lookup may begin at.
-fn word_count(starts: &[Starts<'_>]) -> usize {
+// How many words the rows take, two for each glyph up to the last one that a lookup may begin at,
+// if that is known of all.
+fn word_count(of_gpos: bool, starts: &[Starts<'_>]) -> Option<usize> {
     let mut rows = 0;
     for lookup in starts {
-        rows = lookup.end_of_heads().max(rows);
+        rows = lookup.end_of_heads(of_gpos)?.max(rows);
     }
-    rows.saturating_mul(2)
+    Some(rows.saturating_mul(2))
 }
 
 // Sets the bits of the first 128 lookups, if all can be set.
@@ -73,7 +74,7 @@ pub(crate) fn lookup_rows(
     if starts.len() != usize::from(lookup_count(bytes)) {
         return None;
     }
-    let size = word_count(starts);
+    let size = word_count(of_gpos, starts)?;
     if size > *budget / 8 {
         return None;
     }
@@ -109,8 +110,10 @@ fn word_at(words: &[u64], at: usize) -> u64
 // These bits, and those of a glyph's row.
 #[inline]
 fn with_row(bits: LookupBits, words: &[u64], glyph: u16) -> LookupBits
-    ensures kept { (index : ℕ) → index < 128 → lookup_bit result index ≡ 0 → lookup_bit bits index ≡ 0 }
-    ensures row { (index : ℕ) → index < 128 → lookup_bit result index ≡ 0 → row_bit words.now glyph index ≡ 0 }
+    ensures kept { (index : ℕ) → index < 128 → lookup_bit result index ≡ 0 →
+        lookup_bit bits index ≡ 0 }
+    ensures row { (index : ℕ) → index < 128 → lookup_bit result index ≡ 0 →
+        row_bit words.now glyph index ≡ 0 }
 {
     let at = usize::from(glyph) * 2;
     if at + 1 >= words.len() {

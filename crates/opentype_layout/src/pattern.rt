@@ -8,7 +8,8 @@ use opentype_face::bytes::{table_at, u16_at};
 use opentype_face::glyph_sets::{class, coverage};
 use shapers_buffer::buffer::hb_glyph_info_t;
 
-/// What the places of a rule look for, one after another. Its numbers stand at the start of a table.
+/// What the places of a rule look for, one after another. Its numbers stand at the start of a
+/// table.
 #[derive(Clone, Copy, Debug)]
 pub enum Pattern<'a> {
     /// These glyphs.
@@ -88,7 +89,8 @@ impl<'a> Pattern<'a> {
         from: usize,
     ) -> Option<usize>
         requires { at ≤ length glyphs.now }
-        ensures value { result ≡ previous_in gdef.now sight.now (fits self.now) glyphs.now at k from }
+        ensures value { result
+            ≡ previous_in gdef.now sight.now (fits self.now) glyphs.now at k from }
         ensures within { IfSome result (λ i. i < at) }
     {
         for i in from..at {

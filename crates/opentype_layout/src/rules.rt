@@ -1,20 +1,20 @@
 //! Rules of contexts and of chained contexts: what they look for, and where they fit.
-ghost use Rattle.std.specs.Prelude.{◌≡◌, ◌<◌, ◌≤◌, ◌%◌, ◌==◌, false, true, length, is_some, None};
-ghost use Rattle.opentype_face.specs.Glyphs.{coverage_in};
+ghost use Rattle.std.specs.Prelude.{◌≡◌, ◌<◌, ◌≤◌, true, length, IfSome, None};
 ghost use Rattle.opentype_face.specs.Bytes.{table_at, u16_in};
 ghost use Rattle.std.specs.Option.{option_map};
 ghost use Rattle.opentype_layout.specs.Keys.{AreKeys, IsBarred};
 ghost use Rattle.opentype_layout.specs.Pattern.{fits};
-ghost use Rattle.opentype_layout.specs.Text.{glyph_at};
-ghost use Rattle.opentype_layout.specs.Rules.{around, chained_in, context_in, end_in, first_at, first_in, found, found_at, kind, kind_in, reach_before, reach_behind, rule_in, set_in, sets_at, shift_in, sought, start_place, test_in, unchained_in};
+ghost use Rattle.opentype_layout.specs.Rules.{around, chained_in, context_in, end_in, first_in, found, found_at, kind, kind_in, reach_before, reach_behind, rule_in, set_in, sets_at, shift_in, sought, start_at, test_in, unchained_in};
 
 use crate::input::input_places;
 use crate::keys::{Keys, key_before, key_behind};
 use crate::pattern::Pattern;
 use crate::places::Places;
+use crate::sets::{place_in_set, place_of_first};
 use crate::sight::{Sight, number};
 use opentype_face::bytes::{table_at, u16_at};
-use opentype_face::glyph_sets::{class, coverage};
+use opentype_face::glyph_sets::class;
+use opentype_face::glyph_tables::PreparedCoverage;
 use shapers_buffer::buffer::hb_glyph_info_t;
 
 /// What a rule looks for, and the records of the lookups that it applies.
@@ -164,8 +164,8 @@ impl<'a> Rule<'a> {
         })
     }
 
-    /// The rule at a place of a text, where it fits: its input by one sight, its context by another.
-    /// A rule of no glyph or of more than 64 fits nowhere.
+    /// The rule at a place of a text, where it fits: its input by one sight, its context by
+    /// another. A rule of no glyph or of more than 64 fits nowhere.
     #[tactic(auto, unfolding(crate::specs::Rules::found_at, crate::specs::Rules::around))]
     pub fn fit(
         &self,
@@ -351,7 +351,8 @@ impl<'a> Tables<'a> {
     #[inline]
     #[tactic(auto, unfolding(crate::specs::Rules::rule_in))]
     fn is_barred(&self, keys: &Keys, bytes: &[u8]) -> bool
-        ensures { result ≡ true → IsBarred (kind self.now) keys.now (rule_in (kind self.now) bytes.now) }
+        ensures { result ≡ true →
+            IsBarred (kind self.now) keys.now (rule_in (kind self.now) bytes.now) }
     {
         if self.format == 3 {
             return false;
@@ -466,173 +467,49 @@ pub(crate) fn place_of_sets(chained: bool) -> usize
     if chained { 10 } else { 6 }
 }
 
-// Where the offset of the set of format 3's first glyph stands.
-#[tactic(auto, unfolding(crate::specs::Rules::first_at))]
-pub(crate) fn place_of_first(chained: bool, bytes: &[u8]) -> usize
-    ensures { result ≡ first_at chained bytes.now }
-{
-    if chained {
-        usize::from(u16_at(bytes, 2)) * 2 + 6
-    } else {
-        6
-    }
-}
-
-// Whether the set that a context of format 3 begins with has a glyph; it is asked unless that is
-// known.
-#[inline]
-fn is_begun(chained: bool, bytes: &[u8], glyph: u16, is_known: bool) -> bool
-    requires { is_known ≡ true →
-        is_some (coverage_in (table_at bytes.now (u16_in bytes.now (first_at chained bytes.now)))
-        glyph) ≡ true }
-    ensures { result
-        ≡ is_some (coverage_in (table_at bytes.now (u16_in bytes.now (first_at chained bytes.now)))
-        glyph) }
-{
-    if is_known {
-        return true;
-    }
-    let set = u16_at(bytes, place_of_first(chained, bytes));
-    coverage(table_at(bytes, usize::from(set)), glyph).is_some()
-}
-
-// The rule of a context of format 3, if it fits a place of a text; the set that it begins with is
-// asked unless it is known to have the glyph there.
-#[tactic(auto, unfolding(crate::specs::Rules::context_in))]
-fn find_by_sets<'a>(
-    chained: bool,
-    gdef: &[u8],
-    input: &Sight,
-    context: &Sight,
-    bytes: &'a [u8],
-    is_known: bool,
-    glyphs: &[hb_glyph_info_t],
-    at: usize,
-) -> Option<Matched<'a>>
-    requires inside { at < length glyphs.now }
-    requires format { u16_in bytes.now 0 ≡ 3 }
-    requires known { is_known ≡ true →
-        is_some (coverage_in (table_at bytes.now (u16_in bytes.now (first_at chained bytes.now)))
-        ((glyph_at glyphs.now at).glyph_id % 65536)) ≡ true }
-    ensures { option_map (λ it. found it) result
-        ≡ context_in chained gdef.now input.now context.now bytes.now glyphs.now at }
-{
-    // (the first glyph is tested last: where a lookup has bits, few others come here; and the tables
-    // are made twice, so that a rule that is barred writes none)
-    if Tables::of_sets(chained, bytes).are_sets_barred(gdef, input, context, bytes, glyphs, at) {
-        return None;
-    }
-    if !is_begun(chained, bytes, number(&glyphs[at]), is_known) {
-        return None;
-    }
-    let rule = Tables::of_sets(chained, bytes).rule(bytes);
-    rule.fit(gdef, input, context, glyphs, at)
-}
-
-// The same by the place of the glyph in the set that the rule begins with.
-#[inline]
-#[tactic(auto, unfolding(crate::specs::Rules::context_in))]
-fn find_by_first<'a>(
-    chained: bool,
-    gdef: &[u8],
-    input: &Sight,
-    context: &Sight,
-    bytes: &'a [u8],
-    place: Option<u32>,
-    glyphs: &[hb_glyph_info_t],
-    at: usize,
-) -> Option<Matched<'a>>
-    requires inside { at < length glyphs.now }
-    requires format { u16_in bytes.now 0 ≡ 3 }
-    requires place { place
-        ≡ coverage_in (table_at bytes.now (u16_in bytes.now (first_at chained bytes.now)))
-        ((glyph_at glyphs.now at).glyph_id % 65536) }
-    ensures { option_map (λ it. found it) result
-        ≡ context_in chained gdef.now input.now context.now bytes.now glyphs.now at }
-{
-    place?;
-    find_by_sets(chained, gdef, input, context, bytes, true, glyphs, at)
-}
-
-// The first rule of a context of format 1 or 2 that fits a place of a text, by the place of the
-// glyph there in the set that the context begins with.
-#[tactic(auto, unfolding(crate::specs::Rules::context_in, crate::specs::Rules::by_glyphs))]
-fn find_by_place<'a>(
-    chained: bool,
-    gdef: &[u8],
-    input: &Sight,
-    context: &Sight,
-    bytes: &'a [u8],
-    covered: Option<u32>,
-    glyphs: &[hb_glyph_info_t],
-    at: usize,
-) -> Option<Matched<'a>>
-    requires inside { at < length glyphs.now }
-    requires format { (u16_in bytes.now 0 == 3) ≡ false }
-    requires covered { covered ≡ coverage_in (table_at bytes.now (u16_in bytes.now 2))
-        ((glyph_at glyphs.now at).glyph_id % 65536) }
-    ensures { option_map (λ it. found it) result
-        ≡ context_in chained gdef.now input.now context.now bytes.now glyphs.now at }
-{
-    let format = u16_at(bytes, 0);
-    let glyph = number(&glyphs[at]);
-    let tables = Tables::of(chained, bytes);
-    let set = match (format, covered) {
-        (1, Some(number)) => rule_set(bytes, 4, number),
-        (2, Some(_)) => {
-            let number = class(tables.input, glyph);
-            rule_set(bytes, place_of_sets(chained), u32::from(number))
-        }
-        _ => return None,
-    };
-    tables.first_rule(gdef, input, context, set, glyphs, at)
-}
-
 /// The first rule of a context that fits a place of a text: its input by one sight, its context by
-/// another.
+/// another. A table of the set of glyphs that the context begins with saves a search in the set.
+#[tactic(auto, unfolding(crate::specs::Rules::context_in, crate::specs::Rules::by_glyphs))]
 pub fn find_rule<'a>(
     chained: bool,
     gdef: &[u8],
     input: &Sight,
     context: &Sight,
     bytes: &'a [u8],
-    glyphs: &[hb_glyph_info_t],
-    at: usize,
-) -> Option<Matched<'a>>
-    requires { at < length glyphs.now }
-    ensures { option_map (λ it. found it) result
-        ≡ context_in chained gdef.now input.now context.now bytes.now glyphs.now at }
-{
-    if u16_at(bytes, 0) == 3 {
-        return find_by_sets(chained, gdef, input, context, bytes, false, glyphs, at);
-    }
-    let covered = coverage(
-        table_at(bytes, usize::from(u16_at(bytes, 2))),
-        number(&glyphs[at]),
-    );
-    find_by_place(chained, gdef, input, context, bytes, covered, glyphs, at)
-}
-
-/// The same by the place of the glyph there in the set that the context begins with.
-#[inline]
-pub fn find_rule_at<'a>(
-    chained: bool,
-    gdef: &[u8],
-    input: &Sight,
-    context: &Sight,
-    bytes: &'a [u8],
-    place: Option<u32>,
+    set: Option<&PreparedCoverage<'_>>,
     glyphs: &[hb_glyph_info_t],
     at: usize,
 ) -> Option<Matched<'a>>
     requires inside { at < length glyphs.now }
-    requires place { place
-        ≡ start_place chained bytes.now ((glyph_at glyphs.now at).glyph_id % 65536) }
+    requires set { IfSome set (λ it.
+        it.now.set.now ≡ table_at bytes.now (u16_in bytes.now (start_at chained bytes.now))) }
     ensures { option_map (λ it. found it) result
         ≡ context_in chained gdef.now input.now context.now bytes.now glyphs.now at }
 {
-    if u16_at(bytes, 0) == 3 {
-        return find_by_first(chained, gdef, input, context, bytes, place, glyphs, at);
+    let format = u16_at(bytes, 0);
+    if format == 3 {
+        // (the set is asked last: it may have to be searched, and few rules are left by then; and
+        // the tables are made twice, so that a rule that is barred writes none)
+        if Tables::of_sets(chained, bytes).are_sets_barred(
+            gdef, input, context, bytes, glyphs, at,
+        ) {
+            return None;
+        }
+        let first = place_of_first(chained, bytes);
+        place_in_set(bytes, first, set, number(&glyphs[at]))?;
+        let rule = Tables::of_sets(chained, bytes).rule(bytes);
+        return rule.fit(gdef, input, context, glyphs, at);
     }
-    find_by_place(chained, gdef, input, context, bytes, place, glyphs, at)
+    let glyph = number(&glyphs[at]);
+    let place = place_in_set(bytes, 2, set, glyph)?;
+    let tables = Tables::of(chained, bytes);
+    let rules = match format {
+        1 => rule_set(bytes, 4, place),
+        2 => {
+            let class = class(tables.input, glyph);
+            rule_set(bytes, place_of_sets(chained), u32::from(class))
+        }
+        _ => return None,
+    };
+    tables.first_rule(gdef, input, context, rules, glyphs, at)
 }

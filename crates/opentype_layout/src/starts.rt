@@ -5,18 +5,20 @@ ghost use Rattle.opentype_face.specs.Lookups.{subtable_in, type_in};
 ghost use Rattle.opentype_layout.specs.Bits.{Grown};
 ghost use Rattle.opentype_layout.specs.LookupRows.{BeginsNot, row_bit};
 ghost use Rattle.opentype_layout.specs.PairTables.{ArePairTables};
-ghost use Rattle.opentype_layout.specs.SubstitutionTables.{AreSubtables, first_place, nth_subtable};
+ghost use Rattle.opentype_layout.specs.SubstitutionTables.{AreSubtables, nth_subtable};
 ghost use Rattle.opentype_layout.specs.Starts.{AreHeads, ArePassed, IsStarts, NoneStarts};
 
 use crate::bits::first_bit;
 use crate::grid::Grid;
 use crate::heads::{headed_place, heads_of, masked_place};
 use crate::lookup_rows::mark_column;
-use crate::pair_tables::{LookupPairs, PairTable};
-use crate::sets::{span, start};
+use crate::pair_tables::PairTable;
+use crate::sets::{GlyphRange, first_set, nth_range, ranges, start};
 use crate::sight::number;
-use crate::substitution_tables::{LookupSubstitutions, SubstitutionTable, SubtableAt, subtable_at};
+use crate::substitution_tables::{SubstitutionTable, SubtableRef};
+use crate::subtable_tables::SubtableTables;
 use opentype_face::lookup::subtable_count;
+use opentype_face::ranges::Ranges;
 use shapers_buffer::buffer::hb_glyph_info_t;
 use std::alloc::Global;
 use std::marker::Model;
@@ -33,6 +35,39 @@ struct Marks {
 struct HeadedMarks {
     marks: Marks,
     heads: Vec<u64>,
+}
+
+// A range that has the glyphs of several ranges, too.
+fn widen(span: GlyphRange, ranges: &Ranges<'_>) -> GlyphRange
+    ensures from { result.from ≤ span.from }
+    ensures to { span.to ≤ result.to }
+{
+    let mut span = span;
+    for i in 0..ranges.count {
+        let range = nth_range(ranges, i);
+        if range.from <= range.to {
+            span.from = span.from.min(range.from);
+            span.to = span.to.max(range.to);
+        }
+    }
+    span
+}
+
+// The range from the first glyph that a lookup begins with to the last one. A budget pays one for
+// each subtable and for each range of their sets, so that the tables of a spoilt font can't take
+// long.
+fn span(of_gpos: bool, lookup: &[u8], budget: &mut usize) -> Option<GlyphRange> {
+    let mut span = GlyphRange { from: 65535, to: 0 };
+    for i in 0..subtable_count(lookup) {
+        let ranges = ranges(first_set(of_gpos, lookup, i));
+        let cost = ranges.count as usize + 1;
+        if cost > *budget {
+            return None;
+        }
+        *budget -= cost;
+        span = widen(span, &ranges);
+    }
+    Some(span)
 }
 
 // The bits of a lookup's subtables, if memory and a budget suffice.
@@ -102,8 +137,9 @@ impl<'a> Model for Starts<'a> {
 }
 
 impl<'a> Starts<'a> {
-    /// The bits of a lookup of GSUB, or of GPOS. It has none where memory doesn't suffice, or a budget
-    /// in bytes that pays for them, and one for each subtable and each range of glyphs that is read.
+    /// The bits of a lookup of GSUB, or of GPOS. It has none where memory doesn't suffice, or a
+    /// budget in bytes that pays for them, and one for each subtable and each range of glyphs that
+    /// is read.
     pub fn new(alloc: Global, of_gpos: bool, lookup: &'a [u8], budget: &mut usize) -> Self
         ensures { result ≡ lookup.now }
     {
@@ -148,13 +184,21 @@ impl<'a> Starts<'a> {
         self.lookup
     }
 
-    /// How many glyphs there are up to the last one that it may begin at.
-    pub(crate) fn end_of_heads(&self) -> usize {
-        usize::from(self.grid.first) + self.grid.rows as usize
+    /// The number from which on it begins at no glyph, as a lookup of GSUB or of GPOS. It isn't
+    /// known where it has no bits, or those of the other table.
+    pub(crate) fn end_of_heads(&self, of_gpos: bool) -> Option<usize>
+        ensures { IfSome result (λ end. (glyph : ℕ) → end ≤ glyph →
+            BeginsNot of_gpos self.now glyph) }
+    {
+        if of_gpos != self.of_gpos || !self.is_made {
+            return None;
+        }
+        Some(usize::from(self.grid.first) + self.grid.rows as usize)
     }
 
-    /// Sets the lookup's bit in the rows of the glyphs that it may begin at, as a lookup of GSUB or of
-    /// GPOS. It can't where it has no bits, those of the other table, or such a glyph has no row.
+    /// Sets the lookup's bit in the rows of the glyphs that it may begin at, as a lookup of GSUB or
+    /// of GPOS. It can't where it has no bits, those of the other table, or such a glyph has no
+    /// row.
     pub(crate) fn mark_rows(&self, of_gpos: bool, words: &mut [u64], index: usize) -> bool
         requires { index < 128 }
         ensures grown { Grown words.old words.new }
@@ -171,7 +215,8 @@ impl<'a> Starts<'a> {
     #[inline]
     pub fn next(&self, of_gpos: bool, glyph: u16, from: u16) -> Option<u16>
         ensures within { IfSome result (λ next. (from ≤ next) × (next < u16_in self.now 4)) }
-        ensures passed { NoneStarts of_gpos self.now glyph from (unwrap_or result (u16_in self.now 4)) }
+        ensures passed { NoneStarts of_gpos self.now glyph from
+            (unwrap_or result (u16_in self.now 4)) }
     {
         if from >= self.count {
             return None;
@@ -192,8 +237,8 @@ impl<'a> Starts<'a> {
         }
     }
 
-    /// The first place of a text, from one on, where a subtable may begin at a glyph with a bit of a
-    /// mask; the text's length, if there is none.
+    /// The first place of a text, from one on, where a subtable may begin at a glyph with a bit of
+    /// a mask; the text's length, if there is none.
     #[inline]
     pub fn next_place(
         &self,
@@ -225,8 +270,8 @@ fn is_start(of_gpos: bool, lookup: &[u8], glyph: u16) -> bool
     false
 }
 
-// The first place of a text, from one on, where a subtable may begin, by its bytes, at a glyph with a
-// bit of a mask; the text's length, if there is none.
+// The first place of a text, from one on, where a subtable may begin, by its bytes, at a glyph with
+// a bit of a mask; the text's length, if there is none.
 fn search_place(
     of_gpos: bool,
     lookup: &[u8],
@@ -251,6 +296,7 @@ fn search_place(
 #[derive(Debug, Drop)]
 pub struct LookupTable<'a> {
     bytes: &'a [u8],
+    count: u16,
     starts: Option<&'a Starts<'a>>,
     pairs: &'a [PairTable<'a>],
     substitutions: &'a [SubstitutionTable<'a>],
@@ -261,9 +307,10 @@ impl<'a> Model for LookupTable<'a> {
 
     ghost view = { λ it. it.bytes.now };
 
-    ghost invariant = { λ it. IfSome it.starts (λ starts. starts.now ≡ it.bytes.now) ×
+    ghost invariant = { λ it. (it.count ≡ u16_in it.bytes.now 4) ×
+        (IfSome it.starts (λ starts. starts.now ≡ it.bytes.now) ×
         (ArePairTables it.bytes.now it.pairs.now ×
-        AreSubtables it.bytes.now it.substitutions.now) };
+        AreSubtables it.bytes.now it.substitutions.now)) };
 }
 
 impl<'a> LookupTable<'a> {
@@ -274,6 +321,7 @@ impl<'a> LookupTable<'a> {
     {
         LookupTable {
             bytes,
+            count: subtable_count(bytes),
             starts: None,
             pairs: &[],
             substitutions: &[],
@@ -291,46 +339,35 @@ impl<'a> LookupTable<'a> {
         }
         LookupTable {
             bytes,
+            count: starts.count,
             starts: Some(starts),
             pairs: &[],
             substitutions: &[],
         }
     }
 
-    /// The same with tables of its subtables of pairs.
+    /// The same with tables of its subtables.
     #[inline]
-    pub fn with_pairs(self, pairs: &'a LookupPairs<'a>) -> Self
-        requires { pairs.now ≡ self }
+    pub fn with_tables(self, tables: &'a SubtableTables<'a>) -> Self
+        requires { tables.now ≡ self }
         ensures { result ≡ self.entry }
     {
         LookupTable {
-            pairs: pairs.tables(),
+            pairs: tables.pairs(),
+            substitutions: tables.substitutions(),
             ..self
         }
     }
 
-    /// The same with tables of its subtables of GSUB.
+    /// A subtable of a lookup of GSUB, with its table, if it has one.
     #[inline]
-    pub fn with_substitutions(self, substitutions: &'a LookupSubstitutions<'a>) -> Self
-        requires { substitutions.now ≡ self }
-        ensures { result ≡ self.entry }
-    {
-        LookupTable {
-            substitutions: substitutions.tables(),
-            ..self
-        }
-    }
-
-    /// A subtable of a lookup of GSUB at a glyph; without a search where it has a table.
-    #[inline]
-    pub fn subtable_at(&self, i: u16, glyph: u16) -> SubtableAt<'a>
+    pub fn subtable(&self, i: u16) -> SubtableRef<'a>
         ensures kind { result.kind ≡ (nth_subtable self.now i).kind }
         ensures bytes { result.bytes.now ≡ (nth_subtable self.now i).bytes }
-        ensures place { result.place ≡ first_place (nth_subtable self.now i) glyph }
     {
         match self.substitutions.get(usize::from(i)) {
-            Some(table) => table.at(glyph),
-            None => subtable_at(self.bytes, i, glyph),
+            Some(table) => table.as_subtable(),
+            None => SubtableRef::of(self.bytes, i),
         }
     }
 
@@ -362,24 +399,22 @@ impl<'a> LookupTable<'a> {
         }
     }
 
-    /// The next subtable from one on that is to be tried at a glyph; those between don't begin there.
+    /// The next subtable from one on that is to be tried at a glyph; those between don't begin
+    /// there.
     #[inline]
     pub fn next_start(&self, of_gpos: bool, glyph: u16, from: u16) -> Option<u16>
         ensures within { IfSome result (λ next. (from ≤ next) × (next < u16_in self.now 4)) }
-        ensures passed { NoneStarts of_gpos self.now glyph from (unwrap_or result (u16_in self.now 4)) }
+        ensures passed { NoneStarts of_gpos self.now glyph from
+            (unwrap_or result (u16_in self.now 4)) }
     {
         if let Some(starts) = self.starts {
             return starts.next(of_gpos, glyph, from);
         }
-        if from < subtable_count(self.bytes) {
-            Some(from)
-        } else {
-            None
-        }
+        if from < self.count { Some(from) } else { None }
     }
 
-    /// The first place of a text, from one on, where a subtable may begin at a glyph with a bit of a
-    /// mask; the text's length, if there is none. A table without bits is searched.
+    /// The first place of a text, from one on, where a subtable may begin at a glyph with a bit of
+    /// a mask; the text's length, if there is none. A table without bits is searched.
     #[inline]
     pub fn first_place(
         &self,
@@ -398,8 +433,8 @@ impl<'a> LookupTable<'a> {
         }
     }
 
-    /// The next place of a text, from one on, that is to be tried; a lookup with this mask begins at
-    /// none before it. A table without bits isn't searched.
+    /// The next place of a text, from one on, that is to be tried; a lookup with this mask begins
+    /// at none before it. A table without bits isn't searched.
     #[inline]
     pub fn next_place(
         &self,

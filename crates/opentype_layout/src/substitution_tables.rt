@@ -1,9 +1,10 @@
 //! Subtables of GSUB, with tables of the glyphs that they begin with.
-ghost use Rattle.std.specs.Prelude.{◌≡◌};
+ghost use Rattle.std.specs.Prelude.{◌≡◌, false};
+ghost use Rattle.std.specs.Option.{ForSome};
+ghost use Rattle.opentype_layout.specs.Starts.{first_set_in};
 ghost use Rattle.opentype_layout.specs.SubstitutionTables.{AreSubtables, first_place, nth_subtable};
 
-use crate::sets::first_set;
-use opentype_face::glyph_sets::coverage;
+use crate::sets::{first_set, place_in_set, place_of_set};
 use opentype_face::glyph_tables::PreparedCoverage;
 use opentype_face::lookup::{subtable, subtable_count, subtable_type};
 use std::alloc::Global;
@@ -21,6 +22,51 @@ pub struct SubtableAt<'a> {
     pub bytes: &'a [u8],
     /// The place of the glyph in the set that the subtable begins with.
     pub place: Option<u32>,
+}
+
+/// A subtable of GSUB, and a table of the set of glyphs that it begins with, if it has one.
+#[derive(Clone, Copy, Debug)]
+pub struct SubtableRef<'a> {
+    /// Its type.
+    pub kind: u16,
+    /// Its bytes.
+    pub bytes: &'a [u8],
+    /// The table of the set.
+    pub set: Option<&'a PreparedCoverage<'a>>,
+    ghost fits: { ForSome set (λ it. it.now.set.now ≡ first_set_in false kind bytes.now) },
+}
+
+impl<'a> SubtableRef<'a> {
+    /// The subtable of a lookup with a number, without a table.
+    #[inline]
+    pub(crate) fn of(lookup: &'a [u8], i: u16) -> Self
+        ensures kind { result.kind ≡ (nth_subtable lookup.now i).kind }
+        ensures bytes { result.bytes.now ≡ (nth_subtable lookup.now i).bytes }
+    {
+        SubtableRef {
+            kind: subtable_type(7, lookup, i),
+            bytes: subtable(7, lookup, i),
+            set: None,
+        }
+    }
+
+    /// The subtable at a glyph.
+    #[inline]
+    pub fn at(&self, glyph: u16) -> SubtableAt<'a>
+        ensures kind { result.kind ≡ self.now.kind }
+        ensures bytes { result.bytes.now ≡ self.now.bytes.now }
+        ensures place { result.place ≡ first_place (record {
+          kind = self.now.kind;
+          bytes = self.now.bytes.now;
+        }) glyph }
+    {
+        let at = place_of_set(false, self.kind, self.bytes);
+        SubtableAt {
+            kind: self.kind,
+            bytes: self.bytes,
+            place: place_in_set(self.bytes, at, self.set, glyph),
+        }
+    }
 }
 
 /// A subtable of GSUB, with its type, and with a table of the glyphs that it begins with.
@@ -55,77 +101,39 @@ impl<'a> SubstitutionTable<'a> {
         }
     }
 
-    /// The subtable at a glyph.
+    /// The subtable, with its table.
     #[inline]
-    pub fn at(&self, glyph: u16) -> SubtableAt<'a>
+    pub fn as_subtable(&self) -> SubtableRef<'_>
         ensures kind { result.kind ≡ self.now.kind }
         ensures bytes { result.bytes.now ≡ self.now.bytes }
-        ensures place { result.place ≡ first_place self.now glyph }
     {
-        SubtableAt {
+        SubtableRef {
             kind: self.kind,
             bytes: self.bytes,
-            place: self.set.place(glyph),
+            set: Some(&self.set),
         }
     }
 }
 
-/// A subtable of a lookup of GSUB at a glyph, by its bytes.
-pub(crate) fn subtable_at(lookup: &[u8], i: u16, glyph: u16) -> SubtableAt<'_>
-    ensures kind { result.kind ≡ (nth_subtable lookup.now i).kind }
-    ensures bytes { result.bytes.now ≡ (nth_subtable lookup.now i).bytes }
-    ensures place { result.place ≡ first_place (nth_subtable lookup.now i) glyph }
-{
-    SubtableAt {
-        kind: subtable_type(7, lookup, i),
-        bytes: subtable(7, lookup, i),
-        place: coverage(first_set(false, lookup, i), glyph),
-    }
-}
-
-/// The subtables of a lookup of GSUB, with tables of the glyphs that they begin with.
-#[derive(Debug, Drop)]
-pub struct LookupSubstitutions<'a> {
+/// Tables of a lookup's first subtables. Where a budget in bytes or memory doesn't suffice, there
+/// are fewer.
+pub(crate) fn tables_of_sets<'a>(
+    alloc: Global,
     lookup: &'a [u8],
-    tables: Vec<SubstitutionTable<'a>>,
-}
-
-impl<'a> Model for LookupSubstitutions<'a> {
-    ghost use Rattle.std.specs.Prelude.{List, ℕ};
-    ghost use Rattle.opentype_layout.specs.SubstitutionTables.{AreSubtables};
-
-    ghost Value = { List ℕ };
-
-    ghost view = { λ it. it.lookup.now };
-
-    ghost invariant = { λ it. AreSubtables it.lookup.now it.tables.items };
-}
-
-impl<'a> LookupSubstitutions<'a> {
-    /// Makes the tables of a lookup. Where a budget in bytes or memory doesn't suffice, there are
-    /// fewer.
-    pub fn new(alloc: Global, lookup: &'a [u8], budget: &mut usize) -> Self
-        ensures { result ≡ lookup.now }
-    {
-        let mut tables = Vec::new(alloc);
-        for i in 0..subtable_count(lookup) {
-            if *budget < TABLE_COST {
-                return LookupSubstitutions { lookup, tables };
-            }
-            *budget -= TABLE_COST;
-            let table = SubstitutionTable::new(alloc, lookup, i, budget);
-            if tables.push(table).is_err() {
-                return LookupSubstitutions { lookup, tables };
-            }
+    budget: &mut usize,
+) -> Vec<SubstitutionTable<'a>>
+    ensures { AreSubtables lookup.now result.items }
+{
+    let mut tables = Vec::new(alloc);
+    for i in 0..subtable_count(lookup) {
+        if *budget < TABLE_COST {
+            return tables;
         }
-        LookupSubstitutions { lookup, tables }
+        *budget -= TABLE_COST;
+        let table = SubstitutionTable::new(alloc, lookup, i, budget);
+        if tables.push(table).is_err() {
+            return tables;
+        }
     }
-
-    /// The tables of the first subtables.
-    #[inline]
-    pub fn tables(&self) -> &[SubstitutionTable<'a>]
-        ensures { AreSubtables self.now result.now }
-    {
-        self.tables.as_slice()
-    }
+    tables
 }

@@ -11,7 +11,7 @@ use crate::generated::opentype_gsub::flagging::flag_stretch;
 use crate::generated::opentype_gsub::pass::{Pass, Sights};
 use crate::generated::opentype_gsub::shifting::Rule;
 use crate::generated::opentype_gsub::trying::flag_tried;
-use crate::generated::opentype_layout::rules::{Matched, find_rule_at};
+use crate::generated::opentype_layout::rules::{Matched, find_rule};
 use crate::generated::opentype_layout::starts::LookupTable;
 use crate::generated::shapers_buffer::buffer::{GlyphInfo, ShaperError};
 use crate::support::arrayvec::ArrayVec;
@@ -54,17 +54,17 @@ fn come_by<'a>(
     text: &mut Vec<GlyphInfo>,
     at: usize,
 ) -> Result<Outcome<'a>, ShaperError> {
-    let subtable = lookup.subtable_at(i, number(text, at));
-    let (kind, bytes, place) = (subtable.kind, subtable.bytes, subtable.place);
+    let subtable = lookup.subtable(i);
+    let (kind, bytes, set) = (subtable.kind, subtable.bytes, subtable.set);
     if kind == 5 || kind == 6 {
         let (input, context) = (&sights.input, &sights.context);
-        return match find_rule_at(
+        return match find_rule(
             kind == 6,
             pass.classes.gdef,
             input,
             context,
             bytes,
-            place,
+            set,
             text,
             at,
         ) {
@@ -72,7 +72,13 @@ fn come_by<'a>(
             None => Ok(Outcome::Nothing),
         };
     }
-    match apply_one(pass, &sights.input, &subtable, text, at)? {
+    match apply_one(
+        pass,
+        &sights.input,
+        &subtable.at(number(text, at)),
+        text,
+        at,
+    )? {
         Some(next) => Ok(Outcome::Done(next)),
         None => Ok(Outcome::Nothing),
     }

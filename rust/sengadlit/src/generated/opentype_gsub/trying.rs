@@ -74,6 +74,7 @@ fn comes(
             input,
             context,
             bytes,
+            None,
             glyphs,
             at,
         )

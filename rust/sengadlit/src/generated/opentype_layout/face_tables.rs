@@ -54,7 +54,8 @@ impl<'a> FaceTables<'a> {
     /// # Contract
     ///
     /// ```text
-    /// ensures { let it = self.now.face.characters in result ≡ nominal_in it.encoding it.subtable.now c }
+    /// ensures { let it = self.now.face.characters in
+    ///     result ≡ nominal_in it.encoding it.subtable.now c }
     /// ```
     ///
     /// - `nominal_in`: `crates/opentype_face/specs/Characters.antt`
@@ -144,7 +145,8 @@ pub struct PreparedFace<'a> {
 }
 
 impl<'a> PreparedFace<'a> {
-    /// Makes tables of a face's characters, classes and lookups. Where memory is refused there are fewer or none.
+    /// Makes tables of a face's characters, classes and lookups. Where memory is refused there are
+    /// fewer or none.
     ///
     /// <details><summary>Contract</summary>
     ///

@@ -1,7 +1,7 @@
 // Generated from crates/opentype_layout/src/features.rt by rust/erase; edit the source.
 
-//! Scripts, language systems and features of GSUB or GPOS, over the bytes of the table. Tags are the
-//! numbers of their four letters.
+//! Scripts, language systems and features of GSUB or GPOS, over the bytes of the table. Tags are
+//! the numbers of their four letters.
 
 use crate::generated::opentype_face::bytes::{table_at, u16_at, u32_at};
 use crate::generated::opentype_face::ranges::Ranges;
@@ -164,8 +164,8 @@ fn push_tag(tags: &mut ArrayVec<u32, 3>, tag: u32) {
     tags.push(tag);
 }
 
-/// The tags of a script by its ISO 15924 code, the newest first: for `Deva` these are `dev3`, `dev2`
-/// and `deva`.
+/// The tags of a script by its ISO 15924 code, the newest first: for `Deva` these are `dev3`,
+/// `dev2` and `deva`.
 ///
 /// <details><summary>Contract</summary>
 ///
@@ -467,7 +467,8 @@ fn plain_feature(table: &[u8], index: u16) -> &[u8] {
 /// # Contract
 ///
 /// ```text
-/// ensures { result.now ≡ feature_or table.now index substitutions.now (substitute_in substitutions.now index) }
+/// ensures { result.now ≡ feature_or table.now index substitutions.now
+///     (substitute_in substitutions.now index) }
 /// ```
 ///
 /// - `feature_or`, `substitute_in`: `crates/opentype_layout/specs/Features.antt`

@@ -18,8 +18,8 @@ pub(crate) struct Grid {
     pub width: u32,
 }
 
-// How many bits a row of so many columns has: a power of two or whole words, so that up to 64 columns
-// are in one word.
+// How many bits a row of so many columns has: a power of two or whole words, so that up to 64
+// columns are in one word.
 fn row_width(columns: u16) -> u32 {
     if columns > 64 {
         return u32::from(columns).div_ceil(64) * 64;

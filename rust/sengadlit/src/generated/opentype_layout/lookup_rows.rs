@@ -11,8 +11,8 @@ use crate::generated::opentype_layout::tables::lookup_count;
 use crate::generated::shapers_buffer::buffer::GlyphInfo;
 use crate::support::alloc::Global;
 
-/// Sets a lookup's bit in the rows of the glyphs from a first one on whose own bits are set, if they
-/// all have a row.
+/// Sets a lookup's bit in the rows of the glyphs from a first one on whose own bits are set, if
+/// they all have a row.
 pub(crate) fn mark_column(words: &mut [u64], index: usize, first: u16, heads: &[u64]) -> bool {
     // (a glyph's number has 16 bits)
     if heads.len() > 1024 {
@@ -31,13 +31,14 @@ pub(crate) fn mark_column(words: &mut [u64], index: usize, first: u16, heads: &[
     true
 }
 
-// How many words the rows take: two for each glyph up to the last one that a lookup may begin at.
-fn word_count(starts: &[Starts<'_>]) -> usize {
+// How many words the rows take, two for each glyph up to the last one that a lookup may begin at,
+// if that is known of all.
+fn word_count(of_gpos: bool, starts: &[Starts<'_>]) -> Option<usize> {
     let mut rows = 0;
     for lookup in starts {
-        rows = lookup.end_of_heads().max(rows);
+        rows = lookup.end_of_heads(of_gpos)?.max(rows);
     }
-    rows.saturating_mul(2)
+    Some(rows.saturating_mul(2))
 }
 
 // Sets the bits of the first 128 lookups, if all can be set.
@@ -61,7 +62,7 @@ pub(crate) fn lookup_rows(
     if starts.len() != usize::from(lookup_count(bytes)) {
         return None;
     }
-    let size = word_count(starts);
+    let size = word_count(of_gpos, starts)?;
     if size > *budget / 8 {
         return None;
     }

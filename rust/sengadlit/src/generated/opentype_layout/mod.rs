@@ -1,6 +1,7 @@
 // Generated from crates/opentype_layout/src/lib.rt by rust/erase; edit the source.
 
-//! What lookups of GSUB and GPOS have in common: which glyphs they see, where they may begin, and what their rules look for.
+//! What lookups of GSUB and GPOS have in common: which glyphs they see, where they may begin, and
+//! what their rules look for.
 
 pub mod bits;
 pub mod face_tables;
@@ -18,4 +19,5 @@ pub mod sets;
 pub mod sight;
 pub mod starts;
 pub mod substitution_tables;
+pub mod subtable_tables;
 pub mod tables;

@@ -50,8 +50,8 @@ impl PairHeader {
     }
 }
 
-/// A subtable of type 2 of GPOS, with its header, and with tables of its first glyphs and of the classes
-/// of both.
+/// A subtable of type 2 of GPOS, with its header, and with tables of its first glyphs and of the
+/// classes of both.
 #[derive(Debug)]
 pub struct PairTable<'a> {
     bytes: &'a [u8],
@@ -183,55 +183,22 @@ impl<'a> PairTable<'a> {
     }
 }
 
-/// The subtables of pairs that a lookup of GPOS has, with tables of their glyphs.
-#[derive(Debug)]
-pub struct LookupPairs<'a> {
+/// Tables of a lookup's first subtables; there are none unless its type is 2. Where memory doesn't
+/// suffice, there are fewer.
+pub(crate) fn tables_of_pairs<'a>(
+    alloc: Global,
     lookup: &'a [u8],
-    tables: Vec<PairTable<'a>>,
-}
-
-impl<'a> LookupPairs<'a> {
-    /// Makes the tables of a lookup, of which there are none unless its type is 2. Where memory doesn't
-    /// suffice, there are fewer.
-    ///
-    /// <details><summary>Contract</summary>
-    ///
-    /// # Contract
-    ///
-    /// ```text
-    /// ensures { result ≡ lookup.now }
-    /// ```
-    ///
-    /// </details>
-    pub fn new(alloc: Global, lookup: &'a [u8], budget: &mut usize) -> Self {
-        let mut tables = Vec::new(alloc);
-        for i in 0..subtable_count(lookup) {
-            if subtable_type(9, lookup, i) != 2 {
-                return LookupPairs { lookup, tables };
-            }
-            let table = PairTable::new(alloc, subtable(9, lookup, i), budget);
-            if tables.push(table).is_err() {
-                return LookupPairs { lookup, tables };
-            }
+    budget: &mut usize,
+) -> Vec<PairTable<'a>> {
+    let mut tables = Vec::new(alloc);
+    for i in 0..subtable_count(lookup) {
+        if subtable_type(9, lookup, i) != 2 {
+            return tables;
         }
-        LookupPairs { lookup, tables }
+        let table = PairTable::new(alloc, subtable(9, lookup, i), budget);
+        if tables.push(table).is_err() {
+            return tables;
+        }
     }
-
-    /// The tables of the first subtables.
-    ///
-    /// <details><summary>Contract</summary>
-    ///
-    /// # Contract
-    ///
-    /// ```text
-    /// ensures { ArePairTables self.now result.now }
-    /// ```
-    ///
-    /// - `ArePairTables`: `crates/opentype_layout/specs/PairTables.antt`
-    ///
-    /// </details>
-    #[inline]
-    pub fn tables(&self) -> &[PairTable<'a>] {
-        self.tables.as_slice()
-    }
+    tables
 }

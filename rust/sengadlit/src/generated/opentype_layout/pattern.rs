@@ -7,7 +7,8 @@ use crate::generated::opentype_face::glyph_sets::{class, coverage};
 use crate::generated::opentype_layout::sight::{Sight, number};
 use crate::generated::shapers_buffer::buffer::GlyphInfo;
 
-/// What the places of a rule look for, one after another. Its numbers stand at the start of a table.
+/// What the places of a rule look for, one after another. Its numbers stand at the start of a
+/// table.
 #[derive(Clone, Copy, Debug)]
 pub enum Pattern<'a> {
     /// These glyphs.
@@ -100,7 +101,8 @@ impl<'a> Pattern<'a> {
     ///
     /// ```text
     /// requires { at ≤ length glyphs.now }
-    /// ensures value { result ≡ previous_in gdef.now sight.now (fits self.now) glyphs.now at k from }
+    /// ensures value { result
+    ///     ≡ previous_in gdef.now sight.now (fits self.now) glyphs.now at k from }
     /// ensures within { IfSome result (λ i. i < at) }
     /// ```
     ///

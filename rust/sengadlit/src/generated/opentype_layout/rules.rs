@@ -5,11 +5,13 @@
 use crate::support::prelude::*;
 
 use crate::generated::opentype_face::bytes::{table_at, u16_at};
-use crate::generated::opentype_face::glyph_sets::{class, coverage};
+use crate::generated::opentype_face::glyph_sets::class;
+use crate::generated::opentype_face::glyph_tables::PreparedCoverage;
 use crate::generated::opentype_layout::input::input_places;
 use crate::generated::opentype_layout::keys::{Keys, key_before, key_behind};
 use crate::generated::opentype_layout::pattern::Pattern;
 use crate::generated::opentype_layout::places::Places;
+use crate::generated::opentype_layout::sets::{place_in_set, place_of_first};
 use crate::generated::opentype_layout::sight::{Sight, number};
 use crate::generated::shapers_buffer::buffer::GlyphInfo;
 
@@ -144,8 +146,8 @@ impl<'a> Rule<'a> {
         })
     }
 
-    /// The rule at a place of a text, where it fits: its input by one sight, its context by another.
-    /// A rule of no glyph or of more than 64 fits nowhere.
+    /// The rule at a place of a text, where it fits: its input by one sight, its context by
+    /// another. A rule of no glyph or of more than 64 fits nowhere.
     ///
     /// <details><summary>Contract</summary>
     ///
@@ -432,106 +434,23 @@ pub(crate) fn place_of_sets(chained: bool) -> usize {
     if chained { 10 } else { 6 }
 }
 
-// Where the offset of the set of format 3's first glyph stands.
-pub(crate) fn place_of_first(chained: bool, bytes: &[u8]) -> usize {
-    if chained {
-        usize::from(u16_at(bytes, 2)) * 2 + 6
-    } else {
-        6
-    }
-}
-
-// Whether the set that a context of format 3 begins with has a glyph; it is asked unless that is
-// known.
-#[inline]
-fn is_begun(chained: bool, bytes: &[u8], glyph: u16, is_known: bool) -> bool {
-    if is_known {
-        return true;
-    }
-    let set = u16_at(bytes, place_of_first(chained, bytes));
-    coverage(table_at(bytes, usize::from(set)), glyph).is_some()
-}
-
-// The rule of a context of format 3, if it fits a place of a text; the set that it begins with is
-// asked unless it is known to have the glyph there.
-fn find_by_sets<'a>(
-    chained: bool,
-    gdef: &[u8],
-    input: &Sight,
-    context: &Sight,
-    bytes: &'a [u8],
-    is_known: bool,
-    glyphs: &[GlyphInfo],
-    at: usize,
-) -> Option<Matched<'a>> {
-    // (the first glyph is tested last: where a lookup has bits, few others come here; and the tables
-    // are made twice, so that a rule that is barred writes none)
-    if Tables::of_sets(chained, bytes).are_sets_barred(gdef, input, context, bytes, glyphs, at) {
-        return None;
-    }
-    if !is_begun(chained, bytes, number(&glyphs[at]), is_known) {
-        return None;
-    }
-    let rule = Tables::of_sets(chained, bytes).rule(bytes);
-    rule.fit(gdef, input, context, glyphs, at)
-}
-
-// The same by the place of the glyph in the set that the rule begins with.
-#[inline]
-fn find_by_first<'a>(
-    chained: bool,
-    gdef: &[u8],
-    input: &Sight,
-    context: &Sight,
-    bytes: &'a [u8],
-    place: Option<u32>,
-    glyphs: &[GlyphInfo],
-    at: usize,
-) -> Option<Matched<'a>> {
-    place?;
-    find_by_sets(chained, gdef, input, context, bytes, true, glyphs, at)
-}
-
-// The first rule of a context of format 1 or 2 that fits a place of a text, by the place of the
-// glyph there in the set that the context begins with.
-fn find_by_place<'a>(
-    chained: bool,
-    gdef: &[u8],
-    input: &Sight,
-    context: &Sight,
-    bytes: &'a [u8],
-    covered: Option<u32>,
-    glyphs: &[GlyphInfo],
-    at: usize,
-) -> Option<Matched<'a>> {
-    let format = u16_at(bytes, 0);
-    let glyph = number(&glyphs[at]);
-    let tables = Tables::of(chained, bytes);
-    let set = match (format, covered) {
-        (1, Some(number)) => rule_set(bytes, 4, number),
-        (2, Some(_)) => {
-            let number = class(tables.input, glyph);
-            rule_set(bytes, place_of_sets(chained), u32::from(number))
-        }
-        _ => return None,
-    };
-    tables.first_rule(gdef, input, context, set, glyphs, at)
-}
-
 /// The first rule of a context that fits a place of a text: its input by one sight, its context by
-/// another.
+/// another. A table of the set of glyphs that the context begins with saves a search in the set.
 ///
 /// <details><summary>Contract</summary>
 ///
 /// # Contract
 ///
 /// ```text
-/// requires { at < length glyphs.now }
+/// requires inside { at < length glyphs.now }
+/// requires set { IfSome set (λ it.
+///     it.now.set.now ≡ table_at bytes.now (u16_in bytes.now (start_at chained bytes.now))) }
 /// ensures { option_map (λ it. found it) result
 ///     ≡ context_in chained gdef.now input.now context.now bytes.now glyphs.now at }
 /// ```
 ///
-/// - `context_in`, `found`: `crates/opentype_layout/specs/Rules.antt`
+/// - `table_at`, `u16_in`: `crates/opentype_face/specs/Bytes.antt`
+/// - `context_in`, `found`, `start_at`: `crates/opentype_layout/specs/Rules.antt`
 ///
 /// </details>
 pub fn find_rule<'a>(
@@ -540,50 +459,33 @@ pub fn find_rule<'a>(
     input: &Sight,
     context: &Sight,
     bytes: &'a [u8],
+    set: Option<&PreparedCoverage<'_>>,
     glyphs: &[GlyphInfo],
     at: usize,
 ) -> Option<Matched<'a>> {
-    if u16_at(bytes, 0) == 3 {
-        return find_by_sets(chained, gdef, input, context, bytes, false, glyphs, at);
+    let format = u16_at(bytes, 0);
+    if format == 3 {
+        // (the set is asked last: it may have to be searched, and few rules are left by then; and
+        // the tables are made twice, so that a rule that is barred writes none)
+        if Tables::of_sets(chained, bytes).are_sets_barred(gdef, input, context, bytes, glyphs, at)
+        {
+            return None;
+        }
+        let first = place_of_first(chained, bytes);
+        place_in_set(bytes, first, set, number(&glyphs[at]))?;
+        let rule = Tables::of_sets(chained, bytes).rule(bytes);
+        return rule.fit(gdef, input, context, glyphs, at);
     }
-    let covered = coverage(
-        table_at(bytes, usize::from(u16_at(bytes, 2))),
-        number(&glyphs[at]),
-    );
-    find_by_place(chained, gdef, input, context, bytes, covered, glyphs, at)
-}
-
-/// The same by the place of the glyph there in the set that the context begins with.
-///
-/// <details><summary>Contract</summary>
-///
-/// # Contract
-///
-/// ```text
-/// requires inside { at < length glyphs.now }
-/// requires place { place
-///     ≡ start_place chained bytes.now ((glyph_at glyphs.now at).glyph_id % 65536) }
-/// ensures { option_map (λ it. found it) result
-///     ≡ context_in chained gdef.now input.now context.now bytes.now glyphs.now at }
-/// ```
-///
-/// - `context_in`, `found`, `start_place`: `crates/opentype_layout/specs/Rules.antt`
-/// - `glyph_at`: `crates/opentype_layout/specs/Text.antt`
-///
-/// </details>
-#[inline]
-pub fn find_rule_at<'a>(
-    chained: bool,
-    gdef: &[u8],
-    input: &Sight,
-    context: &Sight,
-    bytes: &'a [u8],
-    place: Option<u32>,
-    glyphs: &[GlyphInfo],
-    at: usize,
-) -> Option<Matched<'a>> {
-    if u16_at(bytes, 0) == 3 {
-        return find_by_first(chained, gdef, input, context, bytes, place, glyphs, at);
-    }
-    find_by_place(chained, gdef, input, context, bytes, place, glyphs, at)
+    let glyph = number(&glyphs[at]);
+    let place = place_in_set(bytes, 2, set, glyph)?;
+    let tables = Tables::of(chained, bytes);
+    let rules = match format {
+        1 => rule_set(bytes, 4, place),
+        2 => {
+            let class = class(tables.input, glyph);
+            rule_set(bytes, place_of_sets(chained), u32::from(class))
+        }
+        _ => return None,
+    };
+    tables.first_rule(gdef, input, context, rules, glyphs, at)
 }

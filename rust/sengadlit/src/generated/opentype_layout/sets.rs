@@ -2,26 +2,33 @@
 
 //! The set of the glyphs that a subtable begins with.
 
-use crate::generated::opentype_face::bytes::{table_at, u16_at};
+use crate::generated::opentype_face::bytes::{offset16, table_at, u16_at};
 use crate::generated::opentype_face::glyph_sets::coverage;
-use crate::generated::opentype_face::lookup::{subtable, subtable_count, subtable_type};
+use crate::generated::opentype_face::glyph_tables::PreparedCoverage;
+use crate::generated::opentype_face::lookup::{subtable, subtable_type};
 use crate::generated::opentype_face::ranges::Ranges;
 
-// Where the offset of the set stands that a subtable's first glyphs are in: the first set of the
-// input in format 3 of contexts, else the one that each subtable begins with.
+/// Where the offset of the first set of the input stands, in format 3 of contexts.
 #[inline]
-fn place_of_set(of_gpos: bool, kind: u16, bytes: &[u8]) -> usize {
-    if u16_at(bytes, 0) != 3 {
-        return 2;
+pub(crate) fn place_of_first(chained: bool, bytes: &[u8]) -> usize {
+    if chained {
+        usize::from(u16_at(bytes, 2)) * 2 + 6
+    } else {
+        6
     }
+}
+
+/// Where the offset of the set stands that a subtable's first glyphs are in: the first set of the
+/// input in format 3 of contexts, else the one that each subtable begins with.
+#[inline]
+pub(crate) fn place_of_set(of_gpos: bool, kind: u16, bytes: &[u8]) -> usize {
     let context = if of_gpos { 7 } else { 5 };
-    if kind == context {
-        return 6;
+    let chained = kind == context + 1;
+    if (kind == context || chained) && u16_at(bytes, 0) == 3 {
+        place_of_first(chained, bytes)
+    } else {
+        2
     }
-    if kind == context + 1 {
-        return usize::from(u16_at(bytes, 2)) * 2 + 6;
-    }
-    2
 }
 
 /// The set of the glyphs that a subtable begins with.
@@ -30,7 +37,22 @@ pub(crate) fn first_set(of_gpos: bool, lookup: &[u8], i: u16) -> &[u8] {
     let extension = if of_gpos { 9 } else { 7 };
     let bytes = subtable(extension, lookup, i);
     let at = place_of_set(of_gpos, subtable_type(extension, lookup, i), bytes);
-    table_at(bytes, usize::from(u16_at(bytes, at)))
+    table_at(bytes, offset16(bytes, at))
+}
+
+/// The place of a glyph in the set whose offset stands at a place of a subtable; without a search
+/// where the set has a table.
+#[inline]
+pub(crate) fn place_in_set(
+    bytes: &[u8],
+    at: usize,
+    set: Option<&PreparedCoverage<'_>>,
+    glyph: u16,
+) -> Option<u32> {
+    match set {
+        Some(set) => set.place(glyph),
+        None => coverage(table_at(bytes, offset16(bytes, at)), glyph),
+    }
 }
 
 /// The number of a subtable that may begin at a glyph.
@@ -86,33 +108,4 @@ pub(crate) fn nth_range(ranges: &Ranges<'_>, i: u32) -> GlyphRange {
         from: u16_at(ranges.bytes, ranges.first as usize + at),
         to: u16_at(ranges.bytes, ranges.last as usize + at),
     }
-}
-
-// A range that has the glyphs of several ranges, too.
-fn widen(span: GlyphRange, ranges: &Ranges<'_>) -> GlyphRange {
-    let mut span = span;
-    for i in 0..ranges.count {
-        let range = nth_range(ranges, i);
-        if range.from <= range.to {
-            span.from = span.from.min(range.from);
-            span.to = span.to.max(range.to);
-        }
-    }
-    span
-}
-
-/// The range from the first glyph that a lookup begins with to the last one. A budget pays one for each
-/// subtable and for each range of their sets, so that the tables of a spoilt font can't take long.
-pub(crate) fn span(of_gpos: bool, lookup: &[u8], budget: &mut usize) -> Option<GlyphRange> {
-    let mut span = GlyphRange { from: 65535, to: 0 };
-    for i in 0..subtable_count(lookup) {
-        let ranges = ranges(first_set(of_gpos, lookup, i));
-        let cost = ranges.count as usize + 1;
-        if cost > *budget {
-            return None;
-        }
-        *budget -= cost;
-        span = widen(span, &ranges);
-    }
-    Some(span)
 }

@@ -5,16 +5,16 @@
 use crate::support::prelude::*;
 
 use crate::generated::opentype_face::lookup::subtable_count;
+use crate::generated::opentype_face::ranges::Ranges;
 use crate::generated::opentype_layout::bits::first_bit;
 use crate::generated::opentype_layout::grid::Grid;
 use crate::generated::opentype_layout::heads::{headed_place, heads_of, masked_place};
 use crate::generated::opentype_layout::lookup_rows::mark_column;
-use crate::generated::opentype_layout::pair_tables::{LookupPairs, PairTable};
-use crate::generated::opentype_layout::sets::{span, start};
+use crate::generated::opentype_layout::pair_tables::PairTable;
+use crate::generated::opentype_layout::sets::{GlyphRange, first_set, nth_range, ranges, start};
 use crate::generated::opentype_layout::sight::number;
-use crate::generated::opentype_layout::substitution_tables::{
-    LookupSubstitutions, SubstitutionTable, SubtableAt, subtable_at,
-};
+use crate::generated::opentype_layout::substitution_tables::{SubstitutionTable, SubtableRef};
+use crate::generated::opentype_layout::subtable_tables::SubtableTables;
 use crate::generated::shapers_buffer::buffer::GlyphInfo;
 use crate::support::alloc::Global;
 
@@ -30,6 +30,36 @@ struct Marks {
 struct HeadedMarks {
     marks: Marks,
     heads: Vec<u64>,
+}
+
+// A range that has the glyphs of several ranges, too.
+fn widen(span: GlyphRange, ranges: &Ranges<'_>) -> GlyphRange {
+    let mut span = span;
+    for i in 0..ranges.count {
+        let range = nth_range(ranges, i);
+        if range.from <= range.to {
+            span.from = span.from.min(range.from);
+            span.to = span.to.max(range.to);
+        }
+    }
+    span
+}
+
+// The range from the first glyph that a lookup begins with to the last one. A budget pays one for
+// each subtable and for each range of their sets, so that the tables of a spoilt font can't take
+// long.
+fn span(of_gpos: bool, lookup: &[u8], budget: &mut usize) -> Option<GlyphRange> {
+    let mut span = GlyphRange { from: 65535, to: 0 };
+    for i in 0..subtable_count(lookup) {
+        let ranges = ranges(first_set(of_gpos, lookup, i));
+        let cost = ranges.count as usize + 1;
+        if cost > *budget {
+            return None;
+        }
+        *budget -= cost;
+        span = widen(span, &ranges);
+    }
+    Some(span)
 }
 
 // The bits of a lookup's subtables, if memory and a budget suffice.
@@ -81,8 +111,9 @@ pub struct Starts<'a> {
 }
 
 impl<'a> Starts<'a> {
-    /// The bits of a lookup of GSUB, or of GPOS. It has none where memory doesn't suffice, or a budget
-    /// in bytes that pays for them, and one for each subtable and each range of glyphs that is read.
+    /// The bits of a lookup of GSUB, or of GPOS. It has none where memory doesn't suffice, or a
+    /// budget in bytes that pays for them, and one for each subtable and each range of glyphs that
+    /// is read.
     ///
     /// <details><summary>Contract</summary>
     ///
@@ -143,13 +174,18 @@ impl<'a> Starts<'a> {
         self.lookup
     }
 
-    /// How many glyphs there are up to the last one that it may begin at.
-    pub(crate) fn end_of_heads(&self) -> usize {
-        usize::from(self.grid.first) + self.grid.rows as usize
+    /// The number from which on it begins at no glyph, as a lookup of GSUB or of GPOS. It isn't
+    /// known where it has no bits, or those of the other table.
+    pub(crate) fn end_of_heads(&self, of_gpos: bool) -> Option<usize> {
+        if of_gpos != self.of_gpos || !self.is_made {
+            return None;
+        }
+        Some(usize::from(self.grid.first) + self.grid.rows as usize)
     }
 
-    /// Sets the lookup's bit in the rows of the glyphs that it may begin at, as a lookup of GSUB or of
-    /// GPOS. It can't where it has no bits, those of the other table, or such a glyph has no row.
+    /// Sets the lookup's bit in the rows of the glyphs that it may begin at, as a lookup of GSUB or
+    /// of GPOS. It can't where it has no bits, those of the other table, or such a glyph has no
+    /// row.
     pub(crate) fn mark_rows(&self, of_gpos: bool, words: &mut [u64], index: usize) -> bool {
         if of_gpos != self.of_gpos || !self.is_made {
             return false;
@@ -165,7 +201,8 @@ impl<'a> Starts<'a> {
     ///
     /// ```text
     /// ensures within { IfSome result (λ next. (from ≤ next) × (next < u16_in self.now 4)) }
-    /// ensures passed { NoneStarts of_gpos self.now glyph from (unwrap_or result (u16_in self.now 4)) }
+    /// ensures passed { NoneStarts of_gpos self.now glyph from
+    ///     (unwrap_or result (u16_in self.now 4)) }
     /// ```
     ///
     /// - `u16_in`: `crates/opentype_face/specs/Bytes.antt`
@@ -193,8 +230,8 @@ impl<'a> Starts<'a> {
         }
     }
 
-    /// The first place of a text, from one on, where a subtable may begin at a glyph with a bit of a
-    /// mask; the text's length, if there is none.
+    /// The first place of a text, from one on, where a subtable may begin at a glyph with a bit of
+    /// a mask; the text's length, if there is none.
     ///
     /// <details><summary>Contract</summary>
     ///
@@ -228,8 +265,8 @@ fn is_start(of_gpos: bool, lookup: &[u8], glyph: u16) -> bool {
     false
 }
 
-// The first place of a text, from one on, where a subtable may begin, by its bytes, at a glyph with a
-// bit of a mask; the text's length, if there is none.
+// The first place of a text, from one on, where a subtable may begin, by its bytes, at a glyph with
+// a bit of a mask; the text's length, if there is none.
 fn search_place(
     of_gpos: bool,
     lookup: &[u8],
@@ -250,6 +287,7 @@ fn search_place(
 #[derive(Debug)]
 pub struct LookupTable<'a> {
     bytes: &'a [u8],
+    count: u16,
     starts: Option<&'a Starts<'a>>,
     pairs: &'a [PairTable<'a>],
     substitutions: &'a [SubstitutionTable<'a>],
@@ -271,6 +309,7 @@ impl<'a> LookupTable<'a> {
     pub fn of(bytes: &'a [u8]) -> Self {
         LookupTable {
             bytes,
+            count: subtable_count(bytes),
             starts: None,
             pairs: &[],
             substitutions: &[],
@@ -296,53 +335,35 @@ impl<'a> LookupTable<'a> {
         }
         LookupTable {
             bytes,
+            count: starts.count,
             starts: Some(starts),
             pairs: &[],
             substitutions: &[],
         }
     }
 
-    /// The same with tables of its subtables of pairs.
+    /// The same with tables of its subtables.
     ///
     /// <details><summary>Contract</summary>
     ///
     /// # Contract
     ///
     /// ```text
-    /// requires { pairs.now ≡ self }
+    /// requires { tables.now ≡ self }
     /// ensures { result ≡ self.entry }
     /// ```
     ///
     /// </details>
     #[inline]
-    pub fn with_pairs(self, pairs: &'a LookupPairs<'a>) -> Self {
+    pub fn with_tables(self, tables: &'a SubtableTables<'a>) -> Self {
         LookupTable {
-            pairs: pairs.tables(),
+            pairs: tables.pairs(),
+            substitutions: tables.substitutions(),
             ..self
         }
     }
 
-    /// The same with tables of its subtables of GSUB.
-    ///
-    /// <details><summary>Contract</summary>
-    ///
-    /// # Contract
-    ///
-    /// ```text
-    /// requires { substitutions.now ≡ self }
-    /// ensures { result ≡ self.entry }
-    /// ```
-    ///
-    /// </details>
-    #[inline]
-    pub fn with_substitutions(self, substitutions: &'a LookupSubstitutions<'a>) -> Self {
-        LookupTable {
-            substitutions: substitutions.tables(),
-            ..self
-        }
-    }
-
-    /// A subtable of a lookup of GSUB at a glyph; without a search where it has a table.
+    /// A subtable of a lookup of GSUB, with its table, if it has one.
     ///
     /// <details><summary>Contract</summary>
     ///
@@ -351,17 +372,16 @@ impl<'a> LookupTable<'a> {
     /// ```text
     /// ensures kind { result.kind ≡ (nth_subtable self.now i).kind }
     /// ensures bytes { result.bytes.now ≡ (nth_subtable self.now i).bytes }
-    /// ensures place { result.place ≡ first_place (nth_subtable self.now i) glyph }
     /// ```
     ///
-    /// - `first_place`, `nth_subtable`: `crates/opentype_layout/specs/SubstitutionTables.antt`
+    /// - `nth_subtable`: `crates/opentype_layout/specs/SubstitutionTables.antt`
     ///
     /// </details>
     #[inline]
-    pub fn subtable_at(&self, i: u16, glyph: u16) -> SubtableAt<'a> {
+    pub fn subtable(&self, i: u16) -> SubtableRef<'a> {
         match self.substitutions.get(usize::from(i)) {
-            Some(table) => table.at(glyph),
-            None => subtable_at(self.bytes, i, glyph),
+            Some(table) => table.as_subtable(),
+            None => SubtableRef::of(self.bytes, i),
         }
     }
 
@@ -422,7 +442,8 @@ impl<'a> LookupTable<'a> {
         }
     }
 
-    /// The next subtable from one on that is to be tried at a glyph; those between don't begin there.
+    /// The next subtable from one on that is to be tried at a glyph; those between don't begin
+    /// there.
     ///
     /// <details><summary>Contract</summary>
     ///
@@ -430,7 +451,8 @@ impl<'a> LookupTable<'a> {
     ///
     /// ```text
     /// ensures within { IfSome result (λ next. (from ≤ next) × (next < u16_in self.now 4)) }
-    /// ensures passed { NoneStarts of_gpos self.now glyph from (unwrap_or result (u16_in self.now 4)) }
+    /// ensures passed { NoneStarts of_gpos self.now glyph from
+    ///     (unwrap_or result (u16_in self.now 4)) }
     /// ```
     ///
     /// - `u16_in`: `crates/opentype_face/specs/Bytes.antt`
@@ -442,15 +464,11 @@ impl<'a> LookupTable<'a> {
         if let Some(starts) = self.starts {
             return starts.next(of_gpos, glyph, from);
         }
-        if from < subtable_count(self.bytes) {
-            Some(from)
-        } else {
-            None
-        }
+        if from < self.count { Some(from) } else { None }
     }
 
-    /// The first place of a text, from one on, where a subtable may begin at a glyph with a bit of a
-    /// mask; the text's length, if there is none. A table without bits is searched.
+    /// The first place of a text, from one on, where a subtable may begin at a glyph with a bit of
+    /// a mask; the text's length, if there is none. A table without bits is searched.
     ///
     /// <details><summary>Contract</summary>
     ///
@@ -479,8 +497,8 @@ impl<'a> LookupTable<'a> {
         }
     }
 
-    /// The next place of a text, from one on, that is to be tried; a lookup with this mask begins at
-    /// none before it. A table without bits isn't searched.
+    /// The next place of a text, from one on, that is to be tried; a lookup with this mask begins
+    /// at none before it. A table without bits isn't searched.
     ///
     /// <details><summary>Contract</summary>
     ///

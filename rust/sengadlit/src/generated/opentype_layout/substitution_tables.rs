@@ -4,10 +4,9 @@
 
 use crate::support::prelude::*;
 
-use crate::generated::opentype_face::glyph_sets::coverage;
 use crate::generated::opentype_face::glyph_tables::PreparedCoverage;
 use crate::generated::opentype_face::lookup::{subtable, subtable_count, subtable_type};
-use crate::generated::opentype_layout::sets::first_set;
+use crate::generated::opentype_layout::sets::{first_set, place_in_set, place_of_set};
 use crate::support::alloc::Global;
 
 /// How many bytes a table costs beside the places of its glyphs.
@@ -22,6 +21,57 @@ pub struct SubtableAt<'a> {
     pub bytes: &'a [u8],
     /// The place of the glyph in the set that the subtable begins with.
     pub place: Option<u32>,
+}
+
+/// A subtable of GSUB, and a table of the set of glyphs that it begins with, if it has one.
+#[derive(Clone, Copy, Debug)]
+pub struct SubtableRef<'a> {
+    /// Its type.
+    pub kind: u16,
+    /// Its bytes.
+    pub bytes: &'a [u8],
+    /// The table of the set.
+    pub set: Option<&'a PreparedCoverage<'a>>,
+}
+
+impl<'a> SubtableRef<'a> {
+    /// The subtable of a lookup with a number, without a table.
+    #[inline]
+    pub(crate) fn of(lookup: &'a [u8], i: u16) -> Self {
+        SubtableRef {
+            kind: subtable_type(7, lookup, i),
+            bytes: subtable(7, lookup, i),
+            set: None,
+        }
+    }
+
+    /// The subtable at a glyph.
+    ///
+    /// <details><summary>Contract</summary>
+    ///
+    /// # Contract
+    ///
+    /// ```text
+    /// ensures kind { result.kind ≡ self.now.kind }
+    /// ensures bytes { result.bytes.now ≡ self.now.bytes.now }
+    /// ensures place { result.place ≡ first_place (record {
+    ///   kind = self.now.kind;
+    ///   bytes = self.now.bytes.now;
+    /// }) glyph }
+    /// ```
+    ///
+    /// - `first_place`: `crates/opentype_layout/specs/SubstitutionTables.antt`
+    ///
+    /// </details>
+    #[inline]
+    pub fn at(&self, glyph: u16) -> SubtableAt<'a> {
+        let at = place_of_set(false, self.kind, self.bytes);
+        SubtableAt {
+            kind: self.kind,
+            bytes: self.bytes,
+            place: place_in_set(self.bytes, at, self.set, glyph),
+        }
+    }
 }
 
 /// A subtable of GSUB, with its type, and with a table of the glyphs that it begins with.
@@ -54,7 +104,7 @@ impl<'a> SubstitutionTable<'a> {
         }
     }
 
-    /// The subtable at a glyph.
+    /// The subtable, with its table.
     ///
     /// <details><summary>Contract</summary>
     ///
@@ -63,81 +113,36 @@ impl<'a> SubstitutionTable<'a> {
     /// ```text
     /// ensures kind { result.kind ≡ self.now.kind }
     /// ensures bytes { result.bytes.now ≡ self.now.bytes }
-    /// ensures place { result.place ≡ first_place self.now glyph }
     /// ```
-    ///
-    /// - `first_place`: `crates/opentype_layout/specs/SubstitutionTables.antt`
     ///
     /// </details>
     #[inline]
-    pub fn at(&self, glyph: u16) -> SubtableAt<'a> {
-        SubtableAt {
+    pub fn as_subtable(&self) -> SubtableRef<'_> {
+        SubtableRef {
             kind: self.kind,
             bytes: self.bytes,
-            place: self.set.place(glyph),
+            set: Some(&self.set),
         }
     }
 }
 
-/// A subtable of a lookup of GSUB at a glyph, by its bytes.
-pub(crate) fn subtable_at(lookup: &[u8], i: u16, glyph: u16) -> SubtableAt<'_> {
-    SubtableAt {
-        kind: subtable_type(7, lookup, i),
-        bytes: subtable(7, lookup, i),
-        place: coverage(first_set(false, lookup, i), glyph),
-    }
-}
-
-/// The subtables of a lookup of GSUB, with tables of the glyphs that they begin with.
-#[derive(Debug)]
-pub struct LookupSubstitutions<'a> {
+/// Tables of a lookup's first subtables. Where a budget in bytes or memory doesn't suffice, there
+/// are fewer.
+pub(crate) fn tables_of_sets<'a>(
+    alloc: Global,
     lookup: &'a [u8],
-    tables: Vec<SubstitutionTable<'a>>,
-}
-
-impl<'a> LookupSubstitutions<'a> {
-    /// Makes the tables of a lookup. Where a budget in bytes or memory doesn't suffice, there are
-    /// fewer.
-    ///
-    /// <details><summary>Contract</summary>
-    ///
-    /// # Contract
-    ///
-    /// ```text
-    /// ensures { result ≡ lookup.now }
-    /// ```
-    ///
-    /// </details>
-    pub fn new(alloc: Global, lookup: &'a [u8], budget: &mut usize) -> Self {
-        let mut tables = Vec::new(alloc);
-        for i in 0..subtable_count(lookup) {
-            if *budget < TABLE_COST {
-                return LookupSubstitutions { lookup, tables };
-            }
-            *budget -= TABLE_COST;
-            let table = SubstitutionTable::new(alloc, lookup, i, budget);
-            if tables.push(table).is_err() {
-                return LookupSubstitutions { lookup, tables };
-            }
+    budget: &mut usize,
+) -> Vec<SubstitutionTable<'a>> {
+    let mut tables = Vec::new(alloc);
+    for i in 0..subtable_count(lookup) {
+        if *budget < TABLE_COST {
+            return tables;
         }
-        LookupSubstitutions { lookup, tables }
+        *budget -= TABLE_COST;
+        let table = SubstitutionTable::new(alloc, lookup, i, budget);
+        if tables.push(table).is_err() {
+            return tables;
+        }
     }
-
-    /// The tables of the first subtables.
-    ///
-    /// <details><summary>Contract</summary>
-    ///
-    /// # Contract
-    ///
-    /// ```text
-    /// ensures { AreSubtables self.now result.now }
-    /// ```
-    ///
-    /// - `AreSubtables`: `crates/opentype_layout/specs/SubstitutionTables.antt`
-    ///
-    /// </details>
-    #[inline]
-    pub fn tables(&self) -> &[SubstitutionTable<'a>] {
-        self.tables.as_slice()
-    }
+    tables
 }

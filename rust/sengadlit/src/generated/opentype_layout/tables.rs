@@ -7,9 +7,8 @@ use crate::support::prelude::*;
 use crate::generated::opentype_face::bytes::{offset16, table_at, u16_at};
 use crate::generated::opentype_face::lookup::lookup;
 use crate::generated::opentype_layout::lookup_rows::{LookupBits, lookup_rows, rows_of};
-use crate::generated::opentype_layout::pair_tables::LookupPairs;
 use crate::generated::opentype_layout::starts::{LookupTable, Starts};
-use crate::generated::opentype_layout::substitution_tables::LookupSubstitutions;
+use crate::generated::opentype_layout::subtable_tables::SubtableTables;
 use crate::generated::shapers_buffer::buffer::GlyphInfo;
 use crate::support::alloc::Global;
 
@@ -35,32 +34,21 @@ fn lookup_starts<'a>(
     starts
 }
 
-// The tables of the pairs of each lookup.
-fn lookup_pairs<'a>(alloc: Global, bytes: &'a [u8], budget: &mut usize) -> Vec<LookupPairs<'a>> {
-    let mut pairs = Vec::new(alloc);
-    for index in 0..lookup_count(bytes) {
-        let table = LookupPairs::new(alloc, lookup(bytes, index), budget);
-        if pairs.push(table).is_err() {
-            return pairs;
-        }
-    }
-    pairs
-}
-
-// The tables of the subtables of each lookup of GSUB.
-fn lookup_substitutions<'a>(
+// The tables of the subtables of each lookup.
+fn lookup_tables<'a>(
     alloc: Global,
+    of_gpos: bool,
     bytes: &'a [u8],
     budget: &mut usize,
-) -> Vec<LookupSubstitutions<'a>> {
-    let mut substitutions = Vec::new(alloc);
+) -> Vec<SubtableTables<'a>> {
+    let mut tables = Vec::new(alloc);
     for index in 0..lookup_count(bytes) {
-        let table = LookupSubstitutions::new(alloc, lookup(bytes, index), budget);
-        if substitutions.push(table).is_err() {
-            return substitutions;
+        let table = SubtableTables::new(alloc, of_gpos, lookup(bytes, index), budget);
+        if tables.push(table).is_err() {
+            return tables;
         }
     }
-    substitutions
+    tables
 }
 
 /// A table with the bits of its lookups.
@@ -68,16 +56,15 @@ fn lookup_substitutions<'a>(
 pub struct PreparedTable<'a> {
     bytes: &'a [u8],
     starts: Vec<Starts<'a>>,
-    pairs: Vec<LookupPairs<'a>>,
-    substitutions: Vec<LookupSubstitutions<'a>>,
+    tables: Vec<SubtableTables<'a>>,
     of_gpos: bool,
     rows: Option<Vec<u64>>,
 }
 
 impl<'a> PreparedTable<'a> {
-    /// GSUB or GPOS. Lookups for which memory or a budget in bytes doesn't suffice have no bits, and
-    /// their pairs and subtables of GSUB no tables; the table has rows of bits by glyph where both
-    /// suffice and all lookups have bits.
+    /// GSUB or GPOS. Lookups for which memory or a budget in bytes doesn't suffice have no bits,
+    /// and their subtables no tables; the table has rows of bits by glyph where both suffice and
+    /// all lookups have bits.
     ///
     /// <details><summary>Contract</summary>
     ///
@@ -91,23 +78,13 @@ impl<'a> PreparedTable<'a> {
     pub fn new(alloc: Global, of_gpos: bool, bytes: &'a [u8], budget: usize) -> Self {
         let mut left = budget;
         let starts = lookup_starts(alloc, of_gpos, bytes, &mut left);
-        let pairs = if of_gpos {
-            lookup_pairs(alloc, bytes, &mut left)
-        } else {
-            Vec::new(alloc)
-        };
         let rows = lookup_rows(alloc, of_gpos, bytes, &starts, &mut left);
         // (last, since bits save more than these do)
-        let substitutions = if of_gpos {
-            Vec::new(alloc)
-        } else {
-            lookup_substitutions(alloc, bytes, &mut left)
-        };
+        let tables = lookup_tables(alloc, of_gpos, bytes, &mut left);
         PreparedTable {
             bytes,
             starts,
-            pairs,
-            substitutions,
+            tables,
             of_gpos,
             rows,
         }
@@ -129,8 +106,7 @@ impl<'a> PreparedTable<'a> {
         LayoutTable {
             bytes: self.bytes,
             starts: self.starts.as_slice(),
-            pairs: self.pairs.as_slice(),
-            substitutions: self.substitutions.as_slice(),
+            tables: self.tables.as_slice(),
             of_gpos: self.of_gpos,
             rows: match &self.rows {
                 Some(rows) => Some(rows.as_slice()),
@@ -145,8 +121,7 @@ impl<'a> PreparedTable<'a> {
 pub struct LayoutTable<'a> {
     bytes: &'a [u8],
     starts: &'a [Starts<'a>],
-    pairs: &'a [LookupPairs<'a>],
-    substitutions: &'a [LookupSubstitutions<'a>],
+    tables: &'a [SubtableTables<'a>],
     of_gpos: bool,
     rows: Option<&'a [u64]>,
 }
@@ -168,8 +143,7 @@ impl<'a> LayoutTable<'a> {
         LayoutTable {
             bytes,
             starts: &[],
-            pairs: &[],
-            substitutions: &[],
+            tables: &[],
             of_gpos: false,
             rows: None,
         }
@@ -220,12 +194,9 @@ impl<'a> LayoutTable<'a> {
             return LookupTable::of(lookup(self.bytes, index));
         }
         let table = LookupTable::prepared(&self.starts[at]);
-        if at < self.substitutions.len() {
-            return table.with_substitutions(&self.substitutions[at]);
-        }
-        if at >= self.pairs.len() {
+        if at >= self.tables.len() {
             return table;
         }
-        table.with_pairs(&self.pairs[at])
+        table.with_tables(&self.tables[at])
     }
 }
