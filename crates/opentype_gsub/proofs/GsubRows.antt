@@ -1,8 +1,10 @@
 -- Worked rows of GSUB, computed on tables written out by hand.
 use Rattle.std.specs.Prelude.{◌≡◌, ℕ, ◌+◌, Some, None, List, [], ◌∷◌, ◌++◌, map, refl}
 use Rattle.shapers_buffer.specs.Glyphs.{Glyph}
+use Rattle.shapers_buffer.specs.Buffer.{Buffer, new_buffer}
 use Rattle.shapers_buffer.specs.Glyph.{default_glyph}
 use Rattle.shapers_buffer.specs.declared.buffer.level.BufferClusterLevel.TheVariants.{MonotoneGraphemes}
+use Rattle.shapers_buffer.specs.declared.buffer.lookup_record.LookupRecord.{LookupRecord}
 use Rattle.std.specs.Prelude.{true, false}
 use Rattle.opentype_face.specs.Firsts.{first_from}
 use Rattle.opentype_layout.specs.Ligatures.{input_in}
@@ -22,6 +24,9 @@ use Rattle.opentype_face.specs.Ranges.{bisect}
 use Rattle.opentype_gsub.specs.Decided.{alternate_in, single_in}
 use Rattle.opentype_gsub.specs.Came.{Frame}
 use Rattle.opentype_gsub.specs.Machine.{climbing, frame_shifted, places_shifted}
+use Rattle.opentype_gsub.specs.Substituted.{applied, substituted}
+use Rattle.opentype_gsub.specs.Along.{lookup_stepped, lookup_applied}
+use Rattle.opentype_gsub.specs.declared.pass.LookupUse.{LookupUse}
 
 -- a coverage, format 1: glyphs 5 and 9
 abbrev covered : List ℕ
@@ -148,32 +153,57 @@ set_for limit gsub = record {
   lookup = record { index = 0; mask = 256; auto_zwnj = true; auto_zwj = true; random = false; per_syllable = false };
 }
 
+-- the record of a text's lookups with so many operations left, and that of one that isn't done
+abbrev with_operations : ℕ → LookupRecord
+with_operations n = record {
+  ligature_serial = 5;
+  random_state = 77;
+  operations_left = n;
+  is_complete = true;
+}
+
+abbrev undone_with : ℕ → LookupRecord
+undone_with n = record {
+  ligature_serial = 5;
+  random_state = 77;
+  operations_left = n;
+  is_complete = false;
+}
+
 -- type 2: no glyph in the place of the first: its cluster stays with the next one
-deleted : sequence_put (set_for 9 []) 0 (glyph 5 1 ∷ glyph 9 2 ∷ []) (0 ∷ 0 ∷ [])
-    ≡ record { text = glyph 9 1 ∷ []; next = 0 }
+deleted : sequence_put (set_for 9 []) 0 (glyph 5 1 ∷ glyph 9 2 ∷ []) (with_operations 100) (0 ∷ 0 ∷ [])
+    ≡ record { text = glyph 9 1 ∷ []; next = 0; lookups = with_operations 100 }
 unfolding handed_on
 deleted = refl
 
 -- one glyph: it isn't a part
-replaced_by_one : sequence_put (set_for 9 []) 0 (glyph 5 1 ∷ glyph 9 2 ∷ []) (0 ∷ 1 ∷ 0 ∷ 20 ∷ [])
-    ≡ record { text = with_props 16 0 (glyph 20 1) ∷ glyph 9 2 ∷ []; next = 1 }
+replaced_by_one : sequence_put (set_for 9 []) 0 (glyph 5 1 ∷ glyph 9 2 ∷ []) (with_operations 100) (0 ∷ 1 ∷ 0 ∷ 20 ∷ [])
+    ≡ record { text = with_props 16 0 (glyph 20 1) ∷ glyph 9 2 ∷ []; next = 1; lookups = with_operations 100 }
 unfolding replaced new_props
 replaced_by_one = refl
 
 -- two: parts 0 and 1, in its cluster
-multiplied_by_two : sequence_put (set_for 9 []) 0 (glyph 5 1 ∷ glyph 9 2 ∷ []) (0 ∷ 2 ∷ 0 ∷ 20 ∷ 0 ∷ 21 ∷ [])
-    ≡ record { text = with_props 80 0 (glyph 20 1) ∷ with_props 80 1 (glyph 21 1) ∷ glyph 9 2 ∷ []; next = 2 }
+multiplied_by_two : sequence_put (set_for 9 []) 0 (glyph 5 1 ∷ glyph 9 2 ∷ []) (with_operations 100)
+    (0 ∷ 2 ∷ 0 ∷ 20 ∷ 0 ∷ 21 ∷ []) ≡ record {
+      text = with_props 80 0 (glyph 20 1) ∷ with_props 80 1 (glyph 21 1) ∷ glyph 9 2 ∷ [];
+      next = 2;
+      lookups = with_operations 100;
+    }
 unfolding multiplied sequence_glyphs sequence_glyph replaced new_props
 multiplied_by_two = refl
 
--- two where the text may have three glyphs, and where it may have two
-just_room : sequence_put (set_for 3 []) 0 (glyph 5 1 ∷ glyph 9 2 ∷ []) (0 ∷ 2 ∷ 0 ∷ 20 ∷ 0 ∷ 21 ∷ [])
-    ≡ record { text = with_props 80 0 (glyph 20 1) ∷ with_props 80 1 (glyph 21 1) ∷ glyph 9 2 ∷ []; next = 2 }
+-- two where the text may have three glyphs, and where it may have two: then the text isn't done
+just_room : sequence_put (set_for 3 []) 0 (glyph 5 1 ∷ glyph 9 2 ∷ []) (with_operations 100)
+    (0 ∷ 2 ∷ 0 ∷ 20 ∷ 0 ∷ 21 ∷ []) ≡ record {
+      text = with_props 80 0 (glyph 20 1) ∷ with_props 80 1 (glyph 21 1) ∷ glyph 9 2 ∷ [];
+      next = 2;
+      lookups = with_operations 100;
+    }
 unfolding multiplied sequence_glyphs sequence_glyph replaced new_props
 just_room = refl
 
-no_room : sequence_put (set_for 2 []) 0 (glyph 5 1 ∷ glyph 9 2 ∷ []) (0 ∷ 2 ∷ 0 ∷ 20 ∷ 0 ∷ 21 ∷ [])
-    ≡ record { text = glyph 5 1 ∷ glyph 9 2 ∷ []; next = 1 }
+no_room : sequence_put (set_for 2 []) 0 (glyph 5 1 ∷ glyph 9 2 ∷ []) (with_operations 100) (0 ∷ 2 ∷ 0 ∷ 20 ∷ 0 ∷ 21 ∷ [])
+    ≡ record { text = glyph 5 1 ∷ glyph 9 2 ∷ []; next = 1; lookups = undone_with 100 }
 no_room = refl
 
 -- type 4: a ligature of two glyphs, in the cluster of both; its number is 1, it has 2 components
@@ -209,15 +239,81 @@ abbrev context : List ℕ
 context = lookup_of 6 0 (0 ∷ 3 ∷ 0 ∷ 0 ∷ 0 ∷ 1 ∷ 0 ∷ 18 ∷ 0 ∷ 1 ∷ 0 ∷ 24 ∷ 0 ∷ 1 ∷ 0 ∷ 0 ∷ 0 ∷ 0
     ∷ 0 ∷ 1 ∷ 0 ∷ 1 ∷ 0 ∷ 5 ∷ 0 ∷ 1 ∷ 0 ∷ 1 ∷ 0 ∷ 9 ∷ [])
 
-in_context : nested (set_for 9 (gsub_of (lookup_of 1 0 by_delta))) context (glyph 5 1 ∷ glyph 9 2 ∷ []) 0 100
-    ≡ record { text = with_props 16 0 (glyph 7 1) ∷ with_flags 3 (glyph 9 2) ∷ []; end = Some 1; left = 98 }
+in_context : nested (set_for 9 (gsub_of (lookup_of 1 0 by_delta))) context (glyph 5 1 ∷ glyph 9 2 ∷ []) 0 (with_operations 100)
+    ≡ record { text = with_props 16 0 (glyph 7 1) ∷ with_flags 3 (glyph 9 2) ∷ []; end = Some 1; lookups = with_operations 98 }
 unfolding nested tried came_in nth_came begun unbroken is_short sights_of sight_of_input sight_of_context flag_in context_in kind_in first_at found_at around rule_in chained_in test_in reach_behind reach_before reach_from end_in input_in places_from next_from seen_by seen_as ignores may_pass bisect first_from ran machine_stepped lookup_called one_put single_put replaced new_props frame_shifted places_shifted climbing
 in_context = refl
 
-out_of_context : nested (set_for 9 (gsub_of (lookup_of 1 0 by_delta))) context (glyph 5 1 ∷ glyph 8 2 ∷ []) 0 100
-    ≡ record { text = glyph 5 1 ∷ glyph 8 2 ∷ []; end = None; left = 100 }
+out_of_context : nested (set_for 9 (gsub_of (lookup_of 1 0 by_delta))) context (glyph 5 1 ∷ glyph 8 2 ∷ []) 0 (with_operations 100)
+    ≡ record { text = glyph 5 1 ∷ glyph 8 2 ∷ []; end = None; lookups = with_operations 100 }
 unfolding nested tried came_in nth_came begun unbroken is_short sights_of sight_of_input sight_of_context flag_in context_in kind_in first_at found_at around rule_in chained_in test_in reach_behind reach_before reach_from end_in input_in places_from next_from seen_by seen_as ignores may_pass bisect first_from ran machine_stepped lookup_called one_put single_put replaced new_props frame_shifted places_shifted climbing
 out_of_context = refl
+
+-- two operations are enough; with one the rule's end is missing, and with none its call, too
+just_enough : nested (set_for 9 (gsub_of (lookup_of 1 0 by_delta))) context (glyph 5 1 ∷ glyph 9 2 ∷ []) 0 (with_operations 2)
+    ≡ record { text = with_props 16 0 (glyph 7 1) ∷ with_flags 3 (glyph 9 2) ∷ []; end = Some 1; lookups = with_operations 0 }
+unfolding nested tried came_in nth_came begun unbroken is_short sights_of sight_of_input sight_of_context flag_in context_in kind_in first_at found_at around rule_in chained_in test_in reach_behind reach_before reach_from end_in input_in places_from next_from seen_by seen_as ignores may_pass bisect first_from ran machine_stepped lookup_called one_put single_put replaced new_props frame_shifted places_shifted climbing
+just_enough = refl
+
+one_missing : nested (set_for 9 (gsub_of (lookup_of 1 0 by_delta))) context (glyph 5 1 ∷ glyph 9 2 ∷ []) 0 (with_operations 1)
+    ≡ record { text = with_props 16 0 (glyph 7 1) ∷ with_flags 3 (glyph 9 2) ∷ []; end = None; lookups = undone_with 0 }
+unfolding nested tried came_in nth_came begun unbroken is_short sights_of sight_of_input sight_of_context flag_in context_in kind_in first_at found_at around rule_in chained_in test_in reach_behind reach_before reach_from end_in input_in places_from next_from seen_by seen_as ignores may_pass bisect first_from ran machine_stepped lookup_called one_put single_put replaced new_props frame_shifted places_shifted climbing
+one_missing = refl
+
+both_missing : nested (set_for 9 (gsub_of (lookup_of 1 0 by_delta))) context (glyph 5 1 ∷ glyph 9 2 ∷ []) 0 (with_operations 0)
+    ≡ record { text = glyph 5 1 ∷ with_flags 3 (glyph 9 2) ∷ []; end = None; lookups = undone_with 0 }
+unfolding nested tried came_in nth_came begun unbroken is_short sights_of sight_of_input sight_of_context flag_in context_in kind_in first_at found_at around rule_in chained_in test_in reach_behind reach_before reach_from end_in input_in places_from next_from seen_by seen_as ignores may_pass bisect first_from ran machine_stepped lookup_called one_put single_put replaced new_props frame_shifted places_shifted climbing
+both_missing = refl
+
+-- GSUB with three lookups: that one, the context, and one that gives glyph 9 to the first one
+abbrev before_all : List ℕ
+before_all = lookup_of 6 0 (0 ∷ 3 ∷ 0 ∷ 0 ∷ 0 ∷ 1 ∷ 0 ∷ 16 ∷ 0 ∷ 0 ∷ 0 ∷ 1 ∷ 0 ∷ 0 ∷ 0 ∷ 0
+    ∷ 0 ∷ 1 ∷ 0 ∷ 1 ∷ 0 ∷ 9 ∷ [])
+
+abbrev three_lookups : List ℕ
+three_lookups = (0 ∷ 1 ∷ 0 ∷ 0 ∷ 0 ∷ 0 ∷ 0 ∷ 0 ∷ 0 ∷ 10 ∷ 0 ∷ 3 ∷ 0 ∷ 8 ∷ 0 ∷ 30 ∷ 0 ∷ 68 ∷ [])
+    ++ (lookup_of 1 0 by_delta ++ (context ++ before_all))
+
+abbrev use_of : ℕ → LookupUse
+use_of index = record {
+  index = index;
+  mask = 256;
+  auto_zwnj = true;
+  auto_zwj = true;
+  random = false;
+  per_syllable = false;
+}
+
+abbrev text_with : ℕ → Buffer
+text_with n = record (new_buffer 9) {
+  glyphs = glyph 5 1 ∷ glyph 9 2 ∷ [];
+  lookups = with_operations n;
+}
+
+-- What one lookup leaves, the next one has: of four operations each takes two. Of two operations
+-- none is left for the second one, and its glyph stays.
+abbrev both_lookups : ℕ → Buffer
+both_lookups n = substituted [] three_lookups (use_of 2) (substituted [] three_lookups (use_of 1) (text_with n))
+
+enough_for_both : both_lookups 4 ≡ record (text_with 0) {
+  glyphs = with_props 16 0 (glyph 7 1) ∷ with_props 16 0 (with_flags 3 (glyph 11 2)) ∷ [];
+}
+unfolding substituted applied lookup_applied lookup_stepped is_seen nested tried came_in nth_came begun unbroken is_short sights_of sight_of_input sight_of_context flag_in context_in kind_in first_at found_at around rule_in chained_in test_in reach_behind reach_before reach_from end_in input_in places_from next_from seen_by seen_as ignores may_pass bisect first_from ran machine_stepped lookup_called one_put single_put replaced new_props frame_shifted places_shifted climbing
+enough_for_both = refl
+
+enough_for_one : both_lookups 2 ≡ record (text_with 0) {
+  glyphs = with_props 16 0 (glyph 7 1) ∷ with_flags 3 (glyph 9 2) ∷ [];
+  lookups = undone_with 0;
+}
+unfolding substituted applied lookup_applied lookup_stepped is_seen nested tried came_in nth_came begun unbroken is_short sights_of sight_of_input sight_of_context flag_in context_in kind_in first_at found_at around rule_in chained_in test_in reach_behind reach_before reach_from end_in input_in places_from next_from seen_by seen_as ignores may_pass bisect first_from ran machine_stepped lookup_called one_put single_put replaced new_props frame_shifted places_shifted climbing
+enough_for_one = refl
+
+-- the first one alone: the text is complete, and its settings are as they were
+first_of_both : substituted [] three_lookups (use_of 1) (text_with 2) ≡ record (text_with 0) {
+  glyphs = with_props 16 0 (glyph 7 1) ∷ with_flags 3 (glyph 9 2) ∷ [];
+}
+unfolding substituted applied lookup_applied lookup_stepped is_seen nested tried came_in nth_came begun unbroken is_short sights_of sight_of_input sight_of_context flag_in context_in kind_in first_at found_at around rule_in chained_in test_in reach_behind reach_before reach_from end_in input_in places_from next_from seen_by seen_as ignores may_pass bisect first_from ran machine_stepped lookup_called one_put single_put replaced new_props frame_shifted places_shifted climbing
+first_of_both = refl
 
 -- type 8: glyph 5 becomes 6 before glyph 9
 abbrev reverse : List ℕ

@@ -4,6 +4,7 @@ use Rattle.std.specs.Option.{is_some, option_map}
 use Rattle.std.proofs.lemmas.Bool.{ltb-true}
 use Rattle.shapers_buffer.specs.Buffer.{Buffer}
 use Rattle.shapers_buffer.specs.Glyphs.{Glyphs}
+use Rattle.shapers_buffer.specs.declared.buffer.lookup_record.LookupRecord.{LookupRecord}
 use Rattle.opentype_face.specs.Bytes.{u16_in}
 use Rattle.opentype_face.specs.Lookups.{lookup_in, subtable_in, type_in}
 use Rattle.opentype_face.specs.Firsts.{first_from, or_else}
@@ -16,8 +17,8 @@ use Rattle.opentype_gsub.specs.Came.{Begun, Frame, came_in, nth_came}
 use Rattle.opentype_gsub.specs.Machine.{MachineStep, nested, started, machine_stepped}
 use Rattle.opentype_gsub.specs.Reversed.{nth_reversed, tried_back, lookup_stepped_back, applied_backward, with_glyph}
 use Rattle.opentype_gsub.specs.Setting.{Setting, is_seen, sights_of}
-use Rattle.opentype_gsub.specs.Substituted.{applied, operations_in, setting_for, substituted}
-use Rattle.opentype_gsub.specs.Along.{LookupStep, lookup_stepped, lookup_applied, went_on}
+use Rattle.opentype_gsub.specs.Substituted.{applied, setting_for, substituted}
+use Rattle.opentype_gsub.specs.Along.{Along, lookup_stepped, lookup_applied, went_on}
 use Rattle.opentype_gsub.specs.declared.pass.LookupUse.{LookupUse}
 use Rattle.opentype_gsub.specs.declared.pass.Sights.{Sights}
 use Rattle.opentype_gsub.proofs.LawKeeps.{ForEach, AreWithin, each_when, first_each, glyphs_grow, if_each, last_within, ligature_within, each_mapped, mapped_if, or_each, then_each}
@@ -87,81 +88,81 @@ if_less : (gs : Glyphs) (test : Bool) (x y : PlaceChange) → Lessens gs x → L
 if_less gs true x y one two = one
 if_less gs false x y one two = two
 
-ligature_less : (s : Setting) (at : ℕ) (gs : Glyphs) (it : ℕ × List ℕ) → at < length gs → AreWithin (length gs) it →
-    Lessens gs (ligature_put s.gdef s.level at gs it)
-ligature_less s at gs it lt all = if_less gs (length it.1 == 0) _ _ (put_few s.gdef at gs it.0)
+ligature_less : (s : Setting) (at : ℕ) (gs : Glyphs) (r : LookupRecord) (it : ℕ × List ℕ) → at < length gs → AreWithin (length gs) it →
+    Lessens gs (ligature_put s.gdef s.level at gs r it)
+ligature_less s at gs r it lt all = if_less gs (length it.1 == 0) _ _ (put_few s.gdef at gs it.0)
     (ligated_few s.level s.gdef at it.0 it.1 gs (last_within (length gs) at it.1 lt all))
 
-one_less : (s : Setting) (sight : Sight) (kind : ℕ) (bytes : List ℕ) (gs : Glyphs) (at : ℕ) → at < length gs →
-    (kind == 2) ≡ false → ForEach (Lessens gs) (one_put s sight kind bytes gs at)
+one_less : (s : Setting) (sight : Sight) (kind : ℕ) (bytes : List ℕ) (gs : Glyphs) (at : ℕ) (r : LookupRecord) → at < length gs →
+    (kind == 2) ≡ false → ForEach (Lessens gs) (one_put s sight kind bytes gs at r)
 unfolding one_put single_put alternate_put ligated_put
-one_less s sight kind bytes gs at lt not_two =
-    if_each (Lessens gs) (kind == 1) _ _ (each_mapped (Lessens gs) (put_in s.gdef at gs) _ (put_few s.gdef at gs))
+one_less s sight kind bytes gs at r lt not_two =
+    if_each (Lessens gs) (kind == 1) _ _ (each_mapped (Lessens gs) (put_in s.gdef at gs r) _ (put_few s.gdef at gs))
     (second (Lessens gs) (kind == 2) _ _ not_two
-    (if_each (Lessens gs) (kind == 3) _ _ (each_mapped (Lessens gs) (put_in s.gdef at gs) _ (put_few s.gdef at gs))
+    (if_each (Lessens gs) (kind == 3) _ _ (each_mapped (Lessens gs) (put_in s.gdef at gs r) _ (put_few s.gdef at gs))
     (if_each (Lessens gs) (kind == 4) _ None
     (then_each (Lessens gs) _ _ (λ set. mapped_if (AreWithin (length gs)) (Lessens gs)
-    (ligature_put s.gdef s.level at gs) _
+    (ligature_put s.gdef s.level at gs r) _
     (first_each (AreWithin (length gs)) (nth_ligature s.gdef sight gs at set) (u16_in set 0) 0
     (λ j. ligature_within s.gdef sight gs at _))
-    (λ it all. ligature_less s at gs it lt all)))
+    (λ it all. ligature_less s at gs r it lt all)))
     tt)))
 
 abbrev pub CameLess : Glyphs → PlaceChange ⊎ Begun → Type 0
 CameLess gs (inl change) = Lessens gs change
 CameLess gs (inr b) = ⊥
 
-nth_less : (s : Setting) (sights : Sights) (lookup : List ℕ) (at : ℕ) (gs : Glyphs) (i : ℕ) → at < length gs →
-    may_add (type_in 7 lookup i) ≡ false → ForEach (CameLess gs) (nth_came s sights lookup at gs i)
+nth_less : (s : Setting) (sights : Sights) (lookup : List ℕ) (at : ℕ) (gs : Glyphs) (r : LookupRecord) (i : ℕ) → at < length gs →
+    may_add (type_in 7 lookup i) ≡ false → ForEach (CameLess gs) (nth_came s sights lookup at gs r i)
 unfolding nth_came
-nth_less s sights lookup at gs i lt none =
+nth_less s sights lookup at gs r i lt none =
     let kind = type_in 7 lookup i in
     let bytes = subtable_in 7 lookup i in
-    let one : Option PlaceChange = one_put s sights.input kind bytes gs at in
+    let one : Option PlaceChange = one_put s sights.input kind bytes gs at r in
     second (CameLess gs) ((kind == 5) || (kind == 6)) _ (option_map inl one)
     (or_right (kind == 2) ((kind == 5) || (kind == 6)) none)
     (mapped_if (Lessens gs) (CameLess gs) inl one
-    (one_less s sights.input kind bytes gs at lt (or_left (kind == 2) ((kind == 5) || (kind == 6)) none)) (λ change less. less))
+    (one_less s sights.input kind bytes gs at r lt (or_left (kind == 2) ((kind == 5) || (kind == 6)) none)) (λ change less. less))
 
-came_less : (s : Setting) (lookup : List ℕ) (gs : Glyphs) (at : ℕ) →
-    is_some (first_from (u16_in lookup 4) (adding lookup) 0) ≡ false → ForEach (CameLess gs) (came_in s lookup gs at)
+came_less : (s : Setting) (lookup : List ℕ) (gs : Glyphs) (at : ℕ) (r : LookupRecord) →
+    is_some (first_from (u16_in lookup 4) (adding lookup) 0) ≡ false → ForEach (CameLess gs) (came_in s lookup gs at r)
 unfolding came_in
-came_less s lookup gs at none = each_when (CameLess gs) (nat_lt at (length gs)) _
-    (λ e. each_to (CameLess gs) (nth_came s (sights_of s.gdef s.lookup lookup (glyph_at gs at)) lookup at gs) (u16_in lookup 4) 0
-    (λ d lt. nth_less s (sights_of s.gdef s.lookup lookup (glyph_at gs at)) lookup at gs (0 + d) (ltb-true at (length gs) e)
+came_less s lookup gs at r none = each_when (CameLess gs) (nat_lt at (length gs)) _
+    (λ e. each_to (CameLess gs) (nth_came s (sights_of s.gdef s.lookup lookup (glyph_at gs at)) lookup at gs r) (u16_in lookup 4) 0
+    (λ d lt. nth_less s (sights_of s.gdef s.lookup lookup (glyph_at gs at)) lookup at gs r (0 + d) (ltb-true at (length gs) e)
     (not_adding lookup (0 + d) (none_each (adding lookup) (u16_in lookup 4) 0 none d lt))))
 
-started_less : (operations : ℕ) (step : Glyphs → List Frame → MachineStep) (gs : Glyphs) (came : Option (PlaceChange ⊎ Begun)) →
-    ForEach (CameLess gs) came → length (started operations step gs came).text ≤ length gs
-started_less operations step gs None h = omega arith
-started_less operations step gs (Some (inl change)) h = h
-started_less operations step gs (Some (inr b)) h = absurd h
-
-if_step : (gs : Glyphs) (test : Bool) (x y : LookupStep) → length x.text ≤ length gs → length y.text ≤ length gs →
-    length (if test then x else y).text ≤ length gs
-if_step gs true x y one two = one
-if_step gs false x y one two = two
+started_less : (step : Glyphs → LookupRecord → List Frame → MachineStep) (gs : Glyphs) (r : LookupRecord) (came : Option (PlaceChange ⊎ Begun)) →
+    ForEach (CameLess gs) came → length (started step gs r came).text ≤ length gs
+started_less step gs r None h = omega arith
+started_less step gs r (Some (inl change)) h = h
+started_less step gs r (Some (inr b)) h = absurd h
 
 step_less : (s : Setting) (lookup : List ℕ) → is_some (first_from (u16_in lookup 4) (adding lookup) 0) ≡ false →
-    (gs : Glyphs) (at left : ℕ) → length (lookup_stepped s lookup gs at left).text ≤ length gs
+    (gs : Glyphs) (at : ℕ) (r : LookupRecord) → length (lookup_stepped s lookup gs at r).text ≤ length gs
 unfolding lookup_stepped nested
-step_less s lookup none gs at left = let flagged = tried s lookup gs at in
-    if_step gs (is_seen s.gdef s.lookup lookup (glyph_at gs at))
-    (went_on at (started left (machine_stepped s) flagged (came_in s lookup flagged at))) _
-    (let less = started_less left (machine_stepped s) flagged (came_in s lookup flagged at) (came_less s lookup flagged at none) in
+step_less s lookup none gs at r = let flagged = tried s lookup gs at in
+    if_less gs (is_seen s.gdef s.lookup lookup (glyph_at gs at))
+    (went_on at (started (machine_stepped s) flagged r (came_in s lookup flagged at r))) _
+    (let less = started_less (machine_stepped s) flagged r (came_in s lookup flagged at r) (came_less s lookup flagged at r none) in
     let same = same_length flagged gs (tried_same s lookup gs at) in omega arith) (omega arith)
 
 if_text : (n : ℕ) (test : Bool) (x y : Glyphs) → length x ≤ n → length y ≤ n → length (if test then x else y) ≤ n
 if_text n true x y one two = one
 if_text n false x y one two = two
 
-walk_less : (f : Glyphs → ℕ → ℕ → LookupStep) → ((gs : Glyphs) (at left : ℕ) → length (f gs at left).text ≤ length gs) →
-    (n : ℕ) (gs : Glyphs) (at left : ℕ) → length (lookup_applied n f gs at left) ≤ length gs
+if_walked : (n : ℕ) (test : Bool) (x y : Along) → length x.text ≤ n → length y.text ≤ n → length (if test then x else y).text ≤ n
+if_walked n true x y one two = one
+if_walked n false x y one two = two
+
+walk_less : (f : Glyphs → ℕ → LookupRecord → PlaceChange) →
+    ((gs : Glyphs) (at : ℕ) (r : LookupRecord) → length (f gs at r).text ≤ length gs) →
+    (n : ℕ) (gs : Glyphs) (at : ℕ) (r : LookupRecord) → length (lookup_applied n f gs at r).text ≤ length gs
 unfolding lookup_applied
-walk_less f h zero gs at left = omega arith
-walk_less f h (suc n) gs at left = if_text (length gs) (nat_lt at (length gs)) _ gs
-    (let one = h gs at left in
-    let more = walk_less f h n (f gs at left).text (f gs at left).next (f gs at left).left in omega arith) (omega arith)
+walk_less f h zero gs at r = omega arith
+walk_less f h (suc n) gs at r = if_walked (length gs) (nat_lt at (length gs)) _ _
+    (let one = h gs at r in
+    let more = walk_less f h n (f gs at r).text (f gs at r).next (f gs at r).lookups in omega arith) (omega arith)
 
 with_less : (gdef : List ℕ) (gs : Glyphs) (at : ℕ) (it : Option Reversal) → length (with_glyph gdef gs at it) ≤ length gs
 with_less gdef gs at None = omega arith
@@ -185,14 +186,14 @@ unfolding applied_backward
 walk_back_less f h zero gs = omega arith
 walk_back_less f h (suc n) gs = (let one = h gs n in let more = walk_back_less f h n (f gs n) in omega arith)
 
-applied_less : (s : Setting) (gs : Glyphs) →
+applied_less : (s : Setting) (gs : Glyphs) (r : LookupRecord) →
     is_some (first_from (u16_in (lookup_in s.gsub s.lookup.index) 4) (adding (lookup_in s.gsub s.lookup.index)) 0) ≡ false →
-    length (applied s gs) ≤ length gs
+    length (applied s gs r).text ≤ length gs
 unfolding applied
-applied_less s gs none = let lookup = lookup_in s.gsub s.lookup.index in
-    if_text (length gs) (type_in 7 lookup 0 == 8) _ _
+applied_less s gs r none = let lookup = lookup_in s.gsub s.lookup.index in
+    if_walked (length gs) (type_in 7 lookup 0 == 8) _ _
     (walk_back_less (lookup_stepped_back s lookup) (back_less s lookup) (length gs) gs)
-    (walk_less (lookup_stepped s lookup) (step_less s lookup none) (length gs) gs 0 (operations_in (length gs)))
+    (walk_less (lookup_stepped s lookup) (step_less s lookup none) (length gs) gs 0 r)
 
 by_growth : (old new : ℕ) (test : Bool) → new ≤ old * 65536 → (test ≡ false → new ≤ old) →
     new ≤ old * (if test then 65536 else 1)
@@ -203,7 +204,7 @@ glyphs_less : (gdef gsub : List ℕ) (use_of : LookupUse) (b : Buffer) →
     is_some (first_from (u16_in (lookup_in gsub use_of.index) 4) (adding (lookup_in gsub use_of.index)) 0) ≡ false →
     length (substituted gdef gsub use_of b).glyphs ≤ length b.glyphs
 unfolding substituted
-glyphs_less gdef gsub use_of b none = applied_less (setting_for gdef gsub use_of b) b.glyphs none
+glyphs_less gdef gsub use_of b none = applied_less (setting_for gdef gsub use_of b) b.glyphs b.lookups none
 
 pub glyphs_grow_by : (gdef gsub : List ℕ) (use_of : LookupUse) (b : Buffer) →
     length (substituted gdef gsub use_of b).glyphs ≤ length b.glyphs * growth_in gsub use_of.index

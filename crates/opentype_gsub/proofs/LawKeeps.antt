@@ -4,9 +4,10 @@ use Rattle.std.specs.List.{AllByRecursion, list_any}
 use Rattle.std.specs.Option.{option_and_then, option_map}
 use Rattle.std.proofs.lemmas.Bool.{ltb-true}
 use Rattle.shapers_buffer.specs.Glyphs.{Glyphs}
+use Rattle.shapers_buffer.specs.declared.buffer.lookup_record.LookupRecord.{LookupRecord}
 use Rattle.opentype_face.specs.Bytes.{u16_in, table_at}
 use Rattle.opentype_gsub.specs.Kept.{KeepsTextClusters}
-use Rattle.opentype_gsub.specs.Edits.{last_place}
+use Rattle.opentype_gsub.specs.Edits.{last_place, replaced}
 use Rattle.opentype_layout.specs.Text.{glyph_at}
 use Rattle.opentype_face.specs.Firsts.{first_from, or_else}
 use Rattle.opentype_layout.specs.Sight.{is_hit, is_passed, next_from}
@@ -15,14 +16,14 @@ use Rattle.opentype_layout.specs.Ligatures.{if_together, input_in, is_apart}
 use Rattle.opentype_gsub.specs.Ligatures.{nth_ligature, ligature_of}
 use Rattle.opentype_gsub.specs.Applied.{PlaceChange, alternate_put, ligated_put, ligature_put, multiple_put, one_put, put_in, sequence_put, single_put}
 use Rattle.opentype_gsub.specs.Came.{Begun, Frame, begun, came_in, nth_came}
-use Rattle.opentype_gsub.specs.Machine.{AfterCall, Nested, MachineStep, lookup_called, called_by, ended, goes_on_with, nested, step_pushed, ran, started, machine_stepped}
+use Rattle.opentype_gsub.specs.Machine.{AfterCall, Nested, MachineStep, lookup_called, called_by, ended, goes_on_with, nested, step_pushed, ran, started, machine_stepped, with_left}
 use Rattle.opentype_gsub.specs.Setting.{Setting, is_seen, sights_of}
-use Rattle.opentype_gsub.specs.Along.{LookupStep, lookup_stepped, lookup_applied, went_on}
-use Rattle.opentype_gsub.specs.Substituted.{applied, limit_in, operations_in, setting_for, substituted}
+use Rattle.opentype_gsub.specs.Along.{Along, lookup_stepped, lookup_applied, went_on}
+use Rattle.opentype_gsub.specs.Substituted.{applied, limit_in, setting_for, substituted}
 use Rattle.opentype_gsub.specs.declared.pass.LookupUse.{LookupUse}
 use Rattle.opentype_gsub.specs.declared.pass.Sights.{Sights}
 use Rattle.shapers_buffer.specs.Buffer.{Buffer}
-use Rattle.std.specs.Prelude.{Err, IsOkUnless, Ok, Result}
+use Rattle.std.specs.Prelude.{Err, IsOkUnless, Ok, Result, slice_set}
 use Rattle.shapers_buffer.specs.Refusals.{RefusesLength}
 use Rattle.shapers_buffer.specs.declared.buffer.refusal.ShaperError.{ShaperError}
 use Rattle.shapers_buffer.specs.declared.buffer.refusal.ShaperError.TheVariants.{Memory, TooLong}
@@ -194,30 +195,30 @@ if_keeps : (s : Setting) (gs : Glyphs) (test : Bool) (x y : PlaceChange) → Cha
 if_keeps s gs true x y one two = one
 if_keeps s gs false x y one two = two
 
-in_keeps : (s : Setting) (at : ℕ) (gs : Glyphs) (to : ℕ) → ChangeKeeps s gs (put_in s.gdef at gs to)
+in_keeps : (s : Setting) (at : ℕ) (gs : Glyphs) (to : ℕ) → Keeps s gs (slice_set gs at (replaced s.gdef to 0 (glyph_at gs at)))
 in_keeps s at gs to = no_longer s gs _ (put_keeps s.level s.gdef at gs to) (put_few s.gdef at gs to)
 
-ligature_keeps : (s : Setting) (at : ℕ) (gs : Glyphs) (it : ℕ × List ℕ) → at < length gs → AreWithin (length gs) it →
-    ChangeKeeps s gs (ligature_put s.gdef s.level at gs it)
-ligature_keeps s at gs it lt all = if_keeps s gs (length it.1 == 0) _ _ (in_keeps s at gs it.0)
+ligature_keeps : (s : Setting) (at : ℕ) (gs : Glyphs) (r : LookupRecord) (it : ℕ × List ℕ) → at < length gs → AreWithin (length gs) it →
+    ChangeKeeps s gs (ligature_put s.gdef s.level at gs r it)
+ligature_keeps s at gs r it lt all = if_keeps s gs (length it.1 == 0) _ _ (in_keeps s at gs it.0)
     (let in_it = last_within (length gs) at it.1 lt all in
     no_longer s gs _ (ligated_keeps s.level s.gdef at it.0 it.1 gs in_it) (ligated_few s.level s.gdef at it.0 it.1 gs in_it))
 
-one_keeps : (s : Setting) (sight : Sight) (kind : ℕ) (bytes : List ℕ) (gs : Glyphs) (at : ℕ) → at < length gs →
-    ForEach (ChangeKeeps s gs) (one_put s sight kind bytes gs at)
+one_keeps : (s : Setting) (sight : Sight) (kind : ℕ) (bytes : List ℕ) (gs : Glyphs) (at : ℕ) (r : LookupRecord) → at < length gs →
+    ForEach (ChangeKeeps s gs) (one_put s sight kind bytes gs at r)
 unfolding one_put single_put multiple_put alternate_put ligated_put
-one_keeps s sight kind bytes gs at lt =
-    if_each (ChangeKeeps s gs) (kind == 1) _ _ (each_mapped (ChangeKeeps s gs) (put_in s.gdef at gs) _ (in_keeps s at gs))
+one_keeps s sight kind bytes gs at r lt =
+    if_each (ChangeKeeps s gs) (kind == 1) _ _ (each_mapped (ChangeKeeps s gs) (put_in s.gdef at gs r) _ (in_keeps s at gs))
     (if_each (ChangeKeeps s gs) (kind == 2) _ _
-    (each_mapped (ChangeKeeps s gs) (sequence_put s at gs) _
-    (λ sequence. record { kept = sequence_keeps s at gs sequence lt; few = sequence_few s at gs sequence lt }))
-    (if_each (ChangeKeeps s gs) (kind == 3) _ _ (each_mapped (ChangeKeeps s gs) (put_in s.gdef at gs) _ (in_keeps s at gs))
+    (each_mapped (ChangeKeeps s gs) (sequence_put s at gs r) _
+    (λ sequence. record { kept = sequence_keeps s at gs r sequence lt; few = sequence_few s at gs r sequence lt }))
+    (if_each (ChangeKeeps s gs) (kind == 3) _ _ (each_mapped (ChangeKeeps s gs) (put_in s.gdef at gs r) _ (in_keeps s at gs))
     (if_each (ChangeKeeps s gs) (kind == 4) _ None
     (then_each (ChangeKeeps s gs) _ _ (λ set. mapped_if (AreWithin (length gs)) (ChangeKeeps s gs)
-    (ligature_put s.gdef s.level at gs) _
+    (ligature_put s.gdef s.level at gs r) _
     (first_each (AreWithin (length gs)) (nth_ligature s.gdef sight gs at set) (u16_in set 0) 0
     (λ j. ligature_within s.gdef sight gs at _))
-    (λ it all. ligature_keeps s at gs it lt all)))
+    (λ it all. ligature_keeps s at gs r it lt all)))
     tt)))
 
 -- ---- at a place
@@ -226,115 +227,118 @@ abbrev pub CameKeeps : Setting → Glyphs → PlaceChange ⊎ Begun → Type 0
 CameKeeps s gs (inl change) = ChangeKeeps s gs change
 CameKeeps s gs (inr b) = Keeps s gs b.text
 
-nth_keeps : (s : Setting) (sights : Sights) (lookup : List ℕ) (at : ℕ) (gs : Glyphs) (i : ℕ) → at < length gs →
-    ForEach (CameKeeps s gs) (nth_came s sights lookup at gs i)
+nth_keeps : (s : Setting) (sights : Sights) (lookup : List ℕ) (at : ℕ) (gs : Glyphs) (r : LookupRecord) (i : ℕ) → at < length gs →
+    ForEach (CameKeeps s gs) (nth_came s sights lookup at gs r i)
 unfolding nth_came
-nth_keeps s sights lookup at gs i lt =
+nth_keeps s sights lookup at gs r i lt =
     let kind = type_in 7 lookup i in
     let bytes = subtable_in 7 lookup i in
-    let one : Option PlaceChange = one_put s sights.input kind bytes gs at in
+    let one : Option PlaceChange = one_put s sights.input kind bytes gs at r in
     let rule : Option Found = context_in (kind == 6) s.gdef sights.input sights.context bytes gs at in
     let begins : Found → PlaceChange ⊎ Begun = λ m. inr (begun s (kind == 6) gs m) in
     if_each (CameKeeps s gs) ((kind == 5) || (kind == 6)) (option_map begins rule) (option_map inl one)
     (each_mapped (CameKeeps s gs) begins rule (begun_keeps s (kind == 6) gs))
-    (mapped_if (ChangeKeeps s gs) (CameKeeps s gs) inl one (one_keeps s sights.input kind bytes gs at lt) (λ change keeps. keeps))
+    (mapped_if (ChangeKeeps s gs) (CameKeeps s gs) inl one (one_keeps s sights.input kind bytes gs at r lt) (λ change keeps. keeps))
 
 pub each_when : {X : Type 0} (P : X → Type 0) (test : Bool) (o : Option X) → (test ≡ true → ForEach P o) →
     ForEach P (if test then o else None)
 each_when P true o h = h refl
 each_when P false o h = tt
 
-came_keeps : (s : Setting) (lookup : List ℕ) (gs : Glyphs) (at : ℕ) → ForEach (CameKeeps s gs) (came_in s lookup gs at)
+came_keeps : (s : Setting) (lookup : List ℕ) (gs : Glyphs) (at : ℕ) (r : LookupRecord) → ForEach (CameKeeps s gs) (came_in s lookup gs at r)
 unfolding came_in
-came_keeps s lookup gs at = each_when (CameKeeps s gs) (nat_lt at (length gs)) _
-    (λ e. first_each (CameKeeps s gs) (nth_came s (sights_of s.gdef s.lookup lookup (glyph_at gs at)) lookup at gs) (u16_in lookup 4) 0
-    (λ j. nth_keeps s (sights_of s.gdef s.lookup lookup (glyph_at gs at)) lookup at gs j (ltb-true at (length gs) e)))
+came_keeps s lookup gs at r = each_when (CameKeeps s gs) (nat_lt at (length gs)) _
+    (λ e. first_each (CameKeeps s gs) (nth_came s (sights_of s.gdef s.lookup lookup (glyph_at gs at)) lookup at gs r) (u16_in lookup 4) 0
+    (λ j. nth_keeps s (sights_of s.gdef s.lookup lookup (glyph_at gs at)) lookup at gs r j (ltb-true at (length gs) e)))
 
 -- ---- the machine
 
-by_keeps : (s : Setting) (gs : Glyphs) (f : Frame) (came : Option (PlaceChange ⊎ Begun)) → ForEach (CameKeeps s gs) came →
-    Keeps s gs (called_by gs f came).text
-by_keeps s gs f None h = unchanged s gs
-by_keeps s gs f (Some (inl change)) h = h
-by_keeps s gs f (Some (inr b)) h = h
+by_keeps : (s : Setting) (gs : Glyphs) (r : LookupRecord) (f : Frame) (came : Option (PlaceChange ⊎ Begun)) → ForEach (CameKeeps s gs) came →
+    Keeps s gs (called_by gs r f came).text
+by_keeps s gs r f None h = unchanged s gs
+by_keeps s gs r f (Some (inl change)) h = h
+by_keeps s gs r f (Some (inr b)) h = h
 
 if_called : (s : Setting) (gs : Glyphs) (test : Bool) (x y : AfterCall) → Keeps s gs x.text → Keeps s gs y.text →
     Keeps s gs (if test then x else y).text
 if_called s gs true x y one two = one
 if_called s gs false x y one two = two
 
-called_keeps : (s : Setting) (gs : Glyphs) (f : Frame) → Keeps s gs (lookup_called s gs f).text
+called_keeps : (s : Setting) (gs : Glyphs) (r : LookupRecord) (f : Frame) → Keeps s gs (lookup_called s gs r f).text
 unfolding lookup_called
-called_keeps s gs f =
+called_keeps s gs r f =
     let lookup = lookup_in s.gsub (u16_in f.records (f.next * 4 + 2)) in
     let place = get_or f.places (u16_in f.records (f.next * 4)) 0 in
     let flagged = tried s lookup gs place in
     if_called s gs _ _ _
-    (keeps_then s gs flagged _ (trying_keeps s lookup gs place) (by_keeps s flagged _ _ (came_keeps s lookup flagged place)))
+    (keeps_then s gs flagged _ (trying_keeps s lookup gs place) (by_keeps s flagged r _ _ (came_keeps s lookup flagged place r)))
     (unchanged s gs)
 
-ended_keeps : (s : Setting) (gs : Glyphs) (f : Frame) (fs : List Frame) → Keeps s gs (ended gs f fs).text
-ended_keeps s gs f [] = unchanged s gs
-ended_keeps s gs f (outer ∷ fs) = unchanged s gs
+ended_keeps : (s : Setting) (gs : Glyphs) (r : LookupRecord) (f : Frame) (fs : List Frame) → Keeps s gs (ended gs r f fs).text
+ended_keeps s gs r f [] = unchanged s gs
+ended_keeps s gs r f (outer ∷ fs) = unchanged s gs
 
 if_turn : (s : Setting) (gs : Glyphs) (test : Bool) (x y : MachineStep) → Keeps s gs x.text → Keeps s gs y.text →
     Keeps s gs (if test then x else y).text
 if_turn s gs true x y one two = one
 if_turn s gs false x y one two = two
 
-turned_keeps : (s : Setting) (gs : Glyphs) (fs : List Frame) → Keeps s gs (machine_stepped s gs fs).text
+turned_keeps : (s : Setting) (gs : Glyphs) (r : LookupRecord) (fs : List Frame) → Keeps s gs (machine_stepped s gs r fs).text
 unfolding machine_stepped
-turned_keeps s gs [] = unchanged s gs
-turned_keeps s gs (f ∷ fs) =
-    if_turn s gs _ (step_pushed (lookup_called s gs f) fs) (ended gs f fs) (called_keeps s gs f) (ended_keeps s gs f fs)
+turned_keeps s gs r [] = unchanged s gs
+turned_keeps s gs r (f ∷ fs) =
+    if_turn s gs _ (step_pushed (lookup_called s gs r f) fs) (ended gs r f fs) (called_keeps s gs r f) (ended_keeps s gs r f fs)
 
-goes_keeps : (s : Setting) (gs : Glyphs) (left : ℕ) (rest : Glyphs → List Frame → Nested) (t : MachineStep) (end : Option (Option ℕ)) →
-    Keeps s gs t.text → ((hs : Glyphs) (fs : List Frame) → Keeps s hs (rest hs fs).text) →
-    Keeps s gs (goes_on_with left rest t end).text
-goes_keeps s gs left rest t None one more = keeps_then s gs t.text _ one (more t.text t.stack)
-goes_keeps s gs left rest t (Some end) one more = one
+goes_keeps : (s : Setting) (gs : Glyphs) (rest : Glyphs → LookupRecord → List Frame → Nested) (t : MachineStep) (end : Option (Option ℕ)) →
+    Keeps s gs t.text → ((hs : Glyphs) (r : LookupRecord) (fs : List Frame) → Keeps s hs (rest hs r fs).text) →
+    Keeps s gs (goes_on_with rest t end).text
+goes_keeps s gs rest t None one more = keeps_then s gs t.text _ one (more t.text t.lookups t.stack)
+goes_keeps s gs rest t (Some end) one more = one
 
-ran_keeps : (s : Setting) (n : ℕ) (gs : Glyphs) (fs : List Frame) → Keeps s gs (ran n (machine_stepped s) gs fs).text
+ran_keeps : (s : Setting) (n : ℕ) (gs : Glyphs) (r : LookupRecord) (fs : List Frame) → Keeps s gs (ran n (machine_stepped s) gs r fs).text
 unfolding ran
-ran_keeps s zero gs fs = unchanged s gs
-ran_keeps s (suc n) gs fs = goes_keeps s gs n (ran n (machine_stepped s)) (machine_stepped s gs fs) (machine_stepped s gs fs).end (turned_keeps s gs fs) (ran_keeps s n)
+ran_keeps s zero gs r fs = unchanged s gs
+ran_keeps s (suc n) gs r fs = let turned = machine_stepped s gs (with_left n r) fs in
+    goes_keeps s gs (ran n (machine_stepped s)) turned turned.end (turned_keeps s gs (with_left n r) fs) (ran_keeps s n)
 
-started_keeps : (s : Setting) (operations : ℕ) (gs : Glyphs) (came : Option (PlaceChange ⊎ Begun)) → ForEach (CameKeeps s gs) came →
-    Keeps s gs (started operations (machine_stepped s) gs came).text
-started_keeps s operations gs None h = unchanged s gs
-started_keeps s operations gs (Some (inl change)) h = h
-started_keeps s operations gs (Some (inr b)) h =
-    keeps_then s gs b.text _ h (ran_keeps s operations b.text (b.frame ∷ []))
+started_keeps : (s : Setting) (gs : Glyphs) (r : LookupRecord) (came : Option (PlaceChange ⊎ Begun)) → ForEach (CameKeeps s gs) came →
+    Keeps s gs (started (machine_stepped s) gs r came).text
+started_keeps s gs r None h = unchanged s gs
+started_keeps s gs r (Some (inl change)) h = h
+started_keeps s gs r (Some (inr b)) h =
+    keeps_then s gs b.text _ h (ran_keeps s r.operations_left b.text r (b.frame ∷ []))
 
-nested_keeps : (s : Setting) (lookup : List ℕ) (gs : Glyphs) (at operations : ℕ) → Keeps s gs (nested s lookup gs at operations).text
+nested_keeps : (s : Setting) (lookup : List ℕ) (gs : Glyphs) (at : ℕ) (r : LookupRecord) → Keeps s gs (nested s lookup gs at r).text
 unfolding nested
-nested_keeps s lookup gs at operations = let flagged = tried s lookup gs at in
+nested_keeps s lookup gs at r = let flagged = tried s lookup gs at in
     keeps_then s gs flagged _ (trying_keeps s lookup gs at)
-    (started_keeps s operations flagged (came_in s lookup flagged at) (came_keeps s lookup flagged at))
+    (started_keeps s flagged r (came_in s lookup flagged at r) (came_keeps s lookup flagged at r))
 
 -- ---- along the text
 
-if_step : (s : Setting) (gs : Glyphs) (test : Bool) (x y : LookupStep) → Keeps s gs x.text → Keeps s gs y.text →
-    Keeps s gs (if test then x else y).text
-if_step s gs true x y one two = one
-if_step s gs false x y one two = two
-
-step_keeps : (s : Setting) (lookup : List ℕ) (gs : Glyphs) (at left : ℕ) → Keeps s gs (lookup_stepped s lookup gs at left).text
+step_keeps : (s : Setting) (lookup : List ℕ) (gs : Glyphs) (at : ℕ) (r : LookupRecord) → Keeps s gs (lookup_stepped s lookup gs at r).text
 unfolding lookup_stepped
-step_keeps s lookup gs at left =
-    if_step s gs (is_seen s.gdef s.lookup lookup (glyph_at gs at)) (went_on at (nested s lookup gs at left)) _
-    (nested_keeps s lookup gs at left) (unchanged s gs)
+step_keeps s lookup gs at r =
+    if_keeps s gs (is_seen s.gdef s.lookup lookup (glyph_at gs at)) (went_on at (nested s lookup gs at r)) _
+    (nested_keeps s lookup gs at r) (unchanged s gs)
 
 if_text : (s : Setting) (gs x y : Glyphs) (test : Bool) → Keeps s gs x → Keeps s gs y → Keeps s gs (if test then x else y)
 if_text s gs x y true one two = one
 if_text s gs x y false one two = two
 
-pub walk_keeps : (s : Setting) (f : Glyphs → ℕ → ℕ → LookupStep) → ((gs : Glyphs) (at left : ℕ) → Keeps s gs (f gs at left).text) →
-    (n : ℕ) (gs : Glyphs) (at left : ℕ) → Keeps s gs (lookup_applied n f gs at left)
+if_walked : (s : Setting) (gs : Glyphs) (x y : Along) (test : Bool) → Keeps s gs x.text → Keeps s gs y.text →
+    Keeps s gs (if test then x else y).text
+if_walked s gs x y true one two = one
+if_walked s gs x y false one two = two
+
+pub walk_keeps : (s : Setting) (f : Glyphs → ℕ → LookupRecord → PlaceChange) →
+    ((gs : Glyphs) (at : ℕ) (r : LookupRecord) → Keeps s gs (f gs at r).text) →
+    (n : ℕ) (gs : Glyphs) (at : ℕ) (r : LookupRecord) → Keeps s gs (lookup_applied n f gs at r).text
 unfolding lookup_applied
-walk_keeps s f h zero gs at left = unchanged s gs
-walk_keeps s f h (suc n) gs at left = if_text s gs _ gs (nat_lt at (length gs))
-    (keeps_then s gs (f gs at left).text _ (h gs at left) (walk_keeps s f h n (f gs at left).text (f gs at left).next (f gs at left).left))
+walk_keeps s f h zero gs at r = unchanged s gs
+walk_keeps s f h (suc n) gs at r = let stepped = f gs at r in
+    if_walked s gs _ _ (nat_lt at (length gs))
+    (keeps_then s gs stepped.text _ (h gs at r) (walk_keeps s f h n stepped.text stepped.next stepped.lookups))
     (unchanged s gs)
 
 with_keeps : (s : Setting) (gs : Glyphs) (at : ℕ) (it : Option Reversal) → Keeps s gs (with_glyph s.gdef gs at it)
@@ -356,33 +360,33 @@ unfolding applied_backward
 walk_back_keeps s f h zero gs = unchanged s gs
 walk_back_keeps s f h (suc n) gs = keeps_then s gs (f gs n) _ (h gs n) (walk_back_keeps s f h n (f gs n))
 
-pub applied_keeps : (s : Setting) (gs : Glyphs) → Keeps s gs (applied s gs)
+pub applied_keeps : (s : Setting) (gs : Glyphs) (r : LookupRecord) → Keeps s gs (applied s gs r).text
 unfolding applied
-applied_keeps s gs = let lookup = lookup_in s.gsub s.lookup.index in
-    if_text s gs _ _ (type_in 7 lookup 0 == 8)
+applied_keeps s gs r = let lookup = lookup_in s.gsub s.lookup.index in
+    if_walked s gs _ _ (type_in 7 lookup 0 == 8)
     (walk_back_keeps s (lookup_stepped_back s lookup) (back_keeps s lookup) (length gs) gs)
-    (walk_keeps s (lookup_stepped s lookup) (step_keeps s lookup) (length gs) gs 0 (operations_in (length gs)))
+    (walk_keeps s (lookup_stepped s lookup) (step_keeps s lookup) (length gs) gs 0 r)
 
 -- ---- of a buffer
 
 pub glyphs_keep : (gdef gsub : List ℕ) (use_of : LookupUse) (b : Buffer) →
     KeepsTextClusters b.level b.glyphs (substituted gdef gsub use_of b).glyphs
 unfolding substituted
-glyphs_keep gdef gsub use_of b = (applied_keeps (setting_for gdef gsub use_of b) b.glyphs).kept
+glyphs_keep gdef gsub use_of b = (applied_keeps (setting_for gdef gsub use_of b) b.glyphs b.lookups).kept
 
 pub others_keep : (gdef gsub : List ℕ) (use_of : LookupUse) (b : Buffer) →
-    substituted gdef gsub use_of b ≡ record b { glyphs = (substituted gdef gsub use_of b).glyphs }
+    (let new = substituted gdef gsub use_of b in new ≡ record b { glyphs = new.glyphs; lookups = new.lookups })
 unfolding substituted
 others_keep gdef gsub use_of b = refl
 
 pub applied_fits : (gdef gsub : List ℕ) (use_of : LookupUse) (b : Buffer) → length b.glyphs ≤ b.max_len →
-    length (applied (setting_for gdef gsub use_of b) b.glyphs) ≤ b.max_len
+    length (applied (setting_for gdef gsub use_of b) b.glyphs b.lookups).text ≤ b.max_len
 applied_fits gdef gsub use_of b fits =
-    (applied_keeps (setting_for gdef gsub use_of b) b.glyphs).few b.max_len fits (omega arith)
+    (applied_keeps (setting_for gdef gsub use_of b) b.glyphs b.lookups).few b.max_len fits (omega arith)
 
-pub fits_by : (gdef gsub : List ℕ) (use_of : LookupUse) (b : Buffer) (gs : Glyphs) → length b.glyphs ≤ b.max_len →
-    gs ≡ applied (setting_for gdef gsub use_of b) b.glyphs → length gs ≤ b.max_len
-fits_by gdef gsub use_of b gs fits is = subst (λ hs. length hs ≤ b.max_len) (sym is) (applied_fits gdef gsub use_of b fits)
+pub fits_by : (gdef gsub : List ℕ) (use_of : LookupUse) (b : Buffer) (it : Along) → length b.glyphs ≤ b.max_len →
+    it ≡ applied (setting_for gdef gsub use_of b) b.glyphs b.lookups → length it.text ≤ b.max_len
+fits_by gdef gsub use_of b it fits is = subst (λ (x : Along). length x.text ≤ b.max_len) (sym is) (applied_fits gdef gsub use_of b fits)
 
 -- what isn't too long is refused for memory alone
 pub memory_alone : {T : Type 0} (r : Result T ShaperError) (limit wanted : ℕ) → RefusesLength limit wanted r → wanted ≤ limit →
@@ -395,19 +399,19 @@ memory_alone _ limit wanted refuses fits = absurd refuses
 limited : (len max_len : ℕ) → 1 ≤ len → limit_in len max_len ≤ len * 65536
 limited len max_len some = omega arith
 
-few_text : (gs : Glyphs) (test : Bool) → length (if test then gs else gs) ≤ length gs
-few_text gs true = omega arith
-few_text gs false = omega arith
+few_text : (it : Along) (test : Bool) → length (if test then it else it).text ≤ length it.text
+few_text it true = omega arith
+few_text it false = omega arith
 
-grown_by : (s : Setting) (gs : Glyphs) (max_len : ℕ) → s.limit ≡ limit_in (length gs) max_len →
-    length (applied s gs) ≤ length gs * 65536
+grown_by : (s : Setting) (gs : Glyphs) (r : LookupRecord) (max_len : ℕ) → s.limit ≡ limit_in (length gs) max_len →
+    length (applied s gs r).text ≤ length gs * 65536
 unfolding applied lookup_applied applied_backward
-grown_by s [] max_len is = few_text [] (type_in 7 (lookup_in s.gsub s.lookup.index) 0 == 8)
-grown_by s (g ∷ gs) max_len is =
+grown_by s [] r max_len is = few_text (record { text = []; lookups = r }) (type_in 7 (lookup_in s.gsub s.lookup.index) 0 == 8)
+grown_by s (g ∷ gs) r max_len is =
     let few : s.limit ≤ length (g ∷ gs) * 65536 = omega (arith, is, limited (length (g ∷ gs)) max_len (omega arith)) in
-    (applied_keeps s (g ∷ gs)).few (length (g ∷ gs) * 65536) (omega arith) few
+    (applied_keeps s (g ∷ gs) r).few (length (g ∷ gs) * 65536) (omega arith) few
 
 pub glyphs_grow : (gdef gsub : List ℕ) (use_of : LookupUse) (b : Buffer) →
     length (substituted gdef gsub use_of b).glyphs ≤ length b.glyphs * 65536
 unfolding substituted
-glyphs_grow gdef gsub use_of b = grown_by (setting_for gdef gsub use_of b) b.glyphs b.max_len refl
+glyphs_grow gdef gsub use_of b = grown_by (setting_for gdef gsub use_of b) b.glyphs b.lookups b.max_len refl

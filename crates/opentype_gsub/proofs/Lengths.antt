@@ -1,18 +1,20 @@
 -- By how much a subtable makes a text longer.
 use Rattle.std.proofs.Common.{◌≡◌, ℕ, ◌+◌, ◌-◌, ◌<◌, ◌≤◌, ◌==◌, ◌&&◌, Bool, true, false, nat_lt, List, [], ◌∷◌, ◌++◌, take, drop, length, refl, ap, zero, suc, arith, if◌then◌else◌, length-append, length-drop, length-set, length-take}
 use Rattle.std.specs.List.{remove}
+use Rattle.std.specs.Prelude.{slice_set}
 use Rattle.std.proofs.lemmas.Bool.{ltb-true}
 use Rattle.std.proofs.lemmas.Bool.Decides.{nat_tests}
 use Rattle.shapers_buffer.specs.Glyphs.{Glyph, Glyphs}
 use Rattle.shapers_buffer.specs.Clusters.{merge}
 use Rattle.shapers_buffer.specs.declared.buffer.level.BufferClusterLevel.{BufferClusterLevel}
+use Rattle.shapers_buffer.specs.declared.buffer.lookup_record.LookupRecord.{LookupRecord}
 use Rattle.shapers_clusters.proofs.Merging.{length-merge}
 use Rattle.opentype_face.specs.Bytes.{u16_in}
 use Rattle.opentype_gsub.specs.Edits.{count_in, handed_on, last_place, merged_up_to, multiplied, sequence_glyphs, removed_all, replaced}
 use Rattle.opentype_gsub.specs.Ligated.{ligature_joined, ligated}
 use Rattle.opentype_gsub.proofs.LigatureKeeps.{joined_same, same_length}
 use Rattle.opentype_layout.specs.Text.{glyph_at}
-use Rattle.opentype_gsub.specs.Applied.{PlaceChange, put_in, sequence_put}
+use Rattle.opentype_gsub.specs.Applied.{PlaceChange, sequence_put}
 use Rattle.opentype_gsub.specs.Setting.{Setting}
 
 length-parts : (gdef sequence : List ℕ) (g : Glyph) (n k : ℕ) → length (sequence_glyphs n gdef sequence g k) ≡ n
@@ -21,7 +23,7 @@ length-parts gdef sequence g zero k = refl
 length-parts gdef sequence g (suc n) k = ap suc (length-parts gdef sequence g n (k + 1))
 
 pub put_few : (gdef : List ℕ) (at : ℕ) (gs : Glyphs) (to : ℕ) →
-    length (put_in gdef at gs to).text ≤ length gs
+    length (slice_set gs at (replaced gdef to 0 (glyph_at gs at))) ≤ length gs
 put_few gdef at gs to = omega (arith, length-set gs at (replaced gdef to 0 (glyph_at gs at)))
 
 length-multiplied : (gdef sequence : List ℕ) (at : ℕ) (gs : Glyphs) → at < length gs →
@@ -83,9 +85,9 @@ has_room_for : (limit len count n : ℕ) → nat_lt (limit - len) (count - 1) �
 has_room_for limit len count n e within limited =
     let h : count - 1 ≤ limit - len = grind (arith, nat_tests) in omega arith
 
-pub sequence_few : (s : Setting) (at : ℕ) (gs : Glyphs) (sequence : List ℕ) → at < length gs → (n : ℕ) →
-    length gs ≤ n → s.limit ≤ n → length (sequence_put s at gs sequence).text ≤ n
-sequence_few s at gs sequence lt n within limited =
+pub sequence_few : (s : Setting) (at : ℕ) (gs : Glyphs) (r : LookupRecord) (sequence : List ℕ) → at < length gs → (n : ℕ) →
+    length gs ≤ n → s.limit ≤ n → length (sequence_put s at gs r sequence).text ≤ n
+sequence_few s at gs r sequence lt n within limited =
     few_of (count_in sequence == 0) _ _ n
     (omega (arith, length-remove (handed_on s.level at gs) at, length-handed s.level at gs lt))
     (few_of (count_in sequence == 1) _ _ n (omega (arith, put_few s.gdef at gs (u16_in sequence 2)))

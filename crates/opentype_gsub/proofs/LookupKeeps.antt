@@ -2,8 +2,10 @@
 use Rattle.std.proofs.Common.{◌≡◌, ℕ, ◌+◌, ◌-◌, ◌<◌, ◌≤◌, Bool, true, false, nat_lt, ◌&&◌, ◌==◌, List, [], ◌∷◌, length, refl, zero, suc, arith, if◌then◌else◌}
 use Rattle.std.proofs.lemmas.Bool.{ltb-true}
 use Rattle.std.specs.List.{remove}
+use Rattle.std.specs.Prelude.{slice_set}
 use Rattle.shapers_buffer.specs.Glyphs.{Glyph, Glyphs}
 use Rattle.shapers_buffer.specs.declared.buffer.level.BufferClusterLevel.{BufferClusterLevel}
+use Rattle.shapers_buffer.specs.declared.buffer.lookup_record.LookupRecord.{LookupRecord}
 use Rattle.shapers_clusters.proofs.Halves.{Each}
 use Rattle.opentype_face.specs.Bytes.{u16_in}
 use Rattle.shapers_buffer.specs.Clusters.{merge}
@@ -12,7 +14,7 @@ use Rattle.opentype_gsub.specs.Edits.{count_in, handed_on, last_place, merged_up
 use Rattle.opentype_gsub.specs.Ligated.{ligature_joined, ligated}
 use Rattle.opentype_gsub.proofs.LigatureKeeps.{joined_same}
 use Rattle.opentype_layout.specs.Text.{glyph_at}
-use Rattle.opentype_gsub.specs.Applied.{PlaceChange, put_in, sequence_put}
+use Rattle.opentype_gsub.specs.Applied.{PlaceChange, sequence_put}
 use Rattle.opentype_gsub.specs.Setting.{Setting}
 use Rattle.opentype_gsub.proofs.Kept.{itself, kept_then, merge_keeps, parts_keep, remove_keeps, same, set_keeps}
 
@@ -25,7 +27,7 @@ unfolding sequence_glyph replaced
 cluster-table_at gdef sequence g k = refl
 
 pub put_keeps : (level : BufferClusterLevel) (gdef : List ℕ) (at : ℕ) (gs : Glyphs) (to : ℕ) →
-    KeepsTextClusters level gs (put_in gdef at gs to).text
+    KeepsTextClusters level gs (slice_set gs at (replaced gdef to 0 (glyph_at gs at)))
 put_keeps level gdef at gs to =
     set_keeps level at gs (replaced gdef to 0 (glyph_at gs at)) (λ lt. cluster-replaced gdef to 0 (glyph_at gs at))
 
@@ -71,9 +73,9 @@ choose : (level : BufferClusterLevel) (test : Bool) (gs : Glyphs) (x y : PlaceCh
 choose level true gs x y one two = one
 choose level false gs x y one two = two
 
-pub sequence_keeps : (s : Setting) (at : ℕ) (gs : Glyphs) (sequence : List ℕ) →
-    at < length gs → KeepsTextClusters s.level gs (sequence_put s at gs sequence).text
-sequence_keeps s at gs sequence lt =
+pub sequence_keeps : (s : Setting) (at : ℕ) (gs : Glyphs) (r : LookupRecord) (sequence : List ℕ) →
+    at < length gs → KeepsTextClusters s.level gs (sequence_put s at gs r sequence).text
+sequence_keeps s at gs r sequence lt =
     choose s.level _ gs _ _
     (kept_then s.level gs (handed_on s.level at gs) (remove (handed_on s.level at gs) at)
     (handed_keeps s.level at gs lt) (remove_keeps s.level at (handed_on s.level at gs)))

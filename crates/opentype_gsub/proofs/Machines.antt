@@ -4,7 +4,7 @@ use Rattle.std.proofs.Common.{◌⊎◌}
 use Rattle.std.proofs.lemmas.Bool.Decides.{nat_tests}
 use Rattle.std.proofs.lemmas.List.{append-nil, map-append, reverse-append, take_all, take_at}
 use Rattle.shapers_buffer.specs.Glyphs.{Glyphs}
-use Rattle.opentype_gsub.specs.Applied.{PlaceChange}
+use Rattle.opentype_gsub.specs.Applied.{PlaceChange, incomplete}
 use Rattle.opentype_face.specs.Firsts.{first_from}
 use Rattle.opentype_face.specs.Bytes.{u16_in}
 use Rattle.opentype_gsub.specs.Setting.{Setting, sights_of}
@@ -16,10 +16,10 @@ use Rattle.opentype_layout.specs.Text.{glyph_at}
 use Rattle.std.proofs.Common.{nat_lt}
 use Rattle.std.specs.Option.{option_map}
 use Rattle.opentype_gsub.specs.Came.{Begun, came_in, nth_came, Frame, IsCome}
-use Rattle.opentype_gsub.specs.Machine.{IsEnded, lookup_called, deeper, ended, step_pushed, frame_shifted, machine_stepped, MachineStep, capped, climbing, goes_on_with, place_moved, ran, places_shifted, stack_left, waiting, waiting_frame}
+use Rattle.opentype_gsub.specs.Machine.{IsEnded, lookup_called, deeper, ended, step_pushed, frame_shifted, machine_stepped, MachineStep, Nested, capped, climbing, goes_on_with, place_moved, ran, places_shifted, stack_left, waiting, waiting_frame, with_left}
 use Rattle.opentype_gsub.specs.declared.shifting.Rule.{Rule}
 use Rattle.opentype_gsub.specs.declared.machine.Outcome.{Outcome}
-use Rattle.opentype_gsub.specs.declared.machine.Reached.{Reached}
+use Rattle.shapers_buffer.specs.declared.buffer.lookup_record.LookupRecord.{LookupRecord}
 use Rattle.opentype_gsub.specs.declared.machine.Outcome.TheVariants.{Nothing, Done, Fits}
 use Rattle.opentype_face.proofs.Foremost.{IsFirst, first_hit, first_out, first_passed, first_start}
 
@@ -96,90 +96,109 @@ three_filled a b c one two three x y z =
 
 -- ---- subtables tried in turn
 
-pub record IsComing (f : Glyphs → ℕ → Option (PlaceChange ⊎ Begun)) (count i : ℕ) (old gs : Glyphs) : Type 0 where
+abbrev pub Comes : Type 0
+Comes = Glyphs → LookupRecord → ℕ → Option (PlaceChange ⊎ Begun)
+
+pub record IsComing (f : Comes) (count i : ℕ) (old : Glyphs) (before : LookupRecord) (gs : Glyphs) (r : LookupRecord) : Type 0 where
   pub same : gs ≡ old
-  pub first : IsFirst (f old) count i
+  pub kept : r ≡ before
+  pub first : IsFirst (f old before) count i
 
-pub coming_start : (f : Glyphs → ℕ → Option (PlaceChange ⊎ Begun)) (count : ℕ) (old : Glyphs) → IsComing f count 0 old old
-coming_start f count old = record { same = refl; first = first_start (f old) count }
+pub coming_start : (f : Comes) (count : ℕ) (old : Glyphs) (before : LookupRecord) → IsComing f count 0 old before old before
+coming_start f count old before = record { same = refl; kept = refl; first = first_start (f old before) count }
 
-pub coming_next : (f : Glyphs → ℕ → Option (PlaceChange ⊎ Begun)) (count i : ℕ) (old gs new : Glyphs) →
-    IsComing f count i old gs → i < count → IsCome (f gs i) gs new Nothing → IsComing f count (i + 1) old new
-coming_next f count i old gs new t lt is =
-    record { same = is.1 ∙ t.same; first = first_passed (f old) count i t.first lt (sym (ap (λ x. f x i) t.same) ∙ is.0) }
+-- what comes at a place is what comes of the text that was given
+pub same_come : (f : Comes) (i : ℕ) (old gs : Glyphs) (before r : LookupRecord) → gs ≡ old → r ≡ before → f old before i ≡ f gs r i
+same_come f i old gs before r same kept = sym (ap (λ x. f x r i) same ∙ ap (λ q. f old q i) kept)
 
-pub coming_done : (f : Glyphs → ℕ → Option (PlaceChange ⊎ Begun)) (count i : ℕ) (old gs new : Glyphs) (next : ℕ) →
-    IsComing f count i old gs → i < count → IsCome (f gs i) gs new (Done next) →
-    IsCome (first_from count (f old) 0) old new (Done next)
-coming_done f count i old gs new next t lt is =
-    first_hit (f old) count i _ t.first lt (sym (ap (λ x. f x i) t.same) ∙ is)
+pub coming_next : (f : Comes) (count i : ℕ) (old gs new : Glyphs) (before r after : LookupRecord) →
+    IsComing f count i old before gs r → i < count → IsCome (f gs r i) gs r new after Nothing →
+    IsComing f count (i + 1) old before new after
+coming_next f count i old gs new before r after t lt is = record {
+  same = is.1.0 ∙ t.same;
+  kept = is.1.1 ∙ t.kept;
+  first = first_passed (f old before) count i t.first lt (same_come f i old gs before r t.same t.kept ∙ is.0);
+}
 
-pub coming_fits : (f : Glyphs → ℕ → Option (PlaceChange ⊎ Begun)) (count i : ℕ) (old gs new : Glyphs) (rule : Rule) →
-    IsComing f count i old gs → i < count → IsCome (f gs i) gs new (Fits rule) →
-    IsCome (first_from count (f old) 0) old new (Fits rule)
-coming_fits f count i old gs new rule t lt is =
-    first_hit (f old) count i _ t.first lt (sym (ap (λ x. f x i) t.same) ∙ is)
+pub coming_done : (f : Comes) (count i : ℕ) (old gs new : Glyphs) (before r after : LookupRecord) (next : ℕ) →
+    IsComing f count i old before gs r → i < count → IsCome (f gs r i) gs r new after (Done next) →
+    IsCome (first_from count (f old before) 0) old before new after (Done next)
+coming_done f count i old gs new before r after next t lt is =
+    first_hit (f old before) count i _ t.first lt (same_come f i old gs before r t.same t.kept ∙ is)
 
-pub coming_none : (f : Glyphs → ℕ → Option (PlaceChange ⊎ Begun)) (count i : ℕ) (old gs : Glyphs) →
-    IsComing f count i old gs → count ≤ i → IsCome (first_from count (f old) 0) old gs Nothing
-coming_none f count i old gs t le = (first_out (f old) count i t.first le, t.same)
+pub coming_fits : (f : Comes) (count i : ℕ) (old gs new : Glyphs) (before r after : LookupRecord) (rule : Rule) →
+    IsComing f count i old before gs r → i < count → IsCome (f gs r i) gs r new after (Fits rule) →
+    IsCome (first_from count (f old before) 0) old before new after (Fits rule)
+coming_fits f count i old gs new before r after rule t lt is =
+    (first_hit (f old before) count i _ t.first lt (same_come f i old gs before r t.same t.kept ∙ is.0), is.1 ∙ t.kept)
+
+pub coming_none : (f : Comes) (count i : ℕ) (old gs : Glyphs) (before r : LookupRecord) →
+    IsComing f count i old before gs r → count ≤ i → IsCome (first_from count (f old before) 0) old before gs r Nothing
+coming_none f count i old gs before r t le = (first_out (f old before) count i t.first le, (t.same, t.kept))
 
 -- ---- turns
 
-pub record IsRunning (step : Glyphs → List Frame → MachineStep) (operations : ℕ) (old : Glyphs) (start : List Frame) (k : ℕ)
-    (gs : Glyphs) (fs : List Frame) : Type 0 where
-  pub rest : ran operations step old start ≡ ran (operations - k) step gs fs
+abbrev pub Turns : Type 0
+Turns = Glyphs → LookupRecord → List Frame → MachineStep
 
-one_turn : (step : Glyphs → List Frame → MachineStep) (n : ℕ) (gs : Glyphs) (fs : List Frame) →
-    ran (suc n) step gs fs ≡ goes_on_with n (ran n step) (step gs fs) (step gs fs).end
+pub record IsRunning (step : Turns) (operations : ℕ) (old : Glyphs) (before : LookupRecord) (start : List Frame) (k : ℕ)
+    (gs : Glyphs) (r : LookupRecord) (fs : List Frame) : Type 0 where
+  pub rest : ran operations step old before start ≡ ran (operations - k) step gs r fs
+
+one_turn : (step : Turns) (n : ℕ) (gs : Glyphs) (r : LookupRecord) (fs : List Frame) →
+    ran (suc n) step gs r fs ≡ goes_on_with (ran n step) (step gs (with_left n r) fs) (step gs (with_left n r) fs).end
 unfolding ran
-one_turn step n gs fs = refl
+one_turn step n gs r fs = refl
 
-no_turn : (step : Glyphs → List Frame → MachineStep) (gs : Glyphs) (fs : List Frame) →
-    ran 0 step gs fs ≡ record { text = gs; end = None; left = 0 }
+no_turn : (step : Turns) (gs : Glyphs) (r : LookupRecord) (fs : List Frame) →
+    ran 0 step gs r fs ≡ record { text = gs; end = None; lookups = incomplete r }
 unfolding ran
-no_turn step gs fs = refl
+no_turn step gs r fs = refl
 
-pub running_start : (step : Glyphs → List Frame → MachineStep) (operations : ℕ) (old : Glyphs) (start fs : List Frame) → fs ≡ start →
-    IsRunning step operations old start 0 old fs
-running_start step operations old start fs is =
+pub running_start : (step : Turns) (operations : ℕ) (old : Glyphs) (before : LookupRecord) (start fs : List Frame) → fs ≡ start →
+    IsRunning step operations old before start 0 old before fs
+running_start step operations old before start fs is =
     let e : operations - 0 ≡ operations = omega arith in rw is (record { rest = rw e refl })
 
-turn_is : (step : Glyphs → List Frame → MachineStep) (operations k : ℕ) (old gs : Glyphs) (start fs : List Frame) (t : MachineStep) →
-    IsRunning step operations old start k gs fs → k < operations → step gs fs ≡ t →
-    ran operations step old start ≡ goes_on_with (operations - (k + 1)) (ran (operations - (k + 1)) step) t t.end
-turn_is step operations k old gs start fs t r lt is =
+turn_is : (step : Turns) (operations k : ℕ) (old gs : Glyphs) (before r : LookupRecord) (start fs : List Frame) (t : MachineStep) →
+    IsRunning step operations old before start k gs r fs → k < operations →
+    step gs (with_left (operations - (k + 1)) r) fs ≡ t →
+    ran operations step old before start ≡ goes_on_with (ran (operations - (k + 1)) step) t t.end
+turn_is step operations k old gs before r start fs t at lt is =
     let e : operations - k ≡ suc (operations - (k + 1)) = omega arith in
-    r.rest ∙ ap (λ n. ran n step gs fs) e ∙ one_turn step (operations - (k + 1)) gs fs
-    ∙ ap (λ x. goes_on_with (operations - (k + 1)) (ran (operations - (k + 1)) step) x x.end) is
+    at.rest ∙ ap (λ n. ran n step gs r fs) e ∙ one_turn step (operations - (k + 1)) gs r fs
+    ∙ ap (λ x. goes_on_with (ran (operations - (k + 1)) step) x x.end) is
 
-pub running_next : (step : Glyphs → List Frame → MachineStep) (operations k : ℕ) (old gs new : Glyphs) (start fs next : List Frame) →
-    IsRunning step operations old start k gs fs → k < operations →
-    step gs fs ≡ record { text = new; stack = next; end = None } → IsRunning step operations old start (k + 1) new next
-running_next step operations k old gs new start fs next r lt is =
-    record { rest = turn_is step operations k old gs start fs _ r lt is }
+pub running_next : (step : Turns) (operations k : ℕ) (old gs new : Glyphs) (before r after : LookupRecord) (start fs next : List Frame) →
+    IsRunning step operations old before start k gs r fs → k < operations →
+    step gs (with_left (operations - (k + 1)) r) fs ≡ record { text = new; lookups = after; stack = next; end = None } →
+    IsRunning step operations old before start (k + 1) new after next
+running_next step operations k old gs new before r after start fs next at lt is =
+    record { rest = turn_is step operations k old gs before r start fs _ at lt is }
 
-pub running_end : (step : Glyphs → List Frame → MachineStep) (operations k : ℕ) (old gs new : Glyphs) (start fs next : List Frame) (end : Option ℕ) →
-    IsRunning step operations old start k gs fs → k < operations →
-    step gs fs ≡ record { text = new; stack = next; end = Some end } →
-    ran operations step old start ≡ record { text = new; end = end; left = operations - (k + 1) }
-running_end step operations k old gs new start fs next end r lt is = turn_is step operations k old gs start fs _ r lt is
+pub running_end : (step : Turns) (operations k : ℕ) (old gs new : Glyphs) (before r after : LookupRecord) (start fs next : List Frame)
+    (end : Option ℕ) →
+    IsRunning step operations old before start k gs r fs → k < operations →
+    step gs (with_left (operations - (k + 1)) r) fs ≡ record { text = new; lookups = after; stack = next; end = Some end } →
+    ran operations step old before start ≡ record { text = new; end = end; lookups = after }
+running_end step operations k old gs new before r after start fs next end at lt is =
+    turn_is step operations k old gs before r start fs _ at lt is
 
-pub running_called : (step : Glyphs → List Frame → MachineStep) (operations k : ℕ) (old gs text new : Glyphs) (start fs next : List Frame)
-    (result : Result Reached ShaperError) →
-    IsRunning step operations old start k gs fs → k < operations →
-    step gs fs ≡ record { text = text; stack = next; end = None } →
-    IfOk result (λ r. ran (operations - (k + 1)) step text next ≡ record { text = new; end = r.end; left = r.left }) →
-    IfOk result (λ r. ran operations step old start ≡ record { text = new; end = r.end; left = r.left })
-running_called step operations k old gs text new start fs next result r lt is rest =
-    subst (λ all. IfOk result (λ r. all ≡ record { text = new; end = r.end; left = r.left }))
-    (sym (turn_is step operations k old gs start fs _ r lt is)) rest
+pub running_called : (step : Turns) (operations k : ℕ) (old gs text new : Glyphs) (before r mid after : LookupRecord)
+    (start fs next : List Frame) (result : Result (Option ℕ) ShaperError) →
+    IsRunning step operations old before start k gs r fs → k < operations →
+    step gs (with_left (operations - (k + 1)) r) fs ≡ record { text = text; lookups = mid; stack = next; end = None } →
+    IfOk result (λ end. ran (operations - (k + 1)) step text mid next ≡ record { text = new; end = end; lookups = after }) →
+    IfOk result (λ end. ran operations step old before start ≡ record { text = new; end = end; lookups = after })
+running_called step operations k old gs text new before r mid after start fs next result at lt is rest =
+    subst (λ (all : Nested). IfOk result (λ end. all ≡ record { text = new; end = end; lookups = after }))
+    (sym (turn_is step operations k old gs before r start fs _ at lt is)) rest
 
-pub running_out : (step : Glyphs → List Frame → MachineStep) (operations k : ℕ) (old gs : Glyphs) (start fs : List Frame) →
-    IsRunning step operations old start k gs fs → operations ≤ k →
-    ran operations step old start ≡ record { text = gs; end = None; left = 0 }
-running_out step operations k old gs start fs r le =
-    let e : operations - k ≡ 0 = omega arith in r.rest ∙ ap (λ n. ran n step gs fs) e ∙ no_turn step gs fs
+pub running_out : (step : Turns) (operations k : ℕ) (old gs : Glyphs) (before r : LookupRecord) (start fs : List Frame) →
+    IsRunning step operations old before start k gs r fs → operations ≤ k →
+    ran operations step old before start ≡ record { text = gs; end = None; lookups = incomplete r }
+running_out step operations k old gs before r start fs at le =
+    let e : operations - k ≡ 0 = omega arith in at.rest ∙ ap (λ n. ran n step gs r fs) e ∙ no_turn step gs r fs
 
 -- ---- the stack, its top first
 
@@ -190,50 +209,52 @@ top_first callers caller =
 
 -- ---- at the text's end
 
-pub came_out : (s : Setting) (lookup : List ℕ) (gs : Glyphs) (at : ℕ) → length gs ≤ at → came_in s lookup gs at ≡ None
+pub came_out : (s : Setting) (lookup : List ℕ) (gs : Glyphs) (at : ℕ) (r : LookupRecord) → length gs ≤ at → came_in s lookup gs at r ≡ None
 unfolding came_in
-came_out s lookup gs at le = let e : nat_lt at (length gs) ≡ false = grind (arith, nat_tests) in rw e refl
+came_out s lookup gs at r le = let e : nat_lt at (length gs) ≡ false = grind (arith, nat_tests) in rw e refl
 
-came_is : (s : Setting) (lookup : List ℕ) (gs : Glyphs) (at : ℕ) (sights : Sights) → at < length gs →
+came_is : (s : Setting) (lookup : List ℕ) (gs : Glyphs) (at : ℕ) (r : LookupRecord) (sights : Sights) → at < length gs →
     sights ≡ sights_of s.gdef s.lookup lookup (glyph_at gs at) →
-    first_from (u16_in lookup 4) (nth_came s sights lookup at gs) 0 ≡ came_in s lookup gs at
+    first_from (u16_in lookup 4) (nth_came s sights lookup at gs r) 0 ≡ came_in s lookup gs at r
 unfolding came_in
-came_is s lookup gs at sights lt is =
+came_is s lookup gs at r sights lt is =
     let e : nat_lt at (length gs) ≡ true = grind (arith, nat_tests) in
-    let h : Sights → Option (PlaceChange ⊎ Begun) = λ x. first_from (u16_in lookup 4) (nth_came s x lookup at gs) 0 in
+    let h : Sights → Option (PlaceChange ⊎ Begun) = λ x. first_from (u16_in lookup 4) (nth_came s x lookup at gs r) 0 in
     rw e (ap h is)
 
-pub came_by : (s : Setting) (lookup : List ℕ) (gs new : Glyphs) (at : ℕ) (sights : Sights)
+pub came_by : (s : Setting) (lookup : List ℕ) (gs new : Glyphs) (at : ℕ) (r after : LookupRecord) (sights : Sights)
     (result : Result Outcome ShaperError) → at < length gs → sights ≡ sights_of s.gdef s.lookup lookup (glyph_at gs at) →
-    IfOk result (λ o. IsCome (first_from (u16_in lookup 4) (nth_came s sights lookup at gs) 0) gs new o) →
-    IfOk result (λ o. IsCome (came_in s lookup gs at) gs new o)
-came_by s lookup gs new at sights result lt is come =
-    subst (λ came. IfOk result (λ o. IsCome came gs new o)) (came_is s lookup gs at sights lt is) come
+    IfOk result (λ o. IsCome (first_from (u16_in lookup 4) (nth_came s sights lookup at gs r) 0) gs r new after o) →
+    IfOk result (λ o. IsCome (came_in s lookup gs at r) gs r new after o)
+came_by s lookup gs new at r after sights result lt is come =
+    subst (λ came. IfOk result (λ o. IsCome came gs r new after o)) (came_is s lookup gs at r sights lt is) come
 
 -- ---- the arms of a turn
 
-ended_is : (gs : Glyphs) (f now : Frame) (below fs : List Frame) (it : Option ℕ) →
+ended_is : (gs : Glyphs) (r : LookupRecord) (f now : Frame) (below fs : List Frame) (it : Option ℕ) →
     IsEnded (length gs) f below now fs it →
-    ended gs f below ≡ record { text = gs; stack = stack_left it now fs; end = option_map Some it }
-ended_is gs f now [] fs it e = rw e refl
-ended_is gs f now (outer ∷ below) fs it e = rw (e.1, e.0) refl
+    ended gs r f below ≡ record { text = gs; lookups = r; stack = stack_left it now fs; end = option_map Some it }
+ended_is gs r f now [] fs it e = rw e refl
+ended_is gs r f now (outer ∷ below) fs it e = rw (e.1, e.0) refl
 
-pub turn_ends : (s : Setting) (gs : Glyphs) (f now : Frame) (below fs : List Frame) (it : Option ℕ) →
+pub turn_ends : (s : Setting) (gs : Glyphs) (r : LookupRecord) (f now : Frame) (below fs : List Frame) (it : Option ℕ) →
     f.count ≤ f.next → IsEnded (length gs) f below now fs it →
-    machine_stepped s gs (f ∷ below) ≡ record { text = gs; stack = stack_left it now fs; end = option_map Some it }
+    machine_stepped s gs r (f ∷ below)
+    ≡ record { text = gs; lookups = r; stack = stack_left it now fs; end = option_map Some it }
 unfolding machine_stepped
-turn_ends s gs f now below fs it le e =
-    let t : nat_lt f.next f.count ≡ false = grind (arith, nat_tests) in rw t (ended_is gs f now below fs it e)
+turn_ends s gs r f now below fs it le e =
+    let t : nat_lt f.next f.count ≡ false = grind (arith, nat_tests) in rw t (ended_is gs r f now below fs it e)
 
-pub turn_calls : (s : Setting) (gs text : Glyphs) (f frame : Frame) (inner : Option Frame)
+pub turn_calls : (s : Setting) (gs text : Glyphs) (r after : LookupRecord) (f frame : Frame) (inner : Option Frame)
     (below new : List Frame) → f.next < f.count →
-    lookup_called s gs f ≡ record { text = text; frame = frame; inner = inner } →
+    lookup_called s gs r f ≡ record { text = text; lookups = after; frame = frame; inner = inner } →
     new ≡ deeper inner (frame ∷ below) →
-    machine_stepped s gs (f ∷ below) ≡ record { text = text; stack = new; end = None }
+    machine_stepped s gs r (f ∷ below) ≡ record { text = text; lookups = after; stack = new; end = None }
 unfolding machine_stepped
-turn_calls s gs text f frame inner below new lt c made =
+turn_calls s gs text r after f frame inner below new lt c made =
     let t : nat_lt f.next f.count ≡ true = grind (arith, nat_tests) in
-    rw t (ap (λ x. step_pushed x below) c ∙ (let p : List Frame → MachineStep = λ stack. record { text = text; stack = stack; end = None } in ap p (sym made)))
+    rw t (ap (λ x. step_pushed x below) c
+    ∙ (let p : List Frame → MachineStep = λ stack. record { text = text; lookups = after; stack = stack; end = None } in ap p (sym made)))
 
 -- ---- a rule's end
 

@@ -10,6 +10,7 @@ use Rattle.shapers_buffer.specs.declared.buffer.glyph.GlyphPosition.{GlyphPositi
 use Rattle.shapers_buffer.specs.declared.buffer.refusal.ShaperError.{ShaperError}
 use Rattle.shapers_buffer.specs.Glyph.{default_glyph}
 use Rattle.shapers_buffer.specs.Glyphs.{Glyph, Glyphs}
+use Rattle.shapers_buffer.specs.declared.buffer.lookup_record.LookupRecord.{LookupRecord}
 use Rattle.opentype_face.specs.Bytes.{u16_in, table_at}
 use Rattle.opentype_face.specs.Firsts.{first_from}
 use Rattle.opentype_face.specs.Glyphs.{coverage_in}
@@ -17,7 +18,7 @@ use Rattle.opentype_face.specs.Lookups.{lookup_in, subtable_in, type_in}
 use Rattle.opentype_layout.specs.Rules.{first_at}
 use Rattle.opentype_layout.specs.Text.{glyph_at}
 use Rattle.opentype_layout.specs.declared.sight.Sight.{Sight}
-use Rattle.opentype_gsub.specs.Applied.{alternate_put, ligated_put, multiple_put, one_put, single_put, two_byte_number}
+use Rattle.opentype_gsub.specs.Applied.{PlaceChange, alternate_put, ligated_put, multiple_put, one_put, single_put, two_byte_number}
 use Rattle.opentype_gsub.specs.Decided.{alternate_at, covered_in, set_at, set_for_glyph, single_at}
 use Rattle.opentype_gsub.specs.Came.{came_in, nth_came}
 use Rattle.opentype_gsub.specs.Machine.{nested}
@@ -27,8 +28,8 @@ use Rattle.opentype_layout.specs.Starts.{ArePassed, IsPassed, NoneStarts, starti
 use Rattle.opentype_gsub.specs.Presence.{applied_from, is_left}
 use Rattle.opentype_gsub.specs.Reversed.{all_looked_back, nth_looked_back, tried_back, lookup_stepped_back, nth_reversed, reversed_at, reversed_in, applied_backward, with_glyph}
 use Rattle.opentype_gsub.specs.Setting.{Setting, is_seen, sights_of}
-use Rattle.opentype_gsub.specs.Substituted.{applied, operations_in, setting_for, substituted}
-use Rattle.opentype_gsub.specs.Along.{LookupStep, lookup_stepped, lookup_applied}
+use Rattle.opentype_gsub.specs.Substituted.{applied, setting_for, substituted}
+use Rattle.opentype_gsub.specs.Along.{Along, lookup_stepped, lookup_applied}
 use Rattle.opentype_gsub.specs.declared.pass.LookupUse.{LookupUse}
 use Rattle.opentype_gsub.specs.declared.pass.Sights.{Sights}
 use Rattle.opentype_layout.proofs.NoneFits.{no_rule, none_if, none_mapped, none_of, none_then}
@@ -62,21 +63,21 @@ covered_by kind bytes glyph at none e =
 no_set : (bytes : List ℕ) (glyph : ℕ) → covered_in bytes glyph ≡ None → set_for_glyph bytes glyph ≡ None
 no_set bytes glyph e = none_if (u16_in bytes 0 == 1) _ None (λ t. ap (set_at bytes) e) (λ t. refl)
 
-no_change : (s : Setting) (sight : Sight) (kind : ℕ) (bytes : List ℕ) (gs : Glyphs) (at : ℕ) →
-    covered_in bytes (two_byte_number gs at) ≡ None → one_put s sight kind bytes gs at ≡ None
+no_change : (s : Setting) (sight : Sight) (kind : ℕ) (bytes : List ℕ) (gs : Glyphs) (at : ℕ) (r : LookupRecord) →
+    covered_in bytes (two_byte_number gs at) ≡ None → one_put s sight kind bytes gs at r ≡ None
 unfolding one_put single_put multiple_put alternate_put ligated_put
-no_change s sight kind bytes gs at e =
+no_change s sight kind bytes gs at r e =
     let set = no_set bytes (two_byte_number gs at) e in
     none_if (kind == 1) _ _ (λ t. none_mapped _ _ (ap (single_at bytes (two_byte_number gs at)) e))
     (λ t. none_if (kind == 2) _ _ (λ t. none_mapped _ _ set)
     (λ t. none_if (kind == 3) _ _ (λ t. none_mapped _ _ (ap (alternate_at _) set))
     (λ t. none_if (kind == 4) _ None (λ t. none_then _ _ set) (λ t. refl))))
 
-pub nth_none : (s : Setting) (sights : Sights) (lookup : List ℕ) (at : ℕ) (gs : Glyphs) (i : ℕ) →
+pub nth_none : (s : Setting) (sights : Sights) (lookup : List ℕ) (at : ℕ) (gs : Glyphs) (r : LookupRecord) (i : ℕ) →
     starts_with false (type_in 7 lookup i) (subtable_in 7 lookup i) (two_byte_number gs at) ≡ false →
-    nth_came s sights lookup at gs i ≡ None
+    nth_came s sights lookup at gs r i ≡ None
 unfolding nth_came
-nth_none s sights lookup at gs i none =
+nth_none s sights lookup at gs r i none =
     let kind = type_in 7 lookup i in
     let bytes = subtable_in 7 lookup i in
     let glyph = two_byte_number gs at in
@@ -84,7 +85,7 @@ nth_none s sights lookup at gs i none =
     (λ t. none_mapped _ _ (no_rule (kind == 6) s.gdef sights.input sights.context bytes gs at
     (λ e. covered_by kind bytes glyph _ none (at_first kind bytes t e))
     (λ e. covered_by kind bytes glyph 2 none (at_start kind bytes e))))
-    (λ t. none_mapped _ _ (no_change s sights.input kind bytes gs at
+    (λ t. none_mapped _ _ (no_change s sights.input kind bytes gs at r
     (covered_by kind bytes glyph 2 none (starts_plain kind bytes (grind (arith, common_steps, t)) (grind (arith, common_steps, t))))))
 
 nth_reversed_none : (gdef : List ℕ) (sights : Sights) (lookup : List ℕ) (gs : Glyphs) (at i : ℕ) →
@@ -117,14 +118,14 @@ each_none : (lookup : List ℕ) (glyph : ℕ) → is_some (first_from (u16_in lo
 each_none lookup glyph none d lt =
     starts_none lookup glyph (0 + d) (none_each (starting false lookup glyph) (u16_in lookup 4) 0 none d lt)
 
-came_none : (s : Setting) (lookup : List ℕ) (gs : Glyphs) (at : ℕ) →
+came_none : (s : Setting) (lookup : List ℕ) (gs : Glyphs) (at : ℕ) (r : LookupRecord) →
     is_some (first_from (u16_in lookup 4) (starting false lookup (two_byte_number gs at)) 0) ≡ false →
-    came_in s lookup gs at ≡ None
+    came_in s lookup gs at r ≡ None
 unfolding came_in
-came_none s lookup gs at none = let sights = sights_of s.gdef s.lookup lookup (glyph_at gs at) in
+came_none s lookup gs at r none = let sights = sights_of s.gdef s.lookup lookup (glyph_at gs at) in
     none_if (nat_lt at (length gs)) _ None
-    (λ t. none_of (nth_came s sights lookup at gs) (u16_in lookup 4) 0
-    (λ d lt. nth_none s sights lookup at gs (0 + d) (each_none lookup (two_byte_number gs at) none d lt)))
+    (λ t. none_of (nth_came s sights lookup at gs r) (u16_in lookup 4) 0
+    (λ d lt. nth_none s sights lookup at gs r (0 + d) (each_none lookup (two_byte_number gs at) none d lt)))
     (λ t. refl)
 
 -- ---- nothing is looked at either
@@ -219,14 +220,14 @@ tried_none s lookup gs at none = let sights = sights_of s.gdef s.lookup lookup (
     kept_if (s.concat && nat_lt at (length gs)) _ gs
     (ap (λ x. unjoined x gs) (looked_none s sights lookup gs at none) ∙ unflagged at gs)
 
-still_by : (test : Bool) (x : LookupStep) → (if test then x else x) ≡ x
+still_by : (test : Bool) (x : PlaceChange) → (if test then x else x) ≡ x
 still_by true x = refl
 still_by false x = refl
 
-stands_still : (s : Setting) (lookup : List ℕ) (gs : Glyphs) (at left : ℕ) → tried s lookup gs at ≡ gs →
-    came_in s lookup gs at ≡ None → lookup_stepped s lookup gs at left ≡ record { text = gs; next = at + 1; left = left }
+stands_still : (s : Setting) (lookup : List ℕ) (gs : Glyphs) (at : ℕ) (r : LookupRecord) → tried s lookup gs at ≡ gs →
+    came_in s lookup gs at r ≡ None → lookup_stepped s lookup gs at r ≡ record { text = gs; next = at + 1; lookups = r }
 unfolding lookup_stepped nested
-stands_still s lookup gs at left t e =
+stands_still s lookup gs at r t e =
     let test = is_seen s.gdef s.lookup lookup (glyph_at gs at) in
     rw (t, e) (still_by test _)
 
@@ -289,10 +290,10 @@ left_read use_of lookup gs at g e is lt =
     subst (λ x. is_left use_of lookup x ≡ true) (is ∙ get_or_default gs at g default_glyph lt) e
 
 -- a subtable comes to nothing where it doesn't begin
-pub nth_unstarted : (s : Setting) (sights : Sights) (lookup : List ℕ) (at : ℕ) (gs : Glyphs) (i : ℕ) →
-    starting false lookup (two_byte_number gs at) i ≡ None → nth_came s sights lookup at gs i ≡ None
-nth_unstarted s sights lookup at gs i e =
-    nth_none s sights lookup at gs i (starts_none lookup (two_byte_number gs at) i (ap is_some e))
+pub nth_unstarted : (s : Setting) (sights : Sights) (lookup : List ℕ) (at : ℕ) (gs : Glyphs) (r : LookupRecord) (i : ℕ) →
+    starting false lookup (two_byte_number gs at) i ≡ None → nth_came s sights lookup at gs r i ≡ None
+nth_unstarted s sights lookup at gs r i e =
+    nth_none s sights lookup at gs r i (starts_none lookup (two_byte_number gs at) i (ap is_some e))
 
 why_left : (s : Setting) (lookup : List ℕ) (g : Glyph) → is_left s.lookup lookup g ≡ true →
     ((bit_and g.mask s.lookup.mask == 0) ≡ true)
@@ -300,17 +301,17 @@ why_left : (s : Setting) (lookup : List ℕ) (g : Glyph) → is_left s.lookup lo
 unfolding is_left
 why_left s lookup g e = left_by _ _ e
 
-passed_over : (s : Setting) (lookup : List ℕ) (gs : Glyphs) (at left : ℕ) →
+passed_over : (s : Setting) (lookup : List ℕ) (gs : Glyphs) (at : ℕ) (r : LookupRecord) →
     is_seen s.gdef s.lookup lookup (glyph_at gs at) ≡ false →
-    lookup_stepped s lookup gs at left ≡ record { text = gs; next = at + 1; left = left }
+    lookup_stepped s lookup gs at r ≡ record { text = gs; next = at + 1; lookups = r }
 unfolding lookup_stepped
-passed_over s lookup gs at left e = rw e refl
+passed_over s lookup gs at r e = rw e refl
 
-pub step_left : (s : Setting) (lookup : List ℕ) (gs : Glyphs) (at left : ℕ) → is_left s.lookup lookup (glyph_at gs at) ≡ true →
-    lookup_stepped s lookup gs at left ≡ record { text = gs; next = at + 1; left = left }
-step_left s lookup gs at left e = elim (why_left s lookup (glyph_at gs at) e) [
-  | inl zero_mask ↦ passed_over s lookup gs at left (unseen s lookup (glyph_at gs at) zero_mask)
-  | inr none ↦ stands_still s lookup gs at left (tried_none s lookup gs at none) (came_none s lookup gs at none)
+pub step_left : (s : Setting) (lookup : List ℕ) (gs : Glyphs) (at : ℕ) (r : LookupRecord) → is_left s.lookup lookup (glyph_at gs at) ≡ true →
+    lookup_stepped s lookup gs at r ≡ record { text = gs; next = at + 1; lookups = r }
+step_left s lookup gs at r e = elim (why_left s lookup (glyph_at gs at) e) [
+  | inl zero_mask ↦ passed_over s lookup gs at r (unseen s lookup (glyph_at gs at) zero_mask)
+  | inr none ↦ stands_still s lookup gs at r (tried_none s lookup gs at none) (came_none s lookup gs at r none)
 ]
 
 -- ---- along a text
@@ -319,38 +320,38 @@ step_left s lookup gs at left e = elim (why_left s lookup (glyph_at gs at) e) [
 abbrev pub AreLeft : LookupUse → List ℕ → Glyphs → ℕ → Type 0
 AreLeft use_of lookup gs first = (j : ℕ) → j < first → is_left use_of lookup (glyph_at gs j) ≡ true
 
-pub step_on : (f : Glyphs → ℕ → ℕ → LookupStep) (n : ℕ) (gs : Glyphs) (at left : ℕ) → at < length gs →
-    f gs at left ≡ record { text = gs; next = at + 1; left = left } →
-    lookup_applied (suc n) f gs at left ≡ lookup_applied n f gs (at + 1) left
+pub step_on : (f : Glyphs → ℕ → LookupRecord → PlaceChange) (n : ℕ) (gs : Glyphs) (at : ℕ) (r : LookupRecord) → at < length gs →
+    f gs at r ≡ record { text = gs; next = at + 1; lookups = r } →
+    lookup_applied (suc n) f gs at r ≡ lookup_applied n f gs (at + 1) r
 unfolding lookup_applied
-step_on f n gs at left lt e =
+step_on f n gs at r lt e =
     let t : nat_lt at (length gs) ≡ true = grind (arith, nat_tests) in rw (t, e) refl
 
-pub walk_on : (f : Glyphs → ℕ → ℕ → LookupStep) (p n : ℕ) (gs : Glyphs) (at left : ℕ) → at + p ≤ length gs →
-    ((j : ℕ) → at ≤ j → j < at + p → f gs j left ≡ record { text = gs; next = j + 1; left = left }) →
-    lookup_applied (p + n) f gs at left ≡ lookup_applied n f gs (at + p) left
-walk_on f zero n gs at left within h =
+pub walk_on : (f : Glyphs → ℕ → LookupRecord → PlaceChange) (p n : ℕ) (gs : Glyphs) (at : ℕ) (r : LookupRecord) → at + p ≤ length gs →
+    ((j : ℕ) → at ≤ j → j < at + p → f gs j r ≡ record { text = gs; next = j + 1; lookups = r }) →
+    lookup_applied (p + n) f gs at r ≡ lookup_applied n f gs (at + p) r
+walk_on f zero n gs at r within h =
     let z : 0 + n ≡ n = omega arith in
     let e : at + 0 ≡ at = omega arith in rw (z, e) refl
-walk_on f (suc p) n gs at left within h =
+walk_on f (suc p) n gs at r within h =
     let e : at + 1 + p ≡ at + suc p = omega arith in
     let m : suc p + n ≡ suc (p + n) = omega arith in
-    ap (λ k. lookup_applied k f gs at left) m ∙ step_on f (p + n) gs at left (omega arith) (h at (omega arith) (omega arith))
-    ∙ walk_on f p n gs (at + 1) left (omega arith) (λ j le lt. h j (omega arith) (omega arith))
-    ∙ ap (λ k. lookup_applied n f gs k left) e
+    ap (λ k. lookup_applied k f gs at r) m ∙ step_on f (p + n) gs at r (omega arith) (h at (omega arith) (omega arith))
+    ∙ walk_on f p n gs (at + 1) r (omega arith) (λ j le lt. h j (omega arith) (omega arith))
+    ∙ ap (λ k. lookup_applied n f gs k r) e
 
-pub applied_is : (s : Setting) (gs : Glyphs) (first : ℕ) → AreLeft s.lookup (lookup_in s.gsub s.lookup.index) gs first →
-    first ≤ length gs →
-    applied_from s (lookup_in s.gsub s.lookup.index) first gs ≡ applied s gs
+pub applied_is : (s : Setting) (gs : Glyphs) (r : LookupRecord) (first : ℕ) →
+    AreLeft s.lookup (lookup_in s.gsub s.lookup.index) gs first → first ≤ length gs →
+    applied_from s (lookup_in s.gsub s.lookup.index) first gs r ≡ applied s gs r
 unfolding applied applied_from
-applied_is s gs first left within =
+applied_is s gs r first left within =
     let lookup = lookup_in s.gsub s.lookup.index in
     let e : first + (length gs - first) ≡ length gs = omega arith in
     let z : 0 + first ≡ first = omega arith in
-    let walks = walk_on (lookup_stepped s lookup) first (length gs - first) gs 0 (operations_in (length gs)) (omega arith)
-    (λ j le lt. step_left s lookup gs j (operations_in (length gs)) (left j (omega arith))) in
-    ap (λ x. if type_in 7 lookup 0 == 8 then applied_backward (length gs) (lookup_stepped_back s lookup) gs else x)
-    (sym (rw (e, z) at walks))
+    let walks = walk_on (lookup_stepped s lookup) first (length gs - first) gs 0 r (omega arith)
+    (λ j le lt. step_left s lookup gs j r (left j (omega arith))) in
+    let back : Along = record { text = applied_backward (length gs) (lookup_stepped_back s lookup) gs; lookups = r } in
+    ap (λ (x : Along). if type_in 7 lookup 0 == 8 then back else x) (sym (rw (e, z) at walks))
 
 -- ---- nothing to do
 
@@ -401,28 +402,32 @@ walk_back_left f zero gs h = refl
 walk_back_left f (suc n) gs h =
     ap (applied_backward n f) (h n (omega arith)) ∙ walk_back_left f n gs (λ j lt. h j (omega arith))
 
-no_steps : (f : Glyphs → ℕ → ℕ → LookupStep) (gs : Glyphs) (at left : ℕ) → lookup_applied 0 f gs at left ≡ gs
+no_steps : (f : Glyphs → ℕ → LookupRecord → PlaceChange) (gs : Glyphs) (at : ℕ) (r : LookupRecord) →
+    lookup_applied 0 f gs at r ≡ record { text = gs; lookups = r }
 unfolding lookup_applied
-no_steps f gs at left = refl
+no_steps f gs at r = refl
 
-both_same : (test : Bool) (x y gs : Glyphs) → x ≡ gs → y ≡ gs → (if test then x else y) ≡ gs
-both_same true x y gs one two = one
-both_same false x y gs one two = two
+both_same : (test : Bool) (x y z : Along) → x ≡ z → y ≡ z → (if test then x else y) ≡ z
+both_same true x y z one two = one
+both_same false x y z one two = two
 
-from_end : (s : Setting) (gs : Glyphs) (first : ℕ) → AreLeft s.lookup (lookup_in s.gsub s.lookup.index) gs first →
-    length gs ≤ first →
-    applied_from s (lookup_in s.gsub s.lookup.index) first gs ≡ gs
+from_end : (s : Setting) (gs : Glyphs) (r : LookupRecord) (first : ℕ) →
+    AreLeft s.lookup (lookup_in s.gsub s.lookup.index) gs first → length gs ≤ first →
+    applied_from s (lookup_in s.gsub s.lookup.index) first gs r ≡ record { text = gs; lookups = r }
 unfolding applied_from
-from_end s gs first left all =
+from_end s gs r first left all =
     let lookup = lookup_in s.gsub s.lookup.index in
     let e : length gs - first ≡ 0 = omega arith in
-    both_same (type_in 7 lookup 0 == 8) _ _ gs
-    (walk_back_left (lookup_stepped_back s lookup) (length gs) gs (λ j lt. back_left s lookup gs j (left j (omega arith))))
-    (rw e (no_steps (lookup_stepped s lookup) gs first (operations_in (length gs))))
+    let with_record : Glyphs → Along = λ xs. record { text = xs; lookups = r } in
+    both_same (type_in 7 lookup 0 == 8) _ _ (with_record gs)
+    (ap with_record
+    (walk_back_left (lookup_stepped_back s lookup) (length gs) gs (λ j lt. back_left s lookup gs j (left j (omega arith)))))
+    (rw e (no_steps (lookup_stepped s lookup) gs first r))
 
-pub left_alone : (s : Setting) (gs : Glyphs) (first : ℕ) → AreLeft s.lookup (lookup_in s.gsub s.lookup.index) gs first →
-    first ≤ length gs → length gs ≤ first → applied s gs ≡ gs
-left_alone s gs first left within all = sym (applied_is s gs first left within) ∙ from_end s gs first left all
+pub left_alone : (s : Setting) (gs : Glyphs) (r : LookupRecord) (first : ℕ) →
+    AreLeft s.lookup (lookup_in s.gsub s.lookup.index) gs first → first ≤ length gs → length gs ≤ first →
+    applied s gs r ≡ record { text = gs; lookups = r }
+left_alone s gs r first left within all = sym (applied_is s gs r first left within) ∙ from_end s gs r first left all
 
 -- ---- in a buffer
 
@@ -431,23 +436,25 @@ pub buffer_left : (gdef gsub : List ℕ) (use_of : LookupUse) (b : Buffer) (look
     length b.glyphs ≤ first → b ≡ substituted gdef gsub use_of b
 unfolding substituted
 buffer_left gdef gsub use_of b lookup first is left within all =
-    let put : Glyphs → Buffer = λ xs. (let r : Buffer = record b { glyphs = xs } in r) in
-    ap put (sym (left_alone (setting_for gdef gsub use_of b) b.glyphs first (rw is at left) within all))
+    let put : Along → Buffer = λ it. (let new : Buffer = record b { glyphs = it.text; lookups = it.lookups } in new) in
+    ap put (sym (left_alone (setting_for gdef gsub use_of b) b.glyphs b.lookups first (rw is at left) within all))
 
-pub text_applied : (gdef gsub : List ℕ) (use_of : LookupUse) (b : Buffer) (lookup : List ℕ) (text : Glyphs) (first : ℕ) →
+pub text_applied : (gdef gsub : List ℕ) (use_of : LookupUse) (b : Buffer) (lookup : List ℕ) (it : Along) (first : ℕ) →
     lookup ≡ lookup_in gsub use_of.index → AreLeft use_of lookup b.glyphs first → first ≤ length b.glyphs →
-    text ≡ applied_from (setting_for gdef gsub use_of b) lookup first b.glyphs →
-    text ≡ applied (setting_for gdef gsub use_of b) b.glyphs
-text_applied gdef gsub use_of b lookup text first is left within from =
-    rw is at from ∙ applied_is (setting_for gdef gsub use_of b) b.glyphs first (rw is at left) within
+    applied_from (setting_for gdef gsub use_of b) lookup first b.glyphs b.lookups ≡ it →
+    it ≡ applied (setting_for gdef gsub use_of b) b.glyphs b.lookups
+text_applied gdef gsub use_of b lookup it first is left within from =
+    sym (rw is at from) ∙ applied_is (setting_for gdef gsub use_of b) b.glyphs b.lookups first (rw is at left) within
 
-pub buffer_applied : (gdef gsub : List ℕ) (use_of : LookupUse) (b : Buffer) (text : Glyphs) →
-    text ≡ applied (setting_for gdef gsub use_of b) b.glyphs → b.positions ≡ [] →
-    (let r : Buffer = record b { glyphs = text; positions = [] } in r) ≡ substituted gdef gsub use_of b
+pub buffer_applied : (gdef gsub : List ℕ) (use_of : LookupUse) (b : Buffer) (it : Along) →
+    it ≡ applied (setting_for gdef gsub use_of b) b.glyphs b.lookups → b.positions ≡ [] →
+    (let new : Buffer = record b { glyphs = it.text; positions = []; lookups = it.lookups } in new)
+    ≡ substituted gdef gsub use_of b
 unfolding substituted
-buffer_applied gdef gsub use_of b text is none =
-    let put : Glyphs → List GlyphPosition → Buffer = λ xs ps. (let r : Buffer = record b { glyphs = xs; positions = ps } in r) in
-    ap (λ xs. put xs []) is ∙ ap (put (applied (setting_for gdef gsub use_of b) b.glyphs)) (sym none)
+buffer_applied gdef gsub use_of b it is none =
+    let put : Along → List GlyphPosition → Buffer = λ x ps.
+    (let new : Buffer = record b { glyphs = x.text; positions = ps; lookups = x.lookups } in new) in
+    ap (λ x. put x []) is ∙ ap (put (applied (setting_for gdef gsub use_of b) b.glyphs b.lookups)) (sym none)
 
 pub ok_then : {T P Q : Type 0} (r : Result T ShaperError) → (P → Q) → OnOk r P → OnOk r Q
 ok_then (Ok _) f p = f p

@@ -3,6 +3,7 @@ use Rattle.std.specs.Prelude.{ℕ, ◌==◌, ◌||◌, ◌≡◌, ◌⊎◌, nat
 use Rattle.std.proofs.Common.{inl, inr}
 use Rattle.std.specs.Option.{option_map}
 use Rattle.shapers_buffer.specs.Glyphs.{Glyphs}
+use Rattle.shapers_buffer.specs.declared.buffer.lookup_record.LookupRecord.{LookupRecord}
 use Rattle.opentype_face.specs.Bytes.{u16_in}
 use Rattle.opentype_face.specs.Firsts.{first_from}
 use Rattle.opentype_face.specs.Lookups.{subtable_in, type_in}
@@ -60,25 +61,30 @@ begun s chained gs m =
     let old_len = (if chained then s.len else length gs) in
     record { text = unbroken old_len m.start m.stop gs; frame = begun_frame (length gs) m }
 
-unfoldable pub nth_came : Setting → Sights → List ℕ → ℕ → Glyphs → ℕ → Option (PlaceChange ⊎ Begun)
-nth_came s sights lookup at gs i =
+unfoldable pub nth_came : Setting → Sights → List ℕ → ℕ → Glyphs → LookupRecord → ℕ → Option
+    (PlaceChange ⊎ Begun)
+nth_came s sights lookup at gs r i =
     if (type_in 7 lookup i == 5) || (type_in 7 lookup i == 6)
     then option_map (λ m. inr (begun s (type_in 7 lookup i == 6) gs m))
     (context_in (type_in 7 lookup i == 6) s.gdef sights.input sights.context (subtable_in 7 lookup
     i) gs at)
-    else option_map inl (one_put s sights.input (type_in 7 lookup i) (subtable_in 7 lookup i) gs at)
+    else option_map inl
+    (one_put s sights.input (type_in 7 lookup i) (subtable_in 7 lookup i) gs at r)
 
 -- by the first of its subtables that fits
-unfoldable pub came_in : Setting → List ℕ → Glyphs → ℕ → Option (PlaceChange ⊎ Begun)
-came_in s lookup gs at =
+unfoldable pub came_in : Setting → List ℕ → Glyphs → ℕ → LookupRecord → Option
+    (PlaceChange ⊎ Begun)
+came_in s lookup gs at r =
     if nat_lt at (length gs)
     then first_from (u16_in lookup 4) (nth_came s (sights_of s.gdef s.lookup lookup (glyph_at gs
-    at)) lookup at gs) 0
+    at)) lookup at gs r) 0
     else None
 
--- a text before and after, and the outcome that the code gives then
-abbrev pub IsCome : Option (PlaceChange ⊎ Begun) → Glyphs → Glyphs → Outcome → Type 0
-IsCome came old new Nothing = (came ≡ None) × (new ≡ old)
-IsCome came old new (Done next) = came ≡ Some (inl (record { text = new; next = next }))
-IsCome came old new (Fits rule) =
-    came ≡ Some (inr (record { text = new; frame = frame_of rule }))
+-- a text and its record before and after, and the outcome that the code gives then
+abbrev pub IsCome : Option (PlaceChange ⊎ Begun) → Glyphs → LookupRecord → Glyphs → LookupRecord →
+    Outcome → Type 0
+IsCome came old before new after Nothing = (came ≡ None) × ((new ≡ old) × (after ≡ before))
+IsCome came old before new after (Done next) =
+    came ≡ Some (inl (record { text = new; next = next; lookups = after }))
+IsCome came old before new after (Fits rule) =
+    (came ≡ Some (inr (record { text = new; frame = frame_of rule }))) × (after ≡ before)

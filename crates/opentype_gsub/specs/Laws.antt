@@ -6,10 +6,11 @@ use Rattle.opentype_gsub.specs.Kept.{KeepsTextClusters}
 use Rattle.opentype_gsub.specs.Substituted.{substituted}
 use Rattle.opentype_gsub.specs.declared.pass.LookupUse.{LookupUse}
 
--- only glyphs change
+-- only glyphs change, and the record of the text's lookups
 abbrev pub OthersLaw : Type 0
 OthersLaw = (gdef gsub : List ℕ) (use_of : LookupUse) (b : Buffer) →
-    substituted gdef gsub use_of b ≡ record b { glyphs = (substituted gdef gsub use_of b).glyphs }
+    let new = substituted gdef gsub use_of b in
+    new ≡ record b { glyphs = new.glyphs; lookups = new.lookups }
 
 -- by any bytes: no cluster is new, and clusters that rise or fall along the text still do
 abbrev pub ClusterLaw : Type 0

@@ -16,6 +16,7 @@ use Rattle.opentype_layout.specs.declared.sight.Sight.{Sight}
 use Rattle.opentype_gsub.specs.Applied.{two_byte_number}
 use Rattle.opentype_gsub.specs.Decided.{set_for_glyph}
 use Rattle.opentype_gsub.specs.Flagged.{is_short}
+use Rattle.shapers_buffer.specs.LookupRecords.{record_for}
 use Rattle.opentype_gsub.specs.Came.{nth_came}
 use Rattle.opentype_gsub.specs.Setting.{Setting, sights_of}
 use Rattle.opentype_gsub.specs.declared.looking.RuleSet.{RuleSet}
@@ -182,10 +183,15 @@ subtable_looked s sights lookup gs at i =
     looked_by s.gdef sights s.len gs at
     (rules_in (type_in 7 lookup i) (subtable_in 7 lookup i) (two_byte_number gs at))
 
+-- Whether a subtable does something at a place: the record of the text's lookups doesn't decide it,
+-- and may be any one.
+abbrev pub nth_comes : Setting → Sights → List ℕ → ℕ → Glyphs → ℕ → Bool
+nth_comes s sights lookup at gs i = is_some (nth_came s sights lookup at gs (record_for 0) i)
+
 -- what the subtables of a lookup looked at, up to the first that does something
 unfoldable pub lookup_looked : Setting → Sights → List ℕ → Glyphs → ℕ → Stretch
 lookup_looked s sights lookup gs at =
-    all_looked (u16_in lookup 4) (λ i. is_some (nth_came s sights lookup at gs i))
+    all_looked (u16_in lookup 4) (nth_comes s sights lookup at gs)
     (subtable_looked s sights lookup gs at) 0 (nothing at)
 
 -- no concatenation in a stretch, as far as the text goes

@@ -2,9 +2,10 @@
 use Rattle.std.specs.Prelude.{ℕ, zero, suc, ◌+◌, ◌-◌, ◌*◌, ◌^◌, ◌≡◌, ◌⊎◌, min, nat_lt, List, [], ◌∷◌, ◌++◌, map, take, drop, length, reverse, slice_index, Option, None, Some, if◌then◌else◌}
 use Rattle.std.proofs.Common.{inl, inr}
 use Rattle.shapers_buffer.specs.Glyphs.{Glyphs}
+use Rattle.shapers_buffer.specs.declared.buffer.lookup_record.LookupRecord.{LookupRecord}
 use Rattle.opentype_face.specs.Bytes.{u16_in}
 use Rattle.opentype_face.specs.Lookups.{lookup_in}
-use Rattle.opentype_gsub.specs.Applied.{PlaceChange}
+use Rattle.opentype_gsub.specs.Applied.{PlaceChange, incomplete}
 use Rattle.opentype_gsub.specs.Came.{Begun, Frame, came_in, frame_of}
 use Rattle.opentype_gsub.specs.Looked.{tried}
 use Rattle.opentype_gsub.specs.Setting.{Setting}
@@ -58,18 +59,24 @@ frame_shifted len f =
 
 pub record AfterCall : Type 0 where
   pub text : Glyphs
+  pub lookups : LookupRecord
   pub frame : Frame
   pub inner : Option Frame
 
-abbrev pub called_by : Glyphs → Frame → Option (PlaceChange ⊎ Begun) → AfterCall
-called_by gs f None = record { text = gs; frame = f; inner = None }
-called_by gs f (Some (inl change)) = record {
+abbrev pub called_by : Glyphs → LookupRecord → Frame → Option (PlaceChange ⊎ Begun) → AfterCall
+called_by gs r f None = record { text = gs; lookups = r; frame = f; inner = None }
+called_by gs r f (Some (inl change)) = record {
   text = change.text;
-  frame = frame_shifted (length
-      change.text) f;
+  lookups = change.lookups;
+  frame = frame_shifted (length change.text) f;
   inner = None;
 }
-called_by gs f (Some (inr b)) = record { text = b.text; frame = f; inner = Some b.frame }
+called_by gs r f (Some (inr b)) = record {
+  text = b.text;
+  lookups = r;
+  frame = f;
+  inner = Some b.frame;
+}
 
 -- the frame whose lookup is applied at one of its places
 abbrev pub aimed : ℕ → ℕ → Frame → Frame
@@ -83,30 +90,31 @@ aimed sequence len f = record {
   before = len;
 }
 
-unfoldable pub lookup_called : Setting → Glyphs → Frame → AfterCall
-lookup_called s gs f =
+unfoldable pub lookup_called : Setting → Glyphs → LookupRecord → Frame → AfterCall
+lookup_called s gs r f =
     let sequence = u16_in f.records (f.next * 4) in
     let lookup = lookup_in s.gsub (u16_in f.records (f.next * 4 + 2)) in
     let place = slice_index f.places sequence in
     let flagged = tried s lookup gs place in
     if nat_lt sequence (length f.places)
-    then called_by flagged (aimed sequence (length gs) f) (came_in s lookup flagged place)
-    else record { text = gs; frame = aimed f.sequence f.before f; inner = None }
+    then called_by flagged r (aimed sequence (length gs) f) (came_in s lookup flagged place r)
+    else record { text = gs; lookups = r; frame = aimed f.sequence f.before f; inner = None }
 
 -- ---- one turn of the machine
 
 pub record MachineStep : Type 0 where
   pub text : Glyphs
+  pub lookups : LookupRecord
   pub stack : List Frame
   pub end : Option (Option ℕ)
 
-abbrev pub ended : Glyphs → Frame → List Frame → MachineStep
-ended gs f [] = record { text = gs; stack = []; end = Some (Some f.end) }
-ended gs f (outer ∷ fs) = record {
+abbrev pub ended : Glyphs → LookupRecord → Frame → List Frame → MachineStep
+ended gs r f [] = record { text = gs; lookups = r; stack = []; end = Some (Some f.end) }
+ended gs r f (outer ∷ fs) = record {
   text = gs;
+  lookups = r;
   stack = frame_shifted (length gs) outer ∷ fs;
-  end =
-      None;
+  end = None;
 }
 
 -- The same, as the code gives it: the rule in hand, those that wait below it, and where the machine
@@ -125,47 +133,58 @@ deeper None fs = fs
 deeper (Some f) fs = if nat_lt (length fs) 64 then f ∷ fs else fs
 
 abbrev pub step_pushed : AfterCall → List Frame → MachineStep
-step_pushed c fs = record { text = c.text; stack = deeper c.inner (c.frame ∷ fs); end = None }
+step_pushed c fs = record {
+  text = c.text;
+  lookups = c.lookups;
+  stack = deeper c.inner (c.frame ∷ fs);
+  end = None;
+}
 
-unfoldable pub machine_stepped : Setting → Glyphs → List Frame → MachineStep
-machine_stepped s gs [] = record { text = gs; stack = []; end = Some None }
-machine_stepped s gs (f ∷ fs) =
-    if nat_lt f.next f.count then step_pushed (lookup_called s gs f) fs else ended gs f fs
+unfoldable pub machine_stepped : Setting → Glyphs → LookupRecord → List Frame → MachineStep
+machine_stepped s gs r [] = record { text = gs; lookups = r; stack = []; end = Some None }
+machine_stepped s gs r (f ∷ fs) =
+    if nat_lt f.next f.count then step_pushed (lookup_called s gs r f) fs else ended gs r f fs
 
 -- ---- the machine
 
--- the text, the place behind what was done, and how many operations are left
+-- the text, the place behind what was done, and the record of the text's lookups
 pub record Nested : Type 0 where
   pub text : Glyphs
   pub end : Option ℕ
-  pub left : ℕ
+  pub lookups : LookupRecord
 
-abbrev pub goes_on_with : ℕ → (Glyphs → List Frame → Nested) → MachineStep → Option (Option ℕ) →
-    Nested
-goes_on_with left rest t None = rest t.text t.stack
-goes_on_with left rest t (Some end) = record { text = t.text; end = end; left = left }
+abbrev pub goes_on_with : (Glyphs → LookupRecord → List Frame → Nested) → MachineStep → Option
+    (Option ℕ) → Nested
+goes_on_with rest t None = rest t.text t.lookups t.stack
+goes_on_with rest t (Some end) = record { text = t.text; end = end; lookups = t.lookups }
 
--- in at most so many turns
-unfoldable pub ran : ℕ → (Glyphs → List Frame → MachineStep) → Glyphs → List Frame → Nested
-ran zero step gs fs = record { text = gs; end = None; left = 0 }
-ran (suc n) step gs fs = goes_on_with n (ran n step) (step gs fs) (step gs fs).end
+abbrev pub with_left : ℕ → LookupRecord → LookupRecord
+with_left n r = record r { operations_left = n }
 
-abbrev pub started : ℕ → (Glyphs → List Frame → MachineStep) → Glyphs → Option (PlaceChange ⊎
-    Begun) → Nested
-started operations step gs None = record { text = gs; end = None; left = operations }
-started operations step gs (Some (inl change)) = record {
+-- With so many operations, of which each turn takes one. Where none is left, the rules on the stack
+-- end undone.
+unfoldable pub ran : ℕ → (Glyphs → LookupRecord → List Frame → MachineStep) → Glyphs →
+    LookupRecord → List Frame → Nested
+ran zero step gs r fs = record { text = gs; end = None; lookups = incomplete r }
+ran (suc n) step gs r fs =
+    let turned = step gs (with_left n r) fs in goes_on_with (ran n step) turned turned.end
+
+abbrev pub started : (Glyphs → LookupRecord → List Frame → MachineStep) → Glyphs → LookupRecord →
+    Option (PlaceChange ⊎ Begun) → Nested
+started step gs r None = record { text = gs; end = None; lookups = r }
+started step gs r (Some (inl change)) = record {
   text = change.text;
-  end = Some
-      change.next;
-  left = operations;
+  end = Some change.next;
+  lookups = change.lookups;
 }
-started operations step gs (Some (inr b)) = ran operations step b.text (b.frame ∷ [])
+started step gs r (Some (inr b)) = ran r.operations_left step b.text r (b.frame ∷ [])
 
--- a lookup's table at a place, and the lookups that its rules apply
-unfoldable pub nested : Setting → List ℕ → Glyphs → ℕ → ℕ → Nested
-nested s lookup gs at operations =
+-- A lookup's table at a place, and the lookups that its rules apply, with the operations that the
+-- text has left.
+unfoldable pub nested : Setting → List ℕ → Glyphs → ℕ → LookupRecord → Nested
+nested s lookup gs at r =
     let flagged = tried s lookup gs at in
-    started operations (machine_stepped s) flagged (came_in s lookup flagged at)
+    started (machine_stepped s) flagged r (came_in s lookup flagged at r)
 
 -- The rules that wait in the code for the one in hand, the last one first. Each is there; what is
 -- left of the room has none.

@@ -1,14 +1,14 @@
 -- Where a lookup may begin, and what it makes of a text from there on.
 use Rattle.std.specs.Prelude.{ℕ, ◌-◌, ◌%◌, ◌==◌, ◌||◌, not, Bool, false, bit_and, is_some, List, length, if◌then◌else◌}
 use Rattle.shapers_buffer.specs.Glyphs.{Glyph, Glyphs}
+use Rattle.shapers_buffer.specs.declared.buffer.lookup_record.LookupRecord.{LookupRecord}
 use Rattle.opentype_face.specs.Bytes.{u16_in}
 use Rattle.opentype_face.specs.Firsts.{first_from}
 use Rattle.opentype_face.specs.Lookups.{type_in}
 use Rattle.opentype_layout.specs.Starts.{starting}
 use Rattle.opentype_gsub.specs.Reversed.{lookup_stepped_back, applied_backward}
 use Rattle.opentype_gsub.specs.Setting.{Setting}
-use Rattle.opentype_gsub.specs.Substituted.{operations_in}
-use Rattle.opentype_gsub.specs.Along.{lookup_stepped, lookup_applied}
+use Rattle.opentype_gsub.specs.Along.{Along, lookup_stepped, lookup_applied}
 use Rattle.opentype_gsub.specs.declared.pass.LookupUse.{LookupUse}
 
 -- Whether a lookup can't begin at a glyph: the glyph has no bit of its mask, or no subtable begins
@@ -19,8 +19,10 @@ is_left use_of lookup g =
     || not (is_some (first_from (u16_in lookup 4) (starting false lookup (g.glyph_id % 65536)) 0))
 
 -- a lookup's table along a text from a place on; one of type 8 from the end
-unfoldable pub applied_from : Setting → List ℕ → ℕ → Glyphs → Glyphs
-applied_from s lookup first gs =
-    if type_in 7 lookup 0 == 8 then applied_backward (length gs) (lookup_stepped_back s lookup) gs
-    else lookup_applied (length gs - first) (lookup_stepped s lookup) gs first (operations_in
-    (length gs))
+unfoldable pub applied_from : Setting → List ℕ → ℕ → Glyphs → LookupRecord → Along
+applied_from s lookup first gs r =
+    if type_in 7 lookup 0 == 8 then record {
+      text = applied_backward (length gs) (lookup_stepped_back s lookup) gs;
+      lookups = r;
+    }
+    else lookup_applied (length gs - first) (lookup_stepped s lookup) gs first r

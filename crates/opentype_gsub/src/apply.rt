@@ -4,6 +4,7 @@ ghost use Rattle.opentype_gsub.specs.Decided.{covered_in};
 ghost use Rattle.opentype_layout.specs.SubstitutionTables.{first_place};
 ghost use Rattle.opentype_gsub.specs.Applied.{IsChange, alternate_put, chosen_of, ligature_put, ligated_put, multiple_put, two_byte_number, one_put, sequence_put, single_put};
 ghost use Rattle.opentype_gsub.specs.Setting.{setting_of};
+ghost use Rattle.shapers_buffer.specs.declared.buffer.lookup_record.LookupRecord.{LookupRecord};
 
 use crate::decided::{alternate_at, set_by, single_at};
 use crate::edits::{count_of, delete, multiply, replace};
@@ -14,10 +15,10 @@ use opentype_face::bytes::u16_at;
 use opentype_face::class_table::ClassTable;
 use opentype_layout::sight::Sight;
 use opentype_layout::substitution_tables::SubtableAt;
-use shapers_buffer::buffer::{BufferClusterLevel, ShaperError, hb_glyph_info_t};
+use shapers_buffer::buffer::{BufferClusterLevel, LookupRecord, ShaperError, hb_glyph_info_t};
 
 /// Puts the glyphs of a sequence in for one, and returns the place behind them. More than the text
-/// may get aren't put in.
+/// may get aren't put in, and the record of its lookups says so.
 ///
 /// # Errors
 ///
@@ -25,12 +26,13 @@ use shapers_buffer::buffer::{BufferClusterLevel, ShaperError, hb_glyph_info_t};
 pub fn put_sequence(
     pass: &Pass<'_>,
     text: &mut Vec<hb_glyph_info_t>,
+    lookups: &mut LookupRecord,
     at: usize,
     sequence: &[u8],
 ) -> Result<usize, ShaperError>
     requires here { at < length text.old.items }
-    ensures { IfOk result (λ next. (sequence_put (setting_of pass.now) at text.old.items sequence.now)
-        ≡ record { text = text.new.items; next = next }) }
+    ensures { IfOk result (λ next. sequence_put (setting_of pass.now) at text.old.items lookups.old
+        sequence.now ≡ record { text = text.new.items; next = next; lookups = lookups.new }) }
 {
     let count = count_of(sequence);
     if count == 0 {
@@ -42,6 +44,7 @@ pub fn put_sequence(
         return Ok(at + 1);
     }
     if usize::from(count) - 1 > pass.limit.saturating_sub(text.len()) {
+        lookups.is_complete = false;
         return Ok(at + 1);
     }
     multiply(&pass.classes, text, at, sequence)?;
@@ -67,8 +70,8 @@ fn apply_single(
 ) -> Option<usize>
     requires here { at < length text.old.items }
     requires place { place ≡ covered_in bytes.now (two_byte_number text.old.items at) }
-    ensures { IsChange (single_put classes.now.gdef.now bytes.now text.old.items at) text.old.items
-        text.new.items result }
+    ensures { (r : LookupRecord) → IsChange (single_put classes.now.gdef.now bytes.now
+        text.old.items at r) text.old.items r text.new.items r result }
 {
     match single_at(bytes, number(text, at), place) {
         Some(to) => {
@@ -90,8 +93,8 @@ fn apply_alternate(
 ) -> Option<usize>
     requires here { at < length text.old.items }
     requires place { place ≡ covered_in bytes.now (two_byte_number text.old.items at) }
-    ensures { IsChange (alternate_put classes.now.gdef.now bytes.now value text.old.items at) text.old.items
-        text.new.items result }
+    ensures { (r : LookupRecord) → IsChange (alternate_put classes.now.gdef.now bytes.now value
+        text.old.items at r) text.old.items r text.new.items r result }
 {
     match alternate_at(value, set_by(bytes, place)) {
         Some(to) => {
@@ -108,15 +111,16 @@ fn apply_multiple(
     bytes: &[u8],
     place: Option<u32>,
     text: &mut Vec<hb_glyph_info_t>,
+    lookups: &mut LookupRecord,
     at: usize,
 ) -> Result<Option<usize>, ShaperError>
     requires here { at < length text.old.items }
     requires place { place ≡ covered_in bytes.now (two_byte_number text.old.items at) }
-    ensures { IfOk result (λ next. IsChange (multiple_put (setting_of pass.now) bytes.now text.old.items at)
-        text.old.items text.new.items next) }
+    ensures { IfOk result (λ next. IsChange (multiple_put (setting_of pass.now) bytes.now
+        text.old.items at lookups.old) text.old.items lookups.old text.new.items lookups.new next) }
 {
     match set_by(bytes, place) {
-        Some(sequence) => Ok(Some(put_sequence(pass, text, at, sequence)?)),
+        Some(sequence) => Ok(Some(put_sequence(pass, text, lookups, at, sequence)?)),
         None => Ok(None),
     }
 }
@@ -134,8 +138,8 @@ fn apply_ligature(
 ) -> Option<usize>
     requires here { at < length text.old.items }
     requires place { place ≡ covered_in bytes.now (two_byte_number text.old.items at) }
-    ensures { IsChange (ligated_put classes.now.gdef.now level sight.now bytes.now text.old.items at)
-        text.old.items text.new.items result }
+    ensures { (r : LookupRecord) → IsChange (ligated_put classes.now.gdef.now level sight.now
+        bytes.now text.old.items at r) text.old.items r text.new.items r result }
 {
     let set = set_by(bytes, place)?;
     match first_fitting(classes.gdef, sight, set, text, at) {
@@ -155,8 +159,9 @@ fn put_ligature(
     requires here { at < length text.old.items }
     requires within { (j : ℕ) → j < length fitting.now.places.items →
         slice_index fitting.now.places.items j < length text.old.items }
-    ensures { ligature_put classes.now.gdef.now level at text.old.items
-        (fitting.now.glyph, fitting.now.places.items) ≡ record { text = text.new.items; next = result } }
+    ensures { (r : LookupRecord) → ligature_put classes.now.gdef.now level at text.old.items r
+        (fitting.now.glyph, fitting.now.places.items)
+        ≡ record { text = text.new.items; next = result; lookups = r } }
 {
     let places = fitting.places.as_slice();
     if places.is_empty() {
@@ -194,6 +199,7 @@ pub fn apply_one(
     sight: &Sight,
     subtable: &SubtableAt<'_>,
     text: &mut Vec<hb_glyph_info_t>,
+    lookups: &mut LookupRecord,
     at: usize,
 ) -> Result<Option<usize>, ShaperError>
     requires here { at < length text.old.items }
@@ -202,13 +208,13 @@ pub fn apply_one(
       bytes = subtable.now.bytes.now;
     }) (two_byte_number text.old.items at) }
     ensures { IfOk result (λ next. IsChange (one_put (setting_of pass.now) sight.now
-        subtable.now.kind subtable.now.bytes.now text.old.items at) text.old.items text.new.items
-        next) }
+        subtable.now.kind subtable.now.bytes.now text.old.items at lookups.old) text.old.items
+        lookups.old text.new.items lookups.new next) }
 {
     let (bytes, place) = (subtable.bytes, subtable.place);
     match subtable.kind {
         1 => Ok(apply_single(&pass.classes, bytes, place, text, at)),
-        2 => apply_multiple(pass, bytes, place, text, at),
+        2 => apply_multiple(pass, bytes, place, text, lookups, at),
         3 => {
             let value = value(pass.lookup.random, sight, &text[at]);
             Ok(apply_alternate(&pass.classes, bytes, place, value, text, at))

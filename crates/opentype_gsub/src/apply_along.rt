@@ -7,18 +7,9 @@ use crate::machine::apply_nested;
 use crate::pass::{Pass, Sights};
 use crate::presence::next_place;
 use opentype_layout::starts::LookupTable;
-use shapers_buffer::buffer::{ShaperError, hb_glyph_info_t};
+use shapers_buffer::buffer::{LookupRecord, ShaperError, hb_glyph_info_t};
 
-/// How far a lookup has come.
-#[derive(Clone, Copy, Debug)]
-struct Progress {
-    // the next place
-    next: usize,
-    // how many operations are left
-    left: usize,
-}
-
-// What a lookup does at a place.
+// What a lookup does at a place; the next place.
 #[inline]
 #[tactic(auto, unfolding(crate::specs::Along::lookup_stepped))]
 fn step<'a>(
@@ -26,29 +17,27 @@ fn step<'a>(
     sights: &Sights,
     lookup: &LookupTable<'a>,
     text: &mut Vec<hb_glyph_info_t>,
+    lookups: &mut LookupRecord,
     at: usize,
-    left: usize,
-) -> Result<Progress, ShaperError>
+) -> Result<usize, ShaperError>
     requires here { at < length text.old.items }
     requires sights { let it = setting_of pass.now in
         sights.now ≡ sights_within it.gdef it.lookup lookup.now 0 }
-    ensures { IfOk result (λ it. lookup_stepped (setting_of pass.now) lookup.now text.old.items at left
-        ≡ record { text = text.new.items; next = it.next; left = it.left }) }
+    ensures { IfOk result (λ next.
+        lookup_stepped (setting_of pass.now) lookup.now text.old.items at lookups.old
+        ≡ record { text = text.new.items; next = next; lookups = lookups.new }) }
 {
-    let next = at + 1;
     if !pass.lookup.sees_by(pass.classes.gdef, sights, &text[at]) {
-        return Ok(Progress { next, left });
+        return Ok(at + 1);
     }
-    let reached = apply_nested(pass, sights, lookup, text, at, left)?;
-    let left = reached.left;
-    match reached.end {
-        Some(next) => Ok(Progress { next, left }),
-        None => Ok(Progress { next, left }),
+    match apply_nested(pass, sights, lookup, text, lookups, at)? {
+        Some(next) => Ok(next),
+        None => Ok(at + 1),
     }
 }
 
-/// Applies a lookup by its table along a text from a place on, in at most so many steps, and so many
-/// operations.
+/// Applies a lookup by its table along a text from a place on, in at most so many steps, and with the
+/// operations that the text has left.
 ///
 /// # Errors
 ///
@@ -58,17 +47,18 @@ pub fn apply_along<'a>(
     pass: &Pass<'a>,
     lookup: &LookupTable<'a>,
     text: &mut Vec<hb_glyph_info_t>,
+    lookups: &mut LookupRecord,
     first: usize,
     steps: usize,
-    operations: usize,
 ) -> Result<(), ShaperError>
-    ensures { OnOk result (text.new.items
-        ≡ lookup_applied steps (lookup_stepped (setting_of pass.now) lookup.now) text.old.items first operations) }
+    ensures { OnOk result (lookup_applied steps (lookup_stepped (setting_of pass.now) lookup.now)
+        text.old.items first lookups.old
+        ≡ record { text = text.new.items; lookups = lookups.new }) }
 {
     let sights = pass
         .lookup
         .sights_within(pass.classes.gdef, lookup.bytes(), 0);
-    let (mut at, mut left, mut steps) = (first, operations, steps);
+    let (mut at, mut steps) = (first, steps);
     while steps > 0 {
         let place = next_place(&pass.lookup, lookup, text, at);
         if place >= text.len() {
@@ -78,10 +68,8 @@ pub fn apply_along<'a>(
         if passed >= steps {
             return Ok(());
         }
-        let progress = step(pass, &sights, lookup, text, place, left)?;
+        at = step(pass, &sights, lookup, text, lookups, place)?;
         steps -= passed + 1;
-        at = progress.next;
-        left = progress.left;
     }
     Ok(())
 }

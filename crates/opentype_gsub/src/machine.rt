@@ -20,7 +20,7 @@ use opentype_face::bytes::u16_at;
 use opentype_face::lookup::subtable_count;
 use opentype_layout::rules::{Matched, find_rule};
 use opentype_layout::starts::LookupTable;
-use shapers_buffer::buffer::{ShaperError, hb_glyph_info_t};
+use shapers_buffer::buffer::{LookupRecord, ShaperError, hb_glyph_info_t};
 use std::mem;
 
 /// Rules that wait for the end of a rule that one of their lookups found. With that one they are at
@@ -63,12 +63,13 @@ fn come_by<'a>(
     lookup: &LookupTable<'a>,
     i: u16,
     text: &mut Vec<hb_glyph_info_t>,
+    lookups: &mut LookupRecord,
     at: usize,
 ) -> Result<Outcome<'a>, ShaperError>
     requires { at < length text.old.items }
     ensures { IfOk result (λ outcome. IsCome
-        (nth_came (setting_of pass.now) sights.now lookup.now at text.old.items i)
-        text.old.items text.new.items outcome) }
+        (nth_came (setting_of pass.now) sights.now lookup.now at text.old.items lookups.old i)
+        text.old.items lookups.old text.new.items lookups.new outcome) }
 {
     let subtable = lookup.subtable(i);
     let (kind, bytes, set) = (subtable.kind, subtable.bytes, subtable.set);
@@ -93,6 +94,7 @@ fn come_by<'a>(
         &sights.input,
         &subtable.at(number(text, at)),
         text,
+        lookups,
         at,
     )? {
         Some(next) => Ok(Outcome::Done(next)),
@@ -106,12 +108,13 @@ fn come_among<'a>(
     sights: &Sights,
     lookup: &LookupTable<'a>,
     text: &mut Vec<hb_glyph_info_t>,
+    lookups: &mut LookupRecord,
     at: usize,
 ) -> Result<Outcome<'a>, ShaperError>
     requires { at < length text.old.items }
     ensures { IfOk result (λ outcome. IsCome (first_from (u16_in lookup.now 4)
-        (nth_came (setting_of pass.now) sights.now lookup.now at text.old.items) 0)
-        text.old.items text.new.items outcome) }
+        (nth_came (setting_of pass.now) sights.now lookup.now at text.old.items lookups.old) 0)
+        text.old.items lookups.old text.new.items lookups.new outcome) }
 {
     let bytes = lookup.bytes();
     let (count, mut from) = (subtable_count(bytes), 0);
@@ -119,7 +122,7 @@ fn come_among<'a>(
         let Some(i) = lookup.next_start(false, number(text, at), from) else {
             return Ok(Outcome::Nothing);
         };
-        match come_by(pass, sights, lookup, i, text, at) {
+        match come_by(pass, sights, lookup, i, text, lookups, at) {
             Ok(Outcome::Nothing) => from = i + 1,
             Ok(Outcome::Done(next)) => return Ok(Outcome::Done(next)),
             Ok(Outcome::Fits(rule)) => return Ok(Outcome::Fits(rule)),
@@ -146,18 +149,20 @@ fn come_to<'a>(
     sights: &Sights,
     lookup: &LookupTable<'a>,
     text: &mut Vec<hb_glyph_info_t>,
+    lookups: &mut LookupRecord,
     at: usize,
 ) -> Result<Outcome<'a>, ShaperError>
     requires { let it = setting_of pass.now in
         sights.now ≡ sights_within it.gdef it.lookup lookup.now 0 }
-    ensures { IfOk result (λ outcome. IsCome (came_in (setting_of pass.now) lookup.now text.old.items at)
-        text.old.items text.new.items outcome) }
+    ensures { IfOk result (λ outcome. IsCome
+        (came_in (setting_of pass.now) lookup.now text.old.items at lookups.old)
+        text.old.items lookups.old text.new.items lookups.new outcome) }
 {
     if at >= text.len() {
         return Ok(Outcome::Nothing);
     }
     let seen = seen_from(pass, sights, text, at);
-    come_among(pass, &seen, lookup, text, at)
+    come_among(pass, &seen, lookup, text, lookups, at)
 }
 
 // The same behind the flags of what is tried in vain.
@@ -166,15 +171,18 @@ fn try_at<'a>(
     sights: &Sights,
     lookup: &LookupTable<'a>,
     text: &mut Vec<hb_glyph_info_t>,
+    lookups: &mut LookupRecord,
     at: usize,
 ) -> Result<Outcome<'a>, ShaperError>
     requires { let it = setting_of pass.now in
         sights.now ≡ sights_within it.gdef it.lookup lookup.now 0 }
-    ensures { IfOk result (λ outcome. let gs = tried (setting_of pass.now) lookup.now text.old.items at in
-        IsCome (came_in (setting_of pass.now) lookup.now gs at) gs text.new.items outcome) }
+    ensures { IfOk result (λ outcome. let s = setting_of pass.now in
+        let gs = tried s lookup.now text.old.items at in
+        IsCome (came_in s lookup.now gs at lookups.old) gs lookups.old text.new.items lookups.new
+        outcome) }
 {
     flag_tried(pass, lookup.bytes(), text, at);
-    come_to(pass, sights, lookup, text, at)
+    come_to(pass, sights, lookup, text, lookups, at)
 }
 
 // Applies the next lookup of a rule; the rule that fits there, if one does.
@@ -182,11 +190,17 @@ fn try_at<'a>(
 fn call<'a>(
     pass: &Pass<'a>,
     text: &mut Vec<hb_glyph_info_t>,
+    lookups: &mut LookupRecord,
     rule: &mut Rule<'a>,
 ) -> Result<Option<Rule<'a>>, ShaperError>
     requires { rule.old.next < rule.old.count }
-    ensures { IfOk result (λ inner. lookup_called (setting_of pass.now) text.old.items (frame_of rule.old)
-        ≡ record { text = text.new.items; frame = frame_of rule.new; inner = option_map (λ r. frame_of r) inner }) }
+    ensures { IfOk result (λ inner.
+        lookup_called (setting_of pass.now) text.old.items lookups.old (frame_of rule.old) ≡ record {
+          text = text.new.items;
+          lookups = lookups.new;
+          frame = frame_of rule.new;
+          inner = option_map (λ r. frame_of r) inner;
+        }) }
 {
     let record = usize::from(rule.next) * 4;
     let sequence = usize::from(u16_at(rule.records, record));
@@ -201,7 +215,7 @@ fn call<'a>(
     let sights = pass
         .lookup
         .sights_within(pass.classes.gdef, called.bytes(), 0);
-    match try_at(pass, &sights, &called, text, place) {
+    match try_at(pass, &sights, &called, text, lookups, place) {
         Ok(Outcome::Nothing) => Ok(None),
         Ok(Outcome::Done(_)) => {
             rule.shift_behind(text.len());
@@ -250,12 +264,14 @@ fn go_deeper<'a>(called: Rule<'a>, rule: &mut Rule<'a>, callers: &mut Callers<'a
 fn step<'a>(
     pass: &Pass<'a>,
     text: &mut Vec<hb_glyph_info_t>,
+    lookups: &mut LookupRecord,
     rule: &mut Rule<'a>,
     callers: &mut Callers<'a>,
 ) -> Result<Option<usize>, ShaperError>
-    ensures { IfOk result (λ end. machine_stepped (setting_of pass.now) text.old.items
+    ensures { IfOk result (λ end. machine_stepped (setting_of pass.now) text.old.items lookups.old
         (frame_of rule.old ∷ waiting callers.old.items) ≡ record {
           text = text.new.items;
+          lookups = lookups.new;
           stack = stack_left end (frame_of rule.new) (waiting callers.new.items);
           end = option_map (λ e. Some e) end;
         }) }
@@ -263,52 +279,40 @@ fn step<'a>(
     if rule.next >= rule.count {
         return Ok(end_rule(text.len(), rule, callers));
     }
-    if let Some(called) = call(pass, text, rule)? {
+    if let Some(called) = call(pass, text, lookups, rule)? {
         go_deeper(called, rule, callers);
     }
     Ok(None)
 }
 
-/// What a lookup came to at a place, with all that its rules apply.
-#[derive(Clone, Copy, Debug)]
-pub struct Reached {
-    /// The place behind what was done, if it fits.
-    pub end: Option<usize>,
-    /// How many operations are left.
-    pub left: usize,
-}
-
-// The machine, in at most so many turns, from a rule on that another one called. (Its stack of 36 KB
-// is no part of functions that run for each glyph.)
+// The machine with so many operations, from a rule on that another one called; the place behind what
+// was done. (Its stack of 36 KB is no part of functions that run for each glyph.)
 #[inline(never)]
 fn run_called<'a>(
     pass: &Pass<'a>,
     text: &mut Vec<hb_glyph_info_t>,
+    lookups: &mut LookupRecord,
     caller: Rule<'a>,
     called: Rule<'a>,
     operations: usize,
-) -> Result<Reached, ShaperError>
-    ensures { IfOk result (λ r. ran operations (machine_stepped (setting_of pass.now)) text.old.items
-        (frame_of called.entry ∷ frame_of caller.entry ∷ [])
-        ≡ record { text = text.new.items; end = r.end; left = r.left }) }
+) -> Result<Option<usize>, ShaperError>
+    ensures { IfOk result (λ end. ran operations (machine_stepped (setting_of pass.now))
+        text.old.items lookups.old (frame_of called.entry ∷ frame_of caller.entry ∷ [])
+        ≡ record { text = text.new.items; end = end; lookups = lookups.new }) }
 {
     let mut rule = called;
     let mut callers = Callers::new();
     callers.push(Some(caller));
     for done in 0..operations {
-        match step(pass, text, &mut rule, &mut callers) {
-            Ok(Some(end)) => {
-                let left = operations - (done + 1);
-                return Ok(Reached {
-                    end: Some(end),
-                    left,
-                });
-            }
+        lookups.operations_left = operations - (done + 1);
+        match step(pass, text, lookups, &mut rule, &mut callers) {
+            Ok(Some(end)) => return Ok(Some(end)),
             Ok(None) => {}
             Err(e) => return Err(e),
         }
     }
-    Ok(Reached { end: None, left: 0 })
+    lookups.is_complete = false;
+    Ok(None)
 }
 
 // The same from a rule on that no other one called. (Most rules call none, and need no stack. Apart from
@@ -317,31 +321,35 @@ fn run_called<'a>(
 fn run<'a>(
     pass: &Pass<'a>,
     text: &mut Vec<hb_glyph_info_t>,
+    lookups: &mut LookupRecord,
     rule: Rule<'a>,
     operations: usize,
-) -> Result<Reached, ShaperError>
-    ensures { IfOk result (λ r. ran operations (machine_stepped (setting_of pass.now)) text.old.items
-        (frame_of rule.entry ∷ []) ≡ record { text = text.new.items; end = r.end; left = r.left }) }
+) -> Result<Option<usize>, ShaperError>
+    ensures { IfOk result (λ end. ran operations (machine_stepped (setting_of pass.now))
+        text.old.items lookups.old (frame_of rule.entry ∷ [])
+        ≡ record { text = text.new.items; end = end; lookups = lookups.new }) }
 {
     let mut rule = rule;
     for done in 0..operations {
         let left = operations - (done + 1);
+        lookups.operations_left = left;
         if rule.next >= rule.count {
-            let end = Some(rule.end);
-            return Ok(Reached { end, left });
+            return Ok(Some(rule.end));
         }
-        match call(pass, text, &mut rule) {
-            Ok(Some(called)) => return run_called(pass, text, rule, called, left),
+        match call(pass, text, lookups, &mut rule) {
+            Ok(Some(called)) => return run_called(pass, text, lookups, rule, called, left),
             Ok(None) => {}
             Err(e) => return Err(e),
         }
     }
-    Ok(Reached { end: None, left: 0 })
+    lookups.is_complete = false;
+    Ok(None)
 }
 
-/// Applies a lookup by its table at a place, and the lookups that its rules apply, in at most so
-/// many operations: each call of a lookup is one, and so is the end of a rule. What the table sees is
-/// the same at each place of a text.
+/// Applies a lookup by its table at a place, and the lookups that its rules apply, with the operations
+/// that the text has left: each call of a lookup is one, and so is the end of a rule. It returns the
+/// place behind what was done, if the lookup fits. What the table sees is the same at each place of a
+/// text.
 ///
 /// # Errors
 ///
@@ -353,25 +361,23 @@ pub fn apply_nested<'a>(
     sights: &Sights,
     lookup: &LookupTable<'a>,
     text: &mut Vec<hb_glyph_info_t>,
+    lookups: &mut LookupRecord,
     at: usize,
-    operations: usize,
-) -> Result<Reached, ShaperError>
+) -> Result<Option<usize>, ShaperError>
     requires { let it = setting_of pass.now in
         sights.now ≡ sights_within it.gdef it.lookup lookup.now 0 }
-    ensures { IfOk result (λ r. nested (setting_of pass.now) lookup.now text.old.items at operations
-        ≡ record { text = text.new.items; end = r.end; left = r.left }) }
+    ensures { IfOk result (λ end.
+        nested (setting_of pass.now) lookup.now text.old.items at lookups.old
+        ≡ record { text = text.new.items; end = end; lookups = lookups.new }) }
 {
     // (`?` would move the rule once more, with the room for its places)
-    match try_at(pass, sights, lookup, text, at) {
-        Ok(Outcome::Nothing) => Ok(Reached {
-            end: None,
-            left: operations,
-        }),
-        Ok(Outcome::Done(next)) => Ok(Reached {
-            end: Some(next),
-            left: operations,
-        }),
-        Ok(Outcome::Fits(rule)) => run(pass, text, rule, operations),
+    match try_at(pass, sights, lookup, text, lookups, at) {
+        Ok(Outcome::Nothing) => Ok(None),
+        Ok(Outcome::Done(next)) => Ok(Some(next)),
+        Ok(Outcome::Fits(rule)) => {
+            let operations = lookups.operations_left;
+            run(pass, text, lookups, rule, operations)
+        }
         Err(e) => Err(e),
     }
 }

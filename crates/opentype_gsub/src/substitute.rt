@@ -4,9 +4,10 @@ ghost use Rattle.opentype_face.specs.Lookups.{lookup_in};
 ghost use Rattle.opentype_layout.specs.Text.{glyph_at};
 ghost use Rattle.opentype_gsub.specs.Presence.{applied_from, is_left};
 ghost use Rattle.shapers_buffer.specs.Buffer.{flags_concat, has_flag};
+ghost use Rattle.shapers_buffer.specs.Refusals.{RefusesLength};
 ghost use Rattle.shapers_buffer.specs.declared.buffer.refusal.ShaperError.TheVariants.{Memory};
 ghost use Rattle.opentype_gsub.specs.Setting.{setting_of};
-ghost use Rattle.opentype_gsub.specs.Substituted.{limit_in, operations_in, substituted};
+ghost use Rattle.opentype_gsub.specs.Substituted.{limit_in, substituted};
 
 use crate::apply_along::apply_along;
 use crate::pass::{LookupUse, Pass};
@@ -16,7 +17,9 @@ use opentype_face::class_table::ClassTable;
 use opentype_face::lookup::subtable_type;
 use opentype_layout::starts::LookupTable;
 use opentype_layout::tables::LayoutTable;
-use shapers_buffer::buffer::{BufferFlags, ShaperError, hb_buffer_t, hb_glyph_info_t};
+use shapers_buffer::buffer::{
+    BufferFlags, LookupRecord, ShaperError, hb_buffer_t, hb_glyph_info_t,
+};
 
 // How many glyphs a text may get.
 #[inline]
@@ -24,14 +27,6 @@ fn limit(len: usize, max_len: usize) -> usize
     ensures { result ≡ limit_in len max_len }
 {
     len.saturating_mul(256).max(65536).min(max_len)
-}
-
-// How many operations a lookup has for a text.
-#[inline]
-fn operations(len: usize) -> usize
-    ensures { result ≡ operations_in len }
-{
-    len.saturating_mul(4096).max(65536)
 }
 
 // Whether flags of concatenation are wanted.
@@ -50,23 +45,18 @@ fn apply_from<'a>(
     table: &LookupTable<'a>,
     first: usize,
     text: &mut Vec<hb_glyph_info_t>,
+    lookups: &mut LookupRecord,
 ) -> Result<(), ShaperError>
-    ensures { OnOk result (text.new.items
-        ≡ applied_from (setting_of pass.now) table.now first text.old.items) }
+    ensures { OnOk result (
+        applied_from (setting_of pass.now) table.now first text.old.items lookups.old
+        ≡ record { text = text.new.items; lookups = lookups.new }) }
 {
     if subtable_type(7, table.bytes(), 0) == 8 {
         apply_backward(pass, table, text);
         return Ok(());
     }
-    let len = text.len();
-    apply_along(
-        pass,
-        table,
-        text,
-        first,
-        len.saturating_sub(first),
-        operations(len),
-    )
+    let steps = text.len().saturating_sub(first);
+    apply_along(pass, table, text, lookups, first, steps)
 }
 
 // A new list of glyphs, in the buffer's room: what a lookup makes of the buffer's from a place on.
@@ -75,16 +65,38 @@ fn apply(
     pass: &Pass<'_>,
     table: &LookupTable<'_>,
     first: usize,
+    lookups: &mut LookupRecord,
     buffer: &mut hb_buffer_t,
 ) -> Result<Vec<hb_glyph_info_t>, ShaperError>
-    ensures text { IfOk result (λ text. text.items
-        ≡ applied_from (setting_of pass.now) table.now first buffer.old.glyphs) }
+    ensures text { IfOk result (λ text.
+        applied_from (setting_of pass.now) table.now first buffer.old.glyphs lookups.old
+        ≡ record { text = text.items; lookups = lookups.new }) }
     ensures same { buffer.new ≡ buffer.old }
 {
     let mut text = buffer.take_list();
     text.extend_from_slice(buffer.glyphs())?;
-    apply_from(pass, table, first, &mut text)?;
+    apply_from(pass, table, first, &mut text, lookups)?;
     Ok(text)
+}
+
+// Puts these glyphs and this record in the place of the buffer's.
+#[inline]
+fn replace(
+    text: Vec<hb_glyph_info_t>,
+    lookups: LookupRecord,
+    buffer: &mut hb_buffer_t,
+) -> Result<(), ShaperError>
+    ensures ok { OnOk result (buffer.new ≡ record buffer.old {
+      glyphs = text.items;
+      positions = [];
+      lookups = lookups;
+    }) }
+    ensures length { RefusesLength buffer.old.max_len (length text.items) result }
+    ensures err { OnErr result (buffer.new ≡ buffer.old) }
+{
+    buffer.replace_glyphs(text)?;
+    buffer.set_lookup_record(lookups);
+    Ok(())
 }
 
 // The same from a place on, before which the lookup can't begin, by its table.
@@ -117,14 +129,17 @@ fn substitute_from(
         limit: limit(len, buffer.max_len()),
         lookup: *lookup_use,
     };
-    match apply(&pass, table, first, buffer) {
-        Ok(text) => buffer.replace_glyphs(text),
+    // (the buffer keeps its record until the glyphs are replaced, since a refusal changes nothing)
+    let mut lookups = buffer.lookup_record();
+    match apply(&pass, table, first, &mut lookups, buffer) {
+        Ok(text) => replace(text, lookups, buffer),
         Err(_) => Err(ShaperError::Memory),
     }
 }
 
 /// Applies a lookup of GSUB, as a plan has it, to a text of glyphs without positions. The text gets
-/// at most `growth` times as long, and never longer than the buffer may get.
+/// at most `growth` times as long, and never longer than the buffer may get. The operations that its
+/// rules take come from the record of the text's lookups, which also says whether any were missing.
 ///
 /// # Errors
 ///

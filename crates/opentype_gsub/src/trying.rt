@@ -5,6 +5,7 @@ ghost use Rattle.opentype_gsub.specs.Looked.{lookup_looked, subtable_looked, tri
 ghost use Rattle.opentype_gsub.specs.Came.{nth_came};
 ghost use Rattle.opentype_gsub.specs.Setting.{setting_of, sights_of};
 ghost use Rattle.opentype_layout.specs.Text.{glyph_at};
+ghost use Rattle.shapers_buffer.specs.declared.buffer.lookup_record.LookupRecord.{LookupRecord};
 
 use crate::apply::{number, value};
 use crate::decided::{alternate, set_of, single};
@@ -26,7 +27,8 @@ fn ligates(
 ) -> bool
     requires { at < length glyphs.now }
     ensures { let s = setting_of pass.now in
-        result ≡ is_some (ligated_put s.gdef s.level sights.now.input bytes.now glyphs.now at) }
+        (r : LookupRecord) → result
+        ≡ is_some (ligated_put s.gdef s.level sights.now.input bytes.now glyphs.now at r) }
 {
     match set_of(bytes, number(glyphs, at)) {
         Some(set) => first_fitting(pass.classes.gdef, &sights.input, set, glyphs, at).is_some(),
@@ -44,8 +46,9 @@ fn alternates(
     at: usize,
 ) -> bool
     requires { at < length glyphs.now }
-    ensures { let s = setting_of pass.now in result ≡ is_some (alternate_put s.gdef bytes.now
-        (chosen_of s.lookup.random sights.now.input (glyph_at glyphs.now at)) glyphs.now at) }
+    ensures { let s = setting_of pass.now in
+        (r : LookupRecord) → result ≡ is_some (alternate_put s.gdef bytes.now
+        (chosen_of s.lookup.random sights.now.input (glyph_at glyphs.now at)) glyphs.now at r) }
 {
     let value = value(pass.lookup.random, &sights.input, &glyphs[at]);
     alternate(bytes, number(glyphs, at), value).is_some()
@@ -63,7 +66,8 @@ fn applies(
 ) -> bool
     requires { at < length glyphs.now }
     ensures { let s = setting_of pass.now in
-        result ≡ is_some (one_put s sights.now.input kind bytes.now glyphs.now at) }
+        (r : LookupRecord) → result
+        ≡ is_some (one_put s sights.now.input kind bytes.now glyphs.now at r) }
 {
     match kind {
         1 => single(bytes, number(glyphs, at)).is_some(),
@@ -86,7 +90,8 @@ fn comes(
 ) -> bool
     requires { at < length glyphs.now }
     ensures { let s = setting_of pass.now in
-        result ≡ is_some (nth_came s sights.now lookup.now at glyphs.now i) }
+        (r : LookupRecord) → result
+        ≡ is_some (nth_came s sights.now lookup.now at glyphs.now r i) }
 {
     let kind = subtable_type(7, lookup, i);
     let bytes = subtable(7, lookup, i);

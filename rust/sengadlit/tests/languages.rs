@@ -4,7 +4,7 @@
 #[path = "common/lookup_font.rs"]
 mod lookup_font;
 
-use lookup_font::{font, words};
+use lookup_font::{font_with_gsub, words};
 use sengadlit::{Direction, Face, Language, PlanCache, ShapePlan, UnicodeBuffer};
 use sengadlit::{script, shape, shape_with_cache, shape_with_plan};
 
@@ -38,14 +38,7 @@ fn substitutions() -> Vec<u8> {
 
 /// The small font with these substitutions.
 fn font_with_languages() -> Vec<u8> {
-    let (mut data, table) = (font(), substitutions());
-    let record = data.windows(4).position(|tag| tag == b"GSUB").unwrap();
-    for (place, number) in [(record + 8, data.len()), (record + 12, table.len())] {
-        let number = u32::try_from(number).unwrap();
-        data[place..place + 4].copy_from_slice(&number.to_be_bytes());
-    }
-    data.extend(table);
-    data
+    font_with_gsub(substitutions())
 }
 
 /// Languages with the glyph that they have for A.

@@ -2,7 +2,7 @@
 
 use super::serialize::Serialized;
 use super::{Face, SerializeFlags, UnicodeBuffer};
-use crate::buffer::{Direction, GlyphInfo, GlyphPosition, ShaperError};
+use crate::buffer::{Direction, GlyphInfo, GlyphPosition, LookupRecord, ShaperError};
 use crate::editing::{ShapedRun, Stretch, TextEdit};
 use core::fmt::Write;
 use rust_alloc::string::{String, ToString};
@@ -32,9 +32,18 @@ impl GlyphBuffer {
     }
 
     /// Whether all was done. Where memory was refused, or the text grew beyond 256 times its length,
-    /// there are no glyphs.
+    /// there are no glyphs. What a font's lookups leave undone is in
+    /// [`lookup_record`](Self::lookup_record).
     pub fn is_complete(&self) -> bool {
         self.is_complete
+    }
+
+    /// What the font's lookups left of the text's operations. The record isn't complete if a rule found
+    /// no operation left, or if glyphs that a lookup adds had no room: a hostile font may do so. Behind
+    /// [`reshape`](Self::reshape) it is the record of what was shaped again, and complete if that of the
+    /// old text was, too.
+    pub fn lookup_record(&self) -> LookupRecord {
+        self.text.buffer.lookup_record()
     }
 
     /// The glyphs: numbers, clusters, and flags for line breakers (`mask & FLAGS`).

@@ -78,11 +78,19 @@ impl GlyphBuffer {
             };
             let Some(widened) = widened else {
                 self.text.buffer.splice(&stretch, edit, &piece)?;
+                self.record_lookups(&piece, stretch.text == (0..text.len()));
                 self.is_complete = true;
                 return Ok(stretch.text);
             };
             stretch = widened;
         }
+    }
+
+    // Keeps the record of the piece's lookups; what was left undone around the piece still is.
+    fn record_lookups(&mut self, piece: &Buffer, is_whole: bool) {
+        let mut record = piece.lookup_record();
+        record.is_complete &= is_whole || self.lookup_record().is_complete;
+        self.text.buffer.set_lookup_record(record);
     }
 
     // Shapes a stretch of the text, with what stands around it as its context.

@@ -44,7 +44,14 @@ pub fn font_without_gpos(more: &[Table]) -> Vec<u8> {
     font_of([&tables()[1..], more].concat())
 }
 
-/// The tables of the font; GPOS is the first.
+/// The font with this table in place of its GSUB.
+pub fn font_with_gsub(gsub: Vec<u8>) -> Vec<u8> {
+    let mut tables = tables();
+    tables[1].1 = gsub;
+    font_of(tables)
+}
+
+/// The tables of the font; GPOS is the first, and GSUB the second.
 fn tables() -> Vec<Table> {
     let mut head = vec![0; 54];
     head[18..20].copy_from_slice(&1000_u16.to_be_bytes());

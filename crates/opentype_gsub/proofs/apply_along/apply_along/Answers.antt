@@ -17,7 +17,7 @@ returns-then-passed-steps c = walked_out _ _ _ _ _ _ _ _ _ c.next_place-place.re
 pub loop-steps-preserved : goal.loop-steps-preserved
 loop-steps-preserved c = walked_next _ _ _ _ _ _ _ _ _ c.next_place-place.result _ _ _ c.loop-steps.invariant
     (still_left (setting_of c.args.pass.now) _ _ _ _ _ (rw c.deref.ensures.value at c.next_place-place.ensures.left))
-    (omega arith) (omega arith) (omega arith) c.in_ok-progress.ensures
+    (omega arith) (omega arith) (omega arith) c.in_ok-at.ensures
 
 pub returns : goal.returns
 returns c = walked_all _ _ _ _ _ _ _ _ _ c.loop-steps.invariant (omega arith)

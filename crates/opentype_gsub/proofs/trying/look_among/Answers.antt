@@ -8,13 +8,13 @@ loop-i-init c = looking_start _ _ _ _ _ c.none-looked.ensures
 
 pub loop-i-preserved : goal.loop-i-preserved
 loop-i-preserved c = looking_next _ _ _ _ _ _ _ c.loop-i.invariant (omega arith)
-    (sym c.comes.ensures ∙ c.if-comes.false)
+    (sym (c.comes.ensures _) ∙ c.if-comes.false)
     (c.join-looked.ensures ∙ ap (spanned c.loop-i.looked) c.look_by.ensures)
 
 pub returns-then-comes : goal.returns-then-comes
 unfolding lookup_looked
 returns-then-comes c = looking_fit _ _ _ _ _ _ _ c.loop-i.invariant (omega arith)
-    (sym c.comes.ensures ∙ c.if-comes.true)
+    (sym (c.comes.ensures _) ∙ c.if-comes.true)
     (c.join-looked.ensures ∙ ap (spanned c.loop-i.looked) c.look_by.ensures)
 
 pub returns : goal.returns

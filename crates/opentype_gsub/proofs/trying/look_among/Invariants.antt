@@ -1,12 +1,10 @@
-use Rattle.std.proofs.Common.{is_some}
 use Rattle.opentype_face.specs.Bytes.{u16_in}
-use Rattle.opentype_gsub.specs.Came.{nth_came}
-use Rattle.opentype_gsub.specs.Looked.{nothing, subtable_looked}
+use Rattle.opentype_gsub.specs.Looked.{nothing, nth_comes, subtable_looked}
 use Rattle.opentype_gsub.specs.Setting.{setting_of}
 use Rattle.opentype_gsub.proofs.Lookings.{IsLooking}
 use Rattle.opentype_gsub.proofs.trying.look_among.Given as goal
 
 abbrev pub invariant-loop-i : goal.invariant-loop-i
 invariant-loop-i l =
-    IsLooking (λ i. is_some (nth_came (setting_of l.pass) l.sights l.lookup l.at l.glyphs i))
+    IsLooking (nth_comes (setting_of l.pass) l.sights l.lookup l.at l.glyphs)
     (subtable_looked (setting_of l.pass) l.sights l.lookup l.glyphs l.at) (u16_in l.lookup 4) (nothing l.at) l.i l.looked

@@ -13,10 +13,12 @@ use crate::generated::opentype_gsub::matching::{Fitting, first_fitting};
 use crate::generated::opentype_gsub::pass::Pass;
 use crate::generated::opentype_layout::sight::Sight;
 use crate::generated::opentype_layout::substitution_tables::SubtableAt;
-use crate::generated::shapers_buffer::buffer::{BufferClusterLevel, GlyphInfo, ShaperError};
+use crate::generated::shapers_buffer::buffer::{
+    BufferClusterLevel, GlyphInfo, LookupRecord, ShaperError,
+};
 
 /// Puts the glyphs of a sequence in for one, and returns the place behind them. More than the text
-/// may get aren't put in.
+/// may get aren't put in, and the record of its lookups says so.
 ///
 /// # Errors
 ///
@@ -28,8 +30,8 @@ use crate::generated::shapers_buffer::buffer::{BufferClusterLevel, GlyphInfo, Sh
 ///
 /// ```text
 /// requires here { at < length text.old.items }
-/// ensures { IfOk result (λ next. (sequence_put (setting_of pass.now) at text.old.items sequence.now)
-///     ≡ record { text = text.new.items; next = next }) }
+/// ensures { IfOk result (λ next. sequence_put (setting_of pass.now) at text.old.items lookups.old
+///     sequence.now ≡ record { text = text.new.items; next = next; lookups = lookups.new }) }
 /// ```
 ///
 /// - `sequence_put`: `crates/opentype_gsub/specs/Applied.antt`
@@ -41,6 +43,7 @@ use crate::generated::shapers_buffer::buffer::{BufferClusterLevel, GlyphInfo, Sh
 pub fn put_sequence(
     pass: &Pass<'_>,
     text: &mut Vec<GlyphInfo>,
+    lookups: &mut LookupRecord,
     at: usize,
     sequence: &[u8],
 ) -> Result<usize, ShaperError> {
@@ -54,6 +57,7 @@ pub fn put_sequence(
         return Ok(at + 1);
     }
     if usize::from(count) - 1 > pass.limit.saturating_sub(text.len()) {
+        lookups.is_complete = false;
         return Ok(at + 1);
     }
     multiply(&pass.classes, text, at, sequence)?;
@@ -104,10 +108,11 @@ fn apply_multiple(
     bytes: &[u8],
     place: Option<u32>,
     text: &mut Vec<GlyphInfo>,
+    lookups: &mut LookupRecord,
     at: usize,
 ) -> Result<Option<usize>, ShaperError> {
     match set_by(bytes, place) {
-        Some(sequence) => Ok(Some(put_sequence(pass, text, at, sequence)?)),
+        Some(sequence) => Ok(Some(put_sequence(pass, text, lookups, at, sequence)?)),
         None => Ok(None),
     }
 }
@@ -176,8 +181,8 @@ pub(crate) fn value(random: bool, sight: &Sight, glyph: &GlyphInfo) -> u32 {
 ///   bytes = subtable.now.bytes.now;
 /// }) (two_byte_number text.old.items at) }
 /// ensures { IfOk result (λ next. IsChange (one_put (setting_of pass.now) sight.now
-///     subtable.now.kind subtable.now.bytes.now text.old.items at) text.old.items text.new.items
-///     next) }
+///     subtable.now.kind subtable.now.bytes.now text.old.items at lookups.old) text.old.items
+///     lookups.old text.new.items lookups.new next) }
 /// ```
 ///
 /// - `IsChange`, `one_put`, `two_byte_number`: `crates/opentype_gsub/specs/Applied.antt`
@@ -193,12 +198,13 @@ pub fn apply_one(
     sight: &Sight,
     subtable: &SubtableAt<'_>,
     text: &mut Vec<GlyphInfo>,
+    lookups: &mut LookupRecord,
     at: usize,
 ) -> Result<Option<usize>, ShaperError> {
     let (bytes, place) = (subtable.bytes, subtable.place);
     match subtable.kind {
         1 => Ok(apply_single(&pass.classes, bytes, place, text, at)),
-        2 => apply_multiple(pass, bytes, place, text, at),
+        2 => apply_multiple(pass, bytes, place, text, lookups, at),
         3 => {
             let value = value(pass.lookup.random, sight, &text[at]);
             Ok(apply_alternate(

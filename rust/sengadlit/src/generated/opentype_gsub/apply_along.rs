@@ -8,41 +8,29 @@ use crate::generated::opentype_gsub::machine::apply_nested;
 use crate::generated::opentype_gsub::pass::{Pass, Sights};
 use crate::generated::opentype_gsub::presence::next_place;
 use crate::generated::opentype_layout::starts::LookupTable;
-use crate::generated::shapers_buffer::buffer::{GlyphInfo, ShaperError};
+use crate::generated::shapers_buffer::buffer::{GlyphInfo, LookupRecord, ShaperError};
 
-/// How far a lookup has come.
-#[derive(Clone, Copy, Debug)]
-struct Progress {
-    // the next place
-    next: usize,
-    // how many operations are left
-    left: usize,
-}
-
-// What a lookup does at a place.
+// What a lookup does at a place; the next place.
 #[inline]
 fn step<'a>(
     pass: &Pass<'a>,
     sights: &Sights,
     lookup: &LookupTable<'a>,
     text: &mut Vec<GlyphInfo>,
+    lookups: &mut LookupRecord,
     at: usize,
-    left: usize,
-) -> Result<Progress, ShaperError> {
-    let next = at + 1;
+) -> Result<usize, ShaperError> {
     if !pass.lookup.sees_by(pass.classes.gdef, sights, &text[at]) {
-        return Ok(Progress { next, left });
+        return Ok(at + 1);
     }
-    let reached = apply_nested(pass, sights, lookup, text, at, left)?;
-    let left = reached.left;
-    match reached.end {
-        Some(next) => Ok(Progress { next, left }),
-        None => Ok(Progress { next, left }),
+    match apply_nested(pass, sights, lookup, text, lookups, at)? {
+        Some(next) => Ok(next),
+        None => Ok(at + 1),
     }
 }
 
-/// Applies a lookup by its table along a text from a place on, in at most so many steps, and so many
-/// operations.
+/// Applies a lookup by its table along a text from a place on, in at most so many steps, and with the
+/// operations that the text has left.
 ///
 /// # Errors
 ///
@@ -53,8 +41,9 @@ fn step<'a>(
 /// # Contract
 ///
 /// ```text
-/// ensures { OnOk result (text.new.items
-///     ≡ lookup_applied steps (lookup_stepped (setting_of pass.now) lookup.now) text.old.items first operations) }
+/// ensures { OnOk result (lookup_applied steps (lookup_stepped (setting_of pass.now) lookup.now)
+///     text.old.items first lookups.old
+///     ≡ record { text = text.new.items; lookups = lookups.new }) }
 /// ```
 ///
 /// - `lookup_applied`, `lookup_stepped`: `crates/opentype_gsub/specs/Along.antt`
@@ -68,14 +57,14 @@ pub fn apply_along<'a>(
     pass: &Pass<'a>,
     lookup: &LookupTable<'a>,
     text: &mut Vec<GlyphInfo>,
+    lookups: &mut LookupRecord,
     first: usize,
     steps: usize,
-    operations: usize,
 ) -> Result<(), ShaperError> {
     let sights = pass
         .lookup
         .sights_within(pass.classes.gdef, lookup.bytes(), 0);
-    let (mut at, mut left, mut steps) = (first, operations, steps);
+    let (mut at, mut steps) = (first, steps);
     while steps > 0 {
         let place = next_place(&pass.lookup, lookup, text, at);
         if place >= text.len() {
@@ -85,10 +74,8 @@ pub fn apply_along<'a>(
         if passed >= steps {
             return Ok(());
         }
-        let progress = step(pass, &sights, lookup, text, place, left)?;
+        at = step(pass, &sights, lookup, text, lookups, place)?;
         steps -= passed + 1;
-        at = progress.next;
-        left = progress.left;
     }
     Ok(())
 }

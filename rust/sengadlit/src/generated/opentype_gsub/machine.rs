@@ -13,7 +13,7 @@ use crate::generated::opentype_gsub::shifting::Rule;
 use crate::generated::opentype_gsub::trying::flag_tried;
 use crate::generated::opentype_layout::rules::{Matched, find_rule};
 use crate::generated::opentype_layout::starts::LookupTable;
-use crate::generated::shapers_buffer::buffer::{GlyphInfo, ShaperError};
+use crate::generated::shapers_buffer::buffer::{GlyphInfo, LookupRecord, ShaperError};
 use crate::support::arrayvec::ArrayVec;
 use core::mem;
 
@@ -52,6 +52,7 @@ fn come_by<'a>(
     lookup: &LookupTable<'a>,
     i: u16,
     text: &mut Vec<GlyphInfo>,
+    lookups: &mut LookupRecord,
     at: usize,
 ) -> Result<Outcome<'a>, ShaperError> {
     let subtable = lookup.subtable(i);
@@ -77,6 +78,7 @@ fn come_by<'a>(
         &sights.input,
         &subtable.at(number(text, at)),
         text,
+        lookups,
         at,
     )? {
         Some(next) => Ok(Outcome::Done(next)),
@@ -90,6 +92,7 @@ fn come_among<'a>(
     sights: &Sights,
     lookup: &LookupTable<'a>,
     text: &mut Vec<GlyphInfo>,
+    lookups: &mut LookupRecord,
     at: usize,
 ) -> Result<Outcome<'a>, ShaperError> {
     let bytes = lookup.bytes();
@@ -98,7 +101,7 @@ fn come_among<'a>(
         let Some(i) = lookup.next_start(false, number(text, at), from) else {
             return Ok(Outcome::Nothing);
         };
-        match come_by(pass, sights, lookup, i, text, at) {
+        match come_by(pass, sights, lookup, i, text, lookups, at) {
             Ok(Outcome::Nothing) => from = i + 1,
             Ok(Outcome::Done(next)) => return Ok(Outcome::Done(next)),
             Ok(Outcome::Fits(rule)) => return Ok(Outcome::Fits(rule)),
@@ -120,13 +123,14 @@ fn come_to<'a>(
     sights: &Sights,
     lookup: &LookupTable<'a>,
     text: &mut Vec<GlyphInfo>,
+    lookups: &mut LookupRecord,
     at: usize,
 ) -> Result<Outcome<'a>, ShaperError> {
     if at >= text.len() {
         return Ok(Outcome::Nothing);
     }
     let seen = seen_from(pass, sights, text, at);
-    come_among(pass, &seen, lookup, text, at)
+    come_among(pass, &seen, lookup, text, lookups, at)
 }
 
 // The same behind the flags of what is tried in vain.
@@ -135,16 +139,18 @@ fn try_at<'a>(
     sights: &Sights,
     lookup: &LookupTable<'a>,
     text: &mut Vec<GlyphInfo>,
+    lookups: &mut LookupRecord,
     at: usize,
 ) -> Result<Outcome<'a>, ShaperError> {
     flag_tried(pass, lookup.bytes(), text, at);
-    come_to(pass, sights, lookup, text, at)
+    come_to(pass, sights, lookup, text, lookups, at)
 }
 
 // Applies the next lookup of a rule; the rule that fits there, if one does.
 fn call<'a>(
     pass: &Pass<'a>,
     text: &mut Vec<GlyphInfo>,
+    lookups: &mut LookupRecord,
     rule: &mut Rule<'a>,
 ) -> Result<Option<Rule<'a>>, ShaperError> {
     let record = usize::from(rule.next) * 4;
@@ -160,7 +166,7 @@ fn call<'a>(
     let sights = pass
         .lookup
         .sights_within(pass.classes.gdef, called.bytes(), 0);
-    match try_at(pass, &sights, &called, text, place) {
+    match try_at(pass, &sights, &called, text, lookups, place) {
         Ok(Outcome::Nothing) => Ok(None),
         Ok(Outcome::Done(_)) => {
             rule.shift_behind(text.len());
@@ -201,54 +207,43 @@ fn go_deeper<'a>(called: Rule<'a>, rule: &mut Rule<'a>, callers: &mut Callers<'a
 fn step<'a>(
     pass: &Pass<'a>,
     text: &mut Vec<GlyphInfo>,
+    lookups: &mut LookupRecord,
     rule: &mut Rule<'a>,
     callers: &mut Callers<'a>,
 ) -> Result<Option<usize>, ShaperError> {
     if rule.next >= rule.count {
         return Ok(end_rule(text.len(), rule, callers));
     }
-    if let Some(called) = call(pass, text, rule)? {
+    if let Some(called) = call(pass, text, lookups, rule)? {
         go_deeper(called, rule, callers);
     }
     Ok(None)
 }
 
-/// What a lookup came to at a place, with all that its rules apply.
-#[derive(Clone, Copy, Debug)]
-pub struct Reached {
-    /// The place behind what was done, if it fits.
-    pub end: Option<usize>,
-    /// How many operations are left.
-    pub left: usize,
-}
-
-// The machine, in at most so many turns, from a rule on that another one called. (Its stack of 36 KB
-// is no part of functions that run for each glyph.)
+// The machine with so many operations, from a rule on that another one called; the place behind what
+// was done. (Its stack of 36 KB is no part of functions that run for each glyph.)
 #[inline(never)]
 fn run_called<'a>(
     pass: &Pass<'a>,
     text: &mut Vec<GlyphInfo>,
+    lookups: &mut LookupRecord,
     caller: Rule<'a>,
     called: Rule<'a>,
     operations: usize,
-) -> Result<Reached, ShaperError> {
+) -> Result<Option<usize>, ShaperError> {
     let mut rule = called;
     let mut callers = Callers::new();
     callers.push(Some(caller));
     for done in 0..operations {
-        match step(pass, text, &mut rule, &mut callers) {
-            Ok(Some(end)) => {
-                let left = operations - (done + 1);
-                return Ok(Reached {
-                    end: Some(end),
-                    left,
-                });
-            }
+        lookups.operations_left = operations - (done + 1);
+        match step(pass, text, lookups, &mut rule, &mut callers) {
+            Ok(Some(end)) => return Ok(Some(end)),
             Ok(None) => {}
             Err(e) => return Err(e),
         }
     }
-    Ok(Reached { end: None, left: 0 })
+    lookups.is_complete = false;
+    Ok(None)
 }
 
 // The same from a rule on that no other one called. (Most rules call none, and need no stack. Apart from
@@ -257,28 +252,31 @@ fn run_called<'a>(
 fn run<'a>(
     pass: &Pass<'a>,
     text: &mut Vec<GlyphInfo>,
+    lookups: &mut LookupRecord,
     rule: Rule<'a>,
     operations: usize,
-) -> Result<Reached, ShaperError> {
+) -> Result<Option<usize>, ShaperError> {
     let mut rule = rule;
     for done in 0..operations {
         let left = operations - (done + 1);
+        lookups.operations_left = left;
         if rule.next >= rule.count {
-            let end = Some(rule.end);
-            return Ok(Reached { end, left });
+            return Ok(Some(rule.end));
         }
-        match call(pass, text, &mut rule) {
-            Ok(Some(called)) => return run_called(pass, text, rule, called, left),
+        match call(pass, text, lookups, &mut rule) {
+            Ok(Some(called)) => return run_called(pass, text, lookups, rule, called, left),
             Ok(None) => {}
             Err(e) => return Err(e),
         }
     }
-    Ok(Reached { end: None, left: 0 })
+    lookups.is_complete = false;
+    Ok(None)
 }
 
-/// Applies a lookup by its table at a place, and the lookups that its rules apply, in at most so
-/// many operations: each call of a lookup is one, and so is the end of a rule. What the table sees is
-/// the same at each place of a text.
+/// Applies a lookup by its table at a place, and the lookups that its rules apply, with the operations
+/// that the text has left: each call of a lookup is one, and so is the end of a rule. It returns the
+/// place behind what was done, if the lookup fits. What the table sees is the same at each place of a
+/// text.
 ///
 /// # Errors
 ///
@@ -291,8 +289,9 @@ fn run<'a>(
 /// ```text
 /// requires { let it = setting_of pass.now in
 ///     sights.now ≡ sights_within it.gdef it.lookup lookup.now 0 }
-/// ensures { IfOk result (λ r. nested (setting_of pass.now) lookup.now text.old.items at operations
-///     ≡ record { text = text.new.items; end = r.end; left = r.left }) }
+/// ensures { IfOk result (λ end.
+///     nested (setting_of pass.now) lookup.now text.old.items at lookups.old
+///     ≡ record { text = text.new.items; end = end; lookups = lookups.new }) }
 /// ```
 ///
 /// - `nested`: `crates/opentype_gsub/specs/Machine.antt`
@@ -307,20 +306,17 @@ pub fn apply_nested<'a>(
     sights: &Sights,
     lookup: &LookupTable<'a>,
     text: &mut Vec<GlyphInfo>,
+    lookups: &mut LookupRecord,
     at: usize,
-    operations: usize,
-) -> Result<Reached, ShaperError> {
+) -> Result<Option<usize>, ShaperError> {
     // (`?` would move the rule once more, with the room for its places)
-    match try_at(pass, sights, lookup, text, at) {
-        Ok(Outcome::Nothing) => Ok(Reached {
-            end: None,
-            left: operations,
-        }),
-        Ok(Outcome::Done(next)) => Ok(Reached {
-            end: Some(next),
-            left: operations,
-        }),
-        Ok(Outcome::Fits(rule)) => run(pass, text, rule, operations),
+    match try_at(pass, sights, lookup, text, lookups, at) {
+        Ok(Outcome::Nothing) => Ok(None),
+        Ok(Outcome::Done(next)) => Ok(Some(next)),
+        Ok(Outcome::Fits(rule)) => {
+            let operations = lookups.operations_left;
+            run(pass, text, lookups, rule, operations)
+        }
         Err(e) => Err(e),
     }
 }

@@ -12,18 +12,14 @@ use crate::generated::opentype_gsub::presence::first_place;
 use crate::generated::opentype_gsub::reverse::apply_backward;
 use crate::generated::opentype_layout::starts::LookupTable;
 use crate::generated::opentype_layout::tables::LayoutTable;
-use crate::generated::shapers_buffer::buffer::{Buffer, BufferFlags, GlyphInfo, ShaperError};
+use crate::generated::shapers_buffer::buffer::{
+    Buffer, BufferFlags, GlyphInfo, LookupRecord, ShaperError,
+};
 
 // How many glyphs a text may get.
 #[inline]
 fn limit(len: usize, max_len: usize) -> usize {
     len.saturating_mul(256).max(65536).min(max_len)
-}
-
-// How many operations a lookup has for a text.
-#[inline]
-fn operations(len: usize) -> usize {
-    len.saturating_mul(4096).max(65536)
 }
 
 // Whether flags of concatenation are wanted.
@@ -39,20 +35,14 @@ fn apply_from<'a>(
     table: &LookupTable<'a>,
     first: usize,
     text: &mut Vec<GlyphInfo>,
+    lookups: &mut LookupRecord,
 ) -> Result<(), ShaperError> {
     if subtable_type(7, table.bytes(), 0) == 8 {
         apply_backward(pass, table, text);
         return Ok(());
     }
-    let len = text.len();
-    apply_along(
-        pass,
-        table,
-        text,
-        first,
-        len.saturating_sub(first),
-        operations(len),
-    )
+    let steps = text.len().saturating_sub(first);
+    apply_along(pass, table, text, lookups, first, steps)
 }
 
 // A new list of glyphs, in the buffer's room: what a lookup makes of the buffer's from a place on.
@@ -61,12 +51,25 @@ fn apply(
     pass: &Pass<'_>,
     table: &LookupTable<'_>,
     first: usize,
+    lookups: &mut LookupRecord,
     buffer: &mut Buffer,
 ) -> Result<Vec<GlyphInfo>, ShaperError> {
     let mut text = buffer.take_list();
     text.extend_from_slice(buffer.glyphs())?;
-    apply_from(pass, table, first, &mut text)?;
+    apply_from(pass, table, first, &mut text, lookups)?;
     Ok(text)
+}
+
+// Puts these glyphs and this record in the place of the buffer's.
+#[inline]
+fn replace(
+    text: Vec<GlyphInfo>,
+    lookups: LookupRecord,
+    buffer: &mut Buffer,
+) -> Result<(), ShaperError> {
+    buffer.replace_glyphs(text)?;
+    buffer.set_lookup_record(lookups);
+    Ok(())
 }
 
 // The same from a place on, before which the lookup can't begin, by its table.
@@ -89,14 +92,17 @@ fn substitute_from(
         limit: limit(len, buffer.max_len()),
         lookup: *lookup_use,
     };
-    match apply(&pass, table, first, buffer) {
-        Ok(text) => buffer.replace_glyphs(text),
+    // (the buffer keeps its record until the glyphs are replaced, since a refusal changes nothing)
+    let mut lookups = buffer.lookup_record();
+    match apply(&pass, table, first, &mut lookups, buffer) {
+        Ok(text) => replace(text, lookups, buffer),
         Err(_) => Err(ShaperError::Memory),
     }
 }
 
 /// Applies a lookup of GSUB, as a plan has it, to a text of glyphs without positions. The text gets
-/// at most `growth` times as long, and never longer than the buffer may get.
+/// at most `growth` times as long, and never longer than the buffer may get. The operations that its
+/// rules take come from the record of the text's lookups, which also says whether any were missing.
 ///
 /// # Errors
 ///
