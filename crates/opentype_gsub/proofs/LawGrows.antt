@@ -1,8 +1,9 @@
 -- By how much a lookup makes a text longer: not at all, where none of its subtables may add glyphs.
-use Rattle.std.proofs.Common.{inl, inr, ◌⊎◌, ◌≡◌, ℕ, zero, suc, ◌+◌, ◌*◌, ◌<◌, ◌≤◌, ◌==◌, ◌||◌, Bool, true, false, nat_lt, Option, None, Some, List, length, refl, subst, arith, if◌then◌else◌}
+use Rattle.std.proofs.Common.{inl, inr, ◌⊎◌, ◌≡◌, ℕ, zero, suc, ◌+◌, ◌*◌, ◌%◌, ◌<◌, ◌≤◌, ◌==◌, ◌||◌, Bool, true, false, nat_lt, Option, None, Some, List, length, refl, subst, arith, if◌then◌else◌}
 use Rattle.std.specs.Option.{is_some, option_map}
 use Rattle.std.proofs.lemmas.Bool.{ltb-true}
 use Rattle.shapers_buffer.specs.Buffer.{Buffer}
+use Rattle.shapers_buffer.specs.GlyphFlags.{unsafe_inside}
 use Rattle.shapers_buffer.specs.Glyphs.{Glyphs}
 use Rattle.shapers_buffer.specs.declared.buffer.lookup_record.LookupRecord.{LookupRecord}
 use Rattle.opentype_face.specs.Bytes.{u16_in}
@@ -10,7 +11,8 @@ use Rattle.opentype_face.specs.Lookups.{lookup_in, subtable_in, type_in}
 use Rattle.opentype_face.specs.Firsts.{first_from, or_else}
 use Rattle.opentype_layout.specs.Text.{glyph_at}
 use Rattle.opentype_layout.specs.declared.sight.Sight.{Sight}
-use Rattle.opentype_gsub.specs.Applied.{PlaceChange, alternate_put, ligated_put, ligature_put, one_put, put_in, single_put}
+use Rattle.opentype_gsub.specs.Applied.{PlaceChange, alternate_put, chosen_put, is_random, ligated_put, ligature_put, one_put, put_in, next_state, random_of, random_put, single_put, two_byte_number}
+use Rattle.opentype_gsub.specs.Decided.{set_for_glyph}
 use Rattle.opentype_gsub.specs.Growth.{adding, growth_in, may_add}
 use Rattle.opentype_gsub.specs.Ligatures.{nth_ligature}
 use Rattle.opentype_gsub.specs.Came.{Begun, Frame, came_in, nth_came}
@@ -25,7 +27,7 @@ use Rattle.opentype_gsub.proofs.LawKeeps.{ForEach, AreWithin, each_when, first_e
 use Rattle.opentype_gsub.specs.Flagged.{unbroken}
 use Rattle.opentype_gsub.specs.Looked.{tried}
 use Rattle.opentype_gsub.specs.declared.reverse.Reversal.{Reversal}
-use Rattle.opentype_gsub.proofs.Unbroken.{tried_back_same, tried_same, unbroken_same}
+use Rattle.opentype_gsub.proofs.Unbroken.{all_unbroken_same, tried_back_same, tried_same, unbroken_same}
 use Rattle.opentype_gsub.proofs.LigatureKeeps.{same_length}
 use Rattle.opentype_gsub.proofs.Lengths.{ligated_few, put_few}
 
@@ -93,13 +95,24 @@ ligature_less : (s : Setting) (at : ℕ) (gs : Glyphs) (r : LookupRecord) (it : 
 ligature_less s at gs r it lt all = if_less gs (length it.1 == 0) _ _ (put_few s.gdef at gs it.0)
     (ligated_few s.level s.gdef at it.0 it.1 gs (last_within (length gs) at it.1 lt all))
 
+random_less : (s : Setting) (at : ℕ) (gs : Glyphs) (r : LookupRecord) (set : List ℕ) →
+    ForEach (Lessens gs) (random_of s.gdef at gs r set)
+random_less s at gs r set = let flagged = unsafe_inside 0 (length gs) gs in
+    if_each (Lessens gs) (u16_in set 0 == 0) None _ tt
+    (let count = u16_in set 0 in
+    let to = u16_in set ((next_state r.random_state % count + 1) * 2) in
+    omega (arith, put_few s.gdef at flagged to, same_length flagged gs (all_unbroken_same gs)))
+
 one_less : (s : Setting) (sight : Sight) (kind : ℕ) (bytes : List ℕ) (gs : Glyphs) (at : ℕ) (r : LookupRecord) → at < length gs →
     (kind == 2) ≡ false → ForEach (Lessens gs) (one_put s sight kind bytes gs at r)
-unfolding one_put single_put alternate_put ligated_put
+unfolding one_put single_put alternate_put random_put chosen_put ligated_put
 one_less s sight kind bytes gs at r lt not_two =
     if_each (Lessens gs) (kind == 1) _ _ (each_mapped (Lessens gs) (put_in s.gdef at gs r) _ (put_few s.gdef at gs))
     (second (Lessens gs) (kind == 2) _ _ not_two
-    (if_each (Lessens gs) (kind == 3) _ _ (each_mapped (Lessens gs) (put_in s.gdef at gs r) _ (put_few s.gdef at gs))
+    (if_each (Lessens gs) (kind == 3) _ _
+    (if_each (Lessens gs) (is_random s.lookup.random sight (glyph_at gs at)) _ _
+    (then_each (Lessens gs) (random_of s.gdef at gs r) (set_for_glyph bytes (two_byte_number gs at)) (random_less s at gs r))
+    (each_mapped (Lessens gs) (put_in s.gdef at gs r) _ (put_few s.gdef at gs)))
     (if_each (Lessens gs) (kind == 4) _ None
     (then_each (Lessens gs) _ _ (λ set. mapped_if (AreWithin (length gs)) (Lessens gs)
     (ligature_put s.gdef s.level at gs r) _

@@ -3,10 +3,12 @@ use Rattle.std.proofs.Common.{◌||◌, subst, inl, inr, ◌⊎◌, ◌≡◌, �
 use Rattle.std.specs.List.{AllByRecursion, list_any}
 use Rattle.std.specs.Option.{option_and_then, option_map}
 use Rattle.std.proofs.lemmas.Bool.{ltb-true}
+use Rattle.shapers_buffer.specs.GlyphFlags.{unsafe_inside}
 use Rattle.shapers_buffer.specs.Glyphs.{Glyphs}
 use Rattle.shapers_buffer.specs.declared.buffer.lookup_record.LookupRecord.{LookupRecord}
 use Rattle.opentype_face.specs.Bytes.{u16_in, table_at}
 use Rattle.opentype_gsub.specs.Kept.{KeepsTextClusters}
+use Rattle.opentype_gsub.specs.Decided.{set_for_glyph}
 use Rattle.opentype_gsub.specs.Edits.{last_place, replaced}
 use Rattle.opentype_layout.specs.Text.{glyph_at}
 use Rattle.opentype_face.specs.Firsts.{first_from, or_else}
@@ -14,7 +16,7 @@ use Rattle.opentype_layout.specs.Sight.{is_hit, is_passed, next_from}
 use Rattle.opentype_layout.specs.Pattern.{is_number, next_in, places_from, seen_by}
 use Rattle.opentype_layout.specs.Ligatures.{if_together, input_in, is_apart}
 use Rattle.opentype_gsub.specs.Ligatures.{nth_ligature, ligature_of}
-use Rattle.opentype_gsub.specs.Applied.{PlaceChange, alternate_put, ligated_put, ligature_put, multiple_put, one_put, put_in, sequence_put, single_put}
+use Rattle.opentype_gsub.specs.Applied.{PlaceChange, alternate_put, chosen_put, is_random, ligated_put, ligature_put, multiple_put, one_put, put_in, random_of, random_put, sequence_put, single_put, two_byte_number}
 use Rattle.opentype_gsub.specs.Came.{Begun, Frame, begun, came_in, nth_came}
 use Rattle.opentype_gsub.specs.Machine.{AfterCall, Nested, MachineStep, lookup_called, called_by, ended, goes_on_with, nested, step_pushed, ran, started, machine_stepped, with_left}
 use Rattle.opentype_gsub.specs.Setting.{Setting, is_seen, sights_of}
@@ -34,7 +36,7 @@ use Rattle.opentype_layout.specs.declared.sight.Sight.{Sight}
 use Rattle.opentype_gsub.specs.Flagged.{unbroken}
 use Rattle.opentype_gsub.specs.Looked.{tried}
 use Rattle.opentype_gsub.specs.declared.reverse.Reversal.{Reversal}
-use Rattle.opentype_gsub.proofs.Unbroken.{tried_back_same, tried_same, unbroken_same}
+use Rattle.opentype_gsub.proofs.Unbroken.{all_unbroken_same, tried_back_same, tried_same, unbroken_same}
 use Rattle.opentype_gsub.proofs.LigatureKeeps.{same_length}
 use Rattle.opentype_gsub.proofs.Kept.{itself, kept_then, same}
 use Rattle.opentype_gsub.proofs.Lengths.{ligated_few, put_few, sequence_few}
@@ -204,15 +206,27 @@ ligature_keeps s at gs r it lt all = if_keeps s gs (length it.1 == 0) _ _ (in_ke
     (let in_it = last_within (length gs) at it.1 lt all in
     no_longer s gs _ (ligated_keeps s.level s.gdef at it.0 it.1 gs in_it) (ligated_few s.level s.gdef at it.0 it.1 gs in_it))
 
+-- an alternate at random
+random_keeps : (s : Setting) (at : ℕ) (gs : Glyphs) (r : LookupRecord) (set : List ℕ) →
+    ForEach (ChangeKeeps s gs) (random_of s.gdef at gs r set)
+random_keeps s at gs r set = let flagged = unsafe_inside 0 (length gs) gs in
+    let kept = all_unbroken_same gs in
+    if_each (ChangeKeeps s gs) (u16_in set 0 == 0) None _ tt
+    (keeps_then s gs flagged _ (no_longer s gs _ (same s.level gs _ kept) (omega (arith, same_length flagged gs kept)))
+    (in_keeps s at flagged _))
+
 one_keeps : (s : Setting) (sight : Sight) (kind : ℕ) (bytes : List ℕ) (gs : Glyphs) (at : ℕ) (r : LookupRecord) → at < length gs →
     ForEach (ChangeKeeps s gs) (one_put s sight kind bytes gs at r)
-unfolding one_put single_put multiple_put alternate_put ligated_put
+unfolding one_put single_put multiple_put alternate_put random_put chosen_put ligated_put
 one_keeps s sight kind bytes gs at r lt =
     if_each (ChangeKeeps s gs) (kind == 1) _ _ (each_mapped (ChangeKeeps s gs) (put_in s.gdef at gs r) _ (in_keeps s at gs))
     (if_each (ChangeKeeps s gs) (kind == 2) _ _
     (each_mapped (ChangeKeeps s gs) (sequence_put s at gs r) _
     (λ sequence. record { kept = sequence_keeps s at gs r sequence lt; few = sequence_few s at gs r sequence lt }))
-    (if_each (ChangeKeeps s gs) (kind == 3) _ _ (each_mapped (ChangeKeeps s gs) (put_in s.gdef at gs r) _ (in_keeps s at gs))
+    (if_each (ChangeKeeps s gs) (kind == 3) _ _
+    (if_each (ChangeKeeps s gs) (is_random s.lookup.random sight (glyph_at gs at)) _ _
+    (then_each (ChangeKeeps s gs) (random_of s.gdef at gs r) (set_for_glyph bytes (two_byte_number gs at)) (random_keeps s at gs r))
+    (each_mapped (ChangeKeeps s gs) (put_in s.gdef at gs r) _ (in_keeps s at gs)))
     (if_each (ChangeKeeps s gs) (kind == 4) _ None
     (then_each (ChangeKeeps s gs) _ _ (λ set. mapped_if (AreWithin (length gs)) (ChangeKeeps s gs)
     (ligature_put s.gdef s.level at gs r) _

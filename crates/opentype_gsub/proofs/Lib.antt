@@ -9,6 +9,7 @@ mod FlagRows
 mod SightRows
 mod PresenceRows
 mod LookedRows
+mod RandomRows
 pub mod Unbroken
 pub mod Pairs
 pub mod Kept

@@ -25,6 +25,10 @@ unbroken_same old_len start stop gs = let end = min (length gs) stop in
     flag_if (nat_le start end && is_short (end - start) old_len (length gs)) start end gs
     (λ t. grind (arith, common_steps, t))
 
+-- a whole text
+pub all_unbroken_same : (gs : Glyphs) → clusters (unsafe_inside 0 (length gs) gs) ≡ clusters gs
+all_unbroken_same gs = map-unsafe_inside (λ g. g.cluster) (λ g. refl) 0 (length gs) gs (omega arith)
+
 join_if : (test : Bool) (s e : ℕ) (gs : Glyphs) → (test ≡ true → s ≤ e) →
     clusters (if test then unsafe_to_concat_in true s e gs else gs) ≡ clusters gs
 join_if true s e gs h = map-unsafe_to_concat_in (λ g. g.cluster) (λ g. refl) true s e gs (h refl)

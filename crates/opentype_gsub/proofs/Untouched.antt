@@ -18,7 +18,7 @@ use Rattle.opentype_face.specs.Lookups.{lookup_in, subtable_in, type_in}
 use Rattle.opentype_layout.specs.Rules.{first_at}
 use Rattle.opentype_layout.specs.Text.{glyph_at}
 use Rattle.opentype_layout.specs.declared.sight.Sight.{Sight}
-use Rattle.opentype_gsub.specs.Applied.{PlaceChange, alternate_put, ligated_put, multiple_put, one_put, single_put, two_byte_number}
+use Rattle.opentype_gsub.specs.Applied.{PlaceChange, alternate_put, chosen_put, is_random, ligated_put, multiple_put, one_put, random_put, single_put, two_byte_number, value_of}
 use Rattle.opentype_gsub.specs.Decided.{alternate_at, covered_in, set_at, set_for_glyph, single_at}
 use Rattle.opentype_gsub.specs.Came.{came_in, nth_came}
 use Rattle.opentype_gsub.specs.Machine.{nested}
@@ -65,13 +65,21 @@ no_set bytes glyph e = none_if (u16_in bytes 0 == 1) _ None (λ t. ap (set_at by
 
 no_change : (s : Setting) (sight : Sight) (kind : ℕ) (bytes : List ℕ) (gs : Glyphs) (at : ℕ) (r : LookupRecord) →
     covered_in bytes (two_byte_number gs at) ≡ None → one_put s sight kind bytes gs at r ≡ None
-unfolding one_put single_put multiple_put alternate_put ligated_put
+unfolding one_put single_put multiple_put alternate_put random_put chosen_put ligated_put
 no_change s sight kind bytes gs at r e =
     let set = no_set bytes (two_byte_number gs at) e in
     none_if (kind == 1) _ _ (λ t. none_mapped _ _ (ap (single_at bytes (two_byte_number gs at)) e))
     (λ t. none_if (kind == 2) _ _ (λ t. none_mapped _ _ set)
-    (λ t. none_if (kind == 3) _ _ (λ t. none_mapped _ _ (ap (alternate_at _) set))
+    (λ t. none_if (kind == 3) _ _ (λ t. none_if (is_random s.lookup.random sight (glyph_at gs at)) _ _
+    (λ u. none_then _ _ set) (λ u. none_mapped _ _ (ap (alternate_at _) set)))
     (λ t. none_if (kind == 4) _ None (λ t. none_then _ _ set) (λ t. refl))))
+
+-- a value that asks for no alternate at random
+pub not_random : (s : Setting) (sight : Sight) (bytes : List ℕ) (gs : Glyphs) (at : ℕ) (r : LookupRecord) →
+    is_random s.lookup.random sight (glyph_at gs at) ≡ false →
+    chosen_put s sight bytes gs at r ≡ alternate_put s.gdef bytes (value_of sight (glyph_at gs at)) gs at r
+unfolding chosen_put
+not_random s sight bytes gs at r e = rw e refl
 
 pub nth_none : (s : Setting) (sights : Sights) (lookup : List ℕ) (at : ℕ) (gs : Glyphs) (r : LookupRecord) (i : ℕ) →
     starts_with false (type_in 7 lookup i) (subtable_in 7 lookup i) (two_byte_number gs at) ≡ false →

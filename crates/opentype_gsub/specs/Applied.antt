@@ -1,7 +1,8 @@
 -- What a subtable makes of a text and of the record of its lookups, at a place.
-use Rattle.std.specs.Prelude.{ℕ, ◌+◌, ◌-◌, ◌/◌, ◌%◌, ◌==◌, ◌&&◌, ◌≡◌, Bool, false, bit_and, max, nat_lt, List, length, slice_set, Option, None, Some, if◌then◌else◌}
+use Rattle.std.specs.Prelude.{ℕ, ◌+◌, ◌-◌, ◌*◌, ◌/◌, ◌%◌, ◌==◌, ◌&&◌, ◌≡◌, Bool, false, bit_and, max, nat_lt, List, length, slice_set, Option, None, Some, if◌then◌else◌}
 use Rattle.std.specs.List.{remove}
 use Rattle.std.specs.Option.{option_and_then, option_map}
+use Rattle.shapers_buffer.specs.GlyphFlags.{unsafe_inside}
 use Rattle.shapers_buffer.specs.Glyphs.{Glyph, Glyphs}
 use Rattle.shapers_buffer.specs.declared.buffer.level.BufferClusterLevel.{BufferClusterLevel}
 use Rattle.shapers_buffer.specs.declared.buffer.lookup_record.LookupRecord.{LookupRecord}
@@ -101,10 +102,34 @@ lowest_bit mask = bit_and mask (4294967296 - mask)
 abbrev pub value_of : Sight → Glyph → ℕ
 value_of sight g = bit_and g.mask sight.mask / max 1 (lowest_bit sight.mask)
 
--- the alternate that the value chooses; the first one where an alternate is picked at random,
--- which the value 255 asks for
-abbrev pub chosen_of : Bool → Sight → Glyph → ℕ
-chosen_of random sight g = if random && (value_of sight g == 255) then 1 else value_of sight g
+-- Whether an alternate is picked at random: the value 255 asks for it, where the plan allows it.
+abbrev pub is_random : Bool → Sight → Glyph → Bool
+is_random random sight g = random && (value_of sight g == 255)
+
+-- The generator's next state. As in HarfBuzz, the product has 32 bits.
+abbrev pub next_state : ℕ → ℕ
+next_state state = state * 48271 % 4294967296 % 2147483647
+
+-- One of a set's alternates, by the generator. A break anywhere would change which ones it picks,
+-- so none is allowed in the text.
+abbrev pub random_of : List ℕ → ℕ → Glyphs → LookupRecord → List ℕ → Option PlaceChange
+random_of gdef at gs r set =
+    let count = u16_in set 0 in
+    let state = next_state r.random_state in
+    if count == 0 then None
+    else Some (put_in gdef at (unsafe_inside 0 (length gs) gs) (record r { random_state = state })
+    (u16_in set ((state % count + 1) * 2)))
+
+unfoldable pub random_put : List ℕ → List ℕ → Glyphs → ℕ → LookupRecord → Option PlaceChange
+random_put gdef bytes gs at r =
+    option_and_then (random_of gdef at gs r) (set_for_glyph bytes (two_byte_number gs at))
+
+-- the alternate that the value of the feature chooses, or one at random
+unfoldable pub chosen_put : Setting → Sight → List ℕ → Glyphs → ℕ → LookupRecord → Option
+    PlaceChange
+chosen_put s sight bytes gs at r =
+    if is_random s.lookup.random sight (glyph_at gs at) then random_put s.gdef bytes gs at r
+    else alternate_put s.gdef bytes (value_of sight (glyph_at gs at)) gs at r
 
 -- what a subtable of this type makes of a text
 unfoldable pub one_put : Setting → Sight → ℕ → List ℕ → Glyphs → ℕ → LookupRecord → Option
@@ -112,7 +137,6 @@ unfoldable pub one_put : Setting → Sight → ℕ → List ℕ → Glyphs → �
 one_put s sight kind bytes gs at r =
     if kind == 1 then single_put s.gdef bytes gs at r
     else (if kind == 2 then multiple_put s bytes gs at r
-    else (if kind == 3 then alternate_put s.gdef bytes (chosen_of s.lookup.random sight (glyph_at
-    gs at)) gs at r
+    else (if kind == 3 then chosen_put s sight bytes gs at r
     else (if kind == 4 then ligated_put s.gdef s.level sight bytes gs at r
     else None)))

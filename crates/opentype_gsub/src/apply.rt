@@ -2,7 +2,7 @@
 ghost use Rattle.std.specs.Prelude.{◌≡◌, ◌<◌, ◌-◌, ◌+◌, ℕ, length, slice_index, IfOk};
 ghost use Rattle.opentype_gsub.specs.Decided.{covered_in};
 ghost use Rattle.opentype_layout.specs.SubstitutionTables.{first_place};
-ghost use Rattle.opentype_gsub.specs.Applied.{IsChange, alternate_put, chosen_of, ligature_put, ligated_put, multiple_put, two_byte_number, one_put, sequence_put, single_put};
+ghost use Rattle.opentype_gsub.specs.Applied.{IsChange, alternate_put, chosen_put, is_random, ligature_put, ligated_put, multiple_put, next_state, two_byte_number, one_put, random_put, sequence_put, single_put, value_of};
 ghost use Rattle.opentype_gsub.specs.Setting.{setting_of};
 ghost use Rattle.shapers_buffer.specs.declared.buffer.lookup_record.LookupRecord.{LookupRecord};
 
@@ -15,7 +15,9 @@ use opentype_face::bytes::u16_at;
 use opentype_face::class_table::ClassTable;
 use opentype_layout::sight::Sight;
 use opentype_layout::substitution_tables::SubtableAt;
-use shapers_buffer::buffer::{BufferClusterLevel, LookupRecord, ShaperError, hb_glyph_info_t};
+use shapers_buffer::buffer::{
+    BufferClusterLevel, LookupRecord, ShaperError, hb_glyph_info_t, unsafe_to_break_in,
+};
 
 /// Puts the glyphs of a sequence in for one, and returns the place behind them. More than the text
 /// may get aren't put in, and the record of its lookups says so.
@@ -173,17 +175,83 @@ fn put_ligature(
     (last + 1).saturating_sub(places.len())
 }
 
-// The value of a feature at a glyph; the first alternate stands for one at random.
-pub(crate) fn value(random: bool, sight: &Sight, glyph: &hb_glyph_info_t) -> u32
-    ensures { result ≡ chosen_of random sight.now glyph.now }
+// The value of a feature at a glyph.
+pub(crate) fn value(sight: &Sight, glyph: &hb_glyph_info_t) -> u32
+    ensures { result ≡ value_of sight.now glyph.now }
 {
     let mask = u64::from(sight.mask);
     let lowest = mask & (4294967296 - mask);
     let value = u64::from(glyph.mask & sight.mask) / lowest.max(1);
-    if random && value == 255 {
-        return 1;
-    }
     value as u32
+}
+
+/// The value of a feature that asks for an alternate at random.
+const AT_RANDOM: u32 = 255;
+
+// Whether an alternate is picked at random, where the plan allows it.
+pub(crate) fn is_random(random: bool, sight: &Sight, glyph: &hb_glyph_info_t) -> bool
+    ensures { result ≡ is_random random sight.now glyph.now }
+{
+    random && value(sight, glyph) == AT_RANDOM
+}
+
+// The next state of the generator that picks alternates. As in HarfBuzz, the product has 32 bits.
+fn next_state(state: u32) -> u32
+    ensures { result ≡ next_state state }
+{
+    state.wrapping_mul(48271) % 2147483647
+}
+
+// Puts one of a glyph's alternates in its place, at random. A break anywhere would change which ones
+// are picked.
+#[tactic(auto, unfolding(crate::specs::Applied::random_put))]
+fn apply_random(
+    classes: &ClassTable<'_>,
+    bytes: &[u8],
+    place: Option<u32>,
+    text: &mut Vec<hb_glyph_info_t>,
+    lookups: &mut LookupRecord,
+    at: usize,
+) -> Option<usize>
+    requires here { at < length text.old.items }
+    requires place { place ≡ covered_in bytes.now (two_byte_number text.old.items at) }
+    ensures { IsChange (random_put classes.now.gdef.now bytes.now text.old.items at lookups.old)
+        text.old.items lookups.old text.new.items lookups.new result }
+{
+    let set = set_by(bytes, place)?;
+    let count = u32::from(u16_at(set, 0));
+    if count == 0 {
+        return None;
+    }
+    lookups.random_state = next_state(lookups.random_state);
+    let chosen = lookups.random_state % count + 1;
+    let len = text.len();
+    unsafe_to_break_in(text, 0, len);
+    replace(classes, text, at, u16_at(set, chosen as usize * 2), 0);
+    Some(at + 1)
+}
+
+// Puts the alternate in that the value of the feature chooses, or one at random.
+#[tactic(auto, unfolding(crate::specs::Applied::chosen_put))]
+fn apply_chosen(
+    pass: &Pass<'_>,
+    sight: &Sight,
+    bytes: &[u8],
+    place: Option<u32>,
+    text: &mut Vec<hb_glyph_info_t>,
+    lookups: &mut LookupRecord,
+    at: usize,
+) -> Option<usize>
+    requires here { at < length text.old.items }
+    requires place { place ≡ covered_in bytes.now (two_byte_number text.old.items at) }
+    ensures { IsChange (chosen_put (setting_of pass.now) sight.now bytes.now text.old.items at
+        lookups.old) text.old.items lookups.old text.new.items lookups.new result }
+{
+    if is_random(pass.lookup.random, sight, &text[at]) {
+        return apply_random(&pass.classes, bytes, place, text, lookups, at);
+    }
+    let value = value(sight, &text[at]);
+    apply_alternate(&pass.classes, bytes, place, value, text, at)
 }
 
 /// What a subtable makes of a text at a place, by the place of the glyph there in the set that it
@@ -215,10 +283,7 @@ pub fn apply_one(
     match subtable.kind {
         1 => Ok(apply_single(&pass.classes, bytes, place, text, at)),
         2 => apply_multiple(pass, bytes, place, text, lookups, at),
-        3 => {
-            let value = value(pass.lookup.random, sight, &text[at]);
-            Ok(apply_alternate(&pass.classes, bytes, place, value, text, at))
-        }
+        3 => Ok(apply_chosen(pass, sight, bytes, place, text, lookups, at)),
         4 => Ok(apply_ligature(&pass.classes, pass.level, sight, bytes, place, text, at)),
         _ => Ok(None),
     }

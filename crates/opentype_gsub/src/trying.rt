@@ -1,17 +1,18 @@
 //! Which flags of concatenation a lookup sets at a place, by the rules that don't fit there.
 ghost use Rattle.std.specs.Prelude.{◌≡◌, ◌<◌, length, is_some};
-ghost use Rattle.opentype_gsub.specs.Applied.{alternate_put, chosen_of, ligated_put, multiple_put, one_put, single_put};
+ghost use Rattle.opentype_gsub.specs.Applied.{alternate_put, chosen_put, ligated_put, multiple_put, one_put, random_put, single_put};
 ghost use Rattle.opentype_gsub.specs.Looked.{lookup_looked, subtable_looked, tried, unjoined};
 ghost use Rattle.opentype_gsub.specs.Came.{nth_came};
 ghost use Rattle.opentype_gsub.specs.Setting.{setting_of, sights_of};
 ghost use Rattle.opentype_layout.specs.Text.{glyph_at};
 ghost use Rattle.shapers_buffer.specs.declared.buffer.lookup_record.LookupRecord.{LookupRecord};
 
-use crate::apply::{number, value};
+use crate::apply::{is_random, number, value};
 use crate::decided::{alternate, set_of, single};
 use crate::looking::{Stretch, rules};
 use crate::matching::first_fitting;
 use crate::pass::{Pass, Sights};
+use opentype_face::bytes::u16_at;
 use opentype_face::lookup::{subtable, subtable_count, subtable_type};
 use opentype_layout::rules::find_rule;
 use shapers_buffer::buffer::{BufferFlags, hb_glyph_info_t, unsafe_to_concat_in};
@@ -37,7 +38,7 @@ fn ligates(
 }
 
 // Whether a subtable of type 3 has an alternate for the glyph at a place.
-#[tactic(auto, unfolding(crate::specs::Applied::alternate_put))]
+#[tactic(auto, unfolding(crate::specs::Applied::chosen_put, crate::specs::Applied::random_put, crate::specs::Applied::alternate_put))]
 fn alternates(
     pass: &Pass<'_>,
     sights: &Sights,
@@ -46,12 +47,17 @@ fn alternates(
     at: usize,
 ) -> bool
     requires { at < length glyphs.now }
-    ensures { let s = setting_of pass.now in
-        (r : LookupRecord) → result ≡ is_some (alternate_put s.gdef bytes.now
-        (chosen_of s.lookup.random sights.now.input (glyph_at glyphs.now at)) glyphs.now at r) }
+    ensures { (r : LookupRecord) → result
+        ≡ is_some (chosen_put (setting_of pass.now) sights.now.input bytes.now glyphs.now at r) }
 {
-    let value = value(pass.lookup.random, &sights.input, &glyphs[at]);
-    alternate(bytes, number(glyphs, at), value).is_some()
+    let glyph = number(glyphs, at);
+    if is_random(pass.lookup.random, &sights.input, &glyphs[at]) {
+        return match set_of(bytes, glyph) {
+            Some(set) => u16_at(set, 0) != 0,
+            None => false,
+        };
+    }
+    alternate(bytes, glyph, value(&sights.input, &glyphs[at])).is_some()
 }
 
 // Whether a subtable of types 1 to 4 does something at a place.

@@ -14,7 +14,7 @@ use crate::generated::opentype_gsub::pass::Pass;
 use crate::generated::opentype_layout::sight::Sight;
 use crate::generated::opentype_layout::substitution_tables::SubtableAt;
 use crate::generated::shapers_buffer::buffer::{
-    BufferClusterLevel, GlyphInfo, LookupRecord, ShaperError,
+    BufferClusterLevel, GlyphInfo, LookupRecord, ShaperError, unsafe_to_break_in,
 };
 
 /// Puts the glyphs of a sequence in for one, and returns the place behind them. More than the text
@@ -152,15 +152,65 @@ fn put_ligature(
     (last + 1).saturating_sub(places.len())
 }
 
-// The value of a feature at a glyph; the first alternate stands for one at random.
-pub(crate) fn value(random: bool, sight: &Sight, glyph: &GlyphInfo) -> u32 {
+// The value of a feature at a glyph.
+pub(crate) fn value(sight: &Sight, glyph: &GlyphInfo) -> u32 {
     let mask = u64::from(sight.mask);
     let lowest = mask & (4294967296 - mask);
     let value = u64::from(glyph.mask & sight.mask) / lowest.max(1);
-    if random && value == 255 {
-        return 1;
-    }
     value as u32
+}
+
+/// The value of a feature that asks for an alternate at random.
+const AT_RANDOM: u32 = 255;
+
+// Whether an alternate is picked at random, where the plan allows it.
+pub(crate) fn is_random(random: bool, sight: &Sight, glyph: &GlyphInfo) -> bool {
+    random && value(sight, glyph) == AT_RANDOM
+}
+
+// The next state of the generator that picks alternates. As in HarfBuzz, the product has 32 bits.
+fn next_state(state: u32) -> u32 {
+    state.wrapping_mul(48271) % 2147483647
+}
+
+// Puts one of a glyph's alternates in its place, at random. A break anywhere would change which ones
+// are picked.
+fn apply_random(
+    classes: &ClassTable<'_>,
+    bytes: &[u8],
+    place: Option<u32>,
+    text: &mut Vec<GlyphInfo>,
+    lookups: &mut LookupRecord,
+    at: usize,
+) -> Option<usize> {
+    let set = set_by(bytes, place)?;
+    let count = u32::from(u16_at(set, 0));
+    if count == 0 {
+        return None;
+    }
+    lookups.random_state = next_state(lookups.random_state);
+    let chosen = lookups.random_state % count + 1;
+    let len = text.len();
+    unsafe_to_break_in(text, 0, len);
+    replace(classes, text, at, u16_at(set, chosen as usize * 2), 0);
+    Some(at + 1)
+}
+
+// Puts the alternate in that the value of the feature chooses, or one at random.
+fn apply_chosen(
+    pass: &Pass<'_>,
+    sight: &Sight,
+    bytes: &[u8],
+    place: Option<u32>,
+    text: &mut Vec<GlyphInfo>,
+    lookups: &mut LookupRecord,
+    at: usize,
+) -> Option<usize> {
+    if is_random(pass.lookup.random, sight, &text[at]) {
+        return apply_random(&pass.classes, bytes, place, text, lookups, at);
+    }
+    let value = value(sight, &text[at]);
+    apply_alternate(&pass.classes, bytes, place, value, text, at)
 }
 
 /// What a subtable makes of a text at a place, by the place of the glyph there in the set that it
@@ -205,17 +255,7 @@ pub fn apply_one(
     match subtable.kind {
         1 => Ok(apply_single(&pass.classes, bytes, place, text, at)),
         2 => apply_multiple(pass, bytes, place, text, lookups, at),
-        3 => {
-            let value = value(pass.lookup.random, sight, &text[at]);
-            Ok(apply_alternate(
-                &pass.classes,
-                bytes,
-                place,
-                value,
-                text,
-                at,
-            ))
-        }
+        3 => Ok(apply_chosen(pass, sight, bytes, place, text, lookups, at)),
         4 => Ok(apply_ligature(
             &pass.classes,
             pass.level,

@@ -2,8 +2,9 @@
 
 //! Which flags of concatenation a lookup sets at a place, by the rules that don't fit there.
 
+use crate::generated::opentype_face::bytes::u16_at;
 use crate::generated::opentype_face::lookup::{subtable, subtable_count, subtable_type};
-use crate::generated::opentype_gsub::apply::{number, value};
+use crate::generated::opentype_gsub::apply::{is_random, number, value};
 use crate::generated::opentype_gsub::decided::{alternate, set_of, single};
 use crate::generated::opentype_gsub::looking::{Stretch, rules};
 use crate::generated::opentype_gsub::matching::first_fitting;
@@ -33,8 +34,14 @@ fn alternates(
     glyphs: &[GlyphInfo],
     at: usize,
 ) -> bool {
-    let value = value(pass.lookup.random, &sights.input, &glyphs[at]);
-    alternate(bytes, number(glyphs, at), value).is_some()
+    let glyph = number(glyphs, at);
+    if is_random(pass.lookup.random, &sights.input, &glyphs[at]) {
+        return match set_of(bytes, glyph) {
+            Some(set) => u16_at(set, 0) != 0,
+            None => false,
+        };
+    }
+    alternate(bytes, glyph, value(&sights.input, &glyphs[at])).is_some()
 }
 
 // Whether a subtable of types 1 to 4 does something at a place.
