@@ -17,7 +17,7 @@ reorder_syllables_by_steps-requires-clause-takes = search (arith, takes_any)
 
 pub returns-clause-linked : goal.returns-clause-linked
 returns-clause-linked g c =
-    linked_behind_circles (g.F.hb_font_t.font c.args.font.now) c.args.plan.now.ot_map (indic_in c.args.plan.now)
+    linked_behind_circles (g.F.hb_font_t.font c.args.face.now) c.args.plan.now.ot_map (indic_in c.args.plan.now)
     c.indic_in.result.now c.args.buffer.now c.insert.new.buffer c.update_consonant_positions.new.buffer
     c.reorder_syllables_by_steps.new.buffer c.indic_in.ensures c.in_ok-circles.ensures.ok c.update_consonant_positions.ensures
     c.in_ok-reorder_syllables_by_steps.ensures.linked
@@ -30,7 +30,7 @@ returns-clause-syllables = search (paused_by_font, returns-clause-ok)
 
 pub returns-clause-cut : goal.returns-clause-cut
 returns-clause-cut g c =
-    let font = g.F.hb_font_t.font c.args.font.now in
+    let font = g.F.hb_font_t.font c.args.face.now in
     let m = c.args.plan.now.ot_map in
     let p = indic_in c.args.plan.now in
     let b = c.args.buffer.now in
@@ -39,7 +39,7 @@ returns-clause-cut g c =
 
 pub returns-clause-laws : goal.returns-clause-laws
 returns-clause-laws g c =
-    let font = g.F.hb_font_t.font c.args.font.now in
+    let font = g.F.hb_font_t.font c.args.face.now in
     let m = c.args.plan.now.ot_map in
     let p = indic_in c.args.plan.now in
     let b = c.args.buffer.now in
