@@ -747,7 +747,8 @@ sengadlit_buffer_content_type_t sengadlit_buffer_get_content_type(sengadlit_buff
 /* For who writes glyphs or characters in place. ARGUMENT: CONTENT; and for a null buffer. */
 sengadlit_status_t sengadlit_buffer_set_content_type(sengadlit_buffer_t *buffer, sengadlit_buffer_content_type_t content_type);
 /* Whether the text is one that sengadlit_shape, sengadlit_shape_buffer or sengadlit_shape_utf8 and its siblings have shaped, with
-   nothing left undone. 0 once the text gets another length or content type, and for null. */
+   nothing left undone except what a font's lookups have no operations or no room for. 0 once the text gets another length or
+   content type, and for null. */
 sengadlit_bool_t sengadlit_buffer_is_complete(sengadlit_buffer_t *buffer);
 
 /* Adds the glyphs of another buffer from place `start` to before `end`, with their positions, as hb_buffer_append: script and
