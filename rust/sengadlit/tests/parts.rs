@@ -27,7 +27,7 @@ fn glyphs_of(syllables: &[u8], auxiliaries: &[u8]) -> Vec<GlyphInfo> {
 }
 
 #[test]
-fn bytes_setup_what_their_spans_do() {
+fn bytes_set_up_what_their_spans_do() {
     let masks: [(&[u8; 4], u32); 3] = [(b"rphf", 0x100), (b"init", 0x20), (b"fina", 0x80)];
     let spans = [(3, 2), (1, 7), (2, 8)].map(|(len, kind)| Span { len, kind });
     for script in [b"Bali", b"Mong"] {

@@ -193,7 +193,7 @@ fn decomposed_hangul_composes() {
 
 // By the second specification a syllable of Bengali keeps its ZWNJ in a cluster of its own (HarfBuzz).
 #[test]
-fn indic_is_setup_by_its_second_specification() {
+fn indic_is_set_up_by_its_second_specification() {
     let text = "\u{09B8}\u{099F}\u{09CD}\u{200C}\u{0995}\u{09BE}\u{0987}";
     let steps = steps_of(text).steps;
     let last = steps.last().unwrap();
@@ -313,8 +313,8 @@ fn a_control_character_is_shown_by_its_number() {
 #[test]
 fn a_syllable_has_a_serial_and_a_kind() {
     let steps = steps_of("\u{0D9A}\u{0DD9}\u{2060}\u{0D9A}");
-    let is_setup = |step: &Step| step.heads == ["run pause setup_syllables_use"];
-    let step = steps.steps.iter().position(is_setup).unwrap();
+    let is_set_up = |step: &Step| step.heads == ["run pause setup_syllables_use"];
+    let step = steps.steps.iter().position(is_set_up).unwrap();
     let syllable = |place| steps.fields(step, place)[4].clone();
     assert_eq!(syllable(0), ("syllable", "12: serial 1, kind 2".into()));
     assert_eq!(syllable(2), ("syllable", "28: serial 2, kind 8".into()));
