@@ -2,7 +2,7 @@
 
 use super::serialize::Serialized;
 use super::{Face, SerializeFlags, UnicodeBuffer};
-use crate::buffer::{Direction, GlyphInfo, GlyphPosition, LookupRecord, ShaperError};
+use crate::buffer::{Buffer, Direction, GlyphInfo, GlyphPosition, LookupRecord, ShaperError};
 use crate::editing::{ShapedRun, Stretch, TextEdit};
 use core::fmt::Write;
 use rust_alloc::string::{String, ToString};
@@ -21,9 +21,14 @@ impl GlyphBuffer {
         GlyphBuffer { text, is_complete }
     }
 
+    #[inline]
+    fn buffer(&self) -> &Buffer {
+        &self.text.parts().buffer
+    }
+
     /// How many glyphs the text has.
     pub fn len(&self) -> usize {
-        self.text.buffer.len()
+        self.buffer().len()
     }
 
     /// Whether the text has no glyphs.
@@ -43,22 +48,22 @@ impl GlyphBuffer {
     /// [`reshape`](Self::reshape) it is the record of what was shaped again, and complete if that of the
     /// old text was, too.
     pub fn lookup_record(&self) -> LookupRecord {
-        self.text.buffer.lookup_record()
+        self.buffer().lookup_record()
     }
 
     /// The glyphs: numbers, clusters, and flags for line breakers (`mask & FLAGS`).
     pub fn glyph_infos(&self) -> &[GlyphInfo] {
-        self.text.buffer.glyphs()
+        self.buffer().glyphs()
     }
 
     /// The position of each glyph, in font units or those of [`Face::with_scale`].
     pub fn glyph_positions(&self) -> &[GlyphPosition] {
-        self.text.buffer.positions()
+        self.buffer().positions()
     }
 
     /// The direction in which the text was shaped.
     pub fn direction(&self) -> Direction {
-        self.text.buffer.direction()
+        self.buffer().direction()
     }
 
     /// The glyphs and positions with the direction, as the module [`editing`](crate::editing) takes them.
@@ -86,7 +91,8 @@ impl GlyphBuffer {
         edit: TextEdit,
         piece: &GlyphBuffer,
     ) -> Result<(), ShaperError> {
-        self.text.buffer.splice(stretch, edit, &piece.text.buffer)
+        let piece = piece.buffer();
+        self.text.parts_mut().buffer.splice(stretch, edit, piece)
     }
 
     /// The glyphs in one line, as hb-shape prints them: `[gid3=0+563|gid9=1@10,0+0]`.
@@ -113,9 +119,8 @@ impl GlyphBuffer {
 
     /// The buffer for another text. It keeps cluster level, flags, the glyphs for what the font lacks,
     /// and memory.
-    pub fn clear(self) -> UnicodeBuffer {
-        let mut text = self.text;
-        text.clear();
-        text
+    pub fn clear(mut self) -> UnicodeBuffer {
+        self.text.clear();
+        self.text
     }
 }

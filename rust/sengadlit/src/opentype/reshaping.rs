@@ -1,5 +1,6 @@
 //! Texts are shaped again after an edit.
 
+use super::unicode_buffer::TextParts;
 use super::{Face, GlyphBuffer, ShapePlan};
 use crate::alloc::Global;
 use crate::buffer::{Buffer, BufferClusterLevel, BufferSettings, CONTEXT_LENGTH};
@@ -77,7 +78,8 @@ impl GlyphBuffer {
                 stretch.widened(text, edit, self.run(), run)
             };
             let Some(widened) = widened else {
-                self.text.buffer.splice(&stretch, edit, &piece)?;
+                let parts = self.text.parts_mut();
+                parts.buffer.splice(&stretch, edit, &piece)?;
                 self.record_lookups(&piece, stretch.text == (0..text.len()));
                 self.is_complete = true;
                 return Ok(stretch.text);
@@ -90,7 +92,7 @@ impl GlyphBuffer {
     fn record_lookups(&mut self, piece: &Buffer, is_whole: bool) {
         let mut record = piece.lookup_record();
         record.is_complete &= is_whole || self.lookup_record().is_complete;
-        self.text.buffer.set_lookup_record(record);
+        self.text.parts_mut().buffer.set_lookup_record(record);
     }
 
     // Shapes a stretch of the text, with what stands around it as its context.
@@ -101,7 +103,11 @@ impl GlyphBuffer {
         text: &str,
         stretch: &Range<usize>,
     ) -> Result<Buffer, CallError> {
-        let own = &self.text.buffer;
+        let TextParts {
+            buffer: own,
+            replacements,
+            ..
+        } = self.text.parts();
         let mut buffer = Buffer::new(Global, own.max_len());
         buffer.set_settings(&BufferSettings {
             pre_context: &[],
@@ -119,14 +125,7 @@ impl GlyphBuffer {
         buffer.set_post_context(nearest(after, &mut room));
         buffer.push_str(&text[stretch.clone()])?;
         let font = face.for_tags(plan.tags);
-        plan.shape_and_tell(
-            face,
-            &font,
-            &font,
-            &self.text.replacements,
-            None,
-            &mut buffer,
-        )?;
+        plan.shape_and_tell(face, &font, &font, replacements, None, &mut buffer)?;
         Ok(buffer)
     }
 }

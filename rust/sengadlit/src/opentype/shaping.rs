@@ -1,6 +1,7 @@
 //! Texts are shaped.
 
 use super::steps::{ShapeStep, Told};
+use super::unicode_buffer::TextParts;
 use super::{Face, Feature, GlyphBuffer, PlanCache, ShapePlan, UnicodeBuffer};
 use crate::buffer::{Buffer, Direction, Script};
 use crate::shaper::checked::CallError;
@@ -41,10 +42,6 @@ pub fn shape(face: &Face<'_>, features: &[Feature], text: UnicodeBuffer) -> Glyp
 /// # Errors
 ///
 /// Memory is refused, or the text grows beyond 256 times its length; the error has the text.
-#[allow(
-    clippy::result_large_err,
-    reason = "the error has the text, and a box would take memory when memory was refused"
-)]
 pub fn try_shape(
     face: &Face<'_>,
     features: &[Feature],
@@ -87,10 +84,6 @@ pub fn shape_with_plan(face: &Face<'_>, plan: &ShapePlan, text: UnicodeBuffer) -
 /// # Errors
 ///
 /// Memory is refused, or the text grows beyond 256 times its length; the error has the text.
-#[allow(
-    clippy::result_large_err,
-    reason = "the error has the text, and a box would take memory when memory was refused"
-)]
 pub fn try_shape_with_plan(
     face: &Face<'_>,
     plan: &ShapePlan,
@@ -118,10 +111,6 @@ pub fn shape_with_cache(
 /// # Errors
 ///
 /// Memory is refused, or the text grows beyond 256 times its length; the error has the text.
-#[allow(
-    clippy::result_large_err,
-    reason = "the error has the text, and a box would take memory when memory was refused"
-)]
 pub fn try_shape_with_cache(
     face: &Face<'_>,
     cache: &mut PlanCache,
@@ -144,10 +133,6 @@ pub fn try_shape_with_cache(
 /// # Errors
 ///
 /// Memory is refused, or the text grows beyond 256 times its length; the error has the text.
-#[allow(
-    clippy::result_large_err,
-    reason = "the error has the text, and a box would take memory when memory was refused"
-)]
 pub fn try_shape_in_steps(
     face: &Face<'_>,
     plan: &ShapePlan,
@@ -157,10 +142,6 @@ pub fn try_shape_in_steps(
     shape_and_tell(face, plan, text, Some(told))
 }
 
-#[allow(
-    clippy::result_large_err,
-    reason = "the error has the text, and a box would take memory when memory was refused"
-)]
 fn shape_and_tell(
     face: &Face<'_>,
     plan: &ShapePlan,
@@ -168,11 +149,15 @@ fn shape_and_tell(
     told: Told<'_>,
 ) -> Result<GlyphBuffer, ShapeError> {
     let font = face.for_tags(plan.tags);
-    let buffer = &mut text.buffer;
+    let TextParts {
+        buffer,
+        replacements,
+        ..
+    } = text.parts_mut();
     let (direction, script) = (buffer.direction(), buffer.script());
     buffer.set_direction(plan.direction());
     buffer.set_script(plan.script());
-    match plan.shape_and_tell(face, &font, &font, &text.replacements, told, buffer) {
+    match plan.shape_and_tell(face, &font, &font, replacements, told, buffer) {
         Ok(()) => Ok(GlyphBuffer::new(text, true)),
         Err(error) => {
             buffer.set_direction(direction);
@@ -187,8 +172,9 @@ fn complete_or_empty(shaped: Result<GlyphBuffer, ShapeError>) -> GlyphBuffer {
     shaped.unwrap_or_else(|refused| {
         let mut text = refused.text;
         let (direction, _) = segment_of(&text);
-        text.buffer.clear();
-        text.buffer.set_direction(direction);
+        let buffer = &mut text.parts_mut().buffer;
+        buffer.clear();
+        buffer.set_direction(direction);
         GlyphBuffer::new(text, false)
     })
 }
@@ -197,6 +183,12 @@ fn complete_or_empty(shaped: Result<GlyphBuffer, ShapeError>) -> GlyphBuffer {
 mod tests {
     use super::*;
     use crate::buffer::ShaperError;
+
+    // Each call takes a text by value and gives it back.
+    #[test]
+    fn a_text_is_handed_on_as_a_pointer() {
+        assert!(size_of::<GlyphBuffer>() <= 4 * size_of::<usize>());
+    }
 
     // What can't be shaped has no glyph, and is told; its direction is what it was.
     #[test]

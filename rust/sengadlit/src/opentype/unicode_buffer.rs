@@ -2,6 +2,7 @@
 
 use super::SerializeFlags;
 use super::settings::Replacements;
+use crate::alloc::{Global, Vec};
 use crate::buffer::{
     Buffer, BufferClusterLevel, BufferFlags, Direction, GlyphInfo, Script, ShaperError,
 };
@@ -15,26 +16,70 @@ use rust_alloc::string::String;
 /// Script and direction that aren't set are guessed by [`shape`](super::shape()), as
 /// [`guess_segment_properties`](Self::guess_segment_properties) does.
 pub struct UnicodeBuffer {
-    pub(super) buffer: Buffer,
-    pub(super) replacements: Replacements,
-    language: Option<Language>,
+    // (a list of one, since a list refuses memory by an error)
+    parts: Vec<TextParts>,
+}
+
+/// What there is of a text. It stands behind a pointer, since a text is handed on and back by value.
+pub(super) struct TextParts {
+    pub buffer: Buffer,
+    pub replacements: Replacements,
+    pub language: Option<Language>,
 }
 
 impl UnicodeBuffer {
-    /// An empty buffer. It takes no memory.
+    /// An empty buffer.
+    ///
+    /// # Panics
+    ///
+    /// Memory is refused: see [`try_new`](Self::try_new).
     pub fn new() -> Self {
+        UnicodeBuffer::try_new().expect("memory isn't refused")
+    }
+
+    /// An empty buffer. It takes half a kilobyte.
+    ///
+    /// # Errors
+    ///
+    /// [`ShaperError::Memory`].
+    pub fn try_new() -> Result<Self, ShaperError> {
         let mut buffer = Buffer::default();
         buffer.set_direction(Direction::Invalid);
-        UnicodeBuffer {
+        let mut parts = Vec::with_capacity(Global, 1)?;
+        let pushed = parts.push(TextParts {
             buffer,
             replacements: Replacements::default(),
             language: None,
-        }
+        });
+        pushed.map_err(|_| ShaperError::Memory)?;
+        Ok(UnicodeBuffer { parts })
+    }
+
+    /// What there is of the text.
+    #[inline]
+    pub(super) fn parts(&self) -> &TextParts {
+        &self.parts[0]
+    }
+
+    /// What there is of the text, to be changed.
+    #[inline]
+    pub(super) fn parts_mut(&mut self) -> &mut TextParts {
+        &mut self.parts[0]
+    }
+
+    #[inline]
+    fn buffer(&self) -> &Buffer {
+        &self.parts().buffer
+    }
+
+    #[inline]
+    fn buffer_mut(&mut self) -> &mut Buffer {
+        &mut self.parts_mut().buffer
     }
 
     /// How many characters the text has.
     pub fn len(&self) -> usize {
-        self.buffer.len()
+        self.buffer().len()
     }
 
     /// Whether the text has no characters.
@@ -59,7 +104,7 @@ impl UnicodeBuffer {
     ///
     /// [`ShaperError::Memory`] and [`ShaperError::TooLong`]; nothing is added then.
     pub fn try_push_str(&mut self, text: &str) -> Result<(), ShaperError> {
-        self.buffer.push_str(text)
+        self.buffer_mut().push_str(text)
     }
 
     /// Adds a character with its cluster.
@@ -78,7 +123,7 @@ impl UnicodeBuffer {
     ///
     /// [`ShaperError::Memory`] and [`ShaperError::TooLong`]; nothing is added then.
     pub fn try_add(&mut self, character: char, cluster: u32) -> Result<(), ShaperError> {
-        self.buffer
+        self.buffer_mut()
             .push(GlyphInfo::of_character(character, cluster))
     }
 
@@ -88,15 +133,15 @@ impl UnicodeBuffer {
     ///
     /// [`ShaperError::Memory`].
     pub fn try_reserve(&mut self, additional: usize) -> Result<(), ShaperError> {
-        let mut glyphs = self.buffer.take_glyphs();
+        let mut glyphs = self.buffer_mut().take_glyphs();
         let reserved = glyphs.reserve(additional);
-        self.buffer.exchange_glyphs(&mut glyphs)?;
+        self.buffer_mut().exchange_glyphs(&mut glyphs)?;
         reserved.map_err(|_| ShaperError::Memory)
     }
 
     /// The characters with their clusters.
     pub fn characters(&self) -> impl Iterator<Item = (char, u32)> + Clone + '_ {
-        self.buffer.iter().map(|glyph| {
+        self.buffer().iter().map(|glyph| {
             let character = char::from_u32(glyph.glyph_id).unwrap_or(char::REPLACEMENT_CHARACTER);
             (character, glyph.cluster)
         })
@@ -104,7 +149,7 @@ impl UnicodeBuffer {
 
     /// Numbers the clusters of the characters 0, 1, 2 ..
     pub fn reset_clusters(&mut self) {
-        self.buffer.with_glyphs_mut(|glyphs| {
+        self.buffer_mut().with_glyphs_mut(|glyphs| {
             for (glyph, cluster) in glyphs.iter_mut().zip(0..) {
                 glyph.cluster = cluster;
             }
@@ -114,43 +159,43 @@ impl UnicodeBuffer {
     /// Sets the text before this one, of which the last five characters are kept. Arabic letters join
     /// by it.
     pub fn set_pre_context(&mut self, text: &str) {
-        self.buffer.set_context_before(text);
+        self.buffer_mut().set_context_before(text);
     }
 
     /// Sets the text behind this one, of which the first five characters are kept.
     pub fn set_post_context(&mut self, text: &str) {
-        self.buffer.set_context_after(text);
+        self.buffer_mut().set_context_after(text);
     }
 
     /// The text's direction; `Invalid` where none is set.
     pub fn direction(&self) -> Direction {
-        self.buffer.direction()
+        self.buffer().direction()
     }
 
     /// Sets the text's direction.
     pub fn set_direction(&mut self, direction: Direction) {
-        self.buffer.set_direction(direction);
+        self.buffer_mut().set_direction(direction);
     }
 
     /// The text's script, if one is set.
     pub fn script(&self) -> Option<Script> {
-        self.buffer.script()
+        self.buffer().script()
     }
 
     /// Sets the text's script.
     pub fn set_script(&mut self, script: Script) {
-        self.buffer.set_script(Some(script));
+        self.buffer_mut().set_script(Some(script));
     }
 
     /// The text's language, if one is set.
     pub fn language(&self) -> Option<Language> {
-        self.language
+        self.parts().language
     }
 
     /// Sets the text's language. Where none is set, the text gets what fonts have for all languages; the
     /// locale is never asked.
     pub fn set_language(&mut self, language: Language) {
-        self.language = Some(language);
+        self.parts_mut().language = Some(language);
     }
 
     /// Sets the script, where none is set, to that of the first character that has one of its own, and
@@ -159,7 +204,7 @@ impl UnicodeBuffer {
     pub fn guess_segment_properties(&mut self) {
         if self.script().is_none() {
             let script = self.guessed_script();
-            self.buffer.set_script(script);
+            self.buffer_mut().set_script(script);
         }
         if self.direction() == Direction::Invalid {
             let direction = self.script().map(Script::direction);
@@ -170,7 +215,7 @@ impl UnicodeBuffer {
     // The script of the first character that has one of its own.
     pub(super) fn guessed_script(&self) -> Option<Script> {
         let mut characters = self
-            .buffer
+            .buffer()
             .iter()
             .filter_map(|glyph| char::from_u32(glyph.glyph_id));
         characters.find_map(Script::of_char)
@@ -179,57 +224,57 @@ impl UnicodeBuffer {
     /// Brings the characters of each grapheme, as a letter with its accents, into one cluster. With the
     /// level `Characters`, at which no other clusters merge, that is HarfBuzz's level Graphemes.
     pub fn merge_graphemes(&mut self) {
-        self.buffer.merge_graphemes();
+        self.buffer_mut().merge_graphemes();
     }
 
     /// The flags that say where the text begins and ends, and what shaping does beside its work.
     pub fn flags(&self) -> BufferFlags {
-        self.buffer.flags()
+        self.buffer().flags()
     }
 
     /// Sets the flags.
     pub fn set_flags(&mut self, flags: BufferFlags) {
-        self.buffer.set_flags(flags);
+        self.buffer_mut().set_flags(flags);
     }
 
     /// Which characters share a cluster.
     pub fn cluster_level(&self) -> BufferClusterLevel {
-        self.buffer.cluster_level()
+        self.buffer().cluster_level()
     }
 
     /// Sets which characters share a cluster.
     pub fn set_cluster_level(&mut self, level: BufferClusterLevel) {
-        self.buffer.set_cluster_level(level);
+        self.buffer_mut().set_cluster_level(level);
     }
 
     /// The glyph that stands for what isn't drawn; the font's space where none is set.
     pub fn invisible_glyph(&self) -> Option<GlyphId> {
-        self.replacements.invisible
+        self.parts().replacements.invisible
     }
 
     /// Sets the glyph that stands for what isn't drawn.
     pub fn set_invisible_glyph(&mut self, glyph: Option<GlyphId>) {
-        self.replacements.invisible = glyph;
+        self.parts_mut().replacements.invisible = glyph;
     }
 
     /// The glyph of characters that the font lacks; glyph 0 where none is set.
     pub fn not_found_glyph(&self) -> Option<GlyphId> {
-        self.replacements.not_found
+        self.parts().replacements.not_found
     }
 
     /// Sets the glyph of characters that the font lacks.
     pub fn set_not_found_glyph(&mut self, glyph: Option<GlyphId>) {
-        self.replacements.not_found = glyph;
+        self.parts_mut().replacements.not_found = glyph;
     }
 
     /// The glyph of variation selectors that select nothing; where none is set they aren't drawn.
     pub fn not_found_variation_selector_glyph(&self) -> Option<u32> {
-        self.replacements.not_found_selector
+        self.parts().replacements.not_found_selector
     }
 
     /// Sets the glyph of variation selectors that select nothing.
     pub fn set_not_found_variation_selector_glyph(&mut self, glyph: Option<u32>) {
-        self.replacements.not_found_selector = glyph;
+        self.parts_mut().replacements.not_found_selector = glyph;
     }
 
     /// The characters in one line, as hb-shape prints them with `--show-unicode`: `<U+0651=0|U+0628=2>`.
@@ -255,9 +300,9 @@ impl UnicodeBuffer {
     /// Makes the buffer ready for another text. It keeps cluster level, flags, the glyphs for what the
     /// font lacks, and memory.
     pub fn clear(&mut self) {
-        self.buffer.clear();
-        self.buffer.set_direction(Direction::Invalid);
-        self.language = None;
+        self.buffer_mut().clear();
+        self.buffer_mut().set_direction(Direction::Invalid);
+        self.parts_mut().language = None;
     }
 }
 
@@ -270,7 +315,7 @@ impl Default for UnicodeBuffer {
 impl fmt::Debug for UnicodeBuffer {
     fn fmt(&self, f: &mut fmt::Formatter<'_>) -> fmt::Result {
         let characters = self
-            .buffer
+            .buffer()
             .iter()
             .map(|glyph| (glyph.glyph_id, glyph.cluster));
         f.debug_struct("UnicodeBuffer")

@@ -66,6 +66,7 @@ fn calls_that_find_syllables_or_take_a_text() {
 #[test]
 fn texts_of_one_call_are_given_back() {
     one_call::texts_are_given_back();
+    one_call::a_new_buffer_may_be_refused();
 }
 
 #[cfg(feature = "opentype")]

@@ -1,5 +1,4 @@
 //! A text shaped in one call, of which each request for memory is refused in turn.
-#![allow(clippy::result_large_err, reason = "the error of a call has its text")]
 
 use crate::allocator::refusing;
 use crate::common::lookup_font::font;
@@ -41,6 +40,13 @@ fn is_given_back(mut call: impl FnMut(UnicodeBuffer) -> Result<GlyphBuffer, Shap
             }
         }
     }
+}
+
+pub fn a_new_buffer_may_be_refused() {
+    let (refused, _) = refusing(1, UnicodeBuffer::try_new);
+    assert_eq!(refused.err(), Some(ShaperError::Memory));
+    let (made, requests) = refusing(0, UnicodeBuffer::try_new);
+    assert!(made.is_ok() && requests == 1);
 }
 
 pub fn texts_are_given_back() {
