@@ -55,14 +55,17 @@ impl Buffer {
         }
         let start = self.len();
         self.grow(text.chars().count())?;
-        for (glyph, (place, character)) in (start..).zip(text.char_indices()) {
-            #[expect(
-                clippy::cast_possible_truncation,
-                reason = "it fits, as the length of the text does"
-            )]
-            let cluster = place as u32;
-            self.set(glyph, GlyphInfo::of_character(character, cluster));
-        }
+        // (as a slice, since each glyph that is set by its place costs a test)
+        self.with_glyphs_mut(|glyphs| {
+            for (glyph, (place, character)) in glyphs[start..].iter_mut().zip(text.char_indices()) {
+                #[expect(
+                    clippy::cast_possible_truncation,
+                    reason = "it fits, as the length of the text does"
+                )]
+                let cluster = place as u32;
+                *glyph = GlyphInfo::of_character(character, cluster);
+            }
+        });
         Ok(())
     }
 
