@@ -21,6 +21,7 @@ pub(super) struct DrawnFont<'a, F> {
 }
 
 impl<F> DrawnFont<'_, F> {
+    #[inline]
     fn drawn(&self, glyph: GlyphId) -> GlyphId {
         let instead = self.instead.filter(|_| glyph == GlyphId(0));
         instead.unwrap_or(glyph)
@@ -28,14 +29,17 @@ impl<F> DrawnFont<'_, F> {
 }
 
 impl<F: Font> Font for DrawnFont<'_, F> {
+    #[inline]
     fn nominal_glyph(&self, c: u32) -> Option<GlyphId> {
         self.font.nominal_glyph(c)
     }
 
+    #[inline]
     fn has_glyph(&self, c: u32) -> bool {
         self.font.has_glyph(c)
     }
 
+    #[inline]
     fn glyph_h_advance(&self, glyph: GlyphId) -> i32 {
         let advance = self.font.glyph_h_advance(self.drawn(glyph));
         let scale = self.scale.filter(|_| self.is_scaled.get());

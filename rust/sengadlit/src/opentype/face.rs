@@ -165,12 +165,19 @@ impl<'a> Face<'a> {
     }
 
     /// The font as it is for texts with these tags of OpenType.
+    // (made in each arm, so that the tables are written where they stay)
+    #[inline]
     pub(super) fn for_tags(&self, tags: TextTags) -> OpenTypeFont<'_> {
-        let tables = match &self.prepared {
-            Some(prepared) => prepared.tables(),
-            None => FaceTables::of(&self.face),
-        };
-        OpenTypeFont { tables, tags }
+        match &self.prepared {
+            Some(prepared) => OpenTypeFont {
+                tables: prepared.tables(),
+                tags,
+            },
+            None => OpenTypeFont {
+                tables: FaceTables::of(&self.face),
+                tags,
+            },
+        }
     }
 }
 

@@ -109,6 +109,8 @@ struct Metrics {
 
 /// A number of font units in units of which an em has `scale`. The factor has 16 bits behind the point, and
 /// halves are rounded up. (HarfBuzz's `em_mult`.)
+// (not in line, since most texts are in the font's units)
+#[inline(never)]
 fn scaled(units: i32, scale: i32, units_per_em: u16) -> i32 {
     let factor = (i64::from(scale) << 16) / i64::from(units_per_em.max(1));
     bounded((i128::from(units) * i128::from(factor) + 0x8000) >> 16)
