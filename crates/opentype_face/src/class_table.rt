@@ -15,6 +15,18 @@ pub struct ClassTable<'a> {
     ghost tells: { TellsClasses gdef.now props.now },
 }
 
+// The class of a glyph by GDEF. (A function of its own, so that a look into the table is short.)
+#[inline(never)]
+fn props_by_search(gdef: &[u8], glyph: u16) -> Option<u16>
+    ensures { result ≡ props_if_any gdef.now glyph }
+{
+    if has_glyph_classes(gdef) {
+        Some(glyph_props(gdef, glyph))
+    } else {
+        None
+    }
+}
+
 impl<'a> ClassTable<'a> {
     /// GDEF alone.
     pub fn of(gdef: &'a [u8]) -> Self
@@ -33,11 +45,7 @@ impl<'a> ClassTable<'a> {
         if at < self.props.len() {
             return Some(self.props[at]);
         }
-        if has_glyph_classes(self.gdef) {
-            Some(glyph_props(self.gdef, glyph))
-        } else {
-            None
-        }
+        props_by_search(self.gdef, glyph)
     }
 }
 

@@ -165,13 +165,22 @@ impl Face<'_> {
     }
 
     /// How far a glyph goes to the right: half an em where the font has no advances.
+    #[inline]
     pub fn h_advance(&self, glyph: u16) -> u16
         ensures { result ≡ h_advance_of (tables_of self.now) glyph }
     {
-        let long = metrics::long_metrics(self.hhea, self.hmtx);
-        if u32::from(glyph) < long {
+        if metrics::has_long_metric(self.hhea, self.hmtx, glyph) {
             return u16_at(self.hmtx, usize::from(glyph) * 4);
         }
+        self.shared_h_advance(glyph)
+    }
+
+    // The same by all that the tables have for glyphs without an advance of their own. (A function of
+    // its own, so that what most glyphs need is short.)
+    #[inline(never)]
+    fn shared_h_advance(&self, glyph: u16) -> u16
+        ensures { result ≡ h_advance_of (tables_of self.now) glyph }
+    {
         match metrics::advance(self.hhea, self.hmtx, self.glyph_count(), glyph) {
             Some(advance) => advance,
             None => self.units_per_em() / 2,

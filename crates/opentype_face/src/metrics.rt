@@ -1,5 +1,5 @@
 //! The numbers of a face and of its glyphs, in units of the font.
-ghost use Rattle.std.specs.Prelude.{◌≡◌, ◌<◌, ◌≤◌, ◌^◌, ◌+◌, ◌*◌, ◌/◌, nat_abs};
+ghost use Rattle.std.specs.Prelude.{◌≡◌, ◌<◌, ◌≤◌, ◌^◌, ◌+◌, ◌*◌, ◌/◌, nat_abs, nat_lt};
 ghost use Rattle.opentype_face.specs.Bytes.{u16_in};
 ghost use Rattle.opentype_face.specs.Metrics.{
   advance_in,
@@ -43,6 +43,15 @@ pub fn long_metrics(header: &[u8], metrics: &[u8]) -> u32
     ensures { result ≡ long_metrics_in header.now metrics.now }
 {
     capped(u32::from(u16_at(header, 34)), metrics.len() / 4)
+}
+
+/// Whether a glyph has a bearing and an advance of its own.
+// (two comparisons, since the division and the lesser of both cost more)
+#[inline]
+pub fn has_long_metric(header: &[u8], metrics: &[u8], glyph: u16) -> bool
+    ensures { result ≡ nat_lt glyph (long_metrics_in header.now metrics.now) }
+{
+    glyph < u16_at(header, 34) && usize::from(glyph) * 4 + 4 <= metrics.len()
 }
 
 /// The advance of a glyph, by `hhea` and `hmtx`, or `vhea` and `vmtx`, in a font of so many glyphs; `None`

@@ -15,6 +15,16 @@ pub struct ClassTable<'a> {
     props: &'a [u16],
 }
 
+// The class of a glyph by GDEF. (A function of its own, so that a look into the table is short.)
+#[inline(never)]
+fn props_by_search(gdef: &[u8], glyph: u16) -> Option<u16> {
+    if has_glyph_classes(gdef) {
+        Some(glyph_props(gdef, glyph))
+    } else {
+        None
+    }
+}
+
 impl<'a> ClassTable<'a> {
     /// GDEF alone.
     ///
@@ -51,11 +61,7 @@ impl<'a> ClassTable<'a> {
         if at < self.props.len() {
             return Some(self.props[at]);
         }
-        if has_glyph_classes(self.gdef) {
-            Some(glyph_props(self.gdef, glyph))
-        } else {
-            None
-        }
+        props_by_search(self.gdef, glyph)
     }
 }
 

@@ -64,6 +64,25 @@ pub fn long_metrics(header: &[u8], metrics: &[u8]) -> u32 {
     capped(u32::from(u16_at(header, 34)), metrics.len() / 4)
 }
 
+/// Whether a glyph has a bearing and an advance of its own.
+// (two comparisons, since the division and the lesser of both cost more)
+///
+/// <details><summary>Contract</summary>
+///
+/// # Contract
+///
+/// ```text
+/// ensures { result ≡ nat_lt glyph (long_metrics_in header.now metrics.now) }
+/// ```
+///
+/// - `long_metrics_in`: `crates/opentype_face/specs/Metrics.antt`
+///
+/// </details>
+#[inline]
+pub fn has_long_metric(header: &[u8], metrics: &[u8], glyph: u16) -> bool {
+    glyph < u16_at(header, 34) && usize::from(glyph) * 4 + 4 <= metrics.len()
+}
+
 /// The advance of a glyph, by `hhea` and `hmtx`, or `vhea` and `vmtx`, in a font of so many glyphs; `None`
 /// where the font has no metrics of that direction.
 ///
