@@ -27,3 +27,4 @@ pub mod WholeTexts
 pub mod Monotone
 pub mod Pairs
 pub mod StayingTexts
+pub mod OneWay

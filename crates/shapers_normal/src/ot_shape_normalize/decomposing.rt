@@ -130,8 +130,20 @@ fn stays_together<C: NormalizeContext>(context: &C, glyphs: &[hb_glyph_info_t]) 
     !has_selector(glyphs) && all_clusters_stay(context, glyphs)
 }
 
-// Whether each character stays.
+// Whether each character stays. Most shapers want all characters one way, whatever their clusters.
+#[inline]
 fn all_clusters_stay<C: NormalizeContext>(context: &C, glyphs: &[hb_glyph_info_t]) -> bool
+    ensures { result ≡ list_all (cluster_stays (C.context context.now)) (mark_clusters glyphs.now) }
+{
+    match context.normalization_preference() {
+        NormalizationMode::NONE => all_stay(context, Way::Short, glyphs),
+        NormalizationMode::AUTO => each_cluster_stays(context, glyphs),
+        NormalizationMode::CD => all_stay(context, Way::Whole, glyphs),
+    }
+}
+
+// Whether each cluster's characters stay.
+fn each_cluster_stays<C: NormalizeContext>(context: &C, glyphs: &[hb_glyph_info_t]) -> bool
     ensures { result ≡ list_all (cluster_stays (C.context context.now)) (mark_clusters glyphs.now) }
 {
     let mut start = 0;
@@ -153,7 +165,31 @@ fn cluster_stays<C: NormalizeContext>(context: &C, cluster: &[hb_glyph_info_t]) 
     let way = way_of(context, cluster);
     cluster
         .iter()
-        .all(|glyph| image(context, way, glyph.glyph_id).is_empty())
+        .all(|glyph| stays(context, way, glyph.glyph_id))
+}
+
+// Whether each of these characters stays, one way or the other.
+#[inline]
+fn all_stay<C: NormalizeContext>(context: &C, way: Way, glyphs: &[hb_glyph_info_t]) -> bool
+    ensures { let context = C.context context.now in
+        result ≡ list_all (λ g. length (image context way g.glyph_id) == 0) glyphs.now }
+{
+    glyphs
+        .iter()
+        .all(|glyph| stays(context, way, glyph.glyph_id))
+}
+
+// Whether a character stays, one way or the other: most do, and then no list is made of its parts.
+#[inline]
+fn stays<C: NormalizeContext>(context: &C, way: Way, c: u32) -> bool
+    ensures { result ≡ (length (image (C.context context.now) way c) == 0) }
+{
+    match way {
+        Way::Short => context.has_glyph(c) || come_apart(context, true, c, MAX_STEPS).is_empty(),
+        Way::Whole => {
+            context.decompose(c).is_none() || come_apart(context, false, c, MAX_STEPS).is_empty()
+        }
+    }
 }
 
 // Gives each character that stays its glyph.

@@ -1,46 +1,12 @@
--- One more cluster.
-use Rattle.std.proofs.Common.{◌≡◌, ◌∙◌, ◌+◌, ◌&&◌, ap, drop, length, sym, arith}
-use Rattle.std.specs.List.{list_all, prefix_len}
-use Rattle.std.proofs.lemmas.List.{length-drop}
-use Rattle.shapers_buffer.specs.Glyphs.{Glyphs}
-use Rattle.shapers_normal.specs.Decomposition.{cluster_stays, mark_clusters}
-use Rattle.shapers_normal.specs.Sorting.{is_mark_glyph}
-use Rattle.shapers_normal.proofs.Clusters.{next_groups}
+-- One way for all characters.
+use Rattle.std.proofs.Common.{sym, ◌∙◌}
+use Rattle.shapers_normal.proofs.OneWay.{clusters_stay_short, clusters_stay_whole}
 use Rattle.shapers_normal.proofs.ot_shape_normalize.decomposing.all_clusters_stay.Goals as goal
 
-pub returns-then-not-cluster_stays : goal.returns-then-not-cluster_stays
-returns-then-not-cluster_stays g c =
-    let context = g.C.NormalizeContext.context c.args.context.now in
-    let gs = c.args.glyphs.now in
-    let l = c.loop-start in
-    let n = c.cluster_len.result in
-    let is : n ≡ 1 + prefix_len is_mark_glyph (drop 1 (drop l.start gs)) = c.cluster_len.ensures.len
-    ∙ ap (λ (xs : Glyphs). 1 + prefix_len is_mark_glyph (drop 1 xs)) c.rest_from.ensures in
-    let behind = list_all (cluster_stays context) (mark_clusters (drop (l.start + n) gs)) in
-    sym (ap (λ b. b && behind) (sym c.cluster_stays.ensures ∙ c.if-not-cluster_stays.true))
-    ∙ sym (ap (list_all (cluster_stays context)) (next_groups is_mark_glyph gs l.start n c.loop-start-test.true is))
-    ∙ l.invariant.left
+pub returns-in-NONE : goal.returns-in-NONE
+returns-in-NONE g c = c.all_stay.ensures
+    ∙ clusters_stay_short (g.C.NormalizeContext.context c.args.context.now) c.args.glyphs.now (sym c.normalization_preference.ensures ∙ c.in-NONE.is)
 
-pub loop-start-preserved : goal.loop-start-preserved
-loop-start-preserved g c =
-    let context = g.C.NormalizeContext.context c.args.context.now in
-    let gs = c.args.glyphs.now in
-    let l = c.loop-start in
-    let n = c.cluster_len.result in
-    let is : n ≡ 1 + prefix_len is_mark_glyph (drop 1 (drop l.start gs)) = c.cluster_len.ensures.len
-    ∙ ap (λ (xs : Glyphs). 1 + prefix_len is_mark_glyph (drop 1 xs)) c.rest_from.ensures in
-    let behind = list_all (cluster_stays context) (mark_clusters (drop (l.start + n) gs)) in
-    record {
-      left =
-          sym (ap (λ b. b && behind) (sym c.cluster_stays.ensures ∙ c.if-not-cluster_stays.false))
-          ∙ sym (ap (list_all (cluster_stays context))
-          (next_groups is_mark_glyph gs l.start n c.loop-start-test.true is))
-          ∙ l.invariant.left;
-      within = omega (
-        arith,
-        c.cluster_len.ensures.within,
-        ap length c.rest_from.ensures,
-        length-drop l.start gs,
-        c.loop-start-test.true,
-      );
-    }
+pub returns-in-CD : goal.returns-in-CD
+returns-in-CD g c = c.all_stay-in-CD.ensures
+    ∙ clusters_stay_whole (g.C.NormalizeContext.context c.args.context.now) c.args.glyphs.now (sym c.normalization_preference.ensures ∙ c.in-CD.is)

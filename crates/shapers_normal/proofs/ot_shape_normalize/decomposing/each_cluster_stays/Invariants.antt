@@ -2,7 +2,7 @@
 use Rattle.std.proofs.Common.{◌≡◌, ◌≤◌, ◌-◌, drop, length}
 use Rattle.std.specs.List.{list_all}
 use Rattle.shapers_normal.specs.Decomposition.{cluster_stays, mark_clusters}
-use Rattle.shapers_normal.proofs.ot_shape_normalize.decomposing.all_clusters_stay.Given as goal
+use Rattle.shapers_normal.proofs.ot_shape_normalize.decomposing.each_cluster_stays.Given as goal
 
 abbrev pub invariant-loop-start : goal.invariant-loop-start
 invariant-loop-start g l = record {
