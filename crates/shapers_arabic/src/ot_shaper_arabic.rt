@@ -1,5 +1,5 @@
 //! The shaper of Arabic and of the scripts that join like it.
-ghost use Rattle.std.specs.Prelude.{◌≡◌, ◌+◌, ◌<◌, length, OnOk, OnErr, IsOkUnless};
+ghost use Rattle.std.specs.Prelude.{◌≡◌, ◌+◌, ◌<◌, OnOk, OnErr, IsOkUnless};
 ghost use Rattle.shapers_buffer.specs.declared.buffer.refusal.ShaperError.TheVariants.{Memory};
 ghost use Rattle.shapers_base.specs.Planner.{with_requests};
 ghost use Rattle.shapers_arabic.specs.Requests.{arabic_list, is_arabic, joining_list, rclt};
@@ -11,14 +11,13 @@ ghost use Rattle.shapers_arabic.specs.TextJoined.{TextJoined};
 ghost use Rattle.shapers_clusters.specs.FlagLaw.{OnlyFlagsAdded};
 
 use arrayvec::ArrayVec;
-use shapers_base::buffer::{GlyphWalk, Script, hb_buffer_t, hb_tag_t};
+use shapers_base::buffer::{Script, hb_buffer_t, hb_tag_t};
 use shapers_base::font::{Tables, hb_font_t};
 use shapers_base::map::{F_GLOBAL, F_HAS_FALLBACK, F_MANUAL_ZWJ, F_NONE};
 use shapers_base::plan::{
     Pause, PlanData, Request, ShaperError, hb_ot_shape_plan_t, hb_ot_shape_planner_t,
 };
 use std::marker::Brand;
-use std::mem;
 use std::sync::ledger::{Blank, Ledger};
 
 pub mod arabic_action_t;
@@ -172,22 +171,7 @@ pub fn setup_masks_counted<T: Tables, L: Ledger>(
         tables,
         count,
     };
-    walk_aside(&mut walk, buffer);
-}
-
-// Walks over the glyphs while an empty buffer stands for theirs: so tables that panic leave that one,
-// and no text of which a part has its forms.
-#[inline]
-fn walk_aside<W: GlyphWalk>(walk: &mut W, buffer: &mut hb_buffer_t)
-    requires { W.can_walk walk.old buffer.old.glyphs }
-    ensures walked { W.walks walk.old walk.new buffer.old.glyphs buffer.new.glyphs }
-    ensures same_length { length buffer.new.glyphs ≡ length buffer.old.glyphs }
-    ensures others { buffer.new ≡ record buffer.old { glyphs = buffer.new.glyphs } }
-{
-    let empty = hb_buffer_t::new(buffer.alloc(), buffer.max_len());
-    let mut text = mem::replace(buffer, empty);
-    text.walk(walk);
-    *buffer = text;
+    buffer.walk_outside(&mut walk);
 }
 
 /// Gives each glyph the form that its neighbours require, in its auxiliary byte, the form's mask

@@ -16,7 +16,7 @@ returns-clause-joined g c =
     let text = text_of joining general c.args.buffer.now in
     search (
       arith,
-      c.walk_aside.ensures.walked.0 text.before text.after
+      c.walk_outside.ensures.walked.0 text.before text.after
           (sym (c.nearest_in-before.ensures.nearest ∙ ap (λ cs. nearest (context_types joining general cs))
           c.pre_context.ensures.chars))
           (sym (c.nearest_in-after.ensures.nearest ∙ ap (λ cs. nearest (context_types joining general cs))

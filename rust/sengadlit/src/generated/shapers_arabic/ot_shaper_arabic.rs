@@ -2,12 +2,11 @@
 
 //! The shaper of Arabic and of the scripts that join like it.
 
-use crate::generated::shapers_base::buffer::{Buffer, GlyphWalk, Script, Tag};
+use crate::generated::shapers_base::buffer::{Buffer, Script, Tag};
 use crate::generated::shapers_base::font::{Font, Tables};
 use crate::generated::shapers_base::map::{F_GLOBAL, F_HAS_FALLBACK, F_MANUAL_ZWJ, F_NONE};
 use crate::generated::shapers_base::plan::{Pause, Plan, PlanData, Planner, Request, ShaperError};
 use crate::support::arrayvec::ArrayVec;
-use core::mem;
 
 pub mod arabic_action_t;
 mod breaks;
@@ -177,17 +176,7 @@ pub fn setup_masks_inner<T: Tables>(
         after,
         tables,
     };
-    walk_aside(&mut walk, buffer);
-}
-
-// Walks over the glyphs while an empty buffer stands for theirs: so tables that panic leave that one,
-// and no text of which a part has its forms.
-#[inline]
-fn walk_aside<W: GlyphWalk>(walk: &mut W, buffer: &mut Buffer) {
-    let empty = Buffer::new(buffer.alloc(), buffer.max_len());
-    let mut text = mem::replace(buffer, empty);
-    text.walk(walk);
-    *buffer = text;
+    buffer.walk_outside(&mut walk);
 }
 
 /// Gives each glyph its form, the form's mask and the glyph flags of joining, with the script and
