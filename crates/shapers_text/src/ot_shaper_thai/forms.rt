@@ -10,7 +10,6 @@ ghost use Rattle.shapers_text.specs.ThaiWalk.{types_of, base_after, form_set, af
 use shapers_base::buffer::{GlyphWalk, hb_buffer_t, hb_glyph_info_t, unsafe_to_break_in};
 use shapers_base::font::hb_font_t;
 use shapers_base::plan::BreakFlags;
-use std::mem;
 
 /// The type of a consonant.
 #[allow(clippy::enum_variant_names)]
@@ -365,9 +364,5 @@ pub fn do_pua_shaping<F: hb_font_t>(breaks: BreakFlags, font: &F, buffer: &mut h
         let flagged = marks_flagged breaks buffer.old.glyphs in
         buffer.new ≡ record buffer.old { glyphs = pua_shaped has flagged } }
 {
-    // (a font that panics leaves the empty buffer, and no text with some of the forms)
-    let empty = hb_buffer_t::new(buffer.alloc(), buffer.max_len());
-    let mut text = mem::replace(buffer, empty);
-    text.walk(&mut PuaShaping { breaks, font });
-    *buffer = text;
+    buffer.walk_outside(&mut PuaShaping { breaks, font });
 }

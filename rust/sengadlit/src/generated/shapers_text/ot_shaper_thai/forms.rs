@@ -6,7 +6,6 @@
 use crate::generated::shapers_base::buffer::{Buffer, GlyphInfo, GlyphWalk, unsafe_to_break_in};
 use crate::generated::shapers_base::font::Font;
 use crate::generated::shapers_base::plan::BreakFlags;
-use core::mem;
 
 /// The type of a consonant.
 #[allow(clippy::enum_variant_names)]
@@ -322,9 +321,5 @@ impl<'a, F: Font> GlyphWalk for PuaShaping<'a, F> {
 ///
 /// </details>
 pub fn do_pua_shaping<F: Font>(breaks: BreakFlags, font: &F, buffer: &mut Buffer) {
-    // (a font that panics leaves the empty buffer, and no text with some of the forms)
-    let empty = Buffer::new(buffer.alloc(), buffer.max_len());
-    let mut text = mem::replace(buffer, empty);
-    text.walk(&mut PuaShaping { breaks, font });
-    *buffer = text;
+    buffer.walk_outside(&mut PuaShaping { breaks, font });
 }
