@@ -35,7 +35,6 @@ use shapers_myanmar::ot_shaper_myanmar;
 use shapers_stretch::ot_shaper_arabic_stretch;
 use shapers_text::{ot_shaper_hebrew, ot_shaper_thai};
 use shapers_universal::ot_shaper_use;
-use std::mem;
 pub use syllables::{setup_syllables_found, setup_syllables_written};
 
 /// A script shaper. Where it lacks a hook, a dash here, the method returns `None` and changes
@@ -460,36 +459,15 @@ impl hb_ot_shaper_t {
         ensures flags { OnlyFlagsAdded buffer.old.glyphs buffer.new.glyphs }
     {
         match self {
-            Self::Hebrew | Self::MyanmarZawgyi | Self::Thai => return None,
-            Self::Arabic | Self::Hangul => self.set_masks(plan, tables, buffer),
-            Self::Indic | Self::Khmer | Self::Myanmar | Self::Universal => {
-                // (tables that panic leave the empty buffer, and no text with some categories)
-                let empty = hb_buffer_t::new(buffer.alloc(), buffer.max_len());
-                let mut text = mem::replace(buffer, empty);
-                self.set_masks(plan, tables, &mut text);
-                *buffer = text;
-            }
-        }
-        Some(())
-    }
-
-    // The masks of a shaper, where it sets any.
-    #[inline]
-    fn set_masks<T: Tables>(self, plan: &hb_ot_shape_plan_t, tables: &T, buffer: &mut hb_buffer_t)
-        requires data { PlanFits self plan.now }
-        requires glyphs { GlyphsFit self plan.now buffer.old.glyphs }
-        ensures masks { MasksSet self plan.now (T.tables tables.now) buffer.old buffer.new }
-        ensures flags { OnlyFlagsAdded buffer.old.glyphs buffer.new.glyphs }
-    {
-        match self {
             Self::Arabic => ot_shaper_arabic::setup_masks(plan, tables, buffer),
             Self::Hangul => ot_shaper_hangul::setup_masks(plan, buffer),
             Self::Indic => ot_shaper_indic::setup_masks(tables, buffer),
             Self::Khmer => ot_shaper_khmer::setup_masks(tables, buffer),
             Self::Myanmar => ot_shaper_myanmar::setup_masks(tables, buffer),
             Self::Universal => ot_shaper_use::setup_masks(plan, tables, buffer),
-            Self::Hebrew | Self::MyanmarZawgyi | Self::Thai => {}
+            Self::Hebrew | Self::MyanmarZawgyi | Self::Thai => return None,
         }
+        Some(())
     }
 
     /// Reorders the marks from `start` to `end`: for Hebrew, at the first three neighbours of its

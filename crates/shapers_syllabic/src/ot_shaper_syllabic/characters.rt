@@ -2,7 +2,7 @@
 ghost use Rattle.std.specs.Prelude.{◌≡◌, map};
 ghost use Rattle.shapers_syllabic.specs.Characters.{composed_behind, with_category, with_category_and_position};
 
-use shapers_base::buffer::{change_each_by_in, hb_buffer_t, hb_glyph_info_t};
+use shapers_base::buffer::{GlyphChange, change_each_in, hb_buffer_t, hb_glyph_info_t};
 use shapers_base::font::Tables;
 
 /// The composition of two characters by the table. A mark composes with nothing behind it, so that
@@ -24,7 +24,7 @@ pub fn set_categories<T: Tables>(tables: &T, buffer: &mut hb_buffer_t)
     ensures { buffer.new ≡
         record buffer.old { glyphs = map (with_category (T.tables tables.now)) buffer.old.glyphs } }
 {
-    buffer.change_all_by(|glyph| set_category(tables, glyph));
+    buffer.change_outside(&Categories { tables });
 }
 
 /// `set_categories` for the glyphs of a slice.
@@ -32,7 +32,7 @@ pub fn set_categories<T: Tables>(tables: &T, buffer: &mut hb_buffer_t)
 pub fn set_categories_in<T: Tables>(tables: &T, glyphs: &mut [hb_glyph_info_t])
     ensures { glyphs.new ≡ map (with_category (T.tables tables.now)) glyphs.old }
 {
-    change_each_by_in(glyphs, |glyph| set_category(tables, glyph));
+    change_each_in(glyphs, &Categories { tables });
 }
 
 /// Gives each glyph the category and, as its auxiliary byte, the position that the table of the
@@ -43,7 +43,7 @@ pub fn set_categories_and_positions<T: Tables>(tables: &T, buffer: &mut hb_buffe
         let changed = map with_both buffer.old.glyphs in
         buffer.new ≡ record buffer.old { glyphs = changed } }
 {
-    buffer.change_all_by(|glyph| set_category_and_position(tables, glyph));
+    buffer.change_outside(&CategoriesAndPositions { tables });
 }
 
 /// `set_categories_and_positions` for the glyphs of a slice.
@@ -51,23 +51,42 @@ pub fn set_categories_and_positions<T: Tables>(tables: &T, buffer: &mut hb_buffe
 pub fn set_categories_and_positions_in<T: Tables>(tables: &T, glyphs: &mut [hb_glyph_info_t])
     ensures { glyphs.new ≡ map (with_category_and_position (T.tables tables.now)) glyphs.old }
 {
-    change_each_by_in(glyphs, |glyph| set_category_and_position(tables, glyph));
+    change_each_in(glyphs, &CategoriesAndPositions { tables });
 }
 
 // Gives a glyph the category of its character.
-#[inline]
-fn set_category<T: Tables>(tables: &T, glyph: &mut hb_glyph_info_t)
-    ensures { glyph.new ≡ with_category (T.tables tables.now) glyph.old }
-{
-    glyph.category = tables.indic_categories(glyph.glyph_id).0;
+#[derive(Clone, Copy)]
+struct Categories<'a, T: Tables> {
+    tables: &'a T,
+}
+
+impl<'a, T: Tables> GlyphChange for Categories<'a, T> {
+    ghost use Rattle.shapers_syllabic.specs.Characters.{with_category};
+
+    ghost changed = { λ change glyph. with_category (T.tables change.tables.now) glyph };
+
+    #[inline]
+    fn change(&self, glyph: &mut hb_glyph_info_t) {
+        glyph.category = self.tables.indic_categories(glyph.glyph_id).0;
+    }
 }
 
 // Gives a glyph the category and the position of its character.
-#[inline]
-fn set_category_and_position<T: Tables>(tables: &T, glyph: &mut hb_glyph_info_t)
-    ensures { glyph.new ≡ with_category_and_position (T.tables tables.now) glyph.old }
-{
-    let (category, position) = tables.indic_categories(glyph.glyph_id);
-    glyph.category = category;
-    glyph.auxiliary = position;
+#[derive(Clone, Copy)]
+struct CategoriesAndPositions<'a, T: Tables> {
+    tables: &'a T,
+}
+
+impl<'a, T: Tables> GlyphChange for CategoriesAndPositions<'a, T> {
+    ghost use Rattle.shapers_syllabic.specs.Characters.{with_category_and_position};
+
+    ghost changed = { λ change glyph.
+        with_category_and_position (T.tables change.tables.now) glyph };
+
+    #[inline]
+    fn change(&self, glyph: &mut hb_glyph_info_t) {
+        let (category, position) = self.tables.indic_categories(glyph.glyph_id);
+        glyph.category = category;
+        glyph.auxiliary = position;
+    }
 }

@@ -7,6 +7,7 @@ use shapers_arabic::ot_shaper_arabic::setup_masks_inner;
 use shapers_base::buffer::{GlyphChange, change_each_in, hb_buffer_t, hb_glyph_info_t};
 use shapers_base::font::Tables;
 use shapers_base::plan::{PlanData, hb_ot_shape_plan_t};
+use std::mem;
 
 /// Gives each letter its form, the form's mask and the glyph flags of joining, where the plan has a
 /// plan of Arabic, and each glyph the category of its character in the universal shaper. It can't
@@ -21,12 +22,17 @@ pub fn setup_masks<T: Tables>(plan: &hb_ot_shape_plan_t, tables: &T, buffer: &mu
         BreaksAsJoining arabic plan.now.script (T.tables tables.now) buffer.old buffer.new }
 {
     match &plan.plan_data {
-        PlanData::Universal(universal_plan) => {
-            set_categories(tables, buffer);
-            if let Some(arabic_plan) = &universal_plan.arabic_plan {
-                setup_masks_inner(arabic_plan, plan.script, buffer, tables);
+        PlanData::Universal(universal_plan) => match &universal_plan.arabic_plan {
+            Some(arabic_plan) => {
+                // (tables that panic leave the empty buffer, also at a letter around the text)
+                let empty = hb_buffer_t::new(buffer.alloc(), buffer.max_len());
+                let mut text = mem::replace(buffer, empty);
+                set_categories(tables, &mut text);
+                setup_masks_inner(arabic_plan, plan.script, &mut text, tables);
+                *buffer = text;
             }
-        }
+            None => set_categories(tables, buffer),
+        },
         _ => unreachable!("the plan has no data of the universal shaper"),
     }
 }
@@ -36,8 +42,7 @@ pub fn setup_masks<T: Tables>(plan: &hb_ot_shape_plan_t, tables: &T, buffer: &mu
 fn set_categories<T: Tables>(tables: &T, buffer: &mut hb_buffer_t)
     ensures { buffer.new ≡ with_categories (T.tables tables.now) buffer.old }
 {
-    let len = buffer.len();
-    buffer.change_each(0, len, &Categories { tables });
+    buffer.change_outside(&Categories { tables });
 }
 
 /// Gives each of these glyphs the category of its character in the universal shaper.

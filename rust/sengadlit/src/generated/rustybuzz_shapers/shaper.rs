@@ -24,7 +24,6 @@ use crate::generated::shapers_stretch::ot_shaper_arabic_stretch;
 use crate::generated::shapers_text::{ot_shaper_hebrew, ot_shaper_thai};
 use crate::generated::shapers_universal::ot_shaper_use;
 pub use conditions::{has_positions, kinds_fit, lacks_positions, pause_fits};
-use core::mem;
 pub use pauses::{pause_may_change, run_pause};
 pub use syllables::{setup_syllables_found, setup_syllables_written};
 
@@ -635,31 +634,15 @@ impl Shaper {
         buffer: &mut Buffer,
     ) -> Option<()> {
         match self {
-            Self::Hebrew | Self::MyanmarZawgyi | Self::Thai => return None,
-            Self::Arabic | Self::Hangul => self.set_masks(plan, tables, buffer),
-            Self::Indic | Self::Khmer | Self::Myanmar | Self::Universal => {
-                // (tables that panic leave the empty buffer, and no text with some categories)
-                let empty = Buffer::new(buffer.alloc(), buffer.max_len());
-                let mut text = mem::replace(buffer, empty);
-                self.set_masks(plan, tables, &mut text);
-                *buffer = text;
-            }
-        }
-        Some(())
-    }
-
-    // The masks of a shaper, where it sets any.
-    #[inline]
-    fn set_masks<T: Tables>(self, plan: &Plan, tables: &T, buffer: &mut Buffer) {
-        match self {
             Self::Arabic => ot_shaper_arabic::setup_masks(plan, tables, buffer),
             Self::Hangul => ot_shaper_hangul::setup_masks(plan, buffer),
             Self::Indic => ot_shaper_indic::setup_masks(tables, buffer),
             Self::Khmer => ot_shaper_khmer::setup_masks(tables, buffer),
             Self::Myanmar => ot_shaper_myanmar::setup_masks(tables, buffer),
             Self::Universal => ot_shaper_use::setup_masks(plan, tables, buffer),
-            Self::Hebrew | Self::MyanmarZawgyi | Self::Thai => {}
+            Self::Hebrew | Self::MyanmarZawgyi | Self::Thai => return None,
         }
+        Some(())
     }
 
     /// Reorders the marks from `start` to `end`: for Hebrew, at the first three neighbours of its

@@ -2,7 +2,7 @@
 
 //! What several shapers look up about a character.
 
-use crate::generated::shapers_base::buffer::{Buffer, GlyphInfo, change_each_by_in};
+use crate::generated::shapers_base::buffer::{Buffer, GlyphChange, GlyphInfo, change_each_in};
 use crate::generated::shapers_base::font::Tables;
 
 /// The composition of two characters by the table. A mark composes with nothing behind it, so that
@@ -44,7 +44,7 @@ pub fn compose<T: Tables>(tables: &T, a: char, b: char) -> Option<char> {
 /// </details>
 #[inline]
 pub fn set_categories<T: Tables>(tables: &T, buffer: &mut Buffer) {
-    buffer.change_all_by(|glyph| set_category(tables, glyph));
+    buffer.change_outside(&Categories { tables });
 }
 
 /// `set_categories` for the glyphs of a slice.
@@ -62,7 +62,7 @@ pub fn set_categories<T: Tables>(tables: &T, buffer: &mut Buffer) {
 /// </details>
 #[inline]
 pub fn set_categories_in<T: Tables>(tables: &T, glyphs: &mut [GlyphInfo]) {
-    change_each_by_in(glyphs, |glyph| set_category(tables, glyph));
+    change_each_in(glyphs, &Categories { tables });
 }
 
 /// Gives each glyph the category and, as its auxiliary byte, the position that the table of the
@@ -83,7 +83,7 @@ pub fn set_categories_in<T: Tables>(tables: &T, glyphs: &mut [GlyphInfo]) {
 /// </details>
 #[inline]
 pub fn set_categories_and_positions<T: Tables>(tables: &T, buffer: &mut Buffer) {
-    buffer.change_all_by(|glyph| set_category_and_position(tables, glyph));
+    buffer.change_outside(&CategoriesAndPositions { tables });
 }
 
 /// `set_categories_and_positions` for the glyphs of a slice.
@@ -101,19 +101,33 @@ pub fn set_categories_and_positions<T: Tables>(tables: &T, buffer: &mut Buffer) 
 /// </details>
 #[inline]
 pub fn set_categories_and_positions_in<T: Tables>(tables: &T, glyphs: &mut [GlyphInfo]) {
-    change_each_by_in(glyphs, |glyph| set_category_and_position(tables, glyph));
+    change_each_in(glyphs, &CategoriesAndPositions { tables });
 }
 
 // Gives a glyph the category of its character.
-#[inline]
-fn set_category<T: Tables>(tables: &T, glyph: &mut GlyphInfo) {
-    glyph.category = tables.indic_categories(glyph.glyph_id).0;
+#[derive(Clone, Copy)]
+struct Categories<'a, T: Tables> {
+    tables: &'a T,
+}
+
+impl<'a, T: Tables> GlyphChange for Categories<'a, T> {
+    #[inline]
+    fn change(&self, glyph: &mut GlyphInfo) {
+        glyph.category = self.tables.indic_categories(glyph.glyph_id).0;
+    }
 }
 
 // Gives a glyph the category and the position of its character.
-#[inline]
-fn set_category_and_position<T: Tables>(tables: &T, glyph: &mut GlyphInfo) {
-    let (category, position) = tables.indic_categories(glyph.glyph_id);
-    glyph.category = category;
-    glyph.auxiliary = position;
+#[derive(Clone, Copy)]
+struct CategoriesAndPositions<'a, T: Tables> {
+    tables: &'a T,
+}
+
+impl<'a, T: Tables> GlyphChange for CategoriesAndPositions<'a, T> {
+    #[inline]
+    fn change(&self, glyph: &mut GlyphInfo) {
+        let (category, position) = self.tables.indic_categories(glyph.glyph_id);
+        glyph.category = category;
+        glyph.auxiliary = position;
+    }
 }

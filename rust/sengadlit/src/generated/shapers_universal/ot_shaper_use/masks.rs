@@ -6,6 +6,7 @@ use crate::generated::shapers_arabic::ot_shaper_arabic::setup_masks_inner;
 use crate::generated::shapers_base::buffer::{Buffer, GlyphChange, GlyphInfo, change_each_in};
 use crate::generated::shapers_base::font::Tables;
 use crate::generated::shapers_base::plan::{Plan, PlanData};
+use core::mem;
 
 /// Gives each letter its form, the form's mask and the glyph flags of joining, where the plan has a
 /// plan of Arabic, and each glyph the category of its character in the universal shaper. It can't
@@ -31,12 +32,17 @@ use crate::generated::shapers_base::plan::{Plan, PlanData};
 #[inline]
 pub fn setup_masks<T: Tables>(plan: &Plan, tables: &T, buffer: &mut Buffer) {
     match &plan.plan_data {
-        PlanData::Universal(universal_plan) => {
-            set_categories(tables, buffer);
-            if let Some(arabic_plan) = &universal_plan.arabic_plan {
-                setup_masks_inner(arabic_plan, plan.script, buffer, tables);
+        PlanData::Universal(universal_plan) => match &universal_plan.arabic_plan {
+            Some(arabic_plan) => {
+                // (tables that panic leave the empty buffer, also at a letter around the text)
+                let empty = Buffer::new(buffer.alloc(), buffer.max_len());
+                let mut text = mem::replace(buffer, empty);
+                set_categories(tables, &mut text);
+                setup_masks_inner(arabic_plan, plan.script, &mut text, tables);
+                *buffer = text;
             }
-        }
+            None => set_categories(tables, buffer),
+        },
         _ => unreachable!("the plan has no data of the universal shaper"),
     }
 }
@@ -44,8 +50,7 @@ pub fn setup_masks<T: Tables>(plan: &Plan, tables: &T, buffer: &mut Buffer) {
 // Gives each glyph the category of its character.
 #[inline]
 fn set_categories<T: Tables>(tables: &T, buffer: &mut Buffer) {
-    let len = buffer.len();
-    buffer.change_each(0, len, &Categories { tables });
+    buffer.change_outside(&Categories { tables });
 }
 
 /// Gives each of these glyphs the category of its character in the universal shaper.
