@@ -32,6 +32,16 @@ pub returns-in_ok-setup_syllables-in-SetupSyllablesMyanmar-clause-laws :
     goal.returns-in_ok-setup_syllables-in-SetupSyllablesMyanmar-clause-laws
 returns-in_ok-setup_syllables-in-SetupSyllablesMyanmar-clause-laws = search (arith, setup_added)
 
+pub returns-then-not-may_panic-clause-laws : goal.returns-then-not-may_panic-clause-laws
+returns-then-not-may_panic-clause-laws g c =
+    let plan = c.args.plan.now in
+    let old = c.args.buffer.now in
+    let made = c.initial_reordering in
+    let kept = on_kept _ made.result (by_initial plan (g.F.hb_font_t.font c.args.face.now) old) old made.new.buffer
+    (search (arith, order_by_font_laws)) (search (arith, order_by_font_reads_no_serials)) made.ensures.syllables
+    (both _ _ made.result made.ensures.linked made.ensures.merged) in
+    search (arith, c.in-InitialReordering.is, kept)
+
 pub returns-in-InitialReordering-clause-laws : goal.returns-in-InitialReordering-clause-laws
 returns-in-InitialReordering-clause-laws g c =
     let plan = c.args.plan.now in

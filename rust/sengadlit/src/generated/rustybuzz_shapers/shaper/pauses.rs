@@ -112,6 +112,9 @@ fn run_syllabic_pause<F: Font>(
         }
         Pause::SetupSyllablesUse => ot_shaper_use::setup_syllables_use(plan, spans, buffer)?,
         Pause::InitialReordering => {
+            if !face.may_panic() {
+                return ot_shaper_indic_initial::initial_reordering(plan, face, buffer);
+            }
             // (a font that panics leaves the empty buffer, and no text that is half reordered)
             let empty = Buffer::new(buffer.alloc(), buffer.max_len());
             let mut text = mem::replace(buffer, empty);
