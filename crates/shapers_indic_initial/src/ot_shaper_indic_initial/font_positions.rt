@@ -177,8 +177,12 @@ impl<'a, F: hb_font_t> ByVirama<'a, F> {
             let font = F.font r.font.now in
             result ≡ joins_virama font r.map.now feature.now self.now.virama consonant }
     {
-        feature.would_substitute(self.rules.map, self.rules.font, &[self.virama, consonant])
-            || feature.would_substitute(self.rules.map, self.rules.font, &[consonant, self.virama])
+        let font = self.rules.font;
+        let lookups = feature.lookups(self.rules.map);
+        let zero_context = feature.zero_context();
+        !lookups.is_empty()
+            && (font.would_apply_any(lookups, &[self.virama, consonant], zero_context)
+                || font.would_apply_any(lookups, &[consonant, self.virama], zero_context))
     }
 }
 

@@ -117,8 +117,12 @@ impl<'a, F: Font> ByVirama<'a, F> {
     // consonant.
     #[inline(always)]
     fn joins(&self, feature: &IndicWouldSubstituteFeature, consonant: GlyphId) -> bool {
-        feature.would_substitute(self.rules.map, self.rules.font, &[self.virama, consonant])
-            || feature.would_substitute(self.rules.map, self.rules.font, &[consonant, self.virama])
+        let font = self.rules.font;
+        let lookups = feature.lookups(self.rules.map);
+        let zero_context = feature.zero_context();
+        !lookups.is_empty()
+            && (font.would_apply_any(lookups, &[self.virama, consonant], zero_context)
+                || font.would_apply_any(lookups, &[consonant, self.virama], zero_context))
     }
 }
 
