@@ -30,6 +30,7 @@ const T_COUNT: u32 = 28;
 
 /// What a character decomposes to in one step by Unicode's canonical decomposition. A character that
 /// decomposes to one other has U+0000 beside it.
+#[inline]
 #[tactic(auto, unfolding(crate::specs::Pairs::decomposed))]
 pub fn decompose(ab: char) -> Option<(char, char)>
     ensures { result ≡ decomposed ab }
@@ -55,6 +56,7 @@ pub fn compose(a: char, b: char) -> Option<char>
 }
 
 /// The mirrored character of a character: what stands for it in text from right to left.
+#[inline]
 #[tactic(auto, unfolding(crate::specs::Pairs::mirrored))]
 pub fn mirrored(c: char) -> Option<char>
     ensures { result ≡ mirrored c }
@@ -63,6 +65,7 @@ pub fn mirrored(c: char) -> Option<char>
 }
 
 /// Whether it is a syllable of Hangul.
+#[inline]
 fn is_syllable(c: u32) -> bool
     ensures { result ≡ is_s c }
 {
@@ -122,6 +125,7 @@ fn compose_lv_and_t(lv: u32, t: u32) -> Option<char>
 }
 
 /// A mapping of one or two characters as a pair.
+#[inline]
 #[tactic(auto, using(crate::proofs::PairLemmas::as_pair_one, crate::proofs::PairLemmas::as_pair_two, crate::proofs::PairLemmas::as_pair_none))]
 fn pair_of(mapping: &[char]) -> Option<(char, char)>
     ensures { result ≡ as_pair mapping.now }
@@ -136,6 +140,7 @@ fn pair_of(mapping: &[char]) -> Option<(char, char)>
 }
 
 /// The first character, if there is one.
+#[inline]
 #[tactic(auto, using(crate::proofs::PairLemmas::first_or_none_none, crate::proofs::PairLemmas::first_or_none_some))]
 fn first_or_none(string: &[char]) -> Option<char>
     ensures { result ≡ first_or_none string.now }
@@ -161,11 +166,15 @@ fn composite(a: char, b: char) -> Option<char>
     None
 }
 
-/// The canonical mapping of a character.
+/// The canonical mapping of a character. Most have none, which is the string with the number 0.
+#[inline]
 fn mapping_of(c: char) -> &'static [char]
     ensures { result.now ≡ canonical_mapping c }
 {
     let number = number_of(&MAPPING_INDEX, &MAPPING_BLOCKS, &MAPPING_TAIL, c as u32);
+    if number == 0 {
+        return &[];
+    }
     string_of(&MAPPING_OFFSETS, &MAPPING_CHARS, number)
 }
 
@@ -182,10 +191,14 @@ fn compositions_of(c: char) -> &'static [char]
     string_of(&COMPOSITION_OFFSETS, &COMPOSITION_CHARS, number)
 }
 
-/// What a character is mirrored to: one character or none.
+/// What a character is mirrored to: one character or none, which is the string with the number 0.
+#[inline]
 fn mirrored_string_of(c: char) -> &'static [char]
     ensures { result.now ≡ mirrored_string c }
 {
     let number = number_of(&MIRRORED_INDEX, &MIRRORED_BLOCKS, &MIRRORED_TAIL, c as u32);
+    if number == 0 {
+        return &[];
+    }
     string_of(&MIRRORED_OFFSETS, &MIRRORED_CHARS, number)
 }

@@ -69,6 +69,20 @@ pub fn is_default_ignorable(c: char) -> bool
     character_bits(c) / 32 % 2 == 1
 }
 
+/// The general category of a character, the class by which a mark is ordered, and whether a font need
+/// not draw the character: all that one look-up tells.
+#[inline]
+pub fn character_kind(c: char) -> (hb_unicode_general_category_t, u8, bool)
+    ensures { result ≡ (category_of_character c, modified_class c, default_ignorable c) }
+{
+    let bits = character_bits(c);
+    (
+        hb_unicode_general_category_t::from_number_or_unassigned((bits % 32) as u8),
+        (bits / 256) as u8,
+        bits / 32 % 2 == 1,
+    )
+}
+
 /// Whether a character is a pictograph that may be part of an emoji sequence (`Extended_Pictographic`).
 pub fn is_extended_pictographic(c: char) -> bool
     ensures { result ≡ extended_pictographic c }

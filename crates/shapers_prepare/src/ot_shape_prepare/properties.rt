@@ -1,7 +1,7 @@
 //! The properties of each character, as its glyph keeps them.
-ghost use Rattle.std.specs.Prelude.{◌≡◌, ◌&&◌, ◌||◌, false};
+ghost use Rattle.std.specs.Prelude.{◌≡◌, ◌&&◌, ◌||◌, false, true, nat_lt, not, if◌then◌else◌};
 ghost use Rattle.shapers_normal.specs.Properties.{is_seen_by_lookups, joiner_class};
-ghost use Rattle.shapers_prepare.specs.GlyphProperties.{always_continues, is_mark_character, is_regional_indicator, stored_class, stored_properties, need_not_be_drawn, properties_set, with_properties};
+ghost use Rattle.shapers_prepare.specs.GlyphProperties.{always_continues, is_mark_character, is_regional_indicator, is_zero_width_joiner, stored_class, stored_properties, properties_set, with_properties};
 ghost use Rattle.shapers_prepare.specs.PropertyWalk.{goes_on_behind, properties_with, then_awaited};
 
 use super::unicode::UnicodeProperties;
@@ -98,8 +98,30 @@ pub(super) fn set_properties<U: UnicodeProperties>(
         glyph.new ≡ with_properties p continues glyph.old }
 {
     let c = glyph.glyph_id;
+    glyph.unicode_props = match before {
+        Awaited::Nothing if never_continues(c) => stored_properties(unicode, false, c),
+        _ => properties_behind(unicode, before, c),
+    };
+}
+
+// Whether a character has a smaller number than any that carries on each grapheme, but for the joiner:
+// most have.
+#[inline]
+fn never_continues(c: u32) -> bool
+    ensures is { result ≡ (nat_lt c 0xFF9E && not (is_zero_width_joiner c)) }
+    ensures sound { result ≡ true → always_continues c ≡ false }
+{
+    c < 0xFF9E && c != ZERO_WIDTH_JOINER
+}
+
+// What a glyph keeps of one of the few characters that may go on.
+#[cold]
+fn properties_behind<U: UnicodeProperties>(unicode: &U, before: Awaited, c: u32) -> UnicodeProps
+    ensures { let p = U.properties unicode.now in
+        result ≡ stored_properties p (is_mark_character p c || goes_on_behind p before c) c }
+{
     let goes_on = goes_on_behind(unicode, before, c);
-    glyph.unicode_props = stored_properties(unicode, goes_on, c);
+    stored_properties(unicode, goes_on, c)
 }
 
 // What a glyph keeps of a character that carries on the grapheme before it if it is a mark or goes on.
@@ -108,15 +130,14 @@ fn stored_properties<U: UnicodeProperties>(unicode: &U, goes_on: bool, c: u32) -
     ensures { let p = U.properties unicode.now in
         result ≡ stored_properties p (is_mark_character p c || goes_on) c }
 {
-    let general = unicode.general_category(c);
-    let is_mark = c >= 0x80 && general.is_mark();
-    let is_ignorable = c >= 0x80 && unicode.is_default_ignorable(c);
-    if !is_mark && !is_ignorable {
+    let (general, class, ignorable) = unicode.character_kind(c);
+    if c < 0x80 || !(general.is_mark() || ignorable) {
         return plain_properties(general, goes_on);
     }
-    let class = stored_class(unicode, c, is_mark, is_ignorable);
-    let is_hidden = is_ignorable && is_seen_by_lookups(c);
-    properties_with(general, class, is_ignorable, is_mark || goes_on, is_hidden)
+    let is_mark = general.is_mark();
+    let class = stored_class(class, c, is_mark, ignorable);
+    let is_hidden = ignorable && is_seen_by_lookups(c);
+    properties_with(general, class, ignorable, is_mark || goes_on, is_hidden)
 }
 
 // The properties of a category and a class, with these bits on or off.
@@ -182,13 +203,12 @@ pub(super) fn is_regional_indicator(c: u32) -> bool
 
 // The class of a mark, or which joiner a character is that need not be drawn.
 #[inline]
-fn stored_class<U: UnicodeProperties>(unicode: &U, c: u32, is_mark: bool, is_ignorable: bool) -> u8
-    requires mark { is_mark ≡ is_mark_character (U.properties unicode.now) c }
-    requires ignorable { is_ignorable ≡ need_not_be_drawn (U.properties unicode.now) c }
-    ensures { result ≡ stored_class (U.properties unicode.now) c }
+fn stored_class(class: u8, c: u32, is_mark: bool, is_ignorable: bool) -> u8
+    ensures { result ≡
+        (if is_mark then class else if is_ignorable then joiner_class c else 0) }
 {
     if is_mark {
-        unicode.modified_combining_class(c)
+        class
     } else if is_ignorable {
         joiner_class(c)
     } else {

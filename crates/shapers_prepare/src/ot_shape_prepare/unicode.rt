@@ -24,6 +24,19 @@ pub trait UnicodeProperties {
     fn is_default_ignorable(&self, c: u32) -> bool
         ensures { result ≡ (properties self.now).ignorable c };
 
+    /// The first three at once. An impl overrides this where one look-up tells them all.
+    #[inline]
+    fn character_kind(&self, c: u32) -> (hb_unicode_general_category_t, u8, bool)
+        ensures { let p = properties self.now in
+            result ≡ (p.general c, p.class c, p.ignorable c) }
+    {
+        (
+            self.general_category(c),
+            self.modified_combining_class(c),
+            self.is_default_ignorable(c),
+        )
+    }
+
     /// Whether a character is a pictograph of emoji (`Extended_Pictographic`).
     fn is_extended_pictographic(&self, c: u32) -> bool
         ensures { result ≡ (properties self.now).pictographic c };
@@ -56,6 +69,11 @@ impl UnicodeProperties for UnicodeTables {
     #[inline]
     fn is_default_ignorable(&self, c: u32) -> bool {
         shapers_unicode::is_default_ignorable(character(c))
+    }
+
+    #[inline]
+    fn character_kind(&self, c: u32) -> (hb_unicode_general_category_t, u8, bool) {
+        shapers_unicode::character_kind(character(c))
     }
 
     #[inline]

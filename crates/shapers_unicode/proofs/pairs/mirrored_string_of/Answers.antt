@@ -16,3 +16,8 @@ pub returns : goal.returns
 returns c =
     c.string_of.ensures ∙ ap (group_at MIRRORED_OFFSETS MIRRORED_CHARS) c.number_of-number.ensures
     ∙ groups-MIRRORED.gives c.args.c (omega arith)
+
+pub returns-then-number-eq0 : goal.returns-then-number-eq0
+returns-then-number-eq0 c =
+    ap (group_at MIRRORED_OFFSETS MIRRORED_CHARS) (sym c.if-number-eq0.true ∙ c.number_of-number.ensures)
+    ∙ groups-MIRRORED.gives c.args.c (omega arith)

@@ -15,8 +15,8 @@ mod vertical;
 
 pub use pairs::{compose, decompose, mirrored};
 pub use properties::{
-    general_category, indic_categories, is_default_ignorable, is_extended_pictographic,
-    joining_type, modified_combining_class, universal_category,
+    character_kind, general_category, indic_categories, is_default_ignorable,
+    is_extended_pictographic, joining_type, modified_combining_class, universal_category,
 };
 pub use vertical::vertical_form;
 

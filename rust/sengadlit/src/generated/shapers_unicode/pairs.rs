@@ -41,6 +41,7 @@ const T_COUNT: u32 = 28;
 /// - `decomposed`: `crates/shapers_unicode/specs/Pairs.antt`
 ///
 /// </details>
+#[inline]
 pub fn decompose(ab: char) -> Option<(char, char)> {
     if is_syllable(ab as u32) {
         return syllable_parts(ab as u32);
@@ -84,11 +85,13 @@ pub fn compose(a: char, b: char) -> Option<char> {
 /// - `mirrored`: `crates/shapers_unicode/specs/Pairs.antt`
 ///
 /// </details>
+#[inline]
 pub fn mirrored(c: char) -> Option<char> {
     first_or_none(mirrored_string_of(c))
 }
 
 /// Whether it is a syllable of Hangul.
+#[inline]
 fn is_syllable(c: u32) -> bool {
     matches!(c, 0xAC00..=0xD7A3)
 }
@@ -129,6 +132,7 @@ fn compose_lv_and_t(lv: u32, t: u32) -> Option<char> {
 }
 
 /// A mapping of one or two characters as a pair.
+#[inline]
 fn pair_of(mapping: &[char]) -> Option<(char, char)> {
     if mapping.len() == 1 {
         return Some((mapping[0], '\0'));
@@ -140,6 +144,7 @@ fn pair_of(mapping: &[char]) -> Option<(char, char)> {
 }
 
 /// The first character, if there is one.
+#[inline]
 fn first_or_none(string: &[char]) -> Option<char> {
     if string.len() == 0 {
         return None;
@@ -160,9 +165,13 @@ fn composite(a: char, b: char) -> Option<char> {
     None
 }
 
-/// The canonical mapping of a character.
+/// The canonical mapping of a character. Most have none, which is the string with the number 0.
+#[inline]
 fn mapping_of(c: char) -> &'static [char] {
     let number = number_of(&MAPPING_INDEX, &MAPPING_BLOCKS, &MAPPING_TAIL, c as u32);
+    if number == 0 {
+        return &[];
+    }
     string_of(&MAPPING_OFFSETS, &MAPPING_CHARS, number)
 }
 
@@ -177,8 +186,12 @@ fn compositions_of(c: char) -> &'static [char] {
     string_of(&COMPOSITION_OFFSETS, &COMPOSITION_CHARS, number)
 }
 
-/// What a character is mirrored to: one character or none.
+/// What a character is mirrored to: one character or none, which is the string with the number 0.
+#[inline]
 fn mirrored_string_of(c: char) -> &'static [char] {
     let number = number_of(&MIRRORED_INDEX, &MIRRORED_BLOCKS, &MIRRORED_TAIL, c as u32);
+    if number == 0 {
+        return &[];
+    }
     string_of(&MIRRORED_OFFSETS, &MIRRORED_CHARS, number)
 }

@@ -108,6 +108,32 @@ pub fn is_default_ignorable(c: char) -> bool {
     character_bits(c) / 32 % 2 == 1
 }
 
+/// The general category of a character, the class by which a mark is ordered, and whether a font need
+/// not draw the character: all that one look-up tells.
+///
+/// <details><summary>Contract</summary>
+///
+/// # Contract
+///
+/// ```text
+/// ensures { result ≡ (category_of_character c, modified_class c, default_ignorable c) }
+/// ```
+///
+/// - `modified_class`: `crates/shapers_unicode/specs/Classes.antt`
+/// - `category_of_character`: `crates/shapers_unicode/specs/General.antt`
+/// - `default_ignorable`: `crates/shapers_unicode/specs/Ignorable.antt`
+///
+/// </details>
+#[inline]
+pub fn character_kind(c: char) -> (GeneralCategory, u8, bool) {
+    let bits = character_bits(c);
+    (
+        GeneralCategory::from_number_or_unassigned((bits % 32) as u8),
+        (bits / 256) as u8,
+        bits / 32 % 2 == 1,
+    )
+}
+
 /// Whether a character is a pictograph that may be part of an emoji sequence (`Extended_Pictographic`).
 ///
 /// <details><summary>Contract</summary>

@@ -89,22 +89,37 @@ pub(super) fn set_properties<U: UnicodeProperties>(
     glyph: &mut GlyphInfo,
 ) {
     let c = glyph.glyph_id;
+    glyph.unicode_props = match before {
+        Awaited::Nothing if never_continues(c) => stored_properties(unicode, false, c),
+        _ => properties_behind(unicode, before, c),
+    };
+}
+
+// Whether a character has a smaller number than any that carries on each grapheme, but for the joiner:
+// most have.
+#[inline]
+fn never_continues(c: u32) -> bool {
+    c < 0xFF9E && c != ZERO_WIDTH_JOINER
+}
+
+// What a glyph keeps of one of the few characters that may go on.
+#[cold]
+fn properties_behind<U: UnicodeProperties>(unicode: &U, before: Awaited, c: u32) -> UnicodeProps {
     let goes_on = goes_on_behind(unicode, before, c);
-    glyph.unicode_props = stored_properties(unicode, goes_on, c);
+    stored_properties(unicode, goes_on, c)
 }
 
 // What a glyph keeps of a character that carries on the grapheme before it if it is a mark or goes on.
 #[inline]
 fn stored_properties<U: UnicodeProperties>(unicode: &U, goes_on: bool, c: u32) -> UnicodeProps {
-    let general = unicode.general_category(c);
-    let is_mark = c >= 0x80 && general.is_mark();
-    let is_ignorable = c >= 0x80 && unicode.is_default_ignorable(c);
-    if !is_mark && !is_ignorable {
+    let (general, class, ignorable) = unicode.character_kind(c);
+    if c < 0x80 || !(general.is_mark() || ignorable) {
         return plain_properties(general, goes_on);
     }
-    let class = stored_class(unicode, c, is_mark, is_ignorable);
-    let is_hidden = is_ignorable && is_seen_by_lookups(c);
-    properties_with(general, class, is_ignorable, is_mark || goes_on, is_hidden)
+    let is_mark = general.is_mark();
+    let class = stored_class(class, c, is_mark, ignorable);
+    let is_hidden = ignorable && is_seen_by_lookups(c);
+    properties_with(general, class, ignorable, is_mark || goes_on, is_hidden)
 }
 
 // The properties of a category and a class, with these bits on or off.
@@ -159,14 +174,9 @@ pub(super) fn is_regional_indicator(c: u32) -> bool {
 
 // The class of a mark, or which joiner a character is that need not be drawn.
 #[inline]
-fn stored_class<U: UnicodeProperties>(
-    unicode: &U,
-    c: u32,
-    is_mark: bool,
-    is_ignorable: bool,
-) -> u8 {
+fn stored_class(class: u8, c: u32, is_mark: bool, is_ignorable: bool) -> u8 {
     if is_mark {
-        unicode.modified_combining_class(c)
+        class
     } else if is_ignorable {
         joiner_class(c)
     } else {

@@ -47,6 +47,27 @@ pub trait UnicodeProperties {
     /// </details>
     fn is_default_ignorable(&self, c: u32) -> bool;
 
+    /// The first three at once. An impl overrides this where one look-up tells them all.
+    ///
+    /// <details><summary>Contract</summary>
+    ///
+    /// # Contract
+    ///
+    /// ```text
+    /// ensures { let p = properties self.now in
+    ///     result ≡ (p.general c, p.class c, p.ignorable c) }
+    /// ```
+    ///
+    /// </details>
+    #[inline]
+    fn character_kind(&self, c: u32) -> (GeneralCategory, u8, bool) {
+        (
+            self.general_category(c),
+            self.modified_combining_class(c),
+            self.is_default_ignorable(c),
+        )
+    }
+
     /// Whether a character is a pictograph of emoji (`Extended_Pictographic`).
     ///
     /// <details><summary>Contract</summary>
@@ -102,6 +123,11 @@ impl UnicodeProperties for UnicodeTables {
     #[inline]
     fn is_default_ignorable(&self, c: u32) -> bool {
         crate::generated::shapers_unicode::is_default_ignorable(character(c))
+    }
+
+    #[inline]
+    fn character_kind(&self, c: u32) -> (GeneralCategory, u8, bool) {
+        crate::generated::shapers_unicode::character_kind(character(c))
     }
 
     #[inline]
