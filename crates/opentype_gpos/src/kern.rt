@@ -1,5 +1,7 @@
 //! Pairs of glyphs by the table `kern`.
-ghost use Rattle.std.specs.Prelude.{◌≡◌, ◌<◌, length, map, reverse};
+ghost use Rattle.std.specs.Prelude.{◌≡◌, ◌<◌, ◌+◌, ◌*◌, ℕ, length, map, reverse};
+ghost use Rattle.opentype_face.specs.Bytes.{u32_in};
+ghost use Rattle.opentype_face.specs.Ranges.{bisect};
 ghost use Rattle.opentype_gpos.specs.Kerned.{as_drawn, in_one_line, is_across, is_for, kern_class, kern_half, kern_rest, kern_sight, kern_stepped, kern_value, kern_whole, kerned, kerned_along, kerned_by, kerned_by_subtables, kerned_text, line_step, pair_kerned, value_of_pair, with_half, with_rest, with_step};
 ghost use Rattle.opentype_gpos.specs.Along.{applied_along};
 
@@ -7,26 +9,40 @@ use crate::finish::{is_backward, let_go};
 use crate::joins::with_across;
 use crate::moved::{flag_up_to, is_vertical};
 use crate::nearby::{next_glyph, number};
-use opentype_face::bytes::{table_at, u8_at, u16_at};
-use opentype_face::ranges::Ranges;
+use opentype_face::bytes::{table_at, u8_at, u16_at, u32_at};
 use opentype_layout::sight::Sight;
 use shapers_buffer::buffer::{
     Direction, GlyphPosition, PositionedWalk, hb_buffer_t, hb_glyph_info_t,
 };
+
+// The record of a pair, among so many of six bytes from byte 14 on. (It is searched for here, since
+// each record is read once, and distances that the code knows make a step shorter.)
+fn find_listed(bytes: &[u8], count: u16, pair: u32) -> Option<u32>
+    ensures { let listed : ℕ → ℕ = λ i. u32_in bytes.now (14 + i * 6) in
+        result ≡ bisect count listed listed pair 0 count }
+{
+    let (mut low, mut high) = (0, u32::from(count));
+    while low < high {
+        let middle = (low + high - 1) / 2;
+        let found = u32_at(bytes, 14 + middle as usize * 6);
+        if pair < found {
+            high = middle;
+        } else if found < pair {
+            low = middle + 1;
+        } else {
+            return Some(middle);
+        }
+    }
+    None
+}
 
 // What a list of pairs says of one.
 #[tactic(auto, unfolding(crate::specs::Kerned::value_of_pair))]
 fn listed_value(bytes: &[u8], left: u16, right: u16) -> u16
     ensures { result ≡ value_of_pair bytes.now left right }
 {
-    let pairs = Ranges {
-        bytes,
-        first: 14,
-        last: 14,
-        size: 6,
-        count: u32::from(u16_at(bytes, 6)),
-    };
-    match pairs.find_long(65536 * u32::from(left) + u32::from(right)) {
+    let pair = 65536 * u32::from(left) + u32::from(right);
+    match find_listed(bytes, u16_at(bytes, 6), pair) {
         Some(i) => u16_at(bytes, 18 + i as usize * 6),
         None => 0,
     }

@@ -2,8 +2,7 @@
 
 //! Pairs of glyphs by the table `kern`.
 
-use crate::generated::opentype_face::bytes::{table_at, u8_at, u16_at};
-use crate::generated::opentype_face::ranges::Ranges;
+use crate::generated::opentype_face::bytes::{table_at, u8_at, u16_at, u32_at};
 use crate::generated::opentype_gpos::finish::{is_backward, let_go};
 use crate::generated::opentype_gpos::joins::with_across;
 use crate::generated::opentype_gpos::moved::{flag_up_to, is_vertical};
@@ -13,16 +12,28 @@ use crate::generated::shapers_buffer::buffer::{
     Buffer, Direction, GlyphInfo, GlyphPosition, PositionedWalk,
 };
 
+// The record of a pair, among so many of six bytes from byte 14 on. (It is searched for here, since
+// each record is read once, and distances that the code knows make a step shorter.)
+fn find_listed(bytes: &[u8], count: u16, pair: u32) -> Option<u32> {
+    let (mut low, mut high) = (0, u32::from(count));
+    while low < high {
+        let middle = (low + high - 1) / 2;
+        let found = u32_at(bytes, 14 + middle as usize * 6);
+        if pair < found {
+            high = middle;
+        } else if found < pair {
+            low = middle + 1;
+        } else {
+            return Some(middle);
+        }
+    }
+    None
+}
+
 // What a list of pairs says of one.
 fn listed_value(bytes: &[u8], left: u16, right: u16) -> u16 {
-    let pairs = Ranges {
-        bytes,
-        first: 14,
-        last: 14,
-        size: 6,
-        count: u32::from(u16_at(bytes, 6)),
-    };
-    match pairs.find_long(65536 * u32::from(left) + u32::from(right)) {
+    let pair = 65536 * u32::from(left) + u32::from(right);
+    match find_listed(bytes, u16_at(bytes, 6), pair) {
         Some(i) => u16_at(bytes, 18 + i as usize * 6),
         None => 0,
     }
