@@ -17,3 +17,4 @@ pub mod Turning
 mod CursiveRows
 mod ContextRows
 mod Paired
+mod Passing

@@ -1,5 +1,5 @@
 -- A lookup does nothing where none of its subtables begins.
-use Rattle.std.proofs.Common.{◌≡◌, ◌∙◌, ℕ, zero, suc, ◌+◌, ◌-◌, ◌==◌, ◌<◌, ◌≤◌, ◌||◌, not, IfSome, unwrap_or, Bool, true, false, nat_lt, Option, None, Some, List, length, refl, sym, ap, subst, arith, if◌then◌else◌}
+use Rattle.std.proofs.Common.{◌≡◌, ◌∙◌, ℕ, zero, suc, ◌+◌, ◌-◌, ◌==◌, ◌<◌, ◌≤◌, ◌||◌, IfSome, unwrap_or, Bool, true, false, nat_lt, Option, None, Some, List, length, refl, sym, ap, subst, arith, if◌then◌else◌}
 use Rattle.std.specs.Option.{is_some, option_map}
 use Rattle.std.proofs.lemmas.Bool.Decides.{nat_tests}
 use Rattle.std.proofs.lemmas.Grind.{common_steps}
@@ -169,12 +169,12 @@ either_way : (test : Bool) (x y z : Progress) → x ≡ z → y ≡ z → (if te
 either_way true x y z one two = one
 either_way false x y z one two = two
 
-step_passed : (s : Setting) (sights : Sights) (lookup : List ℕ) (gs : Glyphs) (ps : Positions) (at glyph : ℕ) →
-    glyph ≡ number_at gs at → NoneStarts true lookup glyph 0 (u16_in lookup 4) →
+pub step_passed : (s : Setting) (sights : Sights) (lookup : List ℕ) (gs : Glyphs) (ps : Positions) (at : ℕ) →
+    NoneStarts true lookup (number_at gs at) 0 (u16_in lookup 4) →
     position_stepped s sights lookup gs ps at ≡ record { glyphs = gs; positions = ps; next = at + 1 }
 unfolding position_stepped
-step_passed s sights lookup gs ps at glyph is none =
-    either_way _ _ _ (passed at gs ps) (ap (stepped_by s at gs ps) (came_none s sights lookup gs at (rw is at none))) refl
+step_passed s sights lookup gs ps at none =
+    either_way _ _ _ (passed at gs ps) (ap (stepped_by s at gs ps) (came_none s sights lookup gs at none)) refl
 
 -- ---- and the whole text before the first glyph that one begins with
 
@@ -188,19 +188,12 @@ stays_to f steps gs ps (suc p) paired le within h =
     (stays_to f steps gs ps p paired (omega arith) (omega arith) (λ j lt. h j (omega arith))) (omega arith) (omega arith) paired
     (h p (omega arith)))
 
-pub walked_first : (s : Setting) (lookup : List ℕ) (gs : Glyphs) (ps : Positions) (first : ℕ) → length ps ≡ length gs →
+walked_first : (s : Setting) (lookup : List ℕ) (gs : Glyphs) (ps : Positions) (first : ℕ) → length ps ≡ length gs →
     first ≤ length gs → ((i : ℕ) → i < first → NoneStarts true lookup (number_at gs i) 0 (u16_in lookup 4)) →
     IsWalked (position_stepped s (sights_in s lookup) lookup) (length gs) gs ps first gs ps first
 walked_first s lookup gs ps first paired within none =
     stays_to (position_stepped s (sights_in s lookup) lookup) (length gs) gs ps first paired within within
-    (λ j lt. step_passed s (sights_in s lookup) lookup gs ps j (number_at gs j) refl (none j lt))
-
-pub unstarted_step : (s : Setting) (sights : Sights) (lookup : List ℕ) (gs : Glyphs) (ps : Positions) (at glyph : ℕ)
-    (found : Option ℕ) (missed : Bool) → glyph ≡ number_at gs at →
-    NoneStarts true lookup glyph 0 (unwrap_or found (u16_in lookup 4)) → is_some found ≡ not missed → missed ≡ true →
-    position_stepped s sights lookup gs ps at ≡ record { glyphs = gs; positions = ps; next = at + 1 }
-unstarted_step s sights lookup gs ps at glyph None missed is none e t = step_passed s sights lookup gs ps at glyph is none
-unstarted_step s sights lookup gs ps at glyph (Some i) missed is none e t = absurd (cc)
+    (λ j lt. step_passed s (sights_in s lookup) lookup gs ps j (none j lt))
 
 -- ---- and a text that it begins nowhere in
 

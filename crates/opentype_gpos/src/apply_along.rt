@@ -1,15 +1,11 @@
 //! Lookups along a text.
-ghost use Rattle.std.specs.Prelude.{ℕ, ◌≡◌, ◌<◌, ◌≤◌, true, length};
-ghost use Rattle.opentype_face.specs.Bytes.{u16_in};
-ghost use Rattle.opentype_layout.specs.Starts.{NoneStarts};
+ghost use Rattle.std.specs.Prelude.{◌≡◌, ◌<◌, length};
 ghost use Rattle.opentype_gpos.specs.Coming.{setting_of};
-ghost use Rattle.opentype_gpos.specs.Moves.{number_at};
 ghost use Rattle.opentype_gpos.specs.Along.{positioned, position_stepped, applied_whole};
 
 use crate::calling::apply_rule;
 use crate::coming::{Came, come_to};
 use crate::making::{make_move, make_pair};
-use crate::nearby::number;
 use crate::pass::{Pass, Sights};
 use opentype_layout::sight::{Application, ignores_glyph};
 use opentype_layout::starts::LookupTable;
@@ -17,6 +13,7 @@ use opentype_layout::tables::LayoutTable;
 use shapers_buffer::buffer::{GlyphPosition, PositionedWalk, hb_buffer_t, hb_glyph_info_t};
 
 // What a lookup does at a place; returns the place that comes next.
+#[inline]
 #[tactic(auto, unfolding(crate::specs::Along::position_stepped))]
 fn step(
     pass: &Pass<'_>,
@@ -32,9 +29,6 @@ fn step(
         ≡ record { glyphs = glyphs.new; positions = positions.new; next = result } }
 {
     let (sight, glyph) = (&sights.input, &glyphs[at]);
-    if lookup.next_start(true, number(glyph), 0).is_none() {
-        return at + 1;
-    }
     if glyph.mask & sight.mask == 0 || ignores_glyph(pass.gdef, sight.flag, sight.set, glyph) {
         return at + 1;
     }
@@ -49,21 +43,7 @@ fn step(
     }
 }
 
-// A place of a text that a lookup doesn't begin before; the text's length, if it begins nowhere.
-fn first_place(lookup: &LookupTable<'_>, glyphs: &[hb_glyph_info_t]) -> usize
-    ensures none { (i : ℕ) → i < result →
-        NoneStarts true lookup.now (number_at glyphs.now i) 0 (u16_in lookup.now 4) }
-    ensures within { result ≤ length glyphs.now }
-{
-    for at in 0..glyphs.len() {
-        if lookup.next_start(true, number(&glyphs[at]), 0).is_some() {
-            return at;
-        }
-    }
-    glyphs.len()
-}
-
-// Applies a lookup along a text. Most lookups begin nowhere in it.
+// Applies a lookup along a text. Most lookups begin nowhere in it, and the others at few glyphs.
 fn apply_along(
     pass: &Pass<'_>,
     lookup: &LookupTable<'_>,
@@ -76,17 +56,22 @@ fn apply_along(
     ensures positions { let end = applied_whole (setting_of pass.now) lookup.now
         glyphs.old positions.old in positions.new ≡ end.positions }
 {
-    let first = first_place(lookup, glyphs);
+    let mask = pass.how.mask;
+    let first = lookup.next_place(true, mask, glyphs, 0);
     if first >= glyphs.len() {
         return;
     }
     let sights = pass.sights(lookup.bytes());
-    let mut at = first;
-    for _ in first..glyphs.len() {
-        if at >= glyphs.len() {
+    let (mut at, mut steps) = (first, glyphs.len() - first);
+    while steps > 0 {
+        at = step(pass, &sights, lookup, glyphs, positions, at);
+        steps -= 1;
+        let place = lookup.next_place(true, mask, glyphs, at);
+        if place >= glyphs.len() || place - at >= steps {
             return;
         }
-        at = step(pass, &sights, lookup, glyphs, positions, at);
+        steps -= place - at;
+        at = place;
     }
 }
 

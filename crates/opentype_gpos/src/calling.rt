@@ -167,7 +167,9 @@ fn step<'a>(
 }
 
 // What a rule that another one's lookup found makes of a text; returns how many lookups may still be
-// applied.
+// applied. (Its rules take many bytes, for which a caller that this is inlined into would make room at
+// each call.)
+#[inline(never)]
 fn run<'a>(
     pass: &Pass<'a>,
     rule: Matched<'a>,

@@ -231,7 +231,9 @@ fn is_loose(position: &GlyphPosition) -> bool
     position.var % 65536 == 0
 }
 
-// Moves a glyph behind those of its chain of attachments, which has more than one.
+// Moves a glyph behind those of its chain of attachments, which has more than one. (Not inlined, since
+// its list of attachments takes many bytes.)
+#[inline(never)]
 fn follow_chain(direction: Direction, at: usize, positions: &mut [GlyphPosition])
     requires { at < length positions.old }
     ensures { positions.new ≡ chain_followed 64 direction positions.old at }

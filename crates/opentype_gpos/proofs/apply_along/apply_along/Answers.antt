@@ -1,38 +1,41 @@
-use Rattle.std.proofs.Common.{ap, arith, sym, ◌∙◌}
+use Rattle.std.proofs.Common.{ap, arith, inl, inr, ◌∙◌}
 use Rattle.opentype_gpos.specs.Coming.{setting_of, sights_in}
-use Rattle.opentype_gpos.specs.Moved.{Progress}
-use Rattle.opentype_gpos.specs.Along.{position_stepped}
-use Rattle.opentype_gpos.specs.declared.pass.Sights.{Sights}
-use Rattle.opentype_gpos.proofs.Walks.{glyphs_all, glyphs_out, positions_all, positions_out, walked_next}
-use Rattle.opentype_gpos.proofs.Unbegun.{walked_first}
+use Rattle.opentype_gpos.proofs.Passing.{left_end, left_first, left_next, left_none, left_on, left_unbegun}
+use Rattle.opentype_gpos.proofs.apply_along.apply_along.Goals.{then-place-glyphs-via-then-place-glyphs, then-place-glyphs-via-else-place-glyphs+then-place-at}
 use Rattle.opentype_gpos.proofs.apply_along.apply_along.Goals as goal
-
-pub loop-init : goal.loop-init
-loop-init c = walked_first _ _ _ _ _ c.requires c.first_place-first.ensures.within c.first_place-first.ensures.none
 
 pub returns-then-first-glyphs : goal.returns-then-first-glyphs
 returns-then-first-glyphs c =
-    let applied_along = walked_first (setting_of c.args.pass.now) c.args.lookup.now c.args.glyphs.now c.args.positions.now
-    c.first_place-first.result c.requires c.first_place-first.ensures.within c.first_place-first.ensures.none in
-    record {
-      glyphs = glyphs_out _ _ _ _ _ _ _ _ applied_along (omega arith);
-      positions = positions_out _ _ _ _ _ _ _ _ applied_along (omega arith);
-    }
+    let end = left_unbegun (setting_of c.args.pass.now) c.args.lookup.now _ _ c.next_place-first.result c.requires
+    c.next_place-first.ensures.passed (omega arith) in
+    record { glyphs = end.glyphs; positions = end.positions }
 
-pub returns-then-at-glyphs : goal.returns-then-at-glyphs
-returns-then-at-glyphs c = record {
-  glyphs = glyphs_out _ _ _ _ _ _ _ _ c.loop.invariant (omega arith);
-  positions = positions_out _ _ _ _ _ _ _ _ c.loop.invariant (omega arith);
-}
+pub loop-steps-init : goal.loop-steps-init
+loop-steps-init c = left_first (setting_of c.args.pass.now) c.args.lookup.now _ _ c.next_place-first.result c.requires
+    c.next_place-first.ensures.passed (omega arith)
 
-pub loop-preserved : goal.loop-preserved
-loop-preserved c =
-    let h : Sights → Progress = λ x. position_stepped (setting_of c.args.pass.now) x c.args.lookup.now c.loop.glyphs c.loop.positions c.loop.at in
-    walked_next _ _ _ _ _ _ _ _ _ _ _ c.loop.invariant c.loop-test.true
-    (omega arith) (cc) (ap h (sym (c.sights-sights.ensures ∙ ap (sights_in (setting_of c.args.pass.now)) c.bytes.ensures)) ∙ c.step-at.ensures)
+pub returns-then-place-glyphs : goal.returns-then-place-glyphs
+returns-then-place-glyphs c =
+    let next = left_next _ _ _ _ _ _ _ _ c.sights-sights.result c.step-at.new.glyphs c.step-at.new.positions c.step-at.result
+    c.loop-steps.invariant (omega arith) (cc)
+    (c.sights-sights.ensures ∙ ap (sights_in (setting_of c.args.pass.now)) c.bytes.ensures) c.step-at.ensures in
+    let end = left_end _ _ _ _ _ _ _ _ c.next_place-place.result next c.next_place-place.ensures.passed
+    (elim c.then-place-glyphs.branch [
+      | then-place-glyphs-via-then-place-glyphs w ↦ inl (omega (arith, w.if-place-glyphs.true))
+      | then-place-glyphs-via-else-place-glyphs+then-place-at w ↦
+          inr (omega (arith, c.next_place-place.ensures.behind, w.if-place-glyphs.false, w.if-place-at.true))
+    ]) in
+    record { glyphs = end.glyphs; positions = end.positions }
+
+pub loop-steps-preserved : goal.loop-steps-preserved
+loop-steps-preserved c =
+    let next = left_next _ _ _ _ _ _ _ _ c.sights-sights.result c.step-at.new.glyphs c.step-at.new.positions c.step-at.result
+    c.loop-steps.invariant (omega arith) (cc)
+    (c.sights-sights.ensures ∙ ap (sights_in (setting_of c.args.pass.now)) c.bytes.ensures) c.step-at.ensures in
+    left_on _ _ _ _ _ _ _ _ c.next_place-place.result next c.next_place-place.ensures.passed
+    (omega arith) (omega arith) (omega arith)
 
 pub returns : goal.returns
-returns c = record {
-  glyphs = glyphs_all _ _ _ _ _ _ _ _ c.loop.invariant c.loop-test.false;
-  positions = positions_all _ _ _ _ _ _ _ _ c.loop.invariant c.loop-test.false;
-}
+returns c =
+    let end = left_none _ _ _ _ _ _ _ _ c.loop-steps.invariant (omega arith) in
+    record { glyphs = end.glyphs; positions = end.positions }

@@ -5,7 +5,6 @@
 use crate::generated::opentype_gpos::calling::apply_rule;
 use crate::generated::opentype_gpos::coming::{Came, come_to};
 use crate::generated::opentype_gpos::making::{make_move, make_pair};
-use crate::generated::opentype_gpos::nearby::number;
 use crate::generated::opentype_gpos::pass::{Pass, Sights};
 use crate::generated::opentype_layout::sight::{Application, ignores_glyph};
 use crate::generated::opentype_layout::starts::LookupTable;
@@ -13,6 +12,7 @@ use crate::generated::opentype_layout::tables::LayoutTable;
 use crate::generated::shapers_buffer::buffer::{Buffer, GlyphInfo, GlyphPosition, PositionedWalk};
 
 // What a lookup does at a place; returns the place that comes next.
+#[inline]
 fn step(
     pass: &Pass<'_>,
     sights: &Sights,
@@ -22,9 +22,6 @@ fn step(
     at: usize,
 ) -> usize {
     let (sight, glyph) = (&sights.input, &glyphs[at]);
-    if lookup.next_start(true, number(glyph), 0).is_none() {
-        return at + 1;
-    }
     if glyph.mask & sight.mask == 0 || ignores_glyph(pass.gdef, sight.flag, sight.set, glyph) {
         return at + 1;
     }
@@ -39,34 +36,29 @@ fn step(
     }
 }
 
-// A place of a text that a lookup doesn't begin before; the text's length, if it begins nowhere.
-fn first_place(lookup: &LookupTable<'_>, glyphs: &[GlyphInfo]) -> usize {
-    for at in 0..glyphs.len() {
-        if lookup.next_start(true, number(&glyphs[at]), 0).is_some() {
-            return at;
-        }
-    }
-    glyphs.len()
-}
-
-// Applies a lookup along a text. Most lookups begin nowhere in it.
+// Applies a lookup along a text. Most lookups begin nowhere in it, and the others at few glyphs.
 fn apply_along(
     pass: &Pass<'_>,
     lookup: &LookupTable<'_>,
     glyphs: &mut [GlyphInfo],
     positions: &mut [GlyphPosition],
 ) {
-    let first = first_place(lookup, glyphs);
+    let mask = pass.how.mask;
+    let first = lookup.next_place(true, mask, glyphs, 0);
     if first >= glyphs.len() {
         return;
     }
     let sights = pass.sights(lookup.bytes());
-    let mut at = first;
-    for _ in first..glyphs.len() {
-        if at >= glyphs.len() {
+    let (mut at, mut steps) = (first, glyphs.len() - first);
+    while steps > 0 {
+        at = step(pass, &sights, lookup, glyphs, positions, at);
+        steps -= 1;
+        let place = lookup.next_place(true, mask, glyphs, at);
+        if place >= glyphs.len() || place - at >= steps {
             return;
         }
-        at = step(pass, &sights, lookup, glyphs, positions, at);
+        steps -= place - at;
+        at = place;
     }
 }
 

@@ -182,7 +182,9 @@ fn is_loose(position: &GlyphPosition) -> bool {
     position.var % 65536 == 0
 }
 
-// Moves a glyph behind those of its chain of attachments, which has more than one.
+// Moves a glyph behind those of its chain of attachments, which has more than one. (Not inlined, since
+// its list of attachments takes many bytes.)
+#[inline(never)]
 fn follow_chain(direction: Direction, at: usize, positions: &mut [GlyphPosition]) {
     let links = climb(at, positions);
     move_attached(direction, links.as_slice(), positions);
