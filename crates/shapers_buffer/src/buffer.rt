@@ -305,7 +305,8 @@ impl hb_buffer_t {
         ensures err { IfErr result (λ e. e ≡ Memory) }
     {
         let alloc = self.alloc();
-        let lists = room.filled(&self.info, &self.pos, &self.places)?;
+        let mut lists = room;
+        lists.fill(&self.info, &self.pos, &self.places)?;
         Ok(hb_buffer_t {
             info: lists.info,
             pos: lists.pos,
@@ -350,6 +351,10 @@ fn add_zero_positions(positions: &mut Vec<GlyphPosition>, count: usize) -> Resul
 fn context(chars: &[char]) -> ArrayVec<char, CONTEXT_LENGTH>
     ensures nearest { result.items ≡ take 5 chars.now }
 {
+    // (most texts have none)
+    if chars.is_empty() {
+        return ArrayVec::new();
+    }
     let nearest = &chars[..chars.len().min(CONTEXT_LENGTH)];
     let mut context = ArrayVec::new();
     context.try_extend_from_slice(nearest).unwrap();

@@ -1,6 +1,6 @@
 //! A copy of a text that is kept while the text changes. Its lists are used again for the next
 //! copy, so that a buffer that is shaped again takes no memory for it.
-ghost use Rattle.std.specs.Prelude.{◌≡◌, ◌≤◌, IfErr, IfOk, length, vec_capacity};
+ghost use Rattle.std.specs.Prelude.{◌≡◌, ◌≤◌, IfErr, IfOk, OnOk, length, vec_capacity};
 ghost use Rattle.shapers_buffer.specs.declared.buffer.refusal.ShaperError.TheVariants.{Memory};
 
 use super::glyph::{GlyphPosition, hb_glyph_info_t};
@@ -32,27 +32,25 @@ impl KeptRoom {
         }
     }
 
-    // The room with these lists of a text in it, and with room for a place and a glyph per glyph.
+    // Puts these lists of a text into the room, and makes room for a place and a glyph per glyph.
     #[inline]
-    pub(super) fn filled(
-        self,
+    pub(super) fn fill(
+        &mut self,
         info: &[hb_glyph_info_t],
         pos: &[GlyphPosition],
         places: &[usize],
-    ) -> Result<Self, ShaperError>
-        ensures info { IfOk result (λ lists. lists.info.items ≡ info.now) }
-        ensures pos { IfOk result (λ lists. lists.pos.items ≡ pos.now) }
-        ensures places { IfOk result (λ lists. lists.places.items ≡ places.now) }
-        ensures places_room { IfOk result (λ lists. length info.now ≤ vec_capacity lists.places) }
-        ensures spare_room { IfOk result (λ lists. length info.now ≤ vec_capacity lists.spare) }
+    ) -> Result<(), ShaperError>
+        ensures info { OnOk result (self.new.info.items ≡ info.now) }
+        ensures pos { OnOk result (self.new.pos.items ≡ pos.now) }
+        ensures places { OnOk result (self.new.places.items ≡ places.now) }
+        ensures places_room { OnOk result (length info.now ≤ vec_capacity self.new.places) }
+        ensures spare_room { OnOk result (length info.now ≤ vec_capacity self.new.spare) }
         ensures refusal { IfErr result (λ e. e ≡ Memory) }
     {
-        Ok(KeptRoom {
-            info: refilled(self.info, info, info.len())?,
-            pos: refilled(self.pos, pos, pos.len())?,
-            places: refilled(self.places, places, info.len())?,
-            spare: refilled(self.spare, &[], info.len())?,
-        })
+        refill(&mut self.info, info, info.len())?;
+        refill(&mut self.pos, pos, pos.len())?;
+        refill(&mut self.places, places, info.len())?;
+        refill(&mut self.spare, &[], info.len())
     }
 }
 
@@ -103,22 +101,18 @@ impl hb_buffer_t {
     }
 }
 
-// The list with these items alone, and with room for `len`.
+// Puts these items alone into the list, and makes room for `len`.
 #[inline]
-pub(super) fn refilled<T: Copy>(
-    mut list: Vec<T>,
-    items: &[T],
-    len: usize,
-) -> Result<Vec<T>, ShaperError>
-    ensures items { IfOk result (λ list. list.items ≡ items.now) }
-    ensures room { IfOk result (λ list. len ≤ vec_capacity list) }
+fn refill<T: Copy>(list: &mut Vec<T>, items: &[T], len: usize) -> Result<(), ShaperError>
+    ensures items { OnOk result (list.new.items ≡ items.now) }
+    ensures room { OnOk result (len ≤ vec_capacity list.new) }
     ensures refusal { IfErr result (λ e. e ≡ Memory) }
 {
     let len = len.max(items.len());
     list.clear();
     if list.capacity() < len {
-        enlarge(&mut list, len)?;
+        enlarge(list, len)?;
     }
     list.extend_from_slice(items).unwrap();
-    Ok(list)
+    Ok(())
 }

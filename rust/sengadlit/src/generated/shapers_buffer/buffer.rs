@@ -355,7 +355,8 @@ impl Buffer {
     #[inline]
     fn copy_into(&self, room: KeptRoom, group_room: GroupRoom) -> Result<Self, ShaperError> {
         let alloc = self.alloc();
-        let lists = room.filled(&self.info, &self.pos, &self.places)?;
+        let mut lists = room;
+        lists.fill(&self.info, &self.pos, &self.places)?;
         Ok(Buffer {
             info: lists.info,
             pos: lists.pos,
@@ -389,6 +390,10 @@ fn add_zero_positions(positions: &mut Vec<GlyphPosition>, count: usize) -> Resul
 // The five nearest of these characters, which are nearest first.
 #[inline]
 fn context(chars: &[char]) -> ArrayVec<char, CONTEXT_LENGTH> {
+    // (most texts have none)
+    if chars.is_empty() {
+        return ArrayVec::new();
+    }
     let nearest = &chars[..chars.len().min(CONTEXT_LENGTH)];
     let mut context = ArrayVec::new();
     context.try_extend_from_slice(nearest).unwrap();

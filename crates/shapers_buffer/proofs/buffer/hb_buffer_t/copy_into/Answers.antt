@@ -9,7 +9,7 @@ use Rattle.shapers_buffer.proofs.buffer.hb_buffer_t.copy_into.Goals as goal
 pub returns-clause-ok : goal.returns-clause-ok
 returns-clause-ok c =
     let b = c.self.inside in
-    let lists = c.in_ok-lists.ensures in
+    let lists = c.in_ok-fill.ensures in
     let before = c.context.ensures.nearest
     ∙ ap (take 5) c.as_slice.ensures.value
     ∙ take_all 5 b.pre_context.items c.self.invariant.before_near in

@@ -34,20 +34,18 @@ impl KeptRoom {
         }
     }
 
-    // The room with these lists of a text in it, and with room for a place and a glyph per glyph.
+    // Puts these lists of a text into the room, and makes room for a place and a glyph per glyph.
     #[inline]
-    pub(super) fn filled(
-        self,
+    pub(super) fn fill(
+        &mut self,
         info: &[GlyphInfo],
         pos: &[GlyphPosition],
         places: &[usize],
-    ) -> Result<Self, ShaperError> {
-        Ok(KeptRoom {
-            info: refilled(self.info, info, info.len())?,
-            pos: refilled(self.pos, pos, pos.len())?,
-            places: refilled(self.places, places, info.len())?,
-            spare: refilled(self.spare, &[], info.len())?,
-        })
+    ) -> Result<(), ShaperError> {
+        refill(&mut self.info, info, info.len())?;
+        refill(&mut self.pos, pos, pos.len())?;
+        refill(&mut self.places, places, info.len())?;
+        refill(&mut self.spare, &[], info.len())
     }
 }
 
@@ -124,18 +122,14 @@ impl Buffer {
     }
 }
 
-// The list with these items alone, and with room for `len`.
+// Puts these items alone into the list, and makes room for `len`.
 #[inline]
-pub(super) fn refilled<T: Copy>(
-    mut list: Vec<T>,
-    items: &[T],
-    len: usize,
-) -> Result<Vec<T>, ShaperError> {
+fn refill<T: Copy>(list: &mut Vec<T>, items: &[T], len: usize) -> Result<(), ShaperError> {
     let len = len.max(items.len());
     list.clear();
     if list.capacity() < len {
-        enlarge(&mut list, len)?;
+        enlarge(list, len)?;
     }
     list.extend_from_slice(items).unwrap();
-    Ok(list)
+    Ok(())
 }
