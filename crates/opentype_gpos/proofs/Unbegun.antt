@@ -1,5 +1,5 @@
 -- A lookup does nothing where none of its subtables begins.
-use Rattle.std.proofs.Common.{◌≡◌, ◌∙◌, ℕ, zero, suc, ◌+◌, ◌-◌, ◌==◌, ◌<◌, ◌≤◌, ◌||◌, IfSome, unwrap_or, Bool, true, false, nat_lt, Option, None, Some, List, length, refl, sym, ap, subst, arith, if◌then◌else◌}
+use Rattle.std.proofs.Common.{inl, ◌≡◌, ◌∙◌, ℕ, zero, suc, ◌+◌, ◌-◌, ◌==◌, ◌<◌, ◌≤◌, ◌||◌, IfSome, unwrap_or, Bool, true, false, nat_lt, Option, None, Some, List, length, refl, sym, ap, subst, arith, if◌then◌else◌}
 use Rattle.std.specs.Option.{is_some, option_map}
 use Rattle.std.proofs.lemmas.Bool.Decides.{nat_tests}
 use Rattle.std.proofs.lemmas.Grind.{common_steps}
@@ -9,7 +9,7 @@ use Rattle.opentype_face.specs.Bytes.{u16_in, table_at}
 use Rattle.opentype_face.specs.Firsts.{first_from}
 use Rattle.opentype_face.specs.Glyphs.{coverage_in}
 use Rattle.opentype_face.specs.Lookups.{lookup_in, subtable_in, type_in}
-use Rattle.opentype_face.proofs.Foremost.{IsFirst, first_found, first_missed, first_out, first_start}
+use Rattle.opentype_face.proofs.Foremost.{IsFirst, first_found, first_hit, first_missed, first_out, first_passed, first_start}
 use Rattle.opentype_layout.specs.Rules.{first_at}
 use Rattle.opentype_layout.specs.Starts.{NoneStarts, starting, starts_at}
 use Rattle.opentype_layout.specs.declared.sight.Application.{Application}
@@ -19,10 +19,12 @@ use Rattle.opentype_layout.proofs.Skipped.{over}
 use Rattle.opentype_gpos.specs.Anchors.{joint_in}
 use Rattle.opentype_gpos.specs.Coming.{Setting, came, came_in, nth_came, sights_in}
 use Rattle.opentype_gpos.specs.Moved.{Positions, Progress}
-use Rattle.opentype_gpos.specs.Moves.{base_move, covered_by, cursive_move, ligature_move, mark_move, number_at, one_move, pair_move, single_move}
+use Rattle.opentype_gpos.specs.Moves.{base_move, covered_by, cursive_move, ligature_move, mark_move, number_at, one_move, pair_found, pair_move, single_move}
 use Rattle.opentype_gpos.specs.Along.{passed, position_stepped, positioned, setting_for, stepped_by}
 use Rattle.opentype_gpos.specs.declared.coming.Came.{Came}
+use Rattle.opentype_gpos.specs.declared.moves.PairPlace.{PairPlace}
 use Rattle.opentype_gpos.specs.declared.pass.Sights.{Sights}
+use Rattle.opentype_gpos.proofs.Paired.{came_of_pairs}
 use Rattle.opentype_gpos.proofs.Walks.{IsWalked, glyphs_out, positions_out, walked_next, walked_start}
 
 is_none : {X : Type 0} (o : Option X) → is_some o ≡ false → o ≡ None
@@ -153,6 +155,36 @@ tried_all s sights lookup gs at glyph from found t is none e =
     let rest : NoneStarts true lookup glyph from (u16_in lookup 4) = rw e at none in
     let end = passed_to s sights lookup gs at glyph from (u16_in lookup 4) t.first is t.within (omega arith) rest in
     sym (first_out (nth_came s sights lookup gs at) (u16_in lookup 4) (u16_in lookup 4) end (omega arith))
+
+-- ---- a subtable of pairs with tables
+
+pub tried_pair : (s : Setting) (sights : Sights) (lookup : List ℕ) (gs : Glyphs) (at i : ℕ) (bytes : List ℕ)
+    (o : Option PairPlace) (pair : PairPlace) → IsTried s sights lookup gs at i → i < u16_in lookup 4 →
+    type_in 9 lookup i ≡ 2 → bytes ≡ subtable_in 9 lookup i →
+    option_map pair_found o ≡ pair_move s.gdef sights.input bytes gs at → o ≡ Some pair →
+    Some (inl (pair_found pair)) ≡ first_from (u16_in lookup 4) (nth_came s sights lookup gs at) 0
+tried_pair s sights lookup gs at i bytes o pair t lt kind is value some =
+    let e = came_of_pairs s sights lookup gs at i bytes (option_map pair_found o) kind is value in
+    sym (first_hit (nth_came s sights lookup gs at) (u16_in lookup 4) i (inl (pair_found pair)) t.first lt
+    (sym (rw some at e)))
+
+pub tried_no_pair : (s : Setting) (sights : Sights) (lookup : List ℕ) (gs : Glyphs) (at i : ℕ) (bytes : List ℕ)
+    (o : Option PairPlace) → IsTried s sights lookup gs at i → i < u16_in lookup 4 →
+    type_in 9 lookup i ≡ 2 → bytes ≡ subtable_in 9 lookup i →
+    option_map pair_found o ≡ pair_move s.gdef sights.input bytes gs at → o ≡ None →
+    IsTried s sights lookup gs at (i + 1)
+tried_no_pair s sights lookup gs at i bytes o t lt kind is value missed =
+    let e = came_of_pairs s sights lookup gs at i bytes (option_map pair_found o) kind is value in
+    record {
+      first = first_passed (nth_came s sights lookup gs at) (u16_in lookup 4) i t.first lt (sym (rw missed at e));
+      within = omega arith;
+    }
+
+pub tried_out : (s : Setting) (sights : Sights) (lookup : List ℕ) (gs : Glyphs) (at i : ℕ) →
+    IsTried s sights lookup gs at i → u16_in lookup 4 ≤ i →
+    None ≡ first_from (u16_in lookup 4) (nth_came s sights lookup gs at) 0
+tried_out s sights lookup gs at i t le =
+    sym (first_out (nth_came s sights lookup gs at) (u16_in lookup 4) i t.first le)
 
 -- ---- a step along a text
 

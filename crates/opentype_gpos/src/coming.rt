@@ -64,31 +64,8 @@ fn come_by_bytes<'a>(
     }
 }
 
-// What one of a lookup's subtables comes to.
-#[inline]
-#[tactic(auto, unfolding(crate::specs::Coming::nth_came))]
-fn come_by<'a>(
-    pass: &Pass<'_>,
-    sights: &Sights,
-    table: &LookupTable<'a>,
-    i: u16,
-    glyphs: &[hb_glyph_info_t],
-    at: usize,
-) -> Option<Came<'a>>
-    requires { at < length glyphs.now }
-    ensures { option_map came result
-        ≡ nth_came (setting_of pass.now) sights.now table.now glyphs.now at i }
-{
-    match table.pair_table(i) {
-        Some(pairs) => match pair_by_table(pass.gdef, &sights.input, pairs, glyphs, at) {
-            Some(pair) => Some(Came::Pairs(pair)),
-            None => None,
-        },
-        None => come_by_bytes(pass, sights, table, i, glyphs, at),
-    }
-}
-
-// What the first of a lookup's subtables that fits comes to.
+// What the first of a lookup's subtables that fits comes to, by their bytes.
+#[inline(never)]
 fn come_among<'a>(
     pass: &Pass<'_>,
     sights: &Sights,
@@ -103,7 +80,7 @@ fn come_among<'a>(
     let glyph = number(&glyphs[at]);
     let mut from = 0;
     while let Some(i) = lookup.next_start(true, glyph, from) {
-        let found = come_by(pass, sights, lookup, i, glyphs, at);
+        let found = come_by_bytes(pass, sights, lookup, i, glyphs, at);
         if found.is_some() {
             return found;
         }
@@ -112,6 +89,35 @@ fn come_among<'a>(
             return None;
         }
         from = i + 1;
+    }
+    None
+}
+
+// What the first of a lookup's subtables that fits comes to. Where they are all of pairs and have
+// tables, these are asked one after another, which costs less than asking which of them begin.
+#[inline]
+fn come_first<'a>(
+    pass: &Pass<'_>,
+    sights: &Sights,
+    lookup: &LookupTable<'a>,
+    glyphs: &[hb_glyph_info_t],
+    at: usize,
+) -> Option<Came<'a>>
+    requires { at < length glyphs.now }
+    ensures { option_map came result ≡ first_from (u16_in lookup.now 4)
+        (nth_came (setting_of pass.now) sights.now lookup.now glyphs.now at) 0 }
+{
+    let count = subtable_count(lookup.bytes());
+    let mut i = 0;
+    while i < count {
+        let Some(table) = lookup.pair_table(i) else {
+            return come_among(pass, sights, lookup, glyphs, at);
+        };
+        let found = pair_by_table(pass.gdef, &sights.input, table, glyphs, at);
+        if let Some(pair) = found {
+            return Some(Came::Pairs(pair));
+        }
+        i += 1;
     }
     None
 }
@@ -132,5 +138,5 @@ pub fn come_to<'a>(
     if at >= glyphs.len() {
         return None;
     }
-    come_among(pass, sights, lookup, glyphs, at)
+    come_first(pass, sights, lookup, glyphs, at)
 }

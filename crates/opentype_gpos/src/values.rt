@@ -217,6 +217,7 @@ fn pair_of_set(header: &PairHeader, bytes: &[u8], i: u32, second: u16) -> Option
 
 /// Where a subtable of type 2 has the values of a pair, by tables of its glyphs and by the place of the first glyph in
 /// its set.
+#[inline]
 pub fn pair_in_table(table: &PairTable<'_>, i: u32, first: u16, second: u16) -> Option<usize>
     ensures { result ≡ pair_place table.now first second (Some i) }
 {

@@ -233,6 +233,7 @@ fn pair_of_set(header: &PairHeader, bytes: &[u8], i: u32, second: u16) -> Option
 /// - `pair_place`: `crates/opentype_gpos/specs/Values.antt`
 ///
 /// </details>
+#[inline]
 pub fn pair_in_table(table: &PairTable<'_>, i: u32, first: u16, second: u16) -> Option<usize> {
     let header = table.header();
     match header.format {
