@@ -3,3 +3,4 @@ mod WouldApplyRows
 mod ScriptFeatureRows
 mod Absent
 mod PresenceRows
+mod Unbegun

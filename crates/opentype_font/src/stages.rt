@@ -91,9 +91,9 @@ fn present_among(
     }
 }
 
-// Whether a lookup is known to be none of these.
+/// Whether a lookup is known to be none of these.
 #[inline]
-fn is_absent(present: Option<LookupBits>, index: u16) -> bool
+pub(crate) fn is_absent(present: Option<LookupBits>, index: u16) -> bool
     ensures { result ≡ true → IsSomeAnd present (λ it. IsAbsent it index) }
 {
     match present {

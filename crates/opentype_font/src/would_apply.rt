@@ -1,13 +1,18 @@
 //! Whether a lookup of GSUB would apply to exactly some glyphs, as Indic's shaper asks of consonants.
-ghost use Rattle.std.specs.Prelude.{◌≡◌, ◌<◌, length, option_map};
+ghost use Rattle.std.specs.Prelude.{◌≡◌, ◌<◌, false, length, option_map, true};
+ghost use Rattle.opentype_face.specs.Lookups.{lookup_in};
+ghost use Rattle.opentype_layout.specs.LookupRows.{BeginsNot};
 ghost use Rattle.opentype_layout.specs.Pattern.{fits};
 ghost use Rattle.opentype_layout.specs.Rules.{set_in};
-ghost use Rattle.opentype_font.specs.WouldApply.{chained_fits, chained_rule_fits, chained_rules_fit, chained_sets_fit, context_fits, fit_each, fit_numbers, has_ligature, is_barred, ligature_fits, ligatures_fit, lookup_applies, nth_applies, rule_count, rule_of_set, one_fits, place_of_first, rule_fits, rules_fit, sets_fit, subtable_applies, would_apply};
+ghost use Rattle.opentype_font.specs.WouldApply.{chained_fits, chained_rule_fits, chained_rules_fit, chained_sets_fit, context_fits, fit_each, fit_numbers, has_ligature, is_barred, ligature_fits, ligatures_fit, lookup_applies, nth_applies, nth_number, rule_count, rule_of_set, one_fits, place_of_first, rule_fits, rules_fit, sets_fit, subtable_applies, would_apply};
 
+use crate::stages::is_absent;
 use opentype_face::bytes::{table_at, u16_at};
 use opentype_face::glyph_sets::{class, coverage};
-use opentype_face::lookup::{lookup, subtable, subtable_count, subtable_type};
+use opentype_face::lookup::{subtable, subtable_count, subtable_type};
 use opentype_layout::pattern::Pattern;
+use opentype_layout::tables::LayoutTable;
+use shapers_base::buffer::hb_glyph_info_t;
 use shapers_base::font::GlyphId;
 
 /// The type of an extension, whose subtables name another one.
@@ -19,12 +24,46 @@ const MOST_SUBTABLES: u16 = 256;
 const MOST_RULES: u16 = 256;
 
 /// Whether a lookup of GSUB would apply to exactly these glyphs; with `zero_context`, by a rule that
-/// looks at no glyphs around them. At most 65,536 rules are asked. (OpenType, GSUB; HarfBuzz's
-/// `would_apply`, which doesn't test the coverage of classes and sets exactly.)
-pub fn would_apply(gsub: &[u8], index: u16, glyphs: &[GlyphId], zero_context: bool) -> bool
+/// looks at no glyphs around them. At most 65,536 rules are asked, and none where the table's bits say
+/// that the lookup begins at other glyphs. (OpenType, GSUB; HarfBuzz's `would_apply`, which doesn't
+/// test the coverage of classes and sets exactly.)
+#[inline]
+pub fn would_apply(
+    gsub: &LayoutTable<'_>,
+    index: u16,
+    glyphs: &[GlyphId],
+    zero_context: bool,
+) -> bool
     ensures { result ≡ would_apply gsub.now index glyphs.now zero_context }
 {
-    lookup_applies(lookup(gsub, index), glyphs, zero_context)
+    if begins_elsewhere(gsub, index, glyphs) {
+        return false;
+    }
+    asked(gsub, index, glyphs, zero_context)
+}
+
+// The same by the font's bytes alone; a call of its own, so that most questions need no frame.
+#[inline(never)]
+fn asked(gsub: &LayoutTable<'_>, index: u16, glyphs: &[GlyphId], zero_context: bool) -> bool
+    ensures { result ≡ would_apply gsub.now index glyphs.now zero_context }
+{
+    lookup_applies(gsub.lookup(index).bytes(), glyphs, zero_context)
+}
+
+// Whether a lookup is known not to begin at the first of these glyphs.
+#[inline]
+fn begins_elsewhere(gsub: &LayoutTable<'_>, index: u16, glyphs: &[GlyphId]) -> bool
+    ensures { let first = nth_number glyphs.now 0 in
+        result ≡ true → BeginsNot false (lookup_in gsub.now index) first }
+{
+    if glyphs.is_empty() {
+        return false;
+    }
+    let text = [hb_glyph_info_t {
+        glyph_id: u32::from(glyphs[0].0),
+        ..hb_glyph_info_t::DEFAULT
+    }];
+    is_absent(gsub.present(false, &text), index)
 }
 
 fn lookup_applies(lookup: &[u8], glyphs: &[GlyphId], zero_context: bool) -> bool

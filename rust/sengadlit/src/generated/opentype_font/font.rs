@@ -45,13 +45,20 @@ impl<'a> Font for OpenTypeFont<'a> {
         i32::from(self.tables.face.h_advance(glyph.0))
     }
 
+    #[inline]
     fn would_apply(&self, lookup: u16, glyphs: &[GlyphId], zero_context: bool) -> bool {
-        would_apply(self.tables.face.gsub, lookup, glyphs, zero_context)
+        would_apply(self.tables.gsub(), lookup, glyphs, zero_context)
     }
 
     fn has_feature(&self, tag: Tag) -> bool {
         has_feature(self.tables.face.gsub, &self.tags, tag)
             || has_feature(self.tables.face.gpos, &self.tags, tag)
+    }
+
+    // (each question is a total function of the file's bytes)
+    #[inline]
+    fn may_panic(&self) -> bool {
+        false
     }
 }
 

@@ -71,9 +71,9 @@ fn present_among(
     }
 }
 
-// Whether a lookup is known to be none of these.
+/// Whether a lookup is known to be none of these.
 #[inline]
-fn is_absent(present: Option<LookupBits>, index: u16) -> bool {
+pub(crate) fn is_absent(present: Option<LookupBits>, index: u16) -> bool {
     match present {
         Some(LookupBits { low, high }) => {
             let word = if index < 64 { low } else { high };

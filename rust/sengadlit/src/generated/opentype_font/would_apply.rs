@@ -6,8 +6,11 @@ use crate::support::prelude::*;
 
 use crate::generated::opentype_face::bytes::{table_at, u16_at};
 use crate::generated::opentype_face::glyph_sets::{class, coverage};
-use crate::generated::opentype_face::lookup::{lookup, subtable, subtable_count, subtable_type};
+use crate::generated::opentype_face::lookup::{subtable, subtable_count, subtable_type};
+use crate::generated::opentype_font::stages::is_absent;
 use crate::generated::opentype_layout::pattern::Pattern;
+use crate::generated::opentype_layout::tables::LayoutTable;
+use crate::generated::shapers_base::buffer::GlyphInfo;
 use crate::generated::shapers_base::font::GlyphId;
 
 /// The type of an extension, whose subtables name another one.
@@ -19,8 +22,9 @@ const MOST_SUBTABLES: u16 = 256;
 const MOST_RULES: u16 = 256;
 
 /// Whether a lookup of GSUB would apply to exactly these glyphs; with `zero_context`, by a rule that
-/// looks at no glyphs around them. At most 65,536 rules are asked. (OpenType, GSUB; HarfBuzz's
-/// [`would_apply`], which doesn't test the coverage of classes and sets exactly.)
+/// looks at no glyphs around them. At most 65,536 rules are asked, and none where the table's bits say
+/// that the lookup begins at other glyphs. (OpenType, GSUB; HarfBuzz's [`would_apply`], which doesn't
+/// test the coverage of classes and sets exactly.)
 ///
 /// <details><summary>Contract</summary>
 ///
@@ -35,8 +39,36 @@ const MOST_RULES: u16 = 256;
 /// </details>
 ///
 /// [`would_apply`]: crate::Font::would_apply
-pub fn would_apply(gsub: &[u8], index: u16, glyphs: &[GlyphId], zero_context: bool) -> bool {
-    lookup_applies(lookup(gsub, index), glyphs, zero_context)
+#[inline]
+pub fn would_apply(
+    gsub: &LayoutTable<'_>,
+    index: u16,
+    glyphs: &[GlyphId],
+    zero_context: bool,
+) -> bool {
+    if begins_elsewhere(gsub, index, glyphs) {
+        return false;
+    }
+    asked(gsub, index, glyphs, zero_context)
+}
+
+// The same by the font's bytes alone; a call of its own, so that most questions need no frame.
+#[inline(never)]
+fn asked(gsub: &LayoutTable<'_>, index: u16, glyphs: &[GlyphId], zero_context: bool) -> bool {
+    lookup_applies(gsub.lookup(index).bytes(), glyphs, zero_context)
+}
+
+// Whether a lookup is known not to begin at the first of these glyphs.
+#[inline]
+fn begins_elsewhere(gsub: &LayoutTable<'_>, index: u16, glyphs: &[GlyphId]) -> bool {
+    if glyphs.is_empty() {
+        return false;
+    }
+    let text = [GlyphInfo {
+        glyph_id: u32::from(glyphs[0].0),
+        ..GlyphInfo::DEFAULT
+    }];
+    is_absent(gsub.present(false, &text), index)
 }
 
 fn lookup_applies(lookup: &[u8], glyphs: &[GlyphId], zero_context: bool) -> bool {
