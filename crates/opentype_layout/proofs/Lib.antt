@@ -6,6 +6,7 @@ pub mod NoneFits
 pub mod Keyed
 pub mod SubtableStarts
 mod BitPlaces
+mod OneGlyph
 mod Grids
 mod Headed
 mod RowMarks

@@ -258,16 +258,27 @@ impl<'a> Starts<'a> {
     }
 }
 
+// The first subtable from one on that begins at a glyph, by its bytes. (Apart from the walks, which
+// ask bits where a face is prepared.)
+#[inline(never)]
+fn search_start(of_gpos: bool, lookup: &[u8], glyph: u16, from: u16) -> Option<u16>
+    ensures within { IfSome result (λ next. (from ≤ next) × (next < u16_in lookup.now 4)) }
+    ensures passed { NoneStarts of_gpos lookup.now glyph from
+        (unwrap_or result (u16_in lookup.now 4)) }
+{
+    for i in from..subtable_count(lookup) {
+        if start(of_gpos, lookup, glyph, i).is_some() {
+            return Some(i);
+        }
+    }
+    None
+}
+
 // Whether a subtable may begin at a glyph, by its bytes.
 fn is_start(of_gpos: bool, lookup: &[u8], glyph: u16) -> bool
     ensures { result ≡ false → NoneStarts of_gpos lookup.now glyph 0 (u16_in lookup.now 4) }
 {
-    for i in 0..subtable_count(lookup) {
-        if start(of_gpos, lookup, glyph, i).is_some() {
-            return true;
-        }
-    }
-    false
+    search_start(of_gpos, lookup, glyph, 0).is_some()
 }
 
 // The first place of a text, from one on, where a subtable may begin, by its bytes, at a glyph with
@@ -410,7 +421,10 @@ impl<'a> LookupTable<'a> {
         if let Some(starts) = self.starts {
             return starts.next(of_gpos, glyph, from);
         }
-        if from < self.count { Some(from) } else { None }
+        if from >= self.count {
+            return None;
+        }
+        search_start(of_gpos, self.bytes, glyph, from)
     }
 
     /// The first place of a text, from one on, where a subtable may begin at a glyph with a bit of

@@ -2,10 +2,9 @@
 
 //! The set of the glyphs that a subtable begins with.
 
-use crate::generated::opentype_face::bytes::{offset16, table_at, u16_at};
+use crate::generated::opentype_face::bytes::{offset16, offset32, table_at, u16_at};
 use crate::generated::opentype_face::glyph_sets::coverage;
 use crate::generated::opentype_face::glyph_tables::PreparedCoverage;
-use crate::generated::opentype_face::lookup::{subtable, subtable_type};
 use crate::generated::opentype_face::ranges::Ranges;
 
 /// Where the offset of the first set of the input stands, in format 3 of contexts.
@@ -31,13 +30,23 @@ pub(crate) fn place_of_set(of_gpos: bool, kind: u16, bytes: &[u8]) -> usize {
     }
 }
 
-/// The set of the glyphs that a subtable begins with.
+// The set of the glyphs that a subtable of a type begins with.
 #[inline]
+fn set_of(of_gpos: bool, kind: u16, bytes: &[u8]) -> &[u8] {
+    table_at(bytes, offset16(bytes, place_of_set(of_gpos, kind, bytes)))
+}
+
+/// The set of the glyphs that a subtable begins with.
+// (in one pass over the subtable's header, since a lookup may have hundreds of subtables)
+#[inline(always)]
 pub(crate) fn first_set(of_gpos: bool, lookup: &[u8], i: u16) -> &[u8] {
-    let extension = if of_gpos { 9 } else { 7 };
-    let bytes = subtable(extension, lookup, i);
-    let at = place_of_set(of_gpos, subtable_type(extension, lookup, i), bytes);
-    table_at(bytes, offset16(bytes, at))
+    let kind = u16_at(lookup, 0);
+    let bytes = table_at(lookup, offset16(lookup, 6 + usize::from(i) * 2));
+    if kind == if of_gpos { 9 } else { 7 } {
+        let named = table_at(bytes, offset32(bytes, 4));
+        return set_of(of_gpos, u16_at(bytes, 2), named);
+    }
+    set_of(of_gpos, kind, bytes)
 }
 
 /// The place of a glyph in the set whose offset stands at a place of a subtable; without a search
@@ -55,9 +64,19 @@ pub(crate) fn place_in_set(
     }
 }
 
+// Whether a set has a glyph. Most sets of rules have one glyph, and that needs no search.
+#[inline(always)]
+fn has_glyph(set: &[u8], glyph: u16) -> bool {
+    if set.len() >= 6 && u16_at(set, 0) == 1 && u16_at(set, 2) == 1 {
+        return u16_at(set, 4) == glyph;
+    }
+    coverage(set, glyph).is_some()
+}
+
 /// The number of a subtable that may begin at a glyph.
+#[inline]
 pub(crate) fn start(of_gpos: bool, lookup: &[u8], glyph: u16, i: u16) -> Option<u16> {
-    if coverage(first_set(of_gpos, lookup, i), glyph).is_some() {
+    if has_glyph(first_set(of_gpos, lookup, i), glyph) {
         Some(i)
     } else {
         None

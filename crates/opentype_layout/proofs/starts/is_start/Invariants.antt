@@ -1,5 +1,0 @@
-use Rattle.opentype_layout.specs.Starts.{NoneStarts}
-use Rattle.opentype_layout.proofs.starts.is_start.Given as goal
-
-abbrev pub invariant-loop-i : goal.invariant-loop-i
-invariant-loop-i l = NoneStarts l.of_gpos l.lookup l.glyph 0 l.i
