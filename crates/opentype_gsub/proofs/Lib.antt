@@ -20,6 +20,7 @@ pub mod LawKeeps
 pub mod LawGrows
 pub mod Machines
 pub mod Untouched
+mod PlainPuts
 mod Started
 pub mod Lookings
 mod Sighted

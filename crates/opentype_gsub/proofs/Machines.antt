@@ -213,7 +213,7 @@ pub came_out : (s : Setting) (lookup : List ℕ) (gs : Glyphs) (at : ℕ) (r : L
 unfolding came_in
 came_out s lookup gs at r le = let e : nat_lt at (length gs) ≡ false = grind (arith, nat_tests) in rw e refl
 
-came_is : (s : Setting) (lookup : List ℕ) (gs : Glyphs) (at : ℕ) (r : LookupRecord) (sights : Sights) → at < length gs →
+pub came_is : (s : Setting) (lookup : List ℕ) (gs : Glyphs) (at : ℕ) (r : LookupRecord) (sights : Sights) → at < length gs →
     sights ≡ sights_of s.gdef s.lookup lookup (glyph_at gs at) →
     first_from (u16_in lookup 4) (nth_came s sights lookup at gs r) 0 ≡ came_in s lookup gs at r
 unfolding came_in

@@ -12,6 +12,7 @@ pub mod Growth
 pub mod Kept
 pub mod Laws
 pub mod Substituted
+pub mod PlainLookups
 pub mod Presence
 pub mod Looked
 pub mod Machine

@@ -1,8 +1,9 @@
 //! What subtables make of a text at a place.
-ghost use Rattle.std.specs.Prelude.{◌≡◌, ◌<◌, ◌-◌, ◌+◌, ℕ, length, slice_index, IfOk};
+ghost use Rattle.std.specs.Prelude.{◌≡◌, ◌<◌, ◌≤◌, ◌==◌, ◌-◌, ◌+◌, ℕ, false, length, slice_index, take, IfOk};
+ghost use Rattle.std.specs.Option.{option_map};
 ghost use Rattle.opentype_gsub.specs.Decided.{covered_in};
 ghost use Rattle.opentype_layout.specs.SubstitutionTables.{first_place};
-ghost use Rattle.opentype_gsub.specs.Applied.{IsChange, alternate_put, chosen_put, is_random, ligature_put, ligated_put, multiple_put, next_state, two_byte_number, one_put, random_put, sequence_put, single_put, value_of};
+ghost use Rattle.opentype_gsub.specs.Applied.{IsChange, IsPut, alternate_put, chosen_put, is_random, ligature_put, ligated_put, multiple_put, next_state, two_byte_number, one_put, random_put, sequence_put, single_put, value_of};
 ghost use Rattle.opentype_gsub.specs.Setting.{setting_of};
 ghost use Rattle.shapers_buffer.specs.declared.buffer.lookup_record.LookupRecord.{LookupRecord};
 
@@ -18,6 +19,15 @@ use opentype_layout::substitution_tables::SubtableAt;
 use shapers_buffer::buffer::{
     BufferClusterLevel, LookupRecord, ShaperError, hb_glyph_info_t, unsafe_to_break_in,
 };
+
+/// What was done to a text at a place, in its room.
+#[derive(Clone, Copy, Debug)]
+pub struct Put {
+    /// The place behind what was done.
+    pub next: usize,
+    /// How many glyphs the text has then, at the front.
+    pub len: usize,
+}
 
 /// Puts the glyphs of a sequence in for one, and returns the place behind them. More than the text
 /// may get aren't put in, and the record of its lookups says so.
@@ -67,13 +77,13 @@ fn apply_single(
     classes: &ClassTable<'_>,
     bytes: &[u8],
     place: Option<u32>,
-    text: &mut Vec<hb_glyph_info_t>,
+    text: &mut [hb_glyph_info_t],
     at: usize,
 ) -> Option<usize>
-    requires here { at < length text.old.items }
-    requires place { place ≡ covered_in bytes.now (two_byte_number text.old.items at) }
+    requires here { at < length text.old }
+    requires place { place ≡ covered_in bytes.now (two_byte_number text.old at) }
     ensures { (r : LookupRecord) → IsChange (single_put classes.now.gdef.now bytes.now
-        text.old.items at r) text.old.items r text.new.items r result }
+        text.old at r) text.old r text.new r result }
 {
     match single_at(bytes, number(text, at), place) {
         Some(to) => {
@@ -90,13 +100,13 @@ fn apply_alternate(
     bytes: &[u8],
     place: Option<u32>,
     value: u32,
-    text: &mut Vec<hb_glyph_info_t>,
+    text: &mut [hb_glyph_info_t],
     at: usize,
 ) -> Option<usize>
-    requires here { at < length text.old.items }
-    requires place { place ≡ covered_in bytes.now (two_byte_number text.old.items at) }
+    requires here { at < length text.old }
+    requires place { place ≡ covered_in bytes.now (two_byte_number text.old at) }
     ensures { (r : LookupRecord) → IsChange (alternate_put classes.now.gdef.now bytes.now value
-        text.old.items at r) text.old.items r text.new.items r result }
+        text.old at r) text.old r text.new r result }
 {
     match alternate_at(value, set_by(bytes, place)) {
         Some(to) => {
@@ -135,13 +145,13 @@ fn apply_ligature(
     sight: &Sight,
     bytes: &[u8],
     place: Option<u32>,
-    text: &mut Vec<hb_glyph_info_t>,
+    text: &mut [hb_glyph_info_t],
     at: usize,
-) -> Option<usize>
-    requires here { at < length text.old.items }
-    requires place { place ≡ covered_in bytes.now (two_byte_number text.old.items at) }
-    ensures { (r : LookupRecord) → IsChange (ligated_put classes.now.gdef.now level sight.now
-        bytes.now text.old.items at r) text.old.items r text.new.items r result }
+) -> Option<Put>
+    requires here { at < length text.old }
+    requires place { place ≡ covered_in bytes.now (two_byte_number text.old at) }
+    ensures { (r : LookupRecord) → IsPut (ligated_put classes.now.gdef.now level sight.now
+        bytes.now text.old at r) text.old r text.new r result }
 {
     let set = set_by(bytes, place)?;
     match first_fitting(classes.gdef, sight, set, text, at) {
@@ -154,25 +164,30 @@ fn apply_ligature(
 fn put_ligature(
     classes: &ClassTable<'_>,
     level: BufferClusterLevel,
-    text: &mut Vec<hb_glyph_info_t>,
+    text: &mut [hb_glyph_info_t],
     at: usize,
     fitting: &Fitting,
-) -> usize
-    requires here { at < length text.old.items }
+) -> Put
+    requires here { at < length text.old }
     requires within { (j : ℕ) → j < length fitting.now.places.items →
-        slice_index fitting.now.places.items j < length text.old.items }
-    ensures { (r : LookupRecord) → ligature_put classes.now.gdef.now level at text.old.items r
+        slice_index fitting.now.places.items j < length text.old }
+    ensures change { (r : LookupRecord) → ligature_put classes.now.gdef.now level at text.old r
         (fitting.now.glyph, fitting.now.places.items)
-        ≡ record { text = text.new.items; next = result; lookups = r } }
+        ≡ record { text = take result.len text.new; next = result.next; lookups = r } }
+    ensures few { result.len ≤ length text.old }
 {
     let places = fitting.places.as_slice();
     if places.is_empty() {
+        let len = text.len();
         replace(classes, text, at, fitting.glyph, 0);
-        return at + 1;
+        return Put { next: at + 1, len };
     }
     let last = places[places.len() - 1];
-    ligate(classes, level, text, at, places, fitting.glyph);
-    (last + 1).saturating_sub(places.len())
+    let len = ligate(classes, level, text, at, places, fitting.glyph);
+    Put {
+        next: (last + 1).saturating_sub(places.len()),
+        len,
+    }
 }
 
 // The value of a feature at a glyph.
@@ -209,14 +224,14 @@ fn apply_random(
     classes: &ClassTable<'_>,
     bytes: &[u8],
     place: Option<u32>,
-    text: &mut Vec<hb_glyph_info_t>,
+    text: &mut [hb_glyph_info_t],
     lookups: &mut LookupRecord,
     at: usize,
 ) -> Option<usize>
-    requires here { at < length text.old.items }
-    requires place { place ≡ covered_in bytes.now (two_byte_number text.old.items at) }
-    ensures { IsChange (random_put classes.now.gdef.now bytes.now text.old.items at lookups.old)
-        text.old.items lookups.old text.new.items lookups.new result }
+    requires here { at < length text.old }
+    requires place { place ≡ covered_in bytes.now (two_byte_number text.old at) }
+    ensures { IsChange (random_put classes.now.gdef.now bytes.now text.old at lookups.old)
+        text.old lookups.old text.new lookups.new result }
 {
     let set = set_by(bytes, place)?;
     let count = u32::from(u16_at(set, 0));
@@ -238,20 +253,65 @@ fn apply_chosen(
     sight: &Sight,
     bytes: &[u8],
     place: Option<u32>,
-    text: &mut Vec<hb_glyph_info_t>,
+    text: &mut [hb_glyph_info_t],
     lookups: &mut LookupRecord,
     at: usize,
 ) -> Option<usize>
-    requires here { at < length text.old.items }
-    requires place { place ≡ covered_in bytes.now (two_byte_number text.old.items at) }
-    ensures { IsChange (chosen_put (setting_of pass.now) sight.now bytes.now text.old.items at
-        lookups.old) text.old.items lookups.old text.new.items lookups.new result }
+    requires here { at < length text.old }
+    requires place { place ≡ covered_in bytes.now (two_byte_number text.old at) }
+    ensures { IsChange (chosen_put (setting_of pass.now) sight.now bytes.now text.old at
+        lookups.old) text.old lookups.old text.new lookups.new result }
 {
     if is_random(pass.lookup.random, sight, &text[at]) {
         return apply_random(&pass.classes, bytes, place, text, lookups, at);
     }
     let value = value(sight, &text[at]);
     apply_alternate(&pass.classes, bytes, place, value, text, at)
+}
+
+// Where nothing is put in for several glyphs, their number stays.
+#[inline]
+fn put_up_to(next: Option<usize>, len: usize) -> Option<Put>
+    ensures { result ≡ option_map (λ next. record { next = next; len = len }) next }
+{
+    match next {
+        Some(next) => Some(Put { next, len }),
+        None => None,
+    }
+}
+
+/// What a subtable that adds no glyph makes of a text at a place, by the place of the glyph there in
+/// the set that it begins with, if it fits. The glyphs stay in their room.
+#[inline]
+#[tactic(auto, unfolding(crate::specs::Applied::one_put))]
+pub fn apply_in_room(
+    pass: &Pass<'_>,
+    sight: &Sight,
+    subtable: &SubtableAt<'_>,
+    text: &mut [hb_glyph_info_t],
+    lookups: &mut LookupRecord,
+    at: usize,
+) -> Option<Put>
+    requires here { at < length text.old }
+    requires few { (subtable.now.kind == 2) ≡ false }
+    requires place { subtable.now.place ≡ first_place (record {
+      kind = subtable.now.kind;
+      bytes = subtable.now.bytes.now;
+    }) (two_byte_number text.old at) }
+    ensures { IsPut (one_put (setting_of pass.now) sight.now subtable.now.kind
+        subtable.now.bytes.now text.old at lookups.old) text.old lookups.old text.new lookups.new
+        result }
+{
+    let (bytes, place, len) = (subtable.bytes, subtable.place, text.len());
+    match subtable.kind {
+        1 => put_up_to(apply_single(&pass.classes, bytes, place, text, at), len),
+        3 => put_up_to(
+            apply_chosen(pass, sight, bytes, place, text, lookups, at),
+            len,
+        ),
+        4 => apply_ligature(&pass.classes, pass.level, sight, bytes, place, text, at),
+        _ => None,
+    }
 }
 
 /// What a subtable makes of a text at a place, by the place of the glyph there in the set that it
@@ -279,12 +339,14 @@ pub fn apply_one(
         subtable.now.kind subtable.now.bytes.now text.old.items at lookups.old) text.old.items
         lookups.old text.new.items lookups.new next) }
 {
-    let (bytes, place) = (subtable.bytes, subtable.place);
-    match subtable.kind {
-        1 => Ok(apply_single(&pass.classes, bytes, place, text, at)),
-        2 => apply_multiple(pass, bytes, place, text, lookups, at),
-        3 => Ok(apply_chosen(pass, sight, bytes, place, text, lookups, at)),
-        4 => Ok(apply_ligature(&pass.classes, pass.level, sight, bytes, place, text, at)),
-        _ => Ok(None),
+    if subtable.kind == 2 {
+        return apply_multiple(pass, subtable.bytes, subtable.place, text, lookups, at);
+    }
+    match apply_in_room(pass, sight, subtable, text, lookups, at) {
+        Some(put) => {
+            text.truncate(put.len);
+            Ok(Some(put.next))
+        }
+        None => Ok(None),
     }
 }

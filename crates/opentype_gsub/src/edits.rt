@@ -1,5 +1,5 @@
 //! What lookups do to glyphs.
-ghost use Rattle.std.specs.Prelude.{◌≡◌, ◌<◌, length, OnOk, slice_set};
+ghost use Rattle.std.specs.Prelude.{◌≡◌, ◌<◌, ◌≤◌, ◌-◌, length, take, OnOk, slice_set};
 ghost use Rattle.opentype_gsub.specs.Edits.{count_in, handed_on, last_place, merged_up_to, multiplied, new_props, sequence_glyph, removed_all, replaced};
 ghost use Rattle.opentype_layout.specs.Text.{glyph_at};
 ghost use Rattle.std.specs.List.{remove};
@@ -44,14 +44,14 @@ pub fn replacement(
 /// Puts another glyph in.
 pub fn replace(
     classes: &ClassTable<'_>,
-    text: &mut Vec<hb_glyph_info_t>,
+    text: &mut [hb_glyph_info_t],
     at: usize,
     to: u16,
     guess: u16,
 )
-    requires { at < length text.old.items }
-    ensures { let gdef = classes.now.gdef.now in text.new.items ≡
-        slice_set text.old.items at (replaced gdef to guess (glyph_at text.old.items at)) }
+    requires { at < length text.old }
+    ensures { let gdef = classes.now.gdef.now in text.new ≡
+        slice_set text.old at (replaced gdef to guess (glyph_at text.old at)) }
 {
     let glyph = text[at];
     text[at] = replacement(classes, to, guess, glyph);
@@ -139,16 +139,30 @@ pub fn delete(level: BufferClusterLevel, text: &mut Vec<hb_glyph_info_t>, at: us
     text.remove(at);
 }
 
-// Takes glyphs out, the last first.
-pub(crate) fn remove_all(text: &mut Vec<hb_glyph_info_t>, places: &[usize])
-    ensures { text.new.items ≡ removed_all places.now text.old.items }
+// Takes a glyph out. Those behind it move to the front by one place, and the last place is free.
+#[inline]
+fn take_out(text: &mut [hb_glyph_info_t], at: usize)
+    requires { at < length text.old }
+    ensures { take (length text.old - 1) text.new ≡ remove text.old at }
 {
+    let end = text.len();
+    text.copy_within(at + 1..end, at);
+}
+
+// Takes glyphs out, the last first. Returns how many are left, at the front.
+pub(crate) fn remove_all(text: &mut [hb_glyph_info_t], places: &[usize]) -> usize
+    ensures text { take result text.new ≡ removed_all places.now text.old }
+    ensures few { result ≤ length text.old }
+{
+    let mut len = text.len();
     for i in (0..places.len()).rev() {
         let place = places[i];
-        if place < text.len() {
-            text.remove(place);
+        if place < len {
+            take_out(&mut text[..len], place);
+            len -= 1;
         }
     }
+    len
 }
 
 // The last of a place and those behind it.

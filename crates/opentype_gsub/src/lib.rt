@@ -13,6 +13,7 @@ pub mod looking;
 pub mod machine;
 pub mod matching;
 pub mod pass;
+mod plain;
 pub mod presence;
 pub mod reverse;
 pub mod shifting;

@@ -1,5 +1,5 @@
 //! Type 4: a ligature in the place of several glyphs, and the marks that belong to it.
-ghost use Rattle.std.specs.Prelude.{◌≡◌, ◌==◌, ◌<◌, ◌≤◌, ◌-◌, ◌+◌, length, slice_set};
+ghost use Rattle.std.specs.Prelude.{◌≡◌, ◌==◌, ◌<◌, ◌≤◌, ◌-◌, ◌+◌, length, take, slice_set};
 ghost use Rattle.std.specs.List.{list_all, list_any};
 ghost use Rattle.opentype_gsub.specs.Edits.{last_place};
 ghost use Rattle.opentype_gsub.specs.Ligated.{as_letter, as_mark, components_of, counted_too, followed_by_marks, guess_for, is_mark_at, is_base_at, is_of_base, is_of_last, is_of_marks, ligature_joined, ligated, ligature_glyph, marks_inside, marked_one, number_before, number_for, with_followers};
@@ -331,19 +331,23 @@ fn join(
     text[at] = ligature(classes, to, number, counted.all, first);
 }
 
-/// Puts one glyph in for the one at a place and those at other places behind it.
+/// Puts one glyph in for the one at a place and those at other places behind it. Returns how many
+/// glyphs are left, at the front.
+#[tactic(auto, unfolding(crate::specs::Ligated::ligated))]
 pub fn ligate(
     classes: &ClassTable<'_>,
     level: BufferClusterLevel,
-    text: &mut Vec<hb_glyph_info_t>,
+    text: &mut [hb_glyph_info_t],
     at: usize,
     places: &[usize],
     to: u16,
-)
-    requires here { at < length text.old.items }
-    requires behind { last_place at places.now < length text.old.items }
-    ensures { text.new.items ≡ ligated classes.now.gdef.now level at places.now to text.old.items }
+) -> usize
+    requires here { at < length text.old }
+    requires behind { last_place at places.now < length text.old }
+    ensures text { take result text.new
+        ≡ ligated classes.now.gdef.now level at places.now to text.old }
+    ensures few { result ≤ length text.old }
 {
     join(classes, level, text, at, places, to);
-    remove_all(text, places);
+    remove_all(text, places)
 }

@@ -1,5 +1,6 @@
 //! A lookup of GSUB as it is applied to a text, and which glyphs it sees.
 ghost use Rattle.std.specs.Prelude.{◌≡◌, ℕ, List};
+ghost use Rattle.opentype_layout.specs.Sight.{sight_of_input};
 ghost use Rattle.opentype_gsub.specs.Setting.{how_of, is_seen, sights_of, sights_within, syllable_from};
 
 use opentype_face::class_table::ClassTable;
@@ -101,6 +102,26 @@ impl LookupUse {
         if self.per_syllable { glyph.syllable } else { 0 }
     }
 
+    /// What the input of a lookup's table sees wherever it is.
+    #[inline]
+    pub(crate) fn sight(&self, gdef: &[u8], lookup: &[u8]) -> Sight
+        ensures { result ≡ sight_of_input gdef.now lookup.now (how_of self.now) 0 }
+    {
+        Sight::of_input(gdef, lookup, &self.application(), 0)
+    }
+
+    /// The same from a glyph on.
+    #[inline]
+    pub(crate) fn sight_from(&self, sight: &Sight, glyph: &hb_glyph_info_t) -> Sight
+        ensures { (gdef lookup : List ℕ) → sight.now ≡ sight_of_input gdef lookup (how_of self.now) 0 →
+            result ≡ sight_of_input gdef lookup (how_of self.now) glyph.now.syllable }
+    {
+        Sight {
+            syllable: self.syllable_from(glyph),
+            ..*sight
+        }
+    }
+
     /// What a lookup's table sees from a glyph on, by what it sees wherever it is.
     #[inline]
     pub(crate) fn sights_from(&self, sights: &Sights, glyph: &hb_glyph_info_t) -> Sights
@@ -123,15 +144,24 @@ impl LookupUse {
     /// Whether a lookup applies to a glyph, by what its table sees: the glyph has a bit of the mask, and
     /// isn't ignored.
     #[inline]
-    #[tactic(auto, unfolding(crate::specs::Setting::is_seen, crate::specs::Setting::sights_within))]
     pub(crate) fn sees_by(&self, gdef: &[u8], sights: &Sights, glyph: &hb_glyph_info_t) -> bool
         ensures { (lookup : List ℕ) → sights.now ≡ sights_within gdef.now self.now lookup 0 →
+            result ≡ is_seen gdef.now self.now lookup glyph.now }
+    {
+        self.sees_in(gdef, &sights.input, glyph)
+    }
+
+    /// The same by what the input of its table sees.
+    #[inline]
+    #[tactic(auto, unfolding(crate::specs::Setting::is_seen))]
+    pub(crate) fn sees_in(&self, gdef: &[u8], sight: &Sight, glyph: &hb_glyph_info_t) -> bool
+        ensures { (lookup : List ℕ) → sight.now ≡ sight_of_input gdef.now lookup (how_of self.now) 0 →
             result ≡ is_seen gdef.now self.now lookup glyph.now }
     {
         if glyph.mask & self.mask == 0 {
             return false;
         }
-        !ignores_glyph(gdef, sights.input.flag, sights.input.set, glyph)
+        !ignores_glyph(gdef, sight.flag, sight.set, glyph)
     }
 
     /// Whether a lookup, of this sight, applies to a glyph: the glyph has a bit of the mask, and isn't
@@ -141,10 +171,7 @@ impl LookupUse {
     pub fn sees(&self, gdef: &[u8], lookup: &[u8], glyph: &hb_glyph_info_t) -> bool
         ensures { result ≡ is_seen gdef.now self.now lookup.now glyph.now }
     {
-        if glyph.mask & self.mask == 0 {
-            return false;
-        }
-        let sight = Sight::of_input(gdef, lookup, &self.application(), 0);
-        !ignores_glyph(gdef, sight.flag, sight.set, glyph)
+        let sight = self.sight(gdef, lookup);
+        self.sees_in(gdef, &sight, glyph)
     }
 }

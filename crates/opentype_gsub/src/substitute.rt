@@ -11,6 +11,7 @@ ghost use Rattle.opentype_gsub.specs.Substituted.{limit_in, substituted};
 
 use crate::apply_along::apply_along;
 use crate::pass::{LookupUse, Pass};
+use crate::plain::{apply_plain, are_plain};
 use crate::presence::first_place;
 use crate::reverse::apply_backward;
 use opentype_face::class_table::ClassTable;
@@ -129,6 +130,10 @@ fn substitute_from(
         limit: limit(len, buffer.max_len()),
         lookup: *lookup_use,
     };
+    if are_plain(table) {
+        apply_plain(&pass, table, first, buffer);
+        return Ok(());
+    }
     // (the buffer keeps its record until the glyphs are replaced, since a refusal changes nothing)
     let mut lookups = buffer.lookup_record();
     match apply(&pass, table, first, &mut lookups, buffer) {

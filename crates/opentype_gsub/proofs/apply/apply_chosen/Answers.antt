@@ -1,8 +1,6 @@
-use Rattle.std.proofs.Common.{◌≡◌, ◌∙◌, ap, false, subst, sym}
-use Rattle.std.proofs.lemmas.List.{get_or_default}
-use Rattle.shapers_buffer.specs.Glyph.{default_glyph}
+use Rattle.std.proofs.Common.{◌≡◌, ◌∙◌, false, subst, sym}
 use Rattle.opentype_layout.specs.Text.{glyph_at}
-use Rattle.opentype_gsub.specs.Applied.{IsChange, PlaceChange, alternate_put, is_random, value_of}
+use Rattle.opentype_gsub.specs.Applied.{IsChange, PlaceChange, alternate_put, is_random}
 use Rattle.opentype_gsub.specs.Setting.{setting_of}
 use Rattle.std.specs.Prelude.{Option}
 use Rattle.opentype_gsub.proofs.Untouched.{not_random}
@@ -13,15 +11,11 @@ returns c =
     let s = setting_of c.args.pass.now in
     let sight = c.args.sight.now in
     let bytes = c.args.bytes.now in
-    let gs = c.args.text.now.items in
+    let gs = c.args.text.now in
     let at = c.args.at in
     let r = c.args.lookups.now in
-    let first = c.index.ensures ∙ get_or_default gs at c.index.result.now default_glyph c.requires.here in
-    let second = c.index-2.ensures ∙ get_or_default gs at c.index-2.result.now default_glyph c.requires.here in
-    let no : is_random s.lookup.random sight (glyph_at gs at) ≡ false =
-    sym (ap (is_random s.lookup.random sight) first) ∙ sym c.is_random.ensures ∙ c.if-is_random.false in
-    let value = c.value-value.ensures ∙ ap (value_of sight) second in
-    subst (λ (change : Option PlaceChange). IsChange change gs r c.apply_alternate.new.text.items r c.apply_alternate.result)
+    let no : is_random s.lookup.random sight (glyph_at gs at) ≡ false = sym c.is_random.ensures ∙ c.if-is_random.false in
+    subst (λ (change : Option PlaceChange). IsChange change gs r c.apply_alternate.new.text r c.apply_alternate.result)
     (sym (not_random s sight bytes gs at r no))
-    (subst (λ v. IsChange (alternate_put s.gdef bytes v gs at r) gs r c.apply_alternate.new.text.items r c.apply_alternate.result)
-    value (c.apply_alternate.ensures r))
+    (subst (λ v. IsChange (alternate_put s.gdef bytes v gs at r) gs r c.apply_alternate.new.text r c.apply_alternate.result)
+    c.value-value.ensures (c.apply_alternate.ensures r))

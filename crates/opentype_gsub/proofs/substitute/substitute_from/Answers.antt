@@ -36,3 +36,16 @@ returns-in-Ok-clause-refusal c =
     (fits_by gdef gsub c.args.lookup_use.now b it c.len-len.ensures.fits
     (text_applied gdef gsub c.args.lookup_use.now b c.args.table.now it c.args.first c.requires.table c.requires.left
     c.requires.within from)))
+
+pub returns-then-are_plain-clause-ok : goal.returns-then-are_plain-clause-ok
+returns-then-are_plain-clause-ok c =
+    let b = c.args.buffer.now in
+    let gdef = c.args.classes.now.gdef.now in
+    let gsub = c.args.gsub.now in
+    let new = c.apply_plain.new.buffer in
+    let it : Along = record { text = new.glyphs; lookups = new.lookups } in
+    let from : applied_from (setting_for gdef gsub c.args.lookup_use.now b) c.args.table.now c.args.first b.glyphs b.lookups
+    ≡ it = search rules in
+    let is = text_applied gdef gsub c.args.lookup_use.now b c.args.table.now it c.args.first c.requires.table
+    c.requires.left c.requires.within from in
+    c.apply_plain.ensures.others ∙ buffer_applied gdef gsub c.args.lookup_use.now b it is c.requires.unplaced

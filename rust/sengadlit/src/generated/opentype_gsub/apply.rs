@@ -17,6 +17,15 @@ use crate::generated::shapers_buffer::buffer::{
     BufferClusterLevel, GlyphInfo, LookupRecord, ShaperError, unsafe_to_break_in,
 };
 
+/// What was done to a text at a place, in its room.
+#[derive(Clone, Copy, Debug)]
+pub struct Put {
+    /// The place behind what was done.
+    pub next: usize,
+    /// How many glyphs the text has then, at the front.
+    pub len: usize,
+}
+
 /// Puts the glyphs of a sequence in for one, and returns the place behind them. More than the text
 /// may get aren't put in, and the record of its lookups says so.
 ///
@@ -74,7 +83,7 @@ fn apply_single(
     classes: &ClassTable<'_>,
     bytes: &[u8],
     place: Option<u32>,
-    text: &mut Vec<GlyphInfo>,
+    text: &mut [GlyphInfo],
     at: usize,
 ) -> Option<usize> {
     match single_at(bytes, number(text, at), place) {
@@ -91,7 +100,7 @@ fn apply_alternate(
     bytes: &[u8],
     place: Option<u32>,
     value: u32,
-    text: &mut Vec<GlyphInfo>,
+    text: &mut [GlyphInfo],
     at: usize,
 ) -> Option<usize> {
     match alternate_at(value, set_by(bytes, place)) {
@@ -124,9 +133,9 @@ fn apply_ligature(
     sight: &Sight,
     bytes: &[u8],
     place: Option<u32>,
-    text: &mut Vec<GlyphInfo>,
+    text: &mut [GlyphInfo],
     at: usize,
-) -> Option<usize> {
+) -> Option<Put> {
     let set = set_by(bytes, place)?;
     match first_fitting(classes.gdef, sight, set, text, at) {
         Some(fitting) => Some(put_ligature(classes, level, text, at, &fitting)),
@@ -138,18 +147,22 @@ fn apply_ligature(
 fn put_ligature(
     classes: &ClassTable<'_>,
     level: BufferClusterLevel,
-    text: &mut Vec<GlyphInfo>,
+    text: &mut [GlyphInfo],
     at: usize,
     fitting: &Fitting,
-) -> usize {
+) -> Put {
     let places = fitting.places.as_slice();
     if places.is_empty() {
+        let len = text.len();
         replace(classes, text, at, fitting.glyph, 0);
-        return at + 1;
+        return Put { next: at + 1, len };
     }
     let last = places[places.len() - 1];
-    ligate(classes, level, text, at, places, fitting.glyph);
-    (last + 1).saturating_sub(places.len())
+    let len = ligate(classes, level, text, at, places, fitting.glyph);
+    Put {
+        next: (last + 1).saturating_sub(places.len()),
+        len,
+    }
 }
 
 // The value of a feature at a glyph.
@@ -179,7 +192,7 @@ fn apply_random(
     classes: &ClassTable<'_>,
     bytes: &[u8],
     place: Option<u32>,
-    text: &mut Vec<GlyphInfo>,
+    text: &mut [GlyphInfo],
     lookups: &mut LookupRecord,
     at: usize,
 ) -> Option<usize> {
@@ -202,7 +215,7 @@ fn apply_chosen(
     sight: &Sight,
     bytes: &[u8],
     place: Option<u32>,
-    text: &mut Vec<GlyphInfo>,
+    text: &mut [GlyphInfo],
     lookups: &mut LookupRecord,
     at: usize,
 ) -> Option<usize> {
@@ -211,6 +224,60 @@ fn apply_chosen(
     }
     let value = value(sight, &text[at]);
     apply_alternate(&pass.classes, bytes, place, value, text, at)
+}
+
+// Where nothing is put in for several glyphs, their number stays.
+#[inline]
+fn put_up_to(next: Option<usize>, len: usize) -> Option<Put> {
+    match next {
+        Some(next) => Some(Put { next, len }),
+        None => None,
+    }
+}
+
+/// What a subtable that adds no glyph makes of a text at a place, by the place of the glyph there in
+/// the set that it begins with, if it fits. The glyphs stay in their room.
+///
+/// <details><summary>Contract</summary>
+///
+/// # Contract
+///
+/// ```text
+/// requires here { at < length text.old }
+/// requires few { (subtable.now.kind == 2) ≡ false }
+/// requires place { subtable.now.place ≡ first_place (record {
+///   kind = subtable.now.kind;
+///   bytes = subtable.now.bytes.now;
+/// }) (two_byte_number text.old at) }
+/// ensures { IsPut (one_put (setting_of pass.now) sight.now subtable.now.kind
+///     subtable.now.bytes.now text.old at lookups.old) text.old lookups.old text.new lookups.new
+///     result }
+/// ```
+///
+/// - `IsPut`, `one_put`, `two_byte_number`: `crates/opentype_gsub/specs/Applied.antt`
+/// - `setting_of`: `crates/opentype_gsub/specs/Setting.antt`
+/// - `first_place`: `crates/opentype_layout/specs/SubstitutionTables.antt`
+///
+/// </details>
+#[inline]
+pub fn apply_in_room(
+    pass: &Pass<'_>,
+    sight: &Sight,
+    subtable: &SubtableAt<'_>,
+    text: &mut [GlyphInfo],
+    lookups: &mut LookupRecord,
+    at: usize,
+) -> Option<Put> {
+    let (bytes, place, len) = (subtable.bytes, subtable.place, text.len());
+    match subtable.kind {
+        1 => put_up_to(apply_single(&pass.classes, bytes, place, text, at), len),
+        3 => put_up_to(
+            apply_chosen(pass, sight, bytes, place, text, lookups, at),
+            len,
+        ),
+        4 => apply_ligature(&pass.classes, pass.level, sight, bytes, place, text, at),
+        _ => None,
+    }
 }
 
 /// What a subtable makes of a text at a place, by the place of the glyph there in the set that it
@@ -251,20 +318,14 @@ pub fn apply_one(
     lookups: &mut LookupRecord,
     at: usize,
 ) -> Result<Option<usize>, ShaperError> {
-    let (bytes, place) = (subtable.bytes, subtable.place);
-    match subtable.kind {
-        1 => Ok(apply_single(&pass.classes, bytes, place, text, at)),
-        2 => apply_multiple(pass, bytes, place, text, lookups, at),
-        3 => Ok(apply_chosen(pass, sight, bytes, place, text, lookups, at)),
-        4 => Ok(apply_ligature(
-            &pass.classes,
-            pass.level,
-            sight,
-            bytes,
-            place,
-            text,
-            at,
-        )),
-        _ => Ok(None),
+    if subtable.kind == 2 {
+        return apply_multiple(pass, subtable.bytes, subtable.place, text, lookups, at);
+    }
+    match apply_in_room(pass, sight, subtable, text, lookups, at) {
+        Some(put) => {
+            text.truncate(put.len);
+            Ok(Some(put.next))
+        }
+        None => Ok(None),
     }
 }

@@ -49,22 +49,16 @@ pub fn replacement(classes: &ClassTable<'_>, to: u16, guess: u16, glyph: GlyphIn
 /// # Contract
 ///
 /// ```text
-/// requires { at < length text.old.items }
-/// ensures { let gdef = classes.now.gdef.now in text.new.items ≡
-///     slice_set text.old.items at (replaced gdef to guess (glyph_at text.old.items at)) }
+/// requires { at < length text.old }
+/// ensures { let gdef = classes.now.gdef.now in text.new ≡
+///     slice_set text.old at (replaced gdef to guess (glyph_at text.old at)) }
 /// ```
 ///
 /// - `replaced`: `crates/opentype_gsub/specs/Edits.antt`
 /// - `glyph_at`: `crates/opentype_layout/specs/Text.antt`
 ///
 /// </details>
-pub fn replace(
-    classes: &ClassTable<'_>,
-    text: &mut Vec<GlyphInfo>,
-    at: usize,
-    to: u16,
-    guess: u16,
-) {
+pub fn replace(classes: &ClassTable<'_>, text: &mut [GlyphInfo], at: usize, to: u16, guess: u16) {
     let glyph = text[at];
     text[at] = replacement(classes, to, guess, glyph);
 }
@@ -176,14 +170,24 @@ pub fn delete(level: BufferClusterLevel, text: &mut Vec<GlyphInfo>, at: usize) {
     text.remove(at);
 }
 
-// Takes glyphs out, the last first.
-pub(crate) fn remove_all(text: &mut Vec<GlyphInfo>, places: &[usize]) {
+// Takes a glyph out. Those behind it move to the front by one place, and the last place is free.
+#[inline]
+fn take_out(text: &mut [GlyphInfo], at: usize) {
+    let end = text.len();
+    text.copy_within(at + 1..end, at);
+}
+
+// Takes glyphs out, the last first. Returns how many are left, at the front.
+pub(crate) fn remove_all(text: &mut [GlyphInfo], places: &[usize]) -> usize {
+    let mut len = text.len();
     for i in (0..places.len()).rev() {
         let place = places[i];
-        if place < text.len() {
-            text.remove(place);
+        if place < len {
+            take_out(&mut text[..len], place);
+            len -= 1;
         }
     }
+    len
 }
 
 // The last of a place and those behind it.

@@ -2,8 +2,6 @@
 
 //! Type 4: a ligature in the place of several glyphs, and the marks that belong to it.
 
-use crate::support::prelude::*;
-
 use crate::generated::opentype_face::class_table::ClassTable;
 use crate::generated::opentype_gsub::edits::{last_of, merge_up_to, remove_all, replacement};
 use crate::generated::shapers_buffer::buffer::{
@@ -248,16 +246,19 @@ fn join(
     text[at] = ligature(classes, to, number, counted.all, first);
 }
 
-/// Puts one glyph in for the one at a place and those at other places behind it.
+/// Puts one glyph in for the one at a place and those at other places behind it. Returns how many
+/// glyphs are left, at the front.
 ///
 /// <details><summary>Contract</summary>
 ///
 /// # Contract
 ///
 /// ```text
-/// requires here { at < length text.old.items }
-/// requires behind { last_place at places.now < length text.old.items }
-/// ensures { text.new.items ≡ ligated classes.now.gdef.now level at places.now to text.old.items }
+/// requires here { at < length text.old }
+/// requires behind { last_place at places.now < length text.old }
+/// ensures text { take result text.new
+///     ≡ ligated classes.now.gdef.now level at places.now to text.old }
+/// ensures few { result ≤ length text.old }
 /// ```
 ///
 /// - `last_place`: `crates/opentype_gsub/specs/Edits.antt`
@@ -267,11 +268,11 @@ fn join(
 pub fn ligate(
     classes: &ClassTable<'_>,
     level: BufferClusterLevel,
-    text: &mut Vec<GlyphInfo>,
+    text: &mut [GlyphInfo],
     at: usize,
     places: &[usize],
     to: u16,
-) {
+) -> usize {
     join(classes, level, text, at, places, to);
-    remove_all(text, places);
+    remove_all(text, places)
 }

@@ -103,6 +103,21 @@ impl LookupUse {
         if self.per_syllable { glyph.syllable } else { 0 }
     }
 
+    /// What the input of a lookup's table sees wherever it is.
+    #[inline]
+    pub(crate) fn sight(&self, gdef: &[u8], lookup: &[u8]) -> Sight {
+        Sight::of_input(gdef, lookup, &self.application(), 0)
+    }
+
+    /// The same from a glyph on.
+    #[inline]
+    pub(crate) fn sight_from(&self, sight: &Sight, glyph: &GlyphInfo) -> Sight {
+        Sight {
+            syllable: self.syllable_from(glyph),
+            ..*sight
+        }
+    }
+
     /// What a lookup's table sees from a glyph on, by what it sees wherever it is.
     #[inline]
     pub(crate) fn sights_from(&self, sights: &Sights, glyph: &GlyphInfo) -> Sights {
@@ -123,10 +138,16 @@ impl LookupUse {
     /// isn't ignored.
     #[inline]
     pub(crate) fn sees_by(&self, gdef: &[u8], sights: &Sights, glyph: &GlyphInfo) -> bool {
+        self.sees_in(gdef, &sights.input, glyph)
+    }
+
+    /// The same by what the input of its table sees.
+    #[inline]
+    pub(crate) fn sees_in(&self, gdef: &[u8], sight: &Sight, glyph: &GlyphInfo) -> bool {
         if glyph.mask & self.mask == 0 {
             return false;
         }
-        !ignores_glyph(gdef, sights.input.flag, sights.input.set, glyph)
+        !ignores_glyph(gdef, sight.flag, sight.set, glyph)
     }
 
     /// Whether a lookup, of this sight, applies to a glyph: the glyph has a bit of the mask, and isn't
@@ -145,10 +166,7 @@ impl LookupUse {
     /// </details>
     #[inline]
     pub fn sees(&self, gdef: &[u8], lookup: &[u8], glyph: &GlyphInfo) -> bool {
-        if glyph.mask & self.mask == 0 {
-            return false;
-        }
-        let sight = Sight::of_input(gdef, lookup, &self.application(), 0);
-        !ignores_glyph(gdef, sight.flag, sight.set, glyph)
+        let sight = self.sight(gdef, lookup);
+        self.sees_in(gdef, &sight, glyph)
     }
 }

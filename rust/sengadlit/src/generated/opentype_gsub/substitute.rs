@@ -8,6 +8,7 @@ use crate::generated::opentype_face::class_table::ClassTable;
 use crate::generated::opentype_face::lookup::subtable_type;
 use crate::generated::opentype_gsub::apply_along::apply_along;
 use crate::generated::opentype_gsub::pass::{LookupUse, Pass};
+use crate::generated::opentype_gsub::plain::{apply_plain, are_plain};
 use crate::generated::opentype_gsub::presence::first_place;
 use crate::generated::opentype_gsub::reverse::apply_backward;
 use crate::generated::opentype_layout::starts::LookupTable;
@@ -92,6 +93,10 @@ fn substitute_from(
         limit: limit(len, buffer.max_len()),
         lookup: *lookup_use,
     };
+    if are_plain(table) {
+        apply_plain(&pass, table, first, buffer);
+        return Ok(());
+    }
     // (the buffer keeps its record until the glyphs are replaced, since a refusal changes nothing)
     let mut lookups = buffer.lookup_record();
     match apply(&pass, table, first, &mut lookups, buffer) {

@@ -1,0 +1,26 @@
+-- Lookups that put single glyphs in: their subtables add no glyphs, and have no rules.
+use Rattle.std.specs.Prelude.{ℕ, ◌==◌, ◌||◌, ◌<◌, ◌≡◌, Bool, true, List, take, Option, None, Some}
+use Rattle.shapers_buffer.specs.Glyphs.{Glyphs}
+use Rattle.opentype_face.specs.Bytes.{u16_in}
+use Rattle.opentype_face.specs.Lookups.{type_in}
+use Rattle.opentype_gsub.specs.declared.apply.Put.{Put}
+use Rattle.opentype_gsub.specs.declared.machine.Outcome.{Outcome}
+use Rattle.opentype_gsub.specs.declared.machine.Outcome.TheVariants.{Nothing, Done}
+
+-- whether a subtable of a type puts single glyphs in
+abbrev pub is_plain : ℕ → Bool
+is_plain kind = (kind == 1) || ((kind == 3) || (kind == 4))
+
+-- a lookup's table has subtables, and all do
+abbrev pub ArePlain : List ℕ → Type 0
+ArePlain lookup = (0 < u16_in lookup 4)
+    × ((i : ℕ) → i < u16_in lookup 4 → is_plain (type_in 7 lookup i) ≡ true)
+
+-- the outcome, and the text in its room, by what the code gives
+abbrev pub outcome_of : Option Put → Outcome
+outcome_of None = Nothing
+outcome_of (Some put) = Done put.next
+
+abbrev pub text_of : Option Put → Glyphs → Glyphs
+text_of None gs = gs
+text_of (Some put) gs = take put.len gs

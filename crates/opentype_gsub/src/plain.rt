@@ -1,0 +1,273 @@
+//! Lookups that add no glyphs and have no rules, in the room of a text.
+ghost use Rattle.std.specs.Prelude.{◌≡◌, ◌<◌, ◌≤◌, true, false, length, take, unwrap_or, IfSome, []};
+ghost use Rattle.opentype_face.specs.Bytes.{u16_in};
+ghost use Rattle.opentype_face.specs.Firsts.{first_from};
+ghost use Rattle.opentype_face.specs.Lookups.{type_in};
+ghost use Rattle.opentype_gsub.specs.Along.{lookup_stepped};
+ghost use Rattle.opentype_gsub.specs.Came.{IsCome, came_in, nth_came};
+ghost use Rattle.opentype_gsub.specs.Looked.{tried};
+ghost use Rattle.opentype_gsub.specs.PlainLookups.{ArePlain, is_plain, outcome_of, text_of};
+ghost use Rattle.opentype_gsub.specs.Presence.{applied_from};
+ghost use Rattle.opentype_gsub.specs.Setting.{how_of, setting_of};
+ghost use Rattle.opentype_gsub.specs.declared.pass.Sights.{Sights};
+ghost use Rattle.opentype_layout.specs.Sight.{sight_of_input};
+ghost use Rattle.opentype_layout.specs.Starts.{NoneStarts};
+
+use crate::apply::{Put, apply_in_room, number};
+use crate::pass::Pass;
+use crate::presence::next_place;
+use crate::trying::flag_tried;
+use opentype_face::lookup::subtable_count;
+use opentype_layout::sight::Sight;
+use opentype_layout::starts::LookupTable;
+use shapers_buffer::buffer::{GlyphWalk, LookupRecord, hb_buffer_t, hb_glyph_info_t};
+
+// Whether a subtable of a type puts single glyphs in, and has no rules.
+#[inline]
+fn is_plain(kind: u16) -> bool
+    ensures { result ≡ is_plain kind }
+{
+    kind == 1 || kind == 3 || kind == 4
+}
+
+/// Whether a lookup's table has subtables, and all of them put single glyphs in.
+#[inline]
+pub(crate) fn are_plain(lookup: &LookupTable<'_>) -> bool
+    ensures { result ≡ true → ArePlain lookup.now }
+{
+    let count = subtable_count(lookup.bytes());
+    for i in 0..count {
+        if !is_plain(lookup.subtable(i).kind) {
+            return false;
+        }
+    }
+    count > 0
+}
+
+// What one of a lookup's subtables does at a place.
+#[inline]
+#[tactic(auto, unfolding(crate::specs::Came::nth_came))]
+fn put_by(
+    pass: &Pass<'_>,
+    sight: &Sight,
+    lookup: &LookupTable<'_>,
+    i: u16,
+    text: &mut [hb_glyph_info_t],
+    lookups: &mut LookupRecord,
+    at: usize,
+) -> Option<Put>
+    requires here { at < length text.old }
+    requires plain { is_plain (type_in 7 lookup.now i) ≡ true }
+    ensures come { (sights : Sights) → sights.input ≡ sight.now →
+        IsCome (nth_came (setting_of pass.now) sights lookup.now at text.old lookups.old i) text.old lookups.old (text_of result text.new) lookups.new
+        (outcome_of result) }
+    ensures few { IfSome result (λ put. put.len ≤ length text.old) }
+{
+    let subtable = lookup.subtable(i).at(number(text, at));
+    apply_in_room(pass, sight, &subtable, text, lookups, at)
+}
+
+// The next subtable from one on that is to be tried at a glyph; those between don't begin there. (A
+// single one is quickly tried.)
+#[inline]
+fn next_tried(lookup: &LookupTable<'_>, count: u16, glyph: u16, from: u16) -> Option<u16>
+    requires count { count ≡ u16_in lookup.now 4 }
+    requires from { from < count }
+    ensures within { IfSome result (λ next. (from ≤ next) × (next < u16_in lookup.now 4)) }
+    ensures passed { NoneStarts false lookup.now glyph from (unwrap_or result (u16_in lookup.now 4)) }
+{
+    if count == 1 {
+        return Some(from);
+    }
+    lookup.next_start(false, glyph, from)
+}
+
+// What the first of a lookup's subtables that fits does at a place.
+#[inline]
+fn put_among(
+    pass: &Pass<'_>,
+    sight: &Sight,
+    lookup: &LookupTable<'_>,
+    text: &mut [hb_glyph_info_t],
+    lookups: &mut LookupRecord,
+    at: usize,
+) -> Option<Put>
+    requires here { at < length text.old }
+    requires plain { ArePlain lookup.now }
+    ensures come { (sights : Sights) → sights.input ≡ sight.now →
+        IsCome (first_from (u16_in lookup.now 4)
+        (nth_came (setting_of pass.now) sights lookup.now at text.old lookups.old) 0)
+        text.old lookups.old (text_of result text.new) lookups.new (outcome_of result) }
+    ensures few { IfSome result (λ put. put.len ≤ length text.old) }
+{
+    let (count, mut from) = (subtable_count(lookup.bytes()), 0);
+    while from < count {
+        let Some(i) = next_tried(lookup, count, number(text, at), from) else {
+            return None;
+        };
+        match put_by(pass, sight, lookup, i, text, lookups, at) {
+            Some(put) => return Some(put),
+            None => from = i + 1,
+        }
+    }
+    None
+}
+
+// What a lookup does at a place, behind the flags of what is tried in vain.
+#[inline]
+fn put_at(
+    pass: &Pass<'_>,
+    sight: &Sight,
+    lookup: &LookupTable<'_>,
+    text: &mut [hb_glyph_info_t],
+    lookups: &mut LookupRecord,
+    at: usize,
+) -> Option<Put>
+    requires here { at < length text.old }
+    requires plain { ArePlain lookup.now }
+    requires sight { let it = setting_of pass.now in
+        sight.now ≡ sight_of_input it.gdef lookup.now (how_of it.lookup) 0 }
+    ensures come { let s = setting_of pass.now in
+        let gs = tried s lookup.now text.old at in
+        IsCome (came_in s lookup.now gs at lookups.old) gs lookups.old (text_of result text.new)
+        lookups.new (outcome_of result) }
+    ensures few { IfSome result (λ put. put.len ≤ length text.old) }
+{
+    flag_tried(pass, lookup.bytes(), text, at);
+    let seen = pass.lookup.sight_from(sight, &text[at]);
+    put_among(pass, &seen, lookup, text, lookups, at)
+}
+
+// What a lookup does at a place that it may begin at; the next place, and how many glyphs there are.
+#[inline]
+#[tactic(auto, unfolding(crate::specs::Along::lookup_stepped))]
+fn step(
+    pass: &Pass<'_>,
+    sight: &Sight,
+    lookup: &LookupTable<'_>,
+    text: &mut [hb_glyph_info_t],
+    lookups: &mut LookupRecord,
+    at: usize,
+) -> Put
+    requires here { at < length text.old }
+    requires plain { ArePlain lookup.now }
+    requires sight { let it = setting_of pass.now in
+        sight.now ≡ sight_of_input it.gdef lookup.now (how_of it.lookup) 0 }
+    ensures text { lookup_stepped (setting_of pass.now) lookup.now text.old at lookups.old
+        ≡ record { text = take result.len text.new; next = result.next; lookups = lookups.new } }
+    ensures few { result.len ≤ length text.old }
+{
+    let next = Put {
+        next: at + 1,
+        len: text.len(),
+    };
+    if !pass.lookup.sees_in(pass.classes.gdef, sight, &text[at]) {
+        return next;
+    }
+    match put_at(pass, sight, lookup, text, lookups, at) {
+        Some(put) => put,
+        None => next,
+    }
+}
+
+// Applies a lookup by its table along a text from a place on. Returns how many glyphs are left, at the
+// front.
+#[inline]
+fn put_along(
+    pass: &Pass<'_>,
+    lookup: &LookupTable<'_>,
+    text: &mut [hb_glyph_info_t],
+    lookups: &mut LookupRecord,
+    first: usize,
+) -> usize
+    requires { ArePlain lookup.now }
+    ensures text { applied_from (setting_of pass.now) lookup.now first text.old lookups.old
+        ≡ record { text = take result text.new; lookups = lookups.new } }
+    ensures few { result ≤ length text.old }
+{
+    let sight = pass.lookup.sight(pass.classes.gdef, lookup.bytes());
+    let mut len = text.len();
+    let (mut at, mut steps) = (first, len.saturating_sub(first));
+    while steps > 0 {
+        let place = next_place(&pass.lookup, lookup, &text[..len], at);
+        if place >= len {
+            return len;
+        }
+        let passed = place - at;
+        if passed >= steps {
+            return len;
+        }
+        let put = step(pass, &sight, lookup, &mut text[..len], lookups, place);
+        at = put.next;
+        len = put.len;
+        steps -= passed + 1;
+    }
+    len
+}
+
+// A lookup by its table along a text from a place on; how many glyphs it leaves, and the record of the
+// text's lookups.
+#[derive(Drop)]
+struct Putting<'a> {
+    pass: &'a Pass<'a>,
+    lookup: &'a LookupTable<'a>,
+    first: usize,
+    lookups: LookupRecord,
+    len: usize,
+}
+
+impl<'a> GlyphWalk for Putting<'a> {
+    ghost use Rattle.std.specs.Prelude.{◌≡◌, ◌≤◌, length, take};
+    ghost use Rattle.opentype_gsub.specs.PlainLookups.{ArePlain};
+    ghost use Rattle.opentype_gsub.specs.Presence.{applied_from};
+    ghost use Rattle.opentype_gsub.specs.Setting.{setting_of};
+
+    ghost can_walk = { λ w gs. ArePlain w.lookup.now };
+
+    ghost walks = { λ v w gs hs. (w.len ≤ length gs)
+        × (applied_from (setting_of v.pass.now) v.lookup.now v.first gs v.lookups
+        ≡ record { text = take w.len hs; lookups = w.lookups }) };
+
+    #[inline]
+    fn walk(&mut self, glyphs: &mut [hb_glyph_info_t]) {
+        self.len = put_along(
+            self.pass,
+            self.lookup,
+            glyphs,
+            &mut self.lookups,
+            self.first,
+        );
+    }
+}
+
+/// Applies a lookup whose subtables put single glyphs in, by its table and from a place on, to a
+/// buffer without positions. It takes no memory.
+#[inline]
+pub(crate) fn apply_plain(
+    pass: &Pass<'_>,
+    lookup: &LookupTable<'_>,
+    first: usize,
+    buffer: &mut hb_buffer_t,
+)
+    requires plain { ArePlain lookup.now }
+    requires unplaced { buffer.old.positions ≡ [] }
+    ensures text { applied_from (setting_of pass.now) lookup.now first buffer.old.glyphs
+        buffer.old.lookups
+        ≡ record { text = buffer.new.glyphs; lookups = buffer.new.lookups } }
+    ensures others { buffer.new ≡ record buffer.old {
+      glyphs = buffer.new.glyphs;
+      positions = [];
+      lookups = buffer.new.lookups;
+    } }
+{
+    let mut putting = Putting {
+        pass,
+        lookup,
+        first,
+        lookups: buffer.lookup_record(),
+        len: 0,
+    };
+    buffer.walk(&mut putting);
+    buffer.truncate(putting.len);
+    buffer.set_lookup_record(putting.lookups);
+}
