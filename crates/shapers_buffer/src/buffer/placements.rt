@@ -536,9 +536,9 @@ impl hb_buffer_t {
         ensures same_length { length self.new.glyphs ≡ length self.old.glyphs }
     {
         if merges(self.cluster_level) && to - from >= 2 {
-            let run = merged_range(&self.arranged(placements, start, end), from, to);
-            let change = IntoCluster(run.cluster);
-            self.change_arranged(placements, start, end, run.start, run.end, &change);
+            let range = merged_range(&self.arranged(placements, start, end), from, to);
+            let change = IntoCluster(range.cluster);
+            self.change_arranged(placements, start, end, range.start, range.end, &change);
         }
     }
 }

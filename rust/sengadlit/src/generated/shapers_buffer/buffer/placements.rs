@@ -569,9 +569,9 @@ impl Buffer {
         to: usize,
     ) {
         if merges(self.cluster_level) && to - from >= 2 {
-            let run = merged_range(&self.arranged(placements, start, end), from, to);
-            let change = IntoCluster(run.cluster);
-            self.change_arranged(placements, start, end, run.start, run.end, &change);
+            let range = merged_range(&self.arranged(placements, start, end), from, to);
+            let change = IntoCluster(range.cluster);
+            self.change_arranged(placements, start, end, range.start, range.end, &change);
         }
     }
 }
