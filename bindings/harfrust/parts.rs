@@ -53,6 +53,11 @@ impl WideGlyphs for FontFuncsDispatch<'_, '_> {
             .filter_map(|lookup| gsub.get_lookup(*lookup))
             .any(|lookup| lookup.would_apply(font, &context) == Some(true))
     }
+
+    // (`shape` takes the text by value, so that no caller sees what a panic leaves of it)
+    fn may_panic(&self) -> bool {
+        false
+    }
 }
 
 // ---- Tables ----

@@ -60,6 +60,11 @@ impl Glyphs for hb_font_t<'_> {
     fn would_apply_any(&self, lookups: &[u16], glyphs: &[GlyphId], zero_context: bool) -> bool {
         !lookups.is_empty() && any_would_apply(self, lookups, glyphs, zero_context)
     }
+
+    // (`shape` takes the text by value, so that no caller sees what a panic leaves of it)
+    fn may_panic(&self) -> bool {
+        false
+    }
 }
 
 fn any_would_apply(font: &hb_font_t, lookups: &[u16], glyphs: &[GlyphId], zero_context: bool) -> bool {

@@ -83,6 +83,11 @@ pub trait Glyphs {
         let would_apply = |lookup: &u16| self.would_apply(*lookup, glyphs, zero_context);
         lookups.iter().any(would_apply)
     }
+
+    /// Whether a question to the font may panic: see [`Font::may_panic`].
+    fn may_panic(&self) -> bool {
+        true
+    }
 }
 
 /// A [`Font`] for shaping alone: for every hook and pause but
@@ -116,6 +121,10 @@ impl<F: Glyphs> Font for GlyphsOnly<F> {
     fn has_feature(&self, _tag: Tag) -> bool {
         no_result("shaping", "a feature")
     }
+
+    fn may_panic(&self) -> bool {
+        self.0.may_panic()
+    }
 }
 
 impl<F: Glyphs + ?Sized> Glyphs for &F {
@@ -137,6 +146,10 @@ impl<F: Glyphs + ?Sized> Glyphs for &F {
 
     fn would_apply_any(&self, lookups: &[u16], glyphs: &[GlyphId], zero_context: bool) -> bool {
         (**self).would_apply_any(lookups, glyphs, zero_context)
+    }
+
+    fn may_panic(&self) -> bool {
+        (**self).may_panic()
     }
 }
 

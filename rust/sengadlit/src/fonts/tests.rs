@@ -237,6 +237,10 @@ impl Glyphs for Overriding {
     fn would_apply_any(&self, lookups: &[u16], glyphs: &[GlyphId], zero_context: bool) -> bool {
         lookups.len() == glyphs.len() && zero_context
     }
+
+    fn may_panic(&self) -> bool {
+        false
+    }
 }
 
 impl WideGlyphs for Overriding {
@@ -260,6 +264,10 @@ impl WideGlyphs for Overriding {
         assert!(!lookups.is_empty(), "a question without lookups");
         lookups.len() == glyphs.len() && zero_context
     }
+
+    fn may_panic(&self) -> bool {
+        Glyphs::may_panic(self)
+    }
 }
 
 /// Whether a font's provided methods return what those of [`Overriding`] do.
@@ -270,6 +278,7 @@ fn overrides<F: Font>(font: F) -> bool {
         && font.would_apply_any(&[4; 8], &[GlyphId(7); 8], true)
         && !font.would_apply_any(&[4, 5], &three, true)
         && !font.would_apply_any(&[4, 5, 6], &three, false)
+        && !font.may_panic()
 }
 
 #[test]

@@ -30,6 +30,11 @@ pub trait WideGlyphs {
         let would_apply = |lookup: &u16| self.would_apply(*lookup, glyphs, zero_context);
         lookups.iter().any(would_apply)
     }
+
+    /// Whether a question to the font may panic: see [`Font::may_panic`].
+    fn may_panic(&self) -> bool {
+        true
+    }
 }
 
 impl<F: WideGlyphs + ?Sized> WideGlyphs for &mut F {
@@ -51,6 +56,10 @@ impl<F: WideGlyphs + ?Sized> WideGlyphs for &mut F {
 
     fn would_apply_any(&mut self, lookups: &[u16], glyphs: &[u32], zero_context: bool) -> bool {
         (**self).would_apply_any(lookups, glyphs, zero_context)
+    }
+
+    fn may_panic(&self) -> bool {
+        (**self).may_panic()
     }
 }
 
@@ -172,5 +181,9 @@ impl<F: WideGlyphs> Font for Wide<F> {
 
     fn has_feature(&self, _tag: Tag) -> bool {
         no_result("shaping", "a feature")
+    }
+
+    fn may_panic(&self) -> bool {
+        self.font.borrow().may_panic()
     }
 }
