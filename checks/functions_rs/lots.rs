@@ -21,6 +21,8 @@ pub fn answer(of: u64, method: u64, seed: u64, question: &[u64]) -> Vec<u64> {
             let would_apply = |lookup: &u64| answer(0, 3, seed, &[&[*lookup], rest].concat())[0] == 1;
             return vec![u64::from(lookups.iter().any(would_apply))];
         }
+        // three questions at once
+        (3, 3) => return (0..3).map(|method| answer(3, method, seed, question)[0]).collect(),
         _ => question,
     };
     let start = mixed(seed ^ (of * 8 + method + 1));
@@ -54,10 +56,10 @@ pub fn answer(of: u64, method: u64, seed: u64, question: &[u64]) -> Vec<u64> {
         (3, 0) => answer(1, 1, seed, question),
         (3, 1) => answer(2, 7, seed, question),
         (3, 2) => answer(2, 8, seed, question),
-        (3, 3) => vec![u64::from(lot % 4 == 0)],
+        (3, 4) => vec![u64::from(lot % 4 == 0)],
         // (another character, mirrored or upright)
-        (3, 4 | 5) if lot % 2 == 0 => vec![0],
-        (3, 4 | 5) => vec![1, (first + 1 + lot % 3) & 0xFFFF_FFFF],
+        (3, 5 | 6) if lot % 2 == 0 => vec![0],
+        (3, 5 | 6) => vec![1, (first + 1 + lot % 3) & 0xFFFF_FFFF],
         _ => unreachable!("a font, tables, a context, and properties"),
     }
 }
