@@ -437,7 +437,7 @@ class Copy:
     def counts(self, whole):
         """How many arguments there are, where they can all be given."""
         counts = [f"<{kind} as Whole>::COUNT" for kind in whole]
-        return f"count_of(&[{', '.join(counts)}])" if whole else "0"
+        return f"crate::harness::count_of(&[{', '.join(counts)}])" if whole else "0"
 
     def of_type(self, it):
         found = substitution(it.generics)
