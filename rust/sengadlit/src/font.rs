@@ -79,8 +79,10 @@ pub use crate::generated::shapers_base::font::GlyphId;
 ///
 /// # What a panic leaves
 ///
-/// A font may panic; the hook or pause that called it then leaves the buffer as it was, or empty, with
-/// the settings of a new one. A planner is as it was. The buffer can be used again.
+/// A font may panic; the hook or pause that called it then leaves the buffer as it was, or empty. An
+/// empty buffer has the settings of a new one, but after Thai's [`preprocess_text`] its own. A planner
+/// is as it was. The buffer can be used again. If [`may_panic`](Font::may_panic) returned false,
+/// [`InitialReordering`] leaves what it had written.
 ///
 /// | as it was | empty |
 /// |---|---|
@@ -100,5 +102,6 @@ pub use crate::generated::shapers_base::font::Font;
 /// # What a panic leaves
 ///
 /// Where tables panic, [`setup_masks`](crate::Shaper::setup_masks) leaves the buffer as it was, or
-/// empty with the settings of a new one. What sets categories on a slice leaves what it wrote so far.
+/// empty: with its own settings, but with those of a new one in the universal shaper where letters
+/// join. What sets categories on a slice leaves what it wrote so far.
 pub use crate::generated::shapers_base::font::Tables;
