@@ -14,6 +14,7 @@ use Rattle.opentype_layout.specs.Rules.{Found, around, by_glyphs, chained_in, co
 use Rattle.opentype_layout.specs.Sight.{flag_in, ignores, may_pass, next_from, seen_as, sight_of_context, sight_of_input}
 use Rattle.opentype_gpos.specs.Called.{Work, lookup_made, record_made, records_made, rule_made}
 use Rattle.opentype_gpos.specs.Coming.{Setting, came_in, nth_came, sights_in}
+use Rattle.opentype_gpos.specs.Looked.{tried}
 use Rattle.opentype_gpos.specs.Making.{moved}
 use Rattle.opentype_gpos.specs.Moved.{Positions, Progress, flagged_up_to, value_added, with_value}
 use Rattle.opentype_gpos.specs.Moves.{one_move, single_move}
@@ -54,6 +55,7 @@ setting third = record {
   gpos = table third;
   direction = LeftToRight;
   how = record { of_gpos = true; mask = 16; auto_zwnj = true; auto_zwj = true; per_syllable = false };
+  concat = false;
 }
 
 -- what lookup 2 does at a place
@@ -78,19 +80,19 @@ both = lookup_of 7 ((0 ∷ 3 ∷ 0 ∷ 2 ∷ 0 ∷ 2 ∷ 0 ∷ 18 ∷ 0 ∷ 24 �
 -- both are moved, no break is between them, and the text goes on behind
 both-moved : stepped both (glyph 5 0 ∷ glyph 6 1 ∷ glyph 5 2 ∷ []) (wide ∷ wide ∷ wide ∷ []) 0
     ≡ record { glyphs = glyph 5 0 ∷ bound 6 1 ∷ glyph 5 2 ∷ []; positions = narrow ∷ high ∷ wide ∷ []; next = 2 }
-unfolding position_stepped came_in nth_came sights_in sight_of_input sight_of_context flag_in context_in by_glyphs first_in nth_in kind_in first_at set_in found_at around rule_in chained_in unchained_in test_in reach_behind reach_before reach_from end_in input_in is_apart places_from next_from seen_by seen_as ignores may_pass bisect first_from rule_made records_made record_made lookup_made moved value_added with_value flagged_up_to one_move single_move
+unfolding position_stepped came_in nth_came sights_in sight_of_input sight_of_context flag_in context_in by_glyphs first_in nth_in kind_in first_at set_in found_at around rule_in chained_in unchained_in test_in reach_behind reach_before reach_from end_in input_in is_apart places_from next_from seen_by seen_as ignores may_pass bisect first_from rule_made records_made record_made lookup_made moved value_added with_value flagged_up_to one_move single_move tried
 both-moved = refl
 
 -- out of its context nothing is
 both-alone : stepped both (glyph 5 0 ∷ glyph 5 1 ∷ []) (wide ∷ wide ∷ []) 0
     ≡ record { glyphs = glyph 5 0 ∷ glyph 5 1 ∷ []; positions = wide ∷ wide ∷ []; next = 1 }
-unfolding position_stepped came_in nth_came sights_in sight_of_input sight_of_context flag_in context_in by_glyphs first_in nth_in kind_in first_at set_in found_at around rule_in chained_in unchained_in test_in reach_behind reach_before reach_from end_in input_in is_apart places_from next_from seen_by seen_as ignores may_pass bisect first_from rule_made records_made record_made lookup_made moved value_added with_value flagged_up_to one_move single_move
+unfolding position_stepped came_in nth_came sights_in sight_of_input sight_of_context flag_in context_in by_glyphs first_in nth_in kind_in first_at set_in found_at around rule_in chained_in unchained_in test_in reach_behind reach_before reach_from end_in input_in is_apart places_from next_from seen_by seen_as ignores may_pass bisect first_from rule_made records_made record_made lookup_made moved value_added with_value flagged_up_to one_move single_move tried
 both-alone = refl
 
 -- nor is a glyph without the feature
 both-off : stepped both (record default_glyph { glyph_id = 5; mask = 8 } ∷ glyph 6 1 ∷ []) (wide ∷ wide ∷ []) 0
     ≡ record { glyphs = record default_glyph { glyph_id = 5; mask = 8 } ∷ glyph 6 1 ∷ []; positions = wide ∷ wide ∷ []; next = 1 }
-unfolding position_stepped sights_in sight_of_input sight_of_context flag_in
+unfolding position_stepped sights_in sight_of_input sight_of_context flag_in tried
 both-off = refl
 
 -- format 1: the rule is in the set of glyph 5; lookup 1 is for glyph 6, so at place 0 it does nothing, and place 2 isn't
@@ -101,7 +103,7 @@ first_alone = lookup_of 7 ((0 ∷ 1 ∷ 0 ∷ 8 ∷ 0 ∷ 1 ∷ 0 ∷ 14 ∷ [])
 
 first_alone-moved : stepped first_alone (glyph 5 0 ∷ glyph 6 1 ∷ glyph 5 2 ∷ []) (wide ∷ wide ∷ wide ∷ []) 0
     ≡ record { glyphs = glyph 5 0 ∷ bound 6 1 ∷ glyph 5 2 ∷ []; positions = narrow ∷ wide ∷ wide ∷ []; next = 2 }
-unfolding position_stepped came_in nth_came sights_in sight_of_input sight_of_context flag_in context_in by_glyphs first_in nth_in kind_in first_at set_in found_at around rule_in chained_in unchained_in test_in reach_behind reach_before reach_from end_in input_in is_apart places_from next_from seen_by seen_as ignores may_pass bisect first_from rule_made records_made record_made lookup_made moved value_added with_value flagged_up_to one_move single_move
+unfolding position_stepped came_in nth_came sights_in sight_of_input sight_of_context flag_in context_in by_glyphs first_in nth_in kind_in first_at set_in found_at around rule_in chained_in unchained_in test_in reach_behind reach_before reach_from end_in input_in is_apart places_from next_from seen_by seen_as ignores may_pass bisect first_from rule_made records_made record_made lookup_made moved value_added with_value flagged_up_to one_move single_move tried
 first_alone-moved = refl
 
 -- format 2: glyph 5 is of class 1, glyph 6 of class 2, whose glyph gets lookup 1
@@ -112,7 +114,7 @@ second_class = lookup_of 7 ((0 ∷ 2 ∷ 0 ∷ 12 ∷ 0 ∷ 18 ∷ 0 ∷ 2 ∷ 0
 
 second_class-moved : stepped second_class (glyph 5 0 ∷ glyph 6 1 ∷ []) (wide ∷ wide ∷ []) 0
     ≡ record { glyphs = glyph 5 0 ∷ bound 6 1 ∷ []; positions = wide ∷ high ∷ []; next = 2 }
-unfolding position_stepped came_in nth_came sights_in sight_of_input sight_of_context flag_in context_in by_glyphs first_in nth_in kind_in first_at set_in found_at around rule_in chained_in unchained_in test_in reach_behind reach_before reach_from end_in input_in is_apart places_from next_from seen_by seen_as ignores may_pass bisect first_from rule_made records_made record_made lookup_made moved value_added with_value flagged_up_to one_move single_move
+unfolding position_stepped came_in nth_came sights_in sight_of_input sight_of_context flag_in context_in by_glyphs first_in nth_in kind_in first_at set_in found_at around rule_in chained_in unchained_in test_in reach_behind reach_before reach_from end_in input_in is_apart places_from next_from seen_by seen_as ignores may_pass bisect first_from rule_made records_made record_made lookup_made moved value_added with_value flagged_up_to one_move single_move tried
 second_class-moved = refl
 
 -- type 8, format 3: glyph 5 between 4 and 7 gets lookup 0; the flags reach from 4 to 7, and the text goes on behind 5
@@ -122,7 +124,7 @@ between = (0 ∷ 3 ∷ 0 ∷ 1 ∷ 0 ∷ 20 ∷ 0 ∷ 1 ∷ 0 ∷ 26 ∷ 0 ∷ 1
 
 between-moved : stepped (lookup_of 8 between) (glyph 4 0 ∷ glyph 5 1 ∷ glyph 7 2 ∷ []) (wide ∷ wide ∷ wide ∷ []) 1
     ≡ record { glyphs = glyph 4 0 ∷ bound 5 1 ∷ bound 7 2 ∷ []; positions = wide ∷ narrow ∷ wide ∷ []; next = 2 }
-unfolding position_stepped came_in nth_came sights_in sight_of_input sight_of_context flag_in context_in by_glyphs first_in nth_in kind_in first_at set_in found_at around rule_in chained_in unchained_in test_in reach_behind reach_before reach_from end_in input_in is_apart places_from next_from seen_by seen_as ignores may_pass bisect first_from rule_made records_made record_made lookup_made moved value_added with_value flagged_up_to one_move single_move
+unfolding position_stepped came_in nth_came sights_in sight_of_input sight_of_context flag_in context_in by_glyphs first_in nth_in kind_in first_at set_in found_at around rule_in chained_in unchained_in test_in reach_behind reach_before reach_from end_in input_in is_apart places_from next_from seen_by seen_as ignores may_pass bisect first_from rule_made records_made record_made lookup_made moved value_added with_value flagged_up_to one_move single_move tried
 between-moved = refl
 
 -- format 1 of it
@@ -132,7 +134,7 @@ between_glyphs = lookup_of 8 ((0 ∷ 1 ∷ 0 ∷ 8 ∷ 0 ∷ 1 ∷ 0 ∷ 14 ∷ 
 
 between_glyphs-moved : stepped between_glyphs (glyph 4 0 ∷ glyph 5 1 ∷ glyph 7 2 ∷ []) (wide ∷ wide ∷ wide ∷ []) 1
     ≡ record { glyphs = glyph 4 0 ∷ bound 5 1 ∷ bound 7 2 ∷ []; positions = wide ∷ narrow ∷ wide ∷ []; next = 2 }
-unfolding position_stepped came_in nth_came sights_in sight_of_input sight_of_context flag_in context_in by_glyphs first_in nth_in kind_in first_at set_in found_at around rule_in chained_in unchained_in test_in reach_behind reach_before reach_from end_in input_in is_apart places_from next_from seen_by seen_as ignores may_pass bisect first_from rule_made records_made record_made lookup_made moved value_added with_value flagged_up_to one_move single_move
+unfolding position_stepped came_in nth_came sights_in sight_of_input sight_of_context flag_in context_in by_glyphs first_in nth_in kind_in first_at set_in found_at around rule_in chained_in unchained_in test_in reach_behind reach_before reach_from end_in input_in is_apart places_from next_from seen_by seen_as ignores may_pass bisect first_from rule_made records_made record_made lookup_made moved value_added with_value flagged_up_to one_move single_move tried
 between_glyphs-moved = refl
 
 -- format 2: glyphs 4 to 7 are of classes 3, 1, 2, 4
@@ -143,7 +145,7 @@ between_classes = lookup_of 8 ((0 ∷ 2 ∷ 0 ∷ 16 ∷ 0 ∷ 22 ∷ 0 ∷ 22 �
 
 between_classes-moved : stepped between_classes (glyph 4 0 ∷ glyph 5 1 ∷ glyph 7 2 ∷ []) (wide ∷ wide ∷ wide ∷ []) 1
     ≡ record { glyphs = glyph 4 0 ∷ bound 5 1 ∷ bound 7 2 ∷ []; positions = wide ∷ narrow ∷ wide ∷ []; next = 2 }
-unfolding position_stepped came_in nth_came sights_in sight_of_input sight_of_context flag_in context_in by_glyphs first_in nth_in kind_in first_at set_in found_at around rule_in chained_in unchained_in test_in reach_behind reach_before reach_from end_in input_in is_apart places_from next_from seen_by seen_as ignores may_pass bisect first_from rule_made records_made record_made lookup_made moved value_added with_value flagged_up_to one_move single_move
+unfolding position_stepped came_in nth_came sights_in sight_of_input sight_of_context flag_in context_in by_glyphs first_in nth_in kind_in first_at set_in found_at around rule_in chained_in unchained_in test_in reach_behind reach_before reach_from end_in input_in is_apart places_from next_from seen_by seen_as ignores may_pass bisect first_from rule_made records_made record_made lookup_made moved value_added with_value flagged_up_to one_move single_move tried
 between_classes-moved = refl
 
 -- type 9 names a subtable of type 8, eight bytes on
@@ -152,7 +154,7 @@ extended = lookup_of 9 ((0 ∷ 1 ∷ 0 ∷ 8 ∷ 0 ∷ 0 ∷ 0 ∷ 8 ∷ []) ++ 
 
 extended-moved : stepped extended (glyph 4 0 ∷ glyph 5 1 ∷ glyph 7 2 ∷ []) (wide ∷ wide ∷ wide ∷ []) 1
     ≡ record { glyphs = glyph 4 0 ∷ bound 5 1 ∷ bound 7 2 ∷ []; positions = wide ∷ narrow ∷ wide ∷ []; next = 2 }
-unfolding position_stepped came_in nth_came sights_in sight_of_input sight_of_context flag_in context_in by_glyphs first_in nth_in kind_in first_at set_in found_at around rule_in chained_in unchained_in test_in reach_behind reach_before reach_from end_in input_in is_apart places_from next_from seen_by seen_as ignores may_pass bisect first_from rule_made records_made record_made lookup_made moved value_added with_value flagged_up_to one_move single_move
+unfolding position_stepped came_in nth_came sights_in sight_of_input sight_of_context flag_in context_in by_glyphs first_in nth_in kind_in first_at set_in found_at around rule_in chained_in unchained_in test_in reach_behind reach_before reach_from end_in input_in is_apart places_from next_from seen_by seen_as ignores may_pass bisect first_from rule_made records_made record_made lookup_made moved value_added with_value flagged_up_to one_move single_move tried
 extended-moved = refl
 
 -- ---- a record at the bounds of what may be applied
@@ -168,7 +170,7 @@ no_rule rule w = w
 
 one_left : record_made no_rule (setting []) records (0 ∷ 1 ∷ []) 1 (text 1)
     ≡ record { glyphs = glyph 5 0 ∷ glyph 5 1 ∷ []; positions = wide ∷ narrow ∷ []; left = 0 }
-unfolding came_in nth_came sights_in sight_of_input sight_of_context flag_in bisect first_from record_made lookup_made moved value_added with_value one_move single_move
+unfolding came_in nth_came sights_in sight_of_input sight_of_context flag_in bisect first_from record_made lookup_made moved value_added with_value one_move single_move tried
 one_left = refl
 
 none_left : record_made no_rule (setting []) records (0 ∷ 1 ∷ []) 1 (text 0) ≡ text 0
@@ -188,9 +190,9 @@ abbrev found_itself : Found
 found_itself = record { records = 0 ∷ 0 ∷ 0 ∷ 2 ∷ []; count = 1; places = 0 ∷ []; end = 1; start = 0; stop = 1 }
 
 one_level : (rule_made 1 (setting itself) found_itself (text 9)).left ≡ 8
-unfolding came_in nth_came sights_in sight_of_input sight_of_context flag_in context_in kind_in first_at found_at around rule_in unchained_in test_in reach_behind reach_before reach_from end_in input_in places_from next_from ignores bisect first_from rule_made records_made record_made lookup_made flagged_up_to
+unfolding came_in nth_came sights_in sight_of_input sight_of_context flag_in context_in kind_in first_at found_at around rule_in unchained_in test_in reach_behind reach_before reach_from end_in input_in places_from next_from ignores bisect first_from rule_made records_made record_made lookup_made flagged_up_to tried
 one_level = refl
 
 three_levels : (rule_made 3 (setting itself) found_itself (text 9)).left ≡ 6
-unfolding came_in nth_came sights_in sight_of_input sight_of_context flag_in context_in kind_in first_at found_at around rule_in unchained_in test_in reach_behind reach_before reach_from end_in input_in places_from next_from ignores bisect first_from rule_made records_made record_made lookup_made flagged_up_to
+unfolding came_in nth_came sights_in sight_of_input sight_of_context flag_in context_in kind_in first_at found_at around rule_in unchained_in test_in reach_behind reach_before reach_from end_in input_in places_from next_from ignores bisect first_from rule_made records_made record_made lookup_made flagged_up_to tried
 three_levels = refl

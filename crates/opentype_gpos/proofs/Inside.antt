@@ -15,7 +15,7 @@ use Rattle.opentype_gpos.specs.Laws.{AreInside, is_inside, without_its_flags}
 use Rattle.opentype_gpos.specs.Moved.{Positions, Progress, detached, flagged_up_to, is_vertical, mark_moved, pair_moved, position_at, value_added, with_mark_move, with_value}
 use Rattle.opentype_gpos.specs.Making.{moved}
 use Rattle.opentype_gpos.specs.Along.{positioned}
-use Rattle.opentype_gpos.proofs.Preserved.{IsKept, positioned_keeps}
+use Rattle.opentype_gpos.proofs.Preserved.{IsKept, positioned_keeps, unjoined_length}
 use Rattle.opentype_gpos.specs.declared.anchors.Point.{Point}
 use Rattle.opentype_gpos.specs.declared.moves.CursiveMove.{CursiveMove}
 use Rattle.opentype_gpos.specs.declared.moves.MarkMove.{MarkMove}
@@ -326,6 +326,7 @@ inside_kept d = record {
     move d it at gs ps (let e = h.0 in omega arith) h.1,
   );
   flags = λ start last gs ps h. (h.0 ∙ sym (flagged_length start last gs), h.1);
+  joins = λ looked gs ps h. (h.0 ∙ sym (unjoined_length looked gs), h.1);
 }
 
 pub position_inside : (gdef gpos : List ℕ) (index : ℕ) (how : Application) (b : Buffer) →

@@ -16,7 +16,7 @@ use Rattle.opentype_gpos.specs.Moved.{Positions, Progress, end_behind, flagged_u
 use Rattle.opentype_gpos.specs.Joined.{aligned, begun, cursive_moved, ended, hung, cursive_joined, cursive_linked, next_in_line, separated, reverse_to, reversed}
 use Rattle.opentype_gpos.specs.Making.{moved}
 use Rattle.opentype_gpos.specs.Along.{positioned}
-use Rattle.opentype_gpos.proofs.Preserved.{IsKept, positioned_keeps}
+use Rattle.opentype_gpos.proofs.Preserved.{IsKept, positioned_keeps, unjoined_alike}
 use Rattle.opentype_gpos.specs.declared.finish.Attachment.{Attachment}
 use Rattle.opentype_gpos.specs.declared.moves.CursiveMove.{CursiveMove}
 use Rattle.opentype_gpos.specs.declared.moves.MarkMove.{MarkMove}
@@ -32,6 +32,9 @@ pub record Keeps (gs : Glyphs) (ps : Positions) (after : Progress) : Type 0 wher
 -- ---- flags
 pub bits : (g : Glyph) → without_its_flags (with_bits 3 g) ≡ without_its_flags g
 bits g = ap (λ (m : ℕ). (record g { mask = m })) (without_flags-or g.mask 3 refl)
+
+joined_bit : (g : Glyph) → without_its_flags (with_bits 2 g) ≡ without_its_flags g
+joined_bit g = ap (λ (m : ℕ). (record g { mask = m })) (without_flags-or g.mask 2 refl)
 
 flag_if : (test : Bool) (s e : ℕ) (gs : Glyphs) → (test ≡ true → s ≤ e) →
     map without_its_flags (if test then unsafe_inside s e gs else gs) ≡ map without_its_flags gs
@@ -161,6 +164,7 @@ same_kept : (b : Buffer) (d : Direction) → IsKept d (Same b)
 same_kept b d = record {
   moves = λ it at gs ps inside h. (let k = move d it at gs ps in (k.glyphs ∙ h.0, k.positions ∙ h.1));
   flags = λ start last gs ps h. (flag true start last gs ∙ h.0, h.1);
+  joins = λ looked gs ps h. (unjoined_alike without_its_flags joined_bit looked gs ∙ h.0, h.1);
 }
 
 pub position_keeps : (gdef gpos : List ℕ) (index : ℕ) (how : Application) (b : Buffer) →

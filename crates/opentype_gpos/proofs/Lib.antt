@@ -16,5 +16,6 @@ pub mod Inside
 pub mod Turning
 mod CursiveRows
 mod ContextRows
+mod LookedRows
 mod Paired
 mod Passing

@@ -1,13 +1,20 @@
 -- What moves and flags keep of a text, lookups keep.
-use Rattle.std.proofs.Common.{ℕ, zero, suc, ◌+◌, ◌-◌, ◌<◌, ◌≡◌, ◌==◌, ◌⊎◌, nat_lt, is_some, inl, inr, Bool, true, false, List, length, Option, None, Some, if◌then◌else◌, refl, arith}
+use Rattle.std.proofs.Common.{ℕ, zero, suc, ◌+◌, ◌-◌, ◌<◌, ◌≤◌, ◌≡◌, ◌∙◌, ◌==◌, ◌&&◌, ◌⊎◌, min, nat_lt, is_some, inl, inr, Bool, true, false, List, [], length, map, Option, None, Some, if◌then◌else◌, refl, sym, ap, arith}
+use Rattle.std.proofs.lemmas.Grind.{common_steps}
+use Rattle.std.proofs.lemmas.List.{length-map}
+use Rattle.shapers_clusters.proofs.FlagCalls.{map-unsafe_to_concat_in}
 use Rattle.shapers_buffer.specs.Buffer.{Buffer}
-use Rattle.shapers_buffer.specs.Glyphs.{Glyphs}
+use Rattle.shapers_buffer.specs.GlyphFlags.{unsafe_to_concat_in, with_bits}
+use Rattle.shapers_buffer.specs.Glyphs.{Glyph, Glyphs}
 use Rattle.shapers_buffer.specs.declared.buffer.level.Direction.{Direction}
 use Rattle.opentype_face.specs.Lookups.{lookup_in}
+use Rattle.opentype_layout.specs.Looking.{unjoined}
 use Rattle.opentype_layout.specs.Rules.{Found}
+use Rattle.opentype_layout.specs.declared.looking.Stretch.{Stretch}
 use Rattle.opentype_layout.specs.declared.sight.Application.{Application}
 use Rattle.opentype_gpos.specs.Called.{Work, lookup_made, made_of, record_made, records_made, rule_made}
 use Rattle.opentype_gpos.specs.Coming.{Setting, came_in, sights_in}
+use Rattle.opentype_gpos.specs.Looked.{lookup_looked, tried}
 use Rattle.opentype_gpos.specs.Making.{moved}
 use Rattle.opentype_gpos.specs.Moved.{Positions, Progress, flagged_up_to}
 use Rattle.opentype_gpos.specs.Along.{position_stepped, positioned, setting_for, stepped_by, applied_along}
@@ -18,6 +25,43 @@ pub record IsKept (d : Direction) (P : Glyphs → Positions → Type 0) : Type 1
   pub moves : (it : Move) (at : ℕ) (gs : Glyphs) (ps : Positions) → at < length gs → P gs ps →
       P (moved d it at gs ps).glyphs (moved d it at gs ps).positions
   pub flags : (start last : ℕ) (gs : Glyphs) (ps : Positions) → P gs ps → P (flagged_up_to true start last gs) ps
+  pub joins : (looked : Stretch) (gs : Glyphs) (ps : Positions) → P gs ps → P (unjoined looked gs) ps
+
+-- ---- flags of concatenation
+
+join_alike : {Y : Type 0} (f : Glyph → Y) → ((g : Glyph) → f (with_bits 2 g) ≡ f g) → (test : Bool) (s e : ℕ) (gs : Glyphs) →
+    (test ≡ true → s ≤ e) → map f (if test then unsafe_to_concat_in true s e gs else gs) ≡ map f gs
+join_alike f same true s e gs h = map-unsafe_to_concat_in f same true s e gs (h refl)
+join_alike f same false s e gs h = refl
+
+pub unjoined_alike : {Y : Type 0} (f : Glyph → Y) → ((g : Glyph) → f (with_bits 2 g) ≡ f g) → (looked : Stretch) (gs : Glyphs) →
+    map f (unjoined looked gs) ≡ map f gs
+unfolding unjoined
+unjoined_alike f same looked gs = let end = min (length gs) looked.stop in
+    join_alike f same (nat_lt looked.start end) looked.start end gs (λ t. grind (arith, common_steps, t))
+
+pub unjoined_length : (looked : Stretch) (gs : Glyphs) → length (unjoined looked gs) ≡ length gs
+unjoined_length looked gs = sym (length-map (unjoined looked gs) (λ g. g.cluster))
+    ∙ ap length (unjoined_alike (λ g. g.cluster) (λ g. refl) looked gs) ∙ length-map gs (λ g. g.cluster)
+
+holds_if : (test : Bool) (P : Glyphs → Positions → Type 0) (x gs : Glyphs) (ps : Positions) → P x ps → P gs ps →
+    P (if test then x else gs) ps
+holds_if true P x gs ps one two = one
+holds_if false P x gs ps one two = two
+
+tried_length : (s : Setting) (sights : Sights) (lookup : List ℕ) (gs : Glyphs) (at : ℕ) →
+    length (tried s sights lookup gs at) ≡ length gs
+unfolding tried
+tried_length s sights lookup gs at = holds_if (s.concat && nat_lt at (length gs)) (λ x ps. length x ≡ length gs) _ gs []
+    (unjoined_length (lookup_looked s sights lookup gs at) gs) refl
+
+tried_keeps : (s : Setting) (P : Glyphs → Positions → Type 0) → IsKept s.direction P → (sights : Sights) (lookup : List ℕ)
+    (gs : Glyphs) (ps : Positions) (at : ℕ) → P gs ps → P (tried s sights lookup gs at) ps
+unfolding tried
+tried_keeps s P k sights lookup gs ps at h =
+    holds_if (s.concat && nat_lt at (length gs)) P _ gs ps (k.joins _ gs ps h) h
+
+-- ---- lookups
 
 abbrev Holds : (Glyphs → Positions → Type 0) → Work → Type 0
 Holds P w = P w.glyphs w.positions
@@ -37,6 +81,13 @@ came_inside : (s : Setting) (sights : Sights) (lookup : List ℕ) (gs : Glyphs) 
 unfolding came_in
 came_inside s sights lookup gs at e = let t : nat_lt at (length gs) ≡ true = came_if _ _ e in grind (arith, t)
 
+still_inside : (s : Setting) (sights : Sights) (lookup : List ℕ) (gs : Glyphs) (at : ℕ) →
+    is_some (came_in s sights lookup gs at) ≡ true → at < length (tried s sights lookup gs at)
+still_inside s sights lookup gs at e =
+    let n = tried_length s sights lookup gs at in
+    let lt = came_inside s sights lookup gs at e in
+    omega (arith, n, lt)
+
 made_keeps : (s : Setting) (P : Glyphs → Positions → Type 0) → IsKept s.direction P →
     (by_rule : Found → Work → Work) → ((rule : Found) (w : Work) → Holds P w → Holds P (by_rule rule w)) →
     (at : ℕ) (w : Work) (o : Option (Move ⊎ Found)) → (is_some o ≡ true → at < length w.glyphs) → Holds P w →
@@ -50,7 +101,9 @@ lookup_keeps : (s : Setting) (P : Glyphs → Positions → Type 0) → IsKept s.
     (lookup : List ℕ) (at : ℕ) (w : Work) → Holds P w → Holds P (lookup_made by_rule s lookup at w)
 unfolding lookup_made
 lookup_keeps s P k by_rule each lookup at w h =
-    made_keeps s P k by_rule each at w _ (came_inside s (sights_in s lookup) lookup w.glyphs at) h
+    let sights = sights_in s lookup in
+    made_keeps s P k by_rule each at (record w { glyphs = tried s sights lookup w.glyphs at }) _
+    (still_inside s sights lookup w.glyphs at) (tried_keeps s P k sights lookup w.glyphs w.positions at h)
 
 record_keeps : (s : Setting) (P : Glyphs → Positions → Type 0) → IsKept s.direction P →
     (by_rule : Found → Work → Work) → ((rule : Found) (w : Work) → Holds P w → Holds P (by_rule rule w)) →
@@ -95,7 +148,8 @@ step_keeps : (s : Setting) (P : Glyphs → Positions → Type 0) → IsKept s.di
     Stays P (position_stepped s sights lookup gs ps at)
 unfolding position_stepped
 step_keeps s P k sights lookup gs ps at h =
-    choose_step _ P _ _ (step_by s P k at gs ps _ (came_inside s sights lookup gs at) h) h
+    choose_step _ P _ _ (step_by s P k at _ ps _ (still_inside s sights lookup gs at)
+    (tried_keeps s P k sights lookup gs ps at h)) h
 
 pub walk_keeps : (n : ℕ) (P : Glyphs → Positions → Type 0) (f : Glyphs → Positions → ℕ → Progress) →
     ((gs : Glyphs) (ps : Positions) (at : ℕ) → P gs ps → Stays P (f gs ps at)) →

@@ -1,23 +1,27 @@
 -- A lookup does nothing where none of its subtables begins.
-use Rattle.std.proofs.Common.{inl, ◌≡◌, ◌∙◌, ℕ, zero, suc, ◌+◌, ◌-◌, ◌==◌, ◌<◌, ◌≤◌, ◌||◌, IfSome, unwrap_or, Bool, true, false, nat_lt, Option, None, Some, List, length, refl, sym, ap, subst, arith, if◌then◌else◌}
+use Rattle.std.proofs.Common.{inl, ◌≡◌, ◌∙◌, ℕ, zero, suc, ◌+◌, ◌-◌, ◌==◌, ◌<◌, ◌≤◌, ◌||◌, ◌&&◌, IfSome, unwrap_or, Bool, true, false, nat_lt, Option, None, Some, List, length, refl, sym, ap, subst, arith, if◌then◌else◌}
 use Rattle.std.specs.Option.{is_some, option_map}
 use Rattle.std.proofs.lemmas.Bool.Decides.{nat_tests}
 use Rattle.std.proofs.lemmas.Grind.{common_steps}
 use Rattle.shapers_buffer.specs.Buffer.{Buffer}
 use Rattle.shapers_buffer.specs.Glyphs.{Glyphs}
+use Rattle.shapers_buffer.specs.declared.buffer.level.Direction.{Direction}
 use Rattle.opentype_face.specs.Bytes.{u16_in, table_at}
 use Rattle.opentype_face.specs.Firsts.{first_from}
 use Rattle.opentype_face.specs.Glyphs.{coverage_in}
 use Rattle.opentype_face.specs.Lookups.{lookup_in, subtable_in, type_in}
 use Rattle.opentype_face.proofs.Foremost.{IsFirst, first_found, first_hit, first_missed, first_out, first_passed, first_start}
+use Rattle.opentype_layout.specs.Looking.{looked_by, nothing, unjoined}
 use Rattle.opentype_layout.specs.Rules.{first_at}
 use Rattle.opentype_layout.specs.Starts.{NoneStarts, starting, starts_at}
 use Rattle.opentype_layout.specs.declared.sight.Application.{Application}
 use Rattle.opentype_layout.specs.declared.sight.Sight.{Sight}
+use Rattle.opentype_layout.proofs.Lookings.{all_none, kept_if, no_context, stretch_if, unflagged}
 use Rattle.opentype_layout.proofs.NoneFits.{no_rule, none_if, none_mapped, none_of, none_then}
 use Rattle.opentype_layout.proofs.Skipped.{over}
 use Rattle.opentype_gpos.specs.Anchors.{joint_in}
 use Rattle.opentype_gpos.specs.Coming.{Setting, came, came_in, nth_came, sights_in}
+use Rattle.opentype_gpos.specs.Looked.{lookup_looked, move_looked, subtable_looked, tried}
 use Rattle.opentype_gpos.specs.Moved.{Positions, Progress}
 use Rattle.opentype_gpos.specs.Moves.{base_move, covered_by, cursive_move, ligature_move, mark_move, number_at, one_move, pair_found, pair_move, single_move}
 use Rattle.opentype_gpos.specs.Along.{passed, position_stepped, positioned, setting_for, stepped_by}
@@ -186,8 +190,6 @@ pub tried_out : (s : Setting) (sights : Sights) (lookup : List ℕ) (gs : Glyphs
 tried_out s sights lookup gs at i t le =
     sym (first_out (nth_came s sights lookup gs at) (u16_in lookup 4) i t.first le)
 
--- ---- a step along a text
-
 came_none : (s : Setting) (sights : Sights) (lookup : List ℕ) (gs : Glyphs) (at : ℕ) →
     NoneStarts true lookup (number_at gs at) 0 (u16_in lookup 4) → came_in s sights lookup gs at ≡ None
 unfolding came_in
@@ -196,6 +198,42 @@ came_none s sights lookup gs at none =
     (λ t. none_of (nth_came s sights lookup gs at) (u16_in lookup 4) 0
     (λ d lt. nth_none s sights lookup gs at (0 + d) (none.none (0 + d) (omega arith) (omega arith))))
     (λ t. refl)
+
+-- ---- nothing is looked at in vain either
+
+no_look : (gdef : List ℕ) (sight : Sight) (d : Direction) (kind : ℕ) (bytes : List ℕ) (gs : Glyphs) (at : ℕ) →
+    covered_by bytes 2 (number_at gs at) ≡ None → move_looked gdef sight d kind bytes gs at ≡ nothing at
+unfolding move_looked
+no_look gdef sight d kind bytes gs at e = rw e refl
+
+unlooked : (s : Setting) (sights : Sights) (lookup : List ℕ) (gs : Glyphs) (at i : ℕ) →
+    starting true lookup (number_at gs at) i ≡ None → subtable_looked s sights lookup gs at i ≡ nothing at
+unfolding subtable_looked
+unlooked s sights lookup gs at i none =
+    let kind = type_in 9 lookup i in
+    let bytes = subtable_in 9 lookup i in
+    let glyph = number_at gs at in
+    stretch_if ((kind == 7) || (kind == 8)) _ _ (nothing at)
+    (λ t. ap (looked_by s.gdef sights.input sights.context (length gs) gs at) (no_context (kind == 8) bytes glyph
+    (λ e. uncovered lookup glyph i _ none (at_first kind bytes t e))
+    (λ e. uncovered lookup glyph i 2 none (at_start kind bytes e))))
+    (λ t. no_look s.gdef sights.input s.direction kind bytes gs at
+    (uncovered lookup glyph i 2 none (at_two kind bytes (grind (arith, common_steps, t)) (grind (arith, common_steps, t)))))
+
+looked_none : (s : Setting) (sights : Sights) (lookup : List ℕ) (gs : Glyphs) (at : ℕ) →
+    NoneStarts true lookup (number_at gs at) 0 (u16_in lookup 4) → lookup_looked s sights lookup gs at ≡ nothing at
+unfolding lookup_looked
+looked_none s sights lookup gs at none =
+    all_none _ (subtable_looked s sights lookup gs at) at (u16_in lookup 4) 0
+    (λ d lt. unlooked s sights lookup gs at (0 + d) (none.none (0 + d) (omega arith) (omega arith)))
+
+tried_none : (s : Setting) (sights : Sights) (lookup : List ℕ) (gs : Glyphs) (at : ℕ) →
+    NoneStarts true lookup (number_at gs at) 0 (u16_in lookup 4) → tried s sights lookup gs at ≡ gs
+unfolding tried
+tried_none s sights lookup gs at none = kept_if (s.concat && nat_lt at (length gs)) _ gs
+    (ap (λ x. unjoined x gs) (looked_none s sights lookup gs at none) ∙ unflagged at gs)
+
+-- ---- and a step along a text
 
 either_way : (test : Bool) (x y z : Progress) → x ≡ z → y ≡ z → (if test then x else y) ≡ z
 either_way true x y z one two = one
@@ -206,7 +244,9 @@ pub step_passed : (s : Setting) (sights : Sights) (lookup : List ℕ) (gs : Glyp
     position_stepped s sights lookup gs ps at ≡ record { glyphs = gs; positions = ps; next = at + 1 }
 unfolding position_stepped
 step_passed s sights lookup gs ps at none =
-    either_way _ _ _ (passed at gs ps) (ap (stepped_by s at gs ps) (came_none s sights lookup gs at none)) refl
+    either_way _ _ _ (passed at gs ps)
+    (ap (stepped_by s at (tried s sights lookup gs at) ps) (came_none s sights lookup gs at none)
+    ∙ ap (λ x. passed at x ps) (tried_none s sights lookup gs at none)) refl
 
 -- ---- and the whole text before the first glyph that one begins with
 

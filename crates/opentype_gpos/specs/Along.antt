@@ -1,7 +1,7 @@
 -- A lookup along a text, and over a buffer.
 use Rattle.std.specs.Prelude.{ℕ, zero, suc, ◌+◌, ◌==◌, ◌&&◌, ◌⊎◌, not, bit_and, nat_lt, List, length, Option, None, Some, if◌then◌else◌}
 use Rattle.std.proofs.Common.{inl, inr}
-use Rattle.shapers_buffer.specs.Buffer.{Buffer}
+use Rattle.shapers_buffer.specs.Buffer.{Buffer, asks, flags_concat}
 use Rattle.shapers_buffer.specs.Glyphs.{Glyphs}
 use Rattle.opentype_face.specs.Lookups.{lookup_in}
 use Rattle.opentype_layout.specs.Rules.{Found}
@@ -10,6 +10,7 @@ use Rattle.opentype_layout.specs.Text.{glyph_at}
 use Rattle.opentype_layout.specs.declared.sight.Application.{Application}
 use Rattle.opentype_gpos.specs.Called.{rule_made}
 use Rattle.opentype_gpos.specs.Coming.{Setting, came_in, sights_in}
+use Rattle.opentype_gpos.specs.Looked.{tried}
 use Rattle.opentype_gpos.specs.Making.{moved}
 use Rattle.opentype_gpos.specs.Moved.{Positions, Progress}
 use Rattle.opentype_gpos.specs.declared.moves.Move.{Move}
@@ -32,13 +33,15 @@ stepped_by s at gs ps None = passed at gs ps
 stepped_by s at gs ps (Some (inl it)) = moved s.direction it at gs ps
 stepped_by s at gs ps (Some (inr rule)) = at_rule s rule gs ps
 
--- what a lookup does at a place: nothing to a glyph that hasn't its feature, or that it ignores
+-- what a lookup does at a place: nothing to a glyph that hasn't its feature, or that it ignores;
+-- else what it looks at in vain is flagged first
 unfoldable pub position_stepped : Setting → Sights → List ℕ → Glyphs → Positions → ℕ → Progress
 position_stepped s sights lookup gs ps at =
     let g = glyph_at gs at in
     if not (bit_and g.mask sights.input.mask == 0)
     && not (ignores s.gdef sights.input.flag sights.input.set g)
-    then stepped_by s at gs ps (came_in s sights lookup gs at) else passed at gs ps
+    then stepped_by s at (tried s sights lookup gs at) ps (came_in s sights lookup gs at)
+    else passed at gs ps
 
 -- a text from a place on, in at most so many steps
 unfoldable pub applied_along :
@@ -56,7 +59,13 @@ applied_whole s lookup gs ps =
 
 abbrev pub setting_for : List ℕ → List ℕ → Application → Buffer → Setting
 setting_for gdef gpos how b =
-    record { gdef = gdef; gpos = gpos; direction = b.direction; how = how }
+    record {
+      gdef = gdef;
+      gpos = gpos;
+      direction = b.direction;
+      how = how;
+      concat = asks flags_concat b;
+    }
 
 -- a lookup by its number, as a plan has it applied
 unfoldable pub positioned : List ℕ → List ℕ → ℕ → Application → Buffer → Buffer

@@ -7,6 +7,7 @@ use Rattle.opentype_face.specs.Lookups.{lookup_in}
 use Rattle.opentype_layout.specs.Rules.{Found}
 use Rattle.opentype_gpos.specs.Coming.{Setting, came_in, sights_in}
 use Rattle.opentype_gpos.specs.Moved.{Positions, flagged_up_to}
+use Rattle.opentype_gpos.specs.Looked.{tried}
 use Rattle.opentype_gpos.specs.Making.{moved}
 use Rattle.opentype_gpos.specs.declared.moves.Move.{Move}
 
@@ -27,10 +28,12 @@ made_of by_rule s at w (Some (inl it)) = move_made s it at w
 made_of by_rule s at w (Some (inr rule)) = by_rule rule w
 
 -- A lookup that a rule applies at a place, once. Neither the flag of the lookup nor a feature
--- leaves the glyph at that place out.
+-- leaves the glyph at that place out. What it looks at in vain is flagged first.
 unfoldable pub lookup_made : (Found → Work → Work) → Setting → List ℕ → ℕ → Work → Work
 lookup_made by_rule s lookup at w =
-    made_of by_rule s at w (came_in s (sights_in s lookup) lookup w.glyphs at)
+    let sights = sights_in s lookup in
+    made_of by_rule s at (record w { glyphs = tried s sights lookup w.glyphs at })
+    (came_in s sights lookup w.glyphs at)
 
 -- Record i of a rule: the number of a place of its input, and a lookup's. There is nothing to do
 -- where the input has no such place, and where no more lookups may be applied.

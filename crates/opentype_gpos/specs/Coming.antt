@@ -1,5 +1,5 @@
 -- What a lookup of GPOS comes to at a place of a text: a move, or a rule of a context that fits.
-use Rattle.std.specs.Prelude.{ℕ, ◌==◌, ◌||◌, ◌⊎◌, nat_lt, List, length, Option, None, if◌then◌else◌}
+use Rattle.std.specs.Prelude.{ℕ, ◌==◌, ◌||◌, ◌⊎◌, nat_lt, Bool, List, length, Option, None, if◌then◌else◌}
 use Rattle.std.proofs.Common.{inl, inr}
 use Rattle.std.specs.Option.{option_map}
 use Rattle.shapers_buffer.specs.Glyphs.{Glyphs}
@@ -17,12 +17,14 @@ use Rattle.opentype_gpos.specs.declared.moves.Move.{Move}
 use Rattle.opentype_gpos.specs.declared.pass.Pass.{Pass}
 use Rattle.opentype_gpos.specs.declared.pass.Sights.{Sights}
 
--- the tables, the direction of the line, and how the plan has the lookup applied
+-- the tables, the direction of the line, how the plan has the lookup applied, and whether flags of
+-- concatenation are wanted
 pub record Setting : Type 0 where
   pub gdef : List ℕ
   pub gpos : List ℕ
   pub direction : Direction
   pub how : Application
+  pub concat : Bool
 
 abbrev pub setting_of : Pass → Setting
 setting_of pass = record {
@@ -30,6 +32,7 @@ setting_of pass = record {
   gpos = pass.gpos.now;
   direction = pass.direction;
   how = pass.how;
+  concat = pass.concat;
 }
 
 -- what a lookup's table sees: the input of its rules, and what stands around it

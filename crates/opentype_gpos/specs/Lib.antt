@@ -5,6 +5,7 @@ pub mod Moves
 pub mod Moved
 pub mod Making
 pub mod Coming
+pub mod Looked
 pub mod Called
 pub mod CalledWalk
 pub mod Along

@@ -7,6 +7,8 @@ use crate::calling::apply_rule;
 use crate::coming::{Came, come_to};
 use crate::making::{make_move, make_pair};
 use crate::pass::{Pass, Sights};
+use crate::trying::flag_tried;
+use opentype_layout::looking::wants_concat;
 use opentype_layout::sight::{Application, ignores_glyph};
 use opentype_layout::starts::LookupTable;
 use opentype_layout::tables::LayoutTable;
@@ -32,7 +34,9 @@ fn step(
     if glyph.mask & sight.mask == 0 || ignores_glyph(pass.gdef, sight.flag, sight.set, glyph) {
         return at + 1;
     }
-    match come_to(pass, sights, lookup, glyphs, at) {
+    let came = come_to(pass, sights, lookup, glyphs, at);
+    flag_tried(pass, sights, lookup, glyphs, at);
+    match came {
         Some(Came::Moves(change)) => make_move(pass.direction, &change, at, glyphs, positions),
         Some(Came::Pairs(pair)) => make_pair(pass.direction, &pair, at, glyphs, positions),
         Some(Came::Fits(rule)) => {
@@ -117,6 +121,7 @@ pub fn position(
             gpos,
             direction: buffer.direction(),
             how: *how,
+            concat: wants_concat(buffer.flags()),
         },
         lookup: gpos.lookup(index),
     };

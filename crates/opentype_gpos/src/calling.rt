@@ -11,6 +11,7 @@ use crate::coming::{Came, come_to};
 use crate::making::{make_move, make_pair};
 use crate::moved::flag_up_to;
 use crate::pass::Pass;
+use crate::trying::flag_tried;
 use arrayvec::ArrayVec;
 use opentype_face::bytes::u16_at;
 use opentype_layout::places::Places;
@@ -49,7 +50,9 @@ fn call<'a>(
         (record { glyphs = glyphs.new; positions = positions.new; left = left }) }
 {
     let sights = pass.sights(lookup.bytes());
-    match come_to(pass, &sights, lookup, glyphs, at) {
+    let came = come_to(pass, &sights, lookup, glyphs, at);
+    flag_tried(pass, &sights, lookup, glyphs, at);
+    match came {
         Some(Came::Moves(change)) => {
             make_move(pass.direction, &change, at, glyphs, positions);
             None

@@ -23,4 +23,5 @@ pub mod moved;
 pub mod moves;
 pub mod nearby;
 pub mod pass;
+pub mod trying;
 pub mod values;

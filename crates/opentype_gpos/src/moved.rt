@@ -42,7 +42,7 @@ fn with_value(vertical: bool, value: &Value, position: GlyphPosition) -> GlyphPo
 // Whether a value is other than nothing.
 #[inline]
 #[tactic(auto, unfolding(crate::specs::Moved::does_move))]
-fn does_move(vertical: bool, value: &Value) -> bool
+pub(crate) fn does_move(vertical: bool, value: &Value) -> bool
     ensures { result ≡ does_move vertical value.now }
 {
     let advance = if vertical {

@@ -125,7 +125,7 @@ pub fn advance_of(pair: &PairPlace<'_>) -> PairMove
 
 // The place of a glyph in a subtable's set, which stands at the same place in each type.
 #[inline]
-fn place_in_set(bytes: &[u8], glyph: &hb_glyph_info_t) -> Option<u32>
+pub(crate) fn place_in_set(bytes: &[u8], glyph: &hb_glyph_info_t) -> Option<u32>
     ensures { result ≡ covered_by bytes.now 2 (number_in glyph.now) }
 {
     coverage(
@@ -136,7 +136,7 @@ fn place_in_set(bytes: &[u8], glyph: &hb_glyph_info_t) -> Option<u32>
 
 // The values of a pair, by the place of the first glyph in the subtable's set.
 #[tactic(auto, unfolding(crate::specs::Moves::pair_with))]
-fn pair_of(
+pub(crate) fn pair_of(
     bytes: &[u8],
     i: u32,
     glyphs: &[hb_glyph_info_t],

@@ -18,7 +18,7 @@ pub fn number(glyph: &hb_glyph_info_t) -> u16
 // What a search for any glyph makes of one.
 #[inline]
 #[tactic(auto, unfolding(crate::specs::Nearby::any_seen))]
-fn any(gdef: &[u8], sight: &Sight, glyph: &hb_glyph_info_t) -> Option<bool>
+pub(crate) fn any(gdef: &[u8], sight: &Sight, glyph: &hb_glyph_info_t) -> Option<bool>
     ensures { result ≡ any_seen gdef.now sight.now glyph.now }
 {
     let is_seen = !sight.may_pass(glyph);

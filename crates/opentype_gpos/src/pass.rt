@@ -17,6 +17,8 @@ pub struct Pass<'a> {
     pub direction: Direction,
     /// How the plan has the lookup applied.
     pub how: Application,
+    /// Whether flags of concatenation are wanted.
+    pub concat: bool,
 }
 
 /// What the two sides of a rule see.

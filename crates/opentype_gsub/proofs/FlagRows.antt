@@ -5,7 +5,8 @@ use Rattle.shapers_buffer.specs.Glyph.{default_glyph}
 use Rattle.shapers_buffer.specs.declared.buffer.level.BufferClusterLevel.TheVariants.{MonotoneGraphemes}
 use Rattle.opentype_layout.specs.Rules.{Found}
 use Rattle.opentype_gsub.specs.Edits.{replaced}
-use Rattle.opentype_gsub.specs.Flagged.{is_short, unbroken}
+use Rattle.opentype_layout.specs.Looking.{is_short}
+use Rattle.opentype_gsub.specs.Flagged.{unbroken}
 use Rattle.opentype_gsub.specs.Came.{begun}
 use Rattle.opentype_gsub.specs.Reversed.{with_glyph}
 use Rattle.opentype_gsub.specs.Setting.{Setting}

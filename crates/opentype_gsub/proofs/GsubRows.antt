@@ -13,7 +13,8 @@ use Rattle.opentype_layout.specs.Rules.{around, chained_in, context_in, end_in, 
 use Rattle.opentype_layout.specs.Sight.{flag_in, ignores, may_pass, next_from, seen_as, sight_of_context, sight_of_input}
 use Rattle.opentype_gsub.specs.Applied.{one_put, sequence_put, single_put}
 use Rattle.opentype_gsub.specs.Edits.{handed_on, merged_up_to, multiplied, new_props, sequence_glyph, sequence_glyphs, removed_all, replaced}
-use Rattle.opentype_gsub.specs.Flagged.{is_short, unbroken}
+use Rattle.opentype_layout.specs.Looking.{is_short}
+use Rattle.opentype_gsub.specs.Flagged.{unbroken}
 use Rattle.opentype_gsub.specs.Looked.{tried}
 use Rattle.opentype_gsub.specs.Ligated.{as_letter, as_mark, components_of, counted_too, followed_by_marks, is_of_base, is_of_last, is_of_marks, ligature_joined, ligated, ligature_glyph, marks_inside, marked_one, number_before, number_for, with_followers}
 use Rattle.opentype_gsub.specs.Came.{begun, came_in, nth_came}

@@ -22,5 +22,4 @@ pub mod Machines
 pub mod Untouched
 mod PlainPuts
 mod Started
-pub mod Lookings
 mod Sighted

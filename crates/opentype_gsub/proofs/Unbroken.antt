@@ -6,11 +6,12 @@ use Rattle.shapers_buffer.specs.GlyphFlags.{unsafe_inside}
 use Rattle.shapers_buffer.specs.Glyphs.{Glyphs}
 use Rattle.shapers_clusters.proofs.FlagCalls.{map-unsafe_inside, map-unsafe_to_concat_in}
 use Rattle.shapers_buffer.specs.GlyphFlags.{unsafe_to_concat_in}
-use Rattle.opentype_gsub.specs.Flagged.{is_short, unbroken}
-use Rattle.opentype_gsub.specs.Looked.{lookup_looked, tried, unjoined}
+use Rattle.opentype_layout.specs.Looking.{is_short, unjoined}
+use Rattle.opentype_gsub.specs.Flagged.{unbroken}
+use Rattle.opentype_gsub.specs.Looked.{lookup_looked, tried}
 use Rattle.opentype_gsub.specs.Reversed.{all_looked_back, tried_back}
 use Rattle.opentype_gsub.specs.Setting.{Setting, sights_of}
-use Rattle.opentype_gsub.specs.declared.looking.Stretch.{Stretch}
+use Rattle.opentype_layout.specs.declared.looking.Stretch.{Stretch}
 use Rattle.opentype_layout.specs.Text.{glyph_at}
 
 flag_if : (test : Bool) (s e : ℕ) (gs : Glyphs) → (test ≡ true → s ≤ e) →

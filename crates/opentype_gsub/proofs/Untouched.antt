@@ -1,5 +1,5 @@
 -- A text stays as it is where a lookup can't begin.
-use Rattle.std.proofs.Common.{◌⊎◌, inl, inr, ◌≡◌, ◌∙◌, ℕ, zero, suc, ◌+◌, ◌-◌, ◌%◌, ◌==◌, ◌<◌, ◌≤◌, ◌||◌, ◌&&◌, not, min, max, Bool, true, false, nat_lt, bit_and, Option, None, Some, List, [], length, get_or, refl, sym, ap, subst, arith, if◌then◌else◌}
+use Rattle.std.proofs.Common.{◌⊎◌, inl, inr, ◌≡◌, ◌∙◌, ℕ, zero, suc, ◌+◌, ◌-◌, ◌%◌, ◌==◌, ◌<◌, ◌≤◌, ◌||◌, ◌&&◌, not, Bool, true, false, nat_lt, bit_and, Option, None, Some, List, [], length, get_or, refl, sym, ap, subst, arith, if◌then◌else◌}
 use Rattle.std.specs.Option.{is_some, unwrap_or}
 use Rattle.std.proofs.lemmas.Bool.Decides.{nat_tests}
 use Rattle.std.proofs.lemmas.Grind.{common_steps}
@@ -22,8 +22,8 @@ use Rattle.opentype_gsub.specs.Applied.{PlaceChange, alternate_put, chosen_put, 
 use Rattle.opentype_gsub.specs.Decided.{alternate_at, covered_in, set_at, set_for_glyph, single_at}
 use Rattle.opentype_gsub.specs.Came.{came_in, nth_came}
 use Rattle.opentype_gsub.specs.Machine.{nested}
-use Rattle.opentype_gsub.specs.Looked.{all_looked, context_rules, spanned, lookup_looked, looked_by, nothing, rules_in, subtable_looked, tried, unjoined}
-use Rattle.opentype_gsub.specs.declared.looking.Stretch.{Stretch}
+use Rattle.opentype_layout.specs.Looking.{looked_by, nothing, unjoined}
+use Rattle.opentype_gsub.specs.Looked.{lookup_looked, rules_in, subtable_looked, tried}
 use Rattle.opentype_layout.specs.Starts.{ArePassed, IsPassed, NoneStarts, starting, starts_at, starts_with}
 use Rattle.opentype_gsub.specs.Presence.{applied_from, is_left}
 use Rattle.opentype_gsub.specs.Reversed.{all_looked_back, nth_looked_back, tried_back, lookup_stepped_back, nth_reversed, reversed_at, reversed_in, applied_backward, with_glyph}
@@ -32,6 +32,7 @@ use Rattle.opentype_gsub.specs.Substituted.{applied, setting_for, substituted}
 use Rattle.opentype_gsub.specs.Along.{Along, lookup_stepped, lookup_applied}
 use Rattle.opentype_gsub.specs.declared.pass.LookupUse.{LookupUse}
 use Rattle.opentype_gsub.specs.declared.pass.Sights.{Sights}
+use Rattle.opentype_layout.proofs.Lookings.{all_none, kept_if, no_context, stretch_if, unflagged}
 use Rattle.opentype_layout.proofs.NoneFits.{no_rule, none_if, none_mapped, none_of, none_then}
 use Rattle.opentype_layout.proofs.SubtableStarts.{starts_plain}
 use Rattle.opentype_gsub.proofs.LawGrows.{none_each}
@@ -138,18 +139,6 @@ came_none s lookup gs at r none = let sights = sights_of s.gdef s.lookup lookup 
 
 -- ---- nothing is looked at either
 
-no_context : (chained : Bool) (bytes : List ℕ) (glyph : ℕ) →
-    ((u16_in bytes 0 == 3) ≡ true → coverage_in (table_at bytes (u16_in bytes (first_at chained bytes))) glyph ≡ None) →
-    ((u16_in bytes 0 == 3) ≡ false → coverage_in (table_at bytes (u16_in bytes 2)) glyph ≡ None) →
-    context_rules chained bytes glyph ≡ None
-unfolding context_rules
-no_context chained bytes glyph third other =
-    let format = u16_in bytes 0 in
-    none_if (format == 1) _ _
-    (λ t. none_mapped _ _ (other (grind (arith, nat_tests))))
-    (λ t. none_if (format == 2) _ _ (λ t. (let e = other (grind (arith, nat_tests)) in rw e refl))
-    (λ t. none_if (format == 3) _ None (λ t. (let e = third t in rw e refl)) (λ t. refl)))
-
 no_rules : (kind : ℕ) (bytes : List ℕ) (glyph : ℕ) → starts_with false kind bytes glyph ≡ false →
     rules_in kind bytes glyph ≡ None
 unfolding rules_in
@@ -171,38 +160,10 @@ unlooked : (s : Setting) (sights : Sights) (lookup : List ℕ) (gs : Glyphs) (at
     subtable_looked s sights lookup gs at i ≡ nothing at
 unfolding subtable_looked
 unlooked s sights lookup gs at i none =
-    ap (looked_by s.gdef sights s.len gs at) (no_rules (type_in 7 lookup i) (subtable_in 7 lookup i) (two_byte_number gs at) none)
-
-join_none : (at : ℕ) (looked : Stretch) → looked ≡ nothing at → spanned (nothing at) looked ≡ nothing at
-join_none at looked is =
-    let low : min at at ≡ at = omega arith in
-    let high : max at at ≡ at = omega arith in
-    ap (spanned (nothing at)) is ∙ (let h : ℕ → ℕ → Stretch = λ x y. record { start = x; stop = y } in
-    ap (λ x. h x (max at at)) low ∙ ap (h at) high)
-
-stretch_if : (test : Bool) (x y : Stretch) (z : Stretch) → (test ≡ true → x ≡ z) → (test ≡ false → y ≡ z) →
-    (if test then x else y) ≡ z
-stretch_if true x y z one two = one refl
-stretch_if false x y z one two = two refl
+    ap (looked_by s.gdef sights.input sights.context s.len gs at) (no_rules (type_in 7 lookup i) (subtable_in 7 lookup i) (two_byte_number gs at) none)
 
 three_of : (format : ℕ) → not (format == 1) ≡ false → (format == 3) ≡ false
 three_of format e = grind (arith, common_steps, nat_tests)
-
-either_none : (test : Bool) (x y : Stretch) (z : Stretch) → x ≡ z → y ≡ z → (if test then x else y) ≡ z
-either_none true x y z one two = one
-either_none false x y z one two = two
-
-all_none : (fits : ℕ → Bool) (look : ℕ → Stretch) (at n i : ℕ) → ((d : ℕ) → d < n → look (i + d) ≡ nothing at) →
-    all_looked n fits look i (nothing at) ≡ nothing at
-unfolding all_looked
-all_none fits look at zero i h = refl
-all_none fits look at (suc n) i h =
-    let z : i + 0 ≡ i = omega arith in
-    let here : spanned (nothing at) (look i) ≡ nothing at =
-    join_none at (look i) (subst (λ j. look j ≡ nothing at) z (h 0 (omega arith))) in
-    either_none (fits i) _ _ (nothing at) here (ap (all_looked n fits look (i + 1)) here
-    ∙ all_none fits look at n (i + 1) (λ d lt. (let k : i + suc d ≡ i + 1 + d = omega arith in
-    subst (λ j. look j ≡ nothing at) k (h (suc d) (omega arith)))))
 
 looked_none : (s : Setting) (sights : Sights) (lookup : List ℕ) (gs : Glyphs) (at : ℕ) →
     is_some (first_from (u16_in lookup 4) (starting false lookup (two_byte_number gs at)) 0) ≡ false →
@@ -211,14 +172,6 @@ unfolding lookup_looked
 looked_none s sights lookup gs at none =
     all_none _ (subtable_looked s sights lookup gs at) at (u16_in lookup 4) 0
     (λ d lt. unlooked s sights lookup gs at (0 + d) (each_none lookup (two_byte_number gs at) none d lt))
-
-unflagged : (at : ℕ) (gs : Glyphs) → unjoined (nothing at) gs ≡ gs
-unfolding unjoined
-unflagged at gs = let t : nat_lt at (min (length gs) at) ≡ false = grind (arith, nat_tests) in rw t refl
-
-kept_if : (test : Bool) (x gs : Glyphs) → x ≡ gs → (if test then x else gs) ≡ gs
-kept_if true x gs e = e
-kept_if false x gs e = refl
 
 tried_none : (s : Setting) (lookup : List ℕ) (gs : Glyphs) (at : ℕ) →
     is_some (first_from (u16_in lookup 4) (starting false lookup (two_byte_number gs at)) 0) ≡ false →

@@ -1,186 +1,29 @@
--- How far the rules of a lookup look that don't fit: a text that is joined to there may give
--- something else (HarfBuzz, `unsafe_to_concat`).
-use Rattle.std.specs.Prelude.{ℕ, zero, suc, ◌+◌, ◌-◌, ◌*◌, ◌==◌, ◌&&◌, ◌||◌, not, min, max, nat_lt, Bool, true, false, is_some, List, [], length, Option, None, Some, if◌then◌else◌}
+-- How far the rules of a lookup of GSUB look that don't fit.
+use Rattle.std.specs.Prelude.{ℕ, ◌==◌, ◌&&◌, nat_lt, Bool, true, false, is_some, List, length, Option, None, if◌then◌else◌}
 use Rattle.std.specs.Option.{option_map}
 use Rattle.shapers_buffer.specs.Glyphs.{Glyphs}
-use Rattle.shapers_buffer.specs.GlyphFlags.{unsafe_to_concat_in}
-use Rattle.opentype_face.specs.Bytes.{u16_in, table_at}
-use Rattle.opentype_face.specs.Glyphs.{class_in, coverage_in}
+use Rattle.opentype_face.specs.Bytes.{u16_in}
 use Rattle.opentype_face.specs.Lookups.{subtable_in, type_in}
-use Rattle.opentype_layout.specs.Ligatures.{input_in}
-use Rattle.opentype_layout.specs.Pattern.{is_number, next_in, previous_in, seen_by}
-use Rattle.opentype_layout.specs.Rules.{Kind, Sought, first_at, found_at, kind, kind_in, rule_in, set_in, sets_at}
-use Rattle.opentype_layout.specs.Sight.{is_passed}
+use Rattle.opentype_layout.specs.Looking.{RuleList, all_looked, context_rules, ligatures_in, looked_by, nothing, unjoined}
 use Rattle.opentype_layout.specs.Text.{glyph_at}
-use Rattle.opentype_layout.specs.declared.sight.Sight.{Sight}
+use Rattle.opentype_layout.specs.declared.looking.Stretch.{Stretch}
 use Rattle.opentype_gsub.specs.Applied.{two_byte_number}
 use Rattle.opentype_gsub.specs.Decided.{set_for_glyph}
-use Rattle.opentype_gsub.specs.Flagged.{is_short}
 use Rattle.shapers_buffer.specs.LookupRecords.{record_for}
 use Rattle.opentype_gsub.specs.Came.{nth_came}
 use Rattle.opentype_gsub.specs.Setting.{Setting, sights_of}
-use Rattle.opentype_gsub.specs.declared.looking.RuleSet.{RuleSet}
-use Rattle.opentype_gsub.specs.declared.looking.RuleSet.TheVariants.{Ligatures, One, Rules}
-use Rattle.opentype_gsub.specs.declared.looking.Stretch.{Stretch}
-use Rattle.opentype_gsub.specs.declared.looking.Sweep.{Sweep}
 use Rattle.opentype_gsub.specs.declared.pass.Sights.{Sights}
 
--- ---- a search that fails
-
--- the place behind the first glyph from a place on, of so many, that a search doesn't pass over;
--- behind all of them where it passes over each
-unfoldable pub stop_from : ℕ → (ℕ → Option Bool) → ℕ → ℕ
-stop_from zero sight at = at
-stop_from (suc n) sight at = if is_passed (sight at) then stop_from n sight (at + 1) else at + 1
-
-abbrev pub stop_in : List ℕ → Sight → (ℕ → ℕ → Bool) → Glyphs → ℕ → ℕ → ℕ
-stop_in gdef sight test gs k from =
-    stop_from (length gs - from) (λ i. seen_by gdef sight test k (glyph_at gs i)) from
-
--- backwards from a place, by how many glyphs stand between
-abbrev pub stop_before : List ℕ → Sight → (ℕ → ℕ → Bool) → Glyphs → ℕ → ℕ → ℕ → ℕ
-stop_before gdef sight test gs at k from =
-    stop_from (at - from) (λ i. seen_by gdef sight test k (glyph_at gs (at - 1 - i))) from
-
-abbrev pub swept_on : Option ℕ → ℕ → ℕ → (ℕ → Sweep) → Sweep
-swept_on None stop k rest = record { to = stop; found = k }
-swept_on (Some p) stop k rest = rest p
-
--- How far a search for so many places goes, from place k of a rule on, and how many it finds.
-unfoldable pub swept_from : ℕ → (ℕ → ℕ → Option ℕ) → (ℕ → ℕ → ℕ) → ℕ → ℕ → Sweep
-swept_from zero next stop k from = record { to = from; found = k }
-swept_from (suc n) next stop k from =
-    swept_on (next k from) (stop k from) k (λ p. swept_from n next stop (k + 1) (p + 1))
-
-abbrev pub swept_behind : List ℕ → Sight → (ℕ → ℕ → Bool) → ℕ → Glyphs → ℕ → Sweep
-swept_behind gdef sight test count gs from =
-    swept_from count (next_in gdef sight test gs) (stop_in gdef sight test gs) 0 from
-
-abbrev pub swept_before : List ℕ → Sight → (ℕ → ℕ → Bool) → ℕ → Glyphs → ℕ → Sweep
-swept_before gdef sight test count gs at =
-    swept_from count (previous_in gdef sight test gs at) (stop_before gdef sight test gs at) 0 0
-
--- ---- a rule that doesn't fit
-
-abbrev pub nothing : ℕ → Stretch
-nothing at = record { start = at; stop = at }
-
-abbrev pub spanned : Stretch → Stretch → Stretch
-spanned a b = record { start = min a.start b.start; stop = max a.stop b.stop }
-
--- a stretch, if it isn't too long to be flagged
-unfoldable pub counted : ℕ → ℕ → ℕ → ℕ → ℕ → Stretch
-counted at old_len len start stop =
-    if nat_lt stop start then nothing at
-    else (if is_short (stop - start) old_len len then record { start = start; stop = stop }
-    else nothing at)
-
--- Where the input is found, the glyphs behind it are looked for, then those before: HarfBuzz looks
--- at one more before the one where that ends.
-unfoldable pub around_looked : List ℕ → Sight → ℕ → Glyphs → ℕ → Sought → ℕ → Stretch
-around_looked gdef context old_len gs at rule end =
-    let behind = swept_behind gdef context rule.behind rule.behind_count gs end in
-    let before = swept_before gdef context rule.before rule.before_count gs at in
-    if not (behind.found == rule.behind_count) then counted at (length gs) (length gs) at behind.to
-    else (if before.found == rule.before_count then nothing at
-    else counted at old_len (length gs) (at - (before.to + 1)) behind.to)
-
--- the stretch that a rule looked at that doesn't fit
-unfoldable pub rule_looked : List ℕ → Sights → ℕ → Glyphs → ℕ → Sought → Stretch
-rule_looked gdef sights old_len gs at rule =
-    let input = swept_behind gdef sights.input rule.input (rule.input_count - 1) gs (at + 1) in
-    if (rule.input_count == 0) || nat_lt 64 rule.input_count then nothing at
-    else (if not (is_some (input_in gdef sights.input rule.input input.found gs at)) then nothing at
-    else (if not (input.found == rule.input_count - 1)
-    then counted at (length gs) (length gs) at input.to
-    else around_looked gdef sights.context old_len gs at rule input.to))
-
--- ---- the rules that a subtable has for a glyph
-
--- entry i of a list of offsets behind its count
-abbrev pub nth_part : List ℕ → ℕ → List ℕ
-nth_part set i = table_at set (u16_in set (2 + i * 2))
-
--- a ligature as a rule
-abbrev pub ligature_sought : List ℕ → Sought
-ligature_sought bytes = record {
-  before = is_number [];
-  before_count = 0;
-  input = is_number (table_at bytes 4);
-  input_count = u16_in bytes 2;
-  behind = is_number [];
-  behind_count = 0;
-  records = [];
-  count = 0;
-}
-
--- how many rules, and each of them
-pub record RuleList : Type 0 where
-  pub count : ℕ
-  pub rule : ℕ → Sought
-
-abbrev pub ligatures_in : List ℕ → RuleList
-ligatures_in set = record {
-  count = u16_in set 0;
-  rule = λ i. ligature_sought (nth_part set i);
-}
-
-abbrev pub entries_in : Kind → List ℕ → RuleList
-entries_in tables set = record {
-  count = u16_in set 0;
-  rule = λ i. rule_in tables (nth_part set i);
-}
-
-abbrev pub one_in : Kind → List ℕ → RuleList
-one_in tables bytes = record { count = 1; rule = λ i. rule_in tables bytes }
-
-unfoldable pub rule_list : RuleSet → RuleList
-rule_list (Ligatures set) = ligatures_in set.now
-rule_list (Rules tables set) = entries_in (kind tables) set.now
-rule_list (One tables bytes) = one_in (kind tables) bytes.now
-
--- those of a context
-unfoldable pub context_rules : Bool → List ℕ → ℕ → Option RuleList
-context_rules chained bytes glyph =
-    let tables = kind_in chained bytes in
-    let format = u16_in bytes 0 in
-    let covered = coverage_in (table_at bytes (u16_in bytes 2)) glyph in
-    if format == 1 then option_map (λ number. entries_in tables (set_in bytes 4 number)) covered
-    else (if format == 2 then (if is_some covered
-    then Some (entries_in tables (set_in bytes (sets_at chained) (class_in tables.input glyph)))
-    else None)
-    else (if format == 3 then (if is_some (coverage_in (table_at bytes (u16_in bytes (first_at
-    chained bytes))) glyph) then Some (one_in tables bytes) else None)
-    else None))
-
+-- the rules that a subtable has for a glyph: ligatures, or those of a context
 unfoldable pub rules_in : ℕ → List ℕ → ℕ → Option RuleList
 rules_in kind bytes glyph =
     if kind == 4 then option_map ligatures_in (set_for_glyph bytes glyph)
     else (if kind == 5 then context_rules false bytes glyph
     else (if kind == 6 then context_rules true bytes glyph else None))
 
--- ---- rules in turn
-
--- what several looked at, up to the first that fits
-unfoldable pub all_looked : ℕ → (ℕ → Bool) → (ℕ → Stretch) → ℕ → Stretch → Stretch
-all_looked zero fits look i looked = looked
-all_looked (suc n) fits look i looked =
-    if fits i then spanned looked (look i)
-    else all_looked n fits look (i + 1) (spanned looked (look i))
-
-unfoldable pub set_looked : List ℕ → Sights → ℕ → Glyphs → ℕ → RuleList → Stretch
-set_looked gdef sights old_len gs at rules =
-    all_looked rules.count
-    (λ i. is_some (found_at gdef sights.input sights.context gs at (rules.rule i)))
-    (λ i. rule_looked gdef sights old_len gs at (rules.rule i)) 0 (nothing at)
-
-abbrev pub looked_by : List ℕ → Sights → ℕ → Glyphs → ℕ → Option RuleList → Stretch
-looked_by gdef sights old_len gs at None = nothing at
-looked_by gdef sights old_len gs at (Some rules) = set_looked gdef sights old_len gs at rules
-
 unfoldable pub subtable_looked : Setting → Sights → List ℕ → Glyphs → ℕ → ℕ → Stretch
 subtable_looked s sights lookup gs at i =
-    looked_by s.gdef sights s.len gs at
+    looked_by s.gdef sights.input sights.context s.len gs at
     (rules_in (type_in 7 lookup i) (subtable_in 7 lookup i) (two_byte_number gs at))
 
 -- Whether a subtable does something at a place: the record of the text's lookups doesn't decide it,
@@ -193,12 +36,6 @@ unfoldable pub lookup_looked : Setting → Sights → List ℕ → Glyphs → �
 lookup_looked s sights lookup gs at =
     all_looked (u16_in lookup 4) (nth_comes s sights lookup at gs)
     (subtable_looked s sights lookup gs at) 0 (nothing at)
-
--- no concatenation in a stretch, as far as the text goes
-unfoldable pub unjoined : Stretch → Glyphs → Glyphs
-unjoined looked gs =
-    let end = min (length gs) looked.stop in
-    if nat_lt looked.start end then unsafe_to_concat_in true looked.start end gs else gs
 
 -- a text at a place of which a lookup is tried, where such flags are wanted
 unfoldable pub tried : Setting → List ℕ → Glyphs → ℕ → Glyphs

@@ -13,9 +13,9 @@ use Rattle.opentype_gsub.specs.Applied.{two_byte_number}
 use Rattle.opentype_gsub.specs.Decided.{covered_in}
 use Rattle.opentype_gsub.specs.Edits.{replaced}
 use Rattle.opentype_gsub.specs.Flagged.{unbroken}
-use Rattle.opentype_gsub.specs.Looked.{all_looked, counted, nothing, swept_before, swept_behind, unjoined}
+use Rattle.opentype_layout.specs.Looking.{all_looked, counted, nothing, swept_before, swept_behind, unjoined}
 use Rattle.opentype_gsub.specs.Setting.{Setting, is_seen, sights_of}
-use Rattle.opentype_gsub.specs.declared.looking.Stretch.{Stretch}
+use Rattle.opentype_layout.specs.declared.looking.Stretch.{Stretch}
 use Rattle.opentype_gsub.specs.declared.pass.Sights.{Sights}
 use Rattle.opentype_gsub.specs.declared.reverse.Reversal.{Reversal}
 

@@ -9,7 +9,6 @@ pub mod flagging;
 pub mod growth;
 pub mod laws;
 pub mod ligating;
-pub mod looking;
 pub mod machine;
 pub mod matching;
 pub mod pass;

@@ -3,7 +3,6 @@ ghost use Rattle.std.specs.Prelude.{◌≡◌, ◌<◌, ◌≤◌, ℕ, true, []
 ghost use Rattle.opentype_face.specs.Lookups.{lookup_in};
 ghost use Rattle.opentype_layout.specs.Text.{glyph_at};
 ghost use Rattle.opentype_gsub.specs.Presence.{applied_from, is_left};
-ghost use Rattle.shapers_buffer.specs.Buffer.{flags_concat, has_flag};
 ghost use Rattle.shapers_buffer.specs.Refusals.{RefusesLength};
 ghost use Rattle.shapers_buffer.specs.declared.buffer.refusal.ShaperError.TheVariants.{Memory};
 ghost use Rattle.opentype_gsub.specs.Setting.{setting_of};
@@ -16,11 +15,10 @@ use crate::presence::first_place;
 use crate::reverse::apply_backward;
 use opentype_face::class_table::ClassTable;
 use opentype_face::lookup::subtable_type;
+use opentype_layout::looking::wants_concat;
 use opentype_layout::starts::LookupTable;
 use opentype_layout::tables::LayoutTable;
-use shapers_buffer::buffer::{
-    BufferFlags, LookupRecord, ShaperError, hb_buffer_t, hb_glyph_info_t,
-};
+use shapers_buffer::buffer::{LookupRecord, ShaperError, hb_buffer_t, hb_glyph_info_t};
 
 // How many glyphs a text may get.
 #[inline]
@@ -28,14 +26,6 @@ fn limit(len: usize, max_len: usize) -> usize
     ensures { result ≡ limit_in len max_len }
 {
     len.saturating_mul(256).max(65536).min(max_len)
-}
-
-// Whether flags of concatenation are wanted.
-#[inline]
-fn wants_concat(flags: BufferFlags) -> bool
-    ensures { result ≡ has_flag flags_concat flags }
-{
-    flags.0 & BufferFlags::PRODUCE_UNSAFE_TO_CONCAT.0 == BufferFlags::PRODUCE_UNSAFE_TO_CONCAT.0
 }
 
 // Applies a lookup by its table to a list of glyphs, from a place on.

@@ -1,21 +1,23 @@
 //! Which flags of concatenation a lookup sets at a place, by the rules that don't fit there.
 ghost use Rattle.std.specs.Prelude.{◌≡◌, ◌<◌, length, is_some};
+ghost use Rattle.std.specs.Option.{option_map};
 ghost use Rattle.opentype_gsub.specs.Applied.{alternate_put, chosen_put, ligated_put, multiple_put, one_put, random_put, single_put};
-ghost use Rattle.opentype_gsub.specs.Looked.{lookup_looked, subtable_looked, tried, unjoined};
+ghost use Rattle.opentype_gsub.specs.Looked.{lookup_looked, rules_in, subtable_looked, tried};
 ghost use Rattle.opentype_gsub.specs.Came.{nth_came};
 ghost use Rattle.opentype_gsub.specs.Setting.{setting_of, sights_of};
+ghost use Rattle.opentype_layout.specs.Looking.{rule_list, unjoined};
 ghost use Rattle.opentype_layout.specs.Text.{glyph_at};
 ghost use Rattle.shapers_buffer.specs.declared.buffer.lookup_record.LookupRecord.{LookupRecord};
 
 use crate::apply::{is_random, number, value};
 use crate::decided::{alternate, set_of, single};
-use crate::looking::{Stretch, rules};
 use crate::matching::first_fitting;
 use crate::pass::{Pass, Sights};
 use opentype_face::bytes::u16_at;
 use opentype_face::lookup::{subtable, subtable_count, subtable_type};
+use opentype_layout::looking::{RuleSet, Stretch, context_rules, flag_joins};
 use opentype_layout::rules::find_rule;
-use shapers_buffer::buffer::{BufferFlags, hb_glyph_info_t, unsafe_to_concat_in};
+use shapers_buffer::buffer::hb_glyph_info_t;
 
 // Whether a subtable of type 4 has a ligature that fits a place.
 #[tactic(auto, unfolding(crate::specs::Applied::ligated_put))]
@@ -118,6 +120,22 @@ fn comes(
     applies(pass, sights, kind, bytes, glyphs, at)
 }
 
+// The rules that a subtable has for a glyph.
+#[tactic(auto, unfolding(crate::specs::Looked::rules_in, opentype_layout::specs::Looking::rule_list))]
+pub fn rules<'a>(kind: u16, bytes: &'a [u8], glyph: u16) -> Option<RuleSet<'a>>
+    ensures { option_map (λ set. rule_list set) result ≡ rules_in kind bytes.now glyph }
+{
+    match kind {
+        4 => match set_of(bytes, glyph) {
+            Some(set) => Some(RuleSet::Ligatures(set)),
+            None => None,
+        },
+        5 => context_rules(false, bytes, glyph),
+        6 => context_rules(true, bytes, glyph),
+        _ => None,
+    }
+}
+
 // The stretch that the rules of a subtable looked at, up to the first that fits.
 #[tactic(auto, unfolding(crate::specs::Looked::subtable_looked))]
 fn look_by(
@@ -133,7 +151,10 @@ fn look_by(
 {
     let kind = subtable_type(7, lookup, i);
     match rules(kind, subtable(7, lookup, i), number(glyphs, at)) {
-        Some(rules) => rules.look(pass.classes.gdef, sights, pass.len, glyphs, at),
+        Some(rules) => {
+            let (input, context) = (&sights.input, &sights.context);
+            rules.look(pass.classes.gdef, input, context, pass.len, glyphs, at)
+        }
         None => Stretch::none(at),
     }
 }
@@ -157,18 +178,6 @@ fn look_among(
         }
     }
     looked
-}
-
-// Flags a stretch as one with no concatenation, as far as the text goes.
-#[tactic(auto, unfolding(crate::specs::Looked::unjoined))]
-pub(crate) fn flag_joins(glyphs: &mut [hb_glyph_info_t], looked: Stretch)
-    ensures { glyphs.new ≡ unjoined looked glyphs.old }
-{
-    let end = glyphs.len().min(looked.stop);
-    if looked.start < end {
-        let wanted = BufferFlags::PRODUCE_UNSAFE_TO_CONCAT;
-        unsafe_to_concat_in(wanted, glyphs, looked.start, end);
-    }
 }
 
 // Flags what a lookup's rules look at that don't fit a place. (Few callers want that.)

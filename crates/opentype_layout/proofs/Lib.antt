@@ -5,6 +5,7 @@ pub mod Skipped
 pub mod NoneFits
 pub mod Keyed
 pub mod SubtableStarts
+pub mod Lookings
 mod BitPlaces
 mod OneGlyph
 mod Grids
@@ -22,5 +23,6 @@ mod LookupRowRows
 mod SightRows
 mod FeatureRows
 mod InputRows
+mod LookingRows
 mod PairRows
 mod SubstitutionRows

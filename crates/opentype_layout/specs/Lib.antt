@@ -3,6 +3,7 @@ pub mod Sight
 pub mod Pattern
 pub mod Ligatures
 pub mod Rules
+pub mod Looking
 pub mod Features
 pub mod Bits
 pub mod Starts

@@ -425,8 +425,13 @@ impl<'a> Tables<'a> {
         ensures { option_map (λ it. found it) result
             ≡ first_in gdef.now input.now context.now (kind self.now) set.now glyphs.now at }
     {
+        // (most classes of a font have no rule)
+        let count = u16_at(set, 0);
+        if count == 0 {
+            return None;
+        }
         let keys = self.keys(gdef, input, context, glyphs, at);
-        for i in 0..u16_at(set, 0) {
+        for i in 0..count {
             let bytes = table_at(set, usize::from(u16_at(set, 2 + usize::from(i) * 2)));
             if self.is_barred(&keys, bytes) {
                 continue;

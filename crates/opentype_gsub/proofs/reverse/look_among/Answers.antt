@@ -1,8 +1,8 @@
 use Rattle.std.proofs.Common.{arith, ap, sym, ◌∙◌}
 use Rattle.std.specs.Option.{is_some}
 use Rattle.opentype_gsub.specs.Reversed.{all_looked_back}
-use Rattle.opentype_gsub.specs.Looked.{spanned}
-use Rattle.opentype_gsub.proofs.Lookings.{looking_fit, looking_next, looking_out, looking_start}
+use Rattle.opentype_layout.specs.Looking.{spanned}
+use Rattle.opentype_layout.proofs.Lookings.{looking_fit, looking_next, looking_out, looking_start}
 use Rattle.opentype_gsub.proofs.reverse.look_among.Goals as goal
 
 pub loop-i-init : goal.loop-i-init

@@ -1,8 +1,8 @@
 use Rattle.std.proofs.Common.{is_some}
 use Rattle.opentype_face.specs.Bytes.{u16_in}
-use Rattle.opentype_gsub.specs.Looked.{nothing}
+use Rattle.opentype_layout.specs.Looking.{nothing}
 use Rattle.opentype_gsub.specs.Reversed.{nth_looked_back, nth_reversed}
-use Rattle.opentype_gsub.proofs.Lookings.{IsLooking}
+use Rattle.opentype_layout.proofs.Lookings.{IsLooking}
 use Rattle.opentype_gsub.proofs.reverse.look_among.Given as goal
 
 abbrev pub invariant-loop-i : goal.invariant-loop-i

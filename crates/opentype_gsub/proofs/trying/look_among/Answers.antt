@@ -1,6 +1,7 @@
 use Rattle.std.proofs.Common.{arith, ap, sym, ◌∙◌}
-use Rattle.opentype_gsub.specs.Looked.{spanned, lookup_looked}
-use Rattle.opentype_gsub.proofs.Lookings.{looking_fit, looking_next, looking_out, looking_start}
+use Rattle.opentype_layout.specs.Looking.{spanned}
+use Rattle.opentype_gsub.specs.Looked.{lookup_looked}
+use Rattle.opentype_layout.proofs.Lookings.{looking_fit, looking_next, looking_out, looking_start}
 use Rattle.opentype_gsub.proofs.trying.look_among.Goals as goal
 
 pub loop-i-init : goal.loop-i-init

@@ -1,7 +1,8 @@
 use Rattle.opentype_face.specs.Bytes.{u16_in}
-use Rattle.opentype_gsub.specs.Looked.{nothing, nth_comes, subtable_looked}
+use Rattle.opentype_layout.specs.Looking.{nothing}
+use Rattle.opentype_gsub.specs.Looked.{nth_comes, subtable_looked}
 use Rattle.opentype_gsub.specs.Setting.{setting_of}
-use Rattle.opentype_gsub.proofs.Lookings.{IsLooking}
+use Rattle.opentype_layout.proofs.Lookings.{IsLooking}
 use Rattle.opentype_gsub.proofs.trying.look_among.Given as goal
 
 abbrev pub invariant-loop-i : goal.invariant-loop-i

@@ -6,6 +6,8 @@ use crate::generated::opentype_gpos::calling::apply_rule;
 use crate::generated::opentype_gpos::coming::{Came, come_to};
 use crate::generated::opentype_gpos::making::{make_move, make_pair};
 use crate::generated::opentype_gpos::pass::{Pass, Sights};
+use crate::generated::opentype_gpos::trying::flag_tried;
+use crate::generated::opentype_layout::looking::wants_concat;
 use crate::generated::opentype_layout::sight::{Application, ignores_glyph};
 use crate::generated::opentype_layout::starts::LookupTable;
 use crate::generated::opentype_layout::tables::LayoutTable;
@@ -25,7 +27,9 @@ fn step(
     if glyph.mask & sight.mask == 0 || ignores_glyph(pass.gdef, sight.flag, sight.set, glyph) {
         return at + 1;
     }
-    match come_to(pass, sights, lookup, glyphs, at) {
+    let came = come_to(pass, sights, lookup, glyphs, at);
+    flag_tried(pass, sights, lookup, glyphs, at);
+    match came {
         Some(Came::Moves(change)) => make_move(pass.direction, &change, at, glyphs, positions),
         Some(Came::Pairs(pair)) => make_pair(pass.direction, &pair, at, glyphs, positions),
         Some(Came::Fits(rule)) => {
@@ -102,6 +106,7 @@ pub fn position(
             gpos,
             direction: buffer.direction(),
             how: *how,
+            concat: wants_concat(buffer.flags()),
         },
         lookup: gpos.lookup(index),
     };

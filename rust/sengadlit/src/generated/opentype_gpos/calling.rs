@@ -7,6 +7,7 @@ use crate::generated::opentype_gpos::coming::{Came, come_to};
 use crate::generated::opentype_gpos::making::{make_move, make_pair};
 use crate::generated::opentype_gpos::moved::flag_up_to;
 use crate::generated::opentype_gpos::pass::Pass;
+use crate::generated::opentype_gpos::trying::flag_tried;
 use crate::generated::opentype_layout::places::Places;
 use crate::generated::opentype_layout::rules::Matched;
 use crate::generated::opentype_layout::starts::LookupTable;
@@ -36,7 +37,9 @@ fn call<'a>(
     positions: &mut [GlyphPosition],
 ) -> Option<Matched<'a>> {
     let sights = pass.sights(lookup.bytes());
-    match come_to(pass, &sights, lookup, glyphs, at) {
+    let came = come_to(pass, &sights, lookup, glyphs, at);
+    flag_tried(pass, &sights, lookup, glyphs, at);
+    match came {
         Some(Came::Moves(change)) => {
             make_move(pass.direction, &change, at, glyphs, positions);
             None

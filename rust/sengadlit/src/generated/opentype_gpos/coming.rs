@@ -23,7 +23,7 @@ pub enum Came<'a> {
 
 // What one of a lookup's subtables comes to, by its bytes.
 #[inline(never)]
-fn come_by_bytes<'a>(
+pub(crate) fn come_by_bytes<'a>(
     pass: &Pass<'_>,
     sights: &Sights,
     table: &LookupTable<'a>,

@@ -50,7 +50,7 @@ fn with_value(vertical: bool, value: &Value, position: GlyphPosition) -> GlyphPo
 
 // Whether a value is other than nothing.
 #[inline]
-fn does_move(vertical: bool, value: &Value) -> bool {
+pub(crate) fn does_move(vertical: bool, value: &Value) -> bool {
     let advance = if vertical {
         value.y_advance
     } else {

@@ -143,7 +143,7 @@ pub fn advance_of(pair: &PairPlace<'_>) -> PairMove {
 
 // The place of a glyph in a subtable's set, which stands at the same place in each type.
 #[inline]
-fn place_in_set(bytes: &[u8], glyph: &GlyphInfo) -> Option<u32> {
+pub(crate) fn place_in_set(bytes: &[u8], glyph: &GlyphInfo) -> Option<u32> {
     coverage(
         table_at(bytes, usize::from(u16_at(bytes, 2))),
         number(glyph),
@@ -151,7 +151,13 @@ fn place_in_set(bytes: &[u8], glyph: &GlyphInfo) -> Option<u32> {
 }
 
 // The values of a pair, by the place of the first glyph in the subtable's set.
-fn pair_of(bytes: &[u8], i: u32, glyphs: &[GlyphInfo], at: usize, second: usize) -> Option<Move> {
+pub(crate) fn pair_of(
+    bytes: &[u8],
+    i: u32,
+    glyphs: &[GlyphInfo],
+    at: usize,
+    second: usize,
+) -> Option<Move> {
     match pair(bytes, i, number(&glyphs[at]), number(&glyphs[second])) {
         Some(place) => Some(Move::Kerns(values_of(&PairPlace {
             bytes,

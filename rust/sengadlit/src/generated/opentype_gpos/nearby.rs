@@ -26,7 +26,7 @@ pub fn number(glyph: &GlyphInfo) -> u16 {
 
 // What a search for any glyph makes of one.
 #[inline]
-fn any(gdef: &[u8], sight: &Sight, glyph: &GlyphInfo) -> Option<bool> {
+pub(crate) fn any(gdef: &[u8], sight: &Sight, glyph: &GlyphInfo) -> Option<bool> {
     let is_seen = !sight.may_pass(glyph);
     sight.sees(gdef, is_seen, glyph)
 }

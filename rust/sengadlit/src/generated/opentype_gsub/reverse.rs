@@ -10,10 +10,11 @@ use crate::generated::opentype_gsub::apply::number;
 use crate::generated::opentype_gsub::decided::covered;
 use crate::generated::opentype_gsub::edits::replace;
 use crate::generated::opentype_gsub::flagging::flag_stretch;
-use crate::generated::opentype_gsub::looking::{Stretch, count, sweep_back, sweep_behind};
 use crate::generated::opentype_gsub::pass::{Pass, Sights};
 use crate::generated::opentype_gsub::presence::is_passed;
-use crate::generated::opentype_gsub::trying::flag_joins;
+use crate::generated::opentype_layout::looking::{
+    Stretch, count, flag_joins, sweep_back, sweep_behind,
+};
 use crate::generated::opentype_layout::pattern::Pattern;
 use crate::generated::opentype_layout::rules::Rule;
 use crate::generated::opentype_layout::starts::LookupTable;

@@ -11,22 +11,15 @@ use crate::generated::opentype_gsub::pass::{LookupUse, Pass};
 use crate::generated::opentype_gsub::plain::{apply_plain, are_plain};
 use crate::generated::opentype_gsub::presence::first_place;
 use crate::generated::opentype_gsub::reverse::apply_backward;
+use crate::generated::opentype_layout::looking::wants_concat;
 use crate::generated::opentype_layout::starts::LookupTable;
 use crate::generated::opentype_layout::tables::LayoutTable;
-use crate::generated::shapers_buffer::buffer::{
-    Buffer, BufferFlags, GlyphInfo, LookupRecord, ShaperError,
-};
+use crate::generated::shapers_buffer::buffer::{Buffer, GlyphInfo, LookupRecord, ShaperError};
 
 // How many glyphs a text may get.
 #[inline]
 fn limit(len: usize, max_len: usize) -> usize {
     len.saturating_mul(256).max(65536).min(max_len)
-}
-
-// Whether flags of concatenation are wanted.
-#[inline]
-fn wants_concat(flags: BufferFlags) -> bool {
-    flags.0 & BufferFlags::PRODUCE_UNSAFE_TO_CONCAT.0 == BufferFlags::PRODUCE_UNSAFE_TO_CONCAT.0
 }
 
 // Applies a lookup by its table to a list of glyphs, from a place on.

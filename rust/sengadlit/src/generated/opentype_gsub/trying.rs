@@ -6,11 +6,11 @@ use crate::generated::opentype_face::bytes::u16_at;
 use crate::generated::opentype_face::lookup::{subtable, subtable_count, subtable_type};
 use crate::generated::opentype_gsub::apply::{is_random, number, value};
 use crate::generated::opentype_gsub::decided::{alternate, set_of, single};
-use crate::generated::opentype_gsub::looking::{Stretch, rules};
 use crate::generated::opentype_gsub::matching::first_fitting;
 use crate::generated::opentype_gsub::pass::{Pass, Sights};
+use crate::generated::opentype_layout::looking::{RuleSet, Stretch, context_rules, flag_joins};
 use crate::generated::opentype_layout::rules::find_rule;
-use crate::generated::shapers_buffer::buffer::{BufferFlags, GlyphInfo, unsafe_to_concat_in};
+use crate::generated::shapers_buffer::buffer::GlyphInfo;
 
 // Whether a subtable of type 4 has a ligature that fits a place.
 fn ligates(
@@ -90,6 +90,32 @@ fn comes(
     applies(pass, sights, kind, bytes, glyphs, at)
 }
 
+// The rules that a subtable has for a glyph.
+///
+/// <details><summary>Contract</summary>
+///
+/// # Contract
+///
+/// ```text
+/// ensures { option_map (λ set. rule_list set) result ≡ rules_in kind bytes.now glyph }
+/// ```
+///
+/// - `rules_in`: `crates/opentype_gsub/specs/Looked.antt`
+/// - `rule_list`: `crates/opentype_layout/specs/Looking.antt`
+///
+/// </details>
+pub fn rules<'a>(kind: u16, bytes: &'a [u8], glyph: u16) -> Option<RuleSet<'a>> {
+    match kind {
+        4 => match set_of(bytes, glyph) {
+            Some(set) => Some(RuleSet::Ligatures(set)),
+            None => None,
+        },
+        5 => context_rules(false, bytes, glyph),
+        6 => context_rules(true, bytes, glyph),
+        _ => None,
+    }
+}
+
 // The stretch that the rules of a subtable looked at, up to the first that fits.
 fn look_by(
     pass: &Pass<'_>,
@@ -101,7 +127,10 @@ fn look_by(
 ) -> Stretch {
     let kind = subtable_type(7, lookup, i);
     match rules(kind, subtable(7, lookup, i), number(glyphs, at)) {
-        Some(rules) => rules.look(pass.classes.gdef, sights, pass.len, glyphs, at),
+        Some(rules) => {
+            let (input, context) = (&sights.input, &sights.context);
+            rules.look(pass.classes.gdef, input, context, pass.len, glyphs, at)
+        }
         None => Stretch::none(at),
     }
 }
@@ -122,15 +151,6 @@ fn look_among(
         }
     }
     looked
-}
-
-// Flags a stretch as one with no concatenation, as far as the text goes.
-pub(crate) fn flag_joins(glyphs: &mut [GlyphInfo], looked: Stretch) {
-    let end = glyphs.len().min(looked.stop);
-    if looked.start < end {
-        let wanted = BufferFlags::PRODUCE_UNSAFE_TO_CONCAT;
-        unsafe_to_concat_in(wanted, glyphs, looked.start, end);
-    }
 }
 
 // Flags what a lookup's rules look at that don't fit a place. (Few callers want that.)

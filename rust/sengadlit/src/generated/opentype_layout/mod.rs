@@ -10,6 +10,7 @@ pub mod grid;
 pub mod heads;
 pub mod input;
 pub mod keys;
+pub mod looking;
 pub mod lookup_rows;
 pub mod pair_tables;
 pub mod pattern;

@@ -401,8 +401,13 @@ impl<'a> Tables<'a> {
         glyphs: &[GlyphInfo],
         at: usize,
     ) -> Option<Matched<'a>> {
+        // (most classes of a font have no rule)
+        let count = u16_at(set, 0);
+        if count == 0 {
+            return None;
+        }
         let keys = self.keys(gdef, input, context, glyphs, at);
-        for i in 0..u16_at(set, 0) {
+        for i in 0..count {
             let bytes = table_at(set, usize::from(u16_at(set, 2 + usize::from(i) * 2)));
             if self.is_barred(&keys, bytes) {
                 continue;

@@ -1,8 +1,13 @@
-use Rattle.std.proofs.Common.{sym, arith}
+use Rattle.std.proofs.Common.{◌∙◌, refl, sym, arith}
+use Rattle.opentype_face.specs.Firsts.{first_from}
 use Rattle.opentype_layout.specs.declared.rules.Matched.{Matched}
 use Rattle.opentype_layout.specs.Rules.{Found, found, first_in, nth_in}
 use Rattle.opentype_face.proofs.Foremost.{first_found, first_missed, first_out, first_passed, first_start}
 use Rattle.opentype_layout.proofs.rules.Tables.first_rule.Goals as goal
+
+pub returns-then-count-eq0 : goal.returns-then-count-eq0
+unfolding first_in first_from
+returns-then-count-eq0 c = rw (sym c.u16_at-count.ensures ∙ c.if-count-eq0.true) refl
 
 pub loop-i-init : goal.loop-i-init
 loop-i-init c = first_start _ _

@@ -1,10 +1,16 @@
 -- Searches that fail, and rules tried in turn, as far as they have come.
-use Rattle.std.proofs.Common.{◌≡◌, ◌∙◌, ℕ, suc, ◌+◌, ◌-◌, ◌<◌, ◌≤◌, max, Bool, true, false, Option, None, Some, refl, sym, ap, arith}
+use Rattle.std.proofs.Common.{◌≡◌, ◌∙◌, ℕ, zero, suc, ◌+◌, ◌-◌, ◌==◌, ◌<◌, ◌≤◌, min, max, nat_lt, Bool, true, false, List, length, Option, None, Some, refl, sym, ap, subst, arith, if◌then◌else◌}
 use Rattle.std.specs.Option.{is_some, option_map}
+use Rattle.std.proofs.lemmas.Bool.Decides.{nat_tests}
+use Rattle.shapers_buffer.specs.Glyphs.{Glyphs}
+use Rattle.opentype_face.specs.Bytes.{u16_in, table_at}
+use Rattle.opentype_face.specs.Glyphs.{coverage_in}
+use Rattle.opentype_layout.specs.Rules.{first_at}
 use Rattle.opentype_layout.specs.Sight.{is_passed}
-use Rattle.opentype_gsub.specs.Looked.{all_looked, spanned, stop_from, swept_from, swept_on}
-use Rattle.opentype_gsub.specs.declared.looking.Stretch.{Stretch}
-use Rattle.opentype_gsub.specs.declared.looking.Sweep.{Sweep}
+use Rattle.opentype_layout.specs.Looking.{all_looked, context_rules, nothing, spanned, stop_from, swept_from, swept_on, unjoined}
+use Rattle.opentype_layout.proofs.NoneFits.{none_if, none_mapped}
+use Rattle.opentype_layout.specs.declared.looking.Stretch.{Stretch}
+use Rattle.opentype_layout.specs.declared.looking.Sweep.{Sweep}
 
 -- ---- where a search ends
 
@@ -154,3 +160,49 @@ pub looking_out : (fits : ℕ → Bool) (look : ℕ → Stretch) (count : ℕ) (
     IsLooking fits look count start i looked → count ≤ i → looked ≡ all_looked count fits look 0 start
 looking_out fits look count start i looked s out =
     let n : count - i ≡ 0 = omega arith in sym (rw n at s.rest ∙ looking_none fits look i looked)
+
+-- ---- nothing is looked at
+
+pub no_context : (chained : Bool) (bytes : List ℕ) (glyph : ℕ) →
+    ((u16_in bytes 0 == 3) ≡ true → coverage_in (table_at bytes (u16_in bytes (first_at chained bytes))) glyph ≡ None) →
+    ((u16_in bytes 0 == 3) ≡ false → coverage_in (table_at bytes (u16_in bytes 2)) glyph ≡ None) →
+    context_rules chained bytes glyph ≡ None
+unfolding context_rules
+no_context chained bytes glyph third other =
+    let format = u16_in bytes 0 in
+    none_if (format == 1) _ _
+    (λ t. none_mapped _ _ (other (grind (arith, nat_tests))))
+    (λ t. none_if (format == 2) _ _ (λ t. (let e = other (grind (arith, nat_tests)) in rw e refl))
+    (λ t. none_if (format == 3) _ None (λ t. (let e = third t in rw e refl)) (λ t. refl)))
+
+join_none : (at : ℕ) (looked : Stretch) → looked ≡ nothing at → spanned (nothing at) looked ≡ nothing at
+join_none at looked is =
+    let low : min at at ≡ at = omega arith in
+    let high : max at at ≡ at = omega arith in
+    ap (spanned (nothing at)) is ∙ (let h : ℕ → ℕ → Stretch = λ x y. record { start = x; stop = y } in
+    ap (λ x. h x (max at at)) low ∙ ap (h at) high)
+
+pub stretch_if : (test : Bool) (x y : Stretch) (z : Stretch) → (test ≡ true → x ≡ z) → (test ≡ false → y ≡ z) →
+    (if test then x else y) ≡ z
+stretch_if true x y z one two = one refl
+stretch_if false x y z one two = two refl
+
+pub all_none : (fits : ℕ → Bool) (look : ℕ → Stretch) (at n i : ℕ) → ((d : ℕ) → d < n → look (i + d) ≡ nothing at) →
+    all_looked n fits look i (nothing at) ≡ nothing at
+unfolding all_looked
+all_none fits look at zero i h = refl
+all_none fits look at (suc n) i h =
+    let z : i + 0 ≡ i = omega arith in
+    let here : spanned (nothing at) (look i) ≡ nothing at =
+    join_none at (look i) (subst (λ j. look j ≡ nothing at) z (h 0 (omega arith))) in
+    stretch_if (fits i) _ _ (nothing at) (λ t. here) (λ t. ap (all_looked n fits look (i + 1)) here
+    ∙ all_none fits look at n (i + 1) (λ d lt. (let k : i + suc d ≡ i + 1 + d = omega arith in
+    subst (λ j. look j ≡ nothing at) k (h (suc d) (omega arith)))))
+
+pub unflagged : (at : ℕ) (gs : Glyphs) → unjoined (nothing at) gs ≡ gs
+unfolding unjoined
+unflagged at gs = let t : nat_lt at (min (length gs) at) ≡ false = grind (arith, nat_tests) in rw t refl
+
+pub kept_if : (test : Bool) (x gs : Glyphs) → x ≡ gs → (if test then x else gs) ≡ gs
+kept_if true x gs e = e
+kept_if false x gs e = refl

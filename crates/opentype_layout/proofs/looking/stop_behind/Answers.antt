@@ -1,6 +1,6 @@
 use Rattle.std.proofs.Common.{arith}
-use Rattle.opentype_gsub.proofs.Lookings.{stopped_here, stopped_out, stopped_passed, stopped_start}
-use Rattle.opentype_gsub.proofs.looking.stop_back.Goals as goal
+use Rattle.opentype_layout.proofs.Lookings.{stopped_here, stopped_out, stopped_passed, stopped_start}
+use Rattle.opentype_layout.proofs.looking.stop_behind.Goals as goal
 
 pub loop-i-init : goal.loop-i-init
 loop-i-init c = stopped_start _ _ _

@@ -1,6 +1,6 @@
 use Rattle.std.proofs.Common.{sym}
-use Rattle.opentype_gsub.proofs.Lookings.{swept_all, swept_found, swept_missed, swept_start}
-use Rattle.opentype_gsub.proofs.looking.sweep_back.Goals as goal
+use Rattle.opentype_layout.proofs.Lookings.{swept_all, swept_found, swept_missed, swept_start}
+use Rattle.opentype_layout.proofs.looking.sweep_back.Goals as goal
 
 pub loop-found-init : goal.loop-found-init
 loop-found-init c = swept_start _ _ _ _

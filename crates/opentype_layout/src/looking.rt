@@ -1,23 +1,21 @@
 //! How far a lookup looks at a place: a text that is joined to there may give something else.
 ghost use Rattle.std.specs.Prelude.{◌≡◌, ◌<◌, ◌≤◌, length, is_some};
 ghost use Rattle.std.specs.Option.{option_map};
+ghost use Rattle.shapers_buffer.specs.Buffer.{flags_concat, has_flag};
 ghost use Rattle.opentype_layout.specs.Pattern.{fits, seen_by};
 ghost use Rattle.opentype_layout.specs.Rules.{first_at, set_in, sought};
 ghost use Rattle.opentype_layout.specs.Text.{glyph_at};
 ghost use Rattle.opentype_layout.specs.Sight.{is_passed};
-ghost use Rattle.opentype_gsub.specs.Looked.{around_looked, context_rules, counted, spanned, ligature_sought, nothing, nth_part, rule_list, rule_looked, rules_in, set_looked, stop_before, stop_in, swept_before, swept_behind};
+ghost use Rattle.opentype_layout.specs.Looking.{around_looked, context_rules, counted, is_short, spanned, ligature_sought, nothing, nth_part, rule_list, rule_looked, set_looked, stop_before, stop_in, swept_before, swept_behind, unjoined};
 ghost use Rattle.opentype_layout.specs.Ligatures.{input_in};
 
-use crate::decided::set_of;
-use crate::flagging::is_short;
-use crate::pass::Sights;
+use crate::input::input_places;
+use crate::pattern::Pattern;
+use crate::rules::{Rule, Tables};
+use crate::sight::{Sight, number};
 use opentype_face::bytes::{table_at, u16_at};
 use opentype_face::glyph_sets::{class, coverage};
-use opentype_layout::input::input_places;
-use opentype_layout::pattern::Pattern;
-use opentype_layout::rules::{Rule, Tables};
-use opentype_layout::sight::{Sight, number};
-use shapers_buffer::buffer::hb_glyph_info_t;
+use shapers_buffer::buffer::{BufferFlags, hb_glyph_info_t, unsafe_to_concat_in};
 
 /// A stretch of a text, from a place up to another one.
 #[derive(Clone, Copy, Debug)]
@@ -50,7 +48,7 @@ pub enum RuleSet<'a> {
 
 // Whether a search for place `k` of a rule passes over a glyph.
 #[inline]
-#[tactic(auto, unfolding(opentype_layout::specs::Pattern::seen_by))]
+#[tactic(auto, unfolding(crate::specs::Pattern::seen_by))]
 fn passes(
     gdef: &[u8],
     sight: &Sight,
@@ -108,8 +106,8 @@ fn stop_back(
     from.max(at)
 }
 
-// How far a search for so many places goes from a place on.
-pub(crate) fn sweep_behind(
+/// How far a search for so many places goes from a place on.
+pub fn sweep_behind(
     gdef: &[u8],
     sight: &Sight,
     pattern: &Pattern<'_>,
@@ -131,8 +129,8 @@ pub(crate) fn sweep_behind(
     Sweep { to, found: count }
 }
 
-// The same backwards from a place, by how many glyphs stand between.
-pub(crate) fn sweep_back(
+/// The same backwards from a place, by how many glyphs stand between.
+pub fn sweep_back(
     gdef: &[u8],
     sight: &Sight,
     pattern: &Pattern<'_>,
@@ -155,9 +153,9 @@ pub(crate) fn sweep_back(
 }
 
 impl Stretch {
-    // No glyph.
+    /// No glyph.
     #[inline]
-    pub(crate) fn none(at: usize) -> Self
+    pub fn none(at: usize) -> Self
         ensures { result ≡ nothing at }
     {
         Stretch {
@@ -166,9 +164,9 @@ impl Stretch {
         }
     }
 
-    // Both, and what is between.
+    /// Both, and what is between.
     #[inline]
-    pub(crate) fn join(self, other: Stretch) -> Self
+    pub fn join(self, other: Stretch) -> Self
         ensures { result ≡ spanned self other }
     {
         Stretch {
@@ -178,10 +176,27 @@ impl Stretch {
     }
 }
 
-// A stretch, if it isn't too long to be flagged.
+/// How many glyphs a stretch has at most that is flagged, as in HarfBuzz.
+const MOST_FLAGGED: usize = 255;
+
+/// Whether a stretch of so many glyphs is flagged, in a text that had so many glyphs and has so many:
+/// those that were added count less, those that were removed more.
+#[tactic(auto, unfolding(crate::specs::Looking::is_short))]
+pub fn is_short(span: usize, old_len: usize, len: usize) -> bool
+    ensures { result ≡ is_short span old_len len }
+{
+    if len >= old_len {
+        let added = len - old_len;
+        return added <= span && span - added <= MOST_FLAGGED;
+    }
+    let removed = old_len - len;
+    removed <= MOST_FLAGGED && span <= MOST_FLAGGED - removed
+}
+
+/// A stretch, if it isn't too long to be flagged.
 #[inline]
-#[tactic(auto, unfolding(crate::specs::Looked::counted))]
-pub(crate) fn count(at: usize, old_len: usize, len: usize, start: usize, stop: usize) -> Stretch
+#[tactic(auto, unfolding(crate::specs::Looking::counted))]
+pub fn count(at: usize, old_len: usize, len: usize, start: usize, stop: usize) -> Stretch
     ensures { result ≡ counted at old_len len start stop }
 {
     if start > stop {
@@ -195,7 +210,7 @@ pub(crate) fn count(at: usize, old_len: usize, len: usize, start: usize, stop: u
 }
 
 // The stretch that a rule looked at, where its input is found: what stands behind it, then before.
-#[tactic(auto, unfolding(crate::specs::Looked::around_looked))]
+#[tactic(auto, unfolding(crate::specs::Looking::around_looked))]
 fn look_around(
     gdef: &[u8],
     context: &Sight,
@@ -222,36 +237,37 @@ fn look_around(
 }
 
 // The stretch that a rule looked at that doesn't fit.
-#[tactic(auto, unfolding(crate::specs::Looked::rule_looked))]
+#[tactic(auto, unfolding(crate::specs::Looking::rule_looked))]
 fn look(
     gdef: &[u8],
-    sights: &Sights,
+    sight: &Sight,
+    context: &Sight,
     old_len: usize,
     glyphs: &[hb_glyph_info_t],
     at: usize,
     rule: &Rule<'_>,
 ) -> Stretch
     requires { at < length glyphs.now }
-    ensures { result ≡ rule_looked gdef.now sights.now old_len glyphs.now at (sought rule.now) }
+    ensures { result ≡ rule_looked gdef.now sight.now context.now old_len glyphs.now at (sought rule.now) }
 {
     if rule.input_count == 0 || rule.input_count > 64 {
         return Stretch::none(at);
     }
     let input = sweep_behind(
         gdef,
-        &sights.input,
+        sight,
         &rule.input,
         rule.input_count - 1,
         glyphs,
         at + 1,
     );
-    if !is_one_input(gdef, &sights.input, rule, input.found, glyphs, at) {
+    if !is_one_input(gdef, sight, rule, input.found, glyphs, at) {
         return Stretch::none(at);
     }
     if input.found != rule.input_count - 1 {
         return count(at, glyphs.len(), glyphs.len(), at, input.to);
     }
-    look_around(gdef, &sights.context, old_len, glyphs, at, rule, input.to)
+    look_around(gdef, context, old_len, glyphs, at, rule, input.to)
 }
 
 // Whether so many glyphs of a rule's input are there, and can be of one input.
@@ -272,7 +288,7 @@ fn is_one_input(
 
 impl<'a> RuleSet<'a> {
     // How many rules there are.
-    #[tactic(auto, unfolding(crate::specs::Looked::rule_list))]
+    #[tactic(auto, unfolding(crate::specs::Looking::rule_list))]
     fn count(&self) -> u16
         ensures { result ≡ (rule_list self.now).count }
     {
@@ -284,7 +300,7 @@ impl<'a> RuleSet<'a> {
     }
 
     // One of the rules.
-    #[tactic(auto, unfolding(crate::specs::Looked::rule_list, opentype_layout::specs::Pattern::fits))]
+    #[tactic(auto, unfolding(crate::specs::Looking::rule_list, crate::specs::Pattern::fits))]
     fn nth_rule(&self, i: u16) -> Rule<'a>
         ensures { sought result ≡ (rule_list self.now).rule i }
     {
@@ -295,27 +311,25 @@ impl<'a> RuleSet<'a> {
         }
     }
 
-    // The stretch that the rules looked at, up to the first that fits.
-    #[tactic(auto, unfolding(crate::specs::Looked::set_looked))]
-    pub(crate) fn look(
+    /// The stretch that the rules looked at, up to the first that fits.
+    #[tactic(auto, unfolding(crate::specs::Looking::set_looked))]
+    pub fn look(
         &self,
         gdef: &[u8],
-        sights: &Sights,
+        sight: &Sight,
+        context: &Sight,
         old_len: usize,
         glyphs: &[hb_glyph_info_t],
         at: usize,
     ) -> Stretch
         requires { at < length glyphs.now }
-        ensures { result ≡ set_looked gdef.now sights.now old_len glyphs.now at (rule_list self.now) }
+        ensures { result ≡ set_looked gdef.now sight.now context.now old_len glyphs.now at (rule_list self.now) }
     {
         let mut looked = Stretch::none(at);
         for i in 0..self.count() {
             let rule = self.nth_rule(i);
-            looked = looked.join(look(gdef, sights, old_len, glyphs, at, &rule));
-            if rule
-                .fit(gdef, &sights.input, &sights.context, glyphs, at)
-                .is_some()
-            {
+            looked = looked.join(look(gdef, sight, context, old_len, glyphs, at, &rule));
+            if rule.fit(gdef, sight, context, glyphs, at).is_some() {
                 return looked;
             }
         }
@@ -332,7 +346,7 @@ fn nth(set: &[u8], i: u16) -> &[u8]
 }
 
 // A ligature as a rule.
-#[tactic(auto, unfolding(opentype_layout::specs::Pattern::fits))]
+#[tactic(auto, unfolding(crate::specs::Pattern::fits))]
 fn ligature_rule(bytes: &[u8]) -> Rule<'_>
     ensures { sought result ≡ ligature_sought bytes.now }
 {
@@ -349,7 +363,7 @@ fn ligature_rule(bytes: &[u8]) -> Rule<'_>
 }
 
 // The set of rules of a context, by its number.
-#[tactic(auto, unfolding(opentype_layout::specs::Rules::set_in))]
+#[tactic(auto, unfolding(crate::specs::Rules::set_in))]
 fn rule_set(bytes: &[u8], at: usize, number: u32) -> &[u8]
     requires { at ≤ 10 }
     ensures { result.now ≡ set_in bytes.now at number }
@@ -365,7 +379,7 @@ fn rule_set(bytes: &[u8], at: usize, number: u32) -> &[u8]
 
 // Where the offset of the set of format 3's first glyph stands.
 #[inline]
-#[tactic(auto, unfolding(opentype_layout::specs::Rules::first_at))]
+#[tactic(auto, unfolding(crate::specs::Rules::first_at))]
 fn place_of_first(chained: bool, bytes: &[u8]) -> usize
     ensures { result ≡ first_at chained bytes.now }
 {
@@ -376,9 +390,9 @@ fn place_of_first(chained: bool, bytes: &[u8]) -> usize
     }
 }
 
-// The rules that a context has for a glyph.
-#[tactic(auto, unfolding(crate::specs::Looked::context_rules, crate::specs::Looked::rule_list))]
-fn context_rules<'a>(chained: bool, bytes: &'a [u8], glyph: u16) -> Option<RuleSet<'a>>
+/// The rules that a context has for a glyph.
+#[tactic(auto, unfolding(crate::specs::Looking::context_rules, crate::specs::Looking::rule_list))]
+pub fn context_rules<'a>(chained: bool, bytes: &'a [u8], glyph: u16) -> Option<RuleSet<'a>>
     ensures { option_map (λ set. rule_list set) result ≡ context_rules chained bytes.now glyph }
 {
     let tables = Tables::of(chained, bytes);
@@ -400,18 +414,22 @@ fn context_rules<'a>(chained: bool, bytes: &'a [u8], glyph: u16) -> Option<RuleS
     }
 }
 
-// The rules that a subtable has for a glyph.
-#[tactic(auto, unfolding(crate::specs::Looked::rules_in, crate::specs::Looked::rule_list))]
-pub(crate) fn rules<'a>(kind: u16, bytes: &'a [u8], glyph: u16) -> Option<RuleSet<'a>>
-    ensures { option_map (λ set. rule_list set) result ≡ rules_in kind bytes.now glyph }
+/// Flags a stretch as one with no concatenation, as far as the text goes.
+#[tactic(auto, unfolding(crate::specs::Looking::unjoined))]
+pub fn flag_joins(glyphs: &mut [hb_glyph_info_t], looked: Stretch)
+    ensures { glyphs.new ≡ unjoined looked glyphs.old }
 {
-    match kind {
-        4 => match set_of(bytes, glyph) {
-            Some(set) => Some(RuleSet::Ligatures(set)),
-            None => None,
-        },
-        5 => context_rules(false, bytes, glyph),
-        6 => context_rules(true, bytes, glyph),
-        _ => None,
+    let end = glyphs.len().min(looked.stop);
+    if looked.start < end {
+        let wanted = BufferFlags::PRODUCE_UNSAFE_TO_CONCAT;
+        unsafe_to_concat_in(wanted, glyphs, looked.start, end);
     }
+}
+
+/// Whether flags of concatenation are wanted.
+#[inline]
+pub fn wants_concat(flags: BufferFlags) -> bool
+    ensures { result ≡ has_flag flags_concat flags }
+{
+    flags.0 & BufferFlags::PRODUCE_UNSAFE_TO_CONCAT.0 == BufferFlags::PRODUCE_UNSAFE_TO_CONCAT.0
 }

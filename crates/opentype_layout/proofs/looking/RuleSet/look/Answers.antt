@@ -1,8 +1,8 @@
 use Rattle.std.proofs.Common.{arith, ap, sym, ◌∙◌}
 use Rattle.opentype_layout.specs.Rules.{found}
-use Rattle.opentype_gsub.specs.Looked.{spanned, set_looked}
-use Rattle.opentype_gsub.proofs.Lookings.{looking_fit, looking_next, looking_out, looking_start, some_by}
-use Rattle.opentype_gsub.proofs.looking.RuleSet.look.Goals as goal
+use Rattle.opentype_layout.specs.Looking.{spanned, set_looked}
+use Rattle.opentype_layout.proofs.Lookings.{looking_fit, looking_next, looking_out, looking_start, some_by}
+use Rattle.opentype_layout.proofs.looking.RuleSet.look.Goals as goal
 
 pub loop-i-init : goal.loop-i-init
 loop-i-init c = looking_start _ _ _ _ _ c.none-looked.ensures

@@ -1,4 +1,4 @@
-// Generated from crates/opentype_gsub/src/looking.rt by rust/erase; edit the source.
+// Generated from crates/opentype_layout/src/looking.rt by rust/erase; edit the source.
 
 //! How far a lookup looks at a place: a text that is joined to there may give something else.
 
@@ -6,14 +6,11 @@ use crate::support::prelude::*;
 
 use crate::generated::opentype_face::bytes::{table_at, u16_at};
 use crate::generated::opentype_face::glyph_sets::{class, coverage};
-use crate::generated::opentype_gsub::decided::set_of;
-use crate::generated::opentype_gsub::flagging::is_short;
-use crate::generated::opentype_gsub::pass::Sights;
 use crate::generated::opentype_layout::input::input_places;
 use crate::generated::opentype_layout::pattern::Pattern;
 use crate::generated::opentype_layout::rules::{Rule, Tables};
 use crate::generated::opentype_layout::sight::{Sight, number};
-use crate::generated::shapers_buffer::buffer::GlyphInfo;
+use crate::generated::shapers_buffer::buffer::{BufferFlags, GlyphInfo, unsafe_to_concat_in};
 
 /// A stretch of a text, from a place up to another one.
 #[derive(Clone, Copy, Debug)]
@@ -95,8 +92,22 @@ fn stop_back(
     from.max(at)
 }
 
-// How far a search for so many places goes from a place on.
-pub(crate) fn sweep_behind(
+/// How far a search for so many places goes from a place on.
+///
+/// <details><summary>Contract</summary>
+///
+/// # Contract
+///
+/// ```text
+/// ensures value { result ≡ swept_behind gdef.now sight.now (fits pattern.now) count glyphs.now from }
+/// ensures few { result.found ≤ count }
+/// ```
+///
+/// - `swept_behind`: `crates/opentype_layout/specs/Looking.antt`
+/// - `fits`: `crates/opentype_layout/specs/Pattern.antt`
+///
+/// </details>
+pub fn sweep_behind(
     gdef: &[u8],
     sight: &Sight,
     pattern: &Pattern<'_>,
@@ -115,8 +126,22 @@ pub(crate) fn sweep_behind(
     Sweep { to, found: count }
 }
 
-// The same backwards from a place, by how many glyphs stand between.
-pub(crate) fn sweep_back(
+/// The same backwards from a place, by how many glyphs stand between.
+///
+/// <details><summary>Contract</summary>
+///
+/// # Contract
+///
+/// ```text
+/// requires { at ≤ length glyphs.now }
+/// ensures { result ≡ swept_before gdef.now sight.now (fits pattern.now) count glyphs.now at }
+/// ```
+///
+/// - `swept_before`: `crates/opentype_layout/specs/Looking.antt`
+/// - `fits`: `crates/opentype_layout/specs/Pattern.antt`
+///
+/// </details>
+pub fn sweep_back(
     gdef: &[u8],
     sight: &Sight,
     pattern: &Pattern<'_>,
@@ -136,18 +161,42 @@ pub(crate) fn sweep_back(
 }
 
 impl Stretch {
-    // No glyph.
+    /// No glyph.
+    ///
+    /// <details><summary>Contract</summary>
+    ///
+    /// # Contract
+    ///
+    /// ```text
+    /// ensures { result ≡ nothing at }
+    /// ```
+    ///
+    /// - `nothing`: `crates/opentype_layout/specs/Looking.antt`
+    ///
+    /// </details>
     #[inline]
-    pub(crate) fn none(at: usize) -> Self {
+    pub fn none(at: usize) -> Self {
         Stretch {
             start: at,
             stop: at,
         }
     }
 
-    // Both, and what is between.
+    /// Both, and what is between.
+    ///
+    /// <details><summary>Contract</summary>
+    ///
+    /// # Contract
+    ///
+    /// ```text
+    /// ensures { result ≡ spanned self other }
+    /// ```
+    ///
+    /// - `spanned`: `crates/opentype_layout/specs/Looking.antt`
+    ///
+    /// </details>
     #[inline]
-    pub(crate) fn join(self, other: Stretch) -> Self {
+    pub fn join(self, other: Stretch) -> Self {
         Stretch {
             start: self.start.min(other.start),
             stop: self.stop.max(other.stop),
@@ -155,9 +204,47 @@ impl Stretch {
     }
 }
 
-// A stretch, if it isn't too long to be flagged.
+/// How many glyphs a stretch has at most that is flagged, as in HarfBuzz.
+const MOST_FLAGGED: usize = 255;
+
+/// Whether a stretch of so many glyphs is flagged, in a text that had so many glyphs and has so many:
+/// those that were added count less, those that were removed more.
+///
+/// <details><summary>Contract</summary>
+///
+/// # Contract
+///
+/// ```text
+/// ensures { result ≡ is_short span old_len len }
+/// ```
+///
+/// - `is_short`: `crates/opentype_layout/specs/Looking.antt`
+///
+/// </details>
+pub fn is_short(span: usize, old_len: usize, len: usize) -> bool {
+    if len >= old_len {
+        let added = len - old_len;
+        return added <= span && span - added <= MOST_FLAGGED;
+    }
+    let removed = old_len - len;
+    removed <= MOST_FLAGGED && span <= MOST_FLAGGED - removed
+}
+
+/// A stretch, if it isn't too long to be flagged.
+///
+/// <details><summary>Contract</summary>
+///
+/// # Contract
+///
+/// ```text
+/// ensures { result ≡ counted at old_len len start stop }
+/// ```
+///
+/// - `counted`: `crates/opentype_layout/specs/Looking.antt`
+///
+/// </details>
 #[inline]
-pub(crate) fn count(at: usize, old_len: usize, len: usize, start: usize, stop: usize) -> Stretch {
+pub fn count(at: usize, old_len: usize, len: usize, start: usize, stop: usize) -> Stretch {
     if start > stop {
         return Stretch::none(at);
     }
@@ -194,7 +281,8 @@ fn look_around(
 // The stretch that a rule looked at that doesn't fit.
 fn look(
     gdef: &[u8],
-    sights: &Sights,
+    sight: &Sight,
+    context: &Sight,
     old_len: usize,
     glyphs: &[GlyphInfo],
     at: usize,
@@ -205,19 +293,19 @@ fn look(
     }
     let input = sweep_behind(
         gdef,
-        &sights.input,
+        sight,
         &rule.input,
         rule.input_count - 1,
         glyphs,
         at + 1,
     );
-    if !is_one_input(gdef, &sights.input, rule, input.found, glyphs, at) {
+    if !is_one_input(gdef, sight, rule, input.found, glyphs, at) {
         return Stretch::none(at);
     }
     if input.found != rule.input_count - 1 {
         return count(at, glyphs.len(), glyphs.len(), at, input.to);
     }
-    look_around(gdef, &sights.context, old_len, glyphs, at, rule, input.to)
+    look_around(gdef, context, old_len, glyphs, at, rule, input.to)
 }
 
 // Whether so many glyphs of a rule's input are there, and can be of one input.
@@ -251,11 +339,25 @@ impl<'a> RuleSet<'a> {
         }
     }
 
-    // The stretch that the rules looked at, up to the first that fits.
-    pub(crate) fn look(
+    /// The stretch that the rules looked at, up to the first that fits.
+    ///
+    /// <details><summary>Contract</summary>
+    ///
+    /// # Contract
+    ///
+    /// ```text
+    /// requires { at < length glyphs.now }
+    /// ensures { result ≡ set_looked gdef.now sight.now context.now old_len glyphs.now at (rule_list self.now) }
+    /// ```
+    ///
+    /// - `rule_list`, `set_looked`: `crates/opentype_layout/specs/Looking.antt`
+    ///
+    /// </details>
+    pub fn look(
         &self,
         gdef: &[u8],
-        sights: &Sights,
+        sight: &Sight,
+        context: &Sight,
         old_len: usize,
         glyphs: &[GlyphInfo],
         at: usize,
@@ -263,11 +365,8 @@ impl<'a> RuleSet<'a> {
         let mut looked = Stretch::none(at);
         for i in 0..self.count() {
             let rule = self.nth_rule(i);
-            looked = looked.join(look(gdef, sights, old_len, glyphs, at, &rule));
-            if rule
-                .fit(gdef, &sights.input, &sights.context, glyphs, at)
-                .is_some()
-            {
+            looked = looked.join(look(gdef, sight, context, old_len, glyphs, at, &rule));
+            if rule.fit(gdef, sight, context, glyphs, at).is_some() {
                 return looked;
             }
         }
@@ -316,8 +415,20 @@ fn place_of_first(chained: bool, bytes: &[u8]) -> usize {
     }
 }
 
-// The rules that a context has for a glyph.
-fn context_rules<'a>(chained: bool, bytes: &'a [u8], glyph: u16) -> Option<RuleSet<'a>> {
+/// The rules that a context has for a glyph.
+///
+/// <details><summary>Contract</summary>
+///
+/// # Contract
+///
+/// ```text
+/// ensures { option_map (λ set. rule_list set) result ≡ context_rules chained bytes.now glyph }
+/// ```
+///
+/// - `context_rules`, `rule_list`: `crates/opentype_layout/specs/Looking.antt`
+///
+/// </details>
+pub fn context_rules<'a>(chained: bool, bytes: &'a [u8], glyph: u16) -> Option<RuleSet<'a>> {
     let tables = Tables::of(chained, bytes);
     let format = u16_at(bytes, 0);
     if format == 3 {
@@ -337,15 +448,41 @@ fn context_rules<'a>(chained: bool, bytes: &'a [u8], glyph: u16) -> Option<RuleS
     }
 }
 
-// The rules that a subtable has for a glyph.
-pub(crate) fn rules<'a>(kind: u16, bytes: &'a [u8], glyph: u16) -> Option<RuleSet<'a>> {
-    match kind {
-        4 => match set_of(bytes, glyph) {
-            Some(set) => Some(RuleSet::Ligatures(set)),
-            None => None,
-        },
-        5 => context_rules(false, bytes, glyph),
-        6 => context_rules(true, bytes, glyph),
-        _ => None,
+/// Flags a stretch as one with no concatenation, as far as the text goes.
+///
+/// <details><summary>Contract</summary>
+///
+/// # Contract
+///
+/// ```text
+/// ensures { glyphs.new ≡ unjoined looked glyphs.old }
+/// ```
+///
+/// - `unjoined`: `crates/opentype_layout/specs/Looking.antt`
+///
+/// </details>
+pub fn flag_joins(glyphs: &mut [GlyphInfo], looked: Stretch) {
+    let end = glyphs.len().min(looked.stop);
+    if looked.start < end {
+        let wanted = BufferFlags::PRODUCE_UNSAFE_TO_CONCAT;
+        unsafe_to_concat_in(wanted, glyphs, looked.start, end);
     }
+}
+
+/// Whether flags of concatenation are wanted.
+///
+/// <details><summary>Contract</summary>
+///
+/// # Contract
+///
+/// ```text
+/// ensures { result ≡ has_flag flags_concat flags }
+/// ```
+///
+/// - `flags_concat`, `has_flag`: `crates/shapers_buffer/specs/Buffer.antt`
+///
+/// </details>
+#[inline]
+pub fn wants_concat(flags: BufferFlags) -> bool {
+    flags.0 & BufferFlags::PRODUCE_UNSAFE_TO_CONCAT.0 == BufferFlags::PRODUCE_UNSAFE_TO_CONCAT.0
 }
