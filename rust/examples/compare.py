@@ -1,13 +1,15 @@
 #!/usr/bin/env python3
 """Compares what `sengadlit-shape` and hb-shape make of the same texts: glyphs, clusters, positions and the flag `unsafe to break`.
 
-    compare.py [--first N] ROOT TEXTS SHAPE HB-SHAPE..
+    compare.py [--first N] [--only SCRIPT].. [--concat] ROOT TEXTS SHAPE HB-SHAPE..
 
-With --first it takes so many texts of each kind alone. ROOT has Debian's packages of fonts, TEXTS what bindings/hooks/texts wrote; HB-SHAPE is a command of several words. For
-each script and font a line tells how many texts of each kind are equal; then there is a line for each reason of a
-difference. A text that differs for no known reason fails. The last line is 'N passed, M failed'.
+With --first it takes so many texts of each kind alone, with --only those of the scripts named; with --concat both programs
+also flag what is unsafe to concat. ROOT has Debian's packages of fonts, TEXTS what bindings/hooks/texts wrote; HB-SHAPE is a
+command of several words. For each script and font a line tells how many texts of each kind are equal; then there is a line
+for each reason of a difference. A text that differs for no known reason fails. The last line is 'N passed, M failed'.
 """
 
+import argparse
 import collections
 import concurrent.futures
 import os
@@ -25,13 +27,16 @@ CODES = {
     "Oriya": "Orya", "Tamil": "Taml", "Telugu": "Telu", "Kannada": "Knda", "Malayalam": "Mlym", "Sinhala": "Sinh",
     "Khmer": "Khmr", "Myanmar": "Mymr", "Tibetan": "Tibt", "Mongolian": "Mong", "N'Ko": "Nkoo", "Adlam": "Adlm",
     "Chakma": "Cakm", "Meetei Mayek": "Mtei", "Hanifi Rohingya": "Rohg", "Javanese": "Java", "Balinese": "Bali",
-    "Tai Tham": "Lana", "Phags-pa": "Phag", "Mandaic": "Mand", "Brahmi": "Brah", "Grantha": "Gran",
+    "Tai Tham": "Lana", "Phags-pa": "Phag", "Mandaic": "Mand", "Brahmi": "Brah", "Grantha": "Gran", "Latin": "Latn",
+    "Latin, decomposed": "Latn", "Arabic, pointed": "Arab",
 }  # fmt: skip
 FROM_RIGHT = {"Arab", "Syrc", "Hebr", "Nkoo", "Adlm", "Rohg", "Mand"}
 UNIVERSAL = {"Sinh", "Tibt", "Mong", "Nkoo", "Adlm", "Cakm", "Mtei", "Rohg", "Java", "Bali", "Lana", "Phag", "Mand", "Brah", "Gran"}
 
-# Fonts beside those of the texts: in this one a question to the font about rules with context decides which consonant is the base.
-MORE_FONTS = {"Oriya": ["usr/share/fonts/truetype/freefont/FreeSerif.ttf"]}
+# Fonts beside those of the texts: for Oriya, a question to this font about rules with context decides which consonant is the
+# base.
+FREE_SERIF = "usr/share/fonts/truetype/freefont/FreeSerif.ttf"
+MORE_FONTS = {"Oriya": [FREE_SERIF], "Latin": [FREE_SERIF]}
 
 KINDS = ["real", "torn", "random", "long"]
 
@@ -41,7 +46,11 @@ REASONS = {
     "symbol-clusters": "the universal shaper leaves symbols with signs in place, and HarfBuzz reorders them",
     "dotted-circles": "each broken syllable opens a circle here, and HarfBuzz skips the fifteenth",
     "long-stretch": "HarfBuzz flags no stretch of more than 255 glyphs",
+    "concat-short-cuts": "HarfBuzz leaves out flags of unsafe to concat where it sees that no rule can fit",
 }
+
+# The bit of a glyph's flags that is set where a text is unsafe to concat.
+UNSAFE_TO_CONCAT = 2
 
 # hb-shape's advances are X,Y where one of them is of the other direction.
 ITEM = re.compile(r"(\d+)=(\d+)(?:@(-?\d+),(-?\d+))?\+(-?\d+)(?:,0)?(?:#(\w+))?")
@@ -54,11 +63,11 @@ def items(line):
 
 
 class Font:
-    def __init__(self, root, path, shape, hb_shape, code):
+    def __init__(self, root, path, shape, hb_shape, code, concat):
         self.path, self.code = f"{root}/{path}", code
         direction = "rtl" if code in FROM_RIGHT else "ltr"
         options = ["--shapers=ot", "--utf8-clusters", "--no-glyph-names", "--show-flags", "--language=und",
-                   f"--script={code}", f"--direction={direction}", self.path]  # fmt: skip
+                   f"--script={code}", f"--direction={direction}", *(["--unsafe-to-concat"] if concat else []), self.path]  # fmt: skip
         self.mine, self.theirs = [*shape, *options], [*hb_shape, *options]
         circle = items(subprocess.run([*self.theirs, "\u25cc"], capture_output=True, text=True, check=True).stdout)
         self.circle = circle[0][0]
@@ -72,7 +81,7 @@ class Font:
     def reason(self, text, mine, theirs):
         """Why the glyphs of a text differ, or None."""
         if [glyph[:5] for glyph in mine] == [glyph[:5] for glyph in theirs]:
-            return "long-stretch" if len(text) > 255 else None
+            return "concat-short-cuts" if has_more_flags(mine, theirs) else "long-stretch" if len(text) > 255 else None
         if "\u180f" in text:
             return "fvs4"
         if has_unsorted_length_mark(text):
@@ -91,6 +100,12 @@ def has_unsorted_length_mark(text):
     classes = {"\u0c55": 4, "\u0c56": 5, "\u0c3c": 7, "\u0c4d": 9}
     order = [classes.get(letter, 0) for letter in text.replace("\u0c48", "\u0c46\u0c56")]
     return any(before > behind in (4, 5) for before, behind in zip(order, order[1:]))
+
+
+def has_more_flags(mine, theirs):
+    """Whether glyphs differ in flags of unsafe to concat alone, of which each of HarfBuzz's is here."""
+    flags = [(int(own[5] or "0", 16), int(other[5] or "0", 16)) for own, other in zip(mine, theirs)]
+    return all(own == other | own & UNSAFE_TO_CONCAT for own, other in flags)
 
 
 def has_symbol_with_sign(text):
@@ -117,22 +132,38 @@ def compare(font, path, first):
     return len(texts) - sum(reasons.values()), reasons, unknown
 
 
+def parsed_arguments():
+    parser = argparse.ArgumentParser(usage=__doc__)
+    parser.add_argument("--first", type=int)
+    parser.add_argument("--only", action="append", default=[])
+    parser.add_argument("--concat", action="store_true")
+    parser.add_argument("root")
+    parser.add_argument("texts")
+    parser.add_argument("shape")
+    parser.add_argument("hb_shape", nargs=argparse.REMAINDER)
+    return parser.parse_args()
+
+
+def fonts_of_scripts(folder):
+    """Each script of the texts with the paths of its fonts; those whose texts are there for normalization come last."""
+    for name in "scripts", "normalized":
+        for line in pathlib.Path(folder, name).read_text(encoding="utf-8").splitlines():
+            script, *fonts = line.split("\t")
+            if script in CODES:
+                yield script, fonts + MORE_FONTS.get(script, [])
+
+
 def main():
-    arguments, first = sys.argv[1:], None
-    if arguments[:1] == ["--first"]:
-        first, arguments = int(arguments[1]), arguments[2:]
-    if len(arguments) < 4:
-        raise SystemExit(__doc__)
-    root, folder, shape, hb_shape = arguments[0], arguments[1], [arguments[2]], arguments[3:]
+    given = parsed_arguments()
     work = []
-    for line in pathlib.Path(folder, "scripts").read_text(encoding="utf-8").splitlines():
-        script, *fonts = line.split("\t")
-        fonts += MORE_FONTS.get(script, [])
-        work += [(script, Font(root, font, shape, hb_shape, CODES[script])) for font in fonts]
-    paths = [(script, font, kind, f"{folder}/{script}.{kind}") for script, font in work for kind in KINDS]
+    for script, fonts in fonts_of_scripts(given.texts):
+        if not given.only or script in given.only:
+            shapers = [given.shape], given.hb_shape
+            work += [(script, Font(given.root, font, *shapers, CODES[script], given.concat)) for font in fonts]
+    paths = [(script, font, kind, f"{given.texts}/{script}.{kind}") for script, font in work for kind in KINDS]
     paths = [row for row in paths if os.path.getsize(row[3])]
     with concurrent.futures.ThreadPoolExecutor(2) as pool:
-        results = list(pool.map(lambda row: compare(row[1], row[3], first), paths))
+        results = list(pool.map(lambda row: compare(row[1], row[3], given.first), paths))
     equal, reasons, all_unknown, lines = 0, collections.Counter(), [], collections.defaultdict(list)
     for (script, font, kind, _), (same, why, unknown) in zip(paths, results):
         lines[script, os.path.basename(font.path)].append(f"{kind} {same} of {same + sum(why.values())}")
