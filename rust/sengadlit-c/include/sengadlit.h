@@ -750,6 +750,10 @@ sengadlit_status_t sengadlit_buffer_set_content_type(sengadlit_buffer_t *buffer,
    nothing left undone except what a font's lookups have no operations or no room for. 0 once the text gets another length or
    content type, and for null. */
 sengadlit_bool_t sengadlit_buffer_is_complete(sengadlit_buffer_t *buffer);
+/* Whether it is, and no lookup of the font lacked operations, of which a text has 4096 for each character and 65536 at least, or
+   room for glyphs that it adds. Only a hostile font makes it 0 for a complete text. What sengadlit_reshape_utf8 and its siblings
+   leave as it was counts as it did. */
+sengadlit_bool_t sengadlit_buffer_has_all_lookups(sengadlit_buffer_t *buffer);
 
 /* Adds the glyphs of another buffer from place `start` to before `end`, with their positions, as hb_buffer_append: script and
    direction that aren't set become the other's, and of characters what stands around them there becomes the context, before the

@@ -8,12 +8,12 @@ use core::mem::replace;
 use core::ops::Range;
 use sengadlit::Shaper;
 use sengadlit::alloc::{AllocError, Global, Vec as List};
-#[cfg(feature = "opentype")]
-use sengadlit::buffer::BufferClusterLevel;
 use sengadlit::buffer::{
     Buffer as Inner, BufferSettings, CONTEXT_LENGTH, Direction, GlyphInfo, GlyphPosition, Script,
     ShaperError, Span,
 };
+#[cfg(feature = "opentype")]
+use sengadlit::buffer::{BufferClusterLevel, LookupRecord};
 use sengadlit::editing::caret_stops;
 #[cfg(feature = "opentype")]
 use sengadlit::editing::{EditedText, ShapedRun, Stretch, TextEdit, reshape};
@@ -96,6 +96,8 @@ pub struct Buffer {
     has_direction: bool,
     // Whether the glyphs are a text that was shaped whole.
     is_complete: bool,
+    // Whether no lookup of its font lacked operations or room.
+    has_all_lookups: bool,
     // Whether the level is that at which graphemes are clusters, in any order.
     merges_graphemes: bool,
     // The flags as C set them.
@@ -118,6 +120,7 @@ impl Buffer {
             content: Content::Unknown,
             has_direction: false,
             is_complete: false,
+            has_all_lookups: false,
             merges_graphemes: false,
             flags: 0,
             spare: Text::new(),
@@ -152,10 +155,16 @@ impl Buffer {
         self.is_complete
     }
 
-    /// Says that they are.
-    pub fn set_complete(&mut self) {
+    /// Whether they are, and no lookup of the font left anything undone for want of operations or room.
+    pub fn has_all_lookups(&self) -> bool {
+        self.is_complete && self.has_all_lookups
+    }
+
+    /// Says that they are, and whether the lookups did all.
+    pub fn set_complete(&mut self, has_all_lookups: bool) {
         self.content = Content::Glyphs;
         self.is_complete = true;
+        self.has_all_lookups = has_all_lookups;
     }
 
     /// Takes a text of the crate's with its positions, and leaves an empty one.
@@ -449,12 +458,12 @@ impl Buffer {
         shape: impl FnOnce(&mut Inner) -> Result<Segment, Error>,
     ) -> Result<(), Error> {
         let merges_graphemes = self.merges_graphemes;
-        let (segment, positions) = self.spare.run(Takes::Numbers, |text| {
+        let (segment, positions, lookups) = self.spare.run(Takes::Numbers, |text| {
             if merges_graphemes {
                 text.merge_graphemes();
             }
             let segment = shape(text)?;
-            Ok((segment, text.take_positions()))
+            Ok((segment, text.take_positions(), text.lookup_record()))
         })?;
         let shaped = self.spare.glyphs();
         // (an array that is lent may have no room for them)
@@ -463,7 +472,7 @@ impl Buffer {
             .with_glyphs_mut(|glyphs| glyphs.copy_from_slice(shaped));
         self.positions = positions;
         self.set_segment(segment);
-        self.set_complete();
+        self.set_complete(lookups.is_complete);
         Ok(())
     }
 
@@ -494,7 +503,7 @@ impl Buffer {
             }
         };
         loop {
-            let (segment, positions) = self.shape_stretch(units, &stretch.text, &shape)?;
+            let (segment, positions, lookups) = self.shape_stretch(units, &stretch.text, &shape)?;
             if known.script.is_some() && segment != known {
                 return Err(Error::argument(Argument::Options));
             }
@@ -510,6 +519,9 @@ impl Buffer {
                 None => {
                     self.splice(&stretch, edit, positions)?;
                     self.set_segment(segment);
+                    // (what was left undone around the stretch still is)
+                    self.has_all_lookups =
+                        lookups.is_complete && (is_whole || self.has_all_lookups);
                     return Ok(stretch.text);
                 }
             }
@@ -525,15 +537,16 @@ impl Buffer {
         }
     }
 
-    // Shapes a stretch of a text in the spare one, whose clusters then count from its start, and returns the positions, with the
-    // script and direction: those of the buffer, or where it has no script those that the text has.
+    // Shapes a stretch of a text in the spare one, whose clusters then count from its start. Returns the script and direction,
+    // which are those of the buffer or, where it has no script, those that the text has; the positions; and what became of the
+    // lookups.
     #[cfg(feature = "opentype")]
     fn shape_stretch<U: Unit>(
         &mut self,
         units: &[U],
         stretch: &Range<usize>,
         shape: impl Fn(Segment, &mut Inner) -> Result<Segment, Error>,
-    ) -> Result<(Segment, List<GlyphPosition>), Error> {
+    ) -> Result<(Segment, List<GlyphPosition>, LookupRecord), Error> {
         let known = match self.segment() {
             known if known.script.is_some() => known,
             _ => Segment::UNKNOWN,
@@ -559,7 +572,7 @@ impl Buffer {
                 text.merge_graphemes();
             }
             let segment = shape(known, text)?;
-            Ok((segment, text.take_positions()))
+            Ok((segment, text.take_positions(), text.lookup_record()))
         })
     }
 
@@ -901,5 +914,58 @@ mod tests {
         };
         assert!(buffer.set_properties(&zero).is_ok());
         assert_eq!(told(&mut buffer), new);
+    }
+}
+
+#[cfg(all(test, feature = "opentype"))]
+mod lookup_tests {
+    use super::*;
+
+    // A font's answer to a text, which leaves the record so.
+    fn leaves(text: &mut Inner, is_complete: bool) -> Result<Segment, Error> {
+        let mut positions = List::new(Global);
+        positions
+            .resize(text.len(), GlyphPosition::ZERO)
+            .map_err(ShaperError::from)?;
+        assert!(text.set_positions(positions));
+        text.set_lookup_record(LookupRecord {
+            is_complete,
+            ..LookupRecord::for_text(text.len())
+        });
+        Ok(Segment {
+            script: Some(Script(*b"Latn")),
+            direction: Direction::LeftToRight,
+        })
+    }
+
+    #[test]
+    fn what_lookups_leave_undone_is_told_until_the_whole_text_is_shaped_again() {
+        let mut buffer = Buffer::new();
+        let told = |buffer: &Buffer| (buffer.is_complete(), buffer.has_all_lookups());
+        assert_eq!(told(&buffer), (false, false));
+        for is_complete in [true, false] {
+            let done = buffer.replace(b"a b c d e f", |text| leaves(text, is_complete));
+            assert!(done.is_ok());
+            assert_eq!(told(&buffer), (true, is_complete));
+        }
+        let edit = |start, old_end, new_end| TextEdit {
+            start,
+            old_end,
+            new_end,
+        };
+        // what is shaped again is whole, and the text around it isn't
+        let again = buffer.reshape(b"a b c d e f g", edit(11, 11, 13), |_, text| {
+            leaves(text, true)
+        });
+        assert!(again.is_ok_and(|stretch| stretch.start > 0));
+        assert_eq!(told(&buffer), (true, false));
+        let again = buffer.reshape(b"x", edit(0, 13, 1), |_, text| leaves(text, true));
+        assert!(again.is_ok_and(|stretch| stretch == (0..1)));
+        assert_eq!(told(&buffer), (true, true));
+        let again = buffer.reshape(b"xy", edit(1, 1, 2), |_, text| leaves(text, false));
+        assert!(again.is_ok());
+        assert_eq!(told(&buffer), (true, false));
+        buffer.set_content(Content::Glyphs);
+        assert_eq!(told(&buffer), (false, false));
     }
 }

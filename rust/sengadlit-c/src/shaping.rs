@@ -270,7 +270,7 @@ pub fn shape(
         let done = ot_shape::shape(inner, &settings, &font, &UnicodeTables, lookups, text);
         lookups.ended(done.map_err(of_call))
     })?;
-    buffer.set_complete();
+    buffer.set_complete(true);
     Ok(Status::Done)
 }
 

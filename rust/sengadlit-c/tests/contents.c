@@ -89,7 +89,8 @@ static void try_content(void)
               content() == SENGADLIT_BUFFER_CONTENT_TYPE_INVALID);
     check("given back", sengadlit_buffer_give_back(buffer, NULL, NULL) == array);
     check("of no buffer", sengadlit_buffer_get_content_type(NULL) == SENGADLIT_BUFFER_CONTENT_TYPE_INVALID &&
-                              !sengadlit_buffer_is_complete(NULL) && sengadlit_buffer_get_length(NULL) == 0);
+                              !sengadlit_buffer_is_complete(NULL) && !sengadlit_buffer_has_all_lookups(NULL) &&
+                              sengadlit_buffer_get_length(NULL) == 0);
     check("for no buffer", sengadlit_buffer_set_content_type(NULL, SENGADLIT_BUFFER_CONTENT_TYPE_GLYPHS) == SENGADLIT_ARGUMENT &&
                                sengadlit_buffer_guess_properties(NULL) == SENGADLIT_ARGUMENT);
 }
@@ -163,9 +164,9 @@ static void try_shaped_twice(void)
     check("shaped", is_refused(buffer, sengadlit_shape(plan, &world.font, &lookups, buffer), SENGADLIT_ARGUMENT_CONTENT));
     set_text(buffer, "ab");
     check("shaped at once", sengadlit_shape(plan, &world.font, &lookups, buffer) == SENGADLIT_DONE &&
-              sengadlit_buffer_is_complete(buffer));
+              sengadlit_buffer_is_complete(buffer) && sengadlit_buffer_has_all_lookups(buffer));
     (void)sengadlit_buffer_set_length(buffer, 1);
-    check("cut", !sengadlit_buffer_is_complete(buffer));
+    check("cut", !sengadlit_buffer_is_complete(buffer) && !sengadlit_buffer_has_all_lookups(buffer));
     /* The flags say what becomes of a character that isn't drawn: it is a space, or as it is, or gone. */
     for (unsigned int i = 0; i < 3; i++) {
         static const uint32_t flags[] = {0, SENGADLIT_BUFFER_FLAG_PRESERVE_DEFAULT_IGNORABLES,

@@ -127,6 +127,11 @@ pub extern "C" fn sengadlit_buffer_is_complete(buffer: Pointer) -> Bool {
     buffer.call(|_| 0, |buffer| Ok(buffer.is_complete().into()))
 }
 
+#[unsafe(no_mangle)]
+pub extern "C" fn sengadlit_buffer_has_all_lookups(buffer: Pointer) -> Bool {
+    buffer.call(|_| 0, |buffer| Ok(buffer.has_all_lookups().into()))
+}
+
 /// Adds glyphs of another buffer.
 #[unsafe(no_mangle)]
 pub extern "C" fn sengadlit_buffer_append(
