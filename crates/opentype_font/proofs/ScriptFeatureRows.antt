@@ -1,11 +1,13 @@
 -- What a plan reads of a table for a text's tags, on a GSUB written out by hand (OpenType, Common Table
 -- Formats).
 use Rattle.std.specs.Prelude.{ℕ, ◌≡◌, List, [], ◌∷◌, ◌++◌, length, true, false, Option, None, Some, refl}
+use Rattle.std.specs.Global.{Vec}
 use Rattle.opentype_face.specs.Firsts.{first_from}
 use Rattle.opentype_face.specs.Ranges.{bisect}
 use Rattle.opentype_layout.specs.Features.{any_feature_in, chosen_script_in, feature_in, feature_table_in, feature_tag_in, first_language_in, first_script_in, new_tag_in, nth_any, nth_feature, nth_holding, nth_language, nth_script, nth_substitute, old_tag_in, required_in, script_tags_in, substitute_in, substitutions_in, system_in, third_tag_in, variation_in, variations_in}
+use Rattle.opentype_font.specs.declared.script_features.ListedLookups.TheVariants.{Few, Many}
 use Rattle.opentype_font.specs.declared.text_tags.TagList.{TagList}
-use Rattle.opentype_font.specs.ScriptFeatures.{FeatureView, features_in_system, has_feature_in, lookup_numbers, lookups_by, table_view, tag_by}
+use Rattle.opentype_font.specs.ScriptFeatures.{FeatureView, features_in_system, first_lookups, has_feature_in, listed_lookups, lookup_numbers, lookups_by, table_view, tag_by}
 use Rattle.opentype_font.specs.TextTags.{Tags, number_by, tags_in, tags_of, tags_of_script}
 
 -- ---- tags
@@ -166,6 +168,33 @@ lookups-first = refl
 lookups-none : lookups_by (tag_by 3) (listed 1 (7 ∷ []) ∷ listed 2 (8 ∷ []) ∷ []) ≡ None
 unfolding lookups_by first_from
 lookups-none = refl
+
+-- ---- the first lookups of a feature that has 3 and 2; what is behind the end reads 0
+
+abbrev two-lookups : List ℕ
+two-lookups = 0 ∷ 0 ∷ 0 ∷ 2 ∷ 0 ∷ 3 ∷ 0 ∷ 2 ∷ []
+
+first-lookups-0 : first_lookups 0 two-lookups ≡ []
+first-lookups-0 = refl
+
+first-lookups-1 : first_lookups 1 two-lookups ≡ 3 ∷ []
+first-lookups-1 = refl
+
+first-lookups-2 : first_lookups 2 two-lookups ≡ 3 ∷ 2 ∷ []
+first-lookups-2 = refl
+
+first-lookups-3 : first_lookups 3 two-lookups ≡ 3 ∷ 2 ∷ 0 ∷ []
+first-lookups-3 = refl
+
+-- a few in place, or a list; either may be empty
+listed-few : listed_lookups (Few (record { items = 3 ∷ 2 ∷ [] })) ≡ 3 ∷ 2 ∷ []
+listed-few = refl
+
+listed-none : listed_lookups (Few (record { items = [] })) ≡ []
+listed-none = refl
+
+listed-many : (lookups : Vec ℕ) → lookups.items ≡ 3 ∷ 2 ∷ [] → listed_lookups (Many lookups) ≡ 3 ∷ 2 ∷ []
+listed-many lookups items = items
 
 -- ---- how much is read at most: of 4097 lookups 4096, of 1025 features 1024
 

@@ -10,6 +10,8 @@ use Rattle.opentype_face.specs.Firsts.{first_from}
 use Rattle.opentype_layout.specs.Features.{any_feature_in, chosen_script_in, feature_in, feature_table_in, feature_tag_in, lookup_count_in, nth_lookup_in, required_in, script_table_in, system_in}
 use Rattle.opentype_layout.specs.declared.features.Chosen.{Chosen}
 use Rattle.opentype_font.specs.declared.script_features.ListedFeature.{ListedFeature}
+use Rattle.opentype_font.specs.declared.script_features.ListedLookups.{ListedLookups}
+use Rattle.opentype_font.specs.declared.script_features.ListedLookups.TheVariants.{Few, Many}
 use Rattle.opentype_font.specs.declared.script_features.TableFeatures.{TableFeatures}
 use Rattle.opentype_font.specs.TextTags.{Tags, number_by}
 
@@ -36,13 +38,21 @@ pub record FeatureView : Type 0 where
   pub tag : hb_tag_t
   pub lookups : List ℕ
 
+-- lookups as they are kept: a few in place, or a list
+abbrev pub listed_lookups : ListedLookups → List ℕ
+listed_lookups (Few lookups) = lookups.items
+listed_lookups (Many lookups) = lookups.items
+
 abbrev pub feature_view : ListedFeature → FeatureView
-feature_view f = record { tag = f.tag; lookups = f.lookups.items }
+feature_view f = record { tag = f.tag; lookups = listed_lookups f.lookups }
+
+-- the first lookups of a feature, so many
+abbrev pub first_lookups : ℕ → List ℕ → List ℕ
+first_lookups count feature = map (nth_lookup_in feature) (range_with_len 0 count)
 
 -- at most 4096 lookups are read of a feature, and 1024 features of a script
 abbrev pub lookup_numbers : List ℕ → List ℕ
-lookup_numbers feature = map (nth_lookup_in feature) (range_with_len 0 (min (lookup_count_in
-    feature) 4096))
+lookup_numbers feature = first_lookups (min (lookup_count_in feature) 4096) feature
 
 -- a feature by its number, as the font's variations have it
 abbrev pub feature_in_list : List ℕ → ℕ → FeatureView

@@ -1,16 +1,17 @@
 //! What a plan reads of a font: its features in the script and the language of a text.
-ghost use Rattle.std.specs.Prelude.{◌≡◌, IfOk, IsOkUnless, map, option_map};
+ghost use Rattle.std.specs.Prelude.{◌≡◌, ◌≤◌, IfOk, IsOkUnless, map, option_map};
 ghost use Rattle.shapers_base.specs.Map.{of_gsub};
 ghost use Rattle.shapers_buffer.specs.declared.buffer.refusal.ShaperError.TheVariants.{Memory};
-ghost use Rattle.opentype_layout.specs.Features.{substitutions_in};
-ghost use Rattle.opentype_font.specs.ScriptFeatures.{feature_in_list, feature_view, features_in_system, features_view, has_feature_in, lookup_numbers, lookups_by, system_for, table_view, tag_by, tagged_lookups};
+ghost use Rattle.opentype_layout.specs.Features.{any_feature_in, substitutions_in};
+ghost use Rattle.opentype_font.specs.ScriptFeatures.{feature_in_list, feature_view, features_in_system, features_view, first_lookups, has_feature_in, listed_lookups, lookup_numbers, lookups_by, system_for, table_view, tag_by, tagged_lookups};
 ghost use Rattle.opentype_font.specs.TextTags.{tags_of};
 
 use crate::text_tags::{TextTags, number_of};
-use opentype_face::bytes::u16_at;
+use arrayvec::ArrayVec;
+use opentype_face::bytes::{offset16, table_at, u16_at, u32_at};
 use opentype_layout::features::{
-    Chosen, choose_script, feature_by, feature_tag, find_any_feature, find_feature,
-    language_system, lookup_count, nth_lookup, required_feature, script_table, substitutions,
+    Chosen, choose_script, feature_by, feature_tag, find_feature, language_system, lookup_count,
+    nth_lookup, required_feature, script_table, substitutions,
 };
 use shapers_base::buffer::{ShaperError, hb_tag_t};
 use shapers_base::map::TableIndex;
@@ -27,11 +28,33 @@ const MOST_FEATURES: u16 = 1024;
 /// The tag of vertical forms.
 const VERT: u32 = 0x7665_7274;
 
-// A feature, with the numbers of the lookups that it applies.
+/// So many lookups of a feature take no memory; few features have more.
+const FEW_LOOKUPS: usize = 8;
+
+// The numbers of the lookups that a feature applies.
+#[derive(Debug, Drop)]
+enum ListedLookups {
+    Few(ArrayVec<u16, FEW_LOOKUPS>),
+    Many(Vec<u16>),
+}
+
+impl ListedLookups {
+    #[inline]
+    fn as_slice(&self) -> &[u16]
+        ensures { result.now ≡ listed_lookups self.now }
+    {
+        match self {
+            ListedLookups::Few(lookups) => lookups.as_slice(),
+            ListedLookups::Many(lookups) => lookups.as_slice(),
+        }
+    }
+}
+
+// A feature, with its lookups.
 #[derive(Debug, Drop)]
 struct ListedFeature {
     tag: hb_tag_t,
-    lookups: Vec<u16>,
+    lookups: ListedLookups,
 }
 
 // The tag of a number of four bytes.
@@ -71,12 +94,37 @@ pub fn has_feature(table: &[u8], tags: &TextTags, tag: hb_tag_t) -> bool
     }
 }
 
-// The lookups of a feature's table.
-fn lookups_of(feature: &[u8], alloc: Global) -> Result<Vec<u16>, ShaperError>
-    ensures lookups { IfOk result (λ lookups. lookups.items ≡ lookup_numbers feature.now) }
+// The number of the feature of vertical forms, in any script of the table.
+// (the list is found once, since a table without the feature is read to its end)
+fn find_vertical(table: &[u8]) -> Option<u16>
+    ensures { result ≡ any_feature_in table.now 0x76657274 }
+{
+    let list = table_at(table, offset16(table, 6));
+    for i in 0..u16_at(list, 0) {
+        if u32_at(list, 2 + usize::from(i) * 6) == VERT {
+            return Some(i);
+        }
+    }
+    None
+}
+
+// The lookups of a feature's table that has few.
+fn few_lookups(feature: &[u8], count: u16) -> ArrayVec<u16, FEW_LOOKUPS>
+    requires { count ≤ 8 }
+    ensures { result.items ≡ first_lookups count feature.now }
+{
+    let mut lookups = ArrayVec::new();
+    for i in 0..count {
+        lookups.push(nth_lookup(feature, i));
+    }
+    lookups
+}
+
+// So many lookups of a feature's table.
+fn many_lookups(feature: &[u8], count: u16, alloc: Global) -> Result<Vec<u16>, ShaperError>
+    ensures lookups { IfOk result (λ lookups. lookups.items ≡ first_lookups count feature.now) }
     ensures refusal { IsOkUnless result Memory }
 {
-    let count = lookup_count(feature).min(MOST_LOOKUPS);
     let mut lookups = Vec::with_capacity(alloc, usize::from(count))?;
     for i in 0..count {
         lookups
@@ -84,6 +132,19 @@ fn lookups_of(feature: &[u8], alloc: Global) -> Result<Vec<u16>, ShaperError>
             .map_err(|_| ShaperError::Memory)?;
     }
     Ok(lookups)
+}
+
+// The lookups of a feature's table.
+#[inline]
+fn lookups_of(feature: &[u8], alloc: Global) -> Result<ListedLookups, ShaperError>
+    ensures lookups { IfOk result (λ lookups. listed_lookups lookups ≡ lookup_numbers feature.now) }
+    ensures refusal { IsOkUnless result Memory }
+{
+    let count = lookup_count(feature).min(MOST_LOOKUPS);
+    if usize::from(count) <= FEW_LOOKUPS {
+        return Ok(ListedLookups::Few(few_lookups(feature, count)));
+    }
+    Ok(ListedLookups::Many(many_lookups(feature, count, alloc)?))
 }
 
 // A feature by its number in the table, whose variations were read.
@@ -189,7 +250,7 @@ impl TableFeatures {
     {
         let is_there = !table.is_empty();
         let varied = substitutions(table);
-        let vertical = feature_if(table, varied, find_any_feature(table, VERT), alloc)?;
+        let vertical = feature_if(table, varied, find_vertical(table), alloc)?;
         match choose_script(table, tags.scripts.as_slice()) {
             Some(chosen) => {
                 let system = system_for(table, tags, &chosen);

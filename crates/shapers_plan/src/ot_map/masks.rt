@@ -97,13 +97,12 @@ pub(super) fn lookups_of<L: FontFeatures>(
     ensures { let lookups = lookups_of (L.tables font.now) table tag flags in
         option_map (λ list. list.now) result ≡ lookups }
 {
-    if in_script(font, tag) {
-        font.feature_lookups(table, tag)
-    } else if flags & F_GLOBAL_SEARCH != 0 {
-        font.any_feature_lookups(table, tag)
-    } else {
-        None
+    // (most features have lookups in the table, and are looked for once)
+    let lookups = font.feature_lookups(table, tag);
+    if lookups.is_some() || flags & F_GLOBAL_SEARCH == 0 || in_script(font, tag) {
+        return lookups;
     }
+    font.any_feature_lookups(table, tag)
 }
 
 // Whether the chosen script has a feature.

@@ -6,6 +6,7 @@ use crate::generated::opentype_face::bytes::u16_at;
 use crate::generated::opentype_face::ranges::{find_number, find_range};
 
 /// The place of a glyph in a set, by its table.
+// (always: in a face that isn't prepared it is asked of each subtable of a lookup, at each glyph)
 ///
 /// <details><summary>Contract</summary>
 ///
@@ -18,7 +19,7 @@ use crate::generated::opentype_face::ranges::{find_number, find_range};
 /// - `coverage_in`: `crates/opentype_face/specs/Glyphs.antt`
 ///
 /// </details>
-#[inline]
+#[inline(always)]
 pub fn coverage(bytes: &[u8], glyph: u16) -> Option<u32> {
     let count = u16_at(bytes, 2);
     match u16_at(bytes, 0) {

@@ -4,16 +4,17 @@
 
 use crate::support::prelude::*;
 
-use crate::generated::opentype_face::bytes::u16_at;
+use crate::generated::opentype_face::bytes::{offset16, table_at, u16_at, u32_at};
 use crate::generated::opentype_font::text_tags::{TextTags, number_of};
 use crate::generated::opentype_layout::features::{
-    Chosen, choose_script, feature_by, feature_tag, find_any_feature, find_feature,
-    language_system, lookup_count, nth_lookup, required_feature, script_table, substitutions,
+    Chosen, choose_script, feature_by, feature_tag, find_feature, language_system, lookup_count,
+    nth_lookup, required_feature, script_table, substitutions,
 };
 use crate::generated::shapers_base::buffer::{ShaperError, Tag};
 use crate::generated::shapers_base::map::TableIndex;
 use crate::generated::shapers_plan::ot_map::FontFeatures;
 use crate::support::alloc::Global;
+use crate::support::arrayvec::ArrayVec;
 
 /// How many lookups of a feature are read at most, which is more than any font has: what a spoilt
 /// font lists costs little memory.
@@ -25,11 +26,31 @@ const MOST_FEATURES: u16 = 1024;
 /// The tag of vertical forms.
 const VERT: u32 = 0x7665_7274;
 
-// A feature, with the numbers of the lookups that it applies.
+/// So many lookups of a feature take no memory; few features have more.
+const FEW_LOOKUPS: usize = 8;
+
+// The numbers of the lookups that a feature applies.
+#[derive(Debug)]
+enum ListedLookups {
+    Few(ArrayVec<u16, FEW_LOOKUPS>),
+    Many(Vec<u16>),
+}
+
+impl ListedLookups {
+    #[inline]
+    fn as_slice(&self) -> &[u16] {
+        match self {
+            ListedLookups::Few(lookups) => lookups.as_slice(),
+            ListedLookups::Many(lookups) => lookups.as_slice(),
+        }
+    }
+}
+
+// A feature, with its lookups.
 #[derive(Debug)]
 struct ListedFeature {
     tag: Tag,
-    lookups: Vec<u16>,
+    lookups: ListedLookups,
 }
 
 // The tag of a number of four bytes.
@@ -76,9 +97,29 @@ pub fn has_feature(table: &[u8], tags: &TextTags, tag: Tag) -> bool {
     }
 }
 
-// The lookups of a feature's table.
-fn lookups_of(feature: &[u8], alloc: Global) -> Result<Vec<u16>, ShaperError> {
-    let count = lookup_count(feature).min(MOST_LOOKUPS);
+// The number of the feature of vertical forms, in any script of the table.
+// (the list is found once, since a table without the feature is read to its end)
+fn find_vertical(table: &[u8]) -> Option<u16> {
+    let list = table_at(table, offset16(table, 6));
+    for i in 0..u16_at(list, 0) {
+        if u32_at(list, 2 + usize::from(i) * 6) == VERT {
+            return Some(i);
+        }
+    }
+    None
+}
+
+// The lookups of a feature's table that has few.
+fn few_lookups(feature: &[u8], count: u16) -> ArrayVec<u16, FEW_LOOKUPS> {
+    let mut lookups = ArrayVec::new();
+    for i in 0..count {
+        lookups.push(nth_lookup(feature, i));
+    }
+    lookups
+}
+
+// So many lookups of a feature's table.
+fn many_lookups(feature: &[u8], count: u16, alloc: Global) -> Result<Vec<u16>, ShaperError> {
     let mut lookups = Vec::with_capacity(alloc, usize::from(count))?;
     for i in 0..count {
         lookups
@@ -86,6 +127,16 @@ fn lookups_of(feature: &[u8], alloc: Global) -> Result<Vec<u16>, ShaperError> {
             .map_err(|_| ShaperError::Memory)?;
     }
     Ok(lookups)
+}
+
+// The lookups of a feature's table.
+#[inline]
+fn lookups_of(feature: &[u8], alloc: Global) -> Result<ListedLookups, ShaperError> {
+    let count = lookup_count(feature).min(MOST_LOOKUPS);
+    if usize::from(count) <= FEW_LOOKUPS {
+        return Ok(ListedLookups::Few(few_lookups(feature, count)));
+    }
+    Ok(ListedLookups::Many(many_lookups(feature, count, alloc)?))
 }
 
 // A feature by its number in the table, whose variations were read.
@@ -168,7 +219,7 @@ impl TableFeatures {
     fn new(table: &[u8], tags: &TextTags, alloc: Global) -> Result<Self, ShaperError> {
         let is_there = !table.is_empty();
         let varied = substitutions(table);
-        let vertical = feature_if(table, varied, find_any_feature(table, VERT), alloc)?;
+        let vertical = feature_if(table, varied, find_vertical(table), alloc)?;
         match choose_script(table, tags.scripts.as_slice()) {
             Some(chosen) => {
                 let system = system_for(table, tags, &chosen);

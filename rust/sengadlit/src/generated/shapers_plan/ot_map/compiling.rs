@@ -5,7 +5,7 @@
 use crate::support::prelude::*;
 
 use super::FontFeatures;
-use super::lookups::{Stage, StageLookup, Stages, collect_stages, required_stage, stage_lookups};
+use super::lookups::{Stage, StageLookup, Stages, collect_stages, list_stage, required_stage};
 use super::masks::{MappedFeature, global_mask, mapped};
 use super::requests::joined_by_tag;
 use crate::generated::shapers_base::buffer::ShaperError;
@@ -45,8 +45,9 @@ impl CompiledMap {
         let features = mapped(alloc, font, infos.as_slice())?;
         let required = required_stage(font, infos.as_slice());
         let found = collect_stages(alloc, font, features.as_slice(), required, requests)?;
-        let positioning = stage_lookups(
-            alloc,
+        let mut positioning = Vec::with_capacity(alloc, features.len())?;
+        list_stage(
+            &mut positioning,
             font,
             TableIndex::GPOS,
             features.as_slice(),

@@ -125,32 +125,32 @@ fn is_of_stage(feature: &MappedFeature, stage: Option<usize>) -> bool {
     }
 }
 
-/// The lookups of a stage in the order of their numbers, each once; no stage stands for all. Those
-/// of the required feature are among them where that is said.
+/// Lists the lookups of a stage in the order of their numbers, each once, in place of what the list
+/// has; no stage stands for all. Those of the required feature are among them where that is said.
 ///
 /// # Errors
 ///
 /// [`Memory`].
 ///
 /// [`Memory`]: crate::ShaperError::Memory
-pub(super) fn stage_lookups<L: FontFeatures>(
-    alloc: Global,
+pub(super) fn list_stage<L: FontFeatures>(
+    list: &mut Vec<StageLookup>,
     font: &L,
     table: TableIndex,
     features: &[MappedFeature],
     is_required: bool,
     stage: Option<usize>,
-) -> Result<Vec<StageLookup>, ShaperError> {
-    let mut list = Vec::new(alloc);
+) -> Result<(), ShaperError> {
+    list.clear();
     if is_required {
-        add_lookups(&mut list, APPLIED_ALWAYS, font.required_lookups(table))?;
+        add_lookups(list, APPLIED_ALWAYS, font.required_lookups(table))?;
     }
     for feature in features {
         if is_of_stage(feature, stage) {
-            add_feature(&mut list, font, table, feature)?;
+            add_feature(list, font, table, feature)?;
         }
     }
-    Ok(list)
+    Ok(())
 }
 
 /// The stage of the required feature: that of its request, if one turns it on, else the first.
@@ -206,34 +206,36 @@ pub(super) fn collect_stages<L: FontFeatures>(
     required: usize,
     requests: &[Request],
 ) -> Result<Stages, ShaperError> {
+    // (as many lookups as features is most often enough)
     let mut found = Stages {
         stages: Vec::new(alloc),
-        lookups: Vec::new(alloc),
+        lookups: Vec::with_capacity(alloc, features.len())?,
     };
+    let mut lookups = Vec::with_capacity(alloc, features.len())?;
     let mut number = 0;
     for request in requests {
         if let Request::Pause(pause) = *request {
-            let lookups = substitutions(alloc, font, features, required, number)?;
+            list_substitutions(&mut lookups, font, features, required, number)?;
             found.push(lookups.as_slice(), pause)?;
             number += 1;
         }
     }
-    let lookups = substitutions(alloc, font, features, required, number)?;
+    list_substitutions(&mut lookups, font, features, required, number)?;
     found.push(lookups.as_slice(), None)?;
     Ok(found)
 }
 
-// The lookups of a stage of substitutions.
-fn substitutions<L: FontFeatures>(
-    alloc: Global,
+// Lists the lookups of a stage of substitutions, in place of what the list has.
+fn list_substitutions<L: FontFeatures>(
+    list: &mut Vec<StageLookup>,
     font: &L,
     features: &[MappedFeature],
     required: usize,
     number: usize,
-) -> Result<Vec<StageLookup>, ShaperError> {
+) -> Result<(), ShaperError> {
     let is_required = number == required;
-    stage_lookups(
-        alloc,
+    list_stage(
+        list,
         font,
         TableIndex::GSUB,
         features,

@@ -1,7 +1,7 @@
 use Rattle.std.proofs.Common.{rules, arith}
 use Rattle.std.proofs.lemmas.List.FromFn.{map-range_with_len_more}
 use Rattle.opentype_layout.specs.Features.{nth_lookup_in}
-use Rattle.opentype_font.proofs.script_features.lookups_of.Goals as goal
+use Rattle.opentype_font.proofs.script_features.many_lookups.Goals as goal
 
 pub loop-i-preserved : goal.loop-i-preserved
 loop-i-preserved c =
