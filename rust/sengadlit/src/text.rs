@@ -56,16 +56,7 @@ impl Buffer {
         let start = self.len();
         self.grow(text.chars().count())?;
         // (as a slice, since each glyph that is set by its place costs a test)
-        self.with_glyphs_mut(|glyphs| {
-            for (glyph, (place, character)) in glyphs[start..].iter_mut().zip(text.char_indices()) {
-                #[expect(
-                    clippy::cast_possible_truncation,
-                    reason = "it fits, as the length of the text does"
-                )]
-                let cluster = place as u32;
-                *glyph = GlyphInfo::of_character(character, cluster);
-            }
-        });
+        self.with_glyphs_mut(|glyphs| write_characters(&mut glyphs[start..], text));
         Ok(())
     }
 
@@ -178,6 +169,19 @@ impl<'a> IntoIterator for &'a Buffer {
     #[inline]
     fn into_iter(self) -> slice::Iter<'a, GlyphInfo> {
         self.glyphs().iter()
+    }
+}
+
+// Writes the characters of a text of at most 2^32 - 1 bytes, with the places of their bytes as clusters.
+#[inline]
+pub(crate) fn write_characters(glyphs: &mut [GlyphInfo], text: &str) {
+    for (glyph, (place, character)) in glyphs.iter_mut().zip(text.char_indices()) {
+        #[expect(
+            clippy::cast_possible_truncation,
+            reason = "it fits, as the length of the text does"
+        )]
+        let cluster = place as u32;
+        *glyph = GlyphInfo::of_character(character, cluster);
     }
 }
 

@@ -186,11 +186,26 @@ impl Buffer {
         edit: TextEdit,
         piece: &Buffer,
     ) -> Result<(), ShaperError> {
-        let (len, added) = (self.len(), piece.len());
+        let piece = ShapedRun {
+            glyphs: piece.glyphs(),
+            positions: piece.positions(),
+            direction: piece.direction(),
+        };
+        self.splice_run(stretch, edit, piece)
+    }
+
+    /// The same with glyphs that stand in no buffer.
+    pub(crate) fn splice_run(
+        &mut self,
+        stretch: &Stretch,
+        edit: TextEdit,
+        piece: ShapedRun<'_>,
+    ) -> Result<(), ShaperError> {
+        let (len, added) = (self.len(), piece.glyphs.len());
         let Range { start, end } = stretch.glyphs;
         let is_backward = is_backward(self.direction());
         assert!(
-            self.positions().len() == len && piece.positions().len() == added,
+            self.positions().len() == len && piece.positions.len() == added,
             "each glyph has its position"
         );
         let behind = start + added;
@@ -200,7 +215,7 @@ impl Buffer {
         }
         if self.positions().len() < self.len() {
             // (a text without glyphs has no positions, and so gets none by growing)
-            let positions = crate::alloc::Vec::from_slice(self.alloc(), piece.positions());
+            let positions = crate::alloc::Vec::from_slice(self.alloc(), piece.positions);
             let positions = positions.map_err(|_| ShaperError::Memory);
             let are_set = positions.map(|positions| self.set_positions(positions));
             debug_assert!(are_set != Ok(false));
@@ -211,11 +226,11 @@ impl Buffer {
         }
         self.with_positions_mut(|positions| {
             positions.copy_within(end..len, behind);
-            positions[start..behind].copy_from_slice(piece.positions());
+            positions[start..behind].copy_from_slice(piece.positions);
         });
         self.with_glyphs_mut(|glyphs| {
             glyphs.copy_within(end..len, behind);
-            glyphs[start..behind].copy_from_slice(piece.glyphs());
+            glyphs[start..behind].copy_from_slice(piece.glyphs);
             move_clusters(&mut glyphs[start..behind], 0, stretch.text.start);
             let later = if is_backward {
                 0..start

@@ -2,7 +2,7 @@
 
 use super::{Face, Feature, ShapePlan, ShapePlanBuilder};
 use crate::alloc::{Global, Vec};
-use crate::buffer::{Direction, Script, ShaperError};
+use crate::buffer::{Buffer, Direction, Script, ShaperError};
 use crate::language::Language;
 
 /// How many plans a cache keeps: more than a text has scripts, directions and lists of features.
@@ -12,11 +12,14 @@ const MOST_PLANS: usize = 64;
 /// program that shapes many texts lends one to [`shape_with_cache`](super::shape_with_cache).
 ///
 /// A cache serves one face, as a plan does, and one thread at a time. It keeps 64 plans: the one that was
-/// made first goes for another.
+/// made first goes for another. It also keeps the room in which texts are shaped, which is that of the
+/// longest of them, so that a new [`UnicodeBuffer`](super::UnicodeBuffer) takes memory for its glyphs and
+/// positions alone.
 #[derive(Debug)]
 pub struct PlanCache {
     choices: ShapePlanBuilder<'static>,
     plans: Vec<Kept>,
+    room: Buffer,
 }
 
 impl Default for PlanCache {
@@ -59,6 +62,7 @@ impl PlanCache {
         PlanCache {
             choices,
             plans: Vec::new(Global),
+            room: Buffer::default(),
         }
     }
 
@@ -91,6 +95,20 @@ impl PlanCache {
         language: Option<Language>,
         features: &[Feature],
     ) -> Result<&ShapePlan, ShaperError> {
+        let made = self.plan_and_room(face, direction, script, language, features);
+        made.map(|(plan, _)| plan)
+    }
+
+    /// The same plan, and a buffer in which texts are shaped.
+    #[inline]
+    pub(super) fn plan_and_room(
+        &mut self,
+        face: &Face<'_>,
+        direction: Direction,
+        script: Option<Script>,
+        language: Option<Language>,
+        features: &[Feature],
+    ) -> Result<(&ShapePlan, &mut Buffer), ShaperError> {
         let found = self
             .plans
             .as_slice()
@@ -103,7 +121,7 @@ impl PlanCache {
             let builder = builder.direction(direction);
             self.keep(builder.features(features).build(face)?, features)?
         };
-        Ok(&self.plans.as_slice()[place].plan)
+        Ok((&self.plans.as_slice()[place].plan, &mut self.room))
     }
 
     /// Keeps a plan, and returns its place.

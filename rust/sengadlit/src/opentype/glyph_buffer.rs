@@ -1,8 +1,9 @@
 //! A text that has been shaped.
 
 use super::serialize::Serialized;
+use super::unicode_buffer::TextParts;
 use super::{Face, SerializeFlags, UnicodeBuffer};
-use crate::buffer::{Buffer, Direction, GlyphInfo, GlyphPosition, LookupRecord, ShaperError};
+use crate::buffer::{Direction, GlyphInfo, GlyphPosition, LookupRecord, ShaperError};
 use crate::editing::{ShapedRun, Stretch, TextEdit};
 use core::fmt::Write;
 use rust_alloc::string::{String, ToString};
@@ -21,14 +22,15 @@ impl GlyphBuffer {
         GlyphBuffer { text, is_complete }
     }
 
+    /// What became of the text.
     #[inline]
-    fn buffer(&self) -> &Buffer {
-        &self.text.parts().buffer
+    fn parts(&self) -> &TextParts {
+        self.text.parts()
     }
 
     /// How many glyphs the text has.
     pub fn len(&self) -> usize {
-        self.buffer().len()
+        self.parts().glyphs.len()
     }
 
     /// Whether the text has no glyphs.
@@ -48,22 +50,22 @@ impl GlyphBuffer {
     /// [`reshape`](Self::reshape) it is the record of what was shaped again, and complete if that of the
     /// old text was, too.
     pub fn lookup_record(&self) -> LookupRecord {
-        self.buffer().lookup_record()
+        self.parts().buffer.lookup_record()
     }
 
     /// The glyphs: numbers, clusters, and flags for line breakers (`mask & FLAGS`).
     pub fn glyph_infos(&self) -> &[GlyphInfo] {
-        self.buffer().glyphs()
+        &self.parts().glyphs
     }
 
     /// The position of each glyph, in font units or those of [`Face::with_scale`].
     pub fn glyph_positions(&self) -> &[GlyphPosition] {
-        self.buffer().positions()
+        &self.parts().positions
     }
 
     /// The direction in which the text was shaped.
     pub fn direction(&self) -> Direction {
-        self.buffer().direction()
+        self.parts().buffer.direction()
     }
 
     /// The glyphs and positions with the direction, as the module [`editing`](crate::editing) takes them.
@@ -91,8 +93,10 @@ impl GlyphBuffer {
         edit: TextEdit,
         piece: &GlyphBuffer,
     ) -> Result<(), ShaperError> {
-        let piece = piece.buffer();
-        self.text.parts_mut().buffer.splice(stretch, edit, piece)
+        let piece = piece.run();
+        self.text
+            .parts_mut()
+            .in_buffer(|buffer, _| buffer.splice_run(stretch, edit, piece))?
     }
 
     /// The glyphs in one line, as hb-shape prints them: `[gid3=0+563|gid9=1@10,0+0]`.

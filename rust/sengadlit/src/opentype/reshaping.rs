@@ -79,7 +79,7 @@ impl GlyphBuffer {
             };
             let Some(widened) = widened else {
                 let parts = self.text.parts_mut();
-                parts.buffer.splice(&stretch, edit, &piece)?;
+                parts.in_buffer(|buffer, _| buffer.splice(&stretch, edit, &piece))??;
                 self.record_lookups(&piece, stretch.text == (0..text.len()));
                 self.is_complete = true;
                 return Ok(stretch.text);

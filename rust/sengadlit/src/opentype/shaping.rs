@@ -1,9 +1,8 @@
 //! Texts are shaped.
 
 use super::steps::{ShapeStep, Told};
-use super::unicode_buffer::TextParts;
-use super::{Face, Feature, GlyphBuffer, PlanCache, ShapePlan, UnicodeBuffer};
-use crate::buffer::{Buffer, Direction, Script};
+use super::{Face, Feature, GlyphBuffer, PlanCache, Replacements, ShapePlan, UnicodeBuffer};
+use crate::buffer::{Buffer, Direction, Script, ShaperError};
 use crate::shaper::checked::CallError;
 use core::fmt;
 
@@ -118,8 +117,8 @@ pub fn try_shape_with_cache(
     text: UnicodeBuffer,
 ) -> Result<GlyphBuffer, ShapeError> {
     let (direction, script) = segment_of(&text);
-    match cache.plan(face, direction, script, text.language(), features) {
-        Ok(plan) => try_shape_with_plan(face, plan, text),
+    match cache.plan_and_room(face, direction, script, text.language(), features) {
+        Ok((plan, room)) => shape_in_room(face, plan, text, room),
         Err(refusal) => Err(ShapeError {
             error: refusal.into(),
             text,
@@ -148,22 +147,56 @@ fn shape_and_tell(
     mut text: UnicodeBuffer,
     told: Told<'_>,
 ) -> Result<GlyphBuffer, ShapeError> {
+    let lent = text
+        .parts_mut()
+        .in_buffer(|buffer, replacements| shape_lent(face, plan, replacements, told, buffer));
+    given_back(text, lent)
+}
+
+/// Shapes a text in a buffer whose room is used again.
+fn shape_in_room(
+    face: &Face<'_>,
+    plan: &ShapePlan,
+    mut text: UnicodeBuffer,
+    room: &mut Buffer,
+) -> Result<GlyphBuffer, ShapeError> {
+    let lent = text.parts_mut().in_room(room, |buffer, replacements| {
+        shape_lent(face, plan, replacements, None, buffer)
+    });
+    given_back(text, lent)
+}
+
+/// Shapes a text in the buffer to which it is lent. Where that fails the text stays as it is.
+// (called by each way, so that all of shaping is compiled once)
+#[inline(never)]
+fn shape_lent(
+    face: &Face<'_>,
+    plan: &ShapePlan,
+    replacements: &Replacements,
+    told: Told<'_>,
+    buffer: &mut Buffer,
+) -> Result<(), CallError> {
     let font = face.for_tags(plan.tags);
-    let TextParts {
-        buffer,
-        replacements,
-        ..
-    } = text.parts_mut();
     let (direction, script) = (buffer.direction(), buffer.script());
     buffer.set_direction(plan.direction());
     buffer.set_script(plan.script());
-    match plan.shape_and_tell(face, &font, &font, replacements, told, buffer) {
+    let shaped = plan.shape_and_tell(face, &font, &font, replacements, told, buffer);
+    if shaped.is_err() {
+        buffer.set_direction(direction);
+        buffer.set_script(script);
+    }
+    shaped
+}
+
+/// What became of a text that was lent.
+#[inline]
+fn given_back(
+    text: UnicodeBuffer,
+    lent: Result<Result<(), CallError>, ShaperError>,
+) -> Result<GlyphBuffer, ShapeError> {
+    match lent.map_err(CallError::from).and_then(|shaped| shaped) {
         Ok(()) => Ok(GlyphBuffer::new(text, true)),
-        Err(error) => {
-            buffer.set_direction(direction);
-            buffer.set_script(script);
-            Err(ShapeError { error, text })
-        }
+        Err(error) => Err(ShapeError { error, text }),
     }
 }
 
@@ -172,9 +205,8 @@ fn complete_or_empty(shaped: Result<GlyphBuffer, ShapeError>) -> GlyphBuffer {
     shaped.unwrap_or_else(|refused| {
         let mut text = refused.text;
         let (direction, _) = segment_of(&text);
-        let buffer = &mut text.parts_mut().buffer;
-        buffer.clear();
-        buffer.set_direction(direction);
+        text.clear();
+        text.set_direction(direction);
         GlyphBuffer::new(text, false)
     })
 }
@@ -182,7 +214,6 @@ fn complete_or_empty(shaped: Result<GlyphBuffer, ShapeError>) -> GlyphBuffer {
 #[cfg(test)]
 mod tests {
     use super::*;
-    use crate::buffer::ShaperError;
 
     // Each call takes a text by value and gives it back.
     #[test]

@@ -4,11 +4,14 @@ use super::SerializeFlags;
 use super::settings::Replacements;
 use crate::alloc::{Global, Vec};
 use crate::buffer::{
-    Buffer, BufferClusterLevel, BufferFlags, Direction, GlyphInfo, Script, ShaperError,
+    Buffer, BufferClusterLevel, BufferFlags, Direction, GlyphInfo, GlyphPosition, Script,
+    ShaperError,
 };
 use crate::font::GlyphId;
 use crate::language::Language;
+use crate::text::write_characters;
 use core::fmt::{self, Write};
+use core::slice;
 use rust_alloc::string::String;
 
 /// A text that is to be shaped: its characters with their clusters, and what is known of it.
@@ -22,9 +25,80 @@ pub struct UnicodeBuffer {
 
 /// What there is of a text. It stands behind a pointer, since a text is handed on and back by value.
 pub(super) struct TextParts {
+    /// The characters, or the glyphs that became of them.
+    pub glyphs: Vec<GlyphInfo>,
+    /// Their positions, once the text has been shaped.
+    pub positions: Vec<GlyphPosition>,
+    /// What else is known of the text. It has no glyphs but while a call works on them, and takes no memory
+    /// before that: the call may have a buffer of its own.
     pub buffer: Buffer,
     pub replacements: Replacements,
     pub language: Option<Language>,
+}
+
+impl TextParts {
+    /// Lends the text to a call, in its buffer.
+    ///
+    /// # Errors
+    ///
+    /// [`ShaperError::Memory`], for room in the buffer; nothing has changed then.
+    #[inline]
+    pub fn in_buffer<R>(
+        &mut self,
+        call: impl FnOnce(&mut Buffer, &Replacements) -> R,
+    ) -> Result<R, ShaperError> {
+        let TextParts {
+            glyphs,
+            positions,
+            buffer,
+            replacements,
+            ..
+        } = self;
+        lend(glyphs, positions, buffer, |buffer| {
+            call(buffer, replacements)
+        })
+    }
+
+    /// Lends the text to a call that shapes it, in a buffer whose room is used again.
+    ///
+    /// # Errors
+    ///
+    /// [`ShaperError::Memory`], for room in the buffer; nothing has changed then.
+    #[inline]
+    pub fn in_room<R>(
+        &mut self,
+        room: &mut Buffer,
+        call: impl FnOnce(&mut Buffer, &Replacements) -> R,
+    ) -> Result<R, ShaperError> {
+        // (a call that panicked may have left a text there)
+        room.truncate(0);
+        room.set_settings(&self.buffer.settings());
+        let (glyphs, positions) = (&mut self.glyphs, &mut self.positions);
+        let replacements = &self.replacements;
+        let result = lend(glyphs, positions, room, |buffer| call(buffer, replacements))?;
+        self.buffer.set_direction(room.direction());
+        self.buffer.set_script(room.script());
+        self.buffer.set_lookup_record(room.lookup_record());
+        Ok(result)
+    }
+}
+
+/// Puts a text into a buffer that has none, for a call, and takes out what becomes of it.
+#[inline]
+fn lend<R>(
+    glyphs: &mut Vec<GlyphInfo>,
+    positions: &mut Vec<GlyphPosition>,
+    buffer: &mut Buffer,
+    call: impl FnOnce(&mut Buffer) -> R,
+) -> Result<R, ShaperError> {
+    buffer.exchange_glyphs(glyphs)?;
+    let are_in = buffer.exchange_positions(positions);
+    let result = call(buffer);
+    let are_out = buffer.exchange_positions(positions);
+    debug_assert!(are_in && are_out, "each glyph has a position, or none has");
+    // (it gets its own list back, which is empty and takes no memory)
+    buffer.exchange_glyphs(glyphs)?;
+    Ok(result)
 }
 
 impl UnicodeBuffer {
@@ -47,6 +121,8 @@ impl UnicodeBuffer {
         buffer.set_direction(Direction::Invalid);
         let mut parts = Vec::with_capacity(Global, 1)?;
         let pushed = parts.push(TextParts {
+            glyphs: Vec::new(Global),
+            positions: Vec::new(Global),
             buffer,
             replacements: Replacements::default(),
             language: None,
@@ -77,9 +153,15 @@ impl UnicodeBuffer {
         &mut self.parts_mut().buffer
     }
 
+    /// The characters, or the glyphs that became of them.
+    #[inline]
+    fn glyphs(&self) -> slice::Iter<'_, GlyphInfo> {
+        self.parts().glyphs.iter()
+    }
+
     /// How many characters the text has.
     pub fn len(&self) -> usize {
-        self.buffer().len()
+        self.parts().glyphs.len()
     }
 
     /// Whether the text has no characters.
@@ -104,7 +186,25 @@ impl UnicodeBuffer {
     ///
     /// [`ShaperError::Memory`] and [`ShaperError::TooLong`]; nothing is added then.
     pub fn try_push_str(&mut self, text: &str) -> Result<(), ShaperError> {
-        self.buffer_mut().push_str(text)
+        if u32::try_from(text.len()).is_err() {
+            return Err(ShaperError::TooLong);
+        }
+        let count = text.chars().count();
+        let glyphs = self.list_for(count)?;
+        let start = glyphs.len();
+        glyphs.resize(start + count, GlyphInfo::DEFAULT)?;
+        write_characters(&mut glyphs[start..], text);
+        Ok(())
+    }
+
+    /// The list of characters, if it may have so many more.
+    #[inline]
+    fn list_for(&mut self, count: usize) -> Result<&mut Vec<GlyphInfo>, ShaperError> {
+        let TextParts { glyphs, buffer, .. } = self.parts_mut();
+        if buffer.max_len() - glyphs.len() < count {
+            return Err(ShaperError::TooLong);
+        }
+        Ok(glyphs)
     }
 
     /// Adds a character with its cluster.
@@ -123,8 +223,10 @@ impl UnicodeBuffer {
     ///
     /// [`ShaperError::Memory`] and [`ShaperError::TooLong`]; nothing is added then.
     pub fn try_add(&mut self, character: char, cluster: u32) -> Result<(), ShaperError> {
-        self.buffer_mut()
-            .push(GlyphInfo::of_character(character, cluster))
+        let pushed = self
+            .list_for(1)?
+            .push(GlyphInfo::of_character(character, cluster));
+        pushed.map_err(|_| ShaperError::Memory)
     }
 
     /// Makes room for so many more characters.
@@ -133,15 +235,13 @@ impl UnicodeBuffer {
     ///
     /// [`ShaperError::Memory`].
     pub fn try_reserve(&mut self, additional: usize) -> Result<(), ShaperError> {
-        let mut glyphs = self.buffer_mut().take_glyphs();
-        let reserved = glyphs.reserve(additional);
-        self.buffer_mut().exchange_glyphs(&mut glyphs)?;
-        reserved.map_err(|_| ShaperError::Memory)
+        self.parts_mut().glyphs.reserve(additional)?;
+        Ok(())
     }
 
     /// The characters with their clusters.
     pub fn characters(&self) -> impl Iterator<Item = (char, u32)> + Clone + '_ {
-        self.buffer().iter().map(|glyph| {
+        self.glyphs().map(|glyph| {
             let character = char::from_u32(glyph.glyph_id).unwrap_or(char::REPLACEMENT_CHARACTER);
             (character, glyph.cluster)
         })
@@ -149,11 +249,9 @@ impl UnicodeBuffer {
 
     /// Numbers the clusters of the characters 0, 1, 2 ..
     pub fn reset_clusters(&mut self) {
-        self.buffer_mut().with_glyphs_mut(|glyphs| {
-            for (glyph, cluster) in glyphs.iter_mut().zip(0..) {
-                glyph.cluster = cluster;
-            }
-        });
+        for (glyph, cluster) in self.parts_mut().glyphs.iter_mut().zip(0..) {
+            glyph.cluster = cluster;
+        }
     }
 
     /// Sets the text before this one, of which the last five characters are kept. Arabic letters join
@@ -215,16 +313,30 @@ impl UnicodeBuffer {
     // The script of the first character that has one of its own.
     pub(super) fn guessed_script(&self) -> Option<Script> {
         let mut characters = self
-            .buffer()
-            .iter()
+            .glyphs()
             .filter_map(|glyph| char::from_u32(glyph.glyph_id));
         characters.find_map(Script::of_char)
     }
 
     /// Brings the characters of each grapheme, as a letter with its accents, into one cluster. With the
     /// level `Characters`, at which no other clusters merge, that is HarfBuzz's level Graphemes.
+    ///
+    /// # Panics
+    ///
+    /// Memory is refused: see [`try_merge_graphemes`](Self::try_merge_graphemes).
     pub fn merge_graphemes(&mut self) {
-        self.buffer_mut().merge_graphemes();
+        self.try_merge_graphemes().expect("memory isn't refused");
+    }
+
+    /// Brings the characters of each grapheme into one cluster, as
+    /// [`merge_graphemes`](Self::merge_graphemes) does.
+    ///
+    /// # Errors
+    ///
+    /// [`ShaperError::Memory`]; nothing has changed then.
+    pub fn try_merge_graphemes(&mut self) -> Result<(), ShaperError> {
+        self.parts_mut()
+            .in_buffer(|buffer, _| buffer.merge_graphemes())
     }
 
     /// The flags that say where the text begins and ends, and what shaping does beside its work.
@@ -300,9 +412,12 @@ impl UnicodeBuffer {
     /// Makes the buffer ready for another text. It keeps cluster level, flags, the glyphs for what the
     /// font lacks, and memory.
     pub fn clear(&mut self) {
-        self.buffer_mut().clear();
-        self.buffer_mut().set_direction(Direction::Invalid);
-        self.parts_mut().language = None;
+        let parts = self.parts_mut();
+        parts.glyphs.clear();
+        parts.positions.clear();
+        parts.buffer.clear();
+        parts.buffer.set_direction(Direction::Invalid);
+        parts.language = None;
     }
 }
 
@@ -314,10 +429,7 @@ impl Default for UnicodeBuffer {
 
 impl fmt::Debug for UnicodeBuffer {
     fn fmt(&self, f: &mut fmt::Formatter<'_>) -> fmt::Result {
-        let characters = self
-            .buffer()
-            .iter()
-            .map(|glyph| (glyph.glyph_id, glyph.cluster));
+        let characters = self.glyphs().map(|glyph| (glyph.glyph_id, glyph.cluster));
         f.debug_struct("UnicodeBuffer")
             .field("direction", &self.direction())
             .field("script", &self.script())

@@ -67,6 +67,13 @@ fn calls_that_find_syllables_or_take_a_text() {
 fn texts_of_one_call_are_given_back() {
     one_call::texts_are_given_back();
     one_call::a_new_buffer_may_be_refused();
+    one_call::graphemes_that_are_refused_stay_as_they_are();
+}
+
+#[cfg(feature = "opentype")]
+#[test]
+fn a_new_text_takes_memory_for_itself_alone() {
+    one_call::a_cache_lends_its_room();
 }
 
 #[cfg(feature = "opentype")]

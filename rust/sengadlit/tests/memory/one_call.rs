@@ -63,3 +63,32 @@ pub fn texts_are_given_back() {
     );
     is_given_back(|text| try_shape_with_plan(&face, &plan, text));
 }
+
+/// With a cache that has shaped a text, a new one takes memory for itself, its characters and its positions.
+pub fn a_cache_lends_its_room() {
+    let data = font();
+    let face = Face::parse(&data, 0).unwrap();
+    let mut cache = PlanCache::new();
+    let mut requests_of_text = || {
+        let (shaped, requests) = refusing(0, || {
+            try_shape_with_cache(&face, &mut cache, &[], unicode_buffer())
+        });
+        assert_eq!(shaped.unwrap().len(), 3);
+        requests
+    };
+    requests_of_text();
+    for _ in 0..3 {
+        assert_eq!(requests_of_text(), 3);
+    }
+}
+
+pub fn graphemes_that_are_refused_stay_as_they_are() {
+    let mut text = unicode_buffer();
+    let before = seen(&text);
+    let (refused, _) = refusing(1, || text.try_merge_graphemes());
+    assert_eq!(refused, Err(ShaperError::Memory));
+    assert_eq!(seen(&text), before);
+    text.merge_graphemes();
+    let clusters = text.characters().map(|(_, cluster)| cluster);
+    assert!(clusters.eq([0, 0, 4]));
+}
