@@ -4,6 +4,7 @@ use Rattle.shapers_buffer.specs.Glyph.{default_glyph}
 use Rattle.shapers_buffer.specs.Glyphs.{Glyphs}
 use Rattle.shapers_indic.proofs.RowWords.{C, V, N, H, ZWNJ, ZWJ, M, SM, MPst, CM, of, plainly, with_row_marks, script, row_positions}
 use Rattle.shapers_indic_initial.proofs.InitialWords.{ligated_at, rules, no_masks}
+use Rattle.shapers_indic_initial.specs.PairWalk.{is_consonant_with_sign}
 use Rattle.shapers_indic_initial.specs.InitialPositions.{by_base, halant_places, with_attached, with_signs, with_halants, with_marks_attached, with_owners, with_owners_after}
 
 -- glyphs of positions
@@ -141,3 +142,18 @@ with_ligature = of ((H, 4) ∷ []) ++ with_row_marks 0x20 (record (default_glyph
 
 ligature : row_positions (with_owners with_ligature) ≡ 11 ∷ 11 ∷ 11 ∷ []
 ligature = refl
+
+-- a consonant at the base with a vowel sign or a modifier; another pair, one glyph and three aren't
+with_sign : map is_consonant_with_sign (of ((C, 4) ∷ (M, 9) ∷ []) ∷ of ((C, 4) ∷ (M, 2) ∷ [])
+    ∷ of ((C, 4) ∷ (MPst, 12) ∷ []) ∷ of ((C, 4) ∷ (SM, 13) ∷ []) ∷ []) ≡ true ∷ true ∷ true ∷ true ∷ []
+with_sign = refl
+
+without_sign : map is_consonant_with_sign (of ((C, 4) ∷ (H, 4) ∷ []) ∷ of ((C, 4) ∷ (C, 4) ∷ [])
+    ∷ of ((C, 4) ∷ (N, 4) ∷ []) ∷ of ((C, 8) ∷ (M, 9) ∷ []) ∷ of ((V, 4) ∷ (M, 9) ∷ []) ∷ of ((C, 4) ∷ [])
+    ∷ of ((C, 4) ∷ (M, 9) ∷ (SM, 13) ∷ []) ∷ [] ∷ [])
+    ≡ false ∷ false ∷ false ∷ false ∷ false ∷ false ∷ false ∷ false ∷ []
+without_sign = refl
+
+with_ligated : map is_consonant_with_sign (ligated_at 0 (of ((C, 4) ∷ (M, 9) ∷ []))
+    ∷ ligated_at 1 (of ((C, 4) ∷ (M, 9) ∷ [])) ∷ []) ≡ false ∷ true ∷ []
+with_ligated = refl

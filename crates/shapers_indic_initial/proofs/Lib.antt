@@ -1,4 +1,5 @@
 mod Bases
+mod ConsonantWithSign
 pub mod CycleMerges
 pub mod CycleSteps
 pub mod CycleWays

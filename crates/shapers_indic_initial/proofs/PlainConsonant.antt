@@ -28,7 +28,7 @@ use Rattle.shapers_indic_initial.specs.InitialPositions.{halant_places}
 use Rattle.shapers_indic_initial.specs.InitialReordering.{halant_step, in_indic_order, initial_order, initial_steps, is_reordered_in_indic, joiner_step, masked_in_order, indic_order_step, positioned, steps_of_reordered, with_base_positions, with_joiner_first, with_marks_and_owners}
 use Rattle.shapers_indic_initial.specs.InitialRules.{Rules}
 
-not_true : (b : Bool) → not b ≡ true → b ≡ false
+pub not_true : (b : Bool) → not b ≡ true → b ≡ false
 not_true true h = sym h
 not_true false h = refl
 

@@ -14,4 +14,5 @@ pub mod MarkWalk
 pub mod MovedWalk
 pub mod OrderWalk
 pub mod OrderWays
+pub mod PairWalk
 pub mod Proved

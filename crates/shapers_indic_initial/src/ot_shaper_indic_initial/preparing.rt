@@ -5,6 +5,7 @@ ghost use Rattle.shapers_buffer.specs.declared.buffer.placement.Placement.TheVar
 ghost use Rattle.shapers_indic_initial.specs.InitialReordering.{halant_steps, joiner_steps, first_steps, positioned, with_halant_moved, with_joiner_first, with_marks_and_owners};
 ghost use Rattle.shapers_indic_initial.specs.InitialRules as initial;
 ghost use Rattle.shapers_indic_initial.specs.InitialRules.{initial_rules};
+ghost use Rattle.shapers_indic_initial.specs.PairWalk.{is_consonant_with_sign};
 ghost use Rattle.shapers_indic_initial.specs.MovedWalk.{IsUnlisted, MovesUnlisted, PositionsSet, moved_buffer, moved_first_by};
 ghost use Rattle.shapers_syllabic.specs.Reordering.{SyllableReordered};
 
@@ -17,6 +18,8 @@ use shapers_base::buffer::{
     GlyphWalk, Placement, Script, SyllableReading, hb_buffer_t, hb_glyph_info_t,
 };
 use shapers_base::font::hb_font_t;
+use shapers_base::plan::ot_category_t::{OT_C, OT_M, OT_MPst, OT_SM};
+use shapers_base::plan::ot_position_t::POS_BASE_C;
 
 /// Prepares the syllable from `start` to `end` for its order, and returns its first moves, which
 /// aren't written yet. Kannada's opening Ra, H, ZWJ becomes Ra, ZWJ, H; the glyphs get their
@@ -41,6 +44,14 @@ pub(super) fn prepare_for_order<F: hb_font_t>(
         let steps = first_steps r buffer.old.script in
         SyllableReordered meaning steps start end buffer.old (moved_buffer result buffer.new) }
 {
+    if is_consonant_with_sign(&buffer.glyphs()[start..end]) {
+        return MovedSyllable {
+            first: Placement::Stays,
+            second: Placement::Stays,
+            start,
+            end,
+        };
+    }
     let script = buffer.script();
     let first = put_joiner_first(script, buffer, start, end);
     let second = set_positions(rules, first, buffer, start, end);
@@ -49,6 +60,23 @@ pub(super) fn prepare_for_order<F: hb_font_t>(
         second,
         start,
         end,
+    }
+}
+
+// Whether a syllable is one consonant at the base and a vowel sign or a modifier. Many are: nothing in
+// them moves, and their positions are those that they have.
+#[inline]
+fn is_consonant_with_sign(syllable: &[hb_glyph_info_t]) -> bool
+    ensures { result ≡ is_consonant_with_sign syllable.now }
+{
+    match syllable {
+        [first, second] => {
+            first.category == OT_C
+                && first.auxiliary == POS_BASE_C
+                && !first.glyph_props.is_ligated()
+                && matches!(second.category, OT_M | OT_MPst | OT_SM)
+        }
+        _ => false,
     }
 }
 
@@ -100,7 +128,7 @@ fn set_positions_of_moved<F: hb_font_t>(
 }
 
 // Sets these positions part by part.
-#[inline]
+#[inline(always)]
 fn set_positions_behind<F: hb_font_t>(
     rules: &Rules<F>,
     first: Placement,
@@ -269,7 +297,7 @@ impl<'a, F: hb_font_t> GlyphWalk for PositionsByBase<'a, F> {
         (w.base.place ≡ base_place r gs) × (w.base.has_reph ≡ has_indic_reph r gs)
         × (hs ≡ by_base w.base.place w.base.has_reph gs) };
 
-    #[inline]
+    #[inline(always)]
     fn walk(&mut self, glyphs: &mut [hb_glyph_info_t]) {
         self.base = find_base(self.rules, glyphs);
         set_positions_by_base(glyphs, self.base);
@@ -291,7 +319,7 @@ impl GlyphWalk for PositionsOfMarks {
 
     ghost walks = { λ v w gs hs. hs ≡ with_marks_and_owners v.base gs };
 
-    #[inline]
+    #[inline(always)]
     fn walk(&mut self, glyphs: &mut [hb_glyph_info_t]) {
         set_positions_of_marks(glyphs, self.base);
     }

@@ -12,6 +12,8 @@ use crate::generated::shapers_base::buffer::{
     Buffer, GlyphInfo, GlyphWalk, Placement, Script, SyllableReading,
 };
 use crate::generated::shapers_base::font::Font;
+use crate::generated::shapers_base::plan::ot_category_t::{OT_C, OT_M, OT_MPst, OT_SM};
+use crate::generated::shapers_base::plan::ot_position_t::POS_BASE_C;
 
 /// Prepares the syllable from `start` to `end` for its order, and returns its first moves, which
 /// aren't written yet. Kannada's opening Ra, H, ZWJ becomes Ra, ZWJ, H; the glyphs get their
@@ -24,6 +26,14 @@ pub(super) fn prepare_for_order<F: Font>(
     start: usize,
     end: usize,
 ) -> MovedSyllable {
+    if is_consonant_with_sign(&buffer.glyphs()[start..end]) {
+        return MovedSyllable {
+            first: Placement::Stays,
+            second: Placement::Stays,
+            start,
+            end,
+        };
+    }
     let script = buffer.script();
     let first = put_joiner_first(script, buffer, start, end);
     let second = set_positions(rules, first, buffer, start, end);
@@ -32,6 +42,21 @@ pub(super) fn prepare_for_order<F: Font>(
         second,
         start,
         end,
+    }
+}
+
+// Whether a syllable is one consonant at the base and a vowel sign or a modifier. Many are: nothing in
+// them moves, and their positions are those that they have.
+#[inline]
+fn is_consonant_with_sign(syllable: &[GlyphInfo]) -> bool {
+    match syllable {
+        [first, second] => {
+            first.category == OT_C
+                && first.auxiliary == POS_BASE_C
+                && !first.glyph_props.is_ligated()
+                && matches!(second.category, OT_M | OT_MPst | OT_SM)
+        }
+        _ => false,
     }
 }
 
@@ -65,7 +90,7 @@ fn set_positions_of_moved<F: Font>(
 }
 
 // Sets these positions part by part.
-#[inline]
+#[inline(always)]
 fn set_positions_behind<F: Font>(
     rules: &Rules<F>,
     first: Placement,
@@ -174,7 +199,7 @@ struct PositionsByBase<'a, F: Font> {
 }
 
 impl<'a, F: Font> GlyphWalk for PositionsByBase<'a, F> {
-    #[inline]
+    #[inline(always)]
     fn walk(&mut self, glyphs: &mut [GlyphInfo]) {
         self.base = find_base(self.rules, glyphs);
         set_positions_by_base(glyphs, self.base);
@@ -188,7 +213,7 @@ struct PositionsOfMarks {
 }
 
 impl GlyphWalk for PositionsOfMarks {
-    #[inline]
+    #[inline(always)]
     fn walk(&mut self, glyphs: &mut [GlyphInfo]) {
         set_positions_of_marks(glyphs, self.base);
     }
