@@ -1,6 +1,8 @@
 -- Pauses that change each glyph by itself leave the results of a text's pieces side by side; the pauses of each shaper.
 use Rattle.std.proofs.Common.{ℕ, ◌≡◌, if◌then◌else◌, Bool, true, false, [], ◌∷◌, ◌++◌, map, refl, sym, ap, ◌∙◌}
 use Rattle.std.proofs.lemmas.List.{map-id}
+use Rattle.shapers_base.specs.declared.plan.hb_ot_shape_plan_t.{hb_ot_shape_plan_t}
+use Rattle.shapers_base.specs.declared.plan.pause.Pause.{Pause}
 use Rattle.shapers_base.specs.declared.plan.pause.Pause.TheVariants.{SetupSyllablesIndic, SetupSyllablesKhmer, SetupSyllablesMyanmar, SetupSyllablesUse, InitialReordering, ReorderKhmer, ReorderMyanmar, ReorderUse, FinalReordering, RecordStch, RecordRphf, RecordPref, SyllabicClearVar, ClearSubstitutionFlags, ArabicFallbackShape}
 use Rattle.shapers_arabic.specs.Requests.{arabic_list, is_arabic}
 use Rattle.shapers_buffer.specs.Buffer.{Buffer}
@@ -70,6 +72,12 @@ if_stretched : (b : Bool) → ChangesGlyphs (λ g. if b then recorded g else g)
 if_stretched true = reads_order recorded tiles
 if_stretched false = reads_order (λ g. g) still
 
+pub glyph_changes : (pause : Pause) (plan : hb_ot_shape_plan_t) → ChangesGlyphs (glyph_paused pause plan)
+glyph_changes RecordStch plan = if_stretched (has_stch plan.plan_data)
+glyph_changes SyllabicClearVar plan = clears_syllables
+glyph_changes ClearSubstitutionFlags plan = reads_order unsubstituted cleared
+glyph_changes _ plan = reads_order (λ g. g) still
+
 same_map : (gs : Glyphs) → gs ≡ map (λ g. g) gs
 same_map gs = sym (map-id gs)
 
@@ -81,19 +89,19 @@ recorded_is false old = same_map old.glyphs
 pub pauses_leave : PausesLeavePieces
 pauses_leave RecordStch plan font spans old new by is = (
   ap (λ (b : Buffer). b.glyphs) is ∙ recorded_is (has_stch plan.plan_data) old,
-  leaves_by_glyph (glyph_paused RecordStch plan) (if_stretched (has_stch plan.plan_data)) old.glyphs,
+  leaves_by_glyph (glyph_paused RecordStch plan) (glyph_changes RecordStch plan) old.glyphs,
 )
 pauses_leave SyllabicClearVar plan font spans old new by is = (
   ap (λ (b : Buffer). b.glyphs) is,
-  leaves_by_glyph (glyph_paused SyllabicClearVar plan) clears_syllables old.glyphs,
+  leaves_by_glyph (glyph_paused SyllabicClearVar plan) (glyph_changes SyllabicClearVar plan) old.glyphs,
 )
 pauses_leave ClearSubstitutionFlags plan font spans old new by is = (
   ap (λ (b : Buffer). b.glyphs) is,
-  leaves_by_glyph (glyph_paused ClearSubstitutionFlags plan) (reads_order unsubstituted cleared) old.glyphs,
+  leaves_by_glyph (glyph_paused ClearSubstitutionFlags plan) (glyph_changes ClearSubstitutionFlags plan) old.glyphs,
 )
 pauses_leave ArabicFallbackShape plan font spans old new by is = (
   ap (λ (b : Buffer). b.glyphs) is ∙ same_map old.glyphs,
-  leaves_by_glyph (glyph_paused ArabicFallbackShape plan) (reads_order (λ g. g) still) old.glyphs,
+  leaves_by_glyph (glyph_paused ArabicFallbackShape plan) (glyph_changes ArabicFallbackShape plan) old.glyphs,
 )
 pauses_leave SetupSyllablesIndic plan font spans old new by is = absurd cc
 pauses_leave SetupSyllablesKhmer plan font spans old new by is = absurd cc

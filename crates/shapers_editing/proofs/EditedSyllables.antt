@@ -48,7 +48,7 @@ both-cover gs hs ss ts a b =
     )))
 
 -- two lists that begin with F and end with B
-same-ends : {X : Type 0} (f b one two three four xs ys : List X) → xs ≡ f ++ one → xs ≡ two ++ b → ys ≡ f ++ three → ys
+pub same-ends : {X : Type 0} (f b one two three four xs ys : List X) → xs ≡ f ++ one → xs ≡ two ++ b → ys ≡ f ++ three → ys
     ≡ four ++ b → AlikeAtEnds (length f) (length b) xs ys
 same-ends f b one two three four xs ys a c d e =
     record {

@@ -11,5 +11,7 @@ pub mod Shared
 pub mod SpanEdits
 pub mod StopRooms
 pub mod Stops
+pub mod PiecesAlike
 pub mod PipelineBreaks
 mod PipelineBreakRows
+mod LigatureBreakRows

@@ -1,5 +1,5 @@
 -- Lookups, notes, pauses and pieces of small texts, written out from what the law of the whole pipeline needs.
-use Rattle.std.proofs.Common.{ℕ, ◌≡◌, [], ◌∷◌, refl, sym, ap, subst, arith, inl}
+use Rattle.std.proofs.Common.{ℕ, ◌≡◌, [], ◌∷◌, refl, ap, arith, inl}
 use Rattle.shapers_arabic.specs.Breaks.{back_at, front_at}
 use Rattle.shapers_base.specs.Font.{Font}
 use Rattle.shapers_base.specs.declared.plan.hb_ot_shape_plan_t.{hb_ot_shape_plan_t}
@@ -8,10 +8,10 @@ use Rattle.shapers_buffer.specs.Buffer.{Buffer, new_buffer}
 use Rattle.shapers_buffer.specs.Glyph.{default_glyph}
 use Rattle.shapers_buffer.specs.Glyphs.{Glyph}
 use Rattle.shapers_buffer.specs.declared.buffer.glyph_props.GlyphProps.{GlyphProps}
-use Rattle.shapers_break_laws.specs.Pieces.{SameButFlags}
 use Rattle.shapers_pipeline.specs.Lookups.{text_noted}
 use Rattle.shapers_pipeline.specs.Prepared.{Preparation, text_in_fractions, text_prepared}
-use Rattle.shapers_editing.specs.PipelineBreaks.{CutBufferWhereClear, LookupsLeavePieces, NotesReadOrder, PauseLeaves, glyphs_made}
+use Rattle.shapers_plan.specs.declared.ot_map.lookups.StageLookup.{StageLookup}
+use Rattle.shapers_editing.specs.PipelineBreaks.{CutBufferWhereClear, LookupLeaves, NotesReadOrder, Numbering, PauseLeaves, glyphs_made}
 
 -- what is made from the fractions on is what preparation makes, with its notes
 row_whole : (p : Preparation) (noted : Glyph → GlyphProps) (b : Buffer)
@@ -19,13 +19,14 @@ row_whole : (p : Preparation) (noted : Glyph → GlyphProps) (b : Buffer)
 row_whole p noted b = refl
 
 -- lookups that do nothing leave results side by side
-row_idle : LookupsLeavePieces (λ lookup b. b)
-row_idle lookup b none front back cut = record {
+row_idle : (numbered : Numbering) (text : Buffer) (lookup : StageLookup) (b : Buffer)
+    → LookupLeaves numbered text (λ lookup b. b) lookup b
+row_idle numbered text lookup b front back cut = record {
   before = front;
   behind = back;
   pieces = cut;
-  first = λ old new positions same is. subst (λ (c : Buffer). SameButFlags c.glyphs front) (sym is) same;
-  second = λ old new positions same is. subst (λ (c : Buffer). SameButFlags c.glyphs back) (sym is) same;
+  first = λ one is. is.same;
+  second = λ one is. is.same;
 }
 
 -- notes of glyph numbers, as classes are, and notes of clusters, of glyph flags and of serials
@@ -52,10 +53,10 @@ unfolding glyph noting
 row_serials notes = absurd (omega (arith, ap (λ (p : GlyphProps). p.0) (notes.counted (glyph 0 0 0x12))))
 
 -- the pauses that need no premise
-row_pauses : (plan : hb_ot_shape_plan_t) (font : Font) (old new : Buffer) → PauseLeaves plan font RecordStch old new
-    × (PauseLeaves plan font SyllabicClearVar old new × (PauseLeaves plan font ClearSubstitutionFlags old new
-    × PauseLeaves plan font ArabicFallbackShape old new))
-row_pauses plan font old new = (inl refl, (inl refl, (inl refl, inl refl)))
+row_pauses : (numbered : Numbering) (text : Buffer) (plan : hb_ot_shape_plan_t) (font : Font) (old new : Buffer)
+    → let Leaves = PauseLeaves numbered text plan font in Leaves RecordStch old new
+    × (Leaves SyllabicClearVar old new × (Leaves ClearSubstitutionFlags old new × Leaves ArabicFallbackShape old new))
+row_pauses numbered text plan font old new = (inl refl, (inl refl, (inl refl, inl refl)))
 
 -- a buffer cut where its text is clear, and where it is flagged
 two : ℕ → Buffer

@@ -1,6 +1,6 @@
 //! Carets, edits and breaks of a text that is shaped all the way.
 ghost use Rattle.shapers_editing.specs.EditedNormal.{NormalizedOutside};
-ghost use Rattle.shapers_editing.specs.PipelineBreaks.{MasksSetInPieces, PipelineBreaks, ShaperStagesBreak, ShapingBreaks, StagesLeavePieces};
+ghost use Rattle.shapers_editing.specs.PipelineBreaks.{MasksSetInPieces, PipelineBreaks, ShaperStagesBreak, ShapingBreaks, SinglesLeavePieces, StagesLeavePieces};
 ghost use Rattle.shapers_editing.specs.ShapedCarets.{ShapedTextHasCarets};
 
 use shapers_break_laws::shapers_break_law;
@@ -26,12 +26,14 @@ pub fn normalization_edits_law()
     normalization_halves_law();
 }
 
-/// A text may be broken at every clear place behind the stages of its lookups, where these leave the
-/// pieces' results side by side and each pause does: what becomes of each piece by itself is what
-/// became of it in the text. From its fractions on, where its masks are set piece by piece; from its
+/// A text may be broken at every clear place behind the stages of its lookups, where each lookup
+/// leaves the pieces' results side by side in the text that it was given, as single substitutions do,
+/// and each pause does: what becomes of each piece by itself is what became of it in the text, up to
+/// the numbers of ligatures. From its fractions on, where its masks are set piece by piece; from its
 /// characters on, where these are prepared and normalized so.
 pub fn pipeline_breaks_law()
     ensures stages { StagesLeavePieces }
+    ensures singles { SinglesLeavePieces }
     ensures masks { MasksSetInPieces }
     ensures texts { PipelineBreaks }
     ensures shaping { ShapingBreaks }
