@@ -1,0 +1,4 @@
+pub mod OnceInRules
+pub mod KeptCategories
+pub mod FoundOpenings
+mod FoundRows
