@@ -37,10 +37,12 @@ SCRIPTS = {
 # How many words and lines are counted, and how long a line is at least.
 WORDS, LINES, LENGTH = 60, 6, 130
 PROGRAMS = ["sengadlit", "harfrust", "harfbuzz"]
-WAYS = ["kept", "cache", "anew", "parsed"]
-# The two others have no face that isn't prepared.
-PEERS_WAYS = {"parsed": "kept"}
+WAYS = ["kept", "cache", "prepared", "anew", "parsed"]
+# The two others have one face, which isn't prepared.
+PEERS_WAYS = {"parsed": "kept", "prepared": "anew"}
 KINDS = ["words", "lines"]
+# What is counted once a font: its bytes are read and ten words shaped; it is read and prepared.
+FIRST, PREPARE = "first", "prepare"
 
 
 def spread(items, count):
@@ -95,7 +97,7 @@ class Count:
         """Instructions of a text, the mean over a file, and the sum that the program prints."""
         program, way, (script, code, direction, font), kind = job
         texts = self.folder / "texts" / f"{script}.{kind}"
-        count = len(texts.read_text("utf-8").splitlines())
+        count = 1 if way in (FIRST, PREPARE) else len(texts.read_text("utf-8").splitlines())
         one, three = (collected([*self.commands[program], font, str(texts), times, way, code, direction]) for times in "13")
         return (three[0] - one[0]) / 2 / count, one[1]
 
@@ -103,7 +105,9 @@ class Count:
 def jobs_of(rows):
     """What is counted: program, way, script and kind of text."""
     jobs = [(program, way, row, kind) for row in rows for kind in KINDS for way in WAYS for program in PROGRAMS]
-    return [job for job in jobs if job[0] == PROGRAMS[0] or job[1] not in PEERS_WAYS]
+    jobs = [job for job in jobs if job[0] == PROGRAMS[0] or job[1] not in PEERS_WAYS]
+    jobs += [(program, FIRST, row, "words") for row in rows for program in PROGRAMS]
+    return jobs + [(PROGRAMS[0], PREPARE, row, "words") for row in rows]
 
 
 def instructions(counts, program, way, row, kind):
@@ -117,28 +121,44 @@ def mean(numbers):
     return math.exp(sum(map(math.log, numbers)) / len(numbers))
 
 
+def cells_of(counts, way, row, kind):
+    """Instructions of a text here, and ratios beside the peers."""
+    own, *peers = [instructions(counts, program, way, row, kind) for program in PROGRAMS]
+    return [f"{own:.0f}", *(f"{own / peer:.2f}" for peer in peers)]
+
+
+def word_that_pays(counts, row):
+    """The first word by which a face has gained what preparing it takes, if there is one."""
+    kept, parsed = (instructions(counts, PROGRAMS[0], way, row, "words") for way in ("kept", "parsed"))
+    if kept >= parsed:
+        return ""
+    return str(math.ceil(counts[PROGRAMS[0], PREPARE, row, "words"][0] / (parsed - kept)))
+
+
 def rows_of(rows, counts):
-    """The rows of the table: instructions of a text here, and ratios beside the peers, by kind and way."""
+    """The rows of the table: by kind and way, and with the words what is counted once a font."""
     for row in rows:
         for kind in KINDS:
-            cells = []
-            for way in WAYS:
-                own, *peers = [instructions(counts, program, way, row, kind) for program in PROGRAMS]
-                cells += [f"{own:.0f}", *(f"{own / peer:.2f}" for peer in peers)]
+            cells = [cell for way in WAYS for cell in cells_of(counts, way, row, kind)]
+            if kind == "words":
+                cells += [*cells_of(counts, FIRST, row, kind), word_that_pays(counts, row)]
             yield [row[0], kind, *cells]
 
 
+def means_of(rows, counts, kind):
+    """The row of means."""
+    for way in [*WAYS, *([FIRST] if kind == "words" else [])]:
+        own, *peers = [[instructions(counts, program, way, row, kind) for row in rows] for program in PROGRAMS]
+        yield from ("", *(f"{mean(map(operator.truediv, own, peer)):.2f}" for peer in peers))
+
+
 def print_table(rows, counts):
-    ways = [f"{way}: {what}" for way in WAYS for what in ("here", "HarfRust", "HarfBuzz")]
-    print("\t".join(["script", "texts", *ways]))
+    ways = [f"{way}: {what}" for way in [*WAYS, FIRST] for what in ("here", "HarfRust", "HarfBuzz")]
+    print("\t".join(["script", "texts", *ways, "pays from word"]))
     for cells in rows_of(rows, counts):
         print("\t".join(cells))
     for kind in KINDS:
-        ratios = []
-        for way in WAYS:
-            own, *peers = [[instructions(counts, program, way, row, kind) for row in rows] for program in PROGRAMS]
-            ratios += [f"{mean(map(operator.truediv, own, peer)):.2f}" for peer in peers]
-        print("\t".join(["mean", kind, *(cell for pair in zip(ratios[::2], ratios[1::2]) for cell in ("", *pair))]))
+        print("\t".join(["mean", kind, *means_of(rows, counts, kind)]))
 
 
 def count(folder, loader, wanted):
@@ -149,10 +169,13 @@ def count(folder, loader, wanted):
         counts = dict(zip(jobs, pool.map(Count(folder, loader).text, jobs)))
     print_table(rows, counts)
     sums = {}
-    for _, _, row, kind in jobs:
-        sums[row[0], kind] = {counts[job][1] for job in jobs if job[2:] == (row, kind)}
+    for _, way, row, kind in jobs:
+        if way != PREPARE:
+            # (the first ten words have a sum of their own)
+            alike = [job for job in jobs if job[2:] == (row, kind) and (job[1] == FIRST) == (way == FIRST) and job[1] != PREPARE]
+            sums[row[0], kind, way == FIRST] = {counts[job][1] for job in alike}
     differ = sorted(which for which, found in sums.items() if len(found) > 1)
-    for script, kind in differ:
+    for script, kind, _ in differ:
         print(f"the glyphs of {script}, {kind}, aren't the same")
     print(f"{len(jobs)} passed, {len(differ)} failed")
     return 1 if differ else 0

@@ -1,8 +1,7 @@
 //! Shapes the lines of a file with the crate: `sengadlit FONT TEXTS TIMES HOW SCRIPT DIRECTION`.
 
 use sengadlit::{
-    Direction, Face, PlanCache, Script, ShapePlan, UnicodeBuffer, shape, shape_with_cache,
-    shape_with_plan,
+    Direction, Face, GlyphBuffer, PlanCache, Script, ShapePlan, UnicodeBuffer, shape, shape_with_cache, shape_with_plan,
 };
 use std::{env, fs, process};
 
@@ -13,10 +12,13 @@ enum Kept {
     Plan(ShapePlan),
 }
 
+/// How many texts are shaped with a font that has just been read.
+const FIRST: usize = 10;
+
 fn main() {
     let arguments: Vec<String> = env::args().skip(1).collect();
     let [font, texts, times, how, script, direction] = &arguments[..] else {
-        eprintln!("usage: sengadlit FONT TEXTS TIMES anew|cache|parsed|kept SCRIPT ltr|rtl");
+        eprintln!("usage: sengadlit FONT TEXTS TIMES anew|cache|first|kept|parsed|prepare|prepared SCRIPT ltr|rtl");
         process::exit(2);
     };
     let data = fs::read(font).expect("the font can be read");
@@ -28,31 +30,74 @@ fn main() {
         "rtl" => Direction::RightToLeft,
         _ => Direction::LeftToRight,
     };
-    let mut face = Face::parse(&data, 0).expect("a font");
-    if matches!(how.as_str(), "kept" | "cache") {
+    let sum = match how.as_str() {
+        "first" => first(&data, &lines, times, script, direction),
+        "prepare" => prepare(&data, times),
+        how => shape_all(&data, &lines, times, how, script, direction),
+    };
+    println!("{sum}");
+}
+
+/// Adds up the numbers of the glyphs of all lines, so many times.
+fn shape_all(data: &[u8], lines: &[&str], times: usize, how: &str, script: Script, direction: Direction) -> u64 {
+    let mut face = Face::parse(data, 0).expect("a font");
+    if matches!(how, "kept" | "cache" | "prepared") {
         face.prepare();
     }
-    let mut kept = match how.as_str() {
+    let mut kept = match how {
         "kept" | "parsed" => Kept::Plan(ShapePlan::new(&face, direction, Some(script), None, &[])),
         "cache" => Kept::Plans(PlanCache::new()),
         _ => Kept::Nothing,
     };
-    let (mut buffer, mut sum) = (UnicodeBuffer::new(), 0u64);
-    for line in (0..times).flat_map(|_| &lines) {
-        buffer.push_str(line);
-        buffer.set_script(script);
-        buffer.set_direction(direction);
+    let (mut buffer, mut sum) = (UnicodeBuffer::new(), 0);
+    for line in (0..times).flat_map(|_| lines) {
+        set(&mut buffer, line, script, direction);
         let glyphs = match &mut kept {
             Kept::Nothing => shape(&face, &[], buffer),
             Kept::Plans(cache) => shape_with_cache(&face, cache, &[], buffer),
             Kept::Plan(plan) => shape_with_plan(&face, plan, buffer),
         };
-        let numbers = glyphs.glyph_infos().iter().map(|glyph| u64::from(glyph.glyph_id));
-        sum += numbers.sum::<u64>();
+        sum += numbers(&glyphs);
         buffer = match kept {
             Kept::Plan(_) => glyphs.clear(),
             _ => UnicodeBuffer::new(),
         };
     }
-    println!("{sum}");
+    sum
+}
+
+/// Reads the font each time, and shapes the first lines.
+fn first(data: &[u8], lines: &[&str], times: usize, script: Script, direction: Direction) -> u64 {
+    let mut sum = 0;
+    for _ in 0..times {
+        let face = Face::parse(data, 0).expect("a font");
+        for line in lines.iter().take(FIRST) {
+            let mut buffer = UnicodeBuffer::new();
+            set(&mut buffer, line, script, direction);
+            sum += numbers(&shape(&face, &[], buffer));
+        }
+    }
+    sum
+}
+
+/// Reads and prepares the font each time.
+fn prepare(data: &[u8], times: usize) -> u64 {
+    let mut sum = 0;
+    for _ in 0..times {
+        let mut face = Face::parse(data, 0).expect("a font");
+        face.prepare();
+        sum += u64::from(face.glyph_count());
+    }
+    sum
+}
+
+fn set(buffer: &mut UnicodeBuffer, line: &str, script: Script, direction: Direction) {
+    buffer.push_str(line);
+    buffer.set_script(script);
+    buffer.set_direction(direction);
+}
+
+fn numbers(glyphs: &GlyphBuffer) -> u64 {
+    let numbers = glyphs.glyph_infos().iter().map(|glyph| u64::from(glyph.glyph_id));
+    numbers.sum()
 }
