@@ -61,7 +61,7 @@ fn apply_along(
         glyphs.old positions.old in positions.new ≡ end.positions }
 {
     let mask = pass.how.mask;
-    let first = lookup.next_place(true, mask, glyphs, 0);
+    let first = lookup.first_place(true, mask, glyphs, 0);
     if first >= glyphs.len() {
         return;
     }

@@ -8,6 +8,7 @@ pub mod SubtableStarts
 pub mod Lookings
 mod BitPlaces
 mod OneGlyph
+mod Passed
 mod Grids
 mod Headed
 mod RowMarks

@@ -108,6 +108,22 @@ pub record AreBare (first : ℕ) (heads : List ℕ) (mask : ℕ) (gs : Glyphs) (
 pub record AreUnmasked (mask : ℕ) (gs : Glyphs) (from end : ℕ) : Type 0 where
   pub each : (j : ℕ) → from ≤ j → j < end → bit_and (glyph_at gs j).mask mask ≡ 0
 
+-- a glyph has no bit of a mask, or not this number
+abbrev pub IsOther : ℕ → ℕ → Glyph → Type 0
+IsOther only mask g = (bit_and g.mask mask ≡ 0) ⊎ ((only == g.glyph_id % 65536) ≡ false)
+
+-- so are the glyphs from one place on, and before another
+pub record AreOthers (only mask : ℕ) (gs : Glyphs) (from end : ℕ) : Type 0 where
+  pub each : (j : ℕ) → from ≤ j → j < end → IsOther only mask (glyph_at gs j)
+
+-- a glyph has no bit of a mask, or isn't in a set
+abbrev pub IsOutside : List ℕ → ℕ → Glyph → Type 0
+IsOutside set mask g = (bit_and g.mask mask ≡ 0) ⊎ (coverage_in set (g.glyph_id % 65536) ≡ None)
+
+-- so are the glyphs from one place on, and before another
+pub record AreOutside (set : List ℕ) (mask : ℕ) (gs : Glyphs) (from end : ℕ) : Type 0 where
+  pub each : (j : ℕ) → from ≤ j → j < end → IsOutside set mask (glyph_at gs j)
+
 -- a glyph has no bit of a lookup's mask, or the lookup doesn't begin at the glyph
 abbrev pub IsPassed : Bool → List ℕ → ℕ → Glyph → Type 0
 IsPassed of_gpos lookup mask g =

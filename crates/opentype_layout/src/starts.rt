@@ -6,17 +6,19 @@ ghost use Rattle.opentype_layout.specs.Bits.{Grown};
 ghost use Rattle.opentype_layout.specs.LookupRows.{BeginsNot, row_bit};
 ghost use Rattle.opentype_layout.specs.PairTables.{ArePairTables};
 ghost use Rattle.opentype_layout.specs.SubstitutionTables.{AreSubtables, nth_subtable};
-ghost use Rattle.opentype_layout.specs.Starts.{AreHeads, ArePassed, IsStarts, NoneStarts};
+ghost use Rattle.opentype_layout.specs.Starts.{AreHeads, AreOthers, AreOutside, ArePassed, IsStarts, NoneStarts};
 
 use crate::bits::first_bit;
 use crate::grid::Grid;
 use crate::heads::{headed_place, heads_of, masked_place};
 use crate::lookup_rows::mark_column;
 use crate::pair_tables::PairTable;
-use crate::sets::{GlyphRange, first_set, nth_range, ranges, start};
+use crate::sets::{GlyphRange, first_set, is_of_one_glyph, nth_range, ranges, start};
 use crate::sight::number;
 use crate::substitution_tables::{SubstitutionTable, SubtableRef};
 use crate::subtable_tables::SubtableTables;
+use opentype_face::bytes::u16_at;
+use opentype_face::glyph_sets::coverage;
 use opentype_face::lookup::subtable_count;
 use opentype_face::ranges::Ranges;
 use shapers_buffer::buffer::hb_glyph_info_t;
@@ -281,8 +283,60 @@ fn is_start(of_gpos: bool, lookup: &[u8], glyph: u16) -> bool
     search_start(of_gpos, lookup, glyph, 0).is_some()
 }
 
+// The first place, from one on and before an end, whose glyph has a bit of a mask and this number;
+// the end, if there is none.
+#[inline]
+fn first_of_number(
+    only: u16,
+    mask: u32,
+    glyphs: &[hb_glyph_info_t],
+    from: usize,
+    end: usize,
+) -> usize
+    requires { end ≤ length glyphs.now }
+    ensures behind { min from end ≤ result }
+    ensures within { result ≤ end }
+    ensures others { AreOthers only mask glyphs.now from result }
+{
+    for at in from..end {
+        let glyph = &glyphs[at];
+        if number(glyph) == only && glyph.mask & mask != 0 {
+            return at;
+        }
+    }
+    end
+}
+
+// The first place, from one on and before an end, whose glyph has a bit of a mask and is in a set;
+// the end, if there is none. Most sets of rules have one glyph, which is compared without a search.
+#[inline]
+fn first_in_set(
+    set: &[u8],
+    mask: u32,
+    glyphs: &[hb_glyph_info_t],
+    from: usize,
+    end: usize,
+) -> usize
+    requires { end ≤ length glyphs.now }
+    ensures behind { min from end ≤ result }
+    ensures within { result ≤ end }
+    ensures out { AreOutside set.now mask glyphs.now from result }
+{
+    if is_of_one_glyph(set) {
+        return first_of_number(u16_at(set, 4), mask, glyphs, from, end);
+    }
+    for at in from..end {
+        let glyph = &glyphs[at];
+        if glyph.mask & mask != 0 && coverage(set, number(glyph)).is_some() {
+            return at;
+        }
+    }
+    end
+}
+
 // The first place of a text, from one on, where a subtable may begin, by its bytes, at a glyph with
-// a bit of a mask; the text's length, if there is none.
+// a bit of a mask; the text's length, if there is none. (All glyphs are looked for in one set after
+// another, since it takes longer to find a subtable's set than to look for a glyph there.)
 fn search_place(
     of_gpos: bool,
     lookup: &[u8],
@@ -294,13 +348,14 @@ fn search_place(
     ensures within { result ≤ length glyphs.now }
     ensures passed { ArePassed of_gpos lookup.now mask glyphs.now from result }
 {
-    for at in from..glyphs.len() {
-        let glyph = &glyphs[at];
-        if glyph.mask & mask != 0 && is_start(of_gpos, lookup, number(glyph)) {
-            return at;
+    let mut end = glyphs.len();
+    for i in 0..subtable_count(lookup) {
+        if end <= from {
+            return end;
         }
+        end = first_in_set(first_set(of_gpos, lookup, i), mask, glyphs, from, end);
     }
-    glyphs.len()
+    end
 }
 
 /// A lookup's table, with the bits of its subtables, if it has them.

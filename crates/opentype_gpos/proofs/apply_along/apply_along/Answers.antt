@@ -6,13 +6,13 @@ use Rattle.opentype_gpos.proofs.apply_along.apply_along.Goals as goal
 
 pub returns-then-first-glyphs : goal.returns-then-first-glyphs
 returns-then-first-glyphs c =
-    let end = left_unbegun (setting_of c.args.pass.now) c.args.lookup.now _ _ c.next_place-first.result c.requires
-    c.next_place-first.ensures.passed (omega arith) in
+    let end = left_unbegun (setting_of c.args.pass.now) c.args.lookup.now _ _ c.first_place-first.result c.requires
+    c.first_place-first.ensures.passed (omega arith) in
     record { glyphs = end.glyphs; positions = end.positions }
 
 pub loop-steps-init : goal.loop-steps-init
-loop-steps-init c = left_first (setting_of c.args.pass.now) c.args.lookup.now _ _ c.next_place-first.result c.requires
-    c.next_place-first.ensures.passed (omega arith)
+loop-steps-init c = left_first (setting_of c.args.pass.now) c.args.lookup.now _ _ c.first_place-first.result c.requires
+    c.first_place-first.ensures.passed (omega arith)
 
 pub returns-then-place-glyphs : goal.returns-then-place-glyphs
 returns-then-place-glyphs c =

@@ -1,5 +1,7 @@
-use Rattle.opentype_layout.specs.Starts.{ArePassed}
+use Rattle.std.specs.Prelude.{◌≤◌, length, min}
+use Rattle.opentype_layout.proofs.Passed.{AreLeft}
 use Rattle.opentype_layout.proofs.starts.search_place.Given as goal
 
-abbrev pub invariant-loop-at : goal.invariant-loop-at
-invariant-loop-at l = ArePassed l.of_gpos l.lookup l.mask l.glyphs l.from l.at
+abbrev pub invariant-loop-i : goal.invariant-loop-i
+invariant-loop-i l = (l.end ≤ length l.glyphs) × ((min l.from (length l.glyphs) ≤ l.end)
+    × AreLeft l.of_gpos l.lookup l.mask l.glyphs l.from l.end l.i)

@@ -48,7 +48,7 @@ fn apply_along(
     positions: &mut [GlyphPosition],
 ) {
     let mask = pass.how.mask;
-    let first = lookup.next_place(true, mask, glyphs, 0);
+    let first = lookup.first_place(true, mask, glyphs, 0);
     if first >= glyphs.len() {
         return;
     }

@@ -64,10 +64,17 @@ pub(crate) fn place_in_set(
     }
 }
 
+/// Whether a set has format 1, one glyph, and this glyph's number.
+// (by single bytes: that is one test of the length and one of four bytes)
+#[inline(always)]
+pub(crate) fn is_of_one_glyph(set: &[u8]) -> bool {
+    set.len() >= 6 && set[0] == 0 && set[1] == 1 && set[2] == 0 && set[3] == 1
+}
+
 // Whether a set has a glyph. Most sets of rules have one glyph, and that needs no search.
 #[inline(always)]
 fn has_glyph(set: &[u8], glyph: u16) -> bool {
-    if set.len() >= 6 && u16_at(set, 0) == 1 && u16_at(set, 2) == 1 {
+    if is_of_one_glyph(set) {
         return u16_at(set, 4) == glyph;
     }
     coverage(set, glyph).is_some()

@@ -4,6 +4,8 @@
 
 use crate::support::prelude::*;
 
+use crate::generated::opentype_face::bytes::u16_at;
+use crate::generated::opentype_face::glyph_sets::coverage;
 use crate::generated::opentype_face::lookup::subtable_count;
 use crate::generated::opentype_face::ranges::Ranges;
 use crate::generated::opentype_layout::bits::first_bit;
@@ -11,7 +13,9 @@ use crate::generated::opentype_layout::grid::Grid;
 use crate::generated::opentype_layout::heads::{headed_place, heads_of, masked_place};
 use crate::generated::opentype_layout::lookup_rows::mark_column;
 use crate::generated::opentype_layout::pair_tables::PairTable;
-use crate::generated::opentype_layout::sets::{GlyphRange, first_set, nth_range, ranges, start};
+use crate::generated::opentype_layout::sets::{
+    GlyphRange, first_set, is_of_one_glyph, nth_range, ranges, start,
+};
 use crate::generated::opentype_layout::sight::number;
 use crate::generated::opentype_layout::substitution_tables::{SubstitutionTable, SubtableRef};
 use crate::generated::opentype_layout::subtable_tables::SubtableTables;
@@ -272,8 +276,38 @@ fn is_start(of_gpos: bool, lookup: &[u8], glyph: u16) -> bool {
     search_start(of_gpos, lookup, glyph, 0).is_some()
 }
 
+// The first place, from one on and before an end, whose glyph has a bit of a mask and this number;
+// the end, if there is none.
+#[inline]
+fn first_of_number(only: u16, mask: u32, glyphs: &[GlyphInfo], from: usize, end: usize) -> usize {
+    for at in from..end {
+        let glyph = &glyphs[at];
+        if number(glyph) == only && glyph.mask & mask != 0 {
+            return at;
+        }
+    }
+    end
+}
+
+// The first place, from one on and before an end, whose glyph has a bit of a mask and is in a set;
+// the end, if there is none. Most sets of rules have one glyph, which is compared without a search.
+#[inline]
+fn first_in_set(set: &[u8], mask: u32, glyphs: &[GlyphInfo], from: usize, end: usize) -> usize {
+    if is_of_one_glyph(set) {
+        return first_of_number(u16_at(set, 4), mask, glyphs, from, end);
+    }
+    for at in from..end {
+        let glyph = &glyphs[at];
+        if glyph.mask & mask != 0 && coverage(set, number(glyph)).is_some() {
+            return at;
+        }
+    }
+    end
+}
+
 // The first place of a text, from one on, where a subtable may begin, by its bytes, at a glyph with
-// a bit of a mask; the text's length, if there is none.
+// a bit of a mask; the text's length, if there is none. (All glyphs are looked for in one set after
+// another, since it takes longer to find a subtable's set than to look for a glyph there.)
 fn search_place(
     of_gpos: bool,
     lookup: &[u8],
@@ -281,13 +315,14 @@ fn search_place(
     glyphs: &[GlyphInfo],
     from: usize,
 ) -> usize {
-    for at in from..glyphs.len() {
-        let glyph = &glyphs[at];
-        if glyph.mask & mask != 0 && is_start(of_gpos, lookup, number(glyph)) {
-            return at;
+    let mut end = glyphs.len();
+    for i in 0..subtable_count(lookup) {
+        if end <= from {
+            return end;
         }
+        end = first_in_set(first_set(of_gpos, lookup, i), mask, glyphs, from, end);
     }
-    glyphs.len()
+    end
 }
 
 /// A lookup's table, with the bits of its subtables, if it has them.
