@@ -2,8 +2,10 @@
 """Counts whole shaping, from a text to positioned glyphs, with callgrind.
 
   count.py texts TEXTS FOLDER ROOT        writes the words and lines of each script into a folder, of the texts and fonts that
-                                          bindings/hooks/texts fetched
+                                          bindings/hooks/texts fetched, and those of the second set
   count.py count FOLDER LOADER [SCRIPT..] counts the programs of that folder on them, and prints a table
+  count.py count FOLDER LOADER --second [SCRIPT..]
+                                          counts the second set: other fonts, other words and other scripts
 
 Each program shapes a file once and three times; half of the difference is what one time takes, so that starting, reading the
 font and what is made once don't count. What all three print, the sum of the glyphs' numbers, must be the same.
@@ -34,6 +36,27 @@ SCRIPTS = {
     "Hangul, composed": ("Hang", "ltr", "usr/share/fonts/truetype/nanum/NanumGothic.ttf"),
     "Tibetan": ("Tibt", "ltr", f"{NOTO}SerifTibetan-Regular.ttf"),
 }
+# The second set, which nobody looks at to find what takes long: other fonts, other words of the same scripts, and other
+# scripts. Each row has the texts of a script, with its code, its direction and its font.
+TRUETYPE = "usr/share/fonts/truetype"
+SECOND = {
+    "Latin, DejaVu": ("Latin", "Latn", "ltr", f"{TRUETYPE}/dejavu/DejaVuSans.ttf"),
+    "Latin, decomposed": ("Latin, decomposed", "Latn", "ltr", f"{TRUETYPE}/dejavu/DejaVuSerif.ttf"),
+    "Hebrew, David": ("Hebrew", "Hebr", "rtl", f"{TRUETYPE}/culmus/DavidCLM-Medium.otf"),
+    "Arabic, Amiri": ("Arabic", "Arab", "rtl", "usr/share/fonts/opentype/fonts-hosny-amiri/Amiri-Regular.ttf"),
+    "Devanagari, Lohit": ("Devanagari", "Deva", "ltr", f"{TRUETYPE}/lohit-devanagari/Lohit-Devanagari.ttf"),
+    "Gujarati": ("Gujarati", "Gujr", "ltr", f"{NOTO}SansGujarati-Regular.ttf"),
+    "Gurmukhi": ("Gurmukhi", "Guru", "ltr", f"{NOTO}SansGurmukhi-Regular.ttf"),
+    "Kannada": ("Kannada", "Knda", "ltr", f"{NOTO}SansKannada-Regular.ttf"),
+    "Telugu": ("Telugu", "Telu", "ltr", f"{NOTO}SansTelugu-Regular.ttf"),
+    "Khmer, Khmer OS": ("Khmer", "Khmr", "ltr", f"{TRUETYPE}/khmeros/KhmerOS.ttf"),
+    "Myanmar, Padauk": ("Myanmar", "Mymr", "ltr", f"{TRUETYPE}/padauk/Padauk-Regular.ttf"),
+    "Thai, Garuda": ("Thai", "Thai", "ltr", f"{TRUETYPE}/tlwg/Garuda.ttf"),
+    "Lao": ("Lao", "Laoo", "ltr", f"{NOTO}SansLao-Regular.ttf"),
+    "Hangul, Myeongjo": ("Hangul, composed", "Hang", "ltr", f"{TRUETYPE}/nanum/NanumMyeongjo.ttf"),
+}
+# The file of each set's rows, and at which of the words its texts begin.
+SETS = {"scripts": ({name: (name, *row) for name, row in SCRIPTS.items()}, 0), "second": (SECOND, 3)}
 # How many words and lines are counted, and how long a line is at least.
 WORDS, LINES, LENGTH = 60, 6, 130
 PROGRAMS = ["sengadlit", "harfrust", "harfbuzz"]
@@ -45,10 +68,10 @@ KINDS = ["words", "lines"]
 FIRST, PREPARE = "first", "prepare"
 
 
-def spread(items, count):
-    """So many of the items, from the first to the last."""
+def spread(items, count, start):
+    """So many of the items, from one of the first to the last."""
     step = max(1, len(items) // count)
-    return items[::step][:count]
+    return items[min(start, step - 1)::step][:count]
 
 
 def lines_of(words):
@@ -63,19 +86,23 @@ def lines_of(words):
 
 def write_texts(texts, folder, root):
     folder.mkdir(parents=True, exist_ok=True)
-    rows = []
-    for script, (code, direction, font) in SCRIPTS.items():
-        path = texts / f"{script}.real"
-        if not path.exists():
-            print(f"there are no words of {script}")
-            continue
-        real = [word for word in path.read_text("utf-8").split("\n") if word]
-        words = spread([word for word in real if 3 <= len(word) <= 20], WORDS)
-        (folder / f"{script}.words").write_text("".join(f"{word}\n" for word in words), "utf-8")
-        lines = list(lines_of(real[7::11]))[:LINES]
-        (folder / f"{script}.lines").write_text("".join(f"{line}\n" for line in lines), "utf-8")
-        rows.append("\t".join([script, code, direction, f"{root}/{font}"]))
-    (folder / "scripts").write_text("\n".join(rows) + "\n", "utf-8")
+    for file, (rows, start) in SETS.items():
+        written = [name for name, row in rows.items() if write_text(texts / f"{row[0]}.real", folder, name, start)]
+        lines = ["\t".join([name, *rows[name][1:3], f"{root}/{rows[name][3]}"]) for name in written]
+        (folder / file).write_text("\n".join(lines) + "\n", "utf-8")
+
+
+def write_text(path, folder, name, start):
+    """Writes the words and lines of a row, if its script's words were fetched."""
+    if not path.exists():
+        print(f"there are no words of {name}")
+        return False
+    real = [word for word in path.read_text("utf-8").split("\n") if word]
+    words = spread([word for word in real if 3 <= len(word) <= 20], WORDS, start)
+    (folder / f"{name}.words").write_text("".join(f"{word}\n" for word in words), "utf-8")
+    lines = list(lines_of(real[7 + start::11]))[:LINES]
+    (folder / f"{name}.lines").write_text("".join(f"{line}\n" for line in lines), "utf-8")
+    return True
 
 
 def collected(command):
@@ -162,7 +189,9 @@ def print_table(rows, counts):
 
 
 def count(folder, loader, wanted):
-    rows = [tuple(line.split("\t")) for line in (folder / "texts/scripts").read_text("utf-8").splitlines()]
+    file = "second" if wanted[:1] == ["--second"] else "scripts"
+    wanted = [word for word in wanted if word != "--second"]
+    rows = [tuple(line.split("\t")) for line in (folder / "texts" / file).read_text("utf-8").splitlines()]
     rows = [row for row in rows if not wanted or row[0] in wanted]
     jobs = jobs_of(rows)
     with concurrent.futures.ThreadPoolExecutor(2) as pool:
