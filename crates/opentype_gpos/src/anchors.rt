@@ -4,7 +4,7 @@ ghost use Rattle.opentype_gpos.specs.Anchors.{base_point, component_point, joint
 
 use crate::values::i16_at;
 use opentype_face::bytes::{table_at, u16_at};
-use opentype_face::glyph_sets::coverage;
+use opentype_layout::position_tables::PositionRef;
 
 /// A point of a glyph, in font units.
 #[derive(Clone, Copy, Debug, PartialEq, Eq)]
@@ -52,13 +52,14 @@ fn of_numbers(
 
 /// The points of a base and a mark that come together, by a subtable of type 4 or 6 and by the place of
 /// the mark in its set.
-pub fn points(bytes: &[u8], mark: u32, base: u16) -> Option<(Point, Point)>
-    ensures { result ≡ points_by bytes.now (Some mark) base }
+pub fn points(it: &PositionRef<'_>, mark: u32, base: u16) -> Option<(Point, Point)>
+    ensures { result ≡ points_by it.now.bytes.now (Some mark) base }
 {
+    let bytes = it.bytes;
     if u16_at(bytes, 0) != 1 {
         return None;
     }
-    let base = coverage(table_at(bytes, usize::from(u16_at(bytes, 4))), base)?;
+    let base = it.second_place(base)?;
     let marks = table_at(bytes, usize::from(u16_at(bytes, 8)));
     let bases = table_at(bytes, usize::from(u16_at(bytes, 10)));
     of_numbers(marks, bases, u16_at(bytes, 6), mark, base)
@@ -120,18 +121,18 @@ fn of_ligature(bytes: &[u8], component: u16, mark: u32, i: u32) -> Option<(Point
 /// and by the place of the mark in its set.
 /// Components count from 1 on; 0, and a number beyond the last one, mean the last one.
 pub fn ligature_points(
-    bytes: &[u8],
+    it: &PositionRef<'_>,
     mark: u32,
     ligature: u16,
     component: u16,
 ) -> Option<(Point, Point)>
-    ensures { result ≡ ligature_points_by bytes.now (Some mark) ligature component }
+    ensures { result ≡ ligature_points_by it.now.bytes.now (Some mark) ligature component }
 {
-    if u16_at(bytes, 0) != 1 {
+    if u16_at(it.bytes, 0) != 1 {
         return None;
     }
-    let ligature = coverage(table_at(bytes, usize::from(u16_at(bytes, 4))), ligature)?;
-    of_ligature(bytes, component, mark, ligature)
+    let ligature = it.second_place(ligature)?;
+    of_ligature(it.bytes, component, mark, ligature)
 }
 
 #[tactic(auto, unfolding(crate::specs::Anchors::joint_point))]
@@ -149,14 +150,14 @@ fn joint(bytes: &[u8], side: u16, i: u32) -> Option<Point>
 /// The point where a cursive line enters a glyph, for `side` 0, or leaves it, for `side` 2, by a
 /// subtable of type 3.
 #[tactic(auto, unfolding(crate::specs::Anchors::joint_in))]
-pub fn joint_of(bytes: &[u8], side: u16, glyph: u16) -> Option<Point>
-    ensures { result ≡ joint_in bytes.now side glyph }
+pub fn joint_of(it: &PositionRef<'_>, side: u16, glyph: u16) -> Option<Point>
+    ensures { result ≡ joint_in it.now.bytes.now side glyph }
 {
-    if u16_at(bytes, 0) != 1 {
+    if u16_at(it.bytes, 0) != 1 {
         return None;
     }
-    match coverage(table_at(bytes, usize::from(u16_at(bytes, 2))), glyph) {
-        Some(i) => joint(bytes, side, i),
+    match it.first_place(glyph) {
+        Some(i) => joint(it.bytes, side, i),
         None => None,
     }
 }

@@ -8,7 +8,7 @@ ghost use Rattle.opentype_gpos.specs.Coming.{came, came_in, nth_came, setting_of
 use crate::moves::{Move, PairPlace, move_by, pair_by_table};
 use crate::nearby::number;
 use crate::pass::{Pass, Sights};
-use opentype_face::lookup::{subtable, subtable_count, subtable_type};
+use opentype_face::lookup::subtable_count;
 use opentype_layout::rules::{Matched, find_rule};
 use opentype_layout::starts::LookupTable;
 use shapers_buffer::buffer::hb_glyph_info_t;
@@ -24,10 +24,10 @@ pub enum Came<'a> {
     Fits(Matched<'a>),
 }
 
-// What one of a lookup's subtables comes to, by its bytes.
+// What one of a lookup's subtables comes to.
 #[inline(never)]
 #[tactic(auto, unfolding(crate::specs::Coming::nth_came))]
-pub(crate) fn come_by_bytes<'a>(
+pub(crate) fn come_by<'a>(
     pass: &Pass<'_>,
     sights: &Sights,
     table: &LookupTable<'a>,
@@ -39,18 +39,16 @@ pub(crate) fn come_by_bytes<'a>(
     ensures { option_map came result
         ≡ nth_came (setting_of pass.now) sights.now table.now glyphs.now at i }
 {
-    let lookup = table.bytes();
-    let kind = subtable_type(9, lookup, i);
-    let bytes = subtable(9, lookup, i);
+    let it = table.position(i);
     let (input, context) = (&sights.input, &sights.context);
-    if kind == 7 || kind == 8 {
+    if it.kind == 7 || it.kind == 8 {
         return match find_rule(
-            kind == 8,
+            it.kind == 8,
             pass.gdef,
             input,
             context,
-            bytes,
-            None,
+            it.bytes,
+            it.first,
             glyphs,
             at,
         ) {
@@ -58,13 +56,13 @@ pub(crate) fn come_by_bytes<'a>(
             None => None,
         };
     }
-    match move_by(pass.gdef, input, kind, bytes, glyphs, at) {
+    match move_by(pass.gdef, input, &it, glyphs, at) {
         Some(change) => Some(Came::Moves(change)),
         None => None,
     }
 }
 
-// What the first of a lookup's subtables that fits comes to, by their bytes.
+// What the first of a lookup's subtables that fits comes to, of those that may begin.
 #[inline(never)]
 fn come_among<'a>(
     pass: &Pass<'_>,
@@ -80,7 +78,7 @@ fn come_among<'a>(
     let glyph = number(&glyphs[at]);
     let mut from = 0;
     while let Some(i) = lookup.next_start(true, glyph, from) {
-        let found = come_by_bytes(pass, sights, lookup, i, glyphs, at);
+        let found = come_by(pass, sights, lookup, i, glyphs, at);
         if found.is_some() {
             return found;
         }

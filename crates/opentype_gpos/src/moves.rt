@@ -14,8 +14,8 @@ use crate::nearby::{
 };
 use crate::values::{Value, pair, pair_in_table, single, size, value_at};
 use opentype_face::bytes::{table_at, u16_at};
-use opentype_face::glyph_sets::coverage;
 use opentype_layout::pair_tables::PairTable;
+use opentype_layout::position_tables::PositionRef;
 use opentype_layout::sight::Sight;
 use shapers_buffer::buffer::hb_glyph_info_t;
 
@@ -81,12 +81,15 @@ pub struct CursiveMove {
 }
 
 #[tactic(auto, unfolding(crate::specs::Moves::single_move))]
-fn single_of(bytes: &[u8], glyphs: &[hb_glyph_info_t], at: usize) -> Option<Move>
+fn single_of(it: &PositionRef<'_>, glyphs: &[hb_glyph_info_t], at: usize) -> Option<Move>
     requires { at < length glyphs.now }
-    ensures { result ≡ single_move bytes.now glyphs.now at }
+    ensures { result ≡ single_move it.now.bytes.now glyphs.now at }
 {
-    match single(bytes, number(&glyphs[at])) {
-        Some(place) => Some(Move::Adds(value_at(table_at(bytes, place), 0, u16_at(bytes, 4)))),
+    match single(it, number(&glyphs[at])) {
+        Some(place) => {
+            let value = value_at(table_at(it.bytes, place), 0, u16_at(it.bytes, 4));
+            Some(Move::Adds(value))
+        }
         None => None,
     }
 }
@@ -123,17 +126,6 @@ pub fn advance_of(pair: &PairPlace<'_>) -> PairMove
     }
 }
 
-// The place of a glyph in a subtable's set, which stands at the same place in each type.
-#[inline]
-pub(crate) fn place_in_set(bytes: &[u8], glyph: &hb_glyph_info_t) -> Option<u32>
-    ensures { result ≡ covered_by bytes.now 2 (number_in glyph.now) }
-{
-    coverage(
-        table_at(bytes, usize::from(u16_at(bytes, 2))),
-        number(glyph),
-    )
-}
-
 // The values of a pair, by the place of the first glyph in the subtable's set.
 #[tactic(auto, unfolding(crate::specs::Moves::pair_with))]
 pub(crate) fn pair_of(
@@ -162,16 +154,16 @@ pub(crate) fn pair_of(
 fn pair_at(
     gdef: &[u8],
     sight: &Sight,
-    bytes: &[u8],
+    it: &PositionRef<'_>,
     glyphs: &[hb_glyph_info_t],
     at: usize,
 ) -> Option<Move>
     requires { at < length glyphs.now }
-    ensures { result ≡ pair_move gdef.now sight.now bytes.now glyphs.now at }
+    ensures { result ≡ pair_move gdef.now sight.now it.now.bytes.now glyphs.now at }
 {
-    let i = place_in_set(bytes, &glyphs[at])?;
+    let i = it.first_place(number(&glyphs[at]))?;
     match next_glyph(gdef, sight, glyphs, at + 1) {
-        Some(second) => pair_of(bytes, i, glyphs, at, second),
+        Some(second) => pair_of(it.bytes, i, glyphs, at, second),
         None => None,
     }
 }
@@ -223,12 +215,12 @@ pub fn pair_by_table<'a>(
 }
 
 // A mark, by its place in the subtable's set, upon another glyph.
-fn attached(bytes: &[u8], mark: u32, glyphs: &[hb_glyph_info_t], to: usize) -> Option<Move>
+fn attached(it: &PositionRef<'_>, mark: u32, glyphs: &[hb_glyph_info_t], to: usize) -> Option<Move>
     requires { to < length glyphs.now }
     ensures { result
-        ≡ option_map (attaching to) (points_by bytes.now (Some mark) (number_at glyphs.now to)) }
+        ≡ option_map (attaching to) (points_by it.now.bytes.now (Some mark) (number_at glyphs.now to)) }
 {
-    match points(bytes, mark, number(&glyphs[to])) {
+    match points(it, mark, number(&glyphs[to])) {
         Some((point, own)) => Some(attach(to, point, own)),
         None => None,
     }
@@ -249,24 +241,24 @@ fn attach(to: usize, point: Point, own: Point) -> Move
 fn mark_to_base(
     gdef: &[u8],
     sight: &Sight,
-    bytes: &[u8],
+    it: &PositionRef<'_>,
     glyphs: &[hb_glyph_info_t],
     at: usize,
 ) -> Option<Move>
     requires { at < length glyphs.now }
-    ensures { result ≡ base_move gdef.now sight.now bytes.now glyphs.now at }
+    ensures { result ≡ base_move gdef.now sight.now it.now.bytes.now glyphs.now at }
 {
-    let mark = place_in_set(bytes, &glyphs[at])?;
-    let bases = table_at(bytes, usize::from(u16_at(bytes, 4)));
+    let mark = it.first_place(number(&glyphs[at]))?;
+    let bases = table_at(it.bytes, usize::from(u16_at(it.bytes, 4)));
     match base_glyph(gdef, sight, false, bases, glyphs, at) {
-        Some(base) => attached(bytes, mark, glyphs, base),
+        Some(base) => attached(it, mark, glyphs, base),
         None => None,
     }
 }
 
 #[tactic(auto, unfolding(crate::specs::Moves::mark_with, crate::specs::Moves::attached_by))]
 fn mark_to(
-    bytes: &[u8],
+    it: &PositionRef<'_>,
     mark: u32,
     glyphs: &[hb_glyph_info_t],
     at: usize,
@@ -274,11 +266,11 @@ fn mark_to(
 ) -> Option<Move>
     requires mark { at < length glyphs.now }
     requires other { to < length glyphs.now }
-    requires covered { covered_by bytes.now 2 (number_at glyphs.now at) ≡ Some mark }
-    ensures { result ≡ mark_with bytes.now glyphs.now at to }
+    requires covered { covered_by it.now.bytes.now 2 (number_at glyphs.now at) ≡ Some mark }
+    ensures { result ≡ mark_with it.now.bytes.now glyphs.now at to }
 {
     if is_mark_glyph(&glyphs[to]) && are_beside(&glyphs[at], &glyphs[to]) {
-        attached(bytes, mark, glyphs, to)
+        attached(it, mark, glyphs, to)
     } else {
         None
     }
@@ -288,16 +280,16 @@ fn mark_to(
 fn mark_to_mark(
     gdef: &[u8],
     sight: &Sight,
-    bytes: &[u8],
+    it: &PositionRef<'_>,
     glyphs: &[hb_glyph_info_t],
     at: usize,
 ) -> Option<Move>
     requires { at < length glyphs.now }
-    ensures { result ≡ mark_move gdef.now sight.now bytes.now glyphs.now at }
+    ensures { result ≡ mark_move gdef.now sight.now it.now.bytes.now glyphs.now at }
 {
-    let mark = place_in_set(bytes, &glyphs[at])?;
+    let mark = it.first_place(number(&glyphs[at]))?;
     match glyph_before_mark(gdef, sight, glyphs, at) {
-        Some(other) => mark_to(bytes, mark, glyphs, at, other),
+        Some(other) => mark_to(it, mark, glyphs, at, other),
         None => None,
     }
 }
@@ -316,7 +308,7 @@ fn component_for(mark: &hb_glyph_info_t, ligature: &hb_glyph_info_t) -> u8
 
 #[tactic(auto, unfolding(crate::specs::Moves::ligature_with))]
 fn attached_to_ligature(
-    bytes: &[u8],
+    it: &PositionRef<'_>,
     mark: u32,
     glyphs: &[hb_glyph_info_t],
     at: usize,
@@ -324,11 +316,11 @@ fn attached_to_ligature(
 ) -> Option<Move>
     requires mark { at < length glyphs.now }
     requires other { to < length glyphs.now }
-    requires covered { covered_by bytes.now 2 (number_at glyphs.now at) ≡ Some mark }
-    ensures { result ≡ ligature_with bytes.now glyphs.now at to }
+    requires covered { covered_by it.now.bytes.now 2 (number_at glyphs.now at) ≡ Some mark }
+    ensures { result ≡ ligature_with it.now.bytes.now glyphs.now at to }
 {
     let component = u16::from(component_for(&glyphs[at], &glyphs[to]));
-    match ligature_points(bytes, mark, number(&glyphs[to]), component) {
+    match ligature_points(it, mark, number(&glyphs[to]), component) {
         Some((point, own)) => Some(attach(to, point, own)),
         None => None,
     }
@@ -338,32 +330,32 @@ fn attached_to_ligature(
 fn mark_to_ligature(
     gdef: &[u8],
     sight: &Sight,
-    bytes: &[u8],
+    it: &PositionRef<'_>,
     glyphs: &[hb_glyph_info_t],
     at: usize,
 ) -> Option<Move>
     requires { at < length glyphs.now }
-    ensures { result ≡ ligature_move gdef.now sight.now bytes.now glyphs.now at }
+    ensures { result ≡ ligature_move gdef.now sight.now it.now.bytes.now glyphs.now at }
 {
-    let mark = place_in_set(bytes, &glyphs[at])?;
+    let mark = it.first_place(number(&glyphs[at]))?;
     match base_glyph(gdef, sight, true, &[], glyphs, at) {
-        Some(ligature) => attached_to_ligature(bytes, mark, glyphs, at, ligature),
+        Some(ligature) => attached_to_ligature(it, mark, glyphs, at, ligature),
         None => None,
     }
 }
 
 #[tactic(auto, unfolding(crate::specs::Moves::joined_with))]
 fn joined_to(
-    bytes: &[u8],
+    it: &PositionRef<'_>,
     from_end: bool,
     entry: Point,
     glyphs: &[hb_glyph_info_t],
     before: usize,
 ) -> Option<Move>
     requires { before < length glyphs.now }
-    ensures { result ≡ joined_with bytes.now glyphs.now from_end entry before }
+    ensures { result ≡ joined_with it.now.bytes.now glyphs.now from_end entry before }
 {
-    match joint_of(bytes, 2, number(&glyphs[before])) {
+    match joint_of(it, 2, number(&glyphs[before])) {
         Some(exit) => Some(Move::Joins(CursiveMove {
             before,
             exit,
@@ -378,16 +370,16 @@ fn joined_to(
 fn joined_from(
     gdef: &[u8],
     sight: &Sight,
-    bytes: &[u8],
+    it: &PositionRef<'_>,
     entry: Point,
     glyphs: &[hb_glyph_info_t],
     at: usize,
 ) -> Option<Move>
     requires { at < length glyphs.now }
-    ensures { result ≡ joined_from gdef.now sight.now bytes.now glyphs.now at entry }
+    ensures { result ≡ joined_from gdef.now sight.now it.now.bytes.now glyphs.now at entry }
 {
     match previous_glyph(gdef, sight, glyphs, at) {
-        Some(before) => joined_to(bytes, sight.flag & 1 == 1, entry, glyphs, before),
+        Some(before) => joined_to(it, sight.flag & 1 == 1, entry, glyphs, before),
         None => None,
     }
 }
@@ -396,15 +388,15 @@ fn joined_from(
 fn cursive(
     gdef: &[u8],
     sight: &Sight,
-    bytes: &[u8],
+    it: &PositionRef<'_>,
     glyphs: &[hb_glyph_info_t],
     at: usize,
 ) -> Option<Move>
     requires { at < length glyphs.now }
-    ensures { result ≡ cursive_move gdef.now sight.now bytes.now glyphs.now at }
+    ensures { result ≡ cursive_move gdef.now sight.now it.now.bytes.now glyphs.now at }
 {
-    match joint_of(bytes, 0, number(&glyphs[at])) {
-        Some(entry) => joined_from(gdef, sight, bytes, entry, glyphs, at),
+    match joint_of(it, 0, number(&glyphs[at])) {
+        Some(entry) => joined_from(gdef, sight, it, entry, glyphs, at),
         None => None,
     }
 }
@@ -414,21 +406,20 @@ fn cursive(
 pub fn move_by(
     gdef: &[u8],
     sight: &Sight,
-    kind: u16,
-    bytes: &[u8],
+    it: &PositionRef<'_>,
     glyphs: &[hb_glyph_info_t],
     at: usize,
 ) -> Option<Move>
     requires { at < length glyphs.now }
-    ensures { result ≡ one_move gdef.now sight.now kind bytes.now glyphs.now at }
+    ensures { result ≡ one_move gdef.now sight.now it.now.kind it.now.bytes.now glyphs.now at }
 {
-    match kind {
-        1 => single_of(bytes, glyphs, at),
-        2 => pair_at(gdef, sight, bytes, glyphs, at),
-        3 => cursive(gdef, sight, bytes, glyphs, at),
-        4 => mark_to_base(gdef, sight, bytes, glyphs, at),
-        5 => mark_to_ligature(gdef, sight, bytes, glyphs, at),
-        6 => mark_to_mark(gdef, sight, bytes, glyphs, at),
+    match it.kind {
+        1 => single_of(it, glyphs, at),
+        2 => pair_at(gdef, sight, it, glyphs, at),
+        3 => cursive(gdef, sight, it, glyphs, at),
+        4 => mark_to_base(gdef, sight, it, glyphs, at),
+        5 => mark_to_ligature(gdef, sight, it, glyphs, at),
+        6 => mark_to_mark(gdef, sight, it, glyphs, at),
         _ => None,
     }
 }

@@ -8,18 +8,18 @@ ghost use Rattle.opentype_layout.specs.Looking.{unjoined};
 ghost use Rattle.opentype_layout.specs.Sight.{is_passed};
 
 use crate::anchors::joint_of;
-use crate::coming::come_by_bytes;
+use crate::coming::come_by;
 use crate::moved::{does_move, is_vertical};
-use crate::moves::{Move, pair_of, place_in_set};
+use crate::moves::{Move, pair_of};
 use crate::nearby::{
     any, are_beside, base_glyph, glyph_before_mark, is_mark_glyph, next_glyph, number,
     previous_glyph,
 };
 use crate::pass::{Pass, Sights};
 use opentype_face::bytes::{table_at, u16_at};
-use opentype_face::glyph_sets::coverage;
-use opentype_face::lookup::{subtable, subtable_count, subtable_type};
+use opentype_face::lookup::subtable_count;
 use opentype_layout::looking::{Stretch, context_rules, count, flag_joins};
+use opentype_layout::position_tables::PositionRef;
 use opentype_layout::sight::Sight;
 use opentype_layout::starts::LookupTable;
 use shapers_buffer::buffer::{Direction, hb_glyph_info_t};
@@ -143,19 +143,19 @@ fn from_it(fits: bool, at: usize, to: usize, glyphs: &[hb_glyph_info_t]) -> Stre
 fn look_for_exit(
     gdef: &[u8],
     sight: &Sight,
-    bytes: &[u8],
+    it: &PositionRef<'_>,
     glyphs: &[hb_glyph_info_t],
     at: usize,
 ) -> Stretch
     requires { at < length glyphs.now }
-    ensures { result ≡ cursive_looked gdef.now sight.now bytes.now glyphs.now at }
+    ensures { result ≡ cursive_looked gdef.now sight.now it.now.bytes.now glyphs.now at }
 {
-    if joint_of(bytes, 0, number(&glyphs[at])).is_none() {
+    if joint_of(it, 0, number(&glyphs[at])).is_none() {
         return Stretch::none(at);
     }
     match previous_glyph(gdef, sight, glyphs, at) {
         Some(to) => {
-            let fits = joint_of(bytes, 2, number(&glyphs[to])).is_some();
+            let fits = joint_of(it, 2, number(&glyphs[to])).is_some();
             from_it(fits, at, to, glyphs)
         }
         None => {
@@ -172,43 +172,41 @@ fn look_for_exit(
 
 // Whether a subtable's second set has a glyph.
 #[inline]
-fn is_second(bytes: &[u8], glyphs: &[hb_glyph_info_t], to: usize) -> bool
+fn is_second(it: &PositionRef<'_>, glyphs: &[hb_glyph_info_t], to: usize) -> bool
     requires { to < length glyphs.now }
-    ensures { result ≡ is_second_in bytes.now glyphs.now to }
+    ensures { result ≡ is_second_in it.now.bytes.now glyphs.now to }
 {
-    let set = table_at(bytes, usize::from(u16_at(bytes, 4)));
-    coverage(set, number(&glyphs[to])).is_some()
+    it.second_place(number(&glyphs[to])).is_some()
 }
 
 #[tactic(auto, unfolding(crate::specs::Looked::base_looked))]
 fn look_for_base(
     gdef: &[u8],
     sight: &Sight,
-    bytes: &[u8],
+    it: &PositionRef<'_>,
     glyphs: &[hb_glyph_info_t],
     at: usize,
 ) -> Stretch
     requires { at < length glyphs.now }
-    ensures { result ≡ base_looked gdef.now sight.now bytes.now glyphs.now at }
+    ensures { result ≡ base_looked gdef.now sight.now it.now.bytes.now glyphs.now at }
 {
-    let bases = table_at(bytes, usize::from(u16_at(bytes, 4)));
+    let bases = table_at(it.bytes, usize::from(u16_at(it.bytes, 4)));
     match base_glyph(gdef, sight, false, bases, glyphs, at) {
-        Some(to) => from_it(is_second(bytes, glyphs, to), at, to, glyphs),
+        Some(to) => from_it(is_second(it, glyphs, to), at, to, glyphs),
         None => span(at, 0, at + 1, glyphs),
     }
 }
 
 // Whether a ligature of a subtable has components.
 #[tactic(auto, unfolding(crate::specs::Looked::has_components))]
-fn has_components(bytes: &[u8], glyphs: &[hb_glyph_info_t], to: usize) -> bool
+fn has_components(it: &PositionRef<'_>, glyphs: &[hb_glyph_info_t], to: usize) -> bool
     requires { to < length glyphs.now }
-    ensures { result ≡ has_components bytes.now (covered_by bytes.now 4 (number_at glyphs.now to)) }
+    ensures { result ≡ has_components it.now.bytes.now (covered_by it.now.bytes.now 4 (number_at glyphs.now to)) }
 {
-    let set = table_at(bytes, usize::from(u16_at(bytes, 4)));
-    let Some(i) = coverage(set, number(&glyphs[to])) else {
+    let Some(i) = it.second_place(number(&glyphs[to])) else {
         return false;
     };
-    let ligatures = table_at(bytes, usize::from(u16_at(bytes, 10)));
+    let ligatures = table_at(it.bytes, usize::from(u16_at(it.bytes, 10)));
     if i >= u32::from(u16_at(ligatures, 0)) {
         return false;
     }
@@ -220,44 +218,44 @@ fn has_components(bytes: &[u8], glyphs: &[hb_glyph_info_t], to: usize) -> bool
 fn look_for_ligature(
     gdef: &[u8],
     sight: &Sight,
-    bytes: &[u8],
+    it: &PositionRef<'_>,
     glyphs: &[hb_glyph_info_t],
     at: usize,
 ) -> Stretch
     requires { at < length glyphs.now }
-    ensures { result ≡ ligature_looked gdef.now sight.now bytes.now glyphs.now at }
+    ensures { result ≡ ligature_looked gdef.now sight.now it.now.bytes.now glyphs.now at }
 {
     match base_glyph(gdef, sight, true, &[], glyphs, at) {
-        Some(to) => from_it(has_components(bytes, glyphs, to), at, to, glyphs),
+        Some(to) => from_it(has_components(it, glyphs, to), at, to, glyphs),
         None => span(at, 0, at + 1, glyphs),
     }
 }
 
 // Whether a glyph is a mark of a subtable that is of the same base.
 #[tactic(auto, unfolding(crate::specs::Looked::is_mark_of))]
-fn is_mark_of(bytes: &[u8], glyphs: &[hb_glyph_info_t], at: usize, to: usize) -> bool
+fn is_mark_of(it: &PositionRef<'_>, glyphs: &[hb_glyph_info_t], at: usize, to: usize) -> bool
     requires mark { at < length glyphs.now }
     requires other { to < length glyphs.now }
-    ensures { result ≡ is_mark_of bytes.now glyphs.now at to }
+    ensures { result ≡ is_mark_of it.now.bytes.now glyphs.now at to }
 {
     is_mark_glyph(&glyphs[to])
         && are_beside(&glyphs[at], &glyphs[to])
-        && is_second(bytes, glyphs, to)
+        && is_second(it, glyphs, to)
 }
 
 #[tactic(auto, unfolding(crate::specs::Looked::mark_looked))]
 fn look_for_mark(
     gdef: &[u8],
     sight: &Sight,
-    bytes: &[u8],
+    it: &PositionRef<'_>,
     glyphs: &[hb_glyph_info_t],
     at: usize,
 ) -> Stretch
     requires { at < length glyphs.now }
-    ensures { result ≡ mark_looked gdef.now sight.now bytes.now glyphs.now at }
+    ensures { result ≡ mark_looked gdef.now sight.now it.now.bytes.now glyphs.now at }
 {
     match glyph_before_mark(gdef, sight, glyphs, at) {
-        Some(to) => from_it(is_mark_of(bytes, glyphs, at, to), at, to, glyphs),
+        Some(to) => from_it(is_mark_of(it, glyphs, at, to), at, to, glyphs),
         None => {
             let mut of_marks = *sight;
             of_marks.flag = sight.flag & 0xFFF1;
@@ -277,23 +275,22 @@ fn look_for_mark(
 fn look_by_move(
     pass: &Pass<'_>,
     sight: &Sight,
-    kind: u16,
-    bytes: &[u8],
+    it: &PositionRef<'_>,
     glyphs: &[hb_glyph_info_t],
     at: usize,
 ) -> Stretch
     requires { at < length glyphs.now }
-    ensures { result ≡ move_looked pass.now.gdef.now sight.now pass.now.direction kind bytes.now glyphs.now at }
+    ensures { result ≡ move_looked pass.now.gdef.now sight.now pass.now.direction it.now.kind it.now.bytes.now glyphs.now at }
 {
-    let Some(place) = place_in_set(bytes, &glyphs[at]) else {
+    let Some(place) = it.first_place(number(&glyphs[at])) else {
         return Stretch::none(at);
     };
-    match kind {
-        2 => look_for_pair(pass, sight, bytes, place, glyphs, at),
-        3 => look_for_exit(pass.gdef, sight, bytes, glyphs, at),
-        4 => look_for_base(pass.gdef, sight, bytes, glyphs, at),
-        5 => look_for_ligature(pass.gdef, sight, bytes, glyphs, at),
-        6 => look_for_mark(pass.gdef, sight, bytes, glyphs, at),
+    match it.kind {
+        2 => look_for_pair(pass, sight, it.bytes, place, glyphs, at),
+        3 => look_for_exit(pass.gdef, sight, it, glyphs, at),
+        4 => look_for_base(pass.gdef, sight, it, glyphs, at),
+        5 => look_for_ligature(pass.gdef, sight, it, glyphs, at),
+        6 => look_for_mark(pass.gdef, sight, it, glyphs, at),
         _ => Stretch::none(at),
     }
 }
@@ -311,17 +308,15 @@ fn look_by(
     requires { at < length glyphs.now }
     ensures { result ≡ subtable_looked (setting_of pass.now) sights.now table.now glyphs.now at i }
 {
-    let lookup = table.bytes();
-    let kind = subtable_type(9, lookup, i);
-    let bytes = subtable(9, lookup, i);
+    let it = table.position(i);
     let (input, context) = (&sights.input, &sights.context);
-    if kind == 7 || kind == 8 {
-        return match context_rules(kind == 8, bytes, number(&glyphs[at])) {
+    if it.kind == 7 || it.kind == 8 {
+        return match context_rules(it.kind == 8, it.bytes, number(&glyphs[at])) {
             Some(rules) => rules.look(pass.gdef, input, context, glyphs.len(), glyphs, at),
             None => Stretch::none(at),
         };
     }
-    look_by_move(pass, input, kind, bytes, glyphs, at)
+    look_by_move(pass, input, &it, glyphs, at)
 }
 
 // What the subtables of a lookup looked at, up to the first that does something.
@@ -339,7 +334,7 @@ fn look_among(
     let count = subtable_count(lookup.bytes());
     for i in 0..count {
         looked = looked.join(look_by(pass, sights, lookup, i, glyphs, at));
-        if come_by_bytes(pass, sights, lookup, i, glyphs, at).is_some() {
+        if come_by(pass, sights, lookup, i, glyphs, at).is_some() {
             return looked;
         }
     }

@@ -6,9 +6,10 @@ ghost use Rattle.opentype_layout.specs.PairTables.{header_in};
 ghost use Rattle.opentype_gpos.specs.Values.{bit_of, class_pair, field_in, signed_in, pair_of, pair_place, single_in, size_of, value_in};
 
 use opentype_face::bytes::{table_at, u16_at};
-use opentype_face::glyph_sets::{class, coverage};
+use opentype_face::glyph_sets::class;
 use opentype_face::ranges::Ranges;
 use opentype_layout::pair_tables::{PairHeader, PairTable};
+use opentype_layout::position_tables::PositionRef;
 
 /// What a glyph's position gets, in font units.
 #[derive(Clone, Copy, Debug, PartialEq, Eq)]
@@ -124,10 +125,11 @@ pub fn value_at(bytes: &[u8], at: usize, format: u16) -> Value
 }
 
 /// Where a subtable of type 1 has the value of a glyph.
-pub fn single(bytes: &[u8], glyph: u16) -> Option<usize>
-    ensures { result ≡ single_in bytes.now glyph }
+pub fn single(it: &PositionRef<'_>, glyph: u16) -> Option<usize>
+    ensures { result ≡ single_in it.now.bytes.now glyph }
 {
-    let i = coverage(table_at(bytes, usize::from(u16_at(bytes, 2))), glyph)?;
+    let i = it.first_place(glyph)?;
+    let bytes = it.bytes;
     match u16_at(bytes, 0) {
         1 => Some(6),
         2 => {

@@ -17,6 +17,7 @@ mod Flags
 mod Listed
 mod PairsListed
 mod SubtablesListed
+mod PositionsListed
 mod RuleRows
 mod KeyRows
 mod StartRows
@@ -27,3 +28,4 @@ mod InputRows
 mod LookingRows
 mod PairRows
 mod SubstitutionRows
+mod PositionRows

@@ -10,4 +10,5 @@ pub mod Starts
 pub mod SubstitutionTables
 pub mod Keys
 pub mod PairTables
+pub mod PositionTables
 pub mod LookupRows

@@ -14,6 +14,7 @@ pub mod lookup_rows;
 pub mod pair_tables;
 pub mod pattern;
 pub mod places;
+pub mod position_tables;
 pub mod rules;
 pub mod sets;
 pub mod sight;

@@ -5,6 +5,7 @@ ghost use Rattle.opentype_face.specs.Lookups.{subtable_in, type_in};
 ghost use Rattle.opentype_layout.specs.Bits.{Grown};
 ghost use Rattle.opentype_layout.specs.LookupRows.{BeginsNot, row_bit};
 ghost use Rattle.opentype_layout.specs.PairTables.{ArePairTables};
+ghost use Rattle.opentype_layout.specs.PositionTables.{ArePositions, nth_position};
 ghost use Rattle.opentype_layout.specs.SubstitutionTables.{AreSubtables, nth_subtable};
 ghost use Rattle.opentype_layout.specs.Starts.{AreHeads, AreOthers, AreOutside, ArePassed, IsStarts, NoneStarts};
 
@@ -13,6 +14,7 @@ use crate::grid::Grid;
 use crate::heads::{headed_place, heads_of, masked_place};
 use crate::lookup_rows::mark_column;
 use crate::pair_tables::PairTable;
+use crate::position_tables::{PositionRef, PositionTable};
 use crate::sets::{GlyphRange, first_set, is_of_one_glyph, nth_range, ranges, start};
 use crate::sight::number;
 use crate::substitution_tables::{SubstitutionTable, SubtableRef};
@@ -365,6 +367,7 @@ pub struct LookupTable<'a> {
     count: u16,
     starts: Option<&'a Starts<'a>>,
     pairs: &'a [PairTable<'a>],
+    positions: &'a [PositionTable<'a>],
     substitutions: &'a [SubstitutionTable<'a>],
 }
 
@@ -376,7 +379,8 @@ impl<'a> Model for LookupTable<'a> {
     ghost invariant = { λ it. (it.count ≡ u16_in it.bytes.now 4) ×
         (IfSome it.starts (λ starts. starts.now ≡ it.bytes.now) ×
         (ArePairTables it.bytes.now it.pairs.now ×
-        AreSubtables it.bytes.now it.substitutions.now)) };
+        (ArePositions it.bytes.now it.positions.now ×
+        AreSubtables it.bytes.now it.substitutions.now))) };
 }
 
 impl<'a> LookupTable<'a> {
@@ -390,6 +394,7 @@ impl<'a> LookupTable<'a> {
             count: subtable_count(bytes),
             starts: None,
             pairs: &[],
+            positions: &[],
             substitutions: &[],
         }
     }
@@ -408,6 +413,7 @@ impl<'a> LookupTable<'a> {
             count: starts.count,
             starts: Some(starts),
             pairs: &[],
+            positions: &[],
             substitutions: &[],
         }
     }
@@ -420,6 +426,7 @@ impl<'a> LookupTable<'a> {
     {
         LookupTable {
             pairs: tables.pairs(),
+            positions: tables.positions(),
             substitutions: tables.substitutions(),
             ..self
         }
@@ -434,6 +441,18 @@ impl<'a> LookupTable<'a> {
         match self.substitutions.get(usize::from(i)) {
             Some(table) => table.as_subtable(),
             None => SubtableRef::of(self.bytes, i),
+        }
+    }
+
+    /// A subtable of a lookup of GPOS, with tables of its sets, if it has them.
+    #[inline]
+    pub fn position(&self, i: u16) -> PositionRef<'a>
+        ensures kind { result.kind ≡ (nth_position self.now i).kind }
+        ensures bytes { result.bytes.now ≡ (nth_position self.now i).bytes }
+    {
+        match self.positions.get(usize::from(i)) {
+            Some(table) => table.as_position(),
+            None => PositionRef::of(self.bytes, i),
         }
     }
 

@@ -8,19 +8,19 @@ pub loop-i-init : goal.loop-i-init
 loop-i-init c = tried_start _ _ _ _ _
 
 pub returns-then-is_some : goal.returns-then-is_some
-returns-then-is_some c = tried_found _ _ _ _ _ _ _ _ c.in-Some.i c.come_by_bytes-found.result c.loop-i.invariant
+returns-then-is_some c = tried_found _ _ _ _ _ _ _ _ c.in-Some.i c.come_by-found.result c.loop-i.invariant
     c.number-glyph.ensures c.next_start.ensures.within c.next_start.ensures.passed c.in-Some.is (cc) (cc)
 
 pub returns-then-i-count : goal.returns-then-i-count
 returns-then-i-count c =
-    let tried = tried_missed _ _ _ _ _ _ _ _ c.in-Some.i c.come_by_bytes-found.result c.loop-i.invariant
+    let tried = tried_missed _ _ _ _ _ _ _ _ c.in-Some.i c.come_by-found.result c.loop-i.invariant
     c.number-glyph.ensures c.next_start.ensures.within c.next_start.ensures.passed c.in-Some.is (cc) (cc) in
     let same : c.subtable_count-count.result ≡ u16_in c.args.lookup.now 4 =
     c.subtable_count-count.ensures ∙ ap (λ (b : List ℕ). u16_in b 4) c.bytes.ensures in
     sym (first_out _ _ _ tried.first (omega (arith, same, c.if-i-count.true)))
 
 pub loop-i-preserved : goal.loop-i-preserved
-loop-i-preserved c = tried_missed _ _ _ _ _ _ _ _ c.in-Some.i c.come_by_bytes-found.result c.loop-i.invariant
+loop-i-preserved c = tried_missed _ _ _ _ _ _ _ _ c.in-Some.i c.come_by-found.result c.loop-i.invariant
     c.number-glyph.ensures c.next_start.ensures.within c.next_start.ensures.passed c.in-Some.is (cc) (cc)
 
 pub returns : goal.returns

@@ -15,7 +15,7 @@ returns-then-is_some c =
     let same : c.subtable_count-count.result ≡ u16_in c.args.lookup.now 4 =
     c.subtable_count-count.ensures ∙ ap (λ (b : List ℕ). u16_in b 4) c.bytes.ensures in
     looking_fit _ _ _ _ _ _ _ c.loop-i.invariant (omega (arith, same, c.loop-i-test.true))
-    (some_by came c.come_by_bytes.result _ _ c.come_by_bytes.ensures (sym c.is_some.ensures ∙ c.if-is_some.true))
+    (some_by came c.come_by.result _ _ c.come_by.ensures (sym c.is_some.ensures ∙ c.if-is_some.true))
     (c.join-looked.ensures ∙ ap (spanned c.loop-i.looked) c.look_by.ensures)
 
 pub loop-i-preserved : goal.loop-i-preserved
@@ -23,7 +23,7 @@ loop-i-preserved c =
     let same : c.subtable_count-count.result ≡ u16_in c.args.lookup.now 4 =
     c.subtable_count-count.ensures ∙ ap (λ (b : List ℕ). u16_in b 4) c.bytes.ensures in
     looking_next _ _ _ _ _ _ _ c.loop-i.invariant (omega (arith, same, c.loop-i-test.true))
-    (some_by came c.come_by_bytes.result _ _ c.come_by_bytes.ensures (sym c.is_some.ensures ∙ c.if-is_some.false))
+    (some_by came c.come_by.result _ _ c.come_by.ensures (sym c.is_some.ensures ∙ c.if-is_some.false))
     (c.join-looked.ensures ∙ ap (spanned c.loop-i.looked) c.look_by.ensures)
 
 pub returns : goal.returns

@@ -3,8 +3,8 @@
 //! Where marks attach.
 
 use crate::generated::opentype_face::bytes::{table_at, u16_at};
-use crate::generated::opentype_face::glyph_sets::coverage;
 use crate::generated::opentype_gpos::values::i16_at;
+use crate::generated::opentype_layout::position_tables::PositionRef;
 
 /// A point of a glyph, in font units.
 #[derive(Clone, Copy, Debug, PartialEq, Eq, Hash)]
@@ -66,17 +66,18 @@ fn of_numbers(
 /// # Contract
 ///
 /// ```text
-/// ensures { result ≡ points_by bytes.now (Some mark) base }
+/// ensures { result ≡ points_by it.now.bytes.now (Some mark) base }
 /// ```
 ///
 /// - `points_by`: `crates/opentype_gpos/specs/Anchors.antt`
 ///
 /// </details>
-pub fn points(bytes: &[u8], mark: u32, base: u16) -> Option<(Point, Point)> {
+pub fn points(it: &PositionRef<'_>, mark: u32, base: u16) -> Option<(Point, Point)> {
+    let bytes = it.bytes;
     if u16_at(bytes, 0) != 1 {
         return None;
     }
-    let base = coverage(table_at(bytes, usize::from(u16_at(bytes, 4))), base)?;
+    let base = it.second_place(base)?;
     let marks = table_at(bytes, usize::from(u16_at(bytes, 8)));
     let bases = table_at(bytes, usize::from(u16_at(bytes, 10)));
     of_numbers(marks, bases, u16_at(bytes, 6), mark, base)
@@ -134,23 +135,23 @@ fn of_ligature(bytes: &[u8], component: u16, mark: u32, i: u32) -> Option<(Point
 /// # Contract
 ///
 /// ```text
-/// ensures { result ≡ ligature_points_by bytes.now (Some mark) ligature component }
+/// ensures { result ≡ ligature_points_by it.now.bytes.now (Some mark) ligature component }
 /// ```
 ///
 /// - `ligature_points_by`: `crates/opentype_gpos/specs/Anchors.antt`
 ///
 /// </details>
 pub fn ligature_points(
-    bytes: &[u8],
+    it: &PositionRef<'_>,
     mark: u32,
     ligature: u16,
     component: u16,
 ) -> Option<(Point, Point)> {
-    if u16_at(bytes, 0) != 1 {
+    if u16_at(it.bytes, 0) != 1 {
         return None;
     }
-    let ligature = coverage(table_at(bytes, usize::from(u16_at(bytes, 4))), ligature)?;
-    of_ligature(bytes, component, mark, ligature)
+    let ligature = it.second_place(ligature)?;
+    of_ligature(it.bytes, component, mark, ligature)
 }
 
 fn joint(bytes: &[u8], side: u16, i: u32) -> Option<Point> {
@@ -170,18 +171,18 @@ fn joint(bytes: &[u8], side: u16, i: u32) -> Option<Point> {
 /// # Contract
 ///
 /// ```text
-/// ensures { result ≡ joint_in bytes.now side glyph }
+/// ensures { result ≡ joint_in it.now.bytes.now side glyph }
 /// ```
 ///
 /// - `joint_in`: `crates/opentype_gpos/specs/Anchors.antt`
 ///
 /// </details>
-pub fn joint_of(bytes: &[u8], side: u16, glyph: u16) -> Option<Point> {
-    if u16_at(bytes, 0) != 1 {
+pub fn joint_of(it: &PositionRef<'_>, side: u16, glyph: u16) -> Option<Point> {
+    if u16_at(it.bytes, 0) != 1 {
         return None;
     }
-    match coverage(table_at(bytes, usize::from(u16_at(bytes, 2))), glyph) {
-        Some(i) => joint(bytes, side, i),
+    match it.first_place(glyph) {
+        Some(i) => joint(it.bytes, side, i),
         None => None,
     }
 }

@@ -2,7 +2,7 @@
 
 //! What a lookup of GPOS comes to at a place of a text.
 
-use crate::generated::opentype_face::lookup::{subtable, subtable_count, subtable_type};
+use crate::generated::opentype_face::lookup::subtable_count;
 use crate::generated::opentype_gpos::moves::{Move, PairPlace, move_by, pair_by_table};
 use crate::generated::opentype_gpos::nearby::number;
 use crate::generated::opentype_gpos::pass::{Pass, Sights};
@@ -21,9 +21,9 @@ pub enum Came<'a> {
     Fits(Matched<'a>),
 }
 
-// What one of a lookup's subtables comes to, by its bytes.
+// What one of a lookup's subtables comes to.
 #[inline(never)]
-pub(crate) fn come_by_bytes<'a>(
+pub(crate) fn come_by<'a>(
     pass: &Pass<'_>,
     sights: &Sights,
     table: &LookupTable<'a>,
@@ -31,18 +31,16 @@ pub(crate) fn come_by_bytes<'a>(
     glyphs: &[GlyphInfo],
     at: usize,
 ) -> Option<Came<'a>> {
-    let lookup = table.bytes();
-    let kind = subtable_type(9, lookup, i);
-    let bytes = subtable(9, lookup, i);
+    let it = table.position(i);
     let (input, context) = (&sights.input, &sights.context);
-    if kind == 7 || kind == 8 {
+    if it.kind == 7 || it.kind == 8 {
         return match find_rule(
-            kind == 8,
+            it.kind == 8,
             pass.gdef,
             input,
             context,
-            bytes,
-            None,
+            it.bytes,
+            it.first,
             glyphs,
             at,
         ) {
@@ -50,13 +48,13 @@ pub(crate) fn come_by_bytes<'a>(
             None => None,
         };
     }
-    match move_by(pass.gdef, input, kind, bytes, glyphs, at) {
+    match move_by(pass.gdef, input, &it, glyphs, at) {
         Some(change) => Some(Came::Moves(change)),
         None => None,
     }
 }
 
-// What the first of a lookup's subtables that fits comes to, by their bytes.
+// What the first of a lookup's subtables that fits comes to, of those that may begin.
 #[inline(never)]
 fn come_among<'a>(
     pass: &Pass<'_>,
@@ -68,7 +66,7 @@ fn come_among<'a>(
     let glyph = number(&glyphs[at]);
     let mut from = 0;
     while let Some(i) = lookup.next_start(true, glyph, from) {
-        let found = come_by_bytes(pass, sights, lookup, i, glyphs, at);
+        let found = come_by(pass, sights, lookup, i, glyphs, at);
         if found.is_some() {
             return found;
         }

@@ -5,7 +5,6 @@
 use crate::support::prelude::*;
 
 use crate::generated::opentype_face::bytes::{table_at, u16_at};
-use crate::generated::opentype_face::glyph_sets::coverage;
 use crate::generated::opentype_gpos::anchors::{Point, joint_of, ligature_points, points};
 use crate::generated::opentype_gpos::nearby::{
     are_beside, base_glyph, glyph_before_mark, is_mark_glyph, ligature_number, next_glyph, number,
@@ -13,6 +12,7 @@ use crate::generated::opentype_gpos::nearby::{
 };
 use crate::generated::opentype_gpos::values::{Value, pair, pair_in_table, single, size, value_at};
 use crate::generated::opentype_layout::pair_tables::PairTable;
+use crate::generated::opentype_layout::position_tables::PositionRef;
 use crate::generated::opentype_layout::sight::Sight;
 use crate::generated::shapers_buffer::buffer::GlyphInfo;
 
@@ -77,13 +77,12 @@ pub struct CursiveMove {
     pub from_end: bool,
 }
 
-fn single_of(bytes: &[u8], glyphs: &[GlyphInfo], at: usize) -> Option<Move> {
-    match single(bytes, number(&glyphs[at])) {
-        Some(place) => Some(Move::Adds(value_at(
-            table_at(bytes, place),
-            0,
-            u16_at(bytes, 4),
-        ))),
+fn single_of(it: &PositionRef<'_>, glyphs: &[GlyphInfo], at: usize) -> Option<Move> {
+    match single(it, number(&glyphs[at])) {
+        Some(place) => {
+            let value = value_at(table_at(it.bytes, place), 0, u16_at(it.bytes, 4));
+            Some(Move::Adds(value))
+        }
         None => None,
     }
 }
@@ -141,15 +140,6 @@ pub fn advance_of(pair: &PairPlace<'_>) -> PairMove {
     }
 }
 
-// The place of a glyph in a subtable's set, which stands at the same place in each type.
-#[inline]
-pub(crate) fn place_in_set(bytes: &[u8], glyph: &GlyphInfo) -> Option<u32> {
-    coverage(
-        table_at(bytes, usize::from(u16_at(bytes, 2))),
-        number(glyph),
-    )
-}
-
 // The values of a pair, by the place of the first glyph in the subtable's set.
 pub(crate) fn pair_of(
     bytes: &[u8],
@@ -171,13 +161,13 @@ pub(crate) fn pair_of(
 fn pair_at(
     gdef: &[u8],
     sight: &Sight,
-    bytes: &[u8],
+    it: &PositionRef<'_>,
     glyphs: &[GlyphInfo],
     at: usize,
 ) -> Option<Move> {
-    let i = place_in_set(bytes, &glyphs[at])?;
+    let i = it.first_place(number(&glyphs[at]))?;
     match next_glyph(gdef, sight, glyphs, at + 1) {
-        Some(second) => pair_of(bytes, i, glyphs, at, second),
+        Some(second) => pair_of(it.bytes, i, glyphs, at, second),
         None => None,
     }
 }
@@ -232,8 +222,8 @@ pub fn pair_by_table<'a>(
 }
 
 // A mark, by its place in the subtable's set, upon another glyph.
-fn attached(bytes: &[u8], mark: u32, glyphs: &[GlyphInfo], to: usize) -> Option<Move> {
-    match points(bytes, mark, number(&glyphs[to])) {
+fn attached(it: &PositionRef<'_>, mark: u32, glyphs: &[GlyphInfo], to: usize) -> Option<Move> {
+    match points(it, mark, number(&glyphs[to])) {
         Some((point, own)) => Some(attach(to, point, own)),
         None => None,
     }
@@ -251,21 +241,27 @@ fn attach(to: usize, point: Point, own: Point) -> Move {
 fn mark_to_base(
     gdef: &[u8],
     sight: &Sight,
-    bytes: &[u8],
+    it: &PositionRef<'_>,
     glyphs: &[GlyphInfo],
     at: usize,
 ) -> Option<Move> {
-    let mark = place_in_set(bytes, &glyphs[at])?;
-    let bases = table_at(bytes, usize::from(u16_at(bytes, 4)));
+    let mark = it.first_place(number(&glyphs[at]))?;
+    let bases = table_at(it.bytes, usize::from(u16_at(it.bytes, 4)));
     match base_glyph(gdef, sight, false, bases, glyphs, at) {
-        Some(base) => attached(bytes, mark, glyphs, base),
+        Some(base) => attached(it, mark, glyphs, base),
         None => None,
     }
 }
 
-fn mark_to(bytes: &[u8], mark: u32, glyphs: &[GlyphInfo], at: usize, to: usize) -> Option<Move> {
+fn mark_to(
+    it: &PositionRef<'_>,
+    mark: u32,
+    glyphs: &[GlyphInfo],
+    at: usize,
+    to: usize,
+) -> Option<Move> {
     if is_mark_glyph(&glyphs[to]) && are_beside(&glyphs[at], &glyphs[to]) {
-        attached(bytes, mark, glyphs, to)
+        attached(it, mark, glyphs, to)
     } else {
         None
     }
@@ -274,13 +270,13 @@ fn mark_to(bytes: &[u8], mark: u32, glyphs: &[GlyphInfo], at: usize, to: usize) 
 fn mark_to_mark(
     gdef: &[u8],
     sight: &Sight,
-    bytes: &[u8],
+    it: &PositionRef<'_>,
     glyphs: &[GlyphInfo],
     at: usize,
 ) -> Option<Move> {
-    let mark = place_in_set(bytes, &glyphs[at])?;
+    let mark = it.first_place(number(&glyphs[at]))?;
     match glyph_before_mark(gdef, sight, glyphs, at) {
-        Some(other) => mark_to(bytes, mark, glyphs, at, other),
+        Some(other) => mark_to(it, mark, glyphs, at, other),
         None => None,
     }
 }
@@ -295,14 +291,14 @@ fn component_for(mark: &GlyphInfo, ligature: &GlyphInfo) -> u8 {
 }
 
 fn attached_to_ligature(
-    bytes: &[u8],
+    it: &PositionRef<'_>,
     mark: u32,
     glyphs: &[GlyphInfo],
     at: usize,
     to: usize,
 ) -> Option<Move> {
     let component = u16::from(component_for(&glyphs[at], &glyphs[to]));
-    match ligature_points(bytes, mark, number(&glyphs[to]), component) {
+    match ligature_points(it, mark, number(&glyphs[to]), component) {
         Some((point, own)) => Some(attach(to, point, own)),
         None => None,
     }
@@ -311,25 +307,25 @@ fn attached_to_ligature(
 fn mark_to_ligature(
     gdef: &[u8],
     sight: &Sight,
-    bytes: &[u8],
+    it: &PositionRef<'_>,
     glyphs: &[GlyphInfo],
     at: usize,
 ) -> Option<Move> {
-    let mark = place_in_set(bytes, &glyphs[at])?;
+    let mark = it.first_place(number(&glyphs[at]))?;
     match base_glyph(gdef, sight, true, &[], glyphs, at) {
-        Some(ligature) => attached_to_ligature(bytes, mark, glyphs, at, ligature),
+        Some(ligature) => attached_to_ligature(it, mark, glyphs, at, ligature),
         None => None,
     }
 }
 
 fn joined_to(
-    bytes: &[u8],
+    it: &PositionRef<'_>,
     from_end: bool,
     entry: Point,
     glyphs: &[GlyphInfo],
     before: usize,
 ) -> Option<Move> {
-    match joint_of(bytes, 2, number(&glyphs[before])) {
+    match joint_of(it, 2, number(&glyphs[before])) {
         Some(exit) => Some(Move::Joins(CursiveMove {
             before,
             exit,
@@ -343,13 +339,13 @@ fn joined_to(
 fn joined_from(
     gdef: &[u8],
     sight: &Sight,
-    bytes: &[u8],
+    it: &PositionRef<'_>,
     entry: Point,
     glyphs: &[GlyphInfo],
     at: usize,
 ) -> Option<Move> {
     match previous_glyph(gdef, sight, glyphs, at) {
-        Some(before) => joined_to(bytes, sight.flag & 1 == 1, entry, glyphs, before),
+        Some(before) => joined_to(it, sight.flag & 1 == 1, entry, glyphs, before),
         None => None,
     }
 }
@@ -357,12 +353,12 @@ fn joined_from(
 fn cursive(
     gdef: &[u8],
     sight: &Sight,
-    bytes: &[u8],
+    it: &PositionRef<'_>,
     glyphs: &[GlyphInfo],
     at: usize,
 ) -> Option<Move> {
-    match joint_of(bytes, 0, number(&glyphs[at])) {
-        Some(entry) => joined_from(gdef, sight, bytes, entry, glyphs, at),
+    match joint_of(it, 0, number(&glyphs[at])) {
+        Some(entry) => joined_from(gdef, sight, it, entry, glyphs, at),
         None => None,
     }
 }
@@ -375,7 +371,7 @@ fn cursive(
 ///
 /// ```text
 /// requires { at < length glyphs.now }
-/// ensures { result ≡ one_move gdef.now sight.now kind bytes.now glyphs.now at }
+/// ensures { result ≡ one_move gdef.now sight.now it.now.kind it.now.bytes.now glyphs.now at }
 /// ```
 ///
 /// - `one_move`: `crates/opentype_gpos/specs/Moves.antt`
@@ -384,18 +380,17 @@ fn cursive(
 pub fn move_by(
     gdef: &[u8],
     sight: &Sight,
-    kind: u16,
-    bytes: &[u8],
+    it: &PositionRef<'_>,
     glyphs: &[GlyphInfo],
     at: usize,
 ) -> Option<Move> {
-    match kind {
-        1 => single_of(bytes, glyphs, at),
-        2 => pair_at(gdef, sight, bytes, glyphs, at),
-        3 => cursive(gdef, sight, bytes, glyphs, at),
-        4 => mark_to_base(gdef, sight, bytes, glyphs, at),
-        5 => mark_to_ligature(gdef, sight, bytes, glyphs, at),
-        6 => mark_to_mark(gdef, sight, bytes, glyphs, at),
+    match it.kind {
+        1 => single_of(it, glyphs, at),
+        2 => pair_at(gdef, sight, it, glyphs, at),
+        3 => cursive(gdef, sight, it, glyphs, at),
+        4 => mark_to_base(gdef, sight, it, glyphs, at),
+        5 => mark_to_ligature(gdef, sight, it, glyphs, at),
+        6 => mark_to_mark(gdef, sight, it, glyphs, at),
         _ => None,
     }
 }

@@ -3,18 +3,18 @@
 //! Which flags of concatenation a lookup sets at a place, by what it looks at in vain there.
 
 use crate::generated::opentype_face::bytes::{table_at, u16_at};
-use crate::generated::opentype_face::glyph_sets::coverage;
-use crate::generated::opentype_face::lookup::{subtable, subtable_count, subtable_type};
+use crate::generated::opentype_face::lookup::subtable_count;
 use crate::generated::opentype_gpos::anchors::joint_of;
-use crate::generated::opentype_gpos::coming::come_by_bytes;
+use crate::generated::opentype_gpos::coming::come_by;
 use crate::generated::opentype_gpos::moved::{does_move, is_vertical};
-use crate::generated::opentype_gpos::moves::{Move, pair_of, place_in_set};
+use crate::generated::opentype_gpos::moves::{Move, pair_of};
 use crate::generated::opentype_gpos::nearby::{
     any, are_beside, base_glyph, glyph_before_mark, is_mark_glyph, next_glyph, number,
     previous_glyph,
 };
 use crate::generated::opentype_gpos::pass::{Pass, Sights};
 use crate::generated::opentype_layout::looking::{Stretch, context_rules, count, flag_joins};
+use crate::generated::opentype_layout::position_tables::PositionRef;
 use crate::generated::opentype_layout::sight::Sight;
 use crate::generated::opentype_layout::starts::LookupTable;
 use crate::generated::shapers_buffer::buffer::{Direction, GlyphInfo};
@@ -112,16 +112,16 @@ fn from_it(fits: bool, at: usize, to: usize, glyphs: &[GlyphInfo]) -> Stretch {
 fn look_for_exit(
     gdef: &[u8],
     sight: &Sight,
-    bytes: &[u8],
+    it: &PositionRef<'_>,
     glyphs: &[GlyphInfo],
     at: usize,
 ) -> Stretch {
-    if joint_of(bytes, 0, number(&glyphs[at])).is_none() {
+    if joint_of(it, 0, number(&glyphs[at])).is_none() {
         return Stretch::none(at);
     }
     match previous_glyph(gdef, sight, glyphs, at) {
         Some(to) => {
-            let fits = joint_of(bytes, 2, number(&glyphs[to])).is_some();
+            let fits = joint_of(it, 2, number(&glyphs[to])).is_some();
             from_it(fits, at, to, glyphs)
         }
         None => {
@@ -138,32 +138,30 @@ fn look_for_exit(
 
 // Whether a subtable's second set has a glyph.
 #[inline]
-fn is_second(bytes: &[u8], glyphs: &[GlyphInfo], to: usize) -> bool {
-    let set = table_at(bytes, usize::from(u16_at(bytes, 4)));
-    coverage(set, number(&glyphs[to])).is_some()
+fn is_second(it: &PositionRef<'_>, glyphs: &[GlyphInfo], to: usize) -> bool {
+    it.second_place(number(&glyphs[to])).is_some()
 }
 
 fn look_for_base(
     gdef: &[u8],
     sight: &Sight,
-    bytes: &[u8],
+    it: &PositionRef<'_>,
     glyphs: &[GlyphInfo],
     at: usize,
 ) -> Stretch {
-    let bases = table_at(bytes, usize::from(u16_at(bytes, 4)));
+    let bases = table_at(it.bytes, usize::from(u16_at(it.bytes, 4)));
     match base_glyph(gdef, sight, false, bases, glyphs, at) {
-        Some(to) => from_it(is_second(bytes, glyphs, to), at, to, glyphs),
+        Some(to) => from_it(is_second(it, glyphs, to), at, to, glyphs),
         None => span(at, 0, at + 1, glyphs),
     }
 }
 
 // Whether a ligature of a subtable has components.
-fn has_components(bytes: &[u8], glyphs: &[GlyphInfo], to: usize) -> bool {
-    let set = table_at(bytes, usize::from(u16_at(bytes, 4)));
-    let Some(i) = coverage(set, number(&glyphs[to])) else {
+fn has_components(it: &PositionRef<'_>, glyphs: &[GlyphInfo], to: usize) -> bool {
+    let Some(i) = it.second_place(number(&glyphs[to])) else {
         return false;
     };
-    let ligatures = table_at(bytes, usize::from(u16_at(bytes, 10)));
+    let ligatures = table_at(it.bytes, usize::from(u16_at(it.bytes, 10)));
     if i >= u32::from(u16_at(ligatures, 0)) {
         return false;
     }
@@ -174,32 +172,30 @@ fn has_components(bytes: &[u8], glyphs: &[GlyphInfo], to: usize) -> bool {
 fn look_for_ligature(
     gdef: &[u8],
     sight: &Sight,
-    bytes: &[u8],
+    it: &PositionRef<'_>,
     glyphs: &[GlyphInfo],
     at: usize,
 ) -> Stretch {
     match base_glyph(gdef, sight, true, &[], glyphs, at) {
-        Some(to) => from_it(has_components(bytes, glyphs, to), at, to, glyphs),
+        Some(to) => from_it(has_components(it, glyphs, to), at, to, glyphs),
         None => span(at, 0, at + 1, glyphs),
     }
 }
 
 // Whether a glyph is a mark of a subtable that is of the same base.
-fn is_mark_of(bytes: &[u8], glyphs: &[GlyphInfo], at: usize, to: usize) -> bool {
-    is_mark_glyph(&glyphs[to])
-        && are_beside(&glyphs[at], &glyphs[to])
-        && is_second(bytes, glyphs, to)
+fn is_mark_of(it: &PositionRef<'_>, glyphs: &[GlyphInfo], at: usize, to: usize) -> bool {
+    is_mark_glyph(&glyphs[to]) && are_beside(&glyphs[at], &glyphs[to]) && is_second(it, glyphs, to)
 }
 
 fn look_for_mark(
     gdef: &[u8],
     sight: &Sight,
-    bytes: &[u8],
+    it: &PositionRef<'_>,
     glyphs: &[GlyphInfo],
     at: usize,
 ) -> Stretch {
     match glyph_before_mark(gdef, sight, glyphs, at) {
-        Some(to) => from_it(is_mark_of(bytes, glyphs, at, to), at, to, glyphs),
+        Some(to) => from_it(is_mark_of(it, glyphs, at, to), at, to, glyphs),
         None => {
             let mut of_marks = *sight;
             of_marks.flag = sight.flag & 0xFFF1;
@@ -218,20 +214,19 @@ fn look_for_mark(
 fn look_by_move(
     pass: &Pass<'_>,
     sight: &Sight,
-    kind: u16,
-    bytes: &[u8],
+    it: &PositionRef<'_>,
     glyphs: &[GlyphInfo],
     at: usize,
 ) -> Stretch {
-    let Some(place) = place_in_set(bytes, &glyphs[at]) else {
+    let Some(place) = it.first_place(number(&glyphs[at])) else {
         return Stretch::none(at);
     };
-    match kind {
-        2 => look_for_pair(pass, sight, bytes, place, glyphs, at),
-        3 => look_for_exit(pass.gdef, sight, bytes, glyphs, at),
-        4 => look_for_base(pass.gdef, sight, bytes, glyphs, at),
-        5 => look_for_ligature(pass.gdef, sight, bytes, glyphs, at),
-        6 => look_for_mark(pass.gdef, sight, bytes, glyphs, at),
+    match it.kind {
+        2 => look_for_pair(pass, sight, it.bytes, place, glyphs, at),
+        3 => look_for_exit(pass.gdef, sight, it, glyphs, at),
+        4 => look_for_base(pass.gdef, sight, it, glyphs, at),
+        5 => look_for_ligature(pass.gdef, sight, it, glyphs, at),
+        6 => look_for_mark(pass.gdef, sight, it, glyphs, at),
         _ => Stretch::none(at),
     }
 }
@@ -245,17 +240,15 @@ fn look_by(
     glyphs: &[GlyphInfo],
     at: usize,
 ) -> Stretch {
-    let lookup = table.bytes();
-    let kind = subtable_type(9, lookup, i);
-    let bytes = subtable(9, lookup, i);
+    let it = table.position(i);
     let (input, context) = (&sights.input, &sights.context);
-    if kind == 7 || kind == 8 {
-        return match context_rules(kind == 8, bytes, number(&glyphs[at])) {
+    if it.kind == 7 || it.kind == 8 {
+        return match context_rules(it.kind == 8, it.bytes, number(&glyphs[at])) {
             Some(rules) => rules.look(pass.gdef, input, context, glyphs.len(), glyphs, at),
             None => Stretch::none(at),
         };
     }
-    look_by_move(pass, input, kind, bytes, glyphs, at)
+    look_by_move(pass, input, &it, glyphs, at)
 }
 
 // What the subtables of a lookup looked at, up to the first that does something.
@@ -270,7 +263,7 @@ fn look_among(
     let count = subtable_count(lookup.bytes());
     for i in 0..count {
         looked = looked.join(look_by(pass, sights, lookup, i, glyphs, at));
-        if come_by_bytes(pass, sights, lookup, i, glyphs, at).is_some() {
+        if come_by(pass, sights, lookup, i, glyphs, at).is_some() {
             return looked;
         }
     }

@@ -5,9 +5,10 @@
 use crate::support::prelude::*;
 
 use crate::generated::opentype_face::bytes::{table_at, u16_at};
-use crate::generated::opentype_face::glyph_sets::{class, coverage};
+use crate::generated::opentype_face::glyph_sets::class;
 use crate::generated::opentype_face::ranges::Ranges;
 use crate::generated::opentype_layout::pair_tables::{PairHeader, PairTable};
+use crate::generated::opentype_layout::position_tables::PositionRef;
 
 /// What a glyph's position gets, in font units.
 #[derive(Clone, Copy, Debug, PartialEq, Eq, Hash)]
@@ -147,14 +148,15 @@ pub fn value_at(bytes: &[u8], at: usize, format: u16) -> Value {
 /// # Contract
 ///
 /// ```text
-/// ensures { result ≡ single_in bytes.now glyph }
+/// ensures { result ≡ single_in it.now.bytes.now glyph }
 /// ```
 ///
 /// - `single_in`: `crates/opentype_gpos/specs/Values.antt`
 ///
 /// </details>
-pub fn single(bytes: &[u8], glyph: u16) -> Option<usize> {
-    let i = coverage(table_at(bytes, usize::from(u16_at(bytes, 2))), glyph)?;
+pub fn single(it: &PositionRef<'_>, glyph: u16) -> Option<usize> {
+    let i = it.first_place(glyph)?;
+    let bytes = it.bytes;
     match u16_at(bytes, 0) {
         1 => Some(6),
         2 => {

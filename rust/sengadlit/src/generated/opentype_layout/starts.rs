@@ -13,6 +13,7 @@ use crate::generated::opentype_layout::grid::Grid;
 use crate::generated::opentype_layout::heads::{headed_place, heads_of, masked_place};
 use crate::generated::opentype_layout::lookup_rows::mark_column;
 use crate::generated::opentype_layout::pair_tables::PairTable;
+use crate::generated::opentype_layout::position_tables::{PositionRef, PositionTable};
 use crate::generated::opentype_layout::sets::{
     GlyphRange, first_set, is_of_one_glyph, nth_range, ranges, start,
 };
@@ -332,6 +333,7 @@ pub struct LookupTable<'a> {
     count: u16,
     starts: Option<&'a Starts<'a>>,
     pairs: &'a [PairTable<'a>],
+    positions: &'a [PositionTable<'a>],
     substitutions: &'a [SubstitutionTable<'a>],
 }
 
@@ -354,6 +356,7 @@ impl<'a> LookupTable<'a> {
             count: subtable_count(bytes),
             starts: None,
             pairs: &[],
+            positions: &[],
             substitutions: &[],
         }
     }
@@ -380,6 +383,7 @@ impl<'a> LookupTable<'a> {
             count: starts.count,
             starts: Some(starts),
             pairs: &[],
+            positions: &[],
             substitutions: &[],
         }
     }
@@ -400,6 +404,7 @@ impl<'a> LookupTable<'a> {
     pub fn with_tables(self, tables: &'a SubtableTables<'a>) -> Self {
         LookupTable {
             pairs: tables.pairs(),
+            positions: tables.positions(),
             substitutions: tables.substitutions(),
             ..self
         }
@@ -424,6 +429,28 @@ impl<'a> LookupTable<'a> {
         match self.substitutions.get(usize::from(i)) {
             Some(table) => table.as_subtable(),
             None => SubtableRef::of(self.bytes, i),
+        }
+    }
+
+    /// A subtable of a lookup of GPOS, with tables of its sets, if it has them.
+    ///
+    /// <details><summary>Contract</summary>
+    ///
+    /// # Contract
+    ///
+    /// ```text
+    /// ensures kind { result.kind ≡ (nth_position self.now i).kind }
+    /// ensures bytes { result.bytes.now ≡ (nth_position self.now i).bytes }
+    /// ```
+    ///
+    /// - `nth_position`: `crates/opentype_layout/specs/PositionTables.antt`
+    ///
+    /// </details>
+    #[inline]
+    pub fn position(&self, i: u16) -> PositionRef<'a> {
+        match self.positions.get(usize::from(i)) {
+            Some(table) => table.as_position(),
+            None => PositionRef::of(self.bytes, i),
         }
     }
 

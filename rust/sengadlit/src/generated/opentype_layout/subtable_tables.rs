@@ -5,14 +5,16 @@
 use crate::support::prelude::*;
 
 use crate::generated::opentype_layout::pair_tables::{PairTable, tables_of_pairs};
+use crate::generated::opentype_layout::position_tables::{PositionTable, tables_of_positions};
 use crate::generated::opentype_layout::substitution_tables::{SubstitutionTable, tables_of_sets};
 use crate::support::alloc::Global;
 
-/// Tables of a lookup's subtables: of those of pairs in GPOS, of all in GSUB.
+/// Tables of a lookup's subtables; of GPOS those of pairs have their own.
 #[derive(Debug)]
 pub struct SubtableTables<'a> {
     lookup: &'a [u8],
     pairs: Vec<PairTable<'a>>,
+    positions: Vec<PositionTable<'a>>,
     substitutions: Vec<SubstitutionTable<'a>>,
 }
 
@@ -31,15 +33,24 @@ impl<'a> SubtableTables<'a> {
     /// </details>
     pub fn new(alloc: Global, of_gpos: bool, lookup: &'a [u8], budget: &mut usize) -> Self {
         if of_gpos {
+            let pairs = tables_of_pairs(alloc, lookup, budget);
+            // (a lookup's subtables are of one type)
+            let positions = if pairs.is_empty() {
+                tables_of_positions(alloc, lookup, budget)
+            } else {
+                Vec::new(alloc)
+            };
             return SubtableTables {
                 lookup,
-                pairs: tables_of_pairs(alloc, lookup, budget),
+                pairs,
+                positions,
                 substitutions: Vec::new(alloc),
             };
         }
         SubtableTables {
             lookup,
             pairs: Vec::new(alloc),
+            positions: Vec::new(alloc),
             substitutions: tables_of_sets(alloc, lookup, budget),
         }
     }
@@ -60,6 +71,24 @@ impl<'a> SubtableTables<'a> {
     #[inline]
     pub fn pairs(&self) -> &[PairTable<'a>] {
         self.pairs.as_slice()
+    }
+
+    /// The tables of the first subtables of a lookup of GPOS whose first isn't of pairs.
+    ///
+    /// <details><summary>Contract</summary>
+    ///
+    /// # Contract
+    ///
+    /// ```text
+    /// ensures { ArePositions self.now result.now }
+    /// ```
+    ///
+    /// - `ArePositions`: `crates/opentype_layout/specs/PositionTables.antt`
+    ///
+    /// </details>
+    #[inline]
+    pub fn positions(&self) -> &[PositionTable<'a>] {
+        self.positions.as_slice()
     }
 
     /// The tables of the first subtables of a lookup of GSUB.
