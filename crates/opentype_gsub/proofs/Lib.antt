@@ -19,6 +19,7 @@ pub mod Lengths
 pub mod LawKeeps
 pub mod LawGrows
 pub mod Machines
+mod Unshifted
 pub mod Untouched
 mod PlainPuts
 mod Started

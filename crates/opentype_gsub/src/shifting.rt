@@ -1,5 +1,5 @@
 //! Rules whose lookups are being applied, and their places behind lookups that add or take glyphs.
-ghost use Rattle.std.specs.Prelude.{◌≡◌, ◌++◌, drop, map, take, slice_index};
+ghost use Rattle.std.specs.Prelude.{◌≡◌, ◌≤◌, ◌++◌, drop, length, map, take, slice_index, IfSome, IfNone};
 ghost use Rattle.opentype_layout.specs.Rules.{found};
 ghost use Rattle.opentype_gsub.specs.Came.{begun_frame, frame_of};
 ghost use Rattle.opentype_gsub.specs.Machine.{climbing, place_moved, frame_shifted, places_shifted};
@@ -127,6 +127,25 @@ fn shift_places(places: &[usize], sequence: usize, added: usize, removed: usize)
     new
 }
 
+// The same where they change. (Most lookups leave as many glyphs as there were.)
+#[inline]
+fn places_moved(
+    places: &[usize],
+    sequence: usize,
+    added: usize,
+    removed: usize,
+) -> Option<Places>
+    requires { length places.now ≤ 64 }
+    ensures some { IfSome result (λ new.
+        new.items ≡ places_shifted sequence added removed places.now) }
+    ensures none { IfNone result (places.now ≡ places_shifted sequence added removed places.now) }
+{
+    if added == 0 && removed == 0 {
+        return None;
+    }
+    Some(shift_places(places, sequence, added, removed))
+}
+
 impl<'a> Rule<'a> {
     /// A rule that fits a text of so many glyphs, before its first lookup is applied.
     pub(crate) fn begin(matched: Matched<'a>, len: usize) -> Self
@@ -160,6 +179,9 @@ impl<'a> Rule<'a> {
             self.next = self.count;
             return;
         }
-        self.places = shift_places(self.places.as_slice(), self.sequence, added, removed);
+        let moved = places_moved(self.places.as_slice(), self.sequence, added, removed);
+        if let Some(places) = moved {
+            self.places = places;
+        }
     }
 }

@@ -108,6 +108,15 @@ fn shift_places(places: &[usize], sequence: usize, added: usize, removed: usize)
     new
 }
 
+// The same where they change. (Most lookups leave as many glyphs as there were.)
+#[inline]
+fn places_moved(places: &[usize], sequence: usize, added: usize, removed: usize) -> Option<Places> {
+    if added == 0 && removed == 0 {
+        return None;
+    }
+    Some(shift_places(places, sequence, added, removed))
+}
+
 impl<'a> Rule<'a> {
     /// A rule that fits a text of so many glyphs, before its first lookup is applied.
     pub(crate) fn begin(matched: Matched<'a>, len: usize) -> Self {
@@ -136,6 +145,9 @@ impl<'a> Rule<'a> {
             self.next = self.count;
             return;
         }
-        self.places = shift_places(self.places.as_slice(), self.sequence, added, removed);
+        let moved = places_moved(self.places.as_slice(), self.sequence, added, removed);
+        if let Some(places) = moved {
+            self.places = places;
+        }
     }
 }
