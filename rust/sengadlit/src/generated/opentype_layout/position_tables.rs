@@ -7,7 +7,7 @@ use crate::support::prelude::*;
 use crate::generated::opentype_face::bytes::{offset16, table_at};
 use crate::generated::opentype_face::glyph_tables::PreparedCoverage;
 use crate::generated::opentype_face::lookup::{subtable, subtable_count, subtable_type};
-use crate::generated::opentype_layout::sets::{first_set, place_in_set};
+use crate::generated::opentype_layout::sets::{first_set, nth_range, place_in_set, ranges};
 use crate::support::alloc::Global;
 
 /// How many bytes a table costs beside the places of its glyphs.
@@ -84,6 +84,29 @@ impl<'a> PositionRef<'a> {
     }
 }
 
+/// How many glyphs from a set's first to its last one a table may have for each of its records.
+const SPREAD: u16 = 64;
+
+// Whether a table of a set saves more than it takes to make: few glyphs far apart are found as soon
+// by a search.
+fn is_dense(set: &[u8]) -> bool {
+    let ranges = ranges(set);
+    if ranges.count == 0 {
+        return false;
+    }
+    let first = nth_range(&ranges, 0).from;
+    let last = nth_range(&ranges, ranges.count - 1).to;
+    u32::from(last.saturating_sub(first) / SPREAD) < ranges.count
+}
+
+// A set, with a table of its glyphs' places where these stand close.
+fn table_of_set<'a>(set: &'a [u8], alloc: Global, budget: &mut usize) -> PreparedCoverage<'a> {
+    if is_dense(set) {
+        return PreparedCoverage::new(set, alloc, budget);
+    }
+    PreparedCoverage::new(set, alloc, &mut 0)
+}
+
 /// A subtable of GPOS, with its type, and with tables of its sets.
 #[derive(Debug)]
 pub struct PositionTable<'a> {
@@ -111,19 +134,18 @@ impl<'a> PositionTable<'a> {
     pub fn new(alloc: Global, lookup: &'a [u8], i: u16, budget: &mut usize) -> Self {
         let kind = subtable_type(9, lookup, i);
         let bytes = subtable(9, lookup, i);
-        let first = PreparedCoverage::new(first_set(true, lookup, i), alloc, budget);
-        let mut none = 0;
-        let paying = if matches!(kind, 4..=6) {
-            budget
-        } else {
-            &mut none
-        };
+        let first = table_of_set(first_set(true, lookup, i), alloc, budget);
         let set = table_at(bytes, offset16(bytes, 4));
+        let second = if matches!(kind, 4..=6) {
+            table_of_set(set, alloc, budget)
+        } else {
+            PreparedCoverage::new(set, alloc, &mut 0)
+        };
         PositionTable {
             bytes,
             kind,
             first,
-            second: PreparedCoverage::new(set, alloc, paying),
+            second,
         }
     }
 
