@@ -10,6 +10,7 @@ use crate::stages::is_absent;
 use opentype_face::bytes::{table_at, u16_at};
 use opentype_face::glyph_sets::{class, coverage};
 use opentype_face::lookup::{subtable, subtable_count, subtable_type};
+use opentype_layout::class_refs::ClassRef;
 use opentype_layout::pattern::Pattern;
 use opentype_layout::tables::LayoutTable;
 use shapers_base::buffer::hb_glyph_info_t;
@@ -213,7 +214,7 @@ fn fit_numbers(numbers: &[u8], classes: Option<&[u8]>, glyphs: &[GlyphId]) -> bo
     ensures { result ≡ fit_numbers numbers.now (option_map (λ c. c.now) classes.entry) glyphs.now }
 {
     match classes {
-        Some(of) => fit_each(&Pattern::Classes(numbers, of), 1, glyphs),
+        Some(of) => fit_each(&Pattern::Classes(numbers, ClassRef::of(of)), 1, glyphs),
         None => fit_each(&Pattern::Glyphs(numbers), 1, glyphs),
     }
 }

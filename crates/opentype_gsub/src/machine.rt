@@ -1,7 +1,7 @@
 //! Lookups that rules apply, on a stack in the place of a recursion.
-ghost use Rattle.std.specs.Prelude.{◌≡◌, ◌<◌, ℕ, List, [], ◌∷◌, Some, length, IfOk};
+ghost use Rattle.std.specs.Prelude.{◌≡◌, ◌<◌, ◌==◌, ◌⊎◌, ℕ, List, [], ◌∷◌, Some, length, IfOk};
 ghost use Rattle.std.specs.Option.{option_map};
-ghost use Rattle.opentype_layout.specs.Rules.{found};
+ghost use Rattle.opentype_layout.specs.Rules.{context_in, found};
 ghost use Rattle.opentype_face.specs.Bytes.{u16_in};
 ghost use Rattle.opentype_face.specs.Firsts.{first_from};
 ghost use Rattle.opentype_gsub.specs.Came.{IsCome, begun, came_in, frame_of, nth_came};
@@ -20,6 +20,7 @@ use opentype_face::bytes::u16_at;
 use opentype_face::lookup::subtable_count;
 use opentype_layout::rules::{Matched, find_rule};
 use opentype_layout::starts::LookupTable;
+use opentype_layout::substitution_tables::SubtableRef;
 use shapers_buffer::buffer::{LookupRecord, ShaperError, hb_glyph_info_t};
 use std::mem;
 
@@ -55,6 +56,28 @@ fn begin<'a>(
     Rule::begin(matched, len)
 }
 
+// The first rule of a context that fits a place.
+fn rule_of<'a>(
+    pass: &Pass<'_>,
+    sights: &Sights,
+    subtable: &SubtableRef<'a>,
+    glyphs: &[hb_glyph_info_t],
+    at: usize,
+) -> Option<Matched<'a>>
+    requires inside { at < length glyphs.now }
+    requires kind { (subtable.now.kind ≡ 5) ⊎ (subtable.now.kind ≡ 6) }
+    ensures { option_map (λ it. found it) result ≡ context_in (subtable.now.kind == 6)
+        (setting_of pass.now).gdef sights.now.input sights.now.context subtable.now.bytes.now
+        glyphs.now at }
+{
+    let (gdef, input, context) = (pass.classes.gdef, &sights.input, &sights.context);
+    let (chained, bytes, set) = (subtable.kind == 6, subtable.bytes, subtable.set);
+    match subtable.context {
+        Some(table) => table.find_rule(gdef, input, context, set, glyphs, at),
+        None => find_rule(chained, gdef, input, context, bytes, set, glyphs, at),
+    }
+}
+
 // What one of a lookup's subtables comes to at a place.
 #[tactic(auto, unfolding(crate::specs::Came::nth_came))]
 fn come_by<'a>(
@@ -72,19 +95,9 @@ fn come_by<'a>(
         text.old.items lookups.old text.new.items lookups.new outcome) }
 {
     let subtable = lookup.subtable(i);
-    let (kind, bytes, set) = (subtable.kind, subtable.bytes, subtable.set);
+    let kind = subtable.kind;
     if kind == 5 || kind == 6 {
-        let (input, context) = (&sights.input, &sights.context);
-        return match find_rule(
-            kind == 6,
-            pass.classes.gdef,
-            input,
-            context,
-            bytes,
-            set,
-            text,
-            at,
-        ) {
+        return match rule_of(pass, sights, &subtable, text, at) {
             Some(matched) => Ok(Outcome::Fits(begin(pass, kind == 6, matched, text))),
             None => Ok(Outcome::Nothing),
         };

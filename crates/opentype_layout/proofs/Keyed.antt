@@ -1,5 +1,5 @@
 -- Rules that a key bars fit nowhere.
-use Rattle.std.proofs.Common.{ℕ, zero, suc, ◌+◌, ◌-◌, ◌*◌, ◌==◌, ◌<◌, ◌≡◌, Bool, true, false, Option, None, Some, List, [], refl, sym, ap, ◌∙◌, arith, get_or-drop}
+use Rattle.std.proofs.Common.{ℕ, zero, suc, ◌+◌, ◌-◌, ◌*◌, ◌==◌, ◌<◌, ◌≡◌, Bool, true, false, Option, None, Some, List, [], refl, sym, ap, subst, ◌∙◌, arith, get_or-drop, if◌then◌else◌}
 use Rattle.std.specs.Prelude.{nat_lt}
 use Rattle.shapers_buffer.specs.Glyphs.{Glyphs}
 use Rattle.std.specs.Option.{is_some}
@@ -8,9 +8,11 @@ use Rattle.opentype_face.specs.Glyphs.{coverage_in}
 use Rattle.opentype_layout.specs.Keys.{IsBarred, bars, begins_with}
 use Rattle.opentype_layout.specs.Ligatures.{input_in}
 use Rattle.opentype_layout.specs.Pattern.{next_in, places_from, previous_in}
+use Rattle.opentype_layout.specs.RuleHeads.{head_in}
 use Rattle.opentype_layout.specs.Rules.{Kind, Sought, around, chained_in, context_in, end_in, found_at, kind_in, reach_before, reach_behind, reach_from, rule_in, test_in, unchained_in, with_stop}
 use Rattle.opentype_layout.specs.declared.keys.Key.{Key}
 use Rattle.opentype_layout.specs.declared.keys.Keys.{Keys}
+use Rattle.opentype_layout.specs.declared.rule_heads.RuleHead.{RuleHead}
 use Rattle.opentype_layout.specs.declared.sight.Sight.{Sight}
 use Rattle.opentype_layout.proofs.NoneFits.{none_if}
 
@@ -120,6 +122,67 @@ unchained_input kind keys bytes t lt b = rw t (record {
   none = λ gdef input context gs at are. none_input gdef input context gs at _ lt
       (are.no_input (table_at bytes 4) (barred_at keys.input bytes 4 4 refl (omega arith) b));
 })
+
+-- ---- rules by their heads
+
+chosen : {X : Type 0} (test : Bool) (x y : X) → test ≡ true → (if test then x else y) ≡ x
+chosen true x y e = refl
+chosen false x y e = absurd (cc)
+
+left_out : {X : Type 0} (test : Bool) (x y : X) → test ≡ false → (if test then x else y) ≡ y
+left_out true x y e = absurd (cc)
+left_out false x y e = refl
+
+by_chained : (kind : Kind) (keys : Keys) (bytes : List ℕ) → kind.chained ≡ true →
+    IsBarred kind keys (chained_in kind bytes) → IsBarred kind keys (rule_in kind bytes)
+unfolding rule_in
+by_chained kind keys bytes e b = subst (λ (rule : Sought). IsBarred kind keys rule)
+    (sym (chosen kind.chained (chained_in kind bytes) (unchained_in kind bytes) e)) b
+
+by_unchained : (kind : Kind) (keys : Keys) (bytes : List ℕ) → kind.chained ≡ false →
+    IsBarred kind keys (unchained_in kind bytes) → IsBarred kind keys (rule_in kind bytes)
+unfolding rule_in
+by_unchained kind keys bytes e b = subst (λ (rule : Sought). IsBarred kind keys rule)
+    (sym (left_out kind.chained (chained_in kind bytes) (unchained_in kind bytes) e)) b
+
+before_of : (kind : Kind) (keys : Keys) (bytes : List ℕ) (chained : Bool) → kind.chained ≡ chained →
+    (kind.format == 3) ≡ false → 0 < (head_in chained bytes).before_count →
+    bars keys.before (λ n. (head_in chained bytes).before == n) ≡ true → IsBarred kind keys (rule_in kind bytes)
+unfolding head_in
+before_of kind keys bytes true e t lt b = by_chained kind keys bytes e (chained_before kind keys bytes t lt b)
+before_of kind keys bytes false e t lt b = absurd (omega arith)
+
+pub head_before : (kind : Kind) (keys : Keys) (bytes : List ℕ) (head : RuleHead) → (kind.format == 3) ≡ false →
+    head ≡ head_in kind.chained bytes → 0 < head.before_count → bars keys.before (λ n. head.before == n) ≡ true →
+    IsBarred kind keys (rule_in kind bytes)
+head_before kind keys bytes head t is lt b = before_of kind keys bytes kind.chained refl t (rw is at lt) (rw is at b)
+
+input_of : (kind : Kind) (keys : Keys) (bytes : List ℕ) (chained : Bool) → kind.chained ≡ chained →
+    (kind.format == 3) ≡ false → 1 < (head_in chained bytes).input_count →
+    bars keys.input (λ n. (head_in chained bytes).input == n) ≡ true → IsBarred kind keys (rule_in kind bytes)
+unfolding head_in
+input_of kind keys bytes true e t lt b = by_chained kind keys bytes e (chained_input kind keys bytes t lt b)
+input_of kind keys bytes false e t lt b = by_unchained kind keys bytes e (unchained_input kind keys bytes t lt b)
+
+pub head_input : (kind : Kind) (keys : Keys) (bytes : List ℕ) (head : RuleHead) → (kind.format == 3) ≡ false →
+    head ≡ head_in kind.chained bytes → 1 < head.input_count → bars keys.input (λ n. head.input == n) ≡ true →
+    IsBarred kind keys (rule_in kind bytes)
+head_input kind keys bytes head t is lt b = input_of kind keys bytes kind.chained refl t (rw is at lt) (rw is at b)
+
+behind_of : (kind : Kind) (keys : Keys) (bytes : List ℕ) (chained : Bool) → kind.chained ≡ chained →
+    (kind.format == 3) ≡ false → (head_in chained bytes).input_count ≡ 1 → 0 < (head_in chained bytes).behind_count →
+    bars keys.behind (λ n. (head_in chained bytes).behind == n) ≡ true → IsBarred kind keys (rule_in kind bytes)
+unfolding head_in
+behind_of kind keys bytes true e t one lt b =
+    let place : 2 + u16_in bytes 0 * 2 + 2 + 2 ≡ 2 + u16_in bytes 0 * 2 + 4 = omega arith in
+    by_chained kind keys bytes e (chained_behind kind keys bytes t one (rw one at lt) (rw place at (rw one at b)))
+behind_of kind keys bytes false e t one lt b = absurd (omega arith)
+
+pub head_behind : (kind : Kind) (keys : Keys) (bytes : List ℕ) (head : RuleHead) → (kind.format == 3) ≡ false →
+    head ≡ head_in kind.chained bytes → head.input_count ≡ 1 → 0 < head.behind_count →
+    bars keys.behind (λ n. head.behind == n) ≡ true → IsBarred kind keys (rule_in kind bytes)
+head_behind kind keys bytes head t is one lt b =
+    behind_of kind keys bytes kind.chained refl t (rw is at one) (rw is at lt) (rw is at b)
 
 -- ---- contexts of format 3, whose numbers are offsets of sets
 

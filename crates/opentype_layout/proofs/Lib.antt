@@ -4,6 +4,7 @@ pub mod Reached
 pub mod Skipped
 pub mod NoneFits
 pub mod Keyed
+mod ContextKinds
 pub mod SubtableStarts
 pub mod Lookings
 mod BitPlaces
@@ -18,6 +19,7 @@ mod Listed
 mod PairsListed
 mod SubtablesListed
 mod PositionsListed
+mod RulesListed
 mod RuleRows
 mod KeyRows
 mod StartRows

@@ -12,3 +12,5 @@ pub mod Keys
 pub mod PairTables
 pub mod PositionTables
 pub mod LookupRows
+pub mod RuleHeads
+pub mod ContextTables

@@ -21,7 +21,7 @@ is_number glyphs k glyph = u16_in glyphs (k * 2) == glyph
 
 unfoldable pub fits : Pattern → ℕ → ℕ → Bool
 fits (Numbers glyphs) k glyph = is_number glyphs.now k glyph
-fits (Classes classes of) k glyph = u16_in classes.now (k * 2) == class_in of.now glyph
+fits (Classes classes of) k glyph = u16_in classes.now (k * 2) == class_in of.bytes.now glyph
 fits (Sets offsets table) k glyph = is_in_sets offsets.now table.now k glyph
 
 unfoldable pub seen_by : List ℕ → Sight → (ℕ → ℕ → Bool) → ℕ → Glyph → Option Bool

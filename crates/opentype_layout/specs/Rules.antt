@@ -128,9 +128,9 @@ abbrev pub kind : Tables → Kind
 kind it = record {
   chained = it.chained;
   format = it.format;
-  before = it.before.now;
-  input = it.input.now;
-  behind = it.behind.now;
+  before = it.before.bytes.now;
+  input = it.input.bytes.now;
+  behind = it.behind.bytes.now;
 }
 
 abbrev pub is_class : List ℕ → List ℕ → ℕ → ℕ → Bool

@@ -24,3 +24,8 @@ first_place it glyph = coverage_in (first_set_in false it.kind it.bytes) glyph
 pub record AreSubtables (lookup : List ℕ) (tables : List Subtable) : Type 0 where
   pub each : (i : ℕ) → i < length tables →
       slice_index_or tables i no_subtable ≡ nth_subtable lookup i
+
+-- each of these is a table of the subtable with this type and these bytes
+pub record AreContextTables (kind : ℕ) (bytes : List ℕ) (tables : List Subtable) : Type 0 where
+  pub each : (i : ℕ) → i < length tables → slice_index_or tables i no_subtable
+      ≡ (let it : Subtable = record { kind = kind; bytes = bytes } in it)

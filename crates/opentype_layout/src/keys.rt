@@ -3,12 +3,15 @@ ghost use Rattle.std.specs.Prelude.{◌≡◌, ◌≤◌, ◌==◌, ◌%◌, ℕ
 ghost use Rattle.opentype_face.specs.Glyphs.{coverage_in};
 ghost use Rattle.opentype_layout.specs.Keys.{IsBarred, bars, begins_with};
 ghost use Rattle.opentype_layout.specs.Pattern.{next_in, previous_in};
-ghost use Rattle.opentype_layout.specs.Rules.{Kind, chained_in, test_in, unchained_in};
+ghost use Rattle.opentype_layout.specs.RuleHeads.{head_in};
+ghost use Rattle.opentype_layout.specs.Rules.{Kind, chained_in, rule_in, test_in, unchained_in};
 ghost use Rattle.opentype_layout.specs.Sight.{seen_as};
 
+use crate::class_refs::ClassRef;
+use crate::rule_heads::RuleHead;
 use crate::sight::{Sight, ignores_glyph, number};
 use opentype_face::bytes::u16_at;
-use opentype_face::glyph_sets::{class, coverage};
+use opentype_face::glyph_sets::coverage;
 use shapers_buffer::buffer::hb_glyph_info_t;
 
 /// What a list of a rule's numbers must begin with, so that the rule may fit.
@@ -52,14 +55,14 @@ impl Key {
     /// The key of a glyph for the numbers of a format: glyphs in format 1, classes of a table in
     /// format 2.
     #[inline]
-    pub(crate) fn by(&self, format: u16, of: &[u8]) -> Key
+    pub(crate) fn by(&self, format: u16, of: &ClassRef<'_>) -> Key
         ensures { (numbers : List ℕ) → bars result (begins_with numbers) ≡ true →
-            bars self.now (test_in format numbers of.now 0) ≡ true }
+            bars self.now (test_in format numbers of.now.bytes.now 0) ≡ true }
     {
         match *self {
             Key::Number(glyph) => match format {
                 1 => Key::Number(glyph),
-                2 => Key::Number(class(of, glyph)),
+                2 => Key::Number(of.class(glyph)),
                 _ => Key::Any,
             },
             Key::Any => Key::Any,
@@ -132,6 +135,21 @@ pub(crate) struct Keys {
 }
 
 impl Keys {
+    /// Whether they bar a rule of format 1 or 2, by its head.
+    #[inline]
+    pub(crate) fn bar(&self, head: &RuleHead) -> bool
+        ensures { result ≡ true → (kind : Kind) (bytes : List ℕ) → (kind.format == 3) ≡ false →
+            head.now ≡ head_in kind.chained bytes → IsBarred kind self.now (rule_in kind bytes) }
+    {
+        if head.before_count > 0 && self.before.bars(head.before) {
+            return true;
+        }
+        if head.input_count != 1 {
+            return head.input_count > 1 && self.input.bars(head.input);
+        }
+        head.behind_count > 0 && self.behind.bars(head.behind)
+    }
+
     /// Whether they bar a rule of a chained context, of format 1 or 2.
     #[inline]
     #[tactic(auto, unfolding(crate::specs::Rules::chained_in))]

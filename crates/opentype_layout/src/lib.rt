@@ -3,6 +3,8 @@
 #![tactic(auto)]
 
 pub mod bits;
+pub mod class_refs;
+pub mod context_tables;
 pub mod face_tables;
 pub mod features;
 pub mod grid;
@@ -15,6 +17,7 @@ pub mod pair_tables;
 pub mod pattern;
 pub mod places;
 pub mod position_tables;
+pub mod rule_heads;
 pub mod rules;
 pub mod sets;
 pub mod sight;

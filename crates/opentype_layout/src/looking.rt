@@ -14,7 +14,7 @@ use crate::pattern::Pattern;
 use crate::rules::{Rule, Tables};
 use crate::sight::{Sight, number};
 use opentype_face::bytes::{table_at, u16_at};
-use opentype_face::glyph_sets::{class, coverage};
+use opentype_face::glyph_sets::coverage;
 use shapers_buffer::buffer::{BufferFlags, hb_glyph_info_t, unsafe_to_concat_in};
 
 /// A stretch of a text, from a place up to another one.
@@ -406,7 +406,7 @@ pub fn context_rules<'a>(chained: bool, bytes: &'a [u8], glyph: u16) -> Option<R
     match (format, covered) {
         (1, Some(number)) => Some(RuleSet::Rules(tables, rule_set(bytes, 4, number))),
         (2, Some(_)) => {
-            let number = u32::from(class(tables.input, glyph));
+            let number = u32::from(tables.input.class(glyph));
             let sets = if chained { 10 } else { 6 };
             Some(RuleSet::Rules(tables, rule_set(bytes, sets, number)))
         }

@@ -3,9 +3,10 @@ ghost use Rattle.std.specs.Prelude.{◌≡◌, ◌<◌, ◌≤◌, length, IfSom
 ghost use Rattle.opentype_layout.specs.Pattern.{fits, next_in, previous_in, seen_by};
 ghost use Rattle.opentype_layout.specs.Text.{glyph_at};
 
+use crate::class_refs::ClassRef;
 use crate::sight::{Sight, number};
 use opentype_face::bytes::{table_at, u16_at};
-use opentype_face::glyph_sets::{class, coverage};
+use opentype_face::glyph_sets::coverage;
 use shapers_buffer::buffer::hb_glyph_info_t;
 
 /// What the places of a rule look for, one after another. Its numbers stand at the start of a
@@ -15,7 +16,7 @@ pub enum Pattern<'a> {
     /// These glyphs.
     Glyphs(&'a [u8]),
     /// Glyphs of these classes, by a table of classes.
-    Classes(&'a [u8], &'a [u8]),
+    Classes(&'a [u8], ClassRef<'a>),
     /// Glyphs of sets, whose offsets these are, from the start of another table.
     Sets(&'a [u8], &'a [u8]),
 }
@@ -30,7 +31,7 @@ impl<'a> Pattern<'a> {
         match *self {
             Pattern::Glyphs(glyphs) => u16_at(glyphs, usize::from(k) * 2) == glyph,
             Pattern::Classes(classes, of) => u16_at(classes, usize::from(k) * 2)
-                == class(of, glyph),
+                == of.class(glyph),
             Pattern::Sets(offsets, table) => {
                 let offset = usize::from(u16_at(offsets, usize::from(k) * 2));
                 coverage(table_at(table, offset), glyph).is_some()

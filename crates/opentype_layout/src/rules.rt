@@ -1,19 +1,21 @@
 //! Rules of contexts and of chained contexts: what they look for, and where they fit.
-ghost use Rattle.std.specs.Prelude.{◌≡◌, ◌<◌, ◌≤◌, true, length, IfSome, None};
+ghost use Rattle.std.specs.Prelude.{◌≡◌, ◌<◌, ◌≤◌, ℕ, List, true, length, IfSome, None};
 ghost use Rattle.opentype_face.specs.Bytes.{table_at, u16_in};
 ghost use Rattle.std.specs.Option.{option_map};
-ghost use Rattle.opentype_layout.specs.Keys.{AreKeys, IsBarred};
-ghost use Rattle.opentype_layout.specs.Pattern.{fits};
+ghost use Rattle.opentype_layout.specs.Keys.{AreKeys, IsBarred, bars, begins_with};
+ghost use Rattle.opentype_layout.specs.Pattern.{fits, next_in, previous_in};
+ghost use Rattle.opentype_layout.specs.RuleHeads.{nth_rule};
 ghost use Rattle.opentype_layout.specs.Rules.{around, chained_in, context_in, end_in, first_in, found, found_at, kind, kind_in, reach_before, reach_behind, rule_in, set_in, sets_at, shift_in, sought, start_at, test_in, unchained_in};
 
+use crate::class_refs::ClassRef;
 use crate::input::input_places;
-use crate::keys::{Keys, key_before, key_behind};
+use crate::keys::{Key, Keys, key_before, key_behind};
 use crate::pattern::Pattern;
 use crate::places::Places;
+use crate::rule_heads::{Asked, PreparedRules, nth_rule};
 use crate::sets::{place_in_set, place_of_first};
 use crate::sight::{Sight, number};
 use opentype_face::bytes::{table_at, u16_at};
-use opentype_face::glyph_sets::class;
 use opentype_face::glyph_tables::PreparedCoverage;
 use shapers_buffer::buffer::hb_glyph_info_t;
 
@@ -63,11 +65,11 @@ pub struct Tables<'a> {
     /// Its format.
     pub format: u16,
     /// The table of the glyphs before an input.
-    pub before: &'a [u8],
+    pub before: ClassRef<'a>,
     /// The table of the input.
-    pub input: &'a [u8],
+    pub input: ClassRef<'a>,
     /// The table of the glyphs behind it.
-    pub behind: &'a [u8],
+    pub behind: ClassRef<'a>,
 }
 
 // How many glyphs before a place so many places of a pattern reach over.
@@ -197,14 +199,57 @@ impl<'a> Rule<'a> {
 
 // What a list of numbers looks for.
 #[tactic(auto, unfolding(crate::specs::Rules::test_in, crate::specs::Pattern::fits))]
-fn pattern<'a>(format: u16, numbers: &'a [u8], of: &'a [u8]) -> Pattern<'a>
-    ensures { fits result ≡ test_in format numbers.now of.now }
+fn pattern<'a>(format: u16, numbers: &'a [u8], of: ClassRef<'a>) -> Pattern<'a>
+    ensures { fits result ≡ test_in format numbers.now of.entry.bytes.now }
 {
     match format {
         1 => Pattern::Glyphs(numbers),
         2 => Pattern::Classes(numbers, of),
-        _ => Pattern::Sets(numbers, of),
+        _ => Pattern::Sets(numbers, of.bytes),
     }
+}
+
+// What rules must look for first before a place, if they ask about it.
+#[inline]
+fn before_key(
+    is_asked: bool,
+    format: u16,
+    of: &ClassRef<'_>,
+    gdef: &[u8],
+    sight: &Sight,
+    glyphs: &[hb_glyph_info_t],
+    at: usize,
+) -> Key
+    requires { at ≤ length glyphs.now }
+    ensures { (numbers : List ℕ) → bars result (begins_with numbers) ≡ true →
+        previous_in gdef.now sight.now (test_in format numbers of.now.bytes.now) glyphs.now at 0 0
+        ≡ None }
+{
+    if !is_asked {
+        return Key::Any;
+    }
+    key_before(gdef, sight, glyphs, at).by(format, of)
+}
+
+// The same from a place on.
+#[inline]
+fn behind_key(
+    is_asked: bool,
+    format: u16,
+    of: &ClassRef<'_>,
+    gdef: &[u8],
+    sight: &Sight,
+    glyphs: &[hb_glyph_info_t],
+    from: usize,
+) -> Key
+    ensures { (numbers : List ℕ) → bars result (begins_with numbers) ≡ true →
+        next_in gdef.now sight.now (test_in format numbers of.now.bytes.now) glyphs.now 0 from
+        ≡ None }
+{
+    if !is_asked {
+        return Key::Any;
+    }
+    key_behind(gdef, sight, glyphs, from).by(format, of)
 }
 
 fn shift(format: u16) -> usize
@@ -251,11 +296,11 @@ impl<'a> Tables<'a> {
         let shift = shift(self.format);
         let input_count = u16_at(bytes, shift);
         Rule {
-            before: pattern(1, &[], &[]),
+            before: pattern(1, &[], ClassRef::of(&[])),
             before_count: 0,
             input: pattern(self.format, table_at(bytes, shift + shift + 4), self.input),
             input_count,
-            behind: pattern(1, &[], &[]),
+            behind: pattern(1, &[], ClassRef::of(&[])),
             behind_count: 0,
             records: table_at(bytes, shift + shift + 2 + usize::from(input_count) * 2),
             count: u16_at(bytes, shift + 2),
@@ -281,12 +326,13 @@ impl<'a> Tables<'a> {
         requires { u16_in bytes.now 0 ≡ 3 }
         ensures { kind result ≡ kind_in chained bytes.now }
     {
+        let table = ClassRef::of(bytes);
         Tables {
             chained,
             format: 3,
-            before: bytes,
-            input: bytes,
-            behind: bytes,
+            before: table,
+            input: table,
+            behind: table,
         }
     }
 
@@ -296,40 +342,35 @@ impl<'a> Tables<'a> {
         ensures { kind result ≡ kind_in chained bytes.now }
     {
         match u16_at(bytes, 0) {
-            3 => Tables {
-                chained,
-                format: 3,
-                before: bytes,
-                input: bytes,
-                behind: bytes,
-            },
+            3 => Self::of_sets(chained, bytes),
             2 if chained => Tables {
                 chained: true,
                 format: 2,
-                before: table_at(bytes, usize::from(u16_at(bytes, 4))),
-                input: table_at(bytes, usize::from(u16_at(bytes, 6))),
-                behind: table_at(bytes, usize::from(u16_at(bytes, 8))),
+                before: classes_at(bytes, 4),
+                input: classes_at(bytes, 6),
+                behind: classes_at(bytes, 8),
             },
             2 => Tables {
                 chained: false,
                 format: 2,
-                before: &[],
-                input: table_at(bytes, usize::from(u16_at(bytes, 4))),
-                behind: &[],
+                before: ClassRef::of(&[]),
+                input: classes_at(bytes, 4),
+                behind: ClassRef::of(&[]),
             },
             _ => Tables {
                 chained,
                 format: 1,
-                before: &[],
-                input: &[],
-                behind: &[],
+                before: ClassRef::of(&[]),
+                input: ClassRef::of(&[]),
+                behind: ClassRef::of(&[]),
             },
         }
     }
 
-    // What rules must look for beside a place to fit there.
+    // What rules must look for beside a place to fit there, as far as they ask about it.
     fn keys(
         &self,
+        asked: Asked,
         gdef: &[u8],
         input: &Sight,
         context: &Sight,
@@ -341,9 +382,9 @@ impl<'a> Tables<'a> {
     {
         let (format, end) = (self.format, end_of(at, &[]));
         Keys {
-            before: key_before(gdef, context, glyphs, at).by(format, self.before),
-            input: key_behind(gdef, input, glyphs, at + 1).by(format, self.input),
-            behind: key_behind(gdef, context, glyphs, end).by(format, self.behind),
+            before: before_key(asked.before, format, &self.before, gdef, context, glyphs, at),
+            input: behind_key(asked.input, format, &self.input, gdef, input, glyphs, at + 1),
+            behind: behind_key(asked.behind, format, &self.behind, gdef, context, glyphs, end),
         }
     }
 
@@ -392,36 +433,69 @@ impl<'a> Tables<'a> {
         if input_count != 1 {
             return input_count > 1
                 && key_behind(gdef, input, glyphs, at + 1).bars_set(set_at(
-                    self.input,
+                    self.input.bytes,
                     bytes,
                     input_at + 4,
                 ));
         }
         if before_count > 0
-            && key_before(gdef, context, glyphs, at).bars_set(set_at(self.before, bytes, 4))
+            && key_before(gdef, context, glyphs, at).bars_set(set_at(self.before.bytes, bytes, 4))
         {
             return true;
         }
         u16_at(bytes, input_at + 4) > 0
             && key_behind(gdef, context, glyphs, end_of(at, &[])).bars_set(set_at(
-                self.behind,
+                self.behind.bytes,
                 bytes,
                 input_at + 6,
             ))
     }
 
-    // The first rule of a set that fits.
+    // Whether a rule of a set can't fit a place with these keys, by the set's heads if it has them.
+    #[inline]
+    fn is_nth_barred(
+        &self,
+        keys: &Keys,
+        set: &[u8],
+        prepared: Option<&PreparedRules<'_>>,
+        i: u16,
+    ) -> bool
+        requires { IfSome prepared (λ it. it.now ≡ record {
+          chained = self.now.chained;
+          bytes = set.now;
+        }) }
+        ensures { result ≡ true →
+            IsBarred (kind self.now) keys.now (rule_in (kind self.now) (nth_rule set.now i)) }
+    {
+        if self.format == 3 {
+            return false;
+        }
+        if let Some(rules) = prepared
+            && let Some(head) = rules.head(i)
+        {
+            return keys.bar(head);
+        }
+        self.is_barred(keys, nth_rule(set, i))
+    }
+
+    /// The first rule of a set that fits; the set's heads, if it has them, save most reads of its
+    /// bytes.
     #[tactic(auto, unfolding(crate::specs::Rules::nth_in, crate::specs::Rules::first_in))]
-    fn first_rule(
+    pub(crate) fn first_rule(
         &self,
         gdef: &[u8],
         input: &Sight,
         context: &Sight,
         set: &'a [u8],
+        prepared: Option<&PreparedRules<'_>>,
         glyphs: &[hb_glyph_info_t],
         at: usize,
     ) -> Option<Matched<'a>>
-        requires { at < length glyphs.now }
+        requires inside { at < length glyphs.now }
+        requires prepared { IfSome prepared (λ it. it.now ≡ record {
+          chained = self.now.chained;
+          bytes = set.now;
+        }) }
         ensures { option_map (λ it. found it) result
             ≡ first_in gdef.now input.now context.now (kind self.now) set.now glyphs.now at }
     {
@@ -430,19 +504,31 @@ impl<'a> Tables<'a> {
         if count == 0 {
             return None;
         }
-        let keys = self.keys(gdef, input, context, glyphs, at);
+        let asked = match prepared {
+            Some(rules) => rules.asked(),
+            None => Asked::all(self.chained),
+        };
+        let keys = self.keys(asked, gdef, input, context, glyphs, at);
         for i in 0..count {
-            let bytes = table_at(set, usize::from(u16_at(set, 2 + usize::from(i) * 2)));
-            if self.is_barred(&keys, bytes) {
+            if self.is_nth_barred(&keys, set, prepared, i) {
                 continue;
             }
-            let found = self.rule(bytes).fit(gdef, input, context, glyphs, at);
+            let rule = self.rule(nth_rule(set, i));
+            let found = rule.fit(gdef, input, context, glyphs, at);
             if found.is_some() {
                 return found;
             }
         }
         None
     }
+}
+
+// The table of classes whose offset stands at a place of a context.
+#[inline]
+fn classes_at(bytes: &[u8], at: usize) -> ClassRef<'_>
+    ensures { result.bytes.now ≡ table_at bytes.now (u16_in bytes.now at) }
+{
+    ClassRef::of(table_at(bytes, usize::from(u16_at(bytes, at))))
 }
 
 // The set of glyphs whose offset from the start of a table stands at a place of a rule.
@@ -511,10 +597,10 @@ pub fn find_rule<'a>(
     let rules = match format {
         1 => rule_set(bytes, 4, place),
         2 => {
-            let class = class(tables.input, glyph);
+            let class = tables.input.class(glyph);
             rule_set(bytes, place_of_sets(chained), u32::from(class))
         }
         _ => return None,
     };
-    tables.first_rule(gdef, input, context, rules, glyphs, at)
+    tables.first_rule(gdef, input, context, rules, None, glyphs, at)
 }

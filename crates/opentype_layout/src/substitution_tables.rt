@@ -2,16 +2,21 @@
 ghost use Rattle.std.specs.Prelude.{◌≡◌, false};
 ghost use Rattle.std.specs.Option.{ForSome};
 ghost use Rattle.opentype_layout.specs.Starts.{first_set_in};
-ghost use Rattle.opentype_layout.specs.SubstitutionTables.{AreSubtables, first_place, nth_subtable};
+ghost use Rattle.opentype_layout.specs.SubstitutionTables.{AreContextTables, AreSubtables, first_place, nth_subtable};
 
+use crate::context_tables::ContextTable;
 use crate::sets::{first_set, place_in_set, place_of_set};
+use opentype_face::bytes::u16_at;
 use opentype_face::glyph_tables::PreparedCoverage;
 use opentype_face::lookup::{subtable, subtable_count, subtable_type};
 use std::alloc::Global;
 use std::marker::Model;
 
 /// How many bytes a table costs beside the places of its glyphs.
-const TABLE_COST: usize = 64;
+const TABLE_COST: usize = 96;
+
+/// How many bytes the tables of a context cost beside their classes and rules.
+const CONTEXT_COST: usize = 256;
 
 /// A subtable of GSUB at a glyph.
 #[derive(Clone, Copy, Debug)]
@@ -33,7 +38,11 @@ pub struct SubtableRef<'a> {
     pub bytes: &'a [u8],
     /// The table of the set.
     pub set: Option<&'a PreparedCoverage<'a>>,
+    /// Its tables, if it is a context that has them.
+    pub context: Option<&'a ContextTable<'a>>,
     ghost fits: { ForSome set (λ it. it.now.set.now ≡ first_set_in false kind bytes.now) },
+    ghost context_fits: { ForSome context (λ it.
+        it.now ≡ record { kind = kind; bytes = bytes.now }) },
 }
 
 impl<'a> SubtableRef<'a> {
@@ -47,6 +56,7 @@ impl<'a> SubtableRef<'a> {
             kind: subtable_type(7, lookup, i),
             bytes: subtable(7, lookup, i),
             set: None,
+            context: None,
         }
     }
 
@@ -69,24 +79,50 @@ impl<'a> SubtableRef<'a> {
     }
 }
 
+// The tables of a context of format 1 or 2. There are none of another subtable, and where a budget
+// in bytes or memory doesn't suffice.
+fn tables_of_context<'a>(
+    alloc: Global,
+    kind: u16,
+    bytes: &'a [u8],
+    budget: &mut usize,
+) -> Vec<ContextTable<'a>>
+    ensures { AreContextTables kind bytes.now result.items }
+{
+    let mut tables = Vec::new(alloc);
+    let format = u16_at(bytes, 0);
+    if (kind != 5 && kind != 6) || (format != 1 && format != 2) || *budget < CONTEXT_COST {
+        return tables;
+    }
+    *budget -= CONTEXT_COST;
+    let table = ContextTable::new(alloc, kind, bytes, budget);
+    if tables.push(table).is_err() {
+        return Vec::new(alloc);
+    }
+    tables
+}
+
 /// A subtable of GSUB, with its type, and with a table of the glyphs that it begins with.
 #[derive(Debug, Drop)]
 pub struct SubstitutionTable<'a> {
     bytes: &'a [u8],
     kind: u16,
     set: PreparedCoverage<'a>,
+    // (one of a context, which is large; none of another subtable)
+    contexts: Vec<ContextTable<'a>>,
 }
 
 impl<'a> Model for SubstitutionTable<'a> {
     ghost use Rattle.std.specs.Prelude.{◌≡◌, false};
     ghost use Rattle.opentype_layout.specs.Starts.{first_set_in};
-    ghost use Rattle.opentype_layout.specs.SubstitutionTables.{Subtable};
+    ghost use Rattle.opentype_layout.specs.SubstitutionTables.{AreContextTables, Subtable};
 
     ghost Value = { Subtable };
 
     ghost view = { λ it. record { kind = it.kind; bytes = it.bytes.now } };
 
-    ghost invariant = { λ it. it.set.set.now ≡ first_set_in false it.kind it.bytes.now };
+    ghost invariant = { λ it. (it.set.set.now ≡ first_set_in false it.kind it.bytes.now) ×
+        AreContextTables it.kind it.bytes.now it.contexts.items };
 }
 
 impl<'a> SubstitutionTable<'a> {
@@ -94,10 +130,12 @@ impl<'a> SubstitutionTable<'a> {
     pub fn new(alloc: Global, lookup: &'a [u8], i: u16, budget: &mut usize) -> Self
         ensures { result ≡ nth_subtable lookup.now i }
     {
+        let (kind, bytes) = (subtable_type(7, lookup, i), subtable(7, lookup, i));
         SubstitutionTable {
-            bytes: subtable(7, lookup, i),
-            kind: subtable_type(7, lookup, i),
+            bytes,
+            kind,
             set: PreparedCoverage::new(first_set(false, lookup, i), alloc, budget),
+            contexts: tables_of_context(alloc, kind, bytes, budget),
         }
     }
 
@@ -111,6 +149,7 @@ impl<'a> SubstitutionTable<'a> {
             kind: self.kind,
             bytes: self.bytes,
             set: Some(&self.set),
+            context: self.contexts.first(),
         }
     }
 }

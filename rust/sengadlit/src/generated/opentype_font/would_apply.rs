@@ -8,6 +8,7 @@ use crate::generated::opentype_face::bytes::{table_at, u16_at};
 use crate::generated::opentype_face::glyph_sets::{class, coverage};
 use crate::generated::opentype_face::lookup::{subtable, subtable_count, subtable_type};
 use crate::generated::opentype_font::stages::is_absent;
+use crate::generated::opentype_layout::class_refs::ClassRef;
 use crate::generated::opentype_layout::pattern::Pattern;
 use crate::generated::opentype_layout::tables::LayoutTable;
 use crate::generated::shapers_base::buffer::GlyphInfo;
@@ -177,7 +178,7 @@ fn nth(set: &[u8], i: u16) -> &[u8] {
 // Whether the glyphs behind the first one are these, or of these classes.
 fn fit_numbers(numbers: &[u8], classes: Option<&[u8]>, glyphs: &[GlyphId]) -> bool {
     match classes {
-        Some(of) => fit_each(&Pattern::Classes(numbers, of), 1, glyphs),
+        Some(of) => fit_each(&Pattern::Classes(numbers, ClassRef::of(of)), 1, glyphs),
         None => fit_each(&Pattern::Glyphs(numbers), 1, glyphs),
     }
 }

@@ -13,6 +13,7 @@ use crate::generated::opentype_gsub::shifting::Rule;
 use crate::generated::opentype_gsub::trying::flag_tried;
 use crate::generated::opentype_layout::rules::{Matched, find_rule};
 use crate::generated::opentype_layout::starts::LookupTable;
+use crate::generated::opentype_layout::substitution_tables::SubtableRef;
 use crate::generated::shapers_buffer::buffer::{GlyphInfo, LookupRecord, ShaperError};
 use crate::support::arrayvec::ArrayVec;
 use core::mem;
@@ -45,6 +46,22 @@ fn begin<'a>(
     Rule::begin(matched, len)
 }
 
+// The first rule of a context that fits a place.
+fn rule_of<'a>(
+    pass: &Pass<'_>,
+    sights: &Sights,
+    subtable: &SubtableRef<'a>,
+    glyphs: &[GlyphInfo],
+    at: usize,
+) -> Option<Matched<'a>> {
+    let (gdef, input, context) = (pass.classes.gdef, &sights.input, &sights.context);
+    let (chained, bytes, set) = (subtable.kind == 6, subtable.bytes, subtable.set);
+    match subtable.context {
+        Some(table) => table.find_rule(gdef, input, context, set, glyphs, at),
+        None => find_rule(chained, gdef, input, context, bytes, set, glyphs, at),
+    }
+}
+
 // What one of a lookup's subtables comes to at a place.
 fn come_by<'a>(
     pass: &Pass<'_>,
@@ -56,19 +73,9 @@ fn come_by<'a>(
     at: usize,
 ) -> Result<Outcome<'a>, ShaperError> {
     let subtable = lookup.subtable(i);
-    let (kind, bytes, set) = (subtable.kind, subtable.bytes, subtable.set);
+    let kind = subtable.kind;
     if kind == 5 || kind == 6 {
-        let (input, context) = (&sights.input, &sights.context);
-        return match find_rule(
-            kind == 6,
-            pass.classes.gdef,
-            input,
-            context,
-            bytes,
-            set,
-            text,
-            at,
-        ) {
+        return match rule_of(pass, sights, &subtable, text, at) {
             Some(matched) => Ok(Outcome::Fits(begin(pass, kind == 6, matched, text))),
             None => Ok(Outcome::Nothing),
         };

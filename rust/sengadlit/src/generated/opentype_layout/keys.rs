@@ -5,7 +5,9 @@
 use crate::support::prelude::*;
 
 use crate::generated::opentype_face::bytes::u16_at;
-use crate::generated::opentype_face::glyph_sets::{class, coverage};
+use crate::generated::opentype_face::glyph_sets::coverage;
+use crate::generated::opentype_layout::class_refs::ClassRef;
+use crate::generated::opentype_layout::rule_heads::RuleHead;
 use crate::generated::opentype_layout::sight::{Sight, ignores_glyph, number};
 use crate::generated::shapers_buffer::buffer::GlyphInfo;
 
@@ -56,11 +58,11 @@ impl Key {
     /// The key of a glyph for the numbers of a format: glyphs in format 1, classes of a table in
     /// format 2.
     #[inline]
-    pub(crate) fn by(&self, format: u16, of: &[u8]) -> Key {
+    pub(crate) fn by(&self, format: u16, of: &ClassRef<'_>) -> Key {
         match *self {
             Key::Number(glyph) => match format {
                 1 => Key::Number(glyph),
-                2 => Key::Number(class(of, glyph)),
+                2 => Key::Number(of.class(glyph)),
                 _ => Key::Any,
             },
             Key::Any => Key::Any,
@@ -134,6 +136,18 @@ pub(crate) struct Keys {
 }
 
 impl Keys {
+    /// Whether they bar a rule of format 1 or 2, by its head.
+    #[inline]
+    pub(crate) fn bar(&self, head: &RuleHead) -> bool {
+        if head.before_count > 0 && self.before.bars(head.before) {
+            return true;
+        }
+        if head.input_count != 1 {
+            return head.input_count > 1 && self.input.bars(head.input);
+        }
+        head.behind_count > 0 && self.behind.bars(head.behind)
+    }
+
     /// Whether they bar a rule of a chained context, of format 1 or 2.
     #[inline]
     pub(crate) fn bar_chained(&self, bytes: &[u8]) -> bool {

@@ -5,7 +5,7 @@
 use crate::support::prelude::*;
 
 use crate::generated::opentype_face::bytes::{table_at, u16_at};
-use crate::generated::opentype_face::glyph_sets::{class, coverage};
+use crate::generated::opentype_face::glyph_sets::coverage;
 use crate::generated::opentype_layout::input::input_places;
 use crate::generated::opentype_layout::pattern::Pattern;
 use crate::generated::opentype_layout::rules::{Rule, Tables};
@@ -440,7 +440,7 @@ pub fn context_rules<'a>(chained: bool, bytes: &'a [u8], glyph: u16) -> Option<R
     match (format, covered) {
         (1, Some(number)) => Some(RuleSet::Rules(tables, rule_set(bytes, 4, number))),
         (2, Some(_)) => {
-            let number = u32::from(class(tables.input, glyph));
+            let number = u32::from(tables.input.class(glyph));
             let sets = if chained { 10 } else { 6 };
             Some(RuleSet::Rules(tables, rule_set(bytes, sets, number)))
         }

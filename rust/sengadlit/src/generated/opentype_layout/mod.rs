@@ -4,6 +4,8 @@
 //! what their rules look for.
 
 pub mod bits;
+pub mod class_refs;
+pub mod context_tables;
 pub mod face_tables;
 pub mod features;
 pub mod grid;
@@ -16,6 +18,7 @@ pub mod pair_tables;
 pub mod pattern;
 pub mod places;
 pub mod position_tables;
+pub mod rule_heads;
 pub mod rules;
 pub mod sets;
 pub mod sight;

@@ -3,7 +3,8 @@
 //! What places of a rule look for, and where they find it.
 
 use crate::generated::opentype_face::bytes::{table_at, u16_at};
-use crate::generated::opentype_face::glyph_sets::{class, coverage};
+use crate::generated::opentype_face::glyph_sets::coverage;
+use crate::generated::opentype_layout::class_refs::ClassRef;
 use crate::generated::opentype_layout::sight::{Sight, number};
 use crate::generated::shapers_buffer::buffer::GlyphInfo;
 
@@ -14,7 +15,7 @@ pub enum Pattern<'a> {
     /// These glyphs.
     Glyphs(&'a [u8]),
     /// Glyphs of these classes, by a table of classes.
-    Classes(&'a [u8], &'a [u8]),
+    Classes(&'a [u8], ClassRef<'a>),
     /// Glyphs of sets, whose offsets these are, from the start of another table.
     Sets(&'a [u8], &'a [u8]),
 }
@@ -37,9 +38,7 @@ impl<'a> Pattern<'a> {
     pub fn fits(&self, k: u16, glyph: u16) -> bool {
         match *self {
             Pattern::Glyphs(glyphs) => u16_at(glyphs, usize::from(k) * 2) == glyph,
-            Pattern::Classes(classes, of) => {
-                u16_at(classes, usize::from(k) * 2) == class(of, glyph)
-            }
+            Pattern::Classes(classes, of) => u16_at(classes, usize::from(k) * 2) == of.class(glyph),
             Pattern::Sets(offsets, table) => {
                 let offset = usize::from(u16_at(offsets, usize::from(k) * 2));
                 coverage(table_at(table, offset), glyph).is_some()

@@ -5,12 +5,13 @@
 use crate::support::prelude::*;
 
 use crate::generated::opentype_face::bytes::{table_at, u16_at};
-use crate::generated::opentype_face::glyph_sets::class;
 use crate::generated::opentype_face::glyph_tables::PreparedCoverage;
+use crate::generated::opentype_layout::class_refs::ClassRef;
 use crate::generated::opentype_layout::input::input_places;
-use crate::generated::opentype_layout::keys::{Keys, key_before, key_behind};
+use crate::generated::opentype_layout::keys::{Key, Keys, key_before, key_behind};
 use crate::generated::opentype_layout::pattern::Pattern;
 use crate::generated::opentype_layout::places::Places;
+use crate::generated::opentype_layout::rule_heads::{Asked, PreparedRules, nth_rule};
 use crate::generated::opentype_layout::sets::{place_in_set, place_of_first};
 use crate::generated::opentype_layout::sight::{Sight, number};
 use crate::generated::shapers_buffer::buffer::GlyphInfo;
@@ -61,11 +62,11 @@ pub struct Tables<'a> {
     /// Its format.
     pub format: u16,
     /// The table of the glyphs before an input.
-    pub before: &'a [u8],
+    pub before: ClassRef<'a>,
     /// The table of the input.
-    pub input: &'a [u8],
+    pub input: ClassRef<'a>,
     /// The table of the glyphs behind it.
-    pub behind: &'a [u8],
+    pub behind: ClassRef<'a>,
 }
 
 // How many glyphs before a place so many places of a pattern reach over.
@@ -187,12 +188,46 @@ impl<'a> Rule<'a> {
 }
 
 // What a list of numbers looks for.
-fn pattern<'a>(format: u16, numbers: &'a [u8], of: &'a [u8]) -> Pattern<'a> {
+fn pattern<'a>(format: u16, numbers: &'a [u8], of: ClassRef<'a>) -> Pattern<'a> {
     match format {
         1 => Pattern::Glyphs(numbers),
         2 => Pattern::Classes(numbers, of),
-        _ => Pattern::Sets(numbers, of),
+        _ => Pattern::Sets(numbers, of.bytes),
     }
+}
+
+// What rules must look for first before a place, if they ask about it.
+#[inline]
+fn before_key(
+    is_asked: bool,
+    format: u16,
+    of: &ClassRef<'_>,
+    gdef: &[u8],
+    sight: &Sight,
+    glyphs: &[GlyphInfo],
+    at: usize,
+) -> Key {
+    if !is_asked {
+        return Key::Any;
+    }
+    key_before(gdef, sight, glyphs, at).by(format, of)
+}
+
+// The same from a place on.
+#[inline]
+fn behind_key(
+    is_asked: bool,
+    format: u16,
+    of: &ClassRef<'_>,
+    gdef: &[u8],
+    sight: &Sight,
+    glyphs: &[GlyphInfo],
+    from: usize,
+) -> Key {
+    if !is_asked {
+        return Key::Any;
+    }
+    key_behind(gdef, sight, glyphs, from).by(format, of)
 }
 
 fn shift(format: u16) -> usize {
@@ -230,11 +265,11 @@ impl<'a> Tables<'a> {
         let shift = shift(self.format);
         let input_count = u16_at(bytes, shift);
         Rule {
-            before: pattern(1, &[], &[]),
+            before: pattern(1, &[], ClassRef::of(&[])),
             before_count: 0,
             input: pattern(self.format, table_at(bytes, shift + shift + 4), self.input),
             input_count,
-            behind: pattern(1, &[], &[]),
+            behind: pattern(1, &[], ClassRef::of(&[])),
             behind_count: 0,
             records: table_at(bytes, shift + shift + 2 + usize::from(input_count) * 2),
             count: u16_at(bytes, shift + 2),
@@ -265,12 +300,13 @@ impl<'a> Tables<'a> {
     // The tables of a context of format 3, whose offsets are all from its start.
     #[inline]
     fn of_sets(chained: bool, bytes: &'a [u8]) -> Self {
+        let table = ClassRef::of(bytes);
         Tables {
             chained,
             format: 3,
-            before: bytes,
-            input: bytes,
-            behind: bytes,
+            before: table,
+            input: table,
+            behind: table,
         }
     }
 
@@ -289,40 +325,35 @@ impl<'a> Tables<'a> {
     /// </details>
     pub fn of(chained: bool, bytes: &'a [u8]) -> Self {
         match u16_at(bytes, 0) {
-            3 => Tables {
-                chained,
-                format: 3,
-                before: bytes,
-                input: bytes,
-                behind: bytes,
-            },
+            3 => Self::of_sets(chained, bytes),
             2 if chained => Tables {
                 chained: true,
                 format: 2,
-                before: table_at(bytes, usize::from(u16_at(bytes, 4))),
-                input: table_at(bytes, usize::from(u16_at(bytes, 6))),
-                behind: table_at(bytes, usize::from(u16_at(bytes, 8))),
+                before: classes_at(bytes, 4),
+                input: classes_at(bytes, 6),
+                behind: classes_at(bytes, 8),
             },
             2 => Tables {
                 chained: false,
                 format: 2,
-                before: &[],
-                input: table_at(bytes, usize::from(u16_at(bytes, 4))),
-                behind: &[],
+                before: ClassRef::of(&[]),
+                input: classes_at(bytes, 4),
+                behind: ClassRef::of(&[]),
             },
             _ => Tables {
                 chained,
                 format: 1,
-                before: &[],
-                input: &[],
-                behind: &[],
+                before: ClassRef::of(&[]),
+                input: ClassRef::of(&[]),
+                behind: ClassRef::of(&[]),
             },
         }
     }
 
-    // What rules must look for beside a place to fit there.
+    // What rules must look for beside a place to fit there, as far as they ask about it.
     fn keys(
         &self,
+        asked: Asked,
         gdef: &[u8],
         input: &Sight,
         context: &Sight,
@@ -331,9 +362,33 @@ impl<'a> Tables<'a> {
     ) -> Keys {
         let (format, end) = (self.format, end_of(at, &[]));
         Keys {
-            before: key_before(gdef, context, glyphs, at).by(format, self.before),
-            input: key_behind(gdef, input, glyphs, at + 1).by(format, self.input),
-            behind: key_behind(gdef, context, glyphs, end).by(format, self.behind),
+            before: before_key(
+                asked.before,
+                format,
+                &self.before,
+                gdef,
+                context,
+                glyphs,
+                at,
+            ),
+            input: behind_key(
+                asked.input,
+                format,
+                &self.input,
+                gdef,
+                input,
+                glyphs,
+                at + 1,
+            ),
+            behind: behind_key(
+                asked.behind,
+                format,
+                &self.behind,
+                gdef,
+                context,
+                glyphs,
+                end,
+            ),
         }
     }
 
@@ -373,31 +428,53 @@ impl<'a> Tables<'a> {
         if input_count != 1 {
             return input_count > 1
                 && key_behind(gdef, input, glyphs, at + 1).bars_set(set_at(
-                    self.input,
+                    self.input.bytes,
                     bytes,
                     input_at + 4,
                 ));
         }
         if before_count > 0
-            && key_before(gdef, context, glyphs, at).bars_set(set_at(self.before, bytes, 4))
+            && key_before(gdef, context, glyphs, at).bars_set(set_at(self.before.bytes, bytes, 4))
         {
             return true;
         }
         u16_at(bytes, input_at + 4) > 0
             && key_behind(gdef, context, glyphs, end_of(at, &[])).bars_set(set_at(
-                self.behind,
+                self.behind.bytes,
                 bytes,
                 input_at + 6,
             ))
     }
 
-    // The first rule of a set that fits.
-    fn first_rule(
+    // Whether a rule of a set can't fit a place with these keys, by the set's heads if it has them.
+    #[inline]
+    fn is_nth_barred(
+        &self,
+        keys: &Keys,
+        set: &[u8],
+        prepared: Option<&PreparedRules<'_>>,
+        i: u16,
+    ) -> bool {
+        if self.format == 3 {
+            return false;
+        }
+        if let Some(rules) = prepared
+            && let Some(head) = rules.head(i)
+        {
+            return keys.bar(head);
+        }
+        self.is_barred(keys, nth_rule(set, i))
+    }
+
+    /// The first rule of a set that fits; the set's heads, if it has them, save most reads of its
+    /// bytes.
+    pub(crate) fn first_rule(
         &self,
         gdef: &[u8],
         input: &Sight,
         context: &Sight,
         set: &'a [u8],
+        prepared: Option<&PreparedRules<'_>>,
         glyphs: &[GlyphInfo],
         at: usize,
     ) -> Option<Matched<'a>> {
@@ -406,19 +483,29 @@ impl<'a> Tables<'a> {
         if count == 0 {
             return None;
         }
-        let keys = self.keys(gdef, input, context, glyphs, at);
+        let asked = match prepared {
+            Some(rules) => rules.asked(),
+            None => Asked::all(self.chained),
+        };
+        let keys = self.keys(asked, gdef, input, context, glyphs, at);
         for i in 0..count {
-            let bytes = table_at(set, usize::from(u16_at(set, 2 + usize::from(i) * 2)));
-            if self.is_barred(&keys, bytes) {
+            if self.is_nth_barred(&keys, set, prepared, i) {
                 continue;
             }
-            let found = self.rule(bytes).fit(gdef, input, context, glyphs, at);
+            let rule = self.rule(nth_rule(set, i));
+            let found = rule.fit(gdef, input, context, glyphs, at);
             if found.is_some() {
                 return found;
             }
         }
         None
     }
+}
+
+// The table of classes whose offset stands at a place of a context.
+#[inline]
+fn classes_at(bytes: &[u8], at: usize) -> ClassRef<'_> {
+    ClassRef::of(table_at(bytes, usize::from(u16_at(bytes, at))))
 }
 
 // The set of glyphs whose offset from the start of a table stands at a place of a rule.
@@ -487,10 +574,10 @@ pub fn find_rule<'a>(
     let rules = match format {
         1 => rule_set(bytes, 4, place),
         2 => {
-            let class = class(tables.input, glyph);
+            let class = tables.input.class(glyph);
             rule_set(bytes, place_of_sets(chained), u32::from(class))
         }
         _ => return None,
     };
-    tables.first_rule(gdef, input, context, rules, glyphs, at)
+    tables.first_rule(gdef, input, context, rules, None, glyphs, at)
 }

@@ -4,13 +4,18 @@
 
 use crate::support::prelude::*;
 
+use crate::generated::opentype_face::bytes::u16_at;
 use crate::generated::opentype_face::glyph_tables::PreparedCoverage;
 use crate::generated::opentype_face::lookup::{subtable, subtable_count, subtable_type};
+use crate::generated::opentype_layout::context_tables::ContextTable;
 use crate::generated::opentype_layout::sets::{first_set, place_in_set, place_of_set};
 use crate::support::alloc::Global;
 
 /// How many bytes a table costs beside the places of its glyphs.
-const TABLE_COST: usize = 64;
+const TABLE_COST: usize = 96;
+
+/// How many bytes the tables of a context cost beside their classes and rules.
+const CONTEXT_COST: usize = 256;
 
 /// A subtable of GSUB at a glyph.
 #[derive(Clone, Copy, Debug)]
@@ -32,6 +37,8 @@ pub struct SubtableRef<'a> {
     pub bytes: &'a [u8],
     /// The table of the set.
     pub set: Option<&'a PreparedCoverage<'a>>,
+    /// Its tables, if it is a context that has them.
+    pub context: Option<&'a ContextTable<'a>>,
 }
 
 impl<'a> SubtableRef<'a> {
@@ -42,6 +49,7 @@ impl<'a> SubtableRef<'a> {
             kind: subtable_type(7, lookup, i),
             bytes: subtable(7, lookup, i),
             set: None,
+            context: None,
         }
     }
 
@@ -74,12 +82,35 @@ impl<'a> SubtableRef<'a> {
     }
 }
 
+// The tables of a context of format 1 or 2. There are none of another subtable, and where a budget
+// in bytes or memory doesn't suffice.
+fn tables_of_context<'a>(
+    alloc: Global,
+    kind: u16,
+    bytes: &'a [u8],
+    budget: &mut usize,
+) -> Vec<ContextTable<'a>> {
+    let mut tables = Vec::new(alloc);
+    let format = u16_at(bytes, 0);
+    if (kind != 5 && kind != 6) || (format != 1 && format != 2) || *budget < CONTEXT_COST {
+        return tables;
+    }
+    *budget -= CONTEXT_COST;
+    let table = ContextTable::new(alloc, kind, bytes, budget);
+    if tables.push(table).is_err() {
+        return Vec::new(alloc);
+    }
+    tables
+}
+
 /// A subtable of GSUB, with its type, and with a table of the glyphs that it begins with.
 #[derive(Debug)]
 pub struct SubstitutionTable<'a> {
     bytes: &'a [u8],
     kind: u16,
     set: PreparedCoverage<'a>,
+    // (one of a context, which is large; none of another subtable)
+    contexts: Vec<ContextTable<'a>>,
 }
 
 impl<'a> SubstitutionTable<'a> {
@@ -97,10 +128,12 @@ impl<'a> SubstitutionTable<'a> {
     ///
     /// </details>
     pub fn new(alloc: Global, lookup: &'a [u8], i: u16, budget: &mut usize) -> Self {
+        let (kind, bytes) = (subtable_type(7, lookup, i), subtable(7, lookup, i));
         SubstitutionTable {
-            bytes: subtable(7, lookup, i),
-            kind: subtable_type(7, lookup, i),
+            bytes,
+            kind,
             set: PreparedCoverage::new(first_set(false, lookup, i), alloc, budget),
+            contexts: tables_of_context(alloc, kind, bytes, budget),
         }
     }
 
@@ -122,6 +155,7 @@ impl<'a> SubstitutionTable<'a> {
             kind: self.kind,
             bytes: self.bytes,
             set: Some(&self.set),
+            context: self.contexts.first(),
         }
     }
 }

@@ -18,10 +18,10 @@ returns-then-is_some c =
     let g : Matched → Found = λ it. found it in
     first_found g _ _ _ _ c.loop-i.invariant (omega arith) (cc) (cc)
 
-pub loop-i-preserved-then-is_barred : goal.loop-i-preserved-then-is_barred
+pub loop-i-preserved-then-is_nth_barred : goal.loop-i-preserved-then-is_nth_barred
 unfolding nth_in
-loop-i-preserved-then-is_barred c =
-    let barred = c.is_barred.ensures c.if-is_barred.true in
+loop-i-preserved-then-is_nth_barred c =
+    let barred = c.is_nth_barred.ensures c.if-is_nth_barred.true in
     let none = barred.none _ _ _ _ _ c.keys-keys.ensures in
     first_passed _ _ _ c.loop-i.invariant (omega arith) (cc)
 

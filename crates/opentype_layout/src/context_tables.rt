@@ -1,0 +1,192 @@
+//! Contexts of formats 1 and 2, with tables of their classes and of what their rules begin with.
+ghost use Rattle.std.specs.Prelude.{◌≡◌, ◌<◌, ◌≤◌, ◌==◌, length, IfSome};
+ghost use Rattle.std.specs.Option.{option_map};
+ghost use Rattle.opentype_face.specs.Bytes.{table_at, u16_in};
+ghost use Rattle.opentype_layout.specs.ContextTables.{AreSetsOfRules, place_of_rules};
+ghost use Rattle.opentype_layout.specs.Rules.{context_in, first_in, found, kind, kind_in, set_in, start_at};
+
+use crate::class_refs::ClassRef;
+use crate::rule_heads::PreparedRules;
+use crate::rules::{Matched, Tables, find_rule, place_of_sets, rule_set};
+use crate::sets::place_in_set;
+use crate::sight::{Sight, number};
+use opentype_face::bytes::u16_at;
+use opentype_face::glyph_tables::{PreparedClassDef, PreparedCoverage};
+use shapers_buffer::buffer::hb_glyph_info_t;
+use std::alloc::Global;
+use std::marker::Model;
+
+/// How many bytes a set of rules costs beside their heads.
+const SET_COST: usize = 64;
+
+// Where the count of a context's sets of rules stands, in formats 1 and 2.
+#[inline]
+fn place_of_rules(chained: bool, bytes: &[u8]) -> usize
+    ensures value { result ≡ place_of_rules chained bytes.now }
+    ensures few { result ≤ 10 }
+{
+    if u16_at(bytes, 0) == 1 {
+        4
+    } else {
+        place_of_sets(chained)
+    }
+}
+
+// The first sets of a context's rules. Where a budget in bytes or memory doesn't suffice, there are
+// fewer.
+fn sets_of_rules<'a>(
+    alloc: Global,
+    chained: bool,
+    bytes: &'a [u8],
+    budget: &mut usize,
+) -> Vec<PreparedRules<'a>>
+    ensures { AreSetsOfRules chained bytes.now result.items }
+{
+    let at = place_of_rules(chained, bytes);
+    let mut sets = Vec::new(alloc);
+    for i in 0..u16_at(bytes, at) {
+        if *budget < SET_COST {
+            return sets;
+        }
+        *budget -= SET_COST;
+        let set = rule_set(bytes, at, u32::from(i));
+        if sets.push(PreparedRules::new(alloc, chained, set, budget)).is_err() {
+            return sets;
+        }
+    }
+    sets
+}
+
+/// A context of format 1 or 2, with tables of its classes and of its rules.
+#[derive(Debug, Drop)]
+pub struct ContextTable<'a> {
+    bytes: &'a [u8],
+    kind: u16,
+    format: u16,
+    before: PreparedClassDef<'a>,
+    input: PreparedClassDef<'a>,
+    behind: PreparedClassDef<'a>,
+    rules: Vec<PreparedRules<'a>>,
+}
+
+impl<'a> Model for ContextTable<'a> {
+    ghost use Rattle.std.specs.Prelude.{◌≡◌, ◌==◌};
+    ghost use Rattle.opentype_layout.specs.ContextTables.{AreSetsOfRules};
+    ghost use Rattle.opentype_layout.specs.Rules.{kind_in};
+    ghost use Rattle.opentype_layout.specs.SubstitutionTables.{Subtable};
+
+    ghost Value = { Subtable };
+
+    ghost view = { λ it. record { kind = it.kind; bytes = it.bytes.now } };
+
+    ghost invariant = { λ it. (it.format ≡ (kind_in (it.kind == 6) it.bytes.now).format) ×
+        ((it.before.bytes.now ≡ (kind_in (it.kind == 6) it.bytes.now).before) ×
+        ((it.input.bytes.now ≡ (kind_in (it.kind == 6) it.bytes.now).input) ×
+        ((it.behind.bytes.now ≡ (kind_in (it.kind == 6) it.bytes.now).behind) ×
+        AreSetsOfRules (it.kind == 6) it.bytes.now it.rules.items))) };
+}
+
+impl<'a> ContextTable<'a> {
+    /// Makes the tables of a context, by its type in GSUB. A budget in bytes pays for them.
+    pub(crate) fn new(alloc: Global, kind: u16, bytes: &'a [u8], budget: &mut usize) -> Self
+        ensures { result ≡ record { kind = kind; bytes = bytes.now } }
+    {
+        let chained = kind == 6;
+        let tables = Tables::of(chained, bytes);
+        ContextTable {
+            bytes,
+            kind,
+            format: tables.format,
+            before: PreparedClassDef::new(tables.before.bytes, alloc, budget),
+            input: PreparedClassDef::new(tables.input.bytes, alloc, budget),
+            behind: PreparedClassDef::new(tables.behind.bytes, alloc, budget),
+            rules: sets_of_rules(alloc, chained, bytes, budget),
+        }
+    }
+
+    // The tables that the numbers of its rules refer to.
+    #[inline]
+    fn tables(&self) -> Tables<'_>
+        ensures { kind result ≡ kind_in (self.now.kind == 6) self.now.bytes }
+    {
+        Tables {
+            chained: self.kind == 6,
+            format: self.format,
+            before: ClassRef::prepared(&self.before),
+            input: ClassRef::prepared(&self.input),
+            behind: ClassRef::prepared(&self.behind),
+        }
+    }
+
+    // The heads of a set of its rules, by the set's number, if it has them.
+    #[inline]
+    fn prepared(&self, number: u32) -> Option<&PreparedRules<'a>>
+        ensures { let chained = self.now.kind == 6 in
+            IfSome result (λ it. it.now ≡ record {
+              chained = chained;
+              bytes = set_in self.now.bytes (place_of_rules chained self.now.bytes) number;
+            }) }
+    {
+        self.rules.get(number as usize)
+    }
+
+    // The first rule of a set, by its number, that fits a place.
+    #[inline]
+    fn first_of(
+        &self,
+        number: u32,
+        gdef: &[u8],
+        input: &Sight,
+        context: &Sight,
+        glyphs: &[hb_glyph_info_t],
+        at: usize,
+    ) -> Option<Matched<'_>>
+        requires { at < length glyphs.now }
+        ensures { let chained = self.now.kind == 6 in
+            option_map (λ it. found it) result ≡ first_in gdef.now input.now context.now
+            (kind_in chained self.now.bytes)
+            (set_in self.now.bytes (place_of_rules chained self.now.bytes) number) glyphs.now at }
+    {
+        let at_count = place_of_rules(self.kind == 6, self.bytes);
+        let set = rule_set(self.bytes, at_count, number);
+        let prepared = self.prepared(number);
+        self.tables()
+            .first_rule(gdef, input, context, set, prepared, glyphs, at)
+    }
+
+    /// The first rule that fits a place of a text: its input by one sight, its context by another. A
+    /// table of the set of glyphs that the context begins with saves a search in the set.
+    #[tactic(auto, unfolding(crate::specs::Rules::context_in, crate::specs::Rules::by_glyphs))]
+    pub fn find_rule(
+        &self,
+        gdef: &[u8],
+        input: &Sight,
+        context: &Sight,
+        set: Option<&PreparedCoverage<'_>>,
+        glyphs: &[hb_glyph_info_t],
+        at: usize,
+    ) -> Option<Matched<'_>>
+        requires inside { at < length glyphs.now }
+        requires set { IfSome set (λ it. it.now.set.now ≡ table_at self.now.bytes
+            (u16_in self.now.bytes (start_at (self.now.kind == 6) self.now.bytes))) }
+        ensures { option_map (λ it. found it) result ≡ context_in (self.now.kind == 6) gdef.now
+            input.now context.now self.now.bytes glyphs.now at }
+    {
+        let (bytes, glyph) = (self.bytes, number(&glyphs[at]));
+        match u16_at(bytes, 0) {
+            1 => {
+                let place = place_in_set(bytes, 2, set, glyph)?;
+                self.first_of(place, gdef, input, context, glyphs, at)
+            }
+            2 => {
+                place_in_set(bytes, 2, set, glyph)?;
+                let class = u32::from(self.input.class(glyph));
+                self.first_of(class, gdef, input, context, glyphs, at)
+            }
+            _ => {
+                let chained = self.kind == 6;
+                find_rule(chained, gdef, input, context, bytes, set, glyphs, at)
+            }
+        }
+    }
+}

@@ -1,0 +1,191 @@
+//! What the rules of a set begin with, read once.
+ghost use Rattle.std.specs.Prelude.{◌≡◌, IfSome, true, false};
+ghost use Rattle.opentype_layout.specs.RuleHeads.{AreRuleHeads, head_in, nth_rule};
+
+use opentype_face::bytes::{table_at, u16_at};
+use std::alloc::Global;
+use std::marker::Model;
+
+/// How many bytes a rule's head costs.
+const HEAD_COST: usize = 12;
+
+/// How many numbers the lists of a rule have, and which ones they begin with.
+#[derive(Clone, Copy, Debug)]
+pub(crate) struct RuleHead {
+    /// How many glyphs it looks for before a place.
+    pub before_count: u16,
+    /// The first one's number.
+    pub before: u16,
+    /// How many its input has, with the one at the place.
+    pub input_count: u16,
+    /// The second one's number.
+    pub input: u16,
+    /// How many it looks for behind its input.
+    pub behind_count: u16,
+    /// The first one's number.
+    pub behind: u16,
+}
+
+impl RuleHead {
+    // The head of a rule of a chained context.
+    #[tactic(auto, unfolding(crate::specs::RuleHeads::head_in))]
+    fn chained(bytes: &[u8]) -> Self
+        ensures { result ≡ head_in true bytes.now }
+    {
+        let before_count = u16_at(bytes, 0);
+        let input_at = 2 + usize::from(before_count) * 2;
+        let input_count = u16_at(bytes, input_at);
+        let behind_at = input_at + usize::from(input_count) * 2;
+        RuleHead {
+            before_count,
+            before: u16_at(bytes, 2),
+            input_count,
+            input: u16_at(bytes, input_at + 2),
+            behind_count: u16_at(bytes, behind_at),
+            behind: u16_at(bytes, behind_at + 2),
+        }
+    }
+
+    // The head of a rule of a context.
+    #[tactic(auto, unfolding(crate::specs::RuleHeads::head_in))]
+    fn unchained(bytes: &[u8]) -> Self
+        ensures { result ≡ head_in false bytes.now }
+    {
+        RuleHead {
+            before_count: 0,
+            before: 0,
+            input_count: u16_at(bytes, 0),
+            input: u16_at(bytes, 4),
+            behind_count: 0,
+            behind: 0,
+        }
+    }
+
+    // The head of a rule of format 1 or 2.
+    fn of(chained: bool, bytes: &[u8]) -> Self
+        ensures { result ≡ head_in chained bytes.now }
+    {
+        if chained {
+            Self::chained(bytes)
+        } else {
+            Self::unchained(bytes)
+        }
+    }
+}
+
+/// A rule of a set, by its number.
+#[inline]
+pub(crate) fn nth_rule(set: &[u8], i: u16) -> &[u8]
+    ensures { result.now ≡ nth_rule set.now i }
+{
+    table_at(set, usize::from(u16_at(set, 2 + usize::from(i) * 2)))
+}
+
+// The heads of a set's first rules. Where a budget in bytes or memory doesn't suffice, there are
+// fewer.
+fn heads_of(alloc: Global, chained: bool, set: &[u8], budget: &mut usize) -> Vec<RuleHead>
+    ensures { AreRuleHeads chained set.now result.items }
+{
+    let mut heads = Vec::new(alloc);
+    for i in 0..u16_at(set, 0) {
+        if *budget < HEAD_COST {
+            return heads;
+        }
+        *budget -= HEAD_COST;
+        let head = RuleHead::of(chained, nth_rule(set, i));
+        if heads.push(head).is_err() {
+            return heads;
+        }
+    }
+    heads
+}
+
+/// Which glyphs beside a place a set's rules ask about.
+#[derive(Clone, Copy, Debug)]
+pub(crate) struct Asked {
+    /// The one before it.
+    pub before: bool,
+    /// The next one of the input.
+    pub input: bool,
+    /// The one behind the input.
+    pub behind: bool,
+}
+
+impl Asked {
+    /// What any rules may ask about; those that aren't chained have an input alone.
+    #[inline]
+    pub(crate) fn all(chained: bool) -> Self {
+        Asked {
+            before: chained,
+            input: true,
+            behind: chained,
+        }
+    }
+
+    // What so many rules ask about, of which these are the first.
+    fn by(heads: &[RuleHead], count: u16) -> Self {
+        let is_unknown = heads.len() < usize::from(count);
+        Asked {
+            before: is_unknown || heads.iter().any(|head| head.before_count > 0),
+            input: is_unknown || heads.iter().any(|head| head.input_count > 1),
+            behind: is_unknown || heads.iter().any(|head| head.behind_count > 0),
+        }
+    }
+}
+
+/// A set of a context's rules, with their heads.
+#[derive(Debug, Drop)]
+pub(crate) struct PreparedRules<'a> {
+    bytes: &'a [u8],
+    chained: bool,
+    heads: Vec<RuleHead>,
+    asked: Asked,
+}
+
+impl<'a> Model for PreparedRules<'a> {
+    ghost use Rattle.opentype_layout.specs.RuleHeads.{AreRuleHeads, SetOfRules};
+
+    ghost Value = { SetOfRules };
+
+    ghost view = { λ it. record { chained = it.chained; bytes = it.bytes.now } };
+
+    ghost invariant = { λ it. AreRuleHeads it.chained it.bytes.now it.heads.items };
+}
+
+impl<'a> PreparedRules<'a> {
+    /// Reads the heads of a set's rules, for which a budget in bytes pays.
+    pub(crate) fn new(alloc: Global, chained: bool, bytes: &'a [u8], budget: &mut usize) -> Self
+        ensures { result ≡ record { chained = chained; bytes = bytes.now } }
+    {
+        let heads = heads_of(alloc, chained, bytes, budget);
+        PreparedRules {
+            bytes,
+            chained,
+            asked: Asked::by(&heads, u16_at(bytes, 0)),
+            heads,
+        }
+    }
+
+    /// The set.
+    #[inline]
+    pub(crate) fn bytes(&self) -> &'a [u8]
+        ensures { result.now ≡ self.now.bytes }
+    {
+        self.bytes
+    }
+
+    /// Which glyphs its rules ask about.
+    #[inline]
+    pub(crate) fn asked(&self) -> Asked {
+        self.asked
+    }
+
+    /// The head of a rule, if it was read.
+    #[inline]
+    pub(crate) fn head(&self, i: u16) -> Option<&RuleHead>
+        ensures { IfSome result (λ head.
+            head.now ≡ head_in self.now.chained (nth_rule self.now.bytes i)) }
+    {
+        self.heads.get(usize::from(i))
+    }
+}
