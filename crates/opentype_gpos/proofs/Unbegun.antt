@@ -19,6 +19,7 @@ use Rattle.opentype_layout.specs.declared.sight.Sight.{Sight}
 use Rattle.opentype_layout.proofs.Lookings.{all_none, kept_if, no_context, stretch_if, unflagged}
 use Rattle.opentype_layout.proofs.NoneFits.{no_rule, none_if, none_mapped, none_of, none_then}
 use Rattle.opentype_layout.proofs.Skipped.{over}
+use Rattle.opentype_layout.proofs.SubtableStarts.{places_plain}
 use Rattle.opentype_gpos.specs.Anchors.{joint_in}
 use Rattle.opentype_gpos.specs.Coming.{Setting, came, came_in, nth_came, sights_in}
 use Rattle.opentype_gpos.specs.Looked.{lookup_looked, move_looked, subtable_looked, tried}
@@ -36,14 +37,6 @@ is_none None e = refl
 is_none (Some x) e = absurd (cc)
 
 -- ---- where the set stands that a subtable doesn't have a glyph in
-
-same_else : (test : Bool) (n : ℕ) → (if test then n else n) ≡ n
-same_else true n = refl
-same_else false n = refl
-
-at_two : (kind : ℕ) (bytes : List ℕ) → (kind == 7) ≡ false → (kind == 8) ≡ false → starts_at true kind bytes ≡ 2
-unfolding starts_at
-at_two kind bytes seven eight = rw (seven, eight) (same_else (u16_in bytes 0 == 3) 2)
 
 at_start : (kind : ℕ) (bytes : List ℕ) → (u16_in bytes 0 == 3) ≡ false → starts_at true kind bytes ≡ 2
 unfolding starts_at
@@ -96,7 +89,7 @@ nth_none s sights lookup gs at i none =
     (λ e. uncovered lookup glyph i _ none (at_first kind bytes t e))
     (λ e. uncovered lookup glyph i 2 none (at_start kind bytes e))))
     (λ t. none_mapped _ _ (no_move s.gdef sights.input kind bytes gs at
-    (uncovered lookup glyph i 2 none (at_two kind bytes (grind (arith, common_steps, t)) (grind (arith, common_steps, t))))))
+    (uncovered lookup glyph i 2 none (places_plain kind bytes (grind (arith, common_steps, t)) (grind (arith, common_steps, t))))))
 
 -- ---- the subtables that are passed over, one after another
 
@@ -218,7 +211,7 @@ unlooked s sights lookup gs at i none =
     (λ e. uncovered lookup glyph i _ none (at_first kind bytes t e))
     (λ e. uncovered lookup glyph i 2 none (at_start kind bytes e))))
     (λ t. no_look s.gdef sights.input s.direction kind bytes gs at
-    (uncovered lookup glyph i 2 none (at_two kind bytes (grind (arith, common_steps, t)) (grind (arith, common_steps, t)))))
+    (uncovered lookup glyph i 2 none (places_plain kind bytes (grind (arith, common_steps, t)) (grind (arith, common_steps, t)))))
 
 looked_none : (s : Setting) (sights : Sights) (lookup : List ℕ) (gs : Glyphs) (at : ℕ) →
     NoneStarts true lookup (number_at gs at) 0 (u16_in lookup 4) → lookup_looked s sights lookup gs at ≡ nothing at

@@ -4,7 +4,6 @@ ghost use Rattle.std.specs.Option.{option_map};
 ghost use Rattle.opentype_gpos.specs.Anchors.{points_by};
 ghost use Rattle.opentype_face.specs.Bytes.{u16_in};
 ghost use Rattle.opentype_gpos.specs.declared.moves.Move.TheVariants.{Kerns};
-ghost use Rattle.opentype_gpos.specs.Nearby.{number_in};
 ghost use Rattle.opentype_gpos.specs.Moves.{attaching, base_move, component_for, covered_by, cursive_move, joined_from, joined_with, ligature_move, ligature_with, mark_move, mark_with, number_at, one_move, pair_found, pair_move, pair_with, single_move};
 
 use crate::anchors::{Point, joint_of, ligature_points, points};

@@ -34,7 +34,8 @@ starts_chained kind bytes e = rw e refl
 
 -- ---- subtables of GPOS
 
-places_plain : (kind : ℕ) (bytes : List ℕ) → (kind == 7) ≡ false → (kind == 8) ≡ false → starts_at true kind bytes ≡ 2
+-- those that are no contexts begin with the set whose offset stands at byte 2
+pub places_plain : (kind : ℕ) (bytes : List ℕ) → (kind == 7) ≡ false → (kind == 8) ≡ false → starts_at true kind bytes ≡ 2
 unfolding starts_at
 places_plain kind bytes e f =
     plain_start (u16_in bytes 0 == 3) (kind == 7) (kind == 8) (first_at false bytes) (first_at true bytes) e f
@@ -48,7 +49,7 @@ unfolding starts_at
 places_chained kind bytes e = rw e refl
 
 -- a table of the set that a subtable begins with is one of the set whose offset stands there
-set_at : {T : Type 0} (table : Option T) (set : T → List ℕ) (bytes : List ℕ) (at place : ℕ) → at ≡ place →
+pub set_at : {T : Type 0} (table : Option T) (set : T → List ℕ) (bytes : List ℕ) (at place : ℕ) → at ≡ place →
     ForSome table (λ it. set it ≡ table_at bytes (u16_in bytes at)) → IfSome table (λ it. set it ≡ table_at bytes (u16_in bytes place))
 set_at None set bytes at place e of = tt
 set_at (Some it) set bytes at place e of = of it refl ∙ ap (λ k. table_at bytes (u16_in bytes k)) e
