@@ -8,7 +8,7 @@ ghost use Rattle.opentype_layout.specs.Keys.{bars};
 ghost use Rattle.opentype_layout.specs.Pattern.{fits, next_in};
 
 use opentype_face::bytes::{table_at, u16_at};
-use opentype_layout::input::input_places;
+use opentype_layout::input::find_input;
 use opentype_layout::keys::{Key, key_behind};
 use opentype_layout::pattern::Pattern;
 use opentype_layout::places::Places;
@@ -50,13 +50,14 @@ fn fit_ligature(
         return None;
     }
     let pattern = Pattern::Glyphs(table_at(ligature, 4));
-    match input_places(gdef, sight, &pattern, count - 1, glyphs, at) {
-        Some(places) => Some(Fitting {
-            glyph: u16_at(ligature, 0),
-            places,
-        }),
-        None => None,
+    let mut places = Places::new();
+    if !find_input(gdef, sight, &pattern, count - 1, glyphs, at, &mut places) {
+        return None;
     }
+    Some(Fitting {
+        glyph: u16_at(ligature, 0),
+        places,
+    })
 }
 
 /// The first ligature of a set that fits a place of a text.

@@ -1,13 +1,12 @@
 //! Where the input of a rule finds its glyphs.
-ghost use Rattle.std.specs.Prelude.{◌≡◌, ◌<◌, ◌≤◌, ℕ, length, IfSome, slice_index};
+ghost use Rattle.std.specs.Prelude.{◌≡◌, ◌<◌, ◌≤◌, ℕ, [], true, length, IfSome, None, Some, slice_index, if◌then◌else◌};
 ghost use Rattle.std.specs.List.{list_any};
-ghost use Rattle.std.specs.Option.{option_map};
 ghost use Rattle.opentype_layout.specs.Ligatures.{base_before, base_seen, input_in, is_apart, is_attached, is_seen_through, ligature_in};
 ghost use Rattle.opentype_layout.specs.Pattern.{fits};
 ghost use Rattle.opentype_layout.specs.Text.{glyph_at};
 
 use crate::pattern::Pattern;
-use crate::places::{Places, places};
+use crate::places::{Places, find_places};
 use crate::sight::{Sight, ignores_glyph};
 use shapers_buffer::buffer::{LigProps, hb_glyph_info_t};
 
@@ -121,28 +120,30 @@ fn is_any_apart(
         .any(|place| apart(gdef, sight, glyphs, at, *place))
 }
 
-/// Where the glyphs of an input are behind its first one, at `at`: so many places of a pattern,
-/// from place 0. Marks of different components of a ligature aren't of one input.
+/// Puts into an empty list where the glyphs of an input are behind its first one, at `at`: so many
+/// places of a pattern, from place 0. Marks of different components of a ligature aren't of one
+/// input. Returns whether all are found; where they aren't, what the list has is of no use.
 #[tactic(auto, unfolding(crate::specs::Ligatures::input_in))]
-pub fn input_places(
+pub fn find_input(
     gdef: &[u8],
     sight: &Sight,
     pattern: &Pattern<'_>,
     count: u16,
     glyphs: &[hb_glyph_info_t],
     at: usize,
-) -> Option<Places>
+    places: &mut Places,
+) -> bool
     requires few { count ≤ 63 }
     requires inside { at < length glyphs.now }
-    ensures within { IfSome result (λ places. (j : ℕ) → j < length places.items →
-        slice_index places.items j < length glyphs.now) }
-    ensures number { IfSome result (λ places. length places.items ≡ count) }
-    ensures value { option_map (λ places. places.items) result
+    requires none { places.old.items ≡ [] }
+    ensures within { (j : ℕ) → j < length places.new.items →
+        slice_index places.new.items j < length glyphs.now }
+    ensures number { result ≡ true → length places.new.items ≡ count }
+    ensures value { (if result then Some places.new.items else None)
         ≡ input_in gdef.now sight.now (fits pattern.now) count glyphs.now at }
 {
-    let places = places(gdef, sight, pattern, count, glyphs, at + 1)?;
-    if is_any_apart(gdef, sight, glyphs, at, places.as_slice()) {
-        return None;
+    if !find_places(gdef, sight, pattern, count, glyphs, at + 1, places) {
+        return false;
     }
-    Some(places)
+    !is_any_apart(gdef, sight, glyphs, at, places.as_slice())
 }

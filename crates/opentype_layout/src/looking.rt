@@ -9,8 +9,9 @@ ghost use Rattle.opentype_layout.specs.Sight.{is_passed};
 ghost use Rattle.opentype_layout.specs.Looking.{around_looked, context_rules, counted, is_short, spanned, ligature_sought, nothing, nth_part, rule_list, rule_looked, set_looked, stop_before, stop_in, swept_before, swept_behind, unjoined};
 ghost use Rattle.opentype_layout.specs.Ligatures.{input_in};
 
-use crate::input::input_places;
+use crate::input::find_input;
 use crate::pattern::Pattern;
+use crate::places::Places;
 use crate::rules::{Rule, Tables};
 use crate::sight::{Sight, number};
 use opentype_face::bytes::{table_at, u16_at};
@@ -283,7 +284,8 @@ fn is_one_input(
     requires few { count ≤ 63 }
     ensures { result ≡ is_some (input_in gdef.now sight.now (sought rule.now).input count glyphs.now at) }
 {
-    input_places(gdef, sight, &rule.input, count, glyphs, at).is_some()
+    let (input, mut places) = (&rule.input, Places::new());
+    find_input(gdef, sight, input, count, glyphs, at, &mut places)
 }
 
 impl<'a> RuleSet<'a> {

@@ -1,6 +1,5 @@
 //! Where the places of a rule find their glyphs.
-ghost use Rattle.std.specs.Prelude.{◌≡◌, ◌<◌, ◌≤◌, ℕ, length, IfSome, slice_index};
-ghost use Rattle.std.specs.Option.{option_map};
+ghost use Rattle.std.specs.Prelude.{◌≡◌, ◌<◌, ◌≤◌, ℕ, [], true, length, None, Some, slice_index, if◌then◌else◌};
 ghost use Rattle.opentype_layout.specs.Pattern.{fits, next_in, places_from};
 
 use crate::pattern::Pattern;
@@ -14,28 +13,35 @@ pub const MOST: usize = 63;
 /// The places behind one where a rule's glyphs are.
 pub type Places = ArrayVec<usize, 64>;
 
-/// Where so many places of a rule, from place 0, find their glyphs behind a place of a text.
-pub fn places(
+/// Puts into an empty list where so many places of a rule, from place 0, find their glyphs behind a
+/// place of a text. Returns whether all of them find one; where they don't, what the list has is of no
+/// use.
+// (into a list that is lent, since such a list is large)
+pub fn find_places(
     gdef: &[u8],
     sight: &Sight,
     pattern: &Pattern<'_>,
     count: u16,
     glyphs: &[hb_glyph_info_t],
     from: usize,
-) -> Option<Places>
-    requires { count ≤ 63 }
-    ensures within { IfSome result (λ places. (j : ℕ) → j < length places.items →
-        slice_index places.items j < length glyphs.now) }
-    ensures number { IfSome result (λ places. length places.items ≡ count) }
-    ensures value { option_map (λ places. places.items) result
+    places: &mut Places,
+) -> bool
+    requires few { count ≤ 63 }
+    requires none { places.old.items ≡ [] }
+    ensures within { (j : ℕ) → j < length places.new.items →
+        slice_index places.new.items j < length glyphs.now }
+    ensures number { result ≡ true → length places.new.items ≡ count }
+    ensures value { (if result then Some places.new.items else None)
         ≡ places_from count (next_in gdef.now sight.now (fits pattern.now) glyphs.now) 0 from }
 {
-    let mut places = Places::new();
     let mut from = from;
     for k in 0..count {
-        let place = pattern.next(gdef, sight, k, glyphs, from)?;
+        let found = pattern.next(gdef, sight, k, glyphs, from);
+        let Some(place) = found else {
+            return false;
+        };
         places.push(place);
         from = place + 1;
     }
-    Some(places)
+    true
 }

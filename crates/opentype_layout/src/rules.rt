@@ -8,7 +8,7 @@ ghost use Rattle.opentype_layout.specs.RuleHeads.{nth_rule};
 ghost use Rattle.opentype_layout.specs.Rules.{around, chained_in, context_in, end_in, first_in, found, found_at, kind, kind_in, reach_before, reach_behind, rule_in, set_in, sets_at, shift_in, sought, start_at, test_in, unchained_in};
 
 use crate::class_refs::ClassRef;
-use crate::input::input_places;
+use crate::input::find_input;
 use crate::keys::{Key, Keys, key_before, key_behind};
 use crate::pattern::Pattern;
 use crate::places::Places;
@@ -190,10 +190,12 @@ impl<'a> Rule<'a> {
         if self.input_count == 1 {
             return self.fit_around(gdef, context, glyphs, at, &[]);
         }
-        match input_places(gdef, input, &self.input, self.input_count - 1, glyphs, at) {
-            Some(behind) => self.fit_around(gdef, context, glyphs, at, behind.as_slice()),
-            None => None,
+        let (pattern, count) = (&self.input, self.input_count - 1);
+        let mut behind = Places::new();
+        if !find_input(gdef, input, pattern, count, glyphs, at, &mut behind) {
+            return None;
         }
+        self.fit_around(gdef, context, glyphs, at, behind.as_slice())
     }
 }
 

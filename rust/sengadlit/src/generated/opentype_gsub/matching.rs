@@ -3,7 +3,7 @@
 //! Where the places of a rule find their glyphs, and which ligature fits.
 
 use crate::generated::opentype_face::bytes::{table_at, u16_at};
-use crate::generated::opentype_layout::input::input_places;
+use crate::generated::opentype_layout::input::find_input;
 use crate::generated::opentype_layout::keys::{Key, key_behind};
 use crate::generated::opentype_layout::pattern::Pattern;
 use crate::generated::opentype_layout::places::Places;
@@ -36,13 +36,14 @@ fn fit_ligature(
         return None;
     }
     let pattern = Pattern::Glyphs(table_at(ligature, 4));
-    match input_places(gdef, sight, &pattern, count - 1, glyphs, at) {
-        Some(places) => Some(Fitting {
-            glyph: u16_at(ligature, 0),
-            places,
-        }),
-        None => None,
+    let mut places = Places::new();
+    if !find_input(gdef, sight, &pattern, count - 1, glyphs, at, &mut places) {
+        return None;
     }
+    Some(Fitting {
+        glyph: u16_at(ligature, 0),
+        places,
+    })
 }
 
 /// The first ligature of a set that fits a place of a text.

@@ -3,7 +3,7 @@
 //! Where the input of a rule finds its glyphs.
 
 use crate::generated::opentype_layout::pattern::Pattern;
-use crate::generated::opentype_layout::places::{Places, places};
+use crate::generated::opentype_layout::places::{Places, find_places};
 use crate::generated::opentype_layout::sight::{Sight, ignores_glyph};
 use crate::generated::shapers_buffer::buffer::{GlyphInfo, LigProps};
 
@@ -89,8 +89,9 @@ fn is_any_apart(
         .any(|place| apart(gdef, sight, glyphs, at, *place))
 }
 
-/// Where the glyphs of an input are behind its first one, at `at`: so many places of a pattern,
-/// from place 0. Marks of different components of a ligature aren't of one input.
+/// Puts into an empty list where the glyphs of an input are behind its first one, at `at`: so many
+/// places of a pattern, from place 0. Marks of different components of a ligature aren't of one
+/// input. Returns whether all are found; where they aren't, what the list has is of no use.
 ///
 /// <details><summary>Contract</summary>
 ///
@@ -99,10 +100,11 @@ fn is_any_apart(
 /// ```text
 /// requires few { count ≤ 63 }
 /// requires inside { at < length glyphs.now }
-/// ensures within { IfSome result (λ places. (j : ℕ) → j < length places.items →
-///     slice_index places.items j < length glyphs.now) }
-/// ensures number { IfSome result (λ places. length places.items ≡ count) }
-/// ensures value { option_map (λ places. places.items) result
+/// requires none { places.old.items ≡ [] }
+/// ensures within { (j : ℕ) → j < length places.new.items →
+///     slice_index places.new.items j < length glyphs.now }
+/// ensures number { result ≡ true → length places.new.items ≡ count }
+/// ensures value { (if result then Some places.new.items else None)
 ///     ≡ input_in gdef.now sight.now (fits pattern.now) count glyphs.now at }
 /// ```
 ///
@@ -110,17 +112,17 @@ fn is_any_apart(
 /// - `fits`: `crates/opentype_layout/specs/Pattern.antt`
 ///
 /// </details>
-pub fn input_places(
+pub fn find_input(
     gdef: &[u8],
     sight: &Sight,
     pattern: &Pattern<'_>,
     count: u16,
     glyphs: &[GlyphInfo],
     at: usize,
-) -> Option<Places> {
-    let places = places(gdef, sight, pattern, count, glyphs, at + 1)?;
-    if is_any_apart(gdef, sight, glyphs, at, places.as_slice()) {
-        return None;
+    places: &mut Places,
+) -> bool {
+    if !find_places(gdef, sight, pattern, count, glyphs, at + 1, places) {
+        return false;
     }
-    Some(places)
+    !is_any_apart(gdef, sight, glyphs, at, places.as_slice())
 }

@@ -6,8 +6,9 @@ use crate::support::prelude::*;
 
 use crate::generated::opentype_face::bytes::{table_at, u16_at};
 use crate::generated::opentype_face::glyph_sets::coverage;
-use crate::generated::opentype_layout::input::input_places;
+use crate::generated::opentype_layout::input::find_input;
 use crate::generated::opentype_layout::pattern::Pattern;
+use crate::generated::opentype_layout::places::Places;
 use crate::generated::opentype_layout::rules::{Rule, Tables};
 use crate::generated::opentype_layout::sight::{Sight, number};
 use crate::generated::shapers_buffer::buffer::{BufferFlags, GlyphInfo, unsafe_to_concat_in};
@@ -317,7 +318,8 @@ fn is_one_input(
     glyphs: &[GlyphInfo],
     at: usize,
 ) -> bool {
-    input_places(gdef, sight, &rule.input, count, glyphs, at).is_some()
+    let (input, mut places) = (&rule.input, Places::new());
+    find_input(gdef, sight, input, count, glyphs, at, &mut places)
 }
 
 impl<'a> RuleSet<'a> {

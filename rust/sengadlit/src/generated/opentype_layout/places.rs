@@ -13,38 +13,45 @@ pub const MOST: usize = 63;
 /// The places behind one where a rule's glyphs are.
 pub type Places = ArrayVec<usize, 64>;
 
-/// Where so many places of a rule, from place 0, find their glyphs behind a place of a text.
+/// Puts into an empty list where so many places of a rule, from place 0, find their glyphs behind a
+/// place of a text. Returns whether all of them find one; where they don't, what the list has is of no
+/// use.
+// (into a list that is lent, since such a list is large)
 ///
 /// <details><summary>Contract</summary>
 ///
 /// # Contract
 ///
 /// ```text
-/// requires { count ≤ 63 }
-/// ensures within { IfSome result (λ places. (j : ℕ) → j < length places.items →
-///     slice_index places.items j < length glyphs.now) }
-/// ensures number { IfSome result (λ places. length places.items ≡ count) }
-/// ensures value { option_map (λ places. places.items) result
+/// requires few { count ≤ 63 }
+/// requires none { places.old.items ≡ [] }
+/// ensures within { (j : ℕ) → j < length places.new.items →
+///     slice_index places.new.items j < length glyphs.now }
+/// ensures number { result ≡ true → length places.new.items ≡ count }
+/// ensures value { (if result then Some places.new.items else None)
 ///     ≡ places_from count (next_in gdef.now sight.now (fits pattern.now) glyphs.now) 0 from }
 /// ```
 ///
 /// - `fits`, `next_in`, `places_from`: `crates/opentype_layout/specs/Pattern.antt`
 ///
 /// </details>
-pub fn places(
+pub fn find_places(
     gdef: &[u8],
     sight: &Sight,
     pattern: &Pattern<'_>,
     count: u16,
     glyphs: &[GlyphInfo],
     from: usize,
-) -> Option<Places> {
-    let mut places = Places::new();
+    places: &mut Places,
+) -> bool {
     let mut from = from;
     for k in 0..count {
-        let place = pattern.next(gdef, sight, k, glyphs, from)?;
+        let found = pattern.next(gdef, sight, k, glyphs, from);
+        let Some(place) = found else {
+            return false;
+        };
         places.push(place);
         from = place + 1;
     }
-    Some(places)
+    true
 }

@@ -7,7 +7,7 @@ use crate::support::prelude::*;
 use crate::generated::opentype_face::bytes::{table_at, u16_at};
 use crate::generated::opentype_face::glyph_tables::PreparedCoverage;
 use crate::generated::opentype_layout::class_refs::ClassRef;
-use crate::generated::opentype_layout::input::input_places;
+use crate::generated::opentype_layout::input::find_input;
 use crate::generated::opentype_layout::keys::{Key, Keys, key_before, key_behind};
 use crate::generated::opentype_layout::pattern::Pattern;
 use crate::generated::opentype_layout::places::Places;
@@ -180,10 +180,12 @@ impl<'a> Rule<'a> {
         if self.input_count == 1 {
             return self.fit_around(gdef, context, glyphs, at, &[]);
         }
-        match input_places(gdef, input, &self.input, self.input_count - 1, glyphs, at) {
-            Some(behind) => self.fit_around(gdef, context, glyphs, at, behind.as_slice()),
-            None => None,
+        let (pattern, count) = (&self.input, self.input_count - 1);
+        let mut behind = Places::new();
+        if !find_input(gdef, input, pattern, count, glyphs, at, &mut behind) {
+            return None;
         }
+        self.fit_around(gdef, context, glyphs, at, behind.as_slice())
     }
 }
 
