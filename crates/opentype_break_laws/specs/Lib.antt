@@ -1,0 +1,4 @@
+pub mod OneForOne
+pub mod OrderedTexts
+pub mod FontPieces
+pub mod TwoSingles
