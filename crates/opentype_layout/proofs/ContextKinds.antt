@@ -1,5 +1,5 @@
 -- The tables of a context by their parts.
-use Rattle.std.proofs.Common.{ℕ, ◌==◌, ◌≡◌, ◌∙◌, Bool, true, false, Option, None, Some, List, refl, sym, ap, if◌then◌else◌}
+use Rattle.std.proofs.Common.{ℕ, ◌==◌, ◌≡◌, Bool, true, false, Option, None, Some, List, refl, sym, if◌then◌else◌}
 use Rattle.opentype_face.specs.Bytes.{u16_in}
 use Rattle.std.specs.Option.{IfSome}
 use Rattle.opentype_layout.specs.RuleHeads.{SetOfRules}

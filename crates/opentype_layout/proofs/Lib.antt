@@ -22,6 +22,7 @@ mod PositionsListed
 mod RulesListed
 mod RuleRows
 mod KeyRows
+mod RuleHeadRows
 mod StartRows
 mod LookupRowRows
 mod SightRows

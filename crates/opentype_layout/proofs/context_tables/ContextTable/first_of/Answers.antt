@@ -1,4 +1,4 @@
-use Rattle.std.proofs.Common.{◌∙◌, ◌==◌, ap}
+use Rattle.std.proofs.Common.{◌∙◌, ap}
 use Rattle.opentype_layout.specs.Rules.{Kind, set_in}
 use Rattle.opentype_layout.proofs.ContextKinds.{kind_chained, same_rules}
 use Rattle.opentype_layout.proofs.context_tables.ContextTable.first_of.Goals as goal

@@ -1,4 +1,3 @@
-use Rattle.std.proofs.Common.{refl}
 use Rattle.opentype_layout.proofs.ContextKinds.{kind_is}
 use Rattle.opentype_layout.proofs.context_tables.ContextTable.tables.Goals as goal
 
