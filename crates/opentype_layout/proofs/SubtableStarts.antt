@@ -49,23 +49,23 @@ unfolding starts_at
 places_chained kind bytes e = rw e refl
 
 -- a table of the set that a subtable begins with is one of the set whose offset stands there
-pub set_at : {T : Type 0} (table : Option T) (set : T → List ℕ) (bytes : List ℕ) (at place : ℕ) → at ≡ place →
+pub same_set_at : {T : Type 0} (table : Option T) (set : T → List ℕ) (bytes : List ℕ) (at place : ℕ) → at ≡ place →
     ForSome table (λ it. set it ≡ table_at bytes (u16_in bytes at)) → IfSome table (λ it. set it ≡ table_at bytes (u16_in bytes place))
-set_at None set bytes at place e of = tt
-set_at (Some it) set bytes at place e of = of it refl ∙ ap (λ k. table_at bytes (u16_in bytes k)) e
+same_set_at None set bytes at place e of = tt
+same_set_at (Some it) set bytes at place e of = of it refl ∙ ap (λ k. table_at bytes (u16_in bytes k)) e
 
 pub set_plain : {T : Type 0} (table : Option T) (set : T → List ℕ) (kind : ℕ) (bytes : List ℕ) →
     (kind ≡ 7 → ⊥) → (kind ≡ 8 → ⊥) → ForSome table (λ it. set it ≡ first_set_in true kind bytes) →
     IfSome table (λ it. set it ≡ table_at bytes (u16_in bytes 2))
-set_plain table set kind bytes not7 not8 = set_at table set bytes _ _
+set_plain table set kind bytes not7 not8 = same_set_at table set bytes _ _
     (places_plain kind bytes (grind (arith, nat_tests, not7)) (grind (arith, nat_tests, not8)))
 
 pub set_of_context : {T : Type 0} (table : Option T) (set : T → List ℕ) (kind : ℕ) (bytes : List ℕ) → kind ≡ 7 →
     ForSome table (λ it. set it ≡ first_set_in true kind bytes) →
     IfSome table (λ it. set it ≡ table_at bytes (u16_in bytes (start_at (kind == 8) bytes)))
-set_of_context table set kind bytes e = set_at table set bytes _ _ (places_context kind bytes e)
+set_of_context table set kind bytes e = same_set_at table set bytes _ _ (places_context kind bytes e)
 
 pub set_of_chained : {T : Type 0} (table : Option T) (set : T → List ℕ) (kind : ℕ) (bytes : List ℕ) → kind ≡ 8 →
     ForSome table (λ it. set it ≡ first_set_in true kind bytes) →
     IfSome table (λ it. set it ≡ table_at bytes (u16_in bytes (start_at (kind == 8) bytes)))
-set_of_chained table set kind bytes e = set_at table set bytes _ _ (places_chained kind bytes e)
+set_of_chained table set kind bytes e = same_set_at table set bytes _ _ (places_chained kind bytes e)
