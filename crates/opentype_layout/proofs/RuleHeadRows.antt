@@ -1,7 +1,7 @@
 -- What rules begin with, by their bytes as OpenType lays them out.
 use Rattle.std.proofs.Common.{◌≡◌, true, false, [], ◌∷◌, refl}
 use Rattle.opentype_layout.specs.ContextTables.{place_of_rules}
-use Rattle.opentype_layout.specs.RuleHeads.{head_in, nth_rule}
+use Rattle.opentype_layout.specs.RuleHeads.{head_in}
 
 -- a chained rule: one glyph before (7), an input of two (the second is 9), two behind (11 and 12)
 chained : head_in true (0 ∷ 1 ∷ 0 ∷ 7 ∷ 0 ∷ 2 ∷ 0 ∷ 9 ∷ 0 ∷ 2 ∷ 0 ∷ 11 ∷ 0 ∷ 12 ∷ [])
@@ -20,10 +20,6 @@ unchained : head_in false (0 ∷ 3 ∷ 0 ∷ 1 ∷ 0 ∷ 5 ∷ 0 ∷ 6 ∷ 0 ∷
     ≡ record { before_count = 0; before = 0; input_count = 3; input = 5; behind_count = 0; behind = 0 }
 unfolding head_in
 unchained = refl
-
--- the second rule of a set, whose offset is 7
-second_rule : nth_rule (0 ∷ 2 ∷ 0 ∷ 6 ∷ 0 ∷ 7 ∷ 90 ∷ 91 ∷ []) 1 ≡ 91 ∷ []
-second_rule = refl
 
 -- where a context has the count of its sets: in format 1 behind the offset of its glyphs; in format 2
 -- behind the offset of one table of classes, or of three

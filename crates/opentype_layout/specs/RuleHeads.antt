@@ -1,11 +1,8 @@
 -- What the lists of rules of formats 1 and 2 begin with.
 use Rattle.std.specs.Prelude.{ℕ, ◌+◌, ◌*◌, ◌<◌, ◌≡◌, Bool, List, [], length, slice_index_or, if◌then◌else◌}
-use Rattle.opentype_face.specs.Bytes.{u16_in, table_at}
+use Rattle.opentype_face.specs.Bytes.{u16_in}
+use Rattle.opentype_layout.specs.Looking.{nth_part}
 use Rattle.opentype_layout.specs.declared.rule_heads.RuleHead.{RuleHead}
-
--- rule i of a set
-abbrev pub nth_rule : List ℕ → ℕ → List ℕ
-nth_rule set i = table_at set (u16_in set (2 + i * 2))
 
 -- How many numbers each list of a rule has, and the first of them. A chained rule's lists stand one
 -- behind another, each behind its count; the input's count has the first glyph too, which isn't in
@@ -52,4 +49,4 @@ no_rules chained = record { chained = chained; bytes = [] }
 -- each of these is the head of the set's rule with its number, as far as they go
 pub record AreRuleHeads (chained : Bool) (set : List ℕ) (heads : List RuleHead) : Type 0 where
   pub each : (i : ℕ) → i < length heads →
-      slice_index_or heads i no_head ≡ head_in chained (nth_rule set i)
+      slice_index_or heads i no_head ≡ head_in chained (nth_part set i)

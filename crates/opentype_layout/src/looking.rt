@@ -6,12 +6,13 @@ ghost use Rattle.opentype_layout.specs.Pattern.{fits, seen_by};
 ghost use Rattle.opentype_layout.specs.Rules.{first_at, set_in, sought};
 ghost use Rattle.opentype_layout.specs.Text.{glyph_at};
 ghost use Rattle.opentype_layout.specs.Sight.{is_passed};
-ghost use Rattle.opentype_layout.specs.Looking.{around_looked, context_rules, counted, is_short, spanned, ligature_sought, nothing, nth_part, rule_list, rule_looked, set_looked, stop_before, stop_in, swept_before, swept_behind, unjoined};
+ghost use Rattle.opentype_layout.specs.Looking.{around_looked, context_rules, counted, is_short, spanned, ligature_sought, nothing, rule_list, rule_looked, set_looked, stop_before, stop_in, swept_before, swept_behind, unjoined};
 ghost use Rattle.opentype_layout.specs.Ligatures.{input_in};
 
 use crate::input::find_input;
 use crate::pattern::Pattern;
 use crate::places::Places;
+use crate::rule_heads::nth;
 use crate::rules::{Rule, Tables};
 use crate::sight::{Sight, number};
 use opentype_face::bytes::{table_at, u16_at};
@@ -337,14 +338,6 @@ impl<'a> RuleSet<'a> {
         }
         looked
     }
-}
-
-// Entry `i` of a list of offsets behind its count.
-#[inline]
-fn nth(set: &[u8], i: u16) -> &[u8]
-    ensures { result.now ≡ nth_part set.now i }
-{
-    table_at(set, usize::from(u16_at(set, 2 + usize::from(i) * 2)))
 }
 
 // A ligature as a rule.

@@ -1,6 +1,7 @@
 //! What the rules of a set begin with, read once.
 ghost use Rattle.std.specs.Prelude.{◌≡◌, IfSome, true, false};
-ghost use Rattle.opentype_layout.specs.RuleHeads.{AreRuleHeads, head_in, nth_rule};
+ghost use Rattle.opentype_layout.specs.Looking.{nth_part};
+ghost use Rattle.opentype_layout.specs.RuleHeads.{AreRuleHeads, head_in};
 
 use opentype_face::bytes::{table_at, u16_at};
 use std::alloc::Global;
@@ -73,10 +74,10 @@ impl RuleHead {
     }
 }
 
-/// A rule of a set, by its number.
+/// Entry `i` of a list of offsets behind its count: a rule of a set, or a ligature.
 #[inline]
-pub(crate) fn nth_rule(set: &[u8], i: u16) -> &[u8]
-    ensures { result.now ≡ nth_rule set.now i }
+pub(crate) fn nth(set: &[u8], i: u16) -> &[u8]
+    ensures { result.now ≡ nth_part set.now i }
 {
     table_at(set, usize::from(u16_at(set, 2 + usize::from(i) * 2)))
 }
@@ -92,7 +93,7 @@ fn heads_of(alloc: Global, chained: bool, set: &[u8], budget: &mut usize) -> Vec
             return heads;
         }
         *budget -= HEAD_COST;
-        let head = RuleHead::of(chained, nth_rule(set, i));
+        let head = RuleHead::of(chained, nth(set, i));
         if heads.push(head).is_err() {
             return heads;
         }
@@ -184,7 +185,7 @@ impl<'a> PreparedRules<'a> {
     #[inline]
     pub(crate) fn head(&self, i: u16) -> Option<&RuleHead>
         ensures { IfSome result (λ head.
-            head.now ≡ head_in self.now.chained (nth_rule self.now.bytes i)) }
+            head.now ≡ head_in self.now.chained (nth_part self.now.bytes i)) }
     {
         self.heads.get(usize::from(i))
     }

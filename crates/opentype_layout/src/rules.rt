@@ -4,7 +4,7 @@ ghost use Rattle.opentype_face.specs.Bytes.{table_at, u16_in};
 ghost use Rattle.std.specs.Option.{option_map};
 ghost use Rattle.opentype_layout.specs.Keys.{AreKeys, IsBarred, bars, begins_with};
 ghost use Rattle.opentype_layout.specs.Pattern.{fits, next_in, previous_in};
-ghost use Rattle.opentype_layout.specs.RuleHeads.{nth_rule};
+ghost use Rattle.opentype_layout.specs.Looking.{nth_part};
 ghost use Rattle.opentype_layout.specs.Rules.{around, chained_in, context_in, end_in, first_in, found, found_at, kind, kind_in, reach_before, reach_behind, rule_in, set_in, sets_at, shift_in, sought, start_at, test_in, unchained_in};
 
 use crate::class_refs::ClassRef;
@@ -12,7 +12,7 @@ use crate::input::find_input;
 use crate::keys::{Key, Keys, key_before, key_behind};
 use crate::pattern::Pattern;
 use crate::places::Places;
-use crate::rule_heads::{Asked, PreparedRules, nth_rule};
+use crate::rule_heads::{Asked, PreparedRules, nth};
 use crate::sets::{place_in_set, place_of_first};
 use crate::sight::{Sight, number};
 use opentype_face::bytes::{table_at, u16_at};
@@ -467,7 +467,7 @@ impl<'a> Tables<'a> {
           bytes = set.now;
         }) }
         ensures { result ≡ true →
-            IsBarred (kind self.now) keys.now (rule_in (kind self.now) (nth_rule set.now i)) }
+            IsBarred (kind self.now) keys.now (rule_in (kind self.now) (nth_part set.now i)) }
     {
         if self.format == 3 {
             return false;
@@ -477,7 +477,7 @@ impl<'a> Tables<'a> {
         {
             return keys.bar(head);
         }
-        self.is_barred(keys, nth_rule(set, i))
+        self.is_barred(keys, nth(set, i))
     }
 
     /// The first rule of a set that fits; the set's heads, if it has them, save most reads of its
@@ -515,7 +515,7 @@ impl<'a> Tables<'a> {
             if self.is_nth_barred(&keys, set, prepared, i) {
                 continue;
             }
-            let rule = self.rule(nth_rule(set, i));
+            let rule = self.rule(nth(set, i));
             let found = rule.fit(gdef, input, context, glyphs, at);
             if found.is_some() {
                 return found;

@@ -9,6 +9,7 @@ use crate::generated::opentype_face::glyph_sets::coverage;
 use crate::generated::opentype_layout::input::find_input;
 use crate::generated::opentype_layout::pattern::Pattern;
 use crate::generated::opentype_layout::places::Places;
+use crate::generated::opentype_layout::rule_heads::nth;
 use crate::generated::opentype_layout::rules::{Rule, Tables};
 use crate::generated::opentype_layout::sight::{Sight, number};
 use crate::generated::shapers_buffer::buffer::{BufferFlags, GlyphInfo, unsafe_to_concat_in};
@@ -374,12 +375,6 @@ impl<'a> RuleSet<'a> {
         }
         looked
     }
-}
-
-// Entry `i` of a list of offsets behind its count.
-#[inline]
-fn nth(set: &[u8], i: u16) -> &[u8] {
-    table_at(set, usize::from(u16_at(set, 2 + usize::from(i) * 2)))
 }
 
 // A ligature as a rule.

@@ -66,9 +66,9 @@ impl RuleHead {
     }
 }
 
-/// A rule of a set, by its number.
+/// Entry `i` of a list of offsets behind its count: a rule of a set, or a ligature.
 #[inline]
-pub(crate) fn nth_rule(set: &[u8], i: u16) -> &[u8] {
+pub(crate) fn nth(set: &[u8], i: u16) -> &[u8] {
     table_at(set, usize::from(u16_at(set, 2 + usize::from(i) * 2)))
 }
 
@@ -81,7 +81,7 @@ fn heads_of(alloc: Global, chained: bool, set: &[u8], budget: &mut usize) -> Vec
             return heads;
         }
         *budget -= HEAD_COST;
-        let head = RuleHead::of(chained, nth_rule(set, i));
+        let head = RuleHead::of(chained, nth(set, i));
         if heads.push(head).is_err() {
             return heads;
         }

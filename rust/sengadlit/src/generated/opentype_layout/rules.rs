@@ -11,7 +11,7 @@ use crate::generated::opentype_layout::input::find_input;
 use crate::generated::opentype_layout::keys::{Key, Keys, key_before, key_behind};
 use crate::generated::opentype_layout::pattern::Pattern;
 use crate::generated::opentype_layout::places::Places;
-use crate::generated::opentype_layout::rule_heads::{Asked, PreparedRules, nth_rule};
+use crate::generated::opentype_layout::rule_heads::{Asked, PreparedRules, nth};
 use crate::generated::opentype_layout::sets::{place_in_set, place_of_first};
 use crate::generated::opentype_layout::sight::{Sight, number};
 use crate::generated::shapers_buffer::buffer::GlyphInfo;
@@ -465,7 +465,7 @@ impl<'a> Tables<'a> {
         {
             return keys.bar(head);
         }
-        self.is_barred(keys, nth_rule(set, i))
+        self.is_barred(keys, nth(set, i))
     }
 
     /// The first rule of a set that fits; the set's heads, if it has them, save most reads of its
@@ -494,7 +494,7 @@ impl<'a> Tables<'a> {
             if self.is_nth_barred(&keys, set, prepared, i) {
                 continue;
             }
-            let rule = self.rule(nth_rule(set, i));
+            let rule = self.rule(nth(set, i));
             let found = rule.fit(gdef, input, context, glyphs, at);
             if found.is_some() {
                 return found;
