@@ -36,7 +36,7 @@ each-gains k f each [] = tt
 each-gains k f each (p ∷ ps) =
     gains-joined k p (f p) (flat_map (λ q. q) ps) (flat_map f ps) (each p) (each-gains k f each ps)
 
-flags-gain : (k : ℕ) (gs : Glyphs) → Gains k gs (unsafe_syllables gs)
+pub flags-gain : (k : ℕ) (gs : Glyphs) → Gains k gs (unsafe_syllables gs)
 flags-gain k gs =
     subst (λ hs. Gains k hs (unsafe_syllables gs)) (joined-syllables gs)
     (each-gains k (flagged 3) (λ p. map-gains k _ (λ g. bits-gain k 3 _ g) p) (syllables gs))

@@ -9,7 +9,7 @@ use Rattle.std.proofs.lemmas.List.Sums.{sum_by-cons}
 use Rattle.shapers_buffer.proofs.MappedLists.{all-append}
 use Rattle.shapers_buffer.specs.Glyphs.{Glyph, Glyphs}
 use Rattle.shapers_buffer.specs.declared.buffer.syllables.Span.{Span}
-use Rattle.shapers_buffer.specs.Syllables.{kind_of, span_byte, span_bytes, syllables, with_bytes, with_in_front}
+use Rattle.shapers_buffer.specs.Syllables.{kind_of, span_byte, span_bytes, spans_cover, syllables, with_bytes, with_in_front}
 use Rattle.shapers_spans.proofs.Cutting.{covered}
 use Rattle.shapers_spans.specs.Grammar.{Grammar}
 use Rattle.shapers_spans.specs.Khmer.{khmer_grammar}
@@ -136,7 +136,7 @@ length-bytes i (s ∷ ss) =
     let d = sum_by-cons (λ (t : Span). t.len) s ss in
     omega (arith, a, b, c, d)
 
-abbrev IsUnknown : ℕ → Glyph → Bool
+abbrev pub IsUnknown : ℕ → Glyph → Bool
 IsUnknown last g = nat_lt last (kind_of g.syllable)
 
 not-above : (last n : ℕ) → n ≤ last → nat_lt last n ≡ false
@@ -159,7 +159,7 @@ none-first test (g ∷ gs) none =
     let p = neither (test g) (list_any test gs) none in
     rw (p.0, none-first test gs p.1) (search arith)
 
-none-at : (test : Glyph → Bool) (gs : Glyphs) → list_any test gs ≡ false → position test gs ≡ None
+pub none-at : (test : Glyph → Bool) (gs : Glyphs) → list_any test gs ≡ false → position test gs ≡ None
 none-at test gs none =
     let e = none-first test gs none in
     rw e (cond-false {A = Option ℕ} (nat_lt (length gs) (length gs)) (Some (length gs)) None (not-above (length gs) (length gs) (omega arith)))
@@ -168,14 +168,18 @@ from-recursion : (last : ℕ) (spans : List Span) → AllByRecursion (λ (s : Sp
     → All (λ (s : Span). s.kind ≤ last) spans
 from-recursion last spans all = All-from_recursion (λ (s : Span). s.kind ≤ last) spans all
 
+pub none-unknown : (last : ℕ) (gs : Glyphs) (spans : List Span) → last ≤ 15 → spans_cover (length gs) spans ≡ true
+    → AllByRecursion (λ (s : Span). s.kind ≤ last) spans → list_any (IsUnknown last) (in_spans gs spans) ≡ false
+none-unknown last gs spans low cover all =
+    let a = length-bytes 0 spans in
+    let b = covered (length gs) spans cover in
+    written-known last gs (span_bytes 0 spans) (omega (arith, a, b)) (bytes-known last 0 spans low all)
+
 kinds-known : (g : Grammar) (last : ℕ) → last ≤ 15 → KindsUpTo g last → FoundKindsKnown g last
 kinds-known g last low upto gs spans are =
-    let all = spans-known g last upto gs spans are in
-    let a = length-bytes 0 spans in
-    let b = covered (length gs) spans are.cover in (
+    let all = spans-known g last upto gs spans are in (
       from-recursion last spans all,
-      none-at (IsUnknown last) (in_spans gs spans)
-          (written-known last gs (span_bytes 0 spans) (omega (arith, a, b)) (bytes-known last 0 spans low all)),
+      none-at (IsUnknown last) (in_spans gs spans) (none-unknown last gs spans low are.cover all),
     )
 
 within : (last : ℕ) (kinds : List ℕ) → AllByRecursion (λ k. k ≤ last) kinds → (j : ℕ) → get_or kinds j 0 ≤ last

@@ -1,1 +1,2 @@
+pub mod FoundPauses
 pub mod FoundSyllables

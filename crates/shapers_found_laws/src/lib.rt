@@ -2,11 +2,15 @@
 //! spans. Each function here does nothing, and its contract is the law.
 #![tactic(auto)]
 
+ghost use Rattle.shapers_base.specs.declared.plan.pause.Pause.TheVariants.{ReorderKhmer, ReorderMyanmar, SetupSyllablesKhmer, SetupSyllablesMyanmar};
+ghost use Rattle.shapers_found_laws.specs.FoundPauses.{FoundCirclesSort, FoundPausesSort, FoundStagesKnow};
 ghost use Rattle.shapers_found_laws.specs.FoundSyllables.{FoundAtMostOne, FoundKindsKnown, KeptAtMostOne, OpensAsItHas, SetUpAtMostOne};
 ghost use Rattle.shapers_spans.specs.Indic.{indic_grammar};
 ghost use Rattle.shapers_spans.specs.Khmer.{khmer_grammar};
 ghost use Rattle.shapers_spans.specs.Myanmar.{myanmar_grammar};
 ghost use Rattle.shapers_spans.specs.Universal.{universal_grammar};
+
+use rustybuzz_shapers::shaper::monotone_law;
 
 /// No syllable that a grammar finds has two rephas: Repha in Indic and Khmer, R in the universal
 /// shaper. So a set-up leaves it, and whatever moves no glyph and makes none a repha; and no
@@ -28,3 +32,18 @@ pub fn found_kinds_law()
     ensures myanmar { FoundKindsKnown myanmar_grammar 3 }
     ensures universal { FoundKindsKnown universal_grammar 8 }
 {}
+
+/// In the stages of Khmer and of Myanmar, whose set-up finds syllables, with lookups that move no
+/// glyph and make none a repha, as single substitutions do: each pause keeps clusters rising or
+/// falling, and so do the circles of the reordering, so that the laws of the pipeline need no premise
+/// about them; and no pause finds a syllable of unknown kind.
+pub fn found_pauses_law()
+    ensures khmer { FoundPausesSort SetupSyllablesKhmer ReorderKhmer 14 }
+    ensures myanmar { FoundPausesSort SetupSyllablesMyanmar ReorderMyanmar 14 }
+    ensures circles_in_khmer { FoundCirclesSort SetupSyllablesKhmer ReorderKhmer 14 }
+    ensures circles_in_myanmar { FoundCirclesSort SetupSyllablesMyanmar ReorderMyanmar 14 }
+    ensures known_in_khmer { FoundStagesKnow SetupSyllablesKhmer ReorderKhmer 14 }
+    ensures known_in_myanmar { FoundStagesKnow SetupSyllablesMyanmar ReorderMyanmar 14 }
+{
+    monotone_law();
+}
