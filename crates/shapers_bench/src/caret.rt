@@ -1,6 +1,7 @@
 //! How a terminal finds where a caret may stand in a word, and what it reads in the contracts.
 ghost use Rattle.std.specs.Prelude.{◌≡◌, ◌≢◌, ◌<◌, ◌≤◌, [], ℕ, List, All, IfOk, length};
 ghost use Rattle.rustybuzz_shapers.specs.Glyph.{clusters};
+ghost use Rattle.shapers_bench.specs.Words.{word_in};
 ghost use Rattle.shapers_editing.specs.Carets.{IsCaretMap};
 
 use crate::calling::plain_plan;
@@ -11,6 +12,9 @@ use rustybuzz_shapers::font::hb_font_t;
 use rustybuzz_shapers::shaper::{KHMER_SHAPER, Pause, run_pause};
 use shapers_editing::{caret_law, caret_stops};
 use std::alloc::Global;
+
+// The bit of a mask that each glyph of a text has.
+pub(crate) const EVERY_GLYPH: u32 = 0x8000_0000;
 
 /// The places in a word of Khmer, cut into these syllables, where a caret may stand besides its
 /// end, for a font without features. They map the word up to its end: they rise, and each glyph
@@ -39,10 +43,15 @@ pub fn khmer_carets<F: hb_font_t>(
 }
 
 // A buffer with a glyph for each character, whose cluster is the character's place, and room for so
-// many glyphs.
-fn buffer_with_room(alloc: Global, text: &[char], room: usize) -> Result<hb_buffer_t, ShaperError>
+// many glyphs. The mask of each has the bit that lookups of the whole text ask for.
+pub(crate) fn buffer_with_room(
+    alloc: Global,
+    text: &[char],
+    room: usize,
+) -> Result<hb_buffer_t, ShaperError>
     requires short { length text.now < 2147483648 }
     requires room { length text.now ≤ room }
+    ensures word { IfOk result (λ buffer. buffer ≡ word_in room text.now) }
     ensures places { IfOk result (λ buffer. All (λ cluster. cluster < length text.now)
         (clusters buffer.glyphs)) }
     ensures filled { IfOk result (λ buffer. length buffer.glyphs ≡ length text.now) }
@@ -54,6 +63,7 @@ fn buffer_with_room(alloc: Global, text: &[char], room: usize) -> Result<hb_buff
     for (place, character) in text.iter().enumerate() {
         buffer.push(hb_glyph_info_t {
             glyph_id: u32::from(*character),
+            mask: EVERY_GLYPH,
             cluster: place as u32,
             ..hb_glyph_info_t::DEFAULT
         })?;

@@ -118,7 +118,7 @@ composed_alike (Some Universal) plan a b c by e = same_text own_class a b c (beh
 
 -- ---- the premises
 
-is_canonical : (shaper : Option hb_ot_shaper_t) (plan : hb_ot_shape_plan_t) (font : Font) (variants : VariantForms)
+pub is_canonical : (shaper : Option hb_ot_shaper_t) (plan : hb_ot_shape_plan_t) (font : Font) (variants : VariantForms)
     (invisible : Option GlyphId) (draws : Bool)
     → splits_vowels shaper ≡ false
     → IsCanonical decomposed (unicode_context shaper plan font variants invisible draws)
@@ -131,7 +131,7 @@ is_canonical shaper plan font variants invisible draws by = record {
 }
 
 -- a shaper's order of marks
-leaves_order : (shaper : Option hb_ot_shaper_t) (plan : hb_ot_shape_plan_t) (font : Font) (variants : VariantForms)
+pub leaves_order : (shaper : Option hb_ot_shaper_t) (plan : hb_ot_shape_plan_t) (font : Font) (variants : VariantForms)
     (invisible : Option GlyphId) (draws : Bool)
     → orders_marks shaper ≡ false → LeavesOrder (unicode_context shaper plan font variants invisible draws)
 leaves_order None plan font variants invisible draws by = λ level s e gs some within. refl
@@ -158,7 +158,7 @@ without_order context o = record {
   equivalent = λ marks run. λ k. refl;
 }
 
-arranged_for : (shaper : Option hb_ot_shaper_t) (plan : hb_ot_shape_plan_t) (font : Font) (variants : VariantForms)
+pub arranged_for : (shaper : Option hb_ot_shaper_t) (plan : hb_ot_shape_plan_t) (font : Font) (variants : VariantForms)
     (invisible : Option GlyphId) (draws : Bool)
     → splits_vowels shaper ≡ false
     → OrdersEquivalently decomposed (unicode_context shaper plan font variants invisible draws)
