@@ -9,3 +9,4 @@ pub mod Letters
 pub mod NormalWords
 pub mod ShapedWords
 pub mod Unplaced
+mod WordRows
