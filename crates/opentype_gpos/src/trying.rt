@@ -238,9 +238,7 @@ fn is_mark_of(it: &PositionRef<'_>, glyphs: &[hb_glyph_info_t], at: usize, to: u
     requires other { to < length glyphs.now }
     ensures { result ≡ is_mark_of it.now.bytes.now glyphs.now at to }
 {
-    is_mark_glyph(&glyphs[to])
-        && are_beside(&glyphs[at], &glyphs[to])
-        && is_second(it, glyphs, to)
+    is_mark_glyph(&glyphs[to]) && are_beside(&glyphs[at], &glyphs[to]) && is_second(it, glyphs, to)
 }
 
 #[tactic(auto, unfolding(crate::specs::Looked::mark_looked))]

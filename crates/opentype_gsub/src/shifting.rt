@@ -129,12 +129,7 @@ fn shift_places(places: &[usize], sequence: usize, added: usize, removed: usize)
 
 // The same where they change. (Most lookups leave as many glyphs as there were.)
 #[inline]
-fn places_moved(
-    places: &[usize],
-    sequence: usize,
-    added: usize,
-    removed: usize,
-) -> Option<Places>
+fn places_moved(places: &[usize], sequence: usize, added: usize, removed: usize) -> Option<Places>
     requires { length places.now ≤ 64 }
     ensures some { IfSome result (λ new.
         new.items ≡ places_shifted sequence added removed places.now) }

@@ -24,8 +24,11 @@ none_if A (Some a) e = absurd (cc)
 pub others_outside : (set : List ℕ) (only mask : ℕ) (gs : Glyphs) (from end : ℕ) →
     (u16_in set 0 ≡ 1) × (u16_in set 2 ≡ 1) → only ≡ u16_in set 4 →
     AreOthers only mask gs from end → AreOutside set mask gs from end
-others_outside set only mask gs from end (format, count) e others = record { each = λ j le lt.
-    elim (others.each j le lt) [
-      | inl bare ↦ inl bare
-      | inr other ↦ inr (none_if _ _
-          (one_glyph set _ format count ∙ (ap (λ it. it == (glyph_at gs j).glyph_id % 65536) (sym e) ∙ other))) ] }
+others_outside set only mask gs from end (format, count) e others = record {
+  each = λ j le lt.
+      elim (others.each j le lt) [
+        | inl bare ↦ inl bare
+        | inr other ↦ inr (none_if _ _
+            (one_glyph set _ format count ∙ (ap (λ it. it == (glyph_at gs j).glyph_id % 65536) (sym e) ∙ other)))
+      ];
+}

@@ -25,7 +25,7 @@ left_first of_gpos lookup mask gs from end =
 -- a subtable whose set lacks a glyph doesn't begin there
 starts_not : (of_gpos : Bool) (lookup : List ℕ) (glyph i : ℕ) →
     coverage_in (first_set_in of_gpos (type_in (extension_type of_gpos) lookup i)
-        (subtable_in (extension_type of_gpos) lookup i)) glyph ≡ None →
+    (subtable_in (extension_type of_gpos) lookup i)) glyph ≡ None →
     starting of_gpos lookup glyph i ≡ None
 unfolding starting
 starts_not of_gpos lookup glyph i e = rw e refl
@@ -37,13 +37,17 @@ none_further of_gpos lookup glyph i before here = search (arith)
 -- one subtable more, up to the first place of a glyph that is in its set
 pub left_further : (of_gpos : Bool) (lookup : List ℕ) (mask : ℕ) (gs : Glyphs) (from end last i : ℕ) (set : List ℕ) →
     set ≡ first_set_in of_gpos (type_in (extension_type of_gpos) lookup i)
-        (subtable_in (extension_type of_gpos) lookup i) →
+    (subtable_in (extension_type of_gpos) lookup i) →
     AreLeft of_gpos lookup mask gs from end i → last ≤ end → AreOutside set mask gs from last →
     AreLeft of_gpos lookup mask gs from last (i + 1)
-left_further of_gpos lookup mask gs from end last i set e before within out = record { each = λ j le lt.
-    elim (before.each j le (omega (arith, lt, within))) [
-      | inl bare ↦ inl bare
-      | inr none ↦ elim (out.each j le lt) [
+left_further of_gpos lookup mask gs from end last i set e before within out = record {
+  each = λ j le lt.
+      elim (before.each j le (omega (arith, lt, within))) [
+        | inl bare ↦ inl bare
+        | inr none ↦ elim (out.each j le lt) [
           | inl bare ↦ inl bare
           | inr lacks ↦ inr (none_further of_gpos lookup _ i none
-              (starts_not of_gpos lookup _ i (ap (λ it. coverage_in it ((glyph_at gs j).glyph_id % 65536)) (sym e) ∙ lacks))) ] ] }
+              (starts_not of_gpos lookup _ i (ap (λ it. coverage_in it ((glyph_at gs j).glyph_id % 65536)) (sym e) ∙ lacks)))
+        ]
+      ];
+}

@@ -50,7 +50,10 @@ fn sets_of_rules<'a>(
         }
         *budget -= SET_COST;
         let set = rule_set(bytes, at, u32::from(i));
-        if sets.push(PreparedRules::new(alloc, chained, set, budget)).is_err() {
+        if sets
+            .push(PreparedRules::new(alloc, chained, set, budget))
+            .is_err()
+        {
             return sets;
         }
     }

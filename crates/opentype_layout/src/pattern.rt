@@ -30,8 +30,7 @@ impl<'a> Pattern<'a> {
     {
         match *self {
             Pattern::Glyphs(glyphs) => u16_at(glyphs, usize::from(k) * 2) == glyph,
-            Pattern::Classes(classes, of) => u16_at(classes, usize::from(k) * 2)
-                == of.class(glyph),
+            Pattern::Classes(classes, of) => u16_at(classes, usize::from(k) * 2) == of.class(glyph),
             Pattern::Sets(offsets, table) => {
                 let offset = usize::from(u16_at(offsets, usize::from(k) * 2));
                 coverage(table_at(table, offset), glyph).is_some()

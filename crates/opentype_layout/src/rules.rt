@@ -384,9 +384,33 @@ impl<'a> Tables<'a> {
     {
         let (format, end) = (self.format, end_of(at, &[]));
         Keys {
-            before: before_key(asked.before, format, &self.before, gdef, context, glyphs, at),
-            input: behind_key(asked.input, format, &self.input, gdef, input, glyphs, at + 1),
-            behind: behind_key(asked.behind, format, &self.behind, gdef, context, glyphs, end),
+            before: before_key(
+                asked.before,
+                format,
+                &self.before,
+                gdef,
+                context,
+                glyphs,
+                at,
+            ),
+            input: behind_key(
+                asked.input,
+                format,
+                &self.input,
+                gdef,
+                input,
+                glyphs,
+                at + 1,
+            ),
+            behind: behind_key(
+                asked.behind,
+                format,
+                &self.behind,
+                gdef,
+                context,
+                glyphs,
+                end,
+            ),
         }
     }
 

@@ -312,13 +312,7 @@ fn first_of_number(
 // The first place, from one on and before an end, whose glyph has a bit of a mask and is in a set;
 // the end, if there is none. Most sets of rules have one glyph, which is compared without a search.
 #[inline]
-fn first_in_set(
-    set: &[u8],
-    mask: u32,
-    glyphs: &[hb_glyph_info_t],
-    from: usize,
-    end: usize,
-) -> usize
+fn first_in_set(set: &[u8], mask: u32, glyphs: &[hb_glyph_info_t], from: usize, end: usize) -> usize
     requires { end ≤ length glyphs.now }
     ensures behind { min from end ≤ result }
     ensures within { result ≤ end }

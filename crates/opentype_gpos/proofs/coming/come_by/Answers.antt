@@ -6,6 +6,6 @@ pub find_rule-requires-clause-set : goal.find_rule-requires-clause-set
 find_rule-requires-clause-set c =
     let it = c.position-it.result in
     elim c.then-it-eq7.branch [
-      then-it-eq7-via-then-it-eq7 w ↦ set_of_context _ _ it.kind it.bytes.now w.if-it-eq7.true it.first_fits
-    | then-it-eq7-via-else-it-eq7+then-it-eq8 w ↦ set_of_chained _ _ it.kind it.bytes.now w.if-it-eq8.true it.first_fits
+      | then-it-eq7-via-then-it-eq7 w ↦ set_of_context _ _ it.kind it.bytes.now w.if-it-eq7.true it.first_fits
+      | then-it-eq7-via-else-it-eq7+then-it-eq8 w ↦ set_of_chained _ _ it.kind it.bytes.now w.if-it-eq8.true it.first_fits
     ]
