@@ -1,6 +1,7 @@
 -- A word of Khmer behind its stages.
-use Rattle.std.proofs.Common.{◌≡◌, ◌∙◌, ◌==◌, ◌||◌, ℕ, true, false, List, [], ◌∷◌, map, refl, sym, ap, subst, inl, Option, None, Some}
-use Rattle.std.specs.Prelude.{bit_and, find, if◌then◌else◌}
+use Rattle.std.proofs.Common.{◌≡◌, ◌≢◌, ◌∙◌, ◌==◌, ◌||◌, ℕ, true, false, List, [], ◌∷◌, map, refl, sym, ap, subst, inl, Option, None, Some}
+use Rattle.std.specs.Prelude.{bit_and, find, if◌then◌else◌, Err, IfErr, Ok, Result}
+use Rattle.std.specs.Result.{IsErrAnd}
 use Rattle.std.specs.List.{AllZip}
 use Rattle.std.specs.Option.{option_map_or}
 use Rattle.shapers_base.specs.Font.{CharacterTables, Font}
@@ -13,14 +14,18 @@ use Rattle.shapers_buffer.specs.Glyph.{clusters}
 use Rattle.shapers_buffer.specs.Glyphs.{Glyph, Glyphs}
 use Rattle.shapers_buffer.specs.declared.buffer.level.Direction.{Direction}
 use Rattle.shapers_buffer.specs.declared.buffer.tag.Script.{Script}
+use Rattle.shapers_buffer.specs.declared.buffer.refusal.ShaperError.TheVariants.{UnknownSyllable}
+use Rattle.rustybuzz_shapers.specs.declared.shaper.checked.CallError.{CallError}
+use Rattle.rustybuzz_shapers.specs.declared.shaper.checked.CallError.TheVariants as call
 use Rattle.shapers_clusters.specs.Cuts.{IsMonotone, IsRising}
-use Rattle.shapers_found_laws.specs.FoundPauses.{AreStagesOf, FoundPausesSort, LookupsGainNone, reorders}
+use Rattle.shapers_found_laws.specs.FoundPauses.{AreStagesOf, FoundPausesSort, FoundStagesKnow, LookupsGainNone, reorders}
 use Rattle.shapers_found_laws.specs.FoundSyllables.{GainsNone}
 use Rattle.shapers_pipeline.specs.ClusterLaws.{LookupsKeep, StagesKeepClusters}
+use Rattle.shapers_pipeline.specs.Lookups.{LookupRefusals}
 use Rattle.shapers_pipeline.specs.Planned.{as_planned}
 use Rattle.shapers_pipeline.specs.SingleLaws.{singles_keep}
 use Rattle.shapers_pipeline.specs.Singles.{is_single_for, single_applied, singles_applied, with_single}
-use Rattle.shapers_pipeline.specs.Stages.{StagesRun, Substitution}
+use Rattle.shapers_pipeline.specs.Stages.{StagesRun, StagesStopped, Substitution}
 use Rattle.shapers_pipeline.specs.declared.singles.Single.{Single}
 use Rattle.shapers_plan.specs.declared.ot_map.lookups.Stage.{Stage}
 use Rattle.shapers_plan.specs.declared.ot_map.lookups.StageLookup.{StageLookup}
@@ -92,3 +97,34 @@ stages-sorted found keep plan font singles list first second third room word tab
     let rises : IsRising (clusters masked.glyphs) = subst IsRising (sym same) (letters-rise 0 word) in
     (keep r (first ∷ (second ∷ (third ∷ []))) text last keeps none run).1
     (found r first second (third ∷ []) text last are run) merging (inl rises)
+
+-- no such stage stops for a syllable of unknown kind
+pub stages-know : FoundStagesKnow SetupSyllablesKhmer ReorderKhmer 14
+    → (plan : hb_ot_shape_plan_t) (font : Font) (singles : List Single) (list : List StageLookup)
+    (first second third : Stage) (refusals : StageLookup → Buffer → LookupRefusals) (text left : Buffer) (e : CallError)
+    → first.pause ≡ Some SetupSyllablesKhmer → second.pause ≡ Some ReorderKhmer
+    → third.pause ≡ Some SyllabicClearVar →
+    let r : Substitution = record {
+      plan = plan;
+      font = font;
+      substituted = singles_applied singles;
+      list = list;
+    } in
+    StagesStopped r refusals (first ∷ (second ∷ (third ∷ []))) text left e → (place : ℕ)
+    → e ≢ call.Refused (UnknownSyllable place)
+stages-know law plan font singles list first second third refusals text left e a b d stopped place = λ same.
+    let r : Substitution = record { plan = plan; font = font; substituted = singles_applied singles; list = list } in
+    let are : AreStagesOf SetupSyllablesKhmer ReorderKhmer 14 r first second (third ∷ []) = record {
+      set_up = a;
+      reordered = b;
+      others = ap (λ (p : Option Pause). option_map_or reorders p false || false) d;
+      lookups = singles-gain-none 14 singles;
+    } in
+    law r refusals first second (third ∷ []) text left place are
+    (subst (StagesStopped r refusals (first ∷ (second ∷ (third ∷ []))) text left) same stopped)
+
+-- what holds of an error holds of the error that is handed on
+pub told-on : {T : Type 0} (r : Result T CallError) (x : CallError) (P : CallError → Type 0)
+    → IsErrAnd r (λ y. y ≡ x) → P x → IfErr r P
+told-on (Ok v) x P told p = tt
+told-on (Err y) x P told p = subst P (sym told) p

@@ -1,6 +1,7 @@
 //! How a terminal finds where a caret may stand in a word, and what it reads in the contracts.
-ghost use Rattle.std.specs.Prelude.{◌≡◌, ◌≢◌, ◌<◌, ◌≤◌, [], ℕ, List, All, IfOk, length};
+ghost use Rattle.std.specs.Prelude.{◌≡◌, ◌≢◌, ◌<◌, ◌≤◌, [], ℕ, List, All, IfOk, IsOkUnless, length};
 ghost use Rattle.rustybuzz_shapers.specs.Glyph.{clusters};
+ghost use Rattle.shapers_buffer.specs.declared.buffer.refusal.ShaperError.TheVariants.{Memory};
 ghost use Rattle.shapers_bench.specs.Words.{word_in};
 ghost use Rattle.shapers_editing.specs.Carets.{IsCaretMap};
 
@@ -58,6 +59,7 @@ pub(crate) fn buffer_with_room(
     ensures limit { IfOk result (λ buffer. buffer.max_len ≡ room) }
     ensures unplaced { IfOk result (λ buffer. buffer.positions ≡ []) }
     ensures short { result ≢ Err ShaperError.TooLong }
+    ensures refusal { IsOkUnless result Memory }
 {
     let mut buffer = hb_buffer_t::new(alloc, room);
     for (place, character) in text.iter().enumerate() {

@@ -1,7 +1,9 @@
 //! How an engine runs the stages of a shaper of syllables, and what it reads in the laws of found
 //! syllables and of clusters.
-ghost use Rattle.std.specs.Prelude.{◌≡◌, ◌<◌, Some, length, IfOk};
+ghost use Rattle.std.specs.Prelude.{◌≡◌, ◌≢◌, ◌<◌, ℕ, Some, length, IfErr, IfOk};
+ghost use Rattle.rustybuzz_shapers.specs.declared.shaper.checked.CallError.TheVariants as call;
 ghost use Rattle.shapers_buffer.specs.Glyph.{clusters};
+ghost use Rattle.shapers_buffer.specs.declared.buffer.refusal.ShaperError.TheVariants.{UnknownSyllable};
 ghost use Rattle.shapers_clusters.specs.Cuts.{IsMonotone};
 
 use crate::breaks::FIRST_LOOKUP;
@@ -17,7 +19,8 @@ use shapers_plan::ot_map::Stage;
 use std::alloc::Global;
 
 /// A word of Khmer behind the stages of its shaper, with single substitutions before its syllables
-/// are reordered. Its clusters rise or fall along it, whatever the font. Refuses as circles do.
+/// are reordered. Its clusters rise or fall along it, and no syllable is of a kind that the
+/// reordering doesn't know, whatever the font. Refuses as circles do.
 pub fn khmer_stages<F: hb_font_t, T: Tables>(
     alloc: Global,
     font: &F,
@@ -27,6 +30,7 @@ pub fn khmer_stages<F: hb_font_t, T: Tables>(
 ) -> Result<hb_buffer_t, CallError>
     requires short { length word.now < 2147483648 }
     ensures sorted { IfOk result (λ buffer. IsMonotone (clusters buffer.glyphs)) }
+    ensures known { IfErr result (λ e. (place : ℕ) → e ≢ call.Refused (UnknownSyllable place)) }
 {
     let plan = KHMER_SHAPER.with_data(plain_plan(alloc, Script(*b"Khmr")));
     let stages = [
