@@ -20,9 +20,9 @@ use shapers_editing::{
 use shapers_spans::Khmer;
 use std::alloc::Global;
 
-/// What an edit of glyphs with Khmer's categories leaves. So many glyphs in front and behind are the
-/// same in both texts, neither of which has fewer; and whoever finds the syllables of the texts finds
-/// the same ones there. Refuses with `Memory` alone.
+/// What an edit of glyphs with Khmer's categories leaves: how many glyphs in front and how many
+/// behind. Both texts have at least so many glyphs, and they are the same in both; whoever finds the
+/// syllables of the texts finds the same ones there. Refuses with `Memory` alone.
 pub fn khmer_unaffected(
     text: &[hb_glyph_info_t],
     edit: &Edit,

@@ -34,7 +34,9 @@ pub fn equivalent_syllable<F: NormalizeFont>(
     normalized_by_unicode(alloc, None, font, syllable)
 }
 
-/// The same of a syllable of Thai.
+/// A syllable of Thai of up to three characters, normalized by Unicode's tables whatever the font
+/// has. It is canonically equivalent to what it was, by the classes that Thai's shaper has. None
+/// where a character stands behind the surrogates. Refuses with `Memory` alone.
 pub fn equivalent_in_thai<F: NormalizeFont>(
     alloc: Global,
     font: &F,
@@ -51,7 +53,9 @@ pub fn equivalent_in_thai<F: NormalizeFont>(
     normalized_by_unicode(alloc, Some(THAI_SHAPER), font, syllable)
 }
 
-/// The same of a word of Hangul, however long it is, since its shaper composes nothing there.
+/// A word of Hangul of any length, normalized by Unicode's tables whatever the font has. It is
+/// canonically equivalent to what it was, since its shaper composes nothing. None where a character
+/// stands behind the surrogates. Refuses with `Memory` alone.
 pub fn equivalent_in_hangul<F: NormalizeFont>(
     alloc: Global,
     font: &F,
