@@ -233,7 +233,7 @@ fn before_key(
     key_before(gdef, sight, glyphs, at).by(format, of)
 }
 
-// The same from a place on.
+// What rules must look for first from a place on, if they ask about it.
 #[inline]
 fn behind_key(
     is_asked: bool,
@@ -496,10 +496,10 @@ impl<'a> Tables<'a> {
         if self.format == 3 {
             return false;
         }
-        if let Some(rules) = prepared
-            && let Some(head) = rules.head(i)
-        {
-            return keys.bar(head);
+        if let Some(rules) = prepared {
+            if let Some(head) = rules.head(i) {
+                return keys.bar(head);
+            }
         }
         self.is_barred(keys, nth(set, i))
     }

@@ -108,7 +108,7 @@ fn shift_places(places: &[usize], sequence: usize, added: usize, removed: usize)
     new
 }
 
-// The same where they change. (Most lookups leave as many glyphs as there were.)
+// A rule's places behind a lookup, if they change: most lookups leave as many glyphs as there were.
 #[inline]
 fn places_moved(places: &[usize], sequence: usize, added: usize, removed: usize) -> Option<Places> {
     if added == 0 && removed == 0 {
