@@ -84,6 +84,24 @@ fn a_plan_tells_the_shaper_of_its_script() {
     assert_eq!(shaper(script::SINHALA), None);
 }
 
+// (HarfBuzz's hb_script_get_horizontal_direction)
+#[test]
+fn a_plan_has_the_direction_of_its_script() {
+    let data = font();
+    let face = Face::parse(&data, 0).unwrap();
+    for (script, direction) in [
+        (None, Direction::LeftToRight),
+        (Some(script::THAI), Direction::LeftToRight),
+        (Some(script::SYRIAC), Direction::RightToLeft),
+    ] {
+        let builder = ShapePlan::builder().script(script);
+        assert_eq!(builder.build(&face).unwrap().direction(), direction);
+        let builder = builder.direction(Direction::TopToBottom);
+        let plan = builder.build(&face).unwrap();
+        assert_eq!(plan.direction(), Direction::TopToBottom);
+    }
+}
+
 #[test]
 fn a_plan_and_a_buffer_serve_many_texts() {
     let data = font();

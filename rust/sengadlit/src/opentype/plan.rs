@@ -72,13 +72,13 @@ impl ShapePlan {
     }
 }
 
-/// Makes a [`ShapePlan`]. What isn't set is as in HarfBuzz: no script, no language,
-/// left to right, no features.
+/// Makes a [`ShapePlan`]. What isn't set is as in HarfBuzz: no script, no language, no features, and the
+/// direction in which the script is written, which is left to right without a script.
 #[derive(Clone, Copy, Debug)]
 pub struct ShapePlanBuilder<'f> {
     script: Option<Script>,
     language: Option<Language>,
-    direction: Direction,
+    direction: Option<Direction>,
     features: &'f [Feature],
     choices: ShapeChoices,
     rounds: Rounds,
@@ -89,7 +89,7 @@ impl Default for ShapePlanBuilder<'_> {
         ShapePlanBuilder {
             script: None,
             language: None,
-            direction: Direction::LeftToRight,
+            direction: None,
             features: &[],
             choices: ShapeChoices {
                 base_search: BaseSearch::AllConsonants,
@@ -120,10 +120,13 @@ impl ShapePlanBuilder<'_> {
         }
     }
 
-    /// The direction of the texts.
+    /// The direction of the texts, where it isn't the script's.
     #[must_use]
     pub fn direction(self, direction: Direction) -> Self {
-        ShapePlanBuilder { direction, ..self }
+        ShapePlanBuilder {
+            direction: Some(direction),
+            ..self
+        }
     }
 
     /// The features that the user requests.
@@ -165,6 +168,11 @@ impl ShapePlanBuilder<'_> {
     ///
     /// [`ShaperError::Memory`].
     pub fn build(self, face: &Face<'_>) -> Result<ShapePlan, ShaperError> {
+        let of_script = || {
+            self.script
+                .map_or(Direction::LeftToRight, Script::direction)
+        };
+        let direction = self.direction.unwrap_or_else(of_script);
         let tags = text_tags(self.script, self.language.as_ref());
         let font = face.for_tags(tags);
         let (gsub, gpos) = (face.face.gsub, face.face.gpos);
@@ -172,7 +180,7 @@ impl ShapePlanBuilder<'_> {
         let plan = ot_shape_plan::EnginePlan::with_choices(
             Global,
             self.script,
-            self.direction,
+            direction,
             &font,
             &features,
             self.features,
