@@ -5,9 +5,10 @@
 use sengadlit::editing::{Stretch, TextEdit, reshape};
 use sengadlit::ot_shape_normalize::Rounds;
 use sengadlit::{
-    BufferClusterLevel, BufferFlags, Face, GlyphBuffer, GlyphPosition, Script, ShapePlan,
-    UnicodeBuffer, shape_with_plan,
+    BufferClusterLevel, BufferFlags, Face, Feature, GlyphBuffer, GlyphPosition, Script, ShapePlan,
+    UnicodeBuffer, script, shape_with_plan,
 };
+use std::str::FromStr;
 
 #[allow(dead_code, reason = "other tests draw more kinds of numbers")]
 #[path = "common/numbers.rs"]
@@ -38,10 +39,7 @@ impl Shaping {
     fn of(text: &str) -> Self {
         let face = Face::parse(font(), 0).unwrap();
         let script = text.chars().find_map(Script::of_char).unwrap();
-        let plan = ShapePlan::builder()
-            .script(script)
-            .direction(script.direction())
-            .rounds(Rounds::Always);
+        let plan = ShapePlan::builder().script(script).rounds(Rounds::Always);
         let plan = plan.build(&face).unwrap();
         Shaping { face, plan }
     }
@@ -131,6 +129,31 @@ fn little_is_shaped_again_of_a_long_text() {
     };
     let again = glyphs.reshape(&shaping.face, &shaping.plan, &text, edit);
     assert!(again.unwrap().len() < 24);
+    assert_eq!(
+        shown(&glyphs),
+        shown(&shaping.shape(&text, UnicodeBuffer::new()))
+    );
+}
+
+// An edit moves the ranges of features, so that glyphs far from it change.
+#[test]
+fn features_with_ranges_are_set_anew() {
+    let mut shaping = Shaping::of(TEXTS[0]);
+    let mut text = TEXTS[0].repeat(2);
+    let features = [Feature::from_str("-liga[30:60]").unwrap()];
+    let plan = ShapePlan::builder()
+        .script(script::LATIN)
+        .rounds(Rounds::Always);
+    shaping.plan = plan.features(&features).build(&shaping.face).unwrap();
+    let mut glyphs = shaping.shape(&text, UnicodeBuffer::new());
+    text.insert_str(0, "ff");
+    let edit = TextEdit {
+        start: 0,
+        old_end: 0,
+        new_end: 2,
+    };
+    let again = glyphs.reshape(&shaping.face, &shaping.plan, &text, edit);
+    assert_eq!(again.unwrap(), 0..text.len());
     assert_eq!(
         shown(&glyphs),
         shown(&shaping.shape(&text, UnicodeBuffer::new()))

@@ -14,9 +14,10 @@ impl GlyphBuffer {
     /// glyphs are then those of the text as it is now, which is given; before the call they are those of
     /// the text before the edit, shaped with this face and plan, and their clusters are offsets in it.
     ///
-    /// The stretch is that of [`reshape`], widened until its ends come out as they were. Where nothing has
-    /// been shaped, or at the level [`BufferClusterLevel::Characters`], it is the whole text. Make the plan
-    /// with [`Rounds::Always`]; [`reshape`] says why, and what else is known.
+    /// The stretch is that of [`reshape`], widened until its ends come out as they were. It is the whole
+    /// text where nothing has been shaped, at the level [`BufferClusterLevel::Characters`], and where the
+    /// plan has features for ranges of the text, which an edit moves. Make the plan with
+    /// [`Rounds::Always`]; [`reshape`] says why, and what else is known.
     ///
     /// ```
     /// use sengadlit::editing::TextEdit;
@@ -57,7 +58,8 @@ impl GlyphBuffer {
         edit: TextEdit,
     ) -> Result<Range<usize>, CallError> {
         let is_in_order = self.text.cluster_level() != BufferClusterLevel::Characters;
-        let mut stretch = if self.is_complete && is_in_order {
+        let is_uniform = plan.plan.ranges().is_empty();
+        let mut stretch = if self.is_complete && is_in_order && is_uniform {
             reshape(text, edit, self.run())
         } else {
             Stretch {
