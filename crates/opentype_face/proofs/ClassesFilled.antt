@@ -1,5 +1,5 @@
 -- A table of classes, as far as it is filled.
-use Rattle.std.proofs.Common.{ℕ, ◌+◌, ◌<◌, ◌≡◌, ◌∙◌, List, [], ◌∷◌, ◌++◌, length, slice_index, refl, sym, ap, inl, inr, arith}
+use Rattle.std.proofs.Common.{ℕ, ◌+◌, ◌<◌, ◌≡◌, ◌∙◌, List, [], ◌∷◌, ◌++◌, length, slice_index, sym, ap, inl, inr, arith}
 use Rattle.std.proofs.lemmas.Grind.{common_steps}
 use Rattle.opentype_face.specs.Classes.{props_of}
 use Rattle.opentype_face.proofs.PageTables.{at_end, before, before_or_at}
@@ -7,9 +7,6 @@ use Rattle.opentype_face.proofs.PageTables.{at_end, before, before_or_at}
 pub record AreClasses (gdef props : List ℕ) (count : ℕ) : Type 0 where
   pub len : length props ≡ count
   pub same : (glyph : ℕ) → glyph < length props → slice_index props glyph ≡ props_of gdef glyph
-
-pub classes_start : (gdef : List ℕ) → AreClasses gdef [] 0
-classes_start gdef = record { len = refl; same = λ glyph lt. absurd (omega arith) }
 
 pub classes_next : (gdef props : List ℕ) (count props_next : ℕ) (new : List ℕ) → AreClasses gdef props count →
     props_next ≡ props_of gdef count → new ≡ props ++ props_next ∷ [] → AreClasses gdef new (count + 1)

@@ -1,5 +1,5 @@
 //! The classes of glyphs, by a table that is made once.
-ghost use Rattle.std.specs.Prelude.{◌≡◌, ◌<◌, true, IfOk, []};
+ghost use Rattle.std.specs.Prelude.{◌≡◌, ◌<◌, true, IfOk};
 ghost use Rattle.opentype_face.specs.Classes.{has_classes};
 ghost use Rattle.opentype_face.specs.ClassTables.{TellsClasses, props_if_any};
 
@@ -58,32 +58,35 @@ pub struct PreparedClasses<'a> {
     ghost tells: { TellsClasses gdef.now props.items },
 }
 
-// Appends the classes of so many glyphs.
-fn fill(gdef: &[u8], count: u16, props: &mut Vec<u16>) -> Result<(), AllocError>
-    requires has { has_classes gdef.now ≡ true }
-    requires none { props.old.items ≡ [] }
-    ensures { IfOk result (λ _. TellsClasses gdef.now props.new.items) }
+// The classes of so many glyphs.
+fn props_of(gdef: &[u8], count: u16, alloc: Global) -> Result<Vec<u16>, AllocError>
+    requires { has_classes gdef.now ≡ true }
+    ensures { IfOk result (λ props. TellsClasses gdef.now props.items) }
 {
+    let mut props = Vec::with_capacity(alloc, usize::from(count))?;
     for glyph in 0..count {
         props.push(glyph_props(gdef, glyph))?;
     }
-    Ok(())
+    Ok(props)
 }
 
 impl<'a> PreparedClasses<'a> {
-    /// Makes a table of the classes of so many glyphs, of which each takes two bytes and a search or two. Where
-    /// memory is refused, or the font has no classes, there is none.
-    pub fn new(gdef: &'a [u8], count: u16, alloc: Global) -> Self
+    /// Makes a table of the classes of so many glyphs, of which each takes two bytes and a search or two. A
+    /// budget in bytes pays for it. Where this or memory doesn't suffice, or the font has no classes, there is
+    /// none.
+    pub fn new(gdef: &'a [u8], count: u16, alloc: Global, budget: &mut usize) -> Self
         ensures { result.gdef.now ≡ gdef.now }
     {
-        let mut props = Vec::new(alloc);
-        if has_glyph_classes(gdef) && fill(gdef, count, &mut props).is_ok() {
-            PreparedClasses { gdef, props }
-        } else {
-            PreparedClasses {
-                gdef,
-                props: Vec::new(alloc),
+        let size = usize::from(count) * 2;
+        if size <= *budget && has_glyph_classes(gdef) {
+            if let Ok(props) = props_of(gdef, count, alloc) {
+                *budget -= size;
+                return PreparedClasses { gdef, props };
             }
+        }
+        PreparedClasses {
+            gdef,
+            props: Vec::new(alloc),
         }
     }
 

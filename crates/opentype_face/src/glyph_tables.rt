@@ -1,5 +1,5 @@
 //! Classes of glyphs, and places of glyphs in sets, by tables that are made once.
-ghost use Rattle.std.specs.Prelude.{◌≡◌, ◌≤◌, ◌+◌, IfOk, IfSome, []};
+ghost use Rattle.std.specs.Prelude.{◌≡◌, ◌≤◌, ◌+◌, IfOk, IfSome};
 ghost use Rattle.opentype_face.specs.Glyphs.{class_in, coverage_in};
 ghost use Rattle.opentype_face.specs.GlyphTables.{TellsClassDef, TellsCoverage, place_before};
 
@@ -62,14 +62,15 @@ pub struct PreparedClassDef<'a> {
     ghost tells: { TellsClassDef bytes.now first classes.items },
 }
 
-fn fill_classes(bytes: &[u8], glyphs: Stretch, classes: &mut Vec<u16>) -> Result<(), AllocError>
-    requires none { classes.old.items ≡ [] }
-    ensures { IfOk result (λ _. TellsClassDef bytes.now glyphs.first classes.new.items) }
+// The classes of these glyphs.
+fn classes_of(bytes: &[u8], glyphs: Stretch, alloc: Global) -> Result<Vec<u16>, AllocError>
+    ensures { IfOk result (λ classes. TellsClassDef bytes.now glyphs.first classes.items) }
 {
+    let mut classes = Vec::with_capacity(alloc, usize::from(glyphs.count))?;
     for i in 0..glyphs.count {
         classes.push(class(bytes, glyphs.first + i))?;
     }
-    Ok(())
+    Ok(classes)
 }
 
 impl<'a> PreparedClassDef<'a> {
@@ -80,14 +81,15 @@ impl<'a> PreparedClassDef<'a> {
     {
         let glyphs = classed(bytes);
         let size = usize::from(glyphs.count) * 2;
-        let mut classes = Vec::new(alloc);
-        if size <= *budget && fill_classes(bytes, glyphs, &mut classes).is_ok() {
-            *budget -= size;
-            return PreparedClassDef {
-                bytes,
-                first: glyphs.first,
-                classes,
-            };
+        if size <= *budget {
+            if let Ok(classes) = classes_of(bytes, glyphs, alloc) {
+                *budget -= size;
+                return PreparedClassDef {
+                    bytes,
+                    first: glyphs.first,
+                    classes,
+                };
+            }
         }
         PreparedClassDef {
             bytes,
@@ -138,18 +140,18 @@ fn stored_place(set: &[u8], glyph: u16) -> Option<u16>
     }
 }
 
-// (a place that is too great ends the table: no font has one)
-fn fill_places(set: &[u8], glyphs: Stretch, places: &mut Vec<u16>) -> Result<(), AllocError>
-    requires none { places.old.items ≡ [] }
-    ensures { IfOk result (λ _. TellsCoverage set.now glyphs.first places.new.items) }
+// The places of these glyphs in a set. (A place that is too great ends the table: no font has one.)
+fn places_of(set: &[u8], glyphs: Stretch, alloc: Global) -> Result<Vec<u16>, AllocError>
+    ensures { IfOk result (λ places. TellsCoverage set.now glyphs.first places.items) }
 {
+    let mut places = Vec::with_capacity(alloc, usize::from(glyphs.count))?;
     for i in 0..glyphs.count {
         match stored_place(set, glyphs.first + i) {
             Some(kept) => places.push(kept)?,
-            None => return Ok(()),
+            None => return Ok(places),
         }
     }
-    Ok(())
+    Ok(places)
 }
 
 impl<'a> PreparedCoverage<'a> {
@@ -160,14 +162,15 @@ impl<'a> PreparedCoverage<'a> {
     {
         let glyphs = covered(set);
         let size = usize::from(glyphs.count) * 2;
-        let mut places = Vec::new(alloc);
-        if size <= *budget && fill_places(set, glyphs, &mut places).is_ok() {
-            *budget -= size;
-            return PreparedCoverage {
-                set,
-                first: glyphs.first,
-                places,
-            };
+        if size <= *budget {
+            if let Ok(places) = places_of(set, glyphs, alloc) {
+                *budget -= size;
+                return PreparedCoverage {
+                    set,
+                    first: glyphs.first,
+                    places,
+                };
+            }
         }
         PreparedCoverage {
             set,

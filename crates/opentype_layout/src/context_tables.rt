@@ -5,6 +5,7 @@ ghost use Rattle.opentype_face.specs.Bytes.{table_at, u16_in};
 ghost use Rattle.opentype_layout.specs.ContextTables.{AreSetsOfRules, place_of_rules};
 ghost use Rattle.opentype_layout.specs.Rules.{context_in, first_in, found, kind, kind_in, set_in, start_at};
 
+use crate::budget::paid_for;
 use crate::class_refs::ClassRef;
 use crate::rule_heads::PreparedRules;
 use crate::rules::{Matched, Tables, find_rule, place_of_sets, rule_set};
@@ -43,12 +44,11 @@ fn sets_of_rules<'a>(
     ensures { AreSetsOfRules chained bytes.now result.items }
 {
     let at = place_of_rules(chained, bytes);
-    let mut sets = Vec::new(alloc);
-    for i in 0..u16_at(bytes, at) {
-        if *budget < SET_COST {
-            return sets;
-        }
-        *budget -= SET_COST;
+    let count = paid_for(u16_at(bytes, at), SET_COST, budget);
+    let Ok(mut sets) = Vec::with_capacity(alloc, usize::from(count)) else {
+        return Vec::new(alloc);
+    };
+    for i in 0..count {
         let set = rule_set(bytes, at, u32::from(i));
         if sets
             .push(PreparedRules::new(alloc, chained, set, budget))

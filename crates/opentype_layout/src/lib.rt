@@ -3,6 +3,7 @@
 #![tactic(auto)]
 
 pub mod bits;
+mod budget;
 pub mod class_refs;
 pub mod context_tables;
 pub mod face_tables;

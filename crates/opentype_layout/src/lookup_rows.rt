@@ -79,7 +79,9 @@ pub(crate) fn lookup_rows(
         return None;
     }
     *budget -= size * 8;
-    let mut words = Vec::new(alloc);
+    let Ok(mut words) = Vec::with_capacity(alloc, size) else {
+        return None;
+    };
     if words.resize(size, 0u64).is_err() {
         return None;
     }

@@ -4,11 +4,15 @@ ghost use Rattle.opentype_face.specs.Bytes.{table_at, u16_in};
 ghost use Rattle.opentype_face.specs.Glyphs.{class_in, coverage_in};
 ghost use Rattle.opentype_layout.specs.PairTables.{ArePairTables, header_in};
 
+use crate::budget::paid_for;
 use opentype_face::bytes::{offset16, table_at, u16_at};
 use opentype_face::glyph_tables::{PreparedClassDef, PreparedCoverage};
 use opentype_face::lookup::{subtable, subtable_count, subtable_type};
 use std::alloc::Global;
 use std::marker::Model;
+
+/// How many bytes a table costs beside its places and classes.
+const TABLE_COST: usize = 192;
 
 /// The numbers in the header of a subtable of type 2 of GPOS.
 #[derive(Clone, Copy, Debug)]
@@ -126,8 +130,8 @@ impl<'a> PairTable<'a> {
     }
 }
 
-/// Tables of a lookup's first subtables; there are none unless its type is 2. Where memory doesn't
-/// suffice, there are fewer.
+/// Tables of a lookup's first subtables; there are none unless its type is 2. Where a budget in bytes
+/// or memory doesn't suffice, there are fewer.
 pub(crate) fn tables_of_pairs<'a>(
     alloc: Global,
     lookup: &'a [u8],
@@ -135,8 +139,14 @@ pub(crate) fn tables_of_pairs<'a>(
 ) -> Vec<PairTable<'a>>
     ensures { ArePairTables lookup.now result.items }
 {
-    let mut tables = Vec::new(alloc);
-    for i in 0..subtable_count(lookup) {
+    if subtable_type(9, lookup, 0) != 2 {
+        return Vec::new(alloc);
+    }
+    let count = paid_for(subtable_count(lookup), TABLE_COST, budget);
+    let Ok(mut tables) = Vec::with_capacity(alloc, usize::from(count)) else {
+        return Vec::new(alloc);
+    };
+    for i in 0..count {
         if subtable_type(9, lookup, i) != 2 {
             return tables;
         }

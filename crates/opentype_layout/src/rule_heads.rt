@@ -3,6 +3,7 @@ ghost use Rattle.std.specs.Prelude.{◌≡◌, IfSome, true, false};
 ghost use Rattle.opentype_layout.specs.Looking.{nth_part};
 ghost use Rattle.opentype_layout.specs.RuleHeads.{AreRuleHeads, head_in};
 
+use crate::budget::paid_for;
 use opentype_face::bytes::{table_at, u16_at};
 use std::alloc::Global;
 use std::marker::Model;
@@ -87,12 +88,11 @@ pub(crate) fn nth(set: &[u8], i: u16) -> &[u8]
 fn heads_of(alloc: Global, chained: bool, set: &[u8], budget: &mut usize) -> Vec<RuleHead>
     ensures { AreRuleHeads chained set.now result.items }
 {
-    let mut heads = Vec::new(alloc);
-    for i in 0..u16_at(set, 0) {
-        if *budget < HEAD_COST {
-            return heads;
-        }
-        *budget -= HEAD_COST;
+    let count = paid_for(u16_at(set, 0), HEAD_COST, budget);
+    let Ok(mut heads) = Vec::with_capacity(alloc, usize::from(count)) else {
+        return Vec::new(alloc);
+    };
+    for i in 0..count {
         let head = RuleHead::of(chained, nth(set, i));
         if heads.push(head).is_err() {
             return heads;

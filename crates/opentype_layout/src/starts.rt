@@ -86,7 +86,9 @@ fn mark(alloc: Global, of_gpos: bool, lookup: &[u8], budget: &mut usize) -> Opti
         return None;
     }
     *budget -= size * 8;
-    let mut words = Vec::new(alloc);
+    let Ok(mut words) = Vec::with_capacity(alloc, size) else {
+        return None;
+    };
     if words.resize(size, 0u64).is_err() {
         return None;
     }

@@ -4,8 +4,9 @@ ghost use Rattle.std.specs.Option.{ForSome};
 ghost use Rattle.opentype_layout.specs.Starts.{first_set_in};
 ghost use Rattle.opentype_layout.specs.SubstitutionTables.{AreContextTables, AreSubtables, first_place, nth_subtable};
 
+use crate::budget::paid_for;
 use crate::context_tables::ContextTable;
-use crate::sets::{first_set, place_in_set, place_of_set};
+use crate::sets::{first_set, place_in_set, place_of_set, table_of_set};
 use opentype_face::bytes::u16_at;
 use opentype_face::glyph_tables::PreparedCoverage;
 use opentype_face::lookup::{subtable, subtable_count, subtable_type};
@@ -89,12 +90,14 @@ fn tables_of_context<'a>(
 ) -> Vec<ContextTable<'a>>
     ensures { AreContextTables kind bytes.now result.items }
 {
-    let mut tables = Vec::new(alloc);
     let format = u16_at(bytes, 0);
-    if (kind != 5 && kind != 6) || (format != 1 && format != 2) || *budget < CONTEXT_COST {
-        return tables;
+    let has_rules = matches!(kind, 5 | 6) && matches!(format, 1 | 2);
+    if !has_rules || paid_for(1, CONTEXT_COST, budget) == 0 {
+        return Vec::new(alloc);
     }
-    *budget -= CONTEXT_COST;
+    let Ok(mut tables) = Vec::with_capacity(alloc, 1) else {
+        return Vec::new(alloc);
+    };
     let table = ContextTable::new(alloc, kind, bytes, budget);
     if tables.push(table).is_err() {
         return Vec::new(alloc);
@@ -134,7 +137,7 @@ impl<'a> SubstitutionTable<'a> {
         SubstitutionTable {
             bytes,
             kind,
-            set: PreparedCoverage::new(first_set(false, lookup, i), alloc, budget),
+            set: table_of_set(first_set(false, lookup, i), alloc, budget),
             contexts: tables_of_context(alloc, kind, bytes, budget),
         }
     }
@@ -163,12 +166,11 @@ pub(crate) fn tables_of_sets<'a>(
 ) -> Vec<SubstitutionTable<'a>>
     ensures { AreSubtables lookup.now result.items }
 {
-    let mut tables = Vec::new(alloc);
-    for i in 0..subtable_count(lookup) {
-        if *budget < TABLE_COST {
-            return tables;
-        }
-        *budget -= TABLE_COST;
+    let count = paid_for(subtable_count(lookup), TABLE_COST, budget);
+    let Ok(mut tables) = Vec::with_capacity(alloc, usize::from(count)) else {
+        return Vec::new(alloc);
+    };
+    for i in 0..count {
         let table = SubstitutionTable::new(alloc, lookup, i, budget);
         if tables.push(table).is_err() {
             return tables;

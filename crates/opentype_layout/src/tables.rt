@@ -5,6 +5,7 @@ ghost use Rattle.opentype_face.specs.Lookups.{lookup_in};
 ghost use Rattle.opentype_layout.specs.LookupRows.{AreAbsent, AreRows};
 ghost use Rattle.opentype_layout.specs.Starts.{AreStarts};
 
+use crate::budget::paid_for;
 use crate::lookup_rows::{LookupBits, lookup_rows, rows_of};
 use crate::starts::{LookupTable, Starts};
 use crate::subtable_tables::SubtableTables;
@@ -13,6 +14,12 @@ use opentype_face::lookup::lookup;
 use shapers_buffer::buffer::hb_glyph_info_t;
 use std::alloc::Global;
 use std::marker::Model;
+
+/// How many bytes a lookup's bits cost beside the bits themselves.
+const STARTS_COST: usize = 112;
+
+/// How many bytes the tables of a lookup's subtables cost beside these.
+const TABLES_COST: usize = 96;
 
 /// How many lookups there are.
 pub(crate) fn lookup_count(bytes: &[u8]) -> u16
@@ -30,8 +37,11 @@ fn lookup_starts<'a>(
 ) -> Vec<Starts<'a>>
     ensures { AreStarts bytes.now result.items }
 {
-    let mut starts = Vec::new(alloc);
-    for index in 0..lookup_count(bytes) {
+    let count = paid_for(lookup_count(bytes), STARTS_COST, budget);
+    let Ok(mut starts) = Vec::with_capacity(alloc, usize::from(count)) else {
+        return Vec::new(alloc);
+    };
+    for index in 0..count {
         let table = Starts::new(alloc, of_gpos, lookup(bytes, index), budget);
         if starts.push(table).is_err() {
             return starts;
@@ -49,8 +59,11 @@ fn lookup_tables<'a>(
 ) -> Vec<SubtableTables<'a>>
     ensures { AreStarts bytes.now result.items }
 {
-    let mut tables = Vec::new(alloc);
-    for index in 0..lookup_count(bytes) {
+    let count = paid_for(lookup_count(bytes), TABLES_COST, budget);
+    let Ok(mut tables) = Vec::with_capacity(alloc, usize::from(count)) else {
+        return Vec::new(alloc);
+    };
+    for index in 0..count {
         let table = SubtableTables::new(alloc, of_gpos, lookup(bytes, index), budget);
         if tables.push(table).is_err() {
             return tables;
@@ -83,14 +96,13 @@ impl<'a> PreparedTable<'a> {
     /// GSUB or GPOS. Lookups for which memory or a budget in bytes doesn't suffice have no bits,
     /// and their subtables no tables; the table has rows of bits by glyph where both suffice and
     /// all lookups have bits.
-    pub fn new(alloc: Global, of_gpos: bool, bytes: &'a [u8], budget: usize) -> Self
+    pub fn new(alloc: Global, of_gpos: bool, bytes: &'a [u8], budget: &mut usize) -> Self
         ensures { result ≡ bytes.now }
     {
-        let mut left = budget;
-        let starts = lookup_starts(alloc, of_gpos, bytes, &mut left);
-        let rows = lookup_rows(alloc, of_gpos, bytes, &starts, &mut left);
+        let starts = lookup_starts(alloc, of_gpos, bytes, budget);
+        let rows = lookup_rows(alloc, of_gpos, bytes, &starts, budget);
         // (last, since bits save more than these do)
-        let tables = lookup_tables(alloc, of_gpos, bytes, &mut left);
+        let tables = lookup_tables(alloc, of_gpos, bytes, budget);
         PreparedTable {
             bytes,
             starts,

@@ -125,9 +125,9 @@ fn characters_and_glyphs() {
     assert_eq!(face.characters.encoding, Encoding::Unicode);
     let glyphs = [0x40, 0x41, 0x42, 0xC1, 0x301, 0xFFFF, 0x1_0041].map(|c| face.nominal_glyph(c));
     assert_eq!(glyphs, [None, Some(1), None, Some(3), Some(2), None, None]);
-    // tables of two pages, of one, and of none say the same
-    for most_pages in [2, 1, 0] {
-        let prepared = PreparedCharacters::new(face.characters, most_pages, Global);
+    // tables of two pages, of one, and of none say the same, and so do those that a budget pays for
+    for (most_pages, mut budget) in [(2, 4096), (1, 4096), (0, 4096), (2, 600), (2, 0)] {
+        let prepared = PreparedCharacters::new(face.characters, most_pages, Global, &mut budget);
         for c in (0..0x400).chain([0xFFFF, 0x1_0041, 0x1_FFFF, 0x2_0000, u32::MAX]) {
             assert_eq!(
                 prepared.table().nominal_glyph(c),
@@ -148,8 +148,9 @@ fn characters_and_glyphs() {
         [0, 1, 2, 3].map(|glyph| glyph_props(face.gdef, glyph)),
         [0, 2, 8 + 7 * 256, 0]
     );
+    let mut budget = usize::MAX;
     for count in [0, 2, 3, 65535] {
-        let prepared = PreparedClasses::new(face.gdef, count, Global);
+        let prepared = PreparedClasses::new(face.gdef, count, Global, &mut budget);
         for glyph in [0, 1, 2, 3, 65534, 65535] {
             let props = prepared.table().glyph_props(glyph);
             assert_eq!(
@@ -160,7 +161,9 @@ fn characters_and_glyphs() {
         }
     }
     assert_eq!(
-        PreparedClasses::new(&[], 4, Global).table().glyph_props(1),
+        PreparedClasses::new(&[], 4, Global, &mut budget)
+            .table()
+            .glyph_props(1),
         None
     );
     assert!(

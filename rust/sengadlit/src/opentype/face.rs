@@ -32,6 +32,8 @@ const KERN: u32 = u32::from_be_bytes(*b"kern");
 )]
 pub struct Face<'a> {
     pub(super) face: face::Face<'a>,
+    /// How many bytes the font's file has, which bounds what `prepare` makes.
+    file_len: usize,
     prepared: Option<PreparedFace<'a>>,
     /// The table `kern`, empty where the font has none.
     pub(super) kern: &'a [u8],
@@ -49,6 +51,7 @@ impl<'a> Face<'a> {
         let directory = directory(data, index)?;
         Ok(Face {
             face: face::parse(data, index)?,
+            file_len: data.len(),
             prepared: None,
             kern: table(data, directory, KERN),
             scale: None,
@@ -68,11 +71,12 @@ impl<'a> Face<'a> {
 
     /// Makes tables of the font's characters, classes and lookups, by which texts are shaped faster, with
     /// the same glyphs. It takes as long as a hundred words or so, in fonts of Chinese or Korean a
-    /// thousand, and some hundred kilobytes, so that it pays for a face that shapes many texts. Where
-    /// memory is refused there are fewer tables, or none.
+    /// thousand, so that it pays for a face that shapes many texts. The tables take 512 KiB at most, or
+    /// half as much as the font's file, where that is more; what they have no room for is read from the
+    /// font's bytes. Where memory is refused there are fewer tables, or none.
     pub fn prepare(&mut self) {
         if self.prepared.is_none() {
-            self.prepared = Some(PreparedFace::new(Global, &self.face));
+            self.prepared = Some(PreparedFace::new(Global, &self.face, self.file_len));
         }
     }
 

@@ -12,20 +12,24 @@ pub struct Refusing;
 struct Watch {
     is_on: bool,
     requests: usize,
+    bytes: usize,
     refused: usize,
 }
 
 thread_local! {
     static WATCH: Cell<Watch> = const {
-        Cell::new(Watch { is_on: false, requests: 0, refused: 0 })
+        Cell::new(Watch { is_on: false, requests: 0, bytes: 0, refused: 0 })
     };
 }
 
-/// Counts a request, and says whether it is refused.
-fn is_refused() -> bool {
+/// Counts a request of so many bytes, and says whether it is refused.
+fn is_refused(size: usize) -> bool {
     let watch = |cell: &Cell<Watch>| {
         let mut watch = cell.get();
-        watch.requests += usize::from(watch.is_on);
+        if watch.is_on {
+            watch.requests += 1;
+            watch.bytes += size;
+        }
         cell.set(watch);
         watch.is_on && watch.requests == watch.refused
     };
@@ -35,9 +39,22 @@ fn is_refused() -> bool {
 /// Makes a call whose request of this number is refused, with 0 none. How many requests there were
 /// stands beside what the call returned.
 pub fn refusing<R>(refused: usize, call: impl FnOnce() -> R) -> (R, usize) {
+    let (returned, watch) = watched(refused, call);
+    (returned, watch.requests)
+}
+
+/// How many bytes a call requests.
+#[cfg(feature = "opentype")]
+pub fn bytes_of(call: impl FnOnce()) -> usize {
+    watched(0, call).1.bytes
+}
+
+/// Makes a call, and returns what the allocator saw of it.
+fn watched<R>(refused: usize, call: impl FnOnce() -> R) -> (R, Watch) {
     WATCH.set(Watch {
         is_on: true,
         requests: 0,
+        bytes: 0,
         refused,
     });
     let returned = call();
@@ -46,14 +63,14 @@ pub fn refusing<R>(refused: usize, call: impl FnOnce() -> R) -> (R, usize) {
         is_on: false,
         ..watch
     });
-    (returned, watch.requests)
+    (returned, watch)
 }
 
 // SAFETY: each method hands its arguments to the system's allocator unchanged, or refuses by a null
 // pointer, which every caller of an allocator has to expect; and it allocates nothing itself.
 unsafe impl GlobalAlloc for Refusing {
     unsafe fn alloc(&self, layout: Layout) -> *mut u8 {
-        match is_refused() {
+        match is_refused(layout.size()) {
             true => null_mut(),
             // SAFETY: the caller's promise is the system allocator's demand.
             false => unsafe { System.alloc(layout) },
@@ -61,7 +78,7 @@ unsafe impl GlobalAlloc for Refusing {
     }
 
     unsafe fn alloc_zeroed(&self, layout: Layout) -> *mut u8 {
-        match is_refused() {
+        match is_refused(layout.size()) {
             true => null_mut(),
             // SAFETY: the caller's promise is the system allocator's demand.
             false => unsafe { System.alloc_zeroed(layout) },
@@ -69,7 +86,7 @@ unsafe impl GlobalAlloc for Refusing {
     }
 
     unsafe fn realloc(&self, block: *mut u8, layout: Layout, size: usize) -> *mut u8 {
-        match is_refused() {
+        match is_refused(size) {
             true => null_mut(),
             // SAFETY: every block comes from the system's allocator.
             false => unsafe { System.realloc(block, layout, size) },

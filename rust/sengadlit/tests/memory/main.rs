@@ -11,7 +11,12 @@ mod found;
 mod hooks;
 mod lists;
 #[cfg(feature = "opentype")]
+#[path = "../common/lookup_font.rs"]
+mod lookup_font;
+#[cfg(feature = "opentype")]
 mod one_call;
+#[cfg(feature = "opentype")]
+mod prepared;
 mod trial;
 
 use allocator::Refusing;
@@ -74,6 +79,12 @@ fn texts_of_one_call_are_given_back() {
 #[test]
 fn a_new_text_takes_memory_for_itself_alone() {
     one_call::a_cache_lends_its_room();
+}
+
+#[cfg(feature = "opentype")]
+#[test]
+fn tables_of_a_prepared_face_are_bounded() {
+    prepared::tables_stay_within_their_budget();
 }
 
 #[cfg(feature = "opentype")]

@@ -6,10 +6,13 @@ use crate::support::prelude::*;
 
 use crate::generated::opentype_face::character_pages::{fill, mark_pages};
 use crate::generated::opentype_face::characters::Characters;
-use crate::support::alloc::Global;
+use crate::support::alloc::{AllocError, Global};
 
 /// How many pages the characters up to U+1FFFF have.
 const PAGE_COUNT: usize = 512;
+
+/// How many bytes a page takes.
+const PAGE_SIZE: usize = 512;
 
 /// The subtable of `cmap`, with the glyphs of some pages of 256 characters beside it.
 #[derive(Clone, Copy, Debug)]
@@ -76,9 +79,36 @@ pub struct PreparedCharacters<'a> {
     glyphs: Vec<u16>,
 }
 
+// How many of the marked pages get tables: so many at most, if a budget pays for them.
+fn count_of_pages(marks: &[bool], most_pages: u16, budget: usize) -> u16 {
+    let marked = marks.iter().filter(|mark| **mark).count();
+    let paid = marked.min(budget / PAGE_SIZE);
+    paid.min(usize::from(most_pages)) as u16
+}
+
+// The numbers of pages that have tables, and the glyphs of these.
+#[derive(Debug)]
+struct PageTables {
+    pages: Vec<u16>,
+    glyphs: Vec<u16>,
+}
+
+// Tables of the pages that are marked, of so many at most.
+fn tables_of_pages(
+    characters: &Characters<'_>,
+    marks: &[bool],
+    most_pages: u16,
+    alloc: Global,
+) -> Result<PageTables, AllocError> {
+    let mut pages = Vec::with_capacity(alloc, marks.len())?;
+    let mut glyphs = Vec::with_capacity(alloc, usize::from(most_pages) * 256)?;
+    fill(characters, marks, most_pages, &mut pages, &mut glyphs)?;
+    Ok(PageTables { pages, glyphs })
+}
+
 impl<'a> PreparedCharacters<'a> {
-    /// Makes tables of the pages up to U+1FFFF that have characters, of so many at most. Each takes 512 bytes and
-    /// 256 searches. Where memory is refused there are none.
+    /// Makes tables of the pages up to U+1FFFF that have characters, of so many at most. Each takes 512 bytes,
+    /// for which a budget pays, and 256 searches. Where memory is refused there are none.
     ///
     /// <details><summary>Contract</summary>
     ///
@@ -89,16 +119,24 @@ impl<'a> PreparedCharacters<'a> {
     /// ```
     ///
     /// </details>
-    pub fn new(characters: Characters<'a>, most_pages: u16, alloc: Global) -> Self {
+    pub fn new(
+        characters: Characters<'a>,
+        most_pages: u16,
+        alloc: Global,
+        budget: &mut usize,
+    ) -> Self {
         let mut marks = [false; PAGE_COUNT];
         mark_pages(characters.subtable, &mut marks);
-        let (mut pages, mut glyphs) = (Vec::new(alloc), Vec::new(alloc));
-        match fill(&characters, &marks, most_pages, &mut pages, &mut glyphs) {
-            Ok(()) => PreparedCharacters {
-                characters,
-                pages,
-                glyphs,
-            },
+        let count = count_of_pages(&marks, most_pages, *budget);
+        match tables_of_pages(&characters, &marks, count, alloc) {
+            Ok(PageTables { pages, glyphs }) => {
+                *budget = budget.saturating_sub(usize::from(count) * PAGE_SIZE + PAGE_COUNT * 2);
+                PreparedCharacters {
+                    characters,
+                    pages,
+                    glyphs,
+                }
+            }
             Err(_) => PreparedCharacters {
                 characters,
                 pages: Vec::new(alloc),

@@ -73,17 +73,19 @@ pub struct PreparedClasses<'a> {
     props: Vec<u16>,
 }
 
-// Appends the classes of so many glyphs.
-fn fill(gdef: &[u8], count: u16, props: &mut Vec<u16>) -> Result<(), AllocError> {
+// The classes of so many glyphs.
+fn props_of(gdef: &[u8], count: u16, alloc: Global) -> Result<Vec<u16>, AllocError> {
+    let mut props = Vec::with_capacity(alloc, usize::from(count))?;
     for glyph in 0..count {
         props.push(glyph_props(gdef, glyph))?;
     }
-    Ok(())
+    Ok(props)
 }
 
 impl<'a> PreparedClasses<'a> {
-    /// Makes a table of the classes of so many glyphs, of which each takes two bytes and a search or two. Where
-    /// memory is refused, or the font has no classes, there is none.
+    /// Makes a table of the classes of so many glyphs, of which each takes two bytes and a search or two. A
+    /// budget in bytes pays for it. Where this or memory doesn't suffice, or the font has no classes, there is
+    /// none.
     ///
     /// <details><summary>Contract</summary>
     ///
@@ -94,15 +96,17 @@ impl<'a> PreparedClasses<'a> {
     /// ```
     ///
     /// </details>
-    pub fn new(gdef: &'a [u8], count: u16, alloc: Global) -> Self {
-        let mut props = Vec::new(alloc);
-        if has_glyph_classes(gdef) && fill(gdef, count, &mut props).is_ok() {
-            PreparedClasses { gdef, props }
-        } else {
-            PreparedClasses {
-                gdef,
-                props: Vec::new(alloc),
+    pub fn new(gdef: &'a [u8], count: u16, alloc: Global, budget: &mut usize) -> Self {
+        let size = usize::from(count) * 2;
+        if size <= *budget && has_glyph_classes(gdef) {
+            if let Ok(props) = props_of(gdef, count, alloc) {
+                *budget -= size;
+                return PreparedClasses { gdef, props };
             }
+        }
+        PreparedClasses {
+            gdef,
+            props: Vec::new(alloc),
         }
     }
 

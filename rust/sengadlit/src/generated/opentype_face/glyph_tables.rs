@@ -61,11 +61,13 @@ pub struct PreparedClassDef<'a> {
     classes: Vec<u16>,
 }
 
-fn fill_classes(bytes: &[u8], glyphs: Stretch, classes: &mut Vec<u16>) -> Result<(), AllocError> {
+// The classes of these glyphs.
+fn classes_of(bytes: &[u8], glyphs: Stretch, alloc: Global) -> Result<Vec<u16>, AllocError> {
+    let mut classes = Vec::with_capacity(alloc, usize::from(glyphs.count))?;
     for i in 0..glyphs.count {
         classes.push(class(bytes, glyphs.first + i))?;
     }
-    Ok(())
+    Ok(classes)
 }
 
 impl<'a> PreparedClassDef<'a> {
@@ -84,14 +86,15 @@ impl<'a> PreparedClassDef<'a> {
     pub fn new(bytes: &'a [u8], alloc: Global, budget: &mut usize) -> Self {
         let glyphs = classed(bytes);
         let size = usize::from(glyphs.count) * 2;
-        let mut classes = Vec::new(alloc);
-        if size <= *budget && fill_classes(bytes, glyphs, &mut classes).is_ok() {
-            *budget -= size;
-            return PreparedClassDef {
-                bytes,
-                first: glyphs.first,
-                classes,
-            };
+        if size <= *budget {
+            if let Ok(classes) = classes_of(bytes, glyphs, alloc) {
+                *budget -= size;
+                return PreparedClassDef {
+                    bytes,
+                    first: glyphs.first,
+                    classes,
+                };
+            }
         }
         PreparedClassDef {
             bytes,
@@ -149,15 +152,16 @@ fn stored_place(set: &[u8], glyph: u16) -> Option<u16> {
     }
 }
 
-// (a place that is too great ends the table: no font has one)
-fn fill_places(set: &[u8], glyphs: Stretch, places: &mut Vec<u16>) -> Result<(), AllocError> {
+// The places of these glyphs in a set. (A place that is too great ends the table: no font has one.)
+fn places_of(set: &[u8], glyphs: Stretch, alloc: Global) -> Result<Vec<u16>, AllocError> {
+    let mut places = Vec::with_capacity(alloc, usize::from(glyphs.count))?;
     for i in 0..glyphs.count {
         match stored_place(set, glyphs.first + i) {
             Some(kept) => places.push(kept)?,
-            None => return Ok(()),
+            None => return Ok(places),
         }
     }
-    Ok(())
+    Ok(places)
 }
 
 impl<'a> PreparedCoverage<'a> {
@@ -176,14 +180,15 @@ impl<'a> PreparedCoverage<'a> {
     pub fn new(set: &'a [u8], alloc: Global, budget: &mut usize) -> Self {
         let glyphs = covered(set);
         let size = usize::from(glyphs.count) * 2;
-        let mut places = Vec::new(alloc);
-        if size <= *budget && fill_places(set, glyphs, &mut places).is_ok() {
-            *budget -= size;
-            return PreparedCoverage {
-                set,
-                first: glyphs.first,
-                places,
-            };
+        if size <= *budget {
+            if let Ok(places) = places_of(set, glyphs, alloc) {
+                *budget -= size;
+                return PreparedCoverage {
+                    set,
+                    first: glyphs.first,
+                    places,
+                };
+            }
         }
         PreparedCoverage {
             set,

@@ -6,6 +6,7 @@ use crate::support::prelude::*;
 
 use crate::generated::opentype_face::bytes::u16_at;
 use crate::generated::opentype_face::glyph_tables::{PreparedClassDef, PreparedCoverage};
+use crate::generated::opentype_layout::budget::paid_for;
 use crate::generated::opentype_layout::class_refs::ClassRef;
 use crate::generated::opentype_layout::rule_heads::PreparedRules;
 use crate::generated::opentype_layout::rules::{
@@ -38,12 +39,11 @@ fn sets_of_rules<'a>(
     budget: &mut usize,
 ) -> Vec<PreparedRules<'a>> {
     let at = place_of_rules(chained, bytes);
-    let mut sets = Vec::new(alloc);
-    for i in 0..u16_at(bytes, at) {
-        if *budget < SET_COST {
-            return sets;
-        }
-        *budget -= SET_COST;
+    let count = paid_for(u16_at(bytes, at), SET_COST, budget);
+    let Ok(mut sets) = Vec::with_capacity(alloc, usize::from(count)) else {
+        return Vec::new(alloc);
+    };
+    for i in 0..count {
         let set = rule_set(bytes, at, u32::from(i));
         if sets
             .push(PreparedRules::new(alloc, chained, set, budget))

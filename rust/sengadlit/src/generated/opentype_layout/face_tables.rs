@@ -11,8 +11,8 @@ use crate::support::alloc::Global;
 /// How many pages of 256 characters have tables at most: these take 128 KiB.
 const MOST_PAGES: u16 = 256;
 
-/// How many bytes the tables of GSUB, and those of GPOS, take at most.
-const BUDGET: usize = 0x10_0000;
+/// How many bytes a face's tables may take in any font.
+const LEAST_BUDGET: usize = 0x8_0000;
 
 /// A face, with the tables that were made of it, if some were.
 #[derive(Debug)]
@@ -145,8 +145,9 @@ pub struct PreparedFace<'a> {
 }
 
 impl<'a> PreparedFace<'a> {
-    /// Makes tables of a face's characters, classes and lookups. Where memory is refused there are
-    /// fewer or none.
+    /// Makes tables of a face's characters, classes and lookups, of 512 KiB at most, or of half as many
+    /// bytes as the font's file has, where that is more. What they have no room for is searched in the
+    /// font's bytes. Where memory is refused there are fewer or none.
     ///
     /// <details><summary>Contract</summary>
     ///
@@ -157,13 +158,21 @@ impl<'a> PreparedFace<'a> {
     /// ```
     ///
     /// </details>
-    pub fn new(alloc: Global, face: &Face<'a>) -> Self {
+    pub fn new(alloc: Global, face: &Face<'a>, file_len: usize) -> Self {
+        let mut budget = (file_len / 2).max(LEAST_BUDGET);
+        let characters = PreparedCharacters::new(face.characters, MOST_PAGES, alloc, &mut budget);
+        let classes = PreparedClasses::new(face.gdef, face.glyph_count(), alloc, &mut budget);
+        // (GPOS has half of it, so that large tables of GSUB leave room for its bits)
+        let mut share = budget / 2;
+        let gpos = PreparedTable::new(alloc, true, face.gpos, &mut share);
+        budget = budget.saturating_sub(budget / 2).saturating_add(share);
+        let gsub = PreparedTable::new(alloc, false, face.gsub, &mut budget);
         PreparedFace {
             face: *face,
-            characters: PreparedCharacters::new(face.characters, MOST_PAGES, alloc),
-            classes: PreparedClasses::new(face.gdef, face.glyph_count(), alloc),
-            gsub: PreparedTable::new(alloc, false, face.gsub, BUDGET),
-            gpos: PreparedTable::new(alloc, true, face.gpos, BUDGET),
+            characters,
+            classes,
+            gsub,
+            gpos,
         }
     }
 

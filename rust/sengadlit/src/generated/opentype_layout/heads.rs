@@ -40,7 +40,9 @@ pub(crate) fn heads_of(
         return None;
     }
     *budget -= size * 8;
-    let mut heads = Vec::new(alloc);
+    let Ok(mut heads) = Vec::with_capacity(alloc, size) else {
+        return None;
+    };
     if heads.resize(size, 0u64).is_err() {
         return None;
     }

@@ -4,6 +4,7 @@
 //! what their rules look for.
 
 pub mod bits;
+mod budget;
 pub mod class_refs;
 pub mod context_tables;
 pub mod face_tables;

@@ -7,7 +7,8 @@ use crate::support::prelude::*;
 use crate::generated::opentype_face::bytes::{offset16, table_at};
 use crate::generated::opentype_face::glyph_tables::PreparedCoverage;
 use crate::generated::opentype_face::lookup::{subtable, subtable_count, subtable_type};
-use crate::generated::opentype_layout::sets::{first_set, nth_range, place_in_set, ranges};
+use crate::generated::opentype_layout::budget::paid_for;
+use crate::generated::opentype_layout::sets::{first_set, place_in_set, table_of_set};
 use crate::support::alloc::Global;
 
 /// How many bytes a table costs beside the places of its glyphs.
@@ -84,29 +85,6 @@ impl<'a> PositionRef<'a> {
     }
 }
 
-/// How many glyphs from a set's first to its last one a table may have for each of its records.
-const SPREAD: u16 = 64;
-
-// Whether a table of a set saves more than it takes to make: few glyphs far apart are found as soon
-// by a search.
-fn is_dense(set: &[u8]) -> bool {
-    let ranges = ranges(set);
-    if ranges.count == 0 {
-        return false;
-    }
-    let first = nth_range(&ranges, 0).from;
-    let last = nth_range(&ranges, ranges.count - 1).to;
-    u32::from(last.saturating_sub(first) / SPREAD) < ranges.count
-}
-
-// A set, with a table of its glyphs' places where these stand close.
-fn table_of_set<'a>(set: &'a [u8], alloc: Global, budget: &mut usize) -> PreparedCoverage<'a> {
-    if is_dense(set) {
-        return PreparedCoverage::new(set, alloc, budget);
-    }
-    PreparedCoverage::new(set, alloc, &mut 0)
-}
-
 /// A subtable of GPOS, with its type, and with tables of its sets.
 #[derive(Debug)]
 pub struct PositionTable<'a> {
@@ -179,12 +157,11 @@ pub(crate) fn tables_of_positions<'a>(
     lookup: &'a [u8],
     budget: &mut usize,
 ) -> Vec<PositionTable<'a>> {
-    let mut tables = Vec::new(alloc);
-    for i in 0..subtable_count(lookup) {
-        if *budget < TABLE_COST {
-            return tables;
-        }
-        *budget -= TABLE_COST;
+    let count = paid_for(subtable_count(lookup), TABLE_COST, budget);
+    let Ok(mut tables) = Vec::with_capacity(alloc, usize::from(count)) else {
+        return Vec::new(alloc);
+    };
+    for i in 0..count {
         let table = PositionTable::new(alloc, lookup, i, budget);
         if tables.push(table).is_err() {
             return tables;

@@ -5,6 +5,7 @@
 use crate::support::prelude::*;
 
 use crate::generated::opentype_face::bytes::{table_at, u16_at};
+use crate::generated::opentype_layout::budget::paid_for;
 use crate::support::alloc::Global;
 
 /// How many bytes a rule's head costs.
@@ -75,12 +76,11 @@ pub(crate) fn nth(set: &[u8], i: u16) -> &[u8] {
 // The heads of a set's first rules. Where a budget in bytes or memory doesn't suffice, there are
 // fewer.
 fn heads_of(alloc: Global, chained: bool, set: &[u8], budget: &mut usize) -> Vec<RuleHead> {
-    let mut heads = Vec::new(alloc);
-    for i in 0..u16_at(set, 0) {
-        if *budget < HEAD_COST {
-            return heads;
-        }
-        *budget -= HEAD_COST;
+    let count = paid_for(u16_at(set, 0), HEAD_COST, budget);
+    let Ok(mut heads) = Vec::with_capacity(alloc, usize::from(count)) else {
+        return Vec::new(alloc);
+    };
+    for i in 0..count {
         let head = RuleHead::of(chained, nth(set, i));
         if heads.push(head).is_err() {
             return heads;

@@ -6,6 +6,7 @@ use crate::generated::opentype_face::bytes::{offset16, offset32, table_at, u16_a
 use crate::generated::opentype_face::glyph_sets::coverage;
 use crate::generated::opentype_face::glyph_tables::PreparedCoverage;
 use crate::generated::opentype_face::ranges::Ranges;
+use crate::support::alloc::Global;
 
 /// Where the offset of the first set of the input stands, in format 3 of contexts.
 #[inline]
@@ -134,4 +135,35 @@ pub(crate) fn nth_range(ranges: &Ranges<'_>, i: u32) -> GlyphRange {
         from: u16_at(ranges.bytes, ranges.first as usize + at),
         to: u16_at(ranges.bytes, ranges.last as usize + at),
     }
+}
+
+/// How many glyphs from a set's first to its last one a table may have for each of its records.
+const SPREAD: u16 = 64;
+
+/// How much of a budget a table may take whose glyphs are far apart.
+const SHARE: usize = 64;
+
+// Whether a table of a set is worth its room: few glyphs far apart are found nearly as soon by a
+// search, so that their table mustn't keep others from being made.
+fn is_worth_its_room(set: &[u8], budget: usize) -> bool {
+    let ranges = ranges(set);
+    if ranges.count == 0 {
+        return false;
+    }
+    let first = nth_range(&ranges, 0).from;
+    let last = nth_range(&ranges, ranges.count - 1).to;
+    let spread = last.saturating_sub(first);
+    u32::from(spread / SPREAD) < ranges.count || usize::from(spread) * 2 < budget / SHARE
+}
+
+/// A set, with a table of its glyphs' places where that is worth its room. A budget in bytes pays for it.
+pub(crate) fn table_of_set<'a>(
+    set: &'a [u8],
+    alloc: Global,
+    budget: &mut usize,
+) -> PreparedCoverage<'a> {
+    if is_worth_its_room(set, *budget) {
+        return PreparedCoverage::new(set, alloc, budget);
+    }
+    PreparedCoverage::new(set, alloc, &mut 0)
 }

@@ -7,8 +7,11 @@ use crate::support::prelude::*;
 use crate::generated::opentype_face::bytes::u16_at;
 use crate::generated::opentype_face::glyph_tables::PreparedCoverage;
 use crate::generated::opentype_face::lookup::{subtable, subtable_count, subtable_type};
+use crate::generated::opentype_layout::budget::paid_for;
 use crate::generated::opentype_layout::context_tables::ContextTable;
-use crate::generated::opentype_layout::sets::{first_set, place_in_set, place_of_set};
+use crate::generated::opentype_layout::sets::{
+    first_set, place_in_set, place_of_set, table_of_set,
+};
 use crate::support::alloc::Global;
 
 /// How many bytes a table costs beside the places of its glyphs.
@@ -90,12 +93,14 @@ fn tables_of_context<'a>(
     bytes: &'a [u8],
     budget: &mut usize,
 ) -> Vec<ContextTable<'a>> {
-    let mut tables = Vec::new(alloc);
     let format = u16_at(bytes, 0);
-    if (kind != 5 && kind != 6) || (format != 1 && format != 2) || *budget < CONTEXT_COST {
-        return tables;
+    let has_rules = matches!(kind, 5 | 6) && matches!(format, 1 | 2);
+    if !has_rules || paid_for(1, CONTEXT_COST, budget) == 0 {
+        return Vec::new(alloc);
     }
-    *budget -= CONTEXT_COST;
+    let Ok(mut tables) = Vec::with_capacity(alloc, 1) else {
+        return Vec::new(alloc);
+    };
     let table = ContextTable::new(alloc, kind, bytes, budget);
     if tables.push(table).is_err() {
         return Vec::new(alloc);
@@ -132,7 +137,7 @@ impl<'a> SubstitutionTable<'a> {
         SubstitutionTable {
             bytes,
             kind,
-            set: PreparedCoverage::new(first_set(false, lookup, i), alloc, budget),
+            set: table_of_set(first_set(false, lookup, i), alloc, budget),
             contexts: tables_of_context(alloc, kind, bytes, budget),
         }
     }
@@ -167,12 +172,11 @@ pub(crate) fn tables_of_sets<'a>(
     lookup: &'a [u8],
     budget: &mut usize,
 ) -> Vec<SubstitutionTable<'a>> {
-    let mut tables = Vec::new(alloc);
-    for i in 0..subtable_count(lookup) {
-        if *budget < TABLE_COST {
-            return tables;
-        }
-        *budget -= TABLE_COST;
+    let count = paid_for(subtable_count(lookup), TABLE_COST, budget);
+    let Ok(mut tables) = Vec::with_capacity(alloc, usize::from(count)) else {
+        return Vec::new(alloc);
+    };
+    for i in 0..count {
         let table = SubstitutionTable::new(alloc, lookup, i, budget);
         if tables.push(table).is_err() {
             return tables;

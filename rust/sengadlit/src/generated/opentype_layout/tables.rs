@@ -6,11 +6,18 @@ use crate::support::prelude::*;
 
 use crate::generated::opentype_face::bytes::{offset16, table_at, u16_at};
 use crate::generated::opentype_face::lookup::lookup;
+use crate::generated::opentype_layout::budget::paid_for;
 use crate::generated::opentype_layout::lookup_rows::{LookupBits, lookup_rows, rows_of};
 use crate::generated::opentype_layout::starts::{LookupTable, Starts};
 use crate::generated::opentype_layout::subtable_tables::SubtableTables;
 use crate::generated::shapers_buffer::buffer::GlyphInfo;
 use crate::support::alloc::Global;
+
+/// How many bytes a lookup's bits cost beside the bits themselves.
+const STARTS_COST: usize = 112;
+
+/// How many bytes the tables of a lookup's subtables cost beside these.
+const TABLES_COST: usize = 96;
 
 /// How many lookups there are.
 pub(crate) fn lookup_count(bytes: &[u8]) -> u16 {
@@ -24,8 +31,11 @@ fn lookup_starts<'a>(
     bytes: &'a [u8],
     budget: &mut usize,
 ) -> Vec<Starts<'a>> {
-    let mut starts = Vec::new(alloc);
-    for index in 0..lookup_count(bytes) {
+    let count = paid_for(lookup_count(bytes), STARTS_COST, budget);
+    let Ok(mut starts) = Vec::with_capacity(alloc, usize::from(count)) else {
+        return Vec::new(alloc);
+    };
+    for index in 0..count {
         let table = Starts::new(alloc, of_gpos, lookup(bytes, index), budget);
         if starts.push(table).is_err() {
             return starts;
@@ -41,8 +51,11 @@ fn lookup_tables<'a>(
     bytes: &'a [u8],
     budget: &mut usize,
 ) -> Vec<SubtableTables<'a>> {
-    let mut tables = Vec::new(alloc);
-    for index in 0..lookup_count(bytes) {
+    let count = paid_for(lookup_count(bytes), TABLES_COST, budget);
+    let Ok(mut tables) = Vec::with_capacity(alloc, usize::from(count)) else {
+        return Vec::new(alloc);
+    };
+    for index in 0..count {
         let table = SubtableTables::new(alloc, of_gpos, lookup(bytes, index), budget);
         if tables.push(table).is_err() {
             return tables;
@@ -75,12 +88,11 @@ impl<'a> PreparedTable<'a> {
     /// ```
     ///
     /// </details>
-    pub fn new(alloc: Global, of_gpos: bool, bytes: &'a [u8], budget: usize) -> Self {
-        let mut left = budget;
-        let starts = lookup_starts(alloc, of_gpos, bytes, &mut left);
-        let rows = lookup_rows(alloc, of_gpos, bytes, &starts, &mut left);
+    pub fn new(alloc: Global, of_gpos: bool, bytes: &'a [u8], budget: &mut usize) -> Self {
+        let starts = lookup_starts(alloc, of_gpos, bytes, budget);
+        let rows = lookup_rows(alloc, of_gpos, bytes, &starts, budget);
         // (last, since bits save more than these do)
-        let tables = lookup_tables(alloc, of_gpos, bytes, &mut left);
+        let tables = lookup_tables(alloc, of_gpos, bytes, budget);
         PreparedTable {
             bytes,
             starts,
