@@ -719,8 +719,8 @@ void sengadlit_buffer_reset(sengadlit_buffer_t *buffer);
 sengadlit_glyph_info_t *sengadlit_buffer_set_length(sengadlit_buffer_t *buffer, unsigned int length);
 /* The glyphs, for which the same holds, and through `length`, which may be null, how many there are. */
 sengadlit_glyph_info_t *sengadlit_buffer_get_glyph_infos(sengadlit_buffer_t *buffer, unsigned int *length);
-/* The same to be read alone: the glyphs, and the positions where there are some, through `length`, which may be null, how many;
-   null where there are none. Both pointers hold until the text is changed or the buffer passed to a call that may change it; these
+/* The glyphs, or the positions if there are any, to be read alone; null if there are none. `length`, which may be null, gets how
+   many there are. Both pointers hold until the text is changed or the buffer passed to a call that may change it; these
    two calls don't. */
 const sengadlit_glyph_info_t *sengadlit_buffer_read_glyphs(sengadlit_buffer_t *buffer, unsigned int *length);
 const sengadlit_glyph_position_t *sengadlit_buffer_read_positions(sengadlit_buffer_t *buffer, unsigned int *length);
@@ -1185,9 +1185,9 @@ sengadlit_face_t *sengadlit_face_reference(sengadlit_face_t *face);
 /* Drops a reference; the last one frees the face. `face` may be null. */
 void sengadlit_face_destroy(sengadlit_face_t *face);
 /* Makes tables of the face's characters, classes and lookups, by which texts are shaped faster, to the same glyphs. It takes as
-   long as a hundred words or so, in fonts of Chinese or Korean a thousand, and some hundred kilobytes, and so it pays for a face
-   that shapes many texts. Where memory is refused there are fewer tables, or none. Any thread may call it at any time; a second
-   call does nothing. `face` may be null. */
+   long as about a hundred words (in fonts of Chinese or Korean a thousand), so it pays for a face that shapes many texts. The
+   tables take 512 KiB at most, or half as much as the font's file, where that is more. Where memory is refused there are fewer.
+   Any thread may call it at any time; a second call does nothing. `face` may be null. */
 void sengadlit_face_prepare(const sengadlit_face_t *face);
 /* What the face was made with; null for a null face. */
 void *sengadlit_face_get_user_data(const sengadlit_face_t *face);
@@ -1236,8 +1236,8 @@ unsigned int sengadlit_plan_cache_get_length(const sengadlit_plan_cache_t *cache
 /* What is chosen for a text. Fields of zeros are as HarfBuzz shapes. */
 typedef struct sengadlit_shape_options_t {
     size_t size;                     /* sizeof. */
-    sengadlit_tag_t script;          /* Script and direction, if not 0 and INVALID; else those of the buffer's properties, */
-    sengadlit_direction_t direction; /* where the text is the buffer's, and else those that the characters have. */
+    sengadlit_tag_t script;          /* 0 and INVALID: sengadlit_shape_buffer takes those of the buffer's properties, if they */
+    sengadlit_direction_t direction; /* are set; otherwise the characters decide. */
     const char *language;            /* As hb_language_from_string takes it, "sr-Latn" or "sr_RS.UTF-8": a tag of BCP 47 up to the
                                         first character that no tag has, or to a zero. Some fonts have glyphs of their own for
                                         a language. Null: none. */
@@ -1269,9 +1269,9 @@ void sengadlit_user_feature_to_string(const sengadlit_user_feature_t *feature, c
    sengadlit_buffer_add_utf8 and its siblings do. The glyphs have positions and are in the order in which they are drawn. Script
    and direction of the buffer become those by which the text was shaped; its cluster_level, flags and max_length count.
    `options` may be null. A plan that is used for more than one text is worth a cache.
-   ATOMIC: unless DONE is returned, the buffer has the text that it had. ARGUMENT: FACE; TEXT, RANGE, of text and length;
-   OPTIONS; DIRECTION, LANGUAGE, FEATURES, FONT, of the options; and for a null buffer. MEMORY. TOO_LONG: the text grows beyond
-   max_length, or has more than UINT32_MAX units. STRETCH_OVERFLOW. INTERNAL: only where `font` changes its results. */
+   ATOMIC: unless DONE or INTERNAL is returned, the buffer has the text that it had. ARGUMENT: FACE; TEXT, RANGE, of text and
+   length; OPTIONS; DIRECTION, LANGUAGE, FEATURES, FONT, of the options; and for a null buffer. MEMORY. TOO_LONG: the text grows
+   beyond max_length, or has more than UINT32_MAX units. STRETCH_OVERFLOW. INTERNAL: only where `font` changes its results. */
 sengadlit_status_t sengadlit_shape_utf8(const sengadlit_face_t *face, const char *text, int text_length,
                                         const sengadlit_shape_options_t *options, sengadlit_buffer_t *buffer);
 sengadlit_status_t sengadlit_shape_utf16(const sengadlit_face_t *face, const uint16_t *text, int text_length,
@@ -1291,9 +1291,9 @@ sengadlit_status_t sengadlit_shape_buffer(const sengadlit_face_t *face, const se
    a few around the edit; what stands behind it only moves. Script and direction are those that the buffer has; one without a
    script is shaped whole. Set `normalizes_always`: without it a letter that comes apart depends on the whole text. What is
    tested of this, and where it doesn't hold, is in docs/GUIDE.md.
-   ATOMIC: unless DONE is returned, the buffer has the glyphs that it had. ARGUMENT as for sengadlit_shape_utf8, and CONTENT:
-   the buffer's text isn't complete (sengadlit_buffer_is_complete); RANGE: `start` is behind `old_end` or `new_end`, or that
-   behind the text; OPTIONS: they choose another script or direction. MEMORY. TOO_LONG. STRETCH_OVERFLOW. INTERNAL: only where
+   ATOMIC: unless DONE or INTERNAL is returned, the buffer has the glyphs that it had. ARGUMENT as for sengadlit_shape_utf8, and
+   CONTENT: the buffer's text isn't complete (sengadlit_buffer_is_complete); RANGE: `start` is behind `old_end` or `new_end`, or
+   that behind the text; OPTIONS: they choose another script or direction. MEMORY. TOO_LONG. STRETCH_OVERFLOW. INTERNAL: only where
    `font` changes its results, or the glyphs aren't those of the text. */
 sengadlit_status_t sengadlit_reshape_utf8(const sengadlit_face_t *face, const char *text, int text_length,
                                           unsigned int start, unsigned int old_end, unsigned int new_end,
