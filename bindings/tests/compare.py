@@ -143,9 +143,7 @@ class Reasons:
             "aat": lambda case: self.is_by_tables(case, AAT),
             "kern": lambda case: self.is_by_tables(case, ["kern"]),
             "other-shaper": lambda case: case.has("--shaper") and self.agree(case, without=["--shaper"]),
-            "marks": lambda case: self.lacks(case, "GPOS") and self.agree(case, "--no-positions"),
             "arabic-fallback": self.is_by_arabic_forms,
-            "random": lambda case: not case.has("--features") and self.agree(case, "--features=rand=1"),
             "overlapping": lambda case: os.path.basename(case.font) == "HarfBust.ttf",
         }
 
