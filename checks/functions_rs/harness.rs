@@ -532,7 +532,7 @@ impl Draw for LookupTable<'static> {
 impl Draw for PreparedTable<'static> {
     fn draw(choices: &mut Choices) -> Self {
         let (of_gpos, bytes) = (bool::draw(choices), Draw::draw(choices));
-        PreparedTable::new(Global, of_gpos, bytes, budget(choices))
+        PreparedTable::new(Global, of_gpos, bytes, &mut budget(choices))
     }
 }
 
