@@ -44,7 +44,7 @@ pub fn refusing<R>(refused: usize, call: impl FnOnce() -> R) -> (R, usize) {
 }
 
 /// How many bytes a call requests.
-#[cfg(feature = "opentype")]
+#[allow(dead_code, reason = "not every test asks for bytes")]
 pub fn bytes_of(call: impl FnOnce()) -> usize {
     watched(0, call).1.bytes
 }

@@ -11,9 +11,6 @@ mod found;
 mod hooks;
 mod lists;
 #[cfg(feature = "opentype")]
-#[path = "../common/lookup_font.rs"]
-mod lookup_font;
-#[cfg(feature = "opentype")]
 mod one_call;
 #[cfg(feature = "opentype")]
 mod prepared;

@@ -1,8 +1,8 @@
 //! What the tables of a prepared face take, whatever the font's bytes say.
 
 use crate::allocator::bytes_of;
+use crate::common::lookup_font::{font_with_gsub, font_without_gpos, words};
 use crate::common::numbers::Numbers;
-use crate::lookup_font::{font_with_gsub, font_without_gpos, words};
 use sengadlit::Face;
 
 /// How many bytes the tables of a face take at most, unless the font's file has twice as many.
