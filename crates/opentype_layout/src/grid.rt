@@ -68,7 +68,8 @@ impl Grid {
     pub(crate) fn word_count(&self) -> usize
         ensures { self.now.rows * self.now.width ≤ 64 * result }
     {
-        (self.rows as usize * self.width as usize).div_ceil(64)
+        // (the product may have more than 32 bits)
+        (u64::from(self.rows) * u64::from(self.width)).div_ceil(64) as usize
     }
 
     /// Whether a glyph has a row.

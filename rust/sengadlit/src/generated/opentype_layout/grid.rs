@@ -51,7 +51,8 @@ impl Grid {
 
     /// How many words the bits take.
     pub(crate) fn word_count(&self) -> usize {
-        (self.rows as usize * self.width as usize).div_ceil(64)
+        // (the product may have more than 32 bits)
+        (u64::from(self.rows) * u64::from(self.width)).div_ceil(64) as usize
     }
 
     /// Whether a glyph has a row.
