@@ -20,9 +20,12 @@ use shapers_editing::{
 use shapers_spans::Khmer;
 use std::alloc::Global;
 
-/// What an edit of glyphs with Khmer's categories leaves: how many glyphs in front and how many
-/// behind. Both texts have at least so many glyphs, and they are the same in both; whoever finds the
-/// syllables of the texts finds the same ones there. Refuses with `Memory` alone.
+/// What an edit leaves of a text of glyphs with Khmer's categories: how many glyphs at its front, and
+/// how many at its back. Both texts have these glyphs, and the same syllables among them.
+///
+/// # Errors
+///
+/// `Memory`.
 pub fn khmer_unaffected(
     text: &[hb_glyph_info_t],
     edit: &Edit,
